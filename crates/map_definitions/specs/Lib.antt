@@ -1,0 +1,3 @@
+-- The definitions that contracts cite, a module for each subject.
+pub mod Classes
+pub mod Maps
