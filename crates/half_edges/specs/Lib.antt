@@ -1,0 +1,3 @@
+-- What contracts see of a half-edge map.
+pub mod Map
+pub mod MapFault
