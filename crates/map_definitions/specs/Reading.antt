@@ -1,6 +1,5 @@
 -- planar_code: the bytes of a record, and how an input is read as records and one ending.
-use Rattle.std.specs.Prelude.{ℕ, zero, suc, ◌+◌, ◌-◌, ◌*◌, ◌/◌, ◌%◌, ◌<◌, ◌≤◌, ◌≡◌, ◌⊎◌, Bool, true, false, ◌&&◌, ◌||◌, ◌==◌, nat_eq, nat_lt, if◌then◌else◌, IsTrue, IsFalse, List, [], ◌∷◌, ◌++◌, map, flat_map, length, take, drop, All, codes}
-use Rattle.std.specs.List.{starts_with}
+use Rattle.std.specs.Prelude.{ℕ, zero, suc, ◌+◌, ◌-◌, ◌*◌, ◌/◌, ◌%◌, ◌<◌, ◌≤◌, ◌≡◌, ◌⊎◌, Bool, true, false, ◌&&◌, ◌||◌, ◌==◌, nat_eq, nat_lt, if◌then◌else◌, IsTrue, IsFalse, List, [], ◌∷◌, ◌++◌, map, flat_map, length, take, drop, All, codes, bytes_eq}
 use Rattle.map_definitions.specs.Maps.{Lists}
 
 -- the numbers of a list: vertices are numbered from 1, and 0 closes the list
@@ -45,13 +44,21 @@ has_bad_count (zero_byte ∷ high ∷ []) = false
 has_bad_count (zero_byte ∷ high ∷ low ∷ bytes) =
     (zero_byte == 0) && (((256 * high + low) == 0) || nat_lt 4095 (256 * high + low))
 
+-- three bytes, the first 0, and the two others give no number from 1 to 4095
+abbrev pub is_bad_count : List ℕ → Bool
+is_bad_count bytes = (length bytes == 3) && has_bad_count bytes
+
 -- the 15 bytes with which a file may begin
 abbrev pub header : List ℕ
 header = codes ">>planar_code<<"
 
--- the header of an input: those bytes where it begins with them, and nothing otherwise
+-- the bytes are just the header
+abbrev pub is_header : List ℕ → Bool
+is_header bytes = bytes_eq bytes header
+
+-- the header of an input: its first 15 bytes where they are that, and nothing otherwise
 abbrev pub header_of : List ℕ → List ℕ
-header_of input = if starts_with nat_eq input header then header else []
+header_of input = if is_header (take 15 input) then header else []
 
 -- how many bytes of an input are read
 abbrev pub input_limit : ℕ

@@ -1,0 +1,4 @@
+-- What contracts see of a reader of records.
+pub mod State
+pub mod Fed
+pub mod Step
