@@ -5,12 +5,19 @@
 //! nothing failed. Where a source tells the bytes that it has left, and a sink those that it holds,
 //! each read and each write is exact on them.
 //!
-//! Over memory there are sources and sinks that fail just where they are told to, and others that
-//! never fail. Adapters take the readers and writers of `std`. [`put_all`] writes a whole slice.
+//! [`MemSource`] and [`MemSink`] stand in memory and fail just where they are told to; [`SureSource`]
+//! and [`SureSink`] never fail. [`ReadAdapter`] and [`WriteAdapter`] take the readers and writers of
+//! `std`: of what these hold nothing is proved. [`put_all`] writes a whole slice.
 #![tactic(auto)]
 
+mod adapters;
+mod memory;
 mod put;
+mod sure;
 mod traits;
 
+pub use adapters::{ReadAdapter, WriteAdapter};
+pub use memory::{MemSink, MemSource};
 pub use put::put_all;
+pub use sure::{SureSink, SureSource};
 pub use traits::{ReadFailed, Sink, Source, WriteFailed};
