@@ -1,10 +1,8 @@
 -- The definitions, run on worked cases. Each is a computation: the two sides come to the same value.
 use Rattle.std.specs.Prelude.{ℕ, ◌-◌, ◌≡◌, List, [], ◌∷◌, ◌++◌, map, codes, refl}
-use Rattle.std.proofs.Common.{inl, inr}
 use Rattle.map_definitions.specs.Classes.{merge}
 use Rattle.std.specs.Fmt.{digits}
 use Rattle.map_definitions.specs.Faults.{first_fault}
-use Rattle.map_definitions.specs.Reading.{IsRecord, IsNarrow, IsWide}
 use Rattle.map_definitions.specs.Text.{count_block, counts_line, refused_line, end_line}
 use Rattle.map_definitions.specs.Maps.{Lists, entry_after, vertex_count, edge_count, face_count, component_count, genus}
 

@@ -1,5 +1,5 @@
 -- The classes into which pairs join the numbers below k, and the orbits of a list of images.
-use Rattle.std.specs.Prelude.{ℕ, zero, suc, ◌+◌, ◌<◌, min, max, Bool, true, false, ◌==◌, if◌then◌else◌, List, [], ◌∷◌, map, length, slice_index_or, AllPairs, All, ◌≢◌}
+use Rattle.std.specs.Prelude.{ℕ, zero, suc, ◌+◌, ◌<◌, min, max, Bool, ◌==◌, if◌then◌else◌, List, [], ◌∷◌, map, length, slice_index_or, AllPairs, All, ◌≢◌}
 use Rattle.std.specs.List.{range_with_len, enumerate_from}
 
 -- how many numbers below n pass a test

@@ -1,5 +1,5 @@
 -- planar_code: the bytes of a record, and how an input is read as records and one ending.
-use Rattle.std.specs.Prelude.{ℕ, zero, suc, ◌+◌, ◌-◌, ◌*◌, ◌/◌, ◌%◌, ◌<◌, ◌≤◌, ◌≡◌, ◌⊎◌, Bool, true, false, ◌&&◌, ◌||◌, ◌==◌, nat_eq, nat_lt, if◌then◌else◌, IsTrue, IsFalse, List, [], ◌∷◌, ◌++◌, map, flat_map, length, take, drop, All, codes, bytes_eq}
+use Rattle.std.specs.Prelude.{ℕ, ◌+◌, ◌-◌, ◌*◌, ◌/◌, ◌%◌, ◌<◌, ◌≤◌, ◌≡◌, ◌⊎◌, Bool, false, ◌&&◌, ◌||◌, ◌==◌, nat_lt, if◌then◌else◌, IsTrue, IsFalse, List, [], ◌∷◌, ◌++◌, map, flat_map, length, take, All, codes, bytes_eq}
 use Rattle.map_definitions.specs.Maps.{Lists}
 
 -- the numbers of a list: vertices are numbered from 1, and 0 closes the list
@@ -85,6 +85,13 @@ EndsAs total at rest (end_in_record place) =
 EndsAs total at rest (bad_count place) = (place ≡ at) × IsTrue (has_bad_count (take (input_limit - at) rest))
 EndsAs total at rest too_long =
     (input_limit < total) × IsFalse (has_bad_count (take (input_limit - at) rest)) × NoRecord (take (input_limit - at) rest)
+
+-- the input begins, behind its header, with these records
+pub record BeginsWith (input : List ℕ) (records : List Lists) : Type 0 where
+  pub bytes : List ℕ
+  pub rest : List ℕ
+  pub parts : input ≡ header_of input ++ (bytes ++ rest)
+  pub are : AreRecords bytes records
 
 -- The reading of an input: its header, then records within the limit, and the ending where they stop.
 pub record IsReading (input : List ℕ) (records : List Lists) (ending : Ending) : Type 0 where

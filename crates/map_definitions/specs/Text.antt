@@ -1,8 +1,8 @@
 -- The bytes that a run writes: a block for each record, in order, and a last line.
-use Rattle.std.specs.Prelude.{ℕ, suc, ◌+◌, ◌≡◌, Bool, List, [], ◌∷◌, ◌++◌, length, codes, decimal, count_by, Option, Some, None, is_some}
+use Rattle.std.specs.Prelude.{ℕ, ◌+◌, ◌≡◌, Bool, List, [], ◌∷◌, ◌++◌, codes, decimal, Option, Some, None, is_some}
 use Rattle.map_definitions.specs.Maps.{Lists, vertex_count, edge_count, face_count, component_count, genus}
 use Rattle.map_definitions.specs.Faults.{Fault, out_of_range, loop_at, repeated, one_sided, first_fault}
-use Rattle.map_definitions.specs.Reading.{Ending, well, end_in_record, bad_count, too_long, IsReading}
+use Rattle.map_definitions.specs.Reading.{Ending, well, end_in_record, bad_count, too_long}
 
 -- a word, a space and a number
 abbrev pub word_and_number : List ℕ → ℕ → List ℕ

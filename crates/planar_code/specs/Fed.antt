@@ -1,5 +1,5 @@
 -- What a byte does to a reader of records.
-use Rattle.std.specs.Prelude.{ℕ, ◌≡◌, List, IsTrue, IsFalse}
+use Rattle.std.specs.Prelude.{ℕ, ◌≡◌, IsTrue, IsFalse}
 use Rattle.map_definitions.specs.Maps.{Lists}
 use Rattle.map_definitions.specs.Reading.{IsRecord, is_bad_count}
 use Rattle.planar_code.specs.State.{State, with_byte, after_more, after_record}

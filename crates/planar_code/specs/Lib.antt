@@ -2,3 +2,4 @@
 pub mod State
 pub mod Fed
 pub mod Step
+pub mod Progress

@@ -1,0 +1,2 @@
+-- Lemmas on runs.
+mod RefusalLines
