@@ -4,3 +4,4 @@ pub mod Lines
 pub mod Words
 pub mod Answer
 pub mod Outcome
+pub mod Run
