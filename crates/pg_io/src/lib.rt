@@ -14,6 +14,8 @@ mod adapters;
 mod memory;
 mod put;
 mod sure;
+#[cfg(test)]
+mod tests;
 mod traits;
 
 pub use adapters::{ReadAdapter, WriteAdapter};
