@@ -1,4 +1,4 @@
--- How growth adds up over several writes, how a count that never falls rises, and what a read leaves.
+-- How growth adds up over several writes, and what was taken over several reads; how a count that never falls rises.
 use Rattle.std.proofs.Common.{◌≡◌, ℕ, ◌+◌, ◌^◌, ◌<◌, ◌≤◌, List, [], ◌++◌, length, take, drop, Option, Some, refl, sym, ap, ◌∙◌, arith, append_assoc, inl, inr}
 use Rattle.std.proofs.lemmas.List.{append-nil, length-append, take-append-drop, take-append-le, take_at, take_all, length-take-le}
 use Rattle.std.proofs.Math.Seq.{take-add, take-append-add}
