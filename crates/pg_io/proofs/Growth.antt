@@ -1,8 +1,8 @@
--- How growth adds up over several writes, how a count that never falls rises, and what a read leaves.
-use Rattle.std.proofs.Common.{◌≡◌, ℕ, ◌+◌, ◌^◌, ◌<◌, ◌≤◌, List, [], ◌++◌, length, take, drop, Option, Some, sym, ap, ◌∙◌, arith, append_assoc, inl, inr}
+-- How growth adds up over several writes, and what was taken over several reads; how a count that never falls rises.
+use Rattle.std.proofs.Common.{◌≡◌, ℕ, ◌+◌, ◌^◌, ◌<◌, ◌≤◌, List, [], ◌++◌, length, take, drop, Option, Some, refl, sym, ap, ◌∙◌, arith, append_assoc, inl, inr}
 use Rattle.std.proofs.lemmas.List.{append-nil, length-append, take-append-drop, take-append-le, take_at, take_all, length-take-le}
 use Rattle.std.proofs.Math.Seq.{take-add, take-append-add}
-use Rattle.pg_io.specs.Io.{Gives, Grows, GrowsByPrefix, HasRisen, raised}
+use Rattle.pg_io.specs.Io.{Gives, Takes, Grows, GrowsByPrefix, HasRisen, raised}
 
 -- a sink grows by nothing where nothing happens
 pub Grows-none : (o : Option (List ℕ)) → Grows o o []
@@ -69,9 +69,28 @@ HasRisen-zero (inr last) = omega arith
 pub HasRisen-raised : (count : ℕ) → HasRisen count (raised count)
 HasRisen-raised count = grind arith
 
--- where the bytes left are told, they were what a read gave and then what it left
-pub Gives-splits : {left left' : Option (List ℕ)} {k : ℕ} {buf buf' bytes : List ℕ} → Gives left left' k buf buf' → left ≡ Some bytes → (bytes ≡ take k buf' ++ drop k bytes) × (left' ≡ Some (drop k bytes))
-Gives-splits {k = k} {buf = buf} {bytes = bytes} gives told = (
-  rw (gives.gave bytes told) (rw (take_at (take k bytes) (drop k buf) k (length-take-le k bytes (gives.had bytes told))) (sym (take-append-drop k bytes))),
-  gives.lost bytes told,
-)
+-- nothing is taken where nothing happens
+pub Takes-none : (o : Option (List ℕ)) → Takes o o []
+Takes-none o = record { split = λ all told. (all, refl, told) }
+
+-- what is taken first and what is taken then, together
+pub Takes-then : {o p q : Option (List ℕ)} {xs ys : List ℕ} → Takes o p xs → Takes p q ys → Takes o q (xs ++ ys)
+Takes-then {xs = xs} {ys = ys} first second = record {
+  split = λ all told.
+      let one = first.split all told in
+      let two = second.split one.0 one.2 in
+      (two.0, one.1 ∙ ap (λ (l : List ℕ). xs ++ l) two.1 ∙ sym (append_assoc xs ys two.0), two.2);
+}
+
+-- a read takes what it put at the front of the buffer
+pub Takes-gives : {o p : Option (List ℕ)} {k : ℕ} {buf buf' : List ℕ} → Gives o p k buf buf' → Takes o p (take k buf')
+Takes-gives {k = k} {buf = buf} gives = record {
+  split = λ all told.
+      (drop k all, rw (gives.gave all told) (rw (take_at (take k all) (drop k buf) k (length-take-le k all (gives.had all told))) (sym (take-append-drop k all))), gives.lost all told);
+}
+
+-- where nothing is left, what was taken is all there was
+pub Takes-all : {o p : Option (List ℕ)} {xs : List ℕ} → Takes o p xs → ((bytes : List ℕ) → p ≡ Some bytes → bytes ≡ []) → (all : List ℕ) → o ≡ Some all → all ≡ xs
+Takes-all {xs = xs} takes none_left all told =
+    let one = takes.split all told in
+    one.1 ∙ ap (λ (l : List ℕ). xs ++ l) (none_left one.0 one.2) ∙ append-nil xs

@@ -12,6 +12,10 @@ pub record Gives (left left' : Option (List ℕ)) (k : ℕ) (buf buf' : List ℕ
   pub gave : WhereTold left (λ bytes. buf' ≡ take k bytes ++ drop k buf)
   pub lost : WhereTold left (λ bytes. left' ≡ Some (drop k bytes))
 
+-- where the bytes left are told, they began with these, which are gone
+pub record Takes (left left' : Option (List ℕ)) (bytes : List ℕ) : Type 0 where
+  pub split : WhereTold left (λ all. (rest : List ℕ) × (all ≡ bytes ++ rest) × (left' ≡ Some rest))
+
 -- where the bytes written are told, these were appended
 pub record Grows (written written' : Option (List ℕ)) (bytes : List ℕ) : Type 0 where
   pub grown : WhereTold written (λ before. written' ≡ Some (before ++ bytes))

@@ -1,6 +1,7 @@
-//! The readers and writers of `std`, with their faults counted. Of the bytes that these hold nothing
-//! is proved.
-ghost use Rattle.std.specs.Prelude.{ℕ, ◌<◌, ◌≤◌, ◌≡◌, length, None, IfOk, OnErr, is_err, if◌then◌else◌};
+//! The readers and writers of `std`, with their faults counted. What a file or a pipe holds no proof
+//! can know, so these tell nothing of their bytes.
+ghost use Rattle.std.specs.Prelude.{ℕ, ◌<◌, ◌≤◌, ◌≡◌, length, take, None, IfOk, OnErr, is_err, if◌then◌else◌};
+ghost use Rattle.std.specs.Io.KnownBytes.{Appends, Consumes, IsAtEnd};
 ghost use Rattle.pg_io.specs.Io.{HasRisen, raised};
 
 use super::traits::{ReadFailed, Sink, Source, WriteFailed};
@@ -30,10 +31,14 @@ impl<R: Read> Source for ReadAdapter<R> {
 
     ghost faults = { λ source. source.faults };
 
-    /// Reads once from the reader. It fails exactly where that read does, and counts the fault.
+    /// Reads once from the reader: `Ok` is the reader's own answer. It fails exactly where the reader
+    /// does, and counts the fault. Nothing is then known of the reader or of `buf`.
     fn read(&mut self, buf: &mut [u8]) -> Result<usize, ReadFailed>
         requires { 0 < length buf.old }
         ensures within { IfOk result (λ k. k ≤ length buf.old) }
+        ensures read_once { IfOk result
+            (λ k. Consumes (R.remaining self.old.inner) (R.remaining self.new.inner) (take k buf.new)) }
+        ensures end { IfOk result (λ k. k ≡ 0 → IsAtEnd (R.remaining self.old.inner)) }
         ensures failed { OnErr result (HasRisen self.old.faults self.new.faults) }
         ensures never_falls { self.old.faults ≤ self.new.faults }
         ensures faults { self.new.faults
@@ -73,11 +78,14 @@ impl<W: Write> Sink for WriteAdapter<W> {
 
     ghost faults = { λ sink. sink.faults };
 
-    /// Writes once to the writer and flushes it. It fails where the write fails or takes no byte, or
-    /// the flush fails, and counts the fault.
+    /// Writes once to the writer and flushes it: `Ok` is the writer's own answer. It fails exactly
+    /// where the writer fails or takes no byte, or the flush fails, and counts the fault. Nothing is
+    /// then known of the writer.
     fn write(&mut self, piece: &[u8]) -> Result<usize, WriteFailed>
         requires { 0 < length piece.now }
         ensures within { IfOk result (λ k. (0 < k) × (k ≤ length piece.now)) }
+        ensures written_once { IfOk result
+            (λ k. Appends (W.contents self.old.inner) (W.contents self.new.inner) (take k piece.now)) }
         ensures failed { OnErr result (HasRisen self.old.faults self.new.faults) }
         ensures never_falls { self.old.faults ≤ self.new.faults }
         ensures faults { self.new.faults

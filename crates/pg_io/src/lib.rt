@@ -7,13 +7,15 @@
 //!
 //! [`MemSource`] and [`MemSink`] stand in memory and fail just where they are told to; [`SureSource`]
 //! and [`SureSink`] never fail. [`ReadAdapter`] and [`WriteAdapter`] take the readers and writers of
-//! `std`: of what these hold nothing is proved. [`put_all`] writes a whole slice.
+//! `std`, and tell nothing of their bytes. [`put_all`] writes a whole slice.
 #![tactic(auto)]
 
 mod adapters;
 mod memory;
 mod put;
 mod sure;
+#[cfg(test)]
+mod tests;
 mod traits;
 
 pub use adapters::{ReadAdapter, WriteAdapter};

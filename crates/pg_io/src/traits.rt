@@ -19,9 +19,9 @@ pub trait Source {
     ghost faults: { Self → ℕ };
 
     /// Puts the next bytes at the front of `buf`, which must not be empty, and answers how many.
-    /// `Ok(0)` is the end of input: where the bytes left are told, it comes exactly where there are
-    /// none. The rest of `buf` is then as before. A read fails only where the count of faults rose,
-    /// and has then taken nothing.
+    /// `Ok(0)` is the end of input. Where the bytes left are told, it comes exactly where there are
+    /// none, and the rest of `buf` is as before. A read fails only where the count of faults rose,
+    /// and has then taken nothing; what it leaves in `buf` is not promised.
     fn read(&mut self, buf: &mut [u8]) -> Result<usize, ReadFailed>
         requires { 0 < length buf.old }
         ensures within { IfOk result (λ k. k ≤ length buf.old) }

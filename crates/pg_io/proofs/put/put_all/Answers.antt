@@ -3,6 +3,7 @@ use Rattle.std.proofs.lemmas.List.{take_rest, length-drop}
 use Rattle.pg_io.proofs.Growth.{Grows-take}
 use Rattle.pg_io.proofs.put.put_all.Goals as goal
 
+-- The piece written is the next part of the bytes, so the first `done + k` of them were appended.
 pub loop-done-preserved : goal.loop-done-preserved
 loop-done-preserved g c =
     let bytes = c.args.bytes.now in
