@@ -1,5 +1,5 @@
 -- The line of a refusal, put together.
-use Rattle.std.proofs.Common.{◌≡◌, ℕ, List, [], ◌∷◌, ◌++◌, decimal, ap, ◌∙◌, append_assoc, refl}
+use Rattle.std.proofs.Common.{◌≡◌, ℕ, List, [], ◌∷◌, ◌++◌, decimal, ap, ◌∙◌}
 use Rattle.map_definitions.specs.Text.{refused_line}
 use Rattle.half_edges.specs.declared.half_map.MapFault.{MapFault}
 use Rattle.half_edges.specs.declared.half_map.MapFault.TheVariants.{OutOfRange, Loop, Repeated, OneSided, NoMemory}

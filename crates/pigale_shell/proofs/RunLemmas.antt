@@ -1,17 +1,17 @@
 -- What a byte does to a run, and what a run has written when it stops.
-use Rattle.std.proofs.Common.{◌≡◌, ℕ, ◌+◌, ◌≤◌, ◌<◌, Bool, true, false, not, List, [], ◌∷◌, ◌++◌, length, refl, sym, ap, ◌∙◌, arith, append_assoc, cond, Option, Some, inl, inr, take, drop, get_or}
-use Rattle.std.proofs.lemmas.List.{append-nil, length-append, take-append-drop, drop_more}
+use Rattle.std.proofs.Common.{◌≡◌, ℕ, ◌+◌, ◌≤◌, ◌<◌, Bool, true, false, not, List, [], ◌∷◌, ◌++◌, length, refl, sym, ap, ◌∙◌, arith, append_assoc, cond, Option, inl, inr, take, drop, get_or}
+use Rattle.std.proofs.lemmas.List.{length-append, take-append-drop, drop_more}
 use Rattle.map_definitions.specs.Maps.{Lists}
-use Rattle.map_definitions.specs.Reading.{Ending, well, end_in_record, bad_count, too_long, IsReading, input_limit}
-use Rattle.map_definitions.specs.Text.{AreBlocks, last_line}
-use Rattle.planar_code.specs.State.{State, with_byte, after_more, after_record}
+use Rattle.map_definitions.specs.Reading.{Ending, well, end_in_record, bad_count, too_long, IsReading}
+use Rattle.map_definitions.specs.Text.{last_line}
+use Rattle.planar_code.specs.State.{State}
 use Rattle.planar_code.specs.Progress.{Progress}
-use Rattle.planar_code.proofs.ProgressLemmas.{Progress-begins, Progress-more, Progress-record, Progress-start}
-use Rattle.pg_io.specs.Io.{WhereTold, Gives, Grows, GrowsByPrefix, HasRisen}
-use Rattle.pg_io.proofs.Growth.{Gives-splits, HasRisen-after, Grows-none, Grows-same, Grows-then, GrowsByPrefix-none, GrowsByPrefix-whole, GrowsByPrefix-then, GrowsByPrefix-more}
+use Rattle.planar_code.proofs.ProgressLemmas.{Progress-begins}
+use Rattle.pg_io.specs.Io.{Grows}
+use Rattle.pg_io.proofs.Growth.{HasRisen-after, Grows-then, GrowsByPrefix-whole, GrowsByPrefix-then, GrowsByPrefix-more}
 use Rattle.pigale_shell.specs.Answer.{IsBlock, is_refused}
-use Rattle.pigale_shell.specs.Outcome.{Writes, WritesPart, refused_count, IsBad}
-use Rattle.pigale_shell.specs.Run.{IsAt, Took, Spoils, Closes, StopsAt}
+use Rattle.pigale_shell.specs.Outcome.{WritesPart, refused_count, IsBad}
+use Rattle.pigale_shell.specs.Run.{IsAt, Spoils, Closes, StopsAt}
 use Rattle.pigale_shell.specs.declared.job.Job.{Job}
 use Rattle.pigale_shell.specs.declared.job.Status.{Status}
 use Rattle.pigale_shell.specs.declared.job.Status.TheVariants.{Done, SomeRefused, BadWords, BadInput, ReadFault, WriteFault, NoMemory}
@@ -27,7 +27,7 @@ not_well too_long same is = cc
 
 module _ (job : Job) (start written : Option (List ℕ)) (consumed : List ℕ) (run : Run) (at : IsAt job start written consumed run) where
   -- the blocks so far are a part of the text, however the input goes on
-  at-part : (tail : List ℕ) → WritesPart job (consumed ++ tail) start written
+  pub at-part : (tail : List ℕ) → WritesPart job (consumed ++ tail) start written
   at-part tail = record {
     records = at.records;
     blocks = at.blocks;
@@ -69,15 +69,18 @@ module _ (job : Job) (start written : Option (List ℕ)) (consumed : List ℕ) (
   -- the answer to the next record failed
   pub at-spoils : (b : ℕ) (reader : State) (lists : Lists) (k : ℕ) (written' : Option (List ℕ)) (faults faults' : ℕ) (status : Status) → k ≡ run.records + 1 → Progress (consumed ++ b ∷ []) (at.records ++ lists ∷ []) reader → Spoils job k lists written written' faults faults' status → StopsAt job start written' (consumed ++ b ∷ []) faults faults' status
   at-spoils b reader lists k written' faults faults' NoMemory is_k progress spoils = at-stops_for_memory (b ∷ []) written' faults faults' spoils
-  at-spoils b reader lists k written' faults faults' WriteFault is_k progress spoils = (spoils.0, λ (tail : List ℕ). record {
-    records = at.records ++ lists ∷ [];
-    blocks = at.blocks ++ spoils.1;
-    last = [];
-    begins = Progress-begins (consumed ++ b ∷ []) (at.records ++ lists ∷ []) reader tail progress;
-    answers = AreBlocks-push (IsBlock job) 1 at.records at.blocks lists spoils.1 at.answers (let e : k ≡ 1 + length at.records = (let c = at.counted in omega arith) in rw e at spoils.2);
-    last_is = inl refl;
-    grows = GrowsByPrefix-more [] (GrowsByPrefix-then at.grows spoils.3);
-  })
+  at-spoils b reader lists k written' faults faults' WriteFault is_k progress spoils = (
+    spoils.0,
+    λ (tail : List ℕ). record {
+      records = at.records ++ lists ∷ [];
+      blocks = at.blocks ++ spoils.1;
+      last = [];
+      begins = Progress-begins (consumed ++ b ∷ []) (at.records ++ lists ∷ []) reader tail progress;
+      answers = AreBlocks-push (IsBlock job) 1 at.records at.blocks lists spoils.1 at.answers (let e : k ≡ 1 + length at.records = (let c = at.counted in omega arith) in rw e at spoils.2);
+      last_is = inl refl;
+      grows = GrowsByPrefix-more [] (GrowsByPrefix-then at.grows spoils.3);
+    },
+  )
   at-spoils b reader lists k written' faults faults' Done is_k progress spoils = spoils
   at-spoils b reader lists k written' faults faults' SomeRefused is_k progress spoils = spoils
   at-spoils b reader lists k written' faults faults' BadWords is_k progress spoils = spoils
@@ -87,23 +90,31 @@ module _ (job : Job) (start written : Option (List ℕ)) (consumed : List ℕ) (
   -- the last line of a bad ending was written, or failed
   pub at-closes : (more : List ℕ) (ending : Ending) (written' : Option (List ℕ)) (faults faults' : ℕ) (status : Status) → IsBad ending → ((tail : List ℕ) → IsReading (consumed ++ (more ++ tail)) at.records ending) → Closes run.records run.refused ending written written' faults faults' status → StopsAt job start written' (consumed ++ more) faults faults' status
   at-closes more ending written' faults faults' NoMemory bad reading closes = at-stops_for_memory more written' faults faults' closes
-  at-closes more ending written' faults faults' WriteFault bad reading closes = (closes.0, λ (tail : List ℕ). record {
-    records = at.records;
-    blocks = at.blocks;
-    last = last_line (length at.records) (refused_count job at.records) ending;
-    begins = rw (append_assoc consumed more tail) (Progress-begins consumed at.records run.reader (more ++ tail) at.progress);
-    answers = at.answers;
-    last_is = inr (ending, rw (append_assoc consumed more tail) (reading tail), refl);
-    grows = GrowsByPrefix-then at.grows (rw (at.counted, at.refused) at closes.1);
-  })
-  at-closes more ending written' faults faults' BadInput bad reading closes = λ (tail : List ℕ). (ending, bad, run.refused, record {
-    records = at.records;
-    blocks = at.blocks;
-    reading = rw (append_assoc consumed more tail) (reading tail);
-    answers = at.answers;
-    counted = at.refused;
-    grows = Grows-then at.grows (rw at.counted at closes.1);
-  })
+  at-closes more ending written' faults faults' WriteFault bad reading closes = (
+    closes.0,
+    λ (tail : List ℕ). record {
+      records = at.records;
+      blocks = at.blocks;
+      last = last_line (length at.records) (refused_count job at.records) ending;
+      begins = rw (append_assoc consumed more tail) (Progress-begins consumed at.records run.reader (more ++ tail) at.progress);
+      answers = at.answers;
+      last_is = inr (ending, rw (append_assoc consumed more tail) (reading tail), refl);
+      grows = GrowsByPrefix-then at.grows (rw (at.counted, at.refused) at closes.1);
+    },
+  )
+  at-closes more ending written' faults faults' BadInput bad reading closes = λ (tail : List ℕ). (
+    ending,
+    bad,
+    run.refused,
+    record {
+      records = at.records;
+      blocks = at.blocks;
+      reading = rw (append_assoc consumed more tail) (reading tail);
+      answers = at.answers;
+      counted = at.refused;
+      grows = Grows-then at.grows (rw at.counted at closes.1);
+    },
+  )
   at-closes more ending written' faults faults' Done bad reading closes = not_well ending closes.0 bad
   at-closes more ending written' faults faults' SomeRefused bad reading closes = not_well ending closes.0 bad
   at-closes more ending written' faults faults' BadWords bad reading closes = closes
@@ -141,22 +152,3 @@ piece-splits consumed piece i within =
     ∙ append_assoc consumed (take i piece) (get_or piece i 0 ∷ drop (i + 1) piece)
     ∙ ap (λ (x : List ℕ). consumed ++ (take i piece ++ x)) (sym (drop_more piece i 0 within))
     ∙ ap (λ (x : List ℕ). consumed ++ x) (take-append-drop i piece)
-
--- nothing has been taken yet
-pub Took-none : (o : Option (List ℕ)) → Took o o []
-Took-none o = record { took = λ all told. (all, told, refl) }
-
--- more was taken
-pub Took-more : (o p q : Option (List ℕ)) (xs ys : List ℕ) → Took o p xs → ((bytes : List ℕ) → p ≡ Some bytes → (rest : List ℕ) × (q ≡ Some rest) × (bytes ≡ ys ++ rest)) → Took o q (xs ++ ys)
-Took-more o p q xs ys first next = record {
-  took = λ all told.
-    let had = first.took all told in
-    let has = next had.0 had.1 in
-    (has.0, has.1, had.2 ∙ ap (λ (x : List ℕ). xs ++ x) has.2 ∙ sym (append_assoc xs ys has.0));
-}
-
--- what a read gives was taken
-pub Took-read : (o p q : Option (List ℕ)) (xs : List ℕ) (k : ℕ) (buf buf' : List ℕ) → Took o p xs → Gives p q k buf buf' → Took o q (xs ++ take k buf')
-Took-read o p q xs k buf buf' first gives = Took-more o p q xs (take k buf') first (λ bytes told.
-  let split = Gives-splits gives told in
-  (drop k bytes, split.1, split.0))

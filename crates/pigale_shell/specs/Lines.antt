@@ -1,6 +1,6 @@
 -- The lines of a run, by the code's own enums.
-use Rattle.std.specs.Prelude.{ℕ, ◌+◌, ◌≡◌, List, [], ◌∷◌, ◌++◌, Some}
-use Rattle.map_definitions.specs.Faults.{Fault, out_of_range, loop_at, repeated, one_sided}
+use Rattle.std.specs.Prelude.{ℕ, ◌≡◌, List, []}
+use Rattle.map_definitions.specs.Faults.{out_of_range, loop_at, repeated, one_sided}
 use Rattle.map_definitions.specs.Reading.{Ending as SpokenEnding, well, end_in_record, bad_count, too_long}
 use Rattle.map_definitions.specs.Text.{fault_text, refused_line}
 use Rattle.half_edges.specs.declared.half_map.MapFault.{MapFault}

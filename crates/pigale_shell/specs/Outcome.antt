@@ -1,8 +1,8 @@
 -- What was taken and written when a run ended with a status.
-use Rattle.std.specs.Prelude.{ℕ, ◌+◌, ◌<◌, ◌≤◌, ◌≡◌, ◌⊎◌, List, [], ◌++◌, length, count_by, Option, Some, None}
+use Rattle.std.specs.Prelude.{ℕ, ◌<◌, ◌≡◌, ◌⊎◌, List, [], ◌++◌, length, count_by, Option, Some, None}
 use Rattle.map_definitions.specs.Maps.{Lists}
 use Rattle.map_definitions.specs.Reading.{Ending, well, end_in_record, bad_count, too_long, IsReading, BeginsWith}
-use Rattle.map_definitions.specs.Text.{AreBlocks, last_line}
+use Rattle.map_definitions.specs.Text.{AreBlocks, last_line, bad_words_line}
 use Rattle.pg_io.specs.Io.{WhereTold, Grows, GrowsByPrefix, HasRisen}
 use Rattle.pigale_shell.specs.Answer.{IsBlock, is_refused}
 use Rattle.pigale_shell.specs.declared.job.Job.{Job}
@@ -37,6 +37,11 @@ pub record WritesPart (job : Job) (input : List ℕ) (written written' : Option 
   pub answers : AreBlocks (IsBlock job) 1 records blocks
   pub last_is : IsLastOrNone job input records last
   pub grows : GrowsByPrefix written written' (blocks ++ last)
+
+-- the sink grew by some first bytes of the text that the words ask for: of the job's, or of the line for bad words
+abbrev pub GrowsByText : Option Job → Option (List ℕ) → Option (List ℕ) → Option (List ℕ) → Type 0
+GrowsByText None left written written' = GrowsByPrefix written written' bad_words_line
+GrowsByText (Some job) left written written' = WhereTold left (λ input. WritesPart job input written written')
 
 -- the sink grew by the blocks of just those records that end within the bytes taken from the source
 pub record WritesTaken (job : Job) (input : List ℕ) (left' written written' : Option (List ℕ)) : Type 0 where

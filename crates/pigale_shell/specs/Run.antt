@@ -1,11 +1,11 @@
 -- Where a run stands between two bytes of its input, and how it stops.
-use Rattle.std.specs.Prelude.{ℕ, ◌+◌, ◌≤◌, ◌≡◌, ◌<◌, Bool, true, false, List, [], ◌∷◌, ◌++◌, length, Option, Some}
+use Rattle.std.specs.Prelude.{ℕ, ◌+◌, ◌≤◌, ◌≡◌, ◌<◌, true, List, [], ◌∷◌, ◌++◌, length, Option}
 use Rattle.map_definitions.specs.Maps.{Lists}
 use Rattle.map_definitions.specs.Reading.{Ending, well, end_in_record, input_limit}
 use Rattle.map_definitions.specs.Text.{AreBlocks, last_line}
 use Rattle.planar_code.specs.State.{State}
 use Rattle.planar_code.specs.Progress.{Progress}
-use Rattle.pg_io.specs.Io.{WhereTold, Grows, GrowsByPrefix, HasRisen}
+use Rattle.pg_io.specs.Io.{Grows, GrowsByPrefix, HasRisen}
 use Rattle.pigale_shell.specs.Answer.{IsBlock}
 use Rattle.pigale_shell.specs.Outcome.{Writes, WritesPart, refused_count, IsBad}
 use Rattle.pigale_shell.specs.declared.job.Job.{Job}
@@ -20,10 +20,6 @@ pub record IsPlaced (run : Run) : Type 0 where
   pub front : run.reader.header_may_come ≡ true → run.reader.start ≡ 0
   pub few_records : run.records ≤ run.reader.start
   pub few_refused : run.refused ≤ run.records
-
--- where the source tells its bytes, these were taken from it
-pub record Took (left left' : Option (List ℕ)) (bytes : List ℕ) : Type 0 where
-  pub took : WhereTold left (λ all. (rest : List ℕ) × (left' ≡ Some rest) × (all ≡ bytes ++ rest))
 
 -- The bytes consumed have been read, and each record that ended in them has been answered.
 pub record IsAt (job : Job) (written written' : Option (List ℕ)) (consumed : List ℕ) (run : Run) : Type 0 where

@@ -3,6 +3,8 @@ ghost use Rattle.std.specs.Prelude.{◌≡◌, map, MatchResult, Some, string_by
 ghost use Rattle.pigale_shell.specs.Words.{job_of};
 ghost use Rattle.pigale_shell.specs.Status.{status_number, RefusesWords};
 
+use std::alloc::Global;
+
 /// What a run does with each record of its input.
 #[derive(Clone, Copy, Debug, PartialEq, Eq)]
 pub enum Job {
@@ -58,7 +60,7 @@ pub enum WordFault {
 /// The job of the words after the program's name: `count` alone is the job `Count`.
 ///
 /// `BadWords` comes exactly where they are those of no job.
-pub fn words_to_job(words: &[String]) -> Result<Job, WordFault>
+pub fn words_to_job(_alloc: Global, words: &[String]) -> Result<Job, WordFault>
     ensures { MatchResult result
         (λ job. job_of (map string_bytes words.now) ≡ Some job)
         (RefusesWords (job_of (map string_bytes words.now))) }

@@ -5,6 +5,8 @@ mod answer;
 mod job;
 mod lines;
 mod run;
+mod top;
 
 pub use answer::answer_record;
 pub use job::{Job, Status, WordFault, words_to_job};
+pub use top::pigale;

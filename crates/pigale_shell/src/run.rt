@@ -1,10 +1,10 @@
 //! One run of a job over the records of a source.
 ghost use Rattle.std.specs.Prelude.{◌≡◌, ◌<◌, ◌≤◌, ◌+◌, ◌-◌, ◌^◌, if◌then◌else◌, ◌++◌, ◌∷◌, [], List, ℕ, Option, length, not, IfOk, IfErr, OnOk, MatchResult};
-ghost use Rattle.pg_io.specs.Io.{Grows};
+ghost use Rattle.pg_io.specs.Io.{Takes, Grows};
 ghost use Rattle.pigale_shell.specs.Lines.{ending_of};
 ghost use Rattle.pigale_shell.specs.Answer.{IsBlock, is_refused};
 ghost use Rattle.pigale_shell.specs.Outcome.{Outcome};
-ghost use Rattle.pigale_shell.specs.Run.{IsPlaced, IsAt, Took, Spoils, Closes, StopsAt, ending_here as spoken_here};
+ghost use Rattle.pigale_shell.specs.Run.{IsPlaced, IsAt, Spoils, Closes, StopsAt, ending_here as spoken_here};
 
 use super::answer::answer_record;
 use super::job::{Job, Status};
@@ -16,6 +16,9 @@ use std::alloc::Global;
 
 /// How many bytes of an input are read.
 const INPUT_LIMIT: usize = 16777216;
+
+/// How many bytes a read may give.
+const BUFFER: usize = 4096;
 
 /// Where a run stands between two bytes.
 #[derive(Drop)]
@@ -60,13 +63,7 @@ fn write_answer<K: Sink>(
 }
 
 // Writes the last line of a run, and gives its status.
-fn finish<K: Sink>(
-    alloc: Global,
-    records: u32,
-    refused: u32,
-    ending: Ending,
-    out: &mut K,
-) -> Status
+fn finish<K: Sink>(alloc: Global, records: u32, refused: u32, ending: Ending, out: &mut K) -> Status
     ensures closes { Closes records refused (ending_of ending) (K.written out.old) (K.written out.new)
         (K.faults out.old) (K.faults out.new) result }
     ensures never_falls { K.faults out.old ≤ K.faults out.new }
@@ -121,13 +118,7 @@ fn take_byte<K: Sink>(
     ensures never_falls { K.faults out.old ≤ K.faults out.new }
 {
     if run.taken == INPUT_LIMIT {
-        return Err(finish(
-            alloc,
-            run.records,
-            run.refused,
-            Ending::TooLong,
-            out,
-        ));
+        return Err(finish(alloc, run.records, run.refused, Ending::TooLong, out));
     }
     match run.reader.feed(byte) {
         Err(_) => Err(Status::NoMemory),
@@ -202,11 +193,19 @@ fn turn<S: Source, K: Sink>(
     ensures placed { OnOk result (IsPlaced run.new) }
     ensures goes_on { OnOk result (run.old.taken < run.new.taken) }
     ensures outcome { (left written : Option (List ℕ)) (consumed : List ℕ) →
-        Took left (S.left src.old) consumed → IsAt job written (K.written out.old) consumed run.old →
+        Takes left (S.left src.old) consumed → IsAt job written (K.written out.old) consumed run.old →
         MatchResult result
-        (λ _. (more : List ℕ) × Took left (S.left src.new) (consumed ++ more) × IsAt job written (K.written out.new) (consumed ++ more) run.new)
-        (Outcome job (record { left = left; left' = S.left src.new; written = written; written' = K.written out.new;
-            read_faults = S.faults src.old; read_faults' = S.faults src.new; write_faults = K.faults out.old; write_faults' = K.faults out.new })) }
+        (λ _. (more : List ℕ) × Takes left (S.left src.new) (consumed ++ more) × IsAt job written (K.written out.new) (consumed ++ more) run.new)
+        (Outcome job (record {
+          left = left;
+          left' = S.left src.new;
+          written = written;
+          written' = K.written out.new;
+          read_faults = S.faults src.old;
+          read_faults' = S.faults src.new;
+          write_faults = K.faults out.old;
+          write_faults' = K.faults out.new;
+        })) }
     ensures reads_never_fall { S.faults src.old ≤ S.faults src.new }
     ensures writes_never_fall { K.faults out.old ≤ K.faults out.new }
 {
@@ -217,5 +216,38 @@ fn turn<S: Source, K: Sink>(
             Err(finish(alloc, run.records, run.refused, ending, out))
         }
         Ok(given) => take_piece(alloc, job, &buffer[..given], run, out),
+    }
+}
+
+/// Runs a job over the records of a source, to the end of its input or to what stops it.
+///
+/// It reads into a buffer of 4096 bytes, and asks for no byte beyond the one after the limit. Each
+/// block is written as soon as its record has ended; of the input the run keeps the buffer and what
+/// has come of one record.
+pub fn run_job<S: Source, K: Sink>(alloc: Global, job: Job, src: &mut S, out: &mut K) -> Status
+    ensures outcome { Outcome job (record {
+      left = S.left src.old;
+      left' = S.left src.new;
+      written = K.written out.old;
+      written' = K.written out.new;
+      read_faults = S.faults src.old;
+      read_faults' = S.faults src.new;
+      write_faults = K.faults out.old;
+      write_faults' = K.faults out.new;
+    }) result }
+{
+    let mut run = Run {
+        reader: RecordReader::new(alloc),
+        records: 0,
+        refused: 0,
+        taken: 0,
+    };
+    let mut buffer = [0u8; BUFFER];
+    'turns: loop {
+        let room = BUFFER.min(INPUT_LIMIT + 1 - run.taken);
+        match turn(alloc, job, &mut buffer[..room], src, &mut run, out) {
+            Ok(()) => {}
+            Err(status) => return status,
+        }
     }
 }

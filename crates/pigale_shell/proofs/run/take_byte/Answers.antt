@@ -1,5 +1,5 @@
-use Rattle.std.proofs.Common.{◌≡◌, ℕ, ◌+◌, ◌∷◌, [], length, refl, arith, sym, ap, ◌∙◌, List, Option}
-use Rattle.map_definitions.specs.Reading.{too_long, bad_count, input_limit}
+use Rattle.std.proofs.Common.{◌+◌, ◌∷◌, [], refl, arith}
+use Rattle.map_definitions.specs.Reading.{too_long, bad_count}
 use Rattle.planar_code.proofs.ProgressLemmas.{Progress-more, Progress-record, Progress-bad, Progress-too_long, Progress-length}
 use Rattle.pigale_shell.proofs.RunLemmas.{at-stops_for_memory, at-more, at-record, at-spoils, at-closes, refused-by_served}
 use Rattle.pigale_shell.proofs.run.take_byte.Goals as goal
@@ -8,7 +8,7 @@ pub returns-then-run-eq-INPUT_LIMIT-clause-at : goal.returns-then-run-eq-INPUT_L
 returns-then-run-eq-INPUT_LIMIT-clause-at g c = λ start consumed at.
     at-closes c.args.job start _ consumed c.args.run.now at (c.args.byte ∷ []) too_long _ _ _ c.finish.result tt
     (λ tail. Progress-too_long consumed at.records c.args.run.now.reader c.args.byte tail at.progress
-      (let l = Progress-length consumed at.records c.args.run.now.reader at.progress in omega arith))
+    (let l = Progress-length consumed at.records c.args.run.now.reader at.progress in omega arith))
     c.finish.ensures.closes
 
 pub returns-in-Err-clause-at : goal.returns-in-Err-clause-at
@@ -20,7 +20,7 @@ returns-in-Ok-Bad-clause-at g c = λ start consumed at.
     let fed = rw c.in-Ok-Bad.field-0-is at c.in-Ok-Bad.ensures.fed in
     at-closes c.args.job start _ consumed c.args.run.now at (c.args.byte ∷ []) (bad_count c.in-Ok-Bad.place) _ _ _ c.finish-in-Ok-Bad.result tt
     (λ tail. rw fed.1 (Progress-bad consumed at.records c.args.run.now.reader c.args.byte tail at.progress fed.0
-      (let l = Progress-length consumed at.records c.args.run.now.reader at.progress in omega arith)))
+    (let l = Progress-length consumed at.records c.args.run.now.reader at.progress in omega arith)))
     c.finish-in-Ok-Bad.ensures.closes
 
 pub returns-in-Ok-More-clause-at : goal.returns-in-Ok-More-clause-at
@@ -36,8 +36,8 @@ returns-in-Ok-clause-at g c = λ start consumed at.
     let ok = c.in-Ok.ensures.ok in
     rw c.count_record.ensures
     (at-record c.args.job start _ consumed c.args.run.now at c.args.byte _ c.in-Ok-Record.lists ok.0 _
-      (rw fed.2 (Progress-record consumed at.records c.args.run.now.reader c.args.byte c.in-Ok-Record.lists at.progress fed.1))
-      ok.1 ok.2 refl (refused-by_served c.in-Ok.served _ c.args.run.now.refused c.in-Ok.ensures.served))
+    (rw fed.2 (Progress-record consumed at.records c.args.run.now.reader c.args.byte c.in-Ok-Record.lists at.progress fed.1))
+    ok.1 ok.2 refl (refused-by_served c.in-Ok.served _ c.args.run.now.refused c.in-Ok.ensures.served))
 
 pub returns-clause-at : goal.returns-clause-at
 returns-clause-at g c = λ start consumed at.
