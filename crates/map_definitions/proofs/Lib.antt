@@ -1,2 +1,5 @@
 -- The lemmas on the definitions that several crates need, and the worked cases on which the definitions were run.
+pub mod Counting
+pub mod Classes
+pub mod Orbits
 mod Cases
