@@ -1,5 +1,5 @@
 -- Counting the numbers below n that pass a test.
-use Rattle.std.proofs.Common.{◌≡◌, ◌≢◌, ℕ, zero, suc, ◌+◌, ◌<◌, ◌≤◌, Bool, true, false, not, cond, eqb, refl, ap, inl, inr, arith}
+use Rattle.std.proofs.Common.{◌≡◌, ◌≢◌, ℕ, zero, suc, ◌+◌, ◌<◌, ◌≤◌, Bool, true, false, not, cond, eqb, refl, sym, ap, inl, inr, arith}
 use Rattle.std.proofs.lemmas.Bool.{cases_Bool, cases_eq, eq-eqb, ne_eqb}
 use Rattle.map_definitions.specs.Classes.{count_below}
 
@@ -86,3 +86,29 @@ count_below_images_le f p (suc k) n within apart =
           let rest = count_below_images_le f p k n (λ i l. within i (omega arith)) (λ i j l m. apart i j (omega arith) (omega arith)) in
           omega (arith, rest, ap one_if fails)
     ]
+
+-- two tests that agree but at m: the counts differ by what they answer there
+pub count_below_but_one : (p q : ℕ → Bool) (n m : ℕ) → m < n → ((i : ℕ) → i < n → i ≢ m → p i ≡ q i) → count_below p n + one_if (q m) ≡ count_below q n + one_if (p m)
+count_below_but_one p q zero m l h = absurd (omega arith)
+count_below_but_one p q (suc n) m l h =
+    elim (cases_eq m n) [
+      | inl e ↦
+          let same = count_below_same p q n (λ i k. h i (omega arith) (omega arith)) in
+          omega (arith, same, ap (λ i. one_if (p i)) e, ap (λ i. one_if (q i)) e)
+      | inr ne ↦
+          let below = count_below_but_one p q n m (omega arith) (λ i k d. h i (omega arith) d) in
+          let here : p n ≡ q n = h n (omega arith) (omega arith) in
+          omega (arith, below, ap one_if here)
+    ]
+
+-- the same for two tests that agree but at a and b
+pub count_below_but_two : (p q : ℕ → Bool) (n a b : ℕ) → a < n → b < n → a ≢ b → ((i : ℕ) → i < n → i ≢ a → i ≢ b → p i ≡ q i) → count_below p n + (one_if (q a) + one_if (q b)) ≡ count_below q n + (one_if (p a) + one_if (p b))
+count_below_but_two p q n a b la lb ne h =
+    let mixed : ℕ → Bool = λ i. cond (eqb i a) (q i) (p i) in
+    let at_a : mixed a ≡ q a = rw (eq-eqb a a refl) refl in
+    let at_b : mixed b ≡ p b = rw (ne_eqb b a (λ e. ne (sym e))) refl in
+    let first = count_below_but_one p mixed n a la (λ i l d. rw (ne_eqb i a d) refl) in
+    let agree : (i : ℕ) → i < n → i ≢ b → mixed i ≡ q i =
+    λ i l d. elim (cases_eq i a) [ inl e ↦ rw (eq-eqb i a e) refl | inr d' ↦ rw (ne_eqb i a d') (h i l d' d) ] in
+    let second = count_below_but_one mixed q n b lb agree in
+    omega (arith, first, second, ap one_if at_a, ap one_if at_b)

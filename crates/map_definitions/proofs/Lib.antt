@@ -2,4 +2,5 @@
 pub mod Counting
 pub mod Classes
 pub mod Orbits
+pub mod Swap
 mod Cases
