@@ -3,4 +3,5 @@ pub mod Counting
 pub mod Classes
 pub mod Orbits
 pub mod Swap
+pub mod Walks
 mod Cases

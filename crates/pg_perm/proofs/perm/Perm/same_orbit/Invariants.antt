@@ -1,0 +1,8 @@
+use Rattle.std.proofs.Common.{ℕ, ◌≡◌, ◌≢◌, ◌<◌}
+use Rattle.map_definitions.specs.Classes.{image}
+use Rattle.map_definitions.proofs.Walks.{walk, IsAway}
+use Rattle.pg_perm.proofs.Perms.{IsAt}
+use Rattle.pg_perm.proofs.perm.Perm.same_orbit.Given as goal
+
+abbrev pub invariant-loop-step : goal.invariant-loop-step
+invariant-loop-step l = IsAt l.self-inside.images.items l.a l.b l.x l._step
