@@ -1,6 +1,6 @@
 -- Marks set along orbits: the walk that marks one, and the count that marks each where its least number is met.
 use Rattle.std.proofs.Common.{◌≡◌, ◌≢◌, ◌⊎◌, ◌||◌, ℕ, suc, ◌+◌, ◌<◌, ◌≤◌, Bool, true, false, not, eqb, ltb, List, length, set, refl, sym, ap, ◌∙◌, subst, inl, inr, arith, length-set, get_or-set_same, get_or-set_other}
-use Rattle.std.proofs.lemmas.Bool.{cases_Bool, cases_eq, eq-eqb, ne_eqb, lt-ltb, le-ltb, ltb-true, ltb-false, false_from_ne_true, false≢true, true≢false, or_left}
+use Rattle.std.proofs.lemmas.Bool.{cases_Bool, cases_eq, eq-eqb, ne_eqb, lt-ltb, le-ltb, ltb-true, ltb-false, false_from_ne_true, false≢true, or_left}
 use Rattle.map_definitions.specs.Classes.{IsPermutationOfBelow, count_below, label, image, orbits, orbit_count, same_class}
 use Rattle.map_definitions.proofs.Counting.{count_below-le, count_below_more}
 use Rattle.map_definitions.proofs.Classes.{Together, Together-from, same_class-from}
@@ -26,7 +26,7 @@ unmarked_count marked k = count_below (λ i. not (mark marked i)) k
 pub unmarked_count-set : (marked : List Bool) (k x : ℕ) → length marked ≡ k → x < k → mark marked x ≡ false → unmarked_count (set marked x true) k < unmarked_count marked k
 unmarked_count-set marked k x len l off =
     let more = count_below_more (λ i. not (mark (set marked x true) i)) (λ i. not (mark marked i)) k x l
-        (ap not (mark-set_same marked x (omega arith))) (ap not off) (λ i m ne. ap not (mark-set_other marked x i ne)) in
+    (ap not (mark-set_same marked x (omega arith))) (ap not off) (λ i m ne. ap not (mark-set_other marked x i ne)) in
     omega arith
 
 -- The walk from start has come to x: what it marked is of the orbit of start, and each marked number's image is marked or is x.
@@ -58,38 +58,38 @@ IsMarking-more images old marked start x y p h e =
       together = h.together ∙ (step ∙ ap (label (orbits images)) (sym e));
       stays = λ i t. keeps i (h.stays i t);
       only = λ i t. elim (cases_eq i x) [
-        inl q ↦ inr (h.together ∙ ap (label (orbits images)) (sym q))
-      | inr ne ↦ h.only i (sym (mark-set_other marked x i ne) ∙ t)
+        | inl q ↦ inr (h.together ∙ ap (label (orbits images)) (sym q))
+        | inr ne ↦ h.only i (sym (mark-set_other marked x i ne) ∙ t)
       ];
       stepped = λ i m t. elim (cases_eq i x) [
-        inl q ↦ inr (ap (image images) q ∙ sym e)
-      | inr ne ↦ elim (h.stepped i m (sym (mark-set_other marked x i ne) ∙ t)) [
-          inl t' ↦ inl (keeps (image images i) t')
-        | inr q ↦ inl (ap (mark new) q ∙ at_x)
+        | inl q ↦ inr (ap (image images) q ∙ sym e)
+        | inr ne ↦ elim (h.stepped i m (sym (mark-set_other marked x i ne) ∙ t)) [
+          | inl t' ↦ inl (keeps (image images i) t')
+          | inr q ↦ inl (ap (mark new) q ∙ at_x)
         ]
       ];
-      begun = elim h.begun [ inl t ↦ inl (keeps start t) | inr q ↦ inl (ap (mark new) (sym q) ∙ at_x) ]
+      begun = elim h.begun [ inl t ↦ inl (keeps start t) | inr q ↦ inl (ap (mark new) (sym q) ∙ at_x) ];
     }
 
 -- where x is marked already, the orbit of start is marked, and nothing else that was not
 pub IsMarking-all : (images : List ℕ) (old marked : List Bool) (start x : ℕ) → IsPermutationOfBelow images → IsMarking images old marked start x → start < length images → mark marked x ≡ true → (i : ℕ) → i < length images → mark marked i ≡ (mark old i || same_class (orbits images) start i)
 IsMarking-all images old marked start x p h l on i m =
     let keeps : (j : ℕ) → j < length images → mark marked j ≡ true → mark marked (image images j) ≡ true =
-        λ j n t. elim (h.stepped j n t) [ inl t' ↦ t' | inr q ↦ ap (mark marked) q ∙ on ] in
+    λ j n t. elim (h.stepped j n t) [ inl t' ↦ t' | inr q ↦ ap (mark marked) q ∙ on ] in
     let begun : mark marked start ≡ true = elim h.begun [ inl t ↦ t | inr q ↦ ap (mark marked) (sym q) ∙ on ] in
     elim (cases_Bool (mark old i)) [
-      inl t ↦ h.stays i t ∙ sym (or_left (mark old i) (same_class (orbits images) start i) t)
-    | inr t ↦
-        elim (cases_Bool (same_class (orbits images) start i)) [
-          inl s ↦
-            let same = orbits-closed_marks images p (mark marked) keeps start i l m (Together-from (orbits images) start i s) in
-            rw (t, s) (sym same ∙ begun)
-        | inr s ↦
-            rw (t, s) (false_from_ne_true (mark marked i) (λ u. elim (h.only i u) [
-              inl v ↦ false≢true (sym t ∙ v)
-            | inr v ↦ false≢true (sym s ∙ same_class-from (orbits images) start i v)
-            ]))
-        ]
+      | inl t ↦ h.stays i t ∙ sym (or_left (mark old i) (same_class (orbits images) start i) t)
+      | inr t ↦
+          elim (cases_Bool (same_class (orbits images) start i)) [
+            | inl s ↦
+                let same = orbits-closed_marks images p (mark marked) keeps start i l m (Together-from (orbits images) start i s) in
+                rw (t, s) (sym same ∙ begun)
+            | inr s ↦
+                rw (t, s) (false_from_ne_true (mark marked i) (λ u. elim (h.only i u) [
+                  | inl v ↦ false≢true (sym t ∙ v)
+                  | inr v ↦ false≢true (sym s ∙ same_class-from (orbits images) start i v)
+                ]))
+          ]
     ]
 
 -- The orbits whose least number is below i are marked, and counted.
@@ -113,13 +113,13 @@ KeepsMarks-counting images marked count i p h y l t =
 ltb_one_more : (x i : ℕ) → (ltb x i || eqb i x) ≡ ltb x (suc i)
 ltb_one_more x i =
     elim (cases_Bool (ltb x i)) [
-      inl t ↦ or_left (ltb x i) (eqb i x) t ∙ sym (lt-ltb x (suc i) (omega (arith, ltb-true x i t)))
-    | inr f ↦
-        let le = ltb-false x i f in
-        elim (cases_eq i x) [
-          inl e ↦ rw (f, eq-eqb i x e) (sym (lt-ltb x (suc i) (omega arith)))
-        | inr ne ↦ rw (f, ne_eqb i x ne) (sym (le-ltb x (suc i) (omega arith)))
-        ]
+      | inl t ↦ or_left (ltb x i) (eqb i x) t ∙ sym (lt-ltb x (suc i) (omega (arith, ltb-true x i t)))
+      | inr f ↦
+          let le = ltb-false x i f in
+          elim (cases_eq i x) [
+            | inl e ↦ rw (f, eq-eqb i x e) (sym (lt-ltb x (suc i) (omega arith)))
+            | inr ne ↦ rw (f, ne_eqb i x ne) (sym (le-ltb x (suc i) (omega arith)))
+          ]
     ]
 
 -- a number that is not marked is the least of its orbit, which is then marked
@@ -132,8 +132,8 @@ IsCounting-new images marked new count i m p h l off len marks s =
     let next : IsCounting images new (count + 1) (suc i) = record {
       marks = len;
       known = λ y n.
-        marks y n ∙ (ap (λ b. b || same_class O i y) (h.known y n) ∙ (ap (λ x. ltb (label O y) i || eqb x (label O y)) own ∙ ltb_one_more (label O y) i));
-      counted = let e = eq-eqb (label O i) i own in rw e (omega (arith, h.counted))
+          marks y n ∙ (ap (λ b. b || same_class O i y) (h.known y n) ∙ (ap (λ x. ltb (label O y) i || eqb x (label O y)) own ∙ ltb_one_more (label O y) i));
+      counted = let e = eq-eqb (label O i) i own in rw e (omega (arith, h.counted));
     } in
     let s' : m ≡ suc i = omega arith in
     rw s' next
@@ -148,7 +148,7 @@ IsCounting-old images marked count i m p h l on s =
     let next : IsCounting images marked count (suc i) = record {
       marks = h.marks;
       known = λ y n. h.known y n ∙ (sym (or_off (ltb (label O y) i) (eqb i (label O y)) (ne_eqb i (label O y) (other y))) ∙ ltb_one_more (label O y) i);
-      counted = let ne : label O i ≢ i = omega arith in rw (ne_eqb (label O i) i ne) (omega (arith, h.counted))
+      counted = let ne : label O i ≢ i = omega arith in rw (ne_eqb (label O i) i ne) (omega (arith, h.counted));
     } in
     let s' : m ≡ suc i = omega arith in
     rw s' next

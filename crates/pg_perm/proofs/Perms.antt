@@ -42,7 +42,7 @@ IsAt-more images a b x y n m p at ne e away s =
       place = place;
       within = let l = (IsPermuting-image images p).within x at.within in omega arith;
       not_met = λ i l. elim (cases_eq i n) [ inl q ↦ (λ q'. ne (at.place ∙ (ap (walk f a) (sym q) ∙ q'))) | inr d ↦ at.not_met i (omega arith) ];
-      away = IsAway-more f a n at.away (λ q. away (place ∙ q))
+      away = IsAway-more f a n at.away (λ q. away (place ∙ q));
     } in
     let s' : m ≡ suc n = omega arith in
     rw s' next

@@ -1,7 +1,7 @@
 -- The least repeat of a list, found from its back with a table of places.
-use Rattle.std.proofs.Common.{◌≡◌, ◌≢◌, ◌⊎◌, ℕ, suc, ◌+◌, ◌<◌, ◌≤◌, List, length, get_or, set, Option, Some, None, MatchOption, refl, sym, ap, ◌∙◌, subst, inl, inr, arith, length-set, get_or-set_same, get_or-set_other}
-use Rattle.std.specs.List.{All, AllPairs}
-use Rattle.std.proofs.lemmas.Bool.{cases_eq, cases_lt}
+use Rattle.std.proofs.Common.{◌≡◌, ◌≢◌, ◌⊎◌, ℕ, suc, ◌<◌, ◌≤◌, List, length, get_or, set, Option, Some, None, MatchOption, sym, ap, ◌∙◌, inl, inr, arith, length-set, get_or-set_same, get_or-set_other}
+use Rattle.std.specs.List.{AllPairs}
+use Rattle.std.proofs.lemmas.Bool.{cases_eq}
 use Rattle.std.proofs.lemmas.List.{get_or_default}
 use Rattle.pg_perm.specs.Repeat.{IsRepeat, IsFirstRepeat}
 
@@ -30,7 +30,7 @@ IsPlaces-none images place len h =
       size = len;
       at = λ x l m. absurd (omega (arith, h x l));
       top = λ x l. omega (arith, h x l);
-      least = λ x b l m n e. absurd (omega arith)
+      least = λ x b l m n e. absurd (omega arith);
     }
 
 -- one place more, from the back
@@ -43,21 +43,21 @@ IsPlaces-more images place i l m h =
     record {
       size = length-set place x i ∙ h.size;
       at = λ y n s. elim (cases_eq y x) [
-        inl e ↦
-          let at_y : get_or new y 0 ≡ i = ap (λ z. get_or new z 0) e ∙ here in
-          (omega arith, ap (λ z. get_or images z 0) at_y ∙ sym e)
-      | inr ne ↦
-          let same = other y ne in
-          let old = h.at y n (omega arith) in
-          (omega (arith, old.0), ap (λ z. get_or images z 0) same ∙ old.1)
+        | inl e ↦
+            let at_y : get_or new y 0 ≡ i = ap (λ z. get_or new z 0) e ∙ here in
+            (omega arith, ap (λ z. get_or images z 0) at_y ∙ sym e)
+        | inr ne ↦
+            let same = other y ne in
+            let old = h.at y n (omega arith) in
+            (omega (arith, old.0), ap (λ z. get_or images z 0) same ∙ old.1)
       ];
       top = λ y n. elim (cases_eq y x) [ inl e ↦ omega (arith, ap (λ z. get_or new z 0) e) | inr ne ↦ omega (arith, other y ne, h.top y n) ];
       least = λ y b n s s' e. elim (cases_eq y x) [
-        inl q ↦ omega (arith, ap (λ z. get_or new z 0) q)
-      | inr ne ↦
-          let later : b ≢ i = λ q. ne (sym e ∙ ap (λ z. get_or images z 0) q) in
-          omega (arith, other y ne, h.least y b n (omega arith) s' e)
-      ]
+        | inl q ↦ omega (arith, ap (λ z. get_or new z 0) q)
+        | inr ne ↦
+            let later : b ≢ i = λ q. ne (sym e ∙ ap (λ z. get_or images z 0) q) in
+            omega (arith, other y ne, h.least y b n (omega arith) s' e)
+      ];
     }
 
 -- the number at i stands later too: that pair is now the least
@@ -70,12 +70,12 @@ IsFirstFrom-new images place i j m h e ne =
       since = omega arith;
       repeat = record { order = omega (arith, at.0); within = omega arith; same = sym (ap (λ z. get_or images z 0) e ∙ at.1) };
       least = λ a b l r. elim (cases_eq a i) [
-        inl q ↦
-          let order = r.order in
-          let least = h.least x b m (omega arith) r.within (sym r.same ∙ ap (λ z. get_or images z 0) q) in
-          inr (sym q, omega arith)
-      | inr d ↦ inl (omega arith)
-      ]
+        | inl q ↦
+            let order = r.order in
+            let least = h.least x b m (omega arith) r.within (sym r.same ∙ ap (λ z. get_or images z 0) q) in
+            inr (sym q, omega arith)
+        | inr d ↦ inl (omega arith)
+      ];
     }
 
 -- a number that stands at i and at no later place is in no repeat from i
@@ -91,7 +91,7 @@ IsFoundFrom-old images place i (Some pair) m h e f =
     record {
       since = omega (arith, f.since);
       repeat = f.repeat;
-      least = λ a b l r. elim (cases_eq a i) [ inl q ↦ absurd (no_repeat images place i a b m h e q r) | inr d ↦ f.least a b (omega arith) r ]
+      least = λ a b l r. elim (cases_eq a i) [ inl q ↦ absurd (no_repeat images place i a b m h e q r) | inr d ↦ f.least a b (omega arith) r ];
     }
 
 -- from the first place on, it is the least of all

@@ -7,5 +7,4 @@ ghost use Rattle.pg_perm.specs.Law.{OneSwap};
 /// So the number of orbits rises or falls by one. It costs nothing to call.
 pub fn one_swap()
     ensures { OneSwap }
-{
-}
+{}

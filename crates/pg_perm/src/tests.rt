@@ -25,9 +25,18 @@ fn a_swap_splits_a_cycle_of_three(rt: HostRuntime) -> Result<(), Fail> {
 
 #[test]
 fn faults_are_named(rt: HostRuntime) {
-    assert_eq!(rt; Perm::of_images(rt.alloc(), &[1, 1]).err(), Some(PermFault::Repeated(0, 1)));
-    assert_eq!(rt; Perm::of_images(rt.alloc(), &[0, 2]).err(), Some(PermFault::OutOfRange(1)));
-    assert_eq!(rt; Perm::of_images(rt.alloc(), &[2, 1, 1, 2]).err(), Some(PermFault::Repeated(0, 3)));
+    assert_eq!(rt;
+        Perm::of_images(rt.alloc(), &[1, 1]).err(),
+        Some(PermFault::Repeated(0, 1))
+    );
+    assert_eq!(rt;
+        Perm::of_images(rt.alloc(), &[0, 2]).err(),
+        Some(PermFault::OutOfRange(1))
+    );
+    assert_eq!(rt;
+        Perm::of_images(rt.alloc(), &[2, 1, 1, 2]).err(),
+        Some(PermFault::Repeated(0, 3))
+    );
 }
 
 #[test]

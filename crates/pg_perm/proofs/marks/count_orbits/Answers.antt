@@ -1,5 +1,5 @@
-use Rattle.std.proofs.Common.{◌≡◌, ◌∙◌, sym, length, ◌<◌, ◌≤◌, arith}
-use Rattle.pg_perm.proofs.Marking.{IsCounting, IsCounting-new, IsCounting-old, IsCounting-all, IsCounting-le, KeepsMarks-counting}
+use Rattle.std.proofs.Common.{◌≡◌, length, ◌<◌, arith}
+use Rattle.pg_perm.proofs.Marking.{IsCounting-new, IsCounting-old, IsCounting-all, IsCounting-le, KeepsMarks-counting}
 use Rattle.pg_perm.proofs.marks.count_orbits.Goals as goal
 use Rattle.pg_perm.proofs.marks.count_orbits.Goals.{then-not-marked-i, else-not-marked-i}
 
@@ -17,11 +17,11 @@ loop-i-preserved c =
     let h = c.loop-i.invariant in
     let in_i : c.loop-i.i < length images = omega arith in
     elim c.if-not-marked-i.branch [
-      then-not-marked-i w ↦
-        let len : length w.mark_orbit.new.marked ≡ length images = omega (arith, h.marks) in
-        rw (w.marked-is, w.count-is) (IsCounting-new images c.loop-i.marked w.mark_orbit.new.marked c.loop-i.count c.loop-i.i _ c.requires.bijection h in_i w.if-not-marked-i.true len w.mark_orbit.ensures.marked (omega arith))
-    | else-not-marked-i w ↦
-        rw (w.marked-is, w.count-is) (IsCounting-old images c.loop-i.marked c.loop-i.count c.loop-i.i _ c.requires.bijection h in_i w.if-not-marked-i.false (omega arith))
+      | then-not-marked-i w ↦
+          let len : length w.mark_orbit.new.marked ≡ length images = omega (arith, h.marks) in
+          rw (w.marked-is, w.count-is) (IsCounting-new images c.loop-i.marked w.mark_orbit.new.marked c.loop-i.count c.loop-i.i _ c.requires.bijection h in_i w.if-not-marked-i.true len w.mark_orbit.ensures.marked (omega arith))
+      | else-not-marked-i w ↦
+          rw (w.marked-is, w.count-is) (IsCounting-old images c.loop-i.marked c.loop-i.count c.loop-i.i _ c.requires.bijection h in_i w.if-not-marked-i.false (omega arith))
     ]
 
 pub returns : goal.returns

@@ -1,4 +1,4 @@
-use Rattle.std.proofs.Common.{length, arith}
+use Rattle.std.proofs.Common.{length}
 use Rattle.std.proofs.lemmas.List.{get_or_default}
 use Rattle.pg_perm.proofs.Marking.{IsMarking-more, IsMarking-all, unmarked_count-set}
 use Rattle.pg_perm.proofs.marks.mark_orbit.Goals as goal
@@ -16,5 +16,5 @@ loop-marked-preserved c =
 
 pub returns : goal.returns
 returns c = record {
-  marked = IsMarking-all c.args.images.now c.args.marked.now c.loop-marked.marked c.args.start c.loop-marked.x c.requires.bijection c.loop-marked.invariant c.requires.start_in c.loop-marked-test.false
+  marked = IsMarking-all c.args.images.now c.args.marked.now c.loop-marked.marked c.args.start c.loop-marked.x c.requires.bijection c.loop-marked.invariant c.requires.start_in c.loop-marked-test.false;
 }

@@ -1,6 +1,3 @@
-use Rattle.std.proofs.Common.{ℕ, ◌≡◌, ◌≢◌, ◌<◌}
-use Rattle.map_definitions.specs.Classes.{image}
-use Rattle.map_definitions.proofs.Walks.{walk, IsAway}
 use Rattle.pg_perm.proofs.Perms.{IsAt}
 use Rattle.pg_perm.proofs.perm.Perm.same_orbit.Given as goal
 

@@ -1,5 +1,3 @@
-use Rattle.std.proofs.Common.{◌≡◌, ◌<◌, length, swap, ap, ◌∙◌, arith}
-use Rattle.map_definitions.specs.Classes.{orbit_count}
 use Rattle.map_definitions.proofs.Swap.{orbit_count-cut, orbit_count-joined}
 use Rattle.pg_perm.specs.Perm.{IsPerm}
 use Rattle.pg_perm.proofs.Perms.{IsPerm-swap}
