@@ -2,6 +2,7 @@
 pub mod Counting
 pub mod Classes
 pub mod Orbits
+pub mod Bound
 pub mod Swap
 pub mod Walks
 mod Cases
