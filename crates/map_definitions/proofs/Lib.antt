@@ -1,2 +1,8 @@
 -- The lemmas on the definitions that several crates need, and the worked cases on which the definitions were run.
+pub mod Counting
+pub mod Classes
+pub mod Orbits
+pub mod Bound
+pub mod Swap
+pub mod Walks
 mod Cases

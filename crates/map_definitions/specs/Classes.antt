@@ -1,5 +1,5 @@
 -- The classes into which pairs join the numbers below k, and the orbits of a list of images.
-use Rattle.std.specs.Prelude.{ℕ, zero, suc, ◌+◌, ◌<◌, min, max, Bool, ◌==◌, if◌then◌else◌, List, [], ◌∷◌, map, length, slice_index_or, AllPairs, All, ◌≢◌}
+use Rattle.std.specs.Prelude.{ℕ, zero, suc, ◌+◌, ◌<◌, min, max, Bool, true, false, ◌≡◌, ◌==◌, if◌then◌else◌, List, [], ◌∷◌, map, length, slice_index_or, AllPairs, All, ◌≢◌}
 use Rattle.std.specs.List.{range_with_len, enumerate_from}
 
 -- how many numbers below n pass a test
@@ -47,7 +47,22 @@ orbits images = classes (length images) (enumerate_from 0 images)
 abbrev pub orbit_count : List ℕ → ℕ
 orbit_count images = class_count (orbits images)
 
+-- the image of i, in a list of images; a number past the list is its own
+abbrev pub image : List ℕ → ℕ → ℕ
+image images i = slice_index_or images i i
+
 -- the images are those of a bijection of the numbers below their count: each is below it, and no two are one
 pub record IsPermutationOfBelow (images : List ℕ) : Type 0 where
   pub within : All (λ i. i < length images) images
   pub distinct : AllPairs ◌≢◌ images
+
+-- The classes `one` are the classes `two` with those of a and b, which are apart there, made one; so they are one fewer.
+pub record IsMerged (two one : List ℕ) (a b : ℕ) : Type 0 where
+  pub apart : same_class two a b ≡ false
+  pub joined : one ≡ merge two a b
+  pub fewer : class_count two ≡ class_count one + 1
+
+-- The law of one swap: where a and b lie in one orbit, that orbit is cut in two; where not, the two orbits become one.
+pub record IsSwapOfOrbits (old new : List ℕ) (a b : ℕ) : Type 0 where
+  pub cut : same_class old a b ≡ true → IsMerged new old a b
+  pub joined : same_class old a b ≡ false → IsMerged old new a b

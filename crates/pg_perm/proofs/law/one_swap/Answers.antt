@@ -1,0 +1,5 @@
+use Rattle.map_definitions.proofs.Swap.{swap_orbits}
+use Rattle.pg_perm.proofs.law.one_swap.Goals as goal
+
+pub returns : goal.returns
+returns c = swap_orbits

@@ -1,0 +1,39 @@
+//! Marks on the numbers below k, which the walk along an orbit sets.
+ghost use Rattle.std.specs.Prelude.{◌≡◌, ◌<◌, ◌^◌, ◌||◌, ℕ, false, length};
+ghost use Rattle.map_definitions.specs.Classes.{IsPermutationOfBelow, orbits, orbit_count, same_class};
+ghost use Rattle.pg_perm.specs.Marks.{mark, KeepsMarks};
+
+/// Marks the orbit of `start`, given marks that each step keeps; other marks stay as they are.
+pub fn mark_orbit(images: &[u32], marked: &mut [bool], start: u32)
+    requires bijection { IsPermutationOfBelow images.now }
+    requires marks { length marked.old ≡ length images.now }
+    requires kept { KeepsMarks images.now marked.old }
+    requires start_in { start < length images.now }
+    ensures marked { (i : ℕ) → i < length images.now →
+        mark marked.new i ≡ (mark marked.old i || same_class (orbits images.now) start i) }
+{
+    let mut x = start as usize;
+    while !marked[x] {
+        marked[x] = true;
+        x = images[x] as usize;
+    }
+}
+
+/// How many orbits there are, given one unset mark for each number: each orbit is marked where its
+/// least number is met. The time is linear.
+pub fn count_orbits(images: &[u32], marked: &mut [bool]) -> u32
+    requires bijection { IsPermutationOfBelow images.now }
+    requires few { length images.now < 2 ^ 32 }
+    requires marks { length marked.old ≡ length images.now }
+    requires unset { (i : ℕ) → mark marked.old i ≡ false }
+    ensures { result ≡ orbit_count images.now }
+{
+    let mut count = 0;
+    for i in 0..images.len() {
+        if !marked[i] {
+            count += 1;
+            mark_orbit(images, marked, i as u32);
+        }
+    }
+    count
+}

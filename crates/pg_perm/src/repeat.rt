@@ -1,0 +1,28 @@
+//! The least pair of numbers that have one image.
+ghost use Rattle.std.specs.Prelude.{◌≡◌, ◌≢◌, ◌<◌, ◌^◌, length, All, AllPairs, IfOk, MatchOption};
+ghost use Rattle.pg_perm.specs.Repeat.{IsFirstRepeat};
+
+use std::alloc::{AllocError, Global};
+
+/// The least pair of places, by its first and then by its second, at which one number stands; None
+/// exactly where no number stands twice. The time is linear.
+pub fn first_repeat(alloc: Global, images: &[u32]) -> Result<Option<(u32, u32)>, AllocError>
+    requires few { length images.now < 2 ^ 32 }
+    requires in_range { All (λ x. x < length images.now) images.now }
+    ensures { IfOk result (λ found. MatchOption found (AllPairs ◌≢◌ images.now)
+        (λ pair. IsFirstRepeat images.now pair.0 pair.1)) }
+{
+    let none = images.len() as u32;
+    // For each number the least place so far at which it stands, or `none`.
+    let mut place = vec![in alloc; none; images.len()]?;
+    let mut found = None;
+    for i in (0..images.len()).rev() {
+        let x = images[i] as usize;
+        let later = place[x];
+        if later != none {
+            found = Some((i as u32, later));
+        }
+        place[x] = i as u32;
+    }
+    Ok(found)
+}
