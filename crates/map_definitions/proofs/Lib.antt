@@ -1,2 +1,3 @@
 -- The lemmas on the definitions that several crates need, and the worked cases on which the definitions were run.
 mod Cases
+pub mod DartLemmas
