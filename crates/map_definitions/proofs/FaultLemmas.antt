@@ -74,10 +74,10 @@ least_where_more_no p us i d h e =
 
 -- what stands in a list with one more entry at its front
 
-Contains-here : (u : ℕ) (us : List ℕ) → Contains (u ∷ us) u
+pub Contains-here : (u : ℕ) (us : List ℕ) → Contains (u ∷ us) u
 Contains-here u us = (0, omega arith, refl)
 
-Contains-there : (u : ℕ) (us : List ℕ) (w : ℕ) → Contains us w → Contains (u ∷ us) w
+pub Contains-there : (u : ℕ) (us : List ℕ) (w : ℕ) → Contains us w → Contains (u ∷ us) w
 Contains-there u us w h = (suc h.0, omega (arith, h.1), h.2)
 
 Contains-cons_at : (u : ℕ) (us : List ℕ) (w k : ℕ) → k < length (u ∷ us) → get_or (u ∷ us) k w ≡ w → (u ≡ w) ⊎ Contains us w
@@ -185,7 +185,7 @@ module _ (find : ℕ → List ℕ → Option ℕ) (lists : Lists) where
 abbrev pub count_of : ℕ → List ℕ → ℕ
 count_of u us = count_by (λ w. w == u) us
 
-count_of-cons : (u x : ℕ) (us : List ℕ) → count_of u (x ∷ us) ≡ cond (eqb x u) 1 0 + count_of u us
+pub count_of-cons : (u x : ℕ) (us : List ℕ) → count_of u (x ∷ us) ≡ cond (eqb x u) 1 0 + count_of u us
 count_of-cons u x us = sum_by-cons (λ w. cond (eqb w u) 1 0) x us
 
 pub count_of-here : (u x : ℕ) (us : List ℕ) → x ≡ u → count_of u (x ∷ us) ≡ suc (count_of u us)

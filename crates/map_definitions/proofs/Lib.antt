@@ -2,3 +2,4 @@
 mod Cases
 pub mod DartLemmas
 pub mod FaultLemmas
+pub mod DartCounts
