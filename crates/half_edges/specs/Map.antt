@@ -1,7 +1,6 @@
 -- What contracts see of a half-edge map: its rotation lists, the room for more edges, and which id is which dart.
-use Rattle.std.specs.Prelude.{ℕ, ◌+◌, ◌*◌, ◌<◌, ◌≤◌, ◌≡◌, List, length, slice_index_or, Option, Some, None, IsSome, option_map}
+use Rattle.std.specs.Prelude.{ℕ, ◌+◌, ◌*◌, ◌<◌, ◌≤◌, ◌≡◌, List, length, slice_index_or, Option, Some, None, IsSome}
 use Rattle.map_definitions.specs.Maps.{Lists, Dart, IsSimpleMap, HasDart, follows, edge_count}
-use Rattle.map_definitions.specs.Faults.{Fault, first_fault}
 
 pub record Map : Type 0 where
   -- for each vertex its neighbours, clockwise

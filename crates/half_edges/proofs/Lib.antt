@@ -1,0 +1,2 @@
+-- The lemmas on which several of the crate's functions rest.
+pub mod CutLemmas
