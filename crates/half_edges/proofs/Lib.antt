@@ -1,2 +1,3 @@
 -- The lemmas on which several of the crate's functions rest.
 pub mod CutLemmas
+pub mod MarkLemmas

@@ -1,12 +1,12 @@
 -- The least number that passes a test, the first vertex where one is found, and what no fault says of lists.
-use Rattle.std.proofs.Common.{ℕ, zero, suc, ◌+◌, ◌<◌, ◌≤◌, ◌≡◌, ◌≢◌, ◌⊎◌, min, Bool, true, false, not, cond, eqb, ltb, leb, List, [], ◌∷◌, ◌++◌, length, get_or, take, AllPairs, Contains, count_by, Option, Some, None, sym, refl, ap, ◌∙◌, subst, inl, inr, ⊎_elim, arith, eqb-true, eq-eqb, ne_eqb, leb-false, ltb-false, le-ltb, if◌then◌else◌, ◌==◌}
+use Rattle.std.proofs.Common.{ℕ, zero, suc, ◌+◌, ◌<◌, ◌≤◌, ◌≡◌, ◌≢◌, ◌⊎◌, min, Bool, true, false, not, cond, eqb, ltb, leb, List, [], ◌∷◌, ◌++◌, length, get_or, take, AllPairs, Contains, count_by, Option, Some, None, sym, refl, ap, ◌∙◌, ltb-true, lt-ltb, subst, inl, inr, ⊎_elim, arith, eqb-true, eq-eqb, ne_eqb, leb-false, ltb-false, le-ltb, if◌then◌else◌, ◌==◌}
 use Rattle.std.specs.List.{list_any}
 use Rattle.std.proofs.lemmas.List.{take_more}
 use Rattle.std.proofs.lemmas.List.Elements.{Contains-get_or}
-use Rattle.std.proofs.lemmas.List.Sums.{sum_by-cons}
+use Rattle.std.proofs.lemmas.List.Sums.{sum_by-cons, sum_by_push}
 use Rattle.std.proofs.lemmas.List.Folds.{list_any_at}
 use Rattle.std.proofs.lemmas.Option.{none-some}
-use Rattle.std.proofs.lemmas.Bool.{lt-leb, cases_lt, cases_eq, eqb-false, cond-true, cond-false, true≢false, not-false, not_from_true, false_from_ne_true, or_cases}
+use Rattle.std.proofs.lemmas.Bool.{lt-leb, false≢true, cases_lt, cases_eq, eqb-false, cond-true, cond-false, true≢false, not-false, not_from_true, false_from_ne_true, or_cases}
 use Rattle.map_definitions.specs.Maps.{Lists, list_of, HasDart, IsSimpleMap}
 use Rattle.map_definitions.specs.Faults.{Fault, out_of_range, loop_at, repeated, one_sided, lesser_of, least_where, or_from, first_from, least_out_of_range, own_number, least_repeated, least_one_sided, fault_or, first_fault}
 
@@ -356,3 +356,66 @@ HasNoFault-from_IsSimpleMap lists simple =
 
 pub first_fault-IsSimpleMap : (lists : Lists) → IsSimpleMap lists → first_fault lists ≡ None
 first_fault-IsSimpleMap lists simple = first_fault_none lists (HasNoFault-from_IsSimpleMap lists simple)
+
+-- a vertex's own number is found exactly where its list holds it
+
+pub own_number_found : (v : ℕ) (us : List ℕ) → list_any (λ w. w == v) us ≡ true → own_number v us ≡ Some v
+own_number_found v us e =
+    sym (least_where_is (λ u. u == v) us (Some v) ((Contains-from_list_any v us e, eq-eqb v v refl), λ w h. omega (arith, eqb-true w v h.1)))
+
+pub own_number_none : (v : ℕ) (us : List ℕ) → list_any (λ w. w == v) us ≡ false → own_number v us ≡ None
+own_number_none v us e =
+    least_where_none (λ u. u == v) us (λ u c. false_from_ne_true (u == v) (λ t. false≢true (sym e ∙ list_any-from_Contains v us (subst (λ z. Contains us z) (eqb-true u v t) c))))
+
+-- the least number that stands twice, as the list grows
+
+abbrev pub StandsTwice : List ℕ → ℕ → Type 0
+StandsTwice us w = 1 < count_of w us
+
+pub count_of-push : (w : ℕ) (us : List ℕ) (u : ℕ) → count_of w (us ++ u ∷ []) ≡ count_of w us + cond (eqb u w) 1 0
+count_of-push w us u = sum_by_push (λ x. cond (eqb x w) 1 0) us u
+
+count_of-push_same : (w : ℕ) (us : List ℕ) (u : ℕ) → u ≡ w → count_of w (us ++ u ∷ []) ≡ suc (count_of w us)
+count_of-push_same w us u e = omega (arith, count_of-push w us u, cond-true {A = ℕ} (eqb u w) 1 0 (eq-eqb u w e))
+
+count_of-push_other : (w : ℕ) (us : List ℕ) (u : ℕ) → u ≢ w → count_of w (us ++ u ∷ []) ≡ count_of w us
+count_of-push_other w us u n = omega (arith, count_of-push w us u, cond-false {A = ℕ} (eqb u w) 1 0 (ne_eqb u w n))
+
+IsLeast-least_repeated : (v : ℕ) (us : List ℕ) → IsLeast (StandsTwice us) (least_repeated v us)
+IsLeast-least_repeated v us =
+    IsLeast-same (Passes (λ u. ltb 1 (count_of u us)) us) (StandsTwice us) (least_repeated v us)
+    (λ w p. ltb-true 1 (count_of w us) p.1)
+    (λ w t. (Contains-from_count_of w us (omega (arith, t)), lt-ltb 1 (count_of w us) t))
+    (IsLeast-least_where (λ u. ltb 1 (count_of u us)) us)
+
+stands_twice_cases : (us : List ℕ) (u w : ℕ) → StandsTwice (us ++ u ∷ []) w → StandsTwice us w ⊎ (w ≡ u)
+stands_twice_cases us u w t =
+    elim (cases_eq u w) [ inl e ↦ inr (sym e) | inr n ↦ inl (omega (arith, t, count_of-push_other w us u n)) ]
+
+stands_twice_left : (us : List ℕ) (u w : ℕ) → StandsTwice us w → StandsTwice (us ++ u ∷ []) w
+stands_twice_left us u w t = omega (arith, t, count_of-push w us u)
+
+-- one more entry, which stands in the list already
+pub least_repeated_push_again : (v : ℕ) (us : List ℕ) (u : ℕ) → Contains us u → least_repeated v (us ++ u ∷ []) ≡ lesser_of (least_repeated v us) (Some u)
+least_repeated_push_again v us u c =
+    same_from_IsLeast (StandsTwice (us ++ u ∷ [])) (least_repeated v (us ++ u ∷ [])) (lesser_of (least_repeated v us) (Some u))
+    (IsLeast-least_repeated v (us ++ u ∷ []))
+    (IsLeast-lesser_of (StandsTwice us) (λ w. w ≡ u) (StandsTwice (us ++ u ∷ [])) (least_repeated v us) (Some u)
+    (stands_twice_cases us u)
+    (stands_twice_left us u)
+    (λ w e. omega (arith, count_of-push_same w us u (sym e), one-le-count_of w us c.0 u c.1 (c.2 ∙ sym e)))
+    (IsLeast-least_repeated v us)
+    (refl, λ w e. omega (arith, e)))
+
+-- one more entry, which does not
+pub least_repeated_push_first : (v : ℕ) (us : List ℕ) (u : ℕ) → ¬ Contains us u → least_repeated v (us ++ u ∷ []) ≡ least_repeated v us
+least_repeated_push_first v us u n =
+    same_from_IsLeast (StandsTwice (us ++ u ∷ [])) (least_repeated v (us ++ u ∷ [])) (least_repeated v us)
+    (IsLeast-least_repeated v (us ++ u ∷ []))
+    (IsLeast-same (StandsTwice us) (StandsTwice (us ++ u ∷ [])) (least_repeated v us)
+    (stands_twice_left us u)
+    (λ w t. elim (stands_twice_cases us u w t) [
+      | inl two ↦ two
+      | inr e ↦ absurd (n (Contains-from_count_of u us (omega (arith, subst (λ z. StandsTwice (us ++ u ∷ []) z) e t, count_of-push_same u us u refl))))
+    ])
+    (IsLeast-least_repeated v us))
