@@ -2,3 +2,4 @@
 pub mod Cuts
 pub mod Map
 pub mod MapFault
+pub mod Tables

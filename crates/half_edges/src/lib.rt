@@ -9,6 +9,7 @@ mod faults;
 mod half_map;
 mod ids;
 mod rotations;
+mod tables;
 
 pub use half_map::{HalfMap, MapFault};
 pub use ids::{DartId, FaceId, VertexId};

@@ -1,6 +1,6 @@
 -- Darts and their numbers, and the face step as a permutation of them.
-use Rattle.std.proofs.Common.{ℕ, zero, suc, ◌+◌, ◌-◌, ◌<◌, ◌≤◌, ◌≡◌, ◌≢◌, cond, eqb, List, [], ◌∷◌, ◌++◌, length, get_or, AllPairs, Contains, sym, refl, ap, ◌∙◌, inl, inr, ap₂, ltb, lt-ltb, le-ltb, arith, eq-eqb, ne_eqb, add-one}
-use Rattle.std.proofs.lemmas.List.{length-append, length-map, get_or_append_left, get_or-append-add, get_or-map, get_or_default, get_or_past}
+use Rattle.std.proofs.Common.{ℕ, zero, suc, ◌+◌, ◌-◌, ◌<◌, ◌≤◌, ◌≡◌, ◌≢◌, cond, eqb, List, [], ◌∷◌, ◌++◌, length, get_or, take, AllPairs, Contains, sym, refl, ap, ◌∙◌, inl, inr, ap₂, ltb, lt-ltb, le-ltb, arith, eq-eqb, ne_eqb, add-one}
+use Rattle.std.proofs.lemmas.List.{append-nil, append_assoc, take_more, length-take-le, length-append, length-map, get_or_append_left, get_or-append-add, get_or-map, get_or_default, get_or_past}
 use Rattle.std.proofs.lemmas.List.Sums.{sum_by-cons}
 use Rattle.std.proofs.lemmas.Bool.Decides.{nat_tests}
 use Rattle.std.proofs.lemmas.Bool.{cases_lt, cases_eq, cond-true, cond-false}
@@ -308,3 +308,34 @@ IsPermutationOfBelow-face_images lists simple =
           let e = face_images-injective lists i j x simple (omega (arith, n, h, below)) (omega (arith, n, h)) same in
           omega (arith, e, below);
     }
+
+-- the first place of a number, from what stands before it
+
+pub place_of-is : (x : ℕ) (us : List ℕ) (k : ℕ) → k < length us → get_or us k 0 ≡ x → ((i : ℕ) → i < k → get_or us i 0 ≢ x) → place_of x us ≡ k
+place_of-is x us k l e before =
+    let le : place_of x us ≤ k = place_of-le x us k 0 e in
+    elim (cases_lt (place_of x us) k) [
+      | inl less ↦ absurd (before (place_of x us) less (get_or-place_of x us 0 (omega arith)))
+      | inr more ↦ omega arith
+    ]
+
+pub not-Contains-from : (x : ℕ) (us : List ℕ) → ((i : ℕ) → i < length us → get_or us i 0 ≢ x) → ¬ Contains us x
+not-Contains-from x us h c = h c.0 c.1 (get_or_default us c.0 0 x c.1 ∙ c.2)
+
+-- the darts of one more list
+
+darts_since-push : (from : ℕ) (lists : Lists) (us : List ℕ) → darts_since from (lists ++ us ∷ []) ≡ darts_since from lists ++ darts_from (from + length lists) us
+darts_since-push from [] us =
+    let e : from ≡ from + 0 = omega arith in
+    append-nil (darts_from from us) ∙ ap (λ n. darts_from n us) e
+darts_since-push from (ws ∷ lists) us =
+    let e : from + 1 + length lists ≡ from + suc (length lists) = omega arith in
+    ap (λ ds. darts_from from ws ++ ds) (darts_since-push (from + 1) lists us)
+    ∙ sym (append_assoc (darts_from from ws) (darts_since (from + 1) lists) (darts_from (from + 1 + length lists) us))
+    ∙ ap (λ n. darts_from from ws ++ darts_since (from + 1) lists ++ darts_from n us) e
+
+pub darts_more : (lists : Lists) (v : ℕ) → v < length lists → darts (take (v + 1) lists) ≡ darts (take v lists) ++ darts_from v (list_of lists v)
+darts_more lists v h =
+    let e : 0 + length (take v lists) ≡ v = omega (arith, length-take-le v lists (omega arith)) in
+    ap (λ x. darts x) (take_more lists v [] h) ∙ darts_since-push 0 (take v lists) (list_of lists v)
+    ∙ ap (λ n. darts (take v lists) ++ darts_from n (list_of lists v)) e
