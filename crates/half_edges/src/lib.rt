@@ -5,9 +5,11 @@
 //! `HalfMap` as its lists, its spare room and which id is which dart, and never what an id is made of.
 #![tactic(auto)]
 
+mod faults;
 mod half_map;
 mod ids;
 mod rotations;
+mod tables;
 
 pub use half_map::{HalfMap, MapFault};
 pub use ids::{DartId, FaceId, VertexId};

@@ -6,3 +6,6 @@ pub mod Bound
 pub mod Swap
 pub mod Walks
 mod Cases
+pub mod DartLemmas
+pub mod FaultLemmas
+pub mod DartCounts
