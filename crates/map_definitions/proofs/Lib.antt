@@ -5,6 +5,7 @@ pub mod Orbits
 pub mod Bound
 pub mod Swap
 pub mod Walks
+pub mod Marks
 mod Cases
 pub mod DartLemmas
 pub mod FaultLemmas
