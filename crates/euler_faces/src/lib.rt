@@ -2,5 +2,6 @@
 #![tactic(auto)]
 
 mod count;
+mod faces;
 
 pub use count::{EulerCount, euler};

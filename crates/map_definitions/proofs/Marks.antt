@@ -4,7 +4,7 @@ use Rattle.std.proofs.lemmas.Bool.{cases_Bool, cases_eq, eq-eqb, ne_eqb, lt-ltb,
 use Rattle.map_definitions.specs.Classes.{IsPermutationOfBelow, count_below, label, image, orbits, same_class, class_count}
 use Rattle.map_definitions.proofs.Counting.{count_below-le}
 use Rattle.map_definitions.proofs.Classes.{IsLabels, Together, Together-from, same_class-from}
-use Rattle.map_definitions.proofs.Orbits.{StaysBelow-image, orbits-step, orbits-closed_marks}
+use Rattle.map_definitions.proofs.Orbits.{StaysBelow-image, length-orbits, orbits-step, orbits-closed_marks}
 
 -- new is old with the mark of x set, on the numbers below k
 pub record SetsMark (k : ℕ) (old new : ℕ → Bool) (x : ℕ) : Type 0 where
@@ -146,3 +146,9 @@ IsCounting-all labels marked count i h e = h.counted ∙ ap (count_below (λ j. 
 pub IsCounting-le : (labels : List ℕ) (marked : ℕ → Bool) (count i : ℕ) → IsCounting labels marked count i → count ≤ i
 IsCounting-le labels marked count i h =
     omega (arith, h.counted, count_below-le (λ j. eqb (label labels j) j) i)
+
+-- marks that count orbits are kept by each step
+pub KeepsMarks-counting : (images : List ℕ) (marked : ℕ → Bool) (count i : ℕ) → IsPermutationOfBelow images → IsCounting (orbits images) marked count i → KeepsMarks images marked
+KeepsMarks-counting images marked count i p h y l t =
+    let n = length-orbits images in
+    sym (IsCounting-together (orbits images) marked count i h y (image images y) (omega arith) (omega (arith, StaysBelow-image images p.within y l)) (orbits-step images p.within y l)) ∙ t

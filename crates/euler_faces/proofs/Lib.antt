@@ -1,0 +1,3 @@
+-- Lemmas on darts by their numbers.
+mod NumberLemmas
+mod IsolatedLemmas

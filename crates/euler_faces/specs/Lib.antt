@@ -1,0 +1,2 @@
+-- Darts by their numbers, under the ids of a map.
+pub mod Numbers
