@@ -1,17 +1,16 @@
 -- Each id of a live dart has a number, each number an id, and the steps along a map are steps of numbers.
-use Rattle.std.proofs.Common.{◌≡◌, ◌≢◌, ◌⊎◌, ℕ, zero, suc, ◌+◌, ◌-◌, ◌*◌, ◌<◌, ◌≤◌, Bool, true, false, not, cond, eqb, ltb, List, [], ◌∷◌, length, get_or, set, Option, Some, None, refl, sym, ap, ◌∙◌, subst, inl, inr, arith, IsSome, option_map, unwrap_or, get_or-set_same, get_or-set_other, length-set}
-use Rattle.std.proofs.lemmas.Bool.{cases_Bool, cases_eq, cases_lt, eq-eqb, ne_eqb, eqb-true, lt-ltb, le-ltb}
-use Rattle.std.proofs.lemmas.List.{get_or_default, get_or_past}
+use Rattle.std.proofs.Common.{◌≡◌, ◌≢◌, ℕ, zero, suc, ◌+◌, ◌*◌, ◌<◌, ◌≤◌, Bool, true, false, not, List, [], ◌∷◌, length, get_or, set, Option, Some, None, refl, sym, ap, ◌∙◌, inl, inr, arith, IsSome, option_map, unwrap_or, get_or-set_same, get_or-set_other}
+use Rattle.std.proofs.lemmas.Bool.{cases_lt, eq-eqb}
+use Rattle.std.proofs.lemmas.List.{get_or_past}
 use Rattle.std.proofs.lemmas.Bool.Decides.{nat_tests}
-use Rattle.std.specs.List.{AllPairs, Contains}
-use Rattle.map_definitions.specs.Classes.{image, count_below, IsPermutationOfBelow}
-use Rattle.map_definitions.specs.Maps.{Lists, Dart, darts, dart_number, dart_count, edge_count, darts_before, list_of, place_of, HasDart, IsSimpleMap, face_images, face_step, follows, same_dart}
+use Rattle.map_definitions.specs.Classes.{image, count_below}
+use Rattle.map_definitions.specs.Maps.{Dart, darts, dart_number, dart_count, edge_count, darts_before, list_of, place_of, face_images, face_step, follows, same_dart}
 use Rattle.map_definitions.proofs.Counting.{count_below_more}
 use Rattle.map_definitions.proofs.DartCounts.{dart_count-le}
-use Rattle.map_definitions.proofs.DartLemmas.{dart_number-lt, get_or-dart_number, IsDartNumber-darts, IsDartNumber, length-face_images, get_or-face_images, HasDart-face_step, HasDart-follows, place_after, place_of-entry_after, place_of-lt-length, entry_after-place, place_of-here, darts_before_more, IsPermutationOfBelow-face_images, HasDart-at, place_of-get_or, dart_number-injective}
+use Rattle.map_definitions.proofs.DartLemmas.{dart_number-lt, get_or-dart_number, IsDartNumber-darts, IsDartNumber, get_or-face_images, place_after, place_of-entry_after, place_of-lt-length, entry_after-place, darts_before_more, place_of-get_or}
 use Rattle.map_definitions.proofs.Marks.{SetsMark}
 use Rattle.half_edges.specs.Map.{Map, IsHalfMap, IsLive, dart_at, next_dart}
-use Rattle.euler_faces.specs.Numbers.{number_at, is_dart, slot_of, id_of, mark_at, mark_of}
+use Rattle.euler_faces.specs.Numbers.{number_at, slot_of, id_of, mark_at, mark_of}
 
 -- an option that holds something holds it
 pub some_of : {X : Type 0} (o : Option X) → IsSome o → (x : X) × (o ≡ Some x)
@@ -74,8 +73,8 @@ module _ (map : Map) (h : IsHalfMap map) where
   live-lt d live =
       let x = some_of (dart_at map d) live in
       elim (cases_lt d (length map.ids)) [
-        inl l ↦ (let few = h.few_ids in omega arith)
-      | inr l ↦ absurd (let e = sym (get_or_past map.ids d None l) ∙ x.1 in cc)
+        | inl l ↦ (let few = h.few_ids in omega arith)
+        | inr l ↦ absurd (let e = sym (get_or_past map.ids d None l) ∙ x.1 in cc)
       ]
 
   -- the mark of a live id set is the mark of its number set
@@ -87,9 +86,9 @@ module _ (map : Map) (h : IsHalfMap map) where
       record {
         here = rw (number, back) (get_or-set_same marked d true false l);
         elsewhere = λ i in_range other. get_or-set_other marked d (id_of map i) true false (λ (same : id_of map i ≡ d).
-          let dart : Some (get_or (darts map.lists) i (0, 0)) ≡ Some x.0 = sym (id_of-is i in_range) ∙ ap (dart_at map) same ∙ x.1 in
-          let is : get_or (darts map.lists) i (0, 0) ≡ x.0 = cc in
-          other (sym (dart_of_number i in_range).number ∙ ap (dart_number map.lists) is ∙ sym number));
+            let dart : Some (get_or (darts map.lists) i (0, 0)) ≡ Some x.0 = sym (id_of-is i in_range) ∙ ap (dart_at map) same ∙ x.1 in
+            let is : get_or (darts map.lists) i (0, 0) ≡ x.0 = cc in
+            other (sym (dart_of_number i in_range).number ∙ ap (dart_number map.lists) is ∙ sym number));
       }
 
   -- where the mark of a number stands
@@ -165,11 +164,11 @@ module _ (map : Map) (h : IsHalfMap map) (d e first v : ℕ) (live : IsLive map 
       let has = h.is_dart d v u is in
       let within = place_of-lt-length u (list_of map.lists v) has.1 in
       elim (cases_lt (place_of u (list_of map.lists v) + 1) (length (list_of map.lists v))) [
-        inl l ↦
-          (let after = next-place ∙ place_after-inside (length (list_of map.lists v)) (place_of u (list_of map.lists v)) l in
-          rw (number_at-is map e v (follows map.lists v u) next-to, number_at-is map d v u is) (omega arith))
-      | inr l ↦
-          absurd (other (h.one_id e first v (follows map.lists v u) next-to
+        | inl l ↦
+            (let after = next-place ∙ place_after-inside (length (list_of map.lists v)) (place_of u (list_of map.lists v)) l in
+            rw (number_at-is map e v (follows map.lists v u) next-to, number_at-is map d v u is) (omega arith))
+        | inr l ↦
+            absurd (other (h.one_id e first v (follows map.lists v u) next-to
             (begins ∙ ap (λ (x : ℕ). Some (v, x)) (sym (entry_after-place u (list_of map.lists v) 0 within ∙ ap (λ (k : ℕ). get_or (list_of map.lists v) k 0) (place_after-end (length (list_of map.lists v)) (place_of u (list_of map.lists v)) l))))))
       ]
 
@@ -180,3 +179,26 @@ few_darts map h =
     let few = h.few_vertices in
     let square : length map.lists * length map.lists ≤ 4095 * 4095 = grind arith in
     omega arith
+
+-- the head of a dart
+pub head-is : (map : Map) (d v u r : ℕ) → dart_at map d ≡ Some (v, u) → option_map (λ (x : Dart). x.1) (dart_at map d) ≡ Some r → r ≡ u
+head-is map d v u r is head =
+    let same : Some u ≡ Some r = ap (option_map (λ (x : Dart). x.1)) (sym is) ∙ head in
+    ap (λ (o : Option ℕ). unwrap_or o 0) (sym same)
+
+module _ (map : Map) (h : IsHalfMap map) (d e first v : ℕ) (live : IsLive map d) (step : dart_at map e ≡ option_map (next_dart map.lists) (dart_at map d)) (u : ℕ) (is : dart_at map d ≡ Some (v, u)) (begins : dart_at map first ≡ Some (v, get_or (list_of map.lists v) 0 0)) where
+  -- the place of the next dart, where the round is not back
+  pub next_place-more : e ≢ first → place_of (follows map.lists v u) (list_of map.lists v) ≡ place_of u (list_of map.lists v) + 1
+  next_place-more other =
+      let next = next-number map h d e first v live step u is begins other in
+      let at_d = number_at-is map d v u is in
+      let at_e = number_at-is map e v (follows map.lists v u) (next-dart map h d e first v live step u is begins) in
+      omega arith
+
+  -- where it is back, the dart was the last
+  pub next_place-last : e ≡ first → place_of u (list_of map.lists v) + 1 ≡ length (list_of map.lists v)
+  next_place-last back =
+      let next = next-back map h d e first v live step u is begins back in
+      let at_d = number_at-is map d v u is in
+      let more = darts_before_more map.lists v in
+      omega arith

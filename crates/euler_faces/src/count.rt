@@ -2,6 +2,8 @@
 ghost use Rattle.std.specs.Prelude.{◌≡◌, ◌≤◌, IfOk};
 ghost use Rattle.map_definitions.specs.Maps.{vertex_count, edge_count, face_count, component_count, genus_of};
 
+use super::components::count_components;
+use super::faces::count_faces;
 use half_edges::HalfMap;
 use std::alloc::{AllocError, Global};
 
@@ -38,6 +40,12 @@ pub fn euler(alloc: Global, map: &HalfMap) -> Result<EulerCount, AllocError>
     ensures f { IfOk result (λ count. count.f ≡ face_count map.now.lists) }
     ensures c { IfOk result (λ count. count.c ≡ component_count map.now.lists) }
 {
-    let _n = map.n();
-    Err(AllocError)
+    let f = count_faces(alloc, map)?;
+    let c = count_components(alloc, map)?;
+    Ok(EulerCount {
+        n: u32::from(map.n()),
+        m: map.m(),
+        f,
+        c,
+    })
 }

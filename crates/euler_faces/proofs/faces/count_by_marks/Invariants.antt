@@ -1,4 +1,4 @@
-use Rattle.std.proofs.Common.{◌≡◌, ℕ, ◌+◌, ◌*◌, ◌≤◌, length, take}
+use Rattle.std.proofs.Common.{◌≡◌, ◌+◌, ◌*◌, ◌≤◌, length, take}
 use Rattle.map_definitions.specs.Classes.{orbits}
 use Rattle.map_definitions.specs.Maps.{edge_count, darts_before, face_images, isolated_count}
 use Rattle.map_definitions.proofs.Marks.{IsCounting}

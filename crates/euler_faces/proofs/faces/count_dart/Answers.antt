@@ -1,11 +1,11 @@
-use Rattle.std.proofs.Common.{◌≡◌, ◌<◌, ◌+◌, length, sym, ◌∙◌, arith, refl}
+use Rattle.std.proofs.Common.{◌∙◌, arith, refl}
 use Rattle.map_definitions.specs.Classes.{orbits}
-use Rattle.map_definitions.specs.Maps.{dart_count, face_images}
+use Rattle.map_definitions.specs.Maps.{face_images}
 use Rattle.map_definitions.proofs.DartLemmas.{length-face_images, IsPermutationOfBelow-face_images}
 use Rattle.map_definitions.proofs.Orbits.{length-orbits, IsLabels-orbits}
 use Rattle.map_definitions.proofs.Marks.{IsCounting-le, IsCounting-new, IsCounting-old, KeepsMarks-counting}
 use Rattle.euler_faces.specs.Numbers.{number_at, mark_of}
-use Rattle.euler_faces.proofs.NumberLemmas.{number_at-lt, mark_of-number, few_darts, live-lt}
+use Rattle.euler_faces.proofs.NumberLemmas.{number_at-lt, mark_of-number, few_darts}
 use Rattle.euler_faces.proofs.faces.count_dart.Goals as goal
 
 pub overflow_add-result : goal.overflow_add-result
@@ -30,8 +30,8 @@ returns-then-marked-d c =
     let l = number_at-lt map c.requires.known c.args.d.0 c.requires.live in
     record {
       counting = IsCounting-old (orbits images) (mark_of map c.args.marked.now) c.args.count (number_at map c.args.d.0) _
-        (IsLabels-orbits images (IsPermutationOfBelow-face_images map.lists c.requires.known.simple).within) c.requires.counting (omega arith)
-        (mark_of-number map c.requires.known c.args.marked.now c.args.d.0 c.requires.live ∙ c.if-marked-d.true) refl;
+          (IsLabels-orbits images (IsPermutationOfBelow-face_images map.lists c.requires.known.simple).within) c.requires.counting (omega arith)
+          (mark_of-number map c.requires.known c.args.marked.now c.args.d.0 c.requires.live ∙ c.if-marked-d.true) refl;
     }
 
 pub returns : goal.returns
@@ -43,7 +43,7 @@ returns c =
     let l = number_at-lt map c.requires.known c.args.d.0 c.requires.live in
     record {
       counting = IsCounting-new (orbits images) (mark_of map c.args.marked.now) (mark_of map c.mark_face.new.marked) c.args.count (number_at map c.args.d.0) _
-        (IsLabels-orbits images (IsPermutationOfBelow-face_images map.lists c.requires.known.simple).within) c.requires.counting (omega arith)
-        (mark_of-number map c.requires.known c.args.marked.now c.args.d.0 c.requires.live ∙ c.if-marked-d.false)
-        (λ y m. c.mark_face.ensures.marked y (omega arith)) refl;
+          (IsLabels-orbits images (IsPermutationOfBelow-face_images map.lists c.requires.known.simple).within) c.requires.counting (omega arith)
+          (mark_of-number map c.requires.known c.args.marked.now c.args.d.0 c.requires.live ∙ c.if-marked-d.false)
+          (λ y m. c.mark_face.ensures.marked y (omega arith)) refl;
     }

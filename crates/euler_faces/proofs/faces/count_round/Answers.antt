@@ -1,6 +1,5 @@
-use Rattle.std.proofs.Common.{◌≡◌, ◌≢◌, ◌<◌, ◌≤◌, ◌+◌, ◌*◌, length, sym, ◌∙◌, arith, Some, get_or}
-use Rattle.map_definitions.specs.Maps.{edge_count, dart_count, face_images, follows, list_of, darts_before}
-use Rattle.euler_faces.specs.Numbers.{number_at}
+use Rattle.std.proofs.Common.{arith}
+use Rattle.map_definitions.specs.Maps.{follows}
 use Rattle.euler_faces.proofs.NumberLemmas.{number_at-lt, live_from, next-dart, next-back, next-number}
 use Rattle.euler_faces.proofs.faces.count_round.Goals as goal
 

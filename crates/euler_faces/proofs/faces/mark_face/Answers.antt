@@ -1,7 +1,7 @@
-use Rattle.std.proofs.Common.{◌≡◌, ◌<◌, ◌+◌, ◌*◌, length, length-set, sym, ◌∙◌, ap, true, set, arith}
-use Rattle.map_definitions.specs.Maps.{edge_count, dart_count, face_images}
+use Rattle.std.proofs.Common.{length-set, ◌∙◌, true, set, arith}
+use Rattle.map_definitions.specs.Maps.{face_images}
 use Rattle.map_definitions.proofs.DartLemmas.{length-face_images, IsPermutationOfBelow-face_images}
-use Rattle.map_definitions.proofs.Marks.{IsMarking-none, IsMarking-more, IsMarking-all, SetsMark}
+use Rattle.map_definitions.proofs.Marks.{IsMarking-none, IsMarking-more, IsMarking-all}
 use Rattle.euler_faces.specs.Numbers.{number_at, mark_of}
 use Rattle.euler_faces.proofs.NumberLemmas.{number_at-lt, live-lt, SetsMark-set, mark_of-number, face_step-live, face_step-number, unmarked-set}
 use Rattle.euler_faces.proofs.faces.mark_face.Goals as goal
@@ -40,11 +40,11 @@ loop-marked-preserved c =
       live = face_step-live map c.requires.known d c.face_step-d.result.0 h.live c.face_step-d.ensures;
       marks = length-set c.loop-marked.marked d true ∙ h.marks;
       marking = IsMarking-more (face_images map.lists) _ (mark_of map c.loop-marked.marked) (mark_of map (set c.loop-marked.marked d true)) (number_at map c.args.start.0) (number_at map d) (number_at map c.face_step-d.result.0)
-        (IsPermutationOfBelow-face_images map.lists c.requires.known.simple)
-        (omega arith)
-        h.marking
-        (rw (← n) at (SetsMark-set map c.requires.known c.loop-marked.marked d h.live (omega arith)))
-        (face_step-number map c.requires.known d c.face_step-d.result.0 h.live c.face_step-d.ensures);
+          (IsPermutationOfBelow-face_images map.lists c.requires.known.simple)
+          (omega arith)
+          h.marking
+          (rw (← n) at (SetsMark-set map c.requires.known c.loop-marked.marked d h.live (omega arith)))
+          (face_step-number map c.requires.known d c.face_step-d.result.0 h.live c.face_step-d.ensures);
     }
 
 pub returns : goal.returns
@@ -56,6 +56,6 @@ returns c =
     let s = number_at-lt map c.requires.known c.args.start.0 c.requires.live in
     record {
       marked = λ i l. IsMarking-all (face_images map.lists) _ _ (number_at map c.args.start.0) (number_at map d)
-        (IsPermutationOfBelow-face_images map.lists c.requires.known.simple) h.marking (omega arith)
-        (mark_of-number map c.requires.known c.loop-marked.marked d h.live ∙ c.loop-marked-test.false) i (omega arith);
+          (IsPermutationOfBelow-face_images map.lists c.requires.known.simple) h.marking (omega arith)
+          (mark_of-number map c.requires.known c.loop-marked.marked d h.live ∙ c.loop-marked-test.false) i (omega arith);
     }

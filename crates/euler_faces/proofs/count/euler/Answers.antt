@@ -1,0 +1,15 @@
+use Rattle.std.proofs.Common.{arith}
+use Rattle.euler_faces.proofs.NumberLemmas.{few_darts}
+use Rattle.euler_faces.proofs.count.euler.Goals as goal
+
+pub invariant_of-result : goal.invariant_of-result
+invariant_of-result c =
+    let known = c.n.ensures.known in
+    let few = few_darts c.args.map.now known in
+    let vertices = known.few_vertices in
+    record {
+      few_vertices = let n = c.n.ensures.count in omega arith;
+      few_edges = let m = c.m.ensures.count in omega arith;
+      few_faces = c.in_ok-f.ensures.few;
+      few_components = c.in_ok-c.ensures.few;
+    }
