@@ -10,6 +10,7 @@ mod half_map;
 mod ids;
 mod rotations;
 mod tables;
+mod twins;
 
 pub use half_map::{HalfMap, MapFault};
 pub use ids::{DartId, FaceId, VertexId};

@@ -1,4 +1,4 @@
-use Rattle.std.proofs.Common.{◌≡◌, ◌<◌, length, All, sym, ◌∙◌, arith}
+use Rattle.std.proofs.Common.{◌<◌, length, All, sym, ◌∙◌, arith}
 use Rattle.std.proofs.lemmas.Bool.{true≢false}
 use Rattle.half_edges.proofs.MarkLemmas.{HasMet-again, HasMet-first}
 use Rattle.half_edges.proofs.faults.least_twice.Goals as goal
