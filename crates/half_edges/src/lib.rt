@@ -15,3 +15,6 @@ mod twins;
 pub use half_map::{HalfMap, MapFault};
 pub use ids::{DartId, FaceId, VertexId};
 pub use rotations::Rotations;
+
+#[cfg(test)]
+mod tests;
