@@ -5,6 +5,7 @@ use std::process::Abort;
 use std::test::Fail;
 
 const TRIANGLE: &[&[u16]] = &[&[1, 2], &[2, 0], &[0, 1]];
+
 const K4: &[&[u16]] = &[&[1, 2, 3], &[0, 3, 2], &[0, 1, 3], &[0, 2, 1]];
 
 fn map_of(rt: &impl Abort, alloc: Global, lists: &[&[u16]]) -> Result<HalfMap, MapFault> {
@@ -46,7 +47,10 @@ fn steps_from_a_dart(rt: HostRuntime) -> Result<(), Fail> {
         (map.face_step(d), 1, 3),
     ] {
         assert!(rt; map.is_live(step));
-        assert_eq!(rt; (map.tail(step), map.head(step)), (VertexId(tail), VertexId(head)));
+        assert_eq!(rt;
+            (map.tail(step), map.head(step)),
+            (VertexId(tail), VertexId(head))
+        );
     }
     Ok(())
 }
