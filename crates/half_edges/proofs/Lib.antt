@@ -2,3 +2,5 @@
 pub mod CutLemmas
 pub mod MarkLemmas
 pub mod TableLemmas
+pub mod TwinLemmas
+pub mod MapLemmas
