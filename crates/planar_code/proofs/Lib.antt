@@ -1,3 +1,6 @@
 -- Lemmas on records and readings that callers use.
 pub mod RecordLemmas
 pub mod ProgressLemmas
+pub mod ScanLemmas
+pub mod FrontLemmas
+pub mod NextLemmas

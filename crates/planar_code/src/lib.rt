@@ -7,6 +7,7 @@
 
 mod next;
 mod reader;
+mod scan;
 
 pub use next::{CodeFault, Step, after_header, next_record};
 pub use reader::{Fed, RecordReader};
