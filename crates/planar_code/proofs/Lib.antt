@@ -4,3 +4,4 @@ pub mod ProgressLemmas
 pub mod ScanLemmas
 pub mod FrontLemmas
 pub mod NextLemmas
+pub mod ReadingLemmas
