@@ -5,3 +5,4 @@ pub mod Step
 pub mod Progress
 pub mod Scan
 pub mod Front
+pub mod Laws

@@ -5,6 +5,7 @@
 //! records: a clause on each says when each answer comes.
 #![tactic(auto)]
 
+pub mod laws;
 mod next;
 mod reader;
 mod scan;
