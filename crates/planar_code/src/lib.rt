@@ -12,3 +12,6 @@ mod scan;
 
 pub use next::{CodeFault, Step, after_header, next_record};
 pub use reader::{Fed, RecordReader};
+
+#[cfg(test)]
+mod tests;
