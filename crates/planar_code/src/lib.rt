@@ -13,5 +13,8 @@ mod scan;
 pub use next::{CodeFault, Step, after_header, next_record};
 pub use reader::{Fed, RecordReader};
 
+/// The bytes with which a file may begin.
+const HEADER: [u8; 15] = *b">>planar_code<<";
+
 #[cfg(test)]
 mod tests;

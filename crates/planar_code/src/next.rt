@@ -3,6 +3,7 @@ ghost use Rattle.std.specs.Prelude.{◌≡◌, ◌≤◌, length, MatchResult};
 ghost use Rattle.map_definitions.specs.Reading.{header_of};
 ghost use Rattle.planar_code.specs.Step.{StandsAt, FailsAt};
 
+use crate::HEADER;
 use crate::scan::{Scanned, Scanner};
 use half_edges::Rotations;
 use std::alloc::Global;
@@ -53,8 +54,8 @@ pub fn next_record(alloc: Global, bytes: &[u8], at: usize) -> Result<Step, CodeF
 pub fn after_header(bytes: &[u8]) -> usize
     ensures { result ≡ length (header_of bytes.now) }
 {
-    if bytes.len() >= 15 && &bytes[..15] == b">>planar_code<<".as_slice() {
-        15
+    if bytes.len() >= HEADER.len() && bytes[..HEADER.len()] == HEADER[..] {
+        HEADER.len()
     } else {
         0
     }

@@ -3,6 +3,7 @@ ghost use Rattle.std.specs.Prelude.{◌≡◌, ◌+◌, ◌<◌, ◌↔◌, ◌&
 ghost use Rattle.map_definitions.specs.Reading.{header, input_limit};
 ghost use Rattle.planar_code.specs.Fed.{Feeds};
 
+use crate::HEADER;
 use crate::scan::{Scanned, Scanner};
 use half_edges::Rotations;
 use std::alloc::{AllocError, Global};
@@ -19,9 +20,6 @@ pub enum Fed {
     /// Neither: the record goes on, or the header of the file has ended.
     More,
 }
-
-/// The bytes with which a file may begin.
-const HEADER: [u8; 15] = *b">>planar_code<<";
 
 /// Whether bytes that are a front of the header or not, of this length, are one with one byte more.
 fn goes_on(in_header: bool, length: usize, byte: u8) -> bool

@@ -37,6 +37,9 @@ pub enum Phase {
     WideHalf(u16, u8),
 }
 
+/// The most lists that a record may have.
+const MOST_LISTS: u16 = 4095;
+
 /// The number of two bytes, the greater first.
 fn number_of(high: u8, low: u8) -> u16
     ensures { result ≡ 256 * high + low }
@@ -156,7 +159,7 @@ impl Scanner {
             }
             Phase::WideHigh(high) => {
                 let count = number_of(high, byte);
-                if count == 0 || count > 4095 {
+                if count == 0 || count > MOST_LISTS {
                     return Ok(Scanned::Bad);
                 }
                 self.phase = Phase::Wide(count);

@@ -11,8 +11,8 @@ returns-in-Start-2-clause-ok c =
     let now = bytes-at c.args.self.now s.phase Start s.lists s.last.items c.self.view_is c.in-Start-2.is in
     rw now (start-more c.args.byte s.lists s.last.items (IsScanned-at s.phase Start s.lists s.last.items c.in-Start-2.is c.self.invariant) (omega arith))
 
-pub returns-else-count-gt4095-clause-ok : goal.returns-else-count-gt4095-clause-ok
-returns-else-count-gt4095-clause-ok c =
+pub returns-else-count-gt-MOST_LISTS-clause-ok : goal.returns-else-count-gt-MOST_LISTS-clause-ok
+returns-else-count-gt-MOST_LISTS-clause-ok c =
     let s = c.self.inside in
     let high = c.in-WideHigh.high in
     let now = bytes-at c.args.self.now s.phase (WideHigh high) s.lists s.last.items c.self.view_is c.in-WideHigh.is in
