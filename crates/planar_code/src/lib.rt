@@ -5,8 +5,16 @@
 //! records: a clause on each says when each answer comes.
 #![tactic(auto)]
 
+pub mod laws;
 mod next;
 mod reader;
+mod scan;
 
 pub use next::{CodeFault, Step, after_header, next_record};
 pub use reader::{Fed, RecordReader};
+
+/// The bytes with which a file may begin.
+const HEADER: [u8; 15] = *b">>planar_code<<";
+
+#[cfg(test)]
+mod tests;
