@@ -1,6 +1,6 @@
 -- The definitions, run on worked cases. Each is a computation: the two sides come to the same value.
 use Rattle.std.specs.Prelude.{ℕ, ◌-◌, ◌≡◌, List, [], ◌∷◌, map, refl}
-use Rattle.map_definitions.specs.Classes.{merge}
+use Rattle.map_definitions.specs.Classes.{merge, orbit_count, class_count, composed, joint_classes}
 use Rattle.map_definitions.specs.Maps.{Lists, entry_after, vertex_count, edge_count, face_count, component_count, genus}
 
 -- lists with vertices numbered from 1, as they are printed
@@ -64,3 +64,23 @@ icosahedron = refl
 cube : counts ((2 ∷ 4 ∷ 5 ∷ []) ∷ (3 ∷ 1 ∷ 6 ∷ []) ∷ (4 ∷ 2 ∷ 7 ∷ []) ∷ (1 ∷ 3 ∷ 8 ∷ []) ∷ (6 ∷ 1 ∷ 8 ∷ []) ∷ (7 ∷ 2 ∷ 5 ∷ []) ∷ (8 ∷ 3 ∷ 6 ∷ []) ∷ (5 ∷ 4 ∷ 7 ∷ []) ∷ []) ≡ 8 ∷ 12 ∷ 6 ∷ 1 ∷ 0 ∷ []
 unfolding entry_after merge face_count component_count
 cube = refl
+
+-- a permutation and a pairing: the orbits of the permutation, of the permutation after the pairing, and their classes together
+abbrev pair_counts : List ℕ → List ℕ → List ℕ
+pair_counts permutation pairing =
+    orbit_count permutation ∷ orbit_count (composed permutation pairing) ∷ class_count (joint_classes permutation pairing) ∷ []
+
+-- two loops side by side at one vertex
+loops : pair_counts (1 ∷ 2 ∷ 3 ∷ 0 ∷ []) (1 ∷ 0 ∷ 3 ∷ 2 ∷ []) ≡ 1 ∷ 3 ∷ 1 ∷ []
+unfolding merge
+loops = refl
+
+-- two loops that cross: the torus
+crossed_loops : pair_counts (1 ∷ 2 ∷ 3 ∷ 0 ∷ []) (2 ∷ 3 ∷ 0 ∷ 1 ∷ []) ≡ 1 ∷ 1 ∷ 1 ∷ []
+unfolding merge
+crossed_loops = refl
+
+-- two edges apart
+edges_apart : pair_counts (0 ∷ 1 ∷ 2 ∷ 3 ∷ []) (1 ∷ 0 ∷ 3 ∷ 2 ∷ []) ≡ 4 ∷ 2 ∷ 2 ∷ []
+unfolding merge
+edges_apart = refl

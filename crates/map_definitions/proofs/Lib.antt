@@ -4,5 +4,6 @@ pub mod Classes
 pub mod Orbits
 pub mod Bound
 pub mod Swap
+pub mod Transfer
 pub mod Walks
 mod Cases
