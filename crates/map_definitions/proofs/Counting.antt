@@ -118,18 +118,18 @@ pub count_below_into : (f : ℕ → ℕ) (p q : ℕ → Bool) (k n : ℕ) → ((
 count_below_into f p q zero n into apart = omega arith
 count_below_into f p q (suc k) n into apart =
     elim (cases_Bool (p k)) [
-      inl passes ↦
-        let at = into k (omega arith) passes in
-        let less : ℕ → Bool = λ i. cond (eqb i (f k)) false (q i) in
-        let rest = count_below_into f p less k n
-            (λ i l t. let old = into i (omega arith) t in let ne : f i ≢ f k = λ e. absurd (omega (arith, apart i k (omega arith) (omega arith) t passes e)) in (old.0, rw (ne_eqb (f i) (f k) ne) old.1))
-            (λ i j l m. apart i j (omega arith) (omega arith)) in
-        let fails : less (f k) ≡ false = rw (eq-eqb (f k) (f k) refl) refl in
-        let more = count_below_more less q n (f k) at.0 fails at.1 (λ i l ne. rw (ne_eqb i (f k) ne) refl) in
-        omega (arith, rest, more, ap one_if passes)
-    | inr fails ↦
-        let rest = count_below_into f p q k n (λ i l t. into i (omega arith) t) (λ i j l m. apart i j (omega arith) (omega arith)) in
-        omega (arith, rest, ap one_if fails)
+      | inl passes ↦
+          let at = into k (omega arith) passes in
+          let less : ℕ → Bool = λ i. cond (eqb i (f k)) false (q i) in
+          let rest = count_below_into f p less k n
+          (λ i l t. let old = into i (omega arith) t in let ne : f i ≢ f k = λ e. absurd (omega (arith, apart i k (omega arith) (omega arith) t passes e)) in (old.0, rw (ne_eqb (f i) (f k) ne) old.1))
+          (λ i j l m. apart i j (omega arith) (omega arith)) in
+          let fails : less (f k) ≡ false = rw (eq-eqb (f k) (f k) refl) refl in
+          let more = count_below_more less q n (f k) at.0 fails at.1 (λ i l ne. rw (ne_eqb i (f k) ne) refl) in
+          omega (arith, rest, more, ap one_if passes)
+      | inr fails ↦
+          let rest = count_below_into f p q k n (λ i l t. into i (omega arith) t) (λ i j l m. apart i j (omega arith) (omega arith)) in
+          omega (arith, rest, ap one_if fails)
     ]
 
 one_if_split : (x y : Bool) → one_if x ≡ one_if (y && x) + one_if (not y && x)

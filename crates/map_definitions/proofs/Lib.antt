@@ -3,6 +3,7 @@ pub mod Counting
 pub mod Classes
 pub mod Orbits
 pub mod Bound
+pub mod PlaneCuts
 pub mod Swap
 pub mod Transfer
 pub mod Walks

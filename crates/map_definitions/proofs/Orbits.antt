@@ -5,7 +5,7 @@ use Rattle.std.proofs.lemmas.Bool.{cases_eq, cases_lt}
 use Rattle.std.proofs.lemmas.List.{get_or_default}
 use Rattle.std.proofs.lemmas.List.Elements.{All-head, All-tail, All-cons}
 use Rattle.std.proofs.lemmas.List.FromFn.{length-enumerate_from, get_or-enumerate_from}
-use Rattle.map_definitions.specs.Classes.{alone, merge_all, count_below, label, classes, orbits, image, IsPermutationOfBelow}
+use Rattle.map_definitions.specs.Classes.{alone, merge_all, count_below, classes, orbits, image, IsPermutationOfBelow}
 use Rattle.map_definitions.proofs.Counting.{count_below_images_le, count_below_not, weaker_test_back}
 use Rattle.map_definitions.proofs.Classes.{Together, IsLabels, IsEquivalenceBelow, PairsBelow, IsLabels-alone, length-alone, merge_all-holds, merge_all-same, length-classes, IsLabels-classes, classes-holds, classes-lies}
 
@@ -96,8 +96,8 @@ images_onto labels images w n h =
     let one = merge_all labels pairs in
     let other = merge_all labels others in
     merge_all-same labels pairs others w below below'
-      (All-enumerate (Together other) images (All-steps_at (Together other) (image images) k (merge_all-holds labels others w below')))
-      (All-steps (Together one) (image images) k (All-enumerate_at (Together one) images (merge_all-holds labels pairs w below)))
+    (All-enumerate (Together other) images (All-steps_at (Together other) (image images) k (merge_all-holds labels others w below')))
+    (All-steps (Together one) (image images) k (All-enumerate_at (Together one) images (merge_all-holds labels pairs w below)))
 
 -- the orbits of a list of images are those of its function
 pub orbits-image : (images : List ℕ) → AllBelow images → orbits images ≡ orbits_of (image images) (length images)
