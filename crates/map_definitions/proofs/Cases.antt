@@ -1,6 +1,9 @@
 -- The definitions, run on worked cases. Each is a computation: the two sides come to the same value.
-use Rattle.std.specs.Prelude.{ℕ, ◌-◌, ◌≡◌, List, [], ◌∷◌, map, refl}
-use Rattle.map_definitions.specs.Classes.{merge, orbit_count, class_count, composed, joint_classes}
+use Rattle.std.specs.Prelude.{ℕ, ◌-◌, ◌≡◌, List, [], ◌∷◌, ◌++◌, map, codes, refl}
+use Rattle.map_definitions.specs.Classes.{merge}
+use Rattle.std.specs.Fmt.{digits}
+use Rattle.map_definitions.specs.Faults.{first_fault}
+use Rattle.map_definitions.specs.Text.{count_block, counts_line, refused_line, end_line}
 use Rattle.map_definitions.specs.Maps.{Lists, entry_after, vertex_count, edge_count, face_count, component_count, genus}
 
 -- lists with vertices numbered from 1, as they are printed
@@ -65,22 +68,28 @@ cube : counts ((2 ∷ 4 ∷ 5 ∷ []) ∷ (3 ∷ 1 ∷ 6 ∷ []) ∷ (4 ∷ 2 �
 unfolding entry_after merge face_count component_count
 cube = refl
 
--- a permutation and a pairing: the orbits of the permutation, of the permutation after the pairing, and their classes together
-abbrev pair_counts : List ℕ → List ℕ → List ℕ
-pair_counts permutation pairing =
-    orbit_count permutation ∷ orbit_count (composed permutation pairing) ∷ class_count (joint_classes permutation pairing) ∷ []
+-- the blocks of `count` for lists whose vertices are numbered from 1
 
--- two loops side by side at one vertex
-loops : pair_counts (1 ∷ 2 ∷ 3 ∷ 0 ∷ []) (1 ∷ 0 ∷ 3 ∷ 2 ∷ []) ≡ 1 ∷ 3 ∷ 1 ∷ []
-unfolding merge
-loops = refl
+octahedron_block : count_block 1 (from_one ((2 ∷ 3 ∷ 4 ∷ 5 ∷ []) ∷ (1 ∷ 5 ∷ 6 ∷ 3 ∷ []) ∷ (1 ∷ 2 ∷ 6 ∷ 4 ∷ []) ∷ (1 ∷ 3 ∷ 6 ∷ 5 ∷ []) ∷ (1 ∷ 4 ∷ 6 ∷ 2 ∷ []) ∷ (2 ∷ 5 ∷ 4 ∷ 3 ∷ []) ∷ [])) ≡ codes "count 1 n 6 m 12 f 8 c 1 genus 0" ++ 10 ∷ []
+unfolding entry_after merge face_count component_count first_fault counts_line digits
+octahedron_block = refl
 
--- two loops that cross: the torus
-crossed_loops : pair_counts (1 ∷ 2 ∷ 3 ∷ 0 ∷ []) (2 ∷ 3 ∷ 0 ∷ 1 ∷ []) ≡ 1 ∷ 1 ∷ 1 ∷ []
-unfolding merge
-crossed_loops = refl
+one_sided_block : count_block 1 (from_one ((2 ∷ []) ∷ [] ∷ [])) ≡ codes "refused 1 4 OneSided 1 2" ++ 10 ∷ []
+unfolding first_fault refused_line digits
+one_sided_block = refl
 
--- two edges apart
-edges_apart : pair_counts (0 ∷ 1 ∷ 2 ∷ 3 ∷ []) (1 ∷ 0 ∷ 3 ∷ 2 ∷ []) ≡ 4 ∷ 2 ∷ 2 ∷ []
-unfolding merge
-edges_apart = refl
+loop_block : count_block 1 (from_one ((1 ∷ 2 ∷ 2 ∷ []) ∷ (1 ∷ []) ∷ [])) ≡ codes "refused 1 2 Loop 1" ++ 10 ∷ []
+unfolding first_fault refused_line digits
+loop_block = refl
+
+repeated_block : count_block 1 (from_one ((2 ∷ 2 ∷ []) ∷ (1 ∷ []) ∷ [])) ≡ codes "refused 1 3 Repeated 1 2" ++ 10 ∷ []
+unfolding first_fault refused_line digits
+repeated_block = refl
+
+out_of_range_block : count_block 1 (from_one ((3 ∷ []) ∷ (2 ∷ []) ∷ [])) ≡ codes "refused 1 1 OutOfRange 1 3" ++ 10 ∷ []
+unfolding first_fault refused_line digits
+out_of_range_block = refl
+
+last_line_of_three : end_line 3 0 ≡ codes "end records 3 refused 0" ++ 10 ∷ []
+unfolding end_line digits
+last_line_of_three = refl

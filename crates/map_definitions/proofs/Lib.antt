@@ -8,3 +8,7 @@ pub mod Swap
 pub mod Transfer
 pub mod Walks
 mod Cases
+mod PairCases
+pub mod DartLemmas
+pub mod FaultLemmas
+pub mod DartCounts

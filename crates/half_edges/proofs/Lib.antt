@@ -1,0 +1,4 @@
+-- The lemmas on which several of the crate's functions rest.
+pub mod CutLemmas
+pub mod MarkLemmas
+pub mod TableLemmas

@@ -1,0 +1,5 @@
+-- What contracts see of a half-edge map.
+pub mod Cuts
+pub mod Map
+pub mod MapFault
+pub mod Tables

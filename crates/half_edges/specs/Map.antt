@@ -1,0 +1,38 @@
+-- What contracts see of a half-edge map: its rotation lists, the room for more edges, and which id is which dart.
+use Rattle.std.specs.Prelude.{ℕ, ◌+◌, ◌*◌, ◌<◌, ◌≤◌, ◌≡◌, List, length, slice_index_or, Option, Some, None, IsSome}
+use Rattle.map_definitions.specs.Maps.{Lists, Dart, IsSimpleMap, HasDart, follows, edge_count}
+
+pub record Map : Type 0 where
+  -- for each vertex its neighbours, clockwise
+  pub lists : Lists
+  -- how many edges can be added with no more memory
+  pub spare : ℕ
+  -- for each number of an id its dart, or None where no dart has that id
+  pub ids : List (Option Dart)
+
+-- the dart of an id, if it is live
+abbrev pub dart_at : Map → ℕ → Option Dart
+dart_at map d = slice_index_or map.ids d None
+
+abbrev pub IsLive : Map → ℕ → Type 0
+IsLive map d = IsSome (dart_at map d)
+
+-- the same edge in the other direction
+abbrev pub twin_dart : Dart → Dart
+twin_dart d = (d.1, d.0)
+
+-- the clockwise next dart from the same vertex
+abbrev pub next_dart : Lists → Dart → Dart
+next_dart lists d = (d.0, follows lists d.0 d.1)
+
+-- What holds of every half-edge map.
+pub record IsHalfMap (map : Map) : Type 0 where
+  pub simple : IsSimpleMap map.lists
+  pub few_vertices : length map.lists < 4096
+  -- an id has a dart of the map
+  pub is_dart : (d v u : ℕ) → dart_at map d ≡ Some (v, u) → HasDart map.lists v u
+  -- each dart has an id, and no other
+  pub has_id : (v u : ℕ) → HasDart map.lists v u → (d : ℕ) × (dart_at map d ≡ Some (v, u))
+  pub one_id : (d e v u : ℕ) → dart_at map d ≡ Some (v, u) → dart_at map e ≡ Some (v, u) → d ≡ e
+  -- the number of each id is below twice the number of edges that there are or can be added
+  pub few_ids : length map.ids ≤ 2 * (edge_count map.lists + map.spare)

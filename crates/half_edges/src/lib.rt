@@ -1,0 +1,16 @@
+//! Half-edge maps: rotation lists, and the darts of a simple map under ids.
+//!
+//! `Rotations` holds the neighbour lists of a record as they were read. `HalfMap::from_rotations` takes
+//! them exactly where they are a simple map, and names the first fault otherwise. Contracts see a
+//! `HalfMap` as its lists, its spare room and which id is which dart, and never what an id is made of.
+#![tactic(auto)]
+
+mod faults;
+mod half_map;
+mod ids;
+mod rotations;
+mod tables;
+
+pub use half_map::{HalfMap, MapFault};
+pub use ids::{DartId, FaceId, VertexId};
+pub use rotations::Rotations;

@@ -1,0 +1,2 @@
+-- Lemmas that contracts' callers use.
+pub mod Growth

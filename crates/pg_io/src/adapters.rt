@@ -1,0 +1,102 @@
+//! The readers and writers of `std`, with their faults counted. What a file or a pipe holds no proof
+//! can know, so these tell nothing of their bytes.
+ghost use Rattle.std.specs.Prelude.{ℕ, ◌<◌, ◌≤◌, ◌≡◌, length, take, None, IfOk, OnErr, is_err, if◌then◌else◌};
+ghost use Rattle.std.specs.Io.KnownBytes.{Appends, Consumes, IsAtEnd};
+ghost use Rattle.pg_io.specs.Io.{HasRisen, raised};
+
+use super::traits::{ReadFailed, Sink, Source, WriteFailed};
+use std::io::{Read, Write};
+
+/// A reader of `std` as a source. It tells nothing of its bytes.
+#[derive(Drop)]
+pub struct ReadAdapter<R> {
+    /// The reader. After a fault nothing is known of it.
+    pub inner: R,
+    /// How many reads failed. It stays at 2^64 - 1.
+    pub faults: u64,
+}
+
+impl<R> ReadAdapter<R> {
+    /// The reader as a source, with the count 0. It takes no memory.
+    pub fn new(inner: R) -> ReadAdapter<R>
+        ensures held { result.inner ≡ inner }
+        ensures count { result.faults ≡ 0 }
+    {
+        ReadAdapter { inner, faults: 0 }
+    }
+}
+
+impl<R: Read> Source for ReadAdapter<R> {
+    ghost left = { λ _. None };
+
+    ghost faults = { λ source. source.faults };
+
+    /// Reads once from the reader: `Ok` is the reader's own answer. It fails exactly where the reader
+    /// does, and counts the fault. Nothing is then known of the reader or of `buf`.
+    fn read(&mut self, buf: &mut [u8]) -> Result<usize, ReadFailed>
+        requires { 0 < length buf.old }
+        ensures within { IfOk result (λ k. k ≤ length buf.old) }
+        ensures read_once { IfOk result
+            (λ k. Consumes (R.remaining self.old.inner) (R.remaining self.new.inner) (take k buf.new)) }
+        ensures end { IfOk result (λ k. k ≡ 0 → IsAtEnd (R.remaining self.old.inner)) }
+        ensures failed { OnErr result (HasRisen self.old.faults self.new.faults) }
+        ensures never_falls { self.old.faults ≤ self.new.faults }
+        ensures faults { self.new.faults
+            ≡ (if is_err result then raised self.old.faults else self.old.faults) }
+    {
+        match self.inner.read(buf) {
+            Ok(count) => Ok(count),
+            Err(_) => {
+                self.faults = self.faults.saturating_add(1);
+                Err(ReadFailed)
+            }
+        }
+    }
+}
+
+/// A writer of `std` as a sink. It tells nothing of its bytes.
+#[derive(Drop)]
+pub struct WriteAdapter<W> {
+    /// The writer. After a fault nothing is known of it.
+    pub inner: W,
+    /// How many writes failed. It stays at 2^64 - 1.
+    pub faults: u64,
+}
+
+impl<W> WriteAdapter<W> {
+    /// The writer as a sink, with the count 0. It takes no memory.
+    pub fn new(inner: W) -> WriteAdapter<W>
+        ensures held { result.inner ≡ inner }
+        ensures count { result.faults ≡ 0 }
+    {
+        WriteAdapter { inner, faults: 0 }
+    }
+}
+
+impl<W: Write> Sink for WriteAdapter<W> {
+    ghost written = { λ _. None };
+
+    ghost faults = { λ sink. sink.faults };
+
+    /// Writes once to the writer and flushes it: `Ok` is the writer's own answer. It fails exactly
+    /// where the writer fails or takes no byte, or the flush fails, and counts the fault. Nothing is
+    /// then known of the writer.
+    fn write(&mut self, piece: &[u8]) -> Result<usize, WriteFailed>
+        requires { 0 < length piece.now }
+        ensures within { IfOk result (λ k. (0 < k) × (k ≤ length piece.now)) }
+        ensures written_once { IfOk result
+            (λ k. Appends (W.contents self.old.inner) (W.contents self.new.inner) (take k piece.now)) }
+        ensures failed { OnErr result (HasRisen self.old.faults self.new.faults) }
+        ensures never_falls { self.old.faults ≤ self.new.faults }
+        ensures faults { self.new.faults
+            ≡ (if is_err result then raised self.old.faults else self.old.faults) }
+    {
+        match self.inner.write(piece) {
+            Ok(count) if count > 0 && self.inner.flush().is_ok() => Ok(count),
+            _ => {
+                self.faults = self.faults.saturating_add(1);
+                Err(WriteFailed)
+            }
+        }
+    }
+}

@@ -1,0 +1,5 @@
+-- Lemmas on runs.
+mod RefusalLines
+mod BlockLemmas
+mod RunLemmas
+mod OutcomeLemmas

@@ -1,0 +1,14 @@
+-- What each job answers for a record.
+use Rattle.std.specs.Prelude.{ℕ, List, Bool, ◌≡◌}
+use Rattle.map_definitions.specs.Maps.{Lists}
+use Rattle.map_definitions.specs.Text.{count_block, count_refuses}
+use Rattle.pigale_shell.specs.declared.job.Job.{Job}
+use Rattle.pigale_shell.specs.declared.job.Job.TheVariants.{Count}
+
+-- the text is the job's answer for record k
+abbrev pub IsBlock : Job → ℕ → Lists → List ℕ → Type 0
+IsBlock Count k lists text = text ≡ count_block k lists
+
+-- the record counts as refused
+abbrev pub is_refused : Job → Lists → Bool
+is_refused Count lists = count_refuses lists

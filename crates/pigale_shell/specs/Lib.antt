@@ -1,0 +1,7 @@
+-- What the top call does, in the words of its clauses.
+pub mod Status
+pub mod Lines
+pub mod Words
+pub mod Answer
+pub mod Outcome
+pub mod Run

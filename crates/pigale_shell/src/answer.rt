@@ -1,0 +1,63 @@
+//! The answer to one record.
+ghost use Rattle.std.specs.Prelude.{◌≡◌, ◌<◌, ◌≤◌, ◌++◌, ◌↔◌, List, ℕ, length, not, IsTrue, IsFalse, IfOk, OnOk, OnErr};
+ghost use Rattle.map_definitions.specs.Text.{count_block, count_refuses};
+ghost use Rattle.pigale_shell.specs.Answer.{IsBlock, is_refused};
+
+use super::job::Job;
+use super::lines::{count_line, refusal_line};
+use euler_faces::euler;
+use half_edges::{HalfMap, MapFault, Rotations};
+use std::alloc::{AllocError, Global};
+
+/// Appends the job's block for a planar_code record with these lists, which are from 1 to 4095, and
+/// answers whether the record was served. The record's `number` is from 1 to 16777216. After want
+/// of memory nothing has changed.
+pub fn answer_record(
+    alloc: Global,
+    job: Job,
+    number: u32,
+    lists: &Rotations,
+    out: &mut Vec<u8>,
+) -> Result<bool, AllocError>
+    requires from_one { 0 < number }
+    requires few_records { number ≤ 16777216 }
+    requires some_list { 0 < length lists.now }
+    requires few_lists { length lists.now < 4096 }
+    ensures block { OnOk result
+        ((block : List ℕ) × IsBlock job number lists.now block × (out.new.items ≡ out.old.items ++ block)) }
+    ensures served { IfOk result (λ served. IsTrue served ↔ IsFalse (is_refused job lists.now)) }
+    ensures err { OnErr result (out.new.items ≡ out.old.items) }
+{
+    match job {
+        Job::Count => count_record(alloc, number, lists, out),
+    }
+}
+
+// Appends the count line of a record, or its refusal.
+fn count_record(
+    alloc: Global,
+    number: u32,
+    lists: &Rotations,
+    out: &mut Vec<u8>,
+) -> Result<bool, AllocError>
+    requires some_list { 0 < length lists.now }
+    requires few_lists { length lists.now < 4096 }
+    ensures block { OnOk result (out.new.items ≡ out.old.items ++ count_block number lists.now) }
+    ensures served { IfOk result (λ served. served ≡ not (count_refuses lists.now)) }
+    ensures err { OnErr result (out.new.items ≡ out.old.items) }
+{
+    match HalfMap::from_rotations(alloc, lists) {
+        Ok(map) => {
+            let count = euler(alloc, &map)?;
+            let line = count_line(alloc, number, &count)?;
+            out.extend_from_slice(&line)?;
+            Ok(true)
+        }
+        Err(MapFault::NoMemory) => Err(AllocError),
+        Err(fault) => {
+            let line = refusal_line(alloc, number, fault)?;
+            out.extend_from_slice(&line)?;
+            Ok(false)
+        }
+    }
+}

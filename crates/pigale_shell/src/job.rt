@@ -1,0 +1,78 @@
+//! Jobs, statuses and words.
+ghost use Rattle.std.specs.Prelude.{◌≡◌, map, MatchResult, Some, string_bytes};
+ghost use Rattle.pigale_shell.specs.Words.{job_of};
+ghost use Rattle.pigale_shell.specs.Status.{status_number, RefusesWords};
+
+use std::alloc::Global;
+
+/// What a run does with each record of its input.
+#[derive(Clone, Copy, Debug, PartialEq, Eq)]
+pub enum Job {
+    /// Counts the vertices, edges, faces and components of each map, and gives its genus.
+    Count,
+}
+
+/// How a run ended.
+#[derive(Clone, Copy, Debug, PartialEq, Eq)]
+pub enum Status {
+    /// The input ended well, and no record was refused.
+    Done,
+    /// The input ended well, and some record was refused.
+    SomeRefused,
+    /// The words are those of no job.
+    BadWords,
+    /// The input has a bad place, which the last line names.
+    BadInput,
+    /// A read failed.
+    ReadFault,
+    /// A write failed.
+    WriteFault,
+    /// There was not enough memory.
+    NoMemory,
+}
+
+impl Status {
+    /// The number with which the program ends, from 0 to 6 in the order above.
+    pub fn number(self) -> u8
+        ensures { result ≡ status_number self }
+    {
+        match self {
+            Status::Done => 0,
+            Status::SomeRefused => 1,
+            Status::BadWords => 2,
+            Status::BadInput => 3,
+            Status::ReadFault => 4,
+            Status::WriteFault => 5,
+            Status::NoMemory => 6,
+        }
+    }
+}
+
+/// Why words name no job.
+#[derive(Clone, Copy, Debug, PartialEq, Eq)]
+pub enum WordFault {
+    /// They are those of no job.
+    BadWords,
+    /// There was not enough memory.
+    NoMemory,
+}
+
+/// The job of the words after the program's name: `count` alone is the job `Count`.
+///
+/// `BadWords` comes exactly where they are those of no job.
+pub fn words_to_job(_alloc: Global, words: &[String]) -> Result<Job, WordFault>
+    ensures { MatchResult result
+        (λ job. job_of (map string_bytes words.now) ≡ Some job)
+        (RefusesWords (job_of (map string_bytes words.now))) }
+{
+    match words {
+        [word] => {
+            if word.as_str() == "count" {
+                Ok(Job::Count)
+            } else {
+                Err(WordFault::BadWords)
+            }
+        }
+        _ => Err(WordFault::BadWords),
+    }
+}

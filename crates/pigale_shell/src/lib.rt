@@ -1,0 +1,12 @@
+//! The jobs of Pigale, and the top call that runs them over any source and any sink.
+#![tactic(auto)]
+
+mod answer;
+mod job;
+mod lines;
+mod run;
+mod top;
+
+pub use answer::answer_record;
+pub use job::{Job, Status, WordFault, words_to_job};
+pub use top::pigale;

@@ -1,0 +1,134 @@
+//! The lines that a run writes.
+ghost use Rattle.std.specs.Prelude.{◌≡◌, ◌≢◌, ◌+◌, ◌++◌, ◌∷◌, [], OnOk, IfOk, decimal};
+ghost use Rattle.map_definitions.specs.Text.{counts_line, refused_line, bad_words_line, last_line as last_line_of};
+ghost use Rattle.map_definitions.specs.Maps.{genus_of};
+ghost use Rattle.pigale_shell.specs.Lines.{fault_bytes, WritesFault, ending_of};
+
+use euler_faces::EulerCount;
+use half_edges::MapFault;
+use itoa::Buffer;
+use std::alloc::{AllocError, Global};
+
+/// How the bytes of an input end.
+#[derive(Clone, Copy, Debug, PartialEq, Eq)]
+pub enum Ending {
+    /// After the last record.
+    Well,
+    /// Inside the record that begins at this offset.
+    EndInRecord(usize),
+    /// At a bad count at this offset.
+    BadCount(usize),
+    /// Not within the bytes that are read.
+    TooLong,
+}
+
+// Appends a space and a number.
+fn push_number(out: &mut Vec<u8>, number: u64) -> Result<(), AllocError>
+    ensures { OnOk result (out.new.items ≡ out.old.items ++ 32 ∷ decimal number) }
+{
+    let mut buffer = Buffer::new();
+    out.push(b' ')?;
+    out.extend_from_slice(buffer.format(number).as_bytes())
+}
+
+/// The count line of record `number`.
+pub fn count_line(alloc: Global, number: u32, count: &EulerCount) -> Result<Vec<u8>, AllocError>
+    ensures { IfOk result (λ line. line.items ≡ counts_line number count.now.n count.now.m count.now.f count.now.c
+        (genus_of count.now.n count.now.m count.now.f count.now.c)) }
+{
+    let mut line = Vec::from_slice(alloc, b"count")?;
+    push_number(&mut line, u64::from(number))?;
+    line.extend_from_slice(b" n")?;
+    push_number(&mut line, u64::from(count.n))?;
+    line.extend_from_slice(b" m")?;
+    push_number(&mut line, u64::from(count.m))?;
+    line.extend_from_slice(b" f")?;
+    push_number(&mut line, u64::from(count.f))?;
+    line.extend_from_slice(b" c")?;
+    push_number(&mut line, u64::from(count.c))?;
+    line.extend_from_slice(b" genus")?;
+    push_number(&mut line, u64::from(count.genus()))?;
+    line.push(b'\n')?;
+    Ok(line)
+}
+
+// Appends a name and the number of a vertex, which is printed from 1.
+fn push_vertex(out: &mut Vec<u8>, name: &[u8], v: u16) -> Result<(), AllocError>
+    ensures { OnOk result (out.new.items ≡ out.old.items ++ (name.now ++ 32 ∷ decimal (v + 1))) }
+{
+    out.extend_from_slice(name)?;
+    push_number(out, u64::from(v) + 1)
+}
+
+// Appends a name and the numbers of two vertices.
+fn push_vertices(out: &mut Vec<u8>, name: &[u8], v: u16, u: u16) -> Result<(), AllocError>
+    ensures { OnOk result (out.new.items
+        ≡ out.old.items ++ ((name.now ++ 32 ∷ decimal (v + 1)) ++ 32 ∷ decimal (u + 1))) }
+{
+    push_vertex(out, name, v)?;
+    push_number(out, u64::from(u) + 1)
+}
+
+// Appends the number and name of a refusal, and its vertices. For want of memory there is no such text.
+fn push_fault(out: &mut Vec<u8>, fault: MapFault) -> Result<(), AllocError>
+    ensures { OnOk result (out.new.items ≡ out.old.items ++ fault_bytes fault) }
+{
+    match fault {
+        MapFault::OutOfRange(v, u) => push_vertices(out, b"1 OutOfRange", v, u),
+        MapFault::Loop(v) => push_vertex(out, b"2 Loop", v),
+        MapFault::Repeated(v, u) => push_vertices(out, b"3 Repeated", v, u),
+        MapFault::OneSided(v, u) => push_vertices(out, b"4 OneSided", v, u),
+        MapFault::NoMemory => Ok(()),
+    }
+}
+
+/// The line that refuses record `number` for a fault, which is not want of memory.
+pub fn refusal_line(alloc: Global, number: u32, fault: MapFault) -> Result<Vec<u8>, AllocError>
+    ensures { IfOk result (λ line. WritesFault number fault line.items) }
+{
+    let mut line = Vec::from_slice(alloc, b"refused")?;
+    push_number(&mut line, u64::from(number))?;
+    line.push(b' ')?;
+    push_fault(&mut line, fault)?;
+    line.push(b'\n')?;
+    Ok(line)
+}
+
+// The line `stop NAME P`.
+fn stop_line(alloc: Global, words: &[u8], place: usize) -> Result<Vec<u8>, AllocError>
+    ensures { IfOk result (λ line. line.items ≡ (words.now ++ 32 ∷ decimal place) ++ 10 ∷ []) }
+{
+    let mut line = Vec::from_slice(alloc, words)?;
+    push_number(&mut line, place as u64)?;
+    line.push(b'\n')?;
+    Ok(line)
+}
+
+// The last line of an input that ended well.
+fn end_line(alloc: Global, records: u32, refused: u32) -> Result<Vec<u8>, AllocError>
+    ensures { IfOk result (λ line. line.items ≡ last_line_of records refused (ending_of Ending.Well)) }
+{
+    let mut line = Vec::from_slice(alloc, b"end records")?;
+    push_number(&mut line, u64::from(records))?;
+    line.extend_from_slice(b" refused")?;
+    push_number(&mut line, u64::from(refused))?;
+    line.push(b'\n')?;
+    Ok(line)
+}
+
+/// The last line of a run with this many records, of which so many were refused.
+pub fn last_line(
+    alloc: Global,
+    records: u32,
+    refused: u32,
+    ending: Ending,
+) -> Result<Vec<u8>, AllocError>
+    ensures { IfOk result (λ line. line.items ≡ last_line_of records refused (ending_of ending)) }
+{
+    match ending {
+        Ending::Well => end_line(alloc, records, refused),
+        Ending::EndInRecord(place) => stop_line(alloc, b"stop EndInRecord", place),
+        Ending::BadCount(place) => stop_line(alloc, b"stop BadCount", place),
+        Ending::TooLong => Vec::from_slice(alloc, b"stop TooLong\n"),
+    }
+}

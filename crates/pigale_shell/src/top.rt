@@ -1,0 +1,80 @@
+//! The top call.
+ghost use Rattle.std.specs.Prelude.{◌≡◌, ◌≢◌, ◌⊎◌, ◌<◌, ℕ, [], map, string_bytes, Some, None};
+ghost use Rattle.map_definitions.specs.Reading.{Ending, well};
+ghost use Rattle.map_definitions.specs.Text.{bad_words_line};
+ghost use Rattle.pg_io.specs.Io.{WhereTold, Grows, GrowsByPrefix, HasRisen};
+ghost use Rattle.pigale_shell.specs.Words.{job_of};
+ghost use Rattle.pigale_shell.specs.Outcome.{Writes, WritesTaken, IsBad, GrowsByText};
+
+use super::job::{Job, Status, WordFault, words_to_job};
+use super::run::run_job;
+use pg_io::{Sink, Source, put_all};
+use std::alloc::Global;
+
+// Writes the line for words that name no job.
+fn refuse_words<K: Sink>(out: &mut K) -> Status
+    ensures bad_words { result ≡ Status.BadWords → Grows (K.written out.old) (K.written out.new) bad_words_line }
+    ensures write_fault { result ≡ Status.WriteFault → HasRisen (K.faults out.old) (K.faults out.new)
+        × GrowsByPrefix (K.written out.old) (K.written out.new) bad_words_line }
+    ensures only { (result ≡ Status.BadWords) ⊎ (result ≡ Status.WriteFault) }
+{
+    match put_all(out, b"stop BadWords\n") {
+        Ok(()) => Status::BadWords,
+        Err(_) => Status::WriteFault,
+    }
+}
+
+/// Runs the words after the program's name: the job that they name, over the records of the source,
+/// or the line `stop BadWords` where they name none.
+///
+/// The clauses on the source's bytes and the sink's hold where it tells them. Want of memory is the
+/// one answer with no clause that says when it comes.
+pub fn pigale<S: Source, K: Sink>(
+    alloc: Global,
+    words: &[String],
+    src: &mut S,
+    out: &mut K,
+) -> Status
+    // The words are those of a job, the whole input was read and ended well, and the sink grew by its text: one block
+    // for each record, in order, and the last line, which says that none was refused.
+    ensures done { result ≡ Status.Done → (job : Job) × (job_of (map string_bytes words.now) ≡ Some job)
+        × WhereTold (S.left src.old) (λ input. (S.left src.new ≡ Some [])
+        × Writes job input well 0 (K.written out.old) (K.written out.new)) }
+
+    // The same, and the last line says that some record was refused.
+    ensures some_refused { result ≡ Status.SomeRefused → (job : Job) × (job_of (map string_bytes words.now) ≡ Some job)
+        × WhereTold (S.left src.old) (λ input. (S.left src.new ≡ Some [])
+        × (refused : ℕ) × (0 < refused) × Writes job input well refused (K.written out.old) (K.written out.new)) }
+
+    // The words are bad, the source is as it was, and the sink grew by one line.
+    ensures bad_words { result ≡ Status.BadWords → (job_of (map string_bytes words.now) ≡ None)
+        × (src.new ≡ src.old) × Grows (K.written out.old) (K.written out.new) bad_words_line }
+
+    // Words that are bad are never taken for a job, and the source is then not touched.
+    ensures words_refused { job_of (map string_bytes words.now) ≡ None →
+        (src.new ≡ src.old) × ((result ≡ Status.BadWords) ⊎ (result ≡ Status.WriteFault) ⊎ (result ≡ Status.NoMemory)) }
+
+    // The input has a bad ending, and the sink grew by the blocks before it and the line that names just that ending.
+    ensures bad_input { result ≡ Status.BadInput → (job : Job) × (job_of (map string_bytes words.now) ≡ Some job)
+        × WhereTold (S.left src.old) (λ input. (ending : Ending) × IsBad ending
+        × (refused : ℕ) × Writes job input ending refused (K.written out.old) (K.written out.new)) }
+
+    // A read failed, and the sink grew by the blocks of just those records that end within the bytes taken.
+    ensures read_fault { result ≡ Status.ReadFault → HasRisen (S.faults src.old) (S.faults src.new)
+        × (job : Job) × (job_of (map string_bytes words.now) ≡ Some job)
+        × WhereTold (S.left src.old) (λ input. WritesTaken job input (S.left src.new) (K.written out.old) (K.written out.new)) }
+
+    // A write failed, and the sink grew by some first bytes of the text.
+    ensures write_fault { result ≡ Status.WriteFault → HasRisen (K.faults out.old) (K.faults out.new)
+        × GrowsByText (job_of (map string_bytes words.now)) (S.left src.old) (K.written out.old) (K.written out.new) }
+
+    // Memory was wanting, and the sink grew by some first bytes of the text.
+    ensures no_memory { result ≡ Status.NoMemory →
+        GrowsByText (job_of (map string_bytes words.now)) (S.left src.old) (K.written out.old) (K.written out.new) }
+{
+    match words_to_job(alloc, words) {
+        Ok(job) => run_job(alloc, job, src, out),
+        Err(WordFault::BadWords) => refuse_words(out),
+        Err(WordFault::NoMemory) => Status::NoMemory,
+    }
+}

@@ -1,0 +1,5 @@
+-- What contracts see of a reader of records.
+pub mod State
+pub mod Fed
+pub mod Step
+pub mod Progress
