@@ -9,6 +9,7 @@ pub mod Transfer
 pub mod Walks
 mod Cases
 mod PairCases
+pub mod DartPermutations
 pub mod DartLemmas
 pub mod FaultLemmas
 pub mod DartCounts
