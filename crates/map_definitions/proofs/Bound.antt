@@ -308,6 +308,12 @@ bound_by (suc n) f g m w v l =
 pub euler_bound : (f g : ℕ → ℕ) (m : ℕ) → IsPermuting f (m + m) → IsPairing g (m + m) → (d : ℕ) × Balances f g (m + m) m d
 euler_bound f g m w v = bound_by (suc (moved_count f (m + m))) f g m w v (omega arith)
 
+-- the same for k that is m + m
+pub euler_bound_at : (f g : ℕ → ℕ) (k m : ℕ) → k ≡ m + m → IsPermuting f k → IsPairing g k → (d : ℕ) × Balances f g k m d
+euler_bound_at f g k m e w v =
+    let found = euler_bound f g m (subst (IsPermuting f) e w) (subst (IsPairing g) e v) in
+    (found.0, subst (λ n. Balances f g n m found.0) (sym e) found.1)
+
 -- ---- over lists of images
 pub IsPairing-image : (images : List ℕ) → IsPairingOfBelow images → IsPairing (image images) (length images)
 IsPairing-image images v = record { within = StaysBelow-image images v.within; back = v.back; other = v.other }

@@ -72,15 +72,15 @@ module _ (lists : Lists) (simple : IsSimpleMap lists) where
   pub dart_of-number : (i : ℕ) → i < dart_count lists → IsDartNumber lists i (dart_of lists i)
   dart_of-number i l = IsDartNumber-darts lists i (0, 0) simple.no_repeat l
 
-  twin_is_dart : (d : Dart) → HasDart lists d.0 d.1 → HasDart lists d.1 d.0
+  pub twin_is_dart : (d : Dart) → HasDart lists d.0 d.1 → HasDart lists d.1 d.0
   twin_is_dart d h = simple.both_ways d.0 d.1 h
 
-  dart_of-twin : (i : ℕ) → i < dart_count lists → dart_of lists (twin lists i) ≡ twin_dart (dart_of lists i)
+  pub dart_of-twin : (i : ℕ) → i < dart_count lists → dart_of lists (twin lists i) ≡ twin_dart (dart_of lists i)
   dart_of-twin i l =
       let d = dart_of lists i in
       get_or-dart_number lists d.1 d.0 (0, 0) (twin_is_dart d (dart_of-number i l).is_dart)
 
-  dart_of-rotation : (i : ℕ) → i < dart_count lists → dart_of lists (rotation lists i) ≡ turned_dart lists (dart_of lists i)
+  pub dart_of-rotation : (i : ℕ) → i < dart_count lists → dart_of lists (rotation lists i) ≡ turned_dart lists (dart_of lists i)
   dart_of-rotation i l =
       let d = dart_of lists i in
       get_or-dart_number lists d.0 (follows lists d.0 d.1) (0, 0) (HasDart-follows lists d.0 d.1 (dart_of-number i l).is_dart)
@@ -129,11 +129,11 @@ module _ (lists : Lists) (simple : IsSimpleMap lists) where
 
   -- ---- vertices
   -- entry k of v's list, by its number
-  dart_at : (v n : ℕ) → v < length lists → n < length (list_of lists v) → dart_of lists (darts_before lists v + n) ≡ (v, get_or (list_of lists v) n 0)
+  pub dart_at : (v n : ℕ) → v < length lists → n < length (list_of lists v) → dart_of lists (darts_before lists v + n) ≡ (v, get_or (list_of lists v) n 0)
   dart_at v n l m = dart_at_place lists v n (0, 0) 0 l m
 
   -- the rotation goes on to the next entry
-  rotation_at : (v n : ℕ) → v < length lists → suc n < length (list_of lists v) → rotation lists (darts_before lists v + n) ≡ darts_before lists v + suc n
+  pub rotation_at : (v n : ℕ) → v < length lists → suc n < length (list_of lists v) → rotation lists (darts_before lists v + n) ≡ darts_before lists v + suc n
   rotation_at v n l m =
       let us = list_of lists v in
       let x = get_or us n 0 in
@@ -146,7 +146,7 @@ module _ (lists : Lists) (simple : IsSimpleMap lists) where
       e ∙ ap (λ y. darts_before lists v + y) (place ∙ (ap (place_after (length us)) here ∙ next))
 
   -- the darts of a vertex lie in one orbit of the rotation, with its first
-  vertex_together : (v n : ℕ) → v < length lists → n < length (list_of lists v) → Together (orbits_of (rotation lists) (dart_count lists)) (darts_before lists v) (darts_before lists v + n)
+  pub vertex_together : (v n : ℕ) → v < length lists → n < length (list_of lists v) → Together (orbits_of (rotation lists) (dart_count lists)) (darts_before lists v) (darts_before lists v + n)
   vertex_together v zero l m = let z : darts_before lists v ≡ darts_before lists v + 0 = omega arith in ap (label (orbits_of (rotation lists) (dart_count lists))) z
   vertex_together v (suc n) l m =
       let end = darts_before_end lists v in
@@ -154,7 +154,7 @@ module _ (lists : Lists) (simple : IsSimpleMap lists) where
       vertex_together v n l (omega arith) ∙ (step ∙ ap (label (orbits_of (rotation lists) (dart_count lists))) (rotation_at v n l m))
 
   -- the rotation keeps the vertex that a dart leaves
-  tail_of-rotation : (i : ℕ) → i < dart_count lists → tail_of lists (rotation lists i) ≡ tail_of lists i
+  pub tail_of-rotation : (i : ℕ) → i < dart_count lists → tail_of lists (rotation lists i) ≡ tail_of lists i
   tail_of-rotation i l = ap (λ d. d.0) (dart_of-rotation i l)
 
   -- a dart lies in one orbit with the first dart of its vertex
@@ -167,16 +167,16 @@ module _ (lists : Lists) (simple : IsSimpleMap lists) where
       ap (label (orbits_of (rotation lists) (dart_count lists))) (sym p.number) ∙ sym (vertex_together d.0 n p.is_dart.0 m)
 
   -- the first dart of a vertex that has an edge
-  first_in : (v : ℕ) → has_edge lists v ≡ true → darts_before lists v < dart_count lists
+  pub first_in : (v : ℕ) → has_edge lists v ≡ true → darts_before lists v < dart_count lists
   first_in v e = omega (arith, darts_before_end lists v, some_entry (list_of lists v) e)
 
-  tail_of-first : (v : ℕ) → v < length lists → has_edge lists v ≡ true → tail_of lists (darts_before lists v) ≡ v
+  pub tail_of-first : (v : ℕ) → v < length lists → has_edge lists v ≡ true → tail_of lists (darts_before lists v) ≡ v
   tail_of-first v l e =
       let z : darts_before lists v ≡ darts_before lists v + 0 = omega arith in
       ap (tail_of lists) z ∙ ap (λ d. d.0) (dart_at v 0 l (some_entry (list_of lists v) e))
 
   -- the vertex of a dart has an edge
-  has_edge-tail : (i : ℕ) → i < dart_count lists → has_edge lists (tail_of lists i) ≡ true
+  pub has_edge-tail : (i : ℕ) → i < dart_count lists → has_edge lists (tail_of lists i) ≡ true
   has_edge-tail i l =
       let p = (dart_of-number i l).is_dart.1 in
       has_entry (list_of lists (tail_of lists i)) (omega (arith, p.1))
@@ -258,7 +258,7 @@ module _ (lists : Lists) (simple : IsSimpleMap lists) where
       (λ i l. ap (label components) (sym (tail_of-rotation i l))) ends_together
 
   -- a dart is in one class with the first dart of its vertex
-  first_in_class : (i : ℕ) → i < dart_count lists → Together dart_classes i (darts_before lists (tail_of lists i))
+  pub first_in_class : (i : ℕ) → i < dart_count lists → Together dart_classes i (darts_before lists (tail_of lists i))
   first_in_class i l =
       joint-orbit (rotation lists) (twin lists) (dart_count lists) IsPermuting-rotation.within IsPairing-twin.within i (darts_before lists (tail_of lists i)) (first_together i l)
 
@@ -270,7 +270,7 @@ module _ (lists : Lists) (simple : IsSimpleMap lists) where
       first_in_class i l ∙ (first (tail_of lists i) (tail_of lists j) (dart_of-number i l).is_dart.0 (dart_of-number j m).is_dart.0 t ∙ sym (first_in_class j m))
 
   -- a vertex without an edge is a component of its own
-  isolated_alone : (v : ℕ) → v < length lists → is_empty_list (list_of lists v) ≡ true → label components v ≡ v
+  pub isolated_alone : (v : ℕ) → v < length lists → is_empty_list (list_of lists v) ≡ true → label components v ≡ v
   isolated_alone v l e =
       let other : (u : ℕ) → has_edge lists u ≡ true → eqb u v ≡ false = λ u h. ne_eqb u v (λ q. false≢true (sym (ap not (ap (λ x. is_empty_list (list_of lists x)) q ∙ e)) ∙ h)) in
       let w = IsLabels-components in
@@ -310,7 +310,7 @@ module _ (lists : Lists) (simple : IsSimpleMap lists) where
   unfolding face_count
   face_count-orbits = ap (λ l. class_count l + isolated_count lists) orbits-face_images
 
-  two_m : dart_count lists ≡ edge_count lists + edge_count lists
+  pub two_m : dart_count lists ≡ edge_count lists + edge_count lists
   two_m = omega (arith, dart_count-edge_count lists simple)
 
   -- what balances for the permutations balances for the map

@@ -10,6 +10,9 @@ pub mod Walks
 mod Cases
 mod PairCases
 pub mod DartPermutations
+pub mod ArcLemmas
+pub mod DartPaths
+pub mod CornerSplit
 pub mod DartLemmas
 pub mod FaultLemmas
 pub mod DartCounts

@@ -6,33 +6,31 @@ use Rattle.map_definitions.proofs.Counting.{count_below_same, count_below_more}
 use Rattle.map_definitions.proofs.Classes.{Together, cases_Together, merge-within, class_count-merge_apart, same_class-from, apart-from}
 use Rattle.map_definitions.proofs.Orbits.{orbits_of, orbits_of-step, IsPermuting, count_below-images}
 use Rattle.map_definitions.proofs.Swap.{orbits_of-same, exchange, swapped_first, swapped_second, swapped_other, IsPermuting-exchange, exchange_orbits}
-use Rattle.map_definitions.proofs.Bound.{joint, length-joint, IsLabels-joint, IsPairing, IsPermuting-pairing, IsPermuting-after, after, after-exchange, Balances, Balances-cut, cut_orbits, joint-cut, euler_bound}
+use Rattle.map_definitions.proofs.Bound.{joint, length-joint, IsLabels-joint, IsPairing, IsPermuting-pairing, IsPermuting-after, after, after-exchange, Balances, Balances-cut, cut_orbits, joint-cut, euler_bound_at}
 
 -- two numbers that both balance are one
 pub Balances-one : (f g : ℕ → ℕ) (k m d d' : ℕ) → Balances f g k m d → Balances f g k m d' → d ≡ d'
 Balances-one f g k m d d' b b' = omega arith
 
 -- Let x and y lie in one orbit of f, and let nothing be missing.
-module _ (f g : ℕ → ℕ) (m x y : ℕ) (w : IsPermuting f (m + m)) (v : IsPairing g (m + m)) (lx : x < m + m) (ly : y < m + m) (ne : x ≢ y) (one : Together (orbits_of f (m + m)) x y) (plane : Balances f g (m + m) m 0) where
+module _ (f g : ℕ → ℕ) (k m x y : ℕ) (double : k ≡ m + m) (w : IsPermuting f k) (v : IsPairing g k) (lx : x < k) (ly : y < k) (ne : x ≢ y) (one : Together (orbits_of f k) x y) (plane : Balances f g k m 0) where
   -- after the cut nothing is missing either
-  pub plane_cut : Balances (exchange f x y) g (m + m) m 0
+  pub plane_cut : Balances (exchange f x y) g k m 0
   plane_cut =
-      let k = m + m in
       let h = exchange f x y in
-      let found = euler_bound h g m (IsPermuting-exchange f k x y lx ly w) v in
+      let found = euler_bound_at h g k m double (IsPermuting-exchange f k x y lx ly w) v in
       elim (Balances-cut f g k m x y w v lx ly ne one found.0 found.1) [
         | inl b ↦ let e = Balances-one f g k m found.0 0 b plane in subst (Balances h g k m) e found.1
         | inr b ↦ absurd (omega (arith, Balances-one f g k m (found.0 + 1) 0 b plane))
       ]
 
   -- the orbits of f after g, once x and y are cut
-  turned : orbits_of (after (exchange f x y) g) (m + m) ≡ orbits_of (exchange (after f g) (g x) (g y)) (m + m)
-  turned = orbits_of-same (after (exchange f x y) g) (exchange (after f g) (g x) (g y)) (m + m) (after-exchange f g (m + m) x y v lx ly)
+  turned : orbits_of (after (exchange f x y) g) k ≡ orbits_of (exchange (after f g) (g x) (g y)) k
+  turned = orbits_of-same (after (exchange f x y) g) (exchange (after f g) (g x) (g y)) k (after-exchange f g k x y v lx ly)
 
   -- where the partners of x and y lie in one orbit of f after g, the cut parts x from y
-  pub plane_cut-apart : Together (orbits_of (after f g) (m + m)) (g x) (g y) → Together (joint (exchange f x y) g (m + m)) x y → ⊥
+  pub plane_cut-apart : Together (orbits_of (after f g) k) (g x) (g y) → Together (joint (exchange f x y) g k) x y → ⊥
   plane_cut-apart face t =
-      let k = m + m in
       let h = exchange f x y in
       let gw = IsPermuting-pairing g k v in
       let hw = IsPermuting-exchange f k x y lx ly w in
@@ -47,9 +45,8 @@ module _ (f g : ℕ → ℕ) (m x y : ℕ) (w : IsPermuting f (m + m)) (v : IsPa
       omega (arith, plane, plane_cut, faces, points, same)
 
   -- where they do not, x and y stay in one class
-  pub plane_cut-together : (Together (orbits_of (after f g) (m + m)) (g x) (g y) → ⊥) → Together (joint (exchange f x y) g (m + m)) x y
+  pub plane_cut-together : (Together (orbits_of (after f g) k) (g x) (g y) → ⊥) → Together (joint (exchange f x y) g k) x y
   plane_cut-together face =
-      let k = m + m in
       let h = exchange f x y in
       let gw = IsPermuting-pairing g k v in
       let hw = IsPermuting-exchange f k x y lx ly w in
