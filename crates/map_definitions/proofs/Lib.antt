@@ -13,6 +13,8 @@ pub mod DartPermutations
 pub mod ArcLemmas
 pub mod DartPaths
 pub mod CornerSplit
+pub mod Generated
+pub mod LoneEdge
 pub mod DartLemmas
 pub mod FaultLemmas
 pub mod DartCounts
