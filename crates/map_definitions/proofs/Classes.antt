@@ -306,6 +306,18 @@ merge_all-lies E k eq labels (p ∷ pairs) len w h old new i j li lj t =
     ])
     (All-tail (λ q. E q.0 q.1) p pairs new) i j li lj t
 
+-- two lists of pairs, each held by the classes that the other makes, make the same classes
+pub merge_all-same : (labels : List ℕ) (pairs others : List (ℕ × ℕ)) → IsLabels labels → PairsBelow (length labels) pairs → PairsBelow (length labels) others → HoldsPairs (merge_all labels others) pairs → HoldsPairs (merge_all labels pairs) others → merge_all labels pairs ≡ merge_all labels others
+merge_all-same labels pairs others w below below' h h' =
+    let one = merge_all labels pairs in
+    let other = merge_all labels others in
+    let k = length labels in
+    let n = length-merge_all labels pairs in
+    let n' = length-merge_all labels others in
+    labels_same one other (IsLabels-merge_all labels pairs w below) (IsLabels-merge_all labels others w below') (n ∙ sym n')
+    (λ i j l m t. merge_all-lies (Together other) k (record { itself = λ i l. refl; turned = λ i j l m e. sym e; chained = λ i j o l m n e e'. e ∙ e' }) labels pairs refl w below (λ i j l m t. merge_all-keeps labels others w below' i j t) h i j (omega arith) (omega arith) t)
+    (λ i j l m t. merge_all-lies (Together one) k (record { itself = λ i l. refl; turned = λ i j l m e. sym e; chained = λ i j o l m n e e'. e ∙ e' }) labels others refl w below' (λ i j l m t. merge_all-keeps labels pairs w below i j t) h' i j (omega arith) (omega arith) t)
+
 -- more pairs never raise the count
 pub class_count-merge_all : (labels : List ℕ) (pairs : List (ℕ × ℕ)) → IsLabels labels → PairsBelow (length labels) pairs → class_count (merge_all labels pairs) ≤ class_count labels
 class_count-merge_all labels pairs w h =

@@ -1,5 +1,5 @@
 -- Counting the numbers below n that pass a test.
-use Rattle.std.proofs.Common.{◌≡◌, ◌≢◌, ℕ, zero, suc, ◌+◌, ◌<◌, ◌≤◌, Bool, true, false, not, cond, eqb, refl, sym, ap, inl, inr, arith}
+use Rattle.std.proofs.Common.{◌≡◌, ◌≢◌, ℕ, zero, suc, ◌+◌, ◌<◌, ◌≤◌, Bool, true, false, not, ◌&&◌, cond, eqb, refl, sym, ap, inl, inr, arith}
 use Rattle.std.proofs.lemmas.Bool.{cases_Bool, cases_eq, eq-eqb, ne_eqb}
 use Rattle.map_definitions.specs.Classes.{count_below}
 
@@ -112,3 +112,31 @@ count_below_but_two p q n a b la lb ne h =
     λ i l d. elim (cases_eq i a) [ inl e ↦ rw (eq-eqb i a e) refl | inr d' ↦ rw (ne_eqb i a d') (h i l d' d) ] in
     let second = count_below_but_one mixed q n b lb agree in
     omega (arith, first, second, ap one_if at_a, ap one_if at_b)
+
+-- Numbers below k that pass one test go to different numbers below n that pass another: so the first test passes no more often.
+pub count_below_into : (f : ℕ → ℕ) (p q : ℕ → Bool) (k n : ℕ) → ((i : ℕ) → i < k → p i ≡ true → (f i < n) × (q (f i) ≡ true)) → ((i j : ℕ) → i < k → j < k → p i ≡ true → p j ≡ true → f i ≡ f j → i ≡ j) → count_below p k ≤ count_below q n
+count_below_into f p q zero n into apart = omega arith
+count_below_into f p q (suc k) n into apart =
+    elim (cases_Bool (p k)) [
+      | inl passes ↦
+          let at = into k (omega arith) passes in
+          let less : ℕ → Bool = λ i. cond (eqb i (f k)) false (q i) in
+          let rest = count_below_into f p less k n
+          (λ i l t. let old = into i (omega arith) t in let ne : f i ≢ f k = λ e. absurd (omega (arith, apart i k (omega arith) (omega arith) t passes e)) in (old.0, rw (ne_eqb (f i) (f k) ne) old.1))
+          (λ i j l m. apart i j (omega arith) (omega arith)) in
+          let fails : less (f k) ≡ false = rw (eq-eqb (f k) (f k) refl) refl in
+          let more = count_below_more less q n (f k) at.0 fails at.1 (λ i l ne. rw (ne_eqb i (f k) ne) refl) in
+          omega (arith, rest, more, ap one_if passes)
+      | inr fails ↦
+          let rest = count_below_into f p q k n (λ i l t. into i (omega arith) t) (λ i j l m. apart i j (omega arith) (omega arith)) in
+          omega (arith, rest, ap one_if fails)
+    ]
+
+one_if_split : (x y : Bool) → one_if x ≡ one_if (y && x) + one_if (not y && x)
+one_if_split x true = omega arith
+one_if_split x false = omega arith
+
+-- what passes is what passes with a second test and what passes without it
+pub count_below_split : (p q : ℕ → Bool) (n : ℕ) → count_below p n ≡ count_below (λ i. q i && p i) n + count_below (λ i. not (q i) && p i) n
+count_below_split p q zero = refl
+count_below_split p q (suc n) = omega (arith, count_below_split p q n, one_if_split (p n) (q n))

@@ -5,9 +5,9 @@ use Rattle.std.proofs.lemmas.Bool.{cases_eq, cases_lt}
 use Rattle.std.proofs.lemmas.List.{get_or_default}
 use Rattle.std.proofs.lemmas.List.Elements.{All-head, All-tail, All-cons}
 use Rattle.std.proofs.lemmas.List.FromFn.{length-enumerate_from, get_or-enumerate_from}
-use Rattle.map_definitions.specs.Classes.{count_below, label, classes, orbits, image, IsPermutationOfBelow}
+use Rattle.map_definitions.specs.Classes.{alone, merge_all, count_below, classes, orbits, image, IsPermutationOfBelow}
 use Rattle.map_definitions.proofs.Counting.{count_below_images_le, count_below_not, weaker_test_back}
-use Rattle.map_definitions.proofs.Classes.{Together, IsLabels, IsEquivalenceBelow, PairsBelow, labels_same, length-classes, IsLabels-classes, classes-holds, classes-lies}
+use Rattle.map_definitions.proofs.Classes.{Together, IsLabels, IsEquivalenceBelow, PairsBelow, IsLabels-alone, length-alone, merge_all-holds, merge_all-same, length-classes, IsLabels-classes, classes-holds, classes-lies}
 
 -- ---- a function's pairs
 -- each number below n with its image
@@ -85,20 +85,23 @@ All-enumerate_at P images h i l =
     let z : 0 + i ≡ i = omega arith in
     subst (λ x. P x (get_or images i i)) z (rw (get_or-enumerate_from 0 images i (i, i) l) at (h i (i, i) m))
 
--- the orbits of a list of images are those of its function
-pub orbits-image : (images : List ℕ) → AllBelow images → orbits images ≡ orbits_of (image images) (length images)
-orbits-image images h =
+-- onto any classes, the images of a list join what its function joins
+pub images_onto : (labels images : List ℕ) → IsLabels labels → length labels ≡ length images → AllBelow images → merge_all labels (enumerate_from 0 images) ≡ merge_all labels (steps (image images) (length images))
+images_onto labels images w n h =
     let k = length images in
     let pairs = enumerate_from 0 images in
-    let below = PairsBelow-enumerate images h in
-    let stays = StaysBelow-image images h in
-    let one = orbits images in
-    let other = orbits_of (image images) k in
-    let one_len = length-classes k pairs in
-    let other_len = length-orbits_of (image images) k in
-    labels_same one other (IsLabels-classes k pairs below) (IsLabels-orbits_of (image images) k stays) (one_len ∙ sym other_len)
-    (λ i j l m t. classes-lies (Together other) k (record { itself = λ i l. refl; turned = λ i j l m e. sym e; chained = λ i j o l m n e e'. e ∙ e' }) pairs below (All-enumerate (Together other) images (orbits_of-step (image images) k stays)) i j (omega arith) (omega arith) t)
-    (λ i j l m t. orbits_of-marked (label one) (image images) k stays (All-enumerate_at (Together one) images (classes-holds k pairs below)) i j (omega arith) (omega arith) t)
+    let others = steps (image images) k in
+    let below : PairsBelow (length labels) pairs = rw n (PairsBelow-enumerate images h) in
+    let below' : PairsBelow (length labels) others = rw n (PairsBelow-steps (image images) k k (omega arith) (StaysBelow-image images h)) in
+    let one = merge_all labels pairs in
+    let other = merge_all labels others in
+    merge_all-same labels pairs others w below below'
+    (All-enumerate (Together other) images (All-steps_at (Together other) (image images) k (merge_all-holds labels others w below')))
+    (All-steps (Together one) (image images) k (All-enumerate_at (Together one) images (merge_all-holds labels pairs w below)))
+
+-- the orbits of a list of images are those of its function
+pub orbits-image : (images : List ℕ) → AllBelow images → orbits images ≡ orbits_of (image images) (length images)
+orbits-image images h = images_onto (alone (length images)) images (IsLabels-alone (length images)) (length-alone (length images)) h
 
 pub length-orbits : (images : List ℕ) → length (orbits images) ≡ length images
 length-orbits images = length-classes (length images) (enumerate_from 0 images)

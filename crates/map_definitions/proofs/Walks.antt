@@ -1,7 +1,7 @@
 -- The walk along an orbit: a bijection applied again and again, from a number until it is back there.
-use Rattle.std.proofs.Common.{◌≡◌, ◌≢◌, ◌⊎◌, ◌||◌, ℕ, zero, suc, ◌+◌, ◌-◌, ◌<◌, ◌≤◌, Bool, true, false, not, cond, eqb, List, [], ◌∷◌, length, get_or, refl, sym, ap, ◌∙◌, subst, inl, inr, arith}
-use Rattle.std.specs.List.{All, AllPairs, range_with_len}
-use Rattle.std.proofs.lemmas.Bool.{cases_Bool, cases_eq, cases_lt, eqb-true, eqb-false, eq-eqb, ne_eqb, or_cases, or_left, or_right, or_from, false_from_ne_true, true≢false}
+use Rattle.std.proofs.Common.{◌≡◌, ◌≢◌, ◌||◌, ℕ, zero, suc, ◌+◌, ◌-◌, ◌<◌, ◌≤◌, Bool, true, false, eqb, List, length, get_or, refl, sym, ap, ◌∙◌, subst, inl, inr, arith}
+use Rattle.std.specs.List.{range_with_len}
+use Rattle.std.proofs.lemmas.Bool.{cases_Bool, cases_eq, eqb-true, eq-eqb, ne_eqb, or_cases, or_left, or_right, false_from_ne_true, true≢false}
 use Rattle.std.proofs.lemmas.List.FromFn.{length-range_with_len, get_or-range_with_len}
 use Rattle.map_definitions.specs.Classes.{count_below, same_class, orbits, image, IsPermutationOfBelow}
 use Rattle.map_definitions.proofs.Counting.{count_below-le, count_below_more}
@@ -26,8 +26,8 @@ IsAway f a n = (i : ℕ) → 0 < i → i ≤ n → walk f a i ≢ a
 pub IsAway-more : (f : ℕ → ℕ) (a n : ℕ) → IsAway f a n → f (walk f a n) ≢ a → IsAway f a (suc n)
 IsAway-more f a n h ne i pos l =
     elim (cases_eq i (suc n)) [
-      inl e ↦ subst (λ x. walk f a x ≢ a) (sym e) ne
-    | inr d ↦ h i pos (omega arith)
+      | inl e ↦ subst (λ x. walk f a x ≢ a) (sym e) ne
+      | inr d ↦ h i pos (omega arith)
     ]
 
 pub walk-lt : (f : ℕ → ℕ) (k : ℕ) → StaysBelow f k → (a n : ℕ) → a < k → walk f a n < k
@@ -39,16 +39,16 @@ pub visited_at : (f : ℕ → ℕ) (a n y : ℕ) → visited f a n y ≡ true �
 visited_at f a zero y e = absurd (cc)
 visited_at f a (suc n) y e =
     elim (or_cases (visited f a n y) (eqb (walk f a n) y) e) [
-      inl t ↦ let r = visited_at f a n y t in (r.0, omega arith, r.2)
-    | inr t ↦ (n, omega arith, eqb-true (walk f a n) y t)
+      | inl t ↦ let r = visited_at f a n y t in (r.0, omega arith, r.2)
+      | inr t ↦ (n, omega arith, eqb-true (walk f a n) y t)
     ]
 
 pub visited-walk : (f : ℕ → ℕ) (a n i : ℕ) → i < n → visited f a n (walk f a i) ≡ true
 visited-walk f a zero i l = absurd (omega arith)
 visited-walk f a (suc n) i l =
     elim (cases_eq i n) [
-      inl e ↦ or_right (visited f a n (walk f a i)) (eqb (walk f a n) (walk f a i)) (eq-eqb (walk f a n) (walk f a i) (ap (walk f a) (sym e)))
-    | inr ne ↦ or_left (visited f a n (walk f a i)) (eqb (walk f a n) (walk f a i)) (visited-walk f a n i (omega arith))
+      | inl e ↦ or_right (visited f a n (walk f a i)) (eqb (walk f a n) (walk f a i)) (eq-eqb (walk f a n) (walk f a i) (ap (walk f a) (sym e)))
+      | inr ne ↦ or_left (visited f a n (walk f a i)) (eqb (walk f a n) (walk f a i)) (visited-walk f a n i (omega arith))
     ]
 
 -- a number that no step meets was not visited
@@ -76,12 +76,12 @@ count_visited f k w a (suc n) l away =
     let rest = count_visited f k w a n l (λ i pos m. away i pos (omega arith)) in
     let at = walk f a (suc n) in
     let fresh : visited f a (suc n) at ≡ false =
-        not_visited f a (suc n) at (λ i m e.
-          let d = suc n - i in
-          let s : suc n ≡ d + i = omega arith in
-          away d (omega arith) (omega arith) (walk_apart f k w a l i d (e ∙ ap (walk f a) s))) in
+    not_visited f a (suc n) at (λ i m e.
+    let d = suc n - i in
+    let s : suc n ≡ d + i = omega arith in
+    away d (omega arith) (omega arith) (walk_apart f k w a l i d (e ∙ ap (walk f a) s))) in
     let more = count_below_more (visited f a (suc n)) (visited f a (suc (suc n))) k at (walk-lt f k w.within a (suc n) l) fresh (visited-walk f a (suc (suc n)) (suc n) (omega arith))
-        (λ i m d. sym (rw (ne_eqb at i (λ e. d (sym e))) (or_false (visited f a (suc n) i)))) in
+    (λ i m d. sym (rw (ne_eqb at i (λ e. d (sym e))) (or_false (visited f a (suc n) i)))) in
     omega arith
   where
     or_false : (b : Bool) → (b || false) ≡ b
@@ -105,20 +105,20 @@ visited_is_orbit images p a n l pos back y m =
     let f = image images in
     let marked : ℕ → Bool = visited f a n in
     let keeps : (i : ℕ) → i < length images → marked i ≡ true → marked (f i) ≡ true =
-        λ i li t.
-          let r = visited_at f a n i t in
-          elim (cases_eq (suc r.0) n) [
-            inl e ↦
-              let first : f i ≡ a = ap f (sym r.2) ∙ (ap (walk f a) e ∙ back) in
-              ap marked first ∙ visited-walk f a n 0 pos
-          | inr d ↦ ap marked (ap f (sym r.2)) ∙ visited-walk f a n (suc r.0) (omega arith)
-          ] in
+    λ i li t.
+    let r = visited_at f a n i t in
+    elim (cases_eq (suc r.0) n) [
+      | inl e ↦
+          let first : f i ≡ a = ap f (sym r.2) ∙ (ap (walk f a) e ∙ back) in
+          ap marked first ∙ visited-walk f a n 0 pos
+      | inr d ↦ ap marked (ap f (sym r.2)) ∙ visited-walk f a n (suc r.0) (omega arith)
+    ] in
     elim (cases_Bool (marked y)) [
-      inl t ↦
-        let r = visited_at f a n y t in
-        t ∙ sym (same_class-from (orbits images) a y (walk-together images p a r.0 l ∙ ap (λ x. get_or (orbits images) x x) r.2))
-    | inr t ↦
-        t ∙ sym (false_from_ne_true (same_class (orbits images) a y) (λ s.
+      | inl t ↦
+          let r = visited_at f a n y t in
+          t ∙ sym (same_class-from (orbits images) a y (walk-together images p a r.0 l ∙ ap (λ x. get_or (orbits images) x x) r.2))
+      | inr t ↦
+          t ∙ sym (false_from_ne_true (same_class (orbits images) a y) (λ s.
           let same = orbits-closed_marks images p marked keeps a y l m (Together-from (orbits images) a y s) in
           true≢false (sym (visited-walk f a n 0 pos) ∙ (same ∙ t))))
     ]
@@ -129,5 +129,5 @@ IsPermutationOfBelow-identity k =
     let len = length-range_with_len 0 k in
     record {
       within = λ i d l. omega (arith, get_or-range_with_len 0 k i d (omega arith));
-      distinct = λ i j d s l e. absurd (omega (arith, get_or-range_with_len 0 k i d (omega arith), get_or-range_with_len 0 k j d (omega arith)))
+      distinct = λ i j d s l e. absurd (omega (arith, get_or-range_with_len 0 k i d (omega arith), get_or-range_with_len 0 k j d (omega arith)));
     }

@@ -4,3 +4,5 @@ pub mod Maps
 pub mod Faults
 pub mod Reading
 pub mod Text
+pub mod Paths
+pub mod Laws

@@ -14,5 +14,5 @@ mod repeat;
 mod tests;
 
 pub use fault::PermFault;
-pub use law::one_swap;
+pub use law::{one_swap, two_permutations};
 pub use perm::Perm;

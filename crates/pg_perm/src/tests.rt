@@ -40,6 +40,7 @@ fn faults_are_named(rt: HostRuntime) {
 }
 
 #[test]
-fn the_law_can_be_called() {
+fn the_laws_can_be_called() {
     one_swap();
+    two_permutations();
 }
