@@ -15,6 +15,8 @@ pub mod DartPaths
 pub mod CornerSplit
 pub mod Generated
 pub mod LoneEdge
+pub mod WithoutEntry
+pub mod EdgeRemoved
 pub mod DartLemmas
 pub mod FaultLemmas
 pub mod DartCounts

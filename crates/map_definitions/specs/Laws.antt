@@ -1,7 +1,21 @@
 -- Laws of the maps of genus zero.
-use Rattle.std.specs.Prelude.{ℕ, List, [], ◌∷◌, ◌≢◌, Contains}
-use Rattle.map_definitions.specs.Maps.{Lists, HasDart, IsSimpleMap, IsPlane, list_of}
+use Rattle.std.specs.Prelude.{ℕ, List, [], ◌∷◌, ◌≢◌, Contains, slice_set, remove}
+use Rattle.map_definitions.specs.Maps.{Lists, HasDart, IsSimpleMap, IsPlane, list_of, place_of}
 use Rattle.map_definitions.specs.Paths.{JoinsAvoiding, arc, SameFace}
+
+-- a list without its first x
+abbrev pub without_entry : List ℕ → ℕ → List ℕ
+without_entry us x = remove us (place_of x us)
+
+-- the lists without the edge between u and v
+abbrev pub without_edge : Lists → ℕ → ℕ → Lists
+without_edge lists u v =
+    slice_set (slice_set lists u (without_entry (list_of lists u) v)) v (without_entry (list_of lists v) u)
+
+-- A map of genus zero without one of its edges has genus zero.
+abbrev pub EdgeRemoved : Type 0
+EdgeRemoved =
+    (lists : Lists) (u v : ℕ) → IsSimpleMap lists → IsPlane lists → HasDart lists u v → IsSimpleMap (without_edge lists u v) × IsPlane (without_edge lists u v)
 
 -- Where two corners of a vertex lie in one face, the vertex separates the two parts of its list.
 abbrev pub CornerSplit : Type 0
