@@ -17,6 +17,7 @@ pub mod Generated
 pub mod LoneEdge
 pub mod WithoutEntry
 pub mod EdgeRemoved
+pub mod Contract
 pub mod DartLemmas
 pub mod FaultLemmas
 pub mod DartCounts

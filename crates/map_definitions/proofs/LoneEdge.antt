@@ -92,7 +92,7 @@ module _ (f g : ℕ → ℕ) (k m d p q : ℕ) (double : k ≡ m + m) (w : IsPer
       lone_balances (exchange f p d) g k m q (g d) double w1 v lq le fq (lone_balances f g k m p d double w v lp ld fp plane)
 
   -- a label that is d or its partner
-  out_label : (labels : List ℕ) (h h' : ℕ → ℕ) → IsGenerated labels h h' k → ((y : ℕ) → y < k → neither d (g d) y ≡ neither d (g d) (h y)) → ((y : ℕ) → y < k → neither d (g d) y ≡ neither d (g d) (h' y)) → (label labels d ≡ d) ⊎ (label labels d ≡ g d)
+  pub out_label : (labels : List ℕ) (h h' : ℕ → ℕ) → IsGenerated labels h h' k → ((y : ℕ) → y < k → neither d (g d) y ≡ neither d (g d) (h y)) → ((y : ℕ) → y < k → neither d (g d) y ≡ neither d (g d) (h' y)) → (label labels d ≡ d) ⊎ (label labels d ≡ g d)
   out_label labels h h' made same same' =
       let u = made.known in
       let low = u.low d in
@@ -103,7 +103,7 @@ module _ (f g : ℕ → ℕ) (k m d p q : ℕ) (double : k ≡ m + m) (w : IsPer
       ])
 
   -- a bijection that leaves d and its partner among themselves keeps the rest
-  neither_kept : (h : ℕ → ℕ) → IsPermuting h k → neither d (g d) (h d) ≡ false → neither d (g d) (h (g d)) ≡ false → (y : ℕ) → y < k → neither d (g d) y ≡ neither d (g d) (h y)
+  pub neither_kept : (h : ℕ → ℕ) → IsPermuting h k → neither d (g d) (h d) ≡ false → neither d (g d) (h (g d)) ≡ false → (y : ℕ) → y < k → neither d (g d) y ≡ neither d (g d) (h y)
   neither_kept h hw at_d at_e y l =
       let out : ℕ → Bool = λ x. not (neither d (g d) x) in
       let keeps : (x : ℕ) → x < k → out x ≡ true → out (h x) ≡ true = λ x n t.
@@ -140,10 +140,10 @@ module _ (f g : ℕ → ℕ) (k m d p q : ℕ) (double : k ≡ m + m) (w : IsPer
       ] in
       omega (arith, ap one_if (eq-eqb (label O d) d (alone d ld lone_edge-first)), ap one_if (eq-eqb (label O (g d)) (g d) (alone (g d) le lone_edge-second)))
 
-  twin_out : neither d (g d) (g d) ≡ false
+  pub twin_out : neither d (g d) (g d) ≡ false
   twin_out = neither_second d (g d)
 
-  back_out : neither d (g d) (g (g d)) ≡ false
+  pub back_out : neither d (g d) (g (g d)) ≡ false
   back_out = ap (neither d (g d)) (v.back d ld) ∙ neither_first d (g d)
 
   pub GoesOver-out : (to : ℕ → ℕ) (k' : ℕ) (f' g' : ℕ → ℕ) → ((i : ℕ) → i < k' → lone_edge (to i) ≡ to (f' i)) → ((i : ℕ) → i < k' → g (to i) ≡ to (g' i)) → GoesOver to (neither d (g d)) k k' lone_edge f' × GoesOver to (neither d (g d)) k k' g g'
