@@ -18,6 +18,7 @@ pub mod LoneEdge
 pub mod WithoutEntry
 pub mod EdgeRemoved
 pub mod Contract
+pub mod DigonSplit
 pub mod DartLemmas
 pub mod FaultLemmas
 pub mod DartCounts
