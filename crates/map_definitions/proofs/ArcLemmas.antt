@@ -140,8 +140,8 @@ module _ (us : List ℕ) (a : ℕ) (distinct : AllPairs ◌≢◌ us) (has : Con
       let qi = turned_place-lt n p i in_a l in
       let qj = turned_place-lt n p j in_a m in
       let same : turned_place n p i ≡ turned_place n p j =
-          sym (place_of-get_or us (turned_place n p i) 0 distinct qi)
-          ∙ (ap (λ y. place_of y us) (sym (from_entry-at i l) ∙ (e ∙ from_entry-at j m)) ∙ place_of-get_or us (turned_place n p j) 0 distinct qj) in
+      sym (place_of-get_or us (turned_place n p i) 0 distinct qi)
+      ∙ (ap (λ y. place_of y us) (sym (from_entry-at i l) ∙ (e ∙ from_entry-at j m)) ∙ place_of-get_or us (turned_place n p j) 0 distinct qj) in
       turned_place-apart n p i j in_a l m same
 
   -- an arc to an entry of the list does not come round to what stands before its start
@@ -179,13 +179,13 @@ module _ (us : List ℕ) (a : ℕ) (distinct : AllPairs ◌≢◌ us) (has : Con
       let j = place_of b r in
       let at_b = get_or-place_of b r 0 in_b in
       let later : at.0 < place_of c r =
-          elim (cases_lt at.0 (place_of c r)) [
-            inl l ↦ l
-          | inr l ↦
-              let in_c : place_of c r < length r = let m = at.1 in omega arith in
-              let at_c = get_or-place_of c r 0 in_c in
-              elim (cases_eq (place_of c r) 0) [
-                inl z ↦ absurd (ne (sym from_entry-first ∙ (ap (λ q. get_or r q 0) (sym z) ∙ at_c)))
+      elim (cases_lt at.0 (place_of c r)) [
+        | inl l ↦ l
+        | inr l ↦
+            let in_c : place_of c r < length r = let m = at.1 in omega arith in
+            let at_c = get_or-place_of c r 0 in_c in
+            elim (cases_eq (place_of c r) 0) [
+              | inl z ↦ absurd (ne (sym from_entry-first ∙ (ap (λ q. get_or r q 0) (sym z) ∙ at_c)))
               | inr z ↦
                   let i = place_of c r - 1 in
                   let next : suc i ≡ place_of c r = omega arith in
@@ -194,6 +194,6 @@ module _ (us : List ℕ) (a : ℕ) (distinct : AllPairs ◌≢◌ us) (has : Con
                   let j_is = from_entry-apart i j (omega arith) (omega arith) (same ∙ sym at_b) in
                   let before = at.2 in
                   absurd (omega arith)
-              ]
-          ] in
+            ]
+      ] in
       subst (Contains (arc us a c)) at.3 (arc-has c at.0 at.1 later)

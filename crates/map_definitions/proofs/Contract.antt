@@ -1,14 +1,14 @@
 -- An edge with two different ends contracted: its two darts are taken off and left by themselves, and their two vertices are made one. Faces lose the two darts and nothing else, and nothing is missing from the Euler bound after it that was not before.
-use Rattle.std.proofs.Common.{◌≡◌, ◌≢◌, ◌⊎◌, ℕ, zero, suc, ◌+◌, ◌*◌, ◌<◌, ◌≤◌, Bool, true, false, cond, eqb, List, length, refl, sym, ap, ◌∙◌, subst, inl, inr, arith}
-use Rattle.std.proofs.lemmas.Bool.{cases_Bool, cases_eq, eq-eqb, ne_eqb, true≢false, false≢true}
+use Rattle.std.proofs.Common.{◌≡◌, ◌≢◌, ℕ, ◌+◌, ◌<◌, cond, eqb, List, length, refl, sym, ap, ◌∙◌, inl, inr, arith}
+use Rattle.std.proofs.lemmas.Bool.{cases_Bool, cases_eq, eq-eqb, ne_eqb}
 use Rattle.map_definitions.specs.Classes.{label, merge, merge_all, class_count, IsMerged}
 use Rattle.map_definitions.proofs.Counting.{one_if}
 use Rattle.map_definitions.proofs.Classes.{Together, IsLabels, cases_Together, same_class-from, apart-from, merge-joined, merge-keeps, merge-same, joined-merge, merge-within, class_count-merge_apart}
-use Rattle.map_definitions.proofs.Orbits.{StaysBelow, steps, orbits_of, length-orbits_of, IsLabels-orbits_of, orbits_of-step, orbits_of-marked, IsPermuting}
-use Rattle.map_definitions.proofs.Swap.{swapped, exchange, swapped_first, swapped_second, swapped_other, swapped-swapped, IsPermuting-exchange, exchange_orbits, fixed_points_apart, orbits_of-same}
-use Rattle.map_definitions.proofs.Bound.{joint, length-joint, IsLabels-joint, joint-first, joint-second, joint-marked, joint-cut, IsPairing, IsPermuting-pairing, IsPermuting-after, after, Balances}
+use Rattle.map_definitions.proofs.Orbits.{steps, orbits_of, length-orbits_of, IsLabels-orbits_of, orbits_of-step, orbits_of-marked, IsPermuting}
+use Rattle.map_definitions.proofs.Swap.{exchange, swapped_first, swapped_second, swapped_other, swapped-swapped, IsPermuting-exchange, exchange_orbits, fixed_points_apart, orbits_of-same}
+use Rattle.map_definitions.proofs.Bound.{joint, length-joint, IsLabels-joint, joint-second, joint-marked, joint-cut, IsPairing, IsPermuting-pairing, IsPermuting-after, after, Balances}
 use Rattle.map_definitions.proofs.PlaneCuts.{lone, lone_before, lone_other, lone_together}
-use Rattle.map_definitions.proofs.Generated.{neither, neither_first, neither_second, neither_cases}
+use Rattle.map_definitions.proofs.Generated.{neither, neither_first, neither_cases}
 use Rattle.map_definitions.proofs.LoneEdge.{lone_edge-first, lone_edge-second, lone_edge-skip, lone_edge-skip_second, lone_edge-other, IsPermuting-lone_edge, neither_kept, twin_out, back_out}
 
 -- the joint classes depend on the images alone
@@ -156,27 +156,27 @@ module _ (f g : ℕ → ℕ) (k m d p q : ℕ) (double : k ≡ m + m) (w : IsPer
       let L = label (orbits_of bare k) in
       let step = orbits_of-step bare k IsPermuting-bare.within in
       orbits_of-marked (λ i. L (end_of i)) f k w.within (λ i l.
-        elim (cases_eq i p) [
-          inl e ↦ ap L (end_of-other i (λ s. p_d (sym e ∙ s)) (λ s. p_e (sym e ∙ s)) ∙ e) ∙ sym (ap (λ x. L (end_of x)) (ap f e ∙ fp) ∙ ap L end_of-d)
+      elim (cases_eq i p) [
+        | inl e ↦ ap L (end_of-other i (λ s. p_d (sym e ∙ s)) (λ s. p_e (sym e ∙ s)) ∙ e) ∙ sym (ap (λ x. L (end_of x)) (ap f e ∙ fp) ∙ ap L end_of-d)
         | inr np ↦
             elim (cases_eq i q) [
-              inl e ↦ ap L (end_of-other i (λ s. q_d (sym e ∙ s)) (λ s. q_e (sym e ∙ s)) ∙ e) ∙ sym (ap (λ x. L (end_of x)) (ap f e ∙ fq) ∙ ap L end_of-e)
-            | inr nq ↦
-                elim (cases_eq i d) [
-                  inl e ↦
-                    ap (λ x. L (end_of x)) e ∙ (ap L end_of-d ∙ (step p lp ∙ (ap L bare_p ∙ (ap L (sym (end_of-other (f d) big d_to_e)) ∙ ap (λ x. L (end_of (f x))) (sym e)))))
-                | inr nd ↦
-                    elim (cases_eq i (g d)) [
-                      inl e ↦
-                        ap (λ x. L (end_of x)) e ∙ (ap L end_of-e ∙ (step q lq ∙ (ap L bare_q ∙ (ap L (sym (end_of-other (f (g d)) e_to_d big')) ∙ ap (λ x. L (end_of (f x))) (sym e)))))
-                    | inr ne ↦
-                        let fd : f i ≢ d = λ s. np (w.apart i p l lp (s ∙ sym fp)) in
-                        let fe : f i ≢ g d = λ s. nq (w.apart i q l lq (s ∙ sym fq)) in
-                        ap L (end_of-other i nd ne) ∙ (step i l ∙ (ap L (bare_other i l np nq nd ne) ∙ ap L (sym (end_of-other (f i) fd fe))))
-                    ]
-                ]
+              | inl e ↦ ap L (end_of-other i (λ s. q_d (sym e ∙ s)) (λ s. q_e (sym e ∙ s)) ∙ e) ∙ sym (ap (λ x. L (end_of x)) (ap f e ∙ fq) ∙ ap L end_of-e)
+              | inr nq ↦
+                  elim (cases_eq i d) [
+                    | inl e ↦
+                        ap (λ x. L (end_of x)) e ∙ (ap L end_of-d ∙ (step p lp ∙ (ap L bare_p ∙ (ap L (sym (end_of-other (f d) big d_to_e)) ∙ ap (λ x. L (end_of (f x))) (sym e)))))
+                    | inr nd ↦
+                        elim (cases_eq i (g d)) [
+                          | inl e ↦
+                              ap (λ x. L (end_of x)) e ∙ (ap L end_of-e ∙ (step q lq ∙ (ap L bare_q ∙ (ap L (sym (end_of-other (f (g d)) e_to_d big')) ∙ ap (λ x. L (end_of (f x))) (sym e)))))
+                          | inr ne ↦
+                              let fd : f i ≢ d = λ s. np (w.apart i p l lp (s ∙ sym fp)) in
+                              let fe : f i ≢ g d = λ s. nq (w.apart i q l lq (s ∙ sym fq)) in
+                              ap L (end_of-other i nd ne) ∙ (step i l ∙ (ap L (bare_other i l np nq nd ne) ∙ ap L (sym (end_of-other (f i) fd fe))))
+                        ]
+                  ]
             ]
-        ])
+      ])
 
   -- the other darts of the two vertices are on one orbit
   pub on_first : (i : ℕ) → i < k → i ≢ d → Together (orbits_of f k) i d → Together (orbits_of contracted k) i p
@@ -263,35 +263,35 @@ module _ (f g : ℕ → ℕ) (k m d p q : ℕ) (double : k ≡ m + m) (w : IsPer
   face3_is : (i : ℕ) → i < k → after contracted g i ≡ face3 i
   face3_is i l =
       elim (cases_eq i d) [
-        inl e ↦
-          ap (λ x. contracted (g x)) e ∙ (contracted_e ∙ sym (ap face3 e ∙ (ap face2 (swapped_first d (g d)) ∙ face2_e)))
-      | inr nd ↦
-          elim (cases_eq i (g d)) [
-            inl e ↦
-              ap (λ x. contracted (g x)) e ∙ (ap contracted (v.back d ld) ∙ (contracted_d ∙ sym (ap face3 e ∙ (ap face2 (swapped_second d (g d)) ∙ face2_d))))
-          | inr ne ↦
-              let rest : face3 i ≡ face2 i = ap face2 (swapped_other d (g d) i nd ne) in
-              elim (cases_eq i (g p)) [
-                inl e ↦
-                  let at : face2 (g p) ≡ f (g d) = lone_other face1 (g q) (g d) (g p) gp_gq gp_e ∙ lone_before face (g p) d in
-                  ap (λ x. contracted (g x)) e ∙ (ap contracted (v.back p lp) ∙ (contracted_p ∙ sym (rest ∙ (ap face2 e ∙ at))))
-              | inr np ↦
-                  elim (cases_eq i (g q)) [
-                    inl e ↦
-                      let one : face1 (g d) ≡ f d = lone_other face (g p) d (g d) (λ s. gp_e (sym s)) (λ s. d_e (sym s)) ∙ face_e in
-                      let at : face2 (g q) ≡ f d = lone_before face1 (g q) (g d) ∙ one in
-                      ap (λ x. contracted (g x)) e ∙ (ap contracted (v.back q lq) ∙ (contracted_q ∙ sym (rest ∙ (ap face2 e ∙ at))))
-                  | inr nq ↦
-                      let one : face1 i ≡ face i = lone_other face (g p) d i np nd in
-                      let two : face2 i ≡ face i = lone_other face1 (g q) (g d) i nq ne ∙ one in
-                      let gip : g i ≢ p = λ s. np (sym (v.back i l) ∙ ap g s) in
-                      let giq : g i ≢ q = λ s. nq (sym (v.back i l) ∙ ap g s) in
-                      let gid : g i ≢ d = λ s. ne (sym (v.back i l) ∙ ap g s) in
-                      let gie : g i ≢ g d = λ s. nd (gw.apart i d l ld s) in
-                      contracted_other (g i) (v.within i l) gip giq gid gie ∙ sym (rest ∙ two)
+        | inl e ↦
+            ap (λ x. contracted (g x)) e ∙ (contracted_e ∙ sym (ap face3 e ∙ (ap face2 (swapped_first d (g d)) ∙ face2_e)))
+        | inr nd ↦
+            elim (cases_eq i (g d)) [
+              | inl e ↦
+                  ap (λ x. contracted (g x)) e ∙ (ap contracted (v.back d ld) ∙ (contracted_d ∙ sym (ap face3 e ∙ (ap face2 (swapped_second d (g d)) ∙ face2_d))))
+              | inr ne ↦
+                  let rest : face3 i ≡ face2 i = ap face2 (swapped_other d (g d) i nd ne) in
+                  elim (cases_eq i (g p)) [
+                    | inl e ↦
+                        let at : face2 (g p) ≡ f (g d) = lone_other face1 (g q) (g d) (g p) gp_gq gp_e ∙ lone_before face (g p) d in
+                        ap (λ x. contracted (g x)) e ∙ (ap contracted (v.back p lp) ∙ (contracted_p ∙ sym (rest ∙ (ap face2 e ∙ at))))
+                    | inr np ↦
+                        elim (cases_eq i (g q)) [
+                          | inl e ↦
+                              let one : face1 (g d) ≡ f d = lone_other face (g p) d (g d) (λ s. gp_e (sym s)) (λ s. d_e (sym s)) ∙ face_e in
+                              let at : face2 (g q) ≡ f d = lone_before face1 (g q) (g d) ∙ one in
+                              ap (λ x. contracted (g x)) e ∙ (ap contracted (v.back q lq) ∙ (contracted_q ∙ sym (rest ∙ (ap face2 e ∙ at))))
+                          | inr nq ↦
+                              let one : face1 i ≡ face i = lone_other face (g p) d i np nd in
+                              let two : face2 i ≡ face i = lone_other face1 (g q) (g d) i nq ne ∙ one in
+                              let gip : g i ≢ p = λ s. np (sym (v.back i l) ∙ ap g s) in
+                              let giq : g i ≢ q = λ s. nq (sym (v.back i l) ∙ ap g s) in
+                              let gid : g i ≢ d = λ s. ne (sym (v.back i l) ∙ ap g s) in
+                              let gie : g i ≢ g d = λ s. nd (gw.apart i d l ld s) in
+                              contracted_other (g i) (v.within i l) gip giq gid gie ∙ sym (rest ∙ two)
+                        ]
                   ]
-              ]
-          ]
+            ]
       ]
 
   face_count-contracted : class_count (orbits_of (after contracted g) k) ≡ class_count (orbits_of face k) + 1
@@ -325,34 +325,34 @@ module _ (f g : ℕ → ℕ) (k m d p q : ℕ) (double : k ≡ m + m) (w : IsPer
       let L = label P in
       let step = orbits_of-step (after contracted g) k (IsPermuting-after contracted g k IsPermuting-contracted gw).within in
       orbits_of-marked (λ i. L (past i)) face k face_w.within (λ i l.
-        elim (cases_eq i d) [
-          inl e ↦ ap (λ x. L (past x)) e ∙ (ap L past-d ∙ (ap L (sym (past-other (f (g d)) e_to_d big')) ∙ ap (λ x. L (past (face x))) (sym e)))
+      elim (cases_eq i d) [
+        | inl e ↦ ap (λ x. L (past x)) e ∙ (ap L past-d ∙ (ap L (sym (past-other (f (g d)) e_to_d big')) ∙ ap (λ x. L (past (face x))) (sym e)))
         | inr nd ↦
             elim (cases_eq i (g d)) [
-              inl e ↦ ap (λ x. L (past x)) e ∙ (ap L past-e ∙ (ap L (sym (past-other (f d) big d_to_e)) ∙ sym (ap (λ x. L (past (face x))) e ∙ ap (λ x. L (past x)) face_e)))
-            | inr ne ↦
-                elim (cases_eq i (g p)) [
-                  inl e ↦
-                    let next : after contracted g (g p) ≡ f (g d) = ap contracted (v.back p lp) ∙ contracted_p in
-                    ap (λ x. L (past x)) e ∙ (ap L (past-other (g p) gp_d gp_e) ∙ (step (g p) gp_in ∙ (ap L (next ∙ sym past-d) ∙ (ap (λ x. L (past x)) (sym face_gp) ∙ ap (λ x. L (past (face x))) (sym e)))))
-                | inr np ↦
-                    elim (cases_eq i (g q)) [
-                      inl e ↦
-                        let next : after contracted g (g q) ≡ f d = ap contracted (v.back q lq) ∙ contracted_q in
-                        ap (λ x. L (past x)) e ∙ (ap L (past-other (g q) gq_d gq_e) ∙ (step (g q) gq_in ∙ (ap L (next ∙ sym past-e) ∙ (ap (λ x. L (past x)) (sym face_gq) ∙ ap (λ x. L (past (face x))) (sym e)))))
-                    | inr nq ↦
-                        let gip : g i ≢ p = λ s. np (sym (v.back i l) ∙ ap g s) in
-                        let giq : g i ≢ q = λ s. nq (sym (v.back i l) ∙ ap g s) in
-                        let gid : g i ≢ d = λ s. ne (sym (v.back i l) ∙ ap g s) in
-                        let gie : g i ≢ g d = λ s. nd (gw.apart i d l ld s) in
-                        let same : after contracted g i ≡ face i = contracted_other (g i) (v.within i l) gip giq gid gie in
-                        let fd : face i ≢ d = λ s. np (face_w.apart i (g p) l gp_in (s ∙ sym face_gp)) in
-                        let fe : face i ≢ g d = λ s. nq (face_w.apart i (g q) l gq_in (s ∙ sym face_gq)) in
-                        ap L (past-other i nd ne) ∙ (step i l ∙ (ap L same ∙ ap L (sym (past-other (face i) fd fe))))
-                    ]
-                ]
+              | inl e ↦ ap (λ x. L (past x)) e ∙ (ap L past-e ∙ (ap L (sym (past-other (f d) big d_to_e)) ∙ sym (ap (λ x. L (past (face x))) e ∙ ap (λ x. L (past x)) face_e)))
+              | inr ne ↦
+                  elim (cases_eq i (g p)) [
+                    | inl e ↦
+                        let next : after contracted g (g p) ≡ f (g d) = ap contracted (v.back p lp) ∙ contracted_p in
+                        ap (λ x. L (past x)) e ∙ (ap L (past-other (g p) gp_d gp_e) ∙ (step (g p) gp_in ∙ (ap L (next ∙ sym past-d) ∙ (ap (λ x. L (past x)) (sym face_gp) ∙ ap (λ x. L (past (face x))) (sym e)))))
+                    | inr np ↦
+                        elim (cases_eq i (g q)) [
+                          | inl e ↦
+                              let next : after contracted g (g q) ≡ f d = ap contracted (v.back q lq) ∙ contracted_q in
+                              ap (λ x. L (past x)) e ∙ (ap L (past-other (g q) gq_d gq_e) ∙ (step (g q) gq_in ∙ (ap L (next ∙ sym past-e) ∙ (ap (λ x. L (past x)) (sym face_gq) ∙ ap (λ x. L (past (face x))) (sym e)))))
+                          | inr nq ↦
+                              let gip : g i ≢ p = λ s. np (sym (v.back i l) ∙ ap g s) in
+                              let giq : g i ≢ q = λ s. nq (sym (v.back i l) ∙ ap g s) in
+                              let gid : g i ≢ d = λ s. ne (sym (v.back i l) ∙ ap g s) in
+                              let gie : g i ≢ g d = λ s. nd (gw.apart i d l ld s) in
+                              let same : after contracted g i ≡ face i = contracted_other (g i) (v.within i l) gip giq gid gie in
+                              let fd : face i ≢ d = λ s. np (face_w.apart i (g p) l gp_in (s ∙ sym face_gp)) in
+                              let fe : face i ≢ g d = λ s. nq (face_w.apart i (g q) l gq_in (s ∙ sym face_gq)) in
+                              ap L (past-other i nd ne) ∙ (step i l ∙ (ap L same ∙ ap L (sym (past-other (face i) fd fe))))
+                        ]
+                  ]
             ]
-        ])
+      ])
 
   -- ---- components
   abbrev J2 : List ℕ
@@ -375,8 +375,8 @@ module _ (f g : ℕ → ℕ) (k m d p q : ℕ) (double : k ≡ m + m) (w : IsPer
       let kept_g = steady g gw twin_o back_o in
       let same = joint-marked bare g k IsPermuting-bare.within v.within (λ y. one_if (kept y)) (λ y s. ap one_if (kept_b y s)) (λ y s. ap one_if (kept_g y s)) x d l ld t in
       elim (cases_Bool (kept x)) [
-        inl s ↦ absurd (omega (arith, same, ap one_if s, ap one_if (neither_first d (g d))))
-      | inr s ↦ elim (neither_cases d (g d) x s) [ inl e ↦ nd e | inr e ↦ ne e ]
+        | inl s ↦ absurd (omega (arith, same, ap one_if s, ap one_if (neither_first d (g d))))
+        | inr s ↦ elim (neither_cases d (g d) x s) [ inl e ↦ nd e | inr e ↦ ne e ]
       ]
 
   d_with_e : Together J2 d (g d)
@@ -389,7 +389,7 @@ module _ (f g : ℕ → ℕ) (k m d p q : ℕ) (double : k ≡ m + m) (w : IsPer
       let second = joint-cut (exchange f p d) g k q (g d) w1 v.within lq e_in q_e (lone_together (exchange f p d) k q (g d) w1 lq fq') in
       let twice : (i : ℕ) → i < k → exchange contracted p q i ≡ bare i = λ i l. ap bare (swapped-swapped p q i) in
       let third : joint contracted g k ≡ merge J2 p q =
-          joint-cut contracted g k p q IsPermuting-contracted v.within lp lq p_q orbits_joined ∙ ap (λ l. merge l p q) (joint-same (exchange contracted p q) bare g k twice) in
+      joint-cut contracted g k p q IsPermuting-contracted v.within lp lq p_q orbits_joined ∙ ap (λ l. merge l p q) (joint-same (exchange contracted p q) bare g k twice) in
       let n = n2 in
       let kn = length-joint (exchange f p d) g k w1.within v.within in
       let kw = IsLabels-joint (exchange f p d) g k w1.within v.within in
@@ -397,20 +397,20 @@ module _ (f g : ℕ → ℕ) (k m d p q : ℕ) (double : k ≡ m + m) (w : IsPer
       let q_out : Together J2 q (g d) → ⊥ = λ t. out_alone q lq q_d q_e (t ∙ sym d_with_e) in
       let less : class_count J2 ≡ class_count K + 1 = class_count-merge_apart J2 q (g d) w2 (omega arith) (omega arith) q_out ∙ ap (λ l. class_count l + 1) (sym second) in
       elim (cases_Together J2 p q) [
-        inl t ↦
-          let over : Together K p d = rw second (joined-merge J2 q (g d) w2 (omega arith) (omega arith) p d (inr (inl (t, sym d_with_e)))) in
-          let same : class_count (joint f g k) ≡ class_count K = ap class_count (first ∙ merge-within K p d kw (omega arith) (omega arith) over) in
-          let same' : class_count (joint contracted g k) ≡ class_count J2 = ap class_count (third ∙ merge-within J2 p q w2 (omega arith) (omega arith) t) in
-          omega arith
-      | inr t ↦
-          let far : Together K p d → ⊥ = λ s.
+        | inl t ↦
+            let over : Together K p d = rw second (joined-merge J2 q (g d) w2 (omega arith) (omega arith) p d (inr (inl (t, sym d_with_e)))) in
+            let same : class_count (joint f g k) ≡ class_count K = ap class_count (first ∙ merge-within K p d kw (omega arith) (omega arith) over) in
+            let same' : class_count (joint contracted g k) ≡ class_count J2 = ap class_count (third ∙ merge-within J2 p q w2 (omega arith) (omega arith) t) in
+            omega arith
+        | inr t ↦
+            let far : Together K p d → ⊥ = λ s.
             elim (merge-joined J2 q (g d) w2 (omega arith) (omega arith) p d (rw second at s)) [
-              inl r ↦ out_alone p lp p_d p_e r
-            | inr r ↦ elim r [ inl c ↦ t c.0 | inr c ↦ out_alone p lp p_d p_e (c.0 ∙ sym d_with_e) ]
+              | inl r ↦ out_alone p lp p_d p_e r
+              | inr r ↦ elim r [ inl c ↦ t c.0 | inr c ↦ out_alone p lp p_d p_e (c.0 ∙ sym d_with_e) ]
             ] in
-          let fewer : class_count K ≡ class_count (joint f g k) + 1 = class_count-merge_apart K p d kw (omega arith) (omega arith) far ∙ ap (λ l. class_count l + 1) (sym first) in
-          let fewer' : class_count J2 ≡ class_count (joint contracted g k) + 1 = class_count-merge_apart J2 p q w2 (omega arith) (omega arith) t ∙ ap (λ l. class_count l + 1) (sym third) in
-          omega arith
+            let fewer : class_count K ≡ class_count (joint f g k) + 1 = class_count-merge_apart K p d kw (omega arith) (omega arith) far ∙ ap (λ l. class_count l + 1) (sym first) in
+            let fewer' : class_count J2 ≡ class_count (joint contracted g k) + 1 = class_count-merge_apart J2 p q w2 (omega arith) (omega arith) t ∙ ap (λ l. class_count l + 1) (sym third) in
+            omega arith
       ]
 
   -- what balances before balances after
