@@ -17,10 +17,10 @@ use Rattle.map_definitions.proofs.DartPaths.{tail_of-number, twin-number}
 use Rattle.map_definitions.proofs.CornerSplit.{rotation-number}
 
 module _ (lists : Lists) (simple : IsSimpleMap lists) (u v : ℕ) (edge : HasDart lists u v) where
-  back : HasDart lists v u
+  pub back : HasDart lists v u
   back = simple.both_ways u v edge
 
-  u_not_v : u ≢ v
+  pub u_not_v : u ≢ v
   u_not_v e = simple.no_loop u v edge (sym e)
 
   pub length-without_edge : length (without_edge lists u v) ≡ length lists
@@ -154,63 +154,55 @@ module _ (lists : Lists) (simple : IsSimpleMap lists) (u v : ℕ) (edge : HasDar
 
 -- The darts that are left, numbered anew: the two permutations of the map that is left are those of the map, with the edge taken off and left out.
 module _ (lists : Lists) (simple : IsSimpleMap lists) (u v : ℕ) (edge : HasDart lists u v) where
-  rest : Lists
+  abbrev rest : Lists
   rest = without_edge lists u v
 
-  simple_rest : IsSimpleMap rest
-  unfolding rest
+  pub simple_rest : IsSimpleMap rest
   simple_rest = IsSimpleMap-without_edge lists simple u v edge
 
   -- the numbers of the edge's darts
-  out : ℕ
+  abbrev out : ℕ
   out = dart_number lists (u, v)
 
-  home : ℕ
+  abbrev home : ℕ
   home = dart_number lists (v, u)
 
-  in_out : out < dart_count lists
-  unfolding out
+  pub in_out : out < dart_count lists
   in_out = dart_number-lt lists u v edge
 
-  twin_out : twin lists out ≡ home
-  unfolding out home
+  pub twin_out : twin lists out ≡ home
   twin_out = twin-number lists u v edge
 
   -- the old number of a new one, and the new number of an old one
-  to : ℕ → ℕ
+  abbrev to : ℕ → ℕ
   to i = dart_number lists (dart_of rest i)
 
-  new : ℕ → ℕ
+  abbrev new : ℕ → ℕ
   new y = dart_number rest (dart_of lists y)
 
   -- the dart of a new number
-  is_left : (i : ℕ) → i < dart_count rest → HasDart rest (dart_of rest i).0 (dart_of rest i).1
+  pub is_left : (i : ℕ) → i < dart_count rest → HasDart rest (dart_of rest i).0 (dart_of rest i).1
   is_left i l = (dart_of-number rest simple_rest i l).is_dart
 
-  was : (i : ℕ) → i < dart_count rest → HasDart lists (dart_of rest i).0 (dart_of rest i).1
-  unfolding rest
+  pub was : (i : ℕ) → i < dart_count rest → HasDart lists (dart_of rest i).0 (dart_of rest i).1
   was i l = (dart_old lists simple u v edge (dart_of rest i).0 (dart_of rest i).1 (is_left i l)).0
 
-  to_not_out : (i : ℕ) → i < dart_count rest → to i ≢ out
-  unfolding rest out to
+  pub to_not_out : (i : ℕ) → i < dart_count rest → to i ≢ out
   to_not_out i l e =
       let d = dart_of rest i in
       let same = dart_number-injective lists d (u, v) (was i l) edge e in
       (dart_old lists simple u v edge d.0 d.1 (is_left i l)).1 (ap (λ x. x.0) same) (ap (λ x. x.1) same)
 
-  to_not_home : (i : ℕ) → i < dart_count rest → to i ≢ home
-  unfolding rest home to
+  pub to_not_home : (i : ℕ) → i < dart_count rest → to i ≢ home
   to_not_home i l e =
       let d = dart_of rest i in
       let same = dart_number-injective lists d (v, u) (was i l) (back lists simple u v edge) e in
       (dart_old lists simple u v edge d.0 d.1 (is_left i l)).2 (ap (λ x. x.0) same) (ap (λ x. x.1) same)
 
-  to_below : (i : ℕ) → i < dart_count rest → to i < dart_count lists
-  unfolding to
+  pub to_below : (i : ℕ) → i < dart_count rest → to i < dart_count lists
   to_below i l = dart_number-lt lists (dart_of rest i).0 (dart_of rest i).1 (was i l)
 
-  new_dart : (y : ℕ) → y < dart_count lists → neither out home y ≡ true → HasDart rest (dart_of lists y).0 (dart_of lists y).1
-  unfolding rest out home
+  pub new_dart : (y : ℕ) → y < dart_count lists → neither out home y ≡ true → HasDart rest (dart_of lists y).0 (dart_of lists y).1
   new_dart y l kept =
       let d = dart_of lists y in
       let h = dart_of-number lists simple y l in
@@ -219,8 +211,7 @@ module _ (lists : Lists) (simple : IsSimpleMap lists) (u v : ℕ) (edge : HasDar
       (λ e e'. other.0 (sym h.number ∙ ap₂ (λ a b. dart_number lists (a, b)) e e'))
       (λ e e'. other.1 (sym h.number ∙ ap₂ (λ a b. dart_number lists (a, b)) e e'))
 
-  renumbering : IsRenumbering to new (neither out home) (dart_count lists) (dart_count rest)
-  unfolding to new
+  pub renumbering : IsRenumbering to new (neither out home) (dart_count lists) (dart_count rest)
   renumbering =
       record {
         to_below = to_below;
@@ -231,32 +222,27 @@ module _ (lists : Lists) (simple : IsSimpleMap lists) (u v : ℕ) (edge : HasDar
       }
 
   -- the twin goes over
-  twin_over : (i : ℕ) → i < dart_count rest → twin lists (to i) ≡ to (twin rest i)
-  unfolding to
+  pub twin_over : (i : ℕ) → i < dart_count rest → twin lists (to i) ≡ to (twin rest i)
   twin_over i l =
       let d = dart_of rest i in
       twin-number lists d.0 d.1 (was i l) ∙ sym (ap (dart_number lists) (dart_of-twin rest simple_rest i l))
 
-  apart : rotation lists out ≢ home
-  unfolding out home
+  pub apart : rotation lists out ≢ home
   apart e =
       u_not_v lists simple u v edge (sym (tail_of-number lists u v edge) ∙ (sym (tail_of-rotation lists simple (dart_number lists (u, v)) in_out) ∙ (ap (tail_of lists) e ∙ tail_of-number lists v u (back lists simple u v edge))))
 
-  in_home : home < dart_count lists
-  unfolding home
+  pub in_home : home < dart_count lists
   in_home = dart_number-lt lists v u (back lists simple u v edge)
 
-  apart' : rotation lists home ≢ out
-  unfolding out home
+  pub apart' : rotation lists home ≢ out
   apart' e =
       u_not_v lists simple u v edge (sym (sym (tail_of-number lists v u (back lists simple u v edge)) ∙ (sym (tail_of-rotation lists simple (dart_number lists (v, u)) in_home) ∙ (ap (tail_of lists) e ∙ tail_of-number lists u v edge))))
 
   module _ (p q : ℕ) (lp : p < dart_count lists) (lq : q < dart_count lists) (fp : rotation lists p ≡ out) (fq : exchange (rotation lists) p out q ≡ twin lists out) where
-    lone : ℕ → ℕ
+    abbrev lone : ℕ → ℕ
     lone = exchange (exchange (rotation lists) p out) q (twin lists out)
 
-    rotation_over : (i : ℕ) → i < dart_count rest → lone (to i) ≡ to (rotation rest i)
-    unfolding rest to out home lone
+    pub rotation_over : (i : ℕ) → i < dart_count rest → lone (to i) ≡ to (rotation rest i)
     rotation_over i l =
         let f = rotation lists in
         let g = twin lists in
@@ -303,7 +289,6 @@ module _ (lists : Lists) (simple : IsSimpleMap lists) (u v : ℕ) (edge : HasDar
         ]
 
     rest_balances : Balances (rotation lists) (twin lists) (dart_count lists) (edge_count lists) 0 → Balances (rotation rest) (twin rest) (dart_count rest) (edge_count rest) 0
-    unfolding rest lone
     rest_balances plane =
         let renumbered = subst (λ e. IsRenumbering to new (neither out e) (dart_count lists) (dart_count rest)) (sym twin_out) renumbering in
         lone_edge_out (rotation lists) (twin lists) (dart_count lists) (edge_count lists) out p q (two_m lists simple) (IsPermuting-rotation lists simple) (IsPairing-twin lists simple) in_out lp lq fp fq
@@ -312,7 +297,6 @@ module _ (lists : Lists) (simple : IsSimpleMap lists) (u v : ℕ) (edge : HasDar
         (IsPermuting-rotation rest simple_rest).within (IsPairing-twin rest simple_rest).within renumbered rotation_over twin_over plane
 
   pub edge_removed_plane : IsPlane lists → IsPlane (without_edge lists u v)
-  unfolding rest
   edge_removed_plane plane =
       let k = dart_count lists in
       let w = IsPermuting-rotation lists simple in

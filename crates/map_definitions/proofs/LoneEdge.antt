@@ -34,23 +34,23 @@ module _ (f g : ℕ → ℕ) (k m d p q : ℕ) (double : k ≡ m + m) (w : IsPer
   abbrev pub lone_edge : ℕ → ℕ
   lone_edge = exchange (exchange f p d) q (g d)
 
-  le : g d < k
+  pub le : g d < k
   le = v.within d ld
 
-  d_not_e : d ≢ g d
+  pub d_not_e : d ≢ g d
   d_not_e e = v.other d ld (sym e)
 
-  w1 : IsPermuting (exchange f p d) k
+  pub w1 : IsPermuting (exchange f p d) k
   w1 = IsPermuting-exchange f k p d lp ld w
 
   pub IsPermuting-lone_edge : IsPermuting lone_edge k
   IsPermuting-lone_edge = IsPermuting-exchange (exchange f p d) k q (g d) lq le w1
 
-  p_not_e : p ≢ g d
+  pub p_not_e : p ≢ g d
   p_not_e e = apart' (ap f (sym e) ∙ fp)
 
   -- e leads where it led
-  one_e : exchange f p d (g d) ≡ f (g d)
+  pub one_e : exchange f p d (g d) ≡ f (g d)
   one_e = lone_other f p d (g d) (λ e. p_not_e (sym e)) (λ e. d_not_e (sym e))
 
   pub lone_edge-first : lone_edge d ≡ d
@@ -121,7 +121,7 @@ module _ (f g : ℕ → ℕ) (k m d p q : ℕ) (double : k ≡ m + m) (w : IsPer
       ]
 
   -- d and its partner are two orbits
-  lone_points : one_if (eqb (label (orbits_of lone_edge k) d) d) + one_if (eqb (label (orbits_of lone_edge k) (g d)) (g d)) ≡ 2
+  pub lone_points : one_if (eqb (label (orbits_of lone_edge k) d) d) + one_if (eqb (label (orbits_of lone_edge k) (g d)) (g d)) ≡ 2
   lone_points =
       let O = orbits_of lone_edge k in
       let made = IsGenerated-orbits lone_edge k IsPermuting-lone_edge.within in
