@@ -19,6 +19,7 @@ pub mod WithoutEntry
 pub mod EdgeRemoved
 pub mod Contract
 pub mod DigonSplit
+pub mod EdgeFaces
 pub mod DartLemmas
 pub mod FaultLemmas
 pub mod DartCounts
