@@ -1,11 +1,11 @@
 -- Entries of an arc, one after another.
-use Rattle.std.proofs.Common.{◌≡◌, ◌≢◌, ℕ, suc, ◌+◌, ◌-◌, ◌<◌, cond, ltb, List, length, get_or, take, drop, AllPairs, Contains, sym, ap, ◌∙◌, inl, inr, arith, length-append, length-take, length-drop}
-use Rattle.std.proofs.lemmas.Bool.{cases_lt}
+use Rattle.std.proofs.Common.{◌≡◌, ◌≢◌, ℕ, suc, ◌+◌, ◌-◌, ◌<◌, cond, ltb, List, length, get_or, take, drop, AllPairs, Contains, sym, ap, ◌∙◌, subst, inl, inr, arith, length-append, length-take, length-drop}
+use Rattle.std.proofs.lemmas.Bool.{cases_lt, cases_eq}
 use Rattle.std.proofs.lemmas.Bool.Decides.{nat_tests}
 use Rattle.std.proofs.lemmas.List.{get_or_default, get_or-take, get_or-drop, get_or_append_left, get_or-append_right, length-take-le}
 use Rattle.map_definitions.specs.Maps.{place_of, entry_after}
 use Rattle.map_definitions.specs.Paths.{from_entry, arc}
-use Rattle.map_definitions.proofs.DartLemmas.{place_of-lt-length, get_or-place_of, before_place_of, place_of-get_or, place_after, entry_after-place}
+use Rattle.map_definitions.proofs.DartLemmas.{place_of-le, entry_after-injective, place_of-lt-length, get_or-place_of, before_place_of, place_of-get_or, place_after, entry_after-place}
 
 -- place i of the turned list, in the list
 abbrev turned_place : ℕ → ℕ → ℕ → ℕ
@@ -96,3 +96,104 @@ module _ (us : List ℕ) (a : ℕ) (distinct : AllPairs ◌≢◌ us) (has : Con
   -- no entry of an arc is b
   pub before_end : (b i : ℕ) → i < place_of b (from_entry a us) → get_or (from_entry a us) i 0 ≢ b
   before_end b i l = before_place_of b (from_entry a us) i 0 l
+
+  -- an arc holds no b
+  pub arc-not_end : (b s : ℕ) → Contains (arc us a b) s → s ≢ b
+  arc-not_end b s h e =
+      let at = arc-at b s h in
+      before_end b at.0 at.2 (at.3 ∙ e)
+
+  -- where a is b it holds nothing
+  pub arc-itself : (s : ℕ) → ¬ Contains (arc us a a) s
+  arc-itself s h =
+      let at = arc-at a s h in
+      let first = place_of-le a (from_entry a us) 0 0 from_entry-first in
+      omega (arith, first, at.2)
+
+  -- an entry before b is in the arc
+  pub arc-has : (b i : ℕ) → i < length us → i < place_of b (from_entry a us) → Contains (arc us a b) (get_or (from_entry a us) i 0)
+  arc-has b i l m =
+      let r = from_entry a us in
+      let n = length-from_entry in
+      let t = length-take (place_of b r) r in
+      (i, omega (arith, t), get_or-take (place_of b r) r i (get_or r i 0) m ∙ get_or_default r i (get_or r i 0) 0 (omega arith))
+
+  -- every entry of the list is one of the turned list
+  pub from_entry-has : (z : ℕ) → Contains us z → Contains (from_entry a us) z
+  from_entry-has z h =
+      let n = length us in
+      let p = place_of a us in
+      let j = place_of z us in
+      let l = place_of-lt-length z us h in
+      let i = cond (ltb j p) (j + n - p) (j - p) in
+      let in_p = in_a in
+      let in_i : i < n = grind (arith, nat_tests) in
+      let same : turned_place n p i ≡ j = grind (arith, nat_tests) in
+      let m = length-from_entry in
+      (i, omega arith, get_or_default (from_entry a us) i z 0 (omega arith) ∙ (from_entry-at i in_i ∙ (ap (λ q. get_or us q 0) same ∙ get_or-place_of z us 0 l)))
+
+  -- the turned list holds nothing twice
+  pub from_entry-apart : (i j : ℕ) → i < length us → j < length us → get_or (from_entry a us) i 0 ≡ get_or (from_entry a us) j 0 → i ≡ j
+  from_entry-apart i j l m e =
+      let n = length us in
+      let p = place_of a us in
+      let qi = turned_place-lt n p i in_a l in
+      let qj = turned_place-lt n p j in_a m in
+      let same : turned_place n p i ≡ turned_place n p j =
+      sym (place_of-get_or us (turned_place n p i) 0 distinct qi)
+      ∙ (ap (λ y. place_of y us) (sym (from_entry-at i l) ∙ (e ∙ from_entry-at j m)) ∙ place_of-get_or us (turned_place n p j) 0 distinct qj) in
+      turned_place-apart n p i j in_a l m same
+
+  -- an arc to an entry of the list does not come round to what stands before its start
+  pub arc-not_before : (z b s : ℕ) → Contains us b → entry_after z us ≡ a → Contains (arc us a b) s → s ≢ z
+  arc-not_before z b s has_b e h q =
+      let at = arc-at b s h in
+      let r = from_entry a us in
+      let n = length-from_entry in
+      let in_b = place_of-lt-length b r (from_entry-has b has_b) in
+      let more : suc at.0 < length us = let l = at.2 in omega arith in
+      from_entry-not_first (suc at.0) (omega arith) more (sym (from_entry-next at.0 more) ∙ (ap (λ y. entry_after y us) (at.3 ∙ q) ∙ e))
+
+  -- what stands before b is in the arc to b, where that is not a
+  pub arc-last : (b s : ℕ) → a ≢ b → Contains us b → Contains us s → entry_after s us ≡ b → Contains (arc us a b) s
+  arc-last b s ne has_b has_s e =
+      let r = from_entry a us in
+      let n = length-from_entry in
+      let in_b = place_of-lt-length b r (from_entry-has b has_b) in
+      let j = place_of b r in
+      let at_b = get_or-place_of b r 0 in_b in
+      let pos : 0 < j = elim (cases_eq j 0) [ inl z ↦ absurd (ne (sym from_entry-first ∙ (ap (λ q. get_or r q 0) (sym z) ∙ at_b))) | inr z ↦ omega arith ] in
+      let i = j - 1 in
+      let next : suc i ≡ j = omega arith in
+      let step = from_entry-next i (omega arith) in
+      let same = entry_after-injective us (get_or r i 0) s distinct (from_entry-in i (omega arith)) has_s (step ∙ (ap (λ q. get_or r q 0) next ∙ (at_b ∙ sym e))) in
+      subst (Contains (arc us a b)) same (arc-has b i (omega arith) (omega arith))
+
+  -- an arc grows by an entry where its end moves on, but not round to its start
+  pub arc-wider : (b c s : ℕ) → Contains us b → entry_after b us ≡ c → a ≢ c → Contains (arc us a b) s → Contains (arc us a c) s
+  arc-wider b c s has_b e ne h =
+      let r = from_entry a us in
+      let n = length-from_entry in
+      let at = arc-at b s h in
+      let in_b = place_of-lt-length b r (from_entry-has b has_b) in
+      let j = place_of b r in
+      let at_b = get_or-place_of b r 0 in_b in
+      let later : at.0 < place_of c r =
+      elim (cases_lt at.0 (place_of c r)) [
+        | inl l ↦ l
+        | inr l ↦
+            let in_c : place_of c r < length r = let m = at.1 in omega arith in
+            let at_c = get_or-place_of c r 0 in_c in
+            elim (cases_eq (place_of c r) 0) [
+              | inl z ↦ absurd (ne (sym from_entry-first ∙ (ap (λ q. get_or r q 0) (sym z) ∙ at_c)))
+              | inr z ↦
+                  let i = place_of c r - 1 in
+                  let next : suc i ≡ place_of c r = omega arith in
+                  let step = from_entry-next i (omega arith) in
+                  let same = entry_after-injective us (get_or r i 0) b distinct (from_entry-in i (omega arith)) has_b (step ∙ (ap (λ q. get_or r q 0) next ∙ (at_c ∙ sym e))) in
+                  let j_is = from_entry-apart i j (omega arith) (omega arith) (same ∙ sym at_b) in
+                  let before = at.2 in
+                  absurd (omega arith)
+            ]
+      ] in
+      subst (Contains (arc us a c)) at.3 (arc-has c at.0 at.1 later)

@@ -13,7 +13,7 @@ use Rattle.map_definitions.proofs.PlaneCuts.{plane_cut-apart, image_of_some}
 use Rattle.map_definitions.proofs.DartLemmas.{dart_number-lt, get_or-dart_number, dart_number-injective, HasDart-follows}
 use Rattle.map_definitions.proofs.DartPermutations.{tail_of, turned_dart, rotation, twin, IsPermuting-rotation, IsPairing-twin, tail_of-rotation, same_orbit, orbits-face_images, balances_map, two_m}
 use Rattle.map_definitions.proofs.DartPaths.{tail_of-number, twin-number, HoldsRotation, path_in_class}
-use Rattle.map_definitions.proofs.ArcLemmas.{from_entry-first, from_entry-in, from_entry-next, from_entry-not_first, arc-at, before_end}
+use Rattle.map_definitions.proofs.ArcLemmas.{from_entry-first, from_entry-in, from_entry-next, from_entry-not_first, arc-at, arc-has, arc-not_end}
 
 -- the rotation of a dart's number
 pub rotation-number : (lists : Lists) (v u : ℕ) → HasDart lists v u → rotation lists (dart_number lists (v, u)) ≡ dart_number lists (v, entry_after u (list_of lists v))
@@ -25,7 +25,7 @@ numbers_apart lists v a b h h' e = ap (λ d. d.1) (dart_number-injective lists (
 
 -- Classes that hold the step from each entry of an arc to the next hold the whole arc.
 module _ (lists : Lists) (simple : IsSimpleMap lists) (labels : List ℕ) (v a b : ℕ) (has_a : HasDart lists v a) where
-  pub arc_in_class : ((s : ℕ) → HasDart lists v s → entry_after s (list_of lists v) ≢ a → entry_after s (list_of lists v) ≢ b → Together labels (dart_number lists (v, s)) (dart_number lists (v, entry_after s (list_of lists v)))) → (s : ℕ) → Contains (arc (list_of lists v) a b) s → Together labels (dart_number lists (v, a)) (dart_number lists (v, s))
+  pub arc_in_class : ((s : ℕ) → Contains (arc (list_of lists v) a b) s → Contains (arc (list_of lists v) a b) (entry_after s (list_of lists v)) → entry_after s (list_of lists v) ≢ a → Together labels (dart_number lists (v, s)) (dart_number lists (v, entry_after s (list_of lists v)))) → (s : ℕ) → Contains (arc (list_of lists v) a b) s → Together labels (dart_number lists (v, a)) (dart_number lists (v, s))
   arc_in_class step s h =
       let us = list_of lists v in
       let distinct = simple.no_repeat v has_a.0 in
@@ -40,9 +40,9 @@ module _ (lists : Lists) (simple : IsSimpleMap lists) (labels : List ℕ) (v a b
           let s = get_or (from_entry a us) i 0 in
           let next = from_entry-next us a distinct has_a.1 i l in
           let not_a : entry_after s us ≢ a = λ e. from_entry-not_first us a distinct has_a.1 (suc i) (omega arith) l (sym next ∙ e) in
-          let not_b : entry_after s us ≢ b = λ e. before_end us a distinct has_a.1 b (suc i) m (sym next ∙ e) in
-          go i (omega arith) (omega arith)
-          ∙ (step s (has_a.0, from_entry-in us a distinct has_a.1 i (omega arith)) not_a not_b ∙ ap (λ x. label labels (dart_number lists (v, x))) next)
+          let in_s = arc-has us a distinct has_a.1 b i (omega arith) (omega arith) in
+          let in_next = subst (Contains (arc us a b)) (sym next) (arc-has us a distinct has_a.1 b (suc i) l m) in
+          go i (omega arith) (omega arith) ∙ (step s in_s in_next not_a ∙ ap (λ x. label labels (dart_number lists (v, x))) next)
 
 -- an entry of an arc is a neighbour
 pub arc_dart : (lists : Lists) → IsSimpleMap lists → (v a b : ℕ) → HasDart lists v a → (s : ℕ) → Contains (arc (list_of lists v) a b) s → HasDart lists v s
@@ -127,8 +127,10 @@ module _ (lists : Lists) (simple : IsSimpleMap lists) (plane : IsPlane lists) (v
 
   pub corner_parts : (s t : ℕ) → Contains (arc (list_of lists v) a b) s → Contains (arc (list_of lists v) b a) t → (path : List ℕ) → JoinsAvoiding lists (v ∷ []) s t path → ⊥
   corner_parts s t in_s in_t path p =
-      let one = arc_in_class lists simple corner_classes v a b has_a corner_next s in_s in
-      let other = arc_in_class lists simple corner_classes v b a has_b (λ u h d d'. corner_next u h d' d) t in_t in
+      let us = list_of lists v in
+      let distinct = simple.no_repeat v has_a.0 in
+      let one = arc_in_class lists simple corner_classes v a b has_a (λ u h h' d. corner_next u (arc_dart lists simple v a b has_a u h) d (arc-not_end us a distinct has_a.1 b (entry_after u us) h')) s in_s in
+      let other = arc_in_class lists simple corner_classes v b a has_b (λ u h h' d. corner_next u (arc_dart lists simple v b a has_b u h) (arc-not_end us b distinct has_b.1 a (entry_after u us) h') d) t in_t in
       let has_s = arc_dart lists simple v a b has_a s in_s in
       let has_t = arc_dart lists simple v b a has_b t in_t in
       let back_s = simple.both_ways v s has_s in

@@ -269,6 +269,21 @@ module _ (lists : Lists) (simple : IsSimpleMap lists) where
       sym (first_in_class i l) ∙ (joint-second (rotation lists) (twin lists) (dart_count lists) IsPermuting-rotation.within IsPairing-twin.within i l ∙ first_in_class (twin lists i) n)) in
       first_in_class i l ∙ (first (tail_of lists i) (tail_of lists j) (dart_of-number i l).is_dart.0 (dart_of-number j m).is_dart.0 t ∙ sym (first_in_class j m))
 
+  -- the ends of an edge are in one component
+  pub edge_together : (u v : ℕ) → HasDart lists u v → Together components u v
+  edge_together u v h =
+      let i = dart_number lists (u, v) in
+      let at = get_or-dart_number lists u v (0, 0) h in
+      let l = dart_number-lt lists u v h in
+      ap (λ d. label components d.0) (sym at) ∙ (ends_together i l ∙ ap (λ d. label components d.0) (dart_of-twin i l ∙ ap twin_dart at))
+
+  -- a vertex without an edge is in a component with no other
+  pub isolated_apart : (v u : ℕ) → v < length lists → u < length lists → is_empty_list (list_of lists v) ≡ true → Together components u v → u ≡ v
+  isolated_apart v u l m e t =
+      let other : (x : ℕ) → has_edge lists x ≡ true → eqb x v ≡ false = λ x h. ne_eqb x v (λ q. false≢true (sym (ap not (ap (λ y. is_empty_list (list_of lists y)) q ∙ e)) ∙ h)) in
+      let same = components-marked (λ x. eqb x v) (λ i n. other (tail_of lists i) (has_edge-tail i n) ∙ sym (other (tail_of lists (twin lists i)) (has_edge-tail (twin lists i) (IsPairing-twin.within i n)))) u v m l t in
+      eqb-true u v (same ∙ eq-eqb v v refl)
+
   -- a vertex without an edge is a component of its own
   pub isolated_alone : (v : ℕ) → v < length lists → is_empty_list (list_of lists v) ≡ true → label components v ≡ v
   isolated_alone v l e =

@@ -1,12 +1,12 @@
 -- Classes that two functions generate, and what becomes of them where some numbers are left out and the rest numbered anew.
-use Rattle.std.proofs.Common.{◌≡◌, ◌≢◌, ◌⊎◌, ℕ, zero, suc, ◌+◌, ◌<◌, ◌≤◌, Bool, true, false, not, ◌&&◌, cond, eqb, List, length, refl, sym, ap, ◌∙◌, inl, inr, arith}
-use Rattle.std.proofs.lemmas.Bool.{cases_Bool, cases_eq, eq-eqb, ne_eqb, eqb-true, true≢false, false≢true}
-use Rattle.map_definitions.specs.Classes.{count_below, label, class_count}
+use Rattle.std.proofs.Common.{◌≡◌, ◌≢◌, ◌⊎◌, ℕ, zero, suc, ◌+◌, ◌<◌, Bool, true, false, not, ◌&&◌, cond, eqb, List, length, refl, sym, ap, ◌∙◌, inl, inr, arith}
+use Rattle.std.proofs.lemmas.Bool.{cases_Bool, cases_eq, eq-eqb, ne_eqb, true≢false}
+use Rattle.map_definitions.specs.Classes.{count_below, label}
 use Rattle.map_definitions.proofs.Counting.{one_if, count_below_but_two}
-use Rattle.map_definitions.proofs.Classes.{Together, IsLabels, Together-label}
+use Rattle.map_definitions.proofs.Classes.{Together, IsLabels}
 use Rattle.map_definitions.proofs.Orbits.{StaysBelow, orbits_of, length-orbits_of, IsLabels-orbits_of, orbits_of-step, orbits_of-marked}
 use Rattle.map_definitions.proofs.Bound.{joint, length-joint, IsLabels-joint, joint-first, joint-second, joint-marked}
-use Rattle.map_definitions.proofs.Transfer.{IsTransfer, class_count-transfer}
+use Rattle.map_definitions.proofs.Transfer.{IsTransfer}
 
 -- The least classes of the numbers below k in which each number is with its images under f and g.
 pub record IsGenerated (labels : List ℕ) (f g : ℕ → ℕ) (k : ℕ) : Type 0 where
@@ -28,7 +28,7 @@ IsGenerated-orbits f k stays =
       stays' = stays;
       first = orbits_of-step f k stays;
       second = orbits_of-step f k stays;
-      least = λ mark h h'. orbits_of-marked mark f k stays h
+      least = λ mark h h'. orbits_of-marked mark f k stays h;
     }
 
 -- joint classes by both
@@ -41,7 +41,7 @@ IsGenerated-joint f g k stays stays' =
       stays' = stays';
       first = joint-first f g k stays stays';
       second = joint-second f g k stays stays';
-      least = λ mark. joint-marked f g k stays stays' mark
+      least = λ mark. joint-marked f g k stays stays' mark;
     }
 
 -- The numbers below k that are kept are numbered anew, below k': `to` gives the old number, `new` the new one.
@@ -62,7 +62,7 @@ pub GoesOver-after : (to : ℕ → ℕ) (kept : ℕ → Bool) (k k' : ℕ) (f f'
 GoesOver-after to kept k k' f f' g g' stays stays' h h' =
     record {
       step = λ i l. ap f (h'.step i l) ∙ h.step (g' i) (stays' i l);
-      out = λ y l e. h.out (g y) (stays y l) (h'.out y l e)
+      out = λ y l e. h.out (g y) (stays y l) (h'.out y l e);
     }
 
 module _ (to new : ℕ → ℕ) (kept : ℕ → Bool) (k k' : ℕ) (r : IsRenumbering to new kept k k') where
@@ -81,18 +81,18 @@ module _ (to new : ℕ → ℕ) (kept : ℕ → Bool) (k k' : ℕ) (r : IsRenumb
   unfolding kept_mark
   kept_mark-step labels f f' stays h first y l =
       elim (cases_Bool (kept y)) [
-        inl e ↦
-          let s = kept_step f f' stays h y l e in
-          ap (λ c. cond c (suc (label labels (new y))) 0) e ∙ (ap suc (first (new y) (r.new_below y l e) ∙ ap (label labels) (sym s.1)) ∙ sym (ap (λ c. cond c (suc (label labels (new (f y)))) 0) s.0))
-      | inr e ↦
-          ap (λ c. cond c (suc (label labels (new y))) 0) e ∙ sym (ap (λ c. cond c (suc (label labels (new (f y)))) 0) (h.out y l e))
+        | inl e ↦
+            let s = kept_step f f' stays h y l e in
+            ap (λ c. cond c (suc (label labels (new y))) 0) e ∙ (ap suc (first (new y) (r.new_below y l e) ∙ ap (label labels) (sym s.1)) ∙ sym (ap (λ c. cond c (suc (label labels (new (f y)))) 0) s.0))
+        | inr e ↦
+            ap (λ c. cond c (suc (label labels (new y))) 0) e ∙ sym (ap (λ c. cond c (suc (label labels (new (f y)))) 0) (h.out y l e))
       ]
 
   kept_same : (f f' : ℕ → ℕ) → StaysBelow f' k' → GoesOver to kept k k' f f' → (y : ℕ) → y < k → one_if (kept y) ≡ one_if (kept (f y))
   kept_same f f' stays h y l =
       elim (cases_Bool (kept y)) [
-        inl e ↦ ap one_if (e ∙ sym (kept_step f f' stays h y l e).0)
-      | inr e ↦ ap one_if (e ∙ sym (h.out y l e))
+        | inl e ↦ ap one_if (e ∙ sym (kept_step f f' stays h y l e).0)
+        | inr e ↦ ap one_if (e ∙ sym (h.out y l e))
       ]
 
   one_if_true : (b : Bool) → one_if b ≡ 1 → b ≡ true
@@ -110,20 +110,20 @@ module _ (to new : ℕ → ℕ) (kept : ℕ → Bool) (k k' : ℕ) (r : IsRenumb
       record {
         within = λ i l. omega (arith, r.to_below i (omega arith));
         there = λ i j l m t.
-          p.least (λ x. label whole (to x)) (λ x q. w.first (to x) (r.to_below x q) ∙ ap (label whole) (h.step x q)) (λ x q. w.second (to x) (r.to_below x q) ∙ ap (label whole) (h'.step x q)) i j (omega arith) (omega arith) t;
+            p.least (λ x. label whole (to x)) (λ x q. w.first (to x) (r.to_below x q) ∙ ap (label whole) (h.step x q)) (λ x q. w.second (to x) (r.to_below x q) ∙ ap (label whole) (h'.step x q)) i j (omega arith) (omega arith) t;
         back = λ i j l m t.
-          let li : i < k' = omega arith in
-          let lj : j < k' = omega arith in
-          let e = marks (to i) (to j) (r.to_below i li) (r.to_below j lj) t in
-          let one = ap (λ c. cond c (suc (label part (new (to i)))) 0) (r.to_kept i li) in
-          let other = ap (λ c. cond c (suc (label part (new (to j)))) 0) (r.to_kept j lj) in
-          let labels : label part (new (to i)) ≡ label part (new (to j)) = omega (arith, sym one ∙ (e ∙ other)) in
-          ap (label part) (sym (r.new_to i li)) ∙ (labels ∙ ap (label part) (r.new_to j lj));
+            let li : i < k' = omega arith in
+            let lj : j < k' = omega arith in
+            let e = marks (to i) (to j) (r.to_below i li) (r.to_below j lj) t in
+            let one = ap (λ c. cond c (suc (label part (new (to i)))) 0) (r.to_kept i li) in
+            let other = ap (λ c. cond c (suc (label part (new (to j)))) 0) (r.to_kept j lj) in
+            let labels : label part (new (to i)) ≡ label part (new (to j)) = omega (arith, sym one ∙ (e ∙ other)) in
+            ap (label part) (sym (r.new_to i li)) ∙ (labels ∙ ap (label part) (r.new_to j lj));
         hits = λ i y l m t.
-          let li : i < k' = omega arith in
-          one_if_true (kept y) (sym (keeps (to i) y (r.to_below i li) (omega arith) t) ∙ ap one_if (r.to_kept i li));
+            let li : i < k' = omega arith in
+            one_if_true (kept y) (sym (keeps (to i) y (r.to_below i li) (omega arith) t) ∙ ap one_if (r.to_kept i li));
         from = λ y l e. omega (arith, r.new_below y (omega arith) e);
-        stands = λ y l e. ap (label whole) (r.to_new y (omega arith) e)
+        stands = λ y l e. ap (label whole) (r.to_new y (omega arith) e);
       }
 
 -- ---- two numbers left out
@@ -147,8 +147,8 @@ neither_other d e y ne ne' = rw (ne_eqb y d ne, ne_eqb y e ne') refl
 pub neither_cases : (d e y : ℕ) → neither d e y ≡ false → (y ≡ d) ⊎ (y ≡ e)
 neither_cases d e y h =
     elim (cases_eq y d) [
-      inl q ↦ inl q
-    | inr ne ↦ elim (cases_eq y e) [ inl q ↦ inr q | inr ne' ↦ absurd (true≢false (sym (neither_other d e y ne ne') ∙ h)) ]
+      | inl q ↦ inl q
+      | inr ne ↦ elim (cases_eq y e) [ inl q ↦ inr q | inr ne' ↦ absurd (true≢false (sym (neither_other d e y ne ne') ∙ h)) ]
     ]
 
 pub neither_true : (d e y : ℕ) → neither d e y ≡ true → (y ≢ d) × (y ≢ e)
@@ -172,11 +172,11 @@ left_out labels d e ne l m =
 pub left_out_one : (labels : List ℕ) (d e : ℕ) → IsLabels labels → d ≢ e → Together labels d e → ((label labels d ≡ d) ⊎ (label labels d ≡ e)) → one_if (eqb (label labels d) d) + one_if (eqb (label labels e) e) ≡ 1
 left_out_one labels d e w ne t h =
     elim h [
-      inl q ↦
-        let no : label labels e ≢ e = omega (arith, t) in
-        omega (arith, ap one_if (eq-eqb (label labels d) d q), ap one_if (ne_eqb (label labels e) e no))
-    | inr q ↦
-        let no : label labels d ≢ d = omega arith in
-        let own : label labels e ≡ e = sym t ∙ q in
-        omega (arith, ap one_if (ne_eqb (label labels d) d no), ap one_if (eq-eqb (label labels e) e own))
+      | inl q ↦
+          let no : label labels e ≢ e = omega (arith, t) in
+          omega (arith, ap one_if (eq-eqb (label labels d) d q), ap one_if (ne_eqb (label labels e) e no))
+      | inr q ↦
+          let no : label labels d ≢ d = omega arith in
+          let own : label labels e ≡ e = sym t ∙ q in
+          omega (arith, ap one_if (ne_eqb (label labels d) d no), ap one_if (eq-eqb (label labels e) e own))
     ]

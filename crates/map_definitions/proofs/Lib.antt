@@ -16,6 +16,11 @@ pub mod DartPaths
 pub mod CornerSplit
 pub mod Generated
 pub mod LoneEdge
+pub mod WithoutEntry
+pub mod EdgeRemoved
+pub mod Contract
+pub mod DigonSplit
+pub mod EdgeFaces
 pub mod DartLemmas
 pub mod FaultLemmas
 pub mod DartCounts

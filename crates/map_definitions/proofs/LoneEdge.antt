@@ -1,11 +1,11 @@
 -- An edge taken off both its vertices, where nothing is missing from the Euler bound: nothing is missing after it, and the edge, which is now a class of its own, may be left out.
-use Rattle.std.proofs.Common.{◌≡◌, ◌≢◌, ◌⊎◌, ℕ, zero, suc, ◌+◌, ◌*◌, ◌<◌, ◌≤◌, Bool, true, false, not, ◌&&◌, cond, eqb, List, length, refl, sym, ap, ◌∙◌, subst, inl, inr, arith}
-use Rattle.std.proofs.lemmas.Bool.{cases_Bool, cases_eq, eq-eqb, ne_eqb, eqb-true, true≢false, false≢true, not-true}
-use Rattle.map_definitions.specs.Classes.{count_below, label, merge_all, class_count}
+use Rattle.std.proofs.Common.{◌≡◌, ◌≢◌, ◌⊎◌, ℕ, ◌+◌, ◌<◌, Bool, true, false, not, eqb, List, refl, sym, ap, ◌∙◌, inl, inr, arith}
+use Rattle.std.proofs.lemmas.Bool.{cases_Bool, cases_eq, eq-eqb, ne_eqb, false≢true, not-true}
+use Rattle.map_definitions.specs.Classes.{label, merge_all, class_count}
 use Rattle.map_definitions.proofs.Counting.{one_if}
-use Rattle.map_definitions.proofs.Classes.{Together, IsLabels, Together-label}
-use Rattle.map_definitions.proofs.Orbits.{StaysBelow, steps, orbits_of, orbits_of-step, IsPermuting, marks_back}
-use Rattle.map_definitions.proofs.Swap.{swapped, exchange, swapped_first, swapped_second, swapped_other, IsPermuting-exchange, orbits_of-same, steps_same}
+use Rattle.map_definitions.proofs.Classes.{Together-label}
+use Rattle.map_definitions.proofs.Orbits.{StaysBelow, steps, orbits_of, IsPermuting, marks_back}
+use Rattle.map_definitions.proofs.Swap.{swapped, exchange, swapped_first, swapped_other, IsPermuting-exchange, orbits_of-same}
 use Rattle.map_definitions.proofs.Bound.{joint, IsPairing, IsPermuting-pairing, IsPermuting-after, after, Balances}
 use Rattle.map_definitions.proofs.PlaneCuts.{plane_cut, lone, lone_before, lone_other, lone_together}
 use Rattle.map_definitions.proofs.Transfer.{class_count-transfer}
@@ -19,13 +19,13 @@ swapped_itself a i = elim (cases_eq i a) [ inl e ↦ ap (swapped a a) e ∙ (swa
 pub lone_balances : (f g : ℕ → ℕ) (k m p d : ℕ) → k ≡ m + m → IsPermuting f k → IsPairing g k → p < k → d < k → f p ≡ d → Balances f g k m 0 → Balances (exchange f p d) g k m 0
 lone_balances f g k m p d double w v lp ld e plane =
     elim (cases_eq p d) [
-      inl q ↦
-        let same : (i : ℕ) → i < k → exchange f p d i ≡ f i = λ i l. ap (λ x. f (swapped x d i)) q ∙ ap f (swapped_itself d i) in
-        let first = orbits_of-same (exchange f p d) f k same in
-        let second = orbits_of-same (after (exchange f p d) g) (after f g) k (λ i l. same (g i) (v.within i l)) in
-        let third : joint (exchange f p d) g k ≡ joint f g k = ap (λ o. merge_all o (steps g k)) first in
-        omega (arith, plane, ap class_count first, ap class_count second, ap class_count third)
-    | inr ne ↦ plane_cut f g k m p d double w v lp ld ne (lone_together f k p d w lp e) plane
+      | inl q ↦
+          let same : (i : ℕ) → i < k → exchange f p d i ≡ f i = λ i l. ap (λ x. f (swapped x d i)) q ∙ ap f (swapped_itself d i) in
+          let first = orbits_of-same (exchange f p d) f k same in
+          let second = orbits_of-same (after (exchange f p d) g) (after f g) k (λ i l. same (g i) (v.within i l)) in
+          let third : joint (exchange f p d) g k ≡ joint f g k = ap (λ o. merge_all o (steps g k)) first in
+          omega (arith, plane, ap class_count first, ap class_count second, ap class_count third)
+      | inr ne ↦ plane_cut f g k m p d double w v lp ld ne (lone_together f k p d w lp e) plane
     ]
 
 -- Let p lead to d, and then q to the partner e of d; and let d and e not lead to one another.
@@ -34,23 +34,23 @@ module _ (f g : ℕ → ℕ) (k m d p q : ℕ) (double : k ≡ m + m) (w : IsPer
   abbrev pub lone_edge : ℕ → ℕ
   lone_edge = exchange (exchange f p d) q (g d)
 
-  le : g d < k
+  pub le : g d < k
   le = v.within d ld
 
-  d_not_e : d ≢ g d
+  pub d_not_e : d ≢ g d
   d_not_e e = v.other d ld (sym e)
 
-  w1 : IsPermuting (exchange f p d) k
+  pub w1 : IsPermuting (exchange f p d) k
   w1 = IsPermuting-exchange f k p d lp ld w
 
   pub IsPermuting-lone_edge : IsPermuting lone_edge k
   IsPermuting-lone_edge = IsPermuting-exchange (exchange f p d) k q (g d) lq le w1
 
-  p_not_e : p ≢ g d
+  pub p_not_e : p ≢ g d
   p_not_e e = apart' (ap f (sym e) ∙ fp)
 
   -- e leads where it led
-  one_e : exchange f p d (g d) ≡ f (g d)
+  pub one_e : exchange f p d (g d) ≡ f (g d)
   one_e = lone_other f p d (g d) (λ e. p_not_e (sym e)) (λ e. d_not_e (sym e))
 
   pub lone_edge-first : lone_edge d ≡ d
@@ -92,75 +92,77 @@ module _ (f g : ℕ → ℕ) (k m d p q : ℕ) (double : k ≡ m + m) (w : IsPer
       lone_balances (exchange f p d) g k m q (g d) double w1 v lq le fq (lone_balances f g k m p d double w v lp ld fp plane)
 
   -- a label that is d or its partner
-  out_label : (labels : List ℕ) (h h' : ℕ → ℕ) → IsGenerated labels h h' k → ((y : ℕ) → y < k → neither d (g d) y ≡ neither d (g d) (h y)) → ((y : ℕ) → y < k → neither d (g d) y ≡ neither d (g d) (h' y)) → (label labels d ≡ d) ⊎ (label labels d ≡ g d)
+  pub out_label : (labels : List ℕ) (h h' : ℕ → ℕ) → IsGenerated labels h h' k → ((y : ℕ) → y < k → neither d (g d) y ≡ neither d (g d) (h y)) → ((y : ℕ) → y < k → neither d (g d) y ≡ neither d (g d) (h' y)) → (label labels d ≡ d) ⊎ (label labels d ≡ g d)
   out_label labels h h' made same same' =
       let u = made.known in
       let low = u.low d in
       let keeps = made.least (λ y. one_if (neither d (g d) y)) (λ y l. ap one_if (same y l)) (λ y l. ap one_if (same' y l)) d (label labels d) ld (omega arith) (Together-label labels u d) in
       neither_cases d (g d) (label labels d) (elim (cases_Bool (neither d (g d) (label labels d))) [
-        inl t ↦ absurd (omega (arith, keeps, ap one_if t, ap one_if (neither_first d (g d))))
-      | inr t ↦ t
+        | inl t ↦ absurd (omega (arith, keeps, ap one_if t, ap one_if (neither_first d (g d))))
+        | inr t ↦ t
       ])
 
   -- a bijection that leaves d and its partner among themselves keeps the rest
-  neither_kept : (h : ℕ → ℕ) → IsPermuting h k → neither d (g d) (h d) ≡ false → neither d (g d) (h (g d)) ≡ false → (y : ℕ) → y < k → neither d (g d) y ≡ neither d (g d) (h y)
+  pub neither_kept : (h : ℕ → ℕ) → IsPermuting h k → neither d (g d) (h d) ≡ false → neither d (g d) (h (g d)) ≡ false → (y : ℕ) → y < k → neither d (g d) y ≡ neither d (g d) (h y)
   neither_kept h hw at_d at_e y l =
       let out : ℕ → Bool = λ x. not (neither d (g d) x) in
       let keeps : (x : ℕ) → x < k → out x ≡ true → out (h x) ≡ true = λ x n t.
-        elim (neither_cases d (g d) x (not-true (neither d (g d) x) t)) [
-          inl e ↦ ap not (ap (λ z. neither d (g d) (h z)) e ∙ at_d)
+      elim (neither_cases d (g d) x (not-true (neither d (g d) x) t)) [
+        | inl e ↦ ap not (ap (λ z. neither d (g d) (h z)) e ∙ at_d)
         | inr e ↦ ap not (ap (λ z. neither d (g d) (h z)) e ∙ at_e)
-        ] in
+      ] in
       elim (cases_Bool (neither d (g d) y)) [
-        inl t ↦
-          elim (cases_Bool (neither d (g d) (h y))) [
-            inl t' ↦ t ∙ sym t'
-          | inr t' ↦ absurd (false≢true (sym (ap not t) ∙ marks_back h k hw out keeps y l (ap not t')))
-          ]
-      | inr t ↦ t ∙ sym (not-true (neither d (g d) (h y)) (keeps y l (ap not t)))
+        | inl t ↦
+            elim (cases_Bool (neither d (g d) (h y))) [
+              | inl t' ↦ t ∙ sym t'
+              | inr t' ↦ absurd (false≢true (sym (ap not t) ∙ marks_back h k hw out keeps y l (ap not t')))
+            ]
+        | inr t ↦ t ∙ sym (not-true (neither d (g d) (h y)) (keeps y l (ap not t)))
       ]
 
   -- d and its partner are two orbits
-  lone_points : one_if (eqb (label (orbits_of lone_edge k) d) d) + one_if (eqb (label (orbits_of lone_edge k) (g d)) (g d)) ≡ 2
+  pub lone_points : one_if (eqb (label (orbits_of lone_edge k) d) d) + one_if (eqb (label (orbits_of lone_edge k) (g d)) (g d)) ≡ 2
   lone_points =
       let O = orbits_of lone_edge k in
       let made = IsGenerated-orbits lone_edge k IsPermuting-lone_edge.within in
       let u = made.known in
       let alone : (x : ℕ) → x < k → lone_edge x ≡ x → label O x ≡ x = λ x l fixed.
-        let step : (y : ℕ) → y < k → one_if (eqb y x) ≡ one_if (eqb (lone_edge y) x) = λ y n.
-          elim (cases_eq y x) [
-            inl e ↦ ap one_if (eq-eqb y x e ∙ sym (eq-eqb (lone_edge y) x (ap lone_edge e ∙ fixed)))
-          | inr ne ↦ ap one_if (ne_eqb y x ne ∙ sym (ne_eqb (lone_edge y) x (λ e. ne (IsPermuting-lone_edge.apart y x n l (e ∙ sym fixed)))))
-          ] in
-        let low = u.low x in
-        let same = made.least (λ y. one_if (eqb y x)) step step x (label O x) l (omega arith) (Together-label O u x) in
-        elim (cases_eq (label O x) x) [
-          inl e ↦ e
+      let step : (y : ℕ) → y < k → one_if (eqb y x) ≡ one_if (eqb (lone_edge y) x) = λ y n.
+      elim (cases_eq y x) [
+        | inl e ↦ ap one_if (eq-eqb y x e ∙ sym (eq-eqb (lone_edge y) x (ap lone_edge e ∙ fixed)))
+        | inr ne ↦ ap one_if (ne_eqb y x ne ∙ sym (ne_eqb (lone_edge y) x (λ e. ne (IsPermuting-lone_edge.apart y x n l (e ∙ sym fixed)))))
+      ] in
+      let low = u.low x in
+      let same = made.least (λ y. one_if (eqb y x)) step step x (label O x) l (omega arith) (Together-label O u x) in
+      elim (cases_eq (label O x) x) [
+        | inl e ↦ e
         | inr ne ↦ absurd (omega (arith, same, ap one_if (eq-eqb x x refl), ap one_if (ne_eqb (label O x) x ne)))
-        ] in
+      ] in
       omega (arith, ap one_if (eq-eqb (label O d) d (alone d ld lone_edge-first)), ap one_if (eq-eqb (label O (g d)) (g d) (alone (g d) le lone_edge-second)))
 
-  twin_out : neither d (g d) (g d) ≡ false
+  pub twin_out : neither d (g d) (g d) ≡ false
   twin_out = neither_second d (g d)
 
-  back_out : neither d (g d) (g (g d)) ≡ false
+  pub back_out : neither d (g d) (g (g d)) ≡ false
   back_out = ap (neither d (g d)) (v.back d ld) ∙ neither_first d (g d)
 
   pub GoesOver-out : (to : ℕ → ℕ) (k' : ℕ) (f' g' : ℕ → ℕ) → ((i : ℕ) → i < k' → lone_edge (to i) ≡ to (f' i)) → ((i : ℕ) → i < k' → g (to i) ≡ to (g' i)) → GoesOver to (neither d (g d)) k k' lone_edge f' × GoesOver to (neither d (g d)) k k' g g'
-  GoesOver-out to k' f' g' h h' =
-      (record {
-        step = h;
-        out = λ y l t. elim (neither_cases d (g d) y t) [
-          inl e ↦ ap (neither d (g d)) (ap lone_edge e ∙ lone_edge-first) ∙ neither_first d (g d)
+  GoesOver-out to k' f' g' h h' = (
+    record {
+      step = h;
+      out = λ y l t. elim (neither_cases d (g d) y t) [
+        | inl e ↦ ap (neither d (g d)) (ap lone_edge e ∙ lone_edge-first) ∙ neither_first d (g d)
         | inr e ↦ ap (neither d (g d)) (ap lone_edge e ∙ lone_edge-second) ∙ twin_out
-        ]
-      }, record {
-        step = h';
-        out = λ y l t. elim (neither_cases d (g d) y t) [
-          inl e ↦ ap (λ x. neither d (g d) (g x)) e ∙ twin_out
+      ];
+    },
+    record {
+      step = h';
+      out = λ y l t. elim (neither_cases d (g d) y t) [
+        | inl e ↦ ap (λ x. neither d (g d) (g x)) e ∙ twin_out
         | inr e ↦ ap (λ x. neither d (g d) (g x)) e ∙ back_out
-        ]
-      })
+      ];
+    },
+  )
 
   -- Left out, the edge leaves nothing missing.
   pub lone_edge_out : (to new : ℕ → ℕ) (k' m' : ℕ) (f' g' : ℕ → ℕ) → m ≡ m' + 1 → StaysBelow f' k' → StaysBelow g' k' → IsRenumbering to new (neither d (g d)) k k' → ((i : ℕ) → i < k' → lone_edge (to i) ≡ to (f' i)) → ((i : ℕ) → i < k' → g (to i) ≡ to (g' i)) → Balances f g k m 0 → Balances f' g' k' m' 0
