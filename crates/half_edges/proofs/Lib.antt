@@ -4,3 +4,4 @@ pub mod MarkLemmas
 pub mod TableLemmas
 pub mod TwinLemmas
 pub mod MapLemmas
+pub mod IdLemmas

@@ -41,6 +41,9 @@ impl From<AllocError> for MapFault {
 }
 
 /// A simple map as half-edges.
+///
+/// Its vertices have the numbers below `n`, and each of its darts has one id. Every call takes constant
+/// time, but for `from_rotations`, `rotations`, and `dart_of`, which goes over one list.
 #[derive(Drop)]
 pub struct HalfMap {
     rotations: Rotations,
@@ -66,7 +69,7 @@ impl Model for HalfMap {
 impl HalfMap {
     /// The map with these lists, which are from 1 to 4095, or the first fault of the lists.
     ///
-    /// Its `spare` is 0. The time is linear in the entries.
+    /// Its `spare` is 0. The time is linear in the entries, and so is the memory.
     pub fn from_rotations(alloc: Global, lists: &Rotations) -> Result<HalfMap, MapFault>
         requires some_list { 0 < length lists.now }
         requires few_lists { length lists.now < 4096 }
@@ -197,7 +200,7 @@ impl HalfMap {
         }
     }
 
-    /// The dart from `u` to `v`, or None exactly where they are not adjacent.
+    /// The dart from `u` to `v`, or None exactly where they are not adjacent. It goes over the list of `u`.
     pub fn dart_of(&self, u: VertexId, v: VertexId) -> Option<DartId>
         requires u_in { u.0 < vertex_count self.now.lists }
         requires v_in { v.0 < vertex_count self.now.lists }
@@ -210,7 +213,7 @@ impl HalfMap {
         }
     }
 
-    /// The lists, each from the vertex's first dart.
+    /// The lists, each from the vertex's first dart. It fails only for want of memory.
     pub fn rotations(&self, alloc: Global) -> Result<Rotations, AllocError>
         ensures { IfOk result (λ lists. lists ≡ self.now.lists) }
     {
