@@ -1,7 +1,7 @@
 -- What a byte makes of the bytes of a record that has begun.
 use Rattle.std.proofs.Common.{◌≡◌, ℕ, zero, suc, ◌+◌, ◌*◌, ◌/◌, ◌%◌, ◌<◌, ◌≤◌, List, [], ◌∷◌, ◌++◌, length, map, flat_map, All, Option, Some, None, refl, sym, ap, subst, ◌∙◌, inl, inr, arith, append_assoc, zero-add, add-one}
 use Rattle.std.proofs.lemmas.List.{append-nil, length-append, map_push}
-use Rattle.std.proofs.lemmas.List.Elements.{All-push}
+use Rattle.std.proofs.lemmas.List.Elements.{All-push, All-nil}
 use Rattle.std.proofs.lemmas.Grind.{flat_map-append}
 use Rattle.std.proofs.lemmas.Bool.Decides.{nat_tests}
 use Rattle.std.specs.Prelude.{IsFalse}
@@ -64,6 +64,21 @@ collected-small : (limit number : ℕ) (lists : Lists) (last : List ℕ) (lists'
 collected-small limit zero lists last lists' last' low small_lists small_last is =
     rw is.0 (All-push (λ us. All (λ u. u < limit) us) lists last small_lists small_last)
 collected-small limit (suc u) lists last lists' last' low small_lists small_last is = rw is.0 small_lists
+
+collected-small_last : (limit number : ℕ) (lists : Lists) (last : List ℕ) (lists' : Lists) (last' : List ℕ) → number ≤ limit → All (λ u. u < limit) last → Collects number lists last lists' last' → All (λ u. u < limit) last'
+collected-small_last limit zero lists last lists' last' low small is = rw is.1 (All-nil (λ u. u < limit))
+collected-small_last limit (suc u) lists last lists' last' low small is = rw is.1 (All-push (λ u. u < limit) last u small low)
+
+-- Lists that are not as many as the count says go on.
+pub still_open : (few limit count number : ℕ) (lists : Lists) (last : List ℕ) (lists' : Lists) (last' : List ℕ) → number ≤ limit → IsOpen few limit count lists last → Takes number count lists last None lists' last' → IsOpen few limit count lists' last'
+still_open few limit count number lists last lists' last' low is takes =
+    let some : length lists < count = is.some_left in
+    record {
+      few_lists = is.few_lists;
+      some_left = omega (arith, collected-length number lists last lists' last' takes.0, takes.1);
+      small_lists = collected-small limit number lists last lists' last' low is.small_lists is.small_last takes.0;
+      small_last = collected-small_last limit number lists last lists' last' low is.small_last takes.0;
+    }
 
 -- a first byte other than 0 begins no bad count
 not_bad-first : (b : ℕ) (xs : List ℕ) → 0 < b → IsFalse (is_bad_count (b ∷ xs))

@@ -2,7 +2,8 @@
 //!
 //! `RecordReader` takes the bytes of a file one by one and answers each record as it ends;
 //! `next_record` reads the record at an offset of bytes that are all there. Both take exactly the
-//! records: a clause on each says when each answer comes.
+//! records: a clause on each says when each answer comes. Both stand on one scanner, which handles
+//! each byte once. `laws` says of all inputs that each is read in one way at most.
 #![tactic(auto)]
 
 pub mod laws;

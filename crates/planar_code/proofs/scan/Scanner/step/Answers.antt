@@ -2,7 +2,7 @@
 use Rattle.std.proofs.Common.{◌+◌, ◌*◌, Some, None, refl, arith}
 use Rattle.planar_code.specs.declared.scan.Phase.TheVariants.{Start, WideHigh, Narrow, Wide, WideHalf}
 use Rattle.planar_code.specs.Scan.{bytes_of}
-use Rattle.planar_code.proofs.ScanLemmas.{bytes-at, IsScanned-at, start-more, Takes-at, count-more, narrow-more, narrow-record, wide-more, half-more, half-record}
+use Rattle.planar_code.proofs.ScanLemmas.{bytes-at, still_open, IsScanned-at, start-more, Takes-at, count-more, narrow-more, narrow-record, wide-more, half-more, half-record}
 use Rattle.planar_code.proofs.scan.Scanner.step.Goals as goal
 
 pub returns-in-Start-2-clause-ok : goal.returns-in-Start-2-clause-ok
@@ -67,3 +67,12 @@ returns-in-Some-taken-clause-ok c =
     let takes = Takes-at c.number_of-number.result (256 * high + c.args.byte) count count s.lists s.last.items c.in_ok-taken-in-WideHalf.taken (Some c.in-Some-taken.lists) t.lists t.last.items c.number_of-number.ensures refl c.in-Some-taken.is c.in_ok-taken-in-WideHalf.ensures.ok in
     rw now
     (half-record count high c.args.byte s.lists s.last.items c.in-Some-taken.lists t.lists t.last.items (omega arith) (omega arith) (IsScanned-at s.phase (WideHalf count high) s.lists s.last.items c.in-WideHalf.is c.self.invariant) takes)
+
+pub invariant_of-self-in-None-taken : goal.invariant_of-self-in-None-taken
+invariant_of-self-in-None-taken c =
+    let s = c.self.inside in
+    let t = c.take_number-in-WideHalf.new in
+    let count = c.in-WideHalf.count in
+    let number = c.number_of-number.result in
+    let takes = Takes-at number number count count s.lists s.last.items c.in_ok-taken-in-WideHalf.taken None t.lists t.last.items refl refl c.in-None-taken.is c.in_ok-taken-in-WideHalf.ensures.ok in
+    still_open 4096 65535 count number s.lists s.last.items t.lists t.last.items (omega arith) (IsScanned-at s.phase (WideHalf count c.in-WideHalf.high) s.lists s.last.items c.in-WideHalf.is c.self.invariant) takes
