@@ -28,13 +28,8 @@ impl Source for TwoRecords<'_> {
             self.before_the_second = self.written.get();
         }
         self.reads += 1;
-        let mut given = 0;
-        for (to, from) in buf.iter_mut().zip(TRIANGLE) {
-            *to = *from;
-            if given < 10 {
-                given += 1;
-            }
-        }
+        let given = buf.len().min(TRIANGLE.len());
+        buf[..given].copy_from_slice(&TRIANGLE[..given]);
         Ok(given)
     }
 }

@@ -32,7 +32,9 @@ fn a_failing_read_leaves_the_blocks_so_far(rt: HostRuntime) -> Result<(), Fail> 
         let failing = Vec::from_slice(rt.alloc(), &[taken as u64 + 1])?;
         let mut source = MemSource::new(Vec::from_slice(rt.alloc(), PLATONIC)?, 1, failing);
         let ran = run_over(rt.alloc(), &["count"], &mut source, 64, &[])?;
-        let text = &PLATONIC_TEXT.as_bytes()[..bytes_of(lines_at(taken))];
+        let length = bytes_of(lines_at(taken));
+        assert!(rt; length <= PLATONIC_TEXT.len());
+        let text = &PLATONIC_TEXT.as_bytes()[..length];
         assert_eq!(rt; ran.text.as_slice(), text, "after {taken} bytes");
         assert_eq!(rt; ran.status, 4);
     }
