@@ -20,6 +20,7 @@ pub mod EdgeRemoved
 pub mod Contract
 pub mod DigonSplit
 pub mod EdgeFaces
+pub mod EdgeBound
 pub mod DartLemmas
 pub mod FaultLemmas
 pub mod DartCounts
