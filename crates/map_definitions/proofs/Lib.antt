@@ -21,6 +21,8 @@ pub mod EdgeRemoved
 pub mod Contract
 pub mod DigonSplit
 pub mod EdgeFaces
+pub mod EdgeBound
+pub mod Smooth
 pub mod DartLemmas
 pub mod FaultLemmas
 pub mod DartCounts

@@ -1,6 +1,6 @@
 -- Laws of the maps of genus zero.
-use Rattle.std.specs.Prelude.{ℕ, ◌+◌, ◌≡◌, ◌⊎◌, List, [], ◌∷◌, ◌++◌, ◌≢◌, Contains, slice_set, remove}
-use Rattle.map_definitions.specs.Maps.{Lists, Dart, HasDart, IsSimpleMap, IsPlane, component_count, list_of, follows, place_of}
+use Rattle.std.specs.Prelude.{ℕ, ◌+◌, ◌*◌, ◌≤◌, ◌≡◌, ◌⊎◌, List, [], ◌∷◌, ◌++◌, ◌≢◌, Contains, slice_set, remove}
+use Rattle.map_definitions.specs.Maps.{Lists, Dart, HasDart, IsSimpleMap, IsPlane, vertex_count, edge_count, component_count, list_of, follows, place_of}
 use Rattle.map_definitions.specs.Paths.{JoinsAvoiding, arc, SameFace}
 
 -- a list without its first x
@@ -33,6 +33,11 @@ pub record IsMergedFaces (lists rest : Lists) (d e : Dart) : Type 0 where
 abbrev pub FacesMerged : Type 0
 FacesMerged =
     (lists : Lists) (u v : ℕ) → IsSimpleMap lists → IsPlane lists → HasDart lists u v → component_count lists ≡ 1 → component_count (without_edge lists u v) ≡ 1 → IsMergedFaces lists (without_edge lists u v) (u, v) (v, u)
+
+-- A simple map of genus zero with at least three vertices has at most 3n - 6 edges.
+abbrev pub EdgeBound : Type 0
+EdgeBound =
+    (lists : Lists) → IsSimpleMap lists → IsPlane lists → 3 ≤ vertex_count lists → edge_count lists + 6 ≤ 3 * vertex_count lists
 
 -- Where two corners of a vertex lie in one face, the vertex separates the two parts of its list.
 abbrev pub CornerSplit : Type 0
