@@ -6,15 +6,15 @@ use Rattle.map_definitions.specs.Maps.{Lists, list_of, HasDart, IsSimpleMap, IsP
 use Rattle.map_definitions.specs.Laws.{without_entry, without_edge, EdgeRemoved}
 use Rattle.map_definitions.proofs.Swap.{exchange, IsPermuting-exchange}
 use Rattle.map_definitions.proofs.Bound.{Balances}
-use Rattle.map_definitions.proofs.PlaneCuts.{image_of_some}
-use Rattle.map_definitions.proofs.Generated.{IsRenumbering, neither, neither_other, neither_true}
-use Rattle.map_definitions.proofs.LoneEdge.{lone_edge-skip, lone_edge-skip_second, lone_edge-other, lone_edge_out}
-use Rattle.map_definitions.proofs.WithoutEntry.{length-without, without-old, without-new, without-distinct, entry_after-without, entry_after-without_skip}
+use Rattle.plane_laws.proofs.PlaneCuts.{image_of_some}
+use Rattle.plane_laws.proofs.Generated.{IsRenumbering, neither, neither_other, neither_true}
+use Rattle.plane_laws.proofs.LoneEdge.{lone_edge-skip, lone_edge-skip_second, lone_edge-other, lone_edge_out}
+use Rattle.plane_laws.proofs.WithoutEntry.{length-without, without-old, without-new, without-distinct, entry_after-without, entry_after-without_skip}
 use Rattle.map_definitions.proofs.DartLemmas.{dart_number-lt, get_or-dart_number, dart_number-injective, HasDart-follows}
 use Rattle.map_definitions.proofs.DartCounts.{dart_count-edge_count}
-use Rattle.map_definitions.proofs.DartPermutations.{dart_of, tail_of, rotation, twin, IsPermuting-rotation, IsPairing-twin, dart_of-number, dart_of-rotation, dart_of-twin, tail_of-rotation, two_m, map_balances, balances_map}
-use Rattle.map_definitions.proofs.DartPaths.{tail_of-number, twin-number}
-use Rattle.map_definitions.proofs.CornerSplit.{rotation-number}
+use Rattle.plane_laws.proofs.DartPermutations.{dart_of, tail_of, rotation, twin, IsPermuting-rotation, IsPairing-twin, dart_of-number, dart_of-rotation, dart_of-twin, tail_of-rotation, two_m, map_balances, balances_map}
+use Rattle.plane_laws.proofs.DartPaths.{tail_of-number, twin-number}
+use Rattle.plane_laws.proofs.CornerSplit.{rotation-number}
 
 module _ (lists : Lists) (simple : IsSimpleMap lists) (u v : ℕ) (edge : HasDart lists u v) where
   pub back : HasDart lists v u

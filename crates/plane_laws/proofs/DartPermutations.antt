@@ -10,7 +10,7 @@ use Rattle.map_definitions.proofs.Classes.{Together, IsLabels, PairsBelow, IsLab
 use Rattle.map_definitions.proofs.Orbits.{orbits_of, length-orbits_of, IsLabels-orbits_of, orbits_of-step, orbits_of-marked, orbits-image, IsPermuting}
 use Rattle.map_definitions.proofs.Swap.{orbits_of-same}
 use Rattle.map_definitions.proofs.Bound.{joint, length-joint, IsLabels-joint, joint-orbit, joint-second, joint-marked, IsPairing, after, Balances, euler_bound}
-use Rattle.map_definitions.proofs.Transfer.{IsTransfer, class_count-transfer}
+use Rattle.plane_laws.proofs.Transfer.{IsTransfer, class_count-transfer}
 use Rattle.map_definitions.proofs.DartLemmas.{length-darts, darts_before_end, dart_at_place, place_of-get_or, place_of-lt-length, place_after, place_of-entry_after, entry_after-injective, dart_number-lt, get_or-dart_number, dart_number-injective, HasDart-at, IsDartNumber, IsDartNumber-darts, HasDart-follows, length-face_images, get_or-face_images, IsPermutationOfBelow-face_images}
 use Rattle.map_definitions.proofs.DartCounts.{dart_count-edge_count}
 

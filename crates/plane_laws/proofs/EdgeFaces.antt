@@ -9,16 +9,16 @@ use Rattle.map_definitions.proofs.Classes.{Together, IsLabels, labels_same, Toge
 use Rattle.map_definitions.proofs.Orbits.{orbits_of, length-orbits_of, IsLabels-orbits_of, orbits_of-step, orbits_of-marked, IsPermuting}
 use Rattle.map_definitions.proofs.Swap.{exchange, IsPermuting-exchange, exchange_orbits, orbits_of-same}
 use Rattle.map_definitions.proofs.Bound.{joint, joint-first, joint-second, joint-marked, IsPairing, IsPermuting-pairing, IsPermuting-after, after, after-exchange, Balances}
-use Rattle.map_definitions.proofs.PlaneCuts.{plane_cut-apart, plane_cut-together, image_of_some, lone, lone_before, lone_other, lone_together}
-use Rattle.map_definitions.proofs.Transfer.{IsTransfer}
-use Rattle.map_definitions.proofs.Generated.{IsRenumbering, neither_first, IsGenerated-orbits, GoesOver-after, IsTransfer-renumbered, neither, neither_other}
-use Rattle.map_definitions.proofs.LoneEdge.{IsPermuting-lone_edge, GoesOver-out}
-use Rattle.map_definitions.proofs.DigonSplit.{fixed_alone}
-use Rattle.map_definitions.proofs.EdgeRemoved.{back, u_not_v, length-without_edge, dart_old, dart_new, IsSimpleMap-without_edge, in_out, twin_out, to_below, to_not_out, renumbering, twin_over, rotation_over, apart, apart'}
+use Rattle.plane_laws.proofs.PlaneCuts.{plane_cut-apart, plane_cut-together, image_of_some, lone, lone_before, lone_other, lone_together}
+use Rattle.plane_laws.proofs.Transfer.{IsTransfer}
+use Rattle.plane_laws.proofs.Generated.{IsRenumbering, neither_first, IsGenerated-orbits, GoesOver-after, IsTransfer-renumbered, neither, neither_other}
+use Rattle.plane_laws.proofs.LoneEdge.{IsPermuting-lone_edge, GoesOver-out}
+use Rattle.plane_laws.proofs.DigonSplit.{fixed_alone}
+use Rattle.plane_laws.proofs.EdgeRemoved.{back, u_not_v, length-without_edge, dart_old, dart_new, IsSimpleMap-without_edge, in_out, twin_out, to_below, to_not_out, renumbering, twin_over, rotation_over, apart, apart'}
 use Rattle.map_definitions.proofs.DartLemmas.{dart_number-lt, get_or-dart_number}
-use Rattle.map_definitions.proofs.DartPermutations.{dart_of, tail_of, rotation, twin, components, IsPermuting-rotation, IsPairing-twin, dart_of-number, dart_of-twin, tail_of-rotation, same_orbit, components-marked, IsLabels-components, edge_together, isolated_apart, orbits-face_images, balances_map, two_m, has_edge, first_in, tail_of-first, has_edge-tail}
-use Rattle.map_definitions.proofs.DartPaths.{tail_of-number}
-use Rattle.map_definitions.proofs.CornerSplit.{numbers_apart}
+use Rattle.plane_laws.proofs.DartPermutations.{dart_of, tail_of, rotation, twin, components, IsPermuting-rotation, IsPairing-twin, dart_of-number, dart_of-twin, tail_of-rotation, same_orbit, components-marked, IsLabels-components, edge_together, isolated_apart, orbits-face_images, balances_map, two_m, has_edge, first_in, tail_of-first, has_edge-tail}
+use Rattle.plane_laws.proofs.DartPaths.{tail_of-number}
+use Rattle.plane_laws.proofs.CornerSplit.{numbers_apart}
 
 no_entry : (us : List ℕ) → ((z : ℕ) → ¬ Contains us z) → is_empty_list us ≡ true
 no_entry [] h = refl

@@ -7,10 +7,10 @@ use Rattle.map_definitions.proofs.Classes.{Together, IsLabels, Together-label, s
 use Rattle.map_definitions.proofs.Orbits.{StaysBelow, orbits_of, orbits_of-step, IsPermuting, marks_back}
 use Rattle.map_definitions.proofs.Swap.{exchange, IsPermuting-exchange, exchange_orbits}
 use Rattle.map_definitions.proofs.Bound.{joint, joint-first, joint-second, IsPairing, IsPermuting-pairing, IsPermuting-after, after, Balances}
-use Rattle.map_definitions.proofs.PlaneCuts.{lone, lone_before, lone_other, lone_together}
-use Rattle.map_definitions.proofs.Transfer.{IsTransfer, class_count-transfer}
-use Rattle.map_definitions.proofs.Generated.{IsGenerated, IsGenerated-orbits, IsGenerated-joint, IsRenumbering, GoesOver, IsTransfer-renumbered, neither, neither_first, neither_second, neither_cases, neither_true, neither_other, left_out, left_out_one}
-use Rattle.map_definitions.proofs.DigonSplit.{fixed_alone}
+use Rattle.plane_laws.proofs.PlaneCuts.{lone, lone_before, lone_other, lone_together}
+use Rattle.plane_laws.proofs.Transfer.{IsTransfer, class_count-transfer}
+use Rattle.plane_laws.proofs.Generated.{IsGenerated, IsGenerated-orbits, IsGenerated-joint, IsRenumbering, GoesOver, IsTransfer-renumbered, neither, neither_first, neither_second, neither_cases, neither_true, neither_other, left_out, left_out_one}
+use Rattle.plane_laws.proofs.DigonSplit.{fixed_alone}
 
 -- d and e lead to the vertex of degree two, whose two darts are their partners.
 module _ (f g : ℕ → ℕ) (k m d e : ℕ) (w : IsPermuting f k) (pair : IsPairing g k) (ld : d < k) (le : e < k) (ne : d ≢ e) (off : d ≢ g e) (turn : f (g d) ≡ g e) (turn' : f (g e) ≡ g d) where

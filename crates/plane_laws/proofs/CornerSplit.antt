@@ -9,11 +9,11 @@ use Rattle.map_definitions.proofs.Classes.{Together, Together-from}
 use Rattle.map_definitions.proofs.Orbits.{orbits_of, orbits_of-step}
 use Rattle.map_definitions.proofs.Swap.{exchange, swapped_first, swapped_second, swapped_other, IsPermuting-exchange}
 use Rattle.map_definitions.proofs.Bound.{joint, joint-first, joint-second, IsPermuting-pairing, IsPermuting-after, after, Balances}
-use Rattle.map_definitions.proofs.PlaneCuts.{plane_cut-apart, image_of_some}
+use Rattle.plane_laws.proofs.PlaneCuts.{plane_cut-apart, image_of_some}
 use Rattle.map_definitions.proofs.DartLemmas.{dart_number-lt, get_or-dart_number, dart_number-injective, HasDart-follows}
-use Rattle.map_definitions.proofs.DartPermutations.{tail_of, turned_dart, rotation, twin, IsPermuting-rotation, IsPairing-twin, tail_of-rotation, same_orbit, orbits-face_images, balances_map, two_m}
-use Rattle.map_definitions.proofs.DartPaths.{tail_of-number, twin-number, HoldsRotation, path_in_class}
-use Rattle.map_definitions.proofs.ArcLemmas.{from_entry-first, from_entry-in, from_entry-next, from_entry-not_first, arc-at, arc-has, arc-not_end}
+use Rattle.plane_laws.proofs.DartPermutations.{tail_of, turned_dart, rotation, twin, IsPermuting-rotation, IsPairing-twin, tail_of-rotation, same_orbit, orbits-face_images, balances_map, two_m}
+use Rattle.plane_laws.proofs.DartPaths.{tail_of-number, twin-number, HoldsRotation, path_in_class}
+use Rattle.plane_laws.proofs.ArcLemmas.{from_entry-first, from_entry-in, from_entry-next, from_entry-not_first, arc-at, arc-has, arc-not_end}
 
 -- the rotation of a dart's number
 pub rotation-number : (lists : Lists) (v u : ℕ) → HasDart lists v u → rotation lists (dart_number lists (v, u)) ≡ dart_number lists (v, entry_after u (list_of lists v))

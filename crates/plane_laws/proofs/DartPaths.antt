@@ -8,7 +8,7 @@ use Rattle.map_definitions.specs.Paths.{IsPath}
 use Rattle.map_definitions.proofs.Classes.{Together}
 use Rattle.map_definitions.proofs.Orbits.{orbits_of-marked}
 use Rattle.map_definitions.proofs.DartLemmas.{dart_number-lt, get_or-dart_number}
-use Rattle.map_definitions.proofs.DartPermutations.{tail_of, twin_dart, rotation, twin, IsPermuting-rotation, tail_of-rotation, same_orbit}
+use Rattle.plane_laws.proofs.DartPermutations.{tail_of, twin_dart, rotation, twin, IsPermuting-rotation, tail_of-rotation, same_orbit}
 
 -- the tail of a dart's number
 pub tail_of-number : (lists : Lists) (v u : ℕ) → HasDart lists v u → tail_of lists (dart_number lists (v, u)) ≡ v

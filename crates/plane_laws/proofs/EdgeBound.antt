@@ -8,7 +8,7 @@ use Rattle.map_definitions.proofs.Counting.{one_if, count_below-le, count_below_
 use Rattle.map_definitions.proofs.Classes.{Together, IsLabels}
 use Rattle.map_definitions.proofs.Orbits.{orbits_of, length-orbits_of, IsLabels-orbits_of, orbits_of-step, IsPermuting, count_below-images}
 use Rattle.map_definitions.proofs.Bound.{length-joint, joint-marked, IsPairing, IsPermuting-pairing, IsPermuting-after, after, Balances}
-use Rattle.map_definitions.proofs.DartPermutations.{dart_of, tail_of, rotation, twin, IsPermuting-rotation, IsPairing-twin, dart_of-number, dart_of-twin, tail_of-rotation, two_m, balances_map, vertex_count-orbits, component_count-classes, dart_classes, IsLabels-dart_classes}
+use Rattle.plane_laws.proofs.DartPermutations.{dart_of, tail_of, rotation, twin, IsPermuting-rotation, IsPairing-twin, dart_of-number, dart_of-twin, tail_of-rotation, two_m, balances_map, vertex_count-orbits, component_count-classes, dart_classes, IsLabels-dart_classes}
 
 -- three tests of which one passes at most, or two where a fourth passes
 count_three : (p q r s : ℕ → Bool) (n : ℕ) → ((i : ℕ) → i < n → one_if (p i) + one_if (q i) + one_if (r i) ≤ 1 + one_if (s i)) → count_below p n + count_below q n + count_below r n ≤ n + count_below s n

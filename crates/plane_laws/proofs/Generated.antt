@@ -6,7 +6,7 @@ use Rattle.map_definitions.proofs.Counting.{one_if, count_below_but_two}
 use Rattle.map_definitions.proofs.Classes.{Together, IsLabels}
 use Rattle.map_definitions.proofs.Orbits.{StaysBelow, orbits_of, length-orbits_of, IsLabels-orbits_of, orbits_of-step, orbits_of-marked}
 use Rattle.map_definitions.proofs.Bound.{joint, length-joint, IsLabels-joint, joint-first, joint-second, joint-marked}
-use Rattle.map_definitions.proofs.Transfer.{IsTransfer}
+use Rattle.plane_laws.proofs.Transfer.{IsTransfer}
 
 -- The least classes of the numbers below k in which each number is with its images under f and g.
 pub record IsGenerated (labels : List ℕ) (f g : ℕ → ℕ) (k : ℕ) : Type 0 where

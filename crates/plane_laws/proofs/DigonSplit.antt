@@ -11,13 +11,13 @@ use Rattle.map_definitions.proofs.Classes.{Together, Together-from, same_class-f
 use Rattle.map_definitions.proofs.Orbits.{orbits_of, orbits_of-step, orbits_of-marked, IsPermuting}
 use Rattle.map_definitions.proofs.Swap.{exchange, swapped_first, swapped_second, swapped_other, IsPermuting-exchange}
 use Rattle.map_definitions.proofs.Bound.{joint, joint-first, joint-second, IsPairing, IsPermuting-pairing, IsPermuting-after, after, Balances}
-use Rattle.map_definitions.proofs.PlaneCuts.{plane_cut-apart, image_of_some}
-use Rattle.map_definitions.proofs.Contract.{IsPermuting-contracted, contracted_p, contracted_q, contracted_other, contracted_balances, orbits_joined, on_first, on_second, past, past-d, past-e, past-other, past_together}
+use Rattle.plane_laws.proofs.PlaneCuts.{plane_cut-apart, image_of_some}
+use Rattle.plane_laws.proofs.Contract.{IsPermuting-contracted, contracted_p, contracted_q, contracted_other, contracted_balances, orbits_joined, on_first, on_second, past, past-d, past-e, past-other, past_together}
 use Rattle.map_definitions.proofs.DartLemmas.{dart_number-lt, dart_number-injective, HasDart-follows, entry_after-injective}
-use Rattle.map_definitions.proofs.DartPermutations.{dart_of, tail_of, rotation, twin, IsPermuting-rotation, IsPairing-twin, dart_of-number, tail_of-rotation, same_orbit, same_vertex, orbits-face_images, balances_map, two_m}
-use Rattle.map_definitions.proofs.DartPaths.{tail_of-number, twin-number, HoldsRotation, path_in_class}
-use Rattle.map_definitions.proofs.ArcLemmas.{arc-not_end, arc-itself, arc-not_before, arc-last, arc-wider}
-use Rattle.map_definitions.proofs.CornerSplit.{rotation-number, numbers_apart, arc_in_class, arc_dart, corner_split}
+use Rattle.plane_laws.proofs.DartPermutations.{dart_of, tail_of, rotation, twin, IsPermuting-rotation, IsPairing-twin, dart_of-number, tail_of-rotation, same_orbit, same_vertex, orbits-face_images, balances_map, two_m}
+use Rattle.plane_laws.proofs.DartPaths.{tail_of-number, twin-number, HoldsRotation, path_in_class}
+use Rattle.plane_laws.proofs.ArcLemmas.{arc-not_end, arc-itself, arc-not_before, arc-last, arc-wider}
+use Rattle.plane_laws.proofs.CornerSplit.{rotation-number, numbers_apart, arc_in_class, arc_dart, corner_split}
 
 -- Classes that hold the steps along the two sides: at each of the two vertices from entry to entry, but not to its corner or past the edge; and past the edge from the one vertex to the other.
 pub record HoldsSides (lists : Lists) (labels : List ℕ) (u v a b : ℕ) : Type 0 where

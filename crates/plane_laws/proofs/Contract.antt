@@ -7,9 +7,9 @@ use Rattle.map_definitions.proofs.Classes.{Together, IsLabels, cases_Together, s
 use Rattle.map_definitions.proofs.Orbits.{steps, orbits_of, length-orbits_of, IsLabels-orbits_of, orbits_of-step, orbits_of-marked, IsPermuting}
 use Rattle.map_definitions.proofs.Swap.{exchange, swapped_first, swapped_second, swapped_other, swapped-swapped, IsPermuting-exchange, exchange_orbits, fixed_points_apart, orbits_of-same}
 use Rattle.map_definitions.proofs.Bound.{joint, length-joint, IsLabels-joint, joint-second, joint-marked, joint-cut, IsPairing, IsPermuting-pairing, IsPermuting-after, after, Balances}
-use Rattle.map_definitions.proofs.PlaneCuts.{lone, lone_before, lone_other, lone_together}
-use Rattle.map_definitions.proofs.Generated.{neither, neither_first, neither_cases}
-use Rattle.map_definitions.proofs.LoneEdge.{lone_edge-first, lone_edge-second, lone_edge-skip, lone_edge-skip_second, lone_edge-other, IsPermuting-lone_edge, neither_kept, twin_out, back_out}
+use Rattle.plane_laws.proofs.PlaneCuts.{lone, lone_before, lone_other, lone_together}
+use Rattle.plane_laws.proofs.Generated.{neither, neither_first, neither_cases}
+use Rattle.plane_laws.proofs.LoneEdge.{lone_edge-first, lone_edge-second, lone_edge-skip, lone_edge-skip_second, lone_edge-other, IsPermuting-lone_edge, neither_kept, twin_out, back_out}
 
 -- the joint classes depend on the images alone
 pub joint-same : (f f' g : ℕ → ℕ) (k : ℕ) → ((i : ℕ) → i < k → f i ≡ f' i) → joint f g k ≡ joint f' g k

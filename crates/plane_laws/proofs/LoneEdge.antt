@@ -7,9 +7,9 @@ use Rattle.map_definitions.proofs.Classes.{Together-label}
 use Rattle.map_definitions.proofs.Orbits.{StaysBelow, steps, orbits_of, IsPermuting, marks_back}
 use Rattle.map_definitions.proofs.Swap.{swapped, exchange, swapped_first, swapped_other, IsPermuting-exchange, orbits_of-same}
 use Rattle.map_definitions.proofs.Bound.{joint, IsPairing, IsPermuting-pairing, IsPermuting-after, after, Balances}
-use Rattle.map_definitions.proofs.PlaneCuts.{plane_cut, lone, lone_before, lone_other, lone_together}
-use Rattle.map_definitions.proofs.Transfer.{class_count-transfer}
-use Rattle.map_definitions.proofs.Generated.{IsGenerated, IsGenerated-orbits, IsGenerated-joint, IsRenumbering, GoesOver, GoesOver-after, IsTransfer-renumbered, neither, neither_first, neither_second, neither_cases, left_out, left_out_one}
+use Rattle.plane_laws.proofs.PlaneCuts.{plane_cut, lone, lone_before, lone_other, lone_together}
+use Rattle.plane_laws.proofs.Transfer.{class_count-transfer}
+use Rattle.plane_laws.proofs.Generated.{IsGenerated, IsGenerated-orbits, IsGenerated-joint, IsRenumbering, GoesOver, GoesOver-after, IsTransfer-renumbered, neither, neither_first, neither_second, neither_cases, left_out, left_out_one}
 
 -- exchanging an image with itself changes nothing
 pub swapped_itself : (a i : ℕ) → swapped a a i ≡ i
