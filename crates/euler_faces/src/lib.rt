@@ -4,5 +4,6 @@
 mod components;
 mod count;
 mod faces;
+pub mod laws;
 
 pub use count::{EulerCount, euler};
