@@ -2,7 +2,7 @@
 use Rattle.std.proofs.Common.{◌≡◌, ◌≢◌, ◌⊎◌, ◌||◌, ℕ, suc, ◌+◌, ◌<◌, ◌≤◌, Bool, true, false, not, eqb, ltb, List, length, refl, sym, ap, ◌∙◌, inl, inr, arith}
 use Rattle.std.proofs.lemmas.Bool.{cases_Bool, cases_eq, eq-eqb, ne_eqb, lt-ltb, le-ltb, ltb-true, ltb-false, false_from_ne_true, false≢true, or_left}
 use Rattle.map_definitions.specs.Classes.{IsPermutationOfBelow, count_below, label, image, orbits, same_class, class_count}
-use Rattle.map_definitions.proofs.Counting.{count_below-le}
+use Rattle.map_definitions.proofs.Counting.{count_below-le, count_below_more}
 use Rattle.map_definitions.proofs.Classes.{IsLabels, Together, Together-from, same_class-from}
 use Rattle.map_definitions.proofs.Orbits.{StaysBelow-image, length-orbits, orbits-step, orbits-closed_marks}
 
@@ -152,3 +152,13 @@ pub KeepsMarks-counting : (images : List ℕ) (marked : ℕ → Bool) (count i :
 KeepsMarks-counting images marked count i p h y l t =
     let n = length-orbits images in
     sym (IsCounting-together (orbits images) marked count i h y (image images y) (omega arith) (omega (arith, StaysBelow-image images p.within y l)) (orbits-step images p.within y l)) ∙ t
+
+-- how many numbers below k are not marked
+abbrev pub unmarked_below : (ℕ → Bool) → ℕ → ℕ
+unmarked_below marked k = count_below (λ i. not (marked i)) k
+
+-- a mark set leaves fewer to set
+pub unmarked_below-set : (k : ℕ) (old new : ℕ → Bool) (x : ℕ) → SetsMark k old new x → x < k → old x ≡ false → unmarked_below new k < unmarked_below old k
+unmarked_below-set k old new x sets l off =
+    let more = count_below_more (λ i. not (new i)) (λ i. not (old i)) k x l (ap not sets.here) (ap not off) (λ i m ne. ap not (sets.elsewhere i m ne)) in
+    omega arith

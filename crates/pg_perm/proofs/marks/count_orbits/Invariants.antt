@@ -1,5 +1,11 @@
-use Rattle.pg_perm.proofs.Marking.{IsCounting}
+use Rattle.std.proofs.Common.{◌≡◌, length}
+use Rattle.map_definitions.specs.Classes.{orbits}
+use Rattle.map_definitions.proofs.Marks.{IsCounting}
+use Rattle.pg_perm.specs.Marks.{mark}
 use Rattle.pg_perm.proofs.marks.count_orbits.Given as goal
 
 abbrev pub invariant-loop-i : goal.invariant-loop-i
-invariant-loop-i l = IsCounting l.images l.marked l.count l.i
+invariant-loop-i l = record {
+  marks : length l.marked ≡ length l.images;
+  counting : IsCounting (orbits l.images) (mark l.marked) l.count l.i;
+}
