@@ -22,6 +22,7 @@ pub mod DigonSplit
 pub mod EdgeFaces
 pub mod EdgeBound
 pub mod Smooth
+pub mod Replaced
 pub mod DartLemmas
 pub mod FaultLemmas
 pub mod DartCounts
