@@ -9,6 +9,7 @@ pub mod Transfer
 pub mod Walks
 mod Cases
 mod PairCases
+mod LawCases
 pub mod DartPermutations
 pub mod ArcLemmas
 pub mod DartPaths
@@ -23,6 +24,7 @@ pub mod EdgeFaces
 pub mod EdgeBound
 pub mod Smooth
 pub mod Replaced
+pub mod VertexSmoothed
 pub mod DartLemmas
 pub mod FaultLemmas
 pub mod DartCounts

@@ -1,5 +1,5 @@
 -- A list with another number in place of one of its entries.
-use Rattle.std.proofs.Common.{◌≡◌, ◌≢◌, ◌⊎◌, ℕ, ◌+◌, ◌<◌, ◌≤◌, Bool, true, false, cond, eqb, List, length, get_or, set, AllPairs, Contains, refl, sym, ap, ◌∙◌, subst, inl, inr, arith, length-set, get_or-set_same, get_or-set_other}
+use Rattle.std.proofs.Common.{◌≡◌, ◌≢◌, ◌⊎◌, ℕ, ◌<◌, cond, eqb, List, length, get_or, AllPairs, Contains, refl, sym, ap, ◌∙◌, subst, inl, inr, arith, length-set, get_or-set_same, get_or-set_other}
 use Rattle.std.proofs.lemmas.Bool.{cases_eq, eq-eqb, ne_eqb}
 use Rattle.std.proofs.lemmas.List.{get_or_default}
 use Rattle.map_definitions.specs.Maps.{place_of, entry_after}
@@ -27,12 +27,12 @@ module _ (us : List ℕ) (x y : ℕ) (distinct : AllPairs ◌≢◌ us) (has : C
   pub replaced-at : (i : ℕ) → i < length us → get_or (replaced us x y) i 0 ≡ renamed x y (get_or us i 0)
   replaced-at i l =
       elim (cases_eq i (place_of x us)) [
-        inl e ↦
-          ap (λ j. get_or (replaced us x y) j 0) e
-          ∙ (get_or-set_same us (place_of x us) y 0 in_x ∙ sym (ap (λ j. renamed x y (get_or us j 0)) e ∙ (ap (renamed x y) (get_or-place_of x us 0 in_x) ∙ renamed-itself x y)))
-      | inr ne ↦
-          let other : get_or us i 0 ≢ x = λ e. ne (sym (place_of-get_or us i 0 distinct l) ∙ ap (λ z. place_of z us) e) in
-          get_or-set_other us (place_of x us) i y 0 ne ∙ sym (renamed-other x y (get_or us i 0) other)
+        | inl e ↦
+            ap (λ j. get_or (replaced us x y) j 0) e
+            ∙ (get_or-set_same us (place_of x us) y 0 in_x ∙ sym (ap (λ j. renamed x y (get_or us j 0)) e ∙ (ap (renamed x y) (get_or-place_of x us 0 in_x) ∙ renamed-itself x y)))
+        | inr ne ↦
+            let other : get_or us i 0 ≢ x = λ e. ne (sym (place_of-get_or us i 0 distinct l) ∙ ap (λ z. place_of z us) e) in
+            get_or-set_other us (place_of x us) i y 0 ne ∙ sym (renamed-other x y (get_or us i 0) other)
       ]
 
   -- an entry that is left, or y
@@ -41,10 +41,10 @@ module _ (us : List ℕ) (x y : ℕ) (distinct : AllPairs ◌≢◌ us) (has : C
       let l : h.0 < length us = let m = h.1 in omega (arith, length-replaced) in
       let at : renamed x y (get_or us h.0 0) ≡ z = sym (replaced-at h.0 l) ∙ (get_or_default (replaced us x y) h.0 0 z h.1 ∙ h.2) in
       elim (cases_eq (get_or us h.0 0) x) [
-        inl e ↦ inl (sym at ∙ (ap (renamed x y) e ∙ renamed-itself x y))
-      | inr ne ↦
-          let same : get_or us h.0 0 ≡ z = sym (renamed-other x y (get_or us h.0 0) ne) ∙ at in
-          inr ((h.0, l, get_or_default us h.0 z 0 l ∙ same), λ e. ne (same ∙ e))
+        | inl e ↦ inl (sym at ∙ (ap (renamed x y) e ∙ renamed-itself x y))
+        | inr ne ↦
+            let same : get_or us h.0 0 ≡ z = sym (renamed-other x y (get_or us h.0 0) ne) ∙ at in
+            inr ((h.0, l, get_or_default us h.0 z 0 l ∙ same), λ e. ne (same ∙ e))
       ]
 
   pub replaced-new : (z : ℕ) → Contains us z → Contains (replaced us x y) (renamed x y z)
@@ -56,16 +56,16 @@ module _ (us : List ℕ) (x y : ℕ) (distinct : AllPairs ◌≢◌ us) (has : C
   renamed-apart : (z t : ℕ) → Contains us z → Contains us t → renamed x y z ≡ renamed x y t → z ≡ t
   renamed-apart z t hz ht e =
       elim (cases_eq z x) [
-        inl p ↦
-          elim (cases_eq t x) [
-            inl q ↦ p ∙ sym q
-          | inr q ↦ absurd (lacks (subst (Contains us) (sym (renamed-other x y t q) ∙ (sym e ∙ (ap (renamed x y) p ∙ renamed-itself x y))) ht))
-          ]
-      | inr p ↦
-          elim (cases_eq t x) [
-            inl q ↦ absurd (lacks (subst (Contains us) (sym (renamed-other x y z p) ∙ (e ∙ (ap (renamed x y) q ∙ renamed-itself x y))) hz))
-          | inr q ↦ sym (renamed-other x y z p) ∙ (e ∙ renamed-other x y t q)
-          ]
+        | inl p ↦
+            elim (cases_eq t x) [
+              | inl q ↦ p ∙ sym q
+              | inr q ↦ absurd (lacks (subst (Contains us) (sym (renamed-other x y t q) ∙ (sym e ∙ (ap (renamed x y) p ∙ renamed-itself x y))) ht))
+            ]
+        | inr p ↦
+            elim (cases_eq t x) [
+              | inl q ↦ absurd (lacks (subst (Contains us) (sym (renamed-other x y z p) ∙ (e ∙ (ap (renamed x y) q ∙ renamed-itself x y))) hz))
+              | inr q ↦ sym (renamed-other x y z p) ∙ (e ∙ renamed-other x y t q)
+            ]
       ]
 
   entry_in : (i : ℕ) → i < length us → Contains us (get_or us i 0)
