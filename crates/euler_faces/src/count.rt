@@ -1,7 +1,9 @@
 //! Counts.
-ghost use Rattle.std.specs.Prelude.{◌≡◌, ◌≤◌, IfOk};
+ghost use Rattle.std.specs.Prelude.{◌≡◌, ◌≤◌, ◌+◌, ◌-◌, ◌*◌, ◌%◌, IfOk};
 ghost use Rattle.map_definitions.specs.Maps.{vertex_count, edge_count, face_count, component_count, genus_of};
 
+use super::components::count_components;
+use super::faces::count_faces;
 use half_edges::HalfMap;
 use std::alloc::{AllocError, Global};
 
@@ -20,14 +22,16 @@ pub struct EulerCount {
     pub ghost few_edges: { m ≤ 16777216 },
     pub ghost few_faces: { f ≤ 16777216 },
     pub ghost few_components: { c ≤ 16777216 },
+    pub ghost bounded: { n + f ≤ 2 * c + m },
+    pub ghost even: { (2 * c + m - (n + f)) % 2 ≡ 0 },
 }
 
 impl EulerCount {
-    /// Half of the difference of 2c + m and n + f, rounded up: of the counts of a map, its genus.
+    /// Half of 2c + m - n - f, which is never negative and always even: the genus.
     pub fn genus(&self) -> u32
         ensures { result ≡ genus_of self.now.n self.now.m self.now.f self.now.c }
     {
-        (2 * self.c + self.m).abs_diff(self.n + self.f).div_ceil(2)
+        (2 * self.c + self.m - (self.n + self.f)) / 2
     }
 }
 
@@ -38,6 +42,12 @@ pub fn euler(alloc: Global, map: &HalfMap) -> Result<EulerCount, AllocError>
     ensures f { IfOk result (λ count. count.f ≡ face_count map.now.lists) }
     ensures c { IfOk result (λ count. count.c ≡ component_count map.now.lists) }
 {
-    let _n = map.n();
-    Err(AllocError)
+    let f = count_faces(alloc, map)?;
+    let c = count_components(alloc, map)?;
+    Ok(EulerCount {
+        n: u32::from(map.n()),
+        m: map.m(),
+        f,
+        c,
+    })
 }

@@ -2,3 +2,6 @@
 pub mod CutLemmas
 pub mod MarkLemmas
 pub mod TableLemmas
+pub mod TwinLemmas
+pub mod MapLemmas
+pub mod IdLemmas

@@ -1,7 +1,7 @@
 -- Marks by number: which numbers of a list have been met.
-use Rattle.std.proofs.Common.{ℕ, ◌+◌, ◌<◌, ◌≤◌, ◌≡◌, ◌≢◌, ◌⊎◌, List, [], ◌∷◌, ◌++◌, length, get_or, set, take, All, Contains, Option, Some, None, refl, sym, ap, ◌∙◌, subst, inl, inr, arith, eqb, cond, Bool, true, false, IsTrue, ◌↔◌}
+use Rattle.std.proofs.Common.{ℕ, ◌+◌, ◌<◌, ◌≡◌, ◌≢◌, List, [], ◌∷◌, ◌++◌, length, get_or, set, take, All, Contains, Option, Some, None, sym, ap, ◌∙◌, subst, inl, inr, arith}
 use Rattle.std.proofs.lemmas.List.{length-set, get_or-set_same, get_or-set_other, take_more}
-use Rattle.std.proofs.lemmas.List.Elements.{Contains-push, Contains-push_cases, Contains-append_left, Contains-get_or, All-set}
+use Rattle.std.proofs.lemmas.List.Elements.{Contains-push, Contains-push_cases, Contains-append_left, All-set}
 use Rattle.std.proofs.lemmas.Bool.{cases_eq}
 use Rattle.map_definitions.specs.Faults.{lesser_of, least_repeated, first_from, least_out_of_range}
 use Rattle.map_definitions.specs.Maps.{Lists, list_of}

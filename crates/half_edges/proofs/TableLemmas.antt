@@ -1,11 +1,10 @@
 -- The tables of a map, as they grow and as they are read.
-use Rattle.std.proofs.Common.{ℕ, zero, suc, ◌+◌, ◌-◌, ◌*◌, ◌/◌, ◌<◌, ◌≤◌, ◌≡◌, ◌≢◌, ◌⊎◌, cond, eqb, ltb, List, [], ◌∷◌, ◌++◌, map, length, get_or, take, AllPairs, Contains, Option, Some, None, refl, sym, ap, ap₂, ◌∙◌, subst, inl, inr, arith}
+use Rattle.std.proofs.Common.{ℕ, ◌+◌, ◌<◌, ◌≡◌, List, [], ◌∷◌, ◌++◌, length, get_or, sym, ap, ap₂, ◌∙◌, inl, inr, arith}
 use Rattle.std.proofs.lemmas.List.{length_push, get_or_append_left, get_or_push}
-use Rattle.std.proofs.lemmas.Bool.{cases_lt, cases_eq}
-use Rattle.map_definitions.specs.Maps.{Lists, Dart, list_of, HasDart, IsSimpleMap, darts, darts_before, dart_count, dart_number, place_of, follows, face_step}
-use Rattle.map_definitions.proofs.DartLemmas.{darts_before_none, darts_before_more, darts_before_end}
-use Rattle.half_edges.specs.Map.{twin_dart}
-use Rattle.half_edges.specs.Tables.{StartsTo, AreTwins, AreTables}
+use Rattle.std.proofs.lemmas.Bool.{cases_lt}
+use Rattle.map_definitions.specs.Maps.{Lists, list_of, darts_before, dart_count, dart_number, place_of}
+use Rattle.map_definitions.proofs.DartLemmas.{darts_before_none, darts_before_end}
+use Rattle.half_edges.specs.Tables.{StartsTo}
 
 -- at first no dart stands before
 pub StartsTo-none : (lists : Lists) → StartsTo lists (0 ∷ []) 0

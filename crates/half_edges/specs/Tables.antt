@@ -1,7 +1,7 @@
 -- What the tables of a half-edge map say.
-use Rattle.std.specs.Prelude.{ℕ, ◌+◌, ◌<◌, ◌≤◌, ◌≡◌, List, length, slice_index, slice_index_or}
+use Rattle.std.specs.Prelude.{ℕ, ◌+◌, ◌<◌, ◌≤◌, ◌≡◌, List, map, length, slice_get, slice_index, slice_index_or, Some}
 use Rattle.map_definitions.specs.Maps.{Lists, Dart, IsSimpleMap, darts, darts_before}
-use Rattle.half_edges.specs.Map.{twin_dart}
+use Rattle.half_edges.specs.Map.{Map, twin_dart}
 
 -- for each vertex up to n, how many darts stand before its own
 pub record StartsTo (lists : Lists) (starts : List ℕ) (n : ℕ) : Type 0 where
@@ -11,8 +11,7 @@ pub record StartsTo (lists : Lists) (starts : List ℕ) (n : ℕ) : Type 0 where
 -- for each of the first n darts the number of its twin
 pub record AreTwins (ends : List Dart) (twins : List ℕ) (n : ℕ) : Type 0 where
   pub count : length twins ≡ n
-  pub in_darts : (d : ℕ) → d < n → slice_index twins d < length ends
-  pub twin : (d : ℕ) → d < n → slice_index_or ends (slice_index twins d) (0, 0) ≡ twin_dart (slice_index_or ends d (0, 0))
+  pub at : (d : ℕ) → d < n → slice_get ends (slice_index twins d) ≡ Some (twin_dart (slice_index_or ends d (0, 0)))
 
 -- the tables of a map with few vertices
 pub record AreTables (lists : Lists) (starts : List ℕ) (ends : List Dart) (twins : List ℕ) : Type 0 where
@@ -21,3 +20,7 @@ pub record AreTables (lists : Lists) (starts : List ℕ) (ends : List Dart) (twi
   pub starts_are : StartsTo lists starts (length lists)
   pub ends_are : ends ≡ darts lists
   pub twins_are : AreTwins ends twins (length ends)
+
+-- the map of these tables: a dart's id is its number
+abbrev pub map_of : Lists → List Dart → Map
+map_of lists ends = record { lists = lists; spare = 0; ids = map (λ d. Some d) ends }

@@ -82,13 +82,13 @@ fn least_twice(marks: &mut [u16], mark: u16, list: &[u16]) -> Option<u16>
     ensures least { result ≡ least_repeated 0 list.now }
     ensures marks { All (λ m. m < mark + 1) marks.new }
 {
-    let mut least = None;
+    let mut twice = None;
     for u in list {
         if meet(marks, *u, mark) {
-            least = lesser(least, *u);
+            twice = lesser(twice, *u);
         }
     }
-    least
+    twice
 }
 
 // The first vertex whose list holds a number twice, and the least such number.

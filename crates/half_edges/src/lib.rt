@@ -10,7 +10,11 @@ mod half_map;
 mod ids;
 mod rotations;
 mod tables;
+mod twins;
 
 pub use half_map::{HalfMap, MapFault};
 pub use ids::{DartId, FaceId, VertexId};
 pub use rotations::Rotations;
+
+#[cfg(test)]
+mod tests;

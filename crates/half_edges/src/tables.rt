@@ -1,8 +1,7 @@
 //! The tables of a map: where each vertex's darts begin, what each dart's ends are, and its twin.
 ghost use Rattle.std.specs.Prelude.{◌≡◌, ◌+◌, ◌^◌, ◌<◌, ◌++◌, ◌↔◌, ℕ, [], length, slice_get, Some, None, IsTrue, IfOk, OnOk, IfSome, IfNone, MatchOption, Contains};
 ghost use Rattle.map_definitions.specs.Maps.{HasDart, list_of, darts, darts_from, darts_before, dart_count, dart_number, place_of};
-ghost use Rattle.map_definitions.specs.Faults.{first_from, least_one_sided};
-ghost use Rattle.half_edges.specs.Tables.{StartsTo, AreTwins};
+ghost use Rattle.half_edges.specs.Tables.{StartsTo};
 
 use crate::Rotations;
 use crate::faults::lesser;
@@ -78,7 +77,7 @@ pub(crate) fn find_dart(lists: &Rotations, starts: &[u32], v: u16, u: u16) -> Op
 }
 
 // Whether the dart of this number is that from `v` to `u`.
-fn is_dart_at(darts: &[(u16, u16)], d: u32, v: u16, u: u16) -> bool
+pub(crate) fn is_dart_at(darts: &[(u16, u16)], d: u32, v: u16, u: u16) -> bool
     ensures { IsTrue result ↔ (slice_get darts.now d ≡ Some (v, u)) }
 {
     match darts.get(d as usize) {

@@ -339,3 +339,10 @@ darts_more lists v h =
     let e : 0 + length (take v lists) ≡ v = omega (arith, length-take-le v lists (omega arith)) in
     ap (λ x. darts x) (take_more lists v [] h) ∙ darts_since-push 0 (take v lists) (list_of lists v)
     ∙ ap (λ n. darts (take v lists) ++ darts_from n (list_of lists v)) e
+
+-- each number below the count of darts has a dart of the lists
+pub HasDart-darts : (lists : Lists) (i : ℕ) (d : Dart) → i < dart_count lists → HasDart lists (get_or (darts lists) i d).0 (get_or (darts lists) i d).1
+HasDart-darts lists i d h =
+    let p = place_of_number lists i h in
+    let e = ap (λ n. get_or (darts lists) n d) p.2.number ∙ dart_at_place lists p.0 p.1 d 0 p.2.list_in p.2.entry_in in
+    rw e (HasDart-at lists p.0 p.1 0 p.2.list_in p.2.entry_in)

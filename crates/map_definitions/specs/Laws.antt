@@ -1,7 +1,12 @@
 -- Laws of the maps of genus zero.
 use Rattle.std.specs.Prelude.{ℕ, ◌+◌, ◌*◌, ◌<◌, ◌≤◌, ◌≡◌, ◌⊎◌, List, [], ◌∷◌, ◌++◌, ◌≢◌, Contains, length, slice_set, remove}
-use Rattle.map_definitions.specs.Maps.{Lists, Dart, HasDart, IsSimpleMap, IsPlane, vertex_count, edge_count, component_count, list_of, follows, place_of}
+use Rattle.map_definitions.specs.Maps.{Lists, Dart, HasDart, IsSimpleMap, IsPlane, vertex_count, edge_count, face_count, component_count, list_of, follows, place_of}
 use Rattle.map_definitions.specs.Paths.{JoinsAvoiding, arc, SameFace}
+
+-- In a simple map n + f is at most 2c + m, by an even difference.
+abbrev pub EulerBound : Type 0
+EulerBound =
+    (lists : Lists) → IsSimpleMap lists → (g : ℕ) × (vertex_count lists + face_count lists + 2 * g ≡ 2 * component_count lists + edge_count lists)
 
 -- a list without its first x
 abbrev pub without_entry : List ℕ → ℕ → List ℕ

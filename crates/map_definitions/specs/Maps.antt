@@ -1,5 +1,5 @@
 -- Plane maps as lists: for each vertex, its neighbours in clockwise order. Vertices are numbered from 0.
-use Rattle.std.specs.Prelude.{ℕ, zero, suc, ◌+◌, ◌-◌, ◌*◌, ◌/◌, ◌<◌, min, max, ◌≡◌, ◌≢◌, Bool, true, false, ◌&&◌, ◌==◌, if◌then◌else◌, List, [], ◌∷◌, ◌++◌, map, length, slice_index_or, AllPairs, Contains, sum_by, count_by}
+use Rattle.std.specs.Prelude.{ℕ, zero, suc, ◌+◌, ◌-◌, ◌*◌, ◌/◌, ◌<◌, ◌≡◌, ◌≢◌, Bool, true, false, ◌&&◌, ◌==◌, if◌then◌else◌, List, [], ◌∷◌, ◌++◌, map, length, slice_index_or, AllPairs, Contains, sum_by, count_by}
 use Rattle.map_definitions.specs.Classes.{classes, class_count, orbits}
 
 -- the rotation lists of a map
@@ -99,9 +99,9 @@ face_count lists = class_count (orbits (face_images lists)) + isolated_count lis
 unfoldable pub component_count : Lists → ℕ
 component_count lists = class_count (classes (length lists) (darts lists))
 
--- the genus: half of the difference of 2c + m and n + f, rounded up
+-- the genus: half of 2c + m - n - f
 abbrev pub genus_of : ℕ → ℕ → ℕ → ℕ → ℕ
-genus_of n m f c = (max (2 * c + m) (n + f) - min (2 * c + m) (n + f) + 1) / 2
+genus_of n m f c = (2 * c + m - (n + f)) / 2
 
 abbrev pub genus : Lists → ℕ
 genus lists = genus_of (vertex_count lists) (edge_count lists) (face_count lists) (component_count lists)

@@ -1,15 +1,16 @@
 -- How a run ends, from what it has taken and written.
-use Rattle.std.proofs.Common.{◌≡◌, ℕ, ◌≤◌, ◌↔◌, List, [], ◌∷◌, ◌++◌, length, refl, sym, ap, ◌∙◌, arith, Option, Some, None, inl, inr, drop}
-use Rattle.std.proofs.lemmas.List.{append-nil}
+use Rattle.std.proofs.Common.{◌≡◌, ℕ, ◌+◌, ◌≤◌, ◌↔◌, List, [], ◌∷◌, ◌++◌, length, refl, sym, ap, ◌∙◌, arith, Option, Some, None, inl, inr, drop, take}
+use Rattle.std.proofs.lemmas.List.{append-nil, length-append, length-take}
 use Rattle.map_definitions.specs.Maps.{Lists}
-use Rattle.map_definitions.specs.Reading.{Ending, IsReading, input_limit}
+use Rattle.map_definitions.specs.Reading.{Ending, well, end_in_record, bad_count, too_long, IsReading, input_limit}
 use Rattle.map_definitions.specs.Text.{last_line, bad_words_line}
 use Rattle.planar_code.specs.State.{State, at_front}
 use Rattle.planar_code.specs.Progress.{Progress}
 use Rattle.planar_code.proofs.ProgressLemmas.{Progress-start, Progress-begins, Progress-well, Progress-in_record}
-use Rattle.pg_io.specs.Io.{WhereTold, Gives, Takes}
-use Rattle.pg_io.proofs.Growth.{HasRisen-after, Grows-none, Grows-then, GrowsByPrefix-none, GrowsByPrefix-then}
-use Rattle.pigale_shell.specs.Outcome.{WritesTaken, refused_count, Outcome, GrowsByText}
+use Rattle.planar_code.proofs.ReadingLemmas.{reading-unique}
+use Rattle.pg_io.specs.Io.{WhereTold, Gives, Takes, HasRisen}
+use Rattle.pg_io.proofs.Growth.{HasRisen-after, Takes-then, Takes-gives, Grows-none, Grows-then, GrowsByPrefix-none, GrowsByPrefix-then}
+use Rattle.pigale_shell.specs.Outcome.{WritesTaken, refused_count, IsBad, Ends, Outcome, GrowsByText, MayEnd, TakesAtMost}
 use Rattle.pigale_shell.specs.Run.{IsPlaced, IsAt, Closes, StopsAt, ending_by, ending_here}
 use Rattle.pigale_shell.specs.declared.job.Job.{Job}
 use Rattle.pigale_shell.specs.declared.job.Status.{Status}
@@ -159,4 +160,44 @@ GrowsByText-none (Some job) left o = λ input told. record {
   answers = refl;
   last_is = inl refl;
   grows = GrowsByPrefix-none [] refl;
+}
+
+-- a well ending
+may_end-well : (ending : Ending) (status : Status) → ending ≡ well → MayEnd well status → MayEnd ending status
+may_end-well ending status is may = rw is may
+
+-- a bad one
+may_end-bad : (ending : Ending) → IsBad ending → MayEnd ending BadInput
+may_end-bad well bad = bad
+may_end-bad (end_in_record at) bad = tt
+may_end-bad (bad_count at) bad = tt
+may_end-bad too_long bad = tt
+
+may_end-memory : (ending : Ending) → MayEnd ending NoMemory
+may_end-memory well = tt
+may_end-memory (end_in_record at) = tt
+may_end-memory (bad_count at) = tt
+may_end-memory too_long = tt
+
+-- where nothing failed the ending of the input decides the status
+pub Outcome-complete : (job : Job) (e : Ends) (status : Status) (input : List ℕ) (records : List Lists) (ending : Ending) → Outcome job e status → e.left ≡ Some input → IsReading input records ending → ¬ HasRisen e.read_faults e.read_faults' → ¬ HasRisen e.write_faults e.write_faults' → MayEnd ending status
+Outcome-complete job e Done input records ending outcome told reading no_read no_write =
+    may_end-well ending Done (reading-unique input records (outcome input told).1.records ending well reading (outcome input told).1.reading).1 tt
+Outcome-complete job e SomeRefused input records ending outcome told reading no_read no_write =
+    may_end-well ending SomeRefused (reading-unique input records (outcome input told).3.records ending well reading (outcome input told).3.reading).1 tt
+Outcome-complete job e BadWords input records ending outcome told reading no_read no_write = absurd outcome
+Outcome-complete job e BadInput input records ending outcome told reading no_read no_write =
+    let is = outcome input told in
+    let same = (reading-unique input records is.3.records ending is.0 reading is.3.reading).1 in
+    may_end-bad ending (rw same is.1)
+Outcome-complete job e ReadFault input records ending outcome told reading no_read no_write = absurd (no_read outcome.0)
+Outcome-complete job e WriteFault input records ending outcome told reading no_read no_write = absurd (no_write outcome.0)
+Outcome-complete job e NoMemory input records ending outcome told reading no_read no_write = may_end-memory ending
+
+-- a read takes no more than it says
+pub TakesAtMost-read : {o p q : Option (List ℕ)} {xs buf buf' : List ℕ} (n k : ℕ) → Takes o p xs → Gives p q k buf buf' → length xs + k ≤ n → TakesAtMost n o q
+TakesAtMost-read {xs = xs} {buf' = buf'} n k first gives few = record {
+  bytes = xs ++ take k buf';
+  takes = Takes-then first (Takes-gives gives);
+  few = rw (length-append xs (take k buf'), length-take k buf') (omega arith);
 }

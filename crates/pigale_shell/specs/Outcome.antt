@@ -1,9 +1,9 @@
 -- What was taken and written when a run ended with a status.
-use Rattle.std.specs.Prelude.{ℕ, ◌<◌, ◌≡◌, ◌⊎◌, List, [], ◌++◌, length, count_by, Option, Some, None}
+use Rattle.std.specs.Prelude.{ℕ, ◌<◌, ◌≤◌, ◌≡◌, ◌⊎◌, List, [], ◌++◌, length, count_by, Option, Some, None}
 use Rattle.map_definitions.specs.Maps.{Lists}
 use Rattle.map_definitions.specs.Reading.{Ending, well, end_in_record, bad_count, too_long, IsReading, BeginsWith}
 use Rattle.map_definitions.specs.Text.{AreBlocks, last_line, bad_words_line}
-use Rattle.pg_io.specs.Io.{WhereTold, Grows, GrowsByPrefix, HasRisen}
+use Rattle.pg_io.specs.Io.{WhereTold, Takes, Grows, GrowsByPrefix, HasRisen}
 use Rattle.pigale_shell.specs.Answer.{IsBlock, is_refused}
 use Rattle.pigale_shell.specs.declared.job.Job.{Job}
 use Rattle.pigale_shell.specs.declared.job.Status.{Status}
@@ -87,3 +87,19 @@ Outcome job e ReadFault =
 Outcome job e WriteFault =
     HasRisen e.write_faults e.write_faults' × WhereTold e.left (λ input. WritesPart job input e.written e.written')
 Outcome job e NoMemory = WhereTold e.left (λ input. WritesPart job input e.written e.written')
+
+-- the statuses that a run over an input with this ending may have, where nothing failed
+abbrev pub MayEnd : Ending → Status → Type 0
+MayEnd well Done = Unit {0}
+MayEnd well SomeRefused = Unit {0}
+MayEnd (end_in_record at) BadInput = Unit {0}
+MayEnd (bad_count at) BadInput = Unit {0}
+MayEnd too_long BadInput = Unit {0}
+MayEnd ending NoMemory = Unit {0}
+MayEnd ending status = ⊥
+
+-- at most so many bytes were taken
+pub record TakesAtMost (n : ℕ) (left left' : Option (List ℕ)) : Type 0 where
+  pub bytes : List ℕ
+  pub takes : Takes left left' bytes
+  pub few : length bytes ≤ n

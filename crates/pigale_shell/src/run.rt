@@ -3,7 +3,7 @@ ghost use Rattle.std.specs.Prelude.{◌≡◌, ◌<◌, ◌≤◌, ◌+◌, ◌-
 ghost use Rattle.pg_io.specs.Io.{Takes, Grows};
 ghost use Rattle.pigale_shell.specs.Lines.{ending_of};
 ghost use Rattle.pigale_shell.specs.Answer.{IsBlock, is_refused};
-ghost use Rattle.pigale_shell.specs.Outcome.{Outcome};
+ghost use Rattle.pigale_shell.specs.Outcome.{Outcome, TakesAtMost};
 ghost use Rattle.pigale_shell.specs.Run.{IsPlaced, IsAt, Spoils, Closes, StopsAt, ending_here as spoken_here};
 
 use super::answer::answer_record;
@@ -190,7 +190,10 @@ fn turn<S: Source, K: Sink>(
 ) -> Result<(), Status>
     requires placed { IsPlaced run.old }
     requires some_room { 0 < length buffer.old }
+    requires room { run.old.taken + length buffer.old ≤ 16777217 }
     ensures placed { OnOk result (IsPlaced run.new) }
+    ensures limit { (left : Option (List ℕ)) (consumed : List ℕ) → Takes left (S.left src.old) consumed → length consumed ≡ run.old.taken
+        → TakesAtMost 16777217 left (S.left src.new) }
     ensures goes_on { OnOk result (run.old.taken < run.new.taken) }
     ensures outcome { (left written : Option (List ℕ)) (consumed : List ℕ) →
         Takes left (S.left src.old) consumed → IsAt job written (K.written out.old) consumed run.old →
@@ -235,6 +238,7 @@ pub fn run_job<S: Source, K: Sink>(alloc: Global, job: Job, src: &mut S, out: &m
       write_faults = K.faults out.old;
       write_faults' = K.faults out.new;
     }) result }
+    ensures limit { TakesAtMost 16777217 (S.left src.old) (S.left src.new) }
 {
     let mut run = Run {
         reader: RecordReader::new(alloc),

@@ -1,10 +1,11 @@
 //! The top call.
-ghost use Rattle.std.specs.Prelude.{◌≡◌, ◌≢◌, ◌⊎◌, ◌<◌, ℕ, [], map, string_bytes, Some, None};
-ghost use Rattle.map_definitions.specs.Reading.{Ending, well};
+ghost use Rattle.std.specs.Prelude.{◌≡◌, ◌≢◌, ◌⊎◌, ◌<◌, ℕ, List, IsSome, [], map, string_bytes, Some, None};
+ghost use Rattle.map_definitions.specs.Maps.{Lists};
+ghost use Rattle.map_definitions.specs.Reading.{Ending, well, IsReading};
 ghost use Rattle.map_definitions.specs.Text.{bad_words_line};
 ghost use Rattle.pg_io.specs.Io.{WhereTold, Grows, GrowsByPrefix, HasRisen};
 ghost use Rattle.pigale_shell.specs.Words.{job_of};
-ghost use Rattle.pigale_shell.specs.Outcome.{Writes, WritesTaken, IsBad, GrowsByText};
+ghost use Rattle.pigale_shell.specs.Outcome.{Writes, WritesTaken, IsBad, GrowsByText, MayEnd, TakesAtMost};
 
 use super::job::{Job, Status, WordFault, words_to_job};
 use super::run::run_job;
@@ -71,6 +72,15 @@ pub fn pigale<S: Source, K: Sink>(
     // Memory was wanting, and the sink grew by some first bytes of the text.
     ensures no_memory { result ≡ Status.NoMemory →
         GrowsByText (job_of (map string_bytes words.now)) (S.left src.old) (K.written out.old) (K.written out.new) }
+
+    // Where the words are good, nothing failed and this is the reading of the input, its ending decides the status, unless
+    // memory was wanting.
+    ensures complete { (input : List ℕ) (records : List Lists) (ending : Ending) → S.left src.old ≡ Some input → IsReading input records ending
+        → IsSome (job_of (map string_bytes words.now)) → ¬ HasRisen (S.faults src.old) (S.faults src.new)
+        → ¬ HasRisen (K.faults out.old) (K.faults out.new) → MayEnd ending result }
+
+    // At most 2^24 bytes are taken, and the one after them.
+    ensures limit { TakesAtMost 16777217 (S.left src.old) (S.left src.new) }
 {
     match words_to_job(alloc, words) {
         Ok(job) => run_job(alloc, job, src, out),

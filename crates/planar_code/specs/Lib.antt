@@ -3,3 +3,6 @@ pub mod State
 pub mod Fed
 pub mod Step
 pub mod Progress
+pub mod Scan
+pub mod Front
+pub mod Laws

@@ -2,11 +2,20 @@
 //!
 //! `RecordReader` takes the bytes of a file one by one and answers each record as it ends;
 //! `next_record` reads the record at an offset of bytes that are all there. Both take exactly the
-//! records: a clause on each says when each answer comes.
+//! records: a clause on each says when each answer comes. Both stand on one scanner, which handles
+//! each byte once. `laws` says of all inputs that each is read in one way at most.
 #![tactic(auto)]
 
+pub mod laws;
 mod next;
 mod reader;
+mod scan;
 
 pub use next::{CodeFault, Step, after_header, next_record};
 pub use reader::{Fed, RecordReader};
+
+/// The bytes with which a file may begin.
+const HEADER: [u8; 15] = *b">>planar_code<<";
+
+#[cfg(test)]
+mod tests;

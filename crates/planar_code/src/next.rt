@@ -3,6 +3,8 @@ ghost use Rattle.std.specs.Prelude.{◌≡◌, ◌≤◌, length, MatchResult};
 ghost use Rattle.map_definitions.specs.Reading.{header_of};
 ghost use Rattle.planar_code.specs.Step.{StandsAt, FailsAt};
 
+use crate::HEADER;
+use crate::scan::{Scanned, Scanner};
 use half_edges::Rotations;
 use std::alloc::Global;
 
@@ -31,15 +33,29 @@ pub fn next_record(alloc: Global, bytes: &[u8], at: usize) -> Result<Step, CodeF
     requires { at ≤ length bytes.now }
     ensures { MatchResult result (StandsAt bytes.now at) (FailsAt bytes.now at) }
 {
-    Err(CodeFault::NoMemory)
+    let rest = &bytes[at..];
+    let mut scanner = Scanner::new(alloc);
+    for (passed, byte) in rest.iter().enumerate() {
+        match scanner.step(*byte) {
+            Ok(Scanned::More) => {}
+            Ok(Scanned::Record(lists)) => return Ok(Step::Lists(lists, at + passed + 1)),
+            Ok(Scanned::Bad) => return Err(CodeFault::BadCount(at)),
+            Err(_) => return Err(CodeFault::NoMemory),
+        }
+    }
+    if rest.is_empty() {
+        Ok(Step::End)
+    } else {
+        Err(CodeFault::EndInRecord(at))
+    }
 }
 
 /// The offset of the first record: 15 where the bytes begin with the header, and 0 otherwise.
 pub fn after_header(bytes: &[u8]) -> usize
     ensures { result ≡ length (header_of bytes.now) }
 {
-    if bytes.len() >= 15 && &bytes[..15] == b">>planar_code<<".as_slice() {
-        15
+    if bytes.len() >= HEADER.len() && bytes[..HEADER.len()] == HEADER[..] {
+        HEADER.len()
     } else {
         0
     }

@@ -1,8 +1,10 @@
 //! A reader that is fed byte by byte.
-ghost use Rattle.std.specs.Prelude.{◌≡◌, ◌+◌, ◌<◌, ◌↔◌, [], length, IsTrue, IfOk, OnErr};
-ghost use Rattle.map_definitions.specs.Reading.{input_limit};
+ghost use Rattle.std.specs.Prelude.{◌≡◌, ◌+◌, ◌<◌, ◌↔◌, ◌&&◌, ◌==◌, [], length, slice_index, IsTrue, IfOk, OnErr};
+ghost use Rattle.map_definitions.specs.Reading.{header, input_limit};
 ghost use Rattle.planar_code.specs.Fed.{Feeds};
 
+use crate::HEADER;
+use crate::scan::{Scanned, Scanner};
 use half_edges::Rotations;
 use std::alloc::{AllocError, Global};
 use std::marker::Model;
@@ -19,44 +21,73 @@ pub enum Fed {
     More,
 }
 
+/// Whether bytes that are a front of the header or not, of this length, are one with one byte more.
+fn goes_on(in_header: bool, length: usize, byte: u8) -> bool
+    ensures { IsTrue result
+        ↔ (IsTrue in_header × (length < 15) × (byte ≡ slice_index header length)) }
+{
+    in_header && length < HEADER.len() && byte == HEADER[length]
+}
+
+/// Whether a header has ended, where one may come and the bytes are a front of one, of this length.
+fn ends_header(may_come: bool, in_header: bool, length: usize) -> bool
+    ensures { result ≡ (may_come && in_header && (length == 15)) }
+{
+    may_come && in_header && length == HEADER.len()
+}
+
 /// A reader of the records of a file.
 #[derive(Drop)]
 pub struct RecordReader {
-    stub: u8,
+    scanner: Scanner,
+    start: usize,
+    header_may_come: bool,
+    /// The number of bytes pending.
+    pending_len: usize,
+    /// Whether the bytes pending are a front of the header.
+    in_header: bool,
 }
 
 impl Model for RecordReader {
-    ghost use Rattle.planar_code.specs.State.{State, at_front};
+    ghost use Rattle.planar_code.specs.State.{State};
+    ghost use Rattle.planar_code.specs.Front.{IsCounted};
 
     ghost Value = { State };
 
-    ghost view = { λ _. at_front };
+    ghost view = { λ r. record { pending = r.scanner; start = r.start; header_may_come = r.header_may_come } };
+
+    ghost invariant = { λ r. IsCounted r.scanner r.pending_len r.in_header };
 }
 
 impl RecordReader {
     ghost use Rattle.planar_code.specs.State.{at_front};
 
-    /// A reader before the first byte of a file: nothing is pending, and a header may come.
+    /// A reader before the first byte of a file: nothing is pending, and a header may come. It takes
+    /// no memory.
     pub fn new(alloc: Global) -> Self
         ensures { result ≡ at_front }
     {
-        RecordReader { stub: 0 }
+        RecordReader {
+            scanner: Scanner::new(alloc),
+            start: 0,
+            header_may_come: true,
+            pending_len: 0,
+            in_header: true,
+        }
     }
 
     /// The offset in the file of the first byte of the record that has begun, or of the next byte.
     pub fn start(&self) -> usize
         ensures { result ≡ self.now.start }
     {
-        let _stub = self.stub;
-        0
+        self.start
     }
 
     /// Whether nothing is pending.
     pub fn is_between(&self) -> bool
         ensures { IsTrue result ↔ (self.now.pending ≡ []) }
     {
-        let _stub = self.stub;
-        true
+        self.pending_len == 0
     }
 
     /// Takes the next byte. After a bad count, and after want of memory, nothing has changed.
@@ -65,7 +96,27 @@ impl RecordReader {
         ensures fed { IfOk result (λ fed. Feeds self.old byte fed self.new) }
         ensures err { OnErr result (self.new ≡ self.old) }
     {
-        let _stub = self.stub;
-        Err(AllocError)
+        match self.scanner.step(byte)? {
+            Scanned::Bad => Ok(Fed::Bad(self.start)),
+            Scanned::Record(lists) => {
+                self.start += self.pending_len + 1;
+                self.header_may_come = false;
+                self.pending_len = 0;
+                self.in_header = true;
+                Ok(Fed::Record(lists))
+            }
+            Scanned::More => {
+                self.in_header = goes_on(self.in_header, self.pending_len, byte);
+                self.pending_len += 1;
+                if ends_header(self.header_may_come, self.in_header, self.pending_len) {
+                    self.scanner.clear();
+                    self.start = self.pending_len;
+                    self.header_may_come = false;
+                    self.pending_len = 0;
+                    return Ok(Fed::More);
+                }
+                Ok(Fed::More)
+            }
+        }
     }
 }

@@ -1,4 +1,4 @@
-use Rattle.std.proofs.Common.{◌≡◌, ◌==◌, length, ap, sym, ◌∙◌, arith, Some, below_more, Bool, true, false}
+use Rattle.std.proofs.Common.{◌≡◌, ◌==◌, ap, sym, ◌∙◌, arith, below_more, true, false}
 use Rattle.std.specs.List.{list_any}
 use Rattle.map_definitions.specs.Maps.{list_of}
 use Rattle.map_definitions.specs.Faults.{own_number}

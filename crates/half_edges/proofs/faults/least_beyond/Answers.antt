@@ -1,6 +1,6 @@
-use Rattle.std.proofs.Common.{◌≡◌, nat_le, ap, sym, ◌∙◌, Some, arith, get_or, le-leb, leb, take}
+use Rattle.std.proofs.Common.{ap, sym, ◌∙◌, Some, get_or, le-leb, leb}
 use Rattle.std.proofs.lemmas.Bool.{lt-leb}
-use Rattle.map_definitions.specs.Faults.{lesser_of, least_where}
+use Rattle.map_definitions.specs.Faults.{lesser_of}
 use Rattle.map_definitions.proofs.FaultLemmas.{least_where_more_yes, least_where_more_no}
 use Rattle.half_edges.proofs.faults.least_beyond.Goals as goal
 use Rattle.half_edges.proofs.faults.least_beyond.Goals.{then-n-u, else-n-u}

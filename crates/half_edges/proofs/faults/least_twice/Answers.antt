@@ -1,4 +1,4 @@
-use Rattle.std.proofs.Common.{◌≡◌, ◌<◌, length, All, sym, ◌∙◌, arith}
+use Rattle.std.proofs.Common.{◌<◌, length, All, sym, ◌∙◌, arith}
 use Rattle.std.proofs.lemmas.Bool.{true≢false}
 use Rattle.half_edges.proofs.MarkLemmas.{HasMet-again, HasMet-first}
 use Rattle.half_edges.proofs.faults.least_twice.Goals as goal
@@ -11,10 +11,10 @@ loop-u-preserved c =
     let marked = c.meet.ensures.marked in
     elim c.if-meet.branch [
       | then-meet w ↦
-          rw (marked, w.least-is, w.lesser-least.ensures)
-          (HasMet-again c.loop-u.marks c.args.mark c.args.list.now c.loop-u.u-index c.loop-u.least within c.loop-u-test.true c.loop-u.invariant (met.0 w.if-meet.true))
+          rw (marked, w.twice-is, w.lesser-twice.ensures)
+          (HasMet-again c.loop-u.marks c.args.mark c.args.list.now c.loop-u.u-index c.loop-u.twice within c.loop-u-test.true c.loop-u.invariant (met.0 w.if-meet.true))
       | else-meet w ↦
-          rw (marked, w.least-is)
-          (HasMet-first c.loop-u.marks c.args.mark c.args.list.now c.loop-u.u-index c.loop-u.least within c.loop-u-test.true c.loop-u.invariant
+          rw (marked, w.twice-is)
+          (HasMet-first c.loop-u.marks c.args.mark c.args.list.now c.loop-u.u-index c.loop-u.twice within c.loop-u-test.true c.loop-u.invariant
           (λ e. true≢false (sym (met.1 e) ∙ w.if-meet.false)))
     ]

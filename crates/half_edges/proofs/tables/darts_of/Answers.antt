@@ -1,5 +1,5 @@
-use Rattle.std.proofs.Common.{◌≡◌, ◌++◌, ◌+◌, length, take, ap, sym, ◌∙◌, arith}
-use Rattle.map_definitions.specs.Maps.{darts, darts_from, list_of}
+use Rattle.std.proofs.Common.{◌++◌, ap, sym, ◌∙◌, arith}
+use Rattle.map_definitions.specs.Maps.{darts_from, list_of}
 use Rattle.map_definitions.proofs.DartLemmas.{darts_more}
 use Rattle.half_edges.proofs.tables.darts_of.Goals as goal
 

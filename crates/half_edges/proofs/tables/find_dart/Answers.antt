@@ -1,4 +1,4 @@
-use Rattle.std.proofs.Common.{◌≡◌, ◌<◌, length, ap, sym, ◌∙◌, arith}
+use Rattle.std.proofs.Common.{◌≡◌, length, ap, ◌∙◌, arith}
 use Rattle.map_definitions.specs.Maps.{list_of, place_of}
 use Rattle.map_definitions.proofs.DartLemmas.{Contains-from_place_of}
 use Rattle.half_edges.proofs.TableLemmas.{dart_number-from_start, start-lt}

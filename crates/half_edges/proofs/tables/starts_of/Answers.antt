@@ -1,4 +1,4 @@
-use Rattle.std.proofs.Common.{◌≡◌, ◌+◌, ◌++◌, ◌∷◌, [], length, ap, sym, ◌∙◌, arith, List, ℕ}
+use Rattle.std.proofs.Common.{◌≡◌, ◌+◌, ◌++◌, ◌∷◌, [], length, ap, sym, ◌∙◌, arith}
 use Rattle.map_definitions.proofs.DartLemmas.{darts_before_none, darts_before_more, darts_before_le}
 use Rattle.half_edges.proofs.TableLemmas.{StartsTo-none, StartsTo-push}
 use Rattle.half_edges.proofs.tables.starts_of.Goals as goal

@@ -1,5 +1,6 @@
 use Rattle.std.proofs.Common.{[], ◌++◌, refl, arith}
 use Rattle.std.proofs.lemmas.List.{length-append, length-drop, length-take}
+use Rattle.planar_code.proofs.ProgressLemmas.{Progress-length}
 use Rattle.pg_io.proofs.Growth.{Takes-none}
 use Rattle.pigale_shell.proofs.OutcomeLemmas.{Outcome-since, at-start, placed-start}
 use Rattle.pigale_shell.proofs.run.run_job.Goals as goal
@@ -30,4 +31,6 @@ returns-in-Err g c =
     let at = c.turns.invariant.consumed in
     record {
       outcome = Outcome-since c.args.job _ _ _ _ _ _ _ _ _ _ c.in-Err.status c.turns.invariant.reads c.turns.invariant.writes (c.in-Err.ensures.outcome _ _ at.0 at.1 at.2);
+      limit = c.in-Err.ensures.limit _ at.0 at.1
+          (let l = Progress-length at.0 at.2.records c.turns.run.reader at.2.progress in let p = c.turns.invariant.placed in omega arith);
     }

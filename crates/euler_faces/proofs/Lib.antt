@@ -1,0 +1,4 @@
+-- Lemmas on darts by their numbers.
+mod NumberLemmas
+mod IsolatedLemmas
+mod SearchLemmas

@@ -1,0 +1,17 @@
+use Rattle.std.proofs.Common.{◌≡◌, ◌+◌, ◌*◌, length}
+use Rattle.map_definitions.specs.Maps.{edge_count, dart_count, face_images}
+use Rattle.map_definitions.proofs.Marks.{IsMarking}
+use Rattle.half_edges.specs.Map.{IsLive}
+use Rattle.euler_faces.specs.Numbers.{number_at, mark_of}
+use Rattle.euler_faces.proofs.NumberLemmas.{unmarked}
+use Rattle.euler_faces.proofs.faces.mark_face.Given as goal
+
+abbrev pub invariant-loop-marked : goal.invariant-loop-marked
+invariant-loop-marked l = record {
+  live : IsLive l.map l.d.0;
+  marks : length l.marked ≡ 2 * (edge_count l.map.lists + l.map.spare);
+  marking : IsMarking (face_images l.map.lists) (mark_of l.map l.initial.marked) (mark_of l.map l.marked) (number_at l.map l.fn.start.0) (number_at l.map l.d.0);
+}
+
+abbrev pub decreases-loop-marked : goal.decreases-loop-marked
+decreases-loop-marked l = unmarked (mark_of l.map l.marked) (dart_count l.map.lists)

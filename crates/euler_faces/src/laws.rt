@@ -1,0 +1,41 @@
+//! Laws of plane maps. Each is the contract of a function that does nothing, and speaks of all maps.
+ghost use Rattle.map_definitions.specs.Laws.{EulerBound, EdgeRemoved, BridgeTest, FacesMerged, EdgeBound, CornerSplit, DigonSplit};
+
+/// In a simple map n + f is at most 2c + m, by an even difference (Euler's formula, as a bound).
+pub fn euler_bound()
+    ensures { EulerBound }
+{}
+
+/// A map of genus zero without one of its edges has genus zero.
+pub fn edge_removed()
+    ensures { EdgeRemoved }
+{}
+
+/// In a map of genus zero an edge's two darts lie in one face exactly where taking the edge away
+/// makes a component more.
+pub fn bridge_test()
+    ensures { BridgeTest }
+{}
+
+/// Where a connected map of genus zero stays connected without an edge, the edge's darts lie in
+/// different faces, these become one, and all others stay.
+pub fn faces_merged()
+    ensures { FacesMerged }
+{}
+
+/// A simple map of genus zero with at least three vertices has at most 3n - 6 edges.
+pub fn edge_bound()
+    ensures { EdgeBound }
+{}
+
+/// Where two corners of a vertex lie in one face of a map of genus zero, the vertex separates the
+/// entries from the one up to the other from those from the other up to the one.
+pub fn corner_split()
+    ensures { CornerSplit }
+{}
+
+/// Where two adjacent vertices of a map of genus zero also have corners in one face, they separate
+/// the two sides.
+pub fn digon_split()
+    ensures { DigonSplit }
+{}

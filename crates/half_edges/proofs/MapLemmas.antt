@@ -1,0 +1,188 @@
+-- What the tables of a map say of its darts and their ids.
+use Rattle.std.proofs.Common.{ℕ, zero, suc, ◌+◌, ◌-◌, ◌*◌, ◌/◌, ◌<◌, ◌≤◌, ◌≡◌, ◌≢◌, cond, eqb, ltb, List, [], ◌∷◌, length, get_or, slice_get, AllPairs, Option, Some, is_some, option_map, refl, sym, ap, ◌∙◌, subst, inl, inr, arith}
+use Rattle.std.proofs.lemmas.List.{length-map}
+use Rattle.std.proofs.lemmas.Option.{slice_get-get_or, slice_get_within, slice_get_past, get_or_from_slice_get}
+use Rattle.std.proofs.lemmas.Bool.Decides.{nat_tests}
+use Rattle.std.proofs.lemmas.Bool.{cases_lt, true≢false}
+use Rattle.std.proofs.lemmas.Nat.{mul-le}
+use Rattle.map_definitions.specs.Maps.{Lists, Dart, list_of, HasDart, IsSimpleMap, darts, darts_before, dart_count, dart_number, edge_count, place_of, follows, entry_after}
+use Rattle.map_definitions.proofs.DartLemmas.{length-darts, IsDartNumber-darts, dart_at_place, place_after, place_before, place_after-before, place_before-lt, place_after-lt, darts_before_end, place_of-get_or, place_of-lt-length, entry_after-place, get_or-place_of, darts_before_more}
+use Rattle.map_definitions.proofs.DartCounts.{dart_count-le, dart_count-edge_count}
+use Rattle.half_edges.specs.Map.{Map, dart_at, IsLive, IsHalfMap, twin_dart, next_dart}
+use Rattle.half_edges.specs.Tables.{AreTables, map_of}
+use Rattle.half_edges.proofs.TwinLemmas.{HasDart-from_slice_get, slice_get-dart_number}
+
+-- fewer than 4096 vertices have fewer than 2 ^ 24 darts
+pub few_darts : (lists : Lists) → length lists < 4096 → ((v u : ℕ) → HasDart lists v u → u < length lists) → ((v : ℕ) → v < length lists → AllPairs ◌≢◌ (list_of lists v)) → dart_count lists < 16777216
+few_darts lists few within distinct =
+    let square : length lists * length lists ≤ 4095 * 4095 = mul-le (length lists) (length lists) 4095 4095 (omega arith) (omega arith) in
+    omega (arith, dart_count-le lists within distinct, square)
+
+pub few_darts-simple : (lists : Lists) → length lists < 4096 → IsSimpleMap lists → dart_count lists < 16777216
+few_darts-simple lists few simple = few_darts lists few simple.in_range simple.no_repeat
+
+-- the dart of an id is that of its number
+pub dart_at-map_of : (lists : Lists) (ends : List Dart) (d : ℕ) → dart_at (map_of lists ends) d ≡ slice_get ends d
+dart_at-map_of lists [] d = refl
+dart_at-map_of lists (e ∷ ends) zero = refl
+dart_at-map_of lists (e ∷ ends) (suc d) = dart_at-map_of lists ends d
+
+-- the number after and before the k-th of n numbers from s on, cyclically
+number_after-place : (s n k : ℕ) → k < n → cond (ltb (s + k + 1) (s + n)) (s + k + 1) s ≡ s + place_after n k
+number_after-place s n k h = grind (arith, nat_tests)
+
+number_before-place : (s n k : ℕ) → k < n → cond (eqb (s + k) s) (s + n - 1) (s + k - 1) ≡ s + place_before n k
+number_before-place s n k h = grind (arith, nat_tests)
+
+module _ (lists : Lists) (starts : List ℕ) (ends : List Dart) (twins : List ℕ) (t : AreTables lists starts ends twins) where
+  length-ends : length ends ≡ dart_count lists
+  length-ends = ap length t.ends_are ∙ length-darts lists
+
+  pub few_ends : length ends < 16777216
+  few_ends = omega (arith, length-ends, few_darts-simple lists t.few_vertices t.simple)
+
+  number_of : (d v u : ℕ) → slice_get ends d ≡ Some (v, u) → d ≡ dart_number lists (v, u)
+  number_of d v u found =
+      let in_darts : d < dart_count lists = omega (arith, length-ends, slice_get_within ends d (v, u) found) in
+      let p = IsDartNumber-darts lists d (v, u) t.simple.no_repeat in_darts in
+      let same : get_or (darts lists) d (v, u) ≡ (v, u) = ap (λ ds. get_or ds d (v, u)) (sym t.ends_are) ∙ get_or_from_slice_get ends d (v, u) (v, u) found in
+      sym p.number ∙ ap (λ (dart : Dart). dart_number lists dart) same
+
+  -- what every caller may know
+  pub IsHalfMap-map_of : IsHalfMap (map_of lists ends)
+  IsHalfMap-map_of = record {
+    simple = t.simple;
+    few_vertices = t.few_vertices;
+    is_dart = λ d v u e. HasDart-from_slice_get lists ends d v u t.ends_are (sym (dart_at-map_of lists ends d) ∙ e);
+    has_id = λ v u h. (dart_number lists (v, u), dart_at-map_of lists ends (dart_number lists (v, u)) ∙ slice_get-dart_number lists ends v u t.ends_are h);
+    one_id = λ d e v u a b. number_of d v u (sym (dart_at-map_of lists ends d) ∙ a) ∙ sym (number_of e v u (sym (dart_at-map_of lists ends e) ∙ b));
+    few_ids = omega (arith, length-map {B = Option Dart} ends (λ d. Some d), length-ends, dart_count-edge_count lists t.simple);
+  }
+
+module _ (lists : Lists) (starts : List ℕ) (ends : List Dart) (twins : List ℕ) (t : AreTables lists starts ends twins) (map : Map) (view : map_of lists ends ≡ map) where
+  pub same_lists : map.lists ≡ lists
+  same_lists = ap (λ (m : Map). m.lists) (sym view)
+
+  pub known : IsHalfMap map
+  known = subst (λ m. IsHalfMap m) view (IsHalfMap-map_of lists starts ends twins t)
+
+  pub edge_count-ends : length ends / 2 ≡ edge_count map.lists
+  edge_count-ends = ap (λ n. n / 2) (length-ends lists starts ends twins t) ∙ ap (λ (ls : Lists). edge_count ls) (sym same_lists)
+
+  pub dart_at-slice_get : (d : ℕ) → dart_at map d ≡ slice_get ends d
+  dart_at-slice_get d = ap (λ m. dart_at m d) (sym view) ∙ dart_at-map_of lists ends d
+
+  -- the live ids are the numbers of darts
+  pub live-lt : (d : ℕ) → IsLive map d → d < length ends
+  live-lt d live =
+      elim (cases_lt d (length ends)) [
+        | inl less ↦ less
+        | inr more ↦ absurd (true≢false (sym live ∙ ap (λ o. is_some o) (dart_at-slice_get d ∙ slice_get_past ends d more)))
+      ]
+
+  pub lt-live : (d : ℕ) → d < length ends → IsLive map d
+  lt-live d h = ap (λ o. is_some o) (dart_at-slice_get d ∙ slice_get-get_or ends d (0, 0) h)
+
+  pub twin_at : (d : ℕ) → d < length ends → dart_at map (get_or twins d 0) ≡ option_map twin_dart (dart_at map d)
+  twin_at d h =
+      dart_at-slice_get (get_or twins d 0) ∙ t.twins_are.at d h
+      ∙ ap (λ o. option_map twin_dart o) (sym (slice_get-get_or ends d (0, 0) h) ∙ sym (dart_at-slice_get d))
+
+  -- an entry's dart has the number of its place
+  dart_at-place : (v k : ℕ) → v < length lists → k < length (list_of lists v) → dart_at map (darts_before lists v + k) ≡ Some (v, get_or (list_of lists v) k 0)
+  dart_at-place v k h l =
+      dart_at-slice_get (darts_before lists v + k)
+      ∙ slice_get-get_or ends (darts_before lists v + k) (0, 0) (omega (arith, length-ends lists starts ends twins t, darts_before_end lists v))
+      ∙ ap (λ d. Some d) (ap (λ ds. get_or ds (darts_before lists v + k) (0, 0)) t.ends_are ∙ dart_at_place lists v k (0, 0) 0 h l)
+
+  module _ (d : ℕ) (dart : Dart) (here : slice_get ends d ≡ Some dart) where
+    is_dart : HasDart lists dart.0 dart.1
+    is_dart = HasDart-from_slice_get lists ends d dart.0 dart.1 t.ends_are here
+
+    place : ℕ
+    place = place_of dart.1 (list_of lists dart.0)
+
+    pub tail_in : dart.0 < length lists
+    tail_in = is_dart.0
+
+    pub start_at : get_or starts dart.0 0 ≡ darts_before lists dart.0
+    start_at = t.starts_are.at dart.0 (omega (arith, is_dart.0))
+
+    pub end_at : get_or starts (dart.0 + 1) 0 ≡ darts_before lists dart.0 + length (list_of lists dart.0)
+    end_at = t.starts_are.at (dart.0 + 1) (omega (arith, is_dart.0)) ∙ darts_before_more lists dart.0
+
+    number_is : d ≡ darts_before lists dart.0 + place_of dart.1 (list_of lists dart.0)
+    number_is = number_of lists starts ends twins t d dart.0 dart.1 here
+
+    place_in : place_of dart.1 (list_of lists dart.0) < length (list_of lists dart.0)
+    place_in = place_of-lt-length dart.1 (list_of lists dart.0) is_dart.1
+
+    pub from_start : get_or starts dart.0 0 ≤ d
+    from_start = omega (arith, start_at, number_is)
+
+    pub below_end : d < get_or starts (dart.0 + 1) 0
+    below_end = omega (arith, end_at, number_is, place_in)
+
+    pub dart_at-here : dart_at map d ≡ Some dart
+    dart_at-here = dart_at-slice_get d ∙ here
+
+    pub next_at : (s e : ℕ) → s ≡ get_or starts dart.0 0 → e ≡ get_or starts (dart.0 + 1) 0 → dart_at map (cond (ltb (d + 1) e) (d + 1) s) ≡ option_map (next_dart map.lists) (dart_at map d)
+    next_at s e start end =
+        let us = list_of lists dart.0 in
+        let k = place_of dart.1 us in
+        let n = length us in
+        let number : cond (ltb (d + 1) e) (d + 1) s ≡ darts_before lists dart.0 + place_after n k =
+        rw (start, end, start_at, end_at, number_is) (number_after-place (darts_before lists dart.0) n k place_in) in
+        ap (λ x. dart_at map x) number ∙ dart_at-place dart.0 (place_after n k) is_dart.0 (place_after-lt n k place_in)
+        ∙ ap (λ x. Some (dart.0, x)) (sym (entry_after-place dart.1 us 0 place_in))
+        ∙ ap (λ (ls : Lists). Some (dart.0, follows ls dart.0 dart.1)) (sym same_lists)
+        ∙ ap (λ o. option_map (next_dart map.lists) o) (sym dart_at-here)
+
+    before_number : (s e : ℕ) → s ≡ get_or starts dart.0 0 → e ≡ get_or starts (dart.0 + 1) 0 → dart_at map (cond (eqb d s) (e - 1) (d - 1)) ≡ Some (dart.0, get_or (list_of lists dart.0) (place_before (length (list_of lists dart.0)) (place_of dart.1 (list_of lists dart.0))) 0)
+    before_number s e start end =
+        let us = list_of lists dart.0 in
+        let k = place_of dart.1 us in
+        let n = length us in
+        let number : cond (eqb d s) (e - 1) (d - 1) ≡ darts_before lists dart.0 + place_before n k =
+        rw (start, end, start_at, end_at, number_is) (number_before-place (darts_before lists dart.0) n k place_in) in
+        ap (λ x. dart_at map x) number ∙ dart_at-place dart.0 (place_before n k) is_dart.0 (place_before-lt n k place_in)
+
+    pub prev_live : (s e : ℕ) → s ≡ get_or starts dart.0 0 → e ≡ get_or starts (dart.0 + 1) 0 → IsLive map (cond (eqb d s) (e - 1) (d - 1))
+    prev_live s e start end = ap (λ o. is_some o) (before_number s e start end)
+
+    pub prev_at : (s e : ℕ) → s ≡ get_or starts dart.0 0 → e ≡ get_or starts (dart.0 + 1) 0 → option_map (next_dart map.lists) (dart_at map (cond (eqb d s) (e - 1) (d - 1))) ≡ dart_at map d
+    prev_at s e start end =
+        let us = list_of lists dart.0 in
+        let k = place_of dart.1 us in
+        let n = length us in
+        let w = get_or us (place_before n k) 0 in
+        let distinct = t.simple.no_repeat dart.0 is_dart.0 in
+        let w_at : place_of w us ≡ place_before n k = place_of-get_or us (place_before n k) 0 distinct (place_before-lt n k place_in) in
+        let back : entry_after w us ≡ dart.1 =
+        entry_after-place w us 0 (omega (arith, w_at, place_before-lt n k place_in))
+        ∙ ap (λ x. get_or us (place_after n x) 0) w_at ∙ ap (λ x. get_or us x 0) (place_after-before n k place_in) ∙ get_or-place_of dart.1 us 0 place_in in
+        ap (λ o. option_map (next_dart map.lists) o) (before_number s e start end)
+        ∙ ap (λ (ls : Lists). Some (dart.0, follows ls dart.0 w)) same_lists
+        ∙ ap (λ x. Some (dart.0, x)) back ∙ sym dart_at-here
+
+  module _ (v : ℕ) (v_in : v < length map.lists) where
+    in_lists : v < length lists
+    in_lists = omega (arith, v_in, ap length same_lists)
+
+    pub within_starts : v + 1 < length starts
+    within_starts = omega (arith, in_lists, t.starts_are.count)
+
+    pub vertex_start : get_or starts v 0 ≡ darts_before lists v
+    vertex_start = t.starts_are.at v (omega (arith, in_lists))
+
+    pub vertex_end : get_or starts (v + 1) 0 ≡ darts_before lists v + length (list_of map.lists v)
+    vertex_end =
+        t.starts_are.at (v + 1) (omega (arith, in_lists)) ∙ darts_before_more lists v
+        ∙ ap (λ (ls : Lists). darts_before lists v + length (list_of ls v)) (sym same_lists)
+
+    -- the first dart of a vertex
+    pub first_at : (s : ℕ) → s ≡ get_or starts v 0 → 0 < length (list_of map.lists v) → dart_at map s ≡ Some (v, get_or (list_of map.lists v) 0 0)
+    first_at s start some =
+        let e : s ≡ darts_before lists v + 0 = omega (arith, start, vertex_start) in
+        let same = ap (λ (ls : Lists). list_of ls v) same_lists in
+        ap (λ x. dart_at map x) e ∙ dart_at-place v 0 in_lists (omega (arith, some, ap length same)) ∙ ap (λ (us : List ℕ). Some (v, get_or us 0 0)) (sym same)

@@ -1,0 +1,78 @@
+//! Small maps whose darts and faults were found by hand.
+use crate::{DartId, HalfMap, MapFault, Rotations, VertexId};
+use std::alloc::Global;
+use std::process::Abort;
+use std::test::Fail;
+
+const TRIANGLE: &[&[u16]] = &[&[1, 2], &[2, 0], &[0, 1]];
+
+const K4: &[&[u16]] = &[&[1, 2, 3], &[0, 3, 2], &[0, 1, 3], &[0, 2, 1]];
+
+fn map_of(rt: &impl Abort, alloc: Global, lists: &[&[u16]]) -> Result<HalfMap, MapFault> {
+    let mut rotations = Rotations::new(alloc);
+    for list in lists {
+        rotations.push(list)?;
+    }
+    assert!(rt; 0 < rotations.len() && rotations.len() < 4096);
+    HalfMap::from_rotations(alloc, &rotations)
+}
+
+#[test]
+fn a_triangle_keeps_its_lists(rt: HostRuntime) -> Result<(), Fail> {
+    let map = map_of(&rt, rt.alloc(), TRIANGLE)?;
+    assert_eq!(rt; map.n(), 3);
+    assert_eq!(rt; map.m(), 3);
+    assert_eq!(rt; map.spare(), 0);
+    let lists = map.rotations(rt.alloc())?;
+    assert_eq!(rt; lists.len(), 3);
+    for v in 0..3 {
+        assert_eq!(rt; lists.list(v), TRIANGLE[v]);
+    }
+    Ok(())
+}
+
+#[test]
+fn steps_from_a_dart(rt: HostRuntime) -> Result<(), Fail> {
+    let map = map_of(&rt, rt.alloc(), K4)?;
+    assert_eq!(rt; map.n(), 4);
+    let d = map.dart_of(VertexId(0), VertexId(1)).ok_or("no dart")?;
+    assert_eq!(rt; (map.tail(d), map.head(d)), (VertexId(0), VertexId(1)));
+    assert_eq!(rt; map.first_dart(VertexId(0)), Some(d));
+    assert_eq!(rt; map.dart_of(VertexId(1), VertexId(1)), None);
+    assert!(rt; map.is_live(d) && !map.is_live(DartId(12)));
+    for (step, tail, head) in [
+        (map.twin(d), 1, 0),
+        (map.next(d), 0, 2),
+        (map.prev(d), 0, 3),
+        (map.face_step(d), 1, 3),
+    ] {
+        assert!(rt; map.is_live(step));
+        assert_eq!(rt;
+            (map.tail(step), map.head(step)),
+            (VertexId(tail), VertexId(head))
+        );
+    }
+    Ok(())
+}
+
+#[test]
+fn the_first_fault_is_named(rt: HostRuntime) {
+    let cases: [(&[&[u16]], MapFault); 5] = [
+        (&[&[0, 1], &[5, 3]], MapFault::OutOfRange(1, 3)),
+        (&[&[1, 1], &[0, 1]], MapFault::Loop(1)),
+        (&[&[2, 2, 1, 1], &[0], &[]], MapFault::Repeated(0, 1)),
+        (&[&[1], &[0, 3, 2], &[], &[]], MapFault::OneSided(1, 2)),
+        (&[&[], &[0]], MapFault::OneSided(1, 0)),
+    ];
+    for (lists, fault) in cases {
+        assert_eq!(rt; map_of(&rt, rt.alloc(), lists).err(), Some(fault));
+    }
+}
+
+#[test]
+fn an_isolated_vertex_has_no_dart(rt: HostRuntime) -> Result<(), Fail> {
+    let map = map_of(&rt, rt.alloc(), &[&[]])?;
+    assert_eq!(rt; map.n(), 1);
+    assert_eq!(rt; map.first_dart(VertexId(0)), None);
+    Ok(())
+}

@@ -1,0 +1,14 @@
+//! Runs of the program as tables: what no clause says, or what shows that a clause says what is meant.
+//!
+//! Each row is an input and the bytes that the top call writes for it, over a source and a sink in
+//! memory. The expected texts were written by hand, from the formats.
+#![tactic(auto)]
+
+#[cfg(test)]
+mod arriving;
+#[cfg(test)]
+mod failing;
+#[cfg(test)]
+mod rows;
+#[cfg(test)]
+mod runs;

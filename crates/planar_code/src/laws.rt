@@ -1,0 +1,8 @@
+//! Laws on how inputs are read, each the contract of a function that does nothing.
+ghost use Rattle.planar_code.specs.Laws.{OneReading};
+
+/// Each input is read in one way at most: two readings of it have the same records, in the same
+/// order, and the same ending.
+pub fn one_reading()
+    ensures { OneReading }
+{}

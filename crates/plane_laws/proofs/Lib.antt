@@ -1,0 +1,20 @@
+-- The Euler bound for maps, and the laws of maps of genus zero.
+pub mod PlaneCuts
+pub mod Transfer
+mod PairCases
+mod LawCases
+pub mod DartPermutations
+pub mod ArcLemmas
+pub mod DartPaths
+pub mod CornerSplit
+pub mod Generated
+pub mod LoneEdge
+pub mod WithoutEntry
+pub mod EdgeRemoved
+pub mod Contract
+pub mod DigonSplit
+pub mod EdgeFaces
+pub mod EdgeBound
+pub mod Smooth
+pub mod Replaced
+pub mod VertexSmoothed

@@ -1,0 +1,207 @@
+-- An edge taken off both its vertices, where nothing is missing from the Euler bound: nothing is missing after it, and the edge, which is now a class of its own, may be left out.
+use Rattle.std.proofs.Common.{◌≡◌, ◌≢◌, ◌⊎◌, ℕ, ◌+◌, ◌<◌, Bool, true, false, not, eqb, List, refl, sym, ap, ◌∙◌, inl, inr, arith}
+use Rattle.std.proofs.lemmas.Bool.{cases_Bool, cases_eq, eq-eqb, ne_eqb, false≢true, not-true}
+use Rattle.map_definitions.specs.Classes.{label, merge_all, class_count}
+use Rattle.map_definitions.proofs.Counting.{one_if}
+use Rattle.map_definitions.proofs.Classes.{Together-label}
+use Rattle.map_definitions.proofs.Orbits.{StaysBelow, steps, orbits_of, IsPermuting, marks_back}
+use Rattle.map_definitions.proofs.Swap.{swapped, exchange, swapped_first, swapped_other, IsPermuting-exchange, orbits_of-same}
+use Rattle.map_definitions.proofs.Bound.{joint, IsPairing, IsPermuting-pairing, IsPermuting-after, after, Balances}
+use Rattle.plane_laws.proofs.PlaneCuts.{plane_cut, lone, lone_before, lone_other, lone_together}
+use Rattle.plane_laws.proofs.Transfer.{class_count-transfer}
+use Rattle.plane_laws.proofs.Generated.{IsGenerated, IsGenerated-orbits, IsGenerated-joint, IsRenumbering, GoesOver, GoesOver-after, IsTransfer-renumbered, neither, neither_first, neither_second, neither_cases, left_out, left_out_one}
+
+-- exchanging an image with itself changes nothing
+pub swapped_itself : (a i : ℕ) → swapped a a i ≡ i
+swapped_itself a i = elim (cases_eq i a) [ inl e ↦ ap (swapped a a) e ∙ (swapped_first a a ∙ sym e) | inr ne ↦ swapped_other a a i ne ne ]
+
+-- one dart taken off
+pub lone_balances : (f g : ℕ → ℕ) (k m p d : ℕ) → k ≡ m + m → IsPermuting f k → IsPairing g k → p < k → d < k → f p ≡ d → Balances f g k m 0 → Balances (exchange f p d) g k m 0
+lone_balances f g k m p d double w v lp ld e plane =
+    elim (cases_eq p d) [
+      | inl q ↦
+          let same : (i : ℕ) → i < k → exchange f p d i ≡ f i = λ i l. ap (λ x. f (swapped x d i)) q ∙ ap f (swapped_itself d i) in
+          let first = orbits_of-same (exchange f p d) f k same in
+          let second = orbits_of-same (after (exchange f p d) g) (after f g) k (λ i l. same (g i) (v.within i l)) in
+          let third : joint (exchange f p d) g k ≡ joint f g k = ap (λ o. merge_all o (steps g k)) first in
+          omega (arith, plane, ap class_count first, ap class_count second, ap class_count third)
+      | inr ne ↦ plane_cut f g k m p d double w v lp ld ne (lone_together f k p d w lp e) plane
+    ]
+
+-- Let p lead to d, and then q to the partner e of d; and let d and e not lead to one another.
+module _ (f g : ℕ → ℕ) (k m d p q : ℕ) (double : k ≡ m + m) (w : IsPermuting f k) (v : IsPairing g k) (ld : d < k) (lp : p < k) (lq : q < k) (fp : f p ≡ d) (fq : exchange f p d q ≡ g d) (apart : f d ≢ g d) (apart' : f (g d) ≢ d) where
+  -- d and e made fixed points
+  abbrev pub lone_edge : ℕ → ℕ
+  lone_edge = exchange (exchange f p d) q (g d)
+
+  pub le : g d < k
+  le = v.within d ld
+
+  pub d_not_e : d ≢ g d
+  d_not_e e = v.other d ld (sym e)
+
+  pub w1 : IsPermuting (exchange f p d) k
+  w1 = IsPermuting-exchange f k p d lp ld w
+
+  pub IsPermuting-lone_edge : IsPermuting lone_edge k
+  IsPermuting-lone_edge = IsPermuting-exchange (exchange f p d) k q (g d) lq le w1
+
+  pub p_not_e : p ≢ g d
+  p_not_e e = apart' (ap f (sym e) ∙ fp)
+
+  -- e leads where it led
+  pub one_e : exchange f p d (g d) ≡ f (g d)
+  one_e = lone_other f p d (g d) (λ e. p_not_e (sym e)) (λ e. d_not_e (sym e))
+
+  pub lone_edge-first : lone_edge d ≡ d
+  lone_edge-first =
+      let one = lone f p d fp in
+      let not_q : d ≢ q = λ e. d_not_e (sym one ∙ (ap (exchange f p d) e ∙ fq)) in
+      lone_other (exchange f p d) q (g d) d not_q d_not_e ∙ one
+
+  pub lone_edge-second : lone_edge (g d) ≡ g d
+  lone_edge-second = lone (exchange f p d) q (g d) fq
+
+  -- what led to d leads on
+  pub lone_edge-skip : (i : ℕ) → i < k → i ≢ d → i ≢ g d → f i ≡ d → lone_edge i ≡ f d
+  lone_edge-skip i l nd ne h =
+      let at : i ≡ p = w.apart i p l lp (h ∙ sym fp) in
+      let one : exchange f p d i ≡ f d = ap (exchange f p d) at ∙ lone_before f p d in
+      let not_q : i ≢ q = λ e. apart (sym one ∙ (ap (exchange f p d) e ∙ fq)) in
+      lone_other (exchange f p d) q (g d) i not_q ne ∙ one
+
+  -- and so does what led to e
+  pub lone_edge-skip_second : (i : ℕ) → i < k → i ≢ d → i ≢ g d → f i ≡ g d → lone_edge i ≡ f (g d)
+  lone_edge-skip_second i l nd ne h =
+      let not_p : i ≢ p = λ e. d_not_e (sym fp ∙ (ap f (sym e) ∙ h)) in
+      let one : exchange f p d i ≡ g d = lone_other f p d i not_p nd ∙ h in
+      let at : i ≡ q = w1.apart i q l lq (one ∙ sym fq) in
+      ap lone_edge at ∙ (lone_before (exchange f p d) q (g d) ∙ one_e)
+
+  -- the rest is as it was
+  pub lone_edge-other : (i : ℕ) → i < k → i ≢ d → i ≢ g d → f i ≢ d → f i ≢ g d → lone_edge i ≡ f i
+  lone_edge-other i l nd ne hd he =
+      let not_p : i ≢ p = λ e. hd (ap f e ∙ fp) in
+      let one : exchange f p d i ≡ f i = lone_other f p d i not_p nd in
+      let not_q : i ≢ q = λ e. he (sym one ∙ (ap (exchange f p d) e ∙ fq)) in
+      lone_other (exchange f p d) q (g d) i not_q ne ∙ one
+
+  -- nothing is missing after it
+  pub lone_edge-balances : Balances f g k m 0 → Balances lone_edge g k m 0
+  lone_edge-balances plane =
+      lone_balances (exchange f p d) g k m q (g d) double w1 v lq le fq (lone_balances f g k m p d double w v lp ld fp plane)
+
+  -- a label that is d or its partner
+  pub out_label : (labels : List ℕ) (h h' : ℕ → ℕ) → IsGenerated labels h h' k → ((y : ℕ) → y < k → neither d (g d) y ≡ neither d (g d) (h y)) → ((y : ℕ) → y < k → neither d (g d) y ≡ neither d (g d) (h' y)) → (label labels d ≡ d) ⊎ (label labels d ≡ g d)
+  out_label labels h h' made same same' =
+      let u = made.known in
+      let low = u.low d in
+      let keeps = made.least (λ y. one_if (neither d (g d) y)) (λ y l. ap one_if (same y l)) (λ y l. ap one_if (same' y l)) d (label labels d) ld (omega arith) (Together-label labels u d) in
+      neither_cases d (g d) (label labels d) (elim (cases_Bool (neither d (g d) (label labels d))) [
+        | inl t ↦ absurd (omega (arith, keeps, ap one_if t, ap one_if (neither_first d (g d))))
+        | inr t ↦ t
+      ])
+
+  -- a bijection that leaves d and its partner among themselves keeps the rest
+  pub neither_kept : (h : ℕ → ℕ) → IsPermuting h k → neither d (g d) (h d) ≡ false → neither d (g d) (h (g d)) ≡ false → (y : ℕ) → y < k → neither d (g d) y ≡ neither d (g d) (h y)
+  neither_kept h hw at_d at_e y l =
+      let out : ℕ → Bool = λ x. not (neither d (g d) x) in
+      let keeps : (x : ℕ) → x < k → out x ≡ true → out (h x) ≡ true = λ x n t.
+      elim (neither_cases d (g d) x (not-true (neither d (g d) x) t)) [
+        | inl e ↦ ap not (ap (λ z. neither d (g d) (h z)) e ∙ at_d)
+        | inr e ↦ ap not (ap (λ z. neither d (g d) (h z)) e ∙ at_e)
+      ] in
+      elim (cases_Bool (neither d (g d) y)) [
+        | inl t ↦
+            elim (cases_Bool (neither d (g d) (h y))) [
+              | inl t' ↦ t ∙ sym t'
+              | inr t' ↦ absurd (false≢true (sym (ap not t) ∙ marks_back h k hw out keeps y l (ap not t')))
+            ]
+        | inr t ↦ t ∙ sym (not-true (neither d (g d) (h y)) (keeps y l (ap not t)))
+      ]
+
+  -- d and its partner are two orbits
+  pub lone_points : one_if (eqb (label (orbits_of lone_edge k) d) d) + one_if (eqb (label (orbits_of lone_edge k) (g d)) (g d)) ≡ 2
+  lone_points =
+      let O = orbits_of lone_edge k in
+      let made = IsGenerated-orbits lone_edge k IsPermuting-lone_edge.within in
+      let u = made.known in
+      let alone : (x : ℕ) → x < k → lone_edge x ≡ x → label O x ≡ x = λ x l fixed.
+      let step : (y : ℕ) → y < k → one_if (eqb y x) ≡ one_if (eqb (lone_edge y) x) = λ y n.
+      elim (cases_eq y x) [
+        | inl e ↦ ap one_if (eq-eqb y x e ∙ sym (eq-eqb (lone_edge y) x (ap lone_edge e ∙ fixed)))
+        | inr ne ↦ ap one_if (ne_eqb y x ne ∙ sym (ne_eqb (lone_edge y) x (λ e. ne (IsPermuting-lone_edge.apart y x n l (e ∙ sym fixed)))))
+      ] in
+      let low = u.low x in
+      let same = made.least (λ y. one_if (eqb y x)) step step x (label O x) l (omega arith) (Together-label O u x) in
+      elim (cases_eq (label O x) x) [
+        | inl e ↦ e
+        | inr ne ↦ absurd (omega (arith, same, ap one_if (eq-eqb x x refl), ap one_if (ne_eqb (label O x) x ne)))
+      ] in
+      omega (arith, ap one_if (eq-eqb (label O d) d (alone d ld lone_edge-first)), ap one_if (eq-eqb (label O (g d)) (g d) (alone (g d) le lone_edge-second)))
+
+  pub twin_out : neither d (g d) (g d) ≡ false
+  twin_out = neither_second d (g d)
+
+  pub back_out : neither d (g d) (g (g d)) ≡ false
+  back_out = ap (neither d (g d)) (v.back d ld) ∙ neither_first d (g d)
+
+  pub GoesOver-out : (to : ℕ → ℕ) (k' : ℕ) (f' g' : ℕ → ℕ) → ((i : ℕ) → i < k' → lone_edge (to i) ≡ to (f' i)) → ((i : ℕ) → i < k' → g (to i) ≡ to (g' i)) → GoesOver to (neither d (g d)) k k' lone_edge f' × GoesOver to (neither d (g d)) k k' g g'
+  GoesOver-out to k' f' g' h h' = (
+    record {
+      step = h;
+      out = λ y l t. elim (neither_cases d (g d) y t) [
+        | inl e ↦ ap (neither d (g d)) (ap lone_edge e ∙ lone_edge-first) ∙ neither_first d (g d)
+        | inr e ↦ ap (neither d (g d)) (ap lone_edge e ∙ lone_edge-second) ∙ twin_out
+      ];
+    },
+    record {
+      step = h';
+      out = λ y l t. elim (neither_cases d (g d) y t) [
+        | inl e ↦ ap (λ x. neither d (g d) (g x)) e ∙ twin_out
+        | inr e ↦ ap (λ x. neither d (g d) (g x)) e ∙ back_out
+      ];
+    },
+  )
+
+  -- Left out, the edge leaves nothing missing.
+  pub lone_edge_out : (to new : ℕ → ℕ) (k' m' : ℕ) (f' g' : ℕ → ℕ) → m ≡ m' + 1 → StaysBelow f' k' → StaysBelow g' k' → IsRenumbering to new (neither d (g d)) k k' → ((i : ℕ) → i < k' → lone_edge (to i) ≡ to (f' i)) → ((i : ℕ) → i < k' → g (to i) ≡ to (g' i)) → Balances f g k m 0 → Balances f' g' k' m' 0
+  lone_edge_out to new k' m' f' g' less stays stays' r h h' plane =
+      let kept = neither d (g d) in
+      let e = g d in
+      let hw = IsPermuting-lone_edge in
+      let gw = IsPermuting-pairing g k v in
+      let over = GoesOver-out to k' f' g' h h' in
+      let lone_whole = lone_edge-balances plane in
+      let O = orbits_of lone_edge k in
+      let O' = orbits_of f' k' in
+      let A = orbits_of (after lone_edge g) k in
+      let A' = orbits_of (after f' g') k' in
+      let J = joint lone_edge g k in
+      let J' = joint f' g' k' in
+      let aw = IsPermuting-after lone_edge g k hw gw in
+      let made_O = IsGenerated-orbits lone_edge k hw.within in
+      let made_A = IsGenerated-orbits (after lone_edge g) k aw.within in
+      let made_J = IsGenerated-joint lone_edge g k hw.within v.within in
+      let part_O = IsGenerated-orbits f' k' stays in
+      let part_A = IsGenerated-orbits (after f' g') k' (λ i l. stays (g' i) (stays' i l)) in
+      let part_J = IsGenerated-joint f' g' k' stays stays' in
+      let over_A = GoesOver-after to kept k k' lone_edge f' g g' v.within stays' over.0 over.1 in
+      let count_O = class_count-transfer O' O to new kept part_O.known made_O.known (IsTransfer-renumbered to new kept k k' r O O' lone_edge lone_edge f' f' made_O part_O over.0 over.0) in
+      let count_A = class_count-transfer A' A to new kept part_A.known made_A.known (IsTransfer-renumbered to new kept k k' r A A' (after lone_edge g) (after lone_edge g) (after f' g') (after f' g') made_A part_A over_A over_A) in
+      let count_J = class_count-transfer J' J to new kept part_J.known made_J.known (IsTransfer-renumbered to new kept k k' r J J' lone_edge g f' g' made_J part_J over.0 over.1) in
+      let On = made_O.size in
+      let An = made_A.size in
+      let Jn = made_J.size in
+      let l' = le in
+      let rest_O = left_out O d e d_not_e (omega arith) (omega arith) in
+      let rest_A = left_out A d e d_not_e (omega arith) (omega arith) in
+      let rest_J = left_out J d e d_not_e (omega arith) (omega arith) in
+      let kept_f = neither_kept lone_edge hw (ap kept lone_edge-first ∙ neither_first d e) (ap kept lone_edge-second ∙ twin_out) in
+      let kept_g = neither_kept g gw twin_out back_out in
+      let face_d : after lone_edge g d ≡ e = lone_edge-second in
+      let face_e : after lone_edge g e ≡ d = ap lone_edge (v.back d ld) ∙ lone_edge-first in
+      let kept_A = neither_kept (after lone_edge g) aw (ap kept face_d ∙ twin_out) (ap kept face_e ∙ neither_first d e) in
+      let one_A = left_out_one A d e made_A.known d_not_e (made_A.first d ld ∙ ap (label A) face_d) (out_label A (after lone_edge g) (after lone_edge g) made_A kept_A kept_A) in
+      let one_J = left_out_one J d e made_J.known d_not_e (made_J.second d ld) (out_label J lone_edge g made_J kept_f kept_g) in
+      omega (arith, lone_whole, count_O, count_A, count_J, rest_O, rest_A, rest_J, lone_points, one_A, one_J)
