@@ -2,6 +2,7 @@
 pub mod PlaneCuts
 pub mod Transfer
 mod PairCases
+mod LawCases
 pub mod DartPermutations
 pub mod ArcLemmas
 pub mod DartPaths
@@ -15,3 +16,5 @@ pub mod DigonSplit
 pub mod EdgeFaces
 pub mod EdgeBound
 pub mod Smooth
+pub mod Replaced
+pub mod VertexSmoothed

@@ -1,12 +1,12 @@
 -- A vertex of degree two taken out of its edge: its two darts are left out, and the two darts to it are made partners. Nothing is missing from the Euler bound after it that was not before.
-use Rattle.std.proofs.Common.{◌≡◌, ◌≢◌, ◌⊎◌, ℕ, zero, suc, ◌+◌, ◌*◌, ◌<◌, ◌≤◌, Bool, true, false, not, ◌&&◌, cond, eqb, List, length, refl, sym, ap, ◌∙◌, subst, inl, inr, arith}
-use Rattle.std.proofs.lemmas.Bool.{cases_Bool, cases_eq, eq-eqb, ne_eqb, true≢false, false≢true, not-true}
+use Rattle.std.proofs.Common.{◌≡◌, ◌≢◌, ◌⊎◌, ℕ, zero, suc, ◌+◌, ◌<◌, Bool, true, false, not, ◌&&◌, cond, eqb, List, length, refl, sym, ap, ◌∙◌, inl, inr, arith}
+use Rattle.std.proofs.lemmas.Bool.{cases_Bool, cases_eq, eq-eqb, ne_eqb, false≢true, not-true}
 use Rattle.map_definitions.specs.Classes.{count_below, label, class_count}
-use Rattle.map_definitions.proofs.Counting.{one_if, count_below_same}
-use Rattle.map_definitions.proofs.Classes.{Together, IsLabels, Together-label, same_class-from}
-use Rattle.map_definitions.proofs.Orbits.{StaysBelow, orbits_of, orbits_of-step, IsPermuting, marks_back}
+use Rattle.map_definitions.proofs.Counting.{one_if}
+use Rattle.map_definitions.proofs.Classes.{Together, Together-label, same_class-from}
+use Rattle.map_definitions.proofs.Orbits.{StaysBelow, orbits_of, IsPermuting, marks_back}
 use Rattle.map_definitions.proofs.Swap.{exchange, IsPermuting-exchange, exchange_orbits}
-use Rattle.map_definitions.proofs.Bound.{joint, joint-first, joint-second, IsPairing, IsPermuting-pairing, IsPermuting-after, after, Balances}
+use Rattle.map_definitions.proofs.Bound.{joint, IsPairing, IsPermuting-pairing, IsPermuting-after, after, Balances}
 use Rattle.plane_laws.proofs.PlaneCuts.{lone, lone_before, lone_other, lone_together}
 use Rattle.plane_laws.proofs.Transfer.{IsTransfer, class_count-transfer}
 use Rattle.plane_laws.proofs.Generated.{IsGenerated, IsGenerated-orbits, IsGenerated-joint, IsRenumbering, GoesOver, IsTransfer-renumbered, neither, neither_first, neither_second, neither_cases, neither_true, neither_other, left_out, left_out_one}
@@ -45,13 +45,13 @@ module _ (f g : ℕ → ℕ) (k m d e : ℕ) (w : IsPermuting f k) (pair : IsPai
   f_kept : (y : ℕ) → y < k → kept y ≡ kept (f y)
   f_kept y l =
       elim (cases_Bool (kept y)) [
-        inl t ↦
-          elim (cases_Bool (kept (f y))) [
-            inl t' ↦ t ∙ sym t'
-          | inr t' ↦
-              absurd (false≢true (sym (ap not t) ∙ marks_back f k w (λ z. not (kept z)) (λ z n s. ap not (f_out z n (not-true (kept z) s))) y l (ap not t')))
-          ]
-      | inr t ↦ t ∙ sym (f_out y l t)
+        | inl t ↦
+            elim (cases_Bool (kept (f y))) [
+              | inl t' ↦ t ∙ sym t'
+              | inr t' ↦
+                  absurd (false≢true (sym (ap not t) ∙ marks_back f k w (λ z. not (kept z)) (λ z n s. ap not (f_out z n (not-true (kept z) s))) y l (ap not t')))
+            ]
+        | inr t ↦ t ∙ sym (f_out y l t)
       ]
 
   abbrev O : List ℕ
@@ -69,10 +69,10 @@ module _ (f g : ℕ → ℕ) (k m d e : ℕ) (w : IsPermuting f k) (pair : IsPai
       let low = u.low (g d) in
       let keeps = made_O.least (λ y. one_if (kept y)) (λ y l. ap one_if (f_kept y l)) (λ y l. ap one_if (f_kept y l)) (g d) (label O (g d)) ld' (omega arith) (Together-label O u (g d)) in
       let where_label : (label O (g d) ≡ g d) ⊎ (label O (g d) ≡ g e) =
-          neither_cases (g d) (g e) (label O (g d)) (elim (cases_Bool (kept (label O (g d)))) [
-            inl t ↦ absurd (omega (arith, keeps, ap one_if t, ap one_if (neither_first (g d) (g e))))
-          | inr t ↦ t
-          ]) in
+      neither_cases (g d) (g e) (label O (g d)) (elim (cases_Bool (kept (label O (g d)))) [
+        | inl t ↦ absurd (omega (arith, keeps, ap one_if t, ap one_if (neither_first (g d) (g e))))
+        | inr t ↦ t
+      ]) in
       left_out O (g d) (g e) d'_e' (omega arith) (omega arith) ∙ left_out_one O (g d) (g e) u d'_e' (made_O.first (g d) ld' ∙ ap (label O) turn) where_label
 
   -- ---- faces
@@ -144,7 +144,7 @@ module _ (f g : ℕ → ℕ) (k m d e : ℕ) (w : IsPermuting f k) (pair : IsPai
       let l2 = le' in
       let u = made_Q.known in
       let own : (x : ℕ) → x < k → face2 x ≡ x → label Q x ≡ x = λ x l fixed.
-        let low = u.low x in fixed_alone face2 k face2_w x l fixed (label Q x) (omega arith) (sym (Together-label Q u x)) in
+      let low = u.low x in fixed_alone face2 k face2_w x l fixed (label Q x) (omega arith) (sym (Together-label Q u x)) in
       left_out Q (g d) (g e) d'_e' (omega arith) (omega arith)
       ∙ omega (arith, ap one_if (eq-eqb (label Q (g d)) (g d) (own (g d) ld' face2_d')), ap one_if (eq-eqb (label Q (g e)) (g e) (own (g e) le' face2_e')))
 
@@ -174,20 +174,20 @@ module _ (f g : ℕ → ℕ) (k m d e : ℕ) (w : IsPermuting f k) (pair : IsPai
     face_over =
         record {
           step = λ i l.
-            elim (cases_eq (to i) d) [
-              inl s ↦ ap face2 s ∙ (face2_d ∙ (ap f (sym (h_d i l s)) ∙ h (g' i) (stays' i l)))
-            | inr a ↦
-                elim (cases_eq (to i) e) [
-                  inl s ↦ ap face2 s ∙ (face2_e ∙ (ap f (sym (h_e i l s)) ∙ h (g' i) (stays' i l)))
-                | inr b ↦
-                    let c = neither_true (g d) (g e) (to i) (r.to_kept i l) in
-                    face2_other (to i) a b c.0 c.1 ∙ (ap f (h' i l a b) ∙ h (g' i) (stays' i l))
-                ]
-            ];
+              elim (cases_eq (to i) d) [
+                | inl s ↦ ap face2 s ∙ (face2_d ∙ (ap f (sym (h_d i l s)) ∙ h (g' i) (stays' i l)))
+                | inr a ↦
+                    elim (cases_eq (to i) e) [
+                      | inl s ↦ ap face2 s ∙ (face2_e ∙ (ap f (sym (h_e i l s)) ∙ h (g' i) (stays' i l)))
+                      | inr b ↦
+                          let c = neither_true (g d) (g e) (to i) (r.to_kept i l) in
+                          face2_other (to i) a b c.0 c.1 ∙ (ap f (h' i l a b) ∙ h (g' i) (stays' i l))
+                    ]
+              ];
           out = λ y l t. elim (neither_cases (g d) (g e) y t) [
-            inl s ↦ ap kept (ap face2 s ∙ face2_d') ∙ neither_first (g d) (g e)
-          | inr s ↦ ap kept (ap face2 s ∙ face2_e') ∙ neither_second (g d) (g e)
-          ]
+            | inl s ↦ ap kept (ap face2 s ∙ face2_d') ∙ neither_first (g d) (g e)
+            | inr s ↦ ap kept (ap face2 s ∙ face2_e') ∙ neither_second (g d) (g e)
+          ];
         }
 
     -- the dart that stands for one: a dart left out stands for its partner
@@ -210,18 +210,18 @@ module _ (f g : ℕ → ℕ) (k m d e : ℕ) (w : IsPermuting f k) (pair : IsPai
     stand_kept : (y : ℕ) → y < k → (stand y < k) × (kept (stand y) ≡ true) × Together J (stand y) y
     stand_kept y l =
         elim (cases_eq y (g d)) [
-          inl s ↦
-            let at = ap stand s ∙ stand_d' in
-            (omega arith, ap kept at ∙ kept_d, ap (label J) at ∙ (made_J.second d ld ∙ ap (label J) (sym s)))
-        | inr a ↦
-            elim (cases_eq y (g e)) [
-              inl s ↦
-                let at = ap stand s ∙ stand_e' in
-                (omega arith, ap kept at ∙ kept_e, ap (label J) at ∙ (made_J.second e le ∙ ap (label J) (sym s)))
-            | inr b ↦
-                let at = stand_other y a b in
-                (omega arith, ap kept at ∙ neither_other (g d) (g e) y a b, ap (label J) at)
-            ]
+          | inl s ↦
+              let at = ap stand s ∙ stand_d' in
+              (omega arith, ap kept at ∙ kept_d, ap (label J) at ∙ (made_J.second d ld ∙ ap (label J) (sym s)))
+          | inr a ↦
+              elim (cases_eq y (g e)) [
+                | inl s ↦
+                    let at = ap stand s ∙ stand_e' in
+                    (omega arith, ap kept at ∙ kept_e, ap (label J) at ∙ (made_J.second e le ∙ ap (label J) (sym s)))
+                | inr b ↦
+                    let at = stand_other y a b in
+                    (omega arith, ap kept at ∙ neither_other (g d) (g e) y a b, ap (label J) at)
+              ]
         ]
 
     abbrev J' : List ℕ
@@ -263,54 +263,54 @@ module _ (f g : ℕ → ℕ) (k m d e : ℕ) (w : IsPermuting f k) (pair : IsPai
         let L = label J in
         let L' = label J' in
         let marks = made_J.least (λ y. L' (new (stand y)))
-            (λ y l. elim (cases_eq y (g d)) [
-              inl s ↦ ap (λ z. L' (new (stand z))) s ∙ (ap (λ z. L' (new z)) stand_d' ∙ (new_partners ∙ sym (ap (λ z. L' (new (stand z))) (ap f s ∙ turn) ∙ ap (λ z. L' (new z)) stand_e')))
-            | inr a ↦ elim (cases_eq y (g e)) [
-                inl s ↦ ap (λ z. L' (new (stand z))) s ∙ (ap (λ z. L' (new z)) stand_e' ∙ (sym new_partners ∙ sym (ap (λ z. L' (new (stand z))) (ap f s ∙ turn') ∙ ap (λ z. L' (new z)) stand_d')))
-              | inr b ↦
-                  let t = neither_other (g d) (g e) y a b in
-                  let over = new_turn y l t in
-                  ap (λ z. L' (new z)) (stand_other y a b) ∙ (made_J'.first (new y) (r.new_below y l t) ∙ (ap L' (sym over.1) ∙ ap (λ z. L' (new z)) (sym (stand_of_kept (f y) over.0))))
-              ]
-            ])
-            (λ y l. elim (cases_eq y (g d)) [
-              inl s ↦ ap (λ z. L' (new (stand z))) s ∙ (ap (λ z. L' (new z)) (stand_d' ∙ sym (stand_of_kept d kept_d)) ∙ sym (ap (λ z. L' (new (stand (g z)))) s ∙ ap (λ z. L' (new (stand z))) (pair.back d ld)))
-            | inr a ↦ elim (cases_eq y (g e)) [
-                inl s ↦ ap (λ z. L' (new (stand z))) s ∙ (ap (λ z. L' (new z)) (stand_e' ∙ sym (stand_of_kept e kept_e)) ∙ sym (ap (λ z. L' (new (stand (g z)))) s ∙ ap (λ z. L' (new (stand z))) (pair.back e le)))
-              | inr b ↦
-                  elim (cases_eq y d) [
-                    inl s ↦ ap (λ z. L' (new (stand z))) s ∙ (ap (λ z. L' (new z)) (stand_of_kept d kept_d ∙ sym stand_d') ∙ ap (λ z. L' (new (stand (g z)))) (sym s))
+        (λ y l. elim (cases_eq y (g d)) [
+          | inl s ↦ ap (λ z. L' (new (stand z))) s ∙ (ap (λ z. L' (new z)) stand_d' ∙ (new_partners ∙ sym (ap (λ z. L' (new (stand z))) (ap f s ∙ turn) ∙ ap (λ z. L' (new z)) stand_e')))
+          | inr a ↦ elim (cases_eq y (g e)) [
+            | inl s ↦ ap (λ z. L' (new (stand z))) s ∙ (ap (λ z. L' (new z)) stand_e' ∙ (sym new_partners ∙ sym (ap (λ z. L' (new (stand z))) (ap f s ∙ turn') ∙ ap (λ z. L' (new z)) stand_d')))
+            | inr b ↦
+                let t = neither_other (g d) (g e) y a b in
+                let over = new_turn y l t in
+                ap (λ z. L' (new z)) (stand_other y a b) ∙ (made_J'.first (new y) (r.new_below y l t) ∙ (ap L' (sym over.1) ∙ ap (λ z. L' (new z)) (sym (stand_of_kept (f y) over.0))))
+          ]
+        ])
+        (λ y l. elim (cases_eq y (g d)) [
+          | inl s ↦ ap (λ z. L' (new (stand z))) s ∙ (ap (λ z. L' (new z)) (stand_d' ∙ sym (stand_of_kept d kept_d)) ∙ sym (ap (λ z. L' (new (stand (g z)))) s ∙ ap (λ z. L' (new (stand z))) (pair.back d ld)))
+          | inr a ↦ elim (cases_eq y (g e)) [
+            | inl s ↦ ap (λ z. L' (new (stand z))) s ∙ (ap (λ z. L' (new z)) (stand_e' ∙ sym (stand_of_kept e kept_e)) ∙ sym (ap (λ z. L' (new (stand (g z)))) s ∙ ap (λ z. L' (new (stand z))) (pair.back e le)))
+            | inr b ↦
+                elim (cases_eq y d) [
+                  | inl s ↦ ap (λ z. L' (new (stand z))) s ∙ (ap (λ z. L' (new z)) (stand_of_kept d kept_d ∙ sym stand_d') ∙ ap (λ z. L' (new (stand (g z)))) (sym s))
                   | inr c ↦ elim (cases_eq y e) [
-                      inl s ↦ ap (λ z. L' (new (stand z))) s ∙ (ap (λ z. L' (new z)) (stand_of_kept e kept_e ∙ sym stand_e') ∙ ap (λ z. L' (new (stand (g z)))) (sym s))
+                    | inl s ↦ ap (λ z. L' (new (stand z))) s ∙ (ap (λ z. L' (new z)) (stand_of_kept e kept_e ∙ sym stand_e') ∙ ap (λ z. L' (new (stand (g z)))) (sym s))
                     | inr c' ↦
                         let t = neither_other (g d) (g e) y a b in
                         let over = new_twin y l t c c' in
                         ap (λ z. L' (new z)) (stand_other y a b) ∙ (made_J'.second (new y) (r.new_below y l t) ∙ (ap L' (sym over.1) ∙ ap (λ z. L' (new z)) (sym (stand_of_kept (g y) over.0))))
-                    ]
                   ]
-              ]
-            ]) in
+                ]
+          ]
+        ]) in
         record {
           within = λ i l. omega (arith, r.to_below i (omega arith));
           there = λ i j l q t.
-            made_J'.least (λ x. L (to x))
+              made_J'.least (λ x. L (to x))
               (λ x s. made_J.first (to x) (r.to_below x s) ∙ ap L (h x s))
               (λ x s. elim (cases_eq (to x) d) [
-                inl c ↦ ap L c ∙ (d_with_e ∙ ap L (sym (h_d x s c)))
-              | inr a ↦ elim (cases_eq (to x) e) [
-                  inl c ↦ ap L c ∙ (sym d_with_e ∙ ap L (sym (h_e x s c)))
-                | inr b ↦ made_J.second (to x) (r.to_below x s) ∙ ap L (h' x s a b)
+                | inl c ↦ ap L c ∙ (d_with_e ∙ ap L (sym (h_d x s c)))
+                | inr a ↦ elim (cases_eq (to x) e) [
+                  | inl c ↦ ap L c ∙ (sym d_with_e ∙ ap L (sym (h_e x s c)))
+                  | inr b ↦ made_J.second (to x) (r.to_below x s) ∙ ap L (h' x s a b)
                 ]
               ]) i j (omega arith) (omega arith) t;
           back = λ i j l q t.
-            let li : i < k' = omega arith in
-            let lj : j < k' = omega arith in
-            let at_i : new (stand (to i)) ≡ i = ap new (stand_of_kept (to i) (r.to_kept i li)) ∙ r.new_to i li in
-            let at_j : new (stand (to j)) ≡ j = ap new (stand_of_kept (to j) (r.to_kept j lj)) ∙ r.new_to j lj in
-            ap L' (sym at_i) ∙ (marks (to i) (to j) (r.to_below i li) (r.to_below j lj) t ∙ ap L' at_j);
+              let li : i < k' = omega arith in
+              let lj : j < k' = omega arith in
+              let at_i : new (stand (to i)) ≡ i = ap new (stand_of_kept (to i) (r.to_kept i li)) ∙ r.new_to i li in
+              let at_j : new (stand (to j)) ≡ j = ap new (stand_of_kept (to j) (r.to_kept j lj)) ∙ r.new_to j lj in
+              ap L' (sym at_i) ∙ (marks (to i) (to j) (r.to_below i li) (r.to_below j lj) t ∙ ap L' at_j);
           hits = λ i y l q t. refl;
           from = λ y l t. let c = stand_kept y (omega arith) in omega (arith, r.new_below (stand y) c.0 c.1);
-          stands = λ y l t. let c = stand_kept y (omega arith) in ap L (r.to_new (stand y) c.0 c.1) ∙ c.2
+          stands = λ y l t. let c = stand_kept y (omega arith) in ap L (r.to_new (stand y) c.0 c.1) ∙ c.2;
         }
 
     none_left : count_below (λ y. not true && eqb (label J y) y) (length J) ≡ 0

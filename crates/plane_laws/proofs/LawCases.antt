@@ -1,0 +1,28 @@
+-- The definitions that the laws cite, run on small maps.
+use Rattle.std.specs.Prelude.{◌≡◌, [], ◌∷◌, refl}
+use Rattle.map_definitions.specs.Maps.{Lists, entry_after}
+use Rattle.map_definitions.specs.Paths.{arc}
+use Rattle.map_definitions.specs.Laws.{without_edge, smoothed, side}
+
+-- from the third entry on, round to before the second
+arc_round : arc (11 ∷ 12 ∷ 13 ∷ 14 ∷ []) 13 12 ≡ 13 ∷ 14 ∷ 11 ∷ []
+arc_round = refl
+
+arc_empty : arc (11 ∷ 12 ∷ 13 ∷ []) 12 12 ≡ []
+arc_empty = refl
+
+-- K4 without the edge between its first two vertices
+abbrev k4 : Lists
+k4 = (1 ∷ 2 ∷ 3 ∷ []) ∷ (0 ∷ 3 ∷ 2 ∷ []) ∷ (0 ∷ 1 ∷ 3 ∷ []) ∷ (0 ∷ 2 ∷ 1 ∷ []) ∷ []
+
+k4_without : without_edge k4 0 1 ≡ (2 ∷ 3 ∷ []) ∷ (3 ∷ 2 ∷ []) ∷ (0 ∷ 1 ∷ 3 ∷ []) ∷ (0 ∷ 2 ∷ 1 ∷ []) ∷ []
+k4_without = refl
+
+-- a path of three vertices with its middle taken out
+path_smoothed : smoothed ((1 ∷ []) ∷ (0 ∷ 2 ∷ []) ∷ (1 ∷ []) ∷ []) 1 0 2 ≡ (2 ∷ []) ∷ [] ∷ (0 ∷ []) ∷ []
+path_smoothed = refl
+
+-- K4 at its first edge, with a corner of each end: what stands on the one side
+k4_side : side k4 0 1 2 3 ≡ 2 ∷ 3 ∷ []
+unfolding entry_after
+k4_side = refl
