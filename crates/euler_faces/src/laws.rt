@@ -1,5 +1,5 @@
 //! Laws of plane maps. Each is the contract of a function that does nothing, and speaks of all maps.
-ghost use Rattle.map_definitions.specs.Laws.{EulerBound, EdgeRemoved, BridgeTest, FacesMerged, EdgeBound, CornerSplit, DigonSplit};
+ghost use Rattle.map_definitions.specs.Laws.{EulerBound, EdgeRemoved, BridgeTest, FacesMerged, EdgeBound, CornerSplit, DigonSplit, VertexSmoothed};
 
 /// In a simple map n + f is at most 2c + m, by an even difference (Euler's formula, as a bound).
 pub fn euler_bound()
@@ -38,4 +38,10 @@ pub fn corner_split()
 /// the two sides.
 pub fn digon_split()
     ensures { DigonSplit }
+{}
+
+/// Where a vertex of a map of genus zero has just two neighbours, which are not adjacent, the map in
+/// which it is taken out of its edge, and its neighbours are adjacent, has genus zero.
+pub fn vertex_smoothed()
+    ensures { VertexSmoothed }
 {}
