@@ -1,5 +1,5 @@
 //! Reads and writes that fail in mid-stream.
-use crate::runs::{PLATONIC, PLATONIC_TEXT, TRIANGLE, run_over};
+use crate::runs::{PLATONIC, PLATONIC_TEXT, TRIANGLE, count, run_over};
 use pg_io::MemSource;
 use std::test::Fail;
 
@@ -28,7 +28,7 @@ fn bytes_of(lines: usize) -> usize {
 
 #[test]
 fn a_failing_read_leaves_the_blocks_so_far(rt: HostRuntime) -> Result<(), Fail> {
-    for taken in [0, 1, 15, 45, 46, 47, 118, 119, 151, 152] {
+    for taken in 0..153 {
         let failing = Vec::from_slice(rt.alloc(), &[taken as u64 + 1])?;
         let mut source = MemSource::new(Vec::from_slice(rt.alloc(), PLATONIC)?, 1, failing);
         let ran = run_over(rt.alloc(), &["count"], &mut source, 64, &[])?;
@@ -52,7 +52,7 @@ fn a_failing_read_leaves_the_blocks_so_far(rt: HostRuntime) -> Result<(), Fail> 
 
 #[test]
 fn a_failing_write_leaves_the_bytes_so_far(rt: HostRuntime) -> Result<(), Fail> {
-    for written in [0, 1, 32, 33, 34, 100, 101, 124] {
+    for written in 0..PLATONIC_TEXT.len() {
         let mut source = MemSource::new(
             Vec::from_slice(rt.alloc(), PLATONIC)?,
             1,
@@ -68,6 +68,25 @@ fn a_failing_write_leaves_the_bytes_so_far(rt: HostRuntime) -> Result<(), Fail> 
         let text = &PLATONIC_TEXT.as_bytes()[..written];
         assert_eq!(rt; ran.text.as_slice(), text, "after {written} bytes");
         assert_eq!(rt; ran.status, 5);
+    }
+    Ok(())
+}
+
+#[test]
+fn a_file_cut_inside_a_record(rt: HostRuntime) -> Result<(), Fail> {
+    for (record, begins, ends) in [(0, 15, 46), (1, 46, 119), (2, 119, 152)] {
+        let length = bytes_of(record);
+        assert!(rt; length <= PLATONIC_TEXT.len());
+        let blocks = &PLATONIC_TEXT.as_bytes()[..length];
+        for j in begins + 1..ends {
+            assert!(rt; j <= PLATONIC.len());
+            let ran = count(rt.alloc(), &PLATONIC[..j], 4096)?;
+            let last = format!(in rt.alloc(); "stop EndInRecord {begins}\n")?;
+            let mut text = Vec::from_slice(rt.alloc(), blocks)?;
+            text.extend_from_slice(last.as_bytes())?;
+            assert_eq!(rt; ran.text.as_slice(), text.as_slice(), "{j} bytes");
+            assert_eq!(rt; ran.status, 3);
+        }
     }
     Ok(())
 }

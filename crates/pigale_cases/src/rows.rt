@@ -1,6 +1,8 @@
 //! Inputs and texts of `count`.
 use crate::runs::{PLATONIC, PLATONIC_TEXT, TRIANGLE, TRIANGLE_TEXT, count, run_over};
+use half_edges::Rotations;
 use pg_io::SureSource;
+use pigale_shell::{Job, answer_record};
 use std::test::Fail;
 
 const ROWS: [(&str, &[u8], &str, u8); 24] = [
@@ -197,5 +199,38 @@ fn the_longest_inputs(rt: HostRuntime) -> Result<(), Fail> {
         b"refused 1 2 Loop 1\nend records 1 refused 1\n".as_slice()
     );
     assert_eq!(rt; ran.status, 1);
+    let mut repeats = vec![in rt.alloc(); 2u8; limit - 3]?;
+    for byte in [0, 1, 0] {
+        repeats.push(byte)?;
+    }
+    let ran = count(rt.alloc(), &repeats, 4096)?;
+    assert_eq!(rt;
+        ran.text.as_slice(),
+        b"refused 1 3 Repeated 1 2\nend records 1 refused 1\n".as_slice()
+    );
+    assert_eq!(rt; ran.status, 1);
+    let mut unclosed = vec![in rt.alloc(); 255u8]?;
+    unclosed.extend_from_slice(&longer)?;
+    unclosed.push(1)?;
+    let ran = count(rt.alloc(), &unclosed, 4096)?;
+    assert_eq!(rt; ran.text.as_slice(), b"stop TooLong\n".as_slice());
+    assert_eq!(rt; ran.status, 3);
+    Ok(())
+}
+
+#[test]
+fn one_record_is_answered(rt: HostRuntime) -> Result<(), Fail> {
+    let mut lists = Rotations::new(rt.alloc());
+    lists.push(&[1, 2])?;
+    lists.push(&[2, 0])?;
+    lists.push(&[0, 1])?;
+    let mut out = Vec::from_slice(rt.alloc(), b"before ")?;
+    assert_eq!(rt; lists.len(), 3);
+    let served = answer_record(rt.alloc(), Job::Count, 1, &lists, &mut out)?;
+    assert!(rt; served);
+    assert_eq!(rt;
+        out.as_slice(),
+        b"before count 1 n 3 m 3 f 2 c 1 genus 0\n".as_slice()
+    );
     Ok(())
 }
