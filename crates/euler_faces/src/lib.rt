@@ -3,7 +3,11 @@
 
 mod components;
 mod count;
-mod faces;
+mod face_count;
+mod face_walks;
 pub mod laws;
+mod walks;
 
 pub use count::{EulerCount, euler};
+pub use face_walks::faces;
+pub use walks::Faces;
