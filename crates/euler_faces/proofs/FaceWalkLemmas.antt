@@ -361,6 +361,12 @@ get_or-ids_of ds i l = get_or-map (λ (d : DartId). d.0) ds i (record { 0 = 0 })
 pub length-ids_of : (ds : List DartId) → length (ids_of ds) ≡ length ds
 length-ids_of ds = length-map {B = ℕ} ds (λ (d : DartId). d.0)
 
+-- each dart of a walk stands in it
+pub stands : (walks : List (List ℕ)) (f : ℕ) (ds : List DartId) (i : ℕ) → ids_of ds ≡ walk_at walks f → i < length ds → Contains (walk_at walks f) (get_or ds i (record { 0 = 0 })).0
+stands walks f ds i e l =
+    let at = Contains-get_or (ids_of ds) i 0 (omega (arith, length-ids_of ds)) in
+    subst (λ ids. Contains ids (get_or ds i (record { 0 = 0 })).0) e (subst (Contains (ids_of ds)) (get_or-ids_of ds i l) at)
+
 -- the number f written at one entry more
 pub here_more : (of ids : List ℕ) (k f x : ℕ) → x < length of → get_or ids k 0 ≡ x → ((i : ℕ) → i < k → get_or of (get_or ids i 0) 0 ≡ f) → (i : ℕ) → i < k + 1 → get_or (set of x f) (get_or ids i 0) 0 ≡ f
 here_more of ids k f x l e h i m =
