@@ -2,3 +2,4 @@
 mod NumberLemmas
 mod IsolatedLemmas
 mod SearchLemmas
+mod FaceWalkLemmas

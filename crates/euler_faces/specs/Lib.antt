@@ -1,3 +1,5 @@
 -- Darts by their numbers, under the ids of a map.
+pub mod FaceSearch
+pub mod FaceWalks
 pub mod Numbers
 pub mod Search

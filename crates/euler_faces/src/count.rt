@@ -3,7 +3,7 @@ ghost use Rattle.std.specs.Prelude.{◌≡◌, ◌≤◌, ◌+◌, ◌-◌, ◌*
 ghost use Rattle.map_definitions.specs.Maps.{vertex_count, edge_count, face_count, component_count, genus_of};
 
 use super::components::count_components;
-use super::faces::count_faces;
+use super::face_count::count_faces;
 use half_edges::HalfMap;
 use std::alloc::{AllocError, Global};
 

@@ -1,9 +1,17 @@
-//! The Euler count of a map: its vertices, edges, faces and components, and its genus.
+//! The Euler count of a map: its vertices, edges, faces and components, and its genus. The faces of a
+//! map as walks along the face step.
 #![tactic(auto)]
 
 mod components;
 mod count;
-mod faces;
+mod face_count;
+mod face_walks;
 pub mod laws;
+mod walks;
 
 pub use count::{EulerCount, euler};
+pub use face_walks::faces;
+pub use walks::Faces;
+
+#[cfg(test)]
+mod tests;

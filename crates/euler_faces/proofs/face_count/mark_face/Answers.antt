@@ -4,7 +4,7 @@ use Rattle.map_definitions.proofs.DartLemmas.{length-face_images, IsPermutationO
 use Rattle.map_definitions.proofs.Marks.{IsMarking-none, IsMarking-more, IsMarking-all}
 use Rattle.euler_faces.specs.Numbers.{number_at, mark_of}
 use Rattle.euler_faces.proofs.NumberLemmas.{number_at-lt, live-lt, SetsMark-set, mark_of-number, face_step-live, face_step-number, unmarked-set}
-use Rattle.euler_faces.proofs.faces.mark_face.Goals as goal
+use Rattle.euler_faces.proofs.face_count.mark_face.Goals as goal
 
 pub loop-marked-init : goal.loop-marked-init
 loop-marked-init c =

@@ -1,7 +1,7 @@
 use Rattle.std.proofs.Common.{arith}
 use Rattle.map_definitions.specs.Maps.{follows}
 use Rattle.euler_faces.proofs.NumberLemmas.{number_at-lt, live_from, next-dart, next-back, next-number}
-use Rattle.euler_faces.proofs.faces.count_round.Goals as goal
+use Rattle.euler_faces.proofs.face_count.count_round.Goals as goal
 
 pub returns-then-d-first : goal.returns-then-d-first
 returns-then-d-first c =

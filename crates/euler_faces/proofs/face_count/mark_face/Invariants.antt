@@ -4,7 +4,7 @@ use Rattle.map_definitions.proofs.Marks.{IsMarking}
 use Rattle.half_edges.specs.Map.{IsLive}
 use Rattle.euler_faces.specs.Numbers.{number_at, mark_of}
 use Rattle.euler_faces.proofs.NumberLemmas.{unmarked}
-use Rattle.euler_faces.proofs.faces.mark_face.Given as goal
+use Rattle.euler_faces.proofs.face_count.mark_face.Given as goal
 
 abbrev pub invariant-loop-marked : goal.invariant-loop-marked
 invariant-loop-marked l = record {

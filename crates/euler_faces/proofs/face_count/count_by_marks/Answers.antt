@@ -8,8 +8,8 @@ use Rattle.map_definitions.proofs.Marks.{IsCounting-none, IsCounting-le, IsCount
 use Rattle.euler_faces.specs.Numbers.{mark_of, id_of}
 use Rattle.euler_faces.proofs.NumberLemmas.{few_darts}
 use Rattle.euler_faces.proofs.IsolatedLemmas.{isolated_count_empty, isolated_count_some}
-use Rattle.euler_faces.proofs.faces.count_by_marks.Goals as goal
-use Rattle.euler_faces.proofs.faces.count_by_marks.Goals.{in-Some, in-None}
+use Rattle.euler_faces.proofs.face_count.count_by_marks.Goals as goal
+use Rattle.euler_faces.proofs.face_count.count_by_marks.Goals.{in-Some, in-None}
 
 pub loop-v-preserved : goal.loop-v-preserved
 loop-v-preserved c =

@@ -6,7 +6,7 @@ use Rattle.map_definitions.proofs.Orbits.{length-orbits, IsLabels-orbits}
 use Rattle.map_definitions.proofs.Marks.{IsCounting-le, IsCounting-new, IsCounting-old, KeepsMarks-counting}
 use Rattle.euler_faces.specs.Numbers.{number_at, mark_of}
 use Rattle.euler_faces.proofs.NumberLemmas.{number_at-lt, mark_of-number, few_darts}
-use Rattle.euler_faces.proofs.faces.count_dart.Goals as goal
+use Rattle.euler_faces.proofs.face_count.count_dart.Goals as goal
 
 pub overflow_add-result : goal.overflow_add-result
 overflow_add-result c =

@@ -4,7 +4,7 @@ use Rattle.map_definitions.specs.Maps.{edge_count, darts_before, face_images, is
 use Rattle.map_definitions.proofs.Marks.{IsCounting}
 use Rattle.half_edges.specs.Map.{IsHalfMap}
 use Rattle.euler_faces.specs.Numbers.{mark_of}
-use Rattle.euler_faces.proofs.faces.count_by_marks.Given as goal
+use Rattle.euler_faces.proofs.face_count.count_by_marks.Given as goal
 
 abbrev pub invariant-loop-v : goal.invariant-loop-v
 invariant-loop-v l = record {

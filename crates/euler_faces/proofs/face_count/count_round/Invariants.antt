@@ -4,7 +4,7 @@ use Rattle.map_definitions.specs.Maps.{edge_count, dart_count, face_images}
 use Rattle.map_definitions.proofs.Marks.{IsCounting}
 use Rattle.half_edges.specs.Map.{dart_at}
 use Rattle.euler_faces.specs.Numbers.{number_at, mark_of}
-use Rattle.euler_faces.proofs.faces.count_round.Given as goal
+use Rattle.euler_faces.proofs.face_count.count_round.Given as goal
 
 abbrev pub invariant-round : goal.invariant-round
 invariant-round l = record {

@@ -1,0 +1,16 @@
+use Rattle.std.proofs.Common.{◌≡◌, ◌+◌, ◌*◌, length}
+use Rattle.map_definitions.specs.Classes.{orbits}
+use Rattle.map_definitions.specs.Maps.{edge_count, darts_before, face_images}
+use Rattle.map_definitions.proofs.Marks.{IsCounting}
+use Rattle.half_edges.specs.Map.{IsHalfMap}
+use Rattle.euler_faces.specs.Numbers.{mark_of}
+use Rattle.euler_faces.specs.FaceSearch.{AreWalksBelow}
+use Rattle.euler_faces.proofs.face_walks.add_all.Given as goal
+
+abbrev pub invariant-loop-v : goal.invariant-loop-v
+invariant-loop-v l = record {
+  known : IsHalfMap l.map;
+  marks : length l.marked ≡ 2 * (edge_count l.map.lists + l.map.spare);
+  counting : IsCounting (orbits (face_images l.map.lists)) (mark_of l.map l.marked) (length l.walks.items) (darts_before l.map.lists l.v);
+  walks : AreWalksBelow l.map l.walks.items (darts_before l.map.lists l.v);
+}
