@@ -1,11 +1,10 @@
 -- Each id of a live dart has a number, each number an id, and the steps along a map are steps of numbers.
-use Rattle.std.proofs.Common.{◌≡◌, ◌≢◌, ℕ, zero, suc, ◌+◌, ◌*◌, ◌<◌, ◌≤◌, Bool, true, false, not, List, [], ◌∷◌, length, get_or, set, Option, Some, None, refl, sym, ap, ◌∙◌, inl, inr, arith, IsSome, option_map, unwrap_or, get_or-set_same, get_or-set_other}
+use Rattle.std.proofs.Common.{◌≡◌, ◌≢◌, ℕ, zero, suc, ◌+◌, ◌*◌, ◌<◌, ◌≤◌, Bool, true, false, List, [], ◌∷◌, length, get_or, set, Option, Some, None, refl, sym, ap, ◌∙◌, inl, inr, arith, IsSome, option_map, unwrap_or, get_or-set_same, get_or-set_other}
 use Rattle.std.proofs.lemmas.Bool.{cases_lt, eq-eqb}
 use Rattle.std.proofs.lemmas.List.{get_or_past}
 use Rattle.std.proofs.lemmas.Bool.Decides.{nat_tests}
-use Rattle.map_definitions.specs.Classes.{image, count_below}
+use Rattle.map_definitions.specs.Classes.{image}
 use Rattle.map_definitions.specs.Maps.{Dart, darts, dart_number, dart_count, edge_count, darts_before, list_of, place_of, face_images, face_step, follows, same_dart}
-use Rattle.map_definitions.proofs.Counting.{count_below_more}
 use Rattle.map_definitions.proofs.DartCounts.{dart_count-le}
 use Rattle.map_definitions.proofs.DartLemmas.{dart_number-lt, get_or-dart_number, IsDartNumber-darts, IsDartNumber, get_or-face_images, place_after, place_of-entry_after, place_of-lt-length, entry_after-place, darts_before_more, place_of-get_or}
 use Rattle.map_definitions.proofs.Marks.{SetsMark}
@@ -112,16 +111,6 @@ module _ (map : Map) (h : IsHalfMap map) where
       ∙ ap (λ (y : Dart). dart_number map.lists (face_step map.lists y)) (sym (get_or-dart_number map.lists x.0.0 x.0.1 (0, 0) is))
       ∙ sym (get_or-face_images map.lists (dart_number map.lists x.0) (dart_number map.lists x.0) (0, 0) l)
       ∙ ap (image (face_images map.lists)) (sym (number_at-is map d x.0.0 x.0.1 x.1))
-
--- how many numbers below k are not marked
-abbrev pub unmarked : (ℕ → Bool) → ℕ → ℕ
-unmarked marked k = count_below (λ i. not (marked i)) k
-
--- a mark set leaves fewer to set
-pub unmarked-set : (k : ℕ) (old new : ℕ → Bool) (x : ℕ) → SetsMark k old new x → x < k → old x ≡ false → unmarked new k < unmarked old k
-unmarked-set k old new x sets l off =
-    let more = count_below_more (λ i. not (new i)) (λ i. not (old i)) k x l (ap not sets.here) (ap not off) (λ i m ne. ap not (sets.elsewhere i m ne)) in
-    omega arith
 
 place_after-zero : (n k : ℕ) → k < n → place_after n k ≡ 0 → k + 1 ≡ n
 place_after-zero n k l e = grind (arith, nat_tests)

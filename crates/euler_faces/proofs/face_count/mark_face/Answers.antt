@@ -1,9 +1,9 @@
 use Rattle.std.proofs.Common.{length-set, ◌∙◌, true, set, arith}
 use Rattle.map_definitions.specs.Maps.{face_images}
 use Rattle.map_definitions.proofs.DartLemmas.{length-face_images, IsPermutationOfBelow-face_images}
-use Rattle.map_definitions.proofs.Marks.{IsMarking-none, IsMarking-more, IsMarking-all}
+use Rattle.map_definitions.proofs.Marks.{IsMarking-none, IsMarking-more, IsMarking-all, unmarked_below-set}
 use Rattle.euler_faces.specs.Numbers.{number_at, mark_of}
-use Rattle.euler_faces.proofs.NumberLemmas.{number_at-lt, live-lt, SetsMark-set, mark_of-number, face_step-live, face_step-number, unmarked-set}
+use Rattle.euler_faces.proofs.NumberLemmas.{number_at-lt, live-lt, SetsMark-set, mark_of-number, face_step-live, face_step-number}
 use Rattle.euler_faces.proofs.face_count.mark_face.Goals as goal
 
 pub loop-marked-init : goal.loop-marked-init
@@ -23,7 +23,7 @@ loop-marked-smaller c =
     let h = c.loop-marked.invariant in
     let d = c.loop-marked.d.0 in
     let l = live-lt map c.requires.known d h.live in
-    unmarked-set _ _ _ (number_at map d)
+    unmarked_below-set _ _ _ (number_at map d)
     (SetsMark-set map c.requires.known c.loop-marked.marked d h.live (omega arith))
     (number_at-lt map c.requires.known d h.live)
     (mark_of-number map c.requires.known c.loop-marked.marked d h.live ∙ c.loop-marked-test.true)

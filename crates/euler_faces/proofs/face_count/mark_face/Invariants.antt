@@ -1,9 +1,8 @@
 use Rattle.std.proofs.Common.{◌≡◌, ◌+◌, ◌*◌, length}
 use Rattle.map_definitions.specs.Maps.{edge_count, dart_count, face_images}
-use Rattle.map_definitions.proofs.Marks.{IsMarking}
+use Rattle.map_definitions.proofs.Marks.{IsMarking, unmarked_below}
 use Rattle.half_edges.specs.Map.{IsLive}
 use Rattle.euler_faces.specs.Numbers.{number_at, mark_of}
-use Rattle.euler_faces.proofs.NumberLemmas.{unmarked}
 use Rattle.euler_faces.proofs.face_count.mark_face.Given as goal
 
 abbrev pub invariant-loop-marked : goal.invariant-loop-marked
@@ -14,4 +13,4 @@ invariant-loop-marked l = record {
 }
 
 abbrev pub decreases-loop-marked : goal.decreases-loop-marked
-decreases-loop-marked l = unmarked (mark_of l.map l.marked) (dart_count l.map.lists)
+decreases-loop-marked l = unmarked_below (mark_of l.map l.marked) (dart_count l.map.lists)

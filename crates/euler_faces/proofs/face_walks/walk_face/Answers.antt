@@ -1,6 +1,7 @@
 use Rattle.std.proofs.Common.{length-set, ◌∙◌, true, set, subst, sym, arith}
 use Rattle.euler_faces.specs.Numbers.{number_at, mark_of}
-use Rattle.euler_faces.proofs.NumberLemmas.{number_at-lt, live-lt, SetsMark-set, mark_of-number, face_step-live, unmarked-set}
+use Rattle.euler_faces.proofs.NumberLemmas.{number_at-lt, live-lt, SetsMark-set, mark_of-number, face_step-live}
+use Rattle.map_definitions.proofs.Marks.{unmarked_below-set}
 use Rattle.euler_faces.proofs.FaceWalkLemmas.{IsWalking, live_now, IsWalking-more, IsWalking-marks, IsWalking-all}
 use Rattle.euler_faces.proofs.face_walks.walk_face.Goals as goal
 
@@ -28,7 +29,7 @@ loop-marked-smaller c =
     let d = c.loop-marked.d.0 in
     let live = live_now map c.requires.known _ _ _ _ _ h.walking in
     let l = live-lt map c.requires.known d live in
-    unmarked-set _ _ _ (number_at map d)
+    unmarked_below-set _ _ _ (number_at map d)
     (SetsMark-set map c.requires.known c.loop-marked.marked d live (omega arith))
     (number_at-lt map c.requires.known d live)
     (mark_of-number map c.requires.known c.loop-marked.marked d live ∙ c.loop-marked-test.true)

@@ -1,7 +1,7 @@
 use Rattle.std.proofs.Common.{◌≡◌, ◌+◌, ◌*◌, length}
 use Rattle.map_definitions.specs.Maps.{edge_count, dart_count}
 use Rattle.euler_faces.specs.Numbers.{mark_of}
-use Rattle.euler_faces.proofs.NumberLemmas.{unmarked}
+use Rattle.map_definitions.proofs.Marks.{unmarked_below}
 use Rattle.euler_faces.proofs.FaceWalkLemmas.{IsWalking}
 use Rattle.euler_faces.proofs.face_walks.walk_face.Given as goal
 
@@ -12,4 +12,4 @@ invariant-loop-marked l = record {
 }
 
 abbrev pub decreases-loop-marked : goal.decreases-loop-marked
-decreases-loop-marked l = unmarked (mark_of l.map l.marked) (dart_count l.map.lists)
+decreases-loop-marked l = unmarked_below (mark_of l.map l.marked) (dart_count l.map.lists)
