@@ -3,13 +3,15 @@ ghost use Rattle.std.specs.Prelude.{◌≡◌, ◌<◌, ℕ, [], ◌∷◌, ◌+
 ghost use Rattle.euler_faces.specs.FaceWalks.{ids_of, walk_at};
 
 use half_edges::{DartId, FaceId};
+use smallvec::SmallVec;
 use std::alloc::{AllocError, Global};
 use std::marker::Model;
 
-// Darts in the order of a walk. Contracts see the numbers of their ids.
+// Darts in the order of a walk, at most four with no memory of their own. Contracts see the numbers of
+// their ids.
 #[derive(Drop)]
 pub(crate) struct Walk {
-    darts: Vec<DartId>,
+    darts: SmallVec<DartId, 4>,
 }
 
 impl Model for Walk {
@@ -27,7 +29,7 @@ impl Walk {
         ensures { result ≡ [] }
     {
         Walk {
-            darts: Vec::new(alloc),
+            darts: SmallVec::new(alloc),
         }
     }
 
@@ -43,7 +45,7 @@ impl Walk {
     pub(crate) fn as_slice(&self) -> &[DartId]
         ensures { ids_of result.now ≡ self.now }
     {
-        &self.darts
+        self.darts.as_slice()
     }
 }
 

@@ -6,7 +6,7 @@ pub struct VertexId(pub u16);
 
 /// A dart of a map. Its number is below twice the sum of the map's edges and spare edges, so it can
 /// index a list of marks; nothing else is promised of it.
-#[derive(Clone, Copy, Debug, PartialEq, Eq)]
+#[derive(Clone, Copy, Debug, Default, PartialEq, Eq)]
 pub struct DartId(pub u32);
 
 /// A face of a map, by its number from 0.
