@@ -7,10 +7,10 @@ use Rattle.std.proofs.lemmas.List.Elements.{Contains-get_or}
 use Rattle.map_definitions.specs.Classes.{image, label, orbits, same_class}
 use Rattle.map_definitions.specs.Maps.{dart_count, face_images, face_step}
 use Rattle.map_definitions.proofs.Classes.{Together, same_class-from}
-use Rattle.map_definitions.proofs.Orbits.{length-orbits, IsLabels-orbits, IsPermuting, IsPermuting-image, orbits-closed_marks}
+use Rattle.map_definitions.proofs.Orbits.{length-orbits, IsLabels-orbits, IsPermuting-image, orbits-closed_marks}
 use Rattle.map_definitions.proofs.DartLemmas.{length-face_images, IsPermutationOfBelow-face_images}
 use Rattle.map_definitions.proofs.Marks.{KeepsMarks, SetsMark, IsCounting}
-use Rattle.map_definitions.proofs.Walks.{walk, visited, visited_at, visited-walk, walk-lt, walk-together, visited_is_orbit}
+use Rattle.map_definitions.proofs.Walks.{walk, visited, visited_at, visited-walk, walk_apart, walk-together, visited_is_orbit}
 use Rattle.half_edges.specs.Map.{Map, IsHalfMap, IsLive, dart_at}
 use Rattle.half_edges.specs.declared.ids.DartId.{DartId}
 use Rattle.euler_faces.specs.Numbers.{number_at, id_of}
@@ -136,13 +136,6 @@ module _ (map : Map) (h : IsHalfMap map) (old marked : ℕ → Bool) (ids : List
             ]);
       }
 
--- a walk that stands at one number twice is back after the steps between
-walk_between : (f : ℕ → ℕ) (k : ℕ) → IsPermuting f k → (a : ℕ) → a < k → (i m : ℕ) → walk f a i ≡ walk f a (m + i) → walk f a m ≡ a
-walk_between f k w a l zero m e = let z : m + 0 ≡ m = omega arith in sym (e ∙ ap (walk f a) z)
-walk_between f k w a l (suc i) m e =
-    let s : m + suc i ≡ suc (m + i) = omega arith in
-    walk_between f k w a l i m (w.apart (walk f a i) (walk f a (m + i)) (walk-lt f k w.within a i l) (walk-lt f k w.within a (m + i) l) (e ∙ ap (walk f a) s))
-
 -- a walk that is away stands at different numbers
 walk_once : (map : Map) → IsHalfMap map → (a n i j : ℕ) → a < dart_count map.lists → ((k : ℕ) → 0 < k → k < n → walk (step map) a k ≢ a) → i < j → j < n → walk (step map) a i ≢ walk (step map) a j
 walk_once map h a n i j l away m m' e =
@@ -150,7 +143,7 @@ walk_once map h a n i j l away m m' e =
     let p = IsPermuting-image (face_images map.lists) (IsPermutationOfBelow-face_images map.lists h.simple) in
     let d = j - i in
     let s : j ≡ d + i = omega arith in
-    away d (omega arith) (omega arith) (walk_between (step map) (length (face_images map.lists)) p a (omega arith) i d (e ∙ ap (walk (step map) a) s))
+    away d (omega arith) (omega arith) (walk_apart (step map) (length (face_images map.lists)) p a (omega arith) i d (e ∙ ap (walk (step map) a) s))
 
 module _ (map : Map) (h : IsHalfMap map) (old marked : ℕ → Bool) (ids : List ℕ) (start x : ℕ) (w : IsWalking map old marked ids start x) (keeps : KeepsMarks (face_images map.lists) old) (off : old (number_at map start) ≡ false) (on : marked (number_at map x) ≡ true) where
   start-lt : number_at map start < length (face_images map.lists)
@@ -192,7 +185,7 @@ module _ (map : Map) (h : IsHalfMap map) (old marked : ℕ → Bool) (ids : List
       let d = n - r.0 in
       let l = r.1 in
       let s : n ≡ d + r.0 = omega arith in
-      let around : walk (step map) a d ≡ a = walk_between (step map) (length (face_images map.lists)) p a start-lt r.0 d (e ∙ ap (walk (step map) a) s) in
+      let around : walk (step map) a d ≡ a = walk_apart (step map) (length (face_images map.lists)) p a start-lt r.0 d (e ∙ ap (walk (step map) a) s) in
       elim (cases_lt d n) [
         | inl m ↦ absurd (w.away d (omega arith) m around)
         | inr m ↦ let q : n ≡ d = omega arith in ap (walk (step map) a) q ∙ around

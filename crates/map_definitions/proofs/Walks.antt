@@ -55,8 +55,8 @@ visited-walk f a (suc n) i l =
 pub not_visited : (f : ℕ → ℕ) (a n y : ℕ) → ((i : ℕ) → i < n → walk f a i ≢ y) → visited f a n y ≡ false
 not_visited f a n y h = false_from_ne_true (visited f a n y) (λ t. let r = visited_at f a n y t in h r.0 r.1 r.2)
 
--- a walk that is away meets no number twice
-walk_apart : (f : ℕ → ℕ) (k : ℕ) → IsPermuting f k → (a : ℕ) → a < k → (i m : ℕ) → walk f a i ≡ walk f a (m + i) → walk f a m ≡ a
+-- a walk that stands at one number twice is back after the steps between
+pub walk_apart : (f : ℕ → ℕ) (k : ℕ) → IsPermuting f k → (a : ℕ) → a < k → (i m : ℕ) → walk f a i ≡ walk f a (m + i) → walk f a m ≡ a
 walk_apart f k w a l zero m e = let z : m + 0 ≡ m = omega arith in sym (e ∙ ap (walk f a) z)
 walk_apart f k w a l (suc i) m e =
     let s : m + suc i ≡ suc (m + i) = omega arith in
