@@ -8,12 +8,14 @@
 mod faults;
 mod half_map;
 mod ids;
+mod lists;
 mod rotations;
 mod tables;
 mod twins;
 
 pub use half_map::{HalfMap, MapFault};
 pub use ids::{DartId, FaceId, VertexId};
+pub use lists::{Counts, EdgeList, Ends, PathList, VertexList};
 pub use rotations::Rotations;
 
 #[cfg(test)]

@@ -88,7 +88,7 @@ fn piece<'a>(entries: &'a [u16], ends: &[usize], v: usize) -> &'a [u16]
 }
 
 // Where the piece begins that ends at `ends[v]`.
-fn start_of(ends: &[usize], v: usize) -> usize
+pub(crate) fn start_of(ends: &[usize], v: usize) -> usize
     requires { v < length ends.now }
     ensures { result ≡ slice_index_or (0 ∷ ends.now) v 0 }
 {
