@@ -5,3 +5,4 @@ pub mod TableLemmas
 pub mod TwinLemmas
 pub mod MapLemmas
 pub mod IdLemmas
+pub mod InducedLemmas

@@ -9,6 +9,7 @@ mod faults;
 mod half_map;
 mod ids;
 mod lists;
+mod parts;
 mod rotations;
 mod tables;
 mod twins;

@@ -102,3 +102,27 @@ fn small_lists_give_what_was_pushed(rt: HostRuntime) -> Result<(), Fail> {
     assert_eq!(rt; paths.list(1), [VertexId(1), VertexId(0)].as_slice());
     Ok(())
 }
+
+#[test]
+fn a_copy_has_the_same_lists(rt: HostRuntime) -> Result<(), Fail> {
+    let copy = map_of(&rt, rt.alloc(), K4)?.copy(rt.alloc())?;
+    let lists = copy.rotations(rt.alloc())?;
+    assert_eq!(rt; (copy.spare(), lists.len()), (0, 4));
+    for v in 0..4 {
+        assert_eq!(rt; lists.list(v), K4[v]);
+    }
+    Ok(())
+}
+
+#[test]
+fn the_part_between_three_vertices(rt: HostRuntime) -> Result<(), Fail> {
+    let map = map_of(&rt, rt.alloc(), K4)?;
+    assert_eq!(rt; map.n(), 4);
+    let part = map.induced(rt.alloc(), &[true, false, true, true])?;
+    let lists = part.rotations(rt.alloc())?;
+    assert_eq!(rt; (part.spare(), lists.len()), (0, 3));
+    assert_eq!(rt; lists.list(0), [1, 2].as_slice());
+    assert_eq!(rt; lists.list(1), [0, 2].as_slice());
+    assert_eq!(rt; lists.list(2), [0, 1].as_slice());
+    Ok(())
+}
