@@ -1,4 +1,5 @@
 -- What contracts see of a half-edge map.
+pub mod Arena
 pub mod Cuts
 pub mod Induced
 pub mod Map

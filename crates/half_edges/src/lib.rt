@@ -5,6 +5,7 @@
 //! `HalfMap` as its lists, its spare room and which id is which dart, and never what an id is made of.
 #![tactic(auto)]
 
+mod arena;
 mod faults;
 mod half_map;
 mod ids;

@@ -66,16 +66,6 @@ impl Rotations {
     {
         piece(&self.entries, &self.ends, v)
     }
-
-    /// A copy.
-    pub(crate) fn copy(&self, alloc: Global) -> Result<Rotations, AllocError>
-        ensures { IfOk result (λ copy. copy ≡ self.now) }
-    {
-        Ok(Rotations {
-            entries: Vec::from_slice(alloc, &self.entries)?,
-            ends: Vec::from_slice(alloc, &self.ends)?,
-        })
-    }
 }
 
 // The piece that ends at `ends[v]`.
