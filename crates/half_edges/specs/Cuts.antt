@@ -2,7 +2,7 @@
 use Rattle.std.specs.Prelude.{ℕ, ◌≤◌, ◌≡◌, List, [], ◌∷◌, slice_range}
 
 -- the pieces of a list, the first of which begins at `from`
-abbrev pub cut : ℕ → List ℕ → List ℕ → List (List ℕ)
+abbrev pub cut : {A : Type 0} → ℕ → List ℕ → List A → List (List A)
 cut from [] entries = []
 cut from (end ∷ ends) entries = slice_range entries from end ∷ cut end ends entries
 

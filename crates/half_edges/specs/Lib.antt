@@ -1,5 +1,7 @@
 -- What contracts see of a half-edge map.
+pub mod Arena
 pub mod Cuts
+pub mod Induced
 pub mod Map
 pub mod MapFault
 pub mod Tables

@@ -1,7 +1,10 @@
 -- What the tables of a half-edge map say.
-use Rattle.std.specs.Prelude.{ℕ, ◌+◌, ◌<◌, ◌≤◌, ◌≡◌, List, map, length, slice_get, slice_index, slice_index_or, Some}
-use Rattle.map_definitions.specs.Maps.{Lists, Dart, IsSimpleMap, darts, darts_before}
+use Rattle.std.specs.Prelude.{ℕ, ◌+◌, ◌-◌, ◌<◌, ◌≤◌, ◌≡◌, ◌==◌, nat_lt, if◌then◌else◌, true, List, map, length, slice_get, slice_index, slice_index_or, Some}
+use Rattle.map_definitions.specs.Maps.{Lists, Dart, IsSimpleMap, list_of, darts, darts_before}
 use Rattle.half_edges.specs.Map.{Map, twin_dart}
+use Rattle.half_edges.specs.Arena.{record_at, vertex_at}
+use Rattle.half_edges.specs.declared.arena.DartRecord.{DartRecord}
+use Rattle.half_edges.specs.declared.arena.VertexRecord.{VertexRecord}
 
 -- for each vertex up to n, how many darts stand before its own
 pub record StartsTo (lists : Lists) (starts : List ℕ) (n : ℕ) : Type 0 where
@@ -24,3 +27,22 @@ pub record AreTables (lists : Lists) (starts : List ℕ) (ends : List Dart) (twi
 -- the map of these tables: a dart's id is its number
 abbrev pub map_of : Lists → List Dart → Map
 map_of lists ends = record { lists = lists; spare = 0; ids = map (λ d. Some d) ends }
+
+-- the record of a dart, by the tables: next and prev are the numbers after and before its own, round its vertex
+abbrev pub table_record : List ℕ → List Dart → List ℕ → ℕ → DartRecord
+table_record starts ends twins d =
+    let v = (slice_index_or ends d (0, 0)).0 in
+    let start = slice_index starts v in
+    let end = slice_index starts (v + 1) in
+    record { twin = slice_index twins d; next = if nat_lt (d + 1) end then d + 1 else start; prev = if d == start then end - 1 else d - 1; tail = v; live = true }
+
+-- the records of the first n darts
+pub record AreTableRecords (starts : List ℕ) (ends : List Dart) (twins : List ℕ) (records : List DartRecord) (n : ℕ) : Type 0 where
+  pub count : length records ≡ n
+  pub at : (d : ℕ) → d < n → record_at records d ≡ table_record starts ends twins d
+
+-- the records of the first n vertices
+pub record AreTableVertices (lists : Lists) (starts : List ℕ) (vertices : List VertexRecord) (n : ℕ) : Type 0 where
+  pub count : length vertices ≡ n
+  pub first : (v : ℕ) → v < n → (vertex_at vertices v).first ≡ slice_index starts v
+  pub degree : (v : ℕ) → v < n → (vertex_at vertices v).degree ≡ length (list_of lists v)

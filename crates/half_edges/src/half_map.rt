@@ -5,8 +5,9 @@ ghost use Rattle.map_definitions.specs.Faults.{first_fault};
 ghost use Rattle.half_edges.specs.Map.{IsHalfMap, IsLive, dart_at, twin_dart, next_dart};
 ghost use Rattle.half_edges.specs.MapFault.{Names};
 
+use crate::arena::{DartRecord, VertexRecord, dart_to, records_of, vertices_of, walked};
 use crate::faults::{first_loop, first_out_of_range, first_repeated};
-use crate::tables::{darts_of, find_dart, starts_of};
+use crate::tables::{darts_of, starts_of};
 use crate::twins::twins_of;
 use crate::{DartId, Rotations, VertexId};
 use std::alloc::{AllocError, Global};
@@ -46,24 +47,25 @@ impl From<AllocError> for MapFault {
 /// time, but for `from_rotations`, `rotations`, and `dart_of`, which goes over one list.
 #[derive(Drop)]
 pub struct HalfMap {
-    rotations: Rotations,
-    // for each vertex the number of its first dart, and last the number of all darts
-    starts: Vec<u32>,
-    // the tail and the head of each dart
-    ends: Vec<(u16, u16)>,
-    // the twin of each dart
-    twins: Vec<u32>,
+    darts: Vec<DartRecord>,
+    vertices: Vec<VertexRecord>,
+    // how many edges there are
+    edges: u32,
+    // a dart of the first free edge, where there is one
+    free: u32,
+    // how many edges are free
+    spare: u32,
 }
 
 impl Model for HalfMap {
     ghost use Rattle.half_edges.specs.Map.{Map};
-    ghost use Rattle.half_edges.specs.Tables.{AreTables, map_of};
+    ghost use Rattle.half_edges.specs.Arena.{IsArena, arena_lists, arena_map};
 
     ghost Value = { Map };
 
-    ghost view = { λ m. map_of m.rotations m.ends.items };
+    ghost view = { λ m. arena_map m.darts.items m.vertices.items m.spare };
 
-    ghost invariant = { λ m. AreTables m.rotations m.starts.items m.ends.items m.twins.items };
+    ghost invariant = { λ m. IsArena (arena_lists m.darts.items m.vertices.items) m.darts.items m.vertices.items m.edges m.free m.spare };
 }
 
 impl HalfMap {
@@ -92,12 +94,14 @@ impl HalfMap {
         let count = starts[lists.len()];
         let ends = darts_of(alloc, lists, count as usize)?;
         let twins = twins_of(alloc, lists, &starts, &ends)?;
-        let rotations = lists.copy(alloc)?;
+        let darts = records_of(alloc, lists, &starts, &ends, &twins)?;
+        let vertices = vertices_of(alloc, lists, &starts)?;
         Ok(HalfMap {
-            rotations,
-            starts,
-            ends,
-            twins,
+            darts,
+            vertices,
+            edges: count / 2,
+            free: 0,
+            spare: 0,
         })
     }
 
@@ -106,7 +110,7 @@ impl HalfMap {
         ensures count { result ≡ vertex_count self.now.lists }
         ensures known { IsHalfMap self.now }
     {
-        self.rotations.len() as u16
+        self.vertices.len() as u16
     }
 
     /// The number of edges.
@@ -114,22 +118,21 @@ impl HalfMap {
         ensures count { result ≡ edge_count self.now.lists }
         ensures known { IsHalfMap self.now }
     {
-        (self.ends.len() / 2) as u32
+        self.edges
     }
 
     /// How many edges can be added without more memory.
     pub fn spare(&self) -> u32
         ensures { result ≡ self.now.spare }
     {
-        let _ends = &self.ends;
-        0
+        self.spare
     }
 
     /// Whether a dart has this id.
     pub fn is_live(&self, d: DartId) -> bool
         ensures { IsTrue result ↔ IsLive self.now d.0 }
     {
-        (d.0 as usize) < self.ends.len()
+        (d.0 as usize) < self.darts.len() && self.darts[d.0 as usize].live
     }
 
     /// The other dart of the same edge.
@@ -137,7 +140,7 @@ impl HalfMap {
         requires { IsLive self.now d.0 }
         ensures { dart_at self.now result.0 ≡ option_map twin_dart (dart_at self.now d.0) }
     {
-        DartId(self.twins[d.0 as usize])
+        DartId(self.darts[d.0 as usize].twin)
     }
 
     /// The clockwise next dart from the same vertex.
@@ -145,8 +148,7 @@ impl HalfMap {
         requires { IsLive self.now d.0 }
         ensures { dart_at self.now result.0 ≡ option_map (next_dart self.now.lists) (dart_at self.now d.0) }
     {
-        let v = self.ends[d.0 as usize].0 as usize;
-        DartId(number_after(self.starts[v], self.starts[v + 1], d.0))
+        DartId(self.darts[d.0 as usize].next)
     }
 
     /// The dart of which `d` is the clockwise next.
@@ -155,8 +157,7 @@ impl HalfMap {
         ensures live { IsLive self.now result.0 }
         ensures before { option_map (next_dart self.now.lists) (dart_at self.now result.0) ≡ dart_at self.now d.0 }
     {
-        let v = self.ends[d.0 as usize].0 as usize;
-        DartId(number_before(self.starts[v], self.starts[v + 1], d.0))
+        DartId(self.darts[d.0 as usize].prev)
     }
 
     /// The next dart along the face on the left of `d`: the clockwise next of its twin.
@@ -173,7 +174,7 @@ impl HalfMap {
         requires { IsLive self.now d.0 }
         ensures { option_map (λ dart. dart.0) (dart_at self.now d.0) ≡ Some result.0 }
     {
-        VertexId(self.ends[d.0 as usize].0)
+        VertexId(self.darts[d.0 as usize].tail)
     }
 
     /// The vertex to which a dart leads.
@@ -181,7 +182,8 @@ impl HalfMap {
         requires { IsLive self.now d.0 }
         ensures { option_map (λ dart. dart.1) (dart_at self.now d.0) ≡ Some result.0 }
     {
-        VertexId(self.ends[d.0 as usize].1)
+        let twin = self.darts[d.0 as usize].twin;
+        VertexId(self.darts[twin as usize].tail)
     }
 
     /// The dart to the first entry of a vertex's list, or None exactly where the list is empty.
@@ -191,12 +193,11 @@ impl HalfMap {
             (λ d. dart_at self.now d.0 ≡ Some (v.0, slice_index (list_of self.now.lists v.0) 0)) }
         ensures not_isolated { IfSome result (λ d. 0 < length (list_of self.now.lists v.0)) }
     {
-        let v = v.0 as usize;
-        let start = self.starts[v];
-        if start < self.starts[v + 1] {
-            Some(DartId(start))
-        } else {
+        let vertex = self.vertices[v.0 as usize];
+        if vertex.degree == 0 {
             None
+        } else {
+            Some(DartId(vertex.first))
         }
     }
 
@@ -207,7 +208,8 @@ impl HalfMap {
         ensures { MatchOption result (¬ HasDart self.now.lists u.0 v.0)
             (λ d. dart_at self.now d.0 ≡ Some (u.0, v.0)) }
     {
-        match find_dart(&self.rotations, &self.starts, u.0, v.0) {
+        let vertex = self.vertices[u.0 as usize];
+        match dart_to(&self.darts, vertex.first, vertex.degree, v.0) {
             Some(d) => Some(DartId(d)),
             None => None,
         }
@@ -217,24 +219,11 @@ impl HalfMap {
     pub fn rotations(&self, alloc: Global) -> Result<Rotations, AllocError>
         ensures { IfOk result (λ lists. lists ≡ self.now.lists) }
     {
-        self.rotations.copy(alloc)
+        let mut lists = Rotations::new(alloc);
+        for v in 0..self.vertices.len() {
+            let vertex = self.vertices[v];
+            lists.push(&walked(alloc, &self.darts, vertex.first, vertex.degree)?)?;
+        }
+        Ok(lists)
     }
-}
-
-// The number after `d` from `start` on and before `end`, cyclically.
-fn number_after(start: u32, end: u32, d: u32) -> u32
-    requires from { start ≤ d }
-    requires below { d < end }
-    ensures { result ≡ (if nat_lt (d + 1) end then d + 1 else start) }
-{
-    if d + 1 < end { d + 1 } else { start }
-}
-
-// The number before `d` from `start` on and before `end`, cyclically.
-fn number_before(start: u32, end: u32, d: u32) -> u32
-    requires from { start ≤ d }
-    requires below { d < end }
-    ensures { result ≡ (if d == start then end - 1 else d - 1) }
-{
-    if d == start { end - 1 } else { d - 1 }
 }

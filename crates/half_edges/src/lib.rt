@@ -5,15 +5,19 @@
 //! `HalfMap` as its lists, its spare room and which id is which dart, and never what an id is made of.
 #![tactic(auto)]
 
+mod arena;
 mod faults;
 mod half_map;
 mod ids;
+mod lists;
+mod parts;
 mod rotations;
 mod tables;
 mod twins;
 
 pub use half_map::{HalfMap, MapFault};
 pub use ids::{DartId, FaceId, VertexId};
+pub use lists::{Counts, EdgeList, Ends, PathList, VertexList};
 pub use rotations::Rotations;
 
 #[cfg(test)]

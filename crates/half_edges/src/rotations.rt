@@ -66,16 +66,6 @@ impl Rotations {
     {
         piece(&self.entries, &self.ends, v)
     }
-
-    /// A copy.
-    pub(crate) fn copy(&self, alloc: Global) -> Result<Rotations, AllocError>
-        ensures { IfOk result (λ copy. copy ≡ self.now) }
-    {
-        Ok(Rotations {
-            entries: Vec::from_slice(alloc, &self.entries)?,
-            ends: Vec::from_slice(alloc, &self.ends)?,
-        })
-    }
 }
 
 // The piece that ends at `ends[v]`.
@@ -88,7 +78,7 @@ fn piece<'a>(entries: &'a [u16], ends: &[usize], v: usize) -> &'a [u16]
 }
 
 // Where the piece begins that ends at `ends[v]`.
-fn start_of(ends: &[usize], v: usize) -> usize
+pub(crate) fn start_of(ends: &[usize], v: usize) -> usize
     requires { v < length ends.now }
     ensures { result ≡ slice_index_or (0 ∷ ends.now) v 0 }
 {

@@ -1,5 +1,7 @@
 //! Small maps whose darts and faults were found by hand.
-use crate::{DartId, HalfMap, MapFault, Rotations, VertexId};
+use crate::{
+    Counts, DartId, EdgeList, Ends, HalfMap, MapFault, PathList, Rotations, VertexId, VertexList,
+};
 use std::alloc::Global;
 use std::process::Abort;
 use std::test::Fail;
@@ -74,5 +76,53 @@ fn an_isolated_vertex_has_no_dart(rt: HostRuntime) -> Result<(), Fail> {
     let map = map_of(&rt, rt.alloc(), &[&[]])?;
     assert_eq!(rt; map.n(), 1);
     assert_eq!(rt; map.first_dart(VertexId(0)), None);
+    Ok(())
+}
+
+#[test]
+fn small_lists_give_what_was_pushed(rt: HostRuntime) -> Result<(), Fail> {
+    let mut counts = Counts::new(rt.alloc());
+    assert_eq!(rt; counts.len(), 0);
+    counts.push(7)?;
+    assert_eq!(rt; (counts.len(), counts.get(0)), (1, 7));
+    let mut vertices = VertexList::new(rt.alloc());
+    vertices.push(VertexId(3))?;
+    assert_eq!(rt; (vertices.len(), vertices.get(0)), (1, VertexId(3)));
+    let edge = Ends {
+        a: VertexId(3),
+        b: VertexId(4),
+    };
+    let mut edges = EdgeList::new(rt.alloc());
+    edges.push(edge)?;
+    assert_eq!(rt; (edges.len(), edges.get(0)), (1, edge));
+    let mut paths = PathList::new(rt.alloc());
+    paths.push(&[])?;
+    paths.push(&[VertexId(1), VertexId(0)])?;
+    assert_eq!(rt; paths.len(), 2);
+    assert_eq!(rt; paths.list(1), [VertexId(1), VertexId(0)].as_slice());
+    Ok(())
+}
+
+#[test]
+fn a_copy_has_the_same_lists(rt: HostRuntime) -> Result<(), Fail> {
+    let copy = map_of(&rt, rt.alloc(), K4)?.copy(rt.alloc())?;
+    let lists = copy.rotations(rt.alloc())?;
+    assert_eq!(rt; (copy.spare(), lists.len()), (0, 4));
+    for v in 0..4 {
+        assert_eq!(rt; lists.list(v), K4[v]);
+    }
+    Ok(())
+}
+
+#[test]
+fn the_part_between_three_vertices(rt: HostRuntime) -> Result<(), Fail> {
+    let map = map_of(&rt, rt.alloc(), K4)?;
+    assert_eq!(rt; map.n(), 4);
+    let part = map.induced(rt.alloc(), &[true, false, true, true])?;
+    let lists = part.rotations(rt.alloc())?;
+    assert_eq!(rt; (part.spare(), lists.len()), (0, 3));
+    assert_eq!(rt; lists.list(0), [1, 2].as_slice());
+    assert_eq!(rt; lists.list(1), [0, 2].as_slice());
+    assert_eq!(rt; lists.list(2), [0, 1].as_slice());
     Ok(())
 }

@@ -1,0 +1,18 @@
+use Rattle.std.proofs.Common.{◌≡◌, length, ap, ◌∙◌, arith}
+use Rattle.half_edges.specs.Induced.{induced_lists}
+use Rattle.half_edges.proofs.InducedLemmas.{IsSimpleMap-induced, length-induced-le}
+use Rattle.half_edges.proofs.half_map.HalfMap.induced.Goals as goal
+use Rattle.half_edges.proofs.half_map.HalfMap.induced.Goals.{In_ok-part}
+
+part_is : (c : In_ok-part) → c.in_ok-part.part ≡ induced_lists c.args.keep.now c.args.self.now.lists
+part_is c = c.in_ok-part.ensures ∙ ap (λ lists. induced_lists c.args.keep.now lists) c.in_ok-lists.ensures
+
+pub simple_map-requires-clause-simple : goal.simple_map-requires-clause-simple
+simple_map-requires-clause-simple c =
+    let e = part_is ((goal.at.simple_map-requires-clause-simple c).In_ok-part) in
+    rw e (IsSimpleMap-induced c.args.keep.now c.args.self.now.lists c.requires.flags c.n-n.ensures.known.simple c.requires.some)
+
+pub simple_map-requires-clause-few : goal.simple_map-requires-clause-few
+simple_map-requires-clause-few c =
+    let e = ap length (part_is ((goal.at.simple_map-requires-clause-few c).In_ok-part)) in
+    omega (arith, e, length-induced-le c.args.keep.now c.args.self.now.lists, c.n-n.ensures.known.few_vertices)

@@ -1,0 +1,114 @@
+//! Maps made of a map: its copy, and the part of it between some of its vertices.
+ghost use Rattle.std.specs.Prelude.{◌≡◌, ◌+◌, ◌<◌, ◌≤◌, ◌++◌, ◌∷◌, [], ℕ, true, length, slice_index, IfOk, OnOk, All, Contains};
+ghost use Rattle.map_definitions.specs.Maps.{IsSimpleMap, vertex_count};
+ghost use Rattle.half_edges.specs.Map.{IsHalfMap};
+ghost use Rattle.half_edges.specs.Induced.{induced_list, induced_lists, kept_before};
+
+use crate::{HalfMap, MapFault, Rotations};
+use std::alloc::{AllocError, Global};
+
+impl HalfMap {
+    /// A map with the same lists. Its `spare` is 0, and its ids may be others. It fails only for want of
+    /// memory.
+    pub fn copy(&self, alloc: Global) -> Result<HalfMap, AllocError>
+        ensures lists { IfOk result (λ map. map.lists ≡ self.now.lists) }
+        ensures spare { IfOk result (λ map. map.spare ≡ 0) }
+        ensures known { IfOk result IsHalfMap }
+    {
+        let _n = self.n();
+        let lists = self.rotations(alloc)?;
+        simple_map(alloc, &lists)
+    }
+
+    /// The part of the map between the vertices whose flag in `keep` is set: they are numbered anew in
+    /// rising order, and each list is restricted to them. `keep` has `n` flags, at least one of them set.
+    ///
+    /// Its `spare` is 0, and its ids may be others. It fails only for want of memory.
+    pub fn induced(&self, alloc: Global, keep: &[bool]) -> Result<HalfMap, AllocError>
+        requires flags { length keep.now ≡ vertex_count self.now.lists }
+        requires some { Contains keep.now true }
+        ensures lists { IfOk result (λ map. map.lists ≡ induced_lists keep.now self.now.lists) }
+        ensures spare { IfOk result (λ map. map.spare ≡ 0) }
+        ensures known { IfOk result IsHalfMap }
+    {
+        let _n = self.n();
+        let lists = self.rotations(alloc)?;
+        let part = induced_rotations(alloc, &lists, keep)?;
+        simple_map(alloc, &part)
+    }
+}
+
+// The map of lists that are simple.
+fn simple_map(alloc: Global, lists: &Rotations) -> Result<HalfMap, AllocError>
+    requires simple { IsSimpleMap lists.now }
+    requires few { length lists.now < 4096 }
+    ensures lists { IfOk result (λ map. map.lists ≡ lists.now) }
+    ensures spare { IfOk result (λ map. map.spare ≡ 0) }
+    ensures known { IfOk result IsHalfMap }
+{
+    match HalfMap::from_rotations(alloc, lists) {
+        Ok(map) => Ok(map),
+        Err(fault) => match fault {
+            MapFault::NoMemory => Err(AllocError),
+            _ => unreachable!(),
+        },
+    }
+}
+
+// For each vertex how many kept ones stand before it.
+fn numbers_of(alloc: Global, keep: &[bool]) -> Result<Vec<u16>, AllocError>
+    requires { length keep.now < 4096 }
+    ensures count { IfOk result (λ numbers. length numbers.items ≡ length keep.now) }
+    ensures at { IfOk result
+        (λ numbers. (v : ℕ) → v < length keep.now → slice_index numbers.items v ≡ kept_before keep.now v) }
+{
+    let mut numbers = Vec::with_capacity(alloc, keep.len())?;
+    let mut count = 0;
+    for k in keep {
+        numbers.push(count)?;
+        count += *k as u16;
+    }
+    Ok(numbers)
+}
+
+// The kept entries of a list, renumbered.
+fn kept_entries(
+    alloc: Global,
+    numbers: &[u16],
+    keep: &[bool],
+    list: &[u16],
+) -> Result<Vec<u16>, AllocError>
+    requires count { length numbers.now ≡ length keep.now }
+    requires at { (v : ℕ) → v < length keep.now → slice_index numbers.now v ≡ kept_before keep.now v }
+    requires within { All (λ u. u < length keep.now) list.now }
+    ensures { IfOk result (λ kept. kept.items ≡ induced_list keep.now list.now) }
+{
+    let mut kept = Vec::with_capacity(alloc, list.len())?;
+    for u in list {
+        if keep[*u as usize] {
+            kept.push(numbers[*u as usize])?;
+        }
+    }
+    Ok(kept)
+}
+
+// The lists of the kept vertices, restricted to them and renumbered.
+fn induced_rotations(
+    alloc: Global,
+    lists: &Rotations,
+    keep: &[bool],
+) -> Result<Rotations, AllocError>
+    requires simple { IsSimpleMap lists.now }
+    requires few { length lists.now < 4096 }
+    requires flags { length keep.now ≡ length lists.now }
+    ensures { IfOk result (λ part. part ≡ induced_lists keep.now lists.now) }
+{
+    let numbers = numbers_of(alloc, keep)?;
+    let mut part = Rotations::new(alloc);
+    for v in 0..lists.len() {
+        if keep[v] {
+            part.push(&kept_entries(alloc, &numbers, keep, lists.list(v))?)?;
+        }
+    }
+    Ok(part)
+}
