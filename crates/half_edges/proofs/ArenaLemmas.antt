@@ -44,7 +44,7 @@ pub dart-lt : (darts : List DartRecord) (d v u : ℕ) → dart_in darts d ≡ So
 dart-lt darts d v u e = live-lt darts d (IsDartAt-from darts d v u e).live
 
 -- the entry after one that is not the last
-entry_after-next : (us : List ℕ) (k : ℕ) → AllPairs ◌≢◌ us → k + 1 < length us → entry_after (get_or us k 0) us ≡ get_or us (k + 1) 0
+pub entry_after-next : (us : List ℕ) (k : ℕ) → AllPairs ◌≢◌ us → k + 1 < length us → entry_after (get_or us k 0) us ≡ get_or us (k + 1) 0
 entry_after-next us k distinct l =
     let place = place_of-get_or us k 0 distinct (omega arith) in
     entry_after-place (get_or us k 0) us 0 (omega (arith, place))

@@ -5,6 +5,14 @@ pub mod MarkLemmas
 pub mod TableArena
 pub mod TableLemmas
 pub mod TwinLemmas
+pub mod InsertLemmas
+pub mod LinkLemmas
+pub mod WriteLemmas
+pub mod LessLemmas
+pub mod FreeLemmas
+pub mod TakenLemmas
 pub mod MapLemmas
 pub mod IdLemmas
+pub mod EdgeLemmas
+pub mod PutLemmas
 pub mod InducedLemmas

@@ -104,3 +104,11 @@ pub record IsArena (lists : Lists) (darts : List DartRecord) (vertices : List Ve
   pub count : length darts ≡ 2 * (edges + spare)
   pub room : edges + spare ≤ 16777216
   pub threaded : AreFree darts free spare
+
+-- What holds of the records, whatever their counts.
+pub record IsWired (lists : Lists) (darts : List DartRecord) (vertices : List VertexRecord) (free spare : ℕ) : Type 0 where
+  pub linked : IsLinked (dart_in darts) lists darts vertices
+  pub simple : IsSimpleMap lists
+  pub few_vertices : length lists < 4096
+  pub paired : (d : ℕ) → d < length darts → IsPaired darts d
+  pub threaded : AreFree darts free spare

@@ -1,7 +1,8 @@
 //! The records of the arena, and walks along them.
 ghost use Rattle.std.specs.Prelude.{◌≡◌, ◌+◌, ◌-◌, ◌<◌, ◌≤◌, ◌==◌, nat_lt, if◌then◌else◌, ℕ, length, IfOk, MatchOption};
 ghost use Rattle.map_definitions.specs.Maps.{IsSimpleMap};
-ghost use Rattle.half_edges.specs.Arena.{IsWalkable, steps, head_of, walk};
+ghost use Rattle.half_edges.specs.Arena.{IsWalkable, steps, head_of, walk, next_of, prev_of};
+ghost use Rattle.half_edges.specs.Links.{IsSpliced, IsUnspliced, IsThreaded};
 ghost use Rattle.half_edges.specs.Tables.{StartsTo, AreTables, table_record, AreTableRecords, AreTableVertices};
 
 use crate::Rotations;
@@ -143,4 +144,49 @@ pub(crate) fn vertices_of(
         })?;
     }
     Ok(vertices)
+}
+
+// Puts a dart from `tail` between two, which are itself where it is the only one.
+pub(crate) fn splice(darts: &mut [DartRecord], d: u32, before: u32, after: u32, tail: u16)
+    requires d_in { d < length darts.old }
+    requires before_in { before < length darts.old }
+    requires after_in { after < length darts.old }
+    requires alone { before ≡ d → after ≡ d }
+    requires alone_too { after ≡ d → before ≡ d }
+    ensures { IsSpliced darts.old darts.new d before after tail }
+{
+    let twin = darts[d as usize].twin;
+    darts[d as usize] = DartRecord {
+        twin,
+        next: after,
+        prev: before,
+        tail,
+        live: true,
+    };
+    darts[before as usize].next = d;
+    darts[after as usize].prev = d;
+}
+
+// Takes a dart out from between the previous and the next one.
+pub(crate) fn unsplice(darts: &mut [DartRecord], d: u32)
+    requires d_in { d < length darts.old }
+    requires prev_in { prev_of darts.old d < length darts.old }
+    requires next_in { next_of darts.old d < length darts.old }
+    ensures { IsUnspliced darts.old darts.new d }
+{
+    let record = darts[d as usize];
+    darts[record.prev as usize].next = record.next;
+    darts[record.next as usize].prev = record.prev;
+    darts[d as usize].live = false;
+}
+
+// Puts the edge of two darts before the free ones, of which there are `spare`.
+pub(crate) fn thread(darts: &mut [DartRecord], d: u32, twin: u32, free: u32, spare: u32)
+    requires d_in { d < length darts.old }
+    requires twin_in { twin < length darts.old }
+    ensures { IsThreaded darts.old darts.new d twin free spare }
+{
+    darts[d as usize].next = free;
+    darts[d as usize].prev = spare;
+    darts[twin as usize].prev = spare;
 }

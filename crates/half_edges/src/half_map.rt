@@ -47,14 +47,14 @@ impl From<AllocError> for MapFault {
 /// time, but for `from_rotations`, `rotations`, and `dart_of`, which goes over one list.
 #[derive(Drop)]
 pub struct HalfMap {
-    darts: Vec<DartRecord>,
-    vertices: Vec<VertexRecord>,
+    pub(crate) darts: Vec<DartRecord>,
+    pub(crate) vertices: Vec<VertexRecord>,
     // how many edges there are
-    edges: u32,
+    pub(crate) edges: u32,
     // a dart of the first free edge, where there is one
-    free: u32,
+    pub(crate) free: u32,
     // how many edges are free
-    spare: u32,
+    pub(crate) spare: u32,
 }
 
 impl Model for HalfMap {

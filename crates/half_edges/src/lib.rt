@@ -6,6 +6,7 @@
 #![tactic(auto)]
 
 mod arena;
+mod edges;
 mod faults;
 mod half_map;
 mod ids;
@@ -15,6 +16,7 @@ mod rotations;
 mod tables;
 mod twins;
 
+pub use edges::Corner;
 pub use half_map::{HalfMap, MapFault};
 pub use ids::{DartId, FaceId, VertexId};
 pub use lists::{Counts, EdgeList, Ends, PathList, VertexList};

@@ -1,0 +1,125 @@
+//! Edges that come and go, in constant time and with no memory taken.
+ghost use Rattle.std.specs.Prelude.{◌≡◌, ◌≢◌, ◌+◌, ◌<◌, ◌≤◌, ℕ, true, min, max, length, Some, OnOk, OnErr};
+ghost use Rattle.map_definitions.specs.Maps.{HasDart};
+ghost use Rattle.map_definitions.specs.Laws.{without_edge};
+ghost use Rattle.half_edges.specs.Map.{IsHalfMap, IsLive, dart_at};
+ghost use Rattle.half_edges.specs.Arena.{arena_lists, dart_in, vertex_at, next_of, prev_of, tail_of, head_of, live_of, IsWired};
+ghost use Rattle.half_edges.specs.Edges.{live_dart, moved_first, IsTakenOut, IsPut, IsPutWithin};
+
+use crate::arena::{DartRecord, VertexRecord, splice, thread, unsplice};
+use crate::{DartId, Ends, HalfMap, VertexId};
+
+/// A place round a vertex, for a new dart.
+#[derive(Clone, Copy, Debug, PartialEq, Eq)]
+pub enum Corner {
+    /// Directly after this dart, clockwise.
+    After(DartId),
+    /// At this vertex, which is isolated.
+    Only(VertexId),
+}
+
+impl HalfMap {
+    /// Takes away the edge of a dart, and answers its ends. Its two entries leave their lists, and `spare`
+    /// rises by one; all other darts keep their ids.
+    pub fn remove_edge(&mut self, d: DartId) -> Ends
+        requires { IsLive self.old d.0 }
+        ensures lists { self.new.lists ≡ without_edge self.old.lists (live_dart self.old d.0).0 (live_dart self.old d.0).1 }
+        ensures spare { self.new.spare ≡ self.old.spare + 1 }
+        ensures ids { (e v u : ℕ) → HasDart self.new.lists v u → dart_at self.old e ≡ Some (v, u) → dart_at self.new e ≡ Some (v, u) }
+        ensures lesser { result.a.0 ≡ min (live_dart self.old d.0).0 (live_dart self.old d.0).1 }
+        ensures greater { result.b.0 ≡ max (live_dart self.old d.0).0 (live_dart self.old d.0).1 }
+        ensures known { IsHalfMap self.new }
+    {
+        let ends = take_edge(&mut self.darts, &mut self.vertices, d.0, self.free, self.spare);
+        self.free = d.0;
+        self.edges -= 1;
+        self.spare += 1;
+        ends
+    }
+}
+
+// The edge between two vertices.
+fn ends_of(u: u16, v: u16) -> Ends
+    requires { u ≢ v }
+    ensures lesser { result.a.0 ≡ min u v }
+    ensures greater { result.b.0 ≡ max u v }
+{
+    Ends {
+        a: VertexId(u.min(v)),
+        b: VertexId(u.max(v)),
+    }
+}
+
+// The first dart of a vertex, where `d` leaves and `next` comes after it.
+fn first_without(first: u32, d: u32, next: u32) -> u32
+    ensures { result ≡ moved_first first d next }
+{
+    if first == d { next } else { first }
+}
+
+// Takes a dart out from round its vertex.
+fn take_out(darts: &mut [DartRecord], vertices: &mut [VertexRecord], d: u32)
+    requires d_in { d < length darts.old }
+    requires prev_in { prev_of darts.old d < length darts.old }
+    requires next_in { next_of darts.old d < length darts.old }
+    requires vertex_in { tail_of darts.old d < length vertices.old }
+    requires some { 0 < (vertex_at vertices.old (tail_of darts.old d)).degree }
+    ensures { IsTakenOut darts.old darts.new vertices.old vertices.new d }
+{
+    let record = darts[d as usize];
+    unsplice(darts, d);
+    let vertex = vertices[record.tail as usize];
+    vertices[record.tail as usize] = VertexRecord {
+        first: first_without(vertex.first, d, record.next),
+        degree: vertex.degree - 1,
+    };
+}
+
+// Takes the edge of a dart away, and puts it before the free ones.
+fn take_edge(
+    darts: &mut [DartRecord],
+    vertices: &mut [VertexRecord],
+    d: u32,
+    free: u32,
+    spare: u32,
+) -> Ends
+    requires wired { IsWired (arena_lists darts.old vertices.old) darts.old vertices.old free spare }
+    requires live { live_of darts.old d ≡ true }
+    ensures wired { IsWired (without_edge (arena_lists darts.old vertices.old) (tail_of darts.old d) (head_of darts.old d)) darts.new vertices.new d (spare + 1) }
+    ensures ids { (e v u : ℕ) → HasDart (without_edge (arena_lists darts.old vertices.old) (tail_of darts.old d) (head_of darts.old d)) v u → dart_in darts.old e ≡ Some (v, u) → dart_in darts.new e ≡ Some (v, u) }
+    ensures lesser { result.a.0 ≡ min (tail_of darts.old d) (head_of darts.old d) }
+    ensures greater { result.b.0 ≡ max (tail_of darts.old d) (head_of darts.old d) }
+{
+    let record = darts[d as usize];
+    let ends = ends_of(record.tail, darts[record.twin as usize].tail);
+    take_out(darts, vertices, d);
+    take_out(darts, vertices, record.twin);
+    thread(darts, d, record.twin, free, spare);
+    ends
+}
+
+// Puts a dart into a corner.
+fn put(darts: &mut [DartRecord], vertices: &mut [VertexRecord], d: u32, corner: Corner)
+    requires d_in { d < length darts.old }
+    requires within { IsPutWithin darts.old vertices.old d corner }
+    ensures { IsPut darts.old darts.new vertices.old vertices.new d corner }
+{
+    match corner {
+        Corner::After(e) => {
+            let before = darts[e.0 as usize];
+            splice(darts, d, e.0, before.next, before.tail);
+            let vertex = vertices[before.tail as usize];
+            vertices[before.tail as usize] = VertexRecord {
+                first: vertex.first,
+                degree: vertex.degree + 1,
+            };
+        }
+        Corner::Only(v) => {
+            splice(darts, d, d, d, v.0);
+            vertices[v.0 as usize] = VertexRecord {
+                first: d,
+                degree: 1,
+            };
+        }
+    }
+}
