@@ -30,7 +30,13 @@ impl HalfMap {
         ensures greater { result.b.0 ≡ max (live_dart self.old d.0).0 (live_dart self.old d.0).1 }
         ensures known { IsHalfMap self.new }
     {
-        let ends = take_edge(&mut self.darts, &mut self.vertices, d.0, self.free, self.spare);
+        let ends = take_edge(
+            &mut self.darts,
+            &mut self.vertices,
+            d.0,
+            self.free,
+            self.spare,
+        );
         self.free = d.0;
         self.edges -= 1;
         self.spare += 1;

@@ -12,6 +12,7 @@ mod half_map;
 mod ids;
 mod lists;
 mod parts;
+mod reserve;
 mod rotations;
 mod tables;
 mod twins;

@@ -10,3 +10,5 @@ mod Cases
 pub mod DartLemmas
 pub mod FaultLemmas
 pub mod DartCounts
+pub mod WithoutEntry
+pub mod WithoutEdge

@@ -14,7 +14,8 @@ use Rattle.plane_laws.proofs.Transfer.{IsTransfer}
 use Rattle.plane_laws.proofs.Generated.{IsRenumbering, neither_first, IsGenerated-orbits, GoesOver-after, IsTransfer-renumbered, neither, neither_other}
 use Rattle.plane_laws.proofs.LoneEdge.{IsPermuting-lone_edge, GoesOver-out}
 use Rattle.plane_laws.proofs.DigonSplit.{fixed_alone}
-use Rattle.plane_laws.proofs.EdgeRemoved.{back, u_not_v, length-without_edge, dart_old, dart_new, IsSimpleMap-without_edge, in_out, twin_out, to_below, to_not_out, renumbering, twin_over, rotation_over, apart, apart'}
+use Rattle.map_definitions.proofs.WithoutEdge.{back, u_not_v, length-without_edge, dart_old, dart_new, IsSimpleMap-without_edge}
+use Rattle.plane_laws.proofs.EdgeRemoved.{in_out, twin_out, to_below, to_not_out, renumbering, twin_over, rotation_over, apart, apart'}
 use Rattle.map_definitions.proofs.DartLemmas.{dart_number-lt, get_or-dart_number}
 use Rattle.plane_laws.proofs.DartPermutations.{dart_of, tail_of, rotation, twin, components, IsPermuting-rotation, IsPairing-twin, dart_of-number, dart_of-twin, tail_of-rotation, same_orbit, components-marked, IsLabels-components, edge_together, isolated_apart, orbits-face_images, balances_map, two_m, has_edge, first_in, tail_of-first, has_edge-tail}
 use Rattle.plane_laws.proofs.DartPaths.{tail_of-number}

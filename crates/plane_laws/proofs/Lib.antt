@@ -9,7 +9,6 @@ pub mod DartPaths
 pub mod CornerSplit
 pub mod Generated
 pub mod LoneEdge
-pub mod WithoutEntry
 pub mod EdgeRemoved
 pub mod Contract
 pub mod DigonSplit
