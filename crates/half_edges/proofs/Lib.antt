@@ -10,7 +10,6 @@ pub mod LinkLemmas
 pub mod WriteLemmas
 pub mod LessLemmas
 pub mod FreeLemmas
-pub mod FreshLemmas
 pub mod TakenLemmas
 pub mod MapLemmas
 pub mod IdLemmas

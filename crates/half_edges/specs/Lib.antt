@@ -2,7 +2,6 @@
 pub mod Arena
 pub mod Cuts
 pub mod Edges
-pub mod Fresh
 pub mod Induced
 pub mod Links
 pub mod Map

@@ -12,7 +12,6 @@ mod half_map;
 mod ids;
 mod lists;
 mod parts;
-mod reserve;
 mod rotations;
 mod tables;
 mod twins;
