@@ -1,12 +1,12 @@
 -- What a map is once an edge of its arena has come or gone.
-use Rattle.std.proofs.Common.{ℕ, ◌+◌, ◌-◌, ◌*◌, ◌<◌, ◌≤◌, ◌≡◌, true, List, ◌++◌, length, take, drop, unwrap_or, Some, refl, sym, ap, ◌∙◌, subst, arith}
+use Rattle.std.proofs.Common.{ℕ, ◌+◌, ◌-◌, ◌*◌, ◌<◌, ◌≤◌, ◌≡◌, List, ◌++◌, length, take, drop, unwrap_or, Some, sym, ap, ◌∙◌, subst, arith}
 use Rattle.std.proofs.lemmas.List.{take_at}
-use Rattle.map_definitions.specs.Maps.{Lists, Dart, HasDart, edge_count, dart_count}
+use Rattle.map_definitions.specs.Maps.{Lists, Dart, HasDart, edge_count}
 use Rattle.map_definitions.specs.Laws.{without_edge}
 use Rattle.map_definitions.proofs.EdgeRemoved.{edge_count-without}
 use Rattle.map_definitions.proofs.DartCounts.{dart_count-edge_count}
 use Rattle.half_edges.specs.Map.{Map, dart_at, IsLive}
-use Rattle.half_edges.specs.Arena.{tail_of, live_of, head_of, dart_in, arena_lists, arena_map, IsArena, IsWired}
+use Rattle.half_edges.specs.Arena.{tail_of, head_of, dart_in, arena_lists, arena_map, IsArena, IsWired}
 use Rattle.half_edges.specs.Edges.{live_dart}
 use Rattle.half_edges.specs.declared.arena.DartRecord.{DartRecord}
 use Rattle.half_edges.specs.declared.arena.VertexRecord.{VertexRecord}

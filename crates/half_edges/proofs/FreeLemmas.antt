@@ -1,7 +1,7 @@
 -- The free edges of an arena, where records that are live change.
-use Rattle.std.proofs.Common.{ℕ, zero, suc, ◌+◌, ◌<◌, ◌≤◌, ◌≡◌, ◌≢◌, Bool, true, false, List, length, Option, Some, None, refl, sym, ap, ◌∙◌, subst, inl, inr, arith}
-use Rattle.map_definitions.specs.Maps.{Lists, Dart, HasDart, list_of, IsSimpleMap}
-use Rattle.half_edges.specs.Arena.{twin_of, next_of, prev_of, live_of, record_at, dart_in, IsLinked, IsPaired, AreFree, IsArena, IsWired}
+use Rattle.std.proofs.Common.{ℕ, zero, suc, ◌<◌, ◌≤◌, ◌≡◌, false, List, length, Option, Some, sym, ap, ◌∙◌, subst, arith}
+use Rattle.map_definitions.specs.Maps.{Lists, Dart, list_of}
+use Rattle.half_edges.specs.Arena.{twin_of, next_of, prev_of, live_of, record_at, IsLinked, IsPaired, AreFree, IsArena, IsWired}
 use Rattle.half_edges.specs.declared.arena.DartRecord.{DartRecord}
 use Rattle.half_edges.specs.declared.arena.VertexRecord.{VertexRecord}
 use Rattle.half_edges.proofs.ArenaLemmas.{prev_is}
@@ -19,10 +19,13 @@ AreFree-frame old new k count same paired zero d l free = tt
 AreFree-frame old new k count same paired (suc j) d l free =
     let here = same d free.0 free.1 (omega (arith, free.2, l)) in
     let pair = paired d free.0 in
-    let at_twin = same (twin_of old d) pair.within (pair.both ∙ free.1) (omega (arith, free.3, l)) in
-    (omega (arith, free.0, count), here.live ∙ free.1, here.prev ∙ free.2,
+    let at_twin = same (twin_of old d) pair.within (pair.both ∙ free.1) (omega (arith, free.3, l)) in (
+      omega (arith, free.0, count),
+      here.live ∙ free.1,
+      here.prev ∙ free.2,
       ap (λ z. prev_of new z) here.twin ∙ at_twin.prev ∙ free.3,
-      subst (λ z. AreFree new z j) (sym here.next) (AreFree-frame old new k count same paired j (next_of old d) (omega (arith, l)) free.4))
+      subst (λ z. AreFree new z j) (sym here.next) (AreFree-frame old new k count same paired j (next_of old d) (omega (arith, l)) free.4),
+    )
 
 pub IsWired-arena : (lists : Lists) (darts : List DartRecord) (vertices : List VertexRecord) (edges free spare : ℕ) → IsArena lists darts vertices edges free spare → IsWired lists darts vertices free spare
 IsWired-arena lists darts vertices edges free spare a = record { linked = a.linked; simple = a.simple; few_vertices = a.few_vertices; paired = a.paired; threaded = a.threaded }
@@ -60,3 +63,8 @@ dart_within dart lists darts vertices h bound d v u some =
       vertex = omega (arith, has.0, h.vertex_count);
       some = omega (arith, has.1.1);
     }
+
+-- the first free edge is within the records
+pub free_within : (darts : List DartRecord) (d spare : ℕ) → 0 < spare → AreFree darts d spare → d < length darts
+free_within darts d zero l free = absurd (omega (arith, l))
+free_within darts d (suc k) l free = free.0

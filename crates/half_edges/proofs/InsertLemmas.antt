@@ -1,7 +1,7 @@
 -- A list with one entry more, directly after another: what stands in it, and what comes after what.
-use Rattle.std.proofs.Common.{ℕ, zero, suc, ◌+◌, ◌-◌, ◌<◌, ◌≤◌, ◌≡◌, ◌≢◌, ◌⊎◌, List, [], ◌∷◌, ◌++◌, length, get_or, take, drop, AllPairs, Contains, refl, sym, ap, ◌∙◌, subst, inl, inr, arith}
+use Rattle.std.proofs.Common.{ℕ, suc, ◌+◌, ◌-◌, ◌<◌, ◌≤◌, ◌≡◌, ◌≢◌, ◌⊎◌, List, [], ◌∷◌, ◌++◌, length, get_or, take, drop, AllPairs, Contains, refl, sym, ap, ◌∙◌, subst, inl, inr, arith}
 use Rattle.std.specs.List.{insert, remove}
-use Rattle.std.proofs.lemmas.Bool.{cases_lt, cases_eq, cases_order}
+use Rattle.std.proofs.lemmas.Bool.{cases_lt, cases_order}
 use Rattle.std.proofs.lemmas.List.{length-append, append_assoc, length-take-le, take_at, drop_at, take-append-drop, get_or_default}
 use Rattle.std.proofs.lemmas.List.Edits.{length-insert, get_or-insert_below, get_or-insert_at, get_or-insert_above}
 use Rattle.map_definitions.specs.Maps.{place_of, entry_after}
@@ -124,7 +124,7 @@ module _ (us : List ℕ) (a x : ℕ) (distinct : AllPairs ◌≢◌ us) (has : C
   pub after_others : (z : ℕ) → Contains us z → z ≢ a → entry_after z (insert us (place_of a us + 1) x) ≡ entry_after z us
   after_others z c other =
       sym (entry_after-without (insert us (place_of a us + 1) x) x after_inserted.distinct after_inserted.adds z (in_rest z c)
-        (λ e. other (entry_after-injective (insert us (place_of a us + 1) x) z a after_inserted.distinct (after_inserted.keeps z c) (after_inserted.keeps a has) (e ∙ sym after_named))))
+      (λ e. other (entry_after-injective (insert us (place_of a us + 1) x) z a after_inserted.distinct (after_inserted.keeps z c) (after_inserted.keeps a has) (e ∙ sym after_named))))
       ∙ ap (λ xs. entry_after z xs) rest_is
 
   pub first_stays : get_or (insert us (place_of a us + 1) x) 0 0 ≡ get_or us 0 0

@@ -1,5 +1,5 @@
 -- A dart less in the links of an arena.
-use Rattle.std.proofs.Common.{ℕ, zero, suc, ◌+◌, ◌-◌, ◌<◌, ◌≤◌, ◌≡◌, ◌≢◌, List, [], length, get_or, set, AllPairs, Contains, Option, Some, None, refl, sym, ap, ◌∙◌, subst, inl, inr, arith}
+use Rattle.std.proofs.Common.{ℕ, ◌+◌, ◌<◌, ◌≡◌, ◌≢◌, List, [], length, get_or, set, AllPairs, Contains, Option, Some, None, sym, ap, ◌∙◌, subst, inl, inr, arith}
 use Rattle.std.proofs.lemmas.List.{length-set, get_or-set_same, get_or-set_other}
 use Rattle.std.proofs.lemmas.List.Edits.{get_or-remove_below, get_or-remove_above}
 use Rattle.std.proofs.lemmas.Option.{none-some}
@@ -27,8 +27,8 @@ pub record IsFirstMoved (old : List DartRecord) (vertices : List VertexRecord) (
   pub stays : (vertex_at vertices w).first ≢ d → first ≡ (vertex_at vertices w).first
 
 module _ (dart less : ℕ → Option Dart) (lists : Lists) (old new : List DartRecord) (vertices shrunk : List VertexRecord) (h : IsLinked dart lists old vertices) (d w x first : ℕ)
-  (dl : IsDartLess dart less d w x) (s : IsUnspliced old new d)
-  (vs : IsVertexSet vertices shrunk w first (length (without_entry (list_of lists w) x))) (moved : IsFirstMoved old vertices d w first) where
+    (dl : IsDartLess dart less d w x) (s : IsUnspliced old new d)
+    (vs : IsVertexSet vertices shrunk w first (length (without_entry (list_of lists w) x))) (moved : IsFirstMoved old vertices d w first) where
   us : List ℕ
   us = list_of lists w
 
@@ -64,12 +64,13 @@ module _ (dart less : ℕ → Option Dart) (lists : Lists) (old new : List DartR
   not_x z u other some same = other (h.one_id z d w x (some ∙ ap (λ y. Some (w, y)) same) dl.here)
 
   has_less : (v u : ℕ) → HasDart lists v u → (v ≡ w → u ≢ x) → HasDart (set lists w (without_entry (list_of lists w) x)) v u
-  has_less v u old_has other =
-      (omega (arith, length_after, old_has.0),
-        elim (cases_eq v w) [
-          | inl same ↦ subst (λ (xs : List ℕ). Contains xs u) (sym (list_same v same)) (without-new (list_of lists w) x distinct_w has.1 u (subst (λ y. Contains (list_of lists y) u) same old_has.1) (other same))
-          | inr elsewhere ↦ subst (λ (xs : List ℕ). Contains xs u) (sym (list_there v elsewhere)) old_has.1
-        ])
+  has_less v u old_has other = (
+    omega (arith, length_after, old_has.0),
+    elim (cases_eq v w) [
+      | inl same ↦ subst (λ (xs : List ℕ). Contains xs u) (sym (list_same v same)) (without-new (list_of lists w) x distinct_w has.1 u (subst (λ y. Contains (list_of lists y) u) same old_has.1) (other same))
+      | inr elsewhere ↦ subst (λ (xs : List ℕ). Contains xs u) (sym (list_there v elsewhere)) old_has.1
+    ],
+  )
 
   is_dart_less : (z v u : ℕ) → less z ≡ Some (v, u) → HasDart (set lists w (without_entry (list_of lists w) x)) v u
   is_dart_less z v u some =
@@ -88,9 +89,11 @@ module _ (dart less : ℕ → Option Dart) (lists : Lists) (old new : List DartR
   has_id_less : (v u : ℕ) → HasDart (set lists w (without_entry (list_of lists w) x)) v u → (z : ℕ) × (less z ≡ Some (v, u))
   has_id_less v u left =
       let o = has_old v u left in
-      let i = h.has_id v u o.0 in
-      (i.0, still i.0 v u
-        (λ same. let parts = tails_same w v x u (dart d) dl.here (ap dart (sym same) ∙ i.1) in o.1 (sym parts.0) (sym parts.1)) i.1)
+      let i = h.has_id v u o.0 in (
+        i.0,
+        still i.0 v u
+            (λ same. let parts = tails_same w v x u (dart d) dl.here (ap dart (sym same) ∙ i.1) in o.1 (sym parts.0) (sym parts.1)) i.1,
+      )
 
   before : (c : ℕ) × IsBefore dart lists old vertices h d w x c
   before = prev_is dart lists old vertices h d w x dl.here
@@ -127,7 +130,7 @@ module _ (dart less : ℕ → Option Dart) (lists : Lists) (old new : List DartR
             let in_rest = without-new (list_of lists w) x distinct_w has.1 u (h.is_dart z w u at_w).1 (not_x z u other at_w) in
             ap (λ y. follows lists y u) same
             ∙ sym (entry_after-without (list_of lists w) x distinct_w has.1 u in_rest
-                (λ e. next_not_d z w u at_w off (h.one_id (next_of old z) d w x (h.next_at z w u at_w ∙ ap (λ y. Some (w, y)) e) dl.here)))
+            (λ e. next_not_d z w u at_w off (h.one_id (next_of old z) d w x (h.next_at z w u at_w ∙ ap (λ y. Some (w, y)) e) dl.here)))
             ∙ ap (λ (xs : List ℕ). entry_after u xs) (sym (list_same v same))
         | inr elsewhere ↦ ap (λ xs. entry_after u xs) (sym (list_there v elsewhere))
       ]
@@ -168,7 +171,7 @@ module _ (dart less : ℕ → Option Dart) (lists : Lists) (old new : List DartR
             let place : place_of x (list_of lists w) ≡ 0 = ap (λ y. place_of y (list_of lists w)) (sym x_first) ∙ place_of-get_or (list_of lists w) 0 0 distinct_w (omega (arith, count_less, some)) in
             let next : entry_after x (list_of lists w) ≡ get_or (list_of lists w) (0 + 1) 0 = ap (λ y. entry_after y (list_of lists w)) (sym x_first) ∙ entry_after-next (list_of lists w) 0 distinct_w (omega (arith, count_less, some)) in
             let apart : next_of old d ≢ d = λ same.
-              distinct_w 0 (0 + 1) 0 (omega arith) (omega (arith, count_less, some)) (x_first ∙ (tails_same w w x (entry_after x (list_of lists w)) (dart d) dl.here (ap dart (sym same) ∙ next_dart)).1 ∙ next) in
+            distinct_w 0 (0 + 1) 0 (omega arith) (omega (arith, count_less, some)) (x_first ∙ (tails_same w w x (entry_after x (list_of lists w)) (dart d) dl.here (ap dart (sym same) ∙ next_dart)).1 ∙ next) in
             ap less (moved.moves at) ∙ still (next_of old d) w (entry_after x (list_of lists w)) apart next_dart
             ∙ ap (λ y. Some (w, y)) (next ∙ sym (get_or-remove_above (list_of lists w) (place_of x (list_of lists w)) 0 0 (omega (arith, place)) x_in))
         | inr off ↦
@@ -212,7 +215,7 @@ module _ (dart less : ℕ → Option Dart) (lists : Lists) (old new : List DartR
               let first_old = h.first_at v in_old (omega (arith, some, ap length same_list)) in
               ap (λ (r : VertexRecord). less r.first) (vs.other v other)
               ∙ still (vertex_at vertices v).first v (get_or (list_of lists v) 0 0)
-                (λ at. other (sym (tails_same w v x (get_or (list_of lists v) 0 0) (dart d) dl.here (ap dart (sym at) ∙ first_old)).0)) first_old
+              (λ at. other (sym (tails_same w v x (get_or (list_of lists v) 0 0) (dart d) dl.here (ap dart (sym at) ∙ first_old)).0)) first_old
               ∙ ap (λ (xs : List ℕ). Some (v, get_or xs 0 0)) (sym same_list)
         ];
   }

@@ -15,4 +15,5 @@ pub mod MapLemmas
 pub mod IdLemmas
 pub mod EdgeLemmas
 pub mod PutLemmas
+pub mod GivenLemmas
 pub mod InducedLemmas

@@ -1,18 +1,14 @@
 -- A dart more, and a dart less, in the links of an arena.
-use Rattle.std.proofs.Common.{ℕ, zero, suc, ◌+◌, ◌-◌, ◌*◌, ◌<◌, ◌≤◌, ◌≡◌, ◌≢◌, ◌⊎◌, Bool, true, false, List, [], ◌∷◌, length, get_or, set, AllPairs, Contains, Option, Some, None, refl, sym, ap, ◌∙◌, subst, inl, inr, arith}
+use Rattle.std.proofs.Common.{ℕ, ◌<◌, ◌≡◌, ◌≢◌, List, [], length, get_or, set, AllPairs, Contains, Option, Some, None, sym, ap, ◌∙◌, subst, inl, inr, arith}
 use Rattle.std.proofs.lemmas.List.{length-set, get_or-set_same, get_or-set_other}
-use Rattle.std.proofs.lemmas.List.Edits.{get_or-remove_below}
 use Rattle.std.proofs.lemmas.Option.{none-some, some_pair_parts}
-use Rattle.std.proofs.lemmas.Bool.{cases_lt, cases_eq}
-use Rattle.map_definitions.specs.Maps.{Lists, Dart, list_of, HasDart, IsSimpleMap, follows, entry_after, place_of}
-use Rattle.map_definitions.specs.Laws.{without_entry}
-use Rattle.map_definitions.proofs.DartLemmas.{place_of-lt-length, get_or-place_of, place_of-get_or}
-use Rattle.map_definitions.proofs.WithoutEntry.{length-without, without-old, without-new, without-distinct, entry_after-without, entry_after-without_skip}
-use Rattle.half_edges.specs.Arena.{vertex_at, next_of, prev_of, dart_in, twin_of, live_of, tail_of, IsLinked, IsPaired}
-use Rattle.half_edges.specs.Links.{IsSpliced, IsUnspliced, IsVertexSet}
+use Rattle.std.proofs.lemmas.Bool.{cases_eq}
+use Rattle.map_definitions.specs.Maps.{Lists, Dart, list_of, HasDart, IsSimpleMap, follows, entry_after}
+use Rattle.half_edges.specs.Arena.{vertex_at, next_of, prev_of, dart_in, twin_of, tail_of, IsLinked, IsPaired}
+use Rattle.half_edges.specs.Links.{IsSpliced, IsVertexSet}
 use Rattle.half_edges.specs.declared.arena.DartRecord.{DartRecord}
 use Rattle.half_edges.specs.declared.arena.VertexRecord.{VertexRecord}
-use Rattle.half_edges.proofs.ArenaLemmas.{entry_after-next, dart_in-live, IsDartAt-from, dart-lt}
+use Rattle.half_edges.proofs.ArenaLemmas.{dart_in-live, IsDartAt-from, dart-lt}
 use Rattle.half_edges.proofs.InsertLemmas.{IsInserted}
 
 pub tails_same : (a v b u : ℕ) (dart : Option Dart) → dart ≡ Some (a, b) → dart ≡ Some (v, u) → (a ≡ v) × (b ≡ u)
@@ -206,11 +202,14 @@ pub IsSimpleMap-linked : (lists : Lists) (darts : List DartRecord) (vertices : L
 IsSimpleMap-linked lists darts vertices some h paired =
     let turned : (v u : ℕ) → HasDart lists v u → (d : ℕ) × (dart_in darts d ≡ Some (v, u)) × (dart_in darts (twin_of darts d) ≡ Some (u, v)) =
     λ v u has.
-      let i = h.has_id v u has in
-      let at = IsDartAt-from darts i.0 v u i.1 in
-      let pair = paired i.0 (dart-lt darts i.0 v u i.1) in
-      (i.0, i.1, dart_in-live darts (twin_of darts i.0) (pair.both ∙ at.live) ∙ ap (λ y. Some (y, tail_of darts (twin_of darts (twin_of darts i.0)))) at.head
-        ∙ ap (λ y. Some (u, y)) (ap (λ y. tail_of darts y) pair.back ∙ at.tail)) in
+    let i = h.has_id v u has in
+    let at = IsDartAt-from darts i.0 v u i.1 in
+    let pair = paired i.0 (dart-lt darts i.0 v u i.1) in (
+      i.0,
+      i.1,
+      dart_in-live darts (twin_of darts i.0) (pair.both ∙ at.live) ∙ ap (λ y. Some (y, tail_of darts (twin_of darts (twin_of darts i.0)))) at.head
+          ∙ ap (λ y. Some (u, y)) (ap (λ y. tail_of darts y) pair.back ∙ at.tail),
+    ) in
     let back : (v u : ℕ) → HasDart lists v u → HasDart lists u v = λ v u has. let t = turned v u has in h.is_dart (twin_of darts t.0) u v t.2 in
     record {
       some_vertex = some;
@@ -218,7 +217,7 @@ IsSimpleMap-linked lists darts vertices some h paired =
       no_loop = λ v u has same.
           let t = turned v u has in
           (paired t.0 (dart-lt darts t.0 v u t.1)).other
-            (h.one_id (twin_of darts t.0) t.0 v u (t.2 ∙ ap (λ y. Some (y, v)) same ∙ ap (λ y. Some (v, y)) (sym same)) t.1);
+          (h.one_id (twin_of darts t.0) t.0 v u (t.2 ∙ ap (λ y. Some (y, v)) same ∙ ap (λ y. Some (v, y)) (sym same)) t.1);
       no_repeat = h.distinct;
       both_ways = back;
     }

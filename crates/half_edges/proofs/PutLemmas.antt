@@ -1,23 +1,20 @@
 -- An edge more in an arena.
-use Rattle.std.proofs.Common.{ℕ, zero, suc, ◌+◌, ◌-◌, ◌*◌, ◌<◌, ◌≤◌, ◌≡◌, ◌≢◌, Bool, true, false, cond, eqb, List, [], ◌∷◌, length, get_or, set, AllPairs, Contains, Option, Some, None, unwrap_or, refl, sym, ap, ◌∙◌, subst, inl, inr, arith}
+use Rattle.std.proofs.Common.{ℕ, ◌+◌, ◌<◌, ◌≡◌, ◌≢◌, cond, eqb, List, [], ◌∷◌, length, get_or, set, Contains, Option, Some, None, unwrap_or, refl, sym, ap, ◌∙◌, subst, inr, arith}
 use Rattle.std.specs.List.{insert}
-use Rattle.std.proofs.lemmas.List.{get_or-set_other, get_or-set_same, length-set}
-use Rattle.std.proofs.lemmas.Bool.{cases_eq, cond-true, cond-false, eq-eqb, ne_eqb, true≢false}
-use Rattle.std.proofs.lemmas.Option.{none-some, some_pair_parts}
-use Rattle.map_definitions.specs.Maps.{Lists, Dart, list_of, HasDart, IsSimpleMap, follows, entry_after, place_of}
+use Rattle.std.proofs.lemmas.Bool.{cond-true, cond-false, eq-eqb, ne_eqb}
+use Rattle.std.proofs.lemmas.Option.{none-some}
+use Rattle.map_definitions.specs.Maps.{Lists, Dart, list_of, HasDart, follows, entry_after, place_of}
 use Rattle.map_definitions.proofs.DartLemmas.{Contains-entry_after}
 use Rattle.map_definitions.proofs.FaultLemmas.{Contains-here}
-use Rattle.half_edges.specs.Map.{Map, dart_at, IsLive}
-use Rattle.half_edges.specs.Arena.{vertex_at, record_at, twin_of, next_of, prev_of, tail_of, live_of, head_of, dart_in, arena_lists, arena_map, IsLinked, IsPaired, AreFree, IsWired}
+use Rattle.half_edges.specs.Arena.{vertex_at, next_of, prev_of, tail_of, IsLinked}
 use Rattle.half_edges.specs.Links.{IsSpliced, IsVertexSet}
 use Rattle.half_edges.specs.Edges.{IsPut, IsPutWithin}
 use Rattle.half_edges.specs.declared.edges.Corner.{Corner}
 use Rattle.half_edges.specs.declared.edges.Corner.TheVariants.{After, Only}
 use Rattle.half_edges.specs.declared.arena.DartRecord.{DartRecord}
 use Rattle.half_edges.specs.declared.arena.VertexRecord.{VertexRecord}
-use Rattle.half_edges.proofs.ArenaLemmas.{dart_in-live, IsDartAt-from, dart-lt, live-lt, IsLinked-same}
 use Rattle.half_edges.proofs.InsertLemmas.{IsInserted, after_inserted, after_named, after_new, after_others, first_stays}
-use Rattle.half_edges.proofs.LinkLemmas.{tails_same, IsDartMore, IsPlaceFor, IsLinked-more}
+use Rattle.half_edges.proofs.LinkLemmas.{tails_same, IsDartMore, IsLinked-more}
 
 -- a function with a dart more
 abbrev pub gained : (ℕ → Option Dart) → ℕ → Dart → ℕ → Option Dart
@@ -122,7 +119,12 @@ module _ (dart : ℕ → Option Dart) (lists : Lists) (old new : List DartRecord
   -- the writes of a corner stay within the records
   pub put_within : ((z v u : ℕ) → dart z ≡ Some (v, u) → z < length old) → length (list_of lists w) < 4096 → (c : Corner) → CornerAt dart lists old c w → IsPutWithin old vertices d c
   put_within bound few (After e) at =
-      let next = h.next_at e.0 w at.0 at.1 in
-      (bound e.0 w at.0 at.1, not_d e.0 w at.0 at.1, bound (next_of old e.0) w _ next, not_d (next_of old e.0) w _ next,
-        omega (arith, at.2, w_in, h.vertex_count), subst (λ y. (vertex_at vertices y).degree < 4096) (sym at.2) (omega (arith, h.degree_at w w_in, few)))
+      let next = h.next_at e.0 w at.0 at.1 in (
+        bound e.0 w at.0 at.1,
+        not_d e.0 w at.0 at.1,
+        bound (next_of old e.0) w _ next,
+        not_d (next_of old e.0) w _ next,
+        omega (arith, at.2, w_in, h.vertex_count),
+        subst (λ y. (vertex_at vertices y).degree < 4096) (sym at.2) (omega (arith, h.degree_at w w_in, few)),
+      )
   put_within bound few (Only v) at = omega (arith, at.0, w_in, h.vertex_count)

@@ -1,20 +1,20 @@
 -- An edge less in an arena.
-use Rattle.std.proofs.Common.{ℕ, zero, suc, ◌+◌, ◌-◌, ◌<◌, ◌≤◌, ◌≡◌, ◌≢◌, Bool, true, false, cond, eqb, List, [], length, get_or, set, Option, Some, None, refl, sym, ap, ◌∙◌, subst, inl, inr, arith}
+use Rattle.std.proofs.Common.{ℕ, suc, ◌+◌, ◌-◌, ◌<◌, ◌≡◌, ◌≢◌, Bool, true, false, cond, eqb, List, [], length, set, Option, Some, None, refl, sym, ap, ◌∙◌, subst, inl, inr, arith}
 use Rattle.std.proofs.lemmas.List.{get_or-set_other}
 use Rattle.std.proofs.lemmas.Bool.{cases_eq, cond-true, cond-false, eq-eqb, ne_eqb, true≢false}
 use Rattle.std.proofs.lemmas.Option.{none-some, some_pair_parts}
-use Rattle.map_definitions.specs.Maps.{Lists, Dart, list_of, HasDart, IsSimpleMap}
+use Rattle.map_definitions.specs.Maps.{Lists, Dart, list_of, HasDart}
 use Rattle.map_definitions.specs.Laws.{without_entry, without_edge}
 use Rattle.map_definitions.proofs.EdgeRemoved.{IsSimpleMap-without_edge, length-without_edge, dart_old}
 use Rattle.map_definitions.proofs.WithoutEntry.{length-without}
-use Rattle.half_edges.specs.Arena.{vertex_at, record_at, twin_of, next_of, prev_of, tail_of, live_of, head_of, dart_of_record, dart_in, IsLinked, IsPaired, AreFree, IsWired}
-use Rattle.half_edges.specs.Links.{IsUnspliced, IsThreaded, IsVertexSet}
+use Rattle.half_edges.specs.Arena.{vertex_at, record_at, twin_of, next_of, prev_of, tail_of, live_of, head_of, dart_in, IsLinked, IsPaired, AreFree, IsWired}
+use Rattle.half_edges.specs.Links.{IsThreaded, IsVertexSet}
 use Rattle.half_edges.specs.Edges.{moved_first, IsTakenOut}
 use Rattle.half_edges.specs.declared.arena.DartRecord.{DartRecord}
 use Rattle.half_edges.specs.declared.arena.VertexRecord.{VertexRecord}
 use Rattle.half_edges.proofs.ArenaLemmas.{dart_in-live, IsDartAt-from, dart-lt, live-lt, prev_is, IsLinked-same}
 use Rattle.half_edges.proofs.FreeLemmas.{IsSameFree, AreFree-frame, IsLinked-frame, IsDartWithin, dart_within}
-use Rattle.half_edges.proofs.LessLemmas.{IsDartLess, IsFirstMoved, IsLinked-less}
+use Rattle.half_edges.proofs.LessLemmas.{IsFirstMoved, IsLinked-less}
 
 -- a function without the dart of d
 abbrev pub lost : (ℕ → Option Dart) → ℕ → ℕ → Option Dart
@@ -40,8 +40,8 @@ less_by dart lists old new vertices shrunk h d w x some tail out =
     let degree : (vertex_at vertices w).degree - 1 ≡ length (without_entry (list_of lists w) x) = omega (arith, h.degree_at w has.0, count) in
     let vertex = subst (λ y. IsVertexSet vertices shrunk y (moved_first (vertex_at vertices y).first d (next_of old d)) ((vertex_at vertices y).degree - 1)) tail out.vertex in
     IsLinked-less dart (lost dart d) lists old new vertices shrunk h d w x (moved_first (vertex_at vertices w).first d (next_of old d))
-      (record { here = some; none = lost-here dart d; other = lost-other dart d }) out.unspliced
-      (subst (λ k. IsVertexSet vertices shrunk w (moved_first (vertex_at vertices w).first d (next_of old d)) k) degree vertex) (first_moved old vertices d w)
+    (record { here = some; none = lost-here dart d; other = lost-other dart d }) out.unspliced
+    (subst (λ k. IsVertexSet vertices shrunk w (moved_first (vertex_at vertices w).first d (next_of old d)) k) degree vertex) (first_moved old vertices d w)
 
 module _ (lists : Lists) (old : List DartRecord) (vertices : List VertexRecord) (free spare : ℕ) (a : IsWired lists old vertices free spare) (d : ℕ) (live : live_of old d ≡ true) where
   pub d_in : d < length old
@@ -155,8 +155,8 @@ module _ (lists : Lists) (old : List DartRecord) (vertices : List VertexRecord) 
         same_records : (z v u : ℕ) → lost (lost (dart_in old) d) (twin_of old d) z ≡ Some (v, u) → record_at new z ≡ record_at two z
         same_records z v u some =
             th.other z
-              (λ at_d. none-some (v, u) (sym (lost-here (dart_in old) d) ∙ sym (lost-other (lost (dart_in old) d) (twin_of old d) d (λ e. pair.other (sym e))) ∙ ap (λ y. lost (lost (dart_in old) d) (twin_of old d) y) (sym at_d) ∙ some))
-              (λ at_t. none-some (v, u) (sym (lost-here (lost (dart_in old) d) (twin_of old d)) ∙ ap (λ y. lost (lost (dart_in old) d) (twin_of old d) y) (sym at_t) ∙ some))
+            (λ at_d. none-some (v, u) (sym (lost-here (dart_in old) d) ∙ sym (lost-other (lost (dart_in old) d) (twin_of old d) d (λ e. pair.other (sym e))) ∙ ap (λ y. lost (lost (dart_in old) d) (twin_of old d) y) (sym at_d) ∙ some))
+            (λ at_t. none-some (v, u) (sym (lost-here (lost (dart_in old) d) (twin_of old d)) ∙ ap (λ y. lost (lost (dart_in old) d) (twin_of old d) y) (sym at_t) ∙ some))
 
         linked_new : IsLinked (dart_in new) (without_edge lists (tail_of old d) (head_of old d)) new v_two
         linked_new =
@@ -217,10 +217,14 @@ module _ (lists : Lists) (old : List DartRecord) (vertices : List VertexRecord) 
             }
 
         threaded_new : AreFree new d (suc spare)
-        threaded_new =
-            (omega (arith, count_new, d_in), dead_d, th.prev_here, ap (λ y. prev_of new y) (twins_new d) ∙ th.prev_twin,
-              subst (λ z. AreFree new z spare) (sym th.next_here)
-                (AreFree-frame old new spare (omega (arith, count_new)) (λ z l dead less. same_free z l dead) a.paired spare free (omega arith) a.threaded))
+        threaded_new = (
+          omega (arith, count_new, d_in),
+          dead_d,
+          th.prev_here,
+          ap (λ y. prev_of new y) (twins_new d) ∙ th.prev_twin,
+          subst (λ z. AreFree new z spare) (sym th.next_here)
+              (AreFree-frame old new spare (omega (arith, count_new)) (λ z l dead less. same_free z l dead) a.paired spare free (omega arith) a.threaded),
+        )
 
         pub wired_new : IsWired (without_edge lists (tail_of old d) (head_of old d)) new v_two d (spare + 1)
         wired_new = record {
@@ -247,6 +251,7 @@ module _ (lists : Lists) (old : List DartRecord) (vertices : List VertexRecord) 
             gone w x left one other =
                 let parts = some_pair_parts w (tail_of old d) x (head_of old d) (sym one ∙ other) in
                 (dart_old lists a.simple (tail_of old d) (head_of old d) edge w x left).1 parts.0 parts.1
+
             gone_back : (w x : ℕ) → HasDart (without_edge lists (tail_of old d) (head_of old d)) w x → dart_in old (twin_of old d) ≡ Some (w, x) → dart_in old (twin_of old d) ≡ Some (head_of old d, tail_of old d) → ⊥
             gone_back w x left one other =
                 let parts = some_pair_parts w (head_of old d) x (tail_of old d) (sym one ∙ other) in

@@ -1,9 +1,9 @@
 -- A map with an edge more, and the writes to an arena by which darts come and go.
-use Rattle.std.specs.Prelude.{ℕ, ◌+◌, ◌-◌, ◌<◌, ◌≤◌, ◌≡◌, ◌≢◌, ◌==◌, if◌then◌else◌, List, [], ◌∷◌, length, slice_set, unwrap_or}
+use Rattle.std.specs.Prelude.{ℕ, ◌+◌, ◌-◌, ◌<◌, ◌≡◌, ◌≢◌, ◌==◌, if◌then◌else◌, List, [], ◌∷◌, length, slice_set, unwrap_or}
 use Rattle.std.specs.List.{insert}
 use Rattle.map_definitions.specs.Maps.{Lists, Dart, list_of, place_of}
 use Rattle.half_edges.specs.Map.{Map, dart_at, IsLive}
-use Rattle.half_edges.specs.Arena.{vertex_at, next_of, prev_of, tail_of}
+use Rattle.half_edges.specs.Arena.{vertex_at, next_of, tail_of}
 use Rattle.half_edges.specs.Links.{IsSpliced, IsUnspliced, IsVertexSet}
 use Rattle.half_edges.specs.declared.arena.DartRecord.{DartRecord}
 use Rattle.half_edges.specs.declared.arena.VertexRecord.{VertexRecord}

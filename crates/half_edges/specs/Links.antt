@@ -1,5 +1,5 @@
 -- What one write to the records of an arena changes.
-use Rattle.std.specs.Prelude.{ℕ, ◌+◌, ◌≡◌, ◌≢◌, true, false, List, length}
+use Rattle.std.specs.Prelude.{ℕ, ◌≡◌, ◌≢◌, true, false, List, length}
 use Rattle.half_edges.specs.Arena.{record_at, vertex_at, twin_of, next_of, prev_of, tail_of, live_of}
 use Rattle.half_edges.specs.declared.arena.DartRecord.{DartRecord}
 use Rattle.half_edges.specs.declared.arena.VertexRecord.{VertexRecord}

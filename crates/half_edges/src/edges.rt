@@ -1,10 +1,10 @@
 //! Edges that come and go, in constant time and with no memory taken.
-ghost use Rattle.std.specs.Prelude.{◌≡◌, ◌≢◌, ◌+◌, ◌<◌, ◌≤◌, ℕ, true, min, max, length, Some, OnOk, OnErr};
+ghost use Rattle.std.specs.Prelude.{◌≡◌, ◌≢◌, ◌+◌, ◌-◌, ◌<◌, ◌≤◌, ℕ, true, min, max, length, Some, OnOk, OnErr};
 ghost use Rattle.map_definitions.specs.Maps.{HasDart};
 ghost use Rattle.map_definitions.specs.Laws.{without_edge};
 ghost use Rattle.half_edges.specs.Map.{IsHalfMap, IsLive, dart_at};
-ghost use Rattle.half_edges.specs.Arena.{arena_lists, dart_in, vertex_at, next_of, prev_of, tail_of, head_of, live_of, IsWired};
-ghost use Rattle.half_edges.specs.Edges.{live_dart, moved_first, IsTakenOut, IsPut, IsPutWithin};
+ghost use Rattle.half_edges.specs.Arena.{arena_lists, arena_map, dart_in, vertex_at, next_of, prev_of, tail_of, head_of, live_of, AreFree, IsWired};
+ghost use Rattle.half_edges.specs.Edges.{live_dart, moved_first, corner_vertex, IsCorner, with_edge, IsTakenOut, IsPut, IsPutWithin};
 
 use crate::arena::{DartRecord, VertexRecord, splice, thread, unsplice};
 use crate::{DartId, Ends, HalfMap, VertexId};
@@ -19,6 +19,37 @@ pub enum Corner {
 }
 
 impl HalfMap {
+    /// Puts an edge between two corners at vertices that are distinct and not adjacent, and answers the dart
+    /// from the first to the second. Each new entry stands directly after the named one; `spare`, which is
+    /// at least 1, falls by one; all other darts keep their ids.
+    pub fn add_edge(&mut self, at_u: Corner, at_v: Corner) -> DartId
+        requires spare { 1 ≤ self.old.spare }
+        requires corner_u { IsCorner self.old at_u }
+        requires corner_v { IsCorner self.old at_v }
+        requires two_vertices { corner_vertex self.old at_u ≢ corner_vertex self.old at_v }
+        requires not_adjacent { ¬ HasDart self.old.lists (corner_vertex self.old at_u) (corner_vertex self.old at_v) }
+        ensures lists { self.new.lists ≡ with_edge self.old at_u at_v }
+        ensures spare { self.new.spare + 1 ≡ self.old.spare }
+        ensures dart { dart_at self.new result.0 ≡ Some (corner_vertex self.old at_u, corner_vertex self.old at_v) }
+        ensures ids { (e v u : ℕ) → dart_at self.old e ≡ Some (v, u) → dart_at self.new e ≡ Some (v, u) }
+        ensures known { IsHalfMap self.new }
+    {
+        let d = self.free;
+        let next = first_free_behind(&self.darts, d, self.spare);
+        put_edge(
+            &mut self.darts,
+            &mut self.vertices,
+            d,
+            self.spare,
+            at_u,
+            at_v,
+        );
+        self.free = next;
+        self.edges += 1;
+        self.spare -= 1;
+        DartId(d)
+    }
+
     /// Takes away the edge of a dart, and answers its ends. Its two entries leave their lists, and `spare`
     /// rises by one; all other darts keep their ids.
     pub fn remove_edge(&mut self, d: DartId) -> Ends
@@ -30,7 +61,13 @@ impl HalfMap {
         ensures greater { result.b.0 ≡ max (live_dart self.old d.0).0 (live_dart self.old d.0).1 }
         ensures known { IsHalfMap self.new }
     {
-        let ends = take_edge(&mut self.darts, &mut self.vertices, d.0, self.free, self.spare);
+        let ends = take_edge(
+            &mut self.darts,
+            &mut self.vertices,
+            d.0,
+            self.free,
+            self.spare,
+        );
         self.free = d.0;
         self.edges -= 1;
         self.spare += 1;
@@ -122,4 +159,38 @@ fn put(darts: &mut [DartRecord], vertices: &mut [VertexRecord], d: u32, corner: 
             };
         }
     }
+}
+
+// Puts the two darts of the first free edge into corners.
+fn put_edge(
+    darts: &mut [DartRecord],
+    vertices: &mut [VertexRecord],
+    d: u32,
+    spare: u32,
+    at_u: Corner,
+    at_v: Corner,
+)
+    requires wired { IsWired (arena_lists darts.old vertices.old) darts.old vertices.old d spare }
+    requires some { 0 < spare }
+    requires corner_u { IsCorner (arena_map darts.old vertices.old spare) at_u }
+    requires corner_v { IsCorner (arena_map darts.old vertices.old spare) at_v }
+    requires two_vertices { corner_vertex (arena_map darts.old vertices.old spare) at_u ≢ corner_vertex (arena_map darts.old vertices.old spare) at_v }
+    requires not_adjacent { ¬ HasDart (arena_lists darts.old vertices.old) (corner_vertex (arena_map darts.old vertices.old spare) at_u) (corner_vertex (arena_map darts.old vertices.old spare) at_v) }
+    ensures wired { IsWired (with_edge (arena_map darts.old vertices.old spare) at_u at_v) darts.new vertices.new (next_of darts.old d) (spare - 1) }
+    ensures dart { dart_in darts.new d ≡ Some (corner_vertex (arena_map darts.old vertices.old spare) at_u, corner_vertex (arena_map darts.old vertices.old spare) at_v) }
+    ensures ids { (e v u : ℕ) → dart_in darts.old e ≡ Some (v, u) → dart_in darts.new e ≡ Some (v, u) }
+{
+    let _spare = spare;
+    let twin = darts[d as usize].twin;
+    put(darts, vertices, d, at_u);
+    put(darts, vertices, twin, at_v);
+}
+
+// The first free edge behind the first one.
+fn first_free_behind(darts: &[DartRecord], free: u32, spare: u32) -> u32
+    requires threaded { AreFree darts.now free spare }
+    requires some { 0 < spare }
+    ensures { result ≡ next_of darts.now free }
+{
+    darts[free as usize].next
 }

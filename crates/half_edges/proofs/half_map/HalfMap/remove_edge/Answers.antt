@@ -8,7 +8,7 @@ use Rattle.half_edges.specs.declared.arena.DartRecord.{DartRecord}
 use Rattle.half_edges.specs.declared.arena.VertexRecord.{VertexRecord}
 use Rattle.half_edges.proofs.ArenaLemmas.{known, live_here}
 use Rattle.half_edges.proofs.FreeLemmas.{IsWired-arena}
-use Rattle.half_edges.proofs.EdgeLemmas.{lent, dart_is, edges_fall, few_edges, arena_less, lists_less, ids_less}
+use Rattle.half_edges.proofs.EdgeLemmas.{lent, dart_is, edges_fall, arena_less, lists_less, ids_less}
 use Rattle.half_edges.proofs.half_map.HalfMap.remove_edge.Goals as goal
 use Rattle.half_edges.proofs.half_map.HalfMap.remove_edge.Goals.{After-take_edge-ends}
 
