@@ -16,4 +16,5 @@ pub mod IdLemmas
 pub mod EdgeLemmas
 pub mod PutLemmas
 pub mod GivenLemmas
+pub mod ReserveLemmas
 pub mod InducedLemmas
