@@ -63,3 +63,8 @@ dart_within dart lists darts vertices h bound d v u some =
       vertex = omega (arith, has.0, h.vertex_count);
       some = omega (arith, has.1.1);
     }
+
+-- the first free edge is within the records
+pub free_within : (darts : List DartRecord) (d spare : ℕ) → 0 < spare → AreFree darts d spare → d < length darts
+free_within darts d zero l free = absurd (omega (arith, l))
+free_within darts d (suc k) l free = free.0

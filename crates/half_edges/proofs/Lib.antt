@@ -15,4 +15,6 @@ pub mod MapLemmas
 pub mod IdLemmas
 pub mod EdgeLemmas
 pub mod PutLemmas
+pub mod GivenLemmas
+pub mod ReserveLemmas
 pub mod InducedLemmas

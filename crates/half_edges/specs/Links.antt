@@ -1,6 +1,6 @@
 -- What one write to the records of an arena changes.
-use Rattle.std.specs.Prelude.{ℕ, ◌≡◌, ◌≢◌, true, false, List, length}
-use Rattle.half_edges.specs.Arena.{record_at, vertex_at, twin_of, next_of, prev_of, tail_of, live_of}
+use Rattle.std.specs.Prelude.{ℕ, ◌+◌, ◌*◌, ◌<◌, ◌≤◌, ◌≡◌, ◌≢◌, true, false, List, length}
+use Rattle.half_edges.specs.Arena.{record_at, vertex_at, twin_of, next_of, prev_of, tail_of, live_of, IsPaired, AreFree}
 use Rattle.half_edges.specs.declared.arena.DartRecord.{DartRecord}
 use Rattle.half_edges.specs.declared.arena.VertexRecord.{VertexRecord}
 
@@ -48,3 +48,11 @@ pub record IsVertexSet (old new : List VertexRecord) (v first degree : ℕ) : Ty
   pub first_is : (vertex_at new v).first ≡ first
   pub degree_is : (vertex_at new v).degree ≡ degree
   pub other : (w : ℕ) → w ≢ v → vertex_at new w ≡ vertex_at old w
+
+-- edges were put before the free ones, of which there were `spare`, in records behind all others
+pub record IsFreer (old new : List DartRecord) (free spare more : ℕ) : Type 0 where
+  pub count : length new ≡ length old + 2 * more
+  pub kept : (z : ℕ) → z < length old → record_at new z ≡ record_at old z
+  pub dead : (z : ℕ) → length old ≤ z → live_of new z ≡ false
+  pub paired : (z : ℕ) → z < length new → IsPaired new z
+  pub threaded : AreFree new free (spare + more)

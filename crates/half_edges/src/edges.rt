@@ -1,13 +1,15 @@
 //! Edges that come and go, in constant time and with no memory taken.
-ghost use Rattle.std.specs.Prelude.{◌≡◌, ◌≢◌, ◌+◌, ◌<◌, ◌≤◌, ℕ, true, min, max, length, Some, OnOk, OnErr};
+ghost use Rattle.std.specs.Prelude.{◌*◌, vec_len, vec_capacity, ◌≡◌, ◌≢◌, ◌+◌, ◌-◌, ◌<◌, ◌≤◌, ℕ, true, min, max, length, Some, OnOk, OnErr};
 ghost use Rattle.map_definitions.specs.Maps.{HasDart};
 ghost use Rattle.map_definitions.specs.Laws.{without_edge};
 ghost use Rattle.half_edges.specs.Map.{IsHalfMap, IsLive, dart_at};
-ghost use Rattle.half_edges.specs.Arena.{arena_lists, dart_in, vertex_at, next_of, prev_of, tail_of, head_of, live_of, IsWired};
-ghost use Rattle.half_edges.specs.Edges.{live_dart, moved_first, IsTakenOut, IsPut, IsPutWithin};
+ghost use Rattle.half_edges.specs.Arena.{arena_lists, arena_map, dart_in, vertex_at, next_of, prev_of, tail_of, head_of, live_of, IsPaired, AreFree, IsWired};
+ghost use Rattle.half_edges.specs.Links.{IsFreer};
+ghost use Rattle.half_edges.specs.Edges.{live_dart, moved_first, corner_vertex, IsCorner, with_edge, IsTakenOut, IsPut, IsPutWithin};
 
 use crate::arena::{DartRecord, VertexRecord, splice, thread, unsplice};
 use crate::{DartId, Ends, HalfMap, VertexId};
+use std::alloc::AllocError;
 
 /// A place round a vertex, for a new dart.
 #[derive(Clone, Copy, Debug, PartialEq, Eq)]
@@ -19,6 +21,59 @@ pub enum Corner {
 }
 
 impl HalfMap {
+    /// Makes room for edges, so that `spare` is the greater of `k`, which is at most 2^23, and its old value.
+    /// After an error, which comes only for want of memory, nothing has changed.
+    pub fn reserve_edges(&mut self, k: u32) -> Result<(), AllocError>
+        requires few { k ≤ 8388608 }
+        ensures spare { OnOk result (self.new.spare ≡ max k self.old.spare) }
+        ensures lists { OnOk result (self.new.lists ≡ self.old.lists) }
+        ensures ids { OnOk result ((d : ℕ) → dart_at self.new d ≡ dart_at self.old d) }
+        ensures err { OnErr result (self.new ≡ self.old) }
+        ensures known { OnOk result (IsHalfMap self.new) }
+    {
+        let more = k.saturating_sub(self.spare);
+        match self.darts.reserve(2 * more as usize) {
+            Ok(()) => {
+                let free = push_free(&mut self.darts, self.free, self.spare, more);
+                self.free = free;
+                self.spare += more;
+                Ok(())
+            }
+            Err(_) => Err(AllocError),
+        }
+    }
+
+    /// Puts an edge between two corners at vertices that are distinct and not adjacent, and answers the dart
+    /// from the first to the second. Each new entry stands directly after the named one; `spare`, which is
+    /// at least 1, falls by one; all other darts keep their ids.
+    pub fn add_edge(&mut self, at_u: Corner, at_v: Corner) -> DartId
+        requires spare { 1 ≤ self.old.spare }
+        requires corner_u { IsCorner self.old at_u }
+        requires corner_v { IsCorner self.old at_v }
+        requires two_vertices { corner_vertex self.old at_u ≢ corner_vertex self.old at_v }
+        requires not_adjacent { ¬ HasDart self.old.lists (corner_vertex self.old at_u) (corner_vertex self.old at_v) }
+        ensures lists { self.new.lists ≡ with_edge self.old at_u at_v }
+        ensures spare { self.new.spare + 1 ≡ self.old.spare }
+        ensures dart { dart_at self.new result.0 ≡ Some (corner_vertex self.old at_u, corner_vertex self.old at_v) }
+        ensures ids { (e v u : ℕ) → dart_at self.old e ≡ Some (v, u) → dart_at self.new e ≡ Some (v, u) }
+        ensures known { IsHalfMap self.new }
+    {
+        let d = self.free;
+        let next = first_free_behind(&self.darts, d, self.spare);
+        put_edge(
+            &mut self.darts,
+            &mut self.vertices,
+            d,
+            self.spare,
+            at_u,
+            at_v,
+        );
+        self.free = next;
+        self.edges += 1;
+        self.spare -= 1;
+        DartId(d)
+    }
+
     /// Takes away the edge of a dart, and answers its ends. Its two entries leave their lists, and `spare`
     /// rises by one; all other darts keep their ids.
     pub fn remove_edge(&mut self, d: DartId) -> Ends
@@ -128,4 +183,69 @@ fn put(darts: &mut [DartRecord], vertices: &mut [VertexRecord], d: u32, corner: 
             };
         }
     }
+}
+
+// Puts the two darts of the first free edge into corners.
+fn put_edge(
+    darts: &mut [DartRecord],
+    vertices: &mut [VertexRecord],
+    d: u32,
+    spare: u32,
+    at_u: Corner,
+    at_v: Corner,
+)
+    requires wired { IsWired (arena_lists darts.old vertices.old) darts.old vertices.old d spare }
+    requires some { 0 < spare }
+    requires corner_u { IsCorner (arena_map darts.old vertices.old spare) at_u }
+    requires corner_v { IsCorner (arena_map darts.old vertices.old spare) at_v }
+    requires two_vertices { corner_vertex (arena_map darts.old vertices.old spare) at_u ≢ corner_vertex (arena_map darts.old vertices.old spare) at_v }
+    requires not_adjacent { ¬ HasDart (arena_lists darts.old vertices.old) (corner_vertex (arena_map darts.old vertices.old spare) at_u) (corner_vertex (arena_map darts.old vertices.old spare) at_v) }
+    ensures wired { IsWired (with_edge (arena_map darts.old vertices.old spare) at_u at_v) darts.new vertices.new (next_of darts.old d) (spare - 1) }
+    ensures dart { dart_in darts.new d ≡ Some (corner_vertex (arena_map darts.old vertices.old spare) at_u, corner_vertex (arena_map darts.old vertices.old spare) at_v) }
+    ensures ids { (e v u : ℕ) → dart_in darts.old e ≡ Some (v, u) → dart_in darts.new e ≡ Some (v, u) }
+{
+    let _spare = spare;
+    let twin = darts[d as usize].twin;
+    put(darts, vertices, d, at_u);
+    put(darts, vertices, twin, at_v);
+}
+
+// The first free edge behind the first one.
+fn first_free_behind(darts: &[DartRecord], free: u32, spare: u32) -> u32
+    requires threaded { AreFree darts.now free spare }
+    requires some { 0 < spare }
+    ensures { result ≡ next_of darts.now free }
+{
+    darts[free as usize].next
+}
+
+// Puts `more` edges before the free ones, of which there are `spare`, and answers a dart of the first.
+fn push_free(darts: &mut Vec<DartRecord>, free: u32, spare: u32, more: u32) -> u32
+    requires room { vec_len darts.old + 2 * more ≤ vec_capacity darts.old }
+    requires few { vec_len darts.old + 2 * more ≤ 67108864 }
+    requires few_spare { spare + more ≤ 33554432 }
+    requires paired { (z : ℕ) → z < length darts.old.items → IsPaired darts.old.items z }
+    requires threaded { AreFree darts.old.items free spare }
+    ensures { IsFreer darts.old.items darts.new.items result spare more }
+{
+    let mut free = free;
+    for i in 0..more {
+        let d = darts.len() as u32;
+        darts.push_reserved(DartRecord {
+            twin: d + 1,
+            next: free,
+            prev: spare + i,
+            tail: 0,
+            live: false,
+        });
+        darts.push_reserved(DartRecord {
+            twin: d,
+            next: free,
+            prev: spare + i,
+            tail: 0,
+            live: false,
+        });
+        free = d;
+    }
+    free
 }
