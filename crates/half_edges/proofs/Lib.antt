@@ -1,5 +1,6 @@
 -- The lemmas on which several of the crate's functions rest.
 pub mod ArenaLemmas
+mod Cases
 pub mod CutLemmas
 pub mod MarkLemmas
 pub mod TableArena
