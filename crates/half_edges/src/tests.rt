@@ -126,3 +126,21 @@ fn the_part_between_three_vertices(rt: HostRuntime) -> Result<(), Fail> {
     assert_eq!(rt; lists.list(2), [0, 1].as_slice());
     Ok(())
 }
+
+#[test]
+fn an_edge_goes(rt: HostRuntime) -> Result<(), Fail> {
+    let mut map = map_of(&rt, rt.alloc(), TRIANGLE)?;
+    assert_eq!(rt; map.n(), 3);
+    map.reserve_edges(2)?;
+    assert_eq!(rt; (map.spare(), map.m(), map.n()), (2, 3, 3));
+    let d = map.dart_of(VertexId(1), VertexId(0)).ok_or("no dart")?;
+    let ends = map.remove_edge(d);
+    assert_eq!(rt; (ends.a, ends.b), (VertexId(0), VertexId(1)));
+    assert_eq!(rt; (map.spare(), map.m()), (3, 2));
+    let lists = map.rotations(rt.alloc())?;
+    assert_eq!(rt; lists.len(), 3);
+    assert_eq!(rt; lists.list(0), [2].as_slice());
+    assert_eq!(rt; lists.list(1), [2].as_slice());
+    assert_eq!(rt; lists.list(2), [0, 1].as_slice());
+    Ok(())
+}
