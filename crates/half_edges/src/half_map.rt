@@ -43,8 +43,9 @@ impl From<AllocError> for MapFault {
 
 /// A simple map as half-edges.
 ///
-/// Its vertices have the numbers below `n`, and each of its darts has one id. Every call takes constant
-/// time, but for `from_rotations`, `rotations`, and `dart_of`, which goes over one list.
+/// Its vertices have the numbers below `n`, and each of its darts has one id, which it keeps as long as it
+/// is there. Every call takes constant time, but for those that make a map or lists, `reserve_edges`, and
+/// `dart_of`, which goes over one list.
 #[derive(Drop)]
 pub struct HalfMap {
     pub(crate) darts: Vec<DartRecord>,

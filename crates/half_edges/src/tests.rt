@@ -1,6 +1,7 @@
 //! Small maps whose darts and faults were found by hand.
 use crate::{
-    Counts, DartId, EdgeList, Ends, HalfMap, MapFault, PathList, Rotations, VertexId, VertexList,
+    Corner, Counts, DartId, EdgeList, Ends, HalfMap, MapFault, PathList, Rotations, VertexId,
+    VertexList,
 };
 use std::alloc::Global;
 use std::process::Abort;
@@ -124,5 +125,42 @@ fn the_part_between_three_vertices(rt: HostRuntime) -> Result<(), Fail> {
     assert_eq!(rt; lists.list(0), [1, 2].as_slice());
     assert_eq!(rt; lists.list(1), [0, 2].as_slice());
     assert_eq!(rt; lists.list(2), [0, 1].as_slice());
+    Ok(())
+}
+
+#[test]
+fn an_edge_goes(rt: HostRuntime) -> Result<(), Fail> {
+    let mut map = map_of(&rt, rt.alloc(), TRIANGLE)?;
+    assert_eq!(rt; map.n(), 3);
+    map.reserve_edges(2)?;
+    assert_eq!(rt; (map.spare(), map.m(), map.n()), (2, 3, 3));
+    let d = map.dart_of(VertexId(1), VertexId(0)).ok_or("no dart")?;
+    let ends = map.remove_edge(d);
+    assert_eq!(rt; (ends.a, ends.b), (VertexId(0), VertexId(1)));
+    assert_eq!(rt; (map.spare(), map.m()), (3, 2));
+    let lists = map.rotations(rt.alloc())?;
+    assert_eq!(rt; lists.len(), 3);
+    assert_eq!(rt; lists.list(0), [2].as_slice());
+    assert_eq!(rt; lists.list(1), [2].as_slice());
+    assert_eq!(rt; lists.list(2), [0, 1].as_slice());
+    Ok(())
+}
+
+#[test]
+fn an_edge_comes(rt: HostRuntime) -> Result<(), Fail> {
+    let mut map = map_of(&rt, rt.alloc(), &[&[1, 2], &[2, 0], &[0, 1], &[]])?;
+    assert_eq!(rt; map.n(), 4);
+    map.reserve_edges(1)?;
+    assert_eq!(rt; (map.spare(), map.m(), map.n()), (1, 3, 4));
+    assert_eq!(rt; map.first_dart(VertexId(3)), None);
+    assert_eq!(rt; map.dart_of(VertexId(0), VertexId(3)), None);
+    let d = map.dart_of(VertexId(0), VertexId(1)).ok_or("no dart")?;
+    let e = map.add_edge(Corner::After(d), Corner::Only(VertexId(3)));
+    assert_eq!(rt; (map.spare(), map.m()), (0, 4));
+    assert_eq!(rt; (map.tail(e), map.head(e)), (VertexId(0), VertexId(3)));
+    let lists = map.rotations(rt.alloc())?;
+    assert_eq!(rt; lists.len(), 4);
+    assert_eq!(rt; lists.list(0), [1, 3, 2].as_slice());
+    assert_eq!(rt; lists.list(3), [0].as_slice());
     Ok(())
 }
