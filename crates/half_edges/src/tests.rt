@@ -164,3 +164,60 @@ fn an_edge_comes(rt: HostRuntime) -> Result<(), Fail> {
     assert_eq!(rt; lists.list(3), [0].as_slice());
     Ok(())
 }
+
+// A square with the diagonal from 0 to 2.
+const SQUARE: &[&[u16]] = &[&[1, 3, 2], &[0, 2], &[3, 1, 0], &[0, 2]];
+
+const BOTH_DIAGONALS: &[&[u16]] = &[&[1, 3, 2], &[0, 2, 3], &[3, 1, 0], &[0, 1, 2]];
+
+fn assert_lists(
+    rt: &impl Abort,
+    alloc: Global,
+    map: &HalfMap,
+    lists: &[&[u16]],
+) -> Result<(), Fail> {
+    let rotations = map.rotations(alloc)?;
+    assert_eq!(rt; rotations.len(), lists.len());
+    for v in 0..lists.len() {
+        assert_eq!(rt; rotations.list(v), lists[v]);
+    }
+    Ok(())
+}
+
+// Puts the other diagonal in, with one free edge, and answers its dart from 1.
+fn other_diagonal(rt: &impl Abort, map: &mut HalfMap) -> Result<DartId, Fail> {
+    assert!(rt; map.n() == 4);
+    assert!(rt; map.spare() == 1);
+    let d = map.dart_of(VertexId(1), VertexId(2)).ok_or("no dart")?;
+    let e = map.dart_of(VertexId(3), VertexId(0)).ok_or("no dart")?;
+    let none = map.dart_of(VertexId(1), VertexId(3));
+    assert!(rt; none.is_none());
+    Ok(map.add_edge(Corner::After(d), Corner::After(e)))
+}
+
+#[test]
+fn an_edge_comes_and_goes(rt: HostRuntime) -> Result<(), Fail> {
+    let mut map = map_of(&rt, rt.alloc(), SQUARE)?;
+    map.reserve_edges(1)?;
+    let d = other_diagonal(&rt, &mut map)?;
+    assert_eq!(rt; (map.spare(), map.m()), (0, 6));
+    assert_lists(&rt, rt.alloc(), &map, BOTH_DIAGONALS)?;
+    assert!(rt; map.is_live(d));
+    let ends = map.remove_edge(d);
+    assert_eq!(rt; (ends.a, ends.b), (VertexId(1), VertexId(3)));
+    assert_eq!(rt; (map.spare(), map.m()), (1, 5));
+    assert_lists(&rt, rt.alloc(), &map, SQUARE)
+}
+
+#[test]
+fn a_thousand_turns(rt: HostRuntime) -> Result<(), Fail> {
+    let mut map = map_of(&rt, rt.alloc(), SQUARE)?;
+    map.reserve_edges(1)?;
+    for _ in 0..1000 {
+        let d = other_diagonal(&rt, &mut map)?;
+        assert!(rt; map.is_live(d));
+        map.remove_edge(d);
+    }
+    assert_eq!(rt; (map.spare(), map.m()), (1, 5));
+    assert_lists(&rt, rt.alloc(), &map, SQUARE)
+}
