@@ -1,5 +1,5 @@
 -- The lists of edited maps, as they were worked out by hand.
-use Rattle.std.proofs.Common.{◌≡◌, true, false, [], ◌∷◌, Some, None, refl}
+use Rattle.std.proofs.Common.{◌≡◌, true, false, [], ◌∷◌, Some, refl}
 use Rattle.map_definitions.specs.Maps.{Lists}
 use Rattle.map_definitions.specs.Laws.{without_edge}
 use Rattle.half_edges.specs.Map.{Map}
