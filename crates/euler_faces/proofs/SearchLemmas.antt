@@ -4,12 +4,13 @@ use Rattle.std.proofs.lemmas.List.{get_or_default}
 use Rattle.std.proofs.lemmas.Bool.{cases_Bool, cases_eq, or_left, false≢true, false_from_ne_true}
 use Rattle.std.specs.List.{Contains, All}
 use Rattle.std.proofs.lemmas.List.Elements.{Contains-append_left, Contains-push, Contains-push_cases}
-use Rattle.map_definitions.specs.Classes.{same_class}
-use Rattle.map_definitions.specs.Maps.{Lists, Dart, darts, dart_number, list_of, place_of, HasDart, IsSimpleMap}
-use Rattle.map_definitions.proofs.Counting.{count_below_more}
-use Rattle.map_definitions.proofs.Classes.{Together, Together-from, same_class-from, PairsBelow, classes-holds, classes-marked, length-classes}
+use Rattle.label_classes.specs.Classes.{same_class}
+use Rattle.map_lists.specs.Lists.{Lists}
+use Rattle.map_definitions.specs.Maps.{Dart, darts, dart_number, list_of, place_of, HasDart, IsSimpleMap}
+use Rattle.label_classes.proofs.Counting.{count_below_more}
+use Rattle.label_classes.proofs.Classes.{Together, Together-from, same_class-from, PairsBelow, classes-holds, classes-marked, length-classes}
 use Rattle.map_definitions.proofs.DartLemmas.{IsDartNumber-darts, length-darts, get_or-dart_number, dart_number-lt, get_or-place_of, place_of-lt-length}
-use Rattle.map_definitions.proofs.Marks.{IsCounting, IsCounting-together}
+use Rattle.label_classes.proofs.Marks.{IsCounting, IsCounting-together}
 use Rattle.euler_faces.specs.Numbers.{mark_at}
 use Rattle.euler_faces.specs.Search.{parts, AllMarked, IsSearching, Pushes, unmarked_below, None_open}
 

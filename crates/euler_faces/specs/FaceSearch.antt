@@ -1,6 +1,6 @@
 -- The walks of the faces met so far, where the darts are gone over by their numbers.
 use Rattle.std.specs.Prelude.{ℕ, ◌<◌, ◌≡◌, List, length, slice_index}
-use Rattle.map_definitions.specs.Classes.{label, orbits}
+use Rattle.label_classes.specs.Classes.{label, orbits}
 use Rattle.map_definitions.specs.Maps.{dart_count, face_images}
 use Rattle.half_edges.specs.Map.{Map}
 use Rattle.euler_faces.specs.Numbers.{number_at}

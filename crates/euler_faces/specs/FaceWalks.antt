@@ -2,7 +2,7 @@
 use Rattle.std.specs.Prelude.{ℕ, ◌+◌, ◌^◌, ◌<◌, ◌≤◌, ◌≡◌, List, [], map, length, slice_index, slice_index_or, Contains, option_map}
 use Rattle.map_definitions.specs.Maps.{face_step}
 use Rattle.half_edges.specs.Map.{Map, IsLive, dart_at}
-use Rattle.half_edges.specs.declared.ids.DartId.{DartId}
+use Rattle.map_lists.specs.declared.ids.DartId.{DartId}
 use Rattle.euler_faces.specs.Numbers.{number_at}
 
 -- the numbers of ids

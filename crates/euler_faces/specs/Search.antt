@@ -1,8 +1,9 @@
 -- A search from a vertex: which vertices are marked, and of which the neighbours are still to be marked.
 use Rattle.std.specs.Prelude.{ℕ, ◌<◌, ◌≡◌, ◌⊎◌, Bool, true, false, not, List, [], ◌∷◌, ◌++◌, length, set, Contains}
-use Rattle.map_definitions.specs.Classes.{classes, count_below}
-use Rattle.map_definitions.specs.Maps.{Lists, darts, HasDart}
-use Rattle.map_definitions.proofs.Classes.{Together}
+use Rattle.label_classes.specs.Classes.{classes, count_below}
+use Rattle.map_lists.specs.Lists.{Lists}
+use Rattle.map_definitions.specs.Maps.{darts, HasDart}
+use Rattle.label_classes.proofs.Classes.{Together}
 use Rattle.euler_faces.specs.Numbers.{mark_at}
 
 -- the classes of vertices under "joined by a path"

@@ -1,9 +1,9 @@
 //! The components of a map, counted by marks on its vertices.
 ghost use Rattle.std.specs.Prelude.{◌≡◌, ◌<◌, ◌≤◌, ◌+◌, ◌||◌, ℕ, List, Bool, [], true, false, length, vec_len, IfOk, OnOk};
-ghost use Rattle.map_definitions.specs.Classes.{same_class};
+ghost use Rattle.label_classes.specs.Classes.{same_class};
 ghost use Rattle.map_definitions.specs.Maps.{HasDart, component_count};
-ghost use Rattle.map_definitions.proofs.Classes.{Together};
-ghost use Rattle.map_definitions.proofs.Marks.{IsCounting};
+ghost use Rattle.label_classes.proofs.Classes.{Together};
+ghost use Rattle.label_classes.proofs.Marks.{IsCounting};
 ghost use Rattle.half_edges.specs.Map.{IsHalfMap};
 ghost use Rattle.euler_faces.specs.Numbers.{mark_at};
 ghost use Rattle.euler_faces.specs.Search.{parts, AllMarked, IsSearching, Pushes, unmarked_below, None_open};

@@ -1,8 +1,8 @@
 //! The faces of a map, counted by marks on its darts.
 ghost use Rattle.std.specs.Prelude.{◌≡◌, ◌≤◌, ◌<◌, ◌+◌, ◌*◌, ◌||◌, ◌^◌, ℕ, length, false, Some, IfOk, slice_index};
-ghost use Rattle.map_definitions.specs.Classes.{orbits, same_class};
+ghost use Rattle.label_classes.specs.Classes.{orbits, same_class};
 ghost use Rattle.map_definitions.specs.Maps.{edge_count, dart_count, darts_before, face_images, face_count, list_of};
-ghost use Rattle.map_definitions.proofs.Marks.{IsCounting, KeepsMarks};
+ghost use Rattle.label_classes.proofs.Marks.{IsCounting, KeepsMarks};
 ghost use Rattle.half_edges.specs.Map.{IsHalfMap, IsLive, dart_at};
 ghost use Rattle.euler_faces.specs.Numbers.{number_at, mark_at, mark_of};
 

@@ -6,7 +6,6 @@ mod components;
 mod count;
 mod face_count;
 mod face_walks;
-pub mod laws;
 mod walks;
 
 pub use count::{EulerCount, euler};

@@ -1,7 +1,7 @@
 -- The lists of edited maps, as they were worked out by hand.
 use Rattle.std.proofs.Common.{◌≡◌, true, false, [], ◌∷◌, Some, refl}
-use Rattle.map_definitions.specs.Maps.{Lists}
-use Rattle.map_definitions.specs.Laws.{without_edge}
+use Rattle.map_lists.specs.Lists.{Lists}
+use Rattle.map_definitions.specs.Edges.{without_edge}
 use Rattle.half_edges.specs.Map.{Map}
 use Rattle.half_edges.specs.Edges.{with_edge}
 use Rattle.half_edges.specs.Induced.{induced_lists}

@@ -1,17 +1,17 @@
 -- What a map is once an edge of its arena has come or gone.
 use Rattle.std.proofs.Common.{ℕ, ◌+◌, ◌-◌, ◌*◌, ◌<◌, ◌≤◌, ◌≡◌, List, ◌++◌, length, take, drop, unwrap_or, Some, sym, ap, ◌∙◌, subst, arith}
 use Rattle.std.proofs.lemmas.List.{take_at}
-use Rattle.map_definitions.specs.Maps.{Lists, Dart, HasDart, edge_count}
-use Rattle.map_definitions.specs.Laws.{without_edge}
+use Rattle.map_lists.specs.Lists.{Lists}
+use Rattle.map_definitions.specs.Maps.{Dart, HasDart, edge_count}
+use Rattle.map_definitions.specs.Edges.{without_edge}
 use Rattle.map_definitions.proofs.WithoutEdge.{edge_count-without}
-use Rattle.map_definitions.proofs.DartCounts.{dart_count-edge_count}
+use Rattle.map_definitions.proofs.DartCounts.{dart_count-edge_count, few_darts-simple}
 use Rattle.half_edges.specs.Map.{Map, dart_at, IsLive}
 use Rattle.half_edges.specs.Arena.{tail_of, head_of, dart_in, arena_lists, arena_map, IsArena, IsWired}
 use Rattle.half_edges.specs.Edges.{live_dart}
 use Rattle.half_edges.specs.declared.arena.DartRecord.{DartRecord}
 use Rattle.half_edges.specs.declared.arena.VertexRecord.{VertexRecord}
 use Rattle.half_edges.proofs.ArenaLemmas.{arena_lists_are, dart_at-arena, dart_at-in, dart_here, same_lists, live_here, dart_in-live}
-use Rattle.half_edges.proofs.MapLemmas.{few_darts-simple}
 
 -- what was lent whole comes back whole
 pub lent : {A : Type 0} (new old : List A) (n : ℕ) → length new ≡ n → take n (new ++ drop (length new) old) ≡ new

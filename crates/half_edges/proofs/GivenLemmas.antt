@@ -4,7 +4,8 @@ use Rattle.std.specs.List.{insert}
 use Rattle.std.proofs.lemmas.List.{get_or-set_other, length-set}
 use Rattle.std.proofs.lemmas.Bool.{cases_eq, true≢false, cases_Bool}
 use Rattle.std.proofs.lemmas.Option.{none-some}
-use Rattle.map_definitions.specs.Maps.{Lists, Dart, list_of, HasDart, IsSimpleMap, follows, place_of}
+use Rattle.map_lists.specs.Lists.{Lists}
+use Rattle.map_definitions.specs.Maps.{Dart, list_of, HasDart, IsSimpleMap, follows, place_of, edge_count}
 use Rattle.half_edges.specs.Map.{IsLive}
 use Rattle.half_edges.specs.Arena.{twin_of, next_of, prev_of, tail_of, live_of, head_of, dart_in, arena_lists, arena_map, IsLinked, IsPaired, AreFree, IsArena, IsWired}
 use Rattle.half_edges.specs.Links.{IsSpliced}
@@ -19,7 +20,6 @@ use Rattle.half_edges.proofs.LinkLemmas.{IsSimpleMap-linked}
 use Rattle.half_edges.proofs.PutLemmas.{gained, gained-here, gained-other, grown_list, CornerAt, more_by, put_within}
 use Rattle.half_edges.proofs.TableArena.{few_entries}
 use Rattle.half_edges.proofs.EdgeLemmas.{IsArena-from_wired}
-use Rattle.map_definitions.specs.Maps.{edge_count}
 use Rattle.map_definitions.proofs.DartCounts.{dart_count-edge_count}
 use Rattle.map_definitions.proofs.DartLemmas.{place_of-lt-length}
 use Rattle.std.proofs.lemmas.List.Edits.{length-insert}

@@ -3,15 +3,16 @@ use Rattle.std.proofs.Common.{ℕ, zero, suc, ◌+◌, ◌<◌, ◌≤◌, ◌�
 use Rattle.std.specs.List.{filter}
 use Rattle.std.proofs.lemmas.List.{length-map, get_or-map, map-append, append-nil}
 use Rattle.std.proofs.lemmas.Bool.{cases_order, cases_Bool, true≢false}
-use Rattle.map_definitions.specs.Maps.{Lists, list_of, HasDart, IsSimpleMap}
-use Rattle.map_definitions.proofs.FaultLemmas.{Contains-here, Contains-there, Contains-cons_cases, AllPairs-tail}
+use Rattle.map_lists.specs.Lists.{Lists}
+use Rattle.map_definitions.specs.Maps.{list_of, HasDart, IsSimpleMap}
+use Rattle.map_definitions.proofs.EntryLemmas.{Contains-here, Contains-there, Contains-cons_cases, AllPairs-tail}
 use Rattle.std.proofs.lemmas.Option.{none-some}
 use Rattle.map_definitions.proofs.DartLemmas.{HasDart-at}
-use Rattle.map_definitions.specs.Faults.{first_fault, out_of_range, loop_at, repeated, one_sided}
-use Rattle.map_definitions.proofs.FaultLemmas.{first_fault-IsSimpleMap}
-use Rattle.half_edges.specs.MapFault.{Names}
-use Rattle.half_edges.specs.declared.half_map.MapFault.{MapFault}
-use Rattle.half_edges.specs.declared.half_map.MapFault.TheVariants.{OutOfRange, Loop, Repeated, OneSided, NoMemory}
+use Rattle.simple_maps.specs.Faults.{first_fault, out_of_range, loop_at, repeated, one_sided}
+use Rattle.simple_maps.proofs.FaultLemmas.{first_fault-IsSimpleMap}
+use Rattle.simple_maps.specs.MapFault.{Names}
+use Rattle.simple_maps.specs.declared.fault.MapFault.{MapFault}
+use Rattle.simple_maps.specs.declared.fault.MapFault.TheVariants.{OutOfRange, Loop, Repeated, OneSided, NoMemory}
 use Rattle.half_edges.specs.Induced.{kept_before, is_kept, induced_list, kept_lists, induced_lists}
 
 -- one vertex more

@@ -5,7 +5,7 @@ use Rattle.std.proofs.lemmas.Bool.{cases_lt, cases_order}
 use Rattle.std.proofs.lemmas.List.{length-append, append_assoc, length-take-le, take_at, drop_at, take-append-drop, get_or_default}
 use Rattle.std.proofs.lemmas.List.Edits.{length-insert, get_or-insert_below, get_or-insert_at, get_or-insert_above}
 use Rattle.map_definitions.specs.Maps.{place_of, entry_after}
-use Rattle.map_definitions.specs.Laws.{without_entry}
+use Rattle.map_definitions.specs.Edges.{without_entry}
 use Rattle.map_definitions.proofs.DartLemmas.{place_of-lt-length, get_or-place_of, place_of-get_or, entry_after-injective}
 use Rattle.map_definitions.proofs.WithoutEntry.{entry_after-without, entry_after-without_skip}
 use Rattle.half_edges.proofs.ArenaLemmas.{entry_after-next}

@@ -4,8 +4,9 @@ use Rattle.std.proofs.lemmas.List.{length-set, get_or-set_same, get_or-set_other
 use Rattle.std.proofs.lemmas.List.Edits.{get_or-remove_below, get_or-remove_above}
 use Rattle.std.proofs.lemmas.Option.{none-some}
 use Rattle.std.proofs.lemmas.Bool.{cases_lt, cases_eq}
-use Rattle.map_definitions.specs.Maps.{Lists, Dart, list_of, HasDart, follows, entry_after, place_of}
-use Rattle.map_definitions.specs.Laws.{without_entry}
+use Rattle.map_lists.specs.Lists.{Lists}
+use Rattle.map_definitions.specs.Maps.{Dart, list_of, HasDart, follows, entry_after, place_of}
+use Rattle.map_definitions.specs.Edges.{without_entry}
 use Rattle.map_definitions.proofs.DartLemmas.{place_of-lt-length, get_or-place_of, place_of-get_or}
 use Rattle.map_definitions.proofs.WithoutEntry.{length-without, without-old, without-new, without-distinct, entry_after-without, entry_after-without_skip}
 use Rattle.half_edges.specs.Arena.{vertex_at, next_of, prev_of, IsLinked}

@@ -1,11 +1,7 @@
 -- The lemmas on which several of the crate's functions rest.
 pub mod ArenaLemmas
 mod Cases
-pub mod CutLemmas
-pub mod MarkLemmas
 pub mod TableArena
-pub mod TableLemmas
-pub mod TwinLemmas
 pub mod InsertLemmas
 pub mod LinkLemmas
 pub mod WriteLemmas

@@ -3,7 +3,8 @@ use Rattle.std.proofs.Common.{ℕ, ◌<◌, ◌≡◌, ◌≢◌, List, [], leng
 use Rattle.std.proofs.lemmas.List.{length-set, get_or-set_same, get_or-set_other}
 use Rattle.std.proofs.lemmas.Option.{none-some, some_pair_parts}
 use Rattle.std.proofs.lemmas.Bool.{cases_eq}
-use Rattle.map_definitions.specs.Maps.{Lists, Dart, list_of, HasDart, IsSimpleMap, follows, entry_after}
+use Rattle.map_lists.specs.Lists.{Lists}
+use Rattle.map_definitions.specs.Maps.{Dart, list_of, HasDart, IsSimpleMap, follows, entry_after}
 use Rattle.half_edges.specs.Arena.{vertex_at, next_of, prev_of, dart_in, twin_of, tail_of, IsLinked, IsPaired}
 use Rattle.half_edges.specs.Links.{IsSpliced, IsVertexSet}
 use Rattle.half_edges.specs.declared.arena.DartRecord.{DartRecord}

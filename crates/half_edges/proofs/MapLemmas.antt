@@ -1,25 +1,17 @@
 -- What the tables of a map say of its darts and their ids.
-use Rattle.std.proofs.Common.{ℕ, zero, suc, ◌+◌, ◌-◌, ◌*◌, ◌/◌, ◌<◌, ◌≤◌, ◌≡◌, ◌≢◌, cond, eqb, ltb, List, [], ◌∷◌, length, get_or, slice_get, AllPairs, Option, Some, is_some, option_map, refl, sym, ap, ◌∙◌, subst, inl, inr, arith}
+use Rattle.std.proofs.Common.{ℕ, zero, suc, ◌+◌, ◌-◌, ◌/◌, ◌<◌, ◌≤◌, ◌≡◌, cond, eqb, ltb, List, [], ◌∷◌, length, get_or, slice_get, Option, Some, is_some, option_map, refl, sym, ap, ◌∙◌, subst, inl, inr, arith}
 use Rattle.std.proofs.lemmas.List.{length-map}
 use Rattle.std.proofs.lemmas.Option.{slice_get-get_or, slice_get_within, slice_get_past, get_or_from_slice_get}
 use Rattle.std.proofs.lemmas.Bool.Decides.{nat_tests}
 use Rattle.std.proofs.lemmas.Bool.{cases_lt, true≢false}
-use Rattle.std.proofs.lemmas.Nat.{mul-le}
-use Rattle.map_definitions.specs.Maps.{Lists, Dart, list_of, HasDart, IsSimpleMap, darts, darts_before, dart_count, dart_number, edge_count, place_of, follows, entry_after}
+use Rattle.map_lists.specs.Lists.{Lists}
+use Rattle.map_definitions.specs.Maps.{Dart, list_of, HasDart, darts, darts_before, dart_count, dart_number, edge_count, place_of, follows, entry_after, twin_dart}
 use Rattle.map_definitions.proofs.DartLemmas.{length-darts, IsDartNumber-darts, dart_at_place, place_after, place_before, place_after-before, place_before-lt, place_after-lt, darts_before_end, place_of-get_or, place_of-lt-length, entry_after-place, get_or-place_of, darts_before_more}
-use Rattle.map_definitions.proofs.DartCounts.{dart_count-le, dart_count-edge_count}
-use Rattle.half_edges.specs.Map.{Map, dart_at, IsLive, IsHalfMap, twin_dart, next_dart}
-use Rattle.half_edges.specs.Tables.{AreTables, map_of}
-use Rattle.half_edges.proofs.TwinLemmas.{HasDart-from_slice_get, slice_get-dart_number}
-
--- fewer than 4096 vertices have fewer than 2 ^ 24 darts
-pub few_darts : (lists : Lists) → length lists < 4096 → ((v u : ℕ) → HasDart lists v u → u < length lists) → ((v : ℕ) → v < length lists → AllPairs ◌≢◌ (list_of lists v)) → dart_count lists < 16777216
-few_darts lists few within distinct =
-    let square : length lists * length lists ≤ 4095 * 4095 = mul-le (length lists) (length lists) 4095 4095 (omega arith) (omega arith) in
-    omega (arith, dart_count-le lists within distinct, square)
-
-pub few_darts-simple : (lists : Lists) → length lists < 4096 → IsSimpleMap lists → dart_count lists < 16777216
-few_darts-simple lists few simple = few_darts lists few simple.in_range simple.no_repeat
+use Rattle.map_definitions.proofs.DartCounts.{dart_count-edge_count, few_darts-simple}
+use Rattle.half_edges.specs.Map.{Map, dart_at, IsLive, IsHalfMap, next_dart}
+use Rattle.simple_maps.specs.Tables.{AreTables}
+use Rattle.half_edges.specs.Tables.{map_of}
+use Rattle.simple_maps.proofs.TwinLemmas.{HasDart-from_slice_get, slice_get-dart_number}
 
 -- the dart of an id is that of its number
 pub dart_at-map_of : (lists : Lists) (ends : List Dart) (d : ℕ) → dart_at (map_of lists ends) d ≡ slice_get ends d
@@ -40,6 +32,10 @@ module _ (lists : Lists) (starts : List ℕ) (ends : List Dart) (twins : List �
 
   pub few_ends : length ends < 16777216
   few_ends = omega (arith, length-ends, few_darts-simple lists t.few_vertices t.simple)
+
+  -- there are half as many edges
+  pub half_of_ends : length ends / 2 ≡ edge_count lists
+  half_of_ends = ap (λ n. n / 2) length-ends
 
   number_of : (d v u : ℕ) → slice_get ends d ≡ Some (v, u) → d ≡ dart_number lists (v, u)
   number_of d v u found =
@@ -65,9 +61,6 @@ module _ (lists : Lists) (starts : List ℕ) (ends : List Dart) (twins : List �
 
   pub known : IsHalfMap map
   known = subst (λ m. IsHalfMap m) view (IsHalfMap-map_of lists starts ends twins t)
-
-  pub edge_count-ends : length ends / 2 ≡ edge_count map.lists
-  edge_count-ends = ap (λ n. n / 2) (length-ends lists starts ends twins t) ∙ ap (λ (ls : Lists). edge_count ls) (sym same_lists)
 
   pub dart_at-slice_get : (d : ℕ) → dart_at map d ≡ slice_get ends d
   dart_at-slice_get d = ap (λ m. dart_at m d) (sym view) ∙ dart_at-map_of lists ends d

@@ -3,9 +3,10 @@ use Rattle.std.proofs.Common.{ℕ, ◌+◌, ◌<◌, ◌≡◌, ◌≢◌, cond,
 use Rattle.std.specs.List.{insert}
 use Rattle.std.proofs.lemmas.Bool.{cond-true, cond-false, eq-eqb, ne_eqb}
 use Rattle.std.proofs.lemmas.Option.{none-some}
-use Rattle.map_definitions.specs.Maps.{Lists, Dart, list_of, HasDart, follows, entry_after, place_of}
+use Rattle.map_lists.specs.Lists.{Lists}
+use Rattle.map_definitions.specs.Maps.{Dart, list_of, HasDart, follows, entry_after, place_of}
 use Rattle.map_definitions.proofs.DartLemmas.{Contains-entry_after}
-use Rattle.map_definitions.proofs.FaultLemmas.{Contains-here}
+use Rattle.map_definitions.proofs.EntryLemmas.{Contains-here}
 use Rattle.half_edges.specs.Arena.{vertex_at, next_of, prev_of, tail_of, IsLinked}
 use Rattle.half_edges.specs.Links.{IsSpliced, IsVertexSet}
 use Rattle.half_edges.specs.Edges.{IsPut, IsPutWithin}

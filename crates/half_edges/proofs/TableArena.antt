@@ -4,17 +4,19 @@ use Rattle.std.proofs.lemmas.List.{get_or_past}
 use Rattle.std.proofs.lemmas.Option.{slice_get-get_or, slice_get_within, slice_get_past, get_or_from_slice_get}
 use Rattle.std.proofs.lemmas.Bool.{cases_lt}
 use Rattle.std.proofs.lemmas.Bool.Decides.{nat_tests}
-use Rattle.map_definitions.specs.Maps.{Lists, Dart, list_of, IsSimpleMap, dart_count, edge_count, follows}
+use Rattle.map_lists.specs.Lists.{Lists}
+use Rattle.map_definitions.specs.Maps.{Dart, list_of, IsSimpleMap, dart_count, edge_count, follows, twin_dart}
 use Rattle.map_definitions.proofs.DartLemmas.{length-darts}
-use Rattle.map_definitions.proofs.DartCounts.{dart_count-edge_count, length-le-below}
-use Rattle.half_edges.specs.Map.{twin_dart, next_dart}
-use Rattle.half_edges.specs.Tables.{AreTables, map_of, table_record, AreTableRecords, AreTableVertices}
+use Rattle.map_definitions.proofs.DartCounts.{dart_count-edge_count, length-le-below, few_darts-simple}
+use Rattle.half_edges.specs.Map.{next_dart}
+use Rattle.simple_maps.specs.Tables.{AreTables}
+use Rattle.half_edges.specs.Tables.{map_of, table_record, AreTableRecords, AreTableVertices}
 use Rattle.half_edges.specs.Arena.{no_record, record_at, vertex_at, twin_of, next_of, prev_of, tail_of, live_of, head_of, dart_of_record, dart_in, arena_lists, IsLinked, IsPaired, IsArena}
 use Rattle.half_edges.specs.declared.arena.DartRecord.{DartRecord}
 use Rattle.half_edges.specs.declared.arena.VertexRecord.{VertexRecord}
-use Rattle.half_edges.proofs.TwinLemmas.{HasDart-from_slice_get, slice_get-dart_number}
+use Rattle.simple_maps.proofs.TwinLemmas.{HasDart-from_slice_get, slice_get-dart_number}
 use Rattle.half_edges.proofs.ArenaLemmas.{IsLinked-same, arena_lists_are}
-use Rattle.half_edges.proofs.MapLemmas.{few_ends, few_darts-simple, dart_at-map_of, IsHalfMap-map_of, tail_in, from_start, below_end, next_at, first_at}
+use Rattle.half_edges.proofs.MapLemmas.{few_ends, dart_at-map_of, IsHalfMap-map_of, tail_in, from_start, below_end, next_at, first_at}
 
 -- a vertex's list is short
 pub few_entries : (lists : Lists) (v : ℕ) → IsSimpleMap lists → length lists < 4096 → v < length lists → length (list_of lists v) < 4096

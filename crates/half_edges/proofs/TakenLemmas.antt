@@ -3,8 +3,9 @@ use Rattle.std.proofs.Common.{ℕ, suc, ◌+◌, ◌-◌, ◌<◌, ◌≡◌, �
 use Rattle.std.proofs.lemmas.List.{get_or-set_other}
 use Rattle.std.proofs.lemmas.Bool.{cases_eq, cond-true, cond-false, eq-eqb, ne_eqb, true≢false}
 use Rattle.std.proofs.lemmas.Option.{none-some, some_pair_parts}
-use Rattle.map_definitions.specs.Maps.{Lists, Dart, list_of, HasDart}
-use Rattle.map_definitions.specs.Laws.{without_entry, without_edge}
+use Rattle.map_lists.specs.Lists.{Lists}
+use Rattle.map_definitions.specs.Maps.{Dart, list_of, HasDart}
+use Rattle.map_definitions.specs.Edges.{without_entry, without_edge}
 use Rattle.map_definitions.proofs.WithoutEdge.{IsSimpleMap-without_edge, length-without_edge, dart_old}
 use Rattle.map_definitions.proofs.WithoutEntry.{length-without}
 use Rattle.half_edges.specs.Arena.{vertex_at, record_at, twin_of, next_of, prev_of, tail_of, live_of, head_of, dart_in, IsLinked, IsPaired, AreFree, IsWired}

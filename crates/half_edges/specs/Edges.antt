@@ -1,7 +1,8 @@
 -- A map with an edge more, and the writes to an arena by which darts come and go.
 use Rattle.std.specs.Prelude.{ℕ, ◌+◌, ◌-◌, ◌<◌, ◌≡◌, ◌≢◌, ◌==◌, if◌then◌else◌, List, [], ◌∷◌, length, slice_set, unwrap_or}
 use Rattle.std.specs.List.{insert}
-use Rattle.map_definitions.specs.Maps.{Lists, Dart, list_of, place_of}
+use Rattle.map_lists.specs.Lists.{Lists}
+use Rattle.map_definitions.specs.Maps.{Dart, list_of, place_of}
 use Rattle.half_edges.specs.Map.{Map, dart_at, IsLive}
 use Rattle.half_edges.specs.Arena.{vertex_at, next_of, tail_of}
 use Rattle.half_edges.specs.Links.{IsSpliced, IsUnspliced, IsVertexSet}

@@ -1,7 +1,7 @@
 -- The part of a map between some of its vertices: these are numbered anew in rising order, and each list is restricted to them.
 use Rattle.std.specs.Prelude.{ℕ, zero, suc, ◌+◌, Bool, false, if◌then◌else◌, List, [], ◌∷◌, map, slice_index_or}
 use Rattle.std.specs.List.{filter}
-use Rattle.map_definitions.specs.Maps.{Lists}
+use Rattle.map_lists.specs.Lists.{Lists}
 
 -- how many vertices before v are kept: the new number of v, if it is kept
 abbrev pub kept_before : List Bool → ℕ → ℕ

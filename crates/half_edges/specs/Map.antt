@@ -1,6 +1,7 @@
 -- What contracts see of a half-edge map: its rotation lists, the room for more edges, and which id is which dart.
 use Rattle.std.specs.Prelude.{ℕ, ◌+◌, ◌*◌, ◌<◌, ◌≤◌, ◌≡◌, List, length, slice_index_or, Option, Some, None, IsSome}
-use Rattle.map_definitions.specs.Maps.{Lists, Dart, IsSimpleMap, HasDart, follows, edge_count}
+use Rattle.map_lists.specs.Lists.{Lists}
+use Rattle.map_definitions.specs.Maps.{Dart, IsSimpleMap, HasDart, follows, edge_count}
 
 pub record Map : Type 0 where
   -- for each vertex its neighbours, clockwise
@@ -16,10 +17,6 @@ dart_at map d = slice_index_or map.ids d None
 
 abbrev pub IsLive : Map → ℕ → Type 0
 IsLive map d = IsSome (dart_at map d)
-
--- the same edge in the other direction
-abbrev pub twin_dart : Dart → Dart
-twin_dart d = (d.1, d.0)
 
 -- the clockwise next dart from the same vertex
 abbrev pub next_dart : Lists → Dart → Dart

@@ -3,7 +3,8 @@ ghost use Rattle.std.specs.Prelude.{◌≡◌, ◌+◌, ◌-◌, ◌<◌, ◌≤
 ghost use Rattle.map_definitions.specs.Maps.{IsSimpleMap};
 ghost use Rattle.half_edges.specs.Arena.{IsWalkable, steps, head_of, walk, next_of, prev_of};
 ghost use Rattle.half_edges.specs.Links.{IsSpliced, IsUnspliced, IsThreaded};
-ghost use Rattle.half_edges.specs.Tables.{StartsTo, AreTables, table_record, AreTableRecords, AreTableVertices};
+ghost use Rattle.simple_maps.specs.Tables.{StartsTo, AreTables};
+ghost use Rattle.half_edges.specs.Tables.{table_record, AreTableRecords, AreTableVertices};
 
 use crate::Rotations;
 use std::alloc::{AllocError, Global};

@@ -1,45 +1,15 @@
 //! Half-edge maps.
 ghost use Rattle.std.specs.Prelude.{◌≡◌, ◌+◌, ◌-◌, ◌<◌, ◌≤◌, ◌==◌, nat_lt, if◌then◌else◌, ◌↔◌, ℕ, List, [], length, slice_index, Some, None, IsTrue, IfOk, IfErr, IfSome, MatchOption, option_map};
-ghost use Rattle.map_definitions.specs.Maps.{HasDart, list_of, vertex_count, edge_count, face_step};
-ghost use Rattle.map_definitions.specs.Faults.{first_fault};
-ghost use Rattle.half_edges.specs.Map.{IsHalfMap, IsLive, dart_at, twin_dart, next_dart};
-ghost use Rattle.half_edges.specs.MapFault.{Names};
+ghost use Rattle.map_definitions.specs.Maps.{HasDart, list_of, vertex_count, edge_count, face_step, twin_dart};
+ghost use Rattle.simple_maps.specs.Faults.{first_fault};
+ghost use Rattle.half_edges.specs.Map.{IsHalfMap, IsLive, dart_at, next_dart};
+ghost use Rattle.simple_maps.specs.MapFault.{Names};
 
 use crate::arena::{DartRecord, VertexRecord, dart_to, records_of, vertices_of, walked};
-use crate::faults::{first_loop, first_out_of_range, first_repeated};
-use crate::tables::{darts_of, starts_of};
-use crate::twins::twins_of;
-use crate::{DartId, Rotations, VertexId};
+use map_lists::{DartId, Rotations, VertexId};
+use simple_maps::{MapFault, tables_of};
 use std::alloc::{AllocError, Global};
 use std::marker::Model;
-
-/// Why lists are no simple map, with vertices numbered from 0, or want of memory.
-///
-/// The first kind that applies is named, and of it the least first and then the least second vertex.
-#[derive(Clone, Copy, Debug, PartialEq, Eq)]
-pub enum MapFault {
-    /// The first vertex's list holds the second number, which is no vertex.
-    OutOfRange(u16, u16),
-    /// The vertex's list holds itself.
-    Loop(u16),
-    /// The first vertex's list holds the second at least twice.
-    Repeated(u16, u16),
-    /// The first vertex's list holds the second, whose list does not hold the first.
-    OneSided(u16, u16),
-    /// There was not enough memory.
-    NoMemory,
-}
-
-impl From<AllocError> for MapFault {
-    ghost use Rattle.std.specs.Prelude.{◌≡◌};
-    ghost use Rattle.half_edges.specs.declared.half_map.MapFault.TheVariants.{NoMemory};
-
-    ghost from_gives = { λ _ fault. fault ≡ NoMemory };
-
-    fn from(_refused: AllocError) -> MapFault {
-        MapFault::NoMemory
-    }
-}
 
 /// A simple map as half-edges.
 ///
@@ -82,25 +52,13 @@ impl HalfMap {
         ensures fault { IfErr result (Names (first_fault lists.now)) }
         ensures known { IfOk result IsHalfMap }
     {
-        if let Some((v, u)) = first_out_of_range(lists) {
-            return Err(MapFault::OutOfRange(v, u));
-        }
-        if let Some(v) = first_loop(lists) {
-            return Err(MapFault::Loop(v));
-        }
-        if let Some((v, u)) = first_repeated(alloc, lists)? {
-            return Err(MapFault::Repeated(v, u));
-        }
-        let starts = starts_of(alloc, lists)?;
-        let count = starts[lists.len()];
-        let ends = darts_of(alloc, lists, count as usize)?;
-        let twins = twins_of(alloc, lists, &starts, &ends)?;
-        let darts = records_of(alloc, lists, &starts, &ends, &twins)?;
-        let vertices = vertices_of(alloc, lists, &starts)?;
+        let tables = tables_of(alloc, lists)?;
+        let darts = records_of(alloc, lists, &tables.starts, &tables.ends, &tables.twins)?;
+        let vertices = vertices_of(alloc, lists, &tables.starts)?;
         Ok(HalfMap {
             darts,
             vertices,
-            edges: count / 2,
+            edges: (tables.ends.len() / 2) as u32,
             free: 0,
             spare: 0,
         })

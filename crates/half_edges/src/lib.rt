@@ -7,20 +7,15 @@
 
 mod arena;
 mod edges;
-mod faults;
 mod half_map;
-mod ids;
-mod lists;
 mod parts;
-mod rotations;
-mod tables;
-mod twins;
 
 pub use edges::Corner;
-pub use half_map::{HalfMap, MapFault};
-pub use ids::{DartId, FaceId, VertexId};
-pub use lists::{Counts, EdgeList, Ends, PathList, VertexList};
-pub use rotations::Rotations;
+pub use half_map::HalfMap;
+pub use map_lists::{
+    Counts, DartId, EdgeList, Ends, FaceId, PathList, Rotations, VertexId, VertexList,
+};
+pub use simple_maps::MapFault;
 
 #[cfg(test)]
 mod tests;

@@ -1,10 +1,8 @@
 -- The definitions, run on worked cases. Each is a computation: the two sides come to the same value.
-use Rattle.std.specs.Prelude.{ℕ, ◌-◌, ◌≡◌, List, [], ◌∷◌, ◌++◌, map, codes, refl}
-use Rattle.map_definitions.specs.Classes.{merge}
-use Rattle.std.specs.Fmt.{digits}
-use Rattle.map_definitions.specs.Faults.{first_fault}
-use Rattle.map_definitions.specs.Text.{count_block, counts_line, refused_line, end_line}
-use Rattle.map_definitions.specs.Maps.{Lists, entry_after, vertex_count, edge_count, face_count, component_count, genus}
+use Rattle.std.specs.Prelude.{ℕ, ◌-◌, ◌≡◌, List, [], ◌∷◌, map, refl}
+use Rattle.label_classes.specs.Classes.{merge}
+use Rattle.map_lists.specs.Lists.{Lists}
+use Rattle.map_definitions.specs.Maps.{entry_after, vertex_count, edge_count, face_count, component_count, genus}
 
 -- lists with vertices numbered from 1, as they are printed
 abbrev from_one : Lists → Lists
@@ -67,29 +65,3 @@ icosahedron = refl
 cube : counts ((2 ∷ 4 ∷ 5 ∷ []) ∷ (3 ∷ 1 ∷ 6 ∷ []) ∷ (4 ∷ 2 ∷ 7 ∷ []) ∷ (1 ∷ 3 ∷ 8 ∷ []) ∷ (6 ∷ 1 ∷ 8 ∷ []) ∷ (7 ∷ 2 ∷ 5 ∷ []) ∷ (8 ∷ 3 ∷ 6 ∷ []) ∷ (5 ∷ 4 ∷ 7 ∷ []) ∷ []) ≡ 8 ∷ 12 ∷ 6 ∷ 1 ∷ 0 ∷ []
 unfolding entry_after merge face_count component_count
 cube = refl
-
--- the blocks of `count` for lists whose vertices are numbered from 1
-
-octahedron_block : count_block 1 (from_one ((2 ∷ 3 ∷ 4 ∷ 5 ∷ []) ∷ (1 ∷ 5 ∷ 6 ∷ 3 ∷ []) ∷ (1 ∷ 2 ∷ 6 ∷ 4 ∷ []) ∷ (1 ∷ 3 ∷ 6 ∷ 5 ∷ []) ∷ (1 ∷ 4 ∷ 6 ∷ 2 ∷ []) ∷ (2 ∷ 5 ∷ 4 ∷ 3 ∷ []) ∷ [])) ≡ codes "count 1 n 6 m 12 f 8 c 1 genus 0" ++ 10 ∷ []
-unfolding entry_after merge face_count component_count first_fault counts_line digits
-octahedron_block = refl
-
-one_sided_block : count_block 1 (from_one ((2 ∷ []) ∷ [] ∷ [])) ≡ codes "refused 1 4 OneSided 1 2" ++ 10 ∷ []
-unfolding first_fault refused_line digits
-one_sided_block = refl
-
-loop_block : count_block 1 (from_one ((1 ∷ 2 ∷ 2 ∷ []) ∷ (1 ∷ []) ∷ [])) ≡ codes "refused 1 2 Loop 1" ++ 10 ∷ []
-unfolding first_fault refused_line digits
-loop_block = refl
-
-repeated_block : count_block 1 (from_one ((2 ∷ 2 ∷ []) ∷ (1 ∷ []) ∷ [])) ≡ codes "refused 1 3 Repeated 1 2" ++ 10 ∷ []
-unfolding first_fault refused_line digits
-repeated_block = refl
-
-out_of_range_block : count_block 1 (from_one ((3 ∷ []) ∷ (2 ∷ []) ∷ [])) ≡ codes "refused 1 1 OutOfRange 1 3" ++ 10 ∷ []
-unfolding first_fault refused_line digits
-out_of_range_block = refl
-
-last_line_of_three : end_line 3 0 ≡ codes "end records 3 refused 0" ++ 10 ∷ []
-unfolding end_line digits
-last_line_of_three = refl

@@ -2,9 +2,11 @@
 use Rattle.std.proofs.Common.{ℕ, zero, suc, ◌+◌, ◌*◌, ◌<◌, ◌≤◌, ◌≡◌, ◌≢◌, cond, eqb, List, [], ◌∷◌, length, AllPairs, Contains, refl, sym, ap₂, ◌∙◌, inl, inr, arith, eq-eqb, ne_eqb}
 use Rattle.std.proofs.lemmas.List.Sums.{sum_by-cons, sum_by-le}
 use Rattle.std.proofs.lemmas.List.Elements.{All-from_get_or}
+use Rattle.std.proofs.lemmas.Nat.{mul-le}
 use Rattle.std.proofs.lemmas.Bool.{cases_lt, cases_eq, cond-true, cond-false}
-use Rattle.map_definitions.specs.Maps.{Lists, list_of, HasDart, IsSimpleMap, dart_count, edge_count}
-use Rattle.map_definitions.proofs.FaultLemmas.{count_of, count_of-cons, count_of-le-one, one-le-count_of, Contains-from_count_of, Contains-there, Contains-here}
+use Rattle.map_lists.specs.Lists.{Lists}
+use Rattle.map_definitions.specs.Maps.{list_of, HasDart, IsSimpleMap, dart_count, edge_count}
+use Rattle.map_definitions.proofs.EntryLemmas.{count_of, count_of-cons, count_of-le-one, one-le-count_of, Contains-from_count_of, Contains-there, Contains-here}
 
 -- f 0 and so on up to f (n - 1)
 abbrev pub sum_below : (ℕ → ℕ) → ℕ → ℕ
@@ -110,3 +112,12 @@ module _ (lists : Lists) (simple : IsSimpleMap lists) where
 
   pub dart_count-edge_count : dart_count lists ≡ 2 * edge_count lists
   dart_count-edge_count = let e = dart_count-even in omega (arith, e.1)
+
+-- fewer than 4096 vertices have fewer than 2 ^ 24 darts
+pub few_darts : (lists : Lists) → length lists < 4096 → ((v u : ℕ) → HasDart lists v u → u < length lists) → ((v : ℕ) → v < length lists → AllPairs ◌≢◌ (list_of lists v)) → dart_count lists < 16777216
+few_darts lists few within distinct =
+    let square : length lists * length lists ≤ 4095 * 4095 = mul-le (length lists) (length lists) 4095 4095 (omega arith) (omega arith) in
+    omega (arith, dart_count-le lists within distinct, square)
+
+pub few_darts-simple : (lists : Lists) → length lists < 4096 → IsSimpleMap lists → dart_count lists < 16777216
+few_darts-simple lists few simple = few_darts lists few simple.in_range simple.no_repeat

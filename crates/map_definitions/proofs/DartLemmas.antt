@@ -5,8 +5,9 @@ use Rattle.std.proofs.lemmas.List.Sums.{sum_by-cons}
 use Rattle.std.proofs.lemmas.Bool.Decides.{nat_tests}
 use Rattle.std.proofs.lemmas.Bool.{cases_lt, cases_eq, cond-true, cond-false}
 use Rattle.std.proofs.lemmas.List.Elements.{Contains-get_or}
-use Rattle.map_definitions.specs.Classes.{IsPermutationOfBelow}
-use Rattle.map_definitions.specs.Maps.{Lists, Dart, list_of, HasDart, IsSimpleMap, darts_from, darts_since, darts, place_of, entry_after, follows, face_step, darts_before, dart_number, face_images, dart_count}
+use Rattle.label_classes.specs.Classes.{IsPermutationOfBelow}
+use Rattle.map_lists.specs.Lists.{Lists}
+use Rattle.map_definitions.specs.Maps.{Dart, list_of, HasDart, IsSimpleMap, darts_from, darts_since, darts, place_of, entry_after, follows, face_step, darts_before, dart_number, face_images, dart_count}
 
 -- how many darts there are
 

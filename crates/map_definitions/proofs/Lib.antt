@@ -1,14 +1,7 @@
--- The lemmas on the definitions that several crates need, and the worked cases on which the definitions were run.
-pub mod Counting
-pub mod Classes
-pub mod Orbits
-pub mod Bound
-pub mod Swap
-pub mod Walks
-pub mod Marks
+-- The lemmas on maps that several crates need, and the worked cases on which the definitions were run.
 mod Cases
+pub mod EntryLemmas
 pub mod DartLemmas
-pub mod FaultLemmas
 pub mod DartCounts
 pub mod WithoutEntry
 pub mod WithoutEdge

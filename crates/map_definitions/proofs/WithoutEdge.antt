@@ -2,8 +2,9 @@
 use Rattle.std.proofs.Common.{◌≡◌, ◌≢◌, ℕ, ◌+◌, ◌<◌, [], length, get_or, set, AllPairs, Contains, sym, ap, ◌∙◌, subst, inl, inr, arith, length-set, get_or-set_same, get_or-set_other}
 use Rattle.std.proofs.lemmas.Bool.{cases_eq}
 use Rattle.std.proofs.lemmas.List.Sums.{sum_by-set}
-use Rattle.map_definitions.specs.Maps.{Lists, list_of, HasDart, IsSimpleMap, follows, entry_after, dart_count, edge_count}
-use Rattle.map_definitions.specs.Laws.{without_entry, without_edge}
+use Rattle.map_lists.specs.Lists.{Lists}
+use Rattle.map_definitions.specs.Maps.{list_of, HasDart, IsSimpleMap, follows, entry_after, dart_count, edge_count}
+use Rattle.map_definitions.specs.Edges.{without_entry, without_edge}
 use Rattle.map_definitions.proofs.WithoutEntry.{length-without, without-old, without-new, without-distinct, entry_after-without, entry_after-without_skip}
 use Rattle.map_definitions.proofs.DartCounts.{dart_count-edge_count}
 

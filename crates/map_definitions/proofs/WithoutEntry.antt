@@ -5,7 +5,7 @@ use Rattle.std.proofs.lemmas.Bool.Decides.{nat_tests}
 use Rattle.std.proofs.lemmas.List.{get_or_default}
 use Rattle.std.proofs.lemmas.List.Edits.{length-remove, get_or-remove_below, get_or-remove_above}
 use Rattle.map_definitions.specs.Maps.{place_of, entry_after}
-use Rattle.map_definitions.specs.Laws.{without_entry}
+use Rattle.map_definitions.specs.Edges.{without_entry}
 use Rattle.map_definitions.proofs.DartLemmas.{place_of-lt-length, get_or-place_of, place_of-get_or, place_after, place_after-lt, entry_after-place}
 
 -- place j of the shorter list, in the longer one, from which place p was taken

@@ -1,8 +1,4 @@
--- The definitions that contracts cite, a module for each subject.
-pub mod Classes
+-- The definitions of maps, paths and lists without an edge.
 pub mod Maps
-pub mod Faults
-pub mod Reading
-pub mod Text
 pub mod Paths
-pub mod Laws
+pub mod Edges

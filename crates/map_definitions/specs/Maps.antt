@@ -1,14 +1,15 @@
 -- Plane maps as lists: for each vertex, its neighbours in clockwise order. Vertices are numbered from 0.
 use Rattle.std.specs.Prelude.{ℕ, zero, suc, ◌+◌, ◌-◌, ◌*◌, ◌/◌, ◌<◌, ◌≡◌, ◌≢◌, Bool, true, false, ◌&&◌, ◌==◌, if◌then◌else◌, List, [], ◌∷◌, ◌++◌, map, length, slice_index_or, AllPairs, Contains, sum_by, count_by}
-use Rattle.map_definitions.specs.Classes.{classes, class_count, orbits}
-
--- the rotation lists of a map
-abbrev pub Lists : Type 0
-Lists = List (List ℕ)
+use Rattle.map_lists.specs.Lists.{Lists}
+use Rattle.label_classes.specs.Classes.{classes, class_count, orbits}
 
 -- a dart: an edge with a direction, from the first vertex to the second
 abbrev pub Dart : Type 0
 Dart = ℕ × ℕ
+
+-- the same edge in the other direction
+abbrev pub twin_dart : Dart → Dart
+twin_dart d = (d.1, d.0)
 
 -- the neighbours of v, clockwise
 abbrev pub list_of : Lists → ℕ → List ℕ

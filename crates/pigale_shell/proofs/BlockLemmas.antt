@@ -2,8 +2,8 @@
 use Rattle.std.proofs.Common.{◌≡◌, ℕ, ◌+◌, List, [], ◌∷◌, ◌++◌, length, refl, sym, ap, ◌∙◌, arith, append_assoc, cond}
 use Rattle.std.proofs.lemmas.List.{append-nil}
 use Rattle.std.proofs.lemmas.List.Sums.{sum_by-append}
-use Rattle.map_definitions.specs.Maps.{Lists}
-use Rattle.map_definitions.specs.Text.{AreBlocks}
+use Rattle.map_lists.specs.Lists.{Lists}
+use Rattle.pigale_shell.specs.Text.{AreBlocks}
 use Rattle.pigale_shell.specs.Answer.{is_refused}
 use Rattle.pigale_shell.specs.Outcome.{refused_count}
 use Rattle.pigale_shell.specs.declared.job.Job.{Job}

@@ -3,3 +3,4 @@ mod RefusalLines
 mod BlockLemmas
 mod RunLemmas
 mod OutcomeLemmas
+mod Cases

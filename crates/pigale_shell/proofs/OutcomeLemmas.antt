@@ -1,9 +1,9 @@
 -- How a run ends, from what it has taken and written.
 use Rattle.std.proofs.Common.{◌≡◌, ℕ, ◌+◌, ◌≤◌, ◌↔◌, List, [], ◌∷◌, ◌++◌, length, refl, sym, ap, ◌∙◌, arith, Option, Some, None, inl, inr, drop, take}
 use Rattle.std.proofs.lemmas.List.{append-nil, length-append, length-take}
-use Rattle.map_definitions.specs.Maps.{Lists}
-use Rattle.map_definitions.specs.Reading.{Ending, well, end_in_record, bad_count, too_long, IsReading, input_limit}
-use Rattle.map_definitions.specs.Text.{last_line, bad_words_line}
+use Rattle.map_lists.specs.Lists.{Lists}
+use Rattle.planar_code.specs.Reading.{Ending, well, end_in_record, bad_count, too_long, IsReading, input_limit}
+use Rattle.pigale_shell.specs.Text.{last_line, bad_words_line}
 use Rattle.planar_code.specs.State.{State, at_front}
 use Rattle.planar_code.specs.Progress.{Progress}
 use Rattle.planar_code.proofs.ProgressLemmas.{Progress-start, Progress-begins, Progress-well, Progress-in_record}

@@ -1,8 +1,8 @@
 -- The line of a refusal, put together.
 use Rattle.std.proofs.Common.{◌≡◌, ℕ, List, [], ◌∷◌, ◌++◌, decimal, ap, ◌∙◌}
-use Rattle.map_definitions.specs.Text.{refused_line}
-use Rattle.half_edges.specs.declared.half_map.MapFault.{MapFault}
-use Rattle.half_edges.specs.declared.half_map.MapFault.TheVariants.{OutOfRange, Loop, Repeated, OneSided, NoMemory}
+use Rattle.pigale_shell.specs.Text.{refused_line}
+use Rattle.simple_maps.specs.declared.fault.MapFault.{MapFault}
+use Rattle.simple_maps.specs.declared.fault.MapFault.TheVariants.{OutOfRange, Loop, Repeated, OneSided, NoMemory}
 use Rattle.pigale_shell.specs.Lines.{fault_bytes, WritesFault}
 
 -- a text of the parts of the line is the line

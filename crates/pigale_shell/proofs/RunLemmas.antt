@@ -1,9 +1,9 @@
 -- What a byte does to a run, and what a run has written when it stops.
 use Rattle.std.proofs.Common.{◌≡◌, ℕ, ◌+◌, ◌≤◌, ◌<◌, Bool, true, false, not, List, [], ◌∷◌, ◌++◌, length, refl, sym, ap, ◌∙◌, arith, append_assoc, cond, Option, inl, inr, take, drop, get_or}
 use Rattle.std.proofs.lemmas.List.{length-append, take-append-drop, drop_more}
-use Rattle.map_definitions.specs.Maps.{Lists}
-use Rattle.map_definitions.specs.Reading.{Ending, well, end_in_record, bad_count, too_long, IsReading}
-use Rattle.map_definitions.specs.Text.{last_line}
+use Rattle.map_lists.specs.Lists.{Lists}
+use Rattle.planar_code.specs.Reading.{Ending, well, end_in_record, bad_count, too_long, IsReading}
+use Rattle.pigale_shell.specs.Text.{last_line}
 use Rattle.planar_code.specs.State.{State}
 use Rattle.planar_code.specs.Progress.{Progress}
 use Rattle.planar_code.proofs.ProgressLemmas.{Progress-begins}

@@ -1,7 +1,7 @@
 -- What each job answers for a record.
 use Rattle.std.specs.Prelude.{ℕ, List, Bool, ◌≡◌}
-use Rattle.map_definitions.specs.Maps.{Lists}
-use Rattle.map_definitions.specs.Text.{count_block, count_refuses}
+use Rattle.map_lists.specs.Lists.{Lists}
+use Rattle.pigale_shell.specs.Text.{count_block, count_refuses}
 use Rattle.pigale_shell.specs.declared.job.Job.{Job}
 use Rattle.pigale_shell.specs.declared.job.Job.TheVariants.{Count}
 

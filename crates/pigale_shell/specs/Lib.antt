@@ -5,3 +5,4 @@ pub mod Words
 pub mod Answer
 pub mod Outcome
 pub mod Run
+pub mod Text

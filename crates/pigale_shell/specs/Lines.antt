@@ -1,10 +1,10 @@
 -- The lines of a run, by the code's own enums.
 use Rattle.std.specs.Prelude.{ℕ, ◌≡◌, List, []}
-use Rattle.map_definitions.specs.Faults.{out_of_range, loop_at, repeated, one_sided}
-use Rattle.map_definitions.specs.Reading.{Ending as SpokenEnding, well, end_in_record, bad_count, too_long}
-use Rattle.map_definitions.specs.Text.{fault_text, refused_line}
-use Rattle.half_edges.specs.declared.half_map.MapFault.{MapFault}
-use Rattle.half_edges.specs.declared.half_map.MapFault.TheVariants.{OutOfRange, Loop, Repeated, OneSided, NoMemory}
+use Rattle.simple_maps.specs.Faults.{out_of_range, loop_at, repeated, one_sided}
+use Rattle.planar_code.specs.Reading.{Ending as SpokenEnding, well, end_in_record, bad_count, too_long}
+use Rattle.pigale_shell.specs.Text.{fault_text, refused_line}
+use Rattle.simple_maps.specs.declared.fault.MapFault.{MapFault}
+use Rattle.simple_maps.specs.declared.fault.MapFault.TheVariants.{OutOfRange, Loop, Repeated, OneSided, NoMemory}
 use Rattle.pigale_shell.specs.declared.lines.Ending.{Ending}
 use Rattle.pigale_shell.specs.declared.lines.Ending.TheVariants.{Well, EndInRecord, BadCount, TooLong}
 

@@ -1,8 +1,8 @@
 -- What was taken and written when a run ended with a status.
 use Rattle.std.specs.Prelude.{ℕ, ◌<◌, ◌≤◌, ◌≡◌, ◌⊎◌, List, [], ◌++◌, length, count_by, Option, Some, None}
-use Rattle.map_definitions.specs.Maps.{Lists}
-use Rattle.map_definitions.specs.Reading.{Ending, well, end_in_record, bad_count, too_long, IsReading, BeginsWith}
-use Rattle.map_definitions.specs.Text.{AreBlocks, last_line, bad_words_line}
+use Rattle.map_lists.specs.Lists.{Lists}
+use Rattle.planar_code.specs.Reading.{Ending, well, end_in_record, bad_count, too_long, IsReading, BeginsWith}
+use Rattle.pigale_shell.specs.Text.{AreBlocks, last_line, bad_words_line}
 use Rattle.pg_io.specs.Io.{WhereTold, Takes, Grows, GrowsByPrefix, HasRisen}
 use Rattle.pigale_shell.specs.Answer.{IsBlock, is_refused}
 use Rattle.pigale_shell.specs.declared.job.Job.{Job}

@@ -1,8 +1,8 @@
 -- Where a run stands between two bytes of its input, and how it stops.
 use Rattle.std.specs.Prelude.{ℕ, ◌+◌, ◌≤◌, ◌≡◌, ◌<◌, true, List, [], ◌∷◌, ◌++◌, length, Option}
-use Rattle.map_definitions.specs.Maps.{Lists}
-use Rattle.map_definitions.specs.Reading.{Ending, well, end_in_record, input_limit}
-use Rattle.map_definitions.specs.Text.{AreBlocks, last_line}
+use Rattle.map_lists.specs.Lists.{Lists}
+use Rattle.planar_code.specs.Reading.{Ending, well, end_in_record, input_limit}
+use Rattle.pigale_shell.specs.Text.{AreBlocks, last_line}
 use Rattle.planar_code.specs.State.{State}
 use Rattle.planar_code.specs.Progress.{Progress}
 use Rattle.pg_io.specs.Io.{Grows, GrowsByPrefix, HasRisen}

@@ -1,6 +1,6 @@
 //! The answer to one record.
 ghost use Rattle.std.specs.Prelude.{◌≡◌, ◌<◌, ◌≤◌, ◌++◌, ◌↔◌, List, ℕ, length, not, IsTrue, IsFalse, IfOk, OnOk, OnErr};
-ghost use Rattle.map_definitions.specs.Text.{count_block, count_refuses};
+ghost use Rattle.pigale_shell.specs.Text.{count_block, count_refuses};
 ghost use Rattle.pigale_shell.specs.Answer.{IsBlock, is_refused};
 
 use super::job::Job;

@@ -1,6 +1,6 @@
 //! The lines that a run writes.
 ghost use Rattle.std.specs.Prelude.{◌≡◌, ◌≢◌, ◌+◌, ◌++◌, ◌∷◌, [], OnOk, IfOk, decimal};
-ghost use Rattle.map_definitions.specs.Text.{counts_line, refused_line, bad_words_line, last_line as last_line_of};
+ghost use Rattle.pigale_shell.specs.Text.{counts_line, refused_line, bad_words_line, last_line as last_line_of};
 ghost use Rattle.map_definitions.specs.Maps.{genus_of};
 ghost use Rattle.pigale_shell.specs.Lines.{fault_bytes, WritesFault, ending_of};
 

@@ -1,8 +1,8 @@
 //! The top call.
 ghost use Rattle.std.specs.Prelude.{◌≡◌, ◌≢◌, ◌⊎◌, ◌<◌, ℕ, List, IsSome, [], map, string_bytes, Some, None};
-ghost use Rattle.map_definitions.specs.Maps.{Lists};
-ghost use Rattle.map_definitions.specs.Reading.{Ending, well, IsReading};
-ghost use Rattle.map_definitions.specs.Text.{bad_words_line};
+ghost use Rattle.map_lists.specs.Lists.{Lists};
+ghost use Rattle.planar_code.specs.Reading.{Ending, well, IsReading};
+ghost use Rattle.pigale_shell.specs.Text.{bad_words_line};
 ghost use Rattle.pg_io.specs.Io.{WhereTold, Grows, GrowsByPrefix, HasRisen};
 ghost use Rattle.pigale_shell.specs.Words.{job_of};
 ghost use Rattle.pigale_shell.specs.Outcome.{Writes, WritesTaken, IsBad, GrowsByText, MayEnd, TakesAtMost};

@@ -4,7 +4,7 @@ use Rattle.std.proofs.lemmas.List.{length-append, length-take, take_more, take_a
 use Rattle.std.proofs.lemmas.Bool.Decides.{Decides-and, Decides-eqb, Decides-like, same_from_decides}
 use Rattle.std.proofs.lemmas.Slice.Eq.{bytes_eq-Decides}
 use Rattle.std.specs.Prelude.{IsTrue, IsFalse, ◌==◌}
-use Rattle.map_definitions.specs.Reading.{header, is_header}
+use Rattle.planar_code.specs.Reading.{header, is_header}
 use Rattle.planar_code.specs.Front.{is_front, IsCounted}
 use Rattle.planar_code.specs.State.{State, after_more}
 

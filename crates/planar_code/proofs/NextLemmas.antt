@@ -2,8 +2,8 @@
 use Rattle.std.proofs.Common.{◌≡◌, ℕ, ◌+◌, ◌-◌, ◌<◌, ◌≤◌, List, [], ◌∷◌, ◌++◌, length, get_or, take, drop, sym, ap, subst, ◌∙◌, arith}
 use Rattle.std.proofs.lemmas.List.{take-append-drop, take_more, take_rest, length-drop}
 use Rattle.std.specs.Prelude.{slice_range, IsTrue, IsFalse}
-use Rattle.map_definitions.specs.Maps.{Lists}
-use Rattle.map_definitions.specs.Reading.{IsRecord, NoRecord, has_bad_count, is_bad_count}
+use Rattle.map_lists.specs.Lists.{Lists}
+use Rattle.planar_code.specs.Reading.{IsRecord, NoRecord, has_bad_count, is_bad_count}
 use Rattle.planar_code.proofs.RecordLemmas.{NoRecord-push, no_bad_count-push, bad_count-append, bad_count-parts}
 
 -- the bytes passed and the byte at their end

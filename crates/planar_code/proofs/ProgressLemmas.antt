@@ -6,8 +6,8 @@ use Rattle.std.proofs.lemmas.Bool.{cases_lt}
 use Rattle.std.proofs.lemmas.Bool.Decides.{nat_tests}
 use Rattle.std.proofs.lemmas.Slice.Eq.{bytes_eq-Decides}
 use Rattle.std.specs.Prelude.{IsTrue, IsFalse}
-use Rattle.map_definitions.specs.Maps.{Lists}
-use Rattle.map_definitions.specs.Reading.{IsRecord, AreRecords, is_bad_count, header, is_header, header_of, input_limit, IsReading, BeginsWith, EndsAs, Ending, well, end_in_record, bad_count, too_long}
+use Rattle.map_lists.specs.Lists.{Lists}
+use Rattle.planar_code.specs.Reading.{IsRecord, AreRecords, is_bad_count, header, is_header, header_of, input_limit, IsReading, BeginsWith, EndsAs, Ending, well, end_in_record, bad_count, too_long}
 use Rattle.planar_code.specs.State.{State, at_front, with_byte, after_more, after_record}
 use Rattle.planar_code.specs.Progress.{Progress, FrontIs}
 use Rattle.planar_code.proofs.RecordLemmas.{NoRecord-nil, NoRecord-push, no_bad_count-push, bad_count-append, bad_count-parts, AreRecords-push, HasZero, record-has_zero, header_of-none, header_of-long, header_of-zero, is_header-false, header-no_zero}

@@ -6,8 +6,8 @@ use Rattle.std.proofs.Math.Seq.{take-nil, take-append-add}
 use Rattle.std.proofs.lemmas.Bool.{false≢true}
 use Rattle.std.proofs.lemmas.Bool.Decides.{nat_tests}
 use Rattle.std.specs.Prelude.{IsTrue, IsFalse}
-use Rattle.map_definitions.specs.Maps.{Lists}
-use Rattle.map_definitions.specs.Reading.{list_numbers, record_numbers, two_bytes, IsNarrow, IsWide, IsRecord, AreRecords, has_bad_count, header_of, input_limit, IsReading, EndsAs, Ending, well, end_in_record, bad_count, too_long}
+use Rattle.map_lists.specs.Lists.{Lists}
+use Rattle.planar_code.specs.Reading.{list_numbers, record_numbers, two_bytes, IsNarrow, IsWide, IsRecord, AreRecords, has_bad_count, header_of, input_limit, IsReading, EndsAs, Ending, well, end_in_record, bad_count, too_long}
 use Rattle.planar_code.proofs.RecordLemmas.{record-not_empty, bad_count-append}
 
 -- the numbers in one byte each

@@ -4,8 +4,8 @@ use Rattle.std.proofs.lemmas.List.{append-nil, length-append, take-append-le, ta
 use Rattle.std.proofs.lemmas.Bool.{cases_lt}
 use Rattle.std.proofs.lemmas.Slice.Eq.{bytes_eq-Decides}
 use Rattle.std.specs.Prelude.{IsTrue, IsFalse}
-use Rattle.map_definitions.specs.Maps.{Lists}
-use Rattle.map_definitions.specs.Reading.{list_numbers, record_numbers, IsNarrow, IsRecord, NoRecord, AreRecords, has_bad_count, is_bad_count, header, is_header, header_of}
+use Rattle.map_lists.specs.Lists.{Lists}
+use Rattle.planar_code.specs.Reading.{list_numbers, record_numbers, IsNarrow, IsRecord, NoRecord, AreRecords, has_bad_count, is_bad_count, header, is_header, header_of}
 
 -- no record has no bytes
 pub record-not_empty : (lists : Lists) → IsRecord [] lists → ⊥

@@ -5,8 +5,8 @@ use Rattle.std.proofs.lemmas.List.Elements.{All-push, All-nil}
 use Rattle.std.proofs.lemmas.Grind.{flat_map-append}
 use Rattle.std.proofs.lemmas.Bool.Decides.{nat_tests}
 use Rattle.std.specs.Prelude.{IsFalse}
-use Rattle.map_definitions.specs.Maps.{Lists}
-use Rattle.map_definitions.specs.Reading.{list_numbers, record_numbers, two_bytes, IsNarrow, IsRecord, is_bad_count}
+use Rattle.map_lists.specs.Lists.{Lists}
+use Rattle.planar_code.specs.Reading.{list_numbers, record_numbers, two_bytes, IsNarrow, IsRecord, is_bad_count}
 use Rattle.planar_code.specs.declared.scan.Phase.{Phase}
 use Rattle.planar_code.specs.declared.scan.Scanned.TheVariants.{Record, More}
 use Rattle.planar_code.specs.Scan.{numbers_of, bytes_of, IsOpen, IsScanned, Collects, Takes, Scans}

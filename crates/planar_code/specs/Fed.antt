@@ -1,7 +1,7 @@
 -- What a byte does to a reader of records.
 use Rattle.std.specs.Prelude.{ℕ, ◌≡◌, IsTrue, IsFalse}
-use Rattle.map_definitions.specs.Maps.{Lists}
-use Rattle.map_definitions.specs.Reading.{IsRecord, is_bad_count}
+use Rattle.map_lists.specs.Lists.{Lists}
+use Rattle.planar_code.specs.Reading.{IsRecord, is_bad_count}
 use Rattle.planar_code.specs.State.{State, with_byte, after_more, after_record}
 use Rattle.planar_code.specs.declared.reader.Fed.{Fed}
 use Rattle.planar_code.specs.declared.reader.Fed.TheVariants.{Bad, Record, More}

@@ -1,6 +1,6 @@
 -- Bytes that are a front of the header.
 use Rattle.std.specs.Prelude.{ℕ, ◌≡◌, Bool, List, length, take, bytes_eq}
-use Rattle.map_definitions.specs.Reading.{header}
+use Rattle.planar_code.specs.Reading.{header}
 
 -- whether the bytes are a front of the header
 abbrev pub is_front : List ℕ → Bool

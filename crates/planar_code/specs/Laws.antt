@@ -1,7 +1,7 @@
 -- Laws on how inputs are read.
 use Rattle.std.specs.Prelude.{ℕ, ◌≡◌, List}
-use Rattle.map_definitions.specs.Maps.{Lists}
-use Rattle.map_definitions.specs.Reading.{IsReading, Ending}
+use Rattle.map_lists.specs.Lists.{Lists}
+use Rattle.planar_code.specs.Reading.{IsReading, Ending}
 
 -- each input is read in one way at most
 abbrev pub OneReading : Type 0

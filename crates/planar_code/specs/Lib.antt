@@ -6,3 +6,4 @@ pub mod Progress
 pub mod Scan
 pub mod Front
 pub mod Laws
+pub mod Reading

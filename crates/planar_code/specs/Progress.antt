@@ -1,7 +1,7 @@
 -- How far the bytes consumed so far have been read.
 use Rattle.std.specs.Prelude.{ℕ, ◌+◌, ◌≡◌, Bool, true, false, List, [], ◌++◌, length, take, IsFalse}
-use Rattle.map_definitions.specs.Maps.{Lists}
-use Rattle.map_definitions.specs.Reading.{AreRecords, NoRecord, has_bad_count, header_of, is_header}
+use Rattle.map_lists.specs.Lists.{Lists}
+use Rattle.planar_code.specs.Reading.{AreRecords, NoRecord, has_bad_count, header_of, is_header}
 use Rattle.planar_code.specs.State.{State}
 
 -- Where a header may still come, all bytes are pending and none is a record; else the header of the bytes, however

@@ -1,7 +1,7 @@
 -- The bytes of a record that has begun, as a scanner keeps them: each is handled once, and none is stored twice.
 use Rattle.std.specs.Prelude.{ℕ, zero, suc, ◌+◌, ◌<◌, ◌≡◌, ◌≢◌, List, [], ◌∷◌, ◌++◌, map, flat_map, length, All, Option, Some, None, IsTrue, IsFalse}
-use Rattle.map_definitions.specs.Maps.{Lists}
-use Rattle.map_definitions.specs.Reading.{IsRecord, is_bad_count, record_numbers, two_bytes}
+use Rattle.map_lists.specs.Lists.{Lists}
+use Rattle.planar_code.specs.Reading.{IsRecord, is_bad_count, record_numbers, two_bytes}
 use Rattle.planar_code.specs.declared.scan.Phase.{Phase}
 use Rattle.planar_code.specs.declared.scan.Phase.TheVariants.{Start, WideStart, WideHigh, Narrow, Wide, WideHalf}
 use Rattle.planar_code.specs.declared.scan.Scanned.{Scanned}

@@ -1,6 +1,6 @@
 -- A reader of records, as contracts see it.
 use Rattle.std.specs.Prelude.{ℕ, ◌+◌, Bool, true, false, ◌&&◌, if◌then◌else◌, List, [], ◌∷◌, ◌++◌, length}
-use Rattle.map_definitions.specs.Reading.{is_header}
+use Rattle.planar_code.specs.Reading.{is_header}
 
 pub record State : Type 0 where
   -- the bytes of the record that has begun

@@ -1,6 +1,6 @@
 -- What stands at a place of the bytes of a file.
 use Rattle.std.specs.Prelude.{ℕ, ◌<◌, ◌≤◌, ◌≡◌, List, length, drop, slice_range, IsTrue, IsFalse}
-use Rattle.map_definitions.specs.Reading.{IsRecord, NoRecord, has_bad_count}
+use Rattle.planar_code.specs.Reading.{IsRecord, NoRecord, has_bad_count}
 use Rattle.planar_code.specs.declared.next.Step.{Step}
 use Rattle.planar_code.specs.declared.next.Step.TheVariants.{Lists, End}
 use Rattle.planar_code.specs.declared.next.CodeFault.{CodeFault}

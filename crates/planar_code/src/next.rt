@@ -1,11 +1,11 @@
 //! Records of bytes that are all there.
 ghost use Rattle.std.specs.Prelude.{◌≡◌, ◌≤◌, length, MatchResult};
-ghost use Rattle.map_definitions.specs.Reading.{header_of};
+ghost use Rattle.planar_code.specs.Reading.{header_of};
 ghost use Rattle.planar_code.specs.Step.{StandsAt, FailsAt};
 
 use crate::HEADER;
 use crate::scan::{Scanned, Scanner};
-use half_edges::Rotations;
+use map_lists::Rotations;
 use std::alloc::Global;
 
 /// What stands at an offset.

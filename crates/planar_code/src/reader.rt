@@ -1,11 +1,11 @@
 //! A reader that is fed byte by byte.
 ghost use Rattle.std.specs.Prelude.{◌≡◌, ◌+◌, ◌<◌, ◌↔◌, ◌&&◌, ◌==◌, [], length, slice_index, IsTrue, IfOk, OnErr};
-ghost use Rattle.map_definitions.specs.Reading.{header, input_limit};
+ghost use Rattle.planar_code.specs.Reading.{header, input_limit};
 ghost use Rattle.planar_code.specs.Fed.{Feeds};
 
 use crate::HEADER;
 use crate::scan::{Scanned, Scanner};
-use half_edges::Rotations;
+use map_lists::Rotations;
 use std::alloc::{AllocError, Global};
 use std::marker::Model;
 

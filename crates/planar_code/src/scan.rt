@@ -4,7 +4,7 @@
 //! stands. So no byte is stored twice, and each is handled once.
 ghost use Rattle.std.specs.Prelude.{◌≡◌, ◌≢◌, ◌+◌, ◌*◌, [], length, IfOk, OnErr, OnOk, IfSome, OnSome, IfNone};
 
-use half_edges::Rotations;
+use map_lists::Rotations;
 use std::alloc::{AllocError, Global};
 use std::marker::Model;
 use std::mem;

@@ -2,7 +2,7 @@
 ghost use Rattle.std.specs.Prelude.{◌<◌, ◌≤◌, length};
 
 use super::*;
-use half_edges::Rotations;
+use map_lists::Rotations;
 use std::alloc::{AllocError, Global};
 use std::test::Fail;
 

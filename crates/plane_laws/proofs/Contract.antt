@@ -1,12 +1,12 @@
 -- An edge with two different ends contracted: its two darts are taken off and left by themselves, and their two vertices are made one. Faces lose the two darts and nothing else, and nothing is missing from the Euler bound after it that was not before.
 use Rattle.std.proofs.Common.{◌≡◌, ◌≢◌, ℕ, ◌+◌, ◌<◌, cond, eqb, List, length, refl, sym, ap, ◌∙◌, inl, inr, arith}
 use Rattle.std.proofs.lemmas.Bool.{cases_Bool, cases_eq, eq-eqb, ne_eqb}
-use Rattle.map_definitions.specs.Classes.{label, merge, merge_all, class_count, IsMerged}
-use Rattle.map_definitions.proofs.Counting.{one_if}
-use Rattle.map_definitions.proofs.Classes.{Together, IsLabels, cases_Together, same_class-from, apart-from, merge-joined, merge-keeps, merge-same, joined-merge, merge-within, class_count-merge_apart}
-use Rattle.map_definitions.proofs.Orbits.{steps, orbits_of, length-orbits_of, IsLabels-orbits_of, orbits_of-step, orbits_of-marked, IsPermuting}
-use Rattle.map_definitions.proofs.Swap.{exchange, swapped_first, swapped_second, swapped_other, swapped-swapped, IsPermuting-exchange, exchange_orbits, fixed_points_apart, orbits_of-same}
-use Rattle.map_definitions.proofs.Bound.{joint, length-joint, IsLabels-joint, joint-second, joint-marked, joint-cut, IsPairing, IsPermuting-pairing, IsPermuting-after, after, Balances}
+use Rattle.label_classes.specs.Classes.{label, merge, merge_all, class_count, IsMerged}
+use Rattle.label_classes.proofs.Counting.{one_if}
+use Rattle.label_classes.proofs.Classes.{Together, IsLabels, cases_Together, same_class-from, apart-from, merge-joined, merge-keeps, merge-same, joined-merge, merge-within, class_count-merge_apart}
+use Rattle.label_classes.proofs.Orbits.{steps, orbits_of, length-orbits_of, IsLabels-orbits_of, orbits_of-step, orbits_of-marked, IsPermuting}
+use Rattle.label_classes.proofs.Swap.{exchange, swapped_first, swapped_second, swapped_other, swapped-swapped, IsPermuting-exchange, exchange_orbits, fixed_points_apart, orbits_of-same}
+use Rattle.label_classes.proofs.Bound.{joint, length-joint, IsLabels-joint, joint-second, joint-marked, joint-cut, IsPairing, IsPermuting-pairing, IsPermuting-after, after, Balances}
 use Rattle.plane_laws.proofs.PlaneCuts.{lone, lone_before, lone_other, lone_together}
 use Rattle.plane_laws.proofs.Generated.{neither, neither_first, neither_cases}
 use Rattle.plane_laws.proofs.LoneEdge.{lone_edge-first, lone_edge-second, lone_edge-skip, lone_edge-skip_second, lone_edge-other, IsPermuting-lone_edge, neither_kept, twin_out, back_out}

@@ -1,17 +1,18 @@
 -- Where two corners of a vertex lie in one face of a map of genus zero, the vertex separates the two parts of its list: cutting its orbit at the two corners parts the classes.
 use Rattle.std.proofs.Common.{◌≡◌, ◌≢◌, ℕ, zero, suc, ◌<◌, false, eqb, List, [], ◌∷◌, length, get_or, Contains, sym, ap, ◌∙◌, subst, arith}
 use Rattle.std.proofs.lemmas.Bool.{ne_eqb, eqb-false}
-use Rattle.map_definitions.specs.Classes.{label, orbits}
-use Rattle.map_definitions.specs.Maps.{Lists, list_of, HasDart, IsSimpleMap, IsPlane, entry_after, place_of, dart_number, dart_count, edge_count, face_images}
+use Rattle.label_classes.specs.Classes.{label, orbits}
+use Rattle.map_lists.specs.Lists.{Lists}
+use Rattle.map_definitions.specs.Maps.{list_of, HasDart, IsSimpleMap, IsPlane, entry_after, place_of, dart_number, dart_count, edge_count, face_images}
 use Rattle.map_definitions.specs.Paths.{JoinsAvoiding, SameFace, arc, from_entry}
-use Rattle.map_definitions.specs.Laws.{CornerSplit}
-use Rattle.map_definitions.proofs.Classes.{Together, Together-from}
-use Rattle.map_definitions.proofs.Orbits.{orbits_of, orbits_of-step}
-use Rattle.map_definitions.proofs.Swap.{exchange, swapped_first, swapped_second, swapped_other, IsPermuting-exchange}
-use Rattle.map_definitions.proofs.Bound.{joint, joint-first, joint-second, IsPermuting-pairing, IsPermuting-after, after, Balances}
+use Rattle.plane_laws.specs.Laws.{CornerSplit}
+use Rattle.label_classes.proofs.Classes.{Together, Together-from}
+use Rattle.label_classes.proofs.Orbits.{orbits_of, orbits_of-step}
+use Rattle.label_classes.proofs.Swap.{exchange, swapped_first, swapped_second, swapped_other, IsPermuting-exchange}
+use Rattle.label_classes.proofs.Bound.{joint, joint-first, joint-second, IsPermuting-pairing, IsPermuting-after, after, Balances}
 use Rattle.plane_laws.proofs.PlaneCuts.{plane_cut-apart, image_of_some}
 use Rattle.map_definitions.proofs.DartLemmas.{dart_number-lt, get_or-dart_number, dart_number-injective, HasDart-follows}
-use Rattle.plane_laws.proofs.DartPermutations.{tail_of, turned_dart, rotation, twin, IsPermuting-rotation, IsPairing-twin, tail_of-rotation, same_orbit, orbits-face_images, balances_map, two_m}
+use Rattle.euler_bound.proofs.DartPermutations.{tail_of, turned_dart, rotation, twin, IsPermuting-rotation, IsPairing-twin, tail_of-rotation, same_orbit, orbits-face_images, balances_map, two_m}
 use Rattle.plane_laws.proofs.DartPaths.{tail_of-number, twin-number, HoldsRotation, path_in_class}
 use Rattle.plane_laws.proofs.ArcLemmas.{from_entry-first, from_entry-in, from_entry-next, from_entry-not_first, arc-at, arc-has, arc-not_end}
 

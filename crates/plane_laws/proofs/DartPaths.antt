@@ -2,13 +2,14 @@
 use Rattle.std.proofs.Common.{◌≡◌, ℕ, zero, suc, ◌-◌, ◌<◌, Bool, true, false, cond, List, length, get_or, Contains, sym, ap, ◌∙◌, inl, inr, arith}
 use Rattle.std.proofs.lemmas.Bool.{cases_Bool}
 use Rattle.std.proofs.lemmas.List.Elements.{Contains-get_or}
-use Rattle.map_definitions.specs.Classes.{label}
-use Rattle.map_definitions.specs.Maps.{Lists, HasDart, IsSimpleMap, dart_number, dart_count}
+use Rattle.label_classes.specs.Classes.{label}
+use Rattle.map_lists.specs.Lists.{Lists}
+use Rattle.map_definitions.specs.Maps.{HasDart, IsSimpleMap, dart_number, dart_count, twin_dart}
 use Rattle.map_definitions.specs.Paths.{IsPath}
-use Rattle.map_definitions.proofs.Classes.{Together}
-use Rattle.map_definitions.proofs.Orbits.{orbits_of-marked}
+use Rattle.label_classes.proofs.Classes.{Together}
+use Rattle.label_classes.proofs.Orbits.{orbits_of-marked}
 use Rattle.map_definitions.proofs.DartLemmas.{dart_number-lt, get_or-dart_number}
-use Rattle.plane_laws.proofs.DartPermutations.{tail_of, twin_dart, rotation, twin, IsPermuting-rotation, tail_of-rotation, same_orbit}
+use Rattle.euler_bound.proofs.DartPermutations.{tail_of, rotation, twin, IsPermuting-rotation, tail_of-rotation, same_orbit}
 
 -- the tail of a dart's number
 pub tail_of-number : (lists : Lists) (v u : ℕ) → HasDart lists v u → tail_of lists (dart_number lists (v, u)) ≡ v

@@ -2,19 +2,20 @@
 use Rattle.std.proofs.Common.{◌≡◌, ◌≢◌, ◌⊎◌, ◌||◌, ℕ, ◌+◌, ◌<◌, Bool, false, cond, eqb, List, [], ◌∷◌, get_or, Contains, refl, sym, ap, ◌∙◌, subst, inl, inr, arith}
 use Rattle.std.proofs.lemmas.Bool.{cases_eq, eq-eqb, ne_eqb, eqb-false, or_parts, or_from}
 use Rattle.std.proofs.lemmas.List.Elements.{Contains-append_cases}
-use Rattle.map_definitions.specs.Classes.{label, orbits}
-use Rattle.map_definitions.specs.Maps.{Lists, Dart, list_of, HasDart, IsSimpleMap, IsPlane, follows, entry_after, dart_number, dart_count, edge_count, face_images}
+use Rattle.label_classes.specs.Classes.{label, orbits}
+use Rattle.map_lists.specs.Lists.{Lists}
+use Rattle.map_definitions.specs.Maps.{Dart, list_of, HasDart, IsSimpleMap, IsPlane, follows, entry_after, dart_number, dart_count, edge_count, face_images}
 use Rattle.map_definitions.specs.Paths.{JoinsAvoiding, SameFace, arc}
-use Rattle.map_definitions.specs.Laws.{side, DigonSplit}
-use Rattle.map_definitions.proofs.Counting.{one_if}
-use Rattle.map_definitions.proofs.Classes.{Together, Together-from, same_class-from}
-use Rattle.map_definitions.proofs.Orbits.{orbits_of, orbits_of-step, orbits_of-marked, IsPermuting}
-use Rattle.map_definitions.proofs.Swap.{exchange, swapped_first, swapped_second, swapped_other, IsPermuting-exchange}
-use Rattle.map_definitions.proofs.Bound.{joint, joint-first, joint-second, IsPairing, IsPermuting-pairing, IsPermuting-after, after, Balances}
+use Rattle.plane_laws.specs.Laws.{side, DigonSplit}
+use Rattle.label_classes.proofs.Counting.{one_if}
+use Rattle.label_classes.proofs.Classes.{Together, Together-from, same_class-from}
+use Rattle.label_classes.proofs.Orbits.{orbits_of, orbits_of-step, orbits_of-marked, IsPermuting}
+use Rattle.label_classes.proofs.Swap.{exchange, swapped_first, swapped_second, swapped_other, IsPermuting-exchange}
+use Rattle.label_classes.proofs.Bound.{joint, joint-first, joint-second, IsPairing, IsPermuting-pairing, IsPermuting-after, after, Balances}
 use Rattle.plane_laws.proofs.PlaneCuts.{plane_cut-apart, image_of_some}
 use Rattle.plane_laws.proofs.Contract.{IsPermuting-contracted, contracted_p, contracted_q, contracted_other, contracted_balances, orbits_joined, on_first, on_second, past, past-d, past-e, past-other, past_together}
 use Rattle.map_definitions.proofs.DartLemmas.{dart_number-lt, dart_number-injective, HasDart-follows, entry_after-injective}
-use Rattle.plane_laws.proofs.DartPermutations.{dart_of, tail_of, rotation, twin, IsPermuting-rotation, IsPairing-twin, dart_of-number, tail_of-rotation, same_orbit, same_vertex, orbits-face_images, balances_map, two_m}
+use Rattle.euler_bound.proofs.DartPermutations.{dart_of, tail_of, rotation, twin, IsPermuting-rotation, IsPairing-twin, dart_of-number, tail_of-rotation, same_orbit, same_vertex, orbits-face_images, balances_map, two_m}
 use Rattle.plane_laws.proofs.DartPaths.{tail_of-number, twin-number, HoldsRotation, path_in_class}
 use Rattle.plane_laws.proofs.ArcLemmas.{arc-not_end, arc-itself, arc-not_before, arc-last, arc-wider}
 use Rattle.plane_laws.proofs.CornerSplit.{rotation-number, numbers_apart, arc_in_class, arc_dart, corner_split}

@@ -1,23 +1,25 @@
 -- An edge taken away from a map of genus zero: whether that parts a component is seen at its faces; and where it does not, its two faces become one.
 use Rattle.std.proofs.Common.{◌≡◌, ◌≢◌, ℕ, ◌+◌, ◌<◌, true, false, cond, eqb, List, [], ◌∷◌, length, Contains, refl, sym, ap, ap₂, ◌∙◌, subst, inl, inr, arith}
 use Rattle.std.proofs.lemmas.Bool.{cases_eq, eq-eqb, ne_eqb, false≢true}
-use Rattle.map_definitions.specs.Classes.{label, class_count, orbits, merge}
-use Rattle.map_definitions.specs.Maps.{Lists, Dart, darts, list_of, HasDart, IsSimpleMap, IsPlane, is_empty_list, darts_before, dart_number, dart_count, edge_count, component_count, face_images}
+use Rattle.label_classes.specs.Classes.{label, class_count, orbits, merge}
+use Rattle.map_lists.specs.Lists.{Lists}
+use Rattle.map_definitions.specs.Maps.{Dart, darts, list_of, HasDart, IsSimpleMap, IsPlane, is_empty_list, darts_before, dart_number, dart_count, edge_count, component_count, face_images}
 use Rattle.map_definitions.specs.Paths.{SameFace}
-use Rattle.map_definitions.specs.Laws.{without_edge, BridgeTest, FacesMerged, IsMergedFaces}
-use Rattle.map_definitions.proofs.Classes.{Together, IsLabels, labels_same, Together-from, same_class-from, apart-from, length-merge, IsLabels-merge, merge-joined, merge-keeps, merge-same, joined-merge, merge-within, class_count-merge_apart, length-classes}
-use Rattle.map_definitions.proofs.Orbits.{orbits_of, length-orbits_of, IsLabels-orbits_of, orbits_of-step, orbits_of-marked, IsPermuting}
-use Rattle.map_definitions.proofs.Swap.{exchange, IsPermuting-exchange, exchange_orbits, orbits_of-same}
-use Rattle.map_definitions.proofs.Bound.{joint, joint-first, joint-second, joint-marked, IsPairing, IsPermuting-pairing, IsPermuting-after, after, after-exchange, Balances}
+use Rattle.map_definitions.specs.Edges.{without_edge}
+use Rattle.plane_laws.specs.Laws.{BridgeTest, FacesMerged, IsMergedFaces}
+use Rattle.label_classes.proofs.Classes.{Together, IsLabels, labels_same, Together-from, same_class-from, apart-from, length-merge, IsLabels-merge, merge-joined, merge-keeps, merge-same, joined-merge, merge-within, class_count-merge_apart, length-classes}
+use Rattle.label_classes.proofs.Orbits.{orbits_of, length-orbits_of, IsLabels-orbits_of, orbits_of-step, orbits_of-marked, IsPermuting}
+use Rattle.label_classes.proofs.Swap.{exchange, IsPermuting-exchange, exchange_orbits, orbits_of-same}
+use Rattle.label_classes.proofs.Bound.{joint, joint-first, joint-second, joint-marked, IsPairing, IsPermuting-pairing, IsPermuting-after, after, after-exchange, Balances}
 use Rattle.plane_laws.proofs.PlaneCuts.{plane_cut-apart, plane_cut-together, image_of_some, lone, lone_before, lone_other, lone_together}
-use Rattle.plane_laws.proofs.Transfer.{IsTransfer}
+use Rattle.euler_bound.proofs.Transfer.{IsTransfer}
 use Rattle.plane_laws.proofs.Generated.{IsRenumbering, neither_first, IsGenerated-orbits, GoesOver-after, IsTransfer-renumbered, neither, neither_other}
 use Rattle.plane_laws.proofs.LoneEdge.{IsPermuting-lone_edge, GoesOver-out}
 use Rattle.plane_laws.proofs.DigonSplit.{fixed_alone}
 use Rattle.map_definitions.proofs.WithoutEdge.{back, u_not_v, length-without_edge, dart_old, dart_new, IsSimpleMap-without_edge}
 use Rattle.plane_laws.proofs.EdgeRemoved.{in_out, twin_out, to_below, to_not_out, renumbering, twin_over, rotation_over, apart, apart'}
 use Rattle.map_definitions.proofs.DartLemmas.{dart_number-lt, get_or-dart_number}
-use Rattle.plane_laws.proofs.DartPermutations.{dart_of, tail_of, rotation, twin, components, IsPermuting-rotation, IsPairing-twin, dart_of-number, dart_of-twin, tail_of-rotation, same_orbit, components-marked, IsLabels-components, edge_together, isolated_apart, orbits-face_images, balances_map, two_m, has_edge, first_in, tail_of-first, has_edge-tail}
+use Rattle.euler_bound.proofs.DartPermutations.{dart_of, tail_of, rotation, twin, components, IsPermuting-rotation, IsPairing-twin, dart_of-number, dart_of-twin, tail_of-rotation, same_orbit, components-marked, IsLabels-components, edge_together, isolated_apart, orbits-face_images, balances_map, two_m, has_edge, first_in, tail_of-first, has_edge-tail}
 use Rattle.plane_laws.proofs.DartPaths.{tail_of-number}
 use Rattle.plane_laws.proofs.CornerSplit.{numbers_apart}
 

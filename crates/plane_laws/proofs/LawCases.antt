@@ -1,8 +1,10 @@
 -- The definitions that the laws cite, run on small maps.
 use Rattle.std.specs.Prelude.{◌≡◌, [], ◌∷◌, refl}
-use Rattle.map_definitions.specs.Maps.{Lists, entry_after}
+use Rattle.map_lists.specs.Lists.{Lists}
+use Rattle.map_definitions.specs.Maps.{entry_after}
 use Rattle.map_definitions.specs.Paths.{arc}
-use Rattle.map_definitions.specs.Laws.{without_edge, smoothed, side}
+use Rattle.map_definitions.specs.Edges.{without_edge}
+use Rattle.plane_laws.specs.Laws.{smoothed, side}
 
 -- from the third entry on, round to before the second
 arc_round : arc (11 ∷ 12 ∷ 13 ∷ 14 ∷ []) 13 12 ≡ 13 ∷ 14 ∷ 11 ∷ []

@@ -1,9 +1,7 @@
--- The Euler bound for maps, and the laws of maps of genus zero.
+-- The laws of maps of genus zero.
 pub mod PlaneCuts
-pub mod Transfer
 mod PairCases
 mod LawCases
-pub mod DartPermutations
 pub mod ArcLemmas
 pub mod DartPaths
 pub mod CornerSplit

@@ -1,12 +1,12 @@
 -- What a cut does where nothing is missing from the Euler bound, as in a map of genus zero.
 use Rattle.std.proofs.Common.{◌≡◌, ◌≢◌, ◌⊎◌, ℕ, zero, suc, ◌+◌, ◌<◌, false, eqb, refl, sym, ap, ◌∙◌, subst, inl, inr, arith}
 use Rattle.std.proofs.lemmas.Bool.{cases_eq, eq-eqb, ne_eqb}
-use Rattle.map_definitions.specs.Classes.{count_below, label, class_count}
-use Rattle.map_definitions.proofs.Counting.{count_below_same, count_below_more}
-use Rattle.map_definitions.proofs.Classes.{Together, cases_Together, merge-within, class_count-merge_apart, same_class-from, apart-from}
-use Rattle.map_definitions.proofs.Orbits.{orbits_of, orbits_of-step, IsPermuting, count_below-images}
-use Rattle.map_definitions.proofs.Swap.{orbits_of-same, exchange, swapped_first, swapped_second, swapped_other, IsPermuting-exchange, exchange_orbits}
-use Rattle.map_definitions.proofs.Bound.{joint, length-joint, IsLabels-joint, IsPairing, IsPermuting-pairing, IsPermuting-after, after, after-exchange, Balances, Balances-cut, cut_orbits, joint-cut, euler_bound_at}
+use Rattle.label_classes.specs.Classes.{count_below, label, class_count}
+use Rattle.label_classes.proofs.Counting.{count_below_same, count_below_more}
+use Rattle.label_classes.proofs.Classes.{Together, cases_Together, merge-within, class_count-merge_apart, same_class-from, apart-from}
+use Rattle.label_classes.proofs.Orbits.{orbits_of, orbits_of-step, IsPermuting, count_below-images}
+use Rattle.label_classes.proofs.Swap.{orbits_of-same, exchange, swapped_first, swapped_second, swapped_other, IsPermuting-exchange, exchange_orbits}
+use Rattle.label_classes.proofs.Bound.{joint, length-joint, IsLabels-joint, IsPairing, IsPermuting-pairing, IsPermuting-after, after, after-exchange, Balances, Balances-cut, cut_orbits, joint-cut, euler_bound_at}
 
 -- two numbers that both balance are one
 pub Balances-one : (f g : ℕ → ℕ) (k m d d' : ℕ) → Balances f g k m d → Balances f g k m d' → d ≡ d'

@@ -3,7 +3,7 @@ use Rattle.std.proofs.Common.{◌≡◌, ◌≢◌, ◌⊎◌, ℕ, ◌<◌, con
 use Rattle.std.proofs.lemmas.Bool.{cases_eq, eq-eqb, ne_eqb}
 use Rattle.std.proofs.lemmas.List.{get_or_default}
 use Rattle.map_definitions.specs.Maps.{place_of, entry_after}
-use Rattle.map_definitions.specs.Laws.{replaced}
+use Rattle.plane_laws.specs.Laws.{replaced}
 use Rattle.map_definitions.proofs.DartLemmas.{place_of-lt-length, get_or-place_of, place_of-get_or, place_after, place_after-lt, entry_after-place}
 
 -- y for x

@@ -1,14 +1,14 @@
 -- A vertex of degree two taken out of its edge: its two darts are left out, and the two darts to it are made partners. Nothing is missing from the Euler bound after it that was not before.
 use Rattle.std.proofs.Common.{◌≡◌, ◌≢◌, ◌⊎◌, ℕ, zero, suc, ◌+◌, ◌<◌, Bool, true, false, not, ◌&&◌, cond, eqb, List, length, refl, sym, ap, ◌∙◌, inl, inr, arith}
 use Rattle.std.proofs.lemmas.Bool.{cases_Bool, cases_eq, eq-eqb, ne_eqb, false≢true, not-true}
-use Rattle.map_definitions.specs.Classes.{count_below, label, class_count}
-use Rattle.map_definitions.proofs.Counting.{one_if}
-use Rattle.map_definitions.proofs.Classes.{Together, Together-label, same_class-from}
-use Rattle.map_definitions.proofs.Orbits.{StaysBelow, orbits_of, IsPermuting, marks_back}
-use Rattle.map_definitions.proofs.Swap.{exchange, IsPermuting-exchange, exchange_orbits}
-use Rattle.map_definitions.proofs.Bound.{joint, IsPairing, IsPermuting-pairing, IsPermuting-after, after, Balances}
+use Rattle.label_classes.specs.Classes.{count_below, label, class_count}
+use Rattle.label_classes.proofs.Counting.{one_if}
+use Rattle.label_classes.proofs.Classes.{Together, Together-label, same_class-from}
+use Rattle.label_classes.proofs.Orbits.{StaysBelow, orbits_of, IsPermuting, marks_back}
+use Rattle.label_classes.proofs.Swap.{exchange, IsPermuting-exchange, exchange_orbits}
+use Rattle.label_classes.proofs.Bound.{joint, IsPairing, IsPermuting-pairing, IsPermuting-after, after, Balances}
 use Rattle.plane_laws.proofs.PlaneCuts.{lone, lone_before, lone_other, lone_together}
-use Rattle.plane_laws.proofs.Transfer.{IsTransfer, class_count-transfer}
+use Rattle.euler_bound.proofs.Transfer.{IsTransfer, class_count-transfer}
 use Rattle.plane_laws.proofs.Generated.{IsGenerated, IsGenerated-orbits, IsGenerated-joint, IsRenumbering, GoesOver, IsTransfer-renumbered, neither, neither_first, neither_second, neither_cases, neither_true, neither_other, left_out, left_out_one}
 use Rattle.plane_laws.proofs.DigonSplit.{fixed_alone}
 

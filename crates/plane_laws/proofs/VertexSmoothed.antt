@@ -2,15 +2,16 @@
 use Rattle.std.proofs.Common.{◌≡◌, ◌≢◌, ◌⊎◌, ℕ, ◌+◌, ◌<◌, true, cond, eqb, List, [], ◌∷◌, length, get_or, set, AllPairs, Contains, refl, sym, ap, ap₂, ◌∙◌, subst, inl, inr, arith, length-set, get_or-set_same, get_or-set_other}
 use Rattle.std.proofs.lemmas.Bool.{cases_eq, eq-eqb, ne_eqb}
 use Rattle.std.proofs.lemmas.List.Sums.{sum_by-set}
-use Rattle.map_definitions.specs.Maps.{Lists, list_of, HasDart, IsSimpleMap, IsPlane, follows, entry_after, dart_number, dart_count, edge_count}
-use Rattle.map_definitions.specs.Laws.{replaced, smoothed, VertexSmoothed}
-use Rattle.map_definitions.proofs.Bound.{Balances}
+use Rattle.map_lists.specs.Lists.{Lists}
+use Rattle.map_definitions.specs.Maps.{list_of, HasDart, IsSimpleMap, IsPlane, follows, entry_after, dart_number, dart_count, edge_count}
+use Rattle.plane_laws.specs.Laws.{replaced, smoothed, VertexSmoothed}
+use Rattle.label_classes.proofs.Bound.{Balances}
 use Rattle.plane_laws.proofs.Generated.{IsRenumbering, neither, neither_other, neither_true}
 use Rattle.plane_laws.proofs.Smooth.{smooth_balances}
 use Rattle.plane_laws.proofs.Replaced.{renamed, renamed-itself, renamed-other, length-replaced, replaced-old, replaced-new, replaced-distinct, entry_after-replaced}
 use Rattle.map_definitions.proofs.DartLemmas.{dart_number-lt, get_or-dart_number, dart_number-injective, HasDart-follows}
 use Rattle.map_definitions.proofs.DartCounts.{dart_count-edge_count}
-use Rattle.plane_laws.proofs.DartPermutations.{dart_of, tail_of, rotation, twin, IsPermuting-rotation, IsPairing-twin, dart_of-number, map_balances, balances_map}
+use Rattle.euler_bound.proofs.DartPermutations.{dart_of, tail_of, rotation, twin, IsPermuting-rotation, IsPairing-twin, dart_of-number, map_balances, balances_map}
 use Rattle.plane_laws.proofs.DartPaths.{tail_of-number, twin-number}
 use Rattle.plane_laws.proofs.CornerSplit.{rotation-number}
 

@@ -1,5 +1,44 @@
-//! The proofs of the Euler bound for simple maps and of the laws of maps of genus zero.
-//!
-//! The statements stand in `map_definitions/specs/Laws.antt`; the crate `euler_faces` has each as the
-//! contract of a public function.
+//! Laws of plane maps. Each is the contract of a function that does nothing, and speaks of all maps.
 #![tactic(auto)]
+
+ghost use Rattle.plane_laws.specs.Laws.{EdgeRemoved, BridgeTest, FacesMerged, EdgeBound, CornerSplit, DigonSplit, VertexSmoothed};
+
+/// A map of genus zero without one of its edges has genus zero.
+pub fn edge_removed()
+    ensures { EdgeRemoved }
+{}
+
+/// In a map of genus zero an edge's two darts lie in one face exactly where taking the edge away
+/// makes a component more.
+pub fn bridge_test()
+    ensures { BridgeTest }
+{}
+
+/// Where a connected map of genus zero stays connected without an edge, the edge's darts lie in
+/// different faces, these become one, and all others stay.
+pub fn faces_merged()
+    ensures { FacesMerged }
+{}
+
+/// A simple map of genus zero with at least three vertices has at most 3n - 6 edges.
+pub fn edge_bound()
+    ensures { EdgeBound }
+{}
+
+/// Where two corners of a vertex lie in one face of a map of genus zero, the vertex separates the
+/// entries from the one up to the other from those from the other up to the one.
+pub fn corner_split()
+    ensures { CornerSplit }
+{}
+
+/// Where two adjacent vertices of a map of genus zero also have corners in one face, they separate
+/// the two sides.
+pub fn digon_split()
+    ensures { DigonSplit }
+{}
+
+/// Where a vertex of a map of genus zero has just two neighbours, which are not adjacent, the map in
+/// which it is taken out of its edge, and its neighbours are adjacent, has genus zero.
+pub fn vertex_smoothed()
+    ensures { VertexSmoothed }
+{}

@@ -1,7 +1,7 @@
 use Rattle.std.proofs.Common.{length, arith, refl}
 use Rattle.map_definitions.specs.Maps.{darts, component_count}
-use Rattle.map_definitions.proofs.Classes.{length-classes, IsLabels-classes}
-use Rattle.map_definitions.proofs.Marks.{IsCounting-none, IsCounting-le, IsCounting-new, IsCounting-old, IsCounting-all}
+use Rattle.label_classes.proofs.Classes.{length-classes, IsLabels-classes}
+use Rattle.label_classes.proofs.Marks.{IsCounting-none, IsCounting-le, IsCounting-new, IsCounting-old, IsCounting-all}
 use Rattle.euler_faces.specs.Numbers.{mark_at}
 use Rattle.euler_faces.specs.Search.{parts}
 use Rattle.euler_faces.proofs.SearchLemmas.{parts-below, search-kept}

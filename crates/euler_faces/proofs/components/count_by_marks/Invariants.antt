@@ -1,5 +1,5 @@
 use Rattle.std.proofs.Common.{◌≡◌, [], length}
-use Rattle.map_definitions.proofs.Marks.{IsCounting}
+use Rattle.label_classes.proofs.Marks.{IsCounting}
 use Rattle.euler_faces.specs.Numbers.{mark_at}
 use Rattle.euler_faces.specs.Search.{parts}
 use Rattle.euler_faces.proofs.components.count_by_marks.Given as goal

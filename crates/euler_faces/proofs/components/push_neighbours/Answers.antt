@@ -1,8 +1,7 @@
 use Rattle.std.proofs.Common.{◌≡◌, ◌<◌, ◌∙◌, length, arith}
 use Rattle.map_definitions.specs.Maps.{follows, list_of}
 use Rattle.euler_faces.proofs.NumberLemmas.{number_at-lt, live_from, head-is, next-dart, next-number, next_place-more, next_place-last}
-use Rattle.euler_faces.proofs.SearchLemmas.{search-push, search-close, marked-more, AllMarked-from_places, Pushes-keeps, Pushes-length}
-use Rattle.euler_faces.proofs.SearchLemmas.{parts-step}
+use Rattle.euler_faces.proofs.SearchLemmas.{search-push, search-close, marked-more, AllMarked-from_places, Pushes-keeps, Pushes-length, parts-step}
 use Rattle.euler_faces.proofs.components.push_neighbours.Goals as goal
 
 pub push_unmarked-requires : goal.push_unmarked-requires

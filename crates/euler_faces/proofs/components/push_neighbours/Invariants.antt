@@ -1,6 +1,6 @@
 use Rattle.std.proofs.Common.{◌≡◌, ℕ, ◌+◌, ◌-◌, ◌<◌, Bool, true, List, length, get_or, Some, vec_len}
 use Rattle.map_definitions.specs.Maps.{dart_count, list_of, place_of}
-use Rattle.map_definitions.proofs.Classes.{Together}
+use Rattle.label_classes.proofs.Classes.{Together}
 use Rattle.half_edges.specs.Map.{dart_at}
 use Rattle.euler_faces.specs.Numbers.{number_at, mark_at}
 use Rattle.euler_faces.specs.Search.{parts, IsSearching, unmarked_below}

@@ -1,5 +1,5 @@
 use Rattle.std.proofs.Common.{arith}
-use Rattle.plane_laws.proofs.DartPermutations.{euler_bound_map}
+use Rattle.euler_bound.proofs.DartPermutations.{euler_bound_map}
 use Rattle.euler_faces.proofs.NumberLemmas.{few_darts}
 use Rattle.euler_faces.proofs.count.euler.Goals as goal
 

@@ -1,7 +1,7 @@
 use Rattle.std.proofs.Common.{◌≡◌, ℕ, ◌+◌, ◌-◌, ◌*◌, length, Some}
-use Rattle.map_definitions.specs.Classes.{orbits}
+use Rattle.label_classes.specs.Classes.{orbits}
 use Rattle.map_definitions.specs.Maps.{edge_count, dart_count, face_images}
-use Rattle.map_definitions.proofs.Marks.{IsCounting}
+use Rattle.label_classes.proofs.Marks.{IsCounting}
 use Rattle.half_edges.specs.Map.{dart_at}
 use Rattle.euler_faces.specs.Numbers.{number_at, mark_of}
 use Rattle.euler_faces.proofs.face_count.count_round.Given as goal

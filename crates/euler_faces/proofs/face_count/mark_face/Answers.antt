@@ -1,7 +1,7 @@
 use Rattle.std.proofs.Common.{length-set, ◌∙◌, true, set, arith}
 use Rattle.map_definitions.specs.Maps.{face_images}
 use Rattle.map_definitions.proofs.DartLemmas.{length-face_images, IsPermutationOfBelow-face_images}
-use Rattle.map_definitions.proofs.Marks.{IsMarking-none, IsMarking-more, IsMarking-all, unmarked_below-set}
+use Rattle.label_classes.proofs.Marks.{IsMarking-none, IsMarking-more, IsMarking-all, unmarked_below-set}
 use Rattle.euler_faces.specs.Numbers.{number_at, mark_of}
 use Rattle.euler_faces.proofs.NumberLemmas.{number_at-lt, live-lt, SetsMark-set, mark_of-number, face_step-live, face_step-number}
 use Rattle.euler_faces.proofs.face_count.mark_face.Goals as goal

@@ -1,6 +1,6 @@
 use Rattle.std.proofs.Common.{◌≡◌, ◌+◌, ◌*◌, length}
 use Rattle.map_definitions.specs.Maps.{edge_count, dart_count, face_images}
-use Rattle.map_definitions.proofs.Marks.{IsMarking, unmarked_below}
+use Rattle.label_classes.proofs.Marks.{IsMarking, unmarked_below}
 use Rattle.half_edges.specs.Map.{IsLive}
 use Rattle.euler_faces.specs.Numbers.{number_at, mark_of}
 use Rattle.euler_faces.proofs.face_count.mark_face.Given as goal

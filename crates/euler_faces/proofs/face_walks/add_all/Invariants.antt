@@ -1,7 +1,7 @@
 use Rattle.std.proofs.Common.{◌≡◌, ◌+◌, ◌*◌, length}
-use Rattle.map_definitions.specs.Classes.{orbits}
+use Rattle.label_classes.specs.Classes.{orbits}
 use Rattle.map_definitions.specs.Maps.{edge_count, darts_before, face_images}
-use Rattle.map_definitions.proofs.Marks.{IsCounting}
+use Rattle.label_classes.proofs.Marks.{IsCounting}
 use Rattle.half_edges.specs.Map.{IsHalfMap}
 use Rattle.euler_faces.specs.Numbers.{mark_of}
 use Rattle.euler_faces.specs.FaceSearch.{AreWalksBelow}

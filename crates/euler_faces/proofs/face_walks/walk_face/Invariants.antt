@@ -1,7 +1,7 @@
 use Rattle.std.proofs.Common.{◌≡◌, ◌+◌, ◌*◌, length}
 use Rattle.map_definitions.specs.Maps.{edge_count, dart_count}
 use Rattle.euler_faces.specs.Numbers.{mark_of}
-use Rattle.map_definitions.proofs.Marks.{unmarked_below}
+use Rattle.label_classes.proofs.Marks.{unmarked_below}
 use Rattle.euler_faces.proofs.FaceWalkLemmas.{IsWalking}
 use Rattle.euler_faces.proofs.face_walks.walk_face.Given as goal
 

@@ -1,6 +1,6 @@
 use Rattle.std.proofs.Common.{◌≡◌, length}
-use Rattle.map_definitions.specs.Classes.{orbits}
-use Rattle.map_definitions.proofs.Marks.{IsCounting}
+use Rattle.label_classes.specs.Classes.{orbits}
+use Rattle.label_classes.proofs.Marks.{IsCounting}
 use Rattle.pg_perm.specs.Marks.{mark}
 use Rattle.pg_perm.proofs.marks.count_orbits.Given as goal
 

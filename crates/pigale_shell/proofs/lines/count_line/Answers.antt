@@ -1,5 +1,5 @@
 use Rattle.std.proofs.Common.{rules, append_assoc}
-use Rattle.map_definitions.specs.Text.{counts_line}
+use Rattle.pigale_shell.specs.Text.{counts_line}
 use Rattle.pigale_shell.proofs.lines.count_line.Goals as goal
 
 pub returns : goal.returns

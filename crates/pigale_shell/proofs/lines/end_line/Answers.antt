@@ -1,5 +1,5 @@
 use Rattle.std.proofs.Common.{rules, append_assoc}
-use Rattle.map_definitions.specs.Text.{last_line, end_line}
+use Rattle.pigale_shell.specs.Text.{last_line, end_line}
 use Rattle.pigale_shell.proofs.lines.end_line.Goals as goal
 
 pub returns : goal.returns

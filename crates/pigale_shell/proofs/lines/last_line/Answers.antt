@@ -1,5 +1,5 @@
 use Rattle.std.proofs.Common.{rules}
-use Rattle.map_definitions.specs.Text.{last_line}
+use Rattle.pigale_shell.specs.Text.{last_line}
 use Rattle.pigale_shell.proofs.lines.last_line.Goals as goal
 
 pub returns-in-EndInRecord : goal.returns-in-EndInRecord

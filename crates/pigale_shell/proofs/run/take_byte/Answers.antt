@@ -1,5 +1,5 @@
 use Rattle.std.proofs.Common.{◌+◌, ◌∷◌, [], refl, arith}
-use Rattle.map_definitions.specs.Reading.{too_long, bad_count}
+use Rattle.planar_code.specs.Reading.{too_long, bad_count}
 use Rattle.planar_code.proofs.ProgressLemmas.{Progress-more, Progress-record, Progress-bad, Progress-too_long, Progress-length}
 use Rattle.pigale_shell.proofs.RunLemmas.{at-stops_for_memory, at-more, at-record, at-spoils, at-closes, refused-by_served}
 use Rattle.pigale_shell.proofs.run.take_byte.Goals as goal

@@ -1,5 +1,5 @@
 use Rattle.std.proofs.Common.{rules}
-use Rattle.map_definitions.specs.Text.{bad_words_line}
+use Rattle.pigale_shell.specs.Text.{bad_words_line}
 use Rattle.pigale_shell.proofs.top.refuse_words.Goals as goal
 
 pub returns-in-Err-clause-write_fault : goal.returns-in-Err-clause-write_fault

@@ -1,7 +1,7 @@
 -- The bytes passed are no record and no bad count, and the scanner has them.
 use Rattle.std.proofs.Common.{◌≡◌, take}
 use Rattle.std.specs.Prelude.{IsFalse}
-use Rattle.map_definitions.specs.Reading.{NoRecord, has_bad_count}
+use Rattle.planar_code.specs.Reading.{NoRecord, has_bad_count}
 use Rattle.planar_code.proofs.next.next_record.Given as goal
 
 abbrev pub invariant-loop-passed : goal.invariant-loop-passed

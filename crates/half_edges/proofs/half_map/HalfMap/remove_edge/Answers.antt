@@ -2,7 +2,7 @@ use Rattle.std.proofs.Common.{◌≡◌, ◌+◌, ◌++◌, ℕ, Some, List, len
 use Rattle.std.specs.Prelude.{min, max}
 use Rattle.map_definitions.specs.Maps.{Dart, HasDart}
 use Rattle.half_edges.specs.Map.{Map}
-use Rattle.map_definitions.specs.Laws.{without_edge}
+use Rattle.map_definitions.specs.Edges.{without_edge}
 use Rattle.half_edges.specs.Arena.{arena_lists, dart_in, tail_of, head_of, live_of, IsWired}
 use Rattle.half_edges.specs.declared.arena.DartRecord.{DartRecord}
 use Rattle.half_edges.specs.declared.arena.VertexRecord.{VertexRecord}

@@ -1,7 +1,7 @@
 -- A byte that joins the bytes pending, and ends no header.
 use Rattle.std.proofs.Common.{◌+◌, ◌&&◌, ◌∷◌, [], ◌++◌, List, ℕ, sym, ap, ◌∙◌}
 use Rattle.std.specs.Prelude.{IsFalse}
-use Rattle.map_definitions.specs.Reading.{is_header}
+use Rattle.planar_code.specs.Reading.{is_header}
 use Rattle.planar_code.specs.State.{State}
 use Rattle.planar_code.proofs.FrontLemmas.{counted-push, ends-header, after-no_header}
 use Rattle.planar_code.proofs.reader.RecordReader.feed.Goals as goal

@@ -1,0 +1,3 @@
+-- The darts of a map as permutations.
+pub mod Transfer
+pub mod DartPermutations

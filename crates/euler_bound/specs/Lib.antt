@@ -1,0 +1,2 @@
+-- The Euler bound for maps.
+pub mod Bound

@@ -1,5 +1,0 @@
-use Rattle.plane_laws.proofs.CornerSplit.{corner_split}
-use Rattle.euler_faces.proofs.laws.corner_split.Goals as goal
-
-pub returns : goal.returns
-returns c = corner_split

@@ -1,5 +1,0 @@
-use Rattle.plane_laws.proofs.DigonSplit.{digon_split}
-use Rattle.euler_faces.proofs.laws.digon_split.Goals as goal
-
-pub returns : goal.returns
-returns c = digon_split

@@ -1,5 +1,0 @@
-use Rattle.plane_laws.proofs.EdgeFaces.{faces_merged}
-use Rattle.euler_faces.proofs.laws.faces_merged.Goals as goal
-
-pub returns : goal.returns
-returns c = faces_merged

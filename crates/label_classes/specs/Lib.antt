@@ -1,0 +1,2 @@
+-- Classes, orbits and permutations.
+pub mod Classes

@@ -1,0 +1,104 @@
+-- What a list of numbers holds, and how often.
+use Rattle.std.proofs.Common.{ℕ, zero, suc, ◌+◌, ◌<◌, ◌≤◌, ◌≡◌, ◌≢◌, ◌⊎◌, true, cond, eqb, List, [], ◌∷◌, ◌++◌, length, get_or, AllPairs, Contains, count_by, sym, refl, subst, inl, inr, arith, eqb-true, eq-eqb, ne_eqb, ◌==◌}
+use Rattle.std.specs.List.{list_any}
+use Rattle.std.proofs.lemmas.List.Elements.{Contains-get_or}
+use Rattle.std.proofs.lemmas.List.Sums.{sum_by-cons, sum_by_push}
+use Rattle.std.proofs.lemmas.List.Folds.{list_any_at}
+use Rattle.std.proofs.lemmas.Bool.{cases_lt, cases_eq, cond-true, cond-false, true≢false, or_cases}
+
+pub Contains-here : (u : ℕ) (us : List ℕ) → Contains (u ∷ us) u
+Contains-here u us = (0, omega arith, refl)
+
+pub Contains-there : (u : ℕ) (us : List ℕ) (w : ℕ) → Contains us w → Contains (u ∷ us) w
+Contains-there u us w h = (suc h.0, omega (arith, h.1), h.2)
+
+Contains-cons_at : (u : ℕ) (us : List ℕ) (w k : ℕ) → k < length (u ∷ us) → get_or (u ∷ us) k w ≡ w → (u ≡ w) ⊎ Contains us w
+Contains-cons_at u us w zero h e = inl e
+Contains-cons_at u us w (suc k) h e = inr (k, omega (arith, h), e)
+
+pub Contains-cons_cases : (u : ℕ) (us : List ℕ) (w : ℕ) → Contains (u ∷ us) w → (u ≡ w) ⊎ Contains us w
+Contains-cons_cases u us w h = Contains-cons_at u us w h.0 h.1 h.2
+
+abbrev pub count_of : ℕ → List ℕ → ℕ
+count_of u us = count_by (λ w. w == u) us
+
+pub count_of-cons : (u x : ℕ) (us : List ℕ) → count_of u (x ∷ us) ≡ cond (eqb x u) 1 0 + count_of u us
+count_of-cons u x us = sum_by-cons (λ w. cond (eqb w u) 1 0) x us
+
+pub count_of-here : (u x : ℕ) (us : List ℕ) → x ≡ u → count_of u (x ∷ us) ≡ suc (count_of u us)
+count_of-here u x us e = omega (arith, count_of-cons u x us, cond-true {A = ℕ} (eqb x u) 1 0 (eq-eqb x u e))
+
+pub count_of-there : (u x : ℕ) (us : List ℕ) → x ≢ u → count_of u (x ∷ us) ≡ count_of u us
+count_of-there u x us n = omega (arith, count_of-cons u x us, cond-false {A = ℕ} (eqb x u) 1 0 (ne_eqb x u n))
+
+pub count_of-le-cons : (u x : ℕ) (us : List ℕ) → count_of u us ≤ count_of u (x ∷ us)
+count_of-le-cons u x us =
+    elim (cases_eq x u) [ inl e ↦ omega (arith, count_of-here u x us e) | inr n ↦ omega (arith, count_of-there u x us n) ]
+
+-- it stands there at least once
+pub one-le-count_of : (u : ℕ) (us : List ℕ) (k d : ℕ) → k < length us → get_or us k d ≡ u → 1 ≤ count_of u us
+one-le-count_of u [] k d h e = absurd (omega (arith, h))
+one-le-count_of u (x ∷ us) zero d h e = omega (arith, count_of-here u x us e)
+one-le-count_of u (x ∷ us) (suc k) d h e = omega (arith, one-le-count_of u us k d (omega (arith, h)) e, count_of-le-cons u x us)
+
+-- at least twice
+pub two-le-count_of : (u : ℕ) (us : List ℕ) (i j d : ℕ) → i < j → j < length us → get_or us i d ≡ u → get_or us j d ≡ u → 2 ≤ count_of u us
+two-le-count_of u [] i j d l h e f = absurd (omega (arith, h))
+two-le-count_of u (x ∷ us) i zero d l h e f = absurd (omega (arith, l))
+two-le-count_of u (x ∷ us) zero (suc j) d l h e f = omega (arith, count_of-here u x us e, one-le-count_of u us j d (omega (arith, h)) f)
+two-le-count_of u (x ∷ us) (suc i) (suc j) d l h e f =
+    omega (arith, two-le-count_of u us i j d (omega (arith, l)) (omega (arith, h)) e f, count_of-le-cons u x us)
+
+-- where it is counted, it stands
+pub Contains-from_count_of : (u : ℕ) (us : List ℕ) → 1 ≤ count_of u us → Contains us u
+Contains-from_count_of u [] h = absurd (omega (arith, h))
+Contains-from_count_of u (x ∷ us) h =
+    elim (cases_eq x u) [
+      | inl e ↦ subst (λ z. Contains (x ∷ us) z) e (Contains-here x us)
+      | inr n ↦ Contains-there x us u (Contains-from_count_of u us (omega (arith, h, count_of-there u x us n)))
+    ]
+
+pub AllPairs-tail : (x : ℕ) (us : List ℕ) → AllPairs ◌≢◌ (x ∷ us) → AllPairs ◌≢◌ us
+AllPairs-tail x us distinct = λ i j d l h. distinct (suc i) (suc j) d (omega (arith, l)) (omega (arith, h))
+
+head_apart : (x : ℕ) (us : List ℕ) → AllPairs ◌≢◌ (x ∷ us) → ¬ Contains us x
+head_apart x us distinct c = distinct 0 (suc c.0) x (omega arith) (omega (arith, c.1)) (sym c.2)
+
+-- in a list without repeats it stands at most once
+pub count_of-le-one : (u : ℕ) (us : List ℕ) → AllPairs ◌≢◌ us → count_of u us ≤ 1
+count_of-le-one u [] distinct = omega arith
+count_of-le-one u (x ∷ us) distinct =
+    elim (cases_eq x u) [
+      | inl e ↦ elim (cases_lt (count_of u us) 1) [
+        | inl less ↦ omega (arith, count_of-here u x us e, less)
+        | inr more ↦ absurd (head_apart x us distinct (subst (λ z. Contains us z) (sym e) (Contains-from_count_of u us more)))
+      ]
+      | inr n ↦ omega (arith, count_of-there u x us n, count_of-le-one u us (AllPairs-tail x us distinct))
+    ]
+
+-- and a list in which each stands at most once has no repeats
+pub AllPairs-from_counts : (us : List ℕ) → ((u : ℕ) → Contains us u → count_of u us ≤ 1) → AllPairs ◌≢◌ us
+AllPairs-from_counts us h = λ i j d l k same.
+    omega (arith, two-le-count_of (get_or us j d) us i j d l k same refl, h (get_or us j d) (Contains-get_or us j d k))
+
+-- whether a number stands in a list
+
+pub Contains-from_list_any : (v : ℕ) (us : List ℕ) → list_any (λ w. w == v) us ≡ true → Contains us v
+Contains-from_list_any v [] e = absurd (true≢false (sym e))
+Contains-from_list_any v (x ∷ us) e =
+    elim (or_cases (eqb x v) (list_any (λ w. w == v) us) e) [
+      | inl t ↦ subst (λ z. Contains (x ∷ us) z) (eqb-true x v t) (Contains-here x us)
+      | inr t ↦ Contains-there x us v (Contains-from_list_any v us t)
+    ]
+
+pub list_any-from_Contains : (v : ℕ) (us : List ℕ) → Contains us v → list_any (λ w. w == v) us ≡ true
+list_any-from_Contains v us c = list_any_at (λ w. w == v) us c.0 v c.1 (eq-eqb (get_or us c.0 v) v c.2)
+
+pub count_of-push : (w : ℕ) (us : List ℕ) (u : ℕ) → count_of w (us ++ u ∷ []) ≡ count_of w us + cond (eqb u w) 1 0
+count_of-push w us u = sum_by_push (λ x. cond (eqb x w) 1 0) us u
+
+pub count_of-push_same : (w : ℕ) (us : List ℕ) (u : ℕ) → u ≡ w → count_of w (us ++ u ∷ []) ≡ suc (count_of w us)
+count_of-push_same w us u e = omega (arith, count_of-push w us u, cond-true {A = ℕ} (eqb u w) 1 0 (eq-eqb u w e))
+
+pub count_of-push_other : (w : ℕ) (us : List ℕ) (u : ℕ) → u ≢ w → count_of w (us ++ u ∷ []) ≡ count_of w us
+count_of-push_other w us u n = omega (arith, count_of-push w us u, cond-false {A = ℕ} (eqb u w) 1 0 (ne_eqb u w n))

@@ -1,0 +1,2 @@
+-- The lemmas on pieces of lists.
+pub mod CutLemmas

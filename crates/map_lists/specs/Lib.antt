@@ -1,0 +1,3 @@
+-- Rotation lists, and how lists are cut into pieces.
+pub mod Cuts
+pub mod Lists

@@ -1,0 +1,69 @@
+-- The bytes that a run writes: a block for each record, in order, and a last line.
+use Rattle.std.specs.Prelude.{ℕ, ◌+◌, ◌≡◌, Bool, List, [], ◌∷◌, ◌++◌, codes, decimal, Option, Some, None, is_some}
+use Rattle.map_lists.specs.Lists.{Lists}
+use Rattle.map_definitions.specs.Maps.{vertex_count, edge_count, face_count, component_count, genus}
+use Rattle.simple_maps.specs.Faults.{Fault, out_of_range, loop_at, repeated, one_sided, first_fault}
+use Rattle.planar_code.specs.Reading.{Ending, well, end_in_record, bad_count, too_long}
+
+-- a word, a space and a number
+abbrev pub word_and_number : List ℕ → ℕ → List ℕ
+word_and_number word n = word ++ 32 ∷ decimal n
+
+-- the line of byte 10
+abbrev pub line : List ℕ → List ℕ
+line text = text ++ 10 ∷ []
+
+-- the number and name of a refusal, and its vertices, numbered from 1
+abbrev pub fault_text : Fault → List ℕ
+fault_text (out_of_range v u) = word_and_number (word_and_number (codes "1 OutOfRange") (v + 1)) (u + 1)
+fault_text (loop_at v) = word_and_number (codes "2 Loop") (v + 1)
+fault_text (repeated v u) = word_and_number (word_and_number (codes "3 Repeated") (v + 1)) (u + 1)
+fault_text (one_sided v u) = word_and_number (word_and_number (codes "4 OneSided") (v + 1)) (u + 1)
+
+-- the line that refuses record k
+unfoldable pub refused_line : ℕ → Fault → List ℕ
+refused_line k fault = line (word_and_number (codes "refused") k ++ 32 ∷ fault_text fault)
+
+-- the line of the five counts
+unfoldable pub counts_line : ℕ → ℕ → ℕ → ℕ → ℕ → ℕ → List ℕ
+counts_line k n m f c g =
+    line (word_and_number (codes "count") k ++ 32 ∷ word_and_number (codes "n") n ++ 32 ∷ word_and_number (codes "m") m
+    ++ 32 ∷ word_and_number (codes "f") f ++ 32 ∷ word_and_number (codes "c") c ++ 32 ∷ word_and_number (codes "genus") g)
+
+-- the count line of a simple map that is record k
+abbrev pub count_line : ℕ → Lists → List ℕ
+count_line k lists =
+    counts_line k (vertex_count lists) (edge_count lists) (face_count lists) (component_count lists) (genus lists)
+
+abbrev pub block_by : ℕ → Lists → Option Fault → List ℕ
+block_by k lists None = count_line k lists
+block_by k lists (Some fault) = refused_line k fault
+
+-- what `count` writes for record k: its count line, or the refusal that names its first fault
+abbrev pub count_block : ℕ → Lists → List ℕ
+count_block k lists = block_by k lists (first_fault lists)
+
+-- the record is refused by `count`
+abbrev pub count_refuses : Lists → Bool
+count_refuses lists = is_some (first_fault lists)
+
+-- the text is one block for each record, in order, the first of which is record k
+abbrev pub AreBlocks : (ℕ → Lists → List ℕ → Type 0) → ℕ → List Lists → List ℕ → Type 0
+AreBlocks IsBlock k [] text = text ≡ []
+AreBlocks IsBlock k (lists ∷ records) text =
+    (block : List ℕ) × (rest : List ℕ) × IsBlock k lists block × AreBlocks IsBlock (k + 1) records rest × (text ≡ block ++ rest)
+
+-- the last line where the input ended well
+unfoldable pub end_line : ℕ → ℕ → List ℕ
+end_line records refused = line (word_and_number (codes "end records") records ++ 32 ∷ word_and_number (codes "refused") refused)
+
+-- the last line of a run, by the ending of its input
+unfoldable pub last_line : ℕ → ℕ → Ending → List ℕ
+last_line records refused well = end_line records refused
+last_line records refused (end_in_record at) = line (word_and_number (codes "stop EndInRecord") at)
+last_line records refused (bad_count at) = line (word_and_number (codes "stop BadCount") at)
+last_line records refused too_long = line (codes "stop TooLong")
+
+-- the line of a run whose words are bad
+unfoldable pub bad_words_line : List ℕ
+bad_words_line = line (codes "stop BadWords")

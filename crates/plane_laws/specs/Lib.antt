@@ -1,0 +1,2 @@
+-- The laws of plane maps, as statements about all maps.
+pub mod Laws

@@ -1,0 +1,20 @@
+use Rattle.std.proofs.Common.{◌≡◌, Some, None, Option, slice_get, MatchOption, ap, ◌∙◌, ℕ, List}
+use Rattle.map_lists.specs.Lists.{Lists}
+use Rattle.map_definitions.specs.Maps.{Dart, HasDart, darts, dart_number}
+use Rattle.simple_maps.proofs.TwinLemmas.{HasDart-from_slice_get, slice_get-dart_number}
+use Rattle.simple_maps.proofs.twins.dart_by_hint.Goals as goal
+
+pub returns-then-is_dart_at : goal.returns-then-is_dart_at
+returns-then-is_dart_at c =
+    let found = c.is_dart_at.ensures.0 c.if-is_dart_at.true in
+    (HasDart-from_slice_get c.args.lists.now c.args.ends.now c.args.hint c.args.v c.args.u c.requires.ends found, found)
+
+-- what is found by number stands there
+found_there : (lists : Lists) (ends : List Dart) (v u : ℕ) (o : Option ℕ) → ends ≡ darts lists
+    → MatchOption o (¬ HasDart lists v u) (λ d. HasDart lists v u × (d ≡ dart_number lists (v, u)))
+    → MatchOption o (¬ HasDart lists v u) (λ d. HasDart lists v u × (slice_get ends d ≡ Some (v, u)))
+found_there lists ends v u None e h = h
+found_there lists ends v u (Some d) e h = (h.0, ap (λ n. slice_get ends n) h.1 ∙ slice_get-dart_number lists ends v u e h.0)
+
+pub returns : goal.returns
+returns c = found_there c.args.lists.now c.args.ends.now c.args.v c.args.u c.find_dart.result c.requires.ends c.find_dart.ensures

@@ -1,0 +1,4 @@
+-- Which lists are a simple map, and its tables.
+pub mod Faults
+pub mod MapFault
+pub mod Tables

@@ -1,0 +1,31 @@
+//! Why lists are no simple map.
+
+use std::alloc::AllocError;
+
+/// Why lists are no simple map, with vertices numbered from 0, or want of memory.
+///
+/// The first kind that applies is named, and of it the least first and then the least second vertex.
+#[derive(Clone, Copy, Debug, PartialEq, Eq)]
+pub enum MapFault {
+    /// The first vertex's list holds the second number, which is no vertex.
+    OutOfRange(u16, u16),
+    /// The vertex's list holds itself.
+    Loop(u16),
+    /// The first vertex's list holds the second at least twice.
+    Repeated(u16, u16),
+    /// The first vertex's list holds the second, whose list does not hold the first.
+    OneSided(u16, u16),
+    /// There was not enough memory.
+    NoMemory,
+}
+
+impl From<AllocError> for MapFault {
+    ghost use Rattle.std.specs.Prelude.{◌≡◌};
+    ghost use Rattle.simple_maps.specs.declared.fault.MapFault.TheVariants.{NoMemory};
+
+    ghost from_gives = { λ _ fault. fault ≡ NoMemory };
+
+    fn from(_refused: AllocError) -> MapFault {
+        MapFault::NoMemory
+    }
+}

@@ -1,0 +1,111 @@
+//! The search for the first fault of lists, one kind after another.
+ghost use Rattle.std.specs.Prelude.{◌≡◌, ◌+◌, ◌<◌, ◌==◌, ◌↔◌, ℕ, length, nat_le, slice_index, slice_set, All, Some, None, IsTrue, IfOk, MatchOption};
+ghost use Rattle.std.specs.List.{list_any};
+ghost use Rattle.simple_maps.specs.Faults.{lesser_of, least_where, first_from, least_out_of_range, own_number, least_repeated};
+
+use map_lists::Rotations;
+use std::alloc::{AllocError, Global};
+
+// The lesser of a number and the least one so far.
+pub(crate) fn lesser(least: Option<u16>, u: u16) -> Option<u16>
+    ensures { result ≡ lesser_of least (Some u) }
+{
+    match least {
+        None => Some(u),
+        Some(w) => Some(w.min(u)),
+    }
+}
+
+// The least number of a list that is not below `n`.
+fn least_beyond(list: &[u16], n: usize) -> Option<u16>
+    ensures { result ≡ least_where (nat_le n) list.now }
+{
+    let mut least = None;
+    for u in list {
+        if n <= *u as usize {
+            least = lesser(least, *u);
+        }
+    }
+    least
+}
+
+// The first vertex whose list holds a number that is no vertex, and the least such number.
+pub(crate) fn first_out_of_range(lists: &Rotations) -> Option<(u16, u16)>
+    requires { length lists.now < 4096 }
+    ensures { result ≡ first_from (least_out_of_range (length lists.now)) 0 lists.now }
+{
+    for v in 0..lists.len() {
+        if let Some(u) = least_beyond(lists.list(v), lists.len()) {
+            return Some((v as u16, u));
+        }
+    }
+    None
+}
+
+// Whether a list holds a number.
+fn holds(list: &[u16], u: u16) -> bool
+    ensures { result ≡ list_any (λ w. w == u) list.now }
+{
+    list.contains(&u)
+}
+
+// The first vertex whose list holds itself.
+pub(crate) fn first_loop(lists: &Rotations) -> Option<u16>
+    requires { length lists.now < 4096 }
+    ensures { MatchOption result (first_from own_number 0 lists.now ≡ None)
+        (λ v. first_from own_number 0 lists.now ≡ Some (v, v)) }
+{
+    for v in 0..lists.len() {
+        let own = v as u16;
+        if holds(lists.list(v), own) {
+            return Some(own);
+        }
+    }
+    None
+}
+
+// Marks a number, and says whether it had the mark.
+fn meet(marks: &mut [u16], u: u16, mark: u16) -> bool
+    requires { u < length marks.old }
+    ensures met { IsTrue result ↔ (slice_index marks.old u ≡ mark) }
+    ensures marked { marks.new ≡ slice_set marks.old u mark }
+{
+    let met = marks[u as usize] == mark;
+    marks[u as usize] = mark;
+    met
+}
+
+// The least number that a list holds twice. Each number of it gets the mark, which none had before.
+fn least_twice(marks: &mut [u16], mark: u16, list: &[u16]) -> Option<u16>
+    requires within { All (λ u. u < length marks.old) list.now }
+    requires fresh { All (λ m. m < mark) marks.old }
+    ensures least { result ≡ least_repeated 0 list.now }
+    ensures marks { All (λ m. m < mark + 1) marks.new }
+{
+    let mut twice = None;
+    for u in list {
+        if meet(marks, *u, mark) {
+            twice = lesser(twice, *u);
+        }
+    }
+    twice
+}
+
+// The first vertex whose list holds a number twice, and the least such number.
+pub(crate) fn first_repeated(
+    alloc: Global,
+    lists: &Rotations,
+) -> Result<Option<(u16, u16)>, AllocError>
+    requires few { length lists.now < 4096 }
+    requires in_range { first_from (least_out_of_range (length lists.now)) 0 lists.now ≡ None }
+    ensures { IfOk result (λ found. found ≡ first_from least_repeated 0 lists.now) }
+{
+    // for each number the vertex after the last one whose list held it, or 0
+    let mut marks = vec![in alloc; 0; lists.len()]?;
+    for v in 0..lists.len() {
+        if let Some(u) = least_twice(&mut marks, v as u16 + 1, lists.list(v)) {
+            return Ok(Some((v as u16, u)));
+        }
+    }
+    Ok(None)
+}

@@ -1,0 +1,11 @@
+//! Which rotation lists are a simple map: the tables of its darts, or the first fault of the lists.
+#![tactic(auto)]
+
+mod fault;
+mod faults;
+mod simple;
+mod tables;
+mod twins;
+
+pub use fault::MapFault;
+pub use simple::{Tables, tables_of};
