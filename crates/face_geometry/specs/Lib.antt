@@ -1,0 +1,2 @@
+-- The darts of a drawing whose faces are triangles, each walked counterclockwise but one.
+pub mod Faced
