@@ -249,12 +249,12 @@ module _ (k : ℕ) (twin step : ℕ → ℕ) (at : ℕ → Point) (base : ℕ) (
   holds_outside i l e none =
       let here : ltb (there i) (back i) ≡ false = rw e at none in
       same_count ∙ count_none within k (λ j lj.
-        elim (cases_Bool (in_base step base j)) [
-          | inl f ↦
-              let onj = face_then i base j l (face_back base i d.base_in (base_cases i e)) (base_cases j f) in
-              rw (f, there_along i j l onj, back_along i j l onj, here) refl
-          | inr f ↦ rw f refl
-        ])
+      elim (cases_Bool (in_base step base j)) [
+        | inl f ↦
+            let onj = face_then i base j l (face_back base i d.base_in (base_cases i e)) (base_cases j f) in
+            rw (f, there_along i j l onj, back_along i j l onj, here) refl
+        | inr f ↦ rw f refl
+      ])
 
   -- No place is held by two faces.
   pub one_holds : (i j : ℕ) → i < k → j < k → IsMetAsHeld i → IsMetAsHeld j → IsOnFace step i j

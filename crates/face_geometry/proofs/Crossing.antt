@@ -65,9 +65,11 @@ module _ (k : ℕ) (twin step : ℕ → ℕ) (at : ℕ → Point) (base : ℕ) (
       let h = near_held k twin step at base d (twin i) (d.twins.within i l) t s v pt ps (rw (place, head) right) in
       let w : t +ℤ s ≡ s +ℤ t = omega (arith, ints) in
       let x : moved (scaled t (at (twin i))) (scaled s (at (step (twin i)))) ≡ moved (scaled s (at i)) (scaled t (at (step i))) =
-      ap₂ (λ p q. moved (scaled t p) (scaled s q)) place head ∙ same_point _ _ (omega (arith, sums)) (omega (arith, sums)) in
-      (h.0, λ m more. subst (λ z. IsHeld step (λ j. scaled (pos m *ℤ z) (at j)) base (moved (scaled (pos m) (moved (scaled s (at i)) (scaled t (at (step i))))) v) (twin i)) w
-      (subst (λ X. IsHeld step (λ j. scaled (pos m *ℤ (t +ℤ s)) (at j)) base (moved (scaled (pos m) X) v) (twin i)) x (h.1 m more)))
+      ap₂ (λ p q. moved (scaled t p) (scaled s q)) place head ∙ same_point _ _ (omega (arith, sums)) (omega (arith, sums)) in (
+        h.0,
+        λ m more. subst (λ z. IsHeld step (λ j. scaled (pos m *ℤ z) (at j)) base (moved (scaled (pos m) (moved (scaled s (at i)) (scaled t (at (step i))))) v) (twin i)) w
+            (subst (λ X. IsHeld step (λ j. scaled (pos m *ℤ (t +ℤ s)) (at j)) base (moved (scaled (pos m) X) v) (twin i)) x (h.1 m more)),
+      )
 
 to_left_one : (a b c d : Point) → cross (vector a b) (moved (vector a b) (vector d c)) ≡ area a b c -ℤ area a b d
 to_left_one a b c d = simp ring (omega (arith, sums))
@@ -117,9 +119,11 @@ module _ (k : ℕ) (twin step : ℕ → ℕ) (at : ℕ → Point) (base : ℕ) (
 
     near_second : (v : Point) → pos 0 <ℤ cross (vector c d) v → (n : ℕ) × ((m : ℕ) → n < m → IsNear v m j)
     near_second v l =
-        let h = near_held k twin step at base drawn j lj (neg_ℤ (area a b d)) (area a b c) v (omega (arith, ints)) left l in
-        (h.0, λ m more. subst (λ w. IsHeld step (λ q. scaled (pos m *ℤ w) (at q)) base (moved (scaled (pos m) (on_first a b c d)) v) j) (sym (one_weight a b c d))
-        (subst (λ X. IsHeld step (λ q. scaled (pos m *ℤ (neg_ℤ (area a b d) +ℤ area a b c)) (at q)) base (moved (scaled (pos m) X) v) j) (sym (one_crossing a b c d)) (h.1 m more)))
+        let h = near_held k twin step at base drawn j lj (neg_ℤ (area a b d)) (area a b c) v (omega (arith, ints)) left l in (
+          h.0,
+          λ m more. subst (λ w. IsHeld step (λ q. scaled (pos m *ℤ w) (at q)) base (moved (scaled (pos m) (on_first a b c d)) v) j) (sym (one_weight a b c d))
+              (subst (λ X. IsHeld step (λ q. scaled (pos m *ℤ (neg_ℤ (area a b d) +ℤ area a b c)) (at q)) base (moved (scaled (pos m) X) v) j) (sym (one_crossing a b c d)) (h.1 m more)),
+        )
 
     one_face : (v : Point) (g : ℕ) → g < k → (n : ℕ) × ((m : ℕ) → n < m → IsNear v m g) → (n : ℕ) × ((m : ℕ) → n < m → IsNear v m j) → IsOnFace step g j
     one_face v g lg h h' =
@@ -138,7 +142,7 @@ module _ (k : ℕ) (twin step : ℕ → ℕ) (at : ℕ → Point) (base : ℕ) (
         twin_apart k twin step at base drawn i li
         (face_then k twin step at base drawn a i j (twin i) li left_face (face_back k twin step at base drawn a (twin i) j (drawn.twins.within i li) right_face))
 
-area_back : (c d x : Point) → area d c x ≡ neg_ℤ (area c d x)
+pub area_back : (c d x : Point) → area d c x ≡ neg_ℤ (area c d x)
 area_back c d x = simp ring (omega (arith, sums))
 
 -- no two edges cross

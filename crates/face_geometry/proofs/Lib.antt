@@ -7,3 +7,5 @@ pub mod Clash
 pub mod Near
 pub mod Crossing
 pub mod Round
+pub mod Tilted
+pub mod OnEdge

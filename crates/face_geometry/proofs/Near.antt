@@ -42,7 +42,7 @@ large c (pos s) n l p =
 large c (negsuc s) n l p = absurd (omega (arith, ints))
 
 -- a multiple of u less v
-abbrev less : ℤ → Point → Point → Point
+abbrev pub less : ℤ → Point → Point → Point
 less m u v = record { x = (m *ℤ u.x) -ℤ v.x; y = (m *ℤ u.y) -ℤ v.y }
 
 abbrev pub point : ℤ → ℤ → Point
@@ -51,10 +51,10 @@ point x y = record { x = x; y = y }
 pub same_point : (p q : Point) → p.x ≡ q.x → p.y ≡ q.y → p ≡ q
 same_point p q e f = ap₂ (λ (x y : ℤ). point x y) e f
 
-cross_less : (m n : ℤ) (u v : Point) → cross (less m u v) (less n u v) ≡ (n -ℤ m) *ℤ cross u v
+pub cross_less : (m n : ℤ) (u v : Point) → cross (less m u v) (less n u v) ≡ (n -ℤ m) *ℤ cross u v
 cross_less m n u v = simp ring (omega (arith, sums))
 
-cross_less_two : (m n : ℤ) (u y v : Point) → cross (less m u v) (less n y v) ≡ ((m *ℤ n) *ℤ cross u y) -ℤ ((m *ℤ cross u v) +ℤ (n *ℤ cross v y))
+pub cross_less_two : (m n : ℤ) (u y v : Point) → cross (less m u v) (less n y v) ≡ ((m *ℤ n) *ℤ cross u y) -ℤ ((m *ℤ cross u v) +ℤ (n *ℤ cross v y))
 cross_less_two m n u y v = simp ring (omega (arith, sums))
 
 scale_parts : (K s t z : ℤ) → ((K *ℤ s) -ℤ neg_ℤ (K *ℤ t)) *ℤ z ≡ K *ℤ ((s +ℤ t) *ℤ z)
@@ -115,19 +115,20 @@ near_held k twin step at base d i l s t v ps pt left =
     let c = at (step (step i)) in
     let w : pos 0 <ℤ (s +ℤ t) = omega (arith, ints) in
     let c2 = (s *ℤ cross (vector a b) v) +ℤ cross v (y a b c v s t (pos 0)) in
-    let c3 = cross (y a b c v s t (pos 0)) v -ℤ (t *ℤ cross v (vector a b)) in
-    (unsigned_abs c2 + unsigned_abs c3, λ m more.
-      let K : pos 0 <ℤ pos m = omega (arith, ints) in
-      let first : pos 0 <ℤ area (P a b c v s t (pos m)) (scaled (pos m *ℤ (s +ℤ t)) a) (scaled (pos m *ℤ (s +ℤ t)) b) =
-        rw (near_first a b c v s t (pos m)) (product_positive (pos m) ((s +ℤ t) *ℤ cross (vector a b) v) K (product_positive (s +ℤ t) (cross (vector a b) v) w left)) in
-      record {
-        inner = λ e.
-          let positive = d.inner i l e in
-          let g = product_positive (s +ℤ t) (area a b c) w positive in
-          (
-            first,
-            rw (near_second a b c v s t (pos m)) (product_positive (pos m) ((pos m *ℤ (s *ℤ ((s +ℤ t) *ℤ area a b c))) -ℤ c2) K (large c2 (s *ℤ ((s +ℤ t) *ℤ area a b c)) m (omega arith) (product_positive s ((s +ℤ t) *ℤ area a b c) ps g))),
-            rw (near_third a b c v s t (pos m)) (product_positive (pos m) ((pos m *ℤ (t *ℤ ((s +ℤ t) *ℤ area a b c))) -ℤ c3) K (large c3 (t *ℤ ((s +ℤ t) *ℤ area a b c)) m (omega arith) (product_positive t ((s +ℤ t) *ℤ area a b c) pt g))),
-          );
-        outer = λ e. inl first;
-      })
+    let c3 = cross (y a b c v s t (pos 0)) v -ℤ (t *ℤ cross v (vector a b)) in (
+      unsigned_abs c2 + unsigned_abs c3,
+      λ m more.
+          let K : pos 0 <ℤ pos m = omega (arith, ints) in
+          let first : pos 0 <ℤ area (P a b c v s t (pos m)) (scaled (pos m *ℤ (s +ℤ t)) a) (scaled (pos m *ℤ (s +ℤ t)) b) =
+          rw (near_first a b c v s t (pos m)) (product_positive (pos m) ((s +ℤ t) *ℤ cross (vector a b) v) K (product_positive (s +ℤ t) (cross (vector a b) v) w left)) in
+          record {
+            inner = λ e.
+                let positive = d.inner i l e in
+                let g = product_positive (s +ℤ t) (area a b c) w positive in (
+                  first,
+                  rw (near_second a b c v s t (pos m)) (product_positive (pos m) ((pos m *ℤ (s *ℤ ((s +ℤ t) *ℤ area a b c))) -ℤ c2) K (large c2 (s *ℤ ((s +ℤ t) *ℤ area a b c)) m (omega arith) (product_positive s ((s +ℤ t) *ℤ area a b c) ps g))),
+                  rw (near_third a b c v s t (pos m)) (product_positive (pos m) ((pos m *ℤ (t *ℤ ((s +ℤ t) *ℤ area a b c))) -ℤ c3) K (large c3 (t *ℤ ((s +ℤ t) *ℤ area a b c)) m (omega arith) (product_positive t ((s +ℤ t) *ℤ area a b c) pt g))),
+                );
+            outer = λ e. inl first;
+          },
+    )

@@ -8,7 +8,7 @@ use borrow.Author.Differences.{true_is_lt, false_is_lt}
 use Rattle.pg_plane.specs.declared.point.Point.{Point}
 use Rattle.pg_plane.specs.Geometry.{vector, cross, area}
 use Rattle.label_classes.proofs.Orbits.{IsPermuting, marks_back}
-use Rattle.face_geometry.specs.Faced.{in_base, IsFaced, IsOnFace, IsRound, turn}
+use Rattle.face_geometry.specs.Faced.{in_base, IsFaced, IsOnFace, IsTailed, NoneLevel, turn}
 use Rattle.face_geometry.proofs.Ring.{sums, ring, product_signs}
 use Rattle.face_geometry.proofs.Identities.{cross_back, area_turned, heights}
 use Rattle.label_classes.proofs.Counting.{one_if}
@@ -107,15 +107,19 @@ module _ (k : ℕ) (twin step : ℕ → ℕ) (at : ℕ → Point) (base : ℕ) (
   pub holds : ℕ → Bool
   holds i = cond (in_base step base i) (not (not (head_up (turn twin step i)) && head_up i)) (not (head_up i) && head_up (turn twin step i))
 
-  turn_place : (i : ℕ) → i < k → at (turn twin step i) ≡ at i
+  pub holds_is : (i : ℕ) → holds i ≡ cond (in_base step base i) (not (not (up (at (turn twin step i)) (at (step (turn twin step i)))) && up (at i) (at (step i)))) (not (up (at i) (at (step i))) && up (at (turn twin step i)) (at (step (turn twin step i))))
+  unfolding holds head_up
+  holds_is i = refl
+
+  pub turn_place : (i : ℕ) → i < k → at (turn twin step i) ≡ at i
   turn_place i l =
       let s = d.steps.within i l in
       twin_place k twin step at base d (step (step i)) (d.steps.within (step i) s) ∙ ap at (d.thrice i l)
 
-  turn_head : (i : ℕ) → i < k → at (step (turn twin step i)) ≡ at (step (step i))
+  pub turn_head : (i : ℕ) → i < k → at (step (turn twin step i)) ≡ at (step (step i))
   turn_head i l = twin_head k twin step at base d (step (step i)) (d.steps.within (step i) (d.steps.within i l))
 
-  next_up : (i : ℕ) → i < k → head_up (turn twin step i) ≡ up (at i) (at (step (step i)))
+  pub next_up : (i : ℕ) → i < k → head_up (turn twin step i) ≡ up (at i) (at (step (step i)))
   unfolding head_up
   next_up i l = ap₂ (λ p q. up p q) (turn_place i l) (turn_head i l)
 
@@ -145,7 +149,7 @@ module _ (k : ℕ) (twin step : ℕ → ℕ) (at : ℕ → Point) (base : ℕ) (
         ]
       ]
 
-  turns : IsPermuting (turn twin step) k
+  pub turns : IsPermuting (turn twin step) k
   turns = record {
     within = λ i l. d.twins.within (step (step i)) (d.steps.within (step i) (d.steps.within i l));
     apart = λ i j l m e.
@@ -154,10 +158,10 @@ module _ (k : ℕ) (twin step : ℕ → ℕ) (at : ℕ → Point) (base : ℕ) (
         d.steps.apart i j l m (d.steps.apart (step i) (step j) ls ms (d.twins.apart (step (step i)) (step (step j)) (d.steps.within (step i) ls) (d.steps.within (step j) ms) e));
   }
 
-  module _ (tail : ℕ → ℕ) (r : IsRound k twin step at tail) where
-    turn_tail : (i : ℕ) → i < k → tail (turn twin step i) ≡ tail i
-    turn_tail i l = sym (r.tails (step (step i)) (d.steps.within (step i) (d.steps.within i l))) ∙ ap tail (d.thrice i l)
+  pub turn_tail : (tail : ℕ → ℕ) → IsTailed k twin step at tail → (i : ℕ) → i < k → tail (turn twin step i) ≡ tail i
+  turn_tail tail r i l = sym (r.tails (step (step i)) (d.steps.within (step i) (d.steps.within i l))) ∙ ap tail (d.thrice i l)
 
+  module _ (tail : ℕ → ℕ) (r : IsTailed k twin step at tail) (level : NoneLevel k step at) where
     -- no dart from w holds
     module _ (w : ℕ) (none : (i : ℕ) → i < k → tail i ≡ w → holds i ≡ false) where
       stays_down : (i : ℕ) → i < k → tail i ≡ w → head_up i ≡ false → head_up (turn twin step i) ≡ false
@@ -174,11 +178,11 @@ module _ (k : ℕ) (twin step : ℕ → ℕ) (at : ℕ → Point) (base : ℕ) (
       was_down : (i : ℕ) → i < k → tail i ≡ w → head_up (turn twin step i) ≡ false → head_up i ≡ false
       unfolding is_down
       was_down i l t a =
-          let marked : is_down (turn twin step i) ≡ true = rw (eq-eqb (tail (turn twin step i)) w (turn_tail i l ∙ t), a) refl in
+          let marked : is_down (turn twin step i) ≡ true = rw (eq-eqb (tail (turn twin step i)) w (turn_tail tail r i l ∙ t), a) refl in
           let back = marks_back (turn twin step) k turns is_down
           (λ j lj m. let parts = and_parts (eqb (tail j) w) (not (head_up j)) m in
-            let tj = eqb-true (tail j) w parts.0 in
-            rw (eq-eqb (tail (turn twin step j)) w (turn_tail j lj ∙ tj), stays_down j lj tj (not_true (head_up j) parts.1)) refl) i l marked in
+          let tj = eqb-true (tail j) w parts.0 in
+          rw (eq-eqb (tail (turn twin step j)) w (turn_tail tail r j lj ∙ tj), stays_down j lj tj (not_true (head_up j) parts.1)) refl) i l marked in
           not_true (head_up i) (and_parts (eqb (tail i) w) (not (head_up i)) back).1
 
       same_up : (i : ℕ) → i < k → tail i ≡ w → head_up (turn twin step i) ≡ head_up i
@@ -220,7 +224,7 @@ module _ (k : ℕ) (twin step : ℕ → ℕ) (at : ℕ → Point) (base : ℕ) (
         low i l t down =
             let h : lt_z (pos 0) (vector (at o) (at (step i))).y ≡ false = height i l t ∙ down in
             by_lt_z (vector (at o) (at (step i))).y (pos 0) (λ x. x)
-            (λ x. absurd (r.level i l (let e : at o ≡ at i = r.places o i lo l (to ∙ sym t) in let f = ap (λ (p : Point). p.y) e in omega (arith, ints))))
+            (λ x. absurd (level i l (let e : at o ≡ at i = r.places o i lo l (to ∙ sym t) in let f = ap (λ (p : Point). p.y) e in omega (arith, ints))))
 
         keeps_left : (i : ℕ) → i < k → is_left i ≡ true → is_left (turn twin step i) ≡ true
         unfolding is_left way
@@ -230,7 +234,7 @@ module _ (k : ℕ) (twin step : ℕ → ℕ) (at : ℕ → Point) (base : ℕ) (
             let t = eqb-true (tail i) w one.0 in
             let j = turn twin step i in
             let lj = turns.within i l in
-            let tj : tail j ≡ w = turn_tail i l ∙ t in
+            let tj : tail j ≡ w = turn_tail tail r i l ∙ t in
             let up_j : head_up j ≡ head_up o = same_up i l t ∙ beq_same (head_up i) (head_up o) two.0 in
             let up_i : head_up i ≡ head_up o = beq_same (head_up i) (head_up o) two.0 in
             let v = vector (at o) (at (step i)) in
@@ -253,7 +257,7 @@ module _ (k : ℕ) (twin step : ℕ → ℕ) (at : ℕ → Point) (base : ℕ) (
         no_round =
             let j = turn twin step o in
             let begin : is_left j ≡ true =
-            rw (eq-eqb (tail j) w (turn_tail o lo ∙ to), same_up o lo to, beq_refl (head_up o)) (sym (true_is_lt (pos 0) (way j) (let n = next_left o lo to in omega (arith, ints)))) in
+            rw (eq-eqb (tail j) w (turn_tail tail r o lo ∙ to), same_up o lo to, beq_refl (head_up o)) (sym (true_is_lt (pos 0) (way j) (let n = next_left o lo to in omega (arith, ints)))) in
             let back = marks_back (turn twin step) k turns is_left keeps_left o lo begin in
             let last = (and_parts (beq (head_up o) (head_up o)) (lt_z (pos 0) (way o)) (and_parts (eqb (tail o) w) (beq (head_up o) (head_up o) && lt_z (pos 0) (way o)) back).1).1 in
             let zero : way o ≡ pos 0 = simp ring (omega (arith, sums)) in

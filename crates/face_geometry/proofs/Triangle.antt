@@ -19,23 +19,23 @@ module _ (h1 h2 h3 s1 s2 s3 : ℤ) (t : IsLeftTurn h1 h2 h3 s1 s2 s3) (l1 : h1 �
   one_up a =
       by_lt_z s2 (pos 0)
       (λ b.
-        let total = t.total in
-        let balance = t.balance in
-        let x = (product_signs s1 h1).both_down a l1 in
-        let y = (product_signs s2 h2).both_down (omega (arith, ints)) l2 in
-        let z = (product_signs s3 h3).both_above (omega (arith, ints)) g3 in
-        absurd (omega (arith, sums)))
+      let total = t.total in
+      let balance = t.balance in
+      let x = (product_signs s1 h1).both_down a l1 in
+      let y = (product_signs s2 h2).both_down (omega (arith, ints)) l2 in
+      let z = (product_signs s3 h3).both_above (omega (arith, ints)) g3 in
+      absurd (omega (arith, sums)))
       (λ b. b)
 
   one_in : pos 0 <ℤ s1 → pos 0 ≤ℤ s2 → pos 0 ≤ℤ s3
   one_in a b =
       by_lt_z s3 (pos 0)
       (λ c.
-        let balance = t.balance in
-        let x = (product_signs s1 h1).up_down (omega (arith, ints)) l1 in
-        let y = (product_signs s2 h2).up_down b l2 in
-        let z = (product_signs s3 h3).below_above c g3 in
-        absurd (omega (arith, sums)))
+      let balance = t.balance in
+      let x = (product_signs s1 h1).up_down (omega (arith, ints)) l1 in
+      let y = (product_signs s2 h2).up_down b l2 in
+      let z = (product_signs s3 h3).below_above c g3 in
+      absurd (omega (arith, sums)))
       (λ c. c)
 
 -- with one corner not above, the third
@@ -44,23 +44,23 @@ module _ (h1 h2 h3 s1 s2 s3 : ℤ) (t : IsLeftTurn h1 h2 h3 s1 s2 s3) (g1 : pos 
   two_up a =
       by_lt_z s1 (pos 0)
       (λ b.
-        let total = t.total in
-        let balance = t.balance in
-        let x = (product_signs s1 h1).below_above b g1 in
-        let y = (product_signs s2 h2).down_up a (omega (arith, ints)) in
-        let z = (product_signs s3 h3).up_down (omega (arith, ints)) l3 in
-        absurd (omega (arith, sums)))
+      let total = t.total in
+      let balance = t.balance in
+      let x = (product_signs s1 h1).below_above b g1 in
+      let y = (product_signs s2 h2).down_up a (omega (arith, ints)) in
+      let z = (product_signs s3 h3).up_down (omega (arith, ints)) l3 in
+      absurd (omega (arith, sums)))
       (λ b. b)
 
   two_in : pos 0 <ℤ s2 → pos 0 ≤ℤ s1 → pos 0 ≤ℤ s3
   two_in a b =
       by_lt_z s3 (pos 0)
       (λ c.
-        let balance = t.balance in
-        let x = (product_signs s1 h1).both_up b (omega (arith, ints)) in
-        let y = (product_signs s2 h2).both_above a g2 in
-        let z = (product_signs s3 h3).both_down (omega (arith, ints)) l3 in
-        absurd (omega (arith, sums)))
+      let balance = t.balance in
+      let x = (product_signs s1 h1).both_up b (omega (arith, ints)) in
+      let y = (product_signs s2 h2).both_above a g2 in
+      let z = (product_signs s3 h3).both_down (omega (arith, ints)) l3 in
+      absurd (omega (arith, sums)))
       (λ c. c)
 
 -- a point strictly inside is not below all corners, nor above or level with all

@@ -33,8 +33,11 @@ pub record IsHeld (step : ℕ → ℕ) (at : ℕ → Point) (base : ℕ) (p : Po
 abbrev pub turn : (ℕ → ℕ) → (ℕ → ℕ) → ℕ → ℕ
 turn twin step i = twin (step (step i))
 
--- The darts leave vertices that have a place each, and no edge is level.
-pub record IsRound (k : ℕ) (twin step : ℕ → ℕ) (at : ℕ → Point) (tail : ℕ → ℕ) : Type 0 where
+-- The darts leave vertices that have a place each.
+pub record IsTailed (k : ℕ) (twin step : ℕ → ℕ) (at : ℕ → Point) (tail : ℕ → ℕ) : Type 0 where
   pub tails : (i : ℕ) → i < k → tail (step i) ≡ tail (twin i)
   pub places : (i j : ℕ) → i < k → j < k → tail i ≡ tail j → at i ≡ at j
-  pub level : (i : ℕ) → i < k → (at (step i)).y ≡ (at i).y → ⊥
+
+-- no edge is level
+abbrev pub NoneLevel : ℕ → (ℕ → ℕ) → (ℕ → Point) → Type 0
+NoneLevel k step at = (i : ℕ) → i < k → (at (step i)).y ≡ (at i).y → ⊥
