@@ -3,9 +3,11 @@
 
 mod fault;
 mod faults;
+mod pass;
 mod simple;
 mod tables;
 mod twins;
 
 pub use fault::MapFault;
+pub use pass::DartSlot;
 pub use simple::{Tables, tables_of};
