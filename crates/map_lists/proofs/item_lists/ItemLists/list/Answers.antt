@@ -1,10 +1,10 @@
 use Rattle.std.proofs.Common.{◌≡◌, length, ap, ◌∙◌, arith, get_or, []}
 use Rattle.map_lists.specs.Cuts.{cut}
 use Rattle.map_lists.proofs.CutLemmas.{length-cut}
-use Rattle.map_lists.proofs.rotations.Rotations.list.Goals as goal
+use Rattle.map_lists.proofs.item_lists.ItemLists.list.Goals as goal
 
 pub piece-requires : goal.piece-requires
-piece-requires c =
+piece-requires g c =
     let ends = c.deref-2.ensures.value in
     let entries = c.deref.ensures.value in
     record {
@@ -13,8 +13,8 @@ piece-requires c =
     }
 
 pub returns : goal.returns
-returns c =
+returns g c =
     let ends = c.deref-2.ensures.value in
     let entries = c.deref.ensures.value in
     let view : cut 0 c.deref-2.result.now c.deref.result.now ≡ c.args.self.now = rw (ends, entries) c.self.view_is in
-    c.piece.ensures ∙ ap (λ lists. get_or lists c.args.v []) view
+    c.piece.ensures ∙ ap (λ lists. get_or lists c.args.i []) view
