@@ -123,3 +123,11 @@ module _ (entries old tails twins : List ℕ) (start n v : ℕ) (same : (i : ℕ
   step-pairs =
       AreMutual-pair entries tails (set (set tails d tail) e v) twins n d e h again (omega arith) e_in (omega arith) (omega arith) (omega arith)
       (one ∙ is) (other ∙ sym at_e)
+
+-- entries that are what a function says, and one more
+pub written_more : (xs : List ℕ) (f : ℕ → ℕ) (d x : ℕ) → d < length xs → x ≡ f d → ((i : ℕ) → i < d → get_or xs i 0 ≡ f i) → (i : ℕ) → i < d + 1 → get_or (set xs d x) i 0 ≡ f i
+written_more xs f d x l e h i m =
+    elim (cases_eq i d) [
+      | inl q ↦ ap (λ y. get_or (set xs d x) y 0) q ∙ (get_or-set_same xs d x 0 l ∙ (e ∙ ap f (sym q)))
+      | inr ne ↦ get_or-set_other xs d i x 0 ne ∙ h i (omega arith)
+    ]

@@ -31,7 +31,7 @@ pub trait DartSlot: Copy {
 }
 
 // More than any dart's number: what stands in place of a twin's number, where the twin is not known.
-const NO_PLACE: u32 = 1 << 24;
+pub(crate) const NO_PLACE: u32 = 1 << 24;
 
 // A thread names place d of the entries by d more than this.
 const FIRST_PLACE: u32 = NO_PLACE + 1;
