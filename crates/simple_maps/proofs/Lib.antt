@@ -1,5 +1,8 @@
 -- The lemmas on faults and tables.
 pub mod FaultLemmas
+pub mod FlatLemmas
 pub mod MarkLemmas
+pub mod PassLemmas
+pub mod PassedLemmas
 pub mod TableLemmas
 pub mod TwinLemmas

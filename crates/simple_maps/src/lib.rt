@@ -3,9 +3,13 @@
 
 mod fault;
 mod faults;
+mod pass;
 mod simple;
+mod slots;
 mod tables;
 mod twins;
 
 pub use fault::MapFault;
+pub use pass::DartSlot;
 pub use simple::{Tables, tables_of};
+pub use slots::fill_slots;
