@@ -4,6 +4,7 @@ mod PairCases
 mod LawCases
 pub mod ArcLemmas
 pub mod DartPaths
+pub mod ComponentPaths
 pub mod CornerSplit
 pub mod Generated
 pub mod LoneEdge

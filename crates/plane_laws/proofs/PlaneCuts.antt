@@ -1,8 +1,8 @@
 -- What a cut does where nothing is missing from the Euler bound, as in a map of genus zero.
 use Rattle.std.proofs.Common.{◌≡◌, ◌≢◌, ◌⊎◌, ℕ, zero, suc, ◌+◌, ◌<◌, false, eqb, refl, sym, ap, ◌∙◌, subst, inl, inr, arith}
 use Rattle.std.proofs.lemmas.Bool.{cases_eq, eq-eqb, ne_eqb}
-use Rattle.label_classes.specs.Classes.{count_below, label, class_count}
-use Rattle.label_classes.proofs.Counting.{count_below_same, count_below_more}
+use Rattle.label_classes.specs.Classes.{label, class_count}
+use Rattle.label_classes.proofs.Counting.{count_below_none, count_below_same, count_below_more}
 use Rattle.label_classes.proofs.Classes.{Together, cases_Together, merge-within, class_count-merge_apart, same_class-from, apart-from}
 use Rattle.label_classes.proofs.Orbits.{orbits_of, orbits_of-step, IsPermuting, count_below-images}
 use Rattle.label_classes.proofs.Swap.{orbits_of-same, exchange, swapped_first, swapped_second, swapped_other, IsPermuting-exchange, exchange_orbits}
@@ -66,10 +66,6 @@ module _ (f g : ℕ → ℕ) (k m x y : ℕ) (double : k ≡ m + m) (w : IsPermu
       ]
 
 -- ---- one dart taken off its orbit
-count_none : (n : ℕ) → count_below (λ i. false) n ≡ 0
-count_none zero = refl
-count_none (suc n) = omega (arith, count_none n)
-
 find_image : (f : ℕ → ℕ) (d n : ℕ) → ((p : ℕ) × (p < n) × (f p ≡ d)) ⊎ ((i : ℕ) → i < n → f i ≢ d)
 find_image f d zero = inr (λ i l. absurd (omega arith))
 find_image f d (suc n) =
@@ -91,7 +87,7 @@ image_of_some f k w d l =
           let images = count_below-images f k w (λ i. eqb i d) in
           let none = count_below_same (λ i. eqb (f i) d) (λ i. false) k (λ i l. ne_eqb (f i) d (h i l)) in
           let some = count_below_more (λ i. false) (λ i. eqb i d) k d l refl (eq-eqb d d refl) (λ i l ne. sym (ne_eqb i d ne)) in
-          absurd (omega (arith, images, none, some, count_none k))
+          absurd (omega (arith, images, none, some, count_below_none k))
     ]
 
 -- d, the image of p, made a fixed point, and p led to where d led: the rest is as it was

@@ -1,7 +1,13 @@
 //! Laws of plane maps. Each is the contract of a function that does nothing, and speaks of all maps.
 #![tactic(auto)]
 
-ghost use Rattle.plane_laws.specs.Laws.{EdgeRemoved, BridgeTest, FacesMerged, EdgeBound, CornerSplit, DigonSplit, VertexSmoothed};
+ghost use Rattle.plane_laws.specs.Laws.{ComponentsArePaths, EdgeRemoved, BridgeTest, FacesMerged, EdgeBound, CornerSplit, DigonSplit, VertexSmoothed};
+
+/// Two vertices of a simple map are in one of the classes that count its components exactly where a
+/// path joins them.
+pub fn components_are_paths()
+    ensures { ComponentsArePaths }
+{}
 
 /// A map of genus zero without one of its edges has genus zero.
 pub fn edge_removed()

@@ -3,3 +3,4 @@ pub mod FaultLemmas
 pub mod MarkLemmas
 pub mod TableLemmas
 pub mod TwinLemmas
+pub mod FirstFaults

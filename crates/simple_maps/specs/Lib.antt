@@ -2,3 +2,4 @@
 pub mod Faults
 pub mod MapFault
 pub mod Tables
+pub mod Laws

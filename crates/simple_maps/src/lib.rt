@@ -3,9 +3,11 @@
 
 mod fault;
 mod faults;
+mod laws;
 mod simple;
 mod tables;
 mod twins;
 
 pub use fault::MapFault;
+pub use laws::{first_fault_is_first, no_fault_is_simple};
 pub use simple::{Tables, tables_of};
