@@ -1,14 +1,15 @@
--- The classes of vertices that count components are those of "joined by a path".
-use Rattle.std.proofs.Common.{◌≡◌, ℕ, zero, suc, ◌-◌, ◌<◌, List, All, [], ◌∷◌, ◌++◌, length, get_or, refl, sym, ap, ◌∙◌, inl, inr, arith}
+-- Paths that go on; and the classes of vertices that count components, which are those of "joined by a path".
+use Rattle.std.proofs.Common.{◌≡◌, ℕ, zero, suc, ◌-◌, ◌<◌, List, All, Contains, [], ◌∷◌, ◌++◌, length, get_or, refl, sym, ap, ◌∙◌, subst, inl, inr, arith}
 use Rattle.std.proofs.lemmas.Bool.{cases_eq}
 use Rattle.std.proofs.lemmas.List.{get_or_append_left, get_or_push, length-append}
-use Rattle.std.proofs.lemmas.List.Elements.{All-push, All-cons}
+use Rattle.std.proofs.lemmas.List.Elements.{All-push, All-cons, Contains-append_cases}
 use Rattle.label_classes.specs.Classes.{label, classes}
 use Rattle.label_classes.proofs.Classes.{Together, IsEquivalenceBelow, classes-lies, same_class-from, Together-from}
 use Rattle.map_lists.specs.Lists.{Lists}
 use Rattle.map_definitions.specs.Maps.{Dart, HasDart, IsSimpleMap, darts}
-use Rattle.map_definitions.specs.Paths.{IsPath}
+use Rattle.map_definitions.specs.Paths.{IsPath, JoinsAvoiding}
 use Rattle.map_definitions.proofs.DartLemmas.{length-darts, HasDart-darts}
+use Rattle.map_definitions.proofs.EntryLemmas.{Contains-cons_cases}
 use Rattle.euler_bound.proofs.DartPermutations.{components, darts_below, edge_together}
 use Rattle.plane_laws.specs.Laws.{AreJoined, ComponentsArePaths}
 
@@ -28,33 +29,42 @@ AreJoined-itself lists u l = (
   },
 )
 
--- a path goes on over a dart
-AreJoined-more : (lists : Lists) (u v w : ℕ) → HasDart lists v w → w < length lists → AreJoined lists u v → AreJoined lists u w
-AreJoined-more lists u v w dart l joined =
-    let path = joined.0 in
-    let j = joined.1 in
+-- a path goes on over a dart, to a vertex that is not avoided
+pub JoinsAvoiding-more : (lists : Lists) (avoided : List ℕ) (u v w : ℕ) (path : List ℕ) → HasDart lists v w → w < length lists → ¬ Contains avoided w → JoinsAvoiding lists avoided u v path → JoinsAvoiding lists avoided u w (path ++ w ∷ [])
+JoinsAvoiding-more lists avoided u v w path dart l off j =
     let some = j.is_path.some in
     let n = length-append path (w ∷ []) in
     let new = path ++ w ∷ [] in
     let old = λ (i : ℕ) (m : i < length path). get_or_append_left path (w ∷ []) 0 i m in
-    let last : (i : ℕ) → length path ≡ i → get_or new i 0 ≡ w = λ i e. get_or_push path w 0 i e in (
-      new,
-      record {
-        is_path = record {
-          some = omega arith;
-          vertices = All-push (λ v. v < length lists) path w j.is_path.vertices l;
-          steps = λ i m. elim (cases_eq (suc i) (length path)) [
-            | inl e ↦
-                let at : i ≡ length path - 1 = omega arith in
-                rw (old i (omega arith), last (suc i) (sym e), at, j.end) dart
-            | inr ne ↦ rw (old i (omega arith), old (suc i) (omega arith)) (j.is_path.steps i (omega arith))
-          ];
-        };
-        start = old 0 some ∙ j.start;
-        end = last (length new - 1) (omega arith);
-        avoids = λ x c a. let some = a.1 in absurd (omega arith);
-      },
-    )
+    let last : (i : ℕ) → length path ≡ i → get_or new i 0 ≡ w = λ i e. get_or_push path w 0 i e in
+    record {
+      is_path = record {
+        some = omega arith;
+        vertices = All-push (λ v. v < length lists) path w j.is_path.vertices l;
+        steps = λ i m. elim (cases_eq (suc i) (length path)) [
+          | inl e ↦
+              let at : i ≡ length path - 1 = omega arith in
+              rw (old i (omega arith), last (suc i) (sym e), at, j.end) dart
+          | inr ne ↦ rw (old i (omega arith), old (suc i) (omega arith)) (j.is_path.steps i (omega arith))
+        ];
+      };
+      start = old 0 some ∙ j.start;
+      end = last (length new - 1) (omega arith);
+      avoids = λ x c. elim (Contains-append_cases path (w ∷ []) x c) [
+        | inl d ↦ j.avoids x d
+        | inr d ↦ λ a. elim (Contains-cons_cases w [] x d) [ inl e ↦ off (subst (Contains avoided) (sym e) a) | inr none ↦ let some = none.1 in absurd (omega arith) ]
+      ];
+    }
+
+-- who avoids some vertices avoids fewer
+pub JoinsAvoiding-fewer : (lists : Lists) (avoided fewer : List ℕ) (s t : ℕ) (path : List ℕ) → ((x : ℕ) → Contains fewer x → Contains avoided x) → JoinsAvoiding lists avoided s t path → JoinsAvoiding lists fewer s t path
+JoinsAvoiding-fewer lists avoided fewer s t path less j =
+    record { is_path = j.is_path; start = j.start; end = j.end; avoids = λ x c a. j.avoids x c (less x a) }
+
+-- a path that avoids nothing
+AreJoined-more : (lists : Lists) (u v w : ℕ) → HasDart lists v w → w < length lists → AreJoined lists u v → AreJoined lists u w
+AreJoined-more lists u v w dart l joined =
+    (joined.0 ++ w ∷ [], JoinsAvoiding-more lists [] u v w joined.0 dart l (λ a. let some = a.1 in absurd (omega arith)) joined.1)
 
 module _ (lists : Lists) (simple : IsSimpleMap lists) where
   -- along a path all vertices are in one component

@@ -1,27 +1,25 @@
 -- An edge taken away from a map of genus zero: whether that parts a component is seen at its faces; and where it does not, its two faces become one.
 use Rattle.std.proofs.Common.{◌≡◌, ◌≢◌, ℕ, ◌+◌, ◌<◌, true, false, cond, eqb, List, [], ◌∷◌, length, Contains, refl, sym, ap, ap₂, ◌∙◌, subst, inl, inr, arith}
 use Rattle.std.proofs.lemmas.Bool.{cases_eq, eq-eqb, ne_eqb, false≢true}
-use Rattle.label_classes.specs.Classes.{label, class_count, orbits, merge}
+use Rattle.label_classes.specs.Classes.{label, class_count, merge}
 use Rattle.map_lists.specs.Lists.{Lists}
-use Rattle.map_definitions.specs.Maps.{Dart, darts, list_of, HasDart, IsSimpleMap, IsPlane, is_empty_list, darts_before, dart_number, dart_count, edge_count, component_count, face_images}
+use Rattle.map_definitions.specs.Maps.{Dart, darts, list_of, HasDart, IsSimpleMap, IsPlane, is_empty_list, darts_before, dart_number, dart_count, edge_count, component_count}
 use Rattle.map_definitions.specs.Paths.{SameFace}
 use Rattle.map_definitions.specs.Edges.{without_edge}
 use Rattle.plane_laws.specs.Laws.{BridgeTest, FacesMerged, IsMergedFaces}
-use Rattle.label_classes.proofs.Classes.{Together, IsLabels, labels_same, Together-from, same_class-from, apart-from, length-merge, IsLabels-merge, merge-joined, merge-keeps, merge-same, joined-merge, merge-within, class_count-merge_apart, length-classes}
+use Rattle.label_classes.proofs.Classes.{Together, IsLabels, labels_same, same_class-from, apart-from, length-merge, IsLabels-merge, merge-joined, merge-keeps, merge-same, joined-merge, merge-within, class_count-merge_apart, length-classes}
 use Rattle.label_classes.proofs.Orbits.{orbits_of, length-orbits_of, IsLabels-orbits_of, orbits_of-step, orbits_of-marked, IsPermuting}
 use Rattle.label_classes.proofs.Swap.{exchange, IsPermuting-exchange, exchange_orbits, orbits_of-same}
 use Rattle.label_classes.proofs.Bound.{joint, joint-first, joint-second, joint-marked, IsPairing, IsPermuting-pairing, IsPermuting-after, after, after-exchange, Balances}
-use Rattle.plane_laws.proofs.PlaneCuts.{plane_cut-apart, plane_cut-together, image_of_some, lone, lone_before, lone_other, lone_together}
+use Rattle.plane_laws.proofs.PlaneCuts.{fixed_alone, plane_cut-apart, plane_cut-together, image_of_some, lone, lone_before, lone_other, lone_together}
 use Rattle.euler_bound.proofs.Transfer.{IsTransfer}
 use Rattle.plane_laws.proofs.Generated.{IsRenumbering, neither_first, IsGenerated-orbits, GoesOver-after, IsTransfer-renumbered, neither, neither_other}
 use Rattle.plane_laws.proofs.LoneEdge.{IsPermuting-lone_edge, GoesOver-out}
-use Rattle.plane_laws.proofs.DigonSplit.{fixed_alone}
 use Rattle.map_definitions.proofs.WithoutEdge.{back, u_not_v, length-without_edge, dart_old, dart_new, IsSimpleMap-without_edge}
 use Rattle.plane_laws.proofs.EdgeRemoved.{in_out, twin_out, to_below, to_not_out, renumbering, twin_over, rotation_over, apart, apart'}
 use Rattle.map_definitions.proofs.DartLemmas.{dart_number-lt, get_or-dart_number}
-use Rattle.euler_bound.proofs.DartPermutations.{dart_of, tail_of, rotation, twin, components, IsPermuting-rotation, IsPairing-twin, dart_of-number, dart_of-twin, tail_of-rotation, same_orbit, components-marked, IsLabels-components, edge_together, isolated_apart, orbits-face_images, balances_map, two_m, has_edge, first_in, tail_of-first, has_edge-tail}
-use Rattle.plane_laws.proofs.DartPaths.{tail_of-number}
-use Rattle.plane_laws.proofs.CornerSplit.{numbers_apart}
+use Rattle.euler_bound.proofs.DartPermutations.{dart_of, tail_of, rotation, twin, components, IsPermuting-rotation, IsPairing-twin, dart_of-number, dart_of-twin, tail_of-rotation, same_orbit, components-marked, IsLabels-components, edge_together, isolated_apart, balances_map, two_m, has_edge, first_in, tail_of-first, has_edge-tail}
+use Rattle.plane_laws.proofs.DartPaths.{tail_of-number, numbers_apart, face_together, same_face}
 
 no_entry : (us : List ℕ) → ((z : ℕ) → ¬ Contains us z) → is_empty_list us ≡ true
 no_entry [] h = refl
@@ -357,10 +355,10 @@ module _ (lists : Lists) (simple : IsSimpleMap lists) (u v : ℕ) (edge : HasDar
   face_step = orbits_of-step (after f g) k (IsPermuting-after f g k w gw).within
 
   to_orbit : (b c : Dart) → SameFace lists b c → Together P (dart_number lists b) (dart_number lists c)
-  to_orbit b c h = rw (orbits-face_images lists simple) at (Together-from (orbits (face_images lists)) (dart_number lists b) (dart_number lists c) h)
+  to_orbit = face_together lists simple
 
   from_orbit : (b c : Dart) → Together P (dart_number lists b) (dart_number lists c) → SameFace lists b c
-  from_orbit b c t = same_class-from (orbits (face_images lists)) (dart_number lists b) (dart_number lists c) (rw (orbits-face_images lists simple) t)
+  from_orbit = same_face lists simple
 
   -- what leads to p's partner leads on to d
   before_d : (p : ℕ) → p < k → f p ≡ d → Together P (g p) d
@@ -544,7 +542,7 @@ module _ (lists : Lists) (simple : IsSimpleMap lists) (u v : ℕ) (edge : HasDar
           ]
         ] in
         let over = faces_over.back (dart_number rest b) (dart_number rest c) (omega arith) (omega arith) (ap (label P2) (number_over b h) ∙ (t2 ∙ sym (ap (label P2) (number_over c h')))) in
-        same_class-from (orbits (face_images rest)) (dart_number rest b) (dart_number rest c) (rw (orbits-face_images rest simple') over)
+        same_face rest simple' b c over
 
     rest_to_cut : (b c : Dart) → HasDart rest b.0 b.1 → HasDart rest c.0 c.1 → SameFace rest b c → Together P1 (dart_number lists b) (dart_number lists c)
     rest_to_cut b c h h' face =
@@ -554,7 +552,7 @@ module _ (lists : Lists) (simple : IsSimpleMap lists) (u v : ℕ) (edge : HasDar
         let lc = left_in c h' in
         let gq = pair.within q lq in
         let gg = pair.within (g d) le in
-        let q' : Together Q (dart_number rest b) (dart_number rest c) = rw (orbits-face_images rest simple') at (Together-from (orbits (face_images rest)) (dart_number rest b) (dart_number rest c) face) in
+        let q' = face_together rest simple' b c face in
         let over = faces_over.there (dart_number rest b) (dart_number rest c) (omega arith) (omega arith) q' in
         let t2 : Together P2 (dart_number lists b) (dart_number lists c) = ap (label P2) (sym (number_over b h)) ∙ (over ∙ ap (label P2) (number_over c h')) in
         rw second_cuts (merge-keeps P2 (g q) (g (g d)) w_P2 (omega arith) (omega arith) (dart_number lists b) (dart_number lists c) t2)

@@ -12,8 +12,7 @@ use Rattle.plane_laws.proofs.Generated.{IsRenumbering, neither, neither_other, n
 use Rattle.plane_laws.proofs.LoneEdge.{lone_edge-skip, lone_edge-skip_second, lone_edge-other, lone_edge_out}
 use Rattle.map_definitions.proofs.DartLemmas.{dart_number-lt, get_or-dart_number, dart_number-injective, HasDart-follows}
 use Rattle.euler_bound.proofs.DartPermutations.{dart_of, tail_of, rotation, twin, IsPermuting-rotation, IsPairing-twin, dart_of-number, dart_of-rotation, dart_of-twin, tail_of-rotation, two_m, map_balances, balances_map}
-use Rattle.plane_laws.proofs.DartPaths.{tail_of-number, twin-number}
-use Rattle.plane_laws.proofs.CornerSplit.{rotation-number}
+use Rattle.plane_laws.proofs.DartPaths.{tail_of-number, twin-number, rotation-number}
 use Rattle.map_definitions.proofs.WithoutEdge.{back, u_not_v, dart_old, dart_new, IsSimpleMap-without_edge, follows_skip_first, follows_skip_second, follows_same, edge_count-without}
 
 -- The darts that are left, numbered anew: the two permutations of the map that is left are those of the map, with the edge taken off and left out.

@@ -9,7 +9,6 @@ pub mod CornerSplit
 pub mod Generated
 pub mod LoneEdge
 pub mod EdgeRemoved
-pub mod Contract
 pub mod DigonSplit
 pub mod EdgeFaces
 pub mod EdgeBound

@@ -1,13 +1,13 @@
 -- An edge taken off both its vertices, where nothing is missing from the Euler bound: nothing is missing after it, and the edge, which is now a class of its own, may be left out.
-use Rattle.std.proofs.Common.{◌≡◌, ◌≢◌, ◌⊎◌, ℕ, ◌+◌, ◌<◌, Bool, true, false, not, eqb, List, refl, sym, ap, ◌∙◌, inl, inr, arith}
-use Rattle.std.proofs.lemmas.Bool.{cases_Bool, cases_eq, eq-eqb, ne_eqb, false≢true, not-true}
+use Rattle.std.proofs.Common.{◌≡◌, ◌≢◌, ◌⊎◌, ℕ, ◌+◌, ◌<◌, Bool, true, false, not, eqb, List, sym, ap, ◌∙◌, inl, inr, arith}
+use Rattle.std.proofs.lemmas.Bool.{cases_Bool, cases_eq, eq-eqb, false≢true, not-true}
 use Rattle.label_classes.specs.Classes.{label, merge_all, class_count}
 use Rattle.label_classes.proofs.Counting.{one_if}
 use Rattle.label_classes.proofs.Classes.{Together-label}
-use Rattle.label_classes.proofs.Orbits.{StaysBelow, steps, orbits_of, IsPermuting, marks_back}
+use Rattle.label_classes.proofs.Orbits.{StaysBelow, steps, orbits_of, IsLabels-orbits_of, IsPermuting, marks_back}
 use Rattle.label_classes.proofs.Swap.{swapped, exchange, swapped_first, swapped_other, IsPermuting-exchange, orbits_of-same}
 use Rattle.label_classes.proofs.Bound.{joint, IsPairing, IsPermuting-pairing, IsPermuting-after, after, Balances}
-use Rattle.plane_laws.proofs.PlaneCuts.{plane_cut, lone, lone_before, lone_other, lone_together}
+use Rattle.plane_laws.proofs.PlaneCuts.{fixed_alone, plane_cut, lone, lone_before, lone_other, lone_together}
 use Rattle.euler_bound.proofs.Transfer.{class_count-transfer}
 use Rattle.plane_laws.proofs.Generated.{IsGenerated, IsGenerated-orbits, IsGenerated-joint, IsRenumbering, GoesOver, GoesOver-after, IsTransfer-renumbered, neither, neither_first, neither_second, neither_cases, left_out, left_out_one}
 
@@ -124,20 +124,10 @@ module _ (f g : ℕ → ℕ) (k m d p q : ℕ) (double : k ≡ m + m) (w : IsPer
   pub lone_points : one_if (eqb (label (orbits_of lone_edge k) d) d) + one_if (eqb (label (orbits_of lone_edge k) (g d)) (g d)) ≡ 2
   lone_points =
       let O = orbits_of lone_edge k in
-      let made = IsGenerated-orbits lone_edge k IsPermuting-lone_edge.within in
-      let u = made.known in
+      let known = IsLabels-orbits_of lone_edge k IsPermuting-lone_edge.within in
       let alone : (x : ℕ) → x < k → lone_edge x ≡ x → label O x ≡ x = λ x l fixed.
-      let step : (y : ℕ) → y < k → one_if (eqb y x) ≡ one_if (eqb (lone_edge y) x) = λ y n.
-      elim (cases_eq y x) [
-        | inl e ↦ ap one_if (eq-eqb y x e ∙ sym (eq-eqb (lone_edge y) x (ap lone_edge e ∙ fixed)))
-        | inr ne ↦ ap one_if (ne_eqb y x ne ∙ sym (ne_eqb (lone_edge y) x (λ e. ne (IsPermuting-lone_edge.apart y x n l (e ∙ sym fixed)))))
-      ] in
-      let low = u.low x in
-      let same = made.least (λ y. one_if (eqb y x)) step step x (label O x) l (omega arith) (Together-label O u x) in
-      elim (cases_eq (label O x) x) [
-        | inl e ↦ e
-        | inr ne ↦ absurd (omega (arith, same, ap one_if (eq-eqb x x refl), ap one_if (ne_eqb (label O x) x ne)))
-      ] in
+      let low = known.low x in
+      fixed_alone lone_edge k IsPermuting-lone_edge x l fixed (label O x) (omega arith) (sym (Together-label O known x)) in
       omega (arith, ap one_if (eq-eqb (label O d) d (alone d ld lone_edge-first)), ap one_if (eq-eqb (label O (g d)) (g d) (alone (g d) le lone_edge-second)))
 
   pub twin_out : neither d (g d) (g d) ≡ false

@@ -7,10 +7,9 @@ use Rattle.label_classes.proofs.Classes.{Together, Together-label, same_class-fr
 use Rattle.label_classes.proofs.Orbits.{StaysBelow, orbits_of, IsPermuting, marks_back}
 use Rattle.label_classes.proofs.Swap.{exchange, IsPermuting-exchange, exchange_orbits}
 use Rattle.label_classes.proofs.Bound.{joint, IsPairing, IsPermuting-pairing, IsPermuting-after, after, Balances}
-use Rattle.plane_laws.proofs.PlaneCuts.{lone, lone_before, lone_other, lone_together}
+use Rattle.plane_laws.proofs.PlaneCuts.{fixed_alone, lone, lone_before, lone_other, lone_together}
 use Rattle.euler_bound.proofs.Transfer.{IsTransfer, class_count-transfer}
 use Rattle.plane_laws.proofs.Generated.{IsGenerated, IsGenerated-orbits, IsGenerated-joint, IsRenumbering, GoesOver, IsTransfer-renumbered, neither, neither_first, neither_second, neither_cases, neither_true, neither_other, left_out, left_out_one}
-use Rattle.plane_laws.proofs.DigonSplit.{fixed_alone}
 
 -- d and e lead to the vertex of degree two, whose two darts are their partners.
 module _ (f g : ℕ → ℕ) (k m d e : ℕ) (w : IsPermuting f k) (pair : IsPairing g k) (ld : d < k) (le : e < k) (ne : d ≢ e) (off : d ≢ g e) (turn : f (g d) ≡ g e) (turn' : f (g e) ≡ g d) where
