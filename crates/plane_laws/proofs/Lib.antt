@@ -12,6 +12,7 @@ pub mod EdgeRemoved
 pub mod DigonSplit
 pub mod EdgeFaces
 pub mod EdgeBound
+pub mod Triangles
 pub mod Smooth
 pub mod Replaced
 pub mod VertexSmoothed
