@@ -3,10 +3,10 @@ use Rattle.std.proofs.Common.{◌≡◌, ℕ, zero, suc, ◌-◌, ◌<◌, List,
 use Rattle.std.proofs.lemmas.Bool.{cases_eq}
 use Rattle.std.proofs.lemmas.List.{get_or_append_left, get_or_push, length-append}
 use Rattle.std.proofs.lemmas.List.Elements.{All-push, All-cons, Contains-append_cases}
-use Rattle.label_classes.specs.Classes.{label, classes}
+use Rattle.label_classes.specs.Classes.{label}
 use Rattle.label_classes.proofs.Classes.{Together, IsEquivalenceBelow, classes-lies, same_class-from, Together-from}
 use Rattle.map_lists.specs.Lists.{Lists}
-use Rattle.map_definitions.specs.Maps.{Dart, HasDart, IsSimpleMap, darts}
+use Rattle.map_definitions.specs.Maps.{component_classes, Dart, HasDart, IsSimpleMap, darts}
 use Rattle.map_definitions.specs.Paths.{IsPath, JoinsAvoiding}
 use Rattle.map_definitions.proofs.DartLemmas.{length-darts, HasDart-darts}
 use Rattle.map_definitions.proofs.EntryLemmas.{Contains-cons_cases}
@@ -99,6 +99,6 @@ module _ (lists : Lists) (simple : IsSimpleMap lists) where
 -- THE LAW: components are classes of "joined by a path"
 pub components_are_paths : ComponentsArePaths
 components_are_paths lists u v simple l m = (
-  λ same. to_joined lists simple u v l m (Together-from (classes (length lists) (darts lists)) u v same),
-  λ joined. same_class-from (classes (length lists) (darts lists)) u v (from_joined lists simple u v joined),
+  λ same. to_joined lists simple u v l m (Together-from (component_classes lists) u v same),
+  λ joined. same_class-from (component_classes lists) u v (from_joined lists simple u v joined),
 )

@@ -2,12 +2,12 @@
 use Rattle.std.proofs.Common.{◌≡◌, ◌⊎◌, ℕ, zero, suc, ◌-◌, ◌<◌, List, length, get_or, Contains, sym, ap, ◌∙◌, subst, inl, inr, arith}
 use Rattle.std.proofs.lemmas.List.{get_or_default}
 use Rattle.std.proofs.lemmas.List.Elements.{Contains-get_or}
-use Rattle.label_classes.specs.Classes.{label, orbits}
+use Rattle.label_classes.specs.Classes.{label}
 use Rattle.label_classes.proofs.Classes.{Together, Together-from, same_class-from}
 use Rattle.label_classes.proofs.Orbits.{orbits_of, orbits_of-step, IsPermuting}
 use Rattle.label_classes.proofs.Bound.{joint, joint-first, joint-second, IsPermuting-pairing, IsPermuting-after, after}
 use Rattle.map_lists.specs.Lists.{Lists}
-use Rattle.map_definitions.specs.Maps.{Dart, list_of, HasDart, IsSimpleMap, follows, dart_number, dart_count, face_images, twin_dart}
+use Rattle.map_definitions.specs.Maps.{Dart, list_of, HasDart, IsSimpleMap, follows, dart_number, dart_count, face_classes, twin_dart}
 use Rattle.map_definitions.specs.Paths.{IsPath, JoinsAvoiding, SameFace, arc, from_entry}
 use Rattle.map_definitions.proofs.DartLemmas.{dart_number-lt, get_or-dart_number, dart_number-injective, HasDart-follows}
 use Rattle.euler_bound.proofs.DartPermutations.{tail_of, turned_dart, rotation, twin, IsPermuting-rotation, IsPairing-twin, tail_of-rotation, orbits-face_images}
@@ -38,10 +38,10 @@ before_dart lists x v a p z has e h q =
 
 -- two darts are in one face where their numbers are in one orbit of the rotation after the twin
 pub face_together : (lists : Lists) → IsSimpleMap lists → (d e : Dart) → SameFace lists d e → Together (orbits_of (after (rotation lists) (twin lists)) (dart_count lists)) (dart_number lists d) (dart_number lists e)
-face_together lists simple d e h = rw (orbits-face_images lists simple) at (Together-from (orbits (face_images lists)) (dart_number lists d) (dart_number lists e) h)
+face_together lists simple d e h = rw (orbits-face_images lists simple) at (Together-from (face_classes lists) (dart_number lists d) (dart_number lists e) h)
 
 pub same_face : (lists : Lists) → IsSimpleMap lists → (d e : Dart) → Together (orbits_of (after (rotation lists) (twin lists)) (dart_count lists)) (dart_number lists d) (dart_number lists e) → SameFace lists d e
-same_face lists simple d e t = same_class-from (orbits (face_images lists)) (dart_number lists d) (dart_number lists e) (rw (orbits-face_images lists simple) t)
+same_face lists simple d e t = same_class-from (face_classes lists) (dart_number lists d) (dart_number lists e) (rw (orbits-face_images lists simple) t)
 
 -- x is the dart before the corner of v before its entry a; so the face of (v, a) comes to that corner along the partner of x
 pub record IsCorner (lists : Lists) (v a x : ℕ) : Type 0 where

@@ -2,9 +2,9 @@
 use Rattle.std.proofs.Common.{◌≡◌, ◌≢◌, ◌⊎◌, ℕ, List, [], ◌∷◌, ◌++◌, Contains, refl, sym, ap, ◌∙◌, subst, inl, inr, arith}
 use Rattle.std.proofs.lemmas.Bool.{cases_Bool, false≢true}
 use Rattle.std.proofs.lemmas.List.Elements.{Contains-append_cases}
-use Rattle.label_classes.specs.Classes.{label, orbits, same_class}
+use Rattle.label_classes.specs.Classes.{label, same_class}
 use Rattle.map_lists.specs.Lists.{Lists}
-use Rattle.map_definitions.specs.Maps.{list_of, HasDart, IsSimpleMap, IsPlane, follows, dart_number, dart_count, edge_count, face_images}
+use Rattle.map_definitions.specs.Maps.{list_of, HasDart, IsSimpleMap, IsPlane, follows, dart_number, dart_count, edge_count, face_classes}
 use Rattle.map_definitions.specs.Paths.{JoinsAvoiding, SameFace, arc}
 use Rattle.map_definitions.proofs.EntryLemmas.{Contains-here, Contains-there, Contains-cons_cases}
 use Rattle.map_definitions.proofs.DartLemmas.{dart_number-lt, HasDart-follows}
@@ -203,7 +203,7 @@ module _ (lists : Lists) (simple : IsSimpleMap lists) (plane : IsPlane lists) (u
 -- THE LAW: corners of two adjacent vertices in one face of a map of genus zero
 pub digon_split : DigonSplit
 digon_split lists u v a b simple plane edge has_a has_b face =
-    let test = same_class (orbits (face_images lists)) (dart_number lists (u, a)) (dart_number lists (u, v)) in
+    let test = same_class (face_classes lists) (dart_number lists (u, a)) (dart_number lists (u, v)) in
     elim (cases_Bool test) [
       | inl same ↦ left lists simple plane u v a b edge has_a has_b face same
       | inr differ ↦ other lists simple plane u v a b edge has_a has_b face (λ same. false≢true (sym differ ∙ same))

@@ -1,19 +1,23 @@
 -- Laws of simple maps, and of those of genus zero.
 use Rattle.std.specs.Prelude.{ℕ, ◌+◌, ◌*◌, ◌<◌, ◌≤◌, ◌≡◌, ◌⊎◌, ◌↔◌, true, List, [], ◌∷◌, ◌++◌, ◌≢◌, Contains, length, slice_set}
-use Rattle.label_classes.specs.Classes.{same_class, classes}
+use Rattle.label_classes.specs.Classes.{same_class}
 use Rattle.map_lists.specs.Lists.{Lists}
-use Rattle.map_definitions.specs.Maps.{Dart, HasDart, IsSimpleMap, IsPlane, darts, vertex_count, edge_count, component_count, list_of, follows, face_step, place_of}
+use Rattle.map_definitions.specs.Maps.{Dart, HasDart, IsSimpleMap, IsPlane, vertex_count, edge_count, component_count, component_classes, list_of, follows, face_step, place_of}
 use Rattle.map_definitions.specs.Edges.{without_edge}
 use Rattle.map_definitions.specs.Paths.{JoinsAvoiding, arc, SameFace}
+
+-- u and v are in one of the classes that count components
+abbrev pub SameComponent : Lists → ℕ → ℕ → Type 0
+SameComponent lists u v = same_class (component_classes lists) u v ≡ true
 
 -- a path joins u and v
 abbrev pub AreJoined : Lists → ℕ → ℕ → Type 0
 AreJoined lists u v = (path : List ℕ) × JoinsAvoiding lists [] u v path
 
--- Two vertices of a simple map are in one of the classes that count its components exactly where a path joins them.
+-- Two vertices of a simple map are in one component exactly where a path joins them.
 abbrev pub ComponentsArePaths : Type 0
 ComponentsArePaths =
-    (lists : Lists) (u v : ℕ) → IsSimpleMap lists → u < length lists → v < length lists → (same_class (classes (length lists) (darts lists)) u v ≡ true) ↔ AreJoined lists u v
+    (lists : Lists) (u v : ℕ) → IsSimpleMap lists → u < length lists → v < length lists → SameComponent lists u v ↔ AreJoined lists u v
 
 -- A map of genus zero without one of its edges has genus zero.
 abbrev pub EdgeRemoved : Type 0
