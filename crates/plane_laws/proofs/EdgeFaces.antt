@@ -3,23 +3,23 @@ use Rattle.std.proofs.Common.{◌≡◌, ◌≢◌, ℕ, ◌+◌, ◌<◌, true,
 use Rattle.std.proofs.lemmas.Bool.{false≢true}
 use Rattle.label_classes.specs.Classes.{label, class_count, merge}
 use Rattle.map_lists.specs.Lists.{Lists}
-use Rattle.map_definitions.specs.Maps.{Dart, HasDart, IsSimpleMap, dart_number, dart_count, edge_count, face_count}
+use Rattle.map_definitions.specs.Maps.{Dart, HasDart, IsSimpleMap, follows, dart_number, dart_count, edge_count, face_count}
 use Rattle.map_definitions.specs.Paths.{SameFace}
 use Rattle.map_definitions.specs.Edges.{without_edge}
 use Rattle.plane_laws.specs.Laws.{BridgeTest, FacesMerged, IsMergedFaces}
-use Rattle.label_classes.proofs.Classes.{Together, IsLabels, same_class-from, apart-from, merge-joined, merge-keeps, joined-merge}
+use Rattle.label_classes.proofs.Classes.{Together, Together-not, IsLabels, same_class-from, apart-from, merge-joined, merge-keeps, joined-merge}
 use Rattle.label_classes.proofs.Orbits.{orbits_of, length-orbits_of, IsLabels-orbits_of, orbits_of-step, IsPermuting}
 use Rattle.label_classes.proofs.Swap.{exchange, IsPermuting-exchange, exchange_orbits, orbits_of-same}
 use Rattle.label_classes.proofs.Bound.{IsPairing, IsPermuting-pairing, IsPermuting-after, after, after-exchange}
-use Rattle.plane_laws.proofs.PlaneCuts.{lone, lone_other}
+use Rattle.plane_laws.proofs.PlaneCuts.{lone, lone_before, lone_other}
 use Rattle.euler_bound.proofs.Transfer.{IsTransfer}
 use Rattle.plane_laws.proofs.Generated.{IsRenumbering, neither_first, IsGenerated-orbits, GoesOver-after, IsTransfer-renumbered, neither}
 use Rattle.plane_laws.proofs.LoneEdge.{IsPermuting-lone_edge, GoesOver-out, off_alike, off_joined, second_alike}
-use Rattle.map_definitions.proofs.WithoutEdge.{back, u_not_v, length-without_edge, dart_old, IsSimpleMap-without_edge, edge_count-without}
+use Rattle.map_definitions.proofs.WithoutEdge.{back, u_not_v, length-without_edge, dart_old, dart_new, IsSimpleMap-without_edge, edge_count-without}
 use Rattle.plane_laws.proofs.EdgeRemoved.{before_first, before_second, rest_counts, apart_twin, apart_twin', edge_removed_plane, in_out, twin_out, renumbering, twin_over, rotation_over, apart, apart'}
-use Rattle.map_definitions.proofs.DartLemmas.{dart_number-lt, get_or-dart_number}
+use Rattle.map_definitions.proofs.DartLemmas.{dart_number-lt, get_or-dart_number, HasDart-follows}
 use Rattle.euler_bound.proofs.DartPermutations.{dart_of, tail_of, rotation, twin, IsPermuting-rotation, IsPairing-twin, tail_of-rotation, two_m, vertex_count-orbits, face_count-orbits}
-use Rattle.plane_laws.proofs.DartPaths.{tail_of-number, face_together, same_face}
+use Rattle.plane_laws.proofs.DartPaths.{tail_of-number, rotation-number, numbers_apart, face_together, same_face}
 
 module _ (lists : Lists) (simple : IsSimpleMap lists) (u v : ℕ) (edge : HasDart lists u v) where
   abbrev rest : Lists
@@ -125,8 +125,8 @@ module _ (lists : Lists) (simple : IsSimpleMap lists) (u v : ℕ) (edge : HasDar
       let step = off_joined f g k p.0 d w pair p.1 ld p.2 (λ t. faces (from_orbit (u, v) (v, u) (first_face p.0 p.1 p.2 t ∙ ap (label P) twin_d))) in
       omega (arith, counted 2 step)
 
-  -- Let d and then its partner be taken off, p and q leading to them, where they lie in two faces and are alone at neither end.
-  module _ (p q : ℕ) (lp : p < k) (lq : q < k) (fp : f p ≡ d) (fq : exchange f p d q ≡ g d) (big : f d ≢ d) (big' : f (g d) ≢ g d) (two : Together P d (g d) → ⊥) where
+  -- Let d and then its partner be taken off, p and q leading to them, where they are alone at neither end.
+  module _ (p q : ℕ) (lp : p < k) (lq : q < k) (fp : f p ≡ d) (fq : exchange f p d q ≡ g d) (big : f d ≢ d) (big' : f (g d) ≢ g d) where
     abbrev f1' : ℕ → ℕ
     f1' = exchange f p d
 
@@ -178,13 +178,27 @@ module _ (lists : Lists) (simple : IsSimpleMap lists) (u v : ℕ) (edge : HasDar
     w_P2 : IsLabels P2
     w_P2 = IsLabels-orbits_of (after f2 g) k (IsPermuting-after f2 g k w2 gw).within
 
-    -- the first cut makes the two faces one
-    first_joins : P1 ≡ merge P (g p) (g d)
-    first_joins =
+    -- where the two lie in two faces, the first cut makes these one
+    first_joins : (Together P d (g d) → ⊥) → P1 ≡ merge P (g p) (g d)
+    first_joins two =
         let ne : g p ≢ g d = λ e. p_not_d (gw.apart p d lp ld e) in
         let off : Together P (g p) (g d) → ⊥ = λ t. two (sym (before_d p lp fp) ∙ t) in
         orbits_of-same (after f1' g) (exchange (after f g) (g p) (g d)) k (after-exchange f g k p d pair lp ld)
         ∙ ((exchange_orbits (after f g) k (g p) (g d) (IsPermuting-after f g k w gw) (pair.within p lp) le ne).joined (apart-from P (g p) (g d) off)).joined
+
+    -- where they lie in one, it parts the corners at which the edge stood
+    corners_parted : Together P d (g d) → Together P1 (f d) (f (g d)) → ⊥
+    corners_parted one t =
+        let face1 = after f1' g in
+        let step = orbits_of-step face1 k (IsPermuting-after f1' g k w1' gw).within in
+        let L = label P1 in
+        let ne : g p ≢ g d = λ e. p_not_d (gw.apart p d lp ld e) in
+        let same = orbits_of-same face1 (exchange (after f g) (g p) (g d)) k (after-exchange f g k p d pair lp ld) in
+        let law = exchange_orbits (after f g) k (g p) (g d) (IsPermuting-after f g k w gw) (pair.within p lp) le ne in
+        let parted = (law.cut (same_class-from P (g p) (g d) (before_d p lp fp ∙ one))).apart in
+        let from_p : Together P1 (g p) (f d) = step (g p) (pair.within p lp) ∙ ap L (ap f1' (pair.back p lp) ∙ lone_before f p d) in
+        let from_e : Together P1 (g d) (f (g d)) = step (g d) le ∙ (ap L (ap f1' (pair.back d ld) ∙ lone f p d fp) ∙ (step d ld ∙ ap L one_e)) in
+        Together-not (orbits_of (exchange (after f g) (g p) (g d)) k) (g p) (g d) parted (rw same at (from_p ∙ (t ∙ sym from_e)))
 
     -- the second takes the two darts out of it
     second_cuts : P1 ≡ merge P2 (g q) (g (g d))
@@ -279,6 +293,7 @@ module _ (lists : Lists) (simple : IsSimpleMap lists) (u v : ℕ) (edge : HasDar
     merged_faces : ¬ SameFace lists (u, v) (v, u) → IsMergedFaces lists rest (u, v) (v, u)
     merged_faces not_one =
         let n = pn in
+        let two : Together P d (g d) → ⊥ = λ t. not_one (from_orbit (u, v) (v, u) (t ∙ ap (label P) twin_d)) in
         let gp = pair.within p lp in
         let in_e = le in
         let keeps = merge-keeps P (g p) (g d) w_P (omega arith) (omega arith) in
@@ -288,11 +303,11 @@ module _ (lists : Lists) (simple : IsSimpleMap lists) (u v : ℕ) (edge : HasDar
         let d_gp = before_d p lp fp in
         record {
           apart = not_one;
-          kept = λ b c h h' t. cut_to_rest b c h h' (rw first_joins (keeps (dart_number lists b) (dart_number lists c) (to_orbit b c t)));
+          kept = λ b c h h' t. cut_to_rest b c h h' (rw (first_joins two) (keeps (dart_number lists b) (dart_number lists c) (to_orbit b c t)));
           made_one = λ b c h h' t t'.
-              cut_to_rest b c h h' (rw first_joins (joins (dart_number lists b) (dart_number lists c) (inr (inl (to_orbit b (u, v) t ∙ sym d_gp, ap L twin_d ∙ to_orbit (v, u) c t')))));
+              cut_to_rest b c h h' (rw (first_joins two) (joins (dart_number lists b) (dart_number lists c) (inr (inl (to_orbit b (u, v) t ∙ sym d_gp, ap L twin_d ∙ to_orbit (v, u) c t')))));
           no_more = λ b c h h' t.
-              elim (parts (dart_number lists b) (dart_number lists c) (rw first_joins at (rest_to_cut b c h h' t))) [
+              elim (parts (dart_number lists b) (dart_number lists c) (rw (first_joins two) at (rest_to_cut b c h h' t))) [
                 | inl r ↦ inl (from_orbit b c r)
                 | inr r ↦ elim r [
                   | inl r' ↦ inr (inl (from_orbit b (u, v) (r'.0 ∙ d_gp), from_orbit (v, u) c (ap L (sym twin_d) ∙ r'.1)))
@@ -301,6 +316,23 @@ module _ (lists : Lists) (simple : IsSimpleMap lists) (u v : ℕ) (edge : HasDar
               ];
         }
 
+  -- An edge in one face, alone at neither end, parts the two corners at which it stands.
+  pub corners_apart : follows lists u v ≢ v → follows lists v u ≢ u → SameFace lists (u, v) (v, u) → ¬ SameFace rest (u, follows lists u v) (v, follows lists v u)
+  corners_apart more more' face one =
+      let has = HasDart-follows lists u v edge in
+      let has' = HasDart-follows lists v u other_way in
+      let at_u = rotation-number lists u v edge in
+      let at_v = ap f twin_d ∙ rotation-number lists v u other_way in
+      let big : f d ≢ d = λ e. more (numbers_apart lists u (follows lists u v) v has edge (sym at_u ∙ e)) in
+      let big' : f (g d) ≢ g d = λ e. more' (numbers_apart lists v (follows lists v u) u has' other_way (sym at_v ∙ (e ∙ twin_d))) in
+      let p = before_first lists simple u v edge in
+      let q = before_second lists simple u v edge in
+      let left = dart_new lists simple u v edge u (follows lists u v) has (λ _. more) (λ e. absurd (u_v e)) in
+      let left' = dart_new lists simple u v edge v (follows lists v u) has' (λ e. absurd (u_v (sym e))) (λ _. more') in
+      let together = rest_to_cut p.0 q.0 p.1 q.1 p.2 q.2 big big' (u, follows lists u v) (v, follows lists v u) left left' one in
+      let L = label (orbits_of (after (exchange f p.0 d) g) k) in
+      corners_parted p.0 q.0 p.1 q.1 p.2 q.2 big big' (to_orbit (u, v) (v, u) face ∙ ap (label P) (sym twin_d)) (ap L at_u ∙ (together ∙ sym (ap L at_v)))
+
   faces_merged_here : ¬ SameFace lists (u, v) (v, u) → IsMergedFaces lists rest (u, v) (v, u)
   faces_merged_here not_one =
       let two : Together P d (g d) → ⊥ = λ t. not_one (from_orbit (u, v) (v, u) (t ∙ ap (label P) twin_d)) in
@@ -308,7 +340,7 @@ module _ (lists : Lists) (simple : IsSimpleMap lists) (u v : ℕ) (edge : HasDar
       let big' : f (g d) ≢ g d = λ e. two (face_step d ld ∙ ap (label P) e) in
       let p = before_first lists simple u v edge in
       let q = before_second lists simple u v edge in
-      merged_faces p.0 q.0 p.1 q.1 p.2 q.2 big big' two not_one
+      merged_faces p.0 q.0 p.1 q.1 p.2 q.2 big big' not_one
 
 -- THE LAW: a bridge is seen at its faces
 pub bridge_test : BridgeTest
