@@ -4,7 +4,7 @@ use Rattle.map_lists.specs.Lists.{Lists}
 use Rattle.map_definitions.specs.Maps.{entry_after}
 use Rattle.map_definitions.specs.Paths.{arc}
 use Rattle.map_definitions.specs.Edges.{without_edge}
-use Rattle.plane_laws.specs.Laws.{smoothed, side}
+use Rattle.plane_laws.specs.Laws.{side}
 
 -- from the third entry on, round to before the second
 arc_round : arc (11 ∷ 12 ∷ 13 ∷ 14 ∷ []) 13 12 ≡ 13 ∷ 14 ∷ 11 ∷ []
@@ -19,10 +19,6 @@ k4 = (1 ∷ 2 ∷ 3 ∷ []) ∷ (0 ∷ 3 ∷ 2 ∷ []) ∷ (0 ∷ 1 ∷ 3 ∷ []
 
 k4_without : without_edge k4 0 1 ≡ (2 ∷ 3 ∷ []) ∷ (3 ∷ 2 ∷ []) ∷ (0 ∷ 1 ∷ 3 ∷ []) ∷ (0 ∷ 2 ∷ 1 ∷ []) ∷ []
 k4_without = refl
-
--- a path of three vertices with its middle taken out
-path_smoothed : smoothed ((1 ∷ []) ∷ (0 ∷ 2 ∷ []) ∷ (1 ∷ []) ∷ []) 1 0 2 ≡ (2 ∷ []) ∷ [] ∷ (0 ∷ []) ∷ []
-path_smoothed = refl
 
 -- K4 at its first edge, with a corner of each end: what stands on the one side
 k4_side : side k4 0 1 2 3 ≡ 2 ∷ 3 ∷ []
