@@ -67,14 +67,8 @@ module _ (lists : Lists) (simple : IsSimpleMap lists) (u v : ℕ) (edge : HasDar
   tail_d : tail_of lists d ≡ u
   tail_d = tail_of-number lists u v edge
 
-  tail_e : tail_of lists (g d) ≡ v
-  tail_e = ap (tail_of lists) twin_d ∙ tail_of-number lists v u other_way
-
   d_e : d ≢ g d
   d_e e = pair.other d ld (sym e)
-
-  tail_f : (i : ℕ) → i < k → tail_of lists (f i) ≡ tail_of lists i
-  tail_f = tail_of-rotation lists simple
 
   -- ---- faces
   abbrev P : List ℕ
