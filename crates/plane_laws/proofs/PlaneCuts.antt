@@ -3,7 +3,7 @@ use Rattle.std.proofs.Common.{◌≡◌, ◌≢◌, ◌⊎◌, ℕ, zero, suc, �
 use Rattle.std.proofs.lemmas.Bool.{cases_eq, eq-eqb, ne_eqb}
 use Rattle.label_classes.specs.Classes.{label, class_count, merge_all}
 use Rattle.label_classes.proofs.Counting.{one_if, count_below_none, count_below_same, count_below_more}
-use Rattle.label_classes.proofs.Classes.{Together, cases_Together, merge-joined, merge-keeps, joined-merge, merge-within, class_count-merge_apart, same_class-from, apart-from}
+use Rattle.label_classes.proofs.Classes.{Together, merge-joined, merge-keeps, joined-merge, merge-within, same_class-from, apart-from}
 use Rattle.label_classes.proofs.Orbits.{steps, orbits_of, length-orbits_of, IsLabels-orbits_of, orbits_of-step, orbits_of-marked, IsPermuting, count_below-images}
 use Rattle.label_classes.proofs.Swap.{orbits_of-same, swapped, exchange, swapped_first, swapped_second, swapped_other, IsPermuting-exchange, exchange_orbits}
 use Rattle.label_classes.proofs.Bound.{joint, joint-first, length-joint, IsLabels-joint, IsPairing, IsPermuting-pairing, IsPermuting-after, after, after-exchange, Balances, Balances-cut, cut_orbits, joint-cut, euler_bound_at}
