@@ -3,16 +3,20 @@ use Rattle.std.proofs.Common.{◌≡◌, ◌≢◌, ◌⊎◌, ℕ, ◌+◌, ◌
 use Rattle.std.specs.List.{insert}
 use Rattle.std.proofs.lemmas.Bool.{cases_eq}
 use Rattle.std.proofs.lemmas.List.{get_or_default, ext_get_or}
+use Rattle.label_classes.specs.Classes.{label}
+use Rattle.label_classes.proofs.Classes.{same_class-from}
+use Rattle.plane_laws.specs.Laws.{SameComponent}
+use Rattle.euler_bound.proofs.DartPermutations.{edge_together}
 use Rattle.map_lists.specs.Lists.{Lists}
-use Rattle.map_definitions.specs.Maps.{list_of, place_of, HasDart, IsSimpleMap, IsPlane, follows, entry_after}
+use Rattle.map_definitions.specs.Maps.{list_of, place_of, HasDart, IsSimpleMap, IsPlane, follows, entry_after, component_classes}
 use Rattle.map_definitions.specs.Edges.{without_edge, without_entry}
 use Rattle.map_definitions.specs.Paths.{SameFace}
 use Rattle.map_definitions.proofs.DartLemmas.{place_of-lt-length, HasDart-follows}
 use Rattle.map_definitions.proofs.WithoutEdge.{length-without_edge, list_at_first, list_at_second, list_elsewhere}
-use Rattle.map_edits.specs.Added.{IsSplitFace}
-use Rattle.map_edits.specs.WithEdge.{with_edge_at, entry_at, IsEdgeMore, WithEdge, EdgePutInFace}
+use Rattle.map_edits.specs.Added.{IsSplitFace, IsJoinedFaces}
+use Rattle.map_edits.specs.WithEdge.{with_edge_at, entry_at, IsEdgeMore, WithEdge, EdgePutInFace, EdgePutBetween}
 use Rattle.map_edits.proofs.InsertedEntry.{insert-new, insert-kept, insert-old, insert-distinct, without-insert, entry_after-insert}
-use Rattle.map_edits.proofs.EdgeAdded.{edge_in_face}
+use Rattle.map_edits.proofs.EdgeAdded.{edge_in_face, edge_between}
 
 module _ (lists : Lists) (u i v j : ℕ) (simple : IsSimpleMap lists) (in_u : u < length lists) (in_v : v < length lists) (u_v : u ≢ v) (far : ¬ HasDart lists u v) (at_u : i ≤ length (list_of lists u)) (at_v : j ≤ length (list_of lists v)) where
   abbrev pub new : Lists
@@ -174,3 +178,13 @@ edge_put_in_face lists u a v c simple plane has_a has_c u_v far face =
     rw (more.without, next, next') face in
     let split = edge_in_face new u v more.simple more.edge not_v not_u plane' face' in
     (more.simple, subst (λ old. IsSplitFace old new u v) more.without split)
+
+-- THE LAW: an edge between two components
+pub edge_put_between : EdgePutBetween
+edge_put_between lists u i v j simple plane in_u in_v far at_u at_v =
+    let together = same_class-from (component_classes lists) u v in
+    let u_v : u ≢ v = λ e. far (together (ap (label (component_classes lists)) e)) in
+    let new = with_edge_at lists u i v j in
+    let more = with_edge lists u i v j simple in_u in_v u_v (λ h. far (together (edge_together lists simple u v h))) at_u at_v in
+    let joined = edge_between new u v more.simple more.edge (subst IsPlane (sym more.without) plane) (subst (λ old. ¬ SameComponent old u v) (sym more.without) far) in
+    (more.simple, subst (λ old. IsJoinedFaces old new u v) more.without joined)

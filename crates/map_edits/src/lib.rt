@@ -5,7 +5,7 @@
 ghost use Rattle.map_edits.specs.Added.{EdgeInFace, EdgeBetween};
 ghost use Rattle.map_edits.specs.Kept.{KeptEdges};
 ghost use Rattle.map_edits.specs.Smoothed.{VertexSmoothed};
-ghost use Rattle.map_edits.specs.WithEdge.{WithEdge, EdgePutInFace};
+ghost use Rattle.map_edits.specs.WithEdge.{EdgePutBetween, EdgePutInFace, WithEdge};
 
 /// An edge may be put between any two vertices that are not adjacent, at any places of their lists: the
 /// lists with it are a simple map, and without it the old ones.
@@ -17,6 +17,12 @@ pub fn with_edge()
 /// a map of genus zero, with one face more and as many components.
 pub fn edge_put_in_face()
     ensures { EdgePutInFace }
+{}
+
+/// An edge put between two components, at any places of the two lists, in the words of the map before:
+/// a map of genus zero, with one face and one component less.
+pub fn edge_put_between()
+    ensures { EdgePutBetween }
 {}
 
 /// An edge between two corners of one face of a map of genus zero gives a map of genus zero, with one
