@@ -5,7 +5,7 @@ use Rattle.std.proofs.lemmas.List.{get_or_default}
 use Rattle.std.proofs.lemmas.List.Sums.{sum_by-cons}
 use Rattle.label_classes.specs.Classes.{count_below, label, image, classes, class_count, orbits, alone}
 use Rattle.map_lists.specs.Lists.{Lists}
-use Rattle.map_definitions.specs.Maps.{Dart, twin_dart, list_of, HasDart, IsSimpleMap, darts, place_of, follows, darts_before, dart_number, face_images, vertex_count, dart_count, edge_count, is_empty_list, isolated_count, face_count, component_count}
+use Rattle.map_definitions.specs.Maps.{Dart, twin_dart, list_of, HasDart, IsSimpleMap, darts, place_of, follows, darts_before, dart_number, face_images, vertex_count, dart_count, edge_count, is_empty_list, isolated_count, face_count, component_count, face_classes, component_classes}
 use Rattle.label_classes.proofs.Counting.{count_below_same}
 use Rattle.label_classes.proofs.Classes.{Together, IsLabels, PairsBelow, IsLabels-alone, length-alone, label-alone, Together-label, length-classes, IsLabels-classes, classes-holds, classes-marked}
 use Rattle.label_classes.proofs.Orbits.{orbits_of, length-orbits_of, IsLabels-orbits_of, orbits_of-step, orbits_of-marked, orbits-image, IsPermuting}
@@ -118,7 +118,7 @@ module _ (lists : Lists) (simple : IsSimpleMap lists) where
   face_images-after i l =
       get_or-face_images lists i i (0, 0) l ∙ ap (λ d. dart_number lists (turned_dart lists d)) (sym (dart_of-twin i l))
 
-  pub orbits-face_images : orbits (face_images lists) ≡ orbits_of (after (rotation lists) (twin lists)) (dart_count lists)
+  pub orbits-face_images : face_classes lists ≡ orbits_of (after (rotation lists) (twin lists)) (dart_count lists)
   orbits-face_images =
       let n = length-face_images lists in
       orbits-image (face_images lists) (IsPermutationOfBelow-face_images lists simple).within
@@ -223,7 +223,7 @@ module _ (lists : Lists) (simple : IsSimpleMap lists) where
 
   -- the classes of the vertices that the edges join
   abbrev pub components : List ℕ
-  components = classes (length lists) (darts lists)
+  components = component_classes lists
 
   pub IsLabels-components : IsLabels components
   IsLabels-components = IsLabels-classes (length lists) (darts lists) darts_below

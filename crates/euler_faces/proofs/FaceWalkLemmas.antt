@@ -5,7 +5,7 @@ use Rattle.std.proofs.lemmas.Bool.{cases_eq, cases_lt, eq-eqb, ne_eqb, or_cases,
 use Rattle.std.proofs.lemmas.List.{length_push, get_or_push, get_or_past, get_or_default, get_or_append_left, get_or-map, length-map}
 use Rattle.std.proofs.lemmas.List.Elements.{Contains-get_or}
 use Rattle.label_classes.specs.Classes.{image, label, orbits, same_class}
-use Rattle.map_definitions.specs.Maps.{dart_count, face_images, face_step}
+use Rattle.map_definitions.specs.Maps.{dart_count, face_images, face_step, face_classes}
 use Rattle.label_classes.proofs.Classes.{Together, same_class-from}
 use Rattle.label_classes.proofs.Orbits.{length-orbits, IsLabels-orbits, IsPermuting-image, orbits-closed_marks}
 use Rattle.map_definitions.proofs.DartLemmas.{length-face_images, IsPermutationOfBelow-face_images}
@@ -203,13 +203,13 @@ module _ (map : Map) (h : IsHalfMap map) (old marked : ℕ → Bool) (ids : List
   entry_number i l = ap (number_at map) (sym (entry i l)) ∙ w.at i (omega arith)
 
   -- the marks after the walk
-  pub IsWalking-marks : (j : ℕ) → j < dart_count map.lists → marked j ≡ (old j || same_class (orbits (face_images map.lists)) (number_at map start) j)
+  pub IsWalking-marks : (j : ℕ) → j < dart_count map.lists → marked j ≡ (old j || same_class (face_classes map.lists) (number_at map start) j)
   IsWalking-marks j l =
       let len = length-face_images map.lists in
       w.marks j l ∙ ap (λ b. old j || b) (visited_is_orbit (face_images map.lists) (IsPermutationOfBelow-face_images map.lists h.simple) (number_at map start) (length ids) start-lt some back j (omega arith))
 
   -- and the walk is that of the whole face, where it began at the face's least dart
-  pub IsWalking-all : label (orbits (face_images map.lists)) (number_at map start) ≡ number_at map start → IsWholeWalk map ids (number_at map start)
+  pub IsWalking-all : label (face_classes map.lists) (number_at map start) ≡ number_at map start → IsWholeWalk map ids (number_at map start)
   IsWalking-all own =
       let images = face_images map.lists in
       let a = number_at map start in
@@ -246,7 +246,7 @@ module _ (map : Map) (h : IsHalfMap map) (old marked : ℕ → Bool) (ids : List
 
 -- ---- all walks
 -- where the classes of the numbers below are marked, a number that is not marked is the least of its orbit
-pub least_where_unmarked : (map : Map) → IsHalfMap map → (marked : ℕ → Bool) (count n : ℕ) → n < dart_count map.lists → IsCounting (orbits (face_images map.lists)) marked count n → marked n ≡ false → label (orbits (face_images map.lists)) n ≡ n
+pub least_where_unmarked : (map : Map) → IsHalfMap map → (marked : ℕ → Bool) (count n : ℕ) → n < dart_count map.lists → IsCounting (face_classes map.lists) marked count n → marked n ≡ false → label (face_classes map.lists) n ≡ n
 least_where_unmarked map h marked count n l counting off =
     let images = face_images map.lists in
     let long = length-orbits images in
@@ -256,7 +256,7 @@ least_where_unmarked map h marked count n l counting off =
     omega arith
 
 -- and one that is marked is not
-pub other_where_marked : (map : Map) → IsHalfMap map → (marked : ℕ → Bool) (count n : ℕ) → n < dart_count map.lists → IsCounting (orbits (face_images map.lists)) marked count n → marked n ≡ true → label (orbits (face_images map.lists)) n ≢ n
+pub other_where_marked : (map : Map) → IsHalfMap map → (marked : ℕ → Bool) (count n : ℕ) → n < dart_count map.lists → IsCounting (face_classes map.lists) marked count n → marked n ≡ true → label (face_classes map.lists) n ≢ n
 other_where_marked map h marked count n l counting on e =
     let images = face_images map.lists in
     let long = length-orbits images in
@@ -274,14 +274,14 @@ AreWalksBelow-none map = record {
 }
 
 -- a dart that is not the least of its face changes nothing
-pub AreWalksBelow-old : (map : Map) (walks : List (List ℕ)) (n m : ℕ) → AreWalksBelow map walks n → label (orbits (face_images map.lists)) n ≢ n → m ≡ n + 1 → AreWalksBelow map walks m
+pub AreWalksBelow-old : (map : Map) (walks : List (List ℕ)) (n m : ℕ) → AreWalksBelow map walks n → label (face_classes map.lists) n ≢ n → m ≡ n + 1 → AreWalksBelow map walks m
 AreWalksBelow-old map walks n m w other s = record {
   each = w.each;
   below = λ f l. omega (arith, w.below f l);
   rising = w.rising;
   found = λ j l own. elim (cases_lt j n) [
     | inl m' ↦ w.found j m' own
-    | inr m' ↦ absurd (let e : j ≡ n = omega arith in other (subst (λ k. label (orbits (face_images map.lists)) k ≡ k) e own))
+    | inr m' ↦ absurd (let e : j ≡ n = omega arith in other (subst (λ k. label (face_classes map.lists) k ≡ k) e own))
   ];
 }
 
@@ -342,9 +342,9 @@ AreWalksBelow-all map h walks n w e =
       rising = w.rising;
     }
   where
-    label_in : (f d : ℕ) → f < length walks → Contains (walk_at walks f) d → label (orbits (face_images map.lists)) (number_at map d) ≡ first_number map (walk_at walks f)
+    label_in : (f d : ℕ) → f < length walks → Contains (walk_at walks f) d → label (face_classes map.lists) (number_at map d) ≡ first_number map (walk_at walks f)
     label_in f d l c =
-        ap (λ z. label (orbits (face_images map.lists)) (number_at map z)) (sym (get_or_default (walk_at walks f) c.0 0 d c.1 ∙ c.2)) ∙ (w.each f l).labels c.0 c.1
+        ap (λ z. label (face_classes map.lists) (number_at map z)) (sym (get_or_default (walk_at walks f) c.0 0 d c.1 ∙ c.2)) ∙ (w.each f l).labels c.0 c.1
 
 -- ---- numbers of faces
 -- the numbers of ids, one by one

@@ -1,7 +1,7 @@
 -- The walks of the faces met so far, where the darts are gone over by their numbers.
 use Rattle.std.specs.Prelude.{ℕ, ◌<◌, ◌≡◌, List, length, slice_index}
-use Rattle.label_classes.specs.Classes.{label, orbits}
-use Rattle.map_definitions.specs.Maps.{dart_count, face_images}
+use Rattle.label_classes.specs.Classes.{label}
+use Rattle.map_definitions.specs.Maps.{dart_count, face_classes}
 use Rattle.half_edges.specs.Map.{Map}
 use Rattle.euler_faces.specs.Numbers.{number_at}
 use Rattle.euler_faces.specs.FaceWalks.{walk_at, first_number, IsFaceWalk}
@@ -10,12 +10,12 @@ use Rattle.euler_faces.specs.FaceWalks.{walk_at, first_number, IsFaceWalk}
 pub record IsWholeWalk (map : Map) (ids : List ℕ) (first : ℕ) : Type 0 where
   pub is_walk : IsFaceWalk map ids
   pub begins : first_number map ids ≡ first
-  pub labels : (i : ℕ) → i < length ids → label (orbits (face_images map.lists)) (number_at map (slice_index ids i)) ≡ first
-  pub whole : (y : ℕ) → y < dart_count map.lists → label (orbits (face_images map.lists)) y ≡ first → (i : ℕ) × (i < length ids) × (number_at map (slice_index ids i) ≡ y)
+  pub labels : (i : ℕ) → i < length ids → label (face_classes map.lists) (number_at map (slice_index ids i)) ≡ first
+  pub whole : (y : ℕ) → y < dart_count map.lists → label (face_classes map.lists) y ≡ first → (i : ℕ) × (i < length ids) × (number_at map (slice_index ids i) ≡ y)
 
 -- The walks of the faces whose least dart has a number below n, in the order of those numbers.
 pub record AreWalksBelow (map : Map) (walks : List (List ℕ)) (n : ℕ) : Type 0 where
   pub each : (f : ℕ) → f < length walks → IsWholeWalk map (walk_at walks f) (first_number map (walk_at walks f))
   pub below : (f : ℕ) → f < length walks → first_number map (walk_at walks f) < n
   pub rising : (f g : ℕ) → f < g → g < length walks → first_number map (walk_at walks f) < first_number map (walk_at walks g)
-  pub found : (j : ℕ) → j < n → label (orbits (face_images map.lists)) j ≡ j → (f : ℕ) × (f < length walks) × (first_number map (walk_at walks f) ≡ j)
+  pub found : (j : ℕ) → j < n → label (face_classes map.lists) j ≡ j → (f : ℕ) × (f < length walks) × (first_number map (walk_at walks f) ≡ j)

@@ -1,14 +1,14 @@
 -- A search from a vertex: which vertices are marked, and of which the neighbours are still to be marked.
 use Rattle.std.specs.Prelude.{ℕ, ◌<◌, ◌≡◌, ◌⊎◌, Bool, true, false, not, List, [], ◌∷◌, ◌++◌, length, set, Contains}
-use Rattle.label_classes.specs.Classes.{classes, count_below}
+use Rattle.label_classes.specs.Classes.{count_below}
 use Rattle.map_lists.specs.Lists.{Lists}
-use Rattle.map_definitions.specs.Maps.{darts, HasDart}
+use Rattle.map_definitions.specs.Maps.{HasDart, component_classes}
 use Rattle.label_classes.proofs.Classes.{Together}
 use Rattle.euler_faces.specs.Numbers.{mark_at}
 
 -- the classes of vertices under "joined by a path"
 abbrev pub parts : Lists → List ℕ
-parts lists = classes (length lists) (darts lists)
+parts lists = component_classes lists
 
 -- all neighbours of a vertex are marked
 abbrev pub AllMarked : Lists → List Bool → ℕ → Type 0

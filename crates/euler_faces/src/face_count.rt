@@ -1,7 +1,7 @@
 //! The faces of a map, counted by marks on its darts.
 ghost use Rattle.std.specs.Prelude.{◌≡◌, ◌≤◌, ◌<◌, ◌+◌, ◌*◌, ◌||◌, ◌^◌, ℕ, length, false, Some, IfOk, slice_index};
 ghost use Rattle.label_classes.specs.Classes.{orbits, same_class};
-ghost use Rattle.map_definitions.specs.Maps.{edge_count, dart_count, darts_before, face_images, face_count, list_of};
+ghost use Rattle.map_definitions.specs.Maps.{edge_count, dart_count, darts_before, face_images, face_count, list_of, face_classes};
 ghost use Rattle.label_classes.proofs.Marks.{IsCounting, KeepsMarks};
 ghost use Rattle.half_edges.specs.Map.{IsHalfMap, IsLive, dart_at};
 ghost use Rattle.euler_faces.specs.Numbers.{number_at, mark_at, mark_of};
@@ -16,7 +16,7 @@ fn mark_face(map: &HalfMap, marked: &mut [bool], start: DartId)
     requires marks { length marked.old ≡ 2 * (edge_count map.now.lists + map.now.spare) }
     requires kept { KeepsMarks (face_images map.now.lists) (mark_of map.now marked.old) }
     ensures marked { (i : ℕ) → i < dart_count map.now.lists → mark_of map.now marked.new i
-        ≡ (mark_of map.now marked.old i || same_class (orbits (face_images map.now.lists)) (number_at map.now start.0) i) }
+        ≡ (mark_of map.now marked.old i || same_class (face_classes map.now.lists) (number_at map.now start.0) i) }
 {
     let mut d = start;
     while !marked[d.0 as usize] {
@@ -31,8 +31,8 @@ fn count_dart(map: &HalfMap, marked: &mut [bool], d: DartId, count: u32) -> u32
     requires known { IsHalfMap map.now }
     requires live { IsLive map.now d.0 }
     requires marks { length marked.old ≡ 2 * (edge_count map.now.lists + map.now.spare) }
-    requires counting { IsCounting (orbits (face_images map.now.lists)) (mark_of map.now marked.old) count (number_at map.now d.0) }
-    ensures counting { IsCounting (orbits (face_images map.now.lists)) (mark_of map.now marked.new) result (number_at map.now d.0 + 1) }
+    requires counting { IsCounting (face_classes map.now.lists) (mark_of map.now marked.old) count (number_at map.now d.0) }
+    ensures counting { IsCounting (face_classes map.now.lists) (mark_of map.now marked.new) result (number_at map.now d.0 + 1) }
 {
     if marked[d.0 as usize] {
         return count;
@@ -53,8 +53,8 @@ fn count_round(
     requires known { IsHalfMap map.now }
     requires first { dart_at map.now first.0 ≡ Some (v.0, slice_index (list_of map.now.lists v.0) 0) }
     requires marks { length marked.old ≡ 2 * (edge_count map.now.lists + map.now.spare) }
-    requires counting { IsCounting (orbits (face_images map.now.lists)) (mark_of map.now marked.old) count (darts_before map.now.lists v.0) }
-    ensures counting { IsCounting (orbits (face_images map.now.lists)) (mark_of map.now marked.new) result (darts_before map.now.lists (v.0 + 1)) }
+    requires counting { IsCounting (face_classes map.now.lists) (mark_of map.now marked.old) count (darts_before map.now.lists v.0) }
+    ensures counting { IsCounting (face_classes map.now.lists) (mark_of map.now marked.new) result (darts_before map.now.lists (v.0 + 1)) }
 {
     let mut d = first;
     'round: loop {

@@ -1,7 +1,7 @@
 //! The faces of a map, each as a walk along the face step.
 ghost use Rattle.std.specs.Prelude.{◌≡◌, ◌<◌, ◌≤◌, ◌+◌, ◌*◌, ◌^◌, ◌||◌, ℕ, List, [], length, false, Some, IfOk, OnOk, slice_index, Contains};
 ghost use Rattle.label_classes.specs.Classes.{class_count, label, orbits, same_class};
-ghost use Rattle.map_definitions.specs.Maps.{edge_count, dart_count, darts_before, face_images, list_of};
+ghost use Rattle.map_definitions.specs.Maps.{edge_count, dart_count, darts_before, face_images, list_of, face_classes};
 ghost use Rattle.label_classes.proofs.Marks.{IsCounting, KeepsMarks};
 ghost use Rattle.half_edges.specs.Map.{IsHalfMap, IsLive, dart_at};
 ghost use Rattle.euler_faces.specs.Numbers.{number_at, mark_at, mark_of};
@@ -25,9 +25,9 @@ fn walk_face(
     requires marks { length marked.old ≡ 2 * (edge_count map.now.lists + map.now.spare) }
     requires kept { KeepsMarks (face_images map.now.lists) (mark_of map.now marked.old) }
     requires unmarked { mark_at marked.old start.0 ≡ false }
-    requires least { label (orbits (face_images map.now.lists)) (number_at map.now start.0) ≡ number_at map.now start.0 }
+    requires least { label (face_classes map.now.lists) (number_at map.now start.0) ≡ number_at map.now start.0 }
     ensures marked { OnOk result ((i : ℕ) → i < dart_count map.now.lists → mark_of map.now marked.new i
-        ≡ (mark_of map.now marked.old i || same_class (orbits (face_images map.now.lists)) (number_at map.now start.0) i)) }
+        ≡ (mark_of map.now marked.old i || same_class (face_classes map.now.lists) (number_at map.now start.0) i)) }
     ensures walk { IfOk result (λ walk. IsWholeWalk map.now walk (number_at map.now start.0)) }
 {
     let mut walk = Walk::new(alloc);
@@ -52,9 +52,9 @@ fn add_dart(
     requires known { IsHalfMap map.now }
     requires live { IsLive map.now d.0 }
     requires marks { length marked.old ≡ 2 * (edge_count map.now.lists + map.now.spare) }
-    requires counting { IsCounting (orbits (face_images map.now.lists)) (mark_of map.now marked.old) (length walks.old.items) (number_at map.now d.0) }
+    requires counting { IsCounting (face_classes map.now.lists) (mark_of map.now marked.old) (length walks.old.items) (number_at map.now d.0) }
     requires walks { AreWalksBelow map.now walks.old.items (number_at map.now d.0) }
-    ensures counting { OnOk result (IsCounting (orbits (face_images map.now.lists)) (mark_of map.now marked.new) (length walks.new.items) (number_at map.now d.0 + 1)) }
+    ensures counting { OnOk result (IsCounting (face_classes map.now.lists) (mark_of map.now marked.new) (length walks.new.items) (number_at map.now d.0 + 1)) }
     ensures walks { OnOk result (AreWalksBelow map.now walks.new.items (number_at map.now d.0 + 1)) }
 {
     if marked[d.0 as usize] {
@@ -77,9 +77,9 @@ fn add_round(
     requires known { IsHalfMap map.now }
     requires first { dart_at map.now first.0 ≡ Some (v.0, slice_index (list_of map.now.lists v.0) 0) }
     requires marks { length marked.old ≡ 2 * (edge_count map.now.lists + map.now.spare) }
-    requires counting { IsCounting (orbits (face_images map.now.lists)) (mark_of map.now marked.old) (length walks.old.items) (darts_before map.now.lists v.0) }
+    requires counting { IsCounting (face_classes map.now.lists) (mark_of map.now marked.old) (length walks.old.items) (darts_before map.now.lists v.0) }
     requires walks { AreWalksBelow map.now walks.old.items (darts_before map.now.lists v.0) }
-    ensures counting { OnOk result (IsCounting (orbits (face_images map.now.lists)) (mark_of map.now marked.new) (length walks.new.items) (darts_before map.now.lists (v.0 + 1))) }
+    ensures counting { OnOk result (IsCounting (face_classes map.now.lists) (mark_of map.now marked.new) (length walks.new.items) (darts_before map.now.lists (v.0 + 1))) }
     ensures walks { OnOk result (AreWalksBelow map.now walks.new.items (darts_before map.now.lists (v.0 + 1))) }
 {
     let mut d = first;
@@ -103,9 +103,9 @@ fn add_vertex(
     requires known { IsHalfMap map.now }
     requires v_in { v.0 < length map.now.lists }
     requires marks { length marked.old ≡ 2 * (edge_count map.now.lists + map.now.spare) }
-    requires counting { IsCounting (orbits (face_images map.now.lists)) (mark_of map.now marked.old) (length walks.old.items) (darts_before map.now.lists v.0) }
+    requires counting { IsCounting (face_classes map.now.lists) (mark_of map.now marked.old) (length walks.old.items) (darts_before map.now.lists v.0) }
     requires walks { AreWalksBelow map.now walks.old.items (darts_before map.now.lists v.0) }
-    ensures counting { OnOk result (IsCounting (orbits (face_images map.now.lists)) (mark_of map.now marked.new) (length walks.new.items) (darts_before map.now.lists (v.0 + 1))) }
+    ensures counting { OnOk result (IsCounting (face_classes map.now.lists) (mark_of map.now marked.new) (length walks.new.items) (darts_before map.now.lists (v.0 + 1))) }
     ensures walks { OnOk result (AreWalksBelow map.now walks.new.items (darts_before map.now.lists (v.0 + 1))) }
 {
     match map.first_dart(v) {
@@ -126,7 +126,7 @@ fn add_all(
     requires unset { (i : ℕ) → mark_at marked.old i ≡ false }
     requires none { walks.old.items ≡ [] }
     ensures faces { OnOk result (AreFaces map.now walks.new.items) }
-    ensures count { OnOk result (length walks.new.items ≡ class_count (orbits (face_images map.now.lists))) }
+    ensures count { OnOk result (length walks.new.items ≡ class_count (face_classes map.now.lists)) }
     ensures few { OnOk result (length walks.new.items < 2 ^ 32) }
 {
     for v in 0..map.n() {
@@ -165,7 +165,7 @@ fn number_walks(of: &mut [u32], walks: &[Walk])
 /// darts.
 pub fn faces(alloc: Global, map: &HalfMap) -> Result<Faces, AllocError>
     ensures walks { IfOk result (AreFaces map.now) }
-    ensures count { IfOk result (λ faces. length faces ≡ class_count (orbits (face_images map.now.lists))) }
+    ensures count { IfOk result (λ faces. length faces ≡ class_count (face_classes map.now.lists)) }
 {
     let ids = 2 * (map.m() as usize + map.spare() as usize);
     let mut marked = vec![in alloc; false; ids]?;

@@ -74,6 +74,10 @@ dart_number lists d = darts_before lists d.0 + place_of d.1 (list_of lists d.0)
 abbrev pub face_images : Lists → List ℕ
 face_images lists = map (λ d. dart_number lists (face_step lists d)) (darts lists)
 
+-- the faces: each dart's number is labelled by the least number in its face
+abbrev pub face_classes : Lists → List ℕ
+face_classes lists = orbits (face_images lists)
+
 -- n
 abbrev pub vertex_count : Lists → ℕ
 vertex_count lists = length lists
@@ -94,11 +98,15 @@ isolated_count lists = count_by is_empty_list lists
 
 -- f: the orbits of the face step, and one face for each isolated vertex
 unfoldable pub face_count : Lists → ℕ
-face_count lists = class_count (orbits (face_images lists)) + isolated_count lists
+face_count lists = class_count (face_classes lists) + isolated_count lists
+
+-- the components: each vertex is labelled by the least vertex of its component
+abbrev pub component_classes : Lists → List ℕ
+component_classes lists = classes (length lists) (darts lists)
 
 -- c: the classes of vertices under "joined by a path"
 unfoldable pub component_count : Lists → ℕ
-component_count lists = class_count (classes (length lists) (darts lists))
+component_count lists = class_count (component_classes lists)
 
 -- the genus: half of 2c + m - n - f
 abbrev pub genus_of : ℕ → ℕ → ℕ → ℕ → ℕ

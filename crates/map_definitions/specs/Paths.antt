@@ -2,7 +2,7 @@
 use Rattle.std.specs.Prelude.{ℕ, suc, ◌-◌, ◌<◌, ◌≡◌, true, List, ◌++◌, length, slice_index, All, Contains, take, drop}
 use Rattle.label_classes.specs.Classes.{orbits, same_class}
 use Rattle.map_lists.specs.Lists.{Lists}
-use Rattle.map_definitions.specs.Maps.{Dart, HasDart, dart_number, face_images, place_of}
+use Rattle.map_definitions.specs.Maps.{Dart, HasDart, dart_number, face_images, place_of, face_classes}
 
 -- a path: at least one vertex, each adjacent to the next
 pub record IsPath (lists : Lists) (path : List ℕ) : Type 0 where
@@ -27,4 +27,4 @@ arc us a b = take (place_of b (from_entry a us)) (from_entry a us)
 
 -- two darts are in one face
 abbrev pub SameFace : Lists → Dart → Dart → Type 0
-SameFace lists d e = same_class (orbits (face_images lists)) (dart_number lists d) (dart_number lists e) ≡ true
+SameFace lists d e = same_class (face_classes lists) (dart_number lists d) (dart_number lists e) ≡ true

@@ -1,9 +1,9 @@
 -- Where two corners of a vertex lie in one face of a map of genus zero, the vertex separates the two parts of its list: cutting its orbit at the two corners parts the classes.
 use Rattle.std.proofs.Common.{◌≡◌, ◌≢◌, ℕ, zero, suc, ◌<◌, false, eqb, List, [], ◌∷◌, length, get_or, Contains, sym, ap, ◌∙◌, subst, arith}
 use Rattle.std.proofs.lemmas.Bool.{ne_eqb, eqb-false}
-use Rattle.label_classes.specs.Classes.{label, orbits}
+use Rattle.label_classes.specs.Classes.{label}
 use Rattle.map_lists.specs.Lists.{Lists}
-use Rattle.map_definitions.specs.Maps.{list_of, HasDart, IsSimpleMap, IsPlane, entry_after, place_of, dart_number, dart_count, edge_count, face_images}
+use Rattle.map_definitions.specs.Maps.{list_of, HasDart, IsSimpleMap, IsPlane, entry_after, place_of, dart_number, dart_count, edge_count, face_classes}
 use Rattle.map_definitions.specs.Paths.{JoinsAvoiding, SameFace, arc, from_entry}
 use Rattle.plane_laws.specs.Laws.{CornerSplit}
 use Rattle.label_classes.proofs.Classes.{Together, Together-from}
@@ -96,7 +96,7 @@ module _ (lists : Lists) (simple : IsSimpleMap lists) (plane : IsPlane lists) (v
       let x_on : after f g (g x) ≡ dart_number lists (v, a) = ap f (p.back x lx) ∙ fx in
       let y_on : after f g (g y) ≡ dart_number lists (v, b) = ap f (p.back y ly) ∙ fy in
       let faces : Together F (dart_number lists (v, a)) (dart_number lists (v, b)) =
-      rw (orbits-face_images lists simple) at (Together-from (orbits (face_images lists)) (dart_number lists (v, a)) (dart_number lists (v, b)) face) in
+      rw (orbits-face_images lists simple) at (Together-from (face_classes lists) (dart_number lists (v, a)) (dart_number lists (v, b)) face) in
       let same : Together F (g x) (g y) = step (g x) (p.within x lx) ∙ (ap (label F) x_on ∙ (faces ∙ (sym (ap (label F) y_on) ∙ sym (step (g y) (p.within y ly))))) in
       let to_b = corner_steps x lx ∙ ap (label corner_classes) (ap f (swapped_first x y) ∙ fy) in
       let to_a = corner_steps y ly ∙ ap (label corner_classes) (ap f (swapped_second x y) ∙ fx) in

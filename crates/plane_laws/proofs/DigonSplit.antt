@@ -2,9 +2,9 @@
 use Rattle.std.proofs.Common.{◌≡◌, ◌≢◌, ◌⊎◌, ◌||◌, ℕ, ◌+◌, ◌<◌, Bool, false, cond, eqb, List, [], ◌∷◌, get_or, Contains, refl, sym, ap, ◌∙◌, subst, inl, inr, arith}
 use Rattle.std.proofs.lemmas.Bool.{cases_eq, eq-eqb, ne_eqb, eqb-false, or_parts, or_from}
 use Rattle.std.proofs.lemmas.List.Elements.{Contains-append_cases}
-use Rattle.label_classes.specs.Classes.{label, orbits}
+use Rattle.label_classes.specs.Classes.{label}
 use Rattle.map_lists.specs.Lists.{Lists}
-use Rattle.map_definitions.specs.Maps.{Dart, list_of, HasDart, IsSimpleMap, IsPlane, follows, entry_after, dart_number, dart_count, edge_count, face_images}
+use Rattle.map_definitions.specs.Maps.{Dart, list_of, HasDart, IsSimpleMap, IsPlane, follows, entry_after, dart_number, dart_count, edge_count, face_classes}
 use Rattle.map_definitions.specs.Paths.{JoinsAvoiding, SameFace, arc}
 use Rattle.plane_laws.specs.Laws.{side, DigonSplit}
 use Rattle.label_classes.proofs.Counting.{one_if}
@@ -362,7 +362,7 @@ module _ (lists : Lists) (simple : IsSimpleMap lists) (plane : IsPlane lists) (u
     starts_in_face =
         let F = orbits_of (after one g) k in
         let old : Together (orbits_of (after f g) k) (dart_number lists (u, a)) (dart_number lists (v, b)) =
-        rw (orbits-face_images lists simple) at (Together-from (orbits (face_images lists)) (dart_number lists (u, a)) (dart_number lists (v, b)) face) in
+        rw (orbits-face_images lists simple) at (Together-from (face_classes lists) (dart_number lists (u, a)) (dart_number lists (v, b)) face) in
         let new = past_together f g k m d p q double w pair ld lp lq fp fq d_e_apart big big' (dart_number lists (u, a)) (dart_number lists (v, b)) (dart_number-lt lists u a has_a) (dart_number-lt lists v b has_b) old in
         ap (label F) (sym start_a_past) ∙ (new ∙ ap (label F) start_b_past)
 
@@ -562,10 +562,10 @@ module _ (lists : Lists) (simple : IsSimpleMap lists) (plane : IsPlane lists) (u
 
   -- the faces, as orbits
   faces : Together (orbits_of (after f g) k) (dart_number lists (u, a)) (dart_number lists (v, b))
-  faces = rw (orbits-face_images lists simple) at (Together-from (orbits (face_images lists)) (dart_number lists (u, a)) (dart_number lists (v, b)) face)
+  faces = rw (orbits-face_images lists simple) at (Together-from (face_classes lists) (dart_number lists (u, a)) (dart_number lists (v, b)) face)
 
   SameFace-from : (c e : Dart) → Together (orbits_of (after f g) k) (dart_number lists c) (dart_number lists e) → SameFace lists c e
-  SameFace-from c e t = same_class-from (orbits (face_images lists)) (dart_number lists c) (dart_number lists e) (rw (orbits-face_images lists simple) t)
+  SameFace-from c e t = same_class-from (face_classes lists) (dart_number lists c) (dart_number lists e) (rw (orbits-face_images lists simple) t)
 
   face_turn : (i : ℕ) → i < k → Together (orbits_of (after f g) k) i (f (g i))
   face_turn = orbits_of-step (after f g) k (IsPermuting-after f g k w (IsPermuting-pairing g k pair)).within

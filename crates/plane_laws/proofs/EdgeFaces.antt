@@ -1,9 +1,9 @@
 -- An edge taken away from a map of genus zero: whether that parts a component is seen at its faces; and where it does not, its two faces become one.
 use Rattle.std.proofs.Common.{◌≡◌, ◌≢◌, ℕ, ◌+◌, ◌<◌, true, false, cond, eqb, List, [], ◌∷◌, length, Contains, refl, sym, ap, ap₂, ◌∙◌, subst, inl, inr, arith}
 use Rattle.std.proofs.lemmas.Bool.{cases_eq, eq-eqb, ne_eqb, false≢true}
-use Rattle.label_classes.specs.Classes.{label, class_count, orbits, merge}
+use Rattle.label_classes.specs.Classes.{label, class_count, merge}
 use Rattle.map_lists.specs.Lists.{Lists}
-use Rattle.map_definitions.specs.Maps.{Dart, darts, list_of, HasDart, IsSimpleMap, IsPlane, is_empty_list, darts_before, dart_number, dart_count, edge_count, component_count, face_images}
+use Rattle.map_definitions.specs.Maps.{Dart, darts, list_of, HasDart, IsSimpleMap, IsPlane, is_empty_list, darts_before, dart_number, dart_count, edge_count, component_count, face_classes}
 use Rattle.map_definitions.specs.Paths.{SameFace}
 use Rattle.map_definitions.specs.Edges.{without_edge}
 use Rattle.plane_laws.specs.Laws.{BridgeTest, FacesMerged, IsMergedFaces}
@@ -357,10 +357,10 @@ module _ (lists : Lists) (simple : IsSimpleMap lists) (u v : ℕ) (edge : HasDar
   face_step = orbits_of-step (after f g) k (IsPermuting-after f g k w gw).within
 
   to_orbit : (b c : Dart) → SameFace lists b c → Together P (dart_number lists b) (dart_number lists c)
-  to_orbit b c h = rw (orbits-face_images lists simple) at (Together-from (orbits (face_images lists)) (dart_number lists b) (dart_number lists c) h)
+  to_orbit b c h = rw (orbits-face_images lists simple) at (Together-from (face_classes lists) (dart_number lists b) (dart_number lists c) h)
 
   from_orbit : (b c : Dart) → Together P (dart_number lists b) (dart_number lists c) → SameFace lists b c
-  from_orbit b c t = same_class-from (orbits (face_images lists)) (dart_number lists b) (dart_number lists c) (rw (orbits-face_images lists simple) t)
+  from_orbit b c t = same_class-from (face_classes lists) (dart_number lists b) (dart_number lists c) (rw (orbits-face_images lists simple) t)
 
   -- what leads to p's partner leads on to d
   before_d : (p : ℕ) → p < k → f p ≡ d → Together P (g p) d
@@ -544,7 +544,7 @@ module _ (lists : Lists) (simple : IsSimpleMap lists) (u v : ℕ) (edge : HasDar
           ]
         ] in
         let over = faces_over.back (dart_number rest b) (dart_number rest c) (omega arith) (omega arith) (ap (label P2) (number_over b h) ∙ (t2 ∙ sym (ap (label P2) (number_over c h')))) in
-        same_class-from (orbits (face_images rest)) (dart_number rest b) (dart_number rest c) (rw (orbits-face_images rest simple') over)
+        same_class-from (face_classes rest) (dart_number rest b) (dart_number rest c) (rw (orbits-face_images rest simple') over)
 
     rest_to_cut : (b c : Dart) → HasDart rest b.0 b.1 → HasDart rest c.0 c.1 → SameFace rest b c → Together P1 (dart_number lists b) (dart_number lists c)
     rest_to_cut b c h h' face =
@@ -554,7 +554,7 @@ module _ (lists : Lists) (simple : IsSimpleMap lists) (u v : ℕ) (edge : HasDar
         let lc = left_in c h' in
         let gq = pair.within q lq in
         let gg = pair.within (g d) le in
-        let q' : Together Q (dart_number rest b) (dart_number rest c) = rw (orbits-face_images rest simple') at (Together-from (orbits (face_images rest)) (dart_number rest b) (dart_number rest c) face) in
+        let q' : Together Q (dart_number rest b) (dart_number rest c) = rw (orbits-face_images rest simple') at (Together-from (face_classes rest) (dart_number rest b) (dart_number rest c) face) in
         let over = faces_over.there (dart_number rest b) (dart_number rest c) (omega arith) (omega arith) q' in
         let t2 : Together P2 (dart_number lists b) (dart_number lists c) = ap (label P2) (sym (number_over b h)) ∙ (over ∙ ap (label P2) (number_over c h')) in
         rw second_cuts (merge-keeps P2 (g q) (g (g d)) w_P2 (omega arith) (omega arith) (dart_number lists b) (dart_number lists c) t2)

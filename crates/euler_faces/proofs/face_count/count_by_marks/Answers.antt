@@ -1,7 +1,7 @@
 use Rattle.std.proofs.Common.{◌≡◌, ◌+◌, length, sym, ap, ◌∙◌, arith, List, ℕ, refl}
 use Rattle.std.proofs.lemmas.List.{take_all}
 use Rattle.label_classes.specs.Classes.{orbits}
-use Rattle.map_definitions.specs.Maps.{face_images, face_count, darts_before, isolated_count}
+use Rattle.map_definitions.specs.Maps.{face_images, face_count, darts_before, isolated_count, face_classes}
 use Rattle.map_definitions.proofs.DartLemmas.{length-face_images, darts_before_none, darts_before_more, darts_before_all}
 use Rattle.label_classes.proofs.Orbits.{length-orbits}
 use Rattle.label_classes.proofs.Marks.{IsCounting-none, IsCounting-le, IsCounting-all}
@@ -67,7 +67,7 @@ loop-v-init c =
     record {
       known = c.requires.known;
       marks = c.requires.marks;
-      counting = rw (darts_before_none map.lists) (IsCounting-none (orbits (face_images map.lists)) (mark_of map c.args.marked.now) (λ i l. c.requires.unset (id_of map i)));
+      counting = rw (darts_before_none map.lists) (IsCounting-none (face_classes map.lists) (mark_of map c.args.marked.now) (λ i l. c.requires.unset (id_of map i)));
       few = omega arith;
       isolated = refl;
     }

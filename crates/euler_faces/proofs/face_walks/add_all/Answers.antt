@@ -1,6 +1,6 @@
 use Rattle.std.proofs.Common.{arith}
 use Rattle.label_classes.specs.Classes.{orbits}
-use Rattle.map_definitions.specs.Maps.{face_images}
+use Rattle.map_definitions.specs.Maps.{face_images, face_classes}
 use Rattle.map_definitions.proofs.DartLemmas.{length-face_images, darts_before_none, darts_before_all}
 use Rattle.label_classes.proofs.Orbits.{length-orbits}
 use Rattle.label_classes.proofs.Marks.{IsCounting-none, IsCounting-le, IsCounting-all}
@@ -15,7 +15,7 @@ loop-v-init c =
     record {
       known = c.requires.known;
       marks = c.requires.marks;
-      counting = rw (c.requires.none, darts_before_none map.lists) (IsCounting-none (orbits (face_images map.lists)) (mark_of map c.args.marked.now) (λ i l. c.requires.unset (id_of map i)));
+      counting = rw (c.requires.none, darts_before_none map.lists) (IsCounting-none (face_classes map.lists) (mark_of map c.args.marked.now) (λ i l. c.requires.unset (id_of map i)));
       walks = rw (c.requires.none, darts_before_none map.lists) (AreWalksBelow-none map);
     }
 

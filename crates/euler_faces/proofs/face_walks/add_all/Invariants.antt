@@ -1,6 +1,5 @@
 use Rattle.std.proofs.Common.{◌≡◌, ◌+◌, ◌*◌, length}
-use Rattle.label_classes.specs.Classes.{orbits}
-use Rattle.map_definitions.specs.Maps.{edge_count, darts_before, face_images}
+use Rattle.map_definitions.specs.Maps.{edge_count, darts_before, face_classes}
 use Rattle.label_classes.proofs.Marks.{IsCounting}
 use Rattle.half_edges.specs.Map.{IsHalfMap}
 use Rattle.euler_faces.specs.Numbers.{mark_of}
@@ -11,6 +10,6 @@ abbrev pub invariant-loop-v : goal.invariant-loop-v
 invariant-loop-v l = record {
   known : IsHalfMap l.map;
   marks : length l.marked ≡ 2 * (edge_count l.map.lists + l.map.spare);
-  counting : IsCounting (orbits (face_images l.map.lists)) (mark_of l.map l.marked) (length l.walks.items) (darts_before l.map.lists l.v);
+  counting : IsCounting (face_classes l.map.lists) (mark_of l.map l.marked) (length l.walks.items) (darts_before l.map.lists l.v);
   walks : AreWalksBelow l.map l.walks.items (darts_before l.map.lists l.v);
 }

@@ -1,6 +1,5 @@
 use Rattle.std.proofs.Common.{◌≡◌, ℕ, ◌+◌, ◌-◌, ◌*◌, length, Some}
-use Rattle.label_classes.specs.Classes.{orbits}
-use Rattle.map_definitions.specs.Maps.{edge_count, dart_count, face_images}
+use Rattle.map_definitions.specs.Maps.{edge_count, dart_count, face_classes}
 use Rattle.label_classes.proofs.Marks.{IsCounting}
 use Rattle.half_edges.specs.Map.{dart_at}
 use Rattle.euler_faces.specs.Numbers.{number_at, mark_of}
@@ -11,7 +10,7 @@ abbrev pub invariant-round : goal.invariant-round
 invariant-round l = record {
   dart : (u : ℕ) × (dart_at l.map l.d.0 ≡ Some (l.fn.v.0, u));
   marks : length l.marked ≡ 2 * (edge_count l.map.lists + l.map.spare);
-  counting : IsCounting (orbits (face_images l.map.lists)) (mark_of l.map l.marked) (length l.walks.items) (number_at l.map l.d.0);
+  counting : IsCounting (face_classes l.map.lists) (mark_of l.map l.marked) (length l.walks.items) (number_at l.map l.d.0);
   walks : AreWalksBelow l.map l.walks.items (number_at l.map l.d.0);
 }
 
