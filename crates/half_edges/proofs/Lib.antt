@@ -8,7 +8,6 @@ pub mod WriteLemmas
 pub mod FreeLemmas
 pub mod TakenLemmas
 pub mod MapLemmas
-pub mod IdLemmas
 pub mod EdgeLemmas
 pub mod StepLemmas
 pub mod GivenLemmas

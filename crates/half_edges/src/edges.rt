@@ -190,7 +190,7 @@ fn put(darts: &mut [DartRecord], vertices: &mut [VertexRecord], d: u32, corner: 
     }
 }
 
-// Puts the two darts of the first free edge into corners.
+// Puts the two darts of the first free edge into corners. Only the clauses name `spare`.
 fn put_edge(
     darts: &mut [DartRecord],
     vertices: &mut [VertexRecord],
