@@ -36,6 +36,19 @@ impl Rotations {
         }
     }
 
+    /// The pieces of `entries` that end at the places `ends`.
+    pub fn from_parts(entries: Vec<u16>, ends: Vec<usize>) -> Self
+        requires { AreCuts 0 ends.items (length entries.items) }
+        ensures { result ≡ cut 0 ends.items entries.items }
+    {
+        Rotations { entries, ends }
+    }
+
+    /// All entries, list after list, and for each list the place behind its last entry.
+    pub fn into_parts(self) -> (Vec<u16>, Vec<usize>) {
+        (self.entries, self.ends)
+    }
+
     /// Appends a copy of a list. After an error nothing has changed.
     pub fn push(&mut self, list: &[u16]) -> Result<(), AllocError>
         ensures ok { OnOk result (self.new ≡ self.old ++ list.now ∷ []) }
