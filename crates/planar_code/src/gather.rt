@@ -7,6 +7,7 @@ ghost use Rattle.planar_code.specs.Open.{IsOpen, Gathers};
 use super::open::OpenLists;
 use map_lists::Rotations;
 use std::alloc::Global;
+use std::mem;
 
 /// The number of two bytes, the greater first.
 pub fn number_of(high: u8, low: u8) -> u16
@@ -17,7 +18,26 @@ pub fn number_of(high: u8, low: u8) -> u16
 
 /// Numbers of one byte each join the lists, up to the one that closes list number `count`. It answers
 /// how many bytes they were.
-pub fn gather_narrow(gathered: &mut OpenLists, count: usize, piece: &[u8]) -> usize
+///
+/// The lists are a value of its own for the loop, so that their ends stay in registers.
+pub fn gather_narrow(alloc: Global, gathered: &mut OpenLists, count: usize, piece: &[u8]) -> usize
+    requires some { 0 < length piece.now }
+    requires is { IsOpen 256 255 count gathered.old.lists gathered.old.last }
+    requires room { length piece.now ≤ gathered.old.room }
+    requires most { count ≤ gathered.old.most }
+    ensures some { 0 < result }
+    ensures within { result ≤ length piece.now }
+    ensures gathers { Gathers 255 count (take result piece.now) gathered.old gathered.new }
+{
+    let mut lists = mem::replace(gathered, OpenLists::new(alloc));
+    let taken = narrow_numbers(&mut lists, count, piece);
+    *gathered = lists;
+    taken
+}
+
+// The loop of `gather_narrow`.
+#[inline(always)]
+fn narrow_numbers(gathered: &mut OpenLists, count: usize, piece: &[u8]) -> usize
     requires some { 0 < length piece.now }
     requires is { IsOpen 256 255 count gathered.old.lists gathered.old.last }
     requires room { length piece.now ≤ gathered.old.room }
@@ -38,7 +58,25 @@ pub fn gather_narrow(gathered: &mut OpenLists, count: usize, piece: &[u8]) -> us
 
 /// Numbers of two bytes each join the lists, up to the one that closes list number `count`. It answers
 /// how many bytes they were; a last byte alone is none of them.
-pub fn gather_wide(gathered: &mut OpenLists, count: usize, piece: &[u8]) -> usize
+pub fn gather_wide(alloc: Global, gathered: &mut OpenLists, count: usize, piece: &[u8]) -> usize
+    requires some { 1 < length piece.now }
+    requires is { IsOpen 4096 65535 count gathered.old.lists gathered.old.last }
+    requires room { length piece.now ≤ gathered.old.room }
+    requires most { count ≤ gathered.old.most }
+    ensures some { 0 < result }
+    ensures within { result ≤ length piece.now }
+    ensures gathers { (numbers : List ℕ) × (flat_map two_bytes numbers ≡ take result piece.now)
+        × Gathers 65535 count numbers gathered.old gathered.new }
+{
+    let mut lists = mem::replace(gathered, OpenLists::new(alloc));
+    let taken = wide_numbers(&mut lists, count, piece);
+    *gathered = lists;
+    taken
+}
+
+// The loop of `gather_wide`.
+#[inline(always)]
+fn wide_numbers(gathered: &mut OpenLists, count: usize, piece: &[u8]) -> usize
     requires some { 1 < length piece.now }
     requires is { IsOpen 4096 65535 count gathered.old.lists gathered.old.last }
     requires room { length piece.now ≤ gathered.old.room }

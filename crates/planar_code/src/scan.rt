@@ -95,7 +95,7 @@ fn take_narrow(
     requires is { IsScanned (Narrow count) gathered.old }
     ensures { Advances (Narrow count) gathered.old lent.old piece.now result.0 result.1 gathered.new lent.new }
 {
-    let taken = gather_narrow(gathered, usize::from(count), piece);
+    let taken = gather_narrow(alloc, gathered, usize::from(count), piece);
     if lend_whole(alloc, gathered, lent, usize::from(count)) {
         (Phase::Start, Scanned::Ended(taken))
     } else {
@@ -119,7 +119,7 @@ fn take_wide(
     if piece.len() == 1 {
         return (Phase::WideHalf(count, piece[0]), Scanned::More(1));
     }
-    let taken = gather_wide(gathered, usize::from(count), piece);
+    let taken = gather_wide(alloc, gathered, usize::from(count), piece);
     if lend_whole(alloc, gathered, lent, usize::from(count)) {
         (Phase::Start, Scanned::Ended(taken))
     } else {

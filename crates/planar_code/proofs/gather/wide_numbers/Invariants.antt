@@ -1,7 +1,7 @@
 -- The numbers before pair k have joined the lists, and have not closed all.
 use Rattle.std.proofs.Common.{◌*◌, ◌<◌, ◌≡◌, length, take}
 use Rattle.planar_code.proofs.GatherLemmas.{GathersWide}
-use Rattle.planar_code.proofs.gather.gather_wide.Given as goal
+use Rattle.planar_code.proofs.gather.wide_numbers.Given as goal
 
 abbrev pub invariant-loop-k : goal.invariant-loop-k
 invariant-loop-k l = record {

@@ -2,8 +2,8 @@
 use Rattle.std.proofs.Common.{◌≡◌, ◌+◌, ◌*◌, ◌<◌, ℕ, List, length, get_or, take, refl, subst, arith}
 use Rattle.std.proofs.lemmas.List.{length-take-le}
 use Rattle.planar_code.proofs.GatherLemmas.{GathersWide, wide-gathers, wide-room, still-some}
-use Rattle.planar_code.proofs.gather.gather_wide.Goals as goal
-use Rattle.planar_code.proofs.gather.gather_wide.Goals.{else-number-eq0-via-then-number-eq0+else-closed-count, else-number-eq0-via-else-number-eq0}
+use Rattle.planar_code.proofs.gather.wide_numbers.Goals as goal
+use Rattle.planar_code.proofs.gather.wide_numbers.Goals.{else-number-eq0-via-then-number-eq0+else-closed-count, else-number-eq0-via-else-number-eq0}
 
 pub collect-requires-clause-room : goal.collect-requires-clause-room
 collect-requires-clause-room c =

@@ -1,8 +1,8 @@
 -- The number of a byte joins the lists, and does not close the last of them.
 use Rattle.std.proofs.Common.{◌+◌, take, arith}
 use Rattle.planar_code.proofs.GatherLemmas.{narrow-gathers, still-some}
-use Rattle.planar_code.proofs.gather.gather_narrow.Goals as goal
-use Rattle.planar_code.proofs.gather.gather_narrow.Goals.{else-number-eq0-via-then-number-eq0+else-closed-count, else-number-eq0-via-else-number-eq0}
+use Rattle.planar_code.proofs.gather.narrow_numbers.Goals as goal
+use Rattle.planar_code.proofs.gather.narrow_numbers.Goals.{else-number-eq0-via-then-number-eq0+else-closed-count, else-number-eq0-via-else-number-eq0}
 
 pub loop-k-preserved : goal.loop-k-preserved
 loop-k-preserved c =
