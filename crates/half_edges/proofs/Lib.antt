@@ -15,3 +15,4 @@ pub mod PutLemmas
 pub mod GivenLemmas
 pub mod ReserveLemmas
 pub mod InducedLemmas
+pub mod RoundLemmas
