@@ -6,3 +6,4 @@ pub mod PassLemmas
 pub mod PassedLemmas
 pub mod TableLemmas
 pub mod TwinLemmas
+pub mod FirstFaults

@@ -3,3 +3,4 @@ pub mod Faults
 pub mod Pass
 pub mod MapFault
 pub mod Tables
+pub mod Laws

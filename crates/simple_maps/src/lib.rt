@@ -3,6 +3,7 @@
 
 mod fault;
 mod faults;
+mod laws;
 mod pass;
 mod simple;
 mod slots;
@@ -10,5 +11,6 @@ mod tables;
 mod twins;
 
 pub use fault::MapFault;
+pub use laws::{first_fault_is_first, no_fault_is_simple};
 pub use pass::DartSlot;
 pub use slots::fill_slots;
