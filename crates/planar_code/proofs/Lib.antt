@@ -1,6 +1,7 @@
 -- Lemmas on records and readings that callers use.
 pub mod RecordLemmas
 pub mod ProgressLemmas
+pub mod EndLemmas
 pub mod ScanLemmas
 pub mod FrontLemmas
 pub mod NextLemmas

@@ -3,6 +3,7 @@ pub mod State
 pub mod Fed
 pub mod Step
 pub mod Progress
+pub mod Ends
 pub mod Scan
 pub mod Front
 pub mod Laws
