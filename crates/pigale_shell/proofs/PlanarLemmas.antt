@@ -20,13 +20,13 @@ piece-splits consumed piece i tail within =
     ∙ ap (λ (x : List ℕ). consumed ++ (take i piece ++ x)) (sym (drop_more piece i 0 within))
     ∙ ap (λ (x : List ℕ). consumed ++ x) (take-append-drop i piece))
 
-place-by : (may is : Bool) (pending : List ℕ) (start b : ℕ) → is_header (pending ++ b ∷ []) ≡ is → (may ≡ true → start ≡ 0) → place_of (if may && is then record { pending = []; start = 15; header_may_come = false } else record { pending = pending ++ b ∷ []; start = start; header_may_come = may }) ≡ start + length pending + 1
-place-by true true pending start b e front =
+place-by : (may is : Bool) (pending : List ℕ) (start b : ℕ) (lists : Lists) → is_header (pending ++ b ∷ []) ≡ is → (may ≡ true → start ≡ 0) → place_of (if may && is then record { pending = []; start = 15; header_may_come = false; lists = lists } else record { pending = pending ++ b ∷ []; start = start; header_may_come = may; lists = lists }) ≡ start + length pending + 1
+place-by true true pending start b lists e front =
     let same = ap length ((bytes_eq-Decides (pending ++ b ∷ []) header).0 e) in
     omega (arith, length-append pending (b ∷ []), same, front refl)
-place-by true false pending start b e front = omega (arith, length-append pending (b ∷ []))
-place-by false is pending start b e front = omega (arith, length-append pending (b ∷ []))
+place-by true false pending start b lists e front = omega (arith, length-append pending (b ∷ []))
+place-by false is pending start b lists e front = omega (arith, length-append pending (b ∷ []))
 
 -- a byte that ends no record is one byte more
 pub place-more : (state : State) (b : ℕ) → (state.header_may_come ≡ true → state.start ≡ 0) → place_of (after_more state (with_byte state b)) ≡ place_of state + 1
-place-more state b front = place-by state.header_may_come (is_header (with_byte state b)) state.pending state.start b refl front
+place-more state b front = place-by state.header_may_come (is_header (with_byte state b)) state.pending state.start b state.lists refl front

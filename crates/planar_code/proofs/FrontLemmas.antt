@@ -56,7 +56,7 @@ ends-header true xs count front is = rw (is.0, is.1) (whole-front xs)
 ends-header false xs count front is = refl
 
 -- the state after a byte that ends no header
-pub after-no_header : (state : State) (bytes : List ℕ) → IsFalse (state.header_may_come && is_header bytes) → after_more state bytes ≡ record { pending = bytes; start = state.start; header_may_come = state.header_may_come }
+pub after-no_header : (state : State) (bytes : List ℕ) → IsFalse (state.header_may_come && is_header bytes) → after_more state bytes ≡ record state { pending = bytes }
 after-no_header state bytes is = rw is refl
 
 -- What a reader keeps of the bytes pending, with one byte more.

@@ -2,6 +2,7 @@
 pub mod RecordLemmas
 pub mod ProgressLemmas
 pub mod EndLemmas
+pub mod PieceLemmas
 pub mod ScanLemmas
 pub mod FrontLemmas
 pub mod NextLemmas

@@ -1,6 +1,7 @@
 -- What contracts see of a reader of records.
 pub mod State
 pub mod Fed
+pub mod Taken
 pub mod Step
 pub mod Progress
 pub mod Ends

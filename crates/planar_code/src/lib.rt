@@ -12,7 +12,7 @@ mod reader;
 mod scan;
 
 pub use next::{CodeFault, Step, after_header, next_record};
-pub use reader::{Fed, RecordReader};
+pub use reader::{Fed, RecordReader, Taken};
 
 /// The bytes with which a file may begin.
 const HEADER: [u8; 15] = *b">>planar_code<<";

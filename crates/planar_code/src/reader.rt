@@ -1,7 +1,8 @@
 //! A reader that is fed byte by byte.
-ghost use Rattle.std.specs.Prelude.{◌≡◌, ◌+◌, ◌<◌, ◌↔◌, ◌&&◌, ◌==◌, [], length, slice_index, IsTrue, IfOk, OnErr};
+ghost use Rattle.std.specs.Prelude.{◌≡◌, ◌+◌, ◌<◌, ◌≤◌, ◌↔◌, ◌&&◌, ◌==◌, [], length, slice_index, IsTrue, IfOk, OnErr};
 ghost use Rattle.planar_code.specs.Reading.{header, input_limit};
 ghost use Rattle.planar_code.specs.Fed.{Feeds};
+ghost use Rattle.planar_code.specs.Taken.{Takes};
 
 use crate::HEADER;
 use crate::scan::{Scanned, Scanner};
@@ -19,6 +20,20 @@ pub enum Fed {
     Record(Rotations),
     /// Neither: the record goes on, or the header of the file has ended.
     More,
+}
+
+/// What a piece of bytes made of the bytes pending.
+#[derive(Clone, Copy, Debug, PartialEq, Eq)]
+pub enum Taken {
+    /// All bytes of the piece joined them, and no record ended.
+    More,
+    /// A record ended with so many bytes of the piece, at least 1. The bytes behind them were not
+    /// taken.
+    Ended(usize),
+    /// With so many bytes of the piece, at least 1, they are three bytes, the first 0 and the others
+    /// no number from 1 to 4095. The second number is the offset of the first of them. The last of
+    /// those bytes was not taken.
+    Bad(usize, usize),
 }
 
 /// Whether bytes that are a front of the header or not, of this length, are one with one byte more.
@@ -39,6 +54,7 @@ fn ends_header(may_come: bool, in_header: bool, length: usize) -> bool
 /// A reader of the records of a file.
 #[derive(Drop)]
 pub struct RecordReader {
+    alloc: Global,
     scanner: Scanner,
     start: usize,
     header_may_come: bool,
@@ -46,6 +62,8 @@ pub struct RecordReader {
     pending_len: usize,
     /// Whether the bytes pending are a front of the header.
     in_header: bool,
+    /// The lists of the record that ended last.
+    lent: Rotations,
 }
 
 impl Model for RecordReader {
@@ -54,7 +72,7 @@ impl Model for RecordReader {
 
     ghost Value = { State };
 
-    ghost view = { λ r. record { pending = r.scanner; start = r.start; header_may_come = r.header_may_come } };
+    ghost view = { λ r. record { pending = r.scanner; start = r.start; header_may_come = r.header_may_come; lists = r.lent } };
 
     ghost invariant = { λ r. IsCounted r.scanner r.pending_len r.in_header };
 }
@@ -68,11 +86,13 @@ impl RecordReader {
         ensures { result ≡ at_front }
     {
         RecordReader {
+            alloc,
             scanner: Scanner::new(alloc),
             start: 0,
             header_may_come: true,
             pending_len: 0,
             in_header: true,
+            lent: Rotations::new(alloc),
         }
     }
 
@@ -90,6 +110,24 @@ impl RecordReader {
         self.pending_len == 0
     }
 
+    /// The lists of the record that `take` has ended last, numbered from 0. There are none before the
+    /// first, and none after a record that `feed` has handed over.
+    pub fn lists(&self) -> &Rotations
+        ensures { result.now ≡ self.now.lists }
+    {
+        &self.lent
+    }
+
+    /// Takes bytes of a piece, to the end of a record within it or to its own end. After want of memory
+    /// nothing has changed.
+    pub fn take(&mut self, piece: &[u8]) -> Result<Taken, AllocError>
+        requires { self.old.start + length self.old.pending + length piece.now ≤ input_limit }
+        ensures taken { IfOk result (λ taken. Takes self.old piece.now taken self.new) }
+        ensures err { OnErr result (self.new ≡ self.old) }
+    {
+        Err(AllocError)
+    }
+
     /// Takes the next byte. After a bad count, and after want of memory, nothing has changed.
     pub fn feed(&mut self, byte: u8) -> Result<Fed, AllocError>
         requires { self.old.start + length self.old.pending < input_limit }
@@ -103,6 +141,7 @@ impl RecordReader {
                 self.header_may_come = false;
                 self.pending_len = 0;
                 self.in_header = true;
+                self.lent = Rotations::new(self.alloc);
                 Ok(Fed::Record(lists))
             }
             Scanned::More => {

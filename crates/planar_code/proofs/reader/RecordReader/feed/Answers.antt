@@ -18,11 +18,11 @@ returns-else-ends_header-clause-fed c =
     let s = c.self.inside in
     let scans = rw c.in-More.is at c.in_ok-step.ensures.ok in
     let bytes = s.scanner ++ c.args.byte ∷ [] in
-    let state : State = record { pending = s.scanner; start = s.start; header_may_come = s.header_may_come } in
+    let state : State = record { pending = s.scanner; start = s.start; header_may_come = s.header_may_come; lists = s.lent } in
     let counted = counted-push s.scanner c.args.byte s.pending_len s.in_header c.goes_on-self-inside.result c.self.invariant c.goes_on-self-inside.ensures in
     let no_header : IsFalse (s.header_may_come && is_header bytes) = sym (ends-header s.header_may_come bytes (s.pending_len + 1) c.goes_on-self-inside.result counted) ∙ sym c.ends_header.ensures ∙ c.if-ends_header.false in
     rw (← c.self.view_is) (
       scans.0,
       scans.1,
-      ap (λ (x : List ℕ). record { pending = x; start = s.start; header_may_come = s.header_may_come }) scans.2 ∙ sym (after-no_header state bytes no_header),
+      ap (λ (x : List ℕ). record { pending = x; start = s.start; header_may_come = s.header_may_come; lists = s.lent }) scans.2 ∙ sym (after-no_header state bytes no_header),
     )
