@@ -6,3 +6,4 @@ pub mod KeptEdges
 pub mod InsertedEntry
 pub mod WithEdge
 pub mod VertexSmoothed
+pub mod Chords

@@ -3,3 +3,4 @@ pub mod Added
 pub mod Kept
 pub mod WithEdge
 pub mod Smoothed
+pub mod Chords
