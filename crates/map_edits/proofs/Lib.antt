@@ -7,3 +7,5 @@ pub mod InsertedEntry
 pub mod WithEdge
 pub mod VertexSmoothed
 pub mod Chords
+pub mod Extended
+pub mod Completions

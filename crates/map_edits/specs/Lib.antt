@@ -4,3 +4,4 @@ pub mod Kept
 pub mod WithEdge
 pub mod Smoothed
 pub mod Chords
+pub mod Completed

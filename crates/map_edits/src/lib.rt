@@ -4,6 +4,7 @@
 
 ghost use Rattle.map_edits.specs.Added.{EdgeInFace, EdgeBetween};
 ghost use Rattle.map_edits.specs.Chords.{CornerChord, EarCut, OneChord, SomeEar};
+ghost use Rattle.map_edits.specs.Completed.{Completion};
 ghost use Rattle.map_edits.specs.Kept.{KeptEdges};
 ghost use Rattle.map_edits.specs.Smoothed.{VertexSmoothed};
 ghost use Rattle.map_edits.specs.WithEdge.{EdgePutBetween, EdgePutInFace, WithEdge, WithEdgeAfter};
@@ -77,4 +78,10 @@ pub fn some_ear()
 /// An ear that is cut is a triangle, and all triangles stay.
 pub fn ear_cut()
     ensures { EarCut }
+{}
+
+/// Each simple map of genus zero with at least three vertices can be completed: there are lists with
+/// 3n - 6 edges that are a map of genus zero and keep the order of the old entries.
+pub fn completion()
+    ensures { Completion }
 {}
