@@ -13,3 +13,4 @@ pub mod StepLemmas
 pub mod GivenLemmas
 pub mod ReserveLemmas
 pub mod InducedLemmas
+pub mod RoundLemmas

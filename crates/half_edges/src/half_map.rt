@@ -5,9 +5,9 @@ ghost use Rattle.simple_maps.specs.Faults.{first_fault};
 ghost use Rattle.half_edges.specs.Map.{IsHalfMap, IsLive, dart_at, first_dart, next_dart};
 ghost use Rattle.simple_maps.specs.MapFault.{Names};
 
-use crate::arena::{DartRecord, VertexRecord, dart_to, records_of, vertices_of, walked};
+use crate::arena::{DartRecord, VertexRecord, dart_to, link_darts, walked};
 use map_lists::{DartId, Rotations, VertexId};
-use simple_maps::{MapFault, tables_of};
+use simple_maps::{MapFault, fill_slots};
 use std::alloc::{AllocError, Global};
 use std::marker::Model;
 
@@ -42,7 +42,7 @@ impl Model for HalfMap {
 impl HalfMap {
     /// The map with these lists, which are from 1 to 4095, or the first fault of the lists.
     ///
-    /// Its `spare` is 0. The time is linear in the entries, and so is the memory.
+    /// Its `spare` is 0. The time is linear in the entries, and so is the memory: 16 bytes for a dart.
     pub fn from_rotations(alloc: Global, lists: &Rotations) -> Result<HalfMap, MapFault>
         requires some_list { 0 < length lists.now }
         requires few_lists { length lists.now < 4096 }
@@ -52,13 +52,15 @@ impl HalfMap {
         ensures fault { IfErr result (Names (first_fault lists.now)) }
         ensures known { IfOk result IsHalfMap }
     {
-        let tables = tables_of(alloc, lists)?;
-        let darts = records_of(alloc, lists, &tables.starts, &tables.ends, &tables.twins)?;
-        let vertices = vertices_of(alloc, lists, &tables.starts)?;
+        let mut darts = Vec::new(alloc);
+        let mut threads = Vec::new(alloc);
+        fill_slots(alloc, lists, &mut darts, &mut threads)?;
+        let vertices = link_darts(alloc, lists, &mut darts)?;
+        let edges = (darts.len() / 2) as u32;
         Ok(HalfMap {
             darts,
             vertices,
-            edges: (tables.ends.len() / 2) as u32,
+            edges,
             free: 0,
             spare: 0,
         })

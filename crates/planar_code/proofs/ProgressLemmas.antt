@@ -39,25 +39,25 @@ header-push xs b not none =
     ]
 
 -- the state after a byte, by whether a header may come and whether the bytes are one
-state-more : Bool → Bool → List ℕ → ℕ → State
-state-more true true bytes start = record { pending = []; start = 15; header_may_come = false }
-state-more true false bytes start = record { pending = bytes; start = start; header_may_come = true }
-state-more false is bytes start = record { pending = bytes; start = start; header_may_come = false }
+state-more : Bool → Bool → List ℕ → ℕ → Lists → State
+state-more true true bytes start lent = record { pending = []; start = 15; header_may_come = false; lists = lent }
+state-more true false bytes start lent = record { pending = bytes; start = start; header_may_come = true; lists = lent }
+state-more false is bytes start lent = record { pending = bytes; start = start; header_may_come = false; lists = lent }
 
-after_more-is : (may : Bool) (is : Bool) (pending bytes : List ℕ) (start : ℕ) → is_header bytes ≡ is → after_more (record { pending = pending; start = start; header_may_come = may }) bytes ≡ state-more may is bytes start
+after_more-is : (may : Bool) (is : Bool) (pending bytes : List ℕ) (start : ℕ) (lent : Lists) → is_header bytes ≡ is → after_more (record { pending = pending; start = start; header_may_come = may; lists = lent }) bytes ≡ state-more may is bytes start lent
 unfolding state-more
-after_more-is true true pending bytes start e = rw e refl
-after_more-is true false pending bytes start e = rw e refl
-after_more-is false is pending bytes start e = refl
+after_more-is true true pending bytes start lent e = rw e refl
+after_more-is true false pending bytes start lent e = rw e refl
+after_more-is false is pending bytes start lent e = refl
 
-module _ (consumed : List ℕ) (records : List Lists) (pending : List ℕ) (start : ℕ) (b : ℕ) where
+module _ (consumed : List ℕ) (records : List Lists) (pending : List ℕ) (start : ℕ) (lent : Lists) (b : ℕ) where
   front_is-more : (may : Bool) (bytes front : List ℕ) → consumed ≡ front ++ (bytes ++ pending) → IsFalse (is_header (pending ++ b ∷ [])) → FrontIs may consumed bytes records front → FrontIs may (consumed ++ b ∷ []) bytes records front
   front_is-more true bytes front parts none is =
       let same : consumed ≡ pending = parts ∙ ap (λ (x : List ℕ). x ++ (bytes ++ pending)) is.0 ∙ ap (λ (x : List ℕ). x ++ pending) is.1 in
       (is.0, is.1, is.2, header-push consumed b is.3 (rw same none))
   front_is-more false bytes front parts none is = λ tail. rw (append_assoc consumed (b ∷ []) tail) (is (b ∷ tail))
 
-  more-by : (may is : Bool) → is_header (pending ++ b ∷ []) ≡ is → Progress consumed records (record { pending = pending; start = start; header_may_come = may }) → IsFalse (is_bad_count (pending ++ b ∷ [])) → ((lists : Lists) → ¬ IsRecord (pending ++ b ∷ []) lists) → Progress (consumed ++ b ∷ []) records (state-more may is (pending ++ b ∷ []) start)
+  more-by : (may is : Bool) → is_header (pending ++ b ∷ []) ≡ is → Progress consumed records (record { pending = pending; start = start; header_may_come = may; lists = lent }) → IsFalse (is_bad_count (pending ++ b ∷ [])) → ((lists : Lists) → ¬ IsRecord (pending ++ b ∷ []) lists) → Progress (consumed ++ b ∷ []) records (state-more may is (pending ++ b ∷ []) start lent)
   unfolding state-more
   more-by true true e p not_bad not =
       let same : consumed ++ b ∷ [] ≡ header = parts-push consumed p.front p.bytes pending b p.parts ∙ ap (λ (x : List ℕ). x ++ (p.bytes ++ (pending ++ b ∷ []))) p.front_is.0 ∙ ap (λ (x : List ℕ). x ++ (pending ++ b ∷ [])) p.front_is.1 ∙ (bytes_eq-Decides (pending ++ b ∷ []) header).0 e in
@@ -102,11 +102,11 @@ module _ (consumed : List ℕ) (records : List Lists) (pending : List ℕ) (star
 -- The byte joins what is pending, or ends the header.
 pub Progress-more : (consumed : List ℕ) (records : List Lists) (state : State) (b : ℕ) → Progress consumed records state → IsFalse (is_bad_count (with_byte state b)) → ((lists : Lists) → ¬ IsRecord (with_byte state b) lists) → Progress (consumed ++ b ∷ []) records (after_more state (with_byte state b))
 Progress-more consumed records state b p not_bad not =
-    rw (after_more-is state.header_may_come (is_header (with_byte state b)) state.pending (with_byte state b) state.start refl)
-    (more-by consumed records state.pending state.start b state.header_may_come (is_header (with_byte state b)) refl p not_bad not)
+    rw (after_more-is state.header_may_come (is_header (with_byte state b)) state.pending (with_byte state b) state.start state.lists refl)
+    (more-by consumed records state.pending state.start state.lists b state.header_may_come (is_header (with_byte state b)) refl p not_bad not)
 
 -- A record ends with the byte.
-pub Progress-record : (consumed : List ℕ) (records : List Lists) (state : State) (b : ℕ) (lists : Lists) → Progress consumed records state → IsRecord (with_byte state b) lists → Progress (consumed ++ b ∷ []) (records ++ lists ∷ []) (after_record state (with_byte state b))
+pub Progress-record : {lent : Lists} (consumed : List ℕ) (records : List Lists) (state : State) (b : ℕ) (lists : Lists) → Progress consumed records state → IsRecord (with_byte state b) lists → Progress (consumed ++ b ∷ []) (records ++ lists ∷ []) (after_record state (with_byte state b) lent)
 Progress-record consumed records state b lists p is = record {
   front = p.front;
   bytes = p.bytes ++ with_byte state b;
@@ -115,7 +115,7 @@ Progress-record consumed records state b lists p is = record {
   start = rw (length-append p.bytes (with_byte state b)) (let s = p.start in omega arith);
   no_record = NoRecord-nil;
   no_bad_count = refl;
-  front_is = front_is-record consumed records state.pending state.start b state.header_may_come p.bytes p.front lists p.parts is p.front_is;
+  front_is = front_is-record consumed records state.pending state.start state.lists b state.header_may_come p.bytes p.front lists p.parts is p.front_is;
 }
 
 front-is_header : (may : Bool) (consumed bytes : List ℕ) (records : List Lists) (front : List ℕ) → FrontIs may consumed bytes records front → header_of consumed ≡ front
@@ -224,23 +224,29 @@ header-splits input true e =
     rw e (sym (take-append-drop 15 input) ∙ ap (λ (x : List ℕ). x ++ drop 15 input) ((bytes_eq-Decides (take 15 input) header).0 e))
 header-splits input false e = rw e refl
 
-begins-by : (may : Bool) (consumed bytes pending : List ℕ) (records : List Lists) (front tail : List ℕ) → consumed ≡ front ++ (bytes ++ pending) → AreRecords bytes records → FrontIs may consumed bytes records front → BeginsWith (consumed ++ tail) records
-begins-by true consumed bytes pending records front tail parts are is = record {
+header_of-short : (input : List ℕ) (is : Bool) → is_header (take 15 input) ≡ is → length (header_of input) ≤ input_limit
+header_of-short input true e = rw e (omega arith)
+header_of-short input false e = rw e (omega arith)
+
+begins-by : (may : Bool) (consumed bytes pending : List ℕ) (records : List Lists) (front tail : List ℕ) → consumed ≡ front ++ (bytes ++ pending) → AreRecords bytes records → FrontIs may consumed bytes records front → length consumed ≤ input_limit → BeginsWith (consumed ++ tail) records
+begins-by true consumed bytes pending records front tail parts are is few = record {
   bytes = [];
   rest = drop (length (header_of (consumed ++ tail))) (consumed ++ tail);
   parts = header-splits (consumed ++ tail) (is_header (take 15 (consumed ++ tail))) refl;
   are = rw is.2 refl;
+  within = let l = header_of-short (consumed ++ tail) (is_header (take 15 (consumed ++ tail))) refl in omega (arith, l);
 }
-begins-by false consumed bytes pending records front tail parts are is = record {
+begins-by false consumed bytes pending records front tail parts are is few = record {
   bytes = bytes;
   rest = pending ++ tail;
   parts = ap (λ (x : List ℕ). x ++ tail) parts ∙ append_assoc front (bytes ++ pending) tail ∙ ap (λ (x : List ℕ). front ++ x) (append_assoc bytes pending tail) ∙ ap (λ (x : List ℕ). x ++ (bytes ++ (pending ++ tail))) (sym (is tail));
   are = are;
+  within = rw (is tail) (let l = ap length parts ∙ length-append front (bytes ++ pending) in omega (arith, length-append bytes pending, l));
 }
 
 -- The bytes begin with the records so far, however they go on.
-pub Progress-begins : (consumed : List ℕ) (records : List Lists) (state : State) (tail : List ℕ) → Progress consumed records state → BeginsWith (consumed ++ tail) records
-Progress-begins consumed records state tail p = begins-by state.header_may_come consumed p.bytes state.pending records p.front tail p.parts p.are p.front_is
+pub Progress-begins : (consumed : List ℕ) (records : List Lists) (state : State) (tail : List ℕ) → Progress consumed records state → length consumed ≤ input_limit → BeginsWith (consumed ++ tail) records
+Progress-begins consumed records state tail p few = begins-by state.header_may_come consumed p.bytes state.pending records p.front tail p.parts p.are p.front_is few
 
 -- how many bytes were consumed
 pub Progress-length : (consumed : List ℕ) (records : List Lists) (state : State) → Progress consumed records state → length consumed ≡ state.start + length state.pending

@@ -1,7 +1,13 @@
 //! Laws of plane maps. Each is the contract of a function that does nothing, and speaks of all maps.
 #![tactic(auto)]
 
-ghost use Rattle.plane_laws.specs.Laws.{EdgeRemoved, BridgeTest, FacesMerged, EdgeBound, CornerSplit, DigonSplit, VertexSmoothed};
+ghost use Rattle.plane_laws.specs.Laws.{ComponentsArePaths, EdgeRemoved, BridgeTest, FacesMerged, EdgeBound, FacesHaveThree, EdgeBoundMet, CornerSplit, DigonSplit};
+
+/// Two vertices of a simple map are in one of the classes that count its components exactly where a
+/// path joins them.
+pub fn components_are_paths()
+    ensures { ComponentsArePaths }
+{}
 
 /// A map of genus zero without one of its edges has genus zero.
 pub fn edge_removed()
@@ -25,6 +31,17 @@ pub fn edge_bound()
     ensures { EdgeBound }
 {}
 
+/// In a connected map with at least three vertices each face has at least three darts.
+pub fn faces_have_three()
+    ensures { FacesHaveThree }
+{}
+
+/// A simple map of genus zero with at least three vertices has just 3n - 6 edges exactly where it is
+/// connected and each of its faces is a triangle.
+pub fn edge_bound_met()
+    ensures { EdgeBoundMet }
+{}
+
 /// Where two corners of a vertex lie in one face of a map of genus zero, the vertex separates the
 /// entries from the one up to the other from those from the other up to the one.
 pub fn corner_split()
@@ -35,10 +52,4 @@ pub fn corner_split()
 /// the two sides.
 pub fn digon_split()
     ensures { DigonSplit }
-{}
-
-/// Where a vertex of a map of genus zero has just two neighbours, which are not adjacent, the map in
-/// which it is taken out of its edge, and its neighbours are adjacent, has genus zero.
-pub fn vertex_smoothed()
-    ensures { VertexSmoothed }
 {}

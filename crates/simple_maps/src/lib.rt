@@ -1,11 +1,16 @@
-//! Which rotation lists are a simple map: the tables of its darts, or the first fault of the lists.
+//! Which rotation lists are a simple map: the slots of its darts, or the first fault of the lists.
 #![tactic(auto)]
 
 mod fault;
 mod faults;
+mod laws;
+mod pass;
 mod simple;
+mod slots;
 mod tables;
 mod twins;
 
 pub use fault::MapFault;
-pub use simple::{Tables, tables_of};
+pub use laws::{first_fault_is_first, no_fault_is_simple};
+pub use pass::DartSlot;
+pub use slots::fill_slots;
