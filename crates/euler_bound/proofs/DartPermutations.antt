@@ -6,7 +6,7 @@ use Rattle.std.proofs.lemmas.List.Sums.{sum_by-cons}
 use Rattle.label_classes.specs.Classes.{count_below, label, image, classes, class_count, orbits, alone}
 use Rattle.map_lists.specs.Lists.{Lists}
 use Rattle.map_definitions.specs.Maps.{Dart, twin_dart, list_of, HasDart, IsSimpleMap, darts, place_of, follows, darts_before, dart_number, face_images, vertex_count, dart_count, edge_count, is_empty_list, isolated_count, face_count, component_count, face_classes, component_classes}
-use Rattle.label_classes.proofs.Counting.{count_below_same}
+use Rattle.label_classes.proofs.Counting.{count_below_all, count_below_same}
 use Rattle.label_classes.proofs.Classes.{Together, IsLabels, PairsBelow, IsLabels-alone, length-alone, label-alone, Together-label, length-classes, IsLabels-classes, classes-holds, classes-marked}
 use Rattle.label_classes.proofs.Orbits.{orbits_of, length-orbits_of, IsLabels-orbits_of, orbits_of-step, orbits_of-marked, orbits-image, IsPermuting}
 use Rattle.label_classes.proofs.Swap.{orbits_of-same}
@@ -55,10 +55,6 @@ pub count_by-count_below : {X : Type 0} (p : X → Bool) (xs : List X) (d : X) �
 count_by-count_below p [] d = refl
 count_by-count_below p (x ∷ xs) d =
     sum_by-cons (λ y. cond (p y) 1 0) x xs ∙ omega (arith, count_by-count_below p xs d, count_below-front (λ i. p (get_or (x ∷ xs) i d)) (length xs))
-
-count_all : (n : ℕ) → count_below (λ i. true) n ≡ n
-count_all zero = refl
-count_all (suc n) = omega (arith, count_all n)
 
 not_edge : (x y : Bool) → y ≡ true → (not (not x) && y) ≡ x
 not_edge true y e = e
@@ -209,13 +205,13 @@ module _ (lists : Lists) (simple : IsSimpleMap lists) where
       } in
       let count = class_count-transfer O A (tail_of lists) (darts_before lists) (has_edge lists) (IsLabels-orbits_of (rotation lists) k IsPermuting-rotation.within) (IsLabels-alone n) transfer in
       let own : (v : ℕ) → eqb (label A v) v ≡ true = λ v. eq-eqb (label A v) v (label-alone n v) in
-      let all : class_count A ≡ n = count_below_same (λ v. eqb (label A v) v) (λ v. true) (length A) (λ v l. own v) ∙ (count_all (length A) ∙ an) in
+      let all : class_count A ≡ n = count_below_same (λ v. eqb (label A v) v) (λ v. true) (length A) (λ v l. own v) ∙ (count_below_all (length A) ∙ an) in
       let rest : count_below (λ v. not (has_edge lists v) && eqb (label A v) v) (length A) ≡ count_below (λ v. is_empty_list (list_of lists v)) n =
       ap (count_below (λ v. not (has_edge lists v) && eqb (label A v) v)) an ∙ count_below_same (λ v. not (has_edge lists v) && eqb (label A v) v) (λ v. is_empty_list (list_of lists v)) n (λ v l. not_edge (is_empty_list (list_of lists v)) (eqb (label A v) v) (own v)) in
       omega (arith, count, all, rest, isolated_below)
 
   -- ---- components
-  darts_below : PairsBelow (length lists) (darts lists)
+  pub darts_below : PairsBelow (length lists) (darts lists)
   darts_below i d l =
       let m : i < dart_count lists = omega (arith, length-darts lists) in
       let p = IsDartNumber-darts lists i d simple.no_repeat m in

@@ -3,3 +3,4 @@ mod NumberLemmas
 mod IsolatedLemmas
 mod SearchLemmas
 mod FaceWalkLemmas
+mod OrbitLemmas

@@ -1,18 +1,21 @@
 -- What a search from a vertex has marked, step by step, and that in the end it is the vertex's part.
-use Rattle.std.proofs.Common.{◌≡◌, ◌||◌, ℕ, ◌+◌, ◌<◌, Bool, true, false, not, List, [], ◌∷◌, ◌++◌, length, set, get_or, refl, sym, ap, ◌∙◌, subst, inl, inr, arith, get_or-set_same, get_or-set_other, length-set}
+use Rattle.std.proofs.Common.{◌≡◌, ◌≢◌, ◌||◌, ℕ, zero, suc, ◌+◌, ◌-◌, ◌<◌, ◌≤◌, Bool, true, false, not, List, [], ◌∷◌, ◌++◌, length, set, get_or, refl, sym, ap, ◌∙◌, subst, inl, inr, arith, get_or-set_same, get_or-set_other, length-set}
 use Rattle.std.proofs.lemmas.List.{get_or_default}
-use Rattle.std.proofs.lemmas.Bool.{cases_Bool, cases_eq, or_left, false≢true, false_from_ne_true}
+use Rattle.std.proofs.lemmas.Bool.{cases_Bool, cases_eq, or_left, or_right, false≢true, false_from_ne_true}
 use Rattle.std.specs.List.{Contains, All}
 use Rattle.std.proofs.lemmas.List.Elements.{Contains-append_left, Contains-push, Contains-push_cases}
 use Rattle.label_classes.specs.Classes.{same_class}
 use Rattle.map_lists.specs.Lists.{Lists}
-use Rattle.map_definitions.specs.Maps.{Dart, darts, dart_number, list_of, place_of, HasDart, IsSimpleMap}
+use Rattle.map_lists.specs.Cuts.{cut, AreCuts}
+use Rattle.map_lists.proofs.CutLemmas.{length-cut}
+use Rattle.map_definitions.specs.Maps.{Dart, darts, dart_number, list_of, place_of, HasDart, IsSimpleMap, component_classes}
 use Rattle.label_classes.proofs.Counting.{count_below_more}
 use Rattle.label_classes.proofs.Classes.{Together, Together-from, same_class-from, PairsBelow, classes-holds, classes-marked, length-classes}
-use Rattle.map_definitions.proofs.DartLemmas.{IsDartNumber-darts, length-darts, get_or-dart_number, dart_number-lt, get_or-place_of, place_of-lt-length}
+use Rattle.simple_maps.proofs.FlatLemmas.{entry-is, end-is}
+use Rattle.map_definitions.proofs.DartLemmas.{HasDart-at, IsDartNumber-darts, length-darts, get_or-dart_number, dart_number-lt, get_or-place_of, place_of-lt-length}
 use Rattle.label_classes.proofs.Marks.{IsCounting, IsCounting-together}
 use Rattle.euler_faces.specs.Numbers.{mark_at}
-use Rattle.euler_faces.specs.Search.{parts, AllMarked, IsSearching, Pushes, unmarked_below, None_open}
+use Rattle.euler_faces.specs.Search.{AllMarked, Waits, IsSearching, unmarked_below, None_open}
 
 -- a mark set leaves one fewer to set
 pub unmarked_below-set : (marked : List Bool) (w n : ℕ) → w < n → w < length marked → mark_at marked w ≡ false → unmarked_below marked n ≡ unmarked_below (set marked w true) n + 1
@@ -29,98 +32,105 @@ All-darts lists P simple each k d l =
     each (get_or (darts lists) k d).0 (get_or (darts lists) k d).1 is.is_dart
 
 -- the ends of each dart are vertices
-pub parts-below : (lists : Lists) → IsSimpleMap lists → PairsBelow (length lists) (darts lists)
-parts-below lists simple = All-darts lists (λ p. (p.0 < length lists) × (p.1 < length lists)) simple (λ v u has. (has.0, simple.in_range v u has))
+pub components-below : (lists : Lists) → IsSimpleMap lists → PairsBelow (length lists) (darts lists)
+components-below lists simple = All-darts lists (λ p. (p.0 < length lists) × (p.1 < length lists)) simple (λ v u has. (has.0, simple.in_range v u has))
 
--- neighbours are in one part
-pub parts-step : (lists : Lists) (v u : ℕ) → IsSimpleMap lists → HasDart lists v u → Together (parts lists) v u
-parts-step lists v u simple has =
+-- neighbours are in one component
+pub components-step : (lists : Lists) (v u : ℕ) → IsSimpleMap lists → HasDart lists v u → Together (component_classes lists) v u
+components-step lists v u simple has =
     let n = length-darts lists in
     let l = dart_number-lt lists v u has in
-    rw (get_or-dart_number lists v u (0, 0) has) at (classes-holds (length lists) (darts lists) (parts-below lists simple) (dart_number lists (v, u)) (0, 0) (omega arith))
+    rw (get_or-dart_number lists v u (0, 0) has) at (classes-holds (length lists) (darts lists) (components-below lists simple) (dart_number lists (v, u)) (0, 0) (omega arith))
 
 bool_same : (a b : Bool) → (a ≡ true → b ≡ true) → (b ≡ true → a ≡ true) → a ≡ b
 bool_same true b to from = sym (to refl)
 bool_same false true to from = from refl
 bool_same false false to from = refl
 
--- a vertex is marked after it was pushed
-pub Pushes-marks : (marked : List Bool) (stack : List ℕ) (w : ℕ) (marked' : List Bool) (stack' : List ℕ) → w < length marked → Pushes marked stack w marked' stack' → mark_at marked' w ≡ true
-Pushes-marks marked stack w marked' stack' l (inl same) = rw same.1 same.0
-Pushes-marks marked stack w marked' stack' l (inr new) = rw new.1 (get_or-set_same marked w true false l)
+-- where no vertex is unmarked, each is marked
+pub all_marked : (marked : List Bool) (n u : ℕ) → unmarked_below marked n ≡ 0 → u < n → n ≤ length marked → mark_at marked u ≡ true
+all_marked marked n u none l in_list =
+    elim (cases_Bool (mark_at marked u)) [
+      | inl on ↦ on
+      | inr off ↦ absurd (let one = unmarked_below-set marked u n l (omega arith) off in omega arith)
+    ]
 
--- what was marked still is
-pub Pushes-keeps : (marked : List Bool) (stack : List ℕ) (w : ℕ) (marked' : List Bool) (stack' : List ℕ) (x : ℕ) → w < length marked → Pushes marked stack w marked' stack' → mark_at marked x ≡ true → mark_at marked' x ≡ true
-Pushes-keeps marked stack w marked' stack' x l (inl same) on = rw same.1 on
-Pushes-keeps marked stack w marked' stack' x l (inr new) on =
-    rw new.1 (elim (cases_eq x w) [
-      | inl e ↦ ap (λ (y : ℕ). mark_at (set marked w true) y) e ∙ get_or-set_same marked w true false l
+-- at first all are unmarked
+pub unmarked_below-none : (marked : List Bool) (n : ℕ) → ((u : ℕ) → mark_at marked u ≡ false) → unmarked_below marked n ≡ n
+unmarked_below-none marked zero off = refl
+unmarked_below-none marked (suc n) off = let here = off n in rw here (omega (arith, unmarked_below-none marked n off))
+
+-- a mark that is set, and the others
+pub set-here : (marked : List Bool) (w : ℕ) → w < length marked → mark_at (set marked w true) w ≡ true
+set-here marked w l = get_or-set_same marked w true false l
+
+pub set-keeps : (marked : List Bool) (w x : ℕ) → w < length marked → mark_at marked x ≡ true → mark_at (set marked w true) x ≡ true
+set-keeps marked w x l on =
+    elim (cases_eq x w) [
+      | inl e ↦ ap (λ (y : ℕ). mark_at (set marked w true) y) e ∙ set-here marked w l
       | inr ne ↦ get_or-set_other marked w x true false ne ∙ on
-    ])
-
--- as many marks after it
-pub Pushes-length : (marked : List Bool) (stack : List ℕ) (w : ℕ) (marked' : List Bool) (stack' : List ℕ) → Pushes marked stack w marked' stack' → length marked' ≡ length marked
-Pushes-length marked stack w marked' stack' (inl same) = ap length same.1
-Pushes-length marked stack w marked' stack' (inr new) = ap length new.1 ∙ length-set marked w true
+    ]
 
 -- before the first vertex is pushed
-pub search-start : (lists : Lists) (old : List Bool) (start : ℕ) → ((u : ℕ) → u < length lists → mark_at old u ≡ true → AllMarked lists old u) → IsSearching lists old old [] start None_open
-search-start lists old start kept = record {
+pub search-start : (lists : Lists) (old : List Bool) (queue : List ℕ) (filled start : ℕ) → ((u : ℕ) → u < length lists → mark_at old u ≡ true → AllMarked lists old u) → IsSearching lists old old queue filled filled start None_open
+search-start lists old queue filled start kept = record {
   stays = λ u l t. t;
   only = λ u l t. inl t;
   closed = λ u l t. inr (inr (kept u l t));
-  stacked = λ u has. absurd (let l = has.1 in omega arith);
+  waiting = λ u has. absurd (omega (arith, has.1, has.2));
 }
 
-module _ (lists : Lists) (old marked : List Bool) (stack : List ℕ) (start : ℕ) where
-  -- a vertex of the part is pushed
-  pub search-push : (open_at : ℕ → Type 0) (w : ℕ) (marked' : List Bool) (stack' : List ℕ) → IsSearching lists old marked stack start open_at → w < length lists → w < length marked → Together (parts lists) start w → Pushes marked stack w marked' stack' → IsSearching lists old marked' stack' start open_at
-  search-push open_at w marked' stack' h l in_list together (inl same) = rw (same.1, same.2) h
-  search-push open_at w marked' stack' h l in_list together (inr new) =
-      let keeps : (x : ℕ) → mark_at marked x ≡ true → mark_at (set marked w true) x ≡ true = λ x on. elim (cases_eq x w) [
-        | inl e ↦ ap (λ (y : ℕ). mark_at (set marked w true) y) e ∙ get_or-set_same marked w true false in_list
-        | inr ne ↦ get_or-set_other marked w x true false ne ∙ on
-      ] in
-      rw (new.1, new.2) (record {
+module _ (lists : Lists) (old marked : List Bool) (queue : List ℕ) (next filled start : ℕ) where
+  -- a vertex of the component is marked, and stands behind the queue
+  pub search-push : (open_at : ℕ → Type 0) (w more : ℕ) → IsSearching lists old marked queue next filled start open_at → next ≤ filled → filled < length queue → more ≡ filled + 1 → w < length lists → w < length marked → Together (component_classes lists) start w → IsSearching lists old (set marked w true) (set queue filled w) next more start open_at
+  search-push open_at w more h order room one l in_list together =
+      let keeps : (x : ℕ) → mark_at marked x ≡ true → mark_at (set marked w true) x ≡ true = λ x on. set-keeps marked w x in_list on in
+      let last = get_or-set_same queue filled w 0 room in
+      record {
         stays = λ u m t. keeps u (h.stays u m t);
         only = λ u m t. elim (cases_eq u w) [
-          | inl e ↦ inr (subst (λ (y : ℕ). Together (parts lists) start y) (sym e) together)
+          | inl e ↦ inr (subst (λ (y : ℕ). Together (component_classes lists) start y) (sym e) together)
           | inr ne ↦ h.only u m (sym (get_or-set_other marked w u true false ne) ∙ t)
         ];
         closed = λ u m t. elim (cases_eq u w) [
-          | inl e ↦ inl (subst (λ (y : ℕ). Contains (stack ++ w ∷ []) y) (sym e) (Contains-push stack w))
+          | inl e ↦ inl (filled, order, omega arith, last ∙ sym e)
           | inr ne ↦ elim (h.closed u m (sym (get_or-set_other marked w u true false ne) ∙ t)) [
-            | inl c ↦ inl (Contains-append_left stack (w ∷ []) u c)
+            | inl c ↦ inl (c.0, c.1, omega (arith, c.2), (let other : c.0 ≢ filled = omega (arith, c.2) in get_or-set_other queue filled c.0 w 0 other ∙ c.3))
             | inr other ↦ elim other [
               | inl o ↦ inr (inl o)
               | inr all ↦ inr (inr (λ x has. keeps x (all x has)))
             ]
           ]
         ];
-        stacked = λ u has. elim (Contains-push_cases stack w u has) [
-          | inl c ↦ h.stacked u c
-          | inr e ↦ subst (λ (y : ℕ). (y < length lists) × Together (parts lists) start y) e (l, together)
+        waiting = λ u has. elim (cases_eq has.0 filled) [
+          | inl e ↦
+              subst (λ (y : ℕ). (y < length lists) × Together (component_classes lists) start y)
+              (sym last ∙ (ap (λ i. get_or (set queue filled w) i 0) (sym e) ∙ has.3)) (l, together)
+          | inr ne ↦ h.waiting u (has.0, has.1, omega (arith, has.2, ne), sym (get_or-set_other queue filled has.0 w 0 ne) ∙ has.3)
         ];
-      })
+      }
 
-  -- the vertex on top is opened
-  pub search-pop : (u : ℕ) → IsSearching lists old marked (stack ++ u ∷ []) start None_open → IsSearching lists old marked stack start (λ x. x ≡ u)
-  search-pop u h = record {
+  -- the next vertex of the queue is opened
+  pub search-pop : (after : ℕ) → after ≡ next + 1 → IsSearching lists old marked queue next filled start None_open → IsSearching lists old marked queue after filled start (λ x. x ≡ get_or queue next 0)
+  search-pop after one h = record {
     stays = h.stays;
     only = h.only;
     closed = λ x m t. elim (h.closed x m t) [
-      | inl c ↦ elim (Contains-push_cases stack u x c) [ inl d ↦ inl d | inr e ↦ inr (inl (sym e)) ]
+      | inl c ↦ elim (cases_eq c.0 next) [
+        | inl e ↦ inr (inl (sym c.3 ∙ ap (λ i. get_or queue i 0) e))
+        | inr ne ↦ inl (c.0, omega (arith, c.1, ne), c.2, c.3)
+      ]
       | inr other ↦ elim other [ inl none ↦ absurd none | inr all ↦ inr (inr all) ]
     ];
-    stacked = λ x has. h.stacked x (Contains-append_left stack (u ∷ []) x has);
+    waiting = λ x has. h.waiting x (has.0, omega (arith, has.1), has.2, has.3);
   }
 
-  -- and it was of the part
-  pub search-top : (u : ℕ) → IsSearching lists old marked (stack ++ u ∷ []) start None_open → (u < length lists) × Together (parts lists) start u
-  search-top u h = h.stacked u (Contains-push stack u)
+  -- and it was of the component
+  pub search-top : next < filled → IsSearching lists old marked queue next filled start None_open → (get_or queue next 0 < length lists) × Together (component_classes lists) start (get_or queue next 0)
+  search-top l h = h.waiting (get_or queue next 0) (next, omega arith, l, refl)
 
   -- all neighbours of the open vertex are marked
-  pub search-close : (u : ℕ) → IsSearching lists old marked stack start (λ x. x ≡ u) → AllMarked lists marked u → IsSearching lists old marked stack start None_open
+  pub search-close : (u : ℕ) → IsSearching lists old marked queue next filled start (λ x. x ≡ u) → AllMarked lists marked u → IsSearching lists old marked queue next filled start None_open
   search-close u h all = record {
     stays = h.stays;
     only = h.only;
@@ -131,48 +141,64 @@ module _ (lists : Lists) (old marked : List Bool) (stack : List ℕ) (start : �
         | inr done ↦ inr (inr done)
       ]
     ];
-    stacked = h.stacked;
+    waiting = h.waiting;
   }
 
--- with nothing stacked the part of start is marked, and nothing else that was not
-pub search-all : (lists : Lists) (old marked : List Bool) (start : ℕ) → IsSimpleMap lists → IsSearching lists old marked [] start None_open → start < length lists → mark_at marked start ≡ true → (i : ℕ) → i < length lists → mark_at marked i ≡ (mark_at old i || same_class (parts lists) start i)
-search-all lists old marked start simple h l on i m =
+  -- where all vertices are marked, the component of start is, and nothing else that was not
+  pub search-full : (open_at : ℕ → Type 0) → IsSearching lists old marked queue next filled start open_at → ((u : ℕ) → u < length lists → mark_at marked u ≡ true) → (i : ℕ) → i < length lists → mark_at marked i ≡ (mark_at old i || same_class (component_classes lists) start i)
+  search-full open_at h full i m =
+      elim (h.only i m (full i m)) [
+        | inl t ↦ full i m ∙ sym (or_left (mark_at old i) (same_class (component_classes lists) start i) t)
+        | inr t ↦ full i m ∙ sym (or_right (mark_at old i) (same_class (component_classes lists) start i) (same_class-from (component_classes lists) start i t))
+      ]
+
+-- where none waits, the component of start is marked, and nothing else that was not
+pub search-all : (lists : Lists) (old marked : List Bool) (queue : List ℕ) (next filled start : ℕ) → IsSimpleMap lists → IsSearching lists old marked queue next filled start None_open → filled ≤ next → start < length lists → mark_at marked start ≡ true → (i : ℕ) → i < length lists → mark_at marked i ≡ (mark_at old i || same_class (component_classes lists) start i)
+search-all lists old marked queue next filled start simple h none l on i m =
     let all : (u : ℕ) → u < length lists → mark_at marked u ≡ true → AllMarked lists marked u = λ u in_range t. elim (h.closed u in_range t) [
-      | inl c ↦ absurd (let none = c.1 in omega arith)
+      | inl c ↦ absurd (omega (arith, c.1, c.2))
       | inr other ↦ elim other [ inl none ↦ absurd none | inr done ↦ done ]
     ] in
     let one : All (λ p. mark_at marked p.0 ≡ mark_at marked p.1) (darts lists) = All-darts lists (λ p. mark_at marked p.0 ≡ mark_at marked p.1) simple (λ v u has.
     bool_same (mark_at marked v) (mark_at marked u) (λ t. all v has.0 t u has) (λ t. all u (simple.in_range v u has) t v (simple.both_ways v u has))) in
     elim (cases_Bool (mark_at old i)) [
-      | inl t ↦ h.stays i m t ∙ sym (or_left (mark_at old i) (same_class (parts lists) start i) t)
-      | inr t ↦ elim (cases_Bool (same_class (parts lists) start i)) [
+      | inl t ↦ h.stays i m t ∙ sym (or_left (mark_at old i) (same_class (component_classes lists) start i) t)
+      | inr t ↦ elim (cases_Bool (same_class (component_classes lists) start i)) [
         | inl s ↦
-            (let same = classes-marked (mark_at marked) (length lists) (darts lists) (parts-below lists simple) one start i l m (Together-from (parts lists) start i s) in
+            (let same = classes-marked (mark_at marked) (length lists) (darts lists) (components-below lists simple) one start i l m (Together-from (component_classes lists) start i s) in
             rw (t, s) (sym same ∙ on))
         | inr s ↦
             rw (t, s) (false_from_ne_true (mark_at marked i) (λ on_i. elim (h.only i m on_i) [
               | inl v ↦ false≢true (sym t ∙ v)
-              | inr v ↦ false≢true (sym s ∙ same_class-from (parts lists) start i v)
+              | inr v ↦ false≢true (sym s ∙ same_class-from (component_classes lists) start i v)
             ]))
       ]
     ]
 
--- marks that count parts are kept by each step
-pub search-kept : (lists : Lists) (marked : List Bool) (count v : ℕ) → IsSimpleMap lists → IsCounting (parts lists) (mark_at marked) count v → (u : ℕ) → u < length lists → mark_at marked u ≡ true → AllMarked lists marked u
+-- marks that count components are kept by each step
+pub search-kept : (lists : Lists) (marked : List Bool) (count v : ℕ) → IsSimpleMap lists → IsCounting (component_classes lists) (mark_at marked) count v → (u : ℕ) → u < length lists → mark_at marked u ≡ true → AllMarked lists marked u
 search-kept lists marked count v simple h u l t w has =
     let n = length-classes (length lists) (darts lists) in
-    sym (IsCounting-together (parts lists) (mark_at marked) count v h u w (omega arith) (omega (arith, simple.in_range u w has)) (parts-step lists u w simple has)) ∙ t
-
--- the first entries of a list are marked, and the next one
-pub marked-more : (us : List ℕ) (marked : List Bool) (stack : List ℕ) (w : ℕ) (marked' : List Bool) (stack' : List ℕ) → w < length marked → Contains us w → Pushes marked stack w marked' stack' → ((k : ℕ) → k < place_of w us → mark_at marked (get_or us k 0) ≡ true) → (k : ℕ) → k < place_of w us + 1 → mark_at marked' (get_or us k 0) ≡ true
-marked-more us marked stack w marked' stack' l has pushes done k below =
-    elim (cases_eq k (place_of w us)) [
-      | inl e ↦ ap (λ (n : ℕ). mark_at marked' (get_or us n 0)) e ∙ ap (mark_at marked') (get_or-place_of w us 0 (place_of-lt-length w us has)) ∙ Pushes-marks marked stack w marked' stack' l pushes
-      | inr ne ↦ Pushes-keeps marked stack w marked' stack' (get_or us k 0) l pushes (done k (omega arith))
-    ]
+    sym (IsCounting-together (component_classes lists) (mark_at marked) count v h u w (omega arith) (omega (arith, simple.in_range u w has)) (components-step lists u w simple has)) ∙ t
 
 -- where all entries of its list are marked, all neighbours are
 pub AllMarked-from_places : (lists : Lists) (marked : List Bool) (u : ℕ) → ((k : ℕ) → k < length (list_of lists u) → mark_at marked (get_or (list_of lists u) k 0) ≡ true) → AllMarked lists marked u
 AllMarked-from_places lists marked u all w has =
     let at = has.1 in
     ap (mark_at marked) (sym (get_or_default (list_of lists u) at.0 0 w at.1 ∙ at.2)) ∙ all at.0 at.1
+
+module _ (ends entries : List ℕ) (cuts : AreCuts 0 ends (length entries)) (v : ℕ) (v_in : v < length ends) where
+  -- an entry of v's list is a neighbour
+  pub entry-dart : (i : ℕ) → get_or (0 ∷ ends) v 0 ≤ i → i < get_or ends v 0 → HasDart (cut 0 ends entries) v (get_or entries i 0)
+  entry-dart i a b =
+      let lists = cut 0 ends entries in
+      let k = i - get_or (0 ∷ ends) v 0 in
+      let k_in : k < length (list_of lists v) = omega (arith, end-is ends entries cuts v v_in) in
+      let at : get_or (0 ∷ ends) v 0 + k ≡ i = omega arith in
+      subst (λ x. HasDart lists v x) (entry-is ends entries cuts v k v_in k_in ∙ ap (λ j. get_or entries j 0) at) (HasDart-at lists v k 0 (omega (arith, length-cut 0 ends entries)) k_in)
+
+  -- where all its entries are marked, all neighbours are
+  pub AllMarked-from_entries : (marked : List Bool) → ((i : ℕ) → get_or (0 ∷ ends) v 0 ≤ i → i < get_or ends v 0 → mark_at marked (get_or entries i 0) ≡ true) → AllMarked (cut 0 ends entries) marked v
+  AllMarked-from_entries marked all =
+      AllMarked-from_places (cut 0 ends entries) marked v (λ k l.
+      ap (mark_at marked) (entry-is ends entries cuts v k v_in l) ∙ all (get_or (0 ∷ ends) v 0 + k) (omega arith) (omega (arith, end-is ends entries cuts v v_in)))

@@ -3,3 +3,4 @@ pub mod FaceSearch
 pub mod FaceWalks
 pub mod Numbers
 pub mod Search
+pub mod Slots

@@ -1,31 +1,25 @@
 -- A search from a vertex: which vertices are marked, and of which the neighbours are still to be marked.
-use Rattle.std.specs.Prelude.{ℕ, ◌<◌, ◌≡◌, ◌⊎◌, Bool, true, false, not, List, [], ◌∷◌, ◌++◌, length, set, Contains}
+use Rattle.std.specs.Prelude.{ℕ, ◌<◌, ◌≤◌, ◌≡◌, ◌⊎◌, Bool, true, not, List, length, slice_index}
 use Rattle.label_classes.specs.Classes.{count_below}
 use Rattle.map_lists.specs.Lists.{Lists}
 use Rattle.map_definitions.specs.Maps.{HasDart, component_classes}
 use Rattle.label_classes.proofs.Classes.{Together}
 use Rattle.euler_faces.specs.Numbers.{mark_at}
 
--- the classes of vertices under "joined by a path"
-abbrev pub parts : Lists → List ℕ
-parts lists = component_classes lists
-
 -- all neighbours of a vertex are marked
 abbrev pub AllMarked : Lists → List Bool → ℕ → Type 0
 AllMarked lists marked u = (w : ℕ) → HasDart lists u w → mark_at marked w ≡ true
 
--- The search from start has marked vertices of its part. Each marked vertex is on the stack or open, or all its neighbours are marked.
-pub record IsSearching (lists : Lists) (old marked : List Bool) (stack : List ℕ) (start : ℕ) (open_at : ℕ → Type 0) : Type 0 where
-  pub stays : (u : ℕ) → u < length lists → mark_at old u ≡ true → mark_at marked u ≡ true
-  pub only : (u : ℕ) → u < length lists → mark_at marked u ≡ true → (mark_at old u ≡ true) ⊎ Together (parts lists) start u
-  pub closed : (u : ℕ) → u < length lists → mark_at marked u ≡ true → Contains stack u ⊎ (open_at u ⊎ AllMarked lists marked u)
-  pub stacked : (u : ℕ) → Contains stack u → (u < length lists) × Together (parts lists) start u
+-- a vertex stands in the queue from place `next` on and before `filled`
+abbrev pub Waits : List ℕ → ℕ → ℕ → ℕ → Type 0
+Waits queue next filled u = (i : ℕ) × (next ≤ i) × (i < filled) × (slice_index queue i ≡ u)
 
--- a vertex is marked and stacked, where it was not marked before
-abbrev pub Pushes : List Bool → List ℕ → ℕ → List Bool → List ℕ → Type 0
-Pushes marked stack w marked' stack' =
-    ((mark_at marked w ≡ true) × (marked' ≡ marked) × (stack' ≡ stack))
-    ⊎ ((mark_at marked w ≡ false) × (marked' ≡ set marked w true) × (stack' ≡ stack ++ w ∷ []))
+-- The search from start has marked vertices of its component. Each marked vertex waits or is open, or all its neighbours are marked.
+pub record IsSearching (lists : Lists) (old marked : List Bool) (queue : List ℕ) (next filled start : ℕ) (open_at : ℕ → Type 0) : Type 0 where
+  pub stays : (u : ℕ) → u < length lists → mark_at old u ≡ true → mark_at marked u ≡ true
+  pub only : (u : ℕ) → u < length lists → mark_at marked u ≡ true → (mark_at old u ≡ true) ⊎ Together (component_classes lists) start u
+  pub closed : (u : ℕ) → u < length lists → mark_at marked u ≡ true → Waits queue next filled u ⊎ (open_at u ⊎ AllMarked lists marked u)
+  pub waiting : (u : ℕ) → Waits queue next filled u → (u < length lists) × Together (component_classes lists) start u
 
 -- how many vertices below n are not marked
 abbrev pub unmarked_below : List Bool → ℕ → ℕ

@@ -1,114 +1,109 @@
-//! The components of a map, counted by marks on its vertices.
-ghost use Rattle.std.specs.Prelude.{◌≡◌, ◌<◌, ◌≤◌, ◌+◌, ◌||◌, ℕ, List, Bool, [], true, false, length, vec_len, IfOk, OnOk};
+//! The components of a map, counted by a search that goes from vertex to vertex along a queue.
+ghost use Rattle.std.specs.Prelude.{◌≡◌, ◌<◌, ◌≤◌, ◌+◌, ◌||◌, ℕ, List, Bool, true, false, length};
 ghost use Rattle.label_classes.specs.Classes.{same_class};
-ghost use Rattle.map_definitions.specs.Maps.{HasDart, component_count};
 ghost use Rattle.label_classes.proofs.Classes.{Together};
-ghost use Rattle.label_classes.proofs.Marks.{IsCounting};
-ghost use Rattle.half_edges.specs.Map.{IsHalfMap};
+ghost use Rattle.map_lists.specs.Cuts.{cut, AreCuts};
+ghost use Rattle.map_definitions.specs.Maps.{IsSimpleMap, component_count, component_classes};
 ghost use Rattle.euler_faces.specs.Numbers.{mark_at};
-ghost use Rattle.euler_faces.specs.Search.{parts, AllMarked, IsSearching, Pushes, unmarked_below, None_open};
+ghost use Rattle.euler_faces.specs.Search.{AllMarked, IsSearching, unmarked_below, None_open};
 
-use half_edges::{HalfMap, VertexId};
-use std::alloc::{AllocError, Global};
+use crate::slots::start_of;
 
-// Marks a vertex and stacks it, where it is not marked.
-fn push_unmarked(w: VertexId, marked: &mut [bool], stack: &mut Vec<u16>) -> Result<(), AllocError>
-    requires { w.0 < length marked.old }
-    ensures pushes { OnOk result (Pushes marked.old stack.old.items w.0 marked.new stack.new.items) }
-    ensures work { OnOk result (unmarked_below marked.new (length marked.old) + vec_len stack.new
-        ≡ unmarked_below marked.old (length marked.old) + vec_len stack.old) }
-{
-    if marked[w.0 as usize] {
-        return Ok(());
-    }
-    stack.push(w.0)?;
-    marked[w.0 as usize] = true;
-    Ok(())
-}
-
-// Marks and stacks the neighbours of `u` that are not marked.
+// Marks the neighbours of `v` that are not marked, and puts them behind the `filled` first entries of the
+// queue. It answers how many entries there are then.
 fn push_neighbours(
-    map: &HalfMap,
-    u: VertexId,
-    marked: &mut [bool],
-    stack: &mut Vec<u16>,
-) -> Result<(), AllocError>
-    requires known { IsHalfMap map.now }
-    requires u_in { u.0 < length map.now.lists }
-    requires marks { length marked.old ≡ length map.now.lists }
-    ensures search { OnOk result ((old : List Bool) (start : ℕ) → Together (parts map.now.lists) start u.0
-        → IsSearching map.now.lists old marked.old stack.old.items start (λ x. x ≡ u.0)
-        → IsSearching map.now.lists old marked.new stack.new.items start None_open) }
-    ensures keeps { OnOk result ((x : ℕ) → mark_at marked.old x ≡ true → mark_at marked.new x ≡ true) }
-    ensures work { OnOk result (unmarked_below marked.new (length map.now.lists) + vec_len stack.new
-        ≡ unmarked_below marked.old (length map.now.lists) + vec_len stack.old) }
+    entries: &[u16],
+    ends: &[usize],
+    v: usize,
+    met: &mut [bool],
+    queue: &mut [u16],
+    filled: usize,
+) -> usize
+    requires cuts { AreCuts 0 ends.now (length entries.now) }
+    requires simple { IsSimpleMap (cut 0 ends.now entries.now) }
+    requires v_in { v < length ends.now }
+    requires marks { length met.old ≡ length ends.now }
+    requires room { length queue.old ≡ length ends.now }
+    requires work { filled + unmarked_below met.old (length ends.now) ≡ length ends.now }
+    ensures search { (old : List Bool) (next start : ℕ) → next ≤ filled → Together (component_classes (cut 0 ends.now entries.now)) start v
+        → IsSearching (cut 0 ends.now entries.now) old met.old queue.old next filled start (λ x. x ≡ v)
+        → IsSearching (cut 0 ends.now entries.now) old met.new queue.new next result start None_open }
+    ensures keeps { (x : ℕ) → mark_at met.old x ≡ true → mark_at met.new x ≡ true }
+    ensures grows { filled ≤ result }
+    ensures work { result + unmarked_below met.new (length ends.now) ≡ length ends.now }
 {
-    let Some(first) = map.first_dart(u) else {
-        return Ok(());
-    };
-    let mut d = first;
-    'round: loop {
-        push_unmarked(map.head(d), marked, stack)?;
-        d = map.next(d);
-        if d.0 == first.0 {
-            return Ok(());
+    let mut filled = filled;
+    for i in start_of(ends, v)..ends[v] {
+        let w = entries[i];
+        if !met[w as usize] {
+            met[w as usize] = true;
+            queue[filled] = w;
+            filled += 1;
         }
     }
+    filled
 }
 
-// Marks the part of a vertex that is not marked, where the parts marked so far are marked whole. The
-// stack is empty before and after.
+// Marks the component of a vertex that is not marked, where the components marked so far are marked
+// whole, and the queue has had all marked vertices.
 fn mark_component(
-    map: &HalfMap,
-    start: VertexId,
-    marked: &mut [bool],
-    stack: &mut Vec<u16>,
-) -> Result<(), AllocError>
-    requires known { IsHalfMap map.now }
-    requires start_in { start.0 < length map.now.lists }
-    requires marks { length marked.old ≡ length map.now.lists }
-    requires kept { (u : ℕ) → u < length map.now.lists → mark_at marked.old u ≡ true → AllMarked map.now.lists marked.old u }
-    requires none_stacked { stack.old.items ≡ [] }
-    ensures marked { OnOk result ((i : ℕ) → i < length map.now.lists →
-        mark_at marked.new i ≡ (mark_at marked.old i || same_class (parts map.now.lists) start.0 i)) }
-    ensures none_stacked { OnOk result (stack.new.items ≡ []) }
+    entries: &[u16],
+    ends: &[usize],
+    start: u16,
+    met: &mut [bool],
+    queue: &mut [u16],
+    filled: usize,
+) -> usize
+    requires cuts { AreCuts 0 ends.now (length entries.now) }
+    requires simple { IsSimpleMap (cut 0 ends.now entries.now) }
+    requires start_in { start < length ends.now }
+    requires marks { length met.old ≡ length ends.now }
+    requires room { length queue.old ≡ length ends.now }
+    requires work { filled + unmarked_below met.old (length ends.now) ≡ length ends.now }
+    requires unmarked { mark_at met.old start ≡ false }
+    requires kept { (u : ℕ) → u < length ends.now → mark_at met.old u ≡ true → AllMarked (cut 0 ends.now entries.now) met.old u }
+    ensures marked { (i : ℕ) → i < length ends.now →
+        mark_at met.new i ≡ (mark_at met.old i || same_class (component_classes (cut 0 ends.now entries.now)) start i) }
+    ensures work { result + unmarked_below met.new (length ends.now) ≡ length ends.now }
 {
-    push_unmarked(start, marked, stack)?;
-    while let Some(u) = stack.pop() {
-        push_neighbours(map, VertexId(u), marked, stack)?;
+    met[start as usize] = true;
+    queue[filled] = start;
+    let mut next = filled;
+    let mut filled = filled + 1;
+    while next < filled {
+        if filled == ends.len() {
+            return filled;
+        }
+        let v = queue[next] as usize;
+        next += 1;
+        filled = push_neighbours(entries, ends, v, met, queue, filled);
     }
-    Ok(())
+    filled
 }
 
-// The number of components, given one unset mark for each vertex.
-fn count_by_marks(
-    map: &HalfMap,
-    marked: &mut [bool],
-    stack: &mut Vec<u16>,
-) -> Result<u32, AllocError>
-    requires known { IsHalfMap map.now }
-    requires marks { length marked.old ≡ length map.now.lists }
-    requires unset { (u : ℕ) → mark_at marked.old u ≡ false }
-    requires none_stacked { stack.old.items ≡ [] }
-    ensures count { IfOk result (λ count. count ≡ component_count map.now.lists) }
-    ensures few { IfOk result (λ count. count ≤ 16777216) }
+// The number of components, given one unset mark for each vertex and a queue with room for all.
+pub(crate) fn count_components(
+    entries: &[u16],
+    ends: &[usize],
+    met: &mut [bool],
+    queue: &mut [u16],
+) -> u32
+    requires cuts { AreCuts 0 ends.now (length entries.now) }
+    requires simple { IsSimpleMap (cut 0 ends.now entries.now) }
+    requires few { length ends.now < 4096 }
+    requires marks { length met.old ≡ length ends.now }
+    requires room { length queue.old ≡ length ends.now }
+    requires unset { (u : ℕ) → mark_at met.old u ≡ false }
+    ensures count { result ≡ component_count (cut 0 ends.now entries.now) }
+    ensures few { result ≤ length ends.now }
 {
     let mut count = 0;
-    for v in 0..map.n() {
-        if !marked[v as usize] {
+    let mut filled = 0;
+    for v in 0..ends.len() {
+        if !met[v] {
             count += 1;
-            mark_component(map, VertexId(v), marked, stack)?;
+            filled = mark_component(entries, ends, v as u16, met, queue, filled);
         }
     }
-    Ok(count)
-}
-
-/// The number of components. The time is linear in the darts.
-pub fn count_components(alloc: Global, map: &HalfMap) -> Result<u32, AllocError>
-    ensures count { IfOk result (λ count. count ≡ component_count map.now.lists) }
-    ensures few { IfOk result (λ count. count ≤ 16777216) }
-{
-    let mut marked = vec![in alloc; false; map.n() as usize]?;
-    let mut stack = Vec::new(alloc);
-    count_by_marks(map, &mut marked, &mut stack)
+    count
 }

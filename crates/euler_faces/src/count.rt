@@ -1,10 +1,18 @@
 //! Counts.
-ghost use Rattle.std.specs.Prelude.{◌≡◌, ◌≤◌, ◌+◌, ◌-◌, ◌*◌, ◌%◌, IfOk};
+ghost use Rattle.std.specs.Prelude.{◌≡◌, ◌≤◌, ◌<◌, ◌+◌, ◌-◌, ◌*◌, ◌%◌, ℕ, length, map, false, None, OnOk, IfOk, IfErr};
+ghost use Rattle.map_lists.specs.Cuts.{cut, AreCuts};
 ghost use Rattle.map_definitions.specs.Maps.{vertex_count, edge_count, face_count, component_count, genus_of};
+ghost use Rattle.simple_maps.specs.Faults.{first_fault};
+ghost use Rattle.simple_maps.specs.MapFault.{Names};
+ghost use Rattle.simple_maps.specs.Tables.{AreSlots};
+ghost use Rattle.euler_faces.specs.Numbers.{mark_at};
 
-use super::components::count_components;
-use super::face_count::count_faces;
+use crate::components::count_components;
+use crate::orbits::{count_isolated, count_orbits};
+use crate::slots::Slot;
 use half_edges::HalfMap;
+use map_lists::Rotations;
+use simple_maps::{MapFault, fill_slots};
 use std::alloc::{AllocError, Global};
 
 /// How many vertices, edges, faces and components a map has, each at most 2^24.
@@ -35,19 +43,127 @@ impl EulerCount {
     }
 }
 
-/// The counts of a map, in time linear in its darts.
+// The counts of lists by the slots of their darts, with one unset mark for each vertex and a queue with
+// room for all.
+fn count_slots(
+    entries: &[u16],
+    ends: &[usize],
+    slots: &mut [Slot],
+    met: &mut [bool],
+    queue: &mut [u16],
+) -> EulerCount
+    requires cuts { AreCuts 0 ends.now (length entries.now) }
+    requires few { length ends.now < 4096 }
+    requires slots { AreSlots (cut 0 ends.now entries.now) (map (λ s. s.tail) slots.old) (map (λ s. s.twin) slots.old) }
+    requires marks { length met.old ≡ length ends.now }
+    requires room { length queue.old ≡ length ends.now }
+    requires unset { (u : ℕ) → mark_at met.old u ≡ false }
+    ensures n { result.n ≡ vertex_count (cut 0 ends.now entries.now) }
+    ensures m { result.m ≡ edge_count (cut 0 ends.now entries.now) }
+    ensures f { result.f ≡ face_count (cut 0 ends.now entries.now) }
+    ensures c { result.c ≡ component_count (cut 0 ends.now entries.now) }
+{
+    let orbits = count_orbits(entries, ends, slots);
+    let isolated = count_isolated(ends);
+    let c = count_components(entries, ends, met, queue);
+    EulerCount {
+        n: ends.len() as u32,
+        m: (entries.len() / 2) as u32,
+        f: orbits + isolated,
+        c,
+    }
+}
+
+/// Counts lists, one after another, and keeps its memory for the next.
+///
+/// For each dart and each vertex of the largest lists so far it takes a few bytes, eight for a dart.
+#[derive(Drop)]
+pub struct Counter {
+    alloc: Global,
+    slots: Vec<Slot>,
+    threads: Vec<u32>,
+    met: Vec<bool>,
+    queue: Vec<u16>,
+}
+
+impl Counter {
+    /// A counter that has counted nothing yet. It takes no memory.
+    pub fn new(alloc: Global) -> Counter {
+        Counter {
+            alloc,
+            slots: Vec::new(alloc),
+            threads: Vec::new(alloc),
+            met: Vec::new(alloc),
+            queue: Vec::new(alloc),
+        }
+    }
+
+    // One unset mark for each of `n` vertices, and a queue with room for all.
+    fn clear(&mut self, n: usize) -> Result<(), AllocError>
+        ensures marks { OnOk result (length self.new.met.items ≡ n) }
+        ensures room { OnOk result (length self.new.queue.items ≡ n) }
+        ensures unset { OnOk result ((u : ℕ) → mark_at self.new.met.items u ≡ false) }
+        ensures slots { self.new.slots ≡ self.old.slots }
+    {
+        self.met.clear();
+        self.met.resize(n, false)?;
+        self.queue.resize(n, 0)?;
+        Ok(())
+    }
+
+    /// The counts of lists, which are from 1 to 4095, or the first fault of the lists.
+    ///
+    /// After `NoMemory` the counter serves as before. The time is linear in the entries.
+    pub fn count(&mut self, lists: &Rotations) -> Result<EulerCount, MapFault>
+        requires some_list { 0 < length lists.now }
+        requires few_lists { length lists.now < 4096 }
+        ensures n { IfOk result (λ count. count.n ≡ vertex_count lists.now) }
+        ensures m { IfOk result (λ count. count.m ≡ edge_count lists.now) }
+        ensures f { IfOk result (λ count. count.f ≡ face_count lists.now) }
+        ensures c { IfOk result (λ count. count.c ≡ component_count lists.now) }
+        ensures simple { OnOk result (first_fault lists.now ≡ None) }
+        ensures fault { IfErr result (Names (first_fault lists.now)) }
+    {
+        fill_slots(self.alloc, lists, &mut self.slots, &mut self.threads)?;
+        self.clear(lists.len())?;
+        Ok(count_slots(
+            lists.entries(),
+            lists.ends(),
+            &mut self.slots,
+            &mut self.met,
+            &mut self.queue,
+        ))
+    }
+}
+
+/// The counts of lists, which are from 1 to 4095, or the first fault of the lists. The time is linear in
+/// the entries, and so is the memory: eight bytes for a dart.
+pub fn count_lists(alloc: Global, lists: &Rotations) -> Result<EulerCount, MapFault>
+    requires some_list { 0 < length lists.now }
+    requires few_lists { length lists.now < 4096 }
+    ensures n { IfOk result (λ count. count.n ≡ vertex_count lists.now) }
+    ensures m { IfOk result (λ count. count.m ≡ edge_count lists.now) }
+    ensures f { IfOk result (λ count. count.f ≡ face_count lists.now) }
+    ensures c { IfOk result (λ count. count.c ≡ component_count lists.now) }
+    ensures simple { OnOk result (first_fault lists.now ≡ None) }
+    ensures fault { IfErr result (Names (first_fault lists.now)) }
+{
+    let mut counter = Counter::new(alloc);
+    counter.count(lists)
+}
+
+/// The counts of a map, in time linear in its darts. It fails only for want of memory.
 pub fn euler(alloc: Global, map: &HalfMap) -> Result<EulerCount, AllocError>
     ensures n { IfOk result (λ count. count.n ≡ vertex_count map.now.lists) }
     ensures m { IfOk result (λ count. count.m ≡ edge_count map.now.lists) }
     ensures f { IfOk result (λ count. count.f ≡ face_count map.now.lists) }
     ensures c { IfOk result (λ count. count.c ≡ component_count map.now.lists) }
 {
-    let f = count_faces(alloc, map)?;
-    let c = count_components(alloc, map)?;
-    Ok(EulerCount {
-        n: u32::from(map.n()),
-        m: map.m(),
-        f,
-        c,
-    })
+    let _n = map.n();
+    let lists = map.rotations(alloc)?;
+    match count_lists(alloc, &lists) {
+        Ok(count) => Ok(count),
+        // the lists of a map have no fault
+        Err(_) => Err(AllocError),
+    }
 }

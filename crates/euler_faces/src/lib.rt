@@ -4,11 +4,12 @@
 
 mod components;
 mod count;
-mod face_count;
 mod face_walks;
+mod orbits;
+mod slots;
 mod walks;
 
-pub use count::{EulerCount, euler};
+pub use count::{Counter, EulerCount, count_lists, euler};
 pub use face_walks::faces;
 pub use walks::Faces;
 

@@ -1,8 +1,5 @@
 //! Small maps whose darts and faults were found by hand.
-use crate::{
-    Corner, Counts, DartId, EdgeList, Ends, HalfMap, MapFault, PathList, Rotations, VertexId,
-    VertexList,
-};
+use crate::{Corner, DartId, Ends, HalfMap, MapFault, Rotations, VertexId};
 use std::alloc::Global;
 use std::process::Abort;
 use std::test::Fail;
@@ -77,30 +74,6 @@ fn an_isolated_vertex_has_no_dart(rt: HostRuntime) -> Result<(), Fail> {
     let map = map_of(&rt, rt.alloc(), &[&[]])?;
     assert_eq!(rt; map.n(), 1);
     assert_eq!(rt; map.first_dart(VertexId(0)), None);
-    Ok(())
-}
-
-#[test]
-fn small_lists_give_what_was_pushed(rt: HostRuntime) -> Result<(), Fail> {
-    let mut counts = Counts::new(rt.alloc());
-    assert_eq!(rt; counts.len(), 0);
-    counts.push(7)?;
-    assert_eq!(rt; (counts.len(), counts.get(0)), (1, 7));
-    let mut vertices = VertexList::new(rt.alloc());
-    vertices.push(VertexId(3))?;
-    assert_eq!(rt; (vertices.len(), vertices.get(0)), (1, VertexId(3)));
-    let edge = Ends {
-        a: VertexId(3),
-        b: VertexId(4),
-    };
-    let mut edges = EdgeList::new(rt.alloc());
-    edges.push(edge)?;
-    assert_eq!(rt; (edges.len(), edges.get(0)), (1, edge));
-    let mut paths = PathList::new(rt.alloc());
-    paths.push(&[])?;
-    paths.push(&[VertexId(1), VertexId(0)])?;
-    assert_eq!(rt; paths.len(), 2);
-    assert_eq!(rt; paths.list(1), [VertexId(1), VertexId(0)].as_slice());
     Ok(())
 }
 

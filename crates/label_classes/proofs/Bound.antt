@@ -3,7 +3,7 @@ use Rattle.std.proofs.Common.{◌≡◌, ◌≢◌, ◌⊎◌, ℕ, zero, suc, �
 use Rattle.std.proofs.lemmas.Bool.{cases_Bool, cases_eq, cases_lt, eq-eqb, ne_eqb, lt-ltb, le-ltb, true≢false}
 use Rattle.label_classes.specs.Classes.{count_below, label, image, same_class, merge, merge_all, class_count, orbits, composed, joint_classes, IsMerged, IsPermutationOfBelow, IsPairingOfBelow, IsWithinEuler}
 use Rattle.std.proofs.lemmas.List.{get_or-map, length-map}
-use Rattle.label_classes.proofs.Counting.{count_below_same, count_below_more, count_below_weaker, count_below_not}
+use Rattle.label_classes.proofs.Counting.{count_below_all, count_below_same, count_below_more, count_below_weaker, count_below_not}
 use Rattle.label_classes.proofs.Classes.{Together, IsLabels, Together-label, same_class-from, cases_Together, labels_same, length-merge, IsLabels-merge, merge-joined, merge-keeps, merge-same, joined-merge, merge-within, class_count-merge_apart, length-merge_all, IsLabels-merge_all, merge_all-keeps, merge_all-holds, merge_all-lies, PairsBelow}
 use Rattle.label_classes.proofs.Orbits.{AllBelow, StaysBelow-image, images_onto, IsLabels-orbits, length-orbits, orbits-image, IsPermuting-image, steps, All-steps, All-steps_at, StaysBelow, PairsBelow-steps, orbits_of, length-orbits_of, IsLabels-orbits_of, orbits_of-step, orbits_of-marked, IsPermuting, count_below-images}
 use Rattle.label_classes.proofs.Swap.{swapped, exchange, swapped_first, swapped_second, swapped_other, IsPermuting-exchange, exchange_orbits, orbits_of-same}
@@ -274,7 +274,7 @@ balances_identity f g m v fixed =
     let alone = orbits_of-marked (λ (j : ℕ). j) f k stays (λ j m. sym (fixed j m)) i (label O i) l (omega (arith, w.low i)) (Together-label O w i) in
     eq-eqb (label O i) i (sym alone) in
     let each = count_below_same (λ i. eqb (label O i) i) (λ i. true) k own in
-    let whole : class_count O ≡ k = ap (count_below (λ i. eqb (label O i) i)) on ∙ (each ∙ count_all k) in
+    let whole : class_count O ≡ k = ap (count_below (λ i. eqb (label O i) i)) on ∙ (each ∙ count_below_all k) in
     let faces : orbits_of (after f g) k ≡ G = orbits_of-same (after f g) g k (λ i l. fixed (g i) (v.within i l)) in
     let gw = IsLabels-orbits_of g k v.within in
     let joined : J ≡ G = labels_same J G (IsLabels-joint f g k stays v.within) gw (jn ∙ sym gn)
@@ -282,10 +282,6 @@ balances_identity f g m v fixed =
     (λ i j l m t. orbits_of-marked (label J) g k v.within (joint-second f g k stays v.within) i j (omega arith) (omega arith) t) in
     let half = class_count-pairing g k v in
     omega (arith, whole, ap class_count faces, ap class_count joined, half)
-  where
-    count_all : (n : ℕ) → count_below (λ i. true) n ≡ n
-    count_all zero = refl
-    count_all (suc n) = omega (arith, count_all n)
 
 bound_by : (n : ℕ) (f g : ℕ → ℕ) (m : ℕ) → IsPermuting f (m + m) → IsPairing g (m + m) → moved_count f (m + m) < n → (d : ℕ) × Balances f g (m + m) m d
 bound_by zero f g m w v l = absurd (omega arith)

@@ -318,11 +318,6 @@ merge_all-same labels pairs others w below below' h h' =
     (λ i j l m t. merge_all-lies (Together other) k (record { itself = λ i l. refl; turned = λ i j l m e. sym e; chained = λ i j o l m n e e'. e ∙ e' }) labels pairs refl w below (λ i j l m t. merge_all-keeps labels others w below' i j t) h i j (omega arith) (omega arith) t)
     (λ i j l m t. merge_all-lies (Together one) k (record { itself = λ i l. refl; turned = λ i j l m e. sym e; chained = λ i j o l m n e e'. e ∙ e' }) labels others refl w below' (λ i j l m t. merge_all-keeps labels pairs w below i j t) h' i j (omega arith) (omega arith) t)
 
--- more pairs never raise the count
-pub class_count-merge_all : (labels : List ℕ) (pairs : List (ℕ × ℕ)) → IsLabels labels → PairsBelow (length labels) pairs → class_count (merge_all labels pairs) ≤ class_count labels
-class_count-merge_all labels pairs w h =
-    class_count_coarser labels (merge_all labels pairs) w (IsLabels-merge_all labels pairs w h) (sym (length-merge_all labels pairs)) (λ i j l m t. merge_all-keeps labels pairs w h i j t)
-
 -- ---- the classes of pairs
 pub length-classes : (k : ℕ) (pairs : List (ℕ × ℕ)) → length (classes k pairs) ≡ k
 length-classes k pairs = length-merge_all (alone k) pairs ∙ length-alone k

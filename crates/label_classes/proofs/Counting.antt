@@ -7,6 +7,15 @@ use Rattle.label_classes.specs.Classes.{count_below}
 abbrev pub one_if : Bool → ℕ
 one_if b = cond b 1 0
 
+-- a test that fails everywhere, and one that passes everywhere
+pub count_below_none : (n : ℕ) → count_below (λ i. false) n ≡ 0
+count_below_none zero = refl
+count_below_none (suc n) = omega (arith, count_below_none n)
+
+pub count_below_all : (n : ℕ) → count_below (λ i. true) n ≡ n
+count_below_all zero = refl
+count_below_all (suc n) = omega (arith, count_below_all n)
+
 -- a count is at most what is counted
 pub count_below-le : (p : ℕ → Bool) (n : ℕ) → count_below p n ≤ n
 count_below-le p zero = omega arith

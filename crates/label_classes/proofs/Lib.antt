@@ -6,3 +6,4 @@ pub mod Bound
 pub mod Swap
 pub mod Walks
 pub mod Marks
+pub mod LawLemmas

@@ -2,7 +2,7 @@
 use Rattle.std.proofs.Common.{◌≡◌, ◌≢◌, ◌⊎◌, ℕ, zero, suc, ◌+◌, ◌<◌, ◌≤◌, Bool, true, false, cond, eqb, List, length, get_or, set, refl, sym, ap, ◌∙◌, subst, inl, inr, arith, length-set, get_or-set_same, get_or-set_other}
 use Rattle.std.specs.List.{swap}
 use Rattle.std.proofs.lemmas.Bool.{cases_Bool, cases_eq, eq-eqb, ne_eqb}
-use Rattle.std.proofs.lemmas.List.{get_or_default, set-set, set-get_or}
+use Rattle.std.proofs.lemmas.List.{get_or_default}
 use Rattle.std.proofs.lemmas.List.Edits.{swap_is, length-swap}
 use Rattle.label_classes.specs.Classes.{label, same_class, merge, merge_all, classes, class_count, orbits, orbit_count, image, IsPermutationOfBelow, IsMerged, IsSwapOfOrbits, alone}
 use Rattle.label_classes.proofs.Counting.{one_if, count_below_but_two}
@@ -341,7 +341,3 @@ orbit_count-cut images a b p la lb ne t = ((swap_orbits images a b p la lb ne).c
 
 pub orbit_count-joined : (images : List ℕ) (a b : ℕ) → IsPermutationOfBelow images → a < length images → b < length images → a ≢ b → same_class (orbits images) a b ≡ false → orbit_count images ≡ orbit_count (swap images a b) + 1
 orbit_count-joined images a b p la lb ne t = ((swap_orbits images a b p la lb ne).joined t).fewer
-
--- an exchange of one image with itself changes nothing
-pub swap-itself : (images : List ℕ) (a : ℕ) → a < length images → swap images a a ≡ images
-swap-itself images a la = sym (swap_is images a a 0 la la) ∙ (set-set images a (get_or images a 0) (get_or images a 0) ∙ set-get_or images a 0)

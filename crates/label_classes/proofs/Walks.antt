@@ -2,9 +2,10 @@
 use Rattle.std.proofs.Common.{◌≡◌, ◌≢◌, ◌||◌, ℕ, zero, suc, ◌+◌, ◌-◌, ◌<◌, ◌≤◌, Bool, true, false, eqb, List, length, get_or, refl, sym, ap, ◌∙◌, subst, inl, inr, arith}
 use Rattle.std.specs.List.{range_with_len}
 use Rattle.std.proofs.lemmas.Bool.{cases_Bool, cases_eq, eqb-true, eq-eqb, ne_eqb, or_cases, or_left, or_right, false_from_ne_true, true≢false}
+use Rattle.std.proofs.Math.Bool.{or-false}
 use Rattle.std.proofs.lemmas.List.FromFn.{length-range_with_len, get_or-range_with_len}
 use Rattle.label_classes.specs.Classes.{count_below, same_class, orbits, image, IsPermutationOfBelow}
-use Rattle.label_classes.proofs.Counting.{count_below-le, count_below_more}
+use Rattle.label_classes.proofs.Counting.{count_below_none, count_below-le, count_below_more}
 use Rattle.label_classes.proofs.Classes.{Together, same_class-from, Together-from}
 use Rattle.label_classes.proofs.Orbits.{StaysBelow, IsPermuting, IsPermuting-image, orbits-step, orbits-closed_marks}
 
@@ -65,13 +66,9 @@ walk_apart f k w a l (suc i) m e =
 -- so it visits as many numbers as it has steps
 pub count_visited : (f : ℕ → ℕ) (k : ℕ) → IsPermuting f k → (a n : ℕ) → a < k → IsAway f a n → count_below (visited f a (suc n)) k ≡ suc n
 count_visited f k w a zero l away =
-    let none : count_below (λ i. false) k ≡ 0 = count_none k in
+    let none : count_below (λ i. false) k ≡ 0 = count_below_none k in
     let more = count_below_more (λ i. false) (visited f a 1) k a l refl (visited-walk f a 1 0 (omega arith)) (λ i m d. sym (not_visited f a 1 i (λ j s e. let z : j ≡ 0 = omega arith in d (sym e ∙ ap (walk f a) z)))) in
     omega arith
-  where
-    count_none : (k : ℕ) → count_below (λ i. false) k ≡ 0
-    count_none zero = refl
-    count_none (suc k) = omega (arith, count_none k)
 count_visited f k w a (suc n) l away =
     let rest = count_visited f k w a n l (λ i pos m. away i pos (omega arith)) in
     let at = walk f a (suc n) in
@@ -81,12 +78,8 @@ count_visited f k w a (suc n) l away =
     let s : suc n ≡ d + i = omega arith in
     away d (omega arith) (omega arith) (walk_apart f k w a l i d (e ∙ ap (walk f a) s))) in
     let more = count_below_more (visited f a (suc n)) (visited f a (suc (suc n))) k at (walk-lt f k w.within a (suc n) l) fresh (visited-walk f a (suc (suc n)) (suc n) (omega arith))
-    (λ i m d. sym (rw (ne_eqb at i (λ e. d (sym e))) (or_false (visited f a (suc n) i)))) in
+    (λ i m d. sym (rw (ne_eqb at i (λ e. d (sym e))) (or-false (visited f a (suc n) i)))) in
     omega arith
-  where
-    or_false : (b : Bool) → (b || false) ≡ b
-    or_false true = refl
-    or_false false = refl
 
 -- no walk is away for as many steps as there are numbers
 pub walk_returns : (f : ℕ → ℕ) (k : ℕ) → IsPermuting f k → (a : ℕ) → a < k → IsAway f a k → ⊥

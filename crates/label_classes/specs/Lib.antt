@@ -1,2 +1,3 @@
 -- Classes, orbits and permutations.
 pub mod Classes
+pub mod Laws

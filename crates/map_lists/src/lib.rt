@@ -1,10 +1,14 @@
-//! Ids of vertices, darts and faces, rotation lists, and the small lists that records of other crates hold.
+//! Ids of vertices, darts and faces, and the two kinds of list that records of other crates hold: lists of
+//! items, and lists of lists of items.
 #![tactic(auto)]
 
 mod ids;
-mod lists;
-mod rotations;
+mod item_lists;
+mod items;
 
 pub use ids::{DartId, FaceId, VertexId};
-pub use lists::{Counts, EdgeList, Ends, PathList, VertexList};
-pub use rotations::Rotations;
+pub use item_lists::{ItemLists, PathList, Rotations};
+pub use items::{Counts, EdgeList, Ends, ItemList, VertexList};
+
+#[cfg(test)]
+mod tests;

@@ -23,16 +23,6 @@ abbrev pub IsFoundFrom : List ℕ → ℕ → Option (ℕ × ℕ) → Type 0
 IsFoundFrom images from found =
     MatchOption found ((a b : ℕ) → from ≤ a → IsRepeat images a b → ⊥) (λ pair. IsFirstFrom images from pair.0 pair.1)
 
--- nothing seen
-pub IsPlaces-none : (images place : List ℕ) → length place ≡ length images → ((x : ℕ) → x < length images → get_or place x 0 ≡ length images) → IsPlaces images place (length images)
-IsPlaces-none images place len h =
-    record {
-      size = len;
-      at = λ x l m. absurd (omega (arith, h x l));
-      top = λ x l. omega (arith, h x l);
-      least = λ x b l m n e. absurd (omega arith);
-    }
-
 -- one place more, from the back
 pub IsPlaces-more : (images place : List ℕ) (i : ℕ) → i < length images → get_or images i 0 < length images → IsPlaces images place (suc i) → IsPlaces images (set place (get_or images i 0) i) i
 IsPlaces-more images place i l m h =

@@ -1,11 +1,11 @@
 -- Entries of an arc, one after another.
-use Rattle.std.proofs.Common.{◌≡◌, ◌≢◌, ℕ, suc, ◌+◌, ◌-◌, ◌<◌, cond, ltb, List, length, get_or, take, drop, AllPairs, Contains, sym, ap, ◌∙◌, subst, inl, inr, arith, length-append, length-take, length-drop}
+use Rattle.std.proofs.Common.{◌≡◌, ◌≢◌, ℕ, zero, suc, ◌+◌, ◌-◌, ◌<◌, cond, ltb, List, length, get_or, take, drop, AllPairs, Contains, sym, ap, ◌∙◌, subst, inl, inr, arith, length-append, length-take, length-drop}
 use Rattle.std.proofs.lemmas.Bool.{cases_lt, cases_eq}
 use Rattle.std.proofs.lemmas.Bool.Decides.{nat_tests}
 use Rattle.std.proofs.lemmas.List.{get_or_default, get_or-take, get_or-drop, get_or_append_left, get_or-append_right, length-take-le}
 use Rattle.map_definitions.specs.Maps.{place_of, entry_after}
 use Rattle.map_definitions.specs.Paths.{from_entry, arc}
-use Rattle.map_definitions.proofs.DartLemmas.{place_of-le, entry_after-injective, place_of-lt-length, get_or-place_of, before_place_of, place_of-get_or, place_after, entry_after-place}
+use Rattle.map_definitions.proofs.DartLemmas.{place_of-le, entry_after-injective, place_of-lt-length, get_or-place_of, before_place_of, place_of-get_or, place_after, entry_after-place, Contains-entry_after}
 
 -- place i of the turned list, in the list
 abbrev turned_place : ℕ → ℕ → ℕ → ℕ
@@ -97,12 +97,6 @@ module _ (us : List ℕ) (a : ℕ) (distinct : AllPairs ◌≢◌ us) (has : Con
   pub before_end : (b i : ℕ) → i < place_of b (from_entry a us) → get_or (from_entry a us) i 0 ≢ b
   before_end b i l = before_place_of b (from_entry a us) i 0 l
 
-  -- an arc holds no b
-  pub arc-not_end : (b s : ℕ) → Contains (arc us a b) s → s ≢ b
-  arc-not_end b s h e =
-      let at = arc-at b s h in
-      before_end b at.0 at.2 (at.3 ∙ e)
-
   -- where a is b it holds nothing
   pub arc-itself : (s : ℕ) → ¬ Contains (arc us a a) s
   arc-itself s h =
@@ -143,16 +137,6 @@ module _ (us : List ℕ) (a : ℕ) (distinct : AllPairs ◌≢◌ us) (has : Con
       sym (place_of-get_or us (turned_place n p i) 0 distinct qi)
       ∙ (ap (λ y. place_of y us) (sym (from_entry-at i l) ∙ (e ∙ from_entry-at j m)) ∙ place_of-get_or us (turned_place n p j) 0 distinct qj) in
       turned_place-apart n p i j in_a l m same
-
-  -- an arc to an entry of the list does not come round to what stands before its start
-  pub arc-not_before : (z b s : ℕ) → Contains us b → entry_after z us ≡ a → Contains (arc us a b) s → s ≢ z
-  arc-not_before z b s has_b e h q =
-      let at = arc-at b s h in
-      let r = from_entry a us in
-      let n = length-from_entry in
-      let in_b = place_of-lt-length b r (from_entry-has b has_b) in
-      let more : suc at.0 < length us = let l = at.2 in omega arith in
-      from_entry-not_first (suc at.0) (omega arith) more (sym (from_entry-next at.0 more) ∙ (ap (λ y. entry_after y us) (at.3 ∙ q) ∙ e))
 
   -- what stands before b is in the arc to b, where that is not a
   pub arc-last : (b s : ℕ) → a ≢ b → Contains us b → Contains us s → entry_after s us ≡ b → Contains (arc us a b) s
@@ -197,3 +181,47 @@ module _ (us : List ℕ) (a : ℕ) (distinct : AllPairs ◌≢◌ us) (has : Con
             ]
       ] in
       subst (Contains (arc us a c)) at.3 (arc-has c at.0 at.1 later)
+
+  -- an arc that is not empty holds its start
+  pub arc-first : (b : ℕ) → a ≢ b → Contains us b → Contains (arc us a b) a
+  arc-first b ne has_b =
+      let r = from_entry a us in
+      let n = length-from_entry in
+      let l = place_of-lt-length b r (from_entry-has b has_b) in
+      let pos : 0 < place_of b r = elim (cases_eq (place_of b r) 0) [ inl z ↦ absurd (ne (sym from_entry-first ∙ (ap (λ q. get_or r q 0) (sym z) ∙ get_or-place_of b r 0 l))) | inr z ↦ omega arith ] in
+      subst (Contains (arc us a b)) from_entry-first (arc-has b 0 (omega arith) pos)
+
+-- an arc grows by an entry where its start moves back, but not round to its end
+pub arc-longer : (us : List ℕ) (a b s : ℕ) → AllPairs ◌≢◌ us → Contains us a → Contains us b → a ≢ b → Contains (arc us (entry_after a us) b) s → Contains (arc us a b) s
+arc-longer us a b s distinct has_a has_b ne h =
+    let c = entry_after a us in
+    let has_c = Contains-entry_after a us has_a in
+    let r = from_entry a us in
+    let r' = from_entry c us in
+    let at = arc-at us c distinct has_c b s h in
+    let n = length-from_entry us a distinct has_a in
+    let n' = length-from_entry us c distinct has_c in
+    let in_b' = place_of-lt-length b r' (from_entry-has us c distinct has_c b has_b) in
+    let in_b = place_of-lt-length b r (from_entry-has us a distinct has_a b has_b) in
+    let l = at.2 in
+    let more : suc at.0 < length us = omega arith in
+    let later : suc at.0 < place_of b r =
+    elim (cases_lt (suc at.0) (place_of b r)) [
+      | inl m ↦ m
+      | inr m ↦
+          let at_b = get_or-place_of b r 0 in_b in
+          elim (cases_eq (place_of b r) 0) [
+            | inl z ↦ absurd (ne (sym (from_entry-first us a distinct has_a) ∙ (ap (λ q. get_or r q 0) (sym z) ∙ at_b)))
+            | inr z ↦
+                let i = place_of b r - 1 in
+                let next : suc i ≡ place_of b r = omega arith in
+                absurd (before_end us c distinct has_c b i (omega arith) (shifted i (omega arith) ∙ (ap (λ q. get_or r q 0) next ∙ at_b)))
+          ]
+    ] in
+    subst (Contains (arc us a b)) (sym (shifted at.0 more) ∙ at.3) (arc-has us a distinct has_a b (suc at.0) more later)
+  where
+    shifted : (i : ℕ) → suc i < length us → get_or (from_entry (entry_after a us) us) i 0 ≡ get_or (from_entry a us) (suc i) 0
+    shifted zero l =
+        from_entry-first us (entry_after a us) distinct (Contains-entry_after a us has_a) ∙ (ap (λ x. entry_after x us) (sym (from_entry-first us a distinct has_a)) ∙ from_entry-next us a distinct has_a 0 l)
+    shifted (suc i) l =
+        sym (from_entry-next us (entry_after a us) distinct (Contains-entry_after a us has_a) i (omega arith)) ∙ (ap (λ x. entry_after x us) (shifted i (omega arith)) ∙ from_entry-next us a distinct has_a (suc i) l)

@@ -1,15 +1,18 @@
--- A path keeps to one class of darts, as long as the classes hold the rotation at its vertices and the twins.
-use Rattle.std.proofs.Common.{◌≡◌, ℕ, zero, suc, ◌-◌, ◌<◌, Bool, true, false, cond, List, length, get_or, Contains, sym, ap, ◌∙◌, inl, inr, arith}
-use Rattle.std.proofs.lemmas.Bool.{cases_Bool}
+-- Classes of darts that hold the twins, and the rotation but at cut corners: they hold what stands round a vertex between two cuts, and what a path joins.
+use Rattle.std.proofs.Common.{◌≡◌, ◌⊎◌, ℕ, zero, suc, ◌-◌, ◌<◌, List, length, get_or, Contains, sym, ap, ◌∙◌, subst, inl, inr, arith}
+use Rattle.std.proofs.lemmas.List.{get_or_default}
 use Rattle.std.proofs.lemmas.List.Elements.{Contains-get_or}
 use Rattle.label_classes.specs.Classes.{label}
+use Rattle.label_classes.proofs.Classes.{Together, Together-from, same_class-from}
+use Rattle.label_classes.proofs.Orbits.{orbits_of, orbits_of-step, IsPermuting}
+use Rattle.label_classes.proofs.Bound.{joint, joint-first, joint-second, IsPermuting-pairing, IsPermuting-after, after}
 use Rattle.map_lists.specs.Lists.{Lists}
-use Rattle.map_definitions.specs.Maps.{HasDart, IsSimpleMap, dart_number, dart_count, twin_dart}
-use Rattle.map_definitions.specs.Paths.{IsPath}
-use Rattle.label_classes.proofs.Classes.{Together}
-use Rattle.label_classes.proofs.Orbits.{orbits_of-marked}
-use Rattle.map_definitions.proofs.DartLemmas.{dart_number-lt, get_or-dart_number}
-use Rattle.euler_bound.proofs.DartPermutations.{tail_of, rotation, twin, IsPermuting-rotation, tail_of-rotation, same_orbit}
+use Rattle.map_definitions.specs.Maps.{Dart, list_of, HasDart, IsSimpleMap, follows, dart_number, dart_count, face_classes, twin_dart}
+use Rattle.map_definitions.specs.Paths.{IsPath, JoinsAvoiding, SameFace, arc, from_entry}
+use Rattle.map_definitions.proofs.DartLemmas.{dart_number-lt, get_or-dart_number, dart_number-injective, HasDart-follows}
+use Rattle.euler_bound.proofs.DartPermutations.{tail_of, turned_dart, rotation, twin, IsPermuting-rotation, IsPairing-twin, tail_of-rotation, orbits-face_images}
+use Rattle.plane_laws.proofs.PlaneCuts.{image_of_some}
+use Rattle.plane_laws.proofs.ArcLemmas.{from_entry-first, from_entry-in, from_entry-next, from_entry-not_first, from_entry-has, length-from_entry, before_end, arc-at}
 
 -- the tail of a dart's number
 pub tail_of-number : (lists : Lists) (v u : ℕ) → HasDart lists v u → tail_of lists (dart_number lists (v, u)) ≡ v
@@ -19,52 +22,137 @@ tail_of-number lists v u h = ap (λ d. d.0) (get_or-dart_number lists v u (0, 0)
 pub twin-number : (lists : Lists) (v u : ℕ) → HasDart lists v u → twin lists (dart_number lists (v, u)) ≡ dart_number lists (u, v)
 twin-number lists v u h = ap (λ d. dart_number lists (twin_dart d)) (get_or-dart_number lists v u (0, 0) h)
 
--- Classes that hold the twins, and the rotation at the vertices that are not away.
-pub record HoldsRotation (lists : Lists) (labels : List ℕ) (away : ℕ → Bool) : Type 0 where
-  pub turns : (i : ℕ) → i < dart_count lists → away (tail_of lists i) ≡ false → Together labels i (rotation lists i)
-  pub twins : (i : ℕ) → i < dart_count lists → Together labels i (twin lists i)
+-- the rotation of a dart's number
+pub rotation-number : (lists : Lists) (v u : ℕ) → HasDart lists v u → rotation lists (dart_number lists (v, u)) ≡ dart_number lists (v, follows lists v u)
+rotation-number lists v u h = ap (λ d. dart_number lists (turned_dart lists d)) (get_or-dart_number lists v u (0, 0) h)
 
-module _ (lists : Lists) (simple : IsSimpleMap lists) (labels : List ℕ) (away : ℕ → Bool) (holds : HoldsRotation lists labels away) where
-  away_mark : ℕ → ℕ
-  away_mark j = cond (away (tail_of lists j)) 0 (suc (label labels j))
+-- the numbers of different darts of one vertex are different
+pub numbers_apart : (lists : Lists) (v a b : ℕ) → HasDart lists v a → HasDart lists v b → dart_number lists (v, a) ≡ dart_number lists (v, b) → a ≡ b
+numbers_apart lists v a b h h' e = ap (λ d. d.1) (dart_number-injective lists (v, a) (v, b) h h' e)
 
-  -- the darts of a vertex that is not away are in one class
-  pub vertex_in_class : (i j : ℕ) → i < dart_count lists → j < dart_count lists → tail_of lists i ≡ tail_of lists j → away (tail_of lists i) ≡ false → Together labels i j
-  unfolding away_mark
-  vertex_in_class i j l m e open_i =
-      let step : (x : ℕ) → x < dart_count lists → away_mark x ≡ away_mark (rotation lists x) = λ x n.
-      let t = tail_of-rotation lists simple x n in
-      elim (cases_Bool (away (tail_of lists x))) [
-        | inl b ↦
-            let b' : away (tail_of lists (rotation lists x)) ≡ true = ap away t ∙ b in
-            ap (λ c. cond c 0 (suc (label labels x))) b ∙ sym (ap (λ c. cond c 0 (suc (label labels (rotation lists x)))) b')
-        | inr b ↦
-            let b' : away (tail_of lists (rotation lists x)) ≡ false = ap away t ∙ b in
-            ap (λ c. cond c 0 (suc (label labels x))) b ∙ (ap suc (holds.turns x n b) ∙ sym (ap (λ c. cond c 0 (suc (label labels (rotation lists x)))) b'))
-      ] in
-      let same = orbits_of-marked away_mark (rotation lists) (dart_count lists) (IsPermuting-rotation lists simple).within step i j l m (same_orbit lists simple i j l m e) in
-      let one = ap (λ c. cond c 0 (suc (label labels i))) open_i in
-      let other = ap (λ c. cond c 0 (suc (label labels j))) (ap away (sym e) ∙ open_i) in
-      omega (arith, sym one ∙ (same ∙ other))
+-- the dart that the rotation leads to another
+pub before_dart : (lists : Lists) (x v a p z : ℕ) → HasDart lists v a → rotation lists x ≡ dart_number lists (v, a) → HasDart lists p z → dart_number lists (p, z) ≡ x → (p ≡ v) × (follows lists p z ≡ a)
+before_dart lists x v a p z has e h q =
+    let same = dart_number-injective lists (p, follows lists p z) (v, a) (HasDart-follows lists p z h) has (sym (rotation-number lists p z h) ∙ (ap (rotation lists) q ∙ e)) in
+    (ap (λ d. d.0) same, ap (λ d. d.1) same)
 
-  along_path : (path : List ℕ) → IsPath lists path → ((x : ℕ) → Contains path x → away x ≡ false) → (i : ℕ) → i < dart_count lists → tail_of lists i ≡ get_or path 0 0 → (n : ℕ) → n < length path → (j : ℕ) → j < dart_count lists → tail_of lists j ≡ get_or path n 0 → Together labels i j
-  along_path path p clear i l e zero n_in j m e' =
-      vertex_in_class i j l m (e ∙ sym e') (ap away e ∙ clear (get_or path 0 0) (Contains-get_or path 0 0 n_in))
-  along_path path p clear i l e (suc n) n_in j m e' =
+-- two darts are in one face where their numbers are in one orbit of the rotation after the twin
+pub face_together : (lists : Lists) → IsSimpleMap lists → (d e : Dart) → SameFace lists d e → Together (orbits_of (after (rotation lists) (twin lists)) (dart_count lists)) (dart_number lists d) (dart_number lists e)
+face_together lists simple d e h = rw (orbits-face_images lists simple) at (Together-from (face_classes lists) (dart_number lists d) (dart_number lists e) h)
+
+pub same_face : (lists : Lists) → IsSimpleMap lists → (d e : Dart) → Together (orbits_of (after (rotation lists) (twin lists)) (dart_count lists)) (dart_number lists d) (dart_number lists e) → SameFace lists d e
+same_face lists simple d e t = same_class-from (face_classes lists) (dart_number lists d) (dart_number lists e) (rw (orbits-face_images lists simple) t)
+
+-- x is the dart before the corner of v before its entry a; so the face of (v, a) comes to that corner along the partner of x
+pub record IsCorner (lists : Lists) (v a x : ℕ) : Type 0 where
+  pub within : x < dart_count lists
+  pub leads : rotation lists x ≡ dart_number lists (v, a)
+  pub tail : tail_of lists x ≡ v
+  pub face : Together (orbits_of (after (rotation lists) (twin lists)) (dart_count lists)) (twin lists x) (dart_number lists (v, a))
+
+-- each dart has one
+pub corner_of : (lists : Lists) → IsSimpleMap lists → (v a : ℕ) → HasDart lists v a → (x : ℕ) × IsCorner lists v a x
+corner_of lists simple v a has =
+    let f = rotation lists in
+    let g = twin lists in
+    let k = dart_count lists in
+    let w = IsPermuting-rotation lists simple in
+    let pair = IsPairing-twin lists simple in
+    let x = image_of_some f k w (dart_number lists (v, a)) (dart_number-lt lists v a has) in (
+      x.0,
+      record {
+        within = x.1;
+        leads = x.2;
+        tail = sym (tail_of-rotation lists simple x.0 x.1) ∙ (ap (tail_of lists) x.2 ∙ tail_of-number lists v a has);
+        face = orbits_of-step (after f g) k (IsPermuting-after f g k w (IsPermuting-pairing g k pair)).within (g x.0) (pair.within x.0 x.1) ∙ ap (label (orbits_of (after f g) k)) (ap f (pair.back x.0 x.1) ∙ x.2);
+      },
+    )
+
+-- an entry of an arc is a neighbour
+pub arc_dart : (lists : Lists) → IsSimpleMap lists → (v a b : ℕ) → HasDart lists v a → (s : ℕ) → Contains (arc (list_of lists v) a b) s → HasDart lists v s
+arc_dart lists simple v a b has_a s h =
+    let us = list_of lists v in
+    let distinct = simple.no_repeat v has_a.0 in
+    let at = arc-at us a distinct has_a.1 b s h in
+    (has_a.0, subst (Contains us) at.3 (from_entry-in us a distinct has_a.1 at.0 at.1))
+
+-- The classes hold each dart and its twin, and each dart and the next from its vertex where the corner before that one is not cut; vertices with cut corners are avoided.
+pub record HoldsCut (lists : Lists) (labels avoided : List ℕ) (cut : ℕ → ℕ → Type 0) : Type 0 where
+  pub turns : (p z : ℕ) → HasDart lists p z → ¬ cut p (follows lists p z) → Together labels (dart_number lists (p, z)) (dart_number lists (p, follows lists p z))
+  pub twins : (p z : ℕ) → HasDart lists p z → Together labels (dart_number lists (p, z)) (dart_number lists (z, p))
+  pub away : (p z : ℕ) → cut p z → Contains avoided p
+
+-- so do the joint classes of the twin and a rotation that is changed at the cut corners alone
+pub HoldsCut-joint : (lists : Lists) → IsSimpleMap lists → (h : ℕ → ℕ) (avoided : List ℕ) (cut : ℕ → ℕ → Type 0) → IsPermuting h (dart_count lists) → ((p z : ℕ) → HasDart lists p z → ¬ cut p (follows lists p z) → h (dart_number lists (p, z)) ≡ rotation lists (dart_number lists (p, z))) → ((p z : ℕ) → cut p z → Contains avoided p) → HoldsCut lists (joint h (twin lists) (dart_count lists)) avoided cut
+HoldsCut-joint lists simple h avoided cut w same away =
+    let g = twin lists in
+    let k = dart_count lists in
+    let K = joint h g k in
+    let v = IsPairing-twin lists simple in
+    record {
+      turns = λ p z has uncut. joint-first h g k w.within v.within (dart_number lists (p, z)) (dart_number-lt lists p z has) ∙ ap (label K) (same p z has uncut ∙ rotation-number lists p z has);
+      twins = λ p z has. joint-second h g k w.within v.within (dart_number lists (p, z)) (dart_number-lt lists p z has) ∙ ap (label K) (twin-number lists p z has);
+      away = away;
+    }
+
+module _ (lists : Lists) (simple : IsSimpleMap lists) (labels avoided : List ℕ) (cut : ℕ → ℕ → Type 0) (holds : HoldsCut lists labels avoided cut) where
+  -- round a vertex, up to where a corner is cut
+  turned_held : (p a : ℕ) → HasDart lists p a → (i : ℕ) → i < length (list_of lists p) → ((j : ℕ) → j < i → ¬ cut p (get_or (from_entry a (list_of lists p)) (suc j) 0)) → Together labels (dart_number lists (p, a)) (dart_number lists (p, get_or (from_entry a (list_of lists p)) i 0))
+  turned_held p a has zero l uncut = ap (λ x. label labels (dart_number lists (p, x))) (sym (from_entry-first (list_of lists p) a (simple.no_repeat p has.0) has.1))
+  turned_held p a has (suc i) l uncut =
+      let us = list_of lists p in
+      let distinct = simple.no_repeat p has.0 in
+      let s = get_or (from_entry a us) i 0 in
+      let next = from_entry-next us a distinct has.1 i l in
+      let has_s : HasDart lists p s = (has.0, from_entry-in us a distinct has.1 i (omega arith)) in
+      turned_held p a has i (omega arith) (λ j m. uncut j (omega arith))
+      ∙ (holds.turns p s has_s (λ c. uncut i (omega arith) (subst (cut p) next c)) ∙ ap (λ x. label labels (dart_number lists (p, x))) next)
+
+  -- an arc whose ends alone may be cut
+  pub arc_held : (p a b : ℕ) → HasDart lists p a → ((z : ℕ) → cut p z → (z ≡ a) ⊎ (z ≡ b)) → (s : ℕ) → Contains (arc (list_of lists p) a b) s → Together labels (dart_number lists (p, a)) (dart_number lists (p, s))
+  arc_held p a b has ends s h =
+      let us = list_of lists p in
+      let distinct = simple.no_repeat p has.0 in
+      let at = arc-at us a distinct has.1 b s h in
+      let l = at.1 in
+      let m = at.2 in
+      turned_held p a has at.0 l (λ j n c. elim (ends (get_or (from_entry a us) (suc j) 0) c) [
+        | inl e ↦ from_entry-not_first us a distinct has.1 (suc j) (omega arith) (omega arith) e
+        | inr e ↦ before_end us a distinct has.1 b (suc j) (omega arith) e
+      ])
+      ∙ ap (λ x. label labels (dart_number lists (p, x))) at.3
+
+  -- a vertex that is not avoided
+  vertex_held : (p z z' : ℕ) → HasDart lists p z → HasDart lists p z' → ¬ Contains avoided p → Together labels (dart_number lists (p, z)) (dart_number lists (p, z'))
+  vertex_held p z z' has has' off =
+      let us = list_of lists p in
+      let distinct = simple.no_repeat p has.0 in
+      let at = from_entry-has us z distinct has.1 z' has'.1 in
+      let n = length-from_entry us z distinct has.1 in
+      let l = at.1 in
+      turned_held p z has at.0 (omega arith) (λ j m c. off (holds.away p (get_or (from_entry z us) (suc j) 0) c))
+      ∙ ap (λ x. label labels (dart_number lists (p, x))) (get_or_default (from_entry z us) at.0 0 z' l ∙ at.2)
+
+  -- a path that meets no avoided vertex
+  path_held : (path : List ℕ) → IsPath lists path → ((x : ℕ) → Contains path x → ¬ Contains avoided x) → (z : ℕ) → HasDart lists (get_or path 0 0) z → (n : ℕ) → n < length path → (z' : ℕ) → HasDart lists (get_or path n 0) z' → Together labels (dart_number lists (get_or path 0 0, z)) (dart_number lists (get_or path n 0, z'))
+  path_held path p clear z has zero l z' has' = vertex_held (get_or path 0 0) z z' has has' (clear (get_or path 0 0) (Contains-get_or path 0 0 l))
+  path_held path p clear z has (suc n) l z' has' =
       let u = get_or path n 0 in
       let v = get_or path (suc n) 0 in
-      let dart = p.steps n n_in in
-      let back = simple.both_ways u v dart in
-      let out = dart_number lists (u, v) in
-      let in_out = dart_number-lt lists u v dart in
-      let in_back = dart_number-lt lists v u back in
-      let before = along_path path p clear i l e n (omega arith) out in_out (tail_of-number lists u v dart) in
-      let over = holds.twins out in_out ∙ ap (label labels) (twin-number lists u v dart) in
-      let at = tail_of-number lists v u back in
-      before ∙ (over ∙ vertex_in_class (dart_number lists (v, u)) j in_back m (at ∙ sym e') (ap away at ∙ clear v (Contains-get_or path (suc n) 0 n_in)))
+      let dart = p.steps n l in
+      path_held path p clear z has n (omega arith) v dart
+      ∙ (holds.twins u v dart ∙ vertex_held v u z' (simple.both_ways u v dart) has' (clear v (Contains-get_or path (suc n) 0 l)))
 
-  -- the darts at the two ends of a path that meets no vertex that is away are in one class
-  pub path_in_class : (path : List ℕ) → IsPath lists path → ((x : ℕ) → Contains path x → away x ≡ false) → (i j : ℕ) → i < dart_count lists → j < dart_count lists → tail_of lists i ≡ get_or path 0 0 → tail_of lists j ≡ get_or path (length path - 1) 0 → Together labels i j
-  path_in_class path p clear i j l m e e' =
-      let some = p.some in
-      along_path path p clear i l e (length path - 1) (omega arith) j m e'
+  -- So where a path joins entries of two arcs, their first darts are in one class.
+  pub arcs_joined : (p a b q c d : ℕ) → HasDart lists p a → HasDart lists q c → ((z : ℕ) → cut p z → (z ≡ a) ⊎ (z ≡ b)) → ((z : ℕ) → cut q z → (z ≡ c) ⊎ (z ≡ d)) → (s t : ℕ) → Contains (arc (list_of lists p) a b) s → Contains (arc (list_of lists q) c d) t → (path : List ℕ) → JoinsAvoiding lists avoided s t path → Together labels (dart_number lists (p, a)) (dart_number lists (q, c))
+  arcs_joined p a b q c d has has' ends ends' s t in_s in_t path j =
+      let some = j.is_path.some in
+      let has_s = arc_dart lists simple p a b has s in_s in
+      let has_t = arc_dart lists simple q c d has' t in_t in
+      let from_s = subst (λ x. HasDart lists x p) (sym j.start) (simple.both_ways p s has_s) in
+      let from_t = subst (λ x. HasDart lists x q) (sym j.end) (simple.both_ways q t has_t) in
+      let along = path_held path j.is_path (λ x h a. j.avoids x h a) p from_s (length path - 1) (omega arith) q from_t in
+      let number : ℕ → ℕ → ℕ = λ x y. label labels (dart_number lists (x, y)) in
+      arc_held p a b has ends s in_s
+      ∙ (holds.twins p s has_s
+      ∙ (ap (λ x. number x p) (sym j.start) ∙ (along ∙ (ap (λ x. number x q) j.end ∙ (sym (holds.twins q t has_t) ∙ sym (arc_held q c d has' ends' t in_t))))))

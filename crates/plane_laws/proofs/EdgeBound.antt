@@ -12,7 +12,7 @@ use Rattle.label_classes.proofs.Bound.{length-joint, joint-marked, IsPairing, Is
 use Rattle.euler_bound.proofs.DartPermutations.{dart_of, tail_of, rotation, twin, IsPermuting-rotation, IsPairing-twin, dart_of-number, dart_of-twin, tail_of-rotation, two_m, balances_map, vertex_count-orbits, component_count-classes, dart_classes, IsLabels-dart_classes}
 
 -- three tests of which one passes at most, or two where a fourth passes
-count_three : (p q r s : ℕ → Bool) (n : ℕ) → ((i : ℕ) → i < n → one_if (p i) + one_if (q i) + one_if (r i) ≤ 1 + one_if (s i)) → count_below p n + count_below q n + count_below r n ≤ n + count_below s n
+pub count_three : (p q r s : ℕ → Bool) (n : ℕ) → ((i : ℕ) → i < n → one_if (p i) + one_if (q i) + one_if (r i) ≤ 1 + one_if (s i)) → count_below p n + count_below q n + count_below r n ≤ n + count_below s n
 count_three p q r s zero h = omega arith
 count_three p q r s (suc n) h = omega (arith, count_three p q r s n (λ i l. h i (omega arith)), h n (omega arith))
 
@@ -66,16 +66,16 @@ one_class labels w few i j l m =
     ]
 
 module _ (lists : Lists) (simple : IsSimpleMap lists) where
-  abbrev f : ℕ → ℕ
+  abbrev pub f : ℕ → ℕ
   f = rotation lists
 
-  abbrev g : ℕ → ℕ
+  abbrev pub g : ℕ → ℕ
   g = twin lists
 
-  abbrev k : ℕ
+  abbrev pub k : ℕ
   k = dart_count lists
 
-  abbrev h : ℕ → ℕ
+  abbrev pub h : ℕ → ℕ
   h = after f g
 
   pair : IsPairing g k
@@ -84,24 +84,24 @@ module _ (lists : Lists) (simple : IsSimpleMap lists) where
   w : IsPermuting f k
   w = IsPermuting-rotation lists simple
 
-  hw : IsPermuting h k
+  pub hw : IsPermuting h k
   hw = IsPermuting-after f g k w (IsPermuting-pairing g k pair)
 
-  abbrev P : List ℕ
+  abbrev pub P : List ℕ
   P = orbits_of h k
 
-  P_known : IsLabels P
+  pub P_known : IsLabels P
   P_known = IsLabels-orbits_of h k hw.within
 
-  turn : (i : ℕ) → i < k → Together P i (h i)
+  pub turn : (i : ℕ) → i < k → Together P i (h i)
   turn = orbits_of-step h k hw.within
 
   -- the face step leads on to the dart's head
-  tail_h : (i : ℕ) → i < k → tail_of lists (h i) ≡ (dart_of lists i).1
+  pub tail_h : (i : ℕ) → i < k → tail_of lists (h i) ≡ (dart_of lists i).1
   tail_h i l = tail_of-rotation lists simple (g i) (pair.within i l) ∙ ap (λ d. d.0) (dart_of-twin lists simple i l)
 
   -- so it leads no dart to itself
-  no_fixed : (i : ℕ) → i < k → h i ≢ i
+  pub no_fixed : (i : ℕ) → i < k → h i ≢ i
   no_fixed i l e =
       let d = dart_of lists i in
       simple.no_loop d.0 d.1 (dart_of-number lists simple i l).is_dart (sym (tail_h i l) ∙ ap (tail_of lists) e)
@@ -116,18 +116,18 @@ module _ (lists : Lists) (simple : IsSimpleMap lists) where
       let to_tail : c.1 ≡ d.0 = sym (tail_h (h i) in_h) ∙ ap (tail_of lists) e in
       sym (dart_of-number lists simple (h i) in_h).number ∙ ap₂ (λ x y. dart_number lists (x, y)) from_head to_tail
 
-  own : ℕ → Bool
+  pub own : ℕ → Bool
   own i = eqb (label P i) i
 
-  short : ℕ → Bool
+  pub short : ℕ → Bool
   short i = eqb (label P i) i && eqb (h (h i)) i
 
-  own_same : (i j : ℕ) → own i ≡ true → own j ≡ true → Together P i j → i ≡ j
+  pub own_same : (i j : ℕ) → own i ≡ true → own j ≡ true → Together P i j → i ≡ j
   unfolding own
   own_same i j t t' e = sym (eqb-true (label P i) i t) ∙ (e ∙ eqb-true (label P j) j t')
 
   -- of a dart and the next two of its face one is the least, or two where they are the same
-  one_of_three : (i : ℕ) → i < k → one_if (own i) + one_if (own (h i)) + one_if (own (h (h i))) ≤ 1 + one_if (short i)
+  pub one_of_three : (i : ℕ) → i < k → one_if (own i) + one_if (own (h i)) + one_if (own (h (h i))) ≤ 1 + one_if (short i)
   unfolding short own
   one_of_three i l =
       let l1 = hw.within i l in
@@ -158,18 +158,26 @@ module _ (lists : Lists) (simple : IsSimpleMap lists) where
       not_own : (x y : ℕ) → own x ≡ true → x ≢ y → Together P x y → own y ≡ false
       not_own x y t ne e = elim (cases_Bool (own y)) [ inl t' ↦ absurd (ne (own_same x y t t' e)) | inr t' ↦ t' ]
 
+  -- a label is the least of its face
+  pub own_label : (i : ℕ) → own (label P i) ≡ true
+  unfolding own
+  own_label i = eq-eqb (label P (label P i)) (label P i) (P_known.own i)
+
+  pub own_count : class_count P ≡ count_below own k
+  unfolding own
+  own_count = ap (count_below (λ i. eqb (label P i) i)) (length-orbits_of h k)
+
   -- three times the faces are at most the darts and the short faces
-  three_faces : 3 * class_count P ≤ k + count_below short k
+  pub three_faces : 3 * class_count P ≤ k + count_below short k
   unfolding own
   three_faces =
       let n = length-orbits_of h k in
       let first = count_below-images h k hw own in
       let second = count_below-images h k hw (λ i. own (h i)) in
       let all = count_three own (λ i. own (h i)) (λ i. own (h (h i))) short k one_of_three in
-      let count : class_count P ≡ count_below own k = ap (count_below (λ i. eqb (label P i) i)) n in
-      omega (arith, first, second, all, count)
+      omega (arith, first, second, all, own_count)
 
-  abbrev J : List ℕ
+  abbrev pub J : List ℕ
   J = dart_classes lists simple
 
   J_known : IsLabels J
@@ -178,14 +186,15 @@ module _ (lists : Lists) (simple : IsSimpleMap lists) where
   J_size : length J ≡ k
   J_size = length-joint f g k w.within pair.within
 
-  -- a dart with a short face is alone at its vertex, and so is its twin
-  short_ends : (i : ℕ) → i < k → short i ≡ true → (f i ≡ i) × (f (g i) ≡ g i)
-  unfolding short
-  short_ends i l t =
-      let both = and_parts (eqb (label P i) i) (eqb (h (h i)) i) t in
-      let round = eqb-true (h (h i)) i both.1 in
+  -- a dart to which two steps lead back is alone at its vertex, and so is its twin
+  short_ends : (i : ℕ) → i < k → h (h i) ≡ i → (f i ≡ i) × (f (g i) ≡ g i)
+  short_ends i l round =
       let to_twin = two_steps i l round in
       (ap f (sym (pair.back i l)) ∙ (ap h (sym to_twin) ∙ round), to_twin)
+
+  pub short_round : (i : ℕ) → short i ≡ true → h (h i) ≡ i
+  unfolding short
+  short_round i t = eqb-true (h (h i)) i (and_parts (eqb (label P i) i) (eqb (h (h i)) i) t).1
 
   -- then the two are a class by themselves
   pair_class : (i : ℕ) → i < k → f i ≡ i → f (g i) ≡ g i → (j : ℕ) → j < k → Together J i j → (j ≡ i) ⊎ (j ≡ g i)
@@ -229,7 +238,7 @@ module _ (lists : Lists) (simple : IsSimpleMap lists) where
       count_below_into (label J) short (λ i. eqb (label J i) i) k (length J)
       (λ i l t. let low = J_known.low i in (omega arith, eq-eqb (label J (label J i)) (label J i) (J_known.own i)))
       (λ i j l m t t' e.
-      let ends = short_ends i l t in
+      let ends = short_ends i l (short_round i t) in
       elim (pair_class i l ends.0 ends.1 j m e) [
         | inl q ↦ sym q
         | inr q ↦
@@ -238,12 +247,40 @@ module _ (lists : Lists) (simple : IsSimpleMap lists) where
             own_same i j one other (turn i l ∙ ap (label P) (ends.1 ∙ sym q))
       ])
 
-  -- one class and a short face: an edge by itself
-  lone_edge_map : class_count J ≤ 1 → (i : ℕ) → i < k → short i ≡ true → k ≤ 2
-  lone_edge_map few i l t =
+  -- one class and a face of two darts: an edge by itself
+  lone_edge_map : class_count J ≤ 1 → (i : ℕ) → i < k → h (h i) ≡ i → k ≤ 2
+  lone_edge_map few i l round =
       let n = J_size in
-      let ends = short_ends i l t in
+      let ends = short_ends i l round in
       at_most_two k i (g i) (λ j m. pair_class i l ends.0 ends.1 j m (one_class J J_known few i j (omega arith) (omega arith)))
+
+  -- a map with darts has a component with an edge
+  some_class : 0 < k → 0 < class_count J
+  some_class l =
+      let n = J_size in
+      let low = J_known.low 0 in
+      let one = count_below_into (λ i. 0) (λ i. true) (λ i. eqb (label J i) i) 1 (length J) (λ i m t. (omega arith, eq-eqb (label J 0) 0 (omega arith))) (λ i j m m' t t' e. omega arith) in
+      omega arith
+
+  -- a connected map with at least three vertices has no isolated one
+  pub none_isolated : component_count lists ≤ 1 → 3 ≤ vertex_count lists → isolated_count lists ≡ 0
+  none_isolated few some =
+      let points = vertex_count-orbits lists simple in
+      let parts = component_count-classes lists simple in
+      let most = count_below-le (λ i. eqb (label (orbits_of f k) i) i) (length (orbits_of f k)) in
+      let size = length-orbits_of f k in
+      elim (cases_lt 0 k) [ inl l ↦ let one = some_class l in omega arith | inr l ↦ omega arith ]
+
+  -- and no face of two darts
+  pub none_of_two : component_count lists ≤ 1 → 3 ≤ vertex_count lists → (i : ℕ) → i < k → h (h i) ≡ i → ⊥
+  none_of_two few some i l round =
+      let points = vertex_count-orbits lists simple in
+      let parts = component_count-classes lists simple in
+      let most = count_below-le (λ i. eqb (label (orbits_of f k) i) i) (length (orbits_of f k)) in
+      let size = length-orbits_of f k in
+      let small = lone_edge_map (omega arith) i l round in
+      let alone = none_isolated few some in
+      omega arith
 
   edge_bound_here : IsPlane lists → 3 ≤ vertex_count lists → edge_count lists + 6 ≤ 3 * vertex_count lists
   edge_bound_here plane some =
@@ -251,37 +288,30 @@ module _ (lists : Lists) (simple : IsSimpleMap lists) where
       let points = vertex_count-orbits lists simple in
       let parts = component_count-classes lists simple in
       let double = two_m lists simple in
-      let most = count_below-le (λ i. eqb (label (orbits_of f k) i) i) (length (orbits_of f k)) in
-      let size = length-orbits_of f k in
-      let size' = J_size in
       let few = three_faces in
       let shorts = short_faces in
       elim (cases_lt (component_count lists) 2) [
-        | inr l ↦ omega arith
+        | inr l ↦ let one = some_class in elim (cases_lt 0 k) [ inl m ↦ let c = one m in omega arith | inr m ↦ omega arith ]
         | inl l ↦
+            let alone = none_isolated (omega arith) some in
             elim (some_pass short k) [
-              | inl none ↦
-                  elim (cases_lt 0 (isolated_count lists)) [
-                    | inl iso ↦
-                        let no_dart : k ≡ 0 = elim (cases_lt 0 k) [ inl s ↦ absurd (some_class J J_known (omega arith) (omega arith)) | inr s ↦ omega arith ] in
-                        omega arith
-                    | inr iso ↦
-                        elim (cases_lt 0 (component_count lists)) [
-                          | inl c ↦ omega arith
-                          | inr c ↦
-                              let no_dart : k ≡ 0 = elim (cases_lt 0 k) [ inl s ↦ absurd (some_class J J_known (omega arith) (omega arith)) | inr s ↦ omega arith ] in
-                              omega arith
-                        ]
-                  ]
-              | inr r ↦ let small = lone_edge_map (omega arith) r.0 r.1 r.2 in omega arith
+              | inl none ↦ let one = some_class in elim (cases_lt 0 k) [ inl m ↦ let c = one m in omega arith | inr m ↦ omega arith ]
+              | inr r ↦ absurd (none_of_two (omega arith) some r.0 r.1 (short_round r.0 r.2))
             ]
       ]
-    where
-      some_class : (labels : List ℕ) → IsLabels labels → 0 < length labels → class_count labels ≡ 0 → ⊥
-      some_class labels known l none =
-          let low = known.low 0 in
-          let one = count_below_into (λ i. 0) (λ i. true) (λ i. eqb (label labels i) i) 1 (length labels) (λ i m t. (l, eq-eqb (label labels 0) 0 (omega arith))) (λ i j m m' t t' e. omega arith) in
-          omega arith
+
+  -- where the bound is met, the map is connected
+  pub met_connected : IsPlane lists → 3 ≤ vertex_count lists → edge_count lists + 6 ≡ 3 * vertex_count lists → component_count lists ≡ 1
+  met_connected plane some met =
+      let balance : Balances f g k (edge_count lists) 0 = balances_map lists simple 0 (omega (arith, plane)) in
+      let points = vertex_count-orbits lists simple in
+      let parts = component_count-classes lists simple in
+      let double = two_m lists simple in
+      let most = count_below-le (λ i. eqb (label (orbits_of f k) i) i) (length (orbits_of f k)) in
+      let size = length-orbits_of f k in
+      let few = three_faces in
+      let shorts = short_faces in
+      elim (cases_lt 0 k) [ inl l ↦ let one = some_class l in omega arith | inr l ↦ omega arith ]
 
 -- THE BOUND on the number of edges
 pub edge_bound : EdgeBound

@@ -9,11 +9,10 @@ use Rattle.label_classes.proofs.Swap.{exchange, IsPermuting-exchange}
 use Rattle.label_classes.proofs.Bound.{Balances}
 use Rattle.plane_laws.proofs.PlaneCuts.{image_of_some}
 use Rattle.plane_laws.proofs.Generated.{IsRenumbering, neither, neither_other, neither_true}
-use Rattle.plane_laws.proofs.LoneEdge.{lone_edge-skip, lone_edge-skip_second, lone_edge-other, lone_edge_out}
+use Rattle.plane_laws.proofs.LoneEdge.{IsLeftOut, lone_edge-balances, lone_edge-skip, lone_edge-skip_second, lone_edge-other, lone_edge_counts}
 use Rattle.map_definitions.proofs.DartLemmas.{dart_number-lt, get_or-dart_number, dart_number-injective, HasDart-follows}
 use Rattle.euler_bound.proofs.DartPermutations.{dart_of, tail_of, rotation, twin, IsPermuting-rotation, IsPairing-twin, dart_of-number, dart_of-rotation, dart_of-twin, tail_of-rotation, two_m, map_balances, balances_map}
-use Rattle.plane_laws.proofs.DartPaths.{tail_of-number, twin-number}
-use Rattle.plane_laws.proofs.CornerSplit.{rotation-number}
+use Rattle.plane_laws.proofs.DartPaths.{tail_of-number, twin-number, rotation-number}
 use Rattle.map_definitions.proofs.WithoutEdge.{back, u_not_v, dart_old, dart_new, IsSimpleMap-without_edge, follows_skip_first, follows_skip_second, follows_same, edge_count-without}
 
 -- The darts that are left, numbered anew: the two permutations of the map that is left are those of the map, with the edge taken off and left out.
@@ -102,6 +101,12 @@ module _ (lists : Lists) (simple : IsSimpleMap lists) (u v : ℕ) (edge : HasDar
   apart' e =
       u_not_v lists simple u v edge (sym (sym (tail_of-number lists v u (back lists simple u v edge)) ∙ (sym (tail_of-rotation lists simple (dart_number lists (v, u)) in_home) ∙ (ap (tail_of lists) e ∙ tail_of-number lists u v edge))))
 
+  pub apart_twin : rotation lists out ≢ twin lists out
+  apart_twin e = apart (e ∙ twin_out)
+
+  pub apart_twin' : rotation lists (twin lists out) ≢ out
+  apart_twin' e = apart' (sym (ap (rotation lists) twin_out) ∙ e)
+
   module _ (p q : ℕ) (lp : p < dart_count lists) (lq : q < dart_count lists) (fp : rotation lists p ≡ out) (fq : exchange (rotation lists) p out q ≡ twin lists out) where
     abbrev lone : ℕ → ℕ
     lone = exchange (exchange (rotation lists) p out) q (twin lists out)
@@ -121,8 +126,6 @@ module _ (lists : Lists) (simple : IsSimpleMap lists) (u v : ℕ) (edge : HasDar
         let li = to_below i l in
         let no = to_not_out i l in
         let nh : i' ≢ g out = λ e. to_not_home i l (e ∙ twin_out) in
-        let far : f out ≢ g out = λ e. apart (e ∙ twin_out) in
-        let far' : f (g out) ≢ out = λ e. apart' (sym (ap f twin_out) ∙ e) in
         let turn = rotation-number lists d.0 d.1 h in
         let goal : to (rotation rest i) ≡ dart_number lists (d.0, follows rest d.0 d.1) = ap (dart_number lists) (dart_of-rotation rest simple_rest i l) in
         let next = HasDart-follows lists d.0 d.1 h in
@@ -132,7 +135,7 @@ module _ (lists : Lists) (simple : IsSimpleMap lists) (u v : ℕ) (edge : HasDar
               let at : d.0 ≡ u = ap (λ x. x.0) same in
               let to_v : follows lists d.0 d.1 ≡ v = ap (λ x. x.1) same in
               let skip = follows_skip_first lists simple u v edge d.1 (subst (λ x. HasDart rest x d.1) at (is_left i l)) (ap (λ x. follows lists x d.1) (sym at) ∙ to_v) in
-              lone_edge-skip f g k m out p q double w t in_out lp lq fp fq far far' i' li no nh e
+              lone_edge-skip f g k m out p q double w t in_out lp lq fp fq apart_twin apart_twin' i' li no nh e
               ∙ (rotation-number lists u v edge ∙ (ap₂ (λ a b. dart_number lists (a, b)) (sym at) (sym skip ∙ ap (λ x. follows rest x d.1) (sym at)) ∙ sym goal))
           | inr ne ↦
               elim (cases_eq (f i') (g out)) [
@@ -141,33 +144,40 @@ module _ (lists : Lists) (simple : IsSimpleMap lists) (u v : ℕ) (edge : HasDar
                     let at : d.0 ≡ v = ap (λ x. x.0) same in
                     let to_u : follows lists d.0 d.1 ≡ u = ap (λ x. x.1) same in
                     let skip = follows_skip_second lists simple u v edge d.1 (subst (λ x. HasDart rest x d.1) at (is_left i l)) (ap (λ x. follows lists x d.1) (sym at) ∙ to_u) in
-                    lone_edge-skip_second f g k m out p q double w t in_out lp lq fp fq far far' i' li no nh e
+                    lone_edge-skip_second f g k m out p q double w t in_out lp lq fp fq apart_twin apart_twin' i' li no nh e
                     ∙ (ap f twin_out ∙ (rotation-number lists v u (back lists simple u v edge) ∙ (ap₂ (λ a b. dart_number lists (a, b)) (sym at) (sym skip ∙ ap (λ x. follows rest x d.1) (sym at)) ∙ sym goal)))
                 | inr ne' ↦
                     let same = follows_same lists simple u v edge d.0 d.1 (is_left i l)
                     (λ a b. ne (turn ∙ ap₂ (λ x y. dart_number lists (x, y)) a b))
                     (λ a b. ne' (turn ∙ (ap₂ (λ x y. dart_number lists (x, y)) a b ∙ sym twin_out))) in
-                    lone_edge-other f g k m out p q double w t in_out lp lq fp fq far far' i' li no nh ne ne'
+                    lone_edge-other f g k m out p q double w t in_out lp lq fp fq apart_twin apart_twin' i' li no nh ne ne'
                     ∙ (turn ∙ (ap (λ x. dart_number lists (d.0, x)) (sym same) ∙ sym goal))
               ]
         ]
 
-    rest_balances : Balances (rotation lists) (twin lists) (dart_count lists) (edge_count lists) 0 → Balances (rotation rest) (twin rest) (dart_count rest) (edge_count rest) 0
-    rest_balances plane =
+    -- the two darts taken off, and then left out
+    pub rest_counts : IsLeftOut lone (twin lists) (dart_count lists) (rotation rest) (twin rest) (dart_count rest)
+    rest_counts =
         let renumbered = subst (λ e. IsRenumbering to new (neither out e) (dart_count lists) (dart_count rest)) (sym twin_out) renumbering in
-        lone_edge_out (rotation lists) (twin lists) (dart_count lists) (edge_count lists) out p q (two_m lists simple) (IsPermuting-rotation lists simple) (IsPairing-twin lists simple) in_out lp lq fp fq
-        (λ e. apart (e ∙ twin_out)) (λ e. apart' (sym (ap (rotation lists) twin_out) ∙ e))
-        to new (dart_count rest) (edge_count rest) (rotation rest) (twin rest) (edge_count-without lists simple u v edge)
-        (IsPermuting-rotation rest simple_rest).within (IsPairing-twin rest simple_rest).within renumbered rotation_over twin_over plane
+        lone_edge_counts (rotation lists) (twin lists) (dart_count lists) (edge_count lists) out p q (two_m lists simple) (IsPermuting-rotation lists simple) (IsPairing-twin lists simple) in_out lp lq fp fq apart_twin apart_twin'
+        to new (dart_count rest) (rotation rest) (twin rest) (IsPermuting-rotation rest simple_rest).within (IsPairing-twin rest simple_rest).within renumbered rotation_over twin_over
+
+  -- the darts before the edge's two
+  pub before_first : (p : ℕ) × (p < dart_count lists) × (rotation lists p ≡ out)
+  before_first = image_of_some (rotation lists) (dart_count lists) (IsPermuting-rotation lists simple) out in_out
+
+  pub before_second : (q : ℕ) × (q < dart_count lists) × (exchange (rotation lists) before_first.0 out q ≡ twin lists out)
+  before_second =
+      image_of_some (exchange (rotation lists) before_first.0 out) (dart_count lists) (IsPermuting-exchange (rotation lists) (dart_count lists) before_first.0 out before_first.1 in_out (IsPermuting-rotation lists simple)) (twin lists out) ((IsPairing-twin lists simple).within out in_out)
 
   pub edge_removed_plane : IsPlane lists → IsPlane (without_edge lists u v)
   edge_removed_plane plane =
-      let k = dart_count lists in
-      let w = IsPermuting-rotation lists simple in
-      let p = image_of_some (rotation lists) k w out in_out in
-      let w1 = IsPermuting-exchange (rotation lists) k p.0 out p.1 in_out w in
-      let q = image_of_some (exchange (rotation lists) p.0 out) k w1 (twin lists out) ((IsPairing-twin lists simple).within out in_out) in
-      let balance = rest_balances p.0 q.0 p.1 q.1 p.2 q.2 (balances_map lists simple 0 (omega (arith, plane))) in
+      let p = before_first in
+      let q = before_second in
+      let counts = rest_counts p.0 q.0 p.1 q.1 p.2 q.2 in
+      let alone = lone_edge-balances (rotation lists) (twin lists) (dart_count lists) (edge_count lists) out p.0 q.0 (two_m lists simple) (IsPermuting-rotation lists simple) (IsPairing-twin lists simple) in_out p.1 q.1 p.2 q.2 apart_twin apart_twin' (balances_map lists simple 0 (omega (arith, plane))) in
+      let less = edge_count-without lists simple u v edge in
+      let balance : Balances (rotation rest) (twin rest) (dart_count rest) (edge_count rest) 0 = omega (arith, alone, counts.orbits, counts.faces, counts.classes) in
       omega (arith, map_balances rest simple_rest 0 balance)
 
 -- THE LAW: a map of genus zero without one of its edges has genus zero

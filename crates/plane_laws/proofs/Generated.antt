@@ -1,8 +1,9 @@
 -- Classes that two functions generate, and what becomes of them where some numbers are left out and the rest numbered anew.
-use Rattle.std.proofs.Common.{◌≡◌, ◌≢◌, ◌⊎◌, ℕ, zero, suc, ◌+◌, ◌<◌, Bool, true, false, not, ◌&&◌, cond, eqb, List, length, refl, sym, ap, ◌∙◌, inl, inr, arith}
+use Rattle.std.proofs.Common.{◌≡◌, ◌≢◌, ◌⊎◌, ℕ, suc, ◌+◌, ◌<◌, Bool, true, false, not, ◌&&◌, cond, eqb, List, length, refl, sym, ap, ◌∙◌, inl, inr, arith}
 use Rattle.std.proofs.lemmas.Bool.{cases_Bool, cases_eq, eq-eqb, ne_eqb, true≢false}
+use Rattle.std.proofs.Math.Bool.{and-false}
 use Rattle.label_classes.specs.Classes.{count_below, label}
-use Rattle.label_classes.proofs.Counting.{one_if, count_below_but_two}
+use Rattle.label_classes.proofs.Counting.{one_if, count_below_none, count_below_but_two}
 use Rattle.label_classes.proofs.Classes.{Together, IsLabels}
 use Rattle.label_classes.proofs.Orbits.{StaysBelow, orbits_of, length-orbits_of, IsLabels-orbits_of, orbits_of-step, orbits_of-marked}
 use Rattle.label_classes.proofs.Bound.{joint, length-joint, IsLabels-joint, joint-first, joint-second, joint-marked}
@@ -135,11 +136,7 @@ pub neither_first : (d e : ℕ) → neither d e d ≡ false
 neither_first d e = rw (eq-eqb d d refl) refl
 
 pub neither_second : (d e : ℕ) → neither d e e ≡ false
-neither_second d e = rw (eq-eqb e e refl) (and_false (not (eqb e d)))
-  where
-    and_false : (b : Bool) → (b && false) ≡ false
-    and_false true = refl
-    and_false false = refl
+neither_second d e = rw (eq-eqb e e refl) (and-false (not (eqb e d)))
 
 pub neither_other : (d e y : ℕ) → y ≢ d → y ≢ e → neither d e y ≡ true
 neither_other d e y ne ne' = rw (ne_eqb y d ne, ne_eqb y e ne') refl
@@ -162,11 +159,7 @@ left_out labels d e ne l m =
     let none = count_below_but_two p (λ y. false) (length labels) d e l m ne (λ y n a b. ap (λ c. not c && eqb (label labels y) y) (neither_other d e y a b)) in
     let at_d : p d ≡ eqb (label labels d) d = ap (λ c. not c && eqb (label labels d) d) (neither_first d e) in
     let at_e : p e ≡ eqb (label labels e) e = ap (λ c. not c && eqb (label labels e) e) (neither_second d e) in
-    omega (arith, none, ap one_if at_d, ap one_if at_e, count_none (length labels))
-  where
-    count_none : (n : ℕ) → count_below (λ i. false) n ≡ 0
-    count_none zero = refl
-    count_none (suc n) = omega (arith, count_none n)
+    omega (arith, none, ap one_if at_d, ap one_if at_e, count_below_none (length labels))
 
 -- in one class, and none other with them: one
 pub left_out_one : (labels : List ℕ) (d e : ℕ) → IsLabels labels → d ≢ e → Together labels d e → ((label labels d ≡ d) ⊎ (label labels d ≡ e)) → one_if (eqb (label labels d) d) + one_if (eqb (label labels e) e) ≡ 1

@@ -4,14 +4,15 @@ mod PairCases
 mod LawCases
 pub mod ArcLemmas
 pub mod DartPaths
+pub mod ComponentPaths
 pub mod CornerSplit
 pub mod Generated
 pub mod LoneEdge
 pub mod EdgeRemoved
-pub mod Contract
 pub mod DigonSplit
 pub mod EdgeFaces
 pub mod EdgeBound
+pub mod Triangles
 pub mod Smooth
 pub mod Replaced
 pub mod VertexSmoothed

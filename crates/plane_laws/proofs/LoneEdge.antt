@@ -1,13 +1,13 @@
 -- An edge taken off both its vertices, where nothing is missing from the Euler bound: nothing is missing after it, and the edge, which is now a class of its own, may be left out.
-use Rattle.std.proofs.Common.{◌≡◌, ◌≢◌, ◌⊎◌, ℕ, ◌+◌, ◌<◌, Bool, true, false, not, eqb, List, refl, sym, ap, ◌∙◌, inl, inr, arith}
-use Rattle.std.proofs.lemmas.Bool.{cases_Bool, cases_eq, eq-eqb, ne_eqb, false≢true, not-true}
+use Rattle.std.proofs.Common.{◌≡◌, ◌≢◌, ◌⊎◌, ℕ, ◌+◌, ◌<◌, Bool, true, false, not, eqb, List, sym, ap, ◌∙◌, inl, inr, arith}
+use Rattle.std.proofs.lemmas.Bool.{cases_Bool, cases_eq, eq-eqb, false≢true, not-true}
 use Rattle.label_classes.specs.Classes.{label, merge_all, class_count}
 use Rattle.label_classes.proofs.Counting.{one_if}
-use Rattle.label_classes.proofs.Classes.{Together-label}
-use Rattle.label_classes.proofs.Orbits.{StaysBelow, steps, orbits_of, IsPermuting, marks_back}
-use Rattle.label_classes.proofs.Swap.{swapped, exchange, swapped_first, swapped_other, IsPermuting-exchange, orbits_of-same}
-use Rattle.label_classes.proofs.Bound.{joint, IsPairing, IsPermuting-pairing, IsPermuting-after, after, Balances}
-use Rattle.plane_laws.proofs.PlaneCuts.{plane_cut, lone, lone_before, lone_other, lone_together}
+use Rattle.label_classes.proofs.Classes.{Together, Together-label, same_class-from, apart-from}
+use Rattle.label_classes.proofs.Orbits.{StaysBelow, steps, orbits_of, IsLabels-orbits_of, orbits_of-step, IsPermuting, marks_back}
+use Rattle.label_classes.proofs.Swap.{swapped, exchange, swapped_first, swapped_other, IsPermuting-exchange, exchange_orbits, orbits_of-same}
+use Rattle.label_classes.proofs.Bound.{joint, IsPairing, IsPermuting-pairing, IsPermuting-after, after, after-exchange, cut_orbits, Balances}
+use Rattle.plane_laws.proofs.PlaneCuts.{fixed_alone, plane_cut, lone, lone_before, lone_other, lone_together}
 use Rattle.euler_bound.proofs.Transfer.{class_count-transfer}
 use Rattle.plane_laws.proofs.Generated.{IsGenerated, IsGenerated-orbits, IsGenerated-joint, IsRenumbering, GoesOver, GoesOver-after, IsTransfer-renumbered, neither, neither_first, neither_second, neither_cases, left_out, left_out_one}
 
@@ -27,6 +27,44 @@ lone_balances f g k m p d double w v lp ld e plane =
           omega (arith, plane, ap class_count first, ap class_count second, ap class_count third)
       | inr ne ↦ plane_cut f g k m p d double w v lp ld ne (lone_together f k p d w lp e) plane
     ]
+
+-- A dart taken off: where its two faces are one, orbits and faces rise alike, and where they are two, these are made one.
+module _ (f g : ℕ → ℕ) (k p d : ℕ) (w : IsPermuting f k) (v : IsPairing g k) (lp : p < k) (ld : d < k) (e : f p ≡ d) where
+  same_images : p ≡ d → (i : ℕ) → exchange f p d i ≡ f i
+  same_images q i = ap (λ x. f (swapped x d i)) q ∙ ap f (swapped_itself d i)
+
+  turned : orbits_of (after (exchange f p d) g) k ≡ orbits_of (exchange (after f g) (g p) (g d)) k
+  turned = orbits_of-same (after (exchange f p d) g) (exchange (after f g) (g p) (g d)) k (after-exchange f g k p d v lp ld)
+
+  pub off_alike : Together (orbits_of (after f g) k) (g p) (g d) → class_count (orbits_of (after (exchange f p d) g) k) + class_count (orbits_of f k) ≡ class_count (orbits_of (after f g) k) + class_count (orbits_of (exchange f p d) k)
+  off_alike face =
+      let gw = IsPermuting-pairing g k v in
+      elim (cases_eq p d) [
+        | inl q ↦
+            let points = orbits_of-same (exchange f p d) f k (λ i l. same_images q i) in
+            let faces = orbits_of-same (after (exchange f p d) g) (after f g) k (λ i l. same_images q (g i)) in
+            omega (arith, ap class_count points, ap class_count faces)
+        | inr ne ↦
+            let apart : g p ≢ g d = λ q. ne (gw.apart p d lp ld q) in
+            let points = (cut_orbits f g k p d w v.within lp ld ne (lone_together f k p d w lp e)).fewer in
+            let faces = ((exchange_orbits (after f g) k (g p) (g d) (IsPermuting-after f g k w gw) (v.within p lp) (v.within d ld) apart).cut (same_class-from (orbits_of (after f g) k) (g p) (g d) face)).fewer in
+            omega (arith, points, faces, ap class_count turned)
+      ]
+
+  pub off_joined : (Together (orbits_of (after f g) k) (g p) (g d) → ⊥) → class_count (orbits_of (after (exchange f p d) g) k) + class_count (orbits_of f k) + 2 ≡ class_count (orbits_of (after f g) k) + class_count (orbits_of (exchange f p d) k)
+  off_joined face =
+      let gw = IsPermuting-pairing g k v in
+      let ne : p ≢ d = λ q. face (ap (λ x. label (orbits_of (after f g) k) (g x)) q) in
+      let apart : g p ≢ g d = λ q. ne (gw.apart p d lp ld q) in
+      let points = (cut_orbits f g k p d w v.within lp ld ne (lone_together f k p d w lp e)).fewer in
+      let faces = ((exchange_orbits (after f g) k (g p) (g d) (IsPermuting-after f g k w gw) (v.within p lp) (v.within d ld) apart).joined (apart-from (orbits_of (after f g) k) (g p) (g d) face)).fewer in
+      omega (arith, points, faces, ap class_count turned)
+
+-- What two orbits, one face and one class more make of one pair of permutations another.
+pub record IsLeftOut (f g : ℕ → ℕ) (k : ℕ) (f' g' : ℕ → ℕ) (k' : ℕ) : Type 0 where
+  pub orbits : class_count (orbits_of f k) ≡ class_count (orbits_of f' k') + 2
+  pub faces : class_count (orbits_of (after f g) k) ≡ class_count (orbits_of (after f' g') k') + 1
+  pub classes : class_count (joint f g k) ≡ class_count (joint f' g' k') + 1
 
 -- Let p lead to d, and then q to the partner e of d; and let d and e not lead to one another.
 module _ (f g : ℕ → ℕ) (k m d p q : ℕ) (double : k ≡ m + m) (w : IsPermuting f k) (v : IsPairing g k) (ld : d < k) (lp : p < k) (lq : q < k) (fp : f p ≡ d) (fq : exchange f p d q ≡ g d) (apart : f d ≢ g d) (apart' : f (g d) ≢ d) where
@@ -91,6 +129,15 @@ module _ (f g : ℕ → ℕ) (k m d p q : ℕ) (double : k ≡ m + m) (w : IsPer
   lone_edge-balances plane =
       lone_balances (exchange f p d) g k m q (g d) double w1 v lq le fq (lone_balances f g k m p d double w v lp ld fp plane)
 
+  -- the second dart's faces are one, since the first has been taken off
+  pub second_alike : class_count (orbits_of (after lone_edge g) k) + class_count (orbits_of (exchange f p d) k) ≡ class_count (orbits_of (after (exchange f p d) g) k) + class_count (orbits_of lone_edge k)
+  second_alike =
+      let f1 = exchange f p d in
+      let step = orbits_of-step (after f1 g) k (IsPermuting-after f1 g k w1 (IsPermuting-pairing g k v)).within in
+      let L = label (orbits_of (after f1 g) k) in
+      off_alike f1 g k q (g d) w1 v lq le fq
+      (step (g q) (v.within q lq) ∙ (ap L (ap f1 (v.back q lq) ∙ fq) ∙ (step (g d) le ∙ ap L (ap f1 (v.back d ld) ∙ (lone f p d fp ∙ sym (v.back d ld))))))
+
   -- a label that is d or its partner
   pub out_label : (labels : List ℕ) (h h' : ℕ → ℕ) → IsGenerated labels h h' k → ((y : ℕ) → y < k → neither d (g d) y ≡ neither d (g d) (h y)) → ((y : ℕ) → y < k → neither d (g d) y ≡ neither d (g d) (h' y)) → (label labels d ≡ d) ⊎ (label labels d ≡ g d)
   out_label labels h h' made same same' =
@@ -124,20 +171,10 @@ module _ (f g : ℕ → ℕ) (k m d p q : ℕ) (double : k ≡ m + m) (w : IsPer
   pub lone_points : one_if (eqb (label (orbits_of lone_edge k) d) d) + one_if (eqb (label (orbits_of lone_edge k) (g d)) (g d)) ≡ 2
   lone_points =
       let O = orbits_of lone_edge k in
-      let made = IsGenerated-orbits lone_edge k IsPermuting-lone_edge.within in
-      let u = made.known in
+      let known = IsLabels-orbits_of lone_edge k IsPermuting-lone_edge.within in
       let alone : (x : ℕ) → x < k → lone_edge x ≡ x → label O x ≡ x = λ x l fixed.
-      let step : (y : ℕ) → y < k → one_if (eqb y x) ≡ one_if (eqb (lone_edge y) x) = λ y n.
-      elim (cases_eq y x) [
-        | inl e ↦ ap one_if (eq-eqb y x e ∙ sym (eq-eqb (lone_edge y) x (ap lone_edge e ∙ fixed)))
-        | inr ne ↦ ap one_if (ne_eqb y x ne ∙ sym (ne_eqb (lone_edge y) x (λ e. ne (IsPermuting-lone_edge.apart y x n l (e ∙ sym fixed)))))
-      ] in
-      let low = u.low x in
-      let same = made.least (λ y. one_if (eqb y x)) step step x (label O x) l (omega arith) (Together-label O u x) in
-      elim (cases_eq (label O x) x) [
-        | inl e ↦ e
-        | inr ne ↦ absurd (omega (arith, same, ap one_if (eq-eqb x x refl), ap one_if (ne_eqb (label O x) x ne)))
-      ] in
+      let low = known.low x in
+      fixed_alone lone_edge k IsPermuting-lone_edge x l fixed (label O x) (omega arith) (sym (Together-label O known x)) in
       omega (arith, ap one_if (eq-eqb (label O d) d (alone d ld lone_edge-first)), ap one_if (eq-eqb (label O (g d)) (g d) (alone (g d) le lone_edge-second)))
 
   pub twin_out : neither d (g d) (g d) ≡ false
@@ -164,15 +201,14 @@ module _ (f g : ℕ → ℕ) (k m d p q : ℕ) (double : k ≡ m + m) (w : IsPer
     },
   )
 
-  -- Left out, the edge leaves nothing missing.
-  pub lone_edge_out : (to new : ℕ → ℕ) (k' m' : ℕ) (f' g' : ℕ → ℕ) → m ≡ m' + 1 → StaysBelow f' k' → StaysBelow g' k' → IsRenumbering to new (neither d (g d)) k k' → ((i : ℕ) → i < k' → lone_edge (to i) ≡ to (f' i)) → ((i : ℕ) → i < k' → g (to i) ≡ to (g' i)) → Balances f g k m 0 → Balances f' g' k' m' 0
-  lone_edge_out to new k' m' f' g' less stays stays' r h h' plane =
+  -- Left out, the edge takes two orbits, one face and one class with it.
+  pub lone_edge_counts : (to new : ℕ → ℕ) (k' : ℕ) (f' g' : ℕ → ℕ) → StaysBelow f' k' → StaysBelow g' k' → IsRenumbering to new (neither d (g d)) k k' → ((i : ℕ) → i < k' → lone_edge (to i) ≡ to (f' i)) → ((i : ℕ) → i < k' → g (to i) ≡ to (g' i)) → IsLeftOut lone_edge g k f' g' k'
+  lone_edge_counts to new k' f' g' stays stays' r h h' =
       let kept = neither d (g d) in
       let e = g d in
       let hw = IsPermuting-lone_edge in
       let gw = IsPermuting-pairing g k v in
       let over = GoesOver-out to k' f' g' h h' in
-      let lone_whole = lone_edge-balances plane in
       let O = orbits_of lone_edge k in
       let O' = orbits_of f' k' in
       let A = orbits_of (after lone_edge g) k in
@@ -204,4 +240,8 @@ module _ (f g : ℕ → ℕ) (k m d p q : ℕ) (double : k ≡ m + m) (w : IsPer
       let kept_A = neither_kept (after lone_edge g) aw (ap kept face_d ∙ twin_out) (ap kept face_e ∙ neither_first d e) in
       let one_A = left_out_one A d e made_A.known d_not_e (made_A.first d ld ∙ ap (label A) face_d) (out_label A (after lone_edge g) (after lone_edge g) made_A kept_A kept_A) in
       let one_J = left_out_one J d e made_J.known d_not_e (made_J.second d ld) (out_label J lone_edge g made_J kept_f kept_g) in
-      omega (arith, lone_whole, count_O, count_A, count_J, rest_O, rest_A, rest_J, lone_points, one_A, one_J)
+      record {
+        orbits = omega (arith, count_O, rest_O, lone_points);
+        faces = omega (arith, count_A, rest_A, one_A);
+        classes = omega (arith, count_J, rest_J, one_J);
+      }

@@ -1,16 +1,15 @@
 -- A vertex of degree two taken out of its edge: its two darts are left out, and the two darts to it are made partners. Nothing is missing from the Euler bound after it that was not before.
-use Rattle.std.proofs.Common.{◌≡◌, ◌≢◌, ◌⊎◌, ℕ, zero, suc, ◌+◌, ◌<◌, Bool, true, false, not, ◌&&◌, cond, eqb, List, length, refl, sym, ap, ◌∙◌, inl, inr, arith}
+use Rattle.std.proofs.Common.{◌≡◌, ◌≢◌, ◌⊎◌, ℕ, ◌+◌, ◌<◌, Bool, true, false, not, ◌&&◌, cond, eqb, List, length, refl, sym, ap, ◌∙◌, inl, inr, arith}
 use Rattle.std.proofs.lemmas.Bool.{cases_Bool, cases_eq, eq-eqb, ne_eqb, false≢true, not-true}
 use Rattle.label_classes.specs.Classes.{count_below, label, class_count}
-use Rattle.label_classes.proofs.Counting.{one_if}
+use Rattle.label_classes.proofs.Counting.{one_if, count_below_none}
 use Rattle.label_classes.proofs.Classes.{Together, Together-label, same_class-from}
 use Rattle.label_classes.proofs.Orbits.{StaysBelow, orbits_of, IsPermuting, marks_back}
 use Rattle.label_classes.proofs.Swap.{exchange, IsPermuting-exchange, exchange_orbits}
 use Rattle.label_classes.proofs.Bound.{joint, IsPairing, IsPermuting-pairing, IsPermuting-after, after, Balances}
-use Rattle.plane_laws.proofs.PlaneCuts.{lone, lone_before, lone_other, lone_together}
+use Rattle.plane_laws.proofs.PlaneCuts.{fixed_alone, lone, lone_before, lone_other, lone_together}
 use Rattle.euler_bound.proofs.Transfer.{IsTransfer, class_count-transfer}
 use Rattle.plane_laws.proofs.Generated.{IsGenerated, IsGenerated-orbits, IsGenerated-joint, IsRenumbering, GoesOver, IsTransfer-renumbered, neither, neither_first, neither_second, neither_cases, neither_true, neither_other, left_out, left_out_one}
-use Rattle.plane_laws.proofs.DigonSplit.{fixed_alone}
 
 -- d and e lead to the vertex of degree two, whose two darts are their partners.
 module _ (f g : ℕ → ℕ) (k m d e : ℕ) (w : IsPermuting f k) (pair : IsPairing g k) (ld : d < k) (le : e < k) (ne : d ≢ e) (off : d ≢ g e) (turn : f (g d) ≡ g e) (turn' : f (g e) ≡ g d) where
@@ -314,11 +313,7 @@ module _ (f g : ℕ → ℕ) (k m d e : ℕ) (w : IsPermuting f k) (pair : IsPai
         }
 
     none_left : count_below (λ y. not true && eqb (label J y) y) (length J) ≡ 0
-    none_left = count_none (length J)
-      where
-        count_none : (n : ℕ) → count_below (λ y. false) n ≡ 0
-        count_none zero = refl
-        count_none (suc n) = omega (arith, count_none n)
+    none_left = count_below_none (length J)
 
     pub smooth_balances : Balances f g k m 0 → Balances f' g' k' m' 0
     smooth_balances plane =

@@ -12,8 +12,7 @@ use Rattle.plane_laws.proofs.Replaced.{renamed, renamed-itself, renamed-other, l
 use Rattle.map_definitions.proofs.DartLemmas.{dart_number-lt, get_or-dart_number, dart_number-injective, HasDart-follows}
 use Rattle.map_definitions.proofs.DartCounts.{dart_count-edge_count}
 use Rattle.euler_bound.proofs.DartPermutations.{dart_of, tail_of, rotation, twin, IsPermuting-rotation, IsPairing-twin, dart_of-number, map_balances, balances_map}
-use Rattle.plane_laws.proofs.DartPaths.{tail_of-number, twin-number}
-use Rattle.plane_laws.proofs.CornerSplit.{rotation-number}
+use Rattle.plane_laws.proofs.DartPaths.{tail_of-number, twin-number, rotation-number}
 
 -- in a list of two each comes after the other
 pair_after_first : (a b : ℕ) → entry_after a (a ∷ b ∷ []) ≡ b

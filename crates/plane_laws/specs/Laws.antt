@@ -1,9 +1,23 @@
--- Laws of the maps of genus zero.
-use Rattle.std.specs.Prelude.{ℕ, ◌+◌, ◌*◌, ◌<◌, ◌≤◌, ◌≡◌, ◌⊎◌, List, [], ◌∷◌, ◌++◌, ◌≢◌, Contains, length, slice_set}
+-- Laws of simple maps, and of those of genus zero.
+use Rattle.std.specs.Prelude.{ℕ, ◌+◌, ◌*◌, ◌<◌, ◌≤◌, ◌≡◌, ◌⊎◌, ◌↔◌, true, List, [], ◌∷◌, ◌++◌, ◌≢◌, Contains, length, slice_set}
+use Rattle.label_classes.specs.Classes.{same_class}
 use Rattle.map_lists.specs.Lists.{Lists}
-use Rattle.map_definitions.specs.Maps.{Dart, HasDart, IsSimpleMap, IsPlane, vertex_count, edge_count, component_count, list_of, follows, place_of}
+use Rattle.map_definitions.specs.Maps.{Dart, HasDart, IsSimpleMap, IsPlane, vertex_count, edge_count, component_count, component_classes, list_of, follows, face_step, place_of}
 use Rattle.map_definitions.specs.Edges.{without_edge}
 use Rattle.map_definitions.specs.Paths.{JoinsAvoiding, arc, SameFace}
+
+-- u and v are in one of the classes that count components
+abbrev pub SameComponent : Lists → ℕ → ℕ → Type 0
+SameComponent lists u v = same_class (component_classes lists) u v ≡ true
+
+-- a path joins u and v
+abbrev pub AreJoined : Lists → ℕ → ℕ → Type 0
+AreJoined lists u v = (path : List ℕ) × JoinsAvoiding lists [] u v path
+
+-- Two vertices of a simple map are in one component exactly where a path joins them.
+abbrev pub ComponentsArePaths : Type 0
+ComponentsArePaths =
+    (lists : Lists) (u v : ℕ) → IsSimpleMap lists → u < length lists → v < length lists → SameComponent lists u v ↔ AreJoined lists u v
 
 -- A map of genus zero without one of its edges has genus zero.
 abbrev pub EdgeRemoved : Type 0
@@ -31,6 +45,20 @@ FacesMerged =
 abbrev pub EdgeBound : Type 0
 EdgeBound =
     (lists : Lists) → IsSimpleMap lists → IsPlane lists → 3 ≤ vertex_count lists → edge_count lists + 6 ≤ 3 * vertex_count lists
+
+-- In a connected map with at least three vertices each face has at least three darts: fewer steps do not lead back.
+abbrev pub FacesHaveThree : Type 0
+FacesHaveThree =
+    (lists : Lists) (u v : ℕ) → IsSimpleMap lists → component_count lists ≡ 1 → 3 ≤ vertex_count lists → HasDart lists u v → (face_step lists (u, v) ≢ (u, v)) × (face_step lists (face_step lists (u, v)) ≢ (u, v))
+
+-- three steps lead back to the dart
+abbrev pub IsTriangle : Lists → Dart → Type 0
+IsTriangle lists d = face_step lists (face_step lists (face_step lists d)) ≡ d
+
+-- A map of genus zero with at least three vertices has just 3n - 6 edges exactly where it is connected and each of its faces is a triangle.
+abbrev pub EdgeBoundMet : Type 0
+EdgeBoundMet =
+    (lists : Lists) → IsSimpleMap lists → IsPlane lists → 3 ≤ vertex_count lists → (edge_count lists + 6 ≡ 3 * vertex_count lists) ↔ ((component_count lists ≡ 1) × ((u v : ℕ) → HasDart lists u v → IsTriangle lists (u, v)))
 
 -- a list with y in place of its first x
 abbrev pub replaced : List ℕ → ℕ → ℕ → List ℕ

@@ -1,7 +1,13 @@
 //! Laws of plane maps. Each is the contract of a function that does nothing, and speaks of all maps.
 #![tactic(auto)]
 
-ghost use Rattle.plane_laws.specs.Laws.{EdgeRemoved, BridgeTest, FacesMerged, EdgeBound, CornerSplit, DigonSplit, VertexSmoothed};
+ghost use Rattle.plane_laws.specs.Laws.{ComponentsArePaths, EdgeRemoved, BridgeTest, FacesMerged, EdgeBound, FacesHaveThree, EdgeBoundMet, CornerSplit, DigonSplit, VertexSmoothed};
+
+/// Two vertices of a simple map are in one of the classes that count its components exactly where a
+/// path joins them.
+pub fn components_are_paths()
+    ensures { ComponentsArePaths }
+{}
 
 /// A map of genus zero without one of its edges has genus zero.
 pub fn edge_removed()
@@ -23,6 +29,17 @@ pub fn faces_merged()
 /// A simple map of genus zero with at least three vertices has at most 3n - 6 edges.
 pub fn edge_bound()
     ensures { EdgeBound }
+{}
+
+/// In a connected map with at least three vertices each face has at least three darts.
+pub fn faces_have_three()
+    ensures { FacesHaveThree }
+{}
+
+/// A simple map of genus zero with at least three vertices has just 3n - 6 edges exactly where it is
+/// connected and each of its faces is a triangle.
+pub fn edge_bound_met()
+    ensures { EdgeBoundMet }
 {}
 
 /// Where two corners of a vertex lie in one face of a map of genus zero, the vertex separates the

@@ -288,7 +288,7 @@ stands_twice_cases us u w t =
 stands_twice_left : (us : List ℕ) (u w : ℕ) → StandsTwice us w → StandsTwice (us ++ u ∷ []) w
 stands_twice_left us u w t = omega (arith, t, count_of-push w us u)
 
-IsLeast-least_repeated : (v : ℕ) (us : List ℕ) → IsLeast (StandsTwice us) (least_repeated v us)
+pub IsLeast-least_repeated : (v : ℕ) (us : List ℕ) → IsLeast (StandsTwice us) (least_repeated v us)
 IsLeast-least_repeated v us =
     IsLeast-same (Passes (λ u. ltb 1 (count_of u us)) us) (StandsTwice us) (least_repeated v us)
     (λ w p. ltb-true 1 (count_of w us) p.1)

@@ -1,5 +1,9 @@
 -- The lemmas on faults and tables.
 pub mod FaultLemmas
+pub mod FlatLemmas
 pub mod MarkLemmas
+pub mod PassLemmas
+pub mod PassedLemmas
 pub mod TableLemmas
 pub mod TwinLemmas
+pub mod FirstFaults

@@ -15,14 +15,6 @@ pub record AreMarks (marks : List ℕ) (mark : ℕ) (seen : List ℕ) : Type 0 w
   pub seen_marked : (w : ℕ) → w < length marks → Contains seen w → get_or marks w 0 ≡ mark
   pub greatest : All (λ m. m < mark + 1) marks
 
--- at first no number is marked
-pub AreMarks-none : (marks : List ℕ) (mark : ℕ) → All (λ m. m < mark) marks → AreMarks marks mark []
-AreMarks-none marks mark fresh = record {
-  marked = λ w l e. absurd (omega (arith, e, fresh w 0 l));
-  seen_marked = λ w l c. absurd (omega (arith, c.1));
-  greatest = λ k d l. omega (arith, fresh k d l);
-}
-
 -- one more number
 pub AreMarks-push : (marks : List ℕ) (mark : ℕ) (seen : List ℕ) (u : ℕ) → u < length marks → AreMarks marks mark seen → AreMarks (set marks u mark) mark (seen ++ u ∷ [])
 AreMarks-push marks mark seen u in_marks h = record {

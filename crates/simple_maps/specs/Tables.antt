@@ -20,3 +20,9 @@ pub record AreTables (lists : Lists) (starts : List ℕ) (ends : List Dart) (twi
   pub starts_are : StartsTo lists starts (length lists)
   pub ends_are : ends ≡ darts lists
   pub twins_are : AreTwins ends twins (length ends)
+
+-- for each dart of a map, by its number, the vertex that it leaves and the number of its twin
+pub record AreSlots (lists : Lists) (tails twins : List ℕ) : Type 0 where
+  pub simple : IsSimpleMap lists
+  pub tails_are : (d : ℕ) → d < length (darts lists) → slice_index tails d ≡ (slice_index_or (darts lists) d (0, 0)).0
+  pub twins_are : AreTwins (darts lists) twins (length (darts lists))

@@ -3,9 +3,15 @@
 
 mod fault;
 mod faults;
+mod laws;
+mod pass;
 mod simple;
+mod slots;
 mod tables;
 mod twins;
 
 pub use fault::MapFault;
+pub use laws::{first_fault_is_first, no_fault_is_simple};
+pub use pass::DartSlot;
 pub use simple::{Tables, tables_of};
+pub use slots::fill_slots;

@@ -1,46 +1,72 @@
-use Rattle.std.proofs.Common.{◌≡◌, ◌<◌, ◌∙◌, [], length, arith, refl}
-use Rattle.std.proofs.lemmas.List.{nil_from_length}
+use Rattle.std.proofs.Common.{◌≡◌, ◌+◌, ◌<◌, true, length, get_or, refl, sym, ap, ◌∙◌, arith, length-set}
+use Rattle.map_lists.specs.Cuts.{cut}
+use Rattle.map_lists.proofs.CutLemmas.{length-cut}
 use Rattle.euler_faces.specs.Search.{None_open}
-use Rattle.euler_faces.proofs.SearchLemmas.{search-start, search-push, search-pop, search-top, search-all, Pushes-marks, Pushes-length}
+use Rattle.euler_faces.proofs.SearchLemmas.{unmarked_below-set, all_marked, set-here, search-start, search-push, search-pop, search-top, search-full, search-all}
 use Rattle.euler_faces.proofs.components.mark_component.Goals as goal
 
-pub loop-u-init : goal.loop-u-init
-loop-u-init c =
-    let map = c.args.map.now in
-    let pushes = c.in_ok-push_unmarked.ensures.pushes in
-    let in_list : c.args.start.0 < length c.args.marked.now = omega (arith, c.requires.marks, c.requires.start_in) in
+pub bounds-queue-filled : goal.bounds-queue-filled
+bounds-queue-filled c =
+    let fewer = unmarked_below-set c.args.met.now c.args.start (length c.args.ends.now) c.requires.start_in (omega (arith, c.requires.marks, c.requires.start_in)) c.requires.unmarked in
+    omega (arith, c.requires.work, c.requires.room)
+
+pub loop-next-init : goal.loop-next-init
+loop-next-init c =
+    let ends = c.args.ends.now in
+    let entries = c.args.entries.now in
+    let lists = cut 0 ends entries in
+    let long = length-cut 0 ends entries in
+    let l = c.requires.start_in in
+    let marks = c.requires.marks in
+    let in_marks : c.args.start < length c.args.met.now = omega arith in
+    let fewer = unmarked_below-set c.args.met.now c.args.start (length ends) l in_marks c.requires.unmarked in
     record {
-      marks = Pushes-length c.args.marked.now c.args.stack.now.items c.args.start.0 _ _ pushes ∙ c.requires.marks;
-      search = search-push map.lists c.args.marked.now c.args.marked.now c.args.stack.now.items c.args.start.0 None_open c.args.start.0 _ _
-          (rw c.requires.none_stacked (search-start map.lists c.args.marked.now c.args.start.0 c.requires.kept)) c.requires.start_in in_list refl pushes;
-      begun = Pushes-marks c.args.marked.now c.args.stack.now.items c.args.start.0 _ _ in_list pushes;
+      marks = length-set c.args.met.now c.args.start true ∙ marks;
+      room = length-set c.args.queue.now c.args.filled c.args.start ∙ c.requires.room;
+      work = omega (arith, c.requires.work);
+      order = omega arith;
+      begun = set-here c.args.met.now c.args.start in_marks;
+      search = search-push lists c.args.met.now c.args.met.now c.args.queue.now c.args.filled c.args.filled c.args.start None_open c.args.start _
+          (search-start lists c.args.met.now c.args.queue.now c.args.filled c.args.start (λ u m t. c.requires.kept u (omega (arith, m)) t))
+          (omega arith) (omega (arith, c.requires.work, c.requires.room)) refl (omega arith) in_marks refl;
     }
 
-pub push_neighbours-requires-clause-u_in : goal.push_neighbours-requires-clause-u_in
-push_neighbours-requires-clause-u_in c =
-    let map = c.args.map.now in
-    let popped = c.in-Some.ensures.items in
-    (search-top map.lists c.args.marked.now c.loop-u.marked c.pop.new.self.items c.args.start.0 c.in-Some.u (rw popped at c.loop-u.invariant.search)).0
+pub returns-then-filled-ends-clause-marked : goal.returns-then-filled-ends-clause-marked
+returns-then-filled-ends-clause-marked c = λ i l.
+    let ends = c.args.ends.now in
+    let lists = cut 0 ends c.args.entries.now in
+    let long = length-cut 0 ends c.args.entries.now in
+    let h = c.loop-next.invariant in
+    let same = c.if-filled-ends.true in
+    search-full lists c.args.met.now c.loop-next.met c.loop-next.queue c.loop-next.next c.loop-next.filled c.args.start None_open h.search
+    (λ u m. all_marked c.loop-next.met (length ends) u (omega (arith, h.work)) (omega arith) (omega (arith, h.marks))) i (omega arith)
 
-pub loop-u-preserved : goal.loop-u-preserved
-loop-u-preserved c =
-    let map = c.args.map.now in
-    let popped = c.in-Some.ensures.items in
-    let search = rw popped at c.loop-u.invariant.search in
-    let top = search-top map.lists c.args.marked.now c.loop-u.marked c.pop.new.self.items c.args.start.0 c.in-Some.u search in
+pub push_neighbours-filled-requires-clause-v_in : goal.push_neighbours-filled-requires-clause-v_in
+push_neighbours-filled-requires-clause-v_in c =
+    let lists = cut 0 c.args.ends.now c.args.entries.now in
+    let long = length-cut 0 c.args.ends.now c.args.entries.now in
+    let top = search-top lists c.args.met.now c.loop-next.met c.loop-next.queue c.loop-next.next c.loop-next.filled c.args.start c.loop-next-test.true c.loop-next.invariant.search in
+    omega (arith, top.0)
+
+pub loop-next-preserved : goal.loop-next-preserved
+loop-next-preserved c =
+    let lists = cut 0 c.args.ends.now c.args.entries.now in
+    let h = c.loop-next.invariant in
+    let top = search-top lists c.args.met.now c.loop-next.met c.loop-next.queue c.loop-next.next c.loop-next.filled c.args.start c.loop-next-test.true h.search in
     record {
-      marks = let kept = c.push_neighbours.auto.marked in omega (arith, kept, c.loop-u.invariant.marks);
-      search = c.in_ok-push_neighbours.ensures.search c.args.marked.now c.args.start.0 top.1
-          (search-pop map.lists c.args.marked.now c.loop-u.marked c.pop.new.self.items c.args.start.0 c.in-Some.u search);
-      begun = c.in_ok-push_neighbours.ensures.keeps c.args.start.0 c.loop-u.invariant.begun;
+      marks = c.push_neighbours-filled.auto.met ∙ h.marks;
+      room = c.push_neighbours-filled.auto.queue ∙ h.room;
+      work = c.push_neighbours-filled.ensures.work;
+      order = omega (arith, c.push_neighbours-filled.ensures.grows, c.loop-next-test.true);
+      begun = c.push_neighbours-filled.ensures.keeps c.args.start h.begun;
+      search = c.push_neighbours-filled.ensures.search c.args.met.now (c.loop-next.next + 1) c.args.start (omega (arith, c.loop-next-test.true)) top.1
+          (search-pop lists c.args.met.now c.loop-next.met c.loop-next.queue c.loop-next.next c.loop-next.filled c.args.start (c.loop-next.next + 1) refl h.search);
     }
 
 pub returns-clause-marked : goal.returns-clause-marked
 returns-clause-marked c = λ i l.
-    let map = c.args.map.now in
-    let cases = c.in_default.ensures.cases in
-    let len = c.loop-u.stack.ok.0 in
-    let none : c.loop-u.stack.items ≡ [] = nil_from_length c.loop-u.stack.items (omega (arith, cases.0, len)) in
-    search-all map.lists c.args.marked.now c.loop-u.marked c.args.start.0 c.requires.known.simple
-    (rw none at c.loop-u.invariant.search)
-    c.requires.start_in c.loop-u.invariant.begun i l
+    let lists = cut 0 c.args.ends.now c.args.entries.now in
+    let long = length-cut 0 c.args.ends.now c.args.entries.now in
+    let h = c.loop-next.invariant in
+    let start = c.requires.start_in in
+    search-all lists c.args.met.now c.loop-next.met c.loop-next.queue c.loop-next.next c.loop-next.filled c.args.start c.requires.simple h.search c.loop-next-test.false (omega arith) h.begun i (omega arith)

@@ -1,14 +1,18 @@
-use Rattle.std.proofs.Common.{◌≡◌, ◌+◌, true, length, vec_len}
+use Rattle.std.proofs.Common.{◌≡◌, ◌+◌, ◌-◌, ◌≤◌, true, length}
+use Rattle.map_lists.specs.Cuts.{cut}
 use Rattle.euler_faces.specs.Numbers.{mark_at}
 use Rattle.euler_faces.specs.Search.{IsSearching, unmarked_below, None_open}
 use Rattle.euler_faces.proofs.components.mark_component.Given as goal
 
-abbrev pub invariant-loop-u : goal.invariant-loop-u
-invariant-loop-u l = record {
-  marks : length l.marked ≡ length l.map.lists;
-  search : IsSearching l.map.lists l.fn.marked l.marked l.stack.items l.fn.start.0 None_open;
-  begun : mark_at l.marked l.fn.start.0 ≡ true;
+abbrev pub invariant-loop-next : goal.invariant-loop-next
+invariant-loop-next l = record {
+  marks : length l.met ≡ length l.ends;
+  room : length l.queue ≡ length l.ends;
+  work : l.filled + unmarked_below l.met (length l.ends) ≡ length l.ends;
+  order : l.next ≤ l.filled;
+  begun : mark_at l.met l.fn.start ≡ true;
+  search : IsSearching (cut 0 l.ends l.entries) l.fn.met l.met l.queue l.next l.filled l.fn.start None_open;
 }
 
-abbrev pub decreases-loop-u : goal.decreases-loop-u
-decreases-loop-u l = unmarked_below l.marked (length l.map.lists) + vec_len l.stack
+abbrev pub decreases-loop-next : goal.decreases-loop-next
+decreases-loop-next l = length l.ends - l.next

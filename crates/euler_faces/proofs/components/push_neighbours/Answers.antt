@@ -1,65 +1,89 @@
-use Rattle.std.proofs.Common.{◌≡◌, ◌<◌, ◌∙◌, length, arith}
-use Rattle.map_definitions.specs.Maps.{follows, list_of}
-use Rattle.euler_faces.proofs.NumberLemmas.{number_at-lt, live_from, head-is, next-dart, next-number, next_place-more, next_place-last}
-use Rattle.euler_faces.proofs.SearchLemmas.{search-push, search-close, marked-more, AllMarked-from_places, Pushes-keeps, Pushes-length, parts-step}
+use Rattle.std.proofs.Common.{◌≡◌, ◌<◌, ◌≤◌, ◌∷◌, true, false, length, get_or, set, refl, sym, ap, ◌∙◌, inl, inr, arith, length-set}
+use Rattle.std.proofs.lemmas.Bool.{cases_eq}
+use Rattle.map_lists.specs.Cuts.{cut}
+use Rattle.map_lists.proofs.CutLemmas.{AreCuts-at, length-cut}
+use Rattle.euler_faces.specs.Numbers.{mark_at}
+use Rattle.euler_faces.proofs.SearchLemmas.{unmarked_below-set, set-here, set-keeps, search-push, search-close, entry-dart, AllMarked-from_entries, components-step}
 use Rattle.euler_faces.proofs.components.push_neighbours.Goals as goal
+use Rattle.euler_faces.proofs.components.push_neighbours.Goals.{then-not-met-w, else-not-met-w}
 
-pub push_unmarked-requires : goal.push_unmarked-requires
-push_unmarked-requires c =
-    let map = c.args.map.now in
-    let dart = c.round.invariant.dart in
-    let has = c.requires.known.is_dart c.round.d.0 c.args.u.0 dart.0 dart.1 in
-    let head = head-is map c.round.d.0 c.args.u.0 dart.0 c.head.result.0 dart.1 c.head.ensures in
-    let in_range = c.requires.known.simple.in_range c.args.u.0 dart.0 has in
-    omega (arith, c.round.invariant.marks)
-
-pub returns-then-d-first-clause-search : goal.returns-then-d-first-clause-search
-returns-then-d-first-clause-search c = λ old start together search.
-    let map = c.args.map.now in
-    let u = c.args.u.0 in
-    let dart = c.round.invariant.dart in
-    let has = c.requires.known.is_dart c.round.d.0 u dart.0 dart.1 in
-    let head = head-is map c.round.d.0 u dart.0 c.head.result.0 dart.1 c.head.ensures in
-    let in_range = c.requires.known.simple.in_range u dart.0 has in
-    let pushes = rw head at c.in_ok-push_unmarked.ensures.pushes in
-    let last = next_place-last map c.requires.known c.round.d.0 c.next-d.result.0 c.in-Some.first.0 u (live_from _ _ dart.1) c.next-d.ensures dart.0 dart.1 c.round.invariant.first c.if-d-first.true in
-    search-close map.lists old c.push_unmarked.new.marked c.push_unmarked.new.stack.items start u
-    (search-push map.lists old c.round.marked c.round.stack.items start (λ x. x ≡ u) dart.0 c.push_unmarked.new.marked c.push_unmarked.new.stack.items
-    (c.round.invariant.search old start together search) in_range (omega (arith, c.round.invariant.marks))
-    (together ∙ parts-step map.lists u dart.0 c.requires.known.simple has) pushes)
-    (AllMarked-from_places map.lists c.push_unmarked.new.marked u (λ k below.
-    marked-more (list_of map.lists u) c.round.marked c.round.stack.items dart.0 c.push_unmarked.new.marked c.push_unmarked.new.stack.items (omega (arith, c.round.invariant.marks)) has.1 pushes dart.2 k (omega arith)))
-
-pub round-smaller : goal.round-smaller
-round-smaller c =
-    let map = c.args.map.now in
-    let dart = c.round.invariant.dart in
-    let d = c.round.d.0 in
-    let next = next-number map c.requires.known d c.next-d.result.0 c.in-Some.first.0 c.args.u.0 (live_from _ _ dart.1) c.next-d.ensures dart.0 dart.1 c.round.invariant.first c.if-d-first.false in
-    let l = number_at-lt map c.requires.known d (live_from _ _ dart.1) in
+pub offset_bounds-entries-i : goal.offset_bounds-entries-i
+offset_bounds-entries-i c =
+    let at = AreCuts-at 0 c.args.ends.now (length c.args.entries.now) c.args.v c.requires.cuts c.requires.v_in in
     omega arith
 
-pub round-preserved : goal.round-preserved
-round-preserved c =
-    let map = c.args.map.now in
-    let u = c.args.u.0 in
-    let dart = c.round.invariant.dart in
-    let has = c.requires.known.is_dart c.round.d.0 u dart.0 dart.1 in
-    let head = head-is map c.round.d.0 u dart.0 c.head.result.0 dart.1 c.head.ensures in
-    let in_range = c.requires.known.simple.in_range u dart.0 has in
-    let in_list : dart.0 < length c.round.marked = omega (arith, c.round.invariant.marks) in
-    let pushes = rw head at c.in_ok-push_unmarked.ensures.pushes in
-    let more = next_place-more map c.requires.known c.round.d.0 c.next-d.result.0 c.in-Some.first.0 u (live_from _ _ dart.1) c.next-d.ensures dart.0 dart.1 c.round.invariant.first c.if-d-first.false in
-    record {
-      dart = (
-        follows map.lists u dart.0,
-        next-dart map c.requires.known c.round.d.0 c.next-d.result.0 c.in-Some.first.0 u (live_from _ _ dart.1) c.next-d.ensures dart.0 dart.1 c.round.invariant.first,
-        λ k below. marked-more (list_of map.lists u) c.round.marked c.round.stack.items dart.0 c.push_unmarked.new.marked c.push_unmarked.new.stack.items in_list has.1 pushes dart.2 k (omega arith),
-      );
-      first = c.round.invariant.first;
-      marks = Pushes-length c.round.marked c.round.stack.items dart.0 c.push_unmarked.new.marked c.push_unmarked.new.stack.items pushes ∙ c.round.invariant.marks;
-      search = λ old start together search. search-push map.lists old c.round.marked c.round.stack.items start (λ x. x ≡ u) dart.0 c.push_unmarked.new.marked c.push_unmarked.new.stack.items
-          (c.round.invariant.search old start together search) in_range in_list (together ∙ parts-step map.lists u dart.0 c.requires.known.simple has) pushes;
-      keeps = λ x on. Pushes-keeps c.round.marked c.round.stack.items dart.0 c.push_unmarked.new.marked c.push_unmarked.new.stack.items x in_list pushes (c.round.invariant.keeps x on);
-      work = rw c.round.invariant.marks at c.in_ok-push_unmarked.ensures.work ∙ c.round.invariant.work;
-    }
+pub bounds-entries-i : goal.bounds-entries-i
+bounds-entries-i c =
+    let at = AreCuts-at 0 c.args.ends.now (length c.args.entries.now) c.args.v c.requires.cuts c.requires.v_in in
+    omega arith
+
+pub bounds-met-w : goal.bounds-met-w
+bounds-met-w c =
+    let dart = entry-dart c.args.ends.now c.args.entries.now c.requires.cuts c.args.v c.requires.v_in c.loop-i.i (omega (arith, c.start_of-i.ensures)) c.loop-i-test.true in
+    omega (arith, c.requires.simple.in_range c.args.v _ dart, length-cut 0 c.args.ends.now c.args.entries.now, c.loop-i.invariant.marks)
+
+pub bounds-met-w-then-not-met-w : goal.bounds-met-w-then-not-met-w
+bounds-met-w-then-not-met-w c =
+    let dart = entry-dart c.args.ends.now c.args.entries.now c.requires.cuts c.args.v c.requires.v_in c.loop-i.i (omega (arith, c.start_of-i.ensures)) c.loop-i-test.true in
+    omega (arith, c.requires.simple.in_range c.args.v _ dart, length-cut 0 c.args.ends.now c.args.entries.now, c.loop-i.invariant.marks)
+
+pub bounds-queue-filled : goal.bounds-queue-filled
+bounds-queue-filled c =
+    let dart = entry-dart c.args.ends.now c.args.entries.now c.requires.cuts c.args.v c.requires.v_in c.loop-i.i (omega (arith, c.start_of-i.ensures)) c.loop-i-test.true in
+    let h = c.loop-i.invariant in
+    let w_in = c.requires.simple.in_range c.args.v _ dart in
+    let long = length-cut 0 c.args.ends.now c.args.entries.now in
+    let fewer = unmarked_below-set c.loop-i.met (get_or c.args.entries.now c.loop-i.i 0) (length c.args.ends.now) (omega arith) (omega (arith, h.marks)) c.if-not-met-w.true in
+    omega (arith, h.work, h.room)
+
+pub loop-i-preserved : goal.loop-i-preserved
+loop-i-preserved c =
+    let ends = c.args.ends.now in
+    let entries = c.args.entries.now in
+    let lists = cut 0 ends entries in
+    let h = c.loop-i.invariant in
+    let i = c.loop-i.i in
+    let x = get_or entries i 0 in
+    let dart = entry-dart ends entries c.requires.cuts c.args.v c.requires.v_in i (omega (arith, c.start_of-i.ensures)) c.loop-i-test.true in
+    let w_in = c.requires.simple.in_range c.args.v x dart in
+    let long = length-cut 0 ends entries in
+    let marks = h.marks in
+    let in_marks : x < length c.loop-i.met = omega arith in
+    elim c.if-not-met-w.branch [
+      | then-not-met-w w ↦
+          (let fewer = unmarked_below-set c.loop-i.met x (length ends) (omega arith) in_marks w.if-not-met-w.true in
+          rw (w.met-is, w.queue-is, w.filled-is) (record {
+            marks = length-set c.loop-i.met x true ∙ h.marks;
+            room = length-set c.loop-i.queue c.loop-i.filled x ∙ h.room;
+            work = omega (arith, h.work);
+            grows = omega (arith, h.grows);
+            keeps = λ y on. set-keeps c.loop-i.met x y in_marks (h.keeps y on);
+            done = λ k a b. elim (cases_eq k i) [
+              | inl e ↦ ap (λ j. mark_at (set c.loop-i.met x true) (get_or entries j 0)) e ∙ set-here c.loop-i.met x in_marks
+              | inr ne ↦ set-keeps c.loop-i.met x (get_or entries k 0) in_marks (h.done k a (omega arith))
+            ];
+            search = λ old next start order together search.
+                search-push lists old c.loop-i.met c.loop-i.queue next c.loop-i.filled start (λ y. y ≡ c.args.v) x _ (h.search old next start order together search)
+                (omega (arith, h.grows)) (omega (arith, h.room, h.work)) refl w_in in_marks (together ∙ components-step lists c.args.v x c.requires.simple dart);
+          }))
+      | else-not-met-w w ↦
+          rw (w.met-is, w.queue-is, w.filled-is) (record {
+            marks = h.marks;
+            room = h.room;
+            work = h.work;
+            grows = h.grows;
+            keeps = h.keeps;
+            done = λ k a b. elim (cases_eq k i) [
+              | inl e ↦ ap (λ j. mark_at c.loop-i.met (get_or entries j 0)) e ∙ w.if-not-met-w.false
+              | inr ne ↦ h.done k a (omega arith)
+            ];
+            search = h.search;
+          })
+    ]
+
+pub returns-clause-search : goal.returns-clause-search
+returns-clause-search c = λ old next start order together search.
+    let ends = c.args.ends.now in
+    let entries = c.args.entries.now in
+    search-close (cut 0 ends entries) old c.loop-i.met c.loop-i.queue next c.loop-i.filled start c.args.v (c.loop-i.invariant.search old next start order together search)
+    (AllMarked-from_entries ends entries c.requires.cuts c.args.v c.requires.v_in c.loop-i.met (λ i a b. c.loop-i.invariant.done i a (omega (arith, c.loop-i-test.false))))

@@ -1,0 +1,98 @@
+-- A walk along a face by the numbers of darts, which overwrites the twins that it has read.
+use Rattle.std.proofs.Common.{◌≡◌, ◌≢◌, ◌⊎◌, ℕ, suc, ◌+◌, ◌-◌, ◌<◌, ◌≤◌, Bool, true, false, cond, eqb, List, [], ◌∷◌, length, get_or, set, slice_get, Some, refl, sym, ap, ap₂, ◌∙◌, subst, inl, inr, arith, get_or-set_same, get_or-set_other}
+use Rattle.std.proofs.lemmas.Bool.{cases_eq, eq-eqb, eqb-true, ne_eqb}
+use Rattle.std.proofs.lemmas.Bool.Decides.{nat_tests}
+use Rattle.std.proofs.lemmas.List.{length-map, get_or-map, map-set}
+use Rattle.std.proofs.lemmas.Option.{slice_get_within, get_or_from_slice_get}
+use Rattle.label_classes.specs.Classes.{image}
+use Rattle.label_classes.proofs.Marks.{SetsMark}
+use Rattle.map_lists.specs.Lists.{Lists}
+use Rattle.map_lists.specs.Cuts.{cut, AreCuts}
+use Rattle.map_lists.proofs.CutLemmas.{length-cut}
+use Rattle.map_definitions.specs.Maps.{Dart, IsSimpleMap, HasDart, list_of, darts, dart_count, darts_before, dart_number, place_of, follows, twin_dart, face_images, face_step}
+use Rattle.map_definitions.proofs.DartLemmas.{length-darts, IsDartNumber-darts, get_or-face_images, place_after, place_of-entry_after, place_of-lt-length, place_of_number}
+use Rattle.simple_maps.proofs.FlatLemmas.{start-is, end-is, count-is, dart-is}
+use Rattle.euler_faces.specs.Slots.{twins_of, walked, HaveTwins}
+use Rattle.euler_faces.specs.declared.slots.Slot.{Slot}
+
+-- a number written at a place marks just that place
+pub SetsMark-walked : (twins : List ℕ) (k d : ℕ) → d < length twins → SetsMark k (walked twins) (walked (set twins d 4294967295)) d
+SetsMark-walked twins k d l = record {
+  here = eq-eqb (get_or (set twins d 4294967295) d 0) 4294967295 (get_or-set_same twins d 4294967295 0 l);
+  elsewhere = λ i m ne. ap (λ t. eqb t 4294967295) (get_or-set_other twins d i 4294967295 0 ne);
+}
+
+-- the other darts have their twins as before
+pub HaveTwins-walked : (lists : Lists) (twins : List ℕ) (d : ℕ) → d < length twins → HaveTwins lists twins → HaveTwins lists (set twins d 4294967295)
+HaveTwins-walked lists twins d l h i m =
+    elim (cases_eq i d) [
+      | inl e ↦ inl (ap (λ x. get_or (set twins d 4294967295) x 0) e ∙ get_or-set_same twins d 4294967295 0 l)
+      | inr ne ↦ (let same = get_or-set_other twins d i 4294967295 0 ne in rw same (h i m))
+    ]
+
+-- the k-th of n numbers from s on, and the one after it, cyclically
+after-place : (s n k e : ℕ) → k < n → s + n ≡ e → cond (eqb (s + k + 1) e) s (s + k + 1) ≡ s + place_after n k
+after-place s n k e l m = grind (arith, nat_tests)
+
+module _ (ends entries : List ℕ) (cuts : AreCuts 0 ends (length entries)) (simple : IsSimpleMap (cut 0 ends entries)) where
+  -- a dart leads to its entry
+  pub dart_head : (d : ℕ) → d < length entries → (get_or (darts (cut 0 ends entries)) d (0, 0)).1 ≡ get_or entries d 0
+  dart_head d l =
+      let p = place_of_number (cut 0 ends entries) d (omega (arith, count-is ends entries cuts)) in
+      let v_in : p.0 < length ends = omega (arith, p.2.list_in, length-cut 0 ends entries) in
+      let number : d ≡ get_or (0 ∷ ends) p.0 0 + p.1 = p.2.number ∙ ap (λ s. s + p.1) (start-is ends entries cuts p.0 (omega arith)) in
+      ap (λ x. (get_or (darts (cut 0 ends entries)) x (0, 0)).1) number
+      ∙ (ap (λ (x : Dart). x.1) (dart-is ends entries cuts p.0 p.1 v_in p.2.entry_in) ∙ ap (λ y. get_or entries y 0) (sym number))
+
+  -- the dart after the twin, in its list, is the next along the face
+  pub step-is : (d t : ℕ) → d < length entries → slice_get (darts (cut 0 ends entries)) t ≡ Some (twin_dart (get_or (darts (cut 0 ends entries)) d (0, 0)))
+      → (get_or entries d 0 < length ends) × (t < length entries) × (cond (eqb (t + 1) (get_or ends (get_or entries d 0) 0)) (get_or (0 ∷ ends) (get_or entries d 0) 0) (t + 1) ≡ image (face_images (cut 0 ends entries)) d)
+  step-is d t l found =
+      let lists = cut 0 ends entries in
+      let n = length-darts lists in
+      let count = count-is ends entries cuts in
+      let dart : Dart = get_or (darts lists) d (0, 0) in
+      let u = dart.1 in
+      let v = dart.0 in
+      let t_in : t < dart_count lists = omega (arith, slice_get_within (darts lists) t (twin_dart dart) found) in
+      let twin : get_or (darts lists) t (0, 0) ≡ (u, v) = get_or_from_slice_get (darts lists) t (twin_dart dart) (0, 0) found in
+      let is = IsDartNumber-darts lists t (0, 0) simple.no_repeat t_in in
+      let has : HasDart lists u v = subst (λ (x : Dart). HasDart lists x.0 x.1) twin is.is_dart in
+      let number : dart_number lists (u, v) ≡ t = ap (λ (x : Dart). dart_number lists x) (sym twin) ∙ is.number in
+      let us = list_of lists u in
+      let k = place_of v us in
+      let k_in = place_of-lt-length v us has.1 in
+      let u_in : u < length ends = omega (arith, has.0, length-cut 0 ends entries) in
+      let s = get_or (0 ∷ ends) u 0 in
+      let at : t ≡ s + k = sym number ∙ ap (λ x. x + k) (start-is ends entries cuts u (omega arith)) in
+      let head : u ≡ get_or entries d 0 = dart_head d l in
+      let next : cond (eqb (s + k + 1) (get_or ends u 0)) s (s + k + 1) ≡ s + place_after (length us) k = after-place s (length us) k (get_or ends u 0) k_in (end-is ends entries cuts u u_in) in
+      let along : s + place_after (length us) k ≡ image (face_images lists) d =
+      ap₂ (λ x y. x + y) (sym (start-is ends entries cuts u (omega arith))) (sym (place_of-entry_after v us (simple.no_repeat u has.0) has.1))
+      ∙ sym (get_or-face_images lists d d (0, 0) (omega arith)) in (
+        omega (arith, u_in, head),
+        omega (arith, t_in),
+        subst (λ x. cond (eqb (t + 1) (get_or ends x 0)) (get_or (0 ∷ ends) x 0) (t + 1) ≡ image (face_images lists) d) head
+            (ap (λ x. cond (eqb (x + 1) (get_or ends u 0)) s (x + 1)) at ∙ (next ∙ along)),
+      )
+
+  -- the twin that is read at a dart that was not walked over
+  pub read_twin : (slots : List Slot) (d : ℕ) → length slots ≡ length entries → d < length entries → HaveTwins (cut 0 ends entries) (twins_of slots) → (get_or slots d (record { twin = 0; tail = 0 })).twin ≢ 4294967295
+      → slice_get (darts (cut 0 ends entries)) (get_or slots d (record { twin = 0; tail = 0 })).twin ≡ Some (twin_dart (get_or (darts (cut 0 ends entries)) d (0, 0)))
+  read_twin slots d long l h new =
+      let same : get_or (twins_of slots) d 0 ≡ (get_or slots d (record { twin = 0; tail = 0 })).twin = get_or-map (λ (s : Slot). s.twin) slots d (record { twin = 0; tail = 0 }) 0 (omega arith) in
+      elim (h d (omega (arith, count-is ends entries cuts))) [
+        | inl e ↦ absurd (new (sym same ∙ e))
+        | inr found ↦ ap (λ x. slice_get (darts (cut 0 ends entries)) x) (sym same) ∙ found
+      ]
+
+-- whether a dart was walked over, as it is read
+pub walked-read : (slots : List Slot) (d : ℕ) → d < length slots → walked (twins_of slots) d ≡ eqb (get_or slots d (record { twin = 0; tail = 0 })).twin 4294967295
+walked-read slots d l = ap (λ t. eqb t 4294967295) (get_or-map (λ (s : Slot). s.twin) slots d (record { twin = 0; tail = 0 }) 0 l)
+
+-- the twins after a walk over one dart
+pub twins_of-walked : (slots : List Slot) (d tail : ℕ) → twins_of (set slots d (record { twin = 4294967295; tail = tail })) ≡ set (twins_of slots) d 4294967295
+twins_of-walked slots d tail = map-set (λ (s : Slot). s.twin) slots d (record { twin = 4294967295; tail = tail })
+
+pub length-twins_of : (slots : List Slot) → length (twins_of slots) ≡ length slots
+length-twins_of slots = length-map {B = ℕ} slots (λ (s : Slot). s.twin)

@@ -1,0 +1,13 @@
+use Rattle.std.proofs.Common.{◌≡◌, ◌≤◌, length}
+use Rattle.label_classes.proofs.Marks.{IsCounting}
+use Rattle.map_lists.specs.Cuts.{cut}
+use Rattle.map_definitions.specs.Maps.{face_classes}
+use Rattle.euler_faces.specs.Slots.{twins_of, walked, HaveTwins}
+use Rattle.euler_faces.proofs.orbits.count_orbits.Given as goal
+
+abbrev pub invariant-loop-d : goal.invariant-loop-d
+invariant-loop-d l = record {
+  slots : length l.slots ≡ length l.entries;
+  twins : HaveTwins (cut 0 l.ends l.entries) (twins_of l.slots);
+  counting : IsCounting (face_classes (cut 0 l.ends l.entries)) (walked (twins_of l.slots)) l.count l.d;
+}

@@ -1,0 +1,68 @@
+//! The faces of a map, counted by walks that overwrite the twins of the darts that they meet.
+ghost use Rattle.std.specs.Prelude.{◌≡◌, ◌+◌, ◌≤◌, ◌<◌, ◌||◌, ℕ, [], List, length, false};
+ghost use Rattle.label_classes.specs.Classes.{class_count, same_class};
+ghost use Rattle.label_classes.proofs.Marks.{KeepsMarks};
+ghost use Rattle.map_lists.specs.Cuts.{cut, AreCuts};
+ghost use Rattle.map_definitions.specs.Maps.{IsSimpleMap, face_images, face_classes, isolated_count};
+ghost use Rattle.euler_faces.specs.Slots.{twins_of, walked, HaveTwins};
+
+use crate::slots::{Slot, WALKED, after};
+
+// Walks the face of the dart `start`, where the faces walked so far are walked whole.
+fn walk_face(entries: &[u16], ends: &[usize], slots: &mut [Slot], start: usize)
+    requires cuts { AreCuts 0 ends.now (length entries.now) }
+    requires simple { IsSimpleMap (cut 0 ends.now entries.now) }
+    requires few { length entries.now < 16777216 }
+    requires slots { length slots.old ≡ length entries.now }
+    requires twins { HaveTwins (cut 0 ends.now entries.now) (twins_of slots.old) }
+    requires start_in { start < length entries.now }
+    requires kept { KeepsMarks (face_images (cut 0 ends.now entries.now)) (walked (twins_of slots.old)) }
+    ensures twins { HaveTwins (cut 0 ends.now entries.now) (twins_of slots.new) }
+    ensures walked { (i : ℕ) → i < length entries.now → walked (twins_of slots.new) i
+        ≡ (walked (twins_of slots.old) i || same_class (face_classes (cut 0 ends.now entries.now)) start i) }
+{
+    let mut d = start;
+    while slots[d].twin != WALKED {
+        let twin = slots[d].twin as usize;
+        slots[d].twin = WALKED;
+        d = after(ends, entries[d] as usize, twin);
+    }
+}
+
+// The number of orbits of the face step, where no dart was walked over.
+pub(crate) fn count_orbits(entries: &[u16], ends: &[usize], slots: &mut [Slot]) -> u32
+    requires cuts { AreCuts 0 ends.now (length entries.now) }
+    requires simple { IsSimpleMap (cut 0 ends.now entries.now) }
+    requires few { length entries.now < 16777216 }
+    requires slots { length slots.old ≡ length entries.now }
+    requires twins { HaveTwins (cut 0 ends.now entries.now) (twins_of slots.old) }
+    requires unwalked { (i : ℕ) → i < length entries.now → walked (twins_of slots.old) i ≡ false }
+    ensures count { result ≡ class_count (face_classes (cut 0 ends.now entries.now)) }
+    ensures few { result ≤ length entries.now }
+{
+    let mut count = 0;
+    for d in 0..entries.len() {
+        if slots[d].twin != WALKED {
+            walk_face(entries, ends, slots, d);
+            count += 1;
+        }
+    }
+    count
+}
+
+// The number of isolated vertices.
+pub(crate) fn count_isolated(ends: &[usize]) -> u32
+    requires { length ends.now < 4096 }
+    ensures count { (entries : List ℕ) → AreCuts 0 ends.now (length entries) → result ≡ isolated_count (cut 0 ends.now entries) }
+    ensures few { result ≤ length ends.now }
+{
+    let mut count = 0;
+    let mut start = 0;
+    for v in 0..ends.len() {
+        if ends[v] == start {
+            count += 1;
+        }
+        start = ends[v];
+    }
+    count
+}

@@ -1,0 +1,11 @@
+-- The lemmas on coverings.
+pub mod Ring
+pub mod Identities
+pub mod Triangle
+pub mod Counts
+pub mod Clash
+pub mod Near
+pub mod Crossing
+pub mod Round
+pub mod Tilted
+pub mod OnEdge

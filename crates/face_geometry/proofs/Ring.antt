@@ -1,0 +1,88 @@
+-- Sums and products of whole numbers: what brings a polynomial into one form, and the signs of products.
+use Rattle.std.proofs.Common.{◌≡◌, ℕ, ◌+◌, ◌*◌, ◌<◌, ◌≤◌, ℤ, pos, negsuc, neg_ℤ, ◌+ℤ◌, ◌-ℤ◌, ◌*ℤ◌, ◌≤ℤ◌, ◌<ℤ◌, sym, ap, ◌∙◌, arith}
+use Rattle.std.proofs.lemmas.Int.{ints}
+use Rattle.std.proofs.Math.IntN.{*ℤ_comm}
+use Rattle.std.proofs.lemmas.Nat.{mul-le}
+use borrow.Author.Differences.{up, down, sum_is_lem, neg_is, product_is, same_out, same_in, Apart-out, lt_out, le_out, lt_in, le_in, below_in, at_most_in}
+
+pub mul_add : (a b c : ℤ) → a *ℤ (b +ℤ c) ≡ (a *ℤ b) +ℤ (a *ℤ c)
+mul_add a b c = omega (arith, ints, ap (λ n. up a * n) (sum_is_lem b c), ap (λ n. down a * n) (sum_is_lem b c))
+
+pub add_mul : (a b c : ℤ) → (a +ℤ b) *ℤ c ≡ (a *ℤ c) +ℤ (b *ℤ c)
+add_mul a b c = omega (arith, ints, ap (λ n. n * up c) (sum_is_lem a b), ap (λ n. n * down c) (sum_is_lem a b))
+
+pub mul_neg : (a b : ℤ) → a *ℤ neg_ℤ b ≡ neg_ℤ (a *ℤ b)
+mul_neg a b = omega (arith, ints, ap (λ n. up a * n) (neg_is b).0, ap (λ n. up a * n) (neg_is b).1, ap (λ n. down a * n) (neg_is b).0, ap (λ n. down a * n) (neg_is b).1)
+
+pub neg_mul : (a b : ℤ) → neg_ℤ a *ℤ b ≡ neg_ℤ (a *ℤ b)
+neg_mul a b = omega (arith, ints, ap (λ n. n * up b) (neg_is a).0, ap (λ n. n * up b) (neg_is a).1, ap (λ n. n * down b) (neg_is a).0, ap (λ n. n * down b) (neg_is a).1)
+
+pub mul_assoc : (a b c : ℤ) → (a *ℤ b) *ℤ c ≡ a *ℤ (b *ℤ c)
+mul_assoc a b c =
+    omega (
+      arith,
+      ints,
+      ap (λ n. n * up c) (product_is a b).0,
+      ap (λ n. n * up c) (product_is a b).1,
+      ap (λ n. n * down c) (product_is a b).0,
+      ap (λ n. n * down c) (product_is a b).1,
+      ap (λ n. up a * n) (product_is b c).0,
+      ap (λ n. up a * n) (product_is b c).1,
+      ap (λ n. down a * n) (product_is b c).0,
+      ap (λ n. down a * n) (product_is b c).1,
+    )
+
+pub mul_left_comm : (a b c : ℤ) → a *ℤ (b *ℤ c) ≡ b *ℤ (a *ℤ c)
+mul_left_comm a b c = sym (mul_assoc a b c) ∙ ap (λ n. n *ℤ c) (*ℤ_comm a b) ∙ mul_assoc b a c
+
+-- a polynomial as a sum of products, with the factors of each in one order
+pub ruleset ring = (mul_add, add_mul, mul_neg, neg_mul, mul_assoc, *ℤ_comm, mul_left_comm)
+
+-- the same for `omega`, to which products are unknowns
+pub ruleset sums = (sum_is_lem, neg_is, same_out, same_in, Apart-out, lt_out, le_out, lt_in, le_in, below_in, at_most_in)
+
+-- signs of products
+pub product_not_negative : (a b : ℤ) → pos 0 ≤ℤ a → pos 0 ≤ℤ b → pos 0 ≤ℤ (a *ℤ b)
+product_not_negative (pos a) (pos b) p q = omega (arith, ints)
+product_not_negative (pos a) (negsuc b) p q = absurd (omega (arith, ints))
+product_not_negative (negsuc a) b p q = absurd (omega (arith, ints))
+
+pub product_positive : (a b : ℤ) → pos 0 <ℤ a → pos 0 <ℤ b → pos 0 <ℤ (a *ℤ b)
+product_positive (pos a) (pos b) p q =
+    let one : 1 * 1 ≤ a * b = mul-le 1 1 a b (omega (arith, ints)) (omega (arith, ints)) in
+    omega (arith, ints)
+product_positive (pos a) (negsuc b) p q = absurd (omega (arith, ints))
+product_positive (negsuc a) b p q = absurd (omega (arith, ints))
+
+pub product_not_positive : (a b : ℤ) → pos 0 ≤ℤ a → b ≤ℤ pos 0 → (a *ℤ b) ≤ℤ pos 0
+product_not_positive a b p q =
+    let n = mul_neg a b in
+    let h = product_not_negative a (neg_ℤ b) p (omega (arith, ints)) in
+    omega (arith, ints)
+
+pub record Signs (a b c : ℤ) : Type 0 where
+  pub both_up : pos 0 ≤ℤ a → pos 0 ≤ℤ b → pos 0 ≤ℤ c
+  pub up_down : pos 0 ≤ℤ a → b ≤ℤ pos 0 → c ≤ℤ pos 0
+  pub down_up : a ≤ℤ pos 0 → pos 0 ≤ℤ b → c ≤ℤ pos 0
+  pub both_down : a ≤ℤ pos 0 → b ≤ℤ pos 0 → pos 0 ≤ℤ c
+  pub both_above : pos 0 <ℤ a → pos 0 <ℤ b → pos 0 <ℤ c
+  pub above_below : pos 0 <ℤ a → b <ℤ pos 0 → c <ℤ pos 0
+  pub below_above : a <ℤ pos 0 → pos 0 <ℤ b → c <ℤ pos 0
+  pub both_below : a <ℤ pos 0 → b <ℤ pos 0 → pos 0 <ℤ c
+
+-- the sign of a product, by those of its factors
+pub product_signs : (a b : ℤ) → Signs a b (a *ℤ b)
+product_signs a b =
+    let n = mul_neg a b in
+    let m = neg_mul a b in
+    let nn = neg_mul a (neg_ℤ b) in
+    record {
+      both_up = product_not_negative a b;
+      up_down = λ p q. let h = product_not_negative a (neg_ℤ b) p (omega (arith, ints)) in omega (arith, sums);
+      down_up = λ p q. let h = product_not_negative (neg_ℤ a) b (omega (arith, ints)) q in omega (arith, sums);
+      both_down = λ p q. let h = product_not_negative (neg_ℤ a) (neg_ℤ b) (omega (arith, ints)) (omega (arith, ints)) in omega (arith, sums);
+      both_above = product_positive a b;
+      above_below = λ p q. let h = product_positive a (neg_ℤ b) p (omega (arith, ints)) in omega (arith, sums);
+      below_above = λ p q. let h = product_positive (neg_ℤ a) b (omega (arith, ints)) q in omega (arith, sums);
+      both_below = λ p q. let h = product_positive (neg_ℤ a) (neg_ℤ b) (omega (arith, ints)) (omega (arith, ints)) in omega (arith, sums);
+    }

@@ -1,0 +1,12 @@
+-- The definitions that the laws cite, run on a small map.
+use Rattle.std.proofs.Common.{◌≡◌, ◌+◌, eqb, not, [], ◌∷◌, refl}
+use Rattle.map_lists.specs.Lists.{Lists}
+use Rattle.map_edits.specs.Kept.{with_kept}
+
+-- the tetrahedron
+abbrev tetrahedron : Lists
+tetrahedron = (1 ∷ 3 ∷ 2 ∷ []) ∷ (0 ∷ 2 ∷ 3 ∷ []) ∷ (0 ∷ 3 ∷ 1 ∷ []) ∷ (0 ∷ 1 ∷ 2 ∷ []) ∷ []
+
+-- without the edges 0-3 and 1-2 it is a square
+square_kept : with_kept (λ v u. not (eqb (v + u) 3)) tetrahedron ≡ (1 ∷ 2 ∷ []) ∷ (0 ∷ 3 ∷ []) ∷ (0 ∷ 3 ∷ []) ∷ (1 ∷ 2 ∷ []) ∷ []
+square_kept = refl

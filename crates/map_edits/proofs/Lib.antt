@@ -1,0 +1,5 @@
+-- The laws of edges put in and of edges kept.
+mod Cases
+pub mod EdgeComponents
+pub mod EdgeAdded
+pub mod KeptEdges

@@ -1,6 +1,0 @@
-use Rattle.std.proofs.Common.{length, ap, arith}
-use Rattle.map_lists.proofs.CutLemmas.{length-cut}
-use Rattle.map_lists.proofs.lists.PathList.len.Goals as goal
-
-pub returns : goal.returns
-returns c = omega (arith, length-cut 0 c.self.inside.ends.items c.self.inside.entries.items, ap length c.self.view_is)

@@ -1,0 +1,76 @@
+//! Lists of copied items.
+ghost use Rattle.std.specs.Prelude.{◌≡◌, ◌<◌, [], ◌∷◌, ◌++◌, length, slice_get, Some, OnOk, OnErr};
+
+use crate::VertexId;
+use std::alloc::{AllocError, Global};
+use std::marker::Model;
+
+/// An edge, by its two ends. The first is the lesser; edges are in order by it and then by the second.
+#[derive(Clone, Copy, Debug, PartialEq, Eq)]
+pub struct Ends {
+    /// The lesser end.
+    pub a: VertexId,
+    /// The greater end.
+    pub b: VertexId,
+    pub ghost rising: { a.0 < b.0 },
+}
+
+/// A list of numbers.
+pub type Counts = ItemList<u32>;
+
+/// A list of vertices.
+pub type VertexList = ItemList<VertexId>;
+
+/// A list of edges.
+pub type EdgeList = ItemList<Ends>;
+
+/// A list of items. Contracts see it as just that.
+#[derive(Drop)]
+pub struct ItemList<T: Copy> {
+    items: Vec<T>,
+}
+
+impl<T: Copy> Model for ItemList<T> {
+    ghost use Rattle.std.specs.Prelude.{List};
+
+    ghost Value = { List T };
+
+    ghost view = { λ l. l.items.items };
+}
+
+impl<T: Copy> ItemList<T> {
+    /// The empty list. It takes no memory.
+    pub fn new(alloc: Global) -> Self
+        ensures { result ≡ [] }
+    {
+        ItemList {
+            items: Vec::new(alloc),
+        }
+    }
+
+    /// Appends an item. After an error nothing has changed.
+    pub fn push(&mut self, item: T) -> Result<(), AllocError>
+        ensures ok { OnOk result (self.new ≡ self.old ++ item ∷ []) }
+        ensures err { OnErr result (self.new ≡ self.old) }
+    {
+        match self.items.push(item) {
+            Ok(()) => Ok(()),
+            Err(_) => Err(AllocError),
+        }
+    }
+
+    /// The number of items.
+    pub fn len(&self) -> usize
+        ensures { result ≡ length self.now }
+    {
+        self.items.len()
+    }
+
+    /// Item number `i`, from 0.
+    pub fn get(&self, i: usize) -> T
+        requires { i < length self.now }
+        ensures { slice_get self.now i ≡ Some result }
+    {
+        self.items[i]
+    }
+}

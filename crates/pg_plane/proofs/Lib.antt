@@ -1,0 +1,3 @@
+-- Lemmas on products of bounded numbers, and on directions.
+pub mod Products
+pub mod Directions

@@ -1,0 +1,121 @@
+//! Points and directions.
+ghost use Rattle.std.specs.Prelude.{◌≡◌, ◌↔◌, ◌-ℤ◌, ◌*ℤ◌, pos, IsTrue};
+ghost use Rattle.pg_plane.specs.Geometry.{area, cross, IsBetween, IsOnSegment, AreOpposite, DoCross, IsFirstHalf, IsClockBefore};
+ghost use Rattle.pg_plane.specs.Range.{IsWithin, IsInRange, IsDirection};
+
+/// A point of the grid, or a direction. Coordinates are from -2^20 to 2^20, those of a direction from
+/// -2^21 to 2^21, wherever a call asks for it.
+#[derive(Clone, Copy, Debug, PartialEq, Eq)]
+pub struct Point {
+    /// How far to the right.
+    pub x: i32,
+    /// How far up.
+    pub y: i32,
+}
+
+// How far it is from `s` to `t`.
+fn difference(s: i32, t: i32) -> i64
+    requires s { IsWithin (pos 1048576) s }
+    requires t { IsWithin (pos 1048576) t }
+    ensures value { result ≡ t -ℤ s }
+    ensures range { IsWithin (pos 2097152) result }
+{
+    i64::from(t) - i64::from(s)
+}
+
+// The product of two differences of coordinates.
+fn product(u: i64, v: i64) -> i64
+    requires u { IsWithin (pos 2097152) u }
+    requires v { IsWithin (pos 2097152) v }
+    ensures value { result ≡ u *ℤ v }
+    ensures range { IsWithin (pos 4398046511104) result }
+{
+    u * v
+}
+
+/// Twice the area of the triangle `a`, `b`, `c`: positive where `c` lies to the left of the way from `a`
+/// to `b`, and zero where the three are in line.
+pub fn area2(a: Point, b: Point, c: Point) -> i64
+    requires a { IsInRange a }
+    requires b { IsInRange b }
+    requires c { IsInRange c }
+    ensures { result ≡ area a b c }
+{
+    product(difference(a.x, b.x), difference(a.y, c.y))
+        - product(difference(a.x, c.x), difference(a.y, b.y))
+}
+
+// Whether a number is between two others, or one of them.
+fn is_between(s: i32, t: i32, v: i32) -> bool
+    ensures { IsTrue result ↔ IsBetween s t v }
+{
+    (s <= v && v <= t) || (t <= v && v <= s)
+}
+
+// Whether `p` lies in the box of `a` and `b`.
+fn is_in_box(p: Point, a: Point, b: Point) -> bool
+    ensures { IsTrue result ↔ (IsBetween a.x b.x p.x × IsBetween a.y b.y p.y) }
+{
+    is_between(a.x, b.x, p.x) && is_between(a.y, b.y, p.y)
+}
+
+/// Whether `p` lies on the segment from `a` to `b`, its ends included.
+pub fn on_segment(p: Point, a: Point, b: Point) -> bool
+    requires p { IsInRange p }
+    requires a { IsInRange a }
+    requires b { IsInRange b }
+    ensures { IsTrue result ↔ IsOnSegment p a b }
+{
+    area2(a, b, p) == 0 && is_in_box(p, a, b)
+}
+
+// Whether one of two numbers is negative and the other positive.
+fn are_opposite(s: i64, t: i64) -> bool
+    ensures { IsTrue result ↔ AreOpposite s t }
+{
+    (s < 0 && 0 < t) || (0 < s && t < 0)
+}
+
+/// Whether the segments from `a` to `b` and from `c` to `d` cross: each has its ends strictly on the two
+/// sides of the other.
+pub fn crosses(a: Point, b: Point, c: Point, d: Point) -> bool
+    requires a { IsInRange a }
+    requires b { IsInRange b }
+    requires c { IsInRange c }
+    requires d { IsInRange d }
+    ensures { IsTrue result ↔ DoCross a b c d }
+{
+    are_opposite(area2(a, b, c), area2(a, b, d)) && are_opposite(area2(c, d, a), area2(c, d, b))
+}
+
+// Whether a direction is west or leads up.
+fn is_first_half(d: Point) -> bool
+    ensures { IsTrue result ↔ IsFirstHalf d }
+{
+    0 < d.y || (d.y == 0 && d.x < 0)
+}
+
+// Twice the area between two directions.
+fn cross2(d: Point, e: Point) -> i64
+    requires d { IsDirection d }
+    requires e { IsDirection e }
+    ensures { result ≡ cross d e }
+{
+    product(i64::from(d.x), i64::from(e.y)) - product(i64::from(e.x), i64::from(d.y))
+}
+
+/// Whether direction `d` comes strictly before direction `e` in the clockwise order that starts at west.
+/// No coordinate of the two is beyond 2^21 in size, and neither is (0, 0).
+pub fn clock_before(d: Point, e: Point) -> bool
+    requires d { IsDirection d }
+    requires e { IsDirection e }
+    ensures { IsTrue result ↔ IsClockBefore d e }
+{
+    let d_first = is_first_half(d);
+    let e_first = is_first_half(e);
+    if d_first == e_first {
+        cross2(d, e) < 0
+    } else {
+        d_first
+    }
+}

@@ -1,0 +1,20 @@
+-- The lists of a map as one row of entries, as a pass over it sees them: entry d is the head of dart number d.
+use Rattle.std.specs.Prelude.{ℕ, ◌<◌, ◌≤◌, ◌≡◌, ◌≢◌, List, slice_index}
+
+-- the entries from start on and before end hold no number twice, and not v
+pub record IsSimpleList (entries : List ℕ) (start end v : ℕ) : Type 0 where
+  pub distinct : (i j : ℕ) → start ≤ i → i < j → j < end → slice_index entries i ≢ slice_index entries j
+  pub no_loop : (i : ℕ) → start ≤ i → i < end → slice_index entries i ≢ v
+
+-- the darts from start on and before end leave v, and no twin of theirs is known; those before are as they were
+pub record IsPlaced (tails twins tails' twins' : List ℕ) (start end v : ℕ) : Type 0 where
+  pub tail_kept : (d : ℕ) → d < start → slice_index tails' d ≡ slice_index tails d
+  pub twin_kept : (d : ℕ) → d < start → slice_index twins' d ≡ slice_index twins d
+  pub tail_here : (d : ℕ) → start ≤ d → d < end → slice_index tails' d ≡ v
+  pub twin_here : (d : ℕ) → start ≤ d → d < end → 16777216 ≤ slice_index twins' d
+
+-- of the first n darts each has, where its twin is known, one of them for a twin: the head of each is the tail of the other
+abbrev pub AreMutual : List ℕ → List ℕ → List ℕ → ℕ → Type 0
+AreMutual entries tails twins n =
+    (d : ℕ) → d < n → slice_index twins d < 16777216
+    → (slice_index twins d < n) × (slice_index entries (slice_index twins d) ≡ slice_index tails d) × (slice_index tails (slice_index twins d) ≡ slice_index entries d)

@@ -1,0 +1,170 @@
+//! One pass over lists, which finds the twins of their darts where they are a simple map.
+//!
+//! Each dart that a list holds is threaded by its head, so that those that lead to a vertex are at hand
+//! when its own list comes up; and the newest of each head tells whether a list holds a number twice. What
+//! the threads say is tried before it is written, and where they do not lead to a twin the pass gives up:
+//! it answers that lists are a simple map, and never that they are none.
+ghost use Rattle.std.specs.Prelude.{◌≡◌, ◌+◌, ◌^◌, ◌<◌, ◌≤◌, ℕ, length, map, slice_index, All};
+ghost use Rattle.std.specs.Bool.{OnTrue};
+ghost use Rattle.map_lists.specs.Cuts.{cut, AreCuts};
+ghost use Rattle.simple_maps.specs.Tables.{AreSlots};
+ghost use Rattle.simple_maps.specs.Pass.{IsSimpleList, IsPlaced, AreMutual};
+
+/// What a table keeps of a dart: its tail, and the number of its twin.
+pub trait DartSlot: Copy {
+    ghost tail_of: { Self → ℕ };
+
+    ghost twin_of: { Self → ℕ };
+
+    /// A dart from `tail`, with this twin.
+    fn new(tail: u16, twin: u32) -> Self
+        ensures tail { tail_of result ≡ tail }
+        ensures twin { twin_of result ≡ twin };
+
+    /// The vertex that the dart leaves.
+    fn tail(&self) -> u16
+        ensures { result ≡ tail_of self.now };
+
+    /// The number of the twin.
+    fn twin(&self) -> u32
+        ensures { result ≡ twin_of self.now };
+}
+
+// More than any dart's number: what stands in place of a twin's number, where the twin is not known.
+pub(crate) const NO_PLACE: u32 = 1 << 24;
+
+// A thread names place d of the entries by d more than this.
+const FIRST_PLACE: u32 = NO_PLACE + 1;
+
+// The place that a thread names, or any other number where it names none.
+fn place_named(link: u32) -> usize {
+    link.wrapping_sub(FIRST_PLACE) as usize
+}
+
+// Whether all entries are below `n`.
+fn are_below(entries: &[u16], n: usize) -> bool
+    ensures { OnTrue result (All (λ u. u < n) entries.now) }
+{
+    let mut greatest = 0;
+    for u in entries {
+        greatest = greatest.max(*u);
+    }
+    (greatest as usize) < n
+}
+
+// Whether all darts have a twin.
+fn are_paired<P: DartSlot>(slots: &[P]) -> bool
+    ensures { OnTrue result (All (λ t. t < 16777216) (map P.twin_of slots.now)) }
+{
+    let mut greatest = 0;
+    for slot in slots {
+        greatest = greatest.max(slot.twin());
+    }
+    greatest < NO_PLACE
+}
+
+// Threads the darts of v's list, which are those from `start` on and before `end`. It answers whether the
+// list holds no number twice and not v.
+fn thread_list<P: DartSlot>(
+    entries: &[u16],
+    start: usize,
+    end: usize,
+    v: u16,
+    slots: &mut [P],
+    newest: &mut [u32],
+) -> bool
+    requires order { start ≤ end }
+    requires within { end ≤ length entries.now }
+    requires few { length entries.now < 16777216 }
+    requires slots { length slots.old ≡ length entries.now }
+    requires v_in { v < length newest.old }
+    requires numbers { All (λ u. u < length newest.old) entries.now }
+    requires unset { All (λ m. 16777216 ≤ m) newest.old }
+    ensures unset { All (λ m. 16777216 ≤ m) newest.new }
+    ensures list { OnTrue result (IsSimpleList entries.now start end v) }
+    ensures placed { OnTrue result (IsPlaced (map P.tail_of slots.old) (map P.twin_of slots.old)
+        (map P.tail_of slots.new) (map P.twin_of slots.new) start end v) }
+{
+    let base = FIRST_PLACE + start as u32;
+    newest[v as usize] = base;
+    for d in start..end {
+        let u = entries[d];
+        let older = newest[u as usize];
+        if older >= base {
+            return false;
+        }
+        slots[d] = P::new(v, older);
+        newest[u as usize] = FIRST_PLACE + d as u32;
+    }
+    true
+}
+
+// Pairs the darts of v's list with those to v in the lists before, along their thread.
+fn pair_list<P: DartSlot>(
+    entries: &[u16],
+    start: usize,
+    end: usize,
+    v: u16,
+    thread: u32,
+    slots: &mut [P],
+    newest: &[u32],
+)
+    requires order { start ≤ end }
+    requires within { end ≤ length entries.now }
+    requires few { length entries.now < 16777216 }
+    requires slots { length slots.old ≡ length entries.now }
+    requires tails { (d : ℕ) → d < start → slice_index (map P.tail_of slots.old) d < length newest.now }
+    requires here { (d : ℕ) → start ≤ d → d < end → slice_index (map P.tail_of slots.old) d ≡ v }
+    requires pairs { AreMutual entries.now (map P.tail_of slots.old) (map P.twin_of slots.old) end }
+    ensures tails { (d : ℕ) → slice_index (map P.tail_of slots.new) d ≡ slice_index (map P.tail_of slots.old) d }
+    ensures pairs { AreMutual entries.now (map P.tail_of slots.new) (map P.twin_of slots.new) end }
+{
+    let mut link = thread;
+    'along: for _ in start..end {
+        let d = place_named(link);
+        if d >= start {
+            return;
+        }
+        let tail = slots[d].tail();
+        let twin = place_named(newest[tail as usize]);
+        if twin < start || twin >= end || entries[twin] != tail || entries[d] != v {
+            return;
+        }
+        link = slots[d].twin();
+        slots[d] = P::new(tail, twin as u32);
+        slots[twin] = P::new(v, d as u32);
+    }
+}
+
+// Whether lists are found to be a simple map, and then the slots of their darts. No twin is known before,
+// and no thread: each of `newest` is `NO_PLACE`.
+pub(crate) fn finds_slots<P: DartSlot>(
+    entries: &[u16],
+    ends: &[usize],
+    slots: &mut [P],
+    newest: &mut [u32],
+) -> bool
+    requires some_list { 0 < length ends.now }
+    requires few_lists { length ends.now < 4096 }
+    requires cuts { AreCuts 0 ends.now (length entries.now) }
+    requires few { length entries.now < 16777216 }
+    requires slots { length slots.old ≡ length entries.now }
+    requires newest { length newest.old ≡ length ends.now }
+    requires unset { All (λ m. 16777216 ≤ m) newest.old }
+    ensures { OnTrue result (AreSlots (cut 0 ends.now entries.now) (map P.tail_of slots.new) (map P.twin_of slots.new)) }
+{
+    if !are_below(entries, ends.len()) {
+        return false;
+    }
+    let mut start = 0;
+    for v in 0..ends.len() {
+        let end = ends[v];
+        let thread = newest[v];
+        if !thread_list(entries, start, end, v as u16, slots, newest) {
+            return false;
+        }
+        pair_list(entries, start, end, v as u16, thread, slots, newest);
+        start = end;
+    }
+    are_paired(slots)
+}
