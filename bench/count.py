@@ -1,11 +1,15 @@
 #!/usr/bin/env python3
-"""How fast `pigale count` is, beside a plain C program that only walks the bytes.
+"""How fast `pigale count` is, beside a plain C program that does the same work (plain_count.c).
 
-Makes its inputs under bench/out/, runs each program a few times, and prints for each input the best
-time and the bytes a second. Not part of the gate.
+  count.py            instructions a byte on inputs of a million bytes, counted by valgrind
+  count.py --seconds  seconds and peak memory on inputs of 16 MiB
+
+Makes its inputs under bench/out/, the same ones each time. Wants a C compiler, and valgrind for the
+first. Not part of the gate.
 """
 import os
 import random
+import re
 import subprocess
 import sys
 import time
@@ -13,122 +17,116 @@ import time
 HERE = os.path.dirname(os.path.abspath(__file__))
 OUT = os.path.join(HERE, "out")
 PROGRAM = os.path.join(HERE, "..", "crates", "pigale", "out", "pigale")
-SIZE = 1 << 24
+PLAIN = os.path.join(OUT, "plain_count")
 
-WALKER = r"""
-#include <stdio.h>
-#include <stdlib.h>
-int main(void) {
-    static unsigned char buffer[4096];
-    unsigned long sum = 0, zeros = 0;
-    size_t got;
-    while ((got = fread(buffer, 1, sizeof buffer, stdin)) > 0)
-        for (size_t i = 0; i < got; i++) { sum += buffer[i]; zeros += buffer[i] == 0; }
-    printf("%lu %lu\n", sum, zeros);
-    return 0;
-}
-"""
+source = random.Random(1)
 
 
-def stacked(n, number):
-    """A triangulated plane map on n vertices: each new vertex goes into an inner face."""
+def triangulation(n):
+    """A triangulated plane map on n vertices: each new vertex goes into a face."""
     lists = {1: [2, 3], 2: [3, 1], 3: [1, 2]}
     faces = [(1, 3, 2)]
-    z = number
     for k in range(4, n + 1):
-        z = (z * 1103515245 + 12345) % 2**32
-        i = (z // 65536) % len(faces)
+        i = source.randrange(len(faces))
         a, b, c = faces[i]
         lists[k] = [a, c, b]
         for v, after in ((a, c), (b, a), (c, b)):
-            at = lists[v].index(after)
-            lists[v].insert(at + 1, k)
+            lists[v].insert(lists[v].index(after) + 1, k)
         faces[i] = (a, b, k)
         faces += [(b, c, k), (c, a, k)]
-    return [lists[v] for v in range(1, n + 1)]
+    return renumbered([lists[v] for v in range(1, n + 1)])
 
 
-def narrow(lists):
-    out = bytearray([len(lists)])
-    for us in lists:
-        out += bytes(us) + b"\0"
-    return bytes(out)
+def tree(n):
+    lists = [[] for _ in range(n)]
+    for v in range(1, n):
+        u = source.randrange(v)
+        lists[u].insert(source.randrange(len(lists[u]) + 1), v + 1)
+        lists[v].append(u + 1)
+    return renumbered(lists)
 
 
-def wide(lists):
-    out = bytearray(b"\0" + len(lists).to_bytes(2, "big"))
-    for us in lists:
-        for u in us:
-            out += u.to_bytes(2, "big")
-        out += b"\0\0"
-    return bytes(out)
+def path(n):
+    return renumbered([[u for u in (v - 1, v + 1) if 1 <= u <= n] for v in range(1, n + 1)])
 
 
-def fill(records):
+def complete(n):
+    return [[u for u in range(1, n + 1) if u != v] for v in range(1, n + 1)]
+
+
+def renumbered(lists):
+    """The same map, with its vertices numbered anew at random."""
+    number = list(range(1, len(lists) + 1))
+    source.shuffle(number)
+    out = [None] * len(lists)
+    for v, us in enumerate(lists):
+        out[number[v] - 1] = [number[u - 1] for u in us]
+    return out
+
+
+def record(lists):
+    if len(lists) < 256:
+        return bytes([len(lists)]) + b"".join(bytes(us) + b"\0" for us in lists)
+    two = lambda u: u.to_bytes(2, "big")
+    return b"\0" + two(len(lists)) + b"".join(b"".join(map(two, us)) + b"\0\0" for us in lists)
+
+
+def fill(records, size):
     """Whole records, again and again, up to the size."""
     out, i = bytearray(), 0
-    while len(out) + len(records[i % len(records)]) <= SIZE:
+    while not out or len(out) + len(records[i % len(records)]) <= size:
         out += records[i % len(records)]
         i += 1
-    return bytes(out), i
+    return bytes(out)
 
 
-def inputs():
-    source = random.Random(1)
-    small = [narrow(stacked(source.randrange(10, 61), source.randrange(2**32))) for _ in range(500)]
-    yield "small records", *fill(small)
-    yield "records of 255", *fill([narrow(stacked(255, k)) for k in range(20)])
-    n = 2800
-    yield "complete graph on 2800", wide([[u for u in range(1, n + 1) if u != v] for v in range(1, n + 1)]), 1
+def inputs(size):
+    some = lambda count, make: [record(make()) for _ in range(count)]
+    side = int(((size - 3) / 2) ** 0.5)
+    yield "triangulations of 10 to 60 vertices", fill(some(400, lambda: triangulation(source.randrange(10, 61))), size)
+    yield "triangulations of 255 vertices", fill(some(20, lambda: triangulation(255)), size)
+    yield "one complete graph, wide", record(complete(min(side - 1, 2800)))
+    yield "trees and paths of 20 to 254", fill(some(200, lambda: source.choice((tree, path))(source.randrange(20, 255))), size)
+    yield "trees and paths of 4,000, wide", fill([record(path(4000)), record(tree(4000))], size)
+    yield "triangulations of 6 to 12 vertices", fill(some(400, lambda: triangulation(source.randrange(6, 13))), size)
+    yield "triangulations of 4,095, wide", fill(some(2, lambda: triangulation(4095)), size)
 
 
-def best(command, data, times=3):
-    seconds = []
-    for _ in range(times):
-        with open(data, "rb") as source:
-            begun = time.perf_counter()
-            done = subprocess.run(command, stdin=source, stdout=subprocess.DEVNULL)
-            seconds.append(time.perf_counter() - begun)
-        if done.returncode not in (0, 1):
-            sys.exit(f"{command[0]} ended with {done.returncode}")
-    return min(seconds)
+def instructions(command, data):
+    done = subprocess.run(["valgrind", "--tool=cachegrind", "--cache-sim=no", "--cachegrind-out-file=/dev/null", *command],
+                          stdin=open(data, "rb"), stdout=subprocess.DEVNULL, stderr=subprocess.PIPE, text=True)
+    return int(re.search(r"I *refs: *([\d,]+)", done.stderr).group(1).replace(",", ""))
+
+
+def seconds(command, data):
+    times, most = [], 0
+    for _ in range(3):
+        begun = time.perf_counter()
+        child = subprocess.Popen(command, stdin=open(data, "rb"), stdout=subprocess.DEVNULL)
+        _, status, used = os.wait4(child.pid, 0)
+        times.append(time.perf_counter() - begun)
+        most = max(most, used.ru_maxrss)
+        if os.waitstatus_to_exitcode(status) not in (0, 1):
+            sys.exit(f"{command[0]} ended with {status}")
+    return min(times), most / 1024
 
 
 def main():
+    by_seconds = "--seconds" in sys.argv[1:]
     os.makedirs(OUT, exist_ok=True)
-    walker = os.path.join(OUT, "walker")
-    with open(walker + ".c", "w") as source:
-        source.write(WALKER)
-    subprocess.run(["cc", "-O2", "-o", walker, walker + ".c"], check=True)
-    for name, data, records in inputs():
-        for part in (4, 2, 1):
-            if part > 1 and records == 1:
-                continue
-            piece = data[: len(data) // part] if records == 1 else data
-            if part > 1:
-                # the same records, fewer of them
-                piece, count = b"", 0
-                at = 0
-                target = len(data) // part
-                n = data[0]
-                while at < target:
-                    zeros, end = 0, at + 1
-                    while zeros < data[at]:
-                        zeros += data[end] == 0
-                        end += 1
-                    at = end
-                    count += 1
-                piece = data[:at]
-            else:
-                count = records
-            path = os.path.join(OUT, "input.plc")
-            with open(path, "wb") as out:
-                out.write(piece)
-            ours = best([PROGRAM, "count"], path)
-            plain = best([walker], path)
-            print(f"{name}: {len(piece)} bytes, {count} records: pigale {ours:.3f} s, "
-                  f"{len(piece) / ours / 1e6:.1f} MB/s; walking the bytes {plain:.3f} s, "
-                  f"{len(piece) / plain / 1e6:.0f} MB/s")
+    subprocess.run(["cc", "-O2", "-o", PLAIN, os.path.join(HERE, "plain_count.c")], check=True)
+    for name, data in inputs(15_800_000 if by_seconds else 1 << 20):
+        path_ = os.path.join(OUT, "input.plc")
+        with open(path_, "wb") as out:
+            out.write(data)
+        if by_seconds:
+            ours, memory = seconds([PROGRAM, "count"], path_)
+            plain, _ = seconds([PLAIN], path_)
+            print(f"{name}: {len(data)} bytes, pigale {ours:.3f} s, {memory:.0f} MB at most; plain C {plain:.3f} s", flush=True)
+        else:
+            ours = instructions([PROGRAM, "count"], path_) / len(data)
+            plain = instructions([PLAIN], path_) / len(data)
+            print(f"{name}: {ours:.1f} instructions a byte, plain C {plain:.1f}, {ours / plain:.2f} times", flush=True)
 
 
 main()

@@ -3,3 +3,6 @@ mod Cases
 pub mod EdgeComponents
 pub mod EdgeAdded
 pub mod KeptEdges
+pub mod InsertedEntry
+pub mod WithEdge
+pub mod VertexSmoothed

@@ -4,6 +4,26 @@
 
 ghost use Rattle.map_edits.specs.Added.{EdgeInFace, EdgeBetween};
 ghost use Rattle.map_edits.specs.Kept.{KeptEdges};
+ghost use Rattle.map_edits.specs.Smoothed.{VertexSmoothed};
+ghost use Rattle.map_edits.specs.WithEdge.{EdgePutBetween, EdgePutInFace, WithEdge};
+
+/// An edge may be put between any two vertices that are not adjacent, at any places of their lists: the
+/// lists with it are a simple map, and without it the old ones.
+pub fn with_edge()
+    ensures { WithEdge }
+{}
+
+/// An edge put between two corners of one face of a map of genus zero, in the words of the map before:
+/// a map of genus zero, with one face more and as many components.
+pub fn edge_put_in_face()
+    ensures { EdgePutInFace }
+{}
+
+/// An edge put between two components, at any places of the two lists, in the words of the map before:
+/// a map of genus zero, with one face and one component less.
+pub fn edge_put_between()
+    ensures { EdgePutBetween }
+{}
 
 /// An edge between two corners of one face of a map of genus zero gives a map of genus zero, with one
 /// face more and as many components.
@@ -21,4 +41,10 @@ pub fn edge_between()
 /// follows an entry is what followed it, or where that is not kept and what followed that is, that.
 pub fn kept_edges()
     ensures { KeptEdges }
+{}
+
+/// Where a vertex of a map of genus zero has just two neighbours, which are not adjacent, the map in
+/// which it is taken out of its edge, and its neighbours are adjacent, has genus zero.
+pub fn vertex_smoothed()
+    ensures { VertexSmoothed }
 {}

@@ -1,0 +1,3 @@
+-- The lemmas on drawings.
+pub mod ByDarts
+pub mod OfLists
