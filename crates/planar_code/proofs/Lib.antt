@@ -15,3 +15,4 @@ pub mod FrontLemmas
 pub mod NextLemmas
 pub mod ReadingLemmas
 pub mod ReadsLemmas
+pub mod WriteLemmas
