@@ -9,3 +9,4 @@ pub mod VertexSmoothed
 pub mod Chords
 pub mod Extended
 pub mod Completions
+pub mod OuterEars
