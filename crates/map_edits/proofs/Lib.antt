@@ -10,3 +10,4 @@ pub mod Chords
 pub mod Extended
 pub mod Completions
 pub mod OuterEars
+pub mod OuterFaces
