@@ -6,8 +6,10 @@
 //! each byte once. `laws` says of all inputs that each is read in one way at most.
 #![tactic(auto)]
 
+mod gather;
 pub mod laws;
 mod next;
+mod open;
 mod reader;
 mod scan;
 
