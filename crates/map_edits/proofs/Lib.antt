@@ -9,3 +9,5 @@ pub mod VertexSmoothed
 pub mod Chords
 pub mod Extended
 pub mod Completions
+pub mod OuterEars
+pub mod OuterFaces

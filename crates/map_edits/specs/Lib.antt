@@ -5,3 +5,4 @@ pub mod WithEdge
 pub mod Smoothed
 pub mod Chords
 pub mod Completed
+pub mod OuterFaces

@@ -6,6 +6,7 @@ ghost use Rattle.map_edits.specs.Added.{EdgeInFace, EdgeBetween};
 ghost use Rattle.map_edits.specs.Chords.{CornerChord, EarCut, OneChord, SomeEar};
 ghost use Rattle.map_edits.specs.Completed.{Completion};
 ghost use Rattle.map_edits.specs.Kept.{KeptEdges};
+ghost use Rattle.map_edits.specs.OuterFaces.{OuterEar};
 ghost use Rattle.map_edits.specs.Smoothed.{VertexSmoothed};
 ghost use Rattle.map_edits.specs.WithEdge.{EdgePutBetween, EdgePutInFace, WithEdge, WithEdgeAfter};
 
@@ -84,4 +85,10 @@ pub fn ear_cut()
 /// 3n - 6 edges that are a map of genus zero and keep the order of the old entries.
 pub fn completion()
     ensures { Completion }
+{}
+
+/// Where a face of a map of genus zero meets each vertex once, there is an ear beside each of its darts:
+/// a vertex with no neighbour between those before and after it on the face.
+pub fn outer_ear()
+    ensures { OuterEar }
 {}
