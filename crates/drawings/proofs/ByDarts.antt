@@ -15,7 +15,7 @@ use Rattle.pg_plane.specs.Geometry.{area}
 use Rattle.face_geometry.specs.Faced.{in_base, IsFaced, IsTailed, IsOnFace, turn}
 use Rattle.face_geometry.proofs.Faces.{face_back, face_then}
 use Rattle.drawings.specs.Drawing.{place, IsCounterclockwise}
-use Rattle.drawings.specs.Law.{IsCompleted}
+use Rattle.plane_laws.specs.Completed.{IsCompleted}
 
 or_right : (x : Bool) → (x || true) ≡ true
 or_right true = refl
@@ -58,7 +58,7 @@ module _ (lists : Lists) (points : List Point) (base : Dart) (c : IsCompleted li
       let l2 = steps.within (h i) l1 in
       let l3 = steps.within (h (h i)) l2 in
       let round : dart_of lists (h (h (h i))) ≡ dart_of lists i =
-      dart_of-step (h (h i)) l2 ∙ ap (face_step lists) (dart_of-step (h i) l1 ∙ ap (face_step lists) (dart_of-step i l)) ∙ triangles_where_met lists c.simple c.plane c.some c.full (dart_of lists i) (has_dart i l) in
+      dart_of-step (h (h i)) l2 ∙ ap (face_step lists) (dart_of-step (h i) l1 ∙ ap (face_step lists) (dart_of-step i l)) ∙ triangles_where_met lists c.simple c.plane c.some c.edges (dart_of lists i) (has_dart i l) in
       sym (dart_of-number lists c.simple (h (h (h i))) l3).number ∙ ap (dart_number lists) round ∙ (dart_of-number lists c.simple i l).number
 
   head : (i : ℕ) → i < k → tail_of lists (h i) ≡ tail_of lists (g i)

@@ -13,7 +13,7 @@ use Rattle.face_geometry.specs.Faced.{turn}
 use Rattle.face_geometry.specs.Law.{IsPlaneByDarts, direction}
 use Rattle.face_geometry.proofs.Counts.{count_one}
 use Rattle.drawings.specs.Drawing.{place, IsPlaneDrawing, IsBreak, GoesOnceRound, KeepsRotations}
-use Rattle.drawings.specs.Law.{IsCompleted}
+use Rattle.plane_laws.specs.Completed.{IsCompleted}
 use Rattle.drawings.proofs.ByDarts.{k, g, h, at}
 
 module _ (lists : Lists) (points : List Point) (c : IsCompleted lists) (thrice : (i : ℕ) → i < dart_count lists → rotation lists (twin lists (rotation lists (twin lists (rotation lists (twin lists i))))) ≡ i) (p : IsPlaneByDarts (dart_count lists) (twin lists) (λ i. rotation lists (twin lists i)) (λ i. place points (tail_of lists i)) (tail_of lists)) where
@@ -37,7 +37,7 @@ module _ (lists : Lists) (points : List Point) (c : IsCompleted lists) (thrice :
   -- each vertex has a dart
   some_dart : (v : ℕ) → v < length lists → (u : ℕ) × HasDart lists v u
   some_dart v l =
-      let alone = none_isolated lists c.simple (let one = met_connected lists c.simple c.plane c.some c.full in omega arith) c.some in
+      let alone = none_isolated lists c.simple (let one = met_connected lists c.simple c.plane c.some c.edges in omega arith) c.some in
       let counted = count_by-count_below is_empty_list lists [] in
       by_list (list_of lists v) refl
       (λ e. let one = count_one (λ i. is_empty_list (get_or lists i [])) (length lists) v l (ap is_empty_list e) in omega arith)
