@@ -4,4 +4,5 @@ pub mod Edges
 pub mod Induced
 pub mod Links
 pub mod Map
+pub mod Rounds
 pub mod Tables

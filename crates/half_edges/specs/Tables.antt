@@ -6,6 +6,7 @@ use Rattle.half_edges.specs.Map.{Map}
 use Rattle.half_edges.specs.Arena.{record_at, vertex_at}
 use Rattle.half_edges.specs.declared.arena.DartRecord.{DartRecord}
 use Rattle.half_edges.specs.declared.arena.VertexRecord.{VertexRecord}
+use Rattle.simple_maps.specs.Tables.{AreTables}
 
 -- the map of these tables: a dart's id is its number
 abbrev pub map_of : Lists → List Dart → Map
@@ -29,3 +30,12 @@ pub record AreTableVertices (lists : Lists) (starts : List ℕ) (vertices : List
   pub count : length vertices ≡ n
   pub first : (v : ℕ) → v < n → (vertex_at vertices v).first ≡ slice_index starts v
   pub degree : (v : ℕ) → v < n → (vertex_at vertices v).degree ≡ length (list_of lists v)
+
+-- the records are those of some tables of the map
+pub record AreLinked (lists : Lists) (records : List DartRecord) (vertices : List VertexRecord) : Type 0 where
+  pub starts : List ℕ
+  pub ends : List Dart
+  pub twins : List ℕ
+  pub tables : AreTables lists starts ends twins
+  pub records_are : AreTableRecords starts ends twins records (length ends)
+  pub vertices_are : AreTableVertices lists starts vertices (length lists)

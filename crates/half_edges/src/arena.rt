@@ -1,12 +1,14 @@
 //! The records of the arena, and walks along them.
-ghost use Rattle.std.specs.Prelude.{◌≡◌, ◌+◌, ◌-◌, ◌<◌, ◌≤◌, ◌==◌, nat_lt, if◌then◌else◌, ℕ, length, IfOk, MatchOption};
-ghost use Rattle.map_definitions.specs.Maps.{IsSimpleMap};
-ghost use Rattle.half_edges.specs.Arena.{IsWalkable, steps, head_of, walk, next_of, prev_of};
+ghost use Rattle.std.specs.Prelude.{◌≡◌, ◌+◌, ◌-◌, ◌<◌, ◌≤◌, ◌==◌, nat_lt, if◌then◌else◌, ◌∷◌, ◌⊎◌, ℕ, length, map, slice_index, slice_index_or, OnOk, IfOk, MatchOption};
+ghost use Rattle.map_lists.specs.Cuts.{AreCuts};
+ghost use Rattle.half_edges.specs.Arena.{IsWalkable, record_at, steps, head_of, walk, next_of, prev_of};
 ghost use Rattle.half_edges.specs.Links.{IsSpliced, IsUnspliced, IsThreaded};
-ghost use Rattle.simple_maps.specs.Tables.{StartsTo, AreTables};
-ghost use Rattle.half_edges.specs.Tables.{table_record, AreTableRecords, AreTableVertices};
+ghost use Rattle.half_edges.specs.Tables.{AreLinked};
+ghost use Rattle.simple_maps.specs.Tables.{AreSlots};
+ghost use Rattle.half_edges.specs.Rounds.{line_record, round_record, AreRounds, AreRoundVertices};
 
-use crate::Rotations;
+use map_lists::Rotations;
+use simple_maps::DartSlot;
 use std::alloc::{AllocError, Global};
 
 // The record of a dart: its twin, the next and the previous dart round its tail, and its tail. A record
@@ -19,6 +21,30 @@ pub(crate) struct DartRecord {
     pub(crate) prev: u32,
     pub(crate) tail: u16,
     pub(crate) live: bool,
+}
+
+impl DartSlot for DartRecord {
+    ghost tail_of = { λ r. r.tail };
+
+    ghost twin_of = { λ r. r.twin };
+
+    fn new(tail: u16, twin: u32) -> DartRecord {
+        DartRecord {
+            twin,
+            next: 0,
+            prev: 0,
+            tail,
+            live: true,
+        }
+    }
+
+    fn tail(&self) -> u16 {
+        self.tail
+    }
+
+    fn twin(&self) -> u32 {
+        self.twin
+    }
 }
 
 // The first dart of a vertex, which says nothing where there is none, and how many it has.
@@ -65,85 +91,77 @@ pub(crate) fn dart_to(darts: &[DartRecord], first: u32, degree: u16, head: u16) 
     None
 }
 
-// The number after `d` from `start` on and before `end`, cyclically.
-fn number_after(start: u32, end: u32, d: u32) -> u32
-    requires from { start ≤ d }
-    requires below { d < end }
-    ensures { result ≡ (if nat_lt (d + 1) end then d + 1 else start) }
+// Links the darts from `start` on and before `end` into the round of `v`, but for its two ends.
+fn link_line(darts: &mut [DartRecord], start: u32, end: u32, v: u16)
+    requires order { start ≤ end }
+    requires within { end ≤ length darts.old }
+    ensures here { (d : ℕ) → start ≤ d → d < end → record_at darts.new d ≡ line_record darts.old v d }
+    ensures elsewhere { (d : ℕ) → d < start ⊎ end ≤ d → record_at darts.new d ≡ record_at darts.old d }
 {
-    if d + 1 < end { d + 1 } else { start }
-}
-
-// The number before `d` from `start` on and before `end`, cyclically.
-fn number_before(start: u32, end: u32, d: u32) -> u32
-    requires from { start ≤ d }
-    requires below { d < end }
-    ensures { result ≡ (if d == start then end - 1 else d - 1) }
-{
-    if d == start { end - 1 } else { d - 1 }
-}
-
-// The record of dart number `d`, by the tables.
-fn record_by_tables(
-    lists: &Rotations,
-    starts: &[u32],
-    ends: &[(u16, u16)],
-    twins: &[u32],
-    d: usize,
-) -> DartRecord
-    requires tables { AreTables lists.now starts.now ends.now twins.now }
-    requires within { d < length ends.now }
-    ensures { result ≡ table_record starts.now ends.now twins.now d }
-{
-    let _lists = lists;
-    let tail = ends[d].0;
-    let start = starts[tail as usize];
-    let end = starts[tail as usize + 1];
-    DartRecord {
-        twin: twins[d],
-        next: number_after(start, end, d as u32),
-        prev: number_before(start, end, d as u32),
-        tail,
-        live: true,
+    for d in start..end {
+        darts[d as usize] = DartRecord {
+            twin: darts[d as usize].twin,
+            next: d + 1,
+            prev: d.saturating_sub(1),
+            tail: v,
+            live: true,
+        };
     }
 }
 
-// The records of all darts.
-pub(crate) fn records_of(
-    alloc: Global,
-    lists: &Rotations,
-    starts: &[u32],
-    ends: &[(u16, u16)],
-    twins: &[u32],
-) -> Result<Vec<DartRecord>, AllocError>
-    requires { AreTables lists.now starts.now ends.now twins.now }
-    ensures { IfOk result (λ darts. AreTableRecords starts.now ends.now twins.now darts.items (length ends.now)) }
+// Links the darts from `start` on and before `end` into the round of `v`.
+fn link_round(darts: &mut [DartRecord], start: u32, end: u32, v: u16)
+    requires order { start ≤ end }
+    requires within { end ≤ length darts.old }
+    ensures here { (d : ℕ) → start ≤ d → d < end → record_at darts.new d ≡ round_record darts.old start end v d }
+    ensures elsewhere { (d : ℕ) → d < start ⊎ end ≤ d → record_at darts.new d ≡ record_at darts.old d }
 {
-    let mut darts = Vec::with_capacity(alloc, ends.len())?;
-    for d in 0..ends.len() {
-        darts.push(record_by_tables(lists, starts, ends, twins, d))?;
+    link_line(darts, start, end, v);
+    if start < end {
+        darts[start as usize].prev = end - 1;
+        darts[end as usize - 1].next = start;
     }
-    Ok(darts)
 }
 
-// The records of all vertices.
-pub(crate) fn vertices_of(
+// Links the darts of all vertices into rounds, where the darts of each vertex end at the place that
+// `ends` says, and makes the records of the vertices.
+fn link_rounds(
     alloc: Global,
-    lists: &Rotations,
-    starts: &[u32],
+    ends: &[usize],
+    darts: &mut [DartRecord],
 ) -> Result<Vec<VertexRecord>, AllocError>
-    requires simple { IsSimpleMap lists.now }
-    requires few { length lists.now < 4096 }
-    requires starts { StartsTo lists.now starts.now (length lists.now) }
-    ensures { IfOk result (λ vertices. AreTableVertices lists.now starts.now vertices.items (length lists.now)) }
+    requires cuts { AreCuts 0 ends.now (length darts.old) }
+    requires few { length darts.old < 16777216 }
+    requires few_vertices { length ends.now < 4096 }
+    requires short { (v : ℕ) → v < length ends.now → slice_index ends.now v - slice_index_or (0 ∷ ends.now) v 0 < 65536 }
+    ensures rounds { OnOk result (AreRounds ends.now darts.old darts.new (length ends.now)) }
+    ensures vertices { IfOk result (λ vertices. AreRoundVertices ends.now vertices.items (length ends.now)) }
 {
-    let mut vertices = Vec::with_capacity(alloc, lists.len())?;
-    for v in 0..lists.len() {
+    let mut vertices = Vec::with_capacity(alloc, ends.len())?;
+    let mut start = 0;
+    for v in 0..ends.len() {
+        let end = ends[v];
+        link_round(darts, start as u32, end as u32, v as u16);
         vertices.push(VertexRecord {
-            first: starts[v],
-            degree: lists.list(v).len() as u16,
+            first: start as u32,
+            degree: (end - start) as u16,
         })?;
+        start = end;
     }
+    Ok(vertices)
+}
+
+// Links the darts of lists, whose tails and twins are known, and makes the records of the vertices.
+pub(crate) fn link_darts(
+    alloc: Global,
+    lists: &Rotations,
+    darts: &mut Vec<DartRecord>,
+) -> Result<Vec<VertexRecord>, AllocError>
+    requires few_lists { length lists.now < 4096 }
+    requires slots { AreSlots lists.now (map (λ r. r.tail) darts.old.items) (map (λ r. r.twin) darts.old.items) }
+    ensures { IfOk result (λ vertices. AreLinked lists.now darts.new.items vertices.items) }
+{
+    let vertices = link_rounds(alloc, lists.ends(), darts)?;
     Ok(vertices)
 }
 

@@ -2,12 +2,12 @@
 ghost use Rattle.std.specs.Prelude.{◌≡◌, ◌+◌, ◌-◌, ◌<◌, ◌≤◌, ◌==◌, nat_lt, if◌then◌else◌, ◌↔◌, ℕ, List, [], length, slice_index, Some, None, IsTrue, IfOk, IfErr, IfSome, MatchOption, option_map};
 ghost use Rattle.map_definitions.specs.Maps.{HasDart, list_of, vertex_count, edge_count, face_step, twin_dart};
 ghost use Rattle.simple_maps.specs.Faults.{first_fault};
-ghost use Rattle.half_edges.specs.Map.{IsHalfMap, IsLive, dart_at, next_dart};
+ghost use Rattle.half_edges.specs.Map.{IsHalfMap, IsLive, dart_at, first_dart, next_dart};
 ghost use Rattle.simple_maps.specs.MapFault.{Names};
 
-use crate::arena::{DartRecord, VertexRecord, dart_to, records_of, vertices_of, walked};
+use crate::arena::{DartRecord, VertexRecord, dart_to, link_darts, walked};
 use map_lists::{DartId, Rotations, VertexId};
-use simple_maps::{MapFault, tables_of};
+use simple_maps::{MapFault, fill_slots};
 use std::alloc::{AllocError, Global};
 use std::marker::Model;
 
@@ -42,7 +42,7 @@ impl Model for HalfMap {
 impl HalfMap {
     /// The map with these lists, which are from 1 to 4095, or the first fault of the lists.
     ///
-    /// Its `spare` is 0. The time is linear in the entries, and so is the memory.
+    /// Its `spare` is 0. The time is linear in the entries, and so is the memory: 16 bytes for a dart.
     pub fn from_rotations(alloc: Global, lists: &Rotations) -> Result<HalfMap, MapFault>
         requires some_list { 0 < length lists.now }
         requires few_lists { length lists.now < 4096 }
@@ -52,16 +52,25 @@ impl HalfMap {
         ensures fault { IfErr result (Names (first_fault lists.now)) }
         ensures known { IfOk result IsHalfMap }
     {
-        let tables = tables_of(alloc, lists)?;
-        let darts = records_of(alloc, lists, &tables.starts, &tables.ends, &tables.twins)?;
-        let vertices = vertices_of(alloc, lists, &tables.starts)?;
+        let mut darts = Vec::new(alloc);
+        let mut threads = Vec::new(alloc);
+        fill_slots(alloc, lists, &mut darts, &mut threads)?;
+        let vertices = link_darts(alloc, lists, &mut darts)?;
+        let edges = (darts.len() / 2) as u32;
         Ok(HalfMap {
             darts,
             vertices,
-            edges: (tables.ends.len() / 2) as u32,
+            edges,
             free: 0,
             spare: 0,
         })
+    }
+
+    /// Does nothing. By its contract a proof learns what holds of every half-edge map.
+    pub fn facts(&self)
+        ensures { IsHalfMap self.now }
+    {
+        let _darts = &self.darts;
     }
 
     /// The number of vertices.
@@ -149,7 +158,7 @@ impl HalfMap {
     pub fn first_dart(&self, v: VertexId) -> Option<DartId>
         requires { v.0 < vertex_count self.now.lists }
         ensures dart { MatchOption result (list_of self.now.lists v.0 ≡ [])
-            (λ d. dart_at self.now d.0 ≡ Some (v.0, slice_index (list_of self.now.lists v.0) 0)) }
+            (λ d. dart_at self.now d.0 ≡ Some (first_dart self.now.lists v.0)) }
         ensures not_isolated { IfSome result (λ d. 0 < length (list_of self.now.lists v.0)) }
     {
         let vertex = self.vertices[v.0 as usize];

@@ -1,6 +1,7 @@
 -- Lemmas on records and readings that callers use.
 pub mod RecordLemmas
 pub mod ProgressLemmas
+pub mod EndLemmas
 pub mod PieceLemmas
 pub mod OpenLemmas
 pub mod PlaceLemmas

@@ -6,6 +6,7 @@ pub mod Place
 pub mod Step
 pub mod Progress
 pub mod Open
+pub mod Ends
 pub mod Scan
 pub mod Front
 pub mod Laws

@@ -1,4 +1,4 @@
-//! Which rotation lists are a simple map: the tables of its darts, or the first fault of the lists.
+//! Which rotation lists are a simple map: the slots of its darts, or the first fault of the lists.
 #![tactic(auto)]
 
 mod fault;
@@ -13,5 +13,4 @@ mod twins;
 pub use fault::MapFault;
 pub use laws::{first_fault_is_first, no_fault_is_simple};
 pub use pass::DartSlot;
-pub use simple::{Tables, tables_of};
 pub use slots::fill_slots;

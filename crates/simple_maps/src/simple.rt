@@ -11,19 +11,19 @@ use crate::twins::twins_of;
 use map_lists::Rotations;
 use std::alloc::Global;
 
-/// The darts of a simple map, numbered vertex by vertex in the order of the lists.
+// The darts of a simple map, numbered vertex by vertex in the order of the lists.
 #[derive(Drop)]
-pub struct Tables {
-    /// For each vertex, and for the number of vertices, how many darts stand before its own.
-    pub starts: Vec<u32>,
-    /// For each dart the vertex that it leaves and the one to which it leads.
-    pub ends: Vec<(u16, u16)>,
-    /// For each dart the number of its twin.
-    pub twins: Vec<u32>,
+pub(crate) struct Tables {
+    // For each vertex, and for the number of vertices, how many darts stand before its own.
+    pub(crate) starts: Vec<u32>,
+    // For each dart the vertex that it leaves and the one to which it leads.
+    pub(crate) ends: Vec<(u16, u16)>,
+    // For each dart the number of its twin.
+    pub(crate) twins: Vec<u32>,
 }
 
-/// The tables of lists, which are from 1 to 4095, or the first fault of the lists.
-pub fn tables_of(alloc: Global, lists: &Rotations) -> Result<Tables, MapFault>
+// The tables of lists, which are from 1 to 4095, or the first fault of the lists.
+pub(crate) fn tables_of(alloc: Global, lists: &Rotations) -> Result<Tables, MapFault>
     requires some_list { 0 < length lists.now }
     requires few_lists { length lists.now < 4096 }
     ensures tables { IfOk result (λ t. AreTables lists.now t.starts.items t.ends.items t.twins.items) }
