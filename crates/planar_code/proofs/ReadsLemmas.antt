@@ -4,7 +4,7 @@ use Rattle.std.proofs.lemmas.List.{append-nil, length-append}
 use Rattle.std.proofs.lemmas.Bool.{false≢true, cases_lt}
 use Rattle.std.proofs.lemmas.Bool.Decides.{Decides-by_and, Decides-ltb}
 use Rattle.std.proofs.lemmas.Slice.Eq.{bytes_eq-Decides}
-use Rattle.std.specs.Prelude.{IsTrue, IsFalse, bytes_eq, nat_lt}
+use Rattle.std.specs.Prelude.{bytes_eq, nat_lt}
 use Rattle.map_lists.specs.Lists.{Lists}
 use Rattle.planar_code.specs.Reading.{list_numbers, record_numbers, two_bytes, IsNarrow, IsWide, IsRecord, is_bad_count, input_limit, IsReading, Ending, well, end_in_record, bad_count, too_long}
 use Rattle.planar_code.specs.State.{State, at_front, with_byte, after_more, after_record}

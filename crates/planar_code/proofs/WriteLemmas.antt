@@ -1,11 +1,11 @@
 -- The bytes of a record as they are written.
-use Rattle.std.proofs.Common.{◌≡◌, ℕ, suc, ◌+◌, ◌<◌, ◌≤◌, Bool, true, false, List, [], ◌∷◌, ◌++◌, length, get_or, take, map, flat_map, refl, sym, ap, subst, ◌∙◌, inl, inr, arith, append_assoc}
+use Rattle.std.proofs.Common.{◌≡◌, ℕ, ◌+◌, ◌<◌, ◌≤◌, Bool, true, false, List, [], ◌∷◌, ◌++◌, length, get_or, take, map, flat_map, refl, sym, ap, ◌∙◌, inl, inr, arith, append_assoc}
 use Rattle.std.proofs.lemmas.List.{append-nil, length-append, take_at, take-take, take_more, take_all, map_push}
 use Rattle.std.proofs.lemmas.Grind.{flat_map-append}
 use Rattle.std.proofs.lemmas.Bool.Decides.{nat_tests}
-use Rattle.std.specs.Prelude.{nat_lt, Result, Ok, Err, OnOk, OnErr}
+use Rattle.std.specs.Prelude.{Result, Ok, Err, OnOk, OnErr}
 use Rattle.map_lists.specs.Lists.{Lists}
-use Rattle.planar_code.specs.Reading.{list_numbers, record_numbers, two_bytes, IsRecord}
+use Rattle.planar_code.specs.Reading.{list_numbers, record_numbers, IsRecord}
 use Rattle.planar_code.specs.Write.{spelled, entry_limit, first_bytes, record_bytes, is_wide, AreBelow}
 use Rattle.planar_code.proofs.ScanLemmas.{record_numbers-push}
 

@@ -1,6 +1,7 @@
 //! Records as bytes.
 ghost use Rattle.std.specs.Prelude.{◌≡◌, ◌+◌, ◌<◌, ◌≤◌, ◌++◌, length, take, All, flat_map, OnOk, OnErr};
 ghost use Rattle.planar_code.specs.Reading.{IsRecord, list_numbers, record_numbers};
+ghost use Rattle.planar_code.specs.Scan.{most_lists};
 ghost use Rattle.planar_code.specs.Write.{spelled, entry_limit, first_bytes, record_bytes, is_wide, AreBelow};
 
 use map_lists::Rotations;
@@ -61,7 +62,7 @@ fn write_first(wide: bool, out: &mut Vec<u8>) -> Result<(), AllocError>
 
 // Appends a record, or a part of it.
 fn write_whole(lists: &Rotations, out: &mut Vec<u8>) -> Result<(), AllocError>
-    requires few { length lists.now ≤ 4095 }
+    requires few { length lists.now ≤ most_lists }
     requires below { AreBelow (entry_limit (is_wide lists.now)) lists.now }
     ensures ok { OnOk result (out.new.items ≡ out.old.items ++ record_bytes lists.now) }
     ensures err { OnErr result (take (length out.old.items) out.new.items ≡ out.old.items) }
@@ -77,7 +78,7 @@ fn write_whole(lists: &Rotations, out: &mut Vec<u8>) -> Result<(), AllocError>
 /// After want of memory the bytes are as they were.
 pub fn write_record(lists: &Rotations, out: &mut Vec<u8>) -> Result<(), AllocError>
     requires some { 0 < length lists.now }
-    requires few { length lists.now ≤ 4095 }
+    requires few { length lists.now ≤ most_lists }
     requires below { AreBelow (entry_limit (is_wide lists.now)) lists.now }
     ensures written { OnOk result (out.new.items ≡ out.old.items ++ record_bytes lists.now) }
     ensures reads { IsRecord (record_bytes lists.now) lists.now }
