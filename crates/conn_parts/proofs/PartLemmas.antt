@@ -1,6 +1,6 @@
 -- Components and their numbers: the number of a component is how many lesser least vertices there are.
-use Rattle.std.proofs.Common.{◌≡◌, ℕ, zero, suc, ◌+◌, ◌<◌, ◌≤◌, Bool, true, List, length, get_or, refl, sym, ap, ◌∙◌, inl, inr, arith, ◌==◌}
-use Rattle.std.proofs.lemmas.Bool.{cases_eq, eq-eqb}
+use Rattle.std.proofs.Common.{◌≡◌, ◌≢◌, ℕ, zero, suc, ◌+◌, ◌<◌, ◌≤◌, Bool, true, false, List, length, get_or, refl, sym, ap, ◌∙◌, inl, inr, arith, ◌==◌}
+use Rattle.std.proofs.lemmas.Bool.{cases_eq, eq-eqb, ne_eqb}
 use Rattle.label_classes.specs.Classes.{count_below, label}
 use Rattle.label_classes.proofs.Classes.{Together, Together-from, same_class-from, length-classes}
 use Rattle.map_lists.specs.Lists.{Lists}
@@ -38,6 +38,42 @@ module _ (lists : Lists) (simple : IsSimpleMap lists) where
   -- and before one that is not there are more than its number
   pub component_number-not_least : (v : ℕ) → least v < v → component_number lists v < count_below is_least v
   component_number-not_least v l = count_below-lt is_least (least v) v l (least_passes v)
+
+  -- so the number tells which vertices are least
+  pub least-from_number : (v : ℕ) → component_number lists v ≡ count_below is_least v → least v ≡ v
+  least-from_number v e =
+      elim (cases_eq (least v) v) [
+        | inl own ↦ own
+        | inr ne ↦
+            let low = (IsLabels-components lists simple).low v in
+            absurd (let less = component_number-not_least v (omega arith) in omega arith)
+      ]
+
+  pub not_least-from_number : (v : ℕ) → component_number lists v ≢ count_below is_least v → least v < v
+  not_least-from_number v ne =
+      let low = (IsLabels-components lists simple).low v in
+      let other : least v ≢ v = λ e. ne (component_number-least v e) in
+      omega arith
+
+  -- one least vertex more
+  pub least_counted : (v m : ℕ) → least v ≡ v → m ≡ v + 1 → count_below is_least v + 1 ≡ count_below is_least m
+  least_counted v m own e =
+      let s : m ≡ suc v = omega arith in
+      let here : is_least v ≡ true = eq-eqb (least v) v own in
+      rw (s, here) (omega arith)
+
+  pub not_least_counted : (v m : ℕ) → least v < v → m ≡ v + 1 → count_below is_least v ≡ count_below is_least m
+  not_least_counted v m below e =
+      let s : m ≡ suc v = omega arith in
+      let here : is_least v ≡ false = ne_eqb (least v) v (omega arith) in
+      rw (s, here) (omega arith)
+
+  -- the first vertex is a least one
+  pub first_counted : 1 ≡ count_below is_least 1
+  first_counted =
+      let low = (IsLabels-components lists simple).low 0 in
+      let here : is_least 0 ≡ true = eq-eqb (least 0) 0 (omega arith) in
+      rw here refl
 
   -- numbers are below the count
   pub component_number-lt : (v : ℕ) → v < length lists → component_number lists v < component_count lists
