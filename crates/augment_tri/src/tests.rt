@@ -126,11 +126,12 @@ fn a_cycle(rt: HostRuntime) -> Result<(), Fail> {
 
 // A star whose middle is the vertex 0, or a wheel where it has a rim.
 fn star(alloc: Global, n: u16, rim: bool) -> Result<Rotations, Fail> {
-    let mut rotations = Rotations::new(alloc);
-    rotations.open()?;
+    let mut middle = Vec::new(alloc);
     for v in 1..n {
-        rotations.append(v)?;
+        middle.push(v)?;
     }
+    let mut rotations = Rotations::new(alloc);
+    rotations.push(&middle)?;
     for v in 1..n {
         rotations.open()?;
         rotations.append(0)?;
