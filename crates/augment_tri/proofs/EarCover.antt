@@ -1,5 +1,5 @@
 -- An ear cut near a dart: which darts have no triangle afterwards.
-use Rattle.std.proofs.Common.{◌≡◌, ◌≢◌, ◌⊎◌, ℕ, ◌+◌, ◌<◌, ◌≤◌, List, length, get_or, Option, Some, None, is_some, unwrap_or, refl, sym, ap, ◌∙◌, subst, inl, inr, arith}
+use Rattle.std.proofs.Common.{◌≡◌, ◌⊎◌, ℕ, ◌+◌, ◌<◌, ◌≤◌, List, length, get_or, Option, Some, None, is_some, unwrap_or, refl, sym, ap, ◌∙◌, subst, inl, inr, arith}
 use Rattle.std.proofs.lemmas.Bool.{cases_eq, cases_lt, false≢true}
 use Rattle.std.proofs.lemmas.List.{get_or_past}
 use Rattle.map_lists.specs.Lists.{Lists}
@@ -7,11 +7,11 @@ use Rattle.map_definitions.specs.Maps.{Dart, HasDart, IsSimpleMap, IsPlane, list
 use Rattle.map_definitions.proofs.DartLemmas.{HasDart-follows, entry_after-injective}
 use Rattle.plane_laws.specs.Laws.{IsTriangle}
 use Rattle.map_edits.specs.Chords.{IsEar, IsEarCut}
-use Rattle.map_edits.specs.WithEdge.{with_edge_after, IsEdgeMore, IsPutAfter}
+use Rattle.map_edits.specs.WithEdge.{IsEdgeMore, IsPutAfter}
 use Rattle.map_edits.proofs.WithEdge.{with_edge_after_law}
 use Rattle.map_edits.proofs.Chords.{ear_cut}
 use Rattle.half_edges.specs.Map.{Map, IsHalfMap, IsLive, dart_at, id_bound}
-use Rattle.augment_tri.specs.Growing.{IsCutEar, IsGrown, IsNear, Waits, IsFilled, IsCovered}
+use Rattle.augment_tri.specs.Growing.{IsCutEar, IsGrown, IsNear, IsFilled, IsCovered}
 
 -- the next dart along a triangle has it too
 triangle_step : (lists : Lists) (d : Dart) → IsTriangle lists d → IsTriangle lists (face_step lists d)

@@ -1,7 +1,6 @@
 -- Maps that grow by one edge: what stays, and that there is room.
 use Rattle.std.proofs.Common.{◌≡◌, ◌≢◌, ℕ, ◌+◌, ◌*◌, ◌<◌, ◌≤◌, length, refl, sym, ap, ◌∙◌, subst, arith, Some}
-use Rattle.map_lists.specs.Lists.{Lists}
-use Rattle.map_definitions.specs.Maps.{HasDart, IsSimpleMap, IsPlane, list_of, place_of, follows, edge_count, component_count, component_classes}
+use Rattle.map_definitions.specs.Maps.{HasDart, IsPlane, list_of, place_of, follows, edge_count, component_count, component_classes}
 use Rattle.map_definitions.proofs.DartLemmas.{place_of-lt-length, HasDart-follows}
 use Rattle.label_classes.specs.Classes.{label}
 use Rattle.label_classes.proofs.Classes.{same_class-from}

@@ -1,10 +1,10 @@
 -- Components that are joined one after another to that of vertex 0, in the order of their least vertices.
-use Rattle.std.proofs.Common.{◌≡◌, ◌≢◌, ℕ, ◌+◌, ◌<◌, ◌≤◌, true, false, ltb, if◌then◌else◌, max, min, List, length, refl, sym, ap, ◌∙◌, subst, inl, inr, arith, ◌==◌}
+use Rattle.std.proofs.Common.{◌≡◌, ◌≢◌, ℕ, ◌+◌, ◌<◌, ◌≤◌, ltb, if◌then◌else◌, max, List, length, refl, sym, ap, ◌∙◌, inl, inr, arith}
 use Rattle.std.proofs.lemmas.Bool.{cases_eq, cases_lt, lt-ltb, le-ltb, eq-eqb, ne_eqb}
-use Rattle.label_classes.specs.Classes.{label, merge, relabel, same_class}
-use Rattle.label_classes.proofs.Classes.{IsLabels, Together, Together-from, same_class-from, label-merge, length-classes}
+use Rattle.label_classes.specs.Classes.{label, merge, relabel}
+use Rattle.label_classes.proofs.Classes.{IsLabels, Together-from, same_class-from, label-merge, length-classes}
 use Rattle.map_lists.specs.Lists.{Lists}
-use Rattle.map_definitions.specs.Maps.{darts, HasDart, IsSimpleMap, component_classes, component_count, list_of}
+use Rattle.map_definitions.specs.Maps.{darts, HasDart, IsSimpleMap, component_classes, component_count}
 use Rattle.euler_bound.proofs.DartPermutations.{IsLabels-components, edge_together}
 use Rattle.plane_laws.specs.Laws.{SameComponent}
 use Rattle.map_edits.proofs.Completions.{one_component}

@@ -1,10 +1,9 @@
 -- The ids near a dart: an ear among three darts in a row, and what cutting it leaves.
-use Rattle.std.proofs.Common.{◌≡◌, ◌≢◌, ◌⊎◌, ℕ, ◌+◌, ◌<◌, Bool, true, false, if◌then◌else◌, ◌==◌, length, Option, Some, None, is_some, option_map, unwrap_or, refl, sym, ap, ap₂, ◌∙◌, subst, inl, inr, arith}
+use Rattle.std.proofs.Common.{◌≡◌, ◌≢◌, ◌⊎◌, ℕ, Bool, true, false, if◌then◌else◌, ◌==◌, Option, Some, None, option_map, unwrap_or, refl, sym, ap, ap₂, ◌∙◌, subst, inl, inr}
 use Rattle.std.specs.Prelude.{MatchBool, IsSome, IsTrue, nat_eq, ◌↔◌}
 use Rattle.std.proofs.lemmas.Bool.{cases_eq, eq-eqb, eqb-true, ne_eqb, false≢true}
 use Rattle.map_lists.specs.Lists.{Lists}
-use Rattle.map_definitions.specs.Maps.{Dart, HasDart, IsSimpleMap, IsPlane, list_of, follows, face_step, twin_dart, component_count}
-use Rattle.map_definitions.proofs.DartLemmas.{HasDart-follows}
+use Rattle.map_definitions.specs.Maps.{Dart, HasDart, IsSimpleMap, follows, face_step, component_count}
 use Rattle.plane_laws.specs.Laws.{IsTriangle}
 use Rattle.plane_laws.proofs.Triangles.{faces_have_three}
 use Rattle.map_edits.specs.Chords.{CanJoin, IsEar}

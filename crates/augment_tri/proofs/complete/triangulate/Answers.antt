@@ -1,4 +1,4 @@
-use Rattle.std.proofs.Common.{◌≡◌, ℕ, ◌+◌, ◌*◌, ◌-◌, ◌≤◌, max, length, sym, ap, ◌∙◌, subst, arith}
+use Rattle.std.proofs.Common.{subst, arith}
 use Rattle.map_lists.specs.Lists.{Lists}
 use Rattle.map_edits.specs.Completed.{IsExtended}
 use Rattle.plane_laws.proofs.EdgeBound.{edge_bound}

@@ -1,7 +1,6 @@
-use Rattle.std.proofs.Common.{◌≡◌, ℕ, Some, option_map, ap, ◌∙◌}
+use Rattle.std.proofs.Common.{◌≡◌, Some, option_map, ap, ◌∙◌}
 use Rattle.map_definitions.specs.Maps.{Dart, follows, face_step, twin_dart}
 use Rattle.half_edges.specs.Map.{dart_at}
-use Rattle.half_edges.specs.Edges.{corner_place}
 use Rattle.augment_tri.proofs.NearEars.{dart_before}
 use Rattle.augment_tri.proofs.ears.cut_ear.Goals as goal
 

@@ -1,4 +1,4 @@
-use Rattle.augment_tri.proofs.NearEars.{AlongFace, along_face, has_ab, has_bc, has_cx, near_here, near_next, near_second, either_chord}
+use Rattle.augment_tri.proofs.NearEars.{AlongFace, along_face, has_cx, near_second, either_chord}
 use Rattle.augment_tri.proofs.ears.ear_near.Goals as goal
 use Rattle.augment_tri.proofs.ears.ear_near.Goals.{After-head-x}
 

@@ -1,4 +1,4 @@
-use Rattle.std.proofs.Common.{◌≡◌, ℕ, ◌+◌, ◌*◌, ◌≤◌, sym, ◌∙◌, arith}
+use Rattle.std.proofs.Common.{◌+◌, sym, ◌∙◌, arith}
 use Rattle.std.proofs.lemmas.Bool.{false≢true}
 use Rattle.augment_tri.proofs.EarCover.{filled_first, covered_first, filled_skip, filled_grown, filled_last}
 use Rattle.augment_tri.proofs.Growth.{IsGrown-itself, IsGrown-chained}

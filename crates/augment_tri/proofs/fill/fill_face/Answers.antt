@@ -1,4 +1,4 @@
-use Rattle.std.proofs.Common.{◌≡◌, ℕ, subst, sym, ◌∙◌}
+use Rattle.std.proofs.Common.{subst, sym, ◌∙◌}
 use Rattle.map_definitions.specs.Maps.{Dart}
 use Rattle.augment_tri.specs.Growing.{IsCovered}
 use Rattle.augment_tri.proofs.EarCover.{filled_from_covered}

@@ -1,4 +1,4 @@
-use Rattle.std.proofs.Common.{◌≡◌, ℕ, ◌+◌, Option, Some, option_map, is_some, ap, refl, arith, length, get_or}
+use Rattle.std.proofs.Common.{◌+◌, Option, Some, option_map, is_some, ap, refl, arith, get_or}
 use Rattle.std.proofs.lemmas.List.{get_or_default}
 use Rattle.map_definitions.specs.Maps.{Dart, list_of, place_of}
 use Rattle.map_definitions.proofs.DartLemmas.{place_of-lt-length}

@@ -1,5 +1,5 @@
-use Rattle.std.proofs.Common.{◌≡◌, ◌≢◌, ℕ, ◌+◌, ◌<◌, ◌≤◌, length, sym, ap, ◌∙◌, refl, arith, ◌==◌}
-use Rattle.label_classes.specs.Classes.{label, count_below}
+use Rattle.std.proofs.Common.{◌≡◌, ◌+◌, ◌<◌, length, sym, ap, ◌∙◌, refl, arith, ◌==◌}
+use Rattle.label_classes.specs.Classes.{label}
 use Rattle.label_classes.proofs.Classes.{same_class-from}
 use Rattle.label_classes.proofs.Counting.{count_below-le}
 use Rattle.map_definitions.specs.Maps.{component_classes}

@@ -1,11 +1,11 @@
-use Rattle.std.proofs.Common.{◌≡◌, ℕ, List, ◌++◌, take, false, length, refl, sym, ap, ◌∙◌, subst, arith}
+use Rattle.std.proofs.Common.{◌≡◌, ℕ, List, ◌++◌, take, false, length, sym, ap, ◌∙◌, subst, arith}
 use Rattle.std.proofs.Math.Seq.{take-append_seam}
 use Rattle.map_lists.specs.Cuts.{cut}
 use Rattle.map_lists.specs.Lists.{Lists}
 use Rattle.map_lists.proofs.CutLemmas.{IsStored, IsStored-cuts, IsStored-cut, length-cut}
-use Rattle.map_definitions.specs.Maps.{IsSimpleMap, component_count}
+use Rattle.map_definitions.specs.Maps.{IsSimpleMap}
 use Rattle.euler_faces.specs.Numbers.{mark_at}
-use Rattle.euler_faces.specs.Search.{component_number, marks_of}
+use Rattle.euler_faces.specs.Search.{marks_of}
 use Rattle.euler_faces.proofs.SearchLemmas.{unset_after}
 use Rattle.conn_parts.specs.Parts.{ArePartsOf}
 use Rattle.conn_parts.proofs.PartLemmas.{ArePartsOf-numbers}

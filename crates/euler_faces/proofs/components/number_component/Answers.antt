@@ -1,8 +1,8 @@
-use Rattle.std.proofs.Common.{◌≡◌, ◌+◌, ◌<◌, true, length, get_or, refl, sym, ap, ◌∙◌, arith, length-set}
+use Rattle.std.proofs.Common.{◌+◌, ◌<◌, length, refl, ◌∙◌, arith, length-set}
 use Rattle.map_lists.specs.Cuts.{cut}
 use Rattle.map_lists.proofs.CutLemmas.{length-cut}
 use Rattle.euler_faces.specs.Search.{marks_of, None_open}
-use Rattle.euler_faces.proofs.SearchLemmas.{unmarked_below-set, marks-set, length-marks_of, IsNumbered-itself, IsNumbered-set, IsNumbered-chained, all_marked, set-here, search-start, search-push, search-pop, search-top, search-full, search-all}
+use Rattle.euler_faces.proofs.SearchLemmas.{unmarked_below-set, marks-set, length-marks_of, IsNumbered-set, IsNumbered-chained, all_marked, set-here, search-start, search-push, search-pop, search-top, search-full, search-all}
 use Rattle.euler_faces.proofs.components.number_component.Goals as goal
 
 pub bounds-queue-filled : goal.bounds-queue-filled
