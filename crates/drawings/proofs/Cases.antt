@@ -1,11 +1,11 @@
 -- A drawing of the complete graph on four vertices, worked out by hand: the areas of its faces, dart by dart, and the order of its directions.
-use Rattle.std.specs.Prelude.{ℕ, ℤ, pos, negsuc, ◌≡◌, ◌<ℤ◌, List, [], ◌∷◌, map, refl}
+use Rattle.std.specs.Prelude.{ℤ, pos, negsuc, ◌≡◌, List, [], ◌∷◌, map, refl}
 use Rattle.std.proofs.Common.{inl, inr, ⊎_elim, arith}
 use Rattle.std.proofs.lemmas.Int.{ints}
 use Rattle.map_lists.specs.Lists.{Lists}
 use Rattle.map_definitions.specs.Maps.{Dart, darts, follows, entry_after}
 use Rattle.pg_plane.specs.declared.point.Point.{Point}
-use Rattle.pg_plane.specs.Geometry.{area, vector, IsClockBefore}
+use Rattle.pg_plane.specs.Geometry.{area, IsClockBefore}
 use Rattle.drawings.specs.Drawing.{place}
 
 k4 : Lists

@@ -38,10 +38,6 @@ or_first : (b c d : Bool) → c ≡ (b || d) → d ≡ true → c ≡ true
 or_first true c d e t = e
 or_first false c d e t = e ∙ t
 
-or_after : (b c d : Bool) → (b || (c || d)) ≡ ((b || c) || d)
-or_after true c d = refl
-or_after false c d = refl
-
 -- ids of one number are one
 pub id-from-number : (map : Map) → IsHalfMap map → (d e : ℕ) → IsLive map d → IsLive map e → number_at map d ≡ number_at map e → d ≡ e
 id-from-number map h d e live live' same =

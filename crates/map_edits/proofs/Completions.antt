@@ -14,7 +14,8 @@ use Rattle.plane_laws.proofs.DartPaths.{corner_of, before_dart}
 use Rattle.plane_laws.proofs.EdgeBound.{edge_bound}
 use Rattle.plane_laws.proofs.Triangles.{IsTriangle-number, number-IsTriangle, edge_bound_met}
 use Rattle.map_edits.specs.Chords.{IsEar}
-use Rattle.map_edits.specs.Completed.{IsExtended, IsCompleted, Completion}
+use Rattle.plane_laws.specs.Completed.{IsCompleted}
+use Rattle.map_edits.specs.Completed.{IsExtended, Completion}
 use Rattle.map_edits.specs.WithEdge.{with_edge_at, with_edge_after}
 use Rattle.map_edits.proofs.KeptEdges.{all_or_some}
 use Rattle.map_edits.proofs.WithEdge.{edge_put_between}

@@ -1,6 +1,5 @@
 -- What a piece of bytes does to a reader of planar_code, in the words of a run.
-use Rattle.std.proofs.Common.{◌≡◌, ℕ, ◌-◌, true, List, Result, Ok, Err, IfOk, OnErr, sym, inl, inr, arith, take}
-use Rattle.std.specs.Prelude.{alloc_error}
+use Rattle.std.proofs.Common.{◌≡◌, ℕ, ◌-◌, true, List, Result, Ok, Err, IfOk, OnErr, inl, inr, arith, take}
 use Rattle.map_lists.specs.Lists.{Lists}
 use Rattle.planar_code.specs.Reading.{IsRecord}
 use Rattle.planar_code.specs.State.{State}

@@ -1,4 +1,4 @@
-use Rattle.std.proofs.Common.{◌≡◌, ◌≤◌, inl, inr, arith}
+use Rattle.std.proofs.Common.{inl, inr, arith}
 use Rattle.half_edges.proofs.arena.link_line.Goals as goal
 
 pub returns-clause-elsewhere : goal.returns-clause-elsewhere

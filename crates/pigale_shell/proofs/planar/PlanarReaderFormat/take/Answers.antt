@@ -1,4 +1,4 @@
-use Rattle.std.proofs.Common.{◌++◌, append_assoc, arith}
+use Rattle.std.proofs.Common.{append_assoc, arith}
 use Rattle.planar_code.proofs.ProgressLemmas.{Progress-length}
 use Rattle.planar_code.proofs.PieceLemmas.{Progress-joined, Progress-ended, Progress-bad_piece, joined-moves, ended-moves}
 use Rattle.pigale_shell.proofs.PlanarLemmas.{IsGiven-record, front-kept}
