@@ -33,6 +33,16 @@ module _ (lists : Lists) (simple : IsSimpleMap lists) (u v : ℕ) (edge : HasDar
       subst (λ (us : List ℕ). AreEntryMore (set half v (without_entry us u)) half v u) half_list
       (AreEntryMore-without half v u (subst (λ (us : List ℕ). AllPairs ◌≢◌ us) (sym half_list) (simple.no_repeat v back.0)) back_half)
 
+  -- each list of the map that is left
+  pub list_at_first : list_of (without_edge lists u v) u ≡ without_entry (list_of lists u) v
+  list_at_first = second.there u u_not_v ∙ first.here.rest
+
+  pub list_at_second : list_of (without_edge lists u v) v ≡ without_entry (list_of lists v) u
+  list_at_second = second.here.rest ∙ ap (λ us. without_entry us u) half_list
+
+  pub list_elsewhere : (w : ℕ) → w ≢ u → w ≢ v → list_of (without_edge lists u v) w ≡ list_of lists w
+  list_elsewhere w nu nv = second.there w nv ∙ first.there w nu
+
   pub length-without_edge : length (without_edge lists u v) ≡ length lists
   length-without_edge = second.count ∙ first.count
 
