@@ -1,12 +1,8 @@
--- How growth adds up over several writes, and what was taken over several reads; how a count that never falls rises.
-use Rattle.std.proofs.Common.{◌≡◌, ℕ, ◌+◌, ◌^◌, ◌<◌, ◌≤◌, List, [], ◌++◌, length, take, drop, Option, Some, refl, sym, ap, subst, ◌∙◌, arith, append_assoc, inl, inr}
+-- How growth adds up over several writes, and what was taken over several reads.
+use Rattle.std.proofs.Common.{◌≡◌, ℕ, ◌+◌, ◌≤◌, List, [], ◌++◌, length, take, drop, Option, Some, sym, ap, subst, ◌∙◌, arith, append_assoc}
 use Rattle.std.proofs.lemmas.List.{append-nil, length-append, take-append-drop, take-append-le, take_at, take_all, length-take-le}
 use Rattle.std.proofs.Math.Seq.{take-add, take-append-add}
-use Rattle.pg_io.specs.Io.{WhereTold, Gives, Takes, Grows, GrowsByPrefix, HasRisen, raised, TakesAtMost}
-
--- a sink grows by nothing where nothing happens
-pub Grows-none : (o : Option (List ℕ)) → Grows o o []
-Grows-none o = record { grown = λ before told. told ∙ ap Some (sym (append-nil before)) }
+use Rattle.pg_io.specs.Io.{WhereTold, Gives, Takes, Grows, GrowsByPrefix, TakesAtMost}
 
 -- what stays as it was grows by nothing
 pub Grows-same : {o p : Option (List ℕ)} → p ≡ o → Grows o p []
@@ -50,29 +46,6 @@ GrowsByPrefix-more {xs = xs} ys some = record {
 pub Grows-take : {o p q : Option (List ℕ)} (xs : List ℕ) (n k : ℕ) → Grows o p (take n xs) → Grows p q (take k (drop n xs)) → Grows o q (take (n + k) xs)
 Grows-take xs n k first second = rw (take-add n k xs) (Grows-then first second)
 
--- a count that rises after it did not fall has risen
-pub HasRisen-after : {a b c : ℕ} → a ≤ b → HasRisen b c → HasRisen a c
-HasRisen-after kept (inl rises) = inl (omega arith)
-HasRisen-after kept (inr last) = inr last
-
--- a count that does not fall after it rose, and that never passes its last value, has risen
-pub HasRisen-before : {a b c : ℕ} → HasRisen a b → b ≤ c → c < 2 ^ 64 → HasRisen a c
-HasRisen-before (inl rises) kept fits = inl (omega arith)
-HasRisen-before (inr last) kept fits = inr (omega arith)
-
--- a count that stays at 0 has not risen
-pub HasRisen-zero : HasRisen 0 0 → ⊥
-HasRisen-zero (inl rises) = omega arith
-HasRisen-zero (inr last) = omega arith
-
--- a count with one more has risen
-pub HasRisen-raised : (count : ℕ) → HasRisen count (raised count)
-HasRisen-raised count = grind arith
-
--- nothing is taken where nothing happens
-pub Takes-none : (o : Option (List ℕ)) → Takes o o []
-Takes-none o = record { split = λ all told. (all, refl, told) }
-
 -- what is taken first and what is taken then, together
 pub Takes-then : {o p q : Option (List ℕ)} {xs ys : List ℕ} → Takes o p xs → Takes p q ys → Takes o q (xs ++ ys)
 Takes-then {xs = xs} {ys = ys} first second = record {
@@ -88,12 +61,6 @@ Takes-gives {k = k} {buf = buf} gives = record {
   split = λ all told.
       (drop k all, rw (gives.gave all told) (rw (take_at (take k all) (drop k buf) k (length-take-le k all (gives.had all told))) (sym (take-append-drop k all))), gives.lost all told);
 }
-
--- where nothing is left, what was taken is all there was
-pub Takes-all : {o p : Option (List ℕ)} {xs : List ℕ} → Takes o p xs → ((bytes : List ℕ) → p ≡ Some bytes → bytes ≡ []) → (all : List ℕ) → o ≡ Some all → all ≡ xs
-Takes-all {xs = xs} takes none_left all told =
-    let one = takes.split all told in
-    one.1 ∙ ap (λ (l : List ℕ). xs ++ l) (none_left one.0 one.2) ∙ append-nil xs
 
 -- what holds of the bytes taken, however they go on, holds of all there were
 pub WhereTold-taken : {o p : Option (List ℕ)} {xs : List ℕ} (P : List ℕ → Type 0) → Takes o p xs → ((tail : List ℕ) → P (xs ++ tail)) → WhereTold o P

@@ -1,5 +1,5 @@
 -- The text of a run, on worked cases. Each is a computation: the two sides come to the same value.
-use Rattle.std.specs.Prelude.{ℕ, ◌-◌, ◌≡◌, List, [], ◌∷◌, ◌++◌, map, codes, refl}
+use Rattle.std.specs.Prelude.{◌-◌, ◌≡◌, [], ◌∷◌, ◌++◌, map, codes, refl}
 use Rattle.label_classes.specs.Classes.{merge}
 use Rattle.std.specs.Fmt.{digits}
 use Rattle.map_lists.specs.Lists.{Lists}

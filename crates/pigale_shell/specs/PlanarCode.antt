@@ -1,5 +1,5 @@
 -- planar_code as a format of runs.
-use Rattle.std.specs.Prelude.{ℕ, ◌+◌, ◌<◌, List, length}
+use Rattle.std.specs.Prelude.{ℕ, ◌+◌, ◌<◌, length}
 use Rattle.map_lists.specs.Lists.{Lists}
 use Rattle.record_runs.specs.Texts.{Reads}
 use Rattle.planar_code.specs.Reading.{Ending, well, end_in_record, bad_count, too_long, IsReading, BeginsWith}

@@ -1,19 +1,19 @@
 //! planar_code, and the jobs over it, for the loop of runs.
 ghost use Rattle.std.specs.Prelude.{◌≡◌, true};
 
-use super::answer::answer_record;
+use super::answer::answer_with;
 use super::job::Job;
 use super::lines::{Ending, last_line};
+use euler_faces::Counter;
 use map_lists::Rotations;
-use planar_code::{Fed, RecordReader};
+use planar_code::{RecordReader, Taken as Found};
 use record_runs::{Format, Job as RecordJob, Taken};
 use std::alloc::{AllocError, Global};
 
-/// A reader of planar_code, and the lists of the record that ended last.
+/// A reader of planar_code.
 #[derive(Drop)]
 pub struct PlanarReader {
     reader: RecordReader,
-    lists: Rotations,
     ghost front: { reader.header_may_come ≡ true → reader.start ≡ 0 },
 }
 
@@ -26,7 +26,6 @@ impl PlanarReader {
     {
         PlanarReader {
             reader: RecordReader::new(alloc),
-            lists: Rotations::new(alloc),
         }
     }
 }
@@ -54,7 +53,7 @@ impl Format for PlanarReader {
 
     ghost place = { λ format. place_of format.reader };
 
-    ghost lent = { λ format. format.lists };
+    ghost lent = { λ format. format.reader.lists };
 
     ghost ending = { λ format. ending_here format.reader };
 
@@ -69,21 +68,15 @@ impl Format for PlanarReader {
     ghost has = { reading-begins };
 
     fn take(&mut self, piece: &[u8]) -> Result<Taken<Ending>, AllocError> {
-        for (passed, byte) in piece.iter().enumerate() {
-            match self.reader.feed(*byte)? {
-                Fed::More => {}
-                Fed::Record(lists) => {
-                    self.lists = lists;
-                    return Ok(Taken::Ended(passed + 1));
-                }
-                Fed::Bad(place) => return Ok(Taken::Bad(Ending::BadCount(place))),
-            }
+        match self.reader.take(piece)? {
+            Found::More => Ok(Taken::More),
+            Found::Ended(k) => Ok(Taken::Ended(k)),
+            Found::Bad(_, place) => Ok(Taken::Bad(Ending::BadCount(place))),
         }
-        Ok(Taken::More)
     }
 
     fn record(&self) -> &Rotations {
-        &self.lists
+        self.reader.lists()
     }
 
     fn end(&self) -> Ending {
@@ -117,6 +110,8 @@ impl Format for PlanarReader {
 pub struct PlanarJob {
     alloc: Global,
     job: Job,
+    // keeps its memory from record to record
+    counter: Counter,
 }
 
 impl PlanarJob {
@@ -124,7 +119,11 @@ impl PlanarJob {
     pub fn new(alloc: Global, job: Job) -> PlanarJob
         ensures { result.job ≡ job }
     {
-        PlanarJob { alloc, job }
+        PlanarJob {
+            alloc,
+            job,
+            counter: Counter::new(alloc),
+        }
     }
 }
 
@@ -143,6 +142,6 @@ impl RecordJob<PlanarReader> for PlanarJob {
         given: &Rotations,
         out: &mut Vec<u8>,
     ) -> Result<bool, AllocError> {
-        answer_record(self.alloc, self.job, number, given, out)
+        answer_with(self.alloc, &mut self.counter, self.job, number, given, out)
     }
 }

@@ -1,10 +1,10 @@
 -- How a run ends, from what it has taken and written.
-use Rattle.std.proofs.Common.{◌≡◌, ℕ, ◌+◌, ◌≤◌, ◌<◌, ◌↔◌, List, [], ◌∷◌, ◌++◌, length, refl, sym, ap, ◌∙◌, arith, append_assoc, Option, Some, None, Ok, Err, Result, inl, inr, drop, take, OnOk, MatchResult}
+use Rattle.std.proofs.Common.{◌≡◌, ℕ, ◌+◌, ◌≤◌, ◌<◌, ◌↔◌, List, [], ◌++◌, length, refl, sym, ap, ◌∙◌, arith, Option, Some, Ok, Err, Result, inl, inr, drop, OnOk, MatchResult}
 use Rattle.std.proofs.lemmas.List.{append-nil, length-append}
 use Rattle.pg_io.specs.Io.{WhereTold, Gives, Takes, TakesAtMost, Grows, GrowsByPrefix, HasRisen}
 use Rattle.pg_io.proofs.Growth.{Takes-then, Takes-gives, TakesAtMost-taken, Grows-then, GrowsByPrefix-whole, GrowsByPrefix-then, GrowsByPrefix-more}
 use Rattle.record_runs.specs.Texts.{Reads, Answers, input_limit, refused_count}
-use Rattle.record_runs.specs.Outcome.{Writes, WritesPart, WritesTaken, Ports, ports, Outcome}
+use Rattle.record_runs.specs.Outcome.{Writes, WritesPart, Ports, ports, Outcome}
 use Rattle.record_runs.specs.Run.{IsCounted, IsAt, EndsAs, IsFront, Stops, Wrote, Stands, IsAllConsumed, FailsAt, end_of}
 use Rattle.record_runs.specs.declared.run.RunEnd.TheVariants.{Done, SomeRefused, BadInput, ReadFault, WriteFault, NoMemory}
 use Rattle.record_runs.specs.declared.run.Failure.{Failure}

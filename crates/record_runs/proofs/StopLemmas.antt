@@ -1,8 +1,8 @@
 -- What bytes do to a run, and how it stops within them.
-use Rattle.std.proofs.Common.{◌≡◌, ℕ, ◌+◌, ◌≤◌, ◌<◌, Bool, true, false, not, List, [], ◌∷◌, ◌++◌, length, refl, sym, ap, ◌∙◌, arith, append_assoc, cond, take, drop, get_or}
+use Rattle.std.proofs.Common.{◌≡◌, ℕ, ◌+◌, ◌<◌, Bool, true, false, not, List, [], ◌∷◌, ◌++◌, length, refl, ap, ◌∙◌, append_assoc, cond, take, drop, get_or}
 use Rattle.std.proofs.lemmas.List.{take-append-drop, drop_more}
 use Rattle.record_runs.specs.Texts.{Reads, Answers, input_limit}
-use Rattle.record_runs.specs.Run.{IsAt, EndsAs, IsFront, Stops}
+use Rattle.record_runs.specs.Run.{IsAt, EndsAs, Stops}
 use Rattle.record_runs.specs.declared.run.Stop.{Stop}
 use Rattle.record_runs.specs.declared.run.Stop.TheVariants.{Bad, NoMemory}
 use Rattle.record_runs.proofs.BlockLemmas.{IsAnswered-push}
@@ -17,14 +17,6 @@ refused-by_served served true n is = rw is refl
 refused-by_served served false n is = rw is refl
 
 module _ {Record Ending Reader End : Type 0} (format : Reads Record Ending) (job : Answers Record) (ending_of : End → Ending) (At : Reader → List ℕ → List Record → Type 0) where
-  -- memory was wanting: the text so far answers some first records, however the input goes on
-  pub at-no_memory : (begins : (reader : Reader) (consumed : List ℕ) (records : List Record) (tail : List ℕ) → At reader consumed records → length consumed ≤ input_limit → format.BeginsWith (consumed ++ tail) records) → {consumed text : List ℕ} {reader : Reader} {count refused : ℕ} (more : List ℕ) → IsAt At job consumed text reader count refused → length consumed ≤ input_limit → (tail : List ℕ) → IsFront format job ((consumed ++ more) ++ tail) text
-  at-no_memory begins {consumed = consumed} {reader = reader} more at within tail = record {
-    records = at.records;
-    begins = rw (append_assoc consumed more tail) (begins reader consumed at.records (more ++ tail) at.read within);
-    answers = at.answered.answers;
-  }
-
   -- the record that ended was answered
   pub at-answered : {consumed text : List ℕ} {reader reader' : Reader} {count refused refused' : ℕ} (at : IsAt At job consumed text reader count refused) (consumed' : List ℕ) (next : Record) (block : List ℕ) → At reader' consumed' (at.records ++ next ∷ []) → job.IsBlock (count + 1) next block → refused' ≡ refused + cond (job.is_refused next) 1 0 → IsAt At job consumed' (text ++ block) reader' (count + 1) refused'
   at-answered at consumed' next block read is refused_is = record {

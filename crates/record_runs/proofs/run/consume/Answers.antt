@@ -1,4 +1,4 @@
-use Rattle.std.proofs.Common.{◌++◌, [], append_assoc}
+use Rattle.std.proofs.Common.{◌++◌}
 use Rattle.std.proofs.lemmas.List.{append-nil}
 use Rattle.pg_io.proofs.Growth.{WhereTold-taken}
 use Rattle.record_runs.specs.Run.{IsFront, EndsAs}

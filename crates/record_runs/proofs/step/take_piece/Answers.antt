@@ -1,4 +1,4 @@
-use Rattle.std.proofs.Common.{arith, ◌++◌, ◌∙◌, ◌-◌, drop}
+use Rattle.std.proofs.Common.{arith, ◌∙◌, ◌-◌, drop}
 use Rattle.std.proofs.lemmas.List.{length-take}
 use Rattle.record_runs.specs.Texts.{input_limit}
 use Rattle.record_runs.proofs.StopLemmas.{piece-splits, Stops-more, at-too_long}

@@ -1,4 +1,4 @@
-use Rattle.std.proofs.Common.{◌++◌, append_assoc}
+use Rattle.std.proofs.Common.{append_assoc}
 use Rattle.record_runs.proofs.StopLemmas.{at-answered, refused-by_served}
 use Rattle.record_runs.proofs.step.take_record.Goals as goal
 

@@ -1,6 +1,5 @@
 use Rattle.std.proofs.Common.{arith, ◌++◌, ◌∙◌, take, drop, append_assoc}
 use Rattle.std.proofs.lemmas.List.{take_rest, length-drop}
-use Rattle.std.proofs.lemmas.Result.{MatchResult-weaker}
 use Rattle.std.proofs.Math.Seq.{take-add}
 use Rattle.record_runs.proofs.StopLemmas.{piece-splits}
 use Rattle.record_runs.proofs.step.take_within.Goals as goal
