@@ -270,13 +270,6 @@ module _ (lists : Lists) (simple : IsSimpleMap lists) where
       let l = dart_number-lt lists u v h in
       ap (λ d. label components d.0) (sym at) ∙ (ends_together i l ∙ ap (λ d. label components d.0) (dart_of-twin i l ∙ ap twin_dart at))
 
-  -- a vertex without an edge is in a component with no other
-  pub isolated_apart : (v u : ℕ) → v < length lists → u < length lists → is_empty_list (list_of lists v) ≡ true → Together components u v → u ≡ v
-  isolated_apart v u l m e t =
-      let other : (x : ℕ) → has_edge lists x ≡ true → eqb x v ≡ false = λ x h. ne_eqb x v (λ q. false≢true (sym (ap not (ap (λ y. is_empty_list (list_of lists y)) q ∙ e)) ∙ h)) in
-      let same = components-marked (λ x. eqb x v) (λ i n. other (tail_of lists i) (has_edge-tail i n) ∙ sym (other (tail_of lists (twin lists i)) (has_edge-tail (twin lists i) (IsPairing-twin.within i n)))) u v m l t in
-      eqb-true u v (same ∙ eq-eqb v v refl)
-
   -- a vertex without an edge is a component of its own
   pub isolated_alone : (v : ℕ) → v < length lists → is_empty_list (list_of lists v) ≡ true → label components v ≡ v
   isolated_alone v l e =

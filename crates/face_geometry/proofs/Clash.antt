@@ -9,6 +9,7 @@ use Rattle.label_classes.specs.Classes.{count_below}
 use Rattle.label_classes.proofs.Counting.{one_if}
 use Rattle.label_classes.proofs.Orbits.{IsPermuting, count_below-images}
 use Rattle.face_geometry.specs.Faced.{in_base, IsFaced, IsOnFace, IsHeld}
+use Rattle.face_geometry.proofs.Faces.{face_back, face_then}
 use Rattle.face_geometry.proofs.Ring.{sums, ring}
 use Rattle.face_geometry.proofs.Triangle.{IsLeftTurn, IsMet, rises, met, met_back, left_turn_met}
 use Rattle.face_geometry.proofs.Identities.{back_test, triangle_turn, area_turned, cross_back}
@@ -168,28 +169,13 @@ module _ (k : ℕ) (twin step : ℕ → ℕ) (at : ℕ → Point) (base : ℕ) (
   base_from i (inr (inl e)) = rw (eq-eqb i (step base) e) (or_right (eqb i base))
   base_from i (inr (inr e)) = rw (eq-eqb i (step (step base)) e) (ap (λ x. eqb i base || x) (or_right (eqb i (step base))) ∙ or_right (eqb i base))
 
-  -- the faces of two darts, one on the other's, are one
-  pub face_back : (i j : ℕ) → i < k → IsOnFace step i j → IsOnFace step j i
-  face_back i j l (inl e) = inl (sym e)
-  face_back i j l (inr (inl e)) = inr (inr (sym (ap (λ x. step (step x)) e ∙ d.thrice i l)))
-  face_back i j l (inr (inr e)) = inr (inl (sym (ap step e ∙ d.thrice i l)))
-
-  pub face_then : (i j m : ℕ) → i < k → IsOnFace step i j → IsOnFace step j m → IsOnFace step i m
-  face_then i j m l (inl e) h = subst (λ x. IsOnFace step x m) e h
-  face_then i j m l (inr (inl e)) (inl f) = inr (inl (f ∙ e))
-  face_then i j m l (inr (inl e)) (inr (inl f)) = inr (inr (f ∙ ap step e))
-  face_then i j m l (inr (inl e)) (inr (inr f)) = inl (f ∙ ap (λ x. step (step x)) e ∙ d.thrice i l)
-  face_then i j m l (inr (inr e)) (inl f) = inr (inr (f ∙ e))
-  face_then i j m l (inr (inr e)) (inr (inl f)) = inl (f ∙ ap step e ∙ d.thrice i l)
-  face_then i j m l (inr (inr e)) (inr (inr f)) = inr (inl (f ∙ ap (λ x. step (step x)) e ∙ ap step (d.thrice i l)))
-
   -- all darts of a face are the base's or none
   pub base_along : (i j : ℕ) → i < k → IsOnFace step i j → in_base step base j ≡ in_base step base i
   base_along i j l on =
       elim (cases_Bool (in_base step base i)) [
-        | inl e ↦ base_from j (face_then base i j d.base_in (base_cases i e) on) ∙ sym e
+        | inl e ↦ base_from j (face_then k step d.thrice base i j d.base_in (base_cases i e) on) ∙ sym e
         | inr e ↦ elim (cases_Bool (in_base step base j)) [
-          | inl f ↦ absurd (true≢false (sym (base_from i (face_then base j i d.base_in (base_cases j f) (face_back i j l on))) ∙ e))
+          | inl f ↦ absurd (true≢false (sym (base_from i (face_then k step d.thrice base j i d.base_in (base_cases j f) (face_back k step d.thrice i j l on))) ∙ e))
           | inr f ↦ f ∙ sym e
         ]
       ]
@@ -251,7 +237,7 @@ module _ (k : ℕ) (twin step : ℕ → ℕ) (at : ℕ → Point) (base : ℕ) (
       same_count ∙ count_none within k (λ j lj.
       elim (cases_Bool (in_base step base j)) [
         | inl f ↦
-            let onj = face_then i base j l (face_back base i d.base_in (base_cases i e)) (base_cases j f) in
+            let onj = face_then k step d.thrice i base j l (face_back k step d.thrice base i d.base_in (base_cases i e)) (base_cases j f) in
             rw (f, there_along i j l onj, back_along i j l onj, here) refl
         | inr f ↦ rw f refl
       ])
@@ -261,7 +247,7 @@ module _ (k : ℕ) (twin step : ℕ → ℕ) (at : ℕ → Point) (base : ℕ) (
   one_holds i j li lj hi hj =
       elim (cases_Bool (in_base step base i)) [
         | inl bi ↦ elim (cases_Bool (in_base step base j)) [
-          | inl bj ↦ face_then i base j li (face_back base i d.base_in (base_cases i bi)) (base_cases j bj)
+          | inl bj ↦ face_then k step d.thrice i base j li (face_back k step d.thrice base i d.base_in (base_cases i bi)) (base_cases j bj)
           | inr bj ↦ absurd (let z = holds_outside i li bi (hi.outer bi) in let n = count_one inside k j lj (hj.inner bj) in omega arith)
         ]
         | inr bi ↦ elim (cases_Bool (in_base step base j)) [

@@ -5,9 +5,10 @@ use Rattle.std.proofs.lemmas.Bool.{cases_Bool}
 use Rattle.pg_plane.specs.declared.point.Point.{Point}
 use Rattle.pg_plane.specs.Geometry.{vector, cross, area, AreOpposite, DoCross}
 use Rattle.face_geometry.specs.Faced.{in_base, IsFaced, IsOnFace, IsHeld}
+use Rattle.face_geometry.proofs.Faces.{face_back, face_then}
 use Rattle.face_geometry.proofs.Ring.{sums, ring, product_positive}
 use Rattle.face_geometry.proofs.Identities.{cross_back}
-use Rattle.face_geometry.proofs.Clash.{no_clash, face_then, face_back, base_area}
+use Rattle.face_geometry.proofs.Clash.{no_clash, base_area}
 use Rattle.face_geometry.proofs.Near.{scaled, moved, same_point, IsFaced-scaled, near_held}
 
 -- the crossing of two segments, by the one and by the other
@@ -140,7 +141,7 @@ module _ (k : ℕ) (twin step : ℕ → ℕ) (at : ℕ → Point) (base : ℕ) (
         let right_face : IsOnFace step (twin i) j =
         one_face v' (twin i) (drawn.twins.within i li) (near_right k twin step at base drawn i li s t v' ps pt (rw (to_right_one a b c d) weight)) (near_second v' (rw (to_right_two a b c d) weight)) in
         twin_apart k twin step at base drawn i li
-        (face_then k twin step at base drawn a i j (twin i) li left_face (face_back k twin step at base drawn a (twin i) j (drawn.twins.within i li) right_face))
+        (face_then k step drawn.thrice i j (twin i) li left_face (face_back k step drawn.thrice (twin i) j (drawn.twins.within i li) right_face))
 
 pub area_back : (c d x : Point) → area d c x ≡ neg_ℤ (area c d x)
 area_back c d x = simp ring (omega (arith, sums))

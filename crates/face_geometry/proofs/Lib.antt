@@ -3,9 +3,11 @@ pub mod Ring
 pub mod Identities
 pub mod Triangle
 pub mod Counts
+pub mod Faces
 pub mod Clash
 pub mod Near
 pub mod Crossing
 pub mod Round
 pub mod Tilted
 pub mod OnEdge
+pub mod PlaneByDarts

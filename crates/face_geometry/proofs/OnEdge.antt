@@ -7,9 +7,10 @@ use Rattle.std.proofs.Math.IntN.{*ℤ-zero, zero-*ℤ}
 use Rattle.pg_plane.specs.declared.point.Point.{Point}
 use Rattle.pg_plane.specs.Geometry.{vector, cross, area, IsBetween, IsOnSegment}
 use Rattle.face_geometry.specs.Faced.{in_base, IsFaced, IsTailed, IsOnFace, IsHeld, turn}
+use Rattle.face_geometry.proofs.Faces.{face_back, face_then}
 use Rattle.face_geometry.proofs.Ring.{sums, ring, mul_assoc, add_mul, product_positive, product_signs}
 use Rattle.face_geometry.proofs.Identities.{cross_back, heights}
-use Rattle.face_geometry.proofs.Clash.{no_clash, face_then, face_back, base_cases, base_area}
+use Rattle.face_geometry.proofs.Clash.{no_clash, base_cases, base_area}
 use Rattle.face_geometry.proofs.Near.{scaled, moved, less, cross_less, cross_less_two, large, point, same_point, IsFaced-scaled, near_held}
 use Rattle.face_geometry.proofs.Crossing.{area_back, some_area, near_right, twin_place, twin_head, flat_first, flat_ends, flat_last}
 use Rattle.face_geometry.proofs.Round.{turn_place, turn_head, turn_tail}
@@ -196,7 +197,7 @@ module _ (k : ℕ) (twin step : ℕ → ℕ) (at : ℕ → Point) (base : ℕ) (
             elim (cases_Bool (in_base step base n)) [
               | inr f ↦ (n, ln, turn_tail k twin step at base d tail r m l, f)
               | inl f ↦
-                  let on : IsOnFace step m n = face_then k twin step at base d (at m) m base n l (face_back k twin step at base d (at m) base m d.base_in (base_cases k twin step at base d (at m) m e)) (base_cases k twin step at base d (at m) n f) in
+                  let on : IsOnFace step m n = face_then k step d.thrice m base n l (face_back k step d.thrice base m d.base_in (base_cases k twin step at base d (at m) m e)) (base_cases k twin step at base d (at m) n f) in
                   let place = turn_place k twin step at base d m l in
                   let head = turn_head k twin step at base d m l in
                   absurd (elim on [

@@ -13,7 +13,7 @@ abbrev pub IsBreak : (ℕ → ℕ) → (ℕ → ℕ) → (ℕ → Point) → ℕ
 IsBreak twin step at i = ¬ IsClockBefore (direction step at (turn twin step i)) (direction step at i)
 
 -- The drawing is plane, and the darts round each vertex go clockwise just once round from west.
-pub record IsPlaneDrawing (k : ℕ) (twin step : ℕ → ℕ) (at : ℕ → Point) (tail : ℕ → ℕ) : Type 0 where
+pub record IsPlaneByDarts (k : ℕ) (twin step : ℕ → ℕ) (at : ℕ → Point) (tail : ℕ → ℕ) : Type 0 where
   -- vertices stand apart
   pub apart : (i j : ℕ) → i < k → j < k → at i ≡ at j → tail i ≡ tail j
   -- no vertex stands on an edge of which it is no end
@@ -27,4 +27,4 @@ pub record IsPlaneDrawing (k : ℕ) (twin step : ℕ → ℕ) (at : ℕ → Poin
 abbrev pub FacesArePlane : Type 0
 FacesArePlane =
     (k : ℕ) (twin step : ℕ → ℕ) (at : ℕ → Point) (base : ℕ) (tail : ℕ → ℕ) → IsFaced k twin step at base → IsTailed k twin step at tail
-    → IsPlaneDrawing k twin step at tail
+    → IsPlaneByDarts k twin step at tail

@@ -1,5 +1,5 @@
 -- What the records of an arena say of its darts, its lists and their ids.
-use Rattle.std.proofs.Common.{ℕ, zero, suc, ◌+◌, ◌<◌, ◌≤◌, ◌≡◌, ◌≢◌, true, cond, ltb, List, [], ◌∷◌, ◌++◌, map, length, get_or, take, AllPairs, Contains, Option, Some, None, is_some, option_map, refl, sym, ap, ◌∙◌, subst, inl, inr, arith}
+use Rattle.std.proofs.Common.{ℕ, zero, suc, ◌+◌, ◌<◌, ◌≤◌, ◌≡◌, ◌≢◌, true, false, cond, ltb, List, [], ◌∷◌, ◌++◌, map, length, get_or, take, AllPairs, Contains, Option, Some, None, is_some, option_map, refl, sym, ap, ◌∙◌, subst, inl, inr, arith}
 use Rattle.std.proofs.lemmas.List.{length-map, get_or-map, get_or_past, get_or_default, take_more, take_all, ext_get_or}
 use Rattle.std.proofs.lemmas.Option.{cond_some}
 use Rattle.std.proofs.lemmas.Bool.{cases_lt, cases_Bool, true≢false, cond-true, lt-ltb}
@@ -22,6 +22,9 @@ dart_at-arena darts vertices spare d = get_or-map_default (dart_of_record darts)
 
 pub dart_in-live : (darts : List DartRecord) (d : ℕ) → live_of darts d ≡ true → dart_in darts d ≡ Some (tail_of darts d, head_of darts d)
 dart_in-live darts d e = cond-true (live_of darts d) (Some (tail_of darts d, head_of darts d)) None e
+
+pub dart_in-dead : (darts : List DartRecord) (d : ℕ) → live_of darts d ≡ false → dart_in darts d ≡ None
+dart_in-dead darts d e = ap (λ b. cond b (Some (tail_of darts d, head_of darts d)) None) e
 
 -- a record with a dart is live, with that tail and head
 pub record IsDartAt (darts : List DartRecord) (d v u : ℕ) : Type 0 where

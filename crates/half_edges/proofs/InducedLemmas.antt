@@ -2,10 +2,11 @@
 use Rattle.std.proofs.Common.{ℕ, zero, suc, ◌+◌, ◌<◌, ◌≤◌, ◌≡◌, ◌≢◌, Bool, true, false, cond, List, [], ◌∷◌, ◌++◌, map, length, get_or, take, AllPairs, All, Contains, refl, sym, ap, ◌∙◌, subst, inl, inr, arith}
 use Rattle.std.specs.List.{filter}
 use Rattle.std.proofs.lemmas.List.{length-map, get_or-map, map-append, append-nil}
-use Rattle.std.proofs.lemmas.Bool.{cases_order, cases_Bool, true≢false}
+use Rattle.std.proofs.lemmas.Bool.{cases_order, true≢false}
 use Rattle.map_lists.specs.Lists.{Lists}
 use Rattle.map_definitions.specs.Maps.{list_of, HasDart, IsSimpleMap}
-use Rattle.map_definitions.proofs.EntryLemmas.{Contains-here, Contains-there, Contains-cons_cases, AllPairs-tail}
+use Rattle.map_definitions.proofs.EntryLemmas.{Contains-from_filter, Contains-filter, Contains-from_map, Contains-map, AllPairs-map}
+use Rattle.std.proofs.lemmas.List.Kept.{AllPairs-filter}
 use Rattle.std.proofs.lemmas.Option.{none-some}
 use Rattle.map_definitions.proofs.DartLemmas.{HasDart-at}
 use Rattle.simple_maps.specs.Faults.{first_fault, out_of_range, loop_at, repeated, one_sided}
@@ -109,67 +110,22 @@ pub record IsKeptEntry (keep : List Bool) (us : List ℕ) (u x : ℕ) : Type 0 w
   pub kept : is_kept keep u ≡ true
   pub number : kept_before keep u ≡ x
 
--- a restricted list with one entry more in front
-induced_list-yes : (keep : List Bool) (u : ℕ) (us : List ℕ) → is_kept keep u ≡ true → induced_list keep (u ∷ us) ≡ kept_before keep u ∷ induced_list keep us
-induced_list-yes keep u us e = ap (λ b. map (kept_before keep) (cond b (u ∷ filter (is_kept keep) us) (filter (is_kept keep) us))) e
-
-induced_list-no : (keep : List Bool) (u : ℕ) (us : List ℕ) → is_kept keep u ≡ false → induced_list keep (u ∷ us) ≡ induced_list keep us
-induced_list-no keep u us e = ap (λ b. map (kept_before keep) (cond b (u ∷ filter (is_kept keep) us) (filter (is_kept keep) us))) e
-
-IsKeptEntry-there : (keep : List Bool) (y : ℕ) (us : List ℕ) (u x : ℕ) → IsKeptEntry keep us u x → IsKeptEntry keep (y ∷ us) u x
-IsKeptEntry-there keep y us u x h = record { entry = Contains-there y us u h.entry; kept = h.kept; number = h.number }
-
 pub entry_from_induced : (keep : List Bool) (us : List ℕ) (x : ℕ) → Contains (induced_list keep us) x → (u : ℕ) × IsKeptEntry keep us u x
-entry_from_induced keep [] x c = absurd (omega (arith, c.1))
-entry_from_induced keep (y ∷ us) x c =
-    elim (cases_Bool (is_kept keep y)) [
-      | inl is_yes ↦ elim (Contains-cons_cases (kept_before keep y) (induced_list keep us) x (subst (λ (xs : List ℕ). Contains xs x) (induced_list-yes keep y us is_yes) c)) [
-        | inl here ↦ (y, record { entry = Contains-here y us; kept = is_yes; number = here })
-        | inr there ↦ let rest = entry_from_induced keep us x there in (rest.0, IsKeptEntry-there keep y us rest.0 x rest.1)
-      ]
-      | inr is_no ↦ let rest = entry_from_induced keep us x (subst (λ (xs : List ℕ). Contains xs x) (induced_list-no keep y us is_no) c) in (rest.0, IsKeptEntry-there keep y us rest.0 x rest.1)
-    ]
+entry_from_induced keep us x c =
+    let (u, kept, number) = Contains-from_map (kept_before keep) (filter (is_kept keep) us) x c in
+    let e = Contains-from_filter (is_kept keep) us u kept in
+    (u, record { entry = e.0; kept = e.1; number = number })
 
 -- each kept entry stays
 pub entry_to_induced : (keep : List Bool) (us : List ℕ) (u : ℕ) → Contains us u → is_kept keep u ≡ true → Contains (induced_list keep us) (kept_before keep u)
-entry_to_induced keep [] u c kept = absurd (omega (arith, c.1))
-entry_to_induced keep (y ∷ us) u c kept =
-    elim (Contains-cons_cases y us u c) [
-      | inl here ↦ subst (λ (xs : List ℕ). Contains xs (kept_before keep u)) (sym (induced_list-yes keep y us (ap (λ z. is_kept keep z) here ∙ kept)))
-          (subst (λ z. Contains (z ∷ induced_list keep us) (kept_before keep u)) (sym (ap (λ z. kept_before keep z) here)) (Contains-here (kept_before keep u) (induced_list keep us)))
-      | inr there ↦ elim (cases_Bool (is_kept keep y)) [
-        | inl is_yes ↦ subst (λ (xs : List ℕ). Contains xs (kept_before keep u)) (sym (induced_list-yes keep y us is_yes)) (Contains-there (kept_before keep y) (induced_list keep us) (kept_before keep u) (entry_to_induced keep us u there kept))
-        | inr is_no ↦ subst (λ (xs : List ℕ). Contains xs (kept_before keep u)) (sym (induced_list-no keep y us is_no)) (entry_to_induced keep us u there kept)
-      ]
-    ]
-
--- lists without repeats, entry by entry
-pub AllPairs-cons : (x : ℕ) (us : List ℕ) → ¬ Contains us x → AllPairs ◌≢◌ us → AllPairs ◌≢◌ (x ∷ us)
-AllPairs-cons x us new rest zero zero d l m = absurd (omega (arith, l))
-AllPairs-cons x us new rest zero (suc j) d l m = λ e. new (j, omega (arith, m), Contains_default x us j d (omega (arith, m)) (sym e))
-  where
-    Contains_default : (x : ℕ) (us : List ℕ) (j d : ℕ) → j < length us → get_or us j d ≡ x → get_or us j x ≡ x
-    Contains_default x [] j d l e = refl
-    Contains_default x (y ∷ us) zero d l e = e
-    Contains_default x (y ∷ us) (suc j) d l e = Contains_default x us j d (omega (arith, l)) e
-AllPairs-cons x us new rest (suc i) zero d l m = absurd (omega (arith, l))
-AllPairs-cons x us new rest (suc i) (suc j) d l m = rest i j d (omega (arith, l)) (omega (arith, m))
-
-pub AllPairs-head : (x : ℕ) (us : List ℕ) → AllPairs ◌≢◌ (x ∷ us) → ¬ Contains us x
-AllPairs-head x us h c = h 0 (suc c.0) x (omega arith) (omega (arith, c.1)) (sym c.2)
+entry_to_induced keep us u c kept = Contains-map (kept_before keep) (filter (is_kept keep) us) u (Contains-filter (is_kept keep) us u c kept)
 
 -- a restricted list repeats nothing
 pub AllPairs-induced : (keep : List Bool) (us : List ℕ) → AllPairs ◌≢◌ us → AllPairs ◌≢◌ (induced_list keep us)
-AllPairs-induced keep [] h = λ i j d l m. absurd (omega (arith, m))
-AllPairs-induced keep (y ∷ us) h =
-    elim (cases_Bool (is_kept keep y)) [
-      | inl is_yes ↦ subst (λ (xs : List ℕ). AllPairs ◌≢◌ xs) (sym (induced_list-yes keep y us is_yes))
-          (AllPairs-cons (kept_before keep y) (induced_list keep us)
-          (λ c. let e = entry_from_induced keep us (kept_before keep y) c in
-          AllPairs-head y us h (subst (λ z. Contains us z) (kept_before-injective keep e.0 y e.1.kept is_yes e.1.number) e.1.entry))
-          (AllPairs-induced keep us (AllPairs-tail y us h)))
-      | inr is_no ↦ subst (λ (xs : List ℕ). AllPairs ◌≢◌ xs) (sym (induced_list-no keep y us is_no)) (AllPairs-induced keep us (AllPairs-tail y us h))
-    ]
+AllPairs-induced keep us h =
+    AllPairs-map (kept_before keep) (filter (is_kept keep) us)
+    (λ z w at_z at_w. kept_before-injective keep z w (Contains-from_filter (is_kept keep) us z at_z).1 (Contains-from_filter (is_kept keep) us w at_w).1)
+    (AllPairs-filter ◌≢◌ (is_kept keep) us h)
 
 module _ (keep : List Bool) (lists : Lists) (same : length keep ≡ length lists) where
   length-induced : length (induced_lists keep lists) ≡ length (kept_lists keep lists)

@@ -2,16 +2,14 @@
 pub mod ArenaLemmas
 mod Cases
 pub mod TableArena
-pub mod InsertLemmas
 pub mod LinkLemmas
+pub mod PairLemmas
 pub mod WriteLemmas
-pub mod LessLemmas
 pub mod FreeLemmas
 pub mod TakenLemmas
 pub mod MapLemmas
-pub mod IdLemmas
 pub mod EdgeLemmas
-pub mod PutLemmas
+pub mod StepLemmas
 pub mod GivenLemmas
 pub mod ReserveLemmas
 pub mod InducedLemmas

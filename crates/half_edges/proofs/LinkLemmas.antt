@@ -1,224 +1,235 @@
--- A dart more, and a dart less, in the links of an arena.
-use Rattle.std.proofs.Common.{ℕ, ◌<◌, ◌≡◌, ◌≢◌, List, [], length, get_or, set, AllPairs, Contains, Option, Some, None, sym, ap, ◌∙◌, subst, inl, inr, arith}
-use Rattle.std.proofs.lemmas.List.{length-set, get_or-set_same, get_or-set_other}
+-- A dart more, and a dart less, in the links of an arena: one relation between the short and the grown
+-- arena, read up where a dart comes and down where it goes.
+use Rattle.std.proofs.Common.{ℕ, ◌<◌, ◌≡◌, ◌≢◌, cond, eqb, List, length, get_or, Option, Some, None, refl, sym, ap, ◌∙◌, subst, inl, inr, arith}
 use Rattle.std.proofs.lemmas.Option.{none-some, some_pair_parts}
-use Rattle.std.proofs.lemmas.Bool.{cases_eq}
+use Rattle.std.proofs.lemmas.Bool.{cases_eq, cond-true, cond-false, eq-eqb, ne_eqb}
 use Rattle.map_lists.specs.Lists.{Lists}
-use Rattle.map_definitions.specs.Maps.{Dart, list_of, HasDart, IsSimpleMap, follows, entry_after}
-use Rattle.half_edges.specs.Arena.{vertex_at, next_of, prev_of, dart_in, twin_of, tail_of, IsLinked, IsPaired}
-use Rattle.half_edges.specs.Links.{IsSpliced, IsVertexSet}
+use Rattle.map_definitions.specs.Maps.{Dart, list_of, HasDart, follows}
+use Rattle.map_definitions.proofs.EntryMore.{AreEntryMore, has_up, has_down, distinct_up, distinct_down, follows_same, follows_skip}
+use Rattle.half_edges.specs.Arena.{vertex_at, next_of, prev_of, IsLinked}
+use Rattle.half_edges.specs.Links.{IsVertexSet}
 use Rattle.half_edges.specs.declared.arena.DartRecord.{DartRecord}
 use Rattle.half_edges.specs.declared.arena.VertexRecord.{VertexRecord}
-use Rattle.half_edges.proofs.ArenaLemmas.{dart_in-live, IsDartAt-from, dart-lt}
-use Rattle.half_edges.proofs.InsertLemmas.{IsInserted}
 
 pub tails_same : (a v b u : ℕ) (dart : Option Dart) → dart ≡ Some (a, b) → dart ≡ Some (v, u) → (a ≡ v) × (b ≡ u)
 tails_same a v b u dart one other = some_pair_parts a v b u (sym one ∙ other)
 
--- a function gives the new dart to d, and all others as before
-pub record IsDartMore (old new : ℕ → Option Dart) (d w x : ℕ) : Type 0 where
-  pub none : old d ≡ None
-  pub here : new d ≡ Some (w, x)
-  pub other : (z : ℕ) → z ≢ d → new z ≡ old z
+-- two functions differ at d, which is the dart (w, x) in the one and none in the other
+pub record IsDartMore (short grown : ℕ → Option Dart) (d w x : ℕ) : Type 0 where
+  pub none : short d ≡ None
+  pub here : grown d ≡ Some (w, x)
+  pub other : (z : ℕ) → z ≢ d → grown z ≡ short z
 
-module _ (dart more : ℕ → Option Dart) (lists : Lists) (old new : List DartRecord) (vertices grown : List VertexRecord) (h : IsLinked dart lists old vertices) (d w x e n first : ℕ) (us : List ℕ) where
-  -- what is needed of the place of the new dart
-  pub record IsPlaceFor : Type 0 where
-    pub vertex_in : w < length lists
-    pub dart_more : IsDartMore dart more d w x
-    pub inserted : IsInserted (list_of lists w) us x
-    pub spliced : IsSpliced old new d e n w
-    pub vertex_set : IsVertexSet vertices grown w first (length us)
-    pub first_dart : more first ≡ Some (w, get_or us 0 0)
-    pub after_others : (z b : ℕ) → dart z ≡ Some (w, b) → z ≢ e → entry_after b us ≡ entry_after b (list_of lists w)
-    pub after_e : (v b : ℕ) → dart e ≡ Some (v, b) → (v ≡ w) × (entry_after b us ≡ x)
-    pub next_dart : more n ≡ Some (w, entry_after x us)
-    pub apart : (z v b : ℕ) → dart z ≡ Some (v, b) → z ≢ e → next_of old z ≢ n
+-- a function with another value at d
+abbrev pub set_dart : (ℕ → Option Dart) → ℕ → Option Dart → ℕ → Option Dart
+set_dart dart d o z = cond (eqb z d) o (dart z)
 
-  module _ (p : IsPlaceFor) where
-    after : Lists
-    after = set lists w us
+pub set_dart-here : (dart : ℕ → Option Dart) (d : ℕ) (o : Option Dart) → set_dart dart d o d ≡ o
+set_dart-here dart d o = cond-true (eqb d d) o (dart d) (eq-eqb d d refl)
 
-    length_after : length (set lists w us) ≡ length lists
-    length_after = length-set lists w us
+pub set_dart-other : (dart : ℕ → Option Dart) (d : ℕ) (o : Option Dart) (z : ℕ) → z ≢ d → set_dart dart d o z ≡ dart z
+set_dart-other dart d o z other = cond-false (eqb z d) o (dart z) (ne_eqb z d other)
 
-    list_here : list_of (set lists w us) w ≡ us
-    list_here = get_or-set_same lists w us [] p.vertex_in
+-- the links of the grown records lead from e over d to n, and all others, as those of the short ones do, past d
+pub record IsLinkMore (short grown : List DartRecord) (d e n : ℕ) : Type 0 where
+  pub next_here : next_of grown d ≡ n
+  pub next_before : next_of grown e ≡ d
+  pub next_past : e ≢ d → next_of short e ≡ n
+  pub next_other : (z : ℕ) → z ≢ d → z ≢ e → next_of grown z ≡ next_of short z
+  pub prev_here : prev_of grown d ≡ e
+  pub prev_after : prev_of grown n ≡ d
+  pub prev_past : e ≢ d → prev_of short n ≡ e
+  pub prev_other : (z : ℕ) → z ≢ d → z ≢ n → prev_of grown z ≡ prev_of short z
 
-    list_there : (v : ℕ) → v ≢ w → list_of (set lists w us) v ≡ list_of lists v
-    list_there v other = get_or-set_other lists w v us [] other
+-- the records of vertices fit these lists
+pub record AreVertices (dart : ℕ → Option Dart) (lists : Lists) (vertices : List VertexRecord) : Type 0 where
+  pub vertex_count : length vertices ≡ length lists
+  pub degree_at : (v : ℕ) → v < length lists → (vertex_at vertices v).degree ≡ length (list_of lists v)
+  pub first_at : (v : ℕ) → v < length lists → 0 < length (list_of lists v) → dart (vertex_at vertices v).first ≡ Some (v, get_or (list_of lists v) 0 0)
 
-    not_d : (z v u : ℕ) → dart z ≡ Some (v, u) → z ≢ d
-    not_d z v u some e' = none-some (v, u) (sym p.dart_more.none ∙ ap dart (sym e') ∙ some)
+-- one of them is written, and the list of one vertex changes
+pub AreVertices-set : (dart after : ℕ → Option Dart) (lists changed : Lists) (old new : List VertexRecord) (w first : ℕ) → length changed ≡ length lists → ((v : ℕ) → v ≢ w → list_of changed v ≡ list_of lists v) → ((z v u : ℕ) → v ≢ w → dart z ≡ Some (v, u) → after z ≡ Some (v, u)) → IsVertexSet old new w first (length (list_of changed w)) → (0 < length (list_of changed w) → after first ≡ Some (w, get_or (list_of changed w) 0 0)) → length old ≡ length lists → ((v : ℕ) → v < length lists → (vertex_at old v).degree ≡ length (list_of lists v)) → ((v : ℕ) → v < length lists → 0 < length (list_of lists v) → dart (vertex_at old v).first ≡ Some (v, get_or (list_of lists v) 0 0)) → AreVertices after changed new
+AreVertices-set dart after lists changed old new w first same there stays s first_is count degree_at first_at = record {
+  vertex_count = s.count ∙ count ∙ sym same;
+  degree_at = λ v l.
+      elim (cases_eq v w) [
+        | inl e ↦ ap (λ y. (vertex_at new y).degree) e ∙ s.degree_is ∙ ap (λ y. length (list_of changed y)) (sym e)
+        | inr other ↦ ap (λ (r : VertexRecord). r.degree) (s.other v other) ∙ degree_at v (omega (arith, l, same)) ∙ ap length (sym (there v other))
+      ];
+  first_at = λ v l some.
+      elim (cases_eq v w) [
+        | inl e ↦
+            ap (λ y. after (vertex_at new y).first) e ∙ ap after s.first_is ∙ first_is (subst (λ y. 0 < length (list_of changed y)) e some)
+            ∙ ap (λ y. Some (y, get_or (list_of changed y) 0 0)) (sym e)
+        | inr other ↦
+            ap (λ (r : VertexRecord). after r.first) (s.other v other)
+            ∙ stays (vertex_at old v).first v _ other (first_at v (omega (arith, l, same)) (omega (arith, some, ap length (there v other))))
+            ∙ ap (λ (us : List ℕ). Some (v, get_or us 0 0)) (sym (there v other))
+      ];
+}
 
-    still : (z v u : ℕ) → dart z ≡ Some (v, u) → more z ≡ Some (v, u)
-    still z v u some = p.dart_more.other z (not_d z v u some) ∙ some
+module _ (dart_s dart_g : ℕ → Option Dart) (lists_s lists_g : Lists) (short grown : List DartRecord) (vertices_s vertices_g : List VertexRecord) (d w x e n : ℕ) where
+  -- where the dart stands among the others
+  pub record IsDartPlace : Type 0 where
+    pub darts : IsDartMore dart_s dart_g d w x
+    pub lists : AreEntryMore lists_s lists_g w x
+    pub links : IsLinkMore short grown d e n
+    -- e is the dart that it follows, and no other is
+    pub at_e : (v b : ℕ) → dart_s e ≡ Some (v, b) → (v ≡ w) × (follows lists_g w b ≡ x)
+    pub off_e : (z b : ℕ) → dart_s z ≡ Some (w, b) → z ≢ e → follows lists_g w b ≢ x
+    pub at_n : dart_g n ≡ Some (w, follows lists_g w x)
+    pub off_n : (z v b : ℕ) → dart_s z ≡ Some (v, b) → z ≢ e → next_of short z ≢ n
 
-    was : (z v u : ℕ) → z ≢ d → more z ≡ Some (v, u) → dart z ≡ Some (v, u)
-    was z v u other some = sym (p.dart_more.other z other) ∙ some
+  module _ (p : IsDartPlace) where
+    not_d : (z v u : ℕ) → dart_s z ≡ Some (v, u) → z ≢ d
+    not_d z v u some same = none-some (v, u) (sym p.darts.none ∙ ap dart_s (sym same) ∙ some)
 
-    has_at_w : (u : ℕ) → Contains us u → HasDart (set lists w us) w u
-    has_at_w u c = (omega (arith, length_after, p.vertex_in), subst (λ (xs : List ℕ). Contains xs u) (sym list_here) c)
+    up : (z v u : ℕ) → dart_s z ≡ Some (v, u) → dart_g z ≡ Some (v, u)
+    up z v u some = p.darts.other z (not_d z v u some) ∙ some
 
-    has_still : (v u : ℕ) → HasDart lists v u → HasDart (set lists w us) v u
-    has_still v u has =
-        elim (cases_eq v w) [
-          | inl same ↦ subst (λ y. HasDart (set lists w us) y u) (sym same) (has_at_w u (p.inserted.keeps u (subst (λ y. Contains (list_of lists y) u) same has.1)))
-          | inr other ↦ (omega (arith, length_after, has.0), subst (λ (xs : List ℕ). Contains xs u) (sym (list_there v other)) has.1)
-        ]
+    down : (z v u : ℕ) → z ≢ d → dart_g z ≡ Some (v, u) → dart_s z ≡ Some (v, u)
+    down z v u other some = sym (p.darts.other z other) ∙ some
 
-    distinct_more : (v : ℕ) → v < length (set lists w us) → AllPairs ◌≢◌ (list_of (set lists w us) v)
-    distinct_more v l =
-        elim (cases_eq v w) [
-          | inl same ↦ subst (λ (xs : List ℕ). AllPairs ◌≢◌ xs) (sym (ap (λ y. list_of (set lists w us) y) same ∙ list_here)) p.inserted.distinct
-          | inr other ↦ subst (λ (xs : List ℕ). AllPairs ◌≢◌ xs) (sym (list_there v other)) (h.distinct v (omega (arith, l, length_after)))
-        ]
+    at_d : (z v u : ℕ) → z ≡ d → dart_g z ≡ Some (v, u) → (w ≡ v) × (x ≡ u)
+    at_d z v u same some = tails_same w v x u (dart_g d) p.darts.here (ap dart_g (sym same) ∙ some)
 
-    is_dart_more : (z v u : ℕ) → more z ≡ Some (v, u) → HasDart (set lists w us) v u
-    is_dart_more z v u some =
-        elim (cases_eq z d) [
-          | inl same ↦
-              let parts = tails_same w v x u (more d) p.dart_more.here (ap more (sym same) ∙ some) in
-              subst (λ y. HasDart (set lists w us) y u) parts.0 (subst (λ y. HasDart (set lists w us) w y) parts.1 (has_at_w x p.inserted.adds))
-          | inr other ↦ has_still v u (h.is_dart z v u (was z v u other some))
-        ]
+    -- what follows is the same, but behind e
+    follows_off : (z v u : ℕ) → HasDart lists_s v u → dart_s z ≡ Some (v, u) → z ≢ e → follows lists_s v u ≡ follows lists_g v u
+    follows_off z v u has some off =
+        follows_same lists_s lists_g w x p.lists v u has (λ same. p.off_e z u (some ∙ ap (λ y. Some (y, u)) same) off)
 
-    from_old : (v u : ℕ) → HasDart lists v u → (z : ℕ) × (more z ≡ Some (v, u))
-    from_old v u has = let i = h.has_id v u has in (i.0, still i.0 v u i.1)
+    has_new : HasDart lists_g w x
+    has_new = (p.lists.vertex, p.lists.here.has)
 
-    has_id_more : (v u : ℕ) → HasDart (set lists w us) v u → (z : ℕ) × (more z ≡ Some (v, u))
-    has_id_more v u has =
-        elim (cases_eq v w) [
-          | inl same ↦ elim (p.inserted.no_more u (subst (λ (xs : List ℕ). Contains xs u) (ap (λ y. list_of (set lists w us) y) same ∙ list_here) has.1)) [
-            | inl c ↦ from_old v u (omega (arith, has.0, length_after), subst (λ y. Contains (list_of lists y) u) (sym same) c)
-            | inr new_one ↦ (d, p.dart_more.here ∙ ap (λ y. Some (y, x)) (sym same) ∙ ap (λ y. Some (v, y)) (sym new_one))
+    module _ (h : IsLinked dart_s lists_s short vertices_s) where
+      has_short : (z v u : ℕ) → dart_s z ≡ Some (v, u) → HasDart lists_g v u × (v ≡ w → u ≢ x)
+      has_short z v u some = has_up lists_s lists_g w x p.lists v u (h.is_dart z v u some)
+
+      has_id_up : (v u : ℕ) → HasDart lists_g v u → (z : ℕ) × (dart_g z ≡ Some (v, u))
+      has_id_up v u has =
+          let old : (v ≡ w → u ≢ x) → (z : ℕ) × (dart_g z ≡ Some (v, u)) = λ not_new. let i = h.has_id v u (has_down lists_s lists_g w x p.lists v u has not_new) in (i.0, up i.0 v u i.1) in
+          elim (cases_eq v w) [
+            | inl same ↦ elim (cases_eq u x) [
+              | inl new_one ↦ (d, p.darts.here ∙ ap (λ y. Some (y, x)) (sym same) ∙ ap (λ y. Some (v, y)) (sym new_one))
+              | inr other ↦ old (λ _. other)
+            ]
+            | inr other ↦ old (λ same. absurd (other same))
           ]
-          | inr other ↦ from_old v u (omega (arith, has.0, length_after), subst (λ (xs : List ℕ). Contains xs u) (list_there v other) has.1)
-        ]
 
-    -- x was no entry, so no old id has the new dart
-    module _ (fresh : ¬ HasDart lists w x) where
-      not_old : (z : ℕ) → ¬ (dart z ≡ Some (w, x))
-      not_old z some = fresh (h.is_dart z w x some)
-
-      only_d : (z v u : ℕ) → more d ≡ Some (v, u) → more z ≡ Some (v, u) → z ≡ d
-      only_d z v u at_d at_z =
+      only_d : (y z v u : ℕ) → y ≡ d → dart_g y ≡ Some (v, u) → dart_g z ≡ Some (v, u) → z ≡ d
+      only_d y z v u same at_y at_z =
+          let parts = at_d y v u same at_y in
           elim (cases_eq z d) [
-            | inl same ↦ same
-            | inr other ↦ absurd (not_old z (was z v u other at_z ∙ sym (sym p.dart_more.here ∙ at_d)))
+            | inl here ↦ here
+            | inr other ↦ absurd ((has_short z v u (down z v u other at_z)).1 (sym parts.0) (sym parts.1))
           ]
 
-      one_id_more : (y z v u : ℕ) → more y ≡ Some (v, u) → more z ≡ Some (v, u) → y ≡ z
-      one_id_more y z v u at_y at_z =
+      one_id_up : (y z v u : ℕ) → dart_g y ≡ Some (v, u) → dart_g z ≡ Some (v, u) → y ≡ z
+      one_id_up y z v u at_y at_z =
           elim (cases_eq y d) [
-            | inl y_d ↦ y_d ∙ sym (only_d z v u (ap more (sym y_d) ∙ at_y) at_z)
+            | inl y_d ↦ y_d ∙ sym (only_d y z v u y_d at_y at_z)
             | inr y_other ↦ elim (cases_eq z d) [
-              | inl z_d ↦ only_d y v u (ap more (sym z_d) ∙ at_z) at_y ∙ sym z_d
-              | inr z_other ↦ h.one_id y z v u (was y v u y_other at_y) (was z v u z_other at_z)
+              | inl z_d ↦ absurd (y_other (only_d z y v u z_d at_z at_y))
+              | inr z_other ↦ h.one_id y z v u (down y v u y_other at_y) (down z v u z_other at_z)
             ]
           ]
 
-      follows_here : (u : ℕ) → follows (set lists w us) w u ≡ entry_after u us
-      follows_here u = ap (λ xs. entry_after u xs) list_here
-
-      next_e : (z v u : ℕ) → z ≡ e → dart z ≡ Some (v, u) → more (next_of new z) ≡ Some (v, follows (set lists w us) v u)
-      next_e z v u same some =
-          let at = p.after_e v u (ap dart (sym same) ∙ some) in
-          ap (λ y. more (next_of new y)) same ∙ ap more p.spliced.next_before ∙ p.dart_more.here
-          ∙ ap (λ y. Some (y, x)) (sym at.0) ∙ ap (λ y. Some (v, y)) (sym (ap (λ y. follows (set lists w us) y u) at.0 ∙ follows_here u ∙ at.1))
-
-      follows_same : (z v u : ℕ) → z ≢ e → dart z ≡ Some (v, u) → follows lists v u ≡ follows (set lists w us) v u
-      follows_same z v u other some =
-          elim (cases_eq v w) [
-            | inl same ↦
-                ap (λ y. follows lists y u) same
-                ∙ sym (p.after_others z u (some ∙ ap (λ y. Some (y, u)) same) other)
-                ∙ sym (ap (λ y. follows (set lists w us) y u) same ∙ follows_here u)
-            | inr elsewhere ↦ ap (λ xs. entry_after u xs) (sym (list_there v elsewhere))
-          ]
-
-      next_at_more : (z v u : ℕ) → more z ≡ Some (v, u) → more (next_of new z) ≡ Some (v, follows (set lists w us) v u)
-      next_at_more z v u some =
+      -- next and prev at a dart of the grown arena
+      links_up : (z v u : ℕ) → dart_g z ≡ Some (v, u) → (dart_g (next_of grown z) ≡ Some (v, follows lists_g v u)) × (prev_of grown (next_of grown z) ≡ z)
+      links_up z v u some =
           elim (cases_eq z d) [
             | inl same ↦
-                let parts = tails_same w v x u (more d) p.dart_more.here (ap more (sym same) ∙ some) in
-                ap (λ y. more (next_of new y)) same ∙ ap more p.spliced.next_here ∙ p.next_dart ∙ ap (λ y. Some (w, y)) (sym (follows_here x))
-                ∙ ap (λ y. Some (y, follows (set lists w us) y x)) parts.0 ∙ ap (λ y. Some (v, follows (set lists w us) v y)) parts.1
+                let parts = at_d z v u same some in
+                let next = ap (λ y. next_of grown y) same ∙ p.links.next_here in (
+                  ap dart_g next ∙ p.at_n ∙ ap (λ y. Some (y, follows lists_g y x)) parts.0 ∙ ap (λ y. Some (v, follows lists_g v y)) parts.1,
+                  ap (λ y. prev_of grown y) next ∙ p.links.prev_after ∙ sym same,
+                )
             | inr other ↦
-                let before = was z v u other some in
+                let before = down z v u other some in
                 elim (cases_eq z e) [
-                  | inl at_e ↦ next_e z v u at_e before
+                  | inl at ↦
+                      let place = p.at_e v u (ap dart_s (sym at) ∙ before) in
+                      let next = ap (λ y. next_of grown y) at ∙ p.links.next_before in (
+                        ap dart_g next ∙ p.darts.here ∙ ap (λ y. Some (y, x)) (sym place.0) ∙ ap (λ y. Some (v, y)) (sym (ap (λ y. follows lists_g y u) place.0 ∙ place.1)),
+                        ap (λ y. prev_of grown y) next ∙ p.links.prev_here ∙ sym at,
+                      )
                   | inr off ↦
-                      ap more (p.spliced.next_other z other off) ∙ still (next_of old z) v (follows lists v u) (h.next_at z v u before)
-                      ∙ ap (λ y. Some (v, y)) (follows_same z v u off before)
-                ]
-          ]
-
-      prev_at_more : (z v u : ℕ) → more z ≡ Some (v, u) → prev_of new (next_of new z) ≡ z
-      prev_at_more z v u some =
-          elim (cases_eq z d) [
-            | inl same ↦ ap (λ y. prev_of new (next_of new y)) same ∙ ap (λ y. prev_of new y) p.spliced.next_here ∙ p.spliced.prev_after ∙ sym same
-            | inr other ↦
-                let before = was z v u other some in
-                elim (cases_eq z e) [
-                  | inl at_e ↦ ap (λ y. prev_of new (next_of new y)) at_e ∙ ap (λ y. prev_of new y) p.spliced.next_before ∙ p.spliced.prev_here ∙ sym at_e
-                  | inr off ↦
-                      ap (λ y. prev_of new y) (p.spliced.next_other z other off)
-                      ∙ p.spliced.prev_other (next_of old z) (not_d (next_of old z) v (follows lists v u) (h.next_at z v u before)) (p.apart z v u before off)
-                      ∙ h.prev_at z v u before
+                      let next = p.links.next_other z other off in
+                      let follower = h.next_at z v u before in (
+                        ap dart_g next ∙ up (next_of short z) v (follows lists_s v u) follower ∙ ap (λ y. Some (v, y)) (follows_off z v u (h.is_dart z v u before) before off),
+                        ap (λ y. prev_of grown y) next ∙ p.links.prev_other (next_of short z) (not_d (next_of short z) v (follows lists_s v u) follower) (p.off_n z v u before off) ∙ h.prev_at z v u before,
+                      )
                 ]
           ]
 
       -- the links with the new dart
-      pub IsLinked-more : IsLinked more (set lists w us) new grown
-      IsLinked-more = record {
-        distinct = distinct_more;
-        is_dart = is_dart_more;
-        has_id = has_id_more;
-        one_id = one_id_more;
-        next_at = next_at_more;
-        prev_at = prev_at_more;
-        vertex_count = omega (arith, p.vertex_set.count, h.vertex_count, length_after);
-        degree_at = λ v l.
-            elim (cases_eq v w) [
-              | inl same ↦ ap (λ y. (vertex_at grown y).degree) same ∙ p.vertex_set.degree_is ∙ ap length (sym (ap (λ y. list_of (set lists w us) y) same ∙ list_here))
-              | inr other ↦ ap (λ (r : VertexRecord). r.degree) (p.vertex_set.other v other) ∙ h.degree_at v (omega (arith, l, length_after)) ∙ ap length (sym (list_there v other))
+      pub IsLinked-more : AreVertices dart_g lists_g vertices_g → IsLinked dart_g lists_g grown vertices_g
+      IsLinked-more vs = record {
+        distinct = λ v l. distinct_up lists_s lists_g w x p.lists v (h.distinct v (omega (arith, l, p.lists.count)));
+        is_dart = λ z v u some.
+            elim (cases_eq z d) [
+              | inl same ↦ let parts = at_d z v u same some in subst (λ y. HasDart lists_g y u) parts.0 (subst (λ y. HasDart lists_g w y) parts.1 has_new)
+              | inr other ↦ (has_short z v u (down z v u other some)).0
             ];
-        first_at = λ v l some.
-            elim (cases_eq v w) [
-              | inl same ↦
-                  ap (λ y. more (vertex_at grown y).first) same ∙ ap more p.vertex_set.first_is ∙ p.first_dart
-                  ∙ ap (λ y. Some (y, get_or us 0 0)) (sym same) ∙ ap (λ (xs : List ℕ). Some (v, get_or xs 0 0)) (sym (ap (λ y. list_of (set lists w us) y) same ∙ list_here))
-              | inr other ↦
-                  let same_list = list_there v other in
-                  let old_some : 0 < length (list_of lists v) = omega (arith, some, ap length same_list) in
-                  ap (λ (r : VertexRecord). more r.first) (p.vertex_set.other v other)
-                  ∙ still (vertex_at vertices v).first v (get_or (list_of lists v) 0 0) (h.first_at v (omega (arith, l, length_after)) old_some)
-                  ∙ ap (λ (xs : List ℕ). Some (v, get_or xs 0 0)) (sym same_list)
-            ];
+        has_id = has_id_up;
+        one_id = one_id_up;
+        next_at = λ z v u some. (links_up z v u some).0;
+        prev_at = λ z v u some. (links_up z v u some).1;
+        vertex_count = vs.vertex_count;
+        degree_at = vs.degree_at;
+        first_at = vs.first_at;
       }
 
--- A simple map: adjacency goes both ways by the twins.
-pub IsSimpleMap-linked : (lists : Lists) (darts : List DartRecord) (vertices : List VertexRecord) → 0 < length lists → IsLinked (dart_in darts) lists darts vertices → ((d : ℕ) → d < length darts → IsPaired darts d) → IsSimpleMap lists
-IsSimpleMap-linked lists darts vertices some h paired =
-    let turned : (v u : ℕ) → HasDart lists v u → (d : ℕ) × (dart_in darts d ≡ Some (v, u)) × (dart_in darts (twin_of darts d) ≡ Some (u, v)) =
-    λ v u has.
-    let i = h.has_id v u has in
-    let at = IsDartAt-from darts i.0 v u i.1 in
-    let pair = paired i.0 (dart-lt darts i.0 v u i.1) in (
-      i.0,
-      i.1,
-      dart_in-live darts (twin_of darts i.0) (pair.both ∙ at.live) ∙ ap (λ y. Some (y, tail_of darts (twin_of darts (twin_of darts i.0)))) at.head
-          ∙ ap (λ y. Some (u, y)) (ap (λ y. tail_of darts y) pair.back ∙ at.tail),
-    ) in
-    let back : (v u : ℕ) → HasDart lists v u → HasDart lists u v = λ v u has. let t = turned v u has in h.is_dart (twin_of darts t.0) u v t.2 in
-    record {
-      some_vertex = some;
-      in_range = λ v u has. (back v u has).0;
-      no_loop = λ v u has same.
-          let t = turned v u has in
-          (paired t.0 (dart-lt darts t.0 v u t.1)).other
-          (h.one_id (twin_of darts t.0) t.0 v u (t.2 ∙ ap (λ y. Some (y, v)) same ∙ ap (λ y. Some (v, y)) (sym same)) t.1);
-      no_repeat = h.distinct;
-      both_ways = back;
-    }
+    module _ (h : IsLinked dart_g lists_g grown vertices_g) where
+      -- a dart that is left is not the one that goes
+      has_left : (z v u : ℕ) → dart_s z ≡ Some (v, u) → HasDart lists_s v u
+      has_left z v u some =
+          has_down lists_s lists_g w x p.lists v u (h.is_dart z v u (up z v u some))
+          (λ same new_one. not_d z v u some (h.one_id z d w x (up z v u some ∙ ap (λ y. Some (y, u)) same ∙ ap (λ y. Some (w, y)) new_one) p.darts.here))
+
+      has_id_down : (v u : ℕ) → HasDart lists_s v u → (z : ℕ) × (dart_s z ≡ Some (v, u))
+      has_id_down v u has =
+          let old = has_up lists_s lists_g w x p.lists v u has in
+          let i = h.has_id v u old.0 in
+          elim (cases_eq i.0 d) [
+            | inl same ↦ let parts = at_d i.0 v u same i.1 in absurd (old.1 (sym parts.0) (sym parts.1))
+            | inr other ↦ (i.0, down i.0 v u other i.1)
+          ]
+
+      -- next and prev at a dart of the short arena
+      links_down : (z v u : ℕ) → dart_s z ≡ Some (v, u) → (dart_s (next_of short z) ≡ Some (v, follows lists_s v u)) × (prev_of short (next_of short z) ≡ z)
+      links_down z v u some =
+          let other = not_d z v u some in
+          elim (cases_eq z e) [
+            | inl at ↦
+                let place = p.at_e v u (ap dart_s (sym at) ∙ some) in
+                let apart : e ≢ d = λ same. other (at ∙ same) in
+                let next = ap (λ y. next_of short y) at ∙ p.links.next_past apart in
+                let n_other : n ≢ d = λ same. apart (sym p.links.prev_here ∙ ap (λ y. prev_of grown y) (sym same) ∙ p.links.prev_after) in
+                let skip = follows_skip lists_s lists_g w x p.lists u (subst (λ y. HasDart lists_s y u) place.0 (has_left z v u some)) place.1 in (
+                  ap dart_s next ∙ down n w (follows lists_g w x) n_other p.at_n ∙ ap (λ y. Some (w, y)) (sym skip) ∙ ap (λ y. Some (y, follows lists_s y u)) (sym place.0),
+                  ap (λ y. prev_of short y) next ∙ p.links.prev_past apart ∙ sym at,
+                )
+            | inr off ↦
+                let next = sym (p.links.next_other z other off) in
+                let follower = h.next_at z v u (up z v u some) in
+                let back = h.prev_at z v u (up z v u some) in
+                let after_other : next_of grown z ≢ d = λ same. off (sym back ∙ ap (λ y. prev_of grown y) same ∙ p.links.prev_here) in (
+                  ap dart_s next ∙ down (next_of grown z) v (follows lists_g v u) after_other follower ∙ ap (λ y. Some (v, y)) (sym (follows_off z v u (has_left z v u some) some off)),
+                  ap (λ y. prev_of short y) next ∙ sym (p.links.prev_other (next_of grown z) after_other (λ same. p.off_n z v u some off (next ∙ same))) ∙ back,
+                )
+          ]
+
+      -- the links without the dart
+      pub IsLinked-less : AreVertices dart_s lists_s vertices_s → IsLinked dart_s lists_s short vertices_s
+      IsLinked-less vs = record {
+        distinct = λ v l. distinct_down lists_s lists_g w x p.lists v (h.distinct v (omega (arith, l, p.lists.count)));
+        is_dart = has_left;
+        has_id = has_id_down;
+        one_id = λ y z v u at_y at_z. h.one_id y z v u (up y v u at_y) (up z v u at_z);
+        next_at = λ z v u some. (links_down z v u some).0;
+        prev_at = λ z v u some. (links_down z v u some).1;
+        vertex_count = vs.vertex_count;
+        degree_at = vs.degree_at;
+        first_at = vs.first_at;
+      }

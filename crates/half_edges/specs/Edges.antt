@@ -1,43 +1,57 @@
 -- A map with an edge more, and the writes to an arena by which darts come and go.
-use Rattle.std.specs.Prelude.{ℕ, ◌+◌, ◌-◌, ◌<◌, ◌≡◌, ◌≢◌, ◌==◌, if◌then◌else◌, List, [], ◌∷◌, length, slice_set, unwrap_or}
+use Rattle.std.specs.Prelude.{ℕ, ◌+◌, ◌-◌, ◌<◌, ◌≡◌, ◌≢◌, ◌==◌, true, if◌then◌else◌, List, [], ◌∷◌, length, slice_set, Option, Some, None, option_map}
 use Rattle.std.specs.List.{insert}
 use Rattle.map_lists.specs.Lists.{Lists}
-use Rattle.map_definitions.specs.Maps.{Dart, list_of, place_of}
+use Rattle.map_definitions.specs.Maps.{HasDart, list_of, place_of}
 use Rattle.half_edges.specs.Map.{Map, dart_at, IsLive}
-use Rattle.half_edges.specs.Arena.{vertex_at, next_of, tail_of}
+use Rattle.half_edges.specs.Arena.{vertex_at, next_of, tail_of, head_of, live_of}
 use Rattle.half_edges.specs.Links.{IsSpliced, IsUnspliced, IsVertexSet}
 use Rattle.half_edges.specs.declared.arena.DartRecord.{DartRecord}
 use Rattle.half_edges.specs.declared.arena.VertexRecord.{VertexRecord}
 use Rattle.half_edges.specs.declared.edges.Corner.{Corner}
 use Rattle.half_edges.specs.declared.edges.Corner.TheVariants.{After, Only}
 
--- the dart of a live id
-abbrev pub live_dart : Map → ℕ → Dart
-live_dart map d = unwrap_or (dart_at map d) (0, 0)
-
--- the vertex of a corner
-abbrev pub corner_vertex : Map → Corner → ℕ
-corner_vertex map (After d) = (live_dart map d.0).0
-corner_vertex map (Only v) = v.0
+-- the place of a corner: its vertex, and the entry of the list behind which it stands, if the list has any
+abbrev pub corner_place : Map → Corner → Option (ℕ × Option ℕ)
+corner_place map (After d) = option_map (λ dart. (dart.0, Some dart.1)) (dart_at map d.0)
+corner_place map (Only v) = Some (v.0, None)
 
 -- a corner names a dart of the map, or a vertex that has none
 abbrev pub IsCorner : Map → Corner → Type 0
 IsCorner map (After d) = IsLive map d.0
 IsCorner map (Only v) = (v.0 < length map.lists) × (list_of map.lists v.0 ≡ [])
 
--- the list of a corner's vertex with one entry more, directly after the named one
-abbrev pub with_entry : Map → Corner → ℕ → List ℕ
-with_entry map (After d) x =
-    let us = list_of map.lists (live_dart map d.0).0 in
-    insert us (place_of (live_dart map d.0).1 us + 1) x
-with_entry map (Only v) x = x ∷ []
+-- a list with x directly behind one of its entries, or at the front where none is named
+abbrev pub with_entry : List ℕ → Option ℕ → ℕ → List ℕ
+with_entry us (Some a) x = insert us (place_of a us + 1) x
+with_entry us None x = x ∷ us
 
--- the lists with an edge more, between two corners
-abbrev pub with_edge : Map → Corner → Corner → Lists
-with_edge map at_u at_v =
-    let u = corner_vertex map at_u in
-    let v = corner_vertex map at_v in
-    slice_set (slice_set map.lists u (with_entry map at_u v)) v (with_entry map at_v u)
+-- the lists with an edge more between u and v, behind these entries
+abbrev pub with_edge : Lists → ℕ → Option ℕ → ℕ → Option ℕ → Lists
+with_edge lists u a v b =
+    slice_set (slice_set lists u (with_entry (list_of lists u) a v)) v (with_entry (list_of lists v) b u)
+
+-- the same of the records: the vertex of a corner
+abbrev pub corner_tail : List DartRecord → Corner → ℕ
+corner_tail darts (After e) = tail_of darts e.0
+corner_tail darts (Only v) = v.0
+
+-- the entry behind which it stands
+abbrev pub corner_entry : List DartRecord → Corner → Option ℕ
+corner_entry darts (After e) = Some (head_of darts e.0)
+corner_entry darts (Only v) = None
+
+-- and what it names
+abbrev pub IsCornerIn : Lists → List DartRecord → Corner → Type 0
+IsCornerIn lists darts (After e) = live_of darts e.0 ≡ true
+IsCornerIn lists darts (Only v) = (v.0 < length lists) × (list_of lists v.0 ≡ [])
+
+-- two corners for a new edge: at two vertices that are not adjacent
+pub record AreCornersIn (lists : Lists) (darts : List DartRecord) (c e : Corner) : Type 0 where
+  pub first : IsCornerIn lists darts c
+  pub second : IsCornerIn lists darts e
+  pub two_vertices : corner_tail darts c ≢ corner_tail darts e
+  pub not_adjacent : ¬ HasDart lists (corner_tail darts c) (corner_tail darts e)
 
 -- the first dart of a vertex, where a dart leaves behind which another comes
 abbrev pub moved_first : ℕ → ℕ → ℕ → ℕ

@@ -1,7 +1,7 @@
 -- What contracts see of a half-edge map: its rotation lists, the room for more edges, and which id is which dart.
-use Rattle.std.specs.Prelude.{ℕ, ◌+◌, ◌*◌, ◌<◌, ◌≤◌, ◌≡◌, List, length, slice_index_or, Option, Some, None, IsSome}
+use Rattle.std.specs.Prelude.{ℕ, ◌+◌, ◌*◌, ◌<◌, ◌≤◌, ◌≡◌, List, length, slice_index, slice_index_or, Option, Some, None, IsSome}
 use Rattle.map_lists.specs.Lists.{Lists}
-use Rattle.map_definitions.specs.Maps.{Dart, IsSimpleMap, HasDart, follows, edge_count}
+use Rattle.map_definitions.specs.Maps.{Dart, IsSimpleMap, HasDart, list_of, follows, edge_count}
 
 pub record Map : Type 0 where
   -- for each vertex its neighbours, clockwise
@@ -22,6 +22,14 @@ IsLive map d = IsSome (dart_at map d)
 abbrev pub next_dart : Lists → Dart → Dart
 next_dart lists d = (d.0, follows lists d.0 d.1)
 
+-- the dart of v's first entry
+abbrev pub first_dart : Lists → ℕ → Dart
+first_dart lists v = (v, slice_index (list_of lists v) 0)
+
+-- twice the number of edges that there are or can be added: the number of each id is below it
+abbrev pub id_bound : Map → ℕ
+id_bound map = 2 * (edge_count map.lists + map.spare)
+
 -- What holds of every half-edge map.
 pub record IsHalfMap (map : Map) : Type 0 where
   pub simple : IsSimpleMap map.lists
@@ -31,5 +39,4 @@ pub record IsHalfMap (map : Map) : Type 0 where
   -- each dart has an id, and no other
   pub has_id : (v u : ℕ) → HasDart map.lists v u → (d : ℕ) × (dart_at map d ≡ Some (v, u))
   pub one_id : (d e v u : ℕ) → dart_at map d ≡ Some (v, u) → dart_at map e ≡ Some (v, u) → d ≡ e
-  -- the number of each id is below twice the number of edges that there are or can be added
-  pub few_ids : length map.ids ≤ 2 * (edge_count map.lists + map.spare)
+  pub few_ids : length map.ids ≤ id_bound map

@@ -1,11 +1,11 @@
 //! Edges that come and go, in constant time and with no memory taken.
-ghost use Rattle.std.specs.Prelude.{◌*◌, vec_len, vec_capacity, ◌≡◌, ◌≢◌, ◌+◌, ◌-◌, ◌<◌, ◌≤◌, ℕ, true, min, max, length, Some, OnOk, OnErr};
+ghost use Rattle.std.specs.Prelude.{◌*◌, vec_len, vec_capacity, ◌≡◌, ◌≢◌, ◌+◌, ◌-◌, ◌<◌, ◌≤◌, ℕ, true, min, max, length, Option, Some, OnOk, OnErr};
 ghost use Rattle.map_definitions.specs.Maps.{HasDart};
 ghost use Rattle.map_definitions.specs.Edges.{without_edge};
 ghost use Rattle.half_edges.specs.Map.{IsHalfMap, IsLive, dart_at};
-ghost use Rattle.half_edges.specs.Arena.{arena_lists, arena_map, dart_in, vertex_at, next_of, prev_of, tail_of, head_of, live_of, IsPaired, AreFree, IsWired};
+ghost use Rattle.half_edges.specs.Arena.{arena_lists, dart_in, vertex_at, next_of, prev_of, tail_of, head_of, live_of, IsPaired, AreFree, IsWired};
 ghost use Rattle.half_edges.specs.Links.{IsFreer};
-ghost use Rattle.half_edges.specs.Edges.{live_dart, moved_first, corner_vertex, IsCorner, with_edge, IsTakenOut, IsPut, IsPutWithin};
+ghost use Rattle.half_edges.specs.Edges.{moved_first, corner_place, IsCorner, with_edge, corner_tail, corner_entry, AreCornersIn, IsTakenOut, IsPut, IsPutWithin};
 
 use crate::arena::{DartRecord, VertexRecord, splice, thread, unsplice};
 use crate::{DartId, Ends, HalfMap, VertexId};
@@ -50,11 +50,16 @@ impl HalfMap {
         requires spare { 1 ≤ self.old.spare }
         requires corner_u { IsCorner self.old at_u }
         requires corner_v { IsCorner self.old at_v }
-        requires two_vertices { corner_vertex self.old at_u ≢ corner_vertex self.old at_v }
-        requires not_adjacent { ¬ HasDart self.old.lists (corner_vertex self.old at_u) (corner_vertex self.old at_v) }
-        ensures lists { self.new.lists ≡ with_edge self.old at_u at_v }
+        requires two_vertices { (u v : ℕ) (a b : Option ℕ) → corner_place self.old at_u ≡ Some (u, a) → corner_place self.old at_v ≡ Some (v, b)
+            → u ≢ v }
+        requires not_adjacent { (u v : ℕ) (a b : Option ℕ) → corner_place self.old at_u ≡ Some (u, a) → corner_place self.old at_v ≡ Some (v, b)
+            → ¬ HasDart self.old.lists u v }
+        ensures lists { (u v : ℕ) (a b : Option ℕ) → corner_place self.old at_u ≡ Some (u, a) → corner_place self.old at_v ≡ Some (v, b)
+            → self.new.lists ≡ with_edge self.old.lists u a v b }
         ensures spare { self.new.spare + 1 ≡ self.old.spare }
-        ensures dart { dart_at self.new result.0 ≡ Some (corner_vertex self.old at_u, corner_vertex self.old at_v) }
+        ensures dart { (u v : ℕ) (a b : Option ℕ) → corner_place self.old at_u ≡ Some (u, a) → corner_place self.old at_v ≡ Some (v, b)
+            → dart_at self.new result.0 ≡ Some (u, v) }
+        ensures live { IsLive self.new result.0 }
         ensures ids { (e v u : ℕ) → dart_at self.old e ≡ Some (v, u) → dart_at self.new e ≡ Some (v, u) }
         ensures known { IsHalfMap self.new }
     {
@@ -78,11 +83,11 @@ impl HalfMap {
     /// rises by one; all other darts keep their ids.
     pub fn remove_edge(&mut self, d: DartId) -> Ends
         requires { IsLive self.old d.0 }
-        ensures lists { self.new.lists ≡ without_edge self.old.lists (live_dart self.old d.0).0 (live_dart self.old d.0).1 }
+        ensures lists { (u v : ℕ) → dart_at self.old d.0 ≡ Some (u, v) → self.new.lists ≡ without_edge self.old.lists u v }
         ensures spare { self.new.spare ≡ self.old.spare + 1 }
         ensures ids { (e v u : ℕ) → HasDart self.new.lists v u → dart_at self.old e ≡ Some (v, u) → dart_at self.new e ≡ Some (v, u) }
-        ensures lesser { result.a.0 ≡ min (live_dart self.old d.0).0 (live_dart self.old d.0).1 }
-        ensures greater { result.b.0 ≡ max (live_dart self.old d.0).0 (live_dart self.old d.0).1 }
+        ensures lesser { (u v : ℕ) → dart_at self.old d.0 ≡ Some (u, v) → result.a.0 ≡ min u v }
+        ensures greater { (u v : ℕ) → dart_at self.old d.0 ≡ Some (u, v) → result.b.0 ≡ max u v }
         ensures known { IsHalfMap self.new }
     {
         let ends = take_edge(
@@ -185,7 +190,7 @@ fn put(darts: &mut [DartRecord], vertices: &mut [VertexRecord], d: u32, corner: 
     }
 }
 
-// Puts the two darts of the first free edge into corners.
+// Puts the two darts of the first free edge into corners. Only the clauses name `spare`.
 fn put_edge(
     darts: &mut [DartRecord],
     vertices: &mut [VertexRecord],
@@ -196,12 +201,9 @@ fn put_edge(
 )
     requires wired { IsWired (arena_lists darts.old vertices.old) darts.old vertices.old d spare }
     requires some { 0 < spare }
-    requires corner_u { IsCorner (arena_map darts.old vertices.old spare) at_u }
-    requires corner_v { IsCorner (arena_map darts.old vertices.old spare) at_v }
-    requires two_vertices { corner_vertex (arena_map darts.old vertices.old spare) at_u ≢ corner_vertex (arena_map darts.old vertices.old spare) at_v }
-    requires not_adjacent { ¬ HasDart (arena_lists darts.old vertices.old) (corner_vertex (arena_map darts.old vertices.old spare) at_u) (corner_vertex (arena_map darts.old vertices.old spare) at_v) }
-    ensures wired { IsWired (with_edge (arena_map darts.old vertices.old spare) at_u at_v) darts.new vertices.new (next_of darts.old d) (spare - 1) }
-    ensures dart { dart_in darts.new d ≡ Some (corner_vertex (arena_map darts.old vertices.old spare) at_u, corner_vertex (arena_map darts.old vertices.old spare) at_v) }
+    requires corners { AreCornersIn (arena_lists darts.old vertices.old) darts.old at_u at_v }
+    ensures wired { IsWired (with_edge (arena_lists darts.old vertices.old) (corner_tail darts.old at_u) (corner_entry darts.old at_u) (corner_tail darts.old at_v) (corner_entry darts.old at_v)) darts.new vertices.new (next_of darts.old d) (spare - 1) }
+    ensures dart { dart_in darts.new d ≡ Some (corner_tail darts.old at_u, corner_tail darts.old at_v) }
     ensures ids { (e v u : ℕ) → dart_in darts.old e ≡ Some (v, u) → dart_in darts.new e ≡ Some (v, u) }
 {
     let _spare = spare;

@@ -2,7 +2,7 @@
 ghost use Rattle.std.specs.Prelude.{◌≡◌, ◌+◌, ◌-◌, ◌<◌, ◌≤◌, ◌==◌, nat_lt, if◌then◌else◌, ◌↔◌, ℕ, List, [], length, slice_index, Some, None, IsTrue, IfOk, IfErr, IfSome, MatchOption, option_map};
 ghost use Rattle.map_definitions.specs.Maps.{HasDart, list_of, vertex_count, edge_count, face_step, twin_dart};
 ghost use Rattle.simple_maps.specs.Faults.{first_fault};
-ghost use Rattle.half_edges.specs.Map.{IsHalfMap, IsLive, dart_at, next_dart};
+ghost use Rattle.half_edges.specs.Map.{IsHalfMap, IsLive, dart_at, first_dart, next_dart};
 ghost use Rattle.simple_maps.specs.MapFault.{Names};
 
 use crate::arena::{DartRecord, VertexRecord, dart_to, link_darts, walked};
@@ -64,6 +64,13 @@ impl HalfMap {
             free: 0,
             spare: 0,
         })
+    }
+
+    /// Does nothing. By its contract a proof learns what holds of every half-edge map.
+    pub fn facts(&self)
+        ensures { IsHalfMap self.now }
+    {
+        let _darts = &self.darts;
     }
 
     /// The number of vertices.
@@ -151,7 +158,7 @@ impl HalfMap {
     pub fn first_dart(&self, v: VertexId) -> Option<DartId>
         requires { v.0 < vertex_count self.now.lists }
         ensures dart { MatchOption result (list_of self.now.lists v.0 ≡ [])
-            (λ d. dart_at self.now d.0 ≡ Some (v.0, slice_index (list_of self.now.lists v.0) 0)) }
+            (λ d. dart_at self.now d.0 ≡ Some (first_dart self.now.lists v.0)) }
         ensures not_isolated { IfSome result (λ d. 0 < length (list_of self.now.lists v.0)) }
     {
         let vertex = self.vertices[v.0 as usize];

@@ -15,7 +15,7 @@ impl HalfMap {
         ensures spare { IfOk result (λ map. map.spare ≡ 0) }
         ensures known { IfOk result IsHalfMap }
     {
-        let _n = self.n();
+        self.facts();
         let lists = self.rotations(alloc)?;
         simple_map(alloc, &lists)
     }
@@ -31,7 +31,7 @@ impl HalfMap {
         ensures spare { IfOk result (λ map. map.spare ≡ 0) }
         ensures known { IfOk result IsHalfMap }
     {
-        let _n = self.n();
+        self.facts();
         let lists = self.rotations(alloc)?;
         let part = induced_rotations(alloc, &lists, keep)?;
         simple_map(alloc, &part)

@@ -157,10 +157,10 @@ fn assert_lists(
     Ok(())
 }
 
-// Puts the other diagonal in, with one free edge, and answers its dart from 1.
+// Puts the other diagonal in, and answers its dart from 1.
 fn other_diagonal(rt: &impl Abort, map: &mut HalfMap) -> Result<DartId, Fail> {
     assert!(rt; map.n() == 4);
-    assert!(rt; map.spare() == 1);
+    assert!(rt; map.spare() >= 1);
     let d = map.dart_of(VertexId(1), VertexId(2)).ok_or("no dart")?;
     let e = map.dart_of(VertexId(3), VertexId(0)).ok_or("no dart")?;
     let none = map.dart_of(VertexId(1), VertexId(3));
@@ -193,4 +193,40 @@ fn a_thousand_turns(rt: HostRuntime) -> Result<(), Fail> {
     }
     assert_eq!(rt; (map.spare(), map.m()), (1, 5));
     assert_lists(&rt, rt.alloc(), &map, SQUARE)
+}
+
+// Puts an edge in from vertex 0 to another, which is isolated.
+fn spoke(rt: &impl Abort, map: &mut HalfMap, v: u16) {
+    assert!(rt; map.n() == 3000 && v < 3000 && v != 0);
+    assert!(rt; map.spare() >= 1);
+    let none = map.first_dart(VertexId(v));
+    assert!(rt; none.is_none());
+    let apart = map.dart_of(VertexId(0), VertexId(v));
+    assert!(rt; apart.is_none());
+    match map.first_dart(VertexId(0)) {
+        Some(d) => map.add_edge(Corner::After(d), Corner::Only(VertexId(v))),
+        None => map.add_edge(Corner::Only(VertexId(0)), Corner::Only(VertexId(v))),
+    };
+}
+
+#[test]
+fn a_star_of_thousands(rt: HostRuntime) -> Result<(), Fail> {
+    let mut lists = Rotations::new(rt.alloc());
+    for _ in 0..3000 {
+        lists.open()?;
+    }
+    assert!(rt; lists.len() == 3000);
+    let mut map = HalfMap::from_rotations(rt.alloc(), &lists)?;
+    map.reserve_edges(2999)?;
+    map.reserve_edges(7)?;
+    assert_eq!(rt; (map.spare(), map.m()), (2999, 0));
+    for v in 1..3000 {
+        spoke(&rt, &mut map, v);
+    }
+    assert_eq!(rt; (map.spare(), map.m()), (0, 2999));
+    let grown = map.rotations(rt.alloc())?;
+    assert!(rt; grown.len() == 3000);
+    assert_eq!(rt; (grown.total(), grown.list(0).len()), (5998, 2999));
+    assert_eq!(rt; grown.list(2999), [0].as_slice());
+    Ok(())
 }

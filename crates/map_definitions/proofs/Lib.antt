@@ -4,4 +4,5 @@ pub mod EntryLemmas
 pub mod DartLemmas
 pub mod DartCounts
 pub mod WithoutEntry
+pub mod EntryMore
 pub mod WithoutEdge

@@ -1,8 +1,8 @@
 -- Paths in a map, and the parts into which two entries cut a list.
 use Rattle.std.specs.Prelude.{ℕ, suc, ◌-◌, ◌<◌, ◌≡◌, true, List, ◌++◌, length, slice_index, All, Contains, take, drop}
-use Rattle.label_classes.specs.Classes.{orbits, same_class}
+use Rattle.label_classes.specs.Classes.{same_class}
 use Rattle.map_lists.specs.Lists.{Lists}
-use Rattle.map_definitions.specs.Maps.{Dart, HasDart, dart_number, face_images, place_of, face_classes}
+use Rattle.map_definitions.specs.Maps.{Dart, HasDart, dart_number, place_of, face_classes}
 
 -- a path: at least one vertex, each adjacent to the next
 pub record IsPath (lists : Lists) (path : List ℕ) : Type 0 where

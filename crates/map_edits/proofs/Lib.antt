@@ -3,3 +3,11 @@ mod Cases
 pub mod EdgeComponents
 pub mod EdgeAdded
 pub mod KeptEdges
+pub mod InsertedEntry
+pub mod WithEdge
+pub mod VertexSmoothed
+pub mod Chords
+pub mod Extended
+pub mod Completions
+pub mod OuterEars
+pub mod OuterFaces

@@ -1,8 +1,8 @@
 -- How growth adds up over several writes, and what was taken over several reads; how a count that never falls rises.
-use Rattle.std.proofs.Common.{◌≡◌, ℕ, ◌+◌, ◌^◌, ◌<◌, ◌≤◌, List, [], ◌++◌, length, take, drop, Option, Some, refl, sym, ap, ◌∙◌, arith, append_assoc, inl, inr}
+use Rattle.std.proofs.Common.{◌≡◌, ℕ, ◌+◌, ◌^◌, ◌<◌, ◌≤◌, List, [], ◌++◌, length, take, drop, Option, Some, refl, sym, ap, subst, ◌∙◌, arith, append_assoc, inl, inr}
 use Rattle.std.proofs.lemmas.List.{append-nil, length-append, take-append-drop, take-append-le, take_at, take_all, length-take-le}
 use Rattle.std.proofs.Math.Seq.{take-add, take-append-add}
-use Rattle.pg_io.specs.Io.{Gives, Takes, Grows, GrowsByPrefix, HasRisen, raised}
+use Rattle.pg_io.specs.Io.{WhereTold, Gives, Takes, Grows, GrowsByPrefix, HasRisen, raised, TakesAtMost}
 
 -- a sink grows by nothing where nothing happens
 pub Grows-none : (o : Option (List ℕ)) → Grows o o []
@@ -94,3 +94,11 @@ pub Takes-all : {o p : Option (List ℕ)} {xs : List ℕ} → Takes o p xs → (
 Takes-all {xs = xs} takes none_left all told =
     let one = takes.split all told in
     one.1 ∙ ap (λ (l : List ℕ). xs ++ l) (none_left one.0 one.2) ∙ append-nil xs
+
+-- what holds of the bytes taken, however they go on, holds of all there were
+pub WhereTold-taken : {o p : Option (List ℕ)} {xs : List ℕ} (P : List ℕ → Type 0) → Takes o p xs → ((tail : List ℕ) → P (xs ++ tail)) → WhereTold o P
+WhereTold-taken P takes holds = λ all told. let one = takes.split all told in subst P (sym one.1) (holds one.0)
+
+-- what was taken is no more than its length
+pub TakesAtMost-taken : {o p : Option (List ℕ)} {xs : List ℕ} (n : ℕ) → Takes o p xs → length xs ≤ n → TakesAtMost n o p
+TakesAtMost-taken {xs = xs} n takes few = record { bytes = xs; takes = takes; few = few }

@@ -1,5 +1,5 @@
 -- What a read takes from a source, what a write adds to a sink, and counts that only rise.
-use Rattle.std.specs.Prelude.{ℕ, ◌+◌, ◌-◌, ◌^◌, ◌<◌, ◌≤◌, ◌≡◌, ◌⊎◌, min, List, ◌++◌, length, take, drop, Option, Some}
+use Rattle.std.specs.Prelude.{ℕ, ◌+◌, ◌-◌, ◌^◌, ◌<◌, ◌≤◌, ◌≡◌, ◌⊎◌, min, List, ◌++◌, length, take, drop, Option, Some, Result, IsOkAnd}
 
 -- a fact of the bytes, where they are told
 abbrev pub WhereTold : Option (List ℕ) → (List ℕ → Type 0) → Type 0
@@ -15,6 +15,12 @@ pub record Gives (left left' : Option (List ℕ)) (k : ℕ) (buf buf' : List ℕ
 -- where the bytes left are told, they began with these, which are gone
 pub record Takes (left left' : Option (List ℕ)) (bytes : List ℕ) : Type 0 where
   pub split : WhereTold left (λ all. (rest : List ℕ) × (all ≡ bytes ++ rest) × (left' ≡ Some rest))
+
+-- at most so many bytes were taken
+pub record TakesAtMost (n : ℕ) (left left' : Option (List ℕ)) : Type 0 where
+  pub bytes : List ℕ
+  pub takes : Takes left left' bytes
+  pub few : length bytes ≤ n
 
 -- where the bytes written are told, these were appended
 pub record Grows (written written' : Option (List ℕ)) (bytes : List ℕ) : Type 0 where
@@ -33,3 +39,7 @@ HasRisen before after = (before < after) ⊎ (after ≡ 2 ^ 64 - 1)
 -- the count with one more, which stays at its last value
 abbrev pub raised : ℕ → ℕ
 raised count = min (count + 1) (2 ^ 64 - 1)
+
+-- a write of std's took some bytes
+abbrev pub TookSome : {E : Type 0} → Result ℕ E → Type 0
+TookSome written = IsOkAnd written (λ k. 0 < k)

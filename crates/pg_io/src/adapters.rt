@@ -1,11 +1,11 @@
 //! The readers and writers of `std`, with their faults counted. What a file or a pipe holds no proof
 //! can know, so these tell nothing of their bytes.
-ghost use Rattle.std.specs.Prelude.{ℕ, ◌<◌, ◌≤◌, ◌≡◌, length, take, None, IfOk, OnErr, is_err, if◌then◌else◌};
-ghost use Rattle.std.specs.Io.KnownBytes.{Appends, Consumes, IsAtEnd};
-ghost use Rattle.pg_io.specs.Io.{HasRisen, raised};
+ghost use Rattle.std.specs.Prelude.{ℕ, ◌<◌, ◌≤◌, ◌≡◌, ◌↔◌, length, take, None, Ok, IfOk, OnErr, IsOk, IsErr, IsSome, IsSomeAnd, MatchResult, is_err, if◌then◌else◌};
+ghost use Rattle.std.specs.Io.KnownBytes.{Appends, Consumes, IsAtEnd, Keeps};
+ghost use Rattle.pg_io.specs.Io.{HasRisen, raised, TookSome};
 
 use super::traits::{ReadFailed, Sink, Source, WriteFailed};
-use std::io::{Read, Write};
+use std::io::{self, Read, Write};
 
 /// A reader of `std` as a source. It tells nothing of its bytes.
 #[derive(Drop)]
@@ -23,6 +23,21 @@ impl<R> ReadAdapter<R> {
         ensures count { result.faults ≡ 0 }
     {
         ReadAdapter { inner, faults: 0 }
+    }
+}
+
+// What the answer of a reader says: it is passed on, or it is a fault, which is counted.
+fn judge_read(answer: io::Result<usize>, faults: &mut u64) -> Result<usize, ReadFailed>
+    ensures passed_on { MatchResult answer (λ k. result ≡ Ok k) (λ _. IsErr result) }
+    ensures counted { faults.new ≡ (if is_err answer then raised faults.old else faults.old) }
+    ensures never_falls { faults.old ≤ faults.new }
+{
+    match answer {
+        Ok(count) => Ok(count),
+        Err(_) => {
+            *faults = faults.saturating_add(1);
+            Err(ReadFailed)
+        }
     }
 }
 
@@ -44,13 +59,8 @@ impl<R: Read> Source for ReadAdapter<R> {
         ensures faults { self.new.faults
             ≡ (if is_err result then raised self.old.faults else self.old.faults) }
     {
-        match self.inner.read(buf) {
-            Ok(count) => Ok(count),
-            Err(_) => {
-                self.faults = self.faults.saturating_add(1);
-                Err(ReadFailed)
-            }
-        }
+        let answer = self.inner.read(buf);
+        judge_read(answer, &mut self.faults)
     }
 }
 
@@ -73,6 +83,39 @@ impl<W> WriteAdapter<W> {
     }
 }
 
+// Flushes a writer that took some bytes, and no other.
+fn flush_after<W: Write>(writer: &mut W, written: &io::Result<usize>) -> Option<io::Result<()>>
+    ensures just_then { IsSome result ↔ TookSome written.now }
+    ensures kept { Keeps (W.contents writer.old) (W.contents writer.new) }
+{
+    match written {
+        Ok(count) if *count > 0 => Some(writer.flush()),
+        _ => None,
+    }
+}
+
+// What the answers of a writer say, to a write and to the flush after it: the count of bytes is passed
+// on, or it is a fault, which is counted, where the write failed or took no byte, or the flush failed.
+fn judge_write(
+    written: io::Result<usize>,
+    flushed: Option<io::Result<()>>,
+    faults: &mut u64,
+) -> Result<usize, WriteFailed>
+    requires { IsSome flushed ↔ TookSome written }
+    ensures passed_on { IfOk result (λ k. written ≡ Ok k) }
+    ensures served { IsOk result ↔ IsSomeAnd flushed IsOk }
+    ensures counted { faults.new ≡ (if is_err result then raised faults.old else faults.old) }
+    ensures never_falls { faults.old ≤ faults.new }
+{
+    match (written, flushed) {
+        (Ok(count), Some(Ok(()))) => Ok(count),
+        _ => {
+            *faults = faults.saturating_add(1);
+            Err(WriteFailed)
+        }
+    }
+}
+
 impl<W: Write> Sink for WriteAdapter<W> {
     ghost written = { λ _. None };
 
@@ -91,12 +134,8 @@ impl<W: Write> Sink for WriteAdapter<W> {
         ensures faults { self.new.faults
             ≡ (if is_err result then raised self.old.faults else self.old.faults) }
     {
-        match self.inner.write(piece) {
-            Ok(count) if count > 0 && self.inner.flush().is_ok() => Ok(count),
-            _ => {
-                self.faults = self.faults.saturating_add(1);
-                Err(WriteFailed)
-            }
-        }
+        let written = self.inner.write(piece);
+        let flushed = flush_after(&mut self.inner, &written);
+        judge_write(written, flushed, &mut self.faults)
     }
 }

@@ -1,5 +1,5 @@
 //! What gives bytes, and what takes them.
-ghost use Rattle.std.specs.Prelude.{ℕ, ◌<◌, ◌≤◌, ◌≡◌, ◌↔◌, List, [], length, take, Option, IfOk, OnErr};
+ghost use Rattle.std.specs.Prelude.{ℕ, ◌<◌, ◌≤◌, ◌≡◌, ◌↔◌, List, [], length, take, Option, IfOk, OnOk, OnErr};
 ghost use Rattle.pg_io.specs.Io.{WhereTold, Gives, Grows, HasRisen};
 
 /// A read that failed. The source has counted a fault, and has lost nothing.
@@ -21,7 +21,8 @@ pub trait Source {
     /// Puts the next bytes at the front of `buf`, which must not be empty, and answers how many.
     /// `Ok(0)` is the end of input. Where the bytes left are told, it comes exactly where there are
     /// none, and the rest of `buf` is as before. A read fails only where the count of faults rose,
-    /// and has then taken nothing; what it leaves in `buf` is not promised.
+    /// and has then taken nothing; what it leaves in `buf` is not promised. After `Ok` the count is as
+    /// before.
     fn read(&mut self, buf: &mut [u8]) -> Result<usize, ReadFailed>
         requires { 0 < length buf.old }
         ensures within { IfOk result (λ k. k ≤ length buf.old) }
@@ -29,6 +30,7 @@ pub trait Source {
         ensures end { IfOk result (λ k. WhereTold (left self.old) (λ bytes. (k ≡ 0) ↔ (bytes ≡ []))) }
         ensures failed { OnErr result
             (HasRisen (faults self.old) (faults self.new) × (left self.new ≡ left self.old)) }
+        ensures kept { OnOk result (faults self.new ≡ faults self.old) }
         ensures never_falls { faults self.old ≤ faults self.new };
 }
 
@@ -41,8 +43,8 @@ pub trait Sink {
     ghost faults: { Self → ℕ };
 
     /// Appends some first bytes of `piece`, which must not be empty, and answers how many: at least
-    /// one. A write fails only where the count of faults rose; where the bytes written are told,
-    /// it has then appended nothing.
+    /// one, and the count of faults is as before. A write fails only where that count rose; where the
+    /// bytes written are told, it has then appended nothing.
     fn write(&mut self, piece: &[u8]) -> Result<usize, WriteFailed>
         requires { 0 < length piece.now }
         ensures within { IfOk result (λ k. (0 < k) × (k ≤ length piece.now)) }
@@ -50,5 +52,6 @@ pub trait Sink {
             (λ k. Grows (written self.old) (written self.new) (take k piece.now)) }
         ensures failed { OnErr result
             (HasRisen (faults self.old) (faults self.new) × (written self.new ≡ written self.old)) }
+        ensures kept { OnOk result (faults self.new ≡ faults self.old) }
         ensures never_falls { faults self.old ≤ faults self.new };
 }

@@ -1,8 +1,14 @@
-//! Points of the integer grid, and the three questions that a checker of drawings asks of them: on which
-//! side of a segment a point lies, whether it lies on it, whether two segments cross, and which of two
-//! directions comes first clockwise. Each call is its formula, without overflow.
+//! Points of the integer grid, and the questions that a checker of drawings asks of them: on which side of
+//! a segment a point lies, whether it lies on it, whether two segments cross, and which of two directions
+//! comes first clockwise. Each call is its formula over whole numbers of any size, without overflow for
+//! coordinates from -2^20 to 2^20. Beside them the figures that drawings are made of.
 #![tactic(auto)]
 
+mod figure;
 mod point;
 
+pub use figure::{BarFigure, GridFigure, Ints, Points, RectFigure};
 pub use point::{Point, area2, clock_before, crosses, on_segment};
+
+#[cfg(test)]
+mod tests;

@@ -1,6 +1,5 @@
 -- Lemmas on runs.
 mod RefusalLines
-mod BlockLemmas
-mod RunLemmas
+mod PlanarLemmas
 mod OutcomeLemmas
 mod Cases

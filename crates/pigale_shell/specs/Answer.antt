@@ -1,6 +1,7 @@
 -- What each job answers for a record.
 use Rattle.std.specs.Prelude.{ℕ, List, Bool, ◌≡◌}
 use Rattle.map_lists.specs.Lists.{Lists}
+use Rattle.record_runs.specs.Texts.{Answers}
 use Rattle.pigale_shell.specs.Text.{count_block, count_refuses}
 use Rattle.pigale_shell.specs.declared.job.Job.{Job}
 use Rattle.pigale_shell.specs.declared.job.Job.TheVariants.{Count}
@@ -12,3 +13,7 @@ IsBlock Count k lists text = text ≡ count_block k lists
 -- the record counts as refused
 abbrev pub is_refused : Job → Lists → Bool
 is_refused Count lists = count_refuses lists
+
+-- both
+abbrev pub answers_of : Job → Answers Lists
+answers_of job = record { IsBlock = IsBlock job; is_refused = is_refused job }

@@ -3,6 +3,6 @@ pub mod Status
 pub mod Lines
 pub mod Words
 pub mod Answer
+pub mod PlanarCode
 pub mod Outcome
-pub mod Run
 pub mod Text

@@ -47,12 +47,6 @@ count_block k lists = block_by k lists (first_fault lists)
 abbrev pub count_refuses : Lists → Bool
 count_refuses lists = is_some (first_fault lists)
 
--- the text is one block for each record, in order, the first of which is record k
-abbrev pub AreBlocks : (ℕ → Lists → List ℕ → Type 0) → ℕ → List Lists → List ℕ → Type 0
-AreBlocks IsBlock k [] text = text ≡ []
-AreBlocks IsBlock k (lists ∷ records) text =
-    (block : List ℕ) × (rest : List ℕ) × IsBlock k lists block × AreBlocks IsBlock (k + 1) records rest × (text ≡ block ++ rest)
-
 -- the last line where the input ended well
 unfoldable pub end_line : ℕ → ℕ → List ℕ
 end_line records refused = line (word_and_number (codes "end records") records ++ 32 ∷ word_and_number (codes "refused") refused)

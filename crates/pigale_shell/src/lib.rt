@@ -4,6 +4,7 @@
 mod answer;
 mod job;
 mod lines;
+mod planar;
 mod run;
 mod top;
 

@@ -1,11 +1,13 @@
 //! The top call.
-ghost use Rattle.std.specs.Prelude.{◌≡◌, ◌≢◌, ◌⊎◌, ◌<◌, ℕ, List, IsSome, [], map, string_bytes, Some, None};
+ghost use Rattle.std.specs.Prelude.{◌≡◌, ◌≢◌, ◌⊎◌, ◌+◌, ◌<◌, ℕ, List, IsSome, [], map, string_bytes, Some, None};
 ghost use Rattle.map_lists.specs.Lists.{Lists};
 ghost use Rattle.planar_code.specs.Reading.{Ending, well, IsReading};
 ghost use Rattle.pigale_shell.specs.Text.{bad_words_line};
-ghost use Rattle.pg_io.specs.Io.{WhereTold, Grows, GrowsByPrefix, HasRisen};
+ghost use Rattle.pg_io.specs.Io.{WhereTold, Grows, GrowsByPrefix, HasRisen, TakesAtMost};
+ghost use Rattle.record_runs.specs.Texts.{input_limit};
 ghost use Rattle.pigale_shell.specs.Words.{job_of};
-ghost use Rattle.pigale_shell.specs.Outcome.{Writes, WritesTaken, IsBad, GrowsByText, MayEnd, TakesAtMost};
+ghost use Rattle.pigale_shell.specs.Outcome.{Writes, WritesTaken, GrowsByText, MayEnd};
+ghost use Rattle.pigale_shell.specs.PlanarCode.{IsBad};
 
 use super::job::{Job, Status, WordFault, words_to_job};
 use super::run::run_job;
@@ -18,6 +20,7 @@ fn refuse_words<K: Sink>(out: &mut K) -> Status
     ensures write_fault { result ≡ Status.WriteFault → HasRisen (K.faults out.old) (K.faults out.new)
         × GrowsByPrefix (K.written out.old) (K.written out.new) bad_words_line }
     ensures only { (result ≡ Status.BadWords) ⊎ (result ≡ Status.WriteFault) }
+    ensures kept { result ≢ Status.WriteFault → K.faults out.new ≡ K.faults out.old }
 {
     match put_all(out, b"stop BadWords\n") {
         Ok(()) => Status::BadWords,
@@ -80,7 +83,11 @@ pub fn pigale<S: Source, K: Sink>(
         → ¬ HasRisen (K.faults out.old) (K.faults out.new) → MayEnd ending result }
 
     // At most 2^24 bytes are taken, and the one after them.
-    ensures limit { TakesAtMost 16777217 (S.left src.old) (S.left src.new) }
+    ensures limit { TakesAtMost (input_limit + 1) (S.left src.old) (S.left src.new) }
+
+    // A fault ends the run, and the status says so.
+    ensures reads_kept { result ≢ Status.ReadFault → S.faults src.new ≡ S.faults src.old }
+    ensures writes_kept { result ≢ Status.WriteFault → K.faults out.new ≡ K.faults out.old }
 {
     match words_to_job(alloc, words) {
         Ok(job) => run_job(alloc, job, src, out),

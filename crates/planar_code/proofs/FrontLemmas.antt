@@ -1,6 +1,7 @@
 -- A front of the header, byte by byte.
 use Rattle.std.proofs.Common.{◌≡◌, ℕ, ◌+◌, ◌<◌, Bool, true, false, ◌&&◌, List, [], ◌∷◌, ◌++◌, length, get_or, take, refl, sym, ap, ◌∙◌, arith, Decides}
 use Rattle.std.proofs.lemmas.List.{length-append, length-take, take_more, take_all, same_from_push}
+use Rattle.std.proofs.lemmas.Bool.{false≢true}
 use Rattle.std.proofs.lemmas.Bool.Decides.{Decides-and, Decides-eqb, Decides-like, same_from_decides}
 use Rattle.std.proofs.lemmas.Slice.Eq.{bytes_eq-Decides}
 use Rattle.std.specs.Prelude.{IsTrue, IsFalse, ◌==◌}
@@ -51,15 +52,30 @@ whole-front xs =
     (bytes_eq-Decides xs header)
 
 -- A header that may come has ended.
-pub ends-header : (may : Bool) (xs : List ℕ) (count : ℕ) (front : Bool) → IsCounted xs count front → (may && front && (count == 15)) ≡ (may && is_header xs)
+pub ends-header : (may : Bool) (xs : List ℕ) (count : ℕ) (front : Bool) → IsCounted may xs count front → (front && (count == 15)) ≡ (may && is_header xs)
 ends-header true xs count front is = rw (is.0, is.1) (whole-front xs)
-ends-header false xs count front is = refl
+ends-header false xs count front is = rw is.1 refl
 
 -- the state after a byte that ends no header
 pub after-no_header : (state : State) (bytes : List ℕ) → IsFalse (state.header_may_come && is_header bytes) → after_more state bytes ≡ record state { pending = bytes }
 after-no_header state bytes is = rw is refl
 
 -- What a reader keeps of the bytes pending, with one byte more.
-pub counted-push : (pending : List ℕ) (b count : ℕ) (front on : Bool) → IsCounted pending count front → Decides on (IsTrue front × (count < 15) × (b ≡ get_or header count 0)) → IsCounted (pending ++ b ∷ []) (count + 1) on
-counted-push pending b count front on is goes =
+pub counted-push : (may : Bool) (pending : List ℕ) (b count : ℕ) (front on : Bool) → IsCounted may pending count front → Decides on (IsTrue front × (count < 15) × (b ≡ get_or header count 0)) → IsCounted may (pending ++ b ∷ []) (count + 1) on
+counted-push true pending b count front on is goes =
     (rw (length-append pending (b ∷ [])) (omega (arith, is.0)), front-push pending b on (rw (← is.1, ← is.0) goes))
+counted-push false pending b count front on is goes =
+    (rw (length-append pending (b ∷ [])) (omega (arith, is.0)), never on (λ e. false≢true (sym is.1 ∙ (goes.0 e).0)))
+  where
+    never : (on : Bool) → (on ≡ true → ⊥) → on ≡ false
+    never true not = absurd (not refl)
+    never false not = refl
+
+-- What a front of the header begins with is a front of it.
+pub front-shorter : (xs : List ℕ) (b : ℕ) → IsTrue (is_front (xs ++ b ∷ [])) → IsTrue (is_front xs)
+front-shorter xs b is =
+    (bytes_eq-Decides xs (take (length xs) header)).1 (front_from_push xs b ((bytes_eq-Decides (xs ++ b ∷ []) (take (length (xs ++ b ∷ [])) header)).0 is)).0
+
+-- So is what the header begins with.
+pub header-longer : (xs : List ℕ) (b : ℕ) → IsTrue (is_header (xs ++ b ∷ [])) → IsTrue (is_front xs)
+header-longer xs b is = front-shorter xs b (front-header (xs ++ b ∷ []) ((bytes_eq-Decides (xs ++ b ∷ []) header).0 is)).0

@@ -9,6 +9,7 @@ use Rattle.planar_code.specs.State.{State, with_byte, after_more, after_record}
 use Rattle.planar_code.specs.Taken.{after_all, AllJoin, Takes}
 use Rattle.planar_code.specs.declared.reader.Taken.TheVariants.{More, Ended, Bad}
 use Rattle.planar_code.specs.Progress.{Progress}
+use Rattle.planar_code.proofs.SplitLemmas.{take-next, split-next}
 use Rattle.planar_code.proofs.ProgressLemmas.{Progress-more, Progress-record, Progress-bad, Progress-too_long}
 
 -- Bytes that join those pending.
@@ -24,17 +25,6 @@ pub Progress-joined : (consumed : List ℕ) (records : List Lists) (old new : St
 Progress-joined consumed records old new piece p takes =
     let P : State → Type 0 = λ s. Progress (consumed ++ piece) records s in
     subst P (sym takes.1) (Progress-all consumed records old piece p takes.0)
-
--- the first bytes of a piece, and the next
-take-next : (piece : List ℕ) (k : ℕ) → 0 < k → k ≤ length piece → take k piece ≡ take (k - 1) piece ++ get_or piece (k - 1) 0 ∷ []
-take-next piece k some within =
-    let n : k ≡ k - 1 + 1 = omega arith in
-    ap (λ (i : ℕ). take i piece) n ∙ take_more piece (k - 1) 0 (omega arith)
-
--- the first bytes of a piece, the next, and what follows
-split-next : (piece : List ℕ) (k : ℕ) → 0 < k → k ≤ length piece → piece ≡ take (k - 1) piece ++ (get_or piece (k - 1) 0 ∷ drop (suc (k - 1)) piece)
-split-next piece k some within =
-    sym (take-append-drop (k - 1) piece) ∙ ap (λ (x : List ℕ). take (k - 1) piece ++ x) (drop-cons piece (k - 1) 0 (omega arith))
 
 -- A record ends with byte k of the piece.
 pub Progress-ended : (consumed : List ℕ) (records : List Lists) (old new : State) (piece : List ℕ) (k : ℕ) → Progress consumed records old → Takes old piece (Ended k) new → Progress (consumed ++ take k piece) (records ++ new.lists ∷ []) new

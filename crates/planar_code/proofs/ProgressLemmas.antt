@@ -224,23 +224,29 @@ header-splits input true e =
     rw e (sym (take-append-drop 15 input) ∙ ap (λ (x : List ℕ). x ++ drop 15 input) ((bytes_eq-Decides (take 15 input) header).0 e))
 header-splits input false e = rw e refl
 
-begins-by : (may : Bool) (consumed bytes pending : List ℕ) (records : List Lists) (front tail : List ℕ) → consumed ≡ front ++ (bytes ++ pending) → AreRecords bytes records → FrontIs may consumed bytes records front → BeginsWith (consumed ++ tail) records
-begins-by true consumed bytes pending records front tail parts are is = record {
+header_of-short : (input : List ℕ) (is : Bool) → is_header (take 15 input) ≡ is → length (header_of input) ≤ input_limit
+header_of-short input true e = rw e (omega arith)
+header_of-short input false e = rw e (omega arith)
+
+begins-by : (may : Bool) (consumed bytes pending : List ℕ) (records : List Lists) (front tail : List ℕ) → consumed ≡ front ++ (bytes ++ pending) → AreRecords bytes records → FrontIs may consumed bytes records front → length consumed ≤ input_limit → BeginsWith (consumed ++ tail) records
+begins-by true consumed bytes pending records front tail parts are is few = record {
   bytes = [];
   rest = drop (length (header_of (consumed ++ tail))) (consumed ++ tail);
   parts = header-splits (consumed ++ tail) (is_header (take 15 (consumed ++ tail))) refl;
   are = rw is.2 refl;
+  within = let l = header_of-short (consumed ++ tail) (is_header (take 15 (consumed ++ tail))) refl in omega (arith, l);
 }
-begins-by false consumed bytes pending records front tail parts are is = record {
+begins-by false consumed bytes pending records front tail parts are is few = record {
   bytes = bytes;
   rest = pending ++ tail;
   parts = ap (λ (x : List ℕ). x ++ tail) parts ∙ append_assoc front (bytes ++ pending) tail ∙ ap (λ (x : List ℕ). front ++ x) (append_assoc bytes pending tail) ∙ ap (λ (x : List ℕ). x ++ (bytes ++ (pending ++ tail))) (sym (is tail));
   are = are;
+  within = rw (is tail) (let l = ap length parts ∙ length-append front (bytes ++ pending) in omega (arith, length-append bytes pending, l));
 }
 
 -- The bytes begin with the records so far, however they go on.
-pub Progress-begins : (consumed : List ℕ) (records : List Lists) (state : State) (tail : List ℕ) → Progress consumed records state → BeginsWith (consumed ++ tail) records
-Progress-begins consumed records state tail p = begins-by state.header_may_come consumed p.bytes state.pending records p.front tail p.parts p.are p.front_is
+pub Progress-begins : (consumed : List ℕ) (records : List Lists) (state : State) (tail : List ℕ) → Progress consumed records state → length consumed ≤ input_limit → BeginsWith (consumed ++ tail) records
+Progress-begins consumed records state tail p few = begins-by state.header_may_come consumed p.bytes state.pending records p.front tail p.parts p.are p.front_is few
 
 -- how many bytes were consumed
 pub Progress-length : (consumed : List ℕ) (records : List Lists) (state : State) → Progress consumed records state → length consumed ≡ state.start + length state.pending

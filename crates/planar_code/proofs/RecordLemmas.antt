@@ -54,7 +54,7 @@ AreRecords-push xs (r ∷ records) ys lists are is =
     (are.0, are.1 ++ ys, are.2, AreRecords-push are.1 records ys lists are.3 is, ap (λ (x : List ℕ). x ++ ys) are.4 ∙ append_assoc are.0 are.1 ys)
 
 -- the numbers of some lists end with a 0
-numbers-end : (us : List ℕ) (lists : Lists) → (xs : List ℕ) × (record_numbers (us ∷ lists) ≡ xs ++ 0 ∷ [])
+pub numbers-end : (us : List ℕ) (lists : Lists) → (xs : List ℕ) × (record_numbers (us ∷ lists) ≡ xs ++ 0 ∷ [])
 numbers-end us [] = (map (λ u. u + 1) us, append-nil (list_numbers us))
 numbers-end us (vs ∷ lists) =
     let later = numbers-end vs lists in

@@ -86,12 +86,13 @@ EndsAs total at rest (bad_count place) = (place ≡ at) × IsTrue (has_bad_count
 EndsAs total at rest too_long =
     (input_limit < total) × IsFalse (has_bad_count (take (input_limit - at) rest)) × NoRecord (take (input_limit - at) rest)
 
--- the input begins, behind its header, with these records
+-- the input begins, behind its header, with these records, which end within the limit
 pub record BeginsWith (input : List ℕ) (records : List Lists) : Type 0 where
   pub bytes : List ℕ
   pub rest : List ℕ
   pub parts : input ≡ header_of input ++ (bytes ++ rest)
   pub are : AreRecords bytes records
+  pub within : length (header_of input) + length bytes ≤ input_limit
 
 -- The reading of an input: its header, then records within the limit, and the ending where they stop.
 pub record IsReading (input : List ℕ) (records : List Lists) (ending : Ending) : Type 0 where

@@ -1,57 +1,96 @@
 -- The bytes of a record that has begun, as a scanner keeps them: each is handled once, and none is stored twice.
-use Rattle.std.specs.Prelude.{ℕ, zero, suc, ◌+◌, ◌<◌, ◌≡◌, ◌≢◌, List, [], ◌∷◌, ◌++◌, map, flat_map, length, All, Option, Some, None, IsTrue, IsFalse}
+use Rattle.std.specs.Prelude.{ℕ, ◌+◌, ◌-◌, ◌<◌, ◌≤◌, ◌≡◌, nat_le, if◌then◌else◌, List, [], ◌∷◌, ◌++◌, flat_map, length, take, IsTrue, IsFalse}
 use Rattle.map_lists.specs.Lists.{Lists}
-use Rattle.planar_code.specs.Reading.{IsRecord, is_bad_count, record_numbers, two_bytes}
+use Rattle.planar_code.specs.Reading.{IsRecord, is_bad_count, two_bytes}
+use Rattle.planar_code.specs.Open.{Open, numbers_of, IsOpen}
 use Rattle.planar_code.specs.declared.scan.Phase.{Phase}
 use Rattle.planar_code.specs.declared.scan.Phase.TheVariants.{Start, WideStart, WideHigh, Narrow, Wide, WideHalf}
 use Rattle.planar_code.specs.declared.scan.Scanned.{Scanned}
-use Rattle.planar_code.specs.declared.scan.Scanned.TheVariants.{Bad, Record, More}
+use Rattle.planar_code.specs.declared.scan.Scanned.TheVariants.{More, Ended, Bad}
 
--- the numbers behind the count: those of the lists that are closed, and of the one that is open
-abbrev pub numbers_of : Lists → List ℕ → List ℕ
-numbers_of lists last = record_numbers lists ++ map (λ u. u + 1) last
+pub record Scan : Type 0 where
+  -- the bytes of the record that has begun
+  pub bytes : List ℕ
+  -- the lists of the record that ended last
+  pub lists : Lists
+  -- how many more bytes there is room for
+  pub room : ℕ
+
+-- the most lists that a record may have
+abbrev pub most_lists : ℕ
+most_lists = 4095
+
+-- how many more bytes there is room for, where so many lists and entries fit in
+abbrev pub room_of : ℕ → ℕ → ℕ
+room_of most room = if nat_le most_lists most then room else 0
 
 -- the bytes so far
-abbrev pub bytes_of : Phase → Lists → List ℕ → List ℕ
-bytes_of Start lists last = []
-bytes_of WideStart lists last = 0 ∷ []
-bytes_of (WideHigh high) lists last = 0 ∷ high ∷ []
-bytes_of (Narrow count) lists last = count ∷ numbers_of lists last
-bytes_of (Wide count) lists last = 0 ∷ flat_map two_bytes (count ∷ numbers_of lists last)
-bytes_of (WideHalf count high) lists last = 0 ∷ (flat_map two_bytes (count ∷ numbers_of lists last) ++ high ∷ [])
-
--- Fewer lists are closed than the count says, and entries are below a limit.
-pub record IsOpen (few limit count : ℕ) (lists : Lists) (last : List ℕ) : Type 0 where
-  pub few_lists : count < few
-  pub some_left : length lists < count
-  pub small_lists : All (λ us. All (λ u. u < limit) us) lists
-  pub small_last : All (λ u. u < limit) last
+abbrev pub bytes_of : Phase → Open → List ℕ
+bytes_of Start gathered = []
+bytes_of WideStart gathered = 0 ∷ []
+bytes_of (WideHigh high) gathered = 0 ∷ high ∷ []
+bytes_of (Narrow count) gathered = count ∷ numbers_of gathered.lists gathered.last
+bytes_of (Wide count) gathered = 0 ∷ flat_map two_bytes (count ∷ numbers_of gathered.lists gathered.last)
+bytes_of (WideHalf count high) gathered = 0 ∷ (flat_map two_bytes (count ∷ numbers_of gathered.lists gathered.last) ++ high ∷ [])
 
 -- what holds in each phase
-abbrev pub IsScanned : Phase → Lists → List ℕ → Type 0
-IsScanned Start lists last = (lists ≡ []) × (last ≡ [])
-IsScanned WideStart lists last = (lists ≡ []) × (last ≡ [])
-IsScanned (WideHigh high) lists last = (lists ≡ []) × (last ≡ [])
-IsScanned (Narrow count) lists last = IsOpen 256 255 count lists last
-IsScanned (Wide count) lists last = IsOpen 4096 65535 count lists last
-IsScanned (WideHalf count high) lists last = IsOpen 4096 65535 count lists last
+abbrev pub IsScanned : Phase → Open → Type 0
+IsScanned Start gathered = (gathered.lists ≡ []) × (gathered.last ≡ [])
+IsScanned WideStart gathered = (gathered.lists ≡ []) × (gathered.last ≡ [])
+IsScanned (WideHigh high) gathered = (gathered.lists ≡ []) × (gathered.last ≡ [])
+IsScanned (Narrow count) gathered = IsOpen 256 255 count gathered.lists gathered.last
+IsScanned (Wide count) gathered = IsOpen 4096 65535 count gathered.lists gathered.last
+IsScanned (WideHalf count high) gathered = IsOpen 4096 65535 count gathered.lists gathered.last
 
--- a number joins the lists: 0 closes the open one
-abbrev pub Collects : ℕ → Lists → List ℕ → Lists → List ℕ → Type 0
-Collects zero lists last lists' last' = (lists' ≡ lists ++ last ∷ []) × (last' ≡ [])
-Collects (suc u) lists last lists' last' = (lists' ≡ lists) × (last' ≡ last ++ u ∷ [])
+-- the bytes are no bad count and no record
+abbrev pub GoesOn : List ℕ → Type 0
+GoesOn bytes = IsFalse (is_bad_count bytes) × ((lists : Lists) → ¬ IsRecord bytes lists)
 
--- The number joins the lists, which are taken out if they are then as many as the count says.
-abbrev pub Takes : ℕ → ℕ → Lists → List ℕ → Option Lists → Lists → List ℕ → Type 0
-Takes number count lists last None lists' last' = Collects number lists last lists' last' × (length lists' ≢ count)
-Takes number count lists last (Some taken) lists' last' =
-    Collects number lists last taken last' × (length taken ≡ count) × (lists' ≡ [])
+-- with each of the bytes to come in turn the bytes before go on
+abbrev pub Passes : List ℕ → List ℕ → Type 0
+Passes bytes [] = Unit {0}
+Passes bytes (byte ∷ more) = GoesOn (bytes ++ byte ∷ []) × Passes (bytes ++ byte ∷ []) more
 
--- What a byte makes of the bytes before it.
-abbrev pub Scans : List ℕ → ℕ → Scanned → List ℕ → Type 0
-Scans bytes byte Bad bytes' = IsTrue (is_bad_count (bytes ++ byte ∷ [])) × (bytes' ≡ bytes)
-Scans bytes byte (Record lists) bytes' =
-    IsFalse (is_bad_count (bytes ++ byte ∷ [])) × IsRecord (bytes ++ byte ∷ []) lists × (bytes' ≡ [])
-Scans bytes byte More bytes' =
-    IsFalse (is_bad_count (bytes ++ byte ∷ [])) × ((lists : Lists) → ¬ IsRecord (bytes ++ byte ∷ []) lists)
-    × (bytes' ≡ bytes ++ byte ∷ [])
+-- a piece has at least k bytes, and with those before byte k the bytes go on
+abbrev pub PassesBefore : List ℕ → List ℕ → ℕ → Type 0
+PassesBefore bytes piece k = (0 < k) × (k ≤ length piece) × Passes bytes (take (k - 1) piece)
+
+-- What a piece of bytes makes of those before it, so many of which are taken.
+abbrev pub Scans : Scan → List ℕ → Scanned → Scan → Type 0
+Scans old piece (More k) new =
+    (k ≤ length piece) × Passes old.bytes (take k piece) × (new.bytes ≡ old.bytes ++ take k piece)
+    × (new.lists ≡ old.lists) × (old.room ≤ new.room + k)
+Scans old piece (Ended k) new =
+    PassesBefore old.bytes piece k × IsFalse (is_bad_count (old.bytes ++ take k piece))
+    × IsRecord (old.bytes ++ take k piece) new.lists × (new.bytes ≡ [])
+Scans old piece (Bad k) new =
+    PassesBefore old.bytes piece k × IsTrue (is_bad_count (old.bytes ++ take k piece))
+    × (new.bytes ≡ old.bytes ++ take (k - 1) piece) × (new.lists ≡ old.lists)
+
+-- how many bytes of a piece were looked at
+abbrev pub seen_of : Scanned → ℕ
+seen_of (More k) = k
+seen_of (Ended k) = k
+seen_of (Bad k) = k
+
+-- the same behind bytes of the piece that passed
+abbrev pub shifted : ℕ → Scanned → Scanned
+shifted passed (More k) = More (passed + k)
+shifted passed (Ended k) = Ended (passed + k)
+shifted passed (Bad k) = Bad (passed + k)
+
+-- a whole piece passed, unless it was stopped within
+abbrev pub Exhausts : List ℕ → Scanned → Type 0
+Exhausts piece (More k) = k ≡ length piece
+Exhausts piece (Ended k) = Unit {0}
+Exhausts piece (Bad k) = Unit {0}
+
+-- a scanner with these parts
+abbrev pub scan_of : Phase → Open → Lists → Scan
+scan_of phase gathered lent = record { bytes = bytes_of phase gathered; lists = lent; room = room_of gathered.most gathered.room }
+
+-- How far the parts of a scanner come with a piece of bytes: by one byte at least.
+pub record Advances (phase : Phase) (gathered : Open) (lent : Lists) (piece : List ℕ) (phase' : Phase) (scanned : Scanned) (gathered' : Open) (lent' : Lists) : Type 0 where
+  pub is : IsScanned phase' gathered'
+  pub scans : Scans (scan_of phase gathered lent) piece scanned (scan_of phase' gathered' lent')
+  pub some : 0 < seen_of scanned

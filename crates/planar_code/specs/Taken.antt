@@ -1,5 +1,5 @@
 -- What a piece of bytes does to a reader of records: what its bytes do one by one.
-use Rattle.std.specs.Prelude.{ℕ, ◌-◌, ◌<◌, ◌≤◌, ◌≡◌, List, [], ◌∷◌, length, take, slice_index}
+use Rattle.std.specs.Prelude.{ℕ, ◌+◌, ◌-◌, ◌<◌, ◌≤◌, ◌≡◌, List, [], ◌∷◌, length, take, slice_index}
 use Rattle.planar_code.specs.State.{State, with_byte, after_more}
 use Rattle.planar_code.specs.Fed.{Feeds}
 use Rattle.planar_code.specs.declared.reader.Fed.TheVariants.{Bad as FedBad, Record as FedRecord, More as FedMore}
@@ -31,3 +31,15 @@ Takes old piece More new = AllJoin old piece × (new ≡ after_all old piece)
 Takes old piece (Ended k) new =
     StopsAt old piece k (λ state byte. Feeds state byte (FedRecord new.lists) (record new { lists = [] }))
 Takes old piece (Bad k place) new = StopsAt old piece k (λ state byte. Feeds state byte (FedBad place) new)
+
+-- how many bytes of a piece were looked at where it stopped
+abbrev pub looked_at : Taken → ℕ
+looked_at More = 0
+looked_at (Ended k) = k
+looked_at (Bad k place) = k
+
+-- the same behind bytes of the piece that joined
+abbrev pub shifted : ℕ → Taken → Taken
+shifted passed More = More
+shifted passed (Ended k) = Ended (passed + k)
+shifted passed (Bad k place) = Bad (passed + k) place

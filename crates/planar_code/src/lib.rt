@@ -6,13 +6,17 @@
 //! each byte once. `laws` says of all inputs that each is read in one way at most.
 #![tactic(auto)]
 
+mod gather;
 pub mod laws;
 mod next;
+mod open;
 mod reader;
 mod scan;
+mod write;
 
 pub use next::{CodeFault, Step, after_header, next_record};
 pub use reader::{Fed, RecordReader, Taken};
+pub use write::write_record;
 
 /// The bytes with which a file may begin.
 const HEADER: [u8; 15] = *b">>planar_code<<";

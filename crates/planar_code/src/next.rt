@@ -1,5 +1,5 @@
 //! Records of bytes that are all there.
-ghost use Rattle.std.specs.Prelude.{◌≡◌, ◌≤◌, length, MatchResult};
+ghost use Rattle.std.specs.Prelude.{◌≡◌, ◌<◌, ◌≤◌, length, take, MatchResult};
 ghost use Rattle.planar_code.specs.Reading.{header_of};
 ghost use Rattle.planar_code.specs.Step.{StandsAt, FailsAt};
 
@@ -28,6 +28,9 @@ pub enum CodeFault {
     NoMemory,
 }
 
+/// For how many bytes room is made at once.
+const AT_ONCE: usize = 4096;
+
 /// The record at the offset `at`, which is at most the length of the bytes.
 pub fn next_record(alloc: Global, bytes: &[u8], at: usize) -> Result<Step, CodeFault>
     requires { at ≤ length bytes.now }
@@ -35,18 +38,35 @@ pub fn next_record(alloc: Global, bytes: &[u8], at: usize) -> Result<Step, CodeF
 {
     let rest = &bytes[at..];
     let mut scanner = Scanner::new(alloc);
-    for (passed, byte) in rest.iter().enumerate() {
-        match scanner.step(*byte) {
-            Ok(Scanned::More) => {}
-            Ok(Scanned::Record(lists)) => return Ok(Step::Lists(lists, at + passed + 1)),
-            Ok(Scanned::Bad) => return Err(CodeFault::BadCount(at)),
-            Err(_) => return Err(CodeFault::NoMemory),
+    let mut passed = 0;
+    while passed < rest.len() {
+        let piece = front_of(&rest[passed..]);
+        if scanner.reserve(piece.len()).is_err() {
+            return Err(CodeFault::NoMemory);
+        }
+        match scanner.take(piece) {
+            Scanned::More(k) => passed += k,
+            Scanned::Ended(k) => return Ok(Step::Lists(scanner.hand_over(), at + passed + k)),
+            Scanned::Bad(_) => return Err(CodeFault::BadCount(at)),
         }
     }
     if rest.is_empty() {
         Ok(Step::End)
     } else {
         Err(CodeFault::EndInRecord(at))
+    }
+}
+
+/// The first bytes of some, at most as many as there is room made for at once.
+fn front_of(bytes: &[u8]) -> &[u8]
+    requires { 0 < length bytes.now }
+    ensures some { 0 < length result.now }
+    ensures front { result.now ≡ take (length result.now) bytes.now }
+{
+    if bytes.len() < AT_ONCE {
+        bytes
+    } else {
+        &bytes[..AT_ONCE]
     }
 }
 

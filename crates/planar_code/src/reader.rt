@@ -1,8 +1,11 @@
 //! A reader that is fed byte by byte.
-ghost use Rattle.std.specs.Prelude.{◌≡◌, ◌+◌, ◌<◌, ◌≤◌, ◌↔◌, ◌&&◌, ◌==◌, [], length, slice_index, IsTrue, IfOk, OnErr};
+ghost use Rattle.std.specs.Prelude.{◌≡◌, ◌+◌, ◌<◌, ◌≤◌, ◌^◌, ◌↔◌, ◌&&◌, ◌==◌, [], ◌∷◌, length, slice_index, IsTrue, IsFalse, IfOk, OnErr};
 ghost use Rattle.planar_code.specs.Reading.{header, input_limit};
 ghost use Rattle.planar_code.specs.Fed.{Feeds};
-ghost use Rattle.planar_code.specs.Taken.{Takes};
+ghost use Rattle.planar_code.specs.Scan.{seen_of};
+ghost use Rattle.planar_code.specs.Front.{IsCounted};
+ghost use Rattle.planar_code.specs.Place.{state_of, behind_header, moved, told, HasByte};
+ghost use Rattle.planar_code.specs.Taken.{Takes, shifted, looked_at};
 
 use crate::HEADER;
 use crate::scan::{Scanned, Scanner};
@@ -36,6 +39,38 @@ pub enum Taken {
     Bad(usize, usize),
 }
 
+/// The same behind bytes of the piece that passed.
+fn shift(passed: usize, taken: Taken) -> Taken
+    requires { passed + looked_at taken < 2 ^ 64 }
+    ensures { result ≡ shifted passed taken }
+{
+    match taken {
+        Taken::More => Taken::More,
+        Taken::Ended(k) => Taken::Ended(passed + k),
+        Taken::Bad(k, place) => Taken::Bad(passed + k, place),
+    }
+}
+
+/// Where in a file a reader stands.
+#[derive(Clone, Copy)]
+pub struct Place {
+    /// The offset of the first byte pending.
+    start: usize,
+    header_may_come: bool,
+    /// The number of bytes pending.
+    pending_len: usize,
+    /// Whether a header may come and the bytes pending are a front of it.
+    in_header: bool,
+}
+
+/// Behind the header.
+const BEHIND_HEADER: Place = Place {
+    start: 15,
+    header_may_come: false,
+    pending_len: 0,
+    in_header: false,
+};
+
 /// Whether bytes that are a front of the header or not, of this length, are one with one byte more.
 fn goes_on(in_header: bool, length: usize, byte: u8) -> bool
     ensures { IsTrue result
@@ -44,37 +79,118 @@ fn goes_on(in_header: bool, length: usize, byte: u8) -> bool
     in_header && length < HEADER.len() && byte == HEADER[length]
 }
 
-/// Whether a header has ended, where one may come and the bytes are a front of one, of this length.
-fn ends_header(may_come: bool, in_header: bool, length: usize) -> bool
-    ensures { result ≡ (may_come && in_header && (length == 15)) }
+/// Whether a byte ends the header, where the bytes behind it are a front of one, of this length.
+fn ends_header(in_header: bool, length: usize) -> bool
+    ensures { result ≡ (in_header && (length == 15)) }
 {
-    may_come && in_header && length == HEADER.len()
+    in_header && length == HEADER.len()
+}
+
+/// What the scanner made of a piece, as the reader answers it, and the place behind it.
+fn answer(place: &mut Place, scanned: Scanned) -> Taken
+    requires some { HasByte scanned }
+    requires fits { place.old.start + place.old.pending_len + seen_of scanned < 2 ^ 64 }
+    ensures told { result ≡ told place.old scanned }
+    ensures place { place.new ≡ moved place.old scanned }
+{
+    match scanned {
+        Scanned::More(k) => {
+            place.pending_len += k;
+            Taken::More
+        }
+        Scanned::Ended(k) => {
+            *place = Place {
+                start: place.start + (place.pending_len + k),
+                header_may_come: false,
+                pending_len: 0,
+                in_header: false,
+            };
+            Taken::Ended(k)
+        }
+        Scanned::Bad(k) => {
+            place.pending_len += k - 1;
+            Taken::Bad(k, place.start)
+        }
+    }
+}
+
+/// Takes a piece where no header may end in it.
+fn take_plain(scanner: &mut Scanner, place: &mut Place, piece: &[u8]) -> Taken
+    requires counted { IsCounted place.old.header_may_come scanner.old.bytes place.old.pending_len place.old.in_header }
+    requires no_header { IsFalse place.old.in_header }
+    requires room { length piece.now ≤ scanner.old.room }
+    requires limit { place.old.start + place.old.pending_len + length piece.now ≤ input_limit }
+    ensures takes { Takes (state_of scanner.old place.old) piece.now result (state_of scanner.new place.new) }
+    ensures counted { IsCounted place.new.header_may_come scanner.new.bytes place.new.pending_len place.new.in_header }
+{
+    let scanned = scanner.take(piece);
+    answer(place, scanned)
+}
+
+/// Takes a byte, with which the header may end.
+fn take_byte(scanner: &mut Scanner, place: &mut Place, byte: u8) -> Taken
+    requires counted { IsCounted place.old.header_may_come scanner.old.bytes place.old.pending_len place.old.in_header }
+    requires room { 0 < scanner.old.room }
+    requires limit { place.old.start + place.old.pending_len < input_limit }
+    ensures takes { Takes (state_of scanner.old place.old) (byte ∷ []) result (state_of scanner.new place.new) }
+    ensures counted { IsCounted place.new.header_may_come scanner.new.bytes place.new.pending_len place.new.in_header }
+    ensures room { result ≡ Taken.More → scanner.old.room ≤ scanner.new.room + 1 }
+    ensures limit { result ≡ Taken.More → place.new.start + place.new.pending_len ≤ place.old.start + place.old.pending_len + 1 }
+{
+    let on = goes_on(place.in_header, place.pending_len, byte);
+    match scanner.take(&[byte]) {
+        Scanned::More(_) => {
+            if ends_header(on, place.pending_len + 1) {
+                scanner.clear();
+                *place = BEHIND_HEADER;
+                return Taken::More;
+            }
+            place.pending_len += 1;
+            place.in_header = on;
+            Taken::More
+        }
+        stopped => answer(place, stopped),
+    }
+}
+
+/// Takes a piece, for which there has to be room.
+fn take_piece(scanner: &mut Scanner, place: &mut Place, piece: &[u8]) -> Taken
+    requires counted { IsCounted place.old.header_may_come scanner.old.bytes place.old.pending_len place.old.in_header }
+    requires room { length piece.now ≤ scanner.old.room }
+    requires limit { place.old.start + place.old.pending_len + length piece.now ≤ input_limit }
+    ensures takes { Takes (state_of scanner.old place.old) piece.now result (state_of scanner.new place.new) }
+    ensures counted { IsCounted place.new.header_may_come scanner.new.bytes place.new.pending_len place.new.in_header }
+{
+    for k in 0..piece.len() {
+        if !place.in_header {
+            let taken = take_plain(scanner, place, &piece[k..]);
+            return shift(k, taken);
+        }
+        match take_byte(scanner, place, piece[k]) {
+            Taken::More => {}
+            stopped => return shift(k, stopped),
+        }
+    }
+    Taken::More
 }
 
 /// A reader of the records of a file.
 #[derive(Drop)]
 pub struct RecordReader {
-    alloc: Global,
     scanner: Scanner,
-    start: usize,
-    header_may_come: bool,
-    /// The number of bytes pending.
-    pending_len: usize,
-    /// Whether the bytes pending are a front of the header.
-    in_header: bool,
-    /// The lists of the record that ended last.
-    lent: Rotations,
+    place: Place,
 }
 
 impl Model for RecordReader {
     ghost use Rattle.planar_code.specs.State.{State};
+    ghost use Rattle.planar_code.specs.Place.{state_of};
     ghost use Rattle.planar_code.specs.Front.{IsCounted};
 
     ghost Value = { State };
 
-    ghost view = { λ r. record { pending = r.scanner; start = r.start; header_may_come = r.header_may_come; lists = r.lent } };
+    ghost view = { λ r. state_of r.scanner r.place };
 
-    ghost invariant = { λ r. IsCounted r.scanner r.pending_len r.in_header };
+    ghost invariant = { λ r. IsCounted r.place.header_may_come r.scanner.bytes r.place.pending_len r.place.in_header };
 }
 
 impl RecordReader {
@@ -86,13 +202,13 @@ impl RecordReader {
         ensures { result ≡ at_front }
     {
         RecordReader {
-            alloc,
             scanner: Scanner::new(alloc),
-            start: 0,
-            header_may_come: true,
-            pending_len: 0,
-            in_header: true,
-            lent: Rotations::new(alloc),
+            place: Place {
+                start: 0,
+                header_may_come: true,
+                pending_len: 0,
+                in_header: true,
+            },
         }
     }
 
@@ -100,14 +216,14 @@ impl RecordReader {
     pub fn start(&self) -> usize
         ensures { result ≡ self.now.start }
     {
-        self.start
+        self.place.start
     }
 
     /// Whether nothing is pending.
     pub fn is_between(&self) -> bool
         ensures { IsTrue result ↔ (self.now.pending ≡ []) }
     {
-        self.pending_len == 0
+        self.place.pending_len == 0
     }
 
     /// The lists of the record that `take` has ended last, numbered from 0. There are none before the
@@ -115,7 +231,7 @@ impl RecordReader {
     pub fn lists(&self) -> &Rotations
         ensures { result.now ≡ self.now.lists }
     {
-        &self.lent
+        self.scanner.lists()
     }
 
     /// Takes bytes of a piece, to the end of a record within it or to its own end. After want of memory
@@ -125,7 +241,8 @@ impl RecordReader {
         ensures taken { IfOk result (λ taken. Takes self.old piece.now taken self.new) }
         ensures err { OnErr result (self.new ≡ self.old) }
     {
-        Err(AllocError)
+        self.scanner.reserve(piece.len())?;
+        Ok(take_piece(&mut self.scanner, &mut self.place, piece))
     }
 
     /// Takes the next byte. After a bad count, and after want of memory, nothing has changed.
@@ -134,28 +251,10 @@ impl RecordReader {
         ensures fed { IfOk result (λ fed. Feeds self.old byte fed self.new) }
         ensures err { OnErr result (self.new ≡ self.old) }
     {
-        match self.scanner.step(byte)? {
-            Scanned::Bad => Ok(Fed::Bad(self.start)),
-            Scanned::Record(lists) => {
-                self.start += self.pending_len + 1;
-                self.header_may_come = false;
-                self.pending_len = 0;
-                self.in_header = true;
-                self.lent = Rotations::new(self.alloc);
-                Ok(Fed::Record(lists))
-            }
-            Scanned::More => {
-                self.in_header = goes_on(self.in_header, self.pending_len, byte);
-                self.pending_len += 1;
-                if ends_header(self.header_may_come, self.in_header, self.pending_len) {
-                    self.scanner.clear();
-                    self.start = self.pending_len;
-                    self.header_may_come = false;
-                    self.pending_len = 0;
-                    return Ok(Fed::More);
-                }
-                Ok(Fed::More)
-            }
+        match self.take(&[byte])? {
+            Taken::More => Ok(Fed::More),
+            Taken::Ended(_) => Ok(Fed::Record(self.scanner.hand_over())),
+            Taken::Bad(_, place) => Ok(Fed::Bad(place)),
         }
     }
 }

@@ -2,22 +2,28 @@
 //!
 //! A scanner keeps the lists that are closed, the entries of the open one, and where in the record it
 //! stands. So no byte is stored twice, and each is handled once.
-ghost use Rattle.std.specs.Prelude.{◌≡◌, ◌≢◌, ◌+◌, ◌*◌, [], length, IfOk, OnErr, OnOk, IfSome, OnSome, IfNone};
+ghost use Rattle.std.specs.Prelude.{◌≡◌, ◌+◌, ◌<◌, ◌≤◌, ◌^◌, [], length, OnOk};
+ghost use Rattle.map_lists.specs.Lists.{Lists};
+ghost use Rattle.planar_code.specs.Open.{Open};
+ghost use Rattle.planar_code.specs.Scan.{Scans, Exhausts, IsScanned, Advances, room_of, seen_of, shifted};
+ghost use Rattle.planar_code.specs.declared.scan.Phase.TheVariants.{Start, WideStart, WideHigh, Narrow, Wide, WideHalf};
 
+use super::gather::{gather_narrow, gather_wide, lend_whole, number_of};
+use super::open::OpenLists;
 use map_lists::Rotations;
 use std::alloc::{AllocError, Global};
 use std::marker::Model;
 use std::mem;
 
-/// What a byte makes of the bytes before it.
-#[derive(Drop)]
+/// What a piece of bytes makes of those before it, and how many of it were looked at.
+#[derive(Clone, Copy)]
 pub enum Scanned {
-    /// With it they are a bad count.
-    Bad,
-    /// With it they are a record with these lists.
-    Record(Rotations),
-    /// Neither: it joins them.
-    More,
+    /// So many join them, and they are no record and no bad count.
+    More(usize),
+    /// With so many they are a record, whose lists are lent.
+    Ended(usize),
+    /// With so many they are a bad count, and all but the last of those join them.
+    Bad(usize),
 }
 
 /// Where in a record a scanner stands.
@@ -40,171 +46,243 @@ pub enum Phase {
 /// The most lists that a record may have.
 const MOST_LISTS: u16 = 4095;
 
-/// The number of two bytes, the greater first.
-fn number_of(high: u8, low: u8) -> u16
-    ensures { result ≡ 256 * high + low }
+/// The first byte of a record.
+fn begin(piece: &[u8]) -> (Phase, Scanned)
+    requires { 0 < length piece.now }
+    ensures { (gathered : Open) (lent : Lists) → IsScanned Start gathered
+        → Advances Start gathered lent piece.now result.0 result.1 gathered lent }
 {
-    u16::from(high) * 256 + u16::from(low)
-}
-
-ghost use Rattle.planar_code.specs.Scan.{Collects, Takes, Scans};
-
-/// The number joins the lists: 0 closes the open one. After an error both are as they were.
-fn collect(lists: &mut Rotations, last: &mut Vec<u16>, number: u16) -> Result<(), AllocError>
-    ensures ok { OnOk result (Collects number lists.old last.old.items lists.new last.new.items) }
-    ensures lists_kept { OnErr result (lists.new ≡ lists.old) }
-    ensures last_kept { OnErr result (last.new.items ≡ last.old.items) }
-{
-    if number == 0 {
-        lists.push(last)?;
-        last.clear();
+    if piece[0] == 0 {
+        (Phase::WideStart, Scanned::More(1))
     } else {
-        last.push(number - 1)?;
-    }
-    Ok(())
-}
-
-/// The lists, taken out, if they are as many as the count says.
-fn take_whole(alloc: Global, lists: &mut Rotations, count: u16) -> Option<Rotations>
-    ensures whole { IfSome result (λ whole. (whole ≡ lists.old) × (length whole ≡ count)) }
-    ensures taken { OnSome result (lists.new ≡ []) }
-    ensures none { IfNone result ((length lists.old ≢ count) × (lists.new ≡ lists.old)) }
-{
-    if lists.len() == usize::from(count) {
-        Some(mem::replace(lists, Rotations::new(alloc)))
-    } else {
-        None
+        (Phase::Narrow(piece[0]), Scanned::More(1))
     }
 }
 
-/// The number joins the lists, which are taken out if they are then as many as the count says.
-/// After an error they are as they were.
-fn take_number(
+/// The high byte of the count of a wide record.
+fn begin_wide(piece: &[u8]) -> (Phase, Scanned)
+    requires { 0 < length piece.now }
+    ensures { (gathered : Open) (lent : Lists) → IsScanned WideStart gathered
+        → Advances WideStart gathered lent piece.now result.0 result.1 gathered lent }
+{
+    (Phase::WideHigh(piece[0]), Scanned::More(1))
+}
+
+/// The low byte of the count of a wide record.
+fn end_count(high: u8, piece: &[u8]) -> (Phase, Scanned)
+    requires { 0 < length piece.now }
+    ensures { (gathered : Open) (lent : Lists) → IsScanned (WideHigh high) gathered
+        → Advances (WideHigh high) gathered lent piece.now result.0 result.1 gathered lent }
+{
+    let count = number_of(high, piece[0]);
+    if count == 0 || count > MOST_LISTS {
+        (Phase::WideHigh(high), Scanned::Bad(1))
+    } else {
+        (Phase::Wide(count), Scanned::More(1))
+    }
+}
+
+/// Lists of a narrow record.
+fn take_narrow(
     alloc: Global,
-    lists: &mut Rotations,
-    last: &mut Vec<u16>,
-    count: u16,
-    number: u16,
-) -> Result<Option<Rotations>, AllocError>
-    ensures ok { IfOk result
-        (λ taken. Takes number count lists.old last.old.items taken lists.new last.new.items) }
-    ensures lists_kept { OnErr result (lists.new ≡ lists.old) }
-    ensures last_kept { OnErr result (last.new.items ≡ last.old.items) }
+    gathered: &mut OpenLists,
+    lent: &mut Rotations,
+    count: u8,
+    piece: &[u8],
+) -> (Phase, Scanned)
+    requires some { 0 < length piece.now }
+    requires room { length piece.now ≤ room_of gathered.old.most gathered.old.room }
+    requires is { IsScanned (Narrow count) gathered.old }
+    ensures { Advances (Narrow count) gathered.old lent.old piece.now result.0 result.1 gathered.new lent.new }
 {
-    collect(lists, last, number)?;
-    Ok(take_whole(alloc, lists, count))
+    let taken = gather_narrow(alloc, gathered, usize::from(count), piece);
+    if lend_whole(alloc, gathered, lent, usize::from(count)) {
+        (Phase::Start, Scanned::Ended(taken))
+    } else {
+        (Phase::Narrow(count), Scanned::More(taken))
+    }
 }
 
-/// The bytes of a record that has begun. Contracts see it as those bytes.
+/// Lists of a wide record, from the front of a number.
+fn take_wide(
+    alloc: Global,
+    gathered: &mut OpenLists,
+    lent: &mut Rotations,
+    count: u16,
+    piece: &[u8],
+) -> (Phase, Scanned)
+    requires some { 0 < length piece.now }
+    requires room { length piece.now ≤ room_of gathered.old.most gathered.old.room }
+    requires is { IsScanned (Wide count) gathered.old }
+    ensures { Advances (Wide count) gathered.old lent.old piece.now result.0 result.1 gathered.new lent.new }
+{
+    if piece.len() == 1 {
+        return (Phase::WideHalf(count, piece[0]), Scanned::More(1));
+    }
+    let taken = gather_wide(alloc, gathered, usize::from(count), piece);
+    if lend_whole(alloc, gathered, lent, usize::from(count)) {
+        (Phase::Start, Scanned::Ended(taken))
+    } else {
+        (Phase::Wide(count), Scanned::More(taken))
+    }
+}
+
+/// The low byte of a number of a wide record.
+fn end_number(
+    alloc: Global,
+    gathered: &mut OpenLists,
+    lent: &mut Rotations,
+    count: u16,
+    high: u8,
+    piece: &[u8],
+) -> (Phase, Scanned)
+    requires some { 0 < length piece.now }
+    requires room { length piece.now ≤ room_of gathered.old.most gathered.old.room }
+    requires is { IsScanned (WideHalf count high) gathered.old }
+    ensures { Advances (WideHalf count high) gathered.old lent.old piece.now result.0 result.1 gathered.new lent.new }
+{
+    gathered.collect(number_of(high, piece[0]));
+    if lend_whole(alloc, gathered, lent, usize::from(count)) {
+        (Phase::Start, Scanned::Ended(1))
+    } else {
+        (Phase::Wide(count), Scanned::More(1))
+    }
+}
+
+/// As many bytes of a piece as go in one phase.
+fn advance(
+    alloc: Global,
+    phase: Phase,
+    gathered: &mut OpenLists,
+    lent: &mut Rotations,
+    piece: &[u8],
+) -> (Phase, Scanned)
+    requires some { 0 < length piece.now }
+    requires room { length piece.now ≤ room_of gathered.old.most gathered.old.room }
+    requires is { IsScanned phase gathered.old }
+    ensures { Advances phase gathered.old lent.old piece.now result.0 result.1 gathered.new lent.new }
+{
+    match phase {
+        Phase::Start => begin(piece),
+        Phase::WideStart => begin_wide(piece),
+        Phase::WideHigh(high) => end_count(high, piece),
+        Phase::Narrow(count) => take_narrow(alloc, gathered, lent, count, piece),
+        Phase::Wide(count) => take_wide(alloc, gathered, lent, count, piece),
+        Phase::WideHalf(count, high) => end_number(alloc, gathered, lent, count, high, piece),
+    }
+}
+
+/// The same behind bytes of the piece that passed.
+fn shift(passed: usize, scanned: Scanned) -> Scanned
+    requires { passed + seen_of scanned < 2 ^ 64 }
+    ensures { result ≡ shifted passed scanned }
+{
+    match scanned {
+        Scanned::More(k) => Scanned::More(passed + k),
+        Scanned::Ended(k) => Scanned::Ended(passed + k),
+        Scanned::Bad(k) => Scanned::Bad(passed + k),
+    }
+}
+
+/// The bytes of a record that has begun, and the lists of the record that ended last.
 #[derive(Drop)]
 pub struct Scanner {
     alloc: Global,
     phase: Phase,
-    lists: Rotations,
-    last: Vec<u16>,
+    gathered: OpenLists,
+    lent: Rotations,
 }
 
 impl Model for Scanner {
-    ghost use Rattle.std.specs.Prelude.{ℕ, List};
-    ghost use Rattle.planar_code.specs.Scan.{bytes_of, IsScanned};
+    ghost use Rattle.planar_code.specs.Scan.{Scan, scan_of, IsScanned};
 
-    ghost Value = { List ℕ };
+    ghost Value = { Scan };
 
-    ghost view = { λ s. bytes_of s.phase s.lists s.last.items };
+    ghost view = { λ s. scan_of s.phase s.gathered s.lent };
 
-    ghost invariant = { λ s. IsScanned s.phase s.lists s.last.items };
+    ghost invariant = { λ s. IsScanned s.phase s.gathered };
 }
 
 impl Scanner {
-    ghost use Rattle.planar_code.specs.Scan.{Scans};
-
-    /// A scanner with no bytes. It takes no memory.
+    /// A scanner with no bytes and no lists. It takes no memory.
     pub fn new(alloc: Global) -> Self
-        ensures { result ≡ [] }
+        ensures bytes { result.bytes ≡ [] }
+        ensures lists { result.lists ≡ [] }
     {
         Scanner {
             alloc,
             phase: Phase::Start,
-            lists: Rotations::new(alloc),
-            last: Vec::new(alloc),
+            gathered: OpenLists::new(alloc),
+            lent: Rotations::new(alloc),
         }
+    }
+
+    /// Makes room for so many bytes.
+    pub fn reserve(&mut self, bytes: usize) -> Result<(), AllocError>
+        ensures bytes { self.new.bytes ≡ self.old.bytes }
+        ensures lists { self.new.lists ≡ self.old.lists }
+        ensures room { OnOk result (bytes ≤ self.new.room) }
+    {
+        self.gathered.reserve(bytes, usize::from(MOST_LISTS))
+    }
+
+    /// The lists of the record that ended last, numbered from 0.
+    pub fn lists(&self) -> &Rotations
+        ensures { result.now ≡ self.now.lists }
+    {
+        &self.lent
+    }
+
+    /// Hands those lists over.
+    pub fn hand_over(&mut self) -> Rotations
+        ensures lists { result ≡ self.old.lists }
+        ensures rest { self.new ≡ record self.old { lists = [] } }
+    {
+        mem::replace(&mut self.lent, Rotations::new(self.alloc))
     }
 
     /// Forgets the bytes.
     pub fn clear(&mut self)
-        ensures { self.new ≡ [] }
+        ensures bytes { self.new.bytes ≡ [] }
+        ensures lists { self.new.lists ≡ self.old.lists }
+        ensures room { self.old.room ≤ self.new.room }
     {
         self.phase = Phase::Start;
-        self.lists = Rotations::new(self.alloc);
-        self.last.clear();
+        self.gathered.clear();
     }
 
-    /// Takes a byte. After a bad count, and after an error, nothing has changed.
-    pub fn step(&mut self, byte: u8) -> Result<Scanned, AllocError>
-        ensures ok { IfOk result (λ scanned. Scans self.old byte scanned self.new) }
-        ensures err { OnErr result (self.new ≡ self.old) }
+    /// Takes some bytes of a piece: of the lists of a record as many as there are.
+    fn advance(&mut self, piece: &[u8]) -> Scanned
+        requires some { 0 < length piece.now }
+        requires room { length piece.now ≤ self.old.room }
+        ensures scans { Scans self.old piece.now result self.new }
+        ensures some { 0 < seen_of result }
     {
-        match self.phase {
-            Phase::Start if byte == 0 => {
-                self.phase = Phase::WideStart;
-                Ok(Scanned::More)
-            }
-            Phase::Start => {
-                self.phase = Phase::Narrow(byte);
-                Ok(Scanned::More)
-            }
-            Phase::WideStart => {
-                self.phase = Phase::WideHigh(byte);
-                Ok(Scanned::More)
-            }
-            Phase::WideHigh(high) => {
-                let count = number_of(high, byte);
-                if count == 0 || count > MOST_LISTS {
-                    return Ok(Scanned::Bad);
-                }
-                self.phase = Phase::Wide(count);
-                Ok(Scanned::More)
-            }
-            Phase::Narrow(count) => {
-                let taken = take_number(
-                    self.alloc,
-                    &mut self.lists,
-                    &mut self.last,
-                    u16::from(count),
-                    u16::from(byte),
-                )?;
-                match taken {
-                    None => Ok(Scanned::More),
-                    Some(lists) => {
-                        self.phase = Phase::Start;
-                        Ok(Scanned::Record(lists))
-                    }
-                }
-            }
-            Phase::Wide(count) => {
-                self.phase = Phase::WideHalf(count, byte);
-                Ok(Scanned::More)
-            }
-            Phase::WideHalf(count, high) => {
-                let number = number_of(high, byte);
-                let taken = take_number(
-                    self.alloc,
-                    &mut self.lists,
-                    &mut self.last,
-                    count,
-                    number,
-                )?;
-                match taken {
-                    None => {
-                        self.phase = Phase::Wide(count);
-                        Ok(Scanned::More)
-                    }
-                    Some(lists) => {
-                        self.phase = Phase::Start;
-                        Ok(Scanned::Record(lists))
-                    }
-                }
+        let (phase, scanned) = advance(
+            self.alloc,
+            self.phase,
+            &mut self.gathered,
+            &mut self.lent,
+            piece,
+        );
+        self.phase = phase;
+        scanned
+    }
+
+    /// Takes the bytes of a piece, up to the end of a record within it or to its own end. There has to
+    /// be room for it. With a bad count the last byte that was looked at changes nothing.
+    pub fn take(&mut self, piece: &[u8]) -> Scanned
+        requires room { length piece.now ≤ self.old.room }
+        ensures scans { Scans self.old piece.now result self.new }
+        ensures whole { Exhausts piece.now result }
+    {
+        let mut taken = 0;
+        while taken < piece.len() {
+            match self.advance(&piece[taken..]) {
+                Scanned::More(k) => taken += k,
+                stopped => return shift(taken, stopped),
             }
         }
+        Scanned::More(taken)
     }
 }

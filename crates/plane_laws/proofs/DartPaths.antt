@@ -7,10 +7,10 @@ use Rattle.label_classes.proofs.Classes.{Together, Together-from, same_class-fro
 use Rattle.label_classes.proofs.Orbits.{orbits_of, orbits_of-step, IsPermuting}
 use Rattle.label_classes.proofs.Bound.{joint, joint-first, joint-second, IsPermuting-pairing, IsPermuting-after, after}
 use Rattle.map_lists.specs.Lists.{Lists}
-use Rattle.map_definitions.specs.Maps.{Dart, list_of, HasDart, IsSimpleMap, follows, dart_number, dart_count, face_classes, twin_dart}
+use Rattle.map_definitions.specs.Maps.{Dart, face_step, list_of, HasDart, IsSimpleMap, follows, dart_number, dart_count, face_classes, twin_dart}
 use Rattle.map_definitions.specs.Paths.{IsPath, JoinsAvoiding, SameFace, arc, from_entry}
-use Rattle.map_definitions.proofs.DartLemmas.{dart_number-lt, get_or-dart_number, dart_number-injective, HasDart-follows}
-use Rattle.euler_bound.proofs.DartPermutations.{tail_of, turned_dart, rotation, twin, IsPermuting-rotation, IsPairing-twin, tail_of-rotation, orbits-face_images}
+use Rattle.map_definitions.proofs.DartLemmas.{dart_number-lt, get_or-dart_number, dart_number-injective, HasDart-follows, HasDart-face_step}
+use Rattle.euler_bound.proofs.DartPermutations.{dart_of, dart_of-number, tail_of, turned_dart, rotation, twin, IsPermuting-rotation, IsPairing-twin, tail_of-rotation, orbits-face_images}
 use Rattle.plane_laws.proofs.PlaneCuts.{image_of_some}
 use Rattle.plane_laws.proofs.ArcLemmas.{from_entry-first, from_entry-in, from_entry-next, from_entry-not_first, from_entry-has, length-from_entry, before_end, arc-at}
 
@@ -42,6 +42,28 @@ face_together lists simple d e h = rw (orbits-face_images lists simple) at (Toge
 
 pub same_face : (lists : Lists) → IsSimpleMap lists → (d e : Dart) → Together (orbits_of (after (rotation lists) (twin lists)) (dart_count lists)) (dart_number lists d) (dart_number lists e) → SameFace lists d e
 same_face lists simple d e t = same_class-from (face_classes lists) (dart_number lists d) (dart_number lists e) (rw (orbits-face_images lists simple) t)
+
+-- the face step by numbers
+pub face_step-number : (lists : Lists) → IsSimpleMap lists → (d : Dart) → HasDart lists d.0 d.1 → after (rotation lists) (twin lists) (dart_number lists d) ≡ dart_number lists (face_step lists d)
+face_step-number lists simple d has = ap (rotation lists) (twin-number lists d.0 d.1 has) ∙ rotation-number lists d.1 d.0 (simple.both_ways d.0 d.1 has)
+
+-- the dart of its number
+pub dart_of-face_step : (lists : Lists) → IsSimpleMap lists → (i : ℕ) → i < dart_count lists → dart_of lists (after (rotation lists) (twin lists) i) ≡ face_step lists (dart_of lists i)
+dart_of-face_step lists simple i l =
+    let d = dart_of lists i in
+    let p = dart_of-number lists simple i l in
+    let next = HasDart-face_step lists d simple p.is_dart in
+    ap (λ x. dart_of lists (after (rotation lists) (twin lists) x)) (sym p.number)
+    ∙ (ap (dart_of lists) (face_step-number lists simple d p.is_dart) ∙ get_or-dart_number lists (face_step lists d).0 (face_step lists d).1 (0, 0) next)
+
+-- so it stays in the face
+pub face_step_together : (lists : Lists) → IsSimpleMap lists → (d : Dart) → HasDart lists d.0 d.1 → Together (orbits_of (after (rotation lists) (twin lists)) (dart_count lists)) (dart_number lists d) (dart_number lists (face_step lists d))
+face_step_together lists simple d has =
+    let f = rotation lists in
+    let g = twin lists in
+    let k = dart_count lists in
+    let w = IsPermuting-after f g k (IsPermuting-rotation lists simple) (IsPermuting-pairing g k (IsPairing-twin lists simple)) in
+    orbits_of-step (after f g) k w.within (dart_number lists d) (dart_number-lt lists d.0 d.1 has) ∙ ap (label (orbits_of (after f g) k)) (face_step-number lists simple d has)
 
 -- x is the dart before the corner of v before its entry a; so the face of (v, a) comes to that corner along the partner of x
 pub record IsCorner (lists : Lists) (v a x : ℕ) : Type 0 where

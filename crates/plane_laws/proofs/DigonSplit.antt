@@ -7,16 +7,16 @@ use Rattle.map_lists.specs.Lists.{Lists}
 use Rattle.map_definitions.specs.Maps.{list_of, HasDart, IsSimpleMap, IsPlane, follows, dart_number, dart_count, edge_count, face_classes}
 use Rattle.map_definitions.specs.Paths.{JoinsAvoiding, SameFace, arc}
 use Rattle.map_definitions.proofs.EntryLemmas.{Contains-here, Contains-there, Contains-cons_cases}
-use Rattle.map_definitions.proofs.DartLemmas.{dart_number-lt, HasDart-follows}
+use Rattle.map_definitions.proofs.DartLemmas.{HasDart-follows}
 use Rattle.label_classes.proofs.Classes.{Together}
-use Rattle.label_classes.proofs.Orbits.{orbits_of, orbits_of-step}
+use Rattle.label_classes.proofs.Orbits.{orbits_of}
 use Rattle.label_classes.proofs.Swap.{exchange, swapped_other, IsPermuting-exchange}
-use Rattle.label_classes.proofs.Bound.{joint, IsPermuting-pairing, IsPermuting-after, after}
+use Rattle.label_classes.proofs.Bound.{joint, after}
 use Rattle.euler_bound.proofs.DartPermutations.{tail_of, rotation, twin, IsPermuting-rotation, IsPairing-twin, same_orbit, same_vertex, balances_map, two_m}
 use Rattle.plane_laws.specs.Laws.{side, DigonSplit}
 use Rattle.plane_laws.proofs.PlaneCuts.{two_cuts_apart, swapped_commute, joint-same}
 use Rattle.plane_laws.proofs.ArcLemmas.{arc-itself, arc-first, arc-last, arc-wider, arc-longer}
-use Rattle.plane_laws.proofs.DartPaths.{arc_dart, before_dart, face_together, same_face, corner_of, numbers_apart, twin-number, rotation-number, HoldsCut, HoldsCut-joint, arc_held, arcs_joined}
+use Rattle.plane_laws.proofs.DartPaths.{arc_dart, before_dart, face_step_together, face_together, same_face, corner_of, numbers_apart, HoldsCut, HoldsCut-joint, arc_held, arcs_joined}
 use Rattle.plane_laws.proofs.ComponentPaths.{JoinsAvoiding-more, JoinsAvoiding-fewer}
 use Rattle.plane_laws.proofs.CornerSplit.{corner_split}
 
@@ -47,11 +47,7 @@ module _ (lists : Lists) (simple : IsSimpleMap lists) (plane : IsPlane lists) (u
 
   -- the edge's left face goes on to what follows u round v
   left_face : Together F (dart_number lists (u, v)) (dart_number lists (v, c))
-  left_face =
-      let w = IsPermuting-rotation lists simple in
-      let pair = IsPairing-twin lists simple in
-      let d = dart_number lists (u, v) in
-      orbits_of-step (after f g) k (IsPermuting-after f g k w (IsPermuting-pairing g k pair)).within d (dart_number-lt lists u v edge) ∙ ap (label F) (ap f (twin-number lists u v edge) ∙ rotation-number lists v u back)
+  left_face = face_step_together lists simple (u, v) edge
 
   one_face : Together F (dart_number lists (u, a)) (dart_number lists (v, b))
   one_face = face_together lists simple (u, a) (v, b) face

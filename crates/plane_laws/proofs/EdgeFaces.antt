@@ -18,7 +18,7 @@ use Rattle.plane_laws.proofs.LoneEdge.{IsPermuting-lone_edge, GoesOver-out, off_
 use Rattle.map_definitions.proofs.WithoutEdge.{back, u_not_v, length-without_edge, dart_old, dart_new, IsSimpleMap-without_edge, edge_count-without}
 use Rattle.plane_laws.proofs.EdgeRemoved.{before_first, before_second, rest_counts, apart_twin, apart_twin', edge_removed_plane, in_out, twin_out, renumbering, twin_over, rotation_over, apart, apart'}
 use Rattle.map_definitions.proofs.DartLemmas.{dart_number-lt, get_or-dart_number, HasDart-follows}
-use Rattle.euler_bound.proofs.DartPermutations.{dart_of, tail_of, rotation, twin, IsPermuting-rotation, IsPairing-twin, tail_of-rotation, two_m, vertex_count-orbits, face_count-orbits}
+use Rattle.euler_bound.proofs.DartPermutations.{dart_of, tail_of, rotation, twin, IsPermuting-rotation, IsPairing-twin, two_m, vertex_count-orbits, face_count-orbits}
 use Rattle.plane_laws.proofs.DartPaths.{tail_of-number, rotation-number, numbers_apart, face_together, same_face}
 
 module _ (lists : Lists) (simple : IsSimpleMap lists) (u v : ℕ) (edge : HasDart lists u v) where
@@ -67,14 +67,27 @@ module _ (lists : Lists) (simple : IsSimpleMap lists) (u v : ℕ) (edge : HasDar
   tail_d : tail_of lists d ≡ u
   tail_d = tail_of-number lists u v edge
 
-  tail_e : tail_of lists (g d) ≡ v
-  tail_e = ap (tail_of lists) twin_d ∙ tail_of-number lists v u other_way
-
   d_e : d ≢ g d
   d_e e = pair.other d ld (sym e)
 
-  tail_f : (i : ℕ) → i < k → tail_of lists (f i) ≡ tail_of lists i
-  tail_f = tail_of-rotation lists simple
+  -- the darts before the edge's two, the second once the first has been taken off
+  abbrev p : ℕ
+  p = (before_first lists simple u v edge).0
+
+  lp : p < k
+  lp = (before_first lists simple u v edge).1
+
+  fp : f p ≡ d
+  fp = (before_first lists simple u v edge).2
+
+  abbrev q : ℕ
+  q = (before_second lists simple u v edge).0
+
+  lq : q < k
+  lq = (before_second lists simple u v edge).1
+
+  fq : exchange f p d q ≡ g d
+  fq = (before_second lists simple u v edge).2
 
   -- ---- faces
   abbrev P : List ℕ
@@ -92,41 +105,38 @@ module _ (lists : Lists) (simple : IsSimpleMap lists) (u v : ℕ) (edge : HasDar
   from_orbit : (b c : Dart) → Together P (dart_number lists b) (dart_number lists c) → SameFace lists b c
   from_orbit = same_face lists simple
 
-  -- what leads to p's partner leads on to d
-  before_d : (p : ℕ) → p < k → f p ≡ d → Together P (g p) d
-  before_d p lp fp = face_step (g p) (pair.within p lp) ∙ ap (label P) (ap f (pair.back p lp) ∙ fp)
+  -- the partner of p leads on to d
+  before_d : Together P (g p) d
+  before_d = face_step (g p) (pair.within p lp) ∙ ap (label P) (ap f (pair.back p lp) ∙ fp)
 
-  -- what leads to d's partner leads on to d, in the same face as d or not
-  first_face : (p : ℕ) → p < k → f p ≡ d → Together P (g p) (g d) → Together P d (g d)
-  first_face p lp fp t = sym (before_d p lp fp) ∙ t
+  to_both : SameFace lists (u, v) (v, u) → Together P d (g d)
+  to_both face = to_orbit (u, v) (v, u) face ∙ ap (label P) (sym twin_d)
+
+  from_both : Together P d (g d) → SameFace lists (u, v) (v, u)
+  from_both t = from_orbit (u, v) (v, u) (t ∙ ap (label P) twin_d)
 
   -- ---- counts
-  counted : (n : ℕ) → class_count (orbits_of (after (exchange f (before_first lists simple u v edge).0 d) g) k) + class_count (orbits_of f k) + n ≡ class_count P + class_count (orbits_of (exchange f (before_first lists simple u v edge).0 d) k) → face_count rest + n ≡ face_count lists + 1
+  counted : (n : ℕ) → class_count (orbits_of (after (exchange f p d) g) k) + class_count (orbits_of f k) + n ≡ class_count P + class_count (orbits_of (exchange f p d) k) → face_count rest + n ≡ face_count lists + 1
   counted n step =
-      let p = before_first lists simple u v edge in
-      let q = before_second lists simple u v edge in
-      let counts = rest_counts lists simple u v edge p.0 q.0 p.1 q.1 p.2 q.2 in
-      let next = second_alike f g k (edge_count lists) d p.0 q.0 (two_m lists simple) w pair ld p.1 q.1 p.2 q.2 (apart_twin lists simple u v edge) (apart_twin' lists simple u v edge) in
+      let counts = rest_counts lists simple u v edge p q lp lq fp fq in
+      let next = second_alike f g k (edge_count lists) d p q (two_m lists simple) w pair ld lp lq fp fq (apart_twin lists simple u v edge) (apart_twin' lists simple u v edge) in
       let same = n' in
       omega (arith, step, next, counts.orbits, counts.faces, vertex_count-orbits lists simple, face_count-orbits lists simple, vertex_count-orbits rest simple', face_count-orbits rest simple')
 
   -- without an edge in one face there is a face more
   pub one_face_counts : SameFace lists (u, v) (v, u) → face_count rest ≡ face_count lists + 1
   one_face_counts face =
-      let p = before_first lists simple u v edge in
-      let both : Together P (g p.0) (g d) = before_d p.0 p.1 p.2 ∙ (to_orbit (u, v) (v, u) face ∙ ap (label P) (sym twin_d)) in
-      let step = off_alike f g k p.0 d w pair p.1 ld p.2 both in
+      let step = off_alike f g k p d w pair lp ld fp (before_d ∙ to_both face) in
       omega (arith, counted 0 (omega (arith, step)))
 
   -- and without one in two faces there is one less
   pub two_faces_count : ¬ SameFace lists (u, v) (v, u) → face_count lists ≡ face_count rest + 1
   two_faces_count faces =
-      let p = before_first lists simple u v edge in
-      let step = off_joined f g k p.0 d w pair p.1 ld p.2 (λ t. faces (from_orbit (u, v) (v, u) (first_face p.0 p.1 p.2 t ∙ ap (label P) twin_d))) in
+      let step = off_joined f g k p d w pair lp ld fp (λ t. faces (from_both (sym before_d ∙ t))) in
       omega (arith, counted 2 step)
 
-  -- Let d and then its partner be taken off, p and q leading to them, where they are alone at neither end.
-  module _ (p q : ℕ) (lp : p < k) (lq : q < k) (fp : f p ≡ d) (fq : exchange f p d q ≡ g d) (big : f d ≢ d) (big' : f (g d) ≢ g d) where
+  -- Let the edge be alone at neither end.
+  module _ (big : f d ≢ d) (big' : f (g d) ≢ g d) where
     abbrev f1' : ℕ → ℕ
     f1' = exchange f p d
 
@@ -182,7 +192,7 @@ module _ (lists : Lists) (simple : IsSimpleMap lists) (u v : ℕ) (edge : HasDar
     first_joins : (Together P d (g d) → ⊥) → P1 ≡ merge P (g p) (g d)
     first_joins two =
         let ne : g p ≢ g d = λ e. p_not_d (gw.apart p d lp ld e) in
-        let off : Together P (g p) (g d) → ⊥ = λ t. two (sym (before_d p lp fp) ∙ t) in
+        let off : Together P (g p) (g d) → ⊥ = λ t. two (sym (before_d) ∙ t) in
         orbits_of-same (after f1' g) (exchange (after f g) (g p) (g d)) k (after-exchange f g k p d pair lp ld)
         ∙ ((exchange_orbits (after f g) k (g p) (g d) (IsPermuting-after f g k w gw) (pair.within p lp) le ne).joined (apart-from P (g p) (g d) off)).joined
 
@@ -195,7 +205,7 @@ module _ (lists : Lists) (simple : IsSimpleMap lists) (u v : ℕ) (edge : HasDar
         let ne : g p ≢ g d = λ e. p_not_d (gw.apart p d lp ld e) in
         let same = orbits_of-same face1 (exchange (after f g) (g p) (g d)) k (after-exchange f g k p d pair lp ld) in
         let law = exchange_orbits (after f g) k (g p) (g d) (IsPermuting-after f g k w gw) (pair.within p lp) le ne in
-        let parted = (law.cut (same_class-from P (g p) (g d) (before_d p lp fp ∙ one))).apart in
+        let parted = (law.cut (same_class-from P (g p) (g d) (before_d ∙ one))).apart in
         let from_p : Together P1 (g p) (f d) = step (g p) (pair.within p lp) ∙ ap L (ap f1' (pair.back p lp) ∙ lone_before f p d) in
         let from_e : Together P1 (g d) (f (g d)) = step (g d) le ∙ (ap L (ap f1' (pair.back d ld) ∙ lone f p d fp) ∙ (step d ld ∙ ap L one_e)) in
         Together-not (orbits_of (exchange (after f g) (g p) (g d)) k) (g p) (g d) parted (rw same at (from_p ∙ (t ∙ sym from_e)))
@@ -293,14 +303,14 @@ module _ (lists : Lists) (simple : IsSimpleMap lists) (u v : ℕ) (edge : HasDar
     merged_faces : ¬ SameFace lists (u, v) (v, u) → IsMergedFaces lists rest (u, v) (v, u)
     merged_faces not_one =
         let n = pn in
-        let two : Together P d (g d) → ⊥ = λ t. not_one (from_orbit (u, v) (v, u) (t ∙ ap (label P) twin_d)) in
+        let two : Together P d (g d) → ⊥ = λ t. not_one (from_both t) in
         let gp = pair.within p lp in
         let in_e = le in
         let keeps = merge-keeps P (g p) (g d) w_P (omega arith) (omega arith) in
         let joins = joined-merge P (g p) (g d) w_P (omega arith) (omega arith) in
         let parts = merge-joined P (g p) (g d) w_P (omega arith) (omega arith) in
         let L = label P in
-        let d_gp = before_d p lp fp in
+        let d_gp = before_d in
         record {
           apart = not_one;
           kept = λ b c h h' t. cut_to_rest b c h h' (rw (first_joins two) (keeps (dart_number lists b) (dart_number lists c) (to_orbit b c t)));
@@ -325,22 +335,18 @@ module _ (lists : Lists) (simple : IsSimpleMap lists) (u v : ℕ) (edge : HasDar
       let at_v = ap f twin_d ∙ rotation-number lists v u other_way in
       let big : f d ≢ d = λ e. more (numbers_apart lists u (follows lists u v) v has edge (sym at_u ∙ e)) in
       let big' : f (g d) ≢ g d = λ e. more' (numbers_apart lists v (follows lists v u) u has' other_way (sym at_v ∙ (e ∙ twin_d))) in
-      let p = before_first lists simple u v edge in
-      let q = before_second lists simple u v edge in
       let left = dart_new lists simple u v edge u (follows lists u v) has (λ _. more) (λ e. absurd (u_v e)) in
       let left' = dart_new lists simple u v edge v (follows lists v u) has' (λ e. absurd (u_v (sym e))) (λ _. more') in
-      let together = rest_to_cut p.0 q.0 p.1 q.1 p.2 q.2 big big' (u, follows lists u v) (v, follows lists v u) left left' one in
-      let L = label (orbits_of (after (exchange f p.0 d) g) k) in
-      corners_parted p.0 q.0 p.1 q.1 p.2 q.2 big big' (to_orbit (u, v) (v, u) face ∙ ap (label P) (sym twin_d)) (ap L at_u ∙ (together ∙ sym (ap L at_v)))
+      let together = rest_to_cut big big' (u, follows lists u v) (v, follows lists v u) left left' one in
+      let L = label (orbits_of (after (exchange f p d) g) k) in
+      corners_parted big big' (to_both face) (ap L at_u ∙ (together ∙ sym (ap L at_v)))
 
   faces_merged_here : ¬ SameFace lists (u, v) (v, u) → IsMergedFaces lists rest (u, v) (v, u)
   faces_merged_here not_one =
-      let two : Together P d (g d) → ⊥ = λ t. not_one (from_orbit (u, v) (v, u) (t ∙ ap (label P) twin_d)) in
+      let two : Together P d (g d) → ⊥ = λ t. not_one (from_both t) in
       let big : f d ≢ d = λ e. two (sym (face_step (g d) le ∙ ap (label P) (ap f (pair.back d ld) ∙ e))) in
       let big' : f (g d) ≢ g d = λ e. two (face_step d ld ∙ ap (label P) e) in
-      let p = before_first lists simple u v edge in
-      let q = before_second lists simple u v edge in
-      merged_faces p.0 q.0 p.1 q.1 p.2 q.2 big big' not_one
+      merged_faces big big' not_one
 
 -- THE LAW: a bridge is seen at its faces
 pub bridge_test : BridgeTest

@@ -13,6 +13,3 @@ pub mod DigonSplit
 pub mod EdgeFaces
 pub mod EdgeBound
 pub mod Triangles
-pub mod Smooth
-pub mod Replaced
-pub mod VertexSmoothed

@@ -3,7 +3,7 @@ use Rattle.std.proofs.Common.{◌≡◌, ◌≢◌, ◌⊎◌, ℕ, zero, suc, �
 use Rattle.std.proofs.lemmas.Bool.{cases_eq, eq-eqb, ne_eqb}
 use Rattle.label_classes.specs.Classes.{label, class_count, merge_all}
 use Rattle.label_classes.proofs.Counting.{one_if, count_below_none, count_below_same, count_below_more}
-use Rattle.label_classes.proofs.Classes.{Together, cases_Together, merge-joined, merge-keeps, joined-merge, merge-within, class_count-merge_apart, same_class-from, apart-from}
+use Rattle.label_classes.proofs.Classes.{Together, merge-joined, merge-keeps, joined-merge, merge-within, same_class-from, apart-from}
 use Rattle.label_classes.proofs.Orbits.{steps, orbits_of, length-orbits_of, IsLabels-orbits_of, orbits_of-step, orbits_of-marked, IsPermuting, count_below-images}
 use Rattle.label_classes.proofs.Swap.{orbits_of-same, swapped, exchange, swapped_first, swapped_second, swapped_other, IsPermuting-exchange, exchange_orbits}
 use Rattle.label_classes.proofs.Bound.{joint, joint-first, length-joint, IsLabels-joint, IsPairing, IsPermuting-pairing, IsPermuting-after, after, after-exchange, Balances, Balances-cut, cut_orbits, joint-cut, euler_bound_at}
@@ -43,27 +43,6 @@ module _ (f g : ℕ → ℕ) (k m x y : ℕ) (double : k ≡ m + m) (w : IsPermu
       let same : class_count (joint f g k) ≡ class_count K =
       ap class_count (joint-cut f g k x y w v.within lx ly ne one ∙ merge-within K x y (IsLabels-joint h g k hw.within v.within) (omega arith) (omega arith) t) in
       omega (arith, plane, plane_cut, faces, points, same)
-
-  -- where they do not, x and y stay in one class
-  pub plane_cut-together : (Together (orbits_of (after f g) k) (g x) (g y) → ⊥) → Together (joint (exchange f x y) g k) x y
-  plane_cut-together face =
-      let h = exchange f x y in
-      let gw = IsPermuting-pairing g k v in
-      let hw = IsPermuting-exchange f k x y lx ly w in
-      let K = joint h g k in
-      let kn = length-joint h g k hw.within v.within in
-      let apart : g x ≢ g y = λ e. ne (gw.apart x y lx ly e) in
-      let law = exchange_orbits (after f g) k (g x) (g y) (IsPermuting-after f g k w gw) (v.within x lx) (v.within y ly) apart in
-      let faces = (law.joined (apart-from (orbits_of (after f g) k) (g x) (g y) face)).fewer in
-      let faces' = ap class_count turned in
-      let points = (cut_orbits f g k x y w v.within lx ly ne one).fewer in
-      elim (cases_Together K x y) [
-        | inl t ↦ t
-        | inr t ↦
-            let less : class_count K ≡ class_count (joint f g k) + 1 =
-            class_count-merge_apart K x y (IsLabels-joint h g k hw.within v.within) (omega arith) (omega arith) t ∙ ap (λ l. class_count l + 1) (sym (joint-cut f g k x y w v.within lx ly ne one)) in
-            absurd (omega (arith, plane, plane_cut, faces, faces', points, less))
-      ]
 
   -- nor are their images then in one class
   pub plane_cut-images_apart : Together (orbits_of (after f g) k) (g x) (g y) → Together (joint (exchange f x y) g k) (f x) (f y) → ⊥

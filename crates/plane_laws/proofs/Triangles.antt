@@ -6,9 +6,10 @@ use Rattle.label_classes.proofs.Counting.{one_if, count_below_none}
 use Rattle.label_classes.proofs.Orbits.{length-orbits_of, orbits_of-marked, count_below-images}
 use Rattle.map_lists.specs.Lists.{Lists}
 use Rattle.map_definitions.specs.Maps.{Dart, HasDart, IsSimpleMap, IsPlane, face_step, dart_number, dart_count, edge_count, vertex_count, component_count}
-use Rattle.map_definitions.proofs.DartLemmas.{dart_number-lt, get_or-dart_number, dart_number-injective, HasDart-face_step}
-use Rattle.euler_bound.proofs.DartPermutations.{dart_of, turned_dart, dart_of-number, dart_of-twin, two_m, balances_map, vertex_count-orbits, component_count-classes}
+use Rattle.map_definitions.proofs.DartLemmas.{dart_number-lt, dart_number-injective, HasDart-face_step}
+use Rattle.euler_bound.proofs.DartPermutations.{dart_of, dart_of-number, two_m, balances_map, vertex_count-orbits, component_count-classes}
 use Rattle.plane_laws.specs.Laws.{FacesHaveThree, IsTriangle, EdgeBoundMet}
+use Rattle.plane_laws.proofs.DartPaths.{face_step-number}
 use Rattle.plane_laws.proofs.EdgeBound.{h, P, P_known, own_label, own_count, met_connected, own, short, own_same, turn, hw, no_fixed, one_of_three, count_three, none_isolated, none_of_two, short_round, edge_bound}
 
 -- three tests of which one passes at most, and as often as there are numbers: one passes always
@@ -37,10 +38,7 @@ module _ (lists : Lists) (simple : IsSimpleMap lists) where
 
   -- the face step by numbers
   step-number : (d : Dart) → HasDart lists d.0 d.1 → step (dart_number lists d) ≡ dart_number lists (face_step lists d)
-  step-number d has =
-      let i = dart_number lists d in
-      let at = get_or-dart_number lists d.0 d.1 (0, 0) has in
-      ap (λ c. dart_number lists (turned_dart lists c)) (dart_of-twin lists simple i (dart_number-lt lists d.0 d.1 has) ∙ ap (λ c. (c.1, c.0)) at)
+  step-number = face_step-number lists simple
 
   -- no face step leads a dart to itself, and in a large connected map no two do
   pub faces_have_three_here : component_count lists ≡ 1 → 3 ≤ vertex_count lists → (d : Dart) → HasDart lists d.0 d.1 → (face_step lists d ≢ d) × (face_step lists (face_step lists d) ≢ d)
@@ -59,6 +57,17 @@ module _ (lists : Lists) (simple : IsSimpleMap lists) where
       let next = HasDart-face_step lists d simple has in
       let last = HasDart-face_step lists (face_step lists d) simple next in
       ap (λ i. step (step i)) (step-number d has) ∙ (ap step (step-number (face_step lists d) next) ∙ step-number (face_step lists (face_step lists d)) last)
+
+  -- so a dart is on a triangle exactly where three steps lead its number back
+  pub IsTriangle-number : (d : Dart) → HasDart lists d.0 d.1 → step (step (step (dart_number lists d))) ≡ dart_number lists d → IsTriangle lists d
+  IsTriangle-number d has e =
+      let next = HasDart-face_step lists d simple has in
+      let last = HasDart-face_step lists (face_step lists d) simple next in
+      let third = face_step lists (face_step lists (face_step lists d)) in
+      dart_number-injective lists third d (HasDart-face_step lists (face_step lists (face_step lists d)) simple last) has (sym (three-number d has) ∙ e)
+
+  pub number-IsTriangle : (d : Dart) → HasDart lists d.0 d.1 → IsTriangle lists d → step (step (step (dart_number lists d))) ≡ dart_number lists d
+  number-IsTriangle d has t = three-number d has ∙ ap (dart_number lists) t
 
   -- Where three times the faces are the darts, one of a dart and the next two is the least of its face.
   met_rounds : ((i : ℕ) → i < k → short lists simple i ≡ true → ⊥) → k ≤ 3 * class_count (P lists simple) → (i : ℕ) → i < k → step (step (step i)) ≡ i
@@ -168,11 +177,8 @@ module _ (lists : Lists) (simple : IsSimpleMap lists) where
       let parts = component_count-classes lists simple in
       let double = two_m lists simple in
       let alone = none_isolated lists simple (omega arith) some in
-      let next = HasDart-face_step lists d simple has in
-      let last = HasDart-face_step lists (face_step lists d) simple next in
       let rounds = met_rounds (λ i l t. none_of_two lists simple (omega arith) some i l (short_round lists simple i t)) (omega arith) (dart_number lists d) (dart_number-lt lists d.0 d.1 has) in
-      let third = face_step lists (face_step lists (face_step lists d)) in
-      dart_number-injective lists third d (HasDart-face_step lists (face_step lists (face_step lists d)) simple last) has (sym (three-number d has) ∙ rounds)
+      IsTriangle-number d has rounds
 
   pub met_where_triangles : IsPlane lists → 3 ≤ vertex_count lists → component_count lists ≡ 1 → ((u v : ℕ) → HasDart lists u v → IsTriangle lists (u, v)) → edge_count lists + 6 ≡ 3 * vertex_count lists
   met_where_triangles plane some one triangles =

@@ -1,8 +1,8 @@
 -- Laws of simple maps, and of those of genus zero.
-use Rattle.std.specs.Prelude.{ℕ, ◌+◌, ◌*◌, ◌<◌, ◌≤◌, ◌≡◌, ◌⊎◌, ◌↔◌, true, List, [], ◌∷◌, ◌++◌, ◌≢◌, Contains, length, slice_set}
+use Rattle.std.specs.Prelude.{ℕ, ◌+◌, ◌*◌, ◌<◌, ◌≤◌, ◌≡◌, ◌⊎◌, ◌↔◌, true, List, [], ◌∷◌, ◌++◌, ◌≢◌, Contains, length}
 use Rattle.label_classes.specs.Classes.{same_class}
 use Rattle.map_lists.specs.Lists.{Lists}
-use Rattle.map_definitions.specs.Maps.{Dart, HasDart, IsSimpleMap, IsPlane, vertex_count, edge_count, component_count, component_classes, list_of, follows, face_step, place_of}
+use Rattle.map_definitions.specs.Maps.{Dart, HasDart, IsSimpleMap, IsPlane, vertex_count, edge_count, component_count, component_classes, list_of, follows, face_step}
 use Rattle.map_definitions.specs.Edges.{without_edge}
 use Rattle.map_definitions.specs.Paths.{JoinsAvoiding, arc, SameFace}
 
@@ -59,20 +59,6 @@ IsTriangle lists d = face_step lists (face_step lists (face_step lists d)) ≡ d
 abbrev pub EdgeBoundMet : Type 0
 EdgeBoundMet =
     (lists : Lists) → IsSimpleMap lists → IsPlane lists → 3 ≤ vertex_count lists → (edge_count lists + 6 ≡ 3 * vertex_count lists) ↔ ((component_count lists ≡ 1) × ((u v : ℕ) → HasDart lists u v → IsTriangle lists (u, v)))
-
--- a list with y in place of its first x
-abbrev pub replaced : List ℕ → ℕ → ℕ → List ℕ
-replaced us x y = slice_set us (place_of x us) y
-
--- the vertex x, whose neighbours are a and b, taken out of the edge that it stands in: its list is empty, and a and b stand in each other's lists in its place
-abbrev pub smoothed : Lists → ℕ → ℕ → ℕ → Lists
-smoothed lists x a b =
-    slice_set (slice_set (slice_set lists a (replaced (list_of lists a) x b)) b (replaced (list_of lists b) x a)) x []
-
--- In a map of genus zero a vertex with two neighbours that are not adjacent can be taken out of its edge, and the genus stays zero.
-abbrev pub VertexSmoothed : Type 0
-VertexSmoothed =
-    (lists : Lists) (x a b : ℕ) → IsSimpleMap lists → IsPlane lists → x < length lists → list_of lists x ≡ a ∷ b ∷ [] → ¬ HasDart lists a b → IsSimpleMap (smoothed lists x a b) × IsPlane (smoothed lists x a b)
 
 -- Where two corners of a vertex lie in one face, the vertex separates the two parts of its list.
 abbrev pub CornerSplit : Type 0

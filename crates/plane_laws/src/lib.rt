@@ -1,7 +1,7 @@
 //! Laws of plane maps. Each is the contract of a function that does nothing, and speaks of all maps.
 #![tactic(auto)]
 
-ghost use Rattle.plane_laws.specs.Laws.{ComponentsArePaths, EdgeRemoved, BridgeTest, FacesMerged, EdgeBound, FacesHaveThree, EdgeBoundMet, CornerSplit, DigonSplit, VertexSmoothed};
+ghost use Rattle.plane_laws.specs.Laws.{ComponentsArePaths, EdgeRemoved, BridgeTest, FacesMerged, EdgeBound, FacesHaveThree, EdgeBoundMet, CornerSplit, DigonSplit};
 
 /// Two vertices of a simple map are in one of the classes that count its components exactly where a
 /// path joins them.
@@ -52,10 +52,4 @@ pub fn corner_split()
 /// the two sides.
 pub fn digon_split()
     ensures { DigonSplit }
-{}
-
-/// Where a vertex of a map of genus zero has just two neighbours, which are not adjacent, the map in
-/// which it is taken out of its edge, and its neighbours are adjacent, has genus zero.
-pub fn vertex_smoothed()
-    ensures { VertexSmoothed }
 {}

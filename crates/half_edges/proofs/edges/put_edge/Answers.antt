@@ -3,22 +3,22 @@ use Rattle.half_edges.proofs.edges.put_edge.Goals as goal
 
 pub put-requires : goal.put-requires
 put-requires c = record {
-  d_in = d_within _ _ _ _ c.requires.wired c.requires.some c.args.at_u c.args.at_v c.requires.corner_u c.requires.corner_v c.requires.two_vertices c.requires.not_adjacent;
-  within = first_put _ _ _ _ c.requires.wired c.requires.some c.args.at_u c.args.at_v c.requires.corner_u c.requires.corner_v c.requires.two_vertices c.requires.not_adjacent;
+  d_in = d_within _ _ _ _ _ c.requires.wired c.requires.some c.args.at_u c.args.at_v c.requires.corners;
+  within = first_put _ _ _ _ _ c.requires.wired c.requires.some c.args.at_u c.args.at_v c.requires.corners;
 }
 
 pub put-requires-2 : goal.put-requires-2
 put-requires-2 c = record {
-  d_in = twin_within _ _ _ _ c.requires.wired c.requires.some c.args.at_u c.args.at_v c.requires.corner_u c.requires.corner_v c.requires.two_vertices c.requires.not_adjacent _ _ c.put.ensures;
-  within = second_put _ _ _ _ c.requires.wired c.requires.some c.args.at_u c.args.at_v c.requires.corner_u c.requires.corner_v c.requires.two_vertices c.requires.not_adjacent _ _ c.put.ensures;
+  d_in = twin_within _ _ _ _ _ c.requires.wired c.requires.some c.args.at_u c.args.at_v c.requires.corners _ _ c.put.ensures;
+  within = second_put _ _ _ _ _ c.requires.wired c.requires.some c.args.at_u c.args.at_v c.requires.corners _ _ c.put.ensures;
 }
 
 pub returns : goal.returns
 returns c = record {
-  wired = wired_given _ _ _ _ c.requires.wired c.requires.some c.args.at_u c.args.at_v c.requires.corner_u c.requires.corner_v c.requires.two_vertices c.requires.not_adjacent _ _ c.put.ensures _ _ c.put-2.ensures;
-  dart = dart_given _ _ _ _ c.requires.wired c.requires.some c.args.at_u c.args.at_v c.requires.corner_u c.requires.corner_v c.requires.two_vertices c.requires.not_adjacent _ _ c.put.ensures _ _ c.put-2.ensures;
-  ids = ids_given _ _ _ _ c.requires.wired c.requires.some c.args.at_u c.args.at_v c.requires.corner_u c.requires.corner_v c.requires.two_vertices c.requires.not_adjacent _ _ c.put.ensures _ _ c.put-2.ensures;
+  wired = wired_given _ _ _ _ _ c.requires.wired c.requires.some c.args.at_u c.args.at_v c.requires.corners _ _ c.put.ensures _ _ c.put-2.ensures;
+  dart = dart_given _ _ _ _ _ c.requires.wired c.requires.some c.args.at_u c.args.at_v c.requires.corners _ _ c.put.ensures _ _ c.put-2.ensures;
+  ids = ids_given _ _ _ _ _ c.requires.wired c.requires.some c.args.at_u c.args.at_v c.requires.corners _ _ c.put.ensures _ _ c.put-2.ensures;
 }
 
 pub bounds-darts-d : goal.bounds-darts-d
-bounds-darts-d c = d_within _ _ _ _ c.requires.wired c.requires.some c.args.at_u c.args.at_v c.requires.corner_u c.requires.corner_v c.requires.two_vertices c.requires.not_adjacent
+bounds-darts-d c = d_within _ _ _ _ _ c.requires.wired c.requires.some c.args.at_u c.args.at_v c.requires.corners

@@ -1,4 +1,4 @@
-use Rattle.std.proofs.Common.{arith}
+use Rattle.std.proofs.Common.{arith, ◌∙◌}
 use Rattle.std.proofs.lemmas.List.{take_rest, length-drop}
 use Rattle.pg_io.proofs.Growth.{Grows-take}
 use Rattle.pg_io.proofs.put.put_all.Goals as goal
@@ -15,5 +15,5 @@ loop-done-preserved g c =
     record {
       in_range = omega (arith, wrote.1, length-drop done bytes);
       appended = Grows-take bytes done k c.loop-done.invariant.appended appended;
-      kept = omega (arith, c.loop-done.invariant.kept, c.in_ok-done.ensures.never_falls);
+      kept = c.in_ok-done.ensures.kept ∙ c.loop-done.invariant.kept;
     }

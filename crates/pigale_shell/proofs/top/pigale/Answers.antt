@@ -6,7 +6,7 @@ returns-in-Err-NoMemory-clause-no_memory g c = λ _. GrowsByText-none _ _ _
 
 pub returns-in-Ok-clause-complete : goal.returns-in-Ok-clause-complete
 returns-in-Ok-clause-complete g c = λ input records ending told reading _ no_read no_write.
-    Outcome-complete c.in-Ok.job _ c.run_job.result input records ending c.run_job.ensures.outcome told reading no_read no_write
+    Outcome-complete c.in-Ok.job _ _ c.run_job.result input records ending c.run_job.ensures.outcome told reading no_read no_write
 
 pub returns-in-Ok-clause-limit : goal.returns-in-Ok-clause-limit
 returns-in-Ok-clause-limit g c = c.run_job.ensures.limit

@@ -1,12 +1,14 @@
--- The bytes passed are no record and no bad count, and the scanner has them.
-use Rattle.std.proofs.Common.{◌≡◌, take}
-use Rattle.std.specs.Prelude.{IsFalse}
-use Rattle.planar_code.specs.Reading.{NoRecord, has_bad_count}
+-- The bytes passed are what the scanner has.
+use Rattle.std.proofs.Common.{◌≡◌, ◌≤◌, ◌-◌, [], length, take}
+use Rattle.planar_code.specs.Scan.{Passes}
 use Rattle.planar_code.proofs.next.next_record.Given as goal
 
 abbrev pub invariant-loop-passed : goal.invariant-loop-passed
 invariant-loop-passed l = record {
-  passed : l.scanner ≡ take l.passed l.rest;
-  no_record : NoRecord (take l.passed l.rest);
-  no_bad_count : IsFalse (has_bad_count (take l.passed l.rest));
+  within : l.passed ≤ length l.rest;
+  bytes : l.scanner.bytes ≡ take l.passed l.rest;
+  passes : Passes [] (take l.passed l.rest);
 }
+
+abbrev pub decreases-loop-passed : goal.decreases-loop-passed
+decreases-loop-passed l = length l.rest - l.passed

@@ -10,9 +10,9 @@ part_is c = c.in_ok-part.ensures ∙ ap (λ lists. induced_lists c.args.keep.now
 pub simple_map-requires-clause-simple : goal.simple_map-requires-clause-simple
 simple_map-requires-clause-simple c =
     let e = part_is ((goal.at.simple_map-requires-clause-simple c).In_ok-part) in
-    rw e (IsSimpleMap-induced c.args.keep.now c.args.self.now.lists c.requires.flags c.n-n.ensures.known.simple c.requires.some)
+    rw e (IsSimpleMap-induced c.args.keep.now c.args.self.now.lists c.requires.flags c.facts.ensures.simple c.requires.some)
 
 pub simple_map-requires-clause-few : goal.simple_map-requires-clause-few
 simple_map-requires-clause-few c =
     let e = ap length (part_is ((goal.at.simple_map-requires-clause-few c).In_ok-part)) in
-    omega (arith, e, length-induced-le c.args.keep.now c.args.self.now.lists, c.n-n.ensures.known.few_vertices)
+    omega (arith, e, length-induced-le c.args.keep.now c.args.self.now.lists, c.facts.ensures.few_vertices)

@@ -1,0 +1,3 @@
+-- Drawings of maps, and their law.
+pub mod Drawing
+pub mod Law

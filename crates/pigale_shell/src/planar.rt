@@ -1,0 +1,147 @@
+//! planar_code, and the jobs over it, for the loop of runs.
+ghost use Rattle.std.specs.Prelude.{◌≡◌, true};
+
+use super::answer::answer_with;
+use super::job::Job;
+use super::lines::{Ending, last_line};
+use euler_faces::Counter;
+use map_lists::Rotations;
+use planar_code::{RecordReader, Taken as Found};
+use record_runs::{Format, Job as RecordJob, Taken};
+use std::alloc::{AllocError, Global};
+
+/// A reader of planar_code.
+#[derive(Drop)]
+pub struct PlanarReader {
+    reader: RecordReader,
+    ghost front: { reader.header_may_come ≡ true → reader.start ≡ 0 },
+}
+
+impl PlanarReader {
+    ghost use Rattle.planar_code.specs.State.{at_front};
+
+    /// A reader before the first byte of a file. It takes no memory.
+    pub fn new(alloc: Global) -> PlanarReader
+        ensures { result.reader ≡ at_front }
+    {
+        PlanarReader {
+            reader: RecordReader::new(alloc),
+        }
+    }
+}
+
+impl Format for PlanarReader {
+    ghost use Rattle.planar_code.specs.Reading.{Ending};
+    ghost use Rattle.planar_code.specs.Progress.{Progress};
+    ghost use Rattle.pigale_shell.specs.Lines.{ending_of};
+    ghost use Rattle.pigale_shell.specs.PlanarCode.{planar_code, place_of, IsGiven};
+    ghost use Rattle.planar_code.proofs.ProgressLemmas.{Progress-length, Progress-begins};
+    ghost use Rattle.planar_code.specs.Ends.{ending_here};
+    ghost use Rattle.planar_code.proofs.EndLemmas.{Progress-ends, reading-begins};
+
+    type Record = Rotations;
+
+    type End = Ending;
+
+    ghost Ending = { Ending };
+
+    ghost ending_of = { ending_of };
+
+    ghost reads = { planar_code };
+
+    ghost At = { λ format consumed records. Progress consumed records format.reader };
+
+    ghost place = { λ format. place_of format.reader };
+
+    ghost lent = { λ format. format.reader.lists };
+
+    ghost ending = { λ format. ending_here format.reader };
+
+    ghost IsGiven = { IsGiven };
+
+    ghost place_is = { λ format consumed records progress. Progress-length consumed records format.reader progress };
+
+    ghost is_read = { λ format consumed records progress within. Progress-ends consumed records format.reader progress within };
+
+    ghost begins = { λ format consumed records tail progress within. Progress-begins consumed records format.reader tail progress within };
+
+    ghost has = { reading-begins };
+
+    fn take(&mut self, piece: &[u8]) -> Result<Taken<Ending>, AllocError> {
+        match self.reader.take(piece)? {
+            Found::More => Ok(Taken::More),
+            Found::Ended(k) => Ok(Taken::Ended(k)),
+            Found::Bad(_, place) => Ok(Taken::Bad(Ending::BadCount(place))),
+        }
+    }
+
+    fn record(&self) -> &Rotations {
+        self.reader.lists()
+    }
+
+    fn end(&self) -> Ending {
+        if self.reader.is_between() {
+            Ending::Well
+        } else {
+            Ending::EndInRecord(self.reader.start())
+        }
+    }
+
+    fn too_long(&self) -> Ending {
+        Ending::TooLong
+    }
+
+    fn is_well(end: &Ending) -> bool {
+        matches!(end, Ending::Well)
+    }
+
+    fn last_line(
+        alloc: Global,
+        records: u32,
+        refused: u32,
+        end: &Ending,
+    ) -> Result<Vec<u8>, AllocError> {
+        last_line(alloc, records, refused, *end)
+    }
+}
+
+/// A job over planar_code.
+#[derive(Drop)]
+pub struct PlanarJob {
+    alloc: Global,
+    job: Job,
+    // keeps its memory from record to record
+    counter: Counter,
+}
+
+impl PlanarJob {
+    /// A job before the first record. It takes no memory.
+    pub fn new(alloc: Global, job: Job) -> PlanarJob
+        ensures { result.job ≡ job }
+    {
+        PlanarJob {
+            alloc,
+            job,
+            counter: Counter::new(alloc),
+        }
+    }
+}
+
+impl RecordJob<PlanarReader> for PlanarJob {
+    ghost use Rattle.pigale_shell.specs.Answer.{answers_of};
+
+    type Kind = Job;
+
+    ghost kind = { λ planar. planar.job };
+
+    ghost answers = { answers_of };
+
+    fn answer(
+        &mut self,
+        number: u32,
+        given: &Rotations,
+        out: &mut Vec<u8>,
+    ) -> Result<bool, AllocError> {
+        answer_with(self.alloc, &mut self.counter, self.job, number, given, out)
+    }
+}

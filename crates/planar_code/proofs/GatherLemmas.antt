@@ -1,0 +1,88 @@
+-- Numbers that join the lists of a record one by one.
+use Rattle.std.proofs.Common.{◌≡◌, ℕ, zero, suc, ◌+◌, ◌*◌, ◌/◌, ◌-◌, ◌<◌, ◌≤◌, List, [], ◌∷◌, ◌++◌, length, get_or, take, flat_map, All, refl, sym, ap, subst, ◌∙◌, arith, append_assoc}
+use Rattle.std.proofs.lemmas.List.{append-nil, length-append, take_more}
+use Rattle.std.proofs.lemmas.Grind.{flat_map-append}
+use Rattle.map_lists.specs.Lists.{Lists}
+use Rattle.planar_code.specs.Reading.{two_bytes}
+use Rattle.planar_code.specs.Open.{Open, numbers_of, Collects, IsOpen, Gathers}
+use Rattle.planar_code.proofs.ScanLemmas.{collected, collected-closed, collected-length, collected-small, collected-small_last, pair_of}
+
+-- no numbers
+pub gathers-none : (few limit count : ℕ) (now : Open) → IsOpen few limit count now.lists now.last → Gathers limit count [] now now
+gathers-none few limit count now is =
+    let some : length now.lists < count = is.some_left in
+    record {
+      joined = sym (append-nil (numbers_of now.lists now.last));
+      few = omega arith;
+      full = λ e. absurd (omega arith);
+      small_lists = is.small_lists;
+      small_last = is.small_last;
+      room = omega arith;
+      most = refl;
+    }
+
+-- one number more, where not all lists are closed
+pub gathers-more : (limit count number : ℕ) (numbers : List ℕ) (old mid new : Open) → number ≤ limit → length mid.lists < count → Gathers limit count numbers old mid → Collects number mid.lists mid.last new.lists new.last → mid.room ≤ new.room + 1 → new.most ≡ mid.most → Gathers limit count (numbers ++ number ∷ []) old new
+gathers-more limit count number numbers old mid new low some is collects room most =
+    let more = collected-length number mid.lists mid.last new.lists new.last collects in
+    let r = is.room in
+    record {
+      joined = collected number mid.lists mid.last new.lists new.last collects ∙ ap (λ (x : List ℕ). x ++ number ∷ []) is.joined ∙ append_assoc (numbers_of old.lists old.last) numbers (number ∷ []);
+      few = omega arith;
+      full = λ e. collected-closed number mid.lists mid.last new.lists new.last collects (omega (arith, e));
+      small_lists = collected-small limit number mid.lists mid.last new.lists new.last low is.small_lists is.small_last collects;
+      small_last = collected-small_last limit number mid.lists mid.last new.lists new.last low is.small_last collects;
+      room = omega (arith, length-append numbers (number ∷ []));
+      most = most ∙ is.most;
+    }
+
+-- the lists are not yet as many as the count says where the number is no 0, or where they are not as many then
+pub still-some : (count number : ℕ) (mid new : Open) → length mid.lists < count → Collects number mid.lists mid.last new.lists new.last → (number ≡ 0 → length new.lists ≡ count → ⊥) → length new.lists < count
+still-some count zero mid new some collects not =
+    let more = collected-length zero mid.lists mid.last new.lists new.last collects in
+    let differs : length new.lists ≡ count → ⊥ = not refl in
+    omega arith
+still-some count (suc u) mid new some collects not = omega (arith, ap length collects.0)
+
+-- the bytes of a narrow record so far, and one more
+pub narrow-gathers : (count k number : ℕ) (piece : List ℕ) (old mid new : Open) → k < length piece → number ≡ get_or piece k 0 → number < 256 → length mid.lists < count → Gathers 255 count (take k piece) old mid → Collects number mid.lists mid.last new.lists new.last → mid.room ≤ new.room + 1 → new.most ≡ mid.most → Gathers 255 count (take (k + 1) piece) old new
+narrow-gathers count k number piece old mid new within at low some is collects room most =
+    let P : List ℕ → Type 0 = λ x. Gathers 255 count x old new in
+    subst P (ap (λ (x : ℕ). take k piece ++ x ∷ []) at ∙ sym (take_more piece k 0 within))
+    (gathers-more 255 count number (take k piece) old mid new (omega arith) some is collects room most)
+
+-- the bytes are numbers of two bytes each, which join the lists
+abbrev pub GathersWide : ℕ → List ℕ → Open → Open → Type 0
+GathersWide count bytes old new = (numbers : List ℕ) × (flat_map two_bytes numbers ≡ bytes) × Gathers 65535 count numbers old new
+
+pub wide-none : (count : ℕ) (now : Open) → IsOpen 4096 65535 count now.lists now.last → GathersWide count [] now now
+wide-none count now is = ([], refl, gathers-none 4096 65535 count now is)
+
+-- two bytes more
+take-pair : (piece : List ℕ) (k : ℕ) → k + 1 < length piece → take (k + 2) piece ≡ take k piece ++ (get_or piece k 0 ∷ get_or piece (k + 1) 0 ∷ [])
+take-pair piece k within =
+    let two : k + 2 ≡ (k + 1) + 1 = omega arith in
+    ap (λ (n : ℕ). take n piece) two ∙ take_more piece (k + 1) 0 within
+    ∙ ap (λ (x : List ℕ). x ++ get_or piece (k + 1) 0 ∷ []) (take_more piece k 0 (omega arith))
+    ∙ append_assoc (take k piece) (get_or piece k 0 ∷ []) (get_or piece (k + 1) 0 ∷ [])
+
+pub wide-gathers : (count k number high low : ℕ) (piece : List ℕ) (old mid new : Open) → k + 1 < length piece → high ≡ get_or piece k 0 → low ≡ get_or piece (k + 1) 0 → low < 256 → number ≡ 256 * high + low → number < 65536 → length mid.lists < count → GathersWide count (take k piece) old mid → Collects number mid.lists mid.last new.lists new.last → mid.room ≤ new.room + 1 → new.most ≡ mid.most → GathersWide count (take (k + 2) piece) old new
+wide-gathers count k number high low piece old mid new within at at' small is_number fits some is collects room most = (
+  is.0 ++ number ∷ [],
+  flat_map-append two_bytes is.0 (number ∷ [])
+      ∙ ap (λ (x : List ℕ). x ++ two_bytes number) is.1
+      ∙ ap (λ (x : List ℕ). take k piece ++ x) (ap two_bytes is_number ∙ pair_of high low small ∙ ap (λ (x : ℕ). x ∷ low ∷ []) at ∙ ap (λ (x : ℕ). get_or piece k 0 ∷ x ∷ []) at')
+      ∙ sym (take-pair piece k within),
+  gathers-more 65535 count number is.0 old mid new (omega arith) some is.2 collects room most,
+)
+
+-- two bytes for each number
+pairs-length : (numbers : List ℕ) → length (flat_map two_bytes numbers) ≡ 2 * length numbers
+pairs-length [] = refl
+pairs-length (n ∷ numbers) = omega (arith, pairs-length numbers)
+
+-- there is room left for the bytes to come
+pub wide-room : (count : ℕ) (bytes : List ℕ) (old new : Open) → GathersWide count bytes old new → old.room ≤ new.room + length bytes
+wide-room count bytes old new is =
+    let r = is.2.room in
+    omega (arith, pairs-length is.0, ap length is.1)

@@ -1,0 +1,118 @@
+//! The numbers of a record, one byte or two bytes each.
+ghost use Rattle.std.specs.Prelude.{◌≡◌, ◌+◌, ◌*◌, ◌<◌, ◌≤◌, List, ℕ, [], length, take, flat_map, ◌≢◌};
+ghost use Rattle.std.specs.Bool.{OnTrue, OnFalse};
+ghost use Rattle.planar_code.specs.Reading.{two_bytes};
+ghost use Rattle.planar_code.specs.Open.{IsOpen, Gathers};
+
+use super::open::OpenLists;
+use map_lists::Rotations;
+use std::alloc::Global;
+use std::mem;
+
+/// The number of two bytes, the greater first.
+pub fn number_of(high: u8, low: u8) -> u16
+    ensures { result ≡ 256 * high + low }
+{
+    u16::from(high) * 256 + u16::from(low)
+}
+
+/// Numbers of one byte each join the lists, up to the one that closes list number `count`. It answers
+/// how many bytes they were.
+///
+/// The lists are a value of its own for the loop, so that their ends stay in registers.
+pub fn gather_narrow(alloc: Global, gathered: &mut OpenLists, count: usize, piece: &[u8]) -> usize
+    requires some { 0 < length piece.now }
+    requires is { IsOpen 256 255 count gathered.old.lists gathered.old.last }
+    requires room { length piece.now ≤ gathered.old.room }
+    requires most { count ≤ gathered.old.most }
+    ensures some { 0 < result }
+    ensures within { result ≤ length piece.now }
+    ensures gathers { Gathers 255 count (take result piece.now) gathered.old gathered.new }
+{
+    let mut lists = mem::replace(gathered, OpenLists::new(alloc));
+    let taken = narrow_numbers(&mut lists, count, piece);
+    *gathered = lists;
+    taken
+}
+
+// The loop of `gather_narrow`.
+#[inline(always)]
+fn narrow_numbers(gathered: &mut OpenLists, count: usize, piece: &[u8]) -> usize
+    requires some { 0 < length piece.now }
+    requires is { IsOpen 256 255 count gathered.old.lists gathered.old.last }
+    requires room { length piece.now ≤ gathered.old.room }
+    requires most { count ≤ gathered.old.most }
+    ensures some { 0 < result }
+    ensures within { result ≤ length piece.now }
+    ensures gathers { Gathers 255 count (take result piece.now) gathered.old gathered.new }
+{
+    for k in 0..piece.len() {
+        let number = piece[k];
+        gathered.collect(u16::from(number));
+        if number == 0 && gathered.closed() == count {
+            return k + 1;
+        }
+    }
+    piece.len()
+}
+
+/// Numbers of two bytes each join the lists, up to the one that closes list number `count`. It answers
+/// how many bytes they were; a last byte alone is none of them.
+pub fn gather_wide(alloc: Global, gathered: &mut OpenLists, count: usize, piece: &[u8]) -> usize
+    requires some { 1 < length piece.now }
+    requires is { IsOpen 4096 65535 count gathered.old.lists gathered.old.last }
+    requires room { length piece.now ≤ gathered.old.room }
+    requires most { count ≤ gathered.old.most }
+    ensures some { 0 < result }
+    ensures within { result ≤ length piece.now }
+    ensures gathers { (numbers : List ℕ) × (flat_map two_bytes numbers ≡ take result piece.now)
+        × Gathers 65535 count numbers gathered.old gathered.new }
+{
+    let mut lists = mem::replace(gathered, OpenLists::new(alloc));
+    let taken = wide_numbers(&mut lists, count, piece);
+    *gathered = lists;
+    taken
+}
+
+// The loop of `gather_wide`.
+#[inline(always)]
+fn wide_numbers(gathered: &mut OpenLists, count: usize, piece: &[u8]) -> usize
+    requires some { 1 < length piece.now }
+    requires is { IsOpen 4096 65535 count gathered.old.lists gathered.old.last }
+    requires room { length piece.now ≤ gathered.old.room }
+    requires most { count ≤ gathered.old.most }
+    ensures some { 0 < result }
+    ensures within { result ≤ length piece.now }
+    ensures gathers { (numbers : List ℕ) × (flat_map two_bytes numbers ≡ take result piece.now)
+        × Gathers 65535 count numbers gathered.old gathered.new }
+{
+    let pairs = piece.len() / 2;
+    for k in 0..pairs {
+        let number = number_of(piece[2 * k], piece[2 * k + 1]);
+        gathered.collect(number);
+        if number == 0 && gathered.closed() == count {
+            return 2 * k + 2;
+        }
+    }
+    2 * pairs
+}
+
+/// Lends the lists if they are as many as the count says.
+pub fn lend_whole(
+    alloc: Global,
+    gathered: &mut OpenLists,
+    lent: &mut Rotations,
+    count: usize,
+) -> bool
+    requires { length gathered.old.lists ≡ count → gathered.old.last ≡ [] }
+    ensures whole { OnTrue result ((length gathered.old.lists ≡ count) × (lent.new ≡ gathered.old.lists)
+        × (gathered.new.lists ≡ []) × (gathered.new.last ≡ [])) }
+    ensures not { OnFalse result ((length gathered.old.lists ≢ count) × (gathered.new ≡ gathered.old) × (lent.new ≡ lent.old)) }
+{
+    if gathered.closed() == count {
+        gathered.exchange(alloc, lent);
+        true
+    } else {
+        false
+    }
+}

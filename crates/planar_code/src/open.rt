@@ -1,0 +1,115 @@
+//! The lists of a record, as their numbers come.
+ghost use Rattle.std.specs.Prelude.{◌≡◌, ◌+◌, ◌<◌, ◌≤◌, [], length, OnOk};
+ghost use Rattle.planar_code.specs.Open.{Collects};
+
+use map_lists::Rotations;
+use std::alloc::{AllocError, Global};
+use std::marker::Model;
+use std::mem;
+
+/// Lists as their numbers come: those that are closed, and the open one.
+#[derive(Drop)]
+pub struct OpenLists {
+    // the entries of all lists, one list after another
+    entries: Vec<u16>,
+    // for each closed list the place behind its last entry
+    ends: Vec<usize>,
+}
+
+impl Model for OpenLists {
+    ghost use Rattle.std.specs.Prelude.{◌-◌, length, drop, vec_len, vec_capacity};
+    ghost use Rattle.map_lists.specs.Cuts.{cut};
+    ghost use Rattle.planar_code.specs.Open.{Open, last_end, AreWithin};
+
+    ghost Value = { Open };
+
+    ghost view = { λ l. record {
+      lists = cut 0 l.ends.items l.entries.items;
+      last = drop (last_end 0 l.ends.items) l.entries.items;
+      room = vec_capacity l.entries - vec_len l.entries;
+      most = vec_capacity l.ends;
+    } };
+
+    ghost invariant = { λ l. AreWithin 0 l.ends.items (length l.entries.items) };
+}
+
+impl OpenLists {
+    /// No lists. It takes no memory.
+    pub fn new(alloc: Global) -> Self
+        ensures lists { result.lists ≡ [] }
+        ensures last { result.last ≡ [] }
+    {
+        OpenLists {
+            entries: Vec::new(alloc),
+            ends: Vec::new(alloc),
+        }
+    }
+
+    /// Makes room for so many more entries and for so many lists. The lists stay.
+    pub fn reserve(&mut self, entries: usize, lists: usize) -> Result<(), AllocError>
+        ensures lists { self.new.lists ≡ self.old.lists }
+        ensures last { self.new.last ≡ self.old.last }
+        ensures room { OnOk result (entries ≤ self.new.room) }
+        ensures most { OnOk result (lists ≤ self.new.most) }
+    {
+        self.entries.reserve(entries)?;
+        if self.ends.len() < lists {
+            self.ends.reserve(lists - self.ends.len())?;
+        }
+        Ok(())
+    }
+
+    /// A number joins the lists: 0 closes the open one.
+    pub fn collect(&mut self, number: u16)
+        requires room { 0 < self.old.room }
+        requires most { length self.old.lists < self.old.most }
+        ensures collects { Collects number self.old.lists self.old.last self.new.lists self.new.last }
+        ensures room { self.old.room ≤ self.new.room + 1 }
+        ensures most { self.new.most ≡ self.old.most }
+    {
+        if number == 0 {
+            self.ends.push_reserved(self.entries.len());
+        } else {
+            self.entries.push_reserved(number - 1);
+        }
+    }
+
+    /// How many lists are closed.
+    pub fn closed(&self) -> usize
+        ensures { result ≡ length self.now.lists }
+    {
+        self.ends.len()
+    }
+
+    /// Gives the lists away in place of those that were lent before, whose memory is kept.
+    pub fn exchange(&mut self, alloc: Global, lent: &mut Rotations)
+        requires { self.old.last ≡ [] }
+        ensures lent { lent.new ≡ self.old.lists }
+        ensures lists { self.new.lists ≡ [] }
+        ensures last { self.new.last ≡ [] }
+    {
+        let (mut old_entries, mut old_ends) = mem::replace(
+            lent,
+            Rotations::new(alloc),
+        ).into_parts();
+        old_entries.clear();
+        old_ends.clear();
+        let kept = OpenLists {
+            entries: old_entries,
+            ends: old_ends,
+        };
+        let whole = mem::replace(self, kept);
+        *lent = Rotations::from_parts(whole.entries, whole.ends);
+    }
+
+    /// Forgets the lists, and keeps their memory.
+    pub fn clear(&mut self)
+        ensures lists { self.new.lists ≡ [] }
+        ensures last { self.new.last ≡ [] }
+        ensures room { self.old.room ≤ self.new.room }
+        ensures most { self.new.most ≡ self.old.most }
+    {
+        self.entries.clear();
+        self.ends.clear();
+    }
+}

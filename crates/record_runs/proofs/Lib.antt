@@ -1,0 +1,4 @@
+-- Lemmas on runs.
+mod BlockLemmas
+mod StopLemmas
+mod EndLemmas

@@ -1,0 +1,48 @@
+-- What bytes do to a run, and how it stops within them.
+use Rattle.std.proofs.Common.{◌≡◌, ℕ, ◌+◌, ◌≤◌, ◌<◌, Bool, true, false, not, List, [], ◌∷◌, ◌++◌, length, refl, sym, ap, ◌∙◌, arith, append_assoc, cond, take, drop, get_or}
+use Rattle.std.proofs.lemmas.List.{take-append-drop, drop_more}
+use Rattle.record_runs.specs.Texts.{Reads, Answers, input_limit}
+use Rattle.record_runs.specs.Run.{IsAt, EndsAs, IsFront, Stops}
+use Rattle.record_runs.specs.declared.run.Stop.{Stop}
+use Rattle.record_runs.specs.declared.run.Stop.TheVariants.{Bad, NoMemory}
+use Rattle.record_runs.proofs.BlockLemmas.{IsAnswered-push}
+
+-- the bytes up to a place of a piece, some more, and the rest of the piece
+pub piece-splits : (consumed piece : List ℕ) (i : ℕ) → (consumed ++ take i piece) ++ drop i piece ≡ consumed ++ piece
+piece-splits consumed piece i = append_assoc consumed (take i piece) (drop i piece) ∙ ap (λ (x : List ℕ). consumed ++ x) (take-append-drop i piece)
+
+-- who was not served was refused
+pub refused-by_served : (served refused : Bool) (n : ℕ) → served ≡ not refused → n + cond served 0 1 ≡ n + cond refused 1 0
+refused-by_served served true n is = rw is refl
+refused-by_served served false n is = rw is refl
+
+module _ {Record Ending Reader End : Type 0} (format : Reads Record Ending) (job : Answers Record) (ending_of : End → Ending) (At : Reader → List ℕ → List Record → Type 0) where
+  -- memory was wanting: the text so far answers some first records, however the input goes on
+  pub at-no_memory : (begins : (reader : Reader) (consumed : List ℕ) (records : List Record) (tail : List ℕ) → At reader consumed records → length consumed ≤ input_limit → format.BeginsWith (consumed ++ tail) records) → {consumed text : List ℕ} {reader : Reader} {count refused : ℕ} (more : List ℕ) → IsAt At job consumed text reader count refused → length consumed ≤ input_limit → (tail : List ℕ) → IsFront format job ((consumed ++ more) ++ tail) text
+  at-no_memory begins {consumed = consumed} {reader = reader} more at within tail = record {
+    records = at.records;
+    begins = rw (append_assoc consumed more tail) (begins reader consumed at.records (more ++ tail) at.read within);
+    answers = at.answered.answers;
+  }
+
+  -- the record that ended was answered
+  pub at-answered : {consumed text : List ℕ} {reader reader' : Reader} {count refused refused' : ℕ} (at : IsAt At job consumed text reader count refused) (consumed' : List ℕ) (next : Record) (block : List ℕ) → At reader' consumed' (at.records ++ next ∷ []) → job.IsBlock (count + 1) next block → refused' ≡ refused + cond (job.is_refused next) 1 0 → IsAt At job consumed' (text ++ block) reader' (count + 1) refused'
+  at-answered at consumed' next block read is refused_is = record {
+    records = at.records ++ next ∷ [];
+    read = read;
+    answered = IsAnswered-push next block at.answered is refused_is;
+  }
+
+  -- what stopped within some bytes stopped within more
+  pub Stops-more : (consumed more text : List ℕ) (count refused : ℕ) (stop : Stop End) → Stops format job ending_of consumed text count refused stop → Stops format job ending_of (consumed ++ more) text count refused stop
+  Stops-more consumed more text count refused (Bad end) stops = (stops.0, λ (tail : List ℕ). rw (append_assoc consumed more tail) (stops.1 (more ++ tail)))
+  Stops-more consumed more text count refused NoMemory stops = λ (tail : List ℕ). rw (append_assoc consumed more tail) (stops (more ++ tail))
+
+  -- one byte more than the limit: the input is too long
+  pub at-too_long : {text : List ℕ} {reader : Reader} {count refused : ℕ} (ending : Ending) (consumed piece : List ℕ) (n : ℕ) → n < length piece → ((bytes : List ℕ) (records : List Record) → At reader bytes records → length bytes ≡ input_limit → (byte : ℕ) (tail : List ℕ) → format.IsReading (bytes ++ byte ∷ tail) records ending) → (at : IsAt At job (consumed ++ take n piece) text reader count refused) → length (consumed ++ take n piece) ≡ input_limit → (tail : List ℕ) → EndsAs format job ((consumed ++ piece) ++ tail) ending text count refused
+  at-too_long ending consumed piece n within reads at full tail = record {
+    records = at.records;
+    reading = rw (← piece-splits consumed piece n, drop_more piece n 0 within, append_assoc (consumed ++ take n piece) (get_or piece n 0 ∷ drop (n + 1) piece) tail)
+        (reads (consumed ++ take n piece) at.records at.read full (get_or piece n 0) (drop (n + 1) piece ++ tail));
+    answered = at.answered;
+  }

@@ -1,0 +1,34 @@
+//! What is done with a record.
+ghost use Rattle.std.specs.Prelude.{◌≡◌, ◌<◌, ◌≤◌, ◌++◌, List, ℕ, not, IfOk, OnOk, OnErr};
+ghost use Rattle.record_runs.specs.Texts.{Answers, input_limit};
+
+use super::format::Format;
+use std::alloc::AllocError;
+
+/// Answers the records of a format. It may keep memory of its own from record to record.
+pub trait Job<F: Format> {
+    /// Which job it is.
+    type Kind;
+
+    ghost kind: { Self → Self.Kind };
+
+    /// What a job of this kind answers.
+    ghost answers: { Self.Kind → Answers F.Record };
+
+    /// Appends the block of record `number`, and answers whether the record was served. After want of
+    /// memory `out` is as before.
+    fn answer(
+        &mut self,
+        number: u32,
+        given: &F::Record,
+        out: &mut Vec<u8>,
+    ) -> Result<bool, AllocError>
+        requires from_one { 0 < number }
+        requires few_records { number ≤ input_limit }
+        requires fits { F.IsGiven given.now }
+        ensures block { OnOk result ((block : List ℕ) × (answers (kind self.old)).IsBlock number given.now block
+            × (out.new.items ≡ out.old.items ++ block)) }
+        ensures served { IfOk result (λ served. served ≡ not ((answers (kind self.old)).is_refused given.now)) }
+        ensures err { OnErr result (out.new.items ≡ out.old.items) }
+        ensures same { kind self.new ≡ kind self.old };
+}
