@@ -12,7 +12,6 @@ import random
 import re
 import subprocess
 import sys
-import time
 
 HERE = os.path.dirname(os.path.abspath(__file__))
 OUT = os.path.join(HERE, "out")
@@ -98,17 +97,27 @@ def instructions(command, data):
     return int(re.search(r"I *refs: *([\d,]+)", done.stderr).group(1).replace(",", ""))
 
 
+# Runs a program in a small process of its own, whose memory is not counted for the program's: its time, and the most
+# memory that it had, of which some 10 MB may be this process's.
+RUNNER = """
+import os, sys, subprocess, time
+begun = time.perf_counter()
+child = subprocess.Popen(sys.argv[2:], stdin=open(sys.argv[1], "rb"), stdout=subprocess.DEVNULL)
+_, status, used = os.wait4(child.pid, 0)
+print(time.perf_counter() - begun, used.ru_maxrss / 1024, os.waitstatus_to_exitcode(status))
+"""
+
+
 def seconds(command, data):
     times, most = [], 0
     for _ in range(3):
-        begun = time.perf_counter()
-        child = subprocess.Popen(command, stdin=open(data, "rb"), stdout=subprocess.DEVNULL)
-        _, status, used = os.wait4(child.pid, 0)
-        times.append(time.perf_counter() - begun)
-        most = max(most, used.ru_maxrss)
-        if os.waitstatus_to_exitcode(status) not in (0, 1):
+        done = subprocess.run([sys.executable, "-S", "-c", RUNNER, data, *command], capture_output=True, text=True, check=True)
+        taken, memory, status = done.stdout.split()
+        times.append(float(taken))
+        most = max(most, float(memory))
+        if status not in ("0", "1"):
             sys.exit(f"{command[0]} ended with {status}")
-    return min(times), most / 1024
+    return min(times), most
 
 
 def main():

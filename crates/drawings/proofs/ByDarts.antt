@@ -1,30 +1,21 @@
 -- A counterclockwise drawing of a completed map, said of its darts by their numbers.
-use Rattle.std.proofs.Common.{◌≡◌, ◌≢◌, ℕ, zero, suc, ◌+◌, ◌<◌, ◌≤◌, ◌⊎◌, ◌||◌, Bool, true, false, eqb, List, length, get_or, ℤ, pos, ◌<ℤ◌, refl, sym, ap, ap₂, subst, ◌∙◌, inl, inr, arith, eqb-true, eq-eqb}
-use Rattle.std.proofs.lemmas.Bool.{cases_Bool, true≢false}
+use Rattle.std.proofs.Common.{◌≡◌, ℕ, ◌<◌, false, List, ℤ, pos, ◌<ℤ◌, refl, sym, ap, ap₂, subst, ◌∙◌, inl, inr}
+use Rattle.std.proofs.lemmas.Bool.{true≢false}
 use Rattle.label_classes.proofs.Classes.{Together, Together-from}
 use Rattle.label_classes.proofs.Orbits.{IsPermuting, orbits_of, orbits_of-lies}
 use Rattle.label_classes.proofs.Bound.{after, IsPairing, IsPermuting-pairing, IsPermuting-after}
 use Rattle.map_lists.specs.Lists.{Lists}
-use Rattle.map_definitions.specs.Maps.{Dart, HasDart, IsSimpleMap, IsPlane, twin_dart, list_of, follows, face_step, dart_number, dart_count, vertex_count, edge_count, face_classes}
+use Rattle.map_definitions.specs.Maps.{Dart, HasDart, follows, face_step, dart_number, dart_count, face_classes}
 use Rattle.map_definitions.specs.Paths.{SameFace}
-use Rattle.map_definitions.proofs.DartLemmas.{IsDartNumber, dart_number-lt, HasDart-follows, get_or-dart_number}
+use Rattle.map_definitions.proofs.DartLemmas.{dart_number-lt, get_or-dart_number}
 use Rattle.euler_bound.proofs.DartPermutations.{dart_of, tail_of, turned_dart, rotation, twin, dart_of-number, dart_of-twin, dart_of-rotation, IsPermuting-rotation, IsPairing-twin, orbits-face_images, tail_of-rotation}
 use Rattle.plane_laws.proofs.Triangles.{triangles_where_met}
 use Rattle.pg_plane.specs.declared.point.Point.{Point}
 use Rattle.pg_plane.specs.Geometry.{area}
-use Rattle.face_geometry.specs.Faced.{in_base, IsFaced, IsTailed, IsOnFace, turn}
-use Rattle.face_geometry.proofs.Faces.{face_back, face_then}
+use Rattle.face_geometry.specs.Faced.{in_base, IsFaced, IsTailed, IsOnFace}
+use Rattle.face_geometry.proofs.Faces.{in_base_from, face_back, face_then}
 use Rattle.drawings.specs.Drawing.{place, IsCounterclockwise}
-use Rattle.drawings.specs.Law.{IsCompleted}
-
-or_right : (x : Bool) → (x || true) ≡ true
-or_right true = refl
-or_right false = refl
-
-in_base_from : (step : ℕ → ℕ) (b i : ℕ) → IsOnFace step b i → in_base step b i ≡ true
-in_base_from step b i (inl e) = rw (eq-eqb i b e) refl
-in_base_from step b i (inr (inl e)) = rw (eq-eqb i (step b) e) (or_right (eqb i b))
-in_base_from step b i (inr (inr e)) = rw (eq-eqb i (step (step b)) e) (ap (λ x. eqb i b || x) (or_right (eqb i (step b))) ∙ or_right (eqb i b))
+use Rattle.plane_laws.specs.Completed.{IsCompleted}
 
 module _ (lists : Lists) (points : List Point) (base : Dart) (c : IsCompleted lists) (has : HasDart lists base.0 base.1) (turns : IsCounterclockwise lists points base) where
   abbrev pub k : ℕ
@@ -58,7 +49,7 @@ module _ (lists : Lists) (points : List Point) (base : Dart) (c : IsCompleted li
       let l2 = steps.within (h i) l1 in
       let l3 = steps.within (h (h i)) l2 in
       let round : dart_of lists (h (h (h i))) ≡ dart_of lists i =
-      dart_of-step (h (h i)) l2 ∙ ap (face_step lists) (dart_of-step (h i) l1 ∙ ap (face_step lists) (dart_of-step i l)) ∙ triangles_where_met lists c.simple c.plane c.some c.full (dart_of lists i) (has_dart i l) in
+      dart_of-step (h (h i)) l2 ∙ ap (face_step lists) (dart_of-step (h i) l1 ∙ ap (face_step lists) (dart_of-step i l)) ∙ triangles_where_met lists c.simple c.plane c.some c.edges (dart_of lists i) (has_dart i l) in
       sym (dart_of-number lists c.simple (h (h (h i))) l3).number ∙ ap (dart_number lists) round ∙ (dart_of-number lists c.simple i l).number
 
   head : (i : ℕ) → i < k → tail_of lists (h i) ≡ tail_of lists (g i)

@@ -1,3 +1,4 @@
 -- The lemmas on drawings.
+mod Cases
 pub mod ByDarts
 pub mod OfLists

@@ -1,20 +1,18 @@
 -- What the darts say of a drawing, said of its lists: it is plane and keeps the rotations.
-use Rattle.std.proofs.Common.{◌≡◌, ◌≢◌, ℕ, zero, suc, ◌+◌, ◌<◌, ◌≤◌, Bool, true, false, List, [], ◌∷◌, length, get_or, ℤ, pos, refl, sym, ap, ap₂, subst, ◌∙◌, inl, inr, arith}
-use Rattle.std.proofs.lemmas.Bool.{cases_Bool, true≢false}
+use Rattle.std.proofs.Common.{◌≡◌, ℕ, ◌<◌, List, [], ◌∷◌, length, get_or, refl, sym, ap, subst, ◌∙◌, arith}
 use Rattle.label_classes.proofs.Orbits.{IsPermuting}
 use Rattle.map_lists.specs.Lists.{Lists}
 use Rattle.map_definitions.specs.Maps.{Dart, HasDart, is_empty_list, list_of, follows, dart_number, dart_count}
 use Rattle.map_definitions.proofs.DartLemmas.{dart_number-lt, HasDart-at, get_or-dart_number}
-use Rattle.euler_bound.proofs.DartPermutations.{dart_of, tail_of, turned_dart, rotation, twin, dart_of-number, dart_of-twin, dart_of-rotation, IsPermuting-rotation, IsPairing-twin, tail_of-rotation, count_by-count_below}
+use Rattle.euler_bound.proofs.DartPermutations.{dart_of, tail_of, rotation, twin, dart_of-number, dart_of-twin, dart_of-rotation, IsPermuting-rotation, IsPairing-twin, tail_of-rotation, count_by-count_below}
 use Rattle.plane_laws.proofs.EdgeBound.{none_isolated, met_connected}
 use Rattle.pg_plane.specs.declared.point.Point.{Point}
-use Rattle.pg_plane.specs.Geometry.{vector, IsOnSegment, DoCross, IsClockBefore}
+use Rattle.pg_plane.specs.Geometry.{vector, IsClockBefore}
 use Rattle.face_geometry.specs.Faced.{turn}
 use Rattle.face_geometry.specs.Law.{IsPlaneByDarts, direction}
 use Rattle.face_geometry.proofs.Counts.{count_one}
-use Rattle.drawings.specs.Drawing.{place, IsPlaneDrawing, IsBreak, GoesOnceRound, KeepsRotations}
-use Rattle.drawings.specs.Law.{IsCompleted}
-use Rattle.drawings.proofs.ByDarts.{k, g, h, at}
+use Rattle.drawings.specs.Drawing.{place, IsPlaneDrawing, IsBreak, KeepsRotations}
+use Rattle.plane_laws.specs.Completed.{IsCompleted}
 
 module _ (lists : Lists) (points : List Point) (c : IsCompleted lists) (thrice : (i : ℕ) → i < dart_count lists → rotation lists (twin lists (rotation lists (twin lists (rotation lists (twin lists i))))) ≡ i) (p : IsPlaneByDarts (dart_count lists) (twin lists) (λ i. rotation lists (twin lists i)) (λ i. place points (tail_of lists i)) (tail_of lists)) where
   abbrev h' : ℕ → ℕ
@@ -37,7 +35,7 @@ module _ (lists : Lists) (points : List Point) (c : IsCompleted lists) (thrice :
   -- each vertex has a dart
   some_dart : (v : ℕ) → v < length lists → (u : ℕ) × HasDart lists v u
   some_dart v l =
-      let alone = none_isolated lists c.simple (let one = met_connected lists c.simple c.plane c.some c.full in omega arith) c.some in
+      let alone = none_isolated lists c.simple (let one = met_connected lists c.simple c.plane c.some c.edges in omega arith) c.some in
       let counted = count_by-count_below is_empty_list lists [] in
       by_list (list_of lists v) refl
       (λ e. let one = count_one (λ i. is_empty_list (get_or lists i [])) (length lists) v l (ap is_empty_list e) in omega arith)

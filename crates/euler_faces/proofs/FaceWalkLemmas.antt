@@ -1,6 +1,6 @@
 -- A walk along a face, dart by dart, and the walks of the faces whose least dart has been met.
 use Rattle.std.proofs.Common.{◌≡◌, ◌≢◌, ◌||◌, ℕ, zero, suc, ◌+◌, ◌-◌, ◌<◌, ◌≤◌, Bool, true, false, eqb, List, [], ◌∷◌, ◌++◌, length, get_or, set, get_or-set_same, get_or-set_other, option_map, refl, sym, ap, ◌∙◌, subst, inl, inr, arith}
-use Rattle.std.specs.Prelude.{Contains}
+use Rattle.std.specs.Prelude.{All, Contains}
 use Rattle.std.proofs.lemmas.Bool.{cases_eq, cases_lt, eq-eqb, ne_eqb, or_cases, or_right, ltb-true, ltb-false, true≢false}
 use Rattle.std.proofs.lemmas.List.{length_push, get_or_push, get_or_past, get_or_default, get_or_append_left, get_or-map, length-map}
 use Rattle.std.proofs.lemmas.List.Elements.{Contains-get_or}
@@ -37,10 +37,6 @@ or_false false = refl
 or_first : (b c d : Bool) → c ≡ (b || d) → d ≡ true → c ≡ true
 or_first true c d e t = e
 or_first false c d e t = e ∙ t
-
-or_after : (b c d : Bool) → (b || (c || d)) ≡ ((b || c) || d)
-or_after true c d = refl
-or_after false c d = refl
 
 -- ids of one number are one
 pub id-from-number : (map : Map) → IsHalfMap map → (d e : ℕ) → IsLive map d → IsLive map e → number_at map d ≡ number_at map e → d ≡ e
@@ -355,10 +351,10 @@ pub length-ids_of : (ds : List DartId) → length (ids_of ds) ≡ length ds
 length-ids_of ds = length-map {B = ℕ} ds (λ (d : DartId). d.0)
 
 -- each dart of a walk stands in it
-pub stands : (walks : List (List ℕ)) (f : ℕ) (ds : List DartId) (i : ℕ) → ids_of ds ≡ walk_at walks f → i < length ds → Contains (walk_at walks f) (get_or ds i (record { 0 = 0 })).0
-stands walks f ds i e l =
-    let at = Contains-get_or (ids_of ds) i 0 (omega (arith, length-ids_of ds)) in
-    subst (λ ids. Contains ids (get_or ds i (record { 0 = 0 })).0) e (subst (Contains (ids_of ds)) (get_or-ids_of ds i l) at)
+pub stands : (walks : List (List ℕ)) (f : ℕ) (ds : List DartId) → ids_of ds ≡ walk_at walks f → All (λ d. Contains (walk_at walks f) d.0) ds
+stands walks f ds e k d l =
+    let at = Contains-get_or (ids_of ds) k 0 (omega (arith, length-ids_of ds)) in
+    subst (λ ids. Contains ids (get_or ds k d).0) e (subst (Contains (ids_of ds)) (get_or-map (λ (x : DartId). x.0) ds k d 0 l) at)
 
 -- the number f written at one entry more
 pub here_more : (of ids : List ℕ) (k f x : ℕ) → x < length of → get_or ids k 0 ≡ x → ((i : ℕ) → i < k → get_or of (get_or ids i 0) 0 ≡ f) → (i : ℕ) → i < k + 1 → get_or (set of x f) (get_or ids i 0) 0 ≡ f

@@ -168,26 +168,3 @@ few_darts map h =
     let few = h.few_vertices in
     let square : length map.lists * length map.lists ≤ 4095 * 4095 = grind arith in
     omega arith
-
--- the head of a dart
-pub head-is : (map : Map) (d v u r : ℕ) → dart_at map d ≡ Some (v, u) → option_map (λ (x : Dart). x.1) (dart_at map d) ≡ Some r → r ≡ u
-head-is map d v u r is head =
-    let same : Some u ≡ Some r = ap (option_map (λ (x : Dart). x.1)) (sym is) ∙ head in
-    ap (λ (o : Option ℕ). unwrap_or o 0) (sym same)
-
-module _ (map : Map) (h : IsHalfMap map) (d e first v : ℕ) (live : IsLive map d) (step : dart_at map e ≡ option_map (next_dart map.lists) (dart_at map d)) (u : ℕ) (is : dart_at map d ≡ Some (v, u)) (begins : dart_at map first ≡ Some (v, get_or (list_of map.lists v) 0 0)) where
-  -- the place of the next dart, where the round is not back
-  pub next_place-more : e ≢ first → place_of (follows map.lists v u) (list_of map.lists v) ≡ place_of u (list_of map.lists v) + 1
-  next_place-more other =
-      let next = next-number map h d e first v live step u is begins other in
-      let at_d = number_at-is map d v u is in
-      let at_e = number_at-is map e v (follows map.lists v u) (next-dart map h d e first v live step u is begins) in
-      omega arith
-
-  -- where it is back, the dart was the last
-  pub next_place-last : e ≡ first → place_of u (list_of map.lists v) + 1 ≡ length (list_of map.lists v)
-  next_place-last back =
-      let next = next-back map h d e first v live step u is begins back in
-      let at_d = number_at-is map d v u is in
-      let more = darts_before_more map.lists v in
-      omega arith

@@ -1,5 +1,5 @@
 //! Walks along faces.
-ghost use Rattle.std.specs.Prelude.{◌≡◌, ◌<◌, ℕ, [], ◌∷◌, ◌++◌, length, Contains, OnOk};
+ghost use Rattle.std.specs.Prelude.{◌≡◌, ◌<◌, ℕ, [], ◌∷◌, ◌++◌, length, All, Contains, OnOk};
 ghost use Rattle.euler_faces.specs.FaceWalks.{ids_of, walk_at};
 
 use half_edges::{DartId, FaceId};
@@ -92,7 +92,8 @@ impl Faces {
     /// The darts of a face in the order of the face step, from the first in the order of the lists.
     pub fn walk(&self, f: FaceId) -> &[DartId]
         requires { f.0 < length self.now }
-        ensures { ids_of result.now ≡ walk_at self.now f.0 }
+        ensures walk { ids_of result.now ≡ walk_at self.now f.0 }
+        ensures stands { All (λ d. Contains (walk_at self.now f.0) d.0) result.now }
     {
         self.walks[f.0 as usize].as_slice()
     }

@@ -1,6 +1,6 @@
 -- No place lies in two faces: strictly inside two that are counterclockwise, or inside one of them and outside the base.
-use Rattle.std.proofs.Common.{◌≡◌, ◌≢◌, ℕ, zero, suc, ◌+◌, ◌<◌, ◌≤◌, ◌⊎◌, Bool, true, false, not, ◌&&◌, ◌||◌, cond, eqb, ltb, ℤ, pos, neg_ℤ, ◌-ℤ◌, ◌+ℤ◌, ◌*ℤ◌, ◌<ℤ◌, refl, sym, ap, subst, ◌∙◌, inl, inr, arith, eq-eqb, ne_eqb, eqb-true}
-use Rattle.std.proofs.lemmas.Bool.{cases_Bool, cases_eq, true≢false, false≢true, or_cases}
+use Rattle.std.proofs.Common.{◌≡◌, ◌≢◌, ℕ, ◌+◌, ◌<◌, ◌≤◌, ◌⊎◌, Bool, true, false, not, ◌&&◌, ◌||◌, eqb, ltb, ℤ, pos, neg_ℤ, ◌<ℤ◌, refl, sym, ap, ◌∙◌, inl, inr, arith, ne_eqb, eqb-true}
+use Rattle.std.proofs.lemmas.Bool.{cases_Bool, cases_eq, true≢false, or_cases}
 use Rattle.std.proofs.lemmas.Int.{ints}
 use lib.Signed.{lt_z}
 use Rattle.pg_plane.specs.declared.point.Point.{Point}
@@ -9,15 +9,11 @@ use Rattle.label_classes.specs.Classes.{count_below}
 use Rattle.label_classes.proofs.Counting.{one_if}
 use Rattle.label_classes.proofs.Orbits.{IsPermuting, count_below-images}
 use Rattle.face_geometry.specs.Faced.{in_base, IsFaced, IsOnFace, IsHeld}
-use Rattle.face_geometry.proofs.Faces.{face_back, face_then}
+use Rattle.face_geometry.proofs.Faces.{in_base_from, face_back, face_then}
 use Rattle.face_geometry.proofs.Ring.{sums, ring}
-use Rattle.face_geometry.proofs.Triangle.{IsLeftTurn, IsMet, rises, met, met_back, left_turn_met}
+use Rattle.face_geometry.proofs.Triangle.{IsMet, rises, left_turn_met}
 use Rattle.face_geometry.proofs.Identities.{back_test, triangle_turn, area_turned, cross_back}
 use Rattle.face_geometry.proofs.Counts.{count_four, count_three-le, count_one, count_none, count_sums}
-
-or_right : (x : Bool) → (x || true) ≡ true
-or_right true = refl
-or_right false = refl
 
 -- a place stands above p
 abbrev pub up : Point → Point → Bool
@@ -164,18 +160,13 @@ module _ (k : ℕ) (twin step : ℕ → ℕ) (at : ℕ → Point) (base : ℕ) (
     | inr g ↦ elim (or_cases (eqb i (step base)) (eqb i (step (step base))) g) [ inl f ↦ inr (inl (eqb-true i (step base) f)) | inr f ↦ inr (inr (eqb-true i (step (step base)) f)) ]
   ]
 
-  base_from : (i : ℕ) → IsOnFace step base i → in_base step base i ≡ true
-  base_from i (inl e) = rw (eq-eqb i base e) refl
-  base_from i (inr (inl e)) = rw (eq-eqb i (step base) e) (or_right (eqb i base))
-  base_from i (inr (inr e)) = rw (eq-eqb i (step (step base)) e) (ap (λ x. eqb i base || x) (or_right (eqb i (step base))) ∙ or_right (eqb i base))
-
   -- all darts of a face are the base's or none
   pub base_along : (i j : ℕ) → i < k → IsOnFace step i j → in_base step base j ≡ in_base step base i
   base_along i j l on =
       elim (cases_Bool (in_base step base i)) [
-        | inl e ↦ base_from j (face_then k step d.thrice base i j d.base_in (base_cases i e) on) ∙ sym e
+        | inl e ↦ in_base_from step base j (face_then k step d.thrice base i j d.base_in (base_cases i e) on) ∙ sym e
         | inr e ↦ elim (cases_Bool (in_base step base j)) [
-          | inl f ↦ absurd (true≢false (sym (base_from i (face_then k step d.thrice base j i d.base_in (base_cases j f) (face_back k step d.thrice i j l on))) ∙ e))
+          | inl f ↦ absurd (true≢false (sym (in_base_from step base i (face_then k step d.thrice base j i d.base_in (base_cases j f) (face_back k step d.thrice i j l on))) ∙ e))
           | inr f ↦ f ∙ sym e
         ]
       ]

@@ -2,7 +2,7 @@
 use Rattle.std.proofs.Common.{◌≡◌, ◌≢◌, ℕ, zero, suc, ◌+◌, ◌<◌, ◌≤◌, Bool, true, false, cond, eqb, refl, sym, ap, ◌∙◌, inl, inr, arith, eq-eqb, ne_eqb}
 use Rattle.std.proofs.lemmas.Bool.{cases_Bool, cases_eq}
 use Rattle.label_classes.specs.Classes.{count_below}
-use Rattle.label_classes.proofs.Counting.{one_if, count_below_same, count_below_more, count_below_weaker}
+use Rattle.label_classes.proofs.Counting.{one_if, count_below_same, count_below_more}
 
 -- a test without one number
 abbrev pub but : (ℕ → Bool) → ℕ → ℕ → Bool

@@ -1,13 +1,12 @@
 -- No two edges cross: where they did, the left face of the one would be the left face of the other and the right face of the first.
-use Rattle.std.proofs.Common.{◌≡◌, ℕ, ◌+◌, ◌<◌, ◌≤◌, ◌⊎◌, Bool, true, false, ℤ, pos, neg_ℤ, ◌-ℤ◌, ◌+ℤ◌, ◌*ℤ◌, ◌<ℤ◌, ◌≤ℤ◌, refl, sym, ap, ap₂, subst, ◌∙◌, inl, inr, arith}
+use Rattle.std.proofs.Common.{◌≡◌, ℕ, ◌+◌, ◌<◌, ℤ, pos, neg_ℤ, ◌-ℤ◌, ◌+ℤ◌, ◌*ℤ◌, ◌<ℤ◌, sym, ap, ap₂, subst, ◌∙◌, inl, inr, arith}
 use Rattle.std.proofs.lemmas.Int.{ints}
 use Rattle.std.proofs.lemmas.Bool.{cases_Bool}
 use Rattle.pg_plane.specs.declared.point.Point.{Point}
-use Rattle.pg_plane.specs.Geometry.{vector, cross, area, AreOpposite, DoCross}
+use Rattle.pg_plane.specs.Geometry.{vector, cross, area, DoCross}
 use Rattle.face_geometry.specs.Faced.{in_base, IsFaced, IsOnFace, IsHeld}
 use Rattle.face_geometry.proofs.Faces.{face_back, face_then}
 use Rattle.face_geometry.proofs.Ring.{sums, ring, product_positive}
-use Rattle.face_geometry.proofs.Identities.{cross_back}
 use Rattle.face_geometry.proofs.Clash.{no_clash, base_area}
 use Rattle.face_geometry.proofs.Near.{scaled, moved, same_point, IsFaced-scaled, near_held}
 
@@ -23,9 +22,6 @@ one_crossing a b c d = same_point (on_first a b c d) (on_second a b c d) (simp r
 
 one_weight : (a b c d : Point) → area c d b +ℤ neg_ℤ (area c d a) ≡ neg_ℤ (area a b d) +ℤ area a b c
 one_weight a b c d = simp ring (omega (arith, sums))
-
-weight_is : (a b c d : Point) → cross (vector a b) (vector d c) ≡ area a b c -ℤ area a b d
-weight_is a b c d = simp ring (omega (arith, sums))
 
 pub flat_last : (a b : Point) → area a b b ≡ pos 0
 flat_last a b = simp ring (omega (arith, sums))

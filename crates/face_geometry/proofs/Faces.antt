@@ -1,6 +1,13 @@
 -- The three darts of a face.
-use Rattle.std.proofs.Common.{◌≡◌, ℕ, ◌<◌, sym, ap, subst, ◌∙◌, inl, inr}
-use Rattle.face_geometry.specs.Faced.{IsOnFace}
+use Rattle.std.proofs.Common.{◌≡◌, ℕ, ◌<◌, ◌||◌, true, eqb, eq-eqb, refl, sym, ap, subst, ◌∙◌, inl, inr}
+use Rattle.std.proofs.Math.Bool.{or-true}
+use Rattle.face_geometry.specs.Faced.{IsOnFace, in_base}
+
+-- a dart on the face of the base passes the test for it
+pub in_base_from : (step : ℕ → ℕ) (b i : ℕ) → IsOnFace step b i → in_base step b i ≡ true
+in_base_from step b i (inl e) = rw (eq-eqb i b e) refl
+in_base_from step b i (inr (inl e)) = rw (eq-eqb i (step b) e) (or-true (eqb i b))
+in_base_from step b i (inr (inr e)) = rw (eq-eqb i (step (step b)) e) (ap (λ x. eqb i b || x) (or-true (eqb i (step b))) ∙ or-true (eqb i b))
 
 module _ (k : ℕ) (step : ℕ → ℕ) (thrice : (i : ℕ) → i < k → step (step (step i)) ≡ i) where
   -- the faces of two darts, one on the other's, are one

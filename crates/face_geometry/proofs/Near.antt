@@ -1,12 +1,11 @@
 -- Places near a point of an edge, in the drawing made larger: on the left of the edge they are held by its left face.
-use Rattle.std.proofs.Common.{◌≡◌, ℕ, zero, suc, ◌+◌, ◌*◌, ◌<◌, ◌≤◌, ◌⊎◌, Bool, true, false, ℤ, pos, negsuc, neg_ℤ, ◌-ℤ◌, ◌+ℤ◌, ◌*ℤ◌, ◌<ℤ◌, ◌≤ℤ◌, refl, sym, ap, ap₂, subst, ◌∙◌, inl, inr, arith}
-use Rattle.std.proofs.lemmas.Int.{ints, by_lt_z}
-use Rattle.std.proofs.lemmas.Bool.{cases_Bool}
+use Rattle.std.proofs.Common.{◌≡◌, ℕ, ◌+◌, ◌*◌, ◌<◌, ◌≤◌, ℤ, pos, negsuc, neg_ℤ, ◌-ℤ◌, ◌+ℤ◌, ◌*ℤ◌, ◌<ℤ◌, ap, ap₂, ◌∙◌, inl, arith}
+use Rattle.std.proofs.lemmas.Int.{ints}
 use Rattle.std.specs.Int.RustNames.{unsigned_abs}
 use Rattle.std.proofs.lemmas.Nat.{mul-le}
 use Rattle.pg_plane.specs.declared.point.Point.{Point}
 use Rattle.pg_plane.specs.Geometry.{vector, cross, area}
-use Rattle.face_geometry.specs.Faced.{in_base, IsFaced, IsOnFace, IsHeld}
+use Rattle.face_geometry.specs.Faced.{IsFaced, IsHeld}
 use Rattle.face_geometry.proofs.Identities.{cross_back}
 use Rattle.face_geometry.proofs.Ring.{sums, ring, product_positive, product_signs}
 

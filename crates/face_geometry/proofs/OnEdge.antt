@@ -1,5 +1,5 @@
 -- No vertex stands on an edge of which it is no end: a face at the vertex would be a face of the edge, with its third corner in line.
-use Rattle.std.proofs.Common.{◌≡◌, ◌≢◌, ℕ, zero, suc, ◌+◌, ◌*◌, ◌<◌, ◌≤◌, ◌⊎◌, Bool, true, false, ℤ, pos, negsuc, neg_ℤ, ◌-ℤ◌, ◌+ℤ◌, ◌*ℤ◌, ◌<ℤ◌, ◌≤ℤ◌, refl, sym, ap, ap₂, subst, ◌∙◌, inl, inr, ⊎_elim, arith}
+use Rattle.std.proofs.Common.{◌≡◌, ◌≢◌, ℕ, ◌+◌, ◌<◌, false, ℤ, pos, neg_ℤ, ◌-ℤ◌, ◌+ℤ◌, ◌*ℤ◌, ◌<ℤ◌, ◌≤ℤ◌, refl, sym, ap, ap₂, subst, ◌∙◌, inl, inr, arith}
 use Rattle.std.proofs.lemmas.Int.{ints, by_lt_z}
 use Rattle.std.proofs.lemmas.Bool.{cases_Bool, true≢false}
 use Rattle.std.specs.Int.RustNames.{unsigned_abs}
@@ -10,8 +10,8 @@ use Rattle.face_geometry.specs.Faced.{in_base, IsFaced, IsTailed, IsOnFace, IsHe
 use Rattle.face_geometry.proofs.Faces.{face_back, face_then}
 use Rattle.face_geometry.proofs.Ring.{sums, ring, mul_assoc, add_mul, product_positive, product_signs}
 use Rattle.face_geometry.proofs.Identities.{cross_back, heights}
-use Rattle.face_geometry.proofs.Clash.{no_clash, base_cases, base_area}
-use Rattle.face_geometry.proofs.Near.{scaled, moved, less, cross_less, cross_less_two, large, point, same_point, IsFaced-scaled, near_held}
+use Rattle.face_geometry.proofs.Clash.{no_clash, base_cases}
+use Rattle.face_geometry.proofs.Near.{scaled, moved, less, cross_less, cross_less_two, large, same_point, IsFaced-scaled, near_held}
 use Rattle.face_geometry.proofs.Crossing.{area_back, some_area, near_right, twin_place, twin_head, flat_first, flat_ends, flat_last}
 use Rattle.face_geometry.proofs.Round.{turn_place, turn_head, turn_tail}
 use Rattle.face_geometry.proofs.Tilted.{vertices_apart}

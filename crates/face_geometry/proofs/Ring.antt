@@ -1,5 +1,5 @@
 -- Sums and products of whole numbers: what brings a polynomial into one form, and the signs of products.
-use Rattle.std.proofs.Common.{◌≡◌, ℕ, ◌+◌, ◌*◌, ◌<◌, ◌≤◌, ℤ, pos, negsuc, neg_ℤ, ◌+ℤ◌, ◌-ℤ◌, ◌*ℤ◌, ◌≤ℤ◌, ◌<ℤ◌, sym, ap, ◌∙◌, arith}
+use Rattle.std.proofs.Common.{◌≡◌, ◌*◌, ◌≤◌, ℤ, pos, negsuc, neg_ℤ, ◌+ℤ◌, ◌*ℤ◌, ◌≤ℤ◌, ◌<ℤ◌, sym, ap, ◌∙◌, arith}
 use Rattle.std.proofs.lemmas.Int.{ints}
 use Rattle.std.proofs.Math.IntN.{*ℤ_comm}
 use Rattle.std.proofs.lemmas.Nat.{mul-le}
@@ -53,12 +53,6 @@ product_positive (pos a) (pos b) p q =
     omega (arith, ints)
 product_positive (pos a) (negsuc b) p q = absurd (omega (arith, ints))
 product_positive (negsuc a) b p q = absurd (omega (arith, ints))
-
-pub product_not_positive : (a b : ℤ) → pos 0 ≤ℤ a → b ≤ℤ pos 0 → (a *ℤ b) ≤ℤ pos 0
-product_not_positive a b p q =
-    let n = mul_neg a b in
-    let h = product_not_negative a (neg_ℤ b) p (omega (arith, ints)) in
-    omega (arith, ints)
 
 pub record Signs (a b c : ℤ) : Type 0 where
   pub both_up : pos 0 ≤ℤ a → pos 0 ≤ℤ b → pos 0 ≤ℤ c

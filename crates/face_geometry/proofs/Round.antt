@@ -1,19 +1,20 @@
 -- Round a vertex: just one dart holds, by the heights of its head and of the next one; so vertices stand apart, and directions go once round.
-use Rattle.std.proofs.Common.{◌≡◌, ◌≢◌, ℕ, zero, suc, ◌+◌, ◌<◌, ◌≤◌, ◌⊎◌, Bool, true, false, not, ◌&&◌, ◌||◌, cond, eqb, ltb, ℤ, pos, neg_ℤ, ◌-ℤ◌, ◌+ℤ◌, ◌*ℤ◌, ◌<ℤ◌, ◌≤ℤ◌, refl, sym, ap, ap₂, subst, ◌∙◌, inl, inr, arith, eq-eqb, eqb-true}
+use Rattle.std.proofs.Common.{◌≡◌, ℕ, zero, suc, ◌<◌, ◌⊎◌, Bool, true, false, not, ◌&&◌, cond, eqb, ltb, ℤ, pos, ◌-ℤ◌, ◌<ℤ◌, refl, sym, ap, ap₂, subst, ◌∙◌, inl, inr, arith, eq-eqb, eqb-true}
 use Rattle.std.specs.Bool.{beq}
 use Rattle.std.proofs.lemmas.Int.{ints, by_lt_z}
-use Rattle.std.proofs.lemmas.Bool.{cases_Bool, true≢false, false≢true, and_parts, cases_lt}
+use Rattle.std.proofs.lemmas.Bool.{cases_Bool, true≢false, and_parts, cases_lt}
+use Rattle.std.proofs.Math.Bool.{and-false, and-true}
 use lib.Signed.{lt_z}
 use borrow.Author.Differences.{true_is_lt, false_is_lt}
 use Rattle.pg_plane.specs.declared.point.Point.{Point}
 use Rattle.pg_plane.specs.Geometry.{vector, cross, area}
 use Rattle.label_classes.proofs.Orbits.{IsPermuting, marks_back}
-use Rattle.face_geometry.specs.Faced.{in_base, IsFaced, IsOnFace, IsTailed, NoneLevel, turn}
+use Rattle.face_geometry.specs.Faced.{in_base, IsFaced, IsTailed, NoneLevel, turn}
 use Rattle.face_geometry.proofs.Ring.{sums, ring, product_signs}
-use Rattle.face_geometry.proofs.Identities.{cross_back, area_turned, heights}
+use Rattle.face_geometry.proofs.Identities.{cross_back, heights}
 use Rattle.label_classes.proofs.Counting.{one_if}
-use Rattle.face_geometry.proofs.Clash.{up, side, meets, there_at, back_at, inside, within, inside_is, within_is, IsMetAsHeld, one_holds, base_area}
-use Rattle.face_geometry.proofs.Crossing.{some_area, twin_place, twin_head, flat_first, flat_ends, flat_last}
+use Rattle.face_geometry.proofs.Clash.{up, side, meets, there_at, back_at, inside_is, within_is, IsMetAsHeld, one_holds, base_area}
+use Rattle.face_geometry.proofs.Crossing.{some_area, twin_place, twin_head, flat_first, flat_ends}
 
 -- some number below n passes a test, or none does
 pub find_below : (p : ℕ → Bool) (n : ℕ) → ((i : ℕ) × (i < n) × (p i ≡ true)) ⊎ ((i : ℕ) → i < n → p i ≡ false)
@@ -46,28 +47,20 @@ down_turns u v w hu hv hw uv vw =
     by_lt_z (pos 0) (cross u w) (λ l. l)
     (λ l. let c = (product_signs (cross w u) v.y).up_down (omega (arith, sums)) (omega (arith, ints)) in absurd (omega (arith, sums)))
 
-and_false : (x : Bool) → (x && false) ≡ false
-and_false true = refl
-and_false false = refl
-
-and_true : (x : Bool) → (x && true) ≡ x
-and_true true = refl
-and_true false = refl
-
 level_here : (p : Point) → up p p ≡ false
 level_here p = let e : p.y -ℤ p.y ≡ pos 0 = omega (arith, ints) in rw e refl
 
 meets_from : (p q : Point) → meets p p q ≡ false
-meets_from p q = let e : side p p q ≡ pos 0 = simp ring (omega (arith, sums)) in rw (level_here p, e) (and_false (up p q))
+meets_from p q = let e : side p p q ≡ pos 0 = simp ring (omega (arith, sums)) in rw (level_here p, e) (and-false (up p q))
 
 meets_to : (p q : Point) → meets p q p ≡ false
-meets_to p q = rw (level_here p) (and_false (not (up p q)))
+meets_to p q = rw (level_here p) (and-false (not (up p q)))
 
 meets_left : (p q r : Point) → pos 0 <ℤ area p q r → meets p q r ≡ (not (up p q) && up p r)
-meets_left p q r positive = rw (sym (true_is_lt (pos 0) (side p q r) (omega (arith, ints)))) (ap (λ x. not (up p q) && x) (and_true (up p r)))
+meets_left p q r positive = rw (sym (true_is_lt (pos 0) (side p q r) (omega (arith, ints)))) (ap (λ x. not (up p q) && x) (and-true (up p r)))
 
 meets_right : (p q r : Point) → area p q r <ℤ pos 0 → meets p q r ≡ false
-meets_right p q r negative = rw (sym (false_is_lt (pos 0) (side p q r) (omega (arith, ints)))) (ap (λ x. not (up p q) && x) (and_false (up p r)) ∙ and_false (not (up p q)))
+meets_right p q r negative = rw (sym (false_is_lt (pos 0) (side p q r) (omega (arith, ints)))) (ap (λ x. not (up p q) && x) (and-false (up p r)) ∙ and-false (not (up p q)))
 
 -- what the corner p meets of its own triangle
 corner_there : (p q r : Point) → pos 0 <ℤ area p q r → (there_at p p q r ≡ one_if (not (up p q) && up p r)) × (back_at p p q r ≡ 0)
@@ -168,7 +161,7 @@ module _ (k : ℕ) (twin step : ℕ → ℕ) (at : ℕ → Point) (base : ℕ) (
       unfolding holds
       stays_down i l t a =
           elim (cases_Bool (in_base step base i)) [
-            | inl e ↦ absurd (true≢false (sym (rw (and_false (not (head_up (turn twin step i)))) refl) ∙ (rw (e, a) at (none i l t))))
+            | inl e ↦ absurd (true≢false (sym (rw (and-false (not (head_up (turn twin step i)))) refl) ∙ (rw (e, a) at (none i l t))))
             | inr e ↦ rw (e, a) at (none i l t)
           ]
 
@@ -200,7 +193,7 @@ module _ (k : ℕ) (twin step : ℕ → ℕ) (at : ℕ → Point) (base : ℕ) (
                 let h = none i l t in
                 elim (cases_Bool (head_up i)) [
                   | inl a ↦ absurd (true≢false (rw (e, same_up i l t, a) at h))
-                  | inr a ↦ absurd (true≢false (sym (rw (and_false (not (head_up (turn twin step i)))) refl) ∙ (rw (e, a) at h)))
+                  | inr a ↦ absurd (true≢false (sym (rw (and-false (not (head_up (turn twin step i)))) refl) ∙ (rw (e, a) at h)))
                 ]
             | inr e ↦ e
           ]

@@ -1,11 +1,9 @@
 -- A drawing turned by half and tilted so that no edge is level: what holds round its vertices says of the drawing that directions go once round from west.
-use Rattle.std.proofs.Common.{◌≡◌, ◌≢◌, ℕ, zero, suc, ◌+◌, ◌*◌, ◌<◌, ◌≤◌, ◌⊎◌, Bool, true, false, not, ◌&&◌, cond, ℤ, pos, negsuc, neg_ℤ, ◌-ℤ◌, ◌+ℤ◌, ◌*ℤ◌, ◌<ℤ◌, ◌≤ℤ◌, max, refl, sym, ap, ap₂, subst, ◌∙◌, inl, inr, ⊎_elim, arith}
+use Rattle.std.proofs.Common.{◌≡◌, ℕ, zero, suc, ◌+◌, ◌*◌, ◌<◌, ◌≤◌, Bool, true, false, not, ◌&&◌, ℤ, pos, negsuc, neg_ℤ, ◌-ℤ◌, ◌*ℤ◌, ◌<ℤ◌, ◌≤ℤ◌, refl, sym, ap, ap₂, ◌∙◌, inl, inr, ⊎_elim, arith}
 use Rattle.std.proofs.lemmas.Int.{ints, by_lt_z}
 use Rattle.std.proofs.lemmas.Nat.{mul-le}
 use Rattle.std.proofs.lemmas.Bool.{cases_Bool, cases_lt, true≢false}
 use Rattle.std.specs.Int.RustNames.{unsigned_abs}
-use lib.Signed.{lt_z}
-use borrow.Author.Differences.{true_is_lt, false_is_lt}
 use Rattle.pg_plane.specs.declared.point.Point.{Point}
 use Rattle.pg_plane.specs.Geometry.{vector, cross, area, IsFirstHalf, IsClockBefore}
 use Rattle.face_geometry.specs.Faced.{in_base, IsFaced, IsTailed, NoneLevel, turn}
@@ -14,7 +12,7 @@ use Rattle.face_geometry.proofs.Identities.{cross_back}
 use Rattle.face_geometry.proofs.Clash.{base_area, up}
 use Rattle.face_geometry.proofs.Near.{same_point}
 use Rattle.face_geometry.proofs.Crossing.{some_area, flat_first}
-use Rattle.face_geometry.proofs.Round.{holds, holds_is, holds_once, holds_some, places_apart, turn_place, turn_head, next_up}
+use Rattle.face_geometry.proofs.Round.{holds, holds_is, holds_once, holds_some, places_apart, turn_place, turn_head}
 
 -- turned by half, and tilted by one in n
 abbrev pub tilted : ℤ → Point → Point

@@ -1,5 +1,5 @@
 -- How often a ray meets a triangle: the sides that it meets from below, less those from above, are one or none, by signs alone.
-use Rattle.std.proofs.Common.{◌≡◌, ℕ, ◌+◌, ◌<◌, Bool, true, false, not, ◌&&◌, ltb, ℤ, pos, neg_ℤ, ◌+ℤ◌, ◌-ℤ◌, ◌*ℤ◌, ◌≤ℤ◌, ◌<ℤ◌, ◌⊎◌, inl, inr, refl, sym, ◌∙◌, arith}
+use Rattle.std.proofs.Common.{◌≡◌, ℕ, ◌+◌, Bool, true, false, not, ◌&&◌, ltb, ℤ, pos, ◌+ℤ◌, ◌*ℤ◌, ◌≤ℤ◌, ◌<ℤ◌, ◌⊎◌, inl, inr, refl, sym, ◌∙◌, arith}
 use Rattle.std.proofs.lemmas.Int.{ints, by_lt_z}
 use Rattle.std.proofs.lemmas.Bool.{false≢true}
 use lib.Signed.{lt_z}
@@ -85,10 +85,6 @@ module _ (h1 h2 h3 s1 s2 s3 : ℤ) (t : IsLeftTurn h1 h2 h3 s1 s2 s3) (a : pos 0
       let e2 = level s2 h2 b l2 (omega (arith, sums)) in
       let e3 = level s3 h3 c l3 (omega (arith, sums)) in
       t.not_flat (e1 ∙ sym e2) (e2 ∙ sym e3)
-
--- above the point
-abbrev pub up_test : ℤ → Bool
-up_test h = lt_z (pos 0) h
 
 -- a side is met from below: it begins not above the point and ends above, with the point to its left
 abbrev pub rises : Bool → Bool → Bool → Bool

@@ -5,7 +5,7 @@ use Rattle.std.proofs.lemmas.Option.{slice_get-get_or, slice_get_within, slice_g
 use Rattle.std.proofs.lemmas.Bool.Decides.{nat_tests}
 use Rattle.std.proofs.lemmas.Bool.{cases_lt, true≢false}
 use Rattle.map_lists.specs.Lists.{Lists}
-use Rattle.map_definitions.specs.Maps.{Dart, list_of, HasDart, darts, darts_before, dart_count, dart_number, edge_count, place_of, follows, entry_after, twin_dart}
+use Rattle.map_definitions.specs.Maps.{Dart, list_of, HasDart, darts, darts_before, dart_count, dart_number, edge_count, place_of, follows, entry_after}
 use Rattle.map_definitions.proofs.DartLemmas.{length-darts, IsDartNumber-darts, dart_at_place, place_after, place_before, place_after-before, place_before-lt, place_after-lt, darts_before_end, place_of-get_or, place_of-lt-length, entry_after-place, get_or-place_of, darts_before_more}
 use Rattle.map_definitions.proofs.DartCounts.{dart_count-edge_count, few_darts-simple}
 use Rattle.half_edges.specs.Map.{Map, dart_at, IsLive, IsHalfMap, next_dart}
@@ -72,14 +72,6 @@ module _ (lists : Lists) (starts : List ℕ) (ends : List Dart) (twins : List �
         | inl less ↦ less
         | inr more ↦ absurd (true≢false (sym live ∙ ap (λ o. is_some o) (dart_at-slice_get d ∙ slice_get_past ends d more)))
       ]
-
-  pub lt-live : (d : ℕ) → d < length ends → IsLive map d
-  lt-live d h = ap (λ o. is_some o) (dart_at-slice_get d ∙ slice_get-get_or ends d (0, 0) h)
-
-  pub twin_at : (d : ℕ) → d < length ends → dart_at map (get_or twins d 0) ≡ option_map twin_dart (dart_at map d)
-  twin_at d h =
-      dart_at-slice_get (get_or twins d 0) ∙ t.twins_are.at d h
-      ∙ ap (λ o. option_map twin_dart o) (sym (slice_get-get_or ends d (0, 0) h) ∙ sym (dart_at-slice_get d))
 
   -- an entry's dart has the number of its place
   dart_at-place : (v k : ℕ) → v < length lists → k < length (list_of lists v) → dart_at map (darts_before lists v + k) ≡ Some (v, get_or (list_of lists v) k 0)

@@ -1,14 +1,14 @@
 -- The records whose darts are linked round by round are those of the tables of the map.
 use Rattle.std.proofs.Common.{ℕ, suc, ◌+◌, ◌-◌, ◌<◌, ◌≤◌, ◌≡◌, ◌⊎◌, cond, eqb, ltb, true, List, [], ◌∷◌, ◌++◌, length, get_or, map, refl, sym, ap, ap₂, ◌∙◌, subst, inl, inr, arith}
-use Rattle.std.proofs.lemmas.Bool.{cases_lt, cases_eq}
+use Rattle.std.proofs.lemmas.Bool.{cases_lt}
 use Rattle.std.proofs.lemmas.List.{length_push, get_or_push, get_or_append_left, get_or-map, length-map}
 use Rattle.map_lists.specs.Lists.{Lists}
 use Rattle.map_lists.specs.Cuts.{cut, AreCuts, joined, ends_from}
 use Rattle.map_lists.proofs.CutLemmas.{length-cut, IsStored, IsStored-cuts, IsStored-cut}
-use Rattle.map_definitions.specs.Maps.{Dart, list_of, darts, darts_before, dart_count, IsSimpleMap}
+use Rattle.map_definitions.specs.Maps.{Dart, list_of, darts, dart_count}
 use Rattle.map_definitions.proofs.DartLemmas.{length-darts, place_of_number}
-use Rattle.simple_maps.specs.Tables.{StartsTo, AreTwins, AreTables, AreSlots}
-use Rattle.simple_maps.proofs.FlatLemmas.{start-is, list-is, length-list, end-is, count-is, dart-is}
+use Rattle.simple_maps.specs.Tables.{AreTables, AreSlots}
+use Rattle.simple_maps.proofs.FlatLemmas.{start-is, length-list, end-is, count-is, dart-is}
 use Rattle.half_edges.specs.Arena.{no_record, no_vertex, record_at, vertex_at, twin_of}
 use Rattle.half_edges.specs.Rounds.{round_record, AreRounds, AreRoundVertices}
 use Rattle.half_edges.specs.Tables.{table_record, AreTableRecords, AreTableVertices, AreLinked}
@@ -16,10 +16,6 @@ use Rattle.half_edges.proofs.TableArena.{few_entries}
 use Rattle.map_definitions.proofs.DartCounts.{few_darts-simple}
 use Rattle.half_edges.specs.declared.arena.DartRecord.{DartRecord}
 use Rattle.half_edges.specs.declared.arena.VertexRecord.{VertexRecord}
-
--- no vertex yet
-pub AreRounds-none : (ends : List ℕ) (darts : List DartRecord) → AreRounds ends darts darts 0
-AreRounds-none ends darts = record { count = refl; here = λ v d l. absurd (omega arith); elsewhere = λ d l. refl }
 
 -- the round of one vertex more
 pub AreRounds-more : (ends : List ℕ) (old darts new : List DartRecord) (start end v next : ℕ) → AreRounds ends old darts v → ((w : ℕ) → w < v → get_or ends w 0 ≤ start) → start ≡ get_or (0 ∷ ends) v 0 → end ≡ get_or ends v 0 → start ≤ end → length new ≡ length darts

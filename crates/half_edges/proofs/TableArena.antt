@@ -24,9 +24,6 @@ few_entries lists v simple few l =
     omega (arith, length-le-below (list_of lists v) (length lists) (λ u c. simple.in_range v u (l, c)) (simple.no_repeat v l))
 
 module _ (lists : Lists) (starts : List ℕ) (ends : List Dart) (twins : List ℕ) (t : AreTables lists starts ends twins) where
-  end_of : ℕ → Dart
-  end_of d = get_or ends d (0, 0)
-
   module _ (d : ℕ) (l : d < length ends) where
     here : slice_get ends d ≡ Some (get_or ends d (0, 0))
     here = slice_get-get_or ends d (0, 0) l

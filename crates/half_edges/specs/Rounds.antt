@@ -4,6 +4,10 @@ use Rattle.half_edges.specs.Arena.{record_at, vertex_at, twin_of}
 use Rattle.half_edges.specs.declared.arena.DartRecord.{DartRecord}
 use Rattle.half_edges.specs.declared.arena.VertexRecord.{VertexRecord}
 
+-- the record of dart d between the one before and the one after it, with the tail v; its twin is as before
+abbrev pub line_record : List DartRecord → ℕ → ℕ → DartRecord
+line_record darts v d = record { twin = twin_of darts d; next = d + 1; prev = d - 1; tail = v; live = true }
+
 -- the record of dart d in the round of v, whose darts are those from start on and before end; its twin is as before
 abbrev pub round_record : List DartRecord → ℕ → ℕ → ℕ → ℕ → DartRecord
 round_record darts start end v d =

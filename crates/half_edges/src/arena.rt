@@ -5,7 +5,7 @@ ghost use Rattle.half_edges.specs.Arena.{IsWalkable, record_at, steps, head_of, 
 ghost use Rattle.half_edges.specs.Links.{IsSpliced, IsUnspliced, IsThreaded};
 ghost use Rattle.half_edges.specs.Tables.{AreLinked};
 ghost use Rattle.simple_maps.specs.Tables.{AreSlots};
-ghost use Rattle.half_edges.specs.Rounds.{round_record, AreRounds, AreRoundVertices};
+ghost use Rattle.half_edges.specs.Rounds.{line_record, round_record, AreRounds, AreRoundVertices};
 
 use map_lists::Rotations;
 use simple_maps::DartSlot;
@@ -91,40 +91,35 @@ pub(crate) fn dart_to(darts: &[DartRecord], first: u32, degree: u16, head: u16) 
     None
 }
 
-// The number after `d` from `start` on and before `end`, cyclically.
-fn number_after(start: u32, end: u32, d: u32) -> u32
-    requires from { start ≤ d }
-    requires below { d < end }
-    ensures { result ≡ (if nat_lt (d + 1) end then d + 1 else start) }
+// Links the darts from `start` on and before `end` into the round of `v`, but for its two ends.
+fn link_line(darts: &mut [DartRecord], start: u32, end: u32, v: u16)
+    requires order { start ≤ end }
+    requires within { end ≤ length darts.old }
+    ensures here { (d : ℕ) → start ≤ d → d < end → record_at darts.new d ≡ line_record darts.old v d }
+    ensures elsewhere { (d : ℕ) → d < start ⊎ end ≤ d → record_at darts.new d ≡ record_at darts.old d }
 {
-    if d + 1 < end { d + 1 } else { start }
-}
-
-// The number before `d` from `start` on and before `end`, cyclically.
-fn number_before(start: u32, end: u32, d: u32) -> u32
-    requires from { start ≤ d }
-    requires below { d < end }
-    ensures { result ≡ (if d == start then end - 1 else d - 1) }
-{
-    if d == start { end - 1 } else { d - 1 }
+    for d in start..end {
+        darts[d as usize] = DartRecord {
+            twin: darts[d as usize].twin,
+            next: d + 1,
+            prev: d.saturating_sub(1),
+            tail: v,
+            live: true,
+        };
+    }
 }
 
 // Links the darts from `start` on and before `end` into the round of `v`.
 fn link_round(darts: &mut [DartRecord], start: u32, end: u32, v: u16)
     requires order { start ≤ end }
     requires within { end ≤ length darts.old }
-    requires few { length darts.old < 16777216 }
     ensures here { (d : ℕ) → start ≤ d → d < end → record_at darts.new d ≡ round_record darts.old start end v d }
     ensures elsewhere { (d : ℕ) → d < start ⊎ end ≤ d → record_at darts.new d ≡ record_at darts.old d }
 {
-    for d in start..end {
-        darts[d as usize] = DartRecord {
-            twin: darts[d as usize].twin,
-            next: number_after(start, end, d),
-            prev: number_before(start, end, d),
-            tail: v,
-            live: true,
-        };
+    link_line(darts, start, end, v);
+    if start < end {
+        darts[start as usize].prev = end - 1;
+        darts[end as usize - 1].next = start;
     }
 }
 

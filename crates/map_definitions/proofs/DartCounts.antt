@@ -84,14 +84,18 @@ square_even a (suc n) mirror diagonal =
     omega (arith, inner, column, split, diagonal n (omega arith))
 
 module _ (lists : Lists) (simple : IsSimpleMap lists) where
-  count_mirrored : (v u : ℕ) → v < length lists → u < length lists → count_of u (list_of lists v) ≤ count_of v (list_of lists u)
-  count_mirrored v u h l =
+  count_below : (v u : ℕ) → v < length lists → u < length lists → count_of u (list_of lists v) ≤ count_of v (list_of lists u)
+  count_below v u h l =
       elim (cases_lt (count_of u (list_of lists v)) 1) [
         | inl none ↦ omega arith
         | inr some ↦
             let back = simple.both_ways v u (h, Contains-from_count_of u (list_of lists v) some) in
             omega (arith, one-le-count_of v (list_of lists u) back.1.0 v back.1.1 back.1.2, count_of-le-one u (list_of lists v) (simple.no_repeat v h))
       ]
+
+  -- u stands in v's list as often as v in u's
+  pub count_mirrored : (v u : ℕ) → v < length lists → u < length lists → count_of u (list_of lists v) ≡ count_of v (list_of lists u)
+  count_mirrored v u h l = omega (arith, count_below v u h l, count_below u v l h)
 
   count_alone : (v : ℕ) → v < length lists → count_of v (list_of lists v) ≡ 0
   count_alone v h =
@@ -107,7 +111,7 @@ module _ (lists : Lists) (simple : IsSimpleMap lists) where
       let a : ℕ → ℕ → ℕ = λ v u. count_of u (list_of lists v) in
       let rows = sum_below-same (λ v. length (list_of lists v)) (λ v. sum_below (a v) n) n
       (λ v h. sym (sum_below-count_of (list_of lists v) n (λ u c. simple.in_range v u (h, c)))) in
-      let even = square_even a n (λ v u h l. omega (arith, count_mirrored v u h l, count_mirrored u v l h)) count_alone in
+      let even = square_even a n count_mirrored count_alone in
       (sum_below (λ v. sum_below (λ u. a v u) v) n, dart_count-sum_below lists ∙ rows ∙ even)
 
   pub dart_count-edge_count : dart_count lists ≡ 2 * edge_count lists

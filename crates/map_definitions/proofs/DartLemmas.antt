@@ -1,5 +1,5 @@
 -- Darts and their numbers, and the face step as a permutation of them.
-use Rattle.std.proofs.Common.{ℕ, zero, suc, ◌+◌, ◌-◌, ◌<◌, ◌≤◌, ◌≡◌, ◌≢◌, cond, eqb, List, [], ◌∷◌, ◌++◌, length, get_or, take, AllPairs, Contains, sym, refl, ap, ◌∙◌, inl, inr, ap₂, ltb, lt-ltb, le-ltb, arith, eq-eqb, ne_eqb, add-one}
+use Rattle.std.proofs.Common.{ℕ, zero, suc, ◌+◌, ◌-◌, ◌<◌, ◌≤◌, ◌≡◌, ◌≢◌, cond, eqb, List, [], ◌∷◌, ◌++◌, length, get_or, take, AllPairs, Contains, sym, refl, ap, ◌∙◌, subst, inl, inr, ap₂, ltb, lt-ltb, le-ltb, arith, eq-eqb, ne_eqb, add-one}
 use Rattle.std.proofs.lemmas.List.{append-nil, append_assoc, take_more, length-take-le, length-append, length-map, get_or_append_left, get_or-append-add, get_or-map, get_or_default, get_or_past}
 use Rattle.std.proofs.lemmas.List.Sums.{sum_by-cons}
 use Rattle.std.proofs.lemmas.Bool.Decides.{nat_tests}
@@ -188,6 +188,10 @@ place_after-before n k h = grind (arith, nat_tests)
 pub place_after-injective : (n i j : ℕ) → i < n → j < n → place_after n i ≡ place_after n j → i ≡ j
 place_after-injective n i j h l e = grind (arith, nat_tests)
 
+-- two places that come after each other are all
+two_places : (n i j : ℕ) → i < n → j ≡ place_after n i → i ≡ place_after n j → n ≤ 2
+two_places n i j h there back = grind (arith, nat_tests)
+
 -- the entry after one that stands in the list
 pub entry_after-place : (x : ℕ) (us : List ℕ) (d : ℕ) → place_of x us < length us → entry_after x us ≡ get_or us (place_after (length us) (place_of x us)) d
 unfolding entry_after
@@ -216,6 +220,15 @@ entry_after-injective us x y distinct h l e =
     let same = sym (place_of-entry_after x us distinct h) ∙ ap (λ z. place_of z us) e ∙ place_of-entry_after y us distinct l in
     let p = place_after-injective (length us) (place_of x us) (place_of y us) hx hy same in
     sym (get_or-place_of x us 0 hx) ∙ ap (λ n. get_or us n 0) p ∙ get_or-place_of y us 0 hy
+
+-- two entries that follow each other are all
+pub two_entries : (us : List ℕ) (x y : ℕ) → AllPairs ◌≢◌ us → Contains us x → entry_after x us ≡ y → entry_after y us ≡ x → length us ≤ 2
+two_entries us x y distinct has there back =
+    let in_x = place_of-lt-length x us has in
+    let first : place_of y us ≡ place_after (length us) (place_of x us) = ap (λ z. place_of z us) (sym there) ∙ place_of-entry_after x us distinct has in
+    let second : place_of x us ≡ place_after (length us) (place_of y us) =
+    ap (λ z. place_of z us) (sym back) ∙ place_of-entry_after y us distinct (subst (λ z. Contains us z) there (Contains-entry_after x us has)) in
+    two_places (length us) (place_of x us) (place_of y us) in_x first second
 
 -- darts and their numbers
 
@@ -282,6 +295,14 @@ length-face_images lists = length-map {B = ℕ} (darts lists) (λ d. dart_number
 
 pub get_or-face_images : (lists : Lists) (i x : ℕ) (d : Dart) → i < dart_count lists → get_or (face_images lists) i x ≡ dart_number lists (face_step lists (get_or (darts lists) i d))
 get_or-face_images lists i x d h = get_or-map {Y = ℕ} (λ d. dart_number lists (face_step lists d)) (darts lists) i d x (omega (arith, length-darts lists))
+
+-- the dart of the number that the face step leads to
+pub dart_of-face_images : (lists : Lists) (i x : ℕ) (d : Dart) → IsSimpleMap lists → i < dart_count lists → get_or (darts lists) (get_or (face_images lists) i x) d ≡ face_step lists (get_or (darts lists) i d)
+dart_of-face_images lists i x d simple h =
+    let p = IsDartNumber-darts lists i d simple.no_repeat h in
+    let dart : Dart = get_or (darts lists) i d in
+    ap (λ n. get_or (darts lists) n d) (get_or-face_images lists i x d h)
+    ∙ get_or-dart_number lists dart.1 (follows lists dart.1 dart.0) d (HasDart-face_step lists dart simple p.is_dart)
 
 face_images-lt : (lists : Lists) (i x : ℕ) → IsSimpleMap lists → i < dart_count lists → get_or (face_images lists) i x < dart_count lists
 face_images-lt lists i x simple h =

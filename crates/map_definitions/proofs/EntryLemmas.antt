@@ -3,7 +3,7 @@ use Rattle.std.proofs.Common.{ℕ, zero, suc, ◌+◌, ◌<◌, ◌≤◌, ◌�
 use Rattle.std.specs.List.{list_any, filter}
 use Rattle.std.proofs.lemmas.List.{length-map, get_or-map}
 use Rattle.std.proofs.lemmas.List.Elements.{Contains-get_or, All-contains, All-filter, All-contains_itself, filter_passes}
-use Rattle.std.proofs.lemmas.List.Sums.{sum_by-cons, sum_by_push}
+use Rattle.std.proofs.lemmas.List.Sums.{sum_by-cons, sum_by-append, sum_by_push}
 use Rattle.std.proofs.lemmas.List.Folds.{list_any_at}
 use Rattle.std.proofs.lemmas.Bool.{cases_lt, cases_eq, cond-true, cond-false, true≢false, or_cases}
 
@@ -122,6 +122,40 @@ AllPairs-map f us apart distinct i j d l m e =
     let in_i : i < length us = omega arith in
     distinct i j 0 l in_j
     (apart (get_or us i 0) (get_or us j 0) (Contains-get_or us i 0 in_i) (Contains-get_or us j 0 in_j) (sym (get_or-map f us i 0 d in_i) ∙ e ∙ get_or-map f us j 0 d in_j))
+
+-- lists joined and parted
+
+pub count_of-append : (u : ℕ) (us vs : List ℕ) → count_of u (us ++ vs) ≡ count_of u us + count_of u vs
+count_of-append u us vs = sum_by-append (λ w. cond (eqb w u) 1 0) us vs
+
+-- what stands in a list is counted
+pub Contains-counted : (u : ℕ) (us : List ℕ) → Contains us u → 1 ≤ count_of u us
+Contains-counted u us c = one-le-count_of u us c.0 u c.1 c.2
+
+-- two lists without repeats that share nothing have none when joined
+pub AllPairs-append : (us vs : List ℕ) → AllPairs ◌≢◌ us → AllPairs ◌≢◌ vs → ((u : ℕ) → Contains us u → ¬ Contains vs u) → AllPairs ◌≢◌ (us ++ vs)
+AllPairs-append us vs one other apart =
+    AllPairs-from_counts (us ++ vs) (λ u _.
+    let sum = count_of-append u us vs in
+    elim (cases_lt (count_of u us) 1) [
+      | inl none ↦ omega (arith, sum, none, count_of-le-one u vs other)
+      | inr some ↦ elim (cases_lt (count_of u vs) 1) [
+        | inl none ↦ omega (arith, sum, none, count_of-le-one u us one)
+        | inr some_too ↦ absurd (apart u (Contains-from_count_of u us some) (Contains-from_count_of u vs some_too))
+      ]
+    ])
+
+-- the parts of a list without repeats have none
+pub AllPairs-left : (us vs : List ℕ) → AllPairs ◌≢◌ (us ++ vs) → AllPairs ◌≢◌ us
+AllPairs-left us vs h = AllPairs-from_counts us (λ u _. omega (arith, count_of-append u us vs, count_of-le-one u (us ++ vs) h))
+
+pub AllPairs-right : (us vs : List ℕ) → AllPairs ◌≢◌ (us ++ vs) → AllPairs ◌≢◌ vs
+AllPairs-right us vs h = AllPairs-from_counts vs (λ u _. omega (arith, count_of-append u us vs, count_of-le-one u (us ++ vs) h))
+
+-- and share nothing
+pub parts_apart : (us vs : List ℕ) → AllPairs ◌≢◌ (us ++ vs) → (u : ℕ) → Contains us u → ¬ Contains vs u
+parts_apart us vs h u one other =
+    omega (arith, count_of-append u us vs, count_of-le-one u (us ++ vs) h, Contains-counted u us one, Contains-counted u vs other)
 
 -- whether a number stands in a list
 

@@ -1,6 +1,7 @@
 -- A list without one of its entries, and with one more: what stands in it, and what comes after what.
-use Rattle.std.proofs.Common.{◌≡◌, ◌≢◌, ℕ, suc, ◌+◌, ◌-◌, ◌<◌, ◌≤◌, cond, ltb, eqb, List, [], ◌∷◌, ◌++◌, length, get_or, take, drop, AllPairs, Contains, sym, ap, ◌∙◌, subst, inl, inr, arith}
-use Rattle.std.specs.List.{insert, remove}
+use Rattle.std.proofs.Common.{◌≡◌, ◌≢◌, ℕ, suc, ◌+◌, ◌-◌, ◌<◌, ◌≤◌, Bool, false, cond, ltb, eqb, List, [], ◌∷◌, ◌++◌, length, get_or, take, drop, AllPairs, Contains, sym, ap, ◌∙◌, subst, inl, inr, arith}
+use Rattle.std.specs.List.{insert, remove, filter}
+use Rattle.std.proofs.lemmas.List.Elements.{filter-append}
 use Rattle.std.proofs.lemmas.Bool.{cases_lt, cases_eq}
 use Rattle.std.proofs.lemmas.Bool.Decides.{nat_tests}
 use Rattle.std.proofs.lemmas.List.{append_assoc, length-append, length-take-le, take_at, drop_at, take-append-drop, get_or_default}
@@ -196,3 +197,10 @@ module _ (us : List ℕ) (a x : ℕ) (distinct : AllPairs ◌≢◌ us) (new : �
 
   pub first-insert : get_or (insert us (place_of a us + 1) x) 0 0 ≡ get_or us 0 0
   first-insert = get_or-insert_below us (place_of a us + 1) x 0 0 (omega arith) (omega (arith, a_in))
+
+-- an entry more that does not pass a test changes nothing of what passes
+pub filter-insert : (p : ℕ → Bool) (us : List ℕ) (k x : ℕ) → p x ≡ false → filter p (insert us k x) ≡ filter p us
+filter-insert p us k x fails =
+    filter-append p (take k us) (x ∷ drop k us)
+    ∙ ap (λ b. filter p (take k us) ++ cond b (x ∷ filter p (drop k us)) (filter p (drop k us))) fails
+    ∙ sym (filter-append p (take k us) (drop k us)) ∙ ap (λ vs. filter p vs) (take-append-drop k us)

@@ -78,6 +78,19 @@ module _ (us : List ℕ) (i x : ℕ) (absent : ¬ Contains us x) (within : i ≤
             ]) ∙ sym (get_or_past us i (get_or us 0 x) l))
       ])
 
+-- what is put in directly after an entry comes after it
+pub entry_after-put : (us : List ℕ) (a x : ℕ) → Contains us a → entry_after a (insert us (place_of a us + 1) x) ≡ x
+unfolding entry_after
+entry_after-put us a x has =
+    let p = place_of a us in
+    let l = place_of-lt-length a us has in
+    let ys = insert us (p + 1) x in
+    let n = length-insert us (p + 1) x (omega arith) in
+    let at : place_of a ys ≡ p =
+    place_of-is a ys p (omega arith) (get_or-insert_below us (p + 1) x 0 p (omega arith) (omega arith) ∙ get_or-place_of a us 0 l) (λ k m q.
+    before_place_of a us k 0 m (sym (get_or-insert_below us (p + 1) x 0 k (omega arith) (omega arith)) ∙ q)) in
+    ap (λ k. get_or ys (k + 1) (get_or ys 0 a)) at ∙ get_or-insert_at us (p + 1) x (get_or ys 0 a) (omega arith)
+
 -- An entry put in beside another that is then taken out stands in its place.
 module _ (us : List ℕ) (x y : ℕ) (ne : y ≢ x) (has : Contains us x) where
   abbrev p : ℕ

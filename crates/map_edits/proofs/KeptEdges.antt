@@ -27,7 +27,7 @@ filter-without p (y ∷ us) x e =
     ]
 
 -- where all pass, all stay
-filter-all : (p : ℕ → Bool) (us : List ℕ) → ((x : ℕ) → Contains us x → p x ≡ true) → filter p us ≡ us
+pub filter-all : (p : ℕ → Bool) (us : List ℕ) → ((x : ℕ) → Contains us x → p x ≡ true) → filter p us ≡ us
 filter-all p [] h = refl
 filter-all p (y ∷ us) h =
     cond-true (p y) (y ∷ filter p us) (filter p us) (h y (Contains-here y us)) ∙ ap (λ l. y ∷ l) (filter-all p us (λ x c. h x (Contains-there y us x c)))
@@ -54,7 +54,7 @@ same_kept keep lists others n h =
     list_of-with_kept keep lists v ∙ h v (omega arith))
 
 -- a test that passes always, or not at some number
-all_or_some : (p : ℕ → Bool) (n : ℕ) → ((i : ℕ) → i < n → p i ≡ true) ⊎ ((i : ℕ) × (i < n) × (p i ≡ false))
+pub all_or_some : (p : ℕ → Bool) (n : ℕ) → ((i : ℕ) → i < n → p i ≡ true) ⊎ ((i : ℕ) × (i < n) × (p i ≡ false))
 all_or_some p zero = inl (λ i l. absurd (omega arith))
 all_or_some p (suc n) =
     elim (cases_Bool (p n)) [

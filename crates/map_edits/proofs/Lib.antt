@@ -6,3 +6,8 @@ pub mod KeptEdges
 pub mod InsertedEntry
 pub mod WithEdge
 pub mod VertexSmoothed
+pub mod Chords
+pub mod Extended
+pub mod Completions
+pub mod OuterEars
+pub mod OuterFaces

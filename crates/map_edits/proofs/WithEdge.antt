@@ -11,11 +11,11 @@ use Rattle.map_lists.specs.Lists.{Lists}
 use Rattle.map_definitions.specs.Maps.{list_of, place_of, HasDart, IsSimpleMap, IsPlane, follows, entry_after, component_classes}
 use Rattle.map_definitions.specs.Edges.{without_edge, without_entry}
 use Rattle.map_definitions.specs.Paths.{SameFace}
-use Rattle.map_definitions.proofs.DartLemmas.{place_of-lt-length, HasDart-follows}
-use Rattle.map_definitions.proofs.WithoutEdge.{length-without_edge, list_at_first, list_at_second, list_elsewhere}
+use Rattle.map_definitions.proofs.DartLemmas.{entry_after-injective, place_of-lt-length, HasDart-follows}
+use Rattle.map_definitions.proofs.WithoutEdge.{length-without_edge, list_at_first, list_at_second, list_elsewhere, follows_same}
 use Rattle.map_edits.specs.Added.{IsSplitFace, IsJoinedFaces}
-use Rattle.map_edits.specs.WithEdge.{with_edge_at, entry_at, IsEdgeMore, WithEdge, EdgePutInFace, EdgePutBetween}
-use Rattle.map_edits.proofs.InsertedEntry.{insert-new, insert-kept, insert-old, insert-distinct, without-insert, entry_after-insert}
+use Rattle.map_edits.specs.WithEdge.{with_edge_at, entry_at, IsEdgeMore, WithEdge, WithEdgeAfter, EdgePutInFace, EdgePutBetween}
+use Rattle.map_edits.proofs.InsertedEntry.{insert-new, insert-kept, insert-old, insert-distinct, without-insert, entry_after-insert, entry_after-put}
 use Rattle.map_edits.proofs.EdgeAdded.{edge_in_face, edge_between}
 
 module _ (lists : Lists) (u i v j : ℕ) (simple : IsSimpleMap lists) (in_u : u < length lists) (in_v : v < length lists) (u_v : u ≢ v) (far : ¬ HasDart lists u v) (at_u : i ≤ length (list_of lists u)) (at_v : j ≤ length (list_of lists v)) where
@@ -142,6 +142,7 @@ module _ (lists : Lists) (u i v j : ℕ) (simple : IsSimpleMap lists) (in_u : u 
         simple = IsSimpleMap-new;
         edge = edge_there;
         kept = kept_dart;
+        only = new_dart;
         without = old_again;
         next = ap (entry_after v) new_first ∙ entry_after-insert us i v absent at_u;
         next' = ap (entry_after u) new_second ∙ entry_after-insert vs j u absent' at_v;
@@ -157,6 +158,41 @@ unfolding entry_after
 entry_at-after us a x has =
     let l = place_of-lt-length a us has in
     ap (get_or us (place_of a us + 1)) (get_or_default us 0 x a (omega arith))
+
+-- no two entries of a list have one entry after them
+follows_apart : (lists : Lists) → IsSimpleMap lists → (v x y : ℕ) → HasDart lists v x → HasDart lists v y → follows lists v x ≡ follows lists v y → x ≡ y
+follows_apart lists simple v x y h h' e = entry_after-injective (list_of lists v) x y (simple.no_repeat v h.0) h.1 h'.1 e
+
+-- THE LAW: an edge between two corners, and what follows what with it
+pub with_edge_after_law : WithEdgeAfter
+with_edge_after_law lists u a v c simple has_a has_c u_v far =
+    let us = list_of lists u in
+    let vs = list_of lists v in
+    let i = place_of a us + 1 in
+    let j = place_of c vs + 1 in
+    let in_i = place_of-lt-length a us has_a.1 in
+    let in_j = place_of-lt-length c vs has_c.1 in
+    let new = with_edge_at lists u i v j in
+    let more = with_edge lists u i v j simple has_a.0 has_c.0 u_v far (omega arith) (omega arith) in
+    let new_u = new_first lists u i v j simple has_a.0 has_c.0 u_v far (omega arith) (omega arith) in
+    let new_v = new_second lists u i v j simple has_a.0 has_c.0 u_v far (omega arith) (omega arith) in
+    let turn : follows new u a ≡ v = ap (entry_after a) new_u ∙ entry_after-put us a v has_a.1 in
+    let turn' : follows new v c ≡ u = ap (entry_after c) new_v ∙ entry_after-put vs c u has_c.1 in (
+      more,
+      record {
+        turn = turn;
+        turn' = turn';
+        next = more.next ∙ entry_at-after us a v has_a.1;
+        next' = more.next' ∙ entry_at-after vs c u has_c.1;
+        other = λ w z h not_a not_c.
+            let there = more.kept w z h in
+            let old : HasDart (without_edge new u v) w z = subst (λ l. HasDart l w z) (sym more.without) h in
+            let stays = follows_same new more.simple u v more.edge w z old
+            (λ e q. not_a e (follows_apart new more.simple u z a (subst (λ x. HasDart new x z) e there) (more.kept u a has_a) (ap (λ x. follows new x z) (sym e) ∙ (q ∙ sym turn))))
+            (λ e q. not_c e (follows_apart new more.simple v z c (subst (λ x. HasDart new x z) e there) (more.kept v c has_c) (ap (λ x. follows new x z) (sym e) ∙ (q ∙ sym turn')))) in
+            sym stays ∙ ap (λ l. follows l w z) more.without;
+      },
+    )
 
 -- THE LAW: an edge between two corners of one face
 pub edge_put_in_face : EdgePutInFace

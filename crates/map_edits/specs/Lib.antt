@@ -3,3 +3,6 @@ pub mod Added
 pub mod Kept
 pub mod WithEdge
 pub mod Smoothed
+pub mod Chords
+pub mod Completed
+pub mod OuterFaces

@@ -1,5 +1,5 @@
 -- Lists with an edge more.
-use Rattle.std.specs.Prelude.{ℕ, ◌+◌, ◌<◌, ◌≤◌, ◌≡◌, ◌≢◌, List, length, slice_set, slice_index_or, insert}
+use Rattle.std.specs.Prelude.{ℕ, ◌+◌, ◌<◌, ◌≤◌, ◌≡◌, ◌≢◌, ◌⊎◌, List, length, slice_set, slice_index_or, insert}
 use Rattle.map_lists.specs.Lists.{Lists}
 use Rattle.map_definitions.specs.Maps.{HasDart, IsSimpleMap, IsPlane, list_of, follows, place_of}
 use Rattle.map_definitions.specs.Edges.{without_edge}
@@ -21,6 +21,7 @@ pub record IsEdgeMore (old new : Lists) (u i v j : ℕ) : Type 0 where
   pub simple : IsSimpleMap new
   pub edge : HasDart new u v
   pub kept : (w z : ℕ) → HasDart old w z → HasDart new w z
+  pub only : (w z : ℕ) → HasDart new w z → HasDart old w z ⊎ (((w ≡ u) × (z ≡ v)) ⊎ ((w ≡ v) × (z ≡ u)))
   pub without : without_edge new u v ≡ old
   pub next : follows new u v ≡ entry_at (list_of old u) i v
   pub next' : follows new v u ≡ entry_at (list_of old v) j u
@@ -34,6 +35,19 @@ WithEdge =
 abbrev pub with_edge_after : Lists → ℕ → ℕ → ℕ → ℕ → Lists
 with_edge_after lists u a v c =
     with_edge_at lists u (place_of a (list_of lists u) + 1) v (place_of c (list_of lists v) + 1)
+
+-- What follows what, with the edge: v comes between a and what followed it, and u between c and what followed it; all else is as it was.
+pub record IsPutAfter (old new : Lists) (u a v c : ℕ) : Type 0 where
+  pub turn : follows new u a ≡ v
+  pub turn' : follows new v c ≡ u
+  pub next : follows new u v ≡ follows old u a
+  pub next' : follows new v u ≡ follows old v c
+  pub other : (w z : ℕ) → HasDart old w z → (w ≡ u → z ≢ a) → (w ≡ v → z ≢ c) → follows new w z ≡ follows old w z
+
+-- An edge may be put between two corners of vertices that are not adjacent.
+abbrev pub WithEdgeAfter : Type 0
+WithEdgeAfter =
+    (lists : Lists) (u a v c : ℕ) → IsSimpleMap lists → HasDart lists u a → HasDart lists v c → u ≢ v → ¬ HasDart lists u v → IsEdgeMore lists (with_edge_after lists u a v c) u (place_of a (list_of lists u) + 1) v (place_of c (list_of lists v) + 1) × IsPutAfter lists (with_edge_after lists u a v c) u a v c
 
 -- An edge put between two corners of one face, in the words of the map before.
 abbrev pub EdgePutInFace : Type 0

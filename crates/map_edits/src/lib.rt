@@ -3,14 +3,23 @@
 #![tactic(auto)]
 
 ghost use Rattle.map_edits.specs.Added.{EdgeInFace, EdgeBetween};
+ghost use Rattle.map_edits.specs.Chords.{CornerChord, EarCut, OneChord, SomeEar};
+ghost use Rattle.map_edits.specs.Completed.{Completion};
 ghost use Rattle.map_edits.specs.Kept.{KeptEdges};
+ghost use Rattle.map_edits.specs.OuterFaces.{OuterEar};
 ghost use Rattle.map_edits.specs.Smoothed.{VertexSmoothed};
-ghost use Rattle.map_edits.specs.WithEdge.{EdgePutBetween, EdgePutInFace, WithEdge};
+ghost use Rattle.map_edits.specs.WithEdge.{EdgePutBetween, EdgePutInFace, WithEdge, WithEdgeAfter};
 
 /// An edge may be put between any two vertices that are not adjacent, at any places of their lists: the
 /// lists with it are a simple map, and without it the old ones.
 pub fn with_edge()
     ensures { WithEdge }
+{}
+
+/// An edge may be put between two corners of vertices that are not adjacent, each corner named by the
+/// entry before it; what follows what is as it was, but at the two corners.
+pub fn with_edge_after()
+    ensures { WithEdgeAfter }
 {}
 
 /// An edge put between two corners of one face of a map of genus zero, in the words of the map before:
@@ -47,4 +56,39 @@ pub fn kept_edges()
 /// which it is taken out of its edge, and its neighbours are adjacent, has genus zero.
 pub fn vertex_smoothed()
     ensures { VertexSmoothed }
+{}
+
+/// Where a face of a map of genus zero goes along four vertices, the first and the third can be joined,
+/// or the second and the fourth.
+pub fn one_chord()
+    ensures { OneChord }
+{}
+
+/// Where a face of a map of genus zero comes back to a vertex after three steps and leaves it by another
+/// edge, the vertices before and after can be joined.
+pub fn corner_chord()
+    ensures { CornerChord }
+{}
+
+/// A face that is no triangle, in a connected map of genus zero with at least three vertices, has an ear
+/// at one of any three darts in a row.
+pub fn some_ear()
+    ensures { SomeEar }
+{}
+
+/// An ear that is cut is a triangle, and all triangles stay.
+pub fn ear_cut()
+    ensures { EarCut }
+{}
+
+/// Each simple map of genus zero with at least three vertices can be completed: there are lists with
+/// 3n - 6 edges that are a map of genus zero and keep the order of the old entries.
+pub fn completion()
+    ensures { Completion }
+{}
+
+/// Where a face of a map of genus zero meets each vertex once, there is an ear beside each of its darts:
+/// a vertex with no neighbour between those before and after it on the face.
+pub fn outer_ear()
+    ensures { OuterEar }
 {}

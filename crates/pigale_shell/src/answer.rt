@@ -5,8 +5,8 @@ ghost use Rattle.pigale_shell.specs.Answer.{IsBlock, is_refused};
 
 use super::job::Job;
 use super::lines::{count_line, refusal_line};
-use euler_faces::euler;
-use half_edges::{HalfMap, MapFault, Rotations};
+use euler_faces::Counter;
+use half_edges::{MapFault, Rotations};
 use std::alloc::{AllocError, Global};
 
 /// Appends the job's block for a planar_code record with these lists, which are from 1 to 4095, and
@@ -28,14 +28,35 @@ pub fn answer_record(
     ensures served { IfOk result (λ served. IsTrue served ↔ IsFalse (is_refused job lists.now)) }
     ensures err { OnErr result (out.new.items ≡ out.old.items) }
 {
+    let mut counter = Counter::new(alloc);
+    answer_with(alloc, &mut counter, job, number, lists, out)
+}
+
+/// The same, with a counter that may have counted other records before.
+pub(crate) fn answer_with(
+    alloc: Global,
+    counter: &mut Counter,
+    job: Job,
+    number: u32,
+    lists: &Rotations,
+    out: &mut Vec<u8>,
+) -> Result<bool, AllocError>
+    requires some_list { 0 < length lists.now }
+    requires few_lists { length lists.now < 4096 }
+    ensures block { OnOk result
+        ((block : List ℕ) × IsBlock job number lists.now block × (out.new.items ≡ out.old.items ++ block)) }
+    ensures served { IfOk result (λ served. served ≡ not (is_refused job lists.now)) }
+    ensures err { OnErr result (out.new.items ≡ out.old.items) }
+{
     match job {
-        Job::Count => count_record(alloc, number, lists, out),
+        Job::Count => count_record(alloc, counter, number, lists, out),
     }
 }
 
 // Appends the count line of a record, or its refusal.
 fn count_record(
     alloc: Global,
+    counter: &mut Counter,
     number: u32,
     lists: &Rotations,
     out: &mut Vec<u8>,
@@ -46,9 +67,8 @@ fn count_record(
     ensures served { IfOk result (λ served. served ≡ not (count_refuses lists.now)) }
     ensures err { OnErr result (out.new.items ≡ out.old.items) }
 {
-    match HalfMap::from_rotations(alloc, lists) {
-        Ok(map) => {
-            let count = euler(alloc, &map)?;
+    match counter.count(lists) {
+        Ok(count) => {
             let line = count_line(alloc, number, &count)?;
             out.extend_from_slice(&line)?;
             Ok(true)

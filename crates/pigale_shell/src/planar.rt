@@ -1,9 +1,10 @@
 //! planar_code, and the jobs over it, for the loop of runs.
 ghost use Rattle.std.specs.Prelude.{◌≡◌, true};
 
-use super::answer::answer_record;
+use super::answer::answer_with;
 use super::job::Job;
 use super::lines::{Ending, last_line};
+use euler_faces::Counter;
 use map_lists::Rotations;
 use planar_code::{RecordReader, Taken as Found};
 use record_runs::{Format, Job as RecordJob, Taken};
@@ -109,6 +110,8 @@ impl Format for PlanarReader {
 pub struct PlanarJob {
     alloc: Global,
     job: Job,
+    // keeps its memory from record to record
+    counter: Counter,
 }
 
 impl PlanarJob {
@@ -116,7 +119,11 @@ impl PlanarJob {
     pub fn new(alloc: Global, job: Job) -> PlanarJob
         ensures { result.job ≡ job }
     {
-        PlanarJob { alloc, job }
+        PlanarJob {
+            alloc,
+            job,
+            counter: Counter::new(alloc),
+        }
     }
 }
 
@@ -135,6 +142,6 @@ impl RecordJob<PlanarReader> for PlanarJob {
         given: &Rotations,
         out: &mut Vec<u8>,
     ) -> Result<bool, AllocError> {
-        answer_record(self.alloc, self.job, number, given, out)
+        answer_with(self.alloc, &mut self.counter, self.job, number, given, out)
     }
 }

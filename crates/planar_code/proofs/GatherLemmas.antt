@@ -1,8 +1,7 @@
 -- Numbers that join the lists of a record one by one.
-use Rattle.std.proofs.Common.{◌≡◌, ℕ, zero, suc, ◌+◌, ◌*◌, ◌/◌, ◌-◌, ◌<◌, ◌≤◌, List, [], ◌∷◌, ◌++◌, length, get_or, take, flat_map, All, refl, sym, ap, subst, ◌∙◌, arith, append_assoc}
+use Rattle.std.proofs.Common.{◌≡◌, ℕ, zero, suc, ◌+◌, ◌*◌, ◌<◌, ◌≤◌, List, [], ◌∷◌, ◌++◌, length, get_or, take, flat_map, refl, sym, ap, subst, ◌∙◌, arith, append_assoc}
 use Rattle.std.proofs.lemmas.List.{append-nil, length-append, take_more}
 use Rattle.std.proofs.lemmas.Grind.{flat_map-append}
-use Rattle.map_lists.specs.Lists.{Lists}
 use Rattle.planar_code.specs.Reading.{two_bytes}
 use Rattle.planar_code.specs.Open.{Open, numbers_of, Collects, IsOpen, Gathers}
 use Rattle.planar_code.proofs.ScanLemmas.{collected, collected-closed, collected-length, collected-small, collected-small_last, pair_of}

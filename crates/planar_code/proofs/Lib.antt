@@ -14,3 +14,5 @@ pub mod ScanLemmas
 pub mod FrontLemmas
 pub mod NextLemmas
 pub mod ReadingLemmas
+pub mod ReadsLemmas
+pub mod WriteLemmas

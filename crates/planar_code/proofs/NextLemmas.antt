@@ -1,6 +1,6 @@
 -- The bytes passed at an offset, and more of them.
 use Rattle.std.proofs.Common.{◌≡◌, ℕ, ◌+◌, ◌-◌, ◌<◌, ◌≤◌, List, [], ◌∷◌, ◌++◌, length, take, drop, refl, sym, ap, subst, ◌∙◌, arith, append_assoc}
-use Rattle.std.proofs.lemmas.List.{append-nil, length-append, take-append-drop, take_rest, take_all, take-take, length-drop, length-take}
+use Rattle.std.proofs.lemmas.List.{append-nil, take-append-drop, take_rest, take-take, length-drop, length-take}
 use Rattle.std.specs.Prelude.{slice_range, IsTrue, IsFalse}
 use Rattle.map_lists.specs.Lists.{Lists}
 use Rattle.planar_code.specs.Reading.{IsRecord, NoRecord, has_bad_count, is_bad_count}

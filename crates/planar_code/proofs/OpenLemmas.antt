@@ -1,5 +1,5 @@
 -- The places where the closed lists end, and one list or one entry more.
-use Rattle.std.proofs.Common.{◌≡◌, ℕ, zero, suc, ◌+◌, ◌-◌, ◌<◌, ◌≤◌, List, [], ◌∷◌, ◌++◌, length, take, drop, slice_range, refl, sym, ap, ap₂, ◌∙◌, arith}
+use Rattle.std.proofs.Common.{◌≡◌, ℕ, zero, suc, ◌-◌, ◌<◌, ◌≤◌, List, [], ◌∷◌, ◌++◌, length, take, drop, slice_range, refl, sym, ap, ap₂, ◌∙◌, arith}
 use Rattle.std.proofs.lemmas.List.{length-append, length-drop, drop-append-le, take-append-le, take_rest}
 use Rattle.map_lists.specs.Cuts.{cut, AreCuts}
 use Rattle.planar_code.specs.Open.{last_end, AreWithin, Collects}

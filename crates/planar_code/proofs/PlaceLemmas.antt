@@ -1,5 +1,5 @@
 -- How pieces of bytes move a reader on.
-use Rattle.std.proofs.Common.{◌≡◌, ℕ, zero, suc, ◌+◌, ◌-◌, ◌<◌, ◌≤◌, Bool, true, false, ◌&&◌, List, [], ◌∷◌, ◌++◌, length, get_or, take, drop, refl, sym, ap, ap₂, subst, ◌∙◌, arith, append_assoc, Decides}
+use Rattle.std.proofs.Common.{◌≡◌, ℕ, suc, ◌+◌, ◌-◌, ◌<◌, ◌≤◌, Bool, true, false, ◌&&◌, List, [], ◌∷◌, ◌++◌, length, get_or, take, drop, refl, sym, ap, ap₂, subst, ◌∙◌, arith, append_assoc, Decides}
 use Rattle.std.proofs.lemmas.List.{append-nil, length-append, length-drop, length-take-le, take_all, take_rest, take_more, take-append-le, take-append-drop, get_or-drop, get_or_append_left}
 use Rattle.std.proofs.Math.Seq.{drop-cons}
 use Rattle.std.proofs.lemmas.Bool.{false≢true}
@@ -7,7 +7,7 @@ use Rattle.std.specs.Prelude.{IsTrue, IsFalse, ◌==◌}
 use Rattle.map_lists.specs.Lists.{Lists}
 use Rattle.planar_code.specs.Reading.{IsRecord, is_bad_count, header, is_header}
 use Rattle.planar_code.specs.State.{State, with_byte, after_more}
-use Rattle.planar_code.specs.Scan.{Scan, GoesOn, Passes, Scans, Exhausts, seen_of}
+use Rattle.planar_code.specs.Scan.{Scan, Passes, Scans, Exhausts}
 use Rattle.planar_code.specs.Front.{is_front, IsCounted}
 use Rattle.planar_code.specs.Fed.{Feeds}
 use Rattle.planar_code.specs.declared.reader.Fed.TheVariants.{Bad as FedBad, Record as FedRecord}

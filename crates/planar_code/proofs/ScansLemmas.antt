@@ -1,13 +1,12 @@
 -- What a scanner makes of a piece, part by part.
-use Rattle.std.proofs.Common.{◌≡◌, ℕ, suc, ◌+◌, ◌-◌, ◌<◌, ◌≤◌, List, [], ◌∷◌, ◌++◌, length, take, drop, refl, sym, ap, subst, ◌∙◌, arith, append_assoc}
-use Rattle.std.proofs.lemmas.List.{append-nil, length-append, length-drop, take-append-drop, length-take-le, take_at, take_rest}
+use Rattle.std.proofs.Common.{◌≡◌, ℕ, ◌+◌, ◌-◌, ◌≤◌, List, ◌++◌, length, take, drop, refl, sym, ap, subst, ◌∙◌, arith, append_assoc}
+use Rattle.std.proofs.lemmas.List.{append-nil, length-drop, take-append-drop, length-take-le, take_rest}
 use Rattle.std.proofs.Math.Seq.{take-append-add}
 use Rattle.std.specs.Prelude.{IsTrue, IsFalse}
-use Rattle.map_lists.specs.Lists.{Lists}
 use Rattle.planar_code.specs.Reading.{IsRecord, is_bad_count}
 use Rattle.planar_code.specs.declared.scan.Scanned.{Scanned}
 use Rattle.planar_code.specs.declared.scan.Scanned.TheVariants.{More, Ended, Bad}
-use Rattle.planar_code.specs.Scan.{Scan, Passes, PassesBefore, Scans, Exhausts, seen_of, shifted}
+use Rattle.planar_code.specs.Scan.{Scan, Passes, PassesBefore, Scans, Exhausts, shifted}
 use Rattle.planar_code.proofs.PassLemmas.{Passes-append}
 
 -- the first bytes of a piece, in two parts

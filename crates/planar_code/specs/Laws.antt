@@ -8,3 +8,7 @@ abbrev pub OneReading : Type 0
 OneReading =
     (input : List ℕ) (records records' : List Lists) (ending ending' : Ending) → IsReading input records ending → IsReading input records' ending'
     → (records ≡ records') × (ending ≡ ending')
+
+-- each input is read in one way at least
+abbrev pub EachInputIsRead : Type 0
+EachInputIsRead = (input : List ℕ) → (records : List Lists) × (ending : Ending) × IsReading input records ending

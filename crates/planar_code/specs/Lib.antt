@@ -11,3 +11,4 @@ pub mod Scan
 pub mod Front
 pub mod Laws
 pub mod Reading
+pub mod Write

@@ -1,5 +1,5 @@
 -- Where in a file a reader stands, and how its scanner moves it on.
-use Rattle.std.specs.Prelude.{ℕ, ◌+◌, ◌-◌, ◌<◌, true, false}
+use Rattle.std.specs.Prelude.{◌+◌, ◌-◌, ◌<◌, false}
 use Rattle.planar_code.specs.State.{State}
 use Rattle.planar_code.specs.Scan.{Scan}
 use Rattle.planar_code.specs.declared.scan.Scanned.{Scanned}

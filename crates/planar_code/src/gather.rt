@@ -2,7 +2,9 @@
 ghost use Rattle.std.specs.Prelude.{◌≡◌, ◌+◌, ◌*◌, ◌<◌, ◌≤◌, List, ℕ, [], length, take, flat_map, ◌≢◌};
 ghost use Rattle.std.specs.Bool.{OnTrue, OnFalse};
 ghost use Rattle.planar_code.specs.Reading.{two_bytes};
-ghost use Rattle.planar_code.specs.Open.{IsOpen, Gathers};
+ghost use Rattle.planar_code.specs.Open.{Gathers};
+ghost use Rattle.planar_code.specs.Scan.{IsScanned};
+ghost use Rattle.planar_code.specs.declared.scan.Phase.TheVariants.{Narrow, Wide};
 
 use super::open::OpenLists;
 use map_lists::Rotations;
@@ -22,7 +24,7 @@ pub fn number_of(high: u8, low: u8) -> u16
 /// The lists are a value of its own for the loop, so that their ends stay in registers.
 pub fn gather_narrow(alloc: Global, gathered: &mut OpenLists, count: usize, piece: &[u8]) -> usize
     requires some { 0 < length piece.now }
-    requires is { IsOpen 256 255 count gathered.old.lists gathered.old.last }
+    requires is { IsScanned (Narrow count) gathered.old }
     requires room { length piece.now ≤ gathered.old.room }
     requires most { count ≤ gathered.old.most }
     ensures some { 0 < result }
@@ -39,7 +41,7 @@ pub fn gather_narrow(alloc: Global, gathered: &mut OpenLists, count: usize, piec
 #[inline(always)]
 fn narrow_numbers(gathered: &mut OpenLists, count: usize, piece: &[u8]) -> usize
     requires some { 0 < length piece.now }
-    requires is { IsOpen 256 255 count gathered.old.lists gathered.old.last }
+    requires is { IsScanned (Narrow count) gathered.old }
     requires room { length piece.now ≤ gathered.old.room }
     requires most { count ≤ gathered.old.most }
     ensures some { 0 < result }
@@ -60,7 +62,7 @@ fn narrow_numbers(gathered: &mut OpenLists, count: usize, piece: &[u8]) -> usize
 /// how many bytes they were; a last byte alone is none of them.
 pub fn gather_wide(alloc: Global, gathered: &mut OpenLists, count: usize, piece: &[u8]) -> usize
     requires some { 1 < length piece.now }
-    requires is { IsOpen 4096 65535 count gathered.old.lists gathered.old.last }
+    requires is { IsScanned (Wide count) gathered.old }
     requires room { length piece.now ≤ gathered.old.room }
     requires most { count ≤ gathered.old.most }
     ensures some { 0 < result }
@@ -78,7 +80,7 @@ pub fn gather_wide(alloc: Global, gathered: &mut OpenLists, count: usize, piece:
 #[inline(always)]
 fn wide_numbers(gathered: &mut OpenLists, count: usize, piece: &[u8]) -> usize
     requires some { 1 < length piece.now }
-    requires is { IsOpen 4096 65535 count gathered.old.lists gathered.old.last }
+    requires is { IsScanned (Wide count) gathered.old }
     requires room { length piece.now ≤ gathered.old.room }
     requires most { count ≤ gathered.old.most }
     ensures some { 0 < result }

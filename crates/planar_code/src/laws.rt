@@ -1,8 +1,13 @@
 //! Laws on how inputs are read, each the contract of a function that does nothing.
-ghost use Rattle.planar_code.specs.Laws.{OneReading};
+ghost use Rattle.planar_code.specs.Laws.{OneReading, EachInputIsRead};
 
 /// Each input is read in one way at most: two readings of it have the same records, in the same
 /// order, and the same ending.
 pub fn one_reading()
     ensures { OneReading }
+{}
+
+/// Each input is read in one way at least: it has records and an ending.
+pub fn each_input_is_read()
+    ensures { EachInputIsRead }
 {}

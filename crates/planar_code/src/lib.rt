@@ -12,9 +12,11 @@ mod next;
 mod open;
 mod reader;
 mod scan;
+mod write;
 
 pub use next::{CodeFault, Step, after_header, next_record};
 pub use reader::{Fed, RecordReader, Taken};
+pub use write::write_record;
 
 /// The bytes with which a file may begin.
 const HEADER: [u8; 15] = *b">>planar_code<<";

@@ -1,5 +1,5 @@
 //! A reader that is fed byte by byte.
-ghost use Rattle.std.specs.Prelude.{◌≡◌, ◌+◌, ◌<◌, ◌≤◌, ◌^◌, ◌↔◌, ◌&&◌, ◌==◌, [], ◌∷◌, length, slice_index, IsTrue, IsFalse, IfOk, OnErr};
+ghost use Rattle.std.specs.Prelude.{◌≡◌, ◌+◌, ◌<◌, ◌≤◌, ◌↔◌, ◌&&◌, ◌==◌, [], ◌∷◌, length, slice_index, IsTrue, IsFalse, IfOk, OnErr};
 ghost use Rattle.planar_code.specs.Reading.{header, input_limit};
 ghost use Rattle.planar_code.specs.Fed.{Feeds};
 ghost use Rattle.planar_code.specs.Scan.{seen_of};
@@ -41,7 +41,7 @@ pub enum Taken {
 
 /// The same behind bytes of the piece that passed.
 fn shift(passed: usize, taken: Taken) -> Taken
-    requires { passed + looked_at taken < 2 ^ 64 }
+    requires { passed + looked_at taken ≤ usize.MAX }
     ensures { result ≡ shifted passed taken }
 {
     match taken {
@@ -89,7 +89,7 @@ fn ends_header(in_header: bool, length: usize) -> bool
 /// What the scanner made of a piece, as the reader answers it, and the place behind it.
 fn answer(place: &mut Place, scanned: Scanned) -> Taken
     requires some { HasByte scanned }
-    requires fits { place.old.start + place.old.pending_len + seen_of scanned < 2 ^ 64 }
+    requires fits { place.old.start + place.old.pending_len + seen_of scanned ≤ usize.MAX }
     ensures told { result ≡ told place.old scanned }
     ensures place { place.new ≡ moved place.old scanned }
 {

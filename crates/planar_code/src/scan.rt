@@ -2,7 +2,7 @@
 //!
 //! A scanner keeps the lists that are closed, the entries of the open one, and where in the record it
 //! stands. So no byte is stored twice, and each is handled once.
-ghost use Rattle.std.specs.Prelude.{◌≡◌, ◌+◌, ◌<◌, ◌≤◌, ◌^◌, [], length, OnOk};
+ghost use Rattle.std.specs.Prelude.{◌≡◌, ◌+◌, ◌<◌, ◌≤◌, [], length, OnOk};
 ghost use Rattle.map_lists.specs.Lists.{Lists};
 ghost use Rattle.planar_code.specs.Open.{Open};
 ghost use Rattle.planar_code.specs.Scan.{Scans, Exhausts, IsScanned, Advances, room_of, seen_of, shifted};
@@ -174,7 +174,7 @@ fn advance(
 
 /// The same behind bytes of the piece that passed.
 fn shift(passed: usize, scanned: Scanned) -> Scanned
-    requires { passed + seen_of scanned < 2 ^ 64 }
+    requires { passed + seen_of scanned ≤ usize.MAX }
     ensures { result ≡ shifted passed scanned }
 {
     match scanned {

@@ -1,5 +1,5 @@
 //! Records of the format's own vectors, byte by byte and whole.
-ghost use Rattle.std.specs.Prelude.{◌<◌, ◌≤◌, length};
+ghost use Rattle.std.specs.Prelude.{◌+◌, ◌<◌, ◌≤◌, length};
 
 use super::*;
 use map_lists::Rotations;
@@ -34,6 +34,61 @@ fn letters(alloc: Global, bytes: &[u8]) -> Result<String, AllocError>
             Fed::Bad(_) => 'b',
         };
         told.push(letter)?;
+    }
+    Ok(told)
+}
+
+/// Tells a record: `t` for the triangle, and else brackets for each list with a dot for each entry.
+fn tell(lists: &Rotations, told: &mut String) -> Result<(), AllocError> {
+    if is_triangle(lists) {
+        return told.push('t');
+    }
+    for v in 0..lists.len() {
+        told.push('[')?;
+        for _ in lists.list(v) {
+            told.push('.')?;
+        }
+        told.push(']')?;
+    }
+    Ok(())
+}
+
+/// The next bytes to read, at most so many.
+fn piece_at(bytes: &[u8], at: usize, at_once: usize) -> &[u8]
+    requires within { at < length bytes.now }
+    requires some { 0 < at_once }
+    ensures some { 0 < length result.now }
+    ensures within { at + length result.now ≤ length bytes.now }
+{
+    let rest = &bytes[at..];
+    if rest.len() < at_once {
+        rest
+    } else {
+        &rest[..at_once]
+    }
+}
+
+/// The records of some bytes that are read so many at once, up to a bad count, which is told as `b`.
+fn told_in_pieces(alloc: Global, bytes: &[u8], at_once: usize) -> Result<String, AllocError>
+    requires short { length bytes.now < 1000 }
+    requires some { 0 < at_once }
+{
+    let mut told = String::new(alloc);
+    let mut reader = RecordReader::new(alloc);
+    let mut at = 0;
+    while at < bytes.len() {
+        let piece = piece_at(bytes, at, at_once);
+        match reader.take(piece)? {
+            Taken::More => at += piece.len(),
+            Taken::Ended(k) => {
+                at += k;
+                tell(reader.lists(), &mut told)?;
+            }
+            Taken::Bad(_, _) => {
+                told.push('b')?;
+                return Ok(told);
+            }
+        }
     }
     Ok(told)
 }
@@ -116,6 +171,41 @@ fn offsets_count_from_the_front(rt: HostRuntime) -> Result<(), Fail> {
     match next_record(rt.alloc(), bytes, 17) {
         Err(fault) => assert_eq!(rt; fault, CodeFault::BadCount(17)),
         _ => assert!(rt; false),
+    }
+    Ok(())
+}
+
+#[test]
+fn pieces_of_any_size_give_the_same_records(rt: HostRuntime) -> Result<(), Fail> {
+    let rows: [(&[u8], &str); 5] = [
+        (
+            b">>planar_code<<\x03\x02\x03\x00\x03\x01\x00\x01\x02\x00\x03\x02\x03\x00\x03\x01\x00\x01\x02\x00\x01\x00\x03\x02\x03\x00\x03\x01\x00\x01\x02\x00",
+            "tt[]t",
+        ),
+        (
+            b"\x02\x02\x00\x00\x03\x02\x03\x00\x03\x01\x00\x01\x02\x00",
+            "[.][]t",
+        ),
+        (
+            b"\x00\x00\x03\x00\x02\x00\x03\x00\x00\x00\x03\x00\x01\x00\x00\x00\x01\x00\x02\x00\x00\x00\x00\x02\x00\x02\x00\x00\x00\x00\x00\x00\x03\x00\x02\x00\x03\x00\x00\x00\x03\x00\x01\x00\x00\x00\x01\x00\x02\x00\x00",
+            "t[.][]t",
+        ),
+        (
+            b"\x03\x02\x03\x00\x03\x01\x00\x01\x02\x00\x00\x00\x03\x00\x02\x00\x03\x00\x00\x00\x03\x00\x01\x00\x00\x00\x01\x00\x02\x00\x00\x01\x00\x00\x00\x03\x00\x02\x00\x03\x00\x00\x00\x03\x00\x01\x00\x00\x00\x01\x00\x02\x00\x00\x03\x02\x03\x00\x03\x01\x00\x01\x02\x00",
+            "tt[]tt",
+        ),
+        (
+            b"\x03\x02\x03\x00\x03\x01\x00\x01\x02\x00\x00\x00\x00\x03\x02\x03\x00\x03\x01\x00\x01\x02\x00",
+            "tb",
+        ),
+    ];
+    for (bytes, want) in rows {
+        assert!(rt; bytes.len() < 1000);
+        for at_once in [1, 2, 3, 64, 4096] {
+            assert!(rt; 0 < at_once);
+            let told = told_in_pieces(rt.alloc(), bytes, at_once)?;
+            assert_eq!(rt; told.as_str(), want, "{at_once} at once of {bytes:?}");
+        }
     }
     Ok(())
 }

@@ -13,21 +13,23 @@ use Rattle.map_definitions.proofs.EntryLemmas.{Contains-cons_cases}
 use Rattle.euler_bound.proofs.DartPermutations.{components, darts_below, edge_together}
 use Rattle.plane_laws.specs.Laws.{AreJoined, ComponentsArePaths}
 
--- a vertex is joined to itself
+-- a vertex by itself is a path
+pub JoinsAvoiding-itself : (lists : Lists) (avoided : List ℕ) (u : ℕ) → u < length lists → ¬ Contains avoided u → JoinsAvoiding lists avoided u u (u ∷ [])
+JoinsAvoiding-itself lists avoided u l off =
+    record {
+      is_path = record {
+        some = omega arith;
+        vertices = All-cons (λ v. v < length lists) u [] l (λ i d m. absurd (omega arith));
+        steps = λ i m. absurd (omega arith);
+      };
+      start = refl;
+      end = refl;
+      avoids = λ x c a. elim (Contains-cons_cases u [] x c) [ inl e ↦ off (subst (Contains avoided) (sym e) a) | inr none ↦ (let some = none.1 in absurd (omega arith)) ];
+    }
+
+-- so a vertex is joined to itself
 AreJoined-itself : (lists : Lists) (u : ℕ) → u < length lists → AreJoined lists u u
-AreJoined-itself lists u l = (
-  u ∷ [],
-  record {
-    is_path = record {
-      some = omega arith;
-      vertices = All-cons (λ v. v < length lists) u [] l (λ i d m. absurd (omega arith));
-      steps = λ i m. absurd (omega arith);
-    };
-    start = refl;
-    end = refl;
-    avoids = λ x c a. let some = a.1 in absurd (omega arith);
-  },
-)
+AreJoined-itself lists u l = (u ∷ [], JoinsAvoiding-itself lists [] u l (λ a. let some = a.1 in absurd (omega arith)))
 
 -- a path goes on over a dart, to a vertex that is not avoided
 pub JoinsAvoiding-more : (lists : Lists) (avoided : List ℕ) (u v w : ℕ) (path : List ℕ) → HasDart lists v w → w < length lists → ¬ Contains avoided w → JoinsAvoiding lists avoided u v path → JoinsAvoiding lists avoided u w (path ++ w ∷ [])

@@ -107,7 +107,7 @@ module _ (lists : Lists) (simple : IsSimpleMap lists) where
       simple.no_loop d.0 d.1 (dart_of-number lists simple i l).is_dart (sym (tail_h i l) ∙ ap (tail_of lists) e)
 
   -- and where it leads back in two steps, its dart and the twin are alone at their vertices
-  two_steps : (i : ℕ) → i < k → h (h i) ≡ i → h i ≡ g i
+  pub two_steps : (i : ℕ) → i < k → h (h i) ≡ i → h i ≡ g i
   two_steps i l e =
       let d = dart_of lists i in
       let c = dart_of lists (h i) in

@@ -58,6 +58,17 @@ module _ (lists : Lists) (simple : IsSimpleMap lists) where
       let last = HasDart-face_step lists (face_step lists d) simple next in
       ap (λ i. step (step i)) (step-number d has) ∙ (ap step (step-number (face_step lists d) next) ∙ step-number (face_step lists (face_step lists d)) last)
 
+  -- so a dart is on a triangle exactly where three steps lead its number back
+  pub IsTriangle-number : (d : Dart) → HasDart lists d.0 d.1 → step (step (step (dart_number lists d))) ≡ dart_number lists d → IsTriangle lists d
+  IsTriangle-number d has e =
+      let next = HasDart-face_step lists d simple has in
+      let last = HasDart-face_step lists (face_step lists d) simple next in
+      let third = face_step lists (face_step lists (face_step lists d)) in
+      dart_number-injective lists third d (HasDart-face_step lists (face_step lists (face_step lists d)) simple last) has (sym (three-number d has) ∙ e)
+
+  pub number-IsTriangle : (d : Dart) → HasDart lists d.0 d.1 → IsTriangle lists d → step (step (step (dart_number lists d))) ≡ dart_number lists d
+  number-IsTriangle d has t = three-number d has ∙ ap (dart_number lists) t
+
   -- Where three times the faces are the darts, one of a dart and the next two is the least of its face.
   met_rounds : ((i : ℕ) → i < k → short lists simple i ≡ true → ⊥) → k ≤ 3 * class_count (P lists simple) → (i : ℕ) → i < k → step (step (step i)) ≡ i
   met_rounds none many i l =
@@ -166,11 +177,8 @@ module _ (lists : Lists) (simple : IsSimpleMap lists) where
       let parts = component_count-classes lists simple in
       let double = two_m lists simple in
       let alone = none_isolated lists simple (omega arith) some in
-      let next = HasDart-face_step lists d simple has in
-      let last = HasDart-face_step lists (face_step lists d) simple next in
       let rounds = met_rounds (λ i l t. none_of_two lists simple (omega arith) some i l (short_round lists simple i t)) (omega arith) (dart_number lists d) (dart_number-lt lists d.0 d.1 has) in
-      let third = face_step lists (face_step lists (face_step lists d)) in
-      dart_number-injective lists third d (HasDart-face_step lists (face_step lists (face_step lists d)) simple last) has (sym (three-number d has) ∙ rounds)
+      IsTriangle-number d has rounds
 
   pub met_where_triangles : IsPlane lists → 3 ≤ vertex_count lists → component_count lists ≡ 1 → ((u v : ℕ) → HasDart lists u v → IsTriangle lists (u, v)) → edge_count lists + 6 ≡ 3 * vertex_count lists
   met_where_triangles plane some one triangles =

@@ -1,2 +1,3 @@
 -- The laws of plane maps, as statements about all maps.
 pub mod Laws
+pub mod Completed

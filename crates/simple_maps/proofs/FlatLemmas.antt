@@ -1,11 +1,10 @@
 -- Lists that are cut from one row of entries: dart number d stands at place d of the row.
-use Rattle.std.proofs.Common.{ℕ, zero, suc, ◌+◌, ◌-◌, ◌<◌, ◌≤◌, ◌≡◌, ◌≢◌, List, [], ◌∷◌, length, get_or, take, drop, slice_range, All, refl, sym, ap, ap₂, ◌∙◌, subst, arith}
+use Rattle.std.proofs.Common.{ℕ, zero, suc, ◌+◌, ◌-◌, ◌<◌, ◌≤◌, ◌≡◌, List, [], ◌∷◌, length, get_or, drop, slice_range, sym, ap, ap₂, ◌∙◌, arith}
 use Rattle.std.proofs.lemmas.List.{length-take-le, length-drop, get_or-take, get_or-drop}
-use Rattle.map_lists.specs.Lists.{Lists}
 use Rattle.map_lists.specs.Cuts.{cut, AreCuts}
 use Rattle.map_lists.proofs.CutLemmas.{length-cut, get_or-cut, AreCuts-le, AreCuts-at}
-use Rattle.map_definitions.specs.Maps.{Dart, HasDart, list_of, darts, darts_before, dart_count, place_of, dart_number}
-use Rattle.map_definitions.proofs.DartLemmas.{darts_before_none, darts_before_all, darts_before_more, dart_at_place, place_of_number, length-darts, get_or-dart_number, dart_number-lt, place_of-lt-length, get_or-place_of}
+use Rattle.map_definitions.specs.Maps.{list_of, darts, darts_before, dart_count}
+use Rattle.map_definitions.proofs.DartLemmas.{darts_before_all, dart_at_place, place_of_number}
 
 -- the part of a list from one place to another
 pub length-slice_range : (entries : List ℕ) (start end : ℕ) → start ≤ end → end ≤ length entries → length (slice_range entries start end) ≡ end - start

@@ -1,7 +1,6 @@
 -- What one pass over the entries of all lists keeps: the list that it goes over, and the twins that it has written.
-use Rattle.std.proofs.Common.{◌≡◌, ◌≢◌, ℕ, ◌+◌, ◌<◌, ◌≤◌, List, length, get_or, set, All, refl, sym, ap, ◌∙◌, subst, inl, inr, arith, get_or-set_same, get_or-set_other, length-set}
+use Rattle.std.proofs.Common.{◌≡◌, ◌≢◌, ℕ, ◌+◌, ◌<◌, ◌≤◌, List, length, get_or, set, All, sym, ap, ◌∙◌, subst, inl, inr, arith, get_or-set_same, get_or-set_other, length-set}
 use Rattle.std.proofs.lemmas.Bool.{cases_eq, cases_lt}
-use Rattle.std.proofs.lemmas.List.{get_or_default}
 use Rattle.std.proofs.lemmas.List.Elements.{All-set}
 use Rattle.simple_maps.specs.Pass.{IsSimpleList, IsPlaced, AreMutual}
 
@@ -12,21 +11,6 @@ pub record HasThreaded (entries tails twins tails' twins' newest : List ℕ) (st
   pub unset : All (λ m. 16777216 ≤ m) newest
   pub met : (i : ℕ) → start ≤ i → i < d → 16777217 + start ≤ get_or newest (get_or entries i 0) 0
   pub own : 16777217 + start ≤ get_or newest v 0
-
--- before the first entry
-pub HasThreaded-none : (entries tails twins newest : List ℕ) (start v base : ℕ) → v < length newest → base ≡ 16777217 + start → All (λ m. 16777216 ≤ m) newest → HasThreaded entries tails twins tails twins (set newest v base) start start v
-HasThreaded-none entries tails twins newest start v base l e unset = record {
-  list = record { distinct = λ i j a b c. absurd (omega arith); no_loop = λ i a b. absurd (omega arith) };
-  placed = record {
-    tail_kept = λ d m. refl;
-    twin_kept = λ d m. refl;
-    tail_here = λ d a b. absurd (omega arith);
-    twin_here = λ d a b. absurd (omega arith);
-  };
-  unset = All-set (λ m. 16777216 ≤ m) newest v base (omega arith) unset;
-  met = λ i a b. absurd (omega arith);
-  own = omega (arith, get_or-set_same newest v base 0 l);
-}
 
 -- a place in the list stays there, where another is written
 still : (newest : List ℕ) (u mark x bound : ℕ) → u < length newest → bound ≤ mark → bound ≤ get_or newest x 0 → bound ≤ get_or (set newest u mark) x 0

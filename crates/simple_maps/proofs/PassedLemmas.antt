@@ -1,16 +1,15 @@
 -- One pass over all lists: what holds before each, and that lists that pass are a simple map.
-use Rattle.std.proofs.Common.{ℕ, suc, ◌+◌, ◌-◌, ◌<◌, ◌≤◌, ◌≡◌, ◌≢◌, List, [], ◌∷◌, length, get_or, slice_get, All, Contains, Some, refl, sym, ap, ap₂, ◌∙◌, subst, inl, inr, arith}
+use Rattle.std.proofs.Common.{ℕ, suc, ◌+◌, ◌<◌, ◌≤◌, ◌≡◌, List, ◌∷◌, length, get_or, All, Some, sym, ap, ap₂, ◌∙◌, subst, inl, inr, arith}
 use Rattle.std.proofs.lemmas.Bool.{cases_lt}
 use Rattle.std.proofs.lemmas.List.{get_or_default}
 use Rattle.std.proofs.lemmas.Option.{slice_get-get_or}
-use Rattle.map_lists.specs.Lists.{Lists}
 use Rattle.map_lists.specs.Cuts.{cut, AreCuts}
-use Rattle.map_lists.proofs.CutLemmas.{length-cut, AreCuts-at}
-use Rattle.map_definitions.specs.Maps.{Dart, IsSimpleMap, HasDart, list_of, darts, dart_count, dart_number, place_of, twin_dart}
+use Rattle.map_lists.proofs.CutLemmas.{length-cut}
+use Rattle.map_definitions.specs.Maps.{Dart, HasDart, list_of, darts, dart_number, place_of, twin_dart}
 use Rattle.map_definitions.proofs.DartLemmas.{length-darts, get_or-dart_number, dart_number-lt, place_of-lt-length, get_or-place_of, HasDart-darts}
-use Rattle.simple_maps.specs.Tables.{AreTwins, AreSlots}
+use Rattle.simple_maps.specs.Tables.{AreSlots}
 use Rattle.simple_maps.specs.Pass.{IsSimpleList, IsPlaced, AreMutual}
-use Rattle.simple_maps.proofs.FlatLemmas.{length-list, end-is, entry-is, last-is, count-is, dart-by}
+use Rattle.simple_maps.proofs.FlatLemmas.{end-is, entry-is, last-is, count-is, dart-by}
 
 -- The lists before v have passed, and the next one begins at start.
 pub record HasPassed (entries ends tails twins newest : List ℕ) (start v : ℕ) : Type 0 where
@@ -21,18 +20,6 @@ pub record HasPassed (entries ends tails twins newest : List ℕ) (start v : ℕ
   pub below : (d : ℕ) → d < start → get_or tails d 0 < v
   pub pairs : AreMutual entries tails twins start
   pub unset : All (λ m. 16777216 ≤ m) newest
-
--- at first
-pub HasPassed-none : (entries ends tails twins newest : List ℕ) → All (λ m. 16777216 ≤ m) newest → HasPassed entries ends tails twins newest 0 0
-HasPassed-none entries ends tails twins newest unset = record {
-  start_is = refl;
-  before = λ w l. absurd (omega arith);
-  lists = λ w l. absurd (omega arith);
-  tails_are = λ w d l. absurd (omega arith);
-  below = λ d l. absurd (omega arith);
-  pairs = λ d l. absurd (omega arith);
-  unset = unset;
-}
 
 module _ (entries ends tails twins newest : List ℕ) (start v : ℕ) (h : HasPassed entries ends tails twins newest start v) (tails' twins' : List ℕ) (end : ℕ) (order : start ≤ end) (placed : IsPlaced tails twins tails' twins' start end v) where
   -- the darts of v's list have no twins yet
@@ -45,9 +32,6 @@ module _ (entries ends tails twins newest : List ℕ) (start v : ℕ) (h : HasPa
             rw same (omega (arith, old.0), old.1 ∙ sym (placed.tail_kept d m), placed.tail_kept (get_or twins d 0) old.0 ∙ old.2)
         | inr m ↦ absurd (let low = placed.twin_here d m l in omega arith)
       ]
-
-  pub below-placed : (d : ℕ) → d < start → get_or tails' d 0 < v
-  below-placed d l = omega (arith, placed.tail_kept d l, h.below d l)
 
   -- one list more
   pub HasPassed-more : (tails'' twins'' newest' : List ℕ) (next : ℕ) → end ≡ get_or ends v 0 → IsSimpleList entries start end v → ((d : ℕ) → get_or tails'' d 0 ≡ get_or tails' d 0) → AreMutual entries tails'' twins'' end → All (λ m. 16777216 ≤ m) newest' → next ≡ v + 1 → HasPassed entries ends tails'' twins'' newest' end next

@@ -1,6 +1,6 @@
-use Rattle.std.proofs.Common.{◌≡◌, ◌<◌, ℕ, length, drop, subst, sym, ap, ◌∙◌, arith}
+use Rattle.std.proofs.Common.{◌≡◌, length, drop, subst, ◌∙◌}
 use Rattle.std.proofs.lemmas.List.{take_at}
-use Rattle.map_lists.specs.Cuts.{AreCuts, ends_from}
+use Rattle.map_lists.specs.Cuts.{ends_from}
 use Rattle.half_edges.specs.Rounds.{AreRounds, AreRoundVertices}
 use Rattle.half_edges.proofs.RoundLemmas.{count_ends, few_old, cuts_old, short_lists, AreLinked-rounds}
 use Rattle.half_edges.proofs.arena.link_darts.Goals as goal

@@ -1,5 +1,5 @@
 -- The number of a byte joins the lists, and does not close the last of them.
-use Rattle.std.proofs.Common.{◌+◌, take, arith}
+use Rattle.std.proofs.Common.{arith}
 use Rattle.planar_code.proofs.GatherLemmas.{narrow-gathers, still-some}
 use Rattle.planar_code.proofs.gather.narrow_numbers.Goals as goal
 use Rattle.planar_code.proofs.gather.narrow_numbers.Goals.{else-number-eq0-via-then-number-eq0+else-closed-count, else-number-eq0-via-else-number-eq0}

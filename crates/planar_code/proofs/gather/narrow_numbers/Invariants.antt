@@ -1,5 +1,5 @@
 -- The numbers before byte k have joined the lists, and have not closed all.
-use Rattle.std.proofs.Common.{◌<◌, ◌≡◌, length, take}
+use Rattle.std.proofs.Common.{◌<◌, length, take}
 use Rattle.planar_code.specs.Open.{Gathers}
 use Rattle.planar_code.proofs.gather.narrow_numbers.Given as goal
 

@@ -1,5 +1,5 @@
 -- The number of a pair of bytes joins the lists.
-use Rattle.std.proofs.Common.{◌≡◌, ◌+◌, ◌*◌, ◌<◌, ℕ, List, length, get_or, take, refl, subst, arith}
+use Rattle.std.proofs.Common.{◌≡◌, ◌+◌, ◌*◌, ℕ, get_or, take, refl, subst, arith}
 use Rattle.std.proofs.lemmas.List.{length-take-le}
 use Rattle.planar_code.proofs.GatherLemmas.{GathersWide, wide-gathers, wide-room, still-some}
 use Rattle.planar_code.proofs.gather.wide_numbers.Goals as goal

@@ -1,5 +1,5 @@
 -- The numbers before pair k have joined the lists, and have not closed all.
-use Rattle.std.proofs.Common.{◌*◌, ◌<◌, ◌≡◌, length, take}
+use Rattle.std.proofs.Common.{◌*◌, ◌<◌, length, take}
 use Rattle.planar_code.proofs.GatherLemmas.{GathersWide}
 use Rattle.planar_code.proofs.gather.wide_numbers.Given as goal
 

@@ -1,6 +1,6 @@
 -- Bytes that join those passed, and a record or a bad count that ends with them.
 use Rattle.std.proofs.Common.{rules, ◌≡◌, ◌+◌, ◌-◌, List, ℕ, ◌++◌, length, take, drop, refl, subst, ◌∙◌, arith}
-use Rattle.std.proofs.lemmas.List.{take_all, take_rest, length-drop}
+use Rattle.std.proofs.lemmas.List.{take_all, take_rest}
 use Rattle.std.specs.Prelude.{IsFalse}
 use Rattle.planar_code.specs.Reading.{NoRecord, has_bad_count}
 use Rattle.planar_code.specs.Scan.{Passes}

@@ -3,7 +3,6 @@ use Rattle.std.proofs.Common.{◌∷◌, [], get_or, subst, arith}
 use Rattle.planar_code.specs.Place.{state_of}
 use Rattle.planar_code.specs.Taken.{Takes}
 use Rattle.planar_code.specs.declared.reader.Taken.{Taken}
-use Rattle.planar_code.specs.declared.reader.Taken.TheVariants.{More}
 use Rattle.planar_code.proofs.PlaceLemmas.{rest-takes, byte-stops, next-joins}
 use Rattle.planar_code.proofs.reader.take_piece.Goals as goal
 

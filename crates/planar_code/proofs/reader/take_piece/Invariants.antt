@@ -1,5 +1,5 @@
 -- The bytes before byte k have joined those pending.
-use Rattle.std.proofs.Common.{◌+◌, ◌-◌, ◌<◌, ◌≤◌, ◌≡◌, length, take}
+use Rattle.std.proofs.Common.{◌+◌, ◌-◌, ◌≤◌, ◌≡◌, length, take}
 use Rattle.planar_code.specs.Reading.{input_limit}
 use Rattle.planar_code.specs.Front.{IsCounted}
 use Rattle.planar_code.specs.Place.{state_of}

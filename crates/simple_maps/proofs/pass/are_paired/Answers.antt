@@ -1,4 +1,4 @@
-use Rattle.std.proofs.Common.{◌≡◌, ◌<◌, ◌≤◌, get_or, map, sym, ap, ◌∙◌, length, arith, inl, inr, ltb, ltb-true, All, ℕ}
+use Rattle.std.proofs.Common.{◌≡◌, ◌<◌, get_or, map, sym, ap, ◌∙◌, arith, inl, inr, ltb, ltb-true, All, ℕ}
 use Rattle.std.proofs.lemmas.Bool.{OnTrue_from, cases_lt}
 use Rattle.std.proofs.lemmas.List.{get_or-map, length-map, get_or_default}
 use Rattle.std.proofs.lemmas.Grind.{common_steps}

@@ -1,4 +1,4 @@
-use Rattle.std.proofs.Common.{◌≡◌, ℕ, ◌+◌, ◌<◌, length, get_or, map, set, refl, sym, ap, ◌∙◌, arith, length-set}
+use Rattle.std.proofs.Common.{ℕ, ◌+◌, get_or, map, refl, ◌∙◌, arith, length-set}
 use Rattle.std.proofs.lemmas.List.{length-map, map-set}
 use Rattle.simple_maps.proofs.PassLemmas.{HasThreaded-more}
 use Rattle.simple_maps.proofs.pass.thread_list.Goals as goal

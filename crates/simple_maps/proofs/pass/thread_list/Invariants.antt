@@ -1,5 +1,4 @@
-use Rattle.std.proofs.Common.{ℕ, ◌<◌, ◌≤◌, ◌≡◌, length, get_or, map, All}
-use Rattle.simple_maps.specs.Pass.{IsSimpleList, IsPlaced}
+use Rattle.std.proofs.Common.{◌≡◌, length, map}
 use Rattle.simple_maps.proofs.PassLemmas.{HasThreaded}
 use Rattle.simple_maps.proofs.pass.thread_list.Given as goal
 

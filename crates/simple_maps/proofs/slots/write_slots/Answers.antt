@@ -1,4 +1,4 @@
-use Rattle.std.proofs.Common.{◌≡◌, ℕ, ◌<◌, length, get_or, map, set, refl, sym, ap, ◌∙◌, inl, inr, arith, length-set, get_or-set_same, get_or-set_other}
+use Rattle.std.proofs.Common.{ℕ, get_or, map, ◌∙◌, arith, length-set}
 use Rattle.std.proofs.lemmas.List.{length-map, map-set}
 use Rattle.simple_maps.proofs.PassLemmas.{written_more}
 use Rattle.simple_maps.proofs.slots.write_slots.Goals as goal

@@ -3,7 +3,6 @@ use Rattle.simple_maps.proofs.FaultLemmas.{first_fault-IsSimpleMap}
 use Rattle.half_edges.proofs.ArenaLemmas.{known}
 use Rattle.half_edges.proofs.TableArena.{invariant_from_tables, lists_from_tables}
 use Rattle.half_edges.proofs.MapLemmas.{few_ends, half_of_ends}
-use Rattle.half_edges.specs.Tables.{AreLinked}
 use Rattle.half_edges.proofs.half_map.HalfMap.from_rotations.Goals as goal
 
 pub overflow_cast-edges : goal.overflow_cast-edges

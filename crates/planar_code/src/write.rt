@@ -1,0 +1,95 @@
+//! Records as bytes.
+ghost use Rattle.std.specs.Prelude.{◌≡◌, ◌+◌, ◌<◌, ◌≤◌, ◌++◌, length, take, All, flat_map, OnOk, OnErr};
+ghost use Rattle.planar_code.specs.Reading.{IsRecord, list_numbers, record_numbers};
+ghost use Rattle.planar_code.specs.Scan.{most_lists};
+ghost use Rattle.planar_code.specs.Write.{spelled, entry_limit, first_bytes, record_bytes, is_wide, AreBelow};
+
+use map_lists::Rotations;
+use std::alloc::AllocError;
+
+// Appends a number, in two bytes or in one. After an error the bytes before are as they were.
+fn write_number(wide: bool, number: u16, out: &mut Vec<u8>) -> Result<(), AllocError>
+    requires { number ≤ entry_limit wide }
+    ensures ok { OnOk result (out.new.items ≡ out.old.items ++ spelled wide number) }
+    ensures err { OnErr result (take (length out.old.items) out.new.items ≡ out.old.items) }
+{
+    if wide {
+        out.push((number / 256) as u8)?;
+        out.push((number % 256) as u8)?;
+        Ok(())
+    } else {
+        out.push(number as u8)?;
+        Ok(())
+    }
+}
+
+// Appends the numbers of a list, and the 0 that closes it.
+fn write_list(wide: bool, list: &[u16], out: &mut Vec<u8>) -> Result<(), AllocError>
+    requires { All (λ u. u < entry_limit wide) list.now }
+    ensures ok { OnOk result (out.new.items ≡ out.old.items ++ flat_map (spelled wide) (list_numbers list.now)) }
+    ensures err { OnErr result (take (length out.old.items) out.new.items ≡ out.old.items) }
+{
+    for k in 0..list.len() {
+        write_number(wide, list[k] + 1, out)?;
+    }
+    write_number(wide, 0, out)
+}
+
+// Appends the numbers of all lists.
+fn write_lists(wide: bool, lists: &Rotations, out: &mut Vec<u8>) -> Result<(), AllocError>
+    requires { AreBelow (entry_limit wide) lists.now }
+    ensures ok { OnOk result (out.new.items ≡ out.old.items ++ flat_map (spelled wide) (record_numbers lists.now)) }
+    ensures err { OnErr result (take (length out.old.items) out.new.items ≡ out.old.items) }
+{
+    for v in 0..lists.len() {
+        write_list(wide, lists.list(v), out)?;
+    }
+    Ok(())
+}
+
+// Appends the byte 0 of a wide record.
+fn write_first(wide: bool, out: &mut Vec<u8>) -> Result<(), AllocError>
+    ensures ok { OnOk result (out.new.items ≡ out.old.items ++ first_bytes wide) }
+    ensures err { OnErr result (out.new.items ≡ out.old.items) }
+{
+    if wide {
+        out.push(0)?;
+        Ok(())
+    } else {
+        Ok(())
+    }
+}
+
+// Appends a record, or a part of it.
+fn write_whole(lists: &Rotations, out: &mut Vec<u8>) -> Result<(), AllocError>
+    requires few { length lists.now ≤ most_lists }
+    requires below { AreBelow (entry_limit (is_wide lists.now)) lists.now }
+    ensures ok { OnOk result (out.new.items ≡ out.old.items ++ record_bytes lists.now) }
+    ensures err { OnErr result (take (length out.old.items) out.new.items ≡ out.old.items) }
+{
+    let wide = 255 < lists.len();
+    write_first(wide, out)?;
+    write_number(wide, lists.len() as u16, out)?;
+    write_lists(wide, lists, out)
+}
+
+/// Appends the record of some lists, from 1 to 4095: in the narrow form for at most 255 lists, and in
+/// the wide form for more. Entries are below 255 in the narrow form and below 65535 in the wide one.
+/// After want of memory the bytes are as they were.
+pub fn write_record(lists: &Rotations, out: &mut Vec<u8>) -> Result<(), AllocError>
+    requires some { 0 < length lists.now }
+    requires few { length lists.now ≤ most_lists }
+    requires below { AreBelow (entry_limit (is_wide lists.now)) lists.now }
+    ensures written { OnOk result (out.new.items ≡ out.old.items ++ record_bytes lists.now) }
+    ensures reads { IsRecord (record_bytes lists.now) lists.now }
+    ensures err { OnErr result (out.new.items ≡ out.old.items) }
+{
+    let before = out.len();
+    match write_whole(lists, out) {
+        Ok(()) => Ok(()),
+        Err(_) => {
+            out.truncate(before);
+            Err(AllocError)
+        }
+    }
+}
