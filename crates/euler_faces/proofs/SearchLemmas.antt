@@ -1,21 +1,20 @@
 -- What a search from a vertex has marked, step by step, and that in the end it is the vertex's part.
-use Rattle.std.proofs.Common.{◌≡◌, ◌≢◌, ◌||◌, ℕ, zero, suc, ◌+◌, ◌-◌, ◌<◌, ◌≤◌, Bool, true, false, not, List, [], ◌∷◌, ◌++◌, length, set, get_or, refl, sym, ap, ◌∙◌, subst, inl, inr, arith, get_or-set_same, get_or-set_other, length-set}
+use Rattle.std.proofs.Common.{◌≡◌, ◌≢◌, ◌||◌, ℕ, zero, suc, ◌+◌, ◌-◌, ◌<◌, ◌≤◌, Bool, true, false, not, List, ◌∷◌, length, set, get_or, refl, sym, ap, ◌∙◌, subst, inl, inr, arith, get_or-set_same, get_or-set_other}
 use Rattle.std.proofs.lemmas.List.{get_or_default}
 use Rattle.std.proofs.lemmas.Bool.{cases_Bool, cases_eq, or_left, or_right, false≢true, false_from_ne_true}
-use Rattle.std.specs.List.{Contains, All}
-use Rattle.std.proofs.lemmas.List.Elements.{Contains-append_left, Contains-push, Contains-push_cases}
+use Rattle.std.specs.List.{All}
 use Rattle.label_classes.specs.Classes.{same_class}
 use Rattle.map_lists.specs.Lists.{Lists}
 use Rattle.map_lists.specs.Cuts.{cut, AreCuts}
 use Rattle.map_lists.proofs.CutLemmas.{length-cut}
-use Rattle.map_definitions.specs.Maps.{Dart, darts, dart_number, list_of, place_of, HasDart, IsSimpleMap, component_classes}
+use Rattle.map_definitions.specs.Maps.{Dart, darts, dart_number, list_of, HasDart, IsSimpleMap, component_classes}
 use Rattle.label_classes.proofs.Counting.{count_below_more}
 use Rattle.label_classes.proofs.Classes.{Together, Together-from, same_class-from, PairsBelow, classes-holds, classes-marked, length-classes}
 use Rattle.simple_maps.proofs.FlatLemmas.{entry-is, end-is}
-use Rattle.map_definitions.proofs.DartLemmas.{HasDart-at, IsDartNumber-darts, length-darts, get_or-dart_number, dart_number-lt, get_or-place_of, place_of-lt-length}
+use Rattle.map_definitions.proofs.DartLemmas.{HasDart-at, IsDartNumber-darts, length-darts, get_or-dart_number, dart_number-lt}
 use Rattle.label_classes.proofs.Marks.{IsCounting, IsCounting-together}
 use Rattle.euler_faces.specs.Numbers.{mark_at}
-use Rattle.euler_faces.specs.Search.{AllMarked, Waits, IsSearching, unmarked_below, None_open}
+use Rattle.euler_faces.specs.Search.{AllMarked, IsSearching, unmarked_below, None_open}
 
 -- a mark set leaves one fewer to set
 pub unmarked_below-set : (marked : List Bool) (w n : ℕ) → w < n → w < length marked → mark_at marked w ≡ false → unmarked_below marked n ≡ unmarked_below (set marked w true) n + 1

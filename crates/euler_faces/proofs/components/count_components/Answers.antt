@@ -1,4 +1,4 @@
-use Rattle.std.proofs.Common.{length, arith, refl, sym, ◌∙◌}
+use Rattle.std.proofs.Common.{length, arith, refl, ◌∙◌}
 use Rattle.label_classes.proofs.Classes.{length-classes, IsLabels-classes}
 use Rattle.label_classes.proofs.Marks.{IsCounting-none, IsCounting-le, IsCounting-new, IsCounting-old, IsCounting-all}
 use Rattle.map_lists.specs.Cuts.{cut}
