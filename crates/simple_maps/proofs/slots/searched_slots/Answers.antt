@@ -1,4 +1,4 @@
-use Rattle.std.proofs.Common.{◌≡◌, ℕ, List, length, get_or, map, drop, arith, ap, subst, ◌∙◌}
+use Rattle.std.proofs.Common.{◌≡◌, ℕ, List, length, get_or, drop, arith, ap, subst, ◌∙◌}
 use Rattle.std.proofs.lemmas.List.{take_at, length-map}
 use Rattle.std.specs.Prelude.{slice_get}
 use Rattle.map_definitions.specs.Maps.{Dart, darts}
