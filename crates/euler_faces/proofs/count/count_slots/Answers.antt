@@ -61,8 +61,8 @@ invariant_of-result c =
     let bound = euler_bound_map lists c.requires.slots.simple in
     let orbits = c.count_orbits-orbits.ensures.count in
     let isolated = c.count_isolated-isolated.ensures.count c.args.entries.now c.requires.cuts in
-    let components = c.count_components-c.ensures.count in
-    let few_components = c.count_components-c.ensures.few in
+    let components = c.number_components-c.ensures.count in
+    let few_components = c.number_components-c.ensures.few in
     let halves : edge_count lists ≡ length c.args.entries.now / 2 = ap (λ n. n / 2) all in
     record {
       few_vertices = omega arith;
