@@ -1,0 +1,8 @@
+-- The lemmas on checks of drawings.
+pub mod LeastLemmas
+pub mod MetLemmas
+pub mod OnceLemmas
+pub mod RoundLemmas
+pub mod Segments
+pub mod TurnLemmas
+pub mod ValidYes
