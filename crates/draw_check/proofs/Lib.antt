@@ -1,4 +1,6 @@
 -- The lemmas on checks of drawings.
+pub mod FaceIds
+pub mod FaceLemmas
 pub mod LeastLemmas
 pub mod MetLemmas
 pub mod OnceLemmas

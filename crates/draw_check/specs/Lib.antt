@@ -4,3 +4,5 @@ pub mod Faults
 pub mod Verdicts
 pub mod Laws
 pub mod Loops
+pub mod FaceVerdicts
+pub mod FaceLaws

@@ -1,9 +1,11 @@
 //! Verdicts on drawings that were worked out by hand.
-ghost use Rattle.std.specs.Prelude.{◌<◌, ℕ, length, IsTrue};
+ghost use Rattle.std.specs.Prelude.{◌≡◌, ◌<◌, ◌≤◌, ◌+◌, ◌*◌, ◌^◌, ℕ, length, IsTrue, IfOk};
+ghost use Rattle.plane_laws.specs.Completed.{IsCompleted};
 ghost use Rattle.pg_plane.specs.Range.{IsInRange};
 ghost use Rattle.drawings.specs.Drawing.{place};
 
-use crate::{Verdict, check};
+use crate::{FaceVerdict, Verdict, check, check_by_faces};
+use euler_faces::euler;
 use half_edges::{Ends, HalfMap, Rotations, VertexId};
 use pg_plane::{GridFigure, Point, Points};
 use std::alloc::Global;
@@ -69,6 +71,28 @@ fn verdict_of(
     let fig = figure_of(alloc, places, width, height)?;
     assert!(rt; fig.points.len() == map.n() as usize && are_in_range(&fig.points));
     Ok(check(&map, &fig))
+}
+
+// Whether these are the counts of a completed map.
+fn are_completed(n: u64, m: u64, f: u64, c: u64) -> bool
+    requires { (n < 2 ^ 32) × (m < 2 ^ 32) × (f < 2 ^ 32) × (c < 2 ^ 32) }
+    ensures { IsTrue result → (3 ≤ n) × (n + f ≡ 2 * c + m) × (m + 6 ≡ 3 * n) }
+{
+    3 <= n && n + f == 2 * c + m && m + 6 == 3 * n
+}
+
+// Whether a map is completed.
+fn is_completed(alloc: Global, map: &HalfMap) -> Result<bool, Fail>
+    ensures { IfOk result (λ r. IsTrue r → IsCompleted map.now.lists) }
+{
+    map.facts();
+    let count = euler(alloc, map)?;
+    Ok(are_completed(
+        u64::from(count.n),
+        u64::from(count.m),
+        u64::from(count.f),
+        u64::from(count.c),
+    ))
 }
 
 fn edge(rt: &impl Abort, a: u16, b: u16) -> Ends {
@@ -182,5 +206,29 @@ fn the_ends_of_the_range(rt: HostRuntime) -> Result<(), Fail> {
         verdict_of(&rt, rt.alloc(), cross, &inside, MOST, MOST)?,
         Verdict::Cross(edge(&rt, 0, 1), edge(&rt, 2, 3))
     );
+    Ok(())
+}
+
+#[test]
+fn faces_of_k4(rt: HostRuntime) -> Result<(), Fail> {
+    let rows: [(&[(i32, i32)], FaceVerdict); 3] = [
+        (&[(4, 0), (0, 0), (2, 1), (2, 2)], FaceVerdict::Yes),
+        (
+            &[(4, 0), (0, 0), (2, 2), (2, 2)],
+            FaceVerdict::Wrong(VertexId(0), VertexId(3), VertexId(2)),
+        ),
+        (
+            &[(4, 0), (0, 0), (2, 1), (2, 3)],
+            FaceVerdict::OutOfGrid(VertexId(3)),
+        ),
+    ];
+    let map = map_of(&rt, rt.alloc(), K4)?;
+    assert!(rt; 1 < map.n() && is_completed(rt.alloc(), &map)?);
+    let base = map.dart_of(VertexId(0), VertexId(1)).ok_or("no dart")?;
+    for (places, verdict) in rows {
+        let fig = figure_of(rt.alloc(), places, 4, 2)?;
+        assert!(rt; fig.points.len() == map.n() as usize && are_in_range(&fig.points));
+        assert_eq!(rt; check_by_faces(&map, base, &fig), verdict);
+    }
     Ok(())
 }

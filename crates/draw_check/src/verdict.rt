@@ -19,3 +19,15 @@ pub enum Verdict {
     /// There is no fault.
     Yes,
 }
+
+/// Whether the faces of a drawing of a completed map are drawn as they should be.
+#[derive(Clone, Copy, Debug, PartialEq, Eq)]
+pub enum FaceVerdict {
+    /// The least vertex outside the grid.
+    OutOfGrid(VertexId),
+    /// All points lie in the grid, and this is the least face walk, written from its least vertex, that is
+    /// not counterclockwise, or not clockwise for the face left of the base.
+    Wrong(VertexId, VertexId, VertexId),
+    /// There is no such vertex and no such face.
+    Yes,
+}
