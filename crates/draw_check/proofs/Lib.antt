@@ -5,6 +5,9 @@ pub mod LeastLemmas
 pub mod MetLemmas
 pub mod OnceLemmas
 pub mod RoundLemmas
+pub mod ClockOrder
+pub mod RoundOrder
 pub mod Segments
 pub mod TurnLemmas
+pub mod ValidFewer
 pub mod ValidYes

@@ -62,7 +62,11 @@ fn turns_well(points: &Points, is_outer: bool, a: VertexId, b: VertexId, c: Vert
     ensures { IsTrue result ↔ MatchBool is_outer (area (place points.now a.0) (place points.now b.0) (place points.now c.0) <ℤ pos 0)
         (pos 0 <ℤ area (place points.now a.0) (place points.now b.0) (place points.now c.0)) }
 {
-    let double = area2(place_at(points, a), place_at(points, b), place_at(points, c));
+    let double = area2(
+        place_at(points, a),
+        place_at(points, b),
+        place_at(points, c),
+    );
     has_sign(double, is_outer)
 }
 

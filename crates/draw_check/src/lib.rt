@@ -3,7 +3,7 @@
 #![tactic(auto)]
 
 ghost use Rattle.draw_check.specs.FaceLaws.{FacesYesIsYes};
-ghost use Rattle.draw_check.specs.Laws.{YesIsValid};
+ghost use Rattle.draw_check.specs.Laws.{ValidWithFewer, YesIsValid};
 
 mod crossings;
 mod edges;
@@ -14,16 +14,21 @@ mod rounds;
 mod turns;
 mod verdict;
 
+use drawings::counterclockwise_is_plane;
 pub use faces::check_by_faces;
 pub use pairs::check;
-use drawings::counterclockwise_is_plane;
-
 pub use verdict::{FaceVerdict, Verdict};
 
 /// The verdict is `Yes` exactly where all points lie in the grid, the drawing is plane and the rotations
 /// are kept.
 pub fn yes_is_valid()
     ensures { YesIsValid }
+{}
+
+/// A drawing that is valid for a map with more edges, as for a completion, is valid for the map itself: it
+/// stays in the grid and plane, and keeps the rotations.
+pub fn valid_with_fewer()
+    ensures { ValidWithFewer }
 {}
 
 /// Where `check_by_faces` answers `Yes`, `check` does.
