@@ -1,5 +1,6 @@
 -- How a run of the top call ends.
-use Rattle.std.proofs.Common.{◌≡◌, ℕ, List, [], refl, inl, arith, Option, Some, None}
+use Rattle.std.proofs.Common.{◌≡◌, ℕ, List, [], refl, sym, ap, ◌∙◌, inl, arith, Option, Some, None}
+use Rattle.planar_code.specs.Reading.{Ending as SpokenEnding, well, end_in_record, bad_count, too_long}
 use Rattle.planar_code.specs.State.{at_front}
 use Rattle.planar_code.proofs.ProgressLemmas.{Progress-start, Progress-begins}
 use Rattle.planar_code.proofs.ReadingLemmas.{reading-unique}
@@ -9,6 +10,9 @@ use Rattle.record_runs.specs.Outcome.{Ports, Outcome as RunOutcome}
 use Rattle.record_runs.specs.declared.run.RunEnd.{RunEnd}
 use Rattle.record_runs.specs.declared.run.RunEnd.TheVariants as ended
 use Rattle.pigale_shell.specs.Text.{bad_words_line}
+use Rattle.pigale_shell.specs.Lines.{ending_of}
+use Rattle.pigale_shell.specs.declared.lines.Ending.{Ending}
+use Rattle.pigale_shell.specs.declared.lines.Ending.TheVariants.{Well, EndInRecord, BadCount, TooLong}
 use Rattle.pigale_shell.specs.Answer.{planar_answers}
 use Rattle.pigale_shell.specs.PlanarCode.{planar_code}
 use Rattle.pigale_shell.specs.JobInput.{RecordOf, EndingOf, reads_of, answers_of}
@@ -18,9 +22,24 @@ use Rattle.pigale_shell.specs.declared.job.Job.TheVariants.{Count}
 use Rattle.pigale_shell.specs.declared.job.Status.{Status}
 use Rattle.pigale_shell.specs.declared.job.Status.TheVariants.{Done, SomeRefused, BadWords, BadInput, ReadFault, WriteFault, NoMemory}
 
+-- an ending of a reading, as the code has it
+told : SpokenEnding → Ending
+told well = Well
+told (end_in_record at) = EndInRecord at
+told (bad_count at) = BadCount at
+told too_long = TooLong
+
+told-ending_of : (ending : Ending) → told (ending_of ending) ≡ ending
+unfolding told
+told-ending_of Well = refl
+told-ending_of (EndInRecord at) = refl
+told-ending_of (BadCount at) = refl
+told-ending_of TooLong = refl
+
 -- each input of a job is read in one way
 one_ending : (job : Job) (input : List ℕ) (records records' : List (RecordOf job)) (ending ending' : EndingOf job) → (reads_of job).IsReading input records ending → (reads_of job).IsReading input records' ending' → ending ≡ ending'
-one_ending Count input records records' ending ending' reading reading' = (reading-unique input records records' ending ending' reading reading').1
+one_ending Count input records records' ending ending' reading reading' =
+    sym (told-ending_of ending) ∙ ap told (reading-unique input records records' (ending_of ending) (ending_of ending') reading reading').1 ∙ told-ending_of ending'
 
 -- each input begins with no records
 begins_none : (job : Job) (input : List ℕ) → (reads_of job).BeginsWith input []

@@ -1,9 +1,9 @@
--- What each job reads, and what it answers.
+-- What each job reads, and what it writes.
 use Rattle.map_lists.specs.Lists.{Lists}
-use Rattle.planar_code.specs.Reading.{Ending}
 use Rattle.record_runs.specs.Texts.{Reads, Answers}
 use Rattle.pigale_shell.specs.Answer.{planar_answers}
 use Rattle.pigale_shell.specs.PlanarCode.{planar_code}
+use Rattle.pigale_shell.specs.declared.lines.Ending.{Ending}
 use Rattle.pigale_shell.specs.declared.job.Job.{Job}
 use Rattle.pigale_shell.specs.declared.job.Job.TheVariants.{Count}
 
@@ -19,6 +19,6 @@ EndingOf Count = Ending
 abbrev pub reads_of : (job : Job) → Reads (RecordOf job) (EndingOf job)
 reads_of Count = planar_code
 
--- what it answers for a record
-abbrev pub answers_of : (job : Job) → Answers (RecordOf job)
+-- its answers, and the last line
+abbrev pub answers_of : (job : Job) → Answers (RecordOf job) (EndingOf job)
 answers_of Count = planar_answers Count
