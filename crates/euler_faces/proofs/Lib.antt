@@ -1,6 +1,6 @@
 -- Lemmas on darts by their numbers.
 pub mod NumberLemmas
 mod IsolatedLemmas
-mod SearchLemmas
+pub mod SearchLemmas
 mod FaceWalkLemmas
 mod OrbitLemmas

@@ -1,21 +1,21 @@
 -- What a search from a vertex has marked, step by step, and that in the end it is the vertex's part.
-use Rattle.std.proofs.Common.{◌≡◌, ◌≢◌, ◌||◌, ℕ, zero, suc, ◌+◌, ◌-◌, ◌<◌, ◌≤◌, Bool, true, false, not, List, [], ◌∷◌, ◌++◌, length, set, get_or, refl, sym, ap, ◌∙◌, subst, inl, inr, arith, get_or-set_same, get_or-set_other, length-set}
-use Rattle.std.proofs.lemmas.List.{get_or_default}
-use Rattle.std.proofs.lemmas.Bool.{cases_Bool, cases_eq, or_left, or_right, false≢true, false_from_ne_true}
-use Rattle.std.specs.List.{Contains, All}
-use Rattle.std.proofs.lemmas.List.Elements.{Contains-append_left, Contains-push, Contains-push_cases}
-use Rattle.label_classes.specs.Classes.{same_class}
+use Rattle.std.proofs.Common.{◌≡◌, ◌≢◌, ◌||◌, ℕ, zero, suc, ◌+◌, ◌-◌, ◌<◌, ◌≤◌, Bool, true, false, not, List, [], ◌∷◌, ◌++◌, length, set, get_or, refl, sym, ap, ◌∙◌, subst, inl, inr, arith, get_or-set_same, get_or-set_other, take, replicate, ◌==◌}
+use Rattle.std.proofs.lemmas.List.{get_or_default, get_or-map, map-set, length-map}
+use Rattle.std.proofs.Math.Seq.{take-nil}
+use Rattle.std.proofs.lemmas.Bool.{cases_Bool, cases_eq, or_left, or_right, false≢true, false_from_ne_true, ne_eqb, ltb-false}
+use Rattle.std.specs.List.{All}
+use Rattle.label_classes.specs.Classes.{count_below, label, same_class}
 use Rattle.map_lists.specs.Lists.{Lists}
 use Rattle.map_lists.specs.Cuts.{cut, AreCuts}
 use Rattle.map_lists.proofs.CutLemmas.{length-cut}
-use Rattle.map_definitions.specs.Maps.{Dart, darts, dart_number, list_of, place_of, HasDart, IsSimpleMap, component_classes}
+use Rattle.map_definitions.specs.Maps.{Dart, darts, dart_number, list_of, HasDart, IsSimpleMap, component_classes}
 use Rattle.label_classes.proofs.Counting.{count_below_more}
-use Rattle.label_classes.proofs.Classes.{Together, Together-from, same_class-from, PairsBelow, classes-holds, classes-marked, length-classes}
+use Rattle.label_classes.proofs.Classes.{Together, Together-from, same_class-from, PairsBelow, classes-holds, classes-marked, length-classes, IsLabels-classes}
 use Rattle.simple_maps.proofs.FlatLemmas.{entry-is, end-is}
-use Rattle.map_definitions.proofs.DartLemmas.{HasDart-at, IsDartNumber-darts, length-darts, get_or-dart_number, dart_number-lt, get_or-place_of, place_of-lt-length}
+use Rattle.map_definitions.proofs.DartLemmas.{HasDart-at, IsDartNumber-darts, length-darts, get_or-dart_number, dart_number-lt}
 use Rattle.label_classes.proofs.Marks.{IsCounting, IsCounting-together}
 use Rattle.euler_faces.specs.Numbers.{mark_at}
-use Rattle.euler_faces.specs.Search.{AllMarked, Waits, IsSearching, unmarked_below, None_open}
+use Rattle.euler_faces.specs.Search.{AllMarked, IsSearching, IsNumbered, component_number, marks_of, unmarked_below, None_open}
 
 -- a mark set leaves one fewer to set
 pub unmarked_below-set : (marked : List Bool) (w n : ℕ) → w < n → w < length marked → mark_at marked w ≡ false → unmarked_below marked n ≡ unmarked_below (set marked w true) n + 1
@@ -69,6 +69,82 @@ set-keeps marked w x l on =
     elim (cases_eq x w) [
       | inl e ↦ ap (λ (y : ℕ). mark_at (set marked w true) y) e ∙ set-here marked w l
       | inr ne ↦ get_or-set_other marked w x true false ne ∙ on
+    ]
+
+-- a number given is a mark set
+pub marks-set : (numbers : List ℕ) (w number : ℕ) → number < 65535 → marks_of (set numbers w number) ≡ set (marks_of numbers) w true
+marks-set numbers w number few =
+    map-set (λ x. not (x == 65535)) numbers w number
+    ∙ ap (λ b. set (marks_of numbers) w (not b)) (ne_eqb number 65535 (omega arith))
+
+pub length-marks_of : (numbers : List ℕ) → length (marks_of numbers) ≡ length numbers
+length-marks_of numbers = length-map numbers (λ x. not (x == 65535))
+
+-- a vertex has 65535 for its number where it has none
+pub unmet : (numbers : List ℕ) (w : ℕ) → w < length numbers → get_or numbers w 0 ≡ 65535 → mark_at (marks_of numbers) w ≡ false
+unmet numbers w l e = get_or-map (λ x. not (x == 65535)) numbers w 0 false l ∙ ap (λ x. not (x == 65535)) e
+
+pub met : (numbers : List ℕ) (w : ℕ) → w < length numbers → get_or numbers w 0 ≢ 65535 → mark_at (marks_of numbers) w ≡ true
+met numbers w l ne = get_or-map (λ x. not (x == 65535)) numbers w 0 false l ∙ ap not (ne_eqb (get_or numbers w 0) 65535 ne)
+
+-- where no vertex has a number none is marked
+unset : (n u : ℕ) → mark_at (marks_of (replicate n 65535)) u ≡ false
+unset zero u = refl
+unset (suc n) zero = refl
+unset (suc n) (suc u) = unset n u
+
+pub unset_after : (old items : List ℕ) (n k u : ℕ) → old ≡ [] → items ≡ take n old ++ replicate k 65535 → mark_at (marks_of items) u ≡ false
+unset_after old items n k u none e = rw (e, none, take-nil) (unset k u)
+
+-- no vertex has got a number
+pub IsNumbered-itself : (numbers : List ℕ) (number : ℕ) → IsNumbered numbers numbers number
+IsNumbered-itself numbers number = record {
+  marked = λ u t. t;
+  stays = λ u t. refl;
+  here = λ u f t. absurd (false≢true (sym f ∙ t));
+}
+
+-- one vertex gets the number
+pub IsNumbered-set : (numbers : List ℕ) (w number : ℕ) → number < 65535 → w < length numbers → mark_at (marks_of numbers) w ≡ false → IsNumbered numbers (set numbers w number) number
+IsNumbered-set numbers w number few l off =
+    let e = marks-set numbers w number few in
+    record {
+      marked = λ u t. rw e (set-keeps (marks_of numbers) w u (omega (arith, length-marks_of numbers)) t);
+      stays = λ u t. elim (cases_eq u w) [
+        | inl q ↦ absurd (false≢true (sym off ∙ (ap (mark_at (marks_of numbers)) (sym q) ∙ t)))
+        | inr ne ↦ get_or-set_other numbers w u number 0 ne
+      ];
+      here = λ u f t. elim (cases_eq u w) [
+        | inl q ↦ ap (λ i. get_or (set numbers w number) i 0) q ∙ get_or-set_same numbers w number 0 l
+        | inr ne ↦ absurd (false≢true (sym f ∙ (sym (get_or-set_other (marks_of numbers) w u true false ne) ∙ rw e at t)))
+      ];
+    }
+
+-- and more get it
+pub IsNumbered-chained : (one two three : List ℕ) (number : ℕ) → IsNumbered one two number → IsNumbered two three number → IsNumbered one three number
+IsNumbered-chained one two three number h h' = record {
+  marked = λ u t. h'.marked u (h.marked u t);
+  stays = λ u t. h'.stays u (h.marked u t) ∙ h.stays u t;
+  here = λ u f t. elim (cases_Bool (mark_at (marks_of two) u)) [
+    | inl on ↦ h'.stays u on ∙ h.here u f on
+    | inr off ↦ h'.here u off t
+  ];
+}
+
+-- the component of a vertex that had no number has got the count of those before: all numbers are those of components
+pub component_numbers : (lists : Lists) (old new : List ℕ) (count v : ℕ) → IsSimpleMap lists → IsCounting (component_classes lists) (mark_at (marks_of old)) count v → v < length lists → mark_at (marks_of old) v ≡ false → ((i : ℕ) → i < length lists → mark_at (marks_of new) i ≡ (mark_at (marks_of old) i || same_class (component_classes lists) v i)) → IsNumbered old new count → ((u : ℕ) → u < length lists → mark_at (marks_of old) u ≡ true → get_or old u 0 ≡ component_number lists u) → (u : ℕ) → u < length lists → mark_at (marks_of new) u ≡ true → get_or new u 0 ≡ component_number lists u
+component_numbers lists old new count v simple h l off marks numbered before u m on =
+    let C = component_classes lists in
+    let n = length-classes (length lists) (darts lists) in
+    let labels = IsLabels-classes (length lists) (darts lists) (components-below lists simple) in
+    elim (cases_Bool (mark_at (marks_of old) u)) [
+      | inl t ↦ numbered.stays u t ∙ before u m t
+      | inr f ↦
+          let same : same_class C v u ≡ true = sym (ap (λ b. b || same_class C v u) f) ∙ (sym (marks u m) ∙ on) in
+          let together = Together-from C v u same in
+          let above = ltb-false (label C v) v (sym (h.known v (omega arith)) ∙ off) in
+          let own : label C v ≡ v = omega (arith, labels.low v) in
+          numbered.here u f on ∙ (h.counted ∙ ap (count_below (λ j. label C j == j)) (sym own ∙ together))
     ]
 
 -- before the first vertex is pushed

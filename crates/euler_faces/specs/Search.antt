@@ -1,6 +1,6 @@
 -- A search from a vertex: which vertices are marked, and of which the neighbours are still to be marked.
-use Rattle.std.specs.Prelude.{ℕ, ◌<◌, ◌≤◌, ◌≡◌, ◌⊎◌, Bool, true, not, List, length, slice_index}
-use Rattle.label_classes.specs.Classes.{count_below}
+use Rattle.std.specs.Prelude.{ℕ, ◌<◌, ◌≤◌, ◌≡◌, ◌⊎◌, ◌==◌, Bool, true, false, not, List, map, length, slice_index}
+use Rattle.label_classes.specs.Classes.{count_below, label}
 use Rattle.map_lists.specs.Lists.{Lists}
 use Rattle.map_definitions.specs.Maps.{HasDart, component_classes}
 use Rattle.label_classes.proofs.Classes.{Together}
@@ -28,3 +28,18 @@ unmarked_below marked n = count_below (λ u. not (mark_at marked u)) n
 -- no vertex is open
 abbrev pub None_open : ℕ → Type 0
 None_open u = ⊥
+
+-- which vertices have a number: 65535 stands where one has none
+abbrev pub marks_of : List ℕ → List Bool
+marks_of numbers = map (λ x. not (x == 65535)) numbers
+
+-- some vertices more have this number, and all others are as they were
+pub record IsNumbered (old new : List ℕ) (number : ℕ) : Type 0 where
+  pub marked : (u : ℕ) → mark_at (marks_of old) u ≡ true → mark_at (marks_of new) u ≡ true
+  pub stays : (u : ℕ) → mark_at (marks_of old) u ≡ true → slice_index new u ≡ slice_index old u
+  pub here : (u : ℕ) → mark_at (marks_of old) u ≡ false → mark_at (marks_of new) u ≡ true → slice_index new u ≡ number
+
+-- the number of v's component: how many components have a lesser least vertex
+abbrev pub component_number : Lists → ℕ → ℕ
+component_number lists v =
+    count_below (λ u. label (component_classes lists) u == u) (label (component_classes lists) v)

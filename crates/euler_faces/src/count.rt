@@ -6,8 +6,9 @@ ghost use Rattle.simple_maps.specs.Faults.{first_fault};
 ghost use Rattle.simple_maps.specs.MapFault.{Names};
 ghost use Rattle.simple_maps.specs.Tables.{AreSlots};
 ghost use Rattle.euler_faces.specs.Numbers.{mark_at};
+ghost use Rattle.euler_faces.specs.Search.{marks_of};
 
-use crate::components::count_components;
+use crate::components::{UNMET, number_components};
 use crate::orbits::{count_isolated, count_orbits};
 use crate::slots::Slot;
 use half_edges::HalfMap;
@@ -43,21 +44,21 @@ impl EulerCount {
     }
 }
 
-// The counts of lists by the slots of their darts, with one unset mark for each vertex and a queue with
-// room for all.
+// The counts of lists by the slots of their darts, with no number for any vertex and a queue with room
+// for all.
 fn count_slots(
     entries: &[u16],
     ends: &[usize],
     slots: &mut [Slot],
-    met: &mut [bool],
+    numbers: &mut [u16],
     queue: &mut [u16],
 ) -> EulerCount
     requires cuts { AreCuts 0 ends.now (length entries.now) }
     requires few { length ends.now < 4096 }
     requires slots { AreSlots (cut 0 ends.now entries.now) (map (λ s. s.tail) slots.old) (map (λ s. s.twin) slots.old) }
-    requires marks { length met.old ≡ length ends.now }
+    requires marks { length numbers.old ≡ length ends.now }
     requires room { length queue.old ≡ length ends.now }
-    requires unset { (u : ℕ) → mark_at met.old u ≡ false }
+    requires unset { (u : ℕ) → mark_at (marks_of numbers.old) u ≡ false }
     ensures n { result.n ≡ vertex_count (cut 0 ends.now entries.now) }
     ensures m { result.m ≡ edge_count (cut 0 ends.now entries.now) }
     ensures f { result.f ≡ face_count (cut 0 ends.now entries.now) }
@@ -65,12 +66,12 @@ fn count_slots(
 {
     let orbits = count_orbits(entries, ends, slots);
     let isolated = count_isolated(ends);
-    let c = count_components(entries, ends, met, queue);
+    let c = number_components(entries, ends, numbers, queue);
     EulerCount {
         n: ends.len() as u32,
         m: (entries.len() / 2) as u32,
         f: orbits + isolated,
-        c,
+        c: c as u32,
     }
 }
 
@@ -82,7 +83,7 @@ pub struct Counter {
     alloc: Global,
     slots: Vec<Slot>,
     threads: Vec<u32>,
-    met: Vec<bool>,
+    numbers: Vec<u16>,
     queue: Vec<u16>,
 }
 
@@ -93,20 +94,20 @@ impl Counter {
             alloc,
             slots: Vec::new(alloc),
             threads: Vec::new(alloc),
-            met: Vec::new(alloc),
+            numbers: Vec::new(alloc),
             queue: Vec::new(alloc),
         }
     }
 
-    // One unset mark for each of `n` vertices, and a queue with room for all.
+    // No number for any of `n` vertices, and a queue with room for all.
     fn clear(&mut self, n: usize) -> Result<(), AllocError>
-        ensures marks { OnOk result (length self.new.met.items ≡ n) }
+        ensures marks { OnOk result (length self.new.numbers.items ≡ n) }
         ensures room { OnOk result (length self.new.queue.items ≡ n) }
-        ensures unset { OnOk result ((u : ℕ) → mark_at self.new.met.items u ≡ false) }
+        ensures unset { OnOk result ((u : ℕ) → mark_at (marks_of self.new.numbers.items) u ≡ false) }
         ensures slots { self.new.slots ≡ self.old.slots }
     {
-        self.met.clear();
-        self.met.resize(n, false)?;
+        self.numbers.clear();
+        self.numbers.resize(n, UNMET)?;
         self.queue.resize(n, 0)?;
         Ok(())
     }
@@ -130,7 +131,7 @@ impl Counter {
             lists.entries(),
             lists.ends(),
             &mut self.slots,
-            &mut self.met,
+            &mut self.numbers,
             &mut self.queue,
         ))
     }

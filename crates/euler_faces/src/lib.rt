@@ -9,6 +9,7 @@ mod orbits;
 mod slots;
 mod walks;
 
+pub use components::{UNMET, number_components};
 pub use count::{Counter, EulerCount, count_lists, euler};
 pub use face_walks::faces;
 pub use walks::Faces;

@@ -141,6 +141,7 @@ module _ (darts : List DartRecord) (vertices : List VertexRecord) (edges free sp
     has_id = λ v u d. let i = a.linked.has_id v u d in (i.0, dart_at-arena darts vertices spare i.0 ∙ i.1);
     one_id = λ d e v u one other. a.linked.one_id d e v u (sym (dart_at-arena darts vertices spare d) ∙ one) (sym (dart_at-arena darts vertices spare e) ∙ other);
     few_ids = omega (arith, length-map darts (dart_of_record darts), a.count, a.edges_are);
+    few_edges = omega (arith, a.room, a.edges_are);
   }
 
   module _ (map : Map) (view : arena_map darts vertices spare ≡ map) where

@@ -53,6 +53,7 @@ module _ (lists : Lists) (starts : List ℕ) (ends : List Dart) (twins : List �
     has_id = λ v u h. (dart_number lists (v, u), dart_at-map_of lists ends (dart_number lists (v, u)) ∙ slice_get-dart_number lists ends v u t.ends_are h);
     one_id = λ d e v u a b. number_of d v u (sym (dart_at-map_of lists ends d) ∙ a) ∙ sym (number_of e v u (sym (dart_at-map_of lists ends e) ∙ b));
     few_ids = omega (arith, length-map {B = Option Dart} ends (λ d. Some d), length-ends, dart_count-edge_count lists t.simple);
+    few_edges = omega (arith, few_darts-simple lists t.few_vertices t.simple, dart_count-edge_count lists t.simple);
   }
 
 module _ (lists : Lists) (starts : List ℕ) (ends : List Dart) (twins : List ℕ) (t : AreTables lists starts ends twins) (map : Map) (view : map_of lists ends ≡ map) where

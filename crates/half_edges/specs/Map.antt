@@ -40,3 +40,4 @@ pub record IsHalfMap (map : Map) : Type 0 where
   pub has_id : (v u : ℕ) → HasDart map.lists v u → (d : ℕ) × (dart_at map d ≡ Some (v, u))
   pub one_id : (d e v u : ℕ) → dart_at map d ≡ Some (v, u) → dart_at map e ≡ Some (v, u) → d ≡ e
   pub few_ids : length map.ids ≤ id_bound map
+  pub few_edges : edge_count map.lists + map.spare ≤ 16777216

@@ -169,6 +169,14 @@ impl HalfMap {
         }
     }
 
+    /// How many neighbours a vertex has.
+    pub fn degree(&self, v: VertexId) -> u16
+        requires { v.0 < vertex_count self.now.lists }
+        ensures { result ≡ length (list_of self.now.lists v.0) }
+    {
+        self.vertices[v.0 as usize].degree
+    }
+
     /// The dart from `u` to `v`, or None exactly where they are not adjacent. It goes over the list of `u`.
     pub fn dart_of(&self, u: VertexId, v: VertexId) -> Option<DartId>
         requires u_in { u.0 < vertex_count self.now.lists }

@@ -23,7 +23,7 @@ use Rattle.map_edits.proofs.Chords.{some_ear, ear_cut}
 use Rattle.map_edits.proofs.Extended.{IsExtended-itself, IsExtended-chained, IsExtended-edge, edge_count-edge}
 
 -- where each vertex is in one component with the first there is one component
-one_component : (lists : Lists) → IsSimpleMap lists → ((v : ℕ) → v < length lists → SameComponent lists 0 v) → component_count lists ≡ 1
+pub one_component : (lists : Lists) → IsSimpleMap lists → ((v : ℕ) → v < length lists → SameComponent lists 0 v) → component_count lists ≡ 1
 unfolding component_count
 one_component lists simple all =
     let C = component_classes lists in

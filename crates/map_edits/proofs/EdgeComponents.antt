@@ -26,7 +26,7 @@ module _ (lists : Lists) (simple : IsSimpleMap lists) (u v : ℕ) (edge : HasDar
   u_v = u_not_v lists simple u v edge
 
   -- with the edge, its ends' components are one
-  components_merged : components lists simple ≡ merge (components rest simple') u v
+  pub components_merged : components lists simple ≡ merge (components rest simple') u v
   components_merged =
       let C = components lists simple in
       let D = components rest simple' in

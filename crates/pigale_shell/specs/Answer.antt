@@ -1,4 +1,4 @@
--- What each job answers for a record.
+-- What each job over planar_code answers for a record.
 use Rattle.std.specs.Prelude.{ℕ, List, Bool, ◌≡◌}
 use Rattle.map_lists.specs.Lists.{Lists}
 use Rattle.record_runs.specs.Texts.{Answers}
@@ -15,5 +15,5 @@ abbrev pub is_refused : Job → Lists → Bool
 is_refused Count lists = count_refuses lists
 
 -- both
-abbrev pub answers_of : Job → Answers Lists
-answers_of job = record { IsBlock = IsBlock job; is_refused = is_refused job }
+abbrev pub planar_answers : Job → Answers Lists
+planar_answers job = record { IsBlock = IsBlock job; is_refused = is_refused job }

@@ -128,13 +128,13 @@ impl PlanarJob {
 }
 
 impl RecordJob<PlanarReader> for PlanarJob {
-    ghost use Rattle.pigale_shell.specs.Answer.{answers_of};
+    ghost use Rattle.pigale_shell.specs.Answer.{planar_answers};
 
     type Kind = Job;
 
     ghost kind = { λ planar. planar.job };
 
-    ghost answers = { answers_of };
+    ghost answers = { planar_answers };
 
     fn answer(
         &mut self,

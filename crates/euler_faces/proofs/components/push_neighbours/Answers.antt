@@ -1,11 +1,12 @@
-use Rattle.std.proofs.Common.{◌≡◌, ◌<◌, ◌≤◌, ◌∷◌, true, false, length, get_or, set, refl, sym, ap, ◌∙◌, inl, inr, arith, length-set}
+use Rattle.std.proofs.Common.{◌≡◌, ◌<◌, true, length, get_or, set, refl, ap, ◌∙◌, inl, inr, arith, length-set}
 use Rattle.std.proofs.lemmas.Bool.{cases_eq}
 use Rattle.map_lists.specs.Cuts.{cut}
 use Rattle.map_lists.proofs.CutLemmas.{AreCuts-at, length-cut}
 use Rattle.euler_faces.specs.Numbers.{mark_at}
-use Rattle.euler_faces.proofs.SearchLemmas.{unmarked_below-set, set-here, set-keeps, search-push, search-close, entry-dart, AllMarked-from_entries, components-step}
+use Rattle.euler_faces.specs.Search.{marks_of}
+use Rattle.euler_faces.proofs.SearchLemmas.{unmarked_below-set, marks-set, length-marks_of, met, unmet, IsNumbered-set, IsNumbered-chained, set-here, set-keeps, search-push, search-close, entry-dart, AllMarked-from_entries, components-step}
 use Rattle.euler_faces.proofs.components.push_neighbours.Goals as goal
-use Rattle.euler_faces.proofs.components.push_neighbours.Goals.{then-not-met-w, else-not-met-w}
+use Rattle.euler_faces.proofs.components.push_neighbours.Goals.{then-numbers-w, else-numbers-w}
 
 pub offset_bounds-entries-i : goal.offset_bounds-entries-i
 offset_bounds-entries-i c =
@@ -17,13 +18,8 @@ bounds-entries-i c =
     let at = AreCuts-at 0 c.args.ends.now (length c.args.entries.now) c.args.v c.requires.cuts c.requires.v_in in
     omega arith
 
-pub bounds-met-w : goal.bounds-met-w
-bounds-met-w c =
-    let dart = entry-dart c.args.ends.now c.args.entries.now c.requires.cuts c.args.v c.requires.v_in c.loop-i.i (omega (arith, c.start_of-i.ensures)) c.loop-i-test.true in
-    omega (arith, c.requires.simple.in_range c.args.v _ dart, length-cut 0 c.args.ends.now c.args.entries.now, c.loop-i.invariant.marks)
-
-pub bounds-met-w-then-not-met-w : goal.bounds-met-w-then-not-met-w
-bounds-met-w-then-not-met-w c =
+pub bounds-numbers-w : goal.bounds-numbers-w
+bounds-numbers-w c =
     let dart = entry-dart c.args.ends.now c.args.entries.now c.requires.cuts c.args.v c.requires.v_in c.loop-i.i (omega (arith, c.start_of-i.ensures)) c.loop-i-test.true in
     omega (arith, c.requires.simple.in_range c.args.v _ dart, length-cut 0 c.args.ends.now c.args.entries.now, c.loop-i.invariant.marks)
 
@@ -33,7 +29,9 @@ bounds-queue-filled c =
     let h = c.loop-i.invariant in
     let w_in = c.requires.simple.in_range c.args.v _ dart in
     let long = length-cut 0 c.args.ends.now c.args.entries.now in
-    let fewer = unmarked_below-set c.loop-i.met (get_or c.args.entries.now c.loop-i.i 0) (length c.args.ends.now) (omega arith) (omega (arith, h.marks)) c.if-not-met-w.true in
+    let marks = length-marks_of c.loop-i.numbers in
+    let off = unmet c.loop-i.numbers (get_or c.args.entries.now c.loop-i.i 0) (omega (arith, h.marks)) c.if-numbers-w.true in
+    let fewer = unmarked_below-set (marks_of c.loop-i.numbers) (get_or c.args.entries.now c.loop-i.i 0) (length c.args.ends.now) (omega arith) (omega (arith, h.marks)) off in
     omega (arith, h.work, h.room)
 
 pub loop-i-preserved : goal.loop-i-preserved
@@ -48,33 +46,36 @@ loop-i-preserved c =
     let w_in = c.requires.simple.in_range c.args.v x dart in
     let long = length-cut 0 ends entries in
     let marks = h.marks in
-    let in_marks : x < length c.loop-i.met = omega arith in
-    elim c.if-not-met-w.branch [
-      | then-not-met-w w ↦
-          (let fewer = unmarked_below-set c.loop-i.met x (length ends) (omega arith) in_marks w.if-not-met-w.true in
-          rw (w.met-is, w.queue-is, w.filled-is) (record {
-            marks = length-set c.loop-i.met x true ∙ h.marks;
+    let long-marks = length-marks_of c.loop-i.numbers in
+    let in_marks : x < length (marks_of c.loop-i.numbers) = omega arith in
+    elim c.if-numbers-w.branch [
+      | then-numbers-w w ↦
+          (let off = unmet c.loop-i.numbers x (omega arith) w.if-numbers-w.true in
+          let e = marks-set c.loop-i.numbers x c.args.number c.requires.is_number in
+          let fewer = unmarked_below-set (marks_of c.loop-i.numbers) x (length ends) (omega arith) in_marks off in
+          rw (w.numbers-is, w.queue-is, w.filled-is) (record {
+            marks = length-set c.loop-i.numbers x c.args.number ∙ h.marks;
             room = length-set c.loop-i.queue c.loop-i.filled x ∙ h.room;
-            work = omega (arith, h.work);
+            work = rw e (omega (arith, h.work));
             grows = omega (arith, h.grows);
-            keeps = λ y on. set-keeps c.loop-i.met x y in_marks (h.keeps y on);
-            done = λ k a b. elim (cases_eq k i) [
-              | inl e ↦ ap (λ j. mark_at (set c.loop-i.met x true) (get_or entries j 0)) e ∙ set-here c.loop-i.met x in_marks
-              | inr ne ↦ set-keeps c.loop-i.met x (get_or entries k 0) in_marks (h.done k a (omega arith))
-            ];
-            search = λ old next start order together search.
-                search-push lists old c.loop-i.met c.loop-i.queue next c.loop-i.filled start (λ y. y ≡ c.args.v) x _ (h.search old next start order together search)
-                (omega (arith, h.grows)) (omega (arith, h.room, h.work)) refl w_in in_marks (together ∙ components-step lists c.args.v x c.requires.simple dart);
+            numbered = IsNumbered-chained _ _ _ _ h.numbered (IsNumbered-set c.loop-i.numbers x c.args.number c.requires.is_number (omega arith) off);
+            done = rw e (λ k a b. elim (cases_eq k i) [
+              | inl q ↦ ap (λ j. mark_at (set (marks_of c.loop-i.numbers) x true) (get_or entries j 0)) q ∙ set-here (marks_of c.loop-i.numbers) x in_marks
+              | inr ne ↦ set-keeps (marks_of c.loop-i.numbers) x (get_or entries k 0) in_marks (h.done k a (omega arith))
+            ]);
+            search = rw e (λ old next start order together search.
+                search-push lists old (marks_of c.loop-i.numbers) c.loop-i.queue next c.loop-i.filled start (λ y. y ≡ c.args.v) x _ (h.search old next start order together search)
+                (omega (arith, h.grows)) (omega (arith, h.room, h.work)) refl w_in in_marks (together ∙ components-step lists c.args.v x c.requires.simple dart));
           }))
-      | else-not-met-w w ↦
-          rw (w.met-is, w.queue-is, w.filled-is) (record {
+      | else-numbers-w w ↦
+          rw (w.numbers-is, w.queue-is, w.filled-is) (record {
             marks = h.marks;
             room = h.room;
             work = h.work;
             grows = h.grows;
-            keeps = h.keeps;
+            numbered = h.numbered;
             done = λ k a b. elim (cases_eq k i) [
-              | inl e ↦ ap (λ j. mark_at c.loop-i.met (get_or entries j 0)) e ∙ w.if-not-met-w.false
+              | inl e ↦ ap (λ j. mark_at (marks_of c.loop-i.numbers) (get_or entries j 0)) e ∙ met c.loop-i.numbers x (omega arith) w.if-numbers-w.false
               | inr ne ↦ h.done k a (omega arith)
             ];
             search = h.search;
@@ -85,5 +86,5 @@ pub returns-clause-search : goal.returns-clause-search
 returns-clause-search c = λ old next start order together search.
     let ends = c.args.ends.now in
     let entries = c.args.entries.now in
-    search-close (cut 0 ends entries) old c.loop-i.met c.loop-i.queue next c.loop-i.filled start c.args.v (c.loop-i.invariant.search old next start order together search)
-    (AllMarked-from_entries ends entries c.requires.cuts c.args.v c.requires.v_in c.loop-i.met (λ i a b. c.loop-i.invariant.done i a (omega (arith, c.loop-i-test.false))))
+    search-close (cut 0 ends entries) old (marks_of c.loop-i.numbers) c.loop-i.queue next c.loop-i.filled start c.args.v (c.loop-i.invariant.search old next start order together search)
+    (AllMarked-from_entries ends entries c.requires.cuts c.args.v c.requires.v_in (marks_of c.loop-i.numbers) (λ i a b. c.loop-i.invariant.done i a (omega (arith, c.loop-i-test.false))))

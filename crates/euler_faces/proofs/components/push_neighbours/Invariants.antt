@@ -3,18 +3,18 @@ use Rattle.label_classes.proofs.Classes.{Together}
 use Rattle.map_lists.specs.Cuts.{cut}
 use Rattle.map_definitions.specs.Maps.{component_classes}
 use Rattle.euler_faces.specs.Numbers.{mark_at}
-use Rattle.euler_faces.specs.Search.{IsSearching, unmarked_below}
+use Rattle.euler_faces.specs.Search.{IsSearching, IsNumbered, marks_of, unmarked_below}
 use Rattle.euler_faces.proofs.components.push_neighbours.Given as goal
 
 abbrev pub invariant-loop-i : goal.invariant-loop-i
 invariant-loop-i l = record {
-  marks : length l.met ≡ length l.ends;
+  marks : length l.numbers ≡ length l.ends;
   room : length l.queue ≡ length l.ends;
-  work : l.filled + unmarked_below l.met (length l.ends) ≡ length l.ends;
+  work : l.filled + unmarked_below (marks_of l.numbers) (length l.ends) ≡ length l.ends;
   grows : l.fn.filled ≤ l.filled;
-  keeps : (x : ℕ) → mark_at l.fn.met x ≡ true → mark_at l.met x ≡ true;
-  done : (k : ℕ) → get_or (0 ∷ l.ends) l.v 0 ≤ k → k < l.i → mark_at l.met (get_or l.entries k 0) ≡ true;
+  numbered : IsNumbered l.fn.numbers l.numbers l.number;
+  done : (k : ℕ) → get_or (0 ∷ l.ends) l.v 0 ≤ k → k < l.i → mark_at (marks_of l.numbers) (get_or l.entries k 0) ≡ true;
   search : (old : List Bool) (next start : ℕ) → next ≤ l.fn.filled → Together (component_classes (cut 0 l.ends l.entries)) start l.v
-      → IsSearching (cut 0 l.ends l.entries) old l.fn.met l.fn.queue next l.fn.filled start (λ x. x ≡ l.v)
-      → IsSearching (cut 0 l.ends l.entries) old l.met l.queue next l.filled start (λ x. x ≡ l.v);
+      → IsSearching (cut 0 l.ends l.entries) old (marks_of l.fn.numbers) l.fn.queue next l.fn.filled start (λ x. x ≡ l.v)
+      → IsSearching (cut 0 l.ends l.entries) old (marks_of l.numbers) l.queue next l.filled start (λ x. x ≡ l.v);
 }

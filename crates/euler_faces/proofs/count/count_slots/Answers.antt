@@ -1,15 +1,14 @@
-use Rattle.std.proofs.Common.{◌≡◌, ◌/◌, ◌+◌, ◌<◌, ℕ, false, length, get_or, map, refl, sym, ap, ap₂, ◌∙◌, inl, inr, arith}
+use Rattle.std.proofs.Common.{◌≡◌, ◌/◌, ◌+◌, length, get_or, sym, ap, ap₂, inr, arith}
 use Rattle.std.proofs.lemmas.Bool.{ne_eqb}
 use Rattle.std.proofs.lemmas.Option.{slice_get_within}
-use Rattle.map_lists.specs.Lists.{Lists}
-use Rattle.map_lists.specs.Cuts.{cut, AreCuts}
+use Rattle.map_lists.specs.Cuts.{cut}
 use Rattle.map_lists.proofs.CutLemmas.{length-cut}
-use Rattle.map_definitions.specs.Maps.{darts, dart_count, edge_count, face_count, twin_dart, isolated_count}
+use Rattle.map_definitions.specs.Maps.{darts, edge_count, face_count}
 use Rattle.map_definitions.proofs.DartLemmas.{length-darts}
-use Rattle.map_definitions.proofs.DartCounts.{few_darts-simple, dart_count-edge_count}
+use Rattle.map_definitions.proofs.DartCounts.{few_darts-simple}
 use Rattle.simple_maps.proofs.FlatLemmas.{count-is}
 use Rattle.euler_bound.proofs.DartPermutations.{euler_bound_map}
-use Rattle.euler_faces.specs.Slots.{twins_of, walked}
+use Rattle.euler_faces.specs.Slots.{twins_of}
 use Rattle.euler_faces.proofs.OrbitLemmas.{length-twins_of}
 use Rattle.euler_faces.proofs.count.count_slots.Goals as goal
 
@@ -62,8 +61,8 @@ invariant_of-result c =
     let bound = euler_bound_map lists c.requires.slots.simple in
     let orbits = c.count_orbits-orbits.ensures.count in
     let isolated = c.count_isolated-isolated.ensures.count c.args.entries.now c.requires.cuts in
-    let components = c.count_components-c.ensures.count in
-    let few_components = c.count_components-c.ensures.few in
+    let components = c.number_components-c.ensures.count in
+    let few_components = c.number_components-c.ensures.few in
     let halves : edge_count lists ≡ length c.args.entries.now / 2 = ap (λ n. n / 2) all in
     record {
       few_vertices = omega arith;

@@ -1,4 +1,4 @@
-use Rattle.std.proofs.Common.{◌≡◌, ◌<◌, suc, ◌+◌, ◌∷◌, length, get_or, refl, sym, ap, ◌∙◌, arith}
+use Rattle.std.proofs.Common.{◌≡◌, suc, ◌+◌, length, refl, sym, ap, ◌∙◌, arith}
 use Rattle.std.proofs.lemmas.List.{take_all, nil_from_length}
 use Rattle.map_lists.specs.Cuts.{cut}
 use Rattle.map_lists.proofs.CutLemmas.{length-cut, AreCuts-at}

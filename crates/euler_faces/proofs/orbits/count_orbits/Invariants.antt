@@ -1,4 +1,4 @@
-use Rattle.std.proofs.Common.{◌≡◌, ◌≤◌, length}
+use Rattle.std.proofs.Common.{◌≡◌, length}
 use Rattle.label_classes.proofs.Marks.{IsCounting}
 use Rattle.map_lists.specs.Cuts.{cut}
 use Rattle.map_definitions.specs.Maps.{face_classes}

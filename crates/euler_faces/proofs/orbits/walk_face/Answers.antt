@@ -1,4 +1,4 @@
-use Rattle.std.proofs.Common.{◌≡◌, ◌<◌, false, length, get_or, set, refl, sym, ap, ◌∙◌, arith, length-set}
+use Rattle.std.proofs.Common.{◌≡◌, false, length, set, ◌∙◌, arith, length-set}
 use Rattle.std.proofs.lemmas.Bool.{ne_eqb, eq-eqb}
 use Rattle.label_classes.proofs.Marks.{IsMarking-none, IsMarking-more, IsMarking-all, unmarked_below-set}
 use Rattle.map_lists.specs.Cuts.{cut}

@@ -1,6 +1,4 @@
 use Rattle.std.proofs.Common.{length, ap, ◌∙◌, arith}
-use Rattle.map_lists.specs.Cuts.{cut}
-use Rattle.map_lists.specs.Lists.{Lists}
 use Rattle.map_lists.proofs.CutLemmas.{IsStored, IsStored-cuts, IsStored-cut, length-cut}
 use Rattle.map_definitions.specs.Maps.{vertex_count, edge_count, face_count, component_count}
 use Rattle.simple_maps.proofs.FaultLemmas.{first_fault-IsSimpleMap}

@@ -1,0 +1,2 @@
+-- How maps grow, edge by edge.
+pub mod Growing

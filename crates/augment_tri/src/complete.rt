@@ -1,0 +1,43 @@
+//! Maps completed.
+ghost use Rattle.std.specs.Prelude.{◌≡◌, ◌≤◌, ℕ, Some, IfOk, IfErr};
+ghost use Rattle.map_definitions.specs.Maps.{IsPlane, vertex_count};
+ghost use Rattle.plane_laws.specs.Completed.{IsCompleted};
+ghost use Rattle.map_edits.specs.Completed.{IsExtended};
+ghost use Rattle.half_edges.specs.Map.{IsHalfMap, dart_at};
+
+use crate::fill::fill;
+use crate::join::join_parts;
+use conn_parts::components;
+use half_edges::HalfMap;
+use std::alloc::{AllocError, Global};
+
+/// The map, which has genus zero and at least three vertices, with edges put in until there are 3n - 6:
+/// its components are joined, and then ears of faces that are no triangles are cut.
+///
+/// Each old list is the new one without what is new in it, and all old darts keep their ids. For want of
+/// memory the map is handed back as it was. The time is linear in the vertices and edges: whether two
+/// vertices are adjacent is looked up in the shorter one of two lists.
+pub fn triangulate(alloc: Global, map: HalfMap) -> Result<HalfMap, (HalfMap, AllocError)>
+    requires plane { IsPlane map.lists }
+    requires some { 3 ≤ vertex_count map.lists }
+    ensures completed { IfOk result (λ new. IsCompleted new.lists) }
+    ensures extended { IfOk result (λ new. IsExtended map.lists new.lists) }
+    ensures ids { IfOk result (λ new. (d v u : ℕ) → dart_at map d ≡ Some (v, u) → dart_at new d ≡ Some (v, u)) }
+    ensures known { IfOk result IsHalfMap }
+    ensures err { IfErr result (λ e. e.0 ≡ map) }
+{
+    let mut map = map;
+    let parts = match components(alloc, &map) {
+        Ok(parts) => parts,
+        Err(e) => return Err((map, e)),
+    };
+    let room = 3 * map.n() as u32 - 6 - map.m();
+    match map.reserve_edges(room) {
+        Ok(()) => {
+            join_parts(&mut map, &parts);
+            fill(&mut map);
+            Ok(map)
+        }
+        Err(e) => Err((map, e)),
+    }
+}

@@ -1,0 +1,121 @@
+//! Ears of faces, found and cut.
+ghost use Rattle.std.specs.Prelude.{◌≡◌, ◌+◌, ◌<◌, ◌≤◌, ◌⊎◌, ◌↔◌, ◌==◌, if◌then◌else◌, ℕ, Some, IsTrue, MatchBool};
+ghost use Rattle.map_definitions.specs.Maps.{IsPlane, vertex_count, component_count, follows};
+ghost use Rattle.plane_laws.specs.Laws.{IsTriangle};
+ghost use Rattle.map_edits.specs.Chords.{CanJoin, IsEar};
+ghost use Rattle.half_edges.specs.Map.{Map, IsHalfMap, IsLive, dart_at};
+ghost use Rattle.augment_tri.specs.Growing.{IsCovered, IsCutEar, IsGrown, IsNear, IsRoomy};
+
+use half_edges::{Corner, DartId, HalfMap, VertexId};
+
+// Whether the face of a dart is a triangle: three steps lead back.
+pub(crate) fn is_triangle(map: &HalfMap, d: DartId) -> bool
+    requires { IsLive map.now d.0 }
+    ensures { (a b : ℕ) → dart_at map.now d.0 ≡ Some (a, b) → IsTrue result ↔ IsTriangle map.now.lists (a, b) }
+{
+    map.facts();
+    let third = map.face_step(map.face_step(map.face_step(d)));
+    third.0 == d.0
+}
+
+// Whether an edge may be put between two vertices. It goes over the list of `u`.
+fn can_join(map: &HalfMap, u: VertexId, v: VertexId) -> bool
+    requires u_in { u.0 < vertex_count map.now.lists }
+    requires v_in { v.0 < vertex_count map.now.lists }
+    ensures { MatchBool result (CanJoin map.now.lists u.0 v.0) (¬ CanJoin map.now.lists u.0 v.0) }
+{
+    map.facts();
+    if u.0 == v.0 {
+        return false;
+    }
+    match map.dart_of(u, v) {
+        Some(_) => false,
+        None => true,
+    }
+}
+
+// Whether an edge may be put between a and c, where one may be between these or between b and x. It goes
+// over the shorter one of the lists of b and c.
+fn is_first(map: &HalfMap, a: VertexId, b: VertexId, c: VertexId, x: VertexId) -> bool
+    requires a_in { a.0 < vertex_count map.now.lists }
+    requires b_in { b.0 < vertex_count map.now.lists }
+    requires c_in { c.0 < vertex_count map.now.lists }
+    requires x_in { x.0 < vertex_count map.now.lists }
+    requires either { CanJoin map.now.lists a.0 c.0 ⊎ CanJoin map.now.lists b.0 x.0 }
+    ensures { MatchBool result (CanJoin map.now.lists a.0 c.0) (CanJoin map.now.lists b.0 x.0) }
+{
+    map.facts();
+    if map.degree(b) < map.degree(c) {
+        !can_join(map, b, x)
+    } else {
+        can_join(map, c, a)
+    }
+}
+
+// A dart with an ear: d, whose face is no triangle, or one of the next two along it.
+fn ear_near(map: &HalfMap, d: DartId) -> DartId
+    requires roomy { IsRoomy map.now }
+    requires one { component_count map.now.lists ≡ 1 }
+    requires live { IsLive map.now d.0 }
+    requires large { (a b : ℕ) → dart_at map.now d.0 ≡ Some (a, b) → ¬ IsTriangle map.now.lists (a, b) }
+    ensures { (a b : ℕ) → dart_at map.now d.0 ≡ Some (a, b) → (s : ℕ) × (t : ℕ) × (dart_at map.now result.0 ≡ Some (s, t)) × IsEar map.now.lists s t × IsNear map.now.lists a b s t }
+{
+    let e = map.face_step(d);
+    let f = map.face_step(e);
+    let a = map.tail(d);
+    let b = map.tail(e);
+    let c = map.tail(f);
+    let x = map.head(f);
+    if x.0 == a.0 {
+        f
+    } else if is_first(map, a, b, c, x) {
+        d
+    } else {
+        e
+    }
+}
+
+// Cuts the ear at a dart, from a to b and on to c: answers the new dart, from a to c.
+fn cut_ear(map: &mut HalfMap, d: DartId) -> DartId
+    requires spare { 1 ≤ map.old.spare }
+    requires live { IsLive map.old d.0 }
+    requires ear { (a b : ℕ) → dart_at map.old d.0 ≡ Some (a, b) → IsEar map.old.lists a b }
+    ensures cut { (a b : ℕ) → dart_at map.old d.0 ≡ Some (a, b) → IsCutEar map.old.lists map.new.lists a b }
+    ensures dart { (a b : ℕ) → dart_at map.old d.0 ≡ Some (a, b) → dart_at map.new result.0 ≡ Some (a, follows map.old.lists b a) }
+    ensures live { IsLive map.new result.0 }
+    ensures spare { map.new.spare + 1 ≡ map.old.spare }
+    ensures ids { (e w z : ℕ) → dart_at map.old e ≡ Some (w, z) → dart_at map.new e ≡ Some (w, z) }
+    ensures known { IsHalfMap map.new }
+{
+    map.facts();
+    let before = map.prev(d);
+    let back = map.twin(map.face_step(d));
+    map.add_edge(Corner::After(before), Corner::After(back))
+}
+
+// The dart at which to go on, where the ear near `d` was at `ear` and `new` was put in.
+fn next_at(d: DartId, ear: DartId, new: DartId) -> DartId
+    ensures { result.0 ≡ (if ear.0 == d.0 then new.0 else d.0) }
+{
+    if ear.0 == d.0 { new } else { d }
+}
+
+// Cuts an ear near a dart whose face is no triangle, and answers the dart at which to go on: the new one,
+// where the ear was at the dart itself.
+pub(crate) fn cut_near(map: &mut HalfMap, d: DartId) -> DartId
+    requires roomy { IsRoomy map.old }
+    requires one { component_count map.old.lists ≡ 1 }
+    requires live { IsLive map.old d.0 }
+    requires large { (a b : ℕ) → dart_at map.old d.0 ≡ Some (a, b) → ¬ IsTriangle map.old.lists (a, b) }
+    ensures roomy { IsRoomy map.new }
+    ensures one { component_count map.new.lists ≡ 1 }
+    ensures grown { IsGrown map.old map.new }
+    ensures spare { map.new.spare + 1 ≡ map.old.spare }
+    ensures live { IsLive map.new result.0 }
+    ensures covered { (first : Map) (k a b : ℕ) → dart_at map.old d.0 ≡ Some (a, b) → IsCovered first k map.old.lists a b
+        → (v u : ℕ) → dart_at map.new result.0 ≡ Some (v, u) → IsCovered first k map.new.lists v u }
+{
+    let ear = ear_near(map, d);
+    let new = cut_ear(map, ear);
+    next_at(d, ear, new)
+}

@@ -1,0 +1,43 @@
+//! Faces filled with triangles.
+ghost use Rattle.std.specs.Prelude.{◌≡◌, ℕ, Some};
+ghost use Rattle.map_definitions.specs.Maps.{HasDart, component_count};
+ghost use Rattle.plane_laws.specs.Laws.{IsTriangle};
+ghost use Rattle.half_edges.specs.Map.{Map, IsLive, dart_at};
+ghost use Rattle.augment_tri.specs.Growing.{IsCovered, IsFilled, IsGrown, IsRoomy};
+
+use crate::ears::{cut_near, is_triangle};
+use half_edges::{DartId, HalfMap};
+
+// Cuts ears until the face of a dart is a triangle, and so is all that was cut from it.
+fn fill_face(map: &mut HalfMap, d: DartId)
+    requires roomy { IsRoomy map.old }
+    requires one { component_count map.old.lists ≡ 1 }
+    requires live { IsLive map.old d.0 }
+    ensures roomy { IsRoomy map.new }
+    ensures one { component_count map.new.lists ≡ 1 }
+    ensures grown { IsGrown map.old map.new }
+    ensures filled { (first : Map) (k a b : ℕ) → dart_at map.old d.0 ≡ Some (a, b) → IsCovered first k map.old.lists a b
+        → IsFilled first k map.new.lists }
+{
+    let mut at = d;
+    while !is_triangle(map, at) {
+        at = cut_near(map, at);
+    }
+}
+
+// Fills all faces of a connected map.
+pub(crate) fn fill(map: &mut HalfMap)
+    requires roomy { IsRoomy map.old }
+    requires one { component_count map.old.lists ≡ 1 }
+    ensures roomy { IsRoomy map.new }
+    ensures one { component_count map.new.lists ≡ 1 }
+    ensures grown { IsGrown map.old map.new }
+    ensures triangles { (v u : ℕ) → HasDart map.new.lists v u → IsTriangle map.new.lists (v, u) }
+{
+    let bound = 2 * (map.m() + map.spare());
+    for d in 0..bound {
+        if map.is_live(DartId(d)) {
+            fill_face(map, DartId(d));
+        }
+    }
+}

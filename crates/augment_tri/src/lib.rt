@@ -1,0 +1,12 @@
+//! Maps of genus zero completed to triangulations, by edges that are put in.
+#![tactic(auto)]
+
+mod complete;
+mod ears;
+mod fill;
+mod join;
+
+pub use complete::triangulate;
+
+#[cfg(test)]
+mod tests;

@@ -1,0 +1,2 @@
+-- What numbers of components say.
+pub mod PartLemmas

@@ -1,0 +1,2 @@
+-- Numberings of the components of maps.
+pub mod Parts

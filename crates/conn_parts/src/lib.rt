@@ -1,0 +1,9 @@
+//! The components of a map, numbered.
+#![tactic(auto)]
+
+mod parts;
+
+pub use parts::{Parts, components};
+
+#[cfg(test)]
+mod tests;

@@ -1,0 +1,68 @@
+//! Numbered components.
+ghost use Rattle.std.specs.Prelude.{◌≡◌, ◌<◌, length, slice_index, IfOk};
+ghost use Rattle.map_lists.specs.Cuts.{cut};
+ghost use Rattle.map_definitions.specs.Maps.{IsSimpleMap};
+ghost use Rattle.conn_parts.specs.Parts.{ArePartsOf};
+
+use euler_faces::{UNMET, number_components};
+use half_edges::{HalfMap, Rotations, VertexId};
+use std::alloc::{AllocError, Global};
+use std::marker::Model;
+
+/// The components of a map, numbered from 0 in the order of their least vertices.
+///
+/// An edit of the map leaves the numbers as they were.
+#[derive(Drop)]
+pub struct Parts {
+    count: u16,
+    // for each vertex the number of its component
+    numbers: Vec<u16>,
+}
+
+impl Model for Parts {
+    ghost use Rattle.conn_parts.specs.Parts.{PartNumbers};
+
+    ghost Value = { PartNumbers };
+
+    ghost view = { λ p. record { count = p.count; numbers = p.numbers.items } };
+}
+
+impl Parts {
+    /// The number of components.
+    pub fn count(&self) -> u16
+        ensures { result ≡ self.now.count }
+    {
+        self.count
+    }
+
+    /// The number of the component of a vertex.
+    pub fn of(&self, v: VertexId) -> u16
+        requires { v.0 < length self.now.numbers }
+        ensures { result ≡ slice_index self.now.numbers v.0 }
+    {
+        self.numbers[v.0 as usize]
+    }
+}
+
+/// The components of a map, in time linear in its darts. It fails only for want of memory.
+pub fn components(alloc: Global, map: &HalfMap) -> Result<Parts, AllocError>
+    ensures { IfOk result (ArePartsOf map.now.lists) }
+{
+    map.facts();
+    let lists = map.rotations(alloc)?;
+    number_lists(alloc, &lists)
+}
+
+// The components of lists that are a simple map.
+fn number_lists(alloc: Global, lists: &Rotations) -> Result<Parts, AllocError>
+    requires simple { IsSimpleMap lists.now }
+    requires few { length lists.now < 4096 }
+    ensures { IfOk result (ArePartsOf lists.now) }
+{
+    let mut numbers = Vec::new(alloc);
+    numbers.resize(lists.len(), UNMET)?;
+    let mut queue = Vec::new(alloc);
+    queue.resize(lists.len(), 0)?;
+    let count = number_components(lists.entries(), lists.ends(), &mut numbers, &mut queue);
+    Ok(Parts { count, numbers })
+}

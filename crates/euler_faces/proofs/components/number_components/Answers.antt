@@ -1,0 +1,89 @@
+use Rattle.std.proofs.Common.{length, arith, refl, sym, ◌∙◌}
+use Rattle.std.proofs.lemmas.Bool.{lt-ltb, false≢true}
+use Rattle.label_classes.specs.Classes.{label}
+use Rattle.label_classes.proofs.Classes.{length-classes, IsLabels-classes}
+use Rattle.label_classes.proofs.Marks.{IsCounting-none, IsCounting-le, IsCounting-new, IsCounting-old, IsCounting-all}
+use Rattle.map_lists.specs.Cuts.{cut}
+use Rattle.map_lists.proofs.CutLemmas.{length-cut}
+use Rattle.map_definitions.specs.Maps.{darts, component_count, component_classes}
+use Rattle.euler_faces.specs.Numbers.{mark_at}
+use Rattle.euler_faces.specs.Search.{marks_of}
+use Rattle.euler_faces.proofs.SearchLemmas.{component_numbers, met, unmet, components-below, search-kept, unmarked_below-none}
+use Rattle.euler_faces.proofs.components.number_components.Goals as goal
+use Rattle.euler_faces.proofs.components.number_components.Goals.{then-numbers-v, else-numbers-v}
+
+pub loop-v-init : goal.loop-v-init
+loop-v-init c =
+    let none = unmarked_below-none (marks_of c.args.numbers.now) (length c.args.ends.now) c.requires.unset in
+    record {
+      marks = c.requires.marks;
+      room = c.requires.room;
+      work = omega arith;
+      counting = IsCounting-none (component_classes (cut 0 c.args.ends.now c.args.entries.now)) (mark_at (marks_of c.args.numbers.now)) (λ i l. c.requires.unset i);
+      numbers = λ u l t. absurd (false≢true (sym (c.requires.unset u) ∙ t));
+    }
+
+pub overflow_add-count : goal.overflow_add-count
+overflow_add-count c =
+    let le = IsCounting-le _ _ c.loop-v.count c.loop-v.v c.loop-v.invariant.counting in
+    let few = c.requires.few in
+    omega arith
+
+pub number_component-filled-requires-clause-kept : goal.number_component-filled-requires-clause-kept
+number_component-filled-requires-clause-kept c = λ u l.
+    search-kept (cut 0 c.args.ends.now c.args.entries.now) (marks_of c.loop-v.numbers) c.loop-v.count c.loop-v.v c.requires.simple c.loop-v.invariant.counting u
+    (omega (arith, l, length-cut 0 c.args.ends.now c.args.entries.now))
+
+pub loop-v-preserved : goal.loop-v-preserved
+loop-v-preserved c =
+    let lists = cut 0 c.args.ends.now c.args.entries.now in
+    let long = length-cut 0 c.args.ends.now c.args.entries.now in
+    let h = c.loop-v.invariant in
+    let n = length-classes (length lists) (darts lists) in
+    let labels = IsLabels-classes (length lists) (darts lists) (components-below lists c.requires.simple) in
+    elim c.if-numbers-v.branch [
+      | then-numbers-v w ↦
+          let off = unmet c.loop-v.numbers c.loop-v.v (omega arith) w.if-numbers-v.true in
+          record {
+            marks = rw w.numbers-is (w.number_component-filled.auto.numbers ∙ h.marks);
+            room = rw w.queue-is (w.number_component-filled.auto.queue ∙ h.room);
+            work = rw (w.numbers-is, w.filled-is) w.number_component-filled.ensures.work;
+            counting = rw (w.numbers-is, w.count-is) (IsCounting-new (component_classes lists) (mark_at (marks_of c.loop-v.numbers)) (mark_at (marks_of w.number_component-filled.new.numbers)) c.loop-v.count c.loop-v.v _ labels h.counting (omega arith) off
+                (λ y l. w.number_component-filled.ensures.marked y (omega arith)) refl);
+            numbers = rw w.numbers-is (λ u l t. component_numbers lists c.loop-v.numbers w.number_component-filled.new.numbers c.loop-v.count c.loop-v.v c.requires.simple h.counting (omega arith) off (λ i m. w.number_component-filled.ensures.marked i (omega arith)) w.number_component-filled.ensures.numbered (λ x m. h.numbers x (omega arith)) u (omega arith) t);
+          }
+      | else-numbers-v w ↦ record {
+        marks = rw w.numbers-is h.marks;
+        room = rw w.queue-is h.room;
+        work = rw (w.numbers-is, w.filled-is) h.work;
+        counting = rw (w.numbers-is, w.count-is) (IsCounting-old (component_classes lists) (mark_at (marks_of c.loop-v.numbers)) c.loop-v.count c.loop-v.v _ labels h.counting (omega arith) (met c.loop-v.numbers c.loop-v.v (omega arith) w.if-numbers-v.false) refl);
+        numbers = rw w.numbers-is h.numbers;
+      }
+    ]
+
+pub returns-clause-count : goal.returns-clause-count
+unfolding component_count
+returns-clause-count c =
+    let lists = cut 0 c.args.ends.now c.args.entries.now in
+    let long = length-cut 0 c.args.ends.now c.args.entries.now in
+    let n = length-classes (length lists) (darts lists) in
+    IsCounting-all (component_classes lists) (mark_at (marks_of c.loop-v.numbers)) c.loop-v.count c.loop-v.v c.loop-v.invariant.counting (omega arith)
+
+pub returns-clause-few : goal.returns-clause-few
+returns-clause-few c =
+    let le = IsCounting-le _ _ c.loop-v.count c.loop-v.v c.loop-v.invariant.counting in
+    omega arith
+
+pub number_component-filled-requires-clause-is_number : goal.number_component-filled-requires-clause-is_number
+number_component-filled-requires-clause-is_number c =
+    let le = IsCounting-le _ _ c.loop-v.count c.loop-v.v c.loop-v.invariant.counting in
+    omega (arith, c.requires.few)
+
+pub returns-clause-numbers : goal.returns-clause-numbers
+returns-clause-numbers c = λ u l.
+    let lists = cut 0 c.args.ends.now c.args.entries.now in
+    let long = length-cut 0 c.args.ends.now c.args.entries.now in
+    let h = c.loop-v.invariant in
+    let n = length-classes (length lists) (darts lists) in
+    let low = (IsLabels-classes (length lists) (darts lists) (components-below lists c.requires.simple)).low u in
+    h.numbers u l (h.counting.known u (omega arith) ∙ lt-ltb (label (component_classes lists) u) c.loop-v.v (omega arith))
