@@ -1,5 +1,5 @@
 -- The clockwise order of directions from west: it can be decided, no two directions come before each other, and it chains.
-use Rattle.std.proofs.Common.{◌≡◌, ◌⊎◌, ℤ, pos, neg_ℤ, ◌+ℤ◌, ◌*ℤ◌, ◌<ℤ◌, ◌≤ℤ◌, sym, ap, ◌∙◌, subst, inl, inr, ⊎_elim, arith}
+use Rattle.std.proofs.Common.{◌≡◌, ◌⊎◌, ℤ, pos, ◌*ℤ◌, ◌<ℤ◌, ◌≤ℤ◌, ap, ◌∙◌, inl, inr, ⊎_elim, arith}
 use Rattle.std.proofs.lemmas.Int.{ints, by_lt_z}
 use Rattle.pg_plane.specs.declared.point.Point.{Point}
 use Rattle.pg_plane.specs.Geometry.{cross, IsFirstHalf, IsClockBefore}

@@ -1,12 +1,12 @@
 -- The faces of a completed map: three darts each, of which one leaves the least vertex.
-use Rattle.std.proofs.Common.{◌≡◌, ◌≢◌, ℕ, ◌<◌, ◌⊎◌, Bool, true, false, eqb, ◌||◌, List, length, ℤ, pos, ◌<ℤ◌, refl, sym, ap, subst, ◌∙◌, inl, inr, arith, eq-eqb, eqb-true}
+use Rattle.std.proofs.Common.{◌≡◌, ℕ, ◌<◌, ◌⊎◌, Bool, true, false, eqb, ◌||◌, List, length, ℤ, pos, ◌<ℤ◌, refl, sym, ap, subst, ◌∙◌, inl, inr, arith, eqb-true}
 use Rattle.std.proofs.lemmas.Bool.{cases_lt}
 use Rattle.std.proofs.lemmas.Int.{ints, by_lt_z}
-use Rattle.label_classes.specs.Classes.{image, same_class}
+use Rattle.label_classes.specs.Classes.{image}
 use Rattle.label_classes.proofs.Classes.{Together, Together-from, same_class-from, cases_Together}
 use Rattle.label_classes.proofs.Orbits.{orbits-step, orbits-closed_marks}
 use Rattle.map_lists.specs.Lists.{Lists}
-use Rattle.map_definitions.specs.Maps.{Dart, HasDart, follows, face_step, dart_number, dart_count, face_images, face_classes}
+use Rattle.map_definitions.specs.Maps.{Dart, HasDart, follows, face_step, dart_number, face_images, face_classes}
 use Rattle.map_definitions.specs.Paths.{SameFace}
 use Rattle.map_definitions.proofs.DartLemmas.{dart_number-lt, get_or-dart_number, dart_number-injective, HasDart-face_step, length-face_images, get_or-face_images, IsPermutationOfBelow-face_images}
 use Rattle.plane_laws.specs.Completed.{IsCompleted}

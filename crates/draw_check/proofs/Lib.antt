@@ -5,6 +5,7 @@ pub mod LeastLemmas
 pub mod MetLemmas
 pub mod OnceLemmas
 pub mod RoundLemmas
+mod Cases
 pub mod ClockOrder
 pub mod RoundOrder
 pub mod Segments

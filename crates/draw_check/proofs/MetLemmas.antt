@@ -1,5 +1,5 @@
 -- What the searches for met edges say of vertices on edges and of crossings.
-use Rattle.std.proofs.Common.{◌≡◌, ℕ, ◌+◌, ◌<◌, List, length, Option, Some, None, sym, inl, ⊎_elim, arith}
+use Rattle.std.proofs.Common.{ℕ, ◌+◌, ◌<◌, List, length, Option, Some, None, sym, inl, ⊎_elim, arith}
 use Rattle.std.specs.Option.{MatchOption}
 use Rattle.map_lists.specs.Lists.{Lists}
 use Rattle.map_lists.specs.declared.ids.VertexId.{VertexId}

@@ -1,5 +1,5 @@
 -- Breaks between the directions round a vertex, as the walk round it finds them.
-use Rattle.std.proofs.Common.{◌≡◌, ℕ, ◌+◌, ◌<◌, ◌≤◌, Bool, true, List, length, Option, Some, get_or, sym, ap, subst, ◌∙◌, arith}
+use Rattle.std.proofs.Common.{◌≡◌, ℕ, ◌+◌, ◌<◌, ◌≤◌, Bool, true, List, length, Some, get_or, sym, ap, subst, ◌∙◌, arith}
 use Rattle.std.specs.Option.{option_map}
 use Rattle.map_definitions.specs.Maps.{Dart, list_of, follows, place_of}
 use Rattle.map_definitions.proofs.DartLemmas.{HasDart-follows}
@@ -8,7 +8,7 @@ use Rattle.pg_plane.specs.declared.point.Point.{Point}
 use Rattle.pg_plane.specs.Geometry.{vector, IsClockBefore}
 use Rattle.drawings.specs.Drawing.{place, IsBreak}
 use Rattle.draw_check.specs.Loops.{IsDrawn, IsLaterDart}
-use Rattle.draw_check.proofs.RoundLemmas.{head_at, LeavesFrom, place_at, at_place, place_at-first, place_at-later, head_at-is, LeavesFrom-is, LeavesFrom-later, head_at-result, follows-result}
+use Rattle.draw_check.proofs.RoundLemmas.{head_at, LeavesFrom, place_at, at_place, place_at-first, place_at-later, head_at-is, LeavesFrom-later, head_at-result, follows-result}
 
 -- the direction to u is not before that to w
 abbrev IsBreakOf : List Point → ℕ → ℕ → ℕ → Type 0

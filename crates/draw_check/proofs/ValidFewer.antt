@@ -1,12 +1,11 @@
 -- A drawing that is valid for a map is valid for the map without some of its edges.
-use Rattle.std.proofs.Common.{◌≡◌, ◌⊎◌, ℕ, ℤ, ◌<◌, ◌≤◌, Bool, not, List, length, AllPairs, Contains, refl, sym, ap, subst, ◌∙◌, arith, ◌==◌}
-use Rattle.std.specs.List.{filter, list_any}
+use Rattle.std.proofs.Common.{◌⊎◌, ℕ, ℤ, ◌<◌, ◌≤◌, Bool, not, List, length, AllPairs, Contains, refl, sym, ap, subst, ◌∙◌, arith, ◌==◌}
+use Rattle.std.specs.List.{list_any}
 use Rattle.std.proofs.lemmas.List.Filters.{length-filter_both}
 use Rattle.map_lists.specs.Lists.{Lists}
-use Rattle.map_definitions.specs.Maps.{HasDart, IsSimpleMap, list_of, follows, entry_after}
+use Rattle.map_definitions.specs.Maps.{HasDart, IsSimpleMap, list_of, entry_after}
 use Rattle.map_definitions.specs.Paths.{from_entry}
 use Rattle.map_definitions.proofs.EntryLemmas.{Contains-from_filter}
-use Rattle.map_definitions.proofs.DartLemmas.{Contains-entry_after}
 use Rattle.map_edits.specs.Completed.{IsExtended}
 use Rattle.pg_plane.specs.declared.point.Point.{Point}
 use Rattle.pg_plane.specs.Geometry.{vector, IsClockBefore}

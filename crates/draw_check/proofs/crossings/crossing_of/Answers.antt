@@ -1,4 +1,3 @@
-use Rattle.std.proofs.Common.{arith}
 use Rattle.draw_check.proofs.MetLemmas.{first_cross}
 use Rattle.draw_check.proofs.crossings.crossing_of.Goals as goal
 

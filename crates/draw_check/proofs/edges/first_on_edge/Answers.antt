@@ -1,4 +1,4 @@
-use Rattle.std.proofs.Common.{◌≡◌, inl, inr, subst, sym, arith}
+use Rattle.std.proofs.Common.{◌≡◌, inl, inr, subst, arith}
 use Rattle.std.proofs.lemmas.Bool.{cases_lt}
 use Rattle.draw_check.specs.Faults.{LiesOnEdge}
 use Rattle.draw_check.proofs.MetLemmas.{met_by_vertex, first_lies_on}

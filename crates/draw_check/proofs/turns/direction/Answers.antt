@@ -1,4 +1,4 @@
-use Rattle.std.proofs.Common.{◌≡◌, ◌-ℤ◌, arith, rules, w32, FitsSigned}
+use Rattle.std.proofs.Common.{◌-ℤ◌, arith, rules, w32, FitsSigned}
 use Rattle.std.proofs.lemmas.Int.{ints, to_z-of_z}
 use Rattle.draw_check.proofs.turns.direction.Goals as goal
 
