@@ -1,5 +1,5 @@
 -- Lemmas on darts by their numbers.
-mod NumberLemmas
+pub mod NumberLemmas
 mod IsolatedLemmas
 pub mod SearchLemmas
 mod FaceWalkLemmas

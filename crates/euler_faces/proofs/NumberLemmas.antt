@@ -4,11 +4,11 @@ use Rattle.std.proofs.lemmas.Bool.{cases_lt, eq-eqb}
 use Rattle.std.proofs.lemmas.List.{get_or_past}
 use Rattle.std.proofs.lemmas.Bool.Decides.{nat_tests}
 use Rattle.label_classes.specs.Classes.{image}
-use Rattle.map_definitions.specs.Maps.{Dart, darts, dart_number, dart_count, edge_count, darts_before, list_of, place_of, face_images, face_step, follows, same_dart}
+use Rattle.map_definitions.specs.Maps.{Dart, darts, dart_number, dart_count, darts_before, list_of, place_of, face_images, face_step, follows, same_dart}
 use Rattle.map_definitions.proofs.DartCounts.{dart_count-le}
 use Rattle.map_definitions.proofs.DartLemmas.{dart_number-lt, get_or-dart_number, IsDartNumber-darts, IsDartNumber, get_or-face_images, place_after, place_of-entry_after, place_of-lt-length, entry_after-place, darts_before_more, place_of-get_or}
 use Rattle.label_classes.proofs.Marks.{SetsMark}
-use Rattle.half_edges.specs.Map.{Map, IsHalfMap, IsLive, dart_at, next_dart}
+use Rattle.half_edges.specs.Map.{Map, IsHalfMap, IsLive, dart_at, next_dart, id_bound}
 use Rattle.euler_faces.specs.Numbers.{number_at, slot_of, id_of, mark_at, mark_of}
 
 -- an option that holds something holds it
@@ -68,7 +68,7 @@ module _ (map : Map) (h : IsHalfMap map) where
       rw (number_at-is map d x.0.0 x.0.1 x.1) (dart_number-lt map.lists x.0.0 x.0.1 is)
 
   -- a live id is below the count of ids
-  pub live-lt : (d : ℕ) → IsLive map d → d < 2 * (edge_count map.lists + map.spare)
+  pub live-lt : (d : ℕ) → IsLive map d → d < id_bound map
   live-lt d live =
       let x = some_of (dart_at map d) live in
       elim (cases_lt d (length map.ids)) [

@@ -3,7 +3,7 @@ ghost use Rattle.std.specs.Prelude.{◌≡◌, ◌<◌, ◌≤◌, ◌+◌, ◌*
 ghost use Rattle.label_classes.specs.Classes.{class_count, label, orbits, same_class};
 ghost use Rattle.map_definitions.specs.Maps.{edge_count, dart_count, darts_before, face_images, list_of, face_classes};
 ghost use Rattle.label_classes.proofs.Marks.{IsCounting, KeepsMarks};
-ghost use Rattle.half_edges.specs.Map.{IsHalfMap, IsLive, dart_at};
+ghost use Rattle.half_edges.specs.Map.{IsHalfMap, IsLive, dart_at, id_bound};
 ghost use Rattle.euler_faces.specs.Numbers.{number_at, mark_at, mark_of};
 ghost use Rattle.euler_faces.specs.FaceWalks.{AreFaces, AreNumbered, walk_at, ids_of};
 ghost use Rattle.euler_faces.specs.FaceSearch.{IsWholeWalk, AreWalksBelow};
@@ -22,7 +22,7 @@ fn walk_face(
 ) -> Result<Walk, AllocError>
     requires known { IsHalfMap map.now }
     requires live { IsLive map.now start.0 }
-    requires marks { length marked.old ≡ 2 * (edge_count map.now.lists + map.now.spare) }
+    requires marks { length marked.old ≡ id_bound map.now }
     requires kept { KeepsMarks (face_images map.now.lists) (mark_of map.now marked.old) }
     requires unmarked { mark_at marked.old start.0 ≡ false }
     requires least { label (face_classes map.now.lists) (number_at map.now start.0) ≡ number_at map.now start.0 }
@@ -51,7 +51,7 @@ fn add_dart(
 ) -> Result<(), AllocError>
     requires known { IsHalfMap map.now }
     requires live { IsLive map.now d.0 }
-    requires marks { length marked.old ≡ 2 * (edge_count map.now.lists + map.now.spare) }
+    requires marks { length marked.old ≡ id_bound map.now }
     requires counting { IsCounting (face_classes map.now.lists) (mark_of map.now marked.old) (length walks.old.items) (number_at map.now d.0) }
     requires walks { AreWalksBelow map.now walks.old.items (number_at map.now d.0) }
     ensures counting { OnOk result (IsCounting (face_classes map.now.lists) (mark_of map.now marked.new) (length walks.new.items) (number_at map.now d.0 + 1)) }
@@ -76,7 +76,7 @@ fn add_round(
 ) -> Result<(), AllocError>
     requires known { IsHalfMap map.now }
     requires first { dart_at map.now first.0 ≡ Some (v.0, slice_index (list_of map.now.lists v.0) 0) }
-    requires marks { length marked.old ≡ 2 * (edge_count map.now.lists + map.now.spare) }
+    requires marks { length marked.old ≡ id_bound map.now }
     requires counting { IsCounting (face_classes map.now.lists) (mark_of map.now marked.old) (length walks.old.items) (darts_before map.now.lists v.0) }
     requires walks { AreWalksBelow map.now walks.old.items (darts_before map.now.lists v.0) }
     ensures counting { OnOk result (IsCounting (face_classes map.now.lists) (mark_of map.now marked.new) (length walks.new.items) (darts_before map.now.lists (v.0 + 1))) }
@@ -102,7 +102,7 @@ fn add_vertex(
 ) -> Result<(), AllocError>
     requires known { IsHalfMap map.now }
     requires v_in { v.0 < length map.now.lists }
-    requires marks { length marked.old ≡ 2 * (edge_count map.now.lists + map.now.spare) }
+    requires marks { length marked.old ≡ id_bound map.now }
     requires counting { IsCounting (face_classes map.now.lists) (mark_of map.now marked.old) (length walks.old.items) (darts_before map.now.lists v.0) }
     requires walks { AreWalksBelow map.now walks.old.items (darts_before map.now.lists v.0) }
     ensures counting { OnOk result (IsCounting (face_classes map.now.lists) (mark_of map.now marked.new) (length walks.new.items) (darts_before map.now.lists (v.0 + 1))) }
@@ -122,7 +122,7 @@ fn add_all(
     walks: &mut Vec<Walk>,
 ) -> Result<(), AllocError>
     requires known { IsHalfMap map.now }
-    requires marks { length marked.old ≡ 2 * (edge_count map.now.lists + map.now.spare) }
+    requires marks { length marked.old ≡ id_bound map.now }
     requires unset { (i : ℕ) → mark_at marked.old i ≡ false }
     requires none { walks.old.items ≡ [] }
     ensures faces { OnOk result (AreFaces map.now walks.new.items) }

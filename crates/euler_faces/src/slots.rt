@@ -1,5 +1,5 @@
 //! The darts of a map by their numbers, as counts go over them.
-ghost use Rattle.std.specs.Prelude.{◌≡◌, ◌+◌, ◌<◌, ◌==◌, if◌then◌else◌, ◌∷◌, length, slice_index, slice_index_or};
+ghost use Rattle.std.specs.Prelude.{⊤, ◌≡◌, ◌+◌, ◌<◌, ◌==◌, if◌then◌else◌, ◌∷◌, length, slice_index, slice_index_or};
 
 use simple_maps::DartSlot;
 
@@ -18,8 +18,14 @@ impl DartSlot for Slot {
 
     ghost twin_of = { λ s. s.twin };
 
-    fn new(tail: u16, twin: u32) -> Slot {
+    ghost IsInLine = { λ _ _. ⊤ };
+
+    fn new(tail: u16, twin: u32, _place: u32) -> Slot {
         Slot { twin, tail }
+    }
+
+    fn with_twin(self, twin: u32) -> Slot {
+        Slot { twin, ..self }
     }
 
     fn tail(&self) -> u16 {

@@ -133,9 +133,6 @@ module _ (lists : Lists) (darts : List DartRecord) (vertices : List VertexRecord
 
 -- the facts that readers need, of a map that is the view of an arena
 module _ (darts : List DartRecord) (vertices : List VertexRecord) (edges free spare : ℕ) (a : IsArena (arena_lists darts vertices) darts vertices edges free spare) where
-  lists_here : Lists
-  lists_here = arena_lists darts vertices
-
   known_here : IsHalfMap (arena_map darts vertices spare)
   known_here = record {
     simple = a.simple;

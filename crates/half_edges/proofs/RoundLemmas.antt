@@ -9,7 +9,7 @@ use Rattle.map_definitions.specs.Maps.{Dart, list_of, darts, dart_count}
 use Rattle.map_definitions.proofs.DartLemmas.{length-darts, place_of_number}
 use Rattle.simple_maps.specs.Tables.{AreTables, AreSlots}
 use Rattle.simple_maps.proofs.FlatLemmas.{start-is, length-list, end-is, count-is, dart-is}
-use Rattle.half_edges.specs.Arena.{no_record, no_vertex, record_at, vertex_at, twin_of}
+use Rattle.half_edges.specs.Arena.{no_record, no_vertex, record_at, vertex_at, twin_of, tail_of}
 use Rattle.half_edges.specs.Rounds.{round_record, AreRounds, AreRoundVertices}
 use Rattle.half_edges.specs.Tables.{table_record, AreTableRecords, AreTableVertices, AreLinked}
 use Rattle.half_edges.proofs.TableArena.{few_entries}
@@ -19,7 +19,7 @@ use Rattle.half_edges.specs.declared.arena.VertexRecord.{VertexRecord}
 
 -- the round of one vertex more
 pub AreRounds-more : (ends : List ℕ) (old darts new : List DartRecord) (start end v next : ℕ) → AreRounds ends old darts v → ((w : ℕ) → w < v → get_or ends w 0 ≤ start) → start ≡ get_or (0 ∷ ends) v 0 → end ≡ get_or ends v 0 → start ≤ end → length new ≡ length darts
-    → ((d : ℕ) → start ≤ d → d < end → record_at new d ≡ round_record darts start end v d) → ((d : ℕ) → d < start ⊎ end ≤ d → record_at new d ≡ record_at darts d) → next ≡ v + 1 → AreRounds ends old new next
+    → ((d : ℕ) → start ≤ d → d < end → record_at new d ≡ round_record darts start end d) → ((d : ℕ) → d < start ⊎ end ≤ d → record_at new d ≡ record_at darts d) → next ≡ v + 1 → AreRounds ends old new next
 AreRounds-more ends old darts new start end v next h before from to order long here elsewhere step =
     let one : suc v ≡ next = omega arith in
     subst (λ n. AreRounds ends old new n) one (record {
@@ -28,12 +28,12 @@ AreRounds-more ends old darts new start end v next h before from to order long h
         | inl m ↦ elsewhere d (inl (omega (arith, before w m))) ∙ h.here w d m a b
         | inr m ↦
             (let same : v ≡ w = omega arith in
-            let twins : twin_of darts d ≡ twin_of old d = ap (λ (r : DartRecord). r.twin) (h.elsewhere d (omega (arith, ap (λ x. get_or (0 ∷ ends) x 0) same))) in
-            subst (λ x. record_at new d ≡ round_record old (get_or (0 ∷ ends) x 0) (get_or ends x 0) x d) same
-            (subst (λ y. record_at new d ≡ round_record old y (get_or ends v 0) v d) from
-            (subst (λ y. record_at new d ≡ round_record old start y v d) to
+            let kept = h.elsewhere d (omega (arith, ap (λ x. get_or (0 ∷ ends) x 0) same)) in
+            subst (λ x. record_at new d ≡ round_record old (get_or (0 ∷ ends) x 0) (get_or ends x 0) d) same
+            (subst (λ y. record_at new d ≡ round_record old y (get_or ends v 0) d) from
+            (subst (λ y. record_at new d ≡ round_record old start y d) to
             (here d (omega (arith, ap (λ x. get_or (0 ∷ ends) x 0) same)) (omega (arith, ap (λ x. get_or ends x 0) same))
-            ∙ ap (λ t. record { twin = t; next = cond (ltb (d + 1) end) (d + 1) start; prev = cond (eqb d start) (end - 1) (d - 1); tail = v; live = true }) twins))))
+            ∙ ap (λ (r : DartRecord). record { twin = r.twin; next = cond (ltb (d + 1) end) (d + 1) start; prev = cond (eqb d start) (end - 1) (d - 1); tail = r.tail; live = true }) kept))))
       ];
       elsewhere = λ d l. elsewhere d (inr (omega arith)) ∙ h.elsewhere d (omega arith);
     })
@@ -91,9 +91,11 @@ module _ (entries ends : List ℕ) (cuts : AreCuts 0 ends (length entries)) (few
       let tail : v ≡ (get_or (darts lists) d (0, 0)).0 = sym (ap (λ x. (get_or (darts lists) x (0, 0)).0) number ∙ ap (λ (x : Dart). x.0) (dart-is ends entries cuts v p.1 v_in p.2.entry_in)) in
       let here = rounds.here v d v_in (omega arith) (omega (arith, end-is ends entries cuts v v_in, p.2.entry_in)) in
       let twin : twin_of old d ≡ get_or (twins_in old) d 0 = sym (get_or-map (λ (r : DartRecord). r.twin) old d no_record 0 (omega (arith, long))) in
+      let tail_old : tail_of old d ≡ v = sym (get_or-map (λ (r : DartRecord). r.tail) old d no_record 0 (omega (arith, long))) ∙ slots.tails_are d l ∙ sym tail in
       let after : get_or ends v 0 ≡ get_or (0 ∷ ends) (v + 1) 0 = let s : suc v ≡ v + 1 = omega arith in ap (λ x. get_or (0 ∷ ends) x 0) s in
       subst (λ x. record_at new d ≡ record { twin = get_or (twins_in old) d 0; next = cond (ltb (d + 1) (get_or (0 ∷ ends) (x + 1) 0)) (d + 1) (get_or (0 ∷ ends) x 0); prev = cond (eqb d (get_or (0 ∷ ends) x 0)) (get_or (0 ∷ ends) (x + 1) 0 - 1) (d - 1); tail = x; live = true }) tail
-      (here ∙ ap₂ (λ t e. record { twin = t; next = cond (ltb (d + 1) e) (d + 1) (get_or (0 ∷ ends) v 0); prev = cond (eqb d (get_or (0 ∷ ends) v 0)) (e - 1) (d - 1); tail = v; live = true }) twin after)
+      (here ∙ ap (λ s. record { twin = twin_of old d; next = cond (ltb (d + 1) (get_or ends v 0)) (d + 1) (get_or (0 ∷ ends) v 0); prev = cond (eqb d (get_or (0 ∷ ends) v 0)) (get_or ends v 0 - 1) (d - 1); tail = s; live = true }) tail_old
+      ∙ ap₂ (λ t e. record { twin = t; next = cond (ltb (d + 1) e) (d + 1) (get_or (0 ∷ ends) v 0); prev = cond (eqb d (get_or (0 ∷ ends) v 0)) (e - 1) (d - 1); tail = v; live = true }) twin after)
 
   -- and the linked records are those of the tables
   pub AreTableRecords-rounds : AreTableRecords (0 ∷ ends) (darts (cut 0 ends entries)) (twins_in old) new (length (darts (cut 0 ends entries)))

@@ -5,7 +5,8 @@ ghost use Rattle.half_edges.specs.Arena.{IsWalkable, record_at, steps, head_of, 
 ghost use Rattle.half_edges.specs.Links.{IsSpliced, IsUnspliced, IsThreaded};
 ghost use Rattle.half_edges.specs.Tables.{AreLinked};
 ghost use Rattle.simple_maps.specs.Tables.{AreSlots};
-ghost use Rattle.half_edges.specs.Rounds.{line_record, round_record, AreRounds, AreRoundVertices};
+ghost use Rattle.half_edges.specs.Rounds.{IsInLine, round_record, AreRounds, AreRoundVertices};
+ghost use Rattle.simple_maps.specs.Pass.{AreInLine};
 
 use map_lists::Rotations;
 use simple_maps::DartSlot;
@@ -28,14 +29,20 @@ impl DartSlot for DartRecord {
 
     ghost twin_of = { λ r. r.twin };
 
-    fn new(tail: u16, twin: u32) -> DartRecord {
+    ghost IsInLine = { IsInLine };
+
+    fn new(tail: u16, twin: u32, place: u32) -> DartRecord {
         DartRecord {
             twin,
-            next: 0,
-            prev: 0,
+            next: place + 1,
+            prev: place.saturating_sub(1),
             tail,
             live: true,
         }
+    }
+
+    fn with_twin(self, twin: u32) -> DartRecord {
+        DartRecord { twin, ..self }
     }
 
     fn tail(&self) -> u16 {
@@ -91,47 +98,30 @@ pub(crate) fn dart_to(darts: &[DartRecord], first: u32, degree: u16, head: u16) 
     None
 }
 
-// Links the darts from `start` on and before `end` into the round of `v`, but for its two ends.
-fn link_line(darts: &mut [DartRecord], start: u32, end: u32, v: u16)
+// Closes the round of the darts from `start` on and before `end`, which stand in line.
+fn close_round(darts: &mut [DartRecord], start: u32, end: u32)
     requires order { start ≤ end }
     requires within { end ≤ length darts.old }
-    ensures here { (d : ℕ) → start ≤ d → d < end → record_at darts.new d ≡ line_record darts.old v d }
+    requires line { (d : ℕ) → start ≤ d → d < end → IsInLine (record_at darts.old d) d }
+    ensures here { (d : ℕ) → start ≤ d → d < end → record_at darts.new d ≡ round_record darts.old start end d }
     ensures elsewhere { (d : ℕ) → d < start ⊎ end ≤ d → record_at darts.new d ≡ record_at darts.old d }
 {
-    for d in start..end {
-        darts[d as usize] = DartRecord {
-            twin: darts[d as usize].twin,
-            next: d + 1,
-            prev: d.saturating_sub(1),
-            tail: v,
-            live: true,
-        };
-    }
-}
-
-// Links the darts from `start` on and before `end` into the round of `v`.
-fn link_round(darts: &mut [DartRecord], start: u32, end: u32, v: u16)
-    requires order { start ≤ end }
-    requires within { end ≤ length darts.old }
-    ensures here { (d : ℕ) → start ≤ d → d < end → record_at darts.new d ≡ round_record darts.old start end v d }
-    ensures elsewhere { (d : ℕ) → d < start ⊎ end ≤ d → record_at darts.new d ≡ record_at darts.old d }
-{
-    link_line(darts, start, end, v);
     if start < end {
         darts[start as usize].prev = end - 1;
         darts[end as usize - 1].next = start;
     }
 }
 
-// Links the darts of all vertices into rounds, where the darts of each vertex end at the place that
-// `ends` says, and makes the records of the vertices.
-fn link_rounds(
+// Closes the rounds of all vertices, where the darts of each vertex end at the place that `ends` says,
+// and makes the records of the vertices.
+fn close_rounds(
     alloc: Global,
     ends: &[usize],
     darts: &mut [DartRecord],
 ) -> Result<Vec<VertexRecord>, AllocError>
     requires cuts { AreCuts 0 ends.now (length darts.old) }
     requires few { length darts.old < 16777216 }
+    requires line { (d : ℕ) → d < length darts.old → IsInLine (record_at darts.old d) d }
     requires few_vertices { length ends.now < 4096 }
     requires short { (v : ℕ) → v < length ends.now → slice_index ends.now v - slice_index_or (0 ∷ ends.now) v 0 < 65536 }
     ensures rounds { OnOk result (AreRounds ends.now darts.old darts.new (length ends.now)) }
@@ -141,7 +131,7 @@ fn link_rounds(
     let mut start = 0;
     for v in 0..ends.len() {
         let end = ends[v];
-        link_round(darts, start as u32, end as u32, v as u16);
+        close_round(darts, start as u32, end as u32);
         vertices.push(VertexRecord {
             first: start as u32,
             degree: (end - start) as u16,
@@ -151,7 +141,8 @@ fn link_rounds(
     Ok(vertices)
 }
 
-// Links the darts of lists, whose tails and twins are known, and makes the records of the vertices.
+// Links the darts of lists, whose tails and twins are known and which stand in line, and makes the
+// records of the vertices.
 pub(crate) fn link_darts(
     alloc: Global,
     lists: &Rotations,
@@ -159,9 +150,10 @@ pub(crate) fn link_darts(
 ) -> Result<Vec<VertexRecord>, AllocError>
     requires few_lists { length lists.now < 4096 }
     requires slots { AreSlots lists.now (map (λ r. r.tail) darts.old.items) (map (λ r. r.twin) darts.old.items) }
+    requires line { AreInLine IsInLine darts.old.items (length darts.old.items) }
     ensures { IfOk result (λ vertices. AreLinked lists.now darts.new.items vertices.items) }
 {
-    let vertices = link_rounds(alloc, lists.ends(), darts)?;
+    let vertices = close_rounds(alloc, lists.ends(), darts)?;
     Ok(vertices)
 }
 

@@ -48,13 +48,6 @@ darts_before_all [] v h = refl
 darts_before_all (us ∷ lists) zero h = absurd (omega (arith, h))
 darts_before_all (us ∷ lists) (suc v) h = omega (arith, darts_before_all lists v (omega (arith, h)), dart_count-cons us lists)
 
--- the darts of a list stand before those of each later one
-pub darts_before_later : (lists : Lists) (v w : ℕ) → v < w → darts_before lists v + length (list_of lists v) ≤ darts_before lists w
-darts_before_later [] v w h = omega arith
-darts_before_later (us ∷ lists) v zero h = absurd (omega (arith, h))
-darts_before_later (us ∷ lists) zero (suc w) h = omega arith
-darts_before_later (us ∷ lists) (suc v) (suc w) h = omega (arith, darts_before_later lists v w (omega (arith, h)))
-
 pub darts_before_le : (lists : Lists) (v : ℕ) → darts_before lists v ≤ dart_count lists
 darts_before_le [] v = omega arith
 darts_before_le (us ∷ lists) zero = omega arith

@@ -1,6 +1,5 @@
 -- A simple map without one of its edges: it is simple, with two darts less.
-use Rattle.std.proofs.Common.{◌≡◌, ◌≢◌, ℕ, ◌+◌, List, [], length, set, AllPairs, sym, ap, ◌∙◌, subst, arith, get_or-set_other, get_or-set_same}
-use Rattle.std.proofs.lemmas.List.{length-set}
+use Rattle.std.proofs.Common.{◌≡◌, ◌≢◌, ℕ, ◌+◌, List, [], length, set, AllPairs, sym, ap, ◌∙◌, subst, arith, get_or-set_other}
 use Rattle.std.proofs.lemmas.List.Sums.{sum_by-set}
 use Rattle.map_lists.specs.Lists.{Lists}
 use Rattle.map_definitions.specs.Maps.{list_of, HasDart, IsSimpleMap, follows, entry_after, dart_count, edge_count}
@@ -34,24 +33,18 @@ module _ (lists : Lists) (simple : IsSimpleMap lists) (u v : ℕ) (edge : HasDar
       subst (λ (us : List ℕ). AreEntryMore (set half v (without_entry us u)) half v u) half_list
       (AreEntryMore-without half v u (subst (λ (us : List ℕ). AllPairs ◌≢◌ us) (sym half_list) (simple.no_repeat v back.0)) back_half)
 
-  pub length-without_edge : length (without_edge lists u v) ≡ length lists
-  length-without_edge = second.count ∙ first.count
-
-  -- the lists at the two ends, and the others
+  -- each list of the map that is left
   pub list_at_first : list_of (without_edge lists u v) u ≡ without_entry (list_of lists u) v
-  list_at_first =
-      let one = without_entry (list_of lists u) v in
-      get_or-set_other (set lists u one) v u (without_entry (list_of lists v) u) [] u_not_v ∙ get_or-set_same lists u one [] edge.0
+  list_at_first = second.there u u_not_v ∙ first.here.rest
 
   pub list_at_second : list_of (without_edge lists u v) v ≡ without_entry (list_of lists v) u
-  list_at_second =
-      let one = without_entry (list_of lists u) v in
-      get_or-set_same (set lists u one) v (without_entry (list_of lists v) u) [] (omega (arith, length-set lists u one, back.0))
+  list_at_second = second.here.rest ∙ ap (λ us. without_entry us u) half_list
 
   pub list_elsewhere : (w : ℕ) → w ≢ u → w ≢ v → list_of (without_edge lists u v) w ≡ list_of lists w
-  list_elsewhere w nu nv =
-      let one = without_entry (list_of lists u) v in
-      get_or-set_other (set lists u one) v w (without_entry (list_of lists v) u) [] nv ∙ get_or-set_other lists u w one [] nu
+  list_elsewhere w nu nv = second.there w nv ∙ first.there w nu
+
+  pub length-without_edge : length (without_edge lists u v) ≡ length lists
+  length-without_edge = second.count ∙ first.count
 
   -- a dart that is left was one, and is none of the edge's
   pub dart_old : (w z : ℕ) → HasDart (without_edge lists u v) w z → HasDart lists w z × (w ≡ u → z ≢ v) × (w ≡ v → z ≢ u)

@@ -1,5 +1,5 @@
 -- Which of two directions comes first, by their halves.
-use Rattle.std.proofs.Common.{◌≡◌, ◌<ℤ◌, ◌↔◌, ℤ, pos, Bool, true, false, sym, ◌∙◌, inl, inr, ⊎_elim, refl}
+use Rattle.std.proofs.Common.{◌≡◌, ◌<ℤ◌, ◌↔◌, pos, Bool, true, false, sym, inl, inr, ⊎_elim, refl}
 use Rattle.std.specs.Prelude.{IsTrue}
 use Rattle.std.specs.Bool.{beq}
 use Rattle.std.proofs.lemmas.Bool.{true≢false}

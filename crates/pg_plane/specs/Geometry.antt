@@ -1,5 +1,5 @@
 -- Areas, segments, crossings and directions, over whole numbers of any size.
-use Rattle.std.specs.Prelude.{ℤ, pos, ◌+ℤ◌, ◌-ℤ◌, ◌*ℤ◌, ◌≤ℤ◌, ◌<ℤ◌, ◌≡◌, ◌⊎◌}
+use Rattle.std.specs.Prelude.{ℤ, pos, ◌-ℤ◌, ◌*ℤ◌, ◌≤ℤ◌, ◌<ℤ◌, ◌≡◌, ◌⊎◌}
 use Rattle.pg_plane.specs.declared.point.Point.{Point}
 
 -- the vector from the first point to the second

@@ -1,11 +1,47 @@
 //! Areas, crossings and directions that were worked out by hand.
+ghost use Rattle.std.specs.Prelude.{pos};
+ghost use Rattle.pg_plane.specs.Range.{IsWithin, IsInRange, IsDirection};
+
 use crate::{Ints, Point, Points, area2, clock_before, crosses, on_segment};
 use std::test::Fail;
 
-const MOST: i32 = 1 << 20;
+fn at(x: i8, y: i8) -> Point
+    ensures range { IsInRange result }
+    ensures direction { IsDirection result }
+{
+    Point {
+        x: i32::from(x),
+        y: i32::from(y),
+    }
+}
 
-fn at(x: i32, y: i32) -> Point {
-    Point { x, y }
+// A corner of the range, or a place on its rim.
+fn far(x: i8, y: i8) -> Point
+    requires x { IsWithin (pos 1) x }
+    requires y { IsWithin (pos 1) y }
+    ensures range { IsInRange result }
+    ensures direction { IsDirection result }
+{
+    Point {
+        x: i32::from(x) * 1_048_576,
+        y: i32::from(y) * 1_048_576,
+    }
+}
+
+// Eight directions, clockwise from west.
+fn direction(i: usize) -> Point
+    ensures { IsDirection result }
+{
+    match i {
+        0 => at(-5, 0),
+        1 => at(-1, 1),
+        2 => at(0, 3),
+        3 => at(2, 2),
+        4 => at(7, 0),
+        5 => at(1, -1),
+        6 => at(0, -1),
+        _ => at(-3, -2),
+    }
 }
 
 #[test]
@@ -13,30 +49,28 @@ fn areas(rt: HostRuntime) {
     assert_eq!(rt; area2(at(0, 0), at(1, 0), at(0, 1)), 1);
     assert_eq!(rt; area2(at(0, 0), at(0, 1), at(1, 0)), -1);
     assert_eq!(rt; area2(at(-1, -1), at(0, 0), at(2, 2)), 0);
-    assert_eq!(rt;
-        area2(at(-MOST, -MOST), at(MOST, -MOST), at(MOST, MOST)),
-        1 << 42
-    );
-    assert_eq!(rt;
-        area2(at(-MOST, -MOST), at(MOST, MOST), at(MOST, -MOST)),
-        -(1 << 42)
-    );
+    assert_eq!(rt; area2(far(-1, -1), far(1, -1), far(1, 1)), 1 << 42);
+    assert_eq!(rt; area2(far(-1, -1), far(1, 1), far(1, -1)), -(1 << 42));
+}
+
+// Whether a point is on a segment, from both of its ends.
+fn is_on(p: Point, a: Point, b: Point) -> (bool, bool)
+    requires p { IsInRange p }
+    requires a { IsInRange a }
+    requires b { IsInRange b }
+{
+    (on_segment(p, a, b), on_segment(p, b, a))
 }
 
 #[test]
 fn points_on_segments(rt: HostRuntime) {
-    let (a, b) = (at(0, 0), at(4, 2));
-    for (p, is_on) in [
-        (a, true),
-        (b, true),
-        (at(2, 1), true),
-        (at(6, 3), false),
-        (at(2, 2), false),
-    ] {
-        assert_eq!(rt; on_segment(p, a, b), is_on);
-        assert_eq!(rt; on_segment(p, b, a), is_on);
-    }
-    assert!(rt; on_segment(at(3, 0), at(3, -1), at(3, 5)));
+    let (yes, no) = ((true, true), (false, false));
+    assert_eq!(rt; is_on(at(0, 0), at(0, 0), at(4, 2)), yes);
+    assert_eq!(rt; is_on(at(4, 2), at(0, 0), at(4, 2)), yes);
+    assert_eq!(rt; is_on(at(2, 1), at(0, 0), at(4, 2)), yes);
+    assert_eq!(rt; is_on(at(6, 3), at(0, 0), at(4, 2)), no);
+    assert_eq!(rt; is_on(at(2, 2), at(0, 0), at(4, 2)), no);
+    assert_eq!(rt; is_on(at(3, 0), at(3, -1), at(3, 5)), yes);
 }
 
 #[test]
@@ -51,23 +85,13 @@ fn segments_that_cross(rt: HostRuntime) {
 
 #[test]
 fn directions_clockwise_from_west(rt: HostRuntime) {
-    let round = [
-        at(-5, 0),
-        at(-1, 1),
-        at(0, 3),
-        at(2, 2),
-        at(7, 0),
-        at(1, -1),
-        at(0, -1),
-        at(-3, -2),
-    ];
     for i in 0..8 {
         for j in 0..8 {
-            assert_eq!(rt; clock_before(round[i], round[j]), i < j);
+            assert_eq!(rt; clock_before(direction(i), direction(j)), i < j);
         }
     }
     assert!(rt; !clock_before(at(-1, 0), at(-9, 0)));
-    assert!(rt; clock_before(at(-2 * MOST, 1), at(2 * MOST, -2 * MOST)));
+    assert!(rt; clock_before(far(-1, 1), far(1, -1)));
 }
 
 #[test]

@@ -1,19 +1,49 @@
 -- How a run of the top call ends.
-use Rattle.std.proofs.Common.{◌≡◌, ℕ, List, [], refl, inl, arith, Option, Some, None}
-use Rattle.map_lists.specs.Lists.{Lists}
-use Rattle.planar_code.specs.Reading.{Ending, well, end_in_record, bad_count, too_long, IsReading}
+use Rattle.std.proofs.Common.{◌≡◌, ℕ, List, [], refl, sym, ap, ◌∙◌, inl, arith, Option, Some, None}
+use Rattle.planar_code.specs.Reading.{Ending as SpokenEnding, well, end_in_record, bad_count, too_long}
 use Rattle.planar_code.specs.State.{at_front}
 use Rattle.planar_code.proofs.ProgressLemmas.{Progress-start, Progress-begins}
 use Rattle.planar_code.proofs.ReadingLemmas.{reading-unique}
 use Rattle.pg_io.specs.Io.{HasRisen}
 use Rattle.pg_io.proofs.Growth.{GrowsByPrefix-none}
-use Rattle.record_runs.specs.Outcome.{Ports}
+use Rattle.record_runs.specs.Outcome.{Ports, Outcome as RunOutcome}
+use Rattle.record_runs.specs.declared.run.RunEnd.{RunEnd}
+use Rattle.record_runs.specs.declared.run.RunEnd.TheVariants as ended
 use Rattle.pigale_shell.specs.Text.{bad_words_line}
-use Rattle.pigale_shell.specs.PlanarCode.{IsBad}
-use Rattle.pigale_shell.specs.Outcome.{Outcome, GrowsByText, MayEnd}
+use Rattle.pigale_shell.specs.Lines.{ending_of}
+use Rattle.pigale_shell.specs.declared.lines.Ending.{Ending}
+use Rattle.pigale_shell.specs.declared.lines.Ending.TheVariants.{Well, EndInRecord, BadCount, TooLong}
+use Rattle.pigale_shell.specs.Answer.{planar_answers}
+use Rattle.pigale_shell.specs.PlanarCode.{planar_code}
+use Rattle.pigale_shell.specs.JobInput.{RecordOf, EndingOf, reads_of, answers_of}
+use Rattle.pigale_shell.specs.Outcome.{Outcome, GrowsByText, MayEnd, status_of}
 use Rattle.pigale_shell.specs.declared.job.Job.{Job}
+use Rattle.pigale_shell.specs.declared.job.Job.TheVariants.{Count}
 use Rattle.pigale_shell.specs.declared.job.Status.{Status}
 use Rattle.pigale_shell.specs.declared.job.Status.TheVariants.{Done, SomeRefused, BadWords, BadInput, ReadFault, WriteFault, NoMemory}
+
+-- an ending of a reading, as the code has it
+told : SpokenEnding → Ending
+told well = Well
+told (end_in_record at) = EndInRecord at
+told (bad_count at) = BadCount at
+told too_long = TooLong
+
+told-ending_of : (ending : Ending) → told (ending_of ending) ≡ ending
+unfolding told
+told-ending_of Well = refl
+told-ending_of (EndInRecord at) = refl
+told-ending_of (BadCount at) = refl
+told-ending_of TooLong = refl
+
+-- each input of a job is read in one way
+one_ending : (job : Job) (input : List ℕ) (records records' : List (RecordOf job)) (ending ending' : EndingOf job) → (reads_of job).IsReading input records ending → (reads_of job).IsReading input records' ending' → ending ≡ ending'
+one_ending Count input records records' ending ending' reading reading' =
+    sym (told-ending_of ending) ∙ ap told (reading-unique input records records' (ending_of ending) (ending_of ending') reading reading').1 ∙ told-ending_of ending'
+
+-- each input begins with no records
+begins_none : (job : Job) (input : List ℕ) → (reads_of job).BeginsWith input []
+begins_none Count input = Progress-begins [] [] at_front input Progress-start (omega arith)
 
 -- nothing was written: a part of any text
 pub GrowsByText-none : (found : Option Job) (left o : Option (List ℕ)) → GrowsByText found left o o
@@ -22,40 +52,35 @@ GrowsByText-none (Some job) left o = λ input told. record {
   records = [];
   blocks = [];
   last = [];
-  begins = Progress-begins [] [] at_front input Progress-start (omega arith);
+  begins = begins_none job input;
   answers = refl;
   last_is = inl refl;
   grows = GrowsByPrefix-none [] refl;
 }
 
--- a well ending
-may_end-well : (ending : Ending) (status : Status) → ending ≡ well → MayEnd well status → MayEnd ending status
-may_end-well ending status is may = rw is may
+-- a run over records, as the job has it
+Outcome-of : (job : Job) (before after : Ports) (end : RunEnd) → RunOutcome (reads_of job) (answers_of job) before after end → Outcome job before after (status_of end)
+Outcome-of job before after ended.Done outcome = outcome
+Outcome-of job before after ended.SomeRefused outcome = outcome
+Outcome-of job before after ended.BadInput outcome = outcome
+Outcome-of job before after ended.ReadFault outcome = outcome
+Outcome-of job before after ended.WriteFault outcome = outcome
+Outcome-of job before after ended.NoMemory outcome = outcome
 
--- a bad one
-may_end-bad : (ending : Ending) → IsBad ending → MayEnd ending BadInput
-may_end-bad well bad = bad
-may_end-bad (end_in_record at) bad = tt
-may_end-bad (bad_count at) bad = tt
-may_end-bad too_long bad = tt
-
-may_end-memory : (ending : Ending) → MayEnd ending NoMemory
-may_end-memory well = tt
-may_end-memory (end_in_record at) = tt
-may_end-memory (bad_count at) = tt
-may_end-memory too_long = tt
+-- a run over planar_code, as a job over it has it
+pub Outcome-planar : (job : Job) (before after : Ports) (end : RunEnd) → RunOutcome planar_code (planar_answers job) before after end → Outcome job before after (status_of end)
+Outcome-planar Count before after end outcome = Outcome-of Count before after end outcome
 
 -- where nothing failed the ending of the input decides the status
-pub Outcome-complete : (job : Job) (before after : Ports) (status : Status) (input : List ℕ) (records : List Lists) (ending : Ending) → Outcome job before after status → before.left ≡ Some input → IsReading input records ending → ¬ HasRisen before.read_faults after.read_faults → ¬ HasRisen before.write_faults after.write_faults → MayEnd ending status
+pub Outcome-complete : (job : Job) (before after : Ports) (status : Status) (input : List ℕ) (records : List (RecordOf job)) (ending : EndingOf job) → Outcome job before after status → before.left ≡ Some input → (reads_of job).IsReading input records ending → ¬ HasRisen before.read_faults after.read_faults → ¬ HasRisen before.write_faults after.write_faults → MayEnd job ending status
 Outcome-complete job before after Done input records ending outcome told reading no_read no_write =
-    may_end-well ending Done (reading-unique input records (outcome.1 input told).1.records ending well reading (outcome.1 input told).1.reading).1 tt
+    one_ending job input records (outcome.1 input told).1.records ending (reads_of job).well reading (outcome.1 input told).1.reading
 Outcome-complete job before after SomeRefused input records ending outcome told reading no_read no_write =
-    may_end-well ending SomeRefused (reading-unique input records (outcome.1 input told).3.records ending well reading (outcome.1 input told).3.reading).1 tt
+    one_ending job input records (outcome.1 input told).3.records ending (reads_of job).well reading (outcome.1 input told).3.reading
 Outcome-complete job before after BadWords input records ending outcome told reading no_read no_write = absurd outcome
 Outcome-complete job before after BadInput input records ending outcome told reading no_read no_write =
     let is = outcome.1 input told in
-    let same = (reading-unique input records is.3.records ending is.0 reading is.3.reading).1 in
-    may_end-bad ending (rw same is.1)
+    rw (one_ending job input records is.3.records ending is.0 reading is.3.reading) is.1
 Outcome-complete job before after ReadFault input records ending outcome told reading no_read no_write = absurd (no_read outcome.0)
 Outcome-complete job before after WriteFault input records ending outcome told reading no_read no_write = absurd (no_write outcome.0)
-Outcome-complete job before after NoMemory input records ending outcome told reading no_read no_write = may_end-memory ending
+Outcome-complete job before after NoMemory input records ending outcome told reading no_read no_write = tt

@@ -1,8 +1,10 @@
--- What each job answers for a record.
+-- What each job over planar_code writes.
 use Rattle.std.specs.Prelude.{ℕ, List, Bool, ◌≡◌}
 use Rattle.map_lists.specs.Lists.{Lists}
 use Rattle.record_runs.specs.Texts.{Answers}
-use Rattle.pigale_shell.specs.Text.{count_block, count_refuses}
+use Rattle.pigale_shell.specs.Text.{count_block, count_refuses, last_line}
+use Rattle.pigale_shell.specs.Lines.{ending_of}
+use Rattle.pigale_shell.specs.declared.lines.Ending.{Ending}
 use Rattle.pigale_shell.specs.declared.job.Job.{Job}
 use Rattle.pigale_shell.specs.declared.job.Job.TheVariants.{Count}
 
@@ -14,6 +16,10 @@ IsBlock Count k lists text = text ≡ count_block k lists
 abbrev pub is_refused : Job → Lists → Bool
 is_refused Count lists = count_refuses lists
 
--- both
-abbrev pub answers_of : Job → Answers Lists
-answers_of job = record { IsBlock = IsBlock job; is_refused = is_refused job }
+-- both, and the last line
+abbrev pub planar_answers : Job → Answers Lists Ending
+planar_answers job = record {
+  IsBlock = IsBlock job;
+  is_refused = is_refused job;
+  last_line = λ records refused ending. last_line records refused (ending_of ending);
+}

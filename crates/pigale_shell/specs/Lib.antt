@@ -4,5 +4,6 @@ pub mod Lines
 pub mod Words
 pub mod Answer
 pub mod PlanarCode
+pub mod JobInput
 pub mod Outcome
 pub mod Text

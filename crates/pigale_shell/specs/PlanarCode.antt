@@ -1,24 +1,48 @@
 -- planar_code as a format of runs.
-use Rattle.std.specs.Prelude.{ℕ, ◌+◌, ◌<◌, length}
+use Rattle.std.specs.Prelude.{ℕ, ◌+◌, ◌<◌, List, [], ◌∷◌, length}
 use Rattle.map_lists.specs.Lists.{Lists}
 use Rattle.record_runs.specs.Texts.{Reads}
-use Rattle.planar_code.specs.Reading.{Ending, well, end_in_record, bad_count, too_long, IsReading, BeginsWith}
+use Rattle.planar_code.specs.Reading.{Ending as SpokenEnding, IsReading, BeginsWith}
 use Rattle.planar_code.specs.State.{State}
-use Rattle.pigale_shell.specs.Text.{last_line}
+use Rattle.planar_code.specs.Ends.{ending_by, ending_here}
+use Rattle.pigale_shell.specs.Lines.{ending_of}
+use Rattle.pigale_shell.specs.declared.lines.Ending.{Ending}
+use Rattle.pigale_shell.specs.declared.lines.Ending.TheVariants.{Well, EndInRecord, BadCount, TooLong}
 
 -- an input that does not end well
 abbrev pub IsBad : Ending → Type 0
-IsBad well = ⊥
-IsBad (end_in_record at) = Unit {0}
-IsBad (bad_count at) = Unit {0}
-IsBad too_long = Unit {0}
+IsBad Well = ⊥
+IsBad (EndInRecord at) = Unit {0}
+IsBad (BadCount at) = Unit {0}
+IsBad TooLong = Unit {0}
 
 abbrev pub planar_code : Reads Lists Ending
-planar_code = record { IsReading = IsReading; BeginsWith = BeginsWith; well = well; IsBad = IsBad; last_line = last_line }
+planar_code = record {
+  IsReading = λ input records ending. IsReading input records (ending_of ending);
+  BeginsWith = BeginsWith;
+  well = Well;
+  IsBad = IsBad;
+}
 
 -- how many bytes a reader has consumed
 abbrev pub place_of : State → ℕ
 place_of reader = reader.start + length reader.pending
+
+-- how the bytes consumed end if no more come, by those pending and where they begin
+abbrev pub end_by : List ℕ → ℕ → Ending
+end_by [] start = Well
+end_by (b ∷ pending) start = EndInRecord start
+
+abbrev pub end_here : State → Ending
+end_here reader = end_by reader.pending reader.start
+
+-- it is the ending that the reading has
+ends_by : (P : SpokenEnding → Type 0) (pending : List ℕ) (start : ℕ) → P (ending_by pending start) → P (ending_of (end_by pending start))
+ends_by P [] start ends = ends
+ends_by P (b ∷ pending) start ends = ends
+
+pub ends_here : (P : SpokenEnding → Type 0) (reader : State) → P (ending_here reader) → P (ending_of (end_here reader))
+ends_here P reader ends = ends_by P reader.pending reader.start ends
 
 -- a record has from 1 to 4095 lists
 pub record IsGiven (lists : Lists) : Type 0 where

@@ -31,21 +31,16 @@ impl PlanarReader {
 }
 
 impl Format for PlanarReader {
-    ghost use Rattle.planar_code.specs.Reading.{Ending};
+    ghost use Rattle.planar_code.specs.Reading.{IsReading};
     ghost use Rattle.planar_code.specs.Progress.{Progress};
     ghost use Rattle.pigale_shell.specs.Lines.{ending_of};
-    ghost use Rattle.pigale_shell.specs.PlanarCode.{planar_code, place_of, IsGiven};
+    ghost use Rattle.pigale_shell.specs.PlanarCode.{planar_code, place_of, end_here, ends_here, IsGiven};
     ghost use Rattle.planar_code.proofs.ProgressLemmas.{Progress-length, Progress-begins};
-    ghost use Rattle.planar_code.specs.Ends.{ending_here};
     ghost use Rattle.planar_code.proofs.EndLemmas.{Progress-ends, reading-begins};
 
     type Record = Rotations;
 
     type End = Ending;
-
-    ghost Ending = { Ending };
-
-    ghost ending_of = { ending_of };
 
     ghost reads = { planar_code };
 
@@ -55,17 +50,17 @@ impl Format for PlanarReader {
 
     ghost lent = { λ format. format.reader.lists };
 
-    ghost ending = { λ format. ending_here format.reader };
+    ghost ending = { λ format. end_here format.reader };
 
     ghost IsGiven = { IsGiven };
 
     ghost place_is = { λ format consumed records progress. Progress-length consumed records format.reader progress };
 
-    ghost is_read = { λ format consumed records progress within. Progress-ends consumed records format.reader progress within };
+    ghost is_read = { λ format consumed records progress within. ends_here (λ ending. IsReading consumed records ending) format.reader (Progress-ends consumed records format.reader progress within) };
 
     ghost begins = { λ format consumed records tail progress within. Progress-begins consumed records format.reader tail progress within };
 
-    ghost has = { reading-begins };
+    ghost has = { λ input records ending reading. reading-begins input records (ending_of ending) reading };
 
     fn take(&mut self, piece: &[u8]) -> Result<Taken<Ending>, AllocError> {
         match self.reader.take(piece)? {
@@ -94,15 +89,6 @@ impl Format for PlanarReader {
     fn is_well(end: &Ending) -> bool {
         matches!(end, Ending::Well)
     }
-
-    fn last_line(
-        alloc: Global,
-        records: u32,
-        refused: u32,
-        end: &Ending,
-    ) -> Result<Vec<u8>, AllocError> {
-        last_line(alloc, records, refused, *end)
-    }
 }
 
 /// A job over planar_code.
@@ -128,13 +114,13 @@ impl PlanarJob {
 }
 
 impl RecordJob<PlanarReader> for PlanarJob {
-    ghost use Rattle.pigale_shell.specs.Answer.{answers_of};
+    ghost use Rattle.pigale_shell.specs.Answer.{planar_answers};
 
     type Kind = Job;
 
     ghost kind = { λ planar. planar.job };
 
-    ghost answers = { answers_of };
+    ghost answers = { planar_answers };
 
     fn answer(
         &mut self,
@@ -143,5 +129,15 @@ impl RecordJob<PlanarReader> for PlanarJob {
         out: &mut Vec<u8>,
     ) -> Result<bool, AllocError> {
         answer_with(self.alloc, &mut self.counter, self.job, number, given, out)
+    }
+
+    fn last_line(
+        &self,
+        alloc: Global,
+        records: u32,
+        refused: u32,
+        end: &Ending,
+    ) -> Result<Vec<u8>, AllocError> {
+        last_line(alloc, records, refused, *end)
     }
 }

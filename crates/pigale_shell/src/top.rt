@@ -1,13 +1,11 @@
 //! The top call.
-ghost use Rattle.std.specs.Prelude.{◌≡◌, ◌≢◌, ◌⊎◌, ◌+◌, ◌<◌, ℕ, List, IsSome, [], map, string_bytes, Some, None};
-ghost use Rattle.map_lists.specs.Lists.{Lists};
-ghost use Rattle.planar_code.specs.Reading.{Ending, well, IsReading};
+ghost use Rattle.std.specs.Prelude.{◌≡◌, ◌≢◌, ◌⊎◌, ◌+◌, ◌<◌, ℕ, List, [], map, string_bytes, Some, None};
 ghost use Rattle.pigale_shell.specs.Text.{bad_words_line};
 ghost use Rattle.pg_io.specs.Io.{WhereTold, Grows, GrowsByPrefix, HasRisen, TakesAtMost};
 ghost use Rattle.record_runs.specs.Texts.{input_limit};
 ghost use Rattle.pigale_shell.specs.Words.{job_of};
 ghost use Rattle.pigale_shell.specs.Outcome.{Writes, WritesTaken, GrowsByText, MayEnd};
-ghost use Rattle.pigale_shell.specs.PlanarCode.{IsBad};
+ghost use Rattle.pigale_shell.specs.JobInput.{RecordOf, EndingOf, reads_of};
 
 use super::job::{Job, Status, WordFault, words_to_job};
 use super::run::run_job;
@@ -43,12 +41,12 @@ pub fn pigale<S: Source, K: Sink>(
     // for each record, in order, and the last line, which says that none was refused.
     ensures done { result ≡ Status.Done → (job : Job) × (job_of (map string_bytes words.now) ≡ Some job)
         × WhereTold (S.left src.old) (λ input. (S.left src.new ≡ Some [])
-        × Writes job input well 0 (K.written out.old) (K.written out.new)) }
+        × Writes job input (reads_of job).well 0 (K.written out.old) (K.written out.new)) }
 
     // The same, and the last line says that some record was refused.
     ensures some_refused { result ≡ Status.SomeRefused → (job : Job) × (job_of (map string_bytes words.now) ≡ Some job)
         × WhereTold (S.left src.old) (λ input. (S.left src.new ≡ Some [])
-        × (refused : ℕ) × (0 < refused) × Writes job input well refused (K.written out.old) (K.written out.new)) }
+        × (refused : ℕ) × (0 < refused) × Writes job input (reads_of job).well refused (K.written out.old) (K.written out.new)) }
 
     // The words are bad, the source is as it was, and the sink grew by one line.
     ensures bad_words { result ≡ Status.BadWords → (job_of (map string_bytes words.now) ≡ None)
@@ -60,7 +58,7 @@ pub fn pigale<S: Source, K: Sink>(
 
     // The input has a bad ending, and the sink grew by the blocks before it and the line that names just that ending.
     ensures bad_input { result ≡ Status.BadInput → (job : Job) × (job_of (map string_bytes words.now) ≡ Some job)
-        × WhereTold (S.left src.old) (λ input. (ending : Ending) × IsBad ending
+        × WhereTold (S.left src.old) (λ input. (ending : EndingOf job) × (reads_of job).IsBad ending
         × (refused : ℕ) × Writes job input ending refused (K.written out.old) (K.written out.new)) }
 
     // A read failed, and the sink grew by the blocks of just those records that end within the bytes taken.
@@ -78,9 +76,10 @@ pub fn pigale<S: Source, K: Sink>(
 
     // Where the words are good, nothing failed and this is the reading of the input, its ending decides the status, unless
     // memory was wanting.
-    ensures complete { (input : List ℕ) (records : List Lists) (ending : Ending) → S.left src.old ≡ Some input → IsReading input records ending
-        → IsSome (job_of (map string_bytes words.now)) → ¬ HasRisen (S.faults src.old) (S.faults src.new)
-        → ¬ HasRisen (K.faults out.old) (K.faults out.new) → MayEnd ending result }
+    ensures complete { (job : Job) (input : List ℕ) (records : List (RecordOf job)) (ending : EndingOf job) →
+        job_of (map string_bytes words.now) ≡ Some job → S.left src.old ≡ Some input → (reads_of job).IsReading input records ending
+        → ¬ HasRisen (S.faults src.old) (S.faults src.new) → ¬ HasRisen (K.faults out.old) (K.faults out.new)
+        → MayEnd job ending result }
 
     // At most 2^24 bytes are taken, and the one after them.
     ensures limit { TakesAtMost (input_limit + 1) (S.left src.old) (S.left src.new) }

@@ -4,19 +4,19 @@ use Rattle.std.proofs.lemmas.List.{append-nil, length-append, length-take-le, sa
 use Rattle.std.proofs.lemmas.List.Elements.{All-nil}
 use Rattle.std.proofs.lemmas.Grind.{flat_map-append}
 use Rattle.std.proofs.lemmas.Bool.Decides.{nat_tests}
-use Rattle.std.specs.Prelude.{nat_le, IsTrue, IsFalse}
+use Rattle.std.specs.Prelude.{nat_le, IsFalse}
 use Rattle.map_lists.specs.Lists.{Lists}
 use Rattle.planar_code.specs.Reading.{record_numbers, two_bytes, IsRecord, is_bad_count}
 use Rattle.planar_code.specs.declared.scan.Phase.{Phase}
-use Rattle.planar_code.specs.declared.scan.Phase.TheVariants.{Start, WideStart, WideHigh, Narrow, Wide, WideHalf}
+use Rattle.planar_code.specs.declared.scan.Phase.TheVariants.{Start, WideHigh, Narrow, Wide, WideHalf}
 use Rattle.planar_code.specs.declared.scan.Scanned.{Scanned}
-use Rattle.planar_code.specs.declared.scan.Scanned.TheVariants.{More, Ended, Bad}
+use Rattle.planar_code.specs.declared.scan.Scanned.TheVariants.{More, Ended}
 use Rattle.planar_code.specs.Open.{Open, numbers_of, IsOpen, Gathers, Collects}
 use Rattle.planar_code.specs.Scan.{bytes_of, IsScanned, GoesOn, Passes, room_of, most_lists, Advances}
 use Rattle.planar_code.proofs.GatherLemmas.{GathersWide, gathers-none, gathers-more, wide-room}
 use Rattle.planar_code.proofs.SplitLemmas.{take-first, take-next, last-split}
 use Rattle.planar_code.proofs.PassLemmas.{Passes-append, narrow-passes, wide_bytes, half-goes_on, wide-push, wide-goes_on, wide-passes, ends-zero}
-use Rattle.planar_code.proofs.ScanLemmas.{zeros, zeros-append, zeros-numbers_of, not_bad-first, not_bad-long, narrow-no_record, wide-no_record, zero-not_narrow, pair_of}
+use Rattle.planar_code.proofs.ScanLemmas.{zeros, zeros-append, zeros-numbers_of, not_bad-first, not_bad-long, narrow-no_record, wide-no_record, pair_of}
 
 -- there is no less room than the entries took
 room-by : (most room room' k : ℕ) (b : Bool) → nat_le most_lists most ≡ b → room ≤ room' + k → room_of most room ≤ room_of most room' + k
@@ -46,13 +46,6 @@ ends-with phase old new lent lists piece k some within passes not_bad is none no
 }
 
 module _ (piece : List ℕ) (some : 0 < length piece) (now : Open) (lent : Lists) where
-  -- a first byte 0
-  pub begins-wide : get_or piece 0 0 ≡ 0 → IsScanned Start now → Advances Start now lent piece WideStart (More 1) now lent
-  begins-wide at is =
-      one-more Start WideStart now now lent piece 0 some at is
-      (refl, λ lists record'. elim record' [ inl n ↦ zero-not_narrow [] lists n | inr w ↦ (let e = w.spelled in cc) ])
-      refl refl (omega arith)
-
   -- a first byte that is the number of lists
   pub begins-narrow : (b : ℕ) → get_or piece 0 0 ≡ b → 0 < b → b < 256 → IsScanned Start now → Advances Start now lent piece (Narrow b) (More 1) now lent
   begins-narrow b at positive small is =
@@ -60,23 +53,6 @@ module _ (piece : List ℕ) (some : 0 < length piece) (now : Open) (lent : Lists
       (record { few_lists = small; some_left = rw is.0 positive; small_lists = rw is.0 (All-nil (λ us. All (λ u. u < 255) us)); small_last = rw is.1 (All-nil (λ u. u < 255)) })
       (not_bad-first b [] positive, narrow-no_record b [] positive positive)
       (rw (is.0, is.1) refl) refl (omega arith)
-
-  pub begins-high : (high : ℕ) → get_or piece 0 0 ≡ high → IsScanned WideStart now → Advances WideStart now lent piece (WideHigh high) (More 1) now lent
-  begins-high high at is =
-      one-more WideStart (WideHigh high) now now lent piece high some at is
-      (refl, λ lists record'. elim record' [ inl n ↦ zero-not_narrow (high ∷ []) lists n | inr w ↦ (let e = w.spelled in cc) ])
-      refl refl (omega arith)
-
-  -- a count that is none
-  pub count-bad : (high low : ℕ) → get_or piece 0 0 ≡ low → IsTrue (is_bad_count (0 ∷ high ∷ low ∷ [])) → IsScanned (WideHigh high) now → Advances (WideHigh high) now lent piece (WideHigh high) (Bad 1) now lent
-  count-bad high low at bad is =
-      let first : low ∷ [] ≡ take 1 piece = ap (λ (x : ℕ). x ∷ []) (sym at) ∙ sym (take-first piece some) in
-      let P : List ℕ → Type 0 = λ x. IsTrue (is_bad_count (0 ∷ high ∷ x)) in
-      record {
-        is = is;
-        scans = ((omega arith, omega arith, tt), subst P first bad, refl, refl);
-        some = omega arith;
-      }
 
   -- a count
   pub count-ends : (high low n : ℕ) → get_or piece 0 0 ≡ low → low < 256 → n ≡ 256 * high + low → 0 < n → n ≤ 4095 → IsScanned (WideHigh high) now → Advances (WideHigh high) now lent piece (Wide n) (More 1) now lent

@@ -1,5 +1,5 @@
 -- How the bytes consumed end, and with which records an input begins.
-use Rattle.std.proofs.Common.{◌≡◌, ℕ, ◌+◌, ◌≤◌, List, [], ◌∷◌, length, refl, arith}
+use Rattle.std.proofs.Common.{◌≡◌, ℕ, ◌≤◌, List, [], ◌∷◌, length, refl, arith}
 use Rattle.map_lists.specs.Lists.{Lists}
 use Rattle.planar_code.specs.Reading.{Ending, IsReading, BeginsWith, input_limit}
 use Rattle.planar_code.specs.State.{State}

@@ -54,9 +54,6 @@ narrow-gathers count k number piece old mid new within at low some is collects r
 abbrev pub GathersWide : ℕ → List ℕ → Open → Open → Type 0
 GathersWide count bytes old new = (numbers : List ℕ) × (flat_map two_bytes numbers ≡ bytes) × Gathers 65535 count numbers old new
 
-pub wide-none : (count : ℕ) (now : Open) → IsOpen 4096 65535 count now.lists now.last → GathersWide count [] now now
-wide-none count now is = ([], refl, gathers-none 4096 65535 count now is)
-
 -- two bytes more
 take-pair : (piece : List ℕ) (k : ℕ) → k + 1 < length piece → take (k + 2) piece ≡ take k piece ++ (get_or piece k 0 ∷ get_or piece (k + 1) 0 ∷ [])
 take-pair piece k within =

@@ -3,13 +3,13 @@ use Rattle.std.proofs.Common.{◌≡◌, ℕ, suc, ◌+◌, ◌-◌, ◌<◌, �
 use Rattle.std.proofs.lemmas.List.{append-nil, length-append, length-take-le}
 use Rattle.std.proofs.lemmas.Slice.Eq.{bytes_eq-Decides}
 use Rattle.map_lists.specs.Lists.{Lists}
-use Rattle.planar_code.specs.Reading.{header, is_header, input_limit, IsReading, bad_count, too_long}
+use Rattle.planar_code.specs.Reading.{header, is_header, input_limit, IsReading, bad_count}
 use Rattle.planar_code.specs.State.{State, with_byte, after_more, after_record}
 use Rattle.planar_code.specs.Taken.{after_all, AllJoin, Takes}
 use Rattle.planar_code.specs.declared.reader.Taken.TheVariants.{More, Ended, Bad}
 use Rattle.planar_code.specs.Progress.{Progress}
 use Rattle.planar_code.proofs.SplitLemmas.{take-next, split-next}
-use Rattle.planar_code.proofs.ProgressLemmas.{Progress-more, Progress-record, Progress-bad, Progress-too_long}
+use Rattle.planar_code.proofs.ProgressLemmas.{Progress-more, Progress-record, Progress-bad}
 
 -- Bytes that join those pending.
 pub Progress-all : (consumed : List ℕ) (records : List Lists) (state : State) (bytes : List ℕ) → Progress consumed records state → AllJoin state bytes → Progress (consumed ++ bytes) records (after_all state bytes)
@@ -54,11 +54,6 @@ Progress-bad_piece consumed records old new piece k place rest p takes within =
     let Q : ℕ → Type 0 = λ n. IsReading ((consumed ++ front) ++ (b ∷ (later ++ rest))) records (bad_count n) in
     subst P whole
     (subst Q (sym takes.3.1) (Progress-bad (consumed ++ front) records mid b (later ++ rest) (Progress-all consumed records old front p takes.2) takes.3.0 short))
-
--- Where the bytes consumed are as many as are read, bytes behind them are too many.
-pub Progress-past : (consumed : List ℕ) (records : List Lists) (state : State) (rest : List ℕ) → Progress consumed records state → length consumed ≡ input_limit → 0 < length rest → IsReading (consumed ++ rest) records too_long
-Progress-past consumed records state [] p full some = absurd (omega arith)
-Progress-past consumed records state (b ∷ rest) p full some = Progress-too_long consumed records state b rest p full
 
 -- How far a reader has moved on: so many bytes, no start back, and a header comes only at the front.
 pub record Moves (old new : State) (k : ℕ) : Type 0 where
@@ -107,7 +102,3 @@ ended-moves old new piece k front takes =
     let start : new.start ≡ mid.start + length (with_byte mid b) = ap (λ (s : State). s.start) is in
     let may : new.header_may_come ≡ false = ap (λ (s : State). s.header_may_come) is in
     (record { count = omega (arith, ap length none); front = λ h. cc; rises = omega arith }, omega arith)
-
--- nothing pending where a record has ended
-pub ended-between : (old new : State) (piece : List ℕ) (k : ℕ) → Takes old piece (Ended k) new → new.pending ≡ []
-ended-between old new piece k takes = ap (λ (s : State). s.pending) takes.3.2

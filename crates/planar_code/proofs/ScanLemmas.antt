@@ -140,8 +140,3 @@ pair_of high low small =
     let upper : (256 * high + low) / 256 ≡ high = omega arith in
     let lower : (256 * high + low) % 256 ≡ low = omega arith in
     cc
-
--- the second byte of a number
-pub half-ended : (xs : List ℕ) (high low : ℕ) → low < 256 → (0 ∷ (flat_map two_bytes xs ++ high ∷ [])) ++ low ∷ [] ≡ 0 ∷ flat_map two_bytes (xs ++ (256 * high + low) ∷ [])
-half-ended xs high low small =
-    ap (λ (x : List ℕ). 0 ∷ x) (append_assoc (flat_map two_bytes xs) (high ∷ []) (low ∷ []) ∙ ap (λ (x : List ℕ). flat_map two_bytes xs ++ x) (sym (pair_of high low small)) ∙ sym (flat_map-append two_bytes xs ((256 * high + low) ∷ [])))

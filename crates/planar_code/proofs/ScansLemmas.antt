@@ -1,6 +1,6 @@
 -- What a scanner makes of a piece, part by part.
 use Rattle.std.proofs.Common.{◌≡◌, ℕ, ◌+◌, ◌-◌, ◌≤◌, List, ◌++◌, length, take, drop, refl, sym, ap, subst, ◌∙◌, arith, append_assoc}
-use Rattle.std.proofs.lemmas.List.{append-nil, length-drop, take-append-drop, length-take-le, take_rest}
+use Rattle.std.proofs.lemmas.List.{length-drop, take-append-drop, length-take-le, take_rest}
 use Rattle.std.proofs.Math.Seq.{take-append-add}
 use Rattle.std.specs.Prelude.{IsTrue, IsFalse}
 use Rattle.planar_code.specs.Reading.{IsRecord, is_bad_count}
@@ -67,10 +67,6 @@ Scans-parts old mid new piece n (Bad k) first then =
       then.2 ∙ ap (λ (x : List ℕ). x ++ take (k - 1) (drop n piece)) first.2 ∙ joined old.bytes piece n first.0 (k - 1) ∙ ap (λ (i : ℕ). old.bytes ++ take i piece) m,
       then.3 ∙ first.3,
     )
-
--- before the first byte
-pub Scans-none : (now : Scan) (piece : List ℕ) → Scans now piece (More 0) now
-Scans-none now piece = (omega arith, tt, sym (append-nil now.bytes), refl, omega arith)
 
 -- The same where the rest is given as the slice that it is.
 pub Scans-rest : (old mid new : Scan) (piece : List ℕ) (n : ℕ) (scanned scanned' : Scanned) → scanned ≡ scanned' → Scans old piece (More n) mid → Scans mid (take (length piece - n) (drop n piece)) scanned new → Scans old piece (shifted n scanned') new

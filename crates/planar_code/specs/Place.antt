@@ -13,10 +13,6 @@ abbrev pub state_of : Scan → Place → State
 state_of scan place =
     record { pending = scan.bytes; start = place.start; header_may_come = place.header_may_come; lists = scan.lists }
 
--- the place behind a header
-abbrev pub behind_header : Place
-behind_header = record { start = 15; header_may_come = false; pending_len = 0; in_header = false }
-
 -- the place behind bytes that ended no header
 abbrev pub moved : Place → Scanned → Place
 moved place (More k) = record place { pending_len = place.pending_len + k }

@@ -4,7 +4,7 @@ ghost use Rattle.planar_code.specs.Reading.{header, input_limit};
 ghost use Rattle.planar_code.specs.Fed.{Feeds};
 ghost use Rattle.planar_code.specs.Scan.{seen_of};
 ghost use Rattle.planar_code.specs.Front.{IsCounted};
-ghost use Rattle.planar_code.specs.Place.{state_of, behind_header, moved, told, HasByte};
+ghost use Rattle.planar_code.specs.Place.{state_of, moved, told, HasByte};
 ghost use Rattle.planar_code.specs.Taken.{Takes, shifted, looked_at};
 
 use crate::HEADER;

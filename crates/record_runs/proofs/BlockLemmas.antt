@@ -13,11 +13,11 @@ AreBlocks-push IsBlock k (r ∷ records) text next block are is =
     (are.0, are.1 ++ block, are.2, AreBlocks-push IsBlock (k + 1) records are.1 next block are.3 (rw e at is), ap (λ (x : List ℕ). x ++ block) are.4 ∙ append_assoc are.0 are.1 block)
 
 -- one record more is refused, or not
-refused_count-push : {Record : Type 0} (job : Answers Record) (records : List Record) (next : Record) → refused_count job (records ++ next ∷ []) ≡ refused_count job records + cond (job.is_refused next) 1 0
+refused_count-push : {Record Ending : Type 0} (job : Answers Record Ending) (records : List Record) (next : Record) → refused_count job (records ++ next ∷ []) ≡ refused_count job records + cond (job.is_refused next) 1 0
 refused_count-push job records next = sum_by-append (λ x. cond (job.is_refused x) 1 0) records (next ∷ []) ∙ (omega arith)
 
 -- the next record is answered by its block
-pub IsAnswered-push : {Record : Type 0} {job : Answers Record} {records : List Record} {text : List ℕ} {count refused refused' : ℕ} (next : Record) (block : List ℕ) → IsAnswered job records text count refused → job.IsBlock (count + 1) next block → refused' ≡ refused + cond (job.is_refused next) 1 0 → IsAnswered job (records ++ next ∷ []) (text ++ block) (count + 1) refused'
+pub IsAnswered-push : {Record Ending : Type 0} {job : Answers Record Ending} {records : List Record} {text : List ℕ} {count refused refused' : ℕ} (next : Record) (block : List ℕ) → IsAnswered job records text count refused → job.IsBlock (count + 1) next block → refused' ≡ refused + cond (job.is_refused next) 1 0 → IsAnswered job (records ++ next ∷ []) (text ++ block) (count + 1) refused'
 IsAnswered-push {job = job} {records = records} {text = text} {count = count} next block answered is refused_is = record {
   answers = AreBlocks-push job.IsBlock 1 records text next block answered.answers
       (let e : 1 + length records ≡ count + 1 = (let c = answered.counted in omega arith) in rw e is);

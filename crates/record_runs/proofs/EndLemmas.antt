@@ -12,9 +12,9 @@ use Rattle.record_runs.specs.declared.run.Failure.TheVariants as failure
 use Rattle.record_runs.specs.declared.run.Stop.{Stop}
 use Rattle.record_runs.specs.declared.run.Stop.TheVariants as stop
 
-module _ {Record Ending : Type 0} (format : Reads Record Ending) (job : Answers Record) where
+module _ {Record Ending : Type 0} (format : Reads Record Ending) (job : Answers Record Ending) where
   -- the whole text was written
-  Writes-whole : {input text : List ℕ} {ending : Ending} {count refused : ℕ} {written written' : Option (List ℕ)} → EndsAs format job input ending text count refused → Grows written written' (text ++ format.last_line count refused ending) → Writes format job input ending refused written written'
+  Writes-whole : {input text : List ℕ} {ending : Ending} {count refused : ℕ} {written written' : Option (List ℕ)} → EndsAs format job input ending text count refused → Grows written written' (text ++ job.last_line count refused ending) → Writes format job input ending refused written written'
   Writes-whole {text = text} ends grows = record {
     records = ends.records;
     blocks = text;
@@ -37,11 +37,11 @@ module _ {Record Ending : Type 0} (format : Reads Record Ending) (job : Answers 
   }
 
   -- the blocks were written, and some first bytes of the last line
-  WritesPart-last : {input text : List ℕ} {ending : Ending} {count refused : ℕ} {written written' : Option (List ℕ)} → ((records : List Record) → format.IsReading input records ending → format.BeginsWith input records) → EndsAs format job input ending text count refused → GrowsByPrefix written written' (text ++ format.last_line count refused ending) → WritesPart format job input written written'
+  WritesPart-last : {input text : List ℕ} {ending : Ending} {count refused : ℕ} {written written' : Option (List ℕ)} → ((records : List Record) → format.IsReading input records ending → format.BeginsWith input records) → EndsAs format job input ending text count refused → GrowsByPrefix written written' (text ++ job.last_line count refused ending) → WritesPart format job input written written'
   WritesPart-last {text = text} {ending = ending} has ends grows = record {
     records = ends.records;
     blocks = text;
-    last = format.last_line (length ends.records) (refused_count job ends.records) ending;
+    last = job.last_line (length ends.records) (refused_count job ends.records) ending;
     begins = has ends.records ends.reading;
     answers = ends.answered.answers;
     last_is = inr (ending, ends.reading, refl);
@@ -62,7 +62,7 @@ module _ {Record Ending : Type 0} (format : Reads Record Ending) (job : Answers 
     )
 
     -- the last line of an input with this ending could not be written
-    pub ends-failed : (ending : Ending) (count refused : ℕ) (written' : Option (List ℕ)) (writes' : ℕ) (failure : Failure) → ((input : List ℕ) (records : List Record) (end : Ending) → format.IsReading input records end → format.BeginsWith input records) → WhereTold start.left (λ input. EndsAs format job input ending text count refused) → FailsAt (format.last_line count refused ending) written written' writes writes' failure → Outcome format job start (ports left reads written' writes') (end_of failure)
+    pub ends-failed : (ending : Ending) (count refused : ℕ) (written' : Option (List ℕ)) (writes' : ℕ) (failure : Failure) → ((input : List ℕ) (records : List Record) (end : Ending) → format.IsReading input records end → format.BeginsWith input records) → WhereTold start.left (λ input. EndsAs format job input ending text count refused) → FailsAt (job.last_line count refused ending) written written' writes writes' failure → Outcome format job start (ports left reads written' writes') (end_of failure)
     ends-failed ending count refused written' writes' failure.WriteFault has ends failed = (
       rw wrote.writes at failed.1,
       wrote.reads,
@@ -74,7 +74,7 @@ module _ {Record Ending : Type 0} (format : Reads Record Ending) (job : Answers 
           WritesPart-front (record { records = is.records; begins = has input is.records ending is.reading; answers = is.answered.answers }) (rw failed.0 (GrowsByPrefix-whole wrote.grows)),
     )
 
-    module _ {ending : Ending} {count refused : ℕ} {written' : Option (List ℕ)} {writes' : ℕ} (ends : WhereTold start.left (λ input. EndsAs format job input ending text count refused)) (grows : Grows written written' (format.last_line count refused ending)) (kept : writes' ≡ writes) where
+    module _ {ending : Ending} {count refused : ℕ} {written' : Option (List ℕ)} {writes' : ℕ} (ends : WhereTold start.left (λ input. EndsAs format job input ending text count refused)) (grows : Grows written written' (job.last_line count refused ending)) (kept : writes' ≡ writes) where
       -- the last line of a bad ending was written
       pub ends-bad : format.IsBad ending → Outcome format job start (ports left reads written' writes') BadInput
       ends-bad bad = ((wrote.reads, kept ∙ wrote.writes), λ (input : List ℕ) (told : start.left ≡ Some input). (ending, bad, refused, Writes-whole (ends input told) (Grows-then wrote.grows grows)))
@@ -99,7 +99,7 @@ Takes-end o p q xs buf buf' k none first gives end = λ input told.
     let left = gives.lost had.0 had.2 in
     (left ∙ ap (λ (n : ℕ). Some (drop n had.0)) none ∙ ap (λ (x : List ℕ). Some x) empty, had.1 ∙ ap (λ (x : List ℕ). xs ++ x) empty ∙ append-nil xs)
 
-module _ {Record Ending Reader : Type 0} (format : Reads Record Ending) (job : Answers Record) (At : Reader → List ℕ → List Record → Type 0) (place : Reader → ℕ) (ending : Reader → Ending) (place_is : (reader : Reader) (consumed : List ℕ) (records : List Record) → At reader consumed records → length consumed ≡ place reader) (is_read : (reader : Reader) (consumed : List ℕ) (records : List Record) → At reader consumed records → length consumed ≤ input_limit → format.IsReading consumed records (ending reader)) {start : Ports} {left written : Option (List ℕ)} {reads writes : ℕ} {reader : Reader} {count refused taken : ℕ} (counted : IsCounted (place reader) count refused taken) where
+module _ {Record Ending Reader : Type 0} (format : Reads Record Ending) (job : Answers Record Ending) (At : Reader → List ℕ → List Record → Type 0) (place : Reader → ℕ) (ending : Reader → Ending) (place_is : (reader : Reader) (consumed : List ℕ) (records : List Record) → At reader consumed records → length consumed ≡ place reader) (is_read : (reader : Reader) (consumed : List ℕ) (records : List Record) → At reader consumed records → length consumed ≤ input_limit → format.IsReading consumed records (ending reader)) {start : Ports} {left written : Option (List ℕ)} {reads writes : ℕ} {reader : Reader} {count refused taken : ℕ} (counted : IsCounted (place reader) count refused taken) where
   module _ (stands : Stands At job start (ports left reads written writes) [] reader count refused) where
     -- how many bytes have been consumed
     stands-length : length stands.consumed ≡ taken
@@ -169,13 +169,13 @@ module _ {Record Ending Reader : Type 0} (format : Reads Record Ending) (job : A
     )
 
 -- where bytes were consumed, or the run stopped in them, the text answers some first records of the input
-pub went-front : {Record Ending Reader End : Type 0} (format : Reads Record Ending) (job : Answers Record) (ending_of : End → Ending) (At : Reader → List ℕ → List Record → Type 0) (place : Reader → ℕ) → ((reader : Reader) (consumed : List ℕ) (records : List Record) → At reader consumed records → length consumed ≡ place reader) → ((reader : Reader) (consumed : List ℕ) (records : List Record) (tail : List ℕ) → At reader consumed records → length consumed ≤ input_limit → format.BeginsWith (consumed ++ tail) records) → ((input : List ℕ) (records : List Record) (end : Ending) → format.IsReading input records end → format.BeginsWith input records) → (consumed text : List ℕ) (reader : Reader) (count refused taken : ℕ) (went : Result (Unit {0}) (Stop End)) → MatchResult went (λ _. IsAt At job consumed text reader count refused) (Stops format job ending_of consumed text count refused) → OnOk went (IsCounted (place reader) count refused taken) → (tail : List ℕ) → IsFront format job (consumed ++ tail) text
-went-front format job ending_of At place place_is begins has consumed text reader count refused taken (Ok x) at counted tail = record {
+pub went-front : {Record Ending Reader : Type 0} (format : Reads Record Ending) (job : Answers Record Ending) (At : Reader → List ℕ → List Record → Type 0) (place : Reader → ℕ) → ((reader : Reader) (consumed : List ℕ) (records : List Record) → At reader consumed records → length consumed ≡ place reader) → ((reader : Reader) (consumed : List ℕ) (records : List Record) (tail : List ℕ) → At reader consumed records → length consumed ≤ input_limit → format.BeginsWith (consumed ++ tail) records) → ((input : List ℕ) (records : List Record) (end : Ending) → format.IsReading input records end → format.BeginsWith input records) → (consumed text : List ℕ) (reader : Reader) (count refused taken : ℕ) (went : Result (Unit {0}) (Stop Ending)) → MatchResult went (λ _. IsAt At job consumed text reader count refused) (Stops format job consumed text count refused) → OnOk went (IsCounted (place reader) count refused taken) → (tail : List ℕ) → IsFront format job (consumed ++ tail) text
+went-front format job At place place_is begins has consumed text reader count refused taken (Ok x) at counted tail = record {
   records = at.records;
   begins = begins reader consumed at.records tail at.read (let l = place_is reader consumed at.records at.read in omega (arith, counted.placed, counted.within));
   answers = at.answered.answers;
 }
-went-front format job ending_of At place place_is begins has consumed text reader count refused taken (Err (stop.Bad end)) stops counted tail =
+went-front format job At place place_is begins has consumed text reader count refused taken (Err (stop.Bad end)) stops counted tail =
     let is = stops.1 tail in
-    record { records = is.records; begins = has (consumed ++ tail) is.records (ending_of end) is.reading; answers = is.answered.answers }
-went-front format job ending_of At place place_is begins has consumed text reader count refused taken (Err stop.NoMemory) stops counted tail = stops tail
+    record { records = is.records; begins = has (consumed ++ tail) is.records end is.reading; answers = is.answered.answers }
+went-front format job At place place_is begins has consumed text reader count refused taken (Err stop.NoMemory) stops counted tail = stops tail

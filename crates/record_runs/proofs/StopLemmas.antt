@@ -16,7 +16,7 @@ pub refused-by_served : (served refused : Bool) (n : ℕ) → served ≡ not ref
 refused-by_served served true n is = rw is refl
 refused-by_served served false n is = rw is refl
 
-module _ {Record Ending Reader End : Type 0} (format : Reads Record Ending) (job : Answers Record) (ending_of : End → Ending) (At : Reader → List ℕ → List Record → Type 0) where
+module _ {Record Ending Reader : Type 0} (format : Reads Record Ending) (job : Answers Record Ending) (At : Reader → List ℕ → List Record → Type 0) where
   -- the record that ended was answered
   pub at-answered : {consumed text : List ℕ} {reader reader' : Reader} {count refused refused' : ℕ} (at : IsAt At job consumed text reader count refused) (consumed' : List ℕ) (next : Record) (block : List ℕ) → At reader' consumed' (at.records ++ next ∷ []) → job.IsBlock (count + 1) next block → refused' ≡ refused + cond (job.is_refused next) 1 0 → IsAt At job consumed' (text ++ block) reader' (count + 1) refused'
   at-answered at consumed' next block read is refused_is = record {
@@ -26,7 +26,7 @@ module _ {Record Ending Reader End : Type 0} (format : Reads Record Ending) (job
   }
 
   -- what stopped within some bytes stopped within more
-  pub Stops-more : (consumed more text : List ℕ) (count refused : ℕ) (stop : Stop End) → Stops format job ending_of consumed text count refused stop → Stops format job ending_of (consumed ++ more) text count refused stop
+  pub Stops-more : (consumed more text : List ℕ) (count refused : ℕ) (stop : Stop Ending) → Stops format job consumed text count refused stop → Stops format job (consumed ++ more) text count refused stop
   Stops-more consumed more text count refused (Bad end) stops = (stops.0, λ (tail : List ℕ). rw (append_assoc consumed more tail) (stops.1 (more ++ tail)))
   Stops-more consumed more text count refused NoMemory stops = λ (tail : List ℕ). rw (append_assoc consumed more tail) (stops (more ++ tail))
 

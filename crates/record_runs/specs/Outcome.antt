@@ -7,22 +7,22 @@ use Rattle.record_runs.specs.declared.run.RunEnd.TheVariants.{Done, SomeRefused,
 
 -- The input has this ending, the job refuses this many of its records, and the sink grew by the whole text:
 -- one block for each record, in order, and the last line.
-pub record Writes {Record Ending : Type 0} (format : Reads Record Ending) (job : Answers Record) (input : List ℕ) (ending : Ending) (refused : ℕ) (written written' : Option (List ℕ)) : Type 0 where
+pub record Writes {Record Ending : Type 0} (format : Reads Record Ending) (job : Answers Record Ending) (input : List ℕ) (ending : Ending) (refused : ℕ) (written written' : Option (List ℕ)) : Type 0 where
   pub records : List Record
   pub blocks : List ℕ
   pub reading : format.IsReading input records ending
   pub answers : AreBlocks job.IsBlock 1 records blocks
   pub counted : refused ≡ refused_count job records
-  pub grows : Grows written written' (blocks ++ format.last_line (length records) refused ending)
+  pub grows : Grows written written' (blocks ++ job.last_line (length records) refused ending)
 
 -- the last line of an input that has just these records, or none
-abbrev pub IsLastOrNone : {Record Ending : Type 0} → Reads Record Ending → Answers Record → List ℕ → List Record → List ℕ → Type 0
+abbrev pub IsLastOrNone : {Record Ending : Type 0} → Reads Record Ending → Answers Record Ending → List ℕ → List Record → List ℕ → Type 0
 IsLastOrNone {Ending = Ending} format job input records last =
     (last ≡ []) ⊎ ((ending : Ending) × format.IsReading input records ending
-    × (last ≡ format.last_line (length records) (refused_count job records) ending))
+    × (last ≡ job.last_line (length records) (refused_count job records) ending))
 
 -- the sink grew by some first bytes of the text
-pub record WritesPart {Record Ending : Type 0} (format : Reads Record Ending) (job : Answers Record) (input : List ℕ) (written written' : Option (List ℕ)) : Type 0 where
+pub record WritesPart {Record Ending : Type 0} (format : Reads Record Ending) (job : Answers Record Ending) (input : List ℕ) (written written' : Option (List ℕ)) : Type 0 where
   pub records : List Record
   pub blocks : List ℕ
   pub last : List ℕ
@@ -32,7 +32,7 @@ pub record WritesPart {Record Ending : Type 0} (format : Reads Record Ending) (j
   pub grows : GrowsByPrefix written written' (blocks ++ last)
 
 -- the sink grew by the blocks of just those records that end within the bytes taken from the source
-pub record WritesTaken {Record Ending : Type 0} (format : Reads Record Ending) (job : Answers Record) (input : List ℕ) (left' written written' : Option (List ℕ)) : Type 0 where
+pub record WritesTaken {Record Ending : Type 0} (format : Reads Record Ending) (job : Answers Record Ending) (input : List ℕ) (left' written written' : Option (List ℕ)) : Type 0 where
   pub taken : List ℕ
   pub rest : List ℕ
   pub parts : input ≡ taken ++ rest
@@ -59,7 +59,7 @@ abbrev pub NoneFailed : Ports → Ports → Type 0
 NoneFailed before after = (after.read_faults ≡ before.read_faults) × (after.write_faults ≡ before.write_faults)
 
 -- What holds of a run that has ended, where the source tells its input.
-abbrev pub Outcome : {Record Ending : Type 0} → Reads Record Ending → Answers Record → Ports → Ports → RunEnd → Type 0
+abbrev pub Outcome : {Record Ending : Type 0} → Reads Record Ending → Answers Record Ending → Ports → Ports → RunEnd → Type 0
 Outcome format job before after Done =
     NoneFailed before after × WhereTold before.left (λ input. (after.left ≡ Some [])
     × Writes format job input format.well 0 before.written after.written)

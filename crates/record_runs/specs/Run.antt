@@ -20,11 +20,11 @@ Moves IsGiven place place' lent piece (BadPlace end) = Unit {0}
 
 -- What a reader makes of a piece of bytes, after those consumed and the records in them: all of it was consumed and no
 -- record has ended; one ended after k bytes; or the input, however it goes on, ends badly in the piece.
-abbrev pub TakesPiece : {Record Ending End Reader : Type 0} → Reads Record Ending → (End → Ending) → (Reader → List ℕ → List Record → Type 0) → List ℕ → List Record → Reader → Record → List ℕ → Taken End → Type 0
-TakesPiece format ending_of At consumed records reader' lent piece More = At reader' (consumed ++ piece) records
-TakesPiece format ending_of At consumed records reader' lent piece (Ended k) = At reader' (consumed ++ take k piece) (records ++ lent ∷ [])
-TakesPiece format ending_of At consumed records reader' lent piece (BadPlace end) =
-    format.IsBad (ending_of end) × ((tail : List ℕ) → format.IsReading ((consumed ++ piece) ++ tail) records (ending_of end))
+abbrev pub TakesPiece : {Record Ending Reader : Type 0} → Reads Record Ending → (Reader → List ℕ → List Record → Type 0) → List ℕ → List Record → Reader → Record → List ℕ → Taken Ending → Type 0
+TakesPiece format At consumed records reader' lent piece More = At reader' (consumed ++ piece) records
+TakesPiece format At consumed records reader' lent piece (Ended k) = At reader' (consumed ++ take k piece) (records ++ lent ∷ [])
+TakesPiece format At consumed records reader' lent piece (BadPlace end) =
+    format.IsBad end × ((tail : List ℕ) → format.IsReading ((consumed ++ piece) ++ tail) records end)
 
 -- the numbers of a run fit together, whatever its bytes were
 pub record IsCounted (place records refused taken : ℕ) : Type 0 where
@@ -34,35 +34,35 @@ pub record IsCounted (place records refused taken : ℕ) : Type 0 where
   pub few_refused : refused ≤ records
 
 -- the text answers the records, and the numbers are how many they are and how many of them the job refuses
-pub record IsAnswered {Record : Type 0} (job : Answers Record) (records : List Record) (text : List ℕ) (count refused : ℕ) : Type 0 where
+pub record IsAnswered {Record Ending : Type 0} (job : Answers Record Ending) (records : List Record) (text : List ℕ) (count refused : ℕ) : Type 0 where
   pub answers : AreBlocks job.IsBlock 1 records text
   pub counted : count ≡ length records
   pub refused_is : refused ≡ refused_count job records
 
 -- The bytes consumed have been read, and the text answers each record that ended in them.
-pub record IsAt {Record Reader : Type 0} (At : Reader → List ℕ → List Record → Type 0) (job : Answers Record) (consumed text : List ℕ) (reader : Reader) (count refused : ℕ) : Type 0 where
+pub record IsAt {Record Ending Reader : Type 0} (At : Reader → List ℕ → List Record → Type 0) (job : Answers Record Ending) (consumed text : List ℕ) (reader : Reader) (count refused : ℕ) : Type 0 where
   pub records : List Record
   pub read : At reader consumed records
   pub answered : IsAnswered job records text count refused
 
 -- the input ends thus, and the text answers just its records
-pub record EndsAs {Record Ending : Type 0} (format : Reads Record Ending) (job : Answers Record) (input : List ℕ) (ending : Ending) (text : List ℕ) (count refused : ℕ) : Type 0 where
+pub record EndsAs {Record Ending : Type 0} (format : Reads Record Ending) (job : Answers Record Ending) (input : List ℕ) (ending : Ending) (text : List ℕ) (count refused : ℕ) : Type 0 where
   pub records : List Record
   pub reading : format.IsReading input records ending
   pub answered : IsAnswered job records text count refused
 
 -- the text answers some first records of the input
-pub record IsFront {Record Ending : Type 0} (format : Reads Record Ending) (job : Answers Record) (input text : List ℕ) : Type 0 where
+pub record IsFront {Record Ending : Type 0} (format : Reads Record Ending) (job : Answers Record Ending) (input text : List ℕ) : Type 0 where
   pub records : List Record
   pub begins : format.BeginsWith input records
   pub answers : AreBlocks job.IsBlock 1 records text
 
 -- Why a run stops within bytes: however the input goes on after them, it ends badly and the text answers its records;
 -- or memory was wanting, and the text answers some first ones.
-abbrev pub Stops : {Record Ending End : Type 0} → Reads Record Ending → Answers Record → (End → Ending) → List ℕ → List ℕ → ℕ → ℕ → Stop End → Type 0
-Stops format job ending_of consumed text count refused (Bad end) =
-    format.IsBad (ending_of end) × ((tail : List ℕ) → EndsAs format job (consumed ++ tail) (ending_of end) text count refused)
-Stops format job ending_of consumed text count refused NoMemory = (tail : List ℕ) → IsFront format job (consumed ++ tail) text
+abbrev pub Stops : {Record Ending : Type 0} → Reads Record Ending → Answers Record Ending → List ℕ → List ℕ → ℕ → ℕ → Stop Ending → Type 0
+Stops format job consumed text count refused (Bad end) =
+    format.IsBad end × ((tail : List ℕ) → EndsAs format job (consumed ++ tail) end text count refused)
+Stops format job consumed text count refused NoMemory = (tail : List ℕ) → IsFront format job (consumed ++ tail) text
 
 -- since a run began at some ports no fault came, and the sink has grown by the text
 pub record Wrote (start now : Ports) (text : List ℕ) : Type 0 where
@@ -72,7 +72,7 @@ pub record Wrote (start now : Ports) (text : List ℕ) : Type 0 where
 
 -- Between two steps of a run: of the bytes taken these are unread, the others are consumed, and the answers to their
 -- records written.
-pub record Stands {Record Reader : Type 0} (At : Reader → List ℕ → List Record → Type 0) (job : Answers Record) (start now : Ports) (unread : List ℕ) (reader : Reader) (count refused : ℕ) : Type 0 where
+pub record Stands {Record Ending Reader : Type 0} (At : Reader → List ℕ → List Record → Type 0) (job : Answers Record Ending) (start now : Ports) (unread : List ℕ) (reader : Reader) (count refused : ℕ) : Type 0 where
   pub consumed : List ℕ
   pub text : List ℕ
   pub takes : Takes start.left now.left (consumed ++ unread)

@@ -5,7 +5,7 @@ use Rattle.std.specs.Prelude.{ℕ, ◌+◌, ◌≡◌, Bool, List, [], ◌∷◌
 abbrev pub input_limit : ℕ
 input_limit = 16777216
 
--- A format: how an input is read, and the last line of a run over it.
+-- A format: how an input is read.
 pub record Reads (Record Ending : Type 0) : Type 1 where
   -- the input has just these records, and ends thus
   pub IsReading : List ℕ → List Record → Ending → Type 0
@@ -14,13 +14,14 @@ pub record Reads (Record Ending : Type 0) : Type 1 where
   -- the ending of an input that ended well, and the others
   pub well : Ending
   pub IsBad : Ending → Type 0
-  -- the last line, after so many records, of which so many were refused
-  pub last_line : ℕ → ℕ → Ending → List ℕ
 
--- A job: what it answers for a record, which stands at a place from 1.
-pub record Answers (Record : Type 0) : Type 1 where
+-- A job: what it writes.
+pub record Answers (Record Ending : Type 0) : Type 1 where
+  -- the text is its answer for a record, which stands at a place from 1
   pub IsBlock : ℕ → Record → List ℕ → Type 0
   pub is_refused : Record → Bool
+  -- the last line, after so many records, of which so many were refused
+  pub last_line : ℕ → ℕ → Ending → List ℕ
 
 -- the text is one block for each record, in order, the first of which is record k
 abbrev pub AreBlocks : {Record : Type 0} → (ℕ → Record → List ℕ → Type 0) → ℕ → List Record → List ℕ → Type 0
@@ -29,5 +30,5 @@ AreBlocks IsBlock k (record' ∷ records) text =
     (block : List ℕ) × (rest : List ℕ) × IsBlock k record' block × AreBlocks IsBlock (k + 1) records rest × (text ≡ block ++ rest)
 
 -- how many records the job refuses
-abbrev pub refused_count : {Record : Type 0} → Answers Record → List Record → ℕ
+abbrev pub refused_count : {Record Ending : Type 0} → Answers Record Ending → List Record → ℕ
 refused_count job records = count_by job.is_refused records

@@ -4,7 +4,7 @@ ghost use Rattle.std.specs.Bool.{OnTrue, OnFalse};
 ghost use Rattle.record_runs.specs.Texts.{Reads, input_limit};
 ghost use Rattle.record_runs.specs.Run.{Moves, TakesPiece};
 
-use std::alloc::{AllocError, Global};
+use std::alloc::AllocError;
 
 /// What a piece of bytes made of the record that has begun.
 #[derive(Drop)]
@@ -27,13 +27,8 @@ pub trait Format: Drop {
     /// How an input ends.
     type End: Drop;
 
-    /// How an input ends, as the reading of it has it.
-    ghost Ending: { Type 0 };
-
-    ghost ending_of: { Self.End → Ending };
-
-    /// What a reading of an input is, and the last line of a run.
-    ghost reads: { Reads Self.Record Ending };
+    /// What a reading of an input is.
+    ghost reads: { Reads Self.Record Self.End };
 
     /// The bytes consumed so far hold these records, and what is pending.
     ghost At: { Self → List ℕ → List Self.Record → Type 0 };
@@ -45,7 +40,7 @@ pub trait Format: Drop {
     ghost lent: { Self → Self.Record };
 
     /// How the bytes consumed end if no more come.
-    ghost ending: { Self → Ending };
+    ghost ending: { Self → Self.End };
 
     /// What holds of each record that is read.
     ghost IsGiven: { Self.Record → Type 0 };
@@ -56,7 +51,7 @@ pub trait Format: Drop {
         requires room { place self.old + length piece.now ≤ input_limit }
         ensures moves { IfOk result (Moves IsGiven (place self.old) (place self.new) (lent self.new) piece.now) }
         ensures reads { (consumed : List ℕ) (records : List Self.Record) → At self.old consumed records →
-            IfOk result (TakesPiece (reads) ending_of At consumed records self.new (lent self.new) piece.now) };
+            IfOk result (TakesPiece (reads) At consumed records self.new (lent self.new) piece.now) };
 
     /// The record that ended last.
     fn record(&self) -> &Self::Record
@@ -64,28 +59,19 @@ pub trait Format: Drop {
 
     /// How the bytes consumed end if no more come.
     fn end(&self) -> Self::End
-        ensures { ending_of result ≡ ending self.now };
+        ensures { result ≡ ending self.now };
 
     /// How they end if more come, where they are as many as the limit.
     fn too_long(&self) -> Self::End
-        ensures bad { reads.IsBad (ending_of result) }
+        ensures bad { reads.IsBad result }
         ensures reading { (consumed : List ℕ) (records : List Self.Record) → At self.now consumed records →
             length consumed ≡ input_limit → (byte : ℕ) (tail : List ℕ) →
-            reads.IsReading (consumed ++ byte ∷ tail) records (ending_of result) };
+            reads.IsReading (consumed ++ byte ∷ tail) records result };
 
     /// Whether an input that ends thus ended well.
     fn is_well(end: &Self::End) -> bool
-        ensures well { OnTrue result (ending_of end.now ≡ reads.well) }
-        ensures bad { OnFalse result (reads.IsBad (ending_of end.now)) };
-
-    /// The last line of a run over this many records, of which so many were refused.
-    fn last_line(
-        alloc: Global,
-        records: u32,
-        refused: u32,
-        end: &Self::End,
-    ) -> Result<Vec<u8>, AllocError>
-        ensures { IfOk result (λ line. line.items ≡ reads.last_line records refused (ending_of end.now)) };
+        ensures well { OnTrue result (end.now ≡ reads.well) }
+        ensures bad { OnFalse result (reads.IsBad end.now) };
 
     /// The place is the number of bytes consumed.
     ghost place_is: { (reader : Self) (consumed : List ℕ) (records : List Self.Record) → At reader consumed records → length consumed ≡ place reader };
@@ -99,5 +85,5 @@ pub trait Format: Drop {
         length consumed ≤ input_limit → reads.BeginsWith (consumed ++ tail) records };
 
     /// An input begins with the records that it has.
-    ghost has: { (input : List ℕ) (records : List Self.Record) (ending : Ending) → reads.IsReading input records ending → reads.BeginsWith input records };
+    ghost has: { (input : List ℕ) (records : List Self.Record) (ending : Self.End) → reads.IsReading input records ending → reads.BeginsWith input records };
 }

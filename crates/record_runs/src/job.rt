@@ -3,7 +3,7 @@ ghost use Rattle.std.specs.Prelude.{◌≡◌, ◌<◌, ◌≤◌, ◌++◌, Lis
 ghost use Rattle.record_runs.specs.Texts.{Answers, input_limit};
 
 use super::format::Format;
-use std::alloc::AllocError;
+use std::alloc::{AllocError, Global};
 
 /// Answers the records of a format. It may keep memory of its own from record to record.
 pub trait Job<F: Format> {
@@ -12,8 +12,8 @@ pub trait Job<F: Format> {
 
     ghost kind: { Self → Self.Kind };
 
-    /// What a job of this kind answers.
-    ghost answers: { Self.Kind → Answers F.Record };
+    /// What a job of this kind writes.
+    ghost answers: { Self.Kind → Answers F.Record F.End };
 
     /// Appends the block of record `number`, and answers whether the record was served. After want of
     /// memory `out` is as before.
@@ -31,4 +31,14 @@ pub trait Job<F: Format> {
         ensures served { IfOk result (λ served. served ≡ not ((answers (kind self.old)).is_refused given.now)) }
         ensures err { OnErr result (out.new.items ≡ out.old.items) }
         ensures same { kind self.new ≡ kind self.old };
+
+    /// The last line of a run over this many records, of which so many were refused.
+    fn last_line(
+        &self,
+        alloc: Global,
+        records: u32,
+        refused: u32,
+        end: &F::End,
+    ) -> Result<Vec<u8>, AllocError>
+        ensures { IfOk result (λ line. line.items ≡ (answers (kind self.now)).last_line records refused end.now) };
 }

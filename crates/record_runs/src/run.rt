@@ -61,19 +61,20 @@ pub enum Failure {
 }
 
 // Writes the last line.
-fn write_last<F: Format, K: Sink>(
+fn write_last<F: Format, J: Job<F>, K: Sink>(
     alloc: Global,
     run: &Run<F>,
+    job: &J,
     end: &F::End,
     out: &mut K,
 ) -> Result<(), Failure>
     ensures ok { OnOk result (Grows (K.written out.old) (K.written out.new)
-        (F.reads.last_line run.now.records run.now.refused (F.ending_of end.now))) }
+        ((J.answers (J.kind job.now)).last_line run.now.records run.now.refused end.now)) }
     ensures kept { OnOk result (K.faults out.new ≡ K.faults out.old) }
-    ensures err { IfErr result (FailsAt (F.reads.last_line run.now.records run.now.refused (F.ending_of end.now))
+    ensures err { IfErr result (FailsAt ((J.answers (J.kind job.now)).last_line run.now.records run.now.refused end.now)
         (K.written out.old) (K.written out.new) (K.faults out.old) (K.faults out.new)) }
 {
-    let Ok(line) = F::last_line(alloc, run.records, run.refused, end) else {
+    let Ok(line) = job.last_line(alloc, run.records, run.refused, end) else {
         return Err(Failure::NoMemory);
     };
     match put_all(out, &line) {
@@ -108,7 +109,7 @@ fn finish<F: Format, J: Job<F>, K: Sink>(
         Outcome F.reads (J.answers (J.kind job.now)) start (ports left faults (K.written out.new) (K.faults out.new)) result }
 {
     let end = run.reader.end();
-    match write_last(alloc, run, &end, out) {
+    match write_last(alloc, run, job, &end, out) {
         Err(failure) => failed(failure),
         Ok(()) => {
             if !F::is_well(&end) {
@@ -148,7 +149,7 @@ fn consume<F: Format, J: Job<F>, K: Sink>(
         Ok(()) => match went {
             Ok(()) => Ok(()),
             Err(Stop::NoMemory) => Err(RunEnd::NoMemory),
-            Err(Stop::Bad(end)) => match write_last(alloc, run, &end, out) {
+            Err(Stop::Bad(end)) => match write_last(alloc, run, job, &end, out) {
                 Ok(()) => Err(RunEnd::BadInput),
                 Err(failure) => Err(failed(failure)),
             },

@@ -37,7 +37,7 @@ fn take_record<F: Format, J: Job<F>>(
         IsAt F.At (J.answers (J.kind job.old)) consumed (front ++ text.old.items) run.old.reader run.old.records run.old.refused →
         MatchResult result
         (λ k. IsAt F.At (J.answers (J.kind job.old)) (consumed ++ take k piece.now) (front ++ text.new.items) run.new.reader run.new.records run.new.refused)
-        (Stops F.reads (J.answers (J.kind job.old)) F.ending_of (consumed ++ piece.now) (front ++ text.new.items) run.new.records run.new.refused) }
+        (Stops F.reads (J.answers (J.kind job.old)) (consumed ++ piece.now) (front ++ text.new.items) run.new.records run.new.refused) }
     ensures same { J.kind job.new ≡ J.kind job.old }
 {
     match run.reader.take(piece) {
@@ -73,7 +73,7 @@ fn take_within<F: Format, J: Job<F>>(
         IsAt F.At (J.answers (J.kind job.old)) consumed (front ++ text.old.items) run.old.reader run.old.records run.old.refused →
         MatchResult result
         (λ _. IsAt F.At (J.answers (J.kind job.old)) (consumed ++ piece.now) (front ++ text.new.items) run.new.reader run.new.records run.new.refused)
-        (Stops F.reads (J.answers (J.kind job.old)) F.ending_of (consumed ++ piece.now) (front ++ text.new.items) run.new.records run.new.refused) }
+        (Stops F.reads (J.answers (J.kind job.old)) (consumed ++ piece.now) (front ++ text.new.items) run.new.records run.new.refused) }
     ensures same { J.kind job.new ≡ J.kind job.old }
 {
     let mut done = 0;
@@ -100,7 +100,7 @@ pub fn take_piece<F: Format, J: Job<F>>(
         IsAt F.At (J.answers (J.kind job.old)) consumed (front ++ text.old.items) run.old.reader run.old.records run.old.refused →
         MatchResult result
         (λ _. IsAt F.At (J.answers (J.kind job.old)) (consumed ++ piece.now) (front ++ text.new.items) run.new.reader run.new.records run.new.refused)
-        (Stops F.reads (J.answers (J.kind job.old)) F.ending_of (consumed ++ piece.now) (front ++ text.new.items) run.new.records run.new.refused) }
+        (Stops F.reads (J.answers (J.kind job.old)) (consumed ++ piece.now) (front ++ text.new.items) run.new.records run.new.refused) }
     ensures same { J.kind job.new ≡ J.kind job.old }
 {
     let room = INPUT_LIMIT - run.taken;

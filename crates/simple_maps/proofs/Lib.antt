@@ -2,6 +2,7 @@
 pub mod FaultLemmas
 pub mod FlatLemmas
 pub mod MarkLemmas
+pub mod LineLemmas
 pub mod PassLemmas
 pub mod PassedLemmas
 pub mod TableLemmas

@@ -1,5 +1,5 @@
 -- The lists of a map as one row of entries, as a pass over it sees them: entry d is the head of dart number d.
-use Rattle.std.specs.Prelude.{ℕ, ◌<◌, ◌≤◌, ◌≡◌, ◌≢◌, List, slice_index}
+use Rattle.std.specs.Prelude.{ℕ, ◌<◌, ◌≤◌, ◌≡◌, ◌≢◌, List, length, slice_index, slice_index_or}
 
 -- the entries from start on and before end hold no number twice, and not v
 pub record IsSimpleList (entries : List ℕ) (start end v : ℕ) : Type 0 where
@@ -18,3 +18,7 @@ abbrev pub AreMutual : List ℕ → List ℕ → List ℕ → ℕ → Type 0
 AreMutual entries tails twins n =
     (d : ℕ) → d < n → slice_index twins d < 16777216
     → (slice_index twins d < n) × (slice_index entries (slice_index twins d) ≡ slice_index tails d) × (slice_index tails (slice_index twins d) ≡ slice_index entries d)
+
+-- each of the first n slots is made for its place
+pub record AreInLine {P : Type 0} (IsInLine : P → ℕ → Type 0) (slots : List P) (n : ℕ) : Type 0 where
+  pub at : (d : ℕ) (none : P) → d < n → d < length slots → IsInLine (slice_index_or slots d none) d

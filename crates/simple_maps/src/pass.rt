@@ -8,18 +8,28 @@ ghost use Rattle.std.specs.Prelude.{◌≡◌, ◌+◌, ◌^◌, ◌<◌, ◌≤
 ghost use Rattle.std.specs.Bool.{OnTrue};
 ghost use Rattle.map_lists.specs.Cuts.{cut, AreCuts};
 ghost use Rattle.simple_maps.specs.Tables.{AreSlots};
-ghost use Rattle.simple_maps.specs.Pass.{IsSimpleList, IsPlaced, AreMutual};
+ghost use Rattle.simple_maps.specs.Pass.{IsSimpleList, IsPlaced, AreMutual, AreInLine};
 
-/// What a table keeps of a dart: its tail, and the number of its twin.
+/// What a table keeps of a dart: its tail, the number of its twin, and what follows from its own number.
 pub trait DartSlot: Copy {
     ghost tail_of: { Self → ℕ };
 
     ghost twin_of: { Self → ℕ };
 
-    /// A dart from `tail`, with this twin.
-    fn new(tail: u16, twin: u32) -> Self
+    ghost IsInLine: { Self → ℕ → Type 0 };
+
+    /// Dart number `place`, from `tail` and with this twin.
+    fn new(tail: u16, twin: u32, place: u32) -> Self
+        requires few { place < 16777216 }
         ensures tail { tail_of result ≡ tail }
-        ensures twin { twin_of result ≡ twin };
+        ensures twin { twin_of result ≡ twin }
+        ensures line { IsInLine result place };
+
+    /// The dart with another twin.
+    fn with_twin(self, twin: u32) -> Self
+        ensures tail { tail_of result ≡ tail_of self }
+        ensures twin { twin_of result ≡ twin }
+        ensures line { (d : ℕ) → IsInLine self d → IsInLine result d };
 
     /// The vertex that the dart leaves.
     fn tail(&self) -> u16
@@ -80,7 +90,9 @@ fn thread_list<P: DartSlot>(
     requires v_in { v < length newest.old }
     requires numbers { All (λ u. u < length newest.old) entries.now }
     requires unset { All (λ m. 16777216 ≤ m) newest.old }
+    requires line { AreInLine P.IsInLine slots.old start }
     ensures unset { All (λ m. 16777216 ≤ m) newest.new }
+    ensures line { OnTrue result (AreInLine P.IsInLine slots.new end) }
     ensures list { OnTrue result (IsSimpleList entries.now start end v) }
     ensures placed { OnTrue result (IsPlaced (map P.tail_of slots.old) (map P.twin_of slots.old)
         (map P.tail_of slots.new) (map P.twin_of slots.new) start end v) }
@@ -93,7 +105,7 @@ fn thread_list<P: DartSlot>(
         if older >= base {
             return false;
         }
-        slots[d] = P::new(v, older);
+        slots[d] = P::new(v, older, d as u32);
         newest[u as usize] = FIRST_PLACE + d as u32;
     }
     true
@@ -118,6 +130,7 @@ fn pair_list<P: DartSlot>(
     requires pairs { AreMutual entries.now (map P.tail_of slots.old) (map P.twin_of slots.old) end }
     ensures tails { (d : ℕ) → slice_index (map P.tail_of slots.new) d ≡ slice_index (map P.tail_of slots.old) d }
     ensures pairs { AreMutual entries.now (map P.tail_of slots.new) (map P.twin_of slots.new) end }
+    ensures line { (n : ℕ) → AreInLine P.IsInLine slots.old n → AreInLine P.IsInLine slots.new n }
 {
     let mut link = thread;
     'along: for _ in start..end {
@@ -125,14 +138,15 @@ fn pair_list<P: DartSlot>(
         if d >= start {
             return;
         }
-        let tail = slots[d].tail();
+        let dart = slots[d];
+        let tail = dart.tail();
         let twin = place_named(newest[tail as usize]);
         if twin < start || twin >= end || entries[twin] != tail || entries[d] != v {
             return;
         }
-        link = slots[d].twin();
-        slots[d] = P::new(tail, twin as u32);
-        slots[twin] = P::new(v, d as u32);
+        link = dart.twin();
+        slots[d] = dart.with_twin(twin as u32);
+        slots[twin] = slots[twin].with_twin(d as u32);
     }
 }
 
@@ -151,7 +165,8 @@ pub(crate) fn finds_slots<P: DartSlot>(
     requires slots { length slots.old ≡ length entries.now }
     requires newest { length newest.old ≡ length ends.now }
     requires unset { All (λ m. 16777216 ≤ m) newest.old }
-    ensures { OnTrue result (AreSlots (cut 0 ends.now entries.now) (map P.tail_of slots.new) (map P.twin_of slots.new)) }
+    ensures slots { OnTrue result (AreSlots (cut 0 ends.now entries.now) (map P.tail_of slots.new) (map P.twin_of slots.new)) }
+    ensures line { OnTrue result (AreInLine P.IsInLine slots.new (length slots.new)) }
 {
     if !are_below(entries, ends.len()) {
         return false;

@@ -4,6 +4,7 @@ ghost use Rattle.std.specs.Bool.{OnTrue};
 ghost use Rattle.simple_maps.specs.Faults.{first_fault};
 ghost use Rattle.simple_maps.specs.MapFault.{Names};
 ghost use Rattle.simple_maps.specs.Tables.{AreSlots};
+ghost use Rattle.simple_maps.specs.Pass.{AreInLine};
 
 use crate::MapFault;
 use crate::pass::{DartSlot, NO_PLACE, finds_slots};
@@ -19,14 +20,16 @@ fn found_slots<P: DartSlot>(
 ) -> Result<bool, AllocError>
     requires some_list { 0 < length lists.now }
     requires few_lists { length lists.now < 4096 }
-    ensures { IfOk result (λ found. OnTrue found
+    ensures slots { IfOk result (λ found. OnTrue found
         (AreSlots lists.now (map P.tail_of slots.new.items) (map P.twin_of slots.new.items))) }
+    ensures line { IfOk result (λ found. OnTrue found
+        (AreInLine P.IsInLine slots.new.items (length slots.new.items))) }
 {
     let entries = lists.entries();
     if entries.len() >= NO_PLACE as usize {
         return Ok(false);
     }
-    slots.resize(entries.len(), P::new(0, 0))?;
+    slots.resize(entries.len(), P::new(0, 0, 0))?;
     threads.clear();
     threads.resize(lists.len(), NO_PLACE)?;
     Ok(finds_slots(entries, lists.ends(), slots, threads))
@@ -36,13 +39,15 @@ fn found_slots<P: DartSlot>(
 fn write_slots<P: DartSlot>(ends: &[(u16, u16)], twins: &[u32], slots: &mut [P])
     requires twins { length twins.now ≡ length ends.now }
     requires slots { length slots.old ≡ length ends.now }
+    requires few { length ends.now < 16777216 }
+    ensures line { AreInLine P.IsInLine slots.new (length slots.new) }
     ensures tails { (d : ℕ) → d < length ends.now
         → slice_index (map P.tail_of slots.new) d ≡ (slice_index_or ends.now d (0, 0)).0 }
     ensures twins { (d : ℕ) → d < length ends.now
         → slice_index (map P.twin_of slots.new) d ≡ slice_index twins.now d }
 {
     for d in 0..ends.len() {
-        slots[d] = P::new(ends[d].0, twins[d]);
+        slots[d] = P::new(ends[d].0, twins[d], d as u32);
     }
 }
 
@@ -55,10 +60,11 @@ fn searched_slots<P: DartSlot>(
     requires some_list { 0 < length lists.now }
     requires few_lists { length lists.now < 4096 }
     ensures slots { OnOk result (AreSlots lists.now (map P.tail_of slots.new.items) (map P.twin_of slots.new.items)) }
+    ensures line { OnOk result (AreInLine P.IsInLine slots.new.items (length slots.new.items)) }
     ensures fault { IfErr result (Names (first_fault lists.now)) }
 {
     let tables = tables_of(alloc, lists)?;
-    slots.resize(tables.ends.len(), P::new(0, 0))?;
+    slots.resize(tables.ends.len(), P::new(0, 0, 0))?;
     write_slots(&tables.ends, &tables.twins, slots);
     Ok(())
 }
@@ -78,6 +84,7 @@ pub fn fill_slots<P: DartSlot>(
     requires some_list { 0 < length lists.now }
     requires few_lists { length lists.now < 4096 }
     ensures slots { OnOk result (AreSlots lists.now (map P.tail_of slots.new.items) (map P.twin_of slots.new.items)) }
+    ensures line { OnOk result (AreInLine P.IsInLine slots.new.items (length slots.new.items)) }
     ensures fault { IfErr result (Names (first_fault lists.now)) }
 {
     if found_slots(lists, slots, threads)? {

@@ -1,4 +1,4 @@
-use Rattle.std.proofs.Common.{◌≡◌, ◌-ℤ◌, ◌*ℤ◌, arith, rules, w32, w64, FitsSigned}
+use Rattle.std.proofs.Common.{◌-ℤ◌, arith, rules, w32, w64, FitsSigned}
 use Rattle.std.proofs.lemmas.Int.{ints, to_z-of_z}
 use Rattle.pg_plane.proofs.point.area2.Goals as goal
 

@@ -1,7 +1,5 @@
-use Rattle.std.proofs.Common.{◌≡◌, ◌<ℤ◌, ◌↔◌, pos, arith, rules, w64, FitsSigned, sym, ◌∙◌, ap, false, true}
-use Rattle.std.specs.Prelude.{IsTrue}
+use Rattle.std.proofs.Common.{◌<ℤ◌, pos, arith, rules, w64, FitsSigned}
 use Rattle.std.proofs.lemmas.Int.{ints, to_z-of_z}
-use Rattle.pg_plane.specs.Geometry.{IsFirstHalf, IsClockBefore, cross}
 use Rattle.pg_plane.proofs.Directions.{clock_same, clock_other}
 use Rattle.pg_plane.proofs.point.clock_before.Goals as goal
 

@@ -1,4 +1,4 @@
-use Rattle.std.proofs.Common.{◌≡◌, arith, rules, w64, FitsSigned, true, false, sym, ◌∙◌}
+use Rattle.std.proofs.Common.{rules, w64, FitsSigned, sym, ◌∙◌}
 use Rattle.std.proofs.lemmas.Int.{to_z-of_z}
 use Rattle.std.proofs.lemmas.Bool.{true≢false}
 use Rattle.pg_plane.proofs.point.crosses.Goals as goal

@@ -1,6 +1,5 @@
 use Rattle.std.proofs.Common.{◌≡◌, pos, arith, rules, w64, FitsSigned, sym, ◌∙◌, ap, eqb-true, of_z}
-use Rattle.std.proofs.lemmas.Int.{ints, to_z-of_z}
-use Rattle.std.proofs.lemmas.Bool.{true≢false}
+use Rattle.std.proofs.lemmas.Int.{ints}
 use Rattle.pg_plane.proofs.point.on_segment.Goals as goal
 
 pub returns-then-area2-eq0 : goal.returns-then-area2-eq0

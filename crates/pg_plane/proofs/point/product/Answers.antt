@@ -1,6 +1,5 @@
-use Rattle.std.proofs.Common.{◌≡◌, ◌*ℤ◌, pos, arith, w64, FitsSigned}
+use Rattle.std.proofs.Common.{◌*ℤ◌, arith, w64, FitsSigned}
 use Rattle.std.proofs.lemmas.Int.{ints, to_z-of_z}
-use Rattle.pg_plane.specs.Range.{IsWithin}
 use Rattle.pg_plane.proofs.Products.{IsWithin-product}
 use Rattle.pg_plane.proofs.point.product.Goals as goal
 

@@ -1,3 +1,4 @@
+use Rattle.std.proofs.Common.{◌≡◌}
 use Rattle.pigale_shell.proofs.OutcomeLemmas.{GrowsByText-none, Outcome-complete}
 use Rattle.pigale_shell.proofs.top.pigale.Goals as goal
 
@@ -5,8 +6,10 @@ pub returns-in-Err-NoMemory-clause-no_memory : goal.returns-in-Err-NoMemory-clau
 returns-in-Err-NoMemory-clause-no_memory g c = λ _. GrowsByText-none _ _ _
 
 pub returns-in-Ok-clause-complete : goal.returns-in-Ok-clause-complete
-returns-in-Ok-clause-complete g c = λ input records ending told reading _ no_read no_write.
-    Outcome-complete c.in-Ok.job _ _ c.run_job.result input records ending c.run_job.ensures.outcome told reading no_read no_write
+returns-in-Ok-clause-complete g c = λ job input records ending named told reading no_read no_write.
+    let found = c.in-Ok.ensures in
+    let same : c.in-Ok.job ≡ job = cc in
+    Outcome-complete job _ _ c.run_job.result input records ending (rw same at c.run_job.ensures.outcome) told reading no_read no_write
 
 pub returns-in-Ok-clause-limit : goal.returns-in-Ok-clause-limit
 returns-in-Ok-clause-limit g c = c.run_job.ensures.limit

@@ -13,7 +13,7 @@ returns-in-Err-clause-outcome g c = λ start left faults stands.
     let at = c.take_piece-went.ensures.at stands.consumed stands.text (rw (c.clear.ensures.items, append-nil stands.text) stands.at) in
     ends-cut format.reads job stands.wrote blocks (rw c.deref.ensures.value at c.in-Err.ensures.err)
     (WhereTold-taken (λ input. IsFront format.reads job input (stands.text ++ blocks)) stands.takes
-    (went-front format.reads job format.ending_of format.At format.place g.met.F.Format.place_is g.met.F.Format.begins g.met.F.Format.has _ _ _ _ _ _ c.take_piece-went.result at c.take_piece-went.ensures.counted))
+    (went-front format.reads job format.At format.place g.met.F.Format.place_is g.met.F.Format.begins g.met.F.Format.has _ _ _ _ _ _ c.take_piece-went.result at c.take_piece-went.ensures.counted))
 
 pub returns-in-Ok-went-clause-outcome : goal.returns-in-Ok-went-clause-outcome
 returns-in-Ok-went-clause-outcome g c = λ start left faults stands.
@@ -42,8 +42,8 @@ returns-in-Ok-write_last-clause-outcome g c = λ start left faults stands.
     let blocks = c.take_piece-went.new.text.items in
     let stops = rw c.in-Err-Bad.field-0-is at (c.in-Err-Bad.ensures.at stands.consumed stands.text (rw (c.clear.ensures.items, append-nil stands.text) stands.at)) in
     ends-bad format.reads job (Wrote-more stands.wrote (rw c.deref.ensures.value at c.in-Ok.ensures.ok) c.in-Ok.ensures.kept)
-    (WhereTold-taken (λ input. EndsAs format.reads job input (format.ending_of c.in-Err-Bad.end) (stands.text ++ blocks) _ _) stands.takes stops.1)
-    c.in-Ok-write_last.ensures.ok c.in-Ok-write_last.ensures.kept stops.0
+    (WhereTold-taken (λ input. EndsAs format.reads job input c.in-Err-Bad.end (stands.text ++ blocks) _ _) stands.takes stops.1)
+    (rw c.take_piece-went.ensures.same at c.in-Ok-write_last.ensures.ok) c.in-Ok-write_last.ensures.kept stops.0
 
 pub returns-clause-outcome : goal.returns-clause-outcome
 returns-clause-outcome g c = λ start left faults stands.
@@ -53,5 +53,5 @@ returns-clause-outcome g c = λ start left faults stands.
     let stops = rw c.in-Err-Bad.field-0-is at (c.in-Err-Bad.ensures.at stands.consumed stands.text (rw (c.clear.ensures.items, append-nil stands.text) stands.at)) in
     rw c.failed.ensures
     (ends-failed format.reads job (Wrote-more stands.wrote (rw c.deref.ensures.value at c.in-Ok.ensures.ok) c.in-Ok.ensures.kept) _ _ _ _ _ c.in-Err-write_last.failure g.met.F.Format.has
-    (WhereTold-taken (λ input. EndsAs format.reads job input (format.ending_of c.in-Err-Bad.end) (stands.text ++ blocks) _ _) stands.takes stops.1)
-    c.in-Err-write_last.ensures.err)
+    (WhereTold-taken (λ input. EndsAs format.reads job input c.in-Err-Bad.end (stands.text ++ blocks) _ _) stands.takes stops.1)
+    (rw c.take_piece-went.ensures.same at c.in-Err-write_last.ensures.err))

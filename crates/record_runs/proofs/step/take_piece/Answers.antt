@@ -9,7 +9,7 @@ returns-in-Ok-clause-at g c = λ consumed front is.
     let n = input_limit - c.args.run.now.taken in
     let at = c.in-Ok.ensures.at consumed front is in (
       c.too_long.ensures.bad,
-      at-too_long g.F.Format.reads (g.J.Job.answers (g.J.Job.kind c.args.job.now)) g.F.Format.ending_of g.F.Format.At _ consumed c.args.piece.now n (omega arith)
+      at-too_long g.F.Format.reads (g.J.Job.answers (g.J.Job.kind c.args.job.now)) g.F.Format.At _ consumed c.args.piece.now n (omega arith)
           c.too_long.ensures.reading at (g.met.F.Format.place_is _ _ at.records at.read ∙ (let counted = c.in-Ok.ensures.counted in let moved = c.in-Ok.ensures.moved in omega (arith, length-take n c.args.piece.now))),
     )
 
@@ -18,4 +18,4 @@ returns-in-Err-clause-at g c = λ consumed front is.
     let piece = c.args.piece.now in
     let n = input_limit - c.args.run.now.taken in
     rw (piece-splits consumed piece n) at
-    (Stops-more g.F.Format.reads (g.J.Job.answers (g.J.Job.kind c.args.job.now)) g.F.Format.ending_of g.F.Format.At _ (drop n piece) _ _ _ c.in-Err.stop (c.in-Err.ensures.at consumed front is))
+    (Stops-more g.F.Format.reads (g.J.Job.answers (g.J.Job.kind c.args.job.now)) g.F.Format.At _ (drop n piece) _ _ _ c.in-Err.stop (c.in-Err.ensures.at consumed front is))

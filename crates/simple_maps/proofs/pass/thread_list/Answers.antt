@@ -1,5 +1,6 @@
 use Rattle.std.proofs.Common.{ℕ, ◌+◌, get_or, map, refl, ◌∙◌, arith, length-set}
 use Rattle.std.proofs.lemmas.List.{length-map, map-set}
+use Rattle.simple_maps.proofs.LineLemmas.{AreInLine-more}
 use Rattle.simple_maps.proofs.PassLemmas.{HasThreaded-more}
 use Rattle.simple_maps.proofs.pass.thread_list.Goals as goal
 
@@ -20,4 +21,5 @@ loop-d-preserved g c =
       threaded = rw (map-set tail slots d c.new.result, map-set twin slots d c.new.result, c.new.ensures.tail, c.new.ensures.twin)
           (HasThreaded-more entries (map tail c.args.slots.now) (map twin c.args.slots.now) (map tail slots) (map twin slots) c.loop-d.newest c.args.start d c.args.v h.threaded
           (get_or c.loop-d.newest (get_or entries d 0) 0) (16777217 + d) (d + 1) (omega arith) (omega arith) (omega arith) (omega arith) (omega arith) refl c.if-older-base.false refl refl);
+      line = AreInLine-more g.P.DartSlot.IsInLine slots d c.new.result (omega arith) (d + 1) refl c.new.ensures.line h.line;
     }

@@ -1,6 +1,6 @@
 use Rattle.std.proofs.Common.{◌≡◌, ◌∷◌, ℕ, ◌<◌, ◌≤◌, get_or}
 use Rattle.half_edges.specs.Rounds.{AreRounds, AreRoundVertices}
-use Rattle.half_edges.proofs.arena.link_rounds.Given as goal
+use Rattle.half_edges.proofs.arena.close_rounds.Given as goal
 
 abbrev pub invariant-loop-v : goal.invariant-loop-v
 invariant-loop-v l = record {

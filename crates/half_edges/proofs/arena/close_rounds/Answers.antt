@@ -2,7 +2,7 @@ use Rattle.std.proofs.Common.{◌≡◌, suc, ◌+◌, length, refl, inl, inr, a
 use Rattle.std.proofs.lemmas.Bool.{cases_lt}
 use Rattle.map_lists.proofs.CutLemmas.{AreCuts-at}
 use Rattle.half_edges.proofs.RoundLemmas.{AreRounds-more, AreRoundVertices-push}
-use Rattle.half_edges.proofs.arena.link_rounds.Goals as goal
+use Rattle.half_edges.proofs.arena.close_rounds.Goals as goal
 
 pub overflow_cast-start : goal.overflow_cast-start
 overflow_cast-start c =
@@ -14,15 +14,21 @@ overflow_cast-end c =
     let at = AreCuts-at 0 c.args.ends.now (length c.args.darts.now) c.loop-v.v c.requires.cuts c.loop-v-test.true in
     omega (arith, c.requires.few)
 
-pub link_round-requires-clause-order : goal.link_round-requires-clause-order
-link_round-requires-clause-order c =
+pub close_round-requires-clause-order : goal.close_round-requires-clause-order
+close_round-requires-clause-order c =
     let at = AreCuts-at 0 c.args.ends.now (length c.args.darts.now) c.loop-v.v c.requires.cuts c.loop-v-test.true in
     omega (arith, c.loop-v.invariant.start_is)
 
-pub link_round-requires-clause-within : goal.link_round-requires-clause-within
-link_round-requires-clause-within c =
+pub close_round-requires-clause-within : goal.close_round-requires-clause-within
+close_round-requires-clause-within c =
     let at = AreCuts-at 0 c.args.ends.now (length c.args.darts.now) c.loop-v.v c.requires.cuts c.loop-v-test.true in
     omega (arith, c.loop-v.invariant.rounds.count)
+
+pub close_round-requires-clause-line : goal.close_round-requires-clause-line
+close_round-requires-clause-line c =
+    let h = c.loop-v.invariant in
+    let at = AreCuts-at 0 c.args.ends.now (length c.args.darts.now) c.loop-v.v c.requires.cuts c.loop-v-test.true in
+    λ d from to. rw (h.rounds.elsewhere d (omega (arith, h.start_is))) (c.requires.line d (omega arith))
 
 pub overflow_cast-start-in-loop-v : goal.overflow_cast-start-in-loop-v
 overflow_cast-start-in-loop-v c =
@@ -47,6 +53,6 @@ loop-v-preserved c =
         | inl m ↦ omega (arith, h.before w m, h.start_is)
         | inr m ↦ (let e : w ≡ v = omega arith in rw e (omega arith))
       ];
-      rounds = AreRounds-more ends c.args.darts.now c.loop-v.darts c.link_round.new.darts c.loop-v.start _ v (v + 1) h.rounds h.before h.start_is refl (omega (arith, h.start_is)) c.link_round.auto.darts c.link_round.ensures.here c.link_round.ensures.elsewhere refl;
+      rounds = AreRounds-more ends c.args.darts.now c.loop-v.darts c.close_round.new.darts c.loop-v.start _ v (v + 1) h.rounds h.before h.start_is refl (omega (arith, h.start_is)) c.close_round.auto.darts c.close_round.ensures.here c.close_round.ensures.elsewhere refl;
       vertices = rw c.in_ok-push.ensures.items (AreRoundVertices-push ends c.loop-v.vertices.items v _ h.vertices h.start_is (let begins = h.start_is in omega arith));
     }

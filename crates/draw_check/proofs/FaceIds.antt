@@ -1,0 +1,92 @@
+-- The darts of the base's face, and faces that are drawn well, as the calls of a map answer them.
+use Rattle.std.proofs.Common.{◌≡◌, ℕ, ◌<◌, ◌⊎◌, Bool, true, false, not, MatchBool, List, Option, Some, unwrap_or, pos, ◌<ℤ◌, refl, sym, ap, subst, ◌∙◌, inl, inr}
+use Rattle.std.specs.Option.{option_map}
+use Rattle.std.proofs.lemmas.Bool.{true≢false}
+use Rattle.map_lists.specs.Lists.{Lists}
+use Rattle.map_definitions.specs.Maps.{Dart, HasDart, follows, face_step}
+use Rattle.map_definitions.specs.Paths.{SameFace}
+use Rattle.map_definitions.proofs.DartLemmas.{HasDart-face_step}
+use Rattle.half_edges.specs.Map.{Map, IsHalfMap, IsLive, dart_at}
+use Rattle.euler_faces.proofs.NumberLemmas.{some_of}
+use Rattle.plane_laws.specs.Completed.{IsCompleted}
+use Rattle.pg_plane.specs.declared.point.Point.{Point}
+use Rattle.pg_plane.specs.Geometry.{area}
+use Rattle.drawings.specs.Drawing.{place}
+use Rattle.draw_check.specs.FaceVerdicts.{dart_of, IsDrawnWell, IsDrawnWrong}
+use Rattle.draw_check.proofs.FaceLemmas.{same_step, same_itself, on_base}
+
+-- the dart of a live id
+pub dart_of-live : (map : Map) (d : ℕ) → IsLive map d → dart_at map d ≡ Some (dart_of map d)
+dart_of-live map d live = let x = some_of (dart_at map d) live in x.1 ∙ ap (λ (e : Dart). Some e) (sym (ap (λ (o : Option Dart). unwrap_or o (0, 0)) x.1))
+
+pub dart_of-is : (map : Map) (d : ℕ) (x : Dart) → dart_at map d ≡ Some x → dart_of map d ≡ x
+dart_of-is map d x is = ap (λ (o : Option Dart). unwrap_or o (0, 0)) is
+
+module _ (map : Map) (h : IsHalfMap map) where
+  pub has_dart : (d : ℕ) → IsLive map d → HasDart map.lists (dart_of map d).0 (dart_of map d).1
+  has_dart d live = h.is_dart d (dart_of map d).0 (dart_of map d).1 (dart_of-live map d live)
+
+  -- the head of the next dart along the face
+  pub third_is : (d e a b w : ℕ) → dart_at map d ≡ Some (a, b) → dart_at map e ≡ option_map (face_step map.lists) (dart_at map d) → option_map (λ (x : Dart). x.1) (dart_at map e) ≡ Some w → (follows map.lists b a ≡ w) × HasDart map.lists b w
+  third_is d e a b w is step head =
+      let to : dart_at map e ≡ Some (b, follows map.lists b a) = step ∙ ap (option_map (face_step map.lists)) is in
+      let t : Some (follows map.lists b a) ≡ Some w = sym (ap (option_map (λ (x : Dart). x.1)) to) ∙ head in
+      let same : follows map.lists b a ≡ w = cc in
+      (same, subst (λ (x : ℕ). HasDart map.lists b x) same (h.is_dart e b (follows map.lists b a) to))
+
+  module _ (c : IsCompleted map.lists) (base d second third : ℕ) (live : IsLive map base) (live' : IsLive map d) (step : dart_at map second ≡ option_map (face_step map.lists) (dart_at map base)) (step' : dart_at map third ≡ option_map (face_step map.lists) (dart_at map second)) where
+    abbrev b : Dart
+    b = dart_of map base
+
+    has : HasDart map.lists b.0 b.1
+    has = has_dart base live
+
+    second_is : dart_at map second ≡ Some (face_step map.lists b)
+    second_is = step ∙ ap (option_map (face_step map.lists)) (dart_of-live map base live)
+
+    third_dart : dart_at map third ≡ Some (face_step map.lists (face_step map.lists b))
+    third_dart = step' ∙ ap (option_map (face_step map.lists)) second_is
+
+    to_face : (d ≡ base) ⊎ ((d ≡ second) ⊎ (d ≡ third)) → SameFace map.lists b (dart_of map d)
+    to_face (inl e) = subst (λ (x : ℕ). SameFace map.lists b (dart_of map x)) (sym e) (same_itself map.lists c b)
+    to_face (inr (inl e)) =
+        subst (λ (x : ℕ). SameFace map.lists b (dart_of map x)) (sym e)
+        (subst (λ (x : Dart). SameFace map.lists b x) (sym (dart_of-is map second (face_step map.lists b) second_is)) (same_step map.lists c b b has (same_itself map.lists c b)))
+    to_face (inr (inr e)) =
+        subst (λ (x : ℕ). SameFace map.lists b (dart_of map x)) (sym e)
+        (subst (λ (x : Dart). SameFace map.lists b x) (sym (dart_of-is map third (face_step map.lists (face_step map.lists b)) third_dart))
+        (same_step map.lists c b (face_step map.lists b) (HasDart-face_step map.lists b c.simple has) (same_step map.lists c b b has (same_itself map.lists c b))))
+
+    one_id : (e : ℕ) (x : Dart) → dart_at map e ≡ Some x → dart_of map d ≡ x → d ≡ e
+    one_id e x is same = h.one_id d e x.0 x.1 (dart_of-live map d live' ∙ ap (λ (y : Dart). Some y) same) is
+
+    from_face : SameFace map.lists b (dart_of map d) → (d ≡ base) ⊎ ((d ≡ second) ⊎ (d ≡ third))
+    from_face same =
+        elim (on_base map.lists c b has (dart_of map d) (has_dart d live') same) [
+          | inl e ↦ inl (one_id base b (dart_of-live map base live) e)
+          | inr o ↦ elim o [
+            | inl e ↦ inr (inl (one_id second (face_step map.lists b) second_is e))
+            | inr e ↦ inr (inr (one_id third (face_step map.lists (face_step map.lists b)) third_dart e))
+          ]
+        ]
+
+    -- a dart on the face of the base has one of three ids
+    pub on_base_is : (r : Bool) → ((r ≡ true → (d ≡ base) ⊎ ((d ≡ second) ⊎ (d ≡ third))) × ((d ≡ base) ⊎ ((d ≡ second) ⊎ (d ≡ third)) → r ≡ true)) → (r ≡ true → SameFace map.lists (dart_of map base) (dart_of map d)) × (SameFace map.lists (dart_of map base) (dart_of map d) → r ≡ true)
+    on_base_is r is = (λ t. to_face (is.0 t), λ s. is.1 (from_face s))
+
+-- r says whether the area of three vertices has the sign that it should have
+abbrev pub IsSign : List Point → Bool → Bool → ℕ → ℕ → ℕ → Type 0
+IsSign points on r a b w =
+    (r ≡ true → MatchBool on (area (place points a) (place points b) (place points w) <ℤ pos 0) (pos 0 <ℤ area (place points a) (place points b) (place points w)))
+    × (MatchBool on (area (place points a) (place points b) (place points w) <ℤ pos 0) (pos 0 <ℤ area (place points a) (place points b) (place points w)) → r ≡ true)
+
+module _ (lists : Lists) (points : List Point) (base : Dart) (a b w : ℕ) where
+  -- a face is drawn well where its area has the sign that it should have
+  pub well_is : (on r : Bool) → ((on ≡ true → SameFace lists base (a, b)) × (SameFace lists base (a, b) → on ≡ true)) → IsSign points on r a b w → (r ≡ true → IsDrawnWell lists points base a b w) × (IsDrawnWell lists points base a b w → r ≡ true)
+  well_is true r face sign = (λ t. record { inner = λ off. absurd (off (face.0 refl)); outer = λ same. sign.0 t }, λ well. sign.1 (well.outer (face.0 refl)))
+  well_is false r face sign = (λ t. record { inner = λ off. sign.0 t; outer = λ same. absurd (true≢false (sym (face.1 same))) }, λ well. sign.1 (well.inner (λ same. true≢false (sym (face.1 same)))))
+
+  -- and drawn wrong where it has not
+  pub wrong_is : (r : Bool) → HasDart lists a b → follows lists b a ≡ w → (a < b) × (a < w) → ((r ≡ true → IsDrawnWell lists points base a b w) × (IsDrawnWell lists points base a b w → r ≡ true)) → (not r ≡ true → IsDrawnWrong lists points base a b w) × (IsDrawnWrong lists points base a b w → not r ≡ true)
+  wrong_is true has third least well = (λ t. absurd (true≢false (sym t)), λ wrong. absurd (wrong.wrong (well.0 refl)))
+  wrong_is false has third least well = (λ t. record { dart = has; third = third; least = least; wrong = λ w'. true≢false (sym (well.1 w')) }, λ wrong. refl)

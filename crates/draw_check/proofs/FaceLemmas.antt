@@ -1,0 +1,167 @@
+-- The faces of a completed map: three darts each, of which one leaves the least vertex.
+use Rattle.std.proofs.Common.{◌≡◌, ℕ, ◌<◌, ◌⊎◌, Bool, true, false, eqb, ◌||◌, List, length, ℤ, pos, ◌<ℤ◌, refl, sym, ap, subst, ◌∙◌, inl, inr, arith, eqb-true}
+use Rattle.std.proofs.lemmas.Bool.{cases_lt}
+use Rattle.std.proofs.lemmas.Int.{ints, by_lt_z}
+use Rattle.label_classes.specs.Classes.{image}
+use Rattle.label_classes.proofs.Classes.{Together, Together-from, same_class-from, cases_Together}
+use Rattle.label_classes.proofs.Orbits.{orbits-step, orbits-closed_marks}
+use Rattle.map_lists.specs.Lists.{Lists}
+use Rattle.map_definitions.specs.Maps.{Dart, HasDart, follows, face_step, dart_number, face_images, face_classes}
+use Rattle.map_definitions.specs.Paths.{SameFace}
+use Rattle.map_definitions.proofs.DartLemmas.{dart_number-lt, get_or-dart_number, dart_number-injective, HasDart-face_step, length-face_images, get_or-face_images, IsPermutationOfBelow-face_images}
+use Rattle.plane_laws.specs.Completed.{IsCompleted}
+use Rattle.plane_laws.proofs.Triangles.{triangles_where_met}
+use Rattle.pg_plane.specs.declared.point.Point.{Point}
+use Rattle.pg_plane.specs.Geometry.{area}
+use Rattle.face_geometry.specs.Faced.{in_base, IsOnFace}
+use Rattle.face_geometry.proofs.Faces.{in_base_from}
+use Rattle.face_geometry.proofs.Identities.{area_turned}
+use Rattle.drawings.specs.Drawing.{place, IsCounterclockwise}
+use Rattle.draw_check.specs.FaceVerdicts.{IsDrawnWell, IsDrawnWrong}
+
+-- a dart that passes the test lies on the face
+on_face_from : (step : ℕ → ℕ) (b i : ℕ) → in_base step b i ≡ true → IsOnFace step b i
+on_face_from step b i e = either_of (eqb i b) (eqb i (step b)) (eqb i (step (step b))) (eqb-true i b) (eqb-true i (step b)) (eqb-true i (step (step b))) e
+  where
+    either_of : {P Q R : Type 0} (p q r : Bool) → (p ≡ true → P) → (q ≡ true → Q) → (r ≡ true → R) → (p || (q || r)) ≡ true → P ⊎ (Q ⊎ R)
+    either_of true q r f g h e = inl (f refl)
+    either_of false true r f g h e = inr (inl (g refl))
+    either_of false false r f g h e = inr (inr (h e))
+
+module _ (lists : Lists) (c : IsCompleted lists) where
+  -- three steps lead back
+  pub thrice : (d : Dart) → HasDart lists d.0 d.1 → face_step lists (face_step lists (face_step lists d)) ≡ d
+  thrice d has = triangles_where_met lists c.simple c.plane c.some c.edges d has
+
+  step_dart : (d : Dart) → HasDart lists d.0 d.1 → HasDart lists (face_step lists d).0 (face_step lists d).1
+  step_dart d has = HasDart-face_step lists d c.simple has
+
+  -- the image of a dart's number is that of the next dart along its face
+  image_is : (d : Dart) → HasDart lists d.0 d.1 → image (face_images lists) (dart_number lists d) ≡ dart_number lists (face_step lists d)
+  image_is d has =
+      get_or-face_images lists (dart_number lists d) (dart_number lists d) (0, 0) (dart_number-lt lists d.0 d.1 has)
+      ∙ ap (λ (x : Dart). dart_number lists (face_step lists x)) (get_or-dart_number lists d.0 d.1 (0, 0) has)
+
+  number_in : (d : Dart) → HasDart lists d.0 d.1 → dart_number lists d < length (face_images lists)
+  number_in d has = let l = dart_number-lt lists d.0 d.1 has in let n = length-face_images lists in omega arith
+
+  together_step : (d : Dart) → HasDart lists d.0 d.1 → Together (face_classes lists) (dart_number lists d) (dart_number lists (face_step lists d))
+  together_step d has =
+      subst (λ (x : ℕ). Together (face_classes lists) (dart_number lists d) x) (image_is d has)
+      (orbits-step (face_images lists) (IsPermutationOfBelow-face_images lists c.simple).within (dart_number lists d) (number_in d has))
+
+  -- the next dart along a face is on it
+  pub same_step : (b d : Dart) → HasDart lists d.0 d.1 → SameFace lists b d → SameFace lists b (face_step lists d)
+  same_step b d has same =
+      same_class-from (face_classes lists) (dart_number lists b) (dart_number lists (face_step lists d))
+      (Together-from (face_classes lists) (dart_number lists b) (dart_number lists d) same ∙ together_step d has)
+
+  pub same_back : (b d : Dart) → HasDart lists d.0 d.1 → SameFace lists b (face_step lists d) → SameFace lists b d
+  same_back b d has same =
+      same_class-from (face_classes lists) (dart_number lists b) (dart_number lists d)
+      (Together-from (face_classes lists) (dart_number lists b) (dart_number lists (face_step lists d)) same ∙ sym (together_step d has))
+
+  pub same_itself : (d : Dart) → SameFace lists d d
+  same_itself d = same_class-from (face_classes lists) (dart_number lists d) (dart_number lists d) refl
+
+  -- two darts are on one face or not
+  pub same_or_not : (d e : Dart) → SameFace lists d e ⊎ ¬ SameFace lists d e
+  same_or_not d e =
+      elim (cases_Together (face_classes lists) (dart_number lists d) (dart_number lists e)) [
+        | inl t ↦ inl (same_class-from (face_classes lists) (dart_number lists d) (dart_number lists e) t)
+        | inr n ↦ inr (λ s. n (Together-from (face_classes lists) (dart_number lists d) (dart_number lists e) s))
+      ]
+
+  module _ (b : Dart) (has : HasDart lists b.0 b.1) where
+    -- the three numbers of the base's face
+    abbrev mark : ℕ → Bool
+    mark i = in_base (image (face_images lists)) (dart_number lists b) i
+
+    first_image : image (face_images lists) (dart_number lists b) ≡ dart_number lists (face_step lists b)
+    first_image = image_is b has
+
+    second_image : image (face_images lists) (image (face_images lists) (dart_number lists b)) ≡ dart_number lists (face_step lists (face_step lists b))
+    second_image = ap (image (face_images lists)) first_image ∙ image_is (face_step lists b) (step_dart b has)
+
+    third_image : image (face_images lists) (image (face_images lists) (image (face_images lists) (dart_number lists b))) ≡ dart_number lists b
+    third_image =
+        ap (image (face_images lists)) second_image ∙ (image_is (face_step lists (face_step lists b)) (step_dart (face_step lists b) (step_dart b has)) ∙ ap (dart_number lists) (thrice b has))
+
+    on_next : (i : ℕ) → IsOnFace (image (face_images lists)) (dart_number lists b) i → IsOnFace (image (face_images lists)) (dart_number lists b) (image (face_images lists) i)
+    on_next i (inl e) = inr (inl (ap (image (face_images lists)) e))
+    on_next i (inr (inl e)) = inr (inr (ap (image (face_images lists)) e))
+    on_next i (inr (inr e)) = inl (ap (image (face_images lists)) e ∙ third_image)
+
+    -- a dart on the face of the base is one of its three
+    pub on_base : (d : Dart) → HasDart lists d.0 d.1 → SameFace lists b d → (d ≡ b) ⊎ ((d ≡ face_step lists b) ⊎ (d ≡ face_step lists (face_step lists b)))
+    on_base d has' same =
+        let step = image (face_images lists) in
+        let marks = orbits-closed_marks (face_images lists) (IsPermutationOfBelow-face_images lists c.simple) mark
+        (λ i l m. in_base_from step (dart_number lists b) (step i) (on_next i (on_face_from step (dart_number lists b) i m)))
+        (dart_number lists b) (dart_number lists d) (number_in b has) (number_in d has')
+        (Together-from (face_classes lists) (dart_number lists b) (dart_number lists d) same) in
+        let marked : mark (dart_number lists d) ≡ true = sym marks ∙ in_base_from step (dart_number lists b) (dart_number lists b) (inl refl) in
+        elim (on_face_from step (dart_number lists b) (dart_number lists d) marked) [
+          | inl e ↦ inl (dart_number-injective lists d b has' has e)
+          | inr o ↦ elim o [
+            | inl e ↦ inr (inl (dart_number-injective lists d (face_step lists b) has' (step_dart b has) (e ∙ first_image)))
+            | inr e ↦ inr (inr (dart_number-injective lists d (face_step lists (face_step lists b)) has' (step_dart (face_step lists b) (step_dart b has)) (e ∙ second_image)))
+          ]
+        ]
+
+  module _ (points : List Point) (b : Dart) where
+    -- a face is drawn well from one dart where it is from the next
+    well_back : (u v : ℕ) → HasDart lists u v → IsDrawnWell lists points b v (follows lists v u) u → IsDrawnWell lists points b u v (follows lists v u)
+    well_back u v has h =
+        let turned = area_turned (place points u) (place points v) (place points (follows lists v u)) in
+        record {
+          inner = λ off. subst (λ (z : ℤ). pos 0 <ℤ z) turned (h.inner (λ same. off (same_back b (u, v) has same)));
+          outer = λ same. subst (λ (z : ℤ). z <ℤ pos 0) turned (h.outer (same_step b (u, v) has same));
+        }
+
+    module _ (none : (x y z : ℕ) → ¬ IsDrawnWrong lists points b x y z) where
+      -- from its least vertex
+      well_least : (u v : ℕ) → HasDart lists u v → u < v → u < follows lists v u → IsDrawnWell lists points b u v (follows lists v u)
+      well_least u v has l l' = record {
+        inner = λ off.
+            by_lt_z (pos 0) (area (place points u) (place points v) (place points (follows lists v u))) (λ p. p)
+            (λ q. absurd (none u v (follows lists v u) (record { dart = has; third = refl; least = (l, l'); wrong = λ well. let p = well.inner off in omega (arith, ints) })));
+        outer = λ same.
+            by_lt_z (area (place points u) (place points v) (place points (follows lists v u))) (pos 0) (λ p. p)
+            (λ q. absurd (none u v (follows lists v u) (record { dart = has; third = refl; least = (l, l'); wrong = λ well. let p = well.outer same in omega (arith, ints) })));
+      }
+
+      -- from any
+      well_everywhere : (u v : ℕ) → HasDart lists u v → IsDrawnWell lists points b u v (follows lists v u)
+      well_everywhere u v has =
+          let w = follows lists v u in
+          let d1 = step_dart (u, v) has in
+          let d2 = step_dart (v, w) d1 in
+          let back = thrice (u, v) has in
+          let next : follows lists w v ≡ u = ap (λ (d : Dart). d.0) back in
+          let last : follows lists u w ≡ v = ap (λ (x : ℕ). follows lists x w) (sym next) ∙ ap (λ (d : Dart). d.1) back in
+          let d3 : HasDart lists w u = subst (λ (x : ℕ). HasDart lists w x) next d2 in
+          let n1 = c.simple.no_loop u v has in
+          let n2 = c.simple.no_loop v w d1 in
+          let n3 = c.simple.no_loop w u d3 in
+          let from_second : v < w → v < u → IsDrawnWell lists points b u v w = λ l l'.
+          well_back u v has (subst (λ (x : ℕ). IsDrawnWell lists points b v w x) next (well_least v w d1 l (subst (λ (x : ℕ). v < x) (sym next) l'))) in
+          let from_third : w < u → w < v → IsDrawnWell lists points b u v w = λ l l'.
+          well_back u v has (subst (λ (x : ℕ). IsDrawnWell lists points b v w x) next (well_back v w d1
+          (subst (λ (x : ℕ). IsDrawnWell lists points b w x v) (sym next) (subst (λ (x : ℕ). IsDrawnWell lists points b w u x) last (well_least w u d3 l (subst (λ (x : ℕ). w < x) (sym last) l')))))) in
+          elim (cases_lt u v) [
+            | inl l ↦ elim (cases_lt u w) [
+              | inl l' ↦ well_least u v has l l'
+              | inr m ↦ from_third (omega (arith, n3)) (omega (arith, n3))
+            ]
+            | inr m ↦ elim (cases_lt v w) [
+              | inl l ↦ from_second l (omega (arith, n1))
+              | inr m' ↦ from_third (omega (arith, n2, n1)) (omega (arith, n2))
+            ]
+          ]
+
+      pub counterclockwise_from : HasDart lists b.0 b.1 → IsCounterclockwise lists points b
+      counterclockwise_from has = record {
+        inner = λ u v has' off. (well_everywhere u v has').inner off;
+        outer = (well_everywhere b.0 b.1 has).outer (same_itself b);
+      }

@@ -1,0 +1,14 @@
+-- The lemmas on checks of drawings.
+pub mod FaceIds
+pub mod FaceLemmas
+pub mod LeastLemmas
+pub mod MetLemmas
+pub mod OnceLemmas
+pub mod RoundLemmas
+mod Cases
+pub mod ClockOrder
+pub mod RoundOrder
+pub mod Segments
+pub mod TurnLemmas
+pub mod ValidFewer
+pub mod ValidYes

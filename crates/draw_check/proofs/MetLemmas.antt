@@ -1,0 +1,48 @@
+-- What the searches for met edges say of vertices on edges and of crossings.
+use Rattle.std.proofs.Common.{ℕ, ◌+◌, ◌<◌, List, length, Option, Some, None, sym, inl, ⊎_elim, arith}
+use Rattle.std.specs.Option.{MatchOption}
+use Rattle.map_lists.specs.Lists.{Lists}
+use Rattle.map_lists.specs.declared.ids.VertexId.{VertexId}
+use Rattle.map_lists.specs.declared.items.Ends.{Ends}
+use Rattle.pg_plane.specs.declared.point.Point.{Point}
+use Rattle.draw_check.specs.Least.{IsLeastPair}
+use Rattle.draw_check.specs.Faults.{HasEdge, LiesOnEdge, EdgesCross}
+use Rattle.draw_check.specs.Loops.{IsMetFrom}
+use Rattle.draw_check.specs.declared.edges.Probe.TheVariants.{Vertex, Edge}
+
+module _ (lists : Lists) (points : List Point) (v : VertexId) where
+  pub met_by_vertex : (a b : ℕ) → LiesOnEdge lists points v.0 a b → IsMetFrom lists points (Vertex v) 0 a b
+  met_by_vertex a b h = record { late = omega arith; met = record { edge = h.edge; meets = (h.not_first, h.not_second, h.on) } }
+
+  pub lies_on : v.0 < length lists → (a b : ℕ) → IsMetFrom lists points (Vertex v) 0 a b → LiesOnEdge lists points v.0 a b
+  lies_on l a b h = record { vertex = l; edge = h.met.edge; not_first = h.met.meets.0; not_second = h.met.meets.1; on = h.met.meets.2 }
+
+  -- the first edge met by a vertex is the first that it lies on
+  pub first_lies_on : v.0 < length lists → (a b : ℕ) → IsLeastPair (IsMetFrom lists points (Vertex v) 0) a b → IsLeastPair (LiesOnEdge lists points v.0) a b
+  first_lies_on l a b h = record {
+    before = λ s t less on. h.before s t less (met_by_vertex s t on);
+    rest = record { here = lies_on l a b h.rest.here; before = λ t less on. h.rest.before t less (met_by_vertex a t on) };
+  }
+
+module _ (lists : Lists) (points : List Point) (a b : VertexId) (edge : HasEdge lists a.0 b.0) where
+  met_by_edge : (c d : ℕ) → EdgesCross lists points a.0 b.0 c d → IsMetFrom lists points (Edge a b) (a.0 + 1) c d
+  met_by_edge c d h =
+      let other = h.apart.0 in
+      record {
+        late = ⊎_elim (λ less. omega arith) (λ same. absurd (other (sym same.0))) h.order;
+        met = record { edge = h.second; meets = (h.apart.0, h.apart.1, h.apart.2, h.apart.3, h.cross) };
+      }
+
+  edges_cross : (c d : ℕ) → IsMetFrom lists points (Edge a b) (a.0 + 1) c d → EdgesCross lists points a.0 b.0 c d
+  edges_cross c d h =
+      let late = h.late in
+      let m = h.met.meets in
+      record { first = edge; second = h.met.edge; order = inl (omega arith); apart = (m.0, m.1, m.2, m.3); cross = m.4 }
+
+  -- the first edge from a + 1 on that meets an edge is the first later one that crosses it
+  pub first_cross : (found : Option Ends) → MatchOption found ((c d : ℕ) → ¬ IsMetFrom lists points (Edge a b) (a.0 + 1) c d) (λ e. IsLeastPair (IsMetFrom lists points (Edge a b) (a.0 + 1)) e.a.0 e.b.0) → MatchOption found ((c d : ℕ) → ¬ EdgesCross lists points a.0 b.0 c d) (λ e. IsLeastPair (EdgesCross lists points a.0 b.0) e.a.0 e.b.0)
+  first_cross None h = λ c d x. h c d (met_by_edge c d x)
+  first_cross (Some e) h = record {
+    before = λ s t less x. h.before s t less (met_by_edge s t x);
+    rest = record { here = edges_cross e.a.0 e.b.0 h.rest.here; before = λ t less x. h.rest.before t less (met_by_edge e.a.0 t x) };
+  }

@@ -1,0 +1,11 @@
+use Rattle.draw_check.specs.FaceVerdicts.{dart_of}
+use Rattle.draw_check.proofs.FaceIds.{has_dart}
+use Rattle.draw_check.proofs.FaceLemmas.{counterclockwise_from}
+use Rattle.draw_check.proofs.faces.check_by_faces.Goals as goal
+
+pub returns-in-None : goal.returns-in-None
+returns-in-None c =
+    let map = c.args.tri.now in (
+      c.in_default.ensures,
+      counterclockwise_from map.lists c.requires.completed c.args.fig.now.points (dart_of map c.args.base.0) c.in-None.ensures (has_dart map c.facts.ensures c.args.base.0 c.requires.base),
+    )

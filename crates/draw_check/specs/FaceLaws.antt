@@ -1,0 +1,15 @@
+-- The verdict by faces implies that by pairs.
+use Rattle.std.specs.Prelude.{List, ℤ}
+use Rattle.map_lists.specs.Lists.{Lists}
+use Rattle.map_definitions.specs.Maps.{Dart, HasDart}
+use Rattle.plane_laws.specs.Completed.{IsCompleted}
+use Rattle.pg_plane.specs.declared.point.Point.{Point}
+use Rattle.draw_check.specs.Verdicts.{IsVerdict}
+use Rattle.draw_check.specs.FaceVerdicts.{IsFaceVerdict}
+use Rattle.draw_check.specs.declared.verdict.Verdict.TheVariants.{Yes}
+use Rattle.draw_check.specs.declared.verdict.FaceVerdict.TheVariants.{Yes as FacesYes}
+
+-- Where the faces of a completed map are drawn well, the drawing has no fault.
+abbrev pub FacesYesIsYes : Type 0
+FacesYesIsYes =
+    (lists : Lists) (points : List Point) (width height : ℤ) (base : Dart) → IsCompleted lists → HasDart lists base.0 base.1 → IsFaceVerdict lists points width height base FacesYes → IsVerdict lists points width height Yes

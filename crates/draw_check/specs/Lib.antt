@@ -1,0 +1,8 @@
+-- What a check of a drawing answers, and its laws.
+pub mod Least
+pub mod Faults
+pub mod Verdicts
+pub mod Laws
+pub mod Loops
+pub mod FaceVerdicts
+pub mod FaceLaws

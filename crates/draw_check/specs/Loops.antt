@@ -1,0 +1,65 @@
+-- What the loops of a check go over: edges that something meets, entries of lists, and breaks.
+use Rattle.std.specs.Prelude.{ℕ, ◌+◌, ◌<◌, ◌≤◌, ◌≡◌, ◌≢◌, Bool, true, false, List, slice_index, Option, Some, None, ⊤}
+use Rattle.map_lists.specs.Lists.{Lists}
+use Rattle.map_lists.specs.declared.ids.VertexId.{VertexId}
+use Rattle.map_definitions.specs.Maps.{list_of, follows, place_of}
+use Rattle.half_edges.specs.Map.{Map, IsHalfMap, dart_at}
+use Rattle.pg_plane.specs.declared.point.Point.{Point}
+use Rattle.pg_plane.specs.Geometry.{IsOnSegment, DoCross}
+use Rattle.drawings.specs.Drawing.{place}
+use Rattle.draw_check.specs.Faults.{HasPlaces, HasEdge, EdgesCross}
+use Rattle.draw_check.specs.declared.edges.Probe.{Probe}
+use Rattle.draw_check.specs.declared.edges.Probe.TheVariants.{Vertex, Edge}
+
+-- a half-edge map, and a point for each vertex
+pub record IsDrawn (map : Map) (points : List Point) : Type 0 where
+  pub known : IsHalfMap map
+  pub places : HasPlaces map.lists points
+
+-- the vertices of a probe are below n
+abbrev pub IsProbeBelow : ℕ → Probe → Type 0
+IsProbeBelow n (Vertex v) = v.0 < n
+IsProbeBelow n (Edge s t) = (s.0 < n) × (t.0 < n)
+
+-- a vertex that lies on the segment from a to b and is none of its ends, or an edge that crosses it and has no end in common
+abbrev pub Meets : List Point → Probe → ℕ → ℕ → Type 0
+Meets points (Vertex v) a b = (v.0 ≢ a) × (v.0 ≢ b) × IsOnSegment (place points v.0) (place points a) (place points b)
+Meets points (Edge s t) a b =
+    (a ≢ s.0) × (a ≢ t.0) × (b ≢ s.0) × (b ≢ t.0) × DoCross (place points s.0) (place points t.0) (place points a) (place points b)
+
+-- the edge from a to b is met
+pub record IsMet (lists : Lists) (points : List Point) (probe : Probe) (a b : ℕ) : Type 0 where
+  pub edge : HasEdge lists a b
+  pub meets : Meets points probe a b
+
+-- the same of edges whose lesser end is at least `from`
+pub record IsMetFrom (lists : Lists) (points : List Point) (probe : Probe) (from a b : ℕ) : Type 0 where
+  pub late : from ≤ a
+  pub met : IsMet lists points probe a b
+
+-- a later edge crosses the edge from a to b
+pub record IsCrossed (lists : Lists) (points : List Point) (a b : ℕ) : Type 0 where
+  pub first : ℕ
+  pub second : ℕ
+  pub cross : EdgesCross lists points a b first second
+
+-- the least of the first k entries of a list that have a property
+abbrev pub IsLeastOf : (ℕ → Type 0) → List ℕ → ℕ → Option VertexId → Type 0
+IsLeastOf P us k None = (i : ℕ) → i < k → ¬ P (slice_index us i)
+IsLeastOf P us k (Some x) = P x.0 × ((i : ℕ) → i < k → slice_index us i < x.0 → ¬ P (slice_index us i))
+
+-- just one of the first k entries of a list has a property, or none
+abbrev pub IsOneOf : (ℕ → Type 0) → List ℕ → ℕ → Bool → Type 0
+IsOneOf P us k true =
+    ((i : ℕ) × (i < k) × P (slice_index us i)) × ((i j : ℕ) → i < k → j < k → P (slice_index us i) → P (slice_index us j) → i ≡ j)
+IsOneOf P us k false = (i : ℕ) → i < k → ¬ P (slice_index us i)
+
+-- e is the dart from v to the entry after u, which stands behind u in the list
+pub record IsLaterDart (map : Map) (v u e : ℕ) : Type 0 where
+  pub dart : dart_at map e ≡ Some (v, follows map.lists v u)
+  pub place : place_of (follows map.lists v u) (list_of map.lists v) ≡ place_of u (list_of map.lists v) + 1
+
+-- a vertex is below the least one so far, if there is one
+abbrev pub IsBelow : ℕ → Option VertexId → Type 0
+IsBelow v None = ⊤
+IsBelow v (Some u) = v < u.0

@@ -1,0 +1,230 @@
+//! The check of a drawing of a completed map by its faces.
+ghost use Rattle.std.specs.Prelude.{◌≡◌, ◌⊎◌, ◌+◌, ◌<◌, ◌↔◌, ℕ, List, length, slice_index, IsTrue, Some, MatchBool, MatchOption, pos, ◌<ℤ◌};
+ghost use Rattle.map_definitions.specs.Maps.{HasDart, follows};
+ghost use Rattle.map_definitions.specs.Paths.{SameFace};
+ghost use Rattle.half_edges.specs.Map.{IsHalfMap, IsLive, dart_at, first_dart};
+ghost use Rattle.plane_laws.specs.Completed.{IsCompleted};
+ghost use Rattle.pg_plane.specs.Geometry.{area};
+ghost use Rattle.pg_plane.specs.Range.{IsInRange};
+ghost use Rattle.drawings.specs.Drawing.{place};
+ghost use Rattle.draw_check.specs.Least.{IsLeast, IsLeastPair, IsLeastTriple};
+ghost use Rattle.draw_check.specs.Faults.{HasPlaces};
+ghost use Rattle.draw_check.specs.Loops.{IsDrawn, IsLeastOf};
+ghost use Rattle.draw_check.specs.FaceVerdicts.{IsDrawnWrong, IsWrongFrom, IsFaceVerdict, dart_of};
+
+use crate::FaceVerdict;
+use crate::places::{first_outside, place_at};
+use crate::rounds::{is_below, later_dart};
+use half_edges::{DartId, HalfMap, VertexId};
+use pg_plane::{GridFigure, Points, area2};
+
+// Whether an id is one of three.
+fn is_one_of(d: DartId, one: DartId, two: DartId, three: DartId) -> bool
+    ensures { IsTrue result ↔ ((d.0 ≡ one.0) ⊎ ((d.0 ≡ two.0) ⊎ (d.0 ≡ three.0))) }
+{
+    d.0 == one.0 || d.0 == two.0 || d.0 == three.0
+}
+
+// Whether a dart lies on the face left of the base, which is a triangle.
+fn is_on_base(map: &HalfMap, base: DartId, d: DartId) -> bool
+    requires known { IsHalfMap map.now }
+    requires completed { IsCompleted map.now.lists }
+    requires base { IsLive map.now base.0 }
+    requires live { IsLive map.now d.0 }
+    ensures { IsTrue result ↔ SameFace map.now.lists (dart_of map.now base.0) (dart_of map.now d.0) }
+{
+    let second = map.face_step(base);
+    let third = map.face_step(second);
+    is_one_of(d, base, second, third)
+}
+
+// Whether a number is negative, or positive where that is asked.
+fn has_sign(number: i64, is_negative: bool) -> bool
+    ensures { IsTrue result ↔ MatchBool is_negative (number <ℤ pos 0) (pos 0 <ℤ number) }
+{
+    if is_negative { number < 0 } else { 0 < number }
+}
+
+// Whether the first of three vertices is the least.
+fn is_least(a: VertexId, b: VertexId, c: VertexId) -> bool
+    ensures { IsTrue result ↔ ((a.0 < b.0) × (a.0 < c.0)) }
+{
+    a.0 < b.0 && a.0 < c.0
+}
+
+// Whether the way from `a` over `b` to `c` turns to the left, or to the right where the face is the outer
+// one.
+fn turns_well(points: &Points, is_outer: bool, a: VertexId, b: VertexId, c: VertexId) -> bool
+    requires in_range { (v : ℕ) → v < length points.now → IsInRange (place points.now v) }
+    requires a { a.0 < length points.now }
+    requires b { b.0 < length points.now }
+    requires c { c.0 < length points.now }
+    ensures { IsTrue result ↔ MatchBool is_outer (area (place points.now a.0) (place points.now b.0) (place points.now c.0) <ℤ pos 0)
+        (pos 0 <ℤ area (place points.now a.0) (place points.now b.0) (place points.now c.0)) }
+{
+    let double = area2(
+        place_at(points, a),
+        place_at(points, b),
+        place_at(points, c),
+    );
+    has_sign(double, is_outer)
+}
+
+// Whether the face of a dart from `a` is drawn wrong and `a` is its least vertex.
+fn is_wrong(map: &HalfMap, points: &Points, base: DartId, a: VertexId, d: DartId) -> bool
+    requires drawn { IsDrawn map.now points.now }
+    requires completed { IsCompleted map.now.lists }
+    requires base { IsLive map.now base.0 }
+    requires live { IsLive map.now d.0 }
+    ensures { (b : ℕ) → dart_at map.now d.0 ≡ Some (a.0, b)
+        → (IsTrue result ↔ IsDrawnWrong map.now.lists points.now (dart_of map.now base.0) a.0 b (follows map.now.lists b a.0)) }
+{
+    let b = map.head(d);
+    let c = map.head(map.face_step(d));
+    is_least(a, b, c) && !turns_well(points, is_on_base(map, base, d), map.tail(d), b, c)
+}
+
+// The least neighbour so far to which a face from `a` is drawn wrong, with that of `d` beside those before.
+fn better_wrong(
+    map: &HalfMap,
+    points: &Points,
+    base: DartId,
+    a: VertexId,
+    d: DartId,
+    best: Option<VertexId>,
+) -> Option<VertexId>
+    requires drawn { IsDrawn map.now points.now }
+    requires completed { IsCompleted map.now.lists }
+    requires base { IsLive map.now base.0 }
+    requires live { IsLive map.now d.0 }
+    ensures { (b : ℕ) → dart_at map.now d.0 ≡ Some (a.0, b) → (us : List ℕ) (k : ℕ) → slice_index us k ≡ b
+        → IsLeastOf (IsWrongFrom map.now points.now base.0 a.0) us k best
+        → IsLeastOf (IsWrongFrom map.now points.now base.0 a.0) us (k + 1) result }
+{
+    let b = map.head(d);
+    if is_below(b, best) && is_wrong(map, points, base, a, d) {
+        Some(b)
+    } else {
+        best
+    }
+}
+
+// The least neighbour to which a face from `a`, which is its least vertex, is drawn wrong; `first` is the
+// dart to the first entry of its list.
+fn least_wrong_round(
+    map: &HalfMap,
+    points: &Points,
+    base: DartId,
+    a: VertexId,
+    first: DartId,
+) -> Option<VertexId>
+    requires drawn { IsDrawn map.now points.now }
+    requires completed { IsCompleted map.now.lists }
+    requires base { IsLive map.now base.0 }
+    requires first { dart_at map.now first.0 ≡ Some (first_dart map.now.lists a.0) }
+    ensures { MatchOption result ((b : ℕ) → ¬ IsWrongFrom map.now points.now base.0 a.0 b)
+        (λ b. IsLeast (IsWrongFrom map.now points.now base.0 a.0) b.0) }
+{
+    let mut best = None;
+    let mut d = first;
+    'round: loop {
+        best = better_wrong(map, points, base, a, d, best);
+        match later_dart(map, d) {
+            Some(next) => d = next,
+            None => return best,
+        }
+    }
+}
+
+// The least neighbour to which a face from `a`, which is its least vertex, is drawn wrong.
+fn least_wrong(map: &HalfMap, points: &Points, base: DartId, a: VertexId) -> Option<VertexId>
+    requires drawn { IsDrawn map.now points.now }
+    requires completed { IsCompleted map.now.lists }
+    requires base { IsLive map.now base.0 }
+    requires vertex { a.0 < length map.now.lists }
+    ensures { MatchOption result ((b : ℕ) → ¬ IsWrongFrom map.now points.now base.0 a.0 b)
+        (λ b. IsLeast (IsWrongFrom map.now points.now base.0 a.0) b.0) }
+{
+    match map.first_dart(a) {
+        Some(first) => least_wrong_round(map, points, base, a, first),
+        None => None,
+    }
+}
+
+// The vertex to which the face of the dart from `a` to `b` goes on.
+fn third_vertex(map: &HalfMap, a: VertexId, b: VertexId) -> Option<VertexId>
+    requires known { IsHalfMap map.now }
+    requires a { a.0 < length map.now.lists }
+    requires b { b.0 < length map.now.lists }
+    ensures { MatchOption result (¬ HasDart map.now.lists a.0 b.0) (λ c. follows map.now.lists b.0 a.0 ≡ c.0) }
+{
+    match map.dart_of(a, b) {
+        Some(d) => Some(map.head(map.face_step(d))),
+        None => None,
+    }
+}
+
+// The least face from `a`, which is its least vertex, that is drawn wrong.
+fn wrong_face_at(
+    map: &HalfMap,
+    points: &Points,
+    base: DartId,
+    a: VertexId,
+) -> Option<(VertexId, VertexId)>
+    requires drawn { IsDrawn map.now points.now }
+    requires completed { IsCompleted map.now.lists }
+    requires base { IsLive map.now base.0 }
+    requires vertex { a.0 < length map.now.lists }
+    ensures { MatchOption result ((b c : ℕ) → ¬ IsDrawnWrong map.now.lists points.now (dart_of map.now base.0) a.0 b c)
+        (λ p. IsLeastPair (IsDrawnWrong map.now.lists points.now (dart_of map.now base.0) a.0) p.0.0 p.1.0) }
+{
+    match least_wrong(map, points, base, a) {
+        Some(b) => match third_vertex(map, a, b) {
+            Some(c) => Some((b, c)),
+            None => None,
+        },
+        None => None,
+    }
+}
+
+// The least face that is drawn wrong, written from its least vertex.
+fn first_wrong(
+    map: &HalfMap,
+    points: &Points,
+    base: DartId,
+) -> Option<(VertexId, VertexId, VertexId)>
+    requires drawn { IsDrawn map.now points.now }
+    requires completed { IsCompleted map.now.lists }
+    requires base { IsLive map.now base.0 }
+    ensures { MatchOption result ((a b c : ℕ) → ¬ IsDrawnWrong map.now.lists points.now (dart_of map.now base.0) a b c)
+        (λ p. IsLeastTriple (IsDrawnWrong map.now.lists points.now (dart_of map.now base.0)) p.0.0 p.1.0 p.2.0) }
+{
+    for a in 0..map.n() {
+        if let Some((b, c)) = wrong_face_at(map, points, base, VertexId(a)) {
+            return Some((VertexId(a), b, c));
+        }
+    }
+    None
+}
+
+/// The least vertex outside the grid, or else the least face, written from its least vertex, that is not
+/// drawn counterclockwise, or not clockwise for the face left of `base`; or `Yes`.
+///
+/// `tri` is a completed map: of genus zero, with at least three vertices and 3n - 6 edges. `base` is live,
+/// `fig` has one point for each vertex, and no coordinate is beyond 2^20 in size. It takes no memory, and
+/// linear time.
+pub fn check_by_faces(tri: &HalfMap, base: DartId, fig: &GridFigure) -> FaceVerdict
+    requires completed { IsCompleted tri.now.lists }
+    requires base { IsLive tri.now base.0 }
+    requires places { HasPlaces tri.now.lists fig.now.points }
+    ensures { IsFaceVerdict tri.now.lists fig.now.points fig.now.width fig.now.height (dart_of tri.now base.0) result }
+{
+    tri.facts();
+    if let Some(v) = first_outside(tri, fig) {
+        return FaceVerdict::OutOfGrid(v);
+    }
+    match first_wrong(tri, &fig.points, base) {
+        Some((a, b, c)) => FaceVerdict::Wrong(a, b, c),
+        None => FaceVerdict::Yes,
+    }
+}

@@ -1,0 +1,42 @@
+//! Checks of straight-line drawings: whether all points lie in the grid, the drawing is plane, and each
+//! vertex has its neighbours in the order of its list; and where not, which fault comes first.
+#![tactic(auto)]
+
+ghost use Rattle.draw_check.specs.FaceLaws.{FacesYesIsYes};
+ghost use Rattle.draw_check.specs.Laws.{ValidWithFewer, YesIsValid};
+
+mod crossings;
+mod edges;
+mod faces;
+mod pairs;
+mod places;
+mod rounds;
+mod turns;
+mod verdict;
+
+use drawings::counterclockwise_is_plane;
+pub use faces::check_by_faces;
+pub use pairs::check;
+pub use verdict::{FaceVerdict, Verdict};
+
+/// The verdict is `Yes` exactly where all points lie in the grid, the drawing is plane and the rotations
+/// are kept.
+pub fn yes_is_valid()
+    ensures { YesIsValid }
+{}
+
+/// A drawing that is valid for a map with more edges, as for a completion, is valid for the map itself: it
+/// stays in the grid and plane, and keeps the rotations.
+pub fn valid_with_fewer()
+    ensures { ValidWithFewer }
+{}
+
+/// Where `check_by_faces` answers `Yes`, `check` does.
+pub fn faces_yes_is_yes()
+    ensures { FacesYesIsYes }
+{
+    counterclockwise_is_plane();
+}
+
+#[cfg(test)]
+mod tests;

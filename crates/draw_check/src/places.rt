@@ -1,0 +1,76 @@
+//! Where the vertices stand.
+ghost use Rattle.std.specs.Prelude.{◌≡◌, ℕ, ◌<◌, ◌↔◌, length, IsTrue, MatchOption};
+ghost use Rattle.drawings.specs.Drawing.{place, IsInGrid};
+ghost use Rattle.draw_check.specs.Least.{IsLeast, IsLeastPair};
+ghost use Rattle.draw_check.specs.Faults.{LeavesGrid, ShareAPlace};
+ghost use Rattle.draw_check.specs.Verdicts.{AllInGrid, NoneShareAPlace};
+ghost use Rattle.draw_check.specs.Loops.{IsDrawn};
+
+use half_edges::{HalfMap, VertexId};
+use pg_plane::{GridFigure, Point, Points};
+
+// The place of a vertex.
+pub(crate) fn place_at(points: &Points, v: VertexId) -> Point
+    requires { v.0 < length points.now }
+    ensures { result ≡ place points.now v.0 }
+{
+    points.get(v.0 as usize)
+}
+
+// Whether a point lies in the grid.
+fn is_in_grid(p: Point, width: i32, height: i32) -> bool
+    ensures { IsTrue result ↔ IsInGrid width height p }
+{
+    0 <= p.x && p.x <= width && 0 <= p.y && p.y <= height
+}
+
+// The least vertex outside the grid.
+pub(crate) fn first_outside(map: &HalfMap, fig: &GridFigure) -> Option<VertexId>
+    requires { IsDrawn map.now fig.now.points }
+    ensures { MatchOption result (AllInGrid map.now.lists fig.now.points fig.now.width fig.now.height)
+        (λ v. IsLeast (LeavesGrid map.now.lists fig.now.points fig.now.width fig.now.height) v.0) }
+{
+    for v in 0..map.n() {
+        if !is_in_grid(place_at(&fig.points, VertexId(v)), fig.width, fig.height) {
+            return Some(VertexId(v));
+        }
+    }
+    None
+}
+
+// Whether two points are one.
+fn is_same_place(p: Point, q: Point) -> bool
+    ensures { IsTrue result ↔ (p ≡ q) }
+{
+    p.x == q.x && p.y == q.y
+}
+
+// The least vertex after `u` that stands where `u` does.
+fn first_shared_with(map: &HalfMap, points: &Points, u: VertexId) -> Option<VertexId>
+    requires drawn { IsDrawn map.now points.now }
+    requires vertex { u.0 < length map.now.lists }
+    ensures { MatchOption result ((v : ℕ) → ¬ ShareAPlace map.now.lists points.now u.0 v)
+        (λ v. IsLeast (ShareAPlace map.now.lists points.now u.0) v.0) }
+{
+    let p = place_at(points, u);
+    for v in u.0 + 1..map.n() {
+        if is_same_place(p, place_at(points, VertexId(v))) {
+            return Some(VertexId(v));
+        }
+    }
+    None
+}
+
+// The least two vertices that stand at one place.
+pub(crate) fn first_shared(map: &HalfMap, points: &Points) -> Option<(VertexId, VertexId)>
+    requires { IsDrawn map.now points.now }
+    ensures { MatchOption result (NoneShareAPlace map.now.lists points.now)
+        (λ p. IsLeastPair (ShareAPlace map.now.lists points.now) p.0.0 p.1.0) }
+{
+    for u in 0..map.n() {
+        if let Some(v) = first_shared_with(map, points, VertexId(u)) {
+            return Some((VertexId(u), v));
+        }
+    }
+    None
+}

@@ -1,0 +1,33 @@
+//! What a check of a drawing answers.
+
+use half_edges::{Ends, VertexId};
+
+/// The first fault of a drawing with the least ids, in the order in which the kinds of fault stand here,
+/// or `Yes` where it has none.
+#[derive(Clone, Copy, Debug, PartialEq, Eq)]
+pub enum Verdict {
+    /// The vertex lies outside the grid.
+    OutOfGrid(VertexId),
+    /// The two vertices, the lesser first, stand at one place.
+    SamePlace(VertexId, VertexId),
+    /// The vertex lies on the edge, of which it is no end.
+    OnEdge(VertexId, Ends),
+    /// The two edges, the earlier first, have no end in common and cross.
+    Cross(Ends, Ends),
+    /// The directions to the vertex's neighbours do not go clockwise once round in the order of its list.
+    Turned(VertexId),
+    /// There is no fault.
+    Yes,
+}
+
+/// Whether the faces of a drawing of a completed map are drawn as they should be.
+#[derive(Clone, Copy, Debug, PartialEq, Eq)]
+pub enum FaceVerdict {
+    /// The least vertex outside the grid.
+    OutOfGrid(VertexId),
+    /// All points lie in the grid, and this is the least face walk, written from its least vertex, that is
+    /// not counterclockwise, or not clockwise for the face left of the base.
+    Wrong(VertexId, VertexId, VertexId),
+    /// There is no such vertex and no such face.
+    Yes,
+}
