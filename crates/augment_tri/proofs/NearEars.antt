@@ -89,14 +89,6 @@ module _ (map : Map) (d e f a b c x : ℕ) (roomy : IsRoomy map) (along : AlongF
   abbrev pub NearEar : ℕ → Type 0
   NearEar at = (v u : ℕ) → dart_at map d ≡ Some (v, u) → (s : ℕ) × (t : ℕ) × (dart_at map at ≡ Some (s, t)) × IsEar lists s t × IsNear lists v u s t
 
-  pub near_here : CanJoin lists a c → NearEar d
-  near_here j v u q =
-      let one = one_dart (a, b) (v, u) (sym along.at_d ∙ q) in
-      (a, b, along.at_d, (has_ab, subst (CanJoin lists a) (sym along.next) j), inl one)
-
-  pub near_next : CanJoin lists b x → NearEar e
-  near_next j v u q = (b, c, along.at_e, (has_bc, subst (CanJoin lists b) (sym along.after) j), inr (inl (sym (step_is v u q))))
-
   module _ (one : component_count lists ≡ 1) (large : (v u : ℕ) → dart_at map d ≡ Some (v, u) → ¬ IsTriangle lists (v, u)) where
     -- where the face comes back to a after three steps
     pub near_second : x ≡ a → NearEar f

@@ -3,7 +3,7 @@ use Rattle.std.proofs.Common.{◌≡◌, ℕ, ◌<◌, ◌⊎◌, Bool, true, fa
 use Rattle.std.proofs.lemmas.Bool.{cases_lt}
 use Rattle.std.proofs.lemmas.Int.{ints, by_lt_z}
 use Rattle.label_classes.specs.Classes.{image}
-use Rattle.label_classes.proofs.Classes.{Together, Together-from, same_class-from, cases_Together}
+use Rattle.label_classes.proofs.Classes.{Together, Together-from, same_class-from}
 use Rattle.label_classes.proofs.Orbits.{orbits-step, orbits-closed_marks}
 use Rattle.map_lists.specs.Lists.{Lists}
 use Rattle.map_definitions.specs.Maps.{Dart, HasDart, follows, face_step, dart_number, face_images, face_classes}
@@ -63,14 +63,6 @@ module _ (lists : Lists) (c : IsCompleted lists) where
 
   pub same_itself : (d : Dart) → SameFace lists d d
   same_itself d = same_class-from (face_classes lists) (dart_number lists d) (dart_number lists d) refl
-
-  -- two darts are on one face or not
-  pub same_or_not : (d e : Dart) → SameFace lists d e ⊎ ¬ SameFace lists d e
-  same_or_not d e =
-      elim (cases_Together (face_classes lists) (dart_number lists d) (dart_number lists e)) [
-        | inl t ↦ inl (same_class-from (face_classes lists) (dart_number lists d) (dart_number lists e) t)
-        | inr n ↦ inr (λ s. n (Together-from (face_classes lists) (dart_number lists d) (dart_number lists e) s))
-      ]
 
   module _ (b : Dart) (has : HasDart lists b.0 b.1) where
     -- the three numbers of the base's face

@@ -16,21 +16,10 @@ entries_more Q us k b e below here i l =
       | inr more ↦ (let same : i ≡ k = omega arith in subst Q (sym (ap (λ n. get_or us n 0) same ∙ e)) here)
     ]
 
--- a lesser entry with the property is the least so far
-pub IsLeastOf-better : (P : ℕ → Type 0) (us : List ℕ) (k : ℕ) (b : VertexId) (best : Option VertexId) → get_or us k 0 ≡ b.0 → IsBelow b.0 best → P b.0 → IsLeastOf P us k best → IsLeastOf P us (k + 1) (Some b)
-IsLeastOf-better P us k b None e below here h =
-    (here, entries_more (λ x. x < b.0 → ¬ P x) us k b.0 e (λ i l less. h i l) (λ less. absurd (omega arith)))
-IsLeastOf-better P us k b (Some x) e below here h =
-    (here, entries_more (λ y. y < b.0 → ¬ P y) us k b.0 e (λ i l less. h.1 i l (omega (arith, below))) (λ less. absurd (omega arith)))
-
 -- an entry without the property, or one that is no lesser, leaves the least as it is
 pub IsLeastOf-same : (P : ℕ → Type 0) (us : List ℕ) (k b : ℕ) (best : Option VertexId) → get_or us k 0 ≡ b → (IsBelow b best → ¬ P b) → IsLeastOf P us k best → IsLeastOf P us (k + 1) best
 IsLeastOf-same P us k b None e never h = entries_more (λ x. ¬ P x) us k b e h (never tt)
 IsLeastOf-same P us k b (Some x) e never h = (h.0, entries_more (λ y. y < x.0 → ¬ P y) us k b e h.1 never)
-
--- none of no entries
-pub IsLeastOf-none : (P : ℕ → Type 0) (us : List ℕ) → IsLeastOf P us 0 None
-IsLeastOf-none P us i l = absurd (omega arith)
 
 -- where an element of a list stands
 place_in : (us : List ℕ) (x : ℕ) → Contains us x → (i : ℕ) × (i < length us) × (get_or us i 0 ≡ x)

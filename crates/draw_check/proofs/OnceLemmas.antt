@@ -10,10 +10,6 @@ use Rattle.drawings.specs.Drawing.{IsBreak, GoesOnceRound}
 use Rattle.draw_check.specs.Faults.{IsTurned}
 use Rattle.draw_check.specs.Loops.{IsOneOf}
 
--- none of no entries
-pub IsOneOf-none : (P : ℕ → Type 0) (us : List ℕ) → IsOneOf P us 0 false
-IsOneOf-none P us i l = absurd (omega arith)
-
 module _ (P : ℕ → Type 0) (us : List ℕ) (k b : ℕ) (e : get_or us k 0 ≡ b) where
   -- an entry without the property changes nothing
   old_stays : (old : Bool) → ¬ P b → IsOneOf P us k old → IsOneOf P us (k + 1) old
