@@ -24,8 +24,8 @@ impl DartSlot for Slot {
         Slot { twin, tail }
     }
 
-    fn with_twin(self, twin: u32) -> Slot {
-        Slot { twin, ..self }
+    fn set_twin(&mut self, twin: u32) {
+        self.twin = twin;
     }
 
     fn tail(&self) -> u16 {

@@ -4,10 +4,10 @@ use Rattle.half_edges.specs.Arena.{record_at, vertex_at, twin_of, tail_of}
 use Rattle.half_edges.specs.declared.arena.DartRecord.{DartRecord}
 use Rattle.half_edges.specs.declared.arena.VertexRecord.{VertexRecord}
 
--- the record of dart d stands between the one before and the one after it
+-- the record of dart d stands between the one before, where there is one, and the one after it
 pub record IsInLine (r : DartRecord) (d : ℕ) : Type 0 where
   pub next : r.next ≡ d + 1
-  pub prev : r.prev ≡ d - 1
+  pub prev : 0 < d → r.prev ≡ d - 1
   pub live : r.live ≡ true
 
 -- the record of dart d in a round, whose darts are those from start on and before end; its twin and its tail are as before

@@ -35,14 +35,14 @@ impl DartSlot for DartRecord {
         DartRecord {
             twin,
             next: place + 1,
-            prev: place.saturating_sub(1),
+            prev: place.wrapping_sub(1),
             tail,
             live: true,
         }
     }
 
-    fn with_twin(self, twin: u32) -> DartRecord {
-        DartRecord { twin, ..self }
+    fn set_twin(&mut self, twin: u32) {
+        self.twin = twin;
     }
 
     fn tail(&self) -> u16 {

@@ -25,11 +25,11 @@ pub trait DartSlot: Copy {
         ensures twin { twin_of result ≡ twin }
         ensures line { IsInLine result place };
 
-    /// The dart with another twin.
-    fn with_twin(self, twin: u32) -> Self
-        ensures tail { tail_of result ≡ tail_of self }
-        ensures twin { twin_of result ≡ twin }
-        ensures line { (d : ℕ) → IsInLine self d → IsInLine result d };
+    /// Gives the dart another twin.
+    fn set_twin(&mut self, twin: u32)
+        ensures tail { tail_of self.new ≡ tail_of self.old }
+        ensures twin { twin_of self.new ≡ twin }
+        ensures line { (d : ℕ) → IsInLine self.old d → IsInLine self.new d };
 
     /// The vertex that the dart leaves.
     fn tail(&self) -> u16
@@ -138,20 +138,20 @@ fn pair_list<P: DartSlot>(
         if d >= start {
             return;
         }
-        let dart = slots[d];
-        let tail = dart.tail();
+        let tail = slots[d].tail();
         let twin = place_named(newest[tail as usize]);
         if twin < start || twin >= end || entries[twin] != tail || entries[d] != v {
             return;
         }
-        link = dart.twin();
-        slots[d] = dart.with_twin(twin as u32);
-        slots[twin] = slots[twin].with_twin(d as u32);
+        link = slots[d].twin();
+        slots[d].set_twin(twin as u32);
+        slots[twin].set_twin(d as u32);
     }
 }
 
 // Whether lists are found to be a simple map, and then the slots of their darts. No twin is known before,
 // and no thread: each of `newest` is `NO_PLACE`.
+#[inline(never)]
 pub(crate) fn finds_slots<P: DartSlot>(
     entries: &[u16],
     ends: &[usize],
