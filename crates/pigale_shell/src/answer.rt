@@ -1,5 +1,5 @@
 //! The answer to one record.
-ghost use Rattle.std.specs.Prelude.{◌≡◌, ◌<◌, ◌≤◌, ◌++◌, ◌↔◌, List, ℕ, length, not, IsTrue, IsFalse, IfOk, OnOk, OnErr};
+ghost use Rattle.std.specs.Prelude.{◌≡◌, ◌<◌, ◌≤◌, ◌++◌, ◌↔◌, List, ℕ, length, true, false, not, IsTrue, IsFalse, IfOk, OnOk, OnErr};
 ghost use Rattle.pigale_shell.specs.Text.{count_block, count_refuses};
 ghost use Rattle.pigale_shell.specs.Answer.{IsBlock, is_refused};
 
@@ -68,16 +68,28 @@ fn count_record(
     ensures err { OnErr result (out.new.items ≡ out.old.items) }
 {
     match counter.count(lists) {
-        Ok(count) => {
-            let line = count_line(alloc, number, &count)?;
-            out.extend_from_slice(&line)?;
-            Ok(true)
-        }
+        Ok(count) => serve(&count_line(alloc, number, &count)?, out),
         Err(MapFault::NoMemory) => Err(AllocError),
-        Err(fault) => {
-            let line = refusal_line(alloc, number, fault)?;
-            out.extend_from_slice(&line)?;
-            Ok(false)
-        }
+        Err(fault) => refuse(&refusal_line(alloc, number, fault)?, out),
     }
+}
+
+// Appends the block of a record that is served.
+fn serve(block: &[u8], out: &mut Vec<u8>) -> Result<bool, AllocError>
+    ensures block { OnOk result (out.new.items ≡ out.old.items ++ block.now) }
+    ensures served { IfOk result (λ served. served ≡ true) }
+    ensures err { OnErr result (out.new.items ≡ out.old.items) }
+{
+    out.extend_from_slice(block)?;
+    Ok(true)
+}
+
+// Appends the block of a record that is refused.
+fn refuse(block: &[u8], out: &mut Vec<u8>) -> Result<bool, AllocError>
+    ensures block { OnOk result (out.new.items ≡ out.old.items ++ block.now) }
+    ensures refused { IfOk result (λ served. served ≡ false) }
+    ensures err { OnErr result (out.new.items ≡ out.old.items) }
+{
+    out.extend_from_slice(block)?;
+    Ok(false)
 }
