@@ -60,17 +60,6 @@ pub record IsWalking (map : Map) (old marked : ℕ → Bool) (ids : List ℕ) (s
   pub away : (i : ℕ) → 0 < i → i < length ids → walk (step map) (number_at map start) i ≢ number_at map start
   pub marks : (j : ℕ) → j < dart_count map.lists → marked j ≡ (old j || visited (step map) (number_at map start) (length ids) j)
 
--- at the start
-pub IsWalking-none : (map : Map) (old : ℕ → Bool) (start : ℕ) → IsLive map start → IsWalking map old old [] start start
-IsWalking-none map old start live = record {
-  begins = refl;
-  live = λ i l. live;
-  at = λ i l. let z : 0 ≡ i = omega arith in ap (walk (step map) (number_at map start)) z;
-  steps = λ i l. absurd (omega arith);
-  away = λ i pos l. absurd (omega arith);
-  marks = λ j l. or_false (old j);
-}
-
 module _ (map : Map) (h : IsHalfMap map) (old marked : ℕ → Bool) (ids : List ℕ) (start x : ℕ) (w : IsWalking map old marked ids start x) where
   -- the number of the dart at which the walk stands
   number_now : number_at map x ≡ walk (step map) (number_at map start) (length ids)

@@ -96,14 +96,6 @@ unset (suc n) (suc u) = unset n u
 pub unset_after : (old items : List ℕ) (n k u : ℕ) → old ≡ [] → items ≡ take n old ++ replicate k 65535 → mark_at (marks_of items) u ≡ false
 unset_after old items n k u none e = rw (e, none, take-nil) (unset k u)
 
--- no vertex has got a number
-pub IsNumbered-itself : (numbers : List ℕ) (number : ℕ) → IsNumbered numbers numbers number
-IsNumbered-itself numbers number = record {
-  marked = λ u t. t;
-  stays = λ u t. refl;
-  here = λ u f t. absurd (false≢true (sym f ∙ t));
-}
-
 -- one vertex gets the number
 pub IsNumbered-set : (numbers : List ℕ) (w number : ℕ) → number < 65535 → w < length numbers → mark_at (marks_of numbers) w ≡ false → IsNumbered numbers (set numbers w number) number
 IsNumbered-set numbers w number few l off =

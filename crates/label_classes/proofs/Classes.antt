@@ -6,7 +6,7 @@ use Rattle.std.proofs.lemmas.List.{length-map, get_or-map, get_or_past, ext_get_
 use Rattle.std.proofs.lemmas.List.Elements.{All-head, All-tail, All-cons}
 use Rattle.std.proofs.lemmas.List.FromFn.{length-range_with_len, get_or-range_with_len}
 use Rattle.label_classes.specs.Classes.{count_below, label, same_class, alone, relabel, merge, merge_all, classes, class_count}
-use Rattle.label_classes.proofs.Counting.{count_below_more, count_below_weaker}
+use Rattle.label_classes.proofs.Counting.{count_below_more}
 
 -- i and j have one label
 abbrev pub Together : List ℕ → ℕ → ℕ → Type 0
@@ -212,17 +212,6 @@ labels_same one other w v e h h' =
     let up = label_le one other w v h i l in
     let down = label_le other one v w h' i m in
     get_or_default one i 0 i l ∙ (omega (arith, up, down) ∙ sym (get_or_default other i 0 i m)))
-
--- the coarser the classes, the fewer
-pub class_count_coarser : (fine coarse : List ℕ) → IsLabels fine → IsLabels coarse → length fine ≡ length coarse → IsFiner fine coarse → class_count coarse ≤ class_count fine
-class_count_coarser fine coarse w v e h =
-    let step : (i : ℕ) → i < length coarse → eqb (label coarse i) i ≡ true → eqb (label fine i) i ≡ true =
-    λ i l t.
-    let t' = eqb-true (label coarse i) i t in
-    let le = label_le fine coarse w v h i (omega arith) in
-    eq-eqb (label fine i) i (omega (arith, t', le, w.low i)) in
-    let less = count_below_weaker (λ i. eqb (label coarse i) i) (λ i. eqb (label fine i) i) (length coarse) step in
-    omega (arith, less, ap (count_below (λ i. eqb (label fine i) i)) e)
 
 -- a merge within a class changes nothing
 pub merge-within : (labels : List ℕ) (a b : ℕ) → IsLabels labels → a < length labels → b < length labels → Together labels a b → merge labels a b ≡ labels

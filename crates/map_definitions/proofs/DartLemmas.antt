@@ -289,14 +289,6 @@ length-face_images lists = length-map {B = ℕ} (darts lists) (λ d. dart_number
 pub get_or-face_images : (lists : Lists) (i x : ℕ) (d : Dart) → i < dart_count lists → get_or (face_images lists) i x ≡ dart_number lists (face_step lists (get_or (darts lists) i d))
 get_or-face_images lists i x d h = get_or-map {Y = ℕ} (λ d. dart_number lists (face_step lists d)) (darts lists) i d x (omega (arith, length-darts lists))
 
--- the dart of the number that the face step leads to
-pub dart_of-face_images : (lists : Lists) (i x : ℕ) (d : Dart) → IsSimpleMap lists → i < dart_count lists → get_or (darts lists) (get_or (face_images lists) i x) d ≡ face_step lists (get_or (darts lists) i d)
-dart_of-face_images lists i x d simple h =
-    let p = IsDartNumber-darts lists i d simple.no_repeat h in
-    let dart : Dart = get_or (darts lists) i d in
-    ap (λ n. get_or (darts lists) n d) (get_or-face_images lists i x d h)
-    ∙ get_or-dart_number lists dart.1 (follows lists dart.1 dart.0) d (HasDart-face_step lists dart simple p.is_dart)
-
 face_images-lt : (lists : Lists) (i x : ℕ) → IsSimpleMap lists → i < dart_count lists → get_or (face_images lists) i x < dart_count lists
 face_images-lt lists i x simple h =
     let d : Dart = get_or (darts lists) i (0, 0) in

@@ -99,10 +99,6 @@ ends_from-push from (vs ∷ lists) us =
     (ends_from-push (from + length vs) lists us
     ∙ ap (λ k. ends_from (from + length vs) lists ++ k ∷ []) (omega (arith, length-append vs (joined lists))))
 
-length-ends_from : {A : Type 0} (from : ℕ) (lists : List (List A)) → length (ends_from from lists) ≡ length lists
-length-ends_from from [] = refl
-length-ends_from from (us ∷ lists) = ap suc (length-ends_from (from + length us) lists)
-
 -- a list more
 pub IsStored-push : {A : Type 0} (lists : List (List A)) (entries : List A) (ends : List ℕ) (us : List A) → IsStored lists entries ends → IsStored (lists ++ us ∷ []) (entries ++ us) (ends ++ (length entries + length us) ∷ [])
 IsStored-push lists entries ends us is = record {
@@ -189,9 +185,3 @@ pub cut_short : {A : Type 0} (ends new_ends : List ℕ) (entries new_entries : L
 cut_short ends new_ends entries new_entries count cuts below at fewer ended =
     let is = IsStored-take (cut 0 ends entries) entries ends count (omega (arith, below, length-cut 0 ends entries)) (stored ends entries cuts) in
     record { entries_are = fewer ∙ ap (λ k. take k entries) at ∙ is.entries_are; ends_are = ended ∙ is.ends_are }
-
--- list number i stands in the joined entries from the end of the list before it to its own
-pub slice-joined : {A : Type 0} (lists : List (List A)) (i : ℕ) → i < length lists → slice_range (joined lists) (get_or (0 ∷ ends_from 0 lists) i 0) (get_or (ends_from 0 lists) i 0) ≡ get_or lists i []
-slice-joined lists i h =
-    sym (get_or-cut 0 (ends_from 0 lists) (joined lists) i (omega (arith, h, length-ends_from 0 lists)))
-    ∙ ap (λ vss. get_or vss i []) (cut-joined 0 [] lists refl)
