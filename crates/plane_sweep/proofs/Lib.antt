@@ -1,0 +1,2 @@
+-- The lemmas on sweeps.
+pub mod Interface
