@@ -1,2 +1,7 @@
 -- The lemmas on sweeps.
+pub mod Areas
+pub mod Pairs
+pub mod Stacks
+pub mod Kept
+pub mod Done
 pub mod Interface

@@ -1,12 +1,13 @@
 -- A step of the sweep. The status is the list of the lines that reach over the place of the sweep, bottom to top.
-use Rattle.std.specs.Prelude.{ℕ, ◌+◌, ◌<◌, ◌≡◌, ◌↔◌, List, [], ◌∷◌, ◌++◌, length, slice_index_or, All, Contains, pos, ◌<ℤ◌}
+use Rattle.std.specs.Prelude.{ℕ, ◌+◌, ◌<◌, ◌≡◌, ◌↔◌, List, [], ◌∷◌, ◌++◌, length, All, Contains, pos, ◌<ℤ◌}
+use Rattle.std.specs.List.{AllAdjacentBelow}
 use Rattle.pg_plane.specs.declared.point.Point.{Point}
 use Rattle.plane_sweep.specs.declared.line.Line.{Line}
 use Rattle.plane_sweep.specs.Lines.{rise, Ends}
 
 -- each line of a status and the next end in their order
 abbrev pub AreStacked : (ℕ → Point) → List Line → Type 0
-AreStacked at status = (k : ℕ) (d : Line) → k + 1 < length status → Ends at (slice_index_or status k d) (slice_index_or status (k + 1) d)
+AreStacked at status = AllAdjacentBelow (Ends at) status (length status)
 
 -- At i the status `old` becomes `new`: the lines that end at i are gone, and in their place are those that begin there.
 pub record IsStep (at : ℕ → Point) (lines : List Line) (i : ℕ) (old new : List Line) : Type 0 where
