@@ -13,7 +13,7 @@ use Rattle.pg_plane.specs.declared.point.Point.{Point}
 use Rattle.drawings.specs.Drawing.{IsPlaneDrawing}
 use Rattle.plane_sweep.specs.declared.line.Line.{Line}
 use Rattle.plane_sweep.specs.Lines.{AreInOrder, IsBefore, IsLine, rise, Ends}
-use Rattle.plane_sweep.specs.Steps.{AreStacked, IsStep}
+use Rattle.plane_sweep.specs.Steps.{AreStacked, IsAboveLast, IsBelowFirst, IsStep}
 use Rattle.plane_sweep.specs.Swept.{IsSwept}
 use Rattle.plane_sweep.specs.Law.{point_at, IsRanked, AreLinesOf}
 use Rattle.plane_sweep.proofs.Areas.{IsBefore-trans}
@@ -115,7 +115,7 @@ module _ (n : ℕ) (at : ℕ → Point) (lines : List Line) (order : AreInOrder 
         ]
       ]
 
-  above_last : (rest : List Line) (e : Line) → lower ≡ rest ++ (e ∷ []) → pos 0 <ℤ rise at e i
+  above_last : IsAboveLast at lower i
   above_last rest e same =
       let size = length_lower in
       let size_2 : length (rest ++ (e ∷ [])) ≡ length rest + 1 = length-append rest (e ∷ []) in
@@ -124,7 +124,7 @@ module _ (n : ℕ) (at : ℕ → Point) (lines : List Line) (order : AreInOrder 
       sym (get_or-take below old (below - 1) e (omega arith)) ∙ ap (λ es. get_or es (below - 1) e) same ∙ ap (λ j. get_or (rest ++ (e ∷ [])) j e) (let f : below - 1 ≡ length rest = omega arith in f) ∙ get_or-append_seam rest e [] e in
       subst (λ f. pos 0 <ℤ rise at f i) last (t.above e (omega arith))
 
-  below_first : (e : Line) (rest : List Line) → upper ≡ e ∷ rest → rise at e i <ℤ pos 0
+  below_first : IsBelowFirst at upper i
   below_first e rest same =
       let size = length-drop end old in
       let size_2 = ap length same in

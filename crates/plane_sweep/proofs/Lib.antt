@@ -1,4 +1,5 @@
 -- The lemmas on sweeps.
+mod Cases
 pub mod Areas
 pub mod Pairs
 pub mod Stacks

@@ -1,5 +1,5 @@
 -- Two lines of a status: what is strictly above the upper one is strictly above the lower one, and from one to the next so for all.
-use Rattle.std.proofs.Common.{◌≡◌, ℕ, ◌<◌, ◌≤◌, List, [], ◌∷◌, ◌++◌, pos, ◌≤ℤ◌, ◌<ℤ◌, inl, inr, refl, ap, arith}
+use Rattle.std.proofs.Common.{◌≡◌, ℕ, ◌<◌, ◌≤◌, List, [], ◌∷◌, pos, ◌≤ℤ◌, ◌<ℤ◌, inl, inr, refl, ap, arith}
 use Rattle.std.specs.List.{All, AllPairs}
 use Rattle.std.proofs.lemmas.Int.{ints}
 use Rattle.std.proofs.lemmas.Bool.{cases_lt}
@@ -8,7 +8,7 @@ use Rattle.pg_plane.specs.declared.point.Point.{Point}
 use Rattle.face_geometry.proofs.Crossing.{flat_last, flat_ends}
 use Rattle.plane_sweep.specs.declared.line.Line.{Line}
 use Rattle.plane_sweep.specs.Lines.{AreInOrder, IsLine, rise, Starts, Ends}
-use Rattle.plane_sweep.specs.Steps.{AreStacked}
+use Rattle.plane_sweep.specs.Steps.{AreStacked, IsAboveLast, IsBelowFirst}
 use Rattle.plane_sweep.specs.Swept.{Reaches}
 use Rattle.plane_sweep.proofs.Areas.{IsBetweenLines, over_both, under_both}
 use Rattle.plane_sweep.proofs.Pairs.{AllPairs-head, AllPairs-tail, AllNeighbours-first, AllNeighbours-tail}
@@ -88,7 +88,7 @@ module _ (n : ℕ) (at : ℕ → Point) (order : AreInOrder n at) where
         under_both (at e.low) (at e.high) (at f.low) (at f.high) (at b.0) (at b.1) (at i) b.2 down
 
     -- what is strictly above the last line of a stack is strictly above each
-    pub all_below : (es : List Line) → All (Reaches lines i) es → AllPairs (Starts at) es → AreStacked at es → ((rest : List Line) (e : Line) → es ≡ rest ++ (e ∷ []) → pos 0 <ℤ rise at e i) → All (λ e. pos 0 <ℤ rise at e i) es
+    pub all_below : (es : List Line) → All (Reaches lines i) es → AllPairs (Starts at) es → AreStacked at es → IsAboveLast at es i → All (λ e. pos 0 <ℤ rise at e i) es
     all_below [] r s t last = All-nil (λ e. pos 0 <ℤ rise at e i)
     all_below (e ∷ []) r s t last = All-cons (λ e. pos 0 <ℤ rise at e i) e [] (last [] e refl) (All-nil (λ e. pos 0 <ℤ rise at e i))
     all_below (e ∷ f ∷ fs) r s t last =
@@ -107,6 +107,6 @@ module _ (n : ℕ) (at : ℕ → Point) (order : AreInOrder n at) where
         All-cons (λ e. rise at e i <ℤ pos 0) e (f ∷ fs) down (above_first f fs later (AllPairs-tail (Starts at) e (f ∷ fs) s) (AllNeighbours-tail (Ends at) e (f ∷ fs) t) next)
 
     -- what is strictly below the first line of a stack is strictly below each
-    pub all_above : (es : List Line) → All (Reaches lines i) es → AllPairs (Starts at) es → AreStacked at es → ((e : Line) (rest : List Line) → es ≡ e ∷ rest → rise at e i <ℤ pos 0) → All (λ e. rise at e i <ℤ pos 0) es
+    pub all_above : (es : List Line) → All (Reaches lines i) es → AllPairs (Starts at) es → AreStacked at es → IsBelowFirst at es i → All (λ e. rise at e i <ℤ pos 0) es
     all_above [] r s t first = All-nil (λ e. rise at e i <ℤ pos 0)
     all_above (e ∷ es) r s t first = above_first e es r s t (first e es refl)

@@ -9,6 +9,14 @@ use Rattle.plane_sweep.specs.Lines.{rise, Ends}
 abbrev pub AreStacked : (ℕ → Point) → List Line → Type 0
 AreStacked at status = AllAdjacentBelow (Ends at) status (length status)
 
+-- i is strictly above the last of the lines
+abbrev pub IsAboveLast : (ℕ → Point) → List Line → ℕ → Type 0
+IsAboveLast at lines i = (rest : List Line) (e : Line) → lines ≡ rest ++ (e ∷ []) → pos 0 <ℤ rise at e i
+
+-- i is strictly below the first of the lines
+abbrev pub IsBelowFirst : (ℕ → Point) → List Line → ℕ → Type 0
+IsBelowFirst at lines i = (e : Line) (rest : List Line) → lines ≡ e ∷ rest → rise at e i <ℤ pos 0
+
 -- At i the status `old` becomes `new`: the lines that end at i are gone, and in their place are those that begin there.
 pub record IsStep (at : ℕ → Point) (lines : List Line) (i : ℕ) (old new : List Line) : Type 0 where
   pub lower : List Line
@@ -19,9 +27,8 @@ pub record IsStep (at : ℕ → Point) (lines : List Line) (i : ℕ) (old new : 
   pub after : new ≡ lower ++ (fresh ++ upper)
   pub all_end : All (λ e. e.high ≡ i) gone
   pub all_begin : (e : Line) → Contains fresh e ↔ (Contains lines e × (e.low ≡ i))
-  -- i is strictly above the last of the lower lines, and strictly below the first of the upper ones
-  pub above : (rest : List Line) (e : Line) → lower ≡ rest ++ (e ∷ []) → pos 0 <ℤ rise at e i
-  pub below : (e : Line) (rest : List Line) → upper ≡ e ∷ rest → rise at e i <ℤ pos 0
+  pub above : IsAboveLast at lower i
+  pub below : IsBelowFirst at upper i
   pub stacked : AreStacked at new
 
 -- a sweep over the first n points: the status before each of them, and at the end
