@@ -8,7 +8,6 @@ pub mod RoundLemmas
 mod Cases
 pub mod ClockOrder
 pub mod RoundOrder
-pub mod Segments
 pub mod TurnLemmas
 pub mod ValidFewer
 pub mod ValidYes

@@ -10,7 +10,7 @@ use Rattle.draw_check.specs.declared.verdict.Verdict.TheVariants.{Yes}
 use Rattle.draw_check.specs.Faults.{HasEdge}
 use Rattle.draw_check.specs.Verdicts.{NoneShareAPlace, NoneOnEdge, NoneCross, IsVerdict}
 use Rattle.draw_check.specs.Laws.{IsValid}
-use Rattle.draw_check.proofs.Segments.{IsOnSegment-back, DoCross-first_back, DoCross-second_back, DoCross-exchanged}
+use Rattle.face_geometry.proofs.Segments.{IsOnSegment-back, DoCross-first_back, DoCross-second_back, DoCross-exchanged}
 
 module _ (lists : Lists) (points : List Point) (simple : IsSimpleMap lists) (apart : NoneShareAPlace lists points) (off : NoneOnEdge lists points) (none : NoneCross lists points) where
   stand_apart : (u v : ℕ) → u < length lists → v < length lists → u ≢ v → place points u ≢ place points v

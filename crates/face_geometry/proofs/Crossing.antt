@@ -17,10 +17,10 @@ on_first a b c d = moved (scaled (area c d b) a) (scaled (neg_ℤ (area c d a)) 
 abbrev on_second : Point → Point → Point → Point → Point
 on_second a b c d = moved (scaled (neg_ℤ (area a b d)) c) (scaled (area a b c) d)
 
-one_crossing : (a b c d : Point) → on_first a b c d ≡ on_second a b c d
+pub one_crossing : (a b c d : Point) → on_first a b c d ≡ on_second a b c d
 one_crossing a b c d = same_point (on_first a b c d) (on_second a b c d) (simp ring (omega (arith, sums))) (simp ring (omega (arith, sums)))
 
-one_weight : (a b c d : Point) → area c d b +ℤ neg_ℤ (area c d a) ≡ neg_ℤ (area a b d) +ℤ area a b c
+pub one_weight : (a b c d : Point) → area c d b +ℤ neg_ℤ (area c d a) ≡ neg_ℤ (area a b d) +ℤ area a b c
 one_weight a b c d = simp ring (omega (arith, sums))
 
 pub flat_last : (a b : Point) → area a b b ≡ pos 0

@@ -7,6 +7,7 @@ pub mod Faces
 pub mod Clash
 pub mod Near
 pub mod Crossing
+pub mod Segments
 pub mod Round
 pub mod Tilted
 pub mod OnEdge
