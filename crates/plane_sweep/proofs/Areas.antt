@@ -1,5 +1,5 @@
 -- Points over and under two segments, and segments that do not cross, by signs of areas.
-use Rattle.std.proofs.Common.{◌≡◌, ◌≢◌, ℤ, pos, neg_ℤ, ◌+ℤ◌, ◌-ℤ◌, ◌*ℤ◌, ◌≤ℤ◌, ◌<ℤ◌, ◌⊎◌, inl, inr, sym, ap, ◌∙◌, arith}
+use Rattle.std.proofs.Common.{◌≡◌, ℤ, pos, neg_ℤ, ◌+ℤ◌, ◌-ℤ◌, ◌*ℤ◌, ◌≤ℤ◌, ◌<ℤ◌, ◌⊎◌, inl, inr, sym, ap, arith}
 use Rattle.std.proofs.lemmas.Int.{ints, by_lt_z}
 use Rattle.pg_plane.specs.declared.point.Point.{Point}
 use Rattle.pg_plane.specs.Geometry.{vector, cross, area, AreOpposite, IsOnSegment, DoCross}
@@ -226,14 +226,3 @@ late_off p a b s (inr l) h =
           omega (arith, sums))
       | inr m ↦ (let up = m.1 in elim h.between_y [ inl v ↦ (let w = v.1 in omega (arith, ints)) | inr v ↦ (let w = v.1 in omega (arith, ints)) ])
     ]
-
--- the order of the sweep
-pub IsBefore-apart : (p q : Point) → IsBefore p q → p ≢ q
-IsBefore-apart p q (inl l) e = let f = ap (λ (r : Point). r.x) e in omega (arith, ints)
-IsBefore-apart p q (inr l) e = let f = ap (λ (r : Point). r.y) e in let m = l.1 in omega (arith, ints)
-
-pub IsBefore-trans : (p q r : Point) → IsBefore p q → IsBefore q r → IsBefore p r
-IsBefore-trans p q r (inl l) (inl m) = inl (omega (arith, ints))
-IsBefore-trans p q r (inl l) (inr m) = inl (let e = m.0 in omega (arith, ints))
-IsBefore-trans p q r (inr l) (inl m) = inl (let e = l.0 in omega (arith, ints))
-IsBefore-trans p q r (inr l) (inr m) = inr (l.0 ∙ m.0, let f = l.1 in let g = m.1 in omega (arith, ints))

@@ -14,7 +14,8 @@ use Rattle.plane_sweep.specs.Lines.{AreInOrder, IsLine, Cross}
 use Rattle.plane_sweep.specs.Steps.{IsSweep}
 use Rattle.plane_sweep.specs.Swept.{IsSwept}
 use Rattle.plane_sweep.specs.Law.{point_at, IsRanked, AreLinesOf}
-use Rattle.plane_sweep.proofs.Areas.{early_off, late_off, IsBefore-apart}
+use Rattle.plane_sweep.proofs.Areas.{early_off, late_off}
+use Rattle.plane_sweep.proofs.Order.{IsBefore-apart}
 use Rattle.plane_sweep.proofs.Kept.{swept_begin, swept_more}
 
 -- What a sweep keeps, along it.

@@ -13,7 +13,8 @@ use Rattle.plane_sweep.specs.Steps.{AreStacked, IsStep}
 use Rattle.plane_sweep.specs.Swept.{Reaches, IsSwept}
 use Rattle.plane_sweep.proofs.Areas.{stays_up, disjoint}
 use Rattle.plane_sweep.proofs.Pairs.{All-append-left, All-append-right, AllPairs-nil, AllPairs-left, AllPairs-right, AllPairs-cross, AllPairs-append, AllNeighbours-left, AllNeighbours-right}
-use Rattle.plane_sweep.proofs.Stacks.{rightward, all_below, all_above}
+use Rattle.plane_sweep.proofs.Order.{rightward}
+use Rattle.plane_sweep.proofs.Stacks.{all_below, all_above}
 
 pub swept_begin : (at : ℕ → Point) (lines : List Line) → IsSwept at lines 0 []
 swept_begin at lines = record {

@@ -10,18 +10,11 @@ use Rattle.plane_sweep.specs.declared.line.Line.{Line}
 use Rattle.plane_sweep.specs.Lines.{AreInOrder, IsLine, rise, Starts, Ends}
 use Rattle.plane_sweep.specs.Steps.{AreStacked, IsAboveLast, IsBelowFirst}
 use Rattle.plane_sweep.specs.Swept.{Reaches}
+use Rattle.plane_sweep.proofs.Order.{rightward}
 use Rattle.plane_sweep.proofs.Areas.{IsBetweenLines, over_both, under_both}
 use Rattle.plane_sweep.proofs.Pairs.{AllPairs-head, AllPairs-tail, AllNeighbours-first, AllNeighbours-tail}
 
 module _ (n : ℕ) (at : ℕ → Point) (order : AreInOrder n at) where
-  -- what comes later is not to the left
-  pub rightward : (i j : ℕ) → i ≤ j → j < n → (at i).x ≤ℤ (at j).x
-  rightward i j l m =
-      elim (cases_lt i j) [
-        | inl s ↦ elim (order i j s m) [ inl g ↦ omega (arith, ints) | inr g ↦ (let e = g.0 in omega (arith, ints)) ]
-        | inr s ↦ (let e : (at i).x ≡ (at j).x = ap (λ k. (at k).x) (let f : i ≡ j = omega arith in f) in omega (arith, ints))
-      ]
-
   -- a place before i where both lines are, f not below e
   record IsLowPlace (e f : Line) (i m : ℕ) : Type 0 where
     pub first : e.low ≤ m
@@ -63,10 +56,10 @@ module _ (n : ℕ) (at : ℕ → Point) (order : AreInOrder n at) where
           m,
           k,
           record {
-            first_low = rightward e.low m low.first (omega arith);
-            second_low = rightward f.low m low.second (omega arith);
-            first_high = rightward k e.high high.first e_in.within;
-            second_high = rightward k f.high high.second f_in.within;
+            first_low = rightward n at order e.low m low.first (omega arith);
+            second_low = rightward n at order f.low m low.second (omega arith);
+            first_high = rightward n at order k e.high high.first e_in.within;
+            second_high = rightward n at order k f.high high.second f_in.within;
             low_above = low.over;
             low_below = low.under;
             high_above = high.over;

@@ -1,5 +1,5 @@
--- The law of the sweep.
-use Rattle.std.specs.Prelude.{ℕ, ◌<◌, ◌≡◌, List, length, All, Contains}
+-- The laws of the sweep.
+use Rattle.std.specs.Prelude.{ℕ, ◌<◌, ◌≤◌, ◌≡◌, List, length, All, Contains}
 use Rattle.map_lists.specs.Lists.{Lists}
 use Rattle.map_definitions.specs.Maps.{HasDart, IsSimpleMap}
 use Rattle.pg_plane.specs.declared.point.Point.{Point}
@@ -7,6 +7,7 @@ use Rattle.drawings.specs.Drawing.{place, IsPlaneDrawing}
 use Rattle.plane_sweep.specs.declared.line.Line.{Line}
 use Rattle.plane_sweep.specs.Lines.{AreInOrder, IsLine}
 use Rattle.plane_sweep.specs.Steps.{IsSweep}
+use Rattle.plane_sweep.specs.Swept.{IsSwept}
 
 -- the point of the i-th vertex
 abbrev pub point_at : List Point → (ℕ → ℕ) → ℕ → Point
@@ -22,6 +23,11 @@ pub record IsRanked (n : ℕ) (points : List Point) (vertex rank : ℕ → ℕ) 
 pub record AreLinesOf (lists : Lists) (rank : ℕ → ℕ) (lines : List Line) : Type 0 where
   pub each_line : All (IsLine (length lists)) lines
   pub each_edge : (u v : ℕ) → HasDart lists u v → rank u < rank v → Contains lines (record { low = rank u; high = rank v })
+
+-- A sweep over points that stand in its order keeps its status.
+abbrev pub SweepIsKept : Type 0
+SweepIsKept =
+    (n : ℕ) (at : ℕ → Point) (lines : List Line) (status : ℕ → List Line) → AreInOrder n at → All (IsLine n) lines → IsSweep at lines n status → (i : ℕ) → i ≤ n → IsSwept at lines i (status i)
 
 -- A drawing of a simple map over which a sweep passes all its tests is plane.
 abbrev pub SweepIsPlane : Type 0

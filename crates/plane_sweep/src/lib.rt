@@ -2,11 +2,18 @@
 //! whose tests all pass shows that the drawing is plane.
 #![tactic(auto)]
 
-ghost use Rattle.plane_sweep.specs.Law.{SweepIsPlane};
+ghost use Rattle.plane_sweep.specs.Law.{SweepIsKept, SweepIsPlane};
 
 pub use line::Line;
 
 mod line;
+
+/// At each point of a sweep the status holds just the lines that reach over that point, in their order from
+/// the bottom up; no point before it stands on a line between its ends, and no line that ended before it
+/// crosses any.
+pub fn sweep_is_kept()
+    ensures { SweepIsKept }
+{}
 
 /// A sweep from left to right over the vertices of a drawing, in which each step passes its tests, shows
 /// that the drawing is plane: vertices stand apart, none stands on an edge of which it is no end, and no
