@@ -70,9 +70,9 @@ fn first_fault(map: &HalfMap, fig: &GridFigure) -> Option<Verdict>
 /// where all points lie in the grid, the drawing is plane and the rotations are kept.
 ///
 /// `fig` has one point for each vertex, and no coordinate is beyond 2^20 in size. It takes no memory from
-/// the heap. Where a sweep finds the drawing plane, the time is n log n for n vertices, besides that in
-/// which the lines that the sweep meets are moved; else each edge is compared with each vertex and each edge
-/// after it.
+/// the heap. Where a sweep finds the drawing plane, the time is m log n for n vertices and m edges, besides
+/// that in which the lines that the sweep meets are moved; else each edge is compared with each vertex and
+/// each edge after it.
 pub fn check(map: &HalfMap, fig: &GridFigure) -> Verdict
     requires { HasPlaces map.now.lists fig.now.points }
     ensures { IsVerdict map.now.lists fig.now.points fig.now.width fig.now.height result }
