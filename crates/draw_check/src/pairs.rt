@@ -3,7 +3,7 @@ ghost use Rattle.std.specs.Prelude.{MatchOption};
 ghost use Rattle.draw_check.specs.declared.verdict.Verdict.TheVariants.{Yes};
 ghost use Rattle.draw_check.specs.Faults.{HasPlaces};
 ghost use Rattle.draw_check.specs.Loops.{IsDrawn};
-ghost use Rattle.draw_check.specs.Verdicts.{IsVerdict};
+ghost use Rattle.draw_check.specs.Verdicts.{AllInGrid, NoneShareAPlace, NoneOnEdge, NoneCross, IsVerdict};
 
 use crate::Verdict;
 use crate::crossings::first_crossing;
@@ -12,6 +12,41 @@ use crate::places::{first_outside, first_shared};
 use crate::turns::first_turned;
 use half_edges::HalfMap;
 use pg_plane::GridFigure;
+use sweep_check::is_plane_by_sweep;
+
+// The first two vertices at one place, the first vertex on an edge or the first two edges that cross, in
+// this order, by going over all pairs.
+fn first_pair(map: &HalfMap, fig: &GridFigure) -> Option<Verdict>
+    requires drawn { IsDrawn map.now fig.now.points }
+    requires in_grid { AllInGrid map.now.lists fig.now.points fig.now.width fig.now.height }
+    ensures { MatchOption result (NoneShareAPlace map.now.lists fig.now.points × NoneOnEdge map.now.lists fig.now.points × NoneCross map.now.lists fig.now.points)
+        (IsVerdict map.now.lists fig.now.points fig.now.width fig.now.height) }
+{
+    if let Some((u, v)) = first_shared(map, &fig.points) {
+        return Some(Verdict::SamePlace(u, v));
+    }
+    if let Some((v, e)) = first_on_edge(map, &fig.points) {
+        return Some(Verdict::OnEdge(v, e));
+    }
+    match first_crossing(map, &fig.points) {
+        Some((e, f)) => Some(Verdict::Cross(e, f)),
+        None => None,
+    }
+}
+
+// The same. A sweep that finds the drawing plane spares the search.
+fn first_pair_by_sweep(map: &HalfMap, fig: &GridFigure) -> Option<Verdict>
+    requires drawn { IsDrawn map.now fig.now.points }
+    requires in_grid { AllInGrid map.now.lists fig.now.points fig.now.width fig.now.height }
+    ensures { MatchOption result (NoneShareAPlace map.now.lists fig.now.points × NoneOnEdge map.now.lists fig.now.points × NoneCross map.now.lists fig.now.points)
+        (IsVerdict map.now.lists fig.now.points fig.now.width fig.now.height) }
+{
+    if is_plane_by_sweep(map, &fig.points) {
+        None
+    } else {
+        first_pair(map, fig)
+    }
+}
 
 // The first fault of a drawing, if it has one.
 fn first_fault(map: &HalfMap, fig: &GridFigure) -> Option<Verdict>
@@ -22,14 +57,8 @@ fn first_fault(map: &HalfMap, fig: &GridFigure) -> Option<Verdict>
     if let Some(v) = first_outside(map, fig) {
         return Some(Verdict::OutOfGrid(v));
     }
-    if let Some((u, v)) = first_shared(map, &fig.points) {
-        return Some(Verdict::SamePlace(u, v));
-    }
-    if let Some((v, e)) = first_on_edge(map, &fig.points) {
-        return Some(Verdict::OnEdge(v, e));
-    }
-    if let Some((e, f)) = first_crossing(map, &fig.points) {
-        return Some(Verdict::Cross(e, f));
+    if let Some(verdict) = first_pair_by_sweep(map, fig) {
+        return Some(verdict);
     }
     match first_turned(map, &fig.points) {
         Some(v) => Some(Verdict::Turned(v)),
@@ -40,8 +69,10 @@ fn first_fault(map: &HalfMap, fig: &GridFigure) -> Option<Verdict>
 /// The first fault of a drawing in the order of the variants of `Verdict`, with the least ids, or `Yes`
 /// where all points lie in the grid, the drawing is plane and the rotations are kept.
 ///
-/// `fig` has one point for each vertex, and no coordinate is beyond 2^20 in size. It takes no memory, and
-/// compares each edge with each vertex and each edge after it.
+/// `fig` has one point for each vertex, and no coordinate is beyond 2^20 in size. It takes no memory from
+/// the heap. Where a sweep finds the drawing plane, the time is m log n for n vertices and m edges, besides
+/// that in which the lines that the sweep meets are moved; else each edge is compared with each vertex and
+/// each edge after it.
 pub fn check(map: &HalfMap, fig: &GridFigure) -> Verdict
     requires { HasPlaces map.now.lists fig.now.points }
     ensures { IsVerdict map.now.lists fig.now.points fig.now.width fig.now.height result }

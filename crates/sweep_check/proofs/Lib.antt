@@ -1,0 +1,7 @@
+-- Lemmas of the sweep.
+mod ListLemmas
+mod FreshLemmas
+mod LineLemmas
+mod StepLemmas
+mod SweepLemmas
+mod TopLemmas
