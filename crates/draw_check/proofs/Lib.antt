@@ -1,4 +1,7 @@
 -- The lemmas on checks of drawings.
+pub mod DartSums
+pub mod WalkFaces
+pub mod FaceSumLemmas
 pub mod FaceIds
 pub mod FaceLemmas
 pub mod LeastLemmas

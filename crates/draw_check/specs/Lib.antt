@@ -6,3 +6,5 @@ pub mod Laws
 pub mod Loops
 pub mod FaceVerdicts
 pub mod FaceLaws
+pub mod Outer
+pub mod FaceSums

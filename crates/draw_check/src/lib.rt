@@ -8,16 +8,19 @@ ghost use Rattle.draw_check.specs.Laws.{ValidWithFewer, YesIsValid};
 mod crossings;
 mod edges;
 mod faces;
+mod outer;
 mod pairs;
 mod places;
 mod rounds;
+mod sums;
 mod turns;
 mod verdict;
 
 use drawings::counterclockwise_is_plane;
 pub use faces::check_by_faces;
+pub use outer::check_outer;
 pub use pairs::check;
-pub use verdict::{FaceVerdict, Verdict};
+pub use verdict::{FaceVerdict, OuterVerdict, Verdict};
 
 /// The verdict is `Yes` exactly where all points lie in the grid, the drawing is plane and the rotations
 /// are kept.
