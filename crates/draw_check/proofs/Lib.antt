@@ -1,5 +1,9 @@
 -- The lemmas on checks of drawings.
 pub mod DartSums
+pub mod DartTotals
+pub mod FacesJoined
+pub mod TriangleSums
+pub mod OuterFewer
 pub mod WalkFaces
 pub mod FaceSumLemmas
 pub mod FaceIds

@@ -2,7 +2,7 @@
 //! vertex has its neighbours in the order of its list; and where not, which fault comes first.
 #![tactic(auto)]
 
-ghost use Rattle.draw_check.specs.FaceLaws.{FacesYesIsYes};
+ghost use Rattle.draw_check.specs.FaceLaws.{FacesYesForFewer, FacesYesIsYes};
 ghost use Rattle.draw_check.specs.Laws.{ValidWithFewer, YesIsValid};
 
 mod crossings;
@@ -39,6 +39,14 @@ pub fn faces_yes_is_yes()
     ensures { FacesYesIsYes }
 {
     counterclockwise_is_plane();
+}
+
+/// Where `check_by_faces` answers `Yes` for a completion of a map, `check` does for the map itself, and the
+/// face of the base is the outer one: `check_outer` answers `Yes` too.
+pub fn faces_yes_for_fewer()
+    ensures { FacesYesForFewer }
+{
+    faces_yes_is_yes();
 }
 
 #[cfg(test)]
