@@ -1,11 +1,10 @@
 -- Totals of weights of darts: over all darts, over those of a map without an edge, and where few darts weigh anything.
-use Rattle.std.proofs.Common.{◌≡◌, ◌≢◌, ℕ, zero, suc, ◌+◌, ◌<◌, Bool, true, false, cond, eqb, List, [], ◌∷◌, ◌++◌, length, get_or, set, AllPairs, Contains, ℤ, pos, ◌+ℤ◌, refl, sym, ap, ap₂, subst, ◌∙◌, inl, inr, arith, eq-eqb, eqb-true, get_or-set_other, length-set}
+use Rattle.std.proofs.Common.{◌≡◌, ◌≢◌, ℕ, zero, suc, ◌+◌, ◌<◌, Bool, true, cond, eqb, List, [], ◌∷◌, ◌++◌, length, get_or, set, Contains, ℤ, pos, ◌+ℤ◌, refl, sym, ap, ap₂, ◌∙◌, inl, inr, arith, eq-eqb, eqb-true, get_or-set_other, length-set}
 use Rattle.std.specs.List.{remove}
 use Rattle.std.proofs.lemmas.Bool.{cases_eq, cond-true, cond-false, false_from_ne_true}
 use Rattle.std.proofs.lemmas.Int.{ints}
-use Rattle.std.proofs.lemmas.List.{get_or_default}
 use Rattle.map_lists.specs.Lists.{Lists}
-use Rattle.map_definitions.specs.Maps.{Dart, HasDart, IsSimpleMap, list_of, darts_from, darts_since, darts, dart_number, dart_count, place_of}
+use Rattle.map_definitions.specs.Maps.{Dart, HasDart, IsSimpleMap, list_of, darts_from, darts_since, darts, dart_number}
 use Rattle.map_definitions.specs.Edges.{without_entry, without_edge}
 use Rattle.map_definitions.proofs.DartLemmas.{length-darts, dart_number-lt, get_or-dart_number, IsDartNumber-darts, place_of-here, place_of-there}
 use Rattle.map_definitions.proofs.EntryLemmas.{Contains-cons_cases}

@@ -1,13 +1,13 @@
 -- The table of sums over faces, dart by dart, and the darts whose face has a sum that is not positive.
-use Rattle.std.proofs.Common.{◌≡◌, ◌≢◌, ℕ, ◌+◌, ◌*◌, ◌<◌, ◌≤◌, Bool, true, false, cond, eqb, not, List, length, take, get_or, set, Contains, Option, Some, None, option_map, ℤ, pos, ◌+ℤ◌, ◌≤ℤ◌, refl, sym, ap, ap₂, subst, ◌∙◌, inl, inr, arith, get_or-set_same, get_or-set_other, length-set}
-use Rattle.std.proofs.lemmas.Bool.{cases_eq, cond-true, cond-false, false_from_ne_true, true≢false}
+use Rattle.std.proofs.Common.{◌≡◌, ◌≢◌, ℕ, ◌+◌, ◌<◌, ◌≤◌, true, cond, eqb, List, length, take, get_or, set, Contains, Option, Some, None, option_map, ℤ, pos, ◌+ℤ◌, ◌≤ℤ◌, sym, ap, ap₂, subst, ◌∙◌, inl, inr, arith, get_or-set_same, get_or-set_other, length-set}
+use Rattle.std.proofs.lemmas.Bool.{cases_eq, cond-true, cond-false, false_from_ne_true}
 use Rattle.std.proofs.lemmas.Int.{ints, by_lt_z}
 use Rattle.std.proofs.lemmas.List.{length-take}
 use Rattle.std.proofs.Math.Seq.{take-length}
 use Rattle.label_classes.specs.Classes.{label}
 use Rattle.label_classes.proofs.Classes.{Together, Together-from, same_class-from}
 use Rattle.map_lists.specs.Lists.{Lists}
-use Rattle.map_definitions.specs.Maps.{Dart, HasDart, darts, dart_number, dart_count, face_classes}
+use Rattle.map_definitions.specs.Maps.{Dart, darts, dart_number, dart_count, face_classes}
 use Rattle.map_definitions.specs.Paths.{SameFace}
 use Rattle.map_definitions.proofs.DartLemmas.{length-darts, get_or-dart_number}
 use Rattle.half_edges.specs.Map.{Map, IsHalfMap, IsLive, dart_at}

@@ -1,5 +1,5 @@
 -- Where an edge is taken away from between two faces, the area of the joined face is the sum of the two, and the other areas stay.
-use Rattle.std.proofs.Common.{◌≡◌, ◌≢◌, ℕ, ◌<◌, ◌⊎◌, Bool, true, false, cond, List, length, ℤ, pos, ◌+ℤ◌, ◌<ℤ◌, refl, sym, ap, ap₂, subst, ◌∙◌, inl, inr, ⊎_elim, arith}
+use Rattle.std.proofs.Common.{◌≡◌, ℕ, Bool, cond, List, ℤ, pos, ◌+ℤ◌, refl, sym, ◌∙◌, inl, inr, ⊎_elim, arith}
 use Rattle.std.proofs.lemmas.Bool.{cases_Bool, cond-true, cond-false, false_from_ne_true, true≢false}
 use Rattle.std.proofs.lemmas.Int.{ints}
 use Rattle.label_classes.specs.Classes.{same_class}
@@ -9,7 +9,7 @@ use Rattle.map_definitions.specs.Maps.{Dart, HasDart, IsSimpleMap, darts, dart_n
 use Rattle.map_definitions.specs.Paths.{SameFace}
 use Rattle.plane_laws.specs.Laws.{IsMergedFaces}
 use Rattle.pg_plane.specs.declared.point.Point.{Point}
-use Rattle.draw_check.specs.Outer.{swept, sum_over, face_sum}
+use Rattle.draw_check.specs.Outer.{swept, face_sum, AreOthersPositive}
 use Rattle.draw_check.proofs.DartTotals.{total, sum_over-total, total-add, total-darts}
 
 -- two darts are in one face, as a test
@@ -116,14 +116,9 @@ module _ (lists rest : Lists) (points : List Point) (simple' : IsSimpleMap rest)
         let db = weight-off lists points d b off_b in
         omega (arith, ints)
 
--- each face but the base's has a positive area
-abbrev pub IsOuter : Lists → List Point → Dart → Type 0
-IsOuter lists points base =
-    (v u : ℕ) → HasDart lists v u → ¬ SameFace lists base (v, u) → pos 0 <ℤ face_sum lists points (v, u)
-
--- so it is without the edge
-pub IsOuter-joined : (lists rest : Lists) (points : List Point) (base : Dart) → IsSimpleMap rest → (a b : Dart) → HasDart lists a.0 a.1 → HasDart lists b.0 b.1 → IsMergedFaces lists rest a b → ((w : Dart → ℤ) → total w (darts lists) ≡ (total w (darts rest) +ℤ w a) +ℤ w b) → swept points a +ℤ swept points b ≡ pos 0 → ((v u : ℕ) → HasDart rest v u → HasDart lists v u) → HasDart rest base.0 base.1 → IsOuter lists points base → IsOuter rest points base
-IsOuter-joined lists rest points base simple' a b has_a has_b m split opposite old has outer v u has_d off =
+-- where each face but the base's has a positive area, it is so without the edge
+pub AreOthersPositive-joined : (lists rest : Lists) (points : List Point) (base : Dart) → IsSimpleMap rest → (a b : Dart) → HasDart lists a.0 a.1 → HasDart lists b.0 b.1 → IsMergedFaces lists rest a b → ((w : Dart → ℤ) → total w (darts lists) ≡ (total w (darts rest) +ℤ w a) +ℤ w b) → swept points a +ℤ swept points b ≡ pos 0 → ((v u : ℕ) → HasDart rest v u → HasDart lists v u) → HasDart rest base.0 base.1 → AreOthersPositive lists points base → AreOthersPositive rest points base
+AreOthersPositive-joined lists rest points base simple' a b has_a has_b m split opposite old has outer v u has_d off =
     let d : Dart = (v, u) in
     let off' : ¬ SameFace lists base d = λ s. off (m.kept base d has has_d s) in
     elim (cases_Bool (same_face lists d a)) [

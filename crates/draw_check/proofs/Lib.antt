@@ -11,6 +11,7 @@ pub mod FaceLemmas
 pub mod LeastLemmas
 pub mod MetLemmas
 pub mod OnceLemmas
+pub mod LeastRounds
 pub mod RoundLemmas
 mod Cases
 pub mod ClockOrder

@@ -1,34 +1,31 @@
--- Edges taken away one by one, from a map that extends another, while the base's face stays outside.
-use Rattle.std.proofs.Common.{◌≡◌, ◌≢◌, ◌⊎◌, ℕ, zero, suc, ◌+◌, ◌<◌, ◌≤◌, Bool, true, false, cond, eqb, List, [], ◌∷◌, length, get_or, Contains, ℤ, pos, ◌+ℤ◌, refl, sym, ap, subst, ◌∙◌, inl, inr, arith, eq-eqb, ◌==◌}
+-- Edges taken away one by one, from a map that extends another, while each face but the base's has a positive area.
+use Rattle.std.proofs.Common.{◌≡◌, ◌⊎◌, ℕ, zero, suc, ◌<◌, ◌≤◌, Bool, true, false, cond, eqb, List, [], ◌∷◌, length, get_or, pos, ◌+ℤ◌, refl, sym, ap, subst, ◌∙◌, inl, inr, arith, eq-eqb, ◌==◌}
 use Rattle.std.specs.List.{list_any, filter, remove}
-use Rattle.std.proofs.lemmas.Bool.{cases_eq, cases_lt, cases_Bool, cond-true, cond-false, true≢false, false_from_ne_true}
+use Rattle.std.proofs.lemmas.Bool.{cases_eq, cases_Bool, cond-false, true≢false, false_from_ne_true}
 use Rattle.std.proofs.lemmas.Int.{ints}
-use Rattle.std.proofs.lemmas.List.{ext_get_or, get_or_past}
+use Rattle.std.proofs.lemmas.List.{ext_get_or}
 use Rattle.label_classes.specs.Classes.{label}
 use Rattle.label_classes.proofs.Counting.{count_below_into}
 use Rattle.label_classes.proofs.Classes.{length-classes}
 use Rattle.map_lists.specs.Lists.{Lists}
-use Rattle.map_definitions.specs.Maps.{Dart, HasDart, IsSimpleMap, IsPlane, list_of, place_of, darts, dart_number, dart_count, edge_count, component_count, component_classes}
+use Rattle.map_definitions.specs.Maps.{Dart, HasDart, IsSimpleMap, IsPlane, list_of, darts, dart_number, dart_count, edge_count, component_count, component_classes}
 use Rattle.map_definitions.specs.Edges.{without_entry, without_edge}
-use Rattle.map_definitions.specs.Paths.{SameFace}
 use Rattle.map_definitions.proofs.DartLemmas.{dart_number-lt, get_or-dart_number, IsDartNumber-darts, place_of-here, place_of-there}
 use Rattle.map_definitions.proofs.EntryLemmas.{Contains-from_list_any, list_any-from_Contains}
-use Rattle.map_definitions.proofs.WithoutEdge.{dart_old, list_at_first, list_at_second, list_elsewhere, length-without_edge, IsSimpleMap-without_edge, edge_count-without}
+use Rattle.map_definitions.proofs.WithoutEdge.{dart_old, list_at_first, list_at_second, list_elsewhere, length-without_edge, edge_count-without}
 use Rattle.euler_bound.proofs.DartPermutations.{IsLabels-components}
 use Rattle.plane_laws.specs.Completed.{IsCompleted}
 use Rattle.plane_laws.proofs.EdgeFaces.{bridge_test, faces_merged}
 use Rattle.plane_laws.proofs.EdgeRemoved.{edge_removed}
-use Rattle.plane_laws.proofs.Triangles.{edge_bound_met}
 use Rattle.map_edits.specs.Completed.{IsExtended}
 use Rattle.map_edits.proofs.KeptEdges.{filter-all, all_or_some}
 use Rattle.pg_plane.specs.declared.point.Point.{Point}
-use Rattle.pg_plane.specs.Geometry.{cross}
 use Rattle.face_geometry.proofs.Identities.{cross_back}
 use Rattle.drawings.specs.Drawing.{place, IsCounterclockwise}
-use Rattle.draw_check.specs.Outer.{swept, HasOuterFace}
+use Rattle.draw_check.specs.Outer.{swept, AreOthersPositive, HasOuterFace}
 use Rattle.draw_check.proofs.DartTotals.{total-without}
-use Rattle.draw_check.proofs.FacesJoined.{same_face, IsOuter, IsOuter-joined}
-use Rattle.draw_check.proofs.TriangleSums.{IsOuter-counterclockwise}
+use Rattle.draw_check.proofs.FacesJoined.{same_face, AreOthersPositive-joined}
+use Rattle.draw_check.proofs.TriangleSums.{AreOthersPositive-counterclockwise}
 use Rattle.draw_check.proofs.ValidFewer.{dart_more}
 
 -- the two directions of an edge sweep opposite areas
@@ -94,9 +91,9 @@ module _ (old : Lists) (simple : IsSimpleMap old) where
     }
 
   module _ (points : List Point) (base : Dart) (has : HasDart old base.0 base.1) (one : component_count old ≡ 1) where
-    -- the map is connected as the old one is, and where the base's face is outside in it, it is so in the old one
+    -- the map is connected as the old one is, and where each face but the base's has a positive area in it, it is so in the old one
     abbrev Passes : Lists → Type 0
-    Passes lists = (component_count lists ≡ 1) × (IsOuter lists points base → IsOuter old points base)
+    Passes lists = (component_count lists ≡ 1) × (AreOthersPositive lists points base → AreOthersPositive old points base)
 
     -- so it is with an edge more
     step : (lists : Lists) → IsSimpleMap lists → IsPlane lists → (u v : ℕ) → HasDart lists u v → IsExtended old (without_edge lists u v) → Passes (without_edge lists u v) → Passes lists
@@ -115,7 +112,7 @@ module _ (old : Lists) (simple : IsSimpleMap old) where
           connected,
           λ outer.
               p.1
-              (IsOuter-joined lists rest points base gone.0 (u, v) (v, u) edge (simple'.both_ways u v edge) merged (total-without lists simple' u v edge) (swept_back points u v)
+              (AreOthersPositive-joined lists rest points base gone.0 (u, v) (v, u) edge (simple'.both_ways u v edge) merged (total-without lists simple' u v edge) (swept_back points u v)
               (λ x y d. (dart_old lists simple' u v edge x y d).0)
               (dart_more old rest points simple gone.0 h base.0 base.1 has) outer),
         )
@@ -139,4 +136,4 @@ module _ (old : Lists) (simple : IsSimpleMap old) where
 -- where a completion is drawn counterclockwise, the base's face is the outer one of the map itself
 pub outer_fewer : (lists more : Lists) (points : List Point) (base : Dart) → IsSimpleMap lists → IsCompleted more → IsExtended lists more → HasDart lists base.0 base.1 → IsCounterclockwise more points base → HasOuterFace lists points base
 outer_fewer lists more points base simple c h has turns one =
-    (passes lists simple points base has one (edge_count more) more (omega arith) c.simple c.plane h).1 (IsOuter-counterclockwise more c points base turns)
+    (passes lists simple points base has one (edge_count more) more (omega arith) c.simple c.plane h).1 (AreOthersPositive-counterclockwise more c points base turns)

@@ -1,10 +1,9 @@
 -- The face of a completed map is a triangle, and its area is that of the triangle.
-use Rattle.std.proofs.Common.{◌≡◌, ◌≢◌, ℕ, Bool, true, false, cond, eqb, List, ℤ, pos, ◌+ℤ◌, ◌<ℤ◌, refl, sym, ap, subst, ◌∙◌, inl, inr, arith, eq-eqb, ne_eqb, eqb-true}
+use Rattle.std.proofs.Common.{◌≡◌, ◌≢◌, ℕ, cond, eqb, List, ℤ, pos, ◌+ℤ◌, ◌<ℤ◌, refl, sym, ap, subst, ◌∙◌, inl, inr, arith, eq-eqb, ne_eqb}
 use Rattle.std.proofs.lemmas.Bool.{cases_Bool, cond-true, cond-false, true≢false}
 use Rattle.std.proofs.lemmas.Int.{ints}
-use Rattle.label_classes.specs.Classes.{same_class}
 use Rattle.map_lists.specs.Lists.{Lists}
-use Rattle.map_definitions.specs.Maps.{Dart, HasDart, follows, face_step, darts, dart_number, face_classes}
+use Rattle.map_definitions.specs.Maps.{Dart, HasDart, follows, darts, dart_number}
 use Rattle.map_definitions.specs.Paths.{SameFace}
 use Rattle.map_definitions.proofs.DartLemmas.{dart_number-injective, HasDart-face_step}
 use Rattle.plane_laws.specs.Completed.{IsCompleted}
@@ -12,9 +11,9 @@ use Rattle.pg_plane.specs.declared.point.Point.{Point}
 use Rattle.pg_plane.specs.Geometry.{cross, area}
 use Rattle.face_geometry.proofs.Ring.{ring, sums}
 use Rattle.drawings.specs.Drawing.{place, IsCounterclockwise}
-use Rattle.draw_check.specs.Outer.{swept, face_sum}
-use Rattle.draw_check.proofs.DartTotals.{total, total-add, total-darts, total-dart}
-use Rattle.draw_check.proofs.FacesJoined.{same_face, weight, weight-on, weight-off, face_sum-total, IsOuter}
+use Rattle.draw_check.specs.Outer.{swept, face_sum, AreOthersPositive}
+use Rattle.draw_check.proofs.DartTotals.{total-add, total-darts, total-dart}
+use Rattle.draw_check.proofs.FacesJoined.{same_face, weight, weight-on, weight-off, face_sum-total}
 use Rattle.draw_check.proofs.FaceLemmas.{thrice, same_step, same_itself, on_base}
 
 -- three sides of a triangle
@@ -129,7 +128,7 @@ module _ (lists : Lists) (c : IsCompleted lists) (points : List Point) (u v : �
       let sum : face_sum lists points (u, v) ≡ (swept points (u, v) +ℤ swept points (v, w)) +ℤ swept points (w, u) = omega (arith, ints) in
       sum ∙ swept_triangle (place points u) (place points v) (place points w)
 
--- a counterclockwise drawing of a completed map has the base's face outside
-pub IsOuter-counterclockwise : (lists : Lists) → IsCompleted lists → (points : List Point) (base : Dart) → IsCounterclockwise lists points base → IsOuter lists points base
-IsOuter-counterclockwise lists c points base h v u has off =
+-- in a counterclockwise drawing of a completed map each face but the base's has a positive area
+pub AreOthersPositive-counterclockwise : (lists : Lists) → IsCompleted lists → (points : List Point) (base : Dart) → IsCounterclockwise lists points base → AreOthersPositive lists points base
+AreOthersPositive-counterclockwise lists c points base h v u has off =
     subst (λ (z : ℤ). pos 0 <ℤ z) (sym (triangle_sum lists c points v u has)) (h.inner v u has off)

@@ -31,10 +31,14 @@ pub record IsInside (lists : Lists) (points : List Point) (base : Dart) (v u : �
   pub other : ¬ SameFace lists base (v, u)
   pub sum : face_sum lists points (v, u) ≤ℤ pos 0
 
--- the base's face is the outer one: where the map is connected, each other face has a positive area
+-- each face but the base's has a positive area
+abbrev pub AreOthersPositive : Lists → List Point → Dart → Type 0
+AreOthersPositive lists points base =
+    (v u : ℕ) → HasDart lists v u → ¬ SameFace lists base (v, u) → pos 0 <ℤ face_sum lists points (v, u)
+
+-- the base's face is the outer one, where the map is connected
 abbrev pub HasOuterFace : Lists → List Point → Dart → Type 0
-HasOuterFace lists points base =
-    component_count lists ≡ 1 → (v u : ℕ) → HasDart lists v u → ¬ SameFace lists base (v, u) → pos 0 <ℤ face_sum lists points (v, u)
+HasOuterFace lists points base = component_count lists ≡ 1 → AreOthersPositive lists points base
 
 abbrev pub IsOuterVerdict : Lists → List Point → Dart → OuterVerdict → Type 0
 IsOuterVerdict lists points base (Inside v u) =

@@ -1,5 +1,6 @@
 //! Checks of straight-line drawings: whether all points lie in the grid, the drawing is plane, and each
-//! vertex has its neighbours in the order of its list; and where not, which fault comes first.
+//! vertex has its neighbours in the order of its list; and where not, which fault comes first. Of a
+//! completed map by its faces; and of a connected one whether the face of a base dart is the outer one.
 #![tactic(auto)]
 
 ghost use Rattle.draw_check.specs.FaceLaws.{FacesYesForFewer, FacesYesIsYes};

@@ -157,9 +157,10 @@ fn outer_verdict(
 /// The least dart, by its tail and then by its head, whose face is not that of `base` and has an area that
 /// is not positive, where the map is connected; and `Yes` where there is none or the map is not connected.
 ///
-/// `base` is live, `fig` has one point for each vertex, and no coordinate is beyond 2^20 in size. It fails
-/// only for want of memory. The time is linear in the darts but for the search round each vertex, which is
-/// linear in its list, and so is the memory.
+/// Twice the area of a face is the sum of a.x * b.y - b.x * a.y over its darts from a to b, in 128 bits.
+/// `base` is live, `fig` has one point for each vertex, and no coordinate is beyond 2^20 in size; its grid is
+/// not looked at. It fails only for want of memory. The time and the memory are linear in the vertices and
+/// the darts.
 pub fn check_outer(
     alloc: Global,
     map: &HalfMap,

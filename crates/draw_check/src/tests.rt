@@ -150,6 +150,18 @@ fn a_vertex_on_an_edge(rt: HostRuntime) -> Result<(), Fail> {
         )?,
         Verdict::OnEdge(VertexId(2), one)
     );
+    // three on one edge: the least is named, and not the nearest to an end
+    assert_eq!(rt;
+        verdict_of(
+            &rt,
+            rt.alloc(),
+            &[&[1], &[0], &[], &[], &[]],
+            &[(0, 0), (8, 4), (4, 2), (2, 1), (6, 3)],
+            8,
+            4
+        )?,
+        Verdict::OnEdge(VertexId(2), one)
+    );
     // an isolated vertex
     assert_eq!(rt;
         verdict_of(

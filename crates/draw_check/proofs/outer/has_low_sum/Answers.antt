@@ -1,9 +1,7 @@
-use Rattle.std.proofs.Common.{◌≡◌, ℤ, pos, get_or, refl, sym, ◌∙◌, arith, rules, eq-eqb, SFits}
+use Rattle.std.proofs.Common.{pos, get_or, refl, sym, ◌∙◌, arith, rules, eq-eqb, SFits}
 use Rattle.std.specs.Int.{w128}
 use Rattle.std.proofs.lemmas.Bool.{true≢false}
 use Rattle.std.proofs.lemmas.Int.{ints, to_z-of_z}
-use Rattle.half_edges.specs.Map.{dart_at}
-use Rattle.draw_check.specs.FaceSums.{HasLowSum}
 use Rattle.draw_check.proofs.FaceSumLemmas.{not_low, low_from, low_to}
 use Rattle.draw_check.proofs.outer.has_low_sum.Goals as goal
 

@@ -1,7 +1,5 @@
 use Rattle.map_definitions.specs.Maps.{darts_before}
-use Rattle.half_edges.specs.Map.{IsHalfMap}
 use Rattle.draw_check.specs.FaceSums.{AreSumsBelow}
-use Rattle.draw_check.specs.Loops.{IsDrawn}
 use Rattle.draw_check.proofs.sums.add_all.Given as goal
 
 abbrev pub invariant-loop-v : goal.invariant-loop-v

@@ -1,11 +1,7 @@
-use Rattle.std.proofs.Common.{◌≡◌, ℤ, pos, ◌+ℤ◌, get_or, set, refl, sym, ap, subst, ◌∙◌, arith}
+use Rattle.std.proofs.Common.{refl, arith}
 use Rattle.std.proofs.lemmas.Int.{ints}
-use Rattle.map_definitions.specs.Maps.{Dart}
 use Rattle.euler_faces.specs.Numbers.{number_at}
-use Rattle.euler_faces.proofs.NumberLemmas.{some_of}
 use Rattle.half_edges.specs.Map.{dart_at}
-use Rattle.draw_check.specs.Outer.{swept}
-use Rattle.draw_check.specs.FaceSums.{AreSumsBelow}
 use Rattle.draw_check.proofs.DartSums.{swept-within}
 use Rattle.draw_check.proofs.FaceSumLemmas.{dart_from_ends, AreSumsBelow-more, sum-within}
 use Rattle.draw_check.proofs.sums.add_dart.Goals as goal
