@@ -12,16 +12,16 @@ use Rattle.pg_plane.specs.declared.point.Point.{Point}
 use Rattle.draw_check.specs.Outer.{swept, face_sum, AreOthersPositive}
 use Rattle.draw_check.proofs.DartTotals.{total, sum_over-total, total-add, total-darts}
 
--- two darts are in one face, as a test
+-- whether two darts are in one face
 abbrev pub same_face : Lists → Dart → Dart → Bool
 same_face lists d e = same_class (face_classes lists) (dart_number lists d) (dart_number lists e)
 
-pub same_back : (lists : Lists) (d e : Dart) → SameFace lists d e → SameFace lists e d
-same_back lists d e s =
+pub SameFace-turned : (lists : Lists) (d e : Dart) → SameFace lists d e → SameFace lists e d
+SameFace-turned lists d e s =
     same_class-from (face_classes lists) (dart_number lists e) (dart_number lists d) (sym (Together-from (face_classes lists) (dart_number lists d) (dart_number lists e) s))
 
-pub same_on : (lists : Lists) (d e f : Dart) → SameFace lists d e → SameFace lists e f → SameFace lists d f
-same_on lists d e f s t =
+pub SameFace-chained : (lists : Lists) (d e f : Dart) → SameFace lists d e → SameFace lists e f → SameFace lists d f
+SameFace-chained lists d e f s t =
     same_class-from (face_classes lists) (dart_number lists d) (dart_number lists f)
     (Together-from (face_classes lists) (dart_number lists d) (dart_number lists e) s ∙ Together-from (face_classes lists) (dart_number lists e) (dart_number lists f) t)
 
@@ -40,17 +40,17 @@ pub weight-off : (lists : Lists) (points : List Point) (d e : Dart) → ¬ SameF
 weight-off lists points d e n = cond-false (same_face lists d e) (swept points e) (pos 0) (false_from_ne_true (same_face lists d e) n)
 
 -- merged faces, with the two exchanged
-pub merged_back : (lists rest : Lists) (a b : Dart) → IsMergedFaces lists rest a b → IsMergedFaces lists rest b a
-merged_back lists rest a b m = record {
-  apart = λ s. m.apart (same_back lists b a s);
+pub IsMergedFaces-turned : (lists rest : Lists) (a b : Dart) → IsMergedFaces lists rest a b → IsMergedFaces lists rest b a
+IsMergedFaces-turned lists rest a b m = record {
+  apart = λ s. m.apart (SameFace-turned lists b a s);
   kept = m.kept;
-  made_one = λ c d h h' s t. same_back rest d c (m.made_one d c h' h (same_back lists a d t) (same_back lists c b s));
+  made_one = λ c d h h' s t. SameFace-turned rest d c (m.made_one d c h' h (SameFace-turned lists a d t) (SameFace-turned lists c b s));
   no_more = λ c d h h' s. ⊎_elim (λ k. inl k) (λ k. ⊎_elim (λ x. inr (inr x)) (λ x. inr (inl x)) k) (m.no_more c d h h' s);
 }
 
 module _ (lists rest : Lists) (points : List Point) (simple' : IsSimpleMap rest) (a b : Dart) (m : IsMergedFaces lists rest a b) (split : (w : Dart → ℤ) → total w (darts lists) ≡ (total w (darts rest) +ℤ w a) +ℤ w b) (opposite : swept points a +ℤ swept points b ≡ pos 0) where
   not_back : ¬ SameFace lists b a
-  not_back s = m.apart (same_back lists b a s)
+  not_back s = m.apart (SameFace-turned lists b a s)
 
   -- the joined face
   module _ (d : Dart) (has : HasDart rest d.0 d.1) (at : SameFace lists d a) where
@@ -59,9 +59,9 @@ module _ (lists rest : Lists) (points : List Point) (simple' : IsSimpleMap rest)
         let e : Dart = (v, u) in
         elim (cases_Bool (same_face lists a e)) [
           | inl on ↦
-              let one = weight-on rest points d e (m.kept d e has has' (same_on lists d a e at on)) in
+              let one = weight-on rest points d e (m.kept d e has has' (SameFace-chained lists d a e at on)) in
               let two = weight-on lists points a e on in
-              let three = weight-off lists points b e (λ s. m.apart (same_on lists a e b on (same_back lists b e s))) in
+              let three = weight-off lists points b e (λ s. m.apart (SameFace-chained lists a e b on (SameFace-turned lists b e s))) in
               omega (arith, ints)
           | inr off ↦
               let two = weight-off lists points a e (λ s. true≢false (sym s ∙ off)) in
@@ -73,7 +73,7 @@ module _ (lists rest : Lists) (points : List Point) (simple' : IsSimpleMap rest)
                 | inr off' ↦
                     let three = weight-off lists points b e (λ s. true≢false (sym s ∙ off')) in
                     let one = weight-off rest points d e (λ s.
-                    ⊎_elim (λ k. true≢false (sym (same_on lists a d e (same_back lists d a at) k) ∙ off))
+                    ⊎_elim (λ k. true≢false (sym (SameFace-chained lists a d e (SameFace-turned lists d a at) k) ∙ off))
                     (λ k. ⊎_elim (λ x. true≢false (sym x.1 ∙ off')) (λ x. true≢false (sym x.1 ∙ off)) k) (m.no_more d e has has' s)) in
                     omega (arith, ints)
               ]
@@ -123,16 +123,16 @@ AreOthersPositive-joined lists rest points base simple' a b has_a has_b m split 
     let off' : ¬ SameFace lists base d = λ s. off (m.kept base d has has_d s) in
     elim (cases_Bool (same_face lists d a)) [
       | inl on ↦
-          let one = outer a.0 a.1 has_a (λ s. off' (same_on lists base a d s (same_back lists d a on))) in
-          let two = outer b.0 b.1 has_b (λ s. off (same_back rest d base (m.made_one d base has_d has on (same_back lists base b s)))) in
+          let one = outer a.0 a.1 has_a (λ s. off' (SameFace-chained lists base a d s (SameFace-turned lists d a on))) in
+          let two = outer b.0 b.1 has_b (λ s. off (SameFace-turned rest d base (m.made_one d base has_d has on (SameFace-turned lists base b s)))) in
           let sum = joined_sum lists rest points simple' a b m split opposite d has_d on in
           omega (arith, ints)
       | inr no_a ↦
           elim (cases_Bool (same_face lists d b)) [
             | inl on ↦
-                let m' = merged_back lists rest a b m in
-                let one = outer b.0 b.1 has_b (λ s. off' (same_on lists base b d s (same_back lists d b on))) in
-                let two = outer a.0 a.1 has_a (λ s. off (same_back rest d base (m'.made_one d base has_d has on (same_back lists base a s)))) in
+                let m' = IsMergedFaces-turned lists rest a b m in
+                let one = outer b.0 b.1 has_b (λ s. off' (SameFace-chained lists base b d s (SameFace-turned lists d b on))) in
+                let two = outer a.0 a.1 has_a (λ s. off (SameFace-turned rest d base (m'.made_one d base has_d has on (SameFace-turned lists base a s)))) in
                 let split' : (w : Dart → ℤ) → total w (darts lists) ≡ (total w (darts rest) +ℤ w b) +ℤ w a = λ w. let e = split w in omega (arith, ints) in
                 let opposite' : swept points b +ℤ swept points a ≡ pos 0 = omega (arith, ints) in
                 let sum = joined_sum lists rest points simple' b a m' split' opposite' d has_d on in

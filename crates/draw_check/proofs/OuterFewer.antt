@@ -29,8 +29,8 @@ use Rattle.draw_check.proofs.TriangleSums.{AreOthersPositive-counterclockwise}
 use Rattle.draw_check.proofs.ValidFewer.{dart_more}
 
 -- the two directions of an edge sweep opposite areas
-swept_back : (points : List Point) (u v : ℕ) → swept points (u, v) +ℤ swept points (v, u) ≡ pos 0
-swept_back points u v = let e = cross_back (place points u) (place points v) in omega (arith, ints)
+swept-turned : (points : List Point) (u v : ℕ) → swept points (u, v) +ℤ swept points (v, u) ≡ pos 0
+swept-turned points u v = let e = cross_back (place points u) (place points v) in omega (arith, ints)
 
 -- a map has a component
 some_component : (lists : Lists) → IsSimpleMap lists → 0 < component_count lists
@@ -112,7 +112,7 @@ module _ (old : Lists) (simple : IsSimpleMap old) where
           connected,
           λ outer.
               p.1
-              (AreOthersPositive-joined lists rest points base gone.0 (u, v) (v, u) edge (simple'.both_ways u v edge) merged (total-without lists simple' u v edge) (swept_back points u v)
+              (AreOthersPositive-joined lists rest points base gone.0 (u, v) (v, u) edge (simple'.both_ways u v edge) merged (total-without lists simple' u v edge) (swept-turned points u v)
               (λ x y d. (dart_old lists simple' u v edge x y d).0)
               (dart_more old rest points simple gone.0 h base.0 base.1 has) outer),
         )
