@@ -1,9 +1,12 @@
 -- Verdicts that were worked out by hand.
-use Rattle.std.proofs.Common.{zero, suc, List, [], ◌∷◌, ℤ, pos, refl, arith}
+use Rattle.std.proofs.Common.{◌≡◌, zero, suc, List, [], ◌∷◌, ℤ, pos, negsuc, refl, arith}
 use Rattle.std.proofs.lemmas.Int.{ints}
+use Rattle.label_classes.specs.Classes.{merge}
 use Rattle.map_lists.specs.Lists.{Lists}
+use Rattle.map_definitions.specs.Maps.{entry_after}
 use Rattle.pg_plane.specs.declared.point.Point.{Point}
 use Rattle.draw_check.specs.Verdicts.{AllInGrid, IsVerdict}
+use Rattle.draw_check.specs.Outer.{face_sum}
 use Rattle.draw_check.specs.declared.verdict.Verdict.TheVariants.{OutOfGrid, SamePlace}
 
 abbrev at : ℤ → ℤ → Point
@@ -36,3 +39,27 @@ outside = record {
   here = record { vertex = omega arith; outside = λ h. let right = h.right in omega (arith, ints) };
   before = λ y l s. omega arith;
 }
+
+-- four vertices, each adjacent to the others, the third of which stands inside
+abbrev four : Lists
+four = (1 ∷ 2 ∷ 3 ∷ []) ∷ (0 ∷ 3 ∷ 2 ∷ []) ∷ (0 ∷ 1 ∷ 3 ∷ []) ∷ (0 ∷ 2 ∷ 1 ∷ []) ∷ []
+
+abbrev four_spots : List Point
+four_spots = at (pos 4) (pos 0) ∷ at (pos 0) (pos 0) ∷ at (pos 2) (pos 1) ∷ at (pos 2) (pos 2) ∷ []
+
+-- the outer face, walked clockwise, and the three others
+outer_sum : face_sum four four_spots (0, 1) ≡ negsuc 7
+unfolding face_sum merge entry_after
+outer_sum = refl
+
+lower_sum : face_sum four four_spots (0, 2) ≡ pos 4
+unfolding face_sum merge entry_after
+lower_sum = refl
+
+left_sum : face_sum four four_spots (1, 2) ≡ pos 2
+unfolding face_sum merge entry_after
+left_sum = refl
+
+right_sum : face_sum four four_spots (2, 0) ≡ pos 2
+unfolding face_sum merge entry_after
+right_sum = refl

@@ -5,7 +5,7 @@ use Rattle.std.proofs.lemmas.Bool.{cases_lt}
 use Rattle.map_lists.specs.declared.ids.VertexId.{VertexId}
 use Rattle.map_definitions.specs.Maps.{place_of}
 use Rattle.map_definitions.proofs.DartLemmas.{place_of-lt-length, get_or-place_of}
-use Rattle.draw_check.specs.Least.{IsLeast}
+use Rattle.draw_check.specs.Least.{IsLeast, IsLeastPair}
 use Rattle.draw_check.specs.Loops.{IsLeastOf, IsBelow}
 
 -- what holds of the entries before k, and of entry k, holds of those before k + 1
@@ -31,4 +31,11 @@ IsLeast-from_all P us k None e inside h = λ b p. let at = place_in us b (inside
 IsLeast-from_all P us k (Some x) e inside h = record {
   here = h.0;
   before = λ y less p. let at = place_in us y (inside y p) in h.1 at.0 (rw e at.1) (let same = at.2 in omega arith) (subst P (sym at.2) p);
+}
+
+-- the least two of one property are the least two of another that holds where it does
+pub IsLeastPair-alike : (P Q : ℕ → ℕ → Type 0) → ((x y : ℕ) → P x y → Q x y) → ((x y : ℕ) → Q x y → P x y) → (x y : ℕ) → IsLeastPair P x y → IsLeastPair Q x y
+IsLeastPair-alike P Q from to x y h = record {
+  before = λ s t less q. h.before s t less (to s t q);
+  rest = record { here = from x y h.rest.here; before = λ t less q. h.rest.before t less (to x t q) };
 }

@@ -8,6 +8,7 @@ use Rattle.pg_plane.specs.declared.point.Point.{Point}
 use Rattle.draw_check.specs.Least.{IsLeastPair}
 use Rattle.draw_check.specs.Faults.{HasEdge, LiesOnEdge, EdgesCross}
 use Rattle.draw_check.specs.Loops.{IsMetFrom}
+use Rattle.draw_check.proofs.LeastLemmas.{IsLeastPair-alike}
 use Rattle.draw_check.specs.declared.edges.Probe.TheVariants.{Vertex, Edge}
 
 module _ (lists : Lists) (points : List Point) (v : VertexId) where
@@ -19,10 +20,7 @@ module _ (lists : Lists) (points : List Point) (v : VertexId) where
 
   -- the first edge met by a vertex is the first that it lies on
   pub first_lies_on : v.0 < length lists → (a b : ℕ) → IsLeastPair (IsMetFrom lists points (Vertex v) 0) a b → IsLeastPair (LiesOnEdge lists points v.0) a b
-  first_lies_on l a b h = record {
-    before = λ s t less on. h.before s t less (met_by_vertex s t on);
-    rest = record { here = lies_on l a b h.rest.here; before = λ t less on. h.rest.before t less (met_by_vertex a t on) };
-  }
+  first_lies_on l a b h = IsLeastPair-alike (IsMetFrom lists points (Vertex v) 0) (LiesOnEdge lists points v.0) (lies_on l) met_by_vertex a b h
 
 module _ (lists : Lists) (points : List Point) (a b : VertexId) (edge : HasEdge lists a.0 b.0) where
   met_by_edge : (c d : ℕ) → EdgesCross lists points a.0 b.0 c d → IsMetFrom lists points (Edge a b) (a.0 + 1) c d
@@ -42,7 +40,4 @@ module _ (lists : Lists) (points : List Point) (a b : VertexId) (edge : HasEdge 
   -- the first edge from a + 1 on that meets an edge is the first later one that crosses it
   pub first_cross : (found : Option Ends) → MatchOption found ((c d : ℕ) → ¬ IsMetFrom lists points (Edge a b) (a.0 + 1) c d) (λ e. IsLeastPair (IsMetFrom lists points (Edge a b) (a.0 + 1)) e.a.0 e.b.0) → MatchOption found ((c d : ℕ) → ¬ EdgesCross lists points a.0 b.0 c d) (λ e. IsLeastPair (EdgesCross lists points a.0 b.0) e.a.0 e.b.0)
   first_cross None h = λ c d x. h c d (met_by_edge c d x)
-  first_cross (Some e) h = record {
-    before = λ s t less x. h.before s t less (met_by_edge s t x);
-    rest = record { here = edges_cross e.a.0 e.b.0 h.rest.here; before = λ t less x. h.rest.before t less (met_by_edge e.a.0 t x) };
-  }
+  first_cross (Some e) h = IsLeastPair-alike (IsMetFrom lists points (Edge a b) (a.0 + 1)) (EdgesCross lists points a.0 b.0) edges_cross met_by_edge e.a.0 e.b.0 h

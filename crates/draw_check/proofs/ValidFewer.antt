@@ -16,7 +16,7 @@ use Rattle.draw_check.proofs.RoundOrder.{sorted_from_once, once_from_sorted, sor
 
 module _ (lists more : Lists) (points : List Point) (simple : IsSimpleMap lists) (simple' : IsSimpleMap more) (h : IsExtended lists more) where
   -- a dart stays
-  dart_more : (u v : ℕ) → HasDart lists u v → HasDart more u v
+  pub dart_more : (u v : ℕ) → HasDart lists u v → HasDart more u v
   dart_more u v has =
       let n = h.vertices in
       let l = has.0 in (

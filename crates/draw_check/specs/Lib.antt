@@ -5,4 +5,6 @@ pub mod Verdicts
 pub mod Laws
 pub mod Loops
 pub mod FaceVerdicts
+pub mod Outer
 pub mod FaceLaws
+pub mod FaceSums

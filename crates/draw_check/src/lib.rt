@@ -1,23 +1,27 @@
 //! Checks of straight-line drawings: whether all points lie in the grid, the drawing is plane, and each
-//! vertex has its neighbours in the order of its list; and where not, which fault comes first.
+//! vertex has its neighbours in the order of its list; and where not, which fault comes first. Of a
+//! completed map by its faces; and of a connected one whether the face of a base dart is the outer one.
 #![tactic(auto)]
 
-ghost use Rattle.draw_check.specs.FaceLaws.{FacesYesIsYes};
+ghost use Rattle.draw_check.specs.FaceLaws.{FacesYesForFewer, FacesYesIsYes};
 ghost use Rattle.draw_check.specs.Laws.{ValidWithFewer, YesIsValid};
 
 mod crossings;
 mod edges;
 mod faces;
+mod outer;
 mod pairs;
 mod places;
 mod rounds;
+mod sums;
 mod turns;
 mod verdict;
 
 use drawings::counterclockwise_is_plane;
 pub use faces::check_by_faces;
+pub use outer::check_outer;
 pub use pairs::check;
-pub use verdict::{FaceVerdict, Verdict};
+pub use verdict::{FaceVerdict, OuterVerdict, Verdict};
 
 /// The verdict is `Yes` exactly where all points lie in the grid, the drawing is plane and the rotations
 /// are kept.
@@ -36,6 +40,14 @@ pub fn faces_yes_is_yes()
     ensures { FacesYesIsYes }
 {
     counterclockwise_is_plane();
+}
+
+/// Where `check_by_faces` answers `Yes` for a completion of a map, `check` does for the map itself, and the
+/// face of the base is the outer one: `check_outer` answers `Yes` too.
+pub fn faces_yes_for_fewer()
+    ensures { FacesYesForFewer }
+{
+    faces_yes_is_yes();
 }
 
 #[cfg(test)]

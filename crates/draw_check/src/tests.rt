@@ -4,7 +4,7 @@ ghost use Rattle.plane_laws.specs.Completed.{IsCompleted};
 ghost use Rattle.pg_plane.specs.Range.{IsInRange};
 ghost use Rattle.drawings.specs.Drawing.{place};
 
-use crate::{FaceVerdict, Verdict, check, check_by_faces};
+use crate::{FaceVerdict, OuterVerdict, Verdict, check, check_by_faces, check_outer};
 use euler_faces::euler;
 use half_edges::{Ends, HalfMap, Rotations, VertexId};
 use pg_plane::{GridFigure, Point, Points};
@@ -150,6 +150,18 @@ fn a_vertex_on_an_edge(rt: HostRuntime) -> Result<(), Fail> {
         )?,
         Verdict::OnEdge(VertexId(2), one)
     );
+    // three on one edge: the least is named, and not the nearest to an end
+    assert_eq!(rt;
+        verdict_of(
+            &rt,
+            rt.alloc(),
+            &[&[1], &[0], &[], &[], &[]],
+            &[(0, 0), (8, 4), (4, 2), (2, 1), (6, 3)],
+            8,
+            4
+        )?,
+        Verdict::OnEdge(VertexId(2), one)
+    );
     // an isolated vertex
     assert_eq!(rt;
         verdict_of(
@@ -230,5 +242,91 @@ fn faces_of_k4(rt: HostRuntime) -> Result<(), Fail> {
         assert!(rt; fig.points.len() == map.n() as usize && are_in_range(&fig.points));
         assert_eq!(rt; check_by_faces(&map, base, &fig), verdict);
     }
+    Ok(())
+}
+
+// The verdict on the face left of the dart from `u` to `v`.
+fn outer_of(
+    rt: &impl Abort,
+    alloc: Global,
+    given: &[&[u16]],
+    places: &[(i32, i32)],
+    u: u16,
+    v: u16,
+) -> Result<OuterVerdict, Fail> {
+    let map = map_of(rt, alloc, given)?;
+    let fig = figure_of(alloc, places, 0, 0)?;
+    assert!(rt; u < map.n() && v < map.n());
+    assert!(rt; fig.points.len() == map.n() as usize && are_in_range(&fig.points));
+    let base = map.dart_of(VertexId(u), VertexId(v)).ok_or("no dart")?;
+    Ok(check_outer(alloc, &map, base, &fig)?)
+}
+
+#[test]
+fn outer_faces_of_k4(rt: HostRuntime) -> Result<(), Fail> {
+    let places: [(i32, i32); 4] = [(4, 0), (0, 0), (2, 1), (2, 2)];
+    assert_eq!(rt;
+        outer_of(&rt, rt.alloc(), K4, &places, 0, 1)?,
+        OuterVerdict::Yes
+    );
+    // another base leaves the outer face among the others
+    assert_eq!(rt;
+        outer_of(&rt, rt.alloc(), K4, &places, 1, 0)?,
+        OuterVerdict::Inside(VertexId(0), VertexId(1))
+    );
+    let mirrored: [(i32, i32); 4] = [(0, 0), (4, 0), (2, 1), (2, 2)];
+    assert_eq!(rt;
+        outer_of(&rt, rt.alloc(), K4, &mirrored, 0, 1)?,
+        OuterVerdict::Inside(VertexId(0), VertexId(2))
+    );
+    Ok(())
+}
+
+#[test]
+fn outer_faces_of_triangles(rt: HostRuntime) -> Result<(), Fail> {
+    let one: &[&[u16]] = &[&[1, 2], &[2, 0], &[0, 1]];
+    let places: [(i32, i32); 3] = [(0, 0), (2, 8), (8, 0)];
+    assert_eq!(rt;
+        outer_of(&rt, rt.alloc(), one, &places, 0, 1)?,
+        OuterVerdict::Yes
+    );
+    assert_eq!(rt;
+        outer_of(&rt, rt.alloc(), one, &places, 0, 2)?,
+        OuterVerdict::Inside(VertexId(0), VertexId(1))
+    );
+    // in line: no area is not a positive one
+    let flat: [(i32, i32); 3] = [(0, 0), (1, 0), (2, 0)];
+    assert_eq!(rt;
+        outer_of(&rt, rt.alloc(), one, &flat, 0, 1)?,
+        OuterVerdict::Inside(VertexId(0), VertexId(2))
+    );
+    // two components, and an isolated vertex: nothing is asked
+    let two: &[&[u16]] = &[&[1, 2], &[2, 0], &[0, 1], &[4], &[3]];
+    let inside: [(i32, i32); 5] = [(0, 0), (2, 8), (8, 0), (2, 2), (3, 2)];
+    assert_eq!(rt;
+        outer_of(&rt, rt.alloc(), two, &inside, 0, 2)?,
+        OuterVerdict::Yes
+    );
+    let alone: &[&[u16]] = &[&[1, 2], &[2, 0], &[0, 1], &[]];
+    let beside: [(i32, i32); 4] = [(0, 0), (2, 8), (8, 0), (1, 4)];
+    assert_eq!(rt;
+        outer_of(&rt, rt.alloc(), alone, &beside, 0, 2)?,
+        OuterVerdict::Yes
+    );
+    Ok(())
+}
+
+#[test]
+fn the_widest_face(rt: HostRuntime) -> Result<(), Fail> {
+    let square: &[&[u16]] = &[&[1, 3], &[2, 0], &[3, 1], &[0, 2]];
+    let corners: [(i32, i32); 4] = [(-MOST, -MOST), (MOST, -MOST), (MOST, MOST), (-MOST, MOST)];
+    assert_eq!(rt;
+        outer_of(&rt, rt.alloc(), square, &corners, 0, 3)?,
+        OuterVerdict::Yes
+    );
+    assert_eq!(rt;
+        outer_of(&rt, rt.alloc(), square, &corners, 0, 1)?,
+        OuterVerdict::Inside(VertexId(0), VertexId(3))
+    );
     Ok(())
 }

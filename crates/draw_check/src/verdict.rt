@@ -31,3 +31,13 @@ pub enum FaceVerdict {
     /// There is no such vertex and no such face.
     Yes,
 }
+
+/// Whether the face left of a base dart is the outer one of a drawing.
+#[derive(Clone, Copy, Debug, PartialEq, Eq)]
+pub enum OuterVerdict {
+    /// The map is connected, and this is the least dart, by its tail and then by its head, whose face is
+    /// not the base's and has an area that is not positive.
+    Inside(VertexId, VertexId),
+    /// The map is not connected, or there is no such dart.
+    Yes,
+}

@@ -1,14 +1,9 @@
-use Rattle.std.proofs.Common.{◌-◌, length}
-use Rattle.map_definitions.specs.Maps.{list_of}
-use Rattle.draw_check.specs.Loops.{IsMet, IsLeastOf}
-use Rattle.draw_check.proofs.RoundLemmas.{LeavesFrom, place_at}
+use Rattle.draw_check.specs.Loops.{IsMet}
+use Rattle.draw_check.proofs.LeastRounds.{IsRound, left_of_round}
 use Rattle.draw_check.proofs.edges.least_met_round.Given as goal
 
 abbrev pub invariant-round : goal.invariant-round
-invariant-round l = record {
-  dart : LeavesFrom l.map l.fn.a.0 l.d.0;
-  best : IsLeastOf (IsMet l.map.lists l.points l.fn.probe l.fn.a.0) (list_of l.map.lists l.fn.a.0) (place_at l.map l.fn.a.0 l.d.0) l.best;
-}
+invariant-round l = IsRound l.map (IsMet l.map.lists l.points l.fn.probe l.fn.a.0) l.fn.a.0 l.d.0 l.best
 
 abbrev pub decreases-round : goal.decreases-round
-decreases-round l = length (list_of l.map.lists l.a.0) - place_at l.map l.a.0 l.d.0
+decreases-round l = left_of_round l.map l.fn.a.0 l.d.0

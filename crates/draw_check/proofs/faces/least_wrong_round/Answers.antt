@@ -1,19 +1,16 @@
-use Rattle.std.proofs.Common.{ℕ, ◌+◌, sym, subst, arith}
-use Rattle.map_definitions.specs.Maps.{list_of}
 use Rattle.draw_check.specs.FaceVerdicts.{IsWrongFrom}
-use Rattle.draw_check.specs.Loops.{IsLeastOf}
-use Rattle.draw_check.proofs.LeastLemmas.{IsLeast-from_all}
-use Rattle.draw_check.proofs.RoundLemmas.{head_at, place_at, at_place, place_at-later, LeavesFrom-later}
+use Rattle.draw_check.proofs.LeastRounds.{IsRound-first, IsRound-later, left_of_round-later, IsRound-last}
+use Rattle.draw_check.proofs.RoundLemmas.{head_at}
 use Rattle.draw_check.proofs.faces.least_wrong_round.Goals as goal
+
+pub round-init : goal.round-init
+round-init c = IsRound-first c.args.map.now _ c.args.a.0 c.args.first.0 c.requires.first
 
 pub round-smaller : goal.round-smaller
 round-smaller c =
     let map = c.args.map.now in
-    let v = c.args.a.0 in
     let d = c.round.d.0 in
-    let within = (at_place map c.requires.drawn.known v d c.round.invariant.dart).0 in
-    let later = place_at-later map v d c.in-Some.next.0 (c.in-Some.ensures v (head_at map d) c.round.invariant.dart) in
-    omega arith
+    left_of_round-later map _ c.args.a.0 d c.requires.drawn.known _ c.better_wrong-best.result c.round.invariant _ (c.in-Some.ensures c.args.a.0 (head_at map d) c.round.invariant.dart)
 
 pub round-preserved : goal.round-preserved
 round-preserved c =
@@ -21,15 +18,7 @@ round-preserved c =
     let v = c.args.a.0 in
     let d = c.round.d.0 in
     let dart = c.round.invariant.dart in
-    let at = at_place map c.requires.drawn.known v d dart in
-    let next = c.in-Some.ensures v (head_at map d) dart in
-    record {
-      dart = LeavesFrom-later map v d c.in-Some.next.0 next;
-      best =
-          subst (λ (k : ℕ). IsLeastOf (IsWrongFrom map c.args.points.now c.args.base.0 v) (list_of map.lists v) k c.better_wrong-best.result)
-          (sym (place_at-later map v d c.in-Some.next.0 next))
-          (c.better_wrong-best.ensures (head_at map d) dart (list_of map.lists v) (place_at map v d) at.1 c.round.invariant.best);
-    }
+    IsRound-later map _ v d c.requires.drawn.known _ _ c.round.invariant _ (c.in-Some.ensures v (head_at map d) dart) (c.better_wrong-best.ensures (head_at map d) dart)
 
 pub returns-in-None : goal.returns-in-None
 returns-in-None c =
@@ -37,8 +26,5 @@ returns-in-None c =
     let v = c.args.a.0 in
     let d = c.round.d.0 in
     let dart = c.round.invariant.dart in
-    let at = at_place map c.requires.drawn.known v d dart in
-    IsLeast-from_all (IsWrongFrom map c.args.points.now c.args.base.0 v) (list_of map.lists v) (place_at map v d + 1) c.better_wrong-best.result
-    (c.in-None.ensures v (head_at map d) dart)
-    (λ x wrong. wrong.drawn_wrong.dart.1)
-    (c.better_wrong-best.ensures (head_at map d) dart (list_of map.lists v) (place_at map v d) at.1 c.round.invariant.best)
+    IsRound-last map (IsWrongFrom map c.args.points.now c.args.base.0 v) v d c.requires.drawn.known _ c.better_wrong-best.result c.round.invariant (c.in-None.ensures v (head_at map d) dart)
+    (λ x wrong. wrong.drawn_wrong.dart.1) (c.better_wrong-best.ensures (head_at map d) dart)

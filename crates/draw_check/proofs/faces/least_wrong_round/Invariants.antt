@@ -1,15 +1,9 @@
-use Rattle.std.proofs.Common.{◌-◌, length}
-use Rattle.map_definitions.specs.Maps.{list_of}
 use Rattle.draw_check.specs.FaceVerdicts.{IsWrongFrom}
-use Rattle.draw_check.specs.Loops.{IsLeastOf}
-use Rattle.draw_check.proofs.RoundLemmas.{LeavesFrom, place_at}
+use Rattle.draw_check.proofs.LeastRounds.{IsRound, left_of_round}
 use Rattle.draw_check.proofs.faces.least_wrong_round.Given as goal
 
 abbrev pub invariant-round : goal.invariant-round
-invariant-round l = record {
-  dart : LeavesFrom l.map l.fn.a.0 l.d.0;
-  best : IsLeastOf (IsWrongFrom l.map l.points l.fn.base.0 l.fn.a.0) (list_of l.map.lists l.fn.a.0) (place_at l.map l.fn.a.0 l.d.0) l.best;
-}
+invariant-round l = IsRound l.map (IsWrongFrom l.map l.points l.fn.base.0 l.fn.a.0) l.fn.a.0 l.d.0 l.best
 
 abbrev pub decreases-round : goal.decreases-round
-decreases-round l = length (list_of l.map.lists l.a.0) - place_at l.map l.a.0 l.d.0
+decreases-round l = left_of_round l.map l.fn.a.0 l.d.0
