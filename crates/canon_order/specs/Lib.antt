@@ -1,0 +1,2 @@
+-- Canonical orders, and how they are found.
+pub mod Orders
