@@ -1,0 +1,2 @@
+-- What the laws of vertices taken off rest on.
+mod Cases
