@@ -1,1 +1,7 @@
 -- Lemmas on canonical orders.
+mod Laws
+mod Built
+mod Lefts
+mod SomeOrder
+mod Counters
+mod Marks

@@ -31,14 +31,21 @@ pub record IsBuiltUp (lists : Lists) (s t : ℕ) (at : List ℕ) (cycle : ℕ �
   pub outer : (k : ℕ) → 3 ≤ k → k ≤ length at → IsOuterCycle (restricted (stands_in (take k at)) lists) s t (cycle k)
   pub put : (k : ℕ) → 2 ≤ k → k < length at → IsPutOn lists (take (suc k) at) (slice_index at k) (cycle k) (cycle (suc k))
 
--- The dart (x, y) is on a face that is made where a vertex is put on: that vertex, and two that follow one another on the cycle before.
-pub record IsMade (at : List ℕ) (cycle : ℕ → List ℕ) (x y : ℕ) : Type 0 where
+-- The dart (x, y) is on a face that is made where a vertex v is put on: v, and two vertices a and b that follow one another on the cycle before.
+pub record IsMade (lists : Lists) (at : List ℕ) (cycle : ℕ → List ℕ) (x y : ℕ) : Type 0 where
   pub k : ℕ
   pub i : ℕ
+  pub v : ℕ
+  pub a : ℕ
+  pub b : ℕ
   pub later : 2 ≤ k
   pub within : k < length at
-  pub on : suc i < length (cycle k)
-  pub dart : IsDartOfThree (slice_index at k) (slice_index (cycle k) i) (slice_index (cycle k) (suc i)) x y
+  pub vertex : slice_index at k ≡ v
+  pub inside : suc i < length (cycle k)
+  pub one : slice_index (cycle k) i ≡ a
+  pub next : slice_index (cycle k) (suc i) ≡ b
+  pub face : IsFaceOfThree lists v a b
+  pub dart : IsDartOfThree v a b x y
 
 -- A canonical order for the base dart (t, s): all vertices once, s first, t second, and the third vertex of the face of (t, s) last; built up so that the faces made are all but the face of (t, s).
 pub record IsCanonicalOrder (lists : Lists) (base : Dart) (at : List ℕ) : Type 0 where
@@ -47,7 +54,7 @@ pub record IsCanonicalOrder (lists : Lists) (base : Dart) (at : List ℕ) : Type
   pub last : slice_index at (vertex_count lists - 1) ≡ follows lists base.1 base.0
   pub cycle : ℕ → List ℕ
   pub built : IsBuiltUp lists base.1 base.0 at cycle
-  pub faces : (x y : ℕ) → HasDart lists x y → ¬ IsDartOfThree base.0 base.1 (follows lists base.1 base.0) x y → IsMade at cycle x y
+  pub faces : (x y : ℕ) → HasDart lists x y → ¬ IsDartOfThree base.0 base.1 (follows lists base.1 base.0) x y → IsMade lists at cycle x y
 
 -- rank has the place of each vertex in a list
 pub record IsRankOf (rank at : List ℕ) : Type 0 where

@@ -1,6 +1,12 @@
 //! Canonical orders.
+ghost use Rattle.std.specs.Prelude.{◌≡◌, ◌<◌, ℕ, false, true, [], map, reverse, length, Some, IfOk};
+ghost use Rattle.map_definitions.specs.Maps.{HasDart, follows};
+ghost use Rattle.plane_laws.specs.Completed.{IsCompleted};
+ghost use Rattle.half_edges.specs.Map.{IsLive, dart_at};
+ghost use Rattle.canon_order.specs.Contours.{is_set, IsCounted};
+ghost use Rattle.canon_order.specs.Orders.{IsCanonicalOrder, IsRankOf};
 
-use crate::contour::{first_contour, free_vertex, take_off};
+use crate::contour::{free_vertex, mark_base, take_off};
 use crate::fault::OrderFault;
 use crate::lists::{turned_ranks, turned_vertices};
 use half_edges::{Counts, DartId, HalfMap, Rotations, VertexList};
@@ -15,24 +21,58 @@ pub struct Order {
     pub rank: Counts,
 }
 
-// The vertices from the last one to the first.
-fn taken_off(alloc: Global, lists: &Rotations, t: u16, s: u16, third: u16, under: u16) -> Result<Vec<u16>, AllocError>
+// Takes vertices off until three are left, and those too: from the last one of an order to the first. At
+// first all vertices are left, and none is marked.
+fn peel(marked: &mut [bool], kept: &mut [bool], counts: &mut [u16], stack: &mut Vec<u16>, taken: &mut Vec<u16>, lists: &Rotations, t: u16, s: u16, third: u16, under: u16) -> Result<(), AllocError>
+    requires completed { IsCompleted lists.now }
+    requires few { length lists.now < 4096 }
+    requires base { HasDart lists.now t s }
+    requires third { third ≡ follows lists.now s t }
+    requires under { under ≡ follows lists.now t s }
+    requires kept { length kept.old ≡ length lists.now }
+    requires all { (u : ℕ) → u < length lists.now → is_set kept.old u ≡ true }
+    requires counted { IsCounted lists.now marked.old counts.old stack.old.items }
+    requires none { (u : ℕ) → is_set marked.old u ≡ false }
+    requires nothing { taken.old.items ≡ [] }
+    ensures { IfOk result (λ _. IsCanonicalOrder lists.now (t, s) (reverse taken.new.items)) }
 {
-    let mut contour = first_contour(alloc, lists, t, s, third)?;
-    let mut taken = Vec::new(alloc);
+    mark_base(marked, counts, stack, lists, t, s, third)?;
     for _ in 3..lists.len() {
-        let v = free_vertex(&mut contour, t, s);
-        take_off(&mut contour, lists, v)?;
+        let v = free_vertex(marked, counts, stack, lists, t, s);
+        take_off(marked, kept, counts, stack, lists, v)?;
         taken.push(v)?;
     }
     taken.push(under)?;
     taken.push(t)?;
     taken.push(s)?;
+    Ok(())
+}
+
+// The vertices from the last one of an order to the first.
+fn taken_off(alloc: Global, lists: &Rotations, t: u16, s: u16, third: u16, under: u16) -> Result<Vec<u16>, AllocError>
+    requires completed { IsCompleted lists.now }
+    requires few { length lists.now < 4096 }
+    requires base { HasDart lists.now t s }
+    requires third { third ≡ follows lists.now s t }
+    requires under { under ≡ follows lists.now t s }
+    ensures { IfOk result (λ taken. IsCanonicalOrder lists.now (t, s) (reverse taken.items)) }
+{
+    let n = lists.len();
+    let mut marked = vec![in alloc; false; n]?;
+    let mut kept = vec![in alloc; true; n]?;
+    let mut counts = vec![in alloc; 0; n]?;
+    let mut stack = Vec::new(alloc);
+    let mut taken = Vec::new(alloc);
+    peel(&mut marked, &mut kept, &mut counts, &mut stack, &mut taken, lists, t, s, third, under)?;
     Ok(taken)
 }
 
 /// A canonical order.
 pub fn canon_order(alloc: Global, tri: &HalfMap, base: DartId) -> Result<Order, OrderFault>
+    requires completed { IsCompleted tri.now.lists }
+    requires live { IsLive tri.now base.0 }
+    ensures order { IfOk result (λ order. (t s : ℕ) → dart_at tri.now base.0 ≡ Some (t, s) → IsCanonicalOrder tri.now.lists (t, s) (map (λ v. v.0) order.at)) }
+    ensures rank { IfOk result (λ order. IsRankOf order.rank (map (λ v. v.0) order.at)) }
 {
     let lists = tri.rotations(alloc)?;
     let t = tri.tail(base).0;
