@@ -5,3 +5,4 @@ mod Lefts
 mod SomeOrder
 mod Counters
 mod Marks
+mod Contours

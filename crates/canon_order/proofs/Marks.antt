@@ -1,12 +1,12 @@
 -- Marks that are set and taken away, the counters of marked neighbours, and the stack.
-use Rattle.std.proofs.Common.{◌≡◌, ◌≢◌, ◌⊎◌, ℕ, zero, suc, ◌+◌, ◌<◌, ◌≤◌, ◌==◌, Bool, true, false, cond, eqb, List, [], ◌∷◌, ◌++◌, length, get_or, set, count_by, Contains, All, refl, sym, ap, ◌∙◌, subst, inl, inr, arith, eq-eqb, ne_eqb, length-set, get_or-set_same, get_or-set_other}
+use Rattle.std.proofs.Common.{◌≡◌, ◌≢◌, ◌⊎◌, ◌↔◌, ℕ, zero, suc, ◌+◌, ◌-◌, ◌<◌, ◌≤◌, ◌==◌, Bool, true, false, cond, eqb, List, [], ◌∷◌, ◌++◌, length, get_or, take, set, count_by, Contains, All, refl, sym, ap, ◌∙◌, subst, inl, inr, arith, eq-eqb, ne_eqb, length-set, get_or-set_same, get_or-set_other}
 use Rattle.std.proofs.lemmas.Bool.{cases_eq, cases_lt, cases_Bool, true≢false, false≢true}
-use Rattle.std.proofs.lemmas.List.{get_or_past}
+use Rattle.std.proofs.lemmas.List.{get_or_past, get_or_default, take_more, length-take-le, get_or-take}
 use Rattle.std.proofs.lemmas.List.Sums.{sum_by-cons, count_by-le-length}
-use Rattle.std.proofs.lemmas.List.Elements.{All-append, All-cons, All-nil, Contains-append_left, Contains-append_right, Contains-get_or}
+use Rattle.std.proofs.lemmas.List.Elements.{All-append, All-cons, All-nil, Contains-append_left, Contains-append_right, Contains-append_cases, Contains-get_or}
 use Rattle.map_lists.specs.Lists.{Lists}
 use Rattle.map_definitions.specs.Maps.{HasDart, IsSimpleMap, list_of}
-use Rattle.map_definitions.proofs.EntryLemmas.{count_of, count_of-le-one, Contains-from_count_of, Contains-counted, Contains-here}
+use Rattle.map_definitions.proofs.EntryLemmas.{count_of, count_of-le-one, Contains-from_count_of, Contains-counted, Contains-here, Contains-there, Contains-cons_cases}
 use Rattle.half_edges.proofs.TableArena.{few_entries}
 use Rattle.map_peeling.proofs.RestrictedMaps.{cases_Contains}
 use Rattle.canon_order.specs.Contours.{is_set, IsCounted, LooksFree, IsStacked}
@@ -143,3 +143,69 @@ module _ (t s : ℕ) (marked : List Bool) (counts stack : List ℕ) (v : ℕ) (u
       let within = is_set-lt marked u old in
       let zero' = not_counted u (λ c. none (Contains-append_right stack us u c)) in
       (old, omega (arith, less u (omega arith)))) h
+
+-- one more of a list marked, if it is kept
+pub marks-more : (p0 p1 p2 kept : ℕ → Bool) (us : List ℕ) (i : ℕ) → i < length us → ((u : ℕ) → (p1 u ≡ true) ↔ ((p0 u ≡ true) ⊎ (Contains (take i us) u × (kept u ≡ true)))) → ((u : ℕ) → (p2 u ≡ true) ↔ ((p1 u ≡ true) ⊎ ((u ≡ get_or us i 0) × (kept u ≡ true)))) → (u : ℕ) → (p2 u ≡ true) ↔ ((p0 u ≡ true) ⊎ (Contains (take (i + 1) us) u × (kept u ≡ true)))
+marks-more p0 p1 p2 kept us i l one two u =
+    let more = take_more us i 0 l in
+    let x = get_or us i 0 in
+    let grown : Contains (take i us) u ⊎ (u ≡ x) → Contains (take (i + 1) us) u = λ c. subst (λ (vs : List ℕ). Contains vs u) (sym more) (elim c [
+      | inl c' ↦ Contains-append_left (take i us) (x ∷ []) u c'
+      | inr e ↦ Contains-append_right (take i us) (x ∷ []) u (subst (λ z. Contains (x ∷ []) z) (sym e) (Contains-here x []))
+    ]) in (
+      (λ t. elim ((two u).0 t) [
+        | inl t' ↦ elim ((one u).0 t') [ inl t'' ↦ inl t'' | inr c ↦ inr (grown (inl c.0), c.1) ]
+        | inr e ↦ inr (grown (inr e.0), e.1)
+      ]),
+      λ h. (two u).1 (elim h [
+        | inl t ↦ inl ((one u).1 (inl t))
+        | inr c ↦ elim (Contains-append_cases (take i us) (x ∷ []) u (subst (λ (vs : List ℕ). Contains vs u) more c.0)) [
+          | inl c' ↦ inl ((one u).1 (inr (c', c.1)))
+          | inr c' ↦ elim (Contains-cons_cases x [] u c') [ inl e ↦ inr (sym e, c.1) | inr n ↦ absurd (omega (arith, n.1)) ]
+        ]
+      ]),
+    )
+
+-- all but the last entry of a stack, where the last one does not look free
+pub Contains-before_last : (us : List ℕ) (last u : ℕ) → last ≡ get_or us (length us - 1) last → Contains us u → u ≢ last → Contains (take (length us - 1) us) u
+Contains-before_last us last u e c ne =
+    let k = c.0 in
+    elim (cases_eq k (length us - 1)) [
+      | inl q ↦ absurd (ne (sym c.2 ∙ (get_or_default us k u last c.1 ∙ (ap (λ n. get_or us n last) q ∙ sym e))))
+      | inr d ↦
+          let l = c.1 in
+          let l' : k < length us - 1 = omega arith in
+          (k, omega (arith, length-take-le (length us - 1) us (omega arith)), get_or-take (length us - 1) us k u l' ∙ c.2)
+    ]
+
+-- three marked
+pub three_marked : (marked : List Bool) (t s w : ℕ) → ((u : ℕ) → is_set marked u ≡ false) → t < length marked → s < length marked → w < length marked → (u : ℕ) → (is_set (set (set (set marked t true) s true) w true) u ≡ true) ↔ Contains (s ∷ w ∷ t ∷ []) u
+three_marked marked t s w none lt ls lw u =
+    let one = set marked t true in
+    let two = set one s true in
+    let n1 = length-set marked t true in
+    let n2 = length-set one s true in
+    let at = λ (x : ℕ) (e : u ≡ x) (c : Contains (s ∷ w ∷ t ∷ []) x). subst (λ z. Contains (s ∷ w ∷ t ∷ []) z) (sym e) c in
+    let on_s = Contains-here s (w ∷ t ∷ []) in
+    let on_w = Contains-there s (w ∷ t ∷ []) w (Contains-here w (t ∷ [])) in
+    let on_t = Contains-there s (w ∷ t ∷ []) t (Contains-there w (t ∷ []) t (Contains-here t [])) in
+    elim (cases_eq u w) [
+      | inl e ↦ ((λ _. at w e on_w), λ _. ap (is_set (set two w true)) e ∙ is_set-here two w true (omega arith))
+      | inr nw ↦ elim (cases_eq u s) [
+        | inl e ↦ ((λ _. at s e on_s), λ _. is_set-other two w u true nw ∙ (ap (is_set two) e ∙ is_set-here one s true (omega arith)))
+        | inr ns ↦ elim (cases_eq u t) [
+          | inl e ↦ ((λ _. at t e on_t), λ _. is_set-other two w u true nw ∙ (is_set-other one s u true ns ∙ (ap (is_set one) e ∙ is_set-here marked t true lt)))
+          | inr nt ↦
+              let left = is_set-other two w u true nw ∙ (is_set-other one s u true ns ∙ (is_set-other marked t u true nt ∙ none u)) in (
+                (λ passes. absurd (false≢true (sym left ∙ passes))),
+                λ c. absurd (elim (Contains-cons_cases s (w ∷ t ∷ []) u c) [
+                  | inl e ↦ ns (sym e)
+                  | inr c' ↦ elim (Contains-cons_cases w (t ∷ []) u c') [
+                    | inl e ↦ nw (sym e)
+                    | inr c'' ↦ elim (Contains-cons_cases t [] u c'') [ inl e ↦ nt (sym e) | inr n ↦ omega (arith, n.1) ]
+                  ]
+                ]),
+              )
+        ]
+      ]
+    ]

@@ -1,5 +1,5 @@
 //! Canonical orders.
-ghost use Rattle.std.specs.Prelude.{◌≡◌, ◌<◌, ℕ, false, true, [], map, reverse, length, Some, IfOk};
+ghost use Rattle.std.specs.Prelude.{◌≡◌, ◌<◌, ℕ, false, true, [], ◌∷◌, ◌++◌, map, reverse, length, Some, IfOk};
 ghost use Rattle.map_definitions.specs.Maps.{HasDart, follows};
 ghost use Rattle.plane_laws.specs.Completed.{IsCompleted};
 ghost use Rattle.half_edges.specs.Map.{IsLive, dart_at};
@@ -19,6 +19,16 @@ pub struct Order {
     pub at: VertexList,
     /// For each vertex its place in `at`, from 0.
     pub rank: Counts,
+}
+
+// Appends three vertices.
+fn push_three(taken: &mut Vec<u16>, first: u16, second: u16, third: u16) -> Result<(), AllocError>
+    ensures { IfOk result (λ _. taken.new.items ≡ taken.old.items ++ first ∷ second ∷ third ∷ []) }
+{
+    taken.push(first)?;
+    taken.push(second)?;
+    taken.push(third)?;
+    Ok(())
 }
 
 // Takes vertices off until three are left, and those too: from the last one of an order to the first. At
@@ -42,10 +52,7 @@ fn peel(marked: &mut [bool], kept: &mut [bool], counts: &mut [u16], stack: &mut 
         take_off(marked, kept, counts, stack, lists, v)?;
         taken.push(v)?;
     }
-    taken.push(under)?;
-    taken.push(t)?;
-    taken.push(s)?;
-    Ok(())
+    push_three(taken, under, t, s)
 }
 
 // The vertices from the last one of an order to the first.
