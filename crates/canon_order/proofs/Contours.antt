@@ -1,9 +1,10 @@
 -- The outer cycle as marks: how it begins, that some vertex looks free, one taken off, and how it ends.
-use Rattle.std.proofs.Common.{◌≡◌, ◌≢◌, ◌⊎◌, ◌↔◌, ℕ, zero, suc, ◌+◌, ◌<◌, Bool, true, false, List, [], ◌∷◌, ◌++◌, length, get_or, set, Contains, AllPairs, refl, sym, ap, ◌∙◌, subst, inl, inr, arith, lt-ltb, ltb, ltb-true}
+use Rattle.std.proofs.Common.{◌≡◌, ◌≢◌, ◌⊎◌, ◌↔◌, ℕ, zero, suc, ◌+◌, ◌<◌, Bool, true, false, List, [], ◌∷◌, ◌++◌, length, get_or, set, Contains, All, AllPairs, reverse, refl, sym, ap, ◌∙◌, subst, inl, inr, arith, lt-ltb, ltb, ltb-true}
 use Rattle.std.proofs.lemmas.Bool.{cases_eq, cases_Bool, true≢false, false≢true, false_from_ne_true}
+use Rattle.std.proofs.lemmas.List.{length-reverse}
 use Rattle.label_classes.specs.Classes.{count_below}
 use Rattle.map_lists.specs.Lists.{Lists}
-use Rattle.map_definitions.specs.Maps.{HasDart, list_of, follows}
+use Rattle.map_definitions.specs.Maps.{Dart, HasDart, list_of, follows}
 use Rattle.plane_laws.specs.Completed.{IsCompleted}
 use Rattle.map_peeling.specs.Restricted.{restricted, kept_but}
 use Rattle.map_peeling.specs.NearTriangulations.{IsFree}
@@ -12,6 +13,7 @@ use Rattle.canon_order.specs.Orders.{IsCanonicalOrder}
 use Rattle.canon_order.specs.Lefts.{IsLeft}
 use Rattle.canon_order.specs.Contours.{is_set, IsCounted, LooksFree, IsContour}
 use Rattle.canon_order.proofs.Lefts.{IsLeft-begin, IsLeft-taken, IsLeft-three}
+use Rattle.canon_order.proofs.Counters.{All-from_reverse, AllPairs-from_reverse}
 use Rattle.canon_order.proofs.Marks.{is_set-here, is_set-other, is_set-lt}
 use Rattle.canon_order.proofs.Laws.{some_free, free_by_count, free_taken_off, cycle_after}
 
@@ -110,3 +112,13 @@ module _ (lists : Lists) (t s : ℕ) (completed : IsCompleted lists) where
         where
           on_kept' : (v : ℕ) → Contains h.ws v → is_set kept v ≡ true
           on_kept' v on = (restricted-old lists (is_set kept) completed.simple v _ (h.left.peeled.near.cycle.darts v on)).1
+
+-- the vertices taken off, from the last to the first, are all of them, each once
+pub taken_within : (lists : Lists) (base : Dart) (us : List ℕ) → IsCanonicalOrder lists base (reverse us) → All (λ v. v < length us) us
+taken_within lists base us h =
+    let n = length-reverse us in
+    let count = h.count in
+    λ k d l. let lt = All-from_reverse (λ v. v < length lists) us h.vertices k d l in omega arith
+
+pub taken_apart : (lists : Lists) (base : Dart) (us : List ℕ) → IsCanonicalOrder lists base (reverse us) → AllPairs ◌≢◌ us
+taken_apart lists base us h = AllPairs-from_reverse us h.built.once

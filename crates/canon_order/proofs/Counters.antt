@@ -61,3 +61,21 @@ IsRankOf-turned rank taken n within distinct h =
           let place : length taken - 1 - get_or rank v 0 ≡ c.0 = omega arith in
           get_or-reverse taken (get_or rank v 0) 0 (omega arith) ∙ (ap (λ z. get_or taken z 0) place ∙ at);
     }
+
+-- a list from its end
+pub AllPairs-from_reverse : (us : List ℕ) → AllPairs ◌≢◌ (reverse us) → AllPairs ◌≢◌ us
+AllPairs-from_reverse us h = λ i j d l m e.
+    let n = length-reverse us in
+    let a = get_or-reverse us (length us - 1 - i) d (omega arith) in
+    let b = get_or-reverse us (length us - 1 - j) d (omega arith) in
+    let i' : length us - 1 - (length us - 1 - i) ≡ i = omega arith in
+    let j' : length us - 1 - (length us - 1 - j) ≡ j = omega arith in
+    h (length us - 1 - j) (length us - 1 - i) d (omega arith) (omega arith)
+    (b ∙ (ap (λ k. get_or us k d) j' ∙ (sym e ∙ sym (a ∙ ap (λ k. get_or us k d) i'))))
+
+pub All-from_reverse : (P : ℕ → Type 0) (us : List ℕ) → All P (reverse us) → All P us
+All-from_reverse P us h = λ k d l.
+    let n = length-reverse us in
+    let a = get_or-reverse us (length us - 1 - k) d (omega arith) in
+    let k' : length us - 1 - (length us - 1 - k) ≡ k = omega arith in
+    subst P (a ∙ ap (λ i. get_or us i d) k') (h (length us - 1 - k) d (omega arith))

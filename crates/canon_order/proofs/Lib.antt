@@ -6,3 +6,4 @@ mod SomeOrder
 mod Counters
 mod Marks
 mod Contours
+mod BaseDarts

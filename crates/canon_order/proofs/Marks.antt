@@ -209,3 +209,17 @@ three_marked marked t s w none lt ls lw u =
         ]
       ]
     ]
+
+-- no marks
+count_by-none : (p : ℕ → Bool) → ((u : ℕ) → p u ≡ false) → (us : List ℕ) → count_by p us ≡ 0
+count_by-none p none [] = refl
+count_by-none p none (x ∷ us) =
+    omega (arith, count_by-none p none us, sum_by-cons (λ u. cond (p u) 1 0) x us, ap {B = ℕ} (λ b. cond b 1 0) (none x))
+
+pub IsCounted-none : (lists : Lists) (marked : List Bool) (counts : List ℕ) → length marked ≡ length lists → length counts ≡ length lists → ((u : ℕ) → is_set marked u ≡ false) → ((v : ℕ) → v < length lists → get_or counts v 0 ≡ 0) → IsCounted lists marked counts []
+IsCounted-none lists marked counts m n none zeros = record {
+  marks = m;
+  counters = n;
+  counted = λ v l. zeros v l ∙ sym (count_by-none (is_set marked) none (list_of lists v));
+  vertices = All-nil (λ v. v < length lists);
+}

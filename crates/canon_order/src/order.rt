@@ -1,9 +1,9 @@
 //! Canonical orders.
-ghost use Rattle.std.specs.Prelude.{◌≡◌, ◌<◌, ℕ, false, true, [], ◌∷◌, ◌++◌, map, reverse, length, Some, IfOk};
+ghost use Rattle.std.specs.Prelude.{◌≡◌, ◌<◌, ℕ, false, true, [], ◌∷◌, ◌++◌, map, reverse, length, slice_index, Some, IfOk};
 ghost use Rattle.map_definitions.specs.Maps.{HasDart, follows};
 ghost use Rattle.plane_laws.specs.Completed.{IsCompleted};
 ghost use Rattle.half_edges.specs.Map.{IsLive, dart_at};
-ghost use Rattle.canon_order.specs.Contours.{is_set, IsCounted};
+ghost use Rattle.canon_order.specs.Contours.{is_set};
 ghost use Rattle.canon_order.specs.Orders.{IsCanonicalOrder, IsRankOf};
 
 use crate::contour::{free_vertex, mark_base, take_off};
@@ -41,8 +41,11 @@ fn peel(marked: &mut [bool], kept: &mut [bool], counts: &mut [u16], stack: &mut 
     requires under { under ≡ follows lists.now t s }
     requires kept { length kept.old ≡ length lists.now }
     requires all { (u : ℕ) → u < length lists.now → is_set kept.old u ≡ true }
-    requires counted { IsCounted lists.now marked.old counts.old stack.old.items }
+    requires marked { length marked.old ≡ length lists.now }
     requires none { (u : ℕ) → is_set marked.old u ≡ false }
+    requires counts { length counts.old ≡ length lists.now }
+    requires zeros { (u : ℕ) → u < length lists.now → slice_index counts.old u ≡ 0 }
+    requires empty { stack.old.items ≡ [] }
     requires nothing { taken.old.items ≡ [] }
     ensures { IfOk result (λ _. IsCanonicalOrder lists.now (t, s) (reverse taken.new.items)) }
 {
@@ -81,6 +84,7 @@ pub fn canon_order(alloc: Global, tri: &HalfMap, base: DartId) -> Result<Order, 
     ensures order { IfOk result (λ order. (t s : ℕ) → dart_at tri.now base.0 ≡ Some (t, s) → IsCanonicalOrder tri.now.lists (t, s) (map (λ v. v.0) order.at)) }
     ensures rank { IfOk result (λ order. IsRankOf order.rank (map (λ v. v.0) order.at)) }
 {
+    tri.facts();
     let lists = tri.rotations(alloc)?;
     let t = tri.tail(base).0;
     let s = tri.head(base).0;
