@@ -1,2 +1,6 @@
 -- What the laws of vertices taken off rest on.
 mod Cases
+pub mod Rings
+pub mod RestrictedMaps
+pub mod OuterCycles
+pub mod FreeVertices
