@@ -4,3 +4,6 @@ pub mod Rings
 pub mod RestrictedMaps
 pub mod OuterCycles
 pub mod FreeVertices
+pub mod Fans
+pub mod CycleAfter
+pub mod TakenOff

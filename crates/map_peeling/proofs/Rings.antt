@@ -224,3 +224,31 @@ Leads-marked mark next x (w ∷ l) t step h z c =
       | inl e ↦ ap mark (sym e)
       | inr c' ↦ Leads-marked mark next w l t (λ y d. step y (Contains-there x (w ∷ l) y d)) h.1 z c' ∙ (ap mark (sym h.0) ∙ step x (Contains-here x (w ∷ l)))
     ]
+
+-- where a way begins and ends
+pub Leads-first : (next : ℕ → ℕ) (x : ℕ) (us : List ℕ) (t d : ℕ) → 0 < length us → Leads next x us t → get_or us 0 d ≡ next x
+Leads-first next x [] t d some h = absurd (omega arith)
+Leads-first next x (w ∷ us) t d some h = sym h.0
+
+pub Leads-last : (next : ℕ → ℕ) (x : ℕ) (us : List ℕ) (t d : ℕ) → 0 < length us → Leads next x us t → get_or us (length us - 1) d ≡ t
+Leads-last next x [] t d some h = absurd (omega arith)
+Leads-last next x (w ∷ us) t d some h =
+    let end = Leads-end next x w us t h in
+    ap (λ l. get_or l (length l - 1) d) end.1 ∙ last-entry end.0 t d
+
+-- A ring parted at three entries that follow one another, of which the last entry may be the third alone.
+pub parted_round : (next : ℕ → ℕ) (us : List ℕ) (t p v q : ℕ) → Leads next t us t → Contains us p → next p ≡ v → next v ≡ q → p ≢ t → v ≢ t → (front : List ℕ) × (back : List ℕ) × (us ≡ front ++ p ∷ v ∷ q ∷ back) × Leads next t (front ++ p ∷ []) p × Leads next q back t
+parted_round next us t p v q h c e e' n n' =
+    let parts = parted_at us p c in
+    let way = Leads-part next t parts.0 (p ∷ parts.1) t (subst (λ l. Leads next t l t) parts.2 h) in
+    let rest = two parts.1 way.2.1 in
+    let upto : Leads next way.0 (p ∷ []) p = (way.2.0, refl) in
+    (parts.0, rest.0, parts.2 ∙ ap (λ l. parts.0 ++ p ∷ l) rest.1, Leads-join next t parts.0 way.0 (p ∷ []) p way.1 upto, rest.2)
+  where
+    two : (l : List ℕ) → Leads next p l t → (back : List ℕ) × (l ≡ v ∷ q ∷ back) × Leads next q back t
+    two [] g = absurd (n g)
+    two (a ∷ []) g = absurd (n' (sym e ∙ (g.0 ∙ g.1)))
+    two (a ∷ b ∷ l) g =
+        let first : a ≡ v = sym g.0 ∙ e in
+        let second : b ≡ q = sym g.1.0 ∙ (ap next first ∙ e') in
+        (l, ap₂ (λ x y. x ∷ y ∷ l) first second, subst (λ x. Leads next x l t) second g.1.1)

@@ -37,10 +37,10 @@ FreeByCount =
 -- After a vertex is taken off, those on the outer cycle are those that were on it, without the vertex, and its neighbours.
 abbrev pub CycleAfter : Type 0
 CycleAfter =
-    (lists : Lists) (kept : ℕ → Bool) (s t : ℕ) (ws : List ℕ) (v : ℕ) (front : List ℕ) (p : ℕ) (mid : List ℕ) (q : ℕ) (back : List ℕ) → IsPeeled lists kept s t ws → IsTakenOff lists kept s t ws v front p mid q back → (u : ℕ) → Contains (front ++ p ∷ mid ++ q ∷ back) u ↔ ((Contains ws u × (u ≢ v)) ⊎ HasDart (restricted kept lists) v u)
+    (lists : Lists) (kept : ℕ → Bool) (s t : ℕ) (ws : List ℕ) (v : ℕ) (front : List ℕ) (p : ℕ) (mid : List ℕ) (q : ℕ) (back : List ℕ) → IsPeeled lists kept s t ws → IsTakenOff lists kept s t ws v front p mid q back → (u : ℕ) → Contains (front ++ (p ∷ mid ++ q ∷ back)) u ↔ ((Contains ws u × (u ≢ v)) ⊎ HasDart (restricted kept lists) v u)
 
 -- A dart of what was left that is not on the outer cycle is one of what is left after a vertex is taken off, and not on its outer cycle, or lies on a face of the vertex taken off and two of its neighbours that follow one another.
 abbrev pub FanCovers : Type 0
 FanCovers =
     (lists : Lists) (kept : ℕ → Bool) (s t : ℕ) (ws : List ℕ) (v : ℕ) (front : List ℕ) (p : ℕ) (mid : List ℕ) (q : ℕ) (back : List ℕ) → IsPeeled lists kept s t ws → IsTakenOff lists kept s t ws v front p mid q back → (x y : ℕ) → HasDart (restricted kept lists) x y → ¬ IsOuterDart ws x y
-    → (HasDart (restricted (kept_but kept v) lists) x y × ¬ IsOuterDart (front ++ p ∷ mid ++ q ∷ back) x y) ⊎ ((i : ℕ) × (i < length mid + 1) × IsDartOfThree v (slice_index (p ∷ mid ++ q ∷ []) i) (slice_index (p ∷ mid ++ q ∷ []) (i + 1)) x y)
+    → (HasDart (restricted (kept_but kept v) lists) x y × ¬ IsOuterDart (front ++ (p ∷ mid ++ q ∷ back)) x y) ⊎ ((i : ℕ) × (i < length mid + 1) × IsDartOfThree v (slice_index (p ∷ mid ++ q ∷ []) i) (slice_index (p ∷ mid ++ q ∷ []) (i + 1)) x y)
