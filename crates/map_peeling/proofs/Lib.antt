@@ -7,3 +7,5 @@ pub mod FreeVertices
 pub mod Fans
 pub mod CycleAfter
 pub mod TakenOff
+pub mod Counted
+pub mod Steps

@@ -252,3 +252,9 @@ parted_round next us t p v q h c e e' n n' =
         let first : a ≡ v = sym g.0 ∙ e in
         let second : b ≡ q = sym g.1.0 ∙ (ap next first ∙ e') in
         (l, ap₂ (λ x y. x ∷ y ∷ l) first second, subst (λ x. Leads next x l t) second g.1.1)
+
+-- each entry of a way is what the function gives at the one before
+pub Leads-at : (next : ℕ → ℕ) (x : ℕ) (l : List ℕ) (t d i : ℕ) → Leads next x l t → i < length l → get_or (x ∷ l) (suc i) d ≡ next (get_or (x ∷ l) i d)
+Leads-at next x [] t d i h n = absurd (omega arith)
+Leads-at next x (w ∷ l) t d zero h n = sym h.0
+Leads-at next x (w ∷ l) t d (suc i) h n = Leads-at next w l t d i h.1 (omega arith)
