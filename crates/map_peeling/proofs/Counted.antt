@@ -1,14 +1,15 @@
 -- The kept vertices, counted; and marks in connected maps.
-use Rattle.std.proofs.Common.{◌≡◌, ◌≢◌, ◌⊎◌, ℕ, ◌+◌, ◌<◌, ◌≤◌, Bool, true, false, List, length, get_or, Contains, refl, sym, ap, ◌∙◌, subst, inl, inr, arith, ◌==◌}
+use Rattle.std.proofs.Common.{◌≡◌, ◌≢◌, ◌⊎◌, ℕ, ◌+◌, ◌<◌, ◌≤◌, Bool, true, false, List, length, get_or, AllPairs, Contains, refl, sym, ap, ◌∙◌, subst, inl, inr, arith, ◌==◌}
 use Rattle.std.specs.List.{list_any}
 use Rattle.std.proofs.lemmas.Bool.{cases_Bool, true≢false, false_from_ne_true}
+use Rattle.std.proofs.lemmas.List.Elements.{Contains-get_or}
 use Rattle.label_classes.specs.Classes.{count_below}
 use Rattle.label_classes.proofs.Counting.{count_below_into, count_below_all, count_below_weaker}
 use Rattle.label_classes.proofs.Classes.{length-classes}
 use Rattle.map_lists.specs.Lists.{Lists}
 use Rattle.map_definitions.specs.Maps.{HasDart, IsSimpleMap, component_count, component_classes, darts, place_of}
 use Rattle.map_definitions.proofs.EntryLemmas.{Contains-from_list_any, list_any-from_Contains}
-use Rattle.map_definitions.proofs.DartLemmas.{place_of-lt-length, get_or-place_of}
+use Rattle.map_definitions.proofs.DartLemmas.{place_of-lt-length, get_or-place_of, place_of-get_or}
 use Rattle.euler_bound.proofs.DartPermutations.{dart_of, dart_of-number, dart_of-twin, components, components-marked, IsLabels-components}
 use Rattle.plane_laws.proofs.EdgeBound.{one_class}
 
@@ -27,6 +28,16 @@ pub count_below-within : (p : ℕ → Bool) (ws : List ℕ) (n : ℕ) → ((u : 
 count_below-within p ws n within =
     let most = count_below_weaker p (λ u. list_any (λ w. w == u) ws) n (λ u l t. list_any-from_Contains u ws (within u l t)) in
     let list = count_below-list ws n in
+    omega arith
+
+-- and numbers without repeats are as many as their list has entries
+pub list-count_below : (ws : List ℕ) (n : ℕ) → AllPairs ◌≢◌ ws → ((u : ℕ) → Contains ws u → u < n) → length ws ≤ count_below (λ u. list_any (λ w. w == u) ws) n
+list-count_below ws n distinct within =
+    let at : (i : ℕ) → i < length ws → Contains ws (get_or ws i 0) = λ i l. Contains-get_or ws i 0 l in
+    let into = count_below_into (λ i. get_or ws i 0) (λ i. true) (λ u. list_any (λ w. w == u) ws) (length ws) n
+    (λ i l t. (within (get_or ws i 0) (at i l), list_any-from_Contains (get_or ws i 0) ws (at i l)))
+    (λ i j l m t t' e. sym (place_of-get_or ws i 0 distinct l) ∙ (ap (λ z. place_of z ws) e ∙ place_of-get_or ws j 0 distinct m)) in
+    let all = count_below_all (length ws) in
     omega arith
 
 -- in a connected map marks that go over to neighbours are everywhere

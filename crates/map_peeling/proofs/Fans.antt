@@ -58,7 +58,7 @@ module _ (lists : Lists) (kept : ℕ → Bool) (s t : ℕ) (ws : List ℕ) (v : 
       (
         f,
         record {
-          dart = (restricted-old lists kept whole v z d).0;
+          dart = (restricted-old lists kept v z d).0;
           second = sym (peeled.inner v z d not_first);
           third = sym (peeled.inner z y f'.dart not_second) ∙ f.third;
           round = sym (peeled.inner y v f''.dart not_third) ∙ f.round;

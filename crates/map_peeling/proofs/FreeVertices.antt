@@ -35,10 +35,10 @@ module _ (lists : Lists) (s t : ℕ) (ws : List ℕ) (simple : IsSimpleMap lists
   on_is u c = list_any-from_Contains u ws c
 
   kept_dart : (x y : ℕ) → Contains ws x → Contains ws y → HasDart lists x y → HasDart rest x y
-  kept_dart x y c c' d = restricted-new lists on simple x y d (on_is x c) (on_is y c')
+  kept_dart x y c c' d = restricted-new lists on x y d (on_is x c) (on_is y c')
 
   old : (x y : ℕ) → HasDart rest x y → Contains ws x
-  old x y d = Contains-from_list_any x ws (restricted-old lists on simple x y d).1
+  old x y d = Contains-from_list_any x ws (restricted-old lists on x y d).1
 
   simple' : IsSimpleMap rest
   simple' = (restricted-map lists on simple).simple

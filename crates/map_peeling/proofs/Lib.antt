@@ -9,3 +9,4 @@ pub mod CycleAfter
 pub mod TakenOff
 pub mod Counted
 pub mod Steps
+pub mod Ends

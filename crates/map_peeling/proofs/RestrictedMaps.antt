@@ -6,7 +6,7 @@ use Rattle.label_classes.specs.Classes.{count_below}
 use Rattle.label_classes.proofs.Counting.{count_below_more, count_below_same}
 use Rattle.map_lists.specs.Lists.{Lists}
 use Rattle.map_definitions.specs.Maps.{list_of, HasDart, IsSimpleMap, IsPlane}
-use Rattle.map_definitions.proofs.EntryLemmas.{Contains-here, Contains-there, Contains-from_list_any, list_any-from_Contains}
+use Rattle.map_definitions.proofs.EntryLemmas.{Contains-here, Contains-there, Contains-from_filter, Contains-filter, Contains-from_list_any, list_any-from_Contains}
 use Rattle.map_edits.specs.Kept.{with_kept, IsKeptMap}
 use Rattle.map_edits.proofs.KeptEdges.{filter-all, list_of-with_kept, length-with_kept, same_kept, kept_edges}
 use Rattle.map_edits.proofs.Extended.{filter-filter}
@@ -40,14 +40,17 @@ pub length-restricted : (lists : Lists) (kept : ℕ → Bool) → length (restri
 length-restricted lists kept = length-with_kept (both kept) lists
 
 -- a dart of the restricted map is one whose two ends are kept
-pub restricted-old : (lists : Lists) (kept : ℕ → Bool) → IsSimpleMap lists → (v u : ℕ) → HasDart (restricted kept lists) v u → HasDart lists v u × (kept v ≡ true) × (kept u ≡ true)
-restricted-old lists kept simple v u d =
-    let old = ((restricted-map lists kept simple).darts v u).0 d in
-    let ends = and_parts (kept v) (kept u) old.1 in
-    (old.0, ends.0, ends.1)
+pub restricted-old : (lists : Lists) (kept : ℕ → Bool) (v u : ℕ) → HasDart (restricted kept lists) v u → HasDart lists v u × (kept v ≡ true) × (kept u ≡ true)
+restricted-old lists kept v u d =
+    let was = Contains-from_filter (both kept v) (list_of lists v) u (subst (λ l. Contains l u) (list_of-with_kept (both kept) lists v) d.1) in
+    let ends = and_parts (kept v) (kept u) was.1 in
+    ((subst (λ n. v < n) (length-restricted lists kept) d.0, was.0), ends.0, ends.1)
 
-pub restricted-new : (lists : Lists) (kept : ℕ → Bool) → IsSimpleMap lists → (v u : ℕ) → HasDart lists v u → kept v ≡ true → kept u ≡ true → HasDart (restricted kept lists) v u
-restricted-new lists kept simple v u d k k' = ((restricted-map lists kept simple).darts v u).1 (d, and_from (kept v) (kept u) k k')
+pub restricted-new : (lists : Lists) (kept : ℕ → Bool) (v u : ℕ) → HasDart lists v u → kept v ≡ true → kept u ≡ true → HasDart (restricted kept lists) v u
+restricted-new lists kept v u d k k' = (
+  subst (λ n. v < n) (sym (length-restricted lists kept)) d.0,
+  subst (λ l. Contains l u) (sym (list_of-with_kept (both kept) lists v)) (Contains-filter (both kept v) (list_of lists v) u d.1 (and_from (kept v) (kept u) k k')),
+)
 
 -- a map restricted twice
 pub restricted_again : (lists : Lists) (kept fewer : ℕ → Bool) → ((v : ℕ) → fewer v ≡ true → kept v ≡ true) → restricted fewer (restricted kept lists) ≡ restricted fewer lists

@@ -3,7 +3,7 @@ use Rattle.std.proofs.Common.{◌≡◌, ◌≢◌, ◌⊎◌, ℕ, zero, suc, �
 use Rattle.std.proofs.lemmas.List.{append-nil, append_assoc, length-append, get_or-append-add, get_or_append_left, get_or_past, get_or_default}
 use Rattle.std.proofs.lemmas.List.Elements.{Contains-append_left, Contains-append_right, Contains-append_cases}
 use Rattle.map_definitions.specs.Maps.{place_of, entry_after}
-use Rattle.map_definitions.proofs.EntryLemmas.{Contains-here, Contains-there, Contains-cons_cases, count_of, count_of-cons, count_of-append, Contains-from_count_of, Contains-counted, AllPairs-from_counts, count_of-le-one}
+use Rattle.map_definitions.proofs.EntryLemmas.{Contains-here, Contains-there, Contains-cons_cases, count_of, count_of-cons, count_of-append, Contains-from_count_of, Contains-counted, AllPairs-from_counts, AllPairs-append, count_of-le-one}
 use Rattle.map_definitions.proofs.DartLemmas.{place_of-get_or, place_of-lt-length, get_or-place_of, place_of-entry_after, Contains-entry_after, two_entries, place_after}
 use Rattle.std.proofs.lemmas.Bool.{cases_eq}
 use Rattle.std.proofs.lemmas.Bool.Decides.{nat_tests}
@@ -188,6 +188,13 @@ Contains-counts us vs same u c = Contains-from_count_of u vs (omega (arith, same
 
 pub AllPairs-counts : (us vs : List ℕ) → ((u : ℕ) → count_of u us ≡ count_of u vs) → AllPairs ◌≢◌ vs → AllPairs ◌≢◌ us
 AllPairs-counts us vs same distinct = AllPairs-from_counts us (λ u _. omega (arith, same u, count_of-le-one u vs distinct))
+
+-- one entry, and a list in which it does not stand
+pub AllPairs-put : (x : ℕ) (us : List ℕ) → ¬ Contains us x → AllPairs ◌≢◌ us → AllPairs ◌≢◌ (x ∷ us)
+AllPairs-put x us n distinct = AllPairs-append (x ∷ []) us (λ i j d l m. absurd (omega (arith, l, m))) distinct (λ u c c'. n (subst (Contains us) (alone u c) c'))
+  where
+    alone : (z : ℕ) → Contains (x ∷ []) z → z ≡ x
+    alone z c = elim (Contains-cons_cases x [] z c) [ inl e ↦ sym e | inr c' ↦ absurd (omega (arith, c'.1)) ]
 
 -- two entries that follow each other are all
 pub only_two : (us : List ℕ) (x y z : ℕ) → AllPairs ◌≢◌ us → Contains us x → entry_after x us ≡ y → entry_after y us ≡ x → Contains us z → (z ≡ x) ⊎ (z ≡ y)

@@ -44,11 +44,11 @@ all_on_cycle lists kept s t ws completed peeled closed =
       | inl k ↦
           elim (cases_Bool (kept x)) [
             | inr out ↦ on_is u (peeled.border u x k (whole.both_ways x u d) out)
-            | inl k' ↦ on_is u (closed x u (is_on x k' m) (restricted-new lists kept whole x u d k' k))
+            | inl k' ↦ on_is u (closed x u (is_on x k' m) (restricted-new lists kept x u d k' k))
           ]
     ] in
     let first = first_on (restricted kept lists) s t ws simple cycle in
-    let in_first = (restricted-old lists kept whole s (entry_after s ws) (cycle.darts s first)).0.0 in
+    let in_first = (restricted-old lists kept s (entry_after s ws) (cycle.darts s first)).0.0 in
     count_below-within kept ws (length lists) (λ u l k. is_on u k (marks_everywhere lists whole one mark over s u in_first l (on_is s first)))
 
 module _ (lists : Lists) (kept : ℕ → Bool) (s t : ℕ) (ws : List ℕ) (v : ℕ) (completed : IsCompleted lists) (peeled : IsPeeled lists kept s t ws) (free : IsFree (restricted kept lists) s t ws v) where
@@ -246,5 +246,5 @@ module _ (lists : Lists) (kept : ℕ → Bool) (s t : ℕ) (ws : List ℕ) (v : 
 pub free_taken_off : FreeTakenOff
 free_taken_off lists kept s t ws v completed peeled many free =
     let d = peeled.near.cycle.darts v free.on in
-    let old = restricted-old lists kept completed.simple v (entry_after v ws) d in
+    let old = restricted-old lists kept v (entry_after v ws) d in
     (step_here lists kept s t ws v completed peeled free many, count-kept_but kept v (length lists) old.0.0 old.1)

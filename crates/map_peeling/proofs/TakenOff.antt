@@ -42,17 +42,17 @@ module _ (lists : Lists) (kept : ℕ → Bool) (s t : ℕ) (ws : List ℕ) (v : 
 
   old : (x y : ℕ) → HasDart M' x y → HasDart M x y × (x ≢ v) × (y ≢ v)
   old x y d =
-      let o = restricted-old lists but whole x y d in
+      let o = restricted-old lists but x y d in
       let kx = kept_but-old kept v x o.1 in
       let ky = kept_but-old kept v y o.2 in
-      (restricted-new lists kept whole x y o.0 kx.0 ky.0, kx.1, ky.1)
+      (restricted-new lists kept x y o.0 kx.0 ky.0, kx.1, ky.1)
 
   is_but : (x y : ℕ) → HasDart M x y → x ≢ v → but x ≡ true
-  is_but x y d n = kept_but-new kept v x (restricted-old lists kept whole x y d).1 n
+  is_but x y d n = kept_but-new kept v x (restricted-old lists kept x y d).1 n
 
   new : (x y : ℕ) → HasDart M x y → x ≢ v → y ≢ v → HasDart M' x y
   new x y d n n' =
-      restricted-new lists but whole x y (restricted-old lists kept whole x y d).0 (is_but x y d n) (is_but y x (sM.both_ways x y d) n')
+      restricted-new lists but x y (restricted-old lists kept x y d).0 (is_but x y d n) (is_but y x (sM.both_ways x y d) n')
 
   -- what follows what, without v
   turn_same : (x u : ℕ) → HasDart M' x u → follows M x u ≢ v → follows M' x u ≡ follows M x u
@@ -252,7 +252,7 @@ module _ (lists : Lists) (kept : ℕ → Bool) (s t : ℕ) (ws : List ℕ) (v : 
               | inl k ↦
                   elim (cases_eq u v) [
                     | inr n ↦ absurd (true≢false (sym (kept_but-new kept v u k n) ∙ out))
-                    | inl e ↦ after_on y (inr (sM.both_ways y v (restricted-new lists kept whole y v (subst (HasDart lists y) e d) is.0 (subst (λ w. kept w ≡ true) e k))))
+                    | inl e ↦ after_on y (inr (sM.both_ways y v (restricted-new lists kept y v (subst (HasDart lists y) e d) is.0 (subst (λ w. kept w ≡ true) e k))))
                   ]
             ];
       }
