@@ -10,3 +10,4 @@ pub mod TakenOff
 pub mod Counted
 pub mod Steps
 pub mod Ends
+pub mod FreeCounts
