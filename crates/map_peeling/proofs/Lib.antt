@@ -11,3 +11,4 @@ pub mod Counted
 pub mod Steps
 pub mod Ends
 pub mod FreeCounts
+pub mod Covers
