@@ -13,9 +13,9 @@ use Rattle.plane_laws.specs.Laws.{IsTriangle}
 use Rattle.plane_laws.proofs.Triangles.{triangles_where_met}
 use Rattle.map_peeling.specs.Restricted.{restricted, IsFaceOfThree}
 use Rattle.map_peeling.specs.NearTriangulations.{IsOuterCycle, IsOuterDart, IsNearTriangulation, IsFree}
-use Rattle.map_peeling.specs.Peeled.{IsPeeled}
+use Rattle.map_peeling.specs.Peeled.{IsPeeled, IsFan}
 use Rattle.map_peeling.specs.Laws.{NothingTakenOff, ThreeLeft}
-use Rattle.map_peeling.proofs.Rings.{entry_after-inside, entry_after-last, AllPairs-put}
+use Rattle.map_peeling.proofs.Rings.{entry_after-inside, entry_after-last, AllPairs-put, each_of_one, each_of_two, each_of_three}
 use Rattle.map_peeling.proofs.RestrictedMaps.{restricted_all, restricted-old}
 use Rattle.map_peeling.proofs.OuterCycles.{IsFaceOfThree-turned, IsFaceOfThree-triangle, inner_face}
 use Rattle.map_peeling.proofs.Counted.{list-count_below}
@@ -45,12 +45,8 @@ module _ (lists : Lists) (s t : ℕ) (completed : IsCompleted lists) (base : Has
   distinct : AllPairs ◌≢◌ ws
   distinct =
       let one = AllPairs-put t [] (λ c. absurd (omega (arith, c.1))) (λ i j d l m. absurd (omega (arith, m))) in
-      let two = AllPairs-put r (t ∷ []) (λ c. elim (Contains-cons_cases t [] r c) [ inl e ↦ simple.no_loop r t face''.dart e | inr c' ↦ absurd (omega (arith, c'.1)) ]) one in
-      AllPairs-put s (r ∷ t ∷ []) (λ c.
-      elim (Contains-cons_cases r (t ∷ []) s c) [
-        | inl e ↦ simple.no_loop s r face'.dart e
-        | inr c' ↦ elim (Contains-cons_cases t [] s c') [ inl e ↦ simple.no_loop t s base (sym e) | inr c'' ↦ absurd (omega (arith, c''.1)) ]
-      ]) two
+      let two = AllPairs-put r (t ∷ []) (λ c. each_of_one (λ z. z ≡ r → ⊥) t (simple.no_loop r t face''.dart) r c refl) one in
+      AllPairs-put s (r ∷ t ∷ []) (λ c. each_of_two (λ z. z ≡ s → ⊥) r t (simple.no_loop s r face'.dart) (λ e. simple.no_loop t s base (sym e)) s c refl) two
 
   first_on : entry_after s ws ≡ r
   first_on = entry_after-inside [] s r (t ∷ []) distinct
@@ -71,18 +67,7 @@ module _ (lists : Lists) (s t : ℕ) (completed : IsCompleted lists) (base : Has
 
   each_step : (x : ℕ) → Contains ws x → IsStep x
   each_step x c =
-      elim (Contains-cons_cases s (r ∷ t ∷ []) x c) [
-        | inl e ↦ subst IsStep e (step_at s r t first_on second_on face')
-        | inr c' ↦
-            elim (Contains-cons_cases r (t ∷ []) x c') [
-              | inl e ↦ subst IsStep e (step_at r t s second_on last_on face'')
-              | inr c'' ↦
-                  elim (Contains-cons_cases t [] x c'') [
-                    | inl e ↦ subst IsStep e (step_at t s r last_on first_on face)
-                    | inr none ↦ absurd (omega (arith, none.1))
-                  ]
-            ]
-      ]
+      each_of_three IsStep s r t (step_at s r t first_on second_on face') (step_at r t s second_on last_on face'') (step_at t s r last_on first_on face) x c
 
   base_cycle : IsOuterCycle lists s t ws
   unfolding IsStep
@@ -140,7 +125,7 @@ module _ (lists : Lists) (kept : ℕ → Bool) (s t : ℕ) (ws : List ℕ) (peel
   three_of (a ∷ b ∷ c ∷ []) n e e' = (b, ap₂ (λ x y. x ∷ b ∷ y ∷ []) e e')
   three_of (a ∷ b ∷ c ∷ d ∷ us) n e e' = absurd (omega arith)
 
-  three_here : (x : ℕ) × (ws ≡ s ∷ x ∷ t ∷ []) × IsFaceOfThree lists x s t
+  three_here : (x : ℕ) × (ws ≡ s ∷ x ∷ t ∷ []) × IsFaceOfThree lists x s t × ((u : ℕ) → u < length lists → kept u ≡ true → Contains ws u)
   three_here =
       let found = three_of ws counts.0 cM.first cM.last in
       let x = found.0 in
@@ -163,14 +148,7 @@ module _ (lists : Lists) (kept : ℕ → Bool) (s t : ℕ) (ws : List ℕ) (peel
       let f'' = IsFaceOfThree-turned M t z s simple f' in
       let old = restricted-old lists kept z s f''.dart in
       let z_x : z ≡ x =
-      elim (Contains-cons_cases s (x ∷ t ∷ []) z (subst (λ l. Contains l z) e (counts.1 z old.0.0 old.1))) [
-        | inl q ↦ absurd (simple.no_loop z s f''.dart q)
-        | inr c ↦
-            elim (Contains-cons_cases x (t ∷ []) z c) [
-              | inl q ↦ sym q
-              | inr c' ↦ elim (Contains-cons_cases t [] z c') [ inl q ↦ absurd (simple.no_loop t z f'.dart (sym q)) | inr none ↦ absurd (omega (arith, none.1)) ]
-            ]
-      ] in
+      each_of_three (λ w. w ≡ z → w ≡ x) s x t (λ q. absurd (simple.no_loop z s f''.dart q)) (λ q. refl) (λ q. absurd (simple.no_loop t z f'.dart (sym q))) z (subst (λ l. Contains l z) e (counts.1 z old.0.0 old.1)) refl in
       let out2 : ¬ IsOuterDart ws t z = λ o. x_not_s (sym t_s ∙ (o.1 ∙ z_x)) in
       let out3 : ¬ IsOuterDart ws z s = λ o. s_not_t (sym o.1 ∙ (ap (λ w. entry_after w ws) z_x ∙ x_t)) in
       (
@@ -182,8 +160,30 @@ module _ (lists : Lists) (kept : ℕ → Bool) (s t : ℕ) (ws : List ℕ) (peel
           third = sym (peeled.inner s t d out1);
           round = sym (peeled.inner t z f'.dart out2) ∙ f'.second;
         },
+        counts.1,
       )
 
 -- THE LAW: three left
 pub three_left : ThreeLeft
 three_left lists kept s t ws peeled three = three_here lists kept s t ws peeled three
+
+-- and then the third vertex has the base's two as its neighbours
+pub three_fan : (lists : Lists) (kept : ℕ → Bool) (s t x : ℕ) → IsPeeled lists kept s t (s ∷ x ∷ t ∷ []) → IsFaceOfThree lists x s t → ((u : ℕ) → u < length lists → kept u ≡ true → Contains (s ∷ x ∷ t ∷ []) u) → IsFan lists kept x s [] t
+three_fan lists kept s t x peeled f only =
+    let M = restricted kept lists in
+    let simple = peeled.near.simple in
+    let cycle = peeled.near.cycle in
+    let distinct = cycle.distinct in
+    let on_s = Contains-here s (x ∷ t ∷ []) in
+    let on_x = Contains-there s (x ∷ t ∷ []) x (Contains-here x (t ∷ [])) in
+    let to_s = simple.both_ways s x (subst (HasDart M s) (entry_after-inside [] s x (t ∷ []) distinct) (cycle.darts s on_s)) in
+    let to_t = subst (HasDart M x) (entry_after-inside (s ∷ []) x t [] distinct) (cycle.darts x on_x) in
+    record {
+      neighbours = λ u. (
+        (λ d.
+        let old = restricted-old lists kept u x (simple.both_ways x u d) in
+        each_of_three (λ w. w ≡ u → Contains (s ∷ t ∷ []) w) s x t (λ _. Contains-here s (t ∷ [])) (λ q. absurd (simple.no_loop x u d (sym q))) (λ _. Contains-there s (t ∷ []) t (Contains-here t [])) u (only u old.0.0 old.1) refl),
+        λ c. each_of_two (HasDart M x) s t to_s to_t u c,
+      );
+      faces = λ i l. let z : i ≡ 0 = omega arith in rw z f;
+    }

@@ -189,12 +189,20 @@ Contains-counts us vs same u c = Contains-from_count_of u vs (omega (arith, same
 pub AllPairs-counts : (us vs : List ℕ) → ((u : ℕ) → count_of u us ≡ count_of u vs) → AllPairs ◌≢◌ vs → AllPairs ◌≢◌ us
 AllPairs-counts us vs same distinct = AllPairs-from_counts us (λ u _. omega (arith, same u, count_of-le-one u vs distinct))
 
+-- what is so of one, two and three entries is so of each of a list of them
+pub each_of_one : (P : ℕ → Type 0) (a : ℕ) → P a → (x : ℕ) → Contains (a ∷ []) x → P x
+each_of_one P a h x c = elim (Contains-cons_cases a [] x c) [ inl e ↦ subst P e h | inr c' ↦ absurd (omega (arith, c'.1)) ]
+
+pub each_of_two : (P : ℕ → Type 0) (a b : ℕ) → P a → P b → (x : ℕ) → Contains (a ∷ b ∷ []) x → P x
+each_of_two P a b h h' x c = elim (Contains-cons_cases a (b ∷ []) x c) [ inl e ↦ subst P e h | inr c' ↦ each_of_one P b h' x c' ]
+
+pub each_of_three : (P : ℕ → Type 0) (a b c : ℕ) → P a → P b → P c → (x : ℕ) → Contains (a ∷ b ∷ c ∷ []) x → P x
+each_of_three P a b c h h' h'' x d = elim (Contains-cons_cases a (b ∷ c ∷ []) x d) [ inl e ↦ subst P e h | inr d' ↦ each_of_two P b c h' h'' x d' ]
+
 -- one entry, and a list in which it does not stand
 pub AllPairs-put : (x : ℕ) (us : List ℕ) → ¬ Contains us x → AllPairs ◌≢◌ us → AllPairs ◌≢◌ (x ∷ us)
-AllPairs-put x us n distinct = AllPairs-append (x ∷ []) us (λ i j d l m. absurd (omega (arith, l, m))) distinct (λ u c c'. n (subst (Contains us) (alone u c) c'))
-  where
-    alone : (z : ℕ) → Contains (x ∷ []) z → z ≡ x
-    alone z c = elim (Contains-cons_cases x [] z c) [ inl e ↦ sym e | inr c' ↦ absurd (omega (arith, c'.1)) ]
+AllPairs-put x us n distinct =
+    AllPairs-append (x ∷ []) us (λ i j d l m. absurd (omega (arith, l, m))) distinct (λ u c. each_of_one (λ z. ¬ Contains us z) x n u c)
 
 -- two entries that follow each other are all
 pub only_two : (us : List ℕ) (x y z : ℕ) → AllPairs ◌≢◌ us → Contains us x → entry_after x us ≡ y → entry_after y us ≡ x → Contains us z → (z ≡ x) ⊎ (z ≡ y)

@@ -14,7 +14,7 @@ use Rattle.map_peeling.specs.Restricted.{restricted, kept_but, IsFaceOfThree}
 use Rattle.map_peeling.specs.NearTriangulations.{IsOuterCycle, IsFree}
 use Rattle.map_peeling.specs.Peeled.{IsPeeled, IsFan, IsTakenOff}
 use Rattle.map_peeling.specs.Laws.{FreeTakenOff}
-use Rattle.map_peeling.proofs.Rings.{Leads, Leads-part, Leads-join, Leads-in, Leads-same, Leads-at, Contains-counts, AllPairs-counts, last-entry, parted_round, only_two}
+use Rattle.map_peeling.proofs.Rings.{Leads, Leads-part, Leads-join, Leads-in, Leads-same, Leads-at, Contains-counts, AllPairs-counts, last-entry, parted_round, only_two, each_of_two, each_of_three}
 use Rattle.map_peeling.proofs.RestrictedMaps.{cases_Contains, restricted-old, restricted-new, count-kept_but, length-restricted}
 use Rattle.map_peeling.proofs.OuterCycles.{round, last_on, first_on, next-on}
 use Rattle.map_peeling.proofs.Counted.{count_below-within, marks_everywhere}
@@ -178,34 +178,15 @@ module _ (lists : Lists) (kept : ℕ → Bool) (s t : ℕ) (ws : List ℕ) (v : 
         let q_p : follows M q p ≡ v = ap (λ z. follows M z p) (sym p_v) ∙ (fan lists kept s t ws v whole peeled free p d_p pq).0.third in
         let on_q = next-on M s t ws sM cM v free.on in
         let d_q = cM.darts v free.on in
-        elim (three x (subst (λ l. Contains l x) (was ∙ ap₂ (λ l r. l ++ p ∷ v ∷ q ∷ r) no_front no_back) c)) [
-          | inl e ↦
-              let at_p : HasDart M p u = subst (λ z. HasDart M z u) e d in
-              let p_to_v = sM.both_ways v p d_p in
-              elim (only_two (list_of M p) v q u (sM.no_repeat p at_p.0) p_to_v.1 p_v p_q at_p.1) [ inl h ↦ subst (Contains ws) (sym h) free.on | inr h ↦ subst (Contains ws) (sym h) on_q ]
-          | inr r ↦ elim r [
-            | inl e ↦
-                let at_v = Contains-counts (list_of M v) nbrs (λ w. sym (counts w)) u (subst (λ z. HasDart M z u) e d).1 in
-                elim (Contains-cons_cases p (q ∷ []) u (subst (λ l. Contains (p ∷ l ++ q ∷ []) u) no_mid at_v)) [
-                  | inl h ↦ subst (Contains ws) h on_p
-                  | inr h ↦ subst (Contains ws) (sym (alone q u h)) on_q
-                ]
-            | inr e ↦
-                let at_q : HasDart M q u = subst (λ z. HasDart M z u) e d in
-                let q_to_v = sM.both_ways v q d_q in
-                elim (only_two (list_of M q) v p u (sM.no_repeat q at_q.0) q_to_v.1 q_v q_p at_q.1) [ inl h ↦ subst (Contains ws) (sym h) free.on | inr h ↦ subst (Contains ws) (sym h) on_p ]
-          ]
-        ]
-      where
-        alone : (a z : ℕ) → Contains (a ∷ []) z → z ≡ a
-        alone a z c = elim (Contains-cons_cases a [] z c) [ inl e ↦ sym e | inr c' ↦ absurd (omega (arith, c'.1)) ]
-
-        three : (z : ℕ) → Contains (p ∷ v ∷ q ∷ []) z → (z ≡ p) ⊎ ((z ≡ v) ⊎ (z ≡ q))
-        three z c =
-            elim (Contains-cons_cases p (v ∷ q ∷ []) z c) [
-              | inl e ↦ inl (sym e)
-              | inr c' ↦ elim (Contains-cons_cases v (q ∷ []) z c') [ inl e ↦ inr (inl (sym e)) | inr c'' ↦ inr (inr (alone q z c'')) ]
-            ]
+        let at_p : HasDart M p u → Contains ws u = λ d'.
+        let p_to_v = sM.both_ways v p d_p in
+        elim (only_two (list_of M p) v q u (sM.no_repeat p d'.0) p_to_v.1 p_v p_q d'.1) [ inl h ↦ subst (Contains ws) (sym h) free.on | inr h ↦ subst (Contains ws) (sym h) on_q ] in
+        let at_v : HasDart M v u → Contains ws u = λ d'.
+        each_of_two (Contains ws) p q on_p on_q u (subst (λ l. Contains (p ∷ l ++ q ∷ []) u) no_mid (Contains-counts (list_of M v) nbrs (λ w. sym (counts w)) u d'.1)) in
+        let at_q : HasDart M q u → Contains ws u = λ d'.
+        let q_to_v = sM.both_ways v q d_q in
+        elim (only_two (list_of M q) v p u (sM.no_repeat q d'.0) q_to_v.1 q_v q_p d'.1) [ inl h ↦ subst (Contains ws) (sym h) free.on | inr h ↦ subst (Contains ws) (sym h) on_p ] in
+        each_of_three (λ z. HasDart M z u → Contains ws u) p v q at_p at_v at_q x (subst (λ l. Contains l x) (was ∙ ap₂ (λ l r. l ++ p ∷ v ∷ q ∷ r) no_front no_back) c) d
 
     -- with more than three vertices left, the new cycle has three
     long_after : 3 < count_below kept (length lists) → 3 ≤ length after

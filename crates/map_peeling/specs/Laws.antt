@@ -24,10 +24,10 @@ FreeTakenOff =
     (lists : Lists) (kept : ℕ → Bool) (s t : ℕ) (ws : List ℕ) (v : ℕ) → IsCompleted lists → IsPeeled lists kept s t ws → 3 < count_below kept (length lists) → IsFree (restricted kept lists) s t ws v
     → ((front : List ℕ) × (p : ℕ) × (mid : List ℕ) × (q : ℕ) × (back : List ℕ) × IsTakenOff lists kept s t ws v front p mid q back) × (count_below kept (length lists) ≡ count_below (kept_but kept v) (length lists) + 1)
 
--- Where three vertices are left they are the two of the base and one more, and a face of the whole map on the other side of the base.
+-- Where three vertices are left they are the two of the base and one more, all on the outer cycle, and a face of the whole map on the other side of the base.
 abbrev pub ThreeLeft : Type 0
 ThreeLeft =
-    (lists : Lists) (kept : ℕ → Bool) (s t : ℕ) (ws : List ℕ) → IsPeeled lists kept s t ws → count_below kept (length lists) ≡ 3 → (x : ℕ) × (ws ≡ s ∷ x ∷ t ∷ []) × IsFaceOfThree lists x s t
+    (lists : Lists) (kept : ℕ → Bool) (s t : ℕ) (ws : List ℕ) → IsPeeled lists kept s t ws → count_below kept (length lists) ≡ 3 → (x : ℕ) × (ws ≡ s ∷ x ∷ t ∷ []) × IsFaceOfThree lists x s t × ((u : ℕ) → u < length lists → kept u ≡ true → Contains ws u)
 
 -- A vertex of the outer cycle that is not an end of the base has no chord exactly where two of its neighbours are on the cycle.
 abbrev pub FreeByCount : Type 0

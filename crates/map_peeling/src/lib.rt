@@ -23,8 +23,8 @@ pub fn free_taken_off()
     ensures { FreeTakenOff }
 {}
 
-/// Where three vertices are left, they are the two ends of the base and one more, and the face of the whole
-/// map on the other side of the base has these three.
+/// Where three vertices are left, they are the two ends of the base and one more, all on the outer cycle, and
+/// the face of the whole map on the other side of the base has these three.
 pub fn three_left()
     ensures { ThreeLeft }
 {}
