@@ -1,8 +1,7 @@
 -- The definitions, run on worked cases.
-use Rattle.std.proofs.Common.{◌≡◌, ◌≢◌, ◌⊎◌, ◌↔◌, ℕ, zero, suc, ◌+◌, ◌<◌, ◌≤◌, Bool, true, false, eqb, not, List, [], ◌∷◌, length, get_or, AllPairs, Contains, refl, sym, subst, inl, inr, arith}
+use Rattle.std.proofs.Common.{◌≡◌, ◌≢◌, ◌⊎◌, ℕ, zero, suc, ◌+◌, ◌<◌, true, eqb, not, List, [], ◌∷◌, get_or, AllPairs, Contains, refl, subst, inl, inr, arith}
 use Rattle.map_lists.specs.Lists.{Lists}
-use Rattle.map_definitions.specs.Maps.{HasDart, follows, entry_after, list_of}
-use Rattle.map_definitions.proofs.EntryLemmas.{Contains-here, Contains-there}
+use Rattle.map_definitions.specs.Maps.{HasDart, follows, entry_after}
 use Rattle.map_peeling.specs.Restricted.{restricted, kept_but, IsFaceOfThree}
 use Rattle.map_peeling.specs.NearTriangulations.{IsOuterCycle, IsFree}
 use Rattle.map_peeling.specs.Peeled.{IsFan}

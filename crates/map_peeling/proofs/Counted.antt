@@ -1,5 +1,5 @@
 -- The kept vertices, counted; and marks in connected maps.
-use Rattle.std.proofs.Common.{◌≡◌, ◌≢◌, ◌⊎◌, ℕ, ◌+◌, ◌<◌, ◌≤◌, Bool, true, false, List, length, get_or, AllPairs, Contains, refl, sym, ap, ◌∙◌, subst, inl, inr, arith, ◌==◌}
+use Rattle.std.proofs.Common.{◌≡◌, ◌≢◌, ℕ, ◌<◌, ◌≤◌, Bool, true, List, length, get_or, AllPairs, Contains, refl, sym, ap, ◌∙◌, inl, inr, arith, ◌==◌}
 use Rattle.std.specs.List.{list_any}
 use Rattle.std.proofs.lemmas.Bool.{cases_Bool, true≢false, false_from_ne_true}
 use Rattle.std.proofs.lemmas.List.Elements.{Contains-get_or}
@@ -10,7 +10,7 @@ use Rattle.map_lists.specs.Lists.{Lists}
 use Rattle.map_definitions.specs.Maps.{HasDart, IsSimpleMap, component_count, component_classes, darts, place_of}
 use Rattle.map_definitions.proofs.EntryLemmas.{Contains-from_list_any, list_any-from_Contains}
 use Rattle.map_definitions.proofs.DartLemmas.{place_of-lt-length, get_or-place_of, place_of-get_or}
-use Rattle.euler_bound.proofs.DartPermutations.{dart_of, dart_of-number, dart_of-twin, components, components-marked, IsLabels-components}
+use Rattle.euler_bound.proofs.DartPermutations.{dart_of, dart_of-number, dart_of-twin, components-marked, IsLabels-components}
 use Rattle.plane_laws.proofs.EdgeBound.{one_class}
 
 -- a list has at least as many entries as numbers

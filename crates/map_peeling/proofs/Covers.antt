@@ -1,13 +1,13 @@
 -- What the outer cycle and the faces of a vertex taken off have to do with the cycle before.
-use Rattle.std.proofs.Common.{◌≡◌, ◌≢◌, ◌⊎◌, ◌↔◌, ℕ, zero, suc, ◌+◌, ◌-◌, ◌<◌, ◌≤◌, Bool, true, List, [], ◌∷◌, ◌++◌, length, get_or, AllPairs, Contains, refl, sym, ap, ap₂, ◌∙◌, subst, inl, inr, arith}
-use Rattle.std.proofs.lemmas.Bool.{cases_eq, cases_lt}
+use Rattle.std.proofs.Common.{◌≡◌, ◌≢◌, ◌⊎◌, ◌↔◌, ℕ, ◌+◌, ◌-◌, ◌<◌, Bool, List, [], ◌∷◌, ◌++◌, length, get_or, AllPairs, Contains, refl, sym, ap, ◌∙◌, subst, inl, inr, arith}
+use Rattle.std.proofs.lemmas.Bool.{cases_eq}
 use Rattle.std.proofs.lemmas.List.{append_assoc, length-append, get_or-append-add, get_or_default}
 use Rattle.map_lists.specs.Lists.{Lists}
 use Rattle.map_definitions.specs.Maps.{list_of, HasDart, IsSimpleMap, entry_after}
-use Rattle.map_definitions.proofs.EntryLemmas.{Contains-here, Contains-there, Contains-cons_cases, count_of, count_of-append, Contains-counted, Contains-from_count_of, count_of-le-one, AllPairs-from_counts}
+use Rattle.map_definitions.proofs.EntryLemmas.{Contains-here, Contains-there, count_of, count_of-append, Contains-counted, count_of-le-one, AllPairs-from_counts}
 use Rattle.std.proofs.lemmas.List.Elements.{Contains-append_left, Contains-append_right, Contains-append_cases}
 use Rattle.map_peeling.specs.Restricted.{restricted, kept_but, IsDartOfThree}
-use Rattle.map_peeling.specs.NearTriangulations.{IsOuterCycle, IsOuterDart}
+use Rattle.map_peeling.specs.NearTriangulations.{IsOuterDart}
 use Rattle.map_peeling.specs.Peeled.{IsPeeled, IsTakenOff}
 use Rattle.map_peeling.specs.Laws.{CycleAfter, FanCovers}
 use Rattle.map_peeling.proofs.Rings.{parted_at, last-entry, entry_after-inside, entry_after-last}
@@ -112,11 +112,10 @@ module _ (lists : Lists) (kept : ℕ → Bool) (s t : ℕ) (ws : List ℕ) (v : 
   run = same_counts nbrs (list_of M v) nbrs_distinct (simple.no_repeat v in_v) (λ u c. ((off.fan.neighbours u).1 c).1) (λ u c. (off.fan.neighbours u).0 (in_v, c))
 
   pub cycle_here : (u : ℕ) → Contains after u ↔ ((Contains ws u × (u ≢ v)) ⊎ HasDart M v u)
-  cycle_here u =
-      (
-        (λ c. elim (after_is ws front p v mid q back (list_of M v) distinct off.before (simple.no_repeat v in_v) run u c) [ inl h ↦ inl h | inr h ↦ inr (in_v, h) ]),
-        λ h. after_has ws front p v mid q back (list_of M v) distinct off.before (simple.no_repeat v in_v) run u (elim h [ inl c ↦ inl c | inr d ↦ inr d.1 ]),
-      )
+  cycle_here u = (
+    (λ c. elim (after_is ws front p v mid q back (list_of M v) distinct off.before (simple.no_repeat v in_v) run u c) [ inl h ↦ inl h | inr h ↦ inr (in_v, h) ]),
+    λ h. after_has ws front p v mid q back (list_of M v) distinct off.before (simple.no_repeat v in_v) run u (elim h [ inl c ↦ inl c | inr d ↦ inr d.1 ]),
+  )
 
   -- a dart on one of the faces of v
   abbrev OnFan : ℕ → ℕ → Type 0
@@ -183,8 +182,7 @@ module _ (lists : Lists) (kept : ℕ → Bool) (s t : ℕ) (ws : List ℕ) (v : 
           let at = inside_at f1 x (f2 ++ q ∷ []) 0 in
           let n1 = length-append f1 (x ∷ f2) in
           let n2 = ap length e in
-          let whole : after ≡ (front ++ f1) ++ (x ∷ f2 ++ q ∷ back) = ap (λ l. front ++ l) (row back) ∙ sym (append_assoc front f1 (x ∷ f2 ++ q ∷ back)) in
-          (
+          let whole : after ≡ (front ++ f1) ++ (x ∷ f2 ++ q ∷ back) = ap (λ l. front ++ l) (row back) ∙ sym (append_assoc front f1 (x ∷ f2 ++ q ∷ back)) in (
             length f1,
             omega arith,
             inr (inl (sym (ap (λ l. get_or l (length f1) 0) (row []) ∙ at.0), sym o.1 ∙ (head f2 whole ∙ sym (ap (λ l. get_or l (length f1 + 1) 0) (row []) ∙ at.1)))),

@@ -1,5 +1,5 @@
 -- The list of an outer cycle in which a vertex gives way to its neighbours, by counts.
-use Rattle.std.proofs.Common.{◌≡◌, ◌≢◌, ◌⊎◌, ℕ, ◌+◌, ◌<◌, ◌≤◌, eqb, List, [], ◌∷◌, ◌++◌, AllPairs, Contains, refl, sym, ap, ◌∙◌, inl, inr, arith}
+use Rattle.std.proofs.Common.{◌≡◌, ◌≢◌, ◌⊎◌, ℕ, ◌+◌, eqb, List, [], ◌∷◌, ◌++◌, AllPairs, Contains, refl, sym, ap, ◌∙◌, inl, inr, arith}
 use Rattle.std.proofs.lemmas.Bool.{cases_lt, cond-true, eq-eqb}
 use Rattle.map_definitions.proofs.EntryLemmas.{Contains-cons_cases, count_of, count_of-cons, count_of-append, Contains-counted, Contains-from_count_of, count_of-le-one, AllPairs-from_counts}
 use Rattle.map_peeling.proofs.RestrictedMaps.{cases_Contains}

@@ -1,18 +1,17 @@
 -- Where taking off begins, with the whole map, and where it ends, with three vertices.
-use Rattle.std.proofs.Common.{◌≡◌, ◌≢◌, ◌⊎◌, ℕ, zero, suc, ◌+◌, ◌-◌, ◌<◌, ◌≤◌, Bool, true, false, List, [], ◌∷◌, length, get_or, AllPairs, Contains, refl, sym, ap, ap₂, ◌∙◌, subst, inl, inr, arith, ◌==◌}
+use Rattle.std.proofs.Common.{◌≡◌, ◌≢◌, ℕ, ◌-◌, ◌<◌, Bool, true, List, [], ◌∷◌, length, get_or, AllPairs, Contains, refl, sym, ap, ap₂, ◌∙◌, subst, arith, ◌==◌}
 use Rattle.std.specs.List.{list_any}
 use Rattle.std.proofs.lemmas.Bool.{true≢false}
 use Rattle.label_classes.specs.Classes.{count_below}
 use Rattle.label_classes.proofs.Counting.{count_below_weaker, weaker_test_back}
 use Rattle.map_lists.specs.Lists.{Lists}
-use Rattle.map_definitions.specs.Maps.{list_of, HasDart, IsSimpleMap, IsPlane, follows, entry_after}
-use Rattle.map_definitions.proofs.EntryLemmas.{Contains-here, Contains-there, Contains-cons_cases, Contains-from_list_any, list_any-from_Contains}
-use Rattle.map_definitions.proofs.DartLemmas.{HasDart-follows}
+use Rattle.map_definitions.specs.Maps.{HasDart, IsSimpleMap, follows, entry_after}
+use Rattle.map_definitions.proofs.EntryLemmas.{Contains-here, Contains-there, Contains-from_list_any}
 use Rattle.plane_laws.specs.Completed.{IsCompleted}
 use Rattle.plane_laws.specs.Laws.{IsTriangle}
 use Rattle.plane_laws.proofs.Triangles.{triangles_where_met}
 use Rattle.map_peeling.specs.Restricted.{restricted, IsFaceOfThree}
-use Rattle.map_peeling.specs.NearTriangulations.{IsOuterCycle, IsOuterDart, IsNearTriangulation, IsFree}
+use Rattle.map_peeling.specs.NearTriangulations.{IsOuterCycle, IsOuterDart, IsNearTriangulation}
 use Rattle.map_peeling.specs.Peeled.{IsPeeled, IsFan}
 use Rattle.map_peeling.specs.Laws.{NothingTakenOff, ThreeLeft}
 use Rattle.map_peeling.proofs.Rings.{entry_after-inside, entry_after-last, AllPairs-put, each_of_one, each_of_two, each_of_three}
@@ -150,8 +149,7 @@ module _ (lists : Lists) (kept : ℕ → Bool) (s t : ℕ) (ws : List ℕ) (peel
       let z_x : z ≡ x =
       each_of_three (λ w. w ≡ z → w ≡ x) s x t (λ q. absurd (simple.no_loop z s f''.dart q)) (λ q. refl) (λ q. absurd (simple.no_loop t z f'.dart (sym q))) z (subst (λ l. Contains l z) e (counts.1 z old.0.0 old.1)) refl in
       let out2 : ¬ IsOuterDart ws t z = λ o. x_not_s (sym t_s ∙ (o.1 ∙ z_x)) in
-      let out3 : ¬ IsOuterDart ws z s = λ o. s_not_t (sym o.1 ∙ (ap (λ w. entry_after w ws) z_x ∙ x_t)) in
-      (
+      let out3 : ¬ IsOuterDart ws z s = λ o. s_not_t (sym o.1 ∙ (ap (λ w. entry_after w ws) z_x ∙ x_t)) in (
         x,
         e,
         subst (λ w. IsFaceOfThree lists w s t) z_x record {
@@ -181,8 +179,8 @@ three_fan lists kept s t x peeled f only =
     record {
       neighbours = λ u. (
         (λ d.
-        let old = restricted-old lists kept u x (simple.both_ways x u d) in
-        each_of_three (λ w. w ≡ u → Contains (s ∷ t ∷ []) w) s x t (λ _. Contains-here s (t ∷ [])) (λ q. absurd (simple.no_loop x u d (sym q))) (λ _. Contains-there s (t ∷ []) t (Contains-here t [])) u (only u old.0.0 old.1) refl),
+            let old = restricted-old lists kept u x (simple.both_ways x u d) in
+            each_of_three (λ w. w ≡ u → Contains (s ∷ t ∷ []) w) s x t (λ _. Contains-here s (t ∷ [])) (λ q. absurd (simple.no_loop x u d (sym q))) (λ _. Contains-there s (t ∷ []) t (Contains-here t [])) u (only u old.0.0 old.1) refl),
         λ c. each_of_two (HasDart M x) s t to_s to_t u c,
       );
       faces = λ i l. let z : i ≡ 0 = omega arith in rw z f;

@@ -1,17 +1,17 @@
 -- The neighbours of a vertex without a chord: they lead from the vertex before it to the one after it, and each two that follow one another are a face with it.
-use Rattle.std.proofs.Common.{◌≡◌, ◌≢◌, ◌⊎◌, ◌&&◌, ℕ, ◌+◌, ◌-◌, ◌<◌, ◌≤◌, Bool, true, false, cond, not, eqb, List, [], ◌∷◌, ◌++◌, length, AllPairs, Contains, refl, sym, ap, ◌∙◌, subst, inl, inr, arith, ◌==◌}
+use Rattle.std.proofs.Common.{◌≡◌, ◌≢◌, ◌⊎◌, ◌&&◌, ℕ, ◌+◌, ◌<◌, Bool, false, cond, not, eqb, List, [], ◌∷◌, ◌++◌, length, Contains, refl, sym, ap, ◌∙◌, subst, inl, inr, arith, ◌==◌}
 use Rattle.std.specs.List.{list_any}
-use Rattle.std.proofs.lemmas.Bool.{cases_eq, cases_lt, and_from, and_left, and_right, cond-true, cond-false, ne_eqb, eq-eqb, false_from_ne_true}
+use Rattle.std.proofs.lemmas.Bool.{and_from, and_left, and_right, cond-true, cond-false, ne_eqb, eq-eqb, false_from_ne_true}
 use Rattle.map_lists.specs.Lists.{Lists}
-use Rattle.map_definitions.specs.Maps.{list_of, HasDart, IsSimpleMap, IsPlane, follows, entry_after}
-use Rattle.map_definitions.proofs.EntryLemmas.{Contains-there, Contains-cons_cases, Contains-from_list_any, list_any-from_Contains, count_of, head_apart}
+use Rattle.map_definitions.specs.Maps.{list_of, HasDart, IsSimpleMap, follows, entry_after}
+use Rattle.map_definitions.proofs.EntryLemmas.{Contains-from_list_any, list_any-from_Contains, count_of, head_apart}
 use Rattle.map_definitions.proofs.DartLemmas.{HasDart-follows, entry_after-injective}
 use Rattle.map_peeling.specs.Restricted.{restricted, IsFaceOfThree}
-use Rattle.map_peeling.specs.NearTriangulations.{IsOuterCycle, IsOuterDart, IsNearTriangulation, IsFree}
+use Rattle.map_peeling.specs.NearTriangulations.{IsOuterCycle, IsOuterDart, IsFree}
 use Rattle.map_peeling.specs.Peeled.{IsPeeled}
 use Rattle.map_peeling.proofs.Rings.{Leads, Leads-part, Leads-in, Leads-end, Leads-back, ring_from, Contains-counts, AllPairs-counts}
 use Rattle.map_peeling.proofs.RestrictedMaps.{cases_Contains, restricted-old}
-use Rattle.map_peeling.proofs.OuterCycles.{entry_before, IsFaceOfThree-turned, inner_face, next-on, next-apart, two_steps_on, next-last}
+use Rattle.map_peeling.proofs.OuterCycles.{entry_before, IsFaceOfThree-turned, inner_face, next-apart, two_steps_on, next-last}
 
 module _ (lists : Lists) (kept : ℕ → Bool) (s t : ℕ) (ws : List ℕ) (v : ℕ) (whole : IsSimpleMap lists) (peeled : IsPeeled lists kept s t ws) (free : IsFree (restricted kept lists) s t ws v) where
   abbrev pub map : Lists
@@ -54,8 +54,7 @@ module _ (lists : Lists) (kept : ℕ → Bool) (s t : ℕ) (ws : List ℕ) (v : 
         | inl e ↦ simple.no_loop y v f''.dart (sym e ∙ o.1)
         | inr e ↦ n (sym e)
       ] in
-      let not_third : ¬ IsOuterDart ws y v = λ o. n (sym f.round ∙ (ap (λ x. follows map x y) (sym o.1) ∙ (cycle.turns y o.0 ∙ ap next o.1))) in
-      (
+      let not_third : ¬ IsOuterDart ws y v = λ o. n (sym f.round ∙ (ap (λ x. follows map x y) (sym o.1) ∙ (cycle.turns y o.0 ∙ ap next o.1))) in (
         f,
         record {
           dart = (restricted-old lists kept v z d).0;

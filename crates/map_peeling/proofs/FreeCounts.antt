@@ -1,12 +1,12 @@
 -- A vertex of the outer cycle is without a chord just where two of its neighbours are marked.
-use Rattle.std.proofs.Common.{◌≡◌, ◌≢◌, ◌⊎◌, ◌↔◌, ◌&&◌, ℕ, zero, suc, ◌+◌, ◌<◌, ◌≤◌, Bool, true, false, List, [], ◌∷◌, length, get_or, AllPairs, Contains, count_by, refl, sym, ap, ◌∙◌, subst, inl, inr, arith}
+use Rattle.std.proofs.Common.{◌≡◌, ◌≢◌, ◌⊎◌, ◌↔◌, ℕ, ◌<◌, Bool, true, List, length, get_or, AllPairs, Contains, count_by, sym, ap, ◌∙◌, subst, inl, inr, arith}
 use Rattle.std.specs.List.{filter}
 use Rattle.std.proofs.lemmas.Bool.{cases_eq, cases_lt, and_from}
 use Rattle.std.proofs.lemmas.List.Kept.{AllPairs-filter}
 use Rattle.std.proofs.lemmas.List.Sums.{length-filter}
 use Rattle.std.proofs.lemmas.List.Elements.{Contains-get_or}
 use Rattle.map_lists.specs.Lists.{Lists}
-use Rattle.map_definitions.specs.Maps.{list_of, HasDart, IsSimpleMap, follows, entry_after, place_of}
+use Rattle.map_definitions.specs.Maps.{list_of, HasDart, IsSimpleMap, entry_after, place_of}
 use Rattle.map_definitions.proofs.EntryLemmas.{Contains-from_filter, Contains-filter}
 use Rattle.map_definitions.proofs.DartLemmas.{place_of-lt-length, get_or-place_of}
 use Rattle.map_edits.proofs.KeptEdges.{list_of-with_kept}
@@ -97,16 +97,15 @@ module _ (lists : Lists) (kept marked : ℕ → Bool) (s t : ℕ) (ws : List ℕ
       let dart_p : HasDart M v p = simple.both_ways p v (subst (HasDart M p) b.2 (cM.darts p b.1)) in
       let has_p = few_has p dart_p b.1 in
       let has_q = few_has q (cM.darts v on_v) (next-on M s t ws simple cM v on_v) in
-      let ne : p ≢ q = λ e. two_steps_on M s t ws simple cM p b.1 (ap next b.2 ∙ sym e) in
-      (
+      let ne : p ≢ q = λ e. two_steps_on M s t ws simple cM p b.1 (ap next b.2 ∙ sym e) in (
         (λ free.
-        count_is
-        ∙ two_entries_length few p q few_distinct has_p has_q ne (λ u c.
-        let f = Contains-from_filter marked (list_of M v) u c in
-        elim (free.chordless u (in_v, f.0) ((marks u).0 f.1)) [
-          | inl e ↦ inl (next-apart M s t ws simple cM u p ((marks u).0 f.1) b.1 (e ∙ sym b.2))
-          | inr e ↦ inr (sym e)
-        ])),
+            count_is
+            ∙ two_entries_length few p q few_distinct has_p has_q ne (λ u c.
+            let f = Contains-from_filter marked (list_of M v) u c in
+            elim (free.chordless u (in_v, f.0) ((marks u).0 f.1)) [
+              | inl e ↦ inl (next-apart M s t ws simple cM u p ((marks u).0 f.1) b.1 (e ∙ sym b.2))
+              | inr e ↦ inr (sym e)
+            ])),
         λ two. record {
           on = on_v;
           not_first = not_s;

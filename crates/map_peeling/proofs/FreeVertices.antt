@@ -1,5 +1,5 @@
 -- An outer cycle has a vertex without a chord: restricted to the vertices of the cycle, the map has an ear of its outer face.
-use Rattle.std.proofs.Common.{◌≡◌, ◌≢◌, ◌⊎◌, ℕ, ◌+◌, ◌<◌, ◌≤◌, Bool, true, false, List, [], ◌∷◌, ◌++◌, length, AllPairs, Contains, refl, sym, ap, ◌∙◌, subst, inl, inr, arith, ◌==◌}
+use Rattle.std.proofs.Common.{◌≡◌, ℕ, Bool, true, List, ◌∷◌, Contains, refl, sym, ap, ◌∙◌, subst, inl, inr, ◌==◌}
 use Rattle.std.specs.List.{list_any}
 use Rattle.std.proofs.lemmas.Bool.{and_from}
 use Rattle.label_classes.specs.Classes.{label}
@@ -18,7 +18,7 @@ use Rattle.map_peeling.specs.NearTriangulations.{IsOuterCycle, IsFree}
 use Rattle.map_peeling.specs.Laws.{SomeFree}
 use Rattle.map_peeling.proofs.Rings.{Leads-marked, only_two}
 use Rattle.map_peeling.proofs.RestrictedMaps.{both, restricted-map, restricted-old, restricted-new}
-use Rattle.map_peeling.proofs.OuterCycles.{next, next-on, next-apart, round, last_on, next-last, two_steps_on}
+use Rattle.map_peeling.proofs.OuterCycles.{next-on, next-apart, round, last_on, next-last, two_steps_on}
 
 module _ (lists : Lists) (s t : ℕ) (ws : List ℕ) (simple : IsSimpleMap lists) (plane : IsPlane lists) (cycle : IsOuterCycle lists s t ws) where
   -- the vertices of the cycle
@@ -87,8 +87,7 @@ module _ (lists : Lists) (s t : ℕ) (ws : List ℕ) (simple : IsSimpleMap lists
       let on_v = old v (step v) is.dart in
       let dart_y : HasDart rest v y = HasDart-follows rest v (step v) is.dart in
       let on_y = old y v (simple'.both_ways v y dart_y) in
-      let back : follows rest v y ≡ step v = ap (λ w. follows rest w y) (sym is.comes) ∙ (cycle_turn y on_y ∙ ap step is.comes) in
-      (
+      let back : follows rest v y ≡ step v = ap (λ w. follows rest w y) (sym is.comes) ∙ (cycle_turn y on_y ∙ ap step is.comes) in (
         v,
         record {
           on = on_v;

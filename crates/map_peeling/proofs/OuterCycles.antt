@@ -1,14 +1,13 @@
 -- Outer cycles: the vertex before another, the last and the first, and which darts they have; triangles.
-use Rattle.std.proofs.Common.{◌≡◌, ◌≢◌, ◌⊎◌, ℕ, zero, suc, ◌+◌, ◌-◌, ◌<◌, ◌≤◌, Bool, true, false, List, [], ◌∷◌, ◌++◌, length, get_or, AllPairs, Contains, refl, sym, ap, ◌∙◌, subst, inl, inr, arith}
+use Rattle.std.proofs.Common.{◌≡◌, ◌≢◌, ◌⊎◌, ℕ, ◌-◌, ◌<◌, List, [], ◌∷◌, length, get_or, AllPairs, Contains, refl, sym, ap, ◌∙◌, subst, inl, inr, arith}
 use Rattle.std.proofs.lemmas.Bool.{cases_eq}
 use Rattle.std.proofs.lemmas.List.Elements.{Contains-get_or}
 use Rattle.map_lists.specs.Lists.{Lists}
-use Rattle.map_definitions.specs.Maps.{list_of, HasDart, IsSimpleMap, IsPlane, follows, face_step, entry_after}
-use Rattle.map_definitions.proofs.EntryLemmas.{Contains-here, Contains-counted, Contains-from_count_of}
+use Rattle.map_definitions.specs.Maps.{HasDart, IsSimpleMap, follows, face_step, entry_after}
 use Rattle.map_definitions.proofs.DartLemmas.{HasDart-follows, Contains-entry_after, entry_after-injective, two_entries}
 use Rattle.plane_laws.specs.Laws.{IsTriangle}
 use Rattle.map_peeling.specs.Restricted.{IsFaceOfThree}
-use Rattle.map_peeling.specs.NearTriangulations.{IsOuterCycle, IsOuterDart, IsNearTriangulation, IsFree}
+use Rattle.map_peeling.specs.NearTriangulations.{IsOuterCycle, IsOuterDart, IsNearTriangulation}
 use Rattle.map_peeling.proofs.Rings.{Leads, Leads-part, Leads-in, ring_from, Contains-counts, ends_with, leads_round}
 use Rattle.map_peeling.proofs.RestrictedMaps.{cases_Contains}
 

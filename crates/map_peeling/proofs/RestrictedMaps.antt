@@ -1,13 +1,13 @@
 -- Maps restricted to some of their vertices.
-use Rattle.std.proofs.Common.{◌≡◌, ◌≢◌, ◌⊎◌, ◌&&◌, ℕ, ◌+◌, ◌<◌, Bool, true, false, not, eqb, cond, List, [], ◌∷◌, length, Contains, refl, sym, ap, ap₂, ◌∙◌, subst, inl, inr, arith, eq-eqb, ne_eqb, eqb-true, ◌==◌}
+use Rattle.std.proofs.Common.{◌≡◌, ◌≢◌, ◌⊎◌, ◌&&◌, ℕ, ◌+◌, ◌<◌, Bool, true, false, not, eqb, cond, List, [], ◌∷◌, length, Contains, refl, sym, ap, ap₂, ◌∙◌, subst, inl, inr, eq-eqb, ne_eqb, ◌==◌}
 use Rattle.std.specs.List.{filter, list_any}
-use Rattle.std.proofs.lemmas.Bool.{cases_Bool, cases_eq, and_from, and_parts, and_left, and_right, and_cases, true≢false, false≢true, false_from_ne_true, not-true}
+use Rattle.std.proofs.lemmas.Bool.{cases_Bool, and_from, and_parts, and_right, true≢false, not-true}
 use Rattle.label_classes.specs.Classes.{count_below}
-use Rattle.label_classes.proofs.Counting.{count_below_more, count_below_same}
+use Rattle.label_classes.proofs.Counting.{count_below_more}
 use Rattle.map_lists.specs.Lists.{Lists}
-use Rattle.map_definitions.specs.Maps.{list_of, HasDart, IsSimpleMap, IsPlane}
+use Rattle.map_definitions.specs.Maps.{list_of, HasDart, IsSimpleMap}
 use Rattle.map_definitions.proofs.EntryLemmas.{Contains-here, Contains-there, Contains-from_filter, Contains-filter, Contains-from_list_any, list_any-from_Contains}
-use Rattle.map_edits.specs.Kept.{with_kept, IsKeptMap}
+use Rattle.map_edits.specs.Kept.{IsKeptMap}
 use Rattle.map_edits.proofs.KeptEdges.{filter-all, list_of-with_kept, length-with_kept, same_kept, kept_edges}
 use Rattle.map_edits.proofs.Extended.{filter-filter}
 use Rattle.map_peeling.specs.Restricted.{restricted, kept_but}

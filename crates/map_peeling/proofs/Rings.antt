@@ -1,7 +1,6 @@
 -- Lists along which a function leads, and those round which it does.
-use Rattle.std.proofs.Common.{◌≡◌, ◌≢◌, ◌⊎◌, ℕ, zero, suc, ◌+◌, ◌-◌, ◌<◌, ◌≤◌, List, [], ◌∷◌, ◌++◌, length, get_or, AllPairs, Contains, refl, sym, ap, ap₂, ◌∙◌, subst, inl, inr, arith}
-use Rattle.std.proofs.lemmas.List.{append-nil, append_assoc, length-append, get_or-append-add, get_or_append_left, get_or_past, get_or_default}
-use Rattle.std.proofs.lemmas.List.Elements.{Contains-append_left, Contains-append_right, Contains-append_cases}
+use Rattle.std.proofs.Common.{◌≡◌, ◌≢◌, ◌⊎◌, ℕ, zero, suc, ◌+◌, ◌-◌, ◌<◌, List, [], ◌∷◌, ◌++◌, length, get_or, AllPairs, Contains, refl, sym, ap, ap₂, ◌∙◌, subst, inl, inr, arith}
+use Rattle.std.proofs.lemmas.List.{append_assoc, length-append, get_or-append-add, get_or_past}
 use Rattle.map_definitions.specs.Maps.{place_of, entry_after}
 use Rattle.map_definitions.proofs.EntryLemmas.{Contains-here, Contains-there, Contains-cons_cases, count_of, count_of-cons, count_of-append, Contains-from_count_of, Contains-counted, AllPairs-from_counts, AllPairs-append, count_of-le-one}
 use Rattle.map_definitions.proofs.DartLemmas.{place_of-get_or, place_of-lt-length, get_or-place_of, place_of-entry_after, Contains-entry_after, two_entries, place_after}
@@ -143,8 +142,7 @@ ring_from us q distinct c =
     let whole = leads_round us t distinct end.0 end.1 in
     let way = Leads-part g t front (q ∷ back) t (subst (λ l. Leads g t l t) e whole) in
     let y = way.0 in
-    let round : Leads g y (q ∷ []) q = (way.2.0, refl) in
-    (
+    let round : Leads g y (q ∷ []) q = (way.2.0, refl) in (
       back ++ front,
       Leads-join g q (back ++ front) y (q ∷ []) q (Leads-join g q back t front y way.2.1 way.1) round,
       λ u.
@@ -158,21 +156,19 @@ ring_from us q distinct c =
 
 -- A way read backwards: where f undoes each step of g, it leads back, and on along what it led before.
 pub Leads-back : (g f : ℕ → ℕ) (x : ℕ) (xs : List ℕ) (y : ℕ) (more : List ℕ) (q : ℕ) → ((z : ℕ) → Contains xs (g z) → Contains (x ∷ xs) z → f (g z) ≡ z) → Leads g x xs y → Leads f x more q → (run : List ℕ) × Leads f y run q × ((u : ℕ) → count_of u (y ∷ run) ≡ count_of u (x ∷ xs) + count_of u more)
-Leads-back g f x [] y more q back h on =
-    (
-      more,
-      subst (λ z. Leads f z more q) h on,
-      λ u.
-          let one = count_of-cons u y more in
-          let two = count_of-cons u x [] in
-          let same = ap (λ z. count_of u (z ∷ [])) h in
-          let three = count_of-cons u y [] in
-          omega (arith, one, two, three, same),
-    )
+Leads-back g f x [] y more q back h on = (
+  more,
+  subst (λ z. Leads f z more q) h on,
+  λ u.
+      let one = count_of-cons u y more in
+      let two = count_of-cons u x [] in
+      let same = ap (λ z. count_of u (z ∷ [])) h in
+      let three = count_of-cons u y [] in
+      omega (arith, one, two, three, same),
+)
 Leads-back g f x (w ∷ xs) y more q back h on =
     let undone : f w ≡ x = ap f (sym h.0) ∙ back x (subst (Contains (w ∷ xs)) (sym h.0) (Contains-here w xs)) (Contains-here x (w ∷ xs)) in
-    let rest = Leads-back g f w xs y (x ∷ more) q (λ z c c'. back z (Contains-there w xs (g z) c) (Contains-there x (w ∷ xs) z c')) h.1 (undone, on) in
-    (
+    let rest = Leads-back g f w xs y (x ∷ more) q (λ z c c'. back z (Contains-there w xs (g z) c) (Contains-there x (w ∷ xs) z c')) h.1 (undone, on) in (
       rest.0,
       rest.1,
       λ u.

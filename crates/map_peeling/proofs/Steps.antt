@@ -1,25 +1,25 @@
 -- THE STEP: while more than three vertices are left, one without a chord can be taken off.
-use Rattle.std.proofs.Common.{◌≡◌, ◌≢◌, ◌⊎◌, ◌||◌, ◌↔◌, ℕ, zero, suc, ◌+◌, ◌-◌, ◌*◌, ◌<◌, ◌≤◌, Bool, true, false, not, List, [], ◌∷◌, ◌++◌, length, get_or, AllPairs, Contains, refl, sym, ap, ap₂, ◌∙◌, subst, inl, inr, arith, ◌==◌}
+use Rattle.std.proofs.Common.{◌≡◌, ◌≢◌, ◌⊎◌, ◌||◌, ℕ, suc, ◌+◌, ◌-◌, ◌<◌, ◌≤◌, Bool, true, false, not, List, [], ◌∷◌, ◌++◌, length, get_or, AllPairs, Contains, refl, sym, ap, ap₂, ◌∙◌, subst, inl, inr, arith, ◌==◌}
 use Rattle.std.specs.List.{list_any}
-use Rattle.std.proofs.lemmas.Bool.{cases_Bool, cases_eq, cases_lt, or_cases, or_left, or_right, true≢false, not-true}
+use Rattle.std.proofs.lemmas.Bool.{cases_Bool, cases_lt, or_cases, or_left, or_right, true≢false, not-true}
 use Rattle.std.proofs.lemmas.List.{length-append}
 use Rattle.std.proofs.lemmas.List.Elements.{Contains-append_left, Contains-append_right, Contains-get_or}
 use Rattle.label_classes.specs.Classes.{count_below}
 use Rattle.map_lists.specs.Lists.{Lists}
-use Rattle.map_definitions.specs.Maps.{list_of, HasDart, IsSimpleMap, IsPlane, follows, entry_after}
+use Rattle.map_definitions.specs.Maps.{list_of, HasDart, IsSimpleMap, follows, entry_after}
 use Rattle.map_definitions.proofs.EntryLemmas.{Contains-here, Contains-there, Contains-cons_cases, Contains-from_list_any, list_any-from_Contains, count_of, parts_apart, head_apart, AllPairs-right}
 use Rattle.plane_laws.specs.Completed.{IsCompleted}
 use Rattle.plane_laws.proofs.EdgeBound.{met_connected}
-use Rattle.map_peeling.specs.Restricted.{restricted, kept_but, IsFaceOfThree}
+use Rattle.map_peeling.specs.Restricted.{restricted, IsFaceOfThree}
 use Rattle.map_peeling.specs.NearTriangulations.{IsOuterCycle, IsFree}
 use Rattle.map_peeling.specs.Peeled.{IsPeeled, IsFan, IsTakenOff}
 use Rattle.map_peeling.specs.Laws.{FreeTakenOff}
 use Rattle.map_peeling.proofs.Rings.{Leads, Leads-part, Leads-join, Leads-in, Leads-same, Leads-at, Contains-counts, AllPairs-counts, last-entry, parted_round, only_two, each_of_two, each_of_three}
-use Rattle.map_peeling.proofs.RestrictedMaps.{cases_Contains, restricted-old, restricted-new, count-kept_but, length-restricted}
+use Rattle.map_peeling.proofs.RestrictedMaps.{restricted-old, restricted-new, count-kept_but}
 use Rattle.map_peeling.proofs.OuterCycles.{round, last_on, first_on, next-on}
 use Rattle.map_peeling.proofs.Counted.{count_below-within, marks_everywhere}
 use Rattle.map_peeling.proofs.CycleAfter.{after_is, after_has, after_distinct}
-use Rattle.map_peeling.proofs.Fans.{before, chords, fan, next_after, next_after-turned, next_after-on, in_v, dart_p, p_not_q, p_not_last, corner_v, run}
+use Rattle.map_peeling.proofs.Fans.{before, chords, fan, next_after, next_after-turned, next_after-on, in_v, dart_p, p_not_q, p_not_last, run}
 use Rattle.map_peeling.proofs.TakenOff.{left}
 
 -- where the neighbours of each vertex on the cycle are on it, no others are left
@@ -213,8 +213,7 @@ module _ (lists : Lists) (kept : ℕ → Bool) (s t : ℕ) (ws : List ℕ) (v : 
       let on_p = b.1 in
       let leads_p = b.2 in
       let parts = parted_round step ws t p v q (round M s t ws sM cM) on_p leads_p refl (p_not_last lists kept s t ws v whole peeled free p on_p leads_p) free.not_last in
-      let r = run lists kept s t ws v whole peeled free p on_p leads_p in
-      (
+      let r = run lists kept s t ws v whole peeled free p on_p leads_p in (
         parts.0,
         p,
         r.0,

@@ -1,17 +1,17 @@
 -- A vertex without a chord taken off: what is left is a near triangulation again.
-use Rattle.std.proofs.Common.{◌≡◌, ◌≢◌, ◌⊎◌, ◌&&◌, ◌↔◌, ℕ, ◌+◌, ◌-◌, ◌<◌, ◌≤◌, Bool, true, false, not, eqb, List, [], ◌∷◌, ◌++◌, length, get_or, AllPairs, Contains, refl, sym, ap, ◌∙◌, subst, inl, inr, arith, ◌==◌}
-use Rattle.std.proofs.lemmas.Bool.{cases_Bool, cases_eq, and_from, and_left, and_right, true≢false}
+use Rattle.std.proofs.Common.{◌≡◌, ◌≢◌, ◌⊎◌, ℕ, ◌≤◌, Bool, true, false, List, length, AllPairs, Contains, sym, ap, ◌∙◌, subst, inl, inr, arith}
+use Rattle.std.proofs.lemmas.Bool.{cases_Bool, cases_eq, and_from, and_right, true≢false}
 use Rattle.map_lists.specs.Lists.{Lists}
-use Rattle.map_definitions.specs.Maps.{list_of, HasDart, IsSimpleMap, IsPlane, follows, entry_after}
+use Rattle.map_definitions.specs.Maps.{HasDart, IsSimpleMap, follows, entry_after}
 use Rattle.map_definitions.proofs.DartLemmas.{HasDart-follows}
 use Rattle.map_edits.specs.Kept.{IsKeptMap}
 use Rattle.map_peeling.specs.Restricted.{restricted, kept_but, IsFaceOfThree}
-use Rattle.map_peeling.specs.NearTriangulations.{IsOuterCycle, IsOuterDart, IsNearTriangulation, IsFree}
+use Rattle.map_peeling.specs.NearTriangulations.{IsOuterCycle, IsOuterDart, IsFree}
 use Rattle.map_peeling.specs.Peeled.{IsPeeled}
 use Rattle.map_peeling.proofs.Rings.{Leads, Leads-first, Leads-last, round-entry}
 use Rattle.map_peeling.proofs.RestrictedMaps.{both, restricted-map, restricted-old, restricted-new, restricted_again, kept_but-old, kept_but-new, kept_but-itself}
 use Rattle.map_peeling.proofs.OuterCycles.{IsFaceOfThree-turned, IsTriangle-face, inner_face, next-on, next-apart, next-last, last_on, two_steps_on}
-use Rattle.map_peeling.proofs.Fans.{map, next, q, simple, cycle, chords, fan, next_after, next_after-turned, next_after-other, next_after-on, in_v, dart_p, p_not_q, p_not_last, corner_v}
+use Rattle.map_peeling.proofs.Fans.{q, fan, next_after, next_after-turned, next_after-other, next_after-on, dart_p, p_not_q, p_not_last}
 
 -- The map without v. The list `after` has on it the vertices of the cycle but for v, and its neighbours, and next_after leads round it.
 module _ (lists : Lists) (kept : ℕ → Bool) (s t : ℕ) (ws : List ℕ) (v : ℕ) (whole : IsSimpleMap lists) (peeled : IsPeeled lists kept s t ws) (free : IsFree (restricted kept lists) s t ws v) (p : ℕ) (on_p : Contains ws p) (leads_p : entry_after p ws ≡ v) (after : List ℕ) (on_after : (u : ℕ) → Contains after u → (Contains ws u × (u ≢ v)) ⊎ HasDart (restricted kept lists) v u) (after_on : (u : ℕ) → (Contains ws u × (u ≢ v)) ⊎ HasDart (restricted kept lists) v u → Contains after u) (distinct : AllPairs ◌≢◌ after) (ring : Leads (next_after lists kept s t ws v whole peeled free) t after t) (long : 3 ≤ length after) where
