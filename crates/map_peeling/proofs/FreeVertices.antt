@@ -1,24 +1,21 @@
 -- An outer cycle has a vertex without a chord: restricted to the vertices of the cycle, the map has an ear of its outer face.
-use Rattle.std.proofs.Common.{◌≡◌, ℕ, Bool, true, List, ◌∷◌, Contains, refl, sym, ap, ◌∙◌, subst, inl, inr, ◌==◌}
+use Rattle.std.proofs.Common.{◌≡◌, ℕ, Bool, true, List, Contains, refl, sym, ap, ◌∙◌, inl, inr, ◌==◌}
 use Rattle.std.specs.List.{list_any}
 use Rattle.std.proofs.lemmas.Bool.{and_from}
-use Rattle.label_classes.specs.Classes.{label}
-use Rattle.label_classes.proofs.Orbits.{orbits_of}
-use Rattle.label_classes.proofs.Bound.{after}
 use Rattle.map_lists.specs.Lists.{Lists}
-use Rattle.map_definitions.specs.Maps.{list_of, HasDart, IsSimpleMap, IsPlane, follows, face_step, entry_after, dart_number, dart_count}
-use Rattle.map_definitions.proofs.EntryLemmas.{Contains-from_list_any, list_any-from_Contains, Contains-there, Contains-cons_cases}
+use Rattle.map_definitions.specs.Maps.{list_of, HasDart, IsSimpleMap, IsPlane, follows, entry_after}
+use Rattle.map_definitions.proofs.EntryLemmas.{Contains-from_list_any, list_any-from_Contains}
 use Rattle.map_definitions.proofs.DartLemmas.{HasDart-follows}
-use Rattle.euler_bound.proofs.DartPermutations.{rotation, twin}
-use Rattle.plane_laws.proofs.DartPaths.{same_face, face_step_together}
+use Rattle.plane_laws.proofs.DartPaths.{same_face}
 use Rattle.map_edits.specs.OuterFaces.{IsOuterFace}
 use Rattle.map_edits.proofs.OuterFaces.{outer_ear_law}
 use Rattle.map_peeling.specs.Restricted.{restricted}
 use Rattle.map_peeling.specs.NearTriangulations.{IsOuterCycle, IsFree}
 use Rattle.map_peeling.specs.Laws.{SomeFree}
-use Rattle.map_peeling.proofs.Rings.{Leads-marked, only_two}
+use Rattle.map_peeling.proofs.Rings.{only_two}
+use Rattle.map_peeling.proofs.BaseFaces.{one_label}
 use Rattle.map_peeling.proofs.RestrictedMaps.{both, restricted-map, restricted-old, restricted-new}
-use Rattle.map_peeling.proofs.OuterCycles.{next-on, next-apart, round, last_on, next-last, two_steps_on}
+use Rattle.map_peeling.proofs.OuterCycles.{next-on, next-apart, last_on, next-last, two_steps_on}
 
 module _ (lists : Lists) (s t : ℕ) (ws : List ℕ) (simple : IsSimpleMap lists) (plane : IsPlane lists) (cycle : IsOuterCycle lists s t ws) where
   -- the vertices of the cycle
@@ -57,25 +54,18 @@ module _ (lists : Lists) (s t : ℕ) (ws : List ℕ) (simple : IsSimpleMap lists
       and_from (on (step x)) (on (follows lists (step x) x)) (on_is (step x) c1) (ap on (cycle.turns x c) ∙ on_is (step (step x)) (stays_on (step x) c1)) in
       m.follows_same (step x) x (m.simple.both_ways x (step x) (cycle_dart x c)) kept ∙ cycle.turns x c
 
+  cycle_rest : IsOuterCycle rest s t ws
+  cycle_rest = record { long = cycle.long; first = cycle.first; last = cycle.last; distinct = cycle.distinct; darts = cycle_dart; turns = cycle_turn }
+
   outer_face : IsOuterFace rest step
   outer_face =
-      let L = λ (i : ℕ). label (orbits_of (after (rotation rest) (twin rest)) (dart_count rest)) i in
-      let mark = λ (x : ℕ). L (dart_number rest (x, step x)) in
-      let one : (x : ℕ) → Contains ws x → mark (step x) ≡ mark x = λ x c.
-      let turn : face_step rest (x, step x) ≡ (step x, step (step x)) = ap (λ y. (step x, y)) (cycle_turn x c) in
-      sym (face_step_together rest simple' (x, step x) (cycle_dart x c) ∙ ap (λ d. L (dart_number rest d)) turn) in
-      let last = last_on lists s t ws simple cycle in
-      let all : (x : ℕ) → Contains ws x → mark x ≡ mark t = λ x c.
-      Leads-marked mark step t ws t (λ z d. one z (on_too z d)) (round lists s t ws simple cycle) x (Contains-there t ws x c) in
+      let all = one_label rest s t ws simple' cycle_rest in
       record {
         darts = λ v z d. cycle_dart v (old v z d);
         turns = λ v d. cycle_turn v (old v (step v) d);
         one = λ u v d d'. same_face rest simple' (u, step u) (v, step v) (all u (old u (step u) d) ∙ sym (all v (old v (step v) d')));
         single = λ v d. two_steps_on lists s t ws simple cycle v (old v (step v) d);
       }
-    where
-      on_too : (z : ℕ) → Contains (t ∷ ws) z → Contains ws z
-      on_too z d = elim (Contains-cons_cases t ws z d) [ inl e ↦ subst (Contains ws) e (last_on lists s t ws simple cycle) | inr c ↦ c ]
 
   pub free_here : (v : ℕ) × IsFree lists s t ws v
   free_here =

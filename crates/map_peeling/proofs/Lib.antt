@@ -3,6 +3,7 @@ mod Cases
 pub mod Rings
 pub mod RestrictedMaps
 pub mod OuterCycles
+pub mod BaseFaces
 pub mod FreeVertices
 pub mod Fans
 pub mod CycleAfter

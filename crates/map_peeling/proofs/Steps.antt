@@ -6,14 +6,13 @@ use Rattle.std.proofs.lemmas.List.{length-append}
 use Rattle.std.proofs.lemmas.List.Elements.{Contains-append_left, Contains-append_right, Contains-get_or}
 use Rattle.label_classes.specs.Classes.{count_below}
 use Rattle.map_lists.specs.Lists.{Lists}
-use Rattle.map_definitions.specs.Maps.{list_of, HasDart, IsSimpleMap, follows, entry_after}
+use Rattle.map_definitions.specs.Maps.{list_of, HasDart, IsSimpleMap, component_count, follows, entry_after}
 use Rattle.map_definitions.proofs.EntryLemmas.{Contains-here, Contains-there, Contains-cons_cases, Contains-from_list_any, list_any-from_Contains, count_of, parts_apart, head_apart, AllPairs-right}
-use Rattle.plane_laws.specs.Completed.{IsCompleted}
 use Rattle.plane_laws.proofs.EdgeBound.{met_connected}
 use Rattle.map_peeling.specs.Restricted.{restricted, IsFaceOfThree}
 use Rattle.map_peeling.specs.NearTriangulations.{IsOuterCycle, IsFree}
 use Rattle.map_peeling.specs.Peeled.{IsPeeled, IsFan, IsTakenOff}
-use Rattle.map_peeling.specs.Laws.{FreeTakenOff}
+use Rattle.map_peeling.specs.Laws.{FreeTakenOff, ConnectedTakenOff}
 use Rattle.map_peeling.proofs.Rings.{Leads, Leads-part, Leads-join, Leads-in, Leads-same, Leads-at, Contains-counts, AllPairs-counts, last-entry, parted_round, only_two, each_of_two, each_of_three}
 use Rattle.map_peeling.proofs.RestrictedMaps.{restricted-old, restricted-new, count-kept_but}
 use Rattle.map_peeling.proofs.OuterCycles.{round, last_on, first_on, next-on}
@@ -23,14 +22,12 @@ use Rattle.map_peeling.proofs.Fans.{before, chords, fan, next_after, next_after-
 use Rattle.map_peeling.proofs.TakenOff.{left}
 
 -- where the neighbours of each vertex on the cycle are on it, no others are left
-pub all_on_cycle : (lists : Lists) (kept : ℕ → Bool) (s t : ℕ) (ws : List ℕ) → IsCompleted lists → IsPeeled lists kept s t ws → ((x u : ℕ) → Contains ws x → HasDart (restricted kept lists) x u → Contains ws u) → count_below kept (length lists) ≤ length ws
-all_on_cycle lists kept s t ws completed peeled closed =
+pub all_on_cycle : (lists : Lists) (kept : ℕ → Bool) (s t : ℕ) (ws : List ℕ) → IsSimpleMap lists → component_count lists ≡ 1 → IsPeeled lists kept s t ws → ((x u : ℕ) → Contains ws x → HasDart (restricted kept lists) x u → Contains ws u) → count_below kept (length lists) ≤ length ws
+all_on_cycle lists kept s t ws whole one peeled closed =
     let on : ℕ → Bool = λ u. list_any (λ w. w == u) ws in
-    let whole = completed.simple in
     let simple = peeled.near.simple in
     let cycle = peeled.near.cycle in
     let mark : ℕ → Bool = λ u. on u || not (kept u) in
-    let one = met_connected lists whole completed.plane completed.some completed.edges in
     let on_is : (u : ℕ) → Contains ws u → mark u ≡ true = λ u c. or_left (on u) (not (kept u)) (list_any-from_Contains u ws c) in
     let out_is : (u : ℕ) → kept u ≡ false → mark u ≡ true = λ u e. or_right (on u) (not (kept u)) (ap not e) in
     let is_on : (u : ℕ) → kept u ≡ true → mark u ≡ true → Contains ws u = λ u k m.
@@ -51,10 +48,7 @@ all_on_cycle lists kept s t ws completed peeled closed =
     let in_first = (restricted-old lists kept s (entry_after s ws) (cycle.darts s first)).0.0 in
     count_below-within kept ws (length lists) (λ u l k. is_on u k (marks_everywhere lists whole one mark over s u in_first l (on_is s first)))
 
-module _ (lists : Lists) (kept : ℕ → Bool) (s t : ℕ) (ws : List ℕ) (v : ℕ) (completed : IsCompleted lists) (peeled : IsPeeled lists kept s t ws) (free : IsFree (restricted kept lists) s t ws v) where
-  abbrev whole : IsSimpleMap lists
-  whole = completed.simple
-
+module _ (lists : Lists) (kept : ℕ → Bool) (s t : ℕ) (ws : List ℕ) (v : ℕ) (whole : IsSimpleMap lists) (peeled : IsPeeled lists kept s t ws) (free : IsFree (restricted kept lists) s t ws v) where
   abbrev M : Lists
   M = restricted kept lists
 
@@ -189,15 +183,15 @@ module _ (lists : Lists) (kept : ℕ → Bool) (s t : ℕ) (ws : List ℕ) (v : 
         each_of_three (λ z. HasDart M z u → Contains ws u) p v q at_p at_v at_q x (subst (λ l. Contains l x) (was ∙ ap₂ (λ l r. l ++ p ∷ v ∷ q ∷ r) no_front no_back) c) d
 
     -- with more than three vertices left, the new cycle has three
-    long_after : 3 < count_below kept (length lists) → 3 ≤ length after
-    long_after many =
+    long_after : component_count lists ≡ 1 → 3 < count_below kept (length lists) → 3 ≤ length after
+    long_after connected many =
         let one = length-append front (p ∷ mid ++ q ∷ back) in
         let two = length-append mid (q ∷ back) in
         elim (cases_lt (length front + (length mid + length back)) 1) [
           | inr l ↦ omega arith
           | inl none ↦
               let size : length ws ≡ length front + (3 + length back) = ap length was ∙ omega (arith, length-append front (p ∷ v ∷ q ∷ back)) in
-              let few = all_on_cycle lists kept s t ws completed peeled (closed (empty front (omega arith)) (empty mid (omega arith)) (empty back (omega arith))) in
+              let few = all_on_cycle lists kept s t ws whole connected peeled (closed (empty front (omega arith)) (empty mid (omega arith)) (empty back (omega arith))) in
               absurd (omega arith)
         ]
       where
@@ -206,8 +200,8 @@ module _ (lists : Lists) (kept : ℕ → Bool) (s t : ℕ) (ws : List ℕ) (v : 
         empty (a ∷ l) e = absurd (omega arith)
 
   -- all put together
-  step_here : 3 < count_below kept (length lists) → (front : List ℕ) × (p : ℕ) × (mid : List ℕ) × (q : ℕ) × (back : List ℕ) × IsTakenOff lists kept s t ws v front p mid q back
-  step_here many =
+  step_here : component_count lists ≡ 1 → 3 < count_below kept (length lists) → (front : List ℕ) × (p : ℕ) × (mid : List ℕ) × (q : ℕ) × (back : List ℕ) × IsTakenOff lists kept s t ws v front p mid q back
+  step_here connected many =
       let b = before lists kept s t ws v whole peeled free in
       let p = b.0 in
       let on_p = b.1 in
@@ -219,12 +213,17 @@ module _ (lists : Lists) (kept : ℕ → Bool) (s t : ℕ) (ws : List ℕ) (v : 
         r.0,
         q,
         parts.1,
-        taken_off p on_p leads_p r.0 r.1 r.2 parts.0 parts.1 parts.2 parts.3 parts.4 (long_after p on_p leads_p r.0 r.1 r.2 parts.0 parts.1 parts.2 parts.3 parts.4 many),
+        taken_off p on_p leads_p r.0 r.1 r.2 parts.0 parts.1 parts.2 parts.3 parts.4 (long_after p on_p leads_p r.0 r.1 r.2 parts.0 parts.1 parts.2 parts.3 parts.4 connected many),
       )
 
--- THE LAW: a vertex without a chord taken off
-pub free_taken_off : FreeTakenOff
-free_taken_off lists kept s t ws v completed peeled many free =
+-- THE LAWS: a vertex without a chord taken off
+pub connected_taken_off : ConnectedTakenOff
+connected_taken_off lists kept s t ws v whole connected peeled many free =
     let d = peeled.near.cycle.darts v free.on in
     let old = restricted-old lists kept v (entry_after v ws) d in
-    (step_here lists kept s t ws v completed peeled free many, count-kept_but kept v (length lists) old.0.0 old.1)
+    (step_here lists kept s t ws v whole peeled free connected many, count-kept_but kept v (length lists) old.0.0 old.1)
+
+pub free_taken_off : FreeTakenOff
+free_taken_off lists kept s t ws v completed peeled many free =
+    let connected = met_connected lists completed.simple completed.plane completed.some completed.edges in
+    connected_taken_off lists kept s t ws v completed.simple connected peeled many free

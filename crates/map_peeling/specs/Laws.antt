@@ -2,11 +2,17 @@
 use Rattle.std.specs.Prelude.{ℕ, ◌+◌, ◌<◌, ◌≡◌, ◌≢◌, ◌⊎◌, ◌↔◌, Bool, true, List, [], ◌∷◌, ◌++◌, length, slice_index, count_by, Contains}
 use Rattle.label_classes.specs.Classes.{count_below}
 use Rattle.map_lists.specs.Lists.{Lists}
-use Rattle.map_definitions.specs.Maps.{HasDart, IsSimpleMap, IsPlane, follows, list_of}
+use Rattle.map_definitions.specs.Maps.{HasDart, IsSimpleMap, IsPlane, component_count, follows, list_of}
+use Rattle.map_definitions.specs.Paths.{SameFace}
 use Rattle.plane_laws.specs.Completed.{IsCompleted}
 use Rattle.map_peeling.specs.Restricted.{restricted, kept_but, IsFaceOfThree, IsDartOfThree}
 use Rattle.map_peeling.specs.NearTriangulations.{IsOuterCycle, IsOuterDart, IsFree}
 use Rattle.map_peeling.specs.Peeled.{IsPeeled, IsTakenOff}
+
+-- The darts of an outer cycle are the face of its base.
+abbrev pub OuterCycleIsFace : Type 0
+OuterCycleIsFace =
+    (lists : Lists) (s t : ℕ) (ws : List ℕ) → IsSimpleMap lists → IsOuterCycle lists s t ws → (x y : ℕ) → HasDart lists x y → SameFace lists (t, s) (x, y) ↔ IsOuterDart ws x y
 
 -- In a map of genus zero an outer cycle has a vertex without a chord that is not an end of the base.
 abbrev pub SomeFree : Type 0
@@ -18,11 +24,20 @@ abbrev pub NothingTakenOff : Type 0
 NothingTakenOff =
     (lists : Lists) (kept : ℕ → Bool) (s t : ℕ) → IsCompleted lists → HasDart lists t s → ((v : ℕ) → v < length lists → kept v ≡ true) → IsPeeled lists kept s t (s ∷ follows lists s t ∷ t ∷ [])
 
--- A vertex without a chord can be taken off, while more than three vertices are left; then one less is left.
+-- v can be taken off, and then one vertex less is left
+abbrev pub CanBeTakenOff : Lists → (ℕ → Bool) → ℕ → ℕ → List ℕ → ℕ → Type 0
+CanBeTakenOff lists kept s t ws v =
+    ((front : List ℕ) × (p : ℕ) × (mid : List ℕ) × (q : ℕ) × (back : List ℕ) × IsTakenOff lists kept s t ws v front p mid q back) × (count_below kept (length lists) ≡ count_below (kept_but kept v) (length lists) + 1)
+
+-- A vertex without a chord can be taken off, while more than three vertices are left.
 abbrev pub FreeTakenOff : Type 0
 FreeTakenOff =
-    (lists : Lists) (kept : ℕ → Bool) (s t : ℕ) (ws : List ℕ) (v : ℕ) → IsCompleted lists → IsPeeled lists kept s t ws → 3 < count_below kept (length lists) → IsFree (restricted kept lists) s t ws v
-    → ((front : List ℕ) × (p : ℕ) × (mid : List ℕ) × (q : ℕ) × (back : List ℕ) × IsTakenOff lists kept s t ws v front p mid q back) × (count_below kept (length lists) ≡ count_below (kept_but kept v) (length lists) + 1)
+    (lists : Lists) (kept : ℕ → Bool) (s t : ℕ) (ws : List ℕ) (v : ℕ) → IsCompleted lists → IsPeeled lists kept s t ws → 3 < count_below kept (length lists) → IsFree (restricted kept lists) s t ws v → CanBeTakenOff lists kept s t ws v
+
+-- So it can where the whole map is any connected one.
+abbrev pub ConnectedTakenOff : Type 0
+ConnectedTakenOff =
+    (lists : Lists) (kept : ℕ → Bool) (s t : ℕ) (ws : List ℕ) (v : ℕ) → IsSimpleMap lists → component_count lists ≡ 1 → IsPeeled lists kept s t ws → 3 < count_below kept (length lists) → IsFree (restricted kept lists) s t ws v → CanBeTakenOff lists kept s t ws v
 
 -- Where three vertices are left they are the two of the base and one more, all on the outer cycle, and a face of the whole map on the other side of the base.
 abbrev pub ThreeLeft : Type 0
