@@ -20,4 +20,4 @@ pub record IsFan (lists : Lists) (kept : ℕ → Bool) (v p : ℕ) (mid : List �
 pub record IsTakenOff (lists : Lists) (kept : ℕ → Bool) (s t : ℕ) (ws : List ℕ) (v : ℕ) (front : List ℕ) (p : ℕ) (mid : List ℕ) (q : ℕ) (back : List ℕ) : Type 0 where
   pub before : ws ≡ front ++ p ∷ v ∷ q ∷ back
   pub fan : IsFan lists kept v p mid q
-  pub left : IsPeeled lists (kept_but kept v) s t (front ++ p ∷ mid ++ q ∷ back)
+  pub left : IsPeeled lists (kept_but kept v) s t (front ++ (p ∷ mid ++ q ∷ back))

@@ -2,7 +2,12 @@
 //! nothing, and speaks of all maps.
 #![tactic(auto)]
 
-ghost use Rattle.map_peeling.specs.Laws.{CycleAfter, FanCovers, FreeByCount, FreeTakenOff, NothingTakenOff, SomeFree, ThreeLeft};
+ghost use Rattle.map_peeling.specs.Laws.{ConnectedTakenOff, CycleAfter, FanCovers, FreeByCount, FreeTakenOff, NothingTakenOff, OuterCycleIsFace, SomeFree, ThreeLeft};
+
+/// The darts of an outer cycle are those of the face of its base, and no others.
+pub fn outer_cycle_is_face()
+    ensures { OuterCycleIsFace }
+{}
 
 /// In a map of genus zero with an outer cycle there is a vertex on it, other than the two ends of the base,
 /// that has no chord: of its neighbours just those before and after it are on the cycle.
@@ -23,8 +28,14 @@ pub fn free_taken_off()
     ensures { FreeTakenOff }
 {}
 
-/// Where three vertices are left, they are the two ends of the base and one more, and the face of the whole
-/// map on the other side of the base has these three.
+/// The same where the whole map is any connected simple map: what is left is a near triangulation, and a
+/// vertex of its outer cycle without a chord can be taken off.
+pub fn connected_taken_off()
+    ensures { ConnectedTakenOff }
+{}
+
+/// Where three vertices are left, they are the two ends of the base and one more, all on the outer cycle, and
+/// the face of the whole map on the other side of the base has these three.
 pub fn three_left()
     ensures { ThreeLeft }
 {}
