@@ -9,13 +9,16 @@ use Rattle.plane_laws.specs.Completed.{IsCompleted}
 use Rattle.map_peeling.specs.Restricted.{restricted, kept_but}
 use Rattle.map_peeling.specs.NearTriangulations.{IsFree}
 use Rattle.map_peeling.proofs.RestrictedMaps.{restricted-old, restricted-new, kept_but-old, kept_but-new, kept_but-itself}
+use Rattle.map_peeling.proofs.FreeVertices.{some_free}
+use Rattle.map_peeling.proofs.FreeCounts.{free_by_count}
+use Rattle.map_peeling.proofs.Steps.{free_taken_off}
+use Rattle.map_peeling.proofs.Covers.{cycle_after}
 use Rattle.canon_order.specs.Orders.{IsCanonicalOrder}
 use Rattle.canon_order.specs.Lefts.{IsLeft}
 use Rattle.canon_order.specs.Contours.{is_set, IsCounted, LooksFree, IsContour}
 use Rattle.canon_order.proofs.Lefts.{IsLeft-begin, IsLeft-taken, IsLeft-three}
 use Rattle.canon_order.proofs.Counters.{All-from_reverse, AllPairs-from_reverse}
 use Rattle.canon_order.proofs.Marks.{is_set-here, is_set-other, is_set-lt}
-use Rattle.canon_order.proofs.Laws.{some_free, free_by_count, free_taken_off, cycle_after}
 
 -- one vertex less is kept
 kept_but-set : (kept : List Bool) (v : ℕ) → v < length kept → kept_but (is_set kept) v ≡ is_set (set kept v false)
@@ -87,8 +90,8 @@ module _ (lists : Lists) (t s : ℕ) (completed : IsCompleted lists) where
           let m = counted.marks in
           let after = cycle_after lists (is_set kept) s t h.ws v fan.0 fan.1 fan.2 fan.3 fan.4 h.left.peeled fan.5 in
           record {
-            ws = fan.0 ++ fan.1 ∷ fan.2 ++ fan.3 ∷ fan.4;
-            left = subst (λ k. IsLeft lists s t k (fan.0 ++ fan.1 ∷ fan.2 ++ fan.3 ∷ fan.4) (v ∷ rest)) fewer
+            ws = fan.0 ++ (fan.1 ∷ fan.2 ++ fan.3 ∷ fan.4);
+            left = subst (λ k. IsLeft lists s t k (fan.0 ++ (fan.1 ∷ fan.2 ++ fan.3 ∷ fan.4)) (v ∷ rest)) fewer
             (IsLeft-taken lists s t (is_set kept) h.ws rest completed h.left v fan.0 fan.1 fan.2 fan.3 fan.4 free.on fan.5 less (omega arith));
             marks = λ u.
                 let to : (is_set (set marked v false) u ≡ true) ⊎ (Contains (list_of lists v) u × (is_set (set kept v false) u ≡ true)) → (Contains h.ws u × (u ≢ v)) ⊎ HasDart (restricted (is_set kept) lists) v u = λ x. elim x [
@@ -97,12 +100,12 @@ module _ (lists : Lists) (t s : ℕ) (completed : IsCompleted lists) where
                       inl ((h.marks u).0 (sym (is_set-other marked v u false ne) ∙ e), ne)
                   | inr c ↦
                       let k : kept_but (is_set kept) v u ≡ true = ap (λ f. f u) fewer ∙ c.1 in
-                      inr (restricted-new lists (is_set kept) completed.simple v u (l, c.0) (on_kept' v free.on) (kept_but-old (is_set kept) v u k).0)
+                      inr (restricted-new lists (is_set kept) v u (l, c.0) (on_kept' v free.on) (kept_but-old (is_set kept) v u k).0)
                 ] in
                 let from : (Contains h.ws u × (u ≢ v)) ⊎ HasDart (restricted (is_set kept) lists) v u → (is_set (set marked v false) u ≡ true) ⊎ (Contains (list_of lists v) u × (is_set (set kept v false) u ≡ true)) = λ x. elim x [
                   | inl c ↦ inl (is_set-other marked v u false c.1 ∙ (h.marks u).1 c.0)
                   | inr d ↦
-                      let old = restricted-old lists (is_set kept) completed.simple v u d in
+                      let old = restricted-old lists (is_set kept) v u d in
                       inr (old.0.1, is_set-other kept v u false (completed.simple.no_loop v u old.0) ∙ old.2)
                 ] in (
                   (λ e. (after u).1 (to ((marks u).0 e))),
@@ -111,7 +114,7 @@ module _ (lists : Lists) (t s : ℕ) (completed : IsCompleted lists) where
           }
         where
           on_kept' : (v : ℕ) → Contains h.ws v → is_set kept v ≡ true
-          on_kept' v on = (restricted-old lists (is_set kept) completed.simple v _ (h.left.peeled.near.cycle.darts v on)).1
+          on_kept' v on = (restricted-old lists (is_set kept) v _ (h.left.peeled.near.cycle.darts v on)).1
 
 -- the vertices taken off, from the last to the first, are all of them, each once
 pub taken_within : (lists : Lists) (base : Dart) (us : List ℕ) → IsCanonicalOrder lists base (reverse us) → All (λ v. v < length us) us

@@ -15,11 +15,11 @@ use Rattle.map_peeling.specs.Restricted.{restricted, kept_but, IsFaceOfThree, Is
 use Rattle.map_peeling.specs.NearTriangulations.{IsOuterCycle, IsOuterDart}
 use Rattle.map_peeling.specs.Peeled.{IsPeeled, IsFan, IsTakenOff}
 use Rattle.map_peeling.proofs.RestrictedMaps.{restricted-old, restricted-new, restricted_all, kept_but-old, kept_but-new, kept_but-itself, count-kept_but}
-use Rattle.map_peeling.proofs.OuterCycles.{back_dart}
+use Rattle.map_peeling.proofs.Covers.{fan_covers}
+use Rattle.map_peeling.proofs.Ends.{nothing_taken_off, three_left}
 use Rattle.canon_order.specs.Orders.{stands_in, IsPutOn, IsBuiltUp, IsMade, IsCanonicalOrder}
 use Rattle.canon_order.specs.Lefts.{IsOrderOfLeft, IsLeft}
 use Rattle.canon_order.proofs.Built.{topped, topped-new, IsBuiltUp-base, IsBuiltUp-more, IsMade-old, IsMade-new}
-use Rattle.canon_order.proofs.Laws.{nothing_taken_off, fan_covers, three_left}
 
 -- ---- three in a list
 abbrev three : ℕ → ℕ → ℕ → List ℕ
@@ -116,24 +116,23 @@ stands_in-more us v u b e here =
     stays false = refl
 
 -- the entries of a run within a list
-run_at : (front : List ℕ) (p : ℕ) (mid : List ℕ) (q : ℕ) (back : List ℕ) (i : ℕ) → i < length mid + 2 → get_or (front ++ p ∷ mid ++ q ∷ back) (length front + i) 0 ≡ get_or (p ∷ mid ++ q ∷ []) i 0
+run_at : (front : List ℕ) (p : ℕ) (mid : List ℕ) (q : ℕ) (back : List ℕ) (i : ℕ) → i < length mid + 2 → get_or (front ++ (p ∷ mid ++ q ∷ back)) (length front + i) 0 ≡ get_or (p ∷ mid ++ q ∷ []) i 0
 run_at front p mid q back i l =
-    ap (λ z. get_or z (length front + i) 0) (append_assoc front (p ∷ mid) (q ∷ back))
-    ∙ (get_or-append-add front (p ∷ mid ++ q ∷ back) i 0
+    get_or-append-add front (p ∷ mid ++ q ∷ back) i 0
     ∙ (ap (λ z. get_or z i 0) (sym (append_assoc (p ∷ mid) (q ∷ []) back))
-    ∙ get_or_append_left (p ∷ mid ++ q ∷ []) back 0 i (omega (arith, length-append (p ∷ mid) (q ∷ [])))))
+    ∙ get_or_append_left (p ∷ mid ++ q ∷ []) back 0 i (omega (arith, length-append (p ∷ mid) (q ∷ []))))
 
-length-run : (front : List ℕ) (p : ℕ) (mid : List ℕ) (q : ℕ) (back : List ℕ) → length front + length mid + 2 ≤ length (front ++ p ∷ mid ++ q ∷ back)
-length-run front p mid q back = omega (arith, length-append (front ++ p ∷ mid) (q ∷ back), length-append front (p ∷ mid))
+length-run : (front : List ℕ) (p : ℕ) (mid : List ℕ) (q : ℕ) (back : List ℕ) → length front + length mid + 2 ≤ length (front ++ (p ∷ mid ++ q ∷ back))
+length-run front p mid q back = omega (arith, length-append front (p ∷ mid ++ q ∷ back), length-append (p ∷ mid) (q ∷ back))
 
 module _ (lists : Lists) (s t : ℕ) (kept : ℕ → Bool) (ws rest : List ℕ) (completed : IsCompleted lists) (left : IsLeft lists s t kept ws rest) where
   -- what is on the outer cycle is left
   pub on_kept : (v : ℕ) → Contains ws v → kept v ≡ true
-  on_kept v on = (restricted-old lists kept completed.simple v (entry_after v ws) (left.peeled.near.cycle.darts v on)).1
+  on_kept v on = (restricted-old lists kept v (entry_after v ws) (left.peeled.near.cycle.darts v on)).1
 
   module _ (v : ℕ) (front : List ℕ) (p : ℕ) (mid : List ℕ) (q : ℕ) (back : List ℕ) (on : Contains ws v) (off : IsTakenOff lists kept s t ws v front p mid q back) (less : count_below kept (length lists) ≡ count_below (kept_but kept v) (length lists) + 1) (some : 3 ≤ count_below (kept_but kept v) (length lists)) where
     abbrev ws' : List ℕ
-    ws' = front ++ p ∷ mid ++ q ∷ back
+    ws' = front ++ (p ∷ mid ++ q ∷ back)
 
     order_more : (us : List ℕ) (cycle : ℕ → List ℕ) → IsOrderOfLeft lists s t (kept_but kept v) ws' us cycle → IsOrderOfLeft lists s t kept ws (us ++ v ∷ []) (topped cycle (suc (length us)) ws)
     order_more us cycle order =
@@ -184,7 +183,7 @@ module _ (lists : Lists) (s t : ℕ) (kept : ℕ → Bool) (ws rest : List ℕ) 
 
   -- ---- three are left
   module _ (few : count_below kept (length lists) ≡ 3) where
-    last : (x : ℕ) × (ws ≡ three s x t) × IsFaceOfThree lists x s t
+    last : (x : ℕ) × (ws ≡ three s x t) × IsFaceOfThree lists x s t × ((u : ℕ) → u < length lists → kept u ≡ true → Contains ws u)
     last = three_left lists kept s t ws left.peeled few
 
     abbrev x : ℕ
@@ -216,37 +215,16 @@ module _ (lists : Lists) (s t : ℕ) (kept : ℕ → Bool) (ws rest : List ℕ) 
     -- these three alone are left
     only_three : (u : ℕ) → kept u ≡ true → (u ≡ s) ⊎ ((u ≡ t) ⊎ (u ≡ x))
     only_three u k =
-        let ks = (restricted-old lists kept simple s x dart_sx).1 in
-        let kx = (restricted-old lists kept simple s x dart_sx).2 in
-        let kt = (restricted-old lists kept simple x t dart_xt).2 in
-        let n = length lists in
-        let one = kept_but kept s in
-        let two = kept_but one t in
-        let three' = kept_but two x in
-        let kt' : one t ≡ true = kept_but-new kept s t kt (λ e. apart.1.0 (sym e)) in
-        let kx' : two x ≡ true = kept_but-new one t x (kept_but-new kept s x kx (λ e. apart.0 (sym e))) apart.1.1 in
-        let c1 = count-kept_but kept s n (left.vertices s ks) ks in
-        let c2 = count-kept_but one t n (left.vertices t kt) kt' in
-        let c3 = count-kept_but two x n (left.vertices x kx) kx' in
-        elim (cases_eq u s) [
-          | inl e ↦ inl e
-          | inr ns ↦ elim (cases_eq u t) [
-            | inl e ↦ inr (inl e)
-            | inr nt ↦ elim (cases_eq u x) [
-              | inl e ↦ inr (inr e)
-              | inr nx ↦
-                  let ku : three' u ≡ true = kept_but-new two x u (kept_but-new one t u (kept_but-new kept s u k ns) nt) nx in
-                  let c4 = count-kept_but three' u n (left.vertices u k) ku in
-                  absurd (omega arith)
-            ]
-          ]
+        elim (three_cases s x t u (subst (λ z. Contains z u) last.1 (last.3 u (left.vertices u k) k))) [
+          | inl e ↦ inl (sym e)
+          | inr r ↦ elim r [ inl e ↦ inr (inr (sym e)) | inr e ↦ inr (inl (sym e)) ]
         ]
 
     kept_three : (u : ℕ) → Contains (s ∷ t ∷ x ∷ []) u → kept u ≡ true
     kept_three u c =
         elim (three_cases s t x u c) [
-          | inl e ↦ ap kept (sym e) ∙ (restricted-old lists kept simple s x dart_sx).1
-          | inr r ↦ elim r [ inl e ↦ ap kept (sym e) ∙ (restricted-old lists kept simple x t dart_xt).2 | inr e ↦ ap kept (sym e) ∙ (restricted-old lists kept simple s x dart_sx).2 ]
+          | inl e ↦ ap kept (sym e) ∙ (restricted-old lists kept s x dart_sx).1
+          | inr r ↦ elim r [ inl e ↦ ap kept (sym e) ∙ (restricted-old lists kept x t dart_xt).2 | inr e ↦ ap kept (sym e) ∙ (restricted-old lists kept s x dart_sx).2 ]
         ]
 
     in_three : (u : ℕ) → (u ≡ s) ⊎ ((u ≡ t) ⊎ (u ≡ x)) → Contains (s ∷ t ∷ x ∷ []) u
@@ -273,7 +251,7 @@ module _ (lists : Lists) (s t : ℕ) (kept : ℕ → Bool) (ws rest : List ℕ) 
     fan_of_three = record {
       neighbours = λ u. (
         (λ d.
-        let old = restricted-old lists kept simple x u d in
+        let old = restricted-old lists kept x u d in
         elim (only_three u old.2) [
           | inl e ↦ subst (λ z. Contains (s ∷ t ∷ []) z) (sym e) (Contains-here s (t ∷ []))
           | inr r ↦ elim r [
@@ -296,7 +274,7 @@ module _ (lists : Lists) (s t : ℕ) (kept : ℕ → Bool) (ws rest : List ℕ) 
     -- a dart between them that is not on the outer cycle
     inner_of_three : (a b : ℕ) → HasDart map a b → ¬ IsOuterDart ws a b → IsDartOfThree x s t a b
     inner_of_three a b d n =
-        let old = restricted-old lists kept simple a b d in
+        let old = restricted-old lists kept a b d in
         let no_loop = λ (e : b ≡ a). simple.no_loop a b old.0 e in
         let outer : (a' b' : ℕ) → Contains (three s x t) a' → entry_after a' (three s x t) ≡ b' → a ≡ a' → b ≡ b' → ⊥ = λ a' b' c e q r.
         n (subst (λ z. IsOuterDart z a b) (sym last.1) (subst (Contains (three s x t)) (sym q) c, ap (λ z. entry_after z (three s x t)) q ∙ (e ∙ sym r))) in

@@ -1,5 +1,4 @@
 -- Lemmas on canonical orders.
-mod Laws
 mod Built
 mod Lefts
 mod SomeOrder

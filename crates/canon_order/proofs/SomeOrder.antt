@@ -5,11 +5,12 @@ use Rattle.map_lists.specs.Lists.{Lists}
 use Rattle.map_definitions.specs.Maps.{follows}
 use Rattle.plane_laws.specs.Completed.{IsCompleted}
 use Rattle.map_peeling.specs.Restricted.{kept_but}
+use Rattle.map_peeling.proofs.FreeVertices.{some_free}
+use Rattle.map_peeling.proofs.Steps.{free_taken_off}
 use Rattle.canon_order.specs.Orders.{IsCanonicalOrder}
 use Rattle.canon_order.specs.Lefts.{IsLeft}
 use Rattle.canon_order.specs.Laws.{SomeOrder}
 use Rattle.canon_order.proofs.Lefts.{IsLeft-begin, IsLeft-taken, IsLeft-three}
-use Rattle.canon_order.proofs.Laws.{some_free, free_taken_off}
 
 module _ (lists : Lists) (s t : ℕ) (completed : IsCompleted lists) where
   -- with so many more than three left

@@ -18,7 +18,7 @@ pub record IsPutOn (lists : Lists) (us : List ℕ) (v : ℕ) (old new : List ℕ
   pub middle : List ℕ
   pub q : ℕ
   pub back : List ℕ
-  pub before : old ≡ front ++ p ∷ middle ++ q ∷ back
+  pub before : old ≡ front ++ (p ∷ middle ++ q ∷ back)
   pub after : new ≡ front ++ p ∷ v ∷ q ∷ back
   pub fan : IsFan lists (stands_in us) v p middle q
 
