@@ -1,10 +1,10 @@
 -- Orders that grow by a vertex.
-use Rattle.std.proofs.Common.{◌≡◌, ◌≢◌, ℕ, zero, suc, ◌+◌, ◌<◌, ◌≤◌, Bool, true, false, cond, eqb, List, [], ◌∷◌, ◌++◌, length, take, get_or, AllPairs, Contains, refl, sym, ap, ◌∙◌, subst, inl, inr, arith, eq-eqb, ne_eqb}
+use Rattle.std.proofs.Common.{◌≡◌, ◌≢◌, ℕ, suc, ◌<◌, ◌≤◌, cond, eqb, List, [], ◌∷◌, ◌++◌, length, take, get_or, AllPairs, Contains, refl, sym, ap, ◌∙◌, subst, inl, inr, arith, eq-eqb, ne_eqb}
 use Rattle.std.proofs.lemmas.Bool.{cases_eq, cond-true, cond-false}
 use Rattle.std.proofs.lemmas.List.{take-append-le, length-append, get_or_append_left}
 use Rattle.std.proofs.Math.Seq.{take-length, get_or-append_seam}
 use Rattle.map_lists.specs.Lists.{Lists}
-use Rattle.map_definitions.proofs.EntryLemmas.{Contains-cons_cases, Contains-here, AllPairs-append, AllPairs-from_counts, count_of, count_of-here, count_of-there}
+use Rattle.map_definitions.proofs.EntryLemmas.{Contains-cons_cases, AllPairs-append}
 use Rattle.map_peeling.specs.Restricted.{restricted, IsFaceOfThree, IsDartOfThree}
 use Rattle.map_peeling.specs.NearTriangulations.{IsOuterCycle}
 use Rattle.canon_order.specs.Orders.{stands_in, IsPutOn, IsBuiltUp, IsMade}

@@ -1,8 +1,7 @@
 -- The outer cycle as marks: how it begins, that some vertex looks free, one taken off, and how it ends.
-use Rattle.std.proofs.Common.{◌≡◌, ◌≢◌, ◌⊎◌, ◌↔◌, ℕ, zero, suc, ◌+◌, ◌<◌, Bool, true, false, List, [], ◌∷◌, ◌++◌, length, get_or, set, Contains, All, AllPairs, reverse, refl, sym, ap, ◌∙◌, subst, inl, inr, arith, lt-ltb, ltb, ltb-true}
-use Rattle.std.proofs.lemmas.Bool.{cases_eq, cases_Bool, true≢false, false≢true, false_from_ne_true}
+use Rattle.std.proofs.Common.{◌≡◌, ◌≢◌, ◌⊎◌, ◌↔◌, ℕ, ◌+◌, ◌<◌, Bool, true, false, List, [], ◌∷◌, ◌++◌, length, set, Contains, All, AllPairs, reverse, sym, ap, ◌∙◌, subst, inl, inr, arith, lt-ltb, ltb, ltb-true}
+use Rattle.std.proofs.lemmas.Bool.{cases_eq, cases_Bool, true≢false, false_from_ne_true}
 use Rattle.std.proofs.lemmas.List.{length-reverse}
-use Rattle.label_classes.specs.Classes.{count_below}
 use Rattle.map_lists.specs.Lists.{Lists}
 use Rattle.map_definitions.specs.Maps.{Dart, HasDart, list_of, follows}
 use Rattle.plane_laws.specs.Completed.{IsCompleted}
@@ -92,7 +91,7 @@ module _ (lists : Lists) (t s : ℕ) (completed : IsCompleted lists) where
           record {
             ws = fan.0 ++ (fan.1 ∷ fan.2 ++ fan.3 ∷ fan.4);
             left = subst (λ k. IsLeft lists s t k (fan.0 ++ (fan.1 ∷ fan.2 ++ fan.3 ∷ fan.4)) (v ∷ rest)) fewer
-            (IsLeft-taken lists s t (is_set kept) h.ws rest completed h.left v fan.0 fan.1 fan.2 fan.3 fan.4 free.on fan.5 less (omega arith));
+                (IsLeft-taken lists s t (is_set kept) h.ws rest completed h.left v fan.0 fan.1 fan.2 fan.3 fan.4 free.on fan.5 less (omega arith));
             marks = λ u.
                 let to : (is_set (set marked v false) u ≡ true) ⊎ (Contains (list_of lists v) u × (is_set (set kept v false) u ≡ true)) → (Contains h.ws u × (u ≢ v)) ⊎ HasDart (restricted (is_set kept) lists) v u = λ x. elim x [
                   | inl e ↦

@@ -1,9 +1,8 @@
 -- Counters that go over the entries of a list, and ranks.
-use Rattle.std.proofs.Common.{◌≡◌, ◌≢◌, ℕ, zero, suc, ◌+◌, ◌-◌, ◌<◌, ◌≤◌, ◌==◌, Bool, true, false, not, cond, eqb, List, [], ◌∷◌, ◌++◌, length, get_or, take, count_by, AllPairs, All, Contains, refl, sym, ap, ◌∙◌, subst, inl, inr, arith, eq-eqb, ne_eqb, reverse}
+use Rattle.std.proofs.Common.{◌≡◌, ◌≢◌, ℕ, ◌+◌, ◌-◌, ◌<◌, ◌≤◌, ◌==◌, Bool, true, not, cond, eqb, List, length, get_or, take, count_by, AllPairs, All, Contains, refl, sym, ap, ◌∙◌, subst, inl, inr, arith, eq-eqb, ne_eqb, reverse}
 use Rattle.std.proofs.lemmas.List.{get_or-reverse, length-reverse, get_or_default}
 use Rattle.std.proofs.lemmas.List.Sums.{count_by_more_yes, sum_by-take-le}
 use Rattle.std.proofs.lemmas.Bool.{cases_lt}
-use Rattle.label_classes.specs.Classes.{count_below}
 use Rattle.label_classes.proofs.Counting.{count_below_all, count_below_into, count_below_more}
 use Rattle.map_peeling.proofs.RestrictedMaps.{cases_Contains}
 use Rattle.canon_order.specs.Orders.{IsRankOf}

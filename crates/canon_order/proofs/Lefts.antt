@@ -1,5 +1,5 @@
 -- What is left while vertices are taken off: how it begins, one vertex less, and how it ends.
-use Rattle.std.proofs.Common.{◌≡◌, ◌≢◌, ◌⊎◌, ◌||◌, ◌&&◌, ℕ, zero, suc, ◌+◌, ◌-◌, ◌<◌, ◌≤◌, Bool, true, false, not, cond, eqb, List, [], ◌∷◌, ◌++◌, length, get_or, AllPairs, Contains, refl, sym, ap, ap₂, ◌∙◌, subst, inl, inr, arith, eq-eqb, ne_eqb, append_assoc}
+use Rattle.std.proofs.Common.{◌≡◌, ◌≢◌, ◌⊎◌, ◌||◌, ◌&&◌, ℕ, zero, suc, ◌+◌, ◌-◌, ◌<◌, ◌≤◌, Bool, true, false, not, eqb, List, [], ◌∷◌, ◌++◌, length, get_or, AllPairs, Contains, refl, sym, ap, ap₂, ◌∙◌, subst, inl, inr, arith, eq-eqb, ne_eqb, append_assoc}
 use Rattle.std.proofs.lemmas.Bool.{cases_eq, cases_Bool, true≢false, false_from_ne_true}
 use Rattle.std.proofs.lemmas.List.{append-nil, length-append, get_or_append_left, get_or-append-add}
 use Rattle.std.proofs.lemmas.List.Folds.{list_any-append}
@@ -14,10 +14,10 @@ use Rattle.plane_laws.specs.Completed.{IsCompleted}
 use Rattle.map_peeling.specs.Restricted.{restricted, kept_but, IsFaceOfThree, IsDartOfThree}
 use Rattle.map_peeling.specs.NearTriangulations.{IsOuterCycle, IsOuterDart}
 use Rattle.map_peeling.specs.Peeled.{IsPeeled, IsFan, IsTakenOff}
-use Rattle.map_peeling.proofs.RestrictedMaps.{restricted-old, restricted-new, restricted_all, kept_but-old, kept_but-new, kept_but-itself, count-kept_but}
+use Rattle.map_peeling.proofs.RestrictedMaps.{restricted-old, restricted_all, kept_but-old, kept_but-itself}
 use Rattle.map_peeling.proofs.Covers.{fan_covers}
 use Rattle.map_peeling.proofs.Ends.{nothing_taken_off, three_left}
-use Rattle.canon_order.specs.Orders.{stands_in, IsPutOn, IsBuiltUp, IsMade, IsCanonicalOrder}
+use Rattle.canon_order.specs.Orders.{stands_in, IsPutOn, IsCanonicalOrder}
 use Rattle.canon_order.specs.Lefts.{IsOrderOfLeft, IsLeft}
 use Rattle.canon_order.proofs.Built.{topped, topped-new, IsBuiltUp-base, IsBuiltUp-more, IsMade-old, IsMade-new}
 
@@ -25,7 +25,7 @@ use Rattle.canon_order.proofs.Built.{topped, topped-new, IsBuiltUp-base, IsBuilt
 abbrev three : ℕ → ℕ → ℕ → List ℕ
 three a b c = a ∷ b ∷ c ∷ []
 
-three_cases : (a b c u : ℕ) → Contains (three a b c) u → (a ≡ u) ⊎ ((b ≡ u) ⊎ (c ≡ u))
+pub three_cases : (a b c u : ℕ) → Contains (three a b c) u → (a ≡ u) ⊎ ((b ≡ u) ⊎ (c ≡ u))
 three_cases a b c u h =
     elim (Contains-cons_cases a (b ∷ c ∷ []) u h) [
       | inl e ↦ inl e
@@ -153,8 +153,8 @@ module _ (lists : Lists) (s t : ℕ) (kept : ℕ → Bool) (ws rest : List ℕ) 
         } in
         record {
           built = IsBuiltUp-more lists s t us cycle v ws order.built (omega arith)
-          (λ c. true≢false (sym (list_any-from_Contains v us c) ∙ (order.same v ∙ kept_but-itself kept v)))
-          (subst (λ k. IsOuterCycle (restricted k lists) s t ws) alike left.peeled.near.cycle) put;
+              (λ c. true≢false (sym (list_any-from_Contains v us c) ∙ (order.same v ∙ kept_but-itself kept v)))
+              (subst (λ k. IsOuterCycle (restricted k lists) s t ws) alike left.peeled.near.cycle) put;
           count = omega arith;
           same = same;
           top = topped-new cycle (suc (length us)) ws (length (us ++ v ∷ [])) (omega arith);
@@ -251,14 +251,14 @@ module _ (lists : Lists) (s t : ℕ) (kept : ℕ → Bool) (ws rest : List ℕ) 
     fan_of_three = record {
       neighbours = λ u. (
         (λ d.
-        let old = restricted-old lists kept x u d in
-        elim (only_three u old.2) [
-          | inl e ↦ subst (λ z. Contains (s ∷ t ∷ []) z) (sym e) (Contains-here s (t ∷ []))
-          | inr r ↦ elim r [
-            | inl e ↦ Contains-there s (t ∷ []) u (subst (λ z. Contains (t ∷ []) z) (sym e) (Contains-here t []))
-            | inr e ↦ absurd (simple.no_loop x u old.0 e)
-          ]
-        ]),
+            let old = restricted-old lists kept x u d in
+            elim (only_three u old.2) [
+              | inl e ↦ subst (λ z. Contains (s ∷ t ∷ []) z) (sym e) (Contains-here s (t ∷ []))
+              | inr r ↦ elim r [
+                | inl e ↦ Contains-there s (t ∷ []) u (subst (λ z. Contains (t ∷ []) z) (sym e) (Contains-here t []))
+                | inr e ↦ absurd (simple.no_loop x u old.0 e)
+              ]
+            ]),
         λ c. elim (Contains-cons_cases s (t ∷ []) u c) [
           | inl e ↦ subst (λ z. HasDart map x z) e (left.peeled.near.simple.both_ways s x dart_sx)
           | inr c' ↦ elim (Contains-cons_cases t [] u c') [ inl e ↦ subst (λ z. HasDart map x z) e dart_xt | inr n ↦ absurd (omega (arith, n.1)) ]
@@ -313,11 +313,11 @@ module _ (lists : Lists) (s t : ℕ) (kept : ℕ → Bool) (ws rest : List ℕ) 
         } in
         record {
           built = IsBuiltUp-more lists s t (s ∷ t ∷ []) (λ k. s ∷ t ∷ []) x ws base (omega arith)
-          (λ c. elim (Contains-cons_cases s (t ∷ []) x c) [
-            | inl e ↦ apart.0 e
-            | inr c' ↦ elim (Contains-cons_cases t [] x c') [ inl e ↦ apart.1.1 (sym e) | inr n ↦ omega (arith, n.1) ]
-          ])
-          (subst (λ k. IsOuterCycle (restricted k lists) s t ws) alike_three left.peeled.near.cycle) put;
+              (λ c. elim (Contains-cons_cases s (t ∷ []) x c) [
+                | inl e ↦ apart.0 e
+                | inr c' ↦ elim (Contains-cons_cases t [] x c') [ inl e ↦ apart.1.1 (sym e) | inr n ↦ omega (arith, n.1) ]
+              ])
+              (subst (λ k. IsOuterCycle (restricted k lists) s t ws) alike_three left.peeled.near.cycle) put;
           count = sym few;
           same = same_three;
           top = topped-new (λ k. s ∷ t ∷ []) 3 ws 3 refl;

@@ -1,8 +1,8 @@
 -- Lemmas on canonical orders.
+mod Cases
 mod Built
 mod Lefts
-mod SomeOrder
+mod OrderLaws
 mod Counters
 mod Marks
 mod Contours
-mod BaseDarts

@@ -1,15 +1,15 @@
 -- Marks that are set and taken away, the counters of marked neighbours, and the stack.
-use Rattle.std.proofs.Common.{◌≡◌, ◌≢◌, ◌⊎◌, ◌↔◌, ℕ, zero, suc, ◌+◌, ◌-◌, ◌<◌, ◌≤◌, ◌==◌, Bool, true, false, cond, eqb, List, [], ◌∷◌, ◌++◌, length, get_or, take, set, count_by, Contains, All, refl, sym, ap, ◌∙◌, subst, inl, inr, arith, eq-eqb, ne_eqb, length-set, get_or-set_same, get_or-set_other}
-use Rattle.std.proofs.lemmas.Bool.{cases_eq, cases_lt, cases_Bool, true≢false, false≢true}
+use Rattle.std.proofs.Common.{◌≡◌, ◌≢◌, ◌⊎◌, ◌↔◌, ℕ, ◌+◌, ◌-◌, ◌<◌, ◌≤◌, Bool, true, false, cond, eqb, List, [], ◌∷◌, ◌++◌, length, get_or, take, set, count_by, Contains, All, refl, sym, ap, ◌∙◌, subst, inl, inr, arith, eq-eqb, ne_eqb, length-set, get_or-set_same, get_or-set_other}
+use Rattle.std.proofs.lemmas.Bool.{cases_eq, cases_lt, true≢false, false≢true}
 use Rattle.std.proofs.lemmas.List.{get_or_past, get_or_default, take_more, length-take-le, get_or-take}
 use Rattle.std.proofs.lemmas.List.Sums.{sum_by-cons, count_by-le-length}
-use Rattle.std.proofs.lemmas.List.Elements.{All-append, All-cons, All-nil, Contains-append_left, Contains-append_right, Contains-append_cases, Contains-get_or}
+use Rattle.std.proofs.lemmas.List.Elements.{All-nil, Contains-append_left, Contains-append_right, Contains-append_cases, Contains-get_or}
 use Rattle.map_lists.specs.Lists.{Lists}
-use Rattle.map_definitions.specs.Maps.{HasDart, IsSimpleMap, list_of}
+use Rattle.map_definitions.specs.Maps.{IsSimpleMap, list_of}
 use Rattle.map_definitions.proofs.EntryLemmas.{count_of, count_of-le-one, Contains-from_count_of, Contains-counted, Contains-here, Contains-there, Contains-cons_cases}
 use Rattle.half_edges.proofs.TableArena.{few_entries}
 use Rattle.map_peeling.proofs.RestrictedMaps.{cases_Contains}
-use Rattle.canon_order.specs.Contours.{is_set, IsCounted, LooksFree, IsStacked}
+use Rattle.canon_order.specs.Contours.{is_set, IsCounted, IsStacked}
 
 -- a test that passes at one number more counts that number too
 count_by-one_more : (p q : ℕ → Bool) (v : ℕ) → p v ≡ false → q v ≡ true → ((u : ℕ) → u ≢ v → q u ≡ p u) → (us : List ℕ) → count_by q us ≡ count_by p us + count_of v us

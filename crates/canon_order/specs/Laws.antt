@@ -1,7 +1,7 @@
 -- The laws of canonical orders, as statements about all maps.
-use Rattle.std.specs.Prelude.{ℕ, List, ◌⊎◌}
+use Rattle.std.specs.Prelude.{ℕ, List}
 use Rattle.map_lists.specs.Lists.{Lists}
-use Rattle.map_definitions.specs.Maps.{Dart, HasDart, follows}
+use Rattle.map_definitions.specs.Maps.{Dart, HasDart}
 use Rattle.plane_laws.specs.Completed.{IsCompleted}
 use Rattle.canon_order.specs.Orders.{IsCanonicalOrder}
 

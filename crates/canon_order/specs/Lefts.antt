@@ -1,8 +1,8 @@
 -- What is left of a completed map while its vertices are taken off, and what is kept of it.
-use Rattle.std.specs.Prelude.{ℕ, suc, ◌+◌, ◌<◌, ◌≡◌, ◌≢◌, ◌↔◌, Bool, true, false, List, [], ◌∷◌, ◌++◌, length, slice_index, slice_index_or, count_by, Contains, All}
+use Rattle.std.specs.Prelude.{ℕ, ◌+◌, ◌<◌, ◌≡◌, Bool, true, List, ◌++◌, length}
 use Rattle.label_classes.specs.Classes.{count_below}
 use Rattle.map_lists.specs.Lists.{Lists}
-use Rattle.map_definitions.specs.Maps.{HasDart, list_of}
+use Rattle.map_definitions.specs.Maps.{HasDart}
 use Rattle.map_peeling.specs.Restricted.{restricted}
 use Rattle.map_peeling.specs.NearTriangulations.{IsOuterDart}
 use Rattle.map_peeling.specs.Peeled.{IsPeeled}

@@ -1,11 +1,12 @@
 -- Canonical orders of completed maps.
-use Rattle.std.specs.Prelude.{ℕ, suc, ◌+◌, ◌-◌, ◌<◌, ◌≤◌, ◌≡◌, ◌≢◌, ◌==◌, Bool, List, [], ◌∷◌, ◌++◌, length, take, slice_index, AllPairs, All}
+use Rattle.std.specs.Prelude.{ℕ, suc, ◌-◌, ◌<◌, ◌≤◌, ◌≡◌, ◌≢◌, ◌==◌, Bool, List, [], ◌∷◌, ◌++◌, map, length, take, slice_index, AllPairs, All}
 use Rattle.std.specs.List.{list_any}
 use Rattle.map_lists.specs.Lists.{Lists}
 use Rattle.map_definitions.specs.Maps.{Dart, HasDart, vertex_count, follows}
 use Rattle.map_peeling.specs.Restricted.{restricted, IsFaceOfThree, IsDartOfThree}
 use Rattle.map_peeling.specs.NearTriangulations.{IsOuterCycle}
 use Rattle.map_peeling.specs.Peeled.{IsFan}
+use Rattle.canon_order.specs.declared.order.Order.{Order}
 
 -- whether v stands in a list
 abbrev pub stands_in : List ℕ → ℕ → Bool
@@ -61,3 +62,7 @@ pub record IsRankOf (rank at : List ℕ) : Type 0 where
   pub count : length rank ≡ length at
   pub of_place : (i : ℕ) → i < length at → slice_index rank (slice_index at i) ≡ i
   pub of_vertex : (v : ℕ) → v < length at → slice_index at (slice_index rank v) ≡ v
+
+-- the vertices of an order, one after another, by their numbers
+abbrev pub vertices_of : Order → List ℕ
+vertices_of order = map (λ v. v.0) order.at

@@ -26,7 +26,13 @@ fn put_on(stack: &mut Vec<u16>, v: u16, others: &[u16]) -> Result<(), AllocError
 }
 
 // Marks a vertex: its neighbours have one marked neighbour more.
-fn mark(marked: &mut [bool], counts: &mut [u16], stack: &mut Vec<u16>, lists: &Rotations, v: u16) -> Result<(), AllocError>
+fn mark(
+    marked: &mut [bool],
+    counts: &mut [u16],
+    stack: &mut Vec<u16>,
+    lists: &Rotations,
+    v: u16,
+) -> Result<(), AllocError>
     requires simple { IsSimpleMap lists.now }
     requires few { length lists.now < 4096 }
     requires vertex { v < length lists.now }
@@ -42,7 +48,13 @@ fn mark(marked: &mut [bool], counts: &mut [u16], stack: &mut Vec<u16>, lists: &R
 }
 
 // Takes the mark of a vertex away: its neighbours have one marked neighbour less.
-fn unmark(marked: &mut [bool], counts: &mut [u16], stack: &mut Vec<u16>, lists: &Rotations, v: u16) -> Result<(), AllocError>
+fn unmark(
+    marked: &mut [bool],
+    counts: &mut [u16],
+    stack: &mut Vec<u16>,
+    lists: &Rotations,
+    v: u16,
+) -> Result<(), AllocError>
     requires simple { IsSimpleMap lists.now }
     requires vertex { v < length lists.now }
     requires counted { IsCounted lists.now marked.old counts.old stack.old.items }
@@ -57,7 +69,14 @@ fn unmark(marked: &mut [bool], counts: &mut [u16], stack: &mut Vec<u16>, lists: 
 }
 
 // Marks a vertex, if it is left and not marked.
-fn mark_left(marked: &mut [bool], kept: &[bool], counts: &mut [u16], stack: &mut Vec<u16>, lists: &Rotations, v: u16) -> Result<(), AllocError>
+fn mark_left(
+    marked: &mut [bool],
+    kept: &[bool],
+    counts: &mut [u16],
+    stack: &mut Vec<u16>,
+    lists: &Rotations,
+    v: u16,
+) -> Result<(), AllocError>
     requires simple { IsSimpleMap lists.now }
     requires few { length lists.now < 4096 }
     requires vertex { v < length lists.now }
@@ -75,7 +94,14 @@ fn mark_left(marked: &mut [bool], kept: &[bool], counts: &mut [u16], stack: &mut
 }
 
 // Marks those of some vertices that are left, and not marked.
-fn mark_all(marked: &mut [bool], kept: &[bool], counts: &mut [u16], stack: &mut Vec<u16>, lists: &Rotations, entries: &[u16]) -> Result<(), AllocError>
+fn mark_all(
+    marked: &mut [bool],
+    kept: &[bool],
+    counts: &mut [u16],
+    stack: &mut Vec<u16>,
+    lists: &Rotations,
+    entries: &[u16],
+) -> Result<(), AllocError>
     requires simple { IsSimpleMap lists.now }
     requires few { length lists.now < 4096 }
     requires vertices { All (λ u. u < length lists.now) entries.now }
@@ -101,7 +127,14 @@ fn is_free(marked: &[bool], counts: &[u16], t: u16, s: u16, v: u16) -> bool
 }
 
 // A vertex that looks free, where there is one.
-pub(crate) fn free_vertex(marked: &[bool], counts: &[u16], stack: &mut Vec<u16>, lists: &Rotations, t: u16, s: u16) -> u16
+pub(crate) fn free_vertex(
+    marked: &[bool],
+    counts: &[u16],
+    stack: &mut Vec<u16>,
+    lists: &Rotations,
+    t: u16,
+    s: u16,
+) -> u16
     requires counted { IsCounted lists.now marked.now counts.now stack.old.items }
     requires stacked { IsStacked t s marked.now counts.now stack.old.items }
     requires some { (v : ℕ) × LooksFree t s marked.now counts.now v }
@@ -121,7 +154,14 @@ pub(crate) fn free_vertex(marked: &[bool], counts: &[u16], stack: &mut Vec<u16>,
 }
 
 // Takes a vertex off: its neighbours that are left are on the outer cycle now.
-pub(crate) fn take_off(marked: &mut [bool], kept: &mut [bool], counts: &mut [u16], stack: &mut Vec<u16>, lists: &Rotations, v: u16) -> Result<(), AllocError>
+pub(crate) fn take_off(
+    marked: &mut [bool],
+    kept: &mut [bool],
+    counts: &mut [u16],
+    stack: &mut Vec<u16>,
+    lists: &Rotations,
+    v: u16,
+) -> Result<(), AllocError>
     requires simple { IsSimpleMap lists.now }
     requires few { length lists.now < 4096 }
     requires vertex { v < length lists.now }
@@ -139,7 +179,15 @@ pub(crate) fn take_off(marked: &mut [bool], kept: &mut [bool], counts: &mut [u16
 }
 
 // Marks the three vertices of the base's face.
-pub(crate) fn mark_base(marked: &mut [bool], counts: &mut [u16], stack: &mut Vec<u16>, lists: &Rotations, t: u16, s: u16, third: u16) -> Result<(), AllocError>
+pub(crate) fn mark_base(
+    marked: &mut [bool],
+    counts: &mut [u16],
+    stack: &mut Vec<u16>,
+    lists: &Rotations,
+    t: u16,
+    s: u16,
+    third: u16,
+) -> Result<(), AllocError>
     requires simple { IsSimpleMap lists.now }
     requires few { length lists.now < 4096 }
     requires t_in { t < length lists.now }

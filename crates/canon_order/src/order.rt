@@ -1,10 +1,10 @@
 //! Canonical orders.
-ghost use Rattle.std.specs.Prelude.{◌≡◌, ◌<◌, ℕ, false, true, [], ◌∷◌, ◌++◌, map, reverse, length, slice_index, Some, IfOk};
+ghost use Rattle.std.specs.Prelude.{◌≡◌, ◌<◌, ℕ, false, true, [], ◌∷◌, ◌++◌, reverse, length, slice_index, Some, IfOk};
 ghost use Rattle.map_definitions.specs.Maps.{HasDart, follows};
 ghost use Rattle.plane_laws.specs.Completed.{IsCompleted};
 ghost use Rattle.half_edges.specs.Map.{IsLive, dart_at};
 ghost use Rattle.canon_order.specs.Contours.{is_set};
-ghost use Rattle.canon_order.specs.Orders.{IsCanonicalOrder, IsRankOf};
+ghost use Rattle.canon_order.specs.Orders.{IsCanonicalOrder, IsRankOf, vertices_of};
 
 use crate::contour::{free_vertex, mark_base, take_off};
 use crate::fault::OrderFault;
@@ -12,12 +12,12 @@ use crate::lists::{turned_ranks, turned_vertices};
 use half_edges::{Counts, DartId, HalfMap, Rotations, VertexList};
 use std::alloc::{AllocError, Global};
 
-/// An order of a map's vertices.
+/// An order of a map's vertices, and its inverse.
 #[derive(Drop)]
 pub struct Order {
-    /// The vertices, one after another.
+    /// The vertices, one after another, all of them once.
     pub at: VertexList,
-    /// For each vertex its place in `at`, from 0.
+    /// For each vertex, by its number, its place in `at`, from 0.
     pub rank: Counts,
 }
 
@@ -33,7 +33,18 @@ fn push_three(taken: &mut Vec<u16>, first: u16, second: u16, third: u16) -> Resu
 
 // Takes vertices off until three are left, and those too: from the last one of an order to the first. At
 // first all vertices are left, and none is marked.
-fn peel(marked: &mut [bool], kept: &mut [bool], counts: &mut [u16], stack: &mut Vec<u16>, taken: &mut Vec<u16>, lists: &Rotations, t: u16, s: u16, third: u16, under: u16) -> Result<(), AllocError>
+fn peel(
+    marked: &mut [bool],
+    kept: &mut [bool],
+    counts: &mut [u16],
+    stack: &mut Vec<u16>,
+    taken: &mut Vec<u16>,
+    lists: &Rotations,
+    t: u16,
+    s: u16,
+    third: u16,
+    under: u16,
+) -> Result<(), AllocError>
     requires completed { IsCompleted lists.now }
     requires few { length lists.now < 4096 }
     requires base { HasDart lists.now t s }
@@ -59,7 +70,14 @@ fn peel(marked: &mut [bool], kept: &mut [bool], counts: &mut [u16], stack: &mut 
 }
 
 // The vertices from the last one of an order to the first.
-fn taken_off(alloc: Global, lists: &Rotations, t: u16, s: u16, third: u16, under: u16) -> Result<Vec<u16>, AllocError>
+fn taken_off(
+    alloc: Global,
+    lists: &Rotations,
+    t: u16,
+    s: u16,
+    third: u16,
+    under: u16,
+) -> Result<Vec<u16>, AllocError>
     requires completed { IsCompleted lists.now }
     requires few { length lists.now < 4096 }
     requires base { HasDart lists.now t s }
@@ -73,16 +91,40 @@ fn taken_off(alloc: Global, lists: &Rotations, t: u16, s: u16, third: u16, under
     let mut counts = vec![in alloc; 0; n]?;
     let mut stack = Vec::new(alloc);
     let mut taken = Vec::new(alloc);
-    peel(&mut marked, &mut kept, &mut counts, &mut stack, &mut taken, lists, t, s, third, under)?;
+    peel(
+        &mut marked,
+        &mut kept,
+        &mut counts,
+        &mut stack,
+        &mut taken,
+        lists,
+        t,
+        s,
+        third,
+        under,
+    )?;
     Ok(taken)
 }
 
-/// A canonical order.
+/// A canonical order of a completed map, a simple map of genus zero with n >= 3 and m = 3n - 6, for a base
+/// dart, from t to s.
+///
+/// `at` has all vertices once: s is the first, t the second, and the third vertex of the face on the left
+/// of the base is the last. Each vertex from the third place on is put on the outer cycle of the map of
+/// those before it: its neighbours among these are at least two consecutive vertices of that cycle, which
+/// goes from s to t, and each two of them that follow one another are a face of the whole map with it.
+/// These faces are all but that of the base. `rank` has the place of each vertex in `at`.
+///
+/// It fails only for want of memory. The map stays as it is. The time is linear in the vertices: they are
+/// taken off from the last one on, each goes onto the outer cycle and off it once, and its neighbours
+/// count how many of theirs are there; one with just two may be taken off.
+///
+/// Source: de Fraysseix, Pach, Pollack, How to draw a planar graph on a grid, 1990.
 pub fn canon_order(alloc: Global, tri: &HalfMap, base: DartId) -> Result<Order, OrderFault>
     requires completed { IsCompleted tri.now.lists }
     requires live { IsLive tri.now base.0 }
-    ensures order { IfOk result (λ order. (t s : ℕ) → dart_at tri.now base.0 ≡ Some (t, s) → IsCanonicalOrder tri.now.lists (t, s) (map (λ v. v.0) order.at)) }
-    ensures rank { IfOk result (λ order. IsRankOf order.rank (map (λ v. v.0) order.at)) }
+    ensures order { IfOk result (λ order. (t s : ℕ) → dart_at tri.now base.0 ≡ Some (t, s) → IsCanonicalOrder tri.now.lists (t, s) (vertices_of order)) }
+    ensures rank { IfOk result (λ order. IsRankOf order.rank (vertices_of order)) }
 {
     tri.facts();
     let lists = tri.rotations(alloc)?;

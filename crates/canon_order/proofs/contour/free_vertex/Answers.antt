@@ -1,7 +1,7 @@
 use Rattle.std.proofs.Common.{◌≡◌, ◌-◌, ◌<◌, ℕ, List, length, take, slice_index_or, All, Contains, subst, sym, ap, ◌∙◌, arith, vec_len}
 use Rattle.std.proofs.lemmas.Bool.{false≢true}
 use Rattle.std.proofs.lemmas.List.Elements.{All-take}
-use Rattle.canon_order.specs.Contours.{IsCounted, IsStacked, LooksFree}
+use Rattle.canon_order.specs.Contours.{LooksFree}
 use Rattle.canon_order.proofs.Marks.{Contains-before_last}
 use Rattle.canon_order.proofs.contour.free_vertex.Goals as goal
 

@@ -1,4 +1,4 @@
-use Rattle.std.proofs.Common.{◌≡◌, ◌↔◌, ◌⊎◌, ◌+◌, ◌<◌, ℕ, List, Bool, true, false, [], ◌∷◌, ◌++◌, length, reverse, set, Contains, sym, ap, ◌∙◌, subst, arith, length-set}
+use Rattle.std.proofs.Common.{◌≡◌, ◌↔◌, ◌⊎◌, ◌<◌, ℕ, List, Bool, true, false, [], ◌∷◌, length, reverse, set, Contains, sym, ap, ◌∙◌, subst, arith, length-set}
 use Rattle.std.proofs.lemmas.List.{reverse-append, length-append, length-reverse}
 use Rattle.std.proofs.lemmas.Result.{IfOk-weaker}
 use Rattle.map_definitions.specs.Maps.{follows, list_of}
@@ -41,7 +41,7 @@ loop-init c =
       counted = c.in_ok-mark_base.ensures.counted;
       stacked = c.in_ok-mark_base.ensures.stacked;
       contour = subst (λ (us : List ℕ). IsContour lists c.args.t c.args.s c.args.kept.now c.mark_base.new.marked (reverse us)) (sym c.requires.nothing)
-      (IsContour-begin lists c.args.t c.args.s c.requires.completed c.requires.base c.args.kept.now c.mark_base.new.marked c.requires.kept c.requires.all marks);
+          (IsContour-begin lists c.args.t c.args.s c.requires.completed c.requires.base c.args.kept.now c.mark_base.new.marked c.requires.kept c.requires.all marks);
       place = let none = ap length c.requires.nothing in omega arith;
     }
 
@@ -67,7 +67,7 @@ loop-preserved c =
       counted = c.in_ok-take_off.ensures.counted;
       stacked = c.in_ok-take_off.ensures.stacked c.args.t c.args.s c.free_vertex-v.ensures.stacked;
       contour = subst (λ (k : List Bool). IsContour lists c.args.t c.args.s k c.take_off.new.marked (reverse c.push.new.self.items)) (sym kept)
-      (subst (λ (r : List ℕ). IsContour lists c.args.t c.args.s (set c.loop.kept v false) c.take_off.new.marked r) (sym (ap reverse items ∙ reverse-append us (v ∷ []))) taken);
+          (subst (λ (r : List ℕ). IsContour lists c.args.t c.args.s (set c.loop.kept v false) c.take_off.new.marked r) (sym (ap reverse items ∙ reverse-append us (v ∷ []))) taken);
       place = let more = ap length items in let push = length-append us (v ∷ []) in let place = h.place in omega arith;
     }
 

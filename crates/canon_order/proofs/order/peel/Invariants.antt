@@ -1,4 +1,4 @@
-use Rattle.std.proofs.Common.{◌≡◌, ◌+◌, length, reverse, vec_len}
+use Rattle.std.proofs.Common.{◌≡◌, ◌+◌, length, reverse}
 use Rattle.canon_order.specs.Contours.{IsCounted, IsStacked, IsContour}
 use Rattle.canon_order.proofs.order.peel.Given as goal
 
