@@ -1,0 +1,8 @@
+-- Lemmas on canonical orders.
+mod Cases
+mod Built
+mod Lefts
+mod OrderLaws
+mod Counters
+mod Marks
+mod Contours
