@@ -3,7 +3,7 @@ use Rattle.std.proofs.Common.{◌≡◌, ◌≢◌, ◌⊎◌, ℕ, zero, suc, �
 use Rattle.map_lists.specs.Lists.{Lists}
 use Rattle.map_definitions.specs.Maps.{HasDart, follows, entry_after}
 use Rattle.map_peeling.specs.Restricted.{restricted, kept_but, IsFaceOfThree}
-use Rattle.map_peeling.specs.NearTriangulations.{IsOuterCycle, IsFree}
+use Rattle.map_peeling.specs.NearTriangulations.{IsOuterCycle, IsFree, IsFreeStretch}
 use Rattle.map_peeling.specs.Peeled.{IsFan}
 use Rattle.map_peeling.proofs.Rings.{AllPairs-put, each_of_one, each_of_two, each_of_three}
 
@@ -80,6 +80,10 @@ square_chord free =
 -- nor is a vertex of the base, which has no chord
 square_base : ¬ IsFree square 1 0 around 1
 square_base free = free.not_first refl
+
+-- the diagonal cuts it off
+square_stretch : IsFreeStretch square 1 0 around (1 ∷ []) 2 (3 ∷ []) 0 []
+square_stretch = record { parts = refl; some = omega arith; chord = (omega arith, (1, omega arith, refl)); free = λ v c. each_of_one (IsFree square 1 0 around) 3 square_free v c }
 
 -- ---- the octahedron, with the base from 0 to 1
 abbrev octahedron : Lists

@@ -19,34 +19,34 @@ use Rattle.map_peeling.proofs.OuterCycles.{next-on, next-apart, last_on, next-la
 
 module _ (lists : Lists) (s t : ℕ) (ws : List ℕ) (simple : IsSimpleMap lists) (plane : IsPlane lists) (cycle : IsOuterCycle lists s t ws) where
   -- the vertices of the cycle
-  abbrev on : ℕ → Bool
+  abbrev pub on : ℕ → Bool
   on u = list_any (λ w. w == u) ws
 
-  abbrev rest : Lists
+  abbrev pub rest : Lists
   rest = restricted on lists
 
-  abbrev step : ℕ → ℕ
+  abbrev pub step : ℕ → ℕ
   step x = entry_after x ws
 
   on_is : (u : ℕ) → Contains ws u → on u ≡ true
   on_is u c = list_any-from_Contains u ws c
 
-  kept_dart : (x y : ℕ) → Contains ws x → Contains ws y → HasDart lists x y → HasDart rest x y
+  pub kept_dart : (x y : ℕ) → Contains ws x → Contains ws y → HasDart lists x y → HasDart rest x y
   kept_dart x y c c' d = restricted-new lists on x y d (on_is x c) (on_is y c')
 
-  old : (x y : ℕ) → HasDart rest x y → Contains ws x
+  pub old : (x y : ℕ) → HasDart rest x y → Contains ws x
   old x y d = Contains-from_list_any x ws (restricted-old lists on x y d).1
 
-  simple' : IsSimpleMap rest
+  pub simple' : IsSimpleMap rest
   simple' = (restricted-map lists on simple).simple
 
-  stays_on : (x : ℕ) → Contains ws x → Contains ws (step x)
+  pub stays_on : (x : ℕ) → Contains ws x → Contains ws (step x)
   stays_on x c = next-on lists s t ws simple cycle x c
 
-  cycle_dart : (x : ℕ) → Contains ws x → HasDart rest x (step x)
+  pub cycle_dart : (x : ℕ) → Contains ws x → HasDart rest x (step x)
   cycle_dart x c = kept_dart x (step x) c (stays_on x c) (cycle.darts x c)
 
-  cycle_turn : (x : ℕ) → Contains ws x → follows rest (step x) x ≡ step (step x)
+  pub cycle_turn : (x : ℕ) → Contains ws x → follows rest (step x) x ≡ step (step x)
   cycle_turn x c =
       let m = restricted-map lists on simple in
       let c1 = stays_on x c in
@@ -54,10 +54,10 @@ module _ (lists : Lists) (s t : ℕ) (ws : List ℕ) (simple : IsSimpleMap lists
       and_from (on (step x)) (on (follows lists (step x) x)) (on_is (step x) c1) (ap on (cycle.turns x c) ∙ on_is (step (step x)) (stays_on (step x) c1)) in
       m.follows_same (step x) x (m.simple.both_ways x (step x) (cycle_dart x c)) kept ∙ cycle.turns x c
 
-  cycle_rest : IsOuterCycle rest s t ws
+  pub cycle_rest : IsOuterCycle rest s t ws
   cycle_rest = record { long = cycle.long; first = cycle.first; last = cycle.last; distinct = cycle.distinct; darts = cycle_dart; turns = cycle_turn }
 
-  outer_face : IsOuterFace rest step
+  pub outer_face : IsOuterFace rest step
   outer_face =
       let all = one_label rest s t ws simple' cycle_rest in
       record {

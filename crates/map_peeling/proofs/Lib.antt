@@ -5,6 +5,7 @@ pub mod RestrictedMaps
 pub mod OuterCycles
 pub mod BaseFaces
 pub mod FreeVertices
+pub mod FreeStretches
 pub mod Fans
 pub mod CycleAfter
 pub mod TakenOff

@@ -269,3 +269,12 @@ pub Leads-at : (next : ℕ → ℕ) (x : ℕ) (l : List ℕ) (t d i : ℕ) → L
 Leads-at next x [] t d i h n = absurd (omega arith)
 Leads-at next x (w ∷ l) t d zero h n = sym h.0
 Leads-at next x (w ∷ l) t d (suc i) h n = Leads-at next w l t d i h.1 (omega arith)
+
+-- of two ways from one entry that which meets the other's end at its own alone, if at all, is the front of the other
+pub Leads-front : (next : ℕ → ℕ) (x : ℕ) (l r : List ℕ) (t y : ℕ) → Leads next x l t → Leads next x (r ++ y ∷ []) y → ((z : ℕ) → Contains (x ∷ r) z → z ≢ t) → (more : List ℕ) × (l ≡ r ++ y ∷ more)
+Leads-front next x [] r t y h h' n = absurd (n x (Contains-here x r) h)
+Leads-front next x (a ∷ l) [] t y h h' n = (l, ap (λ z. z ∷ l) (sym h.0 ∙ h'.0))
+Leads-front next x (a ∷ l) (b ∷ r) t y h h' n =
+    let e : a ≡ b = sym h.0 ∙ h'.0 in
+    let rest = Leads-front next b l r t y (subst (λ z. Leads next z l t) e h.1) h'.1 (λ z c. n z (Contains-there x (b ∷ r) z c)) in
+    (rest.0, ap₂ (λ z m. z ∷ m) e rest.1)

@@ -2,7 +2,7 @@
 //! nothing, and speaks of all maps.
 #![tactic(auto)]
 
-ghost use Rattle.map_peeling.specs.Laws.{ConnectedTakenOff, CycleAfter, FanCovers, FreeByCount, FreeTakenOff, NothingTakenOff, OuterCycleIsFace, SomeFree, ThreeLeft};
+ghost use Rattle.map_peeling.specs.Laws.{ConnectedTakenOff, CycleAfter, FanCovers, FreeByCount, FreeTakenOff, NothingTakenOff, OuterCycleIsFace, SomeFree, SomeFreeStretch, ThreeLeft};
 
 /// The darts of an outer cycle are those of the face of its base, and no others.
 pub fn outer_cycle_is_face()
@@ -13,6 +13,12 @@ pub fn outer_cycle_is_face()
 /// that has no chord: of its neighbours just those before and after it are on the cycle.
 pub fn some_free()
     ensures { SomeFree }
+{}
+
+/// There is even a stretch of such vertices, between two vertices of the cycle that are adjacent by a chord
+/// or by the base.
+pub fn some_free_stretch()
+    ensures { SomeFreeStretch }
 {}
 
 /// A completed map of which nothing is taken off is a near triangulation, whose outer cycle is the face of
