@@ -1,24 +1,21 @@
 -- A stretch of vertices without chords: restricted to the vertices of the cycle, the map has a leaf of its outer face, whose face runs back along the cycle.
 use Rattle.std.proofs.Common.{◌≡◌, ◌≢◌, ℕ, zero, suc, ◌+◌, ◌-◌, ◌<◌, ◌≤◌, List, [], ◌∷◌, ◌++◌, length, get_or, AllPairs, Contains, refl, sym, ap, ◌∙◌, subst, inl, inr, arith}
 use Rattle.std.proofs.lemmas.List.{append_assoc, length-append, get_or_default, get_or_append_left}
+use Rattle.std.proofs.lemmas.List.Elements.{Contains-get_or}
 use Rattle.map_lists.specs.Lists.{Lists}
-use Rattle.map_definitions.specs.Maps.{Dart, list_of, HasDart, IsSimpleMap, IsPlane, follows, face_step, entry_after}
+use Rattle.map_definitions.specs.Maps.{list_of, HasDart, IsSimpleMap, IsPlane, follows, entry_after}
 use Rattle.map_definitions.specs.Paths.{SameFace}
 use Rattle.map_definitions.proofs.EntryLemmas.{Contains-cons_cases, AllPairs-left}
 use Rattle.map_definitions.proofs.DartLemmas.{HasDart-follows}
-use Rattle.plane_laws.proofs.DartPaths.{same_face, face_together, face_step_together}
+use Rattle.plane_laws.proofs.DartPaths.{same_face, same_face-step}
 use Rattle.map_edits.specs.OuterFaces.{IsOuterLeaf}
 use Rattle.map_edits.proofs.OuterFaces.{outer_leaf_law}
 use Rattle.map_peeling.specs.NearTriangulations.{IsOuterCycle, IsFree, IsFreeStretch}
-use Rattle.map_peeling.specs.Laws.{SomeFreeStretch}
+use Rattle.map_peeling.specs.Laws.{SomeFree, SomeFreeStretch}
 use Rattle.map_peeling.proofs.Rings.{Leads, Leads-part, Leads-join, Leads-at, Leads-front, Contains-counts, AllPairs-counts, parted_at, last-entry, only_two, ring_from}
 use Rattle.map_peeling.proofs.RestrictedMaps.{restricted-map, restricted-old}
 use Rattle.map_peeling.proofs.OuterCycles.{next-apart, last_on, next-last, round}
-use Rattle.map_peeling.proofs.FreeVertices.{on, rest, simple', kept_dart, old, stays_on, cycle_dart, cycle_turn, outer_face}
-
--- the face goes on from a dart of it to the next
-same_face_step : (lists : Lists) → IsSimpleMap lists → (d e : Dart) → HasDart lists e.0 e.1 → SameFace lists d e → SameFace lists d (face_step lists e)
-same_face_step lists simple d e has same = same_face lists simple d (face_step lists e) (face_together lists simple d e same ∙ face_step_together lists simple e has)
+use Rattle.map_peeling.proofs.OnCycle.{on, rest, simple', kept_dart, old, stays_on, cycle_dart, cycle_turn, outer_face}
 
 module _ (lists : Lists) (s t : ℕ) (ws : List ℕ) (simple : IsSimpleMap lists) (plane : IsPlane lists) (cycle : IsOuterCycle lists s t ws) where
   abbrev R : Lists
@@ -96,7 +93,7 @@ module _ (lists : Lists) (s t : ℕ) (ws : List ℕ) (simple : IsSimpleMap lists
     one_back x i l d face ne on_i =
         let y = follows R (at (suc i)) x in
         let d' = HasDart-follows R (at (suc i)) x (sR.both_ways x (at (suc i)) d) in
-        let face' = same_face_step R sR (u, w) (x, at (suc i)) d face in
+        let face' = same_face-step R sR (u, w) (x, at (suc i)) d face in
         let is = leaf.others (at (suc i)) y d' face' (λ e. ne e.0) in
         let on_y = on_ws y (at (suc i)) (sR.both_ways (at (suc i)) y d') in
         let y_i : y ≡ at i = apart y (at i) on_y on_i (is.0 ∙ sym (at_next i l)) in (
@@ -204,6 +201,13 @@ module _ (lists : Lists) (s t : ℕ) (ws : List ℕ) (simple : IsSimpleMap lists
       let is = stretch_here u w leaf parts.0 way row_distinct in
       (is.0, u, parts.0, w, is.1, is.2)
 
--- THE LAW: a stretch of vertices without chords
+-- THE LAWS: a stretch of vertices without chords, and so one such vertex
 pub some_free_stretch : SomeFreeStretch
 some_free_stretch lists s t ws simple plane cycle = stretch lists s t ws simple plane cycle
+
+pub some_free : SomeFree
+some_free lists s t ws simple plane cycle =
+    let found = some_free_stretch lists s t ws simple plane cycle in
+    let between = found.2 in
+    let is = found.5 in
+    (get_or between 0 0, is.free (get_or between 0 0) (Contains-get_or between 0 0 is.some))

@@ -4,7 +4,7 @@ pub mod Rings
 pub mod RestrictedMaps
 pub mod OuterCycles
 pub mod BaseFaces
-pub mod FreeVertices
+pub mod OnCycle
 pub mod FreeStretches
 pub mod Fans
 pub mod CycleAfter

@@ -1,21 +1,17 @@
--- An outer cycle has a vertex without a chord: restricted to the vertices of the cycle, the map has an ear of its outer face.
-use Rattle.std.proofs.Common.{◌≡◌, ℕ, Bool, true, List, Contains, refl, sym, ap, ◌∙◌, inl, inr, ◌==◌}
+-- The map restricted to the vertices of an outer cycle, which is an outer face that meets each vertex once.
+use Rattle.std.proofs.Common.{◌≡◌, ℕ, Bool, true, List, Contains, sym, ap, ◌∙◌, ◌==◌}
 use Rattle.std.specs.List.{list_any}
 use Rattle.std.proofs.lemmas.Bool.{and_from}
 use Rattle.map_lists.specs.Lists.{Lists}
-use Rattle.map_definitions.specs.Maps.{list_of, HasDart, IsSimpleMap, IsPlane, follows, entry_after}
+use Rattle.map_definitions.specs.Maps.{HasDart, IsSimpleMap, IsPlane, follows, entry_after}
 use Rattle.map_definitions.proofs.EntryLemmas.{Contains-from_list_any, list_any-from_Contains}
-use Rattle.map_definitions.proofs.DartLemmas.{HasDart-follows}
 use Rattle.plane_laws.proofs.DartPaths.{same_face}
 use Rattle.map_edits.specs.OuterFaces.{IsOuterFace}
-use Rattle.map_edits.proofs.OuterFaces.{outer_ear_law}
 use Rattle.map_peeling.specs.Restricted.{restricted}
-use Rattle.map_peeling.specs.NearTriangulations.{IsOuterCycle, IsFree}
-use Rattle.map_peeling.specs.Laws.{SomeFree}
-use Rattle.map_peeling.proofs.Rings.{only_two}
+use Rattle.map_peeling.specs.NearTriangulations.{IsOuterCycle}
 use Rattle.map_peeling.proofs.BaseFaces.{one_label}
 use Rattle.map_peeling.proofs.RestrictedMaps.{both, restricted-map, restricted-old, restricted-new}
-use Rattle.map_peeling.proofs.OuterCycles.{next-on, next-apart, last_on, next-last, two_steps_on}
+use Rattle.map_peeling.proofs.OuterCycles.{next-on, two_steps_on}
 
 module _ (lists : Lists) (s t : ℕ) (ws : List ℕ) (simple : IsSimpleMap lists) (plane : IsPlane lists) (cycle : IsOuterCycle lists s t ws) where
   -- the vertices of the cycle
@@ -66,32 +62,3 @@ module _ (lists : Lists) (s t : ℕ) (ws : List ℕ) (simple : IsSimpleMap lists
         one = λ u v d d'. same_face rest simple' (u, step u) (v, step v) (all u (old u (step u) d) ∙ sym (all v (old v (step v) d')));
         single = λ v d. two_steps_on lists s t ws simple cycle v (old v (step v) d);
       }
-
-  pub free_here : (v : ℕ) × IsFree lists s t ws v
-  free_here =
-      let last = last_on lists s t ws simple cycle in
-      let ear = outer_ear_law rest step t simple' ((restricted-map lists on simple).plane plane) outer_face (cycle_dart t last) in
-      let v = ear.0 in
-      let is = ear.1 in
-      let y = follows rest v (step v) in
-      let on_v = old v (step v) is.dart in
-      let dart_y : HasDart rest v y = HasDart-follows rest v (step v) is.dart in
-      let on_y = old y v (simple'.both_ways v y dart_y) in
-      let back : follows rest v y ≡ step v = ap (λ w. follows rest w y) (sym is.comes) ∙ (cycle_turn y on_y ∙ ap step is.comes) in (
-        v,
-        record {
-          on = on_v;
-          not_first = λ e. is.not_after (next-apart lists s t ws simple cycle y t on_y last (is.comes ∙ (e ∙ sym (next-last lists s t ws simple cycle))));
-          not_last = is.not_from;
-          chordless = λ u d c.
-              let here = kept_dart v u on_v c d in
-              elim (only_two (list_of rest v) (step v) y u (simple'.no_repeat v is.dart.0) is.dart.1 refl back here.1) [
-                | inl e ↦ inr (sym e)
-                | inr e ↦ inl (ap step e ∙ is.comes)
-              ];
-        },
-      )
-
--- THE LAW: a vertex without a chord
-pub some_free : SomeFree
-some_free lists s t ws simple plane cycle = free_here lists s t ws simple plane cycle
