@@ -5,7 +5,7 @@ pub mod RestrictedMaps
 pub mod OuterCycles
 pub mod BaseFaces
 pub mod OnCycle
-pub mod FreeStretches
+pub mod FreeVertices
 pub mod Fans
 pub mod CycleAfter
 pub mod TakenOff

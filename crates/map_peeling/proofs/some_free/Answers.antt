@@ -1,4 +1,4 @@
-use Rattle.map_peeling.proofs.FreeStretches.{some_free}
+use Rattle.map_peeling.proofs.FreeVertices.{some_free}
 use Rattle.map_peeling.proofs.some_free.Goals as goal
 
 pub returns : goal.returns

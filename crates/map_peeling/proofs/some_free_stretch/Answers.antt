@@ -1,4 +1,4 @@
-use Rattle.map_peeling.proofs.FreeStretches.{some_free_stretch}
+use Rattle.map_peeling.proofs.FreeVertices.{some_free_stretch}
 use Rattle.map_peeling.proofs.some_free_stretch.Goals as goal
 
 pub returns : goal.returns
