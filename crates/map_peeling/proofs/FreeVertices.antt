@@ -5,7 +5,7 @@ use Rattle.std.proofs.lemmas.List.Elements.{Contains-get_or}
 use Rattle.map_lists.specs.Lists.{Lists}
 use Rattle.map_definitions.specs.Maps.{list_of, HasDart, IsSimpleMap, IsPlane, follows, entry_after}
 use Rattle.map_definitions.specs.Paths.{SameFace}
-use Rattle.map_definitions.proofs.EntryLemmas.{Contains-cons_cases, AllPairs-left}
+use Rattle.map_definitions.proofs.EntryLemmas.{Contains-there, Contains-cons_cases, AllPairs-left}
 use Rattle.map_definitions.proofs.DartLemmas.{HasDart-follows}
 use Rattle.plane_laws.proofs.DartPaths.{same_face, same_face-step}
 use Rattle.map_edits.specs.OuterFaces.{IsOuterLeaf}
@@ -13,6 +13,7 @@ use Rattle.map_edits.proofs.OuterFaces.{outer_leaf_law}
 use Rattle.map_peeling.specs.NearTriangulations.{IsOuterCycle, IsFree, IsFreeStretch}
 use Rattle.map_peeling.specs.Laws.{SomeFree, SomeFreeStretch}
 use Rattle.map_peeling.proofs.Rings.{Leads, Leads-part, Leads-join, Leads-at, Leads-front, Contains-counts, AllPairs-counts, parted_at, last-entry, only_two, ring_from}
+use Rattle.map_peeling.proofs.Ways.{place, place_first, place_last, place_next, place_apart, place_is}
 use Rattle.map_peeling.proofs.RestrictedMaps.{restricted-map, restricted-old}
 use Rattle.map_peeling.proofs.OuterCycles.{next-apart, last_on, next-last, round}
 use Rattle.map_peeling.proofs.OnCycle.{on, rest, simple', kept_dart, old, stays_on, cycle_dart, cycle_turn, outer_face}
@@ -51,44 +52,20 @@ module _ (lists : Lists) (s t : ℕ) (ws : List ℕ) (simple : IsSimpleMap lists
       }
 
   module _ (u w : ℕ) (leaf : IsOuterLeaf R step t u w) (between : List ℕ) (way : Leads step u (between ++ w ∷ []) w) (distinct : AllPairs ◌≢◌ (u ∷ between ++ w ∷ [])) where
-    abbrev row : List ℕ
-    row = u ∷ between ++ w ∷ []
-
     abbrev m : ℕ
     m = length between + 1
 
-    size : length row ≡ m + 1
-    size = let n = length-append between (w ∷ []) in omega arith
+    abbrev at : ℕ → ℕ
+    at i = place u between w i
 
-    at : ℕ → ℕ
-    at i = get_or row i 0
-
-    at_last : at m ≡ w
-    unfolding at
-    at_last =
-        let n : m ≡ length ((u ∷ between) ++ w ∷ []) - 1 = omega (arith, length-append (u ∷ between) (w ∷ [])) in
-        ap (λ k. get_or ((u ∷ between) ++ w ∷ []) k 0) n ∙ last-entry (u ∷ between) w 0
-
-    at_next : (i : ℕ) → i < m → step (at i) ≡ at (suc i)
-    unfolding at
-    at_next i l = let n = size in sym (Leads-at step u (between ++ w ∷ []) w 0 i way (omega arith))
-
-    at_apart : (i j : ℕ) → i < j → j ≤ m → at i ≢ at j
-    unfolding at
-    at_apart i j l l' = let n = size in distinct i j 0 l (omega arith)
-
-    at_first : at 0 ≡ u
-    unfolding at
-    at_first = refl
-
-    -- the dart back along the cycle, from place i + 1 to place i, is of the leaf's face
+    -- the dart back along the cycle, from at i + 1 to at i, is of the leaf's face
     record IsBack (i : ℕ) : Type 0 where
       dart : HasDart R (at (suc i)) (at i)
       face : SameFace R (u, w) (at (suc i), at i)
       on : Contains ws (at i)
       not_last : at i ≢ t
 
-    -- what comes after a dart of the face, to the vertex at place i + 1
+    -- what comes after a dart of the face, to the vertex at at i + 1
     one_back : (x i : ℕ) → i < m → HasDart R x (at (suc i)) → SameFace R (u, w) (x, at (suc i)) → (at (suc i) ≡ u → ⊥) → Contains ws (at i) → IsBack i × (follows R (at (suc i)) x ≡ at i)
     one_back x i l d face ne on_i =
         let y = follows R (at (suc i)) x in
@@ -96,7 +73,7 @@ module _ (lists : Lists) (s t : ℕ) (ws : List ℕ) (simple : IsSimpleMap lists
         let face' = same_face-step R sR (u, w) (x, at (suc i)) d face in
         let is = leaf.others (at (suc i)) y d' face' (λ e. ne e.0) in
         let on_y = on_ws y (at (suc i)) (sR.both_ways (at (suc i)) y d') in
-        let y_i : y ≡ at i = apart y (at i) on_y on_i (is.0 ∙ sym (at_next i l)) in (
+        let y_i : y ≡ at i = apart y (at i) on_y on_i (is.0 ∙ sym (place_next step u between w way distinct i l)) in (
           record {
             dart = subst (HasDart R (at (suc i))) y_i d';
             face = subst (λ z. SameFace R (u, w) (at (suc i), z)) y_i face';
@@ -107,40 +84,38 @@ module _ (lists : Lists) (s t : ℕ) (ws : List ℕ) (simple : IsSimpleMap lists
         )
 
     on_row : (i : ℕ) → i ≤ m → Contains ws (at i)
-    on_row zero l = subst (Contains ws) (sym at_first) (on_ws u w leaf.dart)
-    on_row (suc i) l = subst (Contains ws) (at_next i (omega arith)) (stays_on lists s t ws simple plane cycle (at i) (on_row i (omega arith)))
+    on_row zero l = subst (Contains ws) (sym (place_first step u between w way distinct)) (on_ws u w leaf.dart)
+    on_row (suc i) l = subst (Contains ws) (place_next step u between w way distinct i (omega arith)) (stays_on lists s t ws simple plane cycle (at i) (on_row i (omega arith)))
 
     -- the face runs back along the cycle, from w to u
     runs_back : (k i : ℕ) → i + suc k ≡ m → IsBack i
     runs_back zero i e =
         let i_m : suc i ≡ m = omega arith in
-        let to_w : at (suc i) ≡ w = ap at i_m ∙ at_last in
+        let to_w : at (suc i) ≡ w = ap at i_m ∙ place_last step u between w way distinct in
         (one_back u i (omega arith) (subst (HasDart R u) (sym to_w) leaf.dart) (subst (λ z. SameFace R (u, w) (u, z)) (sym to_w) (same_face R sR (u, w) (u, w) refl))
-        (λ q. at_apart 0 (suc i) (omega arith) (omega arith) (at_first ∙ sym q)) (on_row i (omega arith))).0
+        (λ q. place_apart step u between w way distinct 0 (suc i) (omega arith) (omega arith) (place_first step u between w way distinct ∙ sym q)) (on_row i (omega arith))).0
     runs_back (suc k) i e =
         let later = runs_back k (suc i) (omega arith) in
-        (one_back (at (suc (suc i))) i (omega arith) later.dart later.face (λ q. at_apart 0 (suc i) (omega arith) (omega arith) (at_first ∙ sym q)) (on_row i (omega arith))).0
+        (one_back (at (suc (suc i))) i (omega arith) later.dart later.face (λ q. place_apart step u between w way distinct 0 (suc i) (omega arith) (omega arith) (place_first step u between w way distinct ∙ sym q)) (on_row i (omega arith))).0
 
     -- so it turns at each vertex between
     turns_back : (i : ℕ) → suc i < m → follows R (at (suc i)) (at (suc (suc i))) ≡ at i
     turns_back i l =
         let d : suc i + suc (m - suc (suc i)) ≡ m = omega arith in
         let later = runs_back (m - suc (suc i)) (suc i) d in
-        (one_back (at (suc (suc i))) i (omega arith) later.dart later.face (λ q. at_apart 0 (suc i) (omega arith) (omega arith) (at_first ∙ sym q)) (on_row i (omega arith))).1
+        (one_back (at (suc (suc i))) i (omega arith) later.dart later.face (λ q. place_apart step u between w way distinct 0 (suc i) (omega arith) (omega arith) (place_first step u between w way distinct ∙ sym q)) (on_row i (omega arith))).1
 
     not_last_at : (i : ℕ) → i < m → at i ≢ t
     not_last_at i l = let d : i + suc (m - suc i) ≡ m = omega arith in (runs_back (m - suc i) i d).not_last
 
     between_free : (v : ℕ) → Contains between v → IsFree lists s t ws v
-    unfolding at
     between_free v c =
         let i = c.0 in
         let l : i < length between = c.1 in
-        let here : at (suc i) ≡ v =
-        (let n = length-append between (w ∷ []) in get_or_default (between ++ w ∷ []) i 0 v (omega arith)) ∙ (get_or_append_left between (w ∷ []) v i l ∙ c.2) in
-        let next_v : step v ≡ at (suc (suc i)) = ap step (sym here) ∙ at_next (suc i) (omega arith) in
+        let here : at (suc i) ≡ v = place_is step u between w way distinct v (suc i, omega arith, c.2) in
+        let next_v : step v ≡ at (suc (suc i)) = ap step (sym here) ∙ place_next step u between w way distinct (suc i) (omega arith) in
         let on_v = subst (Contains ws) here (on_row (suc i) (omega arith)) in
-        free_between (at i) v (on_row i (omega arith)) (at_next i (omega arith) ∙ here) (not_last_at i (omega arith)) (λ e. not_last_at (suc i) (omega arith) (here ∙ e))
+        free_between (at i) v (on_row i (omega arith)) (place_next step u between w way distinct i (omega arith) ∙ here) (not_last_at i (omega arith)) (λ e. not_last_at (suc i) (omega arith) (here ∙ e))
         (cycle_dart lists s t ws simple plane cycle v on_v)
         (ap (follows R v) next_v ∙ (ap (λ z. follows R z (at (suc (suc i)))) (sym here) ∙ turns_back i (omega arith)))
 
@@ -152,15 +127,13 @@ module _ (lists : Lists) (s t : ℕ) (ws : List ℕ) (simple : IsSimpleMap lists
         some (a ∷ l) h = omega arith
 
     stretch_here : (front : List ℕ) × (back : List ℕ) × IsFreeStretch lists s t ws front u between w back
-    unfolding at
     stretch_here =
         let on_u = on_ws u w leaf.dart in
         let parts = parted_at ws u on_u in
         let whole = Leads-part step t parts.0 (u ∷ parts.1) t (subst (λ l. Leads step t l t) parts.2 (round lists s t ws simple cycle)) in
         let more = Leads-front step u parts.1 between t w whole.2.1 way (λ z c.
-        let n = size in
-        let i : z ≡ at c.0 = sym c.2 ∙ row_at z c.0 c.1 in
-        λ e. not_last_at c.0 (let l = c.1 in omega arith) (sym i ∙ e)) in (
+        let l = c.1 in
+        λ e. not_last_at c.0 (omega arith) (place_is step u between w way distinct z c ∙ e)) in (
           parts.0,
           more.0,
           record {
@@ -170,9 +143,6 @@ module _ (lists : Lists) (s t : ℕ) (ws : List ℕ) (simple : IsSimpleMap lists
             free = between_free;
           },
         )
-      where
-        row_at : (z i : ℕ) → i < length (u ∷ between) → get_or (u ∷ between) i z ≡ get_or (u ∷ between ++ w ∷ []) i 0
-        row_at z i l = get_or_default (u ∷ between) i z 0 l ∙ sym (get_or_append_left (u ∷ between) (w ∷ []) 0 i l)
 
   pub stretch : (front : List ℕ) × (u : ℕ) × (between : List ℕ) × (w : ℕ) × (back : List ℕ) × IsFreeStretch lists s t ws front u between w back
   stretch =

@@ -1,6 +1,7 @@
 -- What the laws of vertices taken off rest on.
 mod Cases
 pub mod Rings
+pub mod Ways
 pub mod RestrictedMaps
 pub mod OuterCycles
 pub mod BaseFaces
