@@ -118,7 +118,7 @@ module _ (lists : Lists) (kept : ℕ → Bool) (s t : ℕ) (ws : List ℕ) (v : 
   )
 
   -- a dart on one of the faces of v
-  abbrev OnFan : ℕ → ℕ → Type 0
+  abbrev pub OnFan : ℕ → ℕ → Type 0
   OnFan x y = (i : ℕ) × (i < length mid + 1) × IsDartOfThree v (get_or nbrs i 0) (get_or nbrs (i + 1) 0) x y
 
   size : length nbrs ≡ length mid + 2
@@ -157,7 +157,7 @@ module _ (lists : Lists) (kept : ℕ → Bool) (s t : ℕ) (ws : List ℕ) (v : 
       (c.0 - 1, omega (arith, size, l, ne), inr (inr (sym at ∙ ap (λ k. get_or nbrs k 0) one, refl)))
 
   -- along the new cycle, but not the old one
-  along : (x y : ℕ) → IsOuterDart after x y → ¬ IsOuterDart ws x y → OnFan x y
+  pub along : (x y : ℕ) → IsOuterDart after x y → ¬ IsOuterDart ws x y → OnFan x y
   along x y o n =
       elim (Contains-append_cases front (p ∷ mid ++ q ∷ back) x o.0) [
         | inl c ↦

@@ -1,18 +1,18 @@
 -- A stretch of vertices without chords: restricted to the vertices of the cycle, the map has a leaf of its outer face, whose face runs back along the cycle.
 use Rattle.std.proofs.Common.{◌≡◌, ◌≢◌, ℕ, zero, suc, ◌+◌, ◌-◌, ◌<◌, ◌≤◌, List, [], ◌∷◌, ◌++◌, length, get_or, AllPairs, Contains, refl, sym, ap, ◌∙◌, subst, inl, inr, arith}
-use Rattle.std.proofs.lemmas.List.{append_assoc, length-append, get_or_default, get_or_append_left}
+use Rattle.std.proofs.lemmas.List.{append_assoc}
 use Rattle.std.proofs.lemmas.List.Elements.{Contains-get_or}
 use Rattle.map_lists.specs.Lists.{Lists}
 use Rattle.map_definitions.specs.Maps.{list_of, HasDart, IsSimpleMap, IsPlane, follows, entry_after}
 use Rattle.map_definitions.specs.Paths.{SameFace}
-use Rattle.map_definitions.proofs.EntryLemmas.{Contains-there, Contains-cons_cases, AllPairs-left}
+use Rattle.map_definitions.proofs.EntryLemmas.{Contains-cons_cases, AllPairs-left}
 use Rattle.map_definitions.proofs.DartLemmas.{HasDart-follows}
 use Rattle.plane_laws.proofs.DartPaths.{same_face, same_face-step}
 use Rattle.map_edits.specs.OuterFaces.{IsOuterLeaf}
 use Rattle.map_edits.proofs.OuterFaces.{outer_leaf_law}
 use Rattle.map_peeling.specs.NearTriangulations.{IsOuterCycle, IsFree, IsFreeStretch}
 use Rattle.map_peeling.specs.Laws.{SomeFree, SomeFreeStretch}
-use Rattle.map_peeling.proofs.Rings.{Leads, Leads-part, Leads-join, Leads-at, Leads-front, Contains-counts, AllPairs-counts, parted_at, last-entry, only_two, ring_from}
+use Rattle.map_peeling.proofs.Rings.{Leads, Leads-part, Leads-join, Leads-front, Contains-counts, AllPairs-counts, parted_at, only_two, ring_from}
 use Rattle.map_peeling.proofs.Ways.{place, place_first, place_last, place_next, place_apart, place_is}
 use Rattle.map_peeling.proofs.RestrictedMaps.{restricted-map, restricted-old}
 use Rattle.map_peeling.proofs.OuterCycles.{next-apart, last_on, next-last, round}

@@ -15,3 +15,5 @@ pub mod Steps
 pub mod Ends
 pub mod FreeCounts
 pub mod Covers
+pub mod TwoGone
+pub mod OpenAfter

@@ -278,3 +278,12 @@ Leads-front next x (a ∷ l) (b ∷ r) t y h h' n =
     let e : a ≡ b = sym h.0 ∙ h'.0 in
     let rest = Leads-front next b l r t y (subst (λ z. Leads next z l t) e h.1) h'.1 (λ z c. n z (Contains-there x (b ∷ r) z c)) in
     (rest.0, ap₂ (λ z m. z ∷ m) e rest.1)
+
+-- what a function keeps is so all along a way
+pub Leads-closed : (P : ℕ → Type 0) (next : ℕ → ℕ) (x : ℕ) (l : List ℕ) (t : ℕ) → P x → ((z : ℕ) → P z → P (next z)) → Leads next x l t → (z : ℕ) → Contains (x ∷ l) z → P z
+Leads-closed P next x [] t h keeps way z c = each_of_one P x h z c
+Leads-closed P next x (w ∷ l) t h keeps way z c =
+    elim (Contains-cons_cases x (w ∷ l) z c) [
+      | inl e ↦ subst P e h
+      | inr c' ↦ Leads-closed P next w l t (subst P way.0 (keeps x h)) keeps way.1 z c'
+    ]
