@@ -7,7 +7,7 @@ use Rattle.map_peeling.specs.Restricted.{restricted, kept_but, IsFaceOfThree}
 use Rattle.map_peeling.specs.NearTriangulations.{IsOuterCycle, IsFree, IsFreeStretch}
 use Rattle.map_peeling.specs.Peeled.{IsFan}
 use Rattle.map_peeling.specs.TwoGone.{IsOpenOutside, IsFreeOfTwo}
-use Rattle.map_peeling.proofs.Rings.{AllPairs-put, each_of_one, each_of_two, each_of_three}
+use Rattle.map_peeling.proofs.Rings.{AllPairs-put, each_of_one, each_of_two, each_of_three, each_of_four}
 
 -- ---- the tetrahedron
 abbrev tetrahedron : Lists
@@ -94,10 +94,6 @@ octahedron = (1 ∷ 2 ∷ 3 ∷ 4 ∷ []) ∷ (0 ∷ 4 ∷ 5 ∷ 2 ∷ []) ∷ (
 -- the third vertex of the base's face taken off
 octahedron_without : restricted (kept_but (λ v. true) 4) octahedron ≡ (1 ∷ 2 ∷ 3 ∷ []) ∷ (0 ∷ 5 ∷ 2 ∷ []) ∷ (0 ∷ 1 ∷ 5 ∷ 3 ∷ []) ∷ (0 ∷ 2 ∷ 5 ∷ []) ∷ [] ∷ (1 ∷ 3 ∷ 2 ∷ []) ∷ []
 octahedron_without = refl
-
-each_of_four : (P : ℕ → Type 0) (a b c d : ℕ) → P a → P b → P c → P d → (x : ℕ) → Contains (a ∷ b ∷ c ∷ d ∷ []) x → P x
-each_of_four P a b c d h h' h'' h3 x (zero, l, e) = subst P e h
-each_of_four P a b c d h h' h'' h3 x (suc i, l, e) = each_of_three P b c d h' h'' h3 x (i, omega (arith, l), e)
 
 -- its neighbours stand from 1, by 5 and 3, to 0
 octahedron_fan : IsFan octahedron (λ v. true) 4 1 (5 ∷ 3 ∷ []) 0

@@ -13,7 +13,7 @@ use Rattle.plane_laws.proofs.Triangles.{triangles_where_met}
 use Rattle.map_peeling.specs.Restricted.{restricted, IsFaceOfThree}
 use Rattle.map_peeling.specs.NearTriangulations.{IsOuterCycle, IsOuterDart, IsNearTriangulation}
 use Rattle.map_peeling.specs.Peeled.{IsPeeled}
-use Rattle.map_peeling.specs.Laws.{NothingTakenOff, ThreeLeft}
+use Rattle.map_peeling.specs.Laws.{NothingTakenOff, ThreeLeft, WholeIsPeeled}
 use Rattle.map_peeling.proofs.Rings.{entry_after-inside, entry_after-last, AllPairs-put, each_of_one, each_of_two, each_of_three}
 use Rattle.map_peeling.proofs.RestrictedMaps.{restricted_all, restricted-old}
 use Rattle.map_peeling.proofs.OuterCycles.{IsFaceOfThree-turned, IsFaceOfThree-triangle, inner_face}
@@ -83,16 +83,19 @@ module _ (lists : Lists) (s t : ℕ) (completed : IsCompleted lists) (base : Has
   pub near_whole : IsNearTriangulation lists s t ws
   near_whole = record { simple = simple; plane = completed.plane; cycle = base_cycle; inner = λ x y d n. triangle x y d }
 
--- THE LAW: nothing taken off
-pub nothing_taken_off : NothingTakenOff
-nothing_taken_off lists kept s t completed base all =
-    let simple = completed.simple in
+-- THE LAWS: nothing taken off
+pub whole_is_peeled : WholeIsPeeled
+whole_is_peeled lists kept s t ws near all =
+    let simple = near.simple in
     let e = restricted_all lists kept simple all in
     record {
-      near = subst (λ m. IsNearTriangulation m s t (s ∷ follows lists s t ∷ t ∷ [])) (sym e) (near_whole lists s t completed base);
+      near = subst (λ m. IsNearTriangulation m s t ws) (sym e) near;
       inner = λ x y d n. ap (λ m. follows m y x) e;
       border = λ v u k d out. absurd (true≢false (sym (all u (simple.in_range v u d)) ∙ out));
     }
+
+pub nothing_taken_off : NothingTakenOff
+nothing_taken_off lists kept s t completed base all = whole_is_peeled lists kept s t (s ∷ follows lists s t ∷ t ∷ []) (near_whole lists s t completed base) all
 
 -- ---- three left
 module _ (lists : Lists) (kept : ℕ → Bool) (s t : ℕ) (ws : List ℕ) (peeled : IsPeeled lists kept s t ws) (three : count_below kept (length lists) ≡ 3) where

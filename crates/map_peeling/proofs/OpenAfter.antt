@@ -12,7 +12,7 @@ use Rattle.map_peeling.specs.TwoGone.{IsOpenOutside, OpenAfter}
 use Rattle.map_peeling.proofs.Rings.{Leads, Leads-part, Leads-in, entry_after-inside}
 use Rattle.map_peeling.proofs.RestrictedMaps.{kept_but-new, kept_but-itself}
 use Rattle.map_peeling.proofs.OuterCycles.{cases_outer, IsFaceOfThree-turned, round}
-use Rattle.map_peeling.proofs.Covers.{cycle_here, along}
+use Rattle.map_peeling.proofs.Covers.{new_or_old}
 
 module _ (lists : Lists) (kept : ℕ → Bool) (s t : ℕ) (ws : List ℕ) (v : ℕ) (front : List ℕ) (p : ℕ) (mid : List ℕ) (q : ℕ) (back : List ℕ) (whole : IsSimpleMap lists) (peeled : IsPeeled lists kept s t ws) (outside : IsOpenOutside lists kept t ws) (off : IsTakenOff lists kept s t ws v front p mid q back) where
   abbrev after : List ℕ
@@ -23,34 +23,6 @@ module _ (lists : Lists) (kept : ℕ → Bool) (s t : ℕ) (ws : List ℕ) (v : 
 
   but_gone : (u : ℕ) → kept u ≡ false → kept_but kept v u ≡ false
   but_gone u e = and_left (kept u) (not (eqb u v)) e
-
-  -- v is not on the new cycle
-  not_v : (x : ℕ) → Contains after x → x ≢ v
-  not_v x c =
-      elim ((cycle_here lists kept s t ws v front p mid q back peeled off x).0 c) [
-        | inl on ↦ on.1
-        | inr d ↦ peeled.near.simple.no_loop v x d
-      ]
-
-  -- a dart of the new cycle is one of the old one, or v stands beyond it
-  new_or_old : (x : ℕ) → Contains after x → IsFaceOfThree lists x (step' x) v ⊎ (Contains ws x × (entry_after x ws ≡ step' x))
-  new_or_old x c =
-      elim (cases_outer ws x (step' x)) [
-        | inl o ↦ inr o
-        | inr n ↦
-            let f = along lists kept s t ws v front p mid q back peeled off x (step' x) (c, refl) n in
-            elim f.2 [
-              | inl e ↦ absurd (not_v x c e.0)
-              | inr e ↦ elim e [
-                | inl e ↦
-                    let a = get_or (p ∷ mid ++ q ∷ []) f.0 0 in
-                    let b = get_or (p ∷ mid ++ q ∷ []) (f.0 + 1) 0 in
-                    let face : IsFaceOfThree lists a b v = IsFaceOfThree-turned lists v a b whole (off.fan.faces f.0 f.1) in
-                    inl (subst (λ z. IsFaceOfThree lists z (step' x) v) (sym e.0) (subst (λ y. IsFaceOfThree lists a y v) (sym e.1) face))
-                | inr e ↦ absurd (not_v (step' x) (Contains-entry_after x after c) e.1)
-              ]
-            ]
-      ]
 
   was_distinct : AllPairs ◌≢◌ (front ++ p ∷ v ∷ q ∷ back)
   was_distinct = subst (AllPairs ◌≢◌) off.before peeled.near.cycle.distinct
@@ -78,12 +50,12 @@ module _ (lists : Lists) (kept : ℕ → Bool) (s t : ℕ) (ws : List ℕ) (v : 
   open_here =
       record {
         beyond = λ x c.
-            elim (new_or_old x c) [
+            elim (new_or_old lists kept s t ws v front p mid q back peeled off whole x c) [
               | inl f ↦ ap (kept_but kept v) f.second ∙ kept_but-itself kept v
               | inr o ↦ but_gone (follows lists (step' x) x) (subst (λ y. kept (follows lists y x) ≡ false) o.1 (outside.beyond x o.0))
             ];
         triangles = λ x c n.
-            elim (new_or_old x c) [
+            elim (new_or_old lists kept s t ws v front p mid q back peeled off whole x c) [
               | inl f ↦ subst (IsFaceOfThree lists x (step' x)) (sym f.second) f
               | inr o ↦ subst (λ y. IsFaceOfThree lists x y (follows lists y x)) o.1 (outside.triangles x o.0 n)
             ];

@@ -12,7 +12,7 @@ use Rattle.map_peeling.specs.Restricted.{restricted, IsFaceOfThree}
 use Rattle.map_peeling.specs.NearTriangulations.{IsOuterCycle, IsFree, IsFreeStretch}
 use Rattle.map_peeling.specs.Peeled.{IsPeeled}
 use Rattle.map_peeling.specs.TwoGone.{HasNoSeparatingTriangle, IsOpenOutside, IsFreeOfTwo, SomeFreeOfTwo}
-use Rattle.map_peeling.proofs.Rings.{Leads, Leads-part, Leads-join, Leads-closed, ring_from, Contains-counts}
+use Rattle.map_peeling.proofs.Rings.{Leads, Leads-part, Leads-join, entries_closed}
 use Rattle.map_peeling.proofs.Ways.{place, place_first, place_last, place_next, place_apart, place_in}
 use Rattle.map_peeling.proofs.RestrictedMaps.{restricted-old}
 use Rattle.map_peeling.proofs.OuterCycles.{cases_outer, IsFaceOfThree-turned, next-on, next-last, round}
@@ -143,15 +143,10 @@ module _ (lists : Lists) (kept : ℕ → Bool) (s t : ℕ) (ws : List ℕ) (whol
       -- nor can z have a neighbour that is taken off
       not_that_way : ¬ IsFaceOfThree lists w u z
       not_that_way f =
-          let turn : ℕ → ℕ = λ x. entry_after x (list_of lists z) in
           let on_row : ℕ → Type 0 = λ x. (i : ℕ) × (i ≤ m) × (at i ≡ x) in
-          let keeps : (x : ℕ) → on_row x → on_row (turn x) = λ x c. turned x c.0 c.1 c.2 in
           let start : on_row u = (0, omega arith, first) in
-          let ring = ring_from (list_of lists z) u (whole.no_repeat z from_z.0) from_z.1 in
           let some = outside.company z from_z.0 gone in
-          let y = some.0 in
-          let in_ring = Contains-counts (list_of lists z) (u ∷ ring.0) (λ x. sym (ring.2 x)) y some.1.1 in
-          let stands = Leads-closed on_row turn u (ring.0 ++ u ∷ []) u start keeps ring.1 y (Contains-append_left (u ∷ ring.0) (u ∷ []) y in_ring) in
+          let stands = entries_closed on_row (list_of lists z) u some.0 (whole.no_repeat z from_z.0) from_z.1 start (λ x c. turned x c.0 c.1 c.2) some.1.1 in
           true≢false (sym (ap kept (sym stands.2) ∙ on_kept (at stands.0) (on_at stands.0 stands.1)) ∙ some.2)
         where
           turned : (x i : ℕ) → i ≤ m → at i ≡ x → (j : ℕ) × (j ≤ m) × (at j ≡ entry_after x (list_of lists z))

@@ -1,9 +1,9 @@
 -- Vertices that can be taken off with two neighbours gone before them, where no triangle separates.
-use Rattle.std.specs.Prelude.{ℕ, ◌<◌, ◌≡◌, ◌≢◌, ◌⊎◌, Bool, false, List, ◌∷◌, ◌++◌, length, Contains}
+use Rattle.std.specs.Prelude.{ℕ, ◌<◌, ◌≡◌, ◌≢◌, ◌⊎◌, Bool, true, false, List, [], ◌∷◌, ◌++◌, length, Contains}
 use Rattle.map_lists.specs.Lists.{Lists}
-use Rattle.map_definitions.specs.Maps.{HasDart, IsSimpleMap, follows, entry_after}
+use Rattle.map_definitions.specs.Maps.{HasDart, IsSimpleMap, component_count, follows, entry_after}
 use Rattle.map_peeling.specs.Restricted.{restricted, kept_but, IsFaceOfThree}
-use Rattle.map_peeling.specs.NearTriangulations.{IsFree}
+use Rattle.map_peeling.specs.NearTriangulations.{IsFree, IsNearTriangulation}
 use Rattle.map_peeling.specs.Peeled.{IsPeeled, IsTakenOff}
 
 -- each triangle of edges is a face, one way round or the other

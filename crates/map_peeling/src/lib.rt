@@ -2,7 +2,7 @@
 //! nothing, and speaks of all maps.
 #![tactic(auto)]
 
-ghost use Rattle.map_peeling.specs.Laws.{ConnectedTakenOff, CycleAfter, FanCovers, FreeByCount, FreeTakenOff, NothingTakenOff, OuterCycleIsFace, SomeFree, SomeFreeStretch, ThreeLeft};
+ghost use Rattle.map_peeling.specs.Laws.{ConnectedTakenOff, CycleAfter, FanCovers, FreeByCount, FreeTakenOff, NothingTakenOff, OuterCycleIsFace, SomeFree, SomeFreeStretch, ThreeLeft, WholeIsPeeled};
 ghost use Rattle.map_peeling.specs.TwoGone.{OpenAfter, SomeFreeOfTwo};
 
 /// The darts of an outer cycle are those of the face of its base, and no others.
@@ -20,6 +20,11 @@ pub fn some_free()
 /// or by the base.
 pub fn some_free_stretch()
     ensures { SomeFreeStretch }
+{}
+
+/// A near triangulation of which nothing is taken off: its inner faces are faces of the whole map.
+pub fn whole_is_peeled()
+    ensures { WholeIsPeeled }
 {}
 
 /// A completed map of which nothing is taken off is a near triangulation, whose outer cycle is the face of
