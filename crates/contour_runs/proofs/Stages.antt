@@ -1,0 +1,226 @@
+-- Stages along a run.
+use Rattle.std.proofs.Common.{◌≡◌, ◌≢◌, ◌⊎◌, ℕ, zero, suc, ◌+◌, ◌-◌, ◌*◌, ◌<◌, ◌≤◌, refl, sym, ap, ◌∙◌, subst, inl, inr, arith}
+use Rattle.std.proofs.lemmas.Bool.{cases_lt}
+use Rattle.contour_runs.specs.Runs.{Step, Stage, moved, vertex_after, place_after, after, base, stage_after, IsStep, IsRun, IsCovered, faces_made}
+use Rattle.contour_runs.specs.Laws.{IsStage, IsCoveredOnce}
+use Rattle.contour_runs.proofs.Places.{moved-low, moved-between, moved-high, moved-le, vertex_after-low, vertex_after-new, vertex_after-high, place_after-older, place_after-new, cases_place}
+
+-- the base
+pub IsStage-base : IsStage base
+IsStage-base = record {
+  wide = omega arith;
+  few = omega arith;
+  begin = refl;
+  end = λ i e. omega arith;
+  placed = λ i l. l;
+  own = λ i l. refl;
+  within = λ v l. l;
+}
+
+-- a step from a stage
+module _ (g : Stage) (s : Step) (h : IsStage g) (step : IsStep g s) where
+  -- where an older vertex goes
+  pub moved-within : (i : ℕ) → i < g.width → moved s i < (after g s).width
+  moved-within i l =
+      let o = step.order in
+      let w = step.within in
+      elim (cases_lt s.first i) [
+        | inr a ↦ omega (arith, moved-low s i a)
+        | inl a ↦ elim (cases_lt i s.last) [ inl b ↦ omega (arith, moved-between s i a b) | inr b ↦ omega (arith, moved-high s i o b) ]
+      ]
+
+  pub IsStage-after : IsStage (after g s)
+  IsStage-after =
+      let o = step.order in
+      let w = step.within in
+      let few = h.few in
+      record {
+        wide = omega arith;
+        few = omega arith;
+        begin = vertex_after-low g s 0 (omega arith) ∙ h.begin;
+        end = λ i e. vertex_after-high g s i (g.width - 1) (omega arith) (omega arith) (omega arith) ∙ h.end (g.width - 1) (omega arith);
+        placed = λ i l. elim (cases_place g s i step l) [
+          | inl c ↦ let a = c.low in let n = h.placed i (omega arith) in omega (arith, vertex_after-low g s i a)
+          | inr (inl c) ↦ omega (arith, vertex_after-new g s i c.new)
+          | inr (inr c) ↦ let a = c.high in let e = c.to in let n = h.placed c.from c.within in omega (arith, vertex_after-high g s i c.from (omega arith) a e)
+        ];
+        own = λ i l. elim (cases_place g s i step l) [
+          | inl c ↦
+              let a = c.low in
+              let m : i < g.width = omega arith in
+              ap (place_after g s) (vertex_after-low g s i a) ∙ place_after-older g s (g.vertex i) (h.placed i m) ∙ ap (moved s) (h.own i m) ∙ moved-low s i a
+          | inr (inl c) ↦ place_after-new g s (vertex_after g s i) (vertex_after-new g s i c.new) ∙ sym c.new
+          | inr (inr c) ↦
+              let a = c.high in
+              let e = c.to in
+              let n = moved-high s c.from o a in
+              let back : moved s c.from ≡ i = omega arith in
+              ap (place_after g s) (vertex_after-high g s i c.from (omega arith) a e) ∙ place_after-older g s (g.vertex c.from) (h.placed c.from c.within) ∙ ap (moved s) (h.own c.from c.within) ∙ back
+        ];
+        within = λ v l. elim (cases_lt v g.count) [
+          | inl older ↦ let m = moved-within (g.place v) (h.within v older) in omega (arith, place_after-older g s v older)
+          | inr new ↦ omega (arith, place_after-new g s v (omega arith))
+        ];
+      }
+
+-- the first steps of a run are a run
+pub IsRun-less : (steps : ℕ → Step) (m n : ℕ) → m ≤ n → IsRun steps n → IsRun steps m
+IsRun-less steps m n l h = λ k b. h k (omega arith)
+
+pub count-stage_after : (steps : ℕ → Step) (n : ℕ) → (stage_after steps n).count ≡ n + 2
+count-stage_after steps zero = refl
+count-stage_after steps (suc n) = omega (arith, count-stage_after steps n)
+
+pub IsStage-run : (steps : ℕ → Step) (n : ℕ) → IsRun steps n → IsStage (stage_after steps n)
+IsStage-run steps zero h = IsStage-base
+IsStage-run steps (suc n) h = IsStage-after (stage_after steps n) (steps n) (IsStage-run steps n (IsRun-less steps n (suc n) (omega arith) h)) (h n (omega arith))
+
+-- how many faces are made
+pub faces_made-run : (steps : ℕ → Step) (n : ℕ) → IsRun steps n → faces_made steps n + (stage_after steps n).width ≡ 2 * n + 2
+faces_made-run steps zero h = refl
+faces_made-run steps (suc n) h =
+    let less = faces_made-run steps n (IsRun-less steps n (suc n) (omega arith) h) in
+    let step = h n (omega arith) in
+    let o = step.order in
+    let w = step.within in
+    omega arith
+
+-- what each later stage keeps
+pub upward : (P : ℕ → Type 0) (m n : ℕ) → m ≤ n → P m → ((k : ℕ) → m ≤ k → k < n → P k → P (suc k)) → P n
+upward P m zero l p more = let e : m ≡ zero = omega arith in subst P e p
+upward P m (suc n) l p more = elim (cases_lt m (suc n)) [
+  | inr top ↦ let e : m ≡ suc n = omega arith in subst P e p
+  | inl below ↦ more n (omega arith) (omega arith) (upward P m n (omega arith) p (λ k a b. more k a (omega arith)))
+]
+
+module _ (g : Stage) (s : Step) (h : IsStage g) (step : IsStep g s) where
+  -- an older vertex of the contour stood on it before
+  pub stood_before : (i : ℕ) → i < (after g s).width → vertex_after g s i < g.count → (j : ℕ) × (j < g.width) × (g.vertex j ≡ vertex_after g s i)
+  stood_before i l older =
+      let o = step.order in
+      let w = step.within in
+      elim (cases_place g s i step l) [
+        | inl c ↦ let a = c.low in (i, omega arith, sym (vertex_after-low g s i a))
+        | inr (inl c) ↦ absurd (omega (arith, vertex_after-new g s i c.new))
+        | inr (inr c) ↦ let a = c.high in let e = c.to in (c.from, c.within, sym (vertex_after-high g s i c.from (omega arith) a e))
+      ]
+
+  -- a vertex that does not stand at its place does not stand there after the step
+  pub stays_gone : (v : ℕ) → v < g.count → g.vertex (g.place v) ≢ v → vertex_after g s (place_after g s v) ≢ v
+  stays_gone v older ne = λ e.
+      let within = (IsStage-after g s h step).within v (omega arith) in
+      let j = stood_before (place_after g s v) within (omega arith) in
+      let f : g.vertex j.0 ≡ v = j.2 ∙ e in
+      ne (ap g.vertex (ap g.place (sym f) ∙ h.own j.0 j.1) ∙ f)
+
+module _ (steps : ℕ → Step) where
+  -- order is kept
+  pub order_kept : (m n u v : ℕ) → IsRun steps n → m ≤ n → u < m + 2 → v < m + 2 → (stage_after steps m).place u ≤ (stage_after steps m).place v → (stage_after steps n).place u ≤ (stage_after steps n).place v
+  order_kept m n u v h l a b e =
+      upward (λ k. (stage_after steps k).place u ≤ (stage_after steps k).place v) m n l e
+      (λ k low high less.
+      let g = stage_after steps k in
+      let c = count-stage_after steps k in
+      let le = moved-le (steps k) (g.place u) (g.place v) (h k high).order less in
+      omega (arith, place_after-older g (steps k) u (omega arith), place_after-older g (steps k) v (omega arith)))
+
+  -- two with one place keep one place
+  pub together : (m n u v : ℕ) → m ≤ n → u < m + 2 → v < m + 2 → (stage_after steps m).place u ≡ (stage_after steps m).place v → (stage_after steps n).place u ≡ (stage_after steps n).place v
+  together m n u v l a b e =
+      upward (λ k. (stage_after steps k).place u ≡ (stage_after steps k).place v) m n l e
+      (λ k low high less.
+      let g = stage_after steps k in
+      let c = count-stage_after steps k in
+      place_after-older g (steps k) u (omega arith) ∙ ap (moved (steps k)) less ∙ sym (place_after-older g (steps k) v (omega arith)))
+
+  -- a covered vertex is older, and has the place at which it is covered
+  pub IsCovered-own : (k n v : ℕ) → IsRun steps n → k < n → (c : IsCovered steps k v) → (v < k + 2) × ((stage_after steps k).place v ≡ c.place)
+  IsCovered-own k n v h l c =
+      let g = stage_after steps k in
+      let stage = IsStage-run steps k (IsRun-less steps k n (omega arith) h) in
+      let step = h k l in
+      let w = step.within in
+      let hi = c.high in
+      let m : c.place < g.width = omega arith in
+      let p = stage.placed c.place m in
+      let e = c.vertex in
+      (omega (arith, count-stage_after steps k), ap g.place (sym e) ∙ stage.own c.place m)
+
+  -- it goes with the one that covers it
+  pub covered_together : (k n v : ℕ) → IsRun steps n → k < n → IsCovered steps k v → (stage_after steps n).place v ≡ (stage_after steps n).place (k + 2)
+  covered_together k n v h l c =
+      let g = stage_after steps k in
+      let own = IsCovered-own k n v h l c in
+      let count = count-stage_after steps k in
+      together (suc k) n v (k + 2) (omega arith) (omega (arith, own.0)) (omega arith)
+      (place_after-older g (steps k) v (omega (arith, own.0)) ∙ ap (moved (steps k)) own.1 ∙ moved-between (steps k) c.place c.low c.high ∙ sym (place_after-new g (steps k) (k + 2) (omega arith)))
+
+  -- once a vertex does not stand at its place, it never does again
+  pub gone_later : (m n v : ℕ) → IsRun steps n → m ≤ n → v < m + 2 → (stage_after steps m).vertex ((stage_after steps m).place v) ≢ v → (stage_after steps n).vertex ((stage_after steps n).place v) ≢ v
+  gone_later m n v h l a ne =
+      upward (λ k. (stage_after steps k).vertex ((stage_after steps k).place v) ≢ v) m n l ne
+      (λ k low high less. stays_gone (stage_after steps k) (steps k) (IsStage-run steps k (IsRun-less steps k n (omega arith) h)) (h k high) v (omega (arith, count-stage_after steps k)) less)
+
+  -- it is gone once it is covered
+  pub covered_gone : (k n v : ℕ) → IsRun steps n → k < n → IsCovered steps k v → (stage_after steps n).vertex ((stage_after steps n).place v) ≢ v
+  covered_gone k n v h l c =
+      let g = stage_after steps k in
+      let own = IsCovered-own k n v h l c in
+      let count = count-stage_after steps k in
+      let to = place_after-older g (steps k) v (omega (arith, own.0)) ∙ ap (moved (steps k)) own.1 ∙ moved-between (steps k) c.place c.low c.high in
+      gone_later (suc k) n v h (omega arith) (omega (arith, own.0)) (λ e. omega (arith, own.0, vertex_after-new g (steps k) (place_after g (steps k) v) to))
+
+  -- so no later step covers it
+  pub covered_first : (k l n v : ℕ) → IsRun steps n → k < l → l < n → IsCovered steps k v → IsCovered steps l v → ⊥
+  covered_first k l n v h a b c d =
+      let own = IsCovered-own l n v h b d in
+      covered_gone k l v (IsRun-less steps l n (omega arith) h) a c (ap (stage_after steps l).vertex own.1 ∙ d.vertex)
+
+  pub covered_alone : (k l n v : ℕ) → IsRun steps n → k < n → l < n → IsCovered steps k v → IsCovered steps l v → l ≡ k
+  covered_alone k l n v h a b c d = elim (cases_lt l k) [
+    | inl m ↦ absurd (covered_first l k n v h m a d c)
+    | inr m ↦ elim (cases_lt k l) [ inl o ↦ absurd (covered_first k l n v h o b c d) | inr o ↦ omega arith ]
+  ]
+
+  -- a vertex that stands on the contour stays there, or is covered
+  pub stands_on : (k v : ℕ) → IsRun steps (suc k) → v < k + 2 → (stage_after steps k).vertex ((stage_after steps k).place v) ≡ v → ((stage_after steps (suc k)).vertex ((stage_after steps (suc k)).place v) ≡ v) ⊎ IsCovered steps k v
+  stands_on k v h l e =
+      let g = stage_after steps k in
+      let s = steps k in
+      let step = h k (omega arith) in
+      let o = step.order in
+      let i = g.place v in
+      let to = place_after-older g s v (omega (arith, count-stage_after steps k)) in
+      elim (cases_lt s.first i) [
+        | inr a ↦ inl (ap (vertex_after g s) (to ∙ moved-low s i a) ∙ vertex_after-low g s i a ∙ e)
+        | inl a ↦ elim (cases_lt i s.last) [
+          | inl b ↦ inr record { place = i; low = a; high = b; vertex = e }
+          | inr b ↦ let n = moved-high s i o b in inl (ap (vertex_after g s) to ∙ vertex_after-high g s (moved s i) i (omega arith) b n ∙ e)
+        ]
+      ]
+
+  -- the new vertex stands at its place
+  pub new_stands : (k : ℕ) → (stage_after steps (suc k)).vertex ((stage_after steps (suc k)).place (k + 2)) ≡ k + 2
+  new_stands k =
+      let g = stage_after steps k in
+      let c = count-stage_after steps k in
+      vertex_after-new g (steps k) (place_after g (steps k) (k + 2)) (place_after-new g (steps k) (k + 2) (omega arith)) ∙ c
+
+  -- each placed vertex stands on the contour, or one step covers it
+  pub stands_or_covered : (n v : ℕ) → IsRun steps n → v < n + 2 → ((stage_after steps n).vertex ((stage_after steps n).place v) ≡ v) ⊎ ((k : ℕ) × (k < n) × IsCovered steps k v)
+  stands_or_covered zero v h l = inl refl
+  stands_or_covered (suc n) v h l =
+      let run = IsRun-less steps n (suc n) (omega arith) h in
+      elim (cases_lt v (n + 2)) [
+        | inr new ↦ let e : v ≡ n + 2 = omega arith in inl (subst (λ w. (stage_after steps (suc n)).vertex ((stage_after steps (suc n)).place w) ≡ w) (sym e) (new_stands n))
+        | inl older ↦ elim (stands_or_covered n v run older) [
+          | inr c ↦ inr (c.0, let a = c.1 in omega arith, c.2)
+          | inl e ↦ elim (stands_on n v h older e) [ inl f ↦ inl f | inr c ↦ inr (n, omega arith, c) ]
+        ]
+      ]
+
+  pub covered_once : (n v : ℕ) → IsRun steps n → v < n + 2 → (((stage_after steps n).vertex ((stage_after steps n).place v) ≡ v) × ((k : ℕ) → k < n → ¬ IsCovered steps k v)) ⊎ IsCoveredOnce steps n v
+  covered_once n v h l = elim (stands_or_covered n v h l) [
+    | inl e ↦ inl (e, λ k m c. covered_gone k n v h m c e)
+    | inr c ↦ inr record { step = c.0; earlier = c.1; covered = c.2; alone = λ k m d. covered_alone c.0 k n v h c.1 m c.2 d; gone = covered_gone c.0 n v h c.1 c.2 }
+  ]

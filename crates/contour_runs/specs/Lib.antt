@@ -1,0 +1,3 @@
+-- Runs of insertions over a contour.
+pub mod Runs
+pub mod Laws
