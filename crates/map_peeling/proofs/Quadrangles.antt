@@ -97,9 +97,6 @@ module _ (lists : Lists) (kept : ℕ → Bool) (s d p t : ℕ) (connected : comp
   s_not_p : s ≢ p
   s_not_p = distinct 0 2 0 (omega arith) (omega arith)
 
-  d_not_p : d ≢ p
-  d_not_p = distinct 1 2 0 (omega arith) (omega arith)
-
   d_not_t : d ≢ t
   d_not_t = distinct 1 3 0 (omega arith) (omega arith)
 
