@@ -17,3 +17,4 @@ pub mod FreeCounts
 pub mod Covers
 pub mod TwoGone
 pub mod OpenAfter
+pub mod Quadrangles

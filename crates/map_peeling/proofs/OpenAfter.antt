@@ -1,17 +1,16 @@
 -- What is taken off still lies around what is left when one vertex more is taken off.
-use Rattle.std.proofs.Common.{◌≡◌, ◌≢◌, ◌⊎◌, ℕ, ◌+◌, Bool, false, not, eqb, List, [], ◌∷◌, ◌++◌, get_or, AllPairs, Contains, refl, sym, ap, ◌∙◌, subst, inl, inr}
+use Rattle.std.proofs.Common.{◌≡◌, ◌≢◌, ℕ, Bool, false, not, eqb, List, ◌∷◌, ◌++◌, AllPairs, Contains, sym, ap, ◌∙◌, subst, inl, inr}
 use Rattle.std.proofs.lemmas.Bool.{cases_Bool, cases_eq, and_left, true≢false}
 use Rattle.std.proofs.lemmas.List.Elements.{Contains-append_right}
 use Rattle.map_lists.specs.Lists.{Lists}
 use Rattle.map_definitions.specs.Maps.{HasDart, IsSimpleMap, follows, entry_after}
 use Rattle.map_definitions.proofs.EntryLemmas.{Contains-here, head_apart, AllPairs-right}
-use Rattle.map_definitions.proofs.DartLemmas.{Contains-entry_after}
 use Rattle.map_peeling.specs.Restricted.{restricted, kept_but, IsFaceOfThree}
 use Rattle.map_peeling.specs.Peeled.{IsPeeled, IsTakenOff}
 use Rattle.map_peeling.specs.TwoGone.{IsOpenOutside, OpenAfter}
 use Rattle.map_peeling.proofs.Rings.{Leads, Leads-part, Leads-in, entry_after-inside}
 use Rattle.map_peeling.proofs.RestrictedMaps.{kept_but-new, kept_but-itself}
-use Rattle.map_peeling.proofs.OuterCycles.{cases_outer, IsFaceOfThree-turned, round}
+use Rattle.map_peeling.proofs.OuterCycles.{IsFaceOfThree-turned, round}
 use Rattle.map_peeling.proofs.Covers.{new_or_old}
 
 module _ (lists : Lists) (kept : ℕ → Bool) (s t : ℕ) (ws : List ℕ) (v : ℕ) (front : List ℕ) (p : ℕ) (mid : List ℕ) (q : ℕ) (back : List ℕ) (whole : IsSimpleMap lists) (peeled : IsPeeled lists kept s t ws) (outside : IsOpenOutside lists kept t ws) (off : IsTakenOff lists kept s t ws v front p mid q back) where

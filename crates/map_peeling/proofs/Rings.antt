@@ -85,13 +85,12 @@ entry_after-last front x distinct =
     ap (λ k. get_or us (k + 1) (get_or us 0 x)) (place_of-parted front x [] distinct) ∙ get_or_past us (length front + 1) (get_or us 0 x) (omega (arith, length-append front (x ∷ [])))
 
 -- a list without its first entry
-pub rest_of : List ℕ → List ℕ
+abbrev pub rest_of : List ℕ → List ℕ
 rest_of [] = []
 rest_of (x ∷ us) = us
 
 -- the entries of a list without repeats lead on to its last
 leads_on : (us front : List ℕ) (x : ℕ) (back : List ℕ) (t : ℕ) → AllPairs ◌≢◌ us → us ≡ front ++ x ∷ back → (init : List ℕ) → x ∷ back ≡ init ++ t ∷ [] → Leads (λ u. entry_after u us) x back t
-unfolding rest_of
 leads_on us front x [] t distinct e init last = one init last
   where
     one : (init : List ℕ) → x ∷ [] ≡ init ++ t ∷ [] → x ≡ t
@@ -304,7 +303,6 @@ entries_closed P us a u distinct has start keeps c =
 
 -- a list without repeats is parted at an entry in one way
 pub parted_once : (f : List ℕ) (x : ℕ) (r f' r' : List ℕ) → AllPairs ◌≢◌ (f ++ x ∷ r) → f ++ x ∷ r ≡ f' ++ x ∷ r' → (f ≡ f') × (r ≡ r')
-unfolding rest_of
 parted_once [] x r [] r' distinct e = (refl, ap rest_of e)
 parted_once [] x r (a ∷ f') r' distinct e =
     absurd (head_apart x r distinct (subst (λ l. Contains l x) (sym (ap rest_of e)) (Contains-append_right f' (x ∷ r') x (Contains-here x r'))))

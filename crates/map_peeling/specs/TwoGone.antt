@@ -32,3 +32,9 @@ SomeFreeOfTwo =
 abbrev pub OpenAfter : Type 0
 OpenAfter =
     (lists : Lists) (kept : ℕ → Bool) (s t : ℕ) (ws : List ℕ) (v : ℕ) (front : List ℕ) (p : ℕ) (mid : List ℕ) (q : ℕ) (back : List ℕ) → IsSimpleMap lists → IsPeeled lists kept s t ws → IsOpenOutside lists kept t ws → IsTakenOff lists kept s t ws v front p mid q back → IsOpenOutside lists (kept_but kept v) t (front ++ (p ∷ mid ++ q ∷ back))
+
+-- A connected near triangulation with a quadrangle as its outer cycle and at least one vertex inside, in which no triangle separates: without the two vertices that are not of the base it is peeled, and open outside.
+abbrev pub QuadrangleOpened : Type 0
+QuadrangleOpened =
+    (lists : Lists) (kept : ℕ → Bool) (s d p t : ℕ) → component_count lists ≡ 1 → 4 < length lists → IsNearTriangulation lists s t (s ∷ d ∷ p ∷ t ∷ []) → HasNoSeparatingTriangle lists → ((v : ℕ) → v < length lists → kept v ≡ true)
+    → (ws : List ℕ) × IsPeeled lists (kept_but (kept_but kept d) p) s t ws × IsOpenOutside lists (kept_but (kept_but kept d) p) t ws

@@ -3,7 +3,7 @@
 #![tactic(auto)]
 
 ghost use Rattle.map_peeling.specs.Laws.{ConnectedTakenOff, CycleAfter, FanCovers, FreeByCount, FreeTakenOff, NothingTakenOff, OuterCycleIsFace, SomeFree, SomeFreeStretch, ThreeLeft, WholeIsPeeled};
-ghost use Rattle.map_peeling.specs.TwoGone.{OpenAfter, SomeFreeOfTwo};
+ghost use Rattle.map_peeling.specs.TwoGone.{OpenAfter, QuadrangleOpened, SomeFreeOfTwo};
 
 /// The darts of an outer cycle are those of the face of its base, and no others.
 pub fn outer_cycle_is_face()
@@ -80,4 +80,11 @@ pub fn some_free_of_two()
 /// What is taken off still lies around what is left when one vertex more is taken off.
 pub fn open_after()
     ensures { OpenAfter }
+{}
+
+/// A connected near triangulation with a quadrangle as its outer cycle, and a vertex inside, in which no
+/// triangle of edges separates: the two vertices of the cycle that are not of the base can be taken off, and
+/// lie around what is left.
+pub fn quadrangle_opened()
+    ensures { QuadrangleOpened }
 {}
