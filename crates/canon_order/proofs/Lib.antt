@@ -3,6 +3,7 @@ mod Cases
 mod Built
 mod Lefts
 mod OrderLaws
+mod RunEnds
 mod Counters
 mod Marks
 mod Contours
