@@ -9,7 +9,6 @@ use Rattle.label_classes.proofs.Counting.{count_below_all, count_below_same}
 use Rattle.map_lists.specs.Lists.{Lists}
 use Rattle.map_definitions.specs.Maps.{HasDart, IsSimpleMap, follows, entry_after}
 use Rattle.map_definitions.proofs.EntryLemmas.{Contains-here, Contains-there, Contains-from_list_any, list_any-from_Contains}
-use Rattle.map_definitions.proofs.DartLemmas.{entry_after-place, place_after, place_of-get_or}
 use Rattle.plane_laws.specs.Completed.{IsCompleted}
 use Rattle.map_peeling.specs.Restricted.{restricted, kept_but, IsFaceOfThree, IsDartOfThree}
 use Rattle.map_peeling.specs.NearTriangulations.{IsOuterCycle, IsOuterDart}

@@ -4,6 +4,7 @@ mod Built
 mod Lefts
 mod OrderLaws
 mod RunEnds
+mod LastCycle
 mod Counters
 mod Marks
 mod Contours
