@@ -4,9 +4,10 @@ use Rattle.std.proofs.lemmas.Bool.{cases_eq, cond-true, cond-false}
 use Rattle.std.proofs.lemmas.List.{take-append-le, length-append, get_or_append_left}
 use Rattle.std.proofs.Math.Seq.{take-length, get_or-append_seam}
 use Rattle.map_lists.specs.Lists.{Lists}
-use Rattle.map_definitions.proofs.EntryLemmas.{Contains-cons_cases, AllPairs-append}
+use Rattle.map_definitions.proofs.EntryLemmas.{AllPairs-append}
 use Rattle.map_peeling.specs.Restricted.{restricted, IsFaceOfThree, IsDartOfThree}
 use Rattle.map_peeling.specs.NearTriangulations.{IsOuterCycle}
+use Rattle.map_peeling.proofs.Rings.{each_of_one}
 use Rattle.canon_order.specs.Orders.{stands_in, IsPutOn, IsBuiltUp, IsMade}
 
 -- equations carried through the definitions
@@ -35,16 +36,13 @@ topped-old cycle n ws k ne = cond-false (eqb k n) ws (cycle k) (ne_eqb k n ne)
 -- the vertices of the base alone
 pub IsBuiltUp-base : (lists : Lists) (s t : ℕ) → s ≢ t → IsBuiltUp lists s t (s ∷ t ∷ []) (λ k. s ∷ t ∷ [])
 IsBuiltUp-base lists s t ne = record {
-  once = AllPairs-append (s ∷ []) (t ∷ []) (AllPairs-one s) (AllPairs-one t) (λ u c c'. ne (only s u c ∙ sym (only t u c')));
+  once = AllPairs-append (s ∷ []) (t ∷ []) (AllPairs-one s) (AllPairs-one t) (λ u c c'. each_of_one (λ z. Contains (t ∷ []) z → ⊥) s (λ h. each_of_one (λ z. s ≢ z) t ne s h refl) u c c');
   first = refl;
   second = refl;
   begin = refl;
   outer = λ k l m. absurd (omega arith);
   put = λ k l m. absurd (omega arith);
 }
-  where
-    only : (s u : ℕ) → Contains (s ∷ []) u → s ≡ u
-    only s u c = elim (Contains-cons_cases s [] u c) [ inl e ↦ e | inr n ↦ absurd (omega (arith, n.1)) ]
 
 module _ (lists : Lists) (s t : ℕ) (us : List ℕ) (cycle : ℕ → List ℕ) (v : ℕ) (ws : List ℕ) where
   abbrev grown : List ℕ
@@ -64,7 +62,7 @@ module _ (lists : Lists) (s t : ℕ) (us : List ℕ) (cycle : ℕ → List ℕ) 
   IsBuiltUp-more h some new outer put =
       let len = length-grown in
       record {
-        once = AllPairs-append us (v ∷ []) h.once (AllPairs-one v) (λ u c c'. new (subst (Contains us) (only u c') c));
+        once = AllPairs-append us (v ∷ []) h.once (AllPairs-one v) (λ u c c'. each_of_one (λ z. ¬ Contains us z) v new u c' c);
         first = get_or_append_left us (v ∷ []) 0 0 (omega arith) ∙ h.first;
         second = get_or_append_left us (v ∷ []) 0 1 (omega arith) ∙ h.second;
         begin = topped-old cycle (suc (length us)) ws 2 (omega arith) ∙ h.begin;
@@ -84,9 +82,6 @@ module _ (lists : Lists) (s t : ℕ) (us : List ℕ) (cycle : ℕ → List ℕ) 
               (sym (topped-old cycle (suc (length us)) ws k (omega arith))) (sym (topped-old cycle (suc (length us)) ws (suc k) (omega arith))) (h.put k l (omega arith))
         ];
       }
-    where
-      only : (u : ℕ) → Contains (v ∷ []) u → u ≡ v
-      only u c = elim (Contains-cons_cases v [] u c) [ inl e ↦ sym e | inr n ↦ absurd (omega (arith, n.1)) ]
 
   -- faces that were made stay
   pub IsMade-old : (x y : ℕ) → IsMade lists us cycle x y → IsMade lists grown cycles x y

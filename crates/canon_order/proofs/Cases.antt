@@ -1,14 +1,14 @@
 -- The definition run on a worked case: an order of the tetrahedron.
-use Rattle.std.proofs.Common.{◌≡◌, ◌≢◌, ℕ, zero, suc, ◌+◌, ◌<◌, ◌≤◌, List, [], ◌∷◌, take, get_or, AllPairs, Contains, refl, sym, ◌∙◌, subst, inl, inr, arith, lit<}
+use Rattle.std.proofs.Common.{◌≡◌, ◌≢◌, ℕ, zero, suc, ◌+◌, ◌<◌, ◌≤◌, List, [], ◌∷◌, take, get_or, AllPairs, Contains, refl, inl, inr, arith, lit<}
 use Rattle.map_lists.specs.Lists.{Lists}
 use Rattle.map_definitions.specs.Maps.{HasDart, list_of, entry_after, follows}
 use Rattle.map_definitions.proofs.DartLemmas.{Contains-from_place_of}
-use Rattle.map_definitions.proofs.EntryLemmas.{Contains-cons_cases, AllPairs-append}
+use Rattle.map_definitions.proofs.EntryLemmas.{AllPairs-append}
 use Rattle.map_peeling.specs.Restricted.{restricted, IsFaceOfThree, IsDartOfThree}
 use Rattle.map_peeling.specs.NearTriangulations.{IsOuterCycle}
+use Rattle.map_peeling.proofs.Rings.{each_of_one, each_of_two, each_of_three, AllPairs-put}
 use Rattle.canon_order.specs.Orders.{stands_in, IsPutOn, IsMade, IsCanonicalOrder}
 use Rattle.canon_order.proofs.Built.{topped, AllPairs-one}
-use Rattle.canon_order.proofs.Lefts.{three_cases}
 
 abbrev tetrahedron : Lists
 tetrahedron = (1 ∷ 2 ∷ 3 ∷ []) ∷ (0 ∷ 3 ∷ 2 ∷ []) ∷ (0 ∷ 1 ∷ 3 ∷ []) ∷ (0 ∷ 2 ∷ 1 ∷ []) ∷ []
@@ -20,26 +20,11 @@ at = 1 ∷ 0 ∷ 2 ∷ 3 ∷ []
 abbrev cycle : ℕ → List ℕ
 cycle = topped (topped (λ k. 1 ∷ 0 ∷ []) 3 (1 ∷ 2 ∷ 0 ∷ [])) 4 (1 ∷ 3 ∷ 0 ∷ [])
 
--- ---- what holds of each entry of a short list
-each_of_two : (P : ℕ → Type 0) (a b : ℕ) → P a → P b → (x : ℕ) → Contains (a ∷ b ∷ []) x → P x
-each_of_two P a b pa pb x c =
-    elim (Contains-cons_cases a (b ∷ []) x c) [
-      | inl e ↦ subst P e pa
-      | inr c' ↦ elim (Contains-cons_cases b [] x c') [ inl e ↦ subst P e pb | inr n ↦ absurd (omega (arith, n.1)) ]
-    ]
-
-each_of_three : (P : ℕ → Type 0) (a b c : ℕ) → P a → P b → P c → (x : ℕ) → Contains (a ∷ b ∷ c ∷ []) x → P x
-each_of_three P a b c pa pb pc x h =
-    elim (three_cases a b c x h) [ inl e ↦ subst P e pa | inr r ↦ elim r [ inl e ↦ subst P e pb | inr e ↦ subst P e pc ] ]
-
+-- three different numbers repeat nothing
 distinct_three : (a b c : ℕ) → a ≢ b → a ≢ c → b ≢ c → AllPairs ◌≢◌ (a ∷ b ∷ c ∷ [])
 distinct_three a b c ab ac bc =
-    AllPairs-append (a ∷ []) (b ∷ c ∷ []) (AllPairs-one a)
-    (AllPairs-append (b ∷ []) (c ∷ []) (AllPairs-one b) (AllPairs-one c) (λ u one other. bc (only b u one ∙ sym (only c u other))))
-    (λ u one other. each_of_two (λ z. a ≢ z) b c ab ac u other (only a u one))
-  where
-    only : (a u : ℕ) → Contains (a ∷ []) u → a ≡ u
-    only a u c = elim (Contains-cons_cases a [] u c) [ inl e ↦ e | inr n ↦ absurd (omega (arith, n.1)) ]
+    AllPairs-put a (b ∷ c ∷ []) (λ h. each_of_two (λ z. a ≢ z) b c ab ac a h refl)
+    (AllPairs-put b (c ∷ []) (λ h. each_of_one (λ z. b ≢ z) c bc b h refl) (AllPairs-one c))
 
 -- ---- the cycles of the first three and of all
 three_first : IsOuterCycle (restricted (stands_in (take 3 at)) tetrahedron) 1 0 (1 ∷ 2 ∷ 0 ∷ [])
@@ -186,7 +171,7 @@ order_of_tetrahedron = record {
   cycle = cycle;
   built = record {
     once = AllPairs-append (1 ∷ 0 ∷ 2 ∷ []) (3 ∷ []) (distinct_three 1 0 2 (λ e. omega arith) (λ e. omega arith) (λ e. omega arith)) (AllPairs-one 3)
-        (λ u c c'. each_of_three (λ z. z ≢ 3) 1 0 2 (λ e. omega arith) (λ e. omega arith) (λ e. omega arith) u c (only u c'));
+        (λ u c c'. each_of_three (λ z. z ≢ 3) 1 0 2 (λ e. omega arith) (λ e. omega arith) (λ e. omega arith) u c (each_of_one (λ z. z ≡ 3) 3 refl u c'));
     first = refl;
     second = refl;
     begin = refl;
@@ -196,9 +181,6 @@ order_of_tetrahedron = record {
   faces = made;
 }
   where
-    only : (u : ℕ) → Contains (3 ∷ []) u → u ≡ 3
-    only u c = elim (Contains-cons_cases 3 [] u c) [ inl e ↦ sym e | inr n ↦ absurd (omega (arith, n.1)) ]
-
     below : (k d : ℕ) → k < 4 → get_or at k d < 4
     below zero d l = omega arith
     below (suc zero) d l = omega arith

@@ -15,6 +15,14 @@ counted_before us i l =
     let le = sum_by-take-le (λ u. cond (p u) 1 0) us (i + 1) in
     omega (arith, more, le)
 
+-- where two places of a list without repeats have one entry they are one
+pub same_place : (us : List ℕ) (i j : ℕ) → AllPairs ◌≢◌ us → i < length us → j < length us → get_or us i 0 ≡ get_or us j 0 → i ≡ j
+same_place us i j distinct m m' e =
+    elim (cases_lt i j) [
+      | inl l ↦ absurd (distinct i j 0 l m' e)
+      | inr l ↦ elim (cases_lt j i) [ inl l' ↦ absurd (distinct j i 0 l' m (sym e)) | inr l' ↦ omega arith ]
+    ]
+
 -- as many different numbers below n as n are all of them
 pub all_of_them : (us : List ℕ) (v : ℕ) → All (λ u. u < length us) us → AllPairs ◌≢◌ us → v < length us → Contains us v
 all_of_them us v within distinct l =
@@ -33,13 +41,6 @@ all_of_them us v within distinct l =
   where
     same_at : (us : List ℕ) (i v : ℕ) → i < length us → get_or us i 0 ≡ v → get_or us i v ≡ v
     same_at us i v m e = sym (get_or_default us i 0 v m) ∙ e
-
-    same_place : (us : List ℕ) (i j : ℕ) → AllPairs ◌≢◌ us → i < length us → j < length us → get_or us i 0 ≡ get_or us j 0 → i ≡ j
-    same_place us i j distinct m m' e =
-        elim (cases_lt i j) [
-          | inl l ↦ absurd (distinct i j 0 l m' e)
-          | inr l ↦ elim (cases_lt j i) [ inl l' ↦ absurd (distinct j i 0 l' m (sym e)) | inr l' ↦ omega arith ]
-        ]
 
 -- the ranks that were written, from the last entry on
 pub IsRankOf-turned : (rank taken : List ℕ) → length rank ≡ length taken → All (λ v. v < length taken) taken → AllPairs ◌≢◌ taken → ((i : ℕ) → i < length taken → get_or rank (get_or taken i 0) 0 + i + 1 ≡ length taken) → IsRankOf rank (reverse taken)

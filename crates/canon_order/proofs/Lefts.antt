@@ -8,13 +8,13 @@ use Rattle.label_classes.specs.Classes.{count_below}
 use Rattle.label_classes.proofs.Counting.{count_below_all, count_below_same}
 use Rattle.map_lists.specs.Lists.{Lists}
 use Rattle.map_definitions.specs.Maps.{HasDart, IsSimpleMap, follows, entry_after}
-use Rattle.map_definitions.proofs.EntryLemmas.{Contains-cons_cases, Contains-here, Contains-there, Contains-from_list_any, list_any-from_Contains}
-use Rattle.map_definitions.proofs.DartLemmas.{entry_after-place, place_after, place_of-get_or}
+use Rattle.map_definitions.proofs.EntryLemmas.{Contains-here, Contains-there, Contains-from_list_any, list_any-from_Contains}
 use Rattle.plane_laws.specs.Completed.{IsCompleted}
 use Rattle.map_peeling.specs.Restricted.{restricted, kept_but, IsFaceOfThree, IsDartOfThree}
 use Rattle.map_peeling.specs.NearTriangulations.{IsOuterCycle, IsOuterDart}
 use Rattle.map_peeling.specs.Peeled.{IsPeeled, IsFan, IsTakenOff}
 use Rattle.map_peeling.proofs.RestrictedMaps.{restricted-old, restricted_all, kept_but-old, kept_but-itself}
+use Rattle.map_peeling.proofs.Rings.{each_of_two, each_of_three, entry_after-inside, entry_after-last}
 use Rattle.map_peeling.proofs.Covers.{fan_covers}
 use Rattle.map_peeling.proofs.Ends.{nothing_taken_off, three_left}
 use Rattle.canon_order.specs.Orders.{stands_in, IsPutOn, IsCanonicalOrder}
@@ -25,23 +25,13 @@ use Rattle.canon_order.proofs.Built.{topped, topped-new, IsBuiltUp-base, IsBuilt
 abbrev three : ℕ → ℕ → ℕ → List ℕ
 three a b c = a ∷ b ∷ c ∷ []
 
-pub three_cases : (a b c u : ℕ) → Contains (three a b c) u → (a ≡ u) ⊎ ((b ≡ u) ⊎ (c ≡ u))
-three_cases a b c u h =
-    elim (Contains-cons_cases a (b ∷ c ∷ []) u h) [
-      | inl e ↦ inl e
-      | inr h' ↦ elim (Contains-cons_cases b (c ∷ []) u h') [
-        | inl e ↦ inr (inl e)
-        | inr h'' ↦ elim (Contains-cons_cases c [] u h'') [ inl e ↦ inr (inr e) | inr n ↦ absurd (omega (arith, n.1)) ]
-      ]
-    ]
+three_cases : (a b c u : ℕ) → Contains (three a b c) u → (a ≡ u) ⊎ ((b ≡ u) ⊎ (c ≡ u))
+three_cases a b c u h = each_of_three (λ z. (a ≡ z) ⊎ ((b ≡ z) ⊎ (c ≡ z))) a b c (inl refl) (inr (inl refl)) (inr (inr refl)) u h
 
 -- each goes on to the next
 three_steps : (a b c : ℕ) → AllPairs ◌≢◌ (three a b c) → (entry_after a (three a b c) ≡ b) × (entry_after b (three a b c) ≡ c) × (entry_after c (three a b c) ≡ a)
 three_steps a b c distinct =
-    let at : (k : ℕ) → k < 3 → entry_after (get_or (three a b c) k 0) (three a b c) ≡ get_or (three a b c) (place_after 3 k) 0 = λ k l.
-    let e = place_of-get_or (three a b c) k 0 distinct l in
-    entry_after-place (get_or (three a b c) k 0) (three a b c) 0 (omega arith) ∙ ap (λ n. get_or (three a b c) (place_after 3 n) 0) e in
-    (at 0 (omega arith), at 1 (omega arith), at 2 (omega arith))
+    (entry_after-inside [] a b (c ∷ []) distinct, entry_after-inside (a ∷ []) b c [] distinct, entry_after-last (a ∷ b ∷ []) c distinct)
 
 -- the darts of the outer cycle of three
 outer_of_three : (a b c x y : ℕ) → AllPairs ◌≢◌ (three a b c) → IsOuterDart (three a b c) x y → IsDartOfThree c a b x y
@@ -259,10 +249,7 @@ module _ (lists : Lists) (s t : ℕ) (kept : ℕ → Bool) (ws rest : List ℕ) 
                 | inr e ↦ absurd (simple.no_loop x u old.0 e)
               ]
             ]),
-        λ c. elim (Contains-cons_cases s (t ∷ []) u c) [
-          | inl e ↦ subst (λ z. HasDart map x z) e (left.peeled.near.simple.both_ways s x dart_sx)
-          | inr c' ↦ elim (Contains-cons_cases t [] u c') [ inl e ↦ subst (λ z. HasDart map x z) e dart_xt | inr n ↦ absurd (omega (arith, n.1)) ]
-        ],
+        λ c. each_of_two (HasDart map x) s t (left.peeled.near.simple.both_ways s x dart_sx) dart_xt u c,
       );
       faces = λ i l. face_at i l;
     }
@@ -313,10 +300,7 @@ module _ (lists : Lists) (s t : ℕ) (kept : ℕ → Bool) (ws rest : List ℕ) 
         } in
         record {
           built = IsBuiltUp-more lists s t (s ∷ t ∷ []) (λ k. s ∷ t ∷ []) x ws base (omega arith)
-              (λ c. elim (Contains-cons_cases s (t ∷ []) x c) [
-                | inl e ↦ apart.0 e
-                | inr c' ↦ elim (Contains-cons_cases t [] x c') [ inl e ↦ apart.1.1 (sym e) | inr n ↦ omega (arith, n.1) ]
-              ])
+              (λ c. each_of_two (λ z. z ≢ x) s t apart.0 (λ e. apart.1.1 (sym e)) x c refl)
               (subst (λ k. IsOuterCycle (restricted k lists) s t ws) alike_three left.peeled.near.cycle) put;
           count = sym few;
           same = same_three;

@@ -3,6 +3,8 @@ mod Cases
 mod Built
 mod Lefts
 mod OrderLaws
+mod RunEnds
+mod LastCycle
 mod Counters
 mod Marks
 mod Contours

@@ -6,9 +6,10 @@ use Rattle.std.proofs.lemmas.List.Sums.{sum_by-cons, count_by-le-length}
 use Rattle.std.proofs.lemmas.List.Elements.{All-nil, Contains-append_left, Contains-append_right, Contains-append_cases, Contains-get_or}
 use Rattle.map_lists.specs.Lists.{Lists}
 use Rattle.map_definitions.specs.Maps.{IsSimpleMap, list_of}
-use Rattle.map_definitions.proofs.EntryLemmas.{count_of, count_of-le-one, Contains-from_count_of, Contains-counted, Contains-here, Contains-there, Contains-cons_cases}
+use Rattle.map_definitions.proofs.EntryLemmas.{count_of, count_of-le-one, Contains-from_count_of, Contains-counted, Contains-here, Contains-there}
 use Rattle.half_edges.proofs.TableArena.{few_entries}
 use Rattle.map_peeling.proofs.RestrictedMaps.{cases_Contains}
+use Rattle.map_peeling.proofs.Rings.{each_of_one, each_of_three}
 use Rattle.canon_order.specs.Contours.{is_set, IsCounted, IsStacked}
 
 -- a test that passes at one number more counts that number too
@@ -161,7 +162,7 @@ marks-more p0 p1 p2 kept us i l one two u =
         | inl t ↦ inl ((one u).1 (inl t))
         | inr c ↦ elim (Contains-append_cases (take i us) (x ∷ []) u (subst (λ (vs : List ℕ). Contains vs u) more c.0)) [
           | inl c' ↦ inl ((one u).1 (inr (c', c.1)))
-          | inr c' ↦ elim (Contains-cons_cases x [] u c') [ inl e ↦ inr (sym e, c.1) | inr n ↦ absurd (omega (arith, n.1)) ]
+          | inr c' ↦ inr (each_of_one (λ z. z ≡ x) x refl u c', c.1)
         ]
       ]),
     )
@@ -198,13 +199,7 @@ three_marked marked t s w none lt ls lw u =
           | inr nt ↦
               let left = is_set-other two w u true nw ∙ (is_set-other one s u true ns ∙ (is_set-other marked t u true nt ∙ none u)) in (
                 (λ passes. absurd (false≢true (sym left ∙ passes))),
-                λ c. absurd (elim (Contains-cons_cases s (w ∷ t ∷ []) u c) [
-                  | inl e ↦ ns (sym e)
-                  | inr c' ↦ elim (Contains-cons_cases w (t ∷ []) u c') [
-                    | inl e ↦ nw (sym e)
-                    | inr c'' ↦ elim (Contains-cons_cases t [] u c'') [ inl e ↦ nt (sym e) | inr n ↦ omega (arith, n.1) ]
-                  ]
-                ]),
+                λ c. absurd (each_of_three (λ z. u ≢ z) s w t ns nw nt u c refl),
               )
         ]
       ]
