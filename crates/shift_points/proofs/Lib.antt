@@ -1,0 +1,6 @@
+-- The lemmas on shift points.
+pub mod Areas
+pub mod Steps
+pub mod Opening
+pub mod Corners
+mod Cases

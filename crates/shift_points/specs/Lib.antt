@@ -1,0 +1,5 @@
+-- The points of the shift method.
+pub mod Shift
+pub mod Contours
+pub mod Opened
+pub mod Laws
