@@ -138,4 +138,5 @@ def main():
             print(f"{name}: {ours:.1f} instructions a byte, plain C {plain:.1f}, {ours / plain:.2f} times", flush=True)
 
 
-main()
+if __name__ == "__main__":
+    main()
