@@ -29,7 +29,7 @@ filter-insert us i x absent =
     ∙ (ap₂ (λ l r. l ++ r) front (cond-false (p x) (x ∷ filter p (drop i us)) (filter p (drop i us)) out ∙ rest) ∙ whole)
 
 -- a test after a weaker one
-filter-filter : (p q : ℕ → Bool) (us : List ℕ) → ((x : ℕ) → p x ≡ true → q x ≡ true) → filter p (filter q us) ≡ filter p us
+pub filter-filter : (p q : ℕ → Bool) (us : List ℕ) → ((x : ℕ) → p x ≡ true → q x ≡ true) → filter p (filter q us) ≡ filter p us
 filter-filter p q [] h = refl
 filter-filter p q (x ∷ us) h =
     let rest = filter-filter p q us h in

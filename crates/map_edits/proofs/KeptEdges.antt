@@ -42,15 +42,18 @@ list_of-kept_from keep from [] v = refl
 list_of-kept_from keep from (us ∷ lists) zero = let z : from ≡ from + 0 = omega arith in ap (λ n. filter (keep n) us) z
 list_of-kept_from keep from (us ∷ lists) (suc v) = let s : from + 1 + v ≡ from + suc v = omega arith in list_of-kept_from keep (from + 1) lists v ∙ ap (λ n. filter (keep n) (list_of lists v)) s
 
+pub length-with_kept : (keep : ℕ → ℕ → Bool) (lists : Lists) → length (with_kept keep lists) ≡ length lists
+length-with_kept keep lists = length-kept_from keep 0 lists
+
 -- what is left at v
 pub list_of-with_kept : (keep : ℕ → ℕ → Bool) (lists : Lists) (v : ℕ) → list_of (with_kept keep lists) v ≡ filter (keep v) (list_of lists v)
 list_of-with_kept keep lists v = let z : 0 + v ≡ v = omega arith in list_of-kept_from keep 0 lists v ∙ ap (λ n. filter (keep n) (list_of lists v)) z
 
 -- the same where the filtered lists are the same
-same_kept : (keep : ℕ → ℕ → Bool) (lists others : Lists) → length lists ≡ length others → ((v : ℕ) → v < length lists → filter (keep v) (list_of lists v) ≡ list_of others v) → with_kept keep lists ≡ others
+pub same_kept : (keep : ℕ → ℕ → Bool) (lists others : Lists) → length lists ≡ length others → ((v : ℕ) → v < length lists → filter (keep v) (list_of lists v) ≡ list_of others v) → with_kept keep lists ≡ others
 same_kept keep lists others n h =
-    ext_get_or [] (with_kept keep lists) others (length-kept_from keep 0 lists ∙ n) (λ v l.
-    let len = length-kept_from keep 0 lists in
+    ext_get_or [] (with_kept keep lists) others (length-with_kept keep lists ∙ n) (λ v l.
+    let len = length-with_kept keep lists in
     list_of-with_kept keep lists v ∙ h v (omega arith))
 
 -- a test that passes always, or not at some number
@@ -122,7 +125,7 @@ module _ (keep : ℕ → ℕ → Bool) (turned : (v u : ℕ) → keep v u ≡ ke
       let n = length-without_edge lists simple a b edge in
       let out' : keep b a ≡ false = turned b a ∙ out in
       let same : with_kept keep rest ≡ with_kept keep lists =
-      same_kept keep rest (with_kept keep lists) (n ∙ sym (length-kept_from keep 0 lists)) (λ v l.
+      same_kept keep rest (with_kept keep lists) (n ∙ sym (length-with_kept keep lists)) (λ v l.
       elim (cases_eq v a) [
         | inl e ↦ rw e (ap (filter (keep a)) (list_at_first lists simple a b edge) ∙ (filter-without (keep a) (list_of lists a) b out ∙ sym (list_of-with_kept keep lists a)))
         | inr na ↦

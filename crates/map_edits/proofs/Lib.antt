@@ -9,5 +9,7 @@ pub mod VertexSmoothed
 pub mod Chords
 pub mod Extended
 pub mod Completions
+pub mod OuterChords
 pub mod OuterEars
+pub mod OuterLeaves
 pub mod OuterFaces

@@ -1,22 +1,13 @@
 -- Ears of a map of genus zero whose outer face meets each vertex once: beside any outer dart b there is a dart whose own twin and whose next's twin are outer, and neither is b. By counts: else too many darts would be chords.
-use Rattle.std.proofs.Common.{◌≡◌, ◌≢◌, ◌⊎◌, ◌&&◌, ℕ, ◌+◌, ◌*◌, ◌<◌, ◌≤◌, Bool, true, false, not, cond, eqb, List, length, refl, sym, ap, ◌∙◌, inl, inr, arith, eq-eqb, ne_eqb, eqb-true}
+use Rattle.std.proofs.Common.{◌≡◌, ◌≢◌, ◌⊎◌, ◌&&◌, ℕ, ◌+◌, ◌*◌, ◌<◌, ◌≤◌, Bool, true, false, not, cond, eqb, List, refl, sym, ap, ◌∙◌, inl, inr, arith, eq-eqb, ne_eqb, eqb-true}
 use Rattle.std.proofs.lemmas.Bool.{cases_Bool, cases_eq, eqb-false, and_parts, and_from, true≢false, not-true, not-false, cond-true, cond-false, not_from_true}
 use Rattle.label_classes.specs.Classes.{count_below, label, class_count}
-use Rattle.label_classes.proofs.Counting.{one_if, count_below_none, count_below_into, count_below_split}
+use Rattle.label_classes.proofs.Counting.{count_below_into, count_below_split}
 use Rattle.label_classes.proofs.Classes.{Together, IsLabels}
-use Rattle.label_classes.proofs.Orbits.{orbits_of, length-orbits_of, IsLabels-orbits_of, orbits_of-step, IsPermuting, count_below-images}
-use Rattle.label_classes.proofs.Bound.{joint, length-joint, IsLabels-joint, IsPairing, IsPermuting-pairing, IsPermuting-after, after, Balances}
-use Rattle.plane_laws.proofs.EdgeBound.{count_three}
+use Rattle.label_classes.proofs.Orbits.{orbits_of, length-orbits_of, IsLabels-orbits_of, orbits_of-step, IsPermuting}
+use Rattle.label_classes.proofs.Bound.{IsPairing, IsPermuting-pairing, IsPermuting-after, after, Balances}
 use Rattle.map_edits.proofs.KeptEdges.{all_or_some}
-
--- The outer numbers are one orbit of f after g, with one for each orbit of f, and none with its partner.
-pub record IsOuter (f g : ℕ → ℕ) (k : ℕ) (outer : ℕ → Bool) : Type 0 where
-  pub moves : (i : ℕ) → i < k → f (g i) ≢ i
-  pub long : (i : ℕ) → i < k → f (g (f (g i))) ≡ i → f (g i) ≡ g i
-  pub kept : (i : ℕ) → i < k → outer i ≡ outer (f (g i))
-  pub one : (i j : ℕ) → i < k → j < k → outer i ≡ true → outer j ≡ true → Together (orbits_of (after f g) k) i j
-  pub each : class_count (orbits_of f k) ≤ count_below outer k
-  pub single : (i : ℕ) → i < k → outer i ≡ true → outer (g i) ≡ false
+use Rattle.map_edits.proofs.OuterChords.{IsOuter, chord, chord_inner, chord_or, chord_partner, few_chords}
 
 module _ (f g : ℕ → ℕ) (k m b : ℕ) (outer : ℕ → Bool) (double : k ≡ m + m) (w : IsPermuting f k) (v : IsPairing g k) (plane : Balances f g k m 0) (o : IsOuter f g k outer) (lb : b < k) (outer_b : outer b ≡ true) (none : (i : ℕ) → i < k → outer (g i) ≡ true → outer (g (f (g i))) ≡ true → g i ≢ b → g (f (g i)) ≢ b → ⊥) where
   abbrev h : ℕ → ℕ
@@ -34,35 +25,12 @@ module _ (f g : ℕ → ℕ) (k m b : ℕ) (outer : ℕ → Bool) (double : k �
   along : (i : ℕ) → i < k → Together P i (h i)
   along = orbits_of-step h k hw.within
 
-  -- a chord: neither it nor its partner is outer
-  chord : ℕ → Bool
-  chord i = not (outer i) && not (outer (g i))
-
-  chord_inner : (i : ℕ) → chord i ≡ true → outer i ≡ false
-  unfolding chord
-  chord_inner i t = not-true (outer i) (and_parts (not (outer i)) (not (outer (g i))) t).0
-
-  chord_partner : (i : ℕ) → i < k → chord i ≡ true → chord (g i) ≡ true
-  unfolding chord
-  chord_partner i l t =
-      let both = and_parts (not (outer i)) (not (outer (g i))) t in
-      and_from (not (outer (g i))) (not (outer (g (g i)))) both.1 (ap (λ x. not (outer x)) (v.back i l) ∙ both.0)
-
-  -- what is not outer is a chord, or its partner is outer
-  chord_or : (i : ℕ) → outer i ≡ false → (chord i ≡ true) ⊎ (outer (g i) ≡ true)
-  unfolding chord
-  chord_or i e =
-      elim (cases_Bool (outer (g i))) [
-        | inl t ↦ inr t
-        | inr t ↦ inl (and_from (not (outer i)) (not (outer (g i))) (ap not e) (ap not t))
-      ]
-
   -- away from b one of two in a row is a chord
-  of_two : (i : ℕ) → i < k → outer i ≡ false → g i ≢ b → g (h i) ≢ b → (chord i ≡ true) ⊎ (chord (h i) ≡ true)
+  of_two : (i : ℕ) → i < k → outer i ≡ false → g i ≢ b → g (h i) ≢ b → (chord g outer i ≡ true) ⊎ (chord g outer (h i) ≡ true)
   of_two i l e nb nb' =
-      elim (chord_or i e) [
+      elim (chord_or g outer i e) [
         | inl t ↦ inl t
-        | inr t ↦ elim (chord_or (h i) (sym (o.kept i l) ∙ e)) [ inl t' ↦ inr t' | inr t' ↦ absurd (none i l t t' nb nb') ]
+        | inr t ↦ elim (chord_or g outer (h i) (sym (o.kept i l) ∙ e)) [ inl t' ↦ inr t' | inr t' ↦ absurd (none i l t t' nb nb') ]
       ]
 
   -- the face beyond b
@@ -76,16 +44,16 @@ module _ (f g : ℕ → ℕ) (k m b : ℕ) (outer : ℕ → Bool) (double : k �
   inner_gb = o.single b lb outer_b
 
   -- it has a chord
-  beyond_chord : (i : ℕ) × (i < k) × (chord i ≡ true) × Together P (g b) i
+  beyond_chord : (i : ℕ) × (i < k) × (chord g outer i ≡ true) × Together P (g b) i
   beyond_chord =
       let i1 = h (g b) in
       let l1 = hw.within (g b) lgb in
       let i2 = h i1 in
       let l2 = hw.within i1 l1 in
       let e1 : outer i1 ≡ false = sym (o.kept (g b) lgb) ∙ inner_gb in
-      elim (chord_or i1 e1) [
+      elim (chord_or g outer i1 e1) [
         | inl t ↦ (i1, l1, t, along (g b) lgb)
-        | inr t1 ↦ elim (chord_or i2 (sym (o.kept i1 l1) ∙ e1)) [
+        | inr t1 ↦ elim (chord_or g outer i2 (sym (o.kept i1 l1) ∙ e1)) [
           | inl t ↦ (i2, l2, t, along (g b) lgb ∙ along i1 l1)
           | inr t2 ↦ absurd (none i1 l1 t1 t2
               (λ q. o.moves (g b) lgb (sym (v.back i1 l1) ∙ ap g q))
@@ -97,25 +65,25 @@ module _ (f g : ℕ → ℕ) (k m b : ℕ) (outer : ℕ → Bool) (double : k �
 
   -- every other inner face has two: here its label or the next, and then one of the two after that
   first : ℕ → ℕ
-  first l = cond (chord l) l (h l)
+  first l = cond (chord g outer l) l (h l)
 
   second : ℕ → ℕ
-  second l = cond (chord (h (first l))) (h (first l)) (h (h (first l)))
+  second l = cond (chord g outer (h (first l))) (h (first l)) (h (h (first l)))
 
-  first_is : (l : ℕ) → l < k → outer l ≡ false → (Together P l (g b) → ⊥) → (first l < k) × (chord (first l) ≡ true) × Together P l (first l)
+  first_is : (l : ℕ) → l < k → outer l ≡ false → (Together P l (g b) → ⊥) → (first l < k) × (chord g outer (first l) ≡ true) × Together P l (first l)
   unfolding first
   first_is l n e far =
       let n1 = hw.within l n in
-      elim (cases_Bool (chord l)) [
-        | inl t ↦ let at : cond (chord l) l (h l) ≡ l = cond-true (chord l) l (h l) t in rw at (n, t, refl)
+      elim (cases_Bool (chord g outer l)) [
+        | inl t ↦ let at : cond (chord g outer l) l (h l) ≡ l = cond-true (chord g outer l) l (h l) t in rw at (n, t, refl)
         | inr t ↦
-            let at : cond (chord l) l (h l) ≡ h l = cond-false (chord l) l (h l) t in
-            let next : chord (h l) ≡ true =
+            let at : cond (chord g outer l) l (h l) ≡ h l = cond-false (chord g outer l) l (h l) t in
+            let next : chord g outer (h l) ≡ true =
             elim (of_two l n e (λ q. far (ap (label P) (sym (v.back l n) ∙ ap g q))) (λ q. far (along l n ∙ ap (label P) (sym (v.back (h l) n1) ∙ ap g q)))) [ inl s ↦ absurd (true≢false (sym s ∙ t)) | inr s ↦ s ] in
             rw at (n1, next, along l n)
       ]
 
-  second_is : (l : ℕ) → l < k → outer l ≡ false → (Together P l (g b) → ⊥) → (second l < k) × (chord (second l) ≡ true) × Together P l (second l) × (second l ≢ first l)
+  second_is : (l : ℕ) → l < k → outer l ≡ false → (Together P l (g b) → ⊥) → (second l < k) × (chord g outer (second l) ≡ true) × Together P l (second l) × (second l ≢ first l)
   unfolding second
   second_is l n e far =
       let a = first l in
@@ -124,15 +92,15 @@ module _ (f g : ℕ → ℕ) (k m b : ℕ) (outer : ℕ → Bool) (double : k �
       let l1 = hw.within a la in
       let l2 = hw.within (h a) l1 in
       let in_a = f_is.2 in
-      let inner_a = chord_inner a f_is.1 in
-      elim (cases_Bool (chord (h a))) [
-        | inl t ↦ let at : cond (chord (h a)) (h a) (h (h a)) ≡ h a = cond-true (chord (h a)) (h a) (h (h a)) t in rw at (l1, t, in_a ∙ along a la, o.moves a la)
+      let inner_a = chord_inner g outer a f_is.1 in
+      elim (cases_Bool (chord g outer (h a))) [
+        | inl t ↦ let at : cond (chord g outer (h a)) (h a) (h (h a)) ≡ h a = cond-true (chord g outer (h a)) (h a) (h (h a)) t in rw at (l1, t, in_a ∙ along a la, o.moves a la)
         | inr t ↦
-            let at : cond (chord (h a)) (h a) (h (h a)) ≡ h (h a) = cond-false (chord (h a)) (h a) (h (h a)) t in
+            let at : cond (chord g outer (h a)) (h a) (h (h a)) ≡ h (h a) = cond-false (chord g outer (h a)) (h a) (h (h a)) t in
             let inner1 : outer (h a) ≡ false = sym (o.kept a la) ∙ inner_a in
-            let next : chord (h (h a)) ≡ true =
+            let next : chord g outer (h (h a)) ≡ true =
             elim (of_two (h a) l1 inner1 (λ q. far (in_a ∙ (along a la ∙ ap (label P) (sym (v.back (h a) l1) ∙ ap g q)))) (λ q. far (in_a ∙ (along a la ∙ (along (h a) l1 ∙ ap (label P) (sym (v.back (h (h a)) l2) ∙ ap g q)))))) [ inl s ↦ absurd (true≢false (sym s ∙ t)) | inr s ↦ s ] in
-            rw at (l2, next, in_a ∙ (along a la ∙ along (h a) l1), λ q. true≢false (sym (ap chord (o.long a la q) ∙ chord_partner a la f_is.1) ∙ t))
+            rw at (l2, next, in_a ∙ (along a la ∙ along (h a) l1), λ q. true≢false (sym (ap (chord g outer) (o.long a la q) ∙ chord_partner f g k m outer double w v plane o a la f_is.1) ∙ t))
       ]
 
   -- a chord for each inner face
@@ -146,7 +114,7 @@ module _ (f g : ℕ → ℕ) (k m b : ℕ) (outer : ℕ → Bool) (double : k �
   unfolding own
   own_same i j t t' e = sym (eqb-true (label P i) i t) ∙ (e ∙ eqb-true (label P j) j t')
 
-  picked_is : (l : ℕ) → l < k → outer l ≡ false → own l ≡ true → (picked l < k) × (chord (picked l) ≡ true) × Together P l (picked l)
+  picked_is : (l : ℕ) → l < k → outer l ≡ false → own l ≡ true → (picked l < k) × (chord g outer (picked l) ≡ true) × Together P l (picked l)
   unfolding picked beyond own
   picked_is l n e t =
       elim (cases_eq l (label P (g b))) [
@@ -170,7 +138,7 @@ module _ (f g : ℕ → ℕ) (k m b : ℕ) (outer : ℕ → Bool) (double : k �
   picked_other l ne = cond-false (eqb l beyond) beyond_chord.0 (first l) (ne_eqb l beyond ne)
 
   -- so there are nearly two chords for each face
-  counts : 2 * class_count P ≤ count_below chord k + 3
+  counts : 2 * class_count P ≤ count_below (chord g outer) k + 3
   unfolding own is_picked inner_own beyond
   counts =
       let n = length-orbits_of h k in
@@ -179,11 +147,11 @@ module _ (f g : ℕ → ℕ) (k m b : ℕ) (outer : ℕ → Bool) (double : k �
       let one_outer = count_below_into (λ i. 0) (λ i. outer i && own i) (λ i. true) k 1 (λ i l t. (omega arith, refl))
       (λ i j l m t t' e. let a = and_parts (outer i) (own i) t in let c = and_parts (outer j) (own j) t' in own_same i j a.1 c.1 (o.one i j l m a.0 c.0)) in
       let inner : (i : ℕ) → inner_own i ≡ true → (outer i ≡ false) × (own i ≡ true) = λ i t. let a = and_parts (not (outer i)) (own i) t in (not-true (outer i) a.0, a.1) in
-      let firsts = count_below_into picked inner_own (λ i. is_picked i && chord i) k k
+      let firsts = count_below_into picked inner_own (λ i. is_picked i && chord g outer i) k k
       (λ i l t.
       let a = inner i t in
       let c = picked_is i l a.0 a.1 in
-      (c.0, and_from (is_picked (picked i)) (chord (picked i)) (eq-eqb (picked i) (picked (label P (picked i))) (ap picked (sym (eqb-true (label P i) i a.1) ∙ c.2))) c.1))
+      (c.0, and_from (is_picked (picked i)) (chord g outer (picked i)) (eq-eqb (picked i) (picked (label P (picked i))) (ap picked (sym (eqb-true (label P i) i a.1) ∙ c.2))) c.1))
       (λ i j l m t t' e.
       let a = inner i t in
       let a' = inner j t' in
@@ -196,59 +164,25 @@ module _ (f g : ℕ → ℕ) (k m b : ℕ) (outer : ℕ → Bool) (double : k �
       let a = and_parts (not (eqb i beyond)) (inner_own i) t in
       let c = inner i a.1 in
       (eqb-false i beyond (not-true (eqb i beyond) a.0), c.0, c.1) in
-      let seconds = count_below_into second (λ i. not (eqb i beyond) && inner_own i) (λ i. not (is_picked i) && chord i) k k
+      let seconds = count_below_into second (λ i. not (eqb i beyond) && inner_own i) (λ i. not (is_picked i) && chord g outer i) k k
       (λ i l t.
       let a = others i t in
       let c = second_is i l a.1 (away i a.2 a.0) in
       let back : picked (label P (second i)) ≡ first i = ap picked (sym c.2 ∙ eqb-true (label P i) i a.2) ∙ picked_other i a.0 in
-      (c.0, and_from (not (is_picked (second i))) (chord (second i)) (ap not (ne_eqb (second i) (picked (label P (second i))) (λ q. c.3 (q ∙ back)))) c.1))
+      (c.0, and_from (not (is_picked (second i))) (chord g outer (second i)) (ap not (ne_eqb (second i) (picked (label P (second i))) (λ q. c.3 (q ∙ back)))) c.1))
       (λ i j l m t t' e.
       let a = others i t in
       let a' = others j t' in
       own_same i j a.2 a'.2 ((second_is i l a.1 (away i a.2 a.0)).2 ∙ (ap (label P) e ∙ sym (second_is j m a'.1 (away j a'.2 a'.0)).2))) in
-      let by_picked = count_below_split chord is_picked k in
+      let by_picked = count_below_split (chord g outer) is_picked k in
       omega (arith, faces, by_outer, one_outer, firsts, by_beyond, one_beyond, seconds, by_picked)
     where
       beyond_away : (i : ℕ) → own i ≡ true → i ≢ beyond → Together P i (g b) → ⊥
       beyond_away i t ne q = ne (sym (eqb-true (label P i) i t) ∙ q)
 
-  chord_not : (i : ℕ) → outer (g i) ≡ true → chord i ≡ false
-  unfolding chord
-  chord_not i t =
-      elim (cases_Bool (not (outer i) && not (outer (g i)))) [
-        | inl c ↦ absurd (true≢false (sym t ∙ not-true (outer (g i)) (and_parts (not (outer i)) (not (outer (g i))) c).1))
-        | inr c ↦ c
-      ]
-
-  -- a number is outer, or its partner is, or it is a chord
-  one_kind : (i : ℕ) → i < k → one_if (outer i) + one_if (outer (g i)) + one_if (chord i) ≤ 1
-  one_kind i l =
-      elim (cases_Bool (outer i)) [
-        | inl t ↦
-            elim (cases_Bool (chord i)) [
-              | inl c ↦ absurd (true≢false (sym t ∙ chord_inner i c))
-              | inr c ↦ omega (arith, ap one_if t, ap one_if c, ap one_if (o.single i l t))
-            ]
-        | inr t ↦
-            elim (cases_Bool (outer (g i))) [
-              | inl t' ↦ omega (arith, ap one_if t, ap one_if t', ap one_if (chord_not i t'))
-              | inr t' ↦ elim (cases_Bool (chord i)) [ inl c ↦ omega (arith, ap one_if t, ap one_if t', ap one_if c) | inr c ↦ omega (arith, ap one_if t, ap one_if t', ap one_if c) ]
-            ]
-      ]
-
   -- that is too many
   pub no_ear_absurd : ⊥
-  no_ear_absurd =
-      let J = joint f g k in
-      let n = length-joint f g k w.within v.within in
-      let classes = IsLabels-joint f g k w.within v.within in
-      let low = classes.low 0 in
-      let some = count_below_into (λ i. 0) (λ i. true) (λ i. eqb (label J i) i) 1 (length J) (λ i l t. (omega arith, eq-eqb (label J 0) 0 (omega arith))) (λ i j l m t t' e. omega arith) in
-      let kinds = count_three outer (λ i. outer (g i)) chord (λ i. false) k (λ i l. omega (arith, one_kind i l)) in
-      let nothing = count_below_none k in
-      let twins = count_below-images g k (IsPermuting-pairing g k v) outer in
-      let each = o.each in
-      omega (arith, plane, counts, some, kinds, nothing, twins)
+  no_ear_absurd = few_chords f g k m outer double w v plane o (omega (arith, lb)) counts
 
 -- Beside each outer number b there is an ear: a number whose partner, and whose next one's partner, are outer and not b.
 pub outer_ear : (f g : ℕ → ℕ) (k m b : ℕ) (outer : ℕ → Bool) → k ≡ m + m → IsPermuting f k → IsPairing g k → Balances f g k m 0 → IsOuter f g k outer → b < k → outer b ≡ true → (i : ℕ) × (i < k) × (outer (g i) ≡ true) × (outer (g (f (g i))) ≡ true) × (g i ≢ b) × (g (f (g i)) ≢ b)

@@ -1,8 +1,9 @@
 -- An ear of an outer face, in the words of maps.
-use Rattle.std.proofs.Common.{◌≡◌, ℕ, ◌<◌, Bool, true, eqb, length, refl, sym, ap, ◌∙◌, subst, inl, inr, arith, eqb-true, eq-eqb, ne_eqb}
+use Rattle.std.proofs.Common.{◌≡◌, ◌≢◌, ℕ, ◌<◌, Bool, true, eqb, length, refl, sym, ap, ◌∙◌, subst, inl, inr, arith, eqb-true, eq-eqb, ne_eqb}
 use Rattle.std.proofs.lemmas.Bool.{cases_Bool, false_from_ne_true, true≢false}
 use Rattle.label_classes.specs.Classes.{label}
 use Rattle.label_classes.proofs.Counting.{count_below_into}
+use Rattle.label_classes.proofs.Classes.{Together}
 use Rattle.label_classes.proofs.Orbits.{orbits_of, length-orbits_of, marks_back}
 use Rattle.label_classes.proofs.Bound.{after}
 use Rattle.map_lists.specs.Lists.{Lists}
@@ -11,8 +12,10 @@ use Rattle.map_definitions.proofs.DartLemmas.{dart_number-lt, get_or-dart_number
 use Rattle.euler_bound.proofs.DartPermutations.{dart_of, tail_of, rotation, twin, IsPermuting-rotation, IsPairing-twin, dart_of-number, dart_of-twin, same_orbit, balances_map, two_m}
 use Rattle.plane_laws.proofs.DartPaths.{face_together, dart_of-face_step, tail_of-number}
 use Rattle.plane_laws.proofs.EdgeBound.{hw, no_fixed, two_steps}
-use Rattle.map_edits.specs.OuterFaces.{IsOuterFace, IsOuterEar, OuterEar}
-use Rattle.map_edits.proofs.OuterEars.{IsOuter, outer_ear}
+use Rattle.map_edits.specs.OuterFaces.{IsOuterFace, IsOuterEar, OuterEar, IsOuterLeaf, OuterLeaf}
+use Rattle.map_edits.proofs.OuterChords.{IsOuter}
+use Rattle.map_edits.proofs.OuterEars.{outer_ear}
+use Rattle.map_edits.proofs.OuterLeaves.{some_leaf}
 
 module _ (lists : Lists) (next : ℕ → ℕ) (simple : IsSimpleMap lists) (face : IsOuterFace lists next) where
   abbrev f : ℕ → ℕ
@@ -116,6 +119,41 @@ module _ (lists : Lists) (next : ℕ → ℕ) (simple : IsSimpleMap lists) (face
         },
       )
 
+  pub leaf_here : IsPlane lists → (p : ℕ) → HasDart lists p (next p) → (u : ℕ) × (w : ℕ) × IsOuterLeaf lists next p u w
+  leaf_here plane p has =
+      let b = dart_number lists (p, next p) in
+      let balance = balances_map lists simple 0 (omega (arith, plane)) in
+      let pair = IsPairing-twin lists simple in
+      let found = some_leaf f g k (edge_count lists) b outer (two_m lists simple) (IsPermuting-rotation lists simple) pair balance IsOuter-face (dart_number-lt lists p (next p) has) (outer-number p has) in
+      let i = found.0 in
+      let is = found.1 in
+      let d = dart_of lists i in
+      let own = dart_of-number lists simple i is.within in (
+        d.0,
+        d.1,
+        record {
+          dart = own.is_dart;
+          inner = λ e. true≢false (sym (eq-eqb d.1 (next d.0) e) ∙ is.inner);
+          others = λ x y at same ne.
+              let j = dart_number lists (x, y) in
+              let l = dart_number-lt lists x y at in
+              let dart_j : dart_of lists j ≡ (x, y) = get_or-dart_number lists x y (0, 0) at in
+              let together : Together (orbits_of (after f g) k) j i = sym (ap (label (orbits_of (after f g) k)) (sym own.number) ∙ face_together lists simple d (x, y) same) in
+              let apart : j ≢ i = λ e. let q : (x, y) ≡ d = sym dart_j ∙ ap (dart_of lists) e in ne (ap (λ c. c.0) q, ap (λ c. c.1) q) in
+              let other = is.others j l together apart in
+              let twin_j : dart_of lists (g j) ≡ (y, x) = dart_of-twin lists simple j l ∙ ap (λ c. (c.1, c.0)) dart_j in (
+                sym (sym (ap (λ c. c.1) twin_j) ∙ (outer_is (g j) other.0 ∙ ap (λ c. next c.0) twin_j)),
+                λ e.
+                    let tail : tail_of lists (g j) ≡ p = ap (λ c. c.0) twin_j ∙ e in
+                    other.1 (sym (number_is (g j) (pair.within j l) other.0) ∙ ap (λ z. dart_number lists (z, next z)) tail),
+              );
+        },
+      )
+
 -- THE LAW: an ear beside each dart of such an outer face
 pub outer_ear_law : OuterEar
 outer_ear_law lists next p simple plane face has = ear_here lists next simple face plane p has
+
+-- THE LAW: a leaf away from each dart of such an outer face
+pub outer_leaf_law : OuterLeaf
+outer_leaf_law lists next p simple plane face has = leaf_here lists next simple face plane p has

@@ -22,3 +22,14 @@ pub record IsOuterEar (lists : Lists) (next : ℕ → ℕ) (p v : ℕ) : Type 0 
 abbrev pub OuterEar : Type 0
 OuterEar =
     (lists : Lists) (next : ℕ → ℕ) (p : ℕ) → IsSimpleMap lists → IsPlane lists → IsOuterFace lists next → HasDart lists p (next p) → (v : ℕ) × IsOuterEar lists next p v
+
+-- The dart (u, w) is not of the outer face, and each other dart of its face has the outer face on its other side, and not by the dart that leaves p.
+pub record IsOuterLeaf (lists : Lists) (next : ℕ → ℕ) (p u w : ℕ) : Type 0 where
+  pub dart : HasDart lists u w
+  pub inner : w ≢ next u
+  pub others : (x y : ℕ) → HasDart lists x y → SameFace lists (u, w) (x, y) → ¬ ((x ≡ u) × (y ≡ w)) → (next y ≡ x) × (y ≢ p)
+
+-- In a map of genus zero with such an outer face there is a leaf away from each of its darts.
+abbrev pub OuterLeaf : Type 0
+OuterLeaf =
+    (lists : Lists) (next : ℕ → ℕ) (p : ℕ) → IsSimpleMap lists → IsPlane lists → IsOuterFace lists next → HasDart lists p (next p) → (u : ℕ) × (w : ℕ) × IsOuterLeaf lists next p u w

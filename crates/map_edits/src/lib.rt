@@ -6,7 +6,7 @@ ghost use Rattle.map_edits.specs.Added.{EdgeInFace, EdgeBetween};
 ghost use Rattle.map_edits.specs.Chords.{CornerChord, EarCut, OneChord, SomeEar};
 ghost use Rattle.map_edits.specs.Completed.{Completion};
 ghost use Rattle.map_edits.specs.Kept.{KeptEdges};
-ghost use Rattle.map_edits.specs.OuterFaces.{OuterEar};
+ghost use Rattle.map_edits.specs.OuterFaces.{OuterEar, OuterLeaf};
 ghost use Rattle.map_edits.specs.Smoothed.{VertexSmoothed};
 ghost use Rattle.map_edits.specs.WithEdge.{EdgePutBetween, EdgePutInFace, WithEdge, WithEdgeAfter};
 
@@ -91,4 +91,10 @@ pub fn completion()
 /// a vertex with no neighbour between those before and after it on the face.
 pub fn outer_ear()
     ensures { OuterEar }
+{}
+
+/// Where a face of a map of genus zero meets each vertex once, and away from each of its darts, there is a
+/// leaf: a dart off that face, such that each other dart of its own face has that face on its other side.
+pub fn outer_leaf()
+    ensures { OuterLeaf }
 {}

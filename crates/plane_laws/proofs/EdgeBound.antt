@@ -54,7 +54,7 @@ some_pass p (suc n) =
     ]
 
 -- where there is one class, all are in it
-one_class : (labels : List ℕ) → IsLabels labels → class_count labels ≤ 1 → (i j : ℕ) → i < length labels → j < length labels → Together labels i j
+pub one_class : (labels : List ℕ) → IsLabels labels → class_count labels ≤ 1 → (i j : ℕ) → i < length labels → j < length labels → Together labels i j
 one_class labels w few i j l m =
     elim (cases_eq (label labels i) (label labels j)) [
       | inl e ↦ e

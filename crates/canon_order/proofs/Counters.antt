@@ -1,0 +1,81 @@
+-- Counters that go over the entries of a list, and ranks.
+use Rattle.std.proofs.Common.{◌≡◌, ◌≢◌, ℕ, ◌+◌, ◌-◌, ◌<◌, ◌≤◌, ◌==◌, Bool, true, not, cond, eqb, List, length, get_or, take, count_by, AllPairs, All, Contains, refl, sym, ap, ◌∙◌, subst, inl, inr, arith, eq-eqb, ne_eqb, reverse}
+use Rattle.std.proofs.lemmas.List.{get_or-reverse, length-reverse, get_or_default}
+use Rattle.std.proofs.lemmas.List.Sums.{count_by_more_yes, sum_by-take-le}
+use Rattle.std.proofs.lemmas.Bool.{cases_lt}
+use Rattle.label_classes.proofs.Counting.{count_below_all, count_below_into, count_below_more}
+use Rattle.map_peeling.proofs.RestrictedMaps.{cases_Contains}
+use Rattle.canon_order.specs.Orders.{IsRankOf}
+
+-- an entry is not among those before it as often as in the whole list
+pub counted_before : (us : List ℕ) (i : ℕ) → i < length us → count_by (λ u. u == get_or us i 0) (take i us) + 1 ≤ count_by (λ u. u == get_or us i 0) us
+counted_before us i l =
+    let p : ℕ → Bool = λ u. eqb u (get_or us i 0) in
+    let more = count_by_more_yes p us i 0 l (eq-eqb (get_or us i 0) (get_or us i 0) refl) in
+    let le = sum_by-take-le (λ u. cond (p u) 1 0) us (i + 1) in
+    omega (arith, more, le)
+
+-- where two places of a list without repeats have one entry they are one
+pub same_place : (us : List ℕ) (i j : ℕ) → AllPairs ◌≢◌ us → i < length us → j < length us → get_or us i 0 ≡ get_or us j 0 → i ≡ j
+same_place us i j distinct m m' e =
+    elim (cases_lt i j) [
+      | inl l ↦ absurd (distinct i j 0 l m' e)
+      | inr l ↦ elim (cases_lt j i) [ inl l' ↦ absurd (distinct j i 0 l' m (sym e)) | inr l' ↦ omega arith ]
+    ]
+
+-- as many different numbers below n as n are all of them
+pub all_of_them : (us : List ℕ) (v : ℕ) → All (λ u. u < length us) us → AllPairs ◌≢◌ us → v < length us → Contains us v
+all_of_them us v within distinct l =
+    elim (cases_Contains us v) [
+      | inl c ↦ c
+      | inr none ↦
+          let n = length us in
+          let other : ℕ → Bool = λ x. not (eqb x v) in
+          let into = count_below_into (λ i. get_or us i 0) (λ i. true) other n n
+          (λ i m _. (within i 0 m, ap not (ne_eqb (get_or us i 0) v (λ e. none (i, m, same_at us i v m e)))))
+          (λ i j m m' _ _ e. same_place us i j distinct m m' e) in
+          let more = count_below_more other (λ i. true) n v l (ap not (eq-eqb v v refl)) refl (λ i _ ne. ap not (ne_eqb i v ne)) in
+          let all = count_below_all n in
+          absurd (omega arith)
+    ]
+  where
+    same_at : (us : List ℕ) (i v : ℕ) → i < length us → get_or us i 0 ≡ v → get_or us i v ≡ v
+    same_at us i v m e = sym (get_or_default us i 0 v m) ∙ e
+
+-- the ranks that were written, from the last entry on
+pub IsRankOf-turned : (rank taken : List ℕ) → length rank ≡ length taken → All (λ v. v < length taken) taken → AllPairs ◌≢◌ taken → ((i : ℕ) → i < length taken → get_or rank (get_or taken i 0) 0 + i + 1 ≡ length taken) → IsRankOf rank (reverse taken)
+IsRankOf-turned rank taken n within distinct h =
+    let len = length-reverse taken in
+    record {
+      count = omega arith;
+      of_place = λ i l.
+          let at = get_or-reverse taken i 0 (omega arith) in
+          let there = h (length taken - 1 - i) (omega arith) in
+          ap (λ v. get_or rank v 0) at ∙ omega arith;
+      of_vertex = λ v l.
+          let c = all_of_them taken v within distinct (omega arith) in
+          let at : get_or taken c.0 0 ≡ v = get_or_default taken c.0 0 v c.1 ∙ c.2 in
+          let there = h c.0 c.1 in
+          let r : get_or rank v 0 + c.0 + 1 ≡ length taken = ap (λ z. get_or rank z 0 + c.0 + 1) (sym at) ∙ there in
+          let k = c.1 in
+          let place : length taken - 1 - get_or rank v 0 ≡ c.0 = omega arith in
+          get_or-reverse taken (get_or rank v 0) 0 (omega arith) ∙ (ap (λ z. get_or taken z 0) place ∙ at);
+    }
+
+-- a list from its end
+pub AllPairs-from_reverse : (us : List ℕ) → AllPairs ◌≢◌ (reverse us) → AllPairs ◌≢◌ us
+AllPairs-from_reverse us h = λ i j d l m e.
+    let n = length-reverse us in
+    let a = get_or-reverse us (length us - 1 - i) d (omega arith) in
+    let b = get_or-reverse us (length us - 1 - j) d (omega arith) in
+    let i' : length us - 1 - (length us - 1 - i) ≡ i = omega arith in
+    let j' : length us - 1 - (length us - 1 - j) ≡ j = omega arith in
+    h (length us - 1 - j) (length us - 1 - i) d (omega arith) (omega arith)
+    (b ∙ (ap (λ k. get_or us k d) j' ∙ (sym e ∙ sym (a ∙ ap (λ k. get_or us k d) i'))))
+
+pub All-from_reverse : (P : ℕ → Type 0) (us : List ℕ) → All P (reverse us) → All P us
+All-from_reverse P us h = λ k d l.
+    let n = length-reverse us in
+    let a = get_or-reverse us (length us - 1 - k) d (omega arith) in
+    let k' : length us - 1 - (length us - 1 - k) ≡ k = omega arith in
+    subst P (a ∙ ap (λ i. get_or us i d) k') (h (length us - 1 - k) d (omega arith))

@@ -1,0 +1,5 @@
+-- Canonical orders, and how they are found.
+pub mod Orders
+pub mod Laws
+pub mod Lefts
+pub mod Contours

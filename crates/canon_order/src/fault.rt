@@ -1,0 +1,21 @@
+//! Why there is no order.
+
+use std::alloc::AllocError;
+
+/// Why a completed map got no canonical order.
+#[derive(Clone, Copy, Debug, PartialEq, Eq)]
+pub enum OrderFault {
+    /// There was not enough memory.
+    NoMemory,
+}
+
+impl From<AllocError> for OrderFault {
+    ghost use Rattle.std.specs.Prelude.{◌≡◌};
+    ghost use Rattle.canon_order.specs.declared.fault.OrderFault.TheVariants.{NoMemory};
+
+    ghost from_gives = { λ _ fault. fault ≡ NoMemory };
+
+    fn from(_refused: AllocError) -> OrderFault {
+        OrderFault::NoMemory
+    }
+}

@@ -1,0 +1,33 @@
+//! Canonical orders of completed maps: the vertices in an order in which each is put on the outer cycle of
+//! those before it.
+#![tactic(auto)]
+
+ghost use Rattle.canon_order.specs.Laws.{LastCycle, RunEnds, SomeOrder};
+
+mod contour;
+mod fault;
+mod lists;
+mod order;
+
+pub use fault::OrderFault;
+pub use order::{Order, canon_order};
+
+/// Each completed map has a canonical order for each base dart.
+pub fn some_order()
+    ensures { SomeOrder }
+{}
+
+/// The last cycle of a canonical order has three vertices, those of the base's face: so the last vertex is
+/// put over all of the cycle before it.
+pub fn last_cycle()
+    ensures { LastCycle }
+{}
+
+/// In the list of a vertex of a canonical order that is neither of the base nor the last one, clockwise,
+/// the vertices of its run stand from q back to p, and after p and before q stands a later vertex.
+pub fn run_ends()
+    ensures { RunEnds }
+{}
+
+#[cfg(test)]
+mod tests;

@@ -1,0 +1,75 @@
+//! Counters of entries, and lists made of vectors.
+ghost use Rattle.std.specs.Prelude.{◌≡◌, ◌+◌, ◌<◌, ◌≤◌, ◌==◌, ℕ, map, reverse, length, slice_index, count_by, All, AllPairs, ◌≢◌, IfOk};
+ghost use Rattle.canon_order.specs.Orders.{IsRankOf};
+
+use half_edges::{Counts, VertexId, VertexList};
+use std::alloc::{AllocError, Global};
+
+// Adds one for each entry of a list.
+pub(crate) fn raise(counts: &mut [u16], entries: &[u16])
+    requires within { All (λ u. u < length counts.old) entries.now }
+    requires room { (w : ℕ) → slice_index counts.old w + count_by (λ u. u == w) entries.now < 65536 }
+    ensures { (w : ℕ) → w < length counts.old → slice_index counts.new w ≡ slice_index counts.old w + count_by (λ u. u == w) entries.now }
+{
+    for u in entries {
+        counts[*u as usize] += 1;
+    }
+}
+
+// Takes one away for each entry of a list.
+pub(crate) fn lower(counts: &mut [u16], entries: &[u16])
+    requires within { All (λ u. u < length counts.old) entries.now }
+    requires some { (w : ℕ) → w < length counts.old → count_by (λ u. u == w) entries.now ≤ slice_index counts.old w }
+    ensures { (w : ℕ) → w < length counts.old → slice_index counts.new w + count_by (λ u. u == w) entries.now ≡ slice_index counts.old w }
+{
+    for u in entries {
+        counts[*u as usize] -= 1;
+    }
+}
+
+// The vertices of these numbers, from the last to the first.
+pub(crate) fn turned_vertices(alloc: Global, taken: &[u16]) -> Result<VertexList, AllocError>
+    ensures { IfOk result (λ at. map (λ v. v.0) at ≡ reverse taken.now) }
+{
+    let mut at = VertexList::new(alloc);
+    for v in taken.iter().rev() {
+        at.push(VertexId(*v))?;
+    }
+    Ok(at)
+}
+
+// Writes each number's place, counted from the last, at the number.
+fn write_ranks(ranks: &mut [u32], taken: &[u16])
+    requires count { length ranks.old ≡ length taken.now }
+    requires few { length taken.now < 4096 }
+    requires within { All (λ v. v < length taken.now) taken.now }
+    requires distinct { AllPairs ◌≢◌ taken.now }
+    ensures { (i : ℕ) → i < length taken.now → slice_index ranks.new (slice_index taken.now i) + i + 1 ≡ length taken.now }
+{
+    for i in 0..taken.len() {
+        ranks[taken[i] as usize] = (taken.len() - 1 - i) as u32;
+    }
+}
+
+// A list of these numbers.
+fn counts_of(alloc: Global, numbers: &[u32]) -> Result<Counts, AllocError>
+    ensures { IfOk result (λ counts. counts ≡ numbers.now) }
+{
+    let mut counts = Counts::new(alloc);
+    for k in numbers {
+        counts.push(*k)?;
+    }
+    Ok(counts)
+}
+
+// For each number its place, counted from the last.
+pub(crate) fn turned_ranks(alloc: Global, taken: &[u16]) -> Result<Counts, AllocError>
+    requires few { length taken.now < 4096 }
+    requires within { All (λ v. v < length taken.now) taken.now }
+    requires distinct { AllPairs ◌≢◌ taken.now }
+    ensures { IfOk result (λ rank. IsRankOf rank (reverse taken.now)) }
+{
+    let mut ranks = vec![in alloc; 0; taken.len()]?;
+    write_ranks(&mut ranks, taken);
+    counts_of(alloc, &ranks)
+}

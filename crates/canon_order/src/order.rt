@@ -1,0 +1,139 @@
+//! Canonical orders.
+ghost use Rattle.std.specs.Prelude.{◌≡◌, ◌<◌, ℕ, false, true, [], ◌∷◌, ◌++◌, reverse, length, slice_index, Some, IfOk};
+ghost use Rattle.map_definitions.specs.Maps.{HasDart, follows};
+ghost use Rattle.plane_laws.specs.Completed.{IsCompleted};
+ghost use Rattle.half_edges.specs.Map.{IsLive, dart_at};
+ghost use Rattle.canon_order.specs.Contours.{is_set};
+ghost use Rattle.canon_order.specs.Orders.{IsCanonicalOrder, IsRankOf, vertices_of};
+
+use crate::contour::{free_vertex, mark_base, take_off};
+use crate::fault::OrderFault;
+use crate::lists::{turned_ranks, turned_vertices};
+use half_edges::{Counts, DartId, HalfMap, Rotations, VertexList};
+use std::alloc::{AllocError, Global};
+
+/// An order of a map's vertices, and its inverse.
+#[derive(Drop)]
+pub struct Order {
+    /// The vertices, one after another, all of them once.
+    pub at: VertexList,
+    /// For each vertex, by its number, its place in `at`, from 0.
+    pub rank: Counts,
+}
+
+// Appends three vertices.
+fn push_three(taken: &mut Vec<u16>, first: u16, second: u16, third: u16) -> Result<(), AllocError>
+    ensures { IfOk result (λ _. taken.new.items ≡ taken.old.items ++ first ∷ second ∷ third ∷ []) }
+{
+    taken.push(first)?;
+    taken.push(second)?;
+    taken.push(third)?;
+    Ok(())
+}
+
+// Takes vertices off until three are left, and those too: from the last one of an order to the first. At
+// first all vertices are left, and none is marked.
+fn peel(
+    marked: &mut [bool],
+    kept: &mut [bool],
+    counts: &mut [u16],
+    stack: &mut Vec<u16>,
+    taken: &mut Vec<u16>,
+    lists: &Rotations,
+    t: u16,
+    s: u16,
+    third: u16,
+    under: u16,
+) -> Result<(), AllocError>
+    requires completed { IsCompleted lists.now }
+    requires few { length lists.now < 4096 }
+    requires base { HasDart lists.now t s }
+    requires third { third ≡ follows lists.now s t }
+    requires under { under ≡ follows lists.now t s }
+    requires kept { length kept.old ≡ length lists.now }
+    requires all { (u : ℕ) → u < length lists.now → is_set kept.old u ≡ true }
+    requires marked { length marked.old ≡ length lists.now }
+    requires none { (u : ℕ) → is_set marked.old u ≡ false }
+    requires counts { length counts.old ≡ length lists.now }
+    requires zeros { (u : ℕ) → u < length lists.now → slice_index counts.old u ≡ 0 }
+    requires empty { stack.old.items ≡ [] }
+    requires nothing { taken.old.items ≡ [] }
+    ensures { IfOk result (λ _. IsCanonicalOrder lists.now (t, s) (reverse taken.new.items)) }
+{
+    mark_base(marked, counts, stack, lists, t, s, third)?;
+    for _ in 3..lists.len() {
+        let v = free_vertex(marked, counts, stack, lists, t, s);
+        take_off(marked, kept, counts, stack, lists, v)?;
+        taken.push(v)?;
+    }
+    push_three(taken, under, t, s)
+}
+
+// The vertices from the last one of an order to the first.
+fn taken_off(
+    alloc: Global,
+    lists: &Rotations,
+    t: u16,
+    s: u16,
+    third: u16,
+    under: u16,
+) -> Result<Vec<u16>, AllocError>
+    requires completed { IsCompleted lists.now }
+    requires few { length lists.now < 4096 }
+    requires base { HasDart lists.now t s }
+    requires third { third ≡ follows lists.now s t }
+    requires under { under ≡ follows lists.now t s }
+    ensures { IfOk result (λ taken. IsCanonicalOrder lists.now (t, s) (reverse taken.items)) }
+{
+    let n = lists.len();
+    let mut marked = vec![in alloc; false; n]?;
+    let mut kept = vec![in alloc; true; n]?;
+    let mut counts = vec![in alloc; 0; n]?;
+    let mut stack = Vec::new(alloc);
+    let mut taken = Vec::new(alloc);
+    peel(
+        &mut marked,
+        &mut kept,
+        &mut counts,
+        &mut stack,
+        &mut taken,
+        lists,
+        t,
+        s,
+        third,
+        under,
+    )?;
+    Ok(taken)
+}
+
+/// A canonical order of a completed map, a simple map of genus zero with n >= 3 and m = 3n - 6, for a base
+/// dart, from t to s.
+///
+/// `at` has all vertices once: s is the first, t the second, and the third vertex of the face on the left
+/// of the base is the last. Each vertex from the third place on is put on the outer cycle of the map of
+/// those before it: its neighbours among these are at least two consecutive vertices of that cycle, which
+/// goes from s to t, and each two of them that follow one another are a face of the whole map with it.
+/// These faces are all but that of the base. `rank` has the place of each vertex in `at`.
+///
+/// It fails only for want of memory. The map stays as it is. The time is linear in the vertices: they are
+/// taken off from the last one on, each goes onto the outer cycle and off it once, and its neighbours
+/// count how many of theirs are there; one with just two may be taken off.
+///
+/// Source: de Fraysseix, Pach, Pollack, How to draw a planar graph on a grid, 1990.
+pub fn canon_order(alloc: Global, tri: &HalfMap, base: DartId) -> Result<Order, OrderFault>
+    requires completed { IsCompleted tri.now.lists }
+    requires live { IsLive tri.now base.0 }
+    ensures order { IfOk result (λ order. (t s : ℕ) → dart_at tri.now base.0 ≡ Some (t, s) → IsCanonicalOrder tri.now.lists (t, s) (vertices_of order)) }
+    ensures rank { IfOk result (λ order. IsRankOf order.rank (vertices_of order)) }
+{
+    tri.facts();
+    let lists = tri.rotations(alloc)?;
+    let t = tri.tail(base).0;
+    let s = tri.head(base).0;
+    let third = tri.head(tri.face_step(base)).0;
+    let under = tri.head(tri.face_step(tri.twin(base))).0;
+    let taken = taken_off(alloc, &lists, t, s, third, under)?;
+    let at = turned_vertices(alloc, &taken)?;
+    let rank = turned_ranks(alloc, &taken)?;
+    Ok(Order { at, rank })
+}
