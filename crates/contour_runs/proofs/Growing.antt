@@ -43,11 +43,11 @@ module _ (v : ℕ) (old new : List ℕ) (put : IsPutOver v old new) where
       ∙ get_or_append_left (put.p ∷ put.middle ++ put.q ∷ []) put.back 0 i (omega arith)
 
 module _ (at : List ℕ) (cycle : ℕ → List ℕ) (g : IsGrowing at cycle) where
-  abbrev put : (k : ℕ) → k + 2 < length at → IsPutOver (get_or at (k + 2) 0) (cycle (k + 2)) (cycle (k + 3))
+  abbrev put : (k : ℕ) → k + 2 < length at → IsPutOver (get_or at (k + 2) 0) (cycle (k + 2)) (cycle (suc (k + 2)))
   put = g.put
 
   abbrev step : (k : ℕ) → k + 2 < length at → Step
-  step k l = step_of (get_or at (k + 2) 0) (cycle (k + 2)) (cycle (k + 3)) (put k l)
+  step k l = step_of (get_or at (k + 2) 0) (cycle (k + 2)) (cycle (suc (k + 2))) (put k l)
 
   -- the steps, and any one from the end on
   picked : (k : ℕ) → (k + 2 < length at) ⊎ (length at ≤ k + 2) → Step
@@ -79,7 +79,7 @@ module _ (at : List ℕ) (cycle : ℕ → List ℕ) (g : IsGrowing at cycle) whe
   is_step k l e =
       let s = steps_of-step k l in
       let w = width-stage k e in
-      let m = length-old (name (k + 2)) (cycle (k + 2)) (cycle (k + 3)) (put k l) in
+      let m = length-old (name (k + 2)) (cycle (k + 2)) (cycle (suc (k + 2))) (put k l) in
       subst (λ z. IsStep (stage k) z) (sym s) record { order = omega arith; within = omega arith }
 
   contours : (k : ℕ) → k + 2 ≤ length at → cycle (k + 2) ≡ map name (contour (stage k))
@@ -87,25 +87,25 @@ module _ (at : List ℕ) (cycle : ℕ → List ℕ) (g : IsGrowing at cycle) whe
   contours (suc k) l =
       let m : k + 2 < length at = omega arith in
       let less = contours k (omega arith) in
-      let e : suc k + 2 ≡ k + 3 = omega arith in
+      let e : suc k + 2 ≡ suc (k + 2) = omega arith in
       let s = steps_of-step k m in
       let c = count-stage_after steps_of k in
-      ap cycle e ∙ new-spliced (name (k + 2)) (cycle (k + 2)) (cycle (k + 3)) (put k m)
+      ap cycle e ∙ new-spliced (name (k + 2)) (cycle (k + 2)) (cycle (suc (k + 2))) (put k m)
       ∙ ap₂ (λ z xs. spliced (name (k + 2)) z.first z.last xs) (sym s) less
       ∙ ap (λ v. spliced (name v) (steps_of k).first (steps_of k).last (map name (contour (stage k)))) (sym c)
       ∙ sym (map-spliced name (stage k).count (steps_of k).first (steps_of k).last (contour (stage k)))
       ∙ ap (map name) (sym (contour_after (stage k) (steps_of k) (is_step k m less)))
 
   -- the names of the vertices at the places of the row
-  name-vertex : (k : ℕ) (l : k + 2 < length at) (i : ℕ) → i < length (put k l).middle + 2 → name ((stage k).vertex (length (put k l).front + i)) ≡ get_or (row (name (k + 2)) (cycle (k + 2)) (cycle (k + 3)) (put k l)) i 0
+  name-vertex : (k : ℕ) (l : k + 2 < length at) (i : ℕ) → i < length (put k l).middle + 2 → name ((stage k).vertex (length (put k l).front + i)) ≡ get_or (row (name (k + 2)) (cycle (k + 2)) (cycle (suc (k + 2))) (put k l)) i 0
   name-vertex k l i m =
       let less = contours k (omega arith) in
       let w = width-stage k less in
-      let n = length-old (name (k + 2)) (cycle (k + 2)) (cycle (k + 3)) (put k l) in
+      let n = length-old (name (k + 2)) (cycle (k + 2)) (cycle (suc (k + 2))) (put k l) in
       let j : ℕ = length (put k l).front + i in
       let short : j < (stage k).width = omega arith in
       ap name (sym (get_or-contour (stage k) j short)) ∙ sym (get_or-map name (contour (stage k)) j 0 0 (omega (arith, length-contour (stage k)))) ∙ ap (λ xs. get_or xs j 0) (sym less)
-      ∙ get_or-row (name (k + 2)) (cycle (k + 2)) (cycle (k + 3)) (put k l) i m
+      ∙ get_or-row (name (k + 2)) (cycle (k + 2)) (cycle (suc (k + 2))) (put k l) i m
 
   pub lists_are_run : (steps : ℕ → Step) × IsRunOf at cycle g steps
   lists_are_run = (

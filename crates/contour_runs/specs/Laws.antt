@@ -82,7 +82,7 @@ pub record IsFaceOver (v : ℕ) (old new : List ℕ) (put : IsPutOver v old new)
 pub record IsGrowing (at : List ℕ) (cycle : ℕ → List ℕ) : Type 0 where
   pub many : 2 ≤ length at
   pub begin : cycle 2 ≡ slice_index at 0 ∷ slice_index at 1 ∷ []
-  pub put : (k : ℕ) → k + 2 < length at → IsPutOver (slice_index at (k + 2)) (cycle (k + 2)) (cycle (k + 3))
+  pub put : (k : ℕ) → k + 2 < length at → IsPutOver (slice_index at (k + 2)) (cycle (k + 2)) (cycle (suc (k + 2)))
 
 -- The contours of a run are such lists, where `at` has the name of each vertex; each step covers what leaves its list, and its faces are those of the new vertex with each two of its row that follow one another.
 pub record IsRunOf (at : List ℕ) (cycle : ℕ → List ℕ) (g : IsGrowing at cycle) (steps : ℕ → Step) : Type 0 where
@@ -90,8 +90,8 @@ pub record IsRunOf (at : List ℕ) (cycle : ℕ → List ℕ) (g : IsGrowing at 
   pub contours : (k : ℕ) → k + 2 ≤ length at → cycle (k + 2) ≡ map (slice_index at) (contour (stage_after steps k))
   pub first : (k : ℕ) (l : k + 2 < length at) → (steps k).first ≡ length (g.put k l).front
   pub last : (k : ℕ) (l : k + 2 < length at) → (steps k).last ≡ length (g.put k l).front + length (g.put k l).middle + 1
-  pub named : (k : ℕ) (l : k + 2 < length at) (i a b v : ℕ) → IsFaceOf steps k i a b v → IsFaceOver (slice_index at (k + 2)) (cycle (k + 2)) (cycle (k + 3)) (g.put k l) (slice_index at a) (slice_index at b) (slice_index at v)
-  pub made : (k : ℕ) (l : k + 2 < length at) (x y z : ℕ) → IsFaceOver (slice_index at (k + 2)) (cycle (k + 2)) (cycle (k + 3)) (g.put k l) x y z → (i : ℕ) × (a : ℕ) × (b : ℕ) × IsFaceOf steps k i a b (k + 2) × (slice_index at a ≡ x) × (slice_index at b ≡ y)
+  pub named : (k : ℕ) (l : k + 2 < length at) (i a b v : ℕ) → IsFaceOf steps k i a b v → IsFaceOver (slice_index at (k + 2)) (cycle (k + 2)) (cycle (suc (k + 2))) (g.put k l) (slice_index at a) (slice_index at b) (slice_index at v)
+  pub made : (k : ℕ) (l : k + 2 < length at) (x y z : ℕ) → IsFaceOver (slice_index at (k + 2)) (cycle (k + 2)) (cycle (suc (k + 2))) (g.put k l) x y z → (i : ℕ) × (a : ℕ) × (b : ℕ) × IsFaceOf steps k i a b (k + 2) × (slice_index at a ≡ x) × (slice_index at b ≡ y)
 
 -- Lists that grow so are the contours of a run.
 abbrev pub ListsAreRun : Type 0
