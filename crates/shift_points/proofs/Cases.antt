@@ -1,14 +1,9 @@
 -- The points of the tetrahedron and of the octahedron.
-use Rattle.std.specs.Prelude.{ℕ, ◌+◌, ◌≡◌, List, [], ◌∷◌, map, slice_index_or, refl}
+use Rattle.std.specs.Prelude.{ℕ, ◌+◌, ◌≡◌, List, [], ◌∷◌, map, refl}
 use Rattle.std.specs.List.{range_with_len}
 use Rattle.contour_runs.specs.Runs.{Step, vertex_after, place_after, moved}
+use Rattle.contour_runs.proofs.Cases.{tetrahedron, octahedron}
 use Rattle.shift_points.specs.Shift.{shift, x_after, y_after, shift_points}
-
-abbrev over : ℕ → ℕ → Step
-over i j = record { first = i; last = j }
-
-abbrev listed : List Step → ℕ → Step
-listed steps k = slice_index_or steps k (over 0 1)
 
 -- x of the vertices, then y
 abbrev xs : (ℕ → Step) → ℕ → List ℕ
@@ -18,9 +13,6 @@ abbrev ys : (ℕ → Step) → ℕ → List ℕ
 ys steps n = map (shift_points steps n).y (range_with_len 0 (n + 2))
 
 -- the tetrahedron: the third vertex moves to (2, 1) under the fourth
-abbrev tetrahedron : ℕ → Step
-tetrahedron = listed (over 0 1 ∷ over 0 2 ∷ [])
-
 tetrahedron_x : xs tetrahedron 2 ≡ 0 ∷ 4 ∷ 2 ∷ 2 ∷ []
 unfolding shift x_after y_after vertex_after place_after moved
 tetrahedron_x = refl
@@ -30,9 +22,6 @@ unfolding shift x_after y_after vertex_after place_after moved
 tetrahedron_y = refl
 
 -- the octahedron: the fourth vertex is put at (2, 2), the fifth at (3, 3), the sixth at (4, 4)
-abbrev octahedron : ℕ → Step
-octahedron = listed (over 0 1 ∷ over 0 1 ∷ over 1 3 ∷ over 0 3 ∷ [])
-
 octahedron_x : xs octahedron 4 ≡ 0 ∷ 8 ∷ 5 ∷ 3 ∷ 4 ∷ 4 ∷ []
 unfolding shift x_after y_after vertex_after place_after moved
 octahedron_x = refl
