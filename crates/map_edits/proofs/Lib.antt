@@ -10,6 +10,5 @@ pub mod Chords
 pub mod Extended
 pub mod Completions
 pub mod OuterChords
-pub mod OuterEars
 pub mod OuterLeaves
 pub mod OuterFaces

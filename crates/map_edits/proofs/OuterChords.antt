@@ -1,5 +1,5 @@
 -- Chords of an outer face that meets each vertex once, by counts over permutations: there are not as many of them as two for each other face but one.
-use Rattle.std.proofs.Common.{◌≡◌, ◌≢◌, ◌⊎◌, ◌&&◌, ℕ, ◌+◌, ◌*◌, ◌<◌, ◌≤◌, Bool, true, false, not, eqb, length, sym, ap, ◌∙◌, inl, inr, arith, eq-eqb}
+use Rattle.std.proofs.Common.{◌≡◌, ◌⊎◌, ◌&&◌, ℕ, ◌+◌, ◌*◌, ◌<◌, ◌≤◌, Bool, true, false, not, eqb, length, sym, ap, ◌∙◌, inl, inr, arith, eq-eqb}
 use Rattle.std.proofs.lemmas.Bool.{cases_Bool, and_parts, and_from, true≢false, not-true}
 use Rattle.label_classes.specs.Classes.{count_below, label, class_count}
 use Rattle.label_classes.proofs.Counting.{one_if, count_below_none, count_below_into}
@@ -10,8 +10,6 @@ use Rattle.plane_laws.proofs.EdgeBound.{count_three}
 
 -- The outer numbers are one orbit of f after g, with one for each orbit of f, and none with its partner.
 pub record IsOuter (f g : ℕ → ℕ) (k : ℕ) (outer : ℕ → Bool) : Type 0 where
-  pub moves : (i : ℕ) → i < k → f (g i) ≢ i
-  pub long : (i : ℕ) → i < k → f (g (f (g i))) ≡ i → f (g i) ≡ g i
   pub kept : (i : ℕ) → i < k → outer i ≡ outer (f (g i))
   pub one : (i j : ℕ) → i < k → j < k → outer i ≡ true → outer j ≡ true → Together (orbits_of (after f g) k) i j
   pub each : class_count (orbits_of f k) ≤ count_below outer k
@@ -40,11 +38,6 @@ chord_not g outer i t =
     ]
 
 module _ (f g : ℕ → ℕ) (k m : ℕ) (outer : ℕ → Bool) (double : k ≡ m + m) (w : IsPermuting f k) (v : IsPairing g k) (plane : Balances f g k m 0) (o : IsOuter f g k outer) where
-  pub chord_partner : (i : ℕ) → i < k → chord g outer i ≡ true → chord g outer (g i) ≡ true
-  chord_partner i l t =
-      let both = and_parts (not (outer i)) (not (outer (g i))) t in
-      and_from (not (outer (g i))) (not (outer (g (g i)))) both.1 (ap (λ x. not (outer x)) (v.back i l) ∙ both.0)
-
   -- a number is outer, or its partner is, or it is a chord
   one_kind : (i : ℕ) → i < k → one_if (outer i) + one_if (outer (g i)) + one_if (chord g outer i) ≤ 1
   one_kind i l =

@@ -1,4 +1,4 @@
--- An ear of an outer face, in the words of maps.
+-- A leaf and an ear of an outer face, in the words of maps.
 use Rattle.std.proofs.Common.{◌≡◌, ◌≢◌, ℕ, ◌<◌, Bool, true, eqb, length, refl, sym, ap, ◌∙◌, subst, inl, inr, arith, eqb-true, eq-eqb, ne_eqb}
 use Rattle.std.proofs.lemmas.Bool.{cases_Bool, false_from_ne_true, true≢false}
 use Rattle.label_classes.specs.Classes.{label}
@@ -8,13 +8,12 @@ use Rattle.label_classes.proofs.Orbits.{orbits_of, length-orbits_of, marks_back}
 use Rattle.label_classes.proofs.Bound.{after}
 use Rattle.map_lists.specs.Lists.{Lists}
 use Rattle.map_definitions.specs.Maps.{HasDart, IsSimpleMap, IsPlane, follows, dart_number, dart_count, edge_count}
-use Rattle.map_definitions.proofs.DartLemmas.{dart_number-lt, get_or-dart_number}
+use Rattle.map_definitions.proofs.DartLemmas.{dart_number-lt, get_or-dart_number, HasDart-follows}
 use Rattle.euler_bound.proofs.DartPermutations.{dart_of, tail_of, rotation, twin, IsPermuting-rotation, IsPairing-twin, dart_of-number, dart_of-twin, same_orbit, balances_map, two_m}
-use Rattle.plane_laws.proofs.DartPaths.{face_together, dart_of-face_step, tail_of-number}
-use Rattle.plane_laws.proofs.EdgeBound.{hw, no_fixed, two_steps}
+use Rattle.plane_laws.proofs.DartPaths.{same_face, face_together, same_face-step, dart_of-face_step, tail_of-number}
+use Rattle.plane_laws.proofs.EdgeBound.{hw}
 use Rattle.map_edits.specs.OuterFaces.{IsOuterFace, IsOuterEar, OuterEar, IsOuterLeaf, OuterLeaf}
 use Rattle.map_edits.proofs.OuterChords.{IsOuter}
-use Rattle.map_edits.proofs.OuterEars.{outer_ear}
 use Rattle.map_edits.proofs.OuterLeaves.{some_leaf}
 
 module _ (lists : Lists) (next : ℕ → ℕ) (simple : IsSimpleMap lists) (face : IsOuterFace lists next) where
@@ -55,8 +54,6 @@ module _ (lists : Lists) (next : ℕ → ℕ) (simple : IsSimpleMap lists) (face
   pub IsOuter-face : IsOuter f g k outer
   IsOuter-face =
       record {
-        moves = no_fixed lists simple;
-        long = two_steps lists simple;
         kept = λ i l. elim (cases_Bool (outer i)) [
           | inl t ↦ t ∙ sym (forward i l t)
           | inr t ↦ t ∙ sym (false_from_ne_true (outer (after f g i)) (λ s. true≢false (sym (marks_back (after f g) k (hw lists simple) outer forward i l s) ∙ t)))
@@ -87,38 +84,6 @@ module _ (lists : Lists) (next : ℕ → ℕ) (simple : IsSimpleMap lists) (face
       leaving : (i : ℕ) → i < k → HasDart lists (tail_of lists i) (next (tail_of lists i))
       leaving i l = face.darts (tail_of lists i) (dart_of lists i).1 (dart_of-number lists simple i l).is_dart
 
-  pub ear_here : IsPlane lists → (p : ℕ) → HasDart lists p (next p) → (v : ℕ) × IsOuterEar lists next p v
-  ear_here plane p has =
-      let b = dart_number lists (p, next p) in
-      let balance = balances_map lists simple 0 (omega (arith, plane)) in
-      let pair = IsPairing-twin lists simple in
-      let found = outer_ear f g k (edge_count lists) b outer (two_m lists simple) (IsPermuting-rotation lists simple) pair balance IsOuter-face (dart_number-lt lists p (next p) has) (outer-number p has) in
-      let i = found.0 in
-      let l = found.1 in
-      let gi = pair.within i l in
-      let hi = (hw lists simple).within i l in
-      let ghi = pair.within (after f g i) hi in
-      let d = dart_of lists i in
-      let v = d.1 in
-      let twin_i = dart_of-twin lists simple i l in
-      let at : d.0 ≡ next v = sym (ap (λ c. c.1) twin_i) ∙ (outer_is (g i) found.2 ∙ ap next (ap (λ c. c.0) twin_i)) in
-      let y = follows lists v (next v) in
-      let step : dart_of lists (after f g i) ≡ (v, y) = dart_of-face_step lists simple i l ∙ ap (λ x. (v, follows lists v x)) at in
-      let twin_h : dart_of lists (g (after f g i)) ≡ (y, v) = dart_of-twin lists simple (after f g i) hi ∙ ap (λ c. (c.1, c.0)) step in
-      let comes : v ≡ next y = sym (ap (λ c. c.1) twin_h) ∙ (outer_is (g (after f g i)) found.3 ∙ ap next (ap (λ c. c.0) twin_h)) in (
-        v,
-        record {
-          dart = subst (HasDart lists v) at (simple.both_ways d.0 v (dart_of-number lists simple i l).is_dart);
-          comes = sym comes;
-          not_from = λ e.
-              let tail : tail_of lists (g i) ≡ p = ap (λ c. c.0) twin_i ∙ e in
-              found.4 (sym (number_is (g i) gi found.2) ∙ ap (λ x. dart_number lists (x, next x)) tail);
-          not_after = λ e.
-              let tail : tail_of lists (g (after f g i)) ≡ p = ap (λ c. c.0) twin_h ∙ e in
-              found.5 (sym (number_is (g (after f g i)) ghi found.3) ∙ ap (λ x. dart_number lists (x, next x)) tail);
-        },
-      )
-
   pub leaf_here : IsPlane lists → (p : ℕ) → HasDart lists p (next p) → (u : ℕ) × (w : ℕ) × IsOuterLeaf lists next p u w
   leaf_here plane p has =
       let b = dart_number lists (p, next p) in
@@ -147,6 +112,31 @@ module _ (lists : Lists) (next : ℕ → ℕ) (simple : IsSimpleMap lists) (face
                     let tail : tail_of lists (g j) ≡ p = ap (λ c. c.0) twin_j ∙ e in
                     other.1 (sym (number_is (g j) (pair.within j l) other.0) ∙ ap (λ z. dart_number lists (z, next z)) tail),
               );
+        },
+      )
+
+  -- the two darts after a leaf make an ear
+  pub ear_here : IsPlane lists → (p : ℕ) → HasDart lists p (next p) → (v : ℕ) × IsOuterEar lists next p v
+  ear_here plane p has =
+      let found = leaf_here plane p has in
+      let u = found.0 in
+      let w = found.1 in
+      let leaf = found.2 in
+      let y = follows lists w u in
+      let z = follows lists y w in
+      let dart_y = HasDart-follows lists w u (simple.both_ways u w leaf.dart) in
+      let back = simple.both_ways w y dart_y in
+      let dart_z = HasDart-follows lists y w back in
+      let face_y = same_face-step lists simple (u, w) (u, w) leaf.dart (same_face lists simple (u, w) (u, w) refl) in
+      let face_z = same_face-step lists simple (u, w) (w, y) dart_y face_y in
+      let one = leaf.others w y dart_y face_y (λ e. simple.no_loop u w leaf.dart e.0) in
+      let two = leaf.others y z dart_z face_z (λ e. leaf.inner (sym (ap next (sym e.0) ∙ one.0))) in (
+        y,
+        record {
+          dart = subst (HasDart lists y) (sym one.0) back;
+          comes = ap (λ x. next (follows lists y x)) one.0 ∙ two.0;
+          not_from = one.1;
+          not_after = λ e. two.1 (ap (follows lists y) (sym one.0) ∙ e);
         },
       )
 

@@ -1,11 +1,13 @@
 -- The definitions, run on worked cases.
-use Rattle.std.proofs.Common.{◌≡◌, ◌≢◌, ◌⊎◌, ℕ, zero, suc, ◌+◌, ◌<◌, true, eqb, not, List, [], ◌∷◌, get_or, AllPairs, Contains, refl, subst, inl, inr, arith}
+use Rattle.std.proofs.Common.{◌≡◌, ◌≢◌, ◌⊎◌, ℕ, zero, suc, ◌+◌, ◌<◌, ◌&&◌, Bool, true, false, eqb, not, List, [], ◌∷◌, get_or, AllPairs, Contains, refl, inl, inr, arith}
+use Rattle.std.proofs.lemmas.Bool.{true≢false}
 use Rattle.map_lists.specs.Lists.{Lists}
 use Rattle.map_definitions.specs.Maps.{HasDart, follows, entry_after}
 use Rattle.map_peeling.specs.Restricted.{restricted, kept_but, IsFaceOfThree}
-use Rattle.map_peeling.specs.NearTriangulations.{IsOuterCycle, IsFree}
+use Rattle.map_peeling.specs.NearTriangulations.{IsOuterCycle, IsFree, IsFreeStretch}
 use Rattle.map_peeling.specs.Peeled.{IsFan}
-use Rattle.map_peeling.proofs.Rings.{AllPairs-put, each_of_one, each_of_two, each_of_three}
+use Rattle.map_peeling.specs.TwoGone.{IsOpenOutside, IsFreeOfTwo}
+use Rattle.map_peeling.proofs.Rings.{AllPairs-put, each_of_one, each_of_two, each_of_three, each_of_four}
 
 -- ---- the tetrahedron
 abbrev tetrahedron : Lists
@@ -81,6 +83,10 @@ square_chord free =
 square_base : ¬ IsFree square 1 0 around 1
 square_base free = free.not_first refl
 
+-- the diagonal cuts it off
+square_stretch : IsFreeStretch square 1 0 around (1 ∷ []) 2 (3 ∷ []) 0 []
+square_stretch = record { parts = refl; some = omega arith; chord = (omega arith, (1, omega arith, refl)); free = λ v c. each_of_one (IsFree square 1 0 around) 3 square_free v c }
+
 -- ---- the octahedron, with the base from 0 to 1
 abbrev octahedron : Lists
 octahedron = (1 ∷ 2 ∷ 3 ∷ 4 ∷ []) ∷ (0 ∷ 4 ∷ 5 ∷ 2 ∷ []) ∷ (0 ∷ 1 ∷ 5 ∷ 3 ∷ []) ∷ (0 ∷ 2 ∷ 5 ∷ 4 ∷ []) ∷ (0 ∷ 3 ∷ 5 ∷ 1 ∷ []) ∷ (1 ∷ 4 ∷ 3 ∷ 2 ∷ []) ∷ []
@@ -101,10 +107,6 @@ octahedron_fan =
       faces = faces;
     }
   where
-    each_of_four : (P : ℕ → Type 0) (a b c d : ℕ) → P a → P b → P c → P d → (x : ℕ) → Contains (a ∷ b ∷ c ∷ d ∷ []) x → P x
-    each_of_four P a b c d h h' h'' h3 x (zero, l, e) = subst P e h
-    each_of_four P a b c d h h' h'' h3 x (suc i, l, e) = each_of_three P b c d h' h'' h3 x (i, omega (arith, l), e)
-
     faces : (i : ℕ) → i < 3 → IsFaceOfThree octahedron 4 (get_or (1 ∷ 5 ∷ 3 ∷ 0 ∷ []) i 0) (get_or (1 ∷ 5 ∷ 3 ∷ 0 ∷ []) (i + 1) 0)
     faces zero l = record { dart = (omega arith, (3, omega arith, refl)); second = refl; third = refl; round = refl }
     faces (suc zero) l = record { dart = (omega arith, (2, omega arith, refl)); second = refl; third = refl; round = refl }
@@ -115,3 +117,45 @@ octahedron_fan =
 not_turned : ¬ IsFan octahedron (λ v. true) 4 0 (3 ∷ 5 ∷ []) 1
 unfolding entry_after
 not_turned fan = let second : 1 ≡ 3 = (fan.faces 0 (omega arith)).second in omega (arith, second)
+
+-- its third and its last vertex taken off: around what is left, a square with a diagonal, they are adjacent
+abbrev four_kept : ℕ → Bool
+four_kept v = not (eqb v 4) && not (eqb v 5)
+
+octahedron_open : IsOpenOutside octahedron four_kept 0 around
+unfolding entry_after
+octahedron_open =
+    record {
+      beyond = each_of_four (λ x. four_kept (follows octahedron (entry_after x around) x) ≡ false) 1 2 3 0 refl refl refl refl;
+      triangles = each_of_four (λ x. x ≢ 0 → IsFaceOfThree octahedron x (entry_after x around) (follows octahedron (entry_after x around) x)) 1 2 3 0
+          (λ n. record { dart = (omega arith, (3, omega arith, refl)); second = refl; third = refl; round = refl })
+          (λ n. record { dart = (omega arith, (3, omega arith, refl)); second = refl; third = refl; round = refl })
+          (λ n. record { dart = (omega arith, (0, omega arith, refl)); second = refl; third = refl; round = refl })
+          (λ n. absurd (n refl));
+      company = company;
+    }
+  where
+    company : (z : ℕ) → z < 6 → four_kept z ≡ false → (y : ℕ) × HasDart octahedron z y × (four_kept y ≡ false)
+    company zero l e = absurd (true≢false e)
+    company (suc zero) l e = absurd (true≢false e)
+    company (suc (suc zero)) l e = absurd (true≢false e)
+    company (suc (suc (suc zero))) l e = absurd (true≢false e)
+    company (suc (suc (suc (suc zero)))) l e = (5, (omega arith, (2, omega arith, refl)), refl)
+    company (suc (suc (suc (suc (suc zero))))) l e = (4, (omega arith, (1, omega arith, refl)), refl)
+    company (suc (suc (suc (suc (suc (suc z)))))) l e = absurd (omega (arith, l))
+
+-- so the vertex off the diagonal has both as neighbours
+octahedron_two : IsFreeOfTwo octahedron four_kept 1 0 around 2 3
+unfolding entry_after
+octahedron_two =
+    record {
+      free = record {
+        on = (2, omega arith, refl);
+        not_first = λ e. omega (arith, e);
+        not_last = λ e. omega (arith, e);
+        chordless = λ u d c. each_of_two (λ u. (entry_after u around ≡ 3) ⊎ (entry_after 3 around ≡ u)) 0 2 (inr refl) (inl refl) u d.1;
+      };
+      on = (1, omega arith, refl);
+      next = refl;
+      two = λ e. let same : 5 ≡ 4 = e in omega (arith, same);
+    }

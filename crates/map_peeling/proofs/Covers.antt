@@ -6,13 +6,14 @@ use Rattle.map_lists.specs.Lists.{Lists}
 use Rattle.map_definitions.specs.Maps.{list_of, HasDart, IsSimpleMap, entry_after}
 use Rattle.map_definitions.proofs.EntryLemmas.{Contains-here, Contains-there, count_of, count_of-append, Contains-counted, count_of-le-one, AllPairs-from_counts}
 use Rattle.std.proofs.lemmas.List.Elements.{Contains-append_left, Contains-append_right, Contains-append_cases}
-use Rattle.map_peeling.specs.Restricted.{restricted, kept_but, IsDartOfThree}
+use Rattle.map_peeling.specs.Restricted.{restricted, kept_but, IsFaceOfThree, IsDartOfThree}
 use Rattle.map_peeling.specs.NearTriangulations.{IsOuterDart}
 use Rattle.map_peeling.specs.Peeled.{IsPeeled, IsTakenOff}
 use Rattle.map_peeling.specs.Laws.{CycleAfter, FanCovers}
 use Rattle.map_peeling.proofs.Rings.{parted_at, last-entry, entry_after-inside, entry_after-last}
 use Rattle.map_peeling.proofs.RestrictedMaps.{cases_Contains, restricted-old, restricted-new, kept_but-new}
-use Rattle.map_peeling.proofs.OuterCycles.{cases_outer}
+use Rattle.map_peeling.proofs.OuterCycles.{cases_outer, IsFaceOfThree-turned}
+use Rattle.map_definitions.proofs.DartLemmas.{Contains-entry_after}
 use Rattle.map_peeling.proofs.CycleAfter.{after_is, after_has, count-run, not_counted}
 
 -- ---- lists
@@ -118,7 +119,7 @@ module _ (lists : Lists) (kept : ℕ → Bool) (s t : ℕ) (ws : List ℕ) (v : 
   )
 
   -- a dart on one of the faces of v
-  abbrev OnFan : ℕ → ℕ → Type 0
+  abbrev pub OnFan : ℕ → ℕ → Type 0
   OnFan x y = (i : ℕ) × (i < length mid + 1) × IsDartOfThree v (get_or nbrs i 0) (get_or nbrs (i + 1) 0) x y
 
   size : length nbrs ≡ length mid + 2
@@ -157,7 +158,7 @@ module _ (lists : Lists) (kept : ℕ → Bool) (s t : ℕ) (ws : List ℕ) (v : 
       (c.0 - 1, omega (arith, size, l, ne), inr (inr (sym at ∙ ap (λ k. get_or nbrs k 0) one, refl)))
 
   -- along the new cycle, but not the old one
-  along : (x y : ℕ) → IsOuterDart after x y → ¬ IsOuterDart ws x y → OnFan x y
+  pub along : (x y : ℕ) → IsOuterDart after x y → ¬ IsOuterDart ws x y → OnFan x y
   along x y o n =
       elim (Contains-append_cases front (p ∷ mid ++ q ∷ back) x o.0) [
         | inl c ↦
@@ -191,6 +192,34 @@ module _ (lists : Lists) (kept : ℕ → Bool) (s t : ℕ) (ws : List ℕ) (v : 
           head : (f2 : List ℕ) → after ≡ (front ++ f1) ++ (x ∷ f2 ++ q ∷ back) → entry_after x after ≡ get_or (f2 ++ q ∷ []) 0 0
           head [] w = entry_after-parted after (front ++ f1) x q back after_distinct w
           head (b ∷ f2) w = entry_after-parted after (front ++ f1) x b (f2 ++ q ∷ back) after_distinct w
+
+  -- v is not on the new cycle
+  pub not_v : (x : ℕ) → Contains after x → x ≢ v
+  not_v x c =
+      elim ((cycle_here x).0 c) [
+        | inl on ↦ on.1
+        | inr d ↦ peeled.near.simple.no_loop v x d
+      ]
+
+  -- a dart of the new cycle is one of the old one, or v stands beyond it
+  pub new_or_old : IsSimpleMap lists → (x : ℕ) → Contains after x → IsFaceOfThree lists x (entry_after x after) v ⊎ (Contains ws x × (entry_after x ws ≡ entry_after x after))
+  new_or_old whole x c =
+      elim (cases_outer ws x (entry_after x after)) [
+        | inl o ↦ inr o
+        | inr n ↦
+            let f = along x (entry_after x after) (c, refl) n in
+            elim f.2 [
+              | inl e ↦ absurd (not_v x c e.0)
+              | inr e ↦ elim e [
+                | inl e ↦
+                    let a = get_or (p ∷ mid ++ q ∷ []) f.0 0 in
+                    let b = get_or (p ∷ mid ++ q ∷ []) (f.0 + 1) 0 in
+                    let face : IsFaceOfThree lists a b v = IsFaceOfThree-turned lists v a b whole (off.fan.faces f.0 f.1) in
+                    inl (subst (λ z. IsFaceOfThree lists z (entry_after x after) v) (sym e.0) (subst (λ y. IsFaceOfThree lists a y v) (sym e.1) face))
+                | inr e ↦ absurd (not_v (entry_after x after) (Contains-entry_after x after c) e.1)
+              ]
+            ]
+      ]
 
   pub covers_here : (x y : ℕ) → HasDart M x y → ¬ IsOuterDart ws x y → (HasDart (restricted (kept_but kept v) lists) x y × ¬ IsOuterDart after x y) ⊎ OnFan x y
   covers_here x y d n =

@@ -12,8 +12,8 @@ use Rattle.plane_laws.specs.Laws.{IsTriangle}
 use Rattle.plane_laws.proofs.Triangles.{triangles_where_met}
 use Rattle.map_peeling.specs.Restricted.{restricted, IsFaceOfThree}
 use Rattle.map_peeling.specs.NearTriangulations.{IsOuterCycle, IsOuterDart, IsNearTriangulation}
-use Rattle.map_peeling.specs.Peeled.{IsPeeled, IsFan}
-use Rattle.map_peeling.specs.Laws.{NothingTakenOff, ThreeLeft}
+use Rattle.map_peeling.specs.Peeled.{IsPeeled}
+use Rattle.map_peeling.specs.Laws.{NothingTakenOff, ThreeLeft, WholeIsPeeled}
 use Rattle.map_peeling.proofs.Rings.{entry_after-inside, entry_after-last, AllPairs-put, each_of_one, each_of_two, each_of_three}
 use Rattle.map_peeling.proofs.RestrictedMaps.{restricted_all, restricted-old}
 use Rattle.map_peeling.proofs.OuterCycles.{IsFaceOfThree-turned, IsFaceOfThree-triangle, inner_face}
@@ -83,16 +83,19 @@ module _ (lists : Lists) (s t : ℕ) (completed : IsCompleted lists) (base : Has
   pub near_whole : IsNearTriangulation lists s t ws
   near_whole = record { simple = simple; plane = completed.plane; cycle = base_cycle; inner = λ x y d n. triangle x y d }
 
--- THE LAW: nothing taken off
-pub nothing_taken_off : NothingTakenOff
-nothing_taken_off lists kept s t completed base all =
-    let simple = completed.simple in
+-- THE LAWS: nothing taken off
+pub whole_is_peeled : WholeIsPeeled
+whole_is_peeled lists kept s t ws near all =
+    let simple = near.simple in
     let e = restricted_all lists kept simple all in
     record {
-      near = subst (λ m. IsNearTriangulation m s t (s ∷ follows lists s t ∷ t ∷ [])) (sym e) (near_whole lists s t completed base);
+      near = subst (λ m. IsNearTriangulation m s t ws) (sym e) near;
       inner = λ x y d n. ap (λ m. follows m y x) e;
       border = λ v u k d out. absurd (true≢false (sym (all u (simple.in_range v u d)) ∙ out));
     }
+
+pub nothing_taken_off : NothingTakenOff
+nothing_taken_off lists kept s t completed base all = whole_is_peeled lists kept s t (s ∷ follows lists s t ∷ t ∷ []) (near_whole lists s t completed base) all
 
 -- ---- three left
 module _ (lists : Lists) (kept : ℕ → Bool) (s t : ℕ) (ws : List ℕ) (peeled : IsPeeled lists kept s t ws) (three : count_below kept (length lists) ≡ 3) where
@@ -164,24 +167,3 @@ module _ (lists : Lists) (kept : ℕ → Bool) (s t : ℕ) (ws : List ℕ) (peel
 -- THE LAW: three left
 pub three_left : ThreeLeft
 three_left lists kept s t ws peeled three = three_here lists kept s t ws peeled three
-
--- and then the third vertex has the base's two as its neighbours
-pub three_fan : (lists : Lists) (kept : ℕ → Bool) (s t x : ℕ) → IsPeeled lists kept s t (s ∷ x ∷ t ∷ []) → IsFaceOfThree lists x s t → ((u : ℕ) → u < length lists → kept u ≡ true → Contains (s ∷ x ∷ t ∷ []) u) → IsFan lists kept x s [] t
-three_fan lists kept s t x peeled f only =
-    let M = restricted kept lists in
-    let simple = peeled.near.simple in
-    let cycle = peeled.near.cycle in
-    let distinct = cycle.distinct in
-    let on_s = Contains-here s (x ∷ t ∷ []) in
-    let on_x = Contains-there s (x ∷ t ∷ []) x (Contains-here x (t ∷ [])) in
-    let to_s = simple.both_ways s x (subst (HasDart M s) (entry_after-inside [] s x (t ∷ []) distinct) (cycle.darts s on_s)) in
-    let to_t = subst (HasDart M x) (entry_after-inside (s ∷ []) x t [] distinct) (cycle.darts x on_x) in
-    record {
-      neighbours = λ u. (
-        (λ d.
-            let old = restricted-old lists kept u x (simple.both_ways x u d) in
-            each_of_three (λ w. w ≡ u → Contains (s ∷ t ∷ []) w) s x t (λ _. Contains-here s (t ∷ [])) (λ q. absurd (simple.no_loop x u d (sym q))) (λ _. Contains-there s (t ∷ []) t (Contains-here t [])) u (only u old.0.0 old.1) refl),
-        λ c. each_of_two (HasDart M x) s t to_s to_t u c,
-      );
-      faces = λ i l. let z : i ≡ 0 = omega arith in rw z f;
-    }

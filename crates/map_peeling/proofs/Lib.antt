@@ -1,9 +1,11 @@
 -- What the laws of vertices taken off rest on.
 mod Cases
 pub mod Rings
+pub mod Ways
 pub mod RestrictedMaps
 pub mod OuterCycles
 pub mod BaseFaces
+pub mod OnCycle
 pub mod FreeVertices
 pub mod Fans
 pub mod CycleAfter
@@ -13,3 +15,6 @@ pub mod Steps
 pub mod Ends
 pub mod FreeCounts
 pub mod Covers
+pub mod TwoGone
+pub mod OpenAfter
+pub mod Quadrangles

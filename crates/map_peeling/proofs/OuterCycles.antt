@@ -94,10 +94,6 @@ module _ (lists : Lists) (s t : ℕ) (ws : List ℕ) (simple : IsSimpleMap lists
   pub corner : (p : ℕ) → Contains ws p → follows lists (next p) p ≡ next (next p)
   corner = cycle.turns
 
-  -- the darts of the cycle, the other way
-  pub back_dart : (x : ℕ) → Contains ws x → HasDart lists (next x) x
-  back_dart x c = simple.both_ways x (next x) (cycle.darts x c)
-
 module _ (lists : Lists) (s t : ℕ) (ws : List ℕ) (near : IsNearTriangulation lists s t ws) where
   -- each dart but those of the cycle is of a face of three
   pub inner_face : (x y : ℕ) → HasDart lists x y → ¬ IsOuterDart ws x y → IsFaceOfThree lists x y (follows lists y x)

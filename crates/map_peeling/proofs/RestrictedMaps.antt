@@ -1,12 +1,12 @@
 -- Maps restricted to some of their vertices.
-use Rattle.std.proofs.Common.{◌≡◌, ◌≢◌, ◌⊎◌, ◌&&◌, ℕ, ◌+◌, ◌<◌, Bool, true, false, not, eqb, cond, List, [], ◌∷◌, length, Contains, refl, sym, ap, ap₂, ◌∙◌, subst, inl, inr, eq-eqb, ne_eqb, ◌==◌}
+use Rattle.std.proofs.Common.{◌≡◌, ◌≢◌, ◌⊎◌, ◌&&◌, ℕ, ◌+◌, ◌<◌, Bool, true, false, not, eqb, List, length, Contains, refl, sym, ap, ◌∙◌, subst, inl, inr, eq-eqb, ne_eqb, ◌==◌}
 use Rattle.std.specs.List.{filter, list_any}
 use Rattle.std.proofs.lemmas.Bool.{cases_Bool, and_from, and_parts, and_right, true≢false, not-true}
 use Rattle.label_classes.specs.Classes.{count_below}
 use Rattle.label_classes.proofs.Counting.{count_below_more}
 use Rattle.map_lists.specs.Lists.{Lists}
 use Rattle.map_definitions.specs.Maps.{list_of, HasDart, IsSimpleMap}
-use Rattle.map_definitions.proofs.EntryLemmas.{Contains-here, Contains-there, Contains-from_filter, Contains-filter, Contains-from_list_any, list_any-from_Contains}
+use Rattle.map_definitions.proofs.EntryLemmas.{Contains-from_filter, Contains-filter, Contains-from_list_any, list_any-from_Contains}
 use Rattle.map_edits.specs.Kept.{IsKeptMap}
 use Rattle.map_edits.proofs.KeptEdges.{filter-all, list_of-with_kept, length-with_kept, same_kept, kept_edges}
 use Rattle.map_edits.proofs.Extended.{filter-filter}
@@ -66,16 +66,6 @@ pub restricted_all : (lists : Lists) (kept : ℕ → Bool) → IsSimpleMap lists
 restricted_all lists kept simple all =
     same_kept (both kept) lists lists refl (λ v l.
     filter-all (both kept v) (list_of lists v) (λ x c. and_from (kept v) (kept x) (all v l) (all x (simple.in_range v x (l, c)))))
-
--- and to the same vertices the same
-pub restricted_same : (lists : Lists) (kept other : ℕ → Bool) → IsSimpleMap lists → ((v : ℕ) → v < length lists → kept v ≡ other v) → restricted kept lists ≡ restricted other lists
-restricted_same lists kept other simple same =
-    same_kept (both kept) lists (restricted other lists) (sym (length-restricted lists other)) (λ v l.
-    alike (both kept v) (both other v) (list_of lists v) (λ x c. ap₂ (λ a b. a && b) (same v l) (same x (simple.in_range v x (l, c)))) ∙ sym (list_of-with_kept (both other) lists v))
-  where
-    alike : (p q : ℕ → Bool) (us : List ℕ) → ((x : ℕ) → Contains us x → p x ≡ q x) → filter p us ≡ filter q us
-    alike p q [] h = refl
-    alike p q (x ∷ us) h = ap₂ (λ b l. cond b (x ∷ l) l) (h x (Contains-here x us)) (alike p q us (λ z c. h z (Contains-there x us z c)))
 
 -- the kept vertices without one
 pub kept_but-old : (kept : ℕ → Bool) (v u : ℕ) → kept_but kept v u ≡ true → (kept u ≡ true) × (u ≢ v)

@@ -2,9 +2,10 @@
 use Rattle.std.proofs.Common.{◌≡◌, ◌≢◌, ◌⊎◌, ℕ, zero, suc, ◌+◌, ◌-◌, ◌<◌, List, [], ◌∷◌, ◌++◌, length, get_or, AllPairs, Contains, refl, sym, ap, ap₂, ◌∙◌, subst, inl, inr, arith}
 use Rattle.std.proofs.lemmas.List.{append_assoc, length-append, get_or-append-add, get_or_past}
 use Rattle.map_definitions.specs.Maps.{place_of, entry_after}
-use Rattle.map_definitions.proofs.EntryLemmas.{Contains-here, Contains-there, Contains-cons_cases, count_of, count_of-cons, count_of-append, Contains-from_count_of, Contains-counted, AllPairs-from_counts, AllPairs-append, count_of-le-one}
+use Rattle.map_definitions.proofs.EntryLemmas.{Contains-here, Contains-there, Contains-cons_cases, count_of, count_of-cons, count_of-append, Contains-from_count_of, Contains-counted, AllPairs-from_counts, AllPairs-append, AllPairs-tail, head_apart, count_of-le-one}
 use Rattle.map_definitions.proofs.DartLemmas.{place_of-get_or, place_of-lt-length, get_or-place_of, place_of-entry_after, Contains-entry_after, two_entries, place_after}
 use Rattle.std.proofs.lemmas.Bool.{cases_eq}
+use Rattle.std.proofs.lemmas.List.Elements.{Contains-append_left, Contains-append_right}
 use Rattle.std.proofs.lemmas.Bool.Decides.{nat_tests}
 
 -- next leads from x along the list to t
@@ -83,6 +84,11 @@ entry_after-last front x distinct =
     let us = front ++ x ∷ [] in
     ap (λ k. get_or us (k + 1) (get_or us 0 x)) (place_of-parted front x [] distinct) ∙ get_or_past us (length front + 1) (get_or us 0 x) (omega (arith, length-append front (x ∷ [])))
 
+-- a list without its first entry
+abbrev pub rest_of : List ℕ → List ℕ
+rest_of [] = []
+rest_of (x ∷ us) = us
+
 -- the entries of a list without repeats lead on to its last
 leads_on : (us front : List ℕ) (x : ℕ) (back : List ℕ) (t : ℕ) → AllPairs ◌≢◌ us → us ≡ front ++ x ∷ back → (init : List ℕ) → x ∷ back ≡ init ++ t ∷ [] → Leads (λ u. entry_after u us) x back t
 leads_on us front x [] t distinct e init last = one init last
@@ -98,11 +104,7 @@ leads_on us front x (y ∷ back) t distinct e init last =
   where
     shorter : (init : List ℕ) → x ∷ y ∷ back ≡ init ++ t ∷ [] → (less : List ℕ) × (y ∷ back ≡ less ++ t ∷ [])
     shorter [] q = absurd (let n = ap length q in omega (arith, n))
-    shorter (z ∷ init) q = (init, ap (λ l. tail l) q)
-      where
-        tail : List ℕ → List ℕ
-        tail [] = []
-        tail (u ∷ us) = us
+    shorter (z ∷ init) q = (init, ap rest_of q)
 
 -- the entries of a list without repeats lead round it
 pub leads_round : (us : List ℕ) (t : ℕ) → AllPairs ◌≢◌ us → (front : List ℕ) → us ≡ front ++ t ∷ [] → Leads (λ u. entry_after u us) t us t
@@ -195,6 +197,9 @@ each_of_two P a b h h' x c = elim (Contains-cons_cases a (b ∷ []) x c) [ inl e
 pub each_of_three : (P : ℕ → Type 0) (a b c : ℕ) → P a → P b → P c → (x : ℕ) → Contains (a ∷ b ∷ c ∷ []) x → P x
 each_of_three P a b c h h' h'' x d = elim (Contains-cons_cases a (b ∷ c ∷ []) x d) [ inl e ↦ subst P e h | inr d' ↦ each_of_two P b c h' h'' x d' ]
 
+pub each_of_four : (P : ℕ → Type 0) (a b c d : ℕ) → P a → P b → P c → P d → (x : ℕ) → Contains (a ∷ b ∷ c ∷ d ∷ []) x → P x
+each_of_four P a b c d h h' h'' h3 x e = elim (Contains-cons_cases a (b ∷ c ∷ d ∷ []) x e) [ inl q ↦ subst P q h | inr e' ↦ each_of_three P b c d h' h'' h3 x e' ]
+
 -- one entry, and a list in which it does not stand
 pub AllPairs-put : (x : ℕ) (us : List ℕ) → ¬ Contains us x → AllPairs ◌≢◌ us → AllPairs ◌≢◌ (x ∷ us)
 AllPairs-put x us n distinct =
@@ -269,3 +274,40 @@ pub Leads-at : (next : ℕ → ℕ) (x : ℕ) (l : List ℕ) (t d i : ℕ) → L
 Leads-at next x [] t d i h n = absurd (omega arith)
 Leads-at next x (w ∷ l) t d zero h n = sym h.0
 Leads-at next x (w ∷ l) t d (suc i) h n = Leads-at next w l t d i h.1 (omega arith)
+
+-- of two ways from one entry that which meets the other's end at its own alone, if at all, is the front of the other
+pub Leads-front : (next : ℕ → ℕ) (x : ℕ) (l r : List ℕ) (t y : ℕ) → Leads next x l t → Leads next x (r ++ y ∷ []) y → ((z : ℕ) → Contains (x ∷ r) z → z ≢ t) → (more : List ℕ) × (l ≡ r ++ y ∷ more)
+Leads-front next x [] r t y h h' n = absurd (n x (Contains-here x r) h)
+Leads-front next x (a ∷ l) [] t y h h' n = (l, ap (λ z. z ∷ l) (sym h.0 ∙ h'.0))
+Leads-front next x (a ∷ l) (b ∷ r) t y h h' n =
+    let e : a ≡ b = sym h.0 ∙ h'.0 in
+    let rest = Leads-front next b l r t y (subst (λ z. Leads next z l t) e h.1) h'.1 (λ z c. n z (Contains-there x (b ∷ r) z c)) in
+    (rest.0, ap₂ (λ z m. z ∷ m) e rest.1)
+
+-- what a function keeps is so all along a way
+pub Leads-closed : (P : ℕ → Type 0) (next : ℕ → ℕ) (x : ℕ) (l : List ℕ) (t : ℕ) → P x → ((z : ℕ) → P z → P (next z)) → Leads next x l t → (z : ℕ) → Contains (x ∷ l) z → P z
+Leads-closed P next x [] t h keeps way z c = each_of_one P x h z c
+Leads-closed P next x (w ∷ l) t h keeps way z c =
+    elim (Contains-cons_cases x (w ∷ l) z c) [
+      | inl e ↦ subst P e h
+      | inr c' ↦ Leads-closed P next w l t (subst P way.0 (keeps x h)) keeps way.1 z c'
+    ]
+
+-- what goes on from each entry to the next is so of all, where it is so of one
+pub entries_closed : (P : ℕ → Type 0) (us : List ℕ) (a u : ℕ) → AllPairs ◌≢◌ us → Contains us a → P a → ((z : ℕ) → P z → P (entry_after z us)) → Contains us u → P u
+entries_closed P us a u distinct has start keeps c =
+    let turn : ℕ → ℕ = λ x. entry_after x us in
+    let ring = ring_from us a distinct has in
+    let in_ring = Contains-counts us (a ∷ ring.0) (λ x. sym (ring.2 x)) u c in
+    Leads-closed P turn a (ring.0 ++ a ∷ []) a start keeps ring.1 u (Contains-append_left (a ∷ ring.0) (a ∷ []) u in_ring)
+
+-- a list without repeats is parted at an entry in one way
+pub parted_once : (f : List ℕ) (x : ℕ) (r f' r' : List ℕ) → AllPairs ◌≢◌ (f ++ x ∷ r) → f ++ x ∷ r ≡ f' ++ x ∷ r' → (f ≡ f') × (r ≡ r')
+parted_once [] x r [] r' distinct e = (refl, ap rest_of e)
+parted_once [] x r (a ∷ f') r' distinct e =
+    absurd (head_apart x r distinct (subst (λ l. Contains l x) (sym (ap rest_of e)) (Contains-append_right f' (x ∷ r') x (Contains-here x r'))))
+parted_once (a ∷ f) x r [] r' distinct e =
+    absurd (head_apart a (f ++ x ∷ r) distinct (subst (Contains (f ++ x ∷ r)) (sym (ap (λ l. get_or l 0 0) e)) (Contains-append_right f (x ∷ r) x (Contains-here x r))))
+parted_once (a ∷ f) x r (b ∷ f') r' distinct e =
+    let rest = parted_once f x r f' r' (AllPairs-tail a (f ++ x ∷ r) distinct) (ap rest_of e) in
+    (ap₂ (λ y l. y ∷ l) (ap (λ l. get_or l 0 0) e) rest.0, rest.1)

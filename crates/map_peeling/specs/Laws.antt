@@ -6,7 +6,7 @@ use Rattle.map_definitions.specs.Maps.{HasDart, IsSimpleMap, IsPlane, component_
 use Rattle.map_definitions.specs.Paths.{SameFace}
 use Rattle.plane_laws.specs.Completed.{IsCompleted}
 use Rattle.map_peeling.specs.Restricted.{restricted, kept_but, IsFaceOfThree, IsDartOfThree}
-use Rattle.map_peeling.specs.NearTriangulations.{IsOuterCycle, IsOuterDart, IsFree}
+use Rattle.map_peeling.specs.NearTriangulations.{IsOuterCycle, IsOuterDart, IsNearTriangulation, IsFree, IsFreeStretch}
 use Rattle.map_peeling.specs.Peeled.{IsPeeled, IsTakenOff}
 
 -- The darts of an outer cycle are the face of its base.
@@ -18,6 +18,16 @@ OuterCycleIsFace =
 abbrev pub SomeFree : Type 0
 SomeFree =
     (lists : Lists) (s t : ℕ) (ws : List ℕ) → IsSimpleMap lists → IsPlane lists → IsOuterCycle lists s t ws → (v : ℕ) × IsFree lists s t ws v
+
+-- And a chord, or else the base, cuts off a stretch of such vertices.
+abbrev pub SomeFreeStretch : Type 0
+SomeFreeStretch =
+    (lists : Lists) (s t : ℕ) (ws : List ℕ) → IsSimpleMap lists → IsPlane lists → IsOuterCycle lists s t ws → (front : List ℕ) × (u : ℕ) × (between : List ℕ) × (w : ℕ) × (back : List ℕ) × IsFreeStretch lists s t ws front u between w back
+
+-- A near triangulation of which nothing is taken off.
+abbrev pub WholeIsPeeled : Type 0
+WholeIsPeeled =
+    (lists : Lists) (kept : ℕ → Bool) (s t : ℕ) (ws : List ℕ) → IsNearTriangulation lists s t ws → ((v : ℕ) → v < length lists → kept v ≡ true) → IsPeeled lists kept s t ws
 
 -- A completed map of which nothing is taken off: its outer cycle is the face of the base.
 abbrev pub NothingTakenOff : Type 0

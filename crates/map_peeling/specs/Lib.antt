@@ -2,4 +2,5 @@
 pub mod Restricted
 pub mod NearTriangulations
 pub mod Peeled
+pub mod TwoGone
 pub mod Laws

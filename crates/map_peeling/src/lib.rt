@@ -2,7 +2,8 @@
 //! nothing, and speaks of all maps.
 #![tactic(auto)]
 
-ghost use Rattle.map_peeling.specs.Laws.{ConnectedTakenOff, CycleAfter, FanCovers, FreeByCount, FreeTakenOff, NothingTakenOff, OuterCycleIsFace, SomeFree, ThreeLeft};
+ghost use Rattle.map_peeling.specs.Laws.{ConnectedTakenOff, CycleAfter, FanCovers, FreeByCount, FreeTakenOff, NothingTakenOff, OuterCycleIsFace, SomeFree, SomeFreeStretch, ThreeLeft, WholeIsPeeled};
+ghost use Rattle.map_peeling.specs.TwoGone.{OpenAfter, QuadrangleOpened, SomeFreeOfTwo};
 
 /// The darts of an outer cycle are those of the face of its base, and no others.
 pub fn outer_cycle_is_face()
@@ -13,6 +14,17 @@ pub fn outer_cycle_is_face()
 /// that has no chord: of its neighbours just those before and after it are on the cycle.
 pub fn some_free()
     ensures { SomeFree }
+{}
+
+/// There is even a stretch of such vertices, between two vertices of the cycle that are adjacent by a chord
+/// or by the base.
+pub fn some_free_stretch()
+    ensures { SomeFreeStretch }
+{}
+
+/// A near triangulation of which nothing is taken off: its inner faces are faces of the whole map.
+pub fn whole_is_peeled()
+    ensures { WholeIsPeeled }
 {}
 
 /// A completed map of which nothing is taken off is a near triangulation, whose outer cycle is the face of
@@ -56,4 +68,23 @@ pub fn cycle_after()
 /// taken off, or lies on a face of that vertex and two of its neighbours that follow one another.
 pub fn fan_covers()
     ensures { FanCovers }
+{}
+
+/// Let no triangle of edges separate, and let what is taken off lie around what is left: a vertex taken off
+/// stands beyond each dart of the outer cycle, and has a neighbour that is taken off too. Then there is a
+/// vertex without a chord of which two neighbours are taken off.
+pub fn some_free_of_two()
+    ensures { SomeFreeOfTwo }
+{}
+
+/// What is taken off still lies around what is left when one vertex more is taken off.
+pub fn open_after()
+    ensures { OpenAfter }
+{}
+
+/// A connected near triangulation with a quadrangle as its outer cycle, and a vertex inside, in which no
+/// triangle of edges separates: the two vertices of the cycle that are not of the base can be taken off, and
+/// lie around what is left.
+pub fn quadrangle_opened()
+    ensures { QuadrangleOpened }
 {}

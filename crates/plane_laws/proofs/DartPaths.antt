@@ -65,6 +65,10 @@ face_step_together lists simple d has =
     let w = IsPermuting-after f g k (IsPermuting-rotation lists simple) (IsPermuting-pairing g k (IsPairing-twin lists simple)) in
     orbits_of-step (after f g) k w.within (dart_number lists d) (dart_number-lt lists d.0 d.1 has) ∙ ap (label (orbits_of (after f g) k)) (face_step-number lists simple d has)
 
+-- in the words of maps
+pub same_face-step : (lists : Lists) → IsSimpleMap lists → (d e : Dart) → HasDart lists e.0 e.1 → SameFace lists d e → SameFace lists d (face_step lists e)
+same_face-step lists simple d e has same = same_face lists simple d (face_step lists e) (face_together lists simple d e same ∙ face_step_together lists simple e has)
+
 -- x is the dart before the corner of v before its entry a; so the face of (v, a) comes to that corner along the partner of x
 pub record IsCorner (lists : Lists) (v a x : ℕ) : Type 0 where
   pub within : x < dart_count lists
