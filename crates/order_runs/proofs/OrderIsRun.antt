@@ -1,6 +1,5 @@
 -- A canonical order is a run.
-use Rattle.std.proofs.Common.{◌≡◌, ◌≢◌, ℕ, suc, ◌+◌, ◌-◌, ◌<◌, ◌≤◌, true, List, [], ◌∷◌, length, get_or, take, AllPairs, Contains, refl, sym, ap, ap₂, ◌∙◌, subst, inl, inr, arith, length-append}
-use Rattle.std.proofs.lemmas.Bool.{cases_order}
+use Rattle.std.proofs.Common.{◌≡◌, ℕ, suc, ◌+◌, ◌-◌, ◌<◌, ◌≤◌, true, List, [], ◌∷◌, length, get_or, take, Contains, refl, sym, ap, ap₂, ◌∙◌, subst, inl, inr, arith, length-append}
 use Rattle.std.proofs.lemmas.List.{get_or_default, get_or-map, get_or-take, length-map, length-take-le}
 use Rattle.std.proofs.lemmas.List.Elements.{Contains-get_or}
 use Rattle.map_lists.specs.Lists.{Lists}
@@ -12,20 +11,13 @@ use Rattle.map_peeling.proofs.OuterCycles.{IsFaceOfThree-turned}
 use Rattle.map_peeling.proofs.RestrictedMaps.{restricted-new}
 use Rattle.canon_order.specs.Orders.{stands_in, IsPutOn, IsMade, IsCanonicalOrder}
 use Rattle.canon_order.specs.Laws.{LastCycle}
+use Rattle.canon_order.proofs.Counters.{same_place}
 use Rattle.contour_runs.specs.Runs.{Step, Stage, stage_after, contour, IsFaceOf}
 use Rattle.contour_runs.specs.Laws.{IsStage, row, IsGrowing, IsRunOf}
 use Rattle.contour_runs.proofs.Stages.{IsStage-run, IsRun-less, count-stage_after}
 use Rattle.contour_runs.proofs.Contours.{length-contour, get_or-contour}
 use Rattle.contour_runs.proofs.Growing.{length-old, get_or-row, lists_are_run}
 use Rattle.order_runs.specs.OrderRuns.{IsMadeByStep, IsOrderRun}
-
--- entries of a list without repeats
-place_apart : (at : List ℕ) → AllPairs ◌≢◌ at → (i j : ℕ) → i < length at → j < length at → get_or at i 0 ≡ get_or at j 0 → i ≡ j
-place_apart at once i j l m e = elim (cases_order i j) [
-  | inl same ↦ same
-  | inr (inl b) ↦ absurd (once i j 0 b m e)
-  | inr (inr b) ↦ absurd (once j i 0 b l (sym e))
-]
 
 -- an earlier entry is kept
 kept_entry : (at : List ℕ) (k i : ℕ) → i < k → k ≤ length at → stands_in (take k at) (get_or at i 0) ≡ true
@@ -96,7 +88,7 @@ module _ (lists : Lists) (base : Dart) (at : List ℕ) (completed : IsCompleted 
         let c = count-stage_after steps k in
         let p = g.placed i a in
         let q = g.placed j b in
-        sym (g.own i a) ∙ ap (stage k).place (place_apart at order.built.once ((stage k).vertex i) ((stage k).vertex j) (omega arith) (omega arith) e) ∙ g.own j b
+        sym (g.own i a) ∙ ap (stage k).place (same_place at ((stage k).vertex i) ((stage k).vertex j) order.built.once (omega arith) (omega arith) e) ∙ g.own j b
 
     -- a neighbour of a new vertex on the cycle before stands at one of the places from the first to the last
     on_row : (k i : ℕ) → k + 2 < length at → i < (stage k).width → HasDart lists (name (k + 2)) (name ((stage k).vertex i)) → ((steps k).first ≤ i) × (i ≤ (steps k).last)
