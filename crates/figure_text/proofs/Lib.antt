@@ -1,0 +1,2 @@
+-- Lemmas on the text of figures.
+pub mod TextLemmas

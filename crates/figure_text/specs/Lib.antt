@@ -1,0 +1,2 @@
+-- The text of figures.
+pub mod Text
