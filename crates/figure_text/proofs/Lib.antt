@@ -1,0 +1,3 @@
+-- Lemmas on the text of figures.
+pub mod TextLemmas
+pub mod DecimalLemmas

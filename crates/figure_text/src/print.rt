@@ -1,0 +1,207 @@
+//! A figure as text.
+ghost use Rattle.std.specs.Prelude.{◌≡◌, ◌+◌, ◌++◌, ◌∷◌, [], ℕ, length, map, flat_map, decimal, ◌<◌, OnOk, OnErr, IfOk};
+ghost use Rattle.std.specs.Fmt.{signed_decimal};
+ghost use Rattle.figure_text.specs.Text.{neighbours, spaced_signed, grid_line, grid_lines, bar_line, bar_lines, columns_line, first_line, job_word, figure_text, IsWhole, HasBars, integer_at, point_at};
+
+use crate::{Figure, GridJob};
+use itoa::Buffer;
+use map_lists::Rotations;
+use pg_plane::{BarFigure, Ints, Point, Points};
+use std::alloc::{AllocError, Global};
+
+// Appends a number.
+fn push_number(out: &mut Vec<u8>, number: u64) -> Result<(), AllocError>
+    ensures { OnOk result (out.new.items ≡ out.old.items ++ decimal number) }
+{
+    let mut buffer = Buffer::new();
+    out.extend_from_slice(buffer.format(number).as_bytes())
+}
+
+// Appends a space and a number.
+fn push_next(out: &mut Vec<u8>, number: u64) -> Result<(), AllocError>
+    ensures { OnOk result (out.new.items ≡ out.old.items ++ 32 ∷ decimal number) }
+{
+    out.push(b' ')?;
+    push_number(out, number)
+}
+
+// Appends a space and a signed_decimal number.
+fn push_signed(out: &mut Vec<u8>, number: i32) -> Result<(), AllocError>
+    ensures { OnOk result (out.new.items ≡ out.old.items ++ 32 ∷ signed_decimal number) }
+{
+    let mut buffer = Buffer::new();
+    out.push(b' ')?;
+    out.extend_from_slice(buffer.format(number).as_bytes())
+}
+
+// Number `v` of a list of whole numbers.
+fn integer(list: &Ints, v: usize) -> i32
+    requires { v < length list.now }
+    ensures { result ≡ integer_at list.now v }
+{
+    list.get(v)
+}
+
+// Number `v` of a list of points.
+fn point(list: &Points, v: usize) -> Point
+    requires { v < length list.now }
+    ensures { result ≡ point_at list.now v }
+{
+    list.get(v)
+}
+
+// Appends the neighbours of a vertex, and ends its line.
+fn push_neighbours(out: &mut Vec<u8>, list: &[u16]) -> Result<(), AllocError>
+    ensures { OnOk result (out.new.items ≡ out.old.items ++ neighbours list.now) }
+{
+    out.push(b':')?;
+    for k in 0..list.len() {
+        push_next(out, u64::from(list[k]) + 1)?;
+    }
+    out.push(b'\n')?;
+    Ok(())
+}
+
+// Appends the first line of a figure.
+fn push_first(out: &mut Vec<u8>, k: u32, word: &[u8], n: usize) -> Result<(), AllocError>
+    ensures { OnOk result (out.new.items ≡ out.old.items ++ first_line k word.now n) }
+{
+    out.extend_from_slice(b"figure")?;
+    push_next(out, u64::from(k))?;
+    out.push(b' ')?;
+    out.extend_from_slice(word)?;
+    push_next(out, n as u64)?;
+    out.push(b'\n')?;
+    Ok(())
+}
+
+// Appends the line of a vertex of a straight-line drawing.
+fn push_grid_line(out: &mut Vec<u8>, v: usize, point: Point, list: &[u16]) -> Result<(), AllocError>
+    requires { v < usize.MAX }
+    ensures { OnOk result (out.new.items ≡ out.old.items ++ grid_line v point list.now) }
+{
+    push_number(out, v as u64 + 1)?;
+    out.extend_from_slice(b" at")?;
+    push_signed(out, point.x)?;
+    push_signed(out, point.y)?;
+    push_neighbours(out, list)
+}
+
+// Appends the lines of the vertices of a straight-line drawing.
+fn push_grid_lines(out: &mut Vec<u8>, lists: &Rotations, points: &Points) -> Result<(), AllocError>
+    requires { length points.now ≡ length lists.now }
+    ensures { OnOk result (out.new.items ≡ out.old.items ++ grid_lines points.now lists.now (length lists.now)) }
+{
+    for v in 0..lists.len() {
+        push_grid_line(out, v, point(points, v), lists.list(v))?;
+    }
+    Ok(())
+}
+
+// Appends the line of a vertex of a visibility drawing.
+fn push_bar_line(
+    out: &mut Vec<u8>,
+    v: usize,
+    bars: &BarFigure,
+    list: &[u16],
+) -> Result<(), AllocError>
+    requires max { v < usize.MAX }
+    requires y { v < length bars.now.y }
+    requires x1 { v < length bars.now.x1 }
+    requires x2 { v < length bars.now.x2 }
+    ensures { OnOk result (out.new.items ≡ out.old.items
+        ++ bar_line v (integer_at bars.now.y v) (integer_at bars.now.x1 v) (integer_at bars.now.x2 v) list.now) }
+{
+    push_number(out, v as u64 + 1)?;
+    out.extend_from_slice(b" y")?;
+    push_signed(out, integer(&bars.y, v))?;
+    out.extend_from_slice(b" x")?;
+    push_signed(out, integer(&bars.x1, v))?;
+    push_signed(out, integer(&bars.x2, v))?;
+    push_neighbours(out, list)
+}
+
+// Appends the lines of the vertices of a visibility drawing.
+fn push_bar_lines(out: &mut Vec<u8>, lists: &Rotations, bars: &BarFigure) -> Result<(), AllocError>
+    requires { HasBars lists.now bars.now }
+    ensures { OnOk result (out.new.items ≡ out.old.items ++ bar_lines bars.now lists.now (length lists.now)) }
+{
+    for v in 0..lists.len() {
+        push_bar_line(out, v, bars, lists.list(v))?;
+    }
+    Ok(())
+}
+
+// Appends signed numbers.
+fn push_integers(out: &mut Vec<u8>, list: &Ints) -> Result<(), AllocError>
+    ensures { OnOk result (out.new.items ≡ out.old.items ++ spaced_signed list.now) }
+{
+    for k in 0..list.len() {
+        push_signed(out, integer(list, k))?;
+    }
+    Ok(())
+}
+
+// Appends the line of the columns.
+fn push_columns(out: &mut Vec<u8>, columns: &Ints) -> Result<(), AllocError>
+    ensures { OnOk result (out.new.items ≡ out.old.items ++ columns_line columns.now) }
+{
+    out.extend_from_slice(b"columns")?;
+    push_integers(out, columns)?;
+    out.push(b'\n')?;
+    Ok(())
+}
+
+// The word of a method.
+fn word_of(job: GridJob) -> &'static [u8]
+    ensures { result.now ≡ job_word job }
+{
+    match job {
+        GridJob::Shift => b"shift",
+        GridJob::Schnyder => b"schnyder",
+    }
+}
+
+// Appends the text of a figure, or a part of it.
+fn push_figure(out: &mut Vec<u8>, number: u32, fig: &Figure) -> Result<(), AllocError>
+    requires { IsWhole fig.now }
+    ensures { OnOk result (out.new.items ≡ out.old.items ++ figure_text number fig.now) }
+{
+    match fig {
+        Figure::Grid { job, lists, points } => {
+            push_first(out, number, word_of(*job), lists.len())?;
+            push_grid_lines(out, lists, points)
+        }
+        Figure::Bars { lists, bars } => {
+            push_first(out, number, b"bars", lists.len())?;
+            push_bar_lines(out, lists, bars)?;
+            push_columns(out, &bars.column)
+        }
+    }
+}
+
+// The text of a figure.
+fn text_of(alloc: Global, number: u32, fig: &Figure) -> Result<Vec<u8>, AllocError>
+    requires { IsWhole fig.now }
+    ensures { IfOk result (λ text. text.items ≡ figure_text number fig.now) }
+{
+    let mut text = Vec::new(alloc);
+    push_figure(&mut text, number, fig)?;
+    Ok(text)
+}
+
+/// Appends the text of a figure with this number. Each list of the drawing has an entry for each vertex, but
+/// for the columns of bars, of which there may be any number. After want of memory the bytes are as they were.
+pub fn print_figure(
+    alloc: Global,
+    number: u32,
+    fig: &Figure,
+    out: &mut Vec<u8>,
+) -> Result<(), AllocError>
+    requires { IsWhole fig.now }
+    ensures ok { OnOk result (out.new.items ≡ out.old.items ++ figure_text number fig.now) }
+    ensures err { OnErr result (out.new.items ≡ out.old.items) }
+{
+    let text = text_of(alloc, number, fig)?;
+    out.extend_from_slice(&text)
+}
