@@ -65,10 +65,13 @@ unfoldable pub bar_lines : BarFigure → Lists → ℕ → List ℕ
 bar_lines bars lists n =
     texts (λ v. bar_line v (integer_at bars.y v) (integer_at bars.x1 v) (integer_at bars.x2 v) (slice_index_or lists v [])) n
 
+-- the text of a straight-line drawing with the number k
+abbrev pub grid_text : ℕ → GridJob → Lists → List Point → List ℕ
+grid_text k job lists points = first_line k (job_word job) (length lists) ++ grid_lines points lists (length lists)
+
 -- the text of a figure with the number k
 abbrev pub figure_text : ℕ → Figure → List ℕ
-figure_text k (Grid job lists points) =
-    first_line k (job_word job) (length lists) ++ grid_lines points lists (length lists)
+figure_text k (Grid job lists points) = grid_text k job lists points
 figure_text k (Bars lists bars) =
     first_line k (codes "bars") (length lists) ++ bar_lines bars lists (length lists) ++ columns_line bars.column
 

@@ -14,7 +14,7 @@ mod words;
 
 pub use fault::TextFault;
 pub use figure::{Figure, GridJob};
-pub use print::print_figure;
+pub use print::{print_figure, print_grid};
 
 #[cfg(test)]
 mod tests;

@@ -1,7 +1,7 @@
 //! A figure as text.
 ghost use Rattle.std.specs.Prelude.{◌≡◌, ◌+◌, ◌++◌, ◌∷◌, [], ℕ, length, map, flat_map, decimal, ◌<◌, OnOk, OnErr, IfOk};
 ghost use Rattle.std.specs.Fmt.{signed_decimal};
-ghost use Rattle.figure_text.specs.Text.{neighbours, spaced_signed, grid_line, grid_lines, bar_line, bar_lines, columns_line, first_line, job_word, figure_text, IsWhole, HasBars, integer_at, point_at};
+ghost use Rattle.figure_text.specs.Text.{neighbours, spaced_signed, grid_line, grid_lines, bar_line, bar_lines, columns_line, first_line, job_word, grid_text, figure_text, IsWhole, HasBars, integer_at, point_at};
 
 use crate::{Figure, GridJob};
 use itoa::Buffer;
@@ -162,16 +162,28 @@ fn word_of(job: GridJob) -> &'static [u8]
     }
 }
 
+// Appends the text of a straight-line drawing, or a part of it.
+fn push_grid(
+    out: &mut Vec<u8>,
+    number: u32,
+    job: GridJob,
+    lists: &Rotations,
+    points: &Points,
+) -> Result<(), AllocError>
+    requires { length points.now ≡ length lists.now }
+    ensures { OnOk result (out.new.items ≡ out.old.items ++ grid_text number job lists.now points.now) }
+{
+    push_first(out, number, word_of(job), lists.len())?;
+    push_grid_lines(out, lists, points)
+}
+
 // Appends the text of a figure, or a part of it.
 fn push_figure(out: &mut Vec<u8>, number: u32, fig: &Figure) -> Result<(), AllocError>
     requires { IsWhole fig.now }
     ensures { OnOk result (out.new.items ≡ out.old.items ++ figure_text number fig.now) }
 {
     match fig {
-        Figure::Grid { job, lists, points } => {
-            push_first(out, number, word_of(*job), lists.len())?;
-            push_grid_lines(out, lists, points)
-        }
+        Figure::Grid { job, lists, points } => push_grid(out, number, *job, lists, points),
         Figure::Bars { lists, bars } => {
             push_first(out, number, b"bars", lists.len())?;
             push_bar_lines(out, lists, bars)?;
@@ -203,5 +215,39 @@ pub fn print_figure(
     ensures err { OnErr result (out.new.items ≡ out.old.items) }
 {
     let text = text_of(alloc, number, fig)?;
+    out.extend_from_slice(&text)
+}
+
+// The text of a straight-line drawing.
+fn grid_of(
+    alloc: Global,
+    number: u32,
+    job: GridJob,
+    lists: &Rotations,
+    points: &Points,
+) -> Result<Vec<u8>, AllocError>
+    requires { length points.now ≡ length lists.now }
+    ensures { IfOk result (λ text. text.items ≡ grid_text number job lists.now points.now) }
+{
+    let mut text = Vec::new(alloc);
+    push_grid(&mut text, number, job, lists, points)?;
+    Ok(text)
+}
+
+/// Appends the text of a straight-line drawing with this number, of lists and a point for each of them. After
+/// want of memory the bytes are as they were.
+pub fn print_grid(
+    alloc: Global,
+    number: u32,
+    job: GridJob,
+    lists: &Rotations,
+    points: &Points,
+    out: &mut Vec<u8>,
+) -> Result<(), AllocError>
+    requires { length points.now ≡ length lists.now }
+    ensures ok { OnOk result (out.new.items ≡ out.old.items ++ grid_text number job lists.now points.now) }
+    ensures err { OnErr result (out.new.items ≡ out.old.items) }
+{
+    let text = grid_of(alloc, number, job, lists, points)?;
     out.extend_from_slice(&text)
 }

@@ -5,20 +5,24 @@ use Rattle.pigale_shell.specs.Answer.{planar_answers}
 use Rattle.pigale_shell.specs.PlanarCode.{planar_code}
 use Rattle.pigale_shell.specs.declared.lines.Ending.{Ending}
 use Rattle.pigale_shell.specs.declared.job.Job.{Job}
-use Rattle.pigale_shell.specs.declared.job.Job.TheVariants.{Count}
+use Rattle.pigale_shell.specs.declared.job.Job.TheVariants.{Count, Shift}
 
 -- a record of its input
 abbrev pub RecordOf : Job → Type 0
 RecordOf Count = Lists
+RecordOf Shift = Lists
 
 -- how its input ends
 abbrev pub EndingOf : Job → Type 0
 EndingOf Count = Ending
+EndingOf Shift = Ending
 
 -- how its input is read
 abbrev pub reads_of : (job : Job) → Reads (RecordOf job) (EndingOf job)
 reads_of Count = planar_code
+reads_of Shift = planar_code
 
 -- its answers, and the last line
 abbrev pub answers_of : (job : Job) → Answers (RecordOf job) (EndingOf job)
 answers_of Count = planar_answers Count
+answers_of Shift = planar_answers Shift

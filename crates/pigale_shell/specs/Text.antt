@@ -1,8 +1,13 @@
 -- The bytes that a run writes: a block for each record, in order, and a last line.
-use Rattle.std.specs.Prelude.{ℕ, ◌+◌, Bool, List, [], ◌∷◌, ◌++◌, codes, decimal, Option, Some, None, is_some}
+use Rattle.std.specs.Prelude.{ℕ, ◌+◌, ◌≡◌, Bool, List, [], ◌∷◌, ◌++◌, codes, decimal, Option, Some, None, is_some}
 use Rattle.map_lists.specs.Lists.{Lists}
 use Rattle.map_definitions.specs.Maps.{vertex_count, edge_count, face_count, component_count, genus}
 use Rattle.simple_maps.specs.Faults.{Fault, out_of_range, loop_at, repeated, one_sided, first_fault}
+use Rattle.pg_plane.specs.declared.figure.GridFigure.{GridFigure}
+use Rattle.shift_figures.specs.Figures.{IsShiftFigure}
+use Rattle.shift_figures.specs.Refusals.{Refusal, fault, small, genus_above, shift_refusal}
+use Rattle.figure_text.specs.Text.{grid_text}
+use Rattle.figure_text.specs.declared.figure.GridJob.TheVariants.{Shift}
 use Rattle.planar_code.specs.Reading.{Ending, well, end_in_record, bad_count, too_long}
 
 -- a word, a space and a number
@@ -46,6 +51,24 @@ count_block k lists = block_by k lists (first_fault lists)
 -- the record is refused by `count`
 abbrev pub count_refuses : Lists → Bool
 count_refuses lists = is_some (first_fault lists)
+
+-- the line that refuses record k by the first condition of the job `shift` that it breaks
+unfoldable pub refusal_line : ℕ → Refusal → List ℕ
+refusal_line k (fault f) = refused_line k f
+refusal_line k (small n) = line (word_and_number (codes "refused") k ++ 32 ∷ word_and_number (codes "5 Small") n)
+refusal_line k (genus_above g) = line (word_and_number (codes "refused") k ++ 32 ∷ word_and_number (codes "6 Genus") g)
+
+-- what `shift` writes for record k: the text of a figure that is valid for the job, or the refusal that names the first condition that the record breaks
+abbrev pub IsShiftText : ℕ → Lists → Option Refusal → List ℕ → Type 0
+IsShiftText k lists None text = (figure : GridFigure) × IsShiftFigure lists figure × (text ≡ grid_text k Shift lists figure.points)
+IsShiftText k lists (Some refusal) text = text ≡ refusal_line k refusal
+
+abbrev pub IsShiftBlock : ℕ → Lists → List ℕ → Type 0
+IsShiftBlock k lists text = IsShiftText k lists (shift_refusal lists) text
+
+-- the record is refused by `shift`
+abbrev pub shift_refuses : Lists → Bool
+shift_refuses lists = is_some (shift_refusal lists)
 
 -- the last line where the input ended well
 unfoldable pub end_line : ℕ → ℕ → List ℕ

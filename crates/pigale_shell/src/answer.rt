@@ -1,12 +1,14 @@
 //! The answer to one record.
 ghost use Rattle.std.specs.Prelude.{◌≡◌, ◌<◌, ◌≤◌, ◌++◌, ◌↔◌, List, ℕ, length, true, false, not, IsTrue, IsFalse, IfOk, OnOk, OnErr};
-ghost use Rattle.pigale_shell.specs.Text.{count_block, count_refuses};
+ghost use Rattle.pigale_shell.specs.Text.{count_block, count_refuses, IsShiftBlock, shift_refuses};
 ghost use Rattle.pigale_shell.specs.Answer.{IsBlock, is_refused};
 
 use super::job::Job;
-use super::lines::{count_line, refusal_line};
+use super::lines::{count_line, drawing_refusal_line, refusal_line};
 use euler_faces::Counter;
+use figure_text::{GridJob, print_grid};
 use half_edges::{MapFault, Rotations};
+use shift_figures::{ShiftRefusal, shift_figure};
 use std::alloc::{AllocError, Global};
 
 /// Appends the job's block for a planar_code record with these lists, which are from 1 to 4095, and
@@ -50,6 +52,7 @@ pub(crate) fn answer_with(
 {
     match job {
         Job::Count => count_record(alloc, counter, number, lists, out),
+        Job::Shift => shift_record(alloc, number, lists, out),
     }
 }
 
@@ -71,6 +74,30 @@ fn count_record(
         Ok(count) => serve(&count_line(alloc, number, &count)?, out),
         Err(MapFault::NoMemory) => Err(AllocError),
         Err(fault) => refuse(&refusal_line(alloc, number, fault)?, out),
+    }
+}
+
+// Appends the figure of a record, or its refusal.
+fn shift_record(
+    alloc: Global,
+    number: u32,
+    lists: &Rotations,
+    out: &mut Vec<u8>,
+) -> Result<bool, AllocError>
+    requires some_list { 0 < length lists.now }
+    requires few_lists { length lists.now < 4096 }
+    ensures block { OnOk result
+        ((block : List ℕ) × IsShiftBlock number lists.now block × (out.new.items ≡ out.old.items ++ block)) }
+    ensures served { IfOk result (λ served. served ≡ not (shift_refuses lists.now)) }
+    ensures err { OnErr result (out.new.items ≡ out.old.items) }
+{
+    match shift_figure(alloc, lists) {
+        Ok(figure) => {
+            print_grid(alloc, number, GridJob::Shift, lists, &figure.points, out)?;
+            Ok(true)
+        }
+        Err(ShiftRefusal::Fault(MapFault::NoMemory)) => Err(AllocError),
+        Err(refusal) => refuse(&drawing_refusal_line(alloc, number, refusal)?, out),
     }
 }
 

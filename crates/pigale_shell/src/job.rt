@@ -10,6 +10,8 @@ use std::alloc::Global;
 pub enum Job {
     /// Counts the vertices, edges, faces and components of each map, and gives its genus.
     Count,
+    /// Draws each map of genus zero with at least three vertices by the shift method.
+    Shift,
 }
 
 /// How a run ended.
@@ -57,7 +59,8 @@ pub enum WordFault {
     NoMemory,
 }
 
-/// The job of the words after the program's name: `count` alone is the job `Count`.
+/// The job of the words after the program's name: `count` alone is the job `Count`,
+/// and `shift` alone the job `Shift`.
 ///
 /// `BadWords` comes exactly where they are those of no job.
 pub fn words_to_job(_alloc: Global, words: &[String]) -> Result<Job, WordFault>
@@ -69,6 +72,8 @@ pub fn words_to_job(_alloc: Global, words: &[String]) -> Result<Job, WordFault>
         [word] => {
             if word.as_str() == "count" {
                 Ok(Job::Count)
+            } else if word.as_str() == "shift" {
+                Ok(Job::Shift)
             } else {
                 Err(WordFault::BadWords)
             }

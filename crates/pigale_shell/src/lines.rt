@@ -1,12 +1,13 @@
 //! The lines that a run writes.
-ghost use Rattle.std.specs.Prelude.{◌≡◌, ◌≢◌, ◌+◌, ◌++◌, ◌∷◌, [], OnOk, IfOk, decimal};
+ghost use Rattle.std.specs.Prelude.{◌≡◌, ◌≢◌, ◌+◌, ◌++◌, ◌∷◌, [], OnOk, IfOk, codes, decimal};
 ghost use Rattle.pigale_shell.specs.Text.{counts_line, refused_line, bad_words_line, last_line as last_line_of};
 ghost use Rattle.map_definitions.specs.Maps.{genus_of};
-ghost use Rattle.pigale_shell.specs.Lines.{fault_bytes, WritesFault, ending_of};
+ghost use Rattle.pigale_shell.specs.Lines.{fault_bytes, WritesFault, WritesRefusal, ending_of};
 
 use euler_faces::EulerCount;
 use half_edges::MapFault;
 use itoa::Buffer;
+use shift_figures::ShiftRefusal;
 use std::alloc::{AllocError, Global};
 
 /// How the bytes of an input end.
@@ -92,6 +93,39 @@ pub fn refusal_line(alloc: Global, number: u32, fault: MapFault) -> Result<Vec<u
     push_fault(&mut line, fault)?;
     line.push(b'\n')?;
     Ok(line)
+}
+
+// The line that refuses record `number` by a name and a number.
+fn named_line(
+    alloc: Global,
+    number: u32,
+    name: &[u8],
+    given: u64,
+) -> Result<Vec<u8>, AllocError>
+    ensures { IfOk result (λ line. line.items ≡ ((codes "refused" ++ 32 ∷ decimal number) ++ 32 ∷ (name.now ++ 32 ∷ decimal given)) ++ 10 ∷ []) }
+{
+    let mut line = Vec::from_slice(alloc, b"refused")?;
+    push_number(&mut line, u64::from(number))?;
+    line.push(b' ')?;
+    line.extend_from_slice(name)?;
+    push_number(&mut line, given)?;
+    line.push(b'\n')?;
+    Ok(line)
+}
+
+/// The line that refuses record `number` for a drawing, for a cause that is not want of memory.
+pub fn drawing_refusal_line(
+    alloc: Global,
+    number: u32,
+    refusal: ShiftRefusal,
+) -> Result<Vec<u8>, AllocError>
+    ensures { IfOk result (λ line. WritesRefusal number refusal line.items) }
+{
+    match refusal {
+        ShiftRefusal::Fault(fault) => refusal_line(alloc, number, fault),
+        ShiftRefusal::Small(n) => named_line(alloc, number, b"5 Small", u64::from(n)),
+        ShiftRefusal::Genus(g) => named_line(alloc, number, b"6 Genus", u64::from(g)),
+    }
 }
 
 // The line `stop NAME P`.
