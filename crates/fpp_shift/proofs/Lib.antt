@@ -1,0 +1,6 @@
+-- Lemmas on drawings by the shift method.
+mod Passes
+mod Puts
+mod Writes
+mod Sums
+mod RunRows
