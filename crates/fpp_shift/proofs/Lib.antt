@@ -4,3 +4,4 @@ mod Puts
 mod Writes
 mod Sums
 mod RunRows
+mod RowLemmas

@@ -1,5 +1,5 @@
 -- The rows of the contour over which the vertices of a run are put.
-use Rattle.std.specs.Prelude.{ℕ, suc, ◌+◌, ◌<◌, ◌≡◌, List, length, slice_index}
+use Rattle.std.specs.Prelude.{ℕ, zero, suc, ◌+◌, ◌-◌, ◌<◌, ◌≤◌, ◌≡◌, ◌⊎◌, ◌==◌, if◌then◌else◌, List, length, map, slice_index}
 use Rattle.map_lists.specs.Lists.{Lists}
 use Rattle.map_definitions.specs.Maps.{list_of}
 use Rattle.contour_runs.specs.Runs.{Step, Stage, stage_after, IsRun}
@@ -13,3 +13,48 @@ pub record IsRow (g : Stage) (s : Step) (row : List ℕ) : Type 0 where
 pub record AreRows (steps : ℕ → Step) (rows : Lists) : Type 0 where
   pub run : IsRun steps (length rows)
   pub row : (k : ℕ) → k < length rows → IsRow (stage_after steps k) (steps k) (list_of rows k)
+
+-- the place before a place of a list of n, cyclically
+abbrev pub place_before : ℕ → ℕ → ℕ
+place_before n i = if i == 0 then n - 1 else i - 1
+
+-- the place after it
+abbrev pub place_after : ℕ → ℕ → ℕ
+place_after n i = if i + 1 == n then 0 else i + 1
+
+-- the place so many places before it
+abbrev pub back : ℕ → ℕ → ℕ → ℕ
+back n i zero = i
+back n i (suc c) = place_before n (back n i c)
+
+-- the rank of an entry
+abbrev pub rank_at : List ℕ → List ℕ → ℕ → ℕ
+rank_at list ranks i = slice_index ranks (slice_index list i)
+
+-- The row of the vertex of rank k begins at this place of its list: the entry is of a lower rank, and it is the first vertex of all or the next entry is of a higher one.
+pub record IsFirstPlace (list ranks : List ℕ) (k i : ℕ) : Type 0 where
+  pub earlier : rank_at list ranks i < k
+  pub begins : (rank_at list ranks i ≡ 0) ⊎ (k ≤ rank_at list ranks (place_after (length list) i))
+
+-- It ends there: the entry is the second vertex of all, or the one before it is of a higher rank.
+abbrev pub IsLastPlace : List ℕ → List ℕ → ℕ → ℕ → Type 0
+IsLastPlace list ranks k i = (rank_at list ranks i ≡ 1) ⊎ (k ≤ rank_at list ranks (place_before (length list) i))
+
+-- Backwards from the place `start` of a list, the only one where a row begins, stand the entries us, up to the first place where a row ends.
+pub record IsRowIn (list ranks : List ℕ) (k start : ℕ) (us : List ℕ) : Type 0 where
+  pub begin : start < length list
+  pub some : 0 < length us
+  pub short : length us ≤ length list
+  pub entries : (c : ℕ) → c < length us → slice_index list (back (length list) start c) ≡ slice_index us c
+  pub first : IsFirstPlace list ranks k start
+  pub only : (i : ℕ) → i < length list → IsFirstPlace list ranks k i → i ≡ start
+  pub inner : (c : ℕ) → suc c < length us → ¬ IsLastPlace list ranks k (back (length list) start c)
+  pub last : (c : ℕ) → suc c ≡ length us → IsLastPlace list ranks k (back (length list) start c)
+
+-- us k is the row of the vertex of rank k, from the third on, in the lists of a map
+abbrev pub HasRows : Lists → List ℕ → List ℕ → (ℕ → List ℕ) → Type 0
+HasRows lists at ranks us = (k : ℕ) → 2 ≤ k → k < length at → (start : ℕ) × IsRowIn (list_of lists (slice_index at k)) ranks k start (us k)
+
+-- the first rows, by ranks
+abbrev pub AreRanked : List ℕ → (ℕ → List ℕ) → Lists → Type 0
+AreRanked ranks us rows = (k : ℕ) → k < length rows → list_of rows k ≡ map (slice_index ranks) (us (k + 2))
