@@ -5,14 +5,14 @@ use Rattle.std.proofs.Common.{arith}
 use Rattle.contour_runs.specs.Runs.{Step, moved, vertex_after, place_after, stage_after, IsRun, IsCovered, IsFaceOf, contour, faces_made}
 
 -- a step from its two places, and a list of steps
-abbrev over : ℕ → ℕ → Step
+abbrev pub over : ℕ → ℕ → Step
 over i j = record { first = i; last = j }
 
-abbrev listed : List Step → ℕ → Step
+abbrev pub listed : List Step → ℕ → Step
 listed steps k = slice_index_or steps k (over 0 1)
 
 -- the tetrahedron: the third vertex, and the fourth over all three
-abbrev tetrahedron : ℕ → Step
+abbrev pub tetrahedron : ℕ → Step
 tetrahedron = listed (over 0 1 ∷ over 0 2 ∷ [])
 
 tetrahedron_two : contour (stage_after tetrahedron 1) ≡ 0 ∷ 2 ∷ 1 ∷ []
@@ -46,7 +46,7 @@ unfolding vertex_after
 tetrahedron_covered = record { place = 1; low = omega arith; high = omega arith; vertex = refl }
 
 -- the octahedron: the fourth vertex covers none, the fifth the third, and the sixth the fourth and the fifth
-abbrev octahedron : ℕ → Step
+abbrev pub octahedron : ℕ → Step
 octahedron = listed (over 0 1 ∷ over 0 1 ∷ over 1 3 ∷ over 0 3 ∷ [])
 
 octahedron_three : contour (stage_after octahedron 2) ≡ 0 ∷ 3 ∷ 2 ∷ 1 ∷ []
@@ -67,3 +67,10 @@ octahedron_places = refl
 
 octahedron_faces : faces_made octahedron 4 ≡ 7
 octahedron_faces = refl
+
+octahedron_run : IsRun octahedron 4
+octahedron_run zero l = record { order = omega arith; within = omega arith }
+octahedron_run (suc zero) l = record { order = omega arith; within = omega arith }
+octahedron_run (suc (suc zero)) l = record { order = omega arith; within = omega arith }
+octahedron_run (suc (suc (suc zero))) l = record { order = omega arith; within = omega arith }
+octahedron_run (suc (suc (suc (suc k)))) l = absurd (omega arith)

@@ -4,4 +4,4 @@ pub mod Stages
 pub mod Contours
 pub mod Faces
 pub mod Growing
-mod Cases
+pub mod Cases

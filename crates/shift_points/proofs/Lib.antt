@@ -3,4 +3,5 @@ pub mod Areas
 pub mod Steps
 pub mod Opening
 pub mod Corners
+pub mod Trees
 mod Cases

@@ -2,4 +2,5 @@
 pub mod Shift
 pub mod Contours
 pub mod Opened
+pub mod Tree
 pub mod Laws

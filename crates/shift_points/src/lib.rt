@@ -4,6 +4,7 @@
 #![tactic(auto)]
 
 ghost use Rattle.shift_points.specs.Laws.{OpenedArea, FacesCounterclockwise, ContourRises, PointsInGrid, ThreeCorners, FirstThree, BaseClockwise};
+ghost use Rattle.shift_points.specs.Tree.{ParentsAreTree, OffsetsKept, OffsetsOfStep};
 
 /// A face of which six naturals are kept, so that its area is a sum of products of them, is counterclockwise.
 pub fn opened_area()
@@ -40,4 +41,22 @@ pub fn first_three()
 /// Where the last vertex covers all but the base, the face on the other side of the base is clockwise.
 pub fn base_clockwise()
     ensures { BaseClockwise }
+{}
+
+/// The parents are a tree: along the contour each vertex is the parent of the next, a vertex under the contour
+/// has the place of its parent, and from each vertex parents lead to the first.
+pub fn parents_are_tree()
+    ensures { ParentsAreTree }
+{}
+
+/// A step changes the parents and the offsets of no older vertices but two: that next to the first place, and
+/// that at the last.
+pub fn offsets_kept()
+    ensures { OffsetsKept }
+{}
+
+/// Where a new vertex goes, told by how far apart its first and last neighbour come to stand and by their
+/// heights.
+pub fn offsets_of_step()
+    ensures { OffsetsOfStep }
 {}
