@@ -31,10 +31,14 @@ module _ (list ranks : List ℕ) (k start : ℕ) (us : List ℕ) (h : IsRowIn li
   ]
 
 -- one row more
-pub AreRanked-more : (ranks : List ℕ) (us : ℕ → List ℕ) (rows : Lists) (row : List ℕ) → AreRanked ranks us rows → row ≡ map (λ u. get_or ranks u 0) (us (length rows + 2)) → AreRanked ranks us (rows ++ row ∷ [])
-AreRanked-more ranks us rows row h e = λ k l. elim (cases_lt k (length rows)) [
-  | inl m ↦ get_or_append_left rows (row ∷ []) [] k m ∙ h k m
+pub AreRanked-more :
+    (lists : Lists) (at ranks : List ℕ) (rows : Lists) (row : List ℕ)
+    → AreRanked lists at ranks rows
+    → ((start : ℕ) (us : List ℕ) → IsRowIn (list_of lists (get_or at (length rows + 2) 0)) ranks (length rows + 2) start us → row ≡ map (λ u. get_or ranks u 0) us)
+    → AreRanked lists at ranks (rows ++ row ∷ [])
+AreRanked-more lists at ranks rows row h e = λ k start us l r. elim (cases_lt k (length rows)) [
+  | inl m ↦ get_or_append_left rows (row ∷ []) [] k m ∙ h k start us m r
   | inr m ↦
-      let d : length rows ≡ k = omega (arith, length-append rows (row ∷ [])) in
-      subst (λ k. get_or (rows ++ row ∷ []) k [] ≡ map (λ u. get_or ranks u 0) (us (k + 2))) d (get_or-append_seam rows row [] [] ∙ e)
+      let d : k ≡ length rows = omega (arith, length-append rows (row ∷ [])) in
+      ap (λ k. get_or (rows ++ row ∷ []) k []) d ∙ get_or-append_seam rows row [] [] ∙ e start us (subst (λ k. IsRowIn (list_of lists (get_or at (k + 2) 0)) ranks (k + 2) start us) d r)
 ]

@@ -1,7 +1,10 @@
 -- The rows of the contour over which the vertices of a run are put.
-use Rattle.std.specs.Prelude.{ℕ, zero, suc, ◌+◌, ◌-◌, ◌<◌, ◌≤◌, ◌≡◌, ◌⊎◌, ◌==◌, if◌then◌else◌, List, length, map, slice_index}
+use Rattle.std.specs.Prelude.{ℕ, zero, suc, ◌+◌, ◌-◌, ◌<◌, ◌≤◌, ◌≡◌, ◌⊎◌, ◌==◌, nat_lt, if◌then◌else◌, List, length, map, slice_index}
 use Rattle.map_lists.specs.Lists.{Lists}
-use Rattle.map_definitions.specs.Maps.{list_of}
+use Rattle.map_definitions.specs.Maps.{Dart, list_of}
+use Rattle.plane_laws.specs.Completed.{IsCompleted}
+use Rattle.canon_order.specs.Orders.{IsCanonicalOrder, IsRankOf}
+use Rattle.order_runs.specs.OrderRuns.{IsOrderRun}
 use Rattle.contour_runs.specs.Runs.{Step, Stage, stage_after, IsRun}
 
 -- the vertices of the contour from the first place of a step to its last
@@ -20,7 +23,7 @@ place_before n i = if i == 0 then n - 1 else i - 1
 
 -- the place after it
 abbrev pub place_after : ℕ → ℕ → ℕ
-place_after n i = if i + 1 == n then 0 else i + 1
+place_after n i = if nat_lt (i + 1) n then i + 1 else 0
 
 -- the place so many places before it
 abbrev pub back : ℕ → ℕ → ℕ → ℕ
@@ -51,10 +54,20 @@ pub record IsRowIn (list ranks : List ℕ) (k start : ℕ) (us : List ℕ) : Typ
   pub inner : (c : ℕ) → suc c < length us → ¬ IsLastPlace list ranks k (back (length list) start c)
   pub last : (c : ℕ) → suc c ≡ length us → IsLastPlace list ranks k (back (length list) start c)
 
--- us k is the row of the vertex of rank k, from the third on, in the lists of a map
-abbrev pub HasRows : Lists → List ℕ → List ℕ → (ℕ → List ℕ) → Type 0
-HasRows lists at ranks us = (k : ℕ) → 2 ≤ k → k < length at → (start : ℕ) × IsRowIn (list_of lists (slice_index at k)) ranks k start (us k)
+-- the rows in the lists of a map of the first vertices from the third on, by ranks
+abbrev pub AreRanked : Lists → List ℕ → List ℕ → Lists → Type 0
+AreRanked lists at ranks rows =
+    (k start : ℕ) (us : List ℕ) → k < length rows → IsRowIn (list_of lists (slice_index at (k + 2))) ranks (k + 2) start us → list_of rows k ≡ map (slice_index ranks) us
 
--- the first rows, by ranks
-abbrev pub AreRanked : List ℕ → (ℕ → List ℕ) → Lists → Type 0
-AreRanked ranks us rows = (k : ℕ) → k < length rows → list_of rows k ≡ map (slice_index ranks) (us (k + 2))
+-- In the list of the vertex of rank k + 2 stands a row, which by ranks is that of the step k.
+pub record IsOrderRow (list ranks : List ℕ) (steps : ℕ → Step) (k : ℕ) : Type 0 where
+  pub start : ℕ
+  pub us : List ℕ
+  pub found : IsRowIn list ranks (k + 2) start us
+  pub row : IsRow (stage_after steps k) (steps k) (map (slice_index ranks) us)
+
+-- So it is for each vertex of a canonical order from the third on, and a run of it.
+abbrev pub OrderRows : Type 0
+OrderRows =
+    (lists : Lists) (base : Dart) (at ranks : List ℕ) → IsCompleted lists → (order : IsCanonicalOrder lists base at) → IsRankOf ranks at → (steps : ℕ → Step) → IsOrderRun lists base at order.cycle steps
+    → (k : ℕ) → k + 2 < length at → IsOrderRow (list_of lists (slice_index at (k + 2))) ranks steps k

@@ -1,7 +1,7 @@
 //! The rows of the contour over which the vertices of an order are put, by their lists.
 ghost use Rattle.std.specs.Prelude.{◌≡◌, ◌<◌, ◌≤◌, ◌+◌, ◌^◌, ◌↔◌, ℕ, List, [], length, map, slice_index, All, IsTrue, IfOk};
 ghost use Rattle.map_definitions.specs.Maps.{list_of};
-ghost use Rattle.fpp_shift.specs.Rows.{place_before, place_after, rank_at, IsFirstPlace, IsLastPlace, IsRowIn, HasRows, AreRanked};
+ghost use Rattle.fpp_shift.specs.Rows.{place_before, place_after, rank_at, IsFirstPlace, IsLastPlace, IsRowIn, AreRanked, OrderRows};
 
 use half_edges::{Counts, Rotations, VertexList};
 use std::alloc::{AllocError, Global};
@@ -21,7 +21,7 @@ fn after(n: usize, i: usize) -> usize
     ensures place { result ≡ place_after n i }
     ensures within { result < n }
 {
-    if i + 1 == n { 0 } else { i + 1 }
+    if i + 1 < n { i + 1 } else { 0 }
 }
 
 // The rank of an entry.
@@ -95,6 +95,13 @@ fn fill_row(
     Ok(())
 }
 
+// The row of a vertex of a canonical order stands in its list, and is that of a step of the order's run.
+pub(crate) fn order_has_rows()
+    ensures { OrderRows }
+{
+    canon_order::run_ends();
+}
+
 // The rows of an order, from that of its third vertex on.
 pub(crate) fn order_rows(
     alloc: Global,
@@ -109,7 +116,7 @@ pub(crate) fn order_rows(
     requires vertices { (v : ℕ) → v < length lists.now → All (λ u. u < length ranks.now) (list_of lists.now v) }
     requires few { (u : ℕ) → slice_index ranks.now u < 2 ^ 16 }
     ensures count { IfOk result (λ rows. length rows + 2 ≡ length at.now) }
-    ensures rows { IfOk result (λ rows. (us : ℕ → List ℕ) → HasRows lists.now (map (λ v. v.0) at.now) ranks.now us → AreRanked ranks.now us rows) }
+    ensures rows { IfOk result (λ rows. AreRanked lists.now (map (λ v. v.0) at.now) ranks.now rows) }
 {
     let mut rows = Rotations::new(alloc);
     let mut row = Vec::new(alloc);

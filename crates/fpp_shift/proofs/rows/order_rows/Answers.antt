@@ -3,7 +3,7 @@ use Rattle.std.proofs.lemmas.List.{get_or-map, length-map}
 use Rattle.std.proofs.lemmas.Option.{get_or_from_slice_get}
 use Rattle.map_lists.specs.declared.ids.VertexId.{VertexId}
 use Rattle.map_definitions.specs.Maps.{list_of}
-use Rattle.fpp_shift.specs.Rows.{IsRowIn, HasRows, AreRanked}
+use Rattle.fpp_shift.specs.Rows.{IsRowIn, AreRanked}
 use Rattle.fpp_shift.proofs.RowLemmas.{AreRanked-more}
 use Rattle.fpp_shift.proofs.rows.order_rows.Goals as goal
 
@@ -18,12 +18,12 @@ loop-k-preserved c =
     let vertex : slice_index (map (λ v. v.0) c.args.at.now) k ≡ c.get.result.0 =
     get_or-map (λ v. v.0) c.args.at.now k c.get.result 0 (omega arith) ∙ ap (λ v. v.0) (get_or_from_slice_get c.args.at.now k c.get.result c.get.result c.get.ensures) in
     let list : list_of c.args.lists.now (slice_index (map (λ v. v.0) c.args.at.now) k) ≡ c.list-list.result.now = ap (list_of c.args.lists.now) vertex ∙ sym c.list-list.ensures in
-    let row_is : (us : ℕ → List ℕ) → HasRows c.args.lists.now (map (λ v. v.0) c.args.at.now) c.args.ranks.now us → c.deref.result.now ≡ map (slice_index c.args.ranks.now) (us (length c.loop-k.rows + 2)) = λ us h.
-    let row = h k from (omega (arith, length-map c.args.at.now (λ v. v.0))) in
-    let there = subst (λ list. IsRowIn list c.args.ranks.now k row.0 (us k)) list row.1 in
-    let here = subst (λ start. IsRowIn c.list-list.result.now c.args.ranks.now k start (us k)) (sym (c.first_place.ensures.place row.0 (us k) there)) there in
-    c.deref.ensures.value ∙ c.in_ok-fill_row.ensures (us k) here ∙ ap (λ i. map (slice_index c.args.ranks.now) (us i)) (sym count) in
+    let row_is : (start : ℕ) (us : List ℕ) → IsRowIn (list_of c.args.lists.now (slice_index (map (λ v. v.0) c.args.at.now) (length c.loop-k.rows + 2))) c.args.ranks.now (length c.loop-k.rows + 2) start us → c.deref.result.now ≡ map (slice_index c.args.ranks.now) us = λ start us h.
+    let at_k = subst (λ i. IsRowIn (list_of c.args.lists.now (slice_index (map (λ v. v.0) c.args.at.now) i)) c.args.ranks.now i start us) count h in
+    let there = subst (λ list. IsRowIn list c.args.ranks.now k start us) list at_k in
+    let here = subst (λ start. IsRowIn c.list-list.result.now c.args.ranks.now k start us) (sym (c.first_place.ensures.place start us there)) there in
+    c.deref.ensures.value ∙ c.in_ok-fill_row.ensures us here in
     record {
       count = omega (arith, ap length more, length-append c.loop-k.rows (c.deref.result.now ∷ []));
-      rows = λ us h. subst (λ rows. AreRanked c.args.ranks.now us rows) (sym more) (AreRanked-more c.args.ranks.now us c.loop-k.rows c.deref.result.now (c.loop-k.invariant.rows us h) (row_is us h));
+      rows = subst (λ rows. AreRanked c.args.lists.now (map (λ v. v.0) c.args.at.now) c.args.ranks.now rows) (sym more) (AreRanked-more c.args.lists.now (map (λ v. v.0) c.args.at.now) c.args.ranks.now c.loop-k.rows c.deref.result.now c.loop-k.invariant.rows row_is);
     }
