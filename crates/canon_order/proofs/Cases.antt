@@ -30,8 +30,8 @@ distinct_three a b c ab ac bc =
 three_first : IsOuterCycle (restricted (stands_in (take 3 at)) tetrahedron) 1 0 (1 ∷ 2 ∷ 0 ∷ [])
 unfolding entry_after
 three_first =
-    let map = restricted (stands_in (take 3 at)) tetrahedron in
-    let ws = 1 ∷ 2 ∷ 0 ∷ [] in
+    let map : Lists = restricted (stands_in (take 3 at)) tetrahedron in
+    let ws : List ℕ = 1 ∷ 2 ∷ 0 ∷ [] in
     record {
       long = omega arith;
       first = refl;
@@ -44,8 +44,8 @@ three_first =
 all_four : IsOuterCycle (restricted (stands_in (take 4 at)) tetrahedron) 1 0 (1 ∷ 3 ∷ 0 ∷ [])
 unfolding entry_after
 all_four =
-    let map = restricted (stands_in (take 4 at)) tetrahedron in
-    let ws = 1 ∷ 3 ∷ 0 ∷ [] in
+    let map : Lists = restricted (stands_in (take 4 at)) tetrahedron in
+    let ws : List ℕ = 1 ∷ 3 ∷ 0 ∷ [] in
     record {
       long = omega arith;
       first = refl;
@@ -71,7 +71,7 @@ face_320 = record { dart = (lit< tt, Contains-from_place_of 2 (0 ∷ 2 ∷ 1 ∷
 -- 2 over the base, and 3 over all
 put_two : IsPutOn tetrahedron (take 3 at) 2 (1 ∷ 0 ∷ []) (1 ∷ 2 ∷ 0 ∷ [])
 put_two =
-    let map = restricted (stands_in (take 3 at)) tetrahedron in
+    let map : Lists = restricted (stands_in (take 3 at)) tetrahedron in
     record {
       front = [];
       p = 1;
@@ -95,7 +95,7 @@ put_two =
 
 put_three : IsPutOn tetrahedron (take 4 at) 3 (1 ∷ 2 ∷ 0 ∷ []) (1 ∷ 3 ∷ 0 ∷ [])
 put_three =
-    let map = restricted (stands_in (take 4 at)) tetrahedron in
+    let map : Lists = restricted (stands_in (take 4 at)) tetrahedron in
     record {
       front = [];
       p = 1;

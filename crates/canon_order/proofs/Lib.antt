@@ -5,6 +5,6 @@ mod Lefts
 mod OrderLaws
 mod RunEnds
 mod LastCycle
-mod Counters
+pub mod Counters
 mod Marks
 mod Contours

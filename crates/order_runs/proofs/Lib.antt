@@ -1,0 +1,2 @@
+-- The lemmas on the runs of canonical orders.
+pub mod OrderIsRun

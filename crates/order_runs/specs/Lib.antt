@@ -1,0 +1,2 @@
+-- Canonical orders as runs.
+pub mod OrderRuns

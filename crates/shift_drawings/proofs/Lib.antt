@@ -1,0 +1,2 @@
+-- The lemmas on drawings by shift points.
+pub mod ShiftLemmas

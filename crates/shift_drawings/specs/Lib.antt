@@ -1,0 +1,2 @@
+-- Drawings by the shift method.
+pub mod ShiftDrawings
