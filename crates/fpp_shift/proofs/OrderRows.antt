@@ -58,8 +58,11 @@ module _ (lists : Lists) (base : Dart) (at ranks : List ℕ) (completed : IsComp
     abbrev us : List ℕ
     us = take (suc (k + 2)) at
 
+    later : 2 ≤ k + 2
+    later = omega arith
+
     abbrev put : IsPutOn lists us v (order.cycle (k + 2)) (order.cycle (suc (k + 2)))
-    put = order.built.put (k + 2) (omega arith) l
+    put = order.built.put (k + 2) later l
 
     abbrev over : IsPutOver v (order.cycle (k + 2)) (order.cycle (suc (k + 2)))
     over = record { front = put.front; p = put.p; middle = put.middle; q = put.q; back = put.back; before = put.before; after = put.after }
@@ -234,7 +237,7 @@ module _ (lists : Lists) (base : Dart) (at ranks : List ℕ) (completed : IsComp
             earlier = omega (arith, ap (λ u. get_or ranks u 0) e);
             begins = elim (cases_lt (suc (k + 2)) (length at)) [
               | inl more ↦
-                  let a = (ends lists base at completed order (k + 2) (omega arith) l more).after in
+                  let a = (ends lists base at completed order (k + 2) later l more).after in
                   inr (is_later (get_or list (Rattle.fpp_shift.specs.Rows.place_after (length list) start) 0) next_in (ap (stands_in us) (f ∙ ap (follows lists v) e) ∙ a))
               | inr top ↦
                   let z = (whole (omega arith)).0 in
@@ -300,7 +303,7 @@ module _ (lists : Lists) (base : Dart) (at ranks : List ℕ) (completed : IsComp
             | inl more ↦
                 let x : ℕ = get_or list (place_before (length list) i) 0 in
                 let b = place_before-lt (length list) i (back_in c) in
-                let n = (ends lists base at completed order (k + 2) (omega arith) l more).before x (v_in, Contains-get_or list (place_before (length list) i) 0 b) (entry_at_before list i distinct (back_in c) ∙ e ∙ q_at) in
+                let n = (ends lists base at completed order (k + 2) later l more).before x (v_in, Contains-get_or list (place_before (length list) i) 0 b) (entry_at_before list i distinct (back_in c) ∙ e ∙ q_at) in
                 inr (is_later x (in_lists (place_before (length list) i) b) n)
             | inr top ↦
                 let z = (whole (omega arith)).1 in
