@@ -6,3 +6,4 @@ mod Sums
 mod RunRows
 mod RowLemmas
 mod OrderRows
+mod DrawLemmas

@@ -1,6 +1,6 @@
 -- The row of a vertex of a canonical order, in its list and in a run.
-use Rattle.std.proofs.Common.{◌≡◌, ◌≢◌, ◌⊎◌, ◌+◌, ◌-◌, ◌<◌, ◌≤◌, ℕ, zero, suc, true, false, List, [], ◌∷◌, ◌++◌, length, map, get_or, take, AllPairs, Contains, refl, sym, ap, ◌∙◌, subst, inl, inr, arith, length-append}
-use Rattle.std.proofs.lemmas.Bool.{cases_lt, cases_eq, cases_Bool, true≢false}
+use Rattle.std.proofs.Common.{◌≡◌, ◌≢◌, ◌+◌, ◌-◌, ◌<◌, ◌≤◌, ℕ, zero, suc, true, false, List, [], ◌∷◌, ◌++◌, length, map, get_or, take, AllPairs, Contains, sym, ap, ◌∙◌, subst, inl, inr, arith, length-append}
+use Rattle.std.proofs.lemmas.Bool.{cases_lt, cases_eq, true≢false}
 use Rattle.std.proofs.lemmas.List.{get_or-map, length-map, get_or_default, get_or-take, length-take-le, get_or-append-add}
 use Rattle.std.proofs.lemmas.List.Elements.{Contains-get_or}
 use Rattle.std.proofs.Math.Seq.{get_or-append_seam}
@@ -14,9 +14,9 @@ use Rattle.map_peeling.proofs.RestrictedMaps.{restricted-old, restricted-new}
 use Rattle.canon_order.specs.Orders.{stands_in, IsPutOn, IsCanonicalOrder, IsRankOf}
 use Rattle.canon_order.specs.Laws.{RunEnds}
 use Rattle.canon_order.proofs.Counters.{same_place, all_of_them}
-use Rattle.contour_runs.specs.Runs.{Step, Stage, stage_after, vertex_after, place_after, IsStep, contour}
-use Rattle.contour_runs.specs.Laws.{IsStage, IsPutOver, row}
-use Rattle.contour_runs.proofs.Places.{vertex_after-new, place_after-new}
+use Rattle.contour_runs.specs.Runs.{Step, Stage, stage_after, IsStep, contour}
+use Rattle.contour_runs.specs.Laws.{IsStage, IsPutOver}
+use Rattle.contour_runs.proofs.Places.{place_after-new}
 use Rattle.contour_runs.proofs.Stages.{IsStage-run, IsRun-less, count-stage_after}
 use Rattle.contour_runs.proofs.Contours.{length-contour, get_or-contour}
 use Rattle.contour_runs.proofs.Growing.{get_or-row}

@@ -1,11 +1,10 @@
 -- What is written when a vertex is put over a row.
-use Rattle.std.proofs.Common.{◌≡◌, ◌≢◌, ◌⊎◌, ◌+◌, ◌-◌, ◌*◌, ◌/◌, ◌<◌, ◌≤◌, ℕ, zero, suc, List, length, get_or, set, take, drop, AllPairs, All, refl, sym, ap, ◌∙◌, subst, inl, inr, arith}
-use Rattle.std.proofs.lemmas.Bool.{cases_lt, cases_eq}
+use Rattle.std.proofs.Common.{◌≡◌, ◌≢◌, ◌+◌, ◌-◌, ◌*◌, ◌/◌, ◌<◌, ◌≤◌, ℕ, zero, suc, List, length, get_or, set, take, drop, AllPairs, All, sym, ap, ◌∙◌, subst, arith}
 use Rattle.std.proofs.lemmas.List.{get_or-set_same, get_or-set_other, get_or_default, length-set, length-take-le, length-drop, take_rest}
 use Rattle.std.proofs.lemmas.Grind.{get_or_after_one}
 use Rattle.std.proofs.Math.Seq.{take-length}
 use Rattle.contour_runs.specs.Runs.{Step, Stage, after}
-use Rattle.shift_points.specs.Shift.{Places, top_x, top_y}
+use Rattle.shift_points.specs.Shift.{Places, top_y}
 use Rattle.fpp_shift.specs.Offsets.{AreOffsets, IsPut, ArePassed, far_along, places_after}
 use Rattle.fpp_shift.proofs.Passes.{far_along-more}
 use Rattle.fpp_shift.proofs.Puts.{IsWritten, AreOffsets-after}

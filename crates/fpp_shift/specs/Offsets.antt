@@ -1,6 +1,6 @@
 -- The places of the shift method, each kept as an offset from another vertex.
 use Rattle.std.specs.Prelude.{ℕ, suc, ◌+◌, ◌<◌, ◌≤◌, ◌≡◌, ◌≢◌, List, length, slice_index, take, sum_by}
-use Rattle.contour_runs.specs.Runs.{Step, Stage, after, stage_after, IsStep}
+use Rattle.contour_runs.specs.Runs.{Step, Stage, IsStep}
 use Rattle.contour_runs.specs.Laws.{IsStage}
 use Rattle.shift_points.specs.Shift.{Places, x_after, y_after}
 use Rattle.shift_points.specs.Contours.{IsShift}

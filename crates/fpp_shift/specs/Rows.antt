@@ -17,6 +17,12 @@ pub record AreRows (steps : ℕ → Step) (rows : Lists) : Type 0 where
   pub run : IsRun steps (length rows)
   pub row : (k : ℕ) → k < length rows → IsRow (stage_after steps k) (steps k) (list_of rows k)
 
+-- These are all rows, at least one, of a run whose last vertex covers all but the base.
+pub record AreAllRows (steps : ℕ → Step) (rows : Lists) : Type 0 where
+  pub rows_are : AreRows steps rows
+  pub some : 1 ≤ length rows
+  pub end : (stage_after steps (length rows)).width ≡ 3
+
 -- the place before a place of a list of n, cyclically
 abbrev pub place_before : ℕ → ℕ → ℕ
 place_before n i = if i == 0 then n - 1 else i - 1

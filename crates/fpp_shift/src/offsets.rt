@@ -7,7 +7,7 @@
 ghost use Rattle.std.specs.Prelude.{◌≡◌, ◌≢◌, ◌<◌, ◌≤◌, ◌+◌, ◌^◌, ℕ, length, slice_index, All, AllPairs};
 ghost use Rattle.contour_runs.specs.Runs.{Step, Stage, after, stage_after};
 ghost use Rattle.shift_points.specs.Shift.{Places, shift_points};
-ghost use Rattle.fpp_shift.specs.Rows.{AreRows};
+ghost use Rattle.fpp_shift.specs.Rows.{AreRows, AreAllRows};
 ghost use Rattle.fpp_shift.specs.Offsets.{AreLastOffsets, AreOffsets, ArePassed, IsPut, far_along, places_after};
 
 use half_edges::Rotations;
@@ -51,7 +51,7 @@ fn put_over(offsets: &mut [u32], heights: &mut [u32], covers: &mut [u16], row: &
 }
 
 // Puts vertices over rows of the contour, one after another, from the third on.
-pub(crate) fn put_all(
+fn put_all(
     offsets: &mut [u32],
     heights: &mut [u32],
     covers: &mut [u16],
@@ -72,7 +72,7 @@ pub(crate) fn put_all(
 }
 
 // Adds the offsets up, from the last vertex on.
-pub(crate) fn add_up(offsets: &mut [u32], heights: &[u32], covers: &[u16])
+fn add_up(offsets: &mut [u32], heights: &[u32], covers: &[u16])
     requires heights { length heights.now ≡ length offsets.old }
     requires covers { length covers.now ≡ length offsets.old }
     requires few { length offsets.old < 4096 }
@@ -86,4 +86,25 @@ pub(crate) fn add_up(offsets: &mut [u32], heights: &[u32], covers: &[u16])
         let w = covers[v] as usize;
         offsets[v] = offsets[w] + offsets[v] - heights[w];
     }
+}
+
+// The places of the vertices of a run, by its rows: x in `offsets`, and y in `heights`.
+pub(crate) fn find_places(
+    offsets: &mut [u32],
+    heights: &mut [u32],
+    covers: &mut [u16],
+    rows: &Rotations,
+)
+    requires heights { length heights.old ≡ length offsets.old }
+    requires covers { length covers.old ≡ length offsets.old }
+    requires few { length offsets.old < 4096 }
+    requires rows { length rows.now + 2 ≡ length offsets.old }
+    requires zeros { (u : ℕ) → (slice_index offsets.old u ≡ 0) × (slice_index heights.old u ≡ 0) }
+    requires run { (steps : ℕ → Step) × AreAllRows steps rows.now }
+    ensures { (steps : ℕ → Step) → AreAllRows steps rows.now → (k : ℕ) → k < length offsets.old
+        → (slice_index offsets.new k ≡ (shift_points steps (length rows.now)).x k)
+        × (slice_index heights.new k ≡ (shift_points steps (length rows.now)).y k) }
+{
+    put_all(offsets, heights, covers, rows);
+    add_up(offsets, heights, covers);
 }

@@ -112,7 +112,7 @@ pub(crate) fn order_rows(
     requires many { 2 ≤ length at.now }
     requires size { length at.now < 4096 }
     requires at { All (λ v. v.0 < length lists.now) at.now }
-    requires some { (v : ℕ) → v < length lists.now → 0 < length (list_of lists.now v) }
+    requires some { (k : ℕ) → 2 ≤ k → k < length at.now → 0 < length (list_of lists.now (slice_index (map (λ v. v.0) at.now) k)) }
     requires vertices { (v : ℕ) → v < length lists.now → All (λ u. u < length ranks.now) (list_of lists.now v) }
     requires few { (u : ℕ) → slice_index ranks.now u < 2 ^ 16 }
     ensures count { IfOk result (λ rows. length rows + 2 ≡ length at.now) }

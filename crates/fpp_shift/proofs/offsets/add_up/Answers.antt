@@ -1,4 +1,4 @@
-use Rattle.std.proofs.Common.{◌≡◌, ◌+◌, ◌-◌, ◌<◌, ℕ, suc, length, get_or, sym, subst, arith}
+use Rattle.std.proofs.Common.{◌≡◌, ◌+◌, ◌-◌, suc, length, get_or, subst, arith}
 use Rattle.std.proofs.lemmas.List.{length-set}
 use Rattle.fpp_shift.specs.Offsets.{AreSums}
 use Rattle.fpp_shift.proofs.Sums.{cover_in, AreSums-init, room, no_less, AreSums-less, x_of_sums}

@@ -1,5 +1,4 @@
-use Rattle.std.proofs.Common.{◌≡◌, ◌+◌, ◌<◌, ℕ, suc, length, slice_index, slice_set, get_or, take, Fits, w32, refl, sym, ap, ◌∙◌, subst, arith, rules}
-use Rattle.std.proofs.Math.Seq.{take-length}
+use Rattle.std.proofs.Common.{◌≡◌, ◌+◌, ℕ, suc, slice_index, slice_set, take, sym, ap, ◌∙◌, subst, arith}
 use Rattle.fpp_shift.specs.Offsets.{ArePassed, far_along}
 use Rattle.fpp_shift.proofs.Passes.{ArePassed-more, far-next, far_along-le}
 use Rattle.fpp_shift.proofs.offsets.pass.Goals as goal

@@ -1,4 +1,4 @@
-use Rattle.std.proofs.Common.{◌≡◌, ◌+◌, ◌<◌, ℕ, suc, length, get_or, sym, ap, subst, arith}
+use Rattle.std.proofs.Common.{◌≡◌, ◌+◌, ℕ, suc, length, sym, subst, arith}
 use Rattle.contour_runs.specs.Runs.{stage_after}
 use Rattle.shift_points.specs.Shift.{shift_points}
 use Rattle.fpp_shift.specs.Offsets.{AreOffsets, IsPut}

@@ -1,4 +1,4 @@
-use Rattle.std.proofs.Common.{◌≡◌, ◌+◌, ◌<◌, ℕ, length, get_or, arith}
+use Rattle.std.proofs.Common.{length, arith}
 use Rattle.fpp_shift.proofs.Writes.{tail_within, tail_distinct, tail_small, last_small, start_below, below_far, AreOffsets-put}
 use Rattle.fpp_shift.proofs.offsets.put_over.Goals as goal
 

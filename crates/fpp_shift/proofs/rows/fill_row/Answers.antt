@@ -1,4 +1,4 @@
-use Rattle.std.proofs.Common.{◌≡◌, ◌+◌, ◌<◌, ℕ, suc, [], ◌∷◌, ◌++◌, IsTrue, length, map, slice_index, take, sym, ap, ◌∙◌, subst, arith}
+use Rattle.std.proofs.Common.{◌≡◌, ◌+◌, ℕ, suc, [], ◌∷◌, ◌++◌, length, map, slice_index, take, sym, ap, ◌∙◌, arith}
 use Rattle.std.proofs.lemmas.Bool.{true≢false}
 use Rattle.fpp_shift.specs.Rows.{IsLastPlace, back, place_before}
 use Rattle.fpp_shift.proofs.RowLemmas.{ranked-more, ended, not_ended}

@@ -1,7 +1,6 @@
-use Rattle.std.proofs.Common.{◌≡◌, ◌+◌, ◌<◌, ◌≤◌, ℕ, suc, List, [], ◌∷◌, ◌++◌, length, map, get_or, slice_index, slice_index_or, sym, ap, ◌∙◌, subst, arith, length-append}
-use Rattle.std.proofs.lemmas.List.{get_or-map, length-map}
+use Rattle.std.proofs.Common.{◌≡◌, ◌+◌, ◌<◌, ℕ, List, [], ◌∷◌, length, map, slice_index, sym, ap, ◌∙◌, subst, arith, length-append}
+use Rattle.std.proofs.lemmas.List.{get_or-map}
 use Rattle.std.proofs.lemmas.Option.{get_or_from_slice_get}
-use Rattle.map_lists.specs.declared.ids.VertexId.{VertexId}
 use Rattle.map_definitions.specs.Maps.{list_of}
 use Rattle.fpp_shift.specs.Rows.{IsRowIn, AreRanked}
 use Rattle.fpp_shift.proofs.RowLemmas.{AreRanked-more}
@@ -27,3 +26,14 @@ loop-k-preserved c =
       count = omega (arith, ap length more, length-append c.loop-k.rows (c.deref.result.now ∷ []));
       rows = subst (λ rows. AreRanked c.args.lists.now (map (λ v. v.0) c.args.at.now) c.args.ranks.now rows) (sym more) (AreRanked-more c.args.lists.now (map (λ v. v.0) c.args.at.now) c.args.ranks.now c.loop-k.rows c.deref.result.now c.loop-k.invariant.rows row_is);
     }
+
+pub first_place-requires-clause-some : goal.first_place-requires-clause-some
+first_place-requires-clause-some c =
+    let k : ℕ = c.loop-k.k in
+    let test = c.loop-k-test.true in
+    let len = c.len-k-end.ensures in
+    let from = c.loop-k.auto.k in
+    let vertex : slice_index (map (λ v. v.0) c.args.at.now) k ≡ c.get.result.0 =
+    get_or-map (λ v. v.0) c.args.at.now k c.get.result 0 (omega arith) ∙ ap (λ v. v.0) (get_or_from_slice_get c.args.at.now k c.get.result c.get.result c.get.ensures) in
+    let list : list_of c.args.lists.now (slice_index (map (λ v. v.0) c.args.at.now) k) ≡ c.list-list.result.now = ap (list_of c.args.lists.now) vertex ∙ sym c.list-list.ensures in
+    subst (λ (us : List ℕ). 0 < length us) list (c.requires.some k from (omega arith))

@@ -1,4 +1,4 @@
-use Rattle.std.proofs.Common.{◌≡◌, ◌+◌, ℕ, List, length, map}
+use Rattle.std.proofs.Common.{◌≡◌, ◌+◌, length, map}
 use Rattle.fpp_shift.specs.Rows.{AreRanked}
 use Rattle.fpp_shift.proofs.rows.order_rows.Given as goal
 
