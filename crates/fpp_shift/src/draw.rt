@@ -40,12 +40,7 @@ fn point_at(xs: &[u32], ys: &[u32], k: usize) -> Point
 }
 
 // The points of vertices, by their ranks.
-fn points_at(
-    alloc: Global,
-    xs: &[u32],
-    ys: &[u32],
-    ranks: &Counts,
-) -> Result<Points, AllocError>
+fn points_at(alloc: Global, xs: &[u32], ys: &[u32], ranks: &Counts) -> Result<Points, AllocError>
     requires ys { length ys.now ≡ length xs.now }
     requires ranks { All (λ k. k < length xs.now) ranks.now }
     requires small { (k : ℕ) → k < length xs.now → (slice_index xs.now k < 2 ^ 20) × (slice_index ys.now k < 2 ^ 20) }

@@ -51,12 +51,7 @@ fn put_over(offsets: &mut [u32], heights: &mut [u32], covers: &mut [u16], row: &
 }
 
 // Puts vertices over rows of the contour, one after another, from the third on.
-fn put_all(
-    offsets: &mut [u32],
-    heights: &mut [u32],
-    covers: &mut [u16],
-    rows: &Rotations,
-)
+fn put_all(offsets: &mut [u32], heights: &mut [u32], covers: &mut [u16], rows: &Rotations)
     requires heights { length heights.old ≡ length offsets.old }
     requires covers { length covers.old ≡ length offsets.old }
     requires few { length offsets.old < 4096 }

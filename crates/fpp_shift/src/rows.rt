@@ -123,7 +123,13 @@ pub(crate) fn order_rows(
     for k in 2..at.len() {
         let list = lists.list(at.get(k).0 as usize);
         row.clear();
-        fill_row(&mut row, list, ranks, k as u32, first_place(list, ranks, k as u32))?;
+        fill_row(
+            &mut row,
+            list,
+            ranks,
+            k as u32,
+            first_place(list, ranks, k as u32),
+        )?;
         rows.push(&row)?;
     }
     Ok(rows)

@@ -1,4 +1,4 @@
-//! Drawings that were worked out by hand, and drawings that are checked.
+//! Drawings that were worked out by hand.
 use crate::shift_draw;
 use canon_order::canon_order;
 use euler_faces::euler;
@@ -55,5 +55,24 @@ fn k4(rt: HostRuntime) -> Result<(), Fail> {
     let lists: [&[u16]; 4] = [&[1, 2, 3], &[0, 3, 2], &[0, 1, 3], &[0, 2, 1]];
     let figure = drawing_of(&rt, rt.alloc(), &lists)?;
     is_drawing(&rt, &figure, &[(4, 0), (0, 0), (2, 1), (2, 2)]);
+    Ok(())
+}
+
+#[test]
+fn octahedron(rt: HostRuntime) -> Result<(), Fail> {
+    let lists: [&[u16]; 6] = [
+        &[1, 2, 3, 4],
+        &[0, 4, 5, 2],
+        &[0, 1, 5, 3],
+        &[0, 2, 5, 4],
+        &[0, 3, 5, 1],
+        &[1, 4, 3, 2],
+    ];
+    let figure = drawing_of(&rt, rt.alloc(), &lists)?;
+    is_drawing(
+        &rt,
+        &figure,
+        &[(8, 0), (0, 0), (5, 1), (4, 3), (4, 4), (3, 2)],
+    );
     Ok(())
 }

@@ -49,8 +49,7 @@ drawn-requires-clause-run c =
     let at = vertices_of c.args.order.now in
     let run = c.order_is_run.ensures c.args.tri.now.lists base at c.requires.completed order in
     let ranked = subst (λ (lists : Lists). AreRanked lists at c.args.order.now.rank c.in_ok-rows.rows) c.in_ok-lists.ensures c.in_ok-rows.ensures.rows in
-    let count = c.in_ok-rows.ensures.count in
-    (
+    let count = c.in_ok-rows.ensures.count in (
       run.0,
       AreAllRows-order c.args.tri.now.lists base at c.args.order.now.rank c.requires.completed order c.requires.rank c.order_has_rows.ensures run.0 run.1 c.in_ok-rows.rows (omega (arith, length-map c.args.order.now.at (λ v. v.0))) ranked,
     )

@@ -33,5 +33,5 @@ loop-u-preserved c =
     record {
       far = far ∙ ap (λ i. far_along c.args.start c.args.offsets.now (take i us)) e;
       passed = subst (λ i. ArePassed c.args.start c.args.v us i c.args.offsets.now (slice_set c.loop-u.offsets (slice_index us j) (c.loop-u.far + slice_index c.loop-u.offsets (slice_index us j) + 1)) c.args.covers.now (slice_set c.loop-u.covers (slice_index us j) c.args.v)) e
-      (subst (λ f. ArePassed c.args.start c.args.v us (suc j) c.args.offsets.now (slice_set c.loop-u.offsets (slice_index us j) (f + 1)) c.args.covers.now (slice_set c.loop-u.covers (slice_index us j) c.args.v)) (sym far) more);
+          (subst (λ f. ArePassed c.args.start c.args.v us (suc j) c.args.offsets.now (slice_set c.loop-u.offsets (slice_index us j) (f + 1)) c.args.covers.now (slice_set c.loop-u.covers (slice_index us j) c.args.v)) (sym far) more);
     }

@@ -13,8 +13,7 @@ loop-count-preserved c = record {
       let e : suc j ≡ j + 1 = omega arith in
       let no : ¬ IsLastPlace c.args.list.now c.args.ranks.now c.args.k c.loop-count.i = λ last. absurd (true≢false (sym (c.is_last.ensures.1 last) ∙ c.if-is_last.false)) in
       let more = not_ended c.args.list.now c.args.ranks.now c.args.k c.args.start us h j c.loop-count.i now.0 now.1 no in
-      let rank = ranked-more c.args.list.now c.args.ranks.now c.args.k c.args.start us h j c.loop-count.i now.0 now.1 c.loop-count.row.items now.2 in
-      (
+      let rank = ranked-more c.args.list.now c.args.ranks.now c.args.k c.args.start us h j c.loop-count.i now.0 now.1 c.loop-count.row.items now.2 in (
         omega arith,
         c.before-i.ensures.place ∙ ap (place_before (length c.args.list.now)) now.1 ∙ ap (back (length c.args.list.now) c.args.start) e,
         c.in_ok-push.ensures.items ∙ ap (λ r. c.loop-count.row.items ++ r ∷ []) c.entry_rank.ensures ∙ rank ∙ ap (λ i. map (slice_index c.args.ranks.now) (take i us)) e,
