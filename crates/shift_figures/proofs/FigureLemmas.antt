@@ -3,11 +3,11 @@ use Rattle.std.proofs.Common.{◌≡◌, ◌⊎◌, ℕ, ◌*◌, ◌-◌, ◌<�
 use Rattle.std.specs.Prelude.{Option, Some, None, IfSome, IfNone, MatchOption}
 use Rattle.std.proofs.lemmas.Bool.{true≢false}
 use Rattle.map_lists.specs.Lists.{Lists}
-use Rattle.map_definitions.specs.Maps.{HasDart, IsSimpleMap, list_of, follows, component_count}
+use Rattle.map_definitions.specs.Maps.{HasDart, IsSimpleMap, IsPlane, list_of, follows, component_count}
 use Rattle.map_definitions.proofs.DartLemmas.{HasDart-follows, HasDart-at}
 use Rattle.plane_laws.specs.Completed.{IsCompleted}
 use Rattle.plane_laws.proofs.EdgeBound.{met_connected}
-use Rattle.map_edits.specs.Completed.{IsExtended}
+use Rattle.map_edits.specs.Completed.{IsExtended, Completion}
 use Rattle.map_peeling.proofs.Counted.{marks_everywhere}
 use Rattle.map_lists.specs.declared.ids.DartId.{DartId}
 use Rattle.half_edges.specs.Map.{Map, dart_at, first_dart}
@@ -15,8 +15,10 @@ use Rattle.pg_plane.specs.declared.figure.GridFigure.{GridFigure}
 use Rattle.drawings.specs.Drawing.{place, IsCounterclockwise}
 use Rattle.draw_check.specs.Laws.{IsValid}
 use Rattle.draw_check.specs.Outer.{HasOuterFace}
-use Rattle.draw_check.proofs.ValidFewer.{valid_with_fewer}
+use Rattle.draw_check.proofs.ValidFewer.{dart_more, valid_with_fewer}
 use Rattle.draw_check.proofs.OuterFewer.{outer_fewer}
+use Rattle.shift_drawings.specs.ShiftDrawings.{SomeShiftPoints, ShiftPointsDraw}
+use Rattle.canon_order.specs.Laws.{SomeOrder}
 use Rattle.shift_figures.specs.Bases.{LeadsToLeast, IsDrawnFor}
 use Rattle.shift_figures.specs.Figures.{point_at, IsPlaced, IsShiftFigure}
 
@@ -100,3 +102,35 @@ base_of_choice map tri (Some d) base is stays given least = record {
   dart = ap (λ (b : DartId). dart_at tri b.0) given ∙ stays d.0 0 (get_or (list_of map.lists 0) 0 0) is;
   first = λ l. refl;
 }
+
+-- a base as a drawing wants it
+some_base : (lists more : Lists) → IsSimpleMap lists → IsCompleted more → IsExtended lists more → (s : ℕ) × HasDart more 0 s × (0 < length (list_of lists 0) → s ≡ get_or (list_of lists 0) 0 0)
+some_base lists more simple completed extended =
+    let some = completed.some in
+    elim (entry_or_none (list_of lists 0)) [
+      | inl e ↦
+          let none = ap length e in
+          let s = get_or (list_of more 0) 0 0 in
+          (s, HasDart-at more 0 0 0 (omega arith) (neighbour_in_completed more completed), λ l. absurd (omega arith))
+      | inr l ↦
+          let s = get_or (list_of lists 0) 0 0 in
+          (s, dart_more lists more [] simple completed.simple extended 0 s (HasDart-at lists 0 0 0 simple.some_vertex l), λ m. refl)
+    ]
+
+-- so each map that can be completed has a figure
+pub some_figure : (lists : Lists) → Completion → SomeOrder → SomeShiftPoints → ShiftPointsDraw → IsSimpleMap lists → IsPlane lists → 3 ≤ length lists → (figure : GridFigure) × IsShiftFigure lists figure
+some_figure lists completion orders some_points draw simple plane some =
+    let more = completion lists simple plane some in
+    let base = some_base lists more.0 simple more.1 more.2 in
+    let order = orders more.0 (0, base.0) more.1 base.1 in
+    let points = some_points more.0 (0, base.0) order.0 more.1 order.1 in
+    let figure : GridFigure = record { points = points.0; width = pos (2 * length more.0 - 4); height = pos (length more.0 - 2) } in
+    (
+      figure,
+      figure_of_drawing lists more.0 simple more.1 more.2 base.0 base.1 base.2 figure (record {
+        count = points.1.count;
+        drawing = draw more.0 (0, base.0) order.0 points.0 more.1 base.1 order.1 points.1;
+        width = refl;
+        height = refl;
+      }),
+    )

@@ -3,3 +3,4 @@ pub mod Figures
 pub mod Refusals
 pub mod Names
 pub mod Bases
+pub mod Laws
