@@ -1,2 +1,6 @@
 -- The text of figures.
 pub mod Text
+pub mod Words
+pub mod Lines
+pub mod Reading
+pub mod Drafts

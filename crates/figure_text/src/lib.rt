@@ -4,9 +4,15 @@
 //! neighbours in clockwise order, all numbered from 1.
 #![tactic(auto)]
 
+mod fault;
 mod figure;
+mod judge;
+mod lines;
 mod print;
+mod rows;
+mod words;
 
+pub use fault::TextFault;
 pub use figure::{Figure, GridJob};
 pub use print::print_figure;
 

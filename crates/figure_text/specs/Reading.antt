@@ -1,0 +1,93 @@
+-- The reading of the text of figures: closed lines one after another, each with the shape that is due.
+use Rattle.std.specs.Prelude.{ℕ, zero, suc, ℤ, ◌+◌, ◌<◌, ◌≤◌, ◌≡◌, ◌≢◌, ◌⊎◌, Bool, true, false, ◌||◌, nat_lt, bytes_eq, IsTrue, IsFalse, List, [], ◌∷◌, ◌++◌, length, take, drop, map, flat_map, slice_index_or, All, codes, Some}
+use Rattle.map_lists.specs.Lists.{Lists}
+use Rattle.pg_plane.specs.declared.point.Point.{Point}
+use Rattle.figure_text.specs.declared.figure.Figure.{Figure}
+use Rattle.figure_text.specs.declared.figure.Figure.TheVariants.{Grid as GridFigure, Bars as BarsFigure}
+use Rattle.figure_text.specs.declared.words.Word.{Word}
+use Rattle.figure_text.specs.declared.judge.Kind.{Kind}
+use Rattle.figure_text.specs.declared.judge.Kind.TheVariants.{Grid, Bars}
+use Rattle.figure_text.specs.declared.judge.Judged.{Judged}
+use Rattle.figure_text.specs.declared.judge.Judged.TheVariants.{Bad, Limit as BeyondLimit, Good}
+use Rattle.figure_text.specs.declared.fault.TextFault.{TextFault}
+use Rattle.figure_text.specs.declared.fault.TextFault.TheVariants.{BadLine, EndInFigure, Limit, NoMemory}
+use Rattle.figure_text.specs.Words.{words_of, word_at}
+use Rattle.figure_text.specs.Lines.{size, kind_of, vertex_of, integer_of, IsFirstLine, FirstInRange, IsGridLine, GridInRange, IsBarLine, BarsInRange, IsColumnsLine, ColumnsInRange}
+
+-- a line without the byte 10 that closes it
+abbrev pub IsPlain : List ℕ → Type 0
+IsPlain line = All (λ b. b ≢ 10) line
+
+-- lines, each closed by byte 10
+abbrev pub closed : List (List ℕ) → List ℕ
+closed lines = flat_map (λ line. line ++ 10 ∷ []) lines
+
+-- a line is closed at the front of a text, and this is left behind it
+pub record IsLine (text line rest : List ℕ) : Type 0 where
+  pub parts : text ≡ line ++ 10 ∷ rest
+  pub plain : IsPlain line
+
+-- what a line is worth, by its shape and the ranges of its numbers
+abbrev pub Judges : Type 0 → Type 0 → Judged → Type 0
+Judges shape range Bad = ¬ shape
+Judges shape range BeyondLimit = shape × ¬ range
+Judges shape range Good = shape × range
+
+-- the shape and the ranges of the line of a vertex
+abbrev pub IsRow : Kind → ℕ → List Word → Type 0
+IsRow (Grid job) place words = IsGridLine place words
+IsRow Bars place words = IsBarLine place words
+
+abbrev pub RowInRange : Kind → List Word → Type 0
+RowInRange (Grid job) words = GridInRange words
+RowInRange Bars words = BarsInRange words
+
+-- the text begins with the words and a space
+abbrev pub begins : List ℕ → List ℕ → Bool
+begins line word = bytes_eq (take (length word) line) word
+
+-- a note: what other jobs write
+abbrev pub is_note : List ℕ → Bool
+is_note line =
+    begins line (codes "count ") || begins line (codes "refused ") || begins line (codes "verdict ") || begins line (codes "end ")
+    || begins line (codes "stop ")
+
+-- a line that is the next vertex's, within its ranges
+abbrev pub IsGoodRow : Kind → ℕ → List ℕ → Type 0
+IsGoodRow kind place line = IsRow kind place (words_of line) × RowInRange kind (words_of line)
+
+-- Closed lines at the front of a text, each the line of the next vertex from vertex 1 on, and what is left.
+pub record Rows (kind : Kind) (text : List ℕ) (lines : List (List ℕ)) (rest : List ℕ) : Type 0 where
+  pub parts : text ≡ closed lines ++ rest
+  pub plain : All IsPlain lines
+  pub good : (i : ℕ) → i < length lines → IsGoodRow kind (i + 1) (slice_index_or lines i [])
+
+-- the lines before a line that is due, of the first so many, and from there on this
+pub record StopsAt (kind : Kind) (n : ℕ) (text : List ℕ) (lines : List (List ℕ)) (rest : List ℕ) : Type 0 where
+  pub rows : Rows kind text lines rest
+  pub few : length lines < n
+
+-- the point that the line of a vertex gives
+abbrev pub point_of : List Word → Point
+point_of words = record { x = integer_of (word_at words 2); y = integer_of (word_at words 3) }
+
+-- the words from number n on, as vertices
+abbrev pub vertices_from : ℕ → List Word → List ℕ
+vertices_from n words = map vertex_of (drop n words)
+
+-- a kind of line, of each of some lines
+abbrev pub of_lines : {A : Type 0} → (List Word → A) → List (List ℕ) → List A
+of_lines value lines = map (λ line. value (words_of line)) lines
+
+-- The n lines behind the first line `line` of a figure do not all come: one has another shape, or a number outside its
+-- range, or the text ends before it is closed.
+abbrev pub RowsFail : Kind → ℕ → List ℕ → ℕ → TextFault → Type 0
+RowsFail kind n text first (BadLine k) =
+    (lines : List (List ℕ)) × (line : List ℕ) × (rest : List ℕ) × StopsAt kind n text lines (line ++ 10 ∷ rest) × IsPlain line
+    × (¬ IsRow kind (length lines + 1) (words_of line)) × (k ≡ first + 1 + length lines)
+RowsFail kind n text first (Limit k) =
+    (lines : List (List ℕ)) × (line : List ℕ) × (rest : List ℕ) × StopsAt kind n text lines (line ++ 10 ∷ rest) × IsPlain line
+    × IsRow kind (length lines + 1) (words_of line) × (¬ RowInRange kind (words_of line)) × (k ≡ first + 1 + length lines)
+RowsFail kind n text first (EndInFigure k) =
+    (lines : List (List ℕ)) × (rest : List ℕ) × StopsAt kind n text lines rest × IsPlain rest × (k ≡ first)
+RowsFail kind n text first NoMemory = Unit {0}

@@ -1,0 +1,80 @@
+-- The words of a line, and the numbers among them.
+use Rattle.std.specs.Prelude.{ℕ, ◌+◌, ◌-◌, ◌*◌, Bool, true, false, not, ◌&&◌, ◌==◌, nat_lt, min, if◌then◌else◌, List, [], ◌∷◌, length, take, drop, map, slice_index, slice_index_or, codes, bytes_eq, Option, Some, None, option_map}
+use Rattle.std.specs.List.{slice_split}
+use Rattle.figure_text.specs.declared.words.Signed.{Signed}
+use Rattle.figure_text.specs.declared.words.Word.{Word}
+use Rattle.figure_text.specs.declared.words.Word.TheVariants.{Number, Closing, Named, Other}
+use Rattle.figure_text.specs.declared.words.Name.TheVariants.{Figure, Shift, Schnyder, Bars, At, Y, X, Columns}
+
+-- what numbers beyond all ranges are taken for
+abbrev pub far : ℕ
+far = 100000000
+
+-- a byte from 0 to 9
+abbrev pub is_digit : ℕ → Bool
+is_digit b = not (nat_lt b 48) && nat_lt b 58
+
+-- the number whose decimal digits are those of n and then these, or nothing where a byte is no digit
+abbrev pub decimal_from : ℕ → List ℕ → Option ℕ
+decimal_from n [] = Some n
+decimal_from n (b ∷ bytes) = if is_digit b then decimal_from (10 * n + (b - 48)) bytes else None
+
+-- one digit more for a number that is cut to `far`
+abbrev pub one_more : ℕ → ℕ → Option ℕ
+one_more n b = if is_digit b then Some (min far (10 * n + (b - 48))) else None
+
+-- digits begin with 0 only where they are just that, and there is one at least
+abbrev pub canonical : List ℕ → Bool
+canonical [] = false
+canonical (b ∷ []) = true
+canonical (b ∷ c ∷ bytes) = not (b == 48)
+
+-- the number that a word is, if it is one
+abbrev pub number_of : List ℕ → Option ℕ
+number_of word = if canonical word then option_map (min far) (decimal_from 0 word) else None
+
+-- a number without a minus
+abbrev pub plus : Option ℕ → Option Signed
+plus None = None
+plus (Some n) = Some (record { negative = false; size = n })
+
+-- a number behind a minus, which is not 0
+abbrev pub minus : Option ℕ → Option Signed
+minus None = None
+minus (Some n) = if n == 0 then None else Some (record { negative = true; size = n })
+
+-- the signed number that a word is, if it is one
+abbrev pub signed_of : List ℕ → Option Signed
+signed_of [] = None
+signed_of (b ∷ bytes) = if b == 45 then minus (number_of bytes) else plus (number_of (b ∷ bytes))
+
+-- a signed number, or one before a colon
+abbrev pub numeral_word : Option Signed → Option Signed → Word
+numeral_word (Some z) closed = Number z
+numeral_word None (Some z) = Closing z
+numeral_word None None = Other
+
+-- the signed number before the colon with which a word ends
+abbrev pub closing_of : List ℕ → Option Signed
+closing_of word = if slice_index word (length word - 1) == 58 then signed_of (take (length word - 1) word) else None
+
+-- what a word is
+abbrev pub word_of : List ℕ → Word
+word_of word =
+    if bytes_eq word (codes "figure") then Named Figure
+    else if bytes_eq word (codes "shift") then Named Shift
+    else if bytes_eq word (codes "schnyder") then Named Schnyder
+    else if bytes_eq word (codes "bars") then Named Bars
+    else if bytes_eq word (codes "at") then Named At
+    else if bytes_eq word (codes "y") then Named Y
+    else if bytes_eq word (codes "x") then Named X
+    else if bytes_eq word (codes "columns") then Named Columns
+    else numeral_word (signed_of word) (closing_of word)
+
+-- the words of a line stand between its spaces
+abbrev pub words_of : List ℕ → List Word
+words_of line = map word_of (slice_split (λ b. b == 32) line)
+
+-- word number i
+abbrev pub word_at : List Word → ℕ → Word
+word_at words i = slice_index_or words i Other

@@ -1,0 +1,15 @@
+//! Why no figure is read.
+
+/// A bad place of a text, by the number of a line.
+#[derive(Clone, Copy, Debug, PartialEq, Eq)]
+pub enum TextFault {
+    /// This closed line does not have the shape that is due there, or this line stands outside a figure and
+    /// is not closed.
+    BadLine(u32),
+    /// The text ends before the figure that began at this line has all its lines closed.
+    EndInFigure(u32),
+    /// This line has the due shape, but a number is outside its range.
+    Limit(u32),
+    /// There was not enough memory.
+    NoMemory,
+}

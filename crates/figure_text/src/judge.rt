@@ -1,0 +1,279 @@
+//! Which shape a line has, and whether its numbers are within their ranges.
+ghost use Rattle.std.specs.Prelude.{◌≡◌, ◌↔◌, ◌<◌, ◌≤◌, ◌-◌, length, drop, map, slice_index_or, IsTrue, IfOk, All};
+ghost use Rattle.std.specs.Prelude.{if◌then◌else◌};
+ghost use Rattle.figure_text.specs.Reading.{Judges, IsRow, RowInRange};
+ghost use Rattle.figure_text.specs.Words.{word_at};
+ghost use Rattle.figure_text.specs.Lines.{size, is_natural, is_number, is_closing, kind_of, vertex_of, integer_of, IsInside, IsVertex, IsPlaced, IsFirstLine, FirstInRange, IsGridHead, IsGridLine, GridInRange, IsBarHead, IsBarLine, BarsInRange, IsColumnsLine, ColumnsInRange};
+
+use crate::GridJob;
+use crate::words::{Name, Word};
+use std::alloc::{AllocError, Global};
+
+/// What a figure's first line says of the lines to come.
+#[derive(Clone, Copy, Debug, PartialEq, Eq)]
+pub enum Kind {
+    /// Lines of a straight-line drawing.
+    Grid(GridJob),
+    /// Lines of bars, and one of columns.
+    Bars,
+}
+
+/// What a line is worth.
+#[derive(Clone, Copy, Debug, PartialEq, Eq)]
+pub enum Judged {
+    /// It does not have the shape that is due.
+    Bad,
+    /// It has that shape, and a number outside its range.
+    Limit,
+    /// It has that shape, and its numbers are within their ranges.
+    Good,
+}
+
+// The greatest size of a coordinate.
+pub const MOST: u32 = 1_048_576;
+
+// Word number `i`, or `Other` behind the last.
+pub fn word(words: &[Word], i: usize) -> Word
+    ensures { result ≡ word_at words.now i }
+{
+    if i < words.len() { words[i] } else { Word::Other }
+}
+
+// The size of the number that a word is, and 0 for any other word.
+pub fn size_of(word: Word) -> u32
+    ensures { result ≡ size word }
+{
+    match word {
+        Word::Number(z) => z.size,
+        Word::Closing(z) => z.size,
+        _ => 0,
+    }
+}
+
+// Whether a word is a number without a minus.
+fn is_natural_word(word: Word) -> bool
+    ensures { result ≡ is_natural word }
+{
+    match word {
+        Word::Number(z) => !z.negative,
+        _ => false,
+    }
+}
+
+// Whether a word is a number.
+fn is_number_word(word: Word) -> bool
+    ensures { result ≡ is_number word }
+{
+    match word {
+        Word::Number(_) => true,
+        _ => false,
+    }
+}
+
+// Whether a word is a number before a colon.
+fn is_closing_word(word: Word) -> bool
+    ensures { result ≡ is_closing word }
+{
+    match word {
+        Word::Closing(_) => true,
+        _ => false,
+    }
+}
+
+// Whether a word is this one.
+fn is_name(word: Word, name: Name) -> bool
+    ensures { IsTrue result ↔ (word ≡ Word.Named name) }
+{
+    match word {
+        Word::Named(found) => found == name,
+        _ => false,
+    }
+}
+
+// The words from number `from` on.
+pub fn behind(words: &[Word], from: usize) -> &[Word]
+    ensures { result.now ≡ drop from words.now }
+{
+    if from <= words.len() {
+        &words[from..]
+    } else {
+        &[]
+    }
+}
+
+// Whether all words from number `from` on are numbers without a minus.
+fn are_naturals(words: &[Word], from: usize) -> bool
+    ensures { IsTrue result ↔ All (λ w. IsTrue (is_natural w)) (drop from words.now) }
+{
+    behind(words, from).iter().all(|word| is_natural_word(*word))
+}
+
+// Whether all words from number `from` on are numbers.
+fn are_numbers(words: &[Word], from: usize) -> bool
+    ensures { IsTrue result ↔ All (λ w. IsTrue (is_number w)) (drop from words.now) }
+{
+    behind(words, from).iter().all(|word| is_number_word(*word))
+}
+
+// Whether a number is a coordinate.
+fn is_inside(word: Word) -> bool
+    ensures { IsTrue result ↔ IsInside word }
+{
+    size_of(word) <= MOST
+}
+
+// Whether a number numbers a vertex.
+fn is_vertex(word: Word) -> bool
+    ensures { IsTrue result ↔ IsVertex word }
+{
+    1 <= size_of(word) && size_of(word) <= 65535
+}
+
+// Whether all numbers from word `from` on are coordinates.
+fn are_inside(words: &[Word], from: usize) -> bool
+    ensures { IsTrue result ↔ All (λ w. IsInside w) (drop from words.now) }
+{
+    behind(words, from).iter().all(|word| is_inside(*word))
+}
+
+// Whether all numbers from word `from` on number vertices.
+fn are_vertices(words: &[Word], from: usize) -> bool
+    ensures { IsTrue result ↔ All (λ w. IsVertex w) (drop from words.now) }
+{
+    behind(words, from).iter().all(|word| is_vertex(*word))
+}
+
+// Whether a line begins with the number of its place.
+fn is_placed(words: &[Word], place: usize) -> bool
+    ensures { IsTrue result ↔ IsPlaced words.now place }
+{
+    is_natural_word(word(words, 0)) && size_of(word(words, 0)) as usize == place
+}
+
+// Whether a line begins as one of a straight-line drawing.
+fn is_grid_head(words: &[Word], place: usize) -> bool
+    ensures { IsTrue result ↔ IsGridHead place words.now }
+{
+    is_placed(words, place)
+        && is_name(word(words, 1), Name::At)
+        && is_number_word(word(words, 2))
+        && is_closing_word(word(words, 3))
+}
+
+// Whether a line has the shape of one of a straight-line drawing.
+fn is_grid_line(words: &[Word], place: usize) -> bool
+    ensures { IsTrue result ↔ IsGridLine place words.now }
+{
+    is_grid_head(words, place) && are_naturals(words, 4)
+}
+
+// Whether the numbers of such a line are within their ranges.
+fn is_grid_in_range(words: &[Word]) -> bool
+    ensures { IsTrue result ↔ GridInRange words.now }
+{
+    is_inside(word(words, 2)) && is_inside(word(words, 3)) && are_vertices(words, 4)
+}
+
+// Whether a line begins as one of a visibility drawing.
+fn is_bar_head(words: &[Word], place: usize) -> bool
+    ensures { IsTrue result ↔ IsBarHead place words.now }
+{
+    is_placed(words, place)
+        && is_name(word(words, 1), Name::Y)
+        && is_number_word(word(words, 2))
+        && is_name(word(words, 3), Name::X)
+        && is_number_word(word(words, 4))
+        && is_closing_word(word(words, 5))
+}
+
+// Whether a line has the shape of one of a visibility drawing.
+fn is_bar_line(words: &[Word], place: usize) -> bool
+    ensures { IsTrue result ↔ IsBarLine place words.now }
+{
+    is_bar_head(words, place) && are_naturals(words, 6)
+}
+
+// Whether the numbers of such a line are within their ranges.
+fn is_bar_in_range(words: &[Word]) -> bool
+    ensures { IsTrue result ↔ BarsInRange words.now }
+{
+    is_inside(word(words, 2))
+        && is_inside(word(words, 4))
+        && is_inside(word(words, 5))
+        && are_vertices(words, 6)
+}
+
+// Whether a line has the shape of that of the columns.
+fn is_columns_line(words: &[Word]) -> bool
+    ensures { IsTrue result ↔ IsColumnsLine words.now }
+{
+    is_name(word(words, 0), Name::Columns) && are_numbers(words, 1)
+}
+
+// The kind of a figure by the word of its job.
+fn job_kind(word: Word) -> Option<Kind>
+    ensures { result ≡ kind_of word }
+{
+    match word {
+        Word::Named(Name::Shift) => Some(Kind::Grid(GridJob::Shift)),
+        Word::Named(Name::Schnyder) => Some(Kind::Grid(GridJob::Schnyder)),
+        Word::Named(Name::Bars) => Some(Kind::Bars),
+        _ => None,
+    }
+}
+
+// Whether a line has the shape of a figure's first, but for the word of the job.
+fn is_first_line(words: &[Word]) -> bool
+    ensures { IsTrue result ↔ IsFirstLine words.now }
+{
+    words.len() == 4
+        && is_name(word(words, 0), Name::Figure)
+        && is_natural_word(word(words, 1))
+        && job_kind(word(words, 2)).is_some()
+        && is_natural_word(word(words, 3))
+}
+
+// Whether the numbers of a first line are within their ranges.
+fn is_first_in_range(words: &[Word]) -> bool
+    ensures { IsTrue result ↔ FirstInRange words.now }
+{
+    1 <= size_of(word(words, 1))
+        && size_of(word(words, 1)) <= 16_777_216
+        && 1 <= size_of(word(words, 3))
+        && size_of(word(words, 3)) <= 4095
+}
+
+// What a line is worth, by its shape and its ranges.
+fn worth(shape: bool, range: bool) -> Judged
+    ensures { result ≡ (if shape then (if range then Judged.Good else Judged.Limit) else Judged.Bad) }
+{
+    if shape {
+        if range { Judged::Good } else { Judged::Limit }
+    } else {
+        Judged::Bad
+    }
+}
+
+/// What the line of a vertex is worth.
+pub fn judged_row(kind: Kind, place: usize, words: &[Word]) -> Judged
+    ensures { Judges (IsRow kind place words.now) (RowInRange kind words.now) result }
+{
+    match kind {
+        Kind::Grid(_) => worth(is_grid_line(words, place), is_grid_in_range(words)),
+        Kind::Bars => worth(is_bar_line(words, place), is_bar_in_range(words)),
+    }
+}
+
+/// What the line of the columns is worth.
+pub fn judged_columns(words: &[Word]) -> Judged
+    ensures { Judges (IsColumnsLine words.now) (ColumnsInRange words.now) result }
+{
+    worth(is_columns_line(words), are_inside(words, 1))
+}
+
+/// What a figure's first line is worth.
+pub fn judged_first(words: &[Word]) -> Judged
+    ensures { Judges (IsFirstLine words.now) (FirstInRange words.now) result }
+{
+    worth(is_first_line(words), is_first_in_range(words))
+}

@@ -1,0 +1,202 @@
+//! The lines of a figure's vertices, one by one.
+ghost use Rattle.std.specs.Prelude.{◌≡◌, ◌+◌, ◌++◌, ◌<◌, ◌≤◌, [], ◌∷◌, length, drop, map, OnOk, IfOk, IfSome, MatchResult};
+ghost use Rattle.figure_text.specs.Words.{words_of};
+ghost use Rattle.figure_text.specs.Lines.{vertex_of, signed_value};
+ghost use Rattle.figure_text.specs.Reading.{Judges, IsRow, RowInRange, RowsFail, point_of, vertices_from};
+ghost use Rattle.figure_text.specs.Drafts.{integer_in, with_row, drafted, TakesRow, RowsTo};
+
+use crate::TextFault;
+use crate::judge::{Judged, Kind, MOST, behind, judged_row, size_of, word};
+use crate::lines::next_line;
+use crate::words::{Signed, Word, words};
+use map_lists::Rotations;
+use pg_plane::{Ints, Point, Points};
+use std::alloc::{AllocError, Global};
+
+/// What the lines of a figure's vertices have given.
+#[derive(Drop)]
+pub struct Draft {
+    pub lists: Rotations,
+    pub points: Points,
+    pub y: Ints,
+    pub x1: Ints,
+    pub x2: Ints,
+}
+
+/// What became of the line that is due.
+#[derive(Clone, Copy, Debug, PartialEq, Eq)]
+pub enum Taken {
+    /// It was taken, and ends before this offset.
+    Next(usize),
+    /// It does not have the due shape.
+    Bad,
+    /// A number is outside its range.
+    Limit,
+    /// It is not closed.
+    NotClosed,
+    /// There was not enough memory.
+    NoMemory,
+}
+
+// The vertex that a number names, from 0.
+fn vertex(word: Word) -> u16
+    ensures { result ≡ vertex_of word }
+{
+    let from_zero = size_of(word).saturating_sub(1);
+    if from_zero < 65535 {
+        from_zero as u16
+    } else {
+        65535
+    }
+}
+
+// The vertices that the words from number `from` on name.
+fn vertices(alloc: Global, words: &[Word], from: usize) -> Result<Vec<u16>, AllocError>
+    ensures { IfOk result (λ v. v.items ≡ vertices_from from words.now) }
+{
+    behind(words, from)
+        .iter()
+        .map(|word| vertex(*word))
+        .collect(alloc)
+}
+
+// The number of this sign and size.
+fn signed_number(z: Signed) -> i32
+    ensures { result ≡ signed_value z }
+{
+    let size = if z.size < MOST { z.size } else { MOST };
+    if z.negative {
+        -(size as i32)
+    } else {
+        size as i32
+    }
+}
+
+/// Word number `i`, as a whole number.
+pub fn integer_at(words: &[Word], i: usize) -> i32
+    ensures { result ≡ integer_in i words.now }
+{
+    match word(words, i) {
+        Word::Number(z) => signed_number(z),
+        Word::Closing(z) => signed_number(z),
+        _ => 0,
+    }
+}
+
+// Appends what the line of a vertex of a straight-line drawing gives.
+fn push_grid(alloc: Global, words: &[Word], draft: &mut Draft) -> Result<(), AllocError>
+    ensures { OnOk result (draft.new ≡ record draft.old { lists = draft.old.lists ++ vertices_from 4 words.now ∷ []; points = draft.old.points ++ point_of words.now ∷ [] }) }
+{
+    let list = vertices(alloc, words, 4)?;
+    draft.lists.push(&list)?;
+    draft.points.push(Point {
+        x: integer_at(words, 2),
+        y: integer_at(words, 3),
+    })?;
+    Ok(())
+}
+
+// Appends what the line of a vertex of a visibility drawing gives.
+fn push_bars(alloc: Global, words: &[Word], draft: &mut Draft) -> Result<(), AllocError>
+    ensures { OnOk result (draft.new ≡ record draft.old { lists = draft.old.lists ++ vertices_from 6 words.now ∷ []; y = draft.old.y ++ integer_in 2 words.now ∷ []; x1 = draft.old.x1 ++ integer_in 4 words.now ∷ []; x2 = draft.old.x2 ++ integer_in 5 words.now ∷ [] }) }
+{
+    let list = vertices(alloc, words, 6)?;
+    draft.lists.push(&list)?;
+    draft.y.push(integer_at(words, 2))?;
+    draft.x1.push(integer_at(words, 4))?;
+    draft.x2.push(integer_at(words, 5))?;
+    Ok(())
+}
+
+// Appends what the line of a vertex gives.
+fn push_row(
+    alloc: Global,
+    kind: Kind,
+    words: &[Word],
+    draft: &mut Draft,
+) -> Result<(), AllocError>
+    ensures { OnOk result (draft.new ≡ with_row kind draft.old words.now) }
+{
+    match kind {
+        Kind::Grid(_) => push_grid(alloc, words, draft),
+        Kind::Bars => push_bars(alloc, words, draft),
+    }
+}
+
+// Judges the line of a vertex, and appends what a good one gives. Without memory there is no answer.
+fn row_of(
+    alloc: Global,
+    kind: Kind,
+    place: usize,
+    line: &[u8],
+    draft: &mut Draft,
+) -> Option<Judged>
+    ensures { IfSome result (λ judged. Judges (IsRow kind place (words_of line.now)) (RowInRange kind (words_of line.now)) judged
+        × (judged ≡ Judged.Good → draft.new ≡ with_row kind draft.old (words_of line.now))) }
+{
+    match words(alloc, line) {
+        Ok(found) => match judged_row(kind, place, &found) {
+            Judged::Good => match push_row(alloc, kind, &found, draft) {
+                Ok(()) => Some(Judged::Good),
+                Err(_) => None,
+            },
+            Judged::Bad => Some(Judged::Bad),
+            Judged::Limit => Some(Judged::Limit),
+        },
+        Err(_) => None,
+    }
+}
+
+// Takes the line of the next vertex.
+fn take_row(
+    alloc: Global,
+    bytes: &[u8],
+    at: usize,
+    kind: Kind,
+    place: usize,
+    draft: &mut Draft,
+) -> Taken
+    requires { at ≤ length bytes.now }
+    ensures { TakesRow kind place bytes.now (drop at bytes.now) draft.old draft.new result }
+{
+    match next_line(bytes, at) {
+        Some((line, next)) => match row_of(alloc, kind, place, line, draft) {
+            Some(Judged::Good) => Taken::Next(next),
+            Some(Judged::Bad) => Taken::Bad,
+            Some(Judged::Limit) => Taken::Limit,
+            None => Taken::NoMemory,
+        },
+        None => Taken::NotClosed,
+    }
+}
+
+/// Takes the lines of `n` vertices of a figure that began at line `first`, and answers the offset behind
+/// them.
+pub fn take_rows(
+    alloc: Global,
+    bytes: &[u8],
+    at: usize,
+    kind: Kind,
+    n: usize,
+    first: u32,
+    draft: &mut Draft,
+) -> Result<usize, TextFault>
+    requires within { at ≤ length bytes.now }
+    requires few { n ≤ 4095 }
+    requires line { first ≤ 16777217 }
+    requires empty { draft.old ≡ drafted kind [] }
+    ensures { MatchResult result (λ next. RowsTo kind bytes.now (drop at bytes.now) next n draft.new)
+        (RowsFail kind n (drop at bytes.now) first) }
+{
+    let mut next = at;
+    for i in 0..n {
+        match take_row(alloc, bytes, next, kind, i + 1, draft) {
+            Taken::Next(behind) => next = behind,
+            Taken::Bad => return Err(TextFault::BadLine(first + 1 + i as u32)),
+            Taken::Limit => return Err(TextFault::Limit(first + 1 + i as u32)),
+            Taken::NotClosed => return Err(TextFault::EndInFigure(first)),
+            Taken::NoMemory => return Err(TextFault::NoMemory),
+        }
+    }
+    Ok(next)
+}
