@@ -211,7 +211,7 @@ fn is_columns_line(words: &[Word]) -> bool
 }
 
 // The kind of a figure by the word of its job.
-fn job_kind(word: Word) -> Option<Kind>
+pub fn job_kind(word: Word) -> Option<Kind>
     ensures { result ≡ kind_of word }
 {
     match word {

@@ -9,12 +9,14 @@ mod figure;
 mod judge;
 mod lines;
 mod print;
+mod read;
 mod rows;
 mod words;
 
 pub use fault::TextFault;
 pub use figure::{Figure, GridJob};
 pub use print::print_figure;
+pub use read::{Item, read_figure};
 
 #[cfg(test)]
 mod tests;
