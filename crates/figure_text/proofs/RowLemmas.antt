@@ -1,11 +1,10 @@
 -- The lines of vertices, taken one by one.
-use Rattle.std.proofs.Common.{◌≡◌, ◌≢◌, ℕ, suc, ◌+◌, ◌-◌, ◌<◌, ◌≤◌, List, [], ◌∷◌, ◌++◌, length, drop, map, flat_map, get_or, refl, sym, ap, ◌∙◌, subst, arith, append_assoc, append-nil, length-append, below_more}
+use Rattle.std.proofs.Common.{◌≡◌, ℕ, ◌+◌, ◌<◌, ◌≤◌, List, [], ◌∷◌, ◌++◌, length, drop, get_or, refl, sym, ap, ◌∙◌, subst, arith, append_assoc, append-nil, length-append, below_more}
 use Rattle.std.proofs.lemmas.List.{map-append}
 use Rattle.std.proofs.lemmas.List.Elements.{All-nil, All-push}
 use Rattle.std.proofs.lemmas.Grind.{flat_map-append}
 use Rattle.std.proofs.Math.ListN.{get_or-append}
 use Rattle.std.proofs.Math.Seq.{get_or-append_seam}
-use Rattle.std.specs.Prelude.{All}
 use Rattle.figure_text.specs.declared.judge.Kind.{Kind}
 use Rattle.figure_text.specs.declared.judge.Kind.TheVariants.{Grid, Bars}
 use Rattle.figure_text.specs.declared.rows.Draft.{Draft}
@@ -13,7 +12,7 @@ use Rattle.figure_text.specs.declared.rows.Taken.TheVariants.{Next, Bad, Limit a
 use Rattle.figure_text.specs.declared.fault.TextFault.TheVariants.{BadLine, EndInFigure, Limit}
 use Rattle.figure_text.specs.declared.words.Word.{Word}
 use Rattle.figure_text.specs.Words.{words_of}
-use Rattle.figure_text.specs.Reading.{closed, IsPlain, IsLine, IsGoodRow, Rows, StopsAt, RowsFail, of_lines}
+use Rattle.figure_text.specs.Reading.{closed, IsPlain, IsGoodRow, Rows, RowsFail, of_lines}
 use Rattle.figure_text.specs.Drafts.{drafted, with_row, TakesRow, RowsTo}
 
 -- no line is taken yet
@@ -43,8 +42,8 @@ good-more : (kind : Kind) (lines : List (List ℕ)) (line : List ℕ) → ((i : 
 good-more kind lines line good here =
     let ends : length (lines ++ line ∷ []) ≡ length lines + 1 = length-append lines (line ∷ []) in
     λ i h. below_more (λ (k : ℕ). IsGoodRow kind (k + 1) (get_or (lines ++ line ∷ []) k [])) (length lines)
-      (λ k below. rw (get_or-append lines (line ∷ []) [] k below) (good k below))
-      (rw (get_or-append_seam lines line [] []) here) i (omega arith)
+    (λ k below. rw (get_or-append lines (line ∷ []) [] k below) (good k below))
+    (rw (get_or-append_seam lines line [] []) here) i (omega arith)
 
 closed-more : (lines : List (List ℕ)) (line rest : List ℕ) → closed lines ++ (line ++ 10 ∷ rest) ≡ closed (lines ++ line ∷ []) ++ rest
 closed-more lines line rest =

@@ -165,7 +165,11 @@ fn with_columns(
 {
     match next_line(bytes, at) {
         Some((line, next)) => match columns_line(alloc, line) {
-            Columns::Good(column) => Ok(Item::Drawn(bar_figure(made, column), next, first + 2 + n as u32)),
+            Columns::Good(column) => Ok(Item::Drawn(
+                bar_figure(made, column),
+                next,
+                first + 2 + n as u32,
+            )),
             Columns::Bad => Err(TextFault::BadLine(first + 1 + n as u32)),
             Columns::Limit => Err(TextFault::Limit(first + 1 + n as u32)),
             Columns::NoMemory => Err(TextFault::NoMemory),
@@ -178,7 +182,13 @@ fn with_columns(
 fn bar_figure(made: Draft, column: Ints) -> Figure
     ensures { result ≡ Figure.Bars made.lists (record { y = made.y; x1 = made.x1; x2 = made.x2; column = column }) }
 {
-    let Draft { lists, y, x1, x2, .. } = made;
+    let Draft {
+        lists,
+        y,
+        x1,
+        x2,
+        ..
+    } = made;
     Figure::Bars {
         lists,
         bars: BarFigure { y, x1, x2, column },
@@ -255,12 +265,7 @@ fn figure_of(
 /// Each line is judged as it is closed. A closed line of another shape than the one that is due is a
 /// `BadLine`, and so is a line outside a figure that is not closed; a line of the due shape with a number
 /// outside its range is a `Limit`; where the text ends inside a figure, the answer is `EndInFigure`.
-pub fn read_figure(
-    alloc: Global,
-    bytes: &[u8],
-    at: usize,
-    line: u32,
-) -> Result<Item, TextFault>
+pub fn read_figure(alloc: Global, bytes: &[u8], at: usize, line: u32) -> Result<Item, TextFault>
     requires within { at ≤ length bytes.now }
     requires few { line ≤ 16777217 }
     ensures { MatchResult result (StandsAt bytes.now at line) (FailsAt bytes.now at line) }

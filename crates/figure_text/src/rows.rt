@@ -116,12 +116,7 @@ fn push_bars(alloc: Global, words: &[Word], draft: &mut Draft) -> Result<(), All
 }
 
 // Appends what the line of a vertex gives.
-fn push_row(
-    alloc: Global,
-    kind: Kind,
-    words: &[Word],
-    draft: &mut Draft,
-) -> Result<(), AllocError>
+fn push_row(alloc: Global, kind: Kind, words: &[Word], draft: &mut Draft) -> Result<(), AllocError>
     ensures { OnOk result (draft.new ≡ with_row kind draft.old words.now) }
 {
     match kind {
@@ -131,13 +126,7 @@ fn push_row(
 }
 
 // Judges the line of a vertex, and appends what a good one gives. Without memory there is no answer.
-fn row_of(
-    alloc: Global,
-    kind: Kind,
-    place: usize,
-    line: &[u8],
-    draft: &mut Draft,
-) -> Option<Judged>
+fn row_of(alloc: Global, kind: Kind, place: usize, line: &[u8], draft: &mut Draft) -> Option<Judged>
     ensures { IfSome result (λ judged. Judges (IsRow kind place (words_of line.now)) (RowInRange kind (words_of line.now)) judged
         × (judged ≡ Judged.Good → draft.new ≡ with_row kind draft.old (words_of line.now))) }
 {
