@@ -27,7 +27,7 @@ RowsTo-begin kind bytes at draft within gives =
     }
 
 -- one line more
-of_lines-more : {A : Type 0} (value : List Word → A) (lines : List (List ℕ)) (line : List ℕ) → of_lines value (lines ++ line ∷ []) ≡ of_lines value lines ++ value (words_of line) ∷ []
+pub of_lines-more : {A : Type 0} (value : List Word → A) (lines : List (List ℕ)) (line : List ℕ) → of_lines value (lines ++ line ∷ []) ≡ of_lines value lines ++ value (words_of line) ∷ []
 of_lines-more value lines line = map-append (λ l. value (words_of l)) lines (line ∷ [])
 
 pub drafted-more : (kind : Kind) (lines : List (List ℕ)) (line : List ℕ) → drafted kind (lines ++ line ∷ []) ≡ with_row kind (drafted kind lines) (words_of line)
@@ -38,7 +38,7 @@ drafted-more Bars lines line = simp of_lines-more
 pub Rows-other : (kind : Kind) (text : List ℕ) (lines : List (List ℕ)) (rest rest' : List ℕ) → rest ≡ rest' → Rows kind text lines rest → Rows kind text lines rest'
 Rows-other kind text lines rest rest' same rows = subst (λ (x : List ℕ). Rows kind text lines x) same rows
 
-good-more : (kind : Kind) (lines : List (List ℕ)) (line : List ℕ) → ((i : ℕ) → i < length lines → IsGoodRow kind (i + 1) (get_or lines i [])) → IsGoodRow kind (length lines + 1) line → (i : ℕ) → i < length (lines ++ line ∷ []) → IsGoodRow kind (i + 1) (get_or (lines ++ line ∷ []) i [])
+pub good-more : (kind : Kind) (lines : List (List ℕ)) (line : List ℕ) → ((i : ℕ) → i < length lines → IsGoodRow kind (i + 1) (get_or lines i [])) → IsGoodRow kind (length lines + 1) line → (i : ℕ) → i < length (lines ++ line ∷ []) → IsGoodRow kind (i + 1) (get_or (lines ++ line ∷ []) i [])
 good-more kind lines line good here =
     let ends : length (lines ++ line ∷ []) ≡ length lines + 1 = length-append lines (line ∷ []) in
     λ i h. below_more (λ (k : ℕ). IsGoodRow kind (k + 1) (get_or (lines ++ line ∷ []) k [])) (length lines)

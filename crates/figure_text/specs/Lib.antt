@@ -5,3 +5,4 @@ pub mod Lines
 pub mod Reading
 pub mod Drafts
 pub mod Figures
+pub mod Laws

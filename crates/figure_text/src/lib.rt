@@ -7,6 +7,7 @@
 mod fault;
 mod figure;
 mod judge;
+pub mod laws;
 mod lines;
 mod print;
 mod read;
