@@ -12,9 +12,9 @@ pub cut_from-cut : (bytes : List ℕ) (n m : ℕ) → min far n ≡ min far m �
 cut_from-cut [] n m same = ap (λ (k : ℕ). Some k) same
 cut_from-cut (b ∷ bytes) n m same = by_digit (is_digit b) refl (cut_from-cut bytes (10 * n + (b - 48)) (10 * m + (b - 48)) (omega arith))
   where
-  by_digit : (digit : Bool) → is_digit b ≡ digit → cut_from (10 * n + (b - 48)) bytes ≡ cut_from (10 * m + (b - 48)) bytes → cut_from n (b ∷ bytes) ≡ cut_from m (b ∷ bytes)
-  by_digit true e rest = rw e rest
-  by_digit false e rest = rw e refl
+    by_digit : (digit : Bool) → is_digit b ≡ digit → cut_from (10 * n + (b - 48)) bytes ≡ cut_from (10 * m + (b - 48)) bytes → cut_from n (b ∷ bytes) ≡ cut_from m (b ∷ bytes)
+    by_digit true e rest = rw e rest
+    by_digit false e rest = rw e refl
 
 -- one digit more
 digit-more : (digit : Bool) (n b next : ℕ) (bytes : List ℕ) → is_digit b ≡ digit → one_more n b ≡ Some next → cut_from next bytes ≡ cut_from n (b ∷ bytes)

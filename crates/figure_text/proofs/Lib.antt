@@ -1,3 +1,10 @@
 -- Lemmas on the text of figures.
 pub mod TextLemmas
 pub mod DecimalLemmas
+pub mod RowLemmas
+pub mod NumeralLemmas
+pub mod WordLemmas
+pub mod UptoLemmas
+pub mod RoundLemmas
+pub mod BarLemmas
+pub mod LawLemmas

@@ -4,3 +4,5 @@ pub mod Words
 pub mod Lines
 pub mod Reading
 pub mod Drafts
+pub mod Figures
+pub mod Laws

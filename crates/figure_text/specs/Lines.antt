@@ -1,6 +1,5 @@
 -- Which shape a line of a figure has, by its words, and the ranges of its numbers.
-use Rattle.std.specs.Prelude.{ℕ, ℤ, pos, neg_ℤ, ◌-◌, ◌≡◌, ◌≤◌, Bool, true, false, not, min, if◌then◌else◌, IsTrue, List, length, drop, map, All, Option, Some, None, is_some}
-use Rattle.pg_plane.specs.declared.point.Point.{Point}
+use Rattle.std.specs.Prelude.{ℕ, ℤ, pos, neg_ℤ, ◌-◌, ◌≡◌, ◌≤◌, Bool, true, false, not, min, if◌then◌else◌, IsTrue, List, length, drop, All, Option, Some, None, is_some}
 use Rattle.figure_text.specs.declared.figure.GridJob.TheVariants.{Shift as ByShift, Schnyder as BySchnyder}
 use Rattle.figure_text.specs.declared.words.Signed.{Signed}
 use Rattle.figure_text.specs.declared.words.Word.{Word}

@@ -1,9 +1,6 @@
 -- The reading of the text of figures: closed lines one after another, each with the shape that is due.
-use Rattle.std.specs.Prelude.{ℕ, zero, suc, ℤ, ◌+◌, ◌<◌, ◌≤◌, ◌≡◌, ◌≢◌, ◌⊎◌, Bool, true, false, ◌||◌, nat_lt, bytes_eq, IsTrue, IsFalse, List, [], ◌∷◌, ◌++◌, length, take, drop, map, flat_map, slice_index_or, All, codes, Some}
-use Rattle.map_lists.specs.Lists.{Lists}
+use Rattle.std.specs.Prelude.{ℕ, ◌+◌, ◌<◌, ◌≡◌, ◌≢◌, Bool, ◌||◌, bytes_eq, List, [], ◌∷◌, ◌++◌, length, take, drop, map, flat_map, slice_index_or, All, codes}
 use Rattle.pg_plane.specs.declared.point.Point.{Point}
-use Rattle.figure_text.specs.declared.figure.Figure.{Figure}
-use Rattle.figure_text.specs.declared.figure.Figure.TheVariants.{Grid as GridFigure, Bars as BarsFigure}
 use Rattle.figure_text.specs.declared.words.Word.{Word}
 use Rattle.figure_text.specs.declared.judge.Kind.{Kind}
 use Rattle.figure_text.specs.declared.judge.Kind.TheVariants.{Grid, Bars}
@@ -12,7 +9,7 @@ use Rattle.figure_text.specs.declared.judge.Judged.TheVariants.{Bad, Limit as Be
 use Rattle.figure_text.specs.declared.fault.TextFault.{TextFault}
 use Rattle.figure_text.specs.declared.fault.TextFault.TheVariants.{BadLine, EndInFigure, Limit, NoMemory}
 use Rattle.figure_text.specs.Words.{words_of, word_at}
-use Rattle.figure_text.specs.Lines.{size, kind_of, vertex_of, integer_of, IsFirstLine, FirstInRange, IsGridLine, GridInRange, IsBarLine, BarsInRange, IsColumnsLine, ColumnsInRange}
+use Rattle.figure_text.specs.Lines.{vertex_of, integer_of, IsGridLine, GridInRange, IsBarLine, BarsInRange}
 
 -- a line without the byte 10 that closes it
 abbrev pub IsPlain : List ℕ → Type 0

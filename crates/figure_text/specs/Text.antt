@@ -9,10 +9,6 @@ use Rattle.figure_text.specs.declared.figure.GridJob.TheVariants.{Shift, Schnyde
 use Rattle.figure_text.specs.declared.figure.Figure.{Figure}
 use Rattle.figure_text.specs.declared.figure.Figure.TheVariants.{Grid, Bars}
 
--- numbers, each after a space
-abbrev pub spaced : List ℕ → List ℕ
-spaced ns = flat_map (λ n. 32 ∷ decimal n) ns
-
 -- signed numbers, each after a space
 abbrev pub spaced_signed : List ℤ → List ℕ
 spaced_signed zs = flat_map (λ z. 32 ∷ signed_decimal z) zs
@@ -73,7 +69,7 @@ grid_text k job lists points = first_line k (job_word job) (length lists) ++ gri
 abbrev pub figure_text : ℕ → Figure → List ℕ
 figure_text k (Grid job lists points) = grid_text k job lists points
 figure_text k (Bars lists bars) =
-    first_line k (codes "bars") (length lists) ++ bar_lines bars lists (length lists) ++ columns_line bars.column
+    first_line k (codes "bars") (length lists) ++ (bar_lines bars lists (length lists) ++ columns_line bars.column)
 
 -- there is a bar for each vertex
 pub record HasBars (lists : Lists) (bars : BarFigure) : Type 0 where

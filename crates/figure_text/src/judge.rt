@@ -36,7 +36,11 @@ pub const MOST: u32 = 1_048_576;
 pub fn word(words: &[Word], i: usize) -> Word
     ensures { result ≡ word_at words.now i }
 {
-    if i < words.len() { words[i] } else { Word::Other }
+    if i < words.len() {
+        words[i]
+    } else {
+        Word::Other
+    }
 }
 
 // The size of the number that a word is, and 0 for any other word.
@@ -105,7 +109,9 @@ pub fn behind(words: &[Word], from: usize) -> &[Word]
 fn are_naturals(words: &[Word], from: usize) -> bool
     ensures { IsTrue result ↔ All (λ w. IsTrue (is_natural w)) (drop from words.now) }
 {
-    behind(words, from).iter().all(|word| is_natural_word(*word))
+    behind(words, from)
+        .iter()
+        .all(|word| is_natural_word(*word))
 }
 
 // Whether all words from number `from` on are numbers.
@@ -211,7 +217,7 @@ fn is_columns_line(words: &[Word]) -> bool
 }
 
 // The kind of a figure by the word of its job.
-fn job_kind(word: Word) -> Option<Kind>
+pub fn job_kind(word: Word) -> Option<Kind>
     ensures { result ≡ kind_of word }
 {
     match word {

@@ -7,14 +7,17 @@
 mod fault;
 mod figure;
 mod judge;
+pub mod laws;
 mod lines;
 mod print;
+mod read;
 mod rows;
 mod words;
 
 pub use fault::TextFault;
 pub use figure::{Figure, GridJob};
 pub use print::{print_figure, print_grid};
+pub use read::{Item, read_figure};
 
 #[cfg(test)]
 mod tests;

@@ -1,7 +1,7 @@
 //! The lines of a figure's vertices, one by one.
 ghost use Rattle.std.specs.Prelude.{◌≡◌, ◌+◌, ◌++◌, ◌<◌, ◌≤◌, [], ◌∷◌, length, drop, map, OnOk, IfOk, IfSome, MatchResult};
 ghost use Rattle.figure_text.specs.Words.{words_of};
-ghost use Rattle.figure_text.specs.Lines.{vertex_of, signed_value};
+ghost use Rattle.figure_text.specs.Lines.{vertex_of, signed_value, integer_of};
 ghost use Rattle.figure_text.specs.Reading.{Judges, IsRow, RowInRange, RowsFail, point_of, vertices_from};
 ghost use Rattle.figure_text.specs.Drafts.{integer_in, with_row, drafted, TakesRow, RowsTo};
 
@@ -72,15 +72,22 @@ fn signed_number(z: Signed) -> i32
     }
 }
 
-/// Word number `i`, as a whole number.
-pub fn integer_at(words: &[Word], i: usize) -> i32
-    ensures { result ≡ integer_in i words.now }
+/// A number, and 0 for any other word.
+pub fn integer(word: Word) -> i32
+    ensures { result ≡ integer_of word }
 {
-    match word(words, i) {
+    match word {
         Word::Number(z) => signed_number(z),
         Word::Closing(z) => signed_number(z),
         _ => 0,
     }
+}
+
+// Word number `i`, as a whole number.
+fn integer_at(words: &[Word], i: usize) -> i32
+    ensures { result ≡ integer_in i words.now }
+{
+    integer(word(words, i))
 }
 
 // Appends what the line of a vertex of a straight-line drawing gives.
@@ -109,12 +116,7 @@ fn push_bars(alloc: Global, words: &[Word], draft: &mut Draft) -> Result<(), All
 }
 
 // Appends what the line of a vertex gives.
-fn push_row(
-    alloc: Global,
-    kind: Kind,
-    words: &[Word],
-    draft: &mut Draft,
-) -> Result<(), AllocError>
+fn push_row(alloc: Global, kind: Kind, words: &[Word], draft: &mut Draft) -> Result<(), AllocError>
     ensures { OnOk result (draft.new ≡ with_row kind draft.old words.now) }
 {
     match kind {
@@ -124,13 +126,7 @@ fn push_row(
 }
 
 // Judges the line of a vertex, and appends what a good one gives. Without memory there is no answer.
-fn row_of(
-    alloc: Global,
-    kind: Kind,
-    place: usize,
-    line: &[u8],
-    draft: &mut Draft,
-) -> Option<Judged>
+fn row_of(alloc: Global, kind: Kind, place: usize, line: &[u8], draft: &mut Draft) -> Option<Judged>
     ensures { IfSome result (λ judged. Judges (IsRow kind place (words_of line.now)) (RowInRange kind (words_of line.now)) judged
         × (judged ≡ Judged.Good → draft.new ≡ with_row kind draft.old (words_of line.now))) }
 {

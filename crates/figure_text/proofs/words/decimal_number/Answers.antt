@@ -1,5 +1,5 @@
 -- One byte more.
-use Rattle.std.proofs.Common.{◌≡◌, ℕ, get_or, refl, ◌∙◌, sym}
+use Rattle.std.proofs.Common.{get_or, refl, ◌∙◌, sym}
 use Rattle.figure_text.proofs.DecimalLemmas.{cut_from-more, cut_from-none, one_more-le}
 use Rattle.figure_text.proofs.words.decimal_number.Goals as goal
 

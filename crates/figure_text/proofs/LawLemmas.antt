@@ -1,0 +1,199 @@
+-- A printed figure stands where it was printed.
+use Rattle.std.proofs.Common.{◌≡◌, ℕ, zero, suc, ◌+◌, ◌-◌, ◌<◌, ◌≤◌, ℤ, pos, List, [], ◌∷◌, ◌++◌, length, take, drop, get_or, refl, sym, ap, ap₂, ◌∙◌, subst, arith, append_assoc, length-append, length-drop, lit≤}
+use Rattle.std.specs.Prelude.{codes, decimal, All, Some, is_some}
+use Rattle.std.proofs.lemmas.List.{drop-drop}
+use Rattle.std.proofs.Math.Seq.{drop-append_seam, take-length}
+use Rattle.std.proofs.lemmas.List.Elements.{All-get_or, All-from_recursion}
+use Rattle.map_lists.specs.Lists.{Lists}
+use Rattle.pg_plane.specs.declared.point.Point.{Point}
+use Rattle.pg_plane.specs.declared.figure.BarFigure.{BarFigure}
+use Rattle.figure_text.specs.declared.figure.GridJob.{GridJob}
+use Rattle.figure_text.specs.declared.figure.GridJob.TheVariants.{Shift as ByShift, Schnyder as BySchnyder}
+use Rattle.figure_text.specs.declared.figure.Figure.{Figure as Drawing}
+use Rattle.figure_text.specs.declared.figure.Figure.TheVariants.{Grid as GridFigure, Bars as BarsFigure}
+use Rattle.figure_text.specs.declared.words.Word.{Word}
+use Rattle.figure_text.specs.declared.words.Word.TheVariants.{Number, Named}
+use Rattle.figure_text.specs.declared.words.Name.TheVariants.{Figure}
+use Rattle.figure_text.specs.declared.judge.Kind.{Kind}
+use Rattle.figure_text.specs.declared.judge.Kind.TheVariants.{Grid, Bars}
+use Rattle.figure_text.specs.declared.read.Item.TheVariants.{Drawn}
+use Rattle.figure_text.specs.Words.{word_of, words_of, word_at}
+use Rattle.figure_text.specs.Lines.{size, kind_of, IsFirstLine, FirstInRange}
+use Rattle.figure_text.specs.Reading.{closed, IsPlain, Rows, point_of, vertices_from}
+use Rattle.figure_text.specs.Drafts.{integer_in}
+use Rattle.figure_text.specs.Text.{texts, first_line, job_word, grid_line, grid_lines, bar_line, bar_lines, columns_line, HasBars, point_at, integer_at}
+use Rattle.figure_text.specs.Figures.{IsHead, IsBody, StandsAt, lines_due}
+use Rattle.figure_text.specs.Laws.{sign_of, IsCoordinate, AreLists, PrintedIsRead}
+use Rattle.figure_text.proofs.NumeralLemmas.{Dark, decimal-dark, word_of-decimal}
+use Rattle.figure_text.proofs.WordLemmas.{words_of-last, words_of-next, Inline-next, Inline-dark, IsPlain-inline}
+use Rattle.figure_text.proofs.UptoLemmas.{lines_upto, length-lines_upto, closed-lines_upto, Rows-lines_upto, of_lines-upto}
+use Rattle.figure_text.proofs.RoundLemmas.{grid_text, grid_line-text, IsFine, grid-plain, grid-good, grid-list, grid-point}
+use Rattle.figure_text.proofs.BarLemmas.{bar_text, bar_line-text, IsFineBar, bar-plain, bar-good, bar-list, bar-height, bar-begin, bar-end, columns_text, columns_line-text, columns-plain, columns-shape, columns-range, columns-again}
+
+-- the first line of a figure, without the byte that closes it
+abbrev first_text : ℕ → List ℕ → ℕ → List ℕ
+first_text k word n = codes "figure" ++ 32 ∷ (decimal k ++ 32 ∷ (word ++ 32 ∷ decimal n))
+
+first_line-text : (k : ℕ) (word : List ℕ) (n : ℕ) → first_line k word n ≡ first_text k word n ++ 10 ∷ []
+unfolding first_line
+first_line-text k word n = simp append_assoc
+
+-- the numbers of a first line are within their ranges
+record IsFirst (k n : ℕ) : Type 0 where
+  number_least : 1 ≤ k
+  number_most : k ≤ 16777216
+  least : 1 ≤ n
+  most : n ≤ 4095
+
+figure-dark : Dark (codes "figure")
+figure-dark = All-from_recursion (λ b. 33 ≤ b) (codes "figure") (lit≤ tt, (lit≤ tt, (lit≤ tt, (lit≤ tt, (lit≤ tt, (lit≤ tt, tt))))))
+
+first-words : (k : ℕ) (word : List ℕ) (n : ℕ) → IsFirst k n → Dark word → words_of (first_text k word n) ≡ Named Figure ∷ Number (sign_of (pos k)) ∷ word_of word ∷ Number (sign_of (pos n)) ∷ []
+first-words k word n fine dark =
+    words_of-next (codes "figure") (decimal k ++ 32 ∷ (word ++ 32 ∷ decimal n)) figure-dark
+    ∙ ap (λ (ws : List Word). Named Figure ∷ ws)
+    (words_of-next (decimal k) (word ++ 32 ∷ decimal n) (decimal-dark k (omega (arith, fine.number_most)))
+    ∙ ap₂ (λ (w : Word) (ws : List Word). w ∷ ws) (word_of-decimal k (omega (arith, fine.number_most)))
+    (words_of-next word (decimal n) dark
+    ∙ ap (λ (ws : List Word). word_of word ∷ ws)
+    (words_of-last (decimal n) (decimal-dark n (omega (arith, fine.most)))
+    ∙ ap (λ (w : Word). w ∷ []) (word_of-decimal n (omega (arith, fine.most))))))
+
+first-plain : (k : ℕ) (word : List ℕ) (n : ℕ) → IsFirst k n → Dark word → IsPlain (first_text k word n)
+first-plain k word n fine dark =
+    IsPlain-inline (first_text k word n)
+    (Inline-next (codes "figure") (decimal k ++ 32 ∷ (word ++ 32 ∷ decimal n)) figure-dark
+    (Inline-next (decimal k) (word ++ 32 ∷ decimal n) (decimal-dark k (omega (arith, fine.number_most)))
+    (Inline-next word (decimal n) dark (Inline-dark (decimal n) (decimal-dark n (omega (arith, fine.most)))))))
+
+head-of-words : (kind : Kind) (k n : ℕ) (job : Word) → IsFirst k n → kind_of job ≡ Some kind → (ws : List Word) → ws ≡ Named Figure ∷ Number (sign_of (pos k)) ∷ job ∷ Number (sign_of (pos n)) ∷ [] → IsFirstLine ws × FirstInRange ws × (kind_of (word_at ws 2) ≡ Some kind) × (size (word_at ws 3) ≡ n)
+head-of-words kind k n job fine is ws e =
+    rw e (
+      record { four = refl; figure = refl; number = refl; job = ap is_some is; vertices = refl },
+      record { number_least = fine.number_least; number_most = fine.number_most; least = fine.least; most = fine.most },
+      is,
+      refl,
+    )
+
+first-head : (kind : Kind) (k : ℕ) (word : List ℕ) (n : ℕ) → IsFirst k n → Dark word → kind_of (word_of word) ≡ Some kind → IsHead kind n (first_text k word n)
+first-head kind k word n fine dark is =
+    let all = head-of-words kind k n (word_of word) fine is (words_of (first_text k word n)) (first-words k word n fine dark) in
+    record { shape = all.0; range = all.1; job = all.2; vertices = all.3 }
+
+-- a first line, and lines behind it that give the figure
+stands : (kind : Kind) (k : ℕ) (word : List ℕ) (n : ℕ) (fig : Drawing) (body : List ℕ) → IsFirst k n → Dark word → kind_of (word_of word) ≡ Some kind → (bytes : List ℕ) (at : ℕ) (rest : List ℕ) (line after : ℕ) → at ≤ length bytes → drop at bytes ≡ (first_line k word n ++ body) ++ rest → after ≡ line + 1 + lines_due kind n → IsBody kind n (body ++ rest) rest fig → StandsAt bytes at line (Drawn fig (at + length (first_line k word n ++ body)) after)
+stands kind k word n fig body fine dark is bytes at rest line after within here counted gives =
+    let text = first_line k word n ++ body in
+    let behind : drop (at + length text) bytes ≡ rest =
+    sym (drop-drop (length text) at bytes) ∙ ap (λ (x : List ℕ). drop (length text) x) here ∙ drop-append_seam text rest in
+    let long : length bytes - at ≡ length text + length rest = sym (length-drop at bytes) ∙ ap length here ∙ length-append text rest in
+    let parts : drop at bytes ≡ first_text k word n ++ 10 ∷ (body ++ rest) =
+    here ∙ append_assoc (first_line k word n) body rest ∙ ap (λ (x : List ℕ). x ++ (body ++ rest)) (first_line-text k word n) ∙ append_assoc (first_text k word n) (10 ∷ []) (body ++ rest) in (
+      kind,
+      n,
+      body ++ rest,
+      record { line = first_text k word n; is = record { parts = parts; plain = first-plain k word n fine dark }; other = refl; head = first-head kind k word n fine dark is },
+      (subst (λ (x : List ℕ). IsBody kind n (body ++ rest) x fig) (sym behind) gives, omega arith, counted),
+    )
+
+-- texts that are the same one by one
+texts-same : (f g : ℕ → List ℕ) → ((v : ℕ) → f v ≡ g v) → (n : ℕ) → texts f n ≡ texts g n
+texts-same f g same zero = refl
+texts-same f g same (suc n) = ap₂ (λ (x : List ℕ) (y : List ℕ). x ++ y) (texts-same f g same n) (same n)
+
+list-small : (lists : Lists) (v : ℕ) → v < length lists → AreLists lists → All (λ u. u < 65535) (get_or lists v [])
+list-small lists v within are = All-get_or (λ us. All (λ u. u < 65535) us) lists v [] within are.neighbours
+
+-- a straight-line drawing
+grid-body : (job : GridJob) (lists : Lists) (points : List Point) (rest : List ℕ) → length points ≡ length lists → AreLists lists → All (λ p. IsCoordinate p.x × IsCoordinate p.y) points → IsBody (Grid job) (length lists) (grid_lines points lists (length lists) ++ rest) rest (GridFigure job lists points)
+unfolding grid_lines
+grid-body job lists points rest whole are inside =
+    let line : ℕ → List ℕ = λ v. grid_text v (point_at points v) (get_or lists v []) in
+    let fine : (v : ℕ) → v < length lists → IsFine v (point_at points v) (get_or lists v []) =
+    λ v h. let p = All-get_or (λ p. IsCoordinate p.x × IsCoordinate p.y) points v (record { x = pos 0; y = pos 0 }) (omega arith) inside in
+    record { place = omega (arith, are.most); x = p.0; y = p.1; small = list-small lists v h are } in
+    let same : closed (lines_upto line (length lists)) ≡ texts (λ v. grid_line v (point_at points v) (get_or lists v [])) (length lists) =
+    closed-lines_upto line (length lists) ∙ texts-same (λ v. line v ++ 10 ∷ []) (λ v. grid_line v (point_at points v) (get_or lists v [])) (λ v. sym (grid_line-text v (point_at points v) (get_or lists v []))) (length lists) in (
+      lines_upto line (length lists),
+      subst (λ (x : List ℕ). Rows (Grid job) (x ++ rest) (lines_upto line (length lists)) rest) same
+          (Rows-lines_upto (Grid job) line (length lists) rest
+          (λ v h. grid-plain v (point_at points v) (get_or lists v []) (fine v h))
+          (λ v h. grid-good job v (point_at points v) (get_or lists v []) (fine v h))),
+      length-lines_upto line (length lists),
+      ap₂ (λ (ls : Lists) (ps : List Point). GridFigure job ls ps)
+          (sym (of_lines-upto (vertices_from 4) line lists [] (length lists) (omega arith) (λ v h. grid-list v (point_at points v) (get_or lists v []) (fine v h)) ∙ take-length lists))
+          (sym (of_lines-upto point_of line points (record { x = pos 0; y = pos 0 }) (length lists) (omega arith) (λ v h. grid-point v (point_at points v) (get_or lists v []) (fine v (omega arith))) ∙ ap (λ (k : ℕ). take k points) (sym whole) ∙ take-length points)),
+    )
+
+-- a visibility drawing
+figure-same : {lists lists' : Lists} {y y' x1 x1' x2 x2' column column' : List ℤ} → lists' ≡ lists → y' ≡ y → x1' ≡ x1 → x2' ≡ x2 → column' ≡ column → BarsFigure lists (record { y = y; x1 = x1; x2 = x2; column = column }) ≡ BarsFigure lists' (record { y = y'; x1 = x1'; x2 = x2'; column = column' })
+figure-same is is_y is_a is_b is_c = cc
+
+column-take : {A : Type 0} (xs : List A) (n : ℕ) → length xs ≡ n → take n xs ≡ xs
+column-take xs n e = ap (λ (k : ℕ). take k xs) (sym e) ∙ take-length xs
+
+bars-body : (lists : Lists) (bars : BarFigure) (rest : List ℕ) → HasBars lists bars → AreLists lists → All IsCoordinate bars.y → All IsCoordinate bars.x1 → All IsCoordinate bars.x2 → All IsCoordinate bars.column → IsBody Bars (length lists) ((bar_lines bars lists (length lists) ++ columns_line bars.column) ++ rest) rest (BarsFigure lists bars)
+unfolding bar_lines
+bars-body lists bars rest whole are in_y in_a in_b in_column =
+    let line : ℕ → List ℕ = λ v. bar_text v (integer_at bars.y v) (integer_at bars.x1 v) (integer_at bars.x2 v) (get_or lists v []) in
+    let closed_line : ℕ → List ℕ = λ v. bar_line v (integer_at bars.y v) (integer_at bars.x1 v) (integer_at bars.x2 v) (get_or lists v []) in
+    let fine : (v : ℕ) → v < length lists → IsFineBar v (integer_at bars.y v) (integer_at bars.x1 v) (integer_at bars.x2 v) (get_or lists v []) =
+    λ v h. record {
+      place = omega (arith, are.most);
+      in_y = All-get_or IsCoordinate bars.y v (pos 0) (omega (arith, whole.y)) in_y;
+      in_a = All-get_or IsCoordinate bars.x1 v (pos 0) (omega (arith, whole.x1)) in_a;
+      in_b = All-get_or IsCoordinate bars.x2 v (pos 0) (omega (arith, whole.x2)) in_b;
+      small = list-small lists v h are;
+    } in
+    let same : closed (lines_upto line (length lists)) ≡ texts closed_line (length lists) =
+    closed-lines_upto line (length lists) ∙ texts-same (λ v. line v ++ 10 ∷ []) closed_line (λ v. sym (bar_line-text v (integer_at bars.y v) (integer_at bars.x1 v) (integer_at bars.x2 v) (get_or lists v []))) (length lists) in
+    let parts : closed (lines_upto line (length lists)) ++ (columns_text bars.column ++ 10 ∷ rest) ≡ (texts closed_line (length lists) ++ columns_line bars.column) ++ rest =
+    ap (λ (x : List ℕ). x ++ (columns_text bars.column ++ 10 ∷ rest)) same
+    ∙ sym (ap (λ (x : List ℕ). (texts closed_line (length lists) ++ x) ++ rest) (columns_line-text bars.column)
+    ∙ append_assoc (texts closed_line (length lists)) (columns_text bars.column ++ 10 ∷ []) rest
+    ∙ ap (λ (x : List ℕ). texts closed_line (length lists) ++ x) (append_assoc (columns_text bars.column) (10 ∷ []) rest)) in (
+      lines_upto line (length lists),
+      columns_text bars.column,
+      subst (λ (x : List ℕ). Rows Bars x (lines_upto line (length lists)) (columns_text bars.column ++ 10 ∷ rest)) parts
+          (Rows-lines_upto Bars line (length lists) (columns_text bars.column ++ 10 ∷ rest)
+          (λ v h. bar-plain v (integer_at bars.y v) (integer_at bars.x1 v) (integer_at bars.x2 v) (get_or lists v []) (fine v h))
+          (λ v h. bar-good v (integer_at bars.y v) (integer_at bars.x1 v) (integer_at bars.x2 v) (get_or lists v []) (fine v h))),
+      length-lines_upto line (length lists),
+      columns-plain bars.column in_column,
+      columns-shape bars.column in_column,
+      columns-range bars.column in_column,
+      figure-same
+          (of_lines-upto (vertices_from 6) line lists [] (length lists) (omega arith) (λ v h. bar-list v (integer_at bars.y v) (integer_at bars.x1 v) (integer_at bars.x2 v) (get_or lists v []) (fine v h)) ∙ take-length lists)
+          (of_lines-upto (integer_in 2) line bars.y (pos 0) (length lists) (omega (arith, whole.y)) (λ v h. bar-height v (integer_at bars.y v) (integer_at bars.x1 v) (integer_at bars.x2 v) (get_or lists v []) (fine v (omega (arith, whole.y)))) ∙ column-take bars.y (length lists) whole.y)
+          (of_lines-upto (integer_in 4) line bars.x1 (pos 0) (length lists) (omega (arith, whole.x1)) (λ v h. bar-begin v (integer_at bars.y v) (integer_at bars.x1 v) (integer_at bars.x2 v) (get_or lists v []) (fine v (omega (arith, whole.x1)))) ∙ column-take bars.x1 (length lists) whole.x1)
+          (of_lines-upto (integer_in 5) line bars.x2 (pos 0) (length lists) (omega (arith, whole.x2)) (λ v h. bar-end v (integer_at bars.y v) (integer_at bars.x1 v) (integer_at bars.x2 v) (get_or lists v []) (fine v (omega (arith, whole.x2)))) ∙ column-take bars.x2 (length lists) whole.x2)
+          (columns-again bars.column in_column),
+    )
+
+shift-dark : Dark (codes "shift")
+shift-dark = All-from_recursion (λ b. 33 ≤ b) (codes "shift") (lit≤ tt, (lit≤ tt, (lit≤ tt, (lit≤ tt, (lit≤ tt, tt)))))
+
+schnyder-dark : Dark (codes "schnyder")
+schnyder-dark =
+    All-from_recursion (λ b. 33 ≤ b) (codes "schnyder") (lit≤ tt, (lit≤ tt, (lit≤ tt, (lit≤ tt, (lit≤ tt, (lit≤ tt, (lit≤ tt, (lit≤ tt, tt))))))))
+
+bars-dark : Dark (codes "bars")
+bars-dark = All-from_recursion (λ b. 33 ≤ b) (codes "bars") (lit≤ tt, (lit≤ tt, (lit≤ tt, (lit≤ tt, tt))))
+
+job-dark : (job : GridJob) → Dark (job_word job)
+job-dark ByShift = shift-dark
+job-dark BySchnyder = schnyder-dark
+
+job-kind : (job : GridJob) → kind_of (word_of (job_word job)) ≡ Some (Grid job)
+job-kind ByShift = refl
+job-kind BySchnyder = refl
+
+pub printed-read : PrintedIsRead
+printed-read k (GridFigure job lists points) least most whole (are, inside) bytes at rest within here line =
+    stands (Grid job) k (job_word job) (length lists) (GridFigure job lists points) (grid_lines points lists (length lists))
+    (record { number_least = least; number_most = most; least = are.some; most = are.most }) (job-dark job) (job-kind job) bytes at rest line (line + (length lists + 1)) within here (omega arith)
+    (grid-body job lists points rest whole are inside)
+printed-read k (BarsFigure lists bars) least most whole (are, in_y, in_a, in_b, in_column) bytes at rest within here line =
+    stands Bars k (codes "bars") (length lists) (BarsFigure lists bars) (bar_lines bars lists (length lists) ++ columns_line bars.column)
+    (record { number_least = least; number_most = most; least = are.some; most = are.most }) bars-dark refl bytes at rest line (line + (length lists + 2)) within here (omega arith)
+    (bars-body lists bars rest whole are in_y in_a in_b in_column)

@@ -1,0 +1,42 @@
+-- Laws on figures as text.
+use Rattle.std.specs.Prelude.{ℕ, suc, ℤ, pos, negsuc, ◌+◌, ◌<◌, ◌≤◌, ◌≡◌, true, false, List, ◌++◌, length, drop, All}
+use Rattle.map_lists.specs.Lists.{Lists}
+use Rattle.figure_text.specs.declared.figure.Figure.{Figure}
+use Rattle.figure_text.specs.declared.figure.Figure.TheVariants.{Grid, Bars}
+use Rattle.figure_text.specs.declared.words.Signed.{Signed}
+use Rattle.figure_text.specs.declared.read.Item.TheVariants.{Drawn}
+use Rattle.figure_text.specs.Text.{figure_text, IsWhole}
+use Rattle.figure_text.specs.Figures.{StandsAt}
+
+-- a whole number by its sign and its size
+abbrev pub sign_of : ℤ → Signed
+sign_of (pos n) = record { negative = false; size = n }
+sign_of (negsuc n) = record { negative = true; size = suc n }
+
+-- a coordinate that is within its range
+abbrev pub IsCoordinate : ℤ → Type 0
+IsCoordinate z = (sign_of z).size ≤ 1048576
+
+-- the number of vertices, and the neighbours, from 0, are within their ranges
+pub record AreLists (lists : Lists) : Type 0 where
+  pub some : 1 ≤ length lists
+  pub most : length lists ≤ 4095
+  pub neighbours : All (λ us. All (λ u. u < 65535) us) lists
+
+-- all numbers of a figure are within the ranges of its text
+abbrev pub IsInRange : Figure → Type 0
+IsInRange (Grid job lists points) = AreLists lists × All (λ p. IsCoordinate p.x × IsCoordinate p.y) points
+IsInRange (Bars lists bars) =
+    AreLists lists × All IsCoordinate bars.y × All IsCoordinate bars.x1 × All IsCoordinate bars.x2 × All IsCoordinate bars.column
+
+-- how many lines the text of a figure has
+abbrev pub line_count : Figure → ℕ
+line_count (Grid job lists points) = length lists + 1
+line_count (Bars lists bars) = length lists + 2
+
+-- What is printed of a figure is read as that figure, wherever it stands and whatever follows.
+abbrev pub PrintedIsRead : Type 0
+PrintedIsRead =
+    (k : ℕ) (fig : Figure) → 1 ≤ k → k ≤ 16777216 → IsWhole fig → IsInRange fig → (bytes : List ℕ) (at : ℕ) (rest : List ℕ)
+    → at ≤ length bytes → drop at bytes ≡ figure_text k fig ++ rest
+    → (line : ℕ) → StandsAt bytes at line (Drawn fig (at + length (figure_text k fig)) (line + line_count fig))
