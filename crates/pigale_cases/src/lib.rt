@@ -12,3 +12,5 @@ mod failing;
 mod rows;
 #[cfg(test)]
 mod runs;
+#[cfg(test)]
+mod words;

@@ -1,7 +1,6 @@
 //! Inputs and texts of `count`.
-use crate::runs::{PLATONIC, PLATONIC_TEXT, TRIANGLE, TRIANGLE_TEXT, count, run_over};
+use crate::runs::{PLATONIC, PLATONIC_TEXT, TRIANGLE, TRIANGLE_TEXT, count};
 use half_edges::Rotations;
-use pg_io::SureSource;
 use pigale_shell::{Job, answer_record};
 use std::test::Fail;
 
@@ -156,26 +155,6 @@ fn cut_records_end_in_a_record(rt: HostRuntime) -> Result<(), Fail> {
                 assert_eq!(rt; ran.status, 3);
             }
         }
-    }
-    Ok(())
-}
-
-#[test]
-fn words_that_name_no_job_are_bad(rt: HostRuntime) -> Result<(), Fail> {
-    let rows: [&[&str]; 6] = [
-        &[],
-        &["draw"],
-        &["count", "shift"],
-        &["--help"],
-        &["count", "--form", "svg"],
-        &["Count"],
-    ];
-    for words in rows {
-        let mut source = SureSource::new(Vec::from_slice(rt.alloc(), TRIANGLE)?, 64);
-        let ran = run_over(rt.alloc(), words, &mut source, 1, &[])?;
-        assert_eq!(rt; ran.text.as_slice(), b"stop BadWords\n".as_slice());
-        assert_eq!(rt; ran.status, 2);
-        assert_eq!(rt; source.at, 0, "the source is not touched");
     }
     Ok(())
 }

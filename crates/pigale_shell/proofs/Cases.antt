@@ -1,10 +1,13 @@
 -- The text of a run, on worked cases. Each is a computation: the two sides come to the same value.
-use Rattle.std.specs.Prelude.{◌-◌, ◌≡◌, [], ◌∷◌, ◌++◌, map, codes, refl}
+use Rattle.std.specs.Prelude.{◌-◌, ◌≡◌, [], ◌∷◌, ◌++◌, map, codes, refl, Some, None}
 use Rattle.label_classes.specs.Classes.{merge}
 use Rattle.std.specs.Fmt.{digits}
 use Rattle.map_lists.specs.Lists.{Lists}
 use Rattle.map_definitions.specs.Maps.{entry_after, face_count, component_count}
 use Rattle.simple_maps.specs.Faults.{first_fault}
+use Rattle.clap.proofs.OnLiterals.{clap_on_literals}
+use Rattle.pigale_shell.specs.Words.{given, job_of}
+use Rattle.pigale_shell.specs.declared.job.Job.TheVariants.{Count}
 use Rattle.pigale_shell.specs.Text.{count_block, counts_line, refused_line, end_line}
 
 -- lists with vertices numbered from 1, as they are printed
@@ -36,3 +39,33 @@ out_of_range_block = refl
 last_line_of_three : end_line 3 0 ≡ codes "end records 3 refused 0" ++ 10 ∷ []
 unfolding end_line digits
 last_line_of_three = refl
+
+-- words, with `--` beside the job, an option that the job has not, and an option without a text
+
+count_alone : job_of (codes "count" ∷ []) ≡ Some Count
+unfolding given clap_on_literals
+count_alone = refl
+
+count_behind_hyphens : job_of (codes "--" ∷ codes "count" ∷ []) ≡ Some Count
+unfolding given clap_on_literals
+count_behind_hyphens = refl
+
+no_words : job_of [] ≡ None
+unfolding given clap_on_literals
+no_words = refl
+
+count_with_form : job_of (codes "count" ∷ codes "--form" ∷ codes "svg" ∷ []) ≡ None
+unfolding given clap_on_literals
+count_with_form = refl
+
+texts_of_options : given (codes "--form=svg" ∷ codes "shift" ∷ codes "--size" ∷ codes "5" ∷ []) ≡ Some (record { job = Some (codes "shift"); form = Some (codes "svg"); size = Some (codes "5"); number = None })
+unfolding given clap_on_literals
+texts_of_options = refl
+
+form_twice : given (codes "count" ∷ codes "--form=svg" ∷ codes "--form=png" ∷ []) ≡ None
+unfolding given clap_on_literals
+form_twice = refl
+
+form_without_text : given (codes "count" ∷ codes "--form" ∷ []) ≡ None
+unfolding given clap_on_literals
+form_without_text = refl

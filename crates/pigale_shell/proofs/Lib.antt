@@ -2,4 +2,5 @@
 mod RefusalLines
 mod PlanarLemmas
 mod OutcomeLemmas
+mod WordLemmas
 mod Cases

@@ -1,6 +1,5 @@
 -- The numbers of statuses, and why words are refused.
 use Rattle.std.specs.Prelude.{ℕ, ◌≡◌, Option, None}
-use Rattle.pigale_shell.specs.declared.job.Job.{Job}
 use Rattle.pigale_shell.specs.declared.job.Status.{Status}
 use Rattle.pigale_shell.specs.declared.job.Status.TheVariants.{Done, SomeRefused, BadWords, BadInput, ReadFault, WriteFault, NoMemory}
 use Rattle.pigale_shell.specs.declared.job.WordFault.{WordFault}
@@ -15,7 +14,7 @@ status_number ReadFault = 4
 status_number WriteFault = 5
 status_number NoMemory = 6
 
--- `BadWords` only where the words name no job; want of memory says nothing of them
-abbrev pub RefusesWords : Option Job → WordFault → Type 0
+-- `BadWords` only where the words give nothing; want of memory says nothing of them
+abbrev pub RefusesWords : {X : Type 0} → Option X → WordFault → Type 0
 RefusesWords found fault.BadWords = found ≡ None
 RefusesWords found fault.NoMemory = Unit {0}

@@ -1,10 +1,70 @@
 -- Which words are those of a job.
-use Rattle.std.specs.Prelude.{List, [], ◌∷◌, ℕ, Option, Some, None, if◌then◌else◌, codes, bytes_eq}
+use Rattle.std.specs.Prelude.{◌&&◌, ◌||◌, not, ℕ, Bool, true, List, [], ◌∷◌, Option, Some, None, is_some, option_and_then, if◌then◌else◌, codes, bytes_eq}
+use Rattle.clap.specs.Walk.{Row, Rule, Text, first_of}
+use Rattle.clap.specs.Simple.{App, Shape, matches_of, new_app, new_rule, on_top, with_rule}
+use Rattle.clap.specs.Kinds.{Kinds}
+use Rattle.clap.specs.Faults.{fault_of}
 use Rattle.pigale_shell.specs.declared.job.Job.{Job}
 use Rattle.pigale_shell.specs.declared.job.Job.TheVariants.{Count, Shift}
 
+-- an option `--name` with one text
+abbrev pub option : Text → Rule
+option name = record (new_rule name) { long = Some name }
+
+-- no word before those of the job, and no help
+abbrev pub without_extras : Shape → Shape
+without_extras s = record s { no_binary_name = true; disable_help_flag = true }
+
+-- the simple command as which clap reads the words: one positional, and the options of all jobs
+abbrev pub command : App
+command =
+    with_rule (with_rule (with_rule (with_rule (on_top without_extras (new_app (codes "pigale")))
+    (new_rule (codes "job"))) (option (codes "form"))) (option (codes "size"))) (option (codes "number"))
+
+-- the texts that the words give, each once at most
+pub record Given : Type 0 where
+  pub job : Option Text
+  pub form : Option Text
+  pub size : Option Text
+  pub number : Option Text
+
+abbrev pub given_in : List Row → Given
+given_in rows = record {
+  job = first_of (codes "job") rows;
+  form = first_of (codes "form") rows;
+  size = first_of (codes "size") rows;
+  number = first_of (codes "number") rows;
+}
+
+-- the same, where clap has no fault to name
+abbrev pub given_by : Kinds → List Row → Option Given
+given_by [] rows = Some (given_in rows)
+given_by (fault ∷ faults) rows = None
+
+-- what words give, which is nothing where clap refuses them
+unfoldable pub given : List Text → Option Given
+given words = given_by (fault_of command words) (matches_of command words)
+
+abbrev pub has_option : Given → Bool
+has_option g = is_some g.form || (is_some g.size || is_some g.number)
+
+-- the form of a figure is text, if one is given
+abbrev pub is_text : Option Text → Bool
+is_text None = true
+is_text (Some form) = bytes_eq form (codes "text")
+
+-- no option is given but the form, which is text
+abbrev pub draws_text : Given → Bool
+draws_text g = is_text g.form && not (is_some g.size || is_some g.number)
+
+-- the job of a word with the options beside it: `count` takes none, and a job that draws takes the form
+abbrev pub job_named : Given → Text → Option Job
+job_named g word =
+    if bytes_eq word (codes "count") && not (has_option g) then Some Count else if bytes_eq word (codes "shift") && draws_text g then Some Shift else None
+
+abbrev pub job_given : Given → Option Job
+job_given g = option_and_then (job_named g) g.job
+
 -- the job of the words after the program's name, each a list of bytes; None where they are bad
 abbrev pub job_of : List (List ℕ) → Option Job
-job_of [] = None
-job_of (word ∷ []) = if bytes_eq word (codes "count") then Some Count else if bytes_eq word (codes "shift") then Some Shift else None
-job_of (word ∷ other ∷ words) = None
+job_of words = option_and_then job_given (given words)

@@ -1,9 +1,6 @@
-//! Jobs, statuses and words.
-ghost use Rattle.std.specs.Prelude.{◌≡◌, map, MatchResult, Some, string_bytes};
-ghost use Rattle.pigale_shell.specs.Words.{job_of};
-ghost use Rattle.pigale_shell.specs.Status.{status_number, RefusesWords};
-
-use std::alloc::Global;
+//! Jobs and statuses.
+ghost use Rattle.std.specs.Prelude.{◌≡◌};
+ghost use Rattle.pigale_shell.specs.Status.{status_number};
 
 /// What a run does with each record of its input.
 #[derive(Clone, Copy, Debug, PartialEq, Eq)]
@@ -57,27 +54,4 @@ pub enum WordFault {
     BadWords,
     /// There was not enough memory.
     NoMemory,
-}
-
-/// The job of the words after the program's name: `count` alone is the job `Count`,
-/// and `shift` alone the job `Shift`.
-///
-/// `BadWords` comes exactly where they are those of no job.
-pub fn words_to_job(_alloc: Global, words: &[String]) -> Result<Job, WordFault>
-    ensures { MatchResult result
-        (λ job. job_of (map string_bytes words.now) ≡ Some job)
-        (RefusesWords (job_of (map string_bytes words.now))) }
-{
-    match words {
-        [word] => {
-            if word.as_str() == "count" {
-                Ok(Job::Count)
-            } else if word.as_str() == "shift" {
-                Ok(Job::Shift)
-            } else {
-                Err(WordFault::BadWords)
-            }
-        }
-        _ => Err(WordFault::BadWords),
-    }
 }

@@ -7,7 +7,9 @@ mod lines;
 mod planar;
 mod run;
 mod top;
+mod words;
 
 pub use answer::answer_record;
-pub use job::{Job, Status, WordFault, words_to_job};
+pub use job::{Job, Status, WordFault};
 pub use top::pigale;
+pub use words::words_to_job;

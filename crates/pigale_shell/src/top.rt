@@ -7,8 +7,9 @@ ghost use Rattle.pigale_shell.specs.Words.{job_of};
 ghost use Rattle.pigale_shell.specs.Outcome.{Writes, WritesTaken, GrowsByText, MayEnd};
 ghost use Rattle.pigale_shell.specs.JobInput.{RecordOf, EndingOf, reads_of};
 
-use super::job::{Job, Status, WordFault, words_to_job};
+use super::job::{Job, Status, WordFault};
 use super::run::run_job;
+use super::words::words_to_job;
 use pg_io::{Sink, Source, put_all};
 use std::alloc::Global;
 

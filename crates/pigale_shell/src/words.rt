@@ -1,0 +1,136 @@
+//! The words of the program, as clap reads them.
+ghost use Rattle.std.specs.Prelude.{◌≡◌, ◌≢◌, map, is_some, option_map, IfOk, MatchResult, Some, codes, string_bytes};
+ghost use Rattle.clap.specs.Matches.{found_of};
+ghost use Rattle.clap.specs.Values.{kind_of};
+ghost use Rattle.clap.specs.Walk.{first_of, rows_of};
+ghost use Rattle.clap.specs.Simple.{app_of};
+ghost use Rattle.pigale_shell.specs.Words.{command as the_command, given, given_in, has_option as gives_option, draws_text as gives_text, is_text, job_given as job_by};
+ghost use Rattle.pigale_shell.specs.Words.{job_of};
+ghost use Rattle.pigale_shell.specs.Status.{RefusesWords};
+
+use super::job::{Job, WordFault};
+use clap::error::ErrorKind;
+use clap::{Arg, ArgMatches, Command, Error};
+use std::alloc::{AllocError, Global};
+
+// The job's word, and the options of all jobs, each with one text.
+fn command<'a>(alloc: Global) -> Result<Command<'a>, AllocError>
+    ensures { IfOk result (λ r. app_of r ≡ the_command) }
+{
+    let job = Arg::new(alloc, "job");
+    let form = Arg::new(alloc, "form").long("form");
+    let size = Arg::new(alloc, "size").long("size");
+    let number = Arg::new(alloc, "number").long("number");
+    Command::new(alloc, "pigale")
+        .no_binary_name(true)
+        .disable_help_flag(true)
+        .arg(job)?
+        .arg(form)?
+        .arg(size)?
+        .arg(number)
+}
+
+// What clap refuses words for.
+fn fault_of(error: &Error) -> WordFault
+    ensures { result ≡ WordFault.BadWords → kind_of error.now ≢ ErrorKind.OutOfMemory }
+{
+    if error.kind() == ErrorKind::OutOfMemory {
+        WordFault::NoMemory
+    } else {
+        WordFault::BadWords
+    }
+}
+
+// What the words give.
+fn matches_of<'a>(alloc: Global, words: &'a [String]) -> Result<ArgMatches<'a>, WordFault>
+    ensures { MatchResult result
+        (λ matches. given (map string_bytes words.entry.now) ≡ Some (given_in (rows_of (found_of matches))))
+        (RefusesWords (given (map string_bytes words.entry.now))) }
+{
+    let Ok(command) = command(alloc) else {
+        return Err(WordFault::NoMemory);
+    };
+    match command.try_get_matches_from(words) {
+        Ok(matches) => Ok(matches),
+        Err(error) => Err(fault_of(&error)),
+    }
+}
+
+// The text that the words give for an argument.
+fn text_of<'a>(matches: &ArgMatches<'a>, id: &str) -> Option<&'a str>
+    ensures { option_map (λ text. text.now) result ≡ first_of id.now (rows_of (found_of matches.now)) }
+{
+    matches.get_str(id)
+}
+
+// Whether the words give one.
+fn is_given(matches: &ArgMatches, id: &str) -> bool
+    ensures { result ≡ is_some (first_of id.now (rows_of (found_of matches.now))) }
+{
+    match text_of(matches, id) {
+        Some(_) => true,
+        None => false,
+    }
+}
+
+// Whether they give an option.
+fn has_option(matches: &ArgMatches) -> bool
+    ensures { result ≡ gives_option (given_in (rows_of (found_of matches.now))) }
+{
+    is_given(matches, "form") || is_given(matches, "size") || is_given(matches, "number")
+}
+
+// Whether the form of figures is text.
+fn is_text_form(matches: &ArgMatches) -> bool
+    ensures { result ≡ is_text (first_of (codes "form") (rows_of (found_of matches.now))) }
+{
+    match text_of(matches, "form") {
+        Some(form) => form == "text",
+        None => true,
+    }
+}
+
+// Whether they give no option but the form, which is text.
+fn draws_text(matches: &ArgMatches) -> bool
+    ensures { result ≡ gives_text (given_in (rows_of (found_of matches.now))) }
+{
+    is_text_form(matches) && !(is_given(matches, "size") || is_given(matches, "number"))
+}
+
+// The job that the words ask for: none where there is no such job, or an option that it does not have.
+fn job_given(matches: &ArgMatches) -> Option<Job>
+    ensures { result ≡ job_by (given_in (rows_of (found_of matches.now))) }
+{
+    match text_of(matches, "job") {
+        Some(word) => {
+            if word == "count" && !has_option(matches) {
+                Some(Job::Count)
+            } else if word == "shift" && draws_text(matches) {
+                Some(Job::Shift)
+            } else {
+                None
+            }
+        }
+        None => None,
+    }
+}
+
+/// The job of the words after the program's name.
+///
+/// clap reads them as a command with one positional, the job's word, and the options `--form`, `--size`
+/// and `--number`, each with one text, which may follow as the next word or behind a `=`. `count` is the
+/// job `Count` and has none of these options; `shift` is the job `Shift` and has the first, of which the
+/// text `text` is the one that there is. `BadWords` comes exactly where the words are those of no
+/// job: where clap refuses them, where there is no such job, and where an option is there that the job
+/// does not have.
+pub fn words_to_job(alloc: Global, words: &[String]) -> Result<Job, WordFault>
+    ensures { MatchResult result
+        (λ job. job_of (map string_bytes words.now) ≡ Some job)
+        (RefusesWords (job_of (map string_bytes words.now))) }
+{
+    let matches = matches_of(alloc, words)?;
+    match job_given(&matches) {
+        Some(job) => Ok(job),
+        None => Err(WordFault::BadWords),
+    }
+}
