@@ -124,8 +124,7 @@ some_figure lists completion orders some_points draw simple plane some =
     let base = some_base lists more.0 simple more.1 more.2 in
     let order = orders more.0 (0, base.0) more.1 base.1 in
     let points = some_points more.0 (0, base.0) order.0 more.1 order.1 in
-    let figure : GridFigure = record { points = points.0; width = pos (2 * length more.0 - 4); height = pos (length more.0 - 2) } in
-    (
+    let figure : GridFigure = record { points = points.0; width = pos (2 * length more.0 - 4); height = pos (length more.0 - 2) } in (
       figure,
       figure_of_drawing lists more.0 simple more.1 more.2 base.0 base.1 base.2 figure (record {
         count = points.1.count;

@@ -1,6 +1,6 @@
 //! The figure of a record, or why it has none.
 ghost use Rattle.std.specs.Prelude.{◌≡◌, ◌*◌, ◌-◌, ◌≤◌, ◌<◌, ℕ, length, pos, Some, None, IfOk, IfErr, IfSome, IfNone, OnOk};
-ghost use Rattle.map_definitions.specs.Maps.{Dart, HasDart, IsPlane, vertex_count};
+ghost use Rattle.map_definitions.specs.Maps.{Dart, IsPlane, vertex_count};
 ghost use Rattle.plane_laws.specs.Completed.{IsCompleted};
 ghost use Rattle.half_edges.specs.Map.{IsLive, dart_at};
 ghost use Rattle.canon_order.specs.Orders.{IsCanonicalOrder, IsRankOf, vertices_of};
@@ -47,7 +47,7 @@ fn base_dart(tri: &HalfMap, first: Option<DartId>) -> DartId
 // The drawing of a completed map by a canonical order.
 fn order_figure(alloc: Global, tri: &HalfMap, order: &Order) -> Result<GridFigure, AllocError>
     requires completed { IsCompleted tri.now.lists }
-    requires order { (base : Dart) × HasDart tri.now.lists base.0 base.1 × IsCanonicalOrder tri.now.lists base (vertices_of order.now) }
+    requires order { (base : Dart) × IsCanonicalOrder tri.now.lists base (vertices_of order.now) }
     requires rank { IsRankOf order.now.rank (vertices_of order.now) }
     ensures { IfOk result (IsDrawnBy tri.now.lists (vertices_of order.now)) }
 {

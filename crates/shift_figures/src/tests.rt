@@ -60,3 +60,50 @@ fn on_a_torus(rt: HostRuntime) -> Result<(), Fail> {
     is_refused(&rt, rt.alloc(), &k4, ShiftRefusal::Genus(1))?;
     Ok(())
 }
+
+// Whether lists have a figure in a grid with these points for their first vertices.
+fn is_drawn(
+    rt: &impl Abort,
+    alloc: Global,
+    lists: &[&[u16]],
+    grid: (i32, i32),
+    points: &[(i32, i32)],
+) -> Result<(), Fail> {
+    let figure = match answer_to(rt, alloc, lists)? {
+        Ok(figure) => figure,
+        Err(_) => return Err("refused".into()),
+    };
+    assert!(rt; figure.width == grid.0 && figure.height == grid.1);
+    assert!(rt; figure.points.len() == lists.len());
+    assert!(rt; points.len() <= lists.len());
+    for v in 0..points.len() {
+        let point = figure.points.get(v);
+        assert!(rt; point.x == points[v].0 && point.y == points[v].1);
+    }
+    Ok(())
+}
+
+#[test]
+fn k4(rt: HostRuntime) -> Result<(), Fail> {
+    let lists: [&[u16]; 4] = [&[1, 2, 3], &[0, 3, 2], &[0, 1, 3], &[0, 2, 1]];
+    let points = [(4, 0), (0, 0), (2, 1), (2, 2)];
+    is_drawn(&rt, rt.alloc(), &lists, (4, 2), &points)
+}
+
+#[test]
+fn a_path(rt: HostRuntime) -> Result<(), Fail> {
+    let points = [(2, 0), (1, 1), (0, 0)];
+    is_drawn(&rt, rt.alloc(), &[&[2], &[2], &[0, 1]], (2, 1), &points)
+}
+
+#[test]
+fn three_isolated_vertices(rt: HostRuntime) -> Result<(), Fail> {
+    let points = [(2, 0), (0, 0), (1, 1)];
+    is_drawn(&rt, rt.alloc(), &[&[], &[], &[]], (2, 1), &points)
+}
+
+#[test]
+fn two_triangles(rt: HostRuntime) -> Result<(), Fail> {
+    let lists: [&[u16]; 6] = [&[1, 2], &[2, 0], &[0, 1], &[4, 5], &[5, 3], &[3, 4]];
+    is_drawn(&rt, rt.alloc(), &lists, (8, 4), &[(8, 0), (0, 0)])
+}

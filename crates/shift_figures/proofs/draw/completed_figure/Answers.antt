@@ -8,7 +8,7 @@ use Rattle.shift_figures.proofs.draw.completed_figure.Goals as goal
 pub order_figure-requires-clause-order : goal.order_figure-requires-clause-order
 order_figure-requires-clause-order c =
     let x = some_of (dart_at c.args.tri.now c.args.base.0) c.requires.live in
-    (x.0, c.facts.ensures.is_dart c.args.base.0 x.0.0 x.0.1 x.1, c.in-Ok.ensures.order x.0.0 x.0.1 x.1)
+    (x.0, c.in-Ok.ensures.order x.0.0 x.0.1 x.1)
 
 pub returns : goal.returns
 returns c =
