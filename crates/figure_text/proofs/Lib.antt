@@ -8,3 +8,5 @@ pub mod UptoLemmas
 pub mod RoundLemmas
 pub mod BarLemmas
 pub mod LawLemmas
+pub mod UniqueRows
+pub mod UniqueFigures

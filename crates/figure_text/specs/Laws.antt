@@ -1,12 +1,15 @@
 -- Laws on figures as text.
-use Rattle.std.specs.Prelude.{ℕ, suc, ℤ, pos, negsuc, ◌+◌, ◌<◌, ◌≤◌, ◌≡◌, true, false, List, ◌++◌, length, drop, All}
+use Rattle.std.specs.Prelude.{ℕ, suc, ℤ, pos, negsuc, ◌+◌, ◌<◌, ◌≤◌, ◌≡◌, ◌≢◌, true, false, List, ◌++◌, length, drop, All, Result, Ok, Err}
 use Rattle.map_lists.specs.Lists.{Lists}
 use Rattle.figure_text.specs.declared.figure.Figure.{Figure}
 use Rattle.figure_text.specs.declared.figure.Figure.TheVariants.{Grid, Bars}
 use Rattle.figure_text.specs.declared.words.Signed.{Signed}
+use Rattle.figure_text.specs.declared.read.Item.{Item}
 use Rattle.figure_text.specs.declared.read.Item.TheVariants.{Drawn}
+use Rattle.figure_text.specs.declared.fault.TextFault.{TextFault}
+use Rattle.figure_text.specs.declared.fault.TextFault.TheVariants.{NoMemory}
 use Rattle.figure_text.specs.Text.{figure_text, IsWhole}
-use Rattle.figure_text.specs.Figures.{StandsAt}
+use Rattle.figure_text.specs.Figures.{StandsAt, FailsAt}
 
 -- a whole number by its sign and its size
 abbrev pub sign_of : ℤ → Signed
@@ -40,3 +43,14 @@ PrintedIsRead =
     (k : ℕ) (fig : Figure) → 1 ≤ k → k ≤ 16777216 → IsWhole fig → IsInRange fig → (bytes : List ℕ) (at : ℕ) (rest : List ℕ)
     → at ≤ length bytes → drop at bytes ≡ figure_text k fig ++ rest
     → (line : ℕ) → StandsAt bytes at line (Drawn fig (at + length (figure_text k fig)) (line + line_count fig))
+
+-- the answer at an offset: what stands there, or why nothing does
+abbrev pub IsAnswer : List ℕ → ℕ → ℕ → Result Item TextFault → Type 0
+IsAnswer bytes at line (Ok item) = StandsAt bytes at line item
+IsAnswer bytes at line (Err fault) = FailsAt bytes at line fault
+
+-- But for want of memory there is one answer at an offset.
+abbrev pub OneAnswer : Type 0
+OneAnswer =
+    (bytes : List ℕ) (at line : ℕ) → at ≤ length bytes → (r s : Result Item TextFault) → IsAnswer bytes at line r → IsAnswer bytes at line s
+    → r ≢ Err NoMemory → s ≢ Err NoMemory → r ≡ s

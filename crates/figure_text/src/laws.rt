@@ -1,5 +1,5 @@
 //! Laws on figures as text, each the contract of a function that does nothing.
-ghost use Rattle.figure_text.specs.Laws.{PrintedIsRead};
+ghost use Rattle.figure_text.specs.Laws.{PrintedIsRead, OneAnswer};
 
 /// What `print_figure` appends of a figure is read back as the same figure, wherever it stands and whatever
 /// follows: `read_figure` may answer that figure, with the offset behind what was appended. All numbers of the
@@ -7,4 +7,11 @@ ghost use Rattle.figure_text.specs.Laws.{PrintedIsRead};
 /// neighbours from 1 to 65535, and coordinates from -1048576 to 1048576.
 pub fn printed_is_read()
     ensures { PrintedIsRead }
+{}
+
+/// But for want of memory there is one answer at an offset of a text: two items, two faults, or an item and a
+/// fault that both hold there are the same. So what `print_figure` appended is read as that figure, and as
+/// nothing else.
+pub fn one_answer()
+    ensures { OneAnswer }
 {}

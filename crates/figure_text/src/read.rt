@@ -4,6 +4,7 @@ ghost use Rattle.figure_text.specs.Words.{words_of};
 ghost use Rattle.figure_text.specs.Lines.{integer_of, IsFirstLine, FirstInRange, kind_of, size};
 ghost use Rattle.figure_text.specs.Reading.{IsPlain, IsLine, is_note as is_note_line};
 ghost use Rattle.figure_text.specs.Drafts.{drafted, RowsTo};
+ghost use Rattle.figure_text.specs.Laws.{IsAnswer};
 ghost use Rattle.figure_text.specs.Figures.{columns_of, IsDrawn, BodyFails, JudgesColumns, JudgesFirst, MatchFirst, ColumnsFail, StandsAt, FailsAt};
 
 use crate::judge::{Judged, Kind, behind, job_kind, judged_columns, judged_first, size_of, word};
@@ -268,7 +269,7 @@ fn figure_of(
 pub fn read_figure(alloc: Global, bytes: &[u8], at: usize, line: u32) -> Result<Item, TextFault>
     requires within { at ≤ length bytes.now }
     requires few { line ≤ 16777217 }
-    ensures { MatchResult result (StandsAt bytes.now at line) (FailsAt bytes.now at line) }
+    ensures { IsAnswer bytes.now at line result }
 {
     if at == bytes.len() {
         return Ok(Item::End);
