@@ -1,0 +1,2 @@
+-- The maps of the generator.
+mod Cases

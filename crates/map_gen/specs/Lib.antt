@@ -1,0 +1,3 @@
+-- The generator of maps.
+pub mod Stacked
+pub mod Laws

@@ -1,0 +1,2 @@
+//! Small made maps.
+use std::test::Fail;
