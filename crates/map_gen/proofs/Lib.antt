@@ -1,2 +1,5 @@
 -- The maps of the generator.
 mod Cases
+mod Stackings
+mod Start
+mod VertexPut

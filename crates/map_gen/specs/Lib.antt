@@ -1,3 +1,4 @@
 -- The generator of maps.
-pub mod Stacked
+pub mod Faces
 pub mod Laws
+pub mod Stacked

@@ -1,2 +1,0 @@
-//! Small made maps.
-use std::test::Fail;
