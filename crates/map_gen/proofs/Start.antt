@@ -129,6 +129,10 @@ module _ (m : ℕ) where
   distinct (suc (suc zero)) = two_apart 0 1 (omega arith)
   distinct (suc (suc (suc v))) = subst (AllPairs ◌≢◌) (sym (list_of-none m v)) (search rules)
 
+  pub isolated : (v : ℕ) → 3 ≤ v → list_of lists v ≡ []
+  isolated (suc (suc (suc v))) l = list_of-none m v
+  isolated v l = absurd (omega arith)
+
   pub simple : IsSimpleMap lists
   simple =
       let n = length-triangle in
