@@ -124,16 +124,16 @@ module _ (lists : Lists) (k : ℕ) (f : Face) (simple : IsSimpleMap lists) (face
   not_k : (v u : ℕ) → HasDart lists v u → v ≢ k
   not_k v u h e = no_dart u (subst (λ x. HasDart lists x u) e h)
 
-  not_to_k : (v : ℕ) → ¬ HasDart lists v k
+  pub not_to_k : (v : ℕ) → ¬ HasDart lists v k
   not_to_k v h = no_dart v (simple.both_ways v k h)
 
   a_k : a ≢ k
   a_k = not_k a b face.edge
 
-  b_k : b ≢ k
+  pub b_k : b ≢ k
   b_k = not_k b a has_ba
 
-  c_k : c ≢ k
+  pub c_k : c ≢ k
   c_k = not_k c a has_ca
 
   abbrev at_a : ℕ
