@@ -1,5 +1,6 @@
 -- The maps of the generator.
 mod Cases
+mod Making
 mod Spokes
 mod Stackings
 mod Start
