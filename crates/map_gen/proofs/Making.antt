@@ -133,7 +133,3 @@ module _ (n number k : ℕ) (map : Map) (ids : List FaceDarts) (row : ℕ) (some
               j (omega arith);
         } in
         subst (λ z. IsMade z new grown (next_number row)) (sym (before_next n number k some)) made
-
--- DONE
-pub lists_made : (n number k : ℕ) (map : Map) (ids : List FaceDarts) (row : ℕ) → k ≡ n → IsMade (before n number k) map ids row → map.lists ≡ stacked n number
-lists_made n number k map ids row e h = h.lists ∙ ap (λ z. (before n number z).lists) e

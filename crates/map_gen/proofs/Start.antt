@@ -144,15 +144,6 @@ module _ (m : ℕ) where
         both_ways = λ v u h. (let d = dart_within v u h in HasDart-three u v d.1 d.0 (λ e. d.2 (sym e)));
       }
 
-  two_is : without_edge lists 1 2 ≡ two_edges
-  two_is = refl
-
-  one_is : without_edge two_edges 0 2 ≡ one_edge
-  one_is = refl
-
-  none_is : without_edge one_edge 0 1 ≡ no_edge
-  none_is = refl
-
   last_edge : HasDart lists 1 2
   last_edge = HasDart-three 1 2 (omega arith) (omega arith) (omega arith)
 

@@ -8,8 +8,8 @@ mod stack;
 
 pub use stack::stacked;
 
-/// Each map that the generator makes of at least three vertices has just these, genus zero, and triangles
-/// for all its faces.
+/// Each map that the generator makes of n vertices, at least three, has just these. It is a simple map of
+/// genus zero with 3n - 6 edges, and so all its faces are triangles.
 pub fn stacked_is_completed()
     ensures { StackedIsCompleted }
 {}
