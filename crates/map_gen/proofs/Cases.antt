@@ -13,3 +13,7 @@ tetrahedron = refl
 five_vertices : stacked 5 0 ≡ (1 ∷ 4 ∷ 3 ∷ 2 ∷ []) ∷ (2 ∷ 3 ∷ 4 ∷ 0 ∷ []) ∷ (0 ∷ 3 ∷ 1 ∷ []) ∷ (0 ∷ 4 ∷ 1 ∷ 2 ∷ []) ∷ (1 ∷ 3 ∷ 0 ∷ []) ∷ []
 unfolding stacking
 five_vertices = refl
+
+seven_vertices : stacked 7 1 ≡ (1 ∷ 6 ∷ 3 ∷ 4 ∷ 2 ∷ []) ∷ (2 ∷ 3 ∷ 6 ∷ 0 ∷ []) ∷ (0 ∷ 4 ∷ 5 ∷ 3 ∷ 1 ∷ []) ∷ (0 ∷ 6 ∷ 1 ∷ 2 ∷ 5 ∷ 4 ∷ []) ∷ (0 ∷ 3 ∷ 5 ∷ 2 ∷ []) ∷ (2 ∷ 4 ∷ 3 ∷ []) ∷ (1 ∷ 3 ∷ 0 ∷ []) ∷ []
+unfolding stacking
+seven_vertices = refl

@@ -10,7 +10,7 @@ use Rattle.half_edges.specs.Map.{Map, dart_at}
 use Rattle.half_edges.specs.Edges.{with_edge, corner_place}
 use Rattle.half_edges.specs.declared.edges.Corner.{Corner}
 use Rattle.half_edges.specs.declared.edges.Corner.TheVariants.{After, Only}
-use Rattle.map_gen.specs.Stacked.{Face, with_vertex}
+use Rattle.map_gen.specs.Stacked.{Face}
 use Rattle.map_gen.specs.Faces.{IsFaceOf}
 use Rattle.map_gen.specs.Darts.{HasDarts, IsVertexPut}
 use Rattle.map_gen.specs.declared.stack.FaceDarts.{FaceDarts}

@@ -1,13 +1,12 @@
 -- What the generator keeps: as many vertices as were put in have edges, three for each, and its faces are faces of the map, no two of which share a dart.
-use Rattle.std.proofs.Common.{◌≡◌, ◌≢◌, ◌⊎◌, ℕ, zero, suc, ◌+◌, ◌*◌, ◌-◌, ◌/◌, ◌%◌, ◌<◌, ◌≤◌, ◌==◌, ◌&&◌, true, false, if◌then◌else◌, eqb, cond, List, [], ◌∷◌, ◌++◌, length, get_or, set, refl, sym, ap, ap₂, ◌∙◌, subst, inl, inr, arith, length-set, length-append, get_or-set_same, get_or-set_other}
-use Rattle.std.proofs.lemmas.Bool.{cases_eq, cases_lt, eq-eqb, ne_eqb}
+use Rattle.std.proofs.Common.{◌≡◌, ◌≢◌, ℕ, zero, suc, ◌+◌, ◌*◌, ◌-◌, ◌<◌, ◌≤◌, ◌==◌, ◌&&◌, if◌then◌else◌, List, [], ◌∷◌, length, get_or, set, refl, sym, ap, ap₂, ◌∙◌, subst, inl, inr, arith, length-set, length-append, get_or-set_same, get_or-set_other}
+use Rattle.std.proofs.lemmas.Bool.{cases_eq, cases_lt}
 use Rattle.std.proofs.lemmas.Bool.Decides.{nat_tests}
 use Rattle.std.proofs.lemmas.List.{get_or_append_left, get_or-append-add}
 use Rattle.map_lists.specs.Lists.{Lists}
-use Rattle.map_definitions.specs.Maps.{list_of, HasDart, IsSimpleMap, IsPlane, follows, edge_count, vertex_count}
+use Rattle.map_definitions.specs.Maps.{list_of, HasDart, IsSimpleMap, IsPlane, edge_count}
 use Rattle.map_definitions.proofs.DartLemmas.{HasDart-follows}
-use Rattle.plane_laws.specs.Completed.{IsCompleted}
-use Rattle.map_gen.specs.Stacked.{Face, Stacking, with_vertex, with_faces, face_at, next_number, chosen, stack, triangle, stacking, stacked}
+use Rattle.map_gen.specs.Stacked.{Face, Stacking, with_vertex, with_faces, face_at, next_number, chosen, stack, triangle, stacking}
 use Rattle.map_gen.specs.Faces.{IsFaceOf, IsOn, IsOwned, IsStacked}
 use Rattle.map_gen.specs.Laws.{StackedIsCompleted}
 use Rattle.map_gen.proofs.Start as start

@@ -50,11 +50,7 @@ fn triangle(alloc: Global, n: u16) -> Result<Rotations, AllocError>
 
 // Joins the isolated vertex k to the vertices of a face, and answers the three faces into which that is
 // parted: those of its first, second and third dart.
-fn put_vertex(
-    map: &mut HalfMap,
-    k: VertexId,
-    face: FaceDarts,
-) -> (FaceDarts, FaceDarts, FaceDarts)
+fn put_vertex(map: &mut HalfMap, k: VertexId, face: FaceDarts) -> (FaceDarts, FaceDarts, FaceDarts)
     requires spare { 3 ≤ map.old.spare }
     requires vertex { k.0 < length map.old.lists }
     requires alone { list_of map.old.lists k.0 ≡ [] }
@@ -146,10 +142,10 @@ pub fn stacked(alloc: Global, n: u16, number: u32) -> Result<Rotations, AllocErr
     map.reserve_edges(3 * (n as u32 - 3))?;
     let mut faces = Vec::new(alloc);
     faces.push(inner_face(&map))?;
-    let mut number = number;
+    let mut row = number;
     for k in 3..n {
-        number = next_number(number);
-        let i = chosen(number, faces.len());
+        row = next_number(row);
+        let i = chosen(row, faces.len());
         let parts = put_vertex(&mut map, VertexId(k), faces[i]);
         faces[i] = parts.0;
         faces.push(parts.1)?;

@@ -1,4 +1,3 @@
-use Rattle.std.proofs.Common.{arith}
 use Rattle.map_gen.proofs.stack.inner_face.Goals as goal
 
 pub dart_of-requires-clause-v_in : goal.dart_of-requires-clause-v_in

@@ -7,5 +7,5 @@ invariant-loop-k l = record {
   some : 3 ≤ l.k;
   most : l.k ≤ l.n;
   room : l.map.spare + 3 * l.k ≡ 3 * l.n;
-  made : IsMade (before l.n l.fn.number l.k) l.map l.faces.items l.number;
+  made : IsMade (before l.n l.fn.number l.k) l.map l.faces.items l.row;
 }
