@@ -1,0 +1,5 @@
+-- The generator of maps.
+pub mod Darts
+pub mod Faces
+pub mod Laws
+pub mod Stacked
