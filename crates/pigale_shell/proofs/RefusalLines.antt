@@ -1,9 +1,14 @@
 -- The line of a refusal, put together.
-use Rattle.std.proofs.Common.{◌≡◌, ℕ, List, [], ◌∷◌, ◌++◌, decimal, ap, ◌∙◌}
-use Rattle.pigale_shell.specs.Text.{refused_line}
+use Rattle.std.proofs.Common.{◌≡◌, ◌≢◌, ℕ, List, [], ◌∷◌, ◌++◌, codes, decimal, refl, ap, ◌∙◌, Result, Ok, Err, OnOk}
+use Rattle.map_lists.specs.Lists.{Lists}
+use Rattle.shift_figures.specs.Refusals.{small, genus_above, shift_refusal}
+use Rattle.shift_figures.specs.Names.{Names}
+use Rattle.shift_figures.specs.declared.refusal.ShiftRefusal.{ShiftRefusal}
+use Rattle.shift_figures.specs.declared.refusal.ShiftRefusal.TheVariants.{Fault, Small, Genus}
+use Rattle.pigale_shell.specs.Text.{refused_line, refusal_line, IsShiftBlock}
 use Rattle.simple_maps.specs.declared.fault.MapFault.{MapFault}
 use Rattle.simple_maps.specs.declared.fault.MapFault.TheVariants.{OutOfRange, Loop, Repeated, OneSided, NoMemory}
-use Rattle.pigale_shell.specs.Lines.{fault_bytes, WritesFault}
+use Rattle.pigale_shell.specs.Lines.{fault_bytes, WritesFault, WritesRefusal}
 
 -- a text of the parts of the line is the line
 pub WritesFault-from_parts : (k : ℕ) (fault : MapFault) (front text : List ℕ) → text ≡ ((front ++ 32 ∷ decimal k) ++ 32 ∷ fault_bytes fault) ++ 10 ∷ [] → front ≡ 114 ∷ 101 ∷ 102 ∷ 117 ∷ 115 ∷ 101 ∷ 100 ∷ [] → WritesFault k fault text
@@ -13,3 +18,31 @@ WritesFault-from_parts k (Loop v) front text is_text is_front = is_text ∙ ap (
 WritesFault-from_parts k (Repeated v u) front text is_text is_front = is_text ∙ ap (λ (f : List ℕ). ((f ++ 32 ∷ decimal k) ++ 32 ∷ fault_bytes (Repeated v u)) ++ 10 ∷ []) is_front
 WritesFault-from_parts k (OneSided v u) front text is_text is_front = is_text ∙ ap (λ (f : List ℕ). ((f ++ 32 ∷ decimal k) ++ 32 ∷ fault_bytes (OneSided v u)) ++ 10 ∷ []) is_front
 WritesFault-from_parts k NoMemory front text is_text is_front = tt
+
+-- the parts of the line of a name and a number
+abbrev named_text : ℕ → List ℕ → ℕ → List ℕ
+named_text k name given = ((codes "refused" ++ 32 ∷ decimal k) ++ 32 ∷ (name ++ 32 ∷ decimal given)) ++ 10 ∷ []
+
+pub WritesRefusal-small : (k n given : ℕ) (name text : List ℕ) (refusal : ShiftRefusal) → refusal ≡ Small n → given ≡ n → name ≡ codes "5 Small" → text ≡ named_text k name given → WritesRefusal k refusal text
+unfolding refusal_line
+WritesRefusal-small k n given name text refusal is same named e = rw is (e ∙ ap (λ (f : List ℕ). named_text k f given) named ∙ ap (λ (g : ℕ). named_text k (codes "5 Small") g) same)
+
+pub WritesRefusal-genus : (k g given : ℕ) (name text : List ℕ) (refusal : ShiftRefusal) → refusal ≡ Genus g → given ≡ g → name ≡ codes "6 Genus" → text ≡ named_text k name given → WritesRefusal k refusal text
+unfolding refusal_line
+WritesRefusal-genus k g given name text refusal is same named e = rw is (e ∙ ap (λ (f : List ℕ). named_text k f given) named ∙ ap (λ (h : ℕ). named_text k (codes "6 Genus") h) same)
+
+-- the line of a refusal that names the first condition which the record breaks is the record's block
+pub IsShiftBlock-refused : (k : ℕ) (lists : Lists) (refusal : ShiftRefusal) (text : List ℕ) → Names (shift_refusal lists) refusal → refusal ≢ Fault NoMemory → WritesRefusal k refusal text → IsShiftBlock k lists text
+unfolding refusal_line
+IsShiftBlock-refused k lists (Fault (OutOfRange v u)) text names other writes = rw names writes
+IsShiftBlock-refused k lists (Fault (Loop v)) text names other writes = rw names writes
+IsShiftBlock-refused k lists (Fault (Repeated v u)) text names other writes = rw names writes
+IsShiftBlock-refused k lists (Fault (OneSided v u)) text names other writes = rw names writes
+IsShiftBlock-refused k lists (Fault NoMemory) text names other writes = absurd (other refl)
+IsShiftBlock-refused k lists (Small n) text names other writes = rw names writes
+IsShiftBlock-refused k lists (Genus g) text names other writes = rw names writes
+
+-- what follows where there is an answer
+pub OnOk-then : {T E : Type 0} (result : Result T E) (P Q : Type 0) → (P → Q) → OnOk result P → OnOk result Q
+OnOk-then (Ok v) P Q f p = f p
+OnOk-then (Err e) P Q f p = tt

@@ -5,7 +5,8 @@ use Rattle.map_definitions.specs.Maps.{vertex_count, edge_count, face_count, com
 use Rattle.simple_maps.specs.Faults.{Fault, out_of_range, loop_at, repeated, one_sided, first_fault}
 use Rattle.pg_plane.specs.declared.figure.GridFigure.{GridFigure}
 use Rattle.shift_figures.specs.Figures.{IsShiftFigure}
-use Rattle.shift_figures.specs.Refusals.{Refusal, fault, small, genus_above, shift_refusal}
+use Rattle.shift_figures.specs.Refusals.{Refusal, small, genus_above, shift_refusal}
+use Rattle.shift_figures.specs.Refusals as why
 use Rattle.figure_text.specs.Text.{grid_text}
 use Rattle.figure_text.specs.declared.figure.GridJob.TheVariants.{Shift}
 use Rattle.planar_code.specs.Reading.{Ending, well, end_in_record, bad_count, too_long}
@@ -54,7 +55,7 @@ count_refuses lists = is_some (first_fault lists)
 
 -- the line that refuses record k by the first condition of the job `shift` that it breaks
 unfoldable pub refusal_line : ℕ → Refusal → List ℕ
-refusal_line k (fault f) = refused_line k f
+refusal_line k (why.fault f) = refused_line k f
 refusal_line k (small n) = line (word_and_number (codes "refused") k ++ 32 ∷ word_and_number (codes "5 Small") n)
 refusal_line k (genus_above g) = line (word_and_number (codes "refused") k ++ 32 ∷ word_and_number (codes "6 Genus") g)
 

@@ -1,6 +1,9 @@
 //! The answer to one record.
 ghost use Rattle.std.specs.Prelude.{◌≡◌, ◌<◌, ◌≤◌, ◌++◌, ◌↔◌, List, ℕ, length, true, false, not, IsTrue, IsFalse, IfOk, OnOk, OnErr};
 ghost use Rattle.pigale_shell.specs.Text.{count_block, count_refuses, IsShiftBlock, shift_refuses};
+ghost use Rattle.map_lists.specs.Lists.{Lists};
+ghost use Rattle.shift_figures.specs.Refusals.{shift_refusal};
+ghost use Rattle.shift_figures.specs.Names.{Names};
 ghost use Rattle.pigale_shell.specs.Answer.{IsBlock, is_refused};
 
 use super::job::Job;
@@ -96,8 +99,26 @@ fn shift_record(
             print_grid(alloc, number, GridJob::Shift, lists, &figure.points, out)?;
             Ok(true)
         }
-        Err(ShiftRefusal::Fault(MapFault::NoMemory)) => Err(AllocError),
-        Err(refusal) => refuse(&drawing_refusal_line(alloc, number, refusal)?, out),
+        Err(refusal) => refuse_drawing(alloc, number, refusal, out),
+    }
+}
+
+// Appends the refusal of any record that breaks this condition first.
+fn refuse_drawing(
+    alloc: Global,
+    number: u32,
+    refusal: ShiftRefusal,
+    out: &mut Vec<u8>,
+) -> Result<bool, AllocError>
+    ensures block { OnOk result ((lists : Lists) → Names (shift_refusal lists) refusal
+        → (block : List ℕ) × IsShiftBlock number lists block × (out.new.items ≡ out.old.items ++ block)) }
+    ensures refused { IfOk result (λ served. (lists : Lists) → Names (shift_refusal lists) refusal
+        → served ≡ not (shift_refuses lists)) }
+    ensures err { OnErr result (out.new.items ≡ out.old.items) }
+{
+    match refusal {
+        ShiftRefusal::Fault(MapFault::NoMemory) => Err(AllocError),
+        _ => refuse(&drawing_refusal_line(alloc, number, refusal)?, out),
     }
 }
 
