@@ -13,15 +13,6 @@ far_along-more start offsets us j l =
     let same : sum_by (λ u. get_or offsets u 0) (take (suc j) us) ≡ sum_by (λ u. get_or offsets u 0) (take (j + 1) us) = ap (λ i. sum_by (λ u. get_or offsets u 0) (take i us)) e in
     omega arith
 
--- none are passed at first
-pub ArePassed-none : (start v : ℕ) (us offsets covers : List ℕ) → ArePassed start v us 0 offsets offsets covers covers
-ArePassed-none start v us offsets covers = record {
-  passed = λ i l. absurd (omega (arith, l));
-  covered = λ i l. absurd (omega (arith, l));
-  others = λ u n. refl;
-  same = λ u n. refl;
-}
-
 -- the next one is passed
 pub ArePassed-more :
     (start v : ℕ) (us : List ℕ) (j : ℕ) (old now : List ℕ) (old' now' : List ℕ)
