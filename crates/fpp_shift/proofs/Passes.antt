@@ -1,5 +1,5 @@
 -- Going along the vertices that a new vertex covers.
-use Rattle.std.proofs.Common.{◌≡◌, ◌≢◌, ◌+◌, ◌<◌, ◌≤◌, ℕ, suc, List, length, get_or, set, take, AllPairs, sum_by, refl, sym, ap, ◌∙◌, subst, inl, inr, arith}
+use Rattle.std.proofs.Common.{◌≡◌, ◌≢◌, ◌+◌, ◌<◌, ◌≤◌, ℕ, suc, List, length, get_or, set, take, AllPairs, sum_by, sym, ap, ◌∙◌, subst, inl, inr, arith}
 use Rattle.std.proofs.lemmas.Bool.{cases_lt}
 use Rattle.std.proofs.lemmas.List.{get_or-set_same, get_or-set_other}
 use Rattle.std.proofs.lemmas.List.Sums.{sum_by_more, sum_by-take-le}
@@ -12,15 +12,6 @@ far_along-more start offsets us j l =
     let more = sum_by_more (λ u. get_or offsets u 0) us j 0 l in
     let same : sum_by (λ u. get_or offsets u 0) (take (suc j) us) ≡ sum_by (λ u. get_or offsets u 0) (take (j + 1) us) = ap (λ i. sum_by (λ u. get_or offsets u 0) (take i us)) e in
     omega arith
-
--- none are passed at first
-pub ArePassed-none : (start v : ℕ) (us offsets covers : List ℕ) → ArePassed start v us 0 offsets offsets covers covers
-ArePassed-none start v us offsets covers = record {
-  passed = λ i l. absurd (omega (arith, l));
-  covered = λ i l. absurd (omega (arith, l));
-  others = λ u n. refl;
-  same = λ u n. refl;
-}
 
 -- the next one is passed
 pub ArePassed-more :
