@@ -1,0 +1,9 @@
+-- Lemmas on drawings by the shift method.
+mod Passes
+mod Puts
+mod Writes
+mod Sums
+mod RunRows
+mod RowLemmas
+mod OrderRows
+mod DrawLemmas

@@ -1,0 +1,21 @@
+//! Why there is no drawing.
+
+use std::alloc::AllocError;
+
+/// Why a completed map got no drawing by the shift method.
+#[derive(Clone, Copy, Debug, PartialEq, Eq)]
+pub enum ShiftFault {
+    /// There was not enough memory.
+    NoMemory,
+}
+
+impl From<AllocError> for ShiftFault {
+    ghost use Rattle.std.specs.Prelude.{◌≡◌};
+    ghost use Rattle.fpp_shift.specs.declared.fault.ShiftFault.TheVariants.{NoMemory};
+
+    ghost from_gives = { λ _ fault. fault ≡ NoMemory };
+
+    fn from(_refused: AllocError) -> ShiftFault {
+        ShiftFault::NoMemory
+    }
+}

@@ -1,0 +1,13 @@
+//! Drawings of completed maps by the shift method of de Fraysseix, Pach and Pollack (1990), in linear time.
+#![tactic(auto)]
+
+mod draw;
+mod fault;
+mod offsets;
+mod rows;
+
+pub use draw::shift_draw;
+pub use fault::ShiftFault;
+
+#[cfg(test)]
+mod tests;
