@@ -1,0 +1,4 @@
+-- Lemmas for figures.
+pub mod FigureLemmas
+pub mod RefusalLemmas
+mod Cases
