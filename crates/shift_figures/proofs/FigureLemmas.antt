@@ -22,7 +22,7 @@ use Rattle.canon_order.specs.Laws.{SomeOrder}
 use Rattle.shift_figures.specs.Bases.{LeadsToLeast, IsDrawnFor}
 use Rattle.shift_figures.specs.Figures.{point_at, IsPlaced, IsShiftFigure}
 
--- an entry of vertex 0's list
+-- a list is empty, or it has an entry
 entry_or_none : (us : List ℕ) → (us ≡ []) ⊎ (0 < length us)
 entry_or_none [] = inl refl
 entry_or_none (u ∷ us) = inr (omega arith)
