@@ -3,4 +3,5 @@ mod RefusalLines
 mod PlanarLemmas
 mod OutcomeLemmas
 mod WordLemmas
+mod CountWords
 mod Cases

@@ -1,5 +1,5 @@
 -- Which words are those of a job.
-use Rattle.std.specs.Prelude.{◌&&◌, ◌||◌, not, ℕ, Bool, true, List, [], ◌∷◌, Option, Some, None, is_some, option_and_then, if◌then◌else◌, codes, bytes_eq}
+use Rattle.std.specs.Prelude.{◌≡◌, ◌⊎◌, ◌↔◌, ◌&&◌, ◌||◌, not, ℕ, Bool, true, List, [], ◌∷◌, Option, Some, None, is_some, option_and_then, if◌then◌else◌, codes, bytes_eq}
 use Rattle.clap.specs.Walk.{Row, Rule, Text, first_of}
 use Rattle.clap.specs.Simple.{App, Shape, matches_of, new_app, new_rule, on_top, with_rule}
 use Rattle.clap.specs.Kinds.{Kinds}
@@ -68,3 +68,13 @@ job_given g = option_and_then (job_named g) g.job
 -- the job of the words after the program's name, each a list of bytes; None where they are bad
 abbrev pub job_of : List (List ℕ) → Option Job
 job_of words = option_and_then job_given (given words)
+
+-- `count`, alone or with `--` before or behind it
+abbrev pub IsCountWords : List (List ℕ) → Type 0
+IsCountWords words =
+    (words ≡ codes "count" ∷ [])
+    ⊎ ((words ≡ codes "--" ∷ codes "count" ∷ []) ⊎ (words ≡ codes "count" ∷ codes "--" ∷ []))
+
+-- those are the words of the job `Count`, and no others
+abbrev pub CountWords : Type 0
+CountWords = (words : List (List ℕ)) → (job_of words ≡ Some Count) ↔ IsCountWords words

@@ -12,4 +12,4 @@ mod words;
 pub use answer::answer_record;
 pub use job::{Job, Status, WordFault};
 pub use top::pigale;
-pub use words::words_to_job;
+pub use words::{count_words, words_to_job};

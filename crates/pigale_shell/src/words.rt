@@ -5,7 +5,7 @@ ghost use Rattle.clap.specs.Values.{kind_of};
 ghost use Rattle.clap.specs.Walk.{first_of, rows_of};
 ghost use Rattle.clap.specs.Simple.{app_of};
 ghost use Rattle.pigale_shell.specs.Words.{command as the_command, given, given_in, has_option as gives_option, draws_text as gives_text, is_text, job_given as job_by};
-ghost use Rattle.pigale_shell.specs.Words.{job_of};
+ghost use Rattle.pigale_shell.specs.Words.{job_of, CountWords};
 ghost use Rattle.pigale_shell.specs.Status.{RefusesWords};
 
 use super::job::{Job, WordFault};
@@ -134,3 +134,8 @@ pub fn words_to_job(alloc: Global, words: &[String]) -> Result<Job, WordFault>
         None => Err(WordFault::BadWords),
     }
 }
+
+/// A law: the words of `count` are that word, alone or with `--` before or behind it, and no others.
+pub fn count_words()
+    ensures { CountWords }
+{}
