@@ -7,6 +7,8 @@
 #[cfg(test)]
 mod arriving;
 #[cfg(test)]
+mod drawn;
+#[cfg(test)]
 mod failing;
 #[cfg(test)]
 mod rows;
