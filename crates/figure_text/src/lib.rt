@@ -1,7 +1,10 @@
-//! The text of figures, one line for each vertex.
+//! The text of figures, one line for each vertex, written and read.
 //!
 //! `print_figure` appends the text of a figure: a first line, and a line for each vertex with its place and its
-//! neighbours in clockwise order, all numbered from 1.
+//! neighbours in clockwise order, all numbered from 1; for bars a line of the columns comes last. `read_figure`
+//! answers what stands at an offset of such a text: a figure, a note that another job wrote, the end, or the bad
+//! line. `laws` says that what is printed is read as the same figure, whatever follows, and that there is one
+//! answer at an offset.
 #![tactic(auto)]
 
 mod fault;
