@@ -70,7 +70,10 @@ fn the_form_may_be_named(rt: HostRuntime) -> Result<(), Fail> {
     for words in WORDS {
         let mut source = SureSource::new(Vec::from_slice(rt.alloc(), b"\x01\x00")?, 64);
         let ran = run_over(rt.alloc(), words, &mut source, 64, &[])?;
-        assert_eq!(rt; ran.text.as_slice(), b"refused 1 5 Small 1\nend records 1 refused 1\n".as_slice());
+        assert_eq!(rt;
+            ran.text.as_slice(),
+            b"refused 1 5 Small 1\nend records 1 refused 1\n".as_slice()
+        );
     }
     Ok(())
 }

@@ -1,7 +1,7 @@
 -- The line of a refusal, put together.
 use Rattle.std.proofs.Common.{◌≡◌, ◌≢◌, ℕ, List, [], ◌∷◌, ◌++◌, codes, decimal, refl, ap, ◌∙◌, Result, Ok, Err, OnOk}
 use Rattle.map_lists.specs.Lists.{Lists}
-use Rattle.shift_figures.specs.Refusals.{small, genus_above, shift_refusal}
+use Rattle.shift_figures.specs.Refusals.{shift_refusal}
 use Rattle.shift_figures.specs.Names.{Names}
 use Rattle.shift_figures.specs.declared.refusal.ShiftRefusal.{ShiftRefusal}
 use Rattle.shift_figures.specs.declared.refusal.ShiftRefusal.TheVariants.{Fault, Small, Genus}

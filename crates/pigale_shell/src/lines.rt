@@ -96,12 +96,7 @@ pub fn refusal_line(alloc: Global, number: u32, fault: MapFault) -> Result<Vec<u
 }
 
 // The line that refuses record `number` by a name and a number.
-fn named_line(
-    alloc: Global,
-    number: u32,
-    name: &[u8],
-    given: u64,
-) -> Result<Vec<u8>, AllocError>
+fn named_line(alloc: Global, number: u32, name: &[u8], given: u64) -> Result<Vec<u8>, AllocError>
     ensures { IfOk result (λ line. line.items ≡ ((codes "refused" ++ 32 ∷ decimal number) ++ 32 ∷ (name.now ++ 32 ∷ decimal given)) ++ 10 ∷ []) }
 {
     let mut line = Vec::from_slice(alloc, b"refused")?;

@@ -1,4 +1,4 @@
-use Rattle.std.proofs.Common.{◌≡◌, ◌≢◌, refl, rules}
+use Rattle.std.proofs.Common.{◌≢◌, rules}
 use Rattle.shift_figures.specs.declared.refusal.ShiftRefusal.TheVariants.{Fault}
 use Rattle.simple_maps.specs.declared.fault.MapFault.TheVariants.{NoMemory}
 use Rattle.pigale_shell.proofs.RefusalLines.{IsShiftBlock-refused, OnOk-then}

@@ -1,4 +1,4 @@
-use Rattle.std.proofs.Common.{refl, rules}
+use Rattle.std.proofs.Common.{refl}
 use Rattle.std.proofs.lemmas.Result.{IfOk-weaker}
 use Rattle.pigale_shell.proofs.RefusalLines.{WritesRefusal-small, WritesRefusal-genus}
 use Rattle.pigale_shell.proofs.lines.drawing_refusal_line.Goals as goal
