@@ -3,6 +3,7 @@
 
   count.py            instructions a byte on inputs of a million bytes, counted by valgrind
   count.py --seconds  seconds and peak memory on inputs of 16 MiB
+  count.py --shift    instructions a byte of `pigale shift`, on the inputs that are plane maps
 
 Makes its inputs under bench/out/, the same ones each time. Wants a C compiler, and valgrind for the
 first. Not part of the gate.
@@ -122,13 +123,17 @@ def seconds(command, data):
 
 def main():
     by_seconds = "--seconds" in sys.argv[1:]
+    drawn = "--shift" in sys.argv[1:]
     os.makedirs(OUT, exist_ok=True)
     subprocess.run(["cc", "-O2", "-o", PLAIN, os.path.join(HERE, "plain_count.c")], check=True)
     for name, data in inputs(15_800_000 if by_seconds else 1 << 20):
         path_ = os.path.join(OUT, "input.plc")
         with open(path_, "wb") as out:
             out.write(data)
-        if by_seconds:
+        if drawn:
+            if not name.startswith("one complete graph"):
+                print(f"{name}: {instructions([PROGRAM, 'shift'], path_) / len(data):.1f} instructions a byte", flush=True)
+        elif by_seconds:
             ours, memory = seconds([PROGRAM, "count"], path_)
             plain, _ = seconds([PLAIN], path_)
             print(f"{name}: {len(data)} bytes, pigale {ours:.3f} s, {memory:.0f} MB at most; plain C {plain:.3f} s", flush=True)
