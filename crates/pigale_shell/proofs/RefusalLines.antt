@@ -1,5 +1,5 @@
 -- The line of a refusal, put together.
-use Rattle.std.proofs.Common.{◌≡◌, ◌≢◌, ℕ, List, [], ◌∷◌, ◌++◌, codes, decimal, refl, ap, ◌∙◌, Result, Ok, Err, OnOk}
+use Rattle.std.proofs.Common.{◌≡◌, ◌≢◌, ℕ, List, [], ◌∷◌, ◌++◌, codes, decimal, refl, ap, ◌∙◌}
 use Rattle.map_lists.specs.Lists.{Lists}
 use Rattle.shift_figures.specs.Refusals.{shift_refusal}
 use Rattle.shift_figures.specs.Names.{Names}
@@ -41,8 +41,3 @@ IsShiftBlock-refused k lists (Fault (OneSided v u)) text names other writes = rw
 IsShiftBlock-refused k lists (Fault NoMemory) text names other writes = absurd (other refl)
 IsShiftBlock-refused k lists (Small n) text names other writes = rw names writes
 IsShiftBlock-refused k lists (Genus g) text names other writes = rw names writes
-
--- what follows where there is an answer
-pub OnOk-then : {T E : Type 0} (result : Result T E) (P Q : Type 0) → (P → Q) → OnOk result P → OnOk result Q
-OnOk-then (Ok v) P Q f p = f p
-OnOk-then (Err e) P Q f p = tt

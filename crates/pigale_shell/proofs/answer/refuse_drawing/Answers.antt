@@ -1,13 +1,14 @@
 use Rattle.std.proofs.Common.{◌≢◌, rules}
+use Rattle.std.proofs.lemmas.Result.{on_ok_weaker}
 use Rattle.shift_figures.specs.declared.refusal.ShiftRefusal.TheVariants.{Fault}
 use Rattle.simple_maps.specs.declared.fault.MapFault.TheVariants.{NoMemory}
-use Rattle.pigale_shell.proofs.RefusalLines.{IsShiftBlock-refused, OnOk-then}
+use Rattle.pigale_shell.proofs.RefusalLines.{IsShiftBlock-refused}
 use Rattle.pigale_shell.proofs.answer.refuse_drawing.Goals as goal
 
 pub returns-in_ok-drawing_refusal_line-in_default-clause-block :
     goal.returns-in_ok-drawing_refusal_line-in_default-clause-block
 returns-in_ok-drawing_refusal_line-in_default-clause-block c =
     let other : c.args.refusal ≢ Fault NoMemory = search rules in
-    OnOk-then c.refuse.result _ _
+    on_ok_weaker c.refuse.result
     (λ e lists names. (c.deref.result.now, IsShiftBlock-refused c.args.number lists c.args.refusal c.deref.result.now names other (rw c.deref.ensures.value c.in_ok-drawing_refusal_line-in_default.ensures), e))
     c.refuse.ensures.block
