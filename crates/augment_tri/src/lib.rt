@@ -7,6 +7,3 @@ mod fill;
 mod join;
 
 pub use complete::triangulate;
-
-#[cfg(test)]
-mod tests;

@@ -28,6 +28,3 @@ pub fn last_cycle()
 pub fn run_ends()
     ensures { RunEnds }
 {}
-
-#[cfg(test)]
-mod tests;

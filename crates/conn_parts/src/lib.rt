@@ -4,6 +4,3 @@
 mod parts;
 
 pub use parts::{Parts, components};
-
-#[cfg(test)]
-mod tests;

@@ -49,6 +49,3 @@ pub fn faces_yes_for_fewer()
 {
     faces_yes_is_yes();
 }
-
-#[cfg(test)]
-mod tests;

@@ -13,6 +13,3 @@ pub use components::{UNMET, number_components};
 pub use count::{Counter, EulerCount, count_lists, euler};
 pub use face_walks::faces;
 pub use walks::Faces;
-
-#[cfg(test)]
-mod tests;

@@ -21,6 +21,3 @@ pub use fault::TextFault;
 pub use figure::{Figure, GridJob};
 pub use print::{print_figure, print_grid};
 pub use read::{Item, read_figure};
-
-#[cfg(test)]
-mod tests;

@@ -8,6 +8,3 @@ mod rows;
 
 pub use draw::shift_draw;
 pub use fault::ShiftFault;
-
-#[cfg(test)]
-mod tests;

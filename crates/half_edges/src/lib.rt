@@ -16,6 +16,3 @@ pub use map_lists::{
     Counts, DartId, EdgeList, Ends, FaceId, PathList, Rotations, VertexId, VertexList,
 };
 pub use simple_maps::MapFault;
-
-#[cfg(test)]
-mod tests;

@@ -13,6 +13,3 @@ pub use stack::stacked;
 pub fn stacked_is_completed()
     ensures { StackedIsCompleted }
 {}
-
-#[cfg(test)]
-mod tests;

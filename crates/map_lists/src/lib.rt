@@ -9,6 +9,3 @@ mod items;
 pub use ids::{DartId, FaceId, VertexId};
 pub use item_lists::{ItemLists, PathList, Rotations};
 pub use items::{Counts, EdgeList, Ends, ItemList, VertexList};
-
-#[cfg(test)]
-mod tests;

@@ -14,8 +14,6 @@ mod adapters;
 mod memory;
 mod put;
 mod sure;
-#[cfg(test)]
-mod tests;
 mod traits;
 
 pub use adapters::{ReadAdapter, WriteAdapter};

@@ -10,8 +10,6 @@ mod law;
 mod marks;
 mod perm;
 mod repeat;
-#[cfg(test)]
-mod tests;
 
 pub use fault::PermFault;
 pub use law::{one_swap, two_permutations};

@@ -9,6 +9,3 @@ mod point;
 
 pub use figure::{BarFigure, GridFigure, Ints, Points, RectFigure};
 pub use point::{Point, area2, clock_before, crosses, on_segment};
-
-#[cfg(test)]
-mod tests;

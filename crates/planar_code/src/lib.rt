@@ -21,6 +21,3 @@ pub use write::write_record;
 
 /// The bytes with which a file may begin.
 const HEADER: [u8; 15] = *b">>planar_code<<";
-
-#[cfg(test)]
-mod tests;

@@ -28,6 +28,3 @@ pub fn some_shift_figure()
     shift_drawings::some_shift_points();
     shift_drawings::shift_points_draw();
 }
-
-#[cfg(test)]
-mod tests;

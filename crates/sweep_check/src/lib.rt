@@ -8,6 +8,3 @@ mod status;
 mod sweep;
 
 pub use sweep::is_plane_by_sweep;
-
-#[cfg(test)]
-mod tests;

@@ -1,0 +1,58 @@
+//! Drawings that were worked out by hand.
+use crate::given::{K4, completed_of, have_places};
+use canon_order::canon_order;
+use fpp_shift::shift_draw;
+use half_edges::VertexId;
+use pg_plane::GridFigure;
+use std::alloc::Global;
+use std::process::Abort;
+use std::test::Fail;
+
+// The drawing of a completed map for the dart from 0 to 1.
+fn drawing_of(rt: &impl Abort, alloc: Global, lists: &[&[u16]]) -> Result<GridFigure, Fail> {
+    let tri = completed_of(rt, alloc, lists)?;
+    assert!(rt; 1 < tri.n());
+    let base = match tri.dart_of(VertexId(0), VertexId(1)) {
+        Some(base) => base,
+        None => return Err("no base".into()),
+    };
+    let order = match canon_order(alloc, &tri, base) {
+        Ok(order) => order,
+        Err(_) => return Err("no memory".into()),
+    };
+    match shift_draw(alloc, &tri, &order) {
+        Ok(figure) => Ok(figure),
+        Err(_) => Err("no memory".into()),
+    }
+}
+
+#[test]
+fn a_triangle(rt: HostRuntime) -> Result<(), Fail> {
+    let lists: [&[u16]; 3] = [&[1, 2], &[2, 0], &[0, 1]];
+    let figure = drawing_of(&rt, rt.alloc(), &lists)?;
+    assert!(rt; have_places(&figure.points, &[(2, 0), (0, 0), (1, 1)]));
+    Ok(())
+}
+
+#[test]
+fn k4(rt: HostRuntime) -> Result<(), Fail> {
+    let figure = drawing_of(&rt, rt.alloc(), K4)?;
+    assert!(rt; have_places(&figure.points, &[(4, 0), (0, 0), (2, 1), (2, 2)]));
+    Ok(())
+}
+
+#[test]
+fn octahedron(rt: HostRuntime) -> Result<(), Fail> {
+    let lists: [&[u16]; 6] = [
+        &[1, 2, 3, 4],
+        &[0, 4, 5, 2],
+        &[0, 1, 5, 3],
+        &[0, 2, 5, 4],
+        &[0, 3, 5, 1],
+        &[1, 4, 3, 2],
+    ];
+    let figure = drawing_of(&rt, rt.alloc(), &lists)?;
+    let places = [(8, 0), (0, 0), (5, 1), (4, 3), (4, 4), (3, 2)];
+    assert!(rt; have_places(&figure.points, &places));
+    Ok(())
+}

@@ -1,0 +1,20 @@
+//! Calls of the crates on drawings, each on small cases that were worked out by hand: what no clause says,
+//! or what shows that a clause says what is meant. Tests alone.
+#![tactic(auto)]
+
+#[cfg(test)]
+mod drawings;
+#[cfg(test)]
+mod figures;
+#[cfg(test)]
+mod given;
+#[cfg(test)]
+mod orders;
+#[cfg(test)]
+mod places;
+#[cfg(test)]
+mod sweeps;
+#[cfg(test)]
+mod texts;
+#[cfg(test)]
+mod verdicts;

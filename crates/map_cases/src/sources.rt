@@ -1,0 +1,116 @@
+//! Each call once on its happy path, and a failure in mid-stream of each source and sink.
+use pg_io::{
+    MemSink, MemSource, ReadAdapter, ReadFailed, Sink, Source, SureSink, SureSource, WriteAdapter,
+    WriteFailed, put_all,
+};
+use std::io;
+use std::test::Fail;
+
+#[test]
+fn source_in_memory(rt: HostRuntime) -> Result<(), Fail> {
+    let failing = [2].to_vec(rt.alloc())?;
+    let mut source = MemSource::new(b"abcde".to_vec(rt.alloc())?, 3, failing);
+    let mut buf = *b"....";
+    assert_eq!(rt; source.read(&mut buf), Ok(3));
+    assert_eq!(rt; &buf, b"abc.");
+    assert_eq!(rt; source.read(&mut buf), Err(ReadFailed));
+    assert_eq!(rt; (&buf, source.at, source.faults), (b"abc.", 3, 1));
+    assert_eq!(rt; source.read(&mut buf), Ok(2));
+    assert_eq!(rt; &buf, b"dec.");
+    assert_eq!(rt; source.read(&mut buf), Ok(0));
+    assert_eq!(rt; (source.faults, source.calls), (1, 4));
+    Ok(())
+}
+
+#[test]
+fn sink_in_memory(rt: HostRuntime) -> Result<(), Fail> {
+    let mut sink = MemSink::with_room(rt.alloc(), 5, 2, &[3])?;
+    assert_eq!(rt; sink.write(b"abc"), Ok(2));
+    assert_eq!(rt; put_all(&mut sink, b"cd"), Ok(()));
+    assert_eq!(rt; sink.write(b"e"), Err(WriteFailed));
+    assert_eq!(rt; sink.written.as_slice(), b"abcd".as_slice());
+    assert_eq!(rt; put_all(&mut sink, b"ef"), Err(WriteFailed));
+    assert_eq!(rt; sink.written.as_slice(), b"abcde".as_slice());
+    assert_eq!(rt; (sink.faults, sink.calls), (2, 5));
+    Ok(())
+}
+
+#[test]
+fn sure_ones(rt: HostRuntime) -> Result<(), Fail> {
+    let mut source = SureSource::new(b"abc".to_vec(rt.alloc())?, 2);
+    let mut buf = *b"....";
+    assert_eq!(rt; source.read(&mut buf), Ok(2));
+    assert_eq!(rt; source.read(&mut buf[2..]), Ok(1));
+    assert_eq!(rt; &buf, b"abc.");
+    assert_eq!(rt; source.read(&mut buf), Ok(0));
+    let mut sink = SureSink::new();
+    assert_eq!(rt; sink.write(b"ab"), Ok(2));
+    assert_eq!(rt; put_all(&mut sink, b"cde"), Ok(()));
+    assert_eq!(rt; sink.total, 5);
+    Ok(())
+}
+
+// A reader that fails at its second read.
+#[derive(Drop)]
+struct SecondFails(u8);
+
+impl io::Read for SecondFails {
+    fn read(&mut self, buf: &mut [u8]) -> io::Result<usize> {
+        self.0 = self.0.saturating_add(1);
+        if self.0 == 2 {
+            return Err(io::Error::from(io::ErrorKind::Other));
+        }
+        (&b"abc"[..]).read(buf)
+    }
+}
+
+#[test]
+fn reader_of_std(rt: HostRuntime) {
+    let mut source = ReadAdapter::new(SecondFails(0));
+    let mut buf = *b"....";
+    assert_eq!(rt; source.read(&mut buf), Ok(3));
+    assert_eq!(rt; &buf, b"abc.");
+    assert_eq!(rt; source.read(&mut buf), Err(ReadFailed));
+    assert_eq!(rt; source.faults, 1);
+    assert_eq!(rt; source.read(&mut buf[..1]), Ok(1));
+    assert_eq!(rt; source.faults, 1);
+}
+
+// A writer that takes bytes until it holds three, and can be flushed twice.
+#[derive(Drop)]
+struct Narrow {
+    held: usize,
+    flushes: u8,
+}
+
+impl io::Write for Narrow {
+    fn write(&mut self, buf: &[u8]) -> io::Result<usize> {
+        let taken = buf.len().min(3usize.saturating_sub(self.held));
+        self.held = self.held.saturating_add(taken);
+        Ok(taken)
+    }
+
+    fn flush(&mut self) -> io::Result<()> {
+        self.flushes = self.flushes.saturating_add(1);
+        if self.flushes > 2 {
+            return Err(io::Error::from(io::ErrorKind::Other));
+        }
+        Ok(())
+    }
+}
+
+#[test]
+fn writer_of_std(rt: HostRuntime) {
+    let mut sink = WriteAdapter::new(Narrow {
+        held: 0,
+        flushes: 0,
+    });
+    assert_eq!(rt; sink.write(b"ab"), Ok(2));
+    assert_eq!(rt; sink.inner.flushes, 1);
+    assert_eq!(rt; sink.write(b"cd"), Ok(1));
+    assert_eq!(rt; sink.write(b"d"), Err(WriteFailed));
+    assert_eq!(rt; (sink.inner.flushes, sink.faults), (2, 1));
+    sink.inner.held = 0;
+    assert_eq!(rt; sink.write(b"d"), Err(WriteFailed));
+    assert_eq!(rt; (sink.inner.flushes, sink.faults), (3, 2));
+}
