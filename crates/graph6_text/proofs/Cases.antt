@@ -1,12 +1,8 @@
 -- Worked cases: the lines of two graphs, and faults.
-use Rattle.std.proofs.Common.{◌≡◌, ℕ, ◌≤◌, List, [], ◌∷◌, Option, Some, None, refl, arith}
-use Rattle.std.specs.List.{All}
-use Rattle.std.proofs.lemmas.List.Elements.{All-nil, All-cons}
-use Rattle.graph6_text.specs.Graphs.{Edge, EdgeGraph}
-use Rattle.graph6_text.specs.Lines.{pair_place, pair_count, body_length, has_bit, is_set, IsLineByte, pairs, edges_of, count_form}
+use Rattle.std.proofs.Common.{◌≡◌, [], ◌∷◌, Some, None, refl}
+use Rattle.graph6_text.specs.Lines.{pair_place, pair_count, body_length, has_bit, is_set, pairs, edges_of, count_form}
 use Rattle.graph6_text.specs.Faults.{line_fault}
 use Rattle.graph6_text.specs.Header.{header_length}
-use Rattle.graph6_text.specs.declared.line.G6Fault.{G6Fault}
 use Rattle.graph6_text.specs.declared.line.G6Fault.TheVariants.{BadByte, LongCount, TooMany, ShortLine, ExtraByte, Padding}
 
 -- K3,3 is the line EFz_: the bits 000111 111011 100 and three zeros

@@ -1,17 +1,17 @@
 -- The edges whose bits are set.
-use Rattle.std.proofs.Common.{◌≡◌, ◌≢◌, ◌⊎◌, ℕ, zero, suc, ◌+◌, ◌-◌, ◌*◌, ◌/◌, ◌%◌, ◌^◌, ◌<◌, ◌≤◌, ◌==◌, ◌||◌, ◌&&◌, Bool, true, false, List, [], ◌∷◌, map, length, take, replicate, Contains, refl, sym, ap, ap₂, ◌∙◌, subst, inl, inr, arith, eqb-true, eq-eqb, ne_eqb}
-use Rattle.std.proofs.Math.ListN.{get_or, set, length-set}
-use Rattle.std.specs.List.{All, AllPairs, filter, list_any}
-use Rattle.std.proofs.lemmas.Bool.{eqb-false, cases_Bool, cases_eq, cases_lt, true≢false, or_cases, or_left, or_right}
+use Rattle.std.proofs.Common.{◌≡◌, ◌⊎◌, ℕ, ◌+◌, ◌-◌, ◌/◌, ◌%◌, ◌^◌, ◌<◌, ◌≤◌, ◌==◌, ◌||◌, ◌&&◌, Bool, true, false, List, [], ◌∷◌, map, length, take, replicate, Contains, refl, sym, ap, ap₂, ◌∙◌, subst, inl, inr, arith, eqb-true, eq-eqb, ne_eqb}
+use Rattle.std.proofs.Math.ListN.{get_or}
+use Rattle.std.specs.List.{All, list_any}
+use Rattle.std.proofs.lemmas.Bool.{cases_Bool, cases_eq, cases_lt, or_cases}
 use Rattle.std.proofs.lemmas.Bool.Decides.{nat_tests}
 use Rattle.std.proofs.lemmas.List.{get_or-map, get_or_past, length-map, length-replicate, get_or-replicate, take_all}
 use Rattle.std.proofs.lemmas.List.Elements.{All-contains}
 use Rattle.std.proofs.lemmas.List.Kept.{AllPairs-filter}
 use Rattle.std.proofs.lemmas.List.Folds.{list_any_more}
 use Rattle.map_lists.specs.declared.items.Ends.{Ends}
-use Rattle.graph6_text.specs.Graphs.{Edge, EdgeGraph, AreEdges, IsGraph, ComesBefore, joins, has_edge, edge_of}
-use Rattle.graph6_text.specs.Lines.{pair_place, pair_count, body_length, has_bit, is_set, IsLineByte, IsBody, pairs, edges_of}
-use Rattle.graph6_text.proofs.BitLemmas.{below_six, pair_place-lt, one_pair, body_length-bounds}
+use Rattle.graph6_text.specs.Graphs.{Edge, EdgeGraph, AreEdges, ComesBefore, joins, has_edge, edge_of}
+use Rattle.graph6_text.specs.Lines.{pair_place, body_length, has_bit, is_set, IsLineByte, IsBody, pairs, edges_of}
+use Rattle.graph6_text.proofs.BitLemmas.{below_six, pair_place-lt, one_pair}
 use Rattle.graph6_text.proofs.PairLemmas.{Contains-first, Contains-later, Contains-cases, Contains-none, All-from_Contains, Contains-filter, Contains-unfilter, any-from, any-gives, any-none, rising_same, before_strict, before_apart, pairs-have, pairs-hold, pairs-rising}
 
 -- two tests that pass together are one

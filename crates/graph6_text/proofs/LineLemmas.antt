@@ -1,17 +1,17 @@
 -- Lines: which bytes have no fault, and what graph they are.
-use Rattle.std.proofs.Common.{◌≡◌, ◌≢◌, ◌⊎◌, ℕ, zero, suc, ◌+◌, ◌-◌, ◌*◌, ◌/◌, ◌%◌, ◌^◌, ◌<◌, ◌≤◌, ◌==◌, ◌||◌, nat_lt, if◌then◌else◌, Bool, true, false, not, cond, List, [], ◌∷◌, ◌++◌, length, take, drop, Option, Some, None, Result, Ok, Err, Contains, refl, sym, ap, ap₂, ◌∙◌, subst, inl, inr, arith, eqb-true, eq-eqb, ne_eqb, length-append, length-drop}
-use Rattle.std.proofs.Math.ListN.{get_or, get_or-append}
-use Rattle.std.specs.List.{All, list_any, prefix_len, position, position_or_len}
-use Rattle.std.proofs.lemmas.Bool.{eqb-false, cases_Bool, cases_eq, cases_lt, true≢false, or_cases, cond-true, cond-false, or_from, or_left, or_right, or_parts}
+use Rattle.std.proofs.Common.{◌≡◌, ◌≢◌, ℕ, ◌+◌, ◌-◌, ◌*◌, ◌/◌, ◌%◌, ◌^◌, ◌<◌, ◌≤◌, ◌==◌, nat_lt, true, false, not, cond, List, [], ◌∷◌, ◌++◌, length, drop, None, Result, Ok, Err, refl, sym, ap, ap₂, ◌∙◌, subst, inl, inr, arith, eqb-true, eq-eqb, ne_eqb, length-append, length-drop}
+use Rattle.std.proofs.Math.ListN.{get_or}
+use Rattle.std.specs.List.{All, list_any, position, position_or_len}
+use Rattle.std.proofs.lemmas.Bool.{eqb-false, cases_Bool, cases_eq, cases_lt, cond-true, cond-false}
 use Rattle.std.proofs.lemmas.Bool.Decides.{nat_tests}
-use Rattle.std.proofs.lemmas.List.{ext_get_or, get_or-drop, get_or_past, get_or-append_right}
+use Rattle.std.proofs.lemmas.List.{ext_get_or, get_or-drop, get_or-append_right}
 use Rattle.std.proofs.lemmas.List.Elements.{All-nil, All-cons, All-head, All-tail, All-append}
-use Rattle.graph6_text.specs.Graphs.{EdgeGraph, IsGraph, AreEdges, joins}
-use Rattle.graph6_text.specs.Lines.{pair_place, pair_count, body_length, has_bit, is_set, IsLineByte, IsBody, IsLine, edges_of, count_form}
+use Rattle.graph6_text.specs.Graphs.{AreEdges, joins}
+use Rattle.graph6_text.specs.Lines.{pair_count, body_length, has_bit, is_set, IsLineByte, IsBody, IsLine, edges_of, count_form}
 use Rattle.graph6_text.specs.Faults.{is_bad_byte, four_byte_start, long_rest, long_start, line_start, is_padded, body_fault, rest_fault, fault_from, line_fault}
 use Rattle.graph6_text.specs.Laws.{OneLine, LinesAreGraphs}
 use Rattle.graph6_text.specs.declared.line.G6Fault.{G6Fault}
-use Rattle.graph6_text.specs.declared.line.G6Fault.TheVariants.{BadByte, LongCount, TooMany, ShortLine, ExtraByte, Padding, NoMemory}
+use Rattle.graph6_text.specs.declared.line.G6Fault.TheVariants.{LongCount, TooMany}
 use Rattle.graph6_text.proofs.BitLemmas.{below_six, byte_by_bits, pair_at, body_length-bounds}
 use Rattle.graph6_text.proofs.EdgeLemmas.{is_set-past, AreEdges-edges_of, joined_as_bit}
 

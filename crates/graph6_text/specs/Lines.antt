@@ -1,5 +1,5 @@
 -- Graphs as lines of text: a form of the number of vertices, and then a bit for each pair of vertices, six bits a byte.
-use Rattle.std.specs.Prelude.{ℕ, ◌+◌, ◌-◌, ◌*◌, ◌/◌, ◌%◌, ◌^◌, ◌<◌, ◌≤◌, ◌≡◌, ◌==◌, nat_lt, Bool, false, if◌then◌else◌, List, [], ◌∷◌, ◌++◌, map, filter, length, slice_index, All}
+use Rattle.std.specs.Prelude.{ℕ, ◌+◌, ◌-◌, ◌*◌, ◌/◌, ◌%◌, ◌^◌, ◌≤◌, ◌≡◌, ◌==◌, nat_lt, Bool, false, if◌then◌else◌, List, [], ◌∷◌, ◌++◌, map, filter, length, slice_index, All}
 use Rattle.std.specs.List.{range_with_len, flat_map}
 use Rattle.graph6_text.specs.Graphs.{Edge, EdgeGraph}
 

@@ -1,5 +1,5 @@
 use Rattle.std.proofs.Common.{arith}
-use Rattle.graph6_text.specs.Lines.{pair_count, body_length}
+use Rattle.graph6_text.specs.Lines.{body_length}
 use Rattle.graph6_text.proofs.BitLemmas.{pair_count-few}
 use Rattle.graph6_text.proofs.bits.body_length.Goals as goal
 

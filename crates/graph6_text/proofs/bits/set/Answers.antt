@@ -1,5 +1,5 @@
-use Rattle.std.proofs.Common.{◌≡◌, ◌/◌, ◌%◌, ◌==◌, ◌||◌, ℕ, false, slice_index_or, ◌∙◌, sym, arith}
-use Rattle.graph6_text.specs.Lines.{is_set, has_bit}
+use Rattle.std.proofs.Common.{◌∙◌, sym}
+use Rattle.graph6_text.specs.Lines.{is_set}
 use Rattle.graph6_text.proofs.BitLemmas.{is_set-set}
 use Rattle.graph6_text.proofs.bits.set.Goals as goal
 

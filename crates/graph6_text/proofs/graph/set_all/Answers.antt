@@ -1,7 +1,4 @@
-use Rattle.std.proofs.Common.{◌≡◌, ◌<◌, ◌==◌, ◌||◌, ℕ, List, length, map, sym, subst, ap, ◌∙◌, arith}
-use Rattle.map_lists.specs.declared.items.Ends.{Ends}
-use Rattle.std.proofs.lemmas.List.Elements.{All-contains, Contains-get_or}
-use Rattle.graph6_text.specs.Graphs.{Edge, edge_of}
+use Rattle.std.proofs.Common.{◌==◌, ◌||◌, ℕ, List, sym, subst, ap, ◌∙◌, arith}
 use Rattle.graph6_text.specs.Lines.{is_set}
 use Rattle.graph6_text.proofs.BitLemmas.{pair_place-lt, body_length-bounds}
 use Rattle.graph6_text.proofs.EdgeLemmas.{AreMarked, AreMarked-begin, AreMarked-more, AreMarked-done, ends_at}

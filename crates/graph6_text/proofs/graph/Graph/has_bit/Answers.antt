@@ -1,4 +1,4 @@
-use Rattle.std.proofs.Common.{◌≡◌, ◌/◌, ◌<◌, List, ℕ, length, ◌∙◌, sym, ap, ap₂, subst, arith}
+use Rattle.std.proofs.Common.{length, ◌∙◌, sym, ap, ap₂, arith}
 use Rattle.graph6_text.specs.Graphs.{EdgeGraph, has_edge}
 use Rattle.graph6_text.specs.Lines.{is_set}
 use Rattle.graph6_text.proofs.BitLemmas.{pair_place-lt, body_length-bounds}

@@ -1,4 +1,4 @@
-use Rattle.std.proofs.Common.{◌≡◌, ◌<◌, nat_lt, false, ◌∙◌, sym, ap, arith}
+use Rattle.std.proofs.Common.{◌<◌, ◌∙◌, sym, ap, arith}
 use Rattle.std.proofs.lemmas.Bool.Decides.{nat_tests}
 use Rattle.graph6_text.specs.Graphs.{EdgeGraph, has_edge}
 use Rattle.graph6_text.proofs.EdgeLemmas.{AreEdges-edges_of, joined_no_pair}
