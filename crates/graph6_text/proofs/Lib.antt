@@ -1,0 +1,5 @@
+pub mod BitLemmas
+pub mod PairLemmas
+pub mod EdgeLemmas
+pub mod LineLemmas
+mod Cases

@@ -1,0 +1,80 @@
+//! The bits of the pairs of vertices, six a byte.
+ghost use Rattle.std.specs.Prelude.{◌≡◌, ◌+◌, ◌-◌, ◌*◌, ◌<◌, ◌≤◌, ◌/◌, ◌==◌, ◌||◌, ℕ, false, length, slice_index, All};
+ghost use Rattle.graph6_text.specs.Lines.{pair_place as place_of_pair, pair_count as count_of_pairs, body_length as bytes_of_pairs, has_bit as is_bit, is_set as is_place_set, IsLineByte};
+
+/// The place of the pair `u` below `v` among the bits.
+#[tactic(auto, unfolding(crate::specs::Lines::pair_place))]
+pub fn pair_place(u: u16, v: u16) -> usize
+    ensures { result ≡ place_of_pair u v }
+{
+    let after = usize::from(v);
+    after * after.saturating_sub(1) / 2 + usize::from(u)
+}
+
+/// The number of pairs of `n` vertices.
+#[tactic(auto, unfolding(crate::specs::Lines::pair_count))]
+pub fn pair_count(n: u16) -> usize
+    requires { n ≤ 255 }
+    ensures { result ≡ count_of_pairs n }
+{
+    let vertices = usize::from(n);
+    vertices * vertices.saturating_sub(1) / 2
+}
+
+/// The number of bytes that hold the bits of `n` vertices.
+pub fn body_length(n: u16) -> usize
+    requires { n ≤ 255 }
+    ensures { result ≡ bytes_of_pairs n }
+{
+    (pair_count(n) + 5) / 6
+}
+
+/// The number of bits of the last byte that stand for no pair.
+pub fn spare_bits(n: u16) -> usize
+    requires { n ≤ 255 }
+    ensures number { result ≡ 6 * bytes_of_pairs n - count_of_pairs n }
+    ensures few { result ≤ 5 }
+{
+    6 * body_length(n) - pair_count(n)
+}
+
+// Bit `k` of a byte.
+#[tactic(auto, unfolding(crate::specs::Lines::has_bit))]
+fn has_bit(byte: u8, k: usize) -> bool
+    requires { k < 6 }
+    ensures { result ≡ is_bit byte k }
+{
+    (byte.saturating_sub(63) >> (5 - k)) % 2 == 1
+}
+
+// The byte with bit `k` set, which was not.
+fn with_bit(byte: u8, k: usize) -> u8
+    requires bit { k < 6 }
+    requires range { IsLineByte byte }
+    requires unset { is_bit byte k ≡ false }
+    ensures range { IsLineByte result }
+    ensures bits { (j : ℕ) → j < 6 → is_bit result j ≡ (is_bit byte j || (j == k)) }
+{
+    byte + (32u8 >> k)
+}
+
+/// Whether the bit at a place is set.
+#[tactic(auto, unfolding(crate::specs::Lines::is_set))]
+pub fn is_set(body: &[u8], place: usize) -> bool
+    requires { place / 6 < length body.now }
+    ensures { result ≡ is_place_set body.now place }
+{
+    has_bit(body[place / 6], place % 6)
+}
+
+/// Sets the bit at a place.
+pub fn set(body: &mut [u8], place: usize)
+    requires within { place / 6 < length body.old }
+    requires bytes { All IsLineByte body.old }
+    ensures bytes { All IsLineByte body.new }
+    ensures bits { (p : ℕ) → is_place_set body.new p ≡ (is_place_set body.old p || (p == place)) }
+{
+    if !is_set(body, place) {
+        body[place / 6] = with_bit(body[place / 6], place % 6);
+    }
+}

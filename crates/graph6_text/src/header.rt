@@ -1,0 +1,40 @@
+//! The header that may stand before the first line.
+ghost use Rattle.std.specs.Prelude.{◌≡◌};
+ghost use Rattle.graph6_text.specs.Header.{header_length};
+
+/// The place where lines begin: behind the header and a byte 10 directly after it,
+/// where they are there; 0, 10 or 11.
+pub fn after_graph_header(bytes: &[u8]) -> usize
+    ensures { result ≡ header_length bytes.now }
+{
+    match bytes {
+        [
+            b'>',
+            b'>',
+            b'g',
+            b'r',
+            b'a',
+            b'p',
+            b'h',
+            b'6',
+            b'<',
+            b'<',
+            10,
+            ..
+        ] => 11,
+        [
+            b'>',
+            b'>',
+            b'g',
+            b'r',
+            b'a',
+            b'p',
+            b'h',
+            b'6',
+            b'<',
+            b'<',
+            ..
+        ] => 10,
+        _ => 0,
+    }
+}

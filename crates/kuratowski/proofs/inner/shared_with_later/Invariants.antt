@@ -1,0 +1,6 @@
+use Rattle.std.proofs.Common.{◌≡◌, ◌≢◌, ◌⊎◌, ℕ, suc, ◌<◌, true, length}
+use Rattle.kuratowski.specs.Faults.{IsBadBranch, LacksEdge, IsShared, Stands, StandsTwice, IsInner}
+use Rattle.kuratowski.proofs.inner.shared_with_later.Given as goal
+
+abbrev pub invariant-loop-q : goal.invariant-loop-q
+invariant-loop-q l = (k v : ℕ) → k < l.q → IsShared l.branch l.paths l.p k v → ⊥

@@ -1,0 +1,6 @@
+use Rattle.std.proofs.Common.{◌≡◌, ◌≢◌, ◌⊎◌, ℕ, suc, ◌<◌, true, length}
+use Rattle.kuratowski.specs.Witnesses.{vertex_at, path_at, pair_at, Joins}
+use Rattle.kuratowski.proofs.shape.all_join.Given as goal
+
+abbrev pub invariant-loop-p : goal.invariant-loop-p
+invariant-loop-p l = (k : ℕ) → k < l.p → Joins l.branch (path_at l.paths k) (pair_at l.kind k)

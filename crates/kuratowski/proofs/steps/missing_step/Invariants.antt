@@ -1,0 +1,7 @@
+use Rattle.std.proofs.Common.{◌≡◌, ◌≢◌, ◌⊎◌, ℕ, suc, ◌<◌, true, length}
+use Rattle.kuratowski.specs.Witnesses.{vertex_at, path_at, pair_at, Joins}
+use Rattle.graph6_text.specs.Graphs.{has_edge}
+use Rattle.kuratowski.proofs.steps.missing_step.Given as goal
+
+abbrev pub invariant-loop-i : goal.invariant-loop-i
+invariant-loop-i l = (k : ℕ) → suc k < l.i → has_edge l.graph (vertex_at l.path k) (vertex_at l.path (suc k)) ≡ true

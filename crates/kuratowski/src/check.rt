@@ -1,0 +1,67 @@
+//! The check of a witness.
+ghost use Rattle.std.specs.Prelude.{◌≡◌, ◌↔◌};
+ghost use Rattle.kuratowski.specs.Witnesses.{IsShape, IsWitness};
+ghost use Rattle.kuratowski.specs.Verdicts.{IsVerdict, NoBadBranch, LacksNone};
+
+use crate::Witness;
+use crate::branches::bad_branch;
+use crate::inner::shared;
+use crate::shape::has_shape;
+use crate::steps::missing_edge;
+use graph6_text::Graph;
+use map_lists::VertexId;
+
+/// What a witness is worth. Places and paths are counted from 1; what is named is the first of its kind.
+#[derive(Clone, Copy, Debug, PartialEq, Eq)]
+pub enum WitnessVerdict {
+    /// There are not as many branches and paths as the kind has, or a path does not join its pair.
+    BadShape,
+    /// This branch is no vertex, or an earlier branch.
+    BadBranch(usize),
+    /// In this path, no edge joins the vertices at this place and the next.
+    NotEdge(usize, usize),
+    /// This vertex is inner in the first path, and inner in the second too; where the two are one path,
+    /// it is a branch, or stands twice in it.
+    Shared(usize, usize, VertexId),
+    /// It is a witness.
+    Yes,
+}
+
+/// The verdict on a witness for a graph. It takes no memory.
+pub fn check_witness(graph: &Graph, witness: &Witness) -> WitnessVerdict
+    ensures verdict { IsVerdict graph.now witness.now.kind witness.now.branch witness.now.paths result }
+    ensures yes { (result ≡ WitnessVerdict.Yes) ↔ IsWitness graph.now witness.now.kind witness.now.branch witness.now.paths }
+{
+    if !has_shape(witness.kind, &witness.branch, &witness.paths) {
+        return WitnessVerdict::BadShape;
+    }
+    match bad_branch(graph.n(), &witness.branch) {
+        Some(i) => WitnessVerdict::BadBranch(i + 1),
+        None => path_verdict(graph, witness),
+    }
+}
+
+// The verdict where shape and branches are right.
+fn path_verdict(graph: &Graph, witness: &Witness) -> WitnessVerdict
+    requires shape { IsShape witness.now.kind witness.now.branch witness.now.paths }
+    requires branches { NoBadBranch graph.now.n witness.now.branch }
+    ensures { IsVerdict graph.now witness.now.kind witness.now.branch witness.now.paths result }
+{
+    match missing_edge(graph, &witness.paths) {
+        Some((p, i)) => WitnessVerdict::NotEdge(p + 1, i + 1),
+        None => inner_verdict(graph, witness),
+    }
+}
+
+// The verdict where only the inner vertices may be wrong.
+fn inner_verdict(graph: &Graph, witness: &Witness) -> WitnessVerdict
+    requires shape { IsShape witness.now.kind witness.now.branch witness.now.paths }
+    requires branches { NoBadBranch graph.now.n witness.now.branch }
+    requires edges { LacksNone graph.now witness.now.paths }
+    ensures { IsVerdict graph.now witness.now.kind witness.now.branch witness.now.paths result }
+{
+    match shared(&witness.branch, &witness.paths) {
+        Some(s) => WitnessVerdict::Shared(s.first + 1, s.second + 1, VertexId(s.vertex)),
+        None => WitnessVerdict::Yes,
+    }
+}

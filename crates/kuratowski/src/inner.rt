@@ -1,0 +1,145 @@
+//! Whether inner vertices stand at one place of one path, and are no branches.
+ghost use Rattle.std.specs.Prelude.{◌≡◌, ◌≢◌, ◌+◌, ◌-◌, ◌<◌, ◌≤◌, ◌↔◌, ◌⊎◌, ℕ, suc, length, if◌then◌else◌, Option, IsTrue, MatchOption};
+ghost use Rattle.kuratowski.specs.Witnesses.{vertex_at as vertex_of, path_at, IsInnerPlace};
+ghost use Rattle.kuratowski.specs.Faults.{Stands, StandsTwice, IsInner, IsShared};
+ghost use Rattle.kuratowski.specs.Verdicts.{IsLeast, IsLeastPair, IsLeastTriple};
+ghost use Rattle.kuratowski.specs.Inner.{IsLeastInner, lesser as lesser_of};
+
+use crate::branches::stands;
+use map_lists::{PathList, VertexId, VertexList};
+
+/// A vertex that two paths share, or that is wrong in one.
+#[derive(Clone, Copy, Debug, PartialEq, Eq)]
+pub struct SharedVertex {
+    /// The path in which it is inner.
+    pub first: usize,
+    /// The other path, or the same.
+    pub second: usize,
+    /// The vertex.
+    pub vertex: u16,
+}
+
+/// The first path, then the first other one or itself, and then the least vertex, that is wrong.
+pub fn shared(branch: &VertexList, paths: &PathList) -> Option<SharedVertex>
+    requires { (p : ℕ) → p < length paths.now → 2 ≤ length (path_at paths.now p) }
+    ensures { MatchOption result ((p q v : ℕ) → ¬ IsShared branch.now paths.now p q v) (λ s. IsLeastTriple (IsShared branch.now paths.now) s.first s.second s.vertex) }
+{
+    for first in 0..paths.len() {
+        match shared_by(branch, paths, first) {
+            Some((second, vertex)) => {
+                return Some(SharedVertex {
+                    first,
+                    second,
+                    vertex,
+                });
+            }
+            None => {}
+        }
+    }
+    None
+}
+
+// The same for one path.
+fn shared_by(branch: &VertexList, paths: &PathList, p: usize) -> Option<(usize, u16)>
+    requires path { p < length paths.now }
+    requires long { (p : ℕ) → p < length paths.now → 2 ≤ length (path_at paths.now p) }
+    ensures { MatchOption result ((q v : ℕ) → ¬ IsShared branch.now paths.now p q v) (λ r. IsLeastPair (IsShared branch.now paths.now p) r.0 r.1) }
+{
+    match wrong_inner(branch, paths.list(p)) {
+        Some(vertex) => Some((p, vertex)),
+        None => shared_with_later(branch, paths, p),
+    }
+}
+
+// The same with a later path, where the path is right by itself.
+fn shared_with_later(branch: &VertexList, paths: &PathList, p: usize) -> Option<(usize, u16)>
+    requires path { p < length paths.now }
+    requires long { (p : ℕ) → p < length paths.now → 2 ≤ length (path_at paths.now p) }
+    requires right { (v : ℕ) → ¬ IsShared branch.now paths.now p p v }
+    ensures { MatchOption result ((q v : ℕ) → ¬ IsShared branch.now paths.now p q v) (λ r. IsLeastPair (IsShared branch.now paths.now p) r.0 r.1) }
+{
+    let count = paths.len();
+    for q in p + 1..count {
+        match common_inner(paths.list(p), paths.list(q)) {
+            Some(vertex) => return Some((q, vertex)),
+            None => {}
+        }
+    }
+    None
+}
+
+// The least inner vertex that is a branch or stands twice.
+fn wrong_inner(branch: &VertexList, path: &[VertexId]) -> Option<u16>
+    requires { 2 ≤ length path.now }
+    ensures { IsLeastInner path.now (λ v. Stands branch.now v ⊎ StandsTwice path.now v) (length path.now - 1) result }
+{
+    let mut least = None;
+    for i in 1..path.len() - 1 {
+        least = least_if(is_wrong(branch, path, i), least, path[i].0);
+    }
+    least
+}
+
+// The least vertex that is inner in two paths.
+fn common_inner(path: &[VertexId], other: &[VertexId]) -> Option<u16>
+    requires path { 2 ≤ length path.now }
+    requires other { 2 ≤ length other.now }
+    ensures { IsLeastInner path.now (IsInner other.now) (length path.now - 1) result }
+{
+    let mut least = None;
+    for i in 1..path.len() - 1 {
+        least = least_if(is_inner(other, path[i].0), least, path[i].0);
+    }
+    least
+}
+
+// Whether the vertex at a place is a branch or stands twice.
+fn is_wrong(branch: &VertexList, path: &[VertexId], i: usize) -> bool
+    requires { i < length path.now }
+    ensures { IsTrue result ↔ (Stands branch.now (vertex_of path.now i) ⊎ StandsTwice path.now (vertex_of path.now i)) }
+{
+    stands(branch, path[i].0) || stands_elsewhere(path, i)
+}
+
+// The lesser of a number and another where a test has passed, and else the other.
+fn least_if(passed: bool, least: Option<u16>, vertex: u16) -> Option<u16>
+    ensures { result ≡ (if passed then lesser_of least vertex else least) }
+{
+    if passed { lesser(least, vertex) } else { least }
+}
+
+// The lesser of a number and another, if there is another.
+fn lesser(least: Option<u16>, vertex: u16) -> Option<u16>
+    ensures { result ≡ lesser_of least vertex }
+{
+    match least {
+        Some(other) if other < vertex => Some(other),
+        _ => Some(vertex),
+    }
+}
+
+// Whether a vertex is inner in a path.
+fn is_inner(path: &[VertexId], vertex: u16) -> bool
+    requires { 2 ≤ length path.now }
+    ensures { IsTrue result ↔ IsInner path.now vertex }
+{
+    for i in 1..path.len() - 1 {
+        if path[i].0 == vertex {
+            return true;
+        }
+    }
+    false
+}
+
+// Whether the vertex at a place stands at another place too.
+fn stands_elsewhere(path: &[VertexId], place: usize) -> bool
+    requires { place < length path.now }
+    ensures { IsTrue result ↔ StandsTwice path.now (vertex_of path.now place) }
+{
+    for j in 0..path.len() {
+        if j != place && path[j].0 == path[place].0 {
+            return true;
+        }
+    }
+    false
+}

@@ -1,0 +1,16 @@
+//! Witnesses that a graph is not planar: subdivisions of K5 or K3,3, by their branches and paths, and
+//! their check.
+#![tactic(auto)]
+
+mod branches;
+mod check;
+mod inner;
+mod shape;
+mod steps;
+mod witness;
+
+pub use check::{WitnessVerdict, check_witness};
+pub use witness::{Kind, Witness};
+
+#[cfg(test)]
+mod tests;

@@ -1,0 +1,111 @@
+//! Whether a witness has the branches and paths of its kind.
+ghost use Rattle.std.specs.Prelude.{◌≡◌, ◌<◌, ◌≤◌, ◌-◌, ◌↔◌, ℕ, length, IsTrue, slice_index_or};
+ghost use Rattle.kuratowski.specs.Witnesses.{branch_count as branches_of, pairs_of, pair_at as pair_of, vertex_at as vertex_of, path_at, Joins, IsShape};
+
+use crate::Kind;
+use map_lists::{PathList, VertexId, VertexList};
+
+const K5_PAIRS: [(usize, usize); 10] = [
+    (0, 1),
+    (0, 2),
+    (0, 3),
+    (0, 4),
+    (1, 2),
+    (1, 3),
+    (1, 4),
+    (2, 3),
+    (2, 4),
+    (3, 4),
+];
+
+const K33_PAIRS: [(usize, usize); 9] = [
+    (0, 3),
+    (0, 4),
+    (0, 5),
+    (1, 3),
+    (1, 4),
+    (1, 5),
+    (2, 3),
+    (2, 4),
+    (2, 5),
+];
+
+/// Whether there are as many branches and paths as the kind has, and each path joins its pair.
+pub fn has_shape(kind: Kind, branch: &VertexList, paths: &PathList) -> bool
+    ensures { IsTrue result ↔ IsShape kind branch.now paths.now }
+{
+    branch.len() == branch_count(kind)
+        && paths.len() == path_count(kind)
+        && all_join(kind, branch, paths)
+}
+
+fn branch_count(kind: Kind) -> usize
+    ensures { result ≡ branches_of kind }
+{
+    match kind {
+        Kind::K5 => 5,
+        Kind::K33 => 6,
+    }
+}
+
+fn path_count(kind: Kind) -> usize
+    ensures { result ≡ length (pairs_of kind) }
+{
+    match kind {
+        Kind::K5 => 10,
+        Kind::K33 => 9,
+    }
+}
+
+// Whether each path joins its pair.
+fn all_join(kind: Kind, branch: &VertexList, paths: &PathList) -> bool
+    requires branches { length branch.now ≡ branches_of kind }
+    requires paths { length paths.now ≡ length (pairs_of kind) }
+    ensures { IsTrue result ↔ ((p : ℕ) → p < length paths.now → Joins branch.now (path_at paths.now p) (pair_of kind p)) }
+{
+    for p in 0..paths.len() {
+        if !joins(kind, branch, paths.list(p), p) {
+            return false;
+        }
+    }
+    true
+}
+
+// Whether a path joins the pair of path number `p`.
+fn joins(kind: Kind, branch: &VertexList, path: &[VertexId], p: usize) -> bool
+    requires branches { length branch.now ≡ branches_of kind }
+    requires path { p < length (pairs_of kind) }
+    ensures { IsTrue result ↔ Joins branch.now path.now (pair_of kind p) }
+{
+    let (a, b) = pair_at(kind, p);
+    path.len() >= 2 && has_ends(path, vertex_at(branch, a), vertex_at(branch, b))
+}
+
+// Whether a path runs from one vertex to another.
+fn has_ends(path: &[VertexId], start: u16, end: u16) -> bool
+    requires { 2 ≤ length path.now }
+    ensures { IsTrue result ↔ ((vertex_of path.now 0 ≡ start) × (vertex_of path.now (length path.now - 1) ≡ end)) }
+{
+    path[0].0 == start && path[path.len() - 1].0 == end
+}
+
+// The pair of path number `p`.
+fn pair_at(kind: Kind, p: usize) -> (usize, usize)
+    requires { p < length (pairs_of kind) }
+    ensures pair { result ≡ pair_of kind p }
+    ensures first { result.0 < branches_of kind }
+    ensures second { result.1 < branches_of kind }
+{
+    match kind {
+        Kind::K5 => K5_PAIRS[p],
+        Kind::K33 => K33_PAIRS[p],
+    }
+}
+
+/// The vertex at a place of a list.
+pub fn vertex_at(list: &VertexList, i: usize) -> u16
+    requires { i < length list.now }
+    ensures { result ≡ vertex_of list.now i }
+{
+    list.get(i).0
+}
