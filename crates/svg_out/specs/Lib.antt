@@ -1,0 +1,3 @@
+-- Edges in their order, and figures as SVG.
+pub mod Edges
+pub mod Svg

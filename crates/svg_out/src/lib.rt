@@ -1,0 +1,16 @@
+//! Figures as SVG, line by line.
+//!
+//! `svg` appends the picture of a figure: a first line with its size, a tag for each vertex and each edge, and a
+//! last line. All numbers are whole: a unit of the figure is ten of the picture, in which y goes down. Edges come
+//! in the order of their lesser ends, and then of their greater.
+#![tactic(auto)]
+
+mod bars;
+mod edges;
+mod grid;
+mod picture;
+mod tags;
+
+pub use bars::svg_bars;
+pub use grid::svg_grid;
+pub use picture::svg;

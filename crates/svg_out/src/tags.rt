@@ -1,0 +1,122 @@
+//! The lines of a picture.
+ghost use Rattle.std.specs.Prelude.{◌≡◌, ◌++◌, ◌∷◌, ℤ, pos, ◌+ℤ◌, ◌-ℤ◌, ◌*ℤ◌, OnOk};
+ghost use Rattle.std.specs.Fmt.{signed_decimal};
+ghost use Rattle.svg_out.specs.Svg.{across as far_right, down as far_down, attribute, ends, segment, front as the_front, opening, closing, dot};
+
+use itoa::Buffer;
+use pg_plane::Point;
+use std::alloc::AllocError;
+
+// Appends a whole number.
+fn push_number(out: &mut Vec<u8>, number: i64) -> Result<(), AllocError>
+    ensures { OnOk result (out.new.items ≡ out.old.items ++ signed_decimal number) }
+{
+    let mut buffer = Buffer::new();
+    out.extend_from_slice(buffer.format(number).as_bytes())
+}
+
+// Appends an attribute of a tag, with a space before it.
+fn push_attribute(out: &mut Vec<u8>, name: &[u8], number: i64) -> Result<(), AllocError>
+    ensures { OnOk result (out.new.items ≡ out.old.items ++ attribute name.now number) }
+{
+    out.push(b' ')?;
+    out.extend_from_slice(name)?;
+    out.extend_from_slice(b"=\"")?;
+    push_number(out, number)?;
+    out.push(b'"')?;
+    Ok(())
+}
+
+/// How far right x lies in the picture.
+pub(crate) fn across(x: i32) -> i64
+    ensures { result ≡ far_right x }
+{
+    10 * i64::from(x)
+}
+
+/// How far down y lies in the picture of a figure of this height.
+pub(crate) fn down(height: i32, y: i32) -> i64
+    ensures { result ≡ far_down height y }
+{
+    10 * (i64::from(height) - i64::from(y))
+}
+
+/// A place in the picture.
+#[derive(Clone, Copy, Debug, PartialEq, Eq)]
+pub(crate) struct Spot {
+    /// How far right it lies.
+    pub(crate) x: i64,
+    /// How far down it lies.
+    pub(crate) y: i64,
+}
+
+// Appends the two ends of a segment.
+fn push_ends(out: &mut Vec<u8>, from: Spot, to: Spot) -> Result<(), AllocError>
+    ensures { OnOk result (out.new.items ≡ out.old.items ++ ends from.x from.y to.x to.y) }
+{
+    push_attribute(out, b"x1", from.x)?;
+    push_attribute(out, b"y1", from.y)?;
+    push_attribute(out, b"x2", to.x)?;
+    push_attribute(out, b"y2", to.y)
+}
+
+/// Appends the tag of a segment, with more attributes behind the others.
+pub(crate) fn push_segment(
+    out: &mut Vec<u8>,
+    from: Spot,
+    to: Spot,
+    more: &[u8],
+) -> Result<(), AllocError>
+    ensures { OnOk result (out.new.items ≡ out.old.items ++ segment from.x from.y to.x to.y more.now) }
+{
+    out.extend_from_slice(b"<line")?;
+    push_ends(out, from, to)?;
+    out.extend_from_slice(b" stroke=\"black\"")?;
+    out.extend_from_slice(more)?;
+    out.extend_from_slice(b"/>\n")?;
+    Ok(())
+}
+
+/// Appends a vertex of a straight-line drawing of this height.
+pub(crate) fn push_dot(out: &mut Vec<u8>, height: i32, point: Point) -> Result<(), AllocError>
+    ensures { OnOk result (out.new.items ≡ out.old.items ++ dot height point) }
+{
+    out.extend_from_slice(b"<circle")?;
+    push_attribute(out, b"cx", across(point.x))?;
+    push_attribute(out, b"cy", down(height, point.y))?;
+    out.extend_from_slice(b" r=\"3\"/>\n")?;
+    Ok(())
+}
+
+// How wide or high the picture of a figure so wide or high is.
+fn with_margin(size: i32) -> i64
+    ensures { result ≡ pos 10 *ℤ size +ℤ pos 20 }
+{
+    10 * i64::from(size) + 20
+}
+
+// How each picture begins.
+fn front() -> &'static [u8]
+    ensures { result.now ≡ the_front }
+{
+    b"<svg xmlns=\"http://www.w3.org/2000/svg\" viewBox=\"-10 -10 "
+}
+
+/// Appends the first line, for a figure of this width and height.
+pub(crate) fn push_opening(out: &mut Vec<u8>, width: i32, height: i32) -> Result<(), AllocError>
+    ensures { OnOk result (out.new.items ≡ out.old.items ++ opening width height) }
+{
+    out.extend_from_slice(front())?;
+    push_number(out, with_margin(width))?;
+    out.push(b' ')?;
+    push_number(out, with_margin(height))?;
+    out.extend_from_slice(b"\">\n")?;
+    Ok(())
+}
+
+/// Appends the last line.
+pub(crate) fn push_closing(out: &mut Vec<u8>) -> Result<(), AllocError>
+    ensures { OnOk result (out.new.items ≡ out.old.items ++ closing) }
+{
+    out.extend_from_slice(b"</svg>\n")
+}
