@@ -1,0 +1,4 @@
+-- Lemmas on how an input of figures is read.
+pub mod MoreLemmas
+pub mod ItemLemmas
+pub mod LineLemmas
