@@ -2,3 +2,4 @@
 pub mod MoreLemmas
 pub mod ItemLemmas
 pub mod LineLemmas
+pub mod PartLemmas
