@@ -3,3 +3,5 @@ pub mod MoreLemmas
 pub mod ItemLemmas
 pub mod LineLemmas
 pub mod PartLemmas
+pub mod ReadLemmas
+pub mod UniqueLemmas

@@ -1,12 +1,12 @@
 -- What a closed line does to the progress.
-use Rattle.std.proofs.Common.{◌≡◌, ◌≢◌, ℕ, ◌+◌, ◌-◌, ◌<◌, ◌≤◌, List, [], ◌∷◌, ◌++◌, length, drop, take, refl, sym, ap, ◌∙◌, subst, arith, append_assoc, length-append, inl, inr, All, Bool, true, false, pos, min, below_more, get_or}
+use Rattle.std.proofs.Common.{◌≡◌, ◌≢◌, ℕ, ◌+◌, ◌-◌, ◌<◌, ◌≤◌, List, [], ◌∷◌, ◌++◌, length, drop, take, refl, sym, ap, ◌∙◌, subst, arith, append_assoc, length-append, inl, inr, Bool, true, false, pos, min, below_more}
 use Rattle.std.specs.Prelude.{neg_ℤ}
 use Rattle.std.proofs.lemmas.Int.{ints}
 use Rattle.std.proofs.Math.ListN.{get_or-append}
 use Rattle.std.proofs.Math.Seq.{get_or-append_seam}
 use Rattle.pg_plane.specs.declared.point.Point.{Point}
 use Rattle.pg_plane.specs.Range.{IsInRange, IsWithin}
-use Rattle.std.proofs.lemmas.List.{append-nil, length-map}
+use Rattle.std.proofs.lemmas.List.{length-map}
 use Rattle.std.proofs.lemmas.List.Elements.{All-nil}
 use Rattle.std.proofs.Math.Seq.{drop-length, take-append-add}
 use Rattle.std.specs.Prelude.{Result, Ok, Err, Option, Some, None, IsTrue, IsFalse, ◌⊎◌}
@@ -15,25 +15,25 @@ use Rattle.figure_text.specs.declared.figure.GridJob.{GridJob}
 use Rattle.figure_text.specs.declared.figure.Figure.{Figure}
 use Rattle.figure_text.specs.declared.figure.Figure.TheVariants.{Grid as GridFigure}
 use Rattle.figure_text.specs.declared.judge.Kind.{Kind}
-use Rattle.figure_text.specs.declared.judge.Kind.TheVariants.{Grid, Bars}
+use Rattle.figure_text.specs.declared.judge.Kind.TheVariants.{Grid}
 use Rattle.figure_text.specs.declared.rows.Draft.{Draft}
 use Rattle.figure_text.specs.declared.fault.TextFault.{TextFault}
 use Rattle.figure_text.specs.declared.fault.TextFault.TheVariants as fault
 use Rattle.figure_text.specs.declared.read.Item.{Item}
-use Rattle.figure_text.specs.declared.read.Item.TheVariants.{Drawn, Note, End}
+use Rattle.figure_text.specs.declared.read.Item.TheVariants.{Drawn, Note}
 use Rattle.figure_text.specs.Words.{words_of, word_at}
 use Rattle.figure_text.specs.declared.words.Word.{Word}
 use Rattle.figure_text.specs.declared.words.Word.TheVariants.{Number, Closing, Named, Other}
 use Rattle.figure_text.specs.Text.{point_at}
 use Rattle.figure_text.specs.Lines.{IsFirstLine, FirstInRange, size, integer_of, signed_value}
-use Rattle.figure_text.specs.Reading.{IsPlain, IsLine, Rows, IsRow, RowInRange, IsGoodRow, is_note, of_lines, vertices_from, point_of}
+use Rattle.figure_text.specs.Reading.{IsPlain, IsLine, Rows, IsRow, RowInRange, IsGoodRow, is_note, vertices_from, point_of}
 use Rattle.figure_text.specs.Front.{IsFirstOf}
 use Rattle.figure_text.specs.Drafts.{drafted, with_row}
 use Rattle.figure_text.specs.Figures.{IsHead, Begins, FirstFails, BodyFails}
 use Rattle.figure_text.proofs.UniqueRows.{IsPlain-no_line}
 use Rattle.figure_text.proofs.RowLemmas.{Rows-more as Rows-push, drafted-more}
-use Rattle.figure_lines.specs.Reading.{is_judged, IsUnjudged, Answers, AreItems, figures_of, EndsAs, IsReading}
-use Rattle.figure_lines.specs.Progress.{IsBegun, IsOpen, Progress, Closes}
+use Rattle.figure_lines.specs.Reading.{is_judged, IsUnjudged, Answers, AreItems, EndsAs, IsReading}
+use Rattle.figure_lines.specs.Progress.{IsBegun, Progress, Closes}
 use Rattle.figure_lines.specs.Steps.{IsGrown}
 use Rattle.figure_lines.specs.declared.step.After.{After}
 use Rattle.figure_lines.specs.declared.step.After.TheVariants.{Goes, Whole, Bad}
@@ -102,7 +102,7 @@ fails-limit line rest number kind plain other first judged not =
 pub IsHead-of : (kind : Kind) (n : ℕ) (line : List ℕ) → IsFirstOf kind (words_of line) → FirstInRange (words_of line) → size (word_at (words_of line) 3) ≡ n → IsHead kind n line
 IsHead-of kind n line first range count = record { shape = first.shape; range = range; job = first.job; vertices = count }
 
-begins-judged : (kind : Kind) (n : ℕ) (text rest : List ℕ) → IsTrue (is_judged kind) → Begins kind n text rest → ¬ IsUnjudged text
+pub begins-judged : (kind : Kind) (n : ℕ) (text rest : List ℕ) → IsTrue (is_judged kind) → Begins kind n text rest → ¬ IsUnjudged text
 begins-judged kind n text rest judged b =
     judged-by text b.line rest b.is (λ kind' first' is. judged-first (record { shape = b.head.shape; job = b.head.job }) judged kind' first')
 

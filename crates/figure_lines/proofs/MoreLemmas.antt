@@ -1,17 +1,15 @@
 -- What stands in a text stands there in a longer one.
-use Rattle.std.proofs.Common.{◌≡◌, ◌≢◌, ℕ, ◌+◌, ◌-◌, ◌<◌, ◌≤◌, List, [], ◌∷◌, ◌++◌, length, drop, refl, sym, ap, ◌∙◌, subst, arith, append_assoc, length-append, inl, inr}
+use Rattle.std.proofs.Common.{◌≡◌, ℕ, ◌≤◌, List, ◌∷◌, ◌++◌, length, drop, sym, ap, ◌∙◌, subst, arith, append_assoc, length-append, inl, inr}
 use Rattle.std.proofs.lemmas.List.{drop-append-le}
-use Rattle.std.specs.Prelude.{Result, Ok, Err, Some, IsTrue, IsFalse, ◌⊎◌}
+use Rattle.std.specs.Prelude.{Ok, Some, IsTrue, IsFalse}
 use Rattle.figure_text.specs.declared.figure.Figure.{Figure}
 use Rattle.figure_text.specs.declared.judge.Kind.{Kind}
 use Rattle.figure_text.specs.declared.judge.Kind.TheVariants.{Grid, Bars}
-use Rattle.figure_text.specs.declared.fault.TextFault.{TextFault}
-use Rattle.figure_text.specs.declared.fault.TextFault.TheVariants.{BadLine}
-use Rattle.figure_text.specs.declared.read.Item.TheVariants.{Drawn, Note, End}
+use Rattle.figure_text.specs.declared.read.Item.TheVariants.{Drawn, Note}
 use Rattle.figure_text.specs.Words.{words_of}
 use Rattle.figure_text.specs.Reading.{IsPlain, IsLine, Rows, is_note, closed}
 use Rattle.figure_text.specs.Front.{IsFirstOf}
-use Rattle.figure_text.specs.Figures.{Begins, IsBody, StandsAt, FirstFails, BodyFails}
+use Rattle.figure_text.specs.Figures.{Begins, IsBody}
 use Rattle.figure_text.proofs.UniqueRows.{IsLine-unique, IsPlain-no_line}
 use Rattle.figure_lines.specs.Reading.{is_judged, IsUnjudged, Answers}
 

@@ -1,12 +1,12 @@
 -- Parts of a piece, and the line that they join or close.
-use Rattle.std.proofs.Common.{◌≡◌, ◌≢◌, ℕ, ◌+◌, ◌<◌, ◌≤◌, List, [], ◌∷◌, ◌++◌, length, drop, take, get_or, refl, sym, ap, ◌∙◌, subst, arith, append_assoc, All}
-use Rattle.std.proofs.lemmas.List.{take-append-drop, take_more, take_all, get_or-take, get_or_default, length-take-le}
+use Rattle.std.proofs.Common.{◌≡◌, ◌≢◌, ℕ, ◌+◌, ◌<◌, ◌≤◌, List, [], ◌∷◌, ◌++◌, length, drop, take, get_or, sym, ap, ◌∙◌, subst, arith, append_assoc}
+use Rattle.std.proofs.lemmas.List.{take-append-drop, take_more, take_all, get_or-take, length-take-le}
 use Rattle.std.proofs.lemmas.List.Elements.{All-append, All-from_get_or}
 use Rattle.std.specs.Prelude.{Option, Some, None}
 use Rattle.figure_text.specs.declared.figure.Figure.{Figure}
 use Rattle.figure_text.specs.declared.judge.Kind.TheVariants.{Grid}
 use Rattle.figure_text.specs.Reading.{IsPlain}
-use Rattle.figure_lines.specs.Progress.{IsBegun, IsOpen, Progress, Closes}
+use Rattle.figure_lines.specs.Progress.{IsOpen, Progress, Closes}
 use Rattle.figure_lines.specs.declared.begun.Begun.{Begun}
 use Rattle.figure_lines.specs.declared.step.After.{After}
 use Rattle.figure_lines.proofs.MoreLemmas.{drop-more, within-more}

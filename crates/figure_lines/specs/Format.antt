@@ -1,5 +1,4 @@
 -- Figures as a format of runs.
-use Rattle.std.specs.Prelude.{List}
 use Rattle.record_runs.specs.Texts.{Reads}
 use Rattle.figure_text.specs.declared.figure.Figure.{Figure}
 use Rattle.figure_lines.specs.Reading.{IsReading, BeginsWith}

@@ -5,3 +5,4 @@ pub mod Format
 pub mod Progress
 pub mod Steps
 pub mod State
+pub mod Laws

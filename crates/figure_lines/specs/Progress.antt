@@ -1,6 +1,5 @@
 -- How far the bytes consumed so far have been read.
-use Rattle.std.specs.Prelude.{ℕ, ◌+◌, ◌<◌, ◌≤◌, ◌≡◌, List, [], ◌∷◌, ◌++◌, length, drop, Option, Some, None, OnOk, IfOk}
-use Rattle.record_runs.specs.Texts.{input_limit}
+use Rattle.std.specs.Prelude.{ℕ, ◌+◌, ◌<◌, ◌≤◌, ◌≡◌, List, [], ◌∷◌, ◌++◌, length, drop, Option, Some, None}
 use Rattle.figure_text.specs.declared.figure.Figure.{Figure}
 use Rattle.figure_text.specs.declared.judge.Kind.{Kind}
 use Rattle.figure_text.specs.declared.judge.Kind.TheVariants.{Grid}

@@ -1,5 +1,5 @@
 -- How an input of figures is read: as figures and notes, and one ending.
-use Rattle.std.specs.Prelude.{ℕ, ◌+◌, ◌<◌, ◌≤◌, ◌≡◌, ◌⊎◌, Bool, true, false, IsFalse, List, [], ◌∷◌, length, take, drop, Result, Ok, Err}
+use Rattle.std.specs.Prelude.{ℕ, ◌<◌, ◌≤◌, ◌≡◌, ◌⊎◌, Bool, true, false, IsFalse, List, [], ◌∷◌, length, take, drop, Result, Ok, Err}
 use Rattle.record_runs.specs.Texts.{input_limit}
 use Rattle.figure_text.specs.declared.figure.Figure.{Figure}
 use Rattle.figure_text.specs.declared.judge.Kind.{Kind}

@@ -1,6 +1,5 @@
 -- What contracts see of a reader, and what pieces do to it.
 use Rattle.std.specs.Prelude.{ℕ, ◌+◌, ◌<◌, ◌≤◌, ◌≡◌, List, [], ◌∷◌, ◌++◌, length, take, Option, Some, None}
-use Rattle.record_runs.specs.Texts.{input_limit}
 use Rattle.figure_text.specs.declared.figure.Figure.{Figure}
 use Rattle.figure_lines.specs.Progress.{Progress, Closes, IsWhole}
 use Rattle.figure_lines.specs.Format.{IsBad}
@@ -9,7 +8,6 @@ use Rattle.figure_lines.specs.Reading.{IsReading}
 use Rattle.figure_lines.specs.declared.ending.Ending.{Ending}
 use Rattle.figure_lines.specs.declared.ending.Ending.TheVariants.{Well, BadLine, EndInFigure}
 use Rattle.figure_lines.specs.declared.begun.Begun.{Begun}
-use Rattle.figure_lines.specs.declared.step.After.{After}
 use Rattle.figure_lines.specs.declared.part.Line.{Line}
 use Rattle.figure_lines.specs.declared.part.Line.TheVariants.{Open, Closed}
 use Rattle.figure_lines.specs.declared.part.Part.{Part}

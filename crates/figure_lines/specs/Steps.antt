@@ -1,12 +1,11 @@
 -- What a closed line does, in the words of the code's own enums.
-use Rattle.std.specs.Prelude.{ℕ, ◌<◌, ◌≤◌, ◌≡◌, IsFalse, List, length, Option, Some, None}
+use Rattle.std.specs.Prelude.{ℕ, ◌<◌, ◌≤◌, ◌≡◌, IsFalse, length, Option, Some, None}
 use Rattle.figure_text.specs.declared.figure.GridJob.{GridJob}
 use Rattle.figure_text.specs.declared.figure.Figure.TheVariants.{Grid as GridFigure}
 use Rattle.figure_text.specs.declared.judge.Kind.{Kind}
 use Rattle.figure_text.specs.declared.judge.Kind.TheVariants.{Grid}
 use Rattle.figure_text.specs.declared.rows.Draft.{Draft}
 use Rattle.figure_lines.specs.Reading.{is_judged}
-use Rattle.figure_lines.specs.declared.begun.Begun.{Begun}
 use Rattle.figure_lines.specs.declared.step.After.{After}
 use Rattle.figure_lines.specs.declared.step.After.TheVariants.{Goes, Whole, Bad}
 

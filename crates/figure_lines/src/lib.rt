@@ -7,6 +7,7 @@
 
 mod begun;
 mod ending;
+pub mod laws;
 mod part;
 mod reader;
 mod step;

@@ -1,5 +1,5 @@
 -- The part holds a byte 10 or none.
-use Rattle.std.proofs.Common.{◌≡◌, ◌+◌, ◌<◌, ◌≤◌, ℕ, List, ◌++◌, length, take, arith, subst, sym, ◌∙◌, length-append}
+use Rattle.std.proofs.Common.{◌≡◌, ◌<◌, ℕ, List, ◌++◌, length, take, arith, subst, sym, ◌∙◌, length-append}
 use Rattle.std.proofs.lemmas.List.{length-take-le}
 use Rattle.record_runs.specs.Texts.{input_limit}
 use Rattle.figure_lines.specs.Progress.{Progress}

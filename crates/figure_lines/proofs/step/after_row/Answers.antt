@@ -1,13 +1,12 @@
 -- What the line of a vertex is worth decides.
-use Rattle.std.proofs.Common.{◌≡◌, ◌+◌, ◌<◌, ◌≤◌, ℕ, List, length, ◌++◌, ◌∷◌, [], refl, sym, ap, ◌∙◌, arith, subst, length-append}
-use Rattle.pg_plane.specs.declared.point.Point.{Point}
+use Rattle.std.proofs.Common.{◌≡◌, ◌+◌, ◌<◌, ℕ, length, ◌∷◌, [], refl, sym, ap, ◌∙◌, arith, subst, length-append}
 use Rattle.pg_plane.specs.Range.{IsInRange}
 use Rattle.figure_text.specs.declared.judge.Kind.TheVariants.{Grid}
 use Rattle.figure_text.specs.declared.rows.Draft.{Draft}
 use Rattle.figure_text.specs.Text.{point_at}
 use Rattle.figure_text.specs.Words.{words_of}
 use Rattle.figure_text.specs.Drafts.{with_row}
-use Rattle.figure_text.specs.Reading.{IsRow, RowInRange, IsGoodRow, point_of, vertices_from}
+use Rattle.figure_text.specs.Reading.{IsRow, IsGoodRow, vertices_from}
 use Rattle.figure_lines.proofs.LineLemmas.{closes-grown, closes-bad_row, closes-far_row, in_range-more}
 use Rattle.figure_lines.proofs.step.after_row.Goals as goal
 

@@ -1,11 +1,9 @@
 -- What a part did, behind the bytes before it.
-use Rattle.std.proofs.Common.{◌≡◌, ℕ, List, ◌+◌, ◌≤◌, ◌++◌, ◌∷◌, [], length, take, drop, arith, subst, sym, ap, ◌∙◌, append_assoc}
+use Rattle.std.proofs.Common.{◌≡◌, ℕ, List, ◌+◌, ◌++◌, ◌∷◌, [], take, drop, arith, subst, sym, ap, ◌∙◌, append_assoc}
 use Rattle.std.proofs.lemmas.List.{take_rest, length-drop, take-append-drop}
 use Rattle.std.proofs.Math.Seq.{take-add}
-use Rattle.figure_text.specs.declared.figure.Figure.{Figure}
 use Rattle.figure_lines.specs.Reading.{IsReading}
-use Rattle.figure_lines.specs.State.{IsAt, MovesPart, TakesPart}
-use Rattle.figure_lines.specs.declared.part.Part.TheVariants.{Goes, Ended, Bad}
+use Rattle.figure_lines.specs.State.{IsAt}
 use Rattle.figure_lines.proofs.reader.FigureReader.take.Goals as goal
 
 -- the bytes before a place, and some behind it

@@ -1,11 +1,9 @@
 -- A bad line, and what follows it in the part.
-use Rattle.std.proofs.Common.{◌≡◌, ◌≤◌, ◌+◌, List, ℕ, ◌++◌, length, drop, take, arith, subst, sym}
+use Rattle.std.proofs.Common.{◌≤◌, ◌+◌, List, ℕ, ◌++◌, length, drop, arith, subst, sym}
 use Rattle.figure_lines.specs.Progress.{Progress}
 use Rattle.record_runs.specs.Texts.{input_limit}
 use Rattle.figure_lines.specs.Reading.{IsReading}
 use Rattle.figure_lines.specs.State.{State}
-use Rattle.figure_lines.specs.declared.part.Line.TheVariants.{Closed}
-use Rattle.figure_lines.specs.declared.step.After.TheVariants.{Bad}
 use Rattle.figure_lines.proofs.PartLemmas.{part-splits}
 use Rattle.figure_lines.proofs.reader.FigureReader.take_part.Goals as goal
 
