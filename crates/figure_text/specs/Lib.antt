@@ -4,5 +4,6 @@ pub mod Words
 pub mod Lines
 pub mod Reading
 pub mod Drafts
+pub mod Front
 pub mod Figures
 pub mod Laws

@@ -9,6 +9,7 @@
 
 mod fault;
 mod figure;
+mod front;
 mod judge;
 pub mod laws;
 mod lines;
@@ -19,5 +20,8 @@ mod words;
 
 pub use fault::TextFault;
 pub use figure::{Figure, GridJob};
+pub use front::{Front, front_line};
+pub use judge::{Judged, Kind};
 pub use print::{print_figure, print_grid};
 pub use read::{Item, read_figure};
+pub use rows::{Draft, row_of};

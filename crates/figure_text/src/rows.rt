@@ -125,8 +125,15 @@ fn push_row(alloc: Global, kind: Kind, words: &[Word], draft: &mut Draft) -> Res
     }
 }
 
-// Judges the line of a vertex, and appends what a good one gives. Without memory there is no answer.
-fn row_of(alloc: Global, kind: Kind, place: usize, line: &[u8], draft: &mut Draft) -> Option<Judged>
+/// Judges the line of a vertex, which is given without the byte 10 that closes it, and appends what a good
+/// one gives. Without memory there is no answer.
+pub fn row_of(
+    alloc: Global,
+    kind: Kind,
+    place: usize,
+    line: &[u8],
+    draft: &mut Draft,
+) -> Option<Judged>
     ensures { IfSome result (λ judged. Judges (IsRow kind place (words_of line.now)) (RowInRange kind (words_of line.now)) judged
         × (judged ≡ Judged.Good → draft.new ≡ with_row kind draft.old (words_of line.now))) }
 {

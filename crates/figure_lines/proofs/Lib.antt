@@ -1,0 +1,7 @@
+-- Lemmas on how an input of figures is read.
+pub mod MoreLemmas
+pub mod ItemLemmas
+pub mod LineLemmas
+pub mod PartLemmas
+pub mod ReadLemmas
+pub mod UniqueLemmas

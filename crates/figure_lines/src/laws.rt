@@ -1,0 +1,13 @@
+//! Laws on how inputs of figures are read, each the contract of a function that does nothing.
+ghost use Rattle.figure_lines.specs.Laws.{OneReading, ConsumedIsRead};
+
+/// Each input is read in one way at most: two readings of it have the same figures, in the same order, and
+/// the same ending.
+pub fn one_reading()
+    ensures { OneReading }
+{}
+
+/// What a reader has consumed is read as the figures that it has answered, and ends as the reader says.
+pub fn consumed_is_read()
+    ensures { ConsumedIsRead }
+{}

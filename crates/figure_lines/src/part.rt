@@ -1,0 +1,67 @@
+//! A part of a piece, up to the end of a line.
+ghost use Rattle.std.specs.Prelude.{◌≡◌, ◌≢◌, ◌+◌, ◌<◌, ◌≤◌, List, ℕ, length, slice_index, IfOk};
+ghost use Rattle.record_runs.specs.Texts.{input_limit};
+ghost use Rattle.figure_lines.specs.Progress.{Progress};
+ghost use Rattle.figure_lines.specs.State.{IsLinePart, TakesLine};
+ghost use Rattle.figure_text.specs.declared.figure.Figure.{Figure as AFigure};
+
+use crate::begun::Begun;
+use crate::ending::Ending;
+use crate::step::{After, after_line};
+use std::alloc::{AllocError, Global};
+
+/// What a part of a piece made of the open line.
+#[derive(Drop)]
+pub enum Line {
+    /// It is open still, and the whole part joined it.
+    Open(Option<Begun>),
+    /// It was closed by so many bytes of the part.
+    Closed(usize, After),
+}
+
+/// What a part of a piece made of what had come before.
+#[derive(Drop)]
+pub enum Part {
+    /// So many bytes of it were consumed, and no figure became whole.
+    Goes(usize),
+    /// A figure became whole with so many bytes.
+    Ended(usize),
+    /// The input ends badly in it.
+    Bad(Ending),
+}
+
+// How many bytes stand before the first byte 10, or before the end.
+fn line_length(bytes: &[u8]) -> usize
+    ensures within { result ≤ length bytes.now }
+    ensures before { (k : ℕ) → k < result → slice_index bytes.now k ≢ 10 }
+    ensures found { result < length bytes.now → slice_index bytes.now result ≡ 10 }
+{
+    for (i, byte) in bytes.iter().enumerate() {
+        if *byte == b'\n' {
+            return i;
+        }
+    }
+    bytes.len()
+}
+
+/// Takes a part to the end of the open line, which is then judged, or to its own end.
+pub fn take_line(
+    alloc: Global,
+    pending: &mut Vec<u8>,
+    before: Option<Begun>,
+    line: u32,
+    part: &[u8],
+) -> Result<Line, AllocError>
+    ensures part { IfOk result (IsLinePart part.now) }
+    ensures takes { (consumed : List ℕ) (figures : List AFigure) → Progress consumed figures line pending.old.items before
+        → length consumed + length part.now ≤ input_limit → IfOk result (TakesLine consumed figures line part.now pending.new.items) }
+{
+    let len = line_length(part);
+    pending.extend_from_slice(&part[..len])?;
+    if len == part.len() {
+        return Ok(Line::Open(before));
+    }
+    let after = after_line(alloc, before, pending, line)?;
+    pending.clear();
+    Ok(Line::Closed(len + 1, after))
+}
