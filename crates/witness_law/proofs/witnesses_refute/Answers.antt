@@ -1,5 +1,5 @@
-use Rattle.witness_law.proofs.Tally.{tally}
+use Rattle.witness_law.proofs.Refuted.{witnesses_refute}
 use Rattle.witness_law.proofs.witnesses_refute.Goals as goal
 
 pub returns : goal.returns
-returns c = ?
+returns c = witnesses_refute
