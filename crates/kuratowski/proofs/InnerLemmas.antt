@@ -1,12 +1,12 @@
 -- The least inner vertex with a property, found place by place; the shared vertices of one path.
-use Rattle.std.proofs.Common.{◌≡◌, ◌≢◌, ◌⊎◌, ◌↔◌, IsTrue, ℕ, zero, suc, ◌+◌, ◌-◌, ◌<◌, ◌≤◌, nat_lt, if◌then◌else◌, Bool, true, false, List, length, Option, Some, None, refl, sym, ap, ◌∙◌, subst, inl, inr, arith}
+use Rattle.std.proofs.Common.{◌≡◌, ◌≢◌, ◌⊎◌, ◌↔◌, IsTrue, ℕ, ◌+◌, ◌-◌, ◌<◌, nat_lt, if◌then◌else◌, Bool, true, false, List, length, Option, Some, None, refl, sym, ap, ◌∙◌, subst, inl, inr, arith}
 use Rattle.std.proofs.lemmas.Bool.{cases_lt, cases_eq, cond-true, cond-false, true≢false}
 use Rattle.std.proofs.lemmas.Bool.Decides.{nat_tests}
 use Rattle.map_lists.specs.declared.ids.VertexId.{VertexId}
-use Rattle.kuratowski.specs.Witnesses.{vertex_at, path_at, IsInnerPlace}
+use Rattle.kuratowski.specs.Witnesses.{vertex_at, path_at}
 use Rattle.kuratowski.specs.Faults.{Stands, StandsTwice, IsInner, IsShared}
 use Rattle.kuratowski.specs.Inner.{StandsWithin, IsLeastInner, lesser}
-use Rattle.kuratowski.specs.Verdicts.{IsLeast, IsLeastPair}
+use Rattle.kuratowski.specs.Verdicts.{IsLeastPair}
 
 module _ (path : List VertexId) (P : ℕ → Type 0) where
   pub least-begin : IsLeastInner path P 1 None

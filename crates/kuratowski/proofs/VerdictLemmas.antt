@@ -1,10 +1,10 @@
 -- Where nothing is wrong, there is a witness; and a witness has no fault.
-use Rattle.std.proofs.Common.{◌≡◌, ◌≢◌, ◌⊎◌, ℕ, zero, suc, ◌+◌, ◌-◌, ◌<◌, ◌≤◌, Bool, true, false, List, length, refl, sym, ap, ◌∙◌, subst, inl, inr, arith}
-use Rattle.std.proofs.lemmas.Bool.{cases_Bool, cases_lt, cases_eq, cases_order, true≢false}
+use Rattle.std.proofs.Common.{◌≡◌, ℕ, suc, ◌-◌, ◌<◌, List, length, refl, sym, ◌∙◌, inl, inr, arith}
+use Rattle.std.proofs.lemmas.Bool.{cases_Bool, cases_lt, cases_order, true≢false}
 use Rattle.map_lists.specs.declared.ids.VertexId.{VertexId}
 use Rattle.graph6_text.specs.Graphs.{EdgeGraph, has_edge}
-use Rattle.kuratowski.specs.Witnesses.{vertex_at, path_at, IsInnerPlace, IsShape, IsWitness}
-use Rattle.kuratowski.specs.Faults.{IsBadBranch, LacksEdge, Stands, StandsTwice, IsInner, IsShared}
+use Rattle.kuratowski.specs.Witnesses.{vertex_at, path_at, IsShape, IsWitness}
+use Rattle.kuratowski.specs.Faults.{IsShared}
 use Rattle.kuratowski.specs.Verdicts.{IsVerdict, NoBadBranch, LacksNone}
 use Rattle.kuratowski.specs.declared.witness.Kind.{Kind}
 use Rattle.kuratowski.specs.declared.check.WitnessVerdict.{WitnessVerdict}

@@ -1,5 +1,5 @@
 -- The verdict on a witness: the first kind of fault that it has, with the least numbers; these are counted from 1.
-use Rattle.std.specs.Prelude.{ℕ, ◌-◌, ◌<◌, ◌≤◌, List, length}
+use Rattle.std.specs.Prelude.{ℕ, ◌-◌, ◌<◌, ◌≤◌, List}
 use Rattle.map_lists.specs.declared.ids.VertexId.{VertexId}
 use Rattle.graph6_text.specs.Graphs.{EdgeGraph}
 use Rattle.kuratowski.specs.Witnesses.{IsShape, IsWitness}

@@ -1,5 +1,5 @@
-use Rattle.std.proofs.Common.{◌≡◌, ◌≢◌, ◌⊎◌, ℕ, suc, ◌<◌, true, length}
-use Rattle.kuratowski.specs.Faults.{IsBadBranch, LacksEdge, IsShared, Stands, StandsTwice, IsInner}
+use Rattle.std.proofs.Common.{ℕ, ◌<◌}
+use Rattle.kuratowski.specs.Faults.{IsBadBranch}
 use Rattle.kuratowski.proofs.branches.bad_branch.Given as goal
 
 abbrev pub invariant-loop-i : goal.invariant-loop-i

@@ -1,5 +1,4 @@
-use Rattle.std.proofs.Common.{◌≡◌, ◌≢◌, ◌⊎◌, ℕ, suc, ◌<◌, true, length}
-use Rattle.kuratowski.specs.Faults.{IsBadBranch, LacksEdge, IsShared, Stands, StandsTwice, IsInner}
+use Rattle.kuratowski.specs.Faults.{IsInner}
 use Rattle.kuratowski.specs.Inner.{IsLeastInner}
 use Rattle.kuratowski.proofs.inner.common_inner.Given as goal
 

@@ -1,5 +1,5 @@
-use Rattle.std.proofs.Common.{◌≡◌, ◌≢◌, ◌⊎◌, ℕ, suc, ◌<◌, true, length}
-use Rattle.kuratowski.specs.Witnesses.{vertex_at, path_at, pair_at, Joins}
+use Rattle.std.proofs.Common.{◌≡◌, ℕ, ◌<◌}
+use Rattle.kuratowski.specs.Witnesses.{vertex_at}
 use Rattle.kuratowski.proofs.inner.is_inner.Given as goal
 
 abbrev pub invariant-loop-i : goal.invariant-loop-i

@@ -1,4 +1,4 @@
-use Rattle.std.proofs.Common.{◌≡◌, ◌≤◌, ℕ, length, subst, sym, inl, inr, arith}
+use Rattle.std.proofs.Common.{subst, inl, inr, arith}
 use Rattle.std.proofs.lemmas.Bool.{cases_eq}
 use Rattle.kuratowski.specs.Faults.{IsShared}
 use Rattle.kuratowski.proofs.inner.shared.Goals as goal

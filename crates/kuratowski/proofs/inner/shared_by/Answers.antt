@@ -1,6 +1,5 @@
-use Rattle.std.proofs.Common.{◌≡◌, ◌-◌, ◌⊎◌, ℕ, List, length, Option, Some, None, subst, arith}
+use Rattle.std.proofs.Common.{◌-◌, ◌⊎◌, List, length, Some, None, subst}
 use Rattle.map_lists.specs.declared.ids.VertexId.{VertexId}
-use Rattle.kuratowski.specs.Witnesses.{path_at}
 use Rattle.kuratowski.specs.Faults.{Stands, StandsTwice}
 use Rattle.kuratowski.specs.Inner.{IsLeastInner}
 use Rattle.kuratowski.proofs.InnerLemmas.{own_none, own_some}

@@ -1,5 +1,5 @@
-use Rattle.std.proofs.Common.{◌≡◌, ◌≢◌, ◌⊎◌, ℕ, suc, ◌<◌, true, length}
-use Rattle.kuratowski.specs.Faults.{IsBadBranch, LacksEdge, IsShared, Stands, StandsTwice, IsInner}
+use Rattle.std.proofs.Common.{◌⊎◌}
+use Rattle.kuratowski.specs.Faults.{Stands, StandsTwice}
 use Rattle.kuratowski.specs.Inner.{IsLeastInner}
 use Rattle.kuratowski.proofs.inner.wrong_inner.Given as goal
 

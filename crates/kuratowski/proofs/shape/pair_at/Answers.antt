@@ -1,7 +1,6 @@
-use Rattle.std.proofs.Common.{◌≡◌, ◌<◌, ℕ, zero, suc, length, ap, lit<, arith}
-use Rattle.kuratowski.specs.Witnesses.{branch_count, pairs_of, pair_at}
-use Rattle.kuratowski.specs.declared.witness.Kind.{Kind}
-use Rattle.kuratowski.specs.declared.witness.Kind.TheVariants.{K5, K33}
+use Rattle.std.proofs.Common.{◌<◌, ℕ, zero, suc, ap, arith}
+use Rattle.kuratowski.specs.Witnesses.{branch_count, pair_at}
+use Rattle.kuratowski.specs.declared.witness.Kind.TheVariants.{K5}
 use Rattle.kuratowski.proofs.shape.pair_at.Goals as goal
 
 -- the ten pairs are of five branches

@@ -1,5 +1,5 @@
-use Rattle.std.proofs.Common.{◌≡◌, ◌≢◌, ◌⊎◌, ℕ, suc, ◌<◌, true, length}
-use Rattle.kuratowski.specs.Faults.{IsBadBranch, LacksEdge, IsShared, Stands, StandsTwice, IsInner}
+use Rattle.std.proofs.Common.{ℕ, ◌<◌}
+use Rattle.kuratowski.specs.Faults.{LacksEdge}
 use Rattle.kuratowski.proofs.steps.missing_edge.Given as goal
 
 abbrev pub invariant-loop-p : goal.invariant-loop-p

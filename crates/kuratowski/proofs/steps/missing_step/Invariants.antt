@@ -1,5 +1,5 @@
-use Rattle.std.proofs.Common.{◌≡◌, ◌≢◌, ◌⊎◌, ℕ, suc, ◌<◌, true, length}
-use Rattle.kuratowski.specs.Witnesses.{vertex_at, path_at, pair_at, Joins}
+use Rattle.std.proofs.Common.{◌≡◌, ℕ, suc, ◌<◌, true}
+use Rattle.kuratowski.specs.Witnesses.{vertex_at}
 use Rattle.graph6_text.specs.Graphs.{has_edge}
 use Rattle.kuratowski.proofs.steps.missing_step.Given as goal
 

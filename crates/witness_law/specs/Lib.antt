@@ -1,0 +1,2 @@
+-- The law of witnesses.
+pub mod Refuted
