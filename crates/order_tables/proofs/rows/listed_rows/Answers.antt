@@ -2,9 +2,9 @@ use Rattle.std.proofs.Common.{◌≡◌, ◌+◌, ◌<◌, ℕ, List, [], ◌∷
 use Rattle.std.proofs.lemmas.List.{get_or-map}
 use Rattle.std.proofs.lemmas.Option.{get_or_from_slice_get}
 use Rattle.map_definitions.specs.Maps.{list_of}
-use Rattle.fpp_shift.specs.Rows.{IsRowIn, AreRanked}
-use Rattle.fpp_shift.proofs.RowLemmas.{AreRanked-more}
-use Rattle.fpp_shift.proofs.rows.order_rows.Goals as goal
+use Rattle.order_tables.specs.Rows.{IsRowIn, AreRanked}
+use Rattle.order_tables.proofs.RowLemmas.{AreRanked-more}
+use Rattle.order_tables.proofs.rows.listed_rows.Goals as goal
 
 pub loop-k-preserved : goal.loop-k-preserved
 loop-k-preserved c =

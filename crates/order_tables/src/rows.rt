@@ -1,9 +1,12 @@
 //! The rows of the contour over which the vertices of an order are put, by their lists.
 ghost use Rattle.std.specs.Prelude.{◌≡◌, ◌<◌, ◌≤◌, ◌+◌, ◌^◌, ◌↔◌, ℕ, List, [], length, map, slice_index, All, IsTrue, IfOk};
-ghost use Rattle.map_definitions.specs.Maps.{list_of};
-ghost use Rattle.fpp_shift.specs.Rows.{place_before, place_after, rank_at, IsFirstPlace, IsLastPlace, IsRowIn, AreRanked, OrderRows};
+ghost use Rattle.map_definitions.specs.Maps.{Dart, list_of};
+ghost use Rattle.plane_laws.specs.Completed.{IsCompleted};
+ghost use Rattle.canon_order.specs.Orders.{IsCanonicalOrder, IsRankOf, vertices_of};
+ghost use Rattle.order_tables.specs.Rows.{place_before, place_after, rank_at, IsFirstPlace, IsLastPlace, IsRowIn, AreRanked, OrderRows, AreRowsOf};
 
-use half_edges::{Counts, Rotations, VertexList};
+use canon_order::Order;
+use half_edges::{Counts, HalfMap, Rotations, VertexList};
 use std::alloc::{AllocError, Global};
 
 // The place before a place of a list of n, cyclically.
@@ -96,14 +99,14 @@ fn fill_row(
 }
 
 // The row of a vertex of a canonical order stands in its list, and is that of a step of the order's run.
-pub(crate) fn order_has_rows()
+fn order_has_rows()
     ensures { OrderRows }
 {
     canon_order::run_ends();
 }
 
-// The rows of an order, from that of its third vertex on.
-pub(crate) fn order_rows(
+// The rows in lists, from that of the third vertex of an order on.
+fn listed_rows(
     alloc: Global,
     lists: &Rotations,
     at: &VertexList,
@@ -132,5 +135,25 @@ pub(crate) fn order_rows(
         )?;
         rows.push(&row)?;
     }
+    Ok(rows)
+}
+
+/// The rows of the contour over which the vertices of a canonical order of a completed map are put, from that
+/// of its third vertex on. Each names the vertices by their ranks, from the first one under the new vertex to
+/// the last one.
+///
+/// It fails only for want of memory. The map and the order stay as they are. The time is linear in the
+/// entries of the map.
+pub fn order_rows(alloc: Global, tri: &HalfMap, order: &Order) -> Result<Rotations, AllocError>
+    requires completed { IsCompleted tri.now.lists }
+    requires order { (base : Dart) × IsCanonicalOrder tri.now.lists base (vertices_of order.now) }
+    requires rank { IsRankOf order.now.rank (vertices_of order.now) }
+    ensures { IfOk result (AreRowsOf tri.now.lists (vertices_of order.now)) }
+{
+    tri.facts();
+    order_has_rows();
+    order_runs::order_is_run();
+    let lists = tri.rotations(alloc)?;
+    let rows = listed_rows(alloc, &lists, &order.at, &order.rank)?;
     Ok(rows)
 }

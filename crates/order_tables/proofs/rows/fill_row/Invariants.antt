@@ -1,6 +1,6 @@
 use Rattle.std.proofs.Common.{◌≡◌, ◌<◌, ℕ, List, length, map, take, slice_index}
-use Rattle.fpp_shift.specs.Rows.{IsRowIn, back}
-use Rattle.fpp_shift.proofs.rows.fill_row.Given as goal
+use Rattle.order_tables.specs.Rows.{IsRowIn, back}
+use Rattle.order_tables.proofs.rows.fill_row.Given as goal
 
 abbrev pub invariant-loop-count : goal.invariant-loop-count
 invariant-loop-count l = record {

@@ -77,3 +77,8 @@ abbrev pub OrderRows : Type 0
 OrderRows =
     (lists : Lists) (base : Dart) (at ranks : List ℕ) → IsCompleted lists → (order : IsCanonicalOrder lists base at) → IsRankOf ranks at → (steps : ℕ → Step) → IsOrderRun lists base at order.cycle steps
     → (k : ℕ) → k + 2 < length at → IsOrderRow (list_of lists (slice_index at (k + 2))) ranks steps k
+
+-- These are the rows of an order with the vertices `at`: one for each from the third on, and those of the run of each canonical order that these are.
+pub record AreRowsOf (lists : Lists) (at : List ℕ) (rows : Lists) : Type 0 where
+  pub count : length rows + 2 ≡ length at
+  pub of_run : (base : Dart) (order : IsCanonicalOrder lists base at) (steps : ℕ → Step) → IsOrderRun lists base at order.cycle steps → AreAllRows steps rows

@@ -1,6 +1,6 @@
 use Rattle.std.proofs.Common.{◌≡◌, ◌+◌, length, map}
-use Rattle.fpp_shift.specs.Rows.{AreRanked}
-use Rattle.fpp_shift.proofs.rows.order_rows.Given as goal
+use Rattle.order_tables.specs.Rows.{AreRanked}
+use Rattle.order_tables.proofs.rows.listed_rows.Given as goal
 
 abbrev pub invariant-loop-k : goal.invariant-loop-k
 invariant-loop-k l = record {

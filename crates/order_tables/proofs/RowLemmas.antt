@@ -5,7 +5,7 @@ use Rattle.std.proofs.lemmas.List.{map-append, get_or_append_left, length-append
 use Rattle.std.proofs.Math.Seq.{take-length, take-suc, get_or-append_seam}
 use Rattle.map_lists.specs.Lists.{Lists}
 use Rattle.map_definitions.specs.Maps.{list_of}
-use Rattle.fpp_shift.specs.Rows.{back, rank_at, IsLastPlace, IsRowIn, AreRanked}
+use Rattle.order_tables.specs.Rows.{back, rank_at, IsLastPlace, IsRowIn, AreRanked}
 
 module _ (list ranks : List ℕ) (k start : ℕ) (us : List ℕ) (h : IsRowIn list ranks k start us) (j i : ℕ) (low : j < length us) (at : i ≡ back (length list) start j) where
   -- one rank more

@@ -1,8 +1,8 @@
 use Rattle.std.proofs.Common.{◌≡◌, ◌+◌, ℕ, suc, [], ◌∷◌, ◌++◌, length, map, slice_index, take, sym, ap, ◌∙◌, arith}
 use Rattle.std.proofs.lemmas.Bool.{true≢false}
-use Rattle.fpp_shift.specs.Rows.{IsLastPlace, back, place_before}
-use Rattle.fpp_shift.proofs.RowLemmas.{ranked-more, ended, not_ended}
-use Rattle.fpp_shift.proofs.rows.fill_row.Goals as goal
+use Rattle.order_tables.specs.Rows.{IsLastPlace, back, place_before}
+use Rattle.order_tables.proofs.RowLemmas.{ranked-more, ended, not_ended}
+use Rattle.order_tables.proofs.rows.fill_row.Goals as goal
 
 pub loop-count-preserved : goal.loop-count-preserved
 loop-count-preserved c = record {

@@ -21,7 +21,7 @@ use Rattle.contour_runs.proofs.Stages.{IsStage-run, IsRun-less, count-stage_afte
 use Rattle.contour_runs.proofs.Contours.{length-contour, get_or-contour}
 use Rattle.contour_runs.proofs.Growing.{get_or-row}
 use Rattle.order_runs.specs.OrderRuns.{IsOrderRun}
-use Rattle.fpp_shift.specs.Rows.{place_before, back, rank_at, IsFirstPlace, IsLastPlace, IsRowIn, IsRow, IsOrderRow}
+use Rattle.order_tables.specs.Rows.{place_before, back, rank_at, IsFirstPlace, IsLastPlace, IsRowIn, IsRow, IsOrderRow}
 
 -- in a list without repeats, what stands before a place and after it
 entry_at_after : (us : List ℕ) (i : ℕ) → AllPairs ◌≢◌ us → i < length us → get_or us (Rattle.map_definitions.proofs.DartLemmas.place_after (length us) i) 0 ≡ entry_after (get_or us i 0) us
@@ -216,7 +216,7 @@ module _ (lists : Lists) (base : Dart) (at ranks : List ℕ) (completed : IsComp
     in_lists : (i : ℕ) → i < length list → get_or list i 0 < length lists
     in_lists i m = completed.simple.in_range v (get_or list i 0) (v_in, Contains-get_or list i 0 m)
 
-    after_is : (i : ℕ) → i < length list → get_or list (Rattle.fpp_shift.specs.Rows.place_after (length list) i) 0 ≡ follows lists v (get_or list i 0)
+    after_is : (i : ℕ) → i < length list → get_or list (Rattle.order_tables.specs.Rows.place_after (length list) i) 0 ≡ follows lists v (get_or list i 0)
     after_is i m = entry_at_after list i distinct m
 
     -- the last vertex of all is put over the whole contour
@@ -232,13 +232,13 @@ module _ (lists : Lists) (base : Dart) (at ranks : List ℕ) (completed : IsComp
           let e = entries 0 (omega (arith, length-ws)) in
           let r = rank-ws 0 (omega (arith, length-ws)) in
           let f = after_is start start_in in
-          let next_in = in_lists (Rattle.fpp_shift.specs.Rows.place_after (length list) start) (place_after-lt (length list) start start_in) in
+          let next_in = in_lists (Rattle.order_tables.specs.Rows.place_after (length list) start) (place_after-lt (length list) start start_in) in
           record {
             earlier = omega (arith, ap (λ u. get_or ranks u 0) e);
             begins = elim (cases_lt (suc (k + 2)) (length at)) [
               | inl more ↦
                   let a = (ends lists base at completed order (k + 2) later l more).after in
-                  inr (is_later (get_or list (Rattle.fpp_shift.specs.Rows.place_after (length list) start) 0) next_in (ap (stands_in us) (f ∙ ap (follows lists v) e) ∙ a))
+                  inr (is_later (get_or list (Rattle.order_tables.specs.Rows.place_after (length list) start) 0) next_in (ap (stands_in us) (f ∙ ap (follows lists v) e) ∙ a))
               | inr top ↦
                   let z = (whole (omega arith)).0 in
                   let d : s.first + 0 ≡ 0 = omega (arith, first_is) in

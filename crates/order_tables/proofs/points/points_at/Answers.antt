@@ -1,9 +1,9 @@
 use Rattle.std.proofs.Common.{◌≡◌, ◌+◌, ℕ, slice_index, take, pos, sym, ap, ◌∙◌, subst, arith}
 use Rattle.std.proofs.lemmas.Option.{get_or_from_slice_get}
 use Rattle.pg_plane.specs.declared.point.Point.{Point}
-use Rattle.fpp_shift.specs.Points.{ArePointsAt}
-use Rattle.fpp_shift.proofs.DrawLemmas.{ArePointsAt-more}
-use Rattle.fpp_shift.proofs.draw.points_at.Goals as goal
+use Rattle.order_tables.specs.Points.{ArePointsAt}
+use Rattle.order_tables.proofs.PointLemmas.{ArePointsAt-more}
+use Rattle.order_tables.proofs.points.points_at.Goals as goal
 
 pub loop-v-preserved : goal.loop-v-preserved
 loop-v-preserved c =
