@@ -4,6 +4,4 @@ mod Puts
 mod Writes
 mod Sums
 mod RunRows
-mod RowLemmas
-mod OrderRows
 mod DrawLemmas

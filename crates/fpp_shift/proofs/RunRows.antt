@@ -7,7 +7,7 @@ use Rattle.contour_runs.proofs.Places.{vertex_after-new}
 use Rattle.contour_runs.proofs.Stages.{IsStage-run, IsRun-less, count-stage_after}
 use Rattle.shift_points.specs.Shift.{shift_points}
 use Rattle.shift_points.proofs.Steps.{IsShift-run}
-use Rattle.fpp_shift.specs.Rows.{AreRows, AreAllRows}
+use Rattle.order_tables.specs.Rows.{AreRows, AreAllRows}
 use Rattle.fpp_shift.specs.Offsets.{AreOffsets, IsPut, AreLastOffsets}
 
 -- the step k puts the vertex k + 2 over the row k

@@ -4,7 +4,7 @@ use Rattle.contour_runs.specs.Runs.{Step, Stage, IsStep}
 use Rattle.contour_runs.specs.Laws.{IsStage}
 use Rattle.shift_points.specs.Shift.{Places, x_after, y_after}
 use Rattle.shift_points.specs.Contours.{IsShift}
-use Rattle.fpp_shift.specs.Rows.{IsRow}
+use Rattle.order_tables.specs.Rows.{IsRow}
 
 -- A vertex v has gone under a later one, w = `covers` at v, and has the place of the contour that w has. The rising diagonal through w meets the line of the base at x w - y w; v stands its offset to the right of that.
 pub record IsUnder (g : Stage) (at : Places) (offsets covers : List ℕ) (v : ℕ) : Type 0 where

@@ -1,57 +1,20 @@
 //! Drawings by the shift method.
-ghost use Rattle.std.specs.Prelude.{◌≡◌, ◌<◌, ◌≤◌, ◌+◌, ◌-◌, ◌*◌, ◌^◌, ℕ, length, slice_index, All, pos, IfOk};
+ghost use Rattle.std.specs.Prelude.{◌≡◌, ◌<◌, ◌+◌, ◌-◌, ◌*◌, ℕ, length, All, pos, IfOk};
 ghost use Rattle.map_definitions.specs.Maps.{Dart, HasDart, vertex_count};
 ghost use Rattle.plane_laws.specs.Completed.{IsCompleted};
-ghost use Rattle.drawings.specs.Drawing.{place};
 ghost use Rattle.canon_order.specs.Orders.{IsCanonicalOrder, IsRankOf, vertices_of};
 ghost use Rattle.contour_runs.specs.Runs.{Step};
-ghost use Rattle.shift_points.specs.Shift.{shift_points, point_of};
 ghost use Rattle.shift_drawings.specs.ShiftDrawings.{AreShiftPoints, IsShiftDrawing};
-ghost use Rattle.fpp_shift.specs.Rows.{AreAllRows};
-ghost use Rattle.fpp_shift.specs.Points.{ArePointsAt, ArePoints};
+ghost use Rattle.order_tables.specs.Rows.{AreAllRows};
+ghost use Rattle.fpp_shift.specs.Points.{ArePoints};
 
 use crate::fault::ShiftFault;
 use crate::offsets::find_places;
-use crate::rows::{order_has_rows, order_rows};
 use canon_order::Order;
 use half_edges::{Counts, HalfMap, Rotations};
-use pg_plane::{GridFigure, Point, Points};
+use order_tables::{order_rows, points_at};
+use pg_plane::{GridFigure, Points};
 use std::alloc::{AllocError, Global};
-
-// A number as a coordinate.
-fn coordinate(number: u32) -> i32
-    requires { number < 2 ^ 20 }
-    ensures { result ≡ pos number }
-{
-    number as i32
-}
-
-// The point of the vertex of rank k.
-fn point_at(xs: &[u32], ys: &[u32], k: usize) -> Point
-    requires xs { k < length xs.now }
-    requires ys { k < length ys.now }
-    requires small { (slice_index xs.now k < 2 ^ 20) × (slice_index ys.now k < 2 ^ 20) }
-    ensures { result ≡ record { x = pos (slice_index xs.now k); y = pos (slice_index ys.now k) } }
-{
-    Point {
-        x: coordinate(xs[k]),
-        y: coordinate(ys[k]),
-    }
-}
-
-// The points of vertices, by their ranks.
-fn points_at(alloc: Global, xs: &[u32], ys: &[u32], ranks: &Counts) -> Result<Points, AllocError>
-    requires ys { length ys.now ≡ length xs.now }
-    requires ranks { All (λ k. k < length xs.now) ranks.now }
-    requires small { (k : ℕ) → k < length xs.now → (slice_index xs.now k < 2 ^ 20) × (slice_index ys.now k < 2 ^ 20) }
-    ensures { IfOk result (λ points. ArePointsAt xs.now ys.now ranks.now points) }
-{
-    let mut points = Points::new(alloc);
-    for v in 0..ranks.len() {
-        points.push(point_at(xs, ys, ranks.get(v) as usize))?;
-    }
-    Ok(points)
-}
 
 // The shift points of a run, by its rows, for vertices of these ranks.
 fn drawn(alloc: Global, rows: &Rotations, ranks: &Counts) -> Result<Points, AllocError>
@@ -94,12 +57,11 @@ pub fn shift_draw(alloc: Global, tri: &HalfMap, order: &Order) -> Result<GridFig
     ensures height { IfOk result (λ figure. figure.height ≡ pos (vertex_count tri.now.lists - 2)) }
 {
     tri.facts();
-    order_has_rows();
+    order_tables::ranks_are_places();
     order_runs::order_is_run();
     shift_drawings::shift_points_draw();
-    let lists = tri.rotations(alloc)?;
-    let n = lists.len();
-    let rows = order_rows(alloc, &lists, &order.at, &order.rank)?;
+    let n = tri.n() as usize;
+    let rows = order_rows(alloc, tri, order)?;
     let points = drawn(alloc, &rows, &order.rank)?;
     Ok(GridFigure {
         points,

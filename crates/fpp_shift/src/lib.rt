@@ -4,7 +4,6 @@
 mod draw;
 mod fault;
 mod offsets;
-mod rows;
 
 pub use draw::shift_draw;
 pub use fault::ShiftFault;

@@ -77,8 +77,8 @@ module _ (steps : ℕ → Step) (n m : ℕ) (whole : IsWholeRun steps n m) where
   abbrev at : Coordinates
   at = coordinates steps n
 
-  abbrev drawn : Coordinates
-  drawn = wood_points steps n
+  abbrev to : Coordinates
+  to = wood_points steps n
 
   falling : IsFalling (stage_after steps n) at
   falling = IsFalling-run steps n whole.run
@@ -86,20 +86,20 @@ module _ (steps : ℕ → Step) (n m : ℕ) (whole : IsWholeRun steps n m) where
   counted : (stage_after steps n).count ≡ m
   counted = let e = whole.count in omega (arith, count-stage_after steps n)
 
-  first_at : StandsAt drawn 0 (m - 2) 1
+  first_at : StandsAt to 0 (m - 2) 1
   first_at = let h = falling in let c = counted in let t = whole.some in (omega (arith, drawn_one-first at 0 refl, h.first_one), omega (arith, drawn_two-first at 0 refl, h.first_two))
 
-  pub in_grid : (v : ℕ) → v < m → (drawn.one v ≤ m - 2) × (drawn.two v ≤ m - 2)
+  pub in_grid : (v : ℕ) → v < m → (to.one v ≤ m - 2) × (to.two v ≤ m - 2)
   in_grid v l =
       let h = falling in
       let c = counted in
       let t = whole.some in
       elim (cases_lt 0 v) [
         | inl some ↦ let sum = h.sums v some (omega arith) in (omega (arith, drawn_one-other at v some), omega (arith, drawn_two-other at v some))
-        | inr none ↦ let e : v ≡ 0 = omega arith in (omega (arith, ap drawn.one e, first_at.0), omega (arith, ap drawn.two e, first_at.1))
+        | inr none ↦ let e : v ≡ 0 = omega arith in (omega (arith, ap to.one e, first_at.0), omega (arith, ap to.two e, first_at.1))
       ]
 
-  pub cornered : IsCornered drawn m
+  pub cornered : IsCornered to m
   cornered =
       let h = falling in
       let c = counted in
@@ -112,7 +112,7 @@ module _ (steps : ℕ → Step) (n m : ℕ) (whole : IsWholeRun steps n m) where
       }
 
   -- what is spread without the first vertex stays so in the drawing
-  spread_other : (a b v : ℕ) → 0 < a → 0 < b → 0 < v → IsSpread at a b v → IsSpread drawn a b v
+  spread_other : (a b v : ℕ) → 0 < a → 0 < b → 0 < v → IsSpread at a b v → IsSpread to a b v
   spread_other a b v la lb lv h =
       let a1 = drawn_one-other at a la in
       let a2 = drawn_two-other at a la in
@@ -130,7 +130,7 @@ module _ (steps : ℕ → Step) (n m : ℕ) (whole : IsWholeRun steps n m) where
       }
 
   -- and so does what is spread with it as its first corner
-  spread_first : (a b v : ℕ) → a ≡ 0 → 0 < b → suc b < m → 0 < v → v < m → IsSpread at a b v → IsSpread drawn a b v
+  spread_first : (a b v : ℕ) → a ≡ 0 → 0 < b → suc b < m → 0 < v → v < m → IsSpread at a b v → IsSpread to a b v
   spread_first a b v e lb small lv top h =
       let k = falling in
       let c = counted in
@@ -138,8 +138,8 @@ module _ (steps : ℕ → Step) (n m : ℕ) (whole : IsWholeRun steps n m) where
       let b2 = drawn_two-other at b lb in
       let v1 = drawn_one-other at v lv in
       let v2 = drawn_two-other at v lv in
-      let a1 = ap drawn.one e ∙ first_at.0 in
-      let a2 = ap drawn.two e ∙ first_at.1 in
+      let a1 = ap to.one e ∙ first_at.0 in
+      let a2 = ap to.two e ∙ first_at.1 in
       let up = raised steps n m b whole lb small in
       let sb = k.sums b lb (omega arith) in
       let sv = k.sums v lv (omega arith) in
@@ -152,7 +152,7 @@ module _ (steps : ℕ → Step) (n m : ℕ) (whole : IsWholeRun steps n m) where
         second_sum = omega (arith, h.second_sum);
       }
 
-  pub counterclockwise : (k i a b v : ℕ) → k < n → IsFaceOf steps k i a b v → pos 0 <ℤ area (point_of drawn a) (point_of drawn b) (point_of drawn v)
+  pub counterclockwise : (k i a b v : ℕ) → k < n → IsFaceOf steps k i a b v → pos 0 <ℤ area (point_of to a) (point_of to b) (point_of to v)
   counterclockwise k i a b v l f =
       let g = stage_after steps k in
       let run = whole.run in
@@ -172,7 +172,7 @@ module _ (steps : ℕ → Step) (n m : ℕ) (whole : IsWholeRun steps n m) where
             let z : g.vertex (suc i) ≡ g.vertex 0 = eb ∙ omega arith ∙ ap g.vertex refl in
             absurd (omega (arith, stage.own (suc i) (omega arith), stage.own 0 (omega arith), ap g.place z))
       ] in
-      spread_area drawn a b v (elim (cases_lt 0 a) [ inl some ↦ spread_other a b v some b_some (omega arith) spread | inr none ↦ spread_first a b v (omega arith) b_some (omega arith) (omega arith) (omega arith) spread ])
+      spread_area to a b v (elim (cases_lt 0 a) [ inl some ↦ spread_other a b v some b_some (omega arith) spread | inr none ↦ spread_first a b v (omega arith) b_some (omega arith) (omega arith) (omega arith) spread ])
 
   area_back : (a b c : Point) → area b a c ≡ neg_ℤ (area a b c)
   area_back a b c = simp ring (omega (arith, sums))
@@ -180,14 +180,14 @@ module _ (steps : ℕ → Step) (n m : ℕ) (whole : IsWholeRun steps n m) where
   negative : (a b : _) → b ≡ neg_ℤ a → pos 0 <ℤ a → b <ℤ pos 0
   negative a b e p = omega (arith, ints)
 
-  pub outside : area (point_of drawn 1) (point_of drawn 0) (point_of drawn (m - 1)) <ℤ pos 0
+  pub outside : area (point_of to 1) (point_of to 0) (point_of to (m - 1)) <ℤ pos 0
   outside =
       let c = cornered in
       let t = whole.some in
       let f = c.first in
       let s = c.second in
       let z = c.top in
-      let spread : IsSpread drawn 0 1 (m - 1) = record {
+      let spread : IsSpread to 0 1 (m - 1) = record {
         left = omega (arith, f.0, s.0);
         within = omega (arith, f.0, z.0);
         under = omega (arith, s.1, z.1);
@@ -195,4 +195,4 @@ module _ (steps : ℕ → Step) (n m : ℕ) (whole : IsWholeRun steps n m) where
         first_sum = omega (arith, f.0, f.1, z.0, z.1);
         second_sum = omega (arith, s.0, s.1, z.0, z.1);
       } in
-      negative _ _ (area_back (point_of drawn 0) (point_of drawn 1) (point_of drawn (m - 1))) (spread_area drawn 0 1 (m - 1) spread)
+      negative _ _ (area_back (point_of to 0) (point_of to 1) (point_of to (m - 1))) (spread_area to 0 1 (m - 1) spread)

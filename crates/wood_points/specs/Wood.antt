@@ -43,9 +43,12 @@ drawn_one at v = if v == 0 then at.one 0 - 1 else at.one v
 unfoldable pub drawn_two : Coordinates → ℕ → ℕ
 drawn_two at v = if v == 0 then at.two 0 + 1 else at.two v
 
+abbrev pub drawn : Coordinates → Coordinates
+drawn at = record { one = drawn_one at; two = drawn_two at }
+
 -- the drawing after so many steps
 abbrev pub wood_points : (ℕ → Step) → ℕ → Coordinates
-wood_points steps n = record { one = drawn_one (coordinates steps n); two = drawn_two (coordinates steps n) }
+wood_points steps n = drawn (coordinates steps n)
 
 -- the point of a vertex
 abbrev pub point_of : Coordinates → ℕ → Point

@@ -1,5 +1,0 @@
-use Rattle.fpp_shift.proofs.OrderRows.{order_row}
-use Rattle.fpp_shift.proofs.rows.order_has_rows.Goals as goal
-
-pub returns : goal.returns
-returns c = λ lists base at ranks completed order rank steps run k l. order_row lists base at ranks completed order rank steps run k l c.run_ends.ensures

@@ -1,0 +1,2 @@
+-- The lemmas on drawings by runs.
+mod RunLemmas

@@ -1,0 +1,2 @@
+-- Drawings of completed maps by runs.
+pub mod RunDrawings

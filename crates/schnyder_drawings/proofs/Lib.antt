@@ -1,0 +1,2 @@
+-- The lemmas on drawings by Schnyder's coordinates.
+mod SchnyderLemmas

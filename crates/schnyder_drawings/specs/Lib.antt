@@ -1,0 +1,2 @@
+-- Drawings of completed maps by Schnyder's coordinates.
+pub mod SchnyderDrawings

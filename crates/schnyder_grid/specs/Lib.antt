@@ -1,0 +1,3 @@
+-- Drawings by Schnyder's coordinates.
+pub mod Gaps
+pub mod Points

@@ -1,0 +1,10 @@
+//! Drawings of completed maps by Schnyder's coordinates (1990), in linear time.
+#![tactic(auto)]
+
+mod draw;
+mod gaps;
+
+pub use draw::wood_draw;
+
+#[cfg(test)]
+mod tests;
