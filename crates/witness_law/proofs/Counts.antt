@@ -1,7 +1,6 @@
 -- The counts of a subdivision in a map of genus zero.
-use Rattle.std.proofs.Common.{◌≡◌, ◌≢◌, ◌⊎◌, ◌&&◌, ◌==◌, ℕ, zero, suc, ◌+◌, ◌-◌, ◌*◌, ◌<◌, ◌≤◌, not, Bool, true, false, List, length, refl, sym, ap, ap₂, ◌∙◌, subst, inl, inr, arith, eqb-true, eq-eqb, ne_eqb}
-use Rattle.std.proofs.Math.ListN.{get_or}
-use Rattle.std.proofs.lemmas.Bool.{cases_Bool, cases_eq, cases_lt, true≢false}
+use Rattle.std.proofs.Common.{◌≡◌, ◌≢◌, ◌&&◌, ◌==◌, ℕ, zero, suc, ◌+◌, ◌-◌, ◌*◌, ◌<◌, ◌≤◌, not, Bool, true, false, List, length, refl, sym, ap, ap₂, ◌∙◌, arith, eqb-true, eq-eqb}
+use Rattle.std.proofs.lemmas.Bool.{true≢false}
 use Rattle.map_lists.specs.Lists.{Lists}
 use Rattle.map_definitions.specs.Maps.{Dart, HasDart, IsSimpleMap, IsPlane, dart_number, dart_count, edge_count}
 use Rattle.map_definitions.proofs.DartLemmas.{dart_number-lt, dart_number-injective}
@@ -9,11 +8,11 @@ use Rattle.label_classes.specs.Classes.{count_below, label, class_count}
 use Rattle.label_classes.proofs.Counting.{count_below_all, count_below_into, count_below_split, count_below_not}
 use Rattle.label_classes.proofs.Classes.{Together, IsLabels}
 use Rattle.label_classes.proofs.Orbits.{orbits_of, length-orbits_of}
-use Rattle.label_classes.proofs.Bound.{after, joint, length-joint, IsLabels-joint, IsPairing, Balances}
+use Rattle.label_classes.proofs.Bound.{after, joint, length-joint, IsLabels-joint, Balances}
 use Rattle.euler_bound.proofs.DartPermutations.{dart_of, tail_of, rotation, twin, IsPermuting-rotation, IsPairing-twin, dart_of-number, same_orbit, two_m, balances_map}
 use Rattle.plane_laws.proofs.DartPaths.{tail_of-number}
-use Rattle.witness_law.proofs.Tally.{HasMany, count-many, tally, some_below, some_below-gives, some_below-from, one_below, one_below-passes}
-use Rattle.witness_law.proofs.Subdivisions.{Way, from_of, to_of, IsPattern, IsSubdivision, from, to, vertex, from_low, to_low, vertex_first, way_dart, step_of, way_apart, first_apart, faces, number, turn}
+use Rattle.witness_law.proofs.Tally.{HasMany, count-many, tally, some_below, some_below-from, one_below, one_below-passes}
+use Rattle.witness_law.proofs.Subdivisions.{Way, from_of, to_of, IsPattern, IsSubdivision, vertex, from_low, vertex_first, way_dart, step_of, way_apart, first_apart, turn}
 
 -- Of a walk along ways that does not turn back the first `girth` branches differ.
 abbrev pub HasGirth : (ℕ → ℕ) → (ℕ → ℕ) → ℕ → ℕ → Type 0

@@ -1,12 +1,12 @@
 -- K5 and K3,3 are patterns, and how far walks on them go before a branch comes again.
-use Rattle.std.proofs.Common.{◌≡◌, ◌≢◌, ◌⊎◌, ◌&&◌, ◌==◌, ℕ, zero, suc, ◌+◌, ◌-◌, ◌*◌, ◌<◌, ◌≤◌, nat_lt, if◌then◌else◌, not, Bool, true, false, List, [], ◌∷◌, length, refl, sym, ap, ap₂, ◌∙◌, subst, inl, inr, arith, eqb-true}
+use Rattle.std.proofs.Common.{◌≡◌, ◌≢◌, ◌⊎◌, ◌&&◌, ◌==◌, ℕ, zero, suc, ◌+◌, ◌-◌, ◌*◌, ◌<◌, ◌≤◌, nat_lt, if◌then◌else◌, not, Bool, true, false, List, [], ◌∷◌, length, refl, sym, ap, ap₂, ◌∙◌, inl, inr, arith, eqb-true}
 use Rattle.std.proofs.Math.ListN.{get_or}
-use Rattle.std.proofs.lemmas.Bool.{cases_Bool, cases_eq, cases_lt, cases_order, true≢false, eqb-false}
+use Rattle.std.proofs.lemmas.Bool.{cases_eq, cases_order, eqb-false}
 use Rattle.std.proofs.lemmas.Bool.Decides.{nat_tests}
 use Rattle.kuratowski.specs.Witnesses.{branch_count, pairs_of, pair_at}
 use Rattle.kuratowski.specs.declared.witness.Kind.{Kind}
 use Rattle.kuratowski.specs.declared.witness.Kind.TheVariants.{K5, K33}
-use Rattle.witness_law.proofs.Subdivisions.{Way, back, from_of, to_of, IsPattern}
+use Rattle.witness_law.proofs.Subdivisions.{Way, from_of, to_of, IsPattern}
 use Rattle.witness_law.proofs.Counts.{HasGirth, both_parts, not_true}
 
 -- all numbers below n pass a test, computed

@@ -1,13 +1,13 @@
 -- A witness is a subdivision in the map of the edges on its paths; the counts of that map refute it.
-use Rattle.std.proofs.Common.{◌≡◌, ◌≢◌, ◌⊎◌, ◌&&◌, ◌||◌, ◌==◌, ℕ, zero, suc, ◌+◌, ◌-◌, ◌*◌, ◌<◌, ◌≤◌, Bool, true, false, List, length, refl, sym, ap, ap₂, ◌∙◌, subst, inl, inr, arith, eqb-true, eq-eqb}
-use Rattle.std.proofs.lemmas.Bool.{cases_order, or_cases, or_left, or_right}
+use Rattle.std.proofs.Common.{◌≡◌, ◌⊎◌, ◌&&◌, ◌||◌, ◌==◌, ℕ, suc, ◌-◌, ◌<◌, Bool, true, false, List, length, refl, sym, ap, ◌∙◌, inl, inr, arith, eqb-true, eq-eqb}
+use Rattle.std.proofs.lemmas.Bool.{cases_order, or_cases, or_left}
 use Rattle.map_lists.specs.Lists.{Lists}
 use Rattle.map_lists.specs.declared.ids.VertexId.{VertexId}
-use Rattle.map_definitions.specs.Maps.{HasDart, IsSimpleMap, IsPlane}
+use Rattle.map_definitions.specs.Maps.{IsSimpleMap, IsPlane}
 use Rattle.map_edits.specs.Kept.{with_kept, IsKeptMap}
 use Rattle.map_edits.proofs.KeptEdges.{kept_edges}
-use Rattle.graph6_text.specs.Graphs.{EdgeGraph, has_edge}
-use Rattle.kuratowski.specs.Witnesses.{branch_count, pairs_of, pair_at, vertex_at, path_at, IsInnerPlace, IsWitness}
+use Rattle.graph6_text.specs.Graphs.{EdgeGraph}
+use Rattle.kuratowski.specs.Witnesses.{branch_count, pairs_of, vertex_at, path_at, IsInnerPlace, IsWitness}
 use Rattle.kuratowski.specs.declared.witness.Kind.{Kind}
 use Rattle.kuratowski.specs.declared.witness.Kind.TheVariants.{K5, K33}
 use Rattle.witness_law.specs.Refuted.{HasEdges, WitnessesRefute}

@@ -1,10 +1,10 @@
 -- A subdivision of a pattern in a map: ways between branches, where they go and what follows what.
 use Rattle.std.proofs.Common.{◌≡◌, ◌≢◌, ◌⊎◌, ℕ, zero, suc, ◌+◌, ◌-◌, ◌<◌, ◌≤◌, not, Bool, true, false, List, length, Contains, AllPairs, refl, sym, ap, ap₂, ◌∙◌, subst, inl, inr, arith}
-use Rattle.std.proofs.lemmas.Bool.{cases_Bool, cases_eq, cases_lt, true≢false}
+use Rattle.std.proofs.lemmas.Bool.{cases_eq, true≢false}
 use Rattle.std.proofs.lemmas.Bool.Decides.{nat_tests}
 use Rattle.map_lists.specs.Lists.{Lists}
-use Rattle.map_definitions.specs.Maps.{Dart, HasDart, IsSimpleMap, list_of, follows, face_step, dart_number, dart_count, entry_after, place_of}
-use Rattle.map_definitions.proofs.DartLemmas.{HasDart-follows, place_of-entry_after, place_of-lt-length, get_or-place_of, place_after, place_of-le-length}
+use Rattle.map_definitions.specs.Maps.{Dart, HasDart, IsSimpleMap, list_of, follows, dart_number, dart_count, entry_after, place_of}
+use Rattle.map_definitions.proofs.DartLemmas.{HasDart-follows, place_of-entry_after, place_of-lt-length, get_or-place_of, place_after}
 use Rattle.std.proofs.Math.ListN.{get_or}
 use Rattle.label_classes.specs.Classes.{label}
 use Rattle.label_classes.proofs.Classes.{Together}

@@ -1,9 +1,9 @@
 -- Counting by labels: where each class that passes a test has g numbers, there are g times as many numbers as such classes.
-use Rattle.std.proofs.Common.{◌≡◌, ◌≢◌, ◌⊎◌, ◌&&◌, ◌||◌, ◌==◌, ℕ, zero, suc, ◌+◌, ◌*◌, ◌<◌, ◌≤◌, nat_lt, not, Bool, true, false, cond, List, length, refl, sym, ap, ap₂, ◌∙◌, subst, inl, inr, arith, eqb-true, eq-eqb, ne_eqb}
-use Rattle.std.proofs.lemmas.Bool.{cases_Bool, cases_eq, cases_lt, true≢false, or_cases, or_left, or_right}
+use Rattle.std.proofs.Common.{◌≡◌, ◌&&◌, ◌||◌, ◌==◌, ℕ, zero, suc, ◌+◌, ◌*◌, ◌<◌, ◌≤◌, nat_lt, not, Bool, true, false, cond, refl, sym, ap, ap₂, ◌∙◌, inl, inr, arith}
+use Rattle.std.proofs.lemmas.Bool.{cases_Bool, cases_eq, true≢false, or_cases, or_left, or_right}
 use Rattle.std.proofs.lemmas.Bool.Decides.{nat_tests}
 use Rattle.label_classes.specs.Classes.{count_below}
-use Rattle.label_classes.proofs.Counting.{one_if, count_below_all, count_below_into, count_below_weaker, count_below_same, count_below_split, count_below_none}
+use Rattle.label_classes.proofs.Counting.{one_if, count_below_all, count_below_into, count_below_weaker, count_below_same, count_below_split}
 
 -- g different numbers below k pass a test
 pub record HasMany (k g : ℕ) (q : ℕ → Bool) : Type 0 where
