@@ -11,8 +11,10 @@
 #![tactic(auto)]
 
 mod adapters;
+mod count;
 mod memory;
 mod put;
+mod steps;
 mod sure;
 #[cfg(test)]
 mod tests;
@@ -21,5 +23,6 @@ mod traits;
 pub use adapters::{ReadAdapter, WriteAdapter};
 pub use memory::{MemSink, MemSource};
 pub use put::put_all;
+pub use steps::Steps;
 pub use sure::{SureSink, SureSource};
 pub use traits::{ReadFailed, Sink, Source, WriteFailed};
