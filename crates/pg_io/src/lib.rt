@@ -11,13 +11,16 @@
 #![tactic(auto)]
 
 mod adapters;
+mod count;
 mod memory;
 mod put;
+mod steps;
 mod sure;
 mod traits;
 
 pub use adapters::{ReadAdapter, WriteAdapter};
 pub use memory::{MemSink, MemSource};
 pub use put::put_all;
+pub use steps::Steps;
 pub use sure::{SureSink, SureSource};
 pub use traits::{ReadFailed, Sink, Source, WriteFailed};

@@ -1,0 +1,2 @@
+-- Lemmas on trees of offsets.
+mod MetLemmas

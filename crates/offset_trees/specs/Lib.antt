@@ -1,0 +1,4 @@
+-- Trees of offsets.
+pub mod Nodes
+pub mod Ways
+pub mod Sums
