@@ -3,7 +3,7 @@ use Rattle.std.proofs.Common.{◌≡◌, ℕ, ◌+◌, ◌≤◌, ◌<◌, ◌�
 use Rattle.std.proofs.lemmas.List.{append-nil, length-append}
 use Rattle.pg_io.specs.Io.{WhereTold, Gives, Takes, TakesAtMost, Grows, GrowsByPrefix, HasRisen}
 use Rattle.pg_io.proofs.Growth.{Takes-then, Takes-gives, TakesAtMost-taken, Grows-then, GrowsByPrefix-whole, GrowsByPrefix-then, GrowsByPrefix-more}
-use Rattle.record_runs.specs.Texts.{Reads, Answers, input_limit, refused_count}
+use Rattle.record_runs.specs.Texts.{Reads, Answers, input_limit}
 use Rattle.record_runs.specs.Outcome.{Writes, WritesPart, Ports, ports, Outcome}
 use Rattle.record_runs.specs.Run.{IsCounted, IsAt, EndsAs, IsFront, Stops, Wrote, Stands, IsAllConsumed, FailsAt, end_of}
 use Rattle.record_runs.specs.declared.run.RunEnd.TheVariants.{Done, SomeRefused, BadInput, ReadFault, WriteFault, NoMemory}
@@ -20,7 +20,7 @@ module _ {Record Ending : Type 0} (format : Reads Record Ending) (job : Answers 
     blocks = text;
     reading = ends.reading;
     answers = ends.answered.answers;
-    counted = ends.answered.refused_is;
+    counted = ends.answered.refuses;
     grows = rw ends.answered.counted at grows;
   }
 
@@ -38,14 +38,14 @@ module _ {Record Ending : Type 0} (format : Reads Record Ending) (job : Answers 
 
   -- the blocks were written, and some first bytes of the last line
   WritesPart-last : {input text : List ℕ} {ending : Ending} {count refused : ℕ} {written written' : Option (List ℕ)} → ((records : List Record) → format.IsReading input records ending → format.BeginsWith input records) → EndsAs format job input ending text count refused → GrowsByPrefix written written' (text ++ job.last_line count refused ending) → WritesPart format job input written written'
-  WritesPart-last {text = text} {ending = ending} has ends grows = record {
+  WritesPart-last {text = text} {ending = ending} {refused = refused} has ends grows = record {
     records = ends.records;
     blocks = text;
-    last = job.last_line (length ends.records) (refused_count job ends.records) ending;
+    last = job.last_line (length ends.records) refused ending;
     begins = has ends.records ends.reading;
     answers = ends.answered.answers;
-    last_is = inr (ending, ends.reading, refl);
-    grows = rw (ends.answered.counted, ends.answered.refused_is) at grows;
+    last_is = inr (ending, refused, ends.reading, ends.answered.refuses, refl);
+    grows = rw ends.answered.counted at grows;
   }
 
   module _ {start : Ports} {left written : Option (List ℕ)} {reads writes : ℕ} {text : List ℕ} (wrote : Wrote start (ports left reads written writes) text) where

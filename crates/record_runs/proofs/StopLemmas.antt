@@ -11,18 +11,13 @@ use Rattle.record_runs.proofs.BlockLemmas.{IsAnswered-push}
 pub piece-splits : (consumed piece : List ℕ) (i : ℕ) → (consumed ++ take i piece) ++ drop i piece ≡ consumed ++ piece
 piece-splits consumed piece i = append_assoc consumed (take i piece) (drop i piece) ∙ ap (λ (x : List ℕ). consumed ++ x) (take-append-drop i piece)
 
--- who was not served was refused
-pub refused-by_served : (served refused : Bool) (n : ℕ) → served ≡ not refused → n + cond served 0 1 ≡ n + cond refused 1 0
-refused-by_served served true n is = rw is refl
-refused-by_served served false n is = rw is refl
-
 module _ {Record Ending Reader : Type 0} (format : Reads Record Ending) (job : Answers Record Ending) (At : Reader → List ℕ → List Record → Type 0) where
   -- the record that ended was answered
-  pub at-answered : {consumed text : List ℕ} {reader reader' : Reader} {count refused refused' : ℕ} (at : IsAt At job consumed text reader count refused) (consumed' : List ℕ) (next : Record) (block : List ℕ) → At reader' consumed' (at.records ++ next ∷ []) → job.IsBlock (count + 1) next block → refused' ≡ refused + cond (job.is_refused next) 1 0 → IsAt At job consumed' (text ++ block) reader' (count + 1) refused'
-  at-answered at consumed' next block read is refused_is = record {
+  pub at-answered : {consumed text : List ℕ} {reader reader' : Reader} {count refused : ℕ} (at : IsAt At job consumed text reader count refused) (consumed' : List ℕ) (next : Record) (block : List ℕ) (served : Bool) → At reader' consumed' (at.records ++ next ∷ []) → job.IsBlock (count + 1) next block → job.Serves next served → IsAt At job consumed' (text ++ block) reader' (count + 1) (refused + cond served 0 1)
+  at-answered at consumed' next block served read is serves = record {
     records = at.records ++ next ∷ [];
     read = read;
-    answered = IsAnswered-push next block at.answered is refused_is;
+    answered = IsAnswered-push next block served at.answered is serves;
   }
 
   -- what stopped within some bytes stopped within more

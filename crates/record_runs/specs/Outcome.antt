@@ -1,7 +1,7 @@
 -- What was taken and written when a run has ended.
 use Rattle.std.specs.Prelude.{ℕ, ◌<◌, ◌≡◌, ◌⊎◌, List, [], ◌++◌, length, Option, Some}
 use Rattle.pg_io.specs.Io.{WhereTold, Grows, GrowsByPrefix, HasRisen}
-use Rattle.record_runs.specs.Texts.{Reads, Answers, AreBlocks, refused_count}
+use Rattle.record_runs.specs.Texts.{Reads, Answers, AreBlocks, Refuses}
 use Rattle.record_runs.specs.declared.run.RunEnd.{RunEnd}
 use Rattle.record_runs.specs.declared.run.RunEnd.TheVariants.{Done, SomeRefused, BadInput, ReadFault, WriteFault, NoMemory}
 
@@ -12,14 +12,14 @@ pub record Writes {Record Ending : Type 0} (format : Reads Record Ending) (job :
   pub blocks : List ℕ
   pub reading : format.IsReading input records ending
   pub answers : AreBlocks job.IsBlock 1 records blocks
-  pub counted : refused ≡ refused_count job records
+  pub counted : Refuses job records refused
   pub grows : Grows written written' (blocks ++ job.last_line (length records) refused ending)
 
 -- the last line of an input that has just these records, or none
 abbrev pub IsLastOrNone : {Record Ending : Type 0} → Reads Record Ending → Answers Record Ending → List ℕ → List Record → List ℕ → Type 0
 IsLastOrNone {Ending = Ending} format job input records last =
-    (last ≡ []) ⊎ ((ending : Ending) × format.IsReading input records ending
-    × (last ≡ job.last_line (length records) (refused_count job records) ending))
+    (last ≡ []) ⊎ ((ending : Ending) × (refused : ℕ) × format.IsReading input records ending × Refuses job records refused
+    × (last ≡ job.last_line (length records) refused ending))
 
 -- the sink grew by some first bytes of the text
 pub record WritesPart {Record Ending : Type 0} (format : Reads Record Ending) (job : Answers Record Ending) (input : List ℕ) (written written' : Option (List ℕ)) : Type 0 where

@@ -1,7 +1,7 @@
 -- Where a run stands between two bytes of its input, and how it stops.
 use Rattle.std.specs.Prelude.{ℕ, ◌+◌, ◌≤◌, ◌≡◌, ◌<◌, List, [], ◌∷◌, ◌++◌, length, take, Option, Some}
 use Rattle.pg_io.specs.Io.{WhereTold, Takes, Grows, GrowsByPrefix, HasRisen}
-use Rattle.record_runs.specs.Texts.{Reads, Answers, AreBlocks, refused_count, input_limit}
+use Rattle.record_runs.specs.Texts.{Reads, Answers, AreBlocks, Refuses, input_limit}
 use Rattle.record_runs.specs.Outcome.{Ports}
 use Rattle.record_runs.specs.declared.format.Taken.{Taken}
 use Rattle.record_runs.specs.declared.format.Taken.TheVariants.{More, Ended, Bad as BadPlace}
@@ -37,7 +37,7 @@ pub record IsCounted (place records refused taken : ℕ) : Type 0 where
 pub record IsAnswered {Record Ending : Type 0} (job : Answers Record Ending) (records : List Record) (text : List ℕ) (count refused : ℕ) : Type 0 where
   pub answers : AreBlocks job.IsBlock 1 records text
   pub counted : count ≡ length records
-  pub refused_is : refused ≡ refused_count job records
+  pub refuses : Refuses job records refused
 
 -- The bytes consumed have been read, and the text answers each record that ended in them.
 pub record IsAt {Record Ending Reader : Type 0} (At : Reader → List ℕ → List Record → Type 0) (job : Answers Record Ending) (consumed text : List ℕ) (reader : Reader) (count refused : ℕ) : Type 0 where

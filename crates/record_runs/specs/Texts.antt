@@ -1,5 +1,5 @@
 -- What a run is to write over an input: a block for each record, in order, and a last line.
-use Rattle.std.specs.Prelude.{ℕ, ◌+◌, ◌≡◌, Bool, List, [], ◌∷◌, ◌++◌, count_by}
+use Rattle.std.specs.Prelude.{ℕ, ◌+◌, ◌≡◌, Bool, if◌then◌else◌, List, [], ◌∷◌, ◌++◌}
 
 -- how many bytes of an input are read
 abbrev pub input_limit : ℕ
@@ -19,7 +19,8 @@ pub record Reads (Record Ending : Type 0) : Type 1 where
 pub record Answers (Record Ending : Type 0) : Type 1 where
   -- the text is its answer for a record, which stands at a place from 1
   pub IsBlock : ℕ → Record → List ℕ → Type 0
-  pub is_refused : Record → Bool
+  -- whether it serves a record, or refuses it
+  pub Serves : Record → Bool → Type 0
   -- the last line, after so many records, of which so many were refused
   pub last_line : ℕ → ℕ → Ending → List ℕ
 
@@ -29,6 +30,8 @@ AreBlocks IsBlock k [] text = text ≡ []
 AreBlocks IsBlock k (record' ∷ records) text =
     (block : List ℕ) × (rest : List ℕ) × IsBlock k record' block × AreBlocks IsBlock (k + 1) records rest × (text ≡ block ++ rest)
 
--- how many records the job refuses
-abbrev pub refused_count : {Record Ending : Type 0} → Answers Record Ending → List Record → ℕ
-refused_count job records = count_by job.is_refused records
+-- the job refuses so many of the records
+abbrev pub Refuses : {Record Ending : Type 0} → Answers Record Ending → List Record → ℕ → Type 0
+Refuses job [] refused = refused ≡ 0
+Refuses job (record' ∷ records) refused =
+    (served : Bool) × (rest : ℕ) × job.Serves record' served × Refuses job records rest × (refused ≡ (if served then 0 else 1) + rest)

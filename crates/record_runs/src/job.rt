@@ -1,5 +1,5 @@
 //! What is done with a record.
-ghost use Rattle.std.specs.Prelude.{◌≡◌, ◌<◌, ◌≤◌, ◌++◌, List, ℕ, not, IfOk, OnOk, OnErr};
+ghost use Rattle.std.specs.Prelude.{◌≡◌, ◌<◌, ◌≤◌, ◌++◌, List, ℕ, IfOk, OnOk, OnErr};
 ghost use Rattle.record_runs.specs.Texts.{Answers, input_limit};
 
 use super::format::Format;
@@ -28,7 +28,7 @@ pub trait Job<F: Format> {
         requires fits { F.IsGiven given.now }
         ensures block { OnOk result ((block : List ℕ) × (answers (kind self.old)).IsBlock number given.now block
             × (out.new.items ≡ out.old.items ++ block)) }
-        ensures served { IfOk result (λ served. served ≡ not ((answers (kind self.old)).is_refused given.now)) }
+        ensures served { IfOk result ((answers (kind self.old)).Serves given.now) }
         ensures err { OnErr result (out.new.items ≡ out.old.items) }
         ensures same { kind self.new ≡ kind self.old };
 

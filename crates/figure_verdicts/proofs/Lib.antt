@@ -1,0 +1,2 @@
+-- Lemmas on verdicts of figures.
+pub mod VerdictLemmas

@@ -1,0 +1,21 @@
+//! The answer of the job `verify` to a figure, as a value: its verdict.
+#![tactic(auto)]
+
+ghost use Rattle.figure_verdicts.specs.Laws.{YesIsValidFigure};
+
+mod drawn;
+mod judge;
+mod verdict;
+
+pub use judge::figure_verdict;
+pub use verdict::FigureVerdict;
+
+/// The verdict is `Yes` exactly where the lists of the figure are a simple map, all points lie in the grid, the
+/// drawing is plane and keeps the rotations, and for a connected map the face of the first vertex's first dart
+/// is the outer one.
+pub fn yes_is_valid_figure()
+    ensures { YesIsValidFigure }
+{
+    simple_maps::no_fault_is_simple();
+    draw_check::yes_is_valid();
+}
