@@ -1,5 +1,5 @@
-//! Drawings that were worked out by hand.
-use crate::given::{K4, completed_of, have_places};
+//! Drawings by the shift method that were worked out by hand.
+use crate::given::{K4, OCTAHEDRON, completed_of, have_places};
 use canon_order::canon_order;
 use fpp_shift::shift_draw;
 use half_edges::VertexId;
@@ -27,32 +27,18 @@ fn drawing_of(rt: &impl Abort, alloc: Global, lists: &[&[u16]]) -> Result<GridFi
 }
 
 #[test]
-fn a_triangle(rt: HostRuntime) -> Result<(), Fail> {
-    let lists: [&[u16]; 3] = [&[1, 2], &[2, 0], &[0, 1]];
-    let figure = drawing_of(&rt, rt.alloc(), &lists)?;
-    assert!(rt; have_places(&figure.points, &[(2, 0), (0, 0), (1, 1)]));
-    Ok(())
-}
-
-#[test]
-fn k4(rt: HostRuntime) -> Result<(), Fail> {
-    let figure = drawing_of(&rt, rt.alloc(), K4)?;
-    assert!(rt; have_places(&figure.points, &[(4, 0), (0, 0), (2, 1), (2, 2)]));
-    Ok(())
-}
-
-#[test]
-fn octahedron(rt: HostRuntime) -> Result<(), Fail> {
-    let lists: [&[u16]; 6] = [
-        &[1, 2, 3, 4],
-        &[0, 4, 5, 2],
-        &[0, 1, 5, 3],
-        &[0, 2, 5, 4],
-        &[0, 3, 5, 1],
-        &[1, 4, 3, 2],
+fn solids(rt: HostRuntime) -> Result<(), Fail> {
+    let rows: [(&[&[u16]], &[(i32, i32)]); 3] = [
+        (&[&[1, 2], &[2, 0], &[0, 1]], &[(2, 0), (0, 0), (1, 1)]),
+        (K4, &[(4, 0), (0, 0), (2, 1), (2, 2)]),
+        (
+            OCTAHEDRON,
+            &[(8, 0), (0, 0), (5, 1), (4, 3), (4, 4), (3, 2)],
+        ),
     ];
-    let figure = drawing_of(&rt, rt.alloc(), &lists)?;
-    let places = [(8, 0), (0, 0), (5, 1), (4, 3), (4, 4), (3, 2)];
-    assert!(rt; have_places(&figure.points, &places));
+    for (lists, places) in rows {
+        let figure = drawing_of(&rt, rt.alloc(), lists)?;
+        assert!(rt; have_places(&figure.points, places));
+    }
     Ok(())
 }

@@ -16,6 +16,15 @@ pub const MOST: i32 = 1 << 20;
 
 pub const K4: &[&[u16]] = &[&[1, 2, 3], &[0, 3, 2], &[0, 1, 3], &[0, 2, 1]];
 
+pub const OCTAHEDRON: &[&[u16]] = &[
+    &[1, 2, 3, 4],
+    &[0, 4, 5, 2],
+    &[0, 1, 5, 3],
+    &[0, 2, 5, 4],
+    &[0, 3, 5, 1],
+    &[1, 4, 3, 2],
+];
+
 /// Lists as they are given.
 pub fn rotations_of(alloc: Global, given: &[&[u16]]) -> Result<Rotations, AllocError> {
     let mut lists = Rotations::new(alloc);

@@ -9,6 +9,8 @@ mod figures;
 #[cfg(test)]
 mod given;
 #[cfg(test)]
+mod offsets;
+#[cfg(test)]
 mod orders;
 #[cfg(test)]
 mod places;
@@ -18,3 +20,5 @@ mod sweeps;
 mod texts;
 #[cfg(test)]
 mod verdicts;
+#[cfg(test)]
+mod woods;

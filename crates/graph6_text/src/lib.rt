@@ -14,6 +14,3 @@ pub use graph::Graph;
 pub use header::after_graph_header;
 pub use laws::{lines_are_graphs, one_graph, one_line};
 pub use line::{G6Fault, read_line, write_line};
-
-#[cfg(test)]
-mod tests;

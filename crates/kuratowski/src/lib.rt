@@ -11,6 +11,3 @@ mod witness;
 
 pub use check::{WitnessVerdict, check_witness};
 pub use witness::{Kind, Witness};
-
-#[cfg(test)]
-mod tests;

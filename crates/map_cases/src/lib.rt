@@ -9,6 +9,8 @@ mod counts;
 #[cfg(test)]
 mod given;
 #[cfg(test)]
+mod graphs;
+#[cfg(test)]
 mod items;
 #[cfg(test)]
 mod made;
@@ -22,3 +24,5 @@ mod permutations;
 mod records;
 #[cfg(test)]
 mod sources;
+#[cfg(test)]
+mod witnesses;

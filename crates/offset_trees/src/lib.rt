@@ -7,6 +7,3 @@ mod sums;
 
 pub use nodes::{Node, Offsets};
 pub use sums::sum_offsets;
-
-#[cfg(test)]
-mod tests;

@@ -5,6 +5,3 @@ mod draw;
 mod gaps;
 
 pub use draw::wood_draw;
-
-#[cfg(test)]
-mod tests;

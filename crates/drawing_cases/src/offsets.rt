@@ -1,6 +1,6 @@
 //! A tree of one node.
-use crate::{Node, Offsets, sum_offsets};
 use map_lists::VertexId;
+use offset_trees::{Node, Offsets, sum_offsets};
 use pg_io::Steps;
 use std::marker::Brand;
 use std::test::Fail;

@@ -1,7 +1,7 @@
 use Rattle.std.proofs.Common.{refl, arith}
 use Rattle.std.proofs.lemmas.Int.{ints}
 use Rattle.offset_trees.proofs.MetLemmas.{IsTree-alone}
-use Rattle.offset_trees.proofs.tests.one_node.Goals as goal
+use Rattle.drawing_cases.proofs.offsets.one_node.Goals as goal
 
 pub sum_offsets-requires : goal.sum_offsets-requires
 sum_offsets-requires g c =

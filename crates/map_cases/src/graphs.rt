@@ -1,5 +1,5 @@
 //! Lines worked out by hand.
-use crate::{G6Fault, Graph, after_graph_header, read_line, write_line};
+use graph6_text::{G6Fault, Graph, after_graph_header, read_line, write_line};
 use map_lists::{Ends, VertexId};
 use std::test::Fail;
 
