@@ -40,13 +40,13 @@ told-ending_of TooLong = refl
 one_ending : (job : Job) (input : List ℕ) (records records' : List (RecordOf job)) (ending ending' : EndingOf job) → (reads_of job).IsReading input records ending → (reads_of job).IsReading input records' ending' → ending ≡ ending'
 one_ending Count input records records' ending ending' reading reading' =
     sym (told-ending_of ending) ∙ ap told (reading-unique input records records' (ending_of ending) (ending_of ending') reading reading').1 ∙ told-ending_of ending'
-one_ending Shift input records records' ending ending' reading reading' =
+one_ending (Shift form) input records records' ending ending' reading reading' =
     sym (told-ending_of ending) ∙ ap told (reading-unique input records records' (ending_of ending) (ending_of ending') reading reading').1 ∙ told-ending_of ending'
 
 -- each input begins with no records
 begins_none : (job : Job) (input : List ℕ) → (reads_of job).BeginsWith input []
 begins_none Count input = Progress-begins [] [] at_front input Progress-start (omega arith)
-begins_none Shift input = Progress-begins [] [] at_front input Progress-start (omega arith)
+begins_none (Shift form) input = Progress-begins [] [] at_front input Progress-start (omega arith)
 
 -- nothing was written: a part of any text
 pub GrowsByText-none : (found : Option Job) (left o : Option (List ℕ)) → GrowsByText found left o o
@@ -73,7 +73,7 @@ Outcome-of job before after ended.NoMemory outcome = outcome
 -- a run over planar_code, as a job over it has it
 pub Outcome-planar : (job : Job) (before after : Ports) (end : RunEnd) → RunOutcome planar_code (planar_answers job) before after end → Outcome job before after (status_of end)
 Outcome-planar Count before after end outcome = Outcome-of Count before after end outcome
-Outcome-planar Shift before after end outcome = Outcome-of Shift before after end outcome
+Outcome-planar (Shift form) before after end outcome = Outcome-of (Shift form) before after end outcome
 
 -- where nothing failed the ending of the input decides the status
 pub Outcome-complete : (job : Job) (before after : Ports) (status : Status) (input : List ℕ) (records : List (RecordOf job)) (ending : EndingOf job) → Outcome job before after status → before.left ≡ Some input → (reads_of job).IsReading input records ending → ¬ HasRisen before.read_faults after.read_faults → ¬ HasRisen before.write_faults after.write_faults → MayEnd job ending status

@@ -3,6 +3,9 @@ use Rattle.std.specs.Prelude.{ℕ, List, Bool, ◌≡◌}
 use Rattle.map_lists.specs.Lists.{Lists}
 use Rattle.record_runs.specs.Texts.{Answers}
 use Rattle.pigale_shell.specs.Text.{count_block, count_refuses, IsShiftBlock, shift_refuses, last_line}
+use Rattle.pigale_shell.specs.Forms.{line_in}
+use Rattle.pigale_shell.specs.declared.form.Form.{Form}
+use Rattle.pigale_shell.specs.declared.form.Form.TheVariants.{Text}
 use Rattle.pigale_shell.specs.Lines.{ending_of}
 use Rattle.pigale_shell.specs.declared.lines.Ending.{Ending}
 use Rattle.pigale_shell.specs.declared.job.Job.{Job}
@@ -11,17 +14,22 @@ use Rattle.pigale_shell.specs.declared.job.Job.TheVariants.{Count, Shift}
 -- the text is the job's answer for record k
 abbrev pub IsBlock : Job → ℕ → Lists → List ℕ → Type 0
 IsBlock Count k lists text = text ≡ count_block k lists
-IsBlock Shift k lists text = IsShiftBlock k lists text
+IsBlock (Shift form) k lists text = IsShiftBlock form k lists text
 
 -- the record counts as refused
 abbrev pub is_refused : Job → Lists → Bool
 is_refused Count lists = count_refuses lists
-is_refused Shift lists = shift_refuses lists
+is_refused (Shift form) lists = shift_refuses lists
+
+-- the form in which the job writes
+abbrev pub job_form : Job → Form
+job_form Count = Text
+job_form (Shift form) = form
 
 -- both, and the last line
 abbrev pub planar_answers : Job → Answers Lists Ending
 planar_answers job = record {
   IsBlock = IsBlock job;
   is_refused = is_refused job;
-  last_line = λ records refused ending. last_line records refused (ending_of ending);
+  last_line = λ records refused ending. line_in (job_form job) (last_line records refused (ending_of ending));
 }

@@ -10,19 +10,19 @@ use Rattle.pigale_shell.specs.declared.job.Job.TheVariants.{Count, Shift}
 -- a record of its input
 abbrev pub RecordOf : Job → Type 0
 RecordOf Count = Lists
-RecordOf Shift = Lists
+RecordOf (Shift form) = Lists
 
 -- how its input ends
 abbrev pub EndingOf : Job → Type 0
 EndingOf Count = Ending
-EndingOf Shift = Ending
+EndingOf (Shift form) = Ending
 
 -- how its input is read
 abbrev pub reads_of : (job : Job) → Reads (RecordOf job) (EndingOf job)
 reads_of Count = planar_code
-reads_of Shift = planar_code
+reads_of (Shift form) = planar_code
 
 -- its answers, and the last line
 abbrev pub answers_of : (job : Job) → Answers (RecordOf job) (EndingOf job)
 answers_of Count = planar_answers Count
-answers_of Shift = planar_answers Shift
+answers_of (Shift form) = planar_answers (Shift form)

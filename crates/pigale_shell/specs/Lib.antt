@@ -2,6 +2,7 @@
 pub mod Status
 pub mod Lines
 pub mod Words
+pub mod Forms
 pub mod Answer
 pub mod PlanarCode
 pub mod JobInput
