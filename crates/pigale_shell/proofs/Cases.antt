@@ -7,9 +7,11 @@ use Rattle.map_definitions.specs.Maps.{entry_after, face_count, component_count}
 use Rattle.simple_maps.specs.Faults.{first_fault}
 use Rattle.clap.proofs.OnLiterals.{clap_on_literals}
 use Rattle.pigale_shell.specs.Words.{given, job_of}
-use Rattle.pigale_shell.specs.declared.job.Job.TheVariants.{Count, Gen}
+use Rattle.pigale_shell.specs.declared.job.Job.TheVariants.{Count, Shift, Gen}
 use Rattle.pigale_shell.specs.Numbers.{number_in}
 use Rattle.pigale_shell.specs.Made.{sums_line}
+use Rattle.pigale_shell.specs.declared.form.Form.TheVariants as forms
+use Rattle.pigale_shell.specs.Forms.{commented, line_in}
 use Rattle.pigale_shell.specs.Text.{count_block, counts_line, refused_line, end_line}
 
 -- lists with vertices numbered from 1, as they are printed
@@ -42,6 +44,10 @@ last_line_of_three : end_line 3 0 ≡ codes "end records 3 refused 0" ++ 10 ∷ 
 unfolding end_line digits
 last_line_of_three = refl
 
+commented_last_line : line_in forms.Svg (end_line 1 0) ≡ codes "<!-- end records 1 refused 0 -->" ++ 10 ∷ []
+unfolding commented end_line digits
+commented_last_line = refl
+
 -- words, with `--` beside the job, an option that the job has not, and an option without a text
 
 count_alone : job_of (codes "count" ∷ []) ≡ Some Count
@@ -59,6 +65,18 @@ no_words = refl
 count_with_form : job_of (codes "count" ∷ codes "--form" ∷ codes "svg" ∷ []) ≡ None
 unfolding given clap_on_literals
 count_with_form = refl
+
+shift_alone : job_of (codes "shift" ∷ []) ≡ Some (Shift forms.Text)
+unfolding given clap_on_literals
+shift_alone = refl
+
+shift_as_pictures : job_of (codes "--form=svg" ∷ codes "shift" ∷ []) ≡ Some (Shift forms.Svg)
+unfolding given clap_on_literals
+shift_as_pictures = refl
+
+shift_with_other_form : job_of (codes "shift" ∷ codes "--form" ∷ codes "png" ∷ []) ≡ None
+unfolding given clap_on_literals
+shift_with_other_form = refl
 
 texts_of_options : given (codes "--form=svg" ∷ codes "shift" ∷ codes "--size" ∷ codes "5" ∷ []) ≡ Some (record { job = Some (codes "shift"); form = Some (codes "svg"); size = Some (codes "5"); number = None })
 unfolding given clap_on_literals

@@ -8,6 +8,8 @@ use Rattle.shift_figures.specs.declared.refusal.ShiftRefusal.TheVariants.{Fault,
 use Rattle.pigale_shell.specs.Text.{refused_line, refusal_line, IsShiftBlock}
 use Rattle.simple_maps.specs.declared.fault.MapFault.{MapFault}
 use Rattle.simple_maps.specs.declared.fault.MapFault.TheVariants.{OutOfRange, Loop, Repeated, OneSided, NoMemory}
+use Rattle.pigale_shell.specs.Forms.{line_in}
+use Rattle.pigale_shell.specs.declared.form.Form.{Form}
 use Rattle.pigale_shell.specs.Lines.{fault_bytes, WritesFault, WritesRefusal}
 
 -- a text of the parts of the line is the line
@@ -31,13 +33,13 @@ pub WritesRefusal-genus : (k g given : ℕ) (name text : List ℕ) (refusal : Sh
 unfolding refusal_line
 WritesRefusal-genus k g given name text refusal is same named e = rw is (e ∙ ap (λ (f : List ℕ). named_text k f given) named ∙ ap (λ (h : ℕ). named_text k (codes "6 Genus") h) same)
 
--- the line of a refusal that names the first condition which the record breaks is the record's block
-pub IsShiftBlock-refused : (k : ℕ) (lists : Lists) (refusal : ShiftRefusal) (text : List ℕ) → Names (shift_refusal lists) refusal → refusal ≢ Fault NoMemory → WritesRefusal k refusal text → IsShiftBlock k lists text
+-- the line of a refusal that names the first condition which the record breaks is, in the form, the record's block
+pub IsShiftBlock-refused : (form : Form) (k : ℕ) (lists : Lists) (refusal : ShiftRefusal) (line : List ℕ) → Names (shift_refusal lists) refusal → refusal ≢ Fault NoMemory → WritesRefusal k refusal line → IsShiftBlock form k lists (line_in form line)
 unfolding refusal_line
-IsShiftBlock-refused k lists (Fault (OutOfRange v u)) text names other writes = rw names writes
-IsShiftBlock-refused k lists (Fault (Loop v)) text names other writes = rw names writes
-IsShiftBlock-refused k lists (Fault (Repeated v u)) text names other writes = rw names writes
-IsShiftBlock-refused k lists (Fault (OneSided v u)) text names other writes = rw names writes
-IsShiftBlock-refused k lists (Fault NoMemory) text names other writes = absurd (other refl)
-IsShiftBlock-refused k lists (Small n) text names other writes = rw names writes
-IsShiftBlock-refused k lists (Genus g) text names other writes = rw names writes
+IsShiftBlock-refused form k lists (Fault (OutOfRange v u)) line names other writes = rw names (ap (λ (l : List ℕ). line_in form l) writes)
+IsShiftBlock-refused form k lists (Fault (Loop v)) line names other writes = rw names (ap (λ (l : List ℕ). line_in form l) writes)
+IsShiftBlock-refused form k lists (Fault (Repeated v u)) line names other writes = rw names (ap (λ (l : List ℕ). line_in form l) writes)
+IsShiftBlock-refused form k lists (Fault (OneSided v u)) line names other writes = rw names (ap (λ (l : List ℕ). line_in form l) writes)
+IsShiftBlock-refused form k lists (Fault NoMemory) line names other writes = absurd (other refl)
+IsShiftBlock-refused form k lists (Small n) line names other writes = rw names (ap (λ (l : List ℕ). line_in form l) writes)
+IsShiftBlock-refused form k lists (Genus g) line names other writes = rw names (ap (λ (l : List ℕ). line_in form l) writes)

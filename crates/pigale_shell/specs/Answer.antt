@@ -1,8 +1,11 @@
 -- What each job over planar_code writes.
-use Rattle.std.specs.Prelude.{ℕ, List, Bool, false, ◌≡◌}
+use Rattle.std.specs.Prelude.{ℕ, List, Bool, false, not, ◌≡◌}
 use Rattle.map_lists.specs.Lists.{Lists}
 use Rattle.record_runs.specs.Texts.{Answers}
 use Rattle.pigale_shell.specs.Text.{count_block, count_refuses, IsShiftBlock, shift_refuses, last_line}
+use Rattle.pigale_shell.specs.Forms.{line_in}
+use Rattle.pigale_shell.specs.declared.form.Form.{Form}
+use Rattle.pigale_shell.specs.declared.form.Form.TheVariants.{Text}
 use Rattle.pigale_shell.specs.Lines.{ending_of}
 use Rattle.pigale_shell.specs.declared.lines.Ending.{Ending}
 use Rattle.pigale_shell.specs.declared.job.Job.{Job}
@@ -11,19 +14,25 @@ use Rattle.pigale_shell.specs.declared.job.Job.TheVariants.{Count, Shift, Gen}
 -- the text is the job's answer for record k; there is none by a job that reads no records
 abbrev pub IsBlock : Job → ℕ → Lists → List ℕ → Type 0
 IsBlock Count k lists text = text ≡ count_block k lists
-IsBlock Shift k lists text = IsShiftBlock k lists text
+IsBlock (Shift form) k lists text = IsShiftBlock form k lists text
 IsBlock (Gen size number) k lists text = ⊥
 
 -- the record counts as refused
 abbrev pub is_refused : Job → Lists → Bool
 is_refused Count lists = count_refuses lists
-is_refused Shift lists = shift_refuses lists
+is_refused (Shift form) lists = shift_refuses lists
 is_refused (Gen size number) lists = false
+
+-- the form in which the job writes
+abbrev pub job_form : Job → Form
+job_form Count = Text
+job_form (Shift form) = form
+job_form (Gen size number) = Text
 
 -- both, and the last line
 abbrev pub planar_answers : Job → Answers Lists Ending
 planar_answers job = record {
   IsBlock = IsBlock job;
-  is_refused = is_refused job;
-  last_line = λ records refused ending. last_line records refused (ending_of ending);
+  Serves = λ lists served. served ≡ not (is_refused job lists);
+  last_line = λ records refused ending. line_in (job_form job) (last_line records refused (ending_of ending));
 }

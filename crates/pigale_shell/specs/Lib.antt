@@ -3,6 +3,7 @@ pub mod Status
 pub mod Lines
 pub mod Numbers
 pub mod Words
+pub mod Forms
 pub mod Answer
 pub mod PlanarCode
 pub mod Made

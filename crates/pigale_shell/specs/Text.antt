@@ -7,8 +7,9 @@ use Rattle.pg_plane.specs.declared.figure.GridFigure.{GridFigure}
 use Rattle.shift_figures.specs.Figures.{IsShiftFigure}
 use Rattle.shift_figures.specs.Refusals.{Refusal, small, genus_above, shift_refusal}
 use Rattle.shift_figures.specs.Refusals as why
-use Rattle.figure_text.specs.Text.{grid_text}
 use Rattle.figure_text.specs.declared.figure.GridJob.TheVariants.{Shift}
+use Rattle.pigale_shell.specs.Forms.{line_in, grid_in}
+use Rattle.pigale_shell.specs.declared.form.Form.{Form}
 use Rattle.planar_code.specs.Reading.{Ending, well, end_in_record, bad_count, too_long}
 
 -- a word, a space and a number
@@ -59,13 +60,13 @@ refusal_line k (why.fault f) = refused_line k f
 refusal_line k (small n) = line (word_and_number (codes "refused") k ++ 32 ∷ word_and_number (codes "5 Small") n)
 refusal_line k (genus_above g) = line (word_and_number (codes "refused") k ++ 32 ∷ word_and_number (codes "6 Genus") g)
 
--- what `shift` writes for record k: the text of a figure that is valid for the job, or the refusal that names the first condition that the record breaks
-abbrev pub IsShiftText : ℕ → Lists → Option Refusal → List ℕ → Type 0
-IsShiftText k lists None text = (figure : GridFigure) × IsShiftFigure lists figure × (text ≡ grid_text k Shift lists figure.points)
-IsShiftText k lists (Some refusal) text = text ≡ refusal_line k refusal
+-- what `shift` writes for record k: a figure that is valid for the job, or the refusal that names the first condition that the record breaks
+abbrev pub IsShiftText : Form → ℕ → Lists → Option Refusal → List ℕ → Type 0
+IsShiftText form k lists None text = (figure : GridFigure) × IsShiftFigure lists figure × (text ≡ grid_in form k Shift lists figure.points)
+IsShiftText form k lists (Some refusal) text = text ≡ line_in form (refusal_line k refusal)
 
-abbrev pub IsShiftBlock : ℕ → Lists → List ℕ → Type 0
-IsShiftBlock k lists text = IsShiftText k lists (shift_refusal lists) text
+abbrev pub IsShiftBlock : Form → ℕ → Lists → List ℕ → Type 0
+IsShiftBlock form k lists text = IsShiftText form k lists (shift_refusal lists) text
 
 -- the record is refused by `shift`
 abbrev pub shift_refuses : Lists → Bool

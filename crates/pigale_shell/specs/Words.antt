@@ -1,10 +1,12 @@
 -- Which words are those of a job.
-use Rattle.std.specs.Prelude.{◌≡◌, ◌⊎◌, ◌↔◌, ◌&&◌, ◌||◌, not, ℕ, Bool, true, List, [], ◌∷◌, Option, Some, None, is_some, option_and_then, if◌then◌else◌, codes, bytes_eq}
+use Rattle.std.specs.Prelude.{◌≡◌, ◌⊎◌, ◌↔◌, ◌&&◌, ◌||◌, not, ℕ, Bool, true, List, [], ◌∷◌, Option, Some, None, is_some, option_and_then, option_map, if◌then◌else◌, codes, bytes_eq}
 use Rattle.clap.specs.Walk.{Row, Rule, Text, first_of}
 use Rattle.clap.specs.Simple.{App, Shape, matches_of, new_app, new_rule, on_top, with_rule}
 use Rattle.clap.specs.Kinds.{Kinds}
 use Rattle.clap.specs.Faults.{fault_of}
 use Rattle.pigale_shell.specs.Numbers.{number_in}
+use Rattle.pigale_shell.specs.declared.form.Form.{Form}
+use Rattle.pigale_shell.specs.declared.form.Form.TheVariants as forms
 use Rattle.pigale_shell.specs.declared.job.Job.{Job}
 use Rattle.pigale_shell.specs.declared.job.Job.TheVariants.{Count, Shift, Gen}
 
@@ -49,14 +51,18 @@ given words = given_by (fault_of command words) (matches_of command words)
 abbrev pub has_option : Given → Bool
 has_option g = is_some g.form || (is_some g.size || is_some g.number)
 
--- the form of a figure is text, if one is given
-abbrev pub is_text : Option Text → Bool
-is_text None = true
-is_text (Some form) = bytes_eq form (codes "text")
+-- an option is given that no job that draws has
+abbrev pub has_number : Given → Bool
+has_number g = is_some g.size || is_some g.number
 
--- no option is given but the form, which is text
-abbrev pub draws_text : Given → Bool
-draws_text g = is_text g.form && not (is_some g.size || is_some g.number)
+-- the form with a name; text where none is named
+abbrev pub form_of : Option Text → Option Form
+form_of None = Some forms.Text
+form_of (Some name) = if bytes_eq name (codes "text") then Some forms.Text else if bytes_eq name (codes "svg") then Some forms.Svg else None
+
+-- the form of a job that draws, which takes no other option
+abbrev pub form_given : Given → Option Form
+form_given g = if has_number g then None else form_of g.form
 
 -- the number from `least` to `most` that an option gives
 abbrev pub number_given : ℕ → ℕ → Option Text → Option ℕ
@@ -75,7 +81,7 @@ gen_given g = if is_some g.form then None else gen_of (number_given 3 4095 g.siz
 -- the job of a word with the options beside it: `count` takes none, a job that draws takes the form, and `gen` wants the other two
 abbrev pub job_named : Given → Text → Option Job
 job_named g word =
-    if bytes_eq word (codes "count") && not (has_option g) then Some Count else if bytes_eq word (codes "shift") && draws_text g then Some Shift else if bytes_eq word (codes "gen") then gen_given g else None
+    if bytes_eq word (codes "count") && not (has_option g) then Some Count else if bytes_eq word (codes "shift") then option_map (λ form. Shift form) (form_given g) else if bytes_eq word (codes "gen") then gen_given g else None
 
 abbrev pub job_given : Given → Option Job
 job_given g = option_and_then (job_named g) g.job

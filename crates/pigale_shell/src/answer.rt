@@ -1,18 +1,21 @@
 //! The answer to one record.
-ghost use Rattle.std.specs.Prelude.{◌≡◌, ◌<◌, ◌≤◌, ◌++◌, ◌↔◌, List, ℕ, length, true, false, not, IsTrue, IsFalse, IfOk, OnOk, OnErr};
+ghost use Rattle.std.specs.Prelude.{◌≡◌, ◌<◌, ◌≤◌, ◌++◌, ◌↔◌, List, ℕ, length, true, false, not, None, IsTrue, IsFalse, IfOk, OnOk, OnErr};
 ghost use Rattle.pigale_shell.specs.Text.{count_block, count_refuses, IsShiftBlock, shift_refuses};
 ghost use Rattle.map_lists.specs.Lists.{Lists};
 ghost use Rattle.shift_figures.specs.Refusals.{shift_refusal};
 ghost use Rattle.shift_figures.specs.Names.{Names};
 ghost use Rattle.pigale_shell.specs.Answer.{IsBlock, is_refused};
 ghost use Rattle.pigale_shell.specs.JobInput.{reads_planar};
+ghost use Rattle.pigale_shell.specs.Forms.{line_in as line_by, grid_in};
 
+use super::form::{Form, line_in, print_grid_in};
 use super::job::Job;
 use super::lines::{count_line, drawing_refusal_line, refusal_line};
 use euler_faces::Counter;
-use figure_text::{GridJob, print_grid};
+use figure_text::GridJob;
 use half_edges::{MapFault, Rotations};
-use shift_figures::{ShiftRefusal, shift_figure};
+use pg_plane::Points;
+use shift_figures::{ShiftRefusal, no_refusal_is_plane, shift_figure};
 use std::alloc::{AllocError, Global};
 
 /// Appends the block of a job over planar_code for a record with these lists, which are from 1 to 4095, and
@@ -58,7 +61,7 @@ pub(crate) fn answer_with(
 {
     match job {
         Job::Count => count_record(alloc, counter, number, lists, out),
-        Job::Shift => shift_record(alloc, number, lists, out),
+        Job::Shift(form) => shift_record(alloc, form, number, lists, out),
         Job::Gen(..) => unreachable!(),
     }
 }
@@ -87,6 +90,7 @@ fn count_record(
 // Appends the figure of a record, or its refusal.
 fn shift_record(
     alloc: Global,
+    form: Form,
     number: u32,
     lists: &Rotations,
     out: &mut Vec<u8>,
@@ -94,36 +98,74 @@ fn shift_record(
     requires some_list { 0 < length lists.now }
     requires few_lists { length lists.now < 4096 }
     ensures block { OnOk result
-        ((block : List ℕ) × IsShiftBlock number lists.now block × (out.new.items ≡ out.old.items ++ block)) }
+        ((block : List ℕ) × IsShiftBlock form number lists.now block × (out.new.items ≡ out.old.items ++ block)) }
     ensures served { IfOk result (λ served. served ≡ not (shift_refuses lists.now)) }
     ensures err { OnErr result (out.new.items ≡ out.old.items) }
 {
     match shift_figure(alloc, lists) {
-        Ok(figure) => {
-            print_grid(alloc, number, GridJob::Shift, lists, &figure.points, out)?;
-            Ok(true)
-        }
-        Err(refusal) => refuse_drawing(alloc, number, refusal, out),
+        Ok(figure) => draw_record(alloc, form, number, lists, &figure.points, out),
+        Err(refusal) => refuse_drawing(alloc, form, number, refusal, out),
     }
+}
+
+// Appends the figure of a record that breaks no condition.
+fn draw_record(
+    alloc: Global,
+    form: Form,
+    number: u32,
+    lists: &Rotations,
+    points: &Points,
+    out: &mut Vec<u8>,
+) -> Result<bool, AllocError>
+    requires some_list { 0 < length lists.now }
+    requires served { shift_refusal lists.now ≡ None }
+    requires points { length points.now ≡ length lists.now }
+    ensures block { OnOk result (out.new.items ≡ out.old.items ++ grid_in form number GridJob.Shift lists.now points.now) }
+    ensures served { IfOk result (λ served. served ≡ true) }
+    ensures err { OnErr result (out.new.items ≡ out.old.items) }
+{
+    no_refusal_is_plane();
+    print_grid_in(alloc, form, number, GridJob::Shift, lists, points, out)?;
+    Ok(true)
 }
 
 // Appends the refusal of any record that breaks this condition first.
 fn refuse_drawing(
     alloc: Global,
+    form: Form,
     number: u32,
     refusal: ShiftRefusal,
     out: &mut Vec<u8>,
 ) -> Result<bool, AllocError>
     ensures block { OnOk result ((lists : Lists) → Names (shift_refusal lists) refusal
-        → (block : List ℕ) × IsShiftBlock number lists block × (out.new.items ≡ out.old.items ++ block)) }
+        → (block : List ℕ) × IsShiftBlock form number lists block × (out.new.items ≡ out.old.items ++ block)) }
     ensures refused { IfOk result (λ served. (lists : Lists) → Names (shift_refusal lists) refusal
         → served ≡ not (shift_refuses lists)) }
     ensures err { OnErr result (out.new.items ≡ out.old.items) }
 {
     match refusal {
         ShiftRefusal::Fault(MapFault::NoMemory) => Err(AllocError),
-        _ => refuse(&drawing_refusal_line(alloc, number, refusal)?, out),
+        _ => refuse_in(
+            alloc,
+            form,
+            drawing_refusal_line(alloc, number, refusal)?,
+            out,
+        ),
     }
+}
+
+// Appends the line of a record that is refused, in a form.
+fn refuse_in(
+    alloc: Global,
+    form: Form,
+    line: Vec<u8>,
+    out: &mut Vec<u8>,
+) -> Result<bool, AllocError>
+    ensures block { OnOk result (out.new.items ≡ out.old.items ++ line_by form line.items) }
+    ensures refused { IfOk result (λ served. served ≡ false) }
+    ensures err { OnErr result (out.new.items ≡ out.old.items) }
+{
+    refuse(&line_in(alloc, form, line)?, out)
 }
 
 // Appends the block of a record that is served.

@@ -1,6 +1,9 @@
 //! Jobs and statuses.
 ghost use Rattle.std.specs.Prelude.{◌≡◌};
 ghost use Rattle.pigale_shell.specs.Status.{status_number};
+ghost use Rattle.pigale_shell.specs.Answer.{job_form};
+
+use super::form::Form;
 
 /// What a run does with each record of its input.
 #[derive(Clone, Copy, Debug, PartialEq, Eq)]
@@ -8,9 +11,21 @@ pub enum Job {
     /// Counts the vertices, edges, faces and components of each map, and gives its genus.
     Count,
     /// Draws each map of genus zero with at least three vertices by the shift method.
-    Shift,
+    Shift(Form),
     /// Makes the map of so many vertices from a number, and draws it. It reads nothing.
     Gen(u16, u32),
+}
+
+impl Job {
+    /// The form in which the job writes.
+    pub fn form(self) -> Form
+        ensures { result ≡ job_form self }
+    {
+        match self {
+            Job::Count | Job::Gen(..) => Form::Text,
+            Job::Shift(form) => form,
+        }
+    }
 }
 
 /// How a run ended.

@@ -2,6 +2,7 @@
 #![tactic(auto)]
 
 mod answer;
+mod form;
 mod job;
 mod lines;
 mod made;
@@ -12,6 +13,7 @@ mod top;
 mod words;
 
 pub use answer::answer_record;
+pub use form::Form;
 pub use job::{Job, Status, WordFault};
 pub use top::pigale;
 pub use words::{count_words, words_to_job};

@@ -3,6 +3,7 @@ ghost use Rattle.std.specs.Prelude.{◌≡◌, true, IsTrue};
 ghost use Rattle.pigale_shell.specs.JobInput.{reads_planar};
 
 use super::answer::answer_with;
+use super::form::line_in;
 use super::job::Job;
 use super::lines::{Ending, last_line};
 use euler_faces::Counter;
@@ -141,6 +142,7 @@ impl RecordJob<PlanarReader> for PlanarJob {
         refused: u32,
         end: &Ending,
     ) -> Result<Vec<u8>, AllocError> {
-        last_line(alloc, records, refused, *end)
+        let line = last_line(alloc, records, refused, *end)?;
+        line_in(alloc, self.job.form(), line)
     }
 }

@@ -4,11 +4,12 @@ ghost use Rattle.clap.specs.Matches.{found_of};
 ghost use Rattle.clap.specs.Values.{kind_of};
 ghost use Rattle.clap.specs.Walk.{first_of, rows_of};
 ghost use Rattle.clap.specs.Simple.{app_of};
-ghost use Rattle.pigale_shell.specs.Words.{command as the_command, given, given_in, has_option as gives_option, draws_text as gives_text, is_text, number_given as number_by, gen_of, gen_given as gen_by, job_given as job_by};
+ghost use Rattle.pigale_shell.specs.Words.{command as the_command, given, given_in, has_option as gives_option, has_number as gives_number, form_of as form_by, form_given as form_from, number_given as number_by, gen_of, gen_given as gen_by, job_given as job_by};
 ghost use Rattle.pigale_shell.specs.Words.{job_of, CountWords};
 ghost use Rattle.pigale_shell.specs.Status.{RefusesWords};
 ghost use Rattle.pigale_shell.specs.JobInput.{HasSize};
 
+use super::form::Form;
 use super::job::{Job, WordFault};
 use super::numbers::number_in;
 use clap::error::ErrorKind;
@@ -82,21 +83,45 @@ fn has_option(matches: &ArgMatches) -> bool
     is_given(matches, "form") || is_given(matches, "size") || is_given(matches, "number")
 }
 
-// Whether the form of figures is text.
-fn is_text_form(matches: &ArgMatches) -> bool
-    ensures { result ≡ is_text (first_of (codes "form") (rows_of (found_of matches.now))) }
+// Whether they give an option that no job that draws has.
+fn has_number(matches: &ArgMatches) -> bool
+    ensures { result ≡ gives_number (given_in (rows_of (found_of matches.now))) }
 {
-    match text_of(matches, "form") {
-        Some(form) => form == "text",
-        None => true,
+    is_given(matches, "size") || is_given(matches, "number")
+}
+
+// The form with this name.
+fn form_named(name: &str) -> Option<Form>
+    ensures { result ≡ form_by (Some name.now) }
+{
+    if name == "text" {
+        Some(Form::Text)
+    } else if name == "svg" {
+        Some(Form::Svg)
+    } else {
+        None
     }
 }
 
-// Whether they give no option but the form, which is text.
-fn draws_text(matches: &ArgMatches) -> bool
-    ensures { result ≡ gives_text (given_in (rows_of (found_of matches.now))) }
+// The form that the words name; text where they name none.
+fn form_of(matches: &ArgMatches) -> Option<Form>
+    ensures { result ≡ form_by (first_of (codes "form") (rows_of (found_of matches.now))) }
 {
-    is_text_form(matches) && !(is_given(matches, "size") || is_given(matches, "number"))
+    match text_of(matches, "form") {
+        Some(name) => form_named(name),
+        None => Some(Form::Text),
+    }
+}
+
+// The form of a job that draws, where the words give no option that it does not have.
+fn form_given(matches: &ArgMatches) -> Option<Form>
+    ensures { result ≡ form_from (given_in (rows_of (found_of matches.now))) }
+{
+    if has_number(matches) {
+        None
+    } else {
+        form_of(matches)
+    }
 }
 
 // The number from `least` to `most` that an option gives.
@@ -143,8 +168,8 @@ fn job_given(matches: &ArgMatches) -> Option<Job>
         Some(word) => {
             if word == "count" && !has_option(matches) {
                 Some(Job::Count)
-            } else if word == "shift" && draws_text(matches) {
-                Some(Job::Shift)
+            } else if word == "shift" {
+                form_given(matches).map(Job::Shift)
             } else if word == "gen" {
                 gen_given(matches)
             } else {
@@ -160,8 +185,8 @@ fn job_given(matches: &ArgMatches) -> Option<Job>
 /// clap reads them as a command with one positional, the job's word, and the options `--form`, `--size`
 /// and `--number`, each with one text, which may follow as the next word or behind a `=`. `count` is the
 /// job `Count` and has none of these options; `shift` is the job `Shift` and has the first, of which the
-/// text `text` is the one that there is; `gen` is the job `Gen` and has the other two, which it wants: a
-/// size from 3 to 4095 and a number from 0 to 4294967295, both in decimal. `BadWords` comes exactly where the words are those of no
+/// text is `text` or `svg`; `gen` is the job `Gen` and has the other two, which it wants: a size from 3 to
+/// 4095 and a number from 0 to 4294967295, both in decimal. `BadWords` comes exactly where the words are those of no
 /// job: where clap refuses them, where there is no such job, and where an option is there that the job
 /// does not have.
 pub fn words_to_job(alloc: Global, words: &[String]) -> Result<Job, WordFault>

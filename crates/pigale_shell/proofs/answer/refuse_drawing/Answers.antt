@@ -9,6 +9,6 @@ pub returns-in_ok-drawing_refusal_line-in_default-clause-block :
     goal.returns-in_ok-drawing_refusal_line-in_default-clause-block
 returns-in_ok-drawing_refusal_line-in_default-clause-block c =
     let other : c.args.refusal ≢ Fault NoMemory = search rules in
-    on_ok_weaker c.refuse.result
-    (λ e lists names. (c.deref.result.now, IsShiftBlock-refused c.args.number lists c.args.refusal c.deref.result.now names other (rw c.deref.ensures.value c.in_ok-drawing_refusal_line-in_default.ensures), e))
-    c.refuse.ensures.block
+    on_ok_weaker c.refuse_in.result
+    (λ e lists names. (_, IsShiftBlock-refused c.args.form c.args.number lists c.args.refusal _ names other c.in_ok-drawing_refusal_line-in_default.ensures, e))
+    c.refuse_in.ensures.block

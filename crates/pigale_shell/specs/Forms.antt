@@ -1,0 +1,23 @@
+-- The form in which a job that draws writes: figures as text, or as SVG with all other lines as comments.
+use Rattle.std.specs.Prelude.{ℕ, ◌-◌, List, [], ◌∷◌, ◌++◌, length, take, codes}
+use Rattle.map_lists.specs.Lists.{Lists}
+use Rattle.pg_plane.specs.declared.point.Point.{Point}
+use Rattle.figure_text.specs.Text.{grid_text}
+use Rattle.figure_text.specs.declared.figure.GridJob.{GridJob}
+use Rattle.svg_out.specs.Svg.{grid_svg}
+use Rattle.pigale_shell.specs.declared.form.Form.{Form}
+use Rattle.pigale_shell.specs.declared.form.Form.TheVariants.{Text, Svg}
+
+-- a closed line as a comment, which is closed too
+unfoldable pub commented : List ℕ → List ℕ
+commented line = codes "<!-- " ++ take (length line - 1) line ++ codes " -->" ++ 10 ∷ []
+
+-- a line that belongs to no figure
+abbrev pub line_in : Form → List ℕ → List ℕ
+line_in Text line = line
+line_in Svg line = commented line
+
+-- figure k, a straight-line drawing
+abbrev pub grid_in : Form → ℕ → GridJob → Lists → List Point → List ℕ
+grid_in Text k job lists points = grid_text k job lists points
+grid_in Svg k job lists points = grid_svg lists points

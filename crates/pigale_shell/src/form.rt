@@ -1,0 +1,60 @@
+//! In which form a job writes.
+ghost use Rattle.std.specs.Prelude.{◌≡◌, ◌++◌, length, OnOk, OnErr, IfOk};
+ghost use Rattle.map_definitions.specs.Maps.{IsSimpleMap};
+ghost use Rattle.pigale_shell.specs.Forms.{commented as comment_of, line_in as line_by, grid_in};
+
+use figure_text::{GridJob, print_grid};
+use half_edges::Rotations;
+use pg_plane::Points;
+use std::alloc::{AllocError, Global};
+use svg_out::svg_grid;
+
+/// How a job that draws writes its figures.
+#[derive(Clone, Copy, Debug, PartialEq, Eq)]
+pub enum Form {
+    /// As lines of text.
+    Text,
+    /// As SVG, and all other lines as comments.
+    Svg,
+}
+
+// A line as a comment.
+fn commented(alloc: Global, line: &[u8]) -> Result<Vec<u8>, AllocError>
+    ensures { IfOk result (λ text. text.items ≡ comment_of line.now) }
+{
+    let mut text = Vec::from_slice(alloc, b"<!-- ")?;
+    text.extend_from_slice(&line[..line.len().saturating_sub(1)])?;
+    text.extend_from_slice(b" -->\n")?;
+    Ok(text)
+}
+
+/// A line that belongs to no figure, in this form.
+pub(crate) fn line_in(alloc: Global, form: Form, line: Vec<u8>) -> Result<Vec<u8>, AllocError>
+    ensures { IfOk result (λ text. text.items ≡ line_by form line.items) }
+{
+    match form {
+        Form::Text => Ok(line),
+        Form::Svg => commented(alloc, &line),
+    }
+}
+
+/// Appends a straight-line drawing of a simple map in this form. After want of memory the bytes are as they were.
+pub(crate) fn print_grid_in(
+    alloc: Global,
+    form: Form,
+    number: u32,
+    job: GridJob,
+    lists: &Rotations,
+    points: &Points,
+    out: &mut Vec<u8>,
+) -> Result<(), AllocError>
+    requires simple { IsSimpleMap lists.now }
+    requires points { length points.now ≡ length lists.now }
+    ensures ok { OnOk result (out.new.items ≡ out.old.items ++ grid_in form number job lists.now points.now) }
+    ensures err { OnErr result (out.new.items ≡ out.old.items) }
+{
+    match form {
+        Form::Text => print_grid(alloc, number, job, lists, points, out),
+        Form::Svg => svg_grid(alloc, lists, points, out),
+    }
+}
