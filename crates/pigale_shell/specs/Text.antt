@@ -5,8 +5,8 @@ use Rattle.map_definitions.specs.Maps.{vertex_count, edge_count, face_count, com
 use Rattle.simple_maps.specs.Faults.{Fault, out_of_range, loop_at, repeated, one_sided, first_fault}
 use Rattle.pg_plane.specs.declared.figure.GridFigure.{GridFigure}
 use Rattle.shift_figures.specs.Figures.{IsShiftFigure}
-use Rattle.shift_figures.specs.Refusals.{Refusal, small, genus_above, shift_refusal}
-use Rattle.shift_figures.specs.Refusals as why
+use Rattle.drawing_orders.specs.Refusals.{Refusal, small, genus_above, draw_refusal}
+use Rattle.drawing_orders.specs.Refusals as why
 use Rattle.figure_text.specs.Text.{grid_text}
 use Rattle.figure_text.specs.declared.figure.GridJob.TheVariants.{Shift}
 use Rattle.planar_code.specs.Reading.{Ending, well, end_in_record, bad_count, too_long}
@@ -65,11 +65,11 @@ IsShiftText k lists None text = (figure : GridFigure) × IsShiftFigure lists fig
 IsShiftText k lists (Some refusal) text = text ≡ refusal_line k refusal
 
 abbrev pub IsShiftBlock : ℕ → Lists → List ℕ → Type 0
-IsShiftBlock k lists text = IsShiftText k lists (shift_refusal lists) text
+IsShiftBlock k lists text = IsShiftText k lists (draw_refusal lists) text
 
 -- the record is refused by `shift`
 abbrev pub shift_refuses : Lists → Bool
-shift_refuses lists = is_some (shift_refusal lists)
+shift_refuses lists = is_some (draw_refusal lists)
 
 -- the last line where the input ended well
 unfoldable pub end_line : ℕ → ℕ → List ℕ

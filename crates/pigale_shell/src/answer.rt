@@ -2,16 +2,17 @@
 ghost use Rattle.std.specs.Prelude.{◌≡◌, ◌<◌, ◌≤◌, ◌++◌, ◌↔◌, List, ℕ, length, true, false, not, IsTrue, IsFalse, IfOk, OnOk, OnErr};
 ghost use Rattle.pigale_shell.specs.Text.{count_block, count_refuses, IsShiftBlock, shift_refuses};
 ghost use Rattle.map_lists.specs.Lists.{Lists};
-ghost use Rattle.shift_figures.specs.Refusals.{shift_refusal};
-ghost use Rattle.shift_figures.specs.Names.{Names};
+ghost use Rattle.drawing_orders.specs.Refusals.{draw_refusal};
+ghost use Rattle.drawing_orders.specs.Names.{Names};
 ghost use Rattle.pigale_shell.specs.Answer.{IsBlock, is_refused};
 
 use super::job::Job;
 use super::lines::{count_line, drawing_refusal_line, refusal_line};
+use drawing_orders::DrawRefusal;
 use euler_faces::Counter;
 use figure_text::{GridJob, print_grid};
 use half_edges::{MapFault, Rotations};
-use shift_figures::{ShiftRefusal, shift_figure};
+use shift_figures::shift_figure;
 use std::alloc::{AllocError, Global};
 
 /// Appends the job's block for a planar_code record with these lists, which are from 1 to 4095, and
@@ -107,17 +108,17 @@ fn shift_record(
 fn refuse_drawing(
     alloc: Global,
     number: u32,
-    refusal: ShiftRefusal,
+    refusal: DrawRefusal,
     out: &mut Vec<u8>,
 ) -> Result<bool, AllocError>
-    ensures block { OnOk result ((lists : Lists) → Names (shift_refusal lists) refusal
+    ensures block { OnOk result ((lists : Lists) → Names (draw_refusal lists) refusal
         → (block : List ℕ) × IsShiftBlock number lists block × (out.new.items ≡ out.old.items ++ block)) }
-    ensures refused { IfOk result (λ served. (lists : Lists) → Names (shift_refusal lists) refusal
+    ensures refused { IfOk result (λ served. (lists : Lists) → Names (draw_refusal lists) refusal
         → served ≡ not (shift_refuses lists)) }
     ensures err { OnErr result (out.new.items ≡ out.old.items) }
 {
     match refusal {
-        ShiftRefusal::Fault(MapFault::NoMemory) => Err(AllocError),
+        DrawRefusal::Fault(MapFault::NoMemory) => Err(AllocError),
         _ => refuse(&drawing_refusal_line(alloc, number, refusal)?, out),
     }
 }

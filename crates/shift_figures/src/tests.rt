@@ -1,6 +1,7 @@
-//! Figures that are looked at point by point, and a refusal of each kind.
-use crate::{ShiftRefusal, shift_figure};
-use half_edges::{MapFault, Rotations};
+//! Figures that are looked at point by point, and a refusal.
+use crate::shift_figure;
+use drawing_orders::DrawRefusal;
+use half_edges::Rotations;
 use pg_plane::GridFigure;
 use std::alloc::Global;
 use std::process::Abort;
@@ -11,54 +12,13 @@ fn answer_to(
     rt: &impl Abort,
     alloc: Global,
     lists: &[&[u16]],
-) -> Result<Result<GridFigure, ShiftRefusal>, Fail> {
+) -> Result<Result<GridFigure, DrawRefusal>, Fail> {
     let mut rotations = Rotations::new(alloc);
     for list in lists {
         rotations.push(list)?;
     }
     assert!(rt; 0 < rotations.len() && rotations.len() < 4096);
     Ok(shift_figure(alloc, &rotations))
-}
-
-// Whether lists are refused just so.
-fn is_refused(
-    rt: &impl Abort,
-    alloc: Global,
-    lists: &[&[u16]],
-    refusal: ShiftRefusal,
-) -> Result<(), Fail> {
-    match answer_to(rt, alloc, lists)? {
-        Ok(_) => return Err("not refused".into()),
-        Err(given) => assert!(rt; given == refusal),
-    }
-    Ok(())
-}
-
-#[test]
-fn faults_of_a_map(rt: HostRuntime) -> Result<(), Fail> {
-    let beyond = ShiftRefusal::Fault(MapFault::OutOfRange(0, 2));
-    is_refused(&rt, rt.alloc(), &[&[2], &[1]], beyond)?;
-    let own = ShiftRefusal::Fault(MapFault::Loop(1));
-    is_refused(&rt, rt.alloc(), &[&[1], &[0, 1]], own)?;
-    let twice = ShiftRefusal::Fault(MapFault::Repeated(0, 1));
-    is_refused(&rt, rt.alloc(), &[&[1, 1], &[0]], twice)?;
-    let one_way = ShiftRefusal::Fault(MapFault::OneSided(0, 1));
-    is_refused(&rt, rt.alloc(), &[&[1], &[]], one_way)?;
-    Ok(())
-}
-
-#[test]
-fn too_few_vertices(rt: HostRuntime) -> Result<(), Fail> {
-    is_refused(&rt, rt.alloc(), &[&[]], ShiftRefusal::Small(1))?;
-    is_refused(&rt, rt.alloc(), &[&[1], &[0]], ShiftRefusal::Small(2))?;
-    Ok(())
-}
-
-#[test]
-fn on_a_torus(rt: HostRuntime) -> Result<(), Fail> {
-    let k4: [&[u16]; 4] = [&[1, 2, 3], &[0, 2, 3], &[0, 1, 3], &[0, 1, 2]];
-    is_refused(&rt, rt.alloc(), &k4, ShiftRefusal::Genus(1))?;
-    Ok(())
 }
 
 // Whether lists have a figure in a grid with these points for their first vertices.
@@ -106,4 +66,14 @@ fn three_isolated_vertices(rt: HostRuntime) -> Result<(), Fail> {
 fn two_triangles(rt: HostRuntime) -> Result<(), Fail> {
     let lists: [&[u16]; 6] = [&[1, 2], &[2, 0], &[0, 1], &[4, 5], &[5, 3], &[3, 4]];
     is_drawn(&rt, rt.alloc(), &lists, (8, 4), &[(8, 0), (0, 0)])
+}
+
+#[test]
+fn on_a_torus(rt: HostRuntime) -> Result<(), Fail> {
+    let k4: [&[u16]; 4] = [&[1, 2, 3], &[0, 2, 3], &[0, 1, 3], &[0, 1, 2]];
+    match answer_to(&rt, rt.alloc(), &k4)? {
+        Ok(_) => return Err("not refused".into()),
+        Err(refusal) => assert!(&rt; refusal == DrawRefusal::Genus(1)),
+    }
+    Ok(())
 }

@@ -1,4 +1,4 @@
--- Which lists have no figure: the first condition of the job that they break.
+-- Which lists have no drawing: the first condition that they break.
 use Rattle.std.specs.Prelude.{ℕ, nat_lt, if◌then◌else◌, Option, Some, None}
 use Rattle.map_lists.specs.Lists.{Lists}
 use Rattle.map_definitions.specs.Maps.{vertex_count, genus}
@@ -22,5 +22,5 @@ refusal_after (Some f) n g = Some (fault f)
 refusal_after None n g = map_refusal n g
 
 -- the first condition that lists break; None for a simple map of genus zero with at least three vertices
-abbrev pub shift_refusal : Lists → Option Refusal
-shift_refusal lists = refusal_after (first_fault lists) (vertex_count lists) (genus lists)
+abbrev pub draw_refusal : Lists → Option Refusal
+draw_refusal lists = refusal_after (first_fault lists) (vertex_count lists) (genus lists)

@@ -6,7 +6,7 @@ use Rattle.map_lists.specs.Lists.{Lists}
 use Rattle.map_definitions.specs.Maps.{IsSimpleMap, IsPlane, vertex_count, genus}
 use Rattle.simple_maps.specs.Faults.{Fault, first_fault}
 use Rattle.euler_bound.specs.Bound.{EulerBound}
-use Rattle.shift_figures.specs.Refusals.{small, genus_above, map_refusal, refusal_after, shift_refusal}
+use Rattle.drawing_orders.specs.Refusals.{small, genus_above, map_refusal, refusal_after, draw_refusal}
 
 -- of two choices neither is taken
 neither : {A : Type 0} → (a b : Bool) (x y : A) → cond a (Some x) (cond b (Some y) None) ≡ None → (a ≡ false) × (b ≡ false)
@@ -35,7 +35,7 @@ genus-plane lists bound simple zero = let g = bound lists simple in let e = g.1 
 plane-genus : (lists : Lists) → IsPlane lists → genus lists ≡ 0
 plane-genus lists plane = omega arith
 
-pub no_refusal : (lists : Lists) → EulerBound → (first_fault lists ≡ None) ↔ IsSimpleMap lists → (shift_refusal lists ≡ None) ↔ (IsSimpleMap lists × IsPlane lists × (3 ≤ vertex_count lists))
+pub no_refusal : (lists : Lists) → EulerBound → (first_fault lists ≡ None) ↔ IsSimpleMap lists → (draw_refusal lists ≡ None) ↔ (IsSimpleMap lists × IsPlane lists × (3 ≤ vertex_count lists))
 no_refusal lists bound simple = (
   λ h.
       let o = refusal_after-none (first_fault lists) (vertex_count lists) (genus lists) h in

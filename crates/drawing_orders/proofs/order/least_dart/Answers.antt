@@ -3,8 +3,8 @@ use Rattle.std.specs.Prelude.{option_map}
 use borrow.Author.Count.{below_more}
 use Rattle.map_definitions.specs.Maps.{HasDart, list_of, twin_dart}
 use Rattle.map_definitions.proofs.DartLemmas.{HasDart-at}
-use Rattle.shift_figures.proofs.FigureLemmas.{neighbour_in_completed}
-use Rattle.shift_figures.proofs.draw.least_dart.Goals as goal
+use Rattle.drawing_orders.proofs.CompletionLemmas.{neighbour_in_completed}
+use Rattle.drawing_orders.proofs.order.least_dart.Goals as goal
 
 pub loop-u-init : goal.loop-u-init
 loop-u-init c = λ u l d. c.requires.completed.simple.no_loop 0 u d (omega arith)
