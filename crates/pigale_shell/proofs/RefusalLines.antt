@@ -1,10 +1,10 @@
 -- The line of a refusal, put together.
 use Rattle.std.proofs.Common.{◌≡◌, ◌≢◌, ℕ, List, [], ◌∷◌, ◌++◌, codes, decimal, refl, ap, ◌∙◌}
 use Rattle.map_lists.specs.Lists.{Lists}
-use Rattle.shift_figures.specs.Refusals.{shift_refusal}
-use Rattle.shift_figures.specs.Names.{Names}
-use Rattle.shift_figures.specs.declared.refusal.ShiftRefusal.{ShiftRefusal}
-use Rattle.shift_figures.specs.declared.refusal.ShiftRefusal.TheVariants.{Fault, Small, Genus}
+use Rattle.drawing_orders.specs.Refusals.{draw_refusal}
+use Rattle.drawing_orders.specs.Names.{Names}
+use Rattle.drawing_orders.specs.declared.refusal.DrawRefusal.{DrawRefusal}
+use Rattle.drawing_orders.specs.declared.refusal.DrawRefusal.TheVariants.{Fault, Small, Genus}
 use Rattle.pigale_shell.specs.Text.{refused_line, refusal_line, IsShiftBlock}
 use Rattle.simple_maps.specs.declared.fault.MapFault.{MapFault}
 use Rattle.simple_maps.specs.declared.fault.MapFault.TheVariants.{OutOfRange, Loop, Repeated, OneSided, NoMemory}
@@ -25,16 +25,16 @@ WritesFault-from_parts k NoMemory front text is_text is_front = tt
 abbrev named_text : ℕ → List ℕ → ℕ → List ℕ
 named_text k name given = ((codes "refused" ++ 32 ∷ decimal k) ++ 32 ∷ (name ++ 32 ∷ decimal given)) ++ 10 ∷ []
 
-pub WritesRefusal-small : (k n given : ℕ) (name text : List ℕ) (refusal : ShiftRefusal) → refusal ≡ Small n → given ≡ n → name ≡ codes "5 Small" → text ≡ named_text k name given → WritesRefusal k refusal text
+pub WritesRefusal-small : (k n given : ℕ) (name text : List ℕ) (refusal : DrawRefusal) → refusal ≡ Small n → given ≡ n → name ≡ codes "5 Small" → text ≡ named_text k name given → WritesRefusal k refusal text
 unfolding refusal_line
 WritesRefusal-small k n given name text refusal is same named e = rw is (e ∙ ap (λ (f : List ℕ). named_text k f given) named ∙ ap (λ (g : ℕ). named_text k (codes "5 Small") g) same)
 
-pub WritesRefusal-genus : (k g given : ℕ) (name text : List ℕ) (refusal : ShiftRefusal) → refusal ≡ Genus g → given ≡ g → name ≡ codes "6 Genus" → text ≡ named_text k name given → WritesRefusal k refusal text
+pub WritesRefusal-genus : (k g given : ℕ) (name text : List ℕ) (refusal : DrawRefusal) → refusal ≡ Genus g → given ≡ g → name ≡ codes "6 Genus" → text ≡ named_text k name given → WritesRefusal k refusal text
 unfolding refusal_line
 WritesRefusal-genus k g given name text refusal is same named e = rw is (e ∙ ap (λ (f : List ℕ). named_text k f given) named ∙ ap (λ (h : ℕ). named_text k (codes "6 Genus") h) same)
 
 -- the line of a refusal that names the first condition which the record breaks is, in the form, the record's block
-pub IsShiftBlock-refused : (form : Form) (k : ℕ) (lists : Lists) (refusal : ShiftRefusal) (line : List ℕ) → Names (shift_refusal lists) refusal → refusal ≢ Fault NoMemory → WritesRefusal k refusal line → IsShiftBlock form k lists (line_in form line)
+pub IsShiftBlock-refused : (form : Form) (k : ℕ) (lists : Lists) (refusal : DrawRefusal) (line : List ℕ) → Names (draw_refusal lists) refusal → refusal ≢ Fault NoMemory → WritesRefusal k refusal line → IsShiftBlock form k lists (line_in form line)
 unfolding refusal_line
 IsShiftBlock-refused form k lists (Fault (OutOfRange v u)) line names other writes = rw names (ap (λ (l : List ℕ). line_in form l) writes)
 IsShiftBlock-refused form k lists (Fault (Loop v)) line names other writes = rw names (ap (λ (l : List ℕ). line_in form l) writes)

@@ -5,9 +5,9 @@ use Rattle.planar_code.specs.Reading.{Ending as SpokenEnding, well, end_in_recor
 use Rattle.pigale_shell.specs.Text.{fault_text, refused_line, refusal_line}
 use Rattle.simple_maps.specs.declared.fault.MapFault.{MapFault}
 use Rattle.simple_maps.specs.declared.fault.MapFault.TheVariants.{OutOfRange, Loop, Repeated, OneSided, NoMemory}
-use Rattle.shift_figures.specs.Refusals.{small, genus_above}
-use Rattle.shift_figures.specs.declared.refusal.ShiftRefusal.{ShiftRefusal}
-use Rattle.shift_figures.specs.declared.refusal.ShiftRefusal.TheVariants.{Fault, Small, Genus}
+use Rattle.drawing_orders.specs.Refusals.{small, genus_above}
+use Rattle.drawing_orders.specs.declared.refusal.DrawRefusal.{DrawRefusal}
+use Rattle.drawing_orders.specs.declared.refusal.DrawRefusal.TheVariants.{Fault, Small, Genus}
 use Rattle.pigale_shell.specs.declared.lines.Ending.{Ending}
 use Rattle.pigale_shell.specs.declared.lines.Ending.TheVariants.{Well, EndInRecord, BadCount, TooLong}
 
@@ -28,7 +28,7 @@ WritesFault k (OneSided v u) text = text ≡ refused_line k (one_sided v u)
 WritesFault k NoMemory text = Unit {0}
 
 -- the text is the line that refuses record k
-abbrev pub WritesRefusal : ℕ → ShiftRefusal → List ℕ → Type 0
+abbrev pub WritesRefusal : ℕ → DrawRefusal → List ℕ → Type 0
 WritesRefusal k (Fault f) text = WritesFault k f text
 WritesRefusal k (Small n) text = text ≡ refusal_line k (small n)
 WritesRefusal k (Genus g) text = text ≡ refusal_line k (genus_above g)

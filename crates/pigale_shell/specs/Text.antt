@@ -5,8 +5,8 @@ use Rattle.map_definitions.specs.Maps.{vertex_count, edge_count, face_count, com
 use Rattle.simple_maps.specs.Faults.{Fault, out_of_range, loop_at, repeated, one_sided, first_fault}
 use Rattle.pg_plane.specs.declared.figure.GridFigure.{GridFigure}
 use Rattle.shift_figures.specs.Figures.{IsShiftFigure}
-use Rattle.shift_figures.specs.Refusals.{Refusal, small, genus_above, shift_refusal}
-use Rattle.shift_figures.specs.Refusals as why
+use Rattle.drawing_orders.specs.Refusals.{Refusal, small, genus_above, draw_refusal}
+use Rattle.drawing_orders.specs.Refusals as why
 use Rattle.figure_text.specs.declared.figure.GridJob.TheVariants.{Shift}
 use Rattle.pigale_shell.specs.Forms.{line_in, grid_in}
 use Rattle.pigale_shell.specs.declared.form.Form.{Form}
@@ -66,11 +66,11 @@ IsShiftText form k lists None text = (figure : GridFigure) × IsShiftFigure list
 IsShiftText form k lists (Some refusal) text = text ≡ line_in form (refusal_line k refusal)
 
 abbrev pub IsShiftBlock : Form → ℕ → Lists → List ℕ → Type 0
-IsShiftBlock form k lists text = IsShiftText form k lists (shift_refusal lists) text
+IsShiftBlock form k lists text = IsShiftText form k lists (draw_refusal lists) text
 
 -- the record is refused by `shift`
 abbrev pub shift_refuses : Lists → Bool
-shift_refuses lists = is_some (shift_refusal lists)
+shift_refuses lists = is_some (draw_refusal lists)
 
 -- the last line where the input ended well
 unfoldable pub end_line : ℕ → ℕ → List ℕ

@@ -2,8 +2,8 @@
 ghost use Rattle.std.specs.Prelude.{◌≡◌, ◌<◌, ◌≤◌, ◌++◌, ◌↔◌, List, ℕ, length, true, false, not, None, IsTrue, IsFalse, IfOk, OnOk, OnErr};
 ghost use Rattle.pigale_shell.specs.Text.{count_block, count_refuses, IsShiftBlock, shift_refuses};
 ghost use Rattle.map_lists.specs.Lists.{Lists};
-ghost use Rattle.shift_figures.specs.Refusals.{shift_refusal};
-ghost use Rattle.shift_figures.specs.Names.{Names};
+ghost use Rattle.drawing_orders.specs.Refusals.{draw_refusal};
+ghost use Rattle.drawing_orders.specs.Names.{Names};
 ghost use Rattle.pigale_shell.specs.Answer.{IsBlock, is_refused};
 ghost use Rattle.pigale_shell.specs.JobInput.{reads_planar};
 ghost use Rattle.pigale_shell.specs.Forms.{line_in as line_by, grid_in};
@@ -11,11 +11,12 @@ ghost use Rattle.pigale_shell.specs.Forms.{line_in as line_by, grid_in};
 use super::form::{Form, line_in, print_grid_in};
 use super::job::Job;
 use super::lines::{count_line, drawing_refusal_line, refusal_line};
+use drawing_orders::{DrawRefusal, no_refusal_is_plane};
 use euler_faces::Counter;
 use figure_text::GridJob;
 use half_edges::{MapFault, Rotations};
 use pg_plane::Points;
-use shift_figures::{ShiftRefusal, no_refusal_is_plane, shift_figure};
+use shift_figures::shift_figure;
 use std::alloc::{AllocError, Global};
 
 /// Appends the block of a job over planar_code for a record with these lists, which are from 1 to 4095, and
@@ -118,7 +119,7 @@ fn draw_record(
     out: &mut Vec<u8>,
 ) -> Result<bool, AllocError>
     requires some_list { 0 < length lists.now }
-    requires served { shift_refusal lists.now ≡ None }
+    requires served { draw_refusal lists.now ≡ None }
     requires points { length points.now ≡ length lists.now }
     ensures block { OnOk result (out.new.items ≡ out.old.items ++ grid_in form number GridJob.Shift lists.now points.now) }
     ensures served { IfOk result (λ served. served ≡ true) }
@@ -134,17 +135,17 @@ fn refuse_drawing(
     alloc: Global,
     form: Form,
     number: u32,
-    refusal: ShiftRefusal,
+    refusal: DrawRefusal,
     out: &mut Vec<u8>,
 ) -> Result<bool, AllocError>
-    ensures block { OnOk result ((lists : Lists) → Names (shift_refusal lists) refusal
+    ensures block { OnOk result ((lists : Lists) → Names (draw_refusal lists) refusal
         → (block : List ℕ) × IsShiftBlock form number lists block × (out.new.items ≡ out.old.items ++ block)) }
-    ensures refused { IfOk result (λ served. (lists : Lists) → Names (shift_refusal lists) refusal
+    ensures refused { IfOk result (λ served. (lists : Lists) → Names (draw_refusal lists) refusal
         → served ≡ not (shift_refuses lists)) }
     ensures err { OnErr result (out.new.items ≡ out.old.items) }
 {
     match refusal {
-        ShiftRefusal::Fault(MapFault::NoMemory) => Err(AllocError),
+        DrawRefusal::Fault(MapFault::NoMemory) => Err(AllocError),
         _ => refuse_in(
             alloc,
             form,

@@ -4,10 +4,10 @@ ghost use Rattle.pigale_shell.specs.Text.{counts_line, refused_line, bad_words_l
 ghost use Rattle.map_definitions.specs.Maps.{genus_of};
 ghost use Rattle.pigale_shell.specs.Lines.{fault_bytes, WritesFault, WritesRefusal, ending_of};
 
+use drawing_orders::DrawRefusal;
 use euler_faces::EulerCount;
 use half_edges::MapFault;
 use itoa::Buffer;
-use shift_figures::ShiftRefusal;
 use std::alloc::{AllocError, Global};
 
 /// How the bytes of an input end.
@@ -112,14 +112,14 @@ fn named_line(alloc: Global, number: u32, name: &[u8], given: u64) -> Result<Vec
 pub fn drawing_refusal_line(
     alloc: Global,
     number: u32,
-    refusal: ShiftRefusal,
+    refusal: DrawRefusal,
 ) -> Result<Vec<u8>, AllocError>
     ensures { IfOk result (λ line. WritesRefusal number refusal line.items) }
 {
     match refusal {
-        ShiftRefusal::Fault(fault) => refusal_line(alloc, number, fault),
-        ShiftRefusal::Small(n) => named_line(alloc, number, b"5 Small", u64::from(n)),
-        ShiftRefusal::Genus(g) => named_line(alloc, number, b"6 Genus", u64::from(g)),
+        DrawRefusal::Fault(fault) => refusal_line(alloc, number, fault),
+        DrawRefusal::Small(n) => named_line(alloc, number, b"5 Small", u64::from(n)),
+        DrawRefusal::Genus(g) => named_line(alloc, number, b"6 Genus", u64::from(g)),
     }
 }
 

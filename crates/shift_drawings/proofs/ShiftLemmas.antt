@@ -1,29 +1,13 @@
 -- The shift points of a canonical order are a drawing.
-use Rattle.std.proofs.Common.{◌≡◌, ℕ, suc, ◌+◌, ◌-◌, ◌*◌, ◌<◌, ◌≤◌, true, List, [], ◌∷◌, map, length, get_or, All, pos, ◌<ℤ◌, refl, sym, ap, ap₂, ◌∙◌, subst, inl, inr, arith}
-use Rattle.std.specs.List.{range_with_len}
+use Rattle.std.proofs.Common.{◌≡◌, ℕ, ◌+◌, ◌-◌, ◌*◌, ◌<◌, ◌≤◌, List, length, pos, sym, ap, ap₂, ◌∙◌, subst, arith}
 use Rattle.std.proofs.lemmas.Int.{ints}
-use Rattle.std.proofs.lemmas.List.{get_or_default}
-use Rattle.std.proofs.lemmas.List.FromFn.{length-map-range_with_len, get_or-map-range_with_len}
 use Rattle.pg_plane.specs.declared.point.Point.{Point}
-use Rattle.pg_plane.specs.Geometry.{area}
-use Rattle.face_geometry.proofs.Identities.{area_turned}
 use Rattle.map_lists.specs.Lists.{Lists}
-use Rattle.map_definitions.specs.Maps.{Dart, HasDart, follows, place_of, entry_after}
-use Rattle.map_definitions.specs.Paths.{SameFace}
-use Rattle.map_definitions.proofs.DartLemmas.{place_of-get_or}
+use Rattle.map_definitions.specs.Maps.{Dart, HasDart}
 use Rattle.plane_laws.specs.Completed.{IsCompleted}
-use Rattle.map_peeling.specs.Restricted.{IsFaceOfThree, IsDartOfThree}
-use Rattle.map_peeling.specs.NearTriangulations.{IsOuterCycle, IsOuterDart}
-use Rattle.map_peeling.specs.Laws.{NothingTakenOff, OuterCycleIsFace}
-use Rattle.map_peeling.proofs.Rings.{entry_after-inside, entry_after-last}
-use Rattle.map_peeling.proofs.RestrictedMaps.{restricted_all}
-use Rattle.drawings.specs.Drawing.{place, IsInGrid, IsCounterclockwise}
-use Rattle.drawings.specs.Law.{CounterclockwiseIsPlane}
+use Rattle.drawings.specs.Drawing.{place, IsInGrid}
 use Rattle.canon_order.specs.Orders.{IsCanonicalOrder}
-use Rattle.canon_order.proofs.Counters.{all_of_them}
-use Rattle.contour_runs.specs.Runs.{Step, stage_after, IsRun, IsFaceOf}
-use Rattle.contour_runs.proofs.Stages.{IsStage-run, IsRun-less, count-stage_after}
-use Rattle.order_runs.specs.OrderRuns.{IsMadeByStep, IsOrderRun}
+use Rattle.run_drawings.specs.RunDrawings.{IsCounterclockwiseRun, CounterclockwiseRunDraws}
 use Rattle.shift_points.specs.Shift.{shift_points, point_of}
 use Rattle.shift_points.specs.Laws.{StandsAt, IsCornered}
 use Rattle.shift_points.proofs.Areas.{opened_area}
@@ -31,157 +15,48 @@ use Rattle.shift_points.proofs.Opening.{opened_run}
 use Rattle.shift_points.proofs.Corners.{in_grid, cornered, base_clockwise}
 use Rattle.shift_drawings.specs.ShiftDrawings.{AreShiftPoints, IsShiftDrawing}
 
--- the vertices of a face that a run makes are placed
-ends : (steps : ℕ → Step) (n : ℕ) → IsRun steps n → (k i a b v : ℕ) → k < n → IsFaceOf steps k i a b v → (a < n + 2) × (b < n + 2) × (v < n + 2)
-ends steps n run k i a b v l f =
-    let g = stage_after steps k in
-    let stage = IsStage-run steps k (IsRun-less steps k n (omega arith) run) in
-    let w = (run k l).within in
-    let hi = f.high in
-    let c = count-stage_after steps k in
-    let p = stage.placed i (omega arith) in
-    let q = stage.placed (suc i) (omega arith) in
-    let e = f.left in
-    let d = f.right in
-    let t = f.new in
-    (omega arith, omega arith, omega arith)
+module _ (lists : Lists) (base : Dart) (at : List ℕ) (points : List Point) (completed : IsCompleted lists) (dart : HasDart lists base.0 base.1) (order : IsCanonicalOrder lists base at) (h : AreShiftPoints lists base at order.cycle points) where
+  abbrev last : ℕ
+  last = length at - 2
 
--- the darts of the face of the base
-module _ (lists : Lists) (base : Dart) (completed : IsCompleted lists) (dart : HasDart lists base.0 base.1) (peeled : NothingTakenOff) (face : OuterCycleIsFace) where
-  abbrev third : ℕ
-  third = follows lists base.1 base.0
+  abbrev point : ℕ → Point
+  point = point_of (shift_points h.steps last)
 
-  abbrev round : List ℕ
-  round = base.1 ∷ third ∷ base.0 ∷ []
+  some_at : 3 ≤ length at
+  some_at = let c = order.count in let s = completed.some in omega arith
 
-  whole : IsOuterCycle lists base.1 base.0 round
-  whole =
-      subst (λ map. IsOuterCycle map base.1 base.0 round) (restricted_all lists (λ v. true) completed.simple (λ v l. refl))
-      (peeled lists (λ v. true) base.1 base.0 completed dart (λ v l. refl)).near.cycle
-
-  on_base : (x y : ℕ) → HasDart lists x y → IsDartOfThree base.0 base.1 third x y → SameFace lists base (x, y)
-  on_base x y d three = (face lists base.1 base.0 round completed.simple whole x y d).1 (outer three)
-    where
-      outer : IsDartOfThree base.0 base.1 third x y → IsOuterDart round x y
-      outer (inl e) = ((2, omega arith, sym e.0), ap (λ z. entry_after z round) e.0 ∙ entry_after-last (base.1 ∷ third ∷ []) base.0 whole.distinct ∙ sym e.1)
-      outer (inr (inl e)) = ((0, omega arith, sym e.0), ap (λ z. entry_after z round) e.0 ∙ entry_after-inside [] base.1 third (base.0 ∷ []) whole.distinct ∙ sym e.1)
-      outer (inr (inr e)) = ((1, omega arith, sym e.0), ap (λ z. entry_after z round) e.0 ∙ entry_after-inside (base.1 ∷ []) third base.0 [] whole.distinct ∙ sym e.1)
-
-  module _ (at : List ℕ) (points : List Point) (order : IsCanonicalOrder lists base at) (h : AreShiftPoints lists base at order.cycle points) where
-    abbrev last : ℕ
-    last = length at - 2
-
-    abbrev point : ℕ → Point
-    point = point_of (shift_points h.steps last)
-
-    abbrev name : ℕ → ℕ
-    name k = get_or at k 0
-
-    some_at : 3 ≤ length at
-    some_at = let c = order.count in let s = completed.some in omega arith
-
-    -- the corners of a face by a dart of it
-    corner : (a b c x y : ℕ) → x ≡ a → y ≡ b → follows lists b a ≡ c → pos 0 <ℤ area (place points a) (place points b) (place points c) → pos 0 <ℤ area (place points x) (place points y) (place points (follows lists y x))
-    corner a b c x y ex ey f p =
-        let e : c ≡ follows lists y x = sym f ∙ ap₂ (λ u w. follows lists u w) (sym ey) (sym ex) in
-        subst (λ z. pos 0 <ℤ area (place points x) (place points y) (place points z)) e
-        (subst (λ z. pos 0 <ℤ area (place points x) (place points z) (place points c)) (sym ey) (subst (λ z. pos 0 <ℤ area (place points z) (place points b) (place points c)) (sym ex) p))
-
-    by_dart : (a b v x y : ℕ) → IsFaceOfThree lists a b v → pos 0 <ℤ area (place points a) (place points b) (place points v) → IsDartOfThree a b v x y → pos 0 <ℤ area (place points x) (place points y) (place points (follows lists y x))
-    by_dart a b v x y f p (inl e) = corner a b v x y e.0 e.1 f.second p
-    by_dart a b v x y f p (inr (inl e)) = corner b v a x y e.0 e.1 f.third (subst (λ z. pos 0 <ℤ z) (sym (area_turned (place points a) (place points b) (place points v))) p)
-    by_dart a b v x y f p (inr (inr e)) = corner v a b x y e.0 e.1 f.round (subst (λ z. pos 0 <ℤ z) (area_turned (place points v) (place points a) (place points b)) p)
-
-    -- the three of the base
-    place_first : place points base.1 ≡ point 0
-    place_first = let some = some_at in ap (place points) (sym order.built.first) ∙ h.placed 0 (omega arith)
-
-    place_second : place points base.0 ≡ point 1
-    place_second = let some = some_at in ap (place points) (sym order.built.second) ∙ h.placed 1 (omega arith)
-
-    place_third : place points third ≡ point (length at - 1)
-    place_third =
-        let some = some_at in
-        let n = order.count in
-        let e : length lists - 1 ≡ length at - 1 = omega arith in
-        ap (place points) (sym order.last ∙ ap name e) ∙ h.placed (length at - 1) (omega arith)
-
-    -- a vertex that stands at a point
-    at_point : (v x y : ℕ) → StandsAt (shift_points h.steps last) v x y → point v ≡ record { x = pos x; y = pos y }
-    at_point v x y e = ap₂ (λ n m. record { x = pos n; y = pos m }) e.0 e.1
-
-    -- a face that was made, at its points
-    made_area : (k i a b v : ℕ) → k + 2 < length at → IsFaceOf h.steps k i a b v → pos 0 <ℤ area (place points (name a)) (place points (name b)) (place points (name v))
-    made_area k i a b v l f =
-        let some = some_at in
-        let low = ends h.steps last h.order.run k i a b v (omega arith) f in
-        let p = opened_area (shift_points h.steps last) a b v (opened_run h.steps last k i a b v h.order.run (omega arith) f) in
-        subst (λ z. pos 0 <ℤ area (place points (name a)) (place points (name b)) z) (sym (h.placed v (omega (arith, low.2))))
-        (subst (λ z. pos 0 <ℤ area (place points (name a)) z (point v)) (sym (h.placed b (omega (arith, low.1))))
-        (subst (λ z. pos 0 <ℤ area z (point b) (point v)) (sym (h.placed a (omega (arith, low.0)))) p))
-
-    -- so is each dart of it
-    made_dart : (x y : ℕ) → IsMadeByStep at h.steps x y → pos 0 <ℤ area (place points x) (place points y) (place points (follows lists y x))
-    made_dart x y m =
-        let p = made_area m.step m.place m.a m.b m.v m.earlier m.face in
-        let f = h.order.faces m.step m.place m.a m.b m.v m.earlier m.face in
-        by_dart (name m.a) (name m.b) (name m.v) x y f p m.dart
-
-    inner : (x y : ℕ) → HasDart lists x y → ¬ SameFace lists base (x, y) → pos 0 <ℤ area (place points x) (place points y) (place points (follows lists y x))
-    inner x y d other = made_dart x y (h.order.made x y d (λ three. other (on_base x y d three)))
-
-    corners : IsCornered (shift_points h.steps last) (length at)
-    corners = let some = some_at in cornered h.steps last (length at) h.order.run (omega arith) some h.order.end
-
-    base_outside : area (place points base.0) (place points base.1) (place points third) <ℤ pos 0
-    base_outside =
-        let some = some_at in
-        let p = base_clockwise h.steps last (length at) h.order.run (omega arith) some h.order.end in
-        subst (λ z. area (place points base.0) (place points base.1) z <ℤ pos 0) (sym place_third)
-        (subst (λ z. area (place points base.0) z (point (length at - 1)) <ℤ pos 0) (sym place_first) (subst (λ z. area z (point 0) (point (length at - 1)) <ℤ pos 0) (sym place_second) p))
-
-    pub drawing : CounterclockwiseIsPlane → IsShiftDrawing lists base points
-    drawing law =
-        let n = order.count in
-        let some = some_at in
-        let ccw : IsCounterclockwise lists points base = record { inner = inner; outer = base_outside } in
-        let good = law lists points base completed dart ccw in
-        let c = corners in
-        let e : 2 * length at - 4 ≡ 2 * length lists - 4 = omega arith in
-        let d : length at - 2 ≡ length lists - 2 = omega arith in
-        record {
-          counterclockwise = ccw;
-          plane = good.0;
-          rotations = good.1;
-          grid = λ v l.
-              let all = all_of_them at v (subst (λ m. All (λ u. u < m) at) (sym n) order.vertices) order.built.once (omega arith) in
-              let k = all.0 in
-              let on = all.1 in
-              let same : name k ≡ v = get_or_default at k 0 v on ∙ all.2 in
-              let g = in_grid h.steps last (length at) k h.order.run (omega arith) on in
-              subst (λ z. IsInGrid (pos (2 * length lists - 4)) (pos (length lists - 2)) z) (sym (h.placed k on) ∙ ap (place points) same)
-              record { left = omega (arith, ints); right = omega (arith, ints, g.0); bottom = omega (arith, ints); top = omega (arith, ints, g.1) };
-          first = place_first ∙ at_point 0 0 0 c.first;
-          second = place_second ∙ at_point 1 (2 * length at - 4) 0 c.second ∙ ap (λ m. record { x = pos m; y = pos 0 }) e;
-          top = place_third ∙ at_point (length at - 1) (length at - 2) (length at - 2) c.top ∙ ap (λ m. record { x = pos m; y = pos m }) d;
-        }
-
--- points for the places of an order
-module _ (lists : Lists) (base : Dart) (at : List ℕ) (order : IsCanonicalOrder lists base at) (steps : ℕ → Step) (run : IsOrderRun lists base at order.cycle steps) where
-  abbrev shifted : ℕ → Point
-  shifted k = point_of (shift_points steps (length at - 2)) k
-
-  abbrev pub drawn : List Point
-  drawn = map (λ v. shifted (place_of v at)) (range_with_len 0 (length lists))
-
-  pub are_shift_points : AreShiftPoints lists base at order.cycle drawn
-  are_shift_points =
-      let n = order.count in
+  good : IsCounterclockwiseRun h.steps (length at) point
+  good =
+      let some = some_at in
       record {
-        steps = steps;
-        order = run;
-        count = length-map-range_with_len (λ v. shifted (place_of v at)) 0 (length lists);
-        placed = λ k l.
-            get_or-map-range_with_len (λ v. shifted (place_of v at)) 0 (length lists) (get_or at k 0) (get_or at k 0) (record { x = pos 0; y = pos 0 }) (order.vertices k 0 l) (omega arith)
-            ∙ ap shifted (place_of-get_or at k 0 order.built.once l);
+        made = λ k i a b v l f. opened_area (shift_points h.steps last) a b v (opened_run h.steps last k i a b v h.order.run (omega arith) f);
+        outside = base_clockwise h.steps last (length at) h.order.run (omega arith) some h.order.end;
+      }
+
+  corners : IsCornered (shift_points h.steps last) (length at)
+  corners = let some = some_at in cornered h.steps last (length at) h.order.run (omega arith) some h.order.end
+
+  -- a vertex that stands at a point
+  at_point : (v x y : ℕ) → StandsAt (shift_points h.steps last) v x y → point v ≡ record { x = pos x; y = pos y }
+  at_point v x y e = ap₂ (λ n m. record { x = pos n; y = pos m }) e.0 e.1
+
+  pub drawing : CounterclockwiseRunDraws → IsShiftDrawing lists base points
+  drawing law =
+      let d = law lists base at h.steps point points completed dart order h.order good h.placed in
+      let n = order.count in
+      let some = some_at in
+      let c = corners in
+      record {
+        counterclockwise = d.counterclockwise;
+        plane = d.plane;
+        rotations = d.rotations;
+        grid = λ v l.
+            let k = d.each v l in
+            let in_order : k.0 < length at = let small = k.1 in omega arith in
+            let g = in_grid h.steps last (length at) k.0 h.order.run (omega arith) in_order in
+            subst (λ z. IsInGrid (pos (2 * length lists - 4)) (pos (length lists - 2)) z) (sym k.2)
+            record { left = omega (arith, ints); right = omega (arith, ints, g.0); bottom = omega (arith, ints); top = omega (arith, ints, g.1) };
+        first = d.first ∙ at_point 0 0 0 c.first;
+        second = d.second ∙ at_point 1 (2 * length at - 4) 0 c.second ∙ ap (λ m. record { x = pos (2 * m - 4); y = pos 0 }) n;
+        top = d.top ∙ ap (λ m. point (m - 1)) (sym n) ∙ at_point (length at - 1) (length at - 2) (length at - 2) c.top ∙ ap (λ m. record { x = pos (m - 2); y = pos (m - 2) }) n;
       }

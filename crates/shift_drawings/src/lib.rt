@@ -9,9 +9,7 @@ ghost use Rattle.shift_drawings.specs.ShiftDrawings.{ShiftPointsDraw, SomeShiftP
 pub fn shift_points_draw()
     ensures { ShiftPointsDraw }
 {
-    map_peeling::nothing_taken_off();
-    map_peeling::outer_cycle_is_face();
-    drawings::counterclockwise_is_plane();
+    run_drawings::counterclockwise_run_draws();
 }
 
 /// Each canonical order of a completed map has shift points.
@@ -19,6 +17,7 @@ pub fn some_shift_points()
     ensures { SomeShiftPoints }
 {
     order_runs::order_is_run();
+    run_drawings::points_of_order();
 }
 
 /// Each completed map has such a drawing, for each base dart.

@@ -1,35 +1,7 @@
--- Which lists have a figure, and its three places, on worked cases. Each is a computation.
-use Rattle.std.specs.Prelude.{◌≡◌, [], ◌∷◌, Some, None, refl}
-use Rattle.label_classes.specs.Classes.{merge}
-use Rattle.map_definitions.specs.Maps.{entry_after, face_count, component_count}
-use Rattle.simple_maps.specs.Faults.{one_sided, first_fault}
+-- The three places of a figure, on a worked case.
+use Rattle.std.specs.Prelude.{[], ◌∷◌, refl}
 use Rattle.std.proofs.Common.{arith}
 use Rattle.shift_figures.specs.Figures.{point_at, IsPlaced}
-use Rattle.shift_figures.specs.Refusals.{fault, small, genus_above, shift_refusal}
-
--- three isolated vertices, and two triangles, have one
-isolated_three : shift_refusal ([] ∷ [] ∷ [] ∷ []) ≡ None
-unfolding entry_after merge face_count component_count first_fault
-isolated_three = refl
-
-two_triangles : shift_refusal ((1 ∷ 2 ∷ []) ∷ (2 ∷ 0 ∷ []) ∷ (0 ∷ 1 ∷ []) ∷ (4 ∷ 5 ∷ []) ∷ (5 ∷ 3 ∷ []) ∷ (3 ∷ 4 ∷ []) ∷ []) ≡ None
-unfolding entry_after merge face_count component_count first_fault
-two_triangles = refl
-
--- an edge alone has too few vertices
-one_edge : shift_refusal ((1 ∷ []) ∷ (0 ∷ []) ∷ []) ≡ Some (small 2)
-unfolding entry_after merge face_count component_count first_fault
-one_edge = refl
-
--- the complete graph of four vertices with one list turned round lies on a torus
-torus : shift_refusal ((1 ∷ 2 ∷ 3 ∷ []) ∷ (0 ∷ 2 ∷ 3 ∷ []) ∷ (0 ∷ 1 ∷ 3 ∷ []) ∷ (0 ∷ 1 ∷ 2 ∷ []) ∷ []) ≡ Some (genus_above 1)
-unfolding entry_after merge face_count component_count first_fault
-torus = refl
-
--- a fault is named before the number of vertices
-one_sided_two : shift_refusal ((1 ∷ []) ∷ [] ∷ []) ≡ Some (fault (one_sided 0 1))
-unfolding first_fault
-one_sided_two = refl
 
 -- the complete graph of four vertices as it is drawn: vertices 0, 1 and 3 at the corners
 k4_placed : IsPlaced ((1 ∷ 2 ∷ 3 ∷ []) ∷ (0 ∷ 3 ∷ 2 ∷ []) ∷ (0 ∷ 1 ∷ 3 ∷ []) ∷ (0 ∷ 2 ∷ 1 ∷ []) ∷ []) (point_at 4 0 ∷ point_at 0 0 ∷ point_at 2 1 ∷ point_at 2 2 ∷ [])

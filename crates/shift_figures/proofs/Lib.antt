@@ -1,4 +1,3 @@
 -- Lemmas for figures.
 pub mod FigureLemmas
-pub mod RefusalLemmas
 mod Cases

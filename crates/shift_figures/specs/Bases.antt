@@ -1,17 +1,10 @@
 -- Drawings of completed maps for a base, which is a dart.
-use Rattle.std.specs.Prelude.{ℕ, ◌-◌, ◌*◌, ◌<◌, ◌≡◌, List, length, Some, pos}
+use Rattle.std.specs.Prelude.{ℕ, ◌-◌, ◌*◌, ◌<◌, ◌≡◌, List, length, pos}
 use Rattle.map_lists.specs.Lists.{Lists}
 use Rattle.map_definitions.specs.Maps.{Dart, HasDart}
-use Rattle.half_edges.specs.Map.{Map, dart_at}
 use Rattle.pg_plane.specs.declared.figure.GridFigure.{GridFigure}
 use Rattle.canon_order.specs.Orders.{IsCanonicalOrder}
 use Rattle.shift_drawings.specs.ShiftDrawings.{IsShiftDrawing}
-
--- the dart of an id leads from vertex 0 to its least neighbour
-pub record LeadsToLeast (map : Map) (id : ℕ) : Type 0 where
-  pub to : ℕ
-  pub dart : dart_at map id ≡ Some (0, to)
-  pub least : (u : ℕ) → u < to → ¬ HasDart map.lists 0 u
 
 -- the figure has a point for each vertex of a completed map, which are a drawing for the base, and it has the grid of that drawing
 pub record IsDrawnFor (lists : Lists) (base : Dart) (figure : GridFigure) : Type 0 where

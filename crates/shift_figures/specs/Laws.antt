@@ -1,15 +1,9 @@
 -- Which lists have a figure.
-use Rattle.std.specs.Prelude.{◌<◌, ◌≤◌, ◌≡◌, ◌↔◌, length, None}
+use Rattle.std.specs.Prelude.{◌≤◌}
 use Rattle.map_lists.specs.Lists.{Lists}
 use Rattle.map_definitions.specs.Maps.{IsSimpleMap, IsPlane, vertex_count}
 use Rattle.pg_plane.specs.declared.figure.GridFigure.{GridFigure}
 use Rattle.shift_figures.specs.Figures.{IsShiftFigure}
-use Rattle.shift_figures.specs.Refusals.{shift_refusal}
-
--- Lists of at least one vertex break no condition exactly where they are a simple map of genus zero with at least three vertices.
-abbrev pub NoRefusalIsPlane : Type 0
-NoRefusalIsPlane =
-    (lists : Lists) → 0 < length lists → (shift_refusal lists ≡ None) ↔ (IsSimpleMap lists × IsPlane lists × (3 ≤ vertex_count lists))
 
 -- Each simple map of genus zero with at least three vertices has a figure.
 abbrev pub SomeShiftFigure : Type 0

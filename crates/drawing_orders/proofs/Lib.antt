@@ -1,0 +1,4 @@
+-- Lemmas on records as completed maps.
+pub mod CompletionLemmas
+pub mod RefusalLemmas
+mod Cases

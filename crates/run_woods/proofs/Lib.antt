@@ -1,0 +1,4 @@
+-- The lemmas on woods of runs.
+pub mod ParentLemmas
+pub mod Corners
+mod Cases

@@ -1,0 +1,3 @@
+-- The woods of runs.
+pub mod Parents
+pub mod Rules

@@ -1,0 +1,3 @@
+-- Lemmas for figures.
+pub mod FigureLemmas
+mod Cases
