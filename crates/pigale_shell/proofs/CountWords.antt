@@ -20,7 +20,7 @@ use Rattle.pigale_shell.specs.Words.{IsCountWords, Given, command, given, given_
 use Rattle.pigale_shell.specs.declared.form.Form.{Form}
 use Rattle.pigale_shell.specs.declared.form.Form.TheVariants as forms
 use Rattle.pigale_shell.specs.declared.job.Job.{Job}
-use Rattle.pigale_shell.specs.declared.job.Job.TheVariants.{Count, Shift, Gen}
+use Rattle.pigale_shell.specs.declared.job.Job.TheVariants.{Count, Shift, Schnyder, Gen}
 
 -- ---- lists of kinds
 
@@ -335,11 +335,16 @@ abbrev is_count : Option Job → Bool
 is_count None = false
 is_count (Some Count) = true
 is_count (Some (Shift form)) = false
+is_count (Some (Schnyder form)) = false
 is_count (Some (Gen size number)) = false
 
 shift_unlike : (form : Option Form) → is_count (option_map (λ f. Shift f) form) ≡ false
 shift_unlike None = refl
 shift_unlike (Some form) = refl
+
+schnyder_unlike : (form : Option Form) → is_count (option_map (λ f. Schnyder f) form) ≡ false
+schnyder_unlike None = refl
+schnyder_unlike (Some form) = refl
 
 gen_unlike : (size number : Option ℕ) → is_count (gen_of size number) ≡ false
 gen_unlike None number = refl
@@ -351,10 +356,11 @@ given_unlike true size number = refl
 given_unlike false size number = gen_unlike size number
 
 -- the jobs behind the first are not `Count`
-other_unlike : (shift gen : Bool) (form : Option Form) (made : Option Job) → is_count made ≡ false → (if shift then option_map (λ f. Shift f) form else (if gen then made else None)) ≡ Some Count → ⊥
-other_unlike true gen form made unlike e = true≢false (sym (ap is_count e) ∙ shift_unlike form)
-other_unlike false true form made unlike e = true≢false (sym (ap is_count e) ∙ unlike)
-other_unlike false false form made unlike e = none≢some Count e
+other_unlike : (shift schnyder gen : Bool) (form : Option Form) (made : Option Job) → is_count made ≡ false → (if shift then option_map (λ f. Shift f) form else (if schnyder then option_map (λ f. Schnyder f) form else (if gen then made else None))) ≡ Some Count → ⊥
+other_unlike true schnyder gen form made unlike e = true≢false (sym (ap is_count e) ∙ shift_unlike form)
+other_unlike false true gen form made unlike e = true≢false (sym (ap is_count e) ∙ schnyder_unlike form)
+other_unlike false false true form made unlike e = true≢false (sym (ap is_count e) ∙ unlike)
+other_unlike false false false form made unlike e = none≢some Count e
 
 without_option : (b o : Bool) (other : Option Job) → (other ≡ Some Count → ⊥) → (if b && not o then Some Count else other) ≡ Some Count → (b ≡ true) × (o ≡ false)
 without_option true true other unlike e = absurd (unlike e)
@@ -367,7 +373,7 @@ count_without_option g e = go g.job e
     go : (o : Option Text) → option_and_then (job_named g) o ≡ Some Count → has_option g ≡ false
     go None unlike = absurd (none≢some Count unlike)
     go (Some word) is =
-        (without_option (bytes_eq word (codes "count")) (has_option g) _ (other_unlike (bytes_eq word (codes "shift")) (bytes_eq word (codes "gen")) (form_given g) (gen_given g) (given_unlike (is_some g.form) (number_given 3 4095 g.size) (number_given 0 4294967295 g.number))) is).1
+        (without_option (bytes_eq word (codes "count")) (has_option g) _ (other_unlike (bytes_eq word (codes "shift")) (bytes_eq word (codes "schnyder")) (bytes_eq word (codes "gen")) (form_given g) (gen_given g) (given_unlike (is_some g.form) (number_given 3 4095 g.size) (number_given 0 4294967295 g.number))) is).1
 
 or_true : (a b : Bool) → b ≡ true → (a || b) ≡ true
 or_true true b e = refl
@@ -475,8 +481,8 @@ takes_of words e =
     go [] is = (refl, is)
     go (x ∷ xs) is = absurd (none≢some Count is)
 
-not_both : (b shift gen : Bool) → (if b && true then Some Count else (if shift then Some (Shift forms.Text) else (if gen then None else None))) ≡ Some Count → b ≡ true
-not_both b shift gen e = (without_option b false _ (other_unlike shift gen (Some forms.Text) None refl) e).0
+not_both : (b shift schnyder gen : Bool) → (if b && true then Some Count else (if shift then Some (Shift forms.Text) else (if schnyder then Some (Schnyder forms.Text) else (if gen then None else None)))) ≡ Some Count → b ≡ true
+not_both b shift schnyder gen e = (without_option b false _ (other_unlike shift schnyder gen (Some forms.Text) None refl) e).0
 
 abbrev the_job : Text → Option (Text × List Text)
 the_job word = Some (codes "job", word ∷ [])

@@ -5,9 +5,10 @@ use Rattle.drawing_orders.specs.Refusals.{draw_refusal}
 use Rattle.drawing_orders.specs.Names.{Names}
 use Rattle.drawing_orders.specs.declared.refusal.DrawRefusal.{DrawRefusal}
 use Rattle.drawing_orders.specs.declared.refusal.DrawRefusal.TheVariants.{Fault, Small, Genus}
-use Rattle.pigale_shell.specs.Text.{refused_line, refusal_line, IsShiftBlock}
+use Rattle.pigale_shell.specs.Text.{refused_line, refusal_line, IsGridBlock}
 use Rattle.simple_maps.specs.declared.fault.MapFault.{MapFault}
 use Rattle.simple_maps.specs.declared.fault.MapFault.TheVariants.{OutOfRange, Loop, Repeated, OneSided, NoMemory}
+use Rattle.figure_text.specs.declared.figure.GridJob.{GridJob}
 use Rattle.pigale_shell.specs.Forms.{line_in}
 use Rattle.pigale_shell.specs.declared.form.Form.{Form}
 use Rattle.pigale_shell.specs.Lines.{fault_bytes, WritesFault, WritesRefusal}
@@ -34,12 +35,12 @@ unfolding refusal_line
 WritesRefusal-genus k g given name text refusal is same named e = rw is (e ∙ ap (λ (f : List ℕ). named_text k f given) named ∙ ap (λ (h : ℕ). named_text k (codes "6 Genus") h) same)
 
 -- the line of a refusal that names the first condition which the record breaks is, in the form, the record's block
-pub IsShiftBlock-refused : (form : Form) (k : ℕ) (lists : Lists) (refusal : DrawRefusal) (line : List ℕ) → Names (draw_refusal lists) refusal → refusal ≢ Fault NoMemory → WritesRefusal k refusal line → IsShiftBlock form k lists (line_in form line)
+pub IsGridBlock-refused : (job : GridJob) (form : Form) (k : ℕ) (lists : Lists) (refusal : DrawRefusal) (line : List ℕ) → Names (draw_refusal lists) refusal → refusal ≢ Fault NoMemory → WritesRefusal k refusal line → IsGridBlock job form k lists (line_in form line)
 unfolding refusal_line
-IsShiftBlock-refused form k lists (Fault (OutOfRange v u)) line names other writes = rw names (ap (λ (l : List ℕ). line_in form l) writes)
-IsShiftBlock-refused form k lists (Fault (Loop v)) line names other writes = rw names (ap (λ (l : List ℕ). line_in form l) writes)
-IsShiftBlock-refused form k lists (Fault (Repeated v u)) line names other writes = rw names (ap (λ (l : List ℕ). line_in form l) writes)
-IsShiftBlock-refused form k lists (Fault (OneSided v u)) line names other writes = rw names (ap (λ (l : List ℕ). line_in form l) writes)
-IsShiftBlock-refused form k lists (Fault NoMemory) line names other writes = absurd (other refl)
-IsShiftBlock-refused form k lists (Small n) line names other writes = rw names (ap (λ (l : List ℕ). line_in form l) writes)
-IsShiftBlock-refused form k lists (Genus g) line names other writes = rw names (ap (λ (l : List ℕ). line_in form l) writes)
+IsGridBlock-refused job form k lists (Fault (OutOfRange v u)) line names other writes = rw names (ap (λ (l : List ℕ). line_in form l) writes)
+IsGridBlock-refused job form k lists (Fault (Loop v)) line names other writes = rw names (ap (λ (l : List ℕ). line_in form l) writes)
+IsGridBlock-refused job form k lists (Fault (Repeated v u)) line names other writes = rw names (ap (λ (l : List ℕ). line_in form l) writes)
+IsGridBlock-refused job form k lists (Fault (OneSided v u)) line names other writes = rw names (ap (λ (l : List ℕ). line_in form l) writes)
+IsGridBlock-refused job form k lists (Fault NoMemory) line names other writes = absurd (other refl)
+IsGridBlock-refused job form k lists (Small n) line names other writes = rw names (ap (λ (l : List ℕ). line_in form l) writes)
+IsGridBlock-refused job form k lists (Genus g) line names other writes = rw names (ap (λ (l : List ℕ). line_in form l) writes)

@@ -2,31 +2,35 @@
 use Rattle.std.specs.Prelude.{ℕ, List, Bool, false, not, ◌≡◌}
 use Rattle.map_lists.specs.Lists.{Lists}
 use Rattle.record_runs.specs.Texts.{Answers}
-use Rattle.pigale_shell.specs.Text.{count_block, count_refuses, IsShiftBlock, shift_refuses, last_line}
+use Rattle.pigale_shell.specs.Text.{count_block, count_refuses, IsGridBlock, draw_refuses, last_line}
 use Rattle.pigale_shell.specs.Forms.{line_in}
 use Rattle.pigale_shell.specs.declared.form.Form.{Form}
 use Rattle.pigale_shell.specs.declared.form.Form.TheVariants.{Text}
 use Rattle.pigale_shell.specs.Lines.{ending_of}
 use Rattle.pigale_shell.specs.declared.lines.Ending.{Ending}
 use Rattle.pigale_shell.specs.declared.job.Job.{Job}
-use Rattle.pigale_shell.specs.declared.job.Job.TheVariants.{Count, Shift, Gen}
+use Rattle.pigale_shell.specs.declared.job.Job.TheVariants.{Count, Shift, Schnyder, Gen}
+use Rattle.figure_text.specs.declared.figure.GridJob.TheVariants as drawn
 
 -- the text is the job's answer for record k; there is none by a job that reads no records
 abbrev pub IsBlock : Job → ℕ → Lists → List ℕ → Type 0
 IsBlock Count k lists text = text ≡ count_block k lists
-IsBlock (Shift form) k lists text = IsShiftBlock form k lists text
+IsBlock (Shift form) k lists text = IsGridBlock drawn.Shift form k lists text
+IsBlock (Schnyder form) k lists text = IsGridBlock drawn.Schnyder form k lists text
 IsBlock (Gen size number) k lists text = ⊥
 
 -- the record counts as refused
 abbrev pub is_refused : Job → Lists → Bool
 is_refused Count lists = count_refuses lists
-is_refused (Shift form) lists = shift_refuses lists
+is_refused (Shift form) lists = draw_refuses lists
+is_refused (Schnyder form) lists = draw_refuses lists
 is_refused (Gen size number) lists = false
 
 -- the form in which the job writes
 abbrev pub job_form : Job → Form
 job_form Count = Text
 job_form (Shift form) = form
+job_form (Schnyder form) = form
 job_form (Gen size number) = Text
 
 -- both, and the last line

@@ -5,9 +5,11 @@ use Rattle.map_definitions.specs.Maps.{vertex_count, edge_count, face_count, com
 use Rattle.simple_maps.specs.Faults.{Fault, out_of_range, loop_at, repeated, one_sided, first_fault}
 use Rattle.pg_plane.specs.declared.figure.GridFigure.{GridFigure}
 use Rattle.shift_figures.specs.Figures.{IsShiftFigure}
+use Rattle.schnyder_figures.specs.Figures.{IsSchnyderFigure}
 use Rattle.drawing_orders.specs.Refusals.{Refusal, small, genus_above, draw_refusal}
 use Rattle.drawing_orders.specs.Refusals as why
-use Rattle.figure_text.specs.declared.figure.GridJob.TheVariants.{Shift}
+use Rattle.figure_text.specs.declared.figure.GridJob.{GridJob}
+use Rattle.figure_text.specs.declared.figure.GridJob.TheVariants.{Shift, Schnyder}
 use Rattle.pigale_shell.specs.Forms.{line_in, grid_in}
 use Rattle.pigale_shell.specs.declared.form.Form.{Form}
 use Rattle.planar_code.specs.Reading.{Ending, well, end_in_record, bad_count, too_long}
@@ -54,23 +56,28 @@ count_block k lists = block_by k lists (first_fault lists)
 abbrev pub count_refuses : Lists → Bool
 count_refuses lists = is_some (first_fault lists)
 
--- the line that refuses record k by the first condition of the job `shift` that it breaks
+-- the line that refuses record k by the first condition of a job that draws in a grid which it breaks
 unfoldable pub refusal_line : ℕ → Refusal → List ℕ
 refusal_line k (why.fault f) = refused_line k f
 refusal_line k (small n) = line (word_and_number (codes "refused") k ++ 32 ∷ word_and_number (codes "5 Small") n)
 refusal_line k (genus_above g) = line (word_and_number (codes "refused") k ++ 32 ∷ word_and_number (codes "6 Genus") g)
 
--- what `shift` writes for record k: a figure that is valid for the job, or the refusal that names the first condition that the record breaks
-abbrev pub IsShiftText : Form → ℕ → Lists → Option Refusal → List ℕ → Type 0
-IsShiftText form k lists None text = (figure : GridFigure) × IsShiftFigure lists figure × (text ≡ grid_in form k Shift lists figure.points)
-IsShiftText form k lists (Some refusal) text = text ≡ line_in form (refusal_line k refusal)
+-- the figure is valid for a job that draws in a grid
+abbrev pub IsFigureOf : GridJob → Lists → GridFigure → Type 0
+IsFigureOf Shift lists figure = IsShiftFigure lists figure
+IsFigureOf Schnyder lists figure = IsSchnyderFigure lists figure
 
-abbrev pub IsShiftBlock : Form → ℕ → Lists → List ℕ → Type 0
-IsShiftBlock form k lists text = IsShiftText form k lists (draw_refusal lists) text
+-- what such a job writes for record k: a figure that is valid for it, or the refusal that names the first condition that the record breaks
+abbrev pub IsGridText : GridJob → Form → ℕ → Lists → Option Refusal → List ℕ → Type 0
+IsGridText job form k lists None text = (figure : GridFigure) × IsFigureOf job lists figure × (text ≡ grid_in form k job lists figure.points)
+IsGridText job form k lists (Some refusal) text = text ≡ line_in form (refusal_line k refusal)
 
--- the record is refused by `shift`
-abbrev pub shift_refuses : Lists → Bool
-shift_refuses lists = is_some (draw_refusal lists)
+abbrev pub IsGridBlock : GridJob → Form → ℕ → Lists → List ℕ → Type 0
+IsGridBlock job form k lists text = IsGridText job form k lists (draw_refusal lists) text
+
+-- the record is refused by it
+abbrev pub draw_refuses : Lists → Bool
+draw_refuses lists = is_some (draw_refusal lists)
 
 -- the last line where the input ended well
 unfoldable pub end_line : ℕ → ℕ → List ℕ

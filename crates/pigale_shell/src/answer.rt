@@ -1,6 +1,6 @@
 //! The answer to one record.
-ghost use Rattle.std.specs.Prelude.{◌≡◌, ◌<◌, ◌≤◌, ◌++◌, ◌↔◌, List, ℕ, length, true, false, not, None, IsTrue, IsFalse, IfOk, OnOk, OnErr};
-ghost use Rattle.pigale_shell.specs.Text.{count_block, count_refuses, IsShiftBlock, shift_refuses};
+ghost use Rattle.std.specs.Prelude.{◌≡◌, ◌<◌, ◌≤◌, ◌++◌, ◌↔◌, List, ℕ, length, true, false, not, None, IsTrue, IsFalse, IfOk, IfErr, OnOk, OnErr};
+ghost use Rattle.pigale_shell.specs.Text.{count_block, count_refuses, IsFigureOf, IsGridBlock, draw_refuses};
 ghost use Rattle.map_lists.specs.Lists.{Lists};
 ghost use Rattle.drawing_orders.specs.Refusals.{draw_refusal};
 ghost use Rattle.drawing_orders.specs.Names.{Names};
@@ -15,7 +15,8 @@ use drawing_orders::{DrawRefusal, no_refusal_is_plane};
 use euler_faces::Counter;
 use figure_text::GridJob;
 use half_edges::{MapFault, Rotations};
-use pg_plane::Points;
+use pg_plane::{GridFigure, Points};
+use schnyder_figures::schnyder_figure;
 use shift_figures::shift_figure;
 use std::alloc::{AllocError, Global};
 
@@ -62,7 +63,8 @@ pub(crate) fn answer_with(
 {
     match job {
         Job::Count => count_record(alloc, counter, number, lists, out),
-        Job::Shift(form) => shift_record(alloc, form, number, lists, out),
+        Job::Shift(form) => grid_record(alloc, GridJob::Shift, form, number, lists, out),
+        Job::Schnyder(form) => grid_record(alloc, GridJob::Schnyder, form, number, lists, out),
         Job::Gen(..) => unreachable!(),
     }
 }
@@ -88,9 +90,29 @@ fn count_record(
     }
 }
 
-// Appends the figure of a record, or its refusal.
-fn shift_record(
+// The figure of a record by a job that draws in a grid, or why it has none.
+fn grid_figure(
     alloc: Global,
+    job: GridJob,
+    lists: &Rotations,
+) -> Result<GridFigure, DrawRefusal>
+    requires some_list { 0 < length lists.now }
+    requires few_lists { length lists.now < 4096 }
+    ensures figure { IfOk result (IsFigureOf job lists.now) }
+    ensures count { IfOk result (λ figure. length figure.points ≡ length lists.now) }
+    ensures served { OnOk result (draw_refusal lists.now ≡ None) }
+    ensures refused { IfErr result (Names (draw_refusal lists.now)) }
+{
+    match job {
+        GridJob::Shift => shift_figure(alloc, lists),
+        GridJob::Schnyder => schnyder_figure(alloc, lists),
+    }
+}
+
+// Appends the figure of a record, or its refusal.
+fn grid_record(
+    alloc: Global,
+    job: GridJob,
     form: Form,
     number: u32,
     lists: &Rotations,
@@ -99,12 +121,12 @@ fn shift_record(
     requires some_list { 0 < length lists.now }
     requires few_lists { length lists.now < 4096 }
     ensures block { OnOk result
-        ((block : List ℕ) × IsShiftBlock form number lists.now block × (out.new.items ≡ out.old.items ++ block)) }
-    ensures served { IfOk result (λ served. served ≡ not (shift_refuses lists.now)) }
+        ((block : List ℕ) × IsGridBlock job form number lists.now block × (out.new.items ≡ out.old.items ++ block)) }
+    ensures served { IfOk result (λ served. served ≡ not (draw_refuses lists.now)) }
     ensures err { OnErr result (out.new.items ≡ out.old.items) }
 {
-    match shift_figure(alloc, lists) {
-        Ok(figure) => draw_record(alloc, form, number, lists, &figure.points, out),
+    match grid_figure(alloc, job, lists) {
+        Ok(figure) => draw_record(alloc, job, form, number, lists, &figure.points, out),
         Err(refusal) => refuse_drawing(alloc, form, number, refusal, out),
     }
 }
@@ -112,6 +134,7 @@ fn shift_record(
 // Appends the figure of a record that breaks no condition.
 fn draw_record(
     alloc: Global,
+    job: GridJob,
     form: Form,
     number: u32,
     lists: &Rotations,
@@ -121,12 +144,12 @@ fn draw_record(
     requires some_list { 0 < length lists.now }
     requires served { draw_refusal lists.now ≡ None }
     requires points { length points.now ≡ length lists.now }
-    ensures block { OnOk result (out.new.items ≡ out.old.items ++ grid_in form number GridJob.Shift lists.now points.now) }
+    ensures block { OnOk result (out.new.items ≡ out.old.items ++ grid_in form number job lists.now points.now) }
     ensures served { IfOk result (λ served. served ≡ true) }
     ensures err { OnErr result (out.new.items ≡ out.old.items) }
 {
     no_refusal_is_plane();
-    print_grid_in(alloc, form, number, GridJob::Shift, lists, points, out)?;
+    print_grid_in(alloc, form, number, job, lists, points, out)?;
     Ok(true)
 }
 
@@ -138,10 +161,10 @@ fn refuse_drawing(
     refusal: DrawRefusal,
     out: &mut Vec<u8>,
 ) -> Result<bool, AllocError>
-    ensures block { OnOk result ((lists : Lists) → Names (draw_refusal lists) refusal
-        → (block : List ℕ) × IsShiftBlock form number lists block × (out.new.items ≡ out.old.items ++ block)) }
+    ensures block { OnOk result ((job : GridJob) (lists : Lists) → Names (draw_refusal lists) refusal
+        → (block : List ℕ) × IsGridBlock job form number lists block × (out.new.items ≡ out.old.items ++ block)) }
     ensures refused { IfOk result (λ served. (lists : Lists) → Names (draw_refusal lists) refusal
-        → served ≡ not (shift_refuses lists)) }
+        → served ≡ not (draw_refuses lists)) }
     ensures err { OnErr result (out.new.items ≡ out.old.items) }
 {
     match refusal {

@@ -12,6 +12,8 @@ pub enum Job {
     Count,
     /// Draws each map of genus zero with at least three vertices by the shift method.
     Shift(Form),
+    /// Draws the same maps by Schnyder's coordinates.
+    Schnyder(Form),
     /// Makes the map of so many vertices from a number, and draws it. It reads nothing.
     Gen(u16, u32),
 }
@@ -23,7 +25,7 @@ impl Job {
     {
         match self {
             Job::Count | Job::Gen(..) => Form::Text,
-            Job::Shift(form) => form,
+            Job::Shift(form) | Job::Schnyder(form) => form,
         }
     }
 }
