@@ -13,6 +13,8 @@ mod failing;
 #[cfg(test)]
 mod made;
 #[cfg(test)]
+mod pictures;
+#[cfg(test)]
 mod rows;
 #[cfg(test)]
 mod runs;

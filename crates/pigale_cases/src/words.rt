@@ -3,7 +3,7 @@ use crate::runs::{TRIANGLE, TRIANGLE_TEXT, run_over};
 use pg_io::SureSource;
 use std::test::Fail;
 
-const BAD: [(&str, &[&str]); 47] = [
+const BAD: [(&str, &[&str]); 46] = [
     ("none, which a word that is not UTF-8 leaves too", &[]),
     ("an empty word", &[""]),
     ("an empty word before the job", &["", "count"]),
@@ -39,6 +39,8 @@ const BAD: [(&str, &[&str]); 47] = [
         &["count", "--form", "svg"],
     ),
     ("the same, in one word", &["count", "--form=svg"]),
+    ("a form that there is not", &["shift", "--form", "png"]),
+    ("a form in capitals", &["shift", "--form", "SVG"]),
     ("the same, before the job", &["--size", "4", "count"]),
     ("the same, with an empty text", &["count", "--number="]),
     ("an option without a text", &["count", "--number"]),
