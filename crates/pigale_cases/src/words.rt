@@ -3,7 +3,7 @@ use crate::runs::{TRIANGLE, TRIANGLE_TEXT, run_over};
 use pg_io::SureSource;
 use std::test::Fail;
 
-const BAD: [(&str, &[&str]); 46] = [
+const BAD: [(&str, &[&str]); 49] = [
     ("none, which a word that is not UTF-8 leaves too", &[]),
     ("an empty word", &[""]),
     ("an empty word before the job", &["", "count"]),
