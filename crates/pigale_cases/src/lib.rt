@@ -11,6 +11,8 @@ mod drawn;
 #[cfg(test)]
 mod failing;
 #[cfg(test)]
+mod made;
+#[cfg(test)]
 mod rows;
 #[cfg(test)]
 mod runs;

@@ -3,7 +3,7 @@ use crate::runs::{TRIANGLE, TRIANGLE_TEXT, run_over};
 use pg_io::SureSource;
 use std::test::Fail;
 
-const BAD: [(&str, &[&str]); 35] = [
+const BAD: [(&str, &[&str]); 47] = [
     ("none, which a word that is not UTF-8 leaves too", &[]),
     ("an empty word", &[""]),
     ("an empty word before the job", &["", "count"]),
@@ -47,6 +47,39 @@ const BAD: [(&str, &[&str]); 35] = [
     (
         "an option with two texts",
         &["--form", "svg", "text", "count"],
+    ),
+    ("a made map without options", &["gen"]),
+    ("one without a number", &["gen", "--size", "5"]),
+    ("one without a size", &["gen", "--number", "0"]),
+    (
+        "one of two vertices",
+        &["gen", "--size", "2", "--number", "0"],
+    ),
+    ("one too large", &["gen", "--size", "4096", "--number", "0"]),
+    (
+        "one by a number too large",
+        &["gen", "--size", "5", "--number", "4294967296"],
+    ),
+    (
+        "a size that begins with a zero",
+        &["gen", "--size", "05", "--number", "0"],
+    ),
+    (
+        "a number that begins with a zero",
+        &["gen", "--size", "5", "--number", "00"],
+    ),
+    (
+        "a number with a sign",
+        &["gen", "--size", "5", "--number", "+1"],
+    ),
+    ("an empty number", &["gen", "--size", "5", "--number="]),
+    (
+        "a made map with a form",
+        &["gen", "--size", "5", "--number", "0", "--form", "text"],
+    ),
+    (
+        "a size for a job that draws",
+        &["shift", "--size", "5", "--number", "0"],
     ),
 ];
 

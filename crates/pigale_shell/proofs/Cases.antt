@@ -1,5 +1,5 @@
 -- The text of a run, on worked cases. Each is a computation: the two sides come to the same value.
-use Rattle.std.specs.Prelude.{◌-◌, ◌≡◌, [], ◌∷◌, ◌++◌, map, codes, refl, Some, None}
+use Rattle.std.specs.Prelude.{pos, ◌-◌, ◌≡◌, [], ◌∷◌, ◌++◌, map, codes, refl, Some, None}
 use Rattle.label_classes.specs.Classes.{merge}
 use Rattle.std.specs.Fmt.{digits}
 use Rattle.map_lists.specs.Lists.{Lists}
@@ -7,7 +7,9 @@ use Rattle.map_definitions.specs.Maps.{entry_after, face_count, component_count}
 use Rattle.simple_maps.specs.Faults.{first_fault}
 use Rattle.clap.proofs.OnLiterals.{clap_on_literals}
 use Rattle.pigale_shell.specs.Words.{given, job_of}
-use Rattle.pigale_shell.specs.declared.job.Job.TheVariants.{Count}
+use Rattle.pigale_shell.specs.declared.job.Job.TheVariants.{Count, Gen}
+use Rattle.pigale_shell.specs.Numbers.{number_in}
+use Rattle.pigale_shell.specs.Made.{sums_line}
 use Rattle.pigale_shell.specs.Text.{count_block, counts_line, refused_line, end_line}
 
 -- lists with vertices numbered from 1, as they are printed
@@ -69,3 +71,41 @@ form_twice = refl
 form_without_text : given (codes "count" ∷ codes "--form" ∷ []) ≡ None
 unfolding given clap_on_literals
 form_without_text = refl
+
+-- numbers that a text spells, and texts that spell none in a range
+
+least_size : number_in 3 4095 (codes "3") ≡ Some 3
+least_size = refl
+
+greatest_number : number_in 0 4294967295 (codes "4294967295") ≡ Some 4294967295
+greatest_number = refl
+
+beyond_the_greatest : number_in 0 4294967295 (codes "4294967296") ≡ None
+beyond_the_greatest = refl
+
+begins_with_zero : number_in 3 4095 (codes "05") ≡ None
+begins_with_zero = refl
+
+with_a_sign : number_in 3 4095 (codes "+5") ≡ None
+with_a_sign = refl
+
+no_digits : number_in 0 9 [] ≡ None
+no_digits = refl
+
+-- the words of `gen`, and its second line
+
+gen_with_both : job_of (codes "gen" ∷ codes "--size" ∷ codes "4" ∷ codes "--number=7" ∷ []) ≡ Some (Gen 4 7)
+unfolding given clap_on_literals
+gen_with_both = refl
+
+gen_without_number : job_of (codes "gen" ∷ codes "--size" ∷ codes "5" ∷ []) ≡ None
+unfolding given clap_on_literals
+gen_without_number = refl
+
+gen_with_form : job_of (codes "gen" ∷ codes "--size" ∷ codes "4" ∷ codes "--number" ∷ codes "7" ∷ codes "--form=text" ∷ []) ≡ None
+unfolding given clap_on_literals
+gen_with_form = refl
+
+line_of_sums : sums_line 1 (pos 15) (pos 6) ≡ codes "verdict 1 yes sum 15 6" ++ 10 ∷ []
+unfolding sums_line digits
+line_of_sums = refl

@@ -2,6 +2,8 @@
 mod RefusalLines
 mod PlanarLemmas
 mod OutcomeLemmas
+mod MadeLemmas
+mod NumberLemmas
 mod WordLemmas
 mod CountWords
 mod Cases

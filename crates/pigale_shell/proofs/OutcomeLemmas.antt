@@ -1,12 +1,12 @@
 -- How a run of the top call ends.
-use Rattle.std.proofs.Common.{◌≡◌, ℕ, List, [], refl, sym, ap, ◌∙◌, inl, arith, Option, Some, None}
+use Rattle.std.proofs.Common.{◌≡◌, ℕ, List, [], refl, sym, ap, subst, ◌∙◌, inl, arith, Option, Some, None, true, true≢false}
 use Rattle.planar_code.specs.Reading.{Ending as SpokenEnding, well, end_in_record, bad_count, too_long}
 use Rattle.planar_code.specs.State.{at_front}
 use Rattle.planar_code.proofs.ProgressLemmas.{Progress-start, Progress-begins}
 use Rattle.planar_code.proofs.ReadingLemmas.{reading-unique}
 use Rattle.pg_io.specs.Io.{HasRisen}
 use Rattle.pg_io.proofs.Growth.{GrowsByPrefix-none}
-use Rattle.record_runs.specs.Outcome.{Ports, Outcome as RunOutcome}
+use Rattle.record_runs.specs.Outcome.{Ports, ports, Outcome as RunOutcome}
 use Rattle.record_runs.specs.declared.run.RunEnd.{RunEnd}
 use Rattle.record_runs.specs.declared.run.RunEnd.TheVariants as ended
 use Rattle.pigale_shell.specs.Text.{bad_words_line}
@@ -15,10 +15,11 @@ use Rattle.pigale_shell.specs.declared.lines.Ending.{Ending}
 use Rattle.pigale_shell.specs.declared.lines.Ending.TheVariants.{Well, EndInRecord, BadCount, TooLong}
 use Rattle.pigale_shell.specs.Answer.{planar_answers}
 use Rattle.pigale_shell.specs.PlanarCode.{planar_code}
-use Rattle.pigale_shell.specs.JobInput.{RecordOf, EndingOf, reads_of, answers_of}
+use Rattle.pigale_shell.specs.Made.{made, made_answers}
+use Rattle.pigale_shell.specs.JobInput.{RecordOf, EndingOf, reads_of, answers_of, reads_planar, left_of}
 use Rattle.pigale_shell.specs.Outcome.{Outcome, GrowsByText, MayEnd, status_of}
 use Rattle.pigale_shell.specs.declared.job.Job.{Job}
-use Rattle.pigale_shell.specs.declared.job.Job.TheVariants.{Count, Shift}
+use Rattle.pigale_shell.specs.declared.job.Job.TheVariants.{Count, Shift, Gen}
 use Rattle.pigale_shell.specs.declared.job.Status.{Status}
 use Rattle.pigale_shell.specs.declared.job.Status.TheVariants.{Done, SomeRefused, BadWords, BadInput, ReadFault, WriteFault, NoMemory}
 
@@ -42,11 +43,13 @@ one_ending Count input records records' ending ending' reading reading' =
     sym (told-ending_of ending) ∙ ap told (reading-unique input records records' (ending_of ending) (ending_of ending') reading reading').1 ∙ told-ending_of ending'
 one_ending Shift input records records' ending ending' reading reading' =
     sym (told-ending_of ending) ∙ ap told (reading-unique input records records' (ending_of ending) (ending_of ending') reading reading').1 ∙ told-ending_of ending'
+one_ending (Gen size number) input records records' ending ending' reading reading' = refl
 
 -- each input begins with no records
 begins_none : (job : Job) (input : List ℕ) → (reads_of job).BeginsWith input []
 begins_none Count input = Progress-begins [] [] at_front input Progress-start (omega arith)
 begins_none Shift input = Progress-begins [] [] at_front input Progress-start (omega arith)
+begins_none (Gen size number) input = inl refl
 
 -- nothing was written: a part of any text
 pub GrowsByText-none : (found : Option Job) (left o : Option (List ℕ)) → GrowsByText found left o o
@@ -70,10 +73,19 @@ Outcome-of job before after ended.ReadFault outcome = outcome
 Outcome-of job before after ended.WriteFault outcome = outcome
 Outcome-of job before after ended.NoMemory outcome = outcome
 
--- a run over planar_code, as a job over it has it
-pub Outcome-planar : (job : Job) (before after : Ports) (end : RunEnd) → RunOutcome planar_code (planar_answers job) before after end → Outcome job before after (status_of end)
-Outcome-planar Count before after end outcome = Outcome-of Count before after end outcome
-Outcome-planar Shift before after end outcome = Outcome-of Shift before after end outcome
+module _ (job : Job) (left left' : Option (List ℕ)) (reads reads' writes writes' : ℕ) (written written' : Option (List ℕ)) (end : RunEnd) where
+  -- what holds of a run of the job between these moments, which ended thus
+  abbrev IsOutcome : Type 0
+  IsOutcome = Outcome job (ports (left_of job left) reads written writes) (ports (left_of job left') reads' written' writes') (status_of end)
+
+  -- a run over planar_code, as a job over it has it
+  pub Outcome-planar : reads_planar job ≡ true → RunOutcome planar_code (planar_answers job) (ports left reads written writes) (ports left' reads' written' writes') end → IsOutcome
+  Outcome-planar = elim job as (λ job. reads_planar job ≡ true → RunOutcome planar_code (planar_answers job) (ports left reads written writes) (ports left' reads' written' writes') end → Outcome job (ports (left_of job left) reads written writes) (ports (left_of job left') reads' written' writes') (status_of end)) [ Count ↦ λ over outcome. Outcome-of Count _ _ end outcome | Shift ↦ λ over outcome. Outcome-of Shift _ _ end outcome | Gen size number ↦ λ over outcome. absurd (true≢false (sym over)) ]
+
+  -- a run that makes its record, as its job has it
+  pub Outcome-made : (size number : ℕ) → job ≡ Gen size number → RunOutcome (made size number) made_answers (ports (Some []) reads written writes) (ports (Some []) reads' written' writes') end → IsOutcome
+  Outcome-made size number is outcome =
+      subst (λ (job : Job). Outcome job (ports (left_of job left) reads written writes) (ports (left_of job left') reads' written' writes') (status_of end)) (sym is) (Outcome-of (Gen size number) _ _ end outcome)
 
 -- where nothing failed the ending of the input decides the status
 pub Outcome-complete : (job : Job) (before after : Ports) (status : Status) (input : List ℕ) (records : List (RecordOf job)) (ending : EndingOf job) → Outcome job before after status → before.left ≡ Some input → (reads_of job).IsReading input records ending → ¬ HasRisen before.read_faults after.read_faults → ¬ HasRisen before.write_faults after.write_faults → MayEnd job ending status

@@ -1,22 +1,24 @@
 -- What each job over planar_code writes.
-use Rattle.std.specs.Prelude.{ℕ, List, Bool, ◌≡◌}
+use Rattle.std.specs.Prelude.{ℕ, List, Bool, false, ◌≡◌}
 use Rattle.map_lists.specs.Lists.{Lists}
 use Rattle.record_runs.specs.Texts.{Answers}
 use Rattle.pigale_shell.specs.Text.{count_block, count_refuses, IsShiftBlock, shift_refuses, last_line}
 use Rattle.pigale_shell.specs.Lines.{ending_of}
 use Rattle.pigale_shell.specs.declared.lines.Ending.{Ending}
 use Rattle.pigale_shell.specs.declared.job.Job.{Job}
-use Rattle.pigale_shell.specs.declared.job.Job.TheVariants.{Count, Shift}
+use Rattle.pigale_shell.specs.declared.job.Job.TheVariants.{Count, Shift, Gen}
 
--- the text is the job's answer for record k
+-- the text is the job's answer for record k; there is none by a job that reads no records
 abbrev pub IsBlock : Job → ℕ → Lists → List ℕ → Type 0
 IsBlock Count k lists text = text ≡ count_block k lists
 IsBlock Shift k lists text = IsShiftBlock k lists text
+IsBlock (Gen size number) k lists text = ⊥
 
 -- the record counts as refused
 abbrev pub is_refused : Job → Lists → Bool
 is_refused Count lists = count_refuses lists
 is_refused Shift lists = shift_refuses lists
+is_refused (Gen size number) lists = false
 
 -- both, and the last line
 abbrev pub planar_answers : Job → Answers Lists Ending

@@ -1,9 +1,11 @@
 -- What the top call does, in the words of its clauses.
 pub mod Status
 pub mod Lines
+pub mod Numbers
 pub mod Words
 pub mod Answer
 pub mod PlanarCode
+pub mod Made
 pub mod JobInput
 pub mod Outcome
 pub mod Text

@@ -5,7 +5,7 @@ use Rattle.record_runs.specs.declared.run.RunEnd.{RunEnd}
 use Rattle.record_runs.specs.declared.run.RunEnd.TheVariants as ended
 use Rattle.pigale_shell.specs.Text.{bad_words_line}
 use Rattle.pg_io.specs.Io.{WhereTold, GrowsByPrefix}
-use Rattle.pigale_shell.specs.JobInput.{EndingOf, reads_of, answers_of}
+use Rattle.pigale_shell.specs.JobInput.{EndingOf, reads_of, answers_of, left_of}
 use Rattle.pigale_shell.specs.declared.job.Job.{Job}
 use Rattle.pigale_shell.specs.declared.job.Status.{Status}
 use Rattle.pigale_shell.specs.declared.job.Status.TheVariants.{Done, SomeRefused, BadWords, BadInput, ReadFault, WriteFault, NoMemory}
@@ -22,7 +22,7 @@ WritesPart job input written written' = RunWritesPart (reads_of job) (answers_of
 -- the sink grew by some first bytes of the text that the words ask for: of the job's, or of the line for bad words
 abbrev pub GrowsByText : Option Job → Option (List ℕ) → Option (List ℕ) → Option (List ℕ) → Type 0
 GrowsByText None left written written' = GrowsByPrefix written written' bad_words_line
-GrowsByText (Some job) left written written' = WhereTold left (λ input. WritesPart job input written written')
+GrowsByText (Some job) left written written' = WhereTold (left_of job left) (λ input. WritesPart job input written written')
 
 -- the sink grew by the blocks of just those records that end within the bytes taken from the source
 abbrev pub WritesTaken : Job → List ℕ → Option (List ℕ) → Option (List ℕ) → Option (List ℕ) → Type 0

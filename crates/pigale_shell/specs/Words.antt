@@ -4,8 +4,9 @@ use Rattle.clap.specs.Walk.{Row, Rule, Text, first_of}
 use Rattle.clap.specs.Simple.{App, Shape, matches_of, new_app, new_rule, on_top, with_rule}
 use Rattle.clap.specs.Kinds.{Kinds}
 use Rattle.clap.specs.Faults.{fault_of}
+use Rattle.pigale_shell.specs.Numbers.{number_in}
 use Rattle.pigale_shell.specs.declared.job.Job.{Job}
-use Rattle.pigale_shell.specs.declared.job.Job.TheVariants.{Count, Shift}
+use Rattle.pigale_shell.specs.declared.job.Job.TheVariants.{Count, Shift, Gen}
 
 -- an option `--name` with one text
 abbrev pub option : Text → Rule
@@ -57,10 +58,24 @@ is_text (Some form) = bytes_eq form (codes "text")
 abbrev pub draws_text : Given → Bool
 draws_text g = is_text g.form && not (is_some g.size || is_some g.number)
 
--- the job of a word with the options beside it: `count` takes none, and a job that draws takes the form
+-- the number from `least` to `most` that an option gives
+abbrev pub number_given : ℕ → ℕ → Option Text → Option ℕ
+number_given least most given = option_and_then (number_in least most) given
+
+-- the job that makes a map of so many vertices from a number
+abbrev pub gen_of : Option ℕ → Option ℕ → Option Job
+gen_of None number = None
+gen_of (Some size) None = None
+gen_of (Some size) (Some number) = Some (Gen size number)
+
+-- the same, by the texts of its two options; it takes no other
+abbrev pub gen_given : Given → Option Job
+gen_given g = if is_some g.form then None else gen_of (number_given 3 4095 g.size) (number_given 0 4294967295 g.number)
+
+-- the job of a word with the options beside it: `count` takes none, a job that draws takes the form, and `gen` wants the other two
 abbrev pub job_named : Given → Text → Option Job
 job_named g word =
-    if bytes_eq word (codes "count") && not (has_option g) then Some Count else if bytes_eq word (codes "shift") && draws_text g then Some Shift else None
+    if bytes_eq word (codes "count") && not (has_option g) then Some Count else if bytes_eq word (codes "shift") && draws_text g then Some Shift else if bytes_eq word (codes "gen") then gen_given g else None
 
 abbrev pub job_given : Given → Option Job
 job_given g = option_and_then (job_named g) g.job

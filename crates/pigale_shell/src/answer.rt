@@ -5,6 +5,7 @@ ghost use Rattle.map_lists.specs.Lists.{Lists};
 ghost use Rattle.shift_figures.specs.Refusals.{shift_refusal};
 ghost use Rattle.shift_figures.specs.Names.{Names};
 ghost use Rattle.pigale_shell.specs.Answer.{IsBlock, is_refused};
+ghost use Rattle.pigale_shell.specs.JobInput.{reads_planar};
 
 use super::job::Job;
 use super::lines::{count_line, drawing_refusal_line, refusal_line};
@@ -14,7 +15,7 @@ use half_edges::{MapFault, Rotations};
 use shift_figures::{ShiftRefusal, shift_figure};
 use std::alloc::{AllocError, Global};
 
-/// Appends the job's block for a planar_code record with these lists, which are from 1 to 4095, and
+/// Appends the block of a job over planar_code for a record with these lists, which are from 1 to 4095, and
 /// answers whether the record was served. The record's `number` is from 1 to 16777216. After want
 /// of memory nothing has changed.
 pub fn answer_record(
@@ -24,6 +25,7 @@ pub fn answer_record(
     lists: &Rotations,
     out: &mut Vec<u8>,
 ) -> Result<bool, AllocError>
+    requires planar { IsTrue (reads_planar job) }
     requires from_one { 0 < number }
     requires few_records { number ≤ 16777216 }
     requires some_list { 0 < length lists.now }
@@ -46,6 +48,7 @@ pub(crate) fn answer_with(
     lists: &Rotations,
     out: &mut Vec<u8>,
 ) -> Result<bool, AllocError>
+    requires planar { IsTrue (reads_planar job) }
     requires some_list { 0 < length lists.now }
     requires few_lists { length lists.now < 4096 }
     ensures block { OnOk result
@@ -56,6 +59,7 @@ pub(crate) fn answer_with(
     match job {
         Job::Count => count_record(alloc, counter, number, lists, out),
         Job::Shift => shift_record(alloc, number, lists, out),
+        Job::Gen(..) => unreachable!(),
     }
 }
 

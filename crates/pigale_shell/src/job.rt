@@ -9,6 +9,8 @@ pub enum Job {
     Count,
     /// Draws each map of genus zero with at least three vertices by the shift method.
     Shift,
+    /// Makes the map of so many vertices from a number, and draws it. It reads nothing.
+    Gen(u16, u32),
 }
 
 /// How a run ended.

@@ -4,6 +4,8 @@
 mod answer;
 mod job;
 mod lines;
+mod made;
+mod numbers;
 mod planar;
 mod run;
 mod top;

@@ -24,7 +24,7 @@ pub enum Ending {
 }
 
 // Appends a space and a number.
-fn push_number(out: &mut Vec<u8>, number: u64) -> Result<(), AllocError>
+pub(crate) fn push_number(out: &mut Vec<u8>, number: u64) -> Result<(), AllocError>
     ensures { OnOk result (out.new.items ≡ out.old.items ++ 32 ∷ decimal number) }
 {
     let mut buffer = Buffer::new();

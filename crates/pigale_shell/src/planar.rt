@@ -1,5 +1,6 @@
 //! planar_code, and the jobs over it, for the loop of runs.
-ghost use Rattle.std.specs.Prelude.{◌≡◌, true};
+ghost use Rattle.std.specs.Prelude.{◌≡◌, true, IsTrue};
+ghost use Rattle.pigale_shell.specs.JobInput.{reads_planar};
 
 use super::answer::answer_with;
 use super::job::Job;
@@ -98,11 +99,13 @@ pub struct PlanarJob {
     job: Job,
     // keeps its memory from record to record
     counter: Counter,
+    ghost planar: { IsTrue (reads_planar job) },
 }
 
 impl PlanarJob {
     /// A job before the first record. It takes no memory.
     pub fn new(alloc: Global, job: Job) -> PlanarJob
+        requires { IsTrue (reads_planar job) }
         ensures { result.job ≡ job }
     {
         PlanarJob {

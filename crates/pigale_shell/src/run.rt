@@ -1,13 +1,15 @@
 //! One run of a job.
-ghost use Rattle.std.specs.Prelude.{◌≡◌, ◌+◌};
+ghost use Rattle.std.specs.Prelude.{◌≡◌, ◌⊎◌, ◌+◌, IsTrue, IsFalse};
 ghost use Rattle.pg_io.specs.Io.{TakesAtMost};
 ghost use Rattle.record_runs.specs.Texts.{input_limit};
 ghost use Rattle.record_runs.specs.Outcome.{ports, Outcome as RunOutcome};
 ghost use Rattle.pigale_shell.specs.Answer.{planar_answers};
 ghost use Rattle.pigale_shell.specs.PlanarCode.{planar_code};
+ghost use Rattle.pigale_shell.specs.JobInput.{reads_planar, HasSize, reads_input, left_of};
 ghost use Rattle.pigale_shell.specs.Outcome.{Outcome, status_of};
 
 use super::job::{Job, Status};
+use super::made::run_made;
 use super::planar::{PlanarJob, PlanarReader};
 use pg_io::{Sink, Source};
 use record_runs::{RunEnd, run_records};
@@ -29,6 +31,7 @@ fn status(end: RunEnd) -> Status
 
 // Runs a job over planar_code.
 fn run_planar<S: Source, K: Sink>(alloc: Global, job: Job, src: &mut S, out: &mut K) -> RunEnd
+    requires { IsTrue (reads_planar job) }
     ensures outcome { RunOutcome planar_code (planar_answers job)
         (ports (S.left src.old) (S.faults src.old) (K.written out.old) (K.faults out.old))
         (ports (S.left src.new) (S.faults src.new) (K.written out.new) (K.faults out.new)) result }
@@ -38,14 +41,19 @@ fn run_planar<S: Source, K: Sink>(alloc: Global, job: Job, src: &mut S, out: &mu
     run_records(alloc, PlanarReader::new(alloc), &mut planar, src, out)
 }
 
-/// Runs a job over the records of a source, to the end of its input or to what stops it.
+/// Runs a job over the records of a source, to the end of its input or to what stops it. A job that reads no
+/// input does not touch the source.
 pub fn run_job<S: Source, K: Sink>(alloc: Global, job: Job, src: &mut S, out: &mut K) -> Status
+    requires sized { HasSize job }
     ensures outcome { Outcome job
-        (ports (S.left src.old) (S.faults src.old) (K.written out.old) (K.faults out.old))
-        (ports (S.left src.new) (S.faults src.new) (K.written out.new) (K.faults out.new)) result }
+        (ports (left_of job (S.left src.old)) (S.faults src.old) (K.written out.old) (K.faults out.old))
+        (ports (left_of job (S.left src.new)) (S.faults src.new) (K.written out.new) (K.faults out.new)) result }
+    ensures no_input { IsFalse (reads_input job) →
+        (src.new ≡ src.old) × ((result ≡ Status.Done) ⊎ (result ≡ Status.WriteFault) ⊎ (result ≡ Status.NoMemory)) }
     ensures limit { TakesAtMost (input_limit + 1) (S.left src.old) (S.left src.new) }
 {
     match job {
         Job::Count | Job::Shift => status(run_planar(alloc, job, src, out)),
+        Job::Gen(size, number) => status(run_made(alloc, size, number, out)),
     }
 }

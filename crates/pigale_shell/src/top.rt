@@ -1,11 +1,11 @@
 //! The top call.
-ghost use Rattle.std.specs.Prelude.{◌≡◌, ◌≢◌, ◌⊎◌, ◌+◌, ◌<◌, ℕ, List, [], map, string_bytes, Some, None};
+ghost use Rattle.std.specs.Prelude.{◌≡◌, ◌≢◌, ◌⊎◌, ◌+◌, ◌<◌, ℕ, List, [], map, string_bytes, Some, None, IsFalse};
 ghost use Rattle.pigale_shell.specs.Text.{bad_words_line};
 ghost use Rattle.pg_io.specs.Io.{WhereTold, Grows, GrowsByPrefix, HasRisen, TakesAtMost};
 ghost use Rattle.record_runs.specs.Texts.{input_limit};
 ghost use Rattle.pigale_shell.specs.Words.{job_of};
 ghost use Rattle.pigale_shell.specs.Outcome.{Writes, WritesTaken, GrowsByText, MayEnd};
-ghost use Rattle.pigale_shell.specs.JobInput.{RecordOf, EndingOf, reads_of};
+ghost use Rattle.pigale_shell.specs.JobInput.{RecordOf, EndingOf, reads_of, reads_input, left_of};
 
 use super::job::{Job, Status, WordFault};
 use super::run::run_job;
@@ -30,6 +30,7 @@ fn refuse_words<K: Sink>(out: &mut K) -> Status
 /// Runs the words after the program's name: the job that they name, over the records of the source,
 /// or the line `stop BadWords` where they name none.
 ///
+/// A job that makes its record has the empty input, whatever the source holds, and does not touch it.
 /// The clauses on the source's bytes and the sink's hold where it tells them. Want of memory is the
 /// one answer with no clause that says when it comes.
 pub fn pigale<S: Source, K: Sink>(
@@ -38,15 +39,15 @@ pub fn pigale<S: Source, K: Sink>(
     src: &mut S,
     out: &mut K,
 ) -> Status
-    // The words are those of a job, the whole input was read and ended well, and the sink grew by its text: one block
+    // The words are those of a job, its whole input was read and ended well, and the sink grew by its text: one block
     // for each record, in order, and the last line, which says that none was refused.
     ensures done { result ≡ Status.Done → (job : Job) × (job_of (map string_bytes words.now) ≡ Some job)
-        × WhereTold (S.left src.old) (λ input. (S.left src.new ≡ Some [])
+        × WhereTold (left_of job (S.left src.old)) (λ input. (left_of job (S.left src.new) ≡ Some [])
         × Writes job input (reads_of job).well 0 (K.written out.old) (K.written out.new)) }
 
     // The same, and the last line says that some record was refused.
     ensures some_refused { result ≡ Status.SomeRefused → (job : Job) × (job_of (map string_bytes words.now) ≡ Some job)
-        × WhereTold (S.left src.old) (λ input. (S.left src.new ≡ Some [])
+        × WhereTold (left_of job (S.left src.old)) (λ input. (left_of job (S.left src.new) ≡ Some [])
         × (refused : ℕ) × (0 < refused) × Writes job input (reads_of job).well refused (K.written out.old) (K.written out.new)) }
 
     // The words are bad, the source is as it was, and the sink grew by one line.
@@ -59,13 +60,13 @@ pub fn pigale<S: Source, K: Sink>(
 
     // The input has a bad ending, and the sink grew by the blocks before it and the line that names just that ending.
     ensures bad_input { result ≡ Status.BadInput → (job : Job) × (job_of (map string_bytes words.now) ≡ Some job)
-        × WhereTold (S.left src.old) (λ input. (ending : EndingOf job) × (reads_of job).IsBad ending
+        × WhereTold (left_of job (S.left src.old)) (λ input. (ending : EndingOf job) × (reads_of job).IsBad ending
         × (refused : ℕ) × Writes job input ending refused (K.written out.old) (K.written out.new)) }
 
     // A read failed, and the sink grew by the blocks of just those records that end within the bytes taken.
     ensures read_fault { result ≡ Status.ReadFault → HasRisen (S.faults src.old) (S.faults src.new)
         × (job : Job) × (job_of (map string_bytes words.now) ≡ Some job)
-        × WhereTold (S.left src.old) (λ input. WritesTaken job input (S.left src.new) (K.written out.old) (K.written out.new)) }
+        × WhereTold (left_of job (S.left src.old)) (λ input. WritesTaken job input (left_of job (S.left src.new)) (K.written out.old) (K.written out.new)) }
 
     // A write failed, and the sink grew by some first bytes of the text.
     ensures write_fault { result ≡ Status.WriteFault → HasRisen (K.faults out.old) (K.faults out.new)
@@ -78,9 +79,13 @@ pub fn pigale<S: Source, K: Sink>(
     // Where the words are good, nothing failed and this is the reading of the input, its ending decides the status, unless
     // memory was wanting.
     ensures complete { (job : Job) (input : List ℕ) (records : List (RecordOf job)) (ending : EndingOf job) →
-        job_of (map string_bytes words.now) ≡ Some job → S.left src.old ≡ Some input → (reads_of job).IsReading input records ending
+        job_of (map string_bytes words.now) ≡ Some job → left_of job (S.left src.old) ≡ Some input → (reads_of job).IsReading input records ending
         → ¬ HasRisen (S.faults src.old) (S.faults src.new) → ¬ HasRisen (K.faults out.old) (K.faults out.new)
         → MayEnd job ending result }
+
+    // A job that reads no input leaves the source as it was, and its map is drawn unless a write failed or memory was wanting.
+    ensures no_input { (job : Job) → job_of (map string_bytes words.now) ≡ Some job → IsFalse (reads_input job) →
+        (src.new ≡ src.old) × ((result ≡ Status.Done) ⊎ (result ≡ Status.WriteFault) ⊎ (result ≡ Status.NoMemory)) }
 
     // At most 2^24 bytes are taken, and the one after them.
     ensures limit { TakesAtMost (input_limit + 1) (S.left src.old) (S.left src.new) }

@@ -1,14 +1,16 @@
 //! The words of the program, as clap reads them.
-ghost use Rattle.std.specs.Prelude.{◌≡◌, ◌≢◌, map, is_some, option_map, IfOk, MatchResult, Some, codes, string_bytes};
+ghost use Rattle.std.specs.Prelude.{◌≡◌, ◌≢◌, ◌<◌, map, is_some, option_map, IfOk, IfSome, MatchResult, Some, codes, string_bytes};
 ghost use Rattle.clap.specs.Matches.{found_of};
 ghost use Rattle.clap.specs.Values.{kind_of};
 ghost use Rattle.clap.specs.Walk.{first_of, rows_of};
 ghost use Rattle.clap.specs.Simple.{app_of};
-ghost use Rattle.pigale_shell.specs.Words.{command as the_command, given, given_in, has_option as gives_option, draws_text as gives_text, is_text, job_given as job_by};
+ghost use Rattle.pigale_shell.specs.Words.{command as the_command, given, given_in, has_option as gives_option, draws_text as gives_text, is_text, number_given as number_by, gen_of, gen_given as gen_by, job_given as job_by};
 ghost use Rattle.pigale_shell.specs.Words.{job_of, CountWords};
 ghost use Rattle.pigale_shell.specs.Status.{RefusesWords};
+ghost use Rattle.pigale_shell.specs.JobInput.{HasSize};
 
 use super::job::{Job, WordFault};
+use super::numbers::number_in;
 use clap::error::ErrorKind;
 use clap::{Arg, ArgMatches, Command, Error};
 use std::alloc::{AllocError, Global};
@@ -97,6 +99,42 @@ fn draws_text(matches: &ArgMatches) -> bool
     is_text_form(matches) && !(is_given(matches, "size") || is_given(matches, "number"))
 }
 
+// The number from `least` to `most` that an option gives.
+fn number_given(matches: &ArgMatches, id: &str, least: u32, most: u32) -> Option<u32>
+    ensures { result ≡ number_by least most (first_of id.now (rows_of (found_of matches.now))) }
+{
+    match text_of(matches, id) {
+        Some(text) => number_in(text.as_bytes(), least, most),
+        None => None,
+    }
+}
+
+// The job that makes a map of so many vertices from a number.
+fn gen_job(size: Option<u32>, number: Option<u32>) -> Option<Job>
+    requires { IfSome size (λ size. size < 4096) }
+    ensures { result ≡ gen_of size number }
+{
+    match size {
+        Some(size) => match number {
+            Some(number) => Some(Job::Gen(size as u16, number)),
+            None => None,
+        },
+        None => None,
+    }
+}
+
+// The same, by the texts of its options.
+fn gen_given(matches: &ArgMatches) -> Option<Job>
+    ensures { result ≡ gen_by (given_in (rows_of (found_of matches.now))) }
+{
+    if is_given(matches, "form") {
+        return None;
+    }
+    let size = number_given(matches, "size", 3, 4095);
+    let number = number_given(matches, "number", 0, u32::MAX);
+    gen_job(size, number)
+}
+
 // The job that the words ask for: none where there is no such job, or an option that it does not have.
 fn job_given(matches: &ArgMatches) -> Option<Job>
     ensures { result ≡ job_by (given_in (rows_of (found_of matches.now))) }
@@ -107,6 +145,8 @@ fn job_given(matches: &ArgMatches) -> Option<Job>
                 Some(Job::Count)
             } else if word == "shift" && draws_text(matches) {
                 Some(Job::Shift)
+            } else if word == "gen" {
+                gen_given(matches)
             } else {
                 None
             }
@@ -120,13 +160,15 @@ fn job_given(matches: &ArgMatches) -> Option<Job>
 /// clap reads them as a command with one positional, the job's word, and the options `--form`, `--size`
 /// and `--number`, each with one text, which may follow as the next word or behind a `=`. `count` is the
 /// job `Count` and has none of these options; `shift` is the job `Shift` and has the first, of which the
-/// text `text` is the one that there is. `BadWords` comes exactly where the words are those of no
+/// text `text` is the one that there is; `gen` is the job `Gen` and has the other two, which it wants: a
+/// size from 3 to 4095 and a number from 0 to 4294967295, both in decimal. `BadWords` comes exactly where the words are those of no
 /// job: where clap refuses them, where there is no such job, and where an option is there that the job
 /// does not have.
 pub fn words_to_job(alloc: Global, words: &[String]) -> Result<Job, WordFault>
-    ensures { MatchResult result
+    ensures job { MatchResult result
         (λ job. job_of (map string_bytes words.now) ≡ Some job)
         (RefusesWords (job_of (map string_bytes words.now))) }
+    ensures sized { IfOk result HasSize }
 {
     let matches = matches_of(alloc, words)?;
     match job_given(&matches) {

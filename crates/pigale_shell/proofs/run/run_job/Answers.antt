@@ -1,5 +1,11 @@
-use Rattle.pigale_shell.proofs.OutcomeLemmas.{Outcome-planar}
+use Rattle.std.proofs.Common.{rules}
+use Rattle.pigale_shell.proofs.OutcomeLemmas.{Outcome-planar, Outcome-made}
 use Rattle.pigale_shell.proofs.run.run_job.Goals as goal
 
-pub returns-clause-outcome : goal.returns-clause-outcome
-returns-clause-outcome g c = rw c.status.ensures (Outcome-planar c.args.job _ _ c.run_planar.result c.run_planar.ensures.outcome)
+pub returns-in-Gen-clause-outcome : goal.returns-in-Gen-clause-outcome
+returns-in-Gen-clause-outcome g c =
+    rw c.status-in-Gen.ensures (Outcome-made c.args.job _ _ _ _ _ _ _ _ c.run_made.result c.in-Gen.size c.in-Gen.number c.in-Gen.is (c.run_made.ensures.outcome _))
+
+pub returns-in-Count-clause-outcome : goal.returns-in-Count-clause-outcome
+returns-in-Count-clause-outcome g c =
+    rw c.status.ensures (Outcome-planar c.args.job _ _ _ _ _ _ _ _ c.run_planar.result (search rules) c.run_planar.ensures.outcome)
