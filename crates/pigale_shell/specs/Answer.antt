@@ -1,29 +1,31 @@
 -- What each job over planar_code writes.
-use Rattle.std.specs.Prelude.{ℕ, List, Bool, false, ◌≡◌}
+use Rattle.std.specs.Prelude.{ℕ, List, Bool, false, not, ◌≡◌}
 use Rattle.map_lists.specs.Lists.{Lists}
 use Rattle.record_runs.specs.Texts.{Answers}
 use Rattle.pigale_shell.specs.Text.{count_block, count_refuses, IsShiftBlock, shift_refuses, last_line}
 use Rattle.pigale_shell.specs.Lines.{ending_of}
 use Rattle.pigale_shell.specs.declared.lines.Ending.{Ending}
 use Rattle.pigale_shell.specs.declared.job.Job.{Job}
-use Rattle.pigale_shell.specs.declared.job.Job.TheVariants.{Count, Shift, Gen}
+use Rattle.pigale_shell.specs.declared.job.Job.TheVariants.{Count, Shift, Gen, Verify}
 
--- the text is the job's answer for record k; there is none by a job that reads no records
+-- the text is the job's answer for record k; there is none by a job that reads no such records
 abbrev pub IsBlock : Job → ℕ → Lists → List ℕ → Type 0
 IsBlock Count k lists text = text ≡ count_block k lists
 IsBlock Shift k lists text = IsShiftBlock k lists text
 IsBlock (Gen size number) k lists text = ⊥
+IsBlock Verify k lists text = ⊥
 
 -- the record counts as refused
 abbrev pub is_refused : Job → Lists → Bool
 is_refused Count lists = count_refuses lists
 is_refused Shift lists = shift_refuses lists
 is_refused (Gen size number) lists = false
+is_refused Verify lists = false
 
 -- both, and the last line
 abbrev pub planar_answers : Job → Answers Lists Ending
 planar_answers job = record {
   IsBlock = IsBlock job;
-  is_refused = is_refused job;
+  Serves = λ lists served. served ≡ not (is_refused job lists);
   last_line = λ records refused ending. last_line records refused (ending_of ending);
 }

@@ -4,16 +4,21 @@ use Rattle.map_lists.specs.Lists.{Lists}
 use Rattle.record_runs.specs.Texts.{Reads, Answers}
 use Rattle.pigale_shell.specs.Answer.{planar_answers}
 use Rattle.pigale_shell.specs.PlanarCode.{planar_code}
+use Rattle.figure_text.specs.declared.figure.Figure.{Figure}
+use Rattle.figure_lines.specs.declared.ending.Ending.{Ending as FigureEnding}
+use Rattle.figure_lines.specs.Format.{figures}
 use Rattle.pigale_shell.specs.Made.{made, made_answers}
+use Rattle.pigale_shell.specs.Verify.{verify_answers}
 use Rattle.pigale_shell.specs.declared.lines.Ending.{Ending}
 use Rattle.pigale_shell.specs.declared.job.Job.{Job}
-use Rattle.pigale_shell.specs.declared.job.Job.TheVariants.{Count, Shift, Gen}
+use Rattle.pigale_shell.specs.declared.job.Job.TheVariants.{Count, Shift, Gen, Verify}
 
 -- it reads an input; a job that reads none has the empty input, and leaves the source alone
 abbrev pub reads_input : Job → Bool
 reads_input Count = true
 reads_input Shift = true
 reads_input (Gen size number) = false
+reads_input Verify = true
 
 -- what is left of its input, by what is left in the source
 abbrev pub left_of : Job → Option (List ℕ) → Option (List ℕ)
@@ -24,33 +29,39 @@ abbrev pub reads_planar : Job → Bool
 reads_planar Count = true
 reads_planar Shift = true
 reads_planar (Gen size number) = false
+reads_planar Verify = false
 
 -- a map that it makes has from 3 to 4095 vertices
 abbrev pub HasSize : Job → Type 0
 HasSize Count = Unit {0}
 HasSize Shift = Unit {0}
 HasSize (Gen size number) = (3 ≤ size) × (size < 4096)
+HasSize Verify = Unit {0}
 
 -- a record of its input
 abbrev pub RecordOf : Job → Type 0
 RecordOf Count = Lists
 RecordOf Shift = Lists
 RecordOf (Gen size number) = Lists
+RecordOf Verify = Figure
 
 -- how its input ends
 abbrev pub EndingOf : Job → Type 0
 EndingOf Count = Ending
 EndingOf Shift = Ending
 EndingOf (Gen size number) = Unit {0}
+EndingOf Verify = FigureEnding
 
 -- how its input is read
 abbrev pub reads_of : (job : Job) → Reads (RecordOf job) (EndingOf job)
 reads_of Count = planar_code
 reads_of Shift = planar_code
 reads_of (Gen size number) = made size number
+reads_of Verify = figures
 
 -- its answers, and the last line
 abbrev pub answers_of : (job : Job) → Answers (RecordOf job) (EndingOf job)
 answers_of Count = planar_answers Count
 answers_of Shift = planar_answers Shift
 answers_of (Gen size number) = made_answers
+answers_of Verify = verify_answers

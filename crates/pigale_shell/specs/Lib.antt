@@ -6,6 +6,7 @@ pub mod Words
 pub mod Answer
 pub mod PlanarCode
 pub mod Made
+pub mod Verify
 pub mod JobInput
 pub mod Outcome
 pub mod Text

@@ -1,5 +1,5 @@
 -- The job `gen`: it reads nothing, and answers the one map that it makes.
-use Rattle.std.specs.Prelude.{ℕ, ◌≡◌, ◌⊎◌, false, List, [], ◌∷◌, ◌++◌, codes, ℤ, pos, ◌+ℤ◌}
+use Rattle.std.specs.Prelude.{ℕ, ◌≡◌, ◌⊎◌, true, List, [], ◌∷◌, ◌++◌, codes, ℤ, pos, ◌+ℤ◌}
 use Rattle.std.specs.Fmt.{signed_decimal}
 use Rattle.map_lists.specs.Lists.{Lists}
 use Rattle.map_gen.specs.Stacked.{stacked}
@@ -44,6 +44,6 @@ made size number = record {
 abbrev pub made_answers : Answers Lists (Unit {0})
 made_answers = record {
   IsBlock = IsMadeBlock;
-  is_refused = λ lists. false;
+  Serves = λ lists served. served ≡ true;
   last_line = λ records refused ending. last_line records refused well;
 }

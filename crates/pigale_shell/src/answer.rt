@@ -59,7 +59,7 @@ pub(crate) fn answer_with(
     match job {
         Job::Count => count_record(alloc, counter, number, lists, out),
         Job::Shift => shift_record(alloc, number, lists, out),
-        Job::Gen(..) => unreachable!(),
+        Job::Gen(..) | Job::Verify => unreachable!(),
     }
 }
 

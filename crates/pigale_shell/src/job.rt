@@ -11,6 +11,8 @@ pub enum Job {
     Shift,
     /// Makes the map of so many vertices from a number, and draws it. It reads nothing.
     Gen(u16, u32),
+    /// Checks each figure of a text.
+    Verify,
 }
 
 /// How a run ended.

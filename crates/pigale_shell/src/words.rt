@@ -147,6 +147,8 @@ fn job_given(matches: &ArgMatches) -> Option<Job>
                 Some(Job::Shift)
             } else if word == "gen" {
                 gen_given(matches)
+            } else if word == "verify" && !has_option(matches) {
+                Some(Job::Verify)
             } else {
                 None
             }
@@ -161,7 +163,8 @@ fn job_given(matches: &ArgMatches) -> Option<Job>
 /// and `--number`, each with one text, which may follow as the next word or behind a `=`. `count` is the
 /// job `Count` and has none of these options; `shift` is the job `Shift` and has the first, of which the
 /// text `text` is the one that there is; `gen` is the job `Gen` and has the other two, which it wants: a
-/// size from 3 to 4095 and a number from 0 to 4294967295, both in decimal. `BadWords` comes exactly where the words are those of no
+/// size from 3 to 4095 and a number from 0 to 4294967295, both in decimal; `verify` is the job `Verify` and has
+/// none. `BadWords` comes exactly where the words are those of no
 /// job: where clap refuses them, where there is no such job, and where an option is there that the job
 /// does not have.
 pub fn words_to_job(alloc: Global, words: &[String]) -> Result<Job, WordFault>
