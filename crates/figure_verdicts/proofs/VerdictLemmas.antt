@@ -10,7 +10,15 @@ use Rattle.figure_text.specs.declared.figure.Figure.{Figure}
 use Rattle.figure_text.specs.declared.figure.Figure.TheVariants.{Grid, Bars}
 use Rattle.figure_lines.specs.Given.{IsGiven}
 use Rattle.figure_verdicts.specs.Validity.{IsValidFigure, grid_width, grid_height}
-use Rattle.std.specs.Prelude.{ℤ, None}
+use Rattle.std.specs.Prelude.{ℤ, Option, None, ◌≢◌}
+use Rattle.std.proofs.lemmas.Int.{ints}
+use Rattle.simple_maps.specs.Faults.{Fault}
+use Rattle.simple_maps.specs.declared.fault.MapFault.{MapFault}
+use Rattle.simple_maps.specs.declared.fault.MapFault.TheVariants.{OutOfRange, Loop, Repeated, OneSided, NoMemory}
+use Rattle.draw_check.specs.Verdicts.{IsVerdict}
+use Rattle.draw_check.specs.declared.verdict.Verdict.{Verdict}
+use Rattle.draw_check.specs.declared.verdict.Verdict.TheVariants.{OutOfGrid, SamePlace, OnEdge, Cross, Turned, Yes as NoFault}
+use Rattle.figure_verdicts.specs.Verdicts.{IsFirstFault}
 use Rattle.simple_maps.specs.Faults.{first_fault}
 use Rattle.pg_plane.specs.declared.point.Point.{Point}
 use Rattle.figure_text.specs.declared.figure.GridJob.{GridJob}
@@ -46,3 +54,33 @@ IsGridVerdict-drawn job lists lists' points points' width height verdict same_li
     by_case (Drawing v) drawn = (none, drawn)
     by_case (Inside v u) drawn = (none, drawn)
     by_case Yes drawn = (none, drawn)
+
+-- a drawing that has a fault is not without one
+no_other : (lists : Lists) (points : List Point) (width height : ℤ) (verdict : Verdict) → IsVerdict lists points width height verdict → IsVerdict lists points width height NoFault → verdict ≢ NoFault → ⊥
+no_other lists points width height (OutOfGrid v) least none other = least.here.outside (none.0 v.0 least.here.vertex)
+no_other lists points width height (SamePlace u v) least none other = none.1 u.0 v.0 least.1.rest.here
+no_other lists points width height (OnEdge v e) least none other = none.2 v.0 e.a.0 e.b.0 least.2.rest.rest.here
+no_other lists points width height (Cross e f) least none other = none.3 e.a.0 e.b.0 f.a.0 f.b.0 least.3.rest.rest.rest.here
+no_other lists points width height (Turned v) least none other = let h = least.4.here in h.turned (none.4 v.0 h.vertex h.two)
+no_other lists points width height NoFault least none other = other refl
+
+no_first : (found : Option Fault) (fault : MapFault) → found ≡ None → IsFirstFault found fault → ⊥
+no_first found (OutOfRange v u) none is = cc
+no_first found (Loop v) none is = cc
+no_first found (Repeated v u) none is = cc
+no_first found (OneSided v u) none is = cc
+no_first found NoMemory none is = is
+
+pub valid_is_yes : NoFaultIsSimple → YesIsValid → (figure : Figure) (verdict : FigureVerdict) → IsGiven figure → IsFigureVerdict figure verdict → IsValidFigure figure → verdict ≡ Yes
+valid_is_yes no_fault is_valid (Grid job lists points) (Refused fault) given is valid = absurd (no_first (first_fault lists) fault ((no_fault lists given.some_list).1 valid.simple) is)
+valid_is_yes no_fault is_valid (Grid job lists points) (Drawing verdict) given is valid =
+    let width = grid_width job (length lists) in
+    let height = grid_height (length lists) in
+    absurd (no_other lists points width height verdict is.1.0 ((is_valid lists points width height valid.simple).1 valid.valid) is.1.1)
+valid_is_yes no_fault is_valid (Grid job lists points) (Inside v u) given is valid =
+    let inside = is.1.2.rest.here in
+    let sum = inside.sum in
+    let positive = valid.outer is.1.1 v.0 u.0 inside.dart inside.other in
+    absurd (omega (arith, ints, sum, positive))
+valid_is_yes no_fault is_valid (Grid job lists points) Yes given is valid = refl
+valid_is_yes no_fault is_valid (Bars lists bars) verdict given is valid = absurd valid

@@ -1,7 +1,7 @@
 //! The answer of the job `verify` to a figure, as a value: its verdict.
 #![tactic(auto)]
 
-ghost use Rattle.figure_verdicts.specs.Laws.{YesIsValidFigure};
+ghost use Rattle.figure_verdicts.specs.Laws.{ValidIsYes, YesIsValidFigure};
 
 mod drawn;
 mod judge;
@@ -15,6 +15,14 @@ pub use verdict::FigureVerdict;
 /// is the outer one.
 pub fn yes_is_valid_figure()
     ensures { YesIsValidFigure }
+{
+    simple_maps::no_fault_is_simple();
+    draw_check::yes_is_valid();
+}
+
+/// A valid figure has no other verdict than `Yes`.
+pub fn valid_is_yes()
+    ensures { ValidIsYes }
 {
     simple_maps::no_fault_is_simple();
     draw_check::yes_is_valid();

@@ -19,4 +19,6 @@ mod rows;
 #[cfg(test)]
 mod runs;
 #[cfg(test)]
+mod verified;
+#[cfg(test)]
 mod words;

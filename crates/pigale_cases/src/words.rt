@@ -3,7 +3,7 @@ use crate::runs::{TRIANGLE, TRIANGLE_TEXT, run_over};
 use pg_io::SureSource;
 use std::test::Fail;
 
-const BAD: [(&str, &[&str]); 49] = [
+const BAD: [(&str, &[&str]); 50] = [
     ("none, which a word that is not UTF-8 leaves too", &[]),
     ("an empty word", &[""]),
     ("an empty word before the job", &["", "count"]),
@@ -50,6 +50,7 @@ const BAD: [(&str, &[&str]); 49] = [
         "an option with two texts",
         &["--form", "svg", "text", "count"],
     ),
+    ("figures with a form", &["verify", "--form", "text"]),
     ("a made map without options", &["gen"]),
     ("one without a number", &["gen", "--size", "5"]),
     ("one without a size", &["gen", "--number", "0"]),

@@ -7,11 +7,13 @@ use Rattle.map_definitions.specs.Maps.{entry_after, face_count, component_count}
 use Rattle.simple_maps.specs.Faults.{first_fault}
 use Rattle.clap.proofs.OnLiterals.{clap_on_literals}
 use Rattle.pigale_shell.specs.Words.{given, job_of}
-use Rattle.pigale_shell.specs.declared.job.Job.TheVariants.{Count, Shift, Gen}
+use Rattle.pigale_shell.specs.declared.job.Job.TheVariants.{Count, Shift, Gen, Verify}
 use Rattle.pigale_shell.specs.Numbers.{number_in}
 use Rattle.pigale_shell.specs.Made.{sums_line}
 use Rattle.pigale_shell.specs.declared.form.Form.TheVariants as forms
 use Rattle.pigale_shell.specs.Forms.{commented, line_in}
+use Rattle.figure_lines.specs.declared.ending.Ending.TheVariants.{BadLine}
+use Rattle.pigale_shell.specs.Verify.{verdict_line, verify_last_line}
 use Rattle.pigale_shell.specs.Text.{count_block, counts_line, refused_line, end_line}
 
 -- lists with vertices numbered from 1, as they are printed
@@ -127,3 +129,25 @@ gen_with_form = refl
 line_of_sums : sums_line 1 (pos 15) (pos 6) ≡ codes "verdict 1 yes sum 15 6" ++ 10 ∷ []
 unfolding sums_line digits
 line_of_sums = refl
+
+-- the lines of `verify`
+
+line_of_verdict : verdict_line 3 (codes "OnEdge") (2 ∷ 0 ∷ 1 ∷ []) ≡ codes "verdict 3 OnEdge 3 1 2" ++ 10 ∷ []
+unfolding verdict_line digits
+line_of_verdict = refl
+
+line_of_yes : verdict_line 1 (codes "yes") [] ≡ codes "verdict 1 yes" ++ 10 ∷ []
+unfolding verdict_line digits
+line_of_yes = refl
+
+last_line_of_bad_line : verify_last_line 1 0 (BadLine 12) ≡ codes "stop BadLine 12" ++ 10 ∷ []
+unfolding verify_last_line digits
+last_line_of_bad_line = refl
+
+verify_alone : job_of (codes "verify" ∷ []) ≡ Some Verify
+unfolding given clap_on_literals
+verify_alone = refl
+
+verify_with_form : job_of (codes "verify" ∷ codes "--form=text" ∷ []) ≡ None
+unfolding given clap_on_literals
+verify_with_form = refl

@@ -1,5 +1,5 @@
 -- How a run that makes its record ends, and sums over points.
-use Rattle.std.proofs.Common.{◌≡◌, ℕ, List, [], ◌∷◌, ◌++◌, take, Option, Some, None, ℤ, ◌+ℤ◌, slice_get, suc, refl, sym, ap, subst, ◌∙◌, arith, inl, inr}
+use Rattle.std.proofs.Common.{◌≡◌, ℕ, List, [], ◌∷◌, ◌++◌, take, Option, Some, None, ℤ, ◌+ℤ◌, slice_get, suc, true, refl, sym, ap, subst, ◌∙◌, arith, inl, inr}
 use Rattle.std.proofs.Math.Seq.{take-suc}
 use Rattle.std.proofs.lemmas.Int.{ints}
 use Rattle.std.proofs.lemmas.List.{append-nil}
@@ -51,7 +51,7 @@ module _ (size number reads : ℕ) {written written' : Option (List ℕ)} {write
       last = last_line 1 0 well;
       begins = inr refl;
       answers = block-alone (stacked size number) block is;
-      last_is = inr (tt, refl, refl);
+      last_is = inr (tt, 0, refl, (true, 0, refl, refl, refl), refl);
       grows = subst (GrowsByPrefix written written') text grows;
     },
   )

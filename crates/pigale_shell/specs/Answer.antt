@@ -9,15 +9,16 @@ use Rattle.pigale_shell.specs.declared.form.Form.TheVariants.{Text}
 use Rattle.pigale_shell.specs.Lines.{ending_of}
 use Rattle.pigale_shell.specs.declared.lines.Ending.{Ending}
 use Rattle.pigale_shell.specs.declared.job.Job.{Job}
-use Rattle.pigale_shell.specs.declared.job.Job.TheVariants.{Count, Shift, Schnyder, Gen}
+use Rattle.pigale_shell.specs.declared.job.Job.TheVariants.{Count, Shift, Schnyder, Gen, Verify}
 use Rattle.figure_text.specs.declared.figure.GridJob.TheVariants as drawn
 
--- the text is the job's answer for record k; there is none by a job that reads no records
+-- the text is the job's answer for record k; there is none by a job that reads no such records
 abbrev pub IsBlock : Job → ℕ → Lists → List ℕ → Type 0
 IsBlock Count k lists text = text ≡ count_block k lists
 IsBlock (Shift form) k lists text = IsGridBlock drawn.Shift form k lists text
 IsBlock (Schnyder form) k lists text = IsGridBlock drawn.Schnyder form k lists text
 IsBlock (Gen size number) k lists text = ⊥
+IsBlock Verify k lists text = ⊥
 
 -- the record counts as refused
 abbrev pub is_refused : Job → Lists → Bool
@@ -25,6 +26,7 @@ is_refused Count lists = count_refuses lists
 is_refused (Shift form) lists = draw_refuses lists
 is_refused (Schnyder form) lists = draw_refuses lists
 is_refused (Gen size number) lists = false
+is_refused Verify lists = false
 
 -- the form in which the job writes
 abbrev pub job_form : Job → Form
@@ -32,6 +34,7 @@ job_form Count = Text
 job_form (Shift form) = form
 job_form (Schnyder form) = form
 job_form (Gen size number) = Text
+job_form Verify = Text
 
 -- both, and the last line
 abbrev pub planar_answers : Job → Answers Lists Ending

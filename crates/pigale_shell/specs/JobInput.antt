@@ -4,10 +4,14 @@ use Rattle.map_lists.specs.Lists.{Lists}
 use Rattle.record_runs.specs.Texts.{Reads, Answers}
 use Rattle.pigale_shell.specs.Answer.{planar_answers}
 use Rattle.pigale_shell.specs.PlanarCode.{planar_code}
+use Rattle.figure_text.specs.declared.figure.Figure.{Figure}
+use Rattle.figure_lines.specs.declared.ending.Ending.{Ending as FigureEnding}
+use Rattle.figure_lines.specs.Format.{figures}
 use Rattle.pigale_shell.specs.Made.{made, made_answers}
+use Rattle.pigale_shell.specs.Verify.{verify_answers}
 use Rattle.pigale_shell.specs.declared.lines.Ending.{Ending}
 use Rattle.pigale_shell.specs.declared.job.Job.{Job}
-use Rattle.pigale_shell.specs.declared.job.Job.TheVariants.{Count, Shift, Schnyder, Gen}
+use Rattle.pigale_shell.specs.declared.job.Job.TheVariants.{Count, Shift, Schnyder, Gen, Verify}
 
 -- it reads an input; a job that reads none has the empty input, and leaves the source alone
 abbrev pub reads_input : Job → Bool
@@ -15,6 +19,7 @@ reads_input Count = true
 reads_input (Shift form) = true
 reads_input (Schnyder form) = true
 reads_input (Gen size number) = false
+reads_input Verify = true
 
 -- what is left of its input, by what is left in the source
 abbrev pub left_of : Job → Option (List ℕ) → Option (List ℕ)
@@ -26,6 +31,7 @@ reads_planar Count = true
 reads_planar (Shift form) = true
 reads_planar (Schnyder form) = true
 reads_planar (Gen size number) = false
+reads_planar Verify = false
 
 -- a map that it makes has from 3 to 4095 vertices
 abbrev pub HasSize : Job → Type 0
@@ -33,6 +39,7 @@ HasSize Count = Unit {0}
 HasSize (Shift form) = Unit {0}
 HasSize (Schnyder form) = Unit {0}
 HasSize (Gen size number) = (3 ≤ size) × (size < 4096)
+HasSize Verify = Unit {0}
 
 -- a record of its input
 abbrev pub RecordOf : Job → Type 0
@@ -40,6 +47,7 @@ RecordOf Count = Lists
 RecordOf (Shift form) = Lists
 RecordOf (Schnyder form) = Lists
 RecordOf (Gen size number) = Lists
+RecordOf Verify = Figure
 
 -- how its input ends
 abbrev pub EndingOf : Job → Type 0
@@ -47,6 +55,7 @@ EndingOf Count = Ending
 EndingOf (Shift form) = Ending
 EndingOf (Schnyder form) = Ending
 EndingOf (Gen size number) = Unit {0}
+EndingOf Verify = FigureEnding
 
 -- how its input is read
 abbrev pub reads_of : (job : Job) → Reads (RecordOf job) (EndingOf job)
@@ -54,6 +63,7 @@ reads_of Count = planar_code
 reads_of (Shift form) = planar_code
 reads_of (Schnyder form) = planar_code
 reads_of (Gen size number) = made size number
+reads_of Verify = figures
 
 -- its answers, and the last line
 abbrev pub answers_of : (job : Job) → Answers (RecordOf job) (EndingOf job)
@@ -61,3 +71,4 @@ answers_of Count = planar_answers Count
 answers_of (Shift form) = planar_answers (Shift form)
 answers_of (Schnyder form) = planar_answers (Schnyder form)
 answers_of (Gen size number) = made_answers
+answers_of Verify = verify_answers

@@ -7,6 +7,7 @@ pub mod Forms
 pub mod Answer
 pub mod PlanarCode
 pub mod Made
+pub mod Verify
 pub mod JobInput
 pub mod Outcome
 pub mod Text

@@ -8,7 +8,7 @@ use Rattle.pigale_shell.specs.Numbers.{number_in}
 use Rattle.pigale_shell.specs.declared.form.Form.{Form}
 use Rattle.pigale_shell.specs.declared.form.Form.TheVariants as forms
 use Rattle.pigale_shell.specs.declared.job.Job.{Job}
-use Rattle.pigale_shell.specs.declared.job.Job.TheVariants.{Count, Shift, Schnyder, Gen}
+use Rattle.pigale_shell.specs.declared.job.Job.TheVariants.{Count, Shift, Schnyder, Gen, Verify}
 
 -- an option `--name` with one text
 abbrev pub option : Text → Rule
@@ -78,10 +78,10 @@ gen_of (Some size) (Some number) = Some (Gen size number)
 abbrev pub gen_given : Given → Option Job
 gen_given g = if is_some g.form then None else gen_of (number_given 3 4095 g.size) (number_given 0 4294967295 g.number)
 
--- the job of a word with the options beside it: `count` takes none, a job that draws takes the form, and `gen` wants the other two
+-- the job of a word with the options beside it: `count` takes none, a job that draws takes the form, `gen` wants the other two, and `verify` takes none
 abbrev pub job_named : Given → Text → Option Job
 job_named g word =
-    if bytes_eq word (codes "count") && not (has_option g) then Some Count else if bytes_eq word (codes "shift") then option_map (λ form. Shift form) (form_given g) else if bytes_eq word (codes "schnyder") then option_map (λ form. Schnyder form) (form_given g) else if bytes_eq word (codes "gen") then gen_given g else None
+    if bytes_eq word (codes "count") && not (has_option g) then Some Count else if bytes_eq word (codes "shift") then option_map (λ form. Shift form) (form_given g) else if bytes_eq word (codes "schnyder") then option_map (λ form. Schnyder form) (form_given g) else if bytes_eq word (codes "gen") then gen_given g else if bytes_eq word (codes "verify") && not (has_option g) then Some Verify else None
 
 abbrev pub job_given : Given → Option Job
 job_given g = option_and_then (job_named g) g.job

@@ -65,7 +65,7 @@ pub(crate) fn answer_with(
         Job::Count => count_record(alloc, counter, number, lists, out),
         Job::Shift(form) => grid_record(alloc, GridJob::Shift, form, number, lists, out),
         Job::Schnyder(form) => grid_record(alloc, GridJob::Schnyder, form, number, lists, out),
-        Job::Gen(..) => unreachable!(),
+        Job::Gen(..) | Job::Verify => unreachable!(),
     }
 }
 

@@ -16,6 +16,8 @@ pub enum Job {
     Schnyder(Form),
     /// Makes the map of so many vertices from a number, and draws it. It reads nothing.
     Gen(u16, u32),
+    /// Checks each figure of a text.
+    Verify,
 }
 
 impl Job {
@@ -24,7 +26,7 @@ impl Job {
         ensures { result ≡ job_form self }
     {
         match self {
-            Job::Count | Job::Gen(..) => Form::Text,
+            Job::Count | Job::Gen(..) | Job::Verify => Form::Text,
             Job::Shift(form) | Job::Schnyder(form) => form,
         }
     }

@@ -10,6 +10,7 @@ mod numbers;
 mod planar;
 mod run;
 mod top;
+mod verify;
 mod words;
 
 pub use answer::answer_record;

@@ -124,7 +124,7 @@ pub fn drawing_refusal_line(
 }
 
 // The line `stop NAME P`.
-fn stop_line(alloc: Global, words: &[u8], place: usize) -> Result<Vec<u8>, AllocError>
+pub(crate) fn stop_line(alloc: Global, words: &[u8], place: usize) -> Result<Vec<u8>, AllocError>
     ensures { IfOk result (λ line. line.items ≡ (words.now ++ 32 ∷ decimal place) ++ 10 ∷ []) }
 {
     let mut line = Vec::from_slice(alloc, words)?;
@@ -134,7 +134,7 @@ fn stop_line(alloc: Global, words: &[u8], place: usize) -> Result<Vec<u8>, Alloc
 }
 
 // The last line of an input that ended well.
-fn end_line(alloc: Global, records: u32, refused: u32) -> Result<Vec<u8>, AllocError>
+pub(crate) fn end_line(alloc: Global, records: u32, refused: u32) -> Result<Vec<u8>, AllocError>
     ensures { IfOk result (λ line. line.items ≡ last_line_of records refused (ending_of Ending.Well)) }
 {
     let mut line = Vec::from_slice(alloc, b"end records")?;

@@ -5,12 +5,15 @@ ghost use Rattle.record_runs.specs.Texts.{input_limit};
 ghost use Rattle.record_runs.specs.Outcome.{ports, Outcome as RunOutcome};
 ghost use Rattle.pigale_shell.specs.Answer.{planar_answers};
 ghost use Rattle.pigale_shell.specs.PlanarCode.{planar_code};
+ghost use Rattle.figure_lines.specs.Format.{figures};
+ghost use Rattle.pigale_shell.specs.Verify.{verify_answers};
 ghost use Rattle.pigale_shell.specs.JobInput.{reads_planar, HasSize, reads_input, left_of};
 ghost use Rattle.pigale_shell.specs.Outcome.{Outcome, status_of};
 
 use super::job::{Job, Status};
 use super::made::run_made;
 use super::planar::{PlanarJob, PlanarReader};
+use super::verify::{FigureSource, VerifyJob};
 use pg_io::{Sink, Source};
 use record_runs::{RunEnd, run_records};
 use std::alloc::Global;
@@ -41,6 +44,17 @@ fn run_planar<S: Source, K: Sink>(alloc: Global, job: Job, src: &mut S, out: &mu
     run_records(alloc, PlanarReader::new(alloc), &mut planar, src, out)
 }
 
+// Runs the job `verify`.
+fn run_verify<S: Source, K: Sink>(alloc: Global, src: &mut S, out: &mut K) -> RunEnd
+    ensures outcome { RunOutcome figures verify_answers
+        (ports (S.left src.old) (S.faults src.old) (K.written out.old) (K.faults out.old))
+        (ports (S.left src.new) (S.faults src.new) (K.written out.new) (K.faults out.new)) result }
+    ensures limit { TakesAtMost (input_limit + 1) (S.left src.old) (S.left src.new) }
+{
+    let mut job = VerifyJob::new(alloc);
+    run_records(alloc, FigureSource::new(alloc), &mut job, src, out)
+}
+
 /// Runs a job over the records of a source, to the end of its input or to what stops it. A job that reads no
 /// input does not touch the source.
 pub fn run_job<S: Source, K: Sink>(alloc: Global, job: Job, src: &mut S, out: &mut K) -> Status
@@ -55,5 +69,6 @@ pub fn run_job<S: Source, K: Sink>(alloc: Global, job: Job, src: &mut S, out: &m
     match job {
         Job::Count | Job::Shift(_) | Job::Schnyder(_) => status(run_planar(alloc, job, src, out)),
         Job::Gen(size, number) => status(run_made(alloc, size, number, out)),
+        Job::Verify => status(run_verify(alloc, src, out)),
     }
 }

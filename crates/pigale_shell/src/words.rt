@@ -174,6 +174,8 @@ fn job_given(matches: &ArgMatches) -> Option<Job>
                 form_given(matches).map(Job::Schnyder)
             } else if word == "gen" {
                 gen_given(matches)
+            } else if word == "verify" && !has_option(matches) {
+                Some(Job::Verify)
             } else {
                 None
             }
@@ -187,8 +189,9 @@ fn job_given(matches: &ArgMatches) -> Option<Job>
 /// clap reads them as a command with one positional, the job's word, and the options `--form`, `--size`
 /// and `--number`, each with one text, which may follow as the next word or behind a `=`. `count` is the
 /// job `Count` and has none of these options; `shift` and `schnyder` are the jobs `Shift` and `Schnyder`
-/// and have the first, of which the text is `text` or `svg`; `gen` is the job `Gen` and has the other two, which it wants: a size from 3 to
-/// 4095 and a number from 0 to 4294967295, both in decimal. `BadWords` comes exactly where the words are those of no
+/// and have the first, of which the text is `text` or `svg`; `gen` is the job `Gen` and has the other two,
+/// which it wants: a size from 3 to 4095 and a number from 0 to 4294967295, both in decimal; `verify` is
+/// the job `Verify` and has none. `BadWords` comes exactly where the words are those of no
 /// job: where clap refuses them, where there is no such job, and where an option is there that the job
 /// does not have.
 pub fn words_to_job(alloc: Global, words: &[String]) -> Result<Job, WordFault>

@@ -1,5 +1,5 @@
 use Rattle.std.proofs.Common.{rules}
-use Rattle.pigale_shell.proofs.OutcomeLemmas.{Outcome-planar, Outcome-made}
+use Rattle.pigale_shell.proofs.OutcomeLemmas.{Outcome-planar, Outcome-made, Outcome-verify}
 use Rattle.pigale_shell.proofs.run.run_job.Goals as goal
 
 pub returns-in-Gen-clause-outcome : goal.returns-in-Gen-clause-outcome
@@ -9,3 +9,7 @@ returns-in-Gen-clause-outcome g c =
 pub returns-in-Count-clause-outcome : goal.returns-in-Count-clause-outcome
 returns-in-Count-clause-outcome g c =
     rw c.status.ensures (Outcome-planar c.args.job _ _ _ _ _ _ _ _ c.run_planar.result (search rules) c.run_planar.ensures.outcome)
+
+pub returns-in-Verify-clause-outcome : goal.returns-in-Verify-clause-outcome
+returns-in-Verify-clause-outcome g c =
+    rw c.status-in-Verify.ensures (Outcome-verify c.args.job _ _ _ _ _ _ _ _ c.run_verify.result c.in-Verify.is c.run_verify.ensures.outcome)

@@ -1,0 +1,234 @@
+//! Figures as text, and the job over them, for the loop of runs.
+ghost use Rattle.std.specs.Prelude.{◌≡◌, ◌↔◌, ◌++◌, ◌∷◌, ◌<◌, ◌≤◌, List, ℕ, [], IsTrue, OnOk, OnErr, IfOk, codes};
+ghost use Rattle.figure_lines.specs.Given.{IsGiven as IsGivenFigure};
+ghost use Rattle.figure_verdicts.specs.Validity.{IsValidFigure};
+ghost use Rattle.figure_verdicts.specs.declared.verdict.FigureVerdict.TheVariants.{Yes as IsYes};
+ghost use Rattle.pigale_shell.specs.Verify.{numbers, verdict_line as verdict_line_of, verdict_name, verdict_vertices, WritesVerdict, IsVerifyBlock, verify_last_line as last_line_of};
+
+use super::lines::{end_line, push_number, refusal_line, stop_line};
+use draw_check::Verdict;
+use figure_lines::{Ending, FigureReader};
+use figure_text::Figure;
+use figure_verdicts::{FigureVerdict, figure_verdict};
+use record_runs::{Format, Job as RecordJob, Taken};
+use std::alloc::{AllocError, Global};
+
+// Appends vertices, each after a space and numbered from 1.
+fn push_numbers(out: &mut Vec<u8>, vertices: &[u16]) -> Result<(), AllocError>
+    ensures { OnOk result (out.new.items ≡ out.old.items ++ numbers vertices.now) }
+{
+    for v in vertices {
+        push_number(out, u64::from(*v) + 1)?;
+    }
+    Ok(())
+}
+
+// The line of a verdict by its name and vertices.
+fn verdict_line(
+    alloc: Global,
+    number: u32,
+    name: &[u8],
+    vertices: &[u16],
+) -> Result<Vec<u8>, AllocError>
+    ensures { IfOk result (λ line. line.items ≡ verdict_line_of number name.now vertices.now) }
+{
+    let mut line = Vec::from_slice(alloc, b"verdict")?;
+    push_number(&mut line, u64::from(number))?;
+    line.push(b' ')?;
+    line.extend_from_slice(name)?;
+    push_numbers(&mut line, vertices)?;
+    line.push(b'\n')?;
+    Ok(line)
+}
+
+// The line of a fault of a drawing.
+fn fault_line(alloc: Global, number: u32, verdict: Verdict) -> Result<Vec<u8>, AllocError>
+    ensures { IfOk result (λ line. line.items ≡ verdict_line_of number (verdict_name verdict) (verdict_vertices verdict)) }
+{
+    match verdict {
+        Verdict::OutOfGrid(v) => verdict_line(alloc, number, b"OutOfGrid", &[v.0]),
+        Verdict::SamePlace(u, v) => verdict_line(alloc, number, b"SamePlace", &[u.0, v.0]),
+        Verdict::OnEdge(v, e) => verdict_line(alloc, number, b"OnEdge", &[v.0, e.a.0, e.b.0]),
+        Verdict::Cross(e, f) => verdict_line(
+            alloc,
+            number,
+            b"Cross",
+            &[e.a.0, e.b.0, f.a.0, f.b.0],
+        ),
+        Verdict::Turned(v) => verdict_line(alloc, number, b"Turned", &[v.0]),
+        Verdict::Yes => verdict_line(alloc, number, b"yes", &[]),
+    }
+}
+
+// The line of a verdict.
+fn figure_line(alloc: Global, number: u32, verdict: FigureVerdict) -> Result<Vec<u8>, AllocError>
+    ensures { IfOk result (λ line. WritesVerdict number verdict line.items) }
+{
+    match verdict {
+        FigureVerdict::Refused(fault) => refusal_line(alloc, number, fault),
+        FigureVerdict::Drawing(verdict) => fault_line(alloc, number, verdict),
+        FigureVerdict::Inside(v, u) => verdict_line(alloc, number, b"Inside", &[v.0, u.0]),
+        FigureVerdict::Yes => verdict_line(alloc, number, b"yes", &[]),
+    }
+}
+
+// Whether a verdict is that of a valid figure.
+fn is_yes(verdict: FigureVerdict) -> bool
+    ensures { IsTrue result ↔ (verdict ≡ IsYes) }
+{
+    match verdict {
+        FigureVerdict::Yes => true,
+        _ => false,
+    }
+}
+
+// Appends the line of the verdict on a figure, and answers whether the figure is valid.
+fn verify_figure(
+    alloc: Global,
+    number: u32,
+    figure: &Figure,
+    out: &mut Vec<u8>,
+) -> Result<bool, AllocError>
+    requires { IsGivenFigure figure.now }
+    ensures block { OnOk result
+        ((block : List ℕ) × IsVerifyBlock number figure.now block × (out.new.items ≡ out.old.items ++ block)) }
+    ensures served { IfOk result (λ served. IsTrue served ↔ IsValidFigure figure.now) }
+    ensures err { OnErr result (out.new.items ≡ out.old.items) }
+{
+    figure_verdicts::yes_is_valid_figure();
+    figure_verdicts::valid_is_yes();
+    let verdict = figure_verdict(alloc, figure)?;
+    let line = figure_line(alloc, number, verdict)?;
+    out.extend_from_slice(&line)?;
+    Ok(is_yes(verdict))
+}
+
+// The last line of a run over figures.
+fn verify_last_line(
+    alloc: Global,
+    records: u32,
+    refused: u32,
+    ending: Ending,
+) -> Result<Vec<u8>, AllocError>
+    ensures { IfOk result (λ line. line.items ≡ last_line_of records refused ending) }
+{
+    match ending {
+        Ending::Well => end_line(alloc, records, refused),
+        Ending::BadLine(k) => stop_line(alloc, b"stop BadLine", k as usize),
+        Ending::Limit(k) => stop_line(alloc, b"stop Limit", k as usize),
+        Ending::EndInFigure(k) => stop_line(alloc, b"stop EndInFigure", k as usize),
+        Ending::TooLong => Vec::from_slice(alloc, b"stop TooLong\n"),
+    }
+}
+
+/// A reader of figures.
+#[derive(Drop)]
+pub struct FigureSource {
+    reader: FigureReader,
+}
+
+impl FigureSource {
+    ghost use Rattle.figure_lines.specs.State.{IsAt};
+
+    /// A reader before the first byte. It takes no memory.
+    pub fn new(alloc: Global) -> FigureSource
+        ensures { IsAt result.reader [] [] }
+    {
+        FigureSource {
+            reader: FigureReader::new(alloc),
+        }
+    }
+}
+
+impl Format for FigureSource {
+    ghost use Rattle.figure_lines.specs.State.{IsAt, ending_by};
+    ghost use Rattle.figure_lines.specs.Given.{IsGiven};
+    ghost use Rattle.figure_lines.specs.Format.{figures};
+    ghost use Rattle.figure_lines.proofs.ReadLemmas.{IsAt-reads, IsAt-begins, reading-begins};
+
+    type Record = Figure;
+
+    type End = Ending;
+
+    ghost reads = { figures };
+
+    ghost At = { λ format consumed records. IsAt format.reader consumed records };
+
+    ghost place = { λ format. format.reader.place };
+
+    ghost lent = { λ format. format.reader.figure };
+
+    ghost ending = { λ format. ending_by format.reader.begun format.reader.line format.reader.pending };
+
+    ghost IsGiven = { IsGiven };
+
+    ghost place_is = { λ format consumed records at. at.placed };
+
+    ghost is_read = { λ format consumed records at within. IsAt-reads format.reader consumed records at within };
+
+    ghost begins = { λ format consumed records tail at within. IsAt-begins format.reader consumed records tail at within };
+
+    ghost has = { λ input records ending reading. reading-begins input records ending reading };
+
+    fn take(&mut self, piece: &[u8]) -> Result<Taken<Ending>, AllocError> {
+        self.reader.take(piece)
+    }
+
+    fn record(&self) -> &Figure {
+        self.reader.figure()
+    }
+
+    fn end(&self) -> Ending {
+        self.reader.ending()
+    }
+
+    fn too_long(&self) -> Ending {
+        Ending::TooLong
+    }
+
+    fn is_well(end: &Ending) -> bool {
+        matches!(end, Ending::Well)
+    }
+}
+
+/// The job `verify`.
+#[derive(Drop)]
+pub struct VerifyJob {
+    alloc: Global,
+}
+
+impl VerifyJob {
+    /// The job before the first figure. It takes no memory.
+    pub fn new(alloc: Global) -> VerifyJob {
+        VerifyJob { alloc }
+    }
+}
+
+impl RecordJob<FigureSource> for VerifyJob {
+    ghost use Rattle.pigale_shell.specs.Verify.{verify_answers};
+
+    type Kind = ();
+
+    ghost kind = { λ job. tt };
+
+    ghost answers = { λ kind. verify_answers };
+
+    fn answer(
+        &mut self,
+        number: u32,
+        given: &Figure,
+        out: &mut Vec<u8>,
+    ) -> Result<bool, AllocError> {
+        verify_figure(self.alloc, number, given, out)
+    }
+
+    fn last_line(
+        &self,
+        alloc: Global,
+        records: u32,
+        refused: u32,
+        end: &Ending,
+    ) -> Result<Vec<u8>, AllocError> {
+        verify_last_line(alloc, records, refused, *end)
+    }
+}
