@@ -12,7 +12,12 @@ const TRIANGLE: &str =
 
 const ROWS: [(&str, &str, &str, u8); 22] = [
     ("nothing", "", "end records 0 refused 0\n", 0),
-    ("what shift wrote", TRIANGLE, "verdict 1 yes\nend records 1 refused 0\n", 0),
+    (
+        "what shift wrote",
+        TRIANGLE,
+        "verdict 1 yes\nend records 1 refused 0\n",
+        0,
+    ),
     (
         "two figures and notes, counted as they come",
         "count 1 x\nfigure 7 shift 3\n1 at 2 0: 2 3\n2 at 0 0: 3 1\n3 at 1 1: 1 2\nrefused 8 6 Genus 1\nfigure 7 schnyder 3\n1 at 0 1: 2 3\n2 at 1 1: 3 1\n3 at 1 0: 1 2\n",
@@ -97,8 +102,18 @@ const ROWS: [(&str, &str, &str, u8); 22] = [
         "stop Limit 2\n",
         3,
     ),
-    ("a first line alone", "figure 1 shift 256\n", "stop EndInFigure 1\n", 3),
-    ("too many vertices", "figure 1 shift 4096\n", "stop Limit 1\n", 3),
+    (
+        "a first line alone",
+        "figure 1 shift 256\n",
+        "stop EndInFigure 1\n",
+        3,
+    ),
+    (
+        "too many vertices",
+        "figure 1 shift 4096\n",
+        "stop Limit 1\n",
+        3,
+    ),
     ("an open line", "figure 1 shift 3", "stop BadLine 1\n", 3),
     (
         "an open line in a figure",

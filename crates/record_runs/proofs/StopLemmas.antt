@@ -1,5 +1,5 @@
 -- What bytes do to a run, and how it stops within them.
-use Rattle.std.proofs.Common.{◌≡◌, ℕ, ◌+◌, ◌<◌, Bool, true, false, not, List, [], ◌∷◌, ◌++◌, length, refl, ap, ◌∙◌, append_assoc, cond, take, drop, get_or}
+use Rattle.std.proofs.Common.{◌≡◌, ℕ, ◌+◌, ◌<◌, Bool, List, [], ◌∷◌, ◌++◌, length, ap, ◌∙◌, append_assoc, cond, take, drop, get_or}
 use Rattle.std.proofs.lemmas.List.{take-append-drop, drop_more}
 use Rattle.record_runs.specs.Texts.{Reads, Answers, input_limit}
 use Rattle.record_runs.specs.Run.{IsAt, EndsAs, Stops}
