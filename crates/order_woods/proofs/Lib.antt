@@ -1,0 +1,2 @@
+-- The lemmas on woods of orders.
+mod WoodLemmas

@@ -1,0 +1,2 @@
+-- Schnyder's wood of a canonical order.
+pub mod Woods
