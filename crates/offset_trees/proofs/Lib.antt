@@ -1,2 +1,3 @@
 -- Lemmas on trees of offsets.
 mod MetLemmas
+mod GrownLemmas

@@ -2,3 +2,5 @@
 pub mod Nodes
 pub mod Ways
 pub mod Sums
+pub mod Grown
+pub mod Laws
