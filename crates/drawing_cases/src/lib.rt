@@ -3,8 +3,6 @@
 #![tactic(auto)]
 
 #[cfg(test)]
-mod drawings;
-#[cfg(test)]
 mod figures;
 #[cfg(test)]
 mod given;
@@ -14,6 +12,8 @@ mod offsets;
 mod orders;
 #[cfg(test)]
 mod places;
+#[cfg(test)]
+mod shifts;
 #[cfg(test)]
 mod sweeps;
 #[cfg(test)]
