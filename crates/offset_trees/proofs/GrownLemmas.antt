@@ -12,10 +12,10 @@ use Rattle.shift_points.specs.Shift.{Places, shift, shift_points, y_after}
 use Rattle.shift_points.proofs.Steps.{shift-low, shift-between, shift-high, x_after-older, y_after-older, y_after-new}
 use Rattle.offset_trees.specs.Grown.{Links, IsFrom, first_covered, next_covered, AreCovered, IsGrown, IsOffsetTree, IsWritten}
 
-next-some : (a b : ℕ) (z : Option ℕ) → a < b → (if nat_lt a b then z else None) ≡ z
+pub next-some : (a b : ℕ) (z : Option ℕ) → a < b → (if nat_lt a b then z else None) ≡ z
 next-some a b z l = grind (arith, nat_tests)
 
-next-none : (a b : ℕ) (z : Option ℕ) → b ≤ a → (if nat_lt a b then z else None) ≡ None
+pub next-none : (a b : ℕ) (z : Option ℕ) → b ≤ a → (if nat_lt a b then z else None) ≡ None
 next-none a b z l = grind (arith, nat_tests)
 
 -- a step of a run, with what the nodes said before it and what they say now
@@ -41,9 +41,6 @@ module _ (name : ℕ → ℕ) (steps : ℕ → Step) (n : ℕ) (run : IsRun step
   -- places of the contour have different vertices
   apart : (i j : ℕ) → i < g.width → j < g.width → i ≢ j → g.vertex i ≢ g.vertex j
   apart i j l m ne e = ne (sym (stage.own i l) ∙ ap g.place e ∙ stage.own j m)
-
-  older : (i : ℕ) → i < g.width → g.vertex i ≢ g.count
-  older i l e = let p = stage.placed i l in omega arith
 
   -- a vertex that has left the contour is not on it
   hidden : (u : ℕ) → g.vertex (g.place u) ≢ u → (i : ℕ) → i < g.width → u ≢ g.vertex i
@@ -75,13 +72,13 @@ module _ (name : ℕ → ℕ) (steps : ℕ → Step) (n : ℕ) (run : IsRun step
   hidden-x u l gone =
       let o = step.order in
       let w = step.within in
-      wrote.xs u (λ e. omega arith) (hidden u gone s.last w) (hidden u gone (suc s.first) (omega arith))
+      wrote.xs u l (hidden u gone s.last w) (hidden u gone (suc s.first) (omega arith))
 
   hidden-right : (u : ℕ) → u < g.count → g.vertex (g.place u) ≢ u → t'.right u ≡ t.right u
   hidden-right u l gone =
       let o = step.order in
       let w = step.within in
-      wrote.rights u (λ e. omega arith) (hidden u gone s.first (omega arith)) (λ i a b. hidden u gone i (omega arith))
+      wrote.rights u l (hidden u gone s.first (omega arith)) (λ i a b. hidden u gone i (omega arith))
 
   -- x after the step, of a vertex of the contour before it
   contour-x : (i : ℕ) → i < g.width → (shift_points steps (suc n)).x (g.vertex i) ≡ at.x (g.vertex i) + shift s i
@@ -92,13 +89,13 @@ module _ (name : ℕ → ℕ) (steps : ℕ → Step) (n : ℕ) (run : IsRun step
   kept-x j l nl nf =
       let o = step.order in
       let w = step.within in
-      wrote.xs (g.vertex j) (older j l) (apart j s.last l w nl) (apart j (suc s.first) l (omega arith) nf)
+      wrote.xs (g.vertex j) (stage.placed j l) (apart j s.last l w nl) (apart j (suc s.first) l (omega arith) nf)
 
   kept-right : (j : ℕ) → j < g.width → j ≢ s.first → ((suc j ≡ s.last) → s.first < j → ⊥) → t'.right (g.vertex j) ≡ t.right (g.vertex j)
   kept-right j l nf nl =
       let o = step.order in
       let w = step.within in
-      wrote.rights (g.vertex j) (older j l) (apart j s.first l (omega arith) nf) (λ i a b. apart j i l (omega arith) (λ e. nl (ap suc e ∙ b) (omega (arith, e, a))))
+      wrote.rights (g.vertex j) (stage.placed j l) (apart j s.first l (omega arith) nf) (λ i a b. apart j i l (omega arith) (λ e. nl (ap suc e ∙ b) (omega (arith, e, a))))
 
   at-zero : t'.x 0 ≡ t.x 0
   at-zero =
@@ -110,7 +107,7 @@ module _ (name : ℕ → ℕ) (steps : ℕ → Step) (n : ℕ) (run : IsRun step
   left-after : (k : ℕ) → k < suc n → t'.left (k + 2) ≡ first_covered name (stage_after steps k) (steps k)
   left-after k l = elim (cases_eq k n) [
     | inl e ↦ subst (λ k. t'.left (k + 2) ≡ first_covered name (stage_after steps k) (steps k)) (sym e) (ap t'.left (sym count) ∙ wrote.new_left)
-    | inr ne ↦ wrote.lefts (k + 2) (λ e. ne (omega (arith, e, count))) ∙ grown.covered.left k (omega arith)
+    | inr ne ↦ wrote.lefts (k + 2) (omega (arith, count)) ∙ grown.covered.left k (omega arith)
   ]
 
   right-new : (i : ℕ) → s.first < i → i < s.last → t'.right (g.vertex i) ≡ next_covered name g s i
@@ -168,7 +165,7 @@ module _ (name : ℕ → ℕ) (steps : ℕ → Step) (n : ℕ) (run : IsRun step
 
   heights-after : (k : ℕ) → k < suc n + 2 → t'.y k ≡ pos ((shift_points steps (suc n)).y k)
   heights-after k l = elim (cases_lt k (n + 2)) [
-    | inl old ↦ wrote.ys k (λ e. omega (arith, e, count)) ∙ grown.covered.heights k old ∙ ap pos (sym (y_after-older g s at k (omega (arith, count))))
+    | inl old ↦ wrote.ys k (omega (arith, count)) ∙ grown.covered.heights k old ∙ ap pos (sym (y_after-older g s at k (omega (arith, count))))
     | inr new ↦
         let e : k ≡ g.count = omega (arith, count) in
         ap t'.y e ∙ wrote.new_y ∙ ap pos (sym (y_after-new g s at g.count refl)) ∙ ap (λ v. pos (y_after g s at v)) (sym e)
@@ -176,7 +173,7 @@ module _ (name : ℕ → ℕ) (steps : ℕ → Step) (n : ℕ) (run : IsRun step
 
   covered-after : AreCovered name steps (suc n) t'
   covered-after = record {
-    base_left = (wrote.lefts 0 (λ e. omega (arith, e, count)) ∙ grown.covered.base_left.0, wrote.lefts 1 (λ e. omega (arith, e, count)) ∙ grown.covered.base_left.1);
+    base_left = (wrote.lefts 0 (omega (arith, count)) ∙ grown.covered.base_left.0, wrote.lefts 1 (omega (arith, count)) ∙ grown.covered.base_left.1);
     left = left-after;
     right = right-after;
     first = first-after;

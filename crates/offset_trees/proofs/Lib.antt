@@ -1,3 +1,7 @@
 -- Lemmas on trees of offsets.
 mod MetLemmas
+mod RowLemmas
+mod PutLemmas
+mod NextLemmas
+mod WriteLemmas
 mod GrownLemmas

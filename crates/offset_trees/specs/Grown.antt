@@ -59,7 +59,7 @@ pub record IsOffsetTree (name : ℕ → ℕ) (steps : ℕ → Step) (n : ℕ) (t
   pub last_offset : IsFrom t (shift_points steps n) 0 (n + 1)
   pub second_offset : IsFrom t (shift_points steps n) (n + 1) 1
 
--- What a step writes: the node of the new vertex, v; the right link of p and the offset of q; the offset of the first vertex that it covers, and the right link of the last one.
+-- What a step writes: the node of the new vertex, v; the right link of p and the offset of q; the offset of the first vertex that it covers, and the right link of the last one. All else that the nodes of older vertices said stays.
 pub record IsWritten (name : ℕ → ℕ) (g : Stage) (s : Step) (at : Places) (t t' : Links) : Type 0 where
   pub new_x : pos (at.x (g.vertex s.first)) +ℤ t'.x g.count ≡ pos (x_after g s at g.count)
   pub new_y : t'.y g.count ≡ pos (top_y at (g.vertex s.first) (g.vertex s.last))
@@ -69,7 +69,7 @@ pub record IsWritten (name : ℕ → ℕ) (g : Stage) (s : Step) (at : Places) (
   pub q_x : pos (x_after g s at g.count) +ℤ t'.x (g.vertex s.last) ≡ pos (x_after g s at (g.vertex s.last))
   pub first_x : suc s.first < s.last → pos (x_after g s at g.count) +ℤ t'.x (g.vertex (suc s.first)) ≡ pos (x_after g s at (g.vertex (suc s.first)))
   pub last_right : (i : ℕ) → s.first < i → suc i ≡ s.last → t'.right (g.vertex i) ≡ None
-  pub xs : (u : ℕ) → u ≢ g.count → u ≢ g.vertex s.last → u ≢ g.vertex (suc s.first) → t'.x u ≡ t.x u
-  pub ys : (u : ℕ) → u ≢ g.count → t'.y u ≡ t.y u
-  pub lefts : (u : ℕ) → u ≢ g.count → t'.left u ≡ t.left u
-  pub rights : (u : ℕ) → u ≢ g.count → u ≢ g.vertex s.first → ((i : ℕ) → s.first < i → suc i ≡ s.last → u ≢ g.vertex i) → t'.right u ≡ t.right u
+  pub xs : (u : ℕ) → u < g.count → u ≢ g.vertex s.last → u ≢ g.vertex (suc s.first) → t'.x u ≡ t.x u
+  pub ys : (u : ℕ) → u < g.count → t'.y u ≡ t.y u
+  pub lefts : (u : ℕ) → u < g.count → t'.left u ≡ t.left u
+  pub rights : (u : ℕ) → u < g.count → u ≢ g.vertex s.first → ((i : ℕ) → s.first < i → suc i ≡ s.last → u ≢ g.vertex i) → t'.right u ≡ t.right u

@@ -4,9 +4,12 @@
 
 ghost use Rattle.offset_trees.specs.Laws.{TreeBegins, TreeGrows, GrownIsOffsetTree};
 
+mod grow;
 mod nodes;
 mod sums;
+mod writes;
 
+pub use grow::put_over;
 pub use nodes::{Node, Offsets};
 pub use sums::sum_offsets;
 
