@@ -1,5 +1,5 @@
 -- A record as a completed map with a canonical order.
-use Rattle.std.specs.Prelude.{ℕ, ◌<◌, ◌≡◌, List, [], length, slice_index}
+use Rattle.std.specs.Prelude.{ℕ, ◌<◌, ◌≡◌, [], length, slice_index}
 use Rattle.map_lists.specs.Lists.{Lists}
 use Rattle.map_definitions.specs.Maps.{HasDart, IsSimpleMap, list_of}
 use Rattle.plane_laws.specs.Completed.{IsCompleted}

@@ -1,6 +1,6 @@
 -- The parents of a run are a wood of the map.
-use Rattle.std.proofs.Common.{◌≡◌, ◌≢◌, ℕ, zero, suc, ◌+◌, ◌-◌, ◌<◌, ◌≤◌, List, length, get_or, All, refl, sym, ap, ◌∙◌, subst, inl, inr, arith}
-use Rattle.std.proofs.lemmas.Bool.{cases_lt, cases_eq}
+use Rattle.std.proofs.Common.{◌≡◌, ◌≢◌, ℕ, zero, suc, ◌+◌, ◌-◌, ◌<◌, ◌≤◌, List, length, get_or, refl, sym, ap, ◌∙◌, subst, inl, inr, arith}
+use Rattle.std.proofs.lemmas.Bool.{cases_lt}
 use Rattle.std.proofs.lemmas.List.{get_or_default}
 use Rattle.map_lists.specs.Lists.{Lists}
 use Rattle.map_definitions.specs.Maps.{Dart, HasDart, follows}
@@ -9,12 +9,12 @@ use Rattle.plane_laws.specs.Completed.{IsCompleted}
 use Rattle.map_peeling.specs.Restricted.{IsFaceOfThree, IsDartOfThree}
 use Rattle.canon_order.specs.Orders.{IsCanonicalOrder}
 use Rattle.canon_order.proofs.Counters.{same_place, all_of_them}
-use Rattle.contour_runs.specs.Runs.{Step, Stage, stage_after, IsRun, IsFaceOf}
+use Rattle.contour_runs.specs.Runs.{Step, Stage, stage_after}
 use Rattle.contour_runs.specs.Laws.{IsStage}
 use Rattle.contour_runs.proofs.Stages.{IsStage-run, IsRun-less, count-stage_after, IsCovered-own}
-use Rattle.order_runs.specs.OrderRuns.{IsMadeByStep, IsOrderRun}
-use Rattle.run_woods.specs.Parents.{Colour, one, two, three, IsParent, IsParentOne, IsParentTwo, IsParentThree, End, out, into, IsEnd, MayFollow}
-use Rattle.run_woods.specs.Rules.{HasOneParent, LeadsAway, IsOwnRoot, IsCorner, IsOrdered}
+use Rattle.order_runs.specs.OrderRuns.{IsOrderRun}
+use Rattle.run_woods.specs.Parents.{Colour, one, two, three, IsParent, End, out, into, IsEnd}
+use Rattle.run_woods.specs.Rules.{HasOneParent, LeadsAway, IsOwnRoot, IsOrdered}
 use Rattle.run_woods.proofs.ParentLemmas.{leads_away, own_root, differ, three_parents}
 use Rattle.run_woods.proofs.Corners.{corners_ordered}
 use Rattle.order_woods.specs.Woods.{root, IsInner, LeadsBy, IsEndAt, IsInOrder, IsWood, AreParentsOf}

@@ -1,11 +1,10 @@
 -- The order of edges round a vertex, at each corner of a face.
 use Rattle.std.proofs.Common.{◌≡◌, ◌⊎◌, ℕ, zero, suc, ◌+◌, ◌<◌, ◌≤◌, refl, sym, ap, ◌∙◌, subst, inl, inr, arith}
-use Rattle.std.proofs.lemmas.Bool.{cases_lt, cases_eq}
+use Rattle.std.proofs.lemmas.Bool.{cases_lt}
 use Rattle.contour_runs.specs.Runs.{Step, Stage, stage_after, IsRun, IsFaceOf}
-use Rattle.contour_runs.specs.Laws.{IsStage}
 use Rattle.contour_runs.proofs.Stages.{IsStage-run, IsRun-less, count-stage_after}
 use Rattle.contour_runs.proofs.Faces.{IsAlong, cases_along}
-use Rattle.run_woods.specs.Parents.{Colour, one, two, three, next, previous, IsParent, End, out, into, IsEnd, MayFollow}
+use Rattle.run_woods.specs.Parents.{one, two, three, IsParent, out, into}
 use Rattle.run_woods.specs.Rules.{IsCorner, IsOrdered}
 use Rattle.run_woods.proofs.ParentLemmas.{IsParent-more}
 

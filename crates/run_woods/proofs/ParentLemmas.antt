@@ -1,7 +1,7 @@
 -- The parents of a vertex.
-use Rattle.std.proofs.Common.{◌≡◌, ◌≢◌, ◌⊎◌, ℕ, zero, suc, ◌+◌, ◌-◌, ◌<◌, ◌≤◌, refl, sym, ap, ◌∙◌, subst, inl, inr, arith}
-use Rattle.std.proofs.lemmas.Bool.{cases_lt, cases_eq}
-use Rattle.contour_runs.specs.Runs.{Step, Stage, stage_after, IsRun, IsCovered}
+use Rattle.std.proofs.Common.{◌≡◌, ◌≢◌, ℕ, zero, suc, ◌+◌, ◌-◌, ◌<◌, ◌≤◌, refl, sym, ap, ◌∙◌, subst, inl, inr, arith}
+use Rattle.std.proofs.lemmas.Bool.{cases_eq}
+use Rattle.contour_runs.specs.Runs.{Step, Stage, stage_after, IsRun}
 use Rattle.contour_runs.specs.Laws.{IsStage, IsCoveredOnce}
 use Rattle.contour_runs.proofs.Places.{vertex_after-new}
 use Rattle.contour_runs.proofs.Stages.{IsStage-run, IsRun-less, count-stage_after, covered_once, IsCovered-own}

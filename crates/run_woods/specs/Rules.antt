@@ -1,5 +1,5 @@
 -- The rules that the wood of a run keeps.
-use Rattle.std.specs.Prelude.{ℕ, suc, ◌+◌, ◌<◌, ◌≤◌, ◌≡◌, ◌≢◌, ◌⊎◌}
+use Rattle.std.specs.Prelude.{ℕ, suc, ◌<◌, ◌≤◌, ◌≡◌, ◌≢◌, ◌⊎◌}
 use Rattle.contour_runs.specs.Runs.{Step, stage_after, IsRun, IsFaceOf}
 use Rattle.run_woods.specs.Parents.{Colour, one, two, three, IsParent, End, IsEnd, MayFollow}
 

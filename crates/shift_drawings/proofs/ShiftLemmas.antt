@@ -1,11 +1,11 @@
 -- The shift points of a canonical order are a drawing.
-use Rattle.std.proofs.Common.{◌≡◌, ℕ, ◌+◌, ◌-◌, ◌*◌, ◌<◌, ◌≤◌, List, length, pos, sym, ap, ap₂, ◌∙◌, subst, arith}
+use Rattle.std.proofs.Common.{◌≡◌, ℕ, ◌-◌, ◌*◌, ◌<◌, ◌≤◌, List, length, pos, sym, ap, ap₂, ◌∙◌, subst, arith}
 use Rattle.std.proofs.lemmas.Int.{ints}
 use Rattle.pg_plane.specs.declared.point.Point.{Point}
 use Rattle.map_lists.specs.Lists.{Lists}
 use Rattle.map_definitions.specs.Maps.{Dart, HasDart}
 use Rattle.plane_laws.specs.Completed.{IsCompleted}
-use Rattle.drawings.specs.Drawing.{place, IsInGrid}
+use Rattle.drawings.specs.Drawing.{IsInGrid}
 use Rattle.canon_order.specs.Orders.{IsCanonicalOrder}
 use Rattle.run_drawings.specs.RunDrawings.{IsCounterclockwiseRun, CounterclockwiseRunDraws}
 use Rattle.shift_points.specs.Shift.{shift_points, point_of}

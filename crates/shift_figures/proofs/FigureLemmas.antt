@@ -1,7 +1,7 @@
 -- From a drawing of a completion to the figure of the map.
 use Rattle.std.proofs.Common.{◌≡◌, ℕ, ◌*◌, ◌-◌, ◌<◌, ◌≤◌, length, pos, refl, ap, subst, ◌∙◌}
 use Rattle.map_lists.specs.Lists.{Lists}
-use Rattle.map_definitions.specs.Maps.{IsSimpleMap, IsPlane, list_of, follows}
+use Rattle.map_definitions.specs.Maps.{IsSimpleMap, IsPlane, follows}
 use Rattle.map_definitions.proofs.DartLemmas.{HasDart-follows}
 use Rattle.pg_plane.specs.declared.figure.GridFigure.{GridFigure}
 use Rattle.drawings.specs.Drawing.{place}

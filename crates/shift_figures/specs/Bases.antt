@@ -1,5 +1,5 @@
 -- Drawings of completed maps for a base, which is a dart.
-use Rattle.std.specs.Prelude.{ℕ, ◌-◌, ◌*◌, ◌<◌, ◌≡◌, List, length, pos}
+use Rattle.std.specs.Prelude.{ℕ, ◌-◌, ◌*◌, ◌≡◌, List, length, pos}
 use Rattle.map_lists.specs.Lists.{Lists}
 use Rattle.map_definitions.specs.Maps.{Dart, HasDart}
 use Rattle.pg_plane.specs.declared.figure.GridFigure.{GridFigure}
