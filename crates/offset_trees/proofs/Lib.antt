@@ -5,3 +5,4 @@ mod PutLemmas
 mod NextLemmas
 mod WriteLemmas
 mod GrownLemmas
+mod Cases

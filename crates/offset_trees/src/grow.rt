@@ -183,3 +183,18 @@ pub fn put_over<L: Ledger>(
     set_x(tree, q.0, rest, steps);
     set_node(tree, v.0, (x, y), (first, Some(q)), steps);
 }
+
+/// Makes the nodes of `s` and `t` the tree of a run before its first step, whatever they were: both of zeros,
+/// and `s` leads to `t`. The tree is used twice. It takes no memory.
+pub fn begin_tree<L: Ledger>(tree: &mut Offsets, s: VertexId, t: VertexId, steps: &mut Steps<L>)
+    requires s { s.0 < length tree.old }
+    requires t { t.0 < length tree.old }
+    requires apart { s.0 ≢ t.0 }
+    ensures grown { (at : List ℕ) (run : ℕ → Step) → slice_index at 0 ≡ s.0 → slice_index at 1 ≡ t.0
+        → IsGrown (slice_index at) run 0 (links_of tree.new at) }
+    ensures count { length tree.new ≡ length tree.old }
+    ensures steps { steps.new ≡ steps.old + 2 }
+{
+    set_node(tree, s.0, (0, 0), (None, Some(t)), steps);
+    set_node(tree, t.0, (0, 0), (None, None), steps);
+}

@@ -9,7 +9,7 @@ mod nodes;
 mod sums;
 mod writes;
 
-pub use grow::put_over;
+pub use grow::{begin_tree, put_over};
 pub use nodes::{Node, Offsets};
 pub use sums::sum_offsets;
 
