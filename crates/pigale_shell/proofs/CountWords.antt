@@ -493,7 +493,7 @@ the_job word = Some (codes "job", word ∷ [])
 trailing_count : (words : List Text) → Takes (record (between [] None 1) { is_trailing = true }) words → words ≡ codes "count" ∷ []
 unfolding clap_on_literals walk_fault
 trailing_count [] takes = absurd (none≢some Count takes.1.1)
-trailing_count (x ∷ []) takes = ap (λ w. w ∷ []) ((bytes_eq-Decides x (codes "count")).0 (not_both _ _ _ _ takes.1.1))
+trailing_count (x ∷ []) takes = ap (λ w. w ∷ []) ((bytes_eq-Decides x (codes "count")).0 (not_both _ _ _ _ _ takes.1.1))
 trailing_count (x ∷ y ∷ words) takes = absurd (some_kind _ _ takes.0)
 
 -- words behind an option are not those of `count`
@@ -504,13 +504,13 @@ never_behind_option id w words is had stopped takes =
 -- behind a job's word and `--` comes nothing
 last_count : (word : Text) (words : List Text) → Takes (record (between [] (the_job word) 2) { is_trailing = true }) words → (word ≡ codes "count") × (words ≡ [])
 unfolding clap_on_literals walk_fault
-last_count word [] takes = ((bytes_eq-Decides word (codes "count")).0 (not_both _ _ _ _ takes.1.1), refl)
+last_count word [] takes = ((bytes_eq-Decides word (codes "count")).0 (not_both _ _ _ _ _ takes.1.1), refl)
 last_count word (z ∷ words) takes = absurd (some_kind _ _ takes.0)
 
 -- behind a job's word comes `--` at most
 job_count : (word : Text) (words : List Text) → Takes (between [] (the_job word) 2) words → (word ≡ codes "count") × ((words ≡ []) ⊎ (words ≡ codes "--" ∷ []))
 unfolding clap_on_literals walk_fault
-job_count word [] takes = ((bytes_eq-Decides word (codes "count")).0 (not_both _ _ _ _ takes.1.1), inl refl)
+job_count word [] takes = ((bytes_eq-Decides word (codes "count")).0 (not_both _ _ _ _ _ takes.1.1), inl refl)
 job_count word (y ∷ words) takes =
     go (walked rules [] (between [] (the_job word) 2) y) (word_meets [] (the_job word) 2 y (or_else-nil _ _ takes.0).0) ((or_else-nil _ _ takes.0).1, takes.1)
   where

@@ -4,6 +4,7 @@ mod PlanarLemmas
 mod OutcomeLemmas
 mod MadeLemmas
 mod NumberLemmas
+mod SizeLemmas
 mod WordLemmas
 mod CountWords
 mod Cases
