@@ -161,8 +161,8 @@ fn byte_by_byte_too(rt: HostRuntime) -> Result<(), Fail> {
 #[test]
 fn a_failed_read_leaves_the_verdicts_of_whole_figures(rt: HostRuntime) -> Result<(), Fail> {
     // the figure has 59 bytes
-    for taken in 0..83 {
-        let failing = Vec::from_slice(rt.alloc(), &[taken as u64 + 1])?;
+    for taken in 0..83u64 {
+        let failing = Vec::from_slice(rt.alloc(), &[taken + 1])?;
         let bytes = Vec::from_slice(rt.alloc(), TRIANGLE.as_bytes())?;
         let mut source = MemSource::new(bytes, 1, failing);
         let ran = run_over(rt.alloc(), &["verify"], &mut source, 64, &[])?;
