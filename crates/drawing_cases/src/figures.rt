@@ -82,9 +82,15 @@ fn order_of(
 #[test]
 fn refusals(rt: HostRuntime) -> Result<(), Fail> {
     let rows: [(&[&[u16]], DrawRefusal); 7] = [
-        (&[&[2], &[1]], DrawRefusal::Fault(MapFault::OutOfRange(0, 2))),
+        (
+            &[&[2], &[1]],
+            DrawRefusal::Fault(MapFault::OutOfRange(0, 2)),
+        ),
         (&[&[1], &[0, 1]], DrawRefusal::Fault(MapFault::Loop(1))),
-        (&[&[1, 1], &[0]], DrawRefusal::Fault(MapFault::Repeated(0, 1))),
+        (
+            &[&[1, 1], &[0]],
+            DrawRefusal::Fault(MapFault::Repeated(0, 1)),
+        ),
         (&[&[1], &[]], DrawRefusal::Fault(MapFault::OneSided(0, 1))),
         (&[&[]], DrawRefusal::Small(1)),
         (&[&[1], &[0]], DrawRefusal::Small(2)),

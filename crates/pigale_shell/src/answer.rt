@@ -91,11 +91,7 @@ fn count_record(
 }
 
 // The figure of a record by a job that draws in a grid, or why it has none.
-fn grid_figure(
-    alloc: Global,
-    job: GridJob,
-    lists: &Rotations,
-) -> Result<GridFigure, DrawRefusal>
+fn grid_figure(alloc: Global, job: GridJob, lists: &Rotations) -> Result<GridFigure, DrawRefusal>
     requires some_list { 0 < length lists.now }
     requires few_lists { length lists.now < 4096 }
     ensures figure { IfOk result (IsFigureOf job lists.now) }
