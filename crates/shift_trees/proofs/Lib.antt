@@ -1,0 +1,4 @@
+-- Lemmas on trees of offsets over a map.
+pub mod RowLemmas
+pub mod DartLemmas
+pub mod TreeLemmas
