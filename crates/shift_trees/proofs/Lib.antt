@@ -2,3 +2,5 @@
 pub mod RowLemmas
 pub mod DartLemmas
 pub mod TreeLemmas
+pub mod LinkLemmas
+pub mod PointLemmas
