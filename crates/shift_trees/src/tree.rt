@@ -1,8 +1,9 @@
 //! The tree of offsets of an order.
-ghost use Rattle.std.specs.Prelude.{◌≡◌, ◌≤◌, ◌+◌, ◌*◌, length};
+ghost use Rattle.std.specs.Prelude.{◌≡◌, ◌≤◌, ◌+◌, ◌*◌, length, slice_index};
 ghost use Rattle.map_definitions.specs.Maps.{Dart, vertex_count};
 ghost use Rattle.plane_laws.specs.Completed.{IsCompleted};
 ghost use Rattle.canon_order.specs.Orders.{IsCanonicalOrder, IsRankOf, vertices_of};
+ghost use Rattle.offset_trees.specs.Ways.{IsTree};
 ghost use Rattle.shift_trees.specs.Trees.{IsTreeOf};
 
 use crate::rows::{order_has_rows, row_begin, row_end};
@@ -12,8 +13,10 @@ use offset_trees::{Offsets, begin_tree, put_over};
 use pg_io::Steps;
 use std::sync::ledger::Ledger;
 
-/// Makes `tree` the tree of offsets of a canonical order of a completed map, whatever its nodes were. At most
-/// 24 uses of the tree are made for each vertex. It takes no memory and refuses nothing.
+/// Makes `tree` the tree of offsets of a canonical order of a completed map, whatever its nodes were. Its links
+/// lead from the first vertex of the order to each other one, and it adds up to the points of the shift method.
+///
+/// At most 24 uses of the tree are made for each vertex. It takes no memory and refuses nothing.
 ///
 /// The map and the order stay as they are. The time is linear in the entries of the map: one round of a vertex
 /// finds where the row of the contour begins and ends over which it is put, and the tree is gone along between.
@@ -30,6 +33,7 @@ pub fn offset_tree<L: Ledger>(
     requires rank { IsRankOf order.now.rank (vertices_of order.now) }
     requires nodes { length tree.old ≡ vertex_count tri.now.lists }
     ensures tree { IsTreeOf tri.now.lists (vertices_of order.now) tree.new }
+    ensures links { IsTree tree.new (slice_index (vertices_of order.now) 0) }
     ensures count { length tree.new ≡ length tree.old }
     ensures steps { steps.new ≤ steps.old + 24 * vertex_count tri.now.lists }
     ensures never_falls { steps.old ≤ steps.new }

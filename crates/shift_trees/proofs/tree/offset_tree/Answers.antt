@@ -7,6 +7,7 @@ use Rattle.order_runs.specs.OrderRuns.{IsOrderRun}
 use Rattle.offset_trees.specs.Next.{IsNextStep}
 use Rattle.offset_trees.specs.Grown.{links_of, IsGrown}
 use Rattle.shift_trees.proofs.TreeLemmas.{vertex-is, IsNextStep-order, row-at, uses-more, IsTreeOf-all, uses-all}
+use Rattle.shift_trees.proofs.PointLemmas.{AddsUp-order}
 use Rattle.shift_trees.proofs.tree.offset_tree.Goals as goal
 
 pub loop-k-init : goal.loop-k-init
@@ -122,3 +123,19 @@ returns-clause-steps g c =
     let some = c.requires.completed.some in
     let count = order.count in
     omega (arith, uses-all c.face_count.ensures lists base at order run.0 run.1 c.args.steps.now c.loop-k.steps c.loop-k.k (omega arith) (omega arith) c.loop-k.invariant.uses)
+
+pub returns-clause-links : goal.returns-clause-links
+returns-clause-links g c =
+    let at = vertices_of c.args.order.now in
+    let lists = c.args.tri.now.lists in
+    let base = c.requires.order.0 in
+    let order = c.requires.order.1 in
+    let run = c.order_is_run.ensures lists base at c.requires.completed order in
+    let n = length-map c.args.order.now.at (λ v. v.0) in
+    let len = c.len-k-end.ensures in
+    let test = c.loop-k-test.false in
+    let end = c.loop-k.auto.k-end in
+    let some = c.requires.completed.some in
+    let count = order.count in
+    let made = IsTreeOf-all c.grown_is_offset_tree.ensures lists at c.loop-k.tree c.loop-k.k (omega arith) (omega arith) c.loop-k.invariant.grown in
+    (AddsUp-order lists base at c.loop-k.tree c.requires.completed c.facts.ensures.few_vertices order run.0 run.1 (omega (arith, c.loop-k.invariant.count, c.requires.nodes)) made).tree
