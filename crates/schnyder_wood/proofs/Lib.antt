@@ -1,0 +1,5 @@
+-- The lemmas on woods.
+mod Covers
+mod Names
+mod Rows
+mod Orders
