@@ -3,9 +3,11 @@
 
 mod colour;
 mod of_order;
+mod path;
 mod tables;
 mod woods;
 
 pub use colour::Colour;
 pub use of_order::wood;
+pub use path::path_len;
 pub use woods::Wood;
