@@ -1,0 +1,8 @@
+use Rattle.std.proofs.Common.{ℕ, length}
+use Rattle.contour_runs.specs.Runs.{Step}
+use Rattle.order_tables.specs.Rows.{AreRows}
+use Rattle.schnyder_wood.specs.Tables.{AreParentTables}
+use Rattle.schnyder_wood.proofs.tables.find_parents.Given as goal
+
+abbrev pub invariant-loop-k : goal.invariant-loop-k
+invariant-loop-k l = (steps : ℕ → Step) → AreRows steps l.rows → AreParentTables steps l.k (length l.initial.firsts) l.firsts l.lasts l.covers

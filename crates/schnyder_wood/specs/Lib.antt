@@ -1,0 +1,3 @@
+-- Woods as the code holds them.
+pub mod Parents
+pub mod Tables

@@ -1,0 +1,12 @@
+//! The colours of a wood.
+
+/// One of the three colours, which are counted cyclically.
+#[derive(Clone, Copy, Debug, PartialEq, Eq)]
+pub enum Colour {
+    /// The colour of the tree whose root is the first vertex of the order.
+    One,
+    /// That of the second vertex.
+    Two,
+    /// That of the last vertex.
+    Three,
+}

@@ -1,0 +1,13 @@
+//! Schnyder's wood (1990) of a canonical order of a completed map, in linear time.
+#![tactic(auto)]
+
+mod colour;
+mod of_order;
+mod path;
+mod tables;
+mod woods;
+
+pub use colour::Colour;
+pub use of_order::wood;
+pub use path::path_len;
+pub use woods::Wood;

@@ -1,0 +1,105 @@
+//! The wood of a canonical order.
+ghost use Rattle.std.specs.Prelude.{◌≡◌, ◌<◌, ◌+◌, ◌-◌, ℕ, length, slice_index, All, IfOk};
+ghost use Rattle.map_definitions.specs.Maps.{Dart, vertex_count};
+ghost use Rattle.plane_laws.specs.Completed.{IsCompleted};
+ghost use Rattle.canon_order.specs.Orders.{IsCanonicalOrder, IsRankOf, vertices_of};
+ghost use Rattle.contour_runs.specs.Runs.{Step};
+ghost use Rattle.order_runs.specs.OrderRuns.{IsOrderRun};
+ghost use Rattle.run_woods.specs.Parents.{Colour as TreeColour};
+ghost use Rattle.order_woods.specs.Woods.{AreParentsOf};
+ghost use Rattle.order_tables.specs.Rows.{AreRows};
+ghost use Rattle.schnyder_wood.specs.Parents.{by_colour, parent_in, IsWoodOf};
+ghost use Rattle.schnyder_wood.specs.Tables.{AreNamed, AreParentsAt};
+
+use crate::tables::{find_parents, name_of, named};
+use crate::woods::Wood;
+use canon_order::Order;
+use half_edges::{HalfMap, Rotations};
+use order_tables::order_rows;
+use std::alloc::{AllocError, Global};
+
+// For each vertex its parent of each colour.
+#[derive(Drop)]
+struct Tables {
+    ones: Vec<u16>,
+    twos: Vec<u16>,
+    threes: Vec<u16>,
+}
+
+// Three tables by ranks, with vertices in place of their ranks.
+fn named_all(
+    alloc: Global,
+    firsts: &[u16],
+    lasts: &[u16],
+    covers: &[u16],
+    order: &Order,
+) -> Result<Tables, AllocError>
+    requires lasts { length lasts.now ≡ length firsts.now }
+    requires covers { length covers.now ≡ length firsts.now }
+    requires ranks { All (λ k. k < length firsts.now) order.now.rank }
+    requires within { (c : TreeColour) (k : ℕ) → slice_index (by_colour firsts.now lasts.now covers.now c) k < length (vertices_of order.now) }
+    ensures { IfOk result (λ tables. (c : TreeColour)
+        → AreNamed (by_colour firsts.now lasts.now covers.now c) order.now.rank (vertices_of order.now) (by_colour tables.ones.items tables.twos.items tables.threes.items c)) }
+{
+    let ones = named(alloc, firsts, order)?;
+    let twos = named(alloc, lasts, order)?;
+    let threes = named(alloc, covers, order)?;
+    Ok(Tables { ones, twos, threes })
+}
+
+// The parents of the vertices of an order, by the rows of its run.
+fn parent_tables(alloc: Global, rows: &Rotations, order: &Order) -> Result<Tables, AllocError>
+    requires few { length order.now.rank < 4096 }
+    requires count { length (vertices_of order.now) ≡ length order.now.rank }
+    requires rows { length rows.now + 2 ≡ length order.now.rank }
+    requires ranks { All (λ k. k < length order.now.rank) order.now.rank }
+    requires run { (steps : ℕ → Step) × AreRows steps rows.now }
+    ensures { IfOk result (λ tables. (steps : ℕ → Step) → AreRows steps rows.now
+        → AreParentsAt steps (length rows.now) order.now.rank (vertices_of order.now) tables.ones.items tables.twos.items tables.threes.items) }
+{
+    let n = order.rank.len();
+    let mut firsts = vec![in alloc; 0; n]?;
+    let mut lasts = vec![in alloc; 0; n]?;
+    let mut covers = vec![in alloc; 0; n]?;
+    find_parents(&mut firsts, &mut lasts, &mut covers, rows);
+    named_all(alloc, &firsts, &lasts, &covers, order)
+}
+
+/// Schnyder's wood of a canonical order of a completed map: a simple map of genus zero with n >= 3 vertices and
+/// 3n - 6 edges.
+///
+/// The roots of the colours one, two and three are the order's first, second and last vertex. The parents of
+/// colours one and two of a vertex are the first and the last of its neighbours that come before it, along the
+/// outer cycle of these; that of colour three is the vertex that takes it off the outer cycle.
+///
+/// It fails only for want of memory. The map and the order stay as they are. The time is linear in the entries
+/// of the map.
+///
+/// Source: Schnyder, Embedding planar graphs on the grid, 1990.
+pub fn wood(alloc: Global, tri: &HalfMap, order: &Order) -> Result<Wood, AllocError>
+    requires completed { IsCompleted tri.now.lists }
+    requires order { (base : Dart) × IsCanonicalOrder tri.now.lists base (vertices_of order.now) }
+    requires rank { IsRankOf order.now.rank (vertices_of order.now) }
+    ensures root_one { IfOk result (λ wood. wood.root_one ≡ slice_index (vertices_of order.now) 0) }
+    ensures root_two { IfOk result (λ wood. wood.root_two ≡ slice_index (vertices_of order.now) 1) }
+    ensures root_three { IfOk result (λ wood. wood.root_three ≡ slice_index (vertices_of order.now) (vertex_count tri.now.lists - 1)) }
+    ensures wood { IfOk result (λ wood. (base : Dart) → IsCanonicalOrder tri.now.lists base (vertices_of order.now) → IsWoodOf tri.now.lists base wood) }
+    ensures parents { IfOk result (λ wood. (base : Dart) (canonical : IsCanonicalOrder tri.now.lists base (vertices_of order.now)) (steps : ℕ → Step)
+        → IsOrderRun tri.now.lists base (vertices_of order.now) canonical.cycle steps → AreParentsOf (vertices_of order.now) steps (parent_in wood)) }
+{
+    tri.facts();
+    order_tables::ranks_are_places();
+    order_runs::order_is_run();
+    order_woods::wood_of_order();
+    let last = order.at.len() - 1;
+    let rows = order_rows(alloc, tri, order)?;
+    let tables = parent_tables(alloc, &rows, order)?;
+    Ok(Wood {
+        root_one: name_of(order, 0),
+        root_two: name_of(order, 1),
+        root_three: name_of(order, last as u16),
+        ones: tables.ones,
+        twos: tables.twos,
+        threes: tables.threes,
+    })
+}
