@@ -1,0 +1,6 @@
+-- The lemmas on checks of visibility drawings.
+mod EdgeLemmas
+mod ColumnLemmas
+mod OnceRound
+mod TurnLemmas
+mod OverlapLemmas

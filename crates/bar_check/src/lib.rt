@@ -1,0 +1,27 @@
+//! The check of visibility drawings, in which each vertex is a level bar and each edge a column between two
+//! bars: whether heights, bars and columns are in their ranges, each column sees both its ends with no bar in
+//! its way, and each vertex has its edges in the order of its list; and where not, which fault comes first.
+#![tactic(auto)]
+
+ghost use Rattle.bar_check.specs.Laws.{OverlapIsNever, YesIsValid};
+
+mod check;
+mod columns;
+mod edges;
+mod heights;
+mod rounds;
+mod turns;
+mod verdict;
+
+pub use check::check_bars;
+pub use verdict::BarVerdict;
+
+/// A verdict is `Yes` exactly where the bars are valid.
+pub fn yes_is_valid()
+    ensures { YesIsValid }
+{}
+
+/// No verdict on a drawing of a simple map is `Overlap`.
+pub fn overlap_is_never()
+    ensures { OverlapIsNever }
+{}
