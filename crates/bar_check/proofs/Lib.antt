@@ -4,3 +4,6 @@ mod ColumnLemmas
 mod OnceRound
 mod TurnLemmas
 mod OverlapLemmas
+mod Cases
+mod NumberLemmas
+mod NumberCounts

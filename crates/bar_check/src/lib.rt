@@ -3,7 +3,7 @@
 //! its way, and each vertex has its edges in the order of its list; and where not, which fault comes first.
 #![tactic(auto)]
 
-ghost use Rattle.bar_check.specs.Laws.{OverlapIsNever, YesIsValid};
+ghost use Rattle.bar_check.specs.Laws.{EdgeNumbers, OverlapIsNever, YesIsValid};
 
 mod check;
 mod columns;
@@ -24,4 +24,9 @@ pub fn yes_is_valid()
 /// No verdict on a drawing of a simple map is `Overlap`.
 pub fn overlap_is_never()
     ensures { OverlapIsNever }
+{}
+
+/// The number of an edge, by which its column is found, is its place among the edges of a simple map.
+pub fn edge_numbers()
+    ensures { EdgeNumbers }
 {}
