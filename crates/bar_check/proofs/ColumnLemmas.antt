@@ -1,5 +1,5 @@
 -- What the search for faulty edges says of columns and of bars in their way.
-use Rattle.std.proofs.Common.{ℕ, List, ℤ, Option, Some, None}
+use Rattle.std.proofs.Common.{ℕ, ℤ, Option, Some, None}
 use Rattle.std.specs.Option.{MatchOption}
 use Rattle.map_lists.specs.Lists.{Lists}
 use Rattle.map_lists.specs.declared.ids.VertexId.{VertexId}

@@ -1,5 +1,5 @@
 -- The numbers of edges, one vertex after the other.
-use Rattle.std.proofs.Common.{◌≡◌, ℕ, ◌+◌, ◌&&◌, nat_lt, List, [], length, take, count_by, refl, sym, ap, ◌∙◌, arith, add-one}
+use Rattle.std.proofs.Common.{◌≡◌, ℕ, ◌+◌, ◌&&◌, nat_lt, [], length, take, count_by, refl, sym, ap, ◌∙◌, arith, add-one}
 use Rattle.std.proofs.lemmas.List.{take_all}
 use Rattle.map_lists.specs.Lists.{Lists}
 use Rattle.map_definitions.specs.Maps.{list_of}

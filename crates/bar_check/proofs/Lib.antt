@@ -7,3 +7,4 @@ mod OverlapLemmas
 mod Cases
 mod NumberLemmas
 mod NumberCounts
+mod OrderLemmas

@@ -1,14 +1,14 @@
 -- The numbers of edges rise in their order, and are below m.
-use Rattle.std.proofs.Common.{◌≡◌, ◌≢◌, ◌&&◌, ◌+◌, ◌*◌, ◌<◌, ◌≤◌, ℕ, zero, suc, Bool, true, false, cond, eqb, List, [], ◌∷◌, length, count_by, Contains, nat_lt, refl, sym, ap, subst, ◌∙◌, inl, inr, arith, lt-ltb, eq-eqb, ne_eqb, add-one}
+use Rattle.std.proofs.Common.{◌≡◌, ◌&&◌, ◌+◌, ◌<◌, ◌≤◌, ℕ, zero, suc, Bool, true, false, cond, eqb, List, [], ◌∷◌, length, count_by, nat_lt, refl, sym, ap, subst, ◌∙◌, inl, inr, arith, lt-ltb, eq-eqb, ne_eqb, add-one}
 use Rattle.std.proofs.lemmas.List.Sums.{sum_by-cons}
 use Rattle.std.proofs.lemmas.Bool.{cases_lt, cases_order, cond-true, le-ltb}
 use Rattle.map_lists.specs.Lists.{Lists}
-use Rattle.map_definitions.specs.Maps.{HasDart, IsSimpleMap, list_of, dart_count, edge_count}
-use Rattle.map_definitions.proofs.EntryLemmas.{count_of, count_of-cons, Contains-counted, Contains-from_count_of}
-use Rattle.map_definitions.proofs.DartCounts.{sum_below, sum_below-add, sum_below-same, sum_below-zero, sum_below-count_of, sum_below-front, dart_count-edge_count, count_mirrored}
+use Rattle.map_definitions.specs.Maps.{IsSimpleMap, list_of}
+use Rattle.map_definitions.proofs.EntryLemmas.{count_of, count_of-cons, Contains-counted}
+use Rattle.map_definitions.proofs.DartCounts.{sum_below, sum_below-add, sum_below-same, sum_below-zero}
 use Rattle.draw_check.specs.Faults.{HasEdge, ComesBefore}
 use Rattle.bar_check.specs.Bars.{edges_until, edges_before, edge_number}
-use Rattle.bar_check.proofs.EdgeLemmas.{edges_until-is, edges_before-none, edges_before-more}
+use Rattle.bar_check.proofs.EdgeLemmas.{edges_until-is, edges_before-more}
 
 -- how often u stands in a list, if it is above v
 abbrev pub above : List ℕ → ℕ → ℕ → ℕ

@@ -1,5 +1,5 @@
 -- Breaks between the edges of a vertex, as the walk round it finds them.
-use Rattle.std.proofs.Common.{◌≡◌, ℕ, ◌+◌, ◌<◌, ◌≤◌, Bool, true, List, length, Some, get_or, sym, ap, subst, ◌∙◌, arith}
+use Rattle.std.proofs.Common.{◌≡◌, ℕ, ◌+◌, ◌<◌, ◌≤◌, Bool, true, length, Some, get_or, sym, ap, subst, ◌∙◌, arith}
 use Rattle.std.specs.Option.{option_map}
 use Rattle.map_definitions.specs.Maps.{Dart, list_of, follows, place_of}
 use Rattle.map_definitions.proofs.DartLemmas.{HasDart-follows}

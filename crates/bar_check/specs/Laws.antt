@@ -1,11 +1,12 @@
--- The laws of the verdict: it is Yes exactly where the bars are valid, and never that two edges overlap; and those of the numbers of edges.
-use Rattle.std.specs.Prelude.{ℕ, ℤ, ◌<◌, ◌≡◌, ◌↔◌}
+-- The laws of the verdict: it is Yes exactly where the bars are valid, and never that two edges overlap; those of the numbers of edges, and of the order of a list.
+use Rattle.std.specs.Prelude.{ℕ, ℤ, ◌<◌, ◌≤◌, ◌≡◌, ◌↔◌, length, AllPairs, Contains}
 use Rattle.map_lists.specs.Lists.{Lists}
 use Rattle.map_lists.specs.declared.items.Ends.{Ends}
-use Rattle.map_definitions.specs.Maps.{IsSimpleMap, edge_count}
+use Rattle.map_definitions.specs.Maps.{IsSimpleMap, list_of, edge_count}
+use Rattle.map_definitions.specs.Paths.{from_entry}
 use Rattle.pg_plane.specs.declared.figure.BarFigure.{BarFigure}
 use Rattle.draw_check.specs.Faults.{HasEdge, ComesBefore}
-use Rattle.bar_check.specs.Bars.{edge_number, IsValidBars}
+use Rattle.bar_check.specs.Bars.{edge_number, IsEarlier, GoesOnceRound, IsValidBars}
 use Rattle.bar_check.specs.Verdicts.{IsBarVerdict}
 use Rattle.bar_check.specs.declared.verdict.BarVerdict.{BarVerdict}
 use Rattle.bar_check.specs.declared.verdict.BarVerdict.TheVariants.{Overlap, Yes}
@@ -27,3 +28,13 @@ pub record NumbersArePlaces (lists : Lists) : Type 0 where
 
 abbrev pub EdgeNumbers : Type 0
 EdgeNumbers = (lists : Lists) → IsSimpleMap lists → NumbersArePlaces lists
+
+-- from some entry b on, cyclically, each entry of v's list comes before all behind it: the upward edges by rising column, and then the downward ones by falling column
+abbrev pub IsInOrder : Lists → BarFigure → ℕ → Type 0
+IsInOrder lists fig v =
+    (b : ℕ) × Contains (list_of lists v) b × AllPairs (IsEarlier lists fig v) (from_entry b (list_of lists v))
+
+-- A list of two entries at least has just one break exactly where it is in this order.
+abbrev pub OnceIsInOrder : Type 0
+OnceIsInOrder =
+    (lists : Lists) (fig : BarFigure) (v : ℕ) → IsSimpleMap lists → v < length lists → 2 ≤ length (list_of lists v) → ((GoesOnceRound lists fig v) ↔ (IsInOrder lists fig v))

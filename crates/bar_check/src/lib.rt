@@ -3,7 +3,7 @@
 //! its way, and each vertex has its edges in the order of its list; and where not, which fault comes first.
 #![tactic(auto)]
 
-ghost use Rattle.bar_check.specs.Laws.{EdgeNumbers, OverlapIsNever, YesIsValid};
+ghost use Rattle.bar_check.specs.Laws.{EdgeNumbers, OnceIsInOrder, OverlapIsNever, YesIsValid};
 
 mod check;
 mod columns;
@@ -29,4 +29,10 @@ pub fn overlap_is_never()
 /// The number of an edge, by which its column is found, is its place among the edges of a simple map.
 pub fn edge_numbers()
     ensures { EdgeNumbers }
+{}
+
+/// A list goes once round exactly where, from one of its entries on, it is the upward edges by rising column
+/// and then the downward ones by falling column.
+pub fn once_is_in_order()
+    ensures { OnceIsInOrder }
 {}

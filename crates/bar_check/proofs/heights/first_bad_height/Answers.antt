@@ -1,4 +1,4 @@
-use Rattle.std.proofs.Common.{ℕ, below_more, rules, sym}
+use Rattle.std.proofs.Common.{ℕ, below_more, rules}
 use Rattle.bar_check.specs.Bars.{IsNewHeight}
 use Rattle.bar_check.proofs.heights.first_bad_height.Goals as goal
 
