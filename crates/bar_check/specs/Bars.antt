@@ -5,7 +5,7 @@ use Rattle.map_definitions.specs.Maps.{HasDart, list_of, follows, edge_count}
 use Rattle.pg_plane.specs.declared.figure.BarFigure.{BarFigure}
 use Rattle.draw_check.specs.Faults.{HasEdge, ComesBefore}
 
--- number i of a list
+-- number i of a list, or 0 behind its end
 abbrev pub number_at : List ℤ → ℕ → ℤ
 number_at xs i = slice_index_or xs i (pos 0)
 
@@ -76,7 +76,7 @@ pub record LieBelow (p q r s : ℤ) : Type 0 where
   pub qr : q ≤ℤ r
   pub qs : q ≤ℤ s
 
--- some height lies strictly between p and q and strictly between r and s
+-- some height lies strictly between p and q and strictly between r and s, where p is not q and r is not s: neither pair lies below the other
 pub record MeetInside (p q r s : ℤ) : Type 0 where
   pub not_below : ¬ LieBelow p q r s
   pub not_above : ¬ LieBelow r s p q
