@@ -1,0 +1,59 @@
+-- Lists of which just one entry is a break, where the walk round them finds it.
+use Rattle.std.proofs.Common.{◌≡◌, ℕ, ◌<◌, ◌≤◌, Bool, true, false, MatchBool, length, get_or, sym, ap, subst, ◌∙◌, arith}
+use Rattle.std.proofs.lemmas.List.Elements.{Contains-get_or}
+use Rattle.map_lists.specs.Lists.{Lists}
+use Rattle.map_definitions.specs.Maps.{list_of, place_of, HasDart, IsSimpleMap}
+use Rattle.map_definitions.proofs.DartLemmas.{place_of-lt-length, get_or-place_of, place_of-get_or}
+use Rattle.pg_plane.specs.declared.figure.BarFigure.{BarFigure}
+use Rattle.bar_check.specs.Bars.{IsBreak, GoesOnceRound}
+use Rattle.bar_check.specs.Faults.{IsTurned}
+use Rattle.draw_check.specs.Loops.{IsOneOf}
+
+module _ (lists : Lists) (fig : BarFigure) (v : ℕ) (simple : IsSimpleMap lists) (lv : v < length lists) where
+  stands : (u : ℕ) → HasDart lists v u → (place_of u (list_of lists v) < length (list_of lists v)) × (get_or (list_of lists v) (place_of u (list_of lists v)) 0 ≡ u)
+  stands u has =
+      let l = place_of-lt-length u (list_of lists v) has.1 in
+      (l, get_or-place_of u (list_of lists v) 0 l)
+
+  -- one break in the whole list
+  pub once_round : (k : ℕ) → k ≡ length (list_of lists v) → IsOneOf (IsBreak lists fig v) (list_of lists v) k true → GoesOnceRound lists fig v
+  once_round k n h = record {
+    some =
+        let l : h.0.0 < length (list_of lists v) = let less = h.0.1 in omega arith in
+        (get_or (list_of lists v) h.0.0 0, (lv, Contains-get_or (list_of lists v) h.0.0 0 l), h.0.2);
+    one = λ u w has has' bu bw.
+        let su = stands u has in
+        let sw = stands w has' in
+        let same : place_of u (list_of lists v) ≡ place_of w (list_of lists v) =
+        h.1 (place_of u (list_of lists v)) (place_of w (list_of lists v)) (let less = su.0 in omega arith) (let less = sw.0 in omega arith) (subst (IsBreak lists fig v) (sym su.1) bu) (subst (IsBreak lists fig v) (sym sw.1) bw) in
+        sym su.1 ∙ (ap (λ n. get_or (list_of lists v) n 0) same ∙ sw.1);
+  }
+
+  -- none
+  pub never_round : (k : ℕ) → k ≡ length (list_of lists v) → IsOneOf (IsBreak lists fig v) (list_of lists v) k false → ¬ GoesOnceRound lists fig v
+  never_round k n h g =
+      let u = g.some.0 in
+      let s = stands u g.some.1 in
+      h (place_of u (list_of lists v)) (let less = s.0 in omega arith) (subst (IsBreak lists fig v) (sym s.1) g.some.2)
+
+  -- a second one
+  pub twice_round : (k u : ℕ) → k < length (list_of lists v) → get_or (list_of lists v) k 0 ≡ u → IsBreak lists fig v u → IsOneOf (IsBreak lists fig v) (list_of lists v) k true → ¬ GoesOnceRound lists fig v
+  twice_round k u l e b h g =
+      let us = list_of lists v in
+      let i = h.0.0 in
+      let less = h.0.1 in
+      let li : i < length us = omega arith in
+      let same : get_or us i 0 ≡ get_or us k 0 =
+      g.one (get_or us i 0) (get_or us k 0) (lv, Contains-get_or us i 0 li) (lv, Contains-get_or us k 0 l) h.0.2 (subst (IsBreak lists fig v) (sym e) b) in
+      let places : i ≡ k = sym (place_of-get_or us i 0 (simple.no_repeat v lv) li) ∙ (ap (λ x. place_of x us) same ∙ place_of-get_or us k 0 (simple.no_repeat v lv) l) in
+      omega arith
+
+  -- what one break, or none, says of the whole list
+  pub match_round : (b : Bool) (k : ℕ) → k ≡ length (list_of lists v) → IsOneOf (IsBreak lists fig v) (list_of lists v) k b → MatchBool b (GoesOnceRound lists fig v) (¬ GoesOnceRound lists fig v)
+  match_round true k n h = once_round k n h
+  match_round false k n h = never_round k n h
+
+  -- with at least two neighbours
+  pub match_turned : (b : Bool) → 2 ≤ length (list_of lists v) → MatchBool b (GoesOnceRound lists fig v) (¬ GoesOnceRound lists fig v) → MatchBool b (2 ≤ length (list_of lists v) → GoesOnceRound lists fig v) (IsTurned lists fig v)
+  match_turned true two h = λ more. h
+  match_turned false two h = record { vertex = lv; two = two; turned = h }

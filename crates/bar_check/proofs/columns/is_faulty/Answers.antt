@@ -1,0 +1,8 @@
+use Rattle.std.proofs.Common.{rules, w32, FitsSigned}
+use Rattle.std.proofs.lemmas.Int.{to_z-of_z}
+use Rattle.bar_check.proofs.columns.is_faulty.Goals as goal
+
+pub returns : goal.returns
+returns c =
+    let f : FitsSigned w32 c.column_from.result = search rules in
+    rw (c.column_from.ensures, c.n.ensures.count) at (simp to_z-of_z at c.has_fault.ensures)

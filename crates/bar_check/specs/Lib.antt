@@ -1,0 +1,6 @@
+-- What a check of a visibility drawing answers, and its laws.
+pub mod Bars
+pub mod Faults
+pub mod Verdicts
+pub mod Laws
+pub mod Loops

@@ -1,0 +1,250 @@
+//! Columns that stand wrong, and bars in their way.
+ghost use Rattle.std.specs.Prelude.{◌≡◌, ◌+◌, ◌*◌, ◌<◌, ◌≤◌, ◌↔◌, ℕ, List, length, slice_index, IsTrue, Some, MatchOption};
+ghost use Rattle.map_definitions.specs.Maps.{HasDart};
+ghost use Rattle.half_edges.specs.Map.{IsHalfMap, dart_at, first_dart};
+ghost use Rattle.draw_check.specs.Least.{IsLeast, IsLeastPair, IsLeastTriple};
+ghost use Rattle.draw_check.specs.Faults.{HasEdge};
+ghost use Rattle.draw_check.specs.Loops.{IsLeastOf};
+ghost use Rattle.bar_check.specs.Bars.{number_at, edges_before, column_of as the_column, Holds, IsColumn, IsBetween, IsStruck};
+ghost use Rattle.bar_check.specs.declared.columns.Kind.TheVariants.{Blocked};
+ghost use Rattle.bar_check.specs.Faults.{HasBadColumn, GoesThrough};
+ghost use Rattle.bar_check.specs.Verdicts.{NoBadColumn, NoneThrough};
+ghost use Rattle.bar_check.specs.Loops.{IsStruckBelow, IsFaulty, IsFaultyEdge};
+
+use crate::edges::{column_from, column_of, edges_with};
+use crate::heights::number;
+use crate::rounds::{is_below, later_dart};
+use half_edges::{DartId, Ends, HalfMap, VertexId};
+use pg_plane::BarFigure;
+
+// A kind of fault of an edge.
+#[derive(Clone, Copy)]
+pub(crate) enum Kind {
+    // Its column leaves this width or the bar of an end.
+    Misplaced(i32),
+    // A bar is in its way.
+    Blocked,
+}
+
+// Whether the bar of `v` holds column `x`.
+fn holds(fig: &BarFigure, v: VertexId, x: i32) -> bool
+    ensures { IsTrue result ↔ Holds fig.now v.0 x }
+{
+    number(&fig.x1, v.0 as usize) <= x && x <= number(&fig.x2, v.0 as usize)
+}
+
+// Whether column `x` lies within the width and within the bars of `a` and `b`.
+fn is_column(fig: &BarFigure, width: i32, a: VertexId, b: VertexId, x: i32) -> bool
+    ensures { IsTrue result ↔ IsColumn fig.now width a.0 b.0 x }
+{
+    0 <= x && x <= width && holds(fig, a, x) && holds(fig, b, x)
+}
+
+// Whether `v` stands strictly between the heights of `a` and `b`.
+fn is_between(fig: &BarFigure, a: VertexId, b: VertexId, v: VertexId) -> bool
+    ensures { IsTrue result ↔ IsBetween (number_at fig.now.y a.0) (number_at fig.now.y b.0) (number_at fig.now.y v.0) }
+{
+    let p = number(&fig.y, a.0 as usize);
+    let q = number(&fig.y, b.0 as usize);
+    let z = number(&fig.y, v.0 as usize);
+    (p < z && z < q) || (q < z && z < p)
+}
+
+// Whether the bar of `v` is in the way of the edge from `a` to `b`, in column `x`.
+fn is_struck(fig: &BarFigure, a: VertexId, b: VertexId, x: i32, v: VertexId) -> bool
+    ensures { IsTrue result ↔ IsStruck fig.now a.0 b.0 x v.0 }
+{
+    is_between(fig, a, b, v) && holds(fig, v, x)
+}
+
+// The least vertex below `n` whose bar is in the way of the edge from `a` to `b`, in column `x`.
+fn first_struck(fig: &BarFigure, n: u16, a: VertexId, b: VertexId, x: i32) -> Option<VertexId>
+    ensures { MatchOption result ((v : ℕ) → ¬ IsStruckBelow n fig.now a.0 b.0 x v)
+        (λ v. IsLeast (IsStruckBelow n fig.now a.0 b.0 x) v.0) }
+{
+    for v in 0..n {
+        if is_struck(fig, a, b, x, VertexId(v)) {
+            return Some(VertexId(v));
+        }
+    }
+    None
+}
+
+// Whether some bar of a vertex below `n` is in the way.
+fn is_blocked(fig: &BarFigure, n: u16, a: VertexId, b: VertexId, x: i32) -> bool
+    ensures { IsTrue result ↔ ((v : ℕ) × IsStruckBelow n fig.now a.0 b.0 x v) }
+{
+    match first_struck(fig, n, a, b, x) {
+        Some(_) => true,
+        None => false,
+    }
+}
+
+// Whether the edge from `a` to `b`, in column `x`, has a fault of this kind.
+fn has_fault(fig: &BarFigure, n: u16, kind: Kind, a: VertexId, b: VertexId, x: i32) -> bool
+    ensures { IsTrue result ↔ IsFaulty n fig.now kind a.0 b.0 x }
+{
+    match kind {
+        Kind::Misplaced(width) => !is_column(fig, width, a, b, x),
+        Kind::Blocked => is_blocked(fig, n, a, b, x),
+    }
+}
+
+// Whether the edge from `a` to `b` has a fault of this kind; `before` edges have their lesser end below `a`.
+fn is_faulty(
+    map: &HalfMap,
+    fig: &BarFigure,
+    kind: Kind,
+    before: u32,
+    a: VertexId,
+    b: VertexId,
+) -> bool
+    requires known { IsHalfMap map.now }
+    requires vertex { a.0 < length map.now.lists }
+    requires before { before ≡ edges_before map.now.lists a.0 }
+    requires few { before ≤ 65535 * a.0 }
+    ensures { IsTrue result ↔ IsFaulty (length map.now.lists) fig.now kind a.0 b.0 (the_column map.now.lists fig.now a.0 b.0) }
+{
+    has_fault(
+        fig,
+        map.n(),
+        kind,
+        a,
+        b,
+        column_from(map, fig, before, a, b),
+    )
+}
+
+// The least neighbour so far to which an edge from `a` has a fault of this kind, with `b` beside those
+// before; `before` edges have their lesser end below `a`.
+fn better(
+    map: &HalfMap,
+    fig: &BarFigure,
+    kind: Kind,
+    before: u32,
+    a: VertexId,
+    b: VertexId,
+    best: Option<VertexId>,
+) -> Option<VertexId>
+    requires known { IsHalfMap map.now }
+    requires dart { HasDart map.now.lists a.0 b.0 }
+    requires before { before ≡ edges_before map.now.lists a.0 }
+    requires few { before ≤ 65535 * a.0 }
+    ensures { (us : List ℕ) (k : ℕ) → slice_index us k ≡ b.0 → IsLeastOf (IsFaultyEdge map.now.lists fig.now kind a.0) us k best
+        → IsLeastOf (IsFaultyEdge map.now.lists fig.now kind a.0) us (k + 1) result }
+{
+    if a.0 < b.0 && is_below(b, best) && is_faulty(map, fig, kind, before, a, b) {
+        Some(b)
+    } else {
+        best
+    }
+}
+
+// The least neighbour to which an edge from `a` has a fault of this kind; `first` is the dart to the first
+// entry of its list.
+fn least_faulty_round(
+    map: &HalfMap,
+    fig: &BarFigure,
+    kind: Kind,
+    before: u32,
+    a: VertexId,
+    first: DartId,
+) -> Option<VertexId>
+    requires known { IsHalfMap map.now }
+    requires first { dart_at map.now first.0 ≡ Some (first_dart map.now.lists a.0) }
+    requires before { before ≡ edges_before map.now.lists a.0 }
+    requires few { before ≤ 65535 * a.0 }
+    ensures { MatchOption result ((b : ℕ) → ¬ IsFaultyEdge map.now.lists fig.now kind a.0 b)
+        (λ b. IsLeast (IsFaultyEdge map.now.lists fig.now kind a.0) b.0) }
+{
+    let mut best = None;
+    let mut d = first;
+    'round: loop {
+        best = better(map, fig, kind, before, a, map.head(d), best);
+        match later_dart(map, d) {
+            Some(next) => d = next,
+            None => return best,
+        }
+    }
+}
+
+// The least neighbour to which an edge from `a`, which is its lesser end, has a fault of this kind.
+fn least_faulty(
+    map: &HalfMap,
+    fig: &BarFigure,
+    kind: Kind,
+    before: u32,
+    a: VertexId,
+) -> Option<VertexId>
+    requires known { IsHalfMap map.now }
+    requires vertex { a.0 < length map.now.lists }
+    requires before { before ≡ edges_before map.now.lists a.0 }
+    requires few { before ≤ 65535 * a.0 }
+    ensures { MatchOption result ((b : ℕ) → ¬ IsFaultyEdge map.now.lists fig.now kind a.0 b)
+        (λ b. IsLeast (IsFaultyEdge map.now.lists fig.now kind a.0) b.0) }
+{
+    match map.first_dart(a) {
+        Some(first) => least_faulty_round(map, fig, kind, before, a, first),
+        None => None,
+    }
+}
+
+// The first edge with a fault of this kind.
+fn first_faulty(map: &HalfMap, fig: &BarFigure, kind: Kind) -> Option<Ends>
+    requires { IsHalfMap map.now }
+    ensures { MatchOption result ((a b : ℕ) → ¬ IsFaultyEdge map.now.lists fig.now kind a b)
+        (λ e. IsLeastPair (IsFaultyEdge map.now.lists fig.now kind) e.a.0 e.b.0) }
+{
+    let mut before = 0;
+    for a in 0..map.n() {
+        if let Some(b) = least_faulty(map, fig, kind, before, VertexId(a)) {
+            return Some(Ends { a: VertexId(a), b });
+        }
+        before = edges_with(map, VertexId(a), before);
+    }
+    None
+}
+
+// The first edge whose column leaves the width or the bar of an end.
+pub(crate) fn first_bad_column(map: &HalfMap, fig: &BarFigure, width: i32) -> Option<Ends>
+    requires { IsHalfMap map.now }
+    ensures { MatchOption result (NoBadColumn map.now.lists fig.now width)
+        (λ e. IsLeastPair (HasBadColumn map.now.lists fig.now width) e.a.0 e.b.0) }
+{
+    first_faulty(map, fig, Kind::Misplaced(width))
+}
+
+// The least vertex whose bar is in the way of an edge.
+fn struck_by(map: &HalfMap, fig: &BarFigure, e: Ends) -> Option<VertexId>
+    requires known { IsHalfMap map.now }
+    requires edge { HasEdge map.now.lists e.a.0 e.b.0 }
+    ensures { MatchOption result ((v : ℕ) → ¬ GoesThrough map.now.lists fig.now e.a.0 e.b.0 v)
+        (λ v. IsLeast (GoesThrough map.now.lists fig.now e.a.0 e.b.0) v.0) }
+{
+    first_struck(fig, map.n(), e.a, e.b, column_of(map, fig, e.a, e.b))
+}
+
+// The first edge that goes through a bar, with the least such bar.
+pub(crate) fn first_through(map: &HalfMap, fig: &BarFigure) -> Option<(Ends, VertexId)>
+    requires { IsHalfMap map.now }
+    ensures { MatchOption result (NoneThrough map.now.lists fig.now)
+        (λ p. IsLeastTriple (GoesThrough map.now.lists fig.now) p.0.a.0 p.0.b.0 p.1.0) }
+{
+    match first_faulty(map, fig, Kind::Blocked) {
+        Some(e) => with_struck(map, fig, e),
+        None => None,
+    }
+}
+
+// The first edge that is blocked, with the least vertex whose bar is in its way.
+fn with_struck(map: &HalfMap, fig: &BarFigure, e: Ends) -> Option<(Ends, VertexId)>
+    requires known { IsHalfMap map.now }
+    requires first { IsLeastPair (IsFaultyEdge map.now.lists fig.now Blocked) e.a.0 e.b.0 }
+    ensures { MatchOption result (NoneThrough map.now.lists fig.now)
+        (λ p. IsLeastTriple (GoesThrough map.now.lists fig.now) p.0.a.0 p.0.b.0 p.1.0) }
+{
+    match struck_by(map, fig, e) {
+        Some(v) => Some((e, v)),
+        None => None,
+    }
+}

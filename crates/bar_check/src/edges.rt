@@ -1,0 +1,126 @@
+//! The numbers of edges, by the lesser end and then by the greater.
+ghost use Rattle.std.specs.Prelude.{◌≡◌, ◌+◌, ◌*◌, ◌<◌, ◌≤◌, ◌&&◌, nat_lt, ℕ, List, length, take, count_by, slice_index, Some};
+ghost use Rattle.map_definitions.specs.Maps.{list_of};
+ghost use Rattle.half_edges.specs.Map.{IsHalfMap, dart_at, first_dart};
+ghost use Rattle.bar_check.specs.Bars.{number_at, edges_until as the_edges_until, edges_before as the_edges_before, column_of as the_column, column_between as the_column_between};
+
+use crate::heights::number;
+use crate::rounds::later_dart;
+use half_edges::{DartId, HalfMap, VertexId};
+use pg_plane::BarFigure;
+
+// The count with one more where `u` is above `v` and below `end`.
+fn counted(count: u32, v: VertexId, u: VertexId, end: u16) -> u32
+    requires { count < 65535 }
+    ensures more { (us : List ℕ) (k : ℕ) → k < length us → slice_index us k ≡ u.0
+        → count ≡ count_by (λ w. nat_lt v.0 w && nat_lt w end) (take k us)
+        → result ≡ count_by (λ w. nat_lt v.0 w && nat_lt w end) (take (k + 1) us) }
+    ensures few { result ≤ count + 1 }
+{
+    if v.0 < u.0 && u.0 < end {
+        count + 1
+    } else {
+        count
+    }
+}
+
+// How many entries of the list of `v` are above it and below `end`; `first` is the dart to the first of the
+// `degree` entries.
+fn edges_until_round(map: &HalfMap, v: VertexId, first: DartId, degree: u16, end: u16) -> u32
+    requires known { IsHalfMap map.now }
+    requires first { dart_at map.now first.0 ≡ Some (first_dart map.now.lists v.0) }
+    requires degree { degree ≡ length (list_of map.now.lists v.0) }
+    ensures count { result ≡ the_edges_until map.now.lists v.0 end }
+    ensures few { result ≤ 65535 }
+{
+    let mut count = 0;
+    let mut d = first;
+    'round: loop {
+        count = counted(count, v, map.head(d), end);
+        match later_dart(map, d) {
+            Some(next) => d = next,
+            None => return count,
+        }
+    }
+}
+
+// How many edges lead from `v` to vertices above `v` and below `end`.
+fn edges_until(map: &HalfMap, v: VertexId, end: u16) -> u32
+    requires known { IsHalfMap map.now }
+    requires vertex { v.0 < length map.now.lists }
+    ensures count { result ≡ the_edges_until map.now.lists v.0 end }
+    ensures few { result ≤ 65535 }
+{
+    match map.first_dart(v) {
+        Some(first) => edges_until_round(map, v, first, map.degree(v), end),
+        None => 0,
+    }
+}
+
+// How many edges there are with their lesser end below `end`, where `before` have it below `v`.
+pub(crate) fn edges_with(map: &HalfMap, v: VertexId, before: u32) -> u32
+    requires known { IsHalfMap map.now }
+    requires vertex { v.0 < length map.now.lists }
+    requires before { before ≡ the_edges_before map.now.lists v.0 }
+    requires few { before ≤ 65535 * v.0 }
+    ensures count { result ≡ the_edges_before map.now.lists (v.0 + 1) }
+    ensures few { result ≤ 65535 * (v.0 + 1) }
+{
+    before + edges_until(map, v, map.n())
+}
+
+// How many edges have their lesser end below `v`.
+fn edges_before(map: &HalfMap, v: VertexId) -> u32
+    requires known { IsHalfMap map.now }
+    requires vertex { v.0 < length map.now.lists }
+    ensures count { result ≡ the_edges_before map.now.lists v.0 }
+    ensures few { result ≤ 65535 * v.0 }
+{
+    let mut count = 0;
+    for u in 0..v.0 {
+        count = edges_with(map, VertexId(u), count);
+    }
+    count
+}
+
+// The column of the edge from `a` to `b`, its greater end, where `before` edges have their lesser end below
+// `a`.
+pub(crate) fn column_from(
+    map: &HalfMap,
+    fig: &BarFigure,
+    before: u32,
+    a: VertexId,
+    b: VertexId,
+) -> i32
+    requires known { IsHalfMap map.now }
+    requires vertex { a.0 < length map.now.lists }
+    requires before { before ≡ the_edges_before map.now.lists a.0 }
+    requires few { before ≤ 65535 * a.0 }
+    ensures { result ≡ the_column map.now.lists fig.now a.0 b.0 }
+{
+    let edge = before + edges_until(map, a, b.0);
+    number(&fig.column, edge as usize)
+}
+
+// The column of the edge from `a` to `b`, its greater end.
+pub(crate) fn column_of(map: &HalfMap, fig: &BarFigure, a: VertexId, b: VertexId) -> i32
+    requires known { IsHalfMap map.now }
+    requires vertex { a.0 < length map.now.lists }
+    ensures { result ≡ the_column map.now.lists fig.now a.0 b.0 }
+{
+    column_from(map, fig, edges_before(map, a), a, b)
+}
+
+// The column of the edge between `u` and `v`.
+pub(crate) fn column_between(map: &HalfMap, fig: &BarFigure, u: VertexId, v: VertexId) -> i32
+    requires known { IsHalfMap map.now }
+    requires u { u.0 < length map.now.lists }
+    requires v { v.0 < length map.now.lists }
+    ensures { result ≡ the_column_between map.now.lists fig.now u.0 v.0 }
+{
+    if u.0 < v.0 {
+        column_of(map, fig, u, v)
+    } else {
+        column_of(map, fig, v, u)
+    }
+}

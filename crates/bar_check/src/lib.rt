@@ -1,0 +1,38 @@
+//! The check of visibility drawings, in which each vertex is a level bar and each edge a column between two
+//! bars: whether heights, bars and columns are in their ranges, each column sees both its ends with no bar in
+//! its way, and each vertex has its edges in the order of its list; and where not, which fault comes first.
+#![tactic(auto)]
+
+ghost use Rattle.bar_check.specs.Laws.{EdgeNumbers, OnceIsInOrder, OverlapIsNever, YesIsValid};
+
+mod check;
+mod columns;
+mod edges;
+mod heights;
+mod rounds;
+mod turns;
+mod verdict;
+
+pub use check::check_bars;
+pub use verdict::BarVerdict;
+
+/// A verdict is `Yes` exactly where the bars are valid.
+pub fn yes_is_valid()
+    ensures { YesIsValid }
+{}
+
+/// No verdict on a drawing of a simple map is `Overlap`.
+pub fn overlap_is_never()
+    ensures { OverlapIsNever }
+{}
+
+/// The number of an edge, by which its column is found, is its place among the edges of a simple map.
+pub fn edge_numbers()
+    ensures { EdgeNumbers }
+{}
+
+/// A list goes once round exactly where, from one of its entries on, it is the upward edges by rising column
+/// and then the downward ones by falling column.
+pub fn once_is_in_order()
+    ensures { OnceIsInOrder }
+{}
