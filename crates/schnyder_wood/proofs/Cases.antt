@@ -1,7 +1,7 @@
 -- A wood of five vertices, as a worked case.
-use Rattle.std.proofs.Common.{◌≢◌, ◌<◌, ℕ, [], ◌∷◌, refl, inr, arith}
-use Rattle.run_woods.specs.Parents.{Colour, one, two, three}
-use Rattle.schnyder_wood.specs.Parents.{Parents, root_in, IsRoot, IsInnerIn, IsPathLength}
+use Rattle.std.proofs.Common.{◌<◌, ℕ, [], ◌∷◌, refl, inl, inr, arith}
+use Rattle.run_woods.specs.Parents.{one, three}
+use Rattle.schnyder_wood.specs.Parents.{Parents, IsRoot, IsInnerIn, IsPathLength}
 
 -- the roots are 0, 1 and 4; vertex 2 stands over 0 and 1, vertex 3 over 0, 2 and 1, and vertex 4 over 0, 3 and 1
 abbrev five : Parents
@@ -11,10 +11,10 @@ five = record { root_one = 0; root_two = 1; root_three = 4; ones = 0 ∷ 0 ∷ 0
 inner : (v : ℕ) → 1 < v → v < 4 → IsInnerIn five v
 inner v low high = (omega arith, apart)
   where
-    apart : (c : Colour) → v ≢ root_in five c
-    apart one e = absurd (omega (arith, e, low))
-    apart two e = absurd (omega (arith, e, low))
-    apart three e = absurd (omega (arith, e, high))
+    apart : ¬ IsRoot five v
+    apart (inl e) = omega (arith, e, low)
+    apart (inr (inl e)) = omega (arith, e, low)
+    apart (inr (inr e)) = omega (arith, e, high)
 
 -- from 2 by colour three the path goes over 3 to 4
 path_up : IsPathLength five three 2 3

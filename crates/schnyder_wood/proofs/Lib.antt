@@ -3,5 +3,5 @@ mod Cases
 mod Covers
 mod Names
 mod Rows
-mod Paths
+pub mod Paths
 mod Orders

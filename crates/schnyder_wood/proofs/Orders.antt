@@ -83,7 +83,12 @@ module _ (lists : Lists) (base : Dart) (at ranks : List ℕ) (steps : ℕ → St
     height three v = length at - 1 - rank_of v
 
     inner_is : (v : ℕ) → IsInnerIn wood v → IsInner lists base v
-    inner_is v i = (let l = i.0 in omega arith, λ c e. i.1 c (e ∙ sym (roots c)))
+    inner_is v i = (let l = i.0 in omega arith, apart)
+      where
+        apart : (c : Colour) → v ≢ root lists base c
+        apart one e = i.1 (inl (e ∙ sym (roots one)))
+        apart two e = i.1 (inr (inl (e ∙ sym (roots two))))
+        apart three e = i.1 (inr (inr (e ∙ sym (roots three))))
 
     -- an inner vertex has a rank strictly between those of the roots
     ranked : (v : ℕ) → IsInner lists base v → (2 ≤ rank_of v) × (rank_of v < suc n) × (name (rank_of v) ≡ v)
@@ -135,9 +140,17 @@ module _ (lists : Lists) (base : Dart) (at ranks : List ℕ) (steps : ℕ → St
         let u : ℕ = parent_in wood c v in
         let edge = is_wood.edges c v inner in
         let l = completed.simple.in_range v u edge in
+        let own : (d : Colour) → u ≡ root_in wood d → u ≡ root_in wood c = λ d e. e ∙ ap (root_in wood) (sym (is_wood.own_root c d v inner (e ∙ roots d))) in
         elim (cases_eq u (root_in wood c)) [
           | inl e ↦ inr e
-          | inr ne ↦ inl (omega arith, λ d e. absurd (ne (e ∙ ap (root_in wood) (sym (is_wood.own_root c d v inner (e ∙ roots d))))))
+          | inr ne ↦ inl (
+            omega arith,
+            λ r. elim r [
+              | inl e ↦ ne (own one e)
+              | inr (inl e) ↦ ne (own two e)
+              | inr (inr e) ↦ ne (own three e)
+            ],
+          )
         ]
 
     pub IsRooted-order : IsRooted wood

@@ -1,6 +1,6 @@
 -- Paths to the roots.
 use Rattle.std.proofs.Common.{◌≡◌, ◌≢◌, ◌+◌, ◌≤◌, ℕ, zero, suc, refl, sym, ap, ◌∙◌, subst, inl, inr, arith}
-use Rattle.run_woods.specs.Parents.{Colour}
+use Rattle.run_woods.specs.Parents.{Colour, one, two, three}
 use Rattle.schnyder_wood.specs.Parents.{Parents, root_in, parent_in, IsInnerIn, IsRooted, LeadsIn, IsPathLength}
 
 -- one step more at the end
@@ -8,36 +8,48 @@ pub LeadsIn-more : (wood : Parents) (c : Colour) (d v w : ℕ) → LeadsIn wood 
 LeadsIn-more wood c zero v w e inner = (subst (IsInnerIn wood) (sym e) inner, ap (parent_in wood c) e)
 LeadsIn-more wood c (suc d) v w l inner = (l.0, LeadsIn-more wood c d (parent_in wood c v) w l.1 inner)
 
+-- the root of a colour is not inner
+not_inner : (wood : Parents) (c : Colour) (v : ℕ) → v ≡ root_in wood c → ¬ IsInnerIn wood v
+not_inner wood one v e inner = inner.1 (inl e)
+not_inner wood two v e inner = inner.1 (inr (inl e))
+not_inner wood three v e inner = inner.1 (inr (inr e))
+
+-- so just one number is that of the vertices to the root
+LeadsIn-one : (wood : Parents) (c : Colour) (d e v : ℕ) → LeadsIn wood c d v (root_in wood c) → LeadsIn wood c e v (root_in wood c) → d ≡ e
+LeadsIn-one wood c zero zero v h k = refl
+LeadsIn-one wood c zero (suc e) v h k = absurd (not_inner wood c v h k.0)
+LeadsIn-one wood c (suc d) zero v h k = absurd (not_inner wood c v k h.0)
+LeadsIn-one wood c (suc d) (suc e) v h k = ap suc (LeadsIn-one wood c d e (parent_in wood c v) h.1 k.1)
+
+pub IsPathLength-one : (wood : Parents) (c : Colour) (v k l : ℕ) → IsPathLength wood c v k → IsPathLength wood c v l → k ≡ l
+IsPathLength-one wood c v k l a b = a.both_ends ∙ ap suc (LeadsIn-one wood c a.steps b.steps v a.leads b.leads) ∙ sym b.both_ends
+
 -- so many steps from v an inner vertex is reached, and each of them has lost height
 pub record Climbs (wood : Parents) (c : Colour) (v d w : ℕ) : Type 0 where
   pub inner : IsInnerIn wood w
   pub leads : LeadsIn wood c d v w
   pub lower : (h : IsRooted wood) → h.height c w + d ≤ h.height c v
 
-module _ (wood : Parents) (c : Colour) (v : ℕ) where
-  pub Climbs-begin : IsInnerIn wood v → Climbs wood c v 0 v
-  Climbs-begin inner = record { inner = inner; leads = refl; lower = λ h. omega arith }
+module _ (wood : Parents) (c : Colour) (v d w u : ℕ) (h : IsRooted wood) (climbs : Climbs wood c v d w) (up : u ≡ parent_in wood c w) where
+  -- the root is not reached yet
+  pub Climbs-more : u ≢ root_in wood c → Climbs wood c v (suc d) u
+  Climbs-more ne = record {
+    inner = elim (h.goes_on c w climbs.inner) [
+      | inl i ↦ subst (IsInnerIn wood) (sym up) i
+      | inr e ↦ absurd (ne (up ∙ e))
+    ];
+    leads = subst (λ u. LeadsIn wood c (suc d) v u) (sym up) (LeadsIn-more wood c d v w climbs.leads climbs.inner);
+    lower = λ h.
+        let fall = h.falls c w climbs.inner in
+        let low = climbs.lower h in
+        let e = ap (h.height c) up in
+        omega arith;
+  }
 
-  module _ (d w u : ℕ) (h : IsRooted wood) (climbs : Climbs wood c v d w) (up : u ≡ parent_in wood c w) where
-    -- the root is not reached yet
-    pub Climbs-more : u ≢ root_in wood c → Climbs wood c v (suc d) u
-    Climbs-more ne = record {
-      inner = elim (h.goes_on c w climbs.inner) [
-        | inl i ↦ subst (IsInnerIn wood) (sym up) i
-        | inr e ↦ absurd (ne (up ∙ e))
-      ];
-      leads = subst (λ u. LeadsIn wood c (suc d) v u) (sym up) (LeadsIn-more wood c d v w climbs.leads climbs.inner);
-      lower = λ h.
-          let fall = h.falls c w climbs.inner in
-          let low = climbs.lower h in
-          let e = ap (h.height c) up in
-          omega arith;
-    }
-
-    -- it is
-    pub IsPathLength-root : (k : ℕ) → u ≡ root_in wood c → k ≡ suc (suc d) → IsPathLength wood c v k
-    IsPathLength-root k e two = record {
-      steps = suc d;
-      leads = subst (λ u. LeadsIn wood c (suc d) v u) (sym up ∙ e) (LeadsIn-more wood c d v w climbs.leads climbs.inner);
-      both_ends = two;
-    }
+  -- it is
+  pub IsPathLength-root : (k : ℕ) → u ≡ root_in wood c → k ≡ suc (suc d) → IsPathLength wood c v k
+  IsPathLength-root k e ends = record {
+    steps = suc d;
+    leads = subst (λ u. LeadsIn wood c (suc d) v u) (sym up ∙ e) (LeadsIn-more wood c d v w climbs.leads climbs.inner);
+    both_ends = ends;
+  }

@@ -1,5 +1,5 @@
 -- Woods: roots, parents, and the paths to the roots.
-use Rattle.std.specs.Prelude.{ℕ, zero, suc, ◌<◌, ◌≡◌, ◌≢◌, ◌⊎◌, List, length, slice_index}
+use Rattle.std.specs.Prelude.{ℕ, zero, suc, ◌<◌, ◌≡◌, ◌⊎◌, List, length, slice_index}
 use Rattle.map_lists.specs.Lists.{Lists}
 use Rattle.map_definitions.specs.Maps.{Dart}
 use Rattle.run_woods.specs.Parents.{Colour, one, two, three}
@@ -44,7 +44,7 @@ IsRoot wood v = (v ≡ wood.root_one) ⊎ ((v ≡ wood.root_two) ⊎ (v ≡ wood
 
 -- a vertex that is not a root
 abbrev pub IsInnerIn : Parents → ℕ → Type 0
-IsInnerIn wood v = (v < count_in wood) × ((c : Colour) → v ≢ root_in wood c)
+IsInnerIn wood v = (v < count_in wood) × (¬ IsRoot wood v)
 
 -- From each inner vertex parents of one colour lead to the root of that colour: a parent is again inner, or that root, and has a lesser height.
 pub record IsRooted (wood : Parents) : Type 0 where

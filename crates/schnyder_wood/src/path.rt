@@ -1,5 +1,5 @@
 //! Paths of a wood.
-ghost use Rattle.std.specs.Prelude.{◌≡◌, ◌<◌};
+ghost use Rattle.std.specs.Prelude.{◌≡◌};
 ghost use Rattle.schnyder_wood.specs.Parents.{kind, IsInnerIn, IsPathLength};
 
 use crate::colour::Colour;

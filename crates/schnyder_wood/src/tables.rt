@@ -2,7 +2,7 @@
 //!
 //! The first vertex of a row is the parent of colour one of the vertex that is put over it, the last one that of
 //! colour two; and that vertex is the parent of colour three of all between them.
-ghost use Rattle.std.specs.Prelude.{◌≡◌, ◌<◌, ◌≤◌, ◌+◌, ◌-◌, ◌^◌, ℕ, length, slice_index, slice_set, All, IfOk};
+ghost use Rattle.std.specs.Prelude.{◌≡◌, ◌<◌, ◌≤◌, ◌+◌, ◌-◌, ℕ, length, slice_index, slice_set, All, IfOk};
 ghost use Rattle.contour_runs.specs.Runs.{Step};
 ghost use Rattle.canon_order.specs.Orders.{vertices_of};
 ghost use Rattle.order_tables.specs.Rows.{AreRows};

@@ -1,5 +1,5 @@
 //! Woods, and what they tell of a vertex.
-ghost use Rattle.std.specs.Prelude.{◌≡◌, ◌<◌, ◌≤◌, ◌^◌, ◌⊎◌, ◌↔◌, None, IsTrue, IfSome};
+ghost use Rattle.std.specs.Prelude.{◌≡◌, ◌<◌, ◌↔◌, None, IsTrue, IfSome};
 ghost use Rattle.schnyder_wood.specs.Parents.{IsRooted, IsRoot, kind, count_in, root_in, parent_in};
 
 use crate::colour::Colour;
