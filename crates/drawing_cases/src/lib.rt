@@ -3,6 +3,8 @@
 #![tactic(auto)]
 
 #[cfg(test)]
+mod bars;
+#[cfg(test)]
 mod figures;
 #[cfg(test)]
 mod given;
