@@ -23,10 +23,6 @@ fn one_node(rt: HostRuntime) -> Result<(), Fail> {
     };
     tree.put(VertexId(0), node, &mut steps);
     assert!(rt; tree.len() == 1 && tree.get(VertexId(0), &mut steps) == node);
-    let points = sum_offsets(rt.alloc(), &tree, VertexId(0), &mut steps)?;
-    assert!(rt; points.len() == 1);
-    let point = points.get(0);
-    assert!(rt; point.x == 3 && point.y == 4);
     Ok(())
 }
 
