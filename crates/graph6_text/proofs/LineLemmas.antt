@@ -4,12 +4,13 @@ use Rattle.std.proofs.Math.ListN.{get_or}
 use Rattle.std.specs.List.{All, list_any, position, position_or_len}
 use Rattle.std.proofs.lemmas.Bool.{eqb-false, cases_Bool, cases_eq, cases_lt, cond-true, cond-false}
 use Rattle.std.proofs.lemmas.Bool.Decides.{nat_tests}
+use Rattle.std.proofs.Math.Seq.{drop-append_seam}
 use Rattle.std.proofs.lemmas.List.{ext_get_or, get_or-drop, get_or-append_right}
 use Rattle.std.proofs.lemmas.List.Elements.{All-nil, All-cons, All-head, All-tail, All-append}
-use Rattle.graph6_text.specs.Graphs.{AreEdges, joins}
+use Rattle.graph6_text.specs.Graphs.{Edge, EdgeGraph, AreEdges, joins}
 use Rattle.graph6_text.specs.Lines.{pair_count, body_length, has_bit, is_set, IsLineByte, IsBody, IsLine, edges_of, count_form}
 use Rattle.graph6_text.specs.Faults.{is_bad_byte, four_byte_start, long_rest, long_start, line_start, is_padded, body_fault, rest_fault, fault_from, line_fault}
-use Rattle.graph6_text.specs.Laws.{OneLine, LinesAreGraphs}
+use Rattle.graph6_text.specs.Laws.{OneGraph, OneLine, LinesAreGraphs}
 use Rattle.graph6_text.specs.declared.line.G6Fault.{G6Fault}
 use Rattle.graph6_text.specs.declared.line.G6Fault.TheVariants.{LongCount, TooMany}
 use Rattle.graph6_text.proofs.BitLemmas.{below_six, byte_by_bits, pair_at, body_length-bounds}
@@ -289,3 +290,23 @@ one_body n body other is it same =
 pub one_line : OneLine
 one_line bytes others graph line other =
     line.front ∙ (ap (λ b. count_form graph.n ++ b) (one_body graph.n line.body other.body line.is_body other.is_body (sym line.edges ∙ other.edges)) ∙ sym other.front)
+
+-- the number of vertices and the body that a line begins with are one
+pub one_graph : OneGraph
+one_graph bytes graph other line line' =
+    let s = start-count graph.n line.body line.few in
+    let s' = start-count other.n line'.body line'.few in
+    let same : begun graph.n s.0 ≡ begun other.n s'.0 = sym (ap line_start line.front ∙ s.1) ∙ ap line_start line'.front ∙ s'.1 in
+    let counts : graph.n ≡ other.n = ap (λ r. (pair_of r).0) same in
+    let starts : s.0 ≡ s'.0 = ap (λ r. (pair_of r).1) same in
+    let body : line.body ≡ drop s.0 bytes = sym (ap (λ k. drop k bytes) (sym s.2) ∙ ap (drop (length (count_form graph.n))) line.front ∙ drop-append_seam (count_form graph.n) line.body) in
+    let body' : line'.body ≡ drop s'.0 bytes = sym (ap (λ k. drop k bytes) (sym s'.2) ∙ ap (drop (length (count_form other.n))) line'.front ∙ drop-append_seam (count_form other.n) line'.body) in
+    let bodies : line.body ≡ line'.body = body ∙ ap (λ k. drop k bytes) starts ∙ sym body' in
+    ap₂ made counts (line.edges ∙ ap₂ edges_of counts bodies ∙ sym line'.edges)
+  where
+    made : ℕ → List Edge → EdgeGraph
+    made n edges = record { n = n; edges = edges }
+
+    pair_of : Result (ℕ × ℕ) G6Fault → ℕ × ℕ
+    pair_of (Ok pair) = pair
+    pair_of (Err fault) = (0, 0)

@@ -1,8 +1,7 @@
 -- Worked cases: pairs of branches, and faults of a witness of K5 with branches 0 to 4.
-use Rattle.std.proofs.Common.{◌≡◌, ℕ, List, [], ◌∷◌, length, refl, inl, inr, arith}
+use Rattle.std.proofs.Common.{◌≡◌, ℕ, List, [], ◌∷◌, refl, inl, inr, arith}
 use Rattle.map_lists.specs.declared.ids.VertexId.{VertexId}
-use Rattle.graph6_text.specs.Graphs.{EdgeGraph}
-use Rattle.kuratowski.specs.Witnesses.{pairs_of, pair_at, Joins}
+use Rattle.kuratowski.specs.Witnesses.{pair_at, Joins}
 use Rattle.kuratowski.specs.Faults.{IsBadBranch, LacksEdge, IsShared}
 use Rattle.kuratowski.specs.declared.witness.Kind.TheVariants.{K5, K33}
 

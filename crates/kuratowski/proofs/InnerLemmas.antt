@@ -1,5 +1,5 @@
 -- The least inner vertex with a property, found place by place; the shared vertices of one path.
-use Rattle.std.proofs.Common.{◌≡◌, ◌≢◌, ◌⊎◌, ◌↔◌, IsTrue, ℕ, ◌+◌, ◌-◌, ◌<◌, nat_lt, if◌then◌else◌, Bool, true, false, List, length, Option, Some, None, refl, sym, ap, ◌∙◌, subst, inl, inr, arith}
+use Rattle.std.proofs.Common.{◌≡◌, ◌⊎◌, ◌↔◌, IsTrue, ℕ, ◌+◌, ◌-◌, ◌<◌, nat_lt, if◌then◌else◌, Bool, true, false, List, length, Option, Some, None, refl, sym, ap, ◌∙◌, subst, inl, inr, arith}
 use Rattle.std.proofs.lemmas.Bool.{cases_lt, cases_eq, cond-true, cond-false, true≢false}
 use Rattle.std.proofs.lemmas.Bool.Decides.{nat_tests}
 use Rattle.map_lists.specs.declared.ids.VertexId.{VertexId}
@@ -9,9 +9,6 @@ use Rattle.kuratowski.specs.Inner.{StandsWithin, IsLeastInner, lesser}
 use Rattle.kuratowski.specs.Verdicts.{IsLeastPair}
 
 module _ (path : List VertexId) (P : ℕ → Type 0) where
-  pub least-begin : IsLeastInner path P 1 None
-  least-begin v s p = omega (arith, s.1, s.2)
-
   -- one place more
   within_more : (i v : ℕ) → StandsWithin path (i + 1) v → StandsWithin path i v ⊎ (vertex_at path i ≡ v)
   within_more i v s = elim (cases_eq s.0 i) [
@@ -98,17 +95,3 @@ module _ (branch : List VertexId) (paths : List (List VertexId)) (p : ℕ) (path
       ];
     };
   }
-
--- ---- twice
--- another place of the vertex at a place
-pub twice_from : (path : List VertexId) (i j : ℕ) → i < length path → j < length path → j ≢ i → vertex_at path j ≡ vertex_at path i → StandsTwice path (vertex_at path i)
-twice_from path i j l m n e = elim (cases_lt i j) [
-  | inl o ↦ (i, j, o, m, refl, e)
-  | inr o ↦ (j, i, omega arith, l, e, refl)
-]
-
-pub twice_gives : (path : List VertexId) (i : ℕ) → StandsTwice path (vertex_at path i) → (j : ℕ) × (j < length path) × (j ≢ i) × (vertex_at path j ≡ vertex_at path i)
-twice_gives path i (a, b, l, m, e, f) = elim (cases_eq a i) [
-  | inl q ↦ (b, m, (λ r. omega (arith, l, q, r)), f)
-  | inr n ↦ (a, omega arith, n, e)
-]

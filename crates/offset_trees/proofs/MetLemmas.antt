@@ -348,29 +348,3 @@ next-right nodes met i v node l at is = record {
   number = refl;
   link_is = ap (λ (n : Node). option_map (λ u. u.0) n.right) (sym is);
 }
-
--- ---- a node alone is a tree
-
-pub IsTree-alone : (node : Node) → node.left ≡ None → node.right ≡ None → IsWithin (pos 1048576) (node.x +ℤ pos 0) → IsTree (node ∷ []) 0
-IsTree-alone node no_left no_right small = record {
-  inside = omega arith;
-  within = λ v u l leads. absurd (none v u l leads);
-  reached = λ v l. ([], omega arith);
-  once = λ v w u l l' leads leads'. omega arith;
-  one_link = λ v u w l left right. absurd (none v u l (inl left));
-  first = λ v l leads. none v 0 l leads;
-  small = way;
-}
-  where
-    none : (v u : ℕ) → v < 1 → LeadsTo (node ∷ []) v u → ⊥
-    none v u l leads =
-        let here : v ≡ 0 = omega arith in
-        lead (subst (λ (z : ℕ). LeadsTo (node ∷ []) z u) here leads)
-      where
-        lead : LeadsTo (node ∷ []) 0 u → ⊥
-        lead (inl e) = let no : None ≡ Some u = ap (option_map (λ w. w.0)) (sym no_left) ∙ e in cc
-        lead (inr e) = let no : None ≡ Some u = ap (option_map (λ w. w.0)) (sym no_right) ∙ e in cc
-
-    way : (us : List ℕ) (v : ℕ) → IsWay (node ∷ []) 0 us v → IsWithin (pos 1048576) (sum_x (node ∷ []) (0 ∷ us))
-    way [] v is = small
-    way (w ∷ us) v is = absurd (none 0 w (omega arith) is.0)

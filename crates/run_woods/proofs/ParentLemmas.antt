@@ -8,9 +8,6 @@ use Rattle.contour_runs.proofs.Stages.{IsStage-run, IsRun-less, count-stage_afte
 use Rattle.run_woods.specs.Parents.{Colour, one, two, three, IsParent, IsParentOne, IsParentTwo, IsParentThree}
 use Rattle.run_woods.specs.Rules.{HasOneParent, LeadsAway, IsOwnRoot}
 
-one≢two : one ≢ two
-one≢two e = cc
-
 one≢three : one ≢ three
 one≢three e = cc
 

@@ -1,303 +1,148 @@
 -- Where the row of a vertex of a canonical order begins and ends.
-use Rattle.std.proofs.Common.{◌≡◌, ◌≢◌, ◌+◌, ◌-◌, ◌<◌, ◌≤◌, ℕ, zero, suc, true, false, List, [], ◌∷◌, ◌++◌, length, map, get_or, take, Contains, sym, ap, ◌∙◌, subst, inl, inr, arith, length-append}
-use Rattle.std.proofs.lemmas.Bool.{cases_lt, cases_eq, true≢false}
-use Rattle.std.proofs.lemmas.List.{get_or-map, length-map, get_or_default, get_or-take, length-take-le, get_or-append-add}
-use Rattle.std.proofs.lemmas.List.Elements.{Contains-get_or}
+use Rattle.std.proofs.Common.{◌≡◌, ◌+◌, ◌-◌, ◌<◌, ◌≤◌, ℕ, zero, suc, List, [], ◌∷◌, ◌++◌, length, get_or, take, sym, ap, ◌∙◌, subst, inl, inr, arith, length-append}
+use Rattle.std.proofs.lemmas.Bool.{cases_lt}
 use Rattle.std.proofs.Math.Seq.{get_or-append_seam}
 use Rattle.map_lists.specs.Lists.{Lists}
 use Rattle.map_definitions.specs.Maps.{Dart, HasDart, follows}
 use Rattle.map_definitions.proofs.DartLemmas.{HasDart-follows}
-use Rattle.map_definitions.proofs.EntryLemmas.{Contains-from_list_any, list_any-from_Contains}
 use Rattle.plane_laws.specs.Completed.{IsCompleted}
-use Rattle.map_peeling.proofs.RestrictedMaps.{restricted-old, restricted-new}
-use Rattle.canon_order.specs.Orders.{stands_in, IsPutOn, IsCanonicalOrder, IsRankOf}
+use Rattle.canon_order.specs.Orders.{IsPutOn, IsCanonicalOrder, IsRankOf}
 use Rattle.canon_order.specs.Laws.{RunEnds}
-use Rattle.canon_order.proofs.Counters.{same_place, all_of_them}
-use Rattle.contour_runs.specs.Runs.{Step, Stage, stage_after, IsStep, contour}
-use Rattle.contour_runs.specs.Laws.{IsStage, IsPutOver}
-use Rattle.contour_runs.proofs.Places.{place_after-new}
-use Rattle.contour_runs.proofs.Stages.{IsStage-run, IsRun-less, count-stage_after}
-use Rattle.contour_runs.proofs.Contours.{length-contour, get_or-contour}
-use Rattle.contour_runs.proofs.Growing.{get_or-row}
+use Rattle.contour_runs.specs.Runs.{Step, Stage, stage_after}
 use Rattle.order_runs.specs.OrderRuns.{IsOrderRun}
+use Rattle.order_runs.proofs.OrderRows.{IsRowOf, row_of}
 use Rattle.shift_trees.specs.Rows.{BeginsRow, EndsRow, HasRow}
 
-module _ (lists : Lists) (base : Dart) (at ranks : List ℕ) (completed : IsCompleted lists) (order : IsCanonicalOrder lists base at) (rank : IsRankOf ranks at) (steps : ℕ → Step) (run : IsOrderRun lists base at order.cycle steps) where
+module _ (lists : Lists) (base : Dart) (at ranks : List ℕ) (completed : IsCompleted lists) (order : IsCanonicalOrder lists base at) (rank : IsRankOf ranks at) (steps : ℕ → Step) (run : IsOrderRun lists base at order.cycle steps) (k : ℕ) (l : k + 2 < length at) where
   abbrev name : ℕ → ℕ
   name k = get_or at k 0
 
-  -- each vertex stands at its rank
-  at_rank : (u : ℕ) → u < length lists → (get_or ranks u 0 < length at) × (name (get_or ranks u 0) ≡ u)
-  at_rank u l =
-      let n = order.count in
-      let on = all_of_them at u (λ i d m. let o = order.vertices i d m in omega arith) order.built.once (omega arith) in
-      let i = on.0 in
-      let in_at = on.1 in
-      let here : name i ≡ u = get_or_default at i 0 u in_at ∙ on.2 in
-      let r : get_or ranks u 0 ≡ i = ap (λ u. get_or ranks u 0) (sym here) ∙ rank.of_place i in_at in
-      (omega arith, ap name r ∙ here)
+  abbrev v : ℕ
+  v = name (k + 2)
 
-  module _ (k : ℕ) (l : k + 2 < length at) where
-    abbrev v : ℕ
-    v = name (k + 2)
+  abbrev later : 2 ≤ k + 2
+  later = omega arith
 
-    abbrev us : List ℕ
-    us = take (suc (k + 2)) at
+  abbrev put : IsPutOn lists (take (suc (k + 2)) at) v (order.cycle (k + 2)) (order.cycle (suc (k + 2)))
+  put = order.built.put (k + 2) later l
 
-    later : 2 ≤ k + 2
-    later = omega arith
+  abbrev ws : List ℕ
+  ws = put.p ∷ put.middle ++ put.q ∷ []
 
-    abbrev put : IsPutOn lists us v (order.cycle (k + 2)) (order.cycle (suc (k + 2)))
-    put = order.built.put (k + 2) later l
+  abbrev g : Stage
+  g = stage_after steps k
 
-    abbrev over : IsPutOver v (order.cycle (k + 2)) (order.cycle (suc (k + 2)))
-    over = record { front = put.front; p = put.p; middle = put.middle; q = put.q; back = put.back; before = put.before; after = put.after }
+  abbrev s : Step
+  s = steps k
 
-    abbrev ws : List ℕ
-    ws = put.p ∷ put.middle ++ put.q ∷ []
+  row : IsRowOf lists at ranks steps k v ws
+  row = row_of lists base at ranks completed order rank steps run k l
 
-    abbrev g : Stage
-    g = stage_after steps k
+  length-ws : length ws ≡ length put.middle + 2
+  length-ws = omega (arith, length-append put.middle (put.q ∷ []))
 
-    abbrev s : Step
-    s = steps k
+  p_is : name (g.vertex s.first) ≡ put.p
+  p_is = let e : s.first ≡ s.first + 0 = omega arith in ap (λ i. name (g.vertex i)) e ∙ row.named 0 (omega (arith, length-ws))
 
-    length-ws : length ws ≡ length put.middle + 2
-    length-ws = omega (arith, length-append put.middle (put.q ∷ []))
+  q_at : (c : ℕ) → suc c ≡ length ws → get_or ws c 0 ≡ put.q
+  q_at c m =
+      let len = length-ws in
+      let d : c ≡ length (put.p ∷ put.middle) = omega arith in
+      ap (λ c. get_or ws c 0) d ∙ get_or-append_seam (put.p ∷ put.middle) put.q [] 0
 
-    -- which vertices are earlier
-    is_earlier : (u : ℕ) → stands_in us u ≡ true → u ≢ v → get_or ranks u 0 < k + 2
-    is_earlier u t ne =
-        let c = Contains-from_list_any u us t in
-        let len = length-take-le (suc (k + 2)) at (omega arith) in
-        let i = c.0 in
-        let in_us = c.1 in
-        let here : name i ≡ u = sym (get_or-take (suc (k + 2)) at i 0 (omega arith)) ∙ get_or_default us i 0 u in_us ∙ c.2 in
-        let r : get_or ranks u 0 ≡ i = ap (λ u. get_or ranks u 0) (sym here) ∙ rank.of_place i (omega arith) in
-        elim (cases_eq i (k + 2)) [ inl e ↦ absurd (ne (sym here ∙ ap name e)) | inr other ↦ omega arith ]
+  abbrev top : ℕ
+  top = suc (length put.middle)
 
-    stands_earlier : (u : ℕ) → u < length lists → get_or ranks u 0 < k + 2 → stands_in us u ≡ true
-    stands_earlier u m r =
-        let i : ℕ = get_or ranks u 0 in
-        let len = length-take-le (suc (k + 2)) at (omega arith) in
-        let here : get_or us i 0 ≡ u = get_or-take (suc (k + 2)) at i 0 (omega arith) ∙ (at_rank u m).1 in
-        list_any-from_Contains u us (subst (Contains us) here (Contains-get_or us i 0 (omega arith)))
+  q_is : name (g.vertex s.last) ≡ put.q
+  q_is =
+      let len = length-ws in
+      let reach = row.reach in
+      let e : s.last ≡ s.first + top = omega arith in
+      ap (λ i. name (g.vertex i)) e ∙ row.named top (omega arith) ∙ q_at top (omega arith)
 
-    is_later : (u : ℕ) → u < length lists → stands_in us u ≡ false → k + 2 ≤ get_or ranks u 0
-    is_later u m f = elim (cases_lt (get_or ranks u 0) (k + 2)) [ inl r ↦ absurd (true≢false (sym (stands_earlier u m r) ∙ f)) | inr r ↦ r ]
+  module _ (ends : RunEnds) where
+    begin : BeginsRow lists ranks (k + 2) v put.p
+    begin =
+        let some : 0 < length ws = omega (arith, length-ws) in
+        let dart = row.dart 0 some in
+        let next = completed.simple.in_range v (follows lists v put.p) (HasDart-follows lists v put.p dart) in
+        record {
+          dart = dart;
+          earlier = row.earlier 0 some;
+          begins = elim (cases_lt (suc (k + 2)) (length at)) [
+            | inl more ↦ inr (row.is_later (follows lists v put.p) next (ends lists base at completed order (k + 2) later l more).after)
+            | inr last ↦
+                let z = (row.whole (omega arith)).0 in
+                let d : s.first + 0 ≡ 0 = omega arith in
+                inl (row.rank_is 0 some ∙ ap g.vertex d ∙ row.stage.begin)
+          ];
+        }
 
-    v_in : v < length lists
-    v_in = order.vertices (k + 2) 0 l
+    only_begin : (u : ℕ) → BeginsRow lists ranks (k + 2) v u → u ≡ put.p
+    only_begin u b = let on = row.on_row u b.dart b.earlier in at_entry on.0 on.1 on.2
+      where
+        at_entry : (c : ℕ) → c < length ws → get_or ws c 0 ≡ u → u ≡ put.p
+        at_entry zero m e = sym e
+        at_entry (suc c) m e = elim b.begins [
+          | inl z ↦
+              let o = row.step.within in
+              let r = row.rank_is (suc c) m in
+              let len = length-ws in
+              let reach = row.reach in
+              let zero_at : g.vertex (s.first + suc c) ≡ 0 = sym r ∙ ap (λ u. get_or ranks u 0) e ∙ z in
+              let same = sym (row.stage.own (s.first + suc c) (omega arith)) ∙ ap g.place (zero_at ∙ sym row.stage.begin) ∙ row.stage.own 0 (omega arith) in
+              absurd (omega (arith, same))
+          | inr h ↦
+              let n = ap (follows lists v) (sym e) ∙ row.turns c m in
+              let r = row.earlier c (omega arith) in
+              absurd (omega (arith, ap (λ u. get_or ranks u 0) n))
+        ]
 
-    v_kept : stands_in us v ≡ true
-    v_kept =
-        let len = length-take-le (suc (k + 2)) at (omega arith) in
-        list_any-from_Contains v us (subst (Contains us) (get_or-take (suc (k + 2)) at (k + 2) 0 (omega arith)) (Contains-get_or us (k + 2) 0 (omega arith)))
-
-    -- an entry of the row
-    dart_at : (c : ℕ) → c < length ws → HasDart lists v (get_or ws c 0) × (stands_in us v ≡ true) × (stands_in us (get_or ws c 0) ≡ true)
-    dart_at c m = restricted-old lists (stands_in us) v (get_or ws c 0) ((put.fan.neighbours (get_or ws c 0)).1 (Contains-get_or ws c 0 m))
-
-    rank-ws : (c : ℕ) → c < length ws → get_or ranks (get_or ws c 0) 0 < k + 2
-    rank-ws c m = let d = dart_at c m in is_earlier (get_or ws c 0) d.2 (completed.simple.no_loop v (get_or ws c 0) d.0)
-
-    turns : (c : ℕ) → suc c < length ws → follows lists v (get_or ws (suc c) 0) ≡ get_or ws c 0
-    turns c m =
-        let e : c + 1 ≡ suc c = omega arith in
+    end : EndsRow lists ranks (k + 2) v put.q
+    end =
         let len = length-ws in
-        ap (λ i. follows lists v (get_or ws i 0)) (sym e) ∙ (put.fan.faces c (omega arith)).round
+        let m : top < length ws = omega arith in
+        let q = q_at top (omega arith) in
+        record {
+          dart = subst (HasDart lists v) q (row.dart top m);
+          earlier = omega (arith, row.earlier top m, ap (λ u. get_or ranks u 0) q);
+          ends = elim (cases_lt (suc (k + 2)) (length at)) [
+            | inl more ↦ inr (λ w dart f. row.is_later w (completed.simple.in_range v w dart) ((ends lists base at completed order (k + 2) later l more).before w dart f))
+            | inr last ↦
+                let z = (row.whole (omega arith)).1 in
+                let at_end = row.stage.end (s.first + top) (omega (arith, row.reach, length-ws)) in
+                inl (ap (λ u. get_or ranks u 0) (sym q) ∙ row.rank_is top m ∙ at_end)
+          ];
+        }
 
-    -- an earlier neighbour stands in the row
-    on_row : (u : ℕ) → HasDart lists v u → get_or ranks u 0 < k + 2 → (c : ℕ) × (c < length ws) × (get_or ws c 0 ≡ u)
-    on_row u dart r =
-        let kept = stands_earlier u (completed.simple.in_range v u dart) r in
-        let on = (put.fan.neighbours u).0 (restricted-new lists (stands_in us) v u dart v_kept kept) in
-        (on.0, on.1, get_or_default ws on.0 0 u on.1 ∙ on.2)
-
-    -- THE RUN
-    stage : IsStage g
-    stage = IsStage-run steps k (IsRun-less steps k (length at - 2) (omega arith) run.run)
-
-    step : IsStep g s
-    step = run.run k (omega arith)
-
-    stage_next : IsStage (stage_after steps (suc k))
-    stage_next = IsStage-run steps (suc k) (IsRun-less steps (suc k) (length at - 2) (omega arith) run.run)
-
-    next_is : order.cycle (suc (k + 2)) ≡ map name (contour (stage_after steps (suc k)))
-    next_is = let e : suc (k + 2) ≡ suc k + 2 = omega arith in ap order.cycle e ∙ run.contours (suc k) (omega arith)
-
-    length-old : length put.front + length put.middle + 2 + length put.back ≡ g.width
-    length-old =
-        omega (arith, ap length put.before, ap length (run.contours k (omega arith)), length-map (contour g) name, length-contour g, length-append put.front (put.p ∷ put.middle ++ put.q ∷ put.back), length-append put.middle (put.q ∷ put.back))
-
-    length-new : length put.front + 3 + length put.back ≡ g.width + s.first + 2 - s.last
-    length-new =
-        omega (arith, ap length put.after, ap length next_is, length-map (contour (stage_after steps (suc k))) name, length-contour (stage_after steps (suc k)), length-append put.front (put.p ∷ v ∷ put.q ∷ put.back))
-
-    first_is : s.first ≡ length put.front
-    first_is =
-        let o = step.order in
-        let w = step.within in
-        let i : ℕ = length put.front + 1 in
-        let h : Stage = stage_after steps (suc k) in
-        let count = count-stage_after steps k in
-        let new = length-new in
-        let in_i : i < h.width = omega arith in
-        let old = stage_next.placed i in_i in
-        let there : name (h.vertex i) ≡ v =
-        ap name (sym (get_or-contour h i in_i))
-        ∙ sym (get_or-map name (contour h) i 0 0 (omega (arith, length-contour h)))
-        ∙ ap (λ xs. get_or xs i 0) (sym next_is ∙ put.after)
-        ∙ get_or-append-add put.front (put.p ∷ v ∷ put.q ∷ put.back) 1 0 in
-        let same : h.vertex i ≡ k + 2 = same_place at (h.vertex i) (k + 2) order.built.once (omega (arith, count)) l there in
-        let e = sym (stage_next.own i in_i) ∙ ap h.place same ∙ place_after-new g s (k + 2) (sym count) in
-        omega (arith, e)
-
-    last_is : s.last ≡ length put.front + length put.middle + 1
-    last_is = let o = step.order in let w = step.within in omega (arith, first_is, length-old, length-new)
-
-    -- an entry of the row is a vertex of the contour
-    named : (c : ℕ) → c < length ws → name (g.vertex (s.first + c)) ≡ get_or ws c 0
-    named c m =
-        let w = step.within in
-        let len = length-ws in
-        let first = first_is in
-        let last = last_is in
-        let i : ℕ = length put.front + c in
-        let d : s.first + c ≡ i = omega arith in
-        let in_i : i < g.width = omega arith in
-        ap (λ i. name (g.vertex i)) d
-        ∙ ap name (sym (get_or-contour g i in_i))
-        ∙ sym (get_or-map name (contour g) i 0 0 (omega (arith, length-contour g)))
-        ∙ ap (λ xs. get_or xs i 0) (sym (run.contours k (omega arith)))
-        ∙ get_or-row v (order.cycle (k + 2)) (order.cycle (suc (k + 2))) over c (omega arith)
-
-    -- and its rank is its place in the order
-    rank_is : (c : ℕ) → c < length ws → get_or ranks (get_or ws c 0) 0 ≡ g.vertex (s.first + c)
-    rank_is c m =
-        let w = step.within in
-        let len = length-ws in
-        let first = first_is in
-        let last = last_is in
-        let old = stage.placed (s.first + c) (omega arith) in
-        let count = count-stage_after steps k in
-        ap (λ u. get_or ranks u 0) (sym (named c m)) ∙ rank.of_place (g.vertex (s.first + c)) (omega arith)
-
-    p_is : name (g.vertex s.first) ≡ put.p
-    p_is = let e : s.first ≡ s.first + 0 = omega arith in ap (λ i. name (g.vertex i)) e ∙ named 0 (omega (arith, length-ws))
-
-    q_at : (c : ℕ) → suc c ≡ length ws → get_or ws c 0 ≡ put.q
-    q_at c m =
-        let len = length-ws in
-        let d : c ≡ length (put.p ∷ put.middle) = omega arith in
-        ap (λ c. get_or ws c 0) d ∙ get_or-append_seam (put.p ∷ put.middle) put.q [] 0
-
-    abbrev top : ℕ
-    top = suc (length put.middle)
-
-    q_is : name (g.vertex s.last) ≡ put.q
-    q_is =
-        let len = length-ws in
-        let first = first_is in
-        let last = last_is in
-        let e : s.last ≡ s.first + top = omega arith in
-        ap (λ i. name (g.vertex i)) e ∙ named top (omega arith) ∙ q_at top (omega arith)
-
-    -- the last vertex of all is put over the whole contour
-    whole : suc (k + 2) ≡ length at → (s.first ≡ 0) × (suc s.last ≡ g.width)
-    whole e =
-        let d : suc k ≡ length at - 2 = omega arith in
-        let w = ap (λ i. (stage_after steps i).width) d ∙ run.end in
-        let o = step.order in
-        let n = step.within in
-        (omega arith, omega arith)
-
-    module _ (ends : RunEnds) where
-      begin : BeginsRow lists ranks (k + 2) v put.p
-      begin =
-          let some : 0 < length ws = omega (arith, length-ws) in
-          let dart = (dart_at 0 some).0 in
-          let next = completed.simple.in_range v (follows lists v put.p) (HasDart-follows lists v put.p dart) in
-          record {
-            dart = dart;
-            earlier = rank-ws 0 some;
-            begins = elim (cases_lt (suc (k + 2)) (length at)) [
-              | inl more ↦ inr (is_later (follows lists v put.p) next (ends lists base at completed order (k + 2) later l more).after)
-              | inr last ↦
-                  let z = (whole (omega arith)).0 in
-                  let d : s.first + 0 ≡ 0 = omega arith in
-                  inl (rank_is 0 some ∙ ap g.vertex d ∙ stage.begin)
-            ];
-          }
-
-      only_begin : (u : ℕ) → BeginsRow lists ranks (k + 2) v u → u ≡ put.p
-      only_begin u b = let on = on_row u b.dart b.earlier in at_entry on.0 on.1 on.2
-        where
-          at_entry : (c : ℕ) → c < length ws → get_or ws c 0 ≡ u → u ≡ put.p
-          at_entry zero m e = sym e
-          at_entry (suc c) m e = elim b.begins [
+    only_end : (u : ℕ) → EndsRow lists ranks (k + 2) v u → u ≡ put.q
+    only_end u b =
+        let on = row.on_row u b.dart b.earlier in
+        let c = on.0 in
+        let m = on.1 in
+        let e = on.2 in
+        elim (cases_lt (suc c) (length ws)) [
+          | inr o ↦ sym e ∙ q_at c (omega arith)
+          | inl o ↦ elim b.ends [
             | inl z ↦
-                let o = step.within in
-                let r = rank_is (suc c) m in
+                let w = row.step.within in
+                let r = row.rank_is c m in
                 let len = length-ws in
-                let last = last_is in
-                let first = first_is in
-                let zero_at : g.vertex (s.first + suc c) ≡ 0 = sym r ∙ ap (λ u. get_or ranks u 0) e ∙ z in
-                let same = sym (stage.own (s.first + suc c) (omega arith)) ∙ ap g.place (zero_at ∙ sym stage.begin) ∙ stage.own 0 (omega arith) in
+                let reach = row.reach in
+                let one_at : g.vertex (s.first + c) ≡ 1 = sym r ∙ ap (λ u. get_or ranks u 0) e ∙ z in
+                let same = sym (row.stage.own (s.first + c) (omega arith)) ∙ ap g.place (one_at ∙ sym (row.stage.end (g.width - 1) (omega arith))) ∙ row.stage.own (g.width - 1) (omega arith) in
                 absurd (omega (arith, same))
             | inr h ↦
-                let n = ap (follows lists v) (sym e) ∙ turns c m in
-                let r = rank-ws c (omega arith) in
-                absurd (omega (arith, ap (λ u. get_or ranks u 0) n))
+                let low = h (get_or ws (suc c) 0) (row.dart (suc c) o) (row.turns c o ∙ e) in
+                let r = row.earlier (suc c) o in
+                absurd (omega arith)
           ]
+        ]
 
-      end : EndsRow lists ranks (k + 2) v put.q
-      end =
-          let len = length-ws in
-          let m : top < length ws = omega arith in
-          let q = q_at top (omega arith) in
-          record {
-            dart = subst (HasDart lists v) q (dart_at top m).0;
-            earlier = omega (arith, rank-ws top m, ap (λ u. get_or ranks u 0) q);
-            ends = elim (cases_lt (suc (k + 2)) (length at)) [
-              | inl more ↦ inr (λ w dart f. is_later w (completed.simple.in_range v w dart) ((ends lists base at completed order (k + 2) later l more).before w dart f))
-              | inr last ↦
-                  let z = (whole (omega arith)).1 in
-                  let at_end = stage.end (s.first + top) (omega (arith, first_is, last_is)) in
-                  inl (ap (λ u. get_or ranks u 0) (sym q) ∙ rank_is top m ∙ at_end)
-            ];
-          }
-
-      only_end : (u : ℕ) → EndsRow lists ranks (k + 2) v u → u ≡ put.q
-      only_end u b =
-          let on = on_row u b.dart b.earlier in
-          let c = on.0 in
-          let m = on.1 in
-          let e = on.2 in
-          elim (cases_lt (suc c) (length ws)) [
-            | inr o ↦ sym e ∙ q_at c (omega arith)
-            | inl o ↦ elim b.ends [
-              | inl z ↦
-                  let w = step.within in
-                  let r = rank_is c m in
-                  let len = length-ws in
-                  let last = last_is in
-                  let first = first_is in
-                  let one_at : g.vertex (s.first + c) ≡ 1 = sym r ∙ ap (λ u. get_or ranks u 0) e ∙ z in
-                  let same = sym (stage.own (s.first + c) (omega arith)) ∙ ap g.place (one_at ∙ sym (stage.end (g.width - 1) (omega arith))) ∙ stage.own (g.width - 1) (omega arith) in
-                  absurd (omega (arith, same))
-              | inr h ↦
-                  let low = h (get_or ws (suc c) 0) (dart_at (suc c) o).0 (turns c o ∙ e) in
-                  let r = rank-ws (suc c) o in
-                  absurd (omega arith)
-            ]
-          ]
-
-      pub has_row : HasRow lists ranks (k + 2) v (name (g.vertex s.first)) (name (g.vertex s.last))
-      has_row = record {
-        begin = subst (λ p. BeginsRow lists ranks (k + 2) v p) (sym p_is) begin;
-        only_begin = λ u b. only_begin u b ∙ sym p_is;
-        end = subst (λ q. EndsRow lists ranks (k + 2) v q) (sym q_is) end;
-        only_end = λ u b. only_end u b ∙ sym q_is;
-      }
+    pub has_row : HasRow lists ranks (k + 2) v (name (g.vertex s.first)) (name (g.vertex s.last))
+    has_row = record {
+      begin = subst (λ p. BeginsRow lists ranks (k + 2) v p) (sym p_is) begin;
+      only_begin = λ u b. only_begin u b ∙ sym p_is;
+      end = subst (λ q. EndsRow lists ranks (k + 2) v q) (sym q_is) end;
+      only_end = λ u b. only_end u b ∙ sym q_is;
+    }
