@@ -1,0 +1,2 @@
+-- What the lists of a graph hold.
+pub mod GraphLemmas

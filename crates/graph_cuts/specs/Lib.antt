@@ -1,0 +1,2 @@
+-- Graphs as lists.
+pub mod GraphLists

@@ -1,0 +1,5 @@
+-- Lemmas on searches.
+pub mod StepLemmas
+pub mod TableLemmas
+pub mod ForestLemmas
+pub mod LowLemmas
