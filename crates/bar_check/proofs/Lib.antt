@@ -1,10 +1,10 @@
 -- The lemmas on checks of visibility drawings.
-mod EdgeLemmas
+pub mod EdgeLemmas
 mod ColumnLemmas
 mod OnceRound
 mod TurnLemmas
-mod OverlapLemmas
+pub mod OverlapLemmas
 mod Cases
-mod NumberLemmas
-mod NumberCounts
+pub mod NumberLemmas
+pub mod NumberCounts
 mod OrderLemmas

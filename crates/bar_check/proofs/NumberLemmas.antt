@@ -91,7 +91,7 @@ module _ (lists : Lists) (simple : IsSimpleMap lists) where
       let some = Contains-counted b (list_of lists a) e.1.1 in
       omega (arith, edges_until-sum lists a b, edges_until-sum lists a end, more, here, some)
 
-  edges_before-up : (k n : ℕ) → k ≤ n → edges_before lists k ≤ edges_before lists n
+  pub edges_before-up : (k n : ℕ) → k ≤ n → edges_before lists k ≤ edges_before lists n
   edges_before-up k zero h = let e : k ≡ 0 = omega arith in subst (λ i. edges_before lists i ≤ edges_before lists 0) (sym e) (omega arith)
   edges_before-up k (suc n) h =
       elim (cases_lt n k) [

@@ -1,0 +1,7 @@
+-- The lemmas on falls, faces and their numbers.
+pub mod Falls
+pub mod Faces
+pub mod Numbers
+pub mod NoCycle
+pub mod Dual
+pub mod Turns

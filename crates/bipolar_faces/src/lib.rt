@@ -1,0 +1,3 @@
+//! The faces of a plane map whose edges all go upwards from one end of an edge to the other: laws over the
+//! numbers of darts.
+#![tactic(auto)]

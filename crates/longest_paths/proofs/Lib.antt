@@ -1,0 +1,3 @@
+-- The lemmas on sums, and on runs over arcs.
+pub mod Sums
+mod Runs

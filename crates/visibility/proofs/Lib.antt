@@ -1,0 +1,3 @@
+-- The lemmas on ends, and on the figure.
+mod EndRows
+mod Drawn

@@ -1,0 +1,3 @@
+-- The ends of bars.
+pub mod Ends
+pub mod Bars

@@ -1,0 +1,97 @@
+//! Where bars begin and end.
+ghost use Rattle.std.specs.Prelude.{◌≡◌, ◌<◌, ◌≤◌, ◌^◌, ◌⊎◌, ℕ, map, pos, length, slice_index, IfOk};
+ghost use Rattle.longest_paths.specs.Arcs.{arcs_of};
+ghost use Rattle.visibility.specs.Ends.{IsLeastOf, IsGreatestOf, AreEnds};
+
+use half_edges::Counts;
+use map_lists::ItemLists;
+use pg_plane::Ints;
+use std::alloc::{AllocError, Global};
+
+// A number as a coordinate.
+fn coordinate(number: u32) -> i32
+    requires { number < 2 ^ 31 }
+    ensures { result ≡ pos number }
+{
+    number as i32
+}
+
+// The lesser of two.
+fn lesser(a: u32, b: u32) -> u32
+    ensures below { result ≤ a }
+    ensures below_other { result ≤ b }
+    ensures one { (result ≡ a) ⊎ (result ≡ b) }
+{
+    if a < b { a } else { b }
+}
+
+// The greater of two.
+fn greater(a: u32, b: u32) -> u32
+    ensures above { a ≤ result }
+    ensures above_other { b ≤ result }
+    ensures one { (result ≡ a) ⊎ (result ≡ b) }
+{
+    if a < b { b } else { a }
+}
+
+// The least number of a row.
+fn least(row: &[u32]) -> u32
+    requires { 0 < length row.now }
+    ensures { IsLeastOf row.now result }
+{
+    let mut least = row[0];
+    for x in row {
+        least = lesser(least, *x);
+    }
+    least
+}
+
+// The greatest number of a row.
+fn greatest(row: &[u32]) -> u32
+    requires { 0 < length row.now }
+    ensures { IsGreatestOf row.now result }
+{
+    let mut greatest = row[0];
+    for x in row {
+        greatest = greater(greatest, *x);
+    }
+    greatest
+}
+
+// The least number of each row.
+pub(crate) fn left_ends(alloc: Global, rows: &ItemLists<u32>) -> Result<Ints, AllocError>
+    requires some { (v : ℕ) → v < length rows.now → 0 < length (arcs_of rows.now v) }
+    requires low { (v i : ℕ) → slice_index (arcs_of rows.now v) i < 2 ^ 31 }
+    ensures { IfOk result (AreEnds rows.now IsLeastOf) }
+{
+    let mut ends = Ints::new(alloc);
+    for v in 0..rows.len() {
+        ends.push(coordinate(least(rows.list(v))))?;
+    }
+    Ok(ends)
+}
+
+// The greatest number of each row.
+pub(crate) fn right_ends(alloc: Global, rows: &ItemLists<u32>) -> Result<Ints, AllocError>
+    requires some { (v : ℕ) → v < length rows.now → 0 < length (arcs_of rows.now v) }
+    requires low { (v i : ℕ) → slice_index (arcs_of rows.now v) i < 2 ^ 31 }
+    ensures { IfOk result (AreEnds rows.now IsGreatestOf) }
+{
+    let mut ends = Ints::new(alloc);
+    for v in 0..rows.len() {
+        ends.push(coordinate(greatest(rows.list(v))))?;
+    }
+    Ok(ends)
+}
+
+// The same numbers as coordinates.
+pub(crate) fn coordinates(alloc: Global, numbers: &Counts) -> Result<Ints, AllocError>
+    requires low { (i : ℕ) → slice_index numbers.now i < 2 ^ 31 }
+    ensures { IfOk result (λ made. made ≡ map pos numbers.now) }
+{
+    let mut made = Ints::new(alloc);
+    for i in 0..numbers.len() {
+        made.push(coordinate(numbers.get(i)))?;
+    }
+    Ok(made)
+}

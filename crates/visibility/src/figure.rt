@@ -1,0 +1,74 @@
+//! The bars of an st-order.
+ghost use Rattle.std.specs.Prelude.{◌≡◌, ◌<◌, ◌-◌, ℕ, pos, length, Some, IfOk};
+ghost use Rattle.map_definitions.specs.Maps.{IsPlane, component_count};
+ghost use Rattle.map_cuts.specs.Cuts.{IsCutVertex};
+ghost use Rattle.half_edges.specs.Map.{IsHalfMap, IsLive, dart_at};
+ghost use Rattle.bipolar.specs.StOrders.{IsStOrderOf};
+ghost use Rattle.dual_orders.specs.Numbered.{IsStOf, GiveDualNumbers};
+ghost use Rattle.visibility.specs.Bars.{AreBarsOf, AreBarsFor};
+
+use crate::ends::{coordinates, left_ends, right_ends};
+use bipolar::{StOrder, st_order};
+use dual_orders::{dual_rows, edge_columns};
+use half_edges::{Counts, DartId, HalfMap};
+use map_lists::ItemLists;
+use pg_plane::BarFigure;
+use std::alloc::{AllocError, Global};
+
+// The drawing of ranks and of rows of dual numbers.
+fn bars_of_rows(
+    alloc: Global,
+    map: &HalfMap,
+    rank: &Counts,
+    rows: &ItemLists<u32>,
+    st: DartId,
+) -> Result<BarFigure, AllocError>
+    requires known { IsHalfMap map.now }
+    requires live { IsLive map.now st.0 }
+    requires order { IsStOf map.now rank.now st.0 }
+    requires rows { GiveDualNumbers map.now rank.now st.0 rows.now }
+    ensures { IfOk result (AreBarsOf map.now rank.now st.0) }
+{
+    let lists = map.rotations(alloc)?;
+    let columns = edge_columns(alloc, &lists, rows, map.m())?;
+    let y = coordinates(alloc, rank)?;
+    let x1 = left_ends(alloc, rows)?;
+    let x2 = right_ends(alloc, rows)?;
+    let column = coordinates(alloc, &columns)?;
+    Ok(BarFigure { y, x1, x2, column })
+}
+
+/// The visibility drawing of an st-order of a connected map of genus zero: heights are ranks, columns are
+/// dual numbers, and each bar reaches from its least to its greatest column. It fails only for want of
+/// memory.
+pub fn bars_of_order(
+    alloc: Global,
+    map: &HalfMap,
+    order: &StOrder,
+    st: DartId,
+) -> Result<BarFigure, AllocError>
+    requires live { IsLive map.now st.0 }
+    requires plane { IsPlane map.now.lists }
+    requires connected { component_count map.now.lists ≡ 1 }
+    requires order { (s t : ℕ) → dart_at map.now st.0 ≡ Some (s, t) → IsStOrderOf map.now.lists s t order.now }
+    ensures { IfOk result (AreBarsOf map.now order.now.rank st.0) }
+{
+    map.facts();
+    let rows = dual_rows(alloc, map, order, st)?;
+    let figure = bars_of_rows(alloc, map, &order.rank, &rows, st)?;
+    Ok(figure)
+}
+
+/// A visibility drawing of a connected map of genus zero without cut vertices: that of an st-order for a
+/// dart, over a width of one less than the number of faces. It fails only for want of memory.
+pub fn bars(alloc: Global, map: &HalfMap, st: DartId) -> Result<BarFigure, AllocError>
+    requires live { IsLive map.now st.0 }
+    requires plane { IsPlane map.now.lists }
+    requires connected { component_count map.now.lists ≡ 1 }
+    requires uncut { (v : ℕ) → ¬ IsCutVertex map.now.lists v }
+    ensures { IfOk result (AreBarsFor map.now st.0) }
+{
+    let order = st_order(alloc, map, st)?;
+    let figure = bars_of_order(alloc, map, &order, st)?;
+    Ok(figure)
+}
