@@ -1,5 +1,6 @@
 -- Numbers that are cut while their digits are read.
-use Rattle.std.proofs.Common.{◌≡◌, ℕ, suc, ◌+◌, ◌-◌, ◌*◌, ◌<◌, ◌≤◌, Bool, true, false, List, [], ◌∷◌, length, drop, get_or, refl, sym, ap, ◌∙◌, arith, add-one, drop-cons}
+use Rattle.std.proofs.Common.{◌≡◌, ◌≢◌, ◌++◌, ℕ, suc, ◌+◌, ◌-◌, ◌*◌, ◌<◌, ◌≤◌, Bool, true, false, List, [], ◌∷◌, length, take, drop, length-drop, get_or, refl, sym, ap, ◌∙◌, arith, add-one, drop-cons}
+use Rattle.std.proofs.lemmas.List.{take_more, get_or-drop}
 use Rattle.std.specs.Prelude.{min, Option, Some, None, option_map}
 use Rattle.figure_text.specs.Words.{far, is_digit, decimal_from, one_more}
 
@@ -51,3 +52,41 @@ pub cut_from-none : (word : List ℕ) (n i b : ℕ) → i < length word → get_
 cut_from-none word n i b within at is =
     let parts : drop i word ≡ b ∷ drop (suc i) word = rw (drop-cons word i 0) (rw at refl) in
     ap (λ (bytes : List ℕ). cut_from n bytes) parts ∙ digit-none (is_digit b) n b (drop (suc i) word) refl is
+
+-- digits behind digits
+decimal-append : (xs ys : List ℕ) (n m : ℕ) → decimal_from n xs ≡ Some m → decimal_from n (xs ++ ys) ≡ decimal_from m ys
+decimal-append [] ys n m is = let same : n ≡ m = cc in ap (λ (k : ℕ). decimal_from k ys) same
+decimal-append (b ∷ xs) ys n m is = by_digit (is_digit b) refl (decimal-append xs ys (10 * n + (b - 48)) m)
+  where
+    by_digit : (digit : Bool) → is_digit b ≡ digit → (decimal_from (10 * n + (b - 48)) xs ≡ Some m → decimal_from (10 * n + (b - 48)) (xs ++ ys) ≡ decimal_from m ys) → decimal_from n ((b ∷ xs) ++ ys) ≡ decimal_from m ys
+    by_digit true e rest = rw e (rest (rw e at is))
+    by_digit false e rest = let none : None ≡ Some m = rw e at is in cc
+
+pub cut_from-snoc : (xs : List ℕ) (b v next : ℕ) → cut_from 0 xs ≡ Some v → one_more v b ≡ Some next → cut_from 0 (xs ++ b ∷ []) ≡ Some next
+cut_from-snoc xs b v next is more = by_value (decimal_from 0 xs) refl is
+  where
+    by_value : (o : Option ℕ) → decimal_from 0 xs ≡ o → option_map (min far) o ≡ Some v → cut_from 0 (xs ++ b ∷ []) ≡ Some next
+    by_value None e none = cc
+    by_value (Some m) e some =
+        let same : min far m ≡ v = cc in
+        let near : next ≤ far = one_more-le v b next more in
+        ap (λ (o : Option ℕ). option_map (min far) o) (decimal-append xs (b ∷ []) 0 m e)
+        ∙ cut_from-cut (b ∷ []) m v (omega arith)
+        ∙ sym (digit-more (is_digit b) v b next [] refl more)
+        ∙ ap (λ (k : ℕ). Some k) (omega arith)
+
+-- a digit is no space
+pub one_more-digit : (v b next : ℕ) → one_more v b ≡ Some next → b ≢ 32
+one_more-digit v b next is same = let none : None ≡ Some next = rw same at is in absurd (cc)
+
+-- one byte more of a line
+pub take-one_more : (line : List ℕ) (at k b : ℕ) → at ≤ k → k < length line → get_or line k 0 ≡ b → take (k + 1 - at) (drop at line) ≡ take (k - at) (drop at line) ++ b ∷ []
+take-one_more line at k b order within is =
+    let count : k + 1 - at ≡ (k - at) + 1 = omega arith in
+    let here : get_or (drop at line) (k - at) 0 ≡ b = get_or-drop at line (k - at) 0 ∙ ap (λ (j : ℕ). get_or line j 0) (omega arith) ∙ is in
+    ap (λ (j : ℕ). take j (drop at line)) count
+    ∙ take_more (drop at line) (k - at) 0 (omega (arith, length-drop at line)) ∙ ap (λ (c : ℕ). take (k - at) (drop at line) ++ c ∷ []) here
+
+pub digits-more : (line : List ℕ) (at k v b next : ℕ) → at ≤ k → k < length line → get_or line k 0 ≡ b → cut_from 0 (take (k - at) (drop at line)) ≡ Some v → one_more v b ≡ Some next → cut_from 0 (take (k + 1 - at) (drop at line)) ≡ Some next
+digits-more line at k v b next order within is so_far more =
+    ap (cut_from 0) (take-one_more line at k b order within is) ∙ cut_from-snoc (take (k - at) (drop at line)) b v next so_far more

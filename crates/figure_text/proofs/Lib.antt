@@ -7,6 +7,9 @@ pub mod WordLemmas
 pub mod UptoLemmas
 pub mod RoundLemmas
 pub mod BarLemmas
+pub mod WitnessLemmas
+pub mod ItemLemmas
 pub mod LawLemmas
+mod Cases
 pub mod UniqueRows
 pub mod UniqueFigures

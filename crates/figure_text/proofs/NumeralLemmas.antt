@@ -1,7 +1,7 @@
 -- What printed numbers are as words.
 use Rattle.std.proofs.Common.{◌≡◌, ◌≢◌, ℕ, zero, suc, ◌+◌, ◌-◌, ◌*◌, ◌<◌, ◌≤◌, ◌^◌, ℤ, pos, negsuc, ◌==◌, lit<, lit≤, Bool, true, false, List, [], ◌∷◌, ◌++◌, length, get_or, refl, ap, ◌∙◌, arith, length-append, rules}
 use Rattle.std.proofs.lemmas.Bool.Decides.{nat_tests}
-use Rattle.std.specs.Prelude.{min, Option, Some, None, codes, decimal, bytes_eq, All}
+use Rattle.std.specs.Prelude.{min, Option, Some, None, option_map, codes, decimal, bytes_eq, All}
 use Rattle.std.specs.Fmt.{signed_decimal}
 use Rattle.std.specs.Str.{all_ascii_digits}
 use Rattle.std.proofs.lemmas.Str.Parse.{IsNumeralModel, numerals_by_fold, tells_all_ascii_digits}
@@ -87,7 +87,7 @@ other-first : (ds : List ℕ) (c : ℕ) (cs : List ℕ) → get_or ds 0 0 < c �
 other-first [] c cs less = refl
 other-first (d ∷ ds) c cs less = let no : (d == c) ≡ false = grind (arith, nat_tests) in rw no refl
 
-no-name : (ds : List ℕ) → get_or ds 0 0 < 97 → word_of ds ≡ numeral_word (signed_of ds) (closing_of ds)
+pub no-name : (ds : List ℕ) → get_or ds 0 0 < 75 → word_of ds ≡ numeral_word (signed_of ds) (closing_of ds)
 no-name ds less =
     let figure : bytes_eq ds (codes "figure") ≡ false = other-first ds 102 (codes "igure") (omega arith) in
     let shift : bytes_eq ds (codes "shift") ≡ false = other-first ds 115 (codes "hift") (omega arith) in
@@ -97,9 +97,14 @@ no-name ds less =
     let y : bytes_eq ds (codes "y") ≡ false = other-first ds 121 [] (omega arith) in
     let x : bytes_eq ds (codes "x") ≡ false = other-first ds 120 [] (omega arith) in
     let columns : bytes_eq ds (codes "columns") ≡ false = other-first ds 99 (codes "olumns") (omega arith) in
-    rw figure (rw shift (rw schnyder (rw bars (rw at (rw y (rw x (rw columns refl)))))))
+    let witness : bytes_eq ds (codes "witness") ≡ false = other-first ds 119 (codes "itness") (omega arith) in
+    let five : bytes_eq ds (codes "K5") ≡ false = other-first ds 75 (codes "5") (omega arith) in
+    let three : bytes_eq ds (codes "K33") ≡ false = other-first ds 75 (codes "33") (omega arith) in
+    let branch : bytes_eq ds (codes "branch") ≡ false = other-first ds 98 (codes "ranch") (omega arith) in
+    let path : bytes_eq ds (codes "path") ≡ false = other-first ds 112 (codes "ath") (omega arith) in
+    rw figure (rw shift (rw schnyder (rw bars (rw at (rw y (rw x (rw columns (rw witness (rw five (rw three (rw branch (rw path refl))))))))))))
 
-signed-first : (z : ℤ) → (sign_of z).size < far → get_or (signed_decimal z) 0 0 < 97
+signed-first : (z : ℤ) → (sign_of z).size < far → get_or (signed_decimal z) 0 0 < 75
 signed-first (pos n) small = let first = decimal-first n (omega arith) in omega (arith, first.1)
 signed-first (negsuc n) small = lit< tt
 
@@ -140,12 +145,12 @@ closing-of ds =
     let last : get_or (ds ++ 58 ∷ []) (length ds) 0 ≡ 58 = get_or-append_seam ds 58 [] 0 in
     rw len (rw last (ap signed_of (take_at ds (58 ∷ []) (length ds) refl)))
 
-signed-closing-first : (z : ℤ) → (sign_of z).size < far → get_or (signed_decimal z ++ 58 ∷ []) 0 0 < 97
+signed-closing-first : (z : ℤ) → (sign_of z).size < far → get_or (signed_decimal z ++ 58 ∷ []) 0 0 < 75
 signed-closing-first (pos n) small =
     let fits : n < 2 ^ 64 = omega arith in
     first-append (decimal n) (decimal_nonempty n fits) (signed-first (pos n) small)
   where
-    first-append : (ds : List ℕ) → 0 < length ds → get_or ds 0 0 < 97 → get_or (ds ++ 58 ∷ []) 0 0 < 97
+    first-append : (ds : List ℕ) → 0 < length ds → get_or ds 0 0 < 75 → get_or (ds ++ 58 ∷ []) 0 0 < 75
     first-append [] some less = absurd (omega arith)
     first-append (b ∷ ds) some less = less
 signed-closing-first (negsuc n) small = lit< tt
@@ -162,3 +167,47 @@ signed-dark (negsuc n) small = All-cons (λ b. 33 ≤ b) 45 (decimal (suc n)) (l
 
 pub colon-dark : (z : ℤ) → (sign_of z).size < far → Dark (signed_decimal z ++ 58 ∷ [])
 colon-dark z small = All-append (λ b. 33 ≤ b) (signed_decimal z) (58 ∷ []) (signed-dark z small) (All-cons (λ b. 33 ≤ b) 58 [] (lit≤ tt) (All-nil (λ b. 33 ≤ b)))
+
+-- digits are a number
+first-of-digits : (ds : List ℕ) (v : ℕ) → 0 < length ds → option_map (min far) (decimal_from 0 ds) ≡ Some v → is_digit (get_or ds 0 0) ≡ true
+first-of-digits [] v some is = absurd (omega arith)
+first-of-digits (b ∷ ds) v some is = by_digit (is_digit b) refl
+  where
+    by_digit : (digit : Bool) → is_digit b ≡ digit → is_digit b ≡ true
+    by_digit true e = e
+    by_digit false e = let none : None ≡ Some v = rw e at is in cc
+
+canonical-some : (ds : List ℕ) → canonical ds ≡ true → 0 < length ds
+canonical-some [] is = absurd (cc)
+canonical-some (b ∷ ds) is = omega arith
+
+digit-range : (b : ℕ) → is_digit b ≡ true → (48 ≤ b) × (b ≤ 57)
+digit-range b is = (grind (arith, nat_tests), grind (arith, nat_tests))
+
+pub word_of-digits : (ds : List ℕ) (v : ℕ) → canonical ds ≡ true → option_map (min far) (decimal_from 0 ds) ≡ Some v → word_of ds ≡ Number (record { negative = false; size = v })
+word_of-digits ds v good is =
+    let some = canonical-some ds good in
+    let first = digit-range (get_or ds 0 0) (first-of-digits ds v some is) in
+    let number : number_of ds ≡ Some v = rw good is in
+    no-name ds (omega (arith, first.1))
+    ∙ ap (λ (s : Option Signed). numeral_word s (closing_of ds)) (plain-signed ds some (omega (arith, first.0)) ∙ ap plus number)
+
+digits-signed : (ds : List ℕ) (v : ℕ) → canonical ds ≡ true → option_map (min far) (decimal_from 0 ds) ≡ Some v → signed_of ds ≡ Some (record { negative = false; size = v })
+digits-signed ds v good is =
+    let some = canonical-some ds good in
+    let first = digit-range (get_or ds 0 0) (first-of-digits ds v some is) in
+    let number : number_of ds ≡ Some v = rw good is in
+    plain-signed ds some (omega (arith, first.0)) ∙ ap plus number
+
+low-first : (ds : List ℕ) (b : ℕ) → 0 < length ds → get_or ds 0 0 < 75 → get_or (ds ++ b ∷ []) 0 0 < 75
+low-first [] b some less = absurd (omega arith)
+low-first (d ∷ ds) b some less = less
+
+-- digits before a colon
+pub word_of-digits_closing : (ds : List ℕ) (v : ℕ) → canonical ds ≡ true → option_map (min far) (decimal_from 0 ds) ≡ Some v → word_of (ds ++ 58 ∷ []) ≡ Closing (record { negative = false; size = v })
+word_of-digits_closing ds v good is =
+    let some = canonical-some ds good in
+    let first = digit-range (get_or ds 0 0) (first-of-digits ds v some is) in
+    no-name (ds ++ 58 ∷ []) (low-first ds 58 some (omega (arith, first.1)))
+    ∙ ap (λ (s : Option Signed). numeral_word s (closing_of (ds ++ 58 ∷ []))) (colon-signed ds)
+    ∙ ap (λ (s : Option Signed). numeral_word None s) (closing-of ds ∙ digits-signed ds v good is)

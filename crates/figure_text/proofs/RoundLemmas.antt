@@ -28,7 +28,7 @@ neighbour_words us = map (λ u. word_of (decimal (u + 1))) us
 pub neighbour-dark : (u : ℕ) → u < 65535 → Dark (decimal (u + 1))
 neighbour-dark u small = decimal-dark (u + 1) (omega arith)
 
-neighbour-word : (u : ℕ) → u < 65535 → word_of (decimal (u + 1)) ≡ Number (sign_of (pos (u + 1)))
+pub neighbour-word : (u : ℕ) → u < 65535 → word_of (decimal (u + 1)) ≡ Number (sign_of (pos (u + 1)))
 neighbour-word u small = word_of-decimal (u + 1) (omega arith)
 
 pub neighbours-natural : (us : List ℕ) → All (λ u. u < 65535) us → All (λ w. IsTrue (is_natural w)) (neighbour_words us)

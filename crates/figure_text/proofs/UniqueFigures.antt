@@ -4,17 +4,19 @@ use Rattle.std.proofs.lemmas.Bool.{cases_eq}
 use Rattle.std.proofs.lemmas.List.Elements.{All-nil, All-cons}
 use Rattle.std.specs.Prelude.{Result, Ok, Err, Some, IsTrue, IsFalse, ◌⊎◌}
 use Rattle.figure_text.specs.declared.figure.Figure.{Figure}
-use Rattle.figure_text.specs.declared.figure.Figure.TheVariants.{Grid as GridFigure, Bars as BarsFigure}
+use Rattle.figure_text.specs.declared.figure.Figure.TheVariants.{Grid as GridFigure, Bars as BarsFigure, Witness as WitnessFigure}
 use Rattle.figure_text.specs.declared.judge.Kind.{Kind}
-use Rattle.figure_text.specs.declared.judge.Kind.TheVariants.{Grid, Bars}
+use Rattle.figure_text.specs.declared.judge.Kind.TheVariants.{Grid, Bars, Witness}
 use Rattle.figure_text.specs.declared.fault.TextFault.{TextFault}
 use Rattle.figure_text.specs.declared.fault.TextFault.TheVariants.{BadLine, EndInFigure, Limit, NoMemory}
 use Rattle.figure_text.specs.declared.read.Item.{Item}
 use Rattle.figure_text.specs.declared.read.Item.TheVariants.{Drawn, Note, End}
-use Rattle.figure_text.specs.Words.{words_of}
-use Rattle.figure_text.specs.Lines.{IsFirstLine, FirstInRange, IsColumnsLine, ColumnsInRange}
+use Rattle.figure_text.specs.Words.{words_of, part_at}
+use Rattle.graph6_text.specs.Graphs.{EdgeGraph}
+use Rattle.graph6_text.proofs.LineLemmas.{one_graph}
+use Rattle.figure_text.specs.Lines.{rows_due, IsFirstLine, FirstInRange, IsColumnsLine, ColumnsInRange}
 use Rattle.figure_text.specs.Reading.{IsPlain, IsLine, Rows, RowsFail, is_note, of_lines, point_of, vertices_from}
-use Rattle.figure_text.specs.Figures.{IsHead, IsBody, ColumnsFail, BodyFails, IsDrawn, Begins, bars_of, lines_due}
+use Rattle.figure_text.specs.Figures.{IsHead, IsBody, ColumnsFail, BodyFails, IsDrawn, Begins, bars_of, witness_of, lines_due}
 use Rattle.figure_text.specs.Laws.{IsAnswer, OneAnswer}
 use Rattle.figure_text.proofs.UniqueRows.{IsLine-unique, IsPlain-no_line, Rows-unique, Why, Why-unique, Why-not_good, Stops-from_fail, Stops-longest, Stops-unique}
 
@@ -24,9 +26,9 @@ offset-unique bytes a b in_a in_b same =
     let left : length bytes - a ≡ length bytes - b = sym (length-drop a bytes) ∙ ap length same ∙ length-drop b bytes in omega arith
 
 -- what an answer says of the lines behind a first line
-abbrev Behind : Kind → ℕ → List ℕ → List ℕ → ℕ → Result Item TextFault → Type 0
-Behind kind n bytes text first (Ok item) = IsDrawn kind n bytes text first item
-Behind kind n bytes text first (Err fault) = BodyFails kind n text first fault
+abbrev Behind : Kind → ℕ → List ℕ → List ℕ → List ℕ → ℕ → Result Item TextFault → Type 0
+Behind kind n head bytes text first (Ok item) = IsDrawn kind n head bytes text first item
+Behind kind n head bytes text first (Err fault) = BodyFails kind n text first fault
 
 -- figures that are the same, with the same left behind them
 drawn-unique : (bytes : List ℕ) (fig fig' : Figure) (next next' after after' count : ℕ) → next ≤ length bytes → next' ≤ length bytes → fig ≡ fig' → drop next bytes ≡ drop next' bytes → after ≡ count → after' ≡ count → Drawn fig next after ≡ Drawn fig' next' after'
@@ -74,23 +76,24 @@ NoColumns-unique n text first fault fault' none none' =
     Why-unique (λ line. IsColumnsLine (words_of line)) (λ line. ColumnsInRange (words_of line)) (first + 1 + n) first none.rest fault fault' none.why
     (subst (λ (x : List ℕ). Why (λ line. IsColumnsLine (words_of line)) (λ line. ColumnsInRange (words_of line)) (first + 1 + n) first x fault') (sym same.1) none'.why)
 
-columns-there : (n : ℕ) (text rest : List ℕ) (first : ℕ) (fig : Figure) (fault : TextFault) → IsBody Bars n text rest fig → NoColumns n text first fault → ⊥
-columns-there n text rest first fig fault (lines, columns, rows, full, plain, shaped, within, is) none =
+columns-there : (n : ℕ) (head text rest : List ℕ) (first : ℕ) (fig : Figure) (fault : TextFault) → IsBody Bars n head text rest fig → NoColumns n text first fault → ⊥
+columns-there n head text rest first fig fault (lines, columns, rows, full, plain, shaped, within, is) none =
     let same = Rows-unique Bars text none.lines lines none.rest (columns ++ 10 ∷ rest) none.rows rows (none.full ∙ sym full) in
     Why-not_good (λ line. IsColumnsLine (words_of line)) (λ line. ColumnsInRange (words_of line)) (first + 1 + n) first none.rest fault none.why columns rest
     (record { parts = same.1; plain = plain }) shaped within
 
-bars-fail : (n : ℕ) (text rest : List ℕ) (first : ℕ) (fig : Figure) (fault : TextFault) → fault ≢ NoMemory → IsBody Bars n text rest fig → BodyFails Bars n text first fault → ⊥
-bars-fail n text rest first fig fault memory (lines, columns, rows, full, plain, shaped, within, is) (inl fails) =
+bars-fail : (n : ℕ) (head text rest : List ℕ) (first : ℕ) (fig : Figure) (fault : TextFault) → fault ≢ NoMemory → IsBody Bars n head text rest fig → BodyFails Bars n text first fault → ⊥
+bars-fail n head text rest first fig fault memory (lines, columns, rows, full, plain, shaped, within, is) (inl fails) =
     full-stops Bars n text first fault lines (columns ++ 10 ∷ rest) rows full memory fails
-bars-fail n text rest first fig fault memory body (inr fails) = columns-there n text rest first fig fault body (NoColumns-from_fail n text first fault memory fails)
+bars-fail n head text rest first fig fault memory body (inr fails) = columns-there n head text rest first fig fault body (NoColumns-from_fail n text first fault memory fails)
 
-grid-fail : (n : ℕ) (text rest : List ℕ) (first : ℕ) (job : _) (fig : Figure) (fault : TextFault) → fault ≢ NoMemory → IsBody (Grid job) n text rest fig → BodyFails (Grid job) n text first fault → ⊥
-grid-fail n text rest first job fig fault memory (lines, rows, full, is) fails = full-stops (Grid job) n text first fault lines rest rows full memory fails
+grid-fail : (n : ℕ) (head text rest : List ℕ) (first : ℕ) (job : _) (fig : Figure) (fault : TextFault) → fault ≢ NoMemory → IsBody (Grid job) n head text rest fig → BodyFails (Grid job) n text first fault → ⊥
+grid-fail n head text rest first job fig fault memory (lines, rows, full, is) fails = full-stops (Grid job) n text first fault lines rest rows full memory fails
 
-body-fail : (kind : Kind) (n : ℕ) (text rest : List ℕ) (first : ℕ) (fig : Figure) (fault : TextFault) → fault ≢ NoMemory → IsBody kind n text rest fig → BodyFails kind n text first fault → ⊥
-body-fail (Grid job) n text rest first fig fault memory body fails = grid-fail n text rest first job fig fault memory body fails
-body-fail Bars n text rest first fig fault memory body fails = bars-fail n text rest first fig fault memory body fails
+body-fail : (kind : Kind) (n : ℕ) (head text rest : List ℕ) (first : ℕ) (fig : Figure) (fault : TextFault) → fault ≢ NoMemory → IsBody kind n head text rest fig → BodyFails kind n text first fault → ⊥
+body-fail (Grid job) n head text rest first fig fault memory body fails = grid-fail n head text rest first job fig fault memory body fails
+body-fail Bars n head text rest first fig fault memory body fails = bars-fail n head text rest first fig fault memory body fails
+body-fail (Witness kind) n head text rest first fig fault memory (graph, lines, of, rows, full, is) fails = full-stops (Witness kind) n text first fault lines rest rows full memory fails
 
 bars-fails-unique : (n : ℕ) (text : List ℕ) (first : ℕ) (fault fault' : TextFault) → fault ≢ NoMemory → fault' ≢ NoMemory → BodyFails Bars n text first fault → BodyFails Bars n text first fault' → fault ≡ fault'
 bars-fails-unique n text first fault fault' memory memory' (inl fails) (inl fails') = rows-fail-unique Bars n text first fault fault' memory memory' fails fails'
@@ -104,40 +107,44 @@ bars-fails-unique n text first fault fault' memory memory' (inr fails) (inr fail
 body-fails-unique : (kind : Kind) (n : ℕ) (text : List ℕ) (first : ℕ) (fault fault' : TextFault) → fault ≢ NoMemory → fault' ≢ NoMemory → BodyFails kind n text first fault → BodyFails kind n text first fault' → fault ≡ fault'
 body-fails-unique (Grid job) n text first fault fault' memory memory' fails fails' = rows-fail-unique (Grid job) n text first fault fault' memory memory' fails fails'
 body-fails-unique Bars n text first fault fault' memory memory' fails fails' = bars-fails-unique n text first fault fault' memory memory' fails fails'
+body-fails-unique (Witness kind) n text first fault fault' memory memory' fails fails' = rows-fail-unique (Witness kind) n text first fault fault' memory memory' fails fails'
 
 -- a body gives one figure, and leaves one rest
-body-unique : (kind : Kind) (n : ℕ) (text rest rest' : List ℕ) (fig fig' : Figure) → IsBody kind n text rest fig → IsBody kind n text rest' fig' → (fig ≡ fig') × (rest ≡ rest')
-body-unique (Grid job) n text rest rest' fig fig' (lines, rows, full, is) (lines', rows', full', is') =
+body-unique : (kind : Kind) (n : ℕ) (head text rest rest' : List ℕ) (fig fig' : Figure) → IsBody kind n head text rest fig → IsBody kind n head text rest' fig' → (fig ≡ fig') × (rest ≡ rest')
+body-unique (Grid job) n head text rest rest' fig fig' (lines, rows, full, is) (lines', rows', full', is') =
     let same = Rows-unique (Grid job) text lines lines' rest rest' rows rows' (full ∙ sym full') in
     (is ∙ ap (λ (x : List (List ℕ)). GridFigure job (of_lines (vertices_from 4) x) (of_lines point_of x)) same.0 ∙ sym is', same.1)
-body-unique Bars n text rest rest' fig fig' (lines, columns, rows, full, plain, shaped, within, is) (lines', columns', rows', full', plain', shaped', within', is') =
+body-unique Bars n head text rest rest' fig fig' (lines, columns, rows, full, plain, shaped, within, is) (lines', columns', rows', full', plain', shaped', within', is') =
     let same = Rows-unique Bars text lines lines' (columns ++ 10 ∷ rest) (columns' ++ 10 ∷ rest') rows rows' (full ∙ sym full') in
     let line = IsLine-unique (columns ++ 10 ∷ rest) columns columns' rest rest' (record { parts = refl; plain = plain }) (record { parts = same.1; plain = plain' }) in
     (is ∙ ap₂ (λ (x : List (List ℕ)) (c : List ℕ). BarsFigure (of_lines (vertices_from 6) x) (bars_of x c)) same.0 line.0 ∙ sym is', line.1)
+body-unique (Witness kind) n head text rest rest' fig fig' (graph, lines, of, rows, full, is) (graph', lines', of', rows', full', is') =
+    let same = Rows-unique (Witness kind) text lines lines' rest rest' rows rows' (full ∙ sym full') in
+    (is ∙ ap₂ (λ (g : EdgeGraph) (x : List (List ℕ)). WitnessFigure g (witness_of kind (of_lines (vertices_from 1) x))) (one_graph (part_at head 4) graph graph' of of') same.0 ∙ sym is', same.1)
 
 -- behind a first line there is one answer
-behind-unique : (kind : Kind) (n : ℕ) (bytes text : List ℕ) (first : ℕ) (r s : Result Item TextFault) → r ≢ Err NoMemory → s ≢ Err NoMemory → Behind kind n bytes text first r → Behind kind n bytes text first s → r ≡ s
-behind-unique kind n bytes text first (Ok (Note next after)) s memory memory' none answer = absurd none
-behind-unique kind n bytes text first (Ok End) s memory memory' none answer = absurd none
-behind-unique kind n bytes text first (Ok (Drawn fig next after)) (Ok (Note next' after')) memory memory' answer none = absurd none
-behind-unique kind n bytes text first (Ok (Drawn fig next after)) (Ok End) memory memory' answer none = absurd none
-behind-unique kind n bytes text first (Ok (Drawn fig next after)) (Ok (Drawn fig' next' after')) memory memory' (body, within, counted) (body', within', counted') =
-    let same = body-unique kind n text (drop next bytes) (drop next' bytes) fig fig' body body' in
+behind-unique : (kind : Kind) (n : ℕ) (head bytes text : List ℕ) (first : ℕ) (r s : Result Item TextFault) → r ≢ Err NoMemory → s ≢ Err NoMemory → Behind kind n head bytes text first r → Behind kind n head bytes text first s → r ≡ s
+behind-unique kind n head bytes text first (Ok (Note next after)) s memory memory' none answer = absurd none
+behind-unique kind n head bytes text first (Ok End) s memory memory' none answer = absurd none
+behind-unique kind n head bytes text first (Ok (Drawn fig next after)) (Ok (Note next' after')) memory memory' answer none = absurd none
+behind-unique kind n head bytes text first (Ok (Drawn fig next after)) (Ok End) memory memory' answer none = absurd none
+behind-unique kind n head bytes text first (Ok (Drawn fig next after)) (Ok (Drawn fig' next' after')) memory memory' (body, within, counted) (body', within', counted') =
+    let same = body-unique kind n head text (drop next bytes) (drop next' bytes) fig fig' body body' in
     ap (λ (i : Item). Ok i) (drawn-unique bytes fig fig' next next' after after' (first + 1 + lines_due kind n) within within' same.0 same.1 counted counted')
-behind-unique kind n bytes text first (Ok (Drawn fig next after)) (Err fault) memory memory' (body, within, counted) fails =
-    absurd (body-fail kind n text (drop next bytes) first fig fault (no_memory memory') body fails)
-behind-unique kind n bytes text first (Err fault) (Ok (Note next after)) memory memory' fails none = absurd none
-behind-unique kind n bytes text first (Err fault) (Ok End) memory memory' fails none = absurd none
-behind-unique kind n bytes text first (Err fault) (Ok (Drawn fig next after)) memory memory' fails (body, within, counted) =
-    absurd (body-fail kind n text (drop next bytes) first fig fault (no_memory memory) body fails)
-behind-unique kind n bytes text first (Err fault) (Err fault') memory memory' fails fails' =
+behind-unique kind n head bytes text first (Ok (Drawn fig next after)) (Err fault) memory memory' (body, within, counted) fails =
+    absurd (body-fail kind n head text (drop next bytes) first fig fault (no_memory memory') body fails)
+behind-unique kind n head bytes text first (Err fault) (Ok (Note next after)) memory memory' fails none = absurd none
+behind-unique kind n head bytes text first (Err fault) (Ok End) memory memory' fails none = absurd none
+behind-unique kind n head bytes text first (Err fault) (Ok (Drawn fig next after)) memory memory' fails (body, within, counted) =
+    absurd (body-fail kind n head text (drop next bytes) first fig fault (no_memory memory) body fails)
+behind-unique kind n head bytes text first (Err fault) (Err fault') memory memory' fails fails' =
     ap (λ (f : TextFault). Err f) (body-fails-unique kind n text first fault fault' (no_memory memory) (no_memory memory') fails fails')
 
 -- what an answer says of a first line that begins no figure
 abbrev Unopened : List ℕ → ℕ → Result Item TextFault → Type 0
 Unopened line first (Ok item) = ⊥
-Unopened line first (Err (BadLine k)) = (¬ IsFirstLine (words_of line)) × (k ≡ first)
-Unopened line first (Err (Limit k)) = IsFirstLine (words_of line) × (¬ FirstInRange (words_of line)) × (k ≡ first)
+Unopened line first (Err (BadLine k)) = (¬ IsFirstLine line) × (k ≡ first)
+Unopened line first (Err (Limit k)) = IsFirstLine line × (¬ FirstInRange line) × (k ≡ first)
 Unopened line first (Err (EndInFigure k)) = ⊥
 Unopened line first (Err NoMemory) = ⊥
 
@@ -172,7 +179,7 @@ AtNote bytes line rest first (Ok End) = ⊥
 AtNote bytes line rest first (Err fault) = ⊥
 
 abbrev Opened : List ℕ → List ℕ → List ℕ → ℕ → Result Item TextFault → Type 0
-Opened bytes line rest first r = (kind : Kind) × (n : ℕ) × IsHead kind n line × Behind kind n bytes rest first r
+Opened bytes line rest first r = (kind : Kind) × (n : ℕ) × IsHead kind n line × Behind kind n line bytes rest first r
 
 abbrev AtLine : List ℕ → List ℕ → List ℕ → ℕ → Result Item TextFault → Type 0
 AtLine bytes line rest first r = AtNote bytes line rest first r ⊎ (IsFalse (is_note line) × (Unopened line first r ⊎ Opened bytes line rest first r))
@@ -201,9 +208,9 @@ not_both b is not = cc
 opened-unique : (bytes line rest : List ℕ) (first : ℕ) (r s : Result Item TextFault) → IsTold r → IsTold s → Opened bytes line rest first r → Opened bytes line rest first s → r ≡ s
 opened-unique bytes line rest first r s told told' (kind, n, head, behind) (kind', n', head', behind') =
     let kinds : kind' ≡ kind = same-kind (sym head'.job ∙ head.job) in
-    let counts : n' ≡ n = sym head'.vertices ∙ head.vertices in
-    behind-unique kind n bytes rest first r s told told' behind
-    (subst (λ (x : ℕ). Behind kind x bytes rest first s) counts (subst (λ (x : Kind). Behind x n' bytes rest first s) kinds behind'))
+    let counts : n' ≡ n = sym head'.rows ∙ subst (λ (k : Kind). rows_due k (words_of line) ≡ n) (sym kinds) head.rows in
+    behind-unique kind n line bytes rest first r s told told' behind
+    (subst (λ (x : ℕ). Behind kind x line bytes rest first s) counts (subst (λ (x : Kind). Behind x n' line bytes rest first s) kinds behind'))
   where
     same-kind : {a b : Kind} → Some a ≡ Some b → a ≡ b
     same-kind e = cc
@@ -218,12 +225,12 @@ line-unique bytes line rest first r s told told' (inr (other, inr (kind, n, head
 line-unique bytes line rest first r s told told' (inr (other, inr opened)) (inr (other', inr opened')) = opened-unique bytes line rest first r s told told' opened opened'
 
 -- each answer is one of these
-begins-at : (bytes text line rest left : List ℕ) (first : ℕ) (kind : Kind) (n : ℕ) (r : Result Item TextFault) → IsLine text line rest → Begins kind n text left → Behind kind n bytes left first r → AtLine bytes line rest first r
+begins-at : (bytes text line rest left : List ℕ) (first : ℕ) (kind : Kind) (n : ℕ) (r : Result Item TextFault) → IsLine text line rest → (begins : Begins kind n text left) → Behind kind n begins.line bytes left first r → AtLine bytes line rest first r
 begins-at bytes text line rest left first kind n r is begins behind =
     let same = IsLine-unique text begins.line line left rest begins.is is in
     inr (
       subst (λ (x : List ℕ). IsFalse (is_note x)) same.0 begins.other,
-      inr (kind, n, subst (λ (x : List ℕ). IsHead kind n x) same.0 begins.head, subst (λ (x : List ℕ). Behind kind n bytes x first r) same.1 behind),
+      inr (kind, n, subst (λ (x : List ℕ). IsHead kind n x) same.0 begins.head, subst (λ (x : List ℕ). Behind kind n line bytes x first r) same.1 (subst (λ (x : List ℕ). Behind kind n x bytes left first r) same.0 behind)),
     )
 
 end-no_line : (bytes line rest : List ℕ) (at : ℕ) → at ≡ length bytes → IsLine (drop at bytes) line rest → ⊥
@@ -243,12 +250,12 @@ at-line bytes line rest at first (Err fault) told is (inr (kind, n, text, begins
 at-line bytes line rest at first (Err (BadLine k)) told is (inl (same, inl (plain, some))) = absurd (IsPlain-no_line (drop at bytes) line rest plain is)
 at-line bytes line rest at first (Err (BadLine k)) told is (inl (same, inr (line', left, is', other, not))) =
     let one = IsLine-unique (drop at bytes) line' line left rest is' is in
-    inr (subst (λ (x : List ℕ). IsFalse (is_note x)) one.0 other, inl (subst (λ (x : List ℕ). ¬ IsFirstLine (words_of x)) one.0 not, same))
+    inr (subst (λ (x : List ℕ). IsFalse (is_note x)) one.0 other, inl (subst (λ (x : List ℕ). ¬ IsFirstLine x) one.0 not, same))
 at-line bytes line rest at first (Err (Limit k)) told is (inl (same, (line', left, is', other, shaped, not))) =
     let one = IsLine-unique (drop at bytes) line' line left rest is' is in
     inr (
       subst (λ (x : List ℕ). IsFalse (is_note x)) one.0 other,
-      inl (subst (λ (x : List ℕ). IsFirstLine (words_of x)) one.0 shaped, subst (λ (x : List ℕ). ¬ FirstInRange (words_of x)) one.0 not, same),
+      inl (subst (λ (x : List ℕ). IsFirstLine x) one.0 shaped, subst (λ (x : List ℕ). ¬ FirstInRange x) one.0 not, same),
     )
 at-line bytes line rest at first (Err (EndInFigure k)) told is (inl none) = absurd none
 at-line bytes line rest at first (Err NoMemory) told is (inl memory) = absurd (told refl)

@@ -1,7 +1,7 @@
 -- What lines have given while they are read one by one.
 use Rattle.std.specs.Prelude.{ℕ, ℤ, ◌≤◌, ◌≡◌, List, [], ◌∷◌, ◌++◌, length, drop}
 use Rattle.figure_text.specs.declared.judge.Kind.{Kind}
-use Rattle.figure_text.specs.declared.judge.Kind.TheVariants.{Grid, Bars}
+use Rattle.figure_text.specs.declared.judge.Kind.TheVariants.{Grid, Bars, Witness}
 use Rattle.figure_text.specs.declared.rows.Draft.{Draft}
 use Rattle.figure_text.specs.declared.rows.Taken.{Taken}
 use Rattle.figure_text.specs.declared.rows.Taken.TheVariants.{Next, Bad, Limit, NotClosed, NoMemory}
@@ -26,6 +26,7 @@ drafted Bars lines =
       x1 = of_lines (integer_in 4) lines;
       x2 = of_lines (integer_in 5) lines;
     }
+drafted (Witness kind) lines = record { lists = of_lines (vertices_from 1) lines; points = []; y = []; x1 = []; x2 = [] }
 
 -- one line more, by its words
 abbrev pub with_row : Kind → Draft → List Word → Draft
@@ -38,6 +39,7 @@ with_row Bars draft words =
       x1 = draft.x1 ++ integer_in 4 words ∷ [];
       x2 = draft.x2 ++ integer_in 5 words ∷ [];
     }
+with_row (Witness kind) draft words = record draft { lists = draft.lists ++ vertices_from 1 words ∷ [] }
 
 -- what became of the line that is due at the front of a text, which lies in some bytes
 abbrev pub TakesRow : Kind → ℕ → List ℕ → List ℕ → Draft → Draft → Taken → Type 0

@@ -1,13 +1,20 @@
 -- Which shape a line of a figure has, by its words, and the ranges of its numbers.
-use Rattle.std.specs.Prelude.{ℕ, ℤ, pos, neg_ℤ, ◌-◌, ◌≡◌, ◌≤◌, Bool, true, false, not, min, if◌then◌else◌, IsTrue, List, length, drop, All, Option, Some, None, is_some}
+use Rattle.std.specs.Prelude.{ℕ, ℤ, pos, neg_ℤ, ◌+◌, ◌-◌, ◌≡◌, ◌≤◌, ◌==◌, nat_lt, Bool, true, false, not, min, if◌then◌else◌, IsTrue, List, length, drop, All, Option, Some, None, option_map}
 use Rattle.figure_text.specs.declared.figure.GridJob.TheVariants.{Shift as ByShift, Schnyder as BySchnyder}
 use Rattle.figure_text.specs.declared.words.Signed.{Signed}
 use Rattle.figure_text.specs.declared.words.Word.{Word}
 use Rattle.figure_text.specs.declared.words.Word.TheVariants.{Number, Closing, Named, Other}
-use Rattle.figure_text.specs.declared.words.Name.TheVariants.{Figure, Shift, Schnyder, Bars, At, Y, X, Columns}
+use Rattle.figure_text.specs.declared.words.Name.{Name}
+use Rattle.figure_text.specs.declared.words.Name.TheVariants.{Figure, Shift, Schnyder, Bars, At, Y, X, Columns, Witness, K5, K33, Branch, Path}
 use Rattle.figure_text.specs.declared.judge.Kind.{Kind}
-use Rattle.figure_text.specs.declared.judge.Kind.TheVariants.{Grid, Bars as BarKind}
-use Rattle.figure_text.specs.Words.{word_at}
+use Rattle.figure_text.specs.declared.judge.Kind.TheVariants.{Grid, Bars as BarKind, Witness as WitnessKind}
+use Rattle.graph6_text.specs.Faults.{line_fault}
+use Rattle.graph6_text.specs.declared.line.G6Fault.{G6Fault}
+use Rattle.graph6_text.specs.declared.line.G6Fault.TheVariants.{TooMany}
+use Rattle.kuratowski.specs.declared.witness.Kind.{Kind as Subdivided}
+use Rattle.kuratowski.specs.declared.witness.Kind.TheVariants.{K5 as FiveJoined, K33 as ThreeByThree}
+use Rattle.kuratowski.specs.Witnesses.{branch_count, pairs_of}
+use Rattle.figure_text.specs.Words.{word_at, words_of, part_at}
 
 -- the size of the number that a word is, and 0 for any other word
 abbrev pub size : Word → ℕ
@@ -94,29 +101,79 @@ pub record IsColumnsLine (words : List Word) : Type 0 where
 abbrev pub ColumnsInRange : List Word → Type 0
 ColumnsInRange words = All (λ w. IsInside w) (drop 1 words)
 
--- the kind of a figure by the word of its job
-abbrev pub kind_of : Word → Option Kind
-kind_of (Number z) = None
-kind_of (Closing z) = None
-kind_of Other = None
-kind_of (Named Shift) = Some (Grid ByShift)
-kind_of (Named Schnyder) = Some (Grid BySchnyder)
-kind_of (Named Bars) = Some BarKind
-kind_of (Named name) = None
+-- the graph that a witness subdivides, by its word
+abbrev pub subdivided_of : Word → Option Subdivided
+subdivided_of (Number z) = None
+subdivided_of (Closing z) = None
+subdivided_of Other = None
+subdivided_of (Named K5) = Some FiveJoined
+subdivided_of (Named K33) = Some ThreeByThree
+subdivided_of (Named name) = None
 
--- `figure K JOB N`
-pub record IsFirstLine (words : List Word) : Type 0 where
-  pub four : length words ≡ 4
-  pub figure : word_at words 0 ≡ Named Figure
-  pub number : IsTrue (is_natural (word_at words 1))
-  pub job : IsTrue (is_some (kind_of (word_at words 2)))
-  pub vertices : IsTrue (is_natural (word_at words 3))
+-- the kind of a figure by the word of its job, and that of a witness by one word more
+abbrev pub kind_by : Word → Word → Option Kind
+kind_by (Number z) next = None
+kind_by (Closing z) next = None
+kind_by Other next = None
+kind_by (Named Shift) next = Some (Grid ByShift)
+kind_by (Named Schnyder) next = Some (Grid BySchnyder)
+kind_by (Named Bars) next = Some BarKind
+kind_by (Named Witness) next = option_map (λ k. WitnessKind k) (subdivided_of next)
+kind_by (Named name) next = None
 
-pub record FirstInRange (words : List Word) : Type 0 where
-  pub number_least : 1 ≤ size (word_at words 1)
-  pub number_most : size (word_at words 1) ≤ 16777216
-  pub least : 1 ≤ size (word_at words 3)
-  pub most : size (word_at words 3) ≤ 4095
+abbrev pub kind_of : List Word → Option Kind
+kind_of words = kind_by (word_at words 2) (word_at words 3)
+
+-- `branch` and the number of each branch, and then `path` and some numbers
+abbrev pub row_name : ℕ → Name
+row_name place = if place == 1 then Branch else Path
+
+abbrev pub is_row_length : Subdivided → ℕ → ℕ → Bool
+is_row_length kind place len = if place == 1 then len == branch_count kind + 1 else nat_lt 1 len
+
+pub record IsWitnessRow (kind : Subdivided) (place : ℕ) (words : List Word) : Type 0 where
+  pub word : word_at words 0 ≡ Named (row_name place)
+  pub long : IsTrue (is_row_length kind place (length words))
+  pub numbers : All (λ w. IsTrue (is_natural w)) (drop 1 words)
+
+abbrev pub WitnessInRange : List Word → Type 0
+WitnessInRange words = All (λ w. IsVertex w) (drop 1 words)
+
+-- a word is the line of a graph, though perhaps of one with too many vertices
+abbrev pub is_graph_shaped : Option G6Fault → Bool
+is_graph_shaped None = true
+is_graph_shaped (Some (TooMany n)) = true
+is_graph_shaped (Some fault) = false
+
+-- what stands behind the word of the job in the first line of a figure: `N`, and for a witness `KIND GRAPH`
+abbrev pub IsTail : Option Kind → List ℕ → Type 0
+IsTail None line = ⊥
+IsTail (Some (Grid job)) line = (length (words_of line) ≡ 4) × IsTrue (is_natural (word_at (words_of line) 3))
+IsTail (Some BarKind) line = (length (words_of line) ≡ 4) × IsTrue (is_natural (word_at (words_of line) 3))
+IsTail (Some (WitnessKind kind)) line = (length (words_of line) ≡ 5) × IsTrue (is_graph_shaped (line_fault (part_at line 4)))
+
+abbrev pub TailInRange : Option Kind → List ℕ → Type 0
+TailInRange None line = Unit {0}
+TailInRange (Some (Grid job)) line = (1 ≤ size (word_at (words_of line) 3)) × (size (word_at (words_of line) 3) ≤ 4095)
+TailInRange (Some BarKind) line = (1 ≤ size (word_at (words_of line) 3)) × (size (word_at (words_of line) 3) ≤ 4095)
+TailInRange (Some (WitnessKind kind)) line = line_fault (part_at line 4) ≡ None
+
+-- `figure K JOB N`, or `figure K witness KIND GRAPH`
+pub record IsFirstLine (line : List ℕ) : Type 0 where
+  pub figure : word_at (words_of line) 0 ≡ Named Figure
+  pub number : IsTrue (is_natural (word_at (words_of line) 1))
+  pub tail : IsTail (kind_of (words_of line)) line
+
+pub record FirstInRange (line : List ℕ) : Type 0 where
+  pub number_least : 1 ≤ size (word_at (words_of line) 1)
+  pub number_most : size (word_at (words_of line) 1) ≤ 16777216
+  pub tail : TailInRange (kind_of (words_of line)) line
+
+-- how many lines of vertices, or of branches and paths, a first line announces
+abbrev pub rows_due : Kind → List Word → ℕ
+rows_due (Grid job) words = size (word_at words 3)
+rows_due BarKind words = size (word_at words 3)
+rows_due (WitnessKind kind) words = length (pairs_of kind) + 1
 
 -- the vertex that a number from 1 to 65535 names, from 0
 abbrev pub vertex_of : Word → ℕ

@@ -1,13 +1,19 @@
 -- The text of figures: lines of words and numbers, each closed by byte 10.
-use Rattle.std.specs.Prelude.{ℕ, zero, suc, ℤ, pos, ◌+◌, ◌≡◌, List, [], ◌∷◌, ◌++◌, length, flat_map, slice_index_or, codes, decimal}
+use Rattle.std.specs.Prelude.{ℕ, zero, suc, ℤ, pos, ◌+◌, ◌<◌, ◌≡◌, All, List, [], ◌∷◌, ◌++◌, length, flat_map, slice_index_or, codes, decimal}
 use Rattle.std.specs.Fmt.{signed_decimal}
 use Rattle.map_lists.specs.Lists.{Lists}
+use Rattle.map_lists.specs.declared.ids.VertexId.{VertexId}
+use Rattle.graph6_text.specs.Lines.{IsLine as IsGraphLine}
+use Rattle.kuratowski.specs.declared.witness.Kind.{Kind as Subdivided}
+use Rattle.kuratowski.specs.declared.witness.Kind.TheVariants.{K5, K33}
+use Rattle.kuratowski.specs.declared.witness.Witness.{Witness}
+use Rattle.kuratowski.specs.Witnesses.{branch_count, pairs_of}
 use Rattle.pg_plane.specs.declared.point.Point.{Point}
 use Rattle.pg_plane.specs.declared.figure.BarFigure.{BarFigure}
 use Rattle.figure_text.specs.declared.figure.GridJob.{GridJob}
 use Rattle.figure_text.specs.declared.figure.GridJob.TheVariants.{Shift, Schnyder}
 use Rattle.figure_text.specs.declared.figure.Figure.{Figure}
-use Rattle.figure_text.specs.declared.figure.Figure.TheVariants.{Grid, Bars}
+use Rattle.figure_text.specs.declared.figure.Figure.TheVariants.{Grid, Bars, Witness as WitnessFigure}
 
 -- signed numbers, each after a space
 abbrev pub spaced_signed : List ℤ → List ℕ
@@ -65,11 +71,49 @@ bar_lines bars lists n =
 abbrev pub grid_text : ℕ → GridJob → Lists → List Point → List ℕ
 grid_text k job lists points = first_line k (job_word job) (length lists) ++ grid_lines points lists (length lists)
 
--- the text of a figure with the number k
-abbrev pub figure_text : ℕ → Figure → List ℕ
-figure_text k (Grid job lists points) = grid_text k job lists points
-figure_text k (Bars lists bars) =
+-- the text of a visibility drawing with the number k
+abbrev pub bars_text : ℕ → Lists → BarFigure → List ℕ
+bars_text k lists bars =
     first_line k (codes "bars") (length lists) ++ (bar_lines bars lists (length lists) ++ columns_line bars.column)
+
+-- the word of the graph that a witness subdivides
+abbrev pub kind_word : Subdivided → List ℕ
+kind_word K5 = codes "K5"
+kind_word K33 = codes "K33"
+
+-- the first line of the witness with the number k, by the line of its graph
+unfoldable pub witness_first_line : ℕ → Subdivided → List ℕ → List ℕ
+witness_first_line k kind line = codes "figure" ++ 32 ∷ decimal k ++ codes " witness" ++ 32 ∷ kind_word kind ++ 32 ∷ line ++ 10 ∷ []
+
+-- number k of a list of vertices
+abbrev pub id_at : List VertexId → ℕ → VertexId
+id_at us k = slice_index_or us k (record { 0 = 0 })
+
+-- vertices, each after a space and numbered from 1
+abbrev pub spaced_ids : List VertexId → List ℕ
+spaced_ids us = flat_map (λ (u : VertexId). 32 ∷ decimal (u.0 + 1)) us
+
+-- the lines of the branches and of a path
+unfoldable pub branch_line : List VertexId → List ℕ
+branch_line branch = codes "branch" ++ spaced_ids branch ++ 10 ∷ []
+
+unfoldable pub path_line : List VertexId → List ℕ
+path_line path = codes "path" ++ spaced_ids path ++ 10 ∷ []
+
+-- the lines of n paths
+unfoldable pub path_lines : List (List VertexId) → ℕ → List ℕ
+path_lines paths n = texts (λ p. path_line (slice_index_or paths p [])) n
+
+-- the text of a witness with the number k, by the line of its graph
+abbrev pub witness_text : ℕ → List ℕ → Witness → List ℕ
+witness_text k line witness =
+    witness_first_line k witness.kind line ++ (branch_line witness.branch ++ path_lines witness.paths (length witness.paths))
+
+-- the text of a figure with the number k
+abbrev pub IsText : ℕ → Figure → List ℕ → Type 0
+IsText k (Grid job lists points) text = text ≡ grid_text k job lists points
+IsText k (Bars lists bars) text = text ≡ bars_text k lists bars
+IsText k (WitnessFigure graph witness) text = (line : List ℕ) × IsGraphLine line graph × (text ≡ witness_text k line witness)
 
 -- there is a bar for each vertex
 pub record HasBars (lists : Lists) (bars : BarFigure) : Type 0 where
@@ -77,7 +121,14 @@ pub record HasBars (lists : Lists) (bars : BarFigure) : Type 0 where
   pub x1 : length bars.x1 ≡ length lists
   pub x2 : length bars.x2 ≡ length lists
 
--- each list of the drawing but that of the columns has an entry for each vertex
+-- as many branches and paths as the kind has, and no path is empty
+pub record HasPaths (witness : Witness) : Type 0 where
+  pub branches : length witness.branch ≡ branch_count witness.kind
+  pub paths : length witness.paths ≡ length (pairs_of witness.kind)
+  pub some : All (λ path. 0 < length path) witness.paths
+
+-- each list of the drawing but that of the columns has an entry for each vertex, and a witness has all its paths
 abbrev pub IsWhole : Figure → Type 0
 IsWhole (Grid job lists points) = length points ≡ length lists
 IsWhole (Bars lists bars) = HasBars lists bars
+IsWhole (WitnessFigure graph witness) = HasPaths witness

@@ -4,7 +4,7 @@ use Rattle.std.specs.List.{slice_split}
 use Rattle.figure_text.specs.declared.words.Signed.{Signed}
 use Rattle.figure_text.specs.declared.words.Word.{Word}
 use Rattle.figure_text.specs.declared.words.Word.TheVariants.{Number, Closing, Named, Other}
-use Rattle.figure_text.specs.declared.words.Name.TheVariants.{Figure, Shift, Schnyder, Bars, At, Y, X, Columns}
+use Rattle.figure_text.specs.declared.words.Name.TheVariants.{Figure, Shift, Schnyder, Bars, At, Y, X, Columns, Witness, K5, K33, Branch, Path}
 
 -- what numbers beyond all ranges are taken for
 abbrev pub far : ℕ
@@ -69,11 +69,24 @@ word_of word =
     else if bytes_eq word (codes "y") then Named Y
     else if bytes_eq word (codes "x") then Named X
     else if bytes_eq word (codes "columns") then Named Columns
+    else if bytes_eq word (codes "witness") then Named Witness
+    else if bytes_eq word (codes "K5") then Named K5
+    else if bytes_eq word (codes "K33") then Named K33
+    else if bytes_eq word (codes "branch") then Named Branch
+    else if bytes_eq word (codes "path") then Named Path
     else numeral_word (signed_of word) (closing_of word)
 
--- the words of a line stand between its spaces
+-- what stands between the spaces of a line
+abbrev pub parts_of : List ℕ → List (List ℕ)
+parts_of line = slice_split (λ b. b == 32) line
+
+-- part number i of a line
+abbrev pub part_at : List ℕ → ℕ → List ℕ
+part_at line i = slice_index_or (parts_of line) i []
+
+-- the words of a line
 abbrev pub words_of : List ℕ → List Word
-words_of line = map word_of (slice_split (λ b. b == 32) line)
+words_of line = map word_of (parts_of line)
 
 -- word number i
 abbrev pub word_at : List Word → ℕ → Word

@@ -1,5 +1,7 @@
 //! What a figure is.
 
+use graph6_text::Graph;
+use kuratowski::Witness;
 use map_lists::Rotations;
 use pg_plane::{BarFigure, Points};
 
@@ -12,7 +14,8 @@ pub enum GridJob {
     Schnyder,
 }
 
-/// A drawing of a map, with the map's rotation lists, which are numbered from 0.
+/// A drawing of a map, with the map's rotation lists, which are numbered from 0; or a witness that a graph has no
+/// drawing in the plane.
 #[derive(Drop)]
 pub enum Figure {
     /// A straight-line drawing.
@@ -30,5 +33,12 @@ pub enum Figure {
         lists: Rotations,
         /// The bar of each vertex, and the column of each edge.
         bars: BarFigure,
+    },
+    /// A subdivision of K5 or K3,3 in a graph.
+    Witness {
+        /// The graph.
+        graph: Graph,
+        /// The branches and paths.
+        witness: Witness,
     },
 }

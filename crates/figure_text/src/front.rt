@@ -1,12 +1,19 @@
 //! A line outside a figure.
-ghost use Rattle.std.specs.Prelude.{◌≡◌, IsTrue, IsFalse, IfOk};
-ghost use Rattle.figure_text.specs.Words.{words_of};
-ghost use Rattle.figure_text.specs.Reading.{is_note as is_note_line};
-ghost use Rattle.figure_text.specs.Front.{IsFront, IsFrontBy};
+ghost use Rattle.std.specs.Prelude.{◌≡◌, ◌<◌, ◌≤◌, ℕ, List, length, [], None, Some, IsTrue, IsFalse, IfOk, MatchOption};
+ghost use Rattle.std.specs.List.{slice_split};
+ghost use Rattle.graph6_text.specs.Faults.{line_fault, NamesFault};
+ghost use Rattle.figure_text.specs.Words.{words_of, part_at};
+ghost use Rattle.figure_text.specs.Lines.{IsTail, TailInRange, IsFirstLine, FirstInRange, kind_of, is_graph_shaped};
+ghost use Rattle.figure_text.specs.Reading.{Judges, is_note as is_note_line};
+ghost use Rattle.figure_text.specs.Front.{IsFront, IsFrontBy, IsFirstOf, IsGraphOf};
 
-use crate::judge::{Judged, Kind, job_kind, judged_first, size_of, word};
+use crate::judge::{
+    Judged, Kind, is_count_in_range, is_counted, is_first_head, is_numbered, job_kind, row_count,
+    worth,
+};
 use crate::lines::is_note;
 use crate::words::{Word, words};
+use graph6_text::{G6Fault, Graph, lines_are_graphs, read_line};
 use std::alloc::{AllocError, Global};
 
 /// What a closed line is that stands outside a figure.
@@ -14,7 +21,7 @@ use std::alloc::{AllocError, Global};
 pub enum Front {
     /// A note: a line of what another job wrote.
     Note,
-    /// The first line of a figure of this kind with so many vertices.
+    /// The first line of a figure of this kind with so many lines of vertices, or of branches and paths.
     Begins(Kind, usize),
     /// It has the shape of the first line of a figure of this kind, and a number outside its range.
     Limit(Kind),
@@ -22,18 +29,85 @@ pub enum Front {
     Bad,
 }
 
-// What the words say of a line that is no note.
-fn front_by(words: &[Word]) -> Front
-    ensures { IsFrontBy words.now result }
+// Part number `i` of a line, between its spaces.
+fn part(line: &[u8], i: usize) -> &[u8]
+    ensures { result.now ≡ part_at line.now i }
 {
-    let judged = judged_first(words);
-    match job_kind(word(words, 2)) {
-        Some(kind) => match judged {
-            Judged::Good => Front::Begins(kind, size_of(word(words, 3)) as usize),
-            Judged::Limit => Front::Limit(kind),
-            Judged::Bad => Front::Bad,
+    match line.split(|byte| *byte == b' ').nth(i) {
+        Some(found) => found,
+        None => &[],
+    }
+}
+
+// What a fault of the line of a graph makes of the line that holds it. Without memory there is no answer.
+fn fault_worth(fault: G6Fault) -> Option<Judged>
+    ensures { (line : List ℕ) → NamesFault line fault → MatchOption result (line_fault line ≡ None)
+        (Judges (IsTrue (is_graph_shaped (line_fault line))) (line_fault line ≡ None)) }
+{
+    match fault {
+        G6Fault::TooMany(_) => Some(Judged::Limit),
+        G6Fault::NoMemory => None,
+        _ => Some(Judged::Bad),
+    }
+}
+
+// What the line of a graph is worth.
+fn graph_worth(alloc: Global, line: &[u8]) -> Result<Judged, AllocError>
+    ensures { IfOk result (Judges (IsTrue (is_graph_shaped (line_fault line.now))) (line_fault line.now ≡ None)) }
+{
+    lines_are_graphs();
+    match read_line(alloc, line) {
+        Ok(_) => Ok(Judged::Good),
+        Err(fault) => match fault_worth(fault) {
+            Some(judged) => Ok(judged),
+            None => Err(AllocError),
         },
-        None => Front::Bad,
+    }
+}
+
+// What stands behind the word of the job in the first line of a witness.
+fn witness_tail(alloc: Global, line: &[u8], words: &[Word]) -> Result<Judged, AllocError>
+    requires { words.now ≡ words_of line.now }
+    ensures { IfOk result (Judges ((length (words_of line.now) ≡ 5) × IsTrue (is_graph_shaped (line_fault (part_at line.now 4))))
+        (line_fault (part_at line.now 4) ≡ None)) }
+{
+    if words.len() == 5 {
+        graph_worth(alloc, part(line, 4))
+    } else {
+        Ok(Judged::Bad)
+    }
+}
+
+// What stands behind the word of the job in the first line of a figure.
+fn tail_worth(alloc: Global, kind: Kind, line: &[u8], words: &[Word]) -> Result<Judged, AllocError>
+    requires { words.now ≡ words_of line.now }
+    ensures { IfOk result (Judges (IsTail (Some kind) line.now) (TailInRange (Some kind) line.now)) }
+{
+    match kind {
+        Kind::Grid(_) => Ok(worth(is_counted(words), is_count_in_range(words))),
+        Kind::Bars => Ok(worth(is_counted(words), is_count_in_range(words))),
+        Kind::Witness(_) => witness_tail(alloc, line, words),
+    }
+}
+
+// What a first line is, by its head and its tail.
+fn front_of(kind: Kind, words: &[Word], tail: Judged) -> Front
+    ensures { (line : List ℕ) → words.now ≡ words_of line → kind_of words.now ≡ Some kind
+        → Judges (IsTail (Some kind) line) (TailInRange (Some kind) line) tail → IsFrontBy line result }
+{
+    if !is_first_head(words) {
+        return Front::Bad;
+    }
+    match tail {
+        Judged::Bad => Front::Bad,
+        Judged::Limit => Front::Limit(kind),
+        Judged::Good => {
+            if is_numbered(words) {
+                Front::Begins(kind, row_count(kind, words))
+            } else {
+                Front::Limit(kind)
+            }
+        }
     }
 }
 
@@ -45,5 +119,22 @@ pub fn front_line(alloc: Global, line: &[u8]) -> Result<Front, AllocError>
         return Ok(Front::Note);
     }
     let found = words(alloc, line)?;
-    Ok(front_by(&found))
+    match job_kind(&found) {
+        Some(kind) => {
+            let tail = tail_worth(alloc, kind, line, &found)?;
+            Ok(front_of(kind, &found, tail))
+        }
+        None => Ok(Front::Bad),
+    }
+}
+
+/// The graph of a witness, by its first line, which is given without the byte 10 that closes it.
+pub fn front_graph(alloc: Global, line: &[u8]) -> Result<Graph, AllocError>
+    requires { line_fault (part_at line.now 4) ≡ None }
+    ensures { IfOk result (IsGraphOf line.now) }
+{
+    match read_line(alloc, part(line, 4)) {
+        Ok(graph) => Ok(graph),
+        Err(_) => Err(AllocError),
+    }
 }

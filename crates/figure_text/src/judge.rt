@@ -1,13 +1,14 @@
 //! Which shape a line has, and whether its numbers are within their ranges.
-ghost use Rattle.std.specs.Prelude.{◌≡◌, ◌↔◌, ◌<◌, ◌≤◌, ◌-◌, length, drop, map, slice_index_or, IsTrue, IfOk, All};
+ghost use Rattle.std.specs.Prelude.{◌≡◌, ◌↔◌, ◌<◌, ◌≤◌, ◌-◌, length, drop, map, slice_index_or, IsTrue, IfOk, All, option_map};
 ghost use Rattle.std.specs.Prelude.{if◌then◌else◌};
 ghost use Rattle.figure_text.specs.Reading.{Judges, IsRow, RowInRange};
+ghost use Rattle.kuratowski.specs.Witnesses.{branch_count, pairs_of};
 ghost use Rattle.figure_text.specs.Words.{word_at};
-ghost use Rattle.figure_text.specs.Lines.{size, is_natural, is_number, is_closing, kind_of, vertex_of, integer_of, IsInside, IsVertex, IsPlaced, IsFirstLine, FirstInRange, IsGridHead, IsGridLine, GridInRange, IsBarHead, IsBarLine, BarsInRange, IsColumnsLine, ColumnsInRange};
+ghost use Rattle.figure_text.specs.Lines.{size, is_natural, is_number, is_closing, kind_of, subdivided_of, rows_due, row_name, is_row_length, IsInside, IsVertex, IsPlaced, IsWitnessRow, WitnessInRange, IsGridHead, IsGridLine, GridInRange, IsBarHead, IsBarLine, BarsInRange, IsColumnsLine, ColumnsInRange};
 
 use crate::GridJob;
 use crate::words::{Name, Word};
-use std::alloc::{AllocError, Global};
+use kuratowski::Kind as Subdivided;
 
 /// What a figure's first line says of the lines to come.
 #[derive(Clone, Copy, Debug, PartialEq, Eq)]
@@ -16,6 +17,8 @@ pub enum Kind {
     Grid(GridJob),
     /// Lines of bars, and one of columns.
     Bars,
+    /// A line of branches, and lines of paths.
+    Witness(Subdivided),
 }
 
 /// What a line is worth.
@@ -216,41 +219,128 @@ fn is_columns_line(words: &[Word]) -> bool
     is_name(word(words, 0), Name::Columns) && are_numbers(words, 1)
 }
 
-// The kind of a figure by the word of its job.
-pub fn job_kind(word: Word) -> Option<Kind>
-    ensures { result ≡ kind_of word }
+// The graph that a witness subdivides, by its word.
+fn subdivided(word: Word) -> Option<Subdivided>
+    ensures { result ≡ subdivided_of word }
 {
     match word {
-        Word::Named(Name::Shift) => Some(Kind::Grid(GridJob::Shift)),
-        Word::Named(Name::Schnyder) => Some(Kind::Grid(GridJob::Schnyder)),
-        Word::Named(Name::Bars) => Some(Kind::Bars),
+        Word::Named(Name::K5) => Some(Subdivided::K5),
+        Word::Named(Name::K33) => Some(Subdivided::K33),
         _ => None,
     }
 }
 
-// Whether a line has the shape of a figure's first, but for the word of the job.
-fn is_first_line(words: &[Word]) -> bool
-    ensures { IsTrue result ↔ IsFirstLine words.now }
+// The kind of a witness, by the word of the graph that it subdivides.
+fn witness_kind(word: Word) -> Option<Kind>
+    ensures { result ≡ option_map (λ k. Kind.Witness k) (subdivided_of word) }
 {
-    words.len() == 4
-        && is_name(word(words, 0), Name::Figure)
-        && is_natural_word(word(words, 1))
-        && job_kind(word(words, 2)).is_some()
-        && is_natural_word(word(words, 3))
+    match subdivided(word) {
+        Some(kind) => Some(Kind::Witness(kind)),
+        None => None,
+    }
 }
 
-// Whether the numbers of a first line are within their ranges.
-fn is_first_in_range(words: &[Word]) -> bool
-    ensures { IsTrue result ↔ FirstInRange words.now }
+// The kind of a figure by the word of its job, and that of a witness by one word more.
+pub fn job_kind(words: &[Word]) -> Option<Kind>
+    ensures { result ≡ kind_of words.now }
 {
-    1 <= size_of(word(words, 1))
-        && size_of(word(words, 1)) <= 16_777_216
-        && 1 <= size_of(word(words, 3))
-        && size_of(word(words, 3)) <= 4095
+    match word(words, 2) {
+        Word::Named(Name::Shift) => Some(Kind::Grid(GridJob::Shift)),
+        Word::Named(Name::Schnyder) => Some(Kind::Grid(GridJob::Schnyder)),
+        Word::Named(Name::Bars) => Some(Kind::Bars),
+        Word::Named(Name::Witness) => witness_kind(word(words, 3)),
+        _ => None,
+    }
+}
+
+// The number of branches.
+pub fn branches_of(kind: Subdivided) -> usize
+    ensures { result ≡ branch_count kind }
+{
+    match kind {
+        Subdivided::K5 => 5,
+        Subdivided::K33 => 6,
+    }
+}
+
+// The number of paths.
+pub fn paths_of(kind: Subdivided) -> usize
+    ensures { result ≡ length (pairs_of kind) }
+{
+    match kind {
+        Subdivided::K5 => 10,
+        Subdivided::K33 => 9,
+    }
+}
+
+// How many lines of vertices, or of branches and paths, a first line announces.
+pub fn row_count(kind: Kind, words: &[Word]) -> usize
+    ensures { result ≡ rows_due kind words.now }
+{
+    match kind {
+        Kind::Grid(_) => size_of(word(words, 3)) as usize,
+        Kind::Bars => size_of(word(words, 3)) as usize,
+        Kind::Witness(kind) => paths_of(kind) + 1,
+    }
+}
+
+// The word that the line at this place of a witness begins with.
+fn row_word(place: usize) -> Name
+    ensures { result ≡ row_name place }
+{
+    if place == 1 { Name::Branch } else { Name::Path }
+}
+
+// Whether the line at this place of a witness may have so many words.
+fn is_long_row(kind: Subdivided, place: usize, len: usize) -> bool
+    ensures { result ≡ is_row_length kind place len }
+{
+    if place == 1 {
+        len == branches_of(kind) + 1
+    } else {
+        1 < len
+    }
+}
+
+// Whether a line has the shape of the one at this place of a witness.
+fn is_witness_row(kind: Subdivided, words: &[Word], place: usize) -> bool
+    ensures { IsTrue result ↔ IsWitnessRow kind place words.now }
+{
+    is_name(word(words, 0), row_word(place))
+        && is_long_row(kind, place, words.len())
+        && are_naturals(words, 1)
+}
+
+// Whether a figure's first line begins as one.
+pub fn is_first_head(words: &[Word]) -> bool
+    ensures { IsTrue result ↔ ((word_at words.now 0 ≡ Word.Named Name.Figure) × IsTrue (is_natural (word_at words.now 1))) }
+{
+    is_name(word(words, 0), Name::Figure) && is_natural_word(word(words, 1))
+}
+
+// Whether the number of a figure is within its range.
+pub fn is_numbered(words: &[Word]) -> bool
+    ensures { IsTrue result ↔ ((1 ≤ size (word_at words.now 1)) × (size (word_at words.now 1) ≤ 16777216)) }
+{
+    1 <= size_of(word(words, 1)) && size_of(word(words, 1)) <= 16_777_216
+}
+
+// Whether a first line ends with a number, behind the word of its job.
+pub fn is_counted(words: &[Word]) -> bool
+    ensures { IsTrue result ↔ ((length words.now ≡ 4) × IsTrue (is_natural (word_at words.now 3))) }
+{
+    words.len() == 4 && is_natural_word(word(words, 3))
+}
+
+// Whether that number is within its range.
+pub fn is_count_in_range(words: &[Word]) -> bool
+    ensures { IsTrue result ↔ ((1 ≤ size (word_at words.now 3)) × (size (word_at words.now 3) ≤ 4095)) }
+{
+    1 <= size_of(word(words, 3)) && size_of(word(words, 3)) <= 4095
 }
 
 // What a line is worth, by its shape and its ranges.
-fn worth(shape: bool, range: bool) -> Judged
+pub fn worth(shape: bool, range: bool) -> Judged
     ensures { result ≡ (if shape then (if range then Judged.Good else Judged.Limit) else Judged.Bad) }
 {
     if shape {
@@ -267,6 +357,7 @@ pub fn judged_row(kind: Kind, place: usize, words: &[Word]) -> Judged
     match kind {
         Kind::Grid(_) => worth(is_grid_line(words, place), is_grid_in_range(words)),
         Kind::Bars => worth(is_bar_line(words, place), is_bar_in_range(words)),
+        Kind::Witness(kind) => worth(is_witness_row(kind, words, place), are_vertices(words, 1)),
     }
 }
 
@@ -275,11 +366,4 @@ pub fn judged_columns(words: &[Word]) -> Judged
     ensures { Judges (IsColumnsLine words.now) (ColumnsInRange words.now) result }
 {
     worth(is_columns_line(words), are_inside(words, 1))
-}
-
-/// What a figure's first line is worth.
-pub fn judged_first(words: &[Word]) -> Judged
-    ensures { Judges (IsFirstLine words.now) (FirstInRange words.now) result }
-{
-    worth(is_first_line(words), is_first_in_range(words))
 }

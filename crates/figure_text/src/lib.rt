@@ -1,7 +1,8 @@
 //! The text of figures, one line for each vertex, written and read.
 //!
 //! `print_figure` appends the text of a figure: a first line, and a line for each vertex with its place and its
-//! neighbours in clockwise order, all numbered from 1; for bars a line of the columns comes last. `read_figure`
+//! neighbours in clockwise order, all numbered from 1; for bars a line of the columns comes last. The first line of
+//! a witness holds its graph, and a line of the branches and one for each path follow. `read_figure`
 //! answers what stands at an offset of such a text: a figure, a note that another job wrote, the end, or the bad
 //! line. `laws` says that what is printed is read as the same figure, whatever follows, and that there is one
 //! answer at an offset.
@@ -16,12 +17,16 @@ mod lines;
 mod print;
 mod read;
 mod rows;
+mod witness_print;
 mod words;
 
 pub use fault::TextFault;
 pub use figure::{Figure, GridJob};
-pub use front::{Front, front_line};
+pub use front::{Front, front_graph, front_line};
 pub use judge::{Judged, Kind};
-pub use print::{print_figure, print_grid};
-pub use read::{Item, read_figure};
+pub use lines::line_length;
+pub use print::{print_bars, print_figure, print_grid};
+pub use read::{Columns, Item, columns_line, draft_witness, read_figure};
 pub use rows::{Draft, row_of};
+pub use witness_print::print_witness;
+pub use words::{Name, Signed, Word};

@@ -2,18 +2,18 @@
 ghost use Rattle.std.specs.Prelude.{◌≡◌, ◌≢◌, ◌<◌, ◌≤◌, ℕ, length, drop, slice_index, MatchOption};
 ghost use Rattle.figure_text.specs.Reading.{IsPlain, IsLine, begins, is_note as is_note_line};
 
-// How many bytes stand before the first byte 10, or before the end.
-fn line_length(bytes: &[u8]) -> usize
+use memchr::memchr;
+
+/// How many bytes stand before the first byte 10, or before the end.
+pub fn line_length(bytes: &[u8]) -> usize
     ensures within { result ≤ length bytes.now }
     ensures before { (k : ℕ) → k < result → slice_index bytes.now k ≢ 10 }
     ensures found { result < length bytes.now → slice_index bytes.now result ≡ 10 }
 {
-    for (i, byte) in bytes.iter().enumerate() {
-        if *byte == b'\n' {
-            return i;
-        }
+    match memchr(b'\n', bytes) {
+        Some(i) => i,
+        None => bytes.len(),
     }
-    bytes.len()
 }
 
 /// The line that is closed next, and the offset behind it.

@@ -1,8 +1,9 @@
 //! A figure as text.
-ghost use Rattle.std.specs.Prelude.{◌≡◌, ◌+◌, ◌++◌, ◌∷◌, [], ℕ, length, map, flat_map, decimal, ◌<◌, OnOk, OnErr, IfOk};
+ghost use Rattle.std.specs.Prelude.{◌≡◌, ◌+◌, ◌++◌, ◌∷◌, [], ℕ, List, length, map, flat_map, decimal, ◌<◌, OnOk, OnErr, IfOk};
 ghost use Rattle.std.specs.Fmt.{signed_decimal};
-ghost use Rattle.figure_text.specs.Text.{neighbours, spaced_signed, grid_line, grid_lines, bar_line, bar_lines, columns_line, first_line, job_word, grid_text, figure_text, IsWhole, HasBars, integer_at, point_at};
+ghost use Rattle.figure_text.specs.Text.{neighbours, spaced_signed, grid_line, grid_lines, bar_line, bar_lines, columns_line, first_line, job_word, grid_text, bars_text, IsText, IsWhole, HasBars, integer_at, point_at};
 
+use crate::witness_print::witness_text_of;
 use crate::{Figure, GridJob};
 use itoa::Buffer;
 use map_lists::Rotations;
@@ -10,7 +11,7 @@ use pg_plane::{BarFigure, Ints, Point, Points};
 use std::alloc::{AllocError, Global};
 
 // Appends a number.
-fn push_number(out: &mut Vec<u8>, number: u64) -> Result<(), AllocError>
+pub(crate) fn push_number(out: &mut Vec<u8>, number: u64) -> Result<(), AllocError>
     ensures { OnOk result (out.new.items ≡ out.old.items ++ decimal number) }
 {
     let mut buffer = Buffer::new();
@@ -18,7 +19,7 @@ fn push_number(out: &mut Vec<u8>, number: u64) -> Result<(), AllocError>
 }
 
 // Appends a space and a number.
-fn push_next(out: &mut Vec<u8>, number: u64) -> Result<(), AllocError>
+pub(crate) fn push_next(out: &mut Vec<u8>, number: u64) -> Result<(), AllocError>
     ensures { OnOk result (out.new.items ≡ out.old.items ++ 32 ∷ decimal number) }
 {
     out.push(b' ')?;
@@ -177,33 +178,38 @@ fn push_grid(
     push_grid_lines(out, lists, points)
 }
 
-// Appends the text of a figure, or a part of it.
-fn push_figure(out: &mut Vec<u8>, number: u32, fig: &Figure) -> Result<(), AllocError>
-    requires { IsWhole fig.now }
-    ensures { OnOk result (out.new.items ≡ out.old.items ++ figure_text number fig.now) }
+// The text of a visibility drawing.
+fn bars_of(
+    alloc: Global,
+    number: u32,
+    lists: &Rotations,
+    bars: &BarFigure,
+) -> Result<Vec<u8>, AllocError>
+    requires { HasBars lists.now bars.now }
+    ensures { IfOk result (λ text. text.items ≡ bars_text number lists.now bars.now) }
 {
-    match fig {
-        Figure::Grid { job, lists, points } => push_grid(out, number, *job, lists, points),
-        Figure::Bars { lists, bars } => {
-            push_first(out, number, b"bars", lists.len())?;
-            push_bar_lines(out, lists, bars)?;
-            push_columns(out, &bars.column)
-        }
-    }
+    let mut text = Vec::new(alloc);
+    push_first(&mut text, number, b"bars", lists.len())?;
+    push_bar_lines(&mut text, lists, bars)?;
+    push_columns(&mut text, &bars.column)?;
+    Ok(text)
 }
 
 // The text of a figure.
 fn text_of(alloc: Global, number: u32, fig: &Figure) -> Result<Vec<u8>, AllocError>
     requires { IsWhole fig.now }
-    ensures { IfOk result (λ text. text.items ≡ figure_text number fig.now) }
+    ensures { IfOk result (λ text. IsText number fig.now text.items) }
 {
-    let mut text = Vec::new(alloc);
-    push_figure(&mut text, number, fig)?;
-    Ok(text)
+    match fig {
+        Figure::Grid { job, lists, points } => grid_of(alloc, number, *job, lists, points),
+        Figure::Bars { lists, bars } => bars_of(alloc, number, lists, bars),
+        Figure::Witness { graph, witness } => witness_text_of(alloc, number, graph, witness),
+    }
 }
 
 /// Appends the text of a figure with this number. Each list of the drawing has an entry for each vertex, but
-/// for the columns of bars, of which there may be any number. After want of memory the bytes are as they were.
+/// for the columns of bars, of which there may be any number. A witness has as many branches and paths as its kind
+/// has, and no path is empty. After want of memory the bytes are as they were.
 pub fn print_figure(
     alloc: Global,
     number: u32,
@@ -211,7 +217,7 @@ pub fn print_figure(
     out: &mut Vec<u8>,
 ) -> Result<(), AllocError>
     requires { IsWhole fig.now }
-    ensures ok { OnOk result (out.new.items ≡ out.old.items ++ figure_text number fig.now) }
+    ensures ok { OnOk result ((text : List ℕ) × IsText number fig.now text × (out.new.items ≡ out.old.items ++ text)) }
     ensures err { OnErr result (out.new.items ≡ out.old.items) }
 {
     let text = text_of(alloc, number, fig)?;
@@ -249,5 +255,22 @@ pub fn print_grid(
     ensures err { OnErr result (out.new.items ≡ out.old.items) }
 {
     let text = grid_of(alloc, number, job, lists, points)?;
+    out.extend_from_slice(&text)
+}
+
+/// Appends the text of a visibility drawing with this number, of lists and a bar for each of them. After want of
+/// memory the bytes are as they were.
+pub fn print_bars(
+    alloc: Global,
+    number: u32,
+    lists: &Rotations,
+    bars: &BarFigure,
+    out: &mut Vec<u8>,
+) -> Result<(), AllocError>
+    requires { HasBars lists.now bars.now }
+    ensures ok { OnOk result (out.new.items ≡ out.old.items ++ bars_text number lists.now bars.now) }
+    ensures err { OnErr result (out.new.items ≡ out.old.items) }
+{
+    let text = bars_of(alloc, number, lists, bars)?;
     out.extend_from_slice(&text)
 }

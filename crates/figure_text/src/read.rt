@@ -1,18 +1,23 @@
 //! Figures of a text that is all there.
-ghost use Rattle.std.specs.Prelude.{◌≡◌, ◌+◌, ◌<◌, ◌≤◌, List, ℕ, [], length, drop, map, IsFalse, IfOk, MatchResult};
-ghost use Rattle.figure_text.specs.Words.{words_of};
-ghost use Rattle.figure_text.specs.Lines.{integer_of, IsFirstLine, FirstInRange, kind_of, size};
-ghost use Rattle.figure_text.specs.Reading.{IsPlain, IsLine, is_note as is_note_line};
+ghost use Rattle.std.specs.Prelude.{◌≡◌, ◌+◌, ◌++◌, ◌∷◌, ◌<◌, ◌≤◌, List, ℕ, [], None, length, drop, map, slice_index_or, IfOk, OnOk, MatchResult};
+ghost use Rattle.figure_text.specs.Words.{words_of, part_at};
+ghost use Rattle.graph6_text.specs.Graphs.{EdgeGraph};
+ghost use Rattle.graph6_text.specs.Faults.{line_fault};
+ghost use Rattle.figure_text.specs.Lines.{integer_of};
+ghost use Rattle.figure_text.specs.Reading.{IsPlain, IsLine};
 ghost use Rattle.figure_text.specs.Drafts.{drafted, RowsTo};
 ghost use Rattle.figure_text.specs.Laws.{IsAnswer};
-ghost use Rattle.figure_text.specs.Figures.{columns_of, IsDrawn, BodyFails, JudgesColumns, JudgesFirst, MatchFirst, ColumnsFail, StandsAt, FailsAt};
+ghost use Rattle.figure_text.specs.Front.{IsGraphOf};
+ghost use Rattle.figure_text.specs.Figures.{ids, witness_of, columns_of, IsHead, IsDrawn, BodyFails, JudgesColumns, ColumnsFail, StandsAt, FailsAt};
 
-use crate::judge::{Judged, Kind, behind, job_kind, judged_columns, judged_first, size_of, word};
-use crate::lines::{is_note, next_line};
+use crate::front::{Front, front_graph, front_line};
+use crate::judge::{Judged, Kind, behind, judged_columns};
+use crate::lines::next_line;
 use crate::rows::{Draft, integer, take_rows};
 use crate::words::{Word, words};
 use crate::{Figure, GridJob, TextFault};
-use map_lists::Rotations;
+use kuratowski::{Kind as Subdivided, Witness};
+use map_lists::{PathList, Rotations, VertexId, VertexList};
 use pg_plane::{BarFigure, Ints, Points};
 use std::alloc::{AllocError, Global};
 
@@ -40,19 +45,6 @@ pub enum Columns {
     NoMemory,
 }
 
-/// What the first line of a figure is.
-#[derive(Clone, Copy, Debug, PartialEq, Eq)]
-pub enum First {
-    /// That of a figure of this kind with so many vertices.
-    Good(Kind, usize),
-    /// Of another shape.
-    Bad,
-    /// With a number outside its range.
-    Limit,
-    /// Unknown for want of memory.
-    NoMemory,
-}
-
 // The numbers of the line of the columns.
 fn integers(alloc: Global, words: &[Word]) -> Result<Ints, AllocError>
     ensures { IfOk result (λ list. list ≡ map integer_of words.now) }
@@ -64,8 +56,8 @@ fn integers(alloc: Global, words: &[Word]) -> Result<Ints, AllocError>
     Ok(list)
 }
 
-// Reads the line of the columns.
-fn columns_line(alloc: Global, line: &[u8]) -> Columns
+/// What the line of the columns is, which is given without the byte 10 that closes it.
+pub fn columns_line(alloc: Global, line: &[u8]) -> Columns
     ensures { JudgesColumns (words_of line.now) result }
 {
     match words(alloc, line) {
@@ -81,35 +73,9 @@ fn columns_line(alloc: Global, line: &[u8]) -> Columns
     }
 }
 
-// What a good first line says.
-fn head_of(words: &[Word]) -> First
-    requires { IsFirstLine words.now }
-    ensures { MatchFirst words.now result }
-{
-    match job_kind(word(words, 2)) {
-        Some(kind) => First::Good(kind, size_of(word(words, 3)) as usize),
-        None => First::Bad,
-    }
-}
-
-// Reads the first line of a figure.
-fn first_line(alloc: Global, line: &[u8]) -> First
-    ensures { JudgesFirst line.now result }
-{
-    match words(alloc, line) {
-        Ok(found) => match judged_first(&found) {
-            Judged::Good => head_of(&found),
-            Judged::Bad => First::Bad,
-            Judged::Limit => First::Limit,
-        },
-        Err(_) => First::NoMemory,
-    }
-}
-
 // A draft with no lines.
 fn draft(alloc: Global) -> Draft
-    ensures grid { (job : GridJob) → result ≡ drafted (Kind.Grid job) [] }
-    ensures bars { result ≡ drafted Kind.Bars [] }
+    ensures { result ≡ record { lists = []; points = []; y = []; x1 = []; x2 = [] } }
 {
     Draft {
         lists: Rotations::new(alloc),
@@ -132,7 +98,7 @@ fn grid_figure(
     requires within { at ≤ length bytes.now }
     requires few { n ≤ 4095 }
     requires line { first ≤ 16777217 }
-    ensures { MatchResult result (IsDrawn (Kind.Grid job) n bytes.now (drop at bytes.now) first)
+    ensures { (head : List ℕ) → MatchResult result (IsDrawn (Kind.Grid job) n head bytes.now (drop at bytes.now) first)
         (BodyFails (Kind.Grid job) n (drop at bytes.now) first) }
 {
     let mut made = draft(alloc);
@@ -161,8 +127,8 @@ fn with_columns(
     requires within { at ≤ length bytes.now }
     requires few { n ≤ 4095 }
     requires line { first ≤ 16777217 }
-    ensures { (text : List ℕ) → RowsTo Kind.Bars bytes.now text at n made
-        → MatchResult result (IsDrawn Kind.Bars n bytes.now text first) (ColumnsFail n text first) }
+    ensures { (head text : List ℕ) → RowsTo Kind.Bars bytes.now text at n made
+        → MatchResult result (IsDrawn Kind.Bars n head bytes.now text first) (ColumnsFail n text first) }
 {
     match next_line(bytes, at) {
         Some((line, next)) => match columns_line(alloc, line) {
@@ -207,12 +173,111 @@ fn bars_behind(
     requires within { at ≤ length bytes.now }
     requires few { n ≤ 4095 }
     requires line { first ≤ 16777217 }
-    ensures { MatchResult result (IsDrawn Kind.Bars n bytes.now (drop at bytes.now) first)
+    ensures { (head : List ℕ) → MatchResult result (IsDrawn Kind.Bars n head bytes.now (drop at bytes.now) first)
         (BodyFails Kind.Bars n (drop at bytes.now) first) }
 {
     let mut made = draft(alloc);
     match take_rows(alloc, bytes, at, Kind::Bars, n, first, &mut made) {
         Ok(next) => with_columns(alloc, bytes, next, n, first, made),
+        Err(fault) => Err(fault),
+    }
+}
+
+// The vertices of a list.
+fn ids_of(alloc: Global, list: &[u16]) -> Result<Vec<VertexId>, AllocError>
+    ensures { IfOk result (λ v. v.items ≡ ids list.now) }
+{
+    list.iter().map(|u| VertexId(*u)).collect(alloc)
+}
+
+// The branches, which are the first list.
+fn branch_of(alloc: Global, lists: &Rotations) -> Result<VertexList, AllocError>
+    requires { 0 < length lists.now }
+    ensures { IfOk result (λ branch. branch ≡ ids (slice_index_or lists.now 0 [])) }
+{
+    let mut branch = VertexList::new(alloc);
+    let list = lists.list(0);
+    for k in 0..list.len() {
+        branch.push(VertexId(list[k]))?;
+    }
+    Ok(branch)
+}
+
+// Appends a path.
+fn push_path(alloc: Global, list: &[u16], paths: &mut PathList) -> Result<(), AllocError>
+    ensures { OnOk result (paths.new ≡ paths.old ++ ids list.now ∷ []) }
+{
+    let path = ids_of(alloc, list)?;
+    paths.push(&path)?;
+    Ok(())
+}
+
+// The paths, which are the other lists.
+fn paths_behind(alloc: Global, lists: &Rotations) -> Result<PathList, AllocError>
+    ensures { IfOk result (λ paths. paths ≡ map ids (drop 1 lists.now)) }
+{
+    let mut paths = PathList::new(alloc);
+    for p in 1..lists.len() {
+        push_path(alloc, lists.list(p), &mut paths)?;
+    }
+    Ok(paths)
+}
+
+/// The witness of a draft, whose lists are the branches and then the paths.
+pub fn draft_witness(alloc: Global, kind: Subdivided, draft: &Draft) -> Result<Witness, AllocError>
+    requires { 0 < length draft.now.lists }
+    ensures { IfOk result (λ witness. witness ≡ witness_of kind draft.now.lists) }
+{
+    let branch = branch_of(alloc, &draft.lists)?;
+    let paths = paths_behind(alloc, &draft.lists)?;
+    Ok(Witness {
+        kind,
+        branch,
+        paths,
+    })
+}
+
+// A witness in the graph of its first line.
+fn witness_figure(
+    alloc: Global,
+    kind: Subdivided,
+    head: &[u8],
+    draft: &Draft,
+) -> Result<Figure, AllocError>
+    requires some { 0 < length draft.now.lists }
+    requires graph { line_fault (part_at head.now 4) ≡ None }
+    ensures { IfOk result (λ fig. (graph : EdgeGraph) × IsGraphOf head.now graph
+        × (fig ≡ Figure.Witness graph (witness_of kind draft.now.lists))) }
+{
+    let graph = front_graph(alloc, head)?;
+    let witness = draft_witness(alloc, kind, draft)?;
+    Ok(Figure::Witness { graph, witness })
+}
+
+// Reads a witness behind its first line.
+fn witness_behind(
+    alloc: Global,
+    bytes: &[u8],
+    at: usize,
+    kind: Subdivided,
+    n: usize,
+    head: &[u8],
+    first: u32,
+) -> Result<Item, TextFault>
+    requires within { at ≤ length bytes.now }
+    requires few { n ≤ 4095 }
+    requires some { 0 < n }
+    requires line { first ≤ 16777217 }
+    requires graph { line_fault (part_at head.now 4) ≡ None }
+    ensures { MatchResult result (IsDrawn (Kind.Witness kind) n head.now bytes.now (drop at bytes.now) first)
+        (BodyFails (Kind.Witness kind) n (drop at bytes.now) first) }
+{
+    let mut made = draft(alloc);
+    match take_rows(alloc, bytes, at, Kind::Witness(kind), n, first, &mut made) {
+        Ok(next) => match witness_figure(alloc, kind, head, &made) {
+            Ok(figure) => Ok(Item::Drawn(figure, next, first + 1 + n as u32)),
+            Err(_) => Err(TextFault::NoMemory),
+        },
         Err(fault) => Err(fault),
     }
 }
@@ -224,22 +289,24 @@ fn figure_behind(
     at: usize,
     kind: Kind,
     n: usize,
+    head: &[u8],
     first: u32,
 ) -> Result<Item, TextFault>
     requires within { at ≤ length bytes.now }
-    requires few { n ≤ 4095 }
     requires line { first ≤ 16777217 }
-    ensures { MatchResult result (IsDrawn kind n bytes.now (drop at bytes.now) first)
+    requires head { IsHead kind n head.now }
+    ensures { MatchResult result (IsDrawn kind n head.now bytes.now (drop at bytes.now) first)
         (BodyFails kind n (drop at bytes.now) first) }
 {
     match kind {
         Kind::Grid(job) => grid_figure(alloc, bytes, at, job, n, first),
         Kind::Bars => bars_behind(alloc, bytes, at, n, first),
+        Kind::Witness(kind) => witness_behind(alloc, bytes, at, kind, n, head, first),
     }
 }
 
-// Reads the figure whose first line this is. The offset is the one behind that line.
-fn figure_of(
+// Reads the item whose first line this is. The offset is the one behind that line.
+fn item_of(
     alloc: Global,
     bytes: &[u8],
     line: &[u8],
@@ -248,15 +315,15 @@ fn figure_of(
 ) -> Result<Item, TextFault>
     requires within { next ≤ length bytes.now }
     requires few { first ≤ 16777217 }
-    requires other { IsFalse (is_note_line line.now) }
     ensures { (at : ℕ) → IsLine (drop at bytes.now) line.now (drop next bytes.now)
         → MatchResult result (StandsAt bytes.now at first) (FailsAt bytes.now at first) }
 {
-    match first_line(alloc, line) {
-        First::Good(kind, n) => figure_behind(alloc, bytes, next, kind, n, first),
-        First::Bad => Err(TextFault::BadLine(first)),
-        First::Limit => Err(TextFault::Limit(first)),
-        First::NoMemory => Err(TextFault::NoMemory),
+    match front_line(alloc, line) {
+        Ok(Front::Note) => Ok(Item::Note(next, first + 1)),
+        Ok(Front::Begins(kind, n)) => figure_behind(alloc, bytes, next, kind, n, line, first),
+        Ok(Front::Limit(_)) => Err(TextFault::Limit(first)),
+        Ok(Front::Bad) => Err(TextFault::BadLine(first)),
+        Err(_) => Err(TextFault::NoMemory),
     }
 }
 
@@ -275,13 +342,7 @@ pub fn read_figure(alloc: Global, bytes: &[u8], at: usize, line: u32) -> Result<
         return Ok(Item::End);
     }
     match next_line(bytes, at) {
-        Some((text, next)) => {
-            if is_note(text) {
-                Ok(Item::Note(next, line + 1))
-            } else {
-                figure_of(alloc, bytes, text, next, line)
-            }
-        }
+        Some((text, next)) => item_of(alloc, bytes, text, next, line),
         None => Err(TextFault::BadLine(line)),
     }
 }

@@ -1,19 +1,20 @@
 //! The lines of a figure's vertices, one by one.
-ghost use Rattle.std.specs.Prelude.{◌≡◌, ◌+◌, ◌++◌, ◌<◌, ◌≤◌, [], ◌∷◌, length, drop, map, OnOk, IfOk, IfSome, MatchResult};
+ghost use Rattle.std.specs.Prelude.{◌≡◌, ◌+◌, ◌++◌, ◌<◌, ◌≤◌, [], ◌∷◌, length, drop, map, All, OnOk, IfOk, IfSome, MatchResult};
 ghost use Rattle.figure_text.specs.Words.{words_of};
-ghost use Rattle.figure_text.specs.Lines.{vertex_of, signed_value, integer_of};
+ghost use Rattle.figure_text.specs.Lines.{vertex_of, signed_value, integer_of, IsVertex, GridInRange, BarsInRange, WitnessInRange};
 ghost use Rattle.figure_text.specs.Reading.{Judges, IsRow, RowInRange, RowsFail, point_of, vertices_from};
 ghost use Rattle.figure_text.specs.Drafts.{integer_in, with_row, drafted, TakesRow, RowsTo};
 
 use crate::TextFault;
 use crate::judge::{Judged, Kind, MOST, behind, judged_row, size_of, word};
 use crate::lines::next_line;
-use crate::words::{Signed, Word, words};
+use crate::words::{Signed, Word, fill_words};
 use map_lists::Rotations;
 use pg_plane::{Ints, Point, Points};
 use std::alloc::{AllocError, Global};
 
-/// What the lines of a figure's vertices have given.
+/// What the lines of a figure's vertices have given. Of a witness it holds a list of the branches, and then one for
+/// each path.
 #[derive(Drop)]
 pub struct Draft {
     pub lists: Rotations,
@@ -38,26 +39,24 @@ pub enum Taken {
     NoMemory,
 }
 
-// The vertex that a number names, from 0.
+// The vertex that a number from 1 to 65535 names, from 0.
 fn vertex(word: Word) -> u16
+    requires { IsVertex word }
     ensures { result ≡ vertex_of word }
 {
-    let from_zero = size_of(word).saturating_sub(1);
-    if from_zero < 65535 {
-        from_zero as u16
-    } else {
-        65535
-    }
+    (size_of(word) - 1) as u16
 }
 
-// The vertices that the words from number `from` on name.
-fn vertices(alloc: Global, words: &[Word], from: usize) -> Result<Vec<u16>, AllocError>
-    ensures { IfOk result (λ v. v.items ≡ vertices_from from words.now) }
+// Appends the list of the vertices that words name.
+fn push_vertices(words: &[Word], lists: &mut Rotations) -> Result<(), AllocError>
+    requires { All (λ w. IsVertex w) words.now }
+    ensures { OnOk result (lists.new ≡ lists.old ++ map vertex_of words.now ∷ []) }
 {
-    behind(words, from)
-        .iter()
-        .map(|word| vertex(*word))
-        .collect(alloc)
+    lists.open()?;
+    for k in 0..words.len() {
+        lists.append(vertex(words[k]))?;
+    }
+    Ok(())
 }
 
 // The number of this sign and size.
@@ -91,11 +90,11 @@ fn integer_at(words: &[Word], i: usize) -> i32
 }
 
 // Appends what the line of a vertex of a straight-line drawing gives.
-fn push_grid(alloc: Global, words: &[Word], draft: &mut Draft) -> Result<(), AllocError>
+fn push_grid(words: &[Word], draft: &mut Draft) -> Result<(), AllocError>
+    requires { GridInRange words.now }
     ensures { OnOk result (draft.new ≡ record draft.old { lists = draft.old.lists ++ vertices_from 4 words.now ∷ []; points = draft.old.points ++ point_of words.now ∷ [] }) }
 {
-    let list = vertices(alloc, words, 4)?;
-    draft.lists.push(&list)?;
+    push_vertices(behind(words, 4), &mut draft.lists)?;
     draft.points.push(Point {
         x: integer_at(words, 2),
         y: integer_at(words, 3),
@@ -104,31 +103,43 @@ fn push_grid(alloc: Global, words: &[Word], draft: &mut Draft) -> Result<(), All
 }
 
 // Appends what the line of a vertex of a visibility drawing gives.
-fn push_bars(alloc: Global, words: &[Word], draft: &mut Draft) -> Result<(), AllocError>
+fn push_bars(words: &[Word], draft: &mut Draft) -> Result<(), AllocError>
+    requires { BarsInRange words.now }
     ensures { OnOk result (draft.new ≡ record draft.old { lists = draft.old.lists ++ vertices_from 6 words.now ∷ []; y = draft.old.y ++ integer_in 2 words.now ∷ []; x1 = draft.old.x1 ++ integer_in 4 words.now ∷ []; x2 = draft.old.x2 ++ integer_in 5 words.now ∷ [] }) }
 {
-    let list = vertices(alloc, words, 6)?;
-    draft.lists.push(&list)?;
+    push_vertices(behind(words, 6), &mut draft.lists)?;
     draft.y.push(integer_at(words, 2))?;
     draft.x1.push(integer_at(words, 4))?;
     draft.x2.push(integer_at(words, 5))?;
     Ok(())
 }
 
+// Appends what a line of branches or of a path gives.
+fn push_list(words: &[Word], draft: &mut Draft) -> Result<(), AllocError>
+    requires { WitnessInRange words.now }
+    ensures { OnOk result (draft.new ≡ record draft.old { lists = draft.old.lists ++ vertices_from 1 words.now ∷ [] }) }
+{
+    push_vertices(behind(words, 1), &mut draft.lists)?;
+    Ok(())
+}
+
 // Appends what the line of a vertex gives.
-fn push_row(alloc: Global, kind: Kind, words: &[Word], draft: &mut Draft) -> Result<(), AllocError>
+fn push_row(kind: Kind, words: &[Word], draft: &mut Draft) -> Result<(), AllocError>
+    requires { RowInRange kind words.now }
     ensures { OnOk result (draft.new ≡ with_row kind draft.old words.now) }
 {
     match kind {
-        Kind::Grid(_) => push_grid(alloc, words, draft),
-        Kind::Bars => push_bars(alloc, words, draft),
+        Kind::Grid(_) => push_grid(words, draft),
+        Kind::Bars => push_bars(words, draft),
+        Kind::Witness(_) => push_list(words, draft),
     }
 }
 
 /// Judges the line of a vertex, which is given without the byte 10 that closes it, and appends what a good
-/// one gives. Without memory there is no answer.
+/// one gives. Without memory there is no answer. The vector is for the words of the line, and keeps its memory for
+/// those of the next.
 pub fn row_of(
-    alloc: Global,
+    found: &mut Vec<Word>,
     kind: Kind,
     place: usize,
     line: &[u8],
@@ -137,9 +148,9 @@ pub fn row_of(
     ensures { IfSome result (λ judged. Judges (IsRow kind place (words_of line.now)) (RowInRange kind (words_of line.now)) judged
         × (judged ≡ Judged.Good → draft.new ≡ with_row kind draft.old (words_of line.now))) }
 {
-    match words(alloc, line) {
-        Ok(found) => match judged_row(kind, place, &found) {
-            Judged::Good => match push_row(alloc, kind, &found, draft) {
+    match fill_words(line, found) {
+        Ok(()) => match judged_row(kind, place, found) {
+            Judged::Good => match push_row(kind, found, draft) {
                 Ok(()) => Some(Judged::Good),
                 Err(_) => None,
             },
@@ -152,7 +163,7 @@ pub fn row_of(
 
 // Takes the line of the next vertex.
 fn take_row(
-    alloc: Global,
+    found: &mut Vec<Word>,
     bytes: &[u8],
     at: usize,
     kind: Kind,
@@ -163,7 +174,7 @@ fn take_row(
     ensures { TakesRow kind place bytes.now (drop at bytes.now) draft.old draft.new result }
 {
     match next_line(bytes, at) {
-        Some((line, next)) => match row_of(alloc, kind, place, line, draft) {
+        Some((line, next)) => match row_of(found, kind, place, line, draft) {
             Some(Judged::Good) => Taken::Next(next),
             Some(Judged::Bad) => Taken::Bad,
             Some(Judged::Limit) => Taken::Limit,
@@ -191,9 +202,10 @@ pub fn take_rows(
     ensures { MatchResult result (λ next. RowsTo kind bytes.now (drop at bytes.now) next n draft.new)
         (RowsFail kind n (drop at bytes.now) first) }
 {
+    let mut found = Vec::new(alloc);
     let mut next = at;
     for i in 0..n {
-        match take_row(alloc, bytes, next, kind, i + 1, draft) {
+        match take_row(&mut found, bytes, next, kind, i + 1, draft) {
             Taken::Next(behind) => next = behind,
             Taken::Bad => return Err(TextFault::BadLine(first + 1 + i as u32)),
             Taken::Limit => return Err(TextFault::Limit(first + 1 + i as u32)),

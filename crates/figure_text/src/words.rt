@@ -1,5 +1,5 @@
 //! The words of a line.
-ghost use Rattle.std.specs.Prelude.{◌≡◌, ◌↔◌, ◌<◌, ◌≤◌, length, min, option_map, bytes_eq, map, ◌==◌, slice_index_or, IsTrue, IfOk, All};
+ghost use Rattle.std.specs.Prelude.{◌≡◌, ◌↔◌, ◌<◌, ◌≤◌, ◌-◌, ◌+◌, take, drop, Some, length, min, option_map, bytes_eq, map, ◌==◌, ◌&&◌, ◌≢◌, ℕ, nat_lt, slice_index, IsTrue, IfOk, OnOk, All};
 ghost use Rattle.std.specs.List.{slice_split};
 ghost use Rattle.figure_text.specs.Words.{far, is_digit, one_more, canonical, decimal_from, number_of, signed_of, plus, minus, word_of as word_meant, words_of, numeral_word, closing_of};
 
@@ -25,6 +25,11 @@ pub enum Name {
     Y,
     X,
     Columns,
+    Witness,
+    K5,
+    K33,
+    Branch,
+    Path,
 }
 
 /// A word of a line.
@@ -89,8 +94,8 @@ fn is_canonical(word: &[u8]) -> bool
 {
     match word {
         [] => false,
-        [_] => true,
-        [first, ..] => *first != b'0',
+        [b'0', rest @ ..] => rest.is_empty(),
+        _ => true,
     }
 }
 
@@ -177,8 +182,8 @@ fn is_text(word: &[u8], text: &[u8]) -> bool
     word == text
 }
 
-// What a word is.
-fn word_of(bytes: &[u8]) -> Word
+// What a word of letters is, or of other bytes.
+fn named(bytes: &[u8]) -> Word
     ensures { result ≡ word_meant bytes.now }
 {
     if is_text(bytes, b"figure") {
@@ -197,16 +202,169 @@ fn word_of(bytes: &[u8]) -> Word
         Word::Named(Name::X)
     } else if is_text(bytes, b"columns") {
         Word::Named(Name::Columns)
+    } else if is_text(bytes, b"witness") {
+        Word::Named(Name::Witness)
+    } else if is_text(bytes, b"K5") {
+        Word::Named(Name::K5)
+    } else if is_text(bytes, b"K33") {
+        Word::Named(Name::K33)
+    } else if is_text(bytes, b"branch") {
+        Word::Named(Name::Branch)
+    } else if is_text(bytes, b"path") {
+        Word::Named(Name::Path)
     } else {
         numeral(bytes)
     }
 }
 
-/// The words of a line, which stand between its spaces.
-pub fn words(alloc: Global, line: &[u8]) -> Result<Vec<Word>, AllocError>
-    ensures { IfOk result (λ v. v.items ≡ map word_meant (slice_split (λ b. b == 32) line.now)) }
+// Whether a word begins with a byte below all letters of names, as numbers do.
+fn is_low(word: &[u8]) -> bool
+    ensures { result ≡ (nat_lt 0 (length word.now) && nat_lt (slice_index word.now 0) 75) }
 {
-    line.split(|byte| *byte == b' ')
-        .map(|part| word_of(part))
-        .collect(alloc)
+    match word {
+        [first, ..] => *first < b'K',
+        [] => false,
+    }
+}
+
+// What a word is.
+fn word_of(word: &[u8]) -> Word
+    ensures { result ≡ word_meant word.now }
+{
+    if is_low(word) {
+        numeral(word)
+    } else {
+        named(word)
+    }
+}
+
+// The place of the first space from `at` on, or the end.
+fn word_end(line: &[u8], at: usize) -> usize
+    requires { at ≤ length line.now }
+    ensures order { at ≤ result }
+    ensures within { result ≤ length line.now }
+    ensures before { (k : ℕ) → at ≤ k → k < result → slice_index line.now k ≢ 32 }
+    ensures found { result < length line.now → slice_index line.now result ≡ 32 }
+{
+    for k in at..line.len() {
+        if line[k] == b' ' {
+            return k;
+        }
+    }
+    line.len()
+}
+
+// Digits of a line.
+#[derive(Clone, Copy, Debug, PartialEq, Eq)]
+struct Digits {
+    // the least of `FAR` and the number that they give
+    value: u32,
+    // the place behind them
+    end: usize,
+}
+
+// The digits that stand from `at` on.
+fn digits_from(line: &[u8], at: usize) -> Digits
+    requires { at ≤ length line.now }
+    ensures order { at ≤ result.end }
+    ensures within { result.end ≤ length line.now }
+    ensures before { (k : ℕ) → at ≤ k → k < result.end → slice_index line.now k ≢ 32 }
+    ensures value { option_map (min far) (decimal_from 0 (take (result.end - at) (drop at line.now))) ≡ Some result.value }
+{
+    let mut value = 0;
+    for k in at..line.len() {
+        match with_digit(value, line[k]) {
+            Some(more) => value = more,
+            None => return Digits { value, end: k },
+        }
+    }
+    Digits {
+        value,
+        end: line.len(),
+    }
+}
+
+// Whether a word may end here.
+fn ends_at(line: &[u8], end: usize) -> bool
+    ensures { IsTrue result → end < length line.now → slice_index line.now end ≡ 32 }
+{
+    line.len() <= end || line[end] == b' '
+}
+
+// Whether a word may end behind a colon that stands here.
+fn closes_at(line: &[u8], end: usize) -> bool
+    ensures { IsTrue result → (end < length line.now) × (slice_index line.now end ≡ 58)
+        × (end + 1 < length line.now → slice_index line.now (end + 1) ≡ 32) }
+{
+    end < line.len() && line[end] == b':' && ends_at(line, end + 1)
+}
+
+// A word of a line.
+#[derive(Clone, Copy, Debug, PartialEq, Eq)]
+struct Next {
+    // what it is
+    word: Word,
+    // the place behind it
+    end: usize,
+}
+
+// The word that begins at `at`.
+fn next_word(line: &[u8], at: usize) -> Next
+    requires { at ≤ length line.now }
+    ensures order { at ≤ result.end }
+    ensures within { result.end ≤ length line.now }
+    ensures before { (k : ℕ) → at ≤ k → k < result.end → slice_index line.now k ≢ 32 }
+    ensures found { result.end < length line.now → slice_index line.now result.end ≡ 32 }
+    ensures word { result.word ≡ word_meant (take (result.end - at) (drop at line.now)) }
+{
+    let digits = digits_from(line, at);
+    if is_canonical(&line[at..digits.end]) {
+        if ends_at(line, digits.end) {
+            return Next {
+                word: Word::Number(Signed {
+                    negative: false,
+                    size: digits.value,
+                }),
+                end: digits.end,
+            };
+        }
+        if closes_at(line, digits.end) {
+            return Next {
+                word: Word::Closing(Signed {
+                    negative: false,
+                    size: digits.value,
+                }),
+                end: digits.end + 1,
+            };
+        }
+    }
+    let end = word_end(line, at);
+    Next {
+        word: word_of(&line[at..end]),
+        end,
+    }
+}
+
+/// Fills a vector with the words of a line, which stand between its spaces. What it held before is gone, and its
+/// memory is kept.
+pub fn fill_words(line: &[u8], found: &mut Vec<Word>) -> Result<(), AllocError>
+    ensures { OnOk result (found.new.items ≡ words_of line.now) }
+{
+    found.clear();
+    let mut at = 0;
+    while at <= line.len() {
+        let next = next_word(line, at);
+        found.push(next.word)?;
+        at = next.end + 1;
+    }
+    Ok(())
+}
+
+/// The words of a line.
+pub fn words(alloc: Global, line: &[u8]) -> Result<Vec<Word>, AllocError>
+    ensures { IfOk result (λ v. v.items ≡ words_of line.now) }
+{
+    let mut found = Vec::new(alloc);
+    fill_words(line, &mut found)?;
+    Ok(found)
 }

@@ -6,9 +6,12 @@ use Rattle.map_lists.specs.Lists.{Lists}
 use Rattle.map_definitions.specs.Maps.{Dart, IsSimpleMap, vertex_count, edge_count}
 use Rattle.pg_plane.specs.declared.point.Point.{Point}
 use Rattle.pg_plane.specs.declared.figure.BarFigure.{BarFigure}
-use Rattle.figure_text.specs.Text.{point_at, integer_at, texts, HasBars}
+use Rattle.figure_text.specs.Text.{point_at, integer_at, texts, HasBars, HasPaths, witness_text}
+use Rattle.graph6_text.specs.Graphs.{EdgeGraph}
+use Rattle.graph6_text.specs.Lines.{IsLine as IsGraphLine}
+use Rattle.kuratowski.specs.declared.witness.Witness.{Witness as AWitness}
 use Rattle.figure_text.specs.declared.figure.Figure.{Figure}
-use Rattle.figure_text.specs.declared.figure.Figure.TheVariants.{Grid, Bars}
+use Rattle.figure_text.specs.declared.figure.Figure.TheVariants.{Grid, Bars, Witness}
 use Rattle.svg_out.specs.Edges.{edges}
 
 -- the greatest of 0 and some numbers
@@ -101,17 +104,32 @@ bars_svg lists bars =
     let height = greatest bars.y in
     opening (greatest (bars.x2 ++ bars.column)) height ++ bars_body lists bars height ++ closing
 
+-- what stands before and behind the text of a witness, which is a comment
+unfoldable pub comment_start : List ℕ
+comment_start = codes "<!--" ++ 10 ∷ []
+
+unfoldable pub comment_end : List ℕ
+comment_end = codes "-->" ++ 10 ∷ []
+
+-- a witness is written as its text with the number k, in a comment
+abbrev pub IsWitnessSvg : ℕ → EdgeGraph → AWitness → List ℕ → Type 0
+IsWitnessSvg k graph witness svg =
+    (line : List ℕ) × IsGraphLine line graph × (svg ≡ comment_start ++ witness_text k line witness ++ comment_end)
+
 -- figure k as SVG
-abbrev pub svg_text : ℕ → Figure → List ℕ
-svg_text k (Grid job lists points) = grid_svg lists points
-svg_text k (Bars lists bars) = bars_svg lists bars
+abbrev pub IsSvg : ℕ → Figure → List ℕ → Type 0
+IsSvg k (Grid job lists points) svg = svg ≡ grid_svg lists points
+IsSvg k (Bars lists bars) svg = svg ≡ bars_svg lists bars
+IsSvg k (Witness graph witness) svg = IsWitnessSvg k graph witness svg
 
 -- a bar for each vertex, and a column for each edge
 pub record HasColumns (lists : Lists) (bars : BarFigure) : Type 0 where
   pub has_bars : HasBars lists bars
   pub columns : length bars.column ≡ edge_count lists
 
--- the lists of a figure are a simple map, and its drawing has an entry for each vertex, and for bars one for each edge
+-- the lists of a figure are a simple map, and its drawing has an entry for each vertex, and for bars one for each edge; a
+-- witness has all its paths
 abbrev pub IsDrawn : Figure → Type 0
 IsDrawn (Grid job lists points) = IsSimpleMap lists × (length points ≡ length lists)
 IsDrawn (Bars lists bars) = IsSimpleMap lists × HasColumns lists bars
+IsDrawn (Witness graph witness) = HasPaths witness

@@ -1,0 +1,54 @@
+//! Witnesses as SVG.
+ghost use Rattle.std.specs.Prelude.{◌≡◌, ◌++◌, List, ℕ, OnOk, OnErr, IfOk};
+ghost use Rattle.svg_out.specs.Svg.{IsWitnessSvg, comment_start, comment_end};
+
+use figure_text::print_witness;
+use graph6_text::Graph;
+use kuratowski::Witness;
+use std::alloc::{AllocError, Global};
+
+// How a comment begins.
+fn start() -> &'static [u8]
+    ensures { result.now ≡ comment_start }
+{
+    b"<!--\n"
+}
+
+// How it ends.
+fn end() -> &'static [u8]
+    ensures { result.now ≡ comment_end }
+{
+    b"-->\n"
+}
+
+// The text of a witness, in a comment.
+fn comment(
+    alloc: Global,
+    number: u32,
+    graph: &Graph,
+    witness: &Witness,
+) -> Result<Vec<u8>, AllocError>
+    ensures { IfOk result (λ text. IsWitnessSvg number graph.now witness.now text.items) }
+{
+    let mut text = Vec::new(alloc);
+    text.extend_from_slice(start())?;
+    print_witness(alloc, number, graph, witness, &mut text)?;
+    text.extend_from_slice(end())?;
+    Ok(text)
+}
+
+/// Appends the text of a witness with this number as a comment, since a witness has no picture. No byte of the text
+/// is a minus, so the comment ends at its last line. After want of memory the bytes are as they were.
+pub fn svg_witness(
+    alloc: Global,
+    number: u32,
+    graph: &Graph,
+    witness: &Witness,
+    out: &mut Vec<u8>,
+) -> Result<(), AllocError>
+    ensures ok { OnOk result ((svg : List ℕ) × IsWitnessSvg number graph.now witness.now svg × (out.new.items ≡ out.old.items ++ svg)) }
+    ensures err { OnErr result (out.new.items ≡ out.old.items) }
+{
+    let text = comment(alloc, number, graph, witness)?;
+    out.extend_from_slice(&text)
+}
