@@ -1,20 +1,19 @@
 -- Items one after another.
-use Rattle.std.proofs.Common.{◌≡◌, ℕ, ◌≤◌, List, [], ◌∷◌, ◌++◌, length, refl, ap, inl, inr}
+use Rattle.std.proofs.Common.{◌≡◌, ℕ, ◌≤◌, List, [], ◌∷◌, ◌++◌, length, refl, ap}
 use Rattle.std.specs.Prelude.{Ok}
 use Rattle.figure_text.specs.declared.figure.Figure.{Figure}
 use Rattle.figure_text.specs.declared.read.Item.{Item}
 use Rattle.figure_text.specs.declared.read.Item.TheVariants.{Drawn, Note, End}
-use Rattle.figure_lines.specs.Reading.{Answers, AreItems, figures_of}
+use Rattle.figure_text.specs.Laws.{IsAnswer}
+use Rattle.figure_lines.specs.Reading.{AreItems, figures_of}
 use Rattle.figure_lines.proofs.MoreLemmas.{drawn-more, note-more}
 
 -- an item ends within the bytes
-pub drawn-within : (bytes : List ℕ) (at first : ℕ) (fig : Figure) (next after : ℕ) → Answers bytes at first (Ok (Drawn fig next after)) → next ≤ length bytes
-drawn-within bytes at first fig next after (inl (unjudged, e)) = absurd (cc)
-drawn-within bytes at first fig next after (inr (judged, (kind, n, text, begins, (body, within, counted)))) = within
+pub drawn-within : (bytes : List ℕ) (at first : ℕ) (fig : Figure) (next after : ℕ) → IsAnswer bytes at first (Ok (Drawn fig next after)) → next ≤ length bytes
+drawn-within bytes at first fig next after (kind, n, text, begins, (body, within, counted)) = within
 
-pub note-within : (bytes : List ℕ) (at first : ℕ) (next after : ℕ) → Answers bytes at first (Ok (Note next after)) → next ≤ length bytes
-note-within bytes at first next after (inl (unjudged, e)) = absurd (cc)
-note-within bytes at first next after (inr (judged, (line, is, note, within, counted))) = within
+pub note-within : (bytes : List ℕ) (at first : ℕ) (next after : ℕ) → IsAnswer bytes at first (Ok (Note next after)) → next ≤ length bytes
+note-within bytes at first next after (line, is, note, within, counted) = within
 
 -- items of some bytes stand in more bytes
 pub AreItems-more : (bytes more : List ℕ) (at line : ℕ) (items : List Item) (at' line' : ℕ) → at ≤ length bytes → AreItems bytes at line items at' line' → AreItems (bytes ++ more) at line items at' line'
@@ -30,14 +29,14 @@ AreItems-more bytes more at line (Note next after ∷ items) at' line' within (a
 AreItems-more bytes more at line (End ∷ items) at' line' within are = absurd are
 
 -- one figure more
-pub AreItems-drawn : (bytes : List ℕ) (at line : ℕ) (items : List Item) (at' line' : ℕ) (fig : Figure) (next after : ℕ) → AreItems bytes at line items at' line' → Answers bytes at' line' (Ok (Drawn fig next after)) → AreItems bytes at line (items ++ Drawn fig next after ∷ []) next after
+pub AreItems-drawn : (bytes : List ℕ) (at line : ℕ) (items : List Item) (at' line' : ℕ) (fig : Figure) (next after : ℕ) → AreItems bytes at line items at' line' → IsAnswer bytes at' line' (Ok (Drawn fig next after)) → AreItems bytes at line (items ++ Drawn fig next after ∷ []) next after
 AreItems-drawn bytes at line [] at' line' fig next after (here, number) answer = (rw (here, number) at answer, (refl, refl))
 AreItems-drawn bytes at line (Drawn fig' next' after' ∷ items) at' line' fig next after (first, are) answer = (first, AreItems-drawn bytes next' after' items at' line' fig next after are answer)
 AreItems-drawn bytes at line (Note next' after' ∷ items) at' line' fig next after (first, are) answer = (first, AreItems-drawn bytes next' after' items at' line' fig next after are answer)
 AreItems-drawn bytes at line (End ∷ items) at' line' fig next after are answer = absurd are
 
 -- one note more
-pub AreItems-note : (bytes : List ℕ) (at line : ℕ) (items : List Item) (at' line' : ℕ) (next after : ℕ) → AreItems bytes at line items at' line' → Answers bytes at' line' (Ok (Note next after)) → AreItems bytes at line (items ++ Note next after ∷ []) next after
+pub AreItems-note : (bytes : List ℕ) (at line : ℕ) (items : List Item) (at' line' : ℕ) (next after : ℕ) → AreItems bytes at line items at' line' → IsAnswer bytes at' line' (Ok (Note next after)) → AreItems bytes at line (items ++ Note next after ∷ []) next after
 AreItems-note bytes at line [] at' line' next after (here, number) answer = (rw (here, number) at answer, (refl, refl))
 AreItems-note bytes at line (Drawn fig' next' after' ∷ items) at' line' next after (first, are) answer = (first, AreItems-note bytes next' after' items at' line' next after are answer)
 AreItems-note bytes at line (Note next' after' ∷ items) at' line' next after (first, are) answer = (first, AreItems-note bytes next' after' items at' line' next after are answer)

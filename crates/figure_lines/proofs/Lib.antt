@@ -5,3 +5,5 @@ pub mod LineLemmas
 pub mod PartLemmas
 pub mod ReadLemmas
 pub mod UniqueLemmas
+pub mod ToldLemmas
+pub mod ReadsLemmas

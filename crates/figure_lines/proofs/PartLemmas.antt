@@ -1,13 +1,16 @@
 -- Parts of a piece, and the line that they join or close.
-use Rattle.std.proofs.Common.{◌≡◌, ◌≢◌, ℕ, ◌+◌, ◌<◌, ◌≤◌, List, [], ◌∷◌, ◌++◌, length, drop, take, get_or, sym, ap, ◌∙◌, subst, arith, append_assoc}
+use Rattle.std.proofs.Common.{◌≡◌, ◌≢◌, ℕ, ◌+◌, ◌<◌, ◌≤◌, List, [], ◌∷◌, ◌++◌, length, drop, take, get_or, refl, sym, ap, ◌∙◌, subst, arith, append_assoc, length-append}
 use Rattle.std.proofs.lemmas.List.{take-append-drop, take_more, take_all, get_or-take, length-take-le}
 use Rattle.std.proofs.lemmas.List.Elements.{All-append, All-from_get_or}
 use Rattle.std.specs.Prelude.{Option, Some, None}
+use Rattle.record_runs.specs.Texts.{input_limit}
 use Rattle.figure_text.specs.declared.figure.Figure.{Figure}
-use Rattle.figure_text.specs.declared.judge.Kind.TheVariants.{Grid}
+use Rattle.figure_lines.specs.declared.head.Head.TheVariants.{Bars}
 use Rattle.figure_text.specs.Reading.{IsPlain}
-use Rattle.figure_lines.specs.Progress.{IsOpen, Progress, Closes}
+use Rattle.figure_lines.specs.Progress.{IsDue, IsOpen, Progress, Closes}
 use Rattle.figure_lines.specs.declared.begun.Begun.{Begun}
+use Rattle.figure_lines.specs.declared.begun.Due.{Due}
+use Rattle.figure_lines.specs.declared.begun.Due.TheVariants.{Row, Columns}
 use Rattle.figure_lines.specs.declared.step.After.{After}
 use Rattle.figure_lines.proofs.MoreLemmas.{drop-more, within-more}
 use Rattle.figure_lines.proofs.ItemLemmas.{AreItems-more}
@@ -19,9 +22,13 @@ IsPlain-front bytes n within none =
     let long : length (take n bytes) ≡ n = length-take-le n bytes within in
     All-from_get_or (λ b. b ≢ 10) (take n bytes) 0 (λ k h. let lt : k < n = omega arith in rw (get_or-take n bytes k 0 lt) (none k lt))
 
+due-more : (due : Due) (first number : ℕ) (text pending more : List ℕ) → IsDue due first number text pending → IsDue due first number (text ++ more) (pending ++ more)
+due-more (Row rows) first number text pending more b = IsBegun-more rows.head rows.n first number rows.draft text pending more b
+due-more (Columns bars) first number text pending more b = IsBegun-more Bars (length bars.draft.lists) first number bars.draft text pending more b
+
 open-more : (begun : Option Begun) (first number : ℕ) (text text' pending more : List ℕ) → text' ≡ text ++ more → IsOpen begun first number text pending → IsOpen begun first number text' (pending ++ more)
 open-more None first number text text' pending more is (here, same) = (here, is ∙ ap (λ (x : List ℕ). x ++ more) same)
-open-more (Some b) first number text text' pending more is (here, begun) = (here, rw is (IsBegun-more (Grid b.job) b.n first number b.draft text pending more begun))
+open-more (Some b) first number text text' pending more is (here, due) = (here, rw is (due-more b.due first number text pending more due))
 
 -- bytes that join the open line
 pub Progress-joined : (consumed : List ℕ) (figures : List Figure) (number : ℕ) (pending : List ℕ) (begun : Option Begun) (more : List ℕ) → Progress consumed figures number pending begun → IsPlain more → Progress (consumed ++ more) figures number (pending ++ more) begun
@@ -49,6 +56,19 @@ closes-part consumed figures number after part n within ten closes =
     let e : (consumed ++ take n part) ++ 10 ∷ [] ≡ consumed ++ take (n + 1) part = append_assoc consumed (take n part) (10 ∷ [])
     ∙ ap (λ (b : ℕ). consumed ++ (take n part ++ b ∷ [])) (sym ten) ∙ ap (λ (x : List ℕ). consumed ++ x) (sym (take_more part n 0 within)) in
     subst (λ (x : List ℕ). Closes x figures number after) e closes
+
+-- what the closed line makes is what the part makes that closes it
+pub closes-line : (consumed : List ℕ) (figures : List Figure) (number : ℕ) (pending line : List ℕ) (begun : Option Begun) (after : After) (part : List ℕ) (n : ℕ) → n < length part → ((k : ℕ) → k < n → get_or part k 0 ≢ 10) → get_or part n 0 ≡ 10 → length consumed + length part ≤ input_limit → line ≡ pending ++ take n part → Progress consumed figures number pending begun → ((text : List ℕ) (given : List Figure) → Progress text given number line begun → length text < input_limit → Closes (text ++ 10 ∷ []) given number after) → Closes (consumed ++ take (n + 1) part) figures number after
+closes-line consumed figures number pending line begun after part n within none ten few is p makes =
+    let joined = Progress-joined consumed figures number pending begun (take n part) p (IsPlain-front part n (omega arith) none) in
+    let here = subst (λ (x : List ℕ). Progress (consumed ++ take n part) figures number x begun) (sym is) joined in
+    let short : length (consumed ++ take n part) < input_limit = let l = length-append consumed (take n part) in let t = length-take-le n part (omega arith) in omega arith in
+    closes-part consumed figures number after part n within ten (makes (consumed ++ take n part) figures here short)
+
+-- no bytes
+pub none-of_length : (bytes : List ℕ) → length bytes ≡ 0 → bytes ≡ []
+none-of_length [] none = refl
+none-of_length (b ∷ bytes) none = absurd (omega arith)
 
 -- the first bytes of a part, the rest and what follows
 pub part-splits : (consumed part tail : List ℕ) (k : ℕ) → (consumed ++ take k part) ++ (drop k part ++ tail) ≡ (consumed ++ part) ++ tail

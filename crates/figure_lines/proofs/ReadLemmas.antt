@@ -5,37 +5,42 @@ use Rattle.std.proofs.Math.Seq.{take-append-add}
 use Rattle.std.specs.Prelude.{Option, Some, None, Err}
 use Rattle.record_runs.specs.Texts.{input_limit}
 use Rattle.figure_text.specs.declared.figure.Figure.{Figure}
-use Rattle.figure_text.specs.declared.judge.Kind.TheVariants.{Grid}
+use Rattle.figure_text.specs.declared.judge.Kind.TheVariants.{Bars}
 use Rattle.figure_text.specs.declared.fault.TextFault.TheVariants as fault
 use Rattle.figure_text.specs.Reading.{IsPlain}
-use Rattle.figure_lines.specs.Reading.{Answers, AreItems, EndsAs, BeginsWith, IsReading}
-use Rattle.figure_lines.specs.Progress.{IsOpen}
+use Rattle.figure_text.specs.Laws.{IsAnswer}
+use Rattle.figure_lines.specs.Reading.{AreItems, EndsAs, BeginsWith, IsReading}
+use Rattle.figure_lines.specs.Heads.{head_kind}
+use Rattle.figure_lines.specs.Progress.{IsDue, IsOpen}
 use Rattle.figure_lines.specs.State.{State, IsAt, ending_by}
 use Rattle.figure_lines.specs.declared.begun.Begun.{Begun}
+use Rattle.figure_lines.specs.declared.begun.Due.{Due}
+use Rattle.figure_lines.specs.declared.begun.Due.TheVariants.{Row, Columns}
 use Rattle.figure_lines.specs.declared.ending.Ending.{Ending}
 use Rattle.figure_lines.specs.declared.ending.Ending.TheVariants.{TooLong}
-use Rattle.figure_lines.proofs.MoreLemmas.{judged-plain}
 use Rattle.figure_lines.proofs.ItemLemmas.{AreItems-more}
-use Rattle.figure_lines.proofs.LineLemmas.{begins-judged}
+use Rattle.figure_lines.proofs.LineLemmas.{lists-lines, row-body}
 
 -- an open line outside a figure is a bad line
-pub open-bad : (bytes : List ℕ) (at line : ℕ) → IsPlain (drop at bytes) → 0 < length (drop at bytes) → Answers bytes at line (Err (fault.BadLine line))
-open-bad bytes at line plain some = inr (judged-plain (drop at bytes) plain, inl (refl, inl (plain, some)))
+pub open-bad : (bytes : List ℕ) (at line : ℕ) → IsPlain (drop at bytes) → 0 < length (drop at bytes) → IsAnswer bytes at line (Err (fault.BadLine line))
+open-bad bytes at line plain some = inl (refl, inl (plain, some))
 
 -- a figure that has begun ends in its lines
-begun-ends : (bytes : List ℕ) (at first line : ℕ) (pending : List ℕ) (begun : Begun) → IsPlain pending → IsOpen (Some begun) first line (drop at bytes) pending → Answers bytes at first (Err (fault.EndInFigure begun.first))
-begun-ends bytes at first line pending begun plain (same, b) =
-    inr (
-      begins-judged (Grid begun.job) begun.n (drop at bytes) b.body refl b.begins,
-      inr (Grid begun.job, begun.n, b.body, b.begins, (b.lines, pending, record { rows = b.rows; few = b.few }, plain, same)),
-    )
+due-ends : (bytes : List ℕ) (at first line : ℕ) (pending : List ℕ) (due : Due) → IsPlain pending → IsDue due first line (drop at bytes) pending → IsAnswer bytes at first (Err (fault.EndInFigure first))
+due-ends bytes at first line pending (Row rows) plain b =
+    inr (head_kind rows.head, rows.n, b.body, b.begins, row-body (head_kind rows.head) rows.n b.body first (fault.EndInFigure first) (b.lines, pending, record { rows = b.rows; few = let l = lists-lines b in let d = rows.due in omega arith }, plain, refl))
+due-ends bytes at first line pending (Columns bars) plain b = inr (Bars, length bars.draft.lists, b.body, b.begins, inr (b.lines, pending, b.rows, sym (lists-lines b), plain, refl))
+
+begun-ends : (bytes : List ℕ) (at first line : ℕ) (pending : List ℕ) (begun : Begun) → IsPlain pending → IsOpen (Some begun) first line (drop at bytes) pending → IsAnswer bytes at first (Err (fault.EndInFigure begun.first))
+begun-ends bytes at first line pending begun plain (same, due) =
+    subst (λ (k : ℕ). IsAnswer bytes at first (Err (fault.EndInFigure k))) (sym same) (due-ends bytes at first line pending begun.due plain due)
 
 -- how bytes end if no more come
 ends-open : (bytes : List ℕ) (at first line : ℕ) (pending : List ℕ) (begun : Option Begun) → at ≤ length bytes → IsPlain pending → length bytes ≤ input_limit → IsOpen begun first line (drop at bytes) pending → EndsAs (length bytes) bytes at first (ending_by begun line pending)
 ends-open bytes at first line [] None within plain few (number, none) = (few, (let l = length-drop at bytes in let n = ap length none in omega arith))
 ends-open bytes at first line (b ∷ pending) None within plain few (number, here) =
     let some : 0 < length (drop at bytes) = let n = ap length here in omega arith in
-    (subst (λ (k : ℕ). Answers bytes at first (Err (fault.BadLine k))) (sym number) (open-bad bytes at first (subst IsPlain (sym here) plain) some), inl few)
+    (subst (λ (k : ℕ). IsAnswer bytes at first (Err (fault.BadLine k))) (sym number) (open-bad bytes at first (subst IsPlain (sym here) plain) some), inl few)
 ends-open bytes at first line pending (Some begun) within plain few stands = (begun-ends bytes at first line pending begun plain stands, few)
 
 -- The bytes consumed are read as their figures and that ending.

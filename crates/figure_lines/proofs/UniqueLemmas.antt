@@ -1,7 +1,6 @@
 -- An input is read in one way.
-use Rattle.std.proofs.Common.{◌≡◌, ◌≢◌, ℕ, ◌<◌, ◌≤◌, List, [], ◌∷◌, length, drop, take, refl, sym, ap, ◌∙◌, subst, arith, inl, inr, length-drop}
+use Rattle.std.proofs.Common.{◌≡◌, ◌≢◌, ℕ, ◌<◌, ◌≤◌, List, [], ◌∷◌, length, drop, take, refl, sym, ap, ◌∙◌, arith, inl, inr, length-drop}
 use Rattle.std.proofs.lemmas.Bool.{cases_lt}
-use Rattle.std.proofs.Math.Seq.{drop-length}
 use Rattle.std.specs.Prelude.{◌⊎◌, Result, Ok, Err}
 use Rattle.record_runs.specs.Texts.{input_limit}
 use Rattle.figure_text.specs.declared.figure.Figure.{Figure}
@@ -11,12 +10,11 @@ use Rattle.figure_text.specs.declared.read.Item.{Item}
 use Rattle.figure_text.specs.declared.read.Item.TheVariants.{Drawn, Note, End}
 use Rattle.figure_text.specs.Reading.{IsPlain}
 use Rattle.figure_text.proofs.UniqueFigures.{one-answer}
-use Rattle.figure_lines.specs.Reading.{Answers, AreItems, figures_of, EndsAs, IsReading}
+use Rattle.figure_text.specs.Laws.{IsAnswer}
+use Rattle.figure_lines.specs.Reading.{AreItems, figures_of, EndsAs, IsReading}
 use Rattle.figure_lines.specs.declared.ending.Ending.{Ending}
 use Rattle.figure_lines.specs.declared.ending.Ending.TheVariants.{Well, BadLine, Limit, EndInFigure, TooLong}
-use Rattle.figure_lines.proofs.MoreLemmas.{judged-plain}
 use Rattle.figure_lines.proofs.ItemLemmas.{drawn-within, note-within}
-use Rattle.figure_lines.proofs.LineLemmas.{IsPlain-none}
 use Rattle.figure_lines.proofs.ReadLemmas.{open-bad}
 
 -- an answer that is not for want of memory
@@ -24,20 +22,15 @@ abbrev IsTold : Result Item TextFault → Type 0
 IsTold r = r ≢ Err fault.NoMemory
 
 -- there is one answer at an offset
-Answers-unique : (bytes : List ℕ) (at line : ℕ) → at ≤ length bytes → (r s : Result Item TextFault) → IsTold r → IsTold s → Answers bytes at line r → Answers bytes at line s → r ≡ s
-Answers-unique bytes at line within r s told told' (inl (unjudged, is)) (inl (unjudged', is')) = is ∙ sym is'
-Answers-unique bytes at line within r s told told' (inl (unjudged, is)) (inr (judged, answer)) = absurd (judged unjudged)
-Answers-unique bytes at line within r s told told' (inr (judged, answer)) (inl (unjudged, is)) = absurd (judged unjudged)
-Answers-unique bytes at line within r s told told' (inr (judged, answer)) (inr (judged', answer')) = one-answer bytes at line within r s answer answer' told told'
+Answers-unique : (bytes : List ℕ) (at line : ℕ) → at ≤ length bytes → (r s : Result Item TextFault) → IsTold r → IsTold s → IsAnswer bytes at line r → IsAnswer bytes at line s → r ≡ s
+Answers-unique bytes at line within r s told told' answer answer' = one-answer bytes at line within r s answer answer' told told'
 
 -- the end of the bytes
-end-answers : (bytes : List ℕ) (at line : ℕ) → at ≡ length bytes → Answers bytes at line (Ok End)
-end-answers bytes at line end =
-    let none : drop at bytes ≡ [] = ap (λ (n : ℕ). drop n bytes) end ∙ drop-length bytes in
-    inr (judged-plain (drop at bytes) (subst IsPlain (sym none) IsPlain-none), end)
+end-answers : (bytes : List ℕ) (at line : ℕ) → at ≡ length bytes → IsAnswer bytes at line (Ok End)
+end-answers bytes at line end = end
 
 -- what stands where no line is closed
-plain-answers : (bytes : List ℕ) (at line : ℕ) → at ≤ length bytes → IsPlain (drop at bytes) → Answers bytes at line (Ok End) ⊎ Answers bytes at line (Err (fault.BadLine line))
+plain-answers : (bytes : List ℕ) (at line : ℕ) → at ≤ length bytes → IsPlain (drop at bytes) → IsAnswer bytes at line (Ok End) ⊎ IsAnswer bytes at line (Err (fault.BadLine line))
 plain-answers bytes at line within plain =
     elim (cases_lt at (length bytes)) [
       | inl some ↦ inr (open-bad bytes at line plain (let l = length-drop at bytes in omega arith))
@@ -62,14 +55,14 @@ ending_of (Err fault.NoMemory) = Well
 -- an ending within the bytes that are read
 record Ends (bytes : List ℕ) (at line : ℕ) (ending : Ending) : Type 0 where
   told : IsTold (answer_of ending)
-  answers : Answers bytes at line (answer_of ending)
+  answers : IsAnswer bytes at line (answer_of ending)
   back : ending ≡ ending_of (answer_of ending)
 
 -- or none of a line
 record IsLong (total : ℕ) (bytes : List ℕ) (at line : ℕ) (ending : Ending) : Type 0 where
   is : ending ≡ TooLong
   long : input_limit < total
-  why : IsPlain (drop at bytes) ⊎ ((k : ℕ) × Answers bytes at line (Err (fault.EndInFigure k)))
+  why : IsPlain (drop at bytes) ⊎ ((k : ℕ) × IsAnswer bytes at line (Err (fault.EndInFigure k)))
 
 ends-or-long : (total : ℕ) (bytes : List ℕ) (at line : ℕ) (ending : Ending) → EndsAs total bytes at line ending → Ends bytes at line ending ⊎ IsLong total bytes at line ending
 unfolding answer_of ending_of
@@ -80,7 +73,7 @@ ends-or-long total bytes at line (EndInFigure k) (answers, few) = inl (record { 
 ends-or-long total bytes at line TooLong (long, why) = inr (record { is = refl; long = long; why = why })
 
 -- no other ending is there where the input is too long
-long-alone : (total : ℕ) (bytes : List ℕ) (at line : ℕ) (ending : Ending) → at ≤ length bytes → input_limit < total → (IsPlain (drop at bytes) ⊎ ((k : ℕ) × Answers bytes at line (Err (fault.EndInFigure k)))) → EndsAs total bytes at line ending → ending ≡ TooLong
+long-alone : (total : ℕ) (bytes : List ℕ) (at line : ℕ) (ending : Ending) → at ≤ length bytes → input_limit < total → (IsPlain (drop at bytes) ⊎ ((k : ℕ) × IsAnswer bytes at line (Err (fault.EndInFigure k)))) → EndsAs total bytes at line ending → ending ≡ TooLong
 long-alone total bytes at line Well within long why (few, end) = absurd (omega arith)
 long-alone total bytes at line (BadLine k) within long why (answers, inl few) = absurd (omega arith)
 long-alone total bytes at line (BadLine k) within long (inl plain) (answers, inr closed) = absurd (closed plain)
@@ -107,7 +100,7 @@ ending-unique total bytes at line ending ending' within ends ends' = by_kind (en
     by_kind (inr long) other = long.is ∙ sym (long-alone total bytes at line ending' within long.long long.why ends')
 
 -- no item stands where the items stop
-no-drawn : (total : ℕ) (bytes : List ℕ) (at line : ℕ) (ending : Ending) (fig : Figure) (next after : ℕ) → at ≤ length bytes → EndsAs total bytes at line ending → Answers bytes at line (Ok (Drawn fig next after)) → ⊥
+no-drawn : (total : ℕ) (bytes : List ℕ) (at line : ℕ) (ending : Ending) (fig : Figure) (next after : ℕ) → at ≤ length bytes → EndsAs total bytes at line ending → IsAnswer bytes at line (Ok (Drawn fig next after)) → ⊥
 unfolding answer_of
 no-drawn total bytes at line Well fig next after within (few, end) answer =
     let same = Answers-unique bytes at line within (Ok End) (Ok (Drawn fig next after)) (λ e. absurd (cc)) (λ e. absurd (cc)) (end-answers bytes at line end) answer in cc
@@ -125,7 +118,7 @@ no-drawn total bytes at line TooLong fig next after within (long, inl plain) ans
 no-drawn total bytes at line TooLong fig next after within (long, inr (k, inside)) answer =
     let same = Answers-unique bytes at line within (Err (fault.EndInFigure k)) (Ok (Drawn fig next after)) (λ e. absurd (cc)) (λ e. absurd (cc)) inside answer in cc
 
-no-note : (total : ℕ) (bytes : List ℕ) (at line : ℕ) (ending : Ending) (next after : ℕ) → at ≤ length bytes → EndsAs total bytes at line ending → Answers bytes at line (Ok (Note next after)) → ⊥
+no-note : (total : ℕ) (bytes : List ℕ) (at line : ℕ) (ending : Ending) (next after : ℕ) → at ≤ length bytes → EndsAs total bytes at line ending → IsAnswer bytes at line (Ok (Note next after)) → ⊥
 no-note total bytes at line Well next after within (few, end) answer =
     let same = Answers-unique bytes at line within (Ok End) (Ok (Note next after)) (λ e. absurd (cc)) (λ e. absurd (cc)) (end-answers bytes at line end) answer in cc
 no-note total bytes at line (BadLine k) next after within (answers, why) answer =

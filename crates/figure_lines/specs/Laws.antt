@@ -12,6 +12,10 @@ OneReading =
     (input : List ℕ) (figures figures' : List Figure) (ending ending' : Ending) → IsReading input figures ending → IsReading input figures' ending'
     → (figures ≡ figures') × (ending ≡ ending')
 
+-- each input is read in one way at least
+abbrev pub EachInputIsRead : Type 0
+EachInputIsRead = (input : List ℕ) → (figures : List Figure) × (ending : Ending) × IsReading input figures ending
+
 -- what a reader has consumed is read as the figures that it answered, and ends as it says
 abbrev pub ConsumedIsRead : Type 0
 ConsumedIsRead =

@@ -1,8 +1,6 @@
 -- How far the bytes consumed so far have been read.
-use Rattle.std.specs.Prelude.{ℕ, ◌+◌, ◌<◌, ◌≤◌, ◌≡◌, List, [], ◌∷◌, ◌++◌, length, drop, Option, Some, None}
+use Rattle.std.specs.Prelude.{ℕ, ◌+◌, ◌≤◌, ◌≡◌, List, [], ◌∷◌, ◌++◌, length, drop, Option, Some, None}
 use Rattle.figure_text.specs.declared.figure.Figure.{Figure}
-use Rattle.figure_text.specs.declared.judge.Kind.{Kind}
-use Rattle.figure_text.specs.declared.judge.Kind.TheVariants.{Grid}
 use Rattle.figure_text.specs.declared.rows.Draft.{Draft}
 use Rattle.figure_text.specs.declared.read.Item.{Item}
 use Rattle.figure_text.specs.Reading.{IsPlain, Rows}
@@ -11,26 +9,35 @@ use Rattle.figure_text.specs.Drafts.{drafted}
 use Rattle.figure_lines.specs.Reading.{AreItems, figures_of, IsReading}
 use Rattle.figure_lines.specs.Format.{IsBad}
 use Rattle.figure_lines.specs.Given.{IsGiven}
+use Rattle.figure_lines.specs.Heads.{head_kind, HasGraph}
+use Rattle.figure_lines.specs.declared.head.Head.{Head}
+use Rattle.figure_lines.specs.declared.head.Head.TheVariants.{Bars}
 use Rattle.figure_lines.specs.declared.begun.Begun.{Begun}
+use Rattle.figure_lines.specs.declared.begun.Due.{Due}
+use Rattle.figure_lines.specs.declared.begun.Due.TheVariants.{Row, Columns}
 use Rattle.figure_lines.specs.declared.step.After.{After}
 use Rattle.figure_lines.specs.declared.step.After.TheVariants.{Goes, Whole, Bad}
 
--- A figure begins at the front of a text, on the line with the number `first`, with its first line and the lines of some of
--- its n vertices, of which this is the draft. What is left is the line with the number `line`.
-pub record IsBegun (kind : Kind) (n first line : ℕ) (draft : Draft) (text rest : List ℕ) : Type 0 where
+-- A figure begins at the front of a text, on the line with the number `first`, with its first line and some of its n lines of
+-- vertices, or of branches and paths, of which this is the draft. What is left is the line with the number `line`.
+pub record IsBegun (head : Head) (n first line : ℕ) (draft : Draft) (text rest : List ℕ) : Type 0 where
   pub body : List ℕ
-  pub begins : Begins kind n text body
+  pub begins : Begins (head_kind head) n text body
+  pub graph : HasGraph head begins.line
   pub lines : List (List ℕ)
-  pub rows : Rows kind body lines rest
-  pub few : length lines < n
+  pub rows : Rows (head_kind head) body lines rest
   pub counted : line ≡ first + 1 + length lines
-  pub gives : draft ≡ drafted kind lines
+  pub gives : draft ≡ drafted (head_kind head) lines
+
+-- a figure has begun, and this line of it is due
+abbrev pub IsDue : Due → ℕ → ℕ → List ℕ → List ℕ → Type 0
+IsDue (Row rows) first line text pending = IsBegun rows.head rows.n first line rows.draft text pending
+IsDue (Columns bars) first line text pending = IsBegun Bars (length bars.draft.lists) first line bars.draft text pending
 
 -- What stands behind the items: a line alone, or a figure that has begun.
 abbrev pub IsOpen : Option Begun → ℕ → ℕ → List ℕ → List ℕ → Type 0
 IsOpen None first line text pending = (line ≡ first) × (text ≡ pending)
-IsOpen (Some begun) first line text pending =
-    (begun.first ≡ first) × IsBegun (Grid begun.job) begun.n first line begun.draft text pending
+IsOpen (Some begun) first line text pending = (begun.first ≡ first) × IsDue begun.due first line text pending
 
 -- The bytes consumed are figures and notes, and what has come of the next one, whose last line is open.
 pub record Progress (consumed : List ℕ) (figures : List Figure) (line : ℕ) (pending : List ℕ) (open_figure : Option Begun) : Type 0 where

@@ -1,49 +1,22 @@
 -- How an input of figures is read: as figures and notes, and one ending.
-use Rattle.std.specs.Prelude.{ℕ, ◌<◌, ◌≤◌, ◌≡◌, ◌⊎◌, Bool, true, false, IsFalse, List, [], ◌∷◌, length, take, drop, Result, Ok, Err}
+use Rattle.std.specs.Prelude.{ℕ, ◌<◌, ◌≤◌, ◌≡◌, ◌⊎◌, List, [], ◌∷◌, length, take, drop, Ok, Err}
 use Rattle.record_runs.specs.Texts.{input_limit}
 use Rattle.figure_text.specs.declared.figure.Figure.{Figure}
-use Rattle.figure_text.specs.declared.judge.Kind.{Kind}
-use Rattle.figure_text.specs.declared.judge.Kind.TheVariants.{Grid, Bars}
-use Rattle.figure_text.specs.declared.fault.TextFault.{TextFault}
 use Rattle.figure_text.specs.declared.fault.TextFault.TheVariants as fault
 use Rattle.figure_text.specs.declared.read.Item.{Item}
 use Rattle.figure_text.specs.declared.read.Item.TheVariants.{Drawn, Note, End}
-use Rattle.figure_text.specs.Words.{words_of}
-use Rattle.figure_text.specs.Reading.{IsPlain, IsLine, is_note}
-use Rattle.figure_text.specs.Front.{IsFirstOf}
+use Rattle.figure_text.specs.Reading.{IsPlain}
 use Rattle.figure_text.specs.Laws.{IsAnswer}
 use Rattle.figure_lines.specs.declared.ending.Ending.{Ending}
 use Rattle.figure_lines.specs.declared.ending.Ending.TheVariants.{Well, BadLine, Limit, EndInFigure, TooLong}
-
--- there is a judge for figures of this kind
-abbrev pub is_judged : Kind → Bool
-is_judged (Grid job) = true
-is_judged Bars = false
-
--- at the front of a text stands the closed first line of a figure for which there is no judge
-pub record IsUnjudged (text : List ℕ) : Type 0 where
-  pub line : List ℕ
-  pub rest : List ℕ
-  pub is : IsLine text line rest
-  pub other : IsFalse (is_note line)
-  pub kind : Kind
-  pub first : IsFirstOf kind (words_of line)
-  pub none : IsFalse (is_judged kind)
-
--- What stands at an offset of a text, on the line with this number, or why nothing does. The first line of a figure for
--- which there is no judge is a bad line.
-abbrev pub Answers : List ℕ → ℕ → ℕ → Result Item TextFault → Type 0
-Answers bytes at line answer =
-    (IsUnjudged (drop at bytes) × (answer ≡ Err (fault.BadLine line)))
-    ⊎ ((¬ IsUnjudged (drop at bytes)) × IsAnswer bytes at line answer)
 
 -- Figures and notes stand one after another from an offset and a line of a text up to others.
 abbrev pub AreItems : List ℕ → ℕ → ℕ → List Item → ℕ → ℕ → Type 0
 AreItems bytes at line [] at' line' = (at' ≡ at) × (line' ≡ line)
 AreItems bytes at line (Drawn fig next after ∷ items) at' line' =
-    Answers bytes at line (Ok (Drawn fig next after)) × AreItems bytes next after items at' line'
+    IsAnswer bytes at line (Ok (Drawn fig next after)) × AreItems bytes next after items at' line'
 AreItems bytes at line (Note next after ∷ items) at' line' =
-    Answers bytes at line (Ok (Note next after)) × AreItems bytes next after items at' line'
+    IsAnswer bytes at line (Ok (Note next after)) × AreItems bytes next after items at' line'
 AreItems bytes at line (End ∷ items) at' line' = ⊥
 
 -- the figures among items
@@ -58,11 +31,11 @@ figures_of (End ∷ items) = figures_of items
 abbrev pub EndsAs : ℕ → List ℕ → ℕ → ℕ → Ending → Type 0
 EndsAs total bytes at line Well = (total ≤ input_limit) × (at ≡ length bytes)
 EndsAs total bytes at line (BadLine k) =
-    Answers bytes at line (Err (fault.BadLine k)) × ((total ≤ input_limit) ⊎ (¬ IsPlain (drop at bytes)))
-EndsAs total bytes at line (Limit k) = Answers bytes at line (Err (fault.Limit k))
-EndsAs total bytes at line (EndInFigure k) = Answers bytes at line (Err (fault.EndInFigure k)) × (total ≤ input_limit)
+    IsAnswer bytes at line (Err (fault.BadLine k)) × ((total ≤ input_limit) ⊎ (¬ IsPlain (drop at bytes)))
+EndsAs total bytes at line (Limit k) = IsAnswer bytes at line (Err (fault.Limit k))
+EndsAs total bytes at line (EndInFigure k) = IsAnswer bytes at line (Err (fault.EndInFigure k)) × (total ≤ input_limit)
 EndsAs total bytes at line TooLong =
-    (input_limit < total) × (IsPlain (drop at bytes) ⊎ ((k : ℕ) × Answers bytes at line (Err (fault.EndInFigure k))))
+    (input_limit < total) × (IsPlain (drop at bytes) ⊎ ((k : ℕ) × IsAnswer bytes at line (Err (fault.EndInFigure k))))
 
 -- the first bytes of an input that are read hold these figures first, beside notes
 pub record BeginsWith (input : List ℕ) (figures : List Figure) : Type 0 where

@@ -1,23 +1,39 @@
 -- What a closed line does, in the words of the code's own enums.
-use Rattle.std.specs.Prelude.{ℕ, ◌<◌, ◌≤◌, ◌≡◌, IsFalse, length, Option, Some, None}
-use Rattle.figure_text.specs.declared.figure.GridJob.{GridJob}
-use Rattle.figure_text.specs.declared.figure.Figure.TheVariants.{Grid as GridFigure}
-use Rattle.figure_text.specs.declared.judge.Kind.{Kind}
-use Rattle.figure_text.specs.declared.judge.Kind.TheVariants.{Grid}
+use Rattle.std.specs.Prelude.{ℕ, ◌<◌, ◌≤◌, ◌≡◌, [], length, Some, None}
+use Rattle.figure_text.specs.declared.figure.Figure.{Figure}
+use Rattle.figure_text.specs.declared.figure.Figure.TheVariants.{Grid as GridFigure, Witness as WitnessFigure}
+use Rattle.figure_text.specs.Figures.{witness_of}
+use Rattle.figure_lines.specs.declared.head.Head.{Head}
+use Rattle.figure_lines.specs.declared.head.Head.TheVariants.{Grid, Bars, Witness}
 use Rattle.figure_text.specs.declared.rows.Draft.{Draft}
-use Rattle.figure_lines.specs.Reading.{is_judged}
+use Rattle.figure_lines.specs.declared.begun.Due.{Due}
+use Rattle.figure_lines.specs.declared.begun.Due.TheVariants.{Row, Columns}
 use Rattle.figure_lines.specs.declared.step.After.{After}
 use Rattle.figure_lines.specs.declared.step.After.TheVariants.{Goes, Whole, Bad}
 
--- the method of a figure of this kind, where it has a judge
-abbrev pub IsJudgedJob : Kind → Option GridJob → Type 0
-IsJudgedJob kind (Some job) = kind ≡ Grid job
-IsJudgedJob kind None = IsFalse (is_judged kind)
+-- no line of a vertex has come
+abbrev pub no_lines : Draft
+no_lines = record { lists = []; points = []; y = []; x1 = []; x2 = [] }
 
--- a figure with this draft goes on where it has fewer lines than vertices, and is whole otherwise
-abbrev pub IsGrown : GridJob → ℕ → ℕ → Draft → After → Type 0
-IsGrown job n first draft (Goes (Some begun)) =
-    (length draft.lists < n) × (begun.job ≡ job) × (begun.n ≡ n) × (begun.first ≡ first) × (begun.draft ≡ draft)
-IsGrown job n first draft (Goes None) = ⊥
-IsGrown job n first draft (Whole fig) = (n ≤ length draft.lists) × (fig ≡ GridFigure job draft.lists draft.points)
-IsGrown job n first draft (Bad ending) = ⊥
+-- the first line behind that of a figure is due
+abbrev pub IsFresh : Head → ℕ → Due → Type 0
+IsFresh head n (Row rows) = (rows.head ≡ head) × (rows.n ≡ n) × (rows.draft ≡ no_lines)
+IsFresh head n (Columns bars) = ⊥
+
+-- which line is due behind those that gave a draft
+abbrev pub GoesOn : Head → ℕ → Draft → Due → Type 0
+GoesOn head n draft (Row rows) = (length draft.lists < n) × (rows.head ≡ head) × (rows.n ≡ n) × (rows.draft ≡ draft)
+GoesOn head n draft (Columns bars) = (n ≤ length draft.lists) × (head ≡ Bars) × (bars.draft ≡ draft)
+
+-- a straight-line drawing is whole with the line of its last vertex, and a witness with that of its last path
+abbrev pub IsMadeOf : Head → Draft → Figure → Type 0
+IsMadeOf (Grid job) draft fig = fig ≡ GridFigure job draft.lists draft.points
+IsMadeOf Bars draft fig = ⊥
+IsMadeOf (Witness kind graph) draft fig = fig ≡ WitnessFigure graph (witness_of kind draft.lists)
+
+-- a figure with this draft goes on where it has fewer lines than are due or is one of bars, and is whole otherwise
+abbrev pub IsGrown : Head → ℕ → ℕ → Draft → After → Type 0
+IsGrown head n first draft (Goes (Some begun)) = (begun.first ≡ first) × GoesOn head n draft begun.due
+IsGrown head n first draft (Goes None) = ⊥
+IsGrown head n first draft (Whole fig) = (n ≤ length draft.lists) × IsMadeOf head draft fig
+IsGrown head n first draft (Bad ending) = ⊥

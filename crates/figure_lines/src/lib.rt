@@ -1,5 +1,5 @@
-//! The figures of an input, read piece by piece: closed lines are judged one by one, as figures that have a
-//! judge, and as notes between them.
+//! The figures of an input, read piece by piece: closed lines are judged one by one, as lines of figures and as
+//! notes between them.
 //!
 //! `FigureReader` takes pieces of bytes, and answers each figure as its last line is closed. It keeps the open
 //! line and what the lines of a figure have given, and looks at no byte twice.
@@ -7,6 +7,8 @@
 
 mod begun;
 mod ending;
+mod head;
+mod held;
 pub mod laws;
 mod part;
 mod reader;

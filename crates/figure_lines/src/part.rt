@@ -1,5 +1,5 @@
 //! A part of a piece, up to the end of a line.
-ghost use Rattle.std.specs.Prelude.{◌≡◌, ◌≢◌, ◌+◌, ◌<◌, ◌≤◌, List, ℕ, length, slice_index, IfOk};
+ghost use Rattle.std.specs.Prelude.{◌≡◌, ◌+◌, ◌<◌, ◌≤◌, List, ℕ, length, IfOk};
 ghost use Rattle.record_runs.specs.Texts.{input_limit};
 ghost use Rattle.figure_lines.specs.Progress.{Progress};
 ghost use Rattle.figure_lines.specs.State.{IsLinePart, TakesLine};
@@ -8,6 +8,7 @@ ghost use Rattle.figure_text.specs.declared.figure.Figure.{Figure as AFigure};
 use crate::begun::Begun;
 use crate::ending::Ending;
 use crate::step::{After, after_line};
+use figure_text::{Word, line_length};
 use std::alloc::{AllocError, Global};
 
 /// What a part of a piece made of the open line.
@@ -30,23 +31,11 @@ pub enum Part {
     Bad(Ending),
 }
 
-// How many bytes stand before the first byte 10, or before the end.
-fn line_length(bytes: &[u8]) -> usize
-    ensures within { result ≤ length bytes.now }
-    ensures before { (k : ℕ) → k < result → slice_index bytes.now k ≢ 10 }
-    ensures found { result < length bytes.now → slice_index bytes.now result ≡ 10 }
-{
-    for (i, byte) in bytes.iter().enumerate() {
-        if *byte == b'\n' {
-            return i;
-        }
-    }
-    bytes.len()
-}
-
-/// Takes a part to the end of the open line, which is then judged, or to its own end.
+/// Takes a part to the end of the open line, which is then judged, or to its own end. A line that stands whole in the
+/// part is judged where it stands.
 pub fn take_line(
     alloc: Global,
+    found: &mut Vec<Word>,
     pending: &mut Vec<u8>,
     before: Option<Begun>,
     line: u32,
@@ -57,11 +46,15 @@ pub fn take_line(
         → length consumed + length part.now ≤ input_limit → IfOk result (TakesLine consumed figures line part.now pending.new.items) }
 {
     let len = line_length(part);
+    if len < part.len() && pending.is_empty() {
+        let after = after_line(alloc, found, before, &part[..len], line)?;
+        return Ok(Line::Closed(len + 1, after));
+    }
     pending.extend_from_slice(&part[..len])?;
     if len == part.len() {
         return Ok(Line::Open(before));
     }
-    let after = after_line(alloc, before, pending, line)?;
+    let after = after_line(alloc, found, before, pending, line)?;
     pending.clear();
     Ok(Line::Closed(len + 1, after))
 }

@@ -10,7 +10,7 @@ use crate::begun::Begun;
 use crate::ending::Ending;
 use crate::part::{Line, Part, take_line};
 use crate::step::After;
-use figure_text::{Figure, GridJob};
+use figure_text::{Figure, GridJob, Word};
 use map_lists::Rotations;
 use pg_plane::Points;
 use record_runs::Taken;
@@ -27,6 +27,8 @@ pub struct FigureReader {
     line: u32,
     // what has come of it
     pending: Vec<u8>,
+    // room for the words of a line
+    found: Vec<Word>,
     // the figure that has begun
     begun: Option<Begun>,
     // the figure that became whole last
@@ -56,6 +58,7 @@ impl FigureReader {
             place: 0,
             line: 1,
             pending: Vec::new(alloc),
+            found: Vec::new(alloc),
             begun: None,
             figure: Figure::Grid {
                 job: GridJob::Shift,
@@ -97,7 +100,14 @@ impl FigureReader {
             → IfOk result (TakesPart self.new consumed figures part.now) }
     {
         let before = self.begun.take();
-        match take_line(self.alloc, &mut self.pending, before, self.line, part)? {
+        match take_line(
+            self.alloc,
+            &mut self.found,
+            &mut self.pending,
+            before,
+            self.line,
+            part,
+        )? {
             Line::Open(begun) => {
                 self.begun = begun;
                 self.place += part.len();

@@ -5,11 +5,14 @@ use Rattle.map_lists.specs.Lists.{Lists}
 use Rattle.map_definitions.specs.Maps.{HasDart, IsSimpleMap, list_of, component_count}
 use Rattle.map_peeling.proofs.Counted.{marks_everywhere}
 use Rattle.simple_maps.specs.Laws.{NoFaultIsSimple}
+use Rattle.pg_plane.specs.declared.figure.BarFigure.{BarFigure}
+use Rattle.bar_check.specs.Laws.{YesIsValid as BarsYesIsValid}
+use Rattle.kuratowski.proofs.VerdictLemmas.{yes_of_witness}
 use Rattle.draw_check.specs.Laws.{YesIsValid}
 use Rattle.figure_text.specs.declared.figure.Figure.{Figure}
-use Rattle.figure_text.specs.declared.figure.Figure.TheVariants.{Grid, Bars}
+use Rattle.figure_text.specs.declared.figure.Figure.TheVariants.{Grid, Bars, Witness as WitnessFigure}
 use Rattle.figure_lines.specs.Given.{IsGiven}
-use Rattle.figure_verdicts.specs.Validity.{IsValidFigure, grid_width, grid_height}
+use Rattle.figure_verdicts.specs.Validity.{IsValidFigure, grid_width, grid_height, bars_width}
 use Rattle.std.specs.Prelude.{ℤ, Option, None, ◌≢◌}
 use Rattle.std.proofs.lemmas.Int.{ints}
 use Rattle.simple_maps.specs.Faults.{Fault}
@@ -22,9 +25,9 @@ use Rattle.figure_verdicts.specs.Verdicts.{IsFirstFault}
 use Rattle.simple_maps.specs.Faults.{first_fault}
 use Rattle.pg_plane.specs.declared.point.Point.{Point}
 use Rattle.figure_text.specs.declared.figure.GridJob.{GridJob}
-use Rattle.figure_verdicts.specs.Verdicts.{IsFigureVerdict, IsDrawnVerdict, IsGridVerdict}
+use Rattle.figure_verdicts.specs.Verdicts.{IsFigureVerdict, IsDrawnVerdict, IsGridVerdict, IsColumnsVerdict, IsBarsVerdict}
 use Rattle.figure_verdicts.specs.declared.verdict.FigureVerdict.{FigureVerdict}
-use Rattle.figure_verdicts.specs.declared.verdict.FigureVerdict.TheVariants.{Refused, Drawing, Inside, Yes}
+use Rattle.figure_verdicts.specs.declared.verdict.FigureVerdict.TheVariants.{Refused, Drawing, Inside, Bars as BarFault, Witness as WitnessFault, Yes}
 
 none_in : (us : List ℕ) (u : ℕ) → us ≡ [] → ¬ Contains us u
 none_in us u e c = let l = c.1 in let n = ap length e in omega arith
@@ -43,7 +46,12 @@ yes_is_valid no_fault is_valid (Grid job lists points) given =
           record { simple = s; valid = (is_valid lists points (grid_width job (length lists)) (grid_height (length lists)) s).0 yes.1.0; outer = yes.1.1 },
       λ v. (simple.1 v.simple, ((is_valid lists points (grid_width job (length lists)) (grid_height (length lists)) v.simple).1 v.valid, v.outer)),
     )
-yes_is_valid no_fault is_valid (Bars lists bars) given = absurd given
+yes_is_valid no_fault is_valid (Bars lists bars) given =
+    let simple = no_fault lists given.some_list in (
+      λ yes. record { simple = simple.0 yes.0; valid = yes.1 },
+      λ v. (simple.1 v.simple, v.valid),
+    )
+yes_is_valid no_fault is_valid (WitnessFigure graph witness) given = (λ yes. yes, λ v. v)
 
 -- a verdict on a drawing of lists without a fault
 pub IsGridVerdict-drawn : (job : GridJob) (lists lists' : Lists) (points points' : List Point) (width height : ℤ) (verdict : FigureVerdict) → lists' ≡ lists → points' ≡ points → width ≡ grid_width job (length lists) → height ≡ grid_height (length lists) → first_fault lists ≡ None → IsDrawnVerdict lists' points' width height verdict → IsGridVerdict job lists points verdict
@@ -53,6 +61,20 @@ IsGridVerdict-drawn job lists lists' points points' width height verdict same_li
     by_case (Refused fault) drawn = absurd drawn
     by_case (Drawing v) drawn = (none, drawn)
     by_case (Inside v u) drawn = (none, drawn)
+    by_case (BarFault v) drawn = absurd drawn
+    by_case (WitnessFault v) drawn = absurd drawn
+    by_case Yes drawn = (none, drawn)
+
+-- a verdict on bars of lists without a fault
+pub IsBarsVerdict-drawn : (lists lists' : Lists) (bars : BarFigure) (width : ℤ) (verdict : FigureVerdict) → lists' ≡ lists → width ≡ bars_width lists' → first_fault lists ≡ None → IsColumnsVerdict lists' bars width verdict → IsBarsVerdict lists bars verdict
+IsBarsVerdict-drawn lists lists' bars width verdict same wide none drawn = by_case verdict (rw (same) at (rw wide at drawn))
+  where
+    by_case : (verdict : FigureVerdict) → IsColumnsVerdict lists bars (bars_width lists) verdict → IsBarsVerdict lists bars verdict
+    by_case (Refused fault) drawn = absurd drawn
+    by_case (Drawing v) drawn = absurd drawn
+    by_case (Inside v u) drawn = absurd drawn
+    by_case (BarFault v) drawn = (none, drawn)
+    by_case (WitnessFault v) drawn = absurd drawn
     by_case Yes drawn = (none, drawn)
 
 -- a drawing that has a fault is not without one
@@ -71,16 +93,31 @@ no_first found (Repeated v u) none is = cc
 no_first found (OneSided v u) none is = cc
 no_first found NoMemory none is = is
 
-pub valid_is_yes : NoFaultIsSimple → YesIsValid → (figure : Figure) (verdict : FigureVerdict) → IsGiven figure → IsFigureVerdict figure verdict → IsValidFigure figure → verdict ≡ Yes
-valid_is_yes no_fault is_valid (Grid job lists points) (Refused fault) given is valid = absurd (no_first (first_fault lists) fault ((no_fault lists given.some_list).1 valid.simple) is)
-valid_is_yes no_fault is_valid (Grid job lists points) (Drawing verdict) given is valid =
+pub valid_is_yes : NoFaultIsSimple → YesIsValid → BarsYesIsValid → (figure : Figure) (verdict : FigureVerdict) → IsGiven figure → IsFigureVerdict figure verdict → IsValidFigure figure → verdict ≡ Yes
+valid_is_yes no_fault is_valid bars_valid (Grid job lists points) (Refused fault) given is valid = absurd (no_first (first_fault lists) fault ((no_fault lists given.some_list).1 valid.simple) is)
+valid_is_yes no_fault is_valid bars_valid (Grid job lists points) (Drawing verdict) given is valid =
     let width = grid_width job (length lists) in
     let height = grid_height (length lists) in
     absurd (no_other lists points width height verdict is.1.0 ((is_valid lists points width height valid.simple).1 valid.valid) is.1.1)
-valid_is_yes no_fault is_valid (Grid job lists points) (Inside v u) given is valid =
+valid_is_yes no_fault is_valid bars_valid (Grid job lists points) (Inside v u) given is valid =
     let inside = is.1.2.rest.here in
     let sum = inside.sum in
     let positive = valid.outer is.1.1 v.0 u.0 inside.dart inside.other in
     absurd (omega (arith, ints, sum, positive))
-valid_is_yes no_fault is_valid (Grid job lists points) Yes given is valid = refl
-valid_is_yes no_fault is_valid (Bars lists bars) verdict given is valid = absurd valid
+valid_is_yes no_fault is_valid bars_valid (Grid job lists points) Yes given is valid = refl
+valid_is_yes no_fault is_valid bars_valid (Grid job lists points) (BarFault verdict) given is valid = absurd is
+valid_is_yes no_fault is_valid bars_valid (Grid job lists points) (WitnessFault verdict) given is valid = absurd is
+valid_is_yes no_fault is_valid bars_valid (Bars lists bars) (Refused fault) given is valid = absurd (no_first (first_fault lists) fault ((no_fault lists given.some_list).1 valid.simple) is)
+valid_is_yes no_fault is_valid bars_valid (Bars lists bars) (Drawing verdict) given is valid = absurd is
+valid_is_yes no_fault is_valid bars_valid (Bars lists bars) (Inside v u) given is valid = absurd is
+valid_is_yes no_fault is_valid bars_valid (Bars lists bars) (BarFault verdict) given is valid =
+    absurd (is.1.1 ((bars_valid lists bars (bars_width lists) verdict is.1.0).1 valid.valid))
+valid_is_yes no_fault is_valid bars_valid (Bars lists bars) (WitnessFault verdict) given is valid = absurd is
+valid_is_yes no_fault is_valid bars_valid (Bars lists bars) Yes given is valid = refl
+valid_is_yes no_fault is_valid bars_valid (WitnessFigure graph witness) (Refused fault) given is valid = absurd is
+valid_is_yes no_fault is_valid bars_valid (WitnessFigure graph witness) (Drawing verdict) given is valid = absurd is
+valid_is_yes no_fault is_valid bars_valid (WitnessFigure graph witness) (Inside v u) given is valid = absurd is
+valid_is_yes no_fault is_valid bars_valid (WitnessFigure graph witness) (BarFault verdict) given is valid = absurd is
+valid_is_yes no_fault is_valid bars_valid (WitnessFigure graph witness) (WitnessFault verdict) given is valid =
+    absurd (is.1 (yes_of_witness graph witness.kind witness.branch witness.paths verdict is.0 valid))
+valid_is_yes no_fault is_valid bars_valid (WitnessFigure graph witness) Yes given is valid = refl

@@ -10,9 +10,10 @@ mod verdict;
 pub use judge::figure_verdict;
 pub use verdict::FigureVerdict;
 
-/// The verdict is `Yes` exactly where the lists of the figure are a simple map, all points lie in the grid, the
-/// drawing is plane and keeps the rotations, and for a connected map the face of the first vertex's first dart
-/// is the outer one.
+/// The verdict is `Yes` exactly where the lists of the figure are a simple map, and: of a straight-line drawing
+/// all points lie in the grid, the drawing is plane and keeps the rotations, and for a connected map the face of
+/// the first vertex's first dart is the outer one; bars are valid within the width f - 1. Of a witness it is `Yes`
+/// exactly where it is one of its graph.
 pub fn yes_is_valid_figure()
     ensures { YesIsValidFigure }
 {
@@ -26,4 +27,5 @@ pub fn valid_is_yes()
 {
     simple_maps::no_fault_is_simple();
     draw_check::yes_is_valid();
+    bar_check::yes_is_valid();
 }

@@ -1,18 +1,24 @@
 //! What is answered to a figure.
 
+use bar_check::BarVerdict;
 use draw_check::Verdict;
 use half_edges::{MapFault, VertexId};
+use kuratowski::WitnessVerdict;
 
 /// The verdict on a figure.
 #[derive(Clone, Copy, Debug, PartialEq, Eq)]
 pub enum FigureVerdict {
     /// Its lists are no simple map, and this is their first fault, which is not want of memory.
     Refused(MapFault),
-    /// The drawing has this fault first, which is not `Yes`.
+    /// The straight-line drawing has this fault first, which is not `Yes`.
     Drawing(Verdict),
     /// The drawing has no fault, but the map is connected, and this is the least dart, by its tail and then by
     /// its head, whose face is not that of the first vertex's first dart and has an area that is not positive.
     Inside(VertexId, VertexId),
+    /// The visibility drawing has this fault first, which is not `Yes`.
+    Bars(BarVerdict),
+    /// The witness has this fault first, which is not `Yes`.
+    Witness(WitnessVerdict),
     /// The figure is valid.
     Yes,
 }

@@ -10,7 +10,7 @@ use std::test::Fail;
 const TRIANGLE: &str =
     "figure 1 shift 3\n1 at 2 0: 2 3\n2 at 0 0: 3 1\n3 at 1 1: 1 2\nend records 1 refused 0\n";
 
-const ROWS: [(&str, &str, &str, u8); 22] = [
+const ROWS: [(&str, &str, &str, u8); 21] = [
     ("nothing", "", "end records 0 refused 0\n", 0),
     (
         "what shift wrote",
@@ -127,35 +127,226 @@ const ROWS: [(&str, &str, &str, u8); 22] = [
         "verdict 1 OutOfGrid 1\nstop BadLine 3\n",
         3,
     ),
+];
+
+const BARS: [(&str, &str, &str, u8); 17] = [
     (
-        "bars, which are not judged yet",
-        "figure 1 bars 4096\n",
+        "a triangle as bars",
+        "figure 1 bars 3\n1 y 0 x 0 1: 2 3\n2 y 2 x 0 1: 3 1\n3 y 1 x 1 1: 1 2\ncolumns 0 1 1\n",
+        "verdict 1 yes\nend records 1 refused 0\n",
+        0,
+    ),
+    (
+        "a K4 as bars, and a vertex alone behind it",
+        "figure 4 bars 4\n1 y 0 x 0 3: 2 3 4\n2 y 3 x 0 3: 1 4 3\n3 y 1 x 1 2: 1 2 4\n4 y 2 x 2 3: 1 3 2\ncolumns 0 1 3 1 3 2\nfigure 1 bars 1\n1 y 0 x 0 0:\ncolumns\n",
+        "verdict 1 yes\nverdict 2 yes\nend records 2 refused 0\n",
+        0,
+    ),
+    (
+        "too few columns, and a grid figure behind them",
+        "figure 1 bars 3\n1 y 0 x 0 1: 2 3\n2 y 2 x 0 1: 3 1\n3 y 1 x 1 1: 1 2\ncolumns 0 1\nfigure 1 shift 3\n1 at 2 0: 2 3\n2 at 0 0: 3 1\n3 at 1 1: 1 2\n",
+        "verdict 1 BadShape\nverdict 2 yes\nend records 2 refused 1\n",
+        1,
+    ),
+    (
+        "two bars of one height",
+        "figure 1 bars 3\n1 y 0 x 0 1: 2 3\n2 y 2 x 0 1: 3 1\n3 y 2 x 1 1: 1 2\ncolumns 0 1 1\n",
+        "verdict 1 BadHeight 3\nend records 1 refused 1\n",
+        1,
+    ),
+    (
+        "a bar wider than there are faces besides one",
+        "figure 1 bars 3\n1 y 0 x 0 1: 2 3\n2 y 2 x 0 1: 3 1\n3 y 1 x 1 2: 1 2\ncolumns 0 1 1\n",
+        "verdict 1 BadBar 3\nend records 1 refused 1\n",
+        1,
+    ),
+    (
+        "a column beside a bar",
+        "figure 1 bars 3\n1 y 0 x 0 1: 2 3\n2 y 2 x 0 1: 3 1\n3 y 1 x 1 1: 1 2\ncolumns 0 1 0\n",
+        "verdict 1 BadColumn 2 3\nend records 1 refused 1\n",
+        1,
+    ),
+    (
+        "an edge through a bar",
+        "figure 1 bars 3\n1 y 0 x 0 1: 2 3\n2 y 2 x 0 1: 3 1\n3 y 1 x 1 1: 1 2\ncolumns 1 1 1\n",
+        "verdict 1 Through 1 2 3\nend records 1 refused 1\n",
+        1,
+    ),
+    (
+        "bars seen from behind",
+        "figure 1 bars 4\n1 y 0 x 0 3: 2 3 4\n2 y 3 x 0 3: 1 4 3\n3 y 1 x 1 2: 1 2 4\n4 y 2 x 0 1: 1 3 2\ncolumns 3 2 0 2 0 1\n",
+        "verdict 1 Turned 1\nend records 1 refused 1\n",
+        1,
+    ),
+    (
+        "bars of no simple map",
+        "figure 1 bars 2\n1 y 0 x 0 0: 2\n2 y 1 x 0 0:\ncolumns 0\n",
+        "refused 1 4 OneSided 1 2\nend records 1 refused 1\n",
+        1,
+    ),
+    (
+        "no columns",
+        "figure 1 bars 3\n1 y 0 x 0 1: 2 3\n2 y 2 x 0 1: 3 1\n3 y 1 x 1 1: 1 2\n",
+        "stop EndInFigure 1\n",
+        3,
+    ),
+    (
+        "another figure in place of the columns",
+        "figure 1 bars 3\n1 y 0 x 0 1: 2 3\n2 y 2 x 0 1: 3 1\n3 y 1 x 1 1: 1 2\nfigure 1 bars 3\n",
+        "stop BadLine 5\n",
+        3,
+    ),
+    (
+        "a column that is no number",
+        "figure 1 bars 3\n1 y 0 x 0 1: 2 3\n2 y 2 x 0 1: 3 1\n3 y 1 x 1 1: 1 2\ncolumns 0 x 1\n",
+        "stop BadLine 5\n",
+        3,
+    ),
+    (
+        "a far column",
+        "figure 1 bars 3\n1 y 0 x 0 1: 2 3\n2 y 2 x 0 1: 3 1\n3 y 1 x 1 1: 1 2\ncolumns 0 1 1048577\n",
+        "stop Limit 5\n",
+        3,
+    ),
+    (
+        "a far height",
+        "figure 1 bars 3\n1 y -1048577 x 0 1: 2 3\n",
+        "stop Limit 2\n",
+        3,
+    ),
+    (
+        "a row of a grid among bars",
+        "figure 1 bars 3\n1 at 0 0: 2 3\n",
+        "stop BadLine 2\n",
+        3,
+    ),
+    ("too many bars", "figure 1 bars 4096\n", "stop Limit 1\n", 3),
+    (
+        "a figure of another job",
+        "figure 1 trees 3\n",
         "stop BadLine 1\n",
         3,
     ),
 ];
 
+const WITNESSES: [(&str, &str, &str, u8); 13] = [
+    (
+        "a witness of K5, and one of K3,3 behind it",
+        "figure 1 witness K5 D~{\nbranch 1 2 3 4 5\npath 1 2\npath 1 3\npath 1 4\npath 1 5\npath 2 3\npath 2 4\npath 2 5\npath 3 4\npath 3 5\npath 4 5\nfigure 1 witness K33 EFz_\nbranch 1 2 3 4 5 6\npath 1 4\npath 1 5\npath 1 6\npath 2 4\npath 2 5\npath 2 6\npath 3 4\npath 3 5\npath 3 6\n",
+        "verdict 1 yes\nverdict 2 yes\nend records 2 refused 0\n",
+        0,
+    ),
+    (
+        "a path through a branch, and a vertex alone behind it",
+        "figure 1 witness K5 D~{\nbranch 1 2 3 4 5\npath 1 3 2\npath 1 3\npath 1 4\npath 1 5\npath 2 3\npath 2 4\npath 2 5\npath 3 4\npath 3 5\npath 4 5\nfigure 1 bars 1\n1 y 0 x 0 0:\ncolumns\n",
+        "verdict 1 Shared 1 1 3\nverdict 2 yes\nend records 2 refused 1\n",
+        1,
+    ),
+    (
+        "a path turned round",
+        "figure 1 witness K5 D~{\nbranch 1 2 3 4 5\npath 2 1\npath 1 3\npath 1 4\npath 1 5\npath 2 3\npath 2 4\npath 2 5\npath 3 4\npath 3 5\npath 4 5\n",
+        "verdict 1 BadShape\nend records 1 refused 1\n",
+        1,
+    ),
+    (
+        "a branch twice",
+        "figure 1 witness K5 D~{\nbranch 1 2 3 4 4\npath 1 2\npath 1 3\npath 1 4\npath 1 4\npath 2 3\npath 2 4\npath 2 4\npath 3 4\npath 3 4\npath 4 4\n",
+        "verdict 1 BadBranch 5\nend records 1 refused 1\n",
+        1,
+    ),
+    (
+        "a path off the graph",
+        "figure 1 witness K5 D~{\nbranch 1 2 3 4 5\npath 1 6 2\npath 1 3\npath 1 4\npath 1 5\npath 2 3\npath 2 4\npath 2 5\npath 3 4\npath 3 5\npath 4 5\n",
+        "verdict 1 NotEdge 1 1\nend records 1 refused 1\n",
+        1,
+    ),
+    (
+        "a path too few",
+        "figure 1 witness K5 D~{\nbranch 1 2 3 4 5\npath 1 2\npath 1 3\npath 1 4\npath 1 5\npath 2 3\npath 2 4\npath 2 5\npath 3 4\npath 3 5\n",
+        "stop EndInFigure 1\n",
+        3,
+    ),
+    (
+        "a path too many",
+        "figure 1 witness K5 D~{\nbranch 1 2 3 4 5\npath 1 2\npath 1 3\npath 1 4\npath 1 5\npath 2 3\npath 2 4\npath 2 5\npath 3 4\npath 3 5\npath 4 5\npath 1 2\n",
+        "verdict 1 yes\nstop BadLine 13\n",
+        3,
+    ),
+    (
+        "a branch too few",
+        "figure 1 witness K5 D~{\nbranch 1 2 3 4\n",
+        "stop BadLine 2\n",
+        3,
+    ),
+    (
+        "a path of no vertex",
+        "figure 1 witness K5 D~{\nbranch 1 2 3 4 5\npath\n",
+        "stop BadLine 3\n",
+        3,
+    ),
+    (
+        "a path with a vertex 0",
+        "figure 1 witness K5 D~{\nbranch 1 2 3 4 5\npath 0 2\n",
+        "stop Limit 3\n",
+        3,
+    ),
+    (
+        "a witness of another graph",
+        "figure 1 witness K4 D~{\n",
+        "stop BadLine 1\n",
+        3,
+    ),
+    (
+        "a graph of too few bytes",
+        "figure 1 witness K5 D~\n",
+        "stop BadLine 1\n",
+        3,
+    ),
+    (
+        "a graph of 256 vertices",
+        "figure 1 witness K5 ~?C?\n",
+        "stop Limit 1\n",
+        3,
+    ),
+];
+
 // Runs each row over a source that gives `most` bytes at a time.
-fn has_each_verdict(rt: &impl Abort, alloc: Global, most: usize) -> Result<(), Fail>
+fn has_each_verdict(
+    rt: &impl Abort,
+    alloc: Global,
+    rows: &[(&str, &str, &str, u8)],
+    most: usize,
+) -> Result<(), Fail>
     requires { 0 < most }
 {
-    for (name, input, text, status) in ROWS {
+    for (name, input, text, status) in rows {
         let mut source = SureSource::new(Vec::from_slice(alloc, input.as_bytes())?, most);
         let ran = run_over(alloc, &["verify"], &mut source, 64, &[])?;
         assert_eq!(rt; ran.text.as_slice(), text.as_bytes(), "the text of {name}");
-        assert_eq!(rt; ran.status, status, "the status of {name}");
+        assert_eq!(rt; ran.status, *status, "the status of {name}");
     }
     Ok(())
 }
 
 #[test]
 fn each_figure_has_its_verdict(rt: HostRuntime) -> Result<(), Fail> {
-    has_each_verdict(&rt, rt.alloc(), 64)
+    has_each_verdict(&rt, rt.alloc(), &ROWS, 64)
+}
+
+#[test]
+fn bars_have_theirs(rt: HostRuntime) -> Result<(), Fail> {
+    has_each_verdict(&rt, rt.alloc(), &BARS, 64)
+}
+
+#[test]
+fn witnesses_have_theirs(rt: HostRuntime) -> Result<(), Fail> {
+    has_each_verdict(&rt, rt.alloc(), &WITNESSES, 7)
 }
 
 #[test]
 fn byte_by_byte_too(rt: HostRuntime) -> Result<(), Fail> {
-    has_each_verdict(&rt, rt.alloc(), 1)
+    has_each_verdict(&rt, rt.alloc(), &ROWS, 1)?;
+    has_each_verdict(&rt, rt.alloc(), &BARS, 1)
 }
 
 #[test]

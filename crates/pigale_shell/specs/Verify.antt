@@ -1,6 +1,10 @@
 -- The job `verify`: what it writes for a figure, and at the end.
 use Rattle.std.specs.Prelude.{ℕ, ◌+◌, ◌≡◌, ◌↔◌, IsTrue, List, [], ◌∷◌, ◌++◌, flat_map, codes, decimal}
 use Rattle.record_runs.specs.Texts.{Answers}
+use Rattle.bar_check.specs.declared.verdict.BarVerdict.{BarVerdict}
+use Rattle.bar_check.specs.declared.verdict.BarVerdict.TheVariants.{BadShape, BadHeight, BadBar, BadColumn, Through, Overlap, Turned as TurnedBars, Yes as NoBarFault}
+use Rattle.kuratowski.specs.declared.check.WitnessVerdict.{WitnessVerdict}
+use Rattle.kuratowski.specs.declared.check.WitnessVerdict.TheVariants.{BadShape as NoShape, BadBranch, NotEdge, Shared, Yes as NoWitnessFault}
 use Rattle.draw_check.specs.declared.verdict.Verdict.{Verdict}
 use Rattle.draw_check.specs.declared.verdict.Verdict.TheVariants.{OutOfGrid, SamePlace, OnEdge, Cross, Turned, Yes as NoFault}
 use Rattle.figure_text.specs.declared.figure.Figure.{Figure}
@@ -9,7 +13,7 @@ use Rattle.figure_lines.specs.declared.ending.Ending.TheVariants.{Well, BadLine,
 use Rattle.figure_verdicts.specs.Validity.{IsValidFigure}
 use Rattle.figure_verdicts.specs.Verdicts.{IsFigureVerdict}
 use Rattle.figure_verdicts.specs.declared.verdict.FigureVerdict.{FigureVerdict}
-use Rattle.figure_verdicts.specs.declared.verdict.FigureVerdict.TheVariants.{Refused, Drawing, Inside, Yes}
+use Rattle.figure_verdicts.specs.declared.verdict.FigureVerdict.TheVariants.{Refused, Drawing, Inside, Bars, Witness, Yes}
 use Rattle.pigale_shell.specs.Text.{word_and_number, line, end_line}
 use Rattle.pigale_shell.specs.Lines.{WritesFault}
 
@@ -21,7 +25,7 @@ numbers vs = flat_map (λ v. 32 ∷ decimal (v + 1)) vs
 unfoldable pub verdict_line : ℕ → List ℕ → List ℕ → List ℕ
 verdict_line k name vs = line ((word_and_number (codes "verdict") k ++ 32 ∷ name) ++ numbers vs)
 
--- the name of a fault of a drawing, and its vertices; of an edge the lesser end comes first
+-- the name of a fault of a straight-line drawing, and its vertices; of an edge the lesser end comes first
 abbrev pub verdict_name : Verdict → List ℕ
 verdict_name (OutOfGrid v) = codes "OutOfGrid"
 verdict_name (SamePlace u v) = codes "SamePlace"
@@ -38,11 +42,56 @@ verdict_vertices (Cross e f) = e.a.0 ∷ e.b.0 ∷ f.a.0 ∷ f.b.0 ∷ []
 verdict_vertices (Turned v) = v.0 ∷ []
 verdict_vertices NoFault = []
 
+-- the same of bars
+abbrev pub bars_name : BarVerdict → List ℕ
+bars_name BadShape = codes "BadShape"
+bars_name (BadHeight v) = codes "BadHeight"
+bars_name (BadBar v) = codes "BadBar"
+bars_name (BadColumn e) = codes "BadColumn"
+bars_name (Through e v) = codes "Through"
+bars_name (Overlap e f) = codes "Overlap"
+bars_name (TurnedBars v) = codes "Turned"
+bars_name NoBarFault = codes "yes"
+
+abbrev pub bars_vertices : BarVerdict → List ℕ
+bars_vertices BadShape = []
+bars_vertices (BadHeight v) = v.0 ∷ []
+bars_vertices (BadBar v) = v.0 ∷ []
+bars_vertices (BadColumn e) = e.a.0 ∷ e.b.0 ∷ []
+bars_vertices (Through e v) = e.a.0 ∷ e.b.0 ∷ v.0 ∷ []
+bars_vertices (Overlap e f) = e.a.0 ∷ e.b.0 ∷ f.a.0 ∷ f.b.0 ∷ []
+bars_vertices (TurnedBars v) = v.0 ∷ []
+bars_vertices NoBarFault = []
+
+-- the line of a verdict by its name and numbers, each after a space
+abbrev pub spaced : List ℕ → List ℕ
+spaced ns = flat_map (λ n. 32 ∷ decimal n) ns
+
+unfoldable pub numbers_line : ℕ → List ℕ → List ℕ → List ℕ
+numbers_line k name ns = line ((word_and_number (codes "verdict") k ++ 32 ∷ name) ++ spaced ns)
+
+-- the name of a fault of a witness, and its numbers, all from 1
+abbrev pub witness_name : WitnessVerdict → List ℕ
+witness_name NoShape = codes "BadShape"
+witness_name (BadBranch i) = codes "BadBranch"
+witness_name (NotEdge p i) = codes "NotEdge"
+witness_name (Shared p q v) = codes "Shared"
+witness_name NoWitnessFault = codes "yes"
+
+abbrev pub witness_numbers : WitnessVerdict → List ℕ
+witness_numbers NoShape = []
+witness_numbers (BadBranch i) = i ∷ []
+witness_numbers (NotEdge p i) = p ∷ i ∷ []
+witness_numbers (Shared p q v) = p ∷ q ∷ (v.0 + 1) ∷ []
+witness_numbers NoWitnessFault = []
+
 -- the text is the line of a verdict on figure k
 abbrev pub WritesVerdict : ℕ → FigureVerdict → List ℕ → Type 0
 WritesVerdict k (Refused fault) text = WritesFault k fault text
 WritesVerdict k (Drawing verdict) text = text ≡ verdict_line k (verdict_name verdict) (verdict_vertices verdict)
 WritesVerdict k (Inside v u) text = text ≡ verdict_line k (codes "Inside") (v.0 ∷ u.0 ∷ [])
+WritesVerdict k (Bars verdict) text = text ≡ verdict_line k (bars_name verdict) (bars_vertices verdict)
+WritesVerdict k (Witness verdict) text = text ≡ numbers_line k (witness_name verdict) (witness_numbers verdict)
 WritesVerdict k Yes text = text ≡ verdict_line k (codes "yes") []
 
 -- what `verify` writes for figure k: the line of its verdict

@@ -3,13 +3,15 @@ ghost use Rattle.std.specs.Prelude.{◌≡◌, ◌↔◌, ◌++◌, ◌∷◌, �
 ghost use Rattle.figure_lines.specs.Given.{IsGiven as IsGivenFigure};
 ghost use Rattle.figure_verdicts.specs.Validity.{IsValidFigure};
 ghost use Rattle.figure_verdicts.specs.declared.verdict.FigureVerdict.TheVariants.{Yes as IsYes};
-ghost use Rattle.pigale_shell.specs.Verify.{numbers, verdict_line as verdict_line_of, verdict_name, verdict_vertices, WritesVerdict, IsVerifyBlock, verify_last_line as last_line_of};
+ghost use Rattle.pigale_shell.specs.Verify.{numbers, verdict_line as verdict_line_of, verdict_name, verdict_vertices, bars_name, bars_vertices, spaced, numbers_line as numbers_line_of, witness_name, witness_numbers, WritesVerdict, IsVerifyBlock, verify_last_line as last_line_of};
 
 use super::lines::{end_line, push_number, refusal_line, stop_line};
+use bar_check::BarVerdict;
 use draw_check::Verdict;
 use figure_lines::{Ending, FigureReader};
 use figure_text::Figure;
 use figure_verdicts::{FigureVerdict, figure_verdict};
+use kuratowski::WitnessVerdict;
 use record_runs::{Format, Job as RecordJob, Taken};
 use std::alloc::{AllocError, Global};
 
@@ -19,6 +21,16 @@ fn push_numbers(out: &mut Vec<u8>, vertices: &[u16]) -> Result<(), AllocError>
 {
     for v in vertices {
         push_number(out, u64::from(*v) + 1)?;
+    }
+    Ok(())
+}
+
+// Appends numbers, each after a space.
+fn push_places(out: &mut Vec<u8>, found: &[usize]) -> Result<(), AllocError>
+    ensures { OnOk result (out.new.items ≡ out.old.items ++ spaced found.now) }
+{
+    for n in found {
+        push_number(out, *n as u64)?;
     }
     Ok(())
 }
@@ -41,7 +53,7 @@ fn verdict_line(
     Ok(line)
 }
 
-// The line of a fault of a drawing.
+// The line of a fault of a straight-line drawing.
 fn fault_line(alloc: Global, number: u32, verdict: Verdict) -> Result<Vec<u8>, AllocError>
     ensures { IfOk result (λ line. line.items ≡ verdict_line_of number (verdict_name verdict) (verdict_vertices verdict)) }
 {
@@ -60,6 +72,63 @@ fn fault_line(alloc: Global, number: u32, verdict: Verdict) -> Result<Vec<u8>, A
     }
 }
 
+// The line of a fault of bars.
+fn bars_line(alloc: Global, number: u32, verdict: BarVerdict) -> Result<Vec<u8>, AllocError>
+    ensures { IfOk result (λ line. line.items ≡ verdict_line_of number (bars_name verdict) (bars_vertices verdict)) }
+{
+    match verdict {
+        BarVerdict::BadShape => verdict_line(alloc, number, b"BadShape", &[]),
+        BarVerdict::BadHeight(v) => verdict_line(alloc, number, b"BadHeight", &[v.0]),
+        BarVerdict::BadBar(v) => verdict_line(alloc, number, b"BadBar", &[v.0]),
+        BarVerdict::BadColumn(e) => verdict_line(alloc, number, b"BadColumn", &[e.a.0, e.b.0]),
+        BarVerdict::Through(e, v) => verdict_line(alloc, number, b"Through", &[e.a.0, e.b.0, v.0]),
+        BarVerdict::Overlap(e, f) => verdict_line(
+            alloc,
+            number,
+            b"Overlap",
+            &[e.a.0, e.b.0, f.a.0, f.b.0],
+        ),
+        BarVerdict::Turned(v) => verdict_line(alloc, number, b"Turned", &[v.0]),
+        BarVerdict::Yes => verdict_line(alloc, number, b"yes", &[]),
+    }
+}
+
+// The line of a verdict by its name and numbers.
+fn numbers_line(
+    alloc: Global,
+    number: u32,
+    name: &[u8],
+    found: &[usize],
+) -> Result<Vec<u8>, AllocError>
+    ensures { IfOk result (λ line. line.items ≡ numbers_line_of number name.now found.now) }
+{
+    let mut line = Vec::from_slice(alloc, b"verdict")?;
+    push_number(&mut line, u64::from(number))?;
+    line.push(b' ')?;
+    line.extend_from_slice(name)?;
+    push_places(&mut line, found)?;
+    line.push(b'\n')?;
+    Ok(line)
+}
+
+// The line of a fault of a witness.
+fn witness_line(alloc: Global, number: u32, verdict: WitnessVerdict) -> Result<Vec<u8>, AllocError>
+    ensures { IfOk result (λ line. line.items ≡ numbers_line_of number (witness_name verdict) (witness_numbers verdict)) }
+{
+    match verdict {
+        WitnessVerdict::BadShape => numbers_line(alloc, number, b"BadShape", &[]),
+        WitnessVerdict::BadBranch(i) => numbers_line(alloc, number, b"BadBranch", &[i]),
+        WitnessVerdict::NotEdge(p, i) => numbers_line(alloc, number, b"NotEdge", &[p, i]),
+        WitnessVerdict::Shared(p, q, v) => numbers_line(
+            alloc,
+            number,
+            b"Shared",
+            &[p, q, v.0 as usize + 1],
+        ),
+        WitnessVerdict::Yes => numbers_line(alloc, number, b"yes", &[]),
+    }
+}
+
 // The line of a verdict.
 fn figure_line(alloc: Global, number: u32, verdict: FigureVerdict) -> Result<Vec<u8>, AllocError>
     ensures { IfOk result (λ line. WritesVerdict number verdict line.items) }
@@ -68,6 +137,8 @@ fn figure_line(alloc: Global, number: u32, verdict: FigureVerdict) -> Result<Vec
         FigureVerdict::Refused(fault) => refusal_line(alloc, number, fault),
         FigureVerdict::Drawing(verdict) => fault_line(alloc, number, verdict),
         FigureVerdict::Inside(v, u) => verdict_line(alloc, number, b"Inside", &[v.0, u.0]),
+        FigureVerdict::Bars(verdict) => bars_line(alloc, number, verdict),
+        FigureVerdict::Witness(verdict) => witness_line(alloc, number, verdict),
         FigureVerdict::Yes => verdict_line(alloc, number, b"yes", &[]),
     }
 }

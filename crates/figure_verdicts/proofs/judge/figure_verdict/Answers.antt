@@ -1,5 +1,5 @@
--- A straight-line drawing is all that is given.
+-- By the kind of the figure.
 use Rattle.figure_verdicts.proofs.judge.figure_verdict.Goals as goal
 
-pub returns : goal.returns
-returns c = rw c.in-Grid.is c.grid_verdict.ensures
+pub returns-in-Grid : goal.returns-in-Grid
+returns-in-Grid c = rw c.in-Grid.is c.grid_verdict.ensures

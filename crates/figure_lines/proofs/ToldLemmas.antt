@@ -1,0 +1,189 @@
+-- Of each line it can be told whether it has the shape that is due, and whether its numbers are within their ranges.
+use Rattle.std.proofs.Common.{◌≡◌, ℕ, ◌≤◌, List, [], ◌∷◌, length, drop, get_or, refl, sym, ap, ◌∙◌, arith, Bool, true, false, inl, inr}
+use Rattle.std.proofs.lemmas.Bool.{cases_lt, cases_eq}
+use Rattle.std.proofs.lemmas.List.Elements.{All-nil, All-cons, All-head, All-tail}
+use Rattle.std.specs.Prelude.{◌⊎◌, All, IsTrue, Option, Some, None, Result, Ok, Err, position}
+use Rattle.graph6_text.specs.Graphs.{EdgeGraph}
+use Rattle.graph6_text.specs.Lines.{IsLine as IsGraphLine, edges_of}
+use Rattle.graph6_text.specs.Faults.{is_bad_byte, line_start, rest_fault, fault_from, line_fault}
+use Rattle.graph6_text.specs.declared.line.G6Fault.{G6Fault}
+use Rattle.graph6_text.proofs.LineLemmas.{body_of}
+use Rattle.figure_text.specs.declared.judge.Kind.{Kind}
+use Rattle.figure_text.specs.declared.judge.Kind.TheVariants.{Grid, Bars, Witness}
+use Rattle.figure_text.specs.declared.words.Word.{Word}
+use Rattle.figure_text.specs.declared.words.Word.TheVariants.{Number, Closing, Named, Other}
+use Rattle.figure_text.specs.declared.words.Name.{Name}
+use Rattle.figure_text.specs.declared.words.Name.TheVariants as name
+use Rattle.figure_text.specs.Words.{words_of, word_at, part_at}
+use Rattle.figure_text.specs.Lines.{size, is_natural, is_number, is_closing, is_graph_shaped, kind_of, row_name, is_row_length, IsTail, TailInRange, IsInside, IsVertex, IsPlaced, IsFirstLine, FirstInRange, IsGridHead, IsBarHead, IsColumnsLine, ColumnsInRange}
+use Rattle.figure_text.specs.Reading.{IsRow, RowInRange}
+
+-- it can be told whether this holds
+abbrev pub Told : Type 0 → Type 0
+Told P = P ⊎ (¬ P)
+
+told-by : {P Q : Type 0} → (P → Q) → (Q → P) → Told P → Told Q
+told-by to from (inl p) = inl (to p)
+told-by to from (inr not) = inr (λ q. not (from q))
+
+told-both : {P Q : Type 0} → Told P → Told Q → Told (P × Q)
+told-both (inl p) (inl q) = inl (p, q)
+told-both (inl p) (inr not) = inr (λ b. not b.1)
+told-both (inr not) q = inr (λ b. not b.0)
+
+told-true : (b : Bool) → Told (IsTrue b)
+told-true true = inl refl
+told-true false = inr (λ e. absurd (cc))
+
+told-equal : (a b : ℕ) → Told (a ≡ b)
+told-equal a b = elim (cases_eq a b) [ inl same ↦ inl same | inr other ↦ inr other ]
+
+told-most : (a b : ℕ) → Told (a ≤ b)
+told-most a b = elim (cases_lt b a) [ inl more ↦ inr (λ le. absurd (omega arith)) | inr le ↦ inl le ]
+
+told-all : {X : Type 0} (P : X → Type 0) → ((x : X) → Told (P x)) → (xs : List X) → Told (All P xs)
+told-all P told [] = inl (All-nil P)
+told-all P told (x ∷ xs) = told-by (λ p. All-cons P x xs p.0 p.1) (λ all. (All-head P x xs all, All-tail P x xs all)) (told-both (told x) (told-all P told xs))
+
+-- names by their numbers
+number_of : Name → ℕ
+number_of name.Figure = 0
+number_of name.Shift = 1
+number_of name.Schnyder = 2
+number_of name.Bars = 3
+number_of name.At = 4
+number_of name.Y = 5
+number_of name.X = 6
+number_of name.Columns = 7
+number_of name.Witness = 8
+number_of name.K5 = 9
+number_of name.K33 = 10
+number_of name.Branch = 11
+number_of name.Path = 12
+
+name_of : ℕ → Name
+name_of k = get_or (name.Figure ∷ name.Shift ∷ name.Schnyder ∷ name.Bars ∷ name.At ∷ name.Y ∷ name.X ∷ name.Columns ∷ name.Witness ∷ name.K5 ∷ name.K33 ∷ name.Branch ∷ name.Path ∷ []) k name.Figure
+
+name-again : (n : Name) → name_of (number_of n) ≡ n
+unfolding name_of number_of
+name-again name.Figure = refl
+name-again name.Shift = refl
+name-again name.Schnyder = refl
+name-again name.Bars = refl
+name-again name.At = refl
+name-again name.Y = refl
+name-again name.X = refl
+name-again name.Columns = refl
+name-again name.Witness = refl
+name-again name.K5 = refl
+name-again name.K33 = refl
+name-again name.Branch = refl
+name-again name.Path = refl
+
+told-name : (n m : Name) → Told (n ≡ m)
+told-name n m = told-by (λ e. sym (name-again n) ∙ ap name_of e ∙ name-again m) (λ e. ap number_of e) (told-equal (number_of n) (number_of m))
+
+told-named : (w : Word) (n : Name) → Told (w ≡ Named n)
+told-named (Number z) n = inr (λ e. absurd (cc))
+told-named (Closing z) n = inr (λ e. absurd (cc))
+told-named (Named m) n = told-by (λ e. ap (λ (x : Name). Named x) e) (λ e. cc) (told-name m n)
+told-named Other n = inr (λ e. absurd (cc))
+
+told-vertex : (w : Word) → Told (IsVertex w)
+told-vertex w = told-both (told-most 1 (size w)) (told-most (size w) 65535)
+
+told-inside : (w : Word) → Told (IsInside w)
+told-inside w = told-most (size w) 1048576
+
+told-naturals : (words : List Word) → Told (All (λ w. IsTrue (is_natural w)) words)
+told-naturals = told-all (λ w. IsTrue (is_natural w)) (λ w. told-true (is_natural w))
+
+told-vertices : (words : List Word) → Told (All (λ w. IsVertex w) words)
+told-vertices = told-all (λ w. IsVertex w) told-vertex
+
+told-placed : (words : List Word) (place : ℕ) → Told (IsPlaced words place)
+told-placed words place = told-by (λ p. record { natural = p.0; here = p.1 }) (λ r. (r.natural, r.here)) (told-both (told-true (is_natural (word_at words 0))) (told-equal (size (word_at words 0)) place))
+
+told-grid_head : (place : ℕ) (words : List Word) → Told (IsGridHead place words)
+told-grid_head place words =
+    told-by (λ p. record { placed = p.0; at = p.1.0; x = p.1.1.0; y = p.1.1.1 }) (λ r. (r.placed, (r.at, (r.x, r.y))))
+    (told-both (told-placed words place) (told-both (told-named (word_at words 1) name.At) (told-both (told-true (is_number (word_at words 2))) (told-true (is_closing (word_at words 3))))))
+
+told-bar_head : (place : ℕ) (words : List Word) → Told (IsBarHead place words)
+told-bar_head place words =
+    told-by (λ p. record { placed = p.0; y_word = p.1.0; y = p.1.1.0; x_word = p.1.1.1.0; a = p.1.1.1.1.0; b = p.1.1.1.1.1 }) (λ r. (r.placed, (r.y_word, (r.y, (r.x_word, (r.a, r.b))))))
+    (told-both (told-placed words place) (told-both (told-named (word_at words 1) name.Y) (told-both (told-true (is_number (word_at words 2)))
+    (told-both (told-named (word_at words 3) name.X) (told-both (told-true (is_number (word_at words 4))) (told-true (is_closing (word_at words 5))))))))
+
+-- the line of a vertex
+pub told-row : (kind : Kind) (place : ℕ) (words : List Word) → Told (IsRow kind place words)
+told-row (Grid job) place words = told-by (λ p. record { head = p.0; neighbours = p.1 }) (λ r. (r.head, r.neighbours)) (told-both (told-grid_head place words) (told-naturals (drop 4 words)))
+told-row Bars place words = told-by (λ p. record { head = p.0; neighbours = p.1 }) (λ r. (r.head, r.neighbours)) (told-both (told-bar_head place words) (told-naturals (drop 6 words)))
+told-row (Witness kind) place words =
+    told-by (λ p. record { word = p.0; long = p.1.0; numbers = p.1.1 }) (λ r. (r.word, (r.long, r.numbers)))
+    (told-both (told-named (word_at words 0) (row_name place)) (told-both (told-true (is_row_length kind place (length words))) (told-naturals (drop 1 words))))
+
+pub told-row_range : (kind : Kind) (words : List Word) → Told (RowInRange kind words)
+told-row_range (Grid job) words =
+    told-by (λ p. record { x = p.0; y = p.1.0; neighbours = p.1.1 }) (λ r. (r.x, (r.y, r.neighbours)))
+    (told-both (told-inside (word_at words 2)) (told-both (told-inside (word_at words 3)) (told-vertices (drop 4 words))))
+told-row_range Bars words =
+    told-by (λ p. record { y = p.0; a = p.1.0; b = p.1.1.0; neighbours = p.1.1.1 }) (λ r. (r.y, (r.a, (r.b, r.neighbours))))
+    (told-both (told-inside (word_at words 2)) (told-both (told-inside (word_at words 4)) (told-both (told-inside (word_at words 5)) (told-vertices (drop 6 words)))))
+told-row_range (Witness kind) words = told-vertices (drop 1 words)
+
+-- that of the columns
+pub told-columns : (words : List Word) → Told (IsColumnsLine words)
+told-columns words =
+    told-by (λ p. record { word = p.0; numbers = p.1 }) (λ r. (r.word, r.numbers))
+    (told-both (told-named (word_at words 0) name.Columns) (told-all (λ w. IsTrue (is_number w)) (λ w. told-true (is_number w)) (drop 1 words)))
+
+pub told-columns_range : (words : List Word) → Told (ColumnsInRange words)
+told-columns_range words = told-all (λ w. IsInside w) told-inside (drop 1 words)
+
+-- no fault
+told-none : (o : Option G6Fault) → Told (o ≡ None)
+told-none None = inl refl
+told-none (Some fault) = inr (λ e. absurd (cc))
+
+-- a first line
+told-tail : (kind : Option Kind) (line : List ℕ) → Told (IsTail kind line)
+told-tail None line = inr (λ none. none)
+told-tail (Some (Grid job)) line = told-both (told-equal (length (words_of line)) 4) (told-true (is_natural (word_at (words_of line) 3)))
+told-tail (Some Bars) line = told-both (told-equal (length (words_of line)) 4) (told-true (is_natural (word_at (words_of line) 3)))
+told-tail (Some (Witness kind)) line = told-both (told-equal (length (words_of line)) 5) (told-true (is_graph_shaped (line_fault (part_at line 4))))
+
+told-tail_range : (kind : Option Kind) (line : List ℕ) → Told (TailInRange kind line)
+told-tail_range None line = inl tt
+told-tail_range (Some (Grid job)) line = told-both (told-most 1 (size (word_at (words_of line) 3))) (told-most (size (word_at (words_of line) 3)) 4095)
+told-tail_range (Some Bars) line = told-both (told-most 1 (size (word_at (words_of line) 3))) (told-most (size (word_at (words_of line) 3)) 4095)
+told-tail_range (Some (Witness kind)) line = told-none (line_fault (part_at line 4))
+
+pub told-first : (line : List ℕ) → Told (IsFirstLine line)
+told-first line =
+    let words = words_of line in
+    told-by (λ p. record { figure = p.0; number = p.1.0; tail = p.1.1 }) (λ r. (r.figure, (r.number, r.tail)))
+    (told-both (told-named (word_at words 0) name.Figure) (told-both (told-true (is_natural (word_at words 1))) (told-tail (kind_of words) line)))
+
+pub told-first_range : (line : List ℕ) → Told (FirstInRange line)
+told-first_range line =
+    let words = words_of line in
+    told-by (λ p. record { number_least = p.0; number_most = p.1.0; tail = p.1.1 }) (λ r. (r.number_least, (r.number_most, r.tail)))
+    (told-both (told-most 1 (size (word_at words 1))) (told-both (told-most (size (word_at words 1)) 16777216) (told-tail_range (kind_of words) line)))
+
+-- the kind that it says
+pub kind-said : (o : Option Kind) (line : List ℕ) → IsTail o line → (kind : Kind) × (o ≡ Some kind)
+kind-said (Some kind) line tail = (kind, refl)
+kind-said None line none = absurd none
+
+-- the graph of a line without a fault
+pub graph-said : (bytes : List ℕ) → line_fault bytes ≡ None → (graph : EdgeGraph) × IsGraphLine bytes graph
+graph-said bytes none = by_place (position is_bad_byte bytes) refl none
+  where
+    by_start : position is_bad_byte bytes ≡ None → (start : Result (ℕ × ℕ) G6Fault) → line_start bytes ≡ start → rest_fault bytes start ≡ None → (graph : EdgeGraph) × IsGraphLine bytes graph
+    by_start good (Ok (n, start)) is none = (record { n = n; edges = edges_of n (drop start bytes) }, (body_of bytes n start good is none).1)
+    by_start good (Err fault) is none = absurd (cc)
+
+    by_place : (place : Option ℕ) → position is_bad_byte bytes ≡ place → fault_from bytes place ≡ None → (graph : EdgeGraph) × IsGraphLine bytes graph
+    by_place None good none = by_start good (line_start bytes) refl none
+    by_place (Some k) bad none = absurd (cc)
