@@ -1,7 +1,7 @@
 -- Lemmas on canonical orders.
 mod Cases
 mod Built
-mod Lefts
+pub mod Lefts
 mod OrderLaws
 mod RunEnds
 mod LastCycle

@@ -1,5 +1,5 @@
 //! Canonical orders.
-ghost use Rattle.std.specs.Prelude.{◌≡◌, ◌<◌, ℕ, false, true, [], ◌∷◌, ◌++◌, reverse, length, slice_index, Some, IfOk};
+ghost use Rattle.std.specs.Prelude.{◌≡◌, ◌≢◌, ◌<◌, ℕ, false, true, [], ◌∷◌, ◌++◌, reverse, length, slice_index, All, AllPairs, Some, IfOk};
 ghost use Rattle.map_definitions.specs.Maps.{HasDart, follows};
 ghost use Rattle.plane_laws.specs.Completed.{IsCompleted};
 ghost use Rattle.half_edges.specs.Map.{IsLive, dart_at};
@@ -104,6 +104,19 @@ fn taken_off(
         under,
     )?;
     Ok(taken)
+}
+
+/// The order of these vertices, which are given from the last one to the first. It fails only for want of memory.
+pub fn turned_order(alloc: Global, taken: &[u16]) -> Result<Order, AllocError>
+    requires few { length taken.now < 4096 }
+    requires within { All (λ v. v < length taken.now) taken.now }
+    requires distinct { AllPairs ◌≢◌ taken.now }
+    ensures vertices { IfOk result (λ order. vertices_of order ≡ reverse taken.now) }
+    ensures rank { IfOk result (λ order. IsRankOf order.rank (reverse taken.now)) }
+{
+    let at = turned_vertices(alloc, taken)?;
+    let rank = turned_ranks(alloc, taken)?;
+    Ok(Order { at, rank })
 }
 
 /// A canonical order of a completed map, a simple map of genus zero with n >= 3 and m = 3n - 6, for a base

@@ -1,2 +1,2 @@
 -- The lemmas on woods of orders.
-mod WoodLemmas
+pub mod WoodLemmas

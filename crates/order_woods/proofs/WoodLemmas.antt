@@ -20,46 +20,46 @@ use Rattle.run_woods.proofs.Corners.{corners_ordered}
 use Rattle.order_woods.specs.Woods.{root, IsInner, LeadsBy, IsEndAt, IsInOrder, IsWood, AreParentsOf}
 
 module _ (lists : Lists) (base : Dart) (at : List ℕ) (steps : ℕ → Step) (parent : Colour → ℕ → ℕ) (completed : IsCompleted lists) (order : IsCanonicalOrder lists base at) (run : IsOrderRun lists base at order.cycle steps) (parents : AreParentsOf at steps parent) where
-  abbrev n : ℕ
+  abbrev pub n : ℕ
   n = length at - 2
 
-  abbrev name : ℕ → ℕ
+  abbrev pub name : ℕ → ℕ
   name k = get_or at k 0
 
   abbrev stage : ℕ → Stage
   stage k = stage_after steps k
 
-  size : length at ≡ n + 2
+  pub size : length at ≡ n + 2
   size = let c = order.count in let s = completed.some in omega arith
 
-  some : 1 ≤ n
+  pub some : 1 ≤ n
   some = let c = order.count in let s = completed.some in omega arith
 
   -- the roots by their ranks
-  root_one : name 0 ≡ base.1
+  pub root_one : name 0 ≡ base.1
   root_one = order.built.first
 
-  root_two : name 1 ≡ base.0
+  pub root_two : name 1 ≡ base.0
   root_two = order.built.second
 
-  root_three : name (suc n) ≡ follows lists base.1 base.0
+  pub root_three : name (suc n) ≡ follows lists base.1 base.0
   root_three = let c = order.count in let s = size in let e : suc n ≡ length lists - 1 = omega arith in ap name e ∙ order.last
 
-  abbrev root_rank : Colour → ℕ
+  abbrev pub root_rank : Colour → ℕ
   root_rank one = 0
   root_rank two = 1
   root_rank three = suc n
 
-  root_is : (c : Colour) → (root_rank c < length at) × (name (root_rank c) ≡ root lists base c)
+  pub root_is : (c : Colour) → (root_rank c < length at) × (name (root_rank c) ≡ root lists base c)
   root_is one = let s = size in (omega arith, root_one)
   root_is two = let s = size in (omega arith, root_two)
   root_is three = let s = size in (omega arith, root_three)
 
-  once : (i j : ℕ) → i < length at → j < length at → name i ≡ name j → i ≡ j
+  pub once : (i j : ℕ) → i < length at → j < length at → name i ≡ name j → i ≡ j
   once i j l m e = same_place at i j order.built.once l m e
 
   -- an inner vertex has a rank strictly between those of the roots
-  ranked : (v : ℕ) → IsInner lists base v → (k : ℕ) × (2 ≤ k) × (k < suc n) × (name k ≡ v)
+  pub ranked : (v : ℕ) → IsInner lists base v → (k : ℕ) × (2 ≤ k) × (k < suc n) × (name k ≡ v)
   ranked v inner =
       let c = order.count in
       let s = size in
@@ -74,7 +74,7 @@ module _ (lists : Lists) (base : Dart) (at : List ℕ) (steps : ℕ → Step) (p
       (k, omega arith, omega arith, here)
 
   -- and the other way round
-  inner_at : (k : ℕ) → 2 ≤ k → k < suc n → IsInner lists base (name k)
+  pub inner_at : (k : ℕ) → 2 ≤ k → k < suc n → IsInner lists base (name k)
   inner_at k l m =
       let c = order.count in
       let s = size in
@@ -89,28 +89,28 @@ module _ (lists : Lists) (base : Dart) (at : List ℕ) (steps : ℕ → Step) (p
   sound : (k : ℕ) → k ≤ n → IsStage (stage k)
   sound k l = IsStage-run steps k (IsRun-less steps k n l run.run)
 
-  has_one : (c : Colour) (k : ℕ) → 2 ≤ k → k < suc n → HasOneParent c steps n k
+  pub has_one : (c : Colour) (k : ℕ) → 2 ≤ k → k < suc n → HasOneParent c steps n k
   has_one c k l m = three_parents steps n run.run run.end k l m c
 
   -- the parent of a vertex of rank k is that of the run
-  parent_is : (c : Colour) (k : ℕ) (l : 2 ≤ k) (m : k < suc n) → parent c (name k) ≡ name (has_one c k l m).parent
-  parent_is c k l m = parents c k (has_one c k l m).parent (has_one c k l m).is_parent
+  pub parent_is : (c : Colour) (k : ℕ) (l : 2 ≤ k) (m : k < suc n) → parent c (name k) ≡ name (has_one c k l m).parent
+  parent_is c k l m = parents c k (has_one c k l m).parent (let s = size in omega arith) (has_one c k l m).is_parent
 
   -- a face that was made, in the map
-  face_at : (k i : ℕ) → k < n → (steps k).first ≤ i → i < (steps k).last → IsFaceOfThree lists (name ((stage k).vertex i)) (name ((stage k).vertex (suc i))) (name (k + 2))
+  pub face_at : (k i : ℕ) → k < n → (steps k).first ≤ i → i < (steps k).last → IsFaceOfThree lists (name ((stage k).vertex i)) (name ((stage k).vertex (suc i))) (name (k + 2))
   face_at k i l lo hi =
       let s = size in
       run.faces k i ((stage k).vertex i) ((stage k).vertex (suc i)) (k + 2) (omega arith) record { low = lo; high = hi; left = refl; right = refl; new = count-stage_after steps k }
 
   -- its darts from and to the top
-  to_top : (a b v : ℕ) → IsFaceOfThree lists a b v → HasDart lists b v
+  pub to_top : (a b v : ℕ) → IsFaceOfThree lists a b v → HasDart lists b v
   to_top a b v f = subst (λ v. HasDart lists b v) f.second (HasDart-follows lists b a (completed.simple.both_ways a b f.dart))
 
-  from_top : (a b v : ℕ) → IsFaceOfThree lists a b v → HasDart lists v a
+  pub from_top : (a b v : ℕ) → IsFaceOfThree lists a b v → HasDart lists v a
   from_top a b v f = subst (λ a. HasDart lists v a) f.third (HasDart-follows lists v b (completed.simple.both_ways b v (to_top a b v f)))
 
   -- a vertex and its parent are neighbours
-  edge : (c : Colour) (v w : ℕ) → IsParent c steps n v w → HasDart lists (name v) (name w)
+  pub edge : (c : Colour) (v w : ℕ) → IsParent c steps n v w → HasDart lists (name v) (name w)
   edge one v w p =
       let l = p.earlier in
       let o = (run.run p.step l).order in
@@ -132,13 +132,13 @@ module _ (lists : Lists) (base : Dart) (at : List ℕ) (steps : ℕ → Step) (p
       subst (λ w. HasDart lists (name v) (name w)) (sym p.parent) (subst (λ v. HasDart lists (name v) (name (p.step + 2))) p.covered.vertex d)
 
   -- ranks of parents
-  rank_small : (c : Colour) (v w : ℕ) → IsParent c steps n v w → w < length at
+  pub rank_small : (c : Colour) (v w : ℕ) → IsParent c steps n v w → w < length at
   rank_small one v w p = let s = size in let l = p.earlier in let e = p.vertex in let h = (leads_away steps n run.run v w one p).one_is_earlier refl in omega arith
   rank_small two v w p = let s = size in let l = p.earlier in let e = p.vertex in let h = (leads_away steps n run.run v w two p).two_is_earlier refl in omega arith
   rank_small three v w p = let s = size in let l = p.earlier in let e = p.parent in omega arith
 
   -- the first two rules
-  edges : (c : Colour) (v : ℕ) → IsInner lists base v → HasDart lists v (parent c v)
+  pub edges : (c : Colour) (v : ℕ) → IsInner lists base v → HasDart lists v (parent c v)
   edges c v inner =
       let r = ranked v inner in
       let h = has_one c r.0 r.1 r.2 in
@@ -152,7 +152,7 @@ module _ (lists : Lists) (base : Dart) (at : List ℕ) (steps : ℕ → Step) (p
       let same : name h.parent ≡ name h'.parent = sym (parent_is c r.0 r.1 r.2) ∙ ap (parent c) r.3 ∙ e ∙ ap (parent d) (sym r.3) ∙ parent_is d r.0 r.1 r.2 in
       differ steps n run.run r.0 h.parent h'.parent c d ne h.is_parent h'.is_parent (once h.parent h'.parent (rank_small c r.0 h.parent h.is_parent) (rank_small d r.0 h'.parent h'.is_parent) same)
 
-  own : (c d : Colour) (v : ℕ) → IsInner lists base v → parent c v ≡ root lists base d → c ≡ d
+  pub own : (c d : Colour) (v : ℕ) → IsInner lists base v → parent c v ≡ root lists base d → c ≡ d
   own c d v inner e =
       let r = ranked v inner in
       let h = has_one c r.0 r.1 r.2 in
@@ -278,23 +278,23 @@ module _ (lists : Lists) (base : Dart) (at : List ℕ) (steps : ℕ → Step) (p
       (omega arith, omega (arith, own.0))
 
   -- an edge at an inner vertex, in the map
-  end_at : (e : End) (b x : ℕ) → 2 ≤ b → IsEnd e steps n b x → IsEndAt lists base parent e (name b) (name x)
-  end_at (out c) b x l p = parents c b x p
-  end_at (into c) b x l p = let h = child_inner c x b l p in (inner_at x h.0 h.1, parents c x b p)
+  end_at : (e : End) (b x : ℕ) → 2 ≤ b → b < suc n → IsEnd e steps n b x → IsEndAt lists base parent e (name b) (name x)
+  end_at (out c) b x l m p = parents c b x (let s = size in omega arith) p
+  end_at (into c) b x l m p = let h = child_inner c x b l p in let low = h.1 in (inner_at x h.0 h.1, parents c x b (let s = size in omega arith) p)
 
   -- a corner by ranks is one of the map
-  corner : (b x y v u : ℕ) → 2 ≤ b → name b ≡ v → name y ≡ u → name x ≡ follows lists v u → IsOrdered steps n b x y → IsInOrder lists base parent v u
+  corner : (b x y v u : ℕ) → (2 ≤ b) × (b < suc n) → name b ≡ v → name y ≡ u → name x ≡ follows lists v u → IsOrdered steps n b x y → IsInOrder lists base parent v u
   corner b x y v u l ev eu ew h = record {
     first = h.first;
     second = h.second;
-    after = subst (λ v. IsEndAt lists base parent h.first v (follows lists v u)) ev (subst (IsEndAt lists base parent h.first (name b)) (ew ∙ ap (λ v. follows lists v u) (sym ev)) (end_at h.first b x l h.first_end));
-    entry = subst (λ v. IsEndAt lists base parent h.second v u) ev (subst (IsEndAt lists base parent h.second (name b)) eu (end_at h.second b y l h.second_end));
+    after = subst (λ v. IsEndAt lists base parent h.first v (follows lists v u)) ev (subst (IsEndAt lists base parent h.first (name b)) (ew ∙ ap (λ v. follows lists v u) (sym ev)) (end_at h.first b x l.0 l.1 h.first_end));
+    entry = subst (λ v. IsEndAt lists base parent h.second v u) ev (subst (IsEndAt lists base parent h.second (name b)) eu (end_at h.second b y l.0 l.1 h.second_end));
     follow = h.follow;
   }
 
-  -- the rank of an inner vertex is at least 2
-  rank_inner : (b v : ℕ) → b < length at → name b ≡ v → IsInner lists base v → 2 ≤ b
-  rank_inner b v l e inner = let r = ranked v inner in let same = once b r.0 l (let s = size in let m = r.2 in omega arith) (e ∙ sym r.3) in omega (arith, same, r.1)
+  -- the rank of an inner vertex
+  rank_inner : (b v : ℕ) → b < length at → name b ≡ v → IsInner lists base v → (2 ≤ b) × (b < suc n)
+  rank_inner b v l e inner = let r = ranked v inner in let same = once b r.0 l (let s = size in let m = r.2 in omega arith) (e ∙ sym r.3) in (omega (arith, same, r.1), omega (arith, same, r.2))
 
   in_order : (v u : ℕ) → IsInner lists base v → HasDart lists v u → IsInOrder lists base parent v u
   in_order v u inner d =
@@ -315,15 +315,15 @@ module _ (lists : Lists) (base : Dart) (at : List ℕ) (steps : ℕ → Step) (p
         | inl e ↦
             let small = rank_inner m.b v (omega arith) (sym e.1) inner in
             corner m.b m.v m.a v u small (sym e.1) (sym e.0) (sym f.second ∙ ap (λ z. follows lists z (name m.a)) (sym e.1) ∙ ap (follows lists v) (sym e.0))
-            (corners_ordered steps n m.b m.v m.a run.run small record { step = m.step; place = m.place; a = m.a; b = m.b; top = m.v; earlier = l; face = m.face; corner = inr (inl (refl, refl, refl)) })
+            (corners_ordered steps n m.b m.v m.a run.run small.0 record { step = m.step; place = m.place; a = m.a; b = m.b; top = m.v; earlier = l; face = m.face; corner = inr (inl (refl, refl, refl)) })
         | inr (inl e) ↦
             let small = rank_inner m.v v (omega arith) (sym e.1) inner in
             corner m.v m.a m.b v u small (sym e.1) (sym e.0) (sym f.third ∙ ap (λ z. follows lists z (name m.b)) (sym e.1) ∙ ap (follows lists v) (sym e.0))
-            (corners_ordered steps n m.v m.a m.b run.run small record { step = m.step; place = m.place; a = m.a; b = m.b; top = m.v; earlier = l; face = m.face; corner = inr (inr (refl, refl, refl)) })
+            (corners_ordered steps n m.v m.a m.b run.run small.0 record { step = m.step; place = m.place; a = m.a; b = m.b; top = m.v; earlier = l; face = m.face; corner = inr (inr (refl, refl, refl)) })
         | inr (inr e) ↦
             let small = rank_inner m.a v (omega arith) (sym e.1) inner in
             corner m.a m.b m.v v u small (sym e.1) (sym e.0) (sym f.round ∙ ap (λ z. follows lists z (name m.v)) (sym e.1) ∙ ap (follows lists v) (sym e.0))
-            (corners_ordered steps n m.a m.b m.v run.run small record { step = m.step; place = m.place; a = m.a; b = m.b; top = m.v; earlier = l; face = m.face; corner = inl (refl, refl, refl) })
+            (corners_ordered steps n m.a m.b m.v run.run small.0 record { step = m.step; place = m.place; a = m.a; b = m.b; top = m.v; earlier = l; face = m.face; corner = inl (refl, refl, refl) })
       ]
     where
       not_base : ¬ IsDartOfThree base.0 base.1 (follows lists base.1 base.0) u v

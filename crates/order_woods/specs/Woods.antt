@@ -44,9 +44,9 @@ pub record IsWood (lists : Lists) (base : Dart) (parent : Colour → ℕ → ℕ
   pub away : (c : Colour) (d v : ℕ) → ¬ LeadsBy lists base (parent c) (suc d) v v
   pub order : (v u : ℕ) → IsInner lists base v → HasDart lists v u → IsInOrder lists base parent v u
 
--- the parents are those of a run, with each vertex named by its entry in `at`
+-- the parents of each vertex but the roots are those of a run, with each vertex named by its entry in `at`
 abbrev pub AreParentsOf : List ℕ → (ℕ → Step) → (Colour → ℕ → ℕ) → Type 0
-AreParentsOf at steps parent = (c : Colour) (v w : ℕ) → IsParent c steps (length at - 2) v w → parent c (slice_index at v) ≡ slice_index at w
+AreParentsOf at steps parent = (c : Colour) (v w : ℕ) → suc v < length at → IsParent c steps (length at - 2) v w → parent c (slice_index at v) ≡ slice_index at w
 
 -- The parents of the run of a canonical order are a wood.
 abbrev pub WoodOfOrder : Type 0

@@ -66,7 +66,7 @@ module _ (lists : Lists) (base : Dart) (at ranks : List ℕ) (steps : ℕ → St
 
   -- the tables have the parents of the run
   pub AreParentsOf-tables : (m : ℕ) (ones twos threes : List ℕ) → m + 2 ≡ length at → AreParentsAt steps m ranks at ones twos threes → AreParentsOf at steps (λ c v. get_or (by_colour ones twos threes c) v 0)
-  AreParentsOf-tables m ones twos threes e h = λ c v w p.
+  AreParentsOf-tables m ones twos threes e h = λ c v w _ p.
       let l = child_small c v w p in
       let count = rank.count in
       let count' = order.count in
@@ -130,7 +130,7 @@ module _ (lists : Lists) (base : Dart) (at ranks : List ℕ) (steps : ℕ → St
         let k : ℕ = rank_of v in
         let p = three_parents steps n run.run run.end k r.0 r.1 c in
         let l = parent_small c k p.parent p.is_parent in
-        let up : parent_in wood c v ≡ name p.parent = ap (parent_in wood c) (sym r.2) ∙ parents c k p.parent p.is_parent in
+        let up : parent_in wood c v ≡ name p.parent = ap (parent_in wood c) (sym r.2) ∙ parents c k p.parent (let s = size in let m = r.1 in omega arith) p.is_parent in
         let same : rank_of (parent_in wood c v) ≡ p.parent = ap rank_of up ∙ rank.of_place p.parent l in
         falls_by c v (parent_in wood c v) (omega arith) (subst (LeadsAway c k) (sym same) (leads_away steps n run.run k p.parent c p.is_parent))
 

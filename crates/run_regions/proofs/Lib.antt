@@ -1,0 +1,11 @@
+pub mod Steps
+pub mod Shades
+pub mod Nested
+pub mod Sided
+pub mod Counts
+pub mod Crossing
+pub mod Walks
+pub mod Edges
+pub mod Darts
+pub mod Regions
+mod Cases

@@ -1,0 +1,5 @@
+-- The regions of runs.
+pub mod Fronts
+pub mod Sides
+pub mod Edges
+pub mod Laws

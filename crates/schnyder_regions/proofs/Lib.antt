@@ -1,0 +1,5 @@
+mod Paths
+mod Marks
+mod Searching
+mod ClosedPathLemmas
+mod CountLemmas

@@ -1,0 +1,2 @@
+-- The lemmas on the graph of a wood.
+mod ArcLemmas

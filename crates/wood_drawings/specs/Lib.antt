@@ -1,0 +1,2 @@
+-- The order of a wood as a graph.
+pub mod Arcs

@@ -1,0 +1,11 @@
+//! Drawings of completed maps by the regions of their woods (Schnyder, 1990), in linear time.
+#![tactic(auto)]
+
+mod arcs;
+mod draw;
+mod fault;
+mod order;
+
+pub use draw::schnyder_draw;
+pub use fault::SchnyderFault;
+pub use order::wood_order;

@@ -1,0 +1,10 @@
+-- The lemmas on the orders of a wood.
+pub mod Ways
+mod Ends
+mod Peeled
+mod Found
+mod Begin
+mod Ordered
+mod Arranging
+mod RunParents
+mod Cases

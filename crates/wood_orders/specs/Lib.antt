@@ -1,0 +1,3 @@
+-- The orders of a wood.
+pub mod Arranged
+pub mod Laws

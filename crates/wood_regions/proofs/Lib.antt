@@ -1,0 +1,4 @@
+pub mod ColourNumbers
+mod EdgeKinds
+mod RegionLemmas
+mod CountLemmas

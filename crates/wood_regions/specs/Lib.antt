@@ -1,0 +1,3 @@
+-- The regions of woods.
+pub mod Regions
+pub mod Laws
