@@ -3,7 +3,7 @@
 
   count.py            instructions a byte on inputs of a million bytes, counted by valgrind
   count.py --seconds  seconds and peak memory on inputs of 16 MiB
-  count.py --shift    instructions a byte of `pigale shift`, on the inputs that are plane maps
+  count.py --draw JOB instructions a byte of a job that draws, on the inputs that are plane maps
 
 Makes its inputs under bench/out/, the same ones each time. Wants a C compiler, and valgrind for the
 first. Not part of the gate.
@@ -123,7 +123,7 @@ def seconds(command, data):
 
 def main():
     by_seconds = "--seconds" in sys.argv[1:]
-    drawn = "--shift" in sys.argv[1:]
+    drawn = sys.argv[2] if sys.argv[1:2] == ["--draw"] else None
     os.makedirs(OUT, exist_ok=True)
     subprocess.run(["cc", "-O2", "-o", PLAIN, os.path.join(HERE, "plain_count.c")], check=True)
     for name, data in inputs(15_800_000 if by_seconds else 1 << 20):
@@ -132,7 +132,7 @@ def main():
             out.write(data)
         if drawn:
             if not name.startswith("one complete graph"):
-                print(f"{name}: {instructions([PROGRAM, 'shift'], path_) / len(data):.1f} instructions a byte", flush=True)
+                print(f"{name}: {instructions([PROGRAM, drawn], path_) / len(data):.1f} instructions a byte", flush=True)
         elif by_seconds:
             ours, memory = seconds([PROGRAM, "count"], path_)
             plain, _ = seconds([PLAIN], path_)

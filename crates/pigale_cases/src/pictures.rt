@@ -1,4 +1,4 @@
-//! Inputs and pictures of `shift --form svg`, and the picture of a visibility drawing, worked out by hand.
+//! Inputs and pictures of jobs that draw, and the picture of a visibility drawing, worked out by hand.
 ghost use Rattle.std.specs.Prelude.{◌<◌, length, IsTrue, IfOk};
 ghost use Rattle.map_definitions.specs.Maps.{IsSimpleMap};
 ghost use Rattle.svg_out.specs.Svg.{HasColumns, IsDrawn};
@@ -12,8 +12,9 @@ use std::alloc::{AllocError, Global};
 use std::test::Fail;
 use svg_out::svg;
 
-const ROWS: [(&str, &[u8], &str, u8); 5] = [
+const ROWS: [(&[&str], &str, &[u8], &str, u8); 7] = [
     (
+        &["shift", "--form", "svg"],
         "a triangle",
         TRIANGLE,
         "<svg xmlns=\"http://www.w3.org/2000/svg\" viewBox=\"-10 -10 40 30\">\n\
@@ -28,6 +29,7 @@ const ROWS: [(&str, &[u8], &str, u8); 5] = [
         0,
     ),
     (
+        &["shift", "--form", "svg"],
         "one edge, then three isolated vertices",
         b"\x02\x02\x00\x01\x00\x03\x00\x00\x00",
         "<!-- refused 1 5 Small 2 -->\n\
@@ -40,17 +42,47 @@ const ROWS: [(&str, &[u8], &str, u8); 5] = [
         1,
     ),
     (
+        &["shift", "--form", "svg"],
         "a one-sided pair",
         b"\x02\x02\x00\x00",
         "<!-- refused 1 4 OneSided 1 2 -->\n<!-- end records 1 refused 1 -->\n",
         1,
     ),
-    ("no record", b"", "<!-- end records 0 refused 0 -->\n", 0),
     (
+        &["--form=svg", "shift"],
+        "no record",
+        b"",
+        "<!-- end records 0 refused 0 -->\n",
+        0,
+    ),
+    (
+        &["shift", "--form", "svg"],
         "a record that does not end",
         b"\x03\x02",
         "<!-- stop EndInRecord 0 -->\n",
         3,
+    ),
+    (
+        &["bars", "--form", "svg"],
+        "a triangle as bars",
+        TRIANGLE,
+        "<svg xmlns=\"http://www.w3.org/2000/svg\" viewBox=\"-10 -10 30 40\">\n\
+<line x1=\"-3\" y1=\"20\" x2=\"13\" y2=\"20\" stroke=\"black\" stroke-width=\"3\"/>\n\
+<line x1=\"-3\" y1=\"0\" x2=\"13\" y2=\"0\" stroke=\"black\" stroke-width=\"3\"/>\n\
+<line x1=\"7\" y1=\"10\" x2=\"13\" y2=\"10\" stroke=\"black\" stroke-width=\"3\"/>\n\
+<line x1=\"0\" y1=\"20\" x2=\"0\" y2=\"0\" stroke=\"black\"/>\n\
+<line x1=\"10\" y1=\"20\" x2=\"10\" y2=\"10\" stroke=\"black\"/>\n\
+<line x1=\"10\" y1=\"0\" x2=\"10\" y2=\"10\" stroke=\"black\"/>\n\
+</svg>\n\
+<!-- end records 1 refused 0 -->\n",
+        0,
+    ),
+    (
+        &["--form=svg", "bars"],
+        "a path as bars",
+        b"\x03\x02\x00\x01\x03\x00\x02\x00",
+        "<!-- refused 1 8 CutVertex 2 -->\n<!-- end records 1 refused 1 -->\n",
+        1,
     ),
 ];
 
@@ -63,8 +95,6 @@ const BARS: &[u8] = b"before\n\
 <line x1=\"10\" y1=\"20\" x2=\"10\" y2=\"10\" stroke=\"black\"/>\n\
 <line x1=\"10\" y1=\"0\" x2=\"10\" y2=\"10\" stroke=\"black\"/>\n\
 </svg>\n";
-
-const WORDS: [&[&str]; 2] = [&["shift", "--form", "svg"], &["--form=svg", "shift"]];
 
 fn integers(alloc: Global, numbers: &[i32]) -> Result<Ints, AllocError> {
     let mut made = Ints::new(alloc);
@@ -125,18 +155,17 @@ fn is_drawn(alloc: Global, figure: &Figure) -> Result<bool, AllocError>
             is_simple(alloc, lists)
         }
         Figure::Grid { .. } => Ok(false),
+        Figure::Witness { .. } => Ok(false),
     }
 }
 
 #[test]
 fn each_record_is_a_picture_or_a_comment(rt: HostRuntime) -> Result<(), Fail> {
-    for (name, input, text, status) in ROWS {
-        for words in WORDS {
-            let mut source = SureSource::new(Vec::from_slice(rt.alloc(), input)?, 64);
-            let ran = run_over(rt.alloc(), words, &mut source, 64, &[])?;
-            assert_eq!(rt; ran.text.as_slice(), text.as_bytes(), "the text of {name}");
-            assert_eq!(rt; ran.status, status, "the status of {name}");
-        }
+    for (words, name, input, text, status) in ROWS {
+        let mut source = SureSource::new(Vec::from_slice(rt.alloc(), input)?, 64);
+        let ran = run_over(rt.alloc(), words, &mut source, 64, &[])?;
+        assert_eq!(rt; ran.text.as_slice(), text.as_bytes(), "the text of {name}");
+        assert_eq!(rt; ran.status, status, "the status of {name}");
     }
     Ok(())
 }

@@ -16,11 +16,11 @@ use Rattle.clap.specs.declared.builder.range.ValueRange.{ValueRange}
 use Rattle.clap.specs.declared.error.kind.ErrorKind.TheVariants as kind
 use Rattle.clap.specs.declared.parser.matches.ValueSource.TheVariants.{CommandLine}
 use Rattle.clap.proofs.OnLiterals.{clap_on_literals}
-use Rattle.pigale_shell.specs.Words.{IsCountWords, Given, command, given, given_by, given_in, has_option, form_given, number_given, gen_of, gen_given, job_given, job_named, job_of}
+use Rattle.pigale_shell.specs.Words.{IsCountWords, Given, command, given, given_by, given_in, has_option, form_given, drawing_named, number_given, gen_of, gen_given, job_given, job_named, job_of}
 use Rattle.pigale_shell.specs.declared.form.Form.{Form}
 use Rattle.pigale_shell.specs.declared.form.Form.TheVariants as forms
 use Rattle.pigale_shell.specs.declared.job.Job.{Job}
-use Rattle.pigale_shell.specs.declared.job.Job.TheVariants.{Count, Shift, Schnyder, Gen, Verify}
+use Rattle.pigale_shell.specs.declared.job.Job.TheVariants.{Count, Shift, Schnyder, Bars, Gen, Verify}
 
 -- ---- lists of kinds
 
@@ -336,16 +336,19 @@ is_count None = false
 is_count (Some Count) = true
 is_count (Some (Shift form)) = false
 is_count (Some (Schnyder form)) = false
+is_count (Some (Bars form)) = false
 is_count (Some (Gen size number)) = false
 is_count (Some Verify) = false
 
-shift_unlike : (form : Option Form) → is_count (option_map (λ f. Shift f) form) ≡ false
-shift_unlike None = refl
-shift_unlike (Some form) = refl
+drawing_unlike : (shift schnyder bars : Bool) (form : Form) → is_count (if shift then Some (Shift form) else if schnyder then Some (Schnyder form) else if bars then Some (Bars form) else None) ≡ false
+drawing_unlike true schnyder bars form = refl
+drawing_unlike false true bars form = refl
+drawing_unlike false false true form = refl
+drawing_unlike false false false form = refl
 
-schnyder_unlike : (form : Option Form) → is_count (option_map (λ f. Schnyder f) form) ≡ false
-schnyder_unlike None = refl
-schnyder_unlike (Some form) = refl
+drawn_unlike : (word : Text) (form : Option Form) → is_count (option_and_then (drawing_named word) form) ≡ false
+drawn_unlike word None = refl
+drawn_unlike word (Some form) = drawing_unlike (bytes_eq word (codes "shift")) (bytes_eq word (codes "schnyder")) (bytes_eq word (codes "bars")) form
 
 gen_unlike : (size number : Option ℕ) → is_count (gen_of size number) ≡ false
 gen_unlike None number = refl
@@ -357,12 +360,10 @@ given_unlike true size number = refl
 given_unlike false size number = gen_unlike size number
 
 -- the jobs behind the first are not `Count`
-other_unlike : (shift schnyder gen verify : Bool) (form : Option Form) (made : Option Job) → is_count made ≡ false → (if shift then option_map (λ f. Shift f) form else (if schnyder then option_map (λ f. Schnyder f) form else (if gen then made else (if verify then Some Verify else None)))) ≡ Some Count → ⊥
-other_unlike true schnyder gen verify form made unlike e = true≢false (sym (ap is_count e) ∙ shift_unlike form)
-other_unlike false true gen verify form made unlike e = true≢false (sym (ap is_count e) ∙ schnyder_unlike form)
-other_unlike false false true verify form made unlike e = true≢false (sym (ap is_count e) ∙ unlike)
-other_unlike false false false true form made unlike e = true≢false (sym (ap is_count e))
-other_unlike false false false false form made unlike e = none≢some Count e
+other_unlike : (gen verify : Bool) (made drawn : Option Job) → is_count made ≡ false → is_count drawn ≡ false → (if gen then made else (if verify then Some Verify else drawn)) ≡ Some Count → ⊥
+other_unlike true verify made drawn unlike others e = true≢false (sym (ap is_count e) ∙ unlike)
+other_unlike false true made drawn unlike others e = true≢false (sym (ap is_count e))
+other_unlike false false made drawn unlike others e = true≢false (sym (ap is_count e) ∙ others)
 
 without_option : (b o : Bool) (other : Option Job) → (other ≡ Some Count → ⊥) → (if b && not o then Some Count else other) ≡ Some Count → (b ≡ true) × (o ≡ false)
 without_option true true other unlike e = absurd (unlike e)
@@ -375,7 +376,7 @@ count_without_option g e = go g.job e
     go : (o : Option Text) → option_and_then (job_named g) o ≡ Some Count → has_option g ≡ false
     go None unlike = absurd (none≢some Count unlike)
     go (Some word) is =
-        (without_option (bytes_eq word (codes "count")) (has_option g) _ (other_unlike (bytes_eq word (codes "shift")) (bytes_eq word (codes "schnyder")) (bytes_eq word (codes "gen")) (bytes_eq word (codes "verify") && not (has_option g)) (form_given g) (gen_given g) (given_unlike (is_some g.form) (number_given 3 4095 g.size) (number_given 0 4294967295 g.number))) is).1
+        (without_option (bytes_eq word (codes "count")) (has_option g) _ (other_unlike (bytes_eq word (codes "gen")) (bytes_eq word (codes "verify") && not (has_option g)) (gen_given g) (option_and_then (drawing_named word) (form_given g)) (given_unlike (is_some g.form) (number_given 3 4095 g.size) (number_given 0 4294967295 g.number)) (drawn_unlike word (form_given g))) is).1
 
 or_true : (a b : Bool) → b ≡ true → (a || b) ≡ true
 or_true true b e = refl
@@ -483,8 +484,9 @@ takes_of words e =
     go [] is = (refl, is)
     go (x ∷ xs) is = absurd (none≢some Count is)
 
-not_both : (b shift schnyder gen verify : Bool) → (if b && true then Some Count else (if shift then Some (Shift forms.Text) else (if schnyder then Some (Schnyder forms.Text) else (if gen then None else (if verify then Some Verify else None))))) ≡ Some Count → b ≡ true
-not_both b shift schnyder gen verify e = (without_option b false _ (other_unlike shift schnyder gen verify (Some forms.Text) None refl) e).0
+named_count : (word : Text) → (if bytes_eq word (codes "count") && true then Some Count else (if bytes_eq word (codes "gen") then None else (if bytes_eq word (codes "verify") && true then Some Verify else drawing_named word forms.Text))) ≡ Some Count → word ≡ codes "count"
+named_count word e =
+    (bytes_eq-Decides word (codes "count")).0 (without_option (bytes_eq word (codes "count")) false _ (other_unlike (bytes_eq word (codes "gen")) (bytes_eq word (codes "verify") && true) None (drawing_named word forms.Text) refl (drawn_unlike word (Some forms.Text))) e).0
 
 abbrev the_job : Text → Option (Text × List Text)
 the_job word = Some (codes "job", word ∷ [])
@@ -493,7 +495,7 @@ the_job word = Some (codes "job", word ∷ [])
 trailing_count : (words : List Text) → Takes (record (between [] None 1) { is_trailing = true }) words → words ≡ codes "count" ∷ []
 unfolding clap_on_literals walk_fault
 trailing_count [] takes = absurd (none≢some Count takes.1.1)
-trailing_count (x ∷ []) takes = ap (λ w. w ∷ []) ((bytes_eq-Decides x (codes "count")).0 (not_both _ _ _ _ _ takes.1.1))
+trailing_count (x ∷ []) takes = ap (λ w. w ∷ []) (named_count x takes.1.1)
 trailing_count (x ∷ y ∷ words) takes = absurd (some_kind _ _ takes.0)
 
 -- words behind an option are not those of `count`
@@ -504,13 +506,13 @@ never_behind_option id w words is had stopped takes =
 -- behind a job's word and `--` comes nothing
 last_count : (word : Text) (words : List Text) → Takes (record (between [] (the_job word) 2) { is_trailing = true }) words → (word ≡ codes "count") × (words ≡ [])
 unfolding clap_on_literals walk_fault
-last_count word [] takes = ((bytes_eq-Decides word (codes "count")).0 (not_both _ _ _ _ _ takes.1.1), refl)
+last_count word [] takes = (named_count word takes.1.1, refl)
 last_count word (z ∷ words) takes = absurd (some_kind _ _ takes.0)
 
 -- behind a job's word comes `--` at most
 job_count : (word : Text) (words : List Text) → Takes (between [] (the_job word) 2) words → (word ≡ codes "count") × ((words ≡ []) ⊎ (words ≡ codes "--" ∷ []))
 unfolding clap_on_literals walk_fault
-job_count word [] takes = ((bytes_eq-Decides word (codes "count")).0 (not_both _ _ _ _ _ takes.1.1), inl refl)
+job_count word [] takes = (named_count word takes.1.1, inl refl)
 job_count word (y ∷ words) takes =
     go (walked rules [] (between [] (the_job word) 2) y) (word_meets [] (the_job word) 2 y (or_else-nil _ _ takes.0).0) ((or_else-nil _ _ takes.0).1, takes.1)
   where

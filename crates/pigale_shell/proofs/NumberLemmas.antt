@@ -53,7 +53,3 @@ pub cut_from-none : (text : List ℕ) (n i b : ℕ) → i < length text → get_
 cut_from-none text n i b inside at is =
     let parts : drop i text ≡ b ∷ drop (suc i) text = rw (drop-cons text i 0) (rw at refl) in
     ap (λ (bytes : List ℕ). cut_from n bytes) parts ∙ digit-none (is_digit b) n b (drop (suc i) text) refl is
-
--- a range below the cut does not see it
-pub within-cut : (least most n : ℕ) → most < beyond → within least most (min beyond n) ≡ within least most n
-within-cut least most n below = grind (arith, nat_tests)

@@ -1,16 +1,16 @@
 -- A map that words ask for has a size within its range.
-use Rattle.std.proofs.Common.{◌≡◌, ◌&&◌, not, ℕ, ◌<◌, ◌≤◌, Bool, Option, Some, None, true, false, refl, sym, subst, codes, option_map, arith}
+use Rattle.std.proofs.Common.{◌≡◌, ◌&&◌, not, ℕ, ◌<◌, ◌≤◌, Bool, Option, Some, None, true, false, refl, subst, codes, option_map, arith}
 use Rattle.std.proofs.lemmas.Bool.Decides.{nat_tests}
 use Rattle.std.proofs.lemmas.Option.{none-some}
 use Rattle.std.specs.Prelude.{List, option_and_then, bytes_eq, if◌then◌else◌, is_some}
 use Rattle.clap.specs.Walk.{Text}
 use Rattle.figure_text.specs.Words.{canonical, decimal_from}
 use Rattle.pigale_shell.specs.Numbers.{within, number_in}
-use Rattle.pigale_shell.specs.Words.{Given, has_option, form_given, number_given, gen_of, gen_given, job_given, job_named}
+use Rattle.pigale_shell.specs.Words.{Given, has_option, form_given, drawing_named, number_given, gen_of, gen_given, job_given, job_named}
 use Rattle.pigale_shell.specs.JobInput.{HasSize}
 use Rattle.pigale_shell.specs.declared.form.Form.{Form}
 use Rattle.pigale_shell.specs.declared.job.Job.{Job}
-use Rattle.pigale_shell.specs.declared.job.Job.TheVariants.{Count, Shift, Schnyder, Gen, Verify}
+use Rattle.pigale_shell.specs.declared.job.Job.TheVariants.{Count, Shift, Schnyder, Bars, Gen, Verify}
 
 within-range : (least most n m : ℕ) → within least most n ≡ Some m → (least ≤ m) × (m ≤ most)
 within-range least most n m is = (grind (arith, nat_tests), grind (arith, nat_tests))
@@ -44,19 +44,26 @@ gen_given-sized g job is = go (is_some g.form) is
     go false e = gen_of-sized (number_given 3 4095 g.size) (number_given 0 4294967295 g.number) job (number_given-range 3 4095 g.size) e
 
 -- the jobs by the words that name them
-named-sized : (count shift schnyder gen verify : Bool) (form : Option Form) (made : Option Job) (job : Job) → (made ≡ Some job → HasSize job) → (if count then Some Count else if shift then option_map (λ f. Shift f) form else if schnyder then option_map (λ f. Schnyder f) form else if gen then made else if verify then Some Verify else None) ≡ Some job → HasSize job
-named-sized true shift schnyder gen verify form made job sized is =
+drawing-sized : (shift schnyder bars : Bool) (form : Form) (job : Job) → (if shift then Some (Shift form) else if schnyder then Some (Schnyder form) else if bars then Some (Bars form) else None) ≡ Some job → HasSize job
+drawing-sized true schnyder bars form job is =
+    let same : Shift form ≡ job = cc in subst (λ (j : Job). HasSize j) same tt
+drawing-sized false true bars form job is =
+    let same : Schnyder form ≡ job = cc in subst (λ (j : Job). HasSize j) same tt
+drawing-sized false false true form job is =
+    let same : Bars form ≡ job = cc in subst (λ (j : Job). HasSize j) same tt
+drawing-sized false false false form job is = absurd (none-some job is)
+
+drawn-sized : (word : Text) (form : Option Form) (job : Job) → option_and_then (drawing_named word) form ≡ Some job → HasSize job
+drawn-sized word None job is = absurd (none-some job is)
+drawn-sized word (Some form) job is = drawing-sized (bytes_eq word (codes "shift")) (bytes_eq word (codes "schnyder")) (bytes_eq word (codes "bars")) form job is
+
+named-sized : (count gen verify : Bool) (made drawn : Option Job) (job : Job) → (made ≡ Some job → HasSize job) → (drawn ≡ Some job → HasSize job) → (if count then Some Count else if gen then made else if verify then Some Verify else drawn) ≡ Some job → HasSize job
+named-sized true gen verify made drawn job sized others is =
     let same : Count ≡ job = cc in subst (λ (j : Job). HasSize j) same tt
-named-sized false true schnyder gen verify None made job sized is = absurd (none-some job is)
-named-sized false true schnyder gen verify (Some f) made job sized is =
-    let same : Shift f ≡ job = cc in subst (λ (j : Job). HasSize j) same tt
-named-sized false false true gen verify None made job sized is = absurd (none-some job is)
-named-sized false false true gen verify (Some f) made job sized is =
-    let same : Schnyder f ≡ job = cc in subst (λ (j : Job). HasSize j) same tt
-named-sized false false false true verify form made job sized is = sized is
-named-sized false false false false true form made job sized is =
+named-sized false true verify made drawn job sized others is = sized is
+named-sized false false true made drawn job sized others is =
     let same : Verify ≡ job = cc in subst (λ (j : Job). HasSize j) same tt
-named-sized false false false false false form made job sized is = absurd (none-some job is)
+named-sized false false false made drawn job sized others is = others is
 
 pub job_given-sized : (g : Given) (job : Job) → job_given g ≡ Some job → HasSize job
 job_given-sized g job is = go g.job is
@@ -64,4 +71,4 @@ job_given-sized g job is = go g.job is
     go : (word : Option Text) → option_and_then (job_named g) word ≡ Some job → HasSize job
     go None e = absurd (none-some job e)
     go (Some word) e =
-        named-sized (bytes_eq word (codes "count") && not (has_option g)) (bytes_eq word (codes "shift")) (bytes_eq word (codes "schnyder")) (bytes_eq word (codes "gen")) (bytes_eq word (codes "verify") && not (has_option g)) (form_given g) (gen_given g) job (gen_given-sized g job) e
+        named-sized (bytes_eq word (codes "count") && not (has_option g)) (bytes_eq word (codes "gen")) (bytes_eq word (codes "verify") && not (has_option g)) (gen_given g) (option_and_then (drawing_named word) (form_given g)) job (gen_given-sized g job) (drawn-sized word (form_given g) job) e

@@ -1,7 +1,9 @@
 -- What each job over planar_code writes.
-use Rattle.std.specs.Prelude.{ℕ, List, Bool, false, not, ◌≡◌}
+use Rattle.std.specs.Prelude.{ℕ, List, Bool, not, ◌≡◌, ◌↔◌, IsTrue}
 use Rattle.map_lists.specs.Lists.{Lists}
 use Rattle.record_runs.specs.Texts.{Answers}
+use Rattle.plane_blocks.specs.Blocks.{IsPlaneBlock}
+use Rattle.pigale_shell.specs.BarsText.{IsBarsBlock}
 use Rattle.pigale_shell.specs.Text.{count_block, count_refuses, IsGridBlock, draw_refuses, last_line}
 use Rattle.pigale_shell.specs.Forms.{line_in}
 use Rattle.pigale_shell.specs.declared.form.Form.{Form}
@@ -9,7 +11,7 @@ use Rattle.pigale_shell.specs.declared.form.Form.TheVariants.{Text}
 use Rattle.pigale_shell.specs.Lines.{ending_of}
 use Rattle.pigale_shell.specs.declared.lines.Ending.{Ending}
 use Rattle.pigale_shell.specs.declared.job.Job.{Job}
-use Rattle.pigale_shell.specs.declared.job.Job.TheVariants.{Count, Shift, Schnyder, Gen, Verify}
+use Rattle.pigale_shell.specs.declared.job.Job.TheVariants.{Count, Shift, Schnyder, Bars, Gen, Verify}
 use Rattle.figure_text.specs.declared.figure.GridJob.TheVariants as drawn
 
 -- the text is the job's answer for record k; there is none by a job that reads no such records
@@ -17,22 +19,25 @@ abbrev pub IsBlock : Job → ℕ → Lists → List ℕ → Type 0
 IsBlock Count k lists text = text ≡ count_block k lists
 IsBlock (Shift form) k lists text = IsGridBlock drawn.Shift form k lists text
 IsBlock (Schnyder form) k lists text = IsGridBlock drawn.Schnyder form k lists text
+IsBlock (Bars form) k lists text = IsBarsBlock form k lists text
 IsBlock (Gen size number) k lists text = ⊥
 IsBlock Verify k lists text = ⊥
 
--- the record counts as refused
-abbrev pub is_refused : Job → Lists → Bool
-is_refused Count lists = count_refuses lists
-is_refused (Shift form) lists = draw_refuses lists
-is_refused (Schnyder form) lists = draw_refuses lists
-is_refused (Gen size number) lists = false
-is_refused Verify lists = false
+-- whether the record is served, or counts as refused
+abbrev pub ServesRecord : Job → Lists → Bool → Type 0
+ServesRecord Count lists served = served ≡ not (count_refuses lists)
+ServesRecord (Shift form) lists served = served ≡ not (draw_refuses lists)
+ServesRecord (Schnyder form) lists served = served ≡ not (draw_refuses lists)
+ServesRecord (Bars form) lists served = IsTrue served ↔ IsPlaneBlock 3 lists
+ServesRecord (Gen size number) lists served = ⊥
+ServesRecord Verify lists served = ⊥
 
 -- the form in which the job writes
 abbrev pub job_form : Job → Form
 job_form Count = Text
 job_form (Shift form) = form
 job_form (Schnyder form) = form
+job_form (Bars form) = form
 job_form (Gen size number) = Text
 job_form Verify = Text
 
@@ -40,6 +45,6 @@ job_form Verify = Text
 abbrev pub planar_answers : Job → Answers Lists Ending
 planar_answers job = record {
   IsBlock = IsBlock job;
-  Serves = λ lists served. served ≡ not (is_refused job lists);
+  Serves = ServesRecord job;
   last_line = λ records refused ending. line_in (job_form job) (last_line records refused (ending_of ending));
 }

@@ -2,9 +2,10 @@
 use Rattle.std.specs.Prelude.{ℕ, ◌-◌, List, [], ◌∷◌, ◌++◌, length, take, codes}
 use Rattle.map_lists.specs.Lists.{Lists}
 use Rattle.pg_plane.specs.declared.point.Point.{Point}
-use Rattle.figure_text.specs.Text.{grid_text}
+use Rattle.pg_plane.specs.declared.figure.BarFigure.{BarFigure}
+use Rattle.figure_text.specs.Text.{grid_text, bars_text}
 use Rattle.figure_text.specs.declared.figure.GridJob.{GridJob}
-use Rattle.svg_out.specs.Svg.{grid_svg}
+use Rattle.svg_out.specs.Svg.{grid_svg, bars_svg}
 use Rattle.pigale_shell.specs.declared.form.Form.{Form}
 use Rattle.pigale_shell.specs.declared.form.Form.TheVariants.{Text, Svg}
 
@@ -21,3 +22,8 @@ line_in Svg line = commented line
 abbrev pub grid_in : Form → ℕ → GridJob → Lists → List Point → List ℕ
 grid_in Text k job lists points = grid_text k job lists points
 grid_in Svg k job lists points = grid_svg lists points
+
+-- figure k, a visibility drawing
+abbrev pub bars_in : Form → ℕ → Lists → BarFigure → List ℕ
+bars_in Text k lists bars = bars_text k lists bars
+bars_in Svg k lists bars = bars_svg lists bars

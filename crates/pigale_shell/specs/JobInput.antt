@@ -11,13 +11,14 @@ use Rattle.pigale_shell.specs.Made.{made, made_answers}
 use Rattle.pigale_shell.specs.Verify.{verify_answers}
 use Rattle.pigale_shell.specs.declared.lines.Ending.{Ending}
 use Rattle.pigale_shell.specs.declared.job.Job.{Job}
-use Rattle.pigale_shell.specs.declared.job.Job.TheVariants.{Count, Shift, Schnyder, Gen, Verify}
+use Rattle.pigale_shell.specs.declared.job.Job.TheVariants.{Count, Shift, Schnyder, Bars, Gen, Verify}
 
 -- it reads an input; a job that reads none has the empty input, and leaves the source alone
 abbrev pub reads_input : Job → Bool
 reads_input Count = true
 reads_input (Shift form) = true
 reads_input (Schnyder form) = true
+reads_input (Bars form) = true
 reads_input (Gen size number) = false
 reads_input Verify = true
 
@@ -30,6 +31,7 @@ abbrev pub reads_planar : Job → Bool
 reads_planar Count = true
 reads_planar (Shift form) = true
 reads_planar (Schnyder form) = true
+reads_planar (Bars form) = true
 reads_planar (Gen size number) = false
 reads_planar Verify = false
 
@@ -38,6 +40,7 @@ abbrev pub HasSize : Job → Type 0
 HasSize Count = Unit {0}
 HasSize (Shift form) = Unit {0}
 HasSize (Schnyder form) = Unit {0}
+HasSize (Bars form) = Unit {0}
 HasSize (Gen size number) = (3 ≤ size) × (size < 4096)
 HasSize Verify = Unit {0}
 
@@ -46,6 +49,7 @@ abbrev pub RecordOf : Job → Type 0
 RecordOf Count = Lists
 RecordOf (Shift form) = Lists
 RecordOf (Schnyder form) = Lists
+RecordOf (Bars form) = Lists
 RecordOf (Gen size number) = Lists
 RecordOf Verify = Figure
 
@@ -54,6 +58,7 @@ abbrev pub EndingOf : Job → Type 0
 EndingOf Count = Ending
 EndingOf (Shift form) = Ending
 EndingOf (Schnyder form) = Ending
+EndingOf (Bars form) = Ending
 EndingOf (Gen size number) = Unit {0}
 EndingOf Verify = FigureEnding
 
@@ -62,6 +67,7 @@ abbrev pub reads_of : (job : Job) → Reads (RecordOf job) (EndingOf job)
 reads_of Count = planar_code
 reads_of (Shift form) = planar_code
 reads_of (Schnyder form) = planar_code
+reads_of (Bars form) = planar_code
 reads_of (Gen size number) = made size number
 reads_of Verify = figures
 
@@ -70,5 +76,6 @@ abbrev pub answers_of : (job : Job) → Answers (RecordOf job) (EndingOf job)
 answers_of Count = planar_answers Count
 answers_of (Shift form) = planar_answers (Shift form)
 answers_of (Schnyder form) = planar_answers (Schnyder form)
+answers_of (Bars form) = planar_answers (Bars form)
 answers_of (Gen size number) = made_answers
 answers_of Verify = verify_answers

@@ -11,3 +11,4 @@ pub mod Verify
 pub mod JobInput
 pub mod Outcome
 pub mod Text
+pub mod BarsText

@@ -8,7 +8,7 @@ use Rattle.pigale_shell.specs.Numbers.{number_in}
 use Rattle.pigale_shell.specs.declared.form.Form.{Form}
 use Rattle.pigale_shell.specs.declared.form.Form.TheVariants as forms
 use Rattle.pigale_shell.specs.declared.job.Job.{Job}
-use Rattle.pigale_shell.specs.declared.job.Job.TheVariants.{Count, Shift, Schnyder, Gen, Verify}
+use Rattle.pigale_shell.specs.declared.job.Job.TheVariants.{Count, Shift, Schnyder, Bars, Gen, Verify}
 
 -- an option `--name` with one text
 abbrev pub option : Text → Rule
@@ -64,6 +64,11 @@ form_of (Some name) = if bytes_eq name (codes "text") then Some forms.Text else 
 abbrev pub form_given : Given → Option Form
 form_given g = if has_number g then None else form_of g.form
 
+-- the job that draws with this word, in a form
+abbrev pub drawing_named : Text → Form → Option Job
+drawing_named word form =
+    if bytes_eq word (codes "shift") then Some (Shift form) else if bytes_eq word (codes "schnyder") then Some (Schnyder form) else if bytes_eq word (codes "bars") then Some (Bars form) else None
+
 -- the number from `least` to `most` that an option gives
 abbrev pub number_given : ℕ → ℕ → Option Text → Option ℕ
 number_given least most given = option_and_then (number_in least most) given
@@ -78,10 +83,10 @@ gen_of (Some size) (Some number) = Some (Gen size number)
 abbrev pub gen_given : Given → Option Job
 gen_given g = if is_some g.form then None else gen_of (number_given 3 4095 g.size) (number_given 0 4294967295 g.number)
 
--- the job of a word with the options beside it: `count` takes none, a job that draws takes the form, `gen` wants the other two, and `verify` takes none
+-- the job of a word with the options beside it: `count` and `verify` take none, `gen` wants two of them, and a job that draws takes the form
 abbrev pub job_named : Given → Text → Option Job
 job_named g word =
-    if bytes_eq word (codes "count") && not (has_option g) then Some Count else if bytes_eq word (codes "shift") then option_map (λ form. Shift form) (form_given g) else if bytes_eq word (codes "schnyder") then option_map (λ form. Schnyder form) (form_given g) else if bytes_eq word (codes "gen") then gen_given g else if bytes_eq word (codes "verify") && not (has_option g) then Some Verify else None
+    if bytes_eq word (codes "count") && not (has_option g) then Some Count else if bytes_eq word (codes "gen") then gen_given g else if bytes_eq word (codes "verify") && not (has_option g) then Some Verify else option_and_then (drawing_named word) (form_given g)
 
 abbrev pub job_given : Given → Option Job
 job_given g = option_and_then (job_named g) g.job

@@ -4,18 +4,23 @@ ghost use Rattle.pigale_shell.specs.Text.{count_block, count_refuses, IsFigureOf
 ghost use Rattle.map_lists.specs.Lists.{Lists};
 ghost use Rattle.drawing_orders.specs.Refusals.{draw_refusal};
 ghost use Rattle.drawing_orders.specs.Names.{Names};
-ghost use Rattle.pigale_shell.specs.Answer.{IsBlock, is_refused};
+ghost use Rattle.pigale_shell.specs.Answer.{IsBlock, ServesRecord};
 ghost use Rattle.pigale_shell.specs.JobInput.{reads_planar};
-ghost use Rattle.pigale_shell.specs.Forms.{line_in as line_by, grid_in};
+ghost use Rattle.pigale_shell.specs.Forms.{line_in as line_by, grid_in, bars_in};
+ghost use Rattle.pigale_shell.specs.BarsText.{IsBarsBlock};
+ghost use Rattle.plane_blocks.specs.Blocks.{IsPlaneBlock, BreaksFirst};
+ghost use Rattle.bar_figures.specs.Figures.{IsBarFigure};
 
-use super::form::{Form, line_in, print_grid_in};
+use super::form::{Form, line_in, print_bars_in, print_grid_in};
 use super::job::Job;
-use super::lines::{count_line, drawing_refusal_line, refusal_line};
+use super::lines::{block_refusal_line, count_line, drawing_refusal_line, refusal_line};
+use bar_figures::bar_figure;
 use drawing_orders::{DrawRefusal, no_refusal_is_plane};
 use euler_faces::Counter;
 use figure_text::GridJob;
 use half_edges::{MapFault, Rotations};
-use pg_plane::{GridFigure, Points};
+use pg_plane::{BarFigure, GridFigure, Points};
+use plane_blocks::{BlockRefusal, blocks_break_nothing};
 use schnyder_figures::schnyder_figure;
 use shift_figures::shift_figure;
 use std::alloc::{AllocError, Global};
@@ -37,7 +42,7 @@ pub fn answer_record(
     requires few_lists { length lists.now < 4096 }
     ensures block { OnOk result
         ((block : List ℕ) × IsBlock job number lists.now block × (out.new.items ≡ out.old.items ++ block)) }
-    ensures served { IfOk result (λ served. IsTrue served ↔ IsFalse (is_refused job lists.now)) }
+    ensures served { IfOk result (ServesRecord job lists.now) }
     ensures err { OnErr result (out.new.items ≡ out.old.items) }
 {
     let mut counter = Counter::new(alloc);
@@ -58,13 +63,14 @@ pub(crate) fn answer_with(
     requires few_lists { length lists.now < 4096 }
     ensures block { OnOk result
         ((block : List ℕ) × IsBlock job number lists.now block × (out.new.items ≡ out.old.items ++ block)) }
-    ensures served { IfOk result (λ served. served ≡ not (is_refused job lists.now)) }
+    ensures served { IfOk result (ServesRecord job lists.now) }
     ensures err { OnErr result (out.new.items ≡ out.old.items) }
 {
     match job {
         Job::Count => count_record(alloc, counter, number, lists, out),
         Job::Shift(form) => grid_record(alloc, GridJob::Shift, form, number, lists, out),
         Job::Schnyder(form) => grid_record(alloc, GridJob::Schnyder, form, number, lists, out),
+        Job::Bars(form) => bars_record(alloc, form, number, lists, out),
         Job::Gen(..) | Job::Verify => unreachable!(),
     }
 }
@@ -169,6 +175,73 @@ fn refuse_drawing(
             alloc,
             form,
             drawing_refusal_line(alloc, number, refusal)?,
+            out,
+        ),
+    }
+}
+
+// Appends the bars of a record, or its refusal.
+fn bars_record(
+    alloc: Global,
+    form: Form,
+    number: u32,
+    lists: &Rotations,
+    out: &mut Vec<u8>,
+) -> Result<bool, AllocError>
+    requires some_list { 0 < length lists.now }
+    requires few_lists { length lists.now < 4096 }
+    ensures block { OnOk result
+        ((block : List ℕ) × IsBarsBlock form number lists.now block × (out.new.items ≡ out.old.items ++ block)) }
+    ensures served { IfOk result (λ served. IsTrue served ↔ IsPlaneBlock 3 lists.now) }
+    ensures err { OnErr result (out.new.items ≡ out.old.items) }
+{
+    match bar_figure(alloc, lists) {
+        Ok(figure) => draw_bars(alloc, form, number, lists, &figure, out),
+        Err(refusal) => refuse_block(alloc, form, number, refusal, out),
+    }
+}
+
+// Appends the bars of a record that breaks no condition.
+fn draw_bars(
+    alloc: Global,
+    form: Form,
+    number: u32,
+    lists: &Rotations,
+    figure: &BarFigure,
+    out: &mut Vec<u8>,
+) -> Result<bool, AllocError>
+    requires block { IsPlaneBlock 3 lists.now }
+    requires figure { IsBarFigure lists.now figure.now }
+    ensures block { OnOk result
+        ((block : List ℕ) × IsBarsBlock form number lists.now block × (out.new.items ≡ out.old.items ++ block)) }
+    ensures served { IfOk result (λ served. served ≡ true) }
+    ensures err { OnErr result (out.new.items ≡ out.old.items) }
+{
+    print_bars_in(alloc, form, number, lists, figure, out)?;
+    Ok(true)
+}
+
+// Appends the refusal of any record that breaks this condition of maps in one block first.
+fn refuse_block(
+    alloc: Global,
+    form: Form,
+    number: u32,
+    refusal: BlockRefusal,
+    out: &mut Vec<u8>,
+) -> Result<bool, AllocError>
+    ensures block { OnOk result ((lists : Lists) → BreaksFirst 3 lists refusal
+        → (block : List ℕ) × IsBarsBlock form number lists block × (out.new.items ≡ out.old.items ++ block)) }
+    ensures refused { IfOk result (λ served. (lists : Lists) → 0 < length lists → BreaksFirst 3 lists refusal
+        → IsTrue served ↔ IsPlaneBlock 3 lists) }
+    ensures err { OnErr result (out.new.items ≡ out.old.items) }
+{
+    blocks_break_nothing();
+    match refusal {
+        BlockRefusal::Fault(MapFault::NoMemory) => Err(AllocError),
+        _ => refuse_in(
+            alloc,
+            form,
+            block_refusal_line(alloc, number, refusal)?,
             out,
         ),
     }

@@ -1,13 +1,14 @@
 //! In which form a job writes.
 ghost use Rattle.std.specs.Prelude.{◌≡◌, ◌++◌, length, OnOk, OnErr, IfOk};
 ghost use Rattle.map_definitions.specs.Maps.{IsSimpleMap};
-ghost use Rattle.pigale_shell.specs.Forms.{commented as comment_of, line_in as line_by, grid_in};
+ghost use Rattle.svg_out.specs.Svg.{HasColumns};
+ghost use Rattle.pigale_shell.specs.Forms.{commented as comment_of, line_in as line_by, grid_in, bars_in};
 
-use figure_text::{GridJob, print_grid};
+use figure_text::{GridJob, print_bars, print_grid};
 use half_edges::Rotations;
-use pg_plane::Points;
+use pg_plane::{BarFigure, Points};
 use std::alloc::{AllocError, Global};
-use svg_out::svg_grid;
+use svg_out::{svg_bars, svg_grid};
 
 /// How a job that draws writes its figures.
 #[derive(Clone, Copy, Debug, PartialEq, Eq)]
@@ -56,5 +57,25 @@ pub(crate) fn print_grid_in(
     match form {
         Form::Text => print_grid(alloc, number, job, lists, points, out),
         Form::Svg => svg_grid(alloc, lists, points, out),
+    }
+}
+
+/// Appends a visibility drawing of a simple map in this form. After want of memory the bytes are as they were.
+pub(crate) fn print_bars_in(
+    alloc: Global,
+    form: Form,
+    number: u32,
+    lists: &Rotations,
+    bars: &BarFigure,
+    out: &mut Vec<u8>,
+) -> Result<(), AllocError>
+    requires simple { IsSimpleMap lists.now }
+    requires columns { HasColumns lists.now bars.now }
+    ensures ok { OnOk result (out.new.items ≡ out.old.items ++ bars_in form number lists.now bars.now) }
+    ensures err { OnErr result (out.new.items ≡ out.old.items) }
+{
+    match form {
+        Form::Text => print_bars(alloc, number, lists, bars, out),
+        Form::Svg => svg_bars(alloc, lists, bars, out),
     }
 }

@@ -14,6 +14,8 @@ pub enum Job {
     Shift(Form),
     /// Draws the same maps by Schnyder's coordinates.
     Schnyder(Form),
+    /// Draws each connected map of genus zero without cut vertex by bars that see each other.
+    Bars(Form),
     /// Makes the map of so many vertices from a number, and draws it. It reads nothing.
     Gen(u16, u32),
     /// Checks each figure of a text.
@@ -27,7 +29,7 @@ impl Job {
     {
         match self {
             Job::Count | Job::Gen(..) | Job::Verify => Form::Text,
-            Job::Shift(form) | Job::Schnyder(form) => form,
+            Job::Shift(form) | Job::Schnyder(form) | Job::Bars(form) => form,
         }
     }
 }

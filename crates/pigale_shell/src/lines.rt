@@ -2,12 +2,14 @@
 ghost use Rattle.std.specs.Prelude.{◌≡◌, ◌≢◌, ◌+◌, ◌++◌, ◌∷◌, [], OnOk, IfOk, codes, decimal};
 ghost use Rattle.pigale_shell.specs.Text.{counts_line, refused_line, bad_words_line, last_line as last_line_of};
 ghost use Rattle.map_definitions.specs.Maps.{genus_of};
+ghost use Rattle.pigale_shell.specs.BarsText.{block_refusal_bytes, block_refusal_line as block_refusal_of};
 ghost use Rattle.pigale_shell.specs.Lines.{fault_bytes, WritesFault, WritesRefusal, ending_of};
 
 use drawing_orders::DrawRefusal;
 use euler_faces::EulerCount;
 use half_edges::MapFault;
 use itoa::Buffer;
+use plane_blocks::BlockRefusal;
 use std::alloc::{AllocError, Global};
 
 /// How the bytes of an input end.
@@ -53,12 +55,19 @@ pub fn count_line(alloc: Global, number: u32, count: &EulerCount) -> Result<Vec<
     Ok(line)
 }
 
+// Appends a name and a number.
+fn push_named(out: &mut Vec<u8>, name: &[u8], given: u64) -> Result<(), AllocError>
+    ensures { OnOk result (out.new.items ≡ out.old.items ++ (name.now ++ 32 ∷ decimal given)) }
+{
+    out.extend_from_slice(name)?;
+    push_number(out, given)
+}
+
 // Appends a name and the number of a vertex, which is printed from 1.
 fn push_vertex(out: &mut Vec<u8>, name: &[u8], v: u16) -> Result<(), AllocError>
     ensures { OnOk result (out.new.items ≡ out.old.items ++ (name.now ++ 32 ∷ decimal (v + 1))) }
 {
-    out.extend_from_slice(name)?;
-    push_number(out, u64::from(v) + 1)
+    push_named(out, name, u64::from(v) + 1)
 }
 
 // Appends a name and the numbers of two vertices.
@@ -121,6 +130,37 @@ pub fn drawing_refusal_line(
         DrawRefusal::Small(n) => named_line(alloc, number, b"5 Small", u64::from(n)),
         DrawRefusal::Genus(g) => named_line(alloc, number, b"6 Genus", u64::from(g)),
     }
+}
+
+// Appends the number and name of a condition, and what it says of the record. For want of memory there is no
+// such text.
+fn push_block_refusal(out: &mut Vec<u8>, refusal: BlockRefusal) -> Result<(), AllocError>
+    ensures { OnOk result (out.new.items ≡ out.old.items ++ block_refusal_bytes refusal) }
+{
+    match refusal {
+        BlockRefusal::Fault(fault) => push_fault(out, fault),
+        BlockRefusal::Small(n) => push_named(out, b"5 Small", u64::from(n)),
+        BlockRefusal::Genus(g) => push_named(out, b"6 Genus", u64::from(g)),
+        BlockRefusal::NotConnected => out.extend_from_slice(b"7 NotConnected"),
+        BlockRefusal::CutVertex(v) => push_vertex(out, b"8 CutVertex", v.0),
+    }
+}
+
+/// The line that refuses record `number` for a condition of maps in one block, for a cause that is not want of
+/// memory.
+pub fn block_refusal_line(
+    alloc: Global,
+    number: u32,
+    refusal: BlockRefusal,
+) -> Result<Vec<u8>, AllocError>
+    ensures { IfOk result (λ line. line.items ≡ block_refusal_of number refusal) }
+{
+    let mut line = Vec::from_slice(alloc, b"refused")?;
+    push_number(&mut line, u64::from(number))?;
+    line.push(b' ')?;
+    push_block_refusal(&mut line, refusal)?;
+    line.push(b'\n')?;
+    Ok(line)
 }
 
 // The line `stop NAME P`.

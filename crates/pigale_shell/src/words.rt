@@ -4,7 +4,7 @@ ghost use Rattle.clap.specs.Matches.{found_of};
 ghost use Rattle.clap.specs.Values.{kind_of};
 ghost use Rattle.clap.specs.Walk.{first_of, rows_of};
 ghost use Rattle.clap.specs.Simple.{app_of};
-ghost use Rattle.pigale_shell.specs.Words.{command as the_command, given, given_in, has_option as gives_option, has_number as gives_number, form_of as form_by, form_given as form_from, number_given as number_by, gen_of, gen_given as gen_by, job_given as job_by};
+ghost use Rattle.pigale_shell.specs.Words.{command as the_command, given, given_in, has_option as gives_option, has_number as gives_number, form_of as form_by, form_given as form_from, drawing_named, number_given as number_by, gen_of, gen_given as gen_by, job_given as job_by};
 ghost use Rattle.pigale_shell.specs.Words.{job_of, CountWords};
 ghost use Rattle.pigale_shell.specs.Status.{RefusesWords};
 ghost use Rattle.pigale_shell.specs.JobInput.{HasSize};
@@ -124,6 +124,21 @@ fn form_given(matches: &ArgMatches) -> Option<Form>
     }
 }
 
+// The job that draws with this word, in a form.
+fn drawing_job(word: &str, form: Form) -> Option<Job>
+    ensures { result ≡ drawing_named word.now form }
+{
+    if word == "shift" {
+        Some(Job::Shift(form))
+    } else if word == "schnyder" {
+        Some(Job::Schnyder(form))
+    } else if word == "bars" {
+        Some(Job::Bars(form))
+    } else {
+        None
+    }
+}
+
 // The number from `least` to `most` that an option gives.
 fn number_given(matches: &ArgMatches, id: &str, least: u32, most: u32) -> Option<u32>
     ensures { result ≡ number_by least most (first_of id.now (rows_of (found_of matches.now))) }
@@ -168,16 +183,15 @@ fn job_given(matches: &ArgMatches) -> Option<Job>
         Some(word) => {
             if word == "count" && !has_option(matches) {
                 Some(Job::Count)
-            } else if word == "shift" {
-                form_given(matches).map(Job::Shift)
-            } else if word == "schnyder" {
-                form_given(matches).map(Job::Schnyder)
             } else if word == "gen" {
                 gen_given(matches)
             } else if word == "verify" && !has_option(matches) {
                 Some(Job::Verify)
             } else {
-                None
+                match form_given(matches) {
+                    Some(form) => drawing_job(word, form),
+                    None => None,
+                }
             }
         }
         None => None,
@@ -188,8 +202,8 @@ fn job_given(matches: &ArgMatches) -> Option<Job>
 ///
 /// clap reads them as a command with one positional, the job's word, and the options `--form`, `--size`
 /// and `--number`, each with one text, which may follow as the next word or behind a `=`. `count` is the
-/// job `Count` and has none of these options; `shift` and `schnyder` are the jobs `Shift` and `Schnyder`
-/// and have the first, of which the text is `text` or `svg`; `gen` is the job `Gen` and has the other two,
+/// job `Count` and has none of these options; `shift`, `schnyder` and `bars` are the jobs `Shift`, `Schnyder`
+/// and `Bars` and have the first, of which the text is `text` or `svg`; `gen` is the job `Gen` and has the other two,
 /// which it wants: a size from 3 to 4095 and a number from 0 to 4294967295, both in decimal; `verify` is
 /// the job `Verify` and has none. `BadWords` comes exactly where the words are those of no
 /// job: where clap refuses them, where there is no such job, and where an option is there that the job

@@ -1,0 +1,2 @@
+-- The figures of records by bars.
+pub mod Figures

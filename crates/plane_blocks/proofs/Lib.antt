@@ -1,0 +1,3 @@
+-- Lemmas on records as maps in one block.
+pub mod RefusalLemmas
+mod Cases
