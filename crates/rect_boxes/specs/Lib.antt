@@ -1,0 +1,4 @@
+-- Boxes over a run.
+pub mod Boxes
+pub mod Frame
+pub mod Laws

@@ -1,0 +1,121 @@
+-- The corners of the faces that a step makes.
+use Rattle.std.proofs.Common.{◌≡◌, ℕ, suc, ◌-◌, ◌<◌, ◌≤◌, Bool, true, false, leb, sym, ap, ◌∙◌, inl, inr, arith}
+use Rattle.std.proofs.lemmas.Bool.{cases_lt, cases_eq, cases_Bool, cond-true, cond-false, le-leb, lt-leb}
+use Rattle.contour_runs.specs.Runs.{Step, stage_after, IsCovered}
+use Rattle.rect_runs.specs.Labels.{labels, IsLabelledRun}
+use Rattle.rect_runs.specs.Numbers.{turn_of}
+use Rattle.rect_runs.specs.Corners.{End, run_in, rise_out, run_out, rise_in, next, Follows, at_earlier, at_later, at_older, at_new, AreCorners, HasRight, HasUpper}
+use Rattle.contour_runs.proofs.Stages.{IsStage-run, IsRun-less}
+use Rattle.rect_runs.proofs.Edges.{IsTurn}
+use Rattle.rect_runs.proofs.Parents.{parents}
+use Rattle.rect_runs.proofs.Steps.{turn-step}
+
+earlier-run : (b : Bool) → b ≡ true → at_earlier b ≡ run_out
+unfolding at_earlier
+earlier-run b e = cond-true b run_out rise_in e
+
+earlier-rise : (b : Bool) → b ≡ false → at_earlier b ≡ rise_in
+unfolding at_earlier
+earlier-rise b e = cond-false b run_out rise_in e
+
+later-run : (b : Bool) → b ≡ true → at_later b ≡ run_in
+unfolding at_later
+later-run b e = cond-true b run_in rise_out e
+
+later-rise : (b : Bool) → b ≡ false → at_later b ≡ rise_out
+unfolding at_later
+later-rise b e = cond-false b run_in rise_out e
+
+older-left : (c j : ℕ) → j ≤ c → at_older c j ≡ run_out
+unfolding at_older
+older-left c j l = cond-true (leb j c) run_out rise_out (le-leb j c l)
+
+older-below : (c j : ℕ) → c < j → at_older c j ≡ rise_out
+unfolding at_older
+older-below c j l = cond-false (leb j c) run_out rise_out (lt-leb j c l)
+
+new-left : (c j : ℕ) → j ≤ c → at_new c j ≡ run_in
+unfolding at_new
+new-left c j l = cond-true (leb j c) run_in rise_in (le-leb j c l)
+
+new-below : (c j : ℕ) → c < j → at_new c j ≡ rise_in
+unfolding at_new
+new-below c j l = cond-false (leb j c) run_in rise_in (lt-leb j c l)
+
+same : (a b e : End) → a ≡ e → b ≡ e → Follows a b
+same a b e p q = inl (p ∙ sym q)
+
+after_it : (a b e : End) → a ≡ e → b ≡ next e → Follows a b
+after_it a b e p q = inr (ap next p ∙ sym q)
+
+module _ (label : ℕ → Bool) (s : Step) (c : ℕ) (t : IsTurn label s c) where
+  -- a rise is not behind the turn, and only at the turn may a run be
+  corners : (j : ℕ) → s.first ≤ j → j < s.last → AreCorners (label j) c j
+  corners j l h = elim (cases_lt j c) [
+    | inl a ↦
+        let e = t.rises j l a in
+        record {
+          earlier = after_it _ _ run_out (older-left c j (omega arith)) (earlier-rise (label j) e);
+          later = after_it _ _ rise_out (later-rise (label j) e) (older-left c (suc j) (omega arith));
+          new = same _ _ run_in (new-left c (suc j) (omega arith)) (new-left c j (omega arith));
+        }
+    | inr a ↦ elim (cases_eq j c) [
+      | inl m ↦
+          let new : Follows (at_new c (suc j)) (at_new c j) = after_it _ _ rise_in (new-below c (suc j) (omega arith)) (new-left c j (omega arith)) in
+          elim (cases_Bool (label j)) [
+            | inl e ↦ record {
+              earlier = same _ _ run_out (older-left c j (omega arith)) (earlier-run (label j) e);
+              later = after_it _ _ run_in (later-run (label j) e) (older-below c (suc j) (omega arith));
+              new = new;
+            }
+            | inr e ↦ record {
+              earlier = after_it _ _ run_out (older-left c j (omega arith)) (earlier-rise (label j) e);
+              later = same _ _ rise_out (later-rise (label j) e) (older-below c (suc j) (omega arith));
+              new = new;
+            }
+          ]
+      | inr ne ↦
+          let e = t.runs j (omega arith) h in
+          record {
+            earlier = after_it _ _ rise_out (older-below c j (omega arith)) (earlier-run (label j) e);
+            later = after_it _ _ run_in (later-run (label j) e) (older-below c (suc j) (omega arith));
+            new = same _ _ rise_in (new-below c (suc j) (omega arith)) (new-below c j (omega arith));
+          }
+    ]
+  ]
+
+pub corners_follow : (steps : ℕ → Step) (k n j : ℕ) → IsLabelledRun steps n → k < n → (steps k).first ≤ j → j < (steps k).last → AreCorners (labels steps k j) (turn_of steps k) j
+corners_follow steps k n j h l = corners (labels steps k) (steps k) (turn_of steps k) (turn-step steps k n h l) j
+
+pub covered_leaves : (steps : ℕ → Step) (k n v : ℕ) → IsLabelledRun steps n → k < n → IsCovered steps k v → HasRight steps n v × HasUpper steps n v
+covered_leaves steps k n v h l covered =
+    let run = IsRun-less steps k n (omega arith) h.run in
+    let stage = IsStage-run steps k run in
+    let w = (h.run k l).within in
+    let t = turn-step steps k n h l in
+    let low = covered.low in
+    let high = covered.high in
+    let at = covered.vertex in
+    let i : ℕ = covered.place - 1 in
+    let e : covered.place ≡ suc i = omega arith in
+    let at' : (stage_after steps k).vertex (suc i) ≡ v = sym (ap (stage_after steps k).vertex e) ∙ at in
+    elim (cases_lt i (turn_of steps k)) [
+      | inl a ↦ (
+        record { step = k; earlier = l; place = covered.place; low = omega arith; high = omega arith; vertex = at },
+        elim ((parents steps k i run (omega arith)).rise (t.rises i (omega arith) a)) [
+          | inl base ↦
+              let end : ℕ = (stage_after steps k).width - 1 in
+              let same = ap (stage_after steps k).place (base.1 ∙ sym (stage.end end (omega arith))) in
+              absurd (omega (arith, same, stage.own (suc i) (omega arith), stage.own end (omega arith)))
+          | inr p ↦
+              let m = p.earlier in
+              record { step = p.step; earlier = omega arith; place = (steps p.step).last; low = (turn-step steps p.step n h (omega arith)).high; high = omega arith; vertex = sym p.last ∙ at' }
+        ],
+      )
+      | inr a ↦
+          let p = (parents steps k (suc i) run (omega arith)).run (t.runs (suc i) (omega arith) (omega arith)) in
+          let m = p.earlier in (
+            record { step = p.step; earlier = omega arith; place = (steps p.step).first; low = omega arith; high = (turn-step steps p.step n h (omega arith)).low; vertex = sym p.first ∙ at' },
+            record { step = k; earlier = l; place = covered.place; low = omega arith; high = omega arith; vertex = at },
+          )
+    ]

@@ -1,0 +1,52 @@
+-- Where labels lead.
+use Rattle.std.proofs.Common.{◌≡◌, ◌⊎◌, ℕ, zero, suc, ◌<◌, false, refl, sym, ◌∙◌, inl, inr, arith}
+use Rattle.std.proofs.lemmas.Bool.{both_ways}
+use Rattle.contour_runs.specs.Runs.{Step, stage_after, IsRun}
+use Rattle.contour_runs.proofs.Stages.{IsRun-less, count-stage_after}
+use Rattle.rect_runs.specs.Labels.{labels}
+use Rattle.rect_runs.specs.Parents.{IsFirstUnder, IsLastUnder, AreParents}
+use Rattle.rect_runs.proofs.Edges.{cases_edge}
+
+module _ (steps : ℕ → Step) where
+  first_later : (k u v a b : ℕ) → a ≡ u → b ≡ v → IsFirstUnder steps k u v → IsFirstUnder steps (suc k) a b
+  first_later k u v a b e f h = let l = h.earlier in record { step = h.step; earlier = omega arith; new = f ∙ h.new; first = e ∙ h.first }
+
+  last_later : (k u v a b : ℕ) → a ≡ u → b ≡ v → ((v ≡ 0) × (u ≡ 1)) ⊎ IsLastUnder steps k u v → ((b ≡ 0) × (a ≡ 1)) ⊎ IsLastUnder steps (suc k) a b
+  last_later k u v a b e f h = elim h [
+    | inl base ↦ inl (f ∙ base.0, e ∙ base.1)
+    | inr h ↦ let l = h.earlier in inr record { step = h.step; earlier = omega arith; new = f ∙ h.new; last = e ∙ h.last }
+  ]
+
+  pub parents : (k i : ℕ) → IsRun steps k → suc i < (stage_after steps k).width → AreParents steps k i
+  parents zero i run l = record { run = λ e. absurd (both_ways false refl e); rise = λ e. inl (omega arith, omega arith) }
+  parents (suc k) i run l =
+      let g = stage_after steps k in
+      let s = steps k in
+      let o = (run k (omega arith)).order in
+      let w = (run k (omega arith)).within in
+      let count = count-stage_after steps k in
+      let less = parents k in
+      let before = IsRun-less steps k (suc k) (omega arith) run in
+      elim (cases_edge g s (labels steps k) i (run k (omega arith)) l) [
+        | inl d ↦
+            let d1 = d.low in
+            let h = less i before (omega arith) in
+            record {
+              run = λ e. first_later k _ _ _ _ d.start d.end (h.run (sym d.label_is ∙ e));
+              rise = λ e. last_later k _ _ _ _ d.end d.start (h.rise (sym d.label_is ∙ e));
+            }
+        | inr (inl d) ↦ record {
+          run = λ e. record { step = k; earlier = omega arith; new = d.end ∙ count; first = d.start };
+          rise = λ e. absurd (both_ways _ e d.label_is);
+        }
+        | inr (inr (inl d)) ↦ record {
+          run = λ e. absurd (both_ways _ d.label_is e);
+          rise = λ e. inr record { step = k; earlier = omega arith; new = d.start ∙ count; last = d.end };
+        }
+        | inr (inr (inr d)) ↦
+            let h = less d.from before d.within in
+            record {
+              run = λ e. first_later k _ _ _ _ d.start d.end (h.run (sym d.label_is ∙ e));
+              rise = λ e. last_later k _ _ _ _ d.end d.start (h.rise (sym d.label_is ∙ e));
+            }
+      ]
