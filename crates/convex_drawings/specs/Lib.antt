@@ -1,0 +1,2 @@
+-- Drawings of maps by counts of faces.
+pub mod ConvexDrawings

@@ -1,0 +1,2 @@
+-- The lemmas on drawings by counts of faces.
+pub mod Joined

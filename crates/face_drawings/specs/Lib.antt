@@ -1,0 +1,3 @@
+-- Drawings by counts of faces.
+pub mod FaceDrawings
+pub mod Laws

@@ -1,0 +1,3 @@
+-- Drawings whose faces have middles.
+pub mod Middles
+pub mod Laws
