@@ -5,6 +5,8 @@
 #[cfg(test)]
 mod bars;
 #[cfg(test)]
+mod drawn_bars;
+#[cfg(test)]
 mod figures;
 #[cfg(test)]
 mod given;
@@ -15,6 +17,8 @@ mod orders;
 #[cfg(test)]
 mod places;
 #[cfg(test)]
+mod regions;
+#[cfg(test)]
 mod shifts;
 #[cfg(test)]
 mod sweeps;
@@ -22,5 +26,7 @@ mod sweeps;
 mod texts;
 #[cfg(test)]
 mod verdicts;
+#[cfg(test)]
+mod witnesses;
 #[cfg(test)]
 mod woods;

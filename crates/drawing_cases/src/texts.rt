@@ -48,6 +48,7 @@ fn is_whole(fig: &Figure) -> bool
     match fig {
         Figure::Grid { lists, points, .. } => points.len() == lists.len(),
         Figure::Bars { lists, bars } => has_bars(lists, bars),
+        Figure::Witness { .. } => false,
     }
 }
 
@@ -106,7 +107,7 @@ fn a_figure_of_no_vertices_is_its_first_line(rt: HostRuntime) -> Result<(), Fail
 }
 
 // What stands at the front of a text on line 1, by its name, the number of a line, and the offset behind it.
-fn found(alloc: Global, text: &[u8]) -> (&'static str, u32, usize)
+pub(crate) fn found(alloc: Global, text: &[u8]) -> (&'static str, u32, usize)
     requires { length text.now < 1000 }
 {
     match read_figure(alloc, text, 0, 1) {
@@ -173,7 +174,7 @@ fn first_lines_have_one_shape(rt: HostRuntime) -> Result<(), Fail> {
         (b"figure 1 shift 3 3\n", "BadLine"),
         (b"figure 1 convex 4\n", "BadLine"),
         (b"figure 1 rect 5\n", "BadLine"),
-        (b"figure 1 witness K5 D~{\n", "BadLine"),
+        (b"figure 1 witness K5\n", "BadLine"),
         (b"\n", "BadLine"),
     ];
     for (text, want) in rows {

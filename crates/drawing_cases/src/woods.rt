@@ -8,6 +8,7 @@ use schnyder_wood::{Colour, Wood, path_len, wood};
 use std::alloc::Global;
 use std::process::Abort;
 use std::test::Fail;
+use wood_drawings::schnyder_draw;
 
 // The drawing of a completed map for the dart from 0 to 1.
 fn drawing_of(rt: &impl Abort, alloc: Global, lists: &[&[u16]]) -> Result<GridFigure, Fail> {
@@ -51,6 +52,44 @@ fn solids(rt: HostRuntime) -> Result<(), Fail> {
     ];
     for (lists, places) in rows {
         let figure = drawing_of(&rt, rt.alloc(), lists)?;
+        assert!(rt; have_places(&figure.points, places));
+    }
+    Ok(())
+}
+
+// The drawing of a completed map by its wood, for the dart from 0 to 1.
+fn drawing_by_wood(rt: &impl Abort, alloc: Global, lists: &[&[u16]]) -> Result<GridFigure, Fail> {
+    let tri = completed_of(rt, alloc, lists)?;
+    tri.facts();
+    assert!(rt; 1 < tri.n());
+    let base = match tri.dart_of(VertexId(0), VertexId(1)) {
+        Some(base) => base,
+        None => return Err("no base".into()),
+    };
+    let order = match canon_order(alloc, &tri, base) {
+        Ok(order) => order,
+        Err(_) => return Err("no memory".into()),
+    };
+    let found = wood(alloc, &tri, &order)?;
+    match schnyder_draw(alloc, &tri, &found) {
+        Ok(figure) => Ok(figure),
+        Err(_) => Err("no memory".into()),
+    }
+}
+
+// It is the drawing that the order gives.
+#[test]
+fn by_woods(rt: HostRuntime) -> Result<(), Fail> {
+    let rows: [(&[&[u16]], &[(i32, i32)]); 3] = [
+        (&[&[1, 2], &[2, 0], &[0, 1]], &[(0, 1), (1, 1), (1, 0)]),
+        (K4, &[(0, 2), (2, 1), (1, 1), (1, 0)]),
+        (
+            OCTAHEDRON,
+            &[(0, 4), (4, 1), (1, 3), (1, 1), (1, 0), (3, 1)],
+        ),
+    ];
+    for (lists, places) in rows {
+        let figure = drawing_by_wood(&rt, rt.alloc(), lists)?;
         assert!(rt; have_places(&figure.points, places));
     }
     Ok(())

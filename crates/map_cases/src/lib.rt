@@ -7,6 +7,8 @@ mod completions;
 #[cfg(test)]
 mod counts;
 #[cfg(test)]
+mod cutting;
+#[cfg(test)]
 mod given;
 #[cfg(test)]
 mod graphs;
