@@ -1,0 +1,2 @@
+-- Maps in which two faces have at most a vertex or an edge in common, and three-connected ones.
+pub mod Tight
