@@ -2,7 +2,7 @@
 use Rattle.std.proofs.Common.{◌≡◌, ◌≢◌, ℕ, ◌+◌, ◌<◌, ◌≤◌, List, [], ◌∷◌, ◌++◌, length, drop, take, get_or, refl, sym, ap, ◌∙◌, subst, arith, append_assoc, length-append}
 use Rattle.std.proofs.lemmas.List.{take-append-drop, take_more, take_all, get_or-take, length-take-le}
 use Rattle.std.proofs.lemmas.List.Elements.{All-append, All-from_get_or}
-use Rattle.std.specs.Prelude.{Option, Some, None}
+use Rattle.std.specs.Prelude.{Option, Some, None, Bool, true, false, if◌then◌else◌}
 use Rattle.record_runs.specs.Texts.{input_limit}
 use Rattle.figure_text.specs.declared.figure.Figure.{Figure}
 use Rattle.figure_lines.specs.declared.head.Head.TheVariants.{Bars}
@@ -69,6 +69,11 @@ closes-line consumed figures number pending line begun after part n within none 
 pub none-of_length : (bytes : List ℕ) → length bytes ≡ 0 → bytes ≡ []
 none-of_length [] none = refl
 none-of_length (b ∷ bytes) none = absurd (omega arith)
+
+-- a line whose end is the whole of it, or is put behind its front
+pub joined : (alone : Bool) (old end new line : List ℕ) → (alone ≡ true → old ≡ []) → new ≡ (if alone then old else old ++ end) → line ≡ (if alone then end else new) → line ≡ old ++ end
+joined true old end new line none made is = is ∙ sym (ap (λ (x : List ℕ). x ++ end) (none refl))
+joined false old end new line none made is = is ∙ made
 
 -- the first bytes of a part, the rest and what follows
 pub part-splits : (consumed part tail : List ℕ) (k : ℕ) → (consumed ++ take k part) ++ (drop k part ++ tail) ≡ (consumed ++ part) ++ tail

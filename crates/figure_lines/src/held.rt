@@ -1,11 +1,11 @@
-//! A draft that stays at its place in memory, so that it is moved as one pointer.
+//! A draft and a figure that stay at their places in memory, so that each is moved as one pointer.
 ghost use Rattle.std.specs.Prelude.{◌≡◌, length, IfOk, IfSome};
 ghost use Rattle.figure_text.specs.Words.{words_of};
 ghost use Rattle.figure_text.specs.Drafts.{with_row};
 ghost use Rattle.figure_text.specs.Reading.{Judges, IsRow, RowInRange};
 ghost use Rattle.figure_lines.specs.Steps.{no_lines};
 
-use figure_text::{Draft, Judged, Kind, Word, row_of};
+use figure_text::{Draft, Figure, Judged, Kind, Word, row_of};
 use map_lists::Rotations;
 use pg_plane::{Ints, Points};
 use std::alloc::{AllocError, Global};
@@ -73,6 +73,39 @@ impl HeldDraft {
 
     /// The draft, moved out.
     pub fn into_draft(self) -> Draft
+        ensures { result ≡ self }
+    {
+        Box::into_inner(self.inside)
+    }
+}
+
+/// A figure that stays at its place in memory.
+#[derive(Drop)]
+pub struct HeldFigure {
+    inside: Box<Figure>,
+}
+
+impl Model for HeldFigure {
+    ghost use Rattle.figure_text.specs.declared.figure.Figure.{Figure};
+
+    ghost Value = { Figure };
+
+    ghost view = { λ held. held.inside.value };
+}
+
+impl HeldFigure {
+    /// This figure.
+    pub fn new(alloc: Global, figure: Figure) -> Result<HeldFigure, AllocError>
+        ensures { IfOk result (λ held. held ≡ figure) }
+    {
+        match Box::new(alloc, figure) {
+            Ok(inside) => Ok(HeldFigure { inside }),
+            Err(_) => Err(AllocError),
+        }
+    }
+
+    /// The figure, moved out.
+    pub fn into_figure(self) -> Figure
         ensures { result ≡ self }
     {
         Box::into_inner(self.inside)

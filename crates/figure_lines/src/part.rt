@@ -1,5 +1,5 @@
 //! A part of a piece, up to the end of a line.
-ghost use Rattle.std.specs.Prelude.{◌≡◌, ◌+◌, ◌<◌, ◌≤◌, List, ℕ, length, IfOk};
+ghost use Rattle.std.specs.Prelude.{◌≡◌, ◌+◌, ◌<◌, ◌≤◌, ◌++◌, if◌then◌else◌, List, ℕ, length, IfOk, OnOk};
 ghost use Rattle.record_runs.specs.Texts.{input_limit};
 ghost use Rattle.figure_lines.specs.Progress.{Progress};
 ghost use Rattle.figure_lines.specs.State.{IsLinePart, TakesLine};
@@ -31,6 +31,23 @@ pub enum Part {
     Bad(Ending),
 }
 
+// Puts the end of a line behind its front, but where the end is the whole line.
+fn join(alone: bool, front: &mut Vec<u8>, end: &[u8]) -> Result<(), AllocError>
+    ensures { OnOk result (front.new.items ≡ (if alone then front.old.items else front.old.items ++ end.now)) }
+{
+    if !alone {
+        front.extend_from_slice(end)?;
+    }
+    Ok(())
+}
+
+// The whole line: its end where that is the whole, or else what was joined.
+fn chosen<'a>(alone: bool, end: &'a [u8], joined: &'a [u8]) -> &'a [u8]
+    ensures { result.now ≡ (if alone then end.now else joined.now) }
+{
+    if alone { end } else { joined }
+}
+
 /// Takes a part to the end of the open line, which is then judged, or to its own end. A line that stands whole in the
 /// part is judged where it stands.
 pub fn take_line(
@@ -46,15 +63,13 @@ pub fn take_line(
         → length consumed + length part.now ≤ input_limit → IfOk result (TakesLine consumed figures line part.now pending.new.items) }
 {
     let len = line_length(part);
-    if len < part.len() && pending.is_empty() {
-        let after = after_line(alloc, found, before, &part[..len], line)?;
-        return Ok(Line::Closed(len + 1, after));
-    }
-    pending.extend_from_slice(&part[..len])?;
     if len == part.len() {
+        pending.extend_from_slice(&part[..len])?;
         return Ok(Line::Open(before));
     }
-    let after = after_line(alloc, found, before, pending, line)?;
+    let alone = pending.is_empty();
+    join(alone, pending, &part[..len])?;
+    let after = after_line(alloc, found, before, chosen(alone, &part[..len], pending), line)?;
     pending.clear();
     Ok(Line::Closed(len + 1, after))
 }

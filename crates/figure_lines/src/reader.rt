@@ -121,8 +121,8 @@ impl FigureReader {
                         self.begun = begun;
                         Ok(Part::Goes(k))
                     }
-                    After::Whole(figure) => {
-                        self.figure = figure;
+                    After::Whole(held) => {
+                        self.figure = held.into_figure();
                         Ok(Part::Ended(k))
                     }
                     After::Bad(ending) => Ok(Part::Bad(ending)),

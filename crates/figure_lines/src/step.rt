@@ -9,7 +9,7 @@ ghost use Rattle.figure_text.specs.declared.figure.Figure.{Figure as AFigure};
 use crate::begun::{AllBars, Begun, Due, SomeRows};
 use crate::ending::Ending;
 use crate::head::{Head, head_of};
-use crate::held::HeldDraft;
+use crate::held::{HeldDraft, HeldFigure};
 use figure_text::{
     Columns, Draft, Figure, Front, Judged, Word, columns_line, draft_witness, front_line,
 };
@@ -22,7 +22,7 @@ pub enum After {
     /// The figure goes on, or none has begun.
     Goes(Option<Begun>),
     /// The figure is whole.
-    Whole(Figure),
+    Whole(HeldFigure),
     /// The input ends badly with the line.
     Bad(Ending),
 }
@@ -70,7 +70,8 @@ fn all_drawn(alloc: Global, head: Head, first: u32, draft: HeldDraft) -> Result<
     match head {
         Head::Grid(job) => {
             let Draft { lists, points, .. } = draft.into_draft();
-            Ok(After::Whole(Figure::Grid { job, lists, points }))
+            let held = HeldFigure::new(alloc, Figure::Grid { job, lists, points })?;
+            Ok(After::Whole(held))
         }
         Head::Bars => Ok(After::Goes(Some(Begun {
             first,
@@ -78,7 +79,8 @@ fn all_drawn(alloc: Global, head: Head, first: u32, draft: HeldDraft) -> Result<
         }))),
         Head::Witness(kind, graph) => {
             let witness = draft_witness(alloc, kind, draft.draft())?;
-            Ok(After::Whole(Figure::Witness { graph, witness }))
+            let held = HeldFigure::new(alloc, Figure::Witness { graph, witness })?;
+            Ok(After::Whole(held))
         }
     }
 }
@@ -168,7 +170,10 @@ fn after_columns(
         → length consumed < input_limit → IfOk result (Closes (consumed ++ 10 ∷ []) figures number) }
 {
     match columns_line(alloc, line) {
-        Columns::Good(column) => Ok(After::Whole(with_columns(bars, column))),
+        Columns::Good(column) => {
+            let held = HeldFigure::new(alloc, with_columns(bars, column))?;
+            Ok(After::Whole(held))
+        }
         Columns::Bad => Ok(After::Bad(Ending::BadLine(number))),
         Columns::Limit => Ok(After::Bad(Ending::Limit(number))),
         Columns::NoMemory => Err(AllocError),

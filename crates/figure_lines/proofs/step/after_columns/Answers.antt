@@ -6,13 +6,13 @@ use Rattle.figure_lines.specs.declared.begun.Due.TheVariants.{Columns as Columns
 use Rattle.figure_lines.proofs.LineLemmas.{closes-columns, closes-bad_columns, closes-far_columns}
 use Rattle.figure_lines.proofs.step.after_columns.Goals as goal
 
-pub returns-in-Good-clause-closes : goal.returns-in-Good-clause-closes
-returns-in-Good-clause-closes c = λ consumed figures p short.
+pub returns-in_ok-held-in-Good-clause-closes : goal.returns-in_ok-held-in-Good-clause-closes
+returns-in_ok-held-in-Good-clause-closes c = λ consumed figures p short.
     let draft = c.args.bars.draft in
     let old : Begun = record { first = c.args.first; due = ColumnsDue c.args.bars } in
     let is = rw c.in-Good.is at c.columns_line.ensures in
-    closes-columns consumed figures c.args.number c.args.line.now old p draft p.stands.1 is.0 is.1 c.with_columns.result
-    (c.with_columns.ensures.is ∙ ap (λ (x : List ℤ). BarsFigure draft.lists (record { y = draft.y; x1 = draft.x1; x2 = draft.x2; column = x })) is.2)
+    closes-columns consumed figures c.args.number c.args.line.now old p draft p.stands.1 is.0 is.1 c.in_ok-held-in-Good.held
+    (c.in_ok-held-in-Good.ensures ∙ c.with_columns.ensures.is ∙ ap (λ (x : List ℤ). BarsFigure draft.lists (record { y = draft.y; x1 = draft.x1; x2 = draft.x2; column = x })) is.2)
 
 pub returns-in-Bad-clause-closes : goal.returns-in-Bad-clause-closes
 returns-in-Bad-clause-closes c = λ consumed figures p short.
