@@ -127,11 +127,6 @@ sum_at p q r (suc n) h = omega (arith, sum_at p q r n (λ i l. h i (omega arith)
 abbrev pub falls : (ℕ → Bool) → (ℕ → ℕ) → ℕ → Bool
 falls p q i = p i && not (p (q i))
 
-pub falls-parts : (p : ℕ → Bool) (q : ℕ → ℕ) (i : ℕ) → falls p q i ≡ true → (p i ≡ true) × (p (q i) ≡ false)
-falls-parts p q i t =
-    let parts = and_parts (p i) (not (p (q i))) t in
-    (parts.0, false_from_ne_true (p (q i)) (λ e. false≢true (sym (not_from_true (p (q i)) e) ∙ parts.1)))
-
 pub falls-from : (p : ℕ → Bool) (q : ℕ → ℕ) (i : ℕ) → p i ≡ true → p (q i) ≡ false → falls p q i ≡ true
 falls-from p q i t e = and_from (p i) (not (p (q i))) t (not_from_false (p (q i)) e)
 

@@ -60,15 +60,6 @@ ranks_compared rank t h a b u v ta hb tu hv =
     ((λ e. omega (arith, ltb-true a b e, ra, rb, su, sv)), (λ l. lt-ltb a b (omega (arith, l, ra, rb, su, sv))))
 
 module _ (map : Map) (walks : List (List ℕ)) (rank ids : List ℕ) where
-  pub AreRightFaces-none : (row : List ℕ) → row ≡ [] → AreRightFaces map walks rank (take 0 ids) row
-  AreRightFaces-none row e = record {
-    from = λ r c. absurd (none (subst (λ z. Contains z r) e c));
-    to = λ d u v c. absurd (none c);
-  }
-    where
-      none : {x : ℕ} → Contains [] x → ⊥
-      none c = let l = c.1 in omega arith
-
   -- one dart more
   pub AreRightFaces-more : (k d u v : ℕ) (row row' : List ℕ) → AreRightFaces map walks rank (take k ids) row → k < length ids → get_or ids k 0 ≡ d → dart_at map d ≡ Some (u, v) → IsPutRight map walks rank u v row row' → AreRightFaces map walks rank (take (k + 1) ids) row'
   AreRightFaces-more k d u v row row' w l here dart put =

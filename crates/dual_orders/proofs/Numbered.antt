@@ -20,9 +20,6 @@ module _ (map : Map) (h : IsHalfMap map) (rank : List ℕ) (st : ℕ) (live : Is
   st_map : (s t : ℕ) (e : dart_at map st ≡ Some (s, t)) → IsStMap map.lists s t (w.order s t e).0 rank
   st_map s t e = record { simple = h.simple; plane = w.plane; connected = w.connected; dart = h.is_dart st s t e; order = (w.order s t e).1 }
 
-  pub ranks_are : length rank ≡ length map.lists
-  ranks_are = let x = live_dart (dart_at map st) live in (w.order x.0 x.1 x.2).1.ranks
-
   module _ (walks : List (List ℕ)) (faces : AreFaces map walks) (arcs : List (List ℕ)) (a : AreFaceArcs map walks rank arcs) (o : ℕ) (lo : o < length walks) (stands : Contains (walk_at walks o) st) where
     pub acyclic_arcs : IsAcyclic arcs o
     acyclic_arcs =

@@ -184,14 +184,6 @@ canonical-some (b ∷ ds) is = omega arith
 digit-range : (b : ℕ) → is_digit b ≡ true → (48 ≤ b) × (b ≤ 57)
 digit-range b is = (grind (arith, nat_tests), grind (arith, nat_tests))
 
-pub word_of-digits : (ds : List ℕ) (v : ℕ) → canonical ds ≡ true → option_map (min far) (decimal_from 0 ds) ≡ Some v → word_of ds ≡ Number (record { negative = false; size = v })
-word_of-digits ds v good is =
-    let some = canonical-some ds good in
-    let first = digit-range (get_or ds 0 0) (first-of-digits ds v some is) in
-    let number : number_of ds ≡ Some v = rw good is in
-    no-name ds (omega (arith, first.1))
-    ∙ ap (λ (s : Option Signed). numeral_word s (closing_of ds)) (plain-signed ds some (omega (arith, first.0)) ∙ ap plus number)
-
 digits-signed : (ds : List ℕ) (v : ℕ) → canonical ds ≡ true → option_map (min far) (decimal_from 0 ds) ≡ Some v → signed_of ds ≡ Some (record { negative = false; size = v })
 digits-signed ds v good is =
     let some = canonical-some ds good in

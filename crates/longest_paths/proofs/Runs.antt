@@ -229,10 +229,6 @@ module _ (arcs : List (List ℕ)) (base : ℕ) (a : IsAcyclic arcs base) where
       u_numbers : (r : ℕ) (n n' w w' q q' : List ℕ) (e : ℕ) → IsUsed base e r n w q n' w' q' → length n' ≡ length n
       u_numbers r n n' w w' q q' e u = u.numbers
 
-  -- before the first arc of e, and one arc more of those of e
-  pub IsRun-begin : (used : ℕ → ℕ) (n w q : List ℕ) (e : ℕ) → IsRun arcs base used n w q → used e ≡ 0 → IsRun arcs base (used_at used e 0) n w q
-  IsRun-begin used n w q e run z = subst (λ u. IsRun arcs base u n w q) (sym (used_at-none used e z)) run
-
   pub IsRun-step : (used : ℕ → ℕ) (n w q n' w' q' : List ℕ) (e k : ℕ) → e < length arcs → k < length (arcs_of arcs e) → Contains q e → IsRun arcs base (used_at used e k) n w q → IsUsed base e (get_or (arcs_of arcs e) k 0) n w q n' w' q' → IsRun arcs base (used_at used e (k + 1)) n' w' q'
   IsRun-step used n w q n' w' q' e k le lk queued run u =
       subst (λ z. IsRun arcs base z n' w' q') (used_at-twice used e k (k + 1)) (IsRun-more (used_at used e k) n w q n' w' q' e k le (used_at-here used e k) lk queued run u)
@@ -333,15 +329,6 @@ module _ (arcs : List (List ℕ)) (base : ℕ) (a : IsAcyclic arcs base) where
         ];
         low = low;
       }
-
-  -- there is no next vertex
-  pub IsAt-past : (head : ℕ) (used : ℕ → ℕ) (n w q : List ℕ) → IsAt arcs base head used n w q → length q ≤ head → IsAt arcs base (head + 1) used n w q
-  IsAt-past head used n w q at l = record {
-    run = at.run;
-    done = λ j lj lq. at.done j (omega arith) lq;
-    fresh = λ e le some. let j = at.fresh e le some in (j.0, omega (arith, j.1), j.2, j.3);
-    low = λ x. omega (arith, at.low x);
-  }
 
   -- the end: all arcs are used
   module _ (used : ℕ → ℕ) (n w q : List ℕ) (at : IsAt arcs base (length arcs) used n w q) where

@@ -121,18 +121,11 @@ module _ (steps : ℕ → Step) (n : ℕ) (run : IsRun steps n) (some : 0 < n) (
         λ j x. shade_old m v (fronts steps m j) e l (h.made j (omega arith)) ∙ h.high v j (omega arith) (omega arith) (omega arith),
       )
 
-  -- what a dart of a contour is in the end: of a made face, or of the outer one
-  twin_made : (v x y f : ℕ) → IsLeft steps n x y f → HasShade steps n v x y (shades steps n v f)
-  twin_made v x y f l = made f l refl
-
   -- the three kinds of darts of a made face
   pub record HasTwin (v x y s : ℕ) : Type 0 where
     pub shade : ℕ
     pub twin : HasShade steps n v y x shade
     pub kind : IsCrossing steps n v x y s shade
-
-  first_of_step : (l : ℕ) → l < n → ((steps l).first ≤ (steps l).first) × ((steps l).first < (steps l).last)
-  first_of_step l a = let o = (run l a).order in (omega arith, o)
 
   along_twin : (v k i : ℕ) → 2 ≤ v → v < suc n → k < n → suc i < (at k).width → Along steps k i → HasTwin v ((at k).vertex i) ((at k).vertex (suc i)) (shades steps n v (fronts steps k i))
   along_twin v k i some' lv l w (base a b c) = record {

@@ -21,9 +21,6 @@ LeadsIn-one wood c zero (suc e) v h k = absurd (not_inner wood c v h k.0)
 LeadsIn-one wood c (suc d) zero v h k = absurd (not_inner wood c v k h.0)
 LeadsIn-one wood c (suc d) (suc e) v h k = ap suc (LeadsIn-one wood c d e (parent_in wood c v) h.1 k.1)
 
-pub IsPathLength-one : (wood : Parents) (c : Colour) (v k l : ℕ) → IsPathLength wood c v k → IsPathLength wood c v l → k ≡ l
-IsPathLength-one wood c v k l a b = a.both_ends ∙ ap suc (LeadsIn-one wood c a.steps b.steps v a.leads b.leads) ∙ sym b.both_ends
-
 -- so many steps from v an inner vertex is reached, and each of them has lost height
 pub record Climbs (wood : Parents) (c : Colour) (v d w : ℕ) : Type 0 where
   pub inner : IsInnerIn wood w

@@ -22,12 +22,6 @@ module _ (wood : Parents) (e : ℕ) where
   none : {x : ℕ} → Contains [] x → ⊥
   none c = let l = c.1 in omega arith
 
-  pub AreArcs-none : (list row : List ℕ) → row ≡ [] → AreArcs wood e (take 0 list) row
-  AreArcs-none list row q = record {
-    from = λ r c. absurd (none (subst (λ z. Contains z r) q c));
-    to = λ r c a. absurd (none c);
-  }
-
   -- one entry more
   pub AreArcs-more : (list row row' : List ℕ) (k r : ℕ) → k < length list → get_or list k 0 ≡ r → AreArcs wood e (take k list) row → IsArcPut wood e r row row' → AreArcs wood e (take (k + 1) list) row'
   AreArcs-more list row row' k r l here h put =
