@@ -18,10 +18,10 @@ use Rattle.figure_text.proofs.NumeralLemmas.{Dark, decimal-dark, signed-dark, wo
 use Rattle.figure_text.proofs.WordLemmas.{words_of-next, words_of-spaced, Inline-next, Inline-spaced, IsPlain-inline}
 use Rattle.figure_text.proofs.RoundLemmas.{after_spaces, neighbour_words, neighbour-dark, neighbours-natural, neighbours-vertices, neighbours-again, value-again}
 
-y-dark : Dark (codes "y")
+pub y-dark : Dark (codes "y")
 y-dark = All-from_recursion (λ b. 33 ≤ b) (codes "y") (lit≤ tt, tt)
 
-x-dark : Dark (codes "x")
+pub x-dark : Dark (codes "x")
 x-dark = All-from_recursion (λ b. 33 ≤ b) (codes "x") (lit≤ tt, tt)
 
 columns-dark : Dark (codes "columns")

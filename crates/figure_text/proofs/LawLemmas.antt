@@ -7,15 +7,16 @@ use Rattle.std.proofs.lemmas.List.Elements.{All-get_or, All-from_recursion}
 use Rattle.map_lists.specs.Lists.{Lists}
 use Rattle.pg_plane.specs.declared.point.Point.{Point}
 use Rattle.pg_plane.specs.declared.figure.BarFigure.{BarFigure}
+use Rattle.pg_plane.specs.declared.figure.RectFigure.{RectFigure}
 use Rattle.figure_text.specs.declared.figure.GridJob.{GridJob}
-use Rattle.figure_text.specs.declared.figure.GridJob.TheVariants.{Shift as ByShift, Schnyder as BySchnyder}
+use Rattle.figure_text.specs.declared.figure.GridJob.TheVariants.{Shift as ByShift, Schnyder as BySchnyder, Convex as ByConvex}
 use Rattle.figure_text.specs.declared.figure.Figure.{Figure as Drawing}
-use Rattle.figure_text.specs.declared.figure.Figure.TheVariants.{Grid as GridFigure, Bars as BarsFigure, Witness as WitnessFigure}
+use Rattle.figure_text.specs.declared.figure.Figure.TheVariants.{Grid as GridFigure, Bars as BarsFigure, Rects as RectsFigure, Witness as WitnessFigure}
 use Rattle.figure_text.specs.declared.words.Word.{Word}
 use Rattle.figure_text.specs.declared.words.Word.TheVariants.{Number, Named}
 use Rattle.figure_text.specs.declared.words.Name.TheVariants.{Figure}
 use Rattle.figure_text.specs.declared.judge.Kind.{Kind}
-use Rattle.figure_text.specs.declared.judge.Kind.TheVariants.{Grid, Bars, Witness}
+use Rattle.figure_text.specs.declared.judge.Kind.TheVariants.{Grid, Bars, Rects, Witness}
 use Rattle.figure_text.specs.declared.read.Item.TheVariants.{Drawn}
 use Rattle.figure_text.specs.Words.{word_of, words_of, word_at}
 use Rattle.graph6_text.specs.Lines.{IsLine as IsGraphLine}
@@ -24,7 +25,7 @@ use Rattle.kuratowski.specs.Witnesses.{pairs_of}
 use Rattle.figure_text.specs.Lines.{size, is_natural, kind_by, kind_of, rows_due, IsTail, TailInRange}
 use Rattle.figure_text.specs.Reading.{closed, IsPlain, is_note, Rows, point_of, vertices_from}
 use Rattle.figure_text.specs.Drafts.{integer_in}
-use Rattle.figure_text.specs.Text.{texts, first_line, job_word, grid_line, grid_lines, bar_line, bar_lines, columns_line, HasBars, point_at, integer_at}
+use Rattle.figure_text.specs.Text.{texts, first_line, job_word, grid_line, grid_lines, bar_line, bar_lines, columns_line, rect_line, rect_lines, HasBars, HasRects, point_at, integer_at}
 use Rattle.figure_text.specs.Figures.{IsHead, IsBody, StandsAt, lines_due}
 use Rattle.figure_text.specs.Laws.{sign_of, IsCoordinate, AreLists, PrintedIsRead}
 use Rattle.figure_text.proofs.NumeralLemmas.{Dark, decimal-dark, word_of-decimal}
@@ -32,6 +33,7 @@ use Rattle.figure_text.proofs.WordLemmas.{words_of-last, words_of-next, Inline-n
 use Rattle.figure_text.proofs.UptoLemmas.{lines_upto, length-lines_upto, closed-lines_upto, Rows-lines_upto, of_lines-upto}
 use Rattle.figure_text.proofs.RoundLemmas.{grid_text, grid_line-text, IsFine, grid-plain, grid-good, grid-list, grid-point}
 use Rattle.figure_text.proofs.WitnessLemmas.{witness_head, witness_body, witness_first_line-text, graph-dark, witness-plain, witness-parts, witness-part, witness-tail, witness-graph, kind-again, witness-body}
+use Rattle.figure_text.proofs.RectLemmas.{rect_text, rect_line-text, IsFineRect, rect-plain, rect-good, rect-list, rect-left, rect-right, rect-low, rect-high}
 use Rattle.figure_text.proofs.BarLemmas.{bar_text, bar_line-text, IsFineBar, bar-plain, bar-good, bar-list, bar-height, bar-begin, bar-end, columns_text, columns_line-text, columns-plain, columns-shape, columns-range, columns-again}
 
 -- the first line of a figure, without the byte that closes it
@@ -91,6 +93,9 @@ grid-counted job = record { tail = λ line four natural. (four, natural); range 
 
 bars-counted : IsCounted Bars
 bars-counted = record { tail = λ line four natural. (four, natural); range = λ line least most. (least, most); rows = λ words. refl }
+
+rects-counted : IsCounted Rects
+rects-counted = record { tail = λ line four natural. (four, natural); range = λ line least most. (least, most); rows = λ words. refl }
 
 first-head : (kind : Kind) (k : ℕ) (word : List ℕ) (n : ℕ) → IsFirst k n → Dark word → IsCounted kind → ((next : Word) → kind_by (word_of word) next ≡ Some kind) → IsHead kind n (first_text k word n)
 first-head kind k word n fine dark counted is =
@@ -200,6 +205,40 @@ bars-body lists bars rest whole are in_y in_a in_b in_column head =
           (columns-again bars.column in_column),
     )
 
+-- a rectangular dual
+rects-same : {lists lists' : Lists} {a a' b b' c c' d d' : List ℤ} → lists' ≡ lists → a' ≡ a → b' ≡ b → c' ≡ c → d' ≡ d → RectsFigure lists (record { x1 = a; x2 = b; y1 = c; y2 = d }) ≡ RectsFigure lists' (record { x1 = a'; x2 = b'; y1 = c'; y2 = d' })
+rects-same is is_a is_b is_c is_d = cc
+
+rects-body : (lists : Lists) (rects : RectFigure) (rest : List ℕ) → HasRects lists rects → AreLists lists → All IsCoordinate rects.x1 → All IsCoordinate rects.x2 → All IsCoordinate rects.y1 → All IsCoordinate rects.y2 → (head : List ℕ) → IsBody Rects (length lists) head (rect_lines rects lists (length lists) ++ rest) rest (RectsFigure lists rects)
+unfolding rect_lines
+rects-body lists rects rest whole are in_a in_b in_c in_d head =
+    let line : ℕ → List ℕ = λ v. rect_text v (integer_at rects.x1 v) (integer_at rects.x2 v) (integer_at rects.y1 v) (integer_at rects.y2 v) (get_or lists v []) in
+    let closed_line : ℕ → List ℕ = λ v. rect_line v (integer_at rects.x1 v) (integer_at rects.x2 v) (integer_at rects.y1 v) (integer_at rects.y2 v) (get_or lists v []) in
+    let fine : (v : ℕ) → v < length lists → IsFineRect v (integer_at rects.x1 v) (integer_at rects.x2 v) (integer_at rects.y1 v) (integer_at rects.y2 v) (get_or lists v []) =
+    λ v h. record {
+      place = omega (arith, are.most);
+      in_a = All-get_or IsCoordinate rects.x1 v (pos 0) (omega (arith, whole.x1)) in_a;
+      in_b = All-get_or IsCoordinate rects.x2 v (pos 0) (omega (arith, whole.x2)) in_b;
+      in_c = All-get_or IsCoordinate rects.y1 v (pos 0) (omega (arith, whole.y1)) in_c;
+      in_d = All-get_or IsCoordinate rects.y2 v (pos 0) (omega (arith, whole.y2)) in_d;
+      small = list-small lists v h are;
+    } in
+    let same : closed (lines_upto line (length lists)) ≡ texts closed_line (length lists) =
+    closed-lines_upto line (length lists) ∙ texts-same (λ v. line v ++ 10 ∷ []) closed_line (λ v. sym (rect_line-text v (integer_at rects.x1 v) (integer_at rects.x2 v) (integer_at rects.y1 v) (integer_at rects.y2 v) (get_or lists v []))) (length lists) in (
+      lines_upto line (length lists),
+      subst (λ (x : List ℕ). Rows Rects (x ++ rest) (lines_upto line (length lists)) rest) same
+          (Rows-lines_upto Rects line (length lists) rest
+          (λ v h. rect-plain v (integer_at rects.x1 v) (integer_at rects.x2 v) (integer_at rects.y1 v) (integer_at rects.y2 v) (get_or lists v []) (fine v h))
+          (λ v h. rect-good v (integer_at rects.x1 v) (integer_at rects.x2 v) (integer_at rects.y1 v) (integer_at rects.y2 v) (get_or lists v []) (fine v h))),
+      length-lines_upto line (length lists),
+      rects-same
+          (of_lines-upto (vertices_from 7) line lists [] (length lists) (omega arith) (λ v h. rect-list v (integer_at rects.x1 v) (integer_at rects.x2 v) (integer_at rects.y1 v) (integer_at rects.y2 v) (get_or lists v []) (fine v h)) ∙ take-length lists)
+          (of_lines-upto (integer_in 2) line rects.x1 (pos 0) (length lists) (omega (arith, whole.x1)) (λ v h. rect-left v (integer_at rects.x1 v) (integer_at rects.x2 v) (integer_at rects.y1 v) (integer_at rects.y2 v) (get_or lists v []) (fine v (omega (arith, whole.x1)))) ∙ column-take rects.x1 (length lists) whole.x1)
+          (of_lines-upto (integer_in 3) line rects.x2 (pos 0) (length lists) (omega (arith, whole.x2)) (λ v h. rect-right v (integer_at rects.x1 v) (integer_at rects.x2 v) (integer_at rects.y1 v) (integer_at rects.y2 v) (get_or lists v []) (fine v (omega (arith, whole.x2)))) ∙ column-take rects.x2 (length lists) whole.x2)
+          (of_lines-upto (integer_in 5) line rects.y1 (pos 0) (length lists) (omega (arith, whole.y1)) (λ v h. rect-low v (integer_at rects.x1 v) (integer_at rects.x2 v) (integer_at rects.y1 v) (integer_at rects.y2 v) (get_or lists v []) (fine v (omega (arith, whole.y1)))) ∙ column-take rects.y1 (length lists) whole.y1)
+          (of_lines-upto (integer_in 6) line rects.y2 (pos 0) (length lists) (omega (arith, whole.y2)) (λ v h. rect-high v (integer_at rects.x1 v) (integer_at rects.x2 v) (integer_at rects.y1 v) (integer_at rects.y2 v) (get_or lists v []) (fine v (omega (arith, whole.y2)))) ∙ column-take rects.y2 (length lists) whole.y2),
+    )
+
 shift-dark : Dark (codes "shift")
 shift-dark = All-from_recursion (λ b. 33 ≤ b) (codes "shift") (lit≤ tt, (lit≤ tt, (lit≤ tt, (lit≤ tt, (lit≤ tt, tt)))))
 
@@ -207,16 +246,24 @@ schnyder-dark : Dark (codes "schnyder")
 schnyder-dark =
     All-from_recursion (λ b. 33 ≤ b) (codes "schnyder") (lit≤ tt, (lit≤ tt, (lit≤ tt, (lit≤ tt, (lit≤ tt, (lit≤ tt, (lit≤ tt, (lit≤ tt, tt))))))))
 
+convex-dark : Dark (codes "convex")
+convex-dark = All-from_recursion (λ b. 33 ≤ b) (codes "convex") (lit≤ tt, (lit≤ tt, (lit≤ tt, (lit≤ tt, (lit≤ tt, (lit≤ tt, tt))))))
+
+rect-dark : Dark (codes "rect")
+rect-dark = All-from_recursion (λ b. 33 ≤ b) (codes "rect") (lit≤ tt, (lit≤ tt, (lit≤ tt, (lit≤ tt, tt))))
+
 bars-dark : Dark (codes "bars")
 bars-dark = All-from_recursion (λ b. 33 ≤ b) (codes "bars") (lit≤ tt, (lit≤ tt, (lit≤ tt, (lit≤ tt, tt))))
 
 job-dark : (job : GridJob) → Dark (job_word job)
 job-dark ByShift = shift-dark
 job-dark BySchnyder = schnyder-dark
+job-dark ByConvex = convex-dark
 
 job-kind : (job : GridJob) (next : Word) → kind_by (word_of (job_word job)) next ≡ Some (Grid job)
 job-kind ByShift next = refl
 job-kind BySchnyder next = refl
+job-kind ByConvex next = refl
 
 pub printed-read : PrintedIsRead
 printed-read k (GridFigure job lists points) text least most whole (are, inside) is bytes at rest within here line =
@@ -227,6 +274,10 @@ printed-read k (BarsFigure lists bars) text least most whole (are, in_y, in_a, i
     stands-counted Bars k (codes "bars") (length lists) (BarsFigure lists bars) (bar_lines bars lists (length lists) ++ columns_line bars.column)
     (record { number_least = least; number_most = most; least = are.some; most = are.most }) bars-dark bars-counted (λ next. refl) bytes at rest line (line + (length lists + 2)) within text is here (omega arith)
     (bars-body lists bars rest whole are in_y in_a in_b in_column (first_text k (codes "bars") (length lists)))
+printed-read k (RectsFigure lists rects) text least most whole (are, in_a, in_b, in_c, in_d) is bytes at rest within here line =
+    stands-counted Rects k (codes "rect") (length lists) (RectsFigure lists rects) (rect_lines rects lists (length lists))
+    (record { number_least = least; number_most = most; least = are.some; most = are.most }) rect-dark rects-counted (λ next. refl) bytes at rest line (line + (length lists + 1)) within text is here (omega arith)
+    (rects-body lists rects rest whole are in_a in_b in_c in_d (first_text k (codes "rect") (length lists)))
 printed-read k (WitnessFigure graph witness) text least most whole (branches, paths) (row, is_row, is) bytes at rest within here line =
     let same : text ≡ (witness_head k witness.kind row ++ 10 ∷ []) ++ witness_body witness = is ∙ ap (λ (x : List ℕ). x ++ witness_body witness) (witness_first_line-text k witness.kind row) in
     let dark = graph-dark row graph is_row in

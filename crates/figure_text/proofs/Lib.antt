@@ -7,6 +7,7 @@ pub mod WordLemmas
 pub mod UptoLemmas
 pub mod RoundLemmas
 pub mod BarLemmas
+pub mod RectLemmas
 pub mod WitnessLemmas
 pub mod ItemLemmas
 pub mod LawLemmas

@@ -92,6 +92,8 @@ no-name ds less =
     let figure : bytes_eq ds (codes "figure") ≡ false = other-first ds 102 (codes "igure") (omega arith) in
     let shift : bytes_eq ds (codes "shift") ≡ false = other-first ds 115 (codes "hift") (omega arith) in
     let schnyder : bytes_eq ds (codes "schnyder") ≡ false = other-first ds 115 (codes "chnyder") (omega arith) in
+    let convex : bytes_eq ds (codes "convex") ≡ false = other-first ds 99 (codes "onvex") (omega arith) in
+    let rect : bytes_eq ds (codes "rect") ≡ false = other-first ds 114 (codes "ect") (omega arith) in
     let bars : bytes_eq ds (codes "bars") ≡ false = other-first ds 98 (codes "ars") (omega arith) in
     let at : bytes_eq ds (codes "at") ≡ false = other-first ds 97 (codes "t") (omega arith) in
     let y : bytes_eq ds (codes "y") ≡ false = other-first ds 121 [] (omega arith) in
@@ -102,7 +104,7 @@ no-name ds less =
     let three : bytes_eq ds (codes "K33") ≡ false = other-first ds 75 (codes "33") (omega arith) in
     let branch : bytes_eq ds (codes "branch") ≡ false = other-first ds 98 (codes "ranch") (omega arith) in
     let path : bytes_eq ds (codes "path") ≡ false = other-first ds 112 (codes "ath") (omega arith) in
-    rw figure (rw shift (rw schnyder (rw bars (rw at (rw y (rw x (rw columns (rw witness (rw five (rw three (rw branch (rw path refl))))))))))))
+    rw figure (rw shift (rw schnyder (rw convex (rw bars (rw rect (rw at (rw y (rw x (rw columns (rw witness (rw five (rw three (rw branch (rw path refl))))))))))))))
 
 signed-first : (z : ℤ) → (sign_of z).size < far → get_or (signed_decimal z) 0 0 < 75
 signed-first (pos n) small = let first = decimal-first n (omega arith) in omega (arith, first.1)

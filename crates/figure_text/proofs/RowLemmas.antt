@@ -6,7 +6,7 @@ use Rattle.std.proofs.lemmas.Grind.{flat_map-append}
 use Rattle.std.proofs.Math.ListN.{get_or-append}
 use Rattle.std.proofs.Math.Seq.{get_or-append_seam}
 use Rattle.figure_text.specs.declared.judge.Kind.{Kind}
-use Rattle.figure_text.specs.declared.judge.Kind.TheVariants.{Grid, Bars, Witness}
+use Rattle.figure_text.specs.declared.judge.Kind.TheVariants.{Grid, Bars, Rects, Witness}
 use Rattle.figure_text.specs.declared.rows.Draft.{Draft}
 use Rattle.figure_text.specs.declared.rows.Taken.TheVariants.{Next, Bad, Limit as TakenLimit, NotClosed}
 use Rattle.figure_text.specs.declared.fault.TextFault.TheVariants.{BadLine, EndInFigure, Limit}
@@ -33,6 +33,7 @@ of_lines-more value lines line = map-append (λ l. value (words_of l)) lines (li
 pub drafted-more : (kind : Kind) (lines : List (List ℕ)) (line : List ℕ) → drafted kind (lines ++ line ∷ []) ≡ with_row kind (drafted kind lines) (words_of line)
 drafted-more (Grid job) lines line = simp of_lines-more
 drafted-more Bars lines line = simp of_lines-more
+drafted-more Rects lines line = simp of_lines-more
 drafted-more (Witness kind) lines line = simp of_lines-more
 
 -- what is left behind lines may be known by another name

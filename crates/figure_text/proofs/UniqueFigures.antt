@@ -4,9 +4,9 @@ use Rattle.std.proofs.lemmas.Bool.{cases_eq}
 use Rattle.std.proofs.lemmas.List.Elements.{All-nil, All-cons}
 use Rattle.std.specs.Prelude.{Result, Ok, Err, Some, IsTrue, IsFalse, ◌⊎◌}
 use Rattle.figure_text.specs.declared.figure.Figure.{Figure}
-use Rattle.figure_text.specs.declared.figure.Figure.TheVariants.{Grid as GridFigure, Bars as BarsFigure, Witness as WitnessFigure}
+use Rattle.figure_text.specs.declared.figure.Figure.TheVariants.{Grid as GridFigure, Bars as BarsFigure, Rects as RectsFigure, Witness as WitnessFigure}
 use Rattle.figure_text.specs.declared.judge.Kind.{Kind}
-use Rattle.figure_text.specs.declared.judge.Kind.TheVariants.{Grid, Bars, Witness}
+use Rattle.figure_text.specs.declared.judge.Kind.TheVariants.{Grid, Bars, Rects, Witness}
 use Rattle.figure_text.specs.declared.fault.TextFault.{TextFault}
 use Rattle.figure_text.specs.declared.fault.TextFault.TheVariants.{BadLine, EndInFigure, Limit, NoMemory}
 use Rattle.figure_text.specs.declared.read.Item.{Item}
@@ -16,7 +16,7 @@ use Rattle.graph6_text.specs.Graphs.{EdgeGraph}
 use Rattle.graph6_text.proofs.LineLemmas.{one_graph}
 use Rattle.figure_text.specs.Lines.{rows_due, IsFirstLine, FirstInRange, IsColumnsLine, ColumnsInRange}
 use Rattle.figure_text.specs.Reading.{IsPlain, IsLine, Rows, RowsFail, is_note, of_lines, point_of, vertices_from}
-use Rattle.figure_text.specs.Figures.{IsHead, IsBody, ColumnsFail, BodyFails, IsDrawn, Begins, bars_of, witness_of, lines_due}
+use Rattle.figure_text.specs.Figures.{IsHead, IsBody, ColumnsFail, BodyFails, IsDrawn, Begins, bars_of, rects_of, witness_of, lines_due}
 use Rattle.figure_text.specs.Laws.{IsAnswer, OneAnswer}
 use Rattle.figure_text.proofs.UniqueRows.{IsLine-unique, IsPlain-no_line, Rows-unique, Why, Why-unique, Why-not_good, Stops-from_fail, Stops-longest, Stops-unique}
 
@@ -93,6 +93,7 @@ grid-fail n head text rest first job fig fault memory (lines, rows, full, is) fa
 body-fail : (kind : Kind) (n : ℕ) (head text rest : List ℕ) (first : ℕ) (fig : Figure) (fault : TextFault) → fault ≢ NoMemory → IsBody kind n head text rest fig → BodyFails kind n text first fault → ⊥
 body-fail (Grid job) n head text rest first fig fault memory body fails = grid-fail n head text rest first job fig fault memory body fails
 body-fail Bars n head text rest first fig fault memory body fails = bars-fail n head text rest first fig fault memory body fails
+body-fail Rects n head text rest first fig fault memory (lines, rows, full, is) fails = full-stops Rects n text first fault lines rest rows full memory fails
 body-fail (Witness kind) n head text rest first fig fault memory (graph, lines, of, rows, full, is) fails = full-stops (Witness kind) n text first fault lines rest rows full memory fails
 
 bars-fails-unique : (n : ℕ) (text : List ℕ) (first : ℕ) (fault fault' : TextFault) → fault ≢ NoMemory → fault' ≢ NoMemory → BodyFails Bars n text first fault → BodyFails Bars n text first fault' → fault ≡ fault'
@@ -107,6 +108,7 @@ bars-fails-unique n text first fault fault' memory memory' (inr fails) (inr fail
 body-fails-unique : (kind : Kind) (n : ℕ) (text : List ℕ) (first : ℕ) (fault fault' : TextFault) → fault ≢ NoMemory → fault' ≢ NoMemory → BodyFails kind n text first fault → BodyFails kind n text first fault' → fault ≡ fault'
 body-fails-unique (Grid job) n text first fault fault' memory memory' fails fails' = rows-fail-unique (Grid job) n text first fault fault' memory memory' fails fails'
 body-fails-unique Bars n text first fault fault' memory memory' fails fails' = bars-fails-unique n text first fault fault' memory memory' fails fails'
+body-fails-unique Rects n text first fault fault' memory memory' fails fails' = rows-fail-unique Rects n text first fault fault' memory memory' fails fails'
 body-fails-unique (Witness kind) n text first fault fault' memory memory' fails fails' = rows-fail-unique (Witness kind) n text first fault fault' memory memory' fails fails'
 
 -- a body gives one figure, and leaves one rest
@@ -118,6 +120,9 @@ body-unique Bars n head text rest rest' fig fig' (lines, columns, rows, full, pl
     let same = Rows-unique Bars text lines lines' (columns ++ 10 ∷ rest) (columns' ++ 10 ∷ rest') rows rows' (full ∙ sym full') in
     let line = IsLine-unique (columns ++ 10 ∷ rest) columns columns' rest rest' (record { parts = refl; plain = plain }) (record { parts = same.1; plain = plain' }) in
     (is ∙ ap₂ (λ (x : List (List ℕ)) (c : List ℕ). BarsFigure (of_lines (vertices_from 6) x) (bars_of x c)) same.0 line.0 ∙ sym is', line.1)
+body-unique Rects n head text rest rest' fig fig' (lines, rows, full, is) (lines', rows', full', is') =
+    let same = Rows-unique Rects text lines lines' rest rest' rows rows' (full ∙ sym full') in
+    (is ∙ ap (λ (x : List (List ℕ)). RectsFigure (of_lines (vertices_from 7) x) (rects_of x)) same.0 ∙ sym is', same.1)
 body-unique (Witness kind) n head text rest rest' fig fig' (graph, lines, of, rows, full, is) (graph', lines', of', rows', full', is') =
     let same = Rows-unique (Witness kind) text lines lines' rest rest' rows rows' (full ∙ sym full') in
     (is ∙ ap₂ (λ (g : EdgeGraph) (x : List (List ℕ)). WitnessFigure g (witness_of kind (of_lines (vertices_from 1) x))) (one_graph (part_at head 4) graph graph' of of') same.0 ∙ sym is', same.1)

@@ -1,7 +1,7 @@
 -- What lines have given while they are read one by one.
 use Rattle.std.specs.Prelude.{ℕ, ℤ, ◌≤◌, ◌≡◌, List, [], ◌∷◌, ◌++◌, length, drop}
 use Rattle.figure_text.specs.declared.judge.Kind.{Kind}
-use Rattle.figure_text.specs.declared.judge.Kind.TheVariants.{Grid, Bars, Witness}
+use Rattle.figure_text.specs.declared.judge.Kind.TheVariants.{Grid, Bars, Rects, Witness}
 use Rattle.figure_text.specs.declared.rows.Draft.{Draft}
 use Rattle.figure_text.specs.declared.rows.Taken.{Taken}
 use Rattle.figure_text.specs.declared.rows.Taken.TheVariants.{Next, Bad, Limit, NotClosed, NoMemory}
@@ -17,7 +17,7 @@ integer_in n words = integer_of (word_at words n)
 -- what the lines of some vertices give
 abbrev pub drafted : Kind → List (List ℕ) → Draft
 drafted (Grid job) lines =
-    record { lists = of_lines (vertices_from 4) lines; points = of_lines point_of lines; y = []; x1 = []; x2 = [] }
+    record { lists = of_lines (vertices_from 4) lines; points = of_lines point_of lines; y = []; x1 = []; x2 = []; y2 = [] }
 drafted Bars lines =
     record {
       lists = of_lines (vertices_from 6) lines;
@@ -25,8 +25,18 @@ drafted Bars lines =
       y = of_lines (integer_in 2) lines;
       x1 = of_lines (integer_in 4) lines;
       x2 = of_lines (integer_in 5) lines;
+      y2 = [];
     }
-drafted (Witness kind) lines = record { lists = of_lines (vertices_from 1) lines; points = []; y = []; x1 = []; x2 = [] }
+drafted Rects lines =
+    record {
+      lists = of_lines (vertices_from 7) lines;
+      points = [];
+      y = of_lines (integer_in 5) lines;
+      x1 = of_lines (integer_in 2) lines;
+      x2 = of_lines (integer_in 3) lines;
+      y2 = of_lines (integer_in 6) lines;
+    }
+drafted (Witness kind) lines = record { lists = of_lines (vertices_from 1) lines; points = []; y = []; x1 = []; x2 = []; y2 = [] }
 
 -- one line more, by its words
 abbrev pub with_row : Kind → Draft → List Word → Draft
@@ -38,6 +48,14 @@ with_row Bars draft words =
       y = draft.y ++ integer_in 2 words ∷ [];
       x1 = draft.x1 ++ integer_in 4 words ∷ [];
       x2 = draft.x2 ++ integer_in 5 words ∷ [];
+    }
+with_row Rects draft words =
+    record draft {
+      lists = draft.lists ++ vertices_from 7 words ∷ [];
+      y = draft.y ++ integer_in 5 words ∷ [];
+      x1 = draft.x1 ++ integer_in 2 words ∷ [];
+      x2 = draft.x2 ++ integer_in 3 words ∷ [];
+      y2 = draft.y2 ++ integer_in 6 words ∷ [];
     }
 with_row (Witness kind) draft words = record draft { lists = draft.lists ++ vertices_from 1 words ∷ [] }
 

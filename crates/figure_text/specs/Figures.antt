@@ -1,11 +1,12 @@
 -- The reading of a text from an offset on: a figure, a note, the end, or a bad place.
 use Rattle.std.specs.Prelude.{ℕ, ℤ, ◌+◌, ◌<◌, ◌≤◌, ◌≡◌, ◌⊎◌, IsTrue, IsFalse, List, [], ◌∷◌, ◌++◌, length, drop, map, slice_index_or, Some}
 use Rattle.pg_plane.specs.declared.figure.BarFigure.{BarFigure}
+use Rattle.pg_plane.specs.declared.figure.RectFigure.{RectFigure}
 use Rattle.figure_text.specs.declared.figure.Figure.{Figure}
-use Rattle.figure_text.specs.declared.figure.Figure.TheVariants.{Grid as GridFigure, Bars as BarsFigure, Witness as WitnessFigure}
+use Rattle.figure_text.specs.declared.figure.Figure.TheVariants.{Grid as GridFigure, Bars as BarsFigure, Rects as RectsFigure, Witness as WitnessFigure}
 use Rattle.figure_text.specs.declared.words.Word.{Word}
 use Rattle.figure_text.specs.declared.judge.Kind.{Kind}
-use Rattle.figure_text.specs.declared.judge.Kind.TheVariants.{Grid, Bars, Witness}
+use Rattle.figure_text.specs.declared.judge.Kind.TheVariants.{Grid, Bars, Rects, Witness}
 use Rattle.figure_text.specs.declared.fault.TextFault.{TextFault}
 use Rattle.figure_text.specs.declared.fault.TextFault.TheVariants.{BadLine, EndInFigure, Limit, NoMemory}
 use Rattle.figure_text.specs.declared.read.Item.{Item}
@@ -37,6 +38,11 @@ bars_of lines columns =
       column = columns_of (words_of columns);
     }
 
+-- the rectangles that lines of vertices give
+abbrev pub rects_of : List (List ℕ) → RectFigure
+rects_of lines =
+    record { x1 = of_lines (integer_in 2) lines; x2 = of_lines (integer_in 3) lines; y1 = of_lines (integer_in 5) lines; y2 = of_lines (integer_in 6) lines }
+
 -- vertices by their numbers
 abbrev pub ids : List ℕ → List VertexId
 ids us = map (λ u. record { 0 = u }) us
@@ -61,6 +67,8 @@ IsBody Bars n head text rest fig =
     (lines : List (List ℕ)) × (columns : List ℕ) × Rows Bars text lines (columns ++ 10 ∷ rest) × (length lines ≡ n) × IsPlain columns
     × IsColumnsLine (words_of columns) × ColumnsInRange (words_of columns)
     × (fig ≡ BarsFigure (of_lines (vertices_from 6) lines) (bars_of lines columns))
+IsBody Rects n head text rest fig =
+    (lines : List (List ℕ)) × Rows Rects text lines rest × (length lines ≡ n) × (fig ≡ RectsFigure (of_lines (vertices_from 7) lines) (rects_of lines))
 IsBody (Witness kind) n head text rest fig =
     (graph : EdgeGraph) × (lines : List (List ℕ)) × IsGraphOf head graph × Rows (Witness kind) text lines rest × (length lines ≡ n)
     × (fig ≡ WitnessFigure graph (witness_of kind (of_lines (vertices_from 1) lines)))
@@ -69,6 +77,7 @@ IsBody (Witness kind) n head text rest fig =
 abbrev pub lines_due : Kind → ℕ → ℕ
 lines_due (Grid job) n = n
 lines_due Bars n = n + 1
+lines_due Rects n = n
 lines_due (Witness kind) n = n
 
 -- the line of the columns does not come behind those of all vertices
@@ -87,6 +96,7 @@ ColumnsFail n text first NoMemory = Unit {0}
 abbrev pub BodyFails : Kind → ℕ → List ℕ → ℕ → TextFault → Type 0
 BodyFails (Grid job) n text first fault = RowsFail (Grid job) n text first fault
 BodyFails Bars n text first fault = RowsFail Bars n text first fault ⊎ ColumnsFail n text first fault
+BodyFails Rects n text first fault = RowsFail Rects n text first fault
 BodyFails (Witness kind) n text first fault = RowsFail (Witness kind) n text first fault
 
 -- the figure whose first line `head` has the number `first` and ends before this text, which is the end of some bytes

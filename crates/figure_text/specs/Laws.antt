@@ -3,7 +3,7 @@ use Rattle.std.specs.Prelude.{ℕ, suc, ℤ, pos, negsuc, ◌+◌, ◌<◌, ◌�
 use Rattle.map_lists.specs.Lists.{Lists}
 use Rattle.map_lists.specs.declared.ids.VertexId.{VertexId}
 use Rattle.figure_text.specs.declared.figure.Figure.{Figure}
-use Rattle.figure_text.specs.declared.figure.Figure.TheVariants.{Grid, Bars, Witness}
+use Rattle.figure_text.specs.declared.figure.Figure.TheVariants.{Grid, Bars, Rects, Witness}
 use Rattle.figure_text.specs.declared.words.Signed.{Signed}
 use Rattle.figure_text.specs.declared.read.Item.{Item}
 use Rattle.figure_text.specs.declared.read.Item.TheVariants.{Drawn}
@@ -36,12 +36,15 @@ abbrev pub IsInRange : Figure → Type 0
 IsInRange (Grid job lists points) = AreLists lists × All (λ p. IsCoordinate p.x × IsCoordinate p.y) points
 IsInRange (Bars lists bars) =
     AreLists lists × All IsCoordinate bars.y × All IsCoordinate bars.x1 × All IsCoordinate bars.x2 × All IsCoordinate bars.column
+IsInRange (Rects lists rects) =
+    AreLists lists × All IsCoordinate rects.x1 × All IsCoordinate rects.x2 × All IsCoordinate rects.y1 × All IsCoordinate rects.y2
 IsInRange (Witness graph witness) = AreNumbered witness.branch × All AreNumbered witness.paths
 
 -- how many lines the text of a figure has
 abbrev pub line_count : Figure → ℕ
 line_count (Grid job lists points) = length lists + 1
 line_count (Bars lists bars) = length lists + 2
+line_count (Rects lists rects) = length lists + 1
 line_count (Witness graph witness) = length witness.paths + 2
 
 -- What is printed of a figure is read as that figure, wherever it stands and whatever follows.

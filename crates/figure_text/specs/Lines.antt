@@ -1,13 +1,13 @@
 -- Which shape a line of a figure has, by its words, and the ranges of its numbers.
 use Rattle.std.specs.Prelude.{ℕ, ℤ, pos, neg_ℤ, ◌+◌, ◌-◌, ◌≡◌, ◌≤◌, ◌==◌, nat_lt, Bool, true, false, not, min, if◌then◌else◌, IsTrue, List, length, drop, All, Option, Some, None, option_map}
-use Rattle.figure_text.specs.declared.figure.GridJob.TheVariants.{Shift as ByShift, Schnyder as BySchnyder}
+use Rattle.figure_text.specs.declared.figure.GridJob.TheVariants.{Shift as ByShift, Schnyder as BySchnyder, Convex as ByConvex}
 use Rattle.figure_text.specs.declared.words.Signed.{Signed}
 use Rattle.figure_text.specs.declared.words.Word.{Word}
 use Rattle.figure_text.specs.declared.words.Word.TheVariants.{Number, Closing, Named, Other}
 use Rattle.figure_text.specs.declared.words.Name.{Name}
-use Rattle.figure_text.specs.declared.words.Name.TheVariants.{Figure, Shift, Schnyder, Bars, At, Y, X, Columns, Witness, K5, K33, Branch, Path}
+use Rattle.figure_text.specs.declared.words.Name.TheVariants.{Figure, Shift, Schnyder, Convex, Bars, Rect, At, Y, X, Columns, Witness, K5, K33, Branch, Path}
 use Rattle.figure_text.specs.declared.judge.Kind.{Kind}
-use Rattle.figure_text.specs.declared.judge.Kind.TheVariants.{Grid, Bars as BarKind, Witness as WitnessKind}
+use Rattle.figure_text.specs.declared.judge.Kind.TheVariants.{Grid, Bars as BarKind, Rects as RectKind, Witness as WitnessKind}
 use Rattle.graph6_text.specs.Faults.{line_fault}
 use Rattle.graph6_text.specs.declared.line.G6Fault.{G6Fault}
 use Rattle.graph6_text.specs.declared.line.G6Fault.TheVariants.{TooMany}
@@ -93,6 +93,28 @@ pub record BarsInRange (words : List Word) : Type 0 where
   pub b : IsInside (word_at words 5)
   pub neighbours : All (λ w. IsVertex w) (drop 6 words)
 
+-- `V x A B y C D:`
+pub record IsRectHead (place : ℕ) (words : List Word) : Type 0 where
+  pub placed : IsPlaced words place
+  pub x_word : word_at words 1 ≡ Named X
+  pub a : IsTrue (is_number (word_at words 2))
+  pub b : IsTrue (is_number (word_at words 3))
+  pub y_word : word_at words 4 ≡ Named Y
+  pub c : IsTrue (is_number (word_at words 5))
+  pub d : IsTrue (is_closing (word_at words 6))
+
+-- the same and neighbours
+pub record IsRectLine (place : ℕ) (words : List Word) : Type 0 where
+  pub head : IsRectHead place words
+  pub neighbours : All (λ w. IsTrue (is_natural w)) (drop 7 words)
+
+pub record RectsInRange (words : List Word) : Type 0 where
+  pub a : IsInside (word_at words 2)
+  pub b : IsInside (word_at words 3)
+  pub c : IsInside (word_at words 5)
+  pub d : IsInside (word_at words 6)
+  pub neighbours : All (λ w. IsVertex w) (drop 7 words)
+
 -- `columns` and numbers
 pub record IsColumnsLine (words : List Word) : Type 0 where
   pub word : word_at words 0 ≡ Named Columns
@@ -117,7 +139,9 @@ kind_by (Closing z) next = None
 kind_by Other next = None
 kind_by (Named Shift) next = Some (Grid ByShift)
 kind_by (Named Schnyder) next = Some (Grid BySchnyder)
+kind_by (Named Convex) next = Some (Grid ByConvex)
 kind_by (Named Bars) next = Some BarKind
+kind_by (Named Rect) next = Some RectKind
 kind_by (Named Witness) next = option_map (λ k. WitnessKind k) (subdivided_of next)
 kind_by (Named name) next = None
 
@@ -150,12 +174,14 @@ abbrev pub IsTail : Option Kind → List ℕ → Type 0
 IsTail None line = ⊥
 IsTail (Some (Grid job)) line = (length (words_of line) ≡ 4) × IsTrue (is_natural (word_at (words_of line) 3))
 IsTail (Some BarKind) line = (length (words_of line) ≡ 4) × IsTrue (is_natural (word_at (words_of line) 3))
+IsTail (Some RectKind) line = (length (words_of line) ≡ 4) × IsTrue (is_natural (word_at (words_of line) 3))
 IsTail (Some (WitnessKind kind)) line = (length (words_of line) ≡ 5) × IsTrue (is_graph_shaped (line_fault (part_at line 4)))
 
 abbrev pub TailInRange : Option Kind → List ℕ → Type 0
 TailInRange None line = Unit {0}
 TailInRange (Some (Grid job)) line = (1 ≤ size (word_at (words_of line) 3)) × (size (word_at (words_of line) 3) ≤ 4095)
 TailInRange (Some BarKind) line = (1 ≤ size (word_at (words_of line) 3)) × (size (word_at (words_of line) 3) ≤ 4095)
+TailInRange (Some RectKind) line = (1 ≤ size (word_at (words_of line) 3)) × (size (word_at (words_of line) 3) ≤ 4095)
 TailInRange (Some (WitnessKind kind)) line = line_fault (part_at line 4) ≡ None
 
 -- `figure K JOB N`, or `figure K witness KIND GRAPH`
@@ -173,6 +199,7 @@ pub record FirstInRange (line : List ℕ) : Type 0 where
 abbrev pub rows_due : Kind → List Word → ℕ
 rows_due (Grid job) words = size (word_at words 3)
 rows_due BarKind words = size (word_at words 3)
+rows_due RectKind words = size (word_at words 3)
 rows_due (WitnessKind kind) words = length (pairs_of kind) + 1
 
 -- the vertex that a number from 1 to 65535 names, from 0

@@ -3,13 +3,13 @@ use Rattle.std.specs.Prelude.{ℕ, ◌+◌, ◌<◌, ◌≡◌, ◌≢◌, Bool,
 use Rattle.pg_plane.specs.declared.point.Point.{Point}
 use Rattle.figure_text.specs.declared.words.Word.{Word}
 use Rattle.figure_text.specs.declared.judge.Kind.{Kind}
-use Rattle.figure_text.specs.declared.judge.Kind.TheVariants.{Grid, Bars, Witness}
+use Rattle.figure_text.specs.declared.judge.Kind.TheVariants.{Grid, Bars, Rects, Witness}
 use Rattle.figure_text.specs.declared.judge.Judged.{Judged}
 use Rattle.figure_text.specs.declared.judge.Judged.TheVariants.{Bad, Limit as BeyondLimit, Good}
 use Rattle.figure_text.specs.declared.fault.TextFault.{TextFault}
 use Rattle.figure_text.specs.declared.fault.TextFault.TheVariants.{BadLine, EndInFigure, Limit, NoMemory}
 use Rattle.figure_text.specs.Words.{words_of, word_at}
-use Rattle.figure_text.specs.Lines.{vertex_of, integer_of, IsGridLine, GridInRange, IsBarLine, BarsInRange, IsWitnessRow, WitnessInRange}
+use Rattle.figure_text.specs.Lines.{vertex_of, integer_of, IsGridLine, GridInRange, IsBarLine, BarsInRange, IsRectLine, RectsInRange, IsWitnessRow, WitnessInRange}
 
 -- a line without the byte 10 that closes it
 abbrev pub IsPlain : List ℕ → Type 0
@@ -34,11 +34,13 @@ Judges shape range Good = shape × range
 abbrev pub IsRow : Kind → ℕ → List Word → Type 0
 IsRow (Grid job) place words = IsGridLine place words
 IsRow Bars place words = IsBarLine place words
+IsRow Rects place words = IsRectLine place words
 IsRow (Witness kind) place words = IsWitnessRow kind place words
 
 abbrev pub RowInRange : Kind → List Word → Type 0
 RowInRange (Grid job) words = GridInRange words
 RowInRange Bars words = BarsInRange words
+RowInRange Rects words = RectsInRange words
 RowInRange (Witness kind) words = WitnessInRange words
 
 -- the text begins with the words and a space

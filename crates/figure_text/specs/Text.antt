@@ -10,10 +10,11 @@ use Rattle.kuratowski.specs.declared.witness.Witness.{Witness}
 use Rattle.kuratowski.specs.Witnesses.{branch_count, pairs_of}
 use Rattle.pg_plane.specs.declared.point.Point.{Point}
 use Rattle.pg_plane.specs.declared.figure.BarFigure.{BarFigure}
+use Rattle.pg_plane.specs.declared.figure.RectFigure.{RectFigure}
 use Rattle.figure_text.specs.declared.figure.GridJob.{GridJob}
-use Rattle.figure_text.specs.declared.figure.GridJob.TheVariants.{Shift, Schnyder}
+use Rattle.figure_text.specs.declared.figure.GridJob.TheVariants.{Shift, Schnyder, Convex}
 use Rattle.figure_text.specs.declared.figure.Figure.{Figure}
-use Rattle.figure_text.specs.declared.figure.Figure.TheVariants.{Grid, Bars, Witness as WitnessFigure}
+use Rattle.figure_text.specs.declared.figure.Figure.TheVariants.{Grid, Bars, Rects, Witness as WitnessFigure}
 
 -- signed numbers, each after a space
 abbrev pub spaced_signed : List ℤ → List ℕ
@@ -39,6 +40,7 @@ texts text (suc n) = texts text n ++ text n
 abbrev pub job_word : GridJob → List ℕ
 job_word Shift = codes "shift"
 job_word Schnyder = codes "schnyder"
+job_word Convex = codes "convex"
 
 -- the first line of figure k, by the word of its job and its number of vertices
 unfoldable pub first_line : ℕ → List ℕ → ℕ → List ℕ
@@ -54,6 +56,11 @@ unfoldable pub bar_line : ℕ → ℤ → ℤ → ℤ → List ℕ → List ℕ
 bar_line v y a b us =
     decimal (v + 1) ++ codes " y" ++ 32 ∷ signed_decimal y ++ codes " x" ++ 32 ∷ signed_decimal a ++ 32 ∷ signed_decimal b ++ neighbours us
 
+-- the line of vertex v of a rectangular dual, with its rectangle from a to b and from c up to d
+unfoldable pub rect_line : ℕ → ℤ → ℤ → ℤ → ℤ → List ℕ → List ℕ
+rect_line v a b c d us =
+    decimal (v + 1) ++ codes " x" ++ 32 ∷ signed_decimal a ++ 32 ∷ signed_decimal b ++ codes " y" ++ 32 ∷ signed_decimal c ++ 32 ∷ signed_decimal d ++ neighbours us
+
 -- the line of the columns of the edges
 unfoldable pub columns_line : List ℤ → List ℕ
 columns_line columns = codes "columns" ++ spaced_signed columns ++ 10 ∷ []
@@ -67,6 +74,11 @@ unfoldable pub bar_lines : BarFigure → Lists → ℕ → List ℕ
 bar_lines bars lists n =
     texts (λ v. bar_line v (integer_at bars.y v) (integer_at bars.x1 v) (integer_at bars.x2 v) (slice_index_or lists v [])) n
 
+-- the lines of the vertices of a rectangular dual
+unfoldable pub rect_lines : RectFigure → Lists → ℕ → List ℕ
+rect_lines rects lists n =
+    texts (λ v. rect_line v (integer_at rects.x1 v) (integer_at rects.x2 v) (integer_at rects.y1 v) (integer_at rects.y2 v) (slice_index_or lists v [])) n
+
 -- the text of a straight-line drawing with the number k
 abbrev pub grid_text : ℕ → GridJob → Lists → List Point → List ℕ
 grid_text k job lists points = first_line k (job_word job) (length lists) ++ grid_lines points lists (length lists)
@@ -75,6 +87,10 @@ grid_text k job lists points = first_line k (job_word job) (length lists) ++ gri
 abbrev pub bars_text : ℕ → Lists → BarFigure → List ℕ
 bars_text k lists bars =
     first_line k (codes "bars") (length lists) ++ (bar_lines bars lists (length lists) ++ columns_line bars.column)
+
+-- the text of a rectangular dual with the number k
+abbrev pub rects_text : ℕ → Lists → RectFigure → List ℕ
+rects_text k lists rects = first_line k (codes "rect") (length lists) ++ rect_lines rects lists (length lists)
 
 -- the word of the graph that a witness subdivides
 abbrev pub kind_word : Subdivided → List ℕ
@@ -113,6 +129,7 @@ witness_text k line witness =
 abbrev pub IsText : ℕ → Figure → List ℕ → Type 0
 IsText k (Grid job lists points) text = text ≡ grid_text k job lists points
 IsText k (Bars lists bars) text = text ≡ bars_text k lists bars
+IsText k (Rects lists rects) text = text ≡ rects_text k lists rects
 IsText k (WitnessFigure graph witness) text = (line : List ℕ) × IsGraphLine line graph × (text ≡ witness_text k line witness)
 
 -- there is a bar for each vertex
@@ -120,6 +137,13 @@ pub record HasBars (lists : Lists) (bars : BarFigure) : Type 0 where
   pub y : length bars.y ≡ length lists
   pub x1 : length bars.x1 ≡ length lists
   pub x2 : length bars.x2 ≡ length lists
+
+-- there is a rectangle for each vertex
+pub record HasRects (lists : Lists) (rects : RectFigure) : Type 0 where
+  pub x1 : length rects.x1 ≡ length lists
+  pub x2 : length rects.x2 ≡ length lists
+  pub y1 : length rects.y1 ≡ length lists
+  pub y2 : length rects.y2 ≡ length lists
 
 -- as many branches and paths as the kind has, and no path is empty
 pub record HasPaths (witness : Witness) : Type 0 where
@@ -131,4 +155,5 @@ pub record HasPaths (witness : Witness) : Type 0 where
 abbrev pub IsWhole : Figure → Type 0
 IsWhole (Grid job lists points) = length points ≡ length lists
 IsWhole (Bars lists bars) = HasBars lists bars
+IsWhole (Rects lists rects) = HasRects lists rects
 IsWhole (WitnessFigure graph witness) = HasPaths witness

@@ -4,7 +4,7 @@ use Rattle.std.specs.List.{slice_split}
 use Rattle.figure_text.specs.declared.words.Signed.{Signed}
 use Rattle.figure_text.specs.declared.words.Word.{Word}
 use Rattle.figure_text.specs.declared.words.Word.TheVariants.{Number, Closing, Named, Other}
-use Rattle.figure_text.specs.declared.words.Name.TheVariants.{Figure, Shift, Schnyder, Bars, At, Y, X, Columns, Witness, K5, K33, Branch, Path}
+use Rattle.figure_text.specs.declared.words.Name.TheVariants.{Figure, Shift, Schnyder, Convex, Bars, Rect, At, Y, X, Columns, Witness, K5, K33, Branch, Path}
 
 -- what numbers beyond all ranges are taken for
 abbrev pub far : ℕ
@@ -64,7 +64,9 @@ word_of word =
     if bytes_eq word (codes "figure") then Named Figure
     else if bytes_eq word (codes "shift") then Named Shift
     else if bytes_eq word (codes "schnyder") then Named Schnyder
+    else if bytes_eq word (codes "convex") then Named Convex
     else if bytes_eq word (codes "bars") then Named Bars
+    else if bytes_eq word (codes "rect") then Named Rect
     else if bytes_eq word (codes "at") then Named At
     else if bytes_eq word (codes "y") then Named Y
     else if bytes_eq word (codes "x") then Named X

@@ -3,7 +3,7 @@
 use graph6_text::Graph;
 use kuratowski::Witness;
 use map_lists::Rotations;
-use pg_plane::{BarFigure, Points};
+use pg_plane::{BarFigure, Points, RectFigure};
 
 /// The method by which a straight-line drawing was made.
 #[derive(Clone, Copy, Debug, PartialEq, Eq)]
@@ -12,6 +12,8 @@ pub enum GridJob {
     Shift,
     /// Schnyder's method.
     Schnyder,
+    /// Convex drawings by counts of faces.
+    Convex,
 }
 
 /// A drawing of a map, with the map's rotation lists, which are numbered from 0; or a witness that a graph has no
@@ -33,6 +35,13 @@ pub enum Figure {
         lists: Rotations,
         /// The bar of each vertex, and the column of each edge.
         bars: BarFigure,
+    },
+    /// A rectangular dual.
+    Rects {
+        /// The neighbours of each vertex in clockwise order.
+        lists: Rotations,
+        /// The rectangle of each vertex.
+        rects: RectFigure,
     },
     /// A subdivision of K5 or K3,3 in a graph.
     Witness {

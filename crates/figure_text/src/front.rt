@@ -86,6 +86,7 @@ fn tail_worth(alloc: Global, kind: Kind, line: &[u8], words: &[Word]) -> Result<
     match kind {
         Kind::Grid(_) => Ok(worth(is_counted(words), is_count_in_range(words))),
         Kind::Bars => Ok(worth(is_counted(words), is_count_in_range(words))),
+        Kind::Rects => Ok(worth(is_counted(words), is_count_in_range(words))),
         Kind::Witness(_) => witness_tail(alloc, line, words),
     }
 }

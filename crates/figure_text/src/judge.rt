@@ -4,7 +4,7 @@ ghost use Rattle.std.specs.Prelude.{if◌then◌else◌};
 ghost use Rattle.figure_text.specs.Reading.{Judges, IsRow, RowInRange};
 ghost use Rattle.kuratowski.specs.Witnesses.{branch_count, pairs_of};
 ghost use Rattle.figure_text.specs.Words.{word_at};
-ghost use Rattle.figure_text.specs.Lines.{size, is_natural, is_number, is_closing, kind_of, subdivided_of, rows_due, row_name, is_row_length, IsInside, IsVertex, IsPlaced, IsWitnessRow, WitnessInRange, IsGridHead, IsGridLine, GridInRange, IsBarHead, IsBarLine, BarsInRange, IsColumnsLine, ColumnsInRange};
+ghost use Rattle.figure_text.specs.Lines.{size, is_natural, is_number, is_closing, kind_of, subdivided_of, rows_due, row_name, is_row_length, IsInside, IsVertex, IsPlaced, IsWitnessRow, WitnessInRange, IsGridHead, IsGridLine, GridInRange, IsBarHead, IsBarLine, BarsInRange, IsRectHead, IsRectLine, RectsInRange, IsColumnsLine, ColumnsInRange};
 
 use crate::GridJob;
 use crate::words::{Name, Word};
@@ -17,6 +17,8 @@ pub enum Kind {
     Grid(GridJob),
     /// Lines of bars, and one of columns.
     Bars,
+    /// Lines of rectangles.
+    Rects,
     /// A line of branches, and lines of paths.
     Witness(Subdivided),
 }
@@ -212,6 +214,37 @@ fn is_bar_in_range(words: &[Word]) -> bool
         && are_vertices(words, 6)
 }
 
+// Whether a line begins as one of a rectangular dual.
+fn is_rect_head(words: &[Word], place: usize) -> bool
+    ensures { IsTrue result ↔ IsRectHead place words.now }
+{
+    is_placed(words, place)
+        && is_name(word(words, 1), Name::X)
+        && is_number_word(word(words, 2))
+        && is_number_word(word(words, 3))
+        && is_name(word(words, 4), Name::Y)
+        && is_number_word(word(words, 5))
+        && is_closing_word(word(words, 6))
+}
+
+// Whether a line has the shape of one of a rectangular dual.
+fn is_rect_line(words: &[Word], place: usize) -> bool
+    ensures { IsTrue result ↔ IsRectLine place words.now }
+{
+    is_rect_head(words, place) && are_naturals(words, 7)
+}
+
+// Whether the numbers of such a line are within their ranges.
+fn is_rect_in_range(words: &[Word]) -> bool
+    ensures { IsTrue result ↔ RectsInRange words.now }
+{
+    is_inside(word(words, 2))
+        && is_inside(word(words, 3))
+        && is_inside(word(words, 5))
+        && is_inside(word(words, 6))
+        && are_vertices(words, 7)
+}
+
 // Whether a line has the shape of that of the columns.
 fn is_columns_line(words: &[Word]) -> bool
     ensures { IsTrue result ↔ IsColumnsLine words.now }
@@ -247,7 +280,9 @@ pub fn job_kind(words: &[Word]) -> Option<Kind>
     match word(words, 2) {
         Word::Named(Name::Shift) => Some(Kind::Grid(GridJob::Shift)),
         Word::Named(Name::Schnyder) => Some(Kind::Grid(GridJob::Schnyder)),
+        Word::Named(Name::Convex) => Some(Kind::Grid(GridJob::Convex)),
         Word::Named(Name::Bars) => Some(Kind::Bars),
+        Word::Named(Name::Rect) => Some(Kind::Rects),
         Word::Named(Name::Witness) => witness_kind(word(words, 3)),
         _ => None,
     }
@@ -280,6 +315,7 @@ pub fn row_count(kind: Kind, words: &[Word]) -> usize
     match kind {
         Kind::Grid(_) => size_of(word(words, 3)) as usize,
         Kind::Bars => size_of(word(words, 3)) as usize,
+        Kind::Rects => size_of(word(words, 3)) as usize,
         Kind::Witness(kind) => paths_of(kind) + 1,
     }
 }
@@ -357,6 +393,7 @@ pub fn judged_row(kind: Kind, place: usize, words: &[Word]) -> Judged
     match kind {
         Kind::Grid(_) => worth(is_grid_line(words, place), is_grid_in_range(words)),
         Kind::Bars => worth(is_bar_line(words, place), is_bar_in_range(words)),
+        Kind::Rects => worth(is_rect_line(words, place), is_rect_in_range(words)),
         Kind::Witness(kind) => worth(is_witness_row(kind, words, place), are_vertices(words, 1)),
     }
 }

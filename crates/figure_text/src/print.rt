@@ -1,13 +1,13 @@
 //! A figure as text.
 ghost use Rattle.std.specs.Prelude.{◌≡◌, ◌+◌, ◌++◌, ◌∷◌, [], ℕ, List, length, map, flat_map, decimal, ◌<◌, OnOk, OnErr, IfOk};
 ghost use Rattle.std.specs.Fmt.{signed_decimal};
-ghost use Rattle.figure_text.specs.Text.{neighbours, spaced_signed, grid_line, grid_lines, bar_line, bar_lines, columns_line, first_line, job_word, grid_text, bars_text, IsText, IsWhole, HasBars, integer_at, point_at};
+ghost use Rattle.figure_text.specs.Text.{neighbours, spaced_signed, grid_line, grid_lines, bar_line, bar_lines, columns_line, rect_line, rect_lines, first_line, job_word, grid_text, bars_text, rects_text, IsText, IsWhole, HasBars, HasRects, integer_at, point_at};
 
 use crate::witness_print::witness_text_of;
 use crate::{Figure, GridJob};
 use itoa::Buffer;
 use map_lists::Rotations;
-use pg_plane::{BarFigure, Ints, Point, Points};
+use pg_plane::{BarFigure, Ints, Point, Points, RectFigure};
 use std::alloc::{AllocError, Global};
 
 // Appends a number.
@@ -153,6 +153,46 @@ fn push_columns(out: &mut Vec<u8>, columns: &Ints) -> Result<(), AllocError>
     Ok(())
 }
 
+// Appends the line of a vertex of a rectangular dual.
+fn push_rect_line(
+    out: &mut Vec<u8>,
+    v: usize,
+    rects: &RectFigure,
+    list: &[u16],
+) -> Result<(), AllocError>
+    requires max { v < usize.MAX }
+    requires x1 { v < length rects.now.x1 }
+    requires x2 { v < length rects.now.x2 }
+    requires y1 { v < length rects.now.y1 }
+    requires y2 { v < length rects.now.y2 }
+    ensures { OnOk result (out.new.items ≡ out.old.items
+        ++ rect_line v (integer_at rects.now.x1 v) (integer_at rects.now.x2 v) (integer_at rects.now.y1 v) (integer_at rects.now.y2 v) list.now) }
+{
+    push_number(out, v as u64 + 1)?;
+    out.extend_from_slice(b" x")?;
+    push_signed(out, integer(&rects.x1, v))?;
+    push_signed(out, integer(&rects.x2, v))?;
+    out.extend_from_slice(b" y")?;
+    push_signed(out, integer(&rects.y1, v))?;
+    push_signed(out, integer(&rects.y2, v))?;
+    push_neighbours(out, list)
+}
+
+// Appends the lines of the vertices of a rectangular dual.
+fn push_rect_lines(
+    out: &mut Vec<u8>,
+    lists: &Rotations,
+    rects: &RectFigure,
+) -> Result<(), AllocError>
+    requires { HasRects lists.now rects.now }
+    ensures { OnOk result (out.new.items ≡ out.old.items ++ rect_lines rects.now lists.now (length lists.now)) }
+{
+    for v in 0..lists.len() {
+        push_rect_line(out, v, rects, lists.list(v))?;
+    }
+    Ok(())
+}
+
 // The word of a method.
 fn word_of(job: GridJob) -> &'static [u8]
     ensures { result.now ≡ job_word job }
@@ -160,6 +200,7 @@ fn word_of(job: GridJob) -> &'static [u8]
     match job {
         GridJob::Shift => b"shift",
         GridJob::Schnyder => b"schnyder",
+        GridJob::Convex => b"convex",
     }
 }
 
@@ -195,6 +236,22 @@ fn bars_of(
     Ok(text)
 }
 
+// The text of a rectangular dual.
+fn rects_of(
+    alloc: Global,
+    number: u32,
+    lists: &Rotations,
+    rects: &RectFigure,
+) -> Result<Vec<u8>, AllocError>
+    requires { HasRects lists.now rects.now }
+    ensures { IfOk result (λ text. text.items ≡ rects_text number lists.now rects.now) }
+{
+    let mut text = Vec::new(alloc);
+    push_first(&mut text, number, b"rect", lists.len())?;
+    push_rect_lines(&mut text, lists, rects)?;
+    Ok(text)
+}
+
 // The text of a figure.
 fn text_of(alloc: Global, number: u32, fig: &Figure) -> Result<Vec<u8>, AllocError>
     requires { IsWhole fig.now }
@@ -203,6 +260,7 @@ fn text_of(alloc: Global, number: u32, fig: &Figure) -> Result<Vec<u8>, AllocErr
     match fig {
         Figure::Grid { job, lists, points } => grid_of(alloc, number, *job, lists, points),
         Figure::Bars { lists, bars } => bars_of(alloc, number, lists, bars),
+        Figure::Rects { lists, rects } => rects_of(alloc, number, lists, rects),
         Figure::Witness { graph, witness } => witness_text_of(alloc, number, graph, witness),
     }
 }
@@ -272,5 +330,22 @@ pub fn print_bars(
     ensures err { OnErr result (out.new.items ≡ out.old.items) }
 {
     let text = bars_of(alloc, number, lists, bars)?;
+    out.extend_from_slice(&text)
+}
+
+/// Appends the text of a rectangular dual with this number, of lists and a rectangle for each of them. After want
+/// of memory the bytes are as they were.
+pub fn print_rects(
+    alloc: Global,
+    number: u32,
+    lists: &Rotations,
+    rects: &RectFigure,
+    out: &mut Vec<u8>,
+) -> Result<(), AllocError>
+    requires { HasRects lists.now rects.now }
+    ensures ok { OnOk result (out.new.items ≡ out.old.items ++ rects_text number lists.now rects.now) }
+    ensures err { OnErr result (out.new.items ≡ out.old.items) }
+{
+    let text = rects_of(alloc, number, lists, rects)?;
     out.extend_from_slice(&text)
 }

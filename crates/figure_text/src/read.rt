@@ -18,7 +18,7 @@ use crate::words::{Word, words};
 use crate::{Figure, GridJob, TextFault};
 use kuratowski::{Kind as Subdivided, Witness};
 use map_lists::{PathList, Rotations, VertexId, VertexList};
-use pg_plane::{BarFigure, Ints, Points};
+use pg_plane::{BarFigure, Ints, Points, RectFigure};
 use std::alloc::{AllocError, Global};
 
 /// What stands at an offset of a text.
@@ -75,7 +75,7 @@ pub fn columns_line(alloc: Global, line: &[u8]) -> Columns
 
 // A draft with no lines.
 fn draft(alloc: Global) -> Draft
-    ensures { result ≡ record { lists = []; points = []; y = []; x1 = []; x2 = [] } }
+    ensures { result ≡ record { lists = []; points = []; y = []; x1 = []; x2 = []; y2 = [] } }
 {
     Draft {
         lists: Rotations::new(alloc),
@@ -83,6 +83,7 @@ fn draft(alloc: Global) -> Draft
         y: Ints::new(alloc),
         x1: Ints::new(alloc),
         x2: Ints::new(alloc),
+        y2: Ints::new(alloc),
     }
 }
 
@@ -179,6 +180,45 @@ fn bars_behind(
     let mut made = draft(alloc);
     match take_rows(alloc, bytes, at, Kind::Bars, n, first, &mut made) {
         Ok(next) => with_columns(alloc, bytes, next, n, first, made),
+        Err(fault) => Err(fault),
+    }
+}
+
+/// The rectangular dual of a draft.
+pub fn draft_rects(made: Draft) -> Figure
+    ensures { result ≡ Figure.Rects made.lists (record { x1 = made.x1; x2 = made.x2; y1 = made.y; y2 = made.y2 }) }
+{
+    let Draft {
+        lists,
+        y,
+        x1,
+        x2,
+        y2,
+        ..
+    } = made;
+    Figure::Rects {
+        lists,
+        rects: RectFigure { x1, x2, y1: y, y2 },
+    }
+}
+
+// Reads a rectangular dual behind its first line.
+fn rects_behind(
+    alloc: Global,
+    bytes: &[u8],
+    at: usize,
+    n: usize,
+    first: u32,
+) -> Result<Item, TextFault>
+    requires within { at ≤ length bytes.now }
+    requires few { n ≤ 4095 }
+    requires line { first ≤ 16777217 }
+    ensures { (head : List ℕ) → MatchResult result (IsDrawn Kind.Rects n head bytes.now (drop at bytes.now) first)
+        (BodyFails Kind.Rects n (drop at bytes.now) first) }
+{
+    let mut made = draft(alloc);
+    match take_rows(alloc, bytes, at, Kind::Rects, n, first, &mut made) {
+        Ok(next) => Ok(Item::Drawn(draft_rects(made), next, first + 1 + n as u32)),
         Err(fault) => Err(fault),
     }
 }
@@ -301,6 +341,7 @@ fn figure_behind(
     match kind {
         Kind::Grid(job) => grid_figure(alloc, bytes, at, job, n, first),
         Kind::Bars => bars_behind(alloc, bytes, at, n, first),
+        Kind::Rects => rects_behind(alloc, bytes, at, n, first),
         Kind::Witness(kind) => witness_behind(alloc, bytes, at, kind, n, head, first),
     }
 }

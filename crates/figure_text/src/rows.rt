@@ -1,7 +1,7 @@
 //! The lines of a figure's vertices, one by one.
 ghost use Rattle.std.specs.Prelude.{◌≡◌, ◌+◌, ◌++◌, ◌<◌, ◌≤◌, [], ◌∷◌, length, drop, map, All, OnOk, IfOk, IfSome, MatchResult};
 ghost use Rattle.figure_text.specs.Words.{words_of};
-ghost use Rattle.figure_text.specs.Lines.{vertex_of, signed_value, integer_of, IsVertex, GridInRange, BarsInRange, WitnessInRange};
+ghost use Rattle.figure_text.specs.Lines.{vertex_of, signed_value, integer_of, IsVertex, GridInRange, BarsInRange, RectsInRange, WitnessInRange};
 ghost use Rattle.figure_text.specs.Reading.{Judges, IsRow, RowInRange, RowsFail, point_of, vertices_from};
 ghost use Rattle.figure_text.specs.Drafts.{integer_in, with_row, drafted, TakesRow, RowsTo};
 
@@ -19,9 +19,12 @@ use std::alloc::{AllocError, Global};
 pub struct Draft {
     pub lists: Rotations,
     pub points: Points,
+    /// The height of each bar, or the lower side of each rectangle.
     pub y: Ints,
     pub x1: Ints,
     pub x2: Ints,
+    /// The upper side of each rectangle.
+    pub y2: Ints,
 }
 
 /// What became of the line that is due.
@@ -114,6 +117,19 @@ fn push_bars(words: &[Word], draft: &mut Draft) -> Result<(), AllocError>
     Ok(())
 }
 
+// Appends what the line of a vertex of a rectangular dual gives.
+fn push_rects(words: &[Word], draft: &mut Draft) -> Result<(), AllocError>
+    requires { RectsInRange words.now }
+    ensures { OnOk result (draft.new ≡ record draft.old { lists = draft.old.lists ++ vertices_from 7 words.now ∷ []; y = draft.old.y ++ integer_in 5 words.now ∷ []; x1 = draft.old.x1 ++ integer_in 2 words.now ∷ []; x2 = draft.old.x2 ++ integer_in 3 words.now ∷ []; y2 = draft.old.y2 ++ integer_in 6 words.now ∷ [] }) }
+{
+    push_vertices(behind(words, 7), &mut draft.lists)?;
+    draft.x1.push(integer_at(words, 2))?;
+    draft.x2.push(integer_at(words, 3))?;
+    draft.y.push(integer_at(words, 5))?;
+    draft.y2.push(integer_at(words, 6))?;
+    Ok(())
+}
+
 // Appends what a line of branches or of a path gives.
 fn push_list(words: &[Word], draft: &mut Draft) -> Result<(), AllocError>
     requires { WitnessInRange words.now }
@@ -131,6 +147,7 @@ fn push_row(kind: Kind, words: &[Word], draft: &mut Draft) -> Result<(), AllocEr
     match kind {
         Kind::Grid(_) => push_grid(words, draft),
         Kind::Bars => push_bars(words, draft),
+        Kind::Rects => push_rects(words, draft),
         Kind::Witness(_) => push_list(words, draft),
     }
 }

@@ -20,7 +20,9 @@ pub enum Name {
     Figure,
     Shift,
     Schnyder,
+    Convex,
     Bars,
+    Rect,
     At,
     Y,
     X,
@@ -192,8 +194,12 @@ fn named(bytes: &[u8]) -> Word
         Word::Named(Name::Shift)
     } else if is_text(bytes, b"schnyder") {
         Word::Named(Name::Schnyder)
+    } else if is_text(bytes, b"convex") {
+        Word::Named(Name::Convex)
     } else if is_text(bytes, b"bars") {
         Word::Named(Name::Bars)
+    } else if is_text(bytes, b"rect") {
+        Word::Named(Name::Rect)
     } else if is_text(bytes, b"at") {
         Word::Named(Name::At)
     } else if is_text(bytes, b"y") {
