@@ -12,9 +12,9 @@ use Rattle.std.proofs.Math.Seq.{drop-length, take-append-add}
 use Rattle.std.specs.Prelude.{Ok, Option, Some, None, IsTrue, IsFalse, ◌⊎◌}
 use Rattle.record_runs.specs.Texts.{input_limit}
 use Rattle.figure_text.specs.declared.figure.Figure.{Figure}
-use Rattle.figure_text.specs.declared.figure.Figure.TheVariants.{Grid as GridFigure, Bars as BarsFigure, Witness as WitnessFigure}
+use Rattle.figure_text.specs.declared.figure.Figure.TheVariants.{Grid as GridFigure, Bars as BarsFigure, Rects as RectsFigure, Witness as WitnessFigure}
 use Rattle.figure_text.specs.declared.judge.Kind.{Kind}
-use Rattle.figure_text.specs.declared.judge.Kind.TheVariants.{Grid, Bars, Witness}
+use Rattle.figure_text.specs.declared.judge.Kind.TheVariants.{Grid, Bars, Rects, Witness}
 use Rattle.figure_text.specs.declared.rows.Draft.{Draft}
 use Rattle.figure_text.specs.declared.fault.TextFault.{TextFault}
 use Rattle.figure_text.specs.declared.fault.TextFault.TheVariants as fault
@@ -34,7 +34,7 @@ use Rattle.figure_text.specs.Laws.{IsAnswer}
 use Rattle.figure_lines.specs.Reading.{AreItems, EndsAs, IsReading}
 use Rattle.figure_lines.specs.Heads.{head_kind, HasGraph}
 use Rattle.figure_lines.specs.declared.head.Head.{Head}
-use Rattle.figure_lines.specs.declared.head.Head.TheVariants.{Grid as GridHead, Bars as BarsHead, Witness as WitnessHead}
+use Rattle.figure_lines.specs.declared.head.Head.TheVariants.{Grid as GridHead, Bars as BarsHead, Rects as RectsHead, Witness as WitnessHead}
 use Rattle.figure_lines.specs.Given.{AreDrawn}
 use Rattle.figure_lines.specs.Progress.{IsBegun, IsDue, Progress, Closes}
 use Rattle.figure_lines.specs.Steps.{no_lines, IsFresh, GoesOn, IsMadeOf, IsGrown}
@@ -71,6 +71,7 @@ IsBegun-more head n first line draft text rest more b = record {
 drafted-lists : (kind : Kind) (lines : List (List ℕ)) → length (drafted kind lines).lists ≡ length lines
 drafted-lists (Grid job) lines = length-map lines (λ l. vertices_from 4 (words_of l))
 drafted-lists Bars lines = length-map lines (λ l. vertices_from 6 (words_of l))
+drafted-lists Rects lines = length-map lines (λ l. vertices_from 7 (words_of l))
 drafted-lists (Witness kind) lines = length-map lines (λ l. vertices_from 1 (words_of l))
 
 pub lists-lines : {head : Head} {n first line : ℕ} {draft : Draft} {text rest : List ℕ} (b : IsBegun head n first line draft text rest) → length draft.lists ≡ length b.lines
@@ -80,6 +81,7 @@ lists-lines {head = head} b = ap (λ (d : Draft). length d.lists) b.gives ∙ dr
 pub row-body : (kind : Kind) (n : ℕ) (text : List ℕ) (first : ℕ) (f : TextFault) → RowsFail kind n text first f → BodyFails kind n text first f
 row-body (Grid job) n text first f fails = fails
 row-body Bars n text first f fails = inl fails
+row-body Rects n text first f fails = fails
 row-body (Witness kind) n text first f fails = fails
 
 -- why nothing stands at the front of a text
@@ -233,6 +235,7 @@ module _ (consumed : List ℕ) (figures : List Figure) (number : ℕ) (line : Li
       none-drafted : (kind : Kind) → no_lines ≡ drafted kind []
       none-drafted (Grid job) = refl
       none-drafted Bars = refl
+      none-drafted Rects = refl
       none-drafted (Witness kind) = refl
 
       is-due : (due : Due) → IsFresh head n due → IsBegun head n p.first (number + 1) no_lines (drop p.at (consumed ++ 10 ∷ [])) [] → IsDue due p.first (number + 1) (drop p.at (consumed ++ 10 ∷ [])) []
@@ -341,6 +344,8 @@ module _ (consumed : List ℕ) (figures : List Figure) (number : ℕ) (line : Li
         by_head (GridHead job) n body lines draft fig begins graph rows count gives made counted =
             is_whole (Grid job) n body fig begins (lines, rows, count, made ∙ ap (λ (d : Draft). GridFigure job d.lists d.points) gives) counted
         by_head BarsHead n body lines draft fig begins graph rows count gives none counted = absurd none
+        by_head RectsHead n body lines draft fig begins graph rows count gives made counted =
+            is_whole Rects n body fig begins (lines, rows, count, made ∙ ap (λ (d : Draft). RectsFigure d.lists (record { x1 = d.x1; x2 = d.x2; y1 = d.y; y2 = d.y2 })) gives) counted
         by_head (WitnessHead kind graph) n body lines draft fig begins of rows count gives made counted =
             is_whole (Witness kind) n body fig begins (graph, lines, of, rows, count, made ∙ ap (λ (d : Draft). WitnessFigure graph (witness_of kind d.lists)) gives) counted
 
@@ -425,6 +430,7 @@ one_more xs ys x y same = let l = length-append xs (x ∷ []) in let m = length-
 pub lists-with_row : (kind : Kind) (draft : Draft) (words : List Word) → length (with_row kind draft words).lists ≡ length draft.lists + 1
 lists-with_row (Grid job) draft words = length-append draft.lists (vertices_from 4 words ∷ [])
 lists-with_row Bars draft words = length-append draft.lists (vertices_from 6 words ∷ [])
+lists-with_row Rects draft words = length-append draft.lists (vertices_from 7 words ∷ [])
 lists-with_row (Witness kind) draft words = length-append draft.lists (vertices_from 1 words ∷ [])
 
 -- what a line more has given is drawn
@@ -437,6 +443,7 @@ AreDrawn-more (GridHead job) draft words drawn =
         in_range = in_range-more draft.points words d.in_range;
       };
       bars = λ none. absurd (cc);
+      rects = λ none. absurd (cc);
     }
 AreDrawn-more BarsHead draft words drawn =
     let d = drawn.bars refl in
@@ -447,5 +454,18 @@ AreDrawn-more BarsHead draft words drawn =
         x1 = one_more draft.x1 draft.lists (integer_in 4 words) (vertices_from 6 words) d.x1;
         x2 = one_more draft.x2 draft.lists (integer_in 5 words) (vertices_from 6 words) d.x2;
       };
+      rects = λ none. absurd (cc);
     }
-AreDrawn-more (WitnessHead kind graph) draft words drawn = record { points = λ job none. absurd (cc); bars = λ none. absurd (cc) }
+AreDrawn-more RectsHead draft words drawn =
+    let d = drawn.rects refl in
+    record {
+      points = λ job none. absurd (cc);
+      bars = λ none. absurd (cc);
+      rects = λ same. record {
+        x1 = one_more draft.x1 draft.lists (integer_in 2 words) (vertices_from 7 words) d.x1;
+        x2 = one_more draft.x2 draft.lists (integer_in 3 words) (vertices_from 7 words) d.x2;
+        y1 = one_more draft.y draft.lists (integer_in 5 words) (vertices_from 7 words) d.y1;
+        y2 = one_more draft.y2 draft.lists (integer_in 6 words) (vertices_from 7 words) d.y2;
+      };
+    }
+AreDrawn-more (WitnessHead kind graph) draft words drawn = record { points = λ job none. absurd (cc); bars = λ none. absurd (cc); rects = λ none. absurd (cc) }

@@ -4,7 +4,7 @@ use Rattle.std.proofs.lemmas.List.{drop-append-le}
 use Rattle.std.specs.Prelude.{Ok}
 use Rattle.figure_text.specs.declared.figure.Figure.{Figure}
 use Rattle.figure_text.specs.declared.judge.Kind.{Kind}
-use Rattle.figure_text.specs.declared.judge.Kind.TheVariants.{Grid, Bars, Witness}
+use Rattle.figure_text.specs.declared.judge.Kind.TheVariants.{Grid, Bars, Rects, Witness}
 use Rattle.figure_text.specs.declared.read.Item.TheVariants.{Drawn, Note}
 use Rattle.figure_text.specs.Reading.{IsLine, Rows, closed}
 use Rattle.figure_text.specs.Figures.{IsBody}
@@ -42,6 +42,7 @@ IsBody-more Bars n head text rest more fig (lines, columns, rows, full, plain, s
   within,
   is,
 )
+IsBody-more Rects n head text rest more fig (lines, rows, full, is) = (lines, Rows-more Rects text lines rest more rows, full, is)
 IsBody-more (Witness kind) n head text rest more fig (graph, lines, of, rows, full, is) =
     (graph, lines, of, Rows-more (Witness kind) text lines rest more rows, full, is)
 

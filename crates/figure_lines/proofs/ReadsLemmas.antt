@@ -5,10 +5,10 @@ use Rattle.std.proofs.lemmas.List.Elements.{All-cons}
 use Rattle.std.specs.Prelude.{IsFalse, Option, Some, None}
 use Rattle.record_runs.specs.Texts.{input_limit}
 use Rattle.figure_text.specs.declared.figure.Figure.{Figure}
-use Rattle.figure_text.specs.declared.figure.Figure.TheVariants.{Grid as GridFigure, Bars as BarsFigure, Witness as WitnessFigure}
+use Rattle.figure_text.specs.declared.figure.Figure.TheVariants.{Grid as GridFigure, Bars as BarsFigure, Rects as RectsFigure, Witness as WitnessFigure}
 use Rattle.figure_text.specs.declared.figure.GridJob.TheVariants.{Shift}
 use Rattle.figure_text.specs.declared.judge.Kind.{Kind}
-use Rattle.figure_text.specs.declared.judge.Kind.TheVariants.{Grid, Bars, Witness}
+use Rattle.figure_text.specs.declared.judge.Kind.TheVariants.{Grid, Bars, Rects, Witness}
 use Rattle.figure_text.specs.declared.rows.Draft.{Draft}
 use Rattle.kuratowski.specs.declared.witness.Kind.{Kind as Subdivided}
 use Rattle.kuratowski.specs.declared.witness.Kind.TheVariants.{K5, K33}
@@ -20,7 +20,7 @@ use Rattle.figure_text.specs.Figures.{IsHead, columns_of, witness_of}
 use Rattle.figure_lines.specs.Reading.{IsReading}
 use Rattle.figure_lines.specs.Heads.{head_kind, HasGraph}
 use Rattle.figure_lines.specs.declared.head.Head.{Head}
-use Rattle.figure_lines.specs.declared.head.Head.TheVariants.{Grid as GridHead, Bars as BarsHead, Witness as WitnessHead}
+use Rattle.figure_lines.specs.declared.head.Head.TheVariants.{Grid as GridHead, Bars as BarsHead, Rects as RectsHead, Witness as WitnessHead}
 use Rattle.figure_lines.specs.Given.{AreDrawn}
 use Rattle.figure_lines.specs.Progress.{Progress, Closes}
 use Rattle.figure_lines.specs.Steps.{no_lines, IsGrown}
@@ -44,6 +44,7 @@ AreDrawn-none : (head : Head) → AreDrawn head no_lines
 AreDrawn-none head = record {
   points = λ job same. record { count = refl; in_range = λ v below. absurd (omega arith) };
   bars = λ same. record { y = refl; x1 = refl; x2 = refl };
+  rects = λ same. record { x1 = refl; x2 = refl; y1 = refl; y2 = refl };
 }
 
 -- a figure that begins with n vertices to come
@@ -54,12 +55,14 @@ fresh head n first some few = record { first = first; due = Row (record { head =
 head-said : (kind : Kind) (line : List ℕ) → TailInRange (Some kind) line → (head : Head) × (head_kind head ≡ kind) × HasGraph head line
 head-said (Grid job) line range = (GridHead job, refl, tt)
 head-said Bars line range = (BarsHead, refl, tt)
+head-said Rects line range = (RectsHead, refl, tt)
 head-said (Witness kind) line none = let said = graph-said (part_at line 4) none in (WitnessHead kind said.0, refl, said.1)
 
 -- and how many lines it announces
 few-due : (kind : Kind) (line : List ℕ) → TailInRange (Some kind) line → (1 ≤ rows_due kind (words_of line)) × (rows_due kind (words_of line) ≤ 4095)
 few-due (Grid job) line range = range
 few-due Bars line range = range
+few-due Rects line range = range
 few-due (Witness kind) line none = by_kind kind
   where
     by_kind : (kind : Subdivided) → (1 ≤ rows_due (Witness kind) (words_of line)) × (rows_due (Witness kind) (words_of line) ≤ 4095)
@@ -70,6 +73,7 @@ few-due (Witness kind) line none = by_kind kind
 all-drawn : (head : Head) (first : ℕ) (draft : Draft) → 0 < length draft.lists → length draft.lists < 4096 → AreDrawn head draft → (after : After) × IsGrown head (length draft.lists) first draft after
 all-drawn (GridHead job) first draft some few drawn = (Whole (GridFigure job draft.lists draft.points), (omega arith, refl))
 all-drawn BarsHead first draft some few drawn = (Goes (Some (record { first = first; due = Columns (record { draft = draft; some = some; few = few; drawn = drawn }) })), (refl, (omega arith, refl, refl)))
+all-drawn RectsHead first draft some few drawn = (Whole (RectsFigure draft.lists (record { x1 = draft.x1; x2 = draft.x2; y1 = draft.y; y2 = draft.y2 })), (omega arith, refl))
 all-drawn (WitnessHead kind graph) first draft some few drawn = (Whole (WitnessFigure graph (witness_of kind draft.lists)), (omega arith, refl))
 
 some-grown : (head : Head) (n first : ℕ) (draft : Draft) → 0 < n → n < 4096 → length draft.lists ≤ n → AreDrawn head draft → (after : After) × IsGrown head n first draft after

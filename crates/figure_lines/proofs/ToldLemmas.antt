@@ -9,13 +9,13 @@ use Rattle.graph6_text.specs.Faults.{is_bad_byte, line_start, rest_fault, fault_
 use Rattle.graph6_text.specs.declared.line.G6Fault.{G6Fault}
 use Rattle.graph6_text.proofs.LineLemmas.{body_of}
 use Rattle.figure_text.specs.declared.judge.Kind.{Kind}
-use Rattle.figure_text.specs.declared.judge.Kind.TheVariants.{Grid, Bars, Witness}
+use Rattle.figure_text.specs.declared.judge.Kind.TheVariants.{Grid, Bars, Rects, Witness}
 use Rattle.figure_text.specs.declared.words.Word.{Word}
 use Rattle.figure_text.specs.declared.words.Word.TheVariants.{Number, Closing, Named, Other}
 use Rattle.figure_text.specs.declared.words.Name.{Name}
 use Rattle.figure_text.specs.declared.words.Name.TheVariants as name
 use Rattle.figure_text.specs.Words.{words_of, word_at, part_at}
-use Rattle.figure_text.specs.Lines.{size, is_natural, is_number, is_closing, is_graph_shaped, kind_of, row_name, is_row_length, IsTail, TailInRange, IsInside, IsVertex, IsPlaced, IsFirstLine, FirstInRange, IsGridHead, IsBarHead, IsColumnsLine, ColumnsInRange}
+use Rattle.figure_text.specs.Lines.{size, is_natural, is_number, is_closing, is_graph_shaped, kind_of, row_name, is_row_length, IsTail, TailInRange, IsInside, IsVertex, IsPlaced, IsFirstLine, FirstInRange, IsGridHead, IsBarHead, IsRectHead, IsColumnsLine, ColumnsInRange}
 use Rattle.figure_text.specs.Reading.{IsRow, RowInRange}
 
 -- it can be told whether this holds
@@ -60,9 +60,11 @@ number_of name.K5 = 9
 number_of name.K33 = 10
 number_of name.Branch = 11
 number_of name.Path = 12
+number_of name.Convex = 13
+number_of name.Rect = 14
 
 name_of : ℕ → Name
-name_of k = get_or (name.Figure ∷ name.Shift ∷ name.Schnyder ∷ name.Bars ∷ name.At ∷ name.Y ∷ name.X ∷ name.Columns ∷ name.Witness ∷ name.K5 ∷ name.K33 ∷ name.Branch ∷ name.Path ∷ []) k name.Figure
+name_of k = get_or (name.Figure ∷ name.Shift ∷ name.Schnyder ∷ name.Bars ∷ name.At ∷ name.Y ∷ name.X ∷ name.Columns ∷ name.Witness ∷ name.K5 ∷ name.K33 ∷ name.Branch ∷ name.Path ∷ name.Convex ∷ name.Rect ∷ []) k name.Figure
 
 name-again : (n : Name) → name_of (number_of n) ≡ n
 unfolding name_of number_of
@@ -79,6 +81,8 @@ name-again name.K5 = refl
 name-again name.K33 = refl
 name-again name.Branch = refl
 name-again name.Path = refl
+name-again name.Convex = refl
+name-again name.Rect = refl
 
 told-name : (n m : Name) → Told (n ≡ m)
 told-name n m = told-by (λ e. sym (name-again n) ∙ ap name_of e ∙ name-again m) (λ e. ap number_of e) (told-equal (number_of n) (number_of m))
@@ -115,10 +119,17 @@ told-bar_head place words =
     (told-both (told-placed words place) (told-both (told-named (word_at words 1) name.Y) (told-both (told-true (is_number (word_at words 2)))
     (told-both (told-named (word_at words 3) name.X) (told-both (told-true (is_number (word_at words 4))) (told-true (is_closing (word_at words 5))))))))
 
+told-rect_head : (place : ℕ) (words : List Word) → Told (IsRectHead place words)
+told-rect_head place words =
+    told-by (λ p. record { placed = p.0; x_word = p.1.0; a = p.1.1.0; b = p.1.1.1.0; y_word = p.1.1.1.1.0; c = p.1.1.1.1.1.0; d = p.1.1.1.1.1.1 }) (λ r. (r.placed, (r.x_word, (r.a, (r.b, (r.y_word, (r.c, r.d)))))))
+    (told-both (told-placed words place) (told-both (told-named (word_at words 1) name.X) (told-both (told-true (is_number (word_at words 2))) (told-both (told-true (is_number (word_at words 3)))
+    (told-both (told-named (word_at words 4) name.Y) (told-both (told-true (is_number (word_at words 5))) (told-true (is_closing (word_at words 6)))))))))
+
 -- the line of a vertex
 pub told-row : (kind : Kind) (place : ℕ) (words : List Word) → Told (IsRow kind place words)
 told-row (Grid job) place words = told-by (λ p. record { head = p.0; neighbours = p.1 }) (λ r. (r.head, r.neighbours)) (told-both (told-grid_head place words) (told-naturals (drop 4 words)))
 told-row Bars place words = told-by (λ p. record { head = p.0; neighbours = p.1 }) (λ r. (r.head, r.neighbours)) (told-both (told-bar_head place words) (told-naturals (drop 6 words)))
+told-row Rects place words = told-by (λ p. record { head = p.0; neighbours = p.1 }) (λ r. (r.head, r.neighbours)) (told-both (told-rect_head place words) (told-naturals (drop 7 words)))
 told-row (Witness kind) place words =
     told-by (λ p. record { word = p.0; long = p.1.0; numbers = p.1.1 }) (λ r. (r.word, (r.long, r.numbers)))
     (told-both (told-named (word_at words 0) (row_name place)) (told-both (told-true (is_row_length kind place (length words))) (told-naturals (drop 1 words))))
@@ -130,6 +141,9 @@ told-row_range (Grid job) words =
 told-row_range Bars words =
     told-by (λ p. record { y = p.0; a = p.1.0; b = p.1.1.0; neighbours = p.1.1.1 }) (λ r. (r.y, (r.a, (r.b, r.neighbours))))
     (told-both (told-inside (word_at words 2)) (told-both (told-inside (word_at words 4)) (told-both (told-inside (word_at words 5)) (told-vertices (drop 6 words)))))
+told-row_range Rects words =
+    told-by (λ p. record { a = p.0; b = p.1.0; c = p.1.1.0; d = p.1.1.1.0; neighbours = p.1.1.1.1 }) (λ r. (r.a, (r.b, (r.c, (r.d, r.neighbours)))))
+    (told-both (told-inside (word_at words 2)) (told-both (told-inside (word_at words 3)) (told-both (told-inside (word_at words 5)) (told-both (told-inside (word_at words 6)) (told-vertices (drop 7 words))))))
 told-row_range (Witness kind) words = told-vertices (drop 1 words)
 
 -- that of the columns
@@ -151,12 +165,14 @@ told-tail : (kind : Option Kind) (line : List ℕ) → Told (IsTail kind line)
 told-tail None line = inr (λ none. none)
 told-tail (Some (Grid job)) line = told-both (told-equal (length (words_of line)) 4) (told-true (is_natural (word_at (words_of line) 3)))
 told-tail (Some Bars) line = told-both (told-equal (length (words_of line)) 4) (told-true (is_natural (word_at (words_of line) 3)))
+told-tail (Some Rects) line = told-both (told-equal (length (words_of line)) 4) (told-true (is_natural (word_at (words_of line) 3)))
 told-tail (Some (Witness kind)) line = told-both (told-equal (length (words_of line)) 5) (told-true (is_graph_shaped (line_fault (part_at line 4))))
 
 told-tail_range : (kind : Option Kind) (line : List ℕ) → Told (TailInRange kind line)
 told-tail_range None line = inl tt
 told-tail_range (Some (Grid job)) line = told-both (told-most 1 (size (word_at (words_of line) 3))) (told-most (size (word_at (words_of line) 3)) 4095)
 told-tail_range (Some Bars) line = told-both (told-most 1 (size (word_at (words_of line) 3))) (told-most (size (word_at (words_of line) 3)) 4095)
+told-tail_range (Some Rects) line = told-both (told-most 1 (size (word_at (words_of line) 3))) (told-most (size (word_at (words_of line) 3)) 4095)
 told-tail_range (Some (Witness kind)) line = told-none (line_fault (part_at line 4))
 
 pub told-first : (line : List ℕ) → Told (IsFirstLine line)

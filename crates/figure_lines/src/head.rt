@@ -15,6 +15,8 @@ pub enum Head {
     Grid(GridJob),
     /// A visibility drawing.
     Bars,
+    /// A rectangular dual.
+    Rects,
     /// A subdivision of this graph, in that one.
     Witness(Subdivided, Graph),
 }
@@ -27,6 +29,7 @@ impl Head {
         match self {
             Head::Grid(job) => Kind::Grid(*job),
             Head::Bars => Kind::Bars,
+            Head::Rects => Kind::Rects,
             Head::Witness(kind, _) => Kind::Witness(*kind),
         }
     }
@@ -41,6 +44,7 @@ pub fn head_of(alloc: Global, kind: Kind, line: &[u8]) -> Result<Head, AllocErro
     match kind {
         Kind::Grid(job) => Ok(Head::Grid(job)),
         Kind::Bars => Ok(Head::Bars),
+        Kind::Rects => Ok(Head::Rects),
         Kind::Witness(subdivided) => {
             let graph = front_graph(alloc, line)?;
             Ok(Head::Witness(subdivided, graph))

@@ -36,6 +36,7 @@ impl HeldDraft {
             y: Ints::new(alloc),
             x1: Ints::new(alloc),
             x2: Ints::new(alloc),
+            y2: Ints::new(alloc),
         };
         match Box::new(alloc, draft) {
             Ok(inside) => Ok(HeldDraft { inside }),

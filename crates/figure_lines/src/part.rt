@@ -69,7 +69,13 @@ pub fn take_line(
     }
     let alone = pending.is_empty();
     join(alone, pending, &part[..len])?;
-    let after = after_line(alloc, found, before, chosen(alone, &part[..len], pending), line)?;
+    let after = after_line(
+        alloc,
+        found,
+        before,
+        chosen(alone, &part[..len], pending),
+        line,
+    )?;
     pending.clear();
     Ok(Line::Closed(len + 1, after))
 }

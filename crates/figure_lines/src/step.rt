@@ -11,7 +11,8 @@ use crate::ending::Ending;
 use crate::head::{Head, head_of};
 use crate::held::{HeldDraft, HeldFigure};
 use figure_text::{
-    Columns, Draft, Figure, Front, Judged, Word, columns_line, draft_witness, front_line,
+    Columns, Draft, Figure, Front, Judged, Word, columns_line, draft_rects, draft_witness,
+    front_line,
 };
 use pg_plane::{BarFigure, Ints};
 use std::alloc::{AllocError, Global};
@@ -77,6 +78,10 @@ fn all_drawn(alloc: Global, head: Head, first: u32, draft: HeldDraft) -> Result<
             first,
             due: Due::Columns(AllBars { draft }),
         }))),
+        Head::Rects => {
+            let held = HeldFigure::new(alloc, draft_rects(draft.into_draft()))?;
+            Ok(After::Whole(held))
+        }
         Head::Witness(kind, graph) => {
             let witness = draft_witness(alloc, kind, draft.draft())?;
             let held = HeldFigure::new(alloc, Figure::Witness { graph, witness })?;

@@ -1,5 +1,5 @@
 -- The part holds a byte 10 or none.
-use Rattle.std.proofs.Common.{◌≡◌, ◌<◌, ◌++◌, length, take, arith, rules, ◌∙◌}
+use Rattle.std.proofs.Common.{◌≡◌, ◌<◌, ◌++◌, length, take, arith, rules}
 use Rattle.figure_lines.proofs.PartLemmas.{joins-all, closes-line, none-of_length, joined}
 use Rattle.figure_lines.proofs.part.take_line.Goals as goal
 
@@ -13,5 +13,5 @@ returns-clause-takes c = λ consumed figures p few.
     let part = c.args.part.now in
     let within : n < length part = let le = c.line_length-len.ensures.within in let ne = c.if-len-part.false in omega arith in
     let line : c.chosen.result.now ≡ c.args.pending.now.items ++ take n part =
-        joined c.is_empty-alone.result c.args.pending.now.items (take n part) c.join.new.front.items c.chosen.result.now (λ is. none-of_length c.args.pending.now.items (search rules)) c.in_ok-join.ensures (search rules) in
+    joined c.is_empty-alone.result c.args.pending.now.items (take n part) c.join.new.front.items c.chosen.result.now (λ is. none-of_length c.args.pending.now.items (search rules)) c.in_ok-join.ensures (search rules) in
     (c.clear.ensures.items, closes-line consumed figures c.args.line c.args.pending.now.items c.chosen.result.now c.args.before c.in_ok-after.after part n within c.line_length-len.ensures.before (c.line_length-len.ensures.found within) few line p c.in_ok-after.ensures.closes)
