@@ -4,7 +4,7 @@ use Rattle.std.specs.Fmt.{digits}
 use Rattle.map_lists.specs.Lists.{Lists}
 use Rattle.pg_plane.specs.declared.point.Point.{Point}
 use Rattle.svg_out.specs.Edges.{later_neighbours, edges}
-use Rattle.svg_out.specs.Svg.{attribute, ends, segment, front, opening, closing, thick, dot, grid_body, bar_marks, column_marks, bars_body, grid_svg, bars_svg}
+use Rattle.svg_out.specs.Svg.{attribute, ends, segment, front, opening, closing, thick, dot, grid_body, bar_marks, column_marks, bars_body, sides, unfilled, tile, tiles, grid_svg, bars_svg, rects_svg}
 
 -- lines, each closed by byte 10
 abbrev closed : List (List ℕ) → List ℕ
@@ -44,3 +44,15 @@ triangle_of_bars : bars_svg triangle (record { y = pos 0 ∷ pos 2 ∷ pos 1 ∷
     ∷ codes "</svg>" ∷ [])
 unfolding edges later_neighbours attribute ends segment front opening closing thick bar_marks column_marks bars_body digits
 triangle_of_bars = refl
+
+-- a wheel of four spokes: its hub has the middle of a grid of 3 by 3
+wheel_of_rects : rects_svg ((1 ∷ 4 ∷ 3 ∷ []) ∷ (2 ∷ 4 ∷ 0 ∷ []) ∷ (3 ∷ 4 ∷ 1 ∷ []) ∷ (0 ∷ 4 ∷ 2 ∷ []) ∷ (0 ∷ 1 ∷ 2 ∷ 3 ∷ []) ∷ []) (record { x1 = pos 0 ∷ pos 0 ∷ pos 2 ∷ pos 0 ∷ pos 1 ∷ []; x2 = pos 1 ∷ pos 3 ∷ pos 3 ∷ pos 3 ∷ pos 2 ∷ []; y1 = pos 1 ∷ pos 2 ∷ pos 1 ∷ pos 0 ∷ pos 1 ∷ []; y2 = pos 2 ∷ pos 3 ∷ pos 2 ∷ pos 1 ∷ pos 2 ∷ [] }) ≡ closed (
+    codes "<svg xmlns=\"http://www.w3.org/2000/svg\" viewBox=\"-10 -10 50 50\">"
+    ∷ codes "<rect x=\"0\" y=\"10\" width=\"10\" height=\"10\" fill=\"none\" stroke=\"black\"/>"
+    ∷ codes "<rect x=\"0\" y=\"0\" width=\"30\" height=\"10\" fill=\"none\" stroke=\"black\"/>"
+    ∷ codes "<rect x=\"20\" y=\"10\" width=\"10\" height=\"10\" fill=\"none\" stroke=\"black\"/>"
+    ∷ codes "<rect x=\"0\" y=\"20\" width=\"30\" height=\"10\" fill=\"none\" stroke=\"black\"/>"
+    ∷ codes "<rect x=\"10\" y=\"10\" width=\"10\" height=\"10\" fill=\"none\" stroke=\"black\"/>"
+    ∷ codes "</svg>" ∷ [])
+unfolding attribute sides front opening closing unfilled tile tiles digits
+wheel_of_rects = refl

@@ -6,12 +6,13 @@ use Rattle.map_lists.specs.Lists.{Lists}
 use Rattle.map_definitions.specs.Maps.{Dart, IsSimpleMap, vertex_count, edge_count}
 use Rattle.pg_plane.specs.declared.point.Point.{Point}
 use Rattle.pg_plane.specs.declared.figure.BarFigure.{BarFigure}
-use Rattle.figure_text.specs.Text.{point_at, integer_at, texts, HasBars, HasPaths, witness_text}
+use Rattle.pg_plane.specs.declared.figure.RectFigure.{RectFigure}
+use Rattle.figure_text.specs.Text.{point_at, integer_at, texts, HasBars, HasRects, HasPaths, witness_text}
 use Rattle.graph6_text.specs.Graphs.{EdgeGraph}
 use Rattle.graph6_text.specs.Lines.{IsLine as IsGraphLine}
 use Rattle.kuratowski.specs.declared.witness.Witness.{Witness as AWitness}
 use Rattle.figure_text.specs.declared.figure.Figure.{Figure}
-use Rattle.figure_text.specs.declared.figure.Figure.TheVariants.{Grid, Bars, Witness}
+use Rattle.figure_text.specs.declared.figure.Figure.TheVariants.{Grid, Bars, Rects, Witness}
 use Rattle.svg_out.specs.Edges.{edges}
 
 -- the greatest of 0 and some numbers
@@ -26,6 +27,10 @@ across x = pos 10 *ℤ x
 abbrev pub down : ℤ → ℤ → ℤ
 down height y = pos 10 *ℤ (height -ℤ y)
 
+-- how long from p to q is in the picture
+abbrev pub extent : ℤ → ℤ → ℤ
+extent p q = pos 10 *ℤ (q -ℤ p)
+
 -- an attribute of a tag, with a space before it
 unfoldable pub attribute : List ℕ → ℤ → List ℕ
 attribute name z = 32 ∷ name ++ codes "=\"" ++ signed_decimal z ++ codes "\""
@@ -33,6 +38,10 @@ attribute name z = 32 ∷ name ++ codes "=\"" ++ signed_decimal z ++ codes "\""
 -- the two ends of a segment from (xa, ya) to (xb, yb) in the picture
 unfoldable pub ends : ℤ → ℤ → ℤ → ℤ → List ℕ
 ends xa ya xb yb = attribute (codes "x1") xa ++ attribute (codes "y1") ya ++ attribute (codes "x2") xb ++ attribute (codes "y2") yb
+
+-- where a rectangle stands in the picture, by its upper left corner, and how wide and how high it is
+unfoldable pub sides : ℤ → ℤ → ℤ → ℤ → List ℕ
+sides x y width height = attribute (codes "x") x ++ attribute (codes "y") y ++ attribute (codes "width") width ++ attribute (codes "height") height
 
 -- the tag of a segment, with more attributes behind the others
 unfoldable pub segment : ℤ → ℤ → ℤ → ℤ → List ℕ → List ℕ
@@ -92,6 +101,18 @@ column_marks es bars height m = texts (λ i. upright height (integer_at bars.col
 unfoldable pub bars_body : Lists → BarFigure → ℤ → List ℕ
 bars_body lists bars height = bar_marks bars height (vertex_count lists) ++ column_marks (edges lists) bars height (length (edges lists))
 
+-- how a rectangle is drawn: its sides alone
+unfoldable pub unfilled : List ℕ
+unfilled = codes " fill=\"none\" stroke=\"black\"/>" ++ 10 ∷ []
+
+-- the rectangle from a to b and from c up to d, in a drawing of this height
+unfoldable pub tile : ℤ → ℤ → ℤ → ℤ → ℤ → List ℕ
+tile height a b c d = codes "<rect" ++ sides (across a) (down height d) (extent a b) (extent c d) ++ unfilled
+
+-- the rectangles of n vertices
+unfoldable pub tiles : RectFigure → ℤ → ℕ → List ℕ
+tiles rects height n = texts (λ v. tile height (integer_at rects.x1 v) (integer_at rects.x2 v) (integer_at rects.y1 v) (integer_at rects.y2 v)) n
+
 -- a straight-line drawing as SVG
 abbrev pub grid_svg : Lists → List Point → List ℕ
 grid_svg lists points =
@@ -103,6 +124,12 @@ abbrev pub bars_svg : Lists → BarFigure → List ℕ
 bars_svg lists bars =
     let height = greatest bars.y in
     opening (greatest (bars.x2 ++ bars.column)) height ++ bars_body lists bars height ++ closing
+
+-- a rectangular dual as SVG
+abbrev pub rects_svg : Lists → RectFigure → List ℕ
+rects_svg lists rects =
+    let height = greatest rects.y2 in
+    opening (greatest rects.x2) height ++ tiles rects height (length lists) ++ closing
 
 -- what stands before and behind the text of a witness, which is a comment
 unfoldable pub comment_start : List ℕ
@@ -120,6 +147,7 @@ IsWitnessSvg k graph witness svg =
 abbrev pub IsSvg : ℕ → Figure → List ℕ → Type 0
 IsSvg k (Grid job lists points) svg = svg ≡ grid_svg lists points
 IsSvg k (Bars lists bars) svg = svg ≡ bars_svg lists bars
+IsSvg k (Rects lists rects) svg = svg ≡ rects_svg lists rects
 IsSvg k (Witness graph witness) svg = IsWitnessSvg k graph witness svg
 
 -- a bar for each vertex, and a column for each edge
@@ -132,4 +160,5 @@ pub record HasColumns (lists : Lists) (bars : BarFigure) : Type 0 where
 abbrev pub IsDrawn : Figure → Type 0
 IsDrawn (Grid job lists points) = IsSimpleMap lists × (length points ≡ length lists)
 IsDrawn (Bars lists bars) = IsSimpleMap lists × HasColumns lists bars
+IsDrawn (Rects lists rects) = IsSimpleMap lists × HasRects lists rects
 IsDrawn (Witness graph witness) = HasPaths witness

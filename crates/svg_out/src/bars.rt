@@ -13,7 +13,7 @@ use pg_plane::{BarFigure, Ints};
 use std::alloc::{AllocError, Global};
 
 // Number `v` of a list of whole numbers.
-fn integer(list: &Ints, v: usize) -> i32
+pub(crate) fn integer(list: &Ints, v: usize) -> i32
     requires { v < length list.now }
     ensures { result ≡ integer_at list.now v }
 {
@@ -21,7 +21,7 @@ fn integer(list: &Ints, v: usize) -> i32
 }
 
 // The greatest of `least` and all numbers of a list.
-fn greatest_from(least: i32, list: &Ints) -> i32
+pub(crate) fn greatest_from(least: i32, list: &Ints) -> i32
     ensures { result ≡ fold int_max least list.now }
 {
     let mut most = least;

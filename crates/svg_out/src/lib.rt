@@ -9,10 +9,12 @@ mod bars;
 mod edges;
 mod grid;
 mod picture;
+mod rects;
 mod tags;
 mod witness;
 
 pub use bars::svg_bars;
 pub use grid::svg_grid;
 pub use picture::svg;
+pub use rects::svg_rects;
 pub use witness::svg_witness;

@@ -2,7 +2,7 @@
 ghost use Rattle.std.specs.Prelude.{◌≡◌, ◌++◌, List, ℕ, OnOk, OnErr};
 ghost use Rattle.svg_out.specs.Svg.{IsSvg, IsDrawn};
 
-use crate::{svg_bars, svg_grid, svg_witness};
+use crate::{svg_bars, svg_grid, svg_rects, svg_witness};
 use figure_text::Figure;
 use std::alloc::{AllocError, Global};
 
@@ -17,6 +17,7 @@ pub fn svg(alloc: Global, number: u32, figure: &Figure, out: &mut Vec<u8>) -> Re
     match figure {
         Figure::Grid { lists, points, .. } => svg_grid(alloc, lists, points, out),
         Figure::Bars { lists, bars } => svg_bars(alloc, lists, bars, out),
+        Figure::Rects { lists, rects } => svg_rects(alloc, lists, rects, out),
         Figure::Witness { graph, witness } => svg_witness(alloc, number, graph, witness, out),
     }
 }

@@ -1,7 +1,7 @@
 //! The lines of a picture.
 ghost use Rattle.std.specs.Prelude.{◌≡◌, ◌++◌, ◌∷◌, ℤ, pos, ◌+ℤ◌, ◌-ℤ◌, ◌*ℤ◌, OnOk};
 ghost use Rattle.std.specs.Fmt.{signed_decimal};
-ghost use Rattle.svg_out.specs.Svg.{across as far_right, down as far_down, attribute, ends, segment, front as the_front, opening, closing, dot};
+ghost use Rattle.svg_out.specs.Svg.{across as far_right, down as far_down, attribute, ends, extent as the_extent, sides, segment, front as the_front, opening, closing, dot};
 
 use itoa::Buffer;
 use pg_plane::Point;
@@ -41,6 +41,13 @@ pub(crate) fn down(height: i32, y: i32) -> i64
     10 * (i64::from(height) - i64::from(y))
 }
 
+/// How long from p to q is in the picture.
+pub(crate) fn extent(p: i32, q: i32) -> i64
+    ensures { result ≡ the_extent p q }
+{
+    10 * (i64::from(q) - i64::from(p))
+}
+
 /// A place in the picture.
 #[derive(Clone, Copy, Debug, PartialEq, Eq)]
 pub(crate) struct Spot {
@@ -58,6 +65,21 @@ fn push_ends(out: &mut Vec<u8>, from: Spot, to: Spot) -> Result<(), AllocError>
     push_attribute(out, b"y1", from.y)?;
     push_attribute(out, b"x2", to.x)?;
     push_attribute(out, b"y2", to.y)
+}
+
+/// Appends where a rectangle stands, by its upper left corner, and how wide and how high it is.
+pub(crate) fn push_sides(
+    out: &mut Vec<u8>,
+    corner: Spot,
+    width: i64,
+    height: i64,
+) -> Result<(), AllocError>
+    ensures { OnOk result (out.new.items ≡ out.old.items ++ sides corner.x corner.y width height) }
+{
+    push_attribute(out, b"x", corner.x)?;
+    push_attribute(out, b"y", corner.y)?;
+    push_attribute(out, b"width", width)?;
+    push_attribute(out, b"height", height)
 }
 
 /// Appends the tag of a segment, with more attributes behind the others.

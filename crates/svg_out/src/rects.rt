@@ -1,0 +1,92 @@
+//! Rectangular duals as SVG.
+ghost use Rattle.std.specs.Prelude.{◌≡◌, ◌<◌, ℕ, ◌++◌, length, OnOk, OnErr, IfOk};
+ghost use Rattle.figure_text.specs.Text.{HasRects};
+ghost use Rattle.svg_out.specs.Svg.{greatest, tile, unfilled as the_style, tiles, rects_svg};
+
+use crate::bars::{greatest_from, integer};
+use crate::tags::{Spot, across, down, extent, push_closing, push_opening, push_sides};
+use map_lists::Rotations;
+use pg_plane::RectFigure;
+use std::alloc::{AllocError, Global};
+
+// How a rectangle is drawn.
+fn unfilled() -> &'static [u8]
+    ensures { result.now ≡ the_style }
+{
+    b" fill=\"none\" stroke=\"black\"/>\n"
+}
+
+// Appends the rectangle from `a` to `b` and from `c` up to `d`, in a drawing of this height.
+fn push_tile(
+    out: &mut Vec<u8>,
+    height: i32,
+    a: i32,
+    b: i32,
+    c: i32,
+    d: i32,
+) -> Result<(), AllocError>
+    ensures { OnOk result (out.new.items ≡ out.old.items ++ tile height a b c d) }
+{
+    let corner = Spot {
+        x: across(a),
+        y: down(height, d),
+    };
+    out.extend_from_slice(b"<rect")?;
+    push_sides(out, corner, extent(a, b), extent(c, d))?;
+    out.extend_from_slice(unfilled())
+}
+
+// Appends the rectangles of `count` vertices.
+fn push_tiles(
+    out: &mut Vec<u8>,
+    rects: &RectFigure,
+    height: i32,
+    count: usize,
+) -> Result<(), AllocError>
+    requires x1 { length rects.now.x1 ≡ count }
+    requires x2 { length rects.now.x2 ≡ count }
+    requires y1 { length rects.now.y1 ≡ count }
+    requires y2 { length rects.now.y2 ≡ count }
+    ensures { OnOk result (out.new.items ≡ out.old.items ++ tiles rects.now height count) }
+{
+    for v in 0..count {
+        push_tile(
+            out,
+            height,
+            integer(&rects.x1, v),
+            integer(&rects.x2, v),
+            integer(&rects.y1, v),
+            integer(&rects.y2, v),
+        )?;
+    }
+    Ok(())
+}
+
+// A rectangular dual as SVG.
+fn rects_text(alloc: Global, lists: &Rotations, rects: &RectFigure) -> Result<Vec<u8>, AllocError>
+    requires { HasRects lists.now rects.now }
+    ensures { IfOk result (λ text. text.items ≡ rects_svg lists.now rects.now) }
+{
+    let height = greatest_from(0, &rects.y2);
+    let mut text = Vec::new(alloc);
+    push_opening(&mut text, greatest_from(0, &rects.x2), height)?;
+    push_tiles(&mut text, rects, height, lists.len())?;
+    push_closing(&mut text)?;
+    Ok(text)
+}
+
+/// Appends a rectangular dual as SVG, with a rectangle for each list. After want of memory the bytes are as they
+/// were.
+pub fn svg_rects(
+    alloc: Global,
+    lists: &Rotations,
+    rects: &RectFigure,
+    out: &mut Vec<u8>,
+) -> Result<(), AllocError>
+    requires { HasRects lists.now rects.now }
+    ensures ok { OnOk result (out.new.items ≡ out.old.items ++ rects_svg lists.now rects.now) }
+    ensures err { OnErr result (out.new.items ≡ out.old.items) }
+{
+    let text = rects_text(alloc, lists, rects)?;
+    out.extend_from_slice(&text)
+}
