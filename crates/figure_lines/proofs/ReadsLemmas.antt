@@ -17,6 +17,7 @@ use Rattle.figure_text.specs.Lines.{kind_of, rows_due, TailInRange, IsFirstLine,
 use Rattle.figure_text.specs.Reading.{IsRow, RowInRange, IsGoodRow, is_note}
 use Rattle.figure_text.specs.Drafts.{with_row}
 use Rattle.figure_text.specs.Figures.{IsHead, columns_of, witness_of}
+use Rattle.graph6_text.proofs.LineLemmas.{graph-said}
 use Rattle.figure_lines.specs.Reading.{IsReading}
 use Rattle.figure_lines.specs.Heads.{head_kind, HasGraph}
 use Rattle.figure_lines.specs.declared.head.Head.{Head}
@@ -34,7 +35,7 @@ use Rattle.figure_lines.specs.declared.step.After.TheVariants.{Goes, Whole, Bad}
 use Rattle.figure_lines.specs.declared.ending.Ending.{Ending}
 use Rattle.figure_lines.specs.declared.ending.Ending.TheVariants.{BadLine, Limit, TooLong}
 use Rattle.figure_lines.specs.State.{State, IsAt, ending_by}
-use Rattle.figure_lines.proofs.ToldLemmas.{Told, told-row, told-row_range, told-columns, told-columns_range, told-first, told-first_range, kind-said, graph-said}
+use Rattle.figure_lines.proofs.ToldLemmas.{Told, told-row, told-row_range, told-columns, told-columns_range, told-first, told-first_range, kind-said}
 use Rattle.figure_lines.proofs.LineLemmas.{IsHead-of, closes-note, closes-head, closes-limit, closes-bad, closes-bad_row, closes-far_row, closes-grown, closes-bad_columns, closes-far_columns, closes-columns, lists-with_row, AreDrawn-more, IsPlain-none}
 use Rattle.figure_lines.proofs.PartLemmas.{Progress-joined}
 use Rattle.figure_lines.proofs.ReadLemmas.{IsAt-reads, IsAt-too_long}

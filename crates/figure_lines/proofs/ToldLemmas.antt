@@ -2,12 +2,9 @@
 use Rattle.std.proofs.Common.{◌≡◌, ℕ, ◌≤◌, List, [], ◌∷◌, length, drop, get_or, refl, sym, ap, ◌∙◌, arith, Bool, true, false, inl, inr}
 use Rattle.std.proofs.lemmas.Bool.{cases_lt, cases_eq}
 use Rattle.std.proofs.lemmas.List.Elements.{All-nil, All-cons, All-head, All-tail}
-use Rattle.std.specs.Prelude.{◌⊎◌, All, IsTrue, Option, Some, None, Result, Ok, Err, position}
-use Rattle.graph6_text.specs.Graphs.{EdgeGraph}
-use Rattle.graph6_text.specs.Lines.{IsLine as IsGraphLine, edges_of}
-use Rattle.graph6_text.specs.Faults.{is_bad_byte, line_start, rest_fault, fault_from, line_fault}
+use Rattle.std.specs.Prelude.{◌⊎◌, All, IsTrue, Option, Some, None}
+use Rattle.graph6_text.specs.Faults.{line_fault}
 use Rattle.graph6_text.specs.declared.line.G6Fault.{G6Fault}
-use Rattle.graph6_text.proofs.LineLemmas.{body_of}
 use Rattle.figure_text.specs.declared.judge.Kind.{Kind}
 use Rattle.figure_text.specs.declared.judge.Kind.TheVariants.{Grid, Bars, Rects, Witness}
 use Rattle.figure_text.specs.declared.words.Word.{Word}
@@ -191,15 +188,3 @@ told-first_range line =
 pub kind-said : (o : Option Kind) (line : List ℕ) → IsTail o line → (kind : Kind) × (o ≡ Some kind)
 kind-said (Some kind) line tail = (kind, refl)
 kind-said None line none = absurd none
-
--- the graph of a line without a fault
-pub graph-said : (bytes : List ℕ) → line_fault bytes ≡ None → (graph : EdgeGraph) × IsGraphLine bytes graph
-graph-said bytes none = by_place (position is_bad_byte bytes) refl none
-  where
-    by_start : position is_bad_byte bytes ≡ None → (start : Result (ℕ × ℕ) G6Fault) → line_start bytes ≡ start → rest_fault bytes start ≡ None → (graph : EdgeGraph) × IsGraphLine bytes graph
-    by_start good (Ok (n, start)) is none = (record { n = n; edges = edges_of n (drop start bytes) }, (body_of bytes n start good is none).1)
-    by_start good (Err fault) is none = absurd (cc)
-
-    by_place : (place : Option ℕ) → position is_bad_byte bytes ≡ place → fault_from bytes place ≡ None → (graph : EdgeGraph) × IsGraphLine bytes graph
-    by_place None good none = by_start good (line_start bytes) refl none
-    by_place (Some k) bad none = absurd (cc)

@@ -47,7 +47,7 @@ good-more kind lines line good here =
     (λ k below. rw (get_or-append lines (line ∷ []) [] k below) (good k below))
     (rw (get_or-append_seam lines line [] []) here) i (omega arith)
 
-closed-more : (lines : List (List ℕ)) (line rest : List ℕ) → closed lines ++ (line ++ 10 ∷ rest) ≡ closed (lines ++ line ∷ []) ++ rest
+pub closed-more : (lines : List (List ℕ)) (line rest : List ℕ) → closed lines ++ (line ++ 10 ∷ rest) ≡ closed (lines ++ line ∷ []) ++ rest
 closed-more lines line rest =
     sym (ap (λ (x : List ℕ). x ++ rest) (flat_map-append (λ (l : List ℕ). l ++ 10 ∷ []) lines (line ∷ []))
     ∙ append_assoc (closed lines) (closed (line ∷ [])) rest

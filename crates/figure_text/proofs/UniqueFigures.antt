@@ -303,7 +303,7 @@ plain-unique bytes at first (Err (BadLine k)) (Ok End) (same, some) end = absurd
 plain-unique bytes at first (Err (BadLine k)) (Err (BadLine k')) (same, some) (same', some') = ap (λ (j : ℕ). Err (BadLine j)) (same ∙ sym same')
 
 -- a text has a closed line at its front, or none
-line-or-plain : (text : List ℕ) → IsPlain text ⊎ ((line : List ℕ) × (rest : List ℕ) × IsLine text line rest)
+pub line-or-plain : (text : List ℕ) → IsPlain text ⊎ ((line : List ℕ) × (rest : List ℕ) × IsLine text line rest)
 line-or-plain [] = inl (All-nil (λ b. b ≢ 10))
 line-or-plain (b ∷ text) = by_byte (cases_eq b 10) (line-or-plain text)
   where

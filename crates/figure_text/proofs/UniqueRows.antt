@@ -11,7 +11,7 @@ use Rattle.figure_text.specs.Words.{words_of}
 use Rattle.figure_text.specs.Reading.{closed, IsPlain, IsLine, IsRow, RowInRange, IsGoodRow, Rows, StopsAt, RowsFail}
 
 -- the first line of a text, and what is left
-front-unique : (l l' r r' : List ℕ) → IsPlain l → IsPlain l' → l ++ 10 ∷ r ≡ l' ++ 10 ∷ r' → (l ≡ l') × (r ≡ r')
+pub front-unique : (l l' r r' : List ℕ) → IsPlain l → IsPlain l' → l ++ 10 ∷ r ≡ l' ++ 10 ∷ r' → (l ≡ l') × (r ≡ r')
 front-unique [] [] r r' plain plain' e = (refl, cc)
 front-unique [] (b ∷ l') r r' plain plain' e = let here : b ≡ 10 = cc in absurd (All-head (λ b. b ≢ 10) b l' plain' here)
 front-unique (b ∷ l) [] r r' plain plain' e = let here : b ≡ 10 = cc in absurd (All-head (λ b. b ≢ 10) b l plain here)
@@ -27,7 +27,7 @@ front-unique (b ∷ l) (c ∷ l') r r' plain plain' e =
 pub IsLine-unique : (text l l' r r' : List ℕ) → IsLine text l r → IsLine text l' r' → (l ≡ l') × (r ≡ r')
 IsLine-unique text l l' r r' is is' = front-unique l l' r r' is.plain is'.plain (sym is.parts ∙ is'.parts)
 
-plain-front : (l r : List ℕ) → IsPlain (l ++ 10 ∷ r) → ⊥
+pub plain-front : (l r : List ℕ) → IsPlain (l ++ 10 ∷ r) → ⊥
 plain-front [] r plain = All-head (λ b. b ≢ 10) 10 r plain refl
 plain-front (b ∷ l) r plain = plain-front l r (All-tail (λ b. b ≢ 10) b (l ++ 10 ∷ r) plain)
 
@@ -35,7 +35,7 @@ pub IsPlain-no_line : (text l r : List ℕ) → IsPlain text → IsLine text l r
 IsPlain-no_line text l r plain is = plain-front l r (subst (λ (x : List ℕ). IsPlain x) is.parts plain)
 
 -- of two lists of lines at the front of a text, the longer begins with the shorter
-closed-cons : (l : List ℕ) (lines : List (List ℕ)) (rest : List ℕ) → closed (l ∷ lines) ++ rest ≡ l ++ 10 ∷ (closed lines ++ rest)
+pub closed-cons : (l : List ℕ) (lines : List (List ℕ)) (rest : List ℕ) → closed (l ∷ lines) ++ rest ≡ l ++ 10 ∷ (closed lines ++ rest)
 closed-cons l lines rest = append_assoc (l ++ 10 ∷ []) (closed lines) rest ∙ append_assoc l (10 ∷ []) (closed lines ++ rest)
 
 closed-common : (lines lines' : List (List ℕ)) (rest rest' : List ℕ) → All IsPlain lines → All IsPlain lines' → closed lines ++ rest ≡ closed lines' ++ rest' → length lines ≤ length lines' → (more : List (List ℕ)) × (lines' ≡ lines ++ more) × (rest ≡ closed more ++ rest')

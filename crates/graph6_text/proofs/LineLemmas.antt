@@ -1,5 +1,5 @@
 -- Lines: which bytes have no fault, and what graph they are.
-use Rattle.std.proofs.Common.{◌≡◌, ◌≢◌, ℕ, ◌+◌, ◌-◌, ◌*◌, ◌/◌, ◌%◌, ◌^◌, ◌<◌, ◌≤◌, ◌==◌, nat_lt, true, false, not, cond, List, [], ◌∷◌, ◌++◌, length, drop, None, Result, Ok, Err, refl, sym, ap, ap₂, ◌∙◌, subst, inl, inr, arith, eqb-true, eq-eqb, ne_eqb, length-append, length-drop}
+use Rattle.std.proofs.Common.{◌≡◌, ◌≢◌, ℕ, ◌+◌, ◌-◌, ◌*◌, ◌/◌, ◌%◌, ◌^◌, ◌<◌, ◌≤◌, ◌==◌, nat_lt, true, false, not, cond, List, [], ◌∷◌, ◌++◌, length, drop, Option, Some, None, Result, Ok, Err, refl, sym, ap, ap₂, ◌∙◌, subst, inl, inr, arith, eqb-true, eq-eqb, ne_eqb, length-append, length-drop}
 use Rattle.std.proofs.Math.ListN.{get_or}
 use Rattle.std.specs.List.{All, list_any, position, position_or_len}
 use Rattle.std.proofs.lemmas.Bool.{eqb-false, cases_Bool, cases_eq, cases_lt, cond-true, cond-false}
@@ -310,3 +310,15 @@ one_graph bytes graph other line line' =
     pair_of : Result (ℕ × ℕ) G6Fault → ℕ × ℕ
     pair_of (Ok pair) = pair
     pair_of (Err fault) = (0, 0)
+
+-- the graph of a line without a fault
+pub graph-said : (bytes : List ℕ) → line_fault bytes ≡ None → (graph : EdgeGraph) × IsLine bytes graph
+graph-said bytes none = by_place (position is_bad_byte bytes) refl none
+  where
+    by_start : position is_bad_byte bytes ≡ None → (start : Result (ℕ × ℕ) G6Fault) → line_start bytes ≡ start → rest_fault bytes start ≡ None → (graph : EdgeGraph) × IsLine bytes graph
+    by_start good (Ok (n, start)) is none = (record { n = n; edges = edges_of n (drop start bytes) }, (body_of bytes n start good is none).1)
+    by_start good (Err fault) is none = absurd (cc)
+
+    by_place : (place : Option ℕ) → position is_bad_byte bytes ≡ place → fault_from bytes place ≡ None → (graph : EdgeGraph) × IsLine bytes graph
+    by_place None good none = by_start good (line_start bytes) refl none
+    by_place (Some k) bad none = absurd (cc)

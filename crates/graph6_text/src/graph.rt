@@ -1,5 +1,5 @@
 //! Graphs.
-ghost use Rattle.std.specs.Prelude.{◌≡◌, ◌≤◌, ◌<◌, ◌/◌, ◌==◌, ◌||◌, ℕ, false, map, length, All, AllPairs, IfOk, replicate};
+ghost use Rattle.std.specs.Prelude.{◌≡◌, ◌≤◌, ◌<◌, ◌/◌, ◌==◌, ◌||◌, ℕ, false, [], map, length, All, AllPairs, IfOk, replicate};
 ghost use Rattle.std.specs.List.{list_any};
 ghost use Rattle.graph6_text.specs.Graphs.{EdgeGraph, IsGraph, AreEdges, has_edge, edge_of};
 ghost use Rattle.graph6_text.specs.Lines.{IsBody, IsLineByte, edges_of, pair_place as place_of_pair, body_length as bytes_of_pairs, is_set as is_place_set};
@@ -32,6 +32,16 @@ impl Model for Graph {
 }
 
 impl Graph {
+    /// The graph without vertices. It takes no memory.
+    pub fn new(alloc: Global) -> Graph
+        ensures { result ≡ record { n = 0; edges = [] } }
+    {
+        Graph {
+            vertices: 0,
+            body: Vec::new(alloc),
+        }
+    }
+
     /// The graph on `n` vertices with these edges. `n` is at most 255, the ends are below it, and the edges
     /// are in order and each once.
     pub fn of_edges(alloc: Global, n: u16, edges: &[Ends]) -> Result<Graph, AllocError>
