@@ -1,5 +1,5 @@
 -- Valid figures, and maps without a first dart.
-use Rattle.std.proofs.Common.{◌≡◌, ℕ, List, [], length, Contains, refl, ap, ◌∙◌, arith, eqb, eqb-true, true}
+use Rattle.std.proofs.Common.{◌≡◌, ℕ, inl, inr, List, [], length, Contains, refl, ap, ◌∙◌, arith, eqb, eqb-true, true}
 use Rattle.std.specs.Prelude.{◌↔◌}
 use Rattle.map_lists.specs.Lists.{Lists}
 use Rattle.map_definitions.specs.Maps.{HasDart, IsSimpleMap, list_of, component_count}
@@ -7,12 +7,18 @@ use Rattle.map_peeling.proofs.Counted.{marks_everywhere}
 use Rattle.simple_maps.specs.Laws.{NoFaultIsSimple}
 use Rattle.pg_plane.specs.declared.figure.BarFigure.{BarFigure}
 use Rattle.bar_check.specs.Laws.{YesIsValid as BarsYesIsValid}
+use Rattle.convex_check.specs.Laws.{YesIsConvex}
+use Rattle.convex_check.specs.declared.verdict.ConvexVerdict.{ConvexVerdict}
+use Rattle.rect_check.specs.Laws.{YesIsDual}
+use Rattle.rect_check.specs.declared.verdict.RectVerdict.TheVariants.{Yes as NoRectFault}
+use Rattle.pg_plane.specs.declared.figure.RectFigure.{RectFigure}
+use Rattle.half_edges.specs.Map.{first_dart}
 use Rattle.kuratowski.proofs.VerdictLemmas.{yes_of_witness}
 use Rattle.draw_check.specs.Laws.{YesIsValid}
 use Rattle.figure_text.specs.declared.figure.Figure.{Figure}
-use Rattle.figure_text.specs.declared.figure.Figure.TheVariants.{Grid, Bars, Witness as WitnessFigure}
+use Rattle.figure_text.specs.declared.figure.Figure.TheVariants.{Grid, Bars, Rects, Witness as WitnessFigure}
 use Rattle.figure_lines.specs.Given.{IsGiven}
-use Rattle.figure_verdicts.specs.Validity.{IsValidFigure, grid_width, grid_height, bars_width}
+use Rattle.figure_verdicts.specs.Validity.{IsValidFigure, IsValidGrid, HasShape, grid_width, grid_height, bars_width}
 use Rattle.std.specs.Prelude.{ℤ, Option, None, ◌≢◌}
 use Rattle.std.proofs.lemmas.Int.{ints}
 use Rattle.simple_maps.specs.Faults.{Fault}
@@ -25,9 +31,10 @@ use Rattle.figure_verdicts.specs.Verdicts.{IsFirstFault}
 use Rattle.simple_maps.specs.Faults.{first_fault}
 use Rattle.pg_plane.specs.declared.point.Point.{Point}
 use Rattle.figure_text.specs.declared.figure.GridJob.{GridJob}
-use Rattle.figure_verdicts.specs.Verdicts.{IsFigureVerdict, IsDrawnVerdict, IsGridVerdict, IsColumnsVerdict, IsBarsVerdict}
+use Rattle.figure_text.specs.declared.figure.GridJob.TheVariants.{Shift, Schnyder, Convex}
+use Rattle.figure_verdicts.specs.Verdicts.{IsFigureVerdict, HasBase, IsDrawnVerdict, IsShapedVerdict, IsJobVerdict, IsFittingVerdict, IsGridVerdict, IsColumnsVerdict, IsBarsVerdict, IsTiledVerdict, IsRectsVerdict}
 use Rattle.figure_verdicts.specs.declared.verdict.FigureVerdict.{FigureVerdict}
-use Rattle.figure_verdicts.specs.declared.verdict.FigureVerdict.TheVariants.{Refused, Drawing, Inside, Bars as BarFault, Witness as WitnessFault, Yes}
+use Rattle.figure_verdicts.specs.declared.verdict.FigureVerdict.TheVariants.{Refused, Drawing, Inside, Convex as ConvexFault, Bars as BarFault, Rects as RectFault, Witness as WitnessFault, Yes}
 
 none_in : (us : List ℕ) (u : ℕ) → us ≡ [] → ¬ Contains us u
 none_in us u e c = let l = c.1 in let n = ap length e in omega arith
@@ -39,31 +46,60 @@ no_dart lists simple one none v u dart =
     let here = marks_everywhere lists simple one (λ x. eqb x 0) alone 0 v simple.some_vertex dart.0 refl in
     none_in (list_of lists v) u (ap (list_of lists) (eqb-true v 0 here) ∙ none) dart.1
 
-pub yes_is_valid : NoFaultIsSimple → YesIsValid → (figure : Figure) → IsGiven figure → IsFigureVerdict figure Yes ↔ IsValidFigure figure
-yes_is_valid no_fault is_valid (Grid job lists points) given =
+-- what a drawing without a fault of its own shows
+shape-yes : YesIsValid → (job : GridJob) (lists : Lists) (points : List Point) → IsSimpleMap lists → IsFittingVerdict job lists points Yes → IsValidGrid job lists points
+shape-yes is_valid Shift lists points s told = record { simple = s; valid = (is_valid lists points (grid_width Shift lists) (grid_height Shift lists) s).0 told.0; shape = told.1 }
+shape-yes is_valid Schnyder lists points s told = record { simple = s; valid = (is_valid lists points (grid_width Schnyder lists) (grid_height Schnyder lists) s).0 told.0; shape = told.1 }
+shape-yes is_valid Convex lists points s told = record { simple = s; valid = (is_valid lists points (grid_width Convex lists) (grid_height Convex lists) s).0 told.0; shape = record { base = told.1.0; convex = told.1.1 } }
+
+yes-shape : YesIsValid → (job : GridJob) (lists : Lists) (points : List Point) → IsValidGrid job lists points → IsFittingVerdict job lists points Yes
+yes-shape is_valid Shift lists points v = ((is_valid lists points (grid_width Shift lists) (grid_height Shift lists) v.simple).1 v.valid, v.shape)
+yes-shape is_valid Schnyder lists points v = ((is_valid lists points (grid_width Schnyder lists) (grid_height Schnyder lists) v.simple).1 v.valid, v.shape)
+yes-shape is_valid Convex lists points v = ((is_valid lists points (grid_width Convex lists) (grid_height Convex lists) v.simple).1 v.valid, (v.shape.base, v.shape.convex))
+
+pub yes_is_valid : NoFaultIsSimple → YesIsValid → YesIsDual → (figure : Figure) → IsGiven figure → IsFigureVerdict figure Yes ↔ IsValidFigure figure
+yes_is_valid no_fault is_valid is_dual (Grid job lists points) given =
     let simple = no_fault lists given.some_list in (
-      λ yes. let s = simple.0 yes.0 in
-          record { simple = s; valid = (is_valid lists points (grid_width job (length lists)) (grid_height (length lists)) s).0 yes.1.0; outer = yes.1.1 },
-      λ v. (simple.1 v.simple, ((is_valid lists points (grid_width job (length lists)) (grid_height (length lists)) v.simple).1 v.valid, v.outer)),
+      λ yes. shape-yes is_valid job lists points (simple.0 yes.0) yes.1,
+      λ v. (simple.1 v.simple, yes-shape is_valid job lists points v),
     )
-yes_is_valid no_fault is_valid (Bars lists bars) given =
+yes_is_valid no_fault is_valid is_dual (Bars lists bars) given =
     let simple = no_fault lists given.some_list in (
       λ yes. record { simple = simple.0 yes.0; valid = yes.1 },
       λ v. (simple.1 v.simple, v.valid),
     )
-yes_is_valid no_fault is_valid (WitnessFigure graph witness) given = (λ yes. yes, λ v. v)
+yes_is_valid no_fault is_valid is_dual (Rects lists rects) given =
+    let simple = no_fault lists given.some_list in (
+      λ yes. record { simple = simple.0 yes.0; dual = (is_dual lists rects NoRectFault yes.1).0 refl },
+      λ v. (simple.1 v.simple, v.dual),
+    )
+yes_is_valid no_fault is_valid is_dual (WitnessFigure graph witness) given = (λ yes. yes, λ v. v)
+
+-- a verdict in the grid of the job
+pub IsFittingVerdict-of : (job : GridJob) (lists : Lists) (points points' : List Point) (width height : ℤ) (verdict : FigureVerdict) → points' ≡ points → width ≡ grid_width job lists → height ≡ grid_height job lists → IsJobVerdict job lists points' width height verdict → IsFittingVerdict job lists points verdict
+IsFittingVerdict-of job lists points points' width height verdict same wide high drawn = rw (same, wide, high) at drawn
 
 -- a verdict on a drawing of lists without a fault
-pub IsGridVerdict-drawn : (job : GridJob) (lists lists' : Lists) (points points' : List Point) (width height : ℤ) (verdict : FigureVerdict) → lists' ≡ lists → points' ≡ points → width ≡ grid_width job (length lists) → height ≡ grid_height (length lists) → first_fault lists ≡ None → IsDrawnVerdict lists' points' width height verdict → IsGridVerdict job lists points verdict
-IsGridVerdict-drawn job lists lists' points points' width height verdict same_lists same_points wide high none drawn = by_case verdict (rw (same_lists, same_points, wide, high) at drawn)
+pub IsGridVerdict-drawn : (job : GridJob) (lists lists' : Lists) (points : List Point) (verdict : FigureVerdict) → lists' ≡ lists → first_fault lists ≡ None → IsFittingVerdict job lists' points verdict → IsGridVerdict job lists points verdict
+IsGridVerdict-drawn job lists lists' points verdict same none drawn = by_case job verdict (rw same at drawn)
   where
-    by_case : (verdict : FigureVerdict) → IsDrawnVerdict lists points (grid_width job (length lists)) (grid_height (length lists)) verdict → IsGridVerdict job lists points verdict
-    by_case (Refused fault) drawn = absurd drawn
-    by_case (Drawing v) drawn = (none, drawn)
-    by_case (Inside v u) drawn = (none, drawn)
-    by_case (BarFault v) drawn = absurd drawn
-    by_case (WitnessFault v) drawn = absurd drawn
-    by_case Yes drawn = (none, drawn)
+    by_case : (job : GridJob) (verdict : FigureVerdict) → IsFittingVerdict job lists points verdict → IsGridVerdict job lists points verdict
+    by_case Shift (Refused fault) drawn = absurd drawn
+    by_case Schnyder (Refused fault) drawn = absurd drawn
+    by_case Convex (Refused fault) drawn = absurd drawn
+    by_case job (Drawing v) drawn = (none, drawn)
+    by_case job (Inside v u) drawn = (none, drawn)
+    by_case job (ConvexFault v) drawn = (none, drawn)
+    by_case Shift (BarFault v) drawn = absurd drawn
+    by_case Schnyder (BarFault v) drawn = absurd drawn
+    by_case Convex (BarFault v) drawn = absurd drawn
+    by_case Shift (RectFault v) drawn = absurd drawn
+    by_case Schnyder (RectFault v) drawn = absurd drawn
+    by_case Convex (RectFault v) drawn = absurd drawn
+    by_case Shift (WitnessFault v) drawn = absurd drawn
+    by_case Schnyder (WitnessFault v) drawn = absurd drawn
+    by_case Convex (WitnessFault v) drawn = absurd drawn
+    by_case job Yes drawn = (none, drawn)
 
 -- a verdict on bars of lists without a fault
 pub IsBarsVerdict-drawn : (lists lists' : Lists) (bars : BarFigure) (width : ℤ) (verdict : FigureVerdict) → lists' ≡ lists → width ≡ bars_width lists' → first_fault lists ≡ None → IsColumnsVerdict lists' bars width verdict → IsBarsVerdict lists bars verdict
@@ -73,7 +109,23 @@ IsBarsVerdict-drawn lists lists' bars width verdict same wide none drawn = by_ca
     by_case (Refused fault) drawn = absurd drawn
     by_case (Drawing v) drawn = absurd drawn
     by_case (Inside v u) drawn = absurd drawn
+    by_case (ConvexFault v) drawn = absurd drawn
     by_case (BarFault v) drawn = (none, drawn)
+    by_case (RectFault v) drawn = absurd drawn
+    by_case (WitnessFault v) drawn = absurd drawn
+    by_case Yes drawn = (none, drawn)
+
+-- and one on rectangles
+pub IsRectsVerdict-drawn : (lists lists' : Lists) (rects : RectFigure) (verdict : FigureVerdict) → lists' ≡ lists → first_fault lists ≡ None → IsTiledVerdict lists' rects verdict → IsRectsVerdict lists rects verdict
+IsRectsVerdict-drawn lists lists' rects verdict same none drawn = by_case verdict (rw same at drawn)
+  where
+    by_case : (verdict : FigureVerdict) → IsTiledVerdict lists rects verdict → IsRectsVerdict lists rects verdict
+    by_case (Refused fault) drawn = absurd drawn
+    by_case (Drawing v) drawn = absurd drawn
+    by_case (Inside v u) drawn = absurd drawn
+    by_case (ConvexFault v) drawn = absurd drawn
+    by_case (BarFault v) drawn = absurd drawn
+    by_case (RectFault v) drawn = (none, drawn)
     by_case (WitnessFault v) drawn = absurd drawn
     by_case Yes drawn = (none, drawn)
 
@@ -93,31 +145,78 @@ no_first found (Repeated v u) none is = cc
 no_first found (OneSided v u) none is = cc
 no_first found NoMemory none is = is
 
-pub valid_is_yes : NoFaultIsSimple → YesIsValid → BarsYesIsValid → (figure : Figure) (verdict : FigureVerdict) → IsGiven figure → IsFigureVerdict figure verdict → IsValidFigure figure → verdict ≡ Yes
-valid_is_yes no_fault is_valid bars_valid (Grid job lists points) (Refused fault) given is valid = absurd (no_first (first_fault lists) fault ((no_fault lists given.some_list).1 valid.simple) is)
-valid_is_yes no_fault is_valid bars_valid (Grid job lists points) (Drawing verdict) given is valid =
-    let width = grid_width job (length lists) in
-    let height = grid_height (length lists) in
-    absurd (no_other lists points width height verdict is.1.0 ((is_valid lists points width height valid.simple).1 valid.valid) is.1.1)
-valid_is_yes no_fault is_valid bars_valid (Grid job lists points) (Inside v u) given is valid =
-    let inside = is.1.2.rest.here in
+-- a valid drawing has no fault that its job may have
+valid-grid : YesIsValid → YesIsConvex → (job : GridJob) (lists : Lists) (points : List Point) (verdict : FigureVerdict) → IsFittingVerdict job lists points verdict → IsValidGrid job lists points → verdict ≡ Yes
+valid-grid is_valid is_convex job lists points (Refused fault) is valid = by job is
+  where
+    by : (job : GridJob) → IsFittingVerdict job lists points (Refused fault) → Refused fault ≡ Yes
+    by Shift is = absurd is
+    by Schnyder is = absurd is
+    by Convex is = absurd is
+valid-grid is_valid is_convex job lists points (Drawing verdict) is valid = by job is valid
+  where
+    by : (job : GridJob) → IsFittingVerdict job lists points (Drawing verdict) → IsValidGrid job lists points → Drawing verdict ≡ Yes
+    by Shift is valid = absurd (no_other lists points (grid_width Shift lists) (grid_height Shift lists) verdict is.0 (yes-shape is_valid Shift lists points valid).0 is.1)
+    by Schnyder is valid = absurd (no_other lists points (grid_width Schnyder lists) (grid_height Schnyder lists) verdict is.0 (yes-shape is_valid Schnyder lists points valid).0 is.1)
+    by Convex is valid = absurd (no_other lists points (grid_width Convex lists) (grid_height Convex lists) verdict is.0 (yes-shape is_valid Convex lists points valid).0 is.1)
+valid-grid is_valid is_convex Shift lists points (Inside v u) is valid =
+    let inside = is.2.rest.here in
     let sum = inside.sum in
-    let positive = valid.outer is.1.1 v.0 u.0 inside.dart inside.other in
+    let positive = valid.shape is.1 v.0 u.0 inside.dart inside.other in
     absurd (omega (arith, ints, sum, positive))
-valid_is_yes no_fault is_valid bars_valid (Grid job lists points) Yes given is valid = refl
-valid_is_yes no_fault is_valid bars_valid (Grid job lists points) (BarFault verdict) given is valid = absurd is
-valid_is_yes no_fault is_valid bars_valid (Grid job lists points) (WitnessFault verdict) given is valid = absurd is
-valid_is_yes no_fault is_valid bars_valid (Bars lists bars) (Refused fault) given is valid = absurd (no_first (first_fault lists) fault ((no_fault lists given.some_list).1 valid.simple) is)
-valid_is_yes no_fault is_valid bars_valid (Bars lists bars) (Drawing verdict) given is valid = absurd is
-valid_is_yes no_fault is_valid bars_valid (Bars lists bars) (Inside v u) given is valid = absurd is
-valid_is_yes no_fault is_valid bars_valid (Bars lists bars) (BarFault verdict) given is valid =
-    absurd (is.1.1 ((bars_valid lists bars (bars_width lists) verdict is.1.0).1 valid.valid))
-valid_is_yes no_fault is_valid bars_valid (Bars lists bars) (WitnessFault verdict) given is valid = absurd is
-valid_is_yes no_fault is_valid bars_valid (Bars lists bars) Yes given is valid = refl
-valid_is_yes no_fault is_valid bars_valid (WitnessFigure graph witness) (Refused fault) given is valid = absurd is
-valid_is_yes no_fault is_valid bars_valid (WitnessFigure graph witness) (Drawing verdict) given is valid = absurd is
-valid_is_yes no_fault is_valid bars_valid (WitnessFigure graph witness) (Inside v u) given is valid = absurd is
-valid_is_yes no_fault is_valid bars_valid (WitnessFigure graph witness) (BarFault verdict) given is valid = absurd is
-valid_is_yes no_fault is_valid bars_valid (WitnessFigure graph witness) (WitnessFault verdict) given is valid =
-    absurd (is.1 (yes_of_witness graph witness.kind witness.branch witness.paths verdict is.0 valid))
-valid_is_yes no_fault is_valid bars_valid (WitnessFigure graph witness) Yes given is valid = refl
+valid-grid is_valid is_convex Schnyder lists points (Inside v u) is valid =
+    let inside = is.2.rest.here in
+    let sum = inside.sum in
+    let positive = valid.shape is.1 v.0 u.0 inside.dart inside.other in
+    absurd (omega (arith, ints, sum, positive))
+valid-grid is_valid is_convex Convex lists points (Inside v u) is valid = absurd is
+valid-grid is_valid is_convex Shift lists points (ConvexFault verdict) is valid = absurd is
+valid-grid is_valid is_convex Schnyder lists points (ConvexFault verdict) is valid = absurd is
+valid-grid is_valid is_convex Convex lists points (ConvexFault verdict) is valid = elim is.1.1 [
+  | inl bent ↦ absurd (is.1.0 ((is_convex lists points (first_dart lists 0) verdict bent.1).1 valid.shape.convex))
+  | inr none ↦ absurd (none.0 valid.shape.base)
+]
+valid-grid is_valid is_convex Shift lists points (BarFault verdict) is valid = absurd is
+valid-grid is_valid is_convex Schnyder lists points (BarFault verdict) is valid = absurd is
+valid-grid is_valid is_convex Convex lists points (BarFault verdict) is valid = absurd is
+valid-grid is_valid is_convex Shift lists points (RectFault verdict) is valid = absurd is
+valid-grid is_valid is_convex Schnyder lists points (RectFault verdict) is valid = absurd is
+valid-grid is_valid is_convex Convex lists points (RectFault verdict) is valid = absurd is
+valid-grid is_valid is_convex Shift lists points (WitnessFault verdict) is valid = absurd is
+valid-grid is_valid is_convex Schnyder lists points (WitnessFault verdict) is valid = absurd is
+valid-grid is_valid is_convex Convex lists points (WitnessFault verdict) is valid = absurd is
+valid-grid is_valid is_convex job lists points Yes is valid = refl
+
+pub valid_is_yes : NoFaultIsSimple → YesIsValid → BarsYesIsValid → YesIsConvex → YesIsDual → (figure : Figure) (verdict : FigureVerdict) → IsGiven figure → IsFigureVerdict figure verdict → IsValidFigure figure → verdict ≡ Yes
+valid_is_yes no_fault is_valid bars_valid is_convex is_dual (Grid job lists points) (Refused fault) given is valid = absurd (no_first (first_fault lists) fault ((no_fault lists given.some_list).1 valid.simple) is)
+valid_is_yes no_fault is_valid bars_valid is_convex is_dual (Grid job lists points) (Drawing verdict) given is valid = valid-grid is_valid is_convex job lists points (Drawing verdict) is.1 valid
+valid_is_yes no_fault is_valid bars_valid is_convex is_dual (Grid job lists points) (Inside v u) given is valid = valid-grid is_valid is_convex job lists points (Inside v u) is.1 valid
+valid_is_yes no_fault is_valid bars_valid is_convex is_dual (Grid job lists points) (ConvexFault verdict) given is valid = valid-grid is_valid is_convex job lists points (ConvexFault verdict) is.1 valid
+valid_is_yes no_fault is_valid bars_valid is_convex is_dual (Grid job lists points) (BarFault verdict) given is valid = absurd is
+valid_is_yes no_fault is_valid bars_valid is_convex is_dual (Grid job lists points) (RectFault verdict) given is valid = absurd is
+valid_is_yes no_fault is_valid bars_valid is_convex is_dual (Grid job lists points) (WitnessFault verdict) given is valid = absurd is
+valid_is_yes no_fault is_valid bars_valid is_convex is_dual (Grid job lists points) Yes given is valid = refl
+valid_is_yes no_fault is_valid bars_valid is_convex is_dual (Bars lists bars) (Refused fault) given is valid = absurd (no_first (first_fault lists) fault ((no_fault lists given.some_list).1 valid.simple) is)
+valid_is_yes no_fault is_valid bars_valid is_convex is_dual (Bars lists bars) (Drawing verdict) given is valid = absurd is
+valid_is_yes no_fault is_valid bars_valid is_convex is_dual (Bars lists bars) (Inside v u) given is valid = absurd is
+valid_is_yes no_fault is_valid bars_valid is_convex is_dual (Bars lists bars) (ConvexFault verdict) given is valid = absurd is
+valid_is_yes no_fault is_valid bars_valid is_convex is_dual (Bars lists bars) (BarFault verdict) given is valid = absurd (is.1.1 ((bars_valid lists bars (bars_width lists) verdict is.1.0).1 valid.valid))
+valid_is_yes no_fault is_valid bars_valid is_convex is_dual (Bars lists bars) (RectFault verdict) given is valid = absurd is
+valid_is_yes no_fault is_valid bars_valid is_convex is_dual (Bars lists bars) (WitnessFault verdict) given is valid = absurd is
+valid_is_yes no_fault is_valid bars_valid is_convex is_dual (Bars lists bars) Yes given is valid = refl
+valid_is_yes no_fault is_valid bars_valid is_convex is_dual (Rects lists rects) (Refused fault) given is valid = absurd (no_first (first_fault lists) fault ((no_fault lists given.some_list).1 valid.simple) is)
+valid_is_yes no_fault is_valid bars_valid is_convex is_dual (Rects lists rects) (Drawing verdict) given is valid = absurd is
+valid_is_yes no_fault is_valid bars_valid is_convex is_dual (Rects lists rects) (Inside v u) given is valid = absurd is
+valid_is_yes no_fault is_valid bars_valid is_convex is_dual (Rects lists rects) (ConvexFault verdict) given is valid = absurd is
+valid_is_yes no_fault is_valid bars_valid is_convex is_dual (Rects lists rects) (BarFault verdict) given is valid = absurd is
+valid_is_yes no_fault is_valid bars_valid is_convex is_dual (Rects lists rects) (RectFault verdict) given is valid = absurd (is.1.1 ((is_dual lists rects verdict is.1.0).1 valid.dual))
+valid_is_yes no_fault is_valid bars_valid is_convex is_dual (Rects lists rects) (WitnessFault verdict) given is valid = absurd is
+valid_is_yes no_fault is_valid bars_valid is_convex is_dual (Rects lists rects) Yes given is valid = refl
+valid_is_yes no_fault is_valid bars_valid is_convex is_dual (WitnessFigure graph witness) (Refused fault) given is valid = absurd is
+valid_is_yes no_fault is_valid bars_valid is_convex is_dual (WitnessFigure graph witness) (Drawing verdict) given is valid = absurd is
+valid_is_yes no_fault is_valid bars_valid is_convex is_dual (WitnessFigure graph witness) (Inside v u) given is valid = absurd is
+valid_is_yes no_fault is_valid bars_valid is_convex is_dual (WitnessFigure graph witness) (ConvexFault verdict) given is valid = absurd is
+valid_is_yes no_fault is_valid bars_valid is_convex is_dual (WitnessFigure graph witness) (BarFault verdict) given is valid = absurd is
+valid_is_yes no_fault is_valid bars_valid is_convex is_dual (WitnessFigure graph witness) (RectFault verdict) given is valid = absurd is
+valid_is_yes no_fault is_valid bars_valid is_convex is_dual (WitnessFigure graph witness) (WitnessFault verdict) given is valid = absurd (is.1 (yes_of_witness graph witness.kind witness.branch witness.paths verdict is.0 valid))
+valid_is_yes no_fault is_valid bars_valid is_convex is_dual (WitnessFigure graph witness) Yes given is valid = refl

@@ -4,14 +4,18 @@ ghost use Rattle.map_lists.specs.Lists.{Lists};
 ghost use Rattle.draw_check.specs.Faults.{HasPlaces};
 ghost use Rattle.bar_check.specs.Verdicts.{IsBarVerdict};
 ghost use Rattle.pg_plane.specs.declared.figure.BarFigure.{BarFigure as Bars};
+ghost use Rattle.pg_plane.specs.declared.figure.RectFigure.{RectFigure as Rects};
+ghost use Rattle.rect_check.specs.Verdicts.{IsRectVerdict};
 ghost use Rattle.graph6_text.specs.Graphs.{EdgeGraph};
 ghost use Rattle.kuratowski.specs.declared.witness.Witness.{Witness as AWitness};
 ghost use Rattle.kuratowski.specs.Verdicts.{IsVerdict};
-ghost use Rattle.figure_lines.specs.Given.{IsGiven, IsGivenGrid, IsGivenBars};
-ghost use Rattle.figure_verdicts.specs.Validity.{grid_width, grid_height};
-ghost use Rattle.figure_verdicts.specs.Verdicts.{IsGridVerdict, IsColumnsVerdict, IsBarsVerdict, IsWitnessVerdict, IsFigureVerdict};
+ghost use Rattle.figure_lines.specs.Given.{IsGiven, IsGivenGrid, IsGivenBars, IsGivenRects};
+ghost use Rattle.figure_verdicts.specs.Validity.{less_one, grid_width, grid_height};
+ghost use Rattle.map_definitions.specs.Maps.{face_count};
+ghost use Rattle.figure_verdicts.specs.Verdicts.{IsDrawnVerdict, IsShapedVerdict, IsJobVerdict, IsFittingVerdict, IsGridVerdict, IsColumnsVerdict, IsBarsVerdict, IsTiledVerdict, IsRectsVerdict, IsWitnessVerdict, IsFigureVerdict};
 
 use crate::FigureVerdict;
+use crate::convex::convex_verdict;
 use crate::drawn::drawn_verdict;
 use bar_check::{BarVerdict, check_bars};
 use euler_faces::euler;
@@ -20,7 +24,8 @@ use graph6_text::Graph;
 use half_edges::{HalfMap, MapFault};
 use kuratowski::{Witness, WitnessVerdict, check_witness};
 use map_lists::Rotations;
-use pg_plane::{BarFigure, GridFigure, Points};
+use pg_plane::{BarFigure, GridFigure, Points, RectFigure};
+use rect_check::{RectVerdict, check_rects};
 use std::alloc::{AllocError, Global};
 
 // A copy of points.
@@ -42,23 +47,50 @@ fn signed(n: usize) -> i32
     n as i32
 }
 
-// How far the grid of a figure of `n` vertices reaches to the right.
-fn width(job: GridJob, n: usize) -> i32
-    requires { n < 4096 }
-    ensures { result ≡ grid_width job n }
+// How far a convex drawing of a map reaches in both directions.
+fn convex_side(alloc: Global, map: &HalfMap) -> Result<i32, AllocError>
+    ensures { IfOk result (λ side. side ≡ less_one (face_count map.now.lists)) }
+{
+    map.facts();
+    let count = euler(alloc, map)?;
+    Ok(bars_width(count.f))
+}
+
+// How far the grid of a drawing of a map reaches to the right.
+fn width(alloc: Global, job: GridJob, map: &HalfMap) -> Result<i32, AllocError>
+    ensures { IfOk result (λ width. width ≡ grid_width job map.now.lists) }
 {
     match job {
-        GridJob::Shift => signed(2 * n) - 4,
-        GridJob::Schnyder => signed(n) - 2,
+        GridJob::Shift => Ok(signed(2 * usize::from(map.n())) - 4),
+        GridJob::Schnyder => Ok(signed(usize::from(map.n())) - 2),
+        GridJob::Convex => convex_side(alloc, map),
     }
 }
 
 // How far it reaches up.
-fn height(n: usize) -> i32
-    requires { n < 4096 }
-    ensures { result ≡ grid_height n }
+fn height(alloc: Global, job: GridJob, map: &HalfMap) -> Result<i32, AllocError>
+    ensures { IfOk result (λ height. height ≡ grid_height job map.now.lists) }
 {
-    signed(n) - 2
+    match job {
+        GridJob::Convex => convex_side(alloc, map),
+        _ => Ok(signed(usize::from(map.n())) - 2),
+    }
+}
+
+// The verdict on a drawing of a simple map, by what it is to be.
+fn job_verdict(
+    alloc: Global,
+    job: GridJob,
+    map: &HalfMap,
+    fig: &GridFigure,
+) -> Result<FigureVerdict, AllocError>
+    requires places { HasPlaces map.now.lists fig.now.points }
+    ensures { IfOk result (IsJobVerdict job map.now.lists fig.now.points fig.now.width fig.now.height) }
+{
+    match job {
+        GridJob::Convex => convex_verdict(alloc, map, fig),
+        _ => drawn_verdict(alloc, map, fig),
+    }
 }
 
 // The verdict on lists with a fault.
@@ -69,6 +101,28 @@ fn refused(fault: MapFault) -> Result<FigureVerdict, AllocError>
         MapFault::NoMemory => Err(AllocError),
         _ => Ok(FigureVerdict::Refused(fault)),
     }
+}
+
+// The verdict on a straight-line drawing of a simple map, in the grid of its job.
+fn map_verdict(
+    alloc: Global,
+    job: GridJob,
+    map: &HalfMap,
+    points: &Points,
+) -> Result<FigureVerdict, AllocError>
+    requires { HasPlaces map.now.lists points.now }
+    ensures { IfOk result (IsFittingVerdict job map.now.lists points.now) }
+{
+    let copy = copied(alloc, points)?;
+    let wide = width(alloc, job, map)?;
+    let high = height(alloc, job, map)?;
+    let figure = GridFigure {
+        points: copy,
+        width: wide,
+        height: high,
+    };
+    let verdict = job_verdict(alloc, job, map, &figure)?;
+    Ok(verdict)
 }
 
 // The verdict on a straight-line drawing of lists that may be no simple map.
@@ -83,12 +137,7 @@ fn grid_verdict(
 {
     match HalfMap::from_rotations(alloc, lists) {
         Ok(map) => {
-            let figure = GridFigure {
-                points: copied(alloc, points)?,
-                width: width(job, lists.len()),
-                height: height(lists.len()),
-            };
-            let verdict = drawn_verdict(alloc, &map, &figure)?;
+            let verdict = map_verdict(alloc, job, &map, points)?;
             Ok(verdict)
         }
         Err(fault) => refused(fault),
@@ -98,7 +147,7 @@ fn grid_verdict(
 // How far bars of a map with `f` faces reach to the right.
 fn bars_width(f: u32) -> i32
     requires { f ≤ 16777216 }
-    ensures { result ≡ pos f -ℤ pos 1 }
+    ensures { result ≡ less_one f }
 {
     f as i32 - 1
 }
@@ -132,6 +181,31 @@ fn bars_verdict(
     }
 }
 
+// The verdict on the rectangles of a simple map, by that of their check.
+fn of_rects(verdict: RectVerdict) -> FigureVerdict
+    ensures { (lists : Lists) (rects : Rects) → IsRectVerdict lists rects verdict → IsTiledVerdict lists rects result }
+{
+    match verdict {
+        RectVerdict::Yes => FigureVerdict::Yes,
+        _ => FigureVerdict::Rects(verdict),
+    }
+}
+
+// The verdict on a rectangular dual of lists that may be no simple map.
+fn rects_verdict(
+    alloc: Global,
+    lists: &Rotations,
+    rects: &RectFigure,
+) -> Result<FigureVerdict, AllocError>
+    requires { IsGivenRects lists.now rects.now }
+    ensures { IfOk result (IsRectsVerdict lists.now rects.now) }
+{
+    match HalfMap::from_rotations(alloc, lists) {
+        Ok(map) => Ok(of_rects(check_rects(&map, rects))),
+        Err(fault) => refused(fault),
+    }
+}
+
 // The verdict on a witness, by that of its check.
 fn of_witness(verdict: WitnessVerdict) -> FigureVerdict
     ensures { (graph : EdgeGraph) (witness : AWitness) → IsVerdict graph witness.kind witness.branch witness.paths verdict
@@ -153,8 +227,9 @@ fn witness_verdict(graph: &Graph, witness: &Witness) -> FigureVerdict
 /// The verdict on a figure, whose numbers are within the ranges of its text: the first fault of its lists where
 /// they are no simple map. Else, of a straight-line drawing, its first fault in its grid, which is 2n - 4 by
 /// n - 2 for the shift method and n - 2 by n - 2 for Schnyder's; or, for a connected map, the least dart of a
-/// face that is turned inside out, as seen from the first vertex's first dart. Of bars it is their first fault
-/// within the width f - 1, for f faces. Else it is `Yes`. A witness has no lists: its verdict is its own first fault,
+/// face that is turned inside out, as seen from the first vertex's first dart. For a convex drawing the grid is f - 1
+/// by f - 1, for f faces, and it is how a face bends. Of bars it is their first fault
+/// within the width f - 1, and of rectangles their first fault. Else it is `Yes`. A witness has no lists: its verdict is its own first fault,
 /// or `Yes`.
 pub fn figure_verdict(alloc: Global, figure: &Figure) -> Result<FigureVerdict, AllocError>
     requires { IsGiven figure.now }
@@ -163,6 +238,7 @@ pub fn figure_verdict(alloc: Global, figure: &Figure) -> Result<FigureVerdict, A
     match figure {
         Figure::Grid { job, lists, points } => grid_verdict(alloc, *job, lists, points),
         Figure::Bars { lists, bars } => bars_verdict(alloc, lists, bars),
+        Figure::Rects { lists, rects } => rects_verdict(alloc, lists, rects),
         Figure::Witness { graph, witness } => Ok(witness_verdict(graph, witness)),
     }
 }

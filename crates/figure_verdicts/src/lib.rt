@@ -3,6 +3,7 @@
 
 ghost use Rattle.figure_verdicts.specs.Laws.{ValidIsYes, YesIsValidFigure};
 
+mod convex;
 mod drawn;
 mod judge;
 mod verdict;
@@ -12,13 +13,16 @@ pub use verdict::FigureVerdict;
 
 /// The verdict is `Yes` exactly where the lists of the figure are a simple map, and: of a straight-line drawing
 /// all points lie in the grid, the drawing is plane and keeps the rotations, and for a connected map the face of
-/// the first vertex's first dart is the outer one; bars are valid within the width f - 1. Of a witness it is `Yes`
+/// the first vertex's first dart is the outer one; of one that is to be convex the faces are as they should besides; bars are
+/// valid within the width f - 1; rectangles are a rectangular dual. Of a witness it is `Yes`
 /// exactly where it is one of its graph.
 pub fn yes_is_valid_figure()
     ensures { YesIsValidFigure }
 {
     simple_maps::no_fault_is_simple();
     draw_check::yes_is_valid();
+    convex_check::yes_is_convex();
+    rect_check::yes_is_dual();
 }
 
 /// A valid figure has no other verdict than `Yes`.
@@ -28,4 +32,6 @@ pub fn valid_is_yes()
     simple_maps::no_fault_is_simple();
     draw_check::yes_is_valid();
     bar_check::yes_is_valid();
+    convex_check::yes_is_convex();
+    rect_check::yes_is_dual();
 }

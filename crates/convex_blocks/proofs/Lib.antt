@@ -1,0 +1,3 @@
+-- Lemmas on records as three-connected maps.
+pub mod BlockLemmas
+mod Cases

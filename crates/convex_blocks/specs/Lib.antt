@@ -1,0 +1,3 @@
+-- Records as three-connected maps of genus zero.
+pub mod Convexity
+pub mod Laws

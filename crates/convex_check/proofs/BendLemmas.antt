@@ -1,0 +1,63 @@
+-- Where faces bend, as the calls of a map answer it.
+use Rattle.std.proofs.Common.{◌≡◌, ◌≢◌, ℕ, ◌<◌, true, List, length, Some, Contains, pos, ◌<ℤ◌, refl, sym, ap, subst, ◌∙◌, arith}
+use Rattle.std.specs.Option.{option_map}
+use Rattle.label_classes.specs.Classes.{label}
+use Rattle.label_classes.proofs.Classes.{Together, Together-from, same_class-from}
+use Rattle.map_lists.specs.Lists.{Lists}
+use Rattle.map_definitions.specs.Maps.{Dart, HasDart, follows, face_step, face_classes}
+use Rattle.map_definitions.specs.Paths.{SameFace}
+use Rattle.half_edges.specs.Map.{Map, IsHalfMap, IsLive, dart_at}
+use Rattle.euler_faces.specs.Numbers.{number_at}
+use Rattle.euler_faces.specs.FaceWalks.{walk_at, AreFaces}
+use Rattle.pg_plane.specs.declared.point.Point.{Point}
+use Rattle.pg_plane.specs.Geometry.{area}
+use Rattle.drawings.specs.Drawing.{place}
+use Rattle.draw_check.specs.Least.{IsLeast, IsLeastPair}
+use Rattle.draw_check.specs.FaceVerdicts.{dart_of}
+use Rattle.draw_check.proofs.FaceIds.{dart_of-is}
+use Rattle.draw_check.proofs.WalkFaces.{in_class, in_walk}
+use Rattle.convex_check.specs.Convex.{IsBent}
+use Rattle.convex_check.specs.Verdicts.{IsBentFrom}
+
+-- Two ids stand in one walk exactly where their darts are in one face.
+module _ (map : Map) (h : IsHalfMap map) (walks : List (List ℕ)) (faces : AreFaces map walks) (d e : ℕ) (live : IsLive map d) (live' : IsLive map e) where
+  pub one_walk_face : (f : ℕ) → f < length walks → Contains (walk_at walks f) d → Contains (walk_at walks f) e → SameFace map.lists (dart_of map d) (dart_of map e)
+  one_walk_face f l c c' =
+      let walk = walk_at walks f in
+      same_class-from (face_classes map.lists) (number_at map d) (number_at map e) (sym (in_class map h walk (faces.each f l) d c) ∙ in_class map h walk (faces.each f l) e c')
+
+  pub in_walk_of : (f : ℕ) → f < length walks → Contains (walk_at walks f) d → SameFace map.lists (dart_of map d) (dart_of map e) → Contains (walk_at walks f) e
+  in_walk_of f l c same =
+      let walk = walk_at walks f in
+      in_walk map h walk (faces.each f l) e live' (in_class map h walk (faces.each f l) d c ∙ Together-from (face_classes map.lists) (number_at map d) (number_at map e) same)
+
+  pub face_one_walk : (f g : ℕ) → f < length walks → g < length walks → Contains (walk_at walks f) d → Contains (walk_at walks g) e → SameFace map.lists (dart_of map d) (dart_of map e) → g ≡ f
+  face_one_walk f g l m c c' same = faces.apart g f e m l c' (in_walk_of f l c same)
+
+-- what the calls answer for a dart, its face step and the turn there
+module _ (map : Map) (points : List Point) (base a b s t w : ℕ) (tail : s ≡ a) (head : t ≡ b) (third : follows map.lists b a ≡ w) where
+  turn_is : area (place points s) (place points t) (place points w) ≡ area (place points a) (place points b) (place points (follows map.lists b a))
+  turn_is =
+      ap (λ z. area (place points z) (place points t) (place points w)) tail
+      ∙ (ap (λ z. area (place points a) (place points z) (place points w)) head ∙ ap (λ z. area (place points a) (place points b) (place points z)) (sym third))
+
+  pub IsBentFrom-turn : HasDart map.lists a b → ¬ SameFace map.lists (dart_of map base) (a, b) → area (place points s) (place points t) (place points w) <ℤ pos 0 → IsBentFrom map points base a b
+  IsBentFrom-turn has other turn = record { dart = has; third = refl; other = other; turn = subst (λ z. z <ℤ pos 0) turn_is turn }
+
+  pub turn-IsBentFrom : IsBentFrom map points base a b → area (place points s) (place points t) (place points w) <ℤ pos 0
+  turn-IsBentFrom bent = subst (λ z. z <ℤ pos 0) (sym turn_is) bent.turn
+
+-- ---- the least
+pub IsBentFrom-any : (map : Map) (points : List Point) (base a b c : ℕ) → IsBent map.lists points (dart_of map base) a b c → IsBentFrom map points base a b
+IsBentFrom-any map points base a b c bent =
+    record { dart = bent.dart; third = refl; other = bent.other; turn = subst (λ z. area (place points a) (place points b) (place points z) <ℤ pos 0) (sym bent.third) bent.turn }
+
+pub IsLeastPair-bent : (map : Map) (points : List Point) (base a b c : ℕ) → IsLeast (IsBentFrom map points base a) b → follows map.lists b a ≡ c → IsLeastPair (IsBent map.lists points (dart_of map base) a) b c
+IsLeastPair-bent map points base a b c least third =
+    record {
+      before = λ z w less bent. least.before z less (IsBentFrom-any map points base a z w bent);
+      rest = record {
+        here = subst (λ z. IsBent map.lists points (dart_of map base) a b z) third least.here;
+        before = λ y less bent. let e = bent.third in absurd (omega arith);
+      };
+    }

@@ -1,0 +1,4 @@
+-- Lemmas on the check of convex drawings.
+pub mod BendLemmas
+pub mod OuterLemmas
+pub mod VerdictLemmas

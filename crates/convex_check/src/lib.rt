@@ -1,0 +1,16 @@
+//! The check that a drawing is convex over a base dart: no face but the base's bends inwards, and the base's
+//! face is a triangle, with flat angles.
+#![tactic(auto)]
+
+ghost use Rattle.convex_check.specs.Laws.{YesIsConvex};
+
+mod check;
+mod verdict;
+
+pub use check::check_convex;
+pub use verdict::ConvexVerdict;
+
+/// The verdict is `Yes` exactly where the drawing is convex.
+pub fn yes_is_convex()
+    ensures { YesIsConvex }
+{}

@@ -1,0 +1,5 @@
+-- Lemmas on marks that faces set.
+pub mod MarkLemmas
+pub mod WalkMarks
+pub mod PairMarks
+mod Cases

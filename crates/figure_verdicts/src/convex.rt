@@ -1,0 +1,67 @@
+//! The verdict on a drawing that is to be convex.
+ghost use Rattle.std.specs.Prelude.{◌≡◌, ◌≢◌, ◌-◌, List, ℤ, pos, ◌-ℤ◌, IfOk};
+ghost use Rattle.map_lists.specs.Lists.{Lists};
+ghost use Rattle.pg_plane.specs.declared.point.Point.{Point};
+ghost use Rattle.map_definitions.specs.Maps.{face_count};
+ghost use Rattle.half_edges.specs.Map.{first_dart};
+ghost use Rattle.draw_check.specs.Faults.{HasPlaces};
+ghost use Rattle.draw_check.specs.Verdicts.{IsVerdict};
+ghost use Rattle.draw_check.specs.declared.verdict.Verdict.TheVariants.{Yes as NoFault};
+ghost use Rattle.convex_check.specs.Verdicts.{IsConvexVerdict};
+ghost use Rattle.figure_verdicts.specs.Verdicts.{HasBase, IsBendVerdict, IsShapedVerdict};
+
+use crate::FigureVerdict;
+use convex_check::{ConvexVerdict, check_convex};
+use draw_check::{Verdict, check};
+use half_edges::{HalfMap, VertexId};
+use pg_plane::GridFigure;
+use std::alloc::{AllocError, Global};
+
+// The verdict on a drawing without another fault, by that of the check of bends.
+fn of_convex(verdict: ConvexVerdict) -> FigureVerdict
+    ensures { (lists : Lists) (points : List Point) → IsConvexVerdict lists points (first_dart lists 0) verdict → HasBase lists
+        → IsBendVerdict lists points result }
+{
+    match verdict {
+        ConvexVerdict::Yes => FigureVerdict::Yes,
+        _ => FigureVerdict::Convex(verdict),
+    }
+}
+
+// The verdict on a drawing without another fault, by its bends.
+fn bend_verdict(
+    alloc: Global,
+    map: &HalfMap,
+    fig: &GridFigure,
+) -> Result<FigureVerdict, AllocError>
+    requires places { HasPlaces map.now.lists fig.now.points }
+    ensures { IfOk result (IsBendVerdict map.now.lists fig.now.points) }
+{
+    map.facts();
+    match map.first_dart(VertexId(0)) {
+        Some(base) => {
+            let verdict = check_convex(alloc, map, base, fig)?;
+            Ok(of_convex(verdict))
+        }
+        None => Ok(FigureVerdict::Convex(ConvexVerdict::OuterBent)),
+    }
+}
+
+/// The verdict on a drawing of a simple map that is to be convex, whose coordinates are not beyond 2^20 in size: its
+/// first fault; or, where it has none, how a face bends; or `Yes`.
+pub fn convex_verdict(
+    alloc: Global,
+    map: &HalfMap,
+    fig: &GridFigure,
+) -> Result<FigureVerdict, AllocError>
+    requires places { HasPlaces map.now.lists fig.now.points }
+    ensures { IfOk result (IsShapedVerdict map.now.lists fig.now.points fig.now.width fig.now.height) }
+{
+    match check(map, fig) {
+        Verdict::Yes => {
+            let verdict = bend_verdict(alloc, map, fig)?;
+            Ok(verdict)
+        }
+        verdict => Ok(FigureVerdict::Drawing(verdict)),
+    }
+}

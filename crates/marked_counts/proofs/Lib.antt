@@ -1,0 +1,2 @@
+-- Lemmas on marks and counts.
+pub mod Tallies

@@ -1,0 +1,2 @@
+-- Marks of vertices, and counts of marked neighbours.
+pub mod Tallies

@@ -1,0 +1,78 @@
+-- Pairs of rectangles: what holds either way round, and what is far behind another.
+use Rattle.std.proofs.Common.{◌≡◌, ◌⊎◌, ℕ, ◌+◌, ◌<◌, ◌<ℤ◌, inl, inr, ⊎_elim, subst, sym, arith}
+use Rattle.std.proofs.lemmas.Bool.{cases_lt}
+use Rattle.std.proofs.lemmas.Int.{ints, by_lt_z}
+use Rattle.map_lists.specs.Lists.{Lists}
+use Rattle.map_definitions.specs.Maps.{IsSimpleMap}
+use Rattle.pg_plane.specs.declared.figure.RectFigure.{RectFigure}
+use Rattle.rect_check.specs.Duals.{left_of, right_of, low_of, high_of, IsRect, DoMeet, IsBeside, IsAbove, ShareSide}
+use Rattle.rect_check.specs.Loops.{DoFit, AreFitting, IsMissed}
+use Rattle.rect_check.specs.Verdicts.{HasContacts}
+
+-- what holds between u and k, and at k, holds up to k
+pub between_more : (P : ℕ → Type 0) (u k : ℕ) → ((w : ℕ) → u < w → w < k → P w) → P k → (w : ℕ) → u < w → w < k + 1 → P w
+between_more P u k below here w after l =
+    elim (cases_lt w k) [
+      | inl less ↦ below w after less
+      | inr more ↦ (let same : w ≡ k = omega arith in subst P (sym same) here)
+    ]
+
+pub DoMeet-turned : (fig : RectFigure) (u v : ℕ) → DoMeet fig u v → DoMeet fig v u
+DoMeet-turned fig u v h = record { left = h.right; right = h.left; low = h.high; high = h.low }
+
+pub ShareSide-turned : (fig : RectFigure) (u v : ℕ) → ShareSide fig u v → ShareSide fig v u
+ShareSide-turned fig u v (inl (inl h)) = inl (inr h)
+ShareSide-turned fig u v (inl (inr h)) = inl (inl h)
+ShareSide-turned fig u v (inr (inl h)) = inr (inr h)
+ShareSide-turned fig u v (inr (inr h)) = inr (inl h)
+
+pub DoFit-turned : (lists : Lists) (fig : RectFigure) (u v : ℕ) → IsSimpleMap lists → DoFit lists fig u v → DoFit lists fig v u
+DoFit-turned lists fig u v simple h = record {
+  apart = λ m. h.apart (DoMeet-turned fig v u m);
+  joined = λ s. simple.both_ways u v (h.joined (ShareSide-turned fig v u s));
+}
+
+-- what begins behind the right side of u shares no side with it
+none_shared : (n : ℕ) (fig : RectFigure) (u v : ℕ) → IsRect n fig u → IsRect n fig v → right_of fig u <ℤ left_of fig v → ¬ ShareSide fig u v
+none_shared n fig u v ru rv l (inl (inl h)) = let e = h.line in omega (arith, ints)
+none_shared n fig u v ru rv l (inl (inr h)) = let e = h.line in let a = ru.wide.order in let b = rv.wide.order in omega (arith, ints)
+none_shared n fig u v ru rv l (inr (inl h)) = let a = h.right in omega (arith, ints)
+none_shared n fig u v ru rv l (inr (inr h)) = let a = h.left in omega (arith, ints)
+
+-- so they fit
+pub DoFit-behind : (lists : Lists) (n : ℕ) (fig : RectFigure) (u v : ℕ) → IsRect n fig u → IsRect n fig v → right_of fig u <ℤ left_of fig v → DoFit lists fig u v
+DoFit-behind lists n fig u v ru rv l = record {
+  apart = λ m. let a = m.right in omega (arith, ints);
+  joined = λ s. absurd (none_shared n fig u v ru rv l s);
+}
+
+-- whether one is beside another, or above it, is decided
+IsBeside-decided : (fig : RectFigure) (u v : ℕ) → IsBeside fig u v ⊎ (¬ IsBeside fig u v)
+IsBeside-decided fig u v =
+    by_lt_z (right_of fig u) (left_of fig v) (λ l. inr (λ h. let e = h.line in omega (arith, ints))) (λ a.
+    by_lt_z (left_of fig v) (right_of fig u) (λ l. inr (λ h. let e = h.line in omega (arith, ints))) (λ b.
+    by_lt_z (low_of fig u) (high_of fig v) (λ low. by_lt_z (low_of fig v) (high_of fig u) (λ high. inl (record { line = omega (arith, ints); low = low; high = high })) (λ l. inr (λ h. let e = h.high in omega (arith, ints))))
+    (λ l. inr (λ h. let e = h.low in omega (arith, ints)))))
+
+IsAbove-decided : (fig : RectFigure) (u v : ℕ) → IsAbove fig u v ⊎ (¬ IsAbove fig u v)
+IsAbove-decided fig u v =
+    by_lt_z (high_of fig u) (low_of fig v) (λ l. inr (λ h. let e = h.line in omega (arith, ints))) (λ a.
+    by_lt_z (low_of fig v) (high_of fig u) (λ l. inr (λ h. let e = h.line in omega (arith, ints))) (λ b.
+    by_lt_z (left_of fig u) (right_of fig v) (λ left. by_lt_z (left_of fig v) (right_of fig u) (λ right. inl (record { line = omega (arith, ints); left = left; right = right })) (λ l. inr (λ h. let e = h.right in omega (arith, ints))))
+    (λ l. inr (λ h. let e = h.left in omega (arith, ints)))))
+
+or_decided : {P Q : Type 0} → P ⊎ (¬ P) → Q ⊎ (¬ Q) → (P ⊎ Q) ⊎ (¬ (P ⊎ Q))
+or_decided (inl p) q = inl (inl p)
+or_decided (inr n) (inl q) = inl (inr q)
+or_decided (inr n) (inr m) = inr (⊎_elim n m)
+
+-- what cannot fail to share a side shares one
+pub ShareSide-from_not : (fig : RectFigure) (u v : ℕ) → ¬ (¬ ShareSide fig u v) → ShareSide fig u v
+ShareSide-from_not fig u v h =
+    ⊎_elim (λ s. s) (λ n. absurd (h n))
+    (or_decided (or_decided (IsBeside-decided fig u v) (IsBeside-decided fig v u)) (or_decided (IsAbove-decided fig u v) (IsAbove-decided fig v u)))
+
+-- where all pairs fit and no edge is missed, all contacts are right
+pub HasContacts-from_fit : (lists : Lists) (fig : RectFigure) → AreFitting lists fig → ((u v : ℕ) → ¬ IsMissed lists fig u v) → HasContacts lists fig
+HasContacts-from_fit lists fig fit none u v less l =
+    ((fit u v less l).joined, λ d. ShareSide-from_not fig u v (λ n. none u v (record { order = less; dart = d; missed = n })))

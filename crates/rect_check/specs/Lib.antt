@@ -1,0 +1,6 @@
+-- What a check of a rectangular dual answers, and its laws.
+pub mod Duals
+pub mod Faults
+pub mod Verdicts
+pub mod Laws
+pub mod Loops

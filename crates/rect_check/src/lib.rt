@@ -1,0 +1,26 @@
+//! The check of rectangular duals, in which each vertex is a rectangle, and two share a side just where their
+//! vertices are adjacent: whether the rectangles fill the one that they span, without overlap, whether all
+//! contacts are edges and all edges contacts, and whether the outer face is the frame; and where not, which
+//! fault comes first.
+#![tactic(auto)]
+
+ghost use Rattle.rect_check.specs.Laws.{YesIsDual};
+
+mod areas;
+mod check;
+mod edges;
+mod frame;
+mod pairs;
+mod rects;
+mod rounds;
+mod sides;
+mod sweep;
+mod verdict;
+
+pub use check::check_rects;
+pub use verdict::RectVerdict;
+
+/// A verdict is `Yes` exactly where the figure is a rectangular dual.
+pub fn yes_is_dual()
+    ensures { YesIsDual }
+{}

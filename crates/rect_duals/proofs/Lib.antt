@@ -1,0 +1,3 @@
+-- Lemmas on rectangular duals of maps.
+pub mod Renamed
+pub mod Figures

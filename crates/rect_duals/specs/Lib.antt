@@ -1,0 +1,2 @@
+-- Rectangular duals of maps.
+pub mod Figures

@@ -1,0 +1,9 @@
+-- Lemmas on rectangular orders.
+pub mod Closed
+pub mod SameCycles
+pub mod Transfer
+pub mod Lefts
+mod SomeOrder
+pub mod Shortened
+pub mod Joined
+pub mod RunOfMap

@@ -1,0 +1,10 @@
+use Rattle.std.proofs.Common.{ℕ, ◌<◌, Contains}
+use Rattle.plane_sweep.specs.Lines.{IsBefore}
+use Rattle.triangle_corners.proofs.Points.{point_at}
+use Rattle.triangle_corners.proofs.first_of.Given as goal
+
+abbrev pub invariant-loop-p : goal.invariant-loop-p
+invariant-loop-p l = record {
+  on : Contains l.points l.best;
+  first : (i : ℕ) → i < l.p-index → ¬ IsBefore (point_at l.points i) l.best;
+}
