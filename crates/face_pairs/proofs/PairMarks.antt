@@ -9,13 +9,13 @@ use Rattle.map_definitions.specs.Paths.{SameFace}
 use Rattle.map_definitions.proofs.DartLemmas.{place_of-get_or, HasDart-at}
 use Rattle.half_edges.specs.Map.{Map, IsHalfMap, IsLive, dart_at, first_dart, next_dart}
 use Rattle.euler_faces.proofs.NumberLemmas.{live_from}
-use Rattle.draw_check.proofs.RoundLemmas.{LeavesFrom, LeavesFrom-is, LeavesFrom-later, head_at, place_at, place_at-first, place_at-later, at_place, last_place, later_place}
+use Rattle.draw_check.proofs.RoundLemmas.{LeavesFrom, LeavesFrom-later, head_at, place_at, place_at-later, at_place, last_place, later_place}
 use Rattle.map_cuts.specs.Cuts.{IsSeparatingPair, IsLeastPair}
 use Rattle.map_cuts.proofs.PartnerLemmas.{least_pair}
 use Rattle.tight_maps.specs.TwoFaces.{AreMetTwice}
 use Rattle.tight_maps.specs.Laws.{IsPlaneUncut}
 use Rattle.tight_maps.proofs.Tightness.{pairs_meet_twice}
-use Rattle.face_pairs.specs.Passing.{IsPassed, IsTwiceSeen, AreMarksOf, IsUnused}
+use Rattle.face_pairs.specs.Passing.{IsPassed, IsTwiceSeen, AreMarksOf}
 
 -- the round of u stands at dart d, and the marks are those of the darts before
 pub record IsMarkingRound (map : Map) (u d : ℕ) (marks : List ℕ) (best : ℕ) : Type 0 where
@@ -25,23 +25,6 @@ pub record IsMarkingRound (map : Map) (u d : ℕ) (marks : List ℕ) (best : ℕ
 -- how much of the round is left
 abbrev pub left_of_round : Map → ℕ → ℕ → ℕ
 left_of_round map u d = length (list_of map.lists u) - place_at map u d
-
--- nothing is marked by u before the round
-pub AreMarksOf-none : (lists : Lists) (u : ℕ) (marks : List ℕ) (best : ℕ) → length marks ≡ length lists → IsUnused marks u → best ≡ length lists → AreMarksOf lists u 0 marks best
-AreMarksOf-none lists u marks best size unused all =
-    record {
-      told = λ w l e. absurd (unused w (omega arith) e);
-      tell = λ w h. absurd (let l = h.1 in omega arith);
-      found = λ l. absurd (omega arith);
-      least = λ w h. absurd (let l = h.3 in omega arith);
-    }
-
-pub IsMarkingRound-first : (map : Map) (u d : ℕ) (marks : List ℕ) (best : ℕ) → dart_at map d ≡ Some (first_dart map.lists u) → length marks ≡ length map.lists → IsUnused marks u → best ≡ length map.lists → IsMarkingRound map u d marks best
-IsMarkingRound-first map u d marks best is size unused all =
-    record {
-      dart = LeavesFrom-is map u (get_or (list_of map.lists u) 0 0) d is;
-      marked = subst (λ k. AreMarksOf map.lists u k marks best) (sym (place_at-first map u d is)) (AreMarksOf-none map.lists u marks best size unused all);
-    }
 
 module _ (map : Map) (known : IsHalfMap map) (u d e first : ℕ) (marks new : List ℕ) (best result : ℕ) (step : dart_at map e ≡ option_map (next_dart map.lists) (dart_at map d)) (begins : dart_at map first ≡ Some (first_dart map.lists u)) (walk ids : List ℕ) (same : ids ≡ walk) (stands : Contains walk d) (round : IsMarkingRound map u d marks best) (marked : (x : ℕ) → LeavesFrom map u x → Contains ids x → AreMarksOf map.lists u (place_at map u x) marks best → AreMarksOf map.lists u (place_at map u x + 1) new result) where
   live : IsLive map d

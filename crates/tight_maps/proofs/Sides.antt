@@ -77,9 +77,6 @@ pub record IsSide (lists : Lists) (u v : ℕ) (side : ℕ → Bool) : Type 0 whe
 pub IsSide-other : (lists : Lists) (u v : ℕ) (side : ℕ → Bool) → IsSide lists u v side → IsSide lists u v (λ x. not (side x))
 IsSide-other lists u v side h = record { along = λ x y has xu xv yu yv. ap not (h.along x y has xu xv yu yv) }
 
-pub IsSide-turned : (lists : Lists) (u v : ℕ) (side : ℕ → Bool) → IsSide lists u v side → IsSide lists v u side
-IsSide-turned lists u v side h = record { along = λ x y has xv xu yv yu. h.along x y has xu xv yu yv }
-
 module _ (lists : Lists) (simple : IsSimpleMap lists) (u v s t : ℕ) (parted : AreParted lists (u ∷ v ∷ []) s t) where
   kept : ℕ → Bool
   kept x = not (eqb x u) && not (eqb x v)
