@@ -1,22 +1,16 @@
 -- Where faces bend, as the calls of a map answer it.
-use Rattle.std.proofs.Common.{◌≡◌, ◌≢◌, ℕ, ◌<◌, true, List, length, Some, Contains, pos, ◌<ℤ◌, refl, sym, ap, subst, ◌∙◌, arith}
-use Rattle.std.specs.Option.{option_map}
-use Rattle.label_classes.specs.Classes.{label}
-use Rattle.label_classes.proofs.Classes.{Together, Together-from, same_class-from}
-use Rattle.map_lists.specs.Lists.{Lists}
-use Rattle.map_definitions.specs.Maps.{Dart, HasDart, follows, face_step, face_classes}
+use Rattle.std.proofs.Common.{◌≡◌, ℕ, ◌<◌, List, length, Contains, pos, ◌<ℤ◌, refl, sym, ap, subst, ◌∙◌}
+use Rattle.label_classes.proofs.Classes.{Together-from, same_class-from}
+use Rattle.map_definitions.specs.Maps.{HasDart, follows, face_classes}
 use Rattle.map_definitions.specs.Paths.{SameFace}
-use Rattle.half_edges.specs.Map.{Map, IsHalfMap, IsLive, dart_at}
+use Rattle.half_edges.specs.Map.{Map, IsHalfMap, IsLive}
 use Rattle.euler_faces.specs.Numbers.{number_at}
 use Rattle.euler_faces.specs.FaceWalks.{walk_at, AreFaces}
 use Rattle.pg_plane.specs.declared.point.Point.{Point}
 use Rattle.pg_plane.specs.Geometry.{area}
 use Rattle.drawings.specs.Drawing.{place}
-use Rattle.draw_check.specs.Least.{IsLeast, IsLeastPair}
 use Rattle.draw_check.specs.FaceVerdicts.{dart_of}
-use Rattle.draw_check.proofs.FaceIds.{dart_of-is}
 use Rattle.draw_check.proofs.WalkFaces.{in_class, in_walk}
-use Rattle.convex_check.specs.Convex.{IsBent}
 use Rattle.convex_check.specs.Verdicts.{IsBentFrom}
 
 -- Two ids stand in one walk exactly where their darts are in one face.
@@ -46,18 +40,3 @@ module _ (map : Map) (points : List Point) (base a b s t w : ℕ) (tail : s ≡ 
 
   pub turn-IsBentFrom : IsBentFrom map points base a b → area (place points s) (place points t) (place points w) <ℤ pos 0
   turn-IsBentFrom bent = subst (λ z. z <ℤ pos 0) (sym turn_is) bent.turn
-
--- ---- the least
-pub IsBentFrom-any : (map : Map) (points : List Point) (base a b c : ℕ) → IsBent map.lists points (dart_of map base) a b c → IsBentFrom map points base a b
-IsBentFrom-any map points base a b c bent =
-    record { dart = bent.dart; third = refl; other = bent.other; turn = subst (λ z. area (place points a) (place points b) (place points z) <ℤ pos 0) (sym bent.third) bent.turn }
-
-pub IsLeastPair-bent : (map : Map) (points : List Point) (base a b c : ℕ) → IsLeast (IsBentFrom map points base a) b → follows map.lists b a ≡ c → IsLeastPair (IsBent map.lists points (dart_of map base) a) b c
-IsLeastPair-bent map points base a b c least third =
-    record {
-      before = λ z w less bent. least.before z less (IsBentFrom-any map points base a z w bent);
-      rest = record {
-        here = subst (λ z. IsBent map.lists points (dart_of map base) a b z) third least.here;
-        before = λ y less bent. let e = bent.third in absurd (omega arith);
-      };
-    }

@@ -2,3 +2,4 @@
 pub mod BendLemmas
 pub mod OuterLemmas
 pub mod VerdictLemmas
+mod Cases

@@ -1,5 +1,5 @@
 -- The verdict `Yes`.
-use Rattle.std.proofs.Common.{◌≡◌, ◌↔◌, ℕ, List, pos, ◌≤ℤ◌, ◌<ℤ◌, refl, subst, arith}
+use Rattle.std.proofs.Common.{◌≡◌, ◌↔◌, ℕ, List, pos, ◌≤ℤ◌, refl, subst, arith}
 use Rattle.std.proofs.lemmas.Int.{ints, by_lt_z}
 use Rattle.map_lists.specs.Lists.{Lists}
 use Rattle.map_definitions.specs.Maps.{Dart, follows}

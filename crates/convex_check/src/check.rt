@@ -6,6 +6,9 @@ ghost use Rattle.draw_check.specs.FaceVerdicts.{dart_of};
 ghost use Rattle.convex_check.specs.Verdicts.{IsConvexVerdict};
 
 use crate::ConvexVerdict;
+use crate::bends::first_bent;
+use crate::outer::is_outer_convex;
+use euler_faces::faces;
 use half_edges::{DartId, HalfMap};
 use pg_plane::GridFigure;
 use std::alloc::{AllocError, Global};
@@ -27,5 +30,14 @@ pub fn check_convex(
     requires places { HasPlaces map.now.lists fig.now.points }
     ensures { IfOk result (IsConvexVerdict map.now.lists fig.now.points (dart_of map.now base.0)) }
 {
-    Err(AllocError)
+    map.facts();
+    let faces = faces(alloc, map)?;
+    if let Some((a, b, c)) = first_bent(map, &faces, &fig.points, base) {
+        return Ok(ConvexVerdict::Bent(a, b, c));
+    }
+    if is_outer_convex(alloc, map, &faces, &fig.points, base)? {
+        Ok(ConvexVerdict::Yes)
+    } else {
+        Ok(ConvexVerdict::OuterBent)
+    }
 }

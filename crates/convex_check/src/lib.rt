@@ -4,7 +4,9 @@
 
 ghost use Rattle.convex_check.specs.Laws.{YesIsConvex};
 
+mod bends;
 mod check;
+mod outer;
 mod verdict;
 
 pub use check::check_convex;

@@ -29,11 +29,7 @@ fn of_convex(verdict: ConvexVerdict) -> FigureVerdict
 }
 
 // The verdict on a drawing without another fault, by its bends.
-fn bend_verdict(
-    alloc: Global,
-    map: &HalfMap,
-    fig: &GridFigure,
-) -> Result<FigureVerdict, AllocError>
+fn bend_verdict(alloc: Global, map: &HalfMap, fig: &GridFigure) -> Result<FigureVerdict, AllocError>
     requires places { HasPlaces map.now.lists fig.now.points }
     ensures { IfOk result (IsBendVerdict map.now.lists fig.now.points) }
 {

@@ -11,7 +11,7 @@ ghost use Rattle.rect_check.specs.Verdicts.{AreRects, NoneMeet, DoFill, HasConta
 use crate::RectVerdict;
 use crate::areas::do_fill;
 use crate::edges::none_missed;
-use crate::frame::{first_unframed, frame};
+use crate::frame::{first_unframed, outer_four};
 use crate::pairs::{first_meet, first_wrong};
 use crate::rects::first_bad_rect;
 use crate::sweep::are_fitting;
@@ -81,7 +81,7 @@ fn first_of_frame(map: &HalfMap, fig: &RectFigure) -> RectVerdict
     requires contacts { HasContacts map.now.lists fig.now }
     ensures { IsRectVerdict map.now.lists fig.now result }
 {
-    match frame(map) {
+    match outer_four(map) {
         Some(found) => match first_unframed(fig, found) {
             Some(v) => RectVerdict::Frame(v),
             None => RectVerdict::Yes,

@@ -10,12 +10,15 @@ use crate::rects::number;
 use half_edges::{DartId, HalfMap, VertexId};
 use pg_plane::RectFigure;
 
-// The vertices behind vertex 0 on the outer face.
-#[derive(Clone, Copy)]
-pub(crate) struct OuterFour {
-    pub(crate) top: VertexId,
-    pub(crate) right: VertexId,
-    pub(crate) bottom: VertexId,
+/// The vertices behind vertex 0 on an outer face of four.
+#[derive(Clone, Copy, Debug, PartialEq, Eq)]
+pub struct OuterFour {
+    /// The first neighbour of vertex 0.
+    pub top: VertexId,
+    /// The next one.
+    pub right: VertexId,
+    /// The last one.
+    pub bottom: VertexId,
 }
 
 // Whether `d`, `p` and `q` are three vertices other than 0.
@@ -52,12 +55,12 @@ fn frame_from(map: &HalfMap, first: DartId) -> Option<OuterFour>
     }
 }
 
-// The frame, if vertex 0 has a neighbour and the face of the dart to the first one is walked by four darts
-// over four vertices.
-pub(crate) fn frame(map: &HalfMap) -> Option<OuterFour>
-    requires { IsHalfMap map.now }
+/// The vertices of the outer face behind vertex 0, where vertex 0 has a neighbour and the face of the dart to
+/// the first one is walked by four darts over four vertices.
+pub fn outer_four(map: &HalfMap) -> Option<OuterFour>
     ensures { MatchOption result (¬ HasFrame map.now.lists) (λ f. IsFrame map.now.lists f.top.0 f.right.0 f.bottom.0) }
 {
+    map.facts();
     match map.first_dart(VertexId(0)) {
         Some(first) => frame_from(map, first),
         None => None,

@@ -18,6 +18,9 @@ mod sweep;
 mod verdict;
 
 pub use check::check_rects;
+pub use frame::{OuterFour, outer_four};
+pub use rounds::{is_below, later_dart};
+pub use sides::are_adjacent;
 pub use verdict::RectVerdict;
 
 /// A verdict is `Yes` exactly where the figure is a rectangular dual.

@@ -6,8 +6,8 @@ ghost use Rattle.draw_check.specs.Loops.{IsLaterDart, IsBelow};
 
 use half_edges::{DartId, HalfMap, VertexId};
 
-// The dart from the same vertex to the next entry of its list, or None at the last entry.
-pub(crate) fn later_dart(map: &HalfMap, d: DartId) -> Option<DartId>
+/// The dart from the same vertex to the next entry of its list, or None at the last entry.
+pub fn later_dart(map: &HalfMap, d: DartId) -> Option<DartId>
     requires known { IsHalfMap map.now }
     requires live { IsLive map.now d.0 }
     ensures { (v u : ℕ) → dart_at map.now d.0 ≡ Some (v, u)
@@ -21,8 +21,8 @@ pub(crate) fn later_dart(map: &HalfMap, d: DartId) -> Option<DartId>
     }
 }
 
-// Whether a vertex is below the least one so far, if there is one.
-pub(crate) fn is_below(v: VertexId, least: Option<VertexId>) -> bool
+/// Whether a vertex is below the least one so far, if there is one.
+pub fn is_below(v: VertexId, least: Option<VertexId>) -> bool
     ensures { IsTrue result ↔ IsBelow v.0 least }
 {
     match least {

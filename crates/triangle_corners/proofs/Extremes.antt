@@ -11,12 +11,6 @@ use Rattle.plane_sweep.specs.Lines.{IsBefore}
 use Rattle.plane_sweep.proofs.Areas.{early_off, late_off}
 use Rattle.triangle_corners.specs.Corners.{IsOnTriangle, AreCorners, HasCorners}
 
-pub IsBefore-chained : (p q r : Point) → IsBefore p q → IsBefore q r → IsBefore p r
-IsBefore-chained p q r (inl l) (inl m) = inl (omega (arith, ints))
-IsBefore-chained p q r (inl l) (inr m) = inl (let e = m.0 in omega (arith, ints))
-IsBefore-chained p q r (inr l) (inl m) = inl (let e = l.0 in omega (arith, ints))
-IsBefore-chained p q r (inr l) (inr m) = inr (l.0 ∙ m.0, let f = l.1 in let g = m.1 in omega (arith, ints))
-
 -- one of two points comes before the other, or they are one
 pub cases_before : (p q : Point) → IsBefore p q ⊎ ((p ≡ q) ⊎ IsBefore q p)
 cases_before p q =
