@@ -1,0 +1,3 @@
+-- Runs of tight maps.
+pub mod RunsOfMaps
+pub mod ConvexMaps
