@@ -1,0 +1,4 @@
+-- Lemmas on convex drawings.
+mod ByRows
+mod OuterFace
+mod GridLemmas

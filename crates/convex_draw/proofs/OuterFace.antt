@@ -1,0 +1,119 @@
+-- The outer face of a run's map goes along the last contour, and is that of the base.
+use Rattle.std.proofs.Common.{◌≡◌, ◌⊎◌, ℕ, zero, suc, ◌+◌, ◌-◌, ◌<◌, ◌≤◌, length, refl, sym, ap, ◌∙◌, subst, inl, inr, arith}
+use Rattle.map_lists.specs.Lists.{Lists}
+use Rattle.map_definitions.specs.Maps.{HasDart, IsSimpleMap, follows}
+use Rattle.map_definitions.specs.Paths.{SameFace}
+use Rattle.map_definitions.proofs.DartLemmas.{HasDart-face_step}
+use Rattle.contour_runs.specs.Runs.{Stage}
+use Rattle.contour_runs.specs.Laws.{IsStage}
+use Rattle.contour_runs.proofs.Stages.{upward}
+use Rattle.face_runs.specs.Runs.{Step, stage_after, faces_made, IsRun}
+use Rattle.face_runs.proofs.Stages.{IsStage-run}
+use Rattle.face_peeling.specs.Contours.{face_of}
+use Rattle.face_peeling.proofs.Faces.{SameFace-labels, labels-SameFace, face_of-step, along_face}
+use Rattle.convex_drawings.specs.ConvexDrawings.{IsRunMap}
+
+module _ (lists : Lists) (s d : ℕ) (steps : ℕ → Step) (n : ℕ) (rank : ℕ → ℕ) (face : ℕ → ℕ → ℕ) (run : IsRun steps n) (map : IsRunMap lists (s, d) steps n rank face) where
+  abbrev g : Stage
+  g = stage_after steps n
+
+  abbrev outer : ℕ
+  outer = faces_made steps n
+
+  simple : IsSimpleMap lists
+  simple = map.simple
+
+  stage : IsStage g
+  stage = IsStage-run steps n run
+
+  made_less : (k i : ℕ) → k < n → i < (steps k).faces → faces_made steps k + i < outer
+  made_less k i l m =
+      let up = upward (λ z. faces_made steps (suc k) ≤ faces_made steps z) (suc k) n l (omega arith) (λ z a b c. omega arith) in
+      omega arith
+
+  -- a dart of the outer face leaves a place of the contour for the next, or is the base
+  pub record GoesOn (x y : ℕ) : Type 0 where
+    pub place : ℕ
+    pub within : suc place < g.width
+    pub tail : g.vertex place ≡ rank x
+    pub head : g.vertex (suc place) ≡ rank y
+
+  cases_outer : (x y : ℕ) → HasDart lists x y → face x y ≡ outer → GoesOn x y ⊎ ((rank x ≡ 1) × (rank y ≡ 0))
+  cases_outer x y has e = elim (map.on_face x y has) [
+    | inl made ↦ let b = made.dart.within in let l = made_less made.step made.place made.earlier b in let q = made.number in absurd (omega arith)
+    | inr (inl out) ↦ inl record { place = out.place; within = out.along.within; tail = out.along.tail; head = out.along.head }
+    | inr (inr base) ↦ inr (base.tail, base.head)
+  ]
+
+  -- a dart of the base's face that leaves a place
+  pub record LeavesPlace (i : ℕ) : Type 0 where
+    pub x : ℕ
+    pub y : ℕ
+    pub dart : HasDart lists x y
+    pub tail : g.vertex i ≡ rank x
+    pub head : g.vertex (suc i) ≡ rank y
+    pub outer_face : face x y ≡ outer
+    pub same : face_of lists s d ≡ face_of lists x y
+
+  leaves : (x y i : ℕ) → HasDart lists x y → suc i < g.width → g.vertex i ≡ rank x → face x y ≡ outer → face_of lists s d ≡ face_of lists x y → LeavesPlace i
+  leaves x y i has l tail e same = elim (cases_outer x y has e) [
+    | inl on ↦
+        let w = on.within in
+        let k : on.place ≡ i = sym (stage.own on.place (omega arith)) ∙ ap g.place (on.tail ∙ sym tail) ∙ stage.own i (omega arith) in
+        record { x = x; y = y; dart = has; tail = tail; head = ap (λ i. g.vertex (suc i)) (sym k) ∙ on.head; outer_face = e; same = same }
+    | inr base ↦
+        let end = stage.end (g.width - 1) (omega arith) in
+        let k : i ≡ g.width - 1 = sym (stage.own i (omega arith)) ∙ ap g.place (tail ∙ base.0 ∙ sym end) ∙ stage.own (g.width - 1) (omega arith) in
+        absurd (omega arith)
+  ]
+
+  pub leaves_place : (i : ℕ) → suc i < g.width → LeavesPlace i
+  leaves_place zero l =
+      let y = follows lists d s in
+      let has = HasDart-face_step lists (s, d) simple map.dart in
+      leaves d y 0 has l (stage.begin ∙ sym map.first) (map.faces s d map.dart ∙ map.outer) (sym (face_of-step lists simple s d map.dart))
+  leaves_place (suc i) l =
+      let before = leaves_place i (omega arith) in
+      let y = follows lists before.y before.x in
+      let has = HasDart-face_step lists (before.x, before.y) simple before.dart in
+      leaves before.y y (suc i) has l before.head (map.faces before.x before.y before.dart ∙ before.outer_face) (before.same ∙ sym (face_of-step lists simple before.x before.y before.dart))
+
+  vertex_in : (x y : ℕ) → HasDart lists x y → (x < length lists) × (y < length lists)
+  vertex_in x y has = (has.0, simple.in_range x y has)
+
+  -- the outer face is one
+  pub outer-SameFace : (x y : ℕ) → HasDart lists x y → face x y ≡ outer → SameFace lists (s, d) (x, y)
+  outer-SameFace x y has e =
+      let l = vertex_in x y has in
+      let b = vertex_in s d map.dart in
+      elim (cases_outer x y has e) [
+        | inl on ↦
+            let at = leaves_place on.place on.within in
+            let m = vertex_in at.x at.y at.dart in
+            let ex : at.x ≡ x = map.ranks at.x x m.0 l.0 (sym at.tail ∙ on.tail) in
+            let ey : at.y ≡ y = map.ranks at.y y m.1 l.1 (sym at.head ∙ on.head) in
+            SameFace-labels lists s d x y (subst (λ x. face_of lists s d ≡ face_of lists x y) ex (subst (λ y. face_of lists s d ≡ face_of lists at.x y) ey at.same))
+        | inr base ↦
+            let ex : s ≡ x = map.ranks s x b.0 l.0 (map.second ∙ sym base.0) in
+            let ey : d ≡ y = map.ranks d y b.1 l.1 (map.first ∙ sym base.1) in
+            SameFace-labels lists s d x y (subst (λ x. face_of lists s d ≡ face_of lists x y) ex (subst (λ y. face_of lists s d ≡ face_of lists s y) ey refl))
+      ]
+
+  pub SameFace-outer : (x y : ℕ) → HasDart lists x y → SameFace lists (s, d) (x, y) → face x y ≡ outer
+  SameFace-outer x y has same = along_face lists simple (λ x y. face x y ≡ outer) (λ p q on h. map.faces p q on ∙ h) s d x y map.dart has (labels-SameFace lists s d x y same) map.outer
+
+  -- the vertex before the base on its face
+  pub record IsBefore (e : ℕ) : Type 0 where
+    pub dart : HasDart lists e s
+    pub same : SameFace lists (s, d) (e, s)
+
+  pub before_base : (e : ℕ) × IsBefore e
+  before_base =
+      let w = stage.wide in
+      let i : ℕ = g.width - 2 in
+      let at = leaves_place i (omega arith) in
+      let end = stage.end (suc i) (omega arith) in
+      let m = vertex_in at.x at.y at.dart in
+      let b = vertex_in s d map.dart in
+      let ey : at.y ≡ s = map.ranks at.y s m.1 b.0 (sym at.head ∙ end ∙ sym map.second) in
+      (at.x, subst (λ y. HasDart lists at.x y → SameFace lists (s, d) (at.x, y) → IsBefore at.x) (sym ey) (λ h k. record { dart = h; same = k }) at.dart (SameFace-labels lists s d at.x at.y at.same))

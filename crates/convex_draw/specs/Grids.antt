@@ -1,0 +1,21 @@
+-- A convex drawing in a grid, with three of its vertices at fixed places.
+use Rattle.std.specs.Prelude.{ℕ, ◌-◌, ◌≡◌, length, pos}
+use Rattle.map_lists.specs.Lists.{Lists}
+use Rattle.map_definitions.specs.Maps.{HasDart, face_count}
+use Rattle.map_definitions.specs.Paths.{SameFace}
+use Rattle.pg_plane.specs.declared.figure.GridFigure.{GridFigure}
+use Rattle.drawings.specs.Drawing.{place}
+use Rattle.draw_check.specs.Laws.{IsValid}
+use Rattle.convex_drawings.specs.ConvexDrawings.{grid_point}
+use Rattle.convex_check.specs.Convex.{IsConvex}
+
+-- The figure draws the map plane and convex, with the rotations kept, in a grid of one less than the number of faces in both directions. The base goes from the upper left corner to the lower right one, and the vertex before it on its face stands at the lower left one.
+pub record IsConvexGrid (lists : Lists) (s d : ℕ) (figure : GridFigure) : Type 0 where
+  pub count : length figure.points ≡ length lists
+  pub width : figure.width ≡ pos (face_count lists - 1)
+  pub height : figure.height ≡ pos (face_count lists - 1)
+  pub valid : IsValid lists figure.points figure.width figure.height
+  pub convex : IsConvex lists figure.points (s, d)
+  pub first : place figure.points s ≡ grid_point 0 (face_count lists - 1)
+  pub second : place figure.points d ≡ grid_point (face_count lists - 1) 0
+  pub third : (e : ℕ) → HasDart lists e s → SameFace lists (e, s) (s, d) → place figure.points e ≡ grid_point 0 0

@@ -1,0 +1,2 @@
+-- Convex drawings from any base.
+pub mod Grids

@@ -1,0 +1,65 @@
+//! The drawing of a map.
+ghost use Rattle.std.specs.Prelude.{◌≡◌, ◌<◌, ◌≤◌, ◌+◌, ◌-◌, ℕ, length, pos, Some, IfOk};
+ghost use Rattle.map_definitions.specs.Maps.{IsPlane, vertex_count, face_count, component_count};
+ghost use Rattle.tight_maps.specs.Tight.{IsThreeConnected};
+ghost use Rattle.half_edges.specs.Map.{IsLive, dart_at};
+ghost use Rattle.convex_draw.specs.Grids.{IsConvexGrid};
+
+use convex_orders::convex_rows;
+use convex_points::count_points;
+use half_edges::{DartId, HalfMap};
+use pg_plane::{GridFigure, Points};
+use std::alloc::{AllocError, Global};
+
+// How many faces there are besides one.
+fn side_of(map: &HalfMap) -> u32
+    requires plane { IsPlane map.now.lists }
+    requires connected { component_count map.now.lists ≡ 1 }
+    requires vertices { 0 < vertex_count map.now.lists }
+    requires faces { 2 ≤ face_count map.now.lists }
+    ensures { result + 1 ≡ face_count map.now.lists }
+{
+    map.m() - map.n() as u32 + 1
+}
+
+// A number as a coordinate.
+fn coordinate(number: u32) -> i32
+    requires { number < 1048576 }
+    ensures { result ≡ pos number }
+{
+    number as i32
+}
+
+// Points in a square grid.
+fn in_square(points: Points, side: u32) -> GridFigure
+    requires { side < 1048576 }
+    ensures points { result.points ≡ points }
+    ensures width { result.width ≡ pos side }
+    ensures height { result.height ≡ pos side }
+{
+    let reach = coordinate(side);
+    GridFigure {
+        points,
+        width: reach,
+        height: reach,
+    }
+}
+
+/// The convex drawing of a three-connected map of genus zero over a base: a dart, which is drawn from the upper
+/// left corner of the grid to the lower right one, and whose face is the outer one. The grid is f - 1 by f - 1, for
+/// f faces. No inner face bends inwards, and the outer one is a triangle with flat angles.
+///
+/// It fails only for want of memory. The map stays as it is.
+///
+/// Source: Felsner, Convex drawings of planar graphs and the order dimension of 3-polytopes, 2001.
+pub fn convex_draw(alloc: Global, map: &HalfMap, base: DartId) -> Result<GridFigure, AllocError>
+    requires plane { IsPlane map.now.lists }
+    requires three { IsThreeConnected map.now.lists }
+    requires base { IsLive map.now base.0 }
+    ensures { IfOk result (λ figure. (s d : ℕ) → dart_at map.now base.0 ≡ Some (s, d) → IsConvexGrid map.now.lists s d figure) }
+{
+    let rows = convex_rows(alloc, map, base)?;
+    let side = side_of(map);
+    let points = count_points(alloc, &rows, map.head(base), map.tail(base), map.n(), side)?;
+    Ok(in_square(points, side))
+}

@@ -1,0 +1,2 @@
+-- Lemmas on the figures of records.
+pub mod FirstDart

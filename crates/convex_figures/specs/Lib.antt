@@ -1,0 +1,2 @@
+-- The figures of records by convex drawings.
+pub mod Figures

@@ -1,0 +1,93 @@
+//! The rows of a run of a map.
+ghost use Rattle.std.specs.Prelude.{◌≡◌, ◌<◌, ℕ, true, [], length, Some, IfOk};
+ghost use Rattle.map_definitions.specs.Maps.{IsPlane};
+ghost use Rattle.tight_maps.specs.Tight.{IsThreeConnected};
+ghost use Rattle.half_edges.specs.Map.{IsLive, dart_at};
+ghost use Rattle.face_numbers.specs.FaceNumbers.{AreFaceNumbers};
+ghost use Rattle.convex_removals.specs.Removed.{AreRowsOfRun};
+ghost use Rattle.convex_orders.specs.Shown.{is_set, IsBased};
+
+use crate::rounds::{begin, peel};
+use convex_rows::ConvexRows;
+use face_numbers::{FaceNumbers, face_numbers};
+use half_edges::{DartId, HalfMap};
+use map_lists::Rotations;
+use std::alloc::{AllocError, Global};
+
+// No rows.
+fn no_rows(alloc: Global) -> ConvexRows
+    ensures rows { result.rows ≡ [] }
+    ensures cuts { result.cuts ≡ [] }
+    ensures news { result.news ≡ [] }
+{
+    ConvexRows {
+        rows: Rotations::new(alloc),
+        cuts: Rotations::new(alloc),
+        news: Rotations::new(alloc),
+    }
+}
+
+// All removals, with all numbers marked at first.
+fn put_all(
+    alloc: Global,
+    rows: &mut ConvexRows,
+    marks: &mut [bool],
+    ws: &mut Vec<u16>,
+    lists: &Rotations,
+    t: &FaceNumbers,
+    s: u16,
+    d: u16,
+) -> Result<(), AllocError>
+    requires based { IsBased lists.now s d }
+    requires few { length lists.now < 4096 }
+    requires numbers { AreFaceNumbers lists.now t.now.own t.now.other t.now.count }
+    requires marks { length marks.old ≡ t.now.count }
+    requires all { (f : ℕ) → f < t.now.count → is_set marks.old f ≡ true }
+    requires empty { ws.old.items ≡ [] }
+    requires rows { rows.old.rows ≡ [] }
+    requires cuts { rows.old.cuts ≡ [] }
+    requires news { rows.old.news ≡ [] }
+    ensures { IfOk result (λ _. AreRowsOfRun lists.now s d rows.new) }
+{
+    begin(alloc, rows, marks, ws, lists, t, s, d)?;
+    peel(alloc, rows, marks, ws, lists, t, s, d)?;
+    Ok(())
+}
+
+// The rows of a map by its lists, from the base (s, d).
+fn rows_from(
+    alloc: Global,
+    lists: &Rotations,
+    t: &FaceNumbers,
+    s: u16,
+    d: u16,
+) -> Result<ConvexRows, AllocError>
+    requires based { IsBased lists.now s d }
+    requires few { length lists.now < 4096 }
+    requires numbers { AreFaceNumbers lists.now t.now.own t.now.other t.now.count }
+    ensures { IfOk result (AreRowsOfRun lists.now s d) }
+{
+    let mut rows = no_rows(alloc);
+    let mut marks = vec![in alloc; true; t.count as usize]?;
+    let mut ws = Vec::new(alloc);
+    put_all(alloc, &mut rows, &mut marks, &mut ws, lists, t, s, d)?;
+    Ok(rows)
+}
+
+/// The rows of a run of a three-connected map of genus zero from a dart, the base, from s to d. It fails only for
+/// want of memory, and the map stays as it is.
+///
+/// The run makes all faces but that of the base. Its first two ranks stand for d and s, and the last one for the
+/// vertex before the base on the base's face. The time is at most that of going over all darts once for each row.
+pub fn convex_rows(alloc: Global, map: &HalfMap, base: DartId) -> Result<ConvexRows, AllocError>
+    requires plane { IsPlane map.now.lists }
+    requires three { IsThreeConnected map.now.lists }
+    requires live { IsLive map.now base.0 }
+    ensures { IfOk result (λ rows. (s d : ℕ) → dart_at map.now base.0 ≡ Some (s, d) → AreRowsOfRun map.now.lists s d rows) }
+{
+    map.facts();
+    let lists = map.rotations(alloc)?;
+    let t = face_numbers(alloc, map)?;
+    let rows = rows_from(alloc, &lists, &t, map.tail(base).0, map.head(base).0)?;
+    Ok(rows)
+}

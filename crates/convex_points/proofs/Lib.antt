@@ -1,0 +1,13 @@
+-- Lemmas on points by counts of faces.
+mod Rows
+mod Writes
+mod Passing
+mod Walks
+mod Written
+mod Gone
+mod Puts
+mod Unders
+mod RunSpots
+mod Downs
+mod Onto
+pub mod Listed

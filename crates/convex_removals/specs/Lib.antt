@@ -1,0 +1,2 @@
+-- Rows of removals.
+pub mod Removed

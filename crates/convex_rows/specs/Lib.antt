@@ -1,0 +1,2 @@
+-- The steps of a run as rows of numbers.
+pub mod Rows

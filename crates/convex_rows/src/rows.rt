@@ -1,0 +1,14 @@
+//! The rows of a run.
+
+use map_lists::Rotations;
+
+/// What each step of a run puts on, and over which vertices of the contour, the last step first.
+#[derive(Drop)]
+pub struct ConvexRows {
+    /// The vertices of the contour from the first place of the step to the last, both included.
+    pub rows: Rotations,
+    /// The cuts, as places in that row: the first is 0, the last is that of its last vertex.
+    pub cuts: Rotations,
+    /// The new vertices, from the first place to the last.
+    pub news: Rotations,
+}

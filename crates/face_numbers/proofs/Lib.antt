@@ -1,0 +1,3 @@
+-- Numbers of faces.
+pub mod Rows
+mod Cases

@@ -1,0 +1,2 @@
+-- Numbers of faces, entry by entry.
+pub mod FaceNumbers
