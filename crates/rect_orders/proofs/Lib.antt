@@ -1,4 +1,5 @@
 -- Lemmas on rectangular orders.
+mod Cases
 pub mod Closed
 pub mod SameCycles
 pub mod Transfer
