@@ -1,0 +1,5 @@
+-- Lemmas on boxes in tables.
+pub mod Sides
+pub mod Rows
+pub mod Ranks
+pub mod Drawn

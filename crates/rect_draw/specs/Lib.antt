@@ -1,0 +1,2 @@
+-- Boxes in tables, and by the ranks of vertices.
+pub mod Tables

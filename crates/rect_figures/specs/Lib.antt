@@ -1,0 +1,2 @@
+-- The figures of records by rectangular duals.
+pub mod Figures

@@ -1,0 +1,5 @@
+-- Lemmas on rectangular orders as code.
+mod Notes
+mod Passing
+mod Contours
+mod Beginning

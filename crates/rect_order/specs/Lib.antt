@@ -1,0 +1,3 @@
+-- What is kept of the vertices while they are taken off.
+pub mod Contours
+pub mod Frames

@@ -1,0 +1,2 @@
+-- Lemmas on rows.
+mod Rows

@@ -1,0 +1,2 @@
+-- Lemmas on sides.
+mod Sides

@@ -1,0 +1,2 @@
+-- The right and the upper sides of boxes, as code fills them.
+pub mod Sides

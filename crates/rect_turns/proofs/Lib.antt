@@ -1,0 +1,2 @@
+-- Lemmas on turns.
+mod Turns

@@ -1,0 +1,2 @@
+-- The turns of a rectangular run, from its rows.
+pub mod Turns
