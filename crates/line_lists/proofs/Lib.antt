@@ -1,0 +1,3 @@
+-- Lemmas on lines.
+pub mod Lines
+pub mod Walks

@@ -1,0 +1,2 @@
+-- Lines in an order, as linked lists.
+pub mod Lines

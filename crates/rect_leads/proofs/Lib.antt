@@ -1,0 +1,4 @@
+-- Lemmas on leading vertices.
+pub mod Left
+pub mod Lower
+pub mod Room

@@ -1,0 +1,2 @@
+-- Leading vertices of the contour.
+pub mod Leads
