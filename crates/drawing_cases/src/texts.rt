@@ -48,7 +48,7 @@ fn is_whole(fig: &Figure) -> bool
     match fig {
         Figure::Grid { lists, points, .. } => points.len() == lists.len(),
         Figure::Bars { lists, bars } => has_bars(lists, bars),
-        Figure::Witness { .. } => false,
+        Figure::Rects { .. } | Figure::Witness { .. } => false,
     }
 }
 
@@ -172,8 +172,8 @@ fn first_lines_have_one_shape(rt: HostRuntime) -> Result<(), Fail> {
         (b"figure 1 shift 3 \n", "BadLine"),
         (b"figure 1 shift\n", "BadLine"),
         (b"figure 1 shift 3 3\n", "BadLine"),
-        (b"figure 1 convex 4\n", "BadLine"),
-        (b"figure 1 rect 5\n", "BadLine"),
+        (b"figure 1 convex 4\n", "EndInFigure"),
+        (b"figure 1 rect 5\n", "EndInFigure"),
         (b"figure 1 witness K5\n", "BadLine"),
         (b"\n", "BadLine"),
     ];

@@ -12,7 +12,7 @@ use std::alloc::{AllocError, Global};
 use std::test::Fail;
 use svg_out::svg;
 
-const ROWS: [(&[&str], &str, &[u8], &str, u8); 7] = [
+const ROWS: [(&[&str], &str, &[u8], &str, u8); 9] = [
     (
         &["shift", "--form", "svg"],
         "a triangle",
@@ -82,6 +82,27 @@ const ROWS: [(&[&str], &str, &[u8], &str, u8); 7] = [
         "a path as bars",
         b"\x03\x02\x00\x01\x03\x00\x02\x00",
         "<!-- refused 1 8 CutVertex 2 -->\n<!-- end records 1 refused 1 -->\n",
+        1,
+    ),
+    (
+        &["rect", "--form", "svg"],
+        "a wheel as rectangles",
+        b"\x05\x02\x05\x04\x00\x03\x05\x01\x00\x04\x05\x02\x00\x01\x05\x03\x00\x01\x02\x03\x04\x00",
+        "<svg xmlns=\"http://www.w3.org/2000/svg\" viewBox=\"-10 -10 50 50\">\n\
+<rect x=\"0\" y=\"10\" width=\"10\" height=\"10\" fill=\"none\" stroke=\"black\"/>\n\
+<rect x=\"0\" y=\"0\" width=\"30\" height=\"10\" fill=\"none\" stroke=\"black\"/>\n\
+<rect x=\"20\" y=\"10\" width=\"10\" height=\"10\" fill=\"none\" stroke=\"black\"/>\n\
+<rect x=\"0\" y=\"20\" width=\"30\" height=\"10\" fill=\"none\" stroke=\"black\"/>\n\
+<rect x=\"10\" y=\"10\" width=\"10\" height=\"10\" fill=\"none\" stroke=\"black\"/>\n\
+</svg>\n\
+<!-- end records 1 refused 0 -->\n",
+        0,
+    ),
+    (
+        &["convex", "--form=svg"],
+        "a four-cycle with a diagonal, convex",
+        b"\x04\x02\x04\x03\x00\x01\x03\x00\x04\x02\x01\x00\x01\x03\x00",
+        "<!-- refused 1 9 SeparatingPair 1 3 -->\n<!-- end records 1 refused 1 -->\n",
         1,
     ),
 ];
@@ -155,6 +176,7 @@ fn is_drawn(alloc: Global, figure: &Figure) -> Result<bool, AllocError>
             is_simple(alloc, lists)
         }
         Figure::Grid { .. } => Ok(false),
+        Figure::Rects { .. } => Ok(false),
         Figure::Witness { .. } => Ok(false),
     }
 }

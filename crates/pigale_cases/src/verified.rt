@@ -310,6 +310,111 @@ const WITNESSES: [(&str, &str, &str, u8); 13] = [
     ),
 ];
 
+const RECTS: [(&str, &str, &str, u8); 17] = [
+    (
+        "a wheel as rectangles",
+        "figure 1 rect 5\n1 x 0 1 y 1 2: 2 5 4\n2 x 0 3 y 2 3: 3 5 1\n3 x 2 3 y 1 2: 4 5 2\n4 x 0 3 y 0 1: 1 5 3\n5 x 1 2 y 1 2: 1 2 3 4\n",
+        "verdict 1 yes\nend records 1 refused 0\n",
+        0,
+    ),
+    (
+        "two rectangles that meet",
+        "figure 1 rect 5\n1 x 0 1 y 1 2: 2 5 4\n2 x 0 3 y 2 3: 3 5 1\n3 x 2 3 y 1 2: 4 5 2\n4 x 0 3 y 0 1: 1 5 3\n5 x 1 3 y 1 2: 1 2 3 4\n",
+        "verdict 1 Meet 3 5\nend records 1 refused 1\n",
+        1,
+    ),
+    (
+        "a rectangle beyond the grid",
+        "figure 1 rect 5\n1 x 0 1 y 1 2: 2 5 4\n2 x 0 3 y 2 3: 3 5 1\n3 x 2 3 y 1 2: 4 5 2\n4 x 0 3 y 0 1: 1 5 3\n5 x 1 4 y 1 2: 1 2 3 4\n",
+        "verdict 1 BadRect 5\nend records 1 refused 1\n",
+        1,
+    ),
+    (
+        "a rectangle turned round",
+        "figure 1 rect 5\n1 x 0 1 y 1 2: 2 5 4\n2 x 0 3 y 2 3: 3 5 1\n3 x 2 3 y 1 2: 4 5 2\n4 x 0 3 y 0 1: 1 5 3\n5 x 2 1 y 1 2: 1 2 3 4\n",
+        "verdict 1 BadRect 5\nend records 1 refused 1\n",
+        1,
+    ),
+    (
+        "a gap",
+        "figure 1 rect 5\n1 x 0 1 y 1 2: 2 5 4\n2 x 0 3 y 2 3: 3 5 1\n3 x 2 3 y 1 2: 4 5 2\n4 x 0 2 y 0 1: 1 5 3\n5 x 1 2 y 1 2: 1 2 3 4\n",
+        "verdict 1 Gap\nend records 1 refused 1\n",
+        1,
+    ),
+    (
+        "rectangles that share a side without an edge",
+        "figure 1 rect 5\n1 x 1 3 y 0 1: 2 5 4\n2 x 1 3 y 1 3: 3 5 1\n3 x 0 1 y 0 1: 4 5 2\n4 x 0 1 y 1 2: 1 5 3\n5 x 0 1 y 2 3: 1 2 3 4\n",
+        "verdict 1 Contact 1 3\nend records 1 refused 1\n",
+        1,
+    ),
+    (
+        "the left and the right one changed over",
+        "figure 1 rect 5\n1 x 2 3 y 1 2: 2 5 4\n2 x 0 3 y 2 3: 3 5 1\n3 x 0 1 y 1 2: 4 5 2\n4 x 0 3 y 0 1: 1 5 3\n5 x 1 2 y 1 2: 1 2 3 4\n",
+        "verdict 1 Frame 1\nend records 1 refused 1\n",
+        1,
+    ),
+    (
+        "the upper and the lower one changed over",
+        "figure 1 rect 5\n1 x 0 1 y 1 2: 2 5 4\n2 x 0 3 y 0 1: 3 5 1\n3 x 2 3 y 1 2: 4 5 2\n4 x 0 3 y 2 3: 1 5 3\n5 x 1 2 y 1 2: 1 2 3 4\n",
+        "verdict 1 Frame 2\nend records 1 refused 1\n",
+        1,
+    ),
+    (
+        "a base beside a triangle",
+        "figure 1 rect 5\n1 x 0 1 y 0 3: 3 2 4\n2 x 1 3 y 2 3: 1 3 5\n3 x 1 2 y 1 2: 1 2 4 5\n4 x 1 3 y 0 1: 1 3 5\n5 x 2 3 y 1 2: 2 3 4\n",
+        "verdict 1 NoFrame\nend records 1 refused 1\n",
+        1,
+    ),
+    (
+        "a vertex alone as a rectangle",
+        "figure 1 rect 1\n1 x 0 1 y 0 1:\n",
+        "verdict 1 BadRect 1\nend records 1 refused 1\n",
+        1,
+    ),
+    (
+        "rectangles of no simple map",
+        "figure 1 rect 2\n1 x 0 1 y 0 1: 2\n2 x 0 1 y 0 1:\n",
+        "refused 1 4 OneSided 1 2\nend records 1 refused 1\n",
+        1,
+    ),
+    (
+        "a rectangle without its second side",
+        "figure 1 rect 1\n1 x 0 1 y 0:\n",
+        "stop BadLine 2\n",
+        3,
+    ),
+    (
+        "a side beyond all ranges",
+        "figure 1 rect 1\n1 x 0 1 y 0 1048577:\n",
+        "stop Limit 2\n",
+        3,
+    ),
+    (
+        "a K4 with convex faces",
+        "figure 1 convex 4\n1 at 0 3: 2 3 4\n2 at 3 0: 1 4 3\n3 at 1 1: 1 2 4\n4 at 0 0: 1 3 2\n",
+        "verdict 1 yes\nend records 1 refused 0\n",
+        0,
+    ),
+    (
+        "an outer face with four corners",
+        "figure 1 convex 4\n1 at 0 0: 2 4\n2 at 0 1: 3 1\n3 at 1 1: 4 2\n4 at 1 0: 1 3\n",
+        "verdict 1 OuterBent\nend records 1 refused 1\n",
+        1,
+    ),
+    (
+        "a face walked the other way round",
+        "figure 1 convex 4\n1 at 0 0: 4 2\n2 at 0 1: 3 1\n3 at 1 1: 4 2\n4 at 1 0: 1 3\n",
+        "verdict 1 Bent 1 2 3\nend records 1 refused 1\n",
+        1,
+    ),
+    (
+        "a vertex alone with convex faces",
+        "figure 1 convex 1\n1 at 0 0:\n",
+        "verdict 1 OuterBent\nend records 1 refused 1\n",
+        1,
+    ),
+];
+
 // Runs each row over a source that gives `most` bytes at a time.
 fn has_each_verdict(
     rt: &impl Abort,
@@ -336,6 +441,11 @@ fn each_figure_has_its_verdict(rt: HostRuntime) -> Result<(), Fail> {
 #[test]
 fn bars_have_theirs(rt: HostRuntime) -> Result<(), Fail> {
     has_each_verdict(&rt, rt.alloc(), &BARS, 64)
+}
+
+#[test]
+fn rectangles_and_convex_drawings_have_theirs(rt: HostRuntime) -> Result<(), Fail> {
+    has_each_verdict(&rt, rt.alloc(), &RECTS, 64)
 }
 
 #[test]

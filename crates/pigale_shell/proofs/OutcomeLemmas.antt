@@ -23,7 +23,7 @@ use Rattle.pigale_shell.specs.Made.{made, made_answers}
 use Rattle.pigale_shell.specs.JobInput.{RecordOf, EndingOf, reads_of, answers_of, reads_planar, left_of}
 use Rattle.pigale_shell.specs.Outcome.{Outcome, GrowsByText, MayEnd, status_of}
 use Rattle.pigale_shell.specs.declared.job.Job.{Job}
-use Rattle.pigale_shell.specs.declared.job.Job.TheVariants.{Count, Shift, Schnyder, Bars, Gen, Verify}
+use Rattle.pigale_shell.specs.declared.job.Job.TheVariants.{Count, Shift, Schnyder, Bars, Convex, Rect, Gen, Verify}
 use Rattle.pigale_shell.specs.declared.job.Status.{Status}
 use Rattle.pigale_shell.specs.declared.job.Status.TheVariants.{Done, SomeRefused, BadWords, BadInput, ReadFault, WriteFault, NoMemory}
 
@@ -51,6 +51,10 @@ one_ending (Schnyder form) input records records' ending ending' reading reading
     sym (told-ending_of ending) ∙ ap told (reading-unique input records records' (ending_of ending) (ending_of ending') reading reading').1 ∙ told-ending_of ending'
 one_ending (Bars form) input records records' ending ending' reading reading' =
     sym (told-ending_of ending) ∙ ap told (reading-unique input records records' (ending_of ending) (ending_of ending') reading reading').1 ∙ told-ending_of ending'
+one_ending (Convex form) input records records' ending ending' reading reading' =
+    sym (told-ending_of ending) ∙ ap told (reading-unique input records records' (ending_of ending) (ending_of ending') reading reading').1 ∙ told-ending_of ending'
+one_ending (Rect form) input records records' ending ending' reading reading' =
+    sym (told-ending_of ending) ∙ ap told (reading-unique input records records' (ending_of ending) (ending_of ending') reading reading').1 ∙ told-ending_of ending'
 one_ending (Gen size number) input records records' ending ending' reading reading' = refl
 one_ending Verify input records records' ending ending' reading reading' = (figures-unique input records records' ending ending' reading reading').1
 
@@ -60,6 +64,8 @@ begins_none Count input = Progress-begins [] [] at_front input Progress-start (o
 begins_none (Shift form) input = Progress-begins [] [] at_front input Progress-start (omega arith)
 begins_none (Schnyder form) input = Progress-begins [] [] at_front input Progress-start (omega arith)
 begins_none (Bars form) input = Progress-begins [] [] at_front input Progress-start (omega arith)
+begins_none (Convex form) input = Progress-begins [] [] at_front input Progress-start (omega arith)
+begins_none (Rect form) input = Progress-begins [] [] at_front input Progress-start (omega arith)
 begins_none (Gen size number) input = inl refl
 begins_none Verify input = begins-none input
 
@@ -92,7 +98,7 @@ module _ (job : Job) (left left' : Option (List ℕ)) (reads reads' writes write
 
   -- a run over planar_code, as a job over it has it
   pub Outcome-planar : reads_planar job ≡ true → RunOutcome planar_code (planar_answers job) (ports left reads written writes) (ports left' reads' written' writes') end → IsOutcome
-  Outcome-planar = elim job as (λ job. reads_planar job ≡ true → RunOutcome planar_code (planar_answers job) (ports left reads written writes) (ports left' reads' written' writes') end → Outcome job (ports (left_of job left) reads written writes) (ports (left_of job left') reads' written' writes') (status_of end)) [ Count ↦ λ over outcome. Outcome-of Count _ _ end outcome | Shift form ↦ λ over outcome. Outcome-of (Shift form) _ _ end outcome | Schnyder form ↦ λ over outcome. Outcome-of (Schnyder form) _ _ end outcome | Bars form ↦ λ over outcome. Outcome-of (Bars form) _ _ end outcome | Gen size number ↦ λ over outcome. absurd (true≢false (sym over)) | Verify ↦ λ over outcome. absurd (true≢false (sym over)) ]
+  Outcome-planar = elim job as (λ job. reads_planar job ≡ true → RunOutcome planar_code (planar_answers job) (ports left reads written writes) (ports left' reads' written' writes') end → Outcome job (ports (left_of job left) reads written writes) (ports (left_of job left') reads' written' writes') (status_of end)) [ Count ↦ λ over outcome. Outcome-of Count _ _ end outcome | Shift form ↦ λ over outcome. Outcome-of (Shift form) _ _ end outcome | Schnyder form ↦ λ over outcome. Outcome-of (Schnyder form) _ _ end outcome | Bars form ↦ λ over outcome. Outcome-of (Bars form) _ _ end outcome | Convex form ↦ λ over outcome. Outcome-of (Convex form) _ _ end outcome | Rect form ↦ λ over outcome. Outcome-of (Rect form) _ _ end outcome | Gen size number ↦ λ over outcome. absurd (true≢false (sym over)) | Verify ↦ λ over outcome. absurd (true≢false (sym over)) ]
 
   -- a run that makes its record, as its job has it
   pub Outcome-made : (size number : ℕ) → job ≡ Gen size number → RunOutcome (made size number) made_answers (ports (Some []) reads written writes) (ports (Some []) reads' written' writes') end → IsOutcome

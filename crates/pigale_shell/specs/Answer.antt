@@ -3,7 +3,12 @@ use Rattle.std.specs.Prelude.{ℕ, List, Bool, not, ◌≡◌, ◌↔◌, IsTrue
 use Rattle.map_lists.specs.Lists.{Lists}
 use Rattle.record_runs.specs.Texts.{Answers}
 use Rattle.plane_blocks.specs.Blocks.{IsPlaneBlock}
+use Rattle.map_definitions.specs.Maps.{IsPlane}
+use Rattle.tight_maps.specs.Tight.{IsThreeConnected}
+use Rattle.rect_blocks.specs.RectMaps.{IsRectMap}
 use Rattle.pigale_shell.specs.BarsText.{IsBarsBlock}
+use Rattle.pigale_shell.specs.ConvexText.{IsConvexBlock}
+use Rattle.pigale_shell.specs.RectsText.{IsRectsBlock}
 use Rattle.pigale_shell.specs.Text.{count_block, count_refuses, IsGridBlock, draw_refuses, last_line}
 use Rattle.pigale_shell.specs.Forms.{line_in}
 use Rattle.pigale_shell.specs.declared.form.Form.{Form}
@@ -11,7 +16,7 @@ use Rattle.pigale_shell.specs.declared.form.Form.TheVariants.{Text}
 use Rattle.pigale_shell.specs.Lines.{ending_of}
 use Rattle.pigale_shell.specs.declared.lines.Ending.{Ending}
 use Rattle.pigale_shell.specs.declared.job.Job.{Job}
-use Rattle.pigale_shell.specs.declared.job.Job.TheVariants.{Count, Shift, Schnyder, Bars, Gen, Verify}
+use Rattle.pigale_shell.specs.declared.job.Job.TheVariants.{Count, Shift, Schnyder, Bars, Convex, Rect, Gen, Verify}
 use Rattle.figure_text.specs.declared.figure.GridJob.TheVariants as drawn
 
 -- the text is the job's answer for record k; there is none by a job that reads no such records
@@ -20,6 +25,8 @@ IsBlock Count k lists text = text ≡ count_block k lists
 IsBlock (Shift form) k lists text = IsGridBlock drawn.Shift form k lists text
 IsBlock (Schnyder form) k lists text = IsGridBlock drawn.Schnyder form k lists text
 IsBlock (Bars form) k lists text = IsBarsBlock form k lists text
+IsBlock (Convex form) k lists text = IsConvexBlock form k lists text
+IsBlock (Rect form) k lists text = IsRectsBlock form k lists text
 IsBlock (Gen size number) k lists text = ⊥
 IsBlock Verify k lists text = ⊥
 
@@ -29,6 +36,8 @@ ServesRecord Count lists served = served ≡ not (count_refuses lists)
 ServesRecord (Shift form) lists served = served ≡ not (draw_refuses lists)
 ServesRecord (Schnyder form) lists served = served ≡ not (draw_refuses lists)
 ServesRecord (Bars form) lists served = IsTrue served ↔ IsPlaneBlock 3 lists
+ServesRecord (Convex form) lists served = IsTrue served ↔ (IsPlane lists × IsThreeConnected lists)
+ServesRecord (Rect form) lists served = IsTrue served ↔ IsRectMap lists
 ServesRecord (Gen size number) lists served = ⊥
 ServesRecord Verify lists served = ⊥
 
@@ -38,6 +47,8 @@ job_form Count = Text
 job_form (Shift form) = form
 job_form (Schnyder form) = form
 job_form (Bars form) = form
+job_form (Convex form) = form
+job_form (Rect form) = form
 job_form (Gen size number) = Text
 job_form Verify = Text
 

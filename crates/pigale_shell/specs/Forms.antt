@@ -3,9 +3,10 @@ use Rattle.std.specs.Prelude.{ℕ, ◌-◌, List, [], ◌∷◌, ◌++◌, lengt
 use Rattle.map_lists.specs.Lists.{Lists}
 use Rattle.pg_plane.specs.declared.point.Point.{Point}
 use Rattle.pg_plane.specs.declared.figure.BarFigure.{BarFigure}
-use Rattle.figure_text.specs.Text.{grid_text, bars_text}
+use Rattle.pg_plane.specs.declared.figure.RectFigure.{RectFigure}
+use Rattle.figure_text.specs.Text.{grid_text, bars_text, rects_text}
 use Rattle.figure_text.specs.declared.figure.GridJob.{GridJob}
-use Rattle.svg_out.specs.Svg.{grid_svg, bars_svg}
+use Rattle.svg_out.specs.Svg.{grid_svg, bars_svg, rects_svg}
 use Rattle.pigale_shell.specs.declared.form.Form.{Form}
 use Rattle.pigale_shell.specs.declared.form.Form.TheVariants.{Text, Svg}
 
@@ -27,3 +28,8 @@ grid_in Svg k job lists points = grid_svg lists points
 abbrev pub bars_in : Form → ℕ → Lists → BarFigure → List ℕ
 bars_in Text k lists bars = bars_text k lists bars
 bars_in Svg k lists bars = bars_svg lists bars
+
+-- figure k, a rectangular dual
+abbrev pub rects_in : Form → ℕ → Lists → RectFigure → List ℕ
+rects_in Text k lists rects = rects_text k lists rects
+rects_in Svg k lists rects = rects_svg lists rects

@@ -11,7 +11,7 @@ use Rattle.pigale_shell.specs.Made.{made, made_answers}
 use Rattle.pigale_shell.specs.Verify.{verify_answers}
 use Rattle.pigale_shell.specs.declared.lines.Ending.{Ending}
 use Rattle.pigale_shell.specs.declared.job.Job.{Job}
-use Rattle.pigale_shell.specs.declared.job.Job.TheVariants.{Count, Shift, Schnyder, Bars, Gen, Verify}
+use Rattle.pigale_shell.specs.declared.job.Job.TheVariants.{Count, Shift, Schnyder, Bars, Convex, Rect, Gen, Verify}
 
 -- it reads an input; a job that reads none has the empty input, and leaves the source alone
 abbrev pub reads_input : Job → Bool
@@ -19,6 +19,8 @@ reads_input Count = true
 reads_input (Shift form) = true
 reads_input (Schnyder form) = true
 reads_input (Bars form) = true
+reads_input (Convex form) = true
+reads_input (Rect form) = true
 reads_input (Gen size number) = false
 reads_input Verify = true
 
@@ -32,6 +34,8 @@ reads_planar Count = true
 reads_planar (Shift form) = true
 reads_planar (Schnyder form) = true
 reads_planar (Bars form) = true
+reads_planar (Convex form) = true
+reads_planar (Rect form) = true
 reads_planar (Gen size number) = false
 reads_planar Verify = false
 
@@ -41,6 +45,8 @@ HasSize Count = Unit {0}
 HasSize (Shift form) = Unit {0}
 HasSize (Schnyder form) = Unit {0}
 HasSize (Bars form) = Unit {0}
+HasSize (Convex form) = Unit {0}
+HasSize (Rect form) = Unit {0}
 HasSize (Gen size number) = (3 ≤ size) × (size < 4096)
 HasSize Verify = Unit {0}
 
@@ -50,6 +56,8 @@ RecordOf Count = Lists
 RecordOf (Shift form) = Lists
 RecordOf (Schnyder form) = Lists
 RecordOf (Bars form) = Lists
+RecordOf (Convex form) = Lists
+RecordOf (Rect form) = Lists
 RecordOf (Gen size number) = Lists
 RecordOf Verify = Figure
 
@@ -59,6 +67,8 @@ EndingOf Count = Ending
 EndingOf (Shift form) = Ending
 EndingOf (Schnyder form) = Ending
 EndingOf (Bars form) = Ending
+EndingOf (Convex form) = Ending
+EndingOf (Rect form) = Ending
 EndingOf (Gen size number) = Unit {0}
 EndingOf Verify = FigureEnding
 
@@ -68,6 +78,8 @@ reads_of Count = planar_code
 reads_of (Shift form) = planar_code
 reads_of (Schnyder form) = planar_code
 reads_of (Bars form) = planar_code
+reads_of (Convex form) = planar_code
+reads_of (Rect form) = planar_code
 reads_of (Gen size number) = made size number
 reads_of Verify = figures
 
@@ -77,5 +89,7 @@ answers_of Count = planar_answers Count
 answers_of (Shift form) = planar_answers (Shift form)
 answers_of (Schnyder form) = planar_answers (Schnyder form)
 answers_of (Bars form) = planar_answers (Bars form)
+answers_of (Convex form) = planar_answers (Convex form)
+answers_of (Rect form) = planar_answers (Rect form)
 answers_of (Gen size number) = made_answers
 answers_of Verify = verify_answers

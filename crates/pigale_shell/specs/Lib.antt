@@ -12,3 +12,5 @@ pub mod JobInput
 pub mod Outcome
 pub mod Text
 pub mod BarsText
+pub mod ConvexText
+pub mod RectsText

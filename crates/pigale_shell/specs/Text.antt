@@ -6,10 +6,11 @@ use Rattle.simple_maps.specs.Faults.{Fault, out_of_range, loop_at, repeated, one
 use Rattle.pg_plane.specs.declared.figure.GridFigure.{GridFigure}
 use Rattle.shift_figures.specs.Figures.{IsShiftFigure}
 use Rattle.schnyder_figures.specs.Figures.{IsSchnyderFigure}
+use Rattle.convex_figures.specs.Figures.{IsConvexFigure}
 use Rattle.drawing_orders.specs.Refusals.{Refusal, small, genus_above, draw_refusal}
 use Rattle.drawing_orders.specs.Refusals as why
 use Rattle.figure_text.specs.declared.figure.GridJob.{GridJob}
-use Rattle.figure_text.specs.declared.figure.GridJob.TheVariants.{Shift, Schnyder}
+use Rattle.figure_text.specs.declared.figure.GridJob.TheVariants.{Shift, Schnyder, Convex}
 use Rattle.pigale_shell.specs.Forms.{line_in, grid_in}
 use Rattle.pigale_shell.specs.declared.form.Form.{Form}
 use Rattle.planar_code.specs.Reading.{Ending, well, end_in_record, bad_count, too_long}
@@ -66,6 +67,13 @@ refusal_line k (genus_above g) = line (word_and_number (codes "refused") k ++ 32
 abbrev pub IsFigureOf : GridJob → Lists → GridFigure → Type 0
 IsFigureOf Shift lists figure = IsShiftFigure lists figure
 IsFigureOf Schnyder lists figure = IsSchnyderFigure lists figure
+IsFigureOf Convex lists figure = IsConvexFigure lists figure
+
+-- it draws along a canonical order
+abbrev pub IsOrderJob : GridJob → Type 0
+IsOrderJob Shift = Unit {0}
+IsOrderJob Schnyder = Unit {0}
+IsOrderJob Convex = ⊥
 
 -- what such a job writes for record k: a figure that is valid for it, or the refusal that names the first condition that the record breaks
 abbrev pub IsGridText : GridJob → Form → ℕ → Lists → Option Refusal → List ℕ → Type 0

@@ -3,6 +3,10 @@ use Rattle.std.specs.Prelude.{ℕ, ◌+◌, ◌≡◌, ◌↔◌, IsTrue, List, 
 use Rattle.record_runs.specs.Texts.{Answers}
 use Rattle.bar_check.specs.declared.verdict.BarVerdict.{BarVerdict}
 use Rattle.bar_check.specs.declared.verdict.BarVerdict.TheVariants.{BadShape, BadHeight, BadBar, BadColumn, Through, Overlap, Turned as TurnedBars, Yes as NoBarFault}
+use Rattle.convex_check.specs.declared.verdict.ConvexVerdict.{ConvexVerdict}
+use Rattle.convex_check.specs.declared.verdict.ConvexVerdict.TheVariants.{Bent, OuterBent, Yes as NoBend}
+use Rattle.rect_check.specs.declared.verdict.RectVerdict.{RectVerdict}
+use Rattle.rect_check.specs.declared.verdict.RectVerdict.TheVariants.{BadRect, Meet, Gap, Contact, NoFrame, Frame, Yes as NoRectFault}
 use Rattle.kuratowski.specs.declared.check.WitnessVerdict.{WitnessVerdict}
 use Rattle.kuratowski.specs.declared.check.WitnessVerdict.TheVariants.{BadShape as NoShape, BadBranch, NotEdge, Shared, Yes as NoWitnessFault}
 use Rattle.draw_check.specs.declared.verdict.Verdict.{Verdict}
@@ -13,7 +17,7 @@ use Rattle.figure_lines.specs.declared.ending.Ending.TheVariants.{Well, BadLine,
 use Rattle.figure_verdicts.specs.Validity.{IsValidFigure}
 use Rattle.figure_verdicts.specs.Verdicts.{IsFigureVerdict}
 use Rattle.figure_verdicts.specs.declared.verdict.FigureVerdict.{FigureVerdict}
-use Rattle.figure_verdicts.specs.declared.verdict.FigureVerdict.TheVariants.{Refused, Drawing, Inside, Bars, Witness, Yes}
+use Rattle.figure_verdicts.specs.declared.verdict.FigureVerdict.TheVariants.{Refused, Drawing, Inside, Convex, Bars, Rects, Witness, Yes}
 use Rattle.pigale_shell.specs.Text.{word_and_number, line, end_line}
 use Rattle.pigale_shell.specs.Lines.{WritesFault}
 
@@ -63,6 +67,36 @@ bars_vertices (Overlap e f) = e.a.0 ∷ e.b.0 ∷ f.a.0 ∷ f.b.0 ∷ []
 bars_vertices (TurnedBars v) = v.0 ∷ []
 bars_vertices NoBarFault = []
 
+-- the same of how a drawing bends
+abbrev pub convex_name : ConvexVerdict → List ℕ
+convex_name (Bent a b c) = codes "Bent"
+convex_name OuterBent = codes "OuterBent"
+convex_name NoBend = codes "yes"
+
+abbrev pub convex_vertices : ConvexVerdict → List ℕ
+convex_vertices (Bent a b c) = a.0 ∷ b.0 ∷ c.0 ∷ []
+convex_vertices OuterBent = []
+convex_vertices NoBend = []
+
+-- the same of rectangles
+abbrev pub rects_name : RectVerdict → List ℕ
+rects_name (BadRect v) = codes "BadRect"
+rects_name (Meet u v) = codes "Meet"
+rects_name Gap = codes "Gap"
+rects_name (Contact u v) = codes "Contact"
+rects_name NoFrame = codes "NoFrame"
+rects_name (Frame v) = codes "Frame"
+rects_name NoRectFault = codes "yes"
+
+abbrev pub rects_vertices : RectVerdict → List ℕ
+rects_vertices (BadRect v) = v.0 ∷ []
+rects_vertices (Meet u v) = u.0 ∷ v.0 ∷ []
+rects_vertices Gap = []
+rects_vertices (Contact u v) = u.0 ∷ v.0 ∷ []
+rects_vertices NoFrame = []
+rects_vertices (Frame v) = v.0 ∷ []
+rects_vertices NoRectFault = []
+
 -- the line of a verdict by its name and numbers, each after a space
 abbrev pub spaced : List ℕ → List ℕ
 spaced ns = flat_map (λ n. 32 ∷ decimal n) ns
@@ -90,7 +124,9 @@ abbrev pub WritesVerdict : ℕ → FigureVerdict → List ℕ → Type 0
 WritesVerdict k (Refused fault) text = WritesFault k fault text
 WritesVerdict k (Drawing verdict) text = text ≡ verdict_line k (verdict_name verdict) (verdict_vertices verdict)
 WritesVerdict k (Inside v u) text = text ≡ verdict_line k (codes "Inside") (v.0 ∷ u.0 ∷ [])
+WritesVerdict k (Convex verdict) text = text ≡ verdict_line k (convex_name verdict) (convex_vertices verdict)
 WritesVerdict k (Bars verdict) text = text ≡ verdict_line k (bars_name verdict) (bars_vertices verdict)
+WritesVerdict k (Rects verdict) text = text ≡ verdict_line k (rects_name verdict) (rects_vertices verdict)
 WritesVerdict k (Witness verdict) text = text ≡ numbers_line k (witness_name verdict) (witness_numbers verdict)
 WritesVerdict k Yes text = text ≡ verdict_line k (codes "yes") []
 

@@ -1,6 +1,6 @@
 //! The answer to one record.
 ghost use Rattle.std.specs.Prelude.{◌≡◌, ◌<◌, ◌≤◌, ◌++◌, ◌↔◌, List, ℕ, length, true, false, not, None, IsTrue, IsFalse, IfOk, IfErr, OnOk, OnErr};
-ghost use Rattle.pigale_shell.specs.Text.{count_block, count_refuses, IsFigureOf, IsGridBlock, draw_refuses};
+ghost use Rattle.pigale_shell.specs.Text.{count_block, count_refuses, IsOrderJob, IsFigureOf, IsGridBlock, draw_refuses};
 ghost use Rattle.map_lists.specs.Lists.{Lists};
 ghost use Rattle.drawing_orders.specs.Refusals.{draw_refusal};
 ghost use Rattle.drawing_orders.specs.Names.{Names};
@@ -9,18 +9,34 @@ ghost use Rattle.pigale_shell.specs.JobInput.{reads_planar};
 ghost use Rattle.pigale_shell.specs.Forms.{line_in as line_by, grid_in, bars_in};
 ghost use Rattle.pigale_shell.specs.BarsText.{IsBarsBlock};
 ghost use Rattle.plane_blocks.specs.Blocks.{IsPlaneBlock, BreaksFirst};
+ghost use Rattle.map_definitions.specs.Maps.{IsPlane};
+ghost use Rattle.tight_maps.specs.Tight.{IsThreeConnected};
+ghost use Rattle.convex_blocks.specs.Convexity.{BreaksFirst as BreaksConvex};
+ghost use Rattle.convex_figures.specs.Figures.{IsConvexFigure};
+ghost use Rattle.pigale_shell.specs.ConvexText.{IsConvexBlock};
+ghost use Rattle.rect_blocks.specs.RectMaps.{IsRectMap};
+ghost use Rattle.rect_blocks.specs.Refusals.{BreaksRect};
+ghost use Rattle.rect_figures.specs.Figures.{IsRectFigure};
+ghost use Rattle.pigale_shell.specs.RectsText.{IsRectsBlock};
 ghost use Rattle.bar_figures.specs.Figures.{IsBarFigure};
 
-use super::form::{Form, line_in, print_bars_in, print_grid_in};
+use super::form::{Form, line_in, print_bars_in, print_grid_in, print_rects_in};
 use super::job::Job;
-use super::lines::{block_refusal_line, count_line, drawing_refusal_line, refusal_line};
+use super::lines::{
+    block_refusal_line, convex_refusal_line, count_line, drawing_refusal_line, rect_refusal_line,
+    refusal_line,
+};
 use bar_figures::bar_figure;
+use convex_blocks::{ConvexRefusal, three_connected_break_nothing};
+use convex_figures::convex_figure;
 use drawing_orders::{DrawRefusal, no_refusal_is_plane};
 use euler_faces::Counter;
 use figure_text::GridJob;
 use half_edges::{MapFault, Rotations};
-use pg_plane::{BarFigure, GridFigure, Points};
+use pg_plane::{BarFigure, GridFigure, Points, RectFigure};
 use plane_blocks::{BlockRefusal, blocks_break_nothing};
+use rect_blocks::RectRefusal;
+use rect_figures::rect_figure;
 use schnyder_figures::schnyder_figure;
 use shift_figures::shift_figure;
 use std::alloc::{AllocError, Global};
@@ -71,6 +87,8 @@ pub(crate) fn answer_with(
         Job::Shift(form) => grid_record(alloc, GridJob::Shift, form, number, lists, out),
         Job::Schnyder(form) => grid_record(alloc, GridJob::Schnyder, form, number, lists, out),
         Job::Bars(form) => bars_record(alloc, form, number, lists, out),
+        Job::Convex(form) => convex_record(alloc, form, number, lists, out),
+        Job::Rect(form) => rect_record(alloc, form, number, lists, out),
         Job::Gen(..) | Job::Verify => unreachable!(),
     }
 }
@@ -96,8 +114,9 @@ fn count_record(
     }
 }
 
-// The figure of a record by a job that draws in a grid, or why it has none.
+// The figure of a record by a job that draws along a canonical order, or why it has none.
 fn grid_figure(alloc: Global, job: GridJob, lists: &Rotations) -> Result<GridFigure, DrawRefusal>
+    requires by_order { IsOrderJob job }
     requires some_list { 0 < length lists.now }
     requires few_lists { length lists.now < 4096 }
     ensures figure { IfOk result (IsFigureOf job lists.now) }
@@ -108,6 +127,7 @@ fn grid_figure(alloc: Global, job: GridJob, lists: &Rotations) -> Result<GridFig
     match job {
         GridJob::Shift => shift_figure(alloc, lists),
         GridJob::Schnyder => schnyder_figure(alloc, lists),
+        GridJob::Convex => unreachable!(),
     }
 }
 
@@ -120,6 +140,7 @@ fn grid_record(
     lists: &Rotations,
     out: &mut Vec<u8>,
 ) -> Result<bool, AllocError>
+    requires by_order { IsOrderJob job }
     requires some_list { 0 < length lists.now }
     requires few_lists { length lists.now < 4096 }
     ensures block { OnOk result
@@ -244,6 +265,144 @@ fn refuse_block(
             block_refusal_line(alloc, number, refusal)?,
             out,
         ),
+    }
+}
+
+// Appends the convex drawing of a record, or its refusal.
+fn convex_record(
+    alloc: Global,
+    form: Form,
+    number: u32,
+    lists: &Rotations,
+    out: &mut Vec<u8>,
+) -> Result<bool, AllocError>
+    requires some_list { 0 < length lists.now }
+    requires few_lists { length lists.now < 4096 }
+    ensures block { OnOk result
+        ((block : List ℕ) × IsConvexBlock form number lists.now block × (out.new.items ≡ out.old.items ++ block)) }
+    ensures served { IfOk result (λ served. IsTrue served ↔ (IsPlane lists.now × IsThreeConnected lists.now)) }
+    ensures err { OnErr result (out.new.items ≡ out.old.items) }
+{
+    match convex_figure(alloc, lists) {
+        Ok(figure) => draw_convex(alloc, form, number, lists, &figure, out),
+        Err(refusal) => refuse_convex(alloc, form, number, refusal, out),
+    }
+}
+
+// Appends the convex drawing of a record that breaks no condition.
+fn draw_convex(
+    alloc: Global,
+    form: Form,
+    number: u32,
+    lists: &Rotations,
+    figure: &GridFigure,
+    out: &mut Vec<u8>,
+) -> Result<bool, AllocError>
+    requires plane { IsPlane lists.now }
+    requires three { IsThreeConnected lists.now }
+    requires figure { IsConvexFigure lists.now figure.now }
+    ensures block { OnOk result
+        ((block : List ℕ) × IsConvexBlock form number lists.now block × (out.new.items ≡ out.old.items ++ block)) }
+    ensures served { IfOk result (λ served. served ≡ true) }
+    ensures err { OnErr result (out.new.items ≡ out.old.items) }
+{
+    print_grid_in(
+        alloc,
+        form,
+        number,
+        GridJob::Convex,
+        lists,
+        &figure.points,
+        out,
+    )?;
+    Ok(true)
+}
+
+// Appends the refusal of any record that breaks this condition of maps that are drawn convex first.
+fn refuse_convex(
+    alloc: Global,
+    form: Form,
+    number: u32,
+    refusal: ConvexRefusal,
+    out: &mut Vec<u8>,
+) -> Result<bool, AllocError>
+    ensures block { OnOk result ((lists : Lists) → BreaksConvex lists refusal
+        → (block : List ℕ) × IsConvexBlock form number lists block × (out.new.items ≡ out.old.items ++ block)) }
+    ensures refused { IfOk result (λ served. (lists : Lists) → BreaksConvex lists refusal
+        → IsTrue served ↔ (IsPlane lists × IsThreeConnected lists)) }
+    ensures err { OnErr result (out.new.items ≡ out.old.items) }
+{
+    three_connected_break_nothing();
+    match refusal {
+        ConvexRefusal::Block(BlockRefusal::Fault(MapFault::NoMemory)) => Err(AllocError),
+        _ => refuse_in(
+            alloc,
+            form,
+            convex_refusal_line(alloc, number, refusal)?,
+            out,
+        ),
+    }
+}
+
+// Appends the rectangles of a record, or its refusal.
+fn rect_record(
+    alloc: Global,
+    form: Form,
+    number: u32,
+    lists: &Rotations,
+    out: &mut Vec<u8>,
+) -> Result<bool, AllocError>
+    requires some_list { 0 < length lists.now }
+    requires few_lists { length lists.now < 4096 }
+    ensures block { OnOk result
+        ((block : List ℕ) × IsRectsBlock form number lists.now block × (out.new.items ≡ out.old.items ++ block)) }
+    ensures served { IfOk result (λ served. IsTrue served ↔ IsRectMap lists.now) }
+    ensures err { OnErr result (out.new.items ≡ out.old.items) }
+{
+    match rect_figure(alloc, lists) {
+        Ok(figure) => draw_rects(alloc, form, number, lists, &figure, out),
+        Err(refusal) => refuse_rects(alloc, form, number, refusal, out),
+    }
+}
+
+// Appends the rectangles of a record that breaks no condition.
+fn draw_rects(
+    alloc: Global,
+    form: Form,
+    number: u32,
+    lists: &Rotations,
+    figure: &RectFigure,
+    out: &mut Vec<u8>,
+) -> Result<bool, AllocError>
+    requires map { IsRectMap lists.now }
+    requires figure { IsRectFigure lists.now figure.now }
+    ensures block { OnOk result
+        ((block : List ℕ) × IsRectsBlock form number lists.now block × (out.new.items ≡ out.old.items ++ block)) }
+    ensures served { IfOk result (λ served. served ≡ true) }
+    ensures err { OnErr result (out.new.items ≡ out.old.items) }
+{
+    print_rects_in(alloc, form, number, lists, figure, out)?;
+    Ok(true)
+}
+
+// Appends the refusal of any record that breaks this condition of maps that have a rectangular dual first.
+fn refuse_rects(
+    alloc: Global,
+    form: Form,
+    number: u32,
+    refusal: RectRefusal,
+    out: &mut Vec<u8>,
+) -> Result<bool, AllocError>
+    ensures block { OnOk result ((lists : Lists) → BreaksRect lists refusal
+        → (block : List ℕ) × IsRectsBlock form number lists block × (out.new.items ≡ out.old.items ++ block)) }
+    ensures refused { IfOk result (λ served. (lists : Lists) → 0 < length lists → BreaksRect lists refusal
+        → IsTrue served ↔ IsRectMap lists) }
+    ensures err { OnErr result (out.new.items ≡ out.old.items) }
+{
+    rect_blocks::blocks_break_nothing();
+    match refusal {
+        RectRefusal::Block(BlockRefusal::Fault(MapFault::NoMemory)) => Err(AllocError),
+        _ => refuse_in(alloc, form, rect_refusal_line(alloc, number, refusal)?, out),
     }
 }
 

@@ -2,13 +2,14 @@
 ghost use Rattle.std.specs.Prelude.{◌≡◌, ◌++◌, length, OnOk, OnErr, IfOk};
 ghost use Rattle.map_definitions.specs.Maps.{IsSimpleMap};
 ghost use Rattle.svg_out.specs.Svg.{HasColumns};
-ghost use Rattle.pigale_shell.specs.Forms.{commented as comment_of, line_in as line_by, grid_in, bars_in};
+ghost use Rattle.pigale_shell.specs.Forms.{commented as comment_of, line_in as line_by, grid_in, bars_in, rects_in};
+ghost use Rattle.figure_text.specs.Text.{HasRects};
 
-use figure_text::{GridJob, print_bars, print_grid};
+use figure_text::{GridJob, print_bars, print_grid, print_rects};
 use half_edges::Rotations;
-use pg_plane::{BarFigure, Points};
+use pg_plane::{BarFigure, Points, RectFigure};
 use std::alloc::{AllocError, Global};
-use svg_out::{svg_bars, svg_grid};
+use svg_out::{svg_bars, svg_grid, svg_rects};
 
 /// How a job that draws writes its figures.
 #[derive(Clone, Copy, Debug, PartialEq, Eq)]
@@ -77,5 +78,24 @@ pub(crate) fn print_bars_in(
     match form {
         Form::Text => print_bars(alloc, number, lists, bars, out),
         Form::Svg => svg_bars(alloc, lists, bars, out),
+    }
+}
+
+/// Appends a rectangular dual in this form. After want of memory the bytes are as they were.
+pub(crate) fn print_rects_in(
+    alloc: Global,
+    form: Form,
+    number: u32,
+    lists: &Rotations,
+    rects: &RectFigure,
+    out: &mut Vec<u8>,
+) -> Result<(), AllocError>
+    requires { HasRects lists.now rects.now }
+    ensures ok { OnOk result (out.new.items ≡ out.old.items ++ rects_in form number lists.now rects.now) }
+    ensures err { OnErr result (out.new.items ≡ out.old.items) }
+{
+    match form {
+        Form::Text => print_rects(alloc, number, lists, rects, out),
+        Form::Svg => svg_rects(alloc, lists, rects, out),
     }
 }

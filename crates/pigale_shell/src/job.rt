@@ -16,6 +16,11 @@ pub enum Job {
     Schnyder(Form),
     /// Draws each connected map of genus zero without cut vertex by bars that see each other.
     Bars(Form),
+    /// Draws each three-connected map of genus zero with convex faces.
+    Convex(Form),
+    /// Tiles a rectangle by a rectangle for each vertex, for maps with a quadrangle outside and triangles inside, where no
+    /// triangle of edges separates.
+    Rect(Form),
     /// Makes the map of so many vertices from a number, and draws it. It reads nothing.
     Gen(u16, u32),
     /// Checks each figure of a text.
@@ -30,6 +35,7 @@ impl Job {
         match self {
             Job::Count | Job::Gen(..) | Job::Verify => Form::Text,
             Job::Shift(form) | Job::Schnyder(form) | Job::Bars(form) => form,
+            Job::Convex(form) | Job::Rect(form) => form,
         }
     }
 }

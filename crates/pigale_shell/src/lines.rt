@@ -3,13 +3,17 @@ ghost use Rattle.std.specs.Prelude.{◌≡◌, ◌≢◌, ◌+◌, ◌++◌, ◌
 ghost use Rattle.pigale_shell.specs.Text.{counts_line, refused_line, bad_words_line, last_line as last_line_of};
 ghost use Rattle.map_definitions.specs.Maps.{genus_of};
 ghost use Rattle.pigale_shell.specs.BarsText.{block_refusal_bytes, block_refusal_line as block_refusal_of};
+ghost use Rattle.pigale_shell.specs.ConvexText.{convex_refusal_bytes, convex_refusal_line as convex_refusal_of};
+ghost use Rattle.pigale_shell.specs.RectsText.{rect_refusal_bytes, rect_refusal_line as rect_refusal_of};
 ghost use Rattle.pigale_shell.specs.Lines.{fault_bytes, WritesFault, WritesRefusal, ending_of};
 
+use convex_blocks::ConvexRefusal;
 use drawing_orders::DrawRefusal;
 use euler_faces::EulerCount;
 use half_edges::MapFault;
 use itoa::Buffer;
 use plane_blocks::BlockRefusal;
+use rect_blocks::RectRefusal;
 use std::alloc::{AllocError, Global};
 
 /// How the bytes of an input end.
@@ -159,6 +163,78 @@ pub fn block_refusal_line(
     push_number(&mut line, u64::from(number))?;
     line.push(b' ')?;
     push_block_refusal(&mut line, refusal)?;
+    line.push(b'\n')?;
+    Ok(line)
+}
+
+// Appends the number and name of a condition of maps that are drawn convex, and what it says of the record.
+fn push_convex_refusal(out: &mut Vec<u8>, refusal: ConvexRefusal) -> Result<(), AllocError>
+    ensures { OnOk result (out.new.items ≡ out.old.items ++ convex_refusal_bytes refusal) }
+{
+    match refusal {
+        ConvexRefusal::Block(refusal) => push_block_refusal(out, refusal),
+        ConvexRefusal::SeparatingPair(u, v) => push_vertices(out, b"9 SeparatingPair", u.0, v.0),
+    }
+}
+
+/// The line that refuses record `number` for a condition of maps that are drawn convex, for a cause that is not want
+/// of memory.
+pub fn convex_refusal_line(
+    alloc: Global,
+    number: u32,
+    refusal: ConvexRefusal,
+) -> Result<Vec<u8>, AllocError>
+    ensures { IfOk result (λ line. line.items ≡ convex_refusal_of number refusal) }
+{
+    let mut line = Vec::from_slice(alloc, b"refused")?;
+    push_number(&mut line, u64::from(number))?;
+    line.push(b' ')?;
+    push_convex_refusal(&mut line, refusal)?;
+    line.push(b'\n')?;
+    Ok(line)
+}
+
+// Appends a name and the numbers of three vertices.
+fn push_three(out: &mut Vec<u8>, name: &[u8], a: u16, b: u16, c: u16) -> Result<(), AllocError>
+    ensures { OnOk result (out.new.items
+        ≡ out.old.items ++ (((name.now ++ 32 ∷ decimal (a + 1)) ++ 32 ∷ decimal (b + 1)) ++ 32 ∷ decimal (c + 1))) }
+{
+    push_vertices(out, name, a, b)?;
+    push_number(out, u64::from(c) + 1)
+}
+
+// Appends the number and name of a condition of maps that have a rectangular dual, and what it says of the record.
+fn push_rect_refusal(out: &mut Vec<u8>, refusal: RectRefusal) -> Result<(), AllocError>
+    ensures { OnOk result (out.new.items ≡ out.old.items ++ rect_refusal_bytes refusal) }
+{
+    match refusal {
+        RectRefusal::Block(refusal) => push_block_refusal(out, refusal),
+        RectRefusal::OuterNotQuad => out.extend_from_slice(b"10 OuterNotQuad"),
+        RectRefusal::NotTriangle(v, u) => push_vertices(out, b"11 NotTriangle", v.0, u.0),
+        RectRefusal::SeparatingTriangle(a, b, c) => push_three(
+            out,
+            b"12 SeparatingTriangle",
+            a.0,
+            b.0,
+            c.0,
+        ),
+        RectRefusal::NoInner => out.extend_from_slice(b"13 NoInner"),
+    }
+}
+
+/// The line that refuses record `number` for a condition of maps that have a rectangular dual, for a cause that is
+/// not want of memory.
+pub fn rect_refusal_line(
+    alloc: Global,
+    number: u32,
+    refusal: RectRefusal,
+) -> Result<Vec<u8>, AllocError>
+    ensures { IfOk result (λ line. line.items ≡ rect_refusal_of number refusal) }
+{
+    let mut line = Vec::from_slice(alloc, b"refused")?;
+    push_number(&mut line, u64::from(number))?;
+    line.push(b' ')?;
+    push_rect_refusal(&mut line, refusal)?;
     line.push(b'\n')?;
     Ok(line)
 }

@@ -67,9 +67,12 @@ pub fn run_job<S: Source, K: Sink>(alloc: Global, job: Job, src: &mut S, out: &m
     ensures limit { TakesAtMost (input_limit + 1) (S.left src.old) (S.left src.new) }
 {
     match job {
-        Job::Count | Job::Shift(_) | Job::Schnyder(_) | Job::Bars(_) => status(run_planar(
-            alloc, job, src, out,
-        )),
+        Job::Count
+        | Job::Shift(_)
+        | Job::Schnyder(_)
+        | Job::Bars(_)
+        | Job::Convex(_)
+        | Job::Rect(_) => status(run_planar(alloc, job, src, out)),
         Job::Gen(size, number) => status(run_made(alloc, size, number, out)),
         Job::Verify => status(run_verify(alloc, src, out)),
     }

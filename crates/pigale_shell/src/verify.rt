@@ -3,16 +3,18 @@ ghost use Rattle.std.specs.Prelude.{◌≡◌, ◌↔◌, ◌++◌, ◌∷◌, �
 ghost use Rattle.figure_lines.specs.Given.{IsGiven as IsGivenFigure};
 ghost use Rattle.figure_verdicts.specs.Validity.{IsValidFigure};
 ghost use Rattle.figure_verdicts.specs.declared.verdict.FigureVerdict.TheVariants.{Yes as IsYes};
-ghost use Rattle.pigale_shell.specs.Verify.{numbers, verdict_line as verdict_line_of, verdict_name, verdict_vertices, bars_name, bars_vertices, spaced, numbers_line as numbers_line_of, witness_name, witness_numbers, WritesVerdict, IsVerifyBlock, verify_last_line as last_line_of};
+ghost use Rattle.pigale_shell.specs.Verify.{numbers, verdict_line as verdict_line_of, verdict_name, verdict_vertices, bars_name, bars_vertices, convex_name, convex_vertices, rects_name, rects_vertices, spaced, numbers_line as numbers_line_of, witness_name, witness_numbers, WritesVerdict, IsVerifyBlock, verify_last_line as last_line_of};
 
 use super::lines::{end_line, push_number, refusal_line, stop_line};
 use bar_check::BarVerdict;
+use convex_check::ConvexVerdict;
 use draw_check::Verdict;
 use figure_lines::{Ending, FigureReader};
 use figure_text::Figure;
 use figure_verdicts::{FigureVerdict, figure_verdict};
 use kuratowski::WitnessVerdict;
 use record_runs::{Format, Job as RecordJob, Taken};
+use rect_check::RectVerdict;
 use std::alloc::{AllocError, Global};
 
 // Appends vertices, each after a space and numbered from 1.
@@ -93,6 +95,32 @@ fn bars_line(alloc: Global, number: u32, verdict: BarVerdict) -> Result<Vec<u8>,
     }
 }
 
+// The line of how a drawing that is to be convex bends.
+fn convex_line(alloc: Global, number: u32, verdict: ConvexVerdict) -> Result<Vec<u8>, AllocError>
+    ensures { IfOk result (λ line. line.items ≡ verdict_line_of number (convex_name verdict) (convex_vertices verdict)) }
+{
+    match verdict {
+        ConvexVerdict::Bent(a, b, c) => verdict_line(alloc, number, b"Bent", &[a.0, b.0, c.0]),
+        ConvexVerdict::OuterBent => verdict_line(alloc, number, b"OuterBent", &[]),
+        ConvexVerdict::Yes => verdict_line(alloc, number, b"yes", &[]),
+    }
+}
+
+// The line of a fault of rectangles.
+fn rects_line(alloc: Global, number: u32, verdict: RectVerdict) -> Result<Vec<u8>, AllocError>
+    ensures { IfOk result (λ line. line.items ≡ verdict_line_of number (rects_name verdict) (rects_vertices verdict)) }
+{
+    match verdict {
+        RectVerdict::BadRect(v) => verdict_line(alloc, number, b"BadRect", &[v.0]),
+        RectVerdict::Meet(u, v) => verdict_line(alloc, number, b"Meet", &[u.0, v.0]),
+        RectVerdict::Gap => verdict_line(alloc, number, b"Gap", &[]),
+        RectVerdict::Contact(u, v) => verdict_line(alloc, number, b"Contact", &[u.0, v.0]),
+        RectVerdict::NoFrame => verdict_line(alloc, number, b"NoFrame", &[]),
+        RectVerdict::Frame(v) => verdict_line(alloc, number, b"Frame", &[v.0]),
+        RectVerdict::Yes => verdict_line(alloc, number, b"yes", &[]),
+    }
+}
+
 // The line of a verdict by its name and numbers.
 fn numbers_line(
     alloc: Global,
@@ -137,7 +165,9 @@ fn figure_line(alloc: Global, number: u32, verdict: FigureVerdict) -> Result<Vec
         FigureVerdict::Refused(fault) => refusal_line(alloc, number, fault),
         FigureVerdict::Drawing(verdict) => fault_line(alloc, number, verdict),
         FigureVerdict::Inside(v, u) => verdict_line(alloc, number, b"Inside", &[v.0, u.0]),
+        FigureVerdict::Convex(verdict) => convex_line(alloc, number, verdict),
         FigureVerdict::Bars(verdict) => bars_line(alloc, number, verdict),
+        FigureVerdict::Rects(verdict) => rects_line(alloc, number, verdict),
         FigureVerdict::Witness(verdict) => witness_line(alloc, number, verdict),
         FigureVerdict::Yes => verdict_line(alloc, number, b"yes", &[]),
     }
