@@ -1,0 +1,10 @@
+//! The law of contractible edges, as the contract of a function that does nothing.
+#![tactic(auto)]
+
+ghost use Rattle.contractible_edges.specs.Linked.{ContractibleEdge};
+
+/// A graph in which no two vertices part the others has an edge without whose two ends no vertex parts them
+/// (Thomassen's theorem).
+pub fn contractible_edge()
+    ensures { ContractibleEdge }
+{}

@@ -1,0 +1,2 @@
+-- Each graph has a map of genus zero, or a witness.
+pub mod Embedding

@@ -1,0 +1,3 @@
+-- What the law rests on.
+pub mod Joined
+pub mod Expanded
