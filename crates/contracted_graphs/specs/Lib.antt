@@ -1,0 +1,2 @@
+-- Graphs with an edge contracted.
+pub mod ContractedEdges

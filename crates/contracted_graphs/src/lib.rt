@@ -1,0 +1,6 @@
+//! Graphs with an edge contracted.
+#![tactic(auto)]
+
+mod contracted;
+
+pub use contracted::contract;

@@ -1,0 +1,2 @@
+-- Edges that can be contracted.
+pub mod Contractible

@@ -1,0 +1,10 @@
+//! Edges of three-connected graphs that can be contracted.
+#![tactic(auto)]
+
+mod connected;
+mod contractible;
+mod laws;
+
+pub use connected::is_three_connected;
+pub use contractible::contractible_edge;
+pub use laws::contracted_exactly;

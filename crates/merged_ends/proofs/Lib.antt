@@ -1,0 +1,4 @@
+-- What the calls rest on.
+pub mod MergedLemmas
+pub mod ExchangedLemmas
+mod Cases

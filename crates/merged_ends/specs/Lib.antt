@@ -1,0 +1,2 @@
+-- Graphs with the ends of an edge merged.
+pub mod Merged

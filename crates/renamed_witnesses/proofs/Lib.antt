@@ -1,0 +1,3 @@
+-- What renaming keeps.
+pub mod RenamedLemmas
+mod Cases

@@ -1,0 +1,2 @@
+-- Witnesses renamed.
+pub mod Renamed
