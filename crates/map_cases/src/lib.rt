@@ -25,6 +25,8 @@ mod permutations;
 #[cfg(test)]
 mod records;
 #[cfg(test)]
+mod searches;
+#[cfg(test)]
 mod sources;
 #[cfg(test)]
 mod witnesses;

@@ -1,0 +1,355 @@
+//! The second search: it puts returning darts into pairs of intervals, of which one is left and one right.
+use crate::links::Links;
+use crate::row::{NONE, lesser, minus, plus};
+use crate::search::{Search, steps};
+
+// The returning darts from one to another, each relative to the next, or none.
+#[derive(Clone, Copy)]
+struct Interval {
+    low: u32,
+    high: u32,
+}
+
+// Two intervals on different sides.
+#[derive(Clone, Copy)]
+struct Pair {
+    left: Interval,
+    right: Interval,
+}
+
+const EMPTY: Interval = Interval {
+    low: NONE,
+    high: NONE,
+};
+
+impl Interval {
+    #[inline(always)]
+    fn is_empty(self) -> bool {
+        self.high == NONE
+    }
+}
+
+impl Pair {
+    #[inline(always)]
+    fn swapped(self) -> Pair {
+        Pair {
+            left: self.right,
+            right: self.left,
+        }
+    }
+}
+
+impl Search {
+    // The pair at a place of the stack.
+    #[inline(always)]
+    fn pair(&self, place: u32) -> Pair {
+        Pair {
+            left: Interval {
+                low: self.left_low.get(place),
+                high: self.left_high.get(place),
+            },
+            right: Interval {
+                low: self.right_low.get(place),
+                high: self.right_high.get(place),
+            },
+        }
+    }
+
+    #[inline(always)]
+    fn push_pair(&mut self, pair: Pair) {
+        self.left_low.set(self.top, pair.left.low);
+        self.left_high.set(self.top, pair.left.high);
+        self.right_low.set(self.top, pair.right.low);
+        self.right_high.set(self.top, pair.right.high);
+        self.top = plus(self.top, 1);
+    }
+
+    // Takes the last pair; of no pairs, an empty one.
+    #[inline(always)]
+    fn pop_pair(&mut self) -> Pair {
+        if self.top == 0 {
+            return Pair {
+                left: EMPTY,
+                right: EMPTY,
+            };
+        }
+        self.top = minus(self.top, 1);
+        self.pair(self.top)
+    }
+
+    // Whether an interval returns to above where a dart does.
+    #[inline(always)]
+    fn conflicts(&self, interval: Interval, low: u32) -> bool {
+        !interval.is_empty() && self.low.get(interval.high) > low
+    }
+
+    // Whether the last pair has such an interval.
+    #[inline(always)]
+    fn top_conflicts(&self, low: u32) -> bool {
+        if self.top == 0 {
+            return false;
+        }
+        let pair = self.pair(minus(self.top, 1));
+        self.conflicts(pair.left, low) || self.conflicts(pair.right, low)
+    }
+
+    // The least height that a pair returns to.
+    #[inline(always)]
+    fn least_return(&self, pair: Pair) -> u32 {
+        if pair.left.is_empty() {
+            self.low.get(pair.right.low)
+        } else if pair.right.is_empty() {
+            self.low.get(pair.left.low)
+        } else {
+            lesser(self.low.get(pair.left.low), self.low.get(pair.right.low))
+        }
+    }
+
+    // One interval above another, as one.
+    #[inline(always)]
+    fn joined(&mut self, above: Interval, below: Interval) -> Interval {
+        if above.is_empty() {
+            return below;
+        }
+        if below.is_empty() {
+            return above;
+        }
+        self.relative.set(above.low, below.high);
+        Interval {
+            low: below.low,
+            high: above.high,
+        }
+    }
+
+    // All that returns along a dart, on one side; or none where it needs both.
+    fn returns_of(&mut self, dart: u32, parent: u32) -> Option<Interval> {
+        let mut right = EMPTY;
+        let bottom = self.bottom.get(dart);
+        for _ in 0..self.top {
+            let popped = self.pop_pair();
+            let pair = if popped.left.is_empty() {
+                popped
+            } else {
+                popped.swapped()
+            };
+            if !pair.left.is_empty() {
+                return None;
+            }
+            if self.low.get(pair.right.low) > self.low.get(parent) {
+                right = self.joined(right, pair.right);
+            } else {
+                self.relative.set(pair.right.low, self.lowest.get(parent));
+            }
+            if self.top <= bottom {
+                return Some(right);
+            }
+        }
+        Some(right)
+    }
+
+    // A pair of those that return along a dart on the right, and those before it that conflict with them on
+    // the left.
+    fn with_conflicts(&mut self, right: Interval, low: u32) -> Option<Pair> {
+        let mut pair = Pair { left: EMPTY, right };
+        for _ in 0..self.top {
+            if !self.top_conflicts(low) {
+                return Some(pair);
+            }
+            let popped = self.pop_pair();
+            let next = if self.conflicts(popped.right, low) {
+                popped.swapped()
+            } else {
+                popped
+            };
+            if self.conflicts(next.right, low) {
+                return None;
+            }
+            pair = Pair {
+                left: self.joined(pair.left, next.left),
+                right: self.joined(pair.right, next.right),
+            };
+        }
+        Some(pair)
+    }
+
+    // Brings what returns along a dart together with what returned along earlier ones. It answers whether
+    // that can be.
+    fn constrain(&mut self, dart: u32, parent: u32) -> bool {
+        let low = self.low.get(dart);
+        match self.returns_of(dart, parent) {
+            Some(right) => match self.with_conflicts(right, low) {
+                Some(pair) => {
+                    if !pair.left.is_empty() || !pair.right.is_empty() {
+                        self.push_pair(pair);
+                    }
+                    true
+                }
+                None => false,
+            },
+            None => false,
+        }
+    }
+
+    // The same, where the dart is ended, which leaves a vertex. The first of its darts has no earlier ones.
+    #[inline(always)]
+    fn integrate(&mut self, dart: u32, vertex: u32) -> bool {
+        if self.low.get(dart) >= self.height.get(vertex) {
+            return true;
+        }
+        let parent = self.parent.get(vertex);
+        if self.leaving.get(vertex) == dart {
+            self.lowest.set(parent, self.lowest.get(dart));
+            return true;
+        }
+        self.constrain(dart, parent)
+    }
+
+    // An interval without the highest darts, which lead to a vertex. Emptied, its lowest dart goes to the left
+    // of the other interval's.
+    #[inline(always)]
+    fn trimmed(&mut self, links: &Links, interval: Interval, other: u32, vertex: u32) -> Interval {
+        if interval.is_empty() {
+            return interval;
+        }
+        let mut high = interval.high;
+        for _ in 0..links.darts {
+            if high == NONE || links.head.get(high) != vertex {
+                break;
+            }
+            high = self.relative.get(high);
+        }
+        if high == NONE {
+            self.relative.set(interval.low, other);
+            self.side.set(interval.low, 1);
+            return EMPTY;
+        }
+        Interval {
+            low: interval.low,
+            high,
+        }
+    }
+
+    // Drops the pairs all of whose darts lead to a vertex of this height.
+    #[inline(always)]
+    fn drop_pairs(&mut self, height: u32) {
+        for _ in 0..self.top {
+            let pair = self.pair(minus(self.top, 1));
+            if self.least_return(pair) != height {
+                return;
+            }
+            self.top = minus(self.top, 1);
+            self.side.set(pair.left.low, 1);
+        }
+    }
+
+    // Drops all that returns to a vertex.
+    #[inline(always)]
+    fn drop_returns(&mut self, links: &Links, vertex: u32) {
+        let height = self.height.get(vertex);
+        self.drop_pairs(height);
+        if self.top == 0 {
+            return;
+        }
+        let pair = self.pop_pair();
+        let left = self.trimmed(links, pair.left, pair.right.low, vertex);
+        let right = self.trimmed(links, pair.right, left.low, vertex);
+        self.push_pair(Pair { left, right });
+    }
+
+    // The side of a dart to a vertex is that of the highest dart that returns along it.
+    #[inline(always)]
+    fn follow_highest(&mut self, dart: u32, vertex: u32) {
+        if self.low.get(dart) >= self.height.get(vertex) || self.top == 0 {
+            return;
+        }
+        let pair = self.pair(minus(self.top, 1));
+        let left = pair.left.high;
+        let right = pair.right.high;
+        let by_left = left != NONE && (right == NONE || self.low.get(left) > self.low.get(right));
+        self.relative.set(dart, if by_left { left } else { right });
+    }
+}
+
+// Looks at an oriented dart of a vertex. It answers the vertex to go on at, or none after a conflict.
+#[inline(always)]
+fn look(links: &Links, search: &mut Search, vertex: u32, dart: u32) -> Option<u32> {
+    search.bottom.set(dart, search.top);
+    let head = links.head.get(dart);
+    if search.parent.get(head) == dart {
+        return Some(head);
+    }
+    search.lowest.set(dart, dart);
+    search.push_pair(Pair {
+        left: EMPTY,
+        right: Interval {
+            low: dart,
+            high: dart,
+        },
+    });
+    if search.integrate(dart, vertex) {
+        Some(vertex)
+    } else {
+        None
+    }
+}
+
+// Leaves a vertex by the dart that leads to it. It answers the vertex to go on at, or none after a conflict.
+#[inline(always)]
+fn go_back(links: &Links, search: &mut Search, parent: u32) -> Option<u32> {
+    let vertex = links.tail(parent);
+    search.drop_returns(links, vertex);
+    search.follow_highest(parent, vertex);
+    if search.integrate(parent, vertex) {
+        Some(vertex)
+    } else {
+        None
+    }
+}
+
+// One step from a vertex, whose cursor is at a dart.
+#[inline(always)]
+fn step(links: &Links, search: &mut Search, vertex: u32, dart: u32) -> Option<u32> {
+    if dart == NONE {
+        let parent = search.parent.get(vertex);
+        go_back(links, search, parent)
+    } else {
+        search.cursor.set(vertex, search.chain.get(dart));
+        look(links, search, vertex, dart)
+    }
+}
+
+// Goes on from a root until all that it reaches is done, or a conflict shows.
+fn agrees_from(links: &Links, search: &mut Search, root: u32) -> bool {
+    search.top = 0;
+    let mut vertex = root;
+    for _ in 0..steps(links.vertices, links.darts) {
+        let dart = search.cursor.get(vertex);
+        if dart == NONE && search.parent.get(vertex) == NONE {
+            return true;
+        }
+        match step(links, search, vertex, dart) {
+            Some(next) => vertex = next,
+            None => return false,
+        }
+    }
+    false
+}
+
+// Sets each cursor to the first dart that leaves its vertex.
+fn reset_cursors(links: &Links, search: &mut Search) {
+    for vertex in 0..links.vertices {
+        search.cursor.set(vertex, search.leaving.get(vertex));
+    }
+}
+
+/// Whether the oriented edges can be put on two sides without a conflict.
+pub fn agrees(links: &Links, search: &mut Search) -> bool {
+    reset_cursors(links, search);
+    for root in 0..links.vertices {
+        let is_root = links.first.get(root) != NONE && search.parent.get(root) == NONE;
+        if is_root && !agrees_from(links, search, root) {
+            return false;
+        }
+    }
+    true
+}

@@ -1,0 +1,139 @@
+//! Lists of darts, linked both ways. The darts of edge e are 2e and 2e + 1, and each is the other's twin.
+use crate::edges::Edges;
+use crate::row::{ByDart, ByVertex, NONE, minus, plus, twice};
+
+/// For each vertex the list of its darts.
+#[derive(Drop)]
+pub struct Links {
+    /// How many vertices there are.
+    pub vertices: u32,
+    /// How many darts there may be.
+    pub darts: u32,
+    /// For each vertex the first of its darts.
+    pub first: ByVertex,
+    /// For each vertex how many darts it has, which `put_last`, `put_after` and `put_before` leave as it is.
+    pub degree: ByVertex,
+    /// For each dart the next in its list.
+    pub next: ByDart,
+    /// For each dart the one before it.
+    pub prev: ByDart,
+    /// For each dart the vertex that it leads to.
+    pub head: ByDart,
+}
+
+impl Links {
+    /// Empty lists, for the vertices and edges of a graph.
+    #[inline(always)]
+    pub fn new(edges: &Edges) -> Links {
+        Links {
+            vertices: edges.vertices,
+            darts: twice(edges.count),
+            first: ByVertex::new(),
+            degree: ByVertex::new(),
+            next: ByDart::new(),
+            prev: ByDart::new(),
+            head: ByDart::new(),
+        }
+    }
+
+    /// Empties all lists.
+    pub fn clear(&mut self) {
+        self.first.fill(NONE);
+        self.degree.fill(0);
+    }
+
+    /// The vertex from which a dart leads.
+    #[inline(always)]
+    pub fn tail(&self, dart: u32) -> u32 {
+        self.head.get(dart ^ 1)
+    }
+
+    /// Puts a dart to `head` before all others of a vertex.
+    #[inline(always)]
+    pub fn put_first(&mut self, dart: u32, vertex: u32, head: u32) {
+        let first = self.first.get(vertex);
+        self.head.set(dart, head);
+        self.next.set(dart, first);
+        self.prev.set(dart, NONE);
+        self.prev.set(first, dart);
+        self.first.set(vertex, dart);
+        self.degree.set(vertex, plus(self.degree.get(vertex), 1));
+    }
+
+    /// Puts both darts of an edge first.
+    #[inline(always)]
+    pub fn put_edge(&mut self, edges: &Edges, edge: u32) {
+        let a = edges.one.get(edge);
+        let b = edges.other.get(edge);
+        self.put_first(twice(edge), a, b);
+        self.put_first(twice(edge) ^ 1, b, a);
+    }
+
+    // Joins two places of a vertex's list. NONE is the place before the first, and that behind the last.
+    fn join(&mut self, vertex: u32, before: u32, after: u32) {
+        if before == NONE {
+            self.first.set(vertex, after);
+        } else {
+            self.next.set(before, after);
+        }
+        self.prev.set(after, before);
+    }
+
+    /// Takes a dart out of the list of its vertex.
+    pub fn take_out(&mut self, dart: u32, vertex: u32) {
+        let before = self.prev.get(dart);
+        let after = self.next.get(dart);
+        self.join(vertex, before, after);
+        self.degree.set(vertex, minus(self.degree.get(vertex), 1));
+    }
+
+    /// Puts a dart where another of its vertex was.
+    pub fn put_for(&mut self, dart: u32, old: u32, vertex: u32) {
+        let before = self.prev.get(old);
+        let after = self.next.get(old);
+        self.join(vertex, before, dart);
+        self.join(vertex, dart, after);
+    }
+
+    /// Puts a dart at the end of a list, behind the last one, or NONE where the list is empty.
+    #[inline(always)]
+    pub fn put_last(&mut self, dart: u32, last: u32, vertex: u32) {
+        self.join(vertex, last, dart);
+        self.join(vertex, dart, NONE);
+    }
+
+    /// Puts a dart behind another of its vertex.
+    pub fn put_after(&mut self, dart: u32, place: u32, vertex: u32) {
+        let after = self.next.get(place);
+        self.join(vertex, place, dart);
+        self.join(vertex, dart, after);
+    }
+
+    /// Puts a dart before another of its vertex.
+    pub fn put_before(&mut self, dart: u32, place: u32, vertex: u32) {
+        let before = self.prev.get(place);
+        self.join(vertex, before, dart);
+        self.join(vertex, dart, place);
+    }
+
+    /// Whether two vertices are joined, by the shorter of their lists.
+    pub fn has(&self, u: u32, v: u32) -> bool {
+        if self.degree.get(u) < self.degree.get(v) {
+            self.leads(u, v)
+        } else {
+            self.leads(v, u)
+        }
+    }
+
+    // Whether a dart of u leads to v.
+    fn leads(&self, u: u32, v: u32) -> bool {
+        let mut dart = self.first.get(u);
+        for _ in 0..self.degree.get(u) {
+            if self.head.get(dart) == v {
+                return true;
+            }
+            dart = self.next.get(dart);
+        }
+        false
+    }
+}

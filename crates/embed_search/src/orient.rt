@@ -1,0 +1,92 @@
+//! The first search: it orients edges, and finds where they return to.
+use crate::links::Links;
+use crate::row::{NONE, lesser, plus, twice};
+use crate::search::{Search, steps};
+
+// What the dart to a vertex learns of a dart that leaves it. A root has no such dart, and nothing reads what is
+// written for it.
+#[inline(always)]
+fn tell_parent(search: &mut Search, vertex: u32, low: u32, low_next: u32) {
+    let parent = search.parent.get(vertex);
+    let old = search.low.get(parent);
+    let old_next = search.low_next.get(parent);
+    if low < old {
+        search.low.set(parent, low);
+        search.low_next.set(parent, lesser(old, low_next));
+    } else if low > old {
+        search.low_next.set(parent, lesser(old_next, low));
+    } else {
+        search.low_next.set(parent, lesser(old_next, low_next));
+    }
+}
+
+// Ends an oriented dart of a vertex: all that returns along it is known.
+#[inline(always)]
+fn end_dart(search: &mut Search, vertex: u32, dart: u32) {
+    let low = search.low.get(dart);
+    let low_next = search.low_next.get(dart);
+    let chordal = if low_next < search.height.get(vertex) {
+        1
+    } else {
+        0
+    };
+    let nest = plus(twice(low), chordal);
+    search.nest.set(dart, nest);
+    search.relative.set(dart, NONE);
+    search.side.set(dart, 0);
+    search.put_in_bucket(dart, nest);
+    tell_parent(search, vertex, low, low_next);
+}
+
+// Looks at a dart of a vertex. It answers the vertex to go on at.
+#[inline(always)]
+fn look(links: &Links, search: &mut Search, vertex: u32, dart: u32) -> u32 {
+    let head = links.head.get(dart);
+    let height = search.height.get(vertex);
+    let reached = search.height.get(head);
+    if reached == NONE {
+        search.low.set(dart, height);
+        search.low_next.set(dart, height);
+        search.parent.set(head, dart);
+        search.height.set(head, plus(height, 1));
+        search.cursor.set(head, links.first.get(head));
+        return head;
+    }
+    if reached < height && search.parent.get(vertex) != dart ^ 1 {
+        search.low.set(dart, reached);
+        search.low_next.set(dart, height);
+        end_dart(search, vertex, dart);
+    }
+    vertex
+}
+
+// Goes on from a root until all that it reaches is done.
+fn orient_from(links: &Links, search: &mut Search, root: u32) {
+    search.set_root(root, links.first.get(root));
+    let mut vertex = root;
+    for _ in 0..steps(links.vertices, links.darts) {
+        let dart = search.cursor.get(vertex);
+        if dart == NONE {
+            let parent = search.parent.get(vertex);
+            if parent == NONE {
+                return;
+            }
+            vertex = links.tail(parent);
+            end_dart(search, vertex, parent);
+        } else {
+            search.cursor.set(vertex, links.next.get(dart));
+            vertex = look(links, search, vertex, dart);
+        }
+    }
+}
+
+/// Orients all edges, and puts their darts into buckets by depth.
+pub fn orient_all(links: &Links, search: &mut Search) {
+    search.height.fill(NONE);
+    search.bucket.fill(NONE);
+    for root in 0..links.vertices {
+        if links.first.get(root) != NONE && !search.is_reached(root) {
+            orient_from(links, search, root);
+        }
+    }
+}
