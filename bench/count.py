@@ -3,7 +3,7 @@
 
   count.py            instructions a byte on inputs of a million bytes, counted by valgrind
   count.py --seconds  seconds and peak memory on inputs of 16 MiB
-  count.py --draw JOB instructions a byte of a job that draws, on the inputs that are plane maps
+  count.py --draw JOB instructions a byte of a job that draws, on inputs that suit it
 
 Makes its inputs under bench/out/, the same ones each time. Wants a C compiler, and valgrind for the
 first. Not part of the gate.
@@ -54,6 +54,35 @@ def complete(n):
     return [[u for u in range(1, n + 1) if u != v] for v in range(1, n + 1)]
 
 
+def quadrangle(rows, columns):
+    """A grid with a diagonal in each cell, within four vertices: the left one is vertex 1, and the upper one the first of its list."""
+    left, top, right, bottom = 1, 2, 3, 4
+    inner = lambda i, j: 5 + i * columns + j
+    inside = lambda i, j: 0 <= i < rows and 0 <= j < columns
+
+    def beside(i, j):
+        if inside(i, j):
+            return inner(i, j)
+        return left if j < 0 and 0 <= i < rows else right if j >= columns and 0 <= i < rows else top if i < 0 and 0 <= j < columns else bottom if i >= rows and 0 <= j < columns else None
+
+    lists = [[top] + [inner(i, 0) for i in range(rows)] + [bottom],
+             [right] + [inner(0, j) for j in reversed(range(columns))] + [left],
+             [bottom] + [inner(i, columns - 1) for i in reversed(range(rows))] + [top],
+             [left] + [inner(rows - 1, j) for j in range(columns)] + [right]]
+    for i in range(rows):
+        for j in range(columns):
+            around = [(i - 1, j), (i, j + 1), (i + 1, j + 1), (i + 1, j), (i, j - 1), (i - 1, j - 1)]
+            found = [beside(*at) if inside(*at) or at not in ((i + 1, j + 1), (i - 1, j - 1)) else None for at in around]
+            lists.append([v for v in found if v])
+    return lists
+
+
+def prism(k):
+    """Two circles of k vertices, one within the other, and an edge between each two that stand at one angle."""
+    return renumbered([[v % k + 1, k + v, (v - 2) % k + 1] for v in range(1, k + 1)]
+                      + [[k + (v - 2) % k + 1, v, k + v % k + 1] for v in range(1, k + 1)])
+
+
 def renumbered(lists):
     """The same map, with its vertices numbered anew at random."""
     number = list(range(1, len(lists) + 1))
@@ -92,6 +121,20 @@ def inputs(size):
     yield "triangulations of 4,095, wide", fill(some(2, lambda: triangulation(4095)), size)
 
 
+def inputs_of(job, size):
+    """The inputs on which a job that draws is measured."""
+    if job == "rect":
+        for rows, columns in ((13, 19), (61, 67)):
+            yield f"grids of {rows} by {columns} with diagonals", fill([record(quadrangle(rows, columns))], size)
+        return
+    for name, data in inputs(size):
+        if not name.startswith("one complete graph"):
+            yield name, data
+    if job == "convex":
+        for k in (127, 2047):
+            yield f"prisms of {2 * k} vertices", fill([record(prism(k))], size)
+
+
 def instructions(command, data):
     done = subprocess.run(["valgrind", "--tool=cachegrind", "--cache-sim=no", "--cachegrind-out-file=/dev/null", *command],
                           stdin=open(data, "rb"), stdout=subprocess.DEVNULL, stderr=subprocess.PIPE, text=True)
@@ -126,13 +169,12 @@ def main():
     drawn = sys.argv[2] if sys.argv[1:2] == ["--draw"] else None
     os.makedirs(OUT, exist_ok=True)
     subprocess.run(["cc", "-O2", "-o", PLAIN, os.path.join(HERE, "plain_count.c")], check=True)
-    for name, data in inputs(15_800_000 if by_seconds else 1 << 20):
+    for name, data in inputs_of(drawn, 1 << 20) if drawn else inputs(15_800_000 if by_seconds else 1 << 20):
         path_ = os.path.join(OUT, "input.plc")
         with open(path_, "wb") as out:
             out.write(data)
         if drawn:
-            if not name.startswith("one complete graph"):
-                print(f"{name}: {instructions([PROGRAM, drawn], path_) / len(data):.1f} instructions a byte", flush=True)
+            print(f"{name}: {instructions([PROGRAM, drawn], path_) / len(data):.1f} instructions a byte", flush=True)
         elif by_seconds:
             ours, memory = seconds([PROGRAM, "count"], path_)
             plain, _ = seconds([PLAIN], path_)
