@@ -5,6 +5,8 @@
 #[cfg(test)]
 mod completions;
 #[cfg(test)]
+mod contracted;
+#[cfg(test)]
 mod counts;
 #[cfg(test)]
 mod cutting;
