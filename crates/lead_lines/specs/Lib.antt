@@ -1,0 +1,3 @@
+-- Lines of vertices that are put over a contour.
+pub mod Ways
+pub mod States
