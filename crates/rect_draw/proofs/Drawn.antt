@@ -1,5 +1,5 @@
 -- The boxes of an order's run at the vertices of its map.
-use Rattle.std.proofs.Common.{◌≡◌, ℕ, ◌+◌, ◌-◌, ◌^◌, ◌<◌, List, length, get_or, All, pos, ap, ◌∙◌, subst, arith}
+use Rattle.std.proofs.Common.{◌≡◌, ℕ, suc, ◌+◌, ◌-◌, ◌^◌, ◌<◌, List, length, get_or, All, pos, ap, ◌∙◌, subst, arith}
 use Rattle.map_lists.specs.Lists.{Lists}
 use Rattle.pg_plane.specs.declared.figure.RectFigure.{RectFigure}
 use Rattle.plane_laws.specs.Completed.{IsCompleted}
@@ -7,6 +7,8 @@ use Rattle.contour_runs.specs.Runs.{Step}
 use Rattle.canon_order.specs.Orders.{IsRankOf}
 use Rattle.order_runs.specs.OrderRuns.{IsOrderRun, OrderIsRun}
 use Rattle.order_tables.specs.Rows.{AreRows}
+use Rattle.rect_runs.specs.Labels.{IsLabelledRun}
+use Rattle.rect_runs.proofs.Steps.{IsLabelledRun-less}
 use Rattle.rect_boxes.specs.Boxes.{boxes}
 use Rattle.rect_boxes.specs.Laws.{BoxesAreDual}
 use Rattle.rect_check.specs.Duals.{HasRects}
@@ -55,6 +57,14 @@ module _ (lists more : Lists) (s d p t : ℕ) (at ranks : List ℕ) (rows : List
 
   many : (length at ≡ length lists) × (length rows + 3 ≡ length at)
   many = let c = order.canonical.count in let e = length-closed lists s d p t h.class in (omega (arith, c, e), h.lower.count)
+
+  -- each of its steps is labelled
+  pub labelled : RectOrderIsRun → IsLabelledRun steps (length rows)
+  labelled law =
+      let m = many in
+      let c = m.1 in
+      let run = law lists s d p t at found.0 h.class order found.1 in
+      IsLabelledRun-less steps (length rows) (suc n) (omega arith) run.run.labelled
 
   module _ (rect_run : RectOrderIsRun) (left right low high : List ℕ) (tables : AreBoxTables (boxes steps (length rows)) (length rows + 3) left right low high) where
     of_map : IsRunOfMap lists at steps

@@ -1,6 +1,7 @@
 //! The boxes of a rectangular run, from its rows.
 ghost use Rattle.std.specs.Prelude.{◌≡◌, ◌<◌, ◌≤◌, ◌+◌, ◌-◌, ◌^◌, if◌then◌else◌, ℕ, List, [], ◌∷◌, ◌++◌, length, slice_index, IfOk};
 ghost use Rattle.contour_runs.specs.Runs.{Step};
+ghost use Rattle.rect_runs.specs.Labels.{IsLabelledRun};
 ghost use Rattle.rect_runs.specs.Numbers.{run_turns};
 ghost use Rattle.rect_boxes.specs.Boxes.{boxes};
 ghost use Rattle.order_tables.specs.Rows.{AreRows};
@@ -118,7 +119,7 @@ pub(crate) fn box_tables(alloc: Global, rows: &Rotations) -> Result<BoxTables, A
     ensures right { IfOk result (λ tables. length tables.right.items ≡ length rows.now + 3) }
     ensures low { IfOk result (λ tables. length tables.low.items ≡ length rows.now + 3) }
     ensures high { IfOk result (λ tables. length tables.high.items ≡ length rows.now + 3) }
-    ensures boxes { IfOk result (λ tables. (steps : ℕ → Step) → AreRows steps rows.now
+    ensures boxes { IfOk result (λ tables. (steps : ℕ → Step) → AreRows steps rows.now → IsLabelledRun steps (length rows.now)
         → AreBoxTables (boxes steps (length rows.now)) (length rows.now + 3) tables.left.items tables.right.items tables.low.items tables.high.items) }
 {
     let turns = row_turns(alloc, rows)?;

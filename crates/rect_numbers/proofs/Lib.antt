@@ -1,5 +1,3 @@
--- Lemmas on numbers in tables.
-pub mod Walks
-pub mod Same
-pub mod Lines
-pub mod States
+-- Lemmas on the lines of a run.
+pub mod Begin
+pub mod Rows

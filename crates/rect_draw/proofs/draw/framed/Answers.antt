@@ -3,7 +3,7 @@ use Rattle.canon_order.specs.Orders.{vertices_of}
 use Rattle.contour_runs.specs.Runs.{Step}
 use Rattle.order_tables.specs.Rows.{AreRows}
 use Rattle.rect_orders.specs.Maps.{closed}
-use Rattle.rect_draw.proofs.Drawn.{HasLowerRows, rows_are, steps, AreSmall, tables_small, drawn_dual}
+use Rattle.rect_draw.proofs.Drawn.{HasLowerRows, rows_are, labelled, steps, AreSmall, tables_small, drawn_dual}
 use Rattle.rect_draw.proofs.draw.framed.Goals as goal
 use Rattle.rect_draw.proofs.draw.framed.Goals.{In_ok-order, In_ok-rows, In_ok-tables}
 
@@ -26,7 +26,7 @@ run c =
 small : (c : In_ok-tables) → HasLowerRows c.args.map.now.lists c.in_ok-more.more.lists c.args.frame.now.left.0 c.args.frame.now.top.0 c.args.frame.now.right.0 c.args.frame.now.bottom.0 (vertices_of c.in_ok-order.order) c.in_ok-order.order.rank c.in_ok-rows.rows → AreSmall (length c.in_ok-order.order.rank) c.in_ok-tables.tables.left.items c.in_ok-tables.tables.right.items c.in_ok-tables.tables.low.items c.in_ok-tables.tables.high.items
 small c h =
     let runs = c.order_is_run.ensures in
-    tables_small c.args.map.now.lists c.in_ok-more.more.lists c.args.frame.now.left.0 c.args.frame.now.top.0 c.args.frame.now.right.0 c.args.frame.now.bottom.0 (vertices_of c.in_ok-order.order) c.in_ok-order.order.rank c.in_ok-rows.rows h runs c.rect_order_is_run.ensures c.in_ok-tables.tables.left.items c.in_ok-tables.tables.right.items c.in_ok-tables.tables.low.items c.in_ok-tables.tables.high.items (c.in_ok-tables.ensures.boxes (steps c.args.map.now.lists c.in_ok-more.more.lists c.args.frame.now.left.0 c.args.frame.now.top.0 c.args.frame.now.right.0 c.args.frame.now.bottom.0 (vertices_of c.in_ok-order.order) c.in_ok-order.order.rank c.in_ok-rows.rows h runs) (rows_are c.args.map.now.lists c.in_ok-more.more.lists c.args.frame.now.left.0 c.args.frame.now.top.0 c.args.frame.now.right.0 c.args.frame.now.bottom.0 (vertices_of c.in_ok-order.order) c.in_ok-order.order.rank c.in_ok-rows.rows h runs)) c.boxes_are_dual.ensures c.facts.ensures.few_vertices
+    tables_small c.args.map.now.lists c.in_ok-more.more.lists c.args.frame.now.left.0 c.args.frame.now.top.0 c.args.frame.now.right.0 c.args.frame.now.bottom.0 (vertices_of c.in_ok-order.order) c.in_ok-order.order.rank c.in_ok-rows.rows h runs c.rect_order_is_run.ensures c.in_ok-tables.tables.left.items c.in_ok-tables.tables.right.items c.in_ok-tables.tables.low.items c.in_ok-tables.tables.high.items (c.in_ok-tables.ensures.boxes (steps c.args.map.now.lists c.in_ok-more.more.lists c.args.frame.now.left.0 c.args.frame.now.top.0 c.args.frame.now.right.0 c.args.frame.now.bottom.0 (vertices_of c.in_ok-order.order) c.in_ok-order.order.rank c.in_ok-rows.rows h runs) (rows_are c.args.map.now.lists c.in_ok-more.more.lists c.args.frame.now.left.0 c.args.frame.now.top.0 c.args.frame.now.right.0 c.args.frame.now.bottom.0 (vertices_of c.in_ok-order.order) c.in_ok-order.order.rank c.in_ok-rows.rows h runs) (labelled c.args.map.now.lists c.in_ok-more.more.lists c.args.frame.now.left.0 c.args.frame.now.top.0 c.args.frame.now.right.0 c.args.frame.now.bottom.0 (vertices_of c.in_ok-order.order) c.in_ok-order.order.rank c.in_ok-rows.rows h runs c.rect_order_is_run.ensures)) c.boxes_are_dual.ensures c.facts.ensures.few_vertices
 
 places : (c : In_ok-order) → All (λ k. k < length c.in_ok-order.order.rank) c.in_ok-order.order.rank
 places c =
@@ -66,4 +66,4 @@ returns-clause-dual c =
     let h = has_rows here.In_ok-rows in
     let runs = c.order_is_run.ensures in
     let e = c.in_ok-figure.ensures in
-    drawn_dual c.args.map.now.lists c.in_ok-more.more.lists c.args.frame.now.left.0 c.args.frame.now.top.0 c.args.frame.now.right.0 c.args.frame.now.bottom.0 (vertices_of c.in_ok-order.order) c.in_ok-order.order.rank c.in_ok-rows.rows h runs c.rect_order_is_run.ensures c.in_ok-tables.tables.left.items c.in_ok-tables.tables.right.items c.in_ok-tables.tables.low.items c.in_ok-tables.tables.high.items (c.in_ok-tables.ensures.boxes (steps c.args.map.now.lists c.in_ok-more.more.lists c.args.frame.now.left.0 c.args.frame.now.top.0 c.args.frame.now.right.0 c.args.frame.now.bottom.0 (vertices_of c.in_ok-order.order) c.in_ok-order.order.rank c.in_ok-rows.rows h runs) (rows_are c.args.map.now.lists c.in_ok-more.more.lists c.args.frame.now.left.0 c.args.frame.now.top.0 c.args.frame.now.right.0 c.args.frame.now.bottom.0 (vertices_of c.in_ok-order.order) c.in_ok-order.order.rank c.in_ok-rows.rows h runs)) (places here.In_ok-order) c.in_ok-figure.figure e.x1 e.x2 e.y1 e.y2 c.boxes_are_dual_of_map.ensures
+    drawn_dual c.args.map.now.lists c.in_ok-more.more.lists c.args.frame.now.left.0 c.args.frame.now.top.0 c.args.frame.now.right.0 c.args.frame.now.bottom.0 (vertices_of c.in_ok-order.order) c.in_ok-order.order.rank c.in_ok-rows.rows h runs c.rect_order_is_run.ensures c.in_ok-tables.tables.left.items c.in_ok-tables.tables.right.items c.in_ok-tables.tables.low.items c.in_ok-tables.tables.high.items (c.in_ok-tables.ensures.boxes (steps c.args.map.now.lists c.in_ok-more.more.lists c.args.frame.now.left.0 c.args.frame.now.top.0 c.args.frame.now.right.0 c.args.frame.now.bottom.0 (vertices_of c.in_ok-order.order) c.in_ok-order.order.rank c.in_ok-rows.rows h runs) (rows_are c.args.map.now.lists c.in_ok-more.more.lists c.args.frame.now.left.0 c.args.frame.now.top.0 c.args.frame.now.right.0 c.args.frame.now.bottom.0 (vertices_of c.in_ok-order.order) c.in_ok-order.order.rank c.in_ok-rows.rows h runs) (labelled c.args.map.now.lists c.in_ok-more.more.lists c.args.frame.now.left.0 c.args.frame.now.top.0 c.args.frame.now.right.0 c.args.frame.now.bottom.0 (vertices_of c.in_ok-order.order) c.in_ok-order.order.rank c.in_ok-rows.rows h runs c.rect_order_is_run.ensures)) (places here.In_ok-order) c.in_ok-figure.figure e.x1 e.x2 e.y1 e.y2 c.boxes_are_dual_of_map.ensures

@@ -30,7 +30,7 @@ with_last-requires c =
     omega (arith, ap length c.deref.ensures.value, t.count_runs, c.run_count-runs.ensures.bound, c.requires.few)
 
 pub returns-clause-boxes : goal.returns-clause-boxes
-returns-clause-boxes c = λ steps h.
+returns-clause-boxes c = λ steps h labelled.
     let rows = c.args.rows.now in
     let t = c.in_ok-turns.ensures steps h in
     let n = c.in_ok-numbers.ensures in
@@ -43,4 +43,4 @@ returns-clause-boxes c = λ steps h.
     let count : c.run_count-runs.result ≡ run_turns steps (length rows) = c.run_count-runs.ensures.count steps c.in_ok-turns.turns.place.items turns ∙ ap (run_turns steps) size in
     AreBoxTables-of steps (length rows) (c.len.result + 1 - c.run_count-runs.result) (c.run_count-runs.result + 2) c.in_ok-numbers.numbers.x.items c.in_ok-numbers.numbers.y.items c.in_ok-sides.sides.right.items c.in_ok-sides.sides.high.items
     c.in_ok-tables.tables.left.items c.in_ok-tables.tables.right.items c.in_ok-tables.tables.low.items c.in_ok-tables.tables.high.items
-    n.count n.count_y s.right s.high (ap (λ z. z + 2) count) (omega (arith, c.len.ensures, low, size)) (n.numbers steps h t) (s.sides steps h t) e.left e.right e.low e.high
+    n.count n.count_y s.right s.high (ap (λ z. z + 2) count) (omega (arith, c.len.ensures, low, size)) (n.numbers steps h t labelled) (s.sides steps h t) e.left e.right e.low e.high
