@@ -72,20 +72,26 @@ module _ (graph : EdgeGraph) (kind : Kind) (branch size : ℕ → ℕ) (way : �
           ]
         ]
 
-  pub mended_or_two : HasWitness graph ⊎ AreTwoBad graph kind size way
-  mended_or_two =
+  -- One step is bad, and the second vertex mends it.
+  pub record IsOneBad (q k : ℕ) : Type 0 where
+    pub path : q < path_count kind
+    pub step : k < size q
+    pub rest : (p i : ℕ) → p < path_count kind → i < size p → ((p ≡ q) × (i ≡ k) → ⊥) → Good (way p i) (way p (suc i))
+    pub to : Good (way q k) o
+    pub from : Good o (way q (suc k))
+
+  pub one_or_two : HasSteps kind size way Good ⊎ (((q : ℕ) × (k : ℕ) × IsOneBad q k) ⊎ AreTwoBad graph kind size way)
+  one_or_two =
       elim first_bad [
-        | inl all ↦ inl (witness-frame graph kind branch size way frame (λ p i l m. all p l i m))
+        | inl all ↦ inl (λ p i l m. all p l i m)
         | inr r ↦
             let q = r.0 in
             let k = r.2.0 in
             elim (other_bad q k r.1 r.2.1 r.2.2) [
               | inl all ↦
                   let both = mended q k r.1 r.2.1 r.2.2 in
-                  inl (witness-frame graph kind branch (size' graph.n kind branch size way frame o q k r.1 r.2.1 off no_branch) (way' graph.n kind branch size way frame o q k r.1 r.2.1 off no_branch)
-                  (inserted graph.n kind branch size way frame o q k r.1 r.2.1 off no_branch)
-                  (steps-inserted graph.n kind branch size way frame o q k r.1 r.2.1 off no_branch Good (λ p i l m n. all p l i m n) both.0 both.1))
-              | inr r' ↦ inr (record {
+                  inr (inl (q, k, record { path = r.1; step = r.2.1; rest = λ p i l m n. all p l i m n; to = both.0; from = both.1 }))
+              | inr r' ↦ inr (inr (record {
                 p = r'.0;
                 i = r'.2.0;
                 q = q;
@@ -93,6 +99,22 @@ module _ (graph : EdgeGraph) (kind : Kind) (branch size : ℕ → ℕ) (way : �
                 one = record { path = r'.1; step = r'.2.1; bad = r'.2.2.1 };
                 other = record { path = r.1; step = r.2.1; bad = r.2.2 };
                 two = r'.2.2.0;
-              })
+              }))
             ]
+      ]
+
+  pub mended_or_two : HasWitness graph ⊎ AreTwoBad graph kind size way
+  mended_or_two =
+      elim one_or_two [
+        | inl all ↦ inl (witness-frame graph kind branch size way frame all)
+        | inr r ↦ elim r [
+          | inr t ↦ inr t
+          | inl one ↦
+              let q = one.0 in
+              let k = one.1 in
+              let b = one.2 in
+              inl (witness-frame graph kind branch (size' graph.n kind branch size way frame o q k b.path b.step off no_branch) (way' graph.n kind branch size way frame o q k b.path b.step off no_branch)
+              (inserted graph.n kind branch size way frame o q k b.path b.step off no_branch)
+              (steps-inserted graph.n kind branch size way frame o q k b.path b.step off no_branch Good b.rest b.to b.from))
+        ]
       ]

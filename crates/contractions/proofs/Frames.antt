@@ -5,7 +5,7 @@ use Rattle.map_lists.specs.declared.ids.VertexId.{VertexId}
 use Rattle.graph6_text.specs.Graphs.{EdgeGraph, has_edge}
 use Rattle.kuratowski.specs.Witnesses.{branch_count, pair_at, vertex_at, path_at, IsWitness}
 use Rattle.kuratowski.specs.declared.witness.Kind.{Kind}
-use Rattle.ring_witness.specs.Traces.{path_count, HasWitness}
+use Rattle.ring_witness.specs.Traces.{path_count, HasWitness, IsTraced}
 use Rattle.ring_witness.proofs.Traces.{traced_witness}
 
 -- what holds of a traced witness but that its steps are edges
@@ -23,19 +23,22 @@ pub record IsFrame (n : ℕ) (kind : Kind) (branch size : ℕ → ℕ) (way : �
 abbrev pub HasSteps : Kind → (ℕ → ℕ) → (ℕ → ℕ → ℕ) → (ℕ → ℕ → Type 0) → Type 0
 HasSteps kind size way P = (p i : ℕ) → p < path_count kind → i < size p → P (way p i) (way p (suc i))
 
+-- a frame along edges is traced
+pub traced-frame : (graph : EdgeGraph) (kind : Kind) (branch size : ℕ → ℕ) (way : ℕ → ℕ → ℕ) → IsFrame graph.n kind branch size way → HasSteps kind size way (λ a b. has_edge graph a b ≡ true) → IsTraced graph kind branch size way
+traced-frame graph kind branch size way f steps = record {
+  vertices = f.vertices;
+  distinct = λ i j l m e. let s = f.distinct i j (omega arith) m e in omega arith;
+  long = f.long;
+  start = f.start;
+  end = f.end;
+  edges = steps;
+  no_branch = f.no_branch;
+  once = f.once;
+  apart = λ p q i j l m pos l' pos' m' e. let s = f.apart p q i j (omega arith) m pos l' pos' m' e in omega arith;
+}
+
 pub witness-frame : (graph : EdgeGraph) (kind : Kind) (branch size : ℕ → ℕ) (way : ℕ → ℕ → ℕ) → IsFrame graph.n kind branch size way → HasSteps kind size way (λ a b. has_edge graph a b ≡ true) → HasWitness graph
-witness-frame graph kind branch size way f steps =
-    traced_witness graph kind branch size way record {
-      vertices = f.vertices;
-      distinct = λ i j l m e. let s = f.distinct i j (omega arith) m e in omega arith;
-      long = f.long;
-      start = f.start;
-      end = f.end;
-      edges = steps;
-      no_branch = f.no_branch;
-      once = f.once;
-      apart = λ p q i j l m pos l' pos' m' e. let s = f.apart p q i j (omega arith) m pos l' pos' m' e in omega arith;
-    }
+witness-frame graph kind branch size way f steps = traced_witness graph kind branch size way (traced-frame graph kind branch size way f steps)
 
 -- numbers changed by an injection
 pub frame-map : (n n' : ℕ) (kind : Kind) (branch size : ℕ → ℕ) (way : ℕ → ℕ → ℕ) (to : ℕ → ℕ) → ((v : ℕ) → v < n → to v < n') → ((u v : ℕ) → to u ≡ to v → u ≡ v) → IsFrame n kind branch size way → IsFrame n' kind (λ j. to (branch j)) size (λ p i. to (way p i))
@@ -85,7 +88,7 @@ frame-witness graph kind branch paths w =
         ]
 
 -- x and y exchanged
-pub exchanged : ℕ → ℕ → ℕ → ℕ
+unfoldable pub exchanged : ℕ → ℕ → ℕ → ℕ
 exchanged x y v = cond (eqb v x) y (cond (eqb v y) x v)
 
 pub exchanged-first : (x y v : ℕ) → v ≡ x → exchanged x y v ≡ y

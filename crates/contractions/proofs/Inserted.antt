@@ -7,14 +7,14 @@ use Rattle.ring_witness.specs.Traces.{path_count}
 use Rattle.contractions.proofs.Frames.{IsFrame, HasSteps}
 
 module _ (n : ℕ) (kind : Kind) (branch size : ℕ → ℕ) (way : ℕ → ℕ → ℕ) (frame : IsFrame n kind branch size way) (o q k : ℕ) (in_q : q < path_count kind) (in_k : k < size q) (off : (p i : ℕ) → p < path_count kind → i ≤ size p → way p i ≢ o) (no_branch : (j : ℕ) → j < branch_count kind → branch j ≢ o) where
-  pub size' : ℕ → ℕ
+  unfoldable pub size' : ℕ → ℕ
   size' p = cond (eqb p q) (suc (size p)) (size p)
 
   -- the path that gets the vertex
-  longer : ℕ → ℕ
+  unfoldable pub longer : ℕ → ℕ
   longer i = cond (ltb k i) (cond (eqb i (suc k)) o (way q (i - 1))) (way q i)
 
-  pub way' : ℕ → ℕ → ℕ
+  unfoldable pub way' : ℕ → ℕ → ℕ
   way' p i = cond (eqb p q) (longer i) (way p i)
 
   size_here : size' q ≡ suc (size q)

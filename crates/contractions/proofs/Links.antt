@@ -7,7 +7,7 @@ use Rattle.ring_witness.proofs.Numbers.{each_of_one, each_of_two, each_of_three,
 use Rattle.contractions.proofs.Frames.{IsFrame, HasSteps}
 
 -- the number of the path between a and b, of which a is the lesser
-pub number : ℕ → ℕ → ℕ
+unfoldable pub number : ℕ → ℕ → ℕ
 number zero b = b - 1
 number (suc zero) b = b + 2
 number (suc (suc zero)) b = b + 4
@@ -31,7 +31,7 @@ number-pair =
     each_of_ten (λ p. (number (pair_at K5 p).0 (pair_at K5 p).1 ≡ p) × ((pair_at K5 p).0 < (pair_at K5 p).1)) (refl, omega arith) (refl, omega arith) (refl, omega arith) (refl, omega arith) (refl, omega arith) (refl, omega arith) (refl, omega arith) (refl, omega arith) (refl, omega arith) (refl, omega arith)
 
 -- the number of the path between two branches
-pub link_number : ℕ → ℕ → ℕ
+unfoldable pub link_number : ℕ → ℕ → ℕ
 link_number a b = cond (ltb a b) (number a b) (number b a)
 
 pub link_number-up : (a b : ℕ) → a < b → link_number a b ≡ number a b
@@ -76,11 +76,11 @@ link_pair a b c d la lb ab lc ld cd e =
     ]
 
 module _ (n : ℕ) (branch size : ℕ → ℕ) (way : ℕ → ℕ → ℕ) (frame : IsFrame n K5 branch size way) where
-  pub link_size : ℕ → ℕ → ℕ
+  unfoldable pub link_size : ℕ → ℕ → ℕ
   link_size a b = size (link_number a b)
 
   -- place i of the path from a to b
-  pub link : ℕ → ℕ → ℕ → ℕ
+  unfoldable pub link : ℕ → ℕ → ℕ → ℕ
   link a b i = cond (ltb a b) (way (link_number a b) i) (way (link_number a b) (size (link_number a b) - i))
 
   pub link-up : (a b i : ℕ) → a < b → link a b i ≡ way (link_number a b) i

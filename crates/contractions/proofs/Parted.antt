@@ -12,7 +12,7 @@ use Rattle.contractions.proofs.BadSteps.{StepsAt}
 use Rattle.contractions.proofs.Links.{link_number, link_ends, link-place, link, link_size, link-long, link-start, link-end, link-no_branch, link-once, link-steps, link-back, link-apart}
 
 -- the names of the two ends of each path of K3,3 but the first, which is the edge: 0 is x, 1 and 2 are on its side, 3 and 4 are not
-from_name : ℕ → ℕ
+unfoldable pub from_name : ℕ → ℕ
 from_name zero = 0
 from_name (suc zero) = 0
 from_name (suc (suc zero)) = 0
@@ -21,7 +21,7 @@ from_name (suc (suc (suc (suc zero)))) = 3
 from_name (suc (suc (suc (suc (suc zero))))) = 3
 from_name (suc (suc (suc (suc (suc (suc p)))))) = 4
 
-to_name : ℕ → ℕ
+unfoldable pub to_name : ℕ → ℕ
 to_name zero = 1
 to_name (suc zero) = 1
 to_name (suc (suc zero)) = 2
@@ -62,7 +62,7 @@ named =
     (record { first = omega arith; second = omega arith; side = inr (omega arith); two = λ e. omega arith; again = λ l. refl })
 
 -- the paths that end at y in place of x
-ends_at_x : ℕ → Bool
+unfoldable pub ends_at_x : ℕ → Bool
 ends_at_x p = eqb (to_name p) 0
 
 ends_true : (p : ℕ) → to_name p ≡ 0 → ends_at_x p ≡ true
@@ -74,7 +74,7 @@ unfolding ends_at_x
 ends_false p n = ne_eqb (to_name p) 0 n
 
 -- the names of the branches of K3,3, with 5 for y
-branch_name : ℕ → ℕ
+unfoldable pub branch_name : ℕ → ℕ
 branch_name zero = 0
 branch_name (suc zero) = 3
 branch_name (suc (suc zero)) = 4
@@ -115,7 +115,7 @@ module _ (graph : EdgeGraph) (branch size : ℕ → ℕ) (way : ℕ → ℕ → 
     ne : name (from_name p) ≢ name (to_name p)
     ne e = (named p l).two (names_apart (from_name p) (to_name p) (named p l).first (let s = (named p l).second in omega arith) e)
 
-  hidden : Bool → ℕ → ℕ
+  unfoldable pub hidden : Bool → ℕ → ℕ
   hidden h v = cond (h && eqb v x) y v
 
   hidden_not : (h : Bool) (v : ℕ) → v ≢ x → hidden h v ≡ v
@@ -134,16 +134,16 @@ module _ (graph : EdgeGraph) (branch size : ℕ → ℕ) (way : ℕ → ℕ → 
   unfolding hidden
   hidden_x v e = cond-true (eqb v x) y v (eq-eqb v x e)
 
-  size33 : ℕ → ℕ
+  unfoldable pub size33 : ℕ → ℕ
   size33 zero = 1
   size33 (suc p) = S (from_name (suc p)) (to_name (suc p))
 
-  way33 : ℕ → ℕ → ℕ
+  unfoldable pub way33 : ℕ → ℕ → ℕ
   way33 zero zero = x
   way33 zero (suc i) = y
   way33 (suc p) i = hidden (ends_at_x (suc p)) (L (from_name (suc p)) (to_name (suc p)) i)
 
-  vertex_named : ℕ → ℕ
+  unfoldable pub vertex_named : ℕ → ℕ
   vertex_named k = cond (eqb k 5) y (branch (name k))
 
   vertex_named-y : vertex_named 5 ≡ y
@@ -154,7 +154,7 @@ module _ (graph : EdgeGraph) (branch size : ℕ → ℕ) (way : ℕ → ℕ → 
   unfolding vertex_named
   vertex_named-else k n = cond-false (eqb k 5) y (branch (name k)) (ne_eqb k 5 n)
 
-  branch33 : ℕ → ℕ
+  unfoldable pub branch33 : ℕ → ℕ
   branch33 j = vertex_named (branch_name j)
 
   -- a branch of K5 that is not x
@@ -271,7 +271,7 @@ module _ (graph : EdgeGraph) (branch size : ℕ → ℕ) (way : ℕ → ℕ → 
             ])
       ]
 
-  frame33 : IsFrame graph.n K33 branch33 size33 way33
+  pub frame33 : IsFrame graph.n K33 branch33 size33 way33
   unfolding branch33 size33 way33
   frame33 = record {
     vertices = λ j l. vertices_in (branch_name j) (named_again j l).1;
@@ -346,7 +346,7 @@ module _ (graph : EdgeGraph) (branch size : ℕ → ℕ) (way : ℕ → ℕ → 
           | inl q ↦ λ e. branch_not_x (to_name p) (let s = (named p l).second in omega arith) n (sym (link_last p l) ∙ (ap (L (from_name p) (to_name p)) (sym q) ∙ e))
         ]
 
-    edges33 : (p i : ℕ) → p < 9 → i < size33 p → E (way33 p i) (way33 p (suc i))
+    pub edges33 : (p i : ℕ) → p < 9 → i < size33 p → E (way33 p i) (way33 p (suc i))
     unfolding size33 way33
     edges33 zero zero l m = hub
     edges33 zero (suc i) l m = absurd (omega arith)

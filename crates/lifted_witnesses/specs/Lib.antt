@@ -1,0 +1,2 @@
+-- Witnesses changed.
+pub mod Changes

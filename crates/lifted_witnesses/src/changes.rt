@@ -1,0 +1,34 @@
+//! What a witness is changed into.
+
+/// A vertex put into a path: one of the ends `a` and `b` of an edge.
+#[derive(Clone, Copy)]
+pub(crate) struct Mending {
+    /// Whether the two ends are exchanged first; then `a` is put in, and else `b`.
+    pub exchange: bool,
+    /// The one end.
+    pub a: u16,
+    /// The other end.
+    pub b: u16,
+    /// The number of the path; past the last one nothing is put in.
+    pub path: usize,
+    /// The place behind which it is put in.
+    pub place: usize,
+}
+
+/// K5 parted into K3,3.
+#[derive(Clone, Copy)]
+pub(crate) struct Parting {
+    /// The branch that is parted.
+    pub a: u16,
+    /// The vertex that takes its place in two of the four paths.
+    pub b: u16,
+    /// The five branches in another order, as digits: the one that is parted, two whose paths stay at it, and two
+    /// whose paths end at the other vertex.
+    pub order: u32,
+}
+
+#[derive(Clone, Copy)]
+pub(crate) enum Change {
+    Mended(Mending),
+    Parted(Parting),
+}
