@@ -17,6 +17,8 @@ mod graphs;
 #[cfg(test)]
 mod items;
 #[cfg(test)]
+mod lifted;
+#[cfg(test)]
 mod made;
 #[cfg(test)]
 mod maps;
