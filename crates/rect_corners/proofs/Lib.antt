@@ -1,0 +1,2 @@
+-- Lemmas on corners of a map.
+pub mod Corners

@@ -1,0 +1,2 @@
+-- Corners of a map with a rectangular order.
+pub mod Corners
