@@ -1,17 +1,15 @@
 -- A step more, when the pieces of its row are written.
 use Rattle.std.proofs.Common.{◌≡◌, ℕ, suc, ◌+◌, ◌-◌, ◌<◌, ◌≤◌, eqb, leb, ltb, List, length, get_or, All, sym, ap, ◌∙◌, subst, inl, inr, arith, lt-ltb, eq-eqb}
 use Rattle.std.proofs.lemmas.Bool.{cases_Bool, cond-true, cond-false, and_from, and_parts, ltb-true, eqb-true, leb-true, le-leb}
-use Rattle.std.proofs.lemmas.List.{get_or_default}
 use Rattle.map_lists.specs.Lists.{Lists}
 use Rattle.map_definitions.specs.Maps.{list_of}
 use Rattle.contour_runs.specs.Runs.{Step, Stage, stage_after, IsStep}
 use Rattle.contour_runs.specs.Laws.{IsStage}
 use Rattle.contour_runs.proofs.Stages.{IsStage-run, IsRun-less, count-stage_after}
-use Rattle.rect_runs.specs.Labels.{labels}
 use Rattle.rect_runs.specs.Numbers.{turn_of}
-use Rattle.rect_runs.proofs.Edges.{IsFirstRun-first_run}
 use Rattle.rect_boxes.specs.Boxes.{stands_between, side_after, rights, highs}
 use Rattle.order_tables.specs.Rows.{IsRow, AreRows}
+use Rattle.rect_turns.proofs.Turns.{turn_within}
 use Rattle.rect_sides.specs.Sides.{IsWritten, AreSides}
 
 -- a side after a step, where the vertex stands between two places and where it does not
@@ -47,24 +45,6 @@ module _ (steps : ℕ → Step) (rows : Lists) (h : AreRows steps rows) (k : ℕ
   is_row : IsRow g (steps k) row
   is_row = h.row k l
 
-  pub row_within : (m : ℕ) → length rows + 2 ≡ m → All (λ u. u < m) row
-  row_within m size = λ i d b.
-      let e = is_row.each i b in
-      let q = get_or_default row i 0 d b in
-      let c = is_row.count in
-      let w = step.within in
-      let p = sound.placed ((steps k).first + i) (omega arith) in
-      omega (arith, count-stage_after steps k)
-
-  -- a turn is no place behind the last but one
-  pub turn_within : (c : ℕ) → (steps k).first + c ≡ turn_of steps k → c + 2 ≤ length row
-  turn_within c e =
-      let f = IsFirstRun-first_run (labels steps k) (steps k).first ((steps k).last - suc (steps k).first) in
-      let hi = f.high in
-      let o = step.order in
-      let n = is_row.count in
-      omega arith
-
   -- a piece that is written: the sides after the step
   written_side : (old new : List ℕ) (from to i j side : ℕ) (f : ℕ → ℕ) → IsWritten old new row from to side → (steps k).first + from ≡ i → (steps k).first + to ≡ suc j → to ≤ length row → (v : ℕ) → get_or old v 0 ≡ f v → get_or new v 0 ≡ side_after g i j side f v
   written_side old new from to i j side f w e e' short v same =
@@ -90,7 +70,7 @@ module _ (steps : ℕ → Step) (rows : Lists) (h : AreRows steps rows) (k : ℕ
 
   pub AreSides-more : (x y : ℕ → ℕ) (width ceiling : ℕ) (m : ℕ) (right high right' high' : List ℕ) (c a b : ℕ) → (steps k).first + c ≡ turn_of steps k → a ≡ x (k + 2) → b ≡ y (k + 2) → IsWritten right right' row 0 (c + 1) a → IsWritten high high' row (c + 1) (length row) b → AreSides steps k m x y width ceiling right high → AreSides steps (suc k) m x y width ceiling right' high'
   AreSides-more x y width ceiling m right high right' high' c a b turn ea eb one two t =
-      let w = turn_within c turn in
+      let w = turn_within steps rows h k l c turn in
       let n = is_row.count in
       record {
         rights_are = λ v o.

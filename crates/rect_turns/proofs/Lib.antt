@@ -1,2 +1,2 @@
 -- Lemmas on turns.
-mod Turns
+pub mod Turns

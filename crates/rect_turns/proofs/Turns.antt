@@ -68,6 +68,15 @@ module _ (steps : ℕ → Step) (rows : Lists) (h : AreRows steps rows) (k : ℕ
       let p = sound.placed ((steps k).first + i) (omega arith) in
       omega (arith, count-stage_after steps k)
 
+  -- a turn is no place behind the last but one
+  pub turn_within : (c : ℕ) → (steps k).first + c ≡ turn_of steps k → c + 2 ≤ length row
+  turn_within c e =
+      let f = IsFirstRun-first_run (labels steps k) (steps k).first ((steps k).last - suc (steps k).first) in
+      let hi = f.high in
+      let o = step.order in
+      let n = is_row.count in
+      omega arith
+
   module _ (runs : List Bool) (places : List ℕ) (at_runs : List Bool) (t : IsTurned steps k runs places at_runs) (c : ℕ) (turn : IsTurnIn row runs c) where
     -- what is behind a vertex of the row
     label_at : (j : ℕ) → j + 2 ≤ length row → is_set runs (get_or row j 0) ≡ labels steps k ((steps k).first + j)

@@ -5,14 +5,15 @@ use Rattle.rect_runs.specs.Numbers.{numbers, rise_turns}
 use Rattle.line_lists.specs.Lines.{AreLines}
 use Rattle.lead_lines.specs.States.{IsLeftState}
 use Rattle.order_tables.specs.Rows.{IsRow}
+use Rattle.rect_turns.proofs.Turns.{row_within, turn_within}
 use Rattle.rect_numbers.proofs.Begin.{IsLeftState-begin}
-use Rattle.rect_numbers.proofs.Rows.{is_row, row_within, turn_within, rises_more}
+use Rattle.rect_numbers.proofs.Rows.{rises_more}
 use Rattle.rect_numbers.proofs.left_lines.Goals as goal
 
 pub step_left-requires-clause-row : goal.step_left-requires-clause-row
 step_left-requires-clause-row c =
     let l : c.loop-k.k < length c.args.rows.now = (let t = c.loop-k-test.true in let e = c.len-k-end.ensures in omega arith) in
-    subst (λ (us : List ℕ). All (λ u. u < length c.loop-k.lines) us) (sym c.list-row.ensures) (row_within c.requires.run.0 c.args.rows.now c.requires.run.1 c.loop-k.k l (length c.loop-k.lines) (sym c.loop-k.invariant.size))
+    subst (λ (us : List ℕ). All (λ u. u < length c.loop-k.lines) us) (sym c.list-row.ensures) (λ i d m. let size = c.loop-k.invariant.size in let w = row_within c.requires.run.0 c.args.rows.now c.requires.run.1 c.loop-k.k l i d m in omega arith)
 
 pub step_left-requires-clause-turn : goal.step_left-requires-clause-turn
 step_left-requires-clause-turn c =
@@ -51,7 +52,7 @@ loop-k-preserved c =
       few = let f = h.few in let b = c.more_if-count.ensures.bound in omega arith;
       state = λ steps a t lab.
           let st = h.state steps a t lab in
-          let r = subst (λ (us : List ℕ). IsRow (stage_after steps k) (steps k) us) (sym c.list-row.ensures) (is_row steps rows a k l) in
+          let r = subst (λ (us : List ℕ). IsRow (stage_after steps k) (steps k) us) (sym c.list-row.ensures) (a.row k l) in
           subst (λ (z : ℕ). IsLeftState steps (length rows) z c.step_left.new.lines c.step_left.new.next c.step_left.new.before c.step_left.new.leads × (c.more_if-count.result ≡ suc (rise_turns steps z))) next
           (c.step_left.ensures.state steps (length rows) k lab l r (t.place k l) (t.run k l) refl st.0, rises_more steps k (get_or c.args.at_runs.now k _) c.loop-k.count c.more_if-count.result (t.run k l) st.1 c.more_if-count.ensures.value);
     }

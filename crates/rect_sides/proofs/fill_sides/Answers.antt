@@ -1,7 +1,8 @@
 use Rattle.std.proofs.Common.{◌≡◌, ◌<◌, ◌≤◌, ◌+◌, ℕ, suc, List, length, slice_index, All, subst, sym, ◌∙◌, arith, refl}
 use Rattle.map_definitions.specs.Maps.{list_of}
 use Rattle.rect_sides.specs.Sides.{IsWritten, AreSides}
-use Rattle.rect_sides.proofs.Sides.{row_within, turn_within, AreSides-more}
+use Rattle.rect_turns.proofs.Turns.{row_within, turn_within}
+use Rattle.rect_sides.proofs.Sides.{AreSides-more}
 use Rattle.rect_sides.proofs.fill_sides.Goals as goal
 
 pub put_sides-requires-clause-turn : goal.put_sides-requires-clause-turn
@@ -13,12 +14,12 @@ put_sides-requires-clause-turn c =
 pub put_sides-requires-clause-within : goal.put_sides-requires-clause-within
 put_sides-requires-clause-within c =
     let l : c.loop-k.k < length c.args.rows.now = (let t = c.loop-k-test.true in let e = c.len-k-end.ensures in omega arith) in
-    subst (λ (us : List ℕ). All (λ u. u < length c.loop-k.right) us) (sym c.list-row.ensures) (row_within c.requires.run.0 c.args.rows.now c.requires.run.1 c.loop-k.k l (length c.loop-k.right) (sym c.loop-k.invariant.right_size))
+    subst (λ (us : List ℕ). All (λ u. u < length c.loop-k.right) us) (sym c.list-row.ensures) (λ i d m. let size = c.loop-k.invariant.right_size in let w = row_within c.requires.run.0 c.args.rows.now c.requires.run.1 c.loop-k.k l i d m in omega arith)
 
 pub put_sides-requires-clause-within_high : goal.put_sides-requires-clause-within_high
 put_sides-requires-clause-within_high c =
     let l : c.loop-k.k < length c.args.rows.now = (let t = c.loop-k-test.true in let e = c.len-k-end.ensures in omega arith) in
-    subst (λ (us : List ℕ). All (λ u. u < length c.loop-k.high) us) (sym c.list-row.ensures) (row_within c.requires.run.0 c.args.rows.now c.requires.run.1 c.loop-k.k l (length c.loop-k.high) (sym c.loop-k.invariant.high_size))
+    subst (λ (us : List ℕ). All (λ u. u < length c.loop-k.high) us) (sym c.list-row.ensures) (λ i d m. let size = c.loop-k.invariant.high_size in let w = row_within c.requires.run.0 c.args.rows.now c.requires.run.1 c.loop-k.k l i d m in omega arith)
 
 pub loop-k-init : goal.loop-k-init
 loop-k-init c = record {
