@@ -1,0 +1,2 @@
+-- Lemmas on the edges of lists as bits.
+pub mod MarkLemmas

@@ -1,0 +1,137 @@
+-- Edges as bits, set one by one, and what follows where they are those of a graph.
+use Rattle.std.proofs.Common.{◌≡◌, ◌⊎◌, ℕ, ◌+◌, ◌/◌, ◌<◌, ◌≤◌, ◌==◌, ◌||◌, Bool, true, false, true≢false, List, [], ◌∷◌, ◌++◌, length, replicate, Contains, refl, sym, ap, ◌∙◌, subst, inl, inr, arith, eqb-true, eq-eqb}
+use Rattle.std.specs.List.{list_any}
+use Rattle.std.proofs.lemmas.Bool.{cases_eq, cases_lt, or_cases}
+use Rattle.std.proofs.lemmas.List.Elements.{Contains-append_left, Contains-append_right, Contains-append_cases}
+use Rattle.map_lists.specs.Lists.{Lists}
+use Rattle.map_definitions.specs.Maps.{HasDart, IsSimpleMap, list_of}
+use Rattle.graph6_text.specs.Graphs.{EdgeGraph, AreEdges, joins, has_edge}
+use Rattle.graph6_text.specs.Lines.{pair_place, body_length, is_set, IsLine, IsLineByte, count_form, edges_of}
+use Rattle.graph6_text.proofs.BitLemmas.{one_pair, pair_place-lt, body_length-bounds}
+use Rattle.graph6_text.proofs.PairLemmas.{Contains-first, Contains-cases, Contains-none}
+use Rattle.graph6_text.proofs.EdgeLemmas.{AreMarked-begin, AreEdges-edges_of, joined_as_bit, joined_is, has_edge-turned}
+use Rattle.expanded_edges.specs.Expanded.{HasJustEdges}
+use Rattle.embed_graph.specs.Marks.{AreBytes, Adds, Marks}
+
+or_left : (a b : Bool) → a ≡ true → (a || b) ≡ true
+or_left true b e = refl
+or_left false b e = absurd (true≢false (sym e))
+
+or_right : (a b : Bool) → b ≡ true → (a || b) ≡ true
+or_right true b e = refl
+or_right false b e = e
+
+-- the byte of a pair
+pub place_within : (n u v : ℕ) (body : List ℕ) → AreBytes n body → u < v → v < n → pair_place u v / 6 < length body
+place_within n u v body bytes l m =
+    let place = pair_place-lt u v n l m in
+    let bounds = body_length-bounds n in
+    let long = bytes.long in
+    omega arith
+
+-- ---- the bits of one vertex
+pub Adds-nil : (v : ℕ) (body : List ℕ) → Adds v [] body body
+Adds-nil v body = record { kept = λ p h. h; from = λ p h. inl h; all = λ u l c. absurd (Contains-none u c) }
+
+pub Adds-none : (u v : ℕ) (body : List ℕ) → v ≤ u → Adds v (u ∷ []) body body
+Adds-none u v body past = record {
+  kept = λ p h. h;
+  from = λ p h. inl h;
+  all = λ w l c. elim (Contains-cases u [] w c) [ inl e ↦ absurd (omega (arith, e, l, past)) | inr d ↦ absurd (Contains-none w d) ];
+}
+
+pub Adds-one : (u v : ℕ) (old new : List ℕ) → u < v → ((p : ℕ) → is_set new p ≡ (is_set old p || (p == pair_place u v))) → Adds v (u ∷ []) old new
+Adds-one u v old new less bits = record {
+  kept = λ p h. bits p ∙ or_left (is_set old p) (p == pair_place u v) h;
+  from = λ p h. elim (or_cases (is_set old p) (p == pair_place u v) (sym (bits p) ∙ h)) [
+    | inl o ↦ inl o
+    | inr e ↦ inr (u, less, Contains-first u [], sym (eqb-true p (pair_place u v) e))
+  ];
+  all = λ w l c. elim (Contains-cases u [] w c) [
+    | inl e ↦
+        let here = bits (pair_place w v) in
+        let same = ap (λ x. pair_place x v) (sym e) in
+        here ∙ or_right (is_set old (pair_place w v)) (pair_place w v == pair_place u v) (eq-eqb (pair_place w v) (pair_place u v) same)
+    | inr d ↦ absurd (Contains-none w d)
+  ];
+}
+
+pub Adds-more : (v : ℕ) (list : List ℕ) (u : ℕ) (old mid new : List ℕ) → Adds v list old mid → Adds v (u ∷ []) mid new → Adds v (list ++ u ∷ []) old new
+Adds-more v list u old mid new a b = record {
+  kept = λ p h. b.kept p (a.kept p h);
+  from = λ p h. elim (b.from p h) [
+    | inl m ↦ elim (a.from p m) [ inl o ↦ inl o | inr w ↦ inr (w.0, w.1, Contains-append_left list (u ∷ []) w.0 w.2, w.3) ]
+    | inr w ↦ inr (w.0, w.1, Contains-append_right list (u ∷ []) w.0 w.2, w.3)
+  ];
+  all = λ x l c. elim (Contains-append_cases list (u ∷ []) x c) [ inl d ↦ b.kept (pair_place x v) (a.all x l d) | inr d ↦ b.all x l d ];
+}
+
+-- ---- the bits of all vertices
+pub AreBytes-none : (n : ℕ) → AreBytes n (replicate (body_length n) 63)
+AreBytes-none n = let h = AreMarked-begin n [] in record { long = h.long; bytes = h.bytes }
+
+pub Marks-none : (lists : Lists) (n : ℕ) → Marks lists 0 (replicate (body_length n) 63)
+Marks-none lists n = record {
+  from = λ p h. absurd (true≢false (sym h ∙ (AreMarked-begin n []).bits p));
+  all = λ u v l m d. absurd (omega (arith, m));
+}
+
+pub Marks-more : (lists : Lists) (v : ℕ) (old new : List ℕ) → v < length lists → Marks lists v old → Adds v (list_of lists v) old new → Marks lists (v + 1) new
+Marks-more lists v old new within marks adds = record {
+  from = λ p h. elim (adds.from p h) [
+    | inl o ↦ let w = marks.from p o in (w.0, w.1, w.2, omega (arith, w.3), w.4, w.5)
+    | inr w ↦ (w.0, v, w.1, omega arith, (within, w.2), w.3)
+  ];
+  all = λ u x l m d. elim (cases_eq x v) [
+    | inl e ↦
+        subst (λ (y : ℕ). is_set new (pair_place u y) ≡ true) (sym e) (adds.all u (omega (arith, l, e)) (subst (λ (y : ℕ). Contains (list_of lists y) u) e d.1))
+    | inr ne ↦ adds.kept (pair_place u x) (marks.all u x l (omega (arith, m, ne)) d)
+  ];
+}
+
+-- ---- the same bits as a graph has
+module _ (graph : EdgeGraph) (lists : Lists) (body : List ℕ) (simple : IsSimpleMap lists) (vertices : length lists ≡ graph.n) (edges : graph.edges ≡ edges_of graph.n body) (marks : Marks lists graph.n body) where
+  as_bit : (u v : ℕ) → u < v → v < graph.n → has_edge graph u v ≡ is_set body (pair_place u v)
+  as_bit u v l m = ap (λ es. list_any (joins u v) es) edges ∙ joined_as_bit graph.n body u v l m
+
+  are_edges : AreEdges graph.n graph.edges
+  are_edges = subst (AreEdges graph.n) (sym edges) (AreEdges-edges_of graph.n body)
+
+  up : (u v : ℕ) → u < v → HasDart lists v u → has_edge graph u v ≡ true
+  up u v l d =
+      let m : v < graph.n = omega (arith, d.0, vertices) in
+      as_bit u v l m ∙ marks.all u v l m d
+
+  there : (u v : ℕ) → HasDart lists u v → has_edge graph u v ≡ true
+  there u v d = elim (cases_lt u v) [
+    | inl l ↦ up u v l (simple.both_ways u v d)
+    | inr l ↦
+        let ne = simple.no_loop u v d in
+        has_edge-turned graph u v ∙ up v u (omega (arith, l, ne)) d
+  ]
+
+  down : (u v : ℕ) → u ≤ v → has_edge graph u v ≡ true → HasDart lists v u
+  down u v l h =
+      let c = joined_is graph.n u v graph.edges are_edges l h in
+      let w = marks.from (pair_place u v) (sym (as_bit u v c.1 c.2) ∙ h) in
+      let q = one_pair w.0 w.1 u v w.2 c.1 w.5 in
+      subst (λ (x : ℕ). HasDart lists v x) q.0 (subst (λ (y : ℕ). HasDart lists y w.0) q.1 w.4)
+
+  every : (u v : ℕ) → has_edge graph u v ≡ true → HasDart lists u v
+  every u v h = elim (cases_lt u v) [
+    | inl l ↦ simple.both_ways v u (down u v (omega (arith, l)) h)
+    | inr l ↦ down v u l (has_edge-turned graph v u ∙ h)
+  ]
+
+  pub has_just_edges : HasJustEdges lists graph
+  has_just_edges = record { vertices = vertices; there = there; all = every }
+
+-- what stands behind the number of vertices in a line is the bits
+pub length_of_bits : (graph : EdgeGraph) (line bits : List ℕ) → IsLine line graph → ((b : List ℕ) → line ≡ count_form graph.n ++ b → bits ≡ b) → length bits ≡ body_length graph.n
+length_of_bits graph line bits is bits_are = ap length (bits_are is.body is.front) ∙ is.is_body.long
+
+-- so lists with the same bits have just the edges of the graph of a line
+pub edges_of_line : (graph : EdgeGraph) (lists : Lists) (line bits body : List ℕ) → IsSimpleMap lists → length lists ≡ graph.n → IsLine line graph → ((b : List ℕ) → line ≡ count_form graph.n ++ b → bits ≡ b) → body ≡ bits → Marks lists graph.n body → HasJustEdges lists graph
+edges_of_line graph lists line bits body simple vertices is bits_are same marks =
+    let here = same ∙ bits_are is.body is.front in
+    has_just_edges graph lists body simple vertices (is.edges ∙ ap (edges_of graph.n) (sym here)) marks

@@ -1,0 +1,2 @@
+-- Which edges lists have, as bits.
+pub mod Marks

@@ -1,0 +1,2 @@
+-- Answers to the question whether a graph is planar.
+pub mod Embeddings
