@@ -1,0 +1,2 @@
+-- What the job `embed` answers to a graph.
+pub mod Figures
