@@ -1,0 +1,2 @@
+-- Figures of graphs.
+mod Figured

@@ -1,0 +1,2 @@
+-- Which graphs are drawn.
+pub mod Laws
