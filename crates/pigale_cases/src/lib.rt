@@ -9,6 +9,8 @@ mod arriving;
 #[cfg(test)]
 mod drawn;
 #[cfg(test)]
+mod embedded;
+#[cfg(test)]
 mod failing;
 #[cfg(test)]
 mod made;

@@ -1,5 +1,6 @@
 -- The text of a run, on worked cases. Each is a computation: the two sides come to the same value.
 use Rattle.std.specs.Prelude.{pos, ◌-◌, ◌≡◌, [], ◌∷◌, ◌++◌, map, codes, refl, Some, None}
+use Rattle.std.proofs.Common.{arith, inr}
 use Rattle.label_classes.specs.Classes.{merge}
 use Rattle.std.specs.Fmt.{digits}
 use Rattle.map_lists.specs.Lists.{Lists}
@@ -7,14 +8,16 @@ use Rattle.map_definitions.specs.Maps.{entry_after, face_count, component_count}
 use Rattle.simple_maps.specs.Faults.{first_fault}
 use Rattle.clap.proofs.OnLiterals.{clap_on_literals}
 use Rattle.pigale_shell.specs.Words.{given, job_of}
-use Rattle.pigale_shell.specs.declared.job.Job.TheVariants.{Count, Shift, Gen, Verify}
+use Rattle.pigale_shell.specs.declared.job.Job.TheVariants.{Count, Shift, Gen, Verify, Embed}
 use Rattle.pigale_shell.specs.Numbers.{number_in}
 use Rattle.pigale_shell.specs.Made.{sums_line}
 use Rattle.pigale_shell.specs.declared.form.Form.TheVariants as forms
 use Rattle.pigale_shell.specs.Forms.{commented, line_in}
 use Rattle.figure_lines.specs.declared.ending.Ending.TheVariants.{BadLine}
 use Rattle.pigale_shell.specs.Verify.{verdict_line, verify_last_line}
-use Rattle.pigale_shell.specs.Text.{count_block, counts_line, refused_line, end_line}
+use Rattle.graph_lines.specs.declared.ending.Ending.TheVariants.{Limit}
+use Rattle.pigale_shell.specs.EmbedText.{IsEmbedBlock, embed_last_line}
+use Rattle.pigale_shell.specs.Text.{count_block, counts_line, refused_line, refusal_line, end_line}
 
 -- lists with vertices numbered from 1, as they are printed
 abbrev from_one : Lists → Lists
@@ -151,3 +154,17 @@ verify_alone = refl
 verify_with_form : job_of (codes "verify" ∷ codes "--form=text" ∷ []) ≡ None
 unfolding given clap_on_literals
 verify_with_form = refl
+
+-- the words of `embed`, its refusal, and a last line
+
+embed_as_pictures : job_of (codes "embed" ∷ codes "--form=svg" ∷ []) ≡ Some (Embed forms.Svg)
+unfolding given clap_on_literals
+embed_as_pictures = refl
+
+one_vertex_refused : IsEmbedBlock forms.Text 1 (record { n = 1; edges = [] }) (codes "refused 1 5 Small 1" ++ 10 ∷ [])
+unfolding refusal_line digits
+one_vertex_refused = inr (record { few = omega arith; text_is = refl })
+
+last_line_of_limit : embed_last_line 1 0 (Limit 2) ≡ codes "stop Limit 2" ++ 10 ∷ []
+unfolding embed_last_line digits
+last_line_of_limit = refl

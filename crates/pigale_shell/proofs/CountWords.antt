@@ -20,7 +20,7 @@ use Rattle.pigale_shell.specs.Words.{IsCountWords, Given, command, given, given_
 use Rattle.pigale_shell.specs.declared.form.Form.{Form}
 use Rattle.pigale_shell.specs.declared.form.Form.TheVariants as forms
 use Rattle.pigale_shell.specs.declared.job.Job.{Job}
-use Rattle.pigale_shell.specs.declared.job.Job.TheVariants.{Count, Shift, Schnyder, Bars, Convex, Rect, Gen, Verify}
+use Rattle.pigale_shell.specs.declared.job.Job.TheVariants.{Count, Shift, Schnyder, Bars, Convex, Rect, Gen, Verify, Embed}
 
 -- ---- lists of kinds
 
@@ -341,18 +341,20 @@ is_count (Some (Convex form)) = false
 is_count (Some (Rect form)) = false
 is_count (Some (Gen size number)) = false
 is_count (Some Verify) = false
+is_count (Some (Embed form)) = false
 
-drawing_unlike : (shift schnyder bars convex rect : Bool) (form : Form) → is_count (if shift then Some (Shift form) else if schnyder then Some (Schnyder form) else if bars then Some (Bars form) else if convex then Some (Convex form) else if rect then Some (Rect form) else None) ≡ false
-drawing_unlike true schnyder bars convex rect form = refl
-drawing_unlike false true bars convex rect form = refl
-drawing_unlike false false true convex rect form = refl
-drawing_unlike false false false true rect form = refl
-drawing_unlike false false false false true form = refl
-drawing_unlike false false false false false form = refl
+drawing_unlike : (shift schnyder bars convex rect embed : Bool) (form : Form) → is_count (if shift then Some (Shift form) else if schnyder then Some (Schnyder form) else if bars then Some (Bars form) else if convex then Some (Convex form) else if rect then Some (Rect form) else if embed then Some (Embed form) else None) ≡ false
+drawing_unlike true schnyder bars convex rect embed form = refl
+drawing_unlike false true bars convex rect embed form = refl
+drawing_unlike false false true convex rect embed form = refl
+drawing_unlike false false false true rect embed form = refl
+drawing_unlike false false false false true embed form = refl
+drawing_unlike false false false false false true form = refl
+drawing_unlike false false false false false false form = refl
 
 drawn_unlike : (word : Text) (form : Option Form) → is_count (option_and_then (drawing_named word) form) ≡ false
 drawn_unlike word None = refl
-drawn_unlike word (Some form) = drawing_unlike (bytes_eq word (codes "shift")) (bytes_eq word (codes "schnyder")) (bytes_eq word (codes "bars")) (bytes_eq word (codes "convex")) (bytes_eq word (codes "rect")) form
+drawn_unlike word (Some form) = drawing_unlike (bytes_eq word (codes "shift")) (bytes_eq word (codes "schnyder")) (bytes_eq word (codes "bars")) (bytes_eq word (codes "convex")) (bytes_eq word (codes "rect")) (bytes_eq word (codes "embed")) form
 
 gen_unlike : (size number : Option ℕ) → is_count (gen_of size number) ≡ false
 gen_unlike None number = refl

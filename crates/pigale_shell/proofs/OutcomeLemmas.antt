@@ -8,6 +8,11 @@ use Rattle.figure_lines.specs.Format.{figures}
 use Rattle.figure_lines.proofs.UniqueLemmas.{reading-unique as figures-unique}
 use Rattle.figure_lines.proofs.ReadLemmas.{begins-none}
 use Rattle.pigale_shell.specs.Verify.{verify_answers}
+use Rattle.graph_lines.specs.Format.{graph_lines}
+use Rattle.graph_lines.proofs.UniqueLemmas.{reading-unique as graphs-unique}
+use Rattle.graph_lines.proofs.ReadLemmas.{begins-none as begins-no-graphs}
+use Rattle.pigale_shell.specs.EmbedText.{embed_answers}
+use Rattle.pigale_shell.specs.declared.form.Form.{Form}
 use Rattle.pg_io.specs.Io.{HasRisen}
 use Rattle.pg_io.proofs.Growth.{GrowsByPrefix-none}
 use Rattle.record_runs.specs.Outcome.{Ports, ports, Outcome as RunOutcome}
@@ -23,7 +28,7 @@ use Rattle.pigale_shell.specs.Made.{made, made_answers}
 use Rattle.pigale_shell.specs.JobInput.{RecordOf, EndingOf, reads_of, answers_of, reads_planar, left_of}
 use Rattle.pigale_shell.specs.Outcome.{Outcome, GrowsByText, MayEnd, status_of}
 use Rattle.pigale_shell.specs.declared.job.Job.{Job}
-use Rattle.pigale_shell.specs.declared.job.Job.TheVariants.{Count, Shift, Schnyder, Bars, Convex, Rect, Gen, Verify}
+use Rattle.pigale_shell.specs.declared.job.Job.TheVariants.{Count, Shift, Schnyder, Bars, Convex, Rect, Gen, Verify, Embed}
 use Rattle.pigale_shell.specs.declared.job.Status.{Status}
 use Rattle.pigale_shell.specs.declared.job.Status.TheVariants.{Done, SomeRefused, BadWords, BadInput, ReadFault, WriteFault, NoMemory}
 
@@ -57,6 +62,7 @@ one_ending (Rect form) input records records' ending ending' reading reading' =
     sym (told-ending_of ending) ∙ ap told (reading-unique input records records' (ending_of ending) (ending_of ending') reading reading').1 ∙ told-ending_of ending'
 one_ending (Gen size number) input records records' ending ending' reading reading' = refl
 one_ending Verify input records records' ending ending' reading reading' = (figures-unique input records records' ending ending' reading reading').1
+one_ending (Embed form) input records records' ending ending' reading reading' = (graphs-unique input records records' ending ending' reading reading').1
 
 -- each input begins with no records
 begins_none : (job : Job) (input : List ℕ) → (reads_of job).BeginsWith input []
@@ -68,6 +74,7 @@ begins_none (Convex form) input = Progress-begins [] [] at_front input Progress-
 begins_none (Rect form) input = Progress-begins [] [] at_front input Progress-start (omega arith)
 begins_none (Gen size number) input = inl refl
 begins_none Verify input = begins-none input
+begins_none (Embed form) input = begins-no-graphs input
 
 -- nothing was written: a part of any text
 pub GrowsByText-none : (found : Option Job) (left o : Option (List ℕ)) → GrowsByText found left o o
@@ -98,7 +105,7 @@ module _ (job : Job) (left left' : Option (List ℕ)) (reads reads' writes write
 
   -- a run over planar_code, as a job over it has it
   pub Outcome-planar : reads_planar job ≡ true → RunOutcome planar_code (planar_answers job) (ports left reads written writes) (ports left' reads' written' writes') end → IsOutcome
-  Outcome-planar = elim job as (λ job. reads_planar job ≡ true → RunOutcome planar_code (planar_answers job) (ports left reads written writes) (ports left' reads' written' writes') end → Outcome job (ports (left_of job left) reads written writes) (ports (left_of job left') reads' written' writes') (status_of end)) [ Count ↦ λ over outcome. Outcome-of Count _ _ end outcome | Shift form ↦ λ over outcome. Outcome-of (Shift form) _ _ end outcome | Schnyder form ↦ λ over outcome. Outcome-of (Schnyder form) _ _ end outcome | Bars form ↦ λ over outcome. Outcome-of (Bars form) _ _ end outcome | Convex form ↦ λ over outcome. Outcome-of (Convex form) _ _ end outcome | Rect form ↦ λ over outcome. Outcome-of (Rect form) _ _ end outcome | Gen size number ↦ λ over outcome. absurd (true≢false (sym over)) | Verify ↦ λ over outcome. absurd (true≢false (sym over)) ]
+  Outcome-planar = elim job as (λ job. reads_planar job ≡ true → RunOutcome planar_code (planar_answers job) (ports left reads written writes) (ports left' reads' written' writes') end → Outcome job (ports (left_of job left) reads written writes) (ports (left_of job left') reads' written' writes') (status_of end)) [ Count ↦ λ over outcome. Outcome-of Count _ _ end outcome | Shift form ↦ λ over outcome. Outcome-of (Shift form) _ _ end outcome | Schnyder form ↦ λ over outcome. Outcome-of (Schnyder form) _ _ end outcome | Bars form ↦ λ over outcome. Outcome-of (Bars form) _ _ end outcome | Convex form ↦ λ over outcome. Outcome-of (Convex form) _ _ end outcome | Rect form ↦ λ over outcome. Outcome-of (Rect form) _ _ end outcome | Gen size number ↦ λ over outcome. absurd (true≢false (sym over)) | Verify ↦ λ over outcome. absurd (true≢false (sym over)) | Embed form ↦ λ over outcome. absurd (true≢false (sym over)) ]
 
   -- a run that makes its record, as its job has it
   pub Outcome-made : (size number : ℕ) → job ≡ Gen size number → RunOutcome (made size number) made_answers (ports (Some []) reads written writes) (ports (Some []) reads' written' writes') end → IsOutcome
@@ -109,6 +116,11 @@ module _ (job : Job) (left left' : Option (List ℕ)) (reads reads' writes write
   pub Outcome-verify : job ≡ Verify → RunOutcome figures verify_answers (ports left reads written writes) (ports left' reads' written' writes') end → IsOutcome
   Outcome-verify is outcome =
       subst (λ (job : Job). Outcome job (ports (left_of job left) reads written writes) (ports (left_of job left') reads' written' writes') (status_of end)) (sym is) (Outcome-of Verify _ _ end outcome)
+
+  -- a run over graphs, as its job has it
+  pub Outcome-embed : (form : Form) → job ≡ Embed form → RunOutcome graph_lines (embed_answers form) (ports left reads written writes) (ports left' reads' written' writes') end → IsOutcome
+  Outcome-embed form is outcome =
+      subst (λ (job : Job). Outcome job (ports (left_of job left) reads written writes) (ports (left_of job left') reads' written' writes') (status_of end)) (sym is) (Outcome-of (Embed form) _ _ end outcome)
 
 -- where nothing failed the ending of the input decides the status
 pub Outcome-complete : (job : Job) (before after : Ports) (status : Status) (input : List ℕ) (records : List (RecordOf job)) (ending : EndingOf job) → Outcome job before after status → before.left ≡ Some input → (reads_of job).IsReading input records ending → ¬ HasRisen before.read_faults after.read_faults → ¬ HasRisen before.write_faults after.write_faults → MayEnd job ending status

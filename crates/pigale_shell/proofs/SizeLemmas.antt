@@ -10,7 +10,7 @@ use Rattle.pigale_shell.specs.Words.{Given, has_option, form_given, drawing_name
 use Rattle.pigale_shell.specs.JobInput.{HasSize}
 use Rattle.pigale_shell.specs.declared.form.Form.{Form}
 use Rattle.pigale_shell.specs.declared.job.Job.{Job}
-use Rattle.pigale_shell.specs.declared.job.Job.TheVariants.{Count, Shift, Schnyder, Bars, Convex, Rect, Gen, Verify}
+use Rattle.pigale_shell.specs.declared.job.Job.TheVariants.{Count, Shift, Schnyder, Bars, Convex, Rect, Gen, Verify, Embed}
 
 within-range : (least most n m : ℕ) → within least most n ≡ Some m → (least ≤ m) × (m ≤ most)
 within-range least most n m is = (grind (arith, nat_tests), grind (arith, nat_tests))
@@ -44,22 +44,24 @@ gen_given-sized g job is = go (is_some g.form) is
     go false e = gen_of-sized (number_given 3 4095 g.size) (number_given 0 4294967295 g.number) job (number_given-range 3 4095 g.size) e
 
 -- the jobs by the words that name them
-drawing-sized : (shift schnyder bars convex rect : Bool) (form : Form) (job : Job) → (if shift then Some (Shift form) else if schnyder then Some (Schnyder form) else if bars then Some (Bars form) else if convex then Some (Convex form) else if rect then Some (Rect form) else None) ≡ Some job → HasSize job
-drawing-sized true schnyder bars convex rect form job is =
+drawing-sized : (shift schnyder bars convex rect embed : Bool) (form : Form) (job : Job) → (if shift then Some (Shift form) else if schnyder then Some (Schnyder form) else if bars then Some (Bars form) else if convex then Some (Convex form) else if rect then Some (Rect form) else if embed then Some (Embed form) else None) ≡ Some job → HasSize job
+drawing-sized true schnyder bars convex rect embed form job is =
     let same : Shift form ≡ job = cc in subst (λ (j : Job). HasSize j) same tt
-drawing-sized false true bars convex rect form job is =
+drawing-sized false true bars convex rect embed form job is =
     let same : Schnyder form ≡ job = cc in subst (λ (j : Job). HasSize j) same tt
-drawing-sized false false true convex rect form job is =
+drawing-sized false false true convex rect embed form job is =
     let same : Bars form ≡ job = cc in subst (λ (j : Job). HasSize j) same tt
-drawing-sized false false false true rect form job is =
+drawing-sized false false false true rect embed form job is =
     let same : Convex form ≡ job = cc in subst (λ (j : Job). HasSize j) same tt
-drawing-sized false false false false true form job is =
+drawing-sized false false false false true embed form job is =
     let same : Rect form ≡ job = cc in subst (λ (j : Job). HasSize j) same tt
-drawing-sized false false false false false form job is = absurd (none-some job is)
+drawing-sized false false false false false true form job is =
+    let same : Embed form ≡ job = cc in subst (λ (j : Job). HasSize j) same tt
+drawing-sized false false false false false false form job is = absurd (none-some job is)
 
 drawn-sized : (word : Text) (form : Option Form) (job : Job) → option_and_then (drawing_named word) form ≡ Some job → HasSize job
 drawn-sized word None job is = absurd (none-some job is)
-drawn-sized word (Some form) job is = drawing-sized (bytes_eq word (codes "shift")) (bytes_eq word (codes "schnyder")) (bytes_eq word (codes "bars")) (bytes_eq word (codes "convex")) (bytes_eq word (codes "rect")) form job is
+drawn-sized word (Some form) job is = drawing-sized (bytes_eq word (codes "shift")) (bytes_eq word (codes "schnyder")) (bytes_eq word (codes "bars")) (bytes_eq word (codes "convex")) (bytes_eq word (codes "rect")) (bytes_eq word (codes "embed")) form job is
 
 named-sized : (count gen verify : Bool) (made drawn : Option Job) (job : Job) → (made ≡ Some job → HasSize job) → (drawn ≡ Some job → HasSize job) → (if count then Some Count else if gen then made else if verify then Some Verify else drawn) ≡ Some job → HasSize job
 named-sized true gen verify made drawn job sized others is =

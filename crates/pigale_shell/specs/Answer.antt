@@ -16,7 +16,7 @@ use Rattle.pigale_shell.specs.declared.form.Form.TheVariants.{Text}
 use Rattle.pigale_shell.specs.Lines.{ending_of}
 use Rattle.pigale_shell.specs.declared.lines.Ending.{Ending}
 use Rattle.pigale_shell.specs.declared.job.Job.{Job}
-use Rattle.pigale_shell.specs.declared.job.Job.TheVariants.{Count, Shift, Schnyder, Bars, Convex, Rect, Gen, Verify}
+use Rattle.pigale_shell.specs.declared.job.Job.TheVariants.{Count, Shift, Schnyder, Bars, Convex, Rect, Gen, Verify, Embed}
 use Rattle.figure_text.specs.declared.figure.GridJob.TheVariants as drawn
 
 -- the text is the job's answer for record k; there is none by a job that reads no such records
@@ -29,6 +29,7 @@ IsBlock (Convex form) k lists text = IsConvexBlock form k lists text
 IsBlock (Rect form) k lists text = IsRectsBlock form k lists text
 IsBlock (Gen size number) k lists text = ⊥
 IsBlock Verify k lists text = ⊥
+IsBlock (Embed form) k lists text = ⊥
 
 -- whether the record is served, or counts as refused
 abbrev pub ServesRecord : Job → Lists → Bool → Type 0
@@ -40,6 +41,7 @@ ServesRecord (Convex form) lists served = IsTrue served ↔ (IsPlane lists × Is
 ServesRecord (Rect form) lists served = IsTrue served ↔ IsRectMap lists
 ServesRecord (Gen size number) lists served = ⊥
 ServesRecord Verify lists served = ⊥
+ServesRecord (Embed form) lists served = ⊥
 
 -- the form in which the job writes
 abbrev pub job_form : Job → Form
@@ -51,6 +53,7 @@ job_form (Convex form) = form
 job_form (Rect form) = form
 job_form (Gen size number) = Text
 job_form Verify = Text
+job_form (Embed form) = form
 
 -- both, and the last line
 abbrev pub planar_answers : Job → Answers Lists Ending

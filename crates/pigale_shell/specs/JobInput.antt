@@ -7,11 +7,15 @@ use Rattle.pigale_shell.specs.PlanarCode.{planar_code}
 use Rattle.figure_text.specs.declared.figure.Figure.{Figure}
 use Rattle.figure_lines.specs.declared.ending.Ending.{Ending as FigureEnding}
 use Rattle.figure_lines.specs.Format.{figures}
+use Rattle.graph6_text.specs.Graphs.{EdgeGraph}
+use Rattle.graph_lines.specs.declared.ending.Ending.{Ending as GraphEnding}
+use Rattle.graph_lines.specs.Format.{graph_lines}
+use Rattle.pigale_shell.specs.EmbedText.{embed_answers}
 use Rattle.pigale_shell.specs.Made.{made, made_answers}
 use Rattle.pigale_shell.specs.Verify.{verify_answers}
 use Rattle.pigale_shell.specs.declared.lines.Ending.{Ending}
 use Rattle.pigale_shell.specs.declared.job.Job.{Job}
-use Rattle.pigale_shell.specs.declared.job.Job.TheVariants.{Count, Shift, Schnyder, Bars, Convex, Rect, Gen, Verify}
+use Rattle.pigale_shell.specs.declared.job.Job.TheVariants.{Count, Shift, Schnyder, Bars, Convex, Rect, Gen, Verify, Embed}
 
 -- it reads an input; a job that reads none has the empty input, and leaves the source alone
 abbrev pub reads_input : Job → Bool
@@ -23,6 +27,7 @@ reads_input (Convex form) = true
 reads_input (Rect form) = true
 reads_input (Gen size number) = false
 reads_input Verify = true
+reads_input (Embed form) = true
 
 -- what is left of its input, by what is left in the source
 abbrev pub left_of : Job → Option (List ℕ) → Option (List ℕ)
@@ -38,6 +43,7 @@ reads_planar (Convex form) = true
 reads_planar (Rect form) = true
 reads_planar (Gen size number) = false
 reads_planar Verify = false
+reads_planar (Embed form) = false
 
 -- a map that it makes has from 3 to 4095 vertices
 abbrev pub HasSize : Job → Type 0
@@ -49,6 +55,7 @@ HasSize (Convex form) = Unit {0}
 HasSize (Rect form) = Unit {0}
 HasSize (Gen size number) = (3 ≤ size) × (size < 4096)
 HasSize Verify = Unit {0}
+HasSize (Embed form) = Unit {0}
 
 -- a record of its input
 abbrev pub RecordOf : Job → Type 0
@@ -60,6 +67,7 @@ RecordOf (Convex form) = Lists
 RecordOf (Rect form) = Lists
 RecordOf (Gen size number) = Lists
 RecordOf Verify = Figure
+RecordOf (Embed form) = EdgeGraph
 
 -- how its input ends
 abbrev pub EndingOf : Job → Type 0
@@ -71,6 +79,7 @@ EndingOf (Convex form) = Ending
 EndingOf (Rect form) = Ending
 EndingOf (Gen size number) = Unit {0}
 EndingOf Verify = FigureEnding
+EndingOf (Embed form) = GraphEnding
 
 -- how its input is read
 abbrev pub reads_of : (job : Job) → Reads (RecordOf job) (EndingOf job)
@@ -82,6 +91,7 @@ reads_of (Convex form) = planar_code
 reads_of (Rect form) = planar_code
 reads_of (Gen size number) = made size number
 reads_of Verify = figures
+reads_of (Embed form) = graph_lines
 
 -- its answers, and the last line
 abbrev pub answers_of : (job : Job) → Answers (RecordOf job) (EndingOf job)
@@ -93,3 +103,4 @@ answers_of (Convex form) = planar_answers (Convex form)
 answers_of (Rect form) = planar_answers (Rect form)
 answers_of (Gen size number) = made_answers
 answers_of Verify = verify_answers
+answers_of (Embed form) = embed_answers form

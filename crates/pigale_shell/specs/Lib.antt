@@ -14,3 +14,4 @@ pub mod Text
 pub mod BarsText
 pub mod ConvexText
 pub mod RectsText
+pub mod EmbedText

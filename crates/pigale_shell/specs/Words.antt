@@ -8,7 +8,7 @@ use Rattle.pigale_shell.specs.Numbers.{number_in}
 use Rattle.pigale_shell.specs.declared.form.Form.{Form}
 use Rattle.pigale_shell.specs.declared.form.Form.TheVariants as forms
 use Rattle.pigale_shell.specs.declared.job.Job.{Job}
-use Rattle.pigale_shell.specs.declared.job.Job.TheVariants.{Count, Shift, Schnyder, Bars, Convex, Rect, Gen, Verify}
+use Rattle.pigale_shell.specs.declared.job.Job.TheVariants.{Count, Shift, Schnyder, Bars, Convex, Rect, Gen, Verify, Embed}
 
 -- an option `--name` with one text
 abbrev pub option : Text → Rule
@@ -67,7 +67,7 @@ form_given g = if has_number g then None else form_of g.form
 -- the job that draws with this word, in a form
 abbrev pub drawing_named : Text → Form → Option Job
 drawing_named word form =
-    if bytes_eq word (codes "shift") then Some (Shift form) else if bytes_eq word (codes "schnyder") then Some (Schnyder form) else if bytes_eq word (codes "bars") then Some (Bars form) else if bytes_eq word (codes "convex") then Some (Convex form) else if bytes_eq word (codes "rect") then Some (Rect form) else None
+    if bytes_eq word (codes "shift") then Some (Shift form) else if bytes_eq word (codes "schnyder") then Some (Schnyder form) else if bytes_eq word (codes "bars") then Some (Bars form) else if bytes_eq word (codes "convex") then Some (Convex form) else if bytes_eq word (codes "rect") then Some (Rect form) else if bytes_eq word (codes "embed") then Some (Embed form) else None
 
 -- the number from `least` to `most` that an option gives
 abbrev pub number_given : ℕ → ℕ → Option Text → Option ℕ

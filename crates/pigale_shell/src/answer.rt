@@ -89,7 +89,7 @@ pub(crate) fn answer_with(
         Job::Bars(form) => bars_record(alloc, form, number, lists, out),
         Job::Convex(form) => convex_record(alloc, form, number, lists, out),
         Job::Rect(form) => rect_record(alloc, form, number, lists, out),
-        Job::Gen(..) | Job::Verify => unreachable!(),
+        Job::Gen(..) | Job::Verify | Job::Embed(_) => unreachable!(),
     }
 }
 
@@ -406,8 +406,8 @@ fn refuse_rects(
     }
 }
 
-// Appends the line of a record that is refused, in a form.
-fn refuse_in(
+/// Appends the line of a record that is refused, in a form.
+pub(crate) fn refuse_in(
     alloc: Global,
     form: Form,
     line: Vec<u8>,

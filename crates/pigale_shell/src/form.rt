@@ -1,15 +1,18 @@
 //! In which form a job writes.
-ghost use Rattle.std.specs.Prelude.{◌≡◌, ◌++◌, length, OnOk, OnErr, IfOk};
+ghost use Rattle.std.specs.Prelude.{◌≡◌, ◌++◌, List, ℕ, length, OnOk, OnErr, IfOk};
 ghost use Rattle.map_definitions.specs.Maps.{IsSimpleMap};
 ghost use Rattle.svg_out.specs.Svg.{HasColumns};
 ghost use Rattle.pigale_shell.specs.Forms.{commented as comment_of, line_in as line_by, grid_in, bars_in, rects_in};
 ghost use Rattle.figure_text.specs.Text.{HasRects};
+ghost use Rattle.pigale_shell.specs.EmbedText.{WritesWitness};
 
-use figure_text::{GridJob, print_bars, print_grid, print_rects};
+use figure_text::{GridJob, print_bars, print_grid, print_rects, print_witness};
+use graph6_text::Graph;
 use half_edges::Rotations;
+use kuratowski::Witness;
 use pg_plane::{BarFigure, Points, RectFigure};
 use std::alloc::{AllocError, Global};
-use svg_out::{svg_bars, svg_grid, svg_rects};
+use svg_out::{svg_bars, svg_grid, svg_rects, svg_witness};
 
 /// How a job that draws writes its figures.
 #[derive(Clone, Copy, Debug, PartialEq, Eq)]
@@ -97,5 +100,24 @@ pub(crate) fn print_rects_in(
     match form {
         Form::Text => print_rects(alloc, number, lists, rects, out),
         Form::Svg => svg_rects(alloc, lists, rects, out),
+    }
+}
+
+/// Appends a witness of a graph in this form. After want of memory the bytes are as they were.
+pub(crate) fn print_witness_in(
+    alloc: Global,
+    form: Form,
+    number: u32,
+    graph: &Graph,
+    witness: &Witness,
+    out: &mut Vec<u8>,
+) -> Result<(), AllocError>
+    ensures ok { OnOk result ((text : List ℕ) × WritesWitness form number graph.now witness.now text
+        × (out.new.items ≡ out.old.items ++ text)) }
+    ensures err { OnErr result (out.new.items ≡ out.old.items) }
+{
+    match form {
+        Form::Text => print_witness(alloc, number, graph, witness, out),
+        Form::Svg => svg_witness(alloc, number, graph, witness, out),
     }
 }

@@ -25,6 +25,9 @@ pub enum Job {
     Gen(u16, u32),
     /// Checks each figure of a text.
     Verify,
+    /// Draws a map of each graph with at least three vertices that has one of genus zero, and gives a Kuratowski witness of
+    /// each other one.
+    Embed(Form),
 }
 
 impl Job {
@@ -35,7 +38,7 @@ impl Job {
         match self {
             Job::Count | Job::Gen(..) | Job::Verify => Form::Text,
             Job::Shift(form) | Job::Schnyder(form) | Job::Bars(form) => form,
-            Job::Convex(form) | Job::Rect(form) => form,
+            Job::Convex(form) | Job::Rect(form) | Job::Embed(form) => form,
         }
     }
 }

@@ -2,6 +2,7 @@
 #![tactic(auto)]
 
 mod answer;
+mod embed;
 mod form;
 mod job;
 mod lines;

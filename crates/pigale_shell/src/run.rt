@@ -7,9 +7,13 @@ ghost use Rattle.pigale_shell.specs.Answer.{planar_answers};
 ghost use Rattle.pigale_shell.specs.PlanarCode.{planar_code};
 ghost use Rattle.figure_lines.specs.Format.{figures};
 ghost use Rattle.pigale_shell.specs.Verify.{verify_answers};
+ghost use Rattle.graph_lines.specs.Format.{graph_lines};
+ghost use Rattle.pigale_shell.specs.EmbedText.{embed_answers};
 ghost use Rattle.pigale_shell.specs.JobInput.{reads_planar, HasSize, reads_input, left_of};
 ghost use Rattle.pigale_shell.specs.Outcome.{Outcome, status_of};
 
+use super::embed::{EmbedJob, GraphSource};
+use super::form::Form;
 use super::job::{Job, Status};
 use super::made::run_made;
 use super::planar::{PlanarJob, PlanarReader};
@@ -55,6 +59,17 @@ fn run_verify<S: Source, K: Sink>(alloc: Global, src: &mut S, out: &mut K) -> Ru
     run_records(alloc, FigureSource::new(alloc), &mut job, src, out)
 }
 
+// Runs the job `embed`.
+fn run_embed<S: Source, K: Sink>(alloc: Global, form: Form, src: &mut S, out: &mut K) -> RunEnd
+    ensures outcome { RunOutcome graph_lines (embed_answers form)
+        (ports (S.left src.old) (S.faults src.old) (K.written out.old) (K.faults out.old))
+        (ports (S.left src.new) (S.faults src.new) (K.written out.new) (K.faults out.new)) result }
+    ensures limit { TakesAtMost (input_limit + 1) (S.left src.old) (S.left src.new) }
+{
+    let mut job = EmbedJob::new(alloc, form);
+    run_records(alloc, GraphSource::new(alloc), &mut job, src, out)
+}
+
 /// Runs a job over the records of a source, to the end of its input or to what stops it. A job that reads no
 /// input does not touch the source.
 pub fn run_job<S: Source, K: Sink>(alloc: Global, job: Job, src: &mut S, out: &mut K) -> Status
@@ -75,5 +90,6 @@ pub fn run_job<S: Source, K: Sink>(alloc: Global, job: Job, src: &mut S, out: &m
         | Job::Rect(_) => status(run_planar(alloc, job, src, out)),
         Job::Gen(size, number) => status(run_made(alloc, size, number, out)),
         Job::Verify => status(run_verify(alloc, src, out)),
+        Job::Embed(form) => status(run_embed(alloc, form, src, out)),
     }
 }

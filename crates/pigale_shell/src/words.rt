@@ -138,6 +138,8 @@ fn drawing_job(word: &str, form: Form) -> Option<Job>
         Some(Job::Convex(form))
     } else if word == "rect" {
         Some(Job::Rect(form))
+    } else if word == "embed" {
+        Some(Job::Embed(form))
     } else {
         None
     }
@@ -206,8 +208,9 @@ fn job_given(matches: &ArgMatches) -> Option<Job>
 ///
 /// clap reads them as a command with one positional, the job's word, and the options `--form`, `--size`
 /// and `--number`, each with one text, which may follow as the next word or behind a `=`. `count` is the
-/// job `Count` and has none of these options; `shift`, `schnyder`, `bars`, `convex` and `rect` are the jobs `Shift`,
-/// `Schnyder`, `Bars`, `Convex` and `Rect` and have the first, of which the text is `text` or `svg`; `gen` is the job `Gen` and has the other two,
+/// job `Count` and has none of these options; `shift`, `schnyder`, `bars`, `convex`, `rect` and `embed` are the jobs
+/// `Shift`, `Schnyder`, `Bars`, `Convex`, `Rect` and `Embed` and have the first, of which the text is `text` or `svg`;
+/// `gen` is the job `Gen` and has the other two,
 /// which it wants: a size from 3 to 4095 and a number from 0 to 4294967295, both in decimal; `verify` is
 /// the job `Verify` and has none. `BadWords` comes exactly where the words are those of no
 /// job: where clap refuses them, where there is no such job, and where an option is there that the job

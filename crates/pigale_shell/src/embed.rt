@@ -1,0 +1,277 @@
+//! Graphs as graph6 lines, and the job over them, for the loop of runs.
+ghost use Rattle.std.specs.Prelude.{◌≡◌, ◌↔◌, ◌++◌, ◌<◌, ◌≤◌, List, ℕ, [], true, false, IsTrue, OnOk, OnErr, IfOk};
+ghost use Rattle.map_lists.specs.Lists.{Lists};
+ghost use Rattle.kuratowski.specs.Witnesses.{IsWitness};
+ghost use Rattle.embed_figures.specs.Figures.{IsDrawnMap, IsEmbedFigure};
+ghost use Rattle.pigale_shell.specs.Forms.{line_in as line_by};
+ghost use Rattle.drawing_orders.specs.Refusals.{small};
+ghost use Rattle.pigale_shell.specs.Text.{refusal_line as refusal_line_of};
+ghost use Rattle.pigale_shell.specs.EmbedText.{WritesWitness, IsDrawnText, IsRefutedText, IsSmallRefused, IsFigured, IsEmbedBlock, embed_last_line as last_line_of};
+
+use super::answer::refuse_in;
+use super::form::{Form, line_in, print_grid_in, print_witness_in};
+use super::lines::{drawing_refusal_line, end_line, stop_line};
+use drawing_orders::DrawRefusal;
+use embed_figures::{EmbedFigure, embed_figure};
+use figure_text::GridJob;
+use graph_lines::{Ending, GraphReader};
+use graph6_text::Graph;
+use kuratowski::Witness;
+use map_lists::Rotations;
+use pg_plane::GridFigure;
+use record_runs::{Format, Job as RecordJob, Taken};
+use std::alloc::{AllocError, Global};
+
+// Appends a map of a graph as it is drawn.
+fn draw_map(
+    alloc: Global,
+    form: Form,
+    number: u32,
+    graph: &Graph,
+    lists: &Rotations,
+    figure: &GridFigure,
+    out: &mut Vec<u8>,
+) -> Result<(), AllocError>
+    requires { IsDrawnMap graph.now lists.now figure.now }
+    ensures block { OnOk result
+        ((block : List ℕ) × IsDrawnText form number graph.now block × (out.new.items ≡ out.old.items ++ block)) }
+    ensures err { OnErr result (out.new.items ≡ out.old.items) }
+{
+    print_grid_in(
+        alloc,
+        form,
+        number,
+        GridJob::Schnyder,
+        lists,
+        &figure.points,
+        out,
+    )
+}
+
+// Appends a witness of a graph.
+fn draw_witness(
+    alloc: Global,
+    form: Form,
+    number: u32,
+    graph: &Graph,
+    witness: &Witness,
+    out: &mut Vec<u8>,
+) -> Result<(), AllocError>
+    requires { IsWitness graph.now witness.now.kind witness.now.branch witness.now.paths }
+    ensures block { OnOk result
+        ((block : List ℕ) × IsRefutedText form number graph.now block × (out.new.items ≡ out.old.items ++ block)) }
+    ensures err { OnErr result (out.new.items ≡ out.old.items) }
+{
+    print_witness_in(alloc, form, number, graph, witness, out)
+}
+
+// Appends the figure of a graph.
+fn push_figure(
+    alloc: Global,
+    form: Form,
+    number: u32,
+    graph: &Graph,
+    figure: &EmbedFigure,
+    out: &mut Vec<u8>,
+) -> Result<(), AllocError>
+    requires some { 3 ≤ graph.now.n }
+    requires figure { IsEmbedFigure graph.now figure.now }
+    ensures block { OnOk result
+        ((block : List ℕ) × IsFigured form number graph.now block × (out.new.items ≡ out.old.items ++ block)) }
+    ensures err { OnErr result (out.new.items ≡ out.old.items) }
+{
+    match figure {
+        EmbedFigure::Drawn(lists, figure) => {
+            draw_map(alloc, form, number, graph, lists, figure, out)
+        }
+        EmbedFigure::NotPlanar(witness) => draw_witness(alloc, form, number, graph, witness, out),
+    }
+}
+
+// Appends the figure of a graph with at least three vertices, which is served.
+fn serve_graph(
+    alloc: Global,
+    form: Form,
+    number: u32,
+    graph: &Graph,
+    out: &mut Vec<u8>,
+) -> Result<bool, AllocError>
+    requires { 3 ≤ graph.now.n }
+    ensures block { OnOk result
+        ((block : List ℕ) × IsFigured form number graph.now block × (out.new.items ≡ out.old.items ++ block)) }
+    ensures served { IfOk result (λ served. served ≡ true) }
+    ensures err { OnErr result (out.new.items ≡ out.old.items) }
+{
+    let figure = embed_figure(alloc, graph)?;
+    push_figure(alloc, form, number, graph, &figure, out)?;
+    Ok(true)
+}
+
+// Appends the refusal of a graph with only so many vertices.
+fn refuse_small(
+    alloc: Global,
+    form: Form,
+    number: u32,
+    n: u16,
+    out: &mut Vec<u8>,
+) -> Result<bool, AllocError>
+    ensures block { OnOk result (out.new.items ≡ out.old.items ++ line_by form (refusal_line_of number (small n))) }
+    ensures refused { IfOk result (λ served. served ≡ false) }
+    ensures err { OnErr result (out.new.items ≡ out.old.items) }
+{
+    let line = drawing_refusal_line(alloc, number, DrawRefusal::Small(n))?;
+    refuse_in(alloc, form, line, out)
+}
+
+// Appends the figure of a graph, or its refusal, and answers whether it was served.
+fn embed_line(
+    alloc: Global,
+    form: Form,
+    number: u32,
+    graph: &Graph,
+    out: &mut Vec<u8>,
+) -> Result<bool, AllocError>
+    ensures block { OnOk result
+        ((block : List ℕ) × IsEmbedBlock form number graph.now block × (out.new.items ≡ out.old.items ++ block)) }
+    ensures served { IfOk result (λ served. IsTrue served ↔ (3 ≤ graph.now.n)) }
+    ensures err { OnErr result (out.new.items ≡ out.old.items) }
+{
+    let n = graph.n();
+    if n < 3 {
+        refuse_small(alloc, form, number, n, out)
+    } else {
+        serve_graph(alloc, form, number, graph, out)
+    }
+}
+
+// The last line of a run over graphs.
+fn embed_last_line(
+    alloc: Global,
+    records: u32,
+    refused: u32,
+    ending: Ending,
+) -> Result<Vec<u8>, AllocError>
+    ensures { IfOk result (λ line. line.items ≡ last_line_of records refused ending) }
+{
+    match ending {
+        Ending::Well => end_line(alloc, records, refused),
+        Ending::BadLine(k) => stop_line(alloc, b"stop BadLine", k as usize),
+        Ending::Limit(k) => stop_line(alloc, b"stop Limit", k as usize),
+        Ending::TooLong => Vec::from_slice(alloc, b"stop TooLong\n"),
+    }
+}
+
+/// A reader of graphs.
+#[derive(Drop)]
+pub struct GraphSource {
+    reader: GraphReader,
+}
+
+impl GraphSource {
+    ghost use Rattle.graph_lines.specs.State.{IsAt};
+
+    /// A reader before the first byte. It takes no memory.
+    pub fn new(alloc: Global) -> GraphSource
+        ensures { IsAt result.reader [] [] }
+    {
+        GraphSource {
+            reader: GraphReader::new(alloc),
+        }
+    }
+}
+
+impl Format for GraphSource {
+    ghost use Rattle.graph_lines.specs.State.{IsAt, ending_by};
+    ghost use Rattle.graph_lines.specs.Format.{graph_lines, IsAny};
+    ghost use Rattle.graph_lines.proofs.ReadLemmas.{IsAt-reads, IsAt-begins, reading-begins};
+
+    type Record = Graph;
+
+    type End = Ending;
+
+    ghost reads = { graph_lines };
+
+    ghost At = { λ format consumed records. IsAt format.reader consumed records };
+
+    ghost place = { λ format. format.reader.place };
+
+    ghost lent = { λ format. format.reader.graph };
+
+    ghost ending = { λ format. ending_by format.reader.first format.reader.line format.reader.pending };
+
+    ghost IsGiven = { IsAny };
+
+    ghost place_is = { λ format consumed records at. at.placed };
+
+    ghost is_read = { λ format consumed records at within. IsAt-reads format.reader consumed records at within };
+
+    ghost begins = { λ format consumed records tail at within. IsAt-begins format.reader consumed records tail at within };
+
+    ghost has = { λ input records ending reading. reading-begins input records ending reading };
+
+    fn take(&mut self, piece: &[u8]) -> Result<Taken<Ending>, AllocError> {
+        self.reader.take(piece)
+    }
+
+    fn record(&self) -> &Graph {
+        self.reader.graph()
+    }
+
+    fn end(&self) -> Ending {
+        self.reader.ending()
+    }
+
+    fn too_long(&self) -> Ending {
+        Ending::TooLong
+    }
+
+    fn is_well(end: &Ending) -> bool {
+        matches!(end, Ending::Well)
+    }
+}
+
+/// The job `embed`, in a form.
+#[derive(Drop)]
+pub struct EmbedJob {
+    alloc: Global,
+    form: Form,
+}
+
+impl EmbedJob {
+    /// The job before the first graph. It takes no memory.
+    pub fn new(alloc: Global, form: Form) -> EmbedJob
+        ensures { result.form ≡ form }
+    {
+        EmbedJob { alloc, form }
+    }
+}
+
+impl RecordJob<GraphSource> for EmbedJob {
+    ghost use Rattle.pigale_shell.specs.EmbedText.{embed_answers};
+
+    type Kind = Form;
+
+    ghost kind = { λ job. job.form };
+
+    ghost answers = { embed_answers };
+
+    fn answer(
+        &mut self,
+        number: u32,
+        given: &Graph,
+        out: &mut Vec<u8>,
+    ) -> Result<bool, AllocError> {
+        embed_line(self.alloc, self.form, number, given, out)
+    }
+
+    fn last_line(
+        &self,
+        alloc: Global,
+        records: u32,
+        refused: u32,
+        end: &Ending,
+    ) -> Result<Vec<u8>, AllocError> {
+        let line = embed_last_line(alloc, records, refused, *end)?;
+        line_in(alloc, self.form, line)
+    }
+}
