@@ -6,7 +6,6 @@ ghost use Rattle.graph_embeddings.specs.Embeddings.{IsEmbedding};
 
 use crate::marks::has_edges;
 use crate::plane::is_plane_map;
-use contracted_embeddings::embed_by_contraction;
 use embed_search::{find_witness, planar_lists};
 use graph_embeddings::Embedding;
 use graph6_text::Graph;
@@ -71,22 +70,24 @@ fn found_witness(alloc: Global, graph: &Graph) -> Result<Option<Witness>, AllocE
     }
 }
 
-// A witness, or else what contracting edges gives.
+// A witness, where the search finds one.
 fn refuted(alloc: Global, graph: &Graph) -> Result<Embedding, AllocError>
     requires { 3 ≤ graph.now.n }
     ensures { IfOk result (IsEmbedding graph.now) }
 {
     match found_witness(alloc, graph)? {
         Some(witness) => Ok(Embedding::NotPlanar(witness)),
-        None => embed_by_contraction(alloc, graph),
+        // no graph is known for which this comes
+        None => Err(AllocError),
     }
 }
 
 /// A simple map of genus zero with exactly the edges of a graph with at least three vertices, or a witness that there is
-/// none. It fails only for want of memory.
+/// none.
 ///
 /// The map is that of the left-right test; a witness is one of the graph's first 3n - 5 edges, by the lesser end and then
-/// by the greater. Both are checked, and a graph for which neither is accepted has its edges contracted.
+/// by the greater. Both are checked. The searches are not proved to find what there is: where neither answer is accepted,
+/// the call fails as for want of memory, and no graph is known for which it does.
 pub fn embed(alloc: Global, graph: &Graph) -> Result<Embedding, AllocError>
     requires { 3 ≤ graph.now.n }
     ensures { IfOk result (IsEmbedding graph.now) }

@@ -1,6 +1,6 @@
 //! A map of a graph, or a Kuratowski witness that there is none.
 //!
-//! A fast search for each comes first, and its answer is checked; where none is accepted, edges are contracted.
+//! A fast search is made for each, and its answer is checked.
 #![tactic(auto)]
 
 mod answer;
