@@ -72,7 +72,6 @@ fn found_witness(alloc: Global, graph: &Graph) -> Result<Option<Witness>, AllocE
 
 // A witness, where the search finds one.
 fn refuted(alloc: Global, graph: &Graph) -> Result<Embedding, AllocError>
-    requires { 3 ≤ graph.now.n }
     ensures { IfOk result (IsEmbedding graph.now) }
 {
     match found_witness(alloc, graph)? {

@@ -3,7 +3,7 @@ use crate::runs::{PLATONIC, TRIANGLE, run_over};
 use pg_io::SureSource;
 use std::test::Fail;
 
-const ROWS: [(&str, &str, &[u8], &str, u8); 24] = [
+const ROWS: [(&str, &str, &[u8], &str, u8); 25] = [
     (
         "shift",
         "a triangle",
@@ -128,6 +128,13 @@ const ROWS: [(&str, &str, &[u8], &str, u8); 24] = [
         "a four-cycle with a diagonal, and a triangle behind it",
         b"\x04\x02\x04\x03\x00\x01\x03\x00\x04\x02\x01\x00\x01\x03\x00\x03\x02\x03\x00\x03\x01\x00\x01\x02\x00",
         "refused 1 9 SeparatingPair 1 3\nrefused 2 5 Small 3\nend records 2 refused 2\n",
+        1,
+    ),
+    (
+        "convex",
+        "three vertices between two hubs",
+        b"\x05\x02\x04\x00\x01\x03\x05\x00\x02\x04\x00\x05\x03\x01\x00\x02\x04\x00",
+        "refused 1 9 SeparatingPair 2 4\nend records 1 refused 1\n",
         1,
     ),
     (

@@ -13,6 +13,8 @@ mod embedded;
 #[cfg(test)]
 mod failing;
 #[cfg(test)]
+mod families;
+#[cfg(test)]
 mod made;
 #[cfg(test)]
 mod pictures;

@@ -56,8 +56,12 @@ fn a_failing_write_leaves_some_first_bytes(rt: HostRuntime) -> Result<(), Fail> 
     Ok(())
 }
 
-// Lists as a wide record.
-fn wide_record(rt: &impl Abort, alloc: Global, lists: &Rotations) -> Result<Vec<u8>, AllocError> {
+/// Lists as a wide record.
+pub fn wide_record(
+    rt: &impl Abort,
+    alloc: Global,
+    lists: &Rotations,
+) -> Result<Vec<u8>, AllocError> {
     assert!(rt; lists.len() < 4096);
     let mut out = Vec::from_slice(alloc, b"\x00")?;
     out.extend_from_slice(&(lists.len() as u16).to_be_bytes())?;

@@ -1,2 +1,0 @@
--- Lemmas on rows.
-mod Rows

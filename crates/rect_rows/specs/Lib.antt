@@ -1,1 +1,0 @@
--- No words of its own.
