@@ -1,4 +1,4 @@
 -- Lemmas on convex drawings.
-mod ByRows
-mod OuterFace
-mod GridLemmas
+pub mod ByRows
+pub mod OuterFace
+pub mod GridLemmas

@@ -1,0 +1,7 @@
+-- The lemmas on convex woods.
+pub mod Turned
+pub mod AllDarts
+pub mod Outs
+pub mod Orders
+pub mod Heights
+pub mod Whole

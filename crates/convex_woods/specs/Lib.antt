@@ -1,0 +1,3 @@
+-- Convex woods.
+pub mod ConvexWoods
+pub mod Laws
