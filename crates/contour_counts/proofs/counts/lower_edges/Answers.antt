@@ -1,0 +1,65 @@
+use Rattle.std.proofs.Common.{◌≡◌, ◌+◌, ◌-◌, ◌<◌, ◌≤◌, suc, length, get_or, slice_index, length-set, ap, ◌∙◌, subst, arith}
+use Rattle.map_definitions.specs.Maps.{HasDart}
+use Rattle.face_numbers.specs.FaceNumbers.{entry}
+use Rattle.contour_counts.specs.Contours.{inner_number}
+use Rattle.contour_counts.proofs.Rows.{entry-lt}
+use Rattle.contour_counts.proofs.CountLemmas.{lowered, counted, edges_to}
+use Rattle.contour_counts.proofs.counts.lower_edges.Goals as goal
+
+pub number_of-f-requires-clause-table : goal.number_of-f-requires-clause-table
+number_of-f-requires-clause-table c = (length c.args.edges.now, c.requires.table)
+
+pub number_of-f-requires-clause-dart : goal.number_of-f-requires-clause-dart
+number_of-f-requires-clause-dart c =
+    let i = c.loop-i.i in
+    let z : suc i ≡ i + 1 = omega arith in
+    subst (λ k. HasDart c.args.lists.now (get_or c.args.vs.now k 0) (get_or c.args.vs.now i 0)) z (c.requires.edges i (omega (arith, c.loop-i-test.true)))
+
+pub bounds-edges-f : goal.bounds-edges-f
+bounds-edges-f c =
+    let vs = c.args.vs.now in
+    let i = c.loop-i.i in
+    let same = c.loop-i.auto.edges in
+    let has = c.requires.edges i (omega (arith, c.loop-i-test.true)) in
+    let z : i + 1 ≡ suc i = omega arith in
+    let x_is = c.number_of-f.ensures ∙ ap (λ k. entry c.args.lists.now c.args.own.now (get_or vs k 0) (get_or vs i 0)) z in
+    omega (arith, x_is, entry-lt c.args.lists.now c.args.own.now (length c.args.edges.now) c.requires.table (get_or vs (suc i) 0) (get_or vs i 0) has, same)
+
+pub bounds-edges-f-in-loop-i : goal.bounds-edges-f-in-loop-i
+bounds-edges-f-in-loop-i c =
+    let vs = c.args.vs.now in
+    let i = c.loop-i.i in
+    let same = c.loop-i.auto.edges in
+    let has = c.requires.edges i (omega (arith, c.loop-i-test.true)) in
+    let z : i + 1 ≡ suc i = omega arith in
+    let x_is = c.number_of-f.ensures ∙ ap (λ k. entry c.args.lists.now c.args.own.now (get_or vs k 0) (get_or vs i 0)) z in
+    omega (arith, x_is, entry-lt c.args.lists.now c.args.own.now (length c.args.edges.now) c.requires.table (get_or vs (suc i) 0) (get_or vs i 0) has, same)
+
+pub overflow_sub-edges : goal.overflow_sub-edges
+overflow_sub-edges c =
+    let x = c.number_of-f.result in
+    let vs = c.args.vs.now in
+    let i = c.loop-i.i in
+    let same = c.loop-i.auto.edges in
+    let has = c.requires.edges i (omega (arith, c.loop-i-test.true)) in
+    let z : i + 1 ≡ suc i = omega arith in
+    let x_is : x ≡ inner_number c.args.lists.now c.args.own.now vs i = c.number_of-f.ensures ∙ ap (λ k. entry c.args.lists.now c.args.own.now (get_or vs k 0) (get_or vs i 0)) z in
+    let l : x < length c.loop-i.edges = omega (arith, x_is, entry-lt c.args.lists.now c.args.own.now (length c.args.edges.now) c.requires.table (get_or vs (suc i) 0) (get_or vs i 0) has, same) in
+    let within = edges_to c.args.lists.now c.args.own.now vs i (length vs - 1) x c.loop-i-test.true in
+    let one = counted c.args.lists.now c.args.own.now vs c.loop-i.edges c.args.edges.now i x x_is l in
+    omega (arith, within, one, c.loop-i.invariant x l, c.requires.enough x (omega arith))
+
+pub loop-i-preserved : goal.loop-i-preserved
+loop-i-preserved c =
+    let x = c.number_of-f.result in
+    let vs = c.args.vs.now in
+    let i = c.loop-i.i in
+    let same = c.loop-i.auto.edges in
+    let has = c.requires.edges i (omega (arith, c.loop-i-test.true)) in
+    let z : i + 1 ≡ suc i = omega arith in
+    let x_is : x ≡ inner_number c.args.lists.now c.args.own.now vs i = c.number_of-f.ensures ∙ ap (λ k. entry c.args.lists.now c.args.own.now (get_or vs k 0) (get_or vs i 0)) z in
+    let l : x < length c.loop-i.edges = omega (arith, x_is, entry-lt c.args.lists.now c.args.own.now (length c.args.edges.now) c.requires.table (get_or vs (suc i) 0) (get_or vs i 0) has, same) in
+    let within = edges_to c.args.lists.now c.args.own.now vs i (length vs - 1) x c.loop-i-test.true in
+    let one = counted c.args.lists.now c.args.own.now vs c.loop-i.edges c.args.edges.now i x x_is l in
+    let some : 1 ≤ slice_index c.loop-i.edges x = omega (arith, within, one, c.loop-i.invariant x l, c.requires.enough x (omega arith)) in
+    λ f m. lowered c.args.lists.now c.args.own.now vs c.loop-i.edges c.args.edges.now i x x_is l some c.loop-i.invariant f (omega (arith, m, length-set c.loop-i.edges x (slice_index c.loop-i.edges x - 1)))
