@@ -1,12 +1,17 @@
 -- What the orders rest on.
 pub mod Flags
 pub mod Rows
+pub mod Once
 pub mod Traced
-pub mod SplitLemmas
 pub mod RemovedFaces
+pub mod GoneRuns
 pub mod Stretches
 pub mod Taken
 pub mod TakenAt
+pub mod SeekLemmas
 pub mod CutLemmas
 pub mod RowLemmas
+pub mod Outs
+pub mod Advanced
+pub mod LastRounds
 pub mod StandLemmas

@@ -1,51 +1,14 @@
--- Darts by the rows of their numbers.
-use Rattle.std.proofs.Common.{◌≡◌, ◌↔◌, ℕ, ◌<◌, Bool, List, length, slice_index, get_or, Contains, sym, ap, ◌∙◌, subst, arith}
-use Rattle.std.proofs.lemmas.List.Elements.{Contains-get_or}
+-- The rim by the rows of numbers.
+use Rattle.std.proofs.Common.{◌≡◌, ℕ, ◌<◌, Bool, List, length, slice_index, sym, ap, ◌∙◌, arith}
 use Rattle.map_lists.specs.Lists.{Lists}
-use Rattle.map_definitions.specs.Maps.{list_of, HasDart, IsSimpleMap, place_of}
-use Rattle.map_definitions.proofs.DartLemmas.{HasDart-at, place_of-get_or, place_of-lt-length, get_or-place_of}
-use Rattle.face_peeling.specs.Contours.{face_of, Passes, IsRim}
-use Rattle.face_numbers.specs.FaceNumbers.{entry, IsTable, AreFaceNumbers}
+use Rattle.map_definitions.specs.Maps.{list_of, HasDart, IsSimpleMap}
+use Rattle.face_peeling.specs.Contours.{face_of, IsRim}
+use Rattle.face_numbers.specs.FaceNumbers.{entry, AreFaceNumbers}
+use Rattle.contour_counts.proofs.Rows.{entry_at}
 use Rattle.convex_orders.specs.Shown.{is_set, AreMarks, IsRimIn}
 use Rattle.convex_orders.specs.Splits.{IsRimAt}
 
--- the entry of a dart stands in its row
-pub entry_within : (lists table : Lists) (count : ℕ) → IsTable lists table count → (x y : ℕ) → HasDart lists x y → place_of y (list_of lists x) < length (list_of table x)
-entry_within lists table count t x y has = let l = place_of-lt-length y (list_of lists x) has.1 in omega (arith, l, t.sizes x has.0)
-
-pub entry-lt : (lists table : Lists) (count : ℕ) → IsTable lists table count → (x y : ℕ) → HasDart lists x y → entry lists table x y < count
-entry-lt lists table count t x y has = t.below x (place_of y (list_of lists x)) has.0 (entry_within lists table count t x y has)
-
-pub Contains-entry : (lists table : Lists) (count : ℕ) → IsTable lists table count → (x y : ℕ) → HasDart lists x y → Contains (list_of table x) (entry lists table x y)
-Contains-entry lists table count t x y has = Contains-get_or (list_of table x) (place_of y (list_of lists x)) 0 (entry_within lists table count t x y has)
-
--- at each place of a row stands the entry of a dart
-pub record IsEntryAt (lists table : Lists) (x k : ℕ) : Type 0 where
-  pub dart : HasDart lists x (slice_index (list_of lists x) k)
-  pub is : slice_index (list_of table x) k ≡ entry lists table x (slice_index (list_of lists x) k)
-
-pub entry_at : (lists table : Lists) (count : ℕ) → IsSimpleMap lists → IsTable lists table count → (x k : ℕ) → x < length lists → k < length (list_of table x) → IsEntryAt lists table x k
-entry_at lists table count simple t x k l m =
-    let in_list : k < length (list_of lists x) = omega (arith, m, t.sizes x l) in
-    record {
-      dart = HasDart-at lists x k 0 l in_list;
-      is = ap (λ z. get_or (list_of table x) z 0) (sym (place_of-get_or (list_of lists x) k 0 (simple.no_repeat x l) in_list));
-    }
-
 module _ (lists own other : Lists) (count : ℕ) (simple : IsSimpleMap lists) (n : AreFaceNumbers lists own other count) where
-  -- a number in the row of v is that of a face that passes v
-  pub passes-number : (x y v : ℕ) → HasDart lists x y → v < length lists → (Contains (list_of own v) (entry lists own x y)) ↔ Passes lists (face_of lists x y) v
-  passes-number x y v has l = (
-    (λ c.
-        let k = place_of (entry lists own x y) (list_of own v) in
-        let m = place_of-lt-length (entry lists own x y) (list_of own v) c in
-        let at = entry_at lists own count simple n.own_table v k l m in
-        let u = slice_index (list_of lists v) k in
-        let same : entry lists own v u ≡ entry lists own x y = sym at.is ∙ get_or-place_of (entry lists own x y) (list_of own v) 0 m in
-        (u, at.dart, (n.alike v u x y at.dart has).0 same)),
-    (λ p. subst (Contains (list_of own v)) ((n.alike v p.0 x y p.1 has).1 p.2) (Contains-entry lists own count n.own_table v p.0 p.1)),
-  )
-
   module _ (marks : List Bool) (alive : ℕ → Bool) (are : AreMarks lists own marks alive) where
     pub rim_from : (x y : ℕ) → IsRimIn lists own other marks x y → IsRim lists alive x y
     rim_from x y h =
@@ -57,20 +20,9 @@ module _ (lists own other : Lists) (count : ℕ) (simple : IsSimpleMap lists) (n
         let back = simple.both_ways x y h.dart in
         record { dart = h.dart; outside = are x y h.dart ∙ h.outside; inside = ap (is_set marks) (n.back x y h.dart) ∙ (are y x back ∙ h.inside) }
 
-  -- a rim dart in the tables is one place in the rows
-  pub rim_place : (marks : List Bool) (x y : ℕ) → IsRimIn lists own other marks x y → IsRimAt (list_of own x) (list_of other x) marks (place_of y (list_of lists x))
-  rim_place marks x y h = record { within = entry_within lists own count n.own_table x y h.dart; outside = h.outside; inside = h.inside }
-
   pub place_rim : (marks : List Bool) (x k : ℕ) → x < length lists → IsRimAt (list_of own x) (list_of other x) marks k → IsRimIn lists own other marks x (slice_index (list_of lists x) k)
   place_rim marks x k l h =
       let a = entry_at lists own count simple n.own_table x k l h.within in
       let m : k < length (list_of other x) = omega (arith, h.within, n.own_table.sizes x l, n.other_table.sizes x l) in
       let b = entry_at lists other count simple n.other_table x k l m in
       record { dart = a.dart; outside = ap (is_set marks) (sym a.is) ∙ h.outside; inside = ap (is_set marks) (sym b.is) ∙ h.inside }
-
--- the number at the place of y in the list of x is the entry of their dart
-pub entry_of_place : (lists table : Lists) → IsSimpleMap lists → (x y k : ℕ) → HasDart lists x y → k < length (list_of lists x) → slice_index (list_of lists x) k ≡ y → slice_index (list_of table x) k ≡ entry lists table x y
-entry_of_place lists table simple x y k has l e =
-    let us = list_of lists x in
-    let at : k ≡ place_of y us = sym (place_of-get_or us k 0 (simple.no_repeat x has.0) l) ∙ ap (λ z. place_of z us) e in
-    ap (λ z. get_or (list_of table x) z 0) at

@@ -24,9 +24,13 @@ use Rattle.convex_removals.proofs.Ends.{IsEnded-more, IsEnded-first}
 use Rattle.convex_removals.proofs.Ended.{IsEnded-base}
 use Rattle.convex_runs.proofs.Grown.{IsShore-contour}
 use Rattle.face_numbers.specs.FaceNumbers.{entry, AreFaceNumbers}
-use Rattle.convex_orders.specs.Shown.{is_set, IsBased, IsShown, IsListOf, IsOffBy, SomeOff, GoesOff, IsChoice, SomeChoice}
+use Rattle.convex_orders.specs.Shown.{is_set, IsBased, IsShown, IsListOf, IsTrace, IsOffBy, IsOffAt, GoesOff, IsChoice}
 use Rattle.convex_orders.specs.Standing.{Stands, HasOther, AllInner, IsLastRow}
-use Rattle.convex_orders.proofs.Rows.{entry-lt}
+use Rattle.map_definitions.proofs.DartCounts.{sum_below-le}
+use Rattle.contour_counts.specs.Contours.{AreEdges}
+use Rattle.contour_counts.specs.Counts.{met_at, met_below}
+use Rattle.contour_counts.proofs.Rows.{entry-lt}
+use Rattle.convex_orders.proofs.Once.{number_once}
 use Rattle.convex_orders.proofs.Taken.{marks_after_vertex}
 
 module _ (lists : Lists) (s d : ℕ) (based : IsBased lists s d) where
@@ -68,9 +72,6 @@ module _ (lists : Lists) (s d : ℕ) (based : IsBased lists s d) where
           other = (o.0, omega arith, λ e. o.2 (ap₂ (entry lists own) (ap (λ k. slice_index ws k) (sym z) ∙ st.list.each (suc o.0) (omega arith)) (st.list.each o.0 (omega arith)) ∙ e));
         }
 
-    pub some_choice : HasOther lists own s d ws → SomeChoice lists own marks s d ws
-    some_choice o = record { alive = st.alive; w = st.w; r = st.r; choice = choice o }
-
     module _ (new : List Bool) (go : GoesOff lists own new st.alive st.w st.r) where
       pub off_by : IsOffBy lists own new s d ws st.alive st.w st.r go.o
       off_by = record {
@@ -84,9 +85,6 @@ module _ (lists : Lists) (s d : ℕ) (based : IsBased lists s d) where
           last = ends_as_before lists st.alive st.w st.r go.o go.off ∙ st.shown.last;
         };
       }
-
-      pub some_off : SomeOff lists own new s d ws
-      some_off = record { alive = st.alive; w = st.w; r = st.r; o = go.o; is = off_by }
 
       -- one removal more
       pub stands_more : (less : ℕ) → bound ≡ suc less → (us : List ℕ) (rows' : ConvexRows) → IsListOf us go.o.contour go.o.places → IsRowMore lists st.w go.o rows rows' → Stands lists own new s d us rows' less
@@ -215,6 +213,40 @@ module _ (lists : Lists) (s d : ℕ) (based : IsBased lists s d) where
                 | inr ne ↦ (let h = cuts_rise o off i j (omega arith) (omega arith) in let s = off.rises j m in omega arith)
               ]
 
+  -- the list of a contour that is shown
+  module _ (own : Lists) (marks : List Bool) (ws : List ℕ) (alive : ℕ → Bool) (w : ℕ → ℕ) (r : ℕ) (shown : IsShown lists own marks s d alive w r) (list : IsListOf ws w r) where
+    pub shown_in : (i : ℕ) → i < length ws → slice_index ws i < length lists
+    shown_in i l = let long = list.long in subst (λ v. v < length lists) (sym (list.each i (omega arith))) (shown.contour.edge i (omega arith)).dart.0
+
+    pub shown_edges : AreEdges lists ws
+    shown_edges i l =
+        let long = list.long in
+        let back = simple.both_ways (w i) (w (suc i)) (shown.contour.edge i (omega arith)).dart in
+        subst (λ v. HasDart lists v (slice_index ws i)) (sym (list.each (suc i) (omega arith))) (subst (HasDart lists (w (suc i))) (sym (list.each i (omega arith))) back)
+
+    pub shown_room : (other : Lists) (count : ℕ) → AreFaceNumbers lists own other count → (f : ℕ) → met_below own ws (length ws) f ≤ length ws
+    shown_room other count n f = sum_below-le (λ i. met_at own f (slice_index ws i)) (length ws) (λ k l. number_once lists own other count simple tight n (slice_index ws k) (shown_in k l) f)
+
+  -- the way along a contour that is shown begins with d
+  pub first_trace : (own : Lists) (marks : List Bool) (items : List ℕ) (alive : ℕ → Bool) (w : ℕ → ℕ) (r : ℕ) → IsShown lists own marks s d alive w r → items ≡ d ∷ [] → IsTrace lists own marks items s alive w r 0 r
+  first_trace own marks items alive w r shown e =
+      let c = shown.contour in
+      let some : 0 < r = elim (cases_eq r 0) [
+        | inr ne ↦ omega arith
+        | inl z ↦ absurd (simple.no_loop s d based.base (sym shown.first ∙ (ap w (sym z) ∙ shown.last)))
+      ] in
+      record {
+        contour = c;
+        marks_are = shown.marks_are;
+        from = record {
+          long = ap length e;
+          each = λ i l. let z : i ≡ 0 = omega arith in ap (λ k. slice_index items k) z ∙ (ap (λ (y : List ℕ). slice_index y 0) e ∙ (sym shown.first ∙ ap w (sym z)));
+        };
+        order = some;
+        within = omega arith;
+        to = shown.last;
+      }
+
   -- the contour where just the face of the base is taken off
   module _ (own other : Lists) (count : ℕ) (n : AreFaceNumbers lists own other count) where
     pub first_shown : (old new : List Bool) → length old ≡ count → ((f : ℕ) → f < count → is_set old f ≡ true) → new ≡ set old (entry lists own s d) false → (alive : ℕ → Bool) (w : ℕ → ℕ) (r : ℕ) → IsFirst lists s d alive w r → IsShown lists own new s d alive w r
@@ -272,9 +304,6 @@ module _ (lists : Lists) (s d : ℕ) (based : IsBased lists s d) where
                 last = ends_as_before lists x.0 w x.2 o x.5 ∙ x.4.last;
               };
             }
-
-        pub some_first : SomeOff lists own new s d ws
-        some_first = record { alive = x.0; w = x.1; r = x.2; o = x.3; is = off_first }
 
         pub stands_first : (us : List ℕ) (old rows : ConvexRows) → HasRows old 0 → IsListOf us x.3.contour x.3.places → IsRowMore lists x.1 x.3 old rows → Stands lists own new s d us rows (suc (dart_count lists))
         stands_first us old rows none list' more =

@@ -1,8 +1,11 @@
--- Stretches by the numbers that are split, and loose vertices by rows.
-use Rattle.std.proofs.Common.{◌≡◌, ◌≢◌, ◌↔◌, ℕ, zero, suc, ◌<◌, ◌≤◌, Bool, true, false, List, length, slice_index, Contains, sym, ap, ap₂, ◌∙◌, subst, inl, inr, arith}
-use Rattle.std.proofs.lemmas.Bool.{cases_Bool, cases_eq, true≢false}
+-- Stretches by counts, and loose vertices by rows.
+use Rattle.std.proofs.Common.{◌≡◌, ◌≢◌, ◌↔◌, ℕ, suc, ◌+◌, ◌<◌, ◌≤◌, Bool, true, false, eqb, ltb, lt-ltb, ltb-true, List, length, slice_index, Contains, refl, sym, ap, ap₂, ◌∙◌, subst, inl, inr, arith}
+use Rattle.std.proofs.lemmas.Bool.{cases_eq}
+use Rattle.label_classes.specs.Classes.{count_below}
+use Rattle.label_classes.proofs.Counting.{count_below_same}
 use Rattle.map_lists.specs.Lists.{Lists}
 use Rattle.map_definitions.specs.Maps.{list_of, HasDart, IsSimpleMap, place_of}
+use Rattle.map_definitions.proofs.EntryLemmas.{Contains-from_count_of, Contains-counted}
 use Rattle.tight_maps.specs.Tight.{IsTight}
 use Rattle.tight_maps.proofs.Tightness.{three_connected_is_tight}
 use Rattle.tight_maps.proofs.Neighbours.{three_neighbours}
@@ -10,13 +13,17 @@ use Rattle.face_peeling.specs.Contours.{face_of, Passes, IsContour, IsStretch, I
 use Rattle.face_peeling.specs.Laws.{HasThree}
 use Rattle.face_peeling.proofs.ChainsOff.{edge_passes}
 use Rattle.face_peeling.proofs.Choices.{some_loose_law}
+use Rattle.face_peeling.proofs.StretchCounts.{stretch_by_counts_law}
 use Rattle.face_peeling.proofs.TakenOff.{base_passes, base_living}
 use Rattle.face_numbers.specs.FaceNumbers.{entry, AreFaceNumbers}
+use Rattle.contour_counts.specs.Contours.{inner_number}
+use Rattle.contour_counts.specs.Counts.{met_at, met_below, AreCounts}
+use Rattle.contour_counts.proofs.Rows.{entry_at, entry-lt, entry_within, passes-number}
 use Rattle.convex_orders.specs.Shown.{is_set, IsBased, IsChoice}
-use Rattle.convex_orders.specs.Splits.{IsSplit, IsLooseRow, IsLoosePlace}
-use Rattle.convex_orders.proofs.Rows.{entry_at, entry_within, passes-number}
+use Rattle.convex_orders.specs.Splits.{IsLooseRow, IsLoosePlace}
+use Rattle.convex_orders.proofs.Once.{number_once, sum_is_count, one_if_some, same_test}
 
-module _ (lists own other : Lists) (count s d : ℕ) (based : IsBased lists s d) (n : AreFaceNumbers lists own other count) (marks : List Bool) (ws : List ℕ) (split : List Bool) (exact : (f : ℕ) → (is_set split f ≡ true) ↔ IsSplit lists own ws (length ws) f) (alive : ℕ → Bool) (w : ℕ → ℕ) (r : ℕ) (choice : IsChoice lists own marks s d ws alive w r) where
+module _ (lists own other : Lists) (count s d : ℕ) (based : IsBased lists s d) (n : AreFaceNumbers lists own other count) (marks : List Bool) (ws places edges : List ℕ) (counts : AreCounts lists own count ws places edges) (alive : ℕ → Bool) (w : ℕ → ℕ) (r : ℕ) (choice : IsChoice lists own marks s d ws alive w r) where
   abbrev simple : IsSimpleMap lists
   simple = based.three.simple
 
@@ -41,50 +48,38 @@ module _ (lists own other : Lists) (count s d : ℕ) (based : IsBased lists s d)
   pub vertex_in : (i : ℕ) → i ≤ r → w i < length lists
   vertex_in i l = (contour.edge i l).dart.0
 
-  -- the numbers of two edges are one where their faces are
-  pub same_edges : (i j : ℕ) → i ≤ r → j ≤ r → (entry lists own (w (suc i)) (w i) ≡ entry lists own (w (suc j)) (w j)) ↔ (face_of lists (w (suc i)) (w i) ≡ face_of lists (w (suc j)) (w j))
-  same_edges i j l m = n.alike (w (suc i)) (w i) (w (suc j)) (w j) (edge_back i l) (edge_back j m)
+  -- no row has a number twice
+  row_once : (v : ℕ) → v < length lists → (f : ℕ) → met_at own f v ≤ 1
+  row_once v l f = number_once lists own other count simple tight n v l f
 
-  -- a face that is not split meets the contour in one stretch
-  pub stretch_from : (x y : ℕ) → HasDart lists x y → ¬ IsSplit lists own ws (length ws) (entry lists own x y) → IsStretch lists w r (face_of lists x y)
-  stretch_from x y has none a i zero l m k at_a at_b = absurd (omega arith)
-  stretch_from x y has none a i (suc b) l m k at_a at_b =
-      let f = entry lists own x y in
-      let contains : (j : ℕ) → j ≤ r → Passes lists (face_of lists x y) (w j) → Contains (list_of own (slice_index ws j)) f = λ j in_r p.
-      subst (λ z. Contains (list_of own z) f) (sym (at_place j in_r)) ((passes-number lists own other count simple n x y (w j) has (vertex_in j in_r)).1 p) in
-      let length_is = long in
-      let own_edge : entry lists own (w (suc b)) (w b) ≡ f = elim (cases_eq (entry lists own (w (suc b)) (w b)) f) [
-        | inl e ↦ e
-        | inr ne ↦ absurd (none record {
-          first = a;
-          second = b;
-          order = omega arith;
-          before = omega arith;
-          one = contains a (omega arith) at_a;
-          two = contains (suc b) k at_b;
-          gap = λ q. ne (ap₂ (entry lists own) (sym (at_place (suc b) k)) (sym (at_place b (omega arith))) ∙ q);
-        })
-      ] in
-      let face_is : face_of lists (w (suc b)) (w b) ≡ face_of lists x y = (n.alike (w (suc b)) (w b) x y (edge_back b (omega arith)) has).0 own_edge in
-      elim (cases_eq i b) [
-        | inl e ↦ ap (λ z. face_of lists (w (suc z)) (w z)) e ∙ face_is
-        | inr ne ↦ stretch_from x y has none a i b l (omega arith) (omega arith) at_a (subst (λ z. Passes lists z (w b)) face_is (edge_passes lists alive w r simple contour b (omega arith)).0)
-      ]
-
-  -- and the other way about
-  pub stretch_unsplit : (x y : ℕ) → HasDart lists x y → IsStretch lists w r (face_of lists x y) → ¬ IsSplit lists own ws (length ws) (entry lists own x y)
-  stretch_unsplit x y has stretch m =
-      let f = entry lists own x y in
-      let length_is = long in
-      let before = m.before in
-      let order = m.order in
-      let passes : (j : ℕ) → j ≤ r → Contains (list_of own (slice_index ws j)) f → Passes lists (face_of lists x y) (w j) = λ j in_r c.
-      (passes-number lists own other count simple n x y (w j) has (vertex_in j in_r)).0 (subst (λ z. Contains (list_of own z) f) (at_place j in_r) c) in
-      let own_edge = stretch m.first m.second (suc m.second) order (omega arith) (omega arith) (passes m.first (omega arith) m.one) (passes (suc m.second) (omega arith) m.two) in
-      m.gap (ap₂ (entry lists own) (at_place (suc m.second) (omega arith)) (at_place m.second (omega arith)) ∙ (n.alike (w (suc m.second)) (w m.second) x y (edge_back m.second (omega arith)) has).1 own_edge)
+  -- a face at a vertex of the contour meets it in one stretch exactly where its number is met once more than it has edges
+  pub whole_stretch : (j u : ℕ) → j ≤ r → HasDart lists (w j) u → (slice_index places (entry lists own (w j) u) ≡ slice_index edges (entry lists own (w j) u) + 1) ↔ IsStretch lists w r (face_of lists (w j) u)
+  whole_stretch j u j_r has =
+      let f = entry lists own (w j) u in
+      let face = face_of lists (w j) u in
+      let f_in = entry-lt lists own count n.own_table (w j) u has in
+      let long_is = long in
+      let passed : ℕ → Bool = λ i. ltb 0 (met_at own f (w i)) in
+      let tells : (i : ℕ) → i ≤ r → (passed i ≡ true) ↔ Passes lists face (w i) = λ i l. (
+        (λ t. (passes-number lists own other count simple n (w j) u (w i) has (vertex_in i l)).0 (Contains-from_count_of f (list_of own (w i)) (ltb-true 0 (met_at own f (w i)) t))),
+        (λ p. lt-ltb 0 (met_at own f (w i)) (Contains-counted f (list_of own (w i)) ((passes-number lists own other count simple n (w j) u (w i) has (vertex_in i l)).1 p))),
+      ) in
+      let law = stretch_by_counts_law lists alive w r face j passed simple contour tells j_r (u, has, refl) in
+      let places_are : slice_index places f ≡ count_below passed (suc r) =
+      counts.places_are f f_in ∙ (ap (λ m. met_below own ws m f) long ∙ sum_is_count (λ i. met_at own f (slice_index ws i)) passed (suc r)
+      (λ i l. let v = at_place i (omega arith) in ap (λ x. met_at own f x) v ∙ one_if_some (met_at own f (w i)) (row_once (w i) (vertex_in i (omega arith)) f))) in
+      let edges_are : slice_index edges f ≡ count_below (λ i. eqb (face_of lists (w (suc i)) (w i)) face) r =
+      counts.edges_are f r f_in (sym long) ∙ count_below_same (λ i. eqb (inner_number lists own ws i) f) (λ i. eqb (face_of lists (w (suc i)) (w i)) face) r
+      (λ i l.
+      let at : inner_number lists own ws i ≡ entry lists own (w (suc i)) (w i) = ap₂ (entry lists own) (at_place (suc i) l) (at_place i (omega arith)) in
+      let alike = n.alike (w (suc i)) (w i) (w j) u (edge_back i (omega arith)) has in
+      same_test (inner_number lists own ws i) f (face_of lists (w (suc i)) (w i)) face (λ e. alike.0 (sym at ∙ e)) (λ e. at ∙ alike.1 e)) in (
+        (λ e. law.0 (sym places_are ∙ (e ∙ ap (λ z. z + 1) edges_are))),
+        (λ stretch. places_are ∙ (law.1 stretch ∙ ap (λ z. z + 1) (sym edges_are))),
+      )
 
   -- a loose vertex by its rows
-  loose_place : (j : ℕ) → IsLoose lists alive w r j → IsLoosePlace own other marks split ws j
+  loose_place : (j : ℕ) → IsLoose lists alive w r j → IsLoosePlace own other marks places edges ws j
   loose_place j loose =
       let v = w j in
       let length_is = long in
@@ -94,7 +89,7 @@ module _ (lists own other : Lists) (count s d : ℕ) (based : IsBased lists s d)
       let open_at = loose.open_at in
       let x = open_at.0 in
       let has = open_at.1 in
-      let row : IsLooseRow (list_of own v) (list_of other v) marks split = record {
+      let row : IsLooseRow (list_of own v) (list_of other v) marks places edges = record {
         place = place_of x (list_of lists v);
         open_at = record {
           within = entry_within lists own count n.own_table v x has;
@@ -105,25 +100,23 @@ module _ (lists own other : Lists) (count s d : ℕ) (based : IsBased lists s d)
             let e = entry_at lists own count simple n.own_table v i l m in
             let u = slice_index (list_of lists v) i in
             let live_face : alive (face_of lists v u) ≡ true = sym (choice.shown.marks_are v u e.dart) ∙ (ap (is_set marks) (sym e.is) ∙ live) in
-            ap (is_set split) e.is ∙ elim (cases_Bool (is_set split (entry lists own v u))) [
-              | inr f ↦ f
-              | inl t ↦ absurd (stretch_unsplit v u e.dart (loose.stretches u e.dart live_face) ((exact (entry lists own v u)).0 t))
-            ];
+            let whole = (whole_stretch j u (omega arith) e.dart).1 (loose.stretches u e.dart live_face) in
+            ap (λ f. slice_index places f) e.is ∙ (whole ∙ ap (λ f. slice_index edges f + 1) (sym e.is));
       } in
       record {
         after = loose.after;
         before = omega arith;
-        loose = subst (λ z. IsLooseRow (list_of own z) (list_of other z) marks split) (sym at) row;
+        loose = subst (λ z. IsLooseRow (list_of own z) (list_of other z) marks places edges) (sym at) row;
       }
 
-  pub place_loose : (j : ℕ) → IsLoosePlace own other marks split ws j → IsLoose lists alive w r j
+  pub place_loose : (j : ℕ) → IsLoosePlace own other marks places edges ws j → IsLoose lists alive w r j
   place_loose j p =
       let v = w j in
       let length_is = long in
       let before = p.before in
       let at = at_place j (omega arith) in
       let l = vertex_in j (omega arith) in
-      let row : IsLooseRow (list_of own v) (list_of other v) marks split = subst (λ z. IsLooseRow (list_of own z) (list_of other z) marks split) at p.loose in
+      let row : IsLooseRow (list_of own v) (list_of other v) marks places edges = subst (λ z. IsLooseRow (list_of own z) (list_of other z) marks places edges) at p.loose in
       let k = row.place in
       let e = entry_at lists own count simple n.own_table v k l row.open_at.within in
       let m : k < length (list_of other v) = omega (arith, row.open_at.within, n.own_table.sizes v l, n.other_table.sizes v l) in
@@ -140,8 +133,7 @@ module _ (lists own other : Lists) (count s d : ℕ) (based : IsBased lists s d)
         );
         stretches = λ u has live.
             let i = place_of u (list_of lists v) in
-            let not_split : is_set split (entry lists own v u) ≡ false = row.whole i (entry_within lists own count n.own_table v u has) (choice.shown.marks_are v u has ∙ live) in
-            stretch_from v u has (λ m. true≢false (sym ((exact (entry lists own v u)).1 m) ∙ not_split));
+            (whole_stretch j u (omega arith) has).0 (row.whole i (entry_within lists own count n.own_table v u has) (choice.shown.marks_are v u has ∙ live));
       }
 
   -- the edge that is not of the face inside of the base
@@ -152,7 +144,7 @@ module _ (lists own other : Lists) (count s d : ℕ) (based : IsBased lists s d)
       o.2 ((n.alike (w (suc o.0)) (w o.0) (w 0) (w r) (edge_back o.0 (omega arith)) inner).1 (all o.0 l) ∙ ap₂ (entry lists own) choice.shown.first choice.shown.last)
 
   -- THE CHOICE: some place is loose
-  pub some_place : (j : ℕ) × IsLoosePlace own other marks split ws j
+  pub some_place : (j : ℕ) × IsLoosePlace own other marks places edges ws j
   some_place =
       elim (some_loose_law lists alive w r simple based.plane tight contour choice.begun) [
         | inl all ↦ absurd (not_all all choice.other)

@@ -12,17 +12,13 @@ use Rattle.face_peeling.proofs.VertexOff.{vertex_taken_off_law}
 use Rattle.convex_runs.proofs.Grown.{IsShore-contour}
 use Rattle.convex_removals.proofs.Steps.{goer_off}
 use Rattle.face_numbers.specs.FaceNumbers.{entry, AreFaceNumbers}
-use Rattle.convex_orders.specs.Shown.{is_set, IsBased, AreMarks, IsChoice, GoesOff}
-use Rattle.convex_orders.specs.Splits.{IsSplit}
+use Rattle.convex_orders.specs.Shown.{is_set, IsBased, AreMarks, IsChoice, GoesOff, GoesOffNear}
 use Rattle.convex_orders.proofs.Flags.{set_less}
-use Rattle.convex_orders.proofs.Rows.{passes-number, entry-lt}
+use Rattle.contour_counts.specs.Counts.{AreCounts}
+use Rattle.contour_counts.proofs.Rows.{passes-number, entry-lt}
+use Rattle.convex_orders.proofs.Once.{same_bool}
 use Rattle.convex_orders.proofs.RemovedFaces.{made_passes}
 use Rattle.convex_orders.proofs.Stretches.{tight, has_three, vertex_in, off_base}
-
-same_bool : (a b : Bool) → (a ≡ true → b ≡ true) → (b ≡ true → a ≡ true) → a ≡ b
-same_bool true b h k = sym (h refl)
-same_bool false true h k = k refl
-same_bool false false h k = refl
 
 module _ (lists own other : Lists) (count : ℕ) (simple : IsSimpleMap lists) (n : AreFaceNumbers lists own other count) (marks new : List Bool) (alive : ℕ → Bool) (w : ℕ → ℕ) (r : ℕ) (o : Removal) (off : IsTakenOff lists alive w r o) (are : AreMarks lists own marks alive) where
   -- the marks after a removal, where some numbers lose their marks
@@ -60,7 +56,7 @@ module _ (lists own other : Lists) (count : ℕ) (simple : IsSimpleMap lists) (n
       let v_is : v ≡ w (suc (o.first + 0)) = sym at ∙ ap w z in
       goer_off lists alive w r o simple contour off (IsShore-contour lists o.alive o.contour o.places next) 0 p.0 (omega arith) (subst (λ u. HasDart lists u p.0) v_is p.1) (ap (λ u. o.alive (face_of lists u p.0)) (sym v_is) ∙ (ap o.alive p.2 ∙ t)))
 
-module _ (lists own other : Lists) (count s d : ℕ) (based : IsBased lists s d) (n : AreFaceNumbers lists own other count) (marks new : List Bool) (ws : List ℕ) (split : List Bool) (exact : (f : ℕ) → (is_set split f ≡ true) ↔ IsSplit lists own ws (length ws) f) (long : length marks ≡ count) (alive : ℕ → Bool) (w : ℕ → ℕ) (r : ℕ) (choice : IsChoice lists own marks s d ws alive w r) where
+module _ (lists own other : Lists) (count s d : ℕ) (based : IsBased lists s d) (n : AreFaceNumbers lists own other count) (marks new : List Bool) (ws places edges : List ℕ) (counts : AreCounts lists own count ws places edges) (long : length marks ≡ count) (alive : ℕ → Bool) (w : ℕ → ℕ) (r : ℕ) (choice : IsChoice lists own marks s d ws alive w r) where
   abbrev simple : IsSimpleMap lists
   simple = based.three.simple
 
@@ -68,7 +64,7 @@ module _ (lists own other : Lists) (count s d : ℕ) (based : IsBased lists s d)
   contour = choice.shown.contour
 
   abbrev is_tight : IsTight lists
-  is_tight = tight lists own other count s d based n marks ws split exact alive w r choice
+  is_tight = tight lists own other count s d based n marks ws places edges counts alive w r choice
 
   living_edge : (i : ℕ) → i ≤ r → alive (face_of lists (w (suc i)) (w i)) ≡ true
   living_edge i l = (contour.edge i l).inside
@@ -78,10 +74,10 @@ module _ (lists own other : Lists) (count s d : ℕ) (based : IsBased lists s d)
     stretches face live p = subst (IsStretch lists w r) p.2 (loose.stretches p.0 p.1 (ap alive p.2 ∙ live))
 
     not_base : (face : ℕ) → Passes lists face (w j) → face ≢ face_of lists (w 0) (w r)
-    not_base face p e = off_base lists own other count s d based n marks ws split exact alive w r choice j loose (subst (λ f. Passes lists f (w j)) e p)
+    not_base face p e = off_base lists own other count s d based n marks ws places edges counts alive w r choice j loose (subst (λ f. Passes lists f (w j)) e p)
 
     -- two edges of one face, from place i on
-    pub goes_chain : (i : ℕ) → suc (suc i) ≤ r → (i ≡ j) ⊎ (suc (suc i) ≡ j) → face_of lists (w (suc (suc i))) (w (suc i)) ≡ face_of lists (w (suc i)) (w i) → (x y : ℕ) → HasDart lists x y → face_of lists x y ≡ face_of lists (w (suc i)) (w i) → new ≡ set marks (entry lists own x y) false → GoesOff lists own new alive w r
+    pub goes_chain : (i : ℕ) → suc (suc i) ≤ r → (i ≡ j) ⊎ (suc (suc i) ≡ j) → face_of lists (w (suc (suc i))) (w (suc i)) ≡ face_of lists (w (suc i)) (w i) → (x y : ℕ) → HasDart lists x y → face_of lists x y ≡ face_of lists (w (suc i)) (w i) → new ≡ set marks (entry lists own x y) false → GoesOffNear lists own new alive w r j
     goes_chain i l at same x y has on e =
         let face = face_of lists (w (suc i)) (w i) in
         let one = edge_passes lists alive w r simple contour i (omega arith) in
@@ -90,18 +86,24 @@ module _ (lists own other : Lists) (count s d : ℕ) (based : IsBased lists s d)
           | inl z ↦ subst (λ k. Passes lists face (w k)) z one.0
           | inr z ↦ subst (λ k. Passes lists face (w k)) z (subst (λ f. Passes lists f (w (suc (suc i)))) same two.1)
         ] in
-        let three = has_three lists own other count s d based n marks ws split exact alive w r choice in
+        let three = has_three lists own other count s d based n marks ws places edges counts alive w r choice in
         let go = chain_taken_off_law lists alive w r i face simple is_tight three contour l refl same (stretches face (living_edge i (omega arith)) p) (not_base face p) in
+        let first_le = go.6 in
+        let after_le = go.7 in
         record {
-          o = go.0;
-          off = go.1;
-          contour = go.2;
-          open_at = go.3;
-          marks_are = marks_after_one lists own other count simple n marks new alive w r go.0 go.1 choice.shown.marks_are x y has e long go.4 (go.5 ∙ sym on);
+          go = record {
+            o = go.0;
+            off = go.1;
+            contour = go.2;
+            open_at = go.3;
+            marks_are = marks_after_one lists own other count simple n marks new alive w r go.0 go.1 choice.shown.marks_are x y has e long go.4 (go.5 ∙ sym on);
+          };
+          low = elim at [ inl z ↦ omega arith | inr z ↦ omega arith ];
+          high = elim at [ inl z ↦ omega arith | inr z ↦ omega arith ];
         }
 
     -- one vertex
-    pub goes_vertex : (i : ℕ) → suc i ≡ j → (suc j < r → face_of lists (w (suc (suc j))) (w (suc j)) ≢ face_of lists (w (suc j)) (w j)) → ((h : ℕ) → suc h ≡ i → face_of lists (w (suc h)) (w h) ≢ face_of lists (w (suc i)) (w i)) → ((f : ℕ) → (is_set new f ≡ true) ↔ ((is_set marks f ≡ true) × (¬ Contains (list_of own (w j)) f))) → GoesOff lists own new alive w r
+    pub goes_vertex : (i : ℕ) → suc i ≡ j → (suc j < r → face_of lists (w (suc (suc j))) (w (suc j)) ≢ face_of lists (w (suc j)) (w j)) → ((h : ℕ) → suc h ≡ i → face_of lists (w (suc h)) (w h) ≢ face_of lists (w (suc i)) (w i)) → ((f : ℕ) → (is_set new f ≡ true) ↔ ((is_set marks f ≡ true) × (¬ Contains (list_of own (w j)) f))) → GoesOffNear lists own new alive w r j
     goes_vertex i at right left set =
         let before = loose.before in
         let go = vertex_taken_off_law lists alive w r i simple is_tight contour (record {
@@ -113,10 +115,15 @@ module _ (lists own other : Lists) (count s d : ℕ) (based : IsBased lists s d)
         }) in
         let first : suc go.0.first ≡ j = ap suc go.3 ∙ at in
         let one = go.4 in
+        let first_at = go.3 in
         record {
-          o = go.0;
-          off = go.1;
-          contour = go.2;
-          open_at = λ q l. let z : suc (go.0.first + q) ≡ j = omega arith in subst (λ k. IsOpen lists alive (w k)) (sym z) loose.open_at;
-          marks_are = marks_after_vertex lists own other count simple n marks new alive w r go.0 go.1 choice.shown.marks_are contour go.2 go.4 (w j) (vertex_in lists own other count s d based n marks ws split exact alive w r choice j (omega arith)) (ap w first) set;
+          go = record {
+            o = go.0;
+            off = go.1;
+            contour = go.2;
+            open_at = λ q l. let z : suc (go.0.first + q) ≡ j = omega arith in subst (λ k. IsOpen lists alive (w k)) (sym z) loose.open_at;
+            marks_are = marks_after_vertex lists own other count simple n marks new alive w r go.0 go.1 choice.shown.marks_are contour go.2 go.4 (w j) (vertex_in lists own other count s d based n marks ws places edges counts alive w r choice j (omega arith)) (ap w first) set;
+          };
+          low = omega arith;
+          high = omega arith;
         }

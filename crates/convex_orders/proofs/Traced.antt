@@ -1,5 +1,5 @@
--- The contour as it is traced: how far the list has come, and that it comes to the end.
-use Rattle.std.proofs.Common.{◌≡◌, ◌≢◌, ℕ, suc, ◌+◌, ◌-◌, ◌<◌, ◌≤◌, Bool, true, List, [], ◌∷◌, ◌++◌, length, slice_index, get_or, refl, sym, ap, ◌∙◌, subst, inl, inr, arith}
+-- The contour as it is gone along: one place more, and that it comes to the end.
+use Rattle.std.proofs.Common.{◌≡◌, ◌≢◌, ℕ, suc, ◌+◌, ◌<◌, ◌≤◌, Bool, true, List, [], ◌∷◌, ◌++◌, length, slice_index, get_or, refl, sym, ap, ◌∙◌, subst, inl, inr, arith}
 use Rattle.std.proofs.lemmas.Bool.{cases_eq, cases_lt}
 use Rattle.std.proofs.lemmas.List.{length-append, get_or_append_left, get_or_push}
 use Rattle.label_classes.proofs.Counting.{count_below_into, count_below_all}
@@ -7,7 +7,7 @@ use Rattle.map_lists.specs.Lists.{Lists}
 use Rattle.map_definitions.specs.Maps.{IsSimpleMap}
 use Rattle.face_peeling.specs.Contours.{IsContour}
 use Rattle.face_numbers.specs.FaceNumbers.{AreFaceNumbers}
-use Rattle.convex_orders.specs.Shown.{IsShown, SomeShown, IsListOf, IsRimIn}
+use Rattle.convex_orders.specs.Shown.{IsListOf, IsTrace, SomeTrace, IsRimIn}
 use Rattle.convex_orders.proofs.Rows.{rim_from, rim_to}
 
 -- a contour has at most as many places as there are vertices
@@ -16,92 +16,55 @@ contour_short lists alive w r c =
     let a = count_below_into w (λ t. true) (λ t. true) (suc r) (length lists) (λ i l p. ((c.edge i (omega arith)).dart.0, refl)) (λ i j l m p q e. c.distinct i j (omega arith) (omega arith) e) in
     omega (arith, a, count_below_all (suc r), count_below_all (length lists))
 
--- the list so far, and its last vertex
-pub record IsTracedTo (lists own : Lists) (marks : List Bool) (s d : ℕ) (items : List ℕ) (x count : ℕ) : Type 0 where
-  pub long : length items ≡ count
-  pub some : 0 < count
-  pub last : (k : ℕ) → suc k ≡ count → slice_index items k ≡ x
-  pub each : (alive : ℕ → Bool) (w : ℕ → ℕ) (r : ℕ) → IsShown lists own marks s d alive w r → (count ≤ suc r) × ((k : ℕ) → k < count → slice_index items k ≡ w k)
+module _ (lists own other : Lists) (count : ℕ) (marks : List Bool) (simple : IsSimpleMap lists) (n : AreFaceNumbers lists own other count) (items : List ℕ) (end : ℕ) (alive : ℕ → Bool) (w : ℕ → ℕ) (r a b : ℕ) (t : IsTrace lists own marks items end alive w r a b) where
+  -- the last vertex so far
+  pub traced_last : (k : ℕ) → suc k ≡ length items → slice_index items k ≡ w a
+  traced_last k e = let long = t.from.long in let z : k ≡ a = omega arith in t.from.each k (omega arith) ∙ ap w z
 
-module _ (lists own other : Lists) (count : ℕ) (marks : List Bool) (s d : ℕ) (simple : IsSimpleMap lists) (n : AreFaceNumbers lists own other count) where
-  pub traced_first : (items : List ℕ) → items ≡ d ∷ [] → IsTracedTo lists own marks s d items d 1
-  traced_first items e =
-      let at : slice_index items 0 ≡ d = ap (λ (z : List ℕ). get_or z 0 0) e in
-      record {
-        long = ap length e;
-        some = omega arith;
-        last = λ k l. let z : k ≡ 0 = omega arith in ap (λ i. get_or items i 0) z ∙ at;
-        each = λ alive w r shown. (omega arith, λ k l. let z : k ≡ 0 = omega arith in ap (λ i. get_or items i 0) z ∙ (at ∙ (sym shown.first ∙ ap w (sym z))));
-      }
+  pub traced_rim : (x : ℕ) → w a ≡ x → IsRimIn lists own other marks x (w (suc a))
+  traced_rim x e =
+      let order = t.order in
+      let within = t.within in
+      subst (λ z. IsRimIn lists own other marks z (w (suc a))) e (rim_to lists own other count simple n marks alive t.marks_are (w a) (w (suc a)) (t.contour.edge a (omega arith)))
 
-  module _ (items : List ℕ) (x m : ℕ) (traced : IsTracedTo lists own marks s d items x m) where
-    -- the last vertex is on the contour
-    on_contour : (alive : ℕ → Bool) (w : ℕ → ℕ) (r k : ℕ) → IsShown lists own marks s d alive w r → suc k ≡ m → w k ≡ x
-    on_contour alive w r k shown e = sym ((traced.each alive w r shown).1 k (omega arith)) ∙ traced.last k e
+  module _ (x y : ℕ) (at : w a ≡ x) (rim : IsRimIn lists own other marks x y) where
+    next_is : w (suc a) ≡ y
+    next_is =
+        let order = t.order in
+        let within = t.within in
+        let found = t.contour.only x y (rim_from lists own other count simple n marks alive t.marks_are x y rim) in
+        let place : found.0 ≡ a = t.contour.distinct found.0 a found.1 (omega arith) (found.2 ∙ sym at) in
+        ap (λ i. w (suc i)) (sym place) ∙ found.3
 
-    -- another than s is not the last of the contour
-    before_end : (alive : ℕ → Bool) (w : ℕ → ℕ) (r k : ℕ) → IsShown lists own marks s d alive w r → suc k ≡ m → x ≢ s → k < r
-    before_end alive w r k shown e ne =
-        let l = (traced.each alive w r shown).0 in
-        elim (cases_eq k r) [
-          | inl z ↦ absurd (ne (sym (on_contour alive w r k shown e) ∙ (ap w z ∙ shown.last)))
-          | inr nz ↦ omega arith
-        ]
-
-    pub some_rim : SomeShown lists own marks s d → x ≢ s → (y : ℕ) × IsRimIn lists own other marks x y
-    some_rim some ne =
-        let shown = some.shown in
-        let some_m = traced.some in
-        let k : ℕ = m - 1 in
-        let e : suc k ≡ m = omega arith in
-        let l = before_end some.alive some.w some.r k shown e ne in
-        let rim = shown.contour.edge k (omega arith) in
-        (some.w (suc k), subst (λ z. IsRimIn lists own other marks z (some.w (suc k))) (on_contour some.alive some.w some.r k shown e) (rim_to lists own other count simple n marks some.alive shown.marks_are (some.w k) (some.w (suc k)) rim))
-
-    pub traced_more : (y : ℕ) (items' : List ℕ) → x ≢ s → IsRimIn lists own other marks x y → items' ≡ items ++ y ∷ [] → IsTracedTo lists own marks s d items' y (m + 1)
-    traced_more y items' ne rim e =
-        let long = traced.long in
-        let some_m = traced.some in
-        let old : (k : ℕ) → k < m → slice_index items' k ≡ slice_index items k = λ k l. ap (λ (z : List ℕ). get_or z k 0) e ∙ get_or_append_left items (y ∷ []) 0 k (omega arith) in
-        let new : slice_index items' m ≡ y = ap (λ (z : List ℕ). get_or z m 0) e ∙ get_or_push items y 0 m long in
+    pub traced_from : (items' : List ℕ) → items' ≡ items ++ y ∷ [] → IsListOf items' w (suc a)
+    traced_from items' e =
+        let long = t.from.long in
         record {
           long = ap length e ∙ (length-append items (y ∷ []) ∙ omega arith);
-          some = omega arith;
-          last = λ k l. let z : k ≡ m = omega arith in ap (λ i. get_or items' i 0) z ∙ new;
-          each = λ alive w r shown.
-              let k : ℕ = m - 1 in
-              let z : suc k ≡ m = omega arith in
-              let l = before_end alive w r k shown z ne in
-              let at = on_contour alive w r k shown z in
-              let found = shown.contour.only x y (rim_from lists own other count simple n marks alive shown.marks_are x y rim) in
-              let in_r = found.1 in
-              let place : found.0 ≡ k = shown.contour.distinct found.0 k (omega arith) (omega arith) (found.2 ∙ sym at) in
-              let next : w m ≡ y = ap w (sym z) ∙ (ap (λ i. w (suc i)) (sym place) ∙ found.3) in (
-                omega arith,
-                λ i less. elim (cases_lt i m) [
-                  | inl low ↦ old i low ∙ (traced.each alive w r shown).1 i low
-                  | inr high ↦ (let i_m : i ≡ m = omega arith in ap (λ j. get_or items' j 0) i_m ∙ (new ∙ (sym next ∙ ap w (sym i_m))))
-                ],
-              );
+          each = λ i l. elim (cases_eq i (suc a)) [
+            | inl z ↦ ap (λ (u : List ℕ). get_or u i 0) e ∙ (get_or_push items y 0 i (omega arith) ∙ (sym next_is ∙ ap w (sym z)))
+            | inr ne ↦ ap (λ (u : List ℕ). get_or u i 0) e ∙ (get_or_append_left items (y ∷ []) 0 i (omega arith) ∙ t.from.each i (omega arith))
+          ];
         }
 
-    -- s is the end
-    pub traced_end : x ≡ s → (alive : ℕ → Bool) (w : ℕ → ℕ) (r : ℕ) → IsShown lists own marks s d alive w r → IsListOf items w r
-    traced_end e alive w r shown =
-        let some_m = traced.some in
-        let k : ℕ = m - 1 in
-        let z : suc k ≡ m = omega arith in
-        let all = traced.each alive w r shown in
-        let l = all.0 in
-        let at : k ≡ r = shown.contour.distinct k r (omega arith) (omega arith) (on_contour alive w r k shown z ∙ (e ∙ sym shown.last)) in
-        let long = traced.long in
-        record { long = omega arith; each = λ i less. all.1 i (omega arith) }
+    -- where it is not the end, the way goes on
+    pub traced_more : (items' : List ℕ) → items' ≡ items ++ y ∷ [] → y ≢ end → IsTrace lists own marks items' end alive w r (suc a) b
+    traced_more items' e ne =
+        let order = t.order in
+        let not_end : suc a ≢ b = λ z. ne (sym next_is ∙ (ap w z ∙ t.to)) in
+        record { contour = t.contour; marks_are = t.marks_are; from = traced_from items' e; order = omega arith; within = t.within; to = t.to }
 
-    -- and so is as many as there are vertices
-    pub traced_all : length lists ≤ m → (alive : ℕ → Bool) (w : ℕ → ℕ) (r : ℕ) → IsShown lists own marks s d alive w r → IsListOf items w r
-    traced_all most alive w r shown =
-        let all = traced.each alive w r shown in
-        let l = all.0 in
-        let short = contour_short lists alive w r shown.contour in
-        let long = traced.long in
-        record { long = omega arith; each = λ i less. all.1 i (omega arith) }
+    pub traced_end : (items' : List ℕ) → items' ≡ items ++ y ∷ [] → y ≡ end → IsListOf items' w b
+    traced_end items' e same =
+        let order = t.order in
+        let within = t.within in
+        let z : suc a ≡ b = t.contour.distinct (suc a) b (omega arith) within (next_is ∙ (same ∙ sym t.to)) in
+        subst (IsListOf items' w) z (traced_from items' e)
+
+  -- there is an end
+  pub traced_short : a < length lists
+  traced_short =
+      let order = t.order in
+      let within = t.within in
+      let short = contour_short lists alive w r t.contour in
+      omega arith

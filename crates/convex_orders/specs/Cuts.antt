@@ -1,5 +1,5 @@
 -- Where the edges along a list go over from one number to another.
-use Rattle.std.specs.Prelude.{ℕ, suc, ◌+◌, ◌<◌, ◌≤◌, ◌≡◌, ◌≢◌, List, [], ◌∷◌, ◌++◌, length, slice_index, slice_range}
+use Rattle.std.specs.Prelude.{ℕ, suc, ◌+◌, ◌<◌, ◌≤◌, ◌≡◌, ◌≢◌, List, [], ◌∷◌, ◌++◌, length, reverse, slice_index, slice_range}
 use Rattle.convex_rows.specs.declared.rows.ConvexRows.{ConvexRows}
 use Rattle.map_lists.specs.Lists.{Lists}
 use Rattle.face_numbers.specs.FaceNumbers.{entry}
@@ -27,24 +27,24 @@ pub record IsCutRow (row : List ℕ) (first faces : ℕ) (cut : ℕ → ℕ) : T
   pub long : length row ≡ suc faces
   pub each : (i : ℕ) → i ≤ faces → slice_index row i + first ≡ cut i
 
--- the lists are alike at the first k places, and not at the next one
-pub record AreAlikeTo (ws us : List ℕ) (k : ℕ) : Type 0 where
-  pub within : k < length ws
-  pub within_other : k < length us
-  pub alike : (i : ℕ) → i < k → slice_index ws i ≡ slice_index us i
-  pub unlike : slice_index ws k ≢ slice_index us k
-
--- the same from the end, where z + suc i is the length
-pub record AreAlikeFrom (ws us : List ℕ) (k : ℕ) : Type 0 where
-  pub within : k < length ws
-  pub within_other : k < length us
-  pub alike : (i p q : ℕ) → i < k → p + suc i ≡ length ws → q + suc i ≡ length us → slice_index ws p ≡ slice_index us q
-  pub unlike : (p q : ℕ) → p + suc k ≡ length ws → q + suc k ≡ length us → slice_index ws p ≢ slice_index us q
-
--- A row of each kind more, from place `first` to place `last` of the new contour, and of the old one from behind `first` to before `end`.
-pub record ArePutBetween (ws us : List ℕ) (first last end faces : ℕ) (cut : ℕ → ℕ) (old new : ConvexRows) : Type 0 where
+-- A row more, from place `first` to place `last` of the list, with its cuts.
+pub record IsPutIn (us : List ℕ) (first last faces : ℕ) (cut : ℕ → ℕ) (old new : ConvexRows) : Type 0 where
   pub cuts : List ℕ
   pub cut_row : IsCutRow cuts first faces cut
   pub rows_are : new.rows ≡ old.rows ++ slice_range us first (last + 1) ∷ []
   pub cuts_are : new.cuts ≡ old.cuts ++ cuts ∷ []
-  pub news_are : new.news ≡ old.news ++ slice_range ws (first + 1) end ∷ []
+  pub news_are : new.news ≡ old.news
+
+-- What stood strictly between two places of the contour `ws` is taken out, and has its row: `left` has what stood up to the first place, `right` what stands behind the end, the last first.
+pub record IsTakenOut (ws left right : List ℕ) (x first end : ℕ) (old new : ConvexRows) : Type 0 where
+  pub left_long : length left ≡ suc first
+  pub left_each : (i : ℕ) → i ≤ first → slice_index left i ≡ slice_index ws i
+  pub right_long : length right + suc end ≡ length ws
+  pub right_each : (q : ℕ) → q < length right → slice_index (reverse right) q ≡ slice_index ws (suc end + q)
+  pub end_is : x ≡ slice_index ws end
+  pub news : List ℕ
+  pub news_long : length news + suc first ≡ end
+  pub news_each : (i : ℕ) → i < length news → slice_index news i ≡ slice_index ws (suc first + i)
+  pub rows_are : new.rows ≡ old.rows
+  pub cuts_are : new.cuts ≡ old.cuts
+  pub news_are : new.news ≡ old.news ++ news ∷ []

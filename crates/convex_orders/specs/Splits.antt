@@ -1,25 +1,9 @@
--- Which numbers of faces are met along a list of vertices, and which of them in more than one stretch.
-use Rattle.std.specs.Prelude.{ℕ, suc, ◌<◌, ◌≤◌, ◌≡◌, ◌≢◌, Bool, true, false, List, length, slice_index, Contains}
+-- Which vertices of a contour may go, by rows of numbers and counts.
+use Rattle.std.specs.Prelude.{ℕ, suc, ◌+◌, ◌<◌, ◌≤◌, ◌≡◌, Bool, true, false, List, length, slice_index}
 use Rattle.map_lists.specs.Lists.{Lists}
 use Rattle.map_definitions.specs.Maps.{list_of}
-use Rattle.face_numbers.specs.FaceNumbers.{entry}
+use Rattle.contour_counts.specs.Contours.{inner_number}
 use Rattle.convex_orders.specs.Shown.{is_set}
-
--- the number f is met at one of the first n vertices of the list
-pub record IsMet (own : Lists) (ws : List ℕ) (n f : ℕ) : Type 0 where
-  pub place : ℕ
-  pub before : place < n
-  pub here : Contains (list_of own (slice_index ws place)) f
-
--- it is met at two of them, and the edge before the second is not its own
-pub record IsSplit (lists own : Lists) (ws : List ℕ) (n f : ℕ) : Type 0 where
-  pub first : ℕ
-  pub second : ℕ
-  pub order : first ≤ second
-  pub before : suc second < n
-  pub one : Contains (list_of own (slice_index ws first)) f
-  pub two : Contains (list_of own (slice_index ws (suc second))) f
-  pub gap : entry lists own (slice_index ws (suc second)) (slice_index ws second) ≢ f
 
 -- neither of two numbers in rows is marked
 pub record IsOpenAt (own other : List ℕ) (marks : List Bool) (i : ℕ) : Type 0 where
@@ -33,18 +17,26 @@ pub record IsRimAt (own other : List ℕ) (marks : List Bool) (i : ℕ) : Type 0
   pub outside : is_set marks (slice_index own i) ≡ false
   pub inside : is_set marks (slice_index other i) ≡ true
 
--- no marked number of a row is split
-abbrev pub NoneSplit : List ℕ → List Bool → List Bool → Type 0
-NoneSplit own marks split = (i : ℕ) → i < length own → is_set marks (slice_index own i) ≡ true → is_set split (slice_index own i) ≡ false
+-- each marked number of a row is met at one vertex more than it has edges
+abbrev pub NoneSplit : List ℕ → List Bool → List ℕ → List ℕ → Type 0
+NoneSplit own marks places edges = (i : ℕ) → i < length own → is_set marks (slice_index own i) ≡ true → slice_index places (slice_index own i) ≡ slice_index edges (slice_index own i) + 1
 
 -- a row at which some entry has no mark, and no marked number is split
-pub record IsLooseRow (own other : List ℕ) (marks split : List Bool) : Type 0 where
+pub record IsLooseRow (own other : List ℕ) (marks : List Bool) (places edges : List ℕ) : Type 0 where
   pub place : ℕ
   pub open_at : IsOpenAt own other marks place
-  pub whole : NoneSplit own marks split
+  pub whole : NoneSplit own marks places edges
 
 -- such a row is that of the vertex at place j of the list, neither the first nor the last
-pub record IsLoosePlace (own other : Lists) (marks split : List Bool) (ws : List ℕ) (j : ℕ) : Type 0 where
+pub record IsLoosePlace (own other : Lists) (marks : List Bool) (places edges ws : List ℕ) (j : ℕ) : Type 0 where
   pub after : 0 < j
   pub before : suc j < length ws
-  pub loose : IsLooseRow (list_of own (slice_index ws j)) (list_of other (slice_index ws j)) marks split
+  pub loose : IsLooseRow (list_of own (slice_index ws j)) (list_of other (slice_index ws j)) marks places edges
+
+-- The edges from place `first` to place `end`, and no others, have numbers that are not marked.
+pub record IsGoneRun (lists own : Lists) (marks : List Bool) (ws : List ℕ) (first end : ℕ) : Type 0 where
+  pub order : first < end
+  pub within : end < length ws
+  pub gone : (i : ℕ) → first ≤ i → i < end → is_set marks (inner_number lists own ws i) ≡ false
+  pub low : (i : ℕ) → suc i ≡ first → is_set marks (inner_number lists own ws i) ≡ true
+  pub high : suc end < length ws → is_set marks (inner_number lists own ws end) ≡ true

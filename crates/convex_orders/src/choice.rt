@@ -2,14 +2,15 @@
 ghost use Rattle.std.specs.Prelude.{◌≡◌, ◌≢◌, ◌+◌, ◌<◌, ◌≤◌, ◌⊎◌, ◌↔◌, ℕ, suc, Bool, true, false, [], ◌∷◌, ◌++◌, length, slice_index, slice_set, Contains, IsTrue, IfOk};
 ghost use Rattle.map_definitions.specs.Maps.{HasDart, IsSimpleMap, list_of};
 ghost use Rattle.face_numbers.specs.FaceNumbers.{entry, IsTable, AreFaceNumbers};
-ghost use Rattle.convex_orders.specs.Shown.{is_set, IsBased, IsChoice, SomeChoice, GoesOff};
-ghost use Rattle.convex_orders.specs.Splits.{IsSplit, IsOpenAt, NoneSplit, IsLooseRow, IsLoosePlace};
+ghost use Rattle.contour_counts.specs.Contours.{contour_of, AreEdges, inner_number};
+ghost use Rattle.contour_counts.specs.Counts.{AreCounts};
+ghost use Rattle.convex_orders.specs.Shown.{is_set, IsBased, IsChoice, GoesOffNear, GoesOffAt};
+ghost use Rattle.convex_orders.specs.Splits.{IsOpenAt, NoneSplit, IsLooseRow, IsLoosePlace, IsGoneRun};
 
-use crate::rims::number_of;
-use crate::splits::find_splits;
+use contour_counts::{edge_at, move_to, step_back};
 use face_numbers::FaceNumbers;
 use map_lists::{ItemLists, Rotations};
-use std::alloc::{AllocError, Global};
+use std::alloc::AllocError;
 
 // Whether two numbers at one place have no mark.
 fn is_open(own: &[u32], other: &[u32], marks: &[bool]) -> bool
@@ -26,14 +27,16 @@ fn is_open(own: &[u32], other: &[u32], marks: &[bool]) -> bool
     false
 }
 
-// Whether no marked number is split.
-fn none_split(own: &[u32], marks: &[bool], split: &[bool]) -> bool
+// Whether each marked number of a row is met at one vertex more than it has edges.
+fn none_split(own: &[u32], marks: &[bool], places: &[u16], edges: &[u16]) -> bool
     requires own_in { (k : ℕ) → k < length own.now → slice_index own.now k < length marks.now }
-    requires split_in { (k : ℕ) → k < length own.now → slice_index own.now k < length split.now }
-    ensures { IsTrue result ↔ NoneSplit own.now marks.now split.now }
+    requires places { length places.now ≡ length marks.now }
+    requires edges { length edges.now ≡ length marks.now }
+    ensures { IsTrue result ↔ NoneSplit own.now marks.now places.now edges.now }
 {
     for k in 0..own.len() {
-        if marks[own[k] as usize] && split[own[k] as usize] {
+        let f = own[k] as usize;
+        if marks[f] && u32::from(places[f]) != u32::from(edges[f]) + 1 {
             return false;
         }
     }
@@ -41,69 +44,169 @@ fn none_split(own: &[u32], marks: &[bool], split: &[bool]) -> bool
 }
 
 // Whether a row is that of a vertex that may go.
-fn is_loose(own: &[u32], other: &[u32], marks: &[bool], split: &[bool]) -> bool
+fn is_loose(own: &[u32], other: &[u32], marks: &[bool], places: &[u16], edges: &[u16]) -> bool
     requires long { length other.now ≡ length own.now }
     requires own_in { (k : ℕ) → k < length own.now → slice_index own.now k < length marks.now }
     requires other_in { (k : ℕ) → k < length other.now → slice_index other.now k < length marks.now }
-    requires split_in { (k : ℕ) → k < length own.now → slice_index own.now k < length split.now }
-    ensures { IsTrue result ↔ IsLooseRow own.now other.now marks.now split.now }
+    requires places { length places.now ≡ length marks.now }
+    requires edges { length edges.now ≡ length marks.now }
+    ensures { IsTrue result ↔ IsLooseRow own.now other.now marks.now places.now edges.now }
 {
-    is_open(own, other, marks) && none_split(own, marks, split)
+    none_split(own, marks, places, edges) && is_open(own, other, marks)
 }
 
-// The place of a vertex that may go, neither the first nor the last.
-fn loose_place(t: &FaceNumbers, marks: &[bool], split: &[bool], ws: &[u16], n: usize) -> usize
-    requires own { (v : ℕ) → v < n → (k : ℕ) → k < length (list_of t.now.own v) → slice_index (list_of t.now.own v) k < length marks.now }
-    requires other { (v : ℕ) → v < n → (k : ℕ) → k < length (list_of t.now.other v) → slice_index (list_of t.now.other v) k < length marks.now }
-    requires long { (v : ℕ) → v < n → length (list_of t.now.other v) ≡ length (list_of t.now.own v) }
-    requires own_rows { length t.now.own ≡ n }
-    requires other_rows { length t.now.other ≡ n }
-    requires split { length split.now ≡ length marks.now }
-    requires vertices { (i : ℕ) → i < length ws.now → slice_index ws.now i < n }
-    requires some { (j : ℕ) × IsLoosePlace t.now.own t.now.other marks.now split.now ws.now j }
-    ensures { IsLoosePlace t.now.own t.now.other marks.now split.now ws.now result }
+// Whether the last vertex of the list may go.
+fn is_last_loose(
+    left: &[u16],
+    lists: &Rotations,
+    t: &FaceNumbers,
+    marks: &[bool],
+    places: &[u16],
+    edges: &[u16],
+) -> bool
+    requires numbers { AreFaceNumbers lists.now t.now.own t.now.other t.now.count }
+    requires marks { length marks.now ≡ t.now.count }
+    requires places { length places.now ≡ t.now.count }
+    requires edges { length edges.now ≡ t.now.count }
+    requires some { 0 < length left.now }
+    requires vertices { (i : ℕ) → i < length left.now → slice_index left.now i < length lists.now }
+    ensures { (j : ℕ) → suc j ≡ length left.now → IsTrue result ↔ IsLooseRow (list_of t.now.own (slice_index left.now j)) (list_of t.now.other (slice_index left.now j)) marks.now places.now edges.now }
 {
-    let _n = n;
-    for j in 1..ws.len() - 1 {
-        let v = ws[j] as usize;
-        if is_loose(t.own.list(v), t.other.list(v), marks, split) {
-            return j;
+    let _lists = lists;
+    let v = left[left.len() - 1] as usize;
+    is_loose(t.own.list(v), t.other.list(v), marks, places, edges)
+}
+
+// Goes back along the contour to a vertex that may go, and says whether there is one.
+fn seek(
+    left: &mut Vec<u16>,
+    right: &mut Vec<u16>,
+    lists: &Rotations,
+    t: &FaceNumbers,
+    marks: &[bool],
+    places: &[u16],
+    edges: &[u16],
+) -> Result<bool, AllocError>
+    requires numbers { AreFaceNumbers lists.now t.now.own t.now.other t.now.count }
+    requires marks { length marks.now ≡ t.now.count }
+    requires places { length places.now ≡ t.now.count }
+    requires edges { length edges.now ≡ t.now.count }
+    requires some { 0 < length left.old.items }
+    requires behind { 0 < length right.old.items }
+    requires vertices { (i : ℕ) → i < length (contour_of left.old.items right.old.items) → slice_index (contour_of left.old.items right.old.items) i < length lists.now }
+    ensures same { IfOk result (λ _. contour_of left.new.items right.new.items ≡ contour_of left.old.items right.old.items) }
+    ensures found { IfOk result (λ b. b ≡ true → (j : ℕ) → suc j ≡ length left.new.items → IsLoosePlace t.now.own t.now.other marks.now places.now edges.now (contour_of left.old.items right.old.items) j) }
+    ensures none { IfOk result (λ b. b ≡ false → (j : ℕ) → IsLoosePlace t.now.own t.now.other marks.now places.now edges.now (contour_of left.old.items right.old.items) j → length left.old.items ≤ j) }
+    ensures some { IfOk result (λ _. 0 < length left.new.items) }
+{
+    for _ in 1..left.len() {
+        if is_last_loose(left, lists, t, marks, places, edges) {
+            return Ok(true);
         }
+        step_back(left, right)?;
     }
-    0
+    Ok(false)
+}
+
+// How many vertices are before the place, where some is left behind it.
+fn before_last(left: usize, right: usize) -> usize
+    requires some { 0 < left }
+    requires two { 2 ≤ left + right }
+    ensures some { 0 < result }
+    ensures within { result < left + right }
+{
+    if right == 0 { left - 1 } else { left }
+}
+
+// The same from the end of the contour on, where some vertex may go.
+fn seek_all(
+    left: &mut Vec<u16>,
+    right: &mut Vec<u16>,
+    lists: &Rotations,
+    t: &FaceNumbers,
+    marks: &[bool],
+    places: &[u16],
+    edges: &[u16],
+) -> Result<(), AllocError>
+    requires numbers { AreFaceNumbers lists.now t.now.own t.now.other t.now.count }
+    requires marks { length marks.now ≡ t.now.count }
+    requires places { length places.now ≡ t.now.count }
+    requires edges { length edges.now ≡ t.now.count }
+    requires vertices { (i : ℕ) → i < length (contour_of left.old.items right.old.items) → slice_index (contour_of left.old.items right.old.items) i < length lists.now }
+    requires loose { (j : ℕ) × IsLoosePlace t.now.own t.now.other marks.now places.now edges.now (contour_of left.old.items right.old.items) j }
+    ensures same { IfOk result (λ _. contour_of left.new.items right.new.items ≡ contour_of left.old.items right.old.items) }
+    ensures found { IfOk result (λ _. (j : ℕ) → suc j ≡ length left.new.items → IsLoosePlace t.now.own t.now.other marks.now places.now edges.now (contour_of left.old.items right.old.items) j) }
+    ensures some { IfOk result (λ _. 0 < length left.new.items) }
+{
+    let last = left.len() + right.len() - 1;
+    move_to(left, right, last)?;
+    let found = seek(left, right, lists, t, marks, places, edges)?;
+    let _found = found;
+    Ok(())
+}
+
+/// Goes to a vertex that may go, where there is one: from the place back, or else from the end of the contour.
+pub(crate) fn find(
+    left: &mut Vec<u16>,
+    right: &mut Vec<u16>,
+    lists: &Rotations,
+    t: &FaceNumbers,
+    marks: &[bool],
+    places: &[u16],
+    edges: &[u16],
+) -> Result<(), AllocError>
+    requires numbers { AreFaceNumbers lists.now t.now.own t.now.other t.now.count }
+    requires marks { length marks.now ≡ t.now.count }
+    requires places { length places.now ≡ t.now.count }
+    requires edges { length edges.now ≡ t.now.count }
+    requires vertices { (i : ℕ) → i < length (contour_of left.old.items right.old.items) → slice_index (contour_of left.old.items right.old.items) i < length lists.now }
+    requires some { 0 < length left.old.items }
+    requires loose { (j : ℕ) × IsLoosePlace t.now.own t.now.other marks.now places.now edges.now (contour_of left.old.items right.old.items) j }
+    ensures same { IfOk result (λ _. contour_of left.new.items right.new.items ≡ contour_of left.old.items right.old.items) }
+    ensures found { IfOk result (λ _. (j : ℕ) → suc j ≡ length left.new.items → IsLoosePlace t.now.own t.now.other marks.now places.now edges.now (contour_of left.old.items right.old.items) j) }
+    ensures some { IfOk result (λ _. 0 < length left.new.items) }
+{
+    let count = before_last(left.len(), right.len());
+    move_to(left, right, count)?;
+    if seek(left, right, lists, t, marks, places, edges)? {
+        Ok(())
+    } else {
+        seek_all(left, right, lists, t, marks, places, edges)
+    }
 }
 
 // Whether the edges from place i on and from the next place on have one number.
-fn same_face(lists: &Rotations, own: &ItemLists<u32>, ws: &[u16], i: usize) -> bool
+fn same_face(lists: &Rotations, own: &ItemLists<u32>, left: &[u16], right: &[u16], i: usize) -> bool
     requires simple { IsSimpleMap lists.now }
     requires table { (count : ℕ) × IsTable lists.now own.now count }
-    requires within { i + 2 < length ws.now }
-    requires edges { (i : ℕ) → suc i < length ws.now → HasDart lists.now (slice_index ws.now (suc i)) (slice_index ws.now i) }
-    ensures { IsTrue result ↔ (entry lists.now own.now (slice_index ws.now (i + 1)) (slice_index ws.now i) ≡ entry lists.now own.now (slice_index ws.now (i + 2)) (slice_index ws.now (i + 1))) }
+    requires within { suc (suc i) < length left.now + length right.now }
+    requires darts { AreEdges lists.now (contour_of left.now right.now) }
+    ensures { IsTrue result ↔ (inner_number lists.now own.now (contour_of left.now right.now) i ≡ inner_number lists.now own.now (contour_of left.now right.now) (suc i)) }
 {
-    number_of(lists, own, ws[i + 1], ws[i]) == number_of(lists, own, ws[i + 2], ws[i + 1])
+    edge_at(lists, own, left, right, i) == edge_at(lists, own, left, right, i + 1)
 }
 
-// Whether the edges before and after the edge behind place j have one number.
-fn has_right(lists: &Rotations, own: &ItemLists<u32>, ws: &[u16], j: usize) -> bool
+// Whether the edges behind place j have one number.
+fn has_right(lists: &Rotations, own: &ItemLists<u32>, left: &[u16], right: &[u16], j: usize) -> bool
     requires simple { IsSimpleMap lists.now }
     requires table { (count : ℕ) × IsTable lists.now own.now count }
-    requires within { suc j < length ws.now }
-    requires edges { (i : ℕ) → suc i < length ws.now → HasDart lists.now (slice_index ws.now (suc i)) (slice_index ws.now i) }
-    ensures { IsTrue result ↔ ((j + 2 < length ws.now) × (entry lists.now own.now (slice_index ws.now (j + 1)) (slice_index ws.now j) ≡ entry lists.now own.now (slice_index ws.now (j + 2)) (slice_index ws.now (j + 1)))) }
+    requires within { suc j < length left.now + length right.now }
+    requires darts { AreEdges lists.now (contour_of left.now right.now) }
+    ensures { IsTrue result ↔ ((suc (suc j) < length left.now + length right.now) × (inner_number lists.now own.now (contour_of left.now right.now) j ≡ inner_number lists.now own.now (contour_of left.now right.now) (suc j))) }
 {
-    j + 2 < ws.len() && same_face(lists, own, ws, j)
+    j + 2 < left.len() + right.len() && same_face(lists, own, left, right, j)
 }
 
-fn has_left(lists: &Rotations, own: &ItemLists<u32>, ws: &[u16], j: usize) -> bool
+// Whether the edges before place j have one number.
+fn has_left(lists: &Rotations, own: &ItemLists<u32>, left: &[u16], right: &[u16], j: usize) -> bool
     requires simple { IsSimpleMap lists.now }
     requires table { (count : ℕ) × IsTable lists.now own.now count }
-    requires within { j < length ws.now }
-    requires edges { (i : ℕ) → suc i < length ws.now → HasDart lists.now (slice_index ws.now (suc i)) (slice_index ws.now i) }
-    ensures yes { IsTrue result → (h : ℕ) × (h + 2 ≡ j) × (entry lists.now own.now (slice_index ws.now (h + 1)) (slice_index ws.now h) ≡ entry lists.now own.now (slice_index ws.now (h + 2)) (slice_index ws.now (h + 1))) }
-    ensures no { (h : ℕ) → h + 2 ≡ j → entry lists.now own.now (slice_index ws.now (h + 1)) (slice_index ws.now h) ≡ entry lists.now own.now (slice_index ws.now (h + 2)) (slice_index ws.now (h + 1)) → IsTrue result }
+    requires within { j < length left.now + length right.now }
+    requires darts { AreEdges lists.now (contour_of left.now right.now) }
+    ensures yes { IsTrue result → (h : ℕ) × (suc (suc h) ≡ j) × (inner_number lists.now own.now (contour_of left.now right.now) h ≡ inner_number lists.now own.now (contour_of left.now right.now) (suc h)) }
+    ensures no { (h : ℕ) → suc (suc h) ≡ j → inner_number lists.now own.now (contour_of left.now right.now) h ≡ inner_number lists.now own.now (contour_of left.now right.now) (suc h) → IsTrue result }
 {
-    j >= 2 && same_face(lists, own, ws, j - 2)
+    j >= 2 && same_face(lists, own, left, right, j - 2)
 }
 
 /// Takes the marks of the numbers of a row away.
@@ -125,85 +228,130 @@ fn clear_one(marks: &mut [bool], f: u32)
     marks[f as usize] = false;
 }
 
-// Takes the marks away of what goes with the vertex at place j.
+// Takes the marks away of what goes with the vertex before the place.
 fn take_at(
     marks: &mut [bool],
     lists: &Rotations,
     t: &FaceNumbers,
-    ws: &[u16],
-    j: usize,
+    left: &[u16],
+    right: &[u16],
     s: u16,
     d: u16,
-    split: &[bool],
+    places: &[u16],
+    edges: &[u16],
 )
     requires based { IsBased lists.now s d }
     requires numbers { AreFaceNumbers lists.now t.now.own t.now.other t.now.count }
     requires marks { length marks.old ≡ t.now.count }
-    requires place { IsLoosePlace t.now.own t.now.other marks.old split.now ws.now j }
-    requires split { (f : ℕ) → (is_set split.now f ≡ true) ↔ IsSplit lists.now t.now.own ws.now (length ws.now) f }
-    requires vertices { (i : ℕ) → i < length ws.now → slice_index ws.now i < length lists.now }
-    requires edges { (i : ℕ) → suc i < length ws.now → HasDart lists.now (slice_index ws.now (suc i)) (slice_index ws.now i) }
+    requires some { 0 < length left.now }
+    requires place { (j : ℕ) → suc j ≡ length left.now → IsLoosePlace t.now.own t.now.other marks.old places.now edges.now (contour_of left.now right.now) j }
+    requires counts { AreCounts lists.now t.now.own t.now.count (contour_of left.now right.now) places.now edges.now }
+    requires vertices { (i : ℕ) → i < length (contour_of left.now right.now) → slice_index (contour_of left.now right.now) i < length lists.now }
+    requires darts { AreEdges lists.now (contour_of left.now right.now) }
     ensures long { length marks.new ≡ length marks.old }
-    ensures goes { (alive : ℕ → Bool) (w : ℕ → ℕ) (r : ℕ) → IsChoice lists.now t.now.own marks.old s d ws.now alive w r → GoesOff lists.now t.now.own marks.new alive w r }
+    ensures goes { (alive : ℕ → Bool) (w : ℕ → ℕ) (r j : ℕ) → suc j ≡ length left.now → IsChoice lists.now t.now.own marks.old s d (contour_of left.now right.now) alive w r → GoesOffNear lists.now t.now.own marks.new alive w r j }
 {
-    let _split = split;
+    let _places = places;
+    let _edges = edges;
     let _base = (s, d);
-    if has_right(lists, &t.own, ws, j) {
-        clear_one(marks, number_of(lists, &t.own, ws[j + 1], ws[j]));
-    } else if has_left(lists, &t.own, ws, j) {
-        clear_one(marks, number_of(lists, &t.own, ws[j], ws[j - 1]));
+    let j = left.len() - 1;
+    if has_right(lists, &t.own, left, right, j) {
+        clear_one(marks, edge_at(lists, &t.own, left, right, j));
+    } else if has_left(lists, &t.own, left, right, j) {
+        clear_one(marks, edge_at(lists, &t.own, left, right, j - 1));
     } else {
-        clear_row(marks, t.own.list(ws[j] as usize));
+        clear_row(marks, t.own.list(left[j] as usize));
     }
 }
 
-// Takes the marks of the faces away that go next. At first no number is split or met.
-fn take_with(
-    marks: &mut [bool],
-    split: &mut [bool],
-    met: &mut [bool],
+// Whether the edge from place i on has a number with a mark.
+fn is_kept(
+    marks: &[bool],
     lists: &Rotations,
-    t: &FaceNumbers,
-    ws: &[u16],
-    s: u16,
-    d: u16,
-)
-    requires based { IsBased lists.now s d }
-    requires numbers { AreFaceNumbers lists.now t.now.own t.now.other t.now.count }
-    requires marks { length marks.old ≡ t.now.count }
-    requires split { length split.old ≡ t.now.count }
-    requires met { length met.old ≡ t.now.count }
-    requires none_split { (f : ℕ) → is_set split.old f ≡ false }
-    requires none_met { (f : ℕ) → is_set met.old f ≡ false }
-    requires some { SomeChoice lists.now t.now.own marks.old s d ws.now }
-    ensures long { length marks.new ≡ length marks.old }
-    ensures goes { (alive : ℕ → Bool) (w : ℕ → ℕ) (r : ℕ) → IsChoice lists.now t.now.own marks.old s d ws.now alive w r → GoesOff lists.now t.now.own marks.new alive w r }
+    own: &ItemLists<u32>,
+    left: &[u16],
+    right: &[u16],
+    i: usize,
+) -> bool
+    requires simple { IsSimpleMap lists.now }
+    requires table { IsTable lists.now own.now (length marks.now) }
+    requires within { suc i < length left.now + length right.now }
+    requires darts { AreEdges lists.now (contour_of left.now right.now) }
+    ensures { result ≡ is_set marks.now (inner_number lists.now own.now (contour_of left.now right.now) i) }
 {
-    find_splits(split, met, lists, &t.own, ws);
-    let j = loose_place(t, marks, split, ws, lists.len());
-    take_at(marks, lists, t, ws, j, s, d, split);
+    marks[edge_at(lists, own, left, right, i) as usize]
 }
 
-/// Takes the marks of the faces away that go next.
-pub(crate) fn take_off(
-    alloc: Global,
+// Where the edges without marks end, from the vertex before the place on.
+fn end_of(
+    marks: &[bool],
+    lists: &Rotations,
+    own: &ItemLists<u32>,
+    left: &[u16],
+    right: &[u16],
+) -> usize
+    requires simple { IsSimpleMap lists.now }
+    requires table { IsTable lists.now own.now (length marks.now) }
+    requires some { 0 < length left.now }
+    requires darts { AreEdges lists.now (contour_of left.now right.now) }
+    ensures { (first end j : ℕ) → suc j ≡ length left.now → first ≤ j → j ≤ end → IsGoneRun lists.now own.now marks.now (contour_of left.now right.now) first end → result ≡ end }
+{
+    for i in left.len() - 1..left.len() + right.len() - 1 {
+        if is_kept(marks, lists, own, left, right, i) {
+            return i;
+        }
+    }
+    left.len() + right.len() - 1
+}
+
+// Where they begin, from the vertex before the place back.
+fn first_of(
+    marks: &[bool],
+    lists: &Rotations,
+    own: &ItemLists<u32>,
+    left: &[u16],
+    right: &[u16],
+) -> usize
+    requires simple { IsSimpleMap lists.now }
+    requires table { IsTable lists.now own.now (length marks.now) }
+    requires some { 0 < length left.now }
+    requires darts { AreEdges lists.now (contour_of left.now right.now) }
+    ensures { (first end j : ℕ) → suc j ≡ length left.now → first ≤ j → j ≤ end → IsGoneRun lists.now own.now marks.now (contour_of left.now right.now) first end → result ≡ first }
+{
+    for k in 1..left.len() {
+        if is_kept(marks, lists, own, left, right, left.len() - 1 - k) {
+            return left.len() - k;
+        }
+    }
+    0
+}
+
+/// Takes the marks away of what goes with the vertex before the place, and gives the places between which it stands.
+pub(crate) fn take_run(
     marks: &mut [bool],
     lists: &Rotations,
     t: &FaceNumbers,
-    ws: &[u16],
+    left: &[u16],
+    right: &[u16],
     s: u16,
     d: u16,
-) -> Result<(), AllocError>
+    places: &[u16],
+    edges: &[u16],
+) -> (usize, usize)
     requires based { IsBased lists.now s d }
     requires numbers { AreFaceNumbers lists.now t.now.own t.now.other t.now.count }
     requires marks { length marks.old ≡ t.now.count }
-    requires some { SomeChoice lists.now t.now.own marks.old s d ws.now }
+    requires some { 0 < length left.now }
+    requires place { (j : ℕ) → suc j ≡ length left.now → IsLoosePlace t.now.own t.now.other marks.old places.now edges.now (contour_of left.now right.now) j }
+    requires counts { AreCounts lists.now t.now.own t.now.count (contour_of left.now right.now) places.now edges.now }
+    requires vertices { (i : ℕ) → i < length (contour_of left.now right.now) → slice_index (contour_of left.now right.now) i < length lists.now }
+    requires darts { AreEdges lists.now (contour_of left.now right.now) }
     ensures long { length marks.new ≡ length marks.old }
-    ensures goes { IfOk result (λ _. (alive : ℕ → Bool) (w : ℕ → ℕ) (r : ℕ) → IsChoice lists.now t.now.own marks.old s d ws.now alive w r → GoesOff lists.now t.now.own marks.new alive w r) }
+    ensures goes { (alive : ℕ → Bool) (w : ℕ → ℕ) (r : ℕ) → IsChoice lists.now t.now.own marks.old s d (contour_of left.now right.now) alive w r → GoesOffAt lists.now t.now.own marks.new alive w r result.0 result.1 }
 {
-    let count = marks.len();
-    let mut split = vec![in alloc; false; count]?;
-    let mut met = vec![in alloc; false; count]?;
-    take_with(marks, &mut split, &mut met, lists, t, ws, s, d);
-    Ok(())
+    take_at(marks, lists, t, left, right, s, d, places, edges);
+    (
+        first_of(marks, lists, &t.own, left, right),
+        end_of(marks, lists, &t.own, left, right),
+    )
 }

@@ -1,7 +1,8 @@
 //! The rows of a run of a three-connected plane map, found by taking faces off from outside.
 //!
-//! Marks say which faces are left, by numbers, and a list is their contour. At each step a vertex that may go next
-//! is looked for along it.
+//! Marks say which faces are left, by numbers, and two stacks are their contour, with a place between them. A vertex that
+//! may go next is looked for from that place backwards, and what goes and what comes is told there; so all rows take
+//! about as many steps as the map has darts.
 #![tactic(auto)]
 
 mod choice;
@@ -9,6 +10,5 @@ mod orders;
 mod placed;
 mod rims;
 mod rounds;
-mod splits;
 
 pub use orders::convex_rows;

@@ -1,5 +1,5 @@
 //! The rows of a run of a map.
-ghost use Rattle.std.specs.Prelude.{◌≡◌, ◌<◌, ℕ, true, [], length, Some, IfOk};
+ghost use Rattle.std.specs.Prelude.{◌≡◌, ◌<◌, ℕ, true, [], length, slice_index, Some, IfOk};
 ghost use Rattle.map_definitions.specs.Maps.{IsPlane};
 ghost use Rattle.tight_maps.specs.Tight.{IsThreeConnected};
 ghost use Rattle.half_edges.specs.Map.{IsLive, dart_at};
@@ -32,7 +32,10 @@ fn put_all(
     alloc: Global,
     rows: &mut ConvexRows,
     marks: &mut [bool],
-    ws: &mut Vec<u16>,
+    left: &mut Vec<u16>,
+    right: &mut Vec<u16>,
+    places: &mut [u16],
+    edges: &mut [u16],
     lists: &Rotations,
     t: &FaceNumbers,
     s: u16,
@@ -43,14 +46,23 @@ fn put_all(
     requires numbers { AreFaceNumbers lists.now t.now.own t.now.other t.now.count }
     requires marks { length marks.old ≡ t.now.count }
     requires all { (f : ℕ) → f < t.now.count → is_set marks.old f ≡ true }
-    requires empty { ws.old.items ≡ [] }
+    requires empty { left.old.items ≡ [] }
+    requires empty_right { right.old.items ≡ [] }
+    requires places { length places.old ≡ t.now.count }
+    requires edges { length edges.old ≡ t.now.count }
+    requires no_places { (f : ℕ) → slice_index places.old f ≡ 0 }
+    requires no_edges { (f : ℕ) → slice_index edges.old f ≡ 0 }
     requires rows { rows.old.rows ≡ [] }
     requires cuts { rows.old.cuts ≡ [] }
     requires news { rows.old.news ≡ [] }
     ensures { IfOk result (λ _. AreRowsOfRun lists.now s d rows.new) }
 {
-    begin(alloc, rows, marks, ws, lists, t, s, d)?;
-    peel(alloc, rows, marks, ws, lists, t, s, d)?;
+    begin(
+        alloc, rows, marks, left, right, places, edges, lists, t, s, d,
+    )?;
+    peel(
+        alloc, rows, marks, left, right, places, edges, lists, t, s, d,
+    )?;
     Ok(())
 }
 
@@ -69,8 +81,23 @@ fn rows_from(
 {
     let mut rows = no_rows(alloc);
     let mut marks = vec![in alloc; true; t.count as usize]?;
-    let mut ws = Vec::new(alloc);
-    put_all(alloc, &mut rows, &mut marks, &mut ws, lists, t, s, d)?;
+    let mut places = vec![in alloc; 0u16; t.count as usize]?;
+    let mut edges = vec![in alloc; 0u16; t.count as usize]?;
+    let mut left = Vec::new(alloc);
+    let mut right = Vec::new(alloc);
+    put_all(
+        alloc,
+        &mut rows,
+        &mut marks,
+        &mut left,
+        &mut right,
+        &mut places,
+        &mut edges,
+        lists,
+        t,
+        s,
+        d,
+    )?;
     Ok(rows)
 }
 
@@ -78,7 +105,7 @@ fn rows_from(
 /// want of memory, and the map stays as it is.
 ///
 /// The run makes all faces but that of the base. Its first two ranks stand for d and s, and the last one for the
-/// vertex before the base on the base's face. The time is at most that of going over all darts once for each row.
+/// vertex before the base on the base's face.
 pub fn convex_rows(alloc: Global, map: &HalfMap, base: DartId) -> Result<ConvexRows, AllocError>
     requires plane { IsPlane map.now.lists }
     requires three { IsThreeConnected map.now.lists }

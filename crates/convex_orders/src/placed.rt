@@ -1,44 +1,16 @@
-//! The row of a removal, from the contour before it and the one after it.
+//! The row of a removal, and what goes out of the contour and comes in.
 ghost use Rattle.std.specs.Prelude.{◌≡◌, ◌≢◌, ◌+◌, ◌-◌, ◌<◌, ◌≤◌, ◌⊎◌, ◌↔◌, ℕ, suc, Bool, true, false, if◌then◌else◌, [], ◌∷◌, ◌++◌, length, slice_index, slice_range, Contains, IsTrue, IfOk};
 ghost use Rattle.map_lists.specs.Lists.{Lists};
 ghost use Rattle.map_definitions.specs.Maps.{HasDart, IsSimpleMap, list_of};
-ghost use Rattle.face_peeling.specs.Removals.{Removal};
-ghost use Rattle.face_numbers.specs.FaceNumbers.{entry, IsTable, AreFaceNumbers};
-ghost use Rattle.convex_removals.specs.Removed.{IsRowMore};
-ghost use Rattle.convex_orders.specs.Shown.{is_set, IsListOf, IsOffBy, SomeOff};
-ghost use Rattle.convex_orders.specs.Cuts.{edge_number, AreCutPlaces, SomeCutPlaces, IsCutRow, ArePutBetween, AreAlikeTo, AreAlikeFrom};
+ghost use Rattle.face_numbers.specs.FaceNumbers.{entry, IsTable};
+ghost use Rattle.contour_counts.specs.Contours.{contour_of, AreEdges};
+ghost use Rattle.contour_counts.specs.Counts.{met_between, edges_between, AreCounts};
+ghost use Rattle.convex_orders.specs.Cuts.{edge_number, AreCutPlaces, SomeCutPlaces, IsCutRow, IsPutIn, IsTakenOut};
 
-use crate::rims::number_of;
+use contour_counts::{lower_part, move_to, number_of, part, raise_part};
 use convex_rows::ConvexRows;
-use face_numbers::FaceNumbers;
 use map_lists::{ItemLists, Rotations};
 use std::alloc::{AllocError, Global};
-
-// How many vertices are alike from the beginning on.
-fn alike_to(ws: &[u16], us: &[u16]) -> usize
-    requires some { (k : ℕ) × AreAlikeTo ws.now us.now k }
-    ensures { (k : ℕ) → AreAlikeTo ws.now us.now k → result ≡ k }
-{
-    for i in 0..ws.len() {
-        if ws[i] != us[i] {
-            return i;
-        }
-    }
-    0
-}
-
-// How many vertices are alike from the end on.
-fn alike_from(ws: &[u16], us: &[u16]) -> usize
-    requires some { (k : ℕ) × AreAlikeFrom ws.now us.now k }
-    ensures { (k : ℕ) → AreAlikeFrom ws.now us.now k → result ≡ k }
-{
-    for i in 0..ws.len() {
-        if ws[ws.len() - 1 - i] != us[us.len() - 1 - i] {
-            return i;
-        }
-    }
-    0
-}
 
 // Whether the edges from place p on and from the next place on have one number.
 fn same_edge(lists: &Rotations, own: &ItemLists<u32>, ws: &[u16], p: usize) -> bool
@@ -104,81 +76,107 @@ pub(crate) fn push_lists(
     Ok(())
 }
 
-/// The vertices of a list from a place on and before another.
-pub(crate) fn part(ws: &[u16], start: usize, end: usize) -> &[u16]
-    requires order { start ≤ end }
-    requires within { end ≤ length ws.now }
-    ensures { result.now ≡ slice_range ws.now start end }
+// Appends a row with its cuts.
+fn push_row(rows: &mut ConvexRows, row: &[u16], cuts: &[u16]) -> Result<(), AllocError>
+    ensures { IfOk result (λ _. (rows.new.rows ≡ rows.old.rows ++ row.now ∷ []) × (rows.new.cuts ≡ rows.old.cuts ++ cuts.now ∷ []) × (rows.new.news ≡ rows.old.news)) }
 {
-    &ws[start..end]
-}
-
-// The row of a removal whose first and last place are known, and how many of the old contour come before what stays.
-fn put_between(
-    alloc: Global,
-    rows: &mut ConvexRows,
-    lists: &Rotations,
-    t: &FaceNumbers,
-    ws: &[u16],
-    us: &[u16],
-    first: usize,
-    last: usize,
-    end: usize,
-) -> Result<(), AllocError>
-    requires simple { IsSimpleMap lists.now }
-    requires table { IsTable lists.now t.now.own t.now.count }
-    requires order { first < last }
-    requires within { last < length us.now }
-    requires few { length us.now < 65536 }
-    requires end { first < end }
-    requires end_within { end ≤ length ws.now }
-    requires edges { (i : ℕ) → suc i < length us.now → HasDart lists.now (slice_index us.now i) (slice_index us.now (suc i)) }
-    requires some { SomeCutPlaces lists.now t.now.own us.now first last }
-    ensures { IfOk result (λ _. (faces : ℕ) (cut : ℕ → ℕ) → AreCutPlaces lists.now t.now.own us.now first last faces cut → ArePutBetween ws.now us.now first last end faces cut rows.old rows.new) }
-{
-    let mut cuts = Vec::new(alloc);
-    put_cuts(&mut cuts, lists, &t.own, us, first, last)?;
-    push_lists(
-        rows,
-        part(us, first, last + 1),
-        &cuts,
-        part(ws, first + 1, end),
-    )?;
+    rows.rows.push(row)?;
+    rows.cuts.push(cuts)?;
     Ok(())
 }
 
-/// Appends the row of the removal that led from the contour `ws` to the contour `us`.
-pub(crate) fn put_row(
+// Appends a row of what goes.
+fn push_news(rows: &mut ConvexRows, news: &[u16]) -> Result<(), AllocError>
+    ensures { IfOk result (λ _. (rows.new.rows ≡ rows.old.rows) × (rows.new.cuts ≡ rows.old.cuts) × (rows.new.news ≡ rows.old.news ++ news.now ∷ [])) }
+{
+    rows.news.push(news)?;
+    Ok(())
+}
+
+// Appends the cuts and the vertices from place `first` to the end of the list.
+fn put_row(
     alloc: Global,
     rows: &mut ConvexRows,
     lists: &Rotations,
-    t: &FaceNumbers,
-    marks: &[bool],
-    ws: &[u16],
+    own: &ItemLists<u32>,
     us: &[u16],
-    s: u16,
-    d: u16,
+    first: usize,
+    last: usize,
 ) -> Result<(), AllocError>
     requires simple { IsSimpleMap lists.now }
-    requires few { length lists.now < 4096 }
-    requires numbers { AreFaceNumbers lists.now t.now.own t.now.other t.now.count }
-    requires some { SomeOff lists.now t.now.own marks.now s d ws.now }
-    requires lists { (alive : ℕ → Bool) (w : ℕ → ℕ) (r : ℕ) (o : Removal) → IsOffBy lists.now t.now.own marks.now s d ws.now alive w r o → IsListOf us.now o.contour o.places }
-    ensures { IfOk result (λ _. (alive : ℕ → Bool) (w : ℕ → ℕ) (r : ℕ) (o : Removal) → IsOffBy lists.now t.now.own marks.now s d ws.now alive w r o → IsRowMore lists.now w o rows.old rows.new) }
+    requires table { (count : ℕ) × IsTable lists.now own.now count }
+    requires order { first < last }
+    requires within { last < length us.now }
+    requires few { length us.now < 65536 }
+    requires edges { (i : ℕ) → suc i < length us.now → HasDart lists.now (slice_index us.now i) (slice_index us.now (suc i)) }
+    requires some { SomeCutPlaces lists.now own.now us.now first last }
+    ensures { IfOk result (λ _. (faces : ℕ) (cut : ℕ → ℕ) → AreCutPlaces lists.now own.now us.now first last faces cut → IsPutIn us.now first last faces cut rows.old rows.new) }
 {
-    let _marks = marks;
-    let _base = (s, d);
-    let front = alike_to(ws, us);
-    let back = alike_from(ws, us);
-    put_between(
-        alloc,
-        rows,
-        lists,
-        t,
-        ws,
-        us,
-        front - 1,
-        us.len() - back,
-        ws.len() - back,
-    )
+    let mut cuts = Vec::new(alloc);
+    put_cuts(&mut cuts, lists, own, us, first, last)?;
+    push_row(rows, part(us, first, last + 1), &cuts)?;
+    Ok(())
+}
+
+/// Takes out what stands strictly between two places of the contour, and appends it to the rows of what goes. It gives
+/// the vertex at the second place.
+pub(crate) fn take_out(
+    rows: &mut ConvexRows,
+    left: &mut Vec<u16>,
+    right: &mut Vec<u16>,
+    places: &mut [u16],
+    edges: &mut [u16],
+    lists: &Rotations,
+    own: &ItemLists<u32>,
+    first: usize,
+    end: usize,
+) -> Result<u16, AllocError>
+    requires simple { IsSimpleMap lists.now }
+    requires table { IsTable lists.now own.now (length edges.old) }
+    requires order { first < end }
+    requires within { end < length (contour_of left.old.items right.old.items) }
+    requires vertices { (i : ℕ) → i < length (contour_of left.old.items right.old.items) → slice_index (contour_of left.old.items right.old.items) i < length lists.now }
+    requires darts { AreEdges lists.now (contour_of left.old.items right.old.items) }
+    requires counts { AreCounts lists.now own.now (length edges.old) (contour_of left.old.items right.old.items) places.old edges.old }
+    ensures out { IfOk result (λ x. IsTakenOut (contour_of left.old.items right.old.items) left.new.items right.new.items x first end rows.old rows.new) }
+    ensures places { IfOk result (λ _. (f : ℕ) → f < length edges.old → slice_index places.new f + met_between own.now (contour_of left.old.items right.old.items) first end f ≡ slice_index places.old f) }
+    ensures edges { IfOk result (λ _. (f : ℕ) → f < length edges.old → slice_index edges.new f + edges_between lists.now own.now (contour_of left.old.items right.old.items) first end f ≡ slice_index edges.old f) }
+{
+    move_to(left, right, end + 1)?;
+    lower_part(places, edges, lists, own, left, first, end);
+    let x = left[end];
+    push_news(rows, part(left, first + 1, end))?;
+    left.truncate(first + 1);
+    Ok(x)
+}
+
+/// Counts what came behind place `first` of the list, and appends its row.
+pub(crate) fn put_in(
+    alloc: Global,
+    rows: &mut ConvexRows,
+    left: &[u16],
+    places: &mut [u16],
+    edges: &mut [u16],
+    lists: &Rotations,
+    own: &ItemLists<u32>,
+    first: usize,
+) -> Result<(), AllocError>
+    requires simple { IsSimpleMap lists.now }
+    requires table { IsTable lists.now own.now (length edges.old) }
+    requires long { length places.old ≡ length edges.old }
+    requires order { suc first < length left.now }
+    requires few { length left.now < 65536 }
+    requires vertices { (i : ℕ) → i < length left.now → slice_index left.now i < length lists.now }
+    requires darts { AreEdges lists.now left.now }
+    requires darts_on { (i : ℕ) → suc i < length left.now → HasDart lists.now (slice_index left.now i) (slice_index left.now (suc i)) }
+    requires some { SomeCutPlaces lists.now own.now left.now first (length left.now - 1) }
+    requires room { (f : ℕ) → f < length places.old → slice_index places.old f + met_between own.now left.now first (length left.now - 1) f < 65536 }
+    requires room_edges { (f : ℕ) → f < length edges.old → slice_index edges.old f + edges_between lists.now own.now left.now first (length left.now - 1) f < 65536 }
+    ensures places { IfOk result (λ _. (f : ℕ) → f < length places.old → slice_index places.new f ≡ slice_index places.old f + met_between own.now left.now first (length left.now - 1) f) }
+    ensures edges { IfOk result (λ _. (f : ℕ) → f < length edges.old → slice_index edges.new f ≡ slice_index edges.old f + edges_between lists.now own.now left.now first (length left.now - 1) f) }
+    ensures row { IfOk result (λ _. (faces : ℕ) (cut : ℕ → ℕ) → AreCutPlaces lists.now own.now left.now first (length left.now - 1) faces cut → IsPutIn left.now first (length left.now - 1) faces cut rows.old rows.new) }
+{
+    let last = left.len() - 1;
+    raise_part(places, edges, lists, own, left, first, last);
+    put_row(alloc, rows, lists, own, left, first, last)
 }

@@ -1,44 +1,55 @@
 //! One removal after another.
-ghost use Rattle.std.specs.Prelude.{◌≡◌, ◌≢◌, ◌+◌, ◌-◌, ◌<◌, ◌≤◌, ◌⊎◌, ◌↔◌, ℕ, suc, Bool, true, false, [], ◌∷◌, ◌++◌, length, slice_index, Contains, IsTrue, IfOk};
+ghost use Rattle.std.specs.Prelude.{◌≡◌, ◌≢◌, ◌+◌, ◌-◌, ◌<◌, ◌≤◌, ◌⊎◌, ◌↔◌, ℕ, suc, Bool, true, false, List, [], ◌∷◌, ◌++◌, length, slice_index, Contains, IsTrue, IfOk};
 ghost use Rattle.map_definitions.specs.Maps.{HasDart, IsSimpleMap, list_of, dart_count};
 ghost use Rattle.face_peeling.specs.Contours.{IsFirst};
 ghost use Rattle.face_peeling.specs.Removals.{Removal};
 ghost use Rattle.face_numbers.specs.FaceNumbers.{entry, IsTable, AreFaceNumbers};
 ghost use Rattle.convex_removals.specs.Removed.{IsRowMore, HasRows, AreRowsOfRun};
-ghost use Rattle.convex_orders.specs.Shown.{is_set, IsBased, IsListOf, IsShown, IsOffBy, SomeOff, SomeChoice};
+ghost use Rattle.contour_counts.specs.Contours.{contour_of};
+ghost use Rattle.contour_counts.specs.Counts.{AreCounts};
+ghost use Rattle.convex_orders.specs.Shown.{is_set, IsBased, IsListOf, IsShown, IsOffAt, SomeOff};
 ghost use Rattle.convex_orders.specs.Standing.{Stands, HasOther, AllInner, IsLastRow};
 
-use crate::choice::{clear_row, take_off};
-use crate::placed::{part, push_lists, put_row};
-use crate::rims::{number_of, trace};
+use crate::choice::{clear_row, find, take_run};
+use crate::placed::{push_lists, put_in, take_out};
+use crate::rims::trace;
+use contour_counts::{move_to, number_of, part, raise_all};
 use convex_rows::ConvexRows;
 use face_numbers::FaceNumbers;
 use map_lists::{ItemLists, Rotations};
 use std::alloc::{AllocError, Global};
 
-// Traces the contour after a removal, and appends its row.
+// Takes out what stands strictly between two places, goes along what comes there, and appends the row.
 fn advance(
     alloc: Global,
     rows: &mut ConvexRows,
     marks: &[bool],
-    ws: &mut Vec<u16>,
+    left: &mut Vec<u16>,
+    right: &mut Vec<u16>,
+    places: &mut [u16],
+    edges: &mut [u16],
     lists: &Rotations,
     t: &FaceNumbers,
     s: u16,
     d: u16,
+    first: usize,
+    end: usize,
 ) -> Result<(), AllocError>
-    requires simple { IsSimpleMap lists.now }
+    requires based { IsBased lists.now s d }
     requires few { length lists.now < 4096 }
     requires numbers { AreFaceNumbers lists.now t.now.own t.now.other t.now.count }
     requires marks { length marks.now ≡ t.now.count }
-    requires some { SomeOff lists.now t.now.own marks.now s d ws.old.items }
-    ensures list { IfOk result (λ _. (alive : ℕ → Bool) (w : ℕ → ℕ) (r : ℕ) (o : Removal) → IsOffBy lists.now t.now.own marks.now s d ws.old.items alive w r o → IsListOf ws.new.items o.contour o.places) }
-    ensures row { IfOk result (λ _. (alive : ℕ → Bool) (w : ℕ → ℕ) (r : ℕ) (o : Removal) → IsOffBy lists.now t.now.own marks.now s d ws.old.items alive w r o → IsRowMore lists.now w o rows.old rows.new) }
+    requires some { SomeOff lists.now t.now.own marks.now s d (contour_of left.old.items right.old.items) first end }
+    requires counts { AreCounts lists.now t.now.own t.now.count (contour_of left.old.items right.old.items) places.old edges.old }
+    ensures list { IfOk result (λ _. (alive : ℕ → Bool) (w : ℕ → ℕ) (r : ℕ) (o : Removal) → IsOffAt lists.now t.now.own marks.now s d (contour_of left.old.items right.old.items) first end alive w r o → IsListOf (contour_of left.new.items right.new.items) o.contour o.places) }
+    ensures row { IfOk result (λ _. (alive : ℕ → Bool) (w : ℕ → ℕ) (r : ℕ) (o : Removal) → IsOffAt lists.now t.now.own marks.now s d (contour_of left.old.items right.old.items) first end alive w r o → IsRowMore lists.now w o rows.old rows.new) }
+    ensures counts { IfOk result (λ _. AreCounts lists.now t.now.own t.now.count (contour_of left.new.items right.new.items) places.new edges.new) }
+    ensures left { IfOk result (λ _. 0 < length left.new.items) }
 {
-    let mut us = Vec::new(alloc);
-    trace(&mut us, lists, t, marks, s, d)?;
-    put_row(alloc, rows, lists, t, marks, ws, &us, s, d)?;
-    *ws = us;
+    let _base = (s, d);
+    let x = take_out(rows, left, right, places, edges, lists, &t.own, first, end)?;
+    trace(left, lists, t, marks, x)?;
+    put_in(alloc, rows, left, places, edges, lists, &t.own, first)?;
     Ok(())
 }
 
@@ -47,7 +58,10 @@ fn round(
     alloc: Global,
     rows: &mut ConvexRows,
     marks: &mut [bool],
-    ws: &mut Vec<u16>,
+    left: &mut Vec<u16>,
+    right: &mut Vec<u16>,
+    places: &mut [u16],
+    edges: &mut [u16],
     lists: &Rotations,
     t: &FaceNumbers,
     s: u16,
@@ -57,52 +71,61 @@ fn round(
     requires few { length lists.now < 4096 }
     requires numbers { AreFaceNumbers lists.now t.now.own t.now.other t.now.count }
     requires marks { length marks.old ≡ t.now.count }
-    requires stands { (bound : ℕ) × Stands lists.now t.now.own marks.old s d ws.old.items rows.old bound }
-    requires other { HasOther lists.now t.now.own s d ws.old.items }
+    requires stands { (bound : ℕ) × Stands lists.now t.now.own marks.old s d (contour_of left.old.items right.old.items) rows.old bound }
+    requires other { HasOther lists.now t.now.own s d (contour_of left.old.items right.old.items) }
+    requires counts { AreCounts lists.now t.now.own t.now.count (contour_of left.old.items right.old.items) places.old edges.old }
+    requires left { 0 < length left.old.items }
     ensures long { length marks.new ≡ length marks.old }
-    ensures stands { IfOk result (λ _. (bound : ℕ) → Stands lists.now t.now.own marks.old s d ws.old.items rows.old (suc bound) → Stands lists.now t.now.own marks.new s d ws.new.items rows.new bound) }
+    ensures stands { IfOk result (λ _. (bound : ℕ) → Stands lists.now t.now.own marks.old s d (contour_of left.old.items right.old.items) rows.old (suc bound) → Stands lists.now t.now.own marks.new s d (contour_of left.new.items right.new.items) rows.new bound) }
+    ensures counts { IfOk result (λ _. AreCounts lists.now t.now.own t.now.count (contour_of left.new.items right.new.items) places.new edges.new) }
+    ensures left { IfOk result (λ _. 0 < length left.new.items) }
 {
-    take_off(alloc, marks, lists, t, ws, s, d)?;
-    advance(alloc, rows, marks, ws, lists, t, s, d)?;
+    find(left, right, lists, t, marks, places, edges)?;
+    let (first, end) = take_run(marks, lists, t, left, right, s, d, places, edges);
+    advance(
+        alloc, rows, marks, left, right, places, edges, lists, t, s, d, first, end,
+    )?;
     Ok(())
 }
 
-// Whether the edge from place i on has the number `base`.
-fn is_inner(lists: &Rotations, own: &ItemLists<u32>, ws: &[u16], i: usize, base: u32) -> bool
-    requires simple { IsSimpleMap lists.now }
-    requires table { (count : ℕ) × IsTable lists.now own.now count }
-    requires within { i + 1 < length ws.now }
-    requires edges { (i : ℕ) → suc i < length ws.now → HasDart lists.now (slice_index ws.now (suc i)) (slice_index ws.now i) }
-    ensures { IsTrue result ↔ (entry lists.now own.now (slice_index ws.now (i + 1)) (slice_index ws.now i) ≡ base) }
+// Whether all edges along the contour have the number `base`, that of the face inside of the base.
+fn is_last(
+    edges: &[u16],
+    base: u32,
+    left: &[u16],
+    right: &[u16],
+    lists: &Rotations,
+    t: &FaceNumbers,
+    s: u16,
+    d: u16,
+) -> bool
+    requires counts { (places : List ℕ) × AreCounts lists.now t.now.own t.now.count (contour_of left.now right.now) places edges.now }
+    requires some { 0 < length left.now }
+    requires base { base ≡ entry lists.now t.now.own d s }
+    requires base_in { base < t.now.count }
+    ensures yes { IsTrue result → AllInner lists.now t.now.own s d (contour_of left.now right.now) }
+    ensures no { result ≡ false → HasOther lists.now t.now.own s d (contour_of left.now right.now) }
 {
-    number_of(lists, own, ws[i + 1], ws[i]) == base
-}
-
-// Whether all edges along the list are of the face inside of the base.
-fn is_last(lists: &Rotations, own: &ItemLists<u32>, ws: &[u16], s: u16, d: u16) -> bool
-    requires simple { IsSimpleMap lists.now }
-    requires table { (count : ℕ) × IsTable lists.now own.now count }
-    requires base { HasDart lists.now d s }
-    requires some { 0 < length ws.now }
-    requires edges { (i : ℕ) → suc i < length ws.now → HasDart lists.now (slice_index ws.now (suc i)) (slice_index ws.now i) }
-    ensures yes { IsTrue result → AllInner lists.now own.now s d ws.now }
-    ensures no { result ≡ false → HasOther lists.now own.now s d ws.now }
-{
-    let base = number_of(lists, own, d, s);
-    for i in 0..ws.len() - 1 {
-        if !is_inner(lists, own, ws, i, base) {
-            return false;
-        }
-    }
-    true
+    let _lists = lists;
+    let _t = t;
+    let _base = (s, d);
+    usize::from(edges[base as usize]) + 1 == left.len() + right.len()
 }
 
 // Appends the row of the last removal.
-fn put_last(rows: &mut ConvexRows, ws: &[u16], s: u16, d: u16) -> Result<(), AllocError>
-    requires long { 2 ≤ length ws.now }
-    ensures { IfOk result (λ _. IsLastRow ws.now s d rows.old rows.new) }
+fn put_last(
+    rows: &mut ConvexRows,
+    left: &mut Vec<u16>,
+    right: &mut Vec<u16>,
+    s: u16,
+    d: u16,
+) -> Result<(), AllocError>
+    requires long { 2 ≤ length (contour_of left.old.items right.old.items) }
+    ensures { IfOk result (λ _. IsLastRow (contour_of left.old.items right.old.items) s d rows.old rows.new) }
 {
-    push_lists(rows, &[d, s], &[0, 1], part(ws, 1, ws.len() - 1))?;
+    let all = left.len() + right.len();
+    move_to(left, right, all)?;
+    push_lists(rows, &[d, s], &[0, 1], part(left, 1, all - 1))?;
     Ok(())
 }
 
@@ -111,7 +134,10 @@ pub(crate) fn peel(
     alloc: Global,
     rows: &mut ConvexRows,
     marks: &mut [bool],
-    ws: &mut Vec<u16>,
+    left: &mut Vec<u16>,
+    right: &mut Vec<u16>,
+    places: &mut [u16],
+    edges: &mut [u16],
     lists: &Rotations,
     t: &FaceNumbers,
     s: u16,
@@ -121,23 +147,28 @@ pub(crate) fn peel(
     requires few { length lists.now < 4096 }
     requires numbers { AreFaceNumbers lists.now t.now.own t.now.other t.now.count }
     requires marks { length marks.old ≡ t.now.count }
-    requires stands { Stands lists.now t.now.own marks.old s d ws.old.items rows.old (suc (dart_count lists.now)) }
+    requires stands { Stands lists.now t.now.own marks.old s d (contour_of left.old.items right.old.items) rows.old (suc (dart_count lists.now)) }
+    requires counts { AreCounts lists.now t.now.own t.now.count (contour_of left.old.items right.old.items) places.old edges.old }
+    requires left { 0 < length left.old.items }
     ensures { IfOk result (λ _. AreRowsOfRun lists.now s d rows.new) }
 {
+    let base = number_of(lists, &t.own, d, s);
     for _ in 0..lists.total() {
-        if is_last(lists, &t.own, ws, s, d) {
-            put_last(rows, ws, s, d)?;
+        if is_last(edges, base, left, right, lists, t, s, d) {
+            put_last(rows, left, right, s, d)?;
             return Ok(());
         }
-        round(alloc, rows, marks, ws, lists, t, s, d)?;
+        round(
+            alloc, rows, marks, left, right, places, edges, lists, t, s, d,
+        )?;
     }
     Ok(())
 }
 
-// Traces the contour where just the face of the base is taken off. At first all numbers are marked.
+// Goes along the contour where just the face of the base is taken off. At first all numbers are marked.
 fn first_contour(
     marks: &mut [bool],
-    ws: &mut Vec<u16>,
+    left: &mut Vec<u16>,
     lists: &Rotations,
     t: &FaceNumbers,
     s: u16,
@@ -147,14 +178,15 @@ fn first_contour(
     requires numbers { AreFaceNumbers lists.now t.now.own t.now.other t.now.count }
     requires marks { length marks.old ≡ t.now.count }
     requires all { (f : ℕ) → f < t.now.count → is_set marks.old f ≡ true }
-    requires empty { ws.old.items ≡ [] }
+    requires empty { left.old.items ≡ [] }
     ensures long { length marks.new ≡ length marks.old }
     ensures shown { IfOk result (λ _. (alive : ℕ → Bool) (w : ℕ → ℕ) (r : ℕ) → IsFirst lists.now s d alive w r → IsShown lists.now t.now.own marks.new s d alive w r) }
-    ensures list { IfOk result (λ _. (alive : ℕ → Bool) (w : ℕ → ℕ) (r : ℕ) → IsFirst lists.now s d alive w r → IsListOf ws.new.items w r) }
+    ensures list { IfOk result (λ _. (alive : ℕ → Bool) (w : ℕ → ℕ) (r : ℕ) → IsFirst lists.now s d alive w r → IsListOf left.new.items w r) }
 {
     let f = number_of(lists, &t.own, s, d);
     marks[f as usize] = false;
-    trace(ws, lists, t, marks, s, d)?;
+    left.push(d)?;
+    trace(left, lists, t, marks, s)?;
     Ok(())
 }
 
@@ -174,7 +206,10 @@ pub(crate) fn begin(
     alloc: Global,
     rows: &mut ConvexRows,
     marks: &mut [bool],
-    ws: &mut Vec<u16>,
+    left: &mut Vec<u16>,
+    right: &mut Vec<u16>,
+    places: &mut [u16],
+    edges: &mut [u16],
     lists: &Rotations,
     t: &FaceNumbers,
     s: u16,
@@ -185,13 +220,36 @@ pub(crate) fn begin(
     requires numbers { AreFaceNumbers lists.now t.now.own t.now.other t.now.count }
     requires marks { length marks.old ≡ t.now.count }
     requires all { (f : ℕ) → f < t.now.count → is_set marks.old f ≡ true }
-    requires empty { ws.old.items ≡ [] }
+    requires empty { left.old.items ≡ [] }
+    requires empty_right { right.old.items ≡ [] }
+    requires places { length places.old ≡ t.now.count }
+    requires edges { length edges.old ≡ t.now.count }
+    requires no_places { (f : ℕ) → slice_index places.old f ≡ 0 }
+    requires no_edges { (f : ℕ) → slice_index edges.old f ≡ 0 }
     requires none { HasRows rows.old 0 }
     ensures long { length marks.new ≡ length marks.old }
-    ensures stands { IfOk result (λ _. Stands lists.now t.now.own marks.new s d ws.new.items rows.new (suc (dart_count lists.now))) }
+    ensures stands { IfOk result (λ _. Stands lists.now t.now.own marks.new s d (contour_of left.new.items right.new.items) rows.new (suc (dart_count lists.now))) }
+    ensures counts { IfOk result (λ _. AreCounts lists.now t.now.own t.now.count (contour_of left.new.items right.new.items) places.new edges.new) }
+    ensures left { IfOk result (λ _. 0 < length left.new.items) }
 {
-    first_contour(marks, ws, lists, t, s, d)?;
-    clear_before_base(marks, &t.own, ws);
-    advance(alloc, rows, marks, ws, lists, t, s, d)?;
+    first_contour(marks, left, lists, t, s, d)?;
+    raise_all(places, edges, lists, &t.own, left);
+    clear_before_base(marks, &t.own, left);
+    let r = left.len() - 1;
+    advance(
+        alloc,
+        rows,
+        marks,
+        left,
+        right,
+        places,
+        edges,
+        lists,
+        t,
+        s,
+        d,
+        r - 2,
+        r,
+    )?;
     Ok(())
 }

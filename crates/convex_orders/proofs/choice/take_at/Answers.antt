@@ -1,56 +1,98 @@
-use Rattle.std.proofs.Common.{◌≡◌, ◌↔◌, ◌+◌, ◌-◌, ℕ, suc, List, true, get_or, Contains, sym, ◌∙◌, subst, arith}
+use Rattle.std.proofs.Common.{◌≡◌, ◌↔◌, ◌+◌, ◌-◌, ◌<◌, ℕ, suc, List, true, length, get_or, Contains, refl, sym, ap, ◌∙◌, subst, arith}
 use Rattle.std.proofs.lemmas.Bool.{true≢false}
-use Rattle.map_definitions.specs.Maps.{HasDart}
+use Rattle.map_definitions.specs.Maps.{HasDart, list_of}
+use Rattle.contour_counts.specs.Contours.{contour_of, inner_number}
+use Rattle.contour_counts.proofs.Moves.{length-contour, contour_left}
+use Rattle.contour_counts.proofs.Rows.{entry-lt}
 use Rattle.convex_orders.specs.Shown.{is_set}
-use Rattle.convex_orders.proofs.Rows.{entry-lt}
 use Rattle.convex_orders.proofs.TakenAt.{goes_right, goes_left, goes_only}
 use Rattle.convex_orders.proofs.choice.take_at.Goals as goal
 
-pub number_of-requires-clause-dart : goal.number_of-requires-clause-dart
-number_of-requires-clause-dart c =
-    let ws = c.args.ws.now in
-    let j = c.args.j in
-    let z : suc j ≡ j + 1 = omega arith in
-    subst (λ k. HasDart c.args.lists.now (get_or ws k 0) (get_or ws j 0)) z (c.requires.edges j c.requires.place.before)
+pub has_right-requires-clause-within : goal.has_right-requires-clause-within
+has_right-requires-clause-within c =
+    let ws = contour_of c.args.left.now c.args.right.now in
+    let n = length-contour c.args.left.now c.args.right.now in
+    let j : ℕ = length c.args.left.now - 1 in
+    let e : suc j ≡ length c.args.left.now = omega (arith, c.requires.some) in
+    let place = c.requires.place j e in
+    omega (arith, n, place.before)
 
-pub number_of-requires-then-has_left-clause-dart : goal.number_of-requires-then-has_left-clause-dart
-number_of-requires-then-has_left-clause-dart c =
-    let ws = c.args.ws.now in
-    let j = c.args.j in
-    let k : ℕ = j - 1 in
-    let z : suc k ≡ j = omega (arith, c.requires.place.after) in
-    subst (λ i. HasDart c.args.lists.now (get_or ws i 0) (get_or ws k 0)) z (c.requires.edges k (omega (arith, z, c.requires.place.before)))
+pub clear_one-requires : goal.clear_one-requires
+clear_one-requires c =
+    let ws = contour_of c.args.left.now c.args.right.now in
+    let n = length-contour c.args.left.now c.args.right.now in
+    let j : ℕ = length c.args.left.now - 1 in
+    let e : suc j ≡ length c.args.left.now = omega (arith, c.requires.some) in
+    let place = c.requires.place j e in
+    let has = c.requires.darts j place.before in
+    let l = entry-lt c.args.lists.now c.args.t.now.own c.args.t.now.count c.requires.numbers.own_table (get_or ws (suc j) 0) (get_or ws j 0) has in
+    omega (arith, l, c.edge_at.ensures, c.requires.marks)
 
 pub clear_one-requires-then-has_left : goal.clear_one-requires-then-has_left
 clear_one-requires-then-has_left c =
-    let t = c.args.t.now in
-    let ws = c.args.ws.now in
-    let j = c.args.j in
+    let ws = contour_of c.args.left.now c.args.right.now in
+    let n = length-contour c.args.left.now c.args.right.now in
+    let j : ℕ = length c.args.left.now - 1 in
+    let e : suc j ≡ length c.args.left.now = omega (arith, c.requires.some) in
+    let place = c.requires.place j e in
     let k : ℕ = j - 1 in
-    let z : suc k ≡ j = omega (arith, c.requires.place.after) in
-    let has = subst (λ i. HasDart c.args.lists.now (get_or ws i 0) (get_or ws k 0)) z (c.requires.edges k (omega (arith, z, c.requires.place.before))) in
-    let l = entry-lt c.args.lists.now t.own t.count c.requires.numbers.own_table (get_or ws j 0) (get_or ws k 0) has in
-    omega (arith, l, c.number_of-then-has_left.ensures, c.requires.marks)
+    let has = c.requires.darts k (omega (arith, place.before, place.after)) in
+    let l = entry-lt c.args.lists.now c.args.t.now.own c.args.t.now.count c.requires.numbers.own_table (get_or ws (suc k) 0) (get_or ws k 0) has in
+    omega (arith, l, c.edge_at-then-has_left.ensures, c.requires.marks)
+
+pub list-requires : goal.list-requires
+list-requires c =
+    let ws = contour_of c.args.left.now c.args.right.now in
+    let n = length-contour c.args.left.now c.args.right.now in
+    let j : ℕ = length c.args.left.now - 1 in
+    let e : suc j ≡ length c.args.left.now = omega (arith, c.requires.some) in
+    let place = c.requires.place j e in
+    let at = contour_left c.args.left.now c.args.right.now j (omega arith) in
+    let l = c.requires.vertices j (omega (arith, place.before)) in
+    omega (arith, l, at, c.requires.numbers.own_table.rows)
+
+pub clear_row-requires : goal.clear_row-requires
+clear_row-requires c =
+    let ws = contour_of c.args.left.now c.args.right.now in
+    let n = length-contour c.args.left.now c.args.right.now in
+    let j : ℕ = length c.args.left.now - 1 in
+    let e : suc j ≡ length c.args.left.now = omega (arith, c.requires.some) in
+    let place = c.requires.place j e in
+    let at = contour_left c.args.left.now c.args.right.now j (omega arith) in
+    let l : get_or c.args.left.now j 0 < length c.args.lists.now = omega (arith, c.requires.vertices j (omega (arith, place.before)), at) in
+    record { within = subst (λ (z : List ℕ). (k : ℕ) → k < length z → get_or z k 0 < length c.args.marks.now) (sym c.list.ensures) (λ k m. omega (arith, c.requires.numbers.own_table.below (get_or c.args.left.now j 0) k l m, c.requires.marks)) }
 
 pub returns-then-has_right-clause-goes : goal.returns-then-has_right-clause-goes
-returns-then-has_right-clause-goes c = λ alive w r choice.
+returns-then-has_right-clause-goes c = λ alive w r j e choice.
     let t = c.args.t.now in
-    goes_right c.args.lists.now t.own t.other t.count c.args.s c.args.d c.requires.based c.requires.numbers c.args.marks.now c.clear_one.new.marks c.args.ws.now c.args.split.now c.requires.split c.requires.marks c.args.j c.requires.place alive w r choice
-    (c.has_right.ensures.0 c.if-has_right.true) c.number_of.result c.number_of.ensures c.clear_one.ensures
+    let ws = contour_of c.args.left.now c.args.right.now in
+    let n = length-contour c.args.left.now c.args.right.now in
+    let z : length c.args.left.now - 1 ≡ j = omega arith in
+    let right = subst (λ k. (suc (suc k) < length c.args.left.now + length c.args.right.now) × (inner_number c.args.lists.now t.own ws k ≡ inner_number c.args.lists.now t.own ws (suc k))) z (c.has_right.ensures.0 c.if-has_right.true) in
+    goes_right c.args.lists.now t.own t.other t.count c.args.s c.args.d c.requires.based c.requires.numbers c.args.marks.now c.clear_one.new.marks ws c.args.places.now c.args.edges.now c.requires.counts c.requires.marks j (c.requires.place j e) alive w r choice
+    (length c.args.left.now + length c.args.right.now) (sym n) right c.edge_at.result (c.edge_at.ensures ∙ ap (inner_number c.args.lists.now t.own ws) z) c.clear_one.ensures
 
 pub returns-then-has_left-clause-goes : goal.returns-then-has_left-clause-goes
-returns-then-has_left-clause-goes c = λ alive w r choice.
+returns-then-has_left-clause-goes c = λ alive w r j e choice.
     let t = c.args.t.now in
+    let ws = contour_of c.args.left.now c.args.right.now in
+    let z : length c.args.left.now - 1 ≡ j = omega arith in
     let left = c.has_left.ensures.yes c.if-has_left.true in
-    goes_left c.args.lists.now t.own t.other t.count c.args.s c.args.d c.requires.based c.requires.numbers c.args.marks.now c.clear_one-then-has_left.new.marks c.args.ws.now c.args.split.now c.requires.split c.requires.marks c.args.j c.requires.place alive w r choice
-    left.0 left.1 left.2 c.number_of-then-has_left.result c.number_of-then-has_left.ensures c.clear_one-then-has_left.ensures
+    goes_left c.args.lists.now t.own t.other t.count c.args.s c.args.d c.requires.based c.requires.numbers c.args.marks.now c.clear_one-then-has_left.new.marks ws c.args.places.now c.args.edges.now c.requires.counts c.requires.marks j (c.requires.place j e) alive w r choice
+    left.0 (left.1 ∙ z) left.2 c.edge_at-then-has_left.result (c.edge_at-then-has_left.ensures ∙ ap (λ k. inner_number c.args.lists.now t.own ws (k - 1)) z) c.clear_one-then-has_left.ensures
 
 pub returns-else-has_left-clause-goes : goal.returns-else-has_left-clause-goes
-returns-else-has_left-clause-goes c = λ alive w r choice.
+returns-else-has_left-clause-goes c = λ alive w r j e choice.
     let t = c.args.t.now in
     let marks = c.args.marks.now in
     let new = c.clear_row.new.marks in
-    goes_only c.args.lists.now t.own t.other t.count c.args.s c.args.d c.requires.based c.requires.numbers marks new c.args.ws.now c.args.split.now c.requires.split c.requires.marks c.args.j c.requires.place alive w r choice
-    (λ h. true≢false (sym (c.has_right.ensures.1 h) ∙ c.if-has_right.false))
-    (λ h z e. true≢false (sym (c.has_left.ensures.no h z e) ∙ c.if-has_left.false))
-    (subst (λ (row : List ℕ). (f : ℕ) → (is_set new f ≡ true) ↔ ((is_set marks f ≡ true) × (¬ Contains row f))) c.list.ensures c.clear_row.ensures.set)
+    let left = c.args.left.now in
+    let ws = contour_of left c.args.right.now in
+    let n = length-contour left c.args.right.now in
+    let z : length left - 1 ≡ j = omega arith in
+    let at : get_or left (length left - 1) 0 ≡ get_or ws j 0 = ap (λ k. get_or left k 0) z ∙ sym (contour_left left c.args.right.now j (omega arith)) in
+    goes_only c.args.lists.now t.own t.other t.count c.args.s c.args.d c.requires.based c.requires.numbers marks new ws c.args.places.now c.args.edges.now c.requires.counts c.requires.marks j (c.requires.place j e) alive w r choice
+    (length left + length c.args.right.now) (sym n)
+    (λ h. true≢false (sym (c.has_right.ensures.1 (subst (λ k. (suc (suc k) < length left + length c.args.right.now) × (inner_number c.args.lists.now t.own ws k ≡ inner_number c.args.lists.now t.own ws (suc k))) (sym z) h)) ∙ c.if-has_right.false))
+    (λ h y q. true≢false (sym (c.has_left.ensures.no h (y ∙ sym z) q) ∙ c.if-has_left.false))
+    (subst (λ (row : List ℕ). (f : ℕ) → (is_set new f ≡ true) ↔ ((is_set marks f ≡ true) × (¬ Contains row f))) (c.list.ensures ∙ ap (list_of t.own) at) c.clear_row.ensures.set)

@@ -1,33 +1,35 @@
-use Rattle.std.proofs.Common.{◌-◌, ◌<◌, ◌≤◌, List, ℕ, suc, length, get_or, sym, ◌∙◌, subst, arith}
+use Rattle.std.proofs.Common.{◌≡◌, ◌+◌, ◌-◌, ◌<◌, ◌≤◌, List, ℕ, suc, length, get_or, sym, ap, ap₂, ◌∙◌, subst, arith}
 use Rattle.map_definitions.specs.Maps.{HasDart, dart_count}
-use Rattle.convex_orders.specs.Standing.{AllInner, IsLastRow}
-use Rattle.convex_orders.proofs.StandLemmas.{base_back, stands_some, stands_edges, stands_left, two_places, last_rows}
+use Rattle.contour_counts.specs.Contours.{contour_of}
+use Rattle.contour_counts.specs.Counts.{AreCounts}
+use Rattle.contour_counts.proofs.Rows.{entry-lt}
+use Rattle.convex_orders.specs.Standing.{AllInner, HasOther, IsLastRow}
+use Rattle.convex_orders.proofs.StandLemmas.{base_back, stands_left, two_places, last_rows}
 use Rattle.convex_orders.proofs.rounds.peel.Goals as goal
 
-pub is_last-requires-clause-base : goal.is_last-requires-clause-base
-is_last-requires-clause-base c = base_back c.args.lists.now c.args.s c.args.d c.requires.based
+pub number_of-base-requires-clause-dart : goal.number_of-base-requires-clause-dart
+number_of-base-requires-clause-dart c = base_back c.args.lists.now c.args.s c.args.d c.requires.based
+
+pub is_last-requires-clause-counts : goal.is_last-requires-clause-counts
+is_last-requires-clause-counts c =
+    let t = c.args.t.now in
+    let lists = c.args.lists.now in
+    let s = c.args.s in
+    let d = c.args.d in
+    let b : ℕ = suc (dart_count lists) - c.loop.counter in
+    let ws = contour_of c.loop.left.items c.loop.right.items in
+    let st = c.loop.invariant.stands b (omega (arith, c.loop-test.true, c.total-end.ensures)) in
+    let here : contour_of c.deref.result.now c.deref-in-loop.result.now ≡ ws = ap₂ contour_of c.deref.ensures.value c.deref-in-loop.ensures.value in
+    (c.loop.places, subst (λ (z : List ℕ). AreCounts lists t.own t.count z c.loop.places c.loop.edges) (sym here) c.loop.invariant.counts)
 
 pub is_last-requires-clause-some : goal.is_last-requires-clause-some
-is_last-requires-clause-some c =
-    let t = c.args.t.now in
-    let lists = c.args.lists.now in
-    let s = c.args.s in
-    let d = c.args.d in
-    let ws = c.loop.ws.items in
-    let b : ℕ = suc (dart_count lists) - c.loop.counter in
-    let st = c.loop.invariant.stands b (omega (arith, c.loop-test.true, c.total-end.ensures)) in
-    subst (λ (z : List ℕ). 0 < length z) (sym c.deref.ensures.value) (stands_some lists s d c.requires.based t.own c.loop.marks ws c.loop.rows b st)
+is_last-requires-clause-some c = omega (arith, c.loop.invariant.left, ap length c.deref.ensures.value)
 
-pub is_last-requires-clause-edges : goal.is_last-requires-clause-edges
-is_last-requires-clause-edges c =
+pub is_last-requires-clause-base_in : goal.is_last-requires-clause-base_in
+is_last-requires-clause-base_in c =
     let t = c.args.t.now in
-    let lists = c.args.lists.now in
-    let s = c.args.s in
-    let d = c.args.d in
-    let ws = c.loop.ws.items in
-    let b : ℕ = suc (dart_count lists) - c.loop.counter in
-    let st = c.loop.invariant.stands b (omega (arith, c.loop-test.true, c.total-end.ensures)) in
-    subst (λ (z : List ℕ). (i : ℕ) → suc i < length z → HasDart lists (get_or z (suc i) 0) (get_or z i 0)) (sym c.deref.ensures.value) (stands_edges lists s d c.requires.based t.own c.loop.marks ws c.loop.rows b st)
+    let l = entry-lt c.args.lists.now t.own t.count c.requires.numbers.own_table c.args.d c.args.s (base_back c.args.lists.now c.args.s c.args.d c.requires.based) in
+    omega (arith, l, c.number_of-base.ensures)
 
 pub put_last-requires : goal.put_last-requires
 put_last-requires c =
@@ -35,11 +37,12 @@ put_last-requires c =
     let lists = c.args.lists.now in
     let s = c.args.s in
     let d = c.args.d in
-    let ws = c.loop.ws.items in
     let b : ℕ = suc (dart_count lists) - c.loop.counter in
+    let ws = contour_of c.loop.left.items c.loop.right.items in
     let st = c.loop.invariant.stands b (omega (arith, c.loop-test.true, c.total-end.ensures)) in
-    let all = subst (AllInner lists t.own s d) c.deref.ensures.value (c.is_last.ensures.yes c.if-is_last.true) in
-    record { long = subst (λ (z : List ℕ). 2 ≤ length z) (sym c.deref-then-is_last.ensures.value) (two_places lists s d c.requires.based t.own c.loop.marks ws c.loop.rows b st t.other t.count c.requires.numbers all) }
+    let here : contour_of c.deref.result.now c.deref-in-loop.result.now ≡ ws = ap₂ contour_of c.deref.ensures.value c.deref-in-loop.ensures.value in
+    let all = subst (AllInner lists t.own s d) here (c.is_last.ensures.yes c.if-is_last.true) in
+    record { long = two_places lists s d c.requires.based t.own c.loop.marks ws c.loop.rows b st t.other t.count c.requires.numbers all }
 
 pub returns-then-is_last : goal.returns-then-is_last
 returns-then-is_last c =
@@ -47,11 +50,12 @@ returns-then-is_last c =
     let lists = c.args.lists.now in
     let s = c.args.s in
     let d = c.args.d in
-    let ws = c.loop.ws.items in
     let b : ℕ = suc (dart_count lists) - c.loop.counter in
+    let ws = contour_of c.loop.left.items c.loop.right.items in
     let st = c.loop.invariant.stands b (omega (arith, c.loop-test.true, c.total-end.ensures)) in
-    let all = subst (AllInner lists t.own s d) c.deref.ensures.value (c.is_last.ensures.yes c.if-is_last.true) in
-    last_rows lists s d c.requires.based t.own c.loop.marks ws c.loop.rows b st t.other t.count c.requires.numbers all c.put_last.new.rows (subst (λ (z : List ℕ). IsLastRow z s d c.loop.rows c.put_last.new.rows) c.deref-then-is_last.ensures.value c.in_ok-put_last.ensures)
+    let here : contour_of c.deref.result.now c.deref-in-loop.result.now ≡ ws = ap₂ contour_of c.deref.ensures.value c.deref-in-loop.ensures.value in
+    let all = subst (AllInner lists t.own s d) here (c.is_last.ensures.yes c.if-is_last.true) in
+    last_rows lists s d c.requires.based t.own c.loop.marks ws c.loop.rows b st t.other t.count c.requires.numbers all c.put_last.new.rows c.in_ok-put_last.ensures
 
 pub round-requires-clause-stands : goal.round-requires-clause-stands
 round-requires-clause-stands c =
@@ -59,16 +63,30 @@ round-requires-clause-stands c =
     let lists = c.args.lists.now in
     let s = c.args.s in
     let d = c.args.d in
-    let ws = c.loop.ws.items in
     let b : ℕ = suc (dart_count lists) - c.loop.counter in
+    let ws = contour_of c.loop.left.items c.loop.right.items in
     let st = c.loop.invariant.stands b (omega (arith, c.loop-test.true, c.total-end.ensures)) in
     (b, st)
+
+pub round-requires-clause-other : goal.round-requires-clause-other
+round-requires-clause-other c =
+    let t = c.args.t.now in
+    let lists = c.args.lists.now in
+    let s = c.args.s in
+    let d = c.args.d in
+    let b : ℕ = suc (dart_count lists) - c.loop.counter in
+    let ws = contour_of c.loop.left.items c.loop.right.items in
+    let st = c.loop.invariant.stands b (omega (arith, c.loop-test.true, c.total-end.ensures)) in
+    let here : contour_of c.deref.result.now c.deref-in-loop.result.now ≡ ws = ap₂ contour_of c.deref.ensures.value c.deref-in-loop.ensures.value in
+    subst (HasOther lists t.own s d) here (c.is_last.ensures.no c.if-is_last.false)
 
 pub loop-preserved : goal.loop-preserved
 loop-preserved c =
     let h = c.loop.invariant in
     record {
       long = c.round.ensures.long ∙ h.long;
+      left = c.in_ok-round.ensures.left;
+      counts = c.in_ok-round.ensures.counts;
       stands = λ bound e. c.in_ok-round.ensures.stands bound (h.stands (suc bound) (omega arith));
     }
 
@@ -77,5 +95,5 @@ returns c =
     let t = c.args.t.now in
     let lists = c.args.lists.now in
     let st = c.loop.invariant.stands 1 (omega (arith, c.loop-test.false, c.loop.auto.counter-end, c.total-end.ensures)) in
-    let left = stands_left lists c.args.s c.args.d c.requires.based t.own c.loop.marks c.loop.ws.items c.loop.rows 1 st in
+    let left = stands_left lists c.args.s c.args.d c.requires.based t.own c.loop.marks (contour_of c.loop.left.items c.loop.right.items) c.loop.rows 1 st in
     absurd (omega arith)

@@ -1,0 +1,212 @@
+-- What a removal does to the two stacks and the counts: what is taken out, gone along and put in.
+use Rattle.std.proofs.Common.{◌≡◌, ℕ, suc, ◌+◌, ◌-◌, ◌<◌, ◌≤◌, Bool, eqb, List, [], ◌∷◌, ◌++◌, length, slice_index, get_or, refl, sym, ap, ap₂, ◌∙◌, subst, inl, inr, arith}
+use Rattle.std.specs.Prelude.{reverse, slice_range}
+use Rattle.std.proofs.lemmas.Bool.{cases_lt}
+use Rattle.std.proofs.lemmas.List.{length-append, length-reverse, get_or_append_left, get_or-append_right}
+use Rattle.label_classes.proofs.Counting.{count_below_same}
+use Rattle.map_lists.specs.Lists.{Lists}
+use Rattle.map_definitions.specs.Maps.{HasDart, IsSimpleMap}
+use Rattle.map_definitions.proofs.DartCounts.{sum_below-le, sum_below-same}
+use Rattle.face_peeling.specs.Contours.{face_of, IsContour}
+use Rattle.face_peeling.specs.Removals.{Removal, IsTakenOff}
+use Rattle.face_peeling.proofs.Removed.{gone_within, first_lt}
+use Rattle.face_numbers.specs.FaceNumbers.{entry, AreFaceNumbers}
+use Rattle.tight_maps.proofs.Tightness.{three_connected_is_tight}
+use Rattle.convex_rows.specs.declared.rows.ConvexRows.{ConvexRows}
+use Rattle.convex_removals.specs.Removed.{IsRowMore}
+use Rattle.contour_counts.specs.Contours.{contour_of, AreEdges, inner_number}
+use Rattle.contour_counts.specs.Counts.{met_at, met_below, met_between, edges_between, AreCounts}
+use Rattle.contour_counts.proofs.Moves.{length-contour}
+use Rattle.contour_counts.proofs.CountLemmas.{IsSpliced, counts_spliced, met_spliced, edges_spliced, edges_le}
+use Rattle.convex_orders.specs.Shown.{IsBased, IsListOf, IsOffBy, IsOffAt, IsTrace, SomeTrace}
+use Rattle.convex_orders.specs.Cuts.{AreCutPlaces, SomeCutPlaces, IsCutRow, IsPutIn, IsTakenOut}
+use Rattle.convex_orders.proofs.Once.{number_once}
+use Rattle.convex_orders.proofs.Traced.{contour_short}
+use Rattle.convex_orders.proofs.RowLemmas.{us_edges, us_back, us_in, cut_places, row_of}
+
+module _ (lists own other : Lists) (count s d : ℕ) (based : IsBased lists s d) (n : AreFaceNumbers lists own other count) (marks : List Bool) (ws : List ℕ) (first end : ℕ) (alive : ℕ → Bool) (w : ℕ → ℕ) (r : ℕ) (o : Removal) (at : IsOffAt lists own marks s d ws first end alive w r o) where
+  abbrev simple : IsSimpleMap lists
+  simple = based.three.simple
+
+  abbrev off : IsTakenOff lists alive w r o
+  off = at.off_by.off
+
+  abbrev next : IsContour lists o.alive o.contour o.places
+  next = at.off_by.next.contour
+
+  pub ws_long : length ws ≡ suc r
+  ws_long = at.off_by.list.long
+
+  pub order : first < end
+  order = let a = at.first_is in let b = at.end_is in omega arith
+
+  pub within : end < length ws
+  within = let b = at.end_is in let gone = gone_within lists alive w r o off in let long = ws_long in omega arith
+
+  pub ws_in : (i : ℕ) → i < length ws → slice_index ws i < length lists
+  ws_in i l = let long = ws_long in subst (λ v. v < length lists) (sym (at.off_by.list.each i (omega arith))) (at.off_by.contour.edge i (omega arith)).dart.0
+
+  pub ws_edges : AreEdges lists ws
+  ws_edges i l =
+      let long = ws_long in
+      let list = at.off_by.list in
+      let back = simple.both_ways (w i) (w (suc i)) (at.off_by.contour.edge i (omega arith)).dart in
+      subst (λ v. HasDart lists v (slice_index ws i)) (sym (list.each (suc i) (omega arith))) (subst (HasDart lists (w (suc i))) (sym (list.each i (omega arith))) back)
+
+  module _ (left right : List ℕ) (x : ℕ) (old mid : ConvexRows) (out : IsTakenOut ws left right x first end old mid) where
+    -- what is left before the place goes on to the vertex at the end
+    pub trace_from : IsTrace lists own marks left x o.alive o.contour o.places first o.last
+    trace_from =
+        let f = at.first_is in
+        let e = at.end_is in
+        let long = ws_long in
+        let gone = gone_within lists alive w r o off in
+        let lt = first_lt lists alive w r o off in
+        let z : o.last + 0 ≡ o.last = omega arith in
+        let z' : o.first + o.vertices + 1 + 0 ≡ end = omega arith in
+        record {
+          contour = next;
+          marks_are = at.off_by.next.marks_are;
+          from = record {
+            long = out.left_long;
+            each = λ i l. out.left_each i l ∙ (at.off_by.list.each i (omega arith) ∙ sym (off.before i (omega arith)));
+          };
+          order = omega arith;
+          within = off.within;
+          to = ap o.contour (sym z) ∙ (off.behind 0 ∙ (ap w z' ∙ (sym (at.off_by.list.each end (omega arith)) ∙ sym out.end_is)));
+        }
+
+    module _ (us : List ℕ) (list : IsListOf us o.contour o.last) where
+      us_long : length us ≡ suc o.last
+      us_long = list.long
+
+      -- the new contour
+      pub new_list : IsListOf (contour_of us right) o.contour o.places
+      new_list =
+          let f = at.first_is in
+          let e = at.end_is in
+          let long = ws_long in
+          let right_long = out.right_long in
+          let width = off.width in
+          let inside = off.within in
+          let gone = gone_within lists alive w r o off in
+          let long' = us_long in
+          record {
+            long = length-contour us right ∙ omega arith;
+            each = λ i l. elim (cases_lt i (length us)) [
+              | inl low ↦ get_or_append_left us (reverse right) 0 i low ∙ list.each i (omega arith)
+              | inr high ↦
+                  let q : ℕ = i - length us in
+                  let z : suc end + q ≡ o.first + o.vertices + 1 + suc q = omega arith in
+                  let y : o.last + suc q ≡ i = omega arith in
+                  get_or-append_right us (reverse right) (length us) i 0 refl high
+                  ∙ (out.right_each q (omega arith) ∙ (ap (λ k. slice_index ws k) z ∙ (at.off_by.list.each (o.first + o.vertices + 1 + suc q) (omega arith) ∙ (sym (off.behind (suc q)) ∙ ap o.contour y))))
+            ];
+          }
+
+      pub spliced : IsSpliced ws (contour_of us right) first end o.last
+      spliced =
+          let f = at.first_is in
+          let e = at.end_is in
+          let long = ws_long in
+          let long' = new_list.long in
+          let width = off.width in
+          let inside = off.within in
+          let gone = gone_within lists alive w r o off in
+          let lt = first_lt lists alive w r o off in
+          record {
+            order = order;
+            order_new = omega arith;
+            within = within;
+            width = omega arith;
+            before = λ i l. new_list.each i (omega arith) ∙ (off.before i (omega arith) ∙ sym (at.off_by.list.each i (omega arith)));
+            behind = λ q l.
+                let z : o.first + o.vertices + 1 + q ≡ end + q = omega arith in
+                new_list.each (o.last + q) (omega arith) ∙ (off.behind q ∙ (ap w z ∙ sym (at.off_by.list.each (end + q) (omega arith))));
+          }
+
+      -- the parts of the list before the place are those of the contour
+      pub us_at : (i : ℕ) → i < length us → slice_index (contour_of us right) i ≡ slice_index us i
+      us_at i l = get_or_append_left us (reverse right) 0 i l
+
+      pub new_short : length (contour_of us right) < 4096 → (f : ℕ) → met_below own (contour_of us right) (length (contour_of us right)) f < 4096
+      new_short few f =
+          let tight = three_connected_is_tight lists based.three based.plane in
+          let long = new_list.long in
+          let le = sum_below-le (λ i. met_at own f (slice_index (contour_of us right) i)) (length (contour_of us right)) (λ k l. subst (λ v. met_at own f v ≤ 1) (sym (new_list.each k (omega arith))) (number_once lists own other count simple tight n (o.contour k) (next.edge k (omega arith)).dart.0 f)) in
+          omega arith
+
+      last_is : length us - 1 ≡ o.last
+      last_is = let long = us_long in omega arith
+
+      met_same : (f : ℕ) → met_between own us first (length us - 1) f ≡ met_between own (contour_of us right) first o.last f
+      met_same f =
+          let long = us_long in
+          ap (λ m. met_between own us first m f) last_is
+          ∙ sum_below-same (λ k. met_at own f (slice_index us (suc first + k))) (λ k. met_at own f (slice_index (contour_of us right) (suc first + k))) (o.last - suc first) (λ k l. ap (λ v. met_at own f v) (sym (us_at (suc first + k) (omega arith))))
+
+      edges_same : (f : ℕ) → edges_between lists own us first (length us - 1) f ≡ edges_between lists own (contour_of us right) first o.last f
+      edges_same f =
+          let long = us_long in
+          ap (λ m. edges_between lists own us first m f) last_is
+          ∙ count_below_same (λ k. eqb (inner_number lists own us (first + k)) f) (λ k. eqb (inner_number lists own (contour_of us right) (first + k)) f) (o.last - first) (λ k l. ap₂ (λ a b. eqb (entry lists own a b) f) (sym (us_at (suc (first + k)) (omega arith))) (sym (us_at (first + k) (omega arith))))
+
+      pub put_order : suc first < length us
+      put_order =
+          let f = at.first_is in
+          let lt = first_lt lists alive w r o off in
+          let long = us_long in
+          omega arith
+
+      pub us_short : length us ≤ length lists
+      us_short =
+          let short = contour_short lists o.alive o.contour o.places next in
+          let inside = off.within in
+          let long = us_long in
+          omega arith
+
+      new_short_all : length (contour_of us right) ≤ length lists
+      new_short_all = let long = new_list.long in let short = contour_short lists o.alive o.contour o.places next in omega arith
+
+      new_cuts : AreCutPlaces lists own us first (length us - 1) o.faces o.cut
+      new_cuts = subst (λ f. AreCutPlaces lists own us f (length us - 1) o.faces o.cut) at.first_is (subst (λ l. AreCutPlaces lists own us o.first l o.faces o.cut) (sym last_is) (cut_places lists own other count simple n marks s d ws us alive w r o at.off_by list))
+
+      pub some_cuts : SomeCutPlaces lists own us first (length us - 1)
+      some_cuts = record { faces = o.faces; cut = o.cut; are = new_cuts }
+
+      module _ (few : length lists < 4096) (places edges places' edges' : List ℕ) (counts : AreCounts lists own count ws places edges) (less : (f : ℕ) → f < count → slice_index places' f + met_between own ws first end f ≡ slice_index places f) (less' : (f : ℕ) → f < count → slice_index edges' f + edges_between lists own ws first end f ≡ slice_index edges f) where
+        pub room : (f : ℕ) → f < count → slice_index places' f + met_between own us first (length us - 1) f < 65536
+        room f l =
+            let short = new_short_all in
+            omega (arith, counts.places_are f l, less f l, met_same f, met_spliced lists own ws (contour_of us right) first end o.last spliced f, new_short (omega arith) f)
+
+        pub room_edges : (f : ℕ) → f < count → slice_index edges' f + edges_between lists own us first (length us - 1) f < 65536
+        room_edges f l =
+            let short = new_short_all in
+            let long = ws_long in
+            let long' = new_list.long in
+            let most = edges_le lists own (contour_of us right) o.places f in
+            omega (arith, counts.edges_are f r l (sym long), less' f l, edges_same f, edges_spliced lists own ws (contour_of us right) first end o.last spliced f r o.places (sym long) (sym long'), most)
+
+        pub new_counts : (places'' edges'' : List ℕ) → length places'' ≡ count → length edges'' ≡ count → ((f : ℕ) → f < count → slice_index places'' f ≡ slice_index places' f + met_between own us first (length us - 1) f) → ((f : ℕ) → f < count → slice_index edges'' f ≡ slice_index edges' f + edges_between lists own us first (length us - 1) f) → AreCounts lists own count (contour_of us right) places'' edges''
+        new_counts places'' edges'' l l' more more' =
+            counts_spliced lists own ws (contour_of us right) first end o.last spliced count places edges places' edges' places'' edges'' counts l l' less less' (λ f m. more f m ∙ ap (λ z. slice_index places' f + z) (met_same f)) (λ f m. more' f m ∙ ap (λ z. slice_index edges' f + z) (edges_same f))
+
+      -- the row of the removal
+      pub row_more : (new : ConvexRows) → ((faces : ℕ) (cut : ℕ → ℕ) → AreCutPlaces lists own us first (length us - 1) faces cut → IsPutIn us first (length us - 1) faces cut mid new) → IsRowMore lists w o old new
+      row_more new put =
+          let p = put o.faces o.cut new_cuts in
+          let f = at.first_is in
+          let e = at.end_is in
+          let news_long = out.news_long in
+          let z : length us - 1 + 1 ≡ o.last + 1 = let long = us_long in omega arith in
+          record {
+            row = slice_range us first (length us - 1 + 1);
+            cuts = p.cuts;
+            news = out.news;
+            is = row_of lists own other count simple n marks s d ws us alive w r o at.off_by list (slice_range us first (length us - 1 + 1)) p.cuts out.news (subst (λ k. IsCutRow p.cuts k o.faces o.cut) (sym f) p.cut_row)
+                (ap₂ (slice_range us) (sym f) z) (omega arith) (λ i l. out.news_each i l ∙ (let y : suc first + i ≡ suc o.first + i = omega arith in ap (λ k. slice_index ws k) y));
+            rows_are = p.rows_are ∙ ap (λ (y : List (List ℕ)). y ++ slice_range us first (length us - 1 + 1) ∷ []) out.rows_are;
+            cuts_are = p.cuts_are ∙ ap (λ (y : List (List ℕ)). y ++ p.cuts ∷ []) out.cuts_are;
+            news_are = p.news_are ∙ out.news_are;
+          }

@@ -1,0 +1,75 @@
+-- The edges along the contour whose faces a removal takes off are those from its first place to its end.
+use Rattle.std.proofs.Common.{◌≡◌, ◌≢◌, ℕ, suc, ◌+◌, ◌-◌, ◌<◌, ◌≤◌, Bool, true, false, List, length, slice_index, sym, ap, ap₂, ◌∙◌, subst, inl, inr, arith}
+use Rattle.std.proofs.lemmas.Bool.{cases_Bool, cases_eq, cases_lt, true≢false}
+use Rattle.map_lists.specs.Lists.{Lists}
+use Rattle.map_definitions.specs.Maps.{HasDart, IsSimpleMap}
+use Rattle.face_peeling.specs.Contours.{face_of, IsContour, IsRim}
+use Rattle.face_peeling.specs.Removals.{Removal, IsTakenOff}
+use Rattle.face_peeling.proofs.Removed.{gone_within, first_lt, stays_dead, gone_from}
+use Rattle.face_numbers.specs.FaceNumbers.{entry}
+use Rattle.contour_counts.specs.Contours.{inner_number}
+use Rattle.convex_orders.specs.Shown.{is_set, AreMarks, IsListOf}
+use Rattle.convex_orders.specs.Splits.{IsGoneRun}
+
+module _ (lists own : Lists) (alive : ℕ → Bool) (w : ℕ → ℕ) (r : ℕ) (o : Removal) (simple : IsSimpleMap lists) (contour : IsContour lists alive w r) (off : IsTakenOff lists alive w r o) (next : IsContour lists o.alive o.contour o.places) where
+  -- an edge that stays has its face
+  stays_low : (i : ℕ) → suc i ≤ o.first → o.alive (face_of lists (w (suc i)) (w i)) ≡ true
+  stays_low i l =
+      let gone = gone_within lists alive w r o off in
+      let lt = first_lt lists alive w r o off in
+      let inside = off.within in
+      ap o.alive (ap₂ (face_of lists) (sym (off.before (suc i) l)) (sym (off.before i (omega arith)))) ∙ (next.edge i (omega arith)).inside
+
+  stays_high : (i : ℕ) → o.first + o.vertices + 1 ≤ i → i < r → o.alive (face_of lists (w (suc i)) (w i)) ≡ true
+  stays_high i l m =
+      let width = off.width in
+      let q : ℕ = i - (o.first + o.vertices + 1) in
+      let z : o.first + o.vertices + 1 + q ≡ i = omega arith in
+      let z' : o.first + o.vertices + 1 + suc q ≡ suc i = omega arith in
+      let y : o.last + suc q ≡ suc (o.last + q) = omega arith in
+      let one : w i ≡ o.contour (o.last + q) = sym (off.behind q ∙ ap w z) in
+      let two : w (suc i) ≡ o.contour (suc (o.last + q)) = sym (ap o.contour (sym y) ∙ (off.behind (suc q) ∙ ap w z')) in
+      ap o.alive (ap₂ (face_of lists) two one) ∙ (next.edge (o.last + q) (omega arith)).inside
+
+  -- and one that goes has not
+  goes : (i : ℕ) → o.first ≤ i → i < o.first + o.vertices + 1 → o.alive (face_of lists (w (suc i)) (w i)) ≡ false
+  goes i l m = elim (cases_Bool (o.alive (face_of lists (w (suc i)) (w i)))) [
+    | inr f ↦ f
+    | inl t ↦
+        let gone = gone_within lists alive w r o off in
+        let some = off.some_vertex in
+        let edge = contour.edge i (omega arith) in
+        let found = next.only (w i) (w (suc i)) (record { dart = edge.dart; outside = stays_dead lists alive w r o off (face_of lists (w i) (w (suc i))) edge.outside; inside = t }) in
+        let p : ℕ = found.0 in
+        let p_in = found.1 in
+        elim (cases_eq i o.first) [
+          | inr ne ↦
+              let q : ℕ = i - suc o.first in
+              let z : i ≡ suc (o.first + q) = omega arith in
+              absurd (gone_from lists alive w r o off contour q p (omega arith) p_in (found.2 ∙ ap w z))
+          | inl e ↦
+              let z : suc i ≡ suc (o.first + 0) = omega arith in
+              elim (cases_eq p o.places) [
+                | inr ne ↦ absurd (gone_from lists alive w r o off contour 0 (suc p) some (omega arith) (found.3 ∙ ap w z))
+                | inl last ↦ absurd (gone_from lists alive w r o off contour 0 0 some (omega arith) (sym next.round ∙ (ap (λ k. o.contour (suc k)) (sym last) ∙ (found.3 ∙ ap w z))))
+              ]
+        ]
+  ]
+
+  pub gone_run : (marks : List Bool) (ws : List ℕ) → AreMarks lists own marks o.alive → IsListOf ws w r → IsGoneRun lists own marks ws o.first (o.first + o.vertices + 1)
+  gone_run marks ws are list =
+      let gone = gone_within lists alive w r o off in
+      let some = off.some_vertex in
+      let long = list.long in
+      record {
+        order = omega arith;
+        within = omega arith;
+        gone = λ i l m. mark i (omega arith) ∙ goes i l m;
+        low = λ i e. mark i (omega arith) ∙ stays_low i (omega arith);
+        high = λ l. mark (o.first + o.vertices + 1) (omega arith) ∙ stays_high (o.first + o.vertices + 1) (omega arith) (omega arith);
+      }
+    where
+      mark : (i : ℕ) → i < r → is_set marks (inner_number lists own ws i) ≡ o.alive (face_of lists (w (suc i)) (w i))
+      mark i l =
+          let at : inner_number lists own ws i ≡ entry lists own (w (suc i)) (w i) = ap₂ (entry lists own) (list.each (suc i) l) (list.each i (omega arith)) in
+          ap (is_set marks) at ∙ are (w (suc i)) (w i) (simple.both_ways (w i) (w (suc i)) (contour.edge i (omega arith)).dart)

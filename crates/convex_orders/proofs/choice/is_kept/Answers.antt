@@ -1,0 +1,14 @@
+use Rattle.std.proofs.Common.{◌+◌, ◌<◌, ℕ, suc, length, get_or, arith}
+use Rattle.contour_counts.specs.Contours.{contour_of}
+use Rattle.contour_counts.proofs.Moves.{length-contour}
+use Rattle.contour_counts.proofs.Rows.{entry-lt}
+use Rattle.convex_orders.proofs.choice.is_kept.Goals as goal
+
+pub bounds-marks-edge_at : goal.bounds-marks-edge_at
+bounds-marks-edge_at c =
+    let ws = contour_of c.args.left.now c.args.right.now in
+    let i = c.args.i in
+    let n = length-contour c.args.left.now c.args.right.now in
+    let has = c.requires.darts i (omega (arith, n, c.requires.within)) in
+    let l = entry-lt c.args.lists.now c.args.own.now (length c.args.marks.now) c.requires.table (get_or ws (suc i) 0) (get_or ws i 0) has in
+    omega (arith, l, c.edge_at.ensures)
