@@ -1,9 +1,9 @@
 -- The corners of a map are those of the faces of its run.
-use Rattle.std.proofs.Common.{◌≡◌, ◌≢◌, ◌⊎◌, ℕ, suc, ◌+◌, ◌-◌, ◌<◌, ◌≤◌, List, length, get_or, refl, sym, ap, ◌∙◌, subst, inl, inr, arith}
+use Rattle.std.proofs.Common.{◌≡◌, ◌≢◌, ◌⊎◌, ℕ, suc, ◌+◌, ◌-◌, ◌<◌, ◌≤◌, List, length, get_or, sym, ap, ◌∙◌, subst, inl, inr, arith}
 use Rattle.std.proofs.lemmas.Bool.{cases_eq}
 use Rattle.map_lists.specs.Lists.{Lists}
 use Rattle.map_definitions.specs.Maps.{HasDart, follows, entry_after}
-use Rattle.map_peeling.specs.Restricted.{IsFaceOfThree, IsDartOfThree}
+use Rattle.map_peeling.specs.Restricted.{IsFaceOfThree}
 use Rattle.canon_order.proofs.Counters.{same_place}
 use Rattle.contour_runs.specs.Runs.{Step, stage_after, IsRun, IsFaceOf}
 use Rattle.contour_runs.proofs.Stages.{IsStage-run, IsRun-less, count-stage_after}

@@ -5,13 +5,13 @@ use Rattle.contour_runs.specs.Runs.{Step, stage_after, IsRun, IsFaceOf}
 use Rattle.contour_runs.proofs.Stages.{IsStage-run, IsRun-less, count-stage_after}
 use Rattle.rect_runs.specs.Labels.{labels, IsLabelledRun}
 use Rattle.rect_runs.specs.Numbers.{turn_of}
-use Rattle.rect_runs.specs.Corners.{End, run_in, rise_out, run_out, rise_in, Follows, at_earlier, at_later, at_older, at_new, AreCorners}
+use Rattle.rect_runs.specs.Corners.{End, run_in, rise_out, run_out, rise_in, at_earlier, at_later, at_older, at_new, AreCorners}
 use Rattle.rect_runs.specs.Later.{StandsOver}
 use Rattle.rect_runs.specs.Parents.{IsFirstUnder, IsLastUnder, AreParents}
 use Rattle.rect_runs.proofs.Corners.{corners_follow}
 use Rattle.rect_runs.proofs.Parents.{parents}
 use Rattle.rect_runs.proofs.Steps.{turn-step}
-use Rattle.rect_ends.specs.Ends.{IsEarlierEnd, IsLaterEnd, IsEndAt, IsCorner, CornersOfFaces, OneEnd, EndsAgree, other_end}
+use Rattle.rect_ends.specs.Ends.{IsEndAt, IsCorner, CornersOfFaces, OneEnd, EndsAgree, other_end}
 
 -- an edge of the contour stands as an edge to a new vertex does, up to the turn or behind it
 later-run : (b : Bool) (c j : ℕ) → b ≡ true → j ≤ c → at_later b ≡ at_new c j

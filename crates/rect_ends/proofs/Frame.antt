@@ -1,5 +1,5 @@
 -- The ends of edges at the frame.
-use Rattle.std.proofs.Common.{◌≡◌, ◌≢◌, ℕ, suc, ◌+◌, ◌-◌, ◌<◌, ◌≤◌, leb, refl, sym, ap, subst, ◌∙◌, inl, inr, arith}
+use Rattle.std.proofs.Common.{◌≡◌, ◌≢◌, ℕ, suc, ◌+◌, ◌<◌, ◌≤◌, leb, sym, ap, ◌∙◌, inl, inr, arith}
 use Rattle.std.proofs.lemmas.Bool.{cases_eq, cond-true, cond-false, le-leb, lt-leb}
 use Rattle.contour_runs.specs.Runs.{Step, stage_after}
 use Rattle.contour_runs.specs.Laws.{IsStage}
@@ -10,7 +10,7 @@ use Rattle.rect_runs.specs.Later.{StandsOver}
 use Rattle.rect_boxes.specs.Boxes.{IsRectRun}
 use Rattle.rect_boxes.specs.Frame.{IsFrameLabelling}
 use Rattle.rect_boxes.proofs.Frame.{labelling}
-use Rattle.rect_ends.specs.Ends.{IsEarlierEnd, IsLaterEnd, IsEndAt, AreFrameEnds, FrameEnds}
+use Rattle.rect_ends.specs.Ends.{IsEndAt, FrameEnds}
 
 older-left : (c j : ℕ) → j ≤ c → at_older c j ≡ run_out
 unfolding at_older

@@ -1,7 +1,7 @@
 -- Entries that may follow one another stand once round.
-use Rattle.std.proofs.Common.{◌≡◌, ◌≢◌, ◌⊎◌, ℕ, zero, suc, ◌+◌, ◌<◌, ◌≤◌, List, [], ◌∷◌, ◌++◌, length, take, drop, replicate, get_or, refl, sym, ap, subst, ◌∙◌, inl, inr, arith, length-append, length-take, length-drop}
-use Rattle.rect_runs.specs.Corners.{End, run_in, rise_out, run_out, rise_in, next, Follows}
-use Rattle.rect_ends.specs.Rounds.{IsOnceRound, MayFollow, OnceRound, from_place}
+use Rattle.std.proofs.Common.{◌≡◌, ℕ, zero, suc, ◌<◌, List, [], ◌∷◌, ◌++◌, length, replicate, get_or, sym, ap, ◌∙◌, inl, inr, arith, length-append, length-take, length-drop}
+use Rattle.rect_runs.specs.Corners.{End, run_in, rise_out, run_out, rise_in, next}
+use Rattle.rect_ends.specs.Rounds.{MayFollow, OnceRound, from_place}
 
 -- each entry behind x may follow the one before it, and the last is an entering run
 abbrev IsChain : End → List End → Type 0

@@ -1,5 +1,5 @@
 -- Rows of a run: the places at which their vertices stand, and how many lines there are.
-use Rattle.std.proofs.Common.{◌≡◌, ℕ, suc, ◌+◌, ◌-◌, ◌<◌, ◌≤◌, Bool, not, cond, List, length, get_or, sym, ap, ◌∙◌, inl, inr, arith}
+use Rattle.std.proofs.Common.{◌≡◌, ℕ, suc, ◌+◌, ◌-◌, ◌<◌, Bool, not, cond, List, length, get_or, sym, ap, ◌∙◌, inl, inr, arith}
 use Rattle.std.proofs.lemmas.Bool.{cases_Bool, cond-true, cond-false}
 use Rattle.contour_runs.specs.Runs.{Step, stage_after}
 use Rattle.rect_runs.specs.Numbers.{turns_at_run, rise_turns, run_turns}

@@ -1,11 +1,11 @@
 -- A step more, when the pieces of its row are written.
-use Rattle.std.proofs.Common.{◌≡◌, ℕ, suc, ◌+◌, ◌-◌, ◌<◌, ◌≤◌, eqb, leb, ltb, List, length, get_or, All, sym, ap, ◌∙◌, subst, inl, inr, arith, lt-ltb, eq-eqb}
+use Rattle.std.proofs.Common.{◌≡◌, ℕ, suc, ◌+◌, ◌-◌, ◌<◌, ◌≤◌, eqb, leb, ltb, List, length, get_or, sym, ap, ◌∙◌, subst, inl, inr, arith, lt-ltb, eq-eqb}
 use Rattle.std.proofs.lemmas.Bool.{cases_Bool, cond-true, cond-false, and_from, and_parts, ltb-true, eqb-true, leb-true, le-leb}
 use Rattle.map_lists.specs.Lists.{Lists}
 use Rattle.map_definitions.specs.Maps.{list_of}
 use Rattle.contour_runs.specs.Runs.{Step, Stage, stage_after, IsStep}
 use Rattle.contour_runs.specs.Laws.{IsStage}
-use Rattle.contour_runs.proofs.Stages.{IsStage-run, IsRun-less, count-stage_after}
+use Rattle.contour_runs.proofs.Stages.{IsStage-run, IsRun-less}
 use Rattle.rect_runs.specs.Numbers.{turn_of}
 use Rattle.rect_boxes.specs.Boxes.{stands_between, side_after, rights, highs}
 use Rattle.order_tables.specs.Rows.{IsRow, AreRows}

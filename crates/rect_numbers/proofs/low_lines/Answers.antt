@@ -1,5 +1,4 @@
-use Rattle.std.proofs.Common.{◌≡◌, ◌<◌, ◌≤◌, ◌+◌, ℕ, suc, List, length, get_or, slice_index, All, refl, subst, sym, ap, ◌∙◌, arith}
-use Rattle.map_definitions.specs.Maps.{list_of}
+use Rattle.std.proofs.Common.{◌≡◌, ◌<◌, ◌≤◌, ◌+◌, ℕ, suc, List, length, get_or, slice_index, All, refl, subst, sym, ◌∙◌, arith}
 use Rattle.contour_runs.specs.Runs.{stage_after}
 use Rattle.rect_runs.specs.Numbers.{numbers, run_turns}
 use Rattle.line_lists.specs.Lines.{AreLines}
