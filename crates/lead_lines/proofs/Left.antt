@@ -1,21 +1,21 @@
 -- A step more: the line of the new vertex's left side, the links, and who leads.
-use Rattle.std.proofs.Common.{◌≡◌, ◌≢◌, ◌⊎◌, ℕ, suc, ◌+◌, ◌-◌, ◌<◌, ◌≤◌, Bool, true, false, cond, List, length, get_or, set, refl, sym, ap, subst, ◌∙◌, inl, inr, arith}
-use Rattle.std.proofs.lemmas.Bool.{cases_eq, cases_lt, cases_Bool, cond-true, cond-false}
+use Rattle.std.proofs.Common.{◌≡◌, ◌≢◌, ◌⊎◌, ℕ, suc, ◌+◌, ◌-◌, ◌<◌, ◌≤◌, Bool, true, false, List, length, get_or, set, sym, ap, subst, ◌∙◌, inl, inr, arith}
+use Rattle.std.proofs.lemmas.Bool.{cases_lt, cases_Bool, cond-true, cond-false}
 use Rattle.contour_runs.specs.Runs.{Step, Stage, stage_after, IsStep}
 use Rattle.contour_runs.specs.Laws.{IsStage}
 use Rattle.contour_runs.proofs.Stages.{IsStage-run, IsRun-less, count-stage_after}
 use Rattle.rect_runs.specs.Labels.{labels, IsLabelledRun}
-use Rattle.rect_runs.specs.Numbers.{shifted, with_new, Numbers, numbers, new_x, x_after, turn_of, turns_at_run, rise_turns}
+use Rattle.rect_runs.specs.Numbers.{shifted, with_new, numbers, new_x, x_after, turn_of, turns_at_run, rise_turns}
 use Rattle.rect_runs.specs.Laws.{IsNumbered, IsPut}
 use Rattle.rect_runs.proofs.Edges.{IsTurn}
 use Rattle.rect_runs.proofs.Steps.{with_new-older, with_new-new, x_after-run-older, x_after-run-new, x_after-rise-older, x_after-rise-new, turn-step, numbers_fit, steps_fit}
 use Rattle.line_lists.specs.Lines.{AreLines}
 use Rattle.line_lists.proofs.Lines.{AreLines-same}
-use Rattle.rect_leads.specs.Leads.{AreLeft, AreLeftAfter}
+use Rattle.rect_leads.specs.Leads.{AreLeftAfter}
 use Rattle.rect_leads.proofs.Left.{left_after, left_is_greatest}
 use Rattle.rect_leads.proofs.Room.{left_room, new_left}
 use Rattle.lead_lines.specs.Ways.{is_marked, IsWay, IsFirstAlong}
-use Rattle.lead_lines.specs.States.{IsAt, IsLinkedBack, IsLeftState}
+use Rattle.lead_lines.specs.States.{IsAt, IsLeftState}
 use Rattle.lead_lines.proofs.Links.{same_place, IsLinkedBack-more}
 
 -- lines by other names of their numbers

@@ -1,5 +1,5 @@
 -- Links of the contour after a step, forwards and backwards.
-use Rattle.std.proofs.Common.{◌≡◌, ◌≢◌, ℕ, suc, ◌+◌, ◌<◌, ◌≤◌, false, List, length, get_or, set, sym, ap, ◌∙◌, inl, inr, arith, length-set, get_or-set_same, get_or-set_other}
+use Rattle.std.proofs.Common.{◌≡◌, ◌≢◌, ℕ, suc, ◌<◌, false, List, length, get_or, set, sym, ap, ◌∙◌, inl, inr, arith, length-set, get_or-set_same, get_or-set_other}
 use Rattle.contour_runs.specs.Runs.{Step, Stage, after, IsStep}
 use Rattle.contour_runs.specs.Laws.{IsStage}
 use Rattle.rect_runs.proofs.Edges.{cases_edge}

@@ -1,18 +1,18 @@
 -- The same of lower sides.
-use Rattle.std.proofs.Common.{◌≡◌, ◌≢◌, ◌⊎◌, ℕ, suc, ◌+◌, ◌-◌, ◌<◌, ◌≤◌, Bool, true, false, cond, List, length, get_or, set, refl, sym, ap, subst, ◌∙◌, inl, inr, arith}
-use Rattle.std.proofs.lemmas.Bool.{cases_eq, cases_lt, cases_Bool, cond-true, cond-false}
+use Rattle.std.proofs.Common.{◌≡◌, ◌≢◌, ◌⊎◌, ℕ, suc, ◌+◌, ◌-◌, ◌<◌, ◌≤◌, Bool, true, false, List, length, set, sym, ap, subst, ◌∙◌, inl, inr, arith}
+use Rattle.std.proofs.lemmas.Bool.{cases_lt, cases_Bool, cond-true, cond-false}
 use Rattle.contour_runs.specs.Runs.{Step, Stage, stage_after}
 use Rattle.rect_runs.specs.Labels.{labels, IsLabelledRun}
 use Rattle.rect_runs.specs.Numbers.{shifted, with_new, numbers, new_y, y_after, turn_of, turns_at_run, run_turns}
 use Rattle.rect_runs.proofs.Steps.{with_new-older, with_new-new, y_after-run-older, y_after-run-new, y_after-rise-older, y_after-rise-new}
 use Rattle.line_lists.specs.Lines.{AreLines}
-use Rattle.rect_leads.specs.Leads.{AreLower, AreLowerAfter}
+use Rattle.rect_leads.specs.Leads.{AreLowerAfter}
 use Rattle.rect_leads.proofs.Lower.{lower_after, lower_is_greatest}
 use Rattle.rect_leads.proofs.Room.{lower_room, new_lower}
 use Rattle.lead_lines.specs.Ways.{is_marked, IsWay, IsFirstAlong}
-use Rattle.lead_lines.specs.States.{IsAt, IsLinked, IsLowState}
+use Rattle.lead_lines.specs.States.{IsAt, IsLowState}
 use Rattle.lead_lines.proofs.Links.{same_place, IsLinked-more}
-use Rattle.lead_lines.proofs.Left.{AreLines-named, stage, step, count, turns, numbered, put, wide}
+use Rattle.lead_lines.proofs.Left.{AreLines-named, stage, step, count, numbered, put, wide}
 
 module _ (steps : ℕ → Step) (n k : ℕ) (h : IsLabelledRun steps n) (l : k < n) where
   abbrev g : Stage

@@ -1,4 +1,4 @@
-use Rattle.std.proofs.Common.{rules, length, arith}
+use Rattle.std.proofs.Common.{arith}
 use Rattle.lead_lines.proofs.Ways.{IsOnWay-begin, IsFirstAlong-from, IsOnWay-more}
 use Rattle.lead_lines.proofs.leading.Goals as goal
 

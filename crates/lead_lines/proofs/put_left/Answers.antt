@@ -1,8 +1,8 @@
-use Rattle.std.proofs.Common.{◌≡◌, ◌≢◌, ◌⊎◌, ◌<◌, ◌+◌, ℕ, suc, true, false, not, sym, ap, ◌∙◌, subst, inl, inr, arith}
+use Rattle.std.proofs.Common.{◌+◌, suc, not, sym, ap, ◌∙◌, inl, inr, arith}
 use Rattle.std.proofs.lemmas.Bool.{cases_Bool}
 use Rattle.line_lists.specs.Lines.{AreLines}
 use Rattle.rect_runs.specs.Numbers.{numbers, rise_turns, turn_of}
-use Rattle.lead_lines.proofs.Left.{wide, lines_at, way, way_begins, way_leads, way_ends, way_older, at_older, few, lines_at_run, lines_at_rise, IsLeftState-more}
+use Rattle.lead_lines.proofs.Left.{lines_at, way, way_begins, way_leads, way_ends, way_older, at_older, few, lines_at_run, lines_at_rise, IsLeftState-more}
 use Rattle.lead_lines.proofs.put_left.Goals as goal
 
 pub returns-clause-state : goal.returns-clause-state

@@ -1,4 +1,4 @@
-use Rattle.std.proofs.Common.{◌≡◌, ◌<◌, arith}
+use Rattle.std.proofs.Common.{◌<◌, arith}
 use Rattle.lead_lines.proofs.put_line.Goals as goal
 
 pub returns-then-own-clause-own : goal.returns-then-own-clause-own
