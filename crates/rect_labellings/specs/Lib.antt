@@ -1,0 +1,2 @@
+-- Edge labellings.
+pub mod Labellings
