@@ -1,0 +1,2 @@
+-- Rings under way.
+pub mod Walks
