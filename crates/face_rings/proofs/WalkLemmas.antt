@@ -1,15 +1,12 @@
 -- A ring walked: its beginning, one entry more, and its end.
-use Rattle.std.proofs.Common.{◌≡◌, ◌≢◌, ℕ, zero, suc, ◌+◌, ◌-◌, ◌<◌, ◌≤◌, cond, ltb, List, [], ◌∷◌, ◌++◌, length, get_or, take, AllPairs, Contains, refl, sym, ap, ◌∙◌, subst, inl, inr, arith, lt-ltb, le-ltb}
+use Rattle.std.proofs.Common.{◌≡◌, ◌≢◌, ℕ, zero, suc, ◌+◌, ◌-◌, ◌<◌, ◌≤◌, cond, ltb, List, [], ◌∷◌, ◌++◌, length, get_or, take, Contains, refl, sym, ap, ◌∙◌, subst, inl, inr, arith, lt-ltb, le-ltb}
 use Rattle.std.proofs.lemmas.Bool.{cases_lt, cond-true, cond-false}
 use Rattle.std.proofs.lemmas.List.{get_or_default, get_or_past}
-use Rattle.std.proofs.lemmas.List.Elements.{Contains-append_left, Contains-append_right}
 use Rattle.std.proofs.Math.Seq.{take-suc, take-length}
 use Rattle.map_lists.specs.Lists.{Lists}
-use Rattle.map_definitions.specs.Maps.{list_of, HasDart, IsSimpleMap, follows, entry_after, place_of}
+use Rattle.map_definitions.specs.Maps.{list_of, HasDart, IsSimpleMap, entry_after, place_of}
 use Rattle.map_definitions.proofs.DartCounts.{length-le-below}
 use Rattle.map_definitions.proofs.DartLemmas.{place_of-get_or, entry_after-place, place_of-entry_after}
-use Rattle.map_definitions.proofs.EntryLemmas.{Contains-here}
-use Rattle.map_peeling.proofs.RestrictedMaps.{cases_Contains}
 use Rattle.face_marks.specs.Holes.{IsRing, IsRingOf}
 use Rattle.face_marks.proofs.FaceRings.{face_is_ring}
 use Rattle.face_marks.proofs.Turned.{ring_turned, Contains-turned, entry_after-turned}

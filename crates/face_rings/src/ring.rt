@@ -1,5 +1,5 @@
 //! The ring of a face.
-ghost use Rattle.std.specs.Prelude.{◌≡◌, ◌<◌, ◌≤◌, ◌∷◌, ℕ, List, length, IfOk};
+ghost use Rattle.std.specs.Prelude.{◌≡◌, ◌∷◌, ℕ, List, IfOk};
 ghost use Rattle.map_definitions.specs.Maps.{HasDart, IsSimpleMap};
 ghost use Rattle.face_marks.specs.Holes.{IsRingOf};
 ghost use Rattle.face_rings.specs.Walks.{IsOnceAround, IsRingFrom};

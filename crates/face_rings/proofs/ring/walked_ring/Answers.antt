@@ -1,5 +1,5 @@
 use Rattle.std.proofs.Common.{◌≡◌, ◌++◌, ◌∷◌, [], ℕ, List, Contains, sym, ap, ◌∙◌, subst, arith}
-use Rattle.map_definitions.specs.Maps.{HasDart, entry_after}
+use Rattle.map_definitions.specs.Maps.{entry_after}
 use Rattle.face_rings.proofs.WalkLemmas.{begun, more, done, full, next_dart, length-more}
 use Rattle.face_rings.proofs.ring.walked_ring.Goals as goal
 

@@ -1,0 +1,2 @@
+-- Rows of maps that are put together.
+pub mod Rows
