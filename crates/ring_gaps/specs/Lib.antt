@@ -1,0 +1,2 @@
+-- Gaps of rings.
+pub mod Gaps

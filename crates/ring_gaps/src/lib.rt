@@ -1,0 +1,6 @@
+//! Where the neighbours of one vertex lie between two of another on a ring.
+#![tactic(auto)]
+
+mod search;
+
+pub use search::gap;
