@@ -15,7 +15,7 @@ const ROWS: [(&[&str], &str, &str, &str, u8); 20] = [
         &["embed"],
         "a triangle",
         "Bw\n",
-        "figure 1 schnyder 3\n1 at 0 1: 2 3\n2 at 1 1: 3 1\n3 at 1 0: 1 2\nend records 1 refused 0\n",
+        "figure 1 schnyder 3\n1 at 0 1: 3 2\n2 at 1 0: 3 1\n3 at 1 1: 1 2\nend records 1 refused 0\n",
         0,
     ),
     (
@@ -43,7 +43,7 @@ const ROWS: [(&[&str], &str, &str, &str, u8); 20] = [
         &["embed"],
         "one vertex, and a triangle behind it",
         "@\nBw\n",
-        "refused 1 5 Small 1\nfigure 2 schnyder 3\n1 at 0 1: 2 3\n2 at 1 1: 3 1\n3 at 1 0: 1 2\nend records 2 refused 1\n",
+        "refused 1 5 Small 1\nfigure 2 schnyder 3\n1 at 0 1: 3 2\n2 at 1 0: 3 1\n3 at 1 1: 1 2\nend records 2 refused 1\n",
         1,
     ),
     (
