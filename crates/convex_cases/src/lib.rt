@@ -1,0 +1,5 @@
+//! Convex woods on small cases that were worked out by hand. Tests alone.
+#![tactic(auto)]
+
+#[cfg(test)]
+mod woods;

@@ -1,0 +1,12 @@
+//! Convex woods of three-connected plane maps (Felsner, 2001), from any base, in linear time.
+#![tactic(auto)]
+
+mod of_run;
+mod outs;
+mod points;
+mod signs;
+mod woods;
+
+pub use face_woods::Axis;
+pub use of_run::convex_wood;
+pub use woods::ConvexWood;
