@@ -5,19 +5,13 @@
 #[cfg(test)]
 mod completions;
 #[cfg(test)]
-mod contracted;
-#[cfg(test)]
 mod counts;
 #[cfg(test)]
 mod cutting;
 #[cfg(test)]
 mod given;
 #[cfg(test)]
-mod graphs;
-#[cfg(test)]
 mod items;
-#[cfg(test)]
-mod lifted;
 #[cfg(test)]
 mod made;
 #[cfg(test)]
@@ -29,8 +23,4 @@ mod permutations;
 #[cfg(test)]
 mod records;
 #[cfg(test)]
-mod searches;
-#[cfg(test)]
 mod sources;
-#[cfg(test)]
-mod witnesses;
