@@ -201,7 +201,11 @@ impl Search {
             self.lowest.set(parent, self.lowest.get(dart));
             return true;
         }
-        self.constrain(dart, parent)
+        let fits = self.constrain(dart, parent);
+        if !fits {
+            self.failed = vertex;
+        }
+        fits
     }
 
     // An interval without the highest darts, which lead to a vertex. Emptied, its lowest dart goes to the left
@@ -274,8 +278,10 @@ impl Search {
 #[inline(always)]
 fn look(links: &Links, search: &mut Search, vertex: u32, dart: u32) -> Option<u32> {
     search.bottom.set(dart, search.top);
+    search.note_look(dart);
     let head = links.head.get(dart);
     if search.parent.get(head) == dart {
+        search.entry.set(head, search.looks);
         return Some(head);
     }
     search.lowest.set(dart, dart);
@@ -321,6 +327,7 @@ fn step(links: &Links, search: &mut Search, vertex: u32, dart: u32) -> Option<u3
 // Goes on from a root until all that it reaches is done, or a conflict shows.
 fn agrees_from(links: &Links, search: &mut Search, root: u32) -> bool {
     search.top = 0;
+    search.entry.set(root, search.looks);
     let mut vertex = root;
     for _ in 0..steps(links.vertices, links.darts) {
         let dart = search.cursor.get(vertex);
@@ -342,9 +349,11 @@ fn reset_cursors(links: &Links, search: &mut Search) {
     }
 }
 
-/// Whether the oriented edges can be put on two sides without a conflict.
+/// Whether the oriented edges can be put on two sides without a conflict. Where they can't, the edges looked at
+/// since the search came to the vertex of the conflict, and those of the way there, are nonplanar.
 pub fn agrees(links: &Links, search: &mut Search) -> bool {
     reset_cursors(links, search);
+    search.begin_looking();
     for root in 0..links.vertices {
         let is_root = links.first.get(root) != NONE && search.parent.get(root) == NONE;
         if is_root && !agrees_from(links, search, root) {

@@ -87,20 +87,6 @@ impl Edges {
         }
         (u, v)
     }
-
-    // Appends the edges from one vertex to greater ones, until there is one too many.
-    fn push_from(&mut self, line: &[u8], u: u32, most: u32) {
-        let mut place = plus(u, u.wrapping_mul(plus(u, 1)) / 2);
-        for v in plus(u, 1)..self.vertices {
-            if self.count > most {
-                return;
-            }
-            if has_bit(line, place) {
-                self.push(u, v);
-            }
-            place = plus(place, v);
-        }
-    }
 }
 
 /// How many edges a plane map has at most.
@@ -110,13 +96,6 @@ pub fn most_edges(vertices: u32) -> u32 {
     } else {
         minus(vertices.wrapping_mul(3), 6)
     }
-}
-
-// The bit at a place.
-#[inline(always)]
-fn has_bit(line: &[u8], place: u32) -> bool {
-    let i = (place / 6) as usize;
-    i < line.len() && (u32::from(line[i]).wrapping_sub(63) >> (5 - place % 6)) & 1 == 1
 }
 
 // What stands in a line behind the number of vertices.
@@ -148,16 +127,11 @@ pub fn some_edges(line: &[u8], vertices: u32) -> Edges {
     edges
 }
 
-/// The edges of a line; of those that are too many for a plane map, the first ones by the lesser end and then
-/// by the greater, one too many.
+/// The edges of a line; of those that are too many for a plane map, the first ones, one too many.
 pub fn first_edges(line: &[u8], vertices: u32) -> Edges {
     let mut edges = some_edges(line, vertices);
     if edges.are_many() {
-        edges.count = 0;
-        let most = most_edges(vertices);
-        for u in 0..vertices {
-            edges.push_from(bits_of(line), u, most);
-        }
+        edges.count = plus(most_edges(vertices), 1);
     }
     edges
 }

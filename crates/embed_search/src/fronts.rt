@@ -1,34 +1,27 @@
-//! The edges of a witness, by tests on fronts of a list of edges.
+//! The edges of a witness: a front of the list of edges, cut down to what conflicts show, and then path by path.
 use crate::edges::Edges;
 use crate::forest::mark_forest;
 use crate::parts::{Parts, is_planar};
-use crate::row::{ByEdge, NONE, lesser, minus, plus, twice};
+use crate::row::{ByEdge, NONE, lesser, plus, twice};
 
-// How many edges more the first test of a front takes.
+// How many edges more than a forest the first front has.
 const FIRST_STEP: u32 = 16;
 
-// How many essential edges are found by fronts at most: few graphs have more.
-const MOST_ROUNDS: u32 = 8;
+// From how many roots conflicts are looked for at most.
+const MOST_ROOTS: u32 = 12;
 
 // In how many parts paths are left out first.
 const FIRST_PARTS: u32 = 16;
 
-/// A list of edges, all of which together are nonplanar: first a forest and essential ones,
-/// then others.
+/// A list of edges, all of which together are nonplanar.
 #[derive(Drop)]
 pub struct Choice {
     /// The edges.
     pub list: ByEdge,
     /// How many there are.
     pub count: u32,
-    // how many are essential or in the forest
-    based: u32,
-    // the first ones of this number are planar
-    planar: u32,
     // for each edge, whether it stays
     stays: ByEdge,
-    // for each edge, whether it is known to be essential
-    essential: ByEdge,
     // for each edge, whether a test leaves it out
     out: ByEdge,
     // one edge of each path that may be left out
@@ -44,10 +37,7 @@ impl Choice {
         Choice {
             list: ByEdge::new(),
             count: 0,
-            based: 0,
-            planar: 0,
             stays: ByEdge::new(),
-            essential: ByEdge::new(),
             out: ByEdge::new(),
             paths: ByEdge::new(),
             path_count: 0,
@@ -57,16 +47,6 @@ impl Choice {
     fn push(&mut self, edge: u32) {
         self.list.set(self.count, edge);
         self.count = plus(self.count, 1);
-    }
-
-    // Makes the last edge an essential one.
-    fn move_last(&mut self) {
-        let end = minus(self.count, 1);
-        let last = self.list.get(end);
-        self.list.set(end, self.list.get(self.based));
-        self.list.set(self.based, last);
-        self.essential.set(last, 1);
-        self.based = lesser(plus(self.based, 1), self.count);
     }
 
     // Marks the edges for which an edge stands.
@@ -83,7 +63,6 @@ impl Choice {
 
     // Marks those of the first edges for which the edges left stand.
     fn mark_left(&mut self, parts: &Parts, front: u32) {
-        self.stays.fill(0);
         for i in 0..front {
             let edge = self.list.get(i);
             if parts.left.get(edge) == 1 {
@@ -92,48 +71,56 @@ impl Choice {
         }
     }
 
+    // Marks the edges of the way from a root to a vertex.
+    fn mark_way(&mut self, parts: &Parts, vertex: u32) {
+        let mut vertex = vertex;
+        for _ in 0..parts.links.vertices {
+            let dart = parts.search.parent.get(vertex);
+            if dart == NONE {
+                return;
+            }
+            self.mark_ring(parts, dart >> 1);
+            vertex = parts.links.tail(dart);
+        }
+    }
+
+    // Marks the edges among which the last test met its conflict.
+    fn mark_conflict(&mut self, parts: &Parts) {
+        let search = &parts.search;
+        for i in search.entry.get(search.failed)..search.looks {
+            self.mark_ring(parts, search.looked.get(i) >> 1);
+        }
+        self.mark_way(parts, search.failed);
+    }
+
     // Keeps of the first edges the marked ones.
     fn keep_marked(&mut self, front: u32) {
-        let based = self.based;
-        let planar = self.planar;
         self.count = 0;
-        self.based = 0;
-        self.planar = 0;
         for i in 0..front {
             let edge = self.list.get(i);
             if self.stays.get(edge) == 1 {
                 self.push(edge);
-                if i < based {
-                    self.based = self.count;
-                }
-                if i < planar {
-                    self.planar = self.count;
-                }
             }
         }
     }
 
-    // Whether one of the edges for which an edge stands is known to be essential.
-    fn is_essential(&self, parts: &Parts, edge: u32) -> bool {
-        let mut e = edge;
-        for _ in 0..parts.links.darts {
-            if self.essential.get(e) == 1 {
-                return true;
-            }
-            e = parts.ring.get(e);
-            if e == edge {
-                return false;
-            }
+    // Keeps of the first edges those among which the last test met its conflict, or else what it left.
+    fn keep_nonplanar(&mut self, parts: &Parts, front: u32) {
+        self.stays.fill(0);
+        if parts.search.failed == NONE {
+            self.mark_left(parts, front);
+        } else {
+            self.mark_conflict(parts);
         }
-        false
+        self.keep_marked(front);
     }
 
-    // Notes of what a test left the paths that may be left out.
+    // Notes of what a test left the paths.
     fn note_paths(&mut self, parts: &Parts) {
         self.path_count = 0;
         for i in 0..self.count {
             let edge = self.list.get(i);
-            if parts.left.get(edge) == 1 && !self.is_essential(parts, edge) {
+            if parts.left.get(edge) == 1 {
                 self.paths.set(self.path_count, edge);
                 self.path_count = plus(self.path_count, 1);
             }
@@ -167,18 +154,13 @@ impl Choice {
         }
     }
 
-    // All edges, those of a forest first.
-    fn set_all(&mut self, edges: &Edges, parts: &mut Parts) {
+    // All edges, those of a forest first. It answers how many these are.
+    fn set_all(&mut self, edges: &Edges, parts: &mut Parts) -> u32 {
         mark_forest(edges, parts, &mut self.stays);
         self.push_marked(edges, 1);
-        self.based = self.count;
+        let forest = self.count;
         self.push_marked(edges, 0);
-    }
-
-    // Keeps of the first edges those of what a test left.
-    fn keep_left(&mut self, parts: &Parts, front: u32) {
-        self.mark_left(parts, front);
-        self.keep_marked(front);
+        forest
     }
 }
 
@@ -194,56 +176,39 @@ fn front_passes(edges: &Edges, parts: &mut Parts, choice: &Choice, front: u32) -
     is_planar(parts)
 }
 
-// Tests the first edges. Where they are nonplanar, the others go, and what is not in their reduced part.
+// Tests the first edges. Where they are nonplanar, the others go, and of these what the test does not need.
 fn try_front(edges: &Edges, parts: &mut Parts, choice: &mut Choice, front: u32) -> bool {
     let passes = front_passes(edges, parts, choice, front);
-    if passes {
-        choice.planar = front;
-    } else {
-        choice.keep_left(parts, front);
+    if !passes {
+        choice.keep_nonplanar(parts, front);
     }
     passes
 }
 
-// Makes the front longer, each time by four times as much, until it is nonplanar.
-fn lengthen(edges: &Edges, parts: &mut Parts, choice: &mut Choice) {
+// Makes a front longer, each time by four times as much, until it is nonplanar.
+fn lengthen(edges: &Edges, parts: &mut Parts, choice: &mut Choice, forest: u32) {
+    let mut front = forest;
     let mut step = FIRST_STEP;
     for _ in 0..32u32 {
-        let front = plus(choice.planar, step);
-        if front >= choice.count {
-            return;
-        }
-        if !try_front(edges, parts, choice, front) {
+        front = plus(front, step);
+        if front >= choice.count || !try_front(edges, parts, choice, front) {
             return;
         }
         step = twice(twice(step));
     }
 }
 
-// Halves until the list is the least nonplanar front.
-fn halve(edges: &Edges, parts: &mut Parts, choice: &mut Choice) {
-    for _ in 0..choice.count {
-        let rest = minus(choice.count, choice.planar);
-        if rest <= 1 {
+// Looks for conflicts from the vertex of the last one, while that makes the list much shorter.
+fn narrow(edges: &Edges, parts: &mut Parts, choice: &mut Choice) {
+    for _ in 0..MOST_ROOTS {
+        let count = choice.count;
+        if try_front(edges, parts, choice, count) {
             return;
         }
-        let front = plus(choice.planar, rest / 2);
-        let _passes = try_front(edges, parts, choice, front);
-    }
-}
-
-// Finds essential edges, until they and the forest are nonplanar, or they are many.
-fn find_essential(edges: &Edges, parts: &mut Parts, choice: &mut Choice) {
-    choice.planar = choice.based;
-    lengthen(edges, parts, choice);
-    for _ in 0..MOST_ROUNDS {
-        if choice.based >= choice.count {
+        parts.search.root = parts.search.failed;
+        if plus(choice.count, choice.count / 8) > count {
             return;
         }
-        halve(edges, parts, choice);
-        choice.move_last();
-        let front = choice.based;
-        let _passes = try_front(edges, parts, choice, front);
     }
 }
 
@@ -251,9 +216,7 @@ fn find_essential(edges: &Edges, parts: &mut Parts, choice: &mut Choice) {
 fn try_without(edges: &Edges, parts: &mut Parts, choice: &mut Choice, from: u32, end: u32) {
     choice.set_out(from, end, 1);
     let front = choice.count;
-    if !front_passes(edges, parts, choice, front) {
-        choice.keep_left(parts, front);
-    }
+    let _passes = try_front(edges, parts, choice, front);
     choice.set_out(from, end, 0);
 }
 
@@ -297,7 +260,8 @@ fn leave_out(edges: &Edges, parts: &mut Parts, choice: &mut Choice) {
 
 /// Chooses edges of a nonplanar graph that are nonplanar, and planar without any path of theirs.
 pub fn choose(edges: &Edges, parts: &mut Parts, choice: &mut Choice) {
-    choice.set_all(edges, parts);
-    find_essential(edges, parts, choice);
+    let forest = choice.set_all(edges, parts);
+    lengthen(edges, parts, choice, forest);
+    narrow(edges, parts, choice);
     leave_out(edges, parts, choice);
 }

@@ -80,13 +80,21 @@ fn orient_from(links: &Links, search: &mut Search, root: u32) {
     }
 }
 
+// Goes on from a root, if it has darts and was not reached.
+#[inline(always)]
+fn orient_root(links: &Links, search: &mut Search, root: u32) {
+    if links.first.get(root) != NONE && !search.is_reached(root) {
+        orient_from(links, search, root);
+    }
+}
+
 /// Orients all edges, and puts their darts into buckets by depth.
 pub fn orient_all(links: &Links, search: &mut Search) {
     search.height.fill(NONE);
     search.bucket.fill(NONE);
+    let first = search.root;
+    orient_root(links, search, first);
     for root in 0..links.vertices {
-        if links.first.get(root) != NONE && !search.is_reached(root) {
-            orient_from(links, search, root);
-        }
+        orient_root(links, search, root);
     }
 }

@@ -5,7 +5,7 @@ use crate::links::Links;
 use crate::nesting::{depth_end, sort_leaving};
 use crate::orient::orient_all;
 use crate::reduce::reduce;
-use crate::row::{ByDart, ByEdge, plus};
+use crate::row::{ByDart, ByEdge, NONE, plus};
 use crate::search::Search;
 
 /// What tests of parts work in.
@@ -75,9 +75,11 @@ fn passes(links: &Links, search: &mut Search, vertices: u32) -> bool {
     agrees(links, search)
 }
 
-/// Whether the part is planar. It is reduced to vertices of degree three and more.
+/// Whether the part is planar. It is reduced to vertices of degree three and more. Where a conflict shows that it
+/// is nonplanar, `failed` is its vertex, and else none.
 pub fn is_planar(parts: &mut Parts) -> bool {
     reduce(parts);
+    parts.search.failed = NONE;
     let (vertices, darts) = sizes(&parts.links);
     if darts < 18 {
         return true;
