@@ -1,5 +1,7 @@
 -- A vertex put into a ring: its edges are put in one after another, along the ring; the face that is still open goes from the vertex to the last of its neighbours, and on along the ring.
-use Rattle.std.proofs.Common.{◌≡◌, ◌≢◌, ◌⊎◌, ℕ, ◌+◌, ◌-◌, ◌<◌, ◌≤◌, Bool, true, false, not, cond, eqb, List, [], ◌∷◌, ◌++◌, length, get_or, AllPairs, Contains, refl, sym, ap, ◌∙◌, subst, inl, inr, arith}
+use Rattle.std.proofs.Common.{◌≡◌, ◌≢◌, ◌⊎◌, ℕ, ◌+◌, ◌-◌, ◌<◌, ◌≤◌, Bool, true, false, not, cond, eqb, List, [], ◌∷◌, ◌++◌, length, get_or, AllPairs, Contains, refl, sym, ap, ap₂, ◌∙◌, subst, inl, inr, arith}
+use Rattle.std.specs.Prelude.{slice_set}
+use Rattle.std.specs.List.{insert}
 use Rattle.std.proofs.lemmas.Bool.{cases_Bool, cases_eq, true≢false, eq-eqb, ne_eqb, cond-true, cond-false}
 use Rattle.std.proofs.lemmas.List.{append_assoc}
 use Rattle.std.proofs.lemmas.List.Elements.{Contains-append_cases, Contains-append_left, Contains-append_right}
@@ -20,7 +22,7 @@ use Rattle.map_edits.proofs.WithEdge.{with_edge, new_second, entry_at-after, wit
 use Rattle.map_peeling.proofs.Rings.{Leads, Leads-part, Leads-join, Leads-in, Leads-same, leads_round, ends_with, round-entry, AllPairs-put, each_of_one}
 use Rattle.map_peeling.proofs.OuterCycles.{entry_before}
 use Rattle.face_marks.specs.Holes.{IsRing}
-use Rattle.face_marks.specs.Inserts.{IsTaken, IsPutIn, VertexPutIn}
+use Rattle.face_marks.specs.Inserts.{IsTaken, IsPutIn, VertexPutIn, joined_along, put_in_ring}
 
 -- from the entries of a way but its last it goes on to entries of it
 pub Leads-next_in : (next : ℕ → ℕ) (x : ℕ) (mid : List ℕ) (b : ℕ) → Leads next x (mid ++ b ∷ []) b → (z : ℕ) → Contains (x ∷ mid) z → Contains (mid ++ b ∷ []) (next z)
@@ -30,6 +32,24 @@ Leads-next_in next x (w ∷ mid) b h z c =
       | inl e ↦ subst (λ y. Contains (w ∷ mid ++ b ∷ []) (next y)) e (subst (Contains (w ∷ mid ++ b ∷ [])) (sym h.0) (Contains-here w (mid ++ b ∷ [])))
       | inr c' ↦ Contains-there w (mid ++ b ∷ []) (next z) (Leads-next_in next w mid b h.1 z c')
     ]
+
+-- an entry that is taken, and one that is left
+joined_along-taken : (taken : ℕ → Bool) (x a : ℕ) (cur : Lists) (p w v : ℕ) (todo : List ℕ) → taken w ≡ true → w ≡ v → joined_along taken x a (with_edge_after cur x a w p) w todo ≡ joined_along taken x a cur p (v ∷ todo)
+joined_along-taken taken x a cur p w v todo takes e =
+    ap (λ y. joined_along taken x a (with_edge_after cur x a y p) y todo) e
+    ∙ ap (λ (l : Lists). joined_along taken x a l v todo) (sym (cond-true (taken v) (with_edge_after cur x a v p) cur (ap taken (sym e) ∙ takes)))
+
+joined_along-left : (taken : ℕ → Bool) (x a : ℕ) (cur : Lists) (p w v : ℕ) (todo : List ℕ) → taken w ≡ false → w ≡ v → joined_along taken x a cur w todo ≡ joined_along taken x a cur p (v ∷ todo)
+joined_along-left taken x a cur p w v todo leaves e =
+    ap (λ y. joined_along taken x a cur y todo) e
+    ∙ ap (λ (l : Lists). joined_along taken x a l v todo) (sym (cond-false (taken v) (with_edge_after cur x a v p) cur (ap taken (sym e) ∙ leaves)))
+
+-- entries that are all left
+joined_along-none : (taken : ℕ → Bool) (x a : ℕ) (cur : Lists) (next : ℕ → ℕ) (p : ℕ) (mid : List ℕ) (q : ℕ) (todo : List ℕ) → Leads next p mid q → ((w : ℕ) → Contains mid w → taken w ≡ false) → joined_along taken x a cur q todo ≡ joined_along taken x a cur p (mid ++ todo)
+joined_along-none taken x a cur next p [] q todo way none = ap (λ y. joined_along taken x a cur y todo) (sym way)
+joined_along-none taken x a cur next p (v ∷ mid) q todo way none =
+    joined_along-none taken x a cur next v mid q todo way.1 (λ w c. none w (Contains-there v mid w c))
+    ∙ joined_along-left taken x a cur p v v (mid ++ todo) (none v (Contains-here v mid)) refl
 
 module _ (lists : Lists) (simple : IsSimpleMap lists) (plane : IsPlane lists) (x : ℕ) (in_x : x < length lists) (empty : list_of lists x ≡ []) (ws : List ℕ) (ring : IsRing lists ws) (taken : ℕ → Bool) (a : ℕ) (on_a : Contains ws a) (taken_a : taken a ≡ true) where
   abbrev next : ℕ → ℕ
@@ -165,18 +185,20 @@ module _ (lists : Lists) (simple : IsSimpleMap lists) (plane : IsPlane lists) (x
         let round = same_face-step new more.simple (x, v) (x, v) more.edge (same_face new more.simple (x, v) (x, v) refl) in
         (stage, later, subst (λ y. SameFace new (x, v) (v, y)) back_turn round, put.next ∙ s.first_turn)
 
-  -- what is done with the rest of the ring
-  record Done (cur : Lists) (joined todo : List ℕ) : Type 0 where
+  -- what is done with the rest of the ring, which comes after p
+  record Done (cur : Lists) (joined : List ℕ) (p : ℕ) (todo : List ℕ) : Type 0 where
     new : Lists
+    is : new ≡ joined_along taken x a cur p todo
     more : List ℕ
     last : ℕ
     stage : Stage new more last
     later : Later cur new joined more
     all : (w : ℕ) → Contains todo w → taken w ≡ true → Contains more w
 
-  put_all : (todo : List ℕ) (t : ℕ) (cur : Lists) (joined : List ℕ) (last p : ℕ) → Stage cur joined last → Contains ws p → Leads next p todo t → AllPairs ◌≢◌ todo → ((w : ℕ) → Contains todo w → ¬ Contains joined w) → Open cur last p → Done cur joined todo
+  put_all : (todo : List ℕ) (t : ℕ) (cur : Lists) (joined : List ℕ) (last p : ℕ) → Stage cur joined last → Contains ws p → Leads next p todo t → AllPairs ◌≢◌ todo → ((w : ℕ) → Contains todo w → ¬ Contains joined w) → Open cur last p → Done cur joined p todo
   put_all [] t cur joined last p s c way distinct fresh opened = record {
     new = cur;
+    is = refl;
     more = joined;
     last = last;
     stage = s;
@@ -199,6 +221,7 @@ module _ (lists : Lists) (simple : IsSimpleMap lists) (plane : IsPlane lists) (x
             ]) m.2 in
             record {
               new = rest.new;
+              is = rest.is ∙ joined_along-taken taken x a cur p (next p) v todo takes e;
               more = rest.more;
               last = rest.last;
               stage = rest.stage;
@@ -215,6 +238,7 @@ module _ (lists : Lists) (simple : IsSimpleMap lists) (plane : IsPlane lists) (x
             let rest = put_all todo t cur joined last (next p) s on_v way' distinct' (λ w c' h. fresh w (Contains-there v todo w c') h) (passed cur joined last p s c not_yet opened) in
             record {
               new = rest.new;
+              is = rest.is ∙ joined_along-left taken x a cur p (next p) v todo leaves e;
               more = rest.more;
               last = rest.last;
               stage = rest.stage;
@@ -463,9 +487,15 @@ all_joined a mid b back taken more none has_a has_b rest w c t =
       ]
     ]
 
--- THE LAW: a vertex put into a ring
-pub vertex_put_in : VertexPutIn
-vertex_put_in lists x a mid b back taken simple plane in_x empty ring taken_a taken_b none =
+-- an entry put into an empty list
+first_row : (us : List ℕ) (a : ℕ) → us ≡ [] → insert us 0 a ≡ insert us (place_of a us + 1) a
+first_row [] a e = refl
+first_row (u ∷ us) a e = absurd (let n = ap (λ (l : List ℕ). length l) e in omega arith)
+
+-- a vertex put into a ring, by its lists
+pub put_in_ring_law : (lists : Lists) (x a : ℕ) (mid : List ℕ) (b : ℕ) (back : List ℕ) (taken : ℕ → Bool) → IsSimpleMap lists → IsPlane lists → x < length lists → list_of lists x ≡ [] → IsRing lists (a ∷ mid ++ b ∷ back) → taken a ≡ true → taken b ≡ true → ((w : ℕ) → Contains mid w → taken w ≡ false)
+    → IsPutIn lists (put_in_ring taken x lists (a ∷ mid ++ b ∷ back)) (a ∷ mid ++ b ∷ back) taken x × IsRing (put_in_ring taken x lists (a ∷ mid ++ b ∷ back)) (x ∷ a ∷ mid ++ b ∷ [])
+put_in_ring_law lists x a mid b back taken simple plane in_x empty ring taken_a taken_b none =
     let ws = a ∷ mid ++ b ∷ back in
     let on_a = Contains-here a (mid ++ b ∷ back) in
     let on : ℕ → ℕ = λ p. entry_after p ws in
@@ -498,4 +528,21 @@ vertex_put_in lists x a mid b back taken simple plane in_x empty ring taken_a ta
     let put = put_in lists simple plane x in_x empty ws ring taken a on_a taken_a rest.new rest.more rest.last rest.stage all in
     let turn_b : follows rest.new x b ≡ a = ap (follows rest.new x) (sym next_b) ∙ (rest.later.kept_turns (on y) here (λ e. b_a (sym next_b ∙ e)) ∙ m.3) in
     let off : (w : ℕ) → Contains ws w → w ≢ x = ring_off lists simple plane x in_x empty ws ring taken a on_a taken_a in
-    (rest.new, put, new_ring lists simple x a mid b back taken ring off taken_a taken_b none y t parts.1 next_b rest.new put turn_b)
+    let new_on = new_ring lists simple x a mid b back taken ring off taken_a taken_b none y t parts.1 next_b rest.new put turn_b in
+    -- the lists are those of the definition
+    let left = before lists simple plane x in_x empty ws ring taken a on_a taken_a in
+    let on_t : Contains ws t = Leads-in on a (mid ++ b ∷ back) t round.1 in
+    let t_is : left.0 ≡ t = entry_after-injective ws left.0 t ring.distinct left.1 on_t (left.2 ∙ sym round.0) in
+    let begun_is : first_map ≡ with_edge_after lists x a a t = ap₂ (λ (us : List ℕ) p. slice_set (slice_set lists x us) a (insert (list_of lists a) (place_of p (list_of lists a) + 1) x)) (first_row (list_of lists x) a empty) t_is in
+    let is : rest.new ≡ put_in_ring taken x lists ws =
+    rest.is
+    ∙ (joined_along-taken taken x a first_map y (on y) b back (ap taken next_b ∙ taken_b) next_b
+    ∙ (joined_along-none taken x a first_map on a mid y (b ∷ back) parts.1 none
+    ∙ (ap (λ (l : Lists). joined_along taken x a l a (mid ++ b ∷ back)) begun_is ∙ joined_along-taken taken x a lists t a a (mid ++ b ∷ back) taken_a refl))) in
+    (subst (λ l. IsPutIn lists l ws taken x) is put, subst (λ l. IsRing l (x ∷ a ∷ mid ++ b ∷ [])) is new_on)
+
+-- THE LAW: a vertex put into a ring
+pub vertex_put_in : VertexPutIn
+vertex_put_in lists x a mid b back taken simple plane in_x empty ring taken_a taken_b none =
+    let r = put_in_ring_law lists x a mid b back taken simple plane in_x empty ring taken_a taken_b none in
+    (put_in_ring taken x lists (a ∷ mid ++ b ∷ back), r.0, r.1)

@@ -1,0 +1,2 @@
+-- What adjacency in a graph of lists means.
+pub mod GraphLemmas

@@ -1,0 +1,2 @@
+-- The graphs of lists.
+pub mod ListGraphs

@@ -1,0 +1,2 @@
+-- Rows of lists with an edge more.
+pub mod Rows
