@@ -13,11 +13,11 @@ use Rattle.graph6_text.proofs.EdgeLemmas.{has_edge-turned}
 use Rattle.map_peeling.proofs.Rings.{each_of_one}
 use Rattle.map_peeling.proofs.RestrictedMaps.{restricted-map, restricted-old, length-restricted}
 use Rattle.face_marks.specs.Holes.{all_but, without_vertex, IsPassedOnce, IsRing, IsRingOf}
-use Rattle.face_marks.specs.Inserts.{IsPutIn}
+use Rattle.face_marks.specs.Inserts.{IsPutIn, put_in_ring}
 use Rattle.face_marks.proofs.Holes.{passed_once, hole_of_vertex, rest_dart}
 use Rattle.face_marks.proofs.FaceRings.{face_is_ring}
 use Rattle.face_marks.proofs.Turned.{ring_turned, Contains-turned}
-use Rattle.face_marks.proofs.Inserts.{vertex_put_in}
+use Rattle.face_marks.proofs.Inserts.{put_in_ring_law}
 use Rattle.contractible_edges.specs.Linked.{HasEdge, IsThreeLinked, IsContractible, without_vertices}
 use Rattle.contractible_edges.proofs.Parts.{rest-length, rest-old}
 use Rattle.contractible_edges.proofs.Growth.{not_two, not_three}
@@ -118,7 +118,7 @@ module _ (graph small : EdgeGraph) (lists : Lists) (x y : ℕ) (simple : IsSimpl
         ],
       )
 
-  once_x : IsPassedOnce map x
+  pub once_x : IsPassedOnce map x
   once_x =
       passed_once map x of.simple of.plane (λ a b ha hb ne.
       let na = near_x a ha in
@@ -154,7 +154,7 @@ module _ (graph small : EdgeGraph) (lists : Lists) (x y : ℕ) (simple : IsSimpl
         not_one v w (λ e. o.2 (subst (Contains vs) (sym e) at_v)),
       )) (not_one v a av) (part_path lists simple vs a b ea.1.0 eb.1.0 same))
 
-  more_x : (p : ℕ) → HasDart map x p → follows map p x ≢ x
+  pub more_x : (p : ℕ) → HasDart map x p → follows map p x ≢ x
   more_x p d =
       let n = near_x p d in
       let c = third_neighbour lists simple linked four p x y n.2 n.0 n.1 in
@@ -165,189 +165,185 @@ module _ (graph small : EdgeGraph) (lists : Lists) (x y : ℕ) (simple : IsSimpl
   past p d = rest_dart map x of.simple p (follows map p x) (HasDart-follows map p x (of.simple.both_ways x p d)) (near_x p d).0 (more_x p d)
 
   -- ---- the ring
+  pub around : (p : ℕ) → HasDart map x p → (z a b : ℕ) → HasDart M z a → HasDart M z b → SameFace M (p, follows map p x) (z, a) → SameFace M (p, follows map p x) (z, b) → a ≡ b
+  around p d z a b ha hb fa fb =
+      let o = M_old z a ha in
+      once_M z o.1 o.3 (M_edge z a ha) a b ha hb (same_face-both M (p, follows map p x) (z, a) (z, b) fa fb)
+
   first : (c : ℕ) × HasDart lists x c × (c ≢ y) × (c ≢ y)
   first = third_neighbour lists simple linked four x y y x_edge x_y x_y
 
-  abbrev p0 : ℕ
-  p0 = first.0
+  -- a neighbour of x
+  pub first_near : (p : ℕ) × HasDart map x p
+  first_near = (first.0, to_map x first.0 x_y first.2 (just.there x first.0 first.1))
 
-  near_first : HasDart map x p0
-  near_first = to_map x p0 x_y first.2 (just.there x p0 first.1)
+  pub some_ring : (ws : List ℕ) × IsRingOf M first_near.0 (follows map first_near.0 x) ws
+  some_ring = face_is_ring M first_near.0 (follows map first_near.0 x) simple_M (past first_near.0 first_near.1) (around first_near.0 first_near.1)
 
-  ring : (ws : List ℕ) × IsRingOf M p0 (follows map p0 x) ws
-  ring =
-      face_is_ring M p0 (follows map p0 x) simple_M (past p0 near_first) (λ z a b ha hb fa fb.
-      let o = M_old z a ha in
-      once_M z o.1 o.3 (M_edge z a ha) a b ha hb (same_face-both M (p0, follows map p0 x) (z, a) (z, b) fa fb))
+  module _ (p : ℕ) (near : HasDart map x p) (ws : List ℕ) (ring : IsRingOf M p (follows map p x) ws) where
+    on_ring : (q : ℕ) → HasDart map x q → Contains ws q
+    on_ring q d = (ring.all q (follows map q x) (past q d) (hole_of_vertex map x of.simple once_x more_x p q near d)).0
 
-  abbrev ws : List ℕ
-  ws = ring.0
+    on_ring-x : (v : ℕ) → E x v → v ≢ y → Contains ws v
+    on_ring-x v e n = on_ring v (to_map x v x_y n e)
 
-  on_ring : (q : ℕ) → HasDart map x q → Contains ws q
-  on_ring q d = (ring.1.all q (follows map q x) (past q d) (hole_of_vertex map x of.simple once_x more_x p0 q near_first d)).0
+    on_ring-y : (v : ℕ) → E y v → v ≢ x → Contains ws v
+    on_ring-y v e n = on_ring v (of.edges.all x v (into.moved v n e))
 
-  on_ring-x : (v : ℕ) → E x v → v ≢ y → Contains ws v
-  on_ring-x v e n = on_ring v (to_map x v x_y n e)
+    ring_dart : (w : ℕ) → Contains ws w → HasDart M w (entry_after w ws)
+    ring_dart w c = ring.ring.darts w c
 
-  on_ring-y : (v : ℕ) → E y v → v ≢ x → Contains ws v
-  on_ring-y v e n = on_ring v (of.edges.all x v (into.moved v n e))
+    pub rimmed : IsRimmed graph ws x y
+    rimmed = record {
+      distinct = ring.ring.distinct;
+      below = λ w c. subst (λ n. w < n) (length_M ∙ just.vertices) (ring_dart w c).0;
+      rim = λ w c. (M_old w (entry_after w ws) (ring_dart w c)).0;
+      x_below = subst (λ n. x < n) just.vertices con.edge.0;
+      y_below = subst (λ n. y < n) just.vertices y_edge.1.0;
+      x_off = λ c. (M_old x (entry_after x ws) (ring_dart x c)).1 refl;
+      y_off = λ c. (M_old y (entry_after y ws) (ring_dart y c)).3 refl;
+      two = x_y;
+      hub = hub;
+    }
 
-  ring_dart : (w : ℕ) → Contains ws w → HasDart M w (entry_after w ws)
-  ring_dart w c = ring.1.ring.darts w c
+    y_x : y ≢ x
+    y_x e = x_y (sym e)
 
-  rimmed : IsRimmed graph ws x y
-  rimmed = record {
-    distinct = ring.1.ring.distinct;
-    below = λ w c. subst (λ n. w < n) (length_M ∙ just.vertices) (ring_dart w c).0;
-    rim = λ w c. (M_old w (entry_after w ws) (ring_dart w c)).0;
-    x_below = subst (λ n. x < n) just.vertices con.edge.0;
-    y_below = subst (λ n. y < n) just.vertices y_edge.1.0;
-    x_off = λ c. (M_old x (entry_after x ws) (ring_dart x c)).1 refl;
-    y_off = λ c. (M_old y (entry_after y ws) (ring_dart y c)).3 refl;
-    two = x_y;
-    hub = hub;
-  }
+    pub two_x : HasTwo (length ws) (spoke graph ws x)
+    two_x =
+        let c = third_neighbour lists simple linked four x y first.0 x_edge x_y (λ e. simple.no_loop x first.0 first.1 (sym e)) in
+        let e = just.there x c.0 c.1 in
+        let e0 = just.there x first.0 first.1 in
+        two_spokes graph ws x first.0 c.0 e0 e (λ q. c.3 (sym q)) (on_ring-x first.0 e0 first.2) (on_ring-x c.0 e c.2)
 
-  y_x : y ≢ x
-  y_x e = x_y (sym e)
+    first_y : (c : ℕ) × HasDart lists y c × (c ≢ x) × (c ≢ x)
+    first_y = third_neighbour lists simple linked four y x x y_edge y_x y_x
 
-  two_x : HasTwo (length ws) (spoke graph ws x)
-  two_x =
-      let c = third_neighbour lists simple linked four x y p0 x_edge x_y (λ e. simple.no_loop x p0 first.1 (sym e)) in
-      let e = just.there x c.0 c.1 in
-      let e0 = just.there x p0 first.1 in
-      two_spokes graph ws x p0 c.0 e0 e (λ q. c.3 (sym q)) (on_ring-x p0 e0 first.2) (on_ring-x c.0 e c.2)
+    pub two_y : HasTwo (length ws) (spoke graph ws y)
+    two_y =
+        let c = third_neighbour lists simple linked four y x first_y.0 y_edge y_x (λ e. simple.no_loop y first_y.0 first_y.1 (sym e)) in
+        let e = just.there y c.0 c.1 in
+        let e0 = just.there y first_y.0 first_y.1 in
+        two_spokes graph ws y first_y.0 c.0 e0 e (λ q. c.3 (sym q)) (on_ring-y first_y.0 e0 first_y.2) (on_ring-y c.0 e c.2)
 
-  first_y : (c : ℕ) × HasDart lists y c × (c ≢ x) × (c ≢ x)
-  first_y = third_neighbour lists simple linked four y x x y_edge y_x y_x
+    -- ---- the two ends put in
+    module _ (us vs : List ℕ) (a : ℕ) (mid : List ℕ) (b : ℕ) (back : List ℕ) (g : IsGapOf graph ws x y us vs a mid b back) where
+      abbrev whole : List ℕ
+      whole = a ∷ mid ++ b ∷ back
 
-  two_y : HasTwo (length ws) (spoke graph ws y)
-  two_y =
-      let c = third_neighbour lists simple linked four y x first_y.0 y_edge y_x (λ e. simple.no_loop y first_y.0 first_y.1 (sym e)) in
-      let e = just.there y c.0 c.1 in
-      let e0 = just.there y first_y.0 first_y.1 in
-      two_spokes graph ws y first_y.0 c.0 e0 e (λ q. c.3 (sym q)) (on_ring-y first_y.0 e0 first_y.2) (on_ring-y c.0 e c.2)
+      abbrev gap : List ℕ
+      gap = a ∷ mid ++ b ∷ []
 
-  -- ---- the two ends put in
-  module _ (us vs : List ℕ) (a : ℕ) (mid : List ℕ) (b : ℕ) (back : List ℕ) (g : IsGapOf graph ws x y us vs a mid b back) where
-    abbrev whole : List ℕ
-    whole = a ∷ mid ++ b ∷ back
+      ring_M : IsRing M whole
+      ring_M = subst (IsRing M) g.turned (ring_turned M us vs (subst (IsRing M) g.parts ring.ring))
 
-    abbrev gap : List ℕ
-    gap = a ∷ mid ++ b ∷ []
+      to_whole : (w : ℕ) → Contains ws w → Contains whole w
+      to_whole w c = subst (λ l. Contains l w) g.turned (Contains-turned us vs w (subst (λ l. Contains l w) g.parts c))
 
-    ring_M : IsRing M whole
-    ring_M = subst (IsRing M) g.turned (ring_turned M us vs (subst (IsRing M) g.parts ring.1.ring))
+      from_whole : (w : ℕ) → Contains whole w → Contains ws w
+      from_whole w c = subst (λ l. Contains l w) (sym g.parts) (Contains-turned vs us w (subst (λ l. Contains l w) (sym g.turned) c))
 
-    to_whole : (w : ℕ) → Contains ws w → Contains whole w
-    to_whole w c = subst (λ l. Contains l w) g.turned (Contains-turned us vs w (subst (λ l. Contains l w) g.parts c))
+      in_M : (v : ℕ) → HasEdge lists v → v < length M
+      in_M v e = subst (λ n. v < n) (sym length_M) e.1.0
 
-    from_whole : (w : ℕ) → Contains whole w → Contains ws w
-    from_whole w c = subst (λ l. Contains l w) (sym g.parts) (Contains-turned vs us w (subst (λ l. Contains l w) (sym g.turned) c))
+      empty_x : list_of M x ≡ []
+      empty_x = empty_of (list_of M x) (λ z c. (M_old x z (in_M x x_edge, c)).1 refl)
 
-    in_M : (v : ℕ) → HasEdge lists v → v < length M
-    in_M v e = subst (λ n. v < n) (sym length_M) e.1.0
+      abbrev N : Lists
+      N = put_in_ring (λ w. has_edge graph x w) x M whole
 
-    empty_x : list_of M x ≡ []
-    empty_x = empty_of (list_of M x) (λ z c. (M_old x z (in_M x x_edge, c)).1 refl)
+      with_x : IsPutIn M N whole (λ w. has_edge graph x w) x × IsRing N (x ∷ a ∷ mid ++ b ∷ [])
+      with_x = put_in_ring_law M x a mid b back (λ w. has_edge graph x w) simple_M plane_M (in_M x x_edge) empty_x ring_M g.first g.last g.none
 
-    with_x : (new : Lists) × IsPutIn M new whole (λ w. has_edge graph x w) x × IsRing new (x ∷ a ∷ mid ++ b ∷ [])
-    with_x = vertex_put_in M x a mid b back (λ w. has_edge graph x w) simple_M plane_M (in_M x x_edge) empty_x ring_M g.first g.last g.none
+      put_x : IsPutIn M N whole (λ w. has_edge graph x w) x
+      put_x = with_x.0
 
-    abbrev N : Lists
-    N = with_x.0
-
-    put_x : IsPutIn M N whole (λ w. has_edge graph x w) x
-    put_x = with_x.1
-
-    N_edge : (u v : ℕ) → HasDart N u v → E u v
-    N_edge u v d =
-        elim (put_x.only u v d) [
-          | inl h ↦ (M_old u v h).0
-          | inr r ↦ elim r [
-            | inl h ↦ ap (λ w. has_edge graph w v) h.0 ∙ h.1.1
-            | inr h ↦ ap (has_edge graph u) h.0 ∙ turn x u h.1.1
+      N_edge : (u v : ℕ) → HasDart N u v → E u v
+      N_edge u v d =
+          elim (put_x.only u v d) [
+            | inl h ↦ (M_old u v h).0
+            | inr r ↦ elim r [
+              | inl h ↦ ap (λ w. has_edge graph w v) h.0 ∙ h.1.1
+              | inr h ↦ ap (has_edge graph u) h.0 ∙ turn x u h.1.1
+            ]
           ]
-        ]
 
-    in_N : y < length N
-    in_N = subst (λ n. y < n) (sym put_x.vertices) (in_M y y_edge)
+      in_N : y < length N
+      in_N = subst (λ n. y < n) (sym put_x.vertices) (in_M y y_edge)
 
-    empty_y : list_of N y ≡ []
-    empty_y =
-        empty_of (list_of N y) (λ z c.
-        elim (put_x.only y z (in_N, c)) [
-          | inl h ↦ (M_old y z h).3 refl
-          | inr r ↦ elim r [ inl h ↦ y_x h.0 | inr h ↦ rimmed.y_off (from_whole y h.1.0) ]
-        ])
+      empty_y : list_of N y ≡ []
+      empty_y =
+          empty_of (list_of N y) (λ z c.
+          elim (put_x.only y z (in_N, c)) [
+            | inl h ↦ (M_old y z h).3 refl
+            | inr r ↦ elim r [ inl h ↦ y_x h.0 | inr h ↦ rimmed.y_off (from_whole y h.1.0) ]
+          ])
 
-    split : (front : List ℕ) × (b' : ℕ) × (back' : List ℕ) × (gap ≡ front ++ b' ∷ back') × (has_edge graph y b' ≡ true) × ((z : ℕ) → Contains front z → has_edge graph y z ≡ false)
-    split =
-        let e = just.there y first_y.0 first_y.1 in
-        first_taken (λ w. has_edge graph y w) gap first_y.0 (g.all first_y.0 (on_ring-y first_y.0 e first_y.2) e) e
+      split : (front : List ℕ) × (b' : ℕ) × (back' : List ℕ) × (gap ≡ front ++ b' ∷ back') × (has_edge graph y b' ≡ true) × ((z : ℕ) → Contains front z → has_edge graph y z ≡ false)
+      split =
+          let e = just.there y first_y.0 first_y.1 in
+          first_taken (λ w. has_edge graph y w) gap first_y.0 (g.all first_y.0 (on_ring-y first_y.0 e first_y.2) e) e
 
-    ring_N : IsRing N (x ∷ split.0 ++ split.1 ∷ split.2)
-    ring_N = subst (λ l. IsRing N (x ∷ l)) split.3 with_x.2
+      abbrev N' : Lists
+      N' = put_in_ring (λ w. has_edge graph y w) y N (x ∷ gap)
 
-    with_y : (new : Lists) × IsPutIn N new (x ∷ split.0 ++ split.1 ∷ split.2) (λ w. has_edge graph y w) y × IsRing new (y ∷ x ∷ split.0 ++ split.1 ∷ [])
-    with_y = vertex_put_in N y x split.0 split.1 split.2 (λ w. has_edge graph y w) put_x.simple put_x.plane in_N empty_y ring_N (turn x y hub) split.4 split.5
+      put_y : IsPutIn N N' (x ∷ gap) (λ w. has_edge graph y w) y
+      put_y =
+          subst (λ l. IsPutIn N (put_in_ring (λ w. has_edge graph y w) y N (x ∷ l)) (x ∷ l) (λ w. has_edge graph y w) y) (sym split.3)
+          (put_in_ring_law N y x split.0 split.1 split.2 (λ w. has_edge graph y w) put_x.simple put_x.plane in_N empty_y (subst (λ l. IsRing N (x ∷ l)) split.3 with_x.1) (turn x y hub) split.4 split.5).0
 
-    abbrev N' : Lists
-    N' = with_y.0
+      at_y : (v : ℕ) → E y v → HasDart N' y v
+      at_y v e =
+          put_y.edges v (
+            elim (cases_eq v x) [
+              | inl q ↦ subst (Contains (x ∷ gap)) (sym q) (Contains-here x gap)
+              | inr n ↦ Contains-there x gap v (g.all v (on_ring-y v e n) e)
+            ],
+            e,
+          )
 
-    put_y : IsPutIn N N' (x ∷ split.0 ++ split.1 ∷ split.2) (λ w. has_edge graph y w) y
-    put_y = with_y.1
+      at_x : (v : ℕ) → v ≢ y → E x v → HasDart N' x v
+      at_x v n e = put_y.kept x v (put_x.edges v (to_whole v (on_ring-x v e n), e))
 
-    at_y : (v : ℕ) → E y v → HasDart N' y v
-    at_y v e =
-        put_y.edges v (
-          subst (λ l. Contains (x ∷ l) v) split.3 (elim (cases_eq v x) [
-            | inl q ↦ subst (Contains (x ∷ gap)) (sym q) (Contains-here x gap)
-            | inr n ↦ Contains-there x gap v (g.all v (on_ring-y v e n) e)
-          ]),
-          e,
-        )
-
-    at_x : (v : ℕ) → v ≢ y → E x v → HasDart N' x v
-    at_x v n e = put_y.kept x v (put_x.edges v (to_whole v (on_ring-x v e n), e))
-
-    all_edges : (u v : ℕ) → E u v → HasDart N' u v
-    all_edges u v e =
-        elim (cases_eq u y) [
-          | inl q ↦ subst (λ w. HasDart N' w v) (sym q) (at_y v (ap (λ w. has_edge graph w v) (sym q) ∙ e))
-          | inr uy ↦ elim (cases_eq v y) [
-            | inl q ↦ put_y.simple.both_ways v u (subst (λ w. HasDart N' w u) (sym q) (at_y u (turn u y (ap (has_edge graph u) (sym q) ∙ e))))
-            | inr vy ↦ elim (cases_eq u x) [
-              | inl q ↦ subst (λ w. HasDart N' w v) (sym q) (at_x v vy (ap (λ w. has_edge graph w v) (sym q) ∙ e))
-              | inr ux ↦ elim (cases_eq v x) [
-                | inl q ↦ put_y.simple.both_ways v u (subst (λ w. HasDart N' w u) (sym q) (at_x u uy (turn u x (ap (has_edge graph u) (sym q) ∙ e))))
-                | inr vx ↦ put_y.kept u v (put_x.kept u v (M_new u v e ux vx uy vy))
+      all_edges : (u v : ℕ) → E u v → HasDart N' u v
+      all_edges u v e =
+          elim (cases_eq u y) [
+            | inl q ↦ subst (λ w. HasDart N' w v) (sym q) (at_y v (ap (λ w. has_edge graph w v) (sym q) ∙ e))
+            | inr uy ↦ elim (cases_eq v y) [
+              | inl q ↦ put_y.simple.both_ways v u (subst (λ w. HasDart N' w u) (sym q) (at_y u (turn u y (ap (has_edge graph u) (sym q) ∙ e))))
+              | inr vy ↦ elim (cases_eq u x) [
+                | inl q ↦ subst (λ w. HasDart N' w v) (sym q) (at_x v vy (ap (λ w. has_edge graph w v) (sym q) ∙ e))
+                | inr ux ↦ elim (cases_eq v x) [
+                  | inl q ↦ put_y.simple.both_ways v u (subst (λ w. HasDart N' w u) (sym q) (at_x u uy (turn u x (ap (has_edge graph u) (sym q) ∙ e))))
+                  | inr vx ↦ put_y.kept u v (put_x.kept u v (M_new u v e ux vx uy vy))
+                ]
               ]
             ]
           ]
-        ]
 
-    made : IsMapOf N' graph
-    made = record {
-      simple = put_y.simple;
-      plane = put_y.plane;
-      edges = record {
-        vertices = put_y.vertices ∙ (put_x.vertices ∙ (length_M ∙ just.vertices));
-        there = λ u v d. elim (put_y.only u v d) [
-          | inl h ↦ N_edge u v h
-          | inr r ↦ elim r [
-            | inl h ↦ ap (λ w. has_edge graph w v) h.0 ∙ h.1.1
-            | inr h ↦ ap (has_edge graph u) h.0 ∙ turn y u h.1.1
-          ]
-        ];
-        all = all_edges;
-      };
-    }
+      pub made : IsMapOf N' graph
+      made = record {
+        simple = put_y.simple;
+        plane = put_y.plane;
+        edges = record {
+          vertices = put_y.vertices ∙ (put_x.vertices ∙ (length_M ∙ just.vertices));
+          there = λ u v d. elim (put_y.only u v d) [
+            | inl h ↦ N_edge u v h
+            | inr r ↦ elim r [
+              | inl h ↦ ap (λ w. has_edge graph w v) h.0 ∙ h.1.1
+              | inr h ↦ ap (has_edge graph u) h.0 ∙ turn y u h.1.1
+            ]
+          ];
+          all = all_edges;
+        };
+      }
 
 -- THE LAW: a contracted edge expanded
 pub expanded_edge : ExpandedEdge
 expanded_edge graph small lists x y simple just linked four con into map of =
-    elim (gap_or_witness graph (ws graph small lists x y simple just linked four con into map of) x y (rimmed graph small lists x y simple just linked four con into map of) (two_x graph small lists x y simple just linked four con into map of) (two_y graph small lists x y simple just linked four con into map of)) [
+    let near = first_near graph small lists x y simple just linked four con into map of in
+    let found = some_ring graph small lists x y simple just linked four con into map of in
+    elim (gap_or_witness graph found.0 x y (rimmed graph small lists x y simple just linked four con into map of near.0 near.1 found.0 found.1) (two_x graph small lists x y simple just linked four con into map of near.0 near.1 found.0 found.1) (two_y graph small lists x y simple just linked four con into map of near.0 near.1 found.0 found.1)) [
       | inl w ↦ inl w
-      | inr r ↦ inr (N' graph small lists x y simple just linked four con into map of r.0 r.1 r.2 r.3 r.4 r.5 r.6, made graph small lists x y simple just linked four con into map of r.0 r.1 r.2 r.3 r.4 r.5 r.6)
+      | inr r ↦ inr (put_in_ring (λ w. has_edge graph y w) y (put_in_ring (λ w. has_edge graph x w) x (without_vertex x map) (r.2 ∷ r.3 ++ r.4 ∷ r.5)) (x ∷ r.2 ∷ r.3 ++ r.4 ∷ []), made graph small lists x y simple just linked four con into map of near.0 near.1 found.0 found.1 r.0 r.1 r.2 r.3 r.4 r.5 r.6)
     ]

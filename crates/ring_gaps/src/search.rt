@@ -1,25 +1,28 @@
 //! Gaps.
 ghost use Rattle.std.specs.Prelude.{◌≡◌, ◌<◌, ◌↔◌, true, false, ℕ, length, IsTrue, MatchOption};
+ghost use Rattle.map_definitions.specs.Maps.{IsSimpleMap};
 ghost use Rattle.graph6_text.specs.Graphs.{has_edge};
+ghost use Rattle.list_graphs.specs.ListGraphs.{graph_of};
 ghost use Rattle.ring_witness.specs.Places.{HasTwo};
 ghost use Rattle.ring_witness.specs.Rims.{IsRimmed, spoke};
 ghost use Rattle.ring_witness.specs.Traces.{HasWitness};
 ghost use Rattle.ring_gaps.specs.Gaps.{behind as vertex_behind, IsGapAt, IsNext};
 
-use graph6_text::Graph;
-use map_lists::VertexId;
+use list_graphs::are_adjacent;
+use map_lists::Rotations;
 
 /// Two neighbours of `x` on a ring, by the place of the first and by how many places the second is behind it, with
 /// none between, such that all neighbours of `y` on the ring are the two or between them; or None, where the graph
-/// has a Kuratowski witness. The two vertices are adjacent, beside the ring, and have two neighbours on it at least.
-pub fn gap(graph: &Graph, ring: &[u16], x: u16, y: u16) -> Option<(usize, usize)>
-    requires rimmed { IsRimmed graph.now ring.now x y }
-    requires two_x { HasTwo (length ring.now) (spoke graph.now ring.now x) }
-    requires two_y { HasTwo (length ring.now) (spoke graph.now ring.now y) }
-    ensures { MatchOption result (HasWitness graph.now) (λ g. IsGapAt graph.now ring.now x y g.0 g.1) }
+/// of the lists has a Kuratowski witness. The two vertices are adjacent, beside the ring, and have two neighbours on it at least.
+pub fn gap(lists: &Rotations, ring: &[u16], x: u16, y: u16) -> Option<(usize, usize)>
+    requires simple { IsSimpleMap lists.now }
+    requires rimmed { IsRimmed (graph_of lists.now) ring.now x y }
+    requires two_x { HasTwo (length ring.now) (spoke (graph_of lists.now) ring.now x) }
+    requires two_y { HasTwo (length ring.now) (spoke (graph_of lists.now) ring.now y) }
+    ensures { MatchOption result (HasWitness (graph_of lists.now)) (λ g. IsGapAt (graph_of lists.now) ring.now x y g.0 g.1) }
 {
     for s in 0..ring.len() {
-        match gap_from(graph, ring, x, y, s) {
+        match gap_from(lists, ring, x, y, s) {
             Some(k) => return Some((s, k)),
             None => {}
         }
@@ -28,16 +31,17 @@ pub fn gap(graph: &Graph, ring: &[u16], x: u16, y: u16) -> Option<(usize, usize)
 }
 
 // The gap from a place on.
-fn gap_from(graph: &Graph, ring: &[u16], x: u16, y: u16, s: usize) -> Option<usize>
-    requires { s < length ring.now }
-    ensures { MatchOption result ((k : ℕ) → ¬ IsGapAt graph.now ring.now x y s k) (λ k. IsGapAt graph.now ring.now x y s k) }
+fn gap_from(lists: &Rotations, ring: &[u16], x: u16, y: u16, s: usize) -> Option<usize>
+    requires simple { IsSimpleMap lists.now }
+    requires start { s < length ring.now }
+    ensures { MatchOption result ((k : ℕ) → ¬ IsGapAt (graph_of lists.now) ring.now x y s k) (λ k. IsGapAt (graph_of lists.now) ring.now x y s k) }
 {
-    if !graph.has(VertexId(x), VertexId(behind(ring, s, 0))) {
+    if !are_adjacent(lists, x, behind(ring, s, 0)) {
         return None;
     }
-    match next_neighbour(graph, ring, x, s) {
+    match next_neighbour(lists, ring, x, s) {
         Some(k) => {
-            if has_none_behind(graph, ring, y, s, k) {
+            if has_none_behind(lists, ring, y, s, k) {
                 Some(k)
             } else {
                 None
@@ -48,12 +52,13 @@ fn gap_from(graph: &Graph, ring: &[u16], x: u16, y: u16, s: usize) -> Option<usi
 }
 
 // How many places behind that is the next neighbour of x.
-fn next_neighbour(graph: &Graph, ring: &[u16], x: u16, s: usize) -> Option<usize>
-    requires { s < length ring.now }
-    ensures { MatchOption result ((j : ℕ) → 0 < j → j < length ring.now → has_edge graph.now x (vertex_behind ring.now s j) ≡ false) (λ k. IsNext graph.now ring.now x s k) }
+fn next_neighbour(lists: &Rotations, ring: &[u16], x: u16, s: usize) -> Option<usize>
+    requires simple { IsSimpleMap lists.now }
+    requires start { s < length ring.now }
+    ensures { MatchOption result ((j : ℕ) → 0 < j → j < length ring.now → has_edge (graph_of lists.now) x (vertex_behind ring.now s j) ≡ false) (λ k. IsNext (graph_of lists.now) ring.now x s k) }
 {
     for j in 1..ring.len() {
-        if graph.has(VertexId(x), VertexId(behind(ring, s, j))) {
+        if are_adjacent(lists, x, behind(ring, s, j)) {
             return Some(j);
         }
     }
@@ -61,13 +66,14 @@ fn next_neighbour(graph: &Graph, ring: &[u16], x: u16, s: usize) -> Option<usize
 }
 
 // Whether no neighbour of y is more than so many places behind.
-fn has_none_behind(graph: &Graph, ring: &[u16], y: u16, s: usize, k: usize) -> bool
+fn has_none_behind(lists: &Rotations, ring: &[u16], y: u16, s: usize, k: usize) -> bool
+    requires simple { IsSimpleMap lists.now }
     requires start { s < length ring.now }
     requires place { k < length ring.now }
-    ensures { IsTrue result ↔ ((j : ℕ) → k < j → j < length ring.now → has_edge graph.now y (vertex_behind ring.now s j) ≡ false) }
+    ensures { IsTrue result ↔ ((j : ℕ) → k < j → j < length ring.now → has_edge (graph_of lists.now) y (vertex_behind ring.now s j) ≡ false) }
 {
     for j in k + 1..ring.len() {
-        if graph.has(VertexId(y), VertexId(behind(ring, s, j))) {
+        if are_adjacent(lists, y, behind(ring, s, j)) {
             return false;
         }
     }

@@ -1,5 +1,6 @@
 use Rattle.std.proofs.Common.{◌≡◌, inl, inr, subst, arith}
 use Rattle.std.proofs.lemmas.Bool.{cases_lt}
+use Rattle.list_graphs.specs.ListGraphs.{graph_of}
 use Rattle.ring_gaps.specs.Gaps.{IsGapAt}
 use Rattle.ring_gaps.proofs.GapLemmas.{witness_where_none}
 use Rattle.ring_gaps.proofs.search.gap.Goals as goal
@@ -11,9 +12,9 @@ loop-s-preserved c = λ s k l g.
       | inr more ↦
           let e : s ≡ c.loop-s.s = omega arith in
           let none = rw c.in-None.is at c.gap_from.ensures in
-          none k (subst (λ t. IsGapAt c.args.graph.now c.args.ring.now c.args.x c.args.y t k) e g)
+          none k (subst (λ t. IsGapAt (graph_of c.args.lists.now) c.args.ring.now c.args.x c.args.y t k) e g)
     ]
 
 pub returns : goal.returns
 returns c =
-    witness_where_none c.args.graph.now c.args.ring.now c.args.x c.args.y c.requires.rimmed c.requires.two_x c.requires.two_y (λ s k l. c.loop-s.invariant s k (omega (arith, c.loop-s-test.false)))
+    witness_where_none (graph_of c.args.lists.now) c.args.ring.now c.args.x c.args.y c.requires.rimmed c.requires.two_x c.requires.two_y (λ s k l. c.loop-s.invariant s k (omega (arith, c.loop-s-test.false)))

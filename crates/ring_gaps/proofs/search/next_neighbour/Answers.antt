@@ -1,6 +1,7 @@
 use Rattle.std.proofs.Common.{◌≡◌, sym, ap, ◌∙◌, inl, inr, arith}
 use Rattle.std.proofs.lemmas.Bool.{cases_lt}
 use Rattle.graph6_text.specs.Graphs.{has_edge}
+use Rattle.list_graphs.specs.ListGraphs.{graph_of}
 use Rattle.ring_gaps.specs.Gaps.{behind}
 use Rattle.ring_gaps.proofs.search.next_neighbour.Goals as goal
 
@@ -10,5 +11,5 @@ loop-j-preserved c = λ i pos l.
       | inl less ↦ c.loop-j.invariant i pos less
       | inr more ↦
           let e : i ≡ c.loop-j.j = omega arith in
-          ap (λ t. has_edge c.args.graph.now c.args.x (behind c.args.ring.now c.args.s t)) e ∙ (ap (has_edge c.args.graph.now c.args.x) (sym c.behind.ensures) ∙ (sym c.has.ensures ∙ c.if-has.false))
+          ap (λ t. has_edge (graph_of c.args.lists.now) c.args.x (behind c.args.ring.now c.args.s t)) e ∙ (ap (has_edge (graph_of c.args.lists.now) c.args.x) (sym c.behind.ensures) ∙ (sym c.are_adjacent.ensures ∙ c.if-are_adjacent.false))
     ]

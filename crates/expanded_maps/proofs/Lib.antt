@@ -1,0 +1,3 @@
+-- What the call rests on.
+pub mod GapParts
+pub mod ExpandedLemmas

@@ -1,0 +1,2 @@
+-- Maps of contracted graphs.
+pub mod ContractedMaps
