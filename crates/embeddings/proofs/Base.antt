@@ -19,8 +19,10 @@ use Rattle.contractible_edges.specs.Linked.{HasEdge, IsThreeLinked, without_vert
 use Rattle.contractible_edges.proofs.Parts.{rest-simple, rest-length, rest-old}
 use Rattle.expanded_edges.specs.Expanded.{IsMapOf}
 use Rattle.expanded_edges.proofs.Joined.{empty_of}
-use Rattle.embeddings.proofs.Graphs.{graph_of, has_edge-from, has_edge-is}
-use Rattle.embeddings.proofs.Sides.{IsBetween, joined_edge}
+use Rattle.embeddings.specs.Sides.{IsBetween}
+use Rattle.embeddings.proofs.Sides.{joined_edge}
+use Rattle.list_graphs.specs.ListGraphs.{graph_of}
+use Rattle.list_graphs.proofs.GraphLemmas.{has_edge-from, has_edge-is}
 
 -- lists without darts
 pub empty_plane : (lists : Lists) → IsSimpleMap lists → ((a b : ℕ) → ¬ HasDart lists a b) → IsPlane lists
@@ -164,10 +166,10 @@ module _ (lists : Lists) (simple : IsSimpleMap lists) (x y : ℕ) (edge : HasDar
         let r_p : r ≢ p = λ e. o.2 (subst (Contains V) (sym e) (Contains-here p (p ∷ []))) in
         subst (HasDart lists w) (rest r (w, simple.both_ways w r o.0) r_p (simple.no_loop w r o.0)) o.0
 
-    w_to_y : HasDart lists w y
+    pub w_to_y : HasDart lists w y
     w_to_y = edge_to x y (x, back) w_x (λ e. x_y (sym e)) w_y (λ z h n n'. elim (all z h) [ inl e ↦ absurd (n e) | inr r ↦ elim r [ inl e ↦ e | inr e ↦ absurd (n' e) ] ])
 
-    w_to_x : HasDart lists w x
+    pub w_to_x : HasDart lists w x
     w_to_x = edge_to y x (y, edge) w_y x_y w_x (λ z h n n'. elim (all z h) [ inl e ↦ e | inr r ↦ elim r [ inl e ↦ absurd (n e) | inr e ↦ absurd (n' e) ] ])
 
     in_w : w < length N

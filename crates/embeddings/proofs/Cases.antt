@@ -3,7 +3,7 @@ use Rattle.std.proofs.Common.{◌≡◌, [], ◌∷◌, refl}
 use Rattle.map_lists.specs.Lists.{Lists}
 use Rattle.expanded_edges.specs.Expanded.{HasJustEdges}
 use Rattle.embeddings.specs.Embedding.{IsProper}
-use Rattle.embeddings.proofs.Graphs.{graph_of}
+use Rattle.list_graphs.specs.ListGraphs.{graph_of}
 
 abbrev path : Lists
 path = (1 ∷ []) ∷ (0 ∷ 2 ∷ []) ∷ (1 ∷ []) ∷ []

@@ -1,19 +1,17 @@
 -- Graphs as lists and as edges, witnesses of parts, and vertices that have edges, counted.
-use Rattle.std.proofs.Common.{◌≡◌, ◌≢◌, ◌⊎◌, ℕ, suc, ◌-◌, ◌<◌, Bool, true, not, eqb, List, [], ◌∷◌, length, AllPairs, Contains, refl, sym, ap, ◌∙◌, subst, inl, inr, arith}
+use Rattle.std.proofs.Common.{◌≡◌, ◌≢◌, ◌⊎◌, ℕ, zero, suc, ◌+◌, ◌-◌, ◌<◌, ◌++◌, Bool, true, not, eqb, List, [], ◌∷◌, length, AllPairs, Contains, refl, sym, ap, ◌∙◌, subst, arith}
 use Rattle.std.specs.List.{filter, range_with_len}
 use Rattle.std.proofs.lemmas.Bool.{false≢true, and_from, ne_eqb}
+use Rattle.std.proofs.lemmas.List.Elements.{filter-append}
 use Rattle.std.proofs.lemmas.List.FromFn.{length-range_with_len, get_or-range_with_len}
 use Rattle.std.proofs.lemmas.List.Kept.{AllPairs-filter}
 use Rattle.label_classes.specs.Classes.{count_below}
 use Rattle.label_classes.proofs.Counting.{count_below_weaker}
 use Rattle.map_lists.specs.Lists.{Lists}
-use Rattle.map_definitions.specs.Maps.{Dart, darts, list_of, HasDart, IsSimpleMap, is_empty_list, dart_number}
-use Rattle.map_definitions.proofs.DartLemmas.{length-darts, dart_number-lt, get_or-dart_number, HasDart-darts}
+use Rattle.map_definitions.specs.Maps.{list_of, HasDart, IsSimpleMap, is_empty_list}
 use Rattle.map_definitions.proofs.EntryLemmas.{Contains-from_filter, Contains-filter}
 use Rattle.euler_bound.proofs.DartPermutations.{has_edge as has_some}
-use Rattle.graph6_text.specs.Graphs.{EdgeGraph, has_edge, joins}
-use Rattle.graph6_text.proofs.EdgeLemmas.{joined_by, joins-ends}
-use Rattle.graph6_text.proofs.PairLemmas.{any-gives}
+use Rattle.graph6_text.specs.Graphs.{EdgeGraph, has_edge}
 use Rattle.gluing.specs.Glued.{lists_by}
 use Rattle.gluing.proofs.UnionLists.{length-lists_by, list_of-lists_by}
 use Rattle.contractible_edges.specs.Linked.{HasEdge}
@@ -22,43 +20,42 @@ use Rattle.contractions.proofs.Frames.{frame-witness, witness-frame, frame-map}
 use Rattle.ring_witness.specs.Traces.{HasWitness}
 use Rattle.kuratowski.specs.Witnesses.{vertex_at, path_at}
 use Rattle.expanded_edges.specs.Expanded.{HasJustEdges, IsMapOf}
-
--- the graph of a map
-abbrev pub graph_of : Lists → EdgeGraph
-graph_of lists = record { n = length lists; edges = darts lists }
-
-pub has_edge-from : (lists : Lists) (u v : ℕ) → HasDart lists u v → has_edge (graph_of lists) u v ≡ true
-has_edge-from lists u v d =
-    let n = length-darts lists in
-    let l = dart_number-lt lists u v d in
-    joined_by u v (darts lists) (dart_number lists (u, v), omega arith, get_or-dart_number lists u v (u, v) d)
-
-pub has_edge-is : (lists : Lists) → IsSimpleMap lists → (u v : ℕ) → has_edge (graph_of lists) u v ≡ true → HasDart lists u v
-has_edge-is lists simple u v e =
-    let r = any-gives (joins u v) (darts lists) e in
-    let n = length-darts lists in
-    let l = r.1.1 in
-    let d : HasDart lists r.0.0 r.0.1 = subst (λ (x : Dart). HasDart lists x.0 x.1) r.1.2 (HasDart-darts lists r.1.0 r.0 (omega arith)) in
-    elim (joins-ends u v r.0 r.2) [
-      | inl q ↦ subst (λ x. HasDart lists x v) q.0 (subst (HasDart lists r.0.0) q.1 d)
-      | inr q ↦ simple.both_ways v u (subst (λ x. HasDart lists x u) q.0 (subst (HasDart lists r.0.0) q.1 d))
-    ]
+use Rattle.embeddings.specs.Sides.{live}
+use Rattle.list_graphs.specs.ListGraphs.{graph_of}
+use Rattle.list_graphs.proofs.GraphLemmas.{has_edge-from, has_edge-is}
 
 pub just_edges : (lists : Lists) → IsSimpleMap lists → HasJustEdges lists (graph_of lists)
 just_edges lists simple = record { vertices = refl; there = has_edge-from lists; all = has_edge-is lists simple }
+
+-- one number more
+range_suc : (a n : ℕ) → range_with_len a (suc n) ≡ range_with_len a n ++ (a + n) ∷ []
+range_suc a zero = ap (λ x. x ∷ []) (omega arith)
+range_suc a (suc n) =
+    let e : a + 1 + n ≡ a + suc n = omega arith in
+    ap (λ xs. a ∷ xs) (range_suc (a + 1) n ∙ ap (λ x. range_with_len (a + 1) n ++ x ∷ []) e)
+
+pub kept_more : (f : ℕ → Bool) (n : ℕ) → filter f (range_with_len 0 n) ++ filter f (n ∷ []) ≡ filter f (range_with_len 0 (n + 1))
+kept_more f n =
+    let s : n + 1 ≡ suc n = omega arith in
+    let z : 0 + n ≡ n = omega arith in
+    sym (ap (filter f) (ap (range_with_len 0) s ∙ (range_suc 0 n ∙ ap (λ x. range_with_len 0 n ++ x ∷ []) z)) ∙ filter-append f (range_with_len 0 n) (n ∷ []))
 
 -- the lists of a graph given by a test
 pub lists_of : ℕ → (ℕ → ℕ → Bool) → Lists
 lists_of n t = lists_by (λ v. filter (t v) (range_with_len 0 n)) n
 
+pub lists_of-rows : (n : ℕ) (t : ℕ → ℕ → Bool) → lists_of n t ≡ lists_by (λ v. filter (t v) (range_with_len 0 n)) n
+unfolding lists_of
+lists_of-rows n t = refl
+
 pub length-lists_of : (n : ℕ) (t : ℕ → ℕ → Bool) → length (lists_of n t) ≡ n
 unfolding lists_of
 length-lists_of n t = length-lists_by (λ v. filter (t v) (range_with_len 0 n)) n
 
-in_range : (n u : ℕ) → u < n → Contains (range_with_len 0 n) u
+pub in_range : (n u : ℕ) → u < n → Contains (range_with_len 0 n) u
 in_range n u l = let r = length-range_with_len 0 n in (u, omega arith, get_or-range_with_len 0 n u u l ∙ omega arith)
 
-from_range : (n u : ℕ) → Contains (range_with_len 0 n) u → u < n
+pub from_range : (n u : ℕ) → Contains (range_with_len 0 n) u → u < n
 from_range n u c =
     let r = length-range_with_len 0 n in
     let l = c.1 in
@@ -136,9 +133,6 @@ live_is lists v l e = let r = some_is (list_of lists v) e in (r.0, (l, r.1))
 
 pub live_from : (lists : Lists) (v : ℕ) → HasEdge lists v → has_some lists v ≡ true
 live_from lists v h = some_from (list_of lists v) h.0 h.1.1
-
-abbrev pub live : Lists → ℕ
-live lists = count_below (has_some lists) (length lists)
 
 pub live_less : (part lists : Lists) → length part ≡ length lists → ((z : ℕ) → HasEdge part z → HasEdge lists z) → (z : ℕ) → HasEdge lists z → ¬ HasEdge part z → live part < live lists
 live_less part lists n more z h gone =

@@ -1,6 +1,6 @@
 -- Kuratowski's theorem, by induction on the number of vertices that have edges.
-use Rattle.std.proofs.Common.{◌≡◌, ◌≢◌, ◌⊎◌, ◌&&◌, ◌||◌, ℕ, zero, suc, ◌<◌, Bool, true, not, cond, eqb, ltb, List, [], ◌∷◌, length, Contains, refl, sym, ap, ◌∙◌, subst, inl, inr, arith, lt-ltb, le-ltb}
-use Rattle.std.proofs.lemmas.Bool.{cases_lt, and_from, and_parts, not-true, or_cases, or_left, or_right, eq-eqb, ne_eqb, eqb-true, eqb-false, cond-true, cond-false}
+use Rattle.std.proofs.Common.{◌≡◌, ◌≢◌, ◌⊎◌, ℕ, zero, suc, ◌<◌, Bool, true, cond, ltb, List, [], ◌∷◌, length, Contains, refl, sym, ◌∙◌, inl, inr, arith, lt-ltb, le-ltb}
+use Rattle.std.proofs.lemmas.Bool.{cases_lt, cond-true, cond-false}
 use Rattle.label_classes.specs.Classes.{same_class}
 use Rattle.map_lists.specs.Lists.{Lists}
 use Rattle.map_definitions.specs.Maps.{HasDart, IsSimpleMap, component_classes}
@@ -9,23 +9,25 @@ use Rattle.map_peeling.proofs.Rings.{each_of_two, each_of_three}
 use Rattle.map_peeling.proofs.RestrictedMaps.{cases_Contains}
 use Rattle.graph6_text.specs.Graphs.{has_edge}
 use Rattle.graph6_text.proofs.EdgeLemmas.{has_edge-turned}
-use Rattle.gluing.proofs.UnionLists.{has_dart, has_dart-is, HasDart-from}
-use Rattle.contractible_edges.specs.Linked.{HasEdge, IsThreeLinked, IsLinkedWithout, IsContractible, without_vertices}
+use Rattle.contractible_edges.specs.Linked.{HasEdge, IsThreeLinked, IsLinkedWithout, without_vertices}
 use Rattle.contractible_edges.proofs.Parts.{all_or_one, closed_part, cases_part, cases_edge, part-chained, part-itself, rest-simple, rest-length, rest-old, rest-together}
 use Rattle.contractible_edges.proofs.Growth.{contractible_edge}
-use Rattle.contractions.proofs.Lifted.{lifted_witness}
-use Rattle.expanded_edges.specs.Expanded.{HasFour, IsContractedInto}
+use Rattle.expanded_edges.specs.Expanded.{HasFour}
 use Rattle.expanded_edges.proofs.Expanded.{expanded_edge}
 use Rattle.witness_law.proofs.Refuted.{witnesses_refute}
 use Rattle.embeddings.specs.Embedding.{MapOrWitness, PlanarExactly}
-use Rattle.embeddings.proofs.Graphs.{graph_of, has_edge-from, has_edge-is, just_edges, lists_of, length-lists_of, HasDart-lists_of, lists_of-dart, IsSimpleMap-lists_of, witness_more, Result, live, live_less}
+use Rattle.embeddings.specs.Sides.{live}
+use Rattle.embeddings.proofs.Graphs.{just_edges, lists_of, length-lists_of, HasDart-lists_of, lists_of-dart, IsSimpleMap-lists_of, witness_more, Result}
+use Rattle.embeddings.proofs.Contracted.{contracted_less, contracted_into, contracted_witness, contracted_by, moved_test, moved-is, moved-from}
 use Rattle.embeddings.proofs.Sides.{Smaller}
 use Rattle.embeddings.proofs.TwoSides.{parted_sides}
 use Rattle.embeddings.proofs.Base.{empty_plane, edge_map, triangle_map}
+use Rattle.list_graphs.specs.ListGraphs.{graph_of}
+use Rattle.list_graphs.proofs.GraphLemmas.{has_edge-from, has_edge-is}
 
 -- ---- two vertices that part, or none
 -- four different numbers are not among three
-four_in_three : (a b c x y z w : ℕ) → (x ≡ a) ⊎ ((x ≡ b) ⊎ (x ≡ c)) → (y ≡ a) ⊎ ((y ≡ b) ⊎ (y ≡ c)) → (z ≡ a) ⊎ ((z ≡ b) ⊎ (z ≡ c)) → (w ≡ a) ⊎ ((w ≡ b) ⊎ (w ≡ c)) → x ≢ y → x ≢ z → x ≢ w → y ≢ z → y ≢ w → z ≢ w → ⊥
+pub four_in_three : (a b c x y z w : ℕ) → (x ≡ a) ⊎ ((x ≡ b) ⊎ (x ≡ c)) → (y ≡ a) ⊎ ((y ≡ b) ⊎ (y ≡ c)) → (z ≡ a) ⊎ ((z ≡ b) ⊎ (z ≡ c)) → (w ≡ a) ⊎ ((w ≡ b) ⊎ (w ≡ c)) → x ≢ y → x ≢ z → x ≢ w → y ≢ z → y ≢ w → z ≢ w → ⊥
 four_in_three a b c x y z w hx hy hz hw xy xz xw yz yw zw = grind arith
 
 -- a number past the vertices stands for none
@@ -48,10 +50,10 @@ capped-is n u z l =
       | inr m ↦ let e = cond-false (ltb u n) u n (le-ltb u n m) in ((λ q. absurd (omega arith)), λ q. absurd (omega arith))
     ]
 
-in_two : (a b z : ℕ) → Contains (a ∷ b ∷ []) z → (z ≡ a) ⊎ (z ≡ b)
+pub in_two : (a b z : ℕ) → Contains (a ∷ b ∷ []) z → (z ≡ a) ⊎ (z ≡ b)
 in_two a b z c = each_of_two (λ w. w ≡ z → (z ≡ a) ⊎ (z ≡ b)) a b (λ e. inl (sym e)) (λ e. inr (sym e)) z c refl
 
-in_three : (a b c z : ℕ) → Contains (a ∷ b ∷ c ∷ []) z → (z ≡ a) ⊎ ((z ≡ b) ⊎ (z ≡ c))
+pub in_three : (a b c z : ℕ) → Contains (a ∷ b ∷ c ∷ []) z → (z ≡ a) ⊎ ((z ≡ b) ⊎ (z ≡ c))
 in_three a b c z h = each_of_three (λ w. w ≡ z → (z ≡ a) ⊎ ((z ≡ b) ⊎ (z ≡ c))) a b c (λ e. inl (sym e)) (λ e. inr (inl (sym e))) (λ e. inr (inr (sym e))) z h refl
 
 record ArePartedBy (lists : Lists) (u v s t : ℕ) : Type 0 where
@@ -140,119 +142,8 @@ cases_linked lists simple =
           | inr r ↦ inr (r.0, r.2)
         ]
 
--- ---- the contracted graph
-module _ (lists : Lists) (simple : IsSimpleMap lists) (x y : ℕ) (edge : HasDart lists x y) where
-  x_y : x ≢ y
-  x_y e = simple.no_loop x y edge (sym e)
-
-  T : ℕ → ℕ → Bool
-  T a b = has_dart lists (a, b)
-
-  -- an edge, or one of y in place of x
-  moved : ℕ → ℕ → Bool
-  moved a b = T a b || ((eqb a x && T y b) || (eqb b x && T a y))
-
-  test : ℕ → ℕ → Bool
-  test a b = (not (eqb a b) && (not (eqb a y) && not (eqb b y))) && moved a b
-
-  record IsMoved (a b : ℕ) : Type 0 where
-    two : a ≢ b
-    first : a ≢ y
-    second : b ≢ y
-    dart : HasDart lists a b ⊎ (((a ≡ x) × HasDart lists y b) ⊎ ((b ≡ x) × HasDart lists a y))
-
-  moved-is : (a b : ℕ) → test a b ≡ true → IsMoved a b
-  unfolding test moved T
-  moved-is a b t =
-      let p = and_parts (not (eqb a b) && (not (eqb a y) && not (eqb b y))) (T a b || ((eqb a x && T y b) || (eqb b x && T a y))) t in
-      let q = and_parts (not (eqb a b)) (not (eqb a y) && not (eqb b y)) p.0 in
-      let r = and_parts (not (eqb a y)) (not (eqb b y)) q.1 in
-      record {
-        two = eqb-false a b (not-true (eqb a b) q.0);
-        first = eqb-false a y (not-true (eqb a y) r.0);
-        second = eqb-false b y (not-true (eqb b y) r.1);
-        dart = elim (or_cases (T a b) ((eqb a x && T y b) || (eqb b x && T a y)) p.1) [
-          | inl h ↦ inl (HasDart-from lists a b h)
-          | inr h ↦ elim (or_cases (eqb a x && T y b) (eqb b x && T a y) h) [
-            | inl g ↦ let k = and_parts (eqb a x) (T y b) g in inr (inl (eqb-true a x k.0, HasDart-from lists y b k.1))
-            | inr g ↦ let k = and_parts (eqb b x) (T a y) g in inr (inr (eqb-true b x k.0, HasDart-from lists a y k.1))
-          ]
-        ];
-      }
-
-  moved-from : (a b : ℕ) → IsMoved a b → test a b ≡ true
-  unfolding test moved T
-  moved-from a b m =
-      and_from (not (eqb a b) && (not (eqb a y) && not (eqb b y))) (T a b || ((eqb a x && T y b) || (eqb b x && T a y)))
-      (and_from (not (eqb a b)) (not (eqb a y) && not (eqb b y)) (ap not (ne_eqb a b m.two)) (and_from (not (eqb a y)) (not (eqb b y)) (ap not (ne_eqb a y m.first)) (ap not (ne_eqb b y m.second))))
-      (elim m.dart [
-        | inl d ↦ or_left (T a b) ((eqb a x && T y b) || (eqb b x && T a y)) (has_dart-is lists a b d)
-        | inr r ↦ or_right (T a b) ((eqb a x && T y b) || (eqb b x && T a y)) (elim r [
-          | inl h ↦ or_left (eqb a x && T y b) (eqb b x && T a y) (and_from (eqb a x) (T y b) (eq-eqb a x h.0) (has_dart-is lists y b h.1))
-          | inr h ↦ or_right (eqb a x && T y b) (eqb b x && T a y) (and_from (eqb b x) (T a y) (eq-eqb b x h.0) (has_dart-is lists a y h.1))
-        ])
-      ])
-
-  moved-turned : (a b : ℕ) → IsMoved a b → IsMoved b a
-  moved-turned a b m = record {
-    two = λ e. m.two (sym e);
-    first = m.second;
-    second = m.first;
-    dart = elim m.dart [
-      | inl d ↦ inl (simple.both_ways a b d)
-      | inr r ↦ elim r [ inl h ↦ inr (inr (h.0, simple.both_ways y b h.1)) | inr h ↦ inr (inl (h.0, simple.both_ways a y h.1)) ]
-    ];
-  }
-
-  abbrev small : Lists
-  small = lists_of (length lists) test
-
-  simple_small : IsSimpleMap small
-  simple_small = IsSimpleMap-lists_of (length lists) test simple.some_vertex (λ a b t. moved-from b a (moved-turned a b (moved-is a b t))) (λ a b t. (moved-is a b t).two)
-
-  length_small : length small ≡ length lists
-  length_small = length-lists_of (length lists) test
-
-  small_old : (a b : ℕ) → HasDart small a b → IsMoved a b
-  small_old a b d = moved-is a b (lists_of-dart (length lists) test a b d).2
-
-  live_old : (z : ℕ) → HasEdge small z → HasEdge lists z
-  live_old z h =
-      elim (small_old z h.0 h.1).dart [
-        | inl d ↦ (h.0, d)
-        | inr r ↦ elim r [ inl g ↦ subst (HasEdge lists) (sym g.0) (y, edge) | inr g ↦ (y, g.1) ]
-      ]
-
-  less : live small < live lists
-  less = live_less small lists length_small live_old y (x, simple.both_ways x y edge) (λ h. (small_old y h.0 h.1).first refl)
-
-  into : IsContractedInto (graph_of lists) (graph_of small) x y
-  into = record {
-    vertices = length_small;
-    left = λ a b e. let m = small_old a b (has_edge-is small simple_small a b e) in (m.first, m.second);
-    edges = λ a b e. elim (small_old a b (has_edge-is small simple_small a b e)).dart [
-      | inl d ↦ inl (has_edge-from lists a b d)
-      | inr r ↦ elim r [ inl h ↦ inr (inl (h.0, has_edge-from lists y b h.1)) | inr h ↦ inr (inr (h.0, has_edge-from lists a y h.1)) ]
-    ];
-    kept = λ a b na nb e.
-        let d = has_edge-is lists simple a b e in
-        has_edge-from small a b (HasDart-lists_of (length lists) test a b d.0 (simple.in_range a b d) (moved-from a b record { two = λ q. simple.no_loop a b d (sym q); first = na; second = nb; dart = inl d }));
-    moved = λ b nb e.
-        let d = has_edge-is lists simple y b e in
-        has_edge-from small x b (HasDart-lists_of (length lists) test x b edge.0 (simple.in_range y b d) (moved-from x b record { two = λ q. nb (sym q); first = x_y; second = simple.no_loop y b d; dart = inr (inl (refl, d)) }));
-  }
-
-  -- the result for the contracted graph gives that for the graph
-  expanded : IsThreeLinked lists → HasFour lists → IsContractible lists x y → Result small → Result lists
-  expanded linked four con r =
-      elim r [
-        | inl w ↦ inl (lifted_witness (graph_of lists) (graph_of small) x y (λ z. z) record { first = edge.0; second = (simple.both_ways x y edge).0; two = x_y; joined = has_edge-from lists x y edge }
-            record { within = λ v l. subst (λ n. v < n) length_small l; apart = λ u v e. e; off = λ a b e. (into.left a b e).0; edges = into.edges } w)
-        | inr m ↦ expanded_edge (graph_of lists) (graph_of small) lists x y simple (just_edges lists simple) linked four con into m.0 m.1
-      ]
-
 -- a vertex with an edge besides those of a list, or none
-cases_besides : (lists : Lists) (vs : List ℕ) → ((z : ℕ) × HasEdge lists z × (¬ Contains vs z)) ⊎ ((z : ℕ) → HasEdge lists z → Contains vs z)
+pub cases_besides : (lists : Lists) (vs : List ℕ) → ((z : ℕ) × HasEdge lists z × (¬ Contains vs z)) ⊎ ((z : ℕ) → HasEdge lists z → Contains vs z)
 cases_besides lists vs =
     elim (all_or_one (λ z. HasEdge lists z → Contains vs z) (λ z. HasEdge lists z × (¬ Contains vs z)) (length lists) each) [
       | inl all ↦ inr (λ z h. all z h.1.0 h)
@@ -267,7 +158,7 @@ cases_besides lists vs =
         ]
 
 -- four vertices with edges, one of which is besides any three
-four_of : (lists : Lists) (x y z w : ℕ) → HasEdge lists x → HasEdge lists y → HasEdge lists z → HasEdge lists w → x ≢ y → x ≢ z → x ≢ w → y ≢ z → y ≢ w → z ≢ w → HasFour lists
+pub four_of : (lists : Lists) (x y z w : ℕ) → HasEdge lists x → HasEdge lists y → HasEdge lists z → HasEdge lists w → x ≢ y → x ≢ z → x ≢ w → y ≢ z → y ≢ w → z ≢ w → HasFour lists
 four_of lists x y z w hx hy hz hw xy xz xw yz yw zw a b c =
     elim (cases_Contains V x) [
       | inr o ↦ (x, hx, o)
@@ -304,7 +195,13 @@ linked_result lists x y simple linked edge smaller =
                 let zw : z.0 ≢ w.0 = λ e. z.2 (2, omega arith, sym e) in
                 let four = four_of lists x y w.0 z.0 (y, edge) (x, back) w.1 z.1 xy (λ e. wx (sym e)) (λ e. zx (sym e)) (λ e. wy (sym e)) (λ e. zy (sym e)) (λ e. zw (sym e)) in
                 let c = contractible_edge lists x y simple linked edge in
-                expanded lists simple c.0 c.1 c.2.edge linked four c.2 (smaller (small lists simple c.0 c.1 c.2.edge) (simple_small lists simple c.0 c.1 c.2.edge) (less lists simple c.0 c.1 c.2.edge))
+                let t = moved_test lists c.0 c.1 in
+                let small = lists_of (length lists) t in
+                let con = contracted_by lists simple c.0 c.1 c.2.edge t (moved-is lists c.0 c.1) (moved-from lists c.0 c.1) in
+                elim (smaller small con.simple (contracted_less lists small c.0 c.1 c.2.edge simple con)) [
+                  | inl w ↦ inl (contracted_witness lists small c.0 c.1 c.2.edge simple con w)
+                  | inr m ↦ expanded_edge (graph_of lists) (graph_of small) lists c.0 c.1 simple (just_edges lists simple) linked four c.2 (contracted_into lists small c.0 c.1 c.2.edge simple con) m.0 m.1
+                ]
           ]
     ]
 

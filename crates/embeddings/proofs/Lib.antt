@@ -3,5 +3,6 @@ pub mod Graphs
 pub mod Sides
 pub mod TwoSides
 pub mod Base
+pub mod Contracted
 pub mod Induction
 mod Cases

@@ -12,7 +12,7 @@ use Rattle.map_edits.specs.WithEdge.{with_edge_at}
 use Rattle.map_edits.proofs.WithEdge.{with_edge, length-new}
 use Rattle.map_peeling.proofs.RestrictedMaps.{cases_Contains}
 use Rattle.graph6_text.specs.Graphs.{EdgeGraph, has_edge}
-use Rattle.gluing.specs.Glued.{glued_lists, edge_glued_lists}
+use Rattle.gluing.specs.Glued.{glued_lists, edge_glued_lists, IsUnion}
 use Rattle.gluing.proofs.AtVertex.{glued_at_vertex}
 use Rattle.gluing.proofs.AlongEdge.{glued_along_edge}
 use Rattle.contractible_edges.specs.Linked.{HasEdge}
@@ -22,24 +22,10 @@ use Rattle.contractions.proofs.Routes.{some_route}
 use Rattle.contractions.proofs.Routed.{routed_witness}
 use Rattle.ring_witness.specs.Traces.{HasWitness}
 use Rattle.expanded_edges.specs.Expanded.{IsMapOf}
-use Rattle.embeddings.proofs.Graphs.{graph_of, has_edge-from, has_edge-is, Result, part_witness, map_from, map_to, live, live_less}
-
--- A and B have the edges of the lists between them, and meet in u and v at most; each lacks a vertex that has an edge.
-pub record IsSided (lists A B : Lists) (u v : ℕ) : Type 0 where
-  pub simple_A : IsSimpleMap A
-  pub simple_B : IsSimpleMap B
-  pub length_A : length A ≡ length lists
-  pub length_B : length B ≡ length lists
-  pub split : (a b : ℕ) → HasDart lists a b → HasDart A a b ⊎ HasDart B a b
-  pub of_A : (a b : ℕ) → HasDart A a b → HasDart lists a b
-  pub of_B : (a b : ℕ) → HasDart B a b → HasDart lists a b
-  pub shared : (w p q : ℕ) → HasDart A w p → HasDart B w q → (w ≡ u) ⊎ (w ≡ v)
-  pub lost_A : ℕ
-  pub edge_A : HasEdge lists lost_A
-  pub gone_A : ¬ HasEdge A lost_A
-  pub lost_B : ℕ
-  pub edge_B : HasEdge lists lost_B
-  pub gone_B : ¬ HasEdge B lost_B
+use Rattle.embeddings.specs.Sides.{IsSided, IsBetween, IsJoinedUp, live}
+use Rattle.embeddings.proofs.Graphs.{Result, part_witness, map_from, map_to, live_less}
+use Rattle.list_graphs.specs.ListGraphs.{graph_of}
+use Rattle.list_graphs.proofs.GraphLemmas.{has_edge-from, has_edge-is}
 
 pub sides_turned : (lists A B : Lists) (u v : ℕ) → IsSided lists A B u v → IsSided lists B A u v
 sides_turned lists A B u v s = record {
@@ -59,6 +45,33 @@ sides_turned lists A B u v s = record {
   gone_B = s.gone_A;
 }
 
+-- each side has fewer vertices with edges
+pub side_less : (lists A B : Lists) (u v : ℕ) → IsSided lists A B u v → live A < live lists
+side_less lists A B u v s = live_less A lists s.length_A (λ z h. (h.0, s.of_A z h.0 h.1)) s.lost_A s.edge_A s.gone_A
+
+-- a witness of a side is one of the whole
+pub witness_of_side : (lists A B : Lists) (u v : ℕ) → IsSided lists A B u v → HasWitness (graph_of A) → HasWitness (graph_of lists)
+witness_of_side lists A B u v s = part_witness A lists s.simple_A s.length_A s.of_A
+
+-- maps of two sides that meet in one vertex
+module _ (lists A B m k : Lists) (u v : ℕ) (simple : IsSimpleMap lists) (s : IsSided lists A B u v) (of : IsMapOf m (graph_of A)) (of' : IsMapOf k (graph_of B)) where
+  pub sides_long : length k ≡ length m
+  sides_long = of'.edges.vertices ∙ (s.length_B ∙ sym (of.edges.vertices ∙ s.length_A))
+
+  pub sides_meet : (w : ℕ) → ((z p q : ℕ) → HasDart A z p → HasDart B z q → z ≡ w) → (z p q : ℕ) → HasDart m z p → HasDart k z q → z ≡ w
+  sides_meet w one z p q d d' = one z p q (map_from m A s.simple_A of z p d) (map_from k B s.simple_B of' z q d')
+
+  pub sides_glued : (new : Lists) → IsUnion m k new → IsMapOf new (graph_of lists)
+  sides_glued new glued = record {
+    simple = glued.simple;
+    plane = glued.plane;
+    edges = record {
+      vertices = glued.vertices ∙ (of.edges.vertices ∙ s.length_A);
+      there = λ a b d. has_edge-from lists a b (elim ((glued.darts a b).0 d) [ inl h ↦ s.of_A a b (map_from m A s.simple_A of a b h) | inr h ↦ s.of_B a b (map_from k B s.simple_B of' a b h) ]);
+      all = λ a b e. (glued.darts a b).1 (elim (s.split a b (has_edge-is lists simple a b e)) [ inl h ↦ inl (map_to m A of a b h) | inr h ↦ inr (map_to k B of' a b h) ]);
+    };
+  }
+
 -- the result for all graphs with fewer vertices that have edges
 abbrev pub Smaller : Lists → Type 0
 Smaller lists = (part : Lists) → IsSimpleMap part → live part < live lists → Result part
@@ -66,43 +79,16 @@ Smaller lists = (part : Lists) → IsSimpleMap part → live part < live lists �
 -- two sides that meet in one vertex
 pub glue_one : (lists A B : Lists) (u v w : ℕ) → IsSimpleMap lists → IsSided lists A B u v → ((z p q : ℕ) → HasDart A z p → HasDart B z q → z ≡ w) → Smaller lists → Result lists
 glue_one lists A B u v w simple s one smaller =
-    let less_A = live_less A lists s.length_A (λ z h. (h.0, s.of_A z h.0 h.1)) s.lost_A s.edge_A s.gone_A in
-    let less_B = live_less B lists s.length_B (λ z h. (h.0, s.of_B z h.0 h.1)) s.lost_B s.edge_B s.gone_B in
-    elim (smaller A s.simple_A less_A) [
-      | inl x ↦ inl (part_witness A lists s.simple_A s.length_A s.of_A x)
-      | inr m ↦ elim (smaller B s.simple_B less_B) [
-        | inl x ↦ inl (part_witness B lists s.simple_B s.length_B s.of_B x)
-        | inr k ↦
-            let from_m = map_from m.0 A s.simple_A m.1 in
-            let from_k = map_from k.0 B s.simple_B k.1 in
-            let len_m : length m.0 ≡ length lists = m.1.edges.vertices ∙ s.length_A in
-            let glued = glued_at_vertex m.0 k.0 w m.1.simple m.1.plane k.1.simple k.1.plane (k.1.edges.vertices ∙ (s.length_B ∙ sym len_m)) (λ z p q d d'. one z p q (from_m z p d) (from_k z q d')) in
-            inr (
-              glued_lists m.0 k.0,
-              record {
-                simple = glued.simple;
-                plane = glued.plane;
-                edges = record {
-                  vertices = glued.vertices ∙ len_m;
-                  there = λ a b d. has_edge-from lists a b (elim ((glued.darts a b).0 d) [ inl h ↦ s.of_A a b (from_m a b h) | inr h ↦ s.of_B a b (from_k a b h) ]);
-                  all = λ a b e. (glued.darts a b).1 (elim (s.split a b (has_edge-is lists simple a b e)) [ inl h ↦ inl (map_to m.0 A m.1 a b h) | inr h ↦ inr (map_to k.0 B k.1 a b h) ]);
-                };
-              },
-            )
+    elim (smaller A s.simple_A (side_less lists A B u v s)) [
+      | inl x ↦ inl (witness_of_side lists A B u v s x)
+      | inr m ↦ elim (smaller B s.simple_B (side_less lists B A u v (sides_turned lists A B u v s))) [
+        | inl x ↦ inl (witness_of_side lists B A u v (sides_turned lists A B u v s) x)
+        | inr k ↦ inr (
+          glued_lists m.0 k.0,
+          sides_glued lists A B m.0 k.0 u v simple s m.1 k.1 (glued_lists m.0 k.0) (glued_at_vertex m.0 k.0 w m.1.simple m.1.plane k.1.simple k.1.plane (sides_long lists A B m.0 k.0 u v simple s m.1 k.1) (sides_meet lists A B m.0 k.0 u v simple s m.1 k.1 w one)),
+        )
       ]
     ]
-
--- the edge between u and v, in either direction
-abbrev pub IsBetween : ℕ → ℕ → ℕ → ℕ → Type 0
-IsBetween u v a b = ((a ≡ u) × (b ≡ v)) ⊎ ((a ≡ v) × (b ≡ u))
-
--- lists with an edge between u and v
-pub record IsJoinedUp (old new : Lists) (u v : ℕ) : Type 0 where
-  pub simple : IsSimpleMap new
-  pub vertices : length new ≡ length old
-  pub edge : HasDart new u v
-  pub kept : (a b : ℕ) → HasDart old a b → HasDart new a b
-  pub only : (a b : ℕ) → HasDart new a b → HasDart old a b ⊎ IsBetween u v a b
 
 pub joined_up : (old : Lists) (u v : ℕ) → IsSimpleMap old → u < length old → v < length old → u ≢ v → (new : Lists) × IsJoinedUp old new u v
 joined_up old u v simple lu lv u_v =
@@ -176,93 +162,118 @@ side_witness lists A B H u v simple s lu lv u_v same up w =
       ];
     } w
 
+-- a side with the edge between u and v, which are joined in it, has fewer vertices with edges
+pub joined_up_less : (lists A B H : Lists) (u v : ℕ) → IsSided lists A B u v → u < length lists → v < length lists → u ≢ v → SameComponent A u v → IsJoinedUp A H u v → live H < live lists
+joined_up_less lists A B H u v s lu lv u_v same up =
+    let in_A : (z : ℕ) → z < length lists → z < length A = λ z l. subst (λ n. z < n) (sym s.length_A) l in
+    let live_u = joined_edge A s.simple_A u v (in_A u lu) (in_A v lv) same u_v in
+    let live_v = joined_edge A s.simple_A v u (in_A v lv) (in_A u lu) (part-turned A u v same) (λ e. u_v (sym e)) in
+    let old : (z : ℕ) → HasEdge H z → HasEdge A z = λ z h. elim (up.only z h.0 h.1) [
+      | inl d ↦ (h.0, d)
+      | inr q ↦ elim q [ inl e ↦ subst (HasEdge A) (sym e.0) live_u | inr e ↦ subst (HasEdge A) (sym e.0) live_v ]
+    ] in
+    live_less H lists (up.vertices ∙ s.length_A) (λ z h. let o = old z h in (o.0, s.of_A z o.0 o.1)) s.lost_A s.edge_A (λ h. s.gone_A (old s.lost_A h))
+
+-- maps of two sides with the edge between u and v
+module _ (lists A B H K m k : Lists) (u v : ℕ) (simple : IsSimpleMap lists) (s : IsSided lists A B u v) (up : IsJoinedUp A H u v) (up' : IsJoinedUp B K u v) (of : IsMapOf m (graph_of H)) (of' : IsMapOf k (graph_of K)) where
+  from_m : (a b : ℕ) → HasDart m a b → HasDart H a b
+  from_m = map_from m H up.simple of
+
+  from_k : (a b : ℕ) → HasDart k a b → HasDart K a b
+  from_k = map_from k K up'.simple of'
+
+  len_m : length m ≡ length lists
+  len_m = of.edges.vertices ∙ (up.vertices ∙ s.length_A)
+
+  pub joined_long : length k ≡ length m
+  joined_long = of'.edges.vertices ∙ (up'.vertices ∙ s.length_B) ∙ sym len_m
+
+  pub joined_first : HasDart m u v
+  joined_first = map_to m H of u v up.edge
+
+  pub joined_second : HasDart k u v
+  joined_second = map_to k K of' u v up'.edge
+
+  pub joined_meet : (w p q : ℕ) → HasDart m w p → HasDart k w q → (w ≡ u) ⊎ (w ≡ v)
+  joined_meet w p q d d' =
+      elim (up.only w p (from_m w p d)) [
+        | inr r ↦ elim r [ inl h ↦ inl h.0 | inr h ↦ inr h.0 ]
+        | inl h ↦ elim (up'.only w q (from_k w q d')) [
+          | inr r ↦ elim r [ inl g ↦ inl g.0 | inr g ↦ inr g.0 ]
+          | inl g ↦ s.shared w p q h g
+        ]
+      ]
+
+  module _ (G : Lists) (glued : IsUnion m k G) where
+    G_old : (a b : ℕ) → HasDart G a b → HasDart lists a b ⊎ IsBetween u v a b
+    G_old a b d =
+        elim ((glued.darts a b).0 d) [
+          | inl h ↦ elim (up.only a b (from_m a b h)) [ inl g ↦ inl (s.of_A a b g) | inr q ↦ inr q ]
+          | inr h ↦ elim (up'.only a b (from_k a b h)) [ inl g ↦ inl (s.of_B a b g) | inr q ↦ inr q ]
+        ]
+
+    G_new : (a b : ℕ) → HasDart lists a b → HasDart G a b
+    G_new a b d =
+        (glued.darts a b).1 (elim (s.split a b d) [ inl h ↦ inl (map_to m H of a b (up.kept a b h)) | inr h ↦ inr (map_to k K of' a b (up'.kept a b h)) ])
+
+    pub joined_edge_glued : HasDart G u v
+    joined_edge_glued = (glued.darts u v).1 (inl joined_first)
+
+    -- with the edge, where it is one of the lists
+    pub joined_glued : HasDart lists u v → IsMapOf G (graph_of lists)
+    joined_glued edge =
+        let there : (a b : ℕ) → HasDart G a b → HasDart lists a b = λ a b d.
+        elim (G_old a b d) [
+          | inl h ↦ h
+          | inr q ↦ elim q [
+            | inl h ↦ subst (λ z. HasDart lists z b) (sym h.0) (subst (HasDart lists u) (sym h.1) edge)
+            | inr h ↦ subst (λ z. HasDart lists z b) (sym h.0) (subst (HasDart lists v) (sym h.1) (simple.both_ways u v edge))
+          ]
+        ] in
+        record {
+          simple = glued.simple;
+          plane = glued.plane;
+          edges = record { vertices = glued.vertices ∙ len_m; there = λ a b d. has_edge-from lists a b (there a b d); all = λ a b e. G_new a b (has_edge-is lists simple a b e) };
+        }
+
+    -- without it, where it is none
+    pub joined_glued_without : ¬ HasDart lists u v → IsMapOf (without_edge G u v) (graph_of lists)
+    joined_glued_without none =
+        let edge_G = joined_edge_glued in
+        let there : (a b : ℕ) → HasDart (without_edge G u v) a b → HasDart lists a b = λ a b d.
+        let o = dart_old G glued.simple u v edge_G a b d in
+        elim (G_old a b o.0) [
+          | inl h ↦ h
+          | inr q ↦ absurd (elim q [ inl h ↦ o.1 h.0 h.1 | inr h ↦ o.2 h.0 h.1 ])
+        ] in
+        let all : (a b : ℕ) → HasDart lists a b → HasDart (without_edge G u v) a b = λ a b d.
+        dart_new G glued.simple u v edge_G a b (G_new a b d) (λ e e'. none (subst (HasDart lists u) e' (subst (λ z. HasDart lists z b) e d))) (λ e e'. none (simple.both_ways v u (subst (HasDart lists v) e' (subst (λ z. HasDart lists z b) e d)))) in
+        record {
+          simple = IsSimpleMap-without_edge G glued.simple u v edge_G;
+          plane = edge_removed_plane G glued.simple u v edge_G glued.plane;
+          edges = record { vertices = length-without_edge G glued.simple u v edge_G ∙ (glued.vertices ∙ len_m); there = λ a b d. has_edge-from lists a b (there a b d); all = λ a b e. all a b (has_edge-is lists simple a b e) };
+        }
+
 -- two sides that meet in u and v, which are joined in both
 pub glue_two : (lists A B : Lists) (u v : ℕ) → IsSimpleMap lists → IsSided lists A B u v → u < length lists → v < length lists → u ≢ v → SameComponent A u v → SameComponent B u v → Smaller lists → Result lists
 glue_two lists A B u v simple s lu lv u_v same_A same_B smaller =
     let in_A : (z : ℕ) → z < length lists → z < length A = λ z l. subst (λ n. z < n) (sym s.length_A) l in
     let in_B : (z : ℕ) → z < length lists → z < length B = λ z l. subst (λ n. z < n) (sym s.length_B) l in
-    let live_uA = joined_edge A s.simple_A u v (in_A u lu) (in_A v lv) same_A u_v in
-    let live_vA = joined_edge A s.simple_A v u (in_A v lv) (in_A u lu) (part-turned A u v same_A) (λ e. u_v (sym e)) in
-    let live_uB = joined_edge B s.simple_B u v (in_B u lu) (in_B v lv) same_B u_v in
-    let live_vB = joined_edge B s.simple_B v u (in_B v lv) (in_B u lu) (part-turned B u v same_B) (λ e. u_v (sym e)) in
     let up = joined_up A u v s.simple_A (in_A u lu) (in_A v lv) u_v in
     let up' = joined_up B u v s.simple_B (in_B u lu) (in_B v lv) u_v in
-    let H = up.0 in
-    let K = up'.0 in
-    let old_A : (z : ℕ) → HasEdge H z → HasEdge A z = λ z h. elim (up.1.only z h.0 h.1) [
-      | inl d ↦ (h.0, d)
-      | inr q ↦ elim q [ inl e ↦ subst (HasEdge A) (sym e.0) live_uA | inr e ↦ subst (HasEdge A) (sym e.0) live_vA ]
-    ] in
-    let old_B : (z : ℕ) → HasEdge K z → HasEdge B z = λ z h. elim (up'.1.only z h.0 h.1) [
-      | inl d ↦ (h.0, d)
-      | inr q ↦ elim q [ inl e ↦ subst (HasEdge B) (sym e.0) live_uB | inr e ↦ subst (HasEdge B) (sym e.0) live_vB ]
-    ] in
-    let less_A = live_less H lists (up.1.vertices ∙ s.length_A) (λ z h. let o = old_A z h in (o.0, s.of_A z o.0 o.1)) s.lost_A s.edge_A (λ h. s.gone_A (old_A s.lost_A h)) in
-    let less_B = live_less K lists (up'.1.vertices ∙ s.length_B) (λ z h. let o = old_B z h in (o.0, s.of_B z o.0 o.1)) s.lost_B s.edge_B (λ h. s.gone_B (old_B s.lost_B h)) in
-    elim (smaller H up.1.simple less_A) [
-      | inl x ↦ inl (side_witness lists A B H u v simple s lu lv u_v same_B up.1 x)
-      | inr m ↦ elim (smaller K up'.1.simple less_B) [
-        | inl x ↦ inl (side_witness lists B A K u v simple (sides_turned lists A B u v s) lu lv u_v same_A up'.1 x)
-        | inr k ↦ inr (two_maps H K m.0 k.0 up.1 up'.1 m.1 k.1)
+    elim (smaller up.0 up.1.simple (joined_up_less lists A B up.0 u v s lu lv u_v same_A up.1)) [
+      | inl x ↦ inl (side_witness lists A B up.0 u v simple s lu lv u_v same_B up.1 x)
+      | inr m ↦ elim (smaller up'.0 up'.1.simple (joined_up_less lists B A up'.0 u v (sides_turned lists A B u v s) lu lv u_v same_B up'.1)) [
+        | inl x ↦ inl (side_witness lists B A up'.0 u v simple (sides_turned lists A B u v s) lu lv u_v same_A up'.1 x)
+        | inr k ↦ inr (two_maps up.0 up'.0 m.0 k.0 up.1 up'.1 m.1 k.1)
       ]
     ]
   where
     two_maps : (H K m k : Lists) → IsJoinedUp A H u v → IsJoinedUp B K u v → IsMapOf m (graph_of H) → IsMapOf k (graph_of K) → (map : Lists) × IsMapOf map (graph_of lists)
     two_maps H K m k up up' of of' =
-        let from_m = map_from m H up.simple of in
-        let from_k = map_from k K up'.simple of' in
-        let len_m : length m ≡ length lists = of.edges.vertices ∙ (up.vertices ∙ s.length_A) in
-        let len_k : length k ≡ length lists = of'.edges.vertices ∙ (up'.vertices ∙ s.length_B) in
-        let meet : (w p q : ℕ) → HasDart m w p → HasDart k w q → (w ≡ u) ⊎ (w ≡ v) = λ w p q d d'.
-        elim (up.only w p (from_m w p d)) [
-          | inr r ↦ elim r [ inl h ↦ inl h.0 | inr h ↦ inr h.0 ]
-          | inl h ↦ elim (up'.only w q (from_k w q d')) [
-            | inr r ↦ elim r [ inl g ↦ inl g.0 | inr g ↦ inr g.0 ]
-            | inl g ↦ s.shared w p q h g
-          ]
-        ] in
-        let glued = glued_along_edge m k u v of.simple of.plane of'.simple of'.plane (len_k ∙ sym len_m) (map_to m H of u v up.edge) (map_to k K of' u v up'.edge) meet in
         let G = edge_glued_lists m k u v in
-        let G_old : (a b : ℕ) → HasDart G a b → HasDart lists a b ⊎ IsBetween u v a b = λ a b d.
-        elim ((glued.darts a b).0 d) [
-          | inl h ↦ elim (up.only a b (from_m a b h)) [ inl g ↦ inl (s.of_A a b g) | inr q ↦ inr q ]
-          | inr h ↦ elim (up'.only a b (from_k a b h)) [ inl g ↦ inl (s.of_B a b g) | inr q ↦ inr q ]
-        ] in
-        let G_new : (a b : ℕ) → HasDart lists a b → HasDart G a b = λ a b d.
-        (glued.darts a b).1 (elim (s.split a b d) [ inl h ↦ inl (map_to m H of a b (up.kept a b h)) | inr h ↦ inr (map_to k K of' a b (up'.kept a b h)) ]) in
-        let edge_G : HasDart G u v = (glued.darts u v).1 (inl (map_to m H of u v up.edge)) in
+        let glued = glued_along_edge m k u v of.simple of.plane of'.simple of'.plane (joined_long lists A B H K m k u v simple s up up' of of') (joined_first lists A B H K m k u v simple s up up' of of') (joined_second lists A B H K m k u v simple s up up' of of') (joined_meet lists A B H K m k u v simple s up up' of of') in
         elim (cases_Contains (list_of lists u) v) [
-          | inl c ↦
-              let there : (a b : ℕ) → HasDart G a b → HasDart lists a b = λ a b d.
-              elim (G_old a b d) [
-                | inl h ↦ h
-                | inr q ↦ elim q [
-                  | inl h ↦ subst (λ z. HasDart lists z b) (sym h.0) (subst (HasDart lists u) (sym h.1) (lu, c))
-                  | inr h ↦ subst (λ z. HasDart lists z b) (sym h.0) (subst (HasDart lists v) (sym h.1) (simple.both_ways u v (lu, c)))
-                ]
-              ] in (
-                G,
-                record {
-                  simple = glued.simple;
-                  plane = glued.plane;
-                  edges = record { vertices = glued.vertices ∙ len_m; there = λ a b d. has_edge-from lists a b (there a b d); all = λ a b e. G_new a b (has_edge-is lists simple a b e) };
-                },
-              )
-          | inr n ↦
-              let none : ¬ HasDart lists u v = λ d. n d.1 in
-              let there : (a b : ℕ) → HasDart (without_edge G u v) a b → HasDart lists a b = λ a b d.
-              let o = dart_old G glued.simple u v edge_G a b d in
-              elim (G_old a b o.0) [
-                | inl h ↦ h
-                | inr q ↦ absurd (elim q [ inl h ↦ o.1 h.0 h.1 | inr h ↦ o.2 h.0 h.1 ])
-              ] in
-              let all : (a b : ℕ) → HasDart lists a b → HasDart (without_edge G u v) a b = λ a b d.
-              dart_new G glued.simple u v edge_G a b (G_new a b d) (λ e e'. none (subst (HasDart lists u) e' (subst (λ z. HasDart lists z b) e d))) (λ e e'. none (simple.both_ways v u (subst (HasDart lists v) e' (subst (λ z. HasDart lists z b) e d)))) in (
-                without_edge G u v,
-                record {
-                  simple = IsSimpleMap-without_edge G glued.simple u v edge_G;
-                  plane = edge_removed_plane G glued.simple u v edge_G glued.plane;
-                  edges = record { vertices = length-without_edge G glued.simple u v edge_G ∙ (glued.vertices ∙ len_m); there = λ a b d. has_edge-from lists a b (there a b d); all = λ a b e. all a b (has_edge-is lists simple a b e) };
-                },
-              )
+          | inl c ↦ (G, joined_glued lists A B H K m k u v simple s up up' of of' G glued (lu, c))
+          | inr n ↦ (without_edge G u v, joined_glued_without lists A B H K m k u v simple s up up' of of' G glued (λ d. n d.1))
         ]

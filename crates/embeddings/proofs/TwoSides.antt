@@ -16,7 +16,8 @@ use Rattle.contractible_edges.specs.Linked.{HasEdge, without_vertices, outside}
 use Rattle.contractible_edges.proofs.Parts.{cases_part, cases_edge, part-chained, part-itself, rest-together, outside-is, outside-from}
 use Rattle.label_classes.proofs.Classes.{same_class-from}
 use Rattle.embeddings.proofs.Graphs.{Result}
-use Rattle.embeddings.proofs.Sides.{IsSided, sides_turned, Smaller, glue_one, glue_two}
+use Rattle.embeddings.specs.Sides.{IsSided}
+use Rattle.embeddings.proofs.Sides.{sides_turned, Smaller, glue_one, glue_two}
 
 both_same : (a b : Bool) → (a ≡ true → b ≡ true) → (b ≡ true → a ≡ true) → a ≡ b
 both_same true b h k = sym (h refl)

@@ -1,0 +1,2 @@
+-- The edges that are left when one is contracted.
+pub mod Moved

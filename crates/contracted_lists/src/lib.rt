@@ -1,0 +1,6 @@
+//! Lists with an edge contracted, in which all vertices keep their numbers.
+#![tactic(auto)]
+
+mod contracted;
+
+pub use contracted::contracted_lists;

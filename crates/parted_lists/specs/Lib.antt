@@ -1,0 +1,2 @@
+-- What parts vertices.
+pub mod Parted

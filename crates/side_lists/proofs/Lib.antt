@@ -1,0 +1,3 @@
+-- What the calls rest on.
+pub mod Sided
+pub mod JoinedUp

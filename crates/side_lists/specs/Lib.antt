@@ -1,0 +1,2 @@
+-- The sides of a graph that vertices part.
+pub mod Parting

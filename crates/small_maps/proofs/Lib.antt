@@ -1,0 +1,3 @@
+-- What the law and the calls rest on.
+pub mod Few
+mod FourLemmas

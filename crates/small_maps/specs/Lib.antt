@@ -1,0 +1,2 @@
+-- Maps with few edges.
+pub mod Small
