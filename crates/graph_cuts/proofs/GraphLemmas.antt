@@ -57,13 +57,13 @@ module _ (graph : EdgeGraph) (is : IsGraph graph) where
   list_of-graph : (v : ℕ) → v < graph.n → list_of (graph_lists graph) v ≡ neighbours_below graph v graph.n
   list_of-graph v l = get_or-map-range_with_len (λ x. neighbours_below graph x graph.n) 0 graph.n v v [] l (omega arith)
 
-  dart_edge : (v u : ℕ) → HasDart (graph_lists graph) v u → has_edge graph v u ≡ true
+  pub dart_edge : (v u : ℕ) → HasDart (graph_lists graph) v u → has_edge graph v u ≡ true
   dart_edge v u has =
       let l = has.0 in
       let m : v < graph.n = omega (arith, length-graph_lists) in
       (Contains-from_filter (λ x. has_edge graph v x) (range_with_len 0 graph.n) u (subst (λ (xs : List ℕ). Contains xs u) (list_of-graph v m) has.1)).1
 
-  edge_dart : (v u : ℕ) → has_edge graph v u ≡ true → HasDart (graph_lists graph) v u
+  pub edge_dart : (v u : ℕ) → has_edge graph v u ≡ true → HasDart (graph_lists graph) v u
   edge_dart v u e =
       let in_n = edge_within v u e in
       let l = in_n.0 in (

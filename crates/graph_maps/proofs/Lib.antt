@@ -1,0 +1,2 @@
+-- What the call rests on.
+pub mod Answers

@@ -1,0 +1,2 @@
+-- Maps of the graphs of lists, or witnesses.
+pub mod Answers
