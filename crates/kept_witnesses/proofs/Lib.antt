@@ -1,0 +1,3 @@
+-- What the law rests on.
+pub mod Shortened
+pub mod Kept

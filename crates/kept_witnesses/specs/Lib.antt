@@ -1,0 +1,2 @@
+-- Witnesses of single edges, and witnesses that stay when an edge is contracted.
+pub mod Kept

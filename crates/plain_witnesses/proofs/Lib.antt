@@ -1,0 +1,2 @@
+-- What the search rests on.
+pub mod Plain

@@ -1,0 +1,2 @@
+-- Witnesses all of whose paths are single edges.
+pub mod Plain

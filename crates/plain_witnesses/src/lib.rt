@@ -1,0 +1,8 @@
+//! K5 and K3,3 as parts of graphs.
+#![tactic(auto)]
+
+mod numbers;
+mod search;
+mod written;
+
+pub use search::plain_witness;
