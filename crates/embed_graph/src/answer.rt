@@ -6,6 +6,7 @@ ghost use Rattle.graph_embeddings.specs.Embeddings.{IsEmbedding};
 
 use crate::marks::has_edges;
 use crate::plane::is_plane_map;
+use contracted_embeddings::embed_by_contraction;
 use embed_search::{find_witness, planar_lists};
 use graph_embeddings::Embedding;
 use graph6_text::Graph;
@@ -70,23 +71,24 @@ fn found_witness(alloc: Global, graph: &Graph) -> Result<Option<Witness>, AllocE
     }
 }
 
-// A witness, where the search finds one.
+// A witness, where the search finds one, or the answer by contracted edges.
 fn refuted(alloc: Global, graph: &Graph) -> Result<Embedding, AllocError>
+    requires { 0 < graph.now.n }
     ensures { IfOk result (IsEmbedding graph.now) }
 {
     match found_witness(alloc, graph)? {
         Some(witness) => Ok(Embedding::NotPlanar(witness)),
         // no graph is known for which this comes
-        None => Err(AllocError),
+        None => embed_by_contraction(alloc, graph),
     }
 }
 
 /// A simple map of genus zero with exactly the edges of a graph with at least three vertices, or a witness that there is
-/// none.
+/// none. It fails only for want of memory.
 ///
-/// The map is that of the left-right test; a witness is one of the graph's first 3n - 5 edges, by the lesser end and then
-/// by the greater. Both are checked. The searches are not proved to find what there is: where neither answer is accepted,
-/// the call fails as for want of memory, and no graph is known for which it does.
+/// The map is that of the left-right test; a witness is one of the first 3n - 5 edges of the graph's line, where it has
+/// more. Both are checked. The searches are not proved to find what there is: where neither answer is accepted, the
+/// answer is that of `embed_by_contraction`, and no graph is known for which it is.
 pub fn embed(alloc: Global, graph: &Graph) -> Result<Embedding, AllocError>
     requires { 3 ≤ graph.now.n }
     ensures { IfOk result (IsEmbedding graph.now) }

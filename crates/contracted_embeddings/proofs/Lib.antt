@@ -1,0 +1,2 @@
+-- What the calls rest on.
+pub mod Stays
