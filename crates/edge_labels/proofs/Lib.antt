@@ -1,0 +1,5 @@
+-- Lemmas on edge labellings.
+pub mod TableLemmas
+pub mod OfRun
+pub mod OfOrder
+pub mod DartLemmas

@@ -1,0 +1,3 @@
+-- Edge labellings as values.
+pub mod Tables
+pub mod Labellings
