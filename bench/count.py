@@ -83,6 +83,12 @@ def prism(k):
                       + [[k + (v - 2) % k + 1, v, k + v % k + 1] for v in range(1, k + 1)])
 
 
+def wheel(n):
+    """A circle of n - 1 vertices, and one within it with an edge to each."""
+    k = n - 1
+    return renumbered([[v % k + 1, n, (v - 2) % k + 1] for v in range(1, n)] + [list(range(1, n))])
+
+
 def renumbered(lists):
     """The same map, with its vertices numbered anew at random."""
     number = list(range(1, len(lists) + 1))
@@ -133,6 +139,8 @@ def inputs_of(job, size):
     if job == "convex":
         for k in (127, 2047):
             yield f"prisms of {2 * k} vertices", fill([record(prism(k))], size)
+        for n in (255, 4095):
+            yield f"wheels of {n} vertices", fill([record(wheel(n))], size)
 
 
 def instructions(command, data):

@@ -33,9 +33,6 @@ met_within own ws i n f l = omega (arith, met_more own ws i f, sum_below-mono (�
 pub edges_more : (lists own : Lists) (ws : List ℕ) (i f : ℕ) → edges_below lists own ws (i + 1) f ≡ edges_below lists own ws i f + cond (eqb (inner_number lists own ws i) f) 1 0
 edges_more lists own ws i f = let z : i + 1 ≡ suc i = omega arith in ap (λ n. edges_below lists own ws n f) z
 
-pub edges_within : (lists own : Lists) (ws : List ℕ) (i n f : ℕ) → i < n → edges_below lists own ws i f + cond (eqb (inner_number lists own ws i) f) 1 0 ≤ edges_below lists own ws n f
-edges_within lists own ws i n f l = omega (arith, edges_more lists own ws i f, count_below-mono (λ k. eqb (inner_number lists own ws k) f) (i + 1) n (omega arith))
-
 pub edges_to : (lists own : Lists) (ws : List ℕ) (i n f : ℕ) → i < n → edges_below lists own ws (i + 1) f ≤ edges_below lists own ws n f
 edges_to lists own ws i n f l = count_below-mono (λ k. eqb (inner_number lists own ws k) f) (i + 1) n (omega arith)
 

@@ -1,8 +1,8 @@
 -- A vertex taken from one stack to the other leaves the contour as it is.
-use Rattle.std.proofs.Common.{◌≡◌, ℕ, suc, ◌+◌, ◌-◌, ◌<◌, ◌≤◌, List, [], ◌∷◌, ◌++◌, length, get_or, take, refl, sym, ap, ◌∙◌, append_assoc, arith}
+use Rattle.std.proofs.Common.{◌≡◌, ℕ, suc, ◌+◌, ◌-◌, ◌<◌, List, [], ◌∷◌, ◌++◌, length, get_or, take, sym, ap, ◌∙◌, append_assoc, arith}
 use Rattle.std.specs.Prelude.{reverse}
 use Rattle.std.proofs.Math.Seq.{take-length}
-use Rattle.std.proofs.lemmas.List.{length-append, length-reverse, reverse-append, get_or-reverse, get_or_append_left, get_or-append_right, take_more}
+use Rattle.std.proofs.lemmas.List.{length-append, length-reverse, reverse-append, get_or_append_left, take_more}
 use Rattle.contour_counts.specs.Contours.{contour_of}
 
 -- all but the last, and the last
@@ -36,8 +36,3 @@ length-contour left right = omega (arith, length-append left (reverse right), le
 
 pub contour_left : (left right : List ℕ) (i : ℕ) → i < length left → get_or (contour_of left right) i 0 ≡ get_or left i 0
 contour_left left right i l = get_or_append_left left (reverse right) 0 i l
-
-pub contour_right : (left right : List ℕ) (i k : ℕ) → length left ≤ i → i < length left + length right → k ≡ length right - 1 - (i - length left) → get_or (contour_of left right) i 0 ≡ get_or right k 0
-contour_right left right i k low high e =
-    get_or-append_right left (reverse right) (length left) i 0 refl low
-    ∙ (get_or-reverse right (i - length left) 0 (omega arith) ∙ ap (λ j. get_or right j 0) (sym e))

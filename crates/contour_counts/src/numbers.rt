@@ -1,8 +1,9 @@
 //! The number of a dart's face, from the lists.
 ghost use Rattle.std.specs.Prelude.{◌≡◌, ◌<◌, ℕ, length, slice_index};
 ghost use Rattle.map_definitions.specs.Maps.{HasDart, IsSimpleMap};
-ghost use Rattle.face_numbers.specs.FaceNumbers.{entry, IsTable};
+ghost use Rattle.face_numbers.specs.FaceNumbers.{entry, IsTable, AreFaceNumbers};
 
+use face_numbers::FaceNumbers;
 use map_lists::{ItemLists, Rotations};
 
 // The place of y in a list.
@@ -19,13 +20,28 @@ fn place_in(us: &[u16], y: u16) -> usize
     0
 }
 
-/// The number of the face of the dart from x to y.
-pub fn number_of(lists: &Rotations, own: &ItemLists<u32>, x: u16, y: u16) -> u32
+// What a table has at the dart from x to y.
+fn number_in(lists: &Rotations, table: &ItemLists<u32>, x: u16, y: u16) -> u32
     requires simple { IsSimpleMap lists.now }
-    requires table { (count : ℕ) × IsTable lists.now own.now count }
+    requires table { (count : ℕ) × IsTable lists.now table.now count }
     requires dart { HasDart lists.now x y }
-    ensures { result ≡ entry lists.now own.now x y }
+    ensures { result ≡ entry lists.now table.now x y }
 {
     let k = place_in(lists.list(x as usize), y);
-    own.list(x as usize)[k]
+    table.list(x as usize)[k]
+}
+
+/// The number of the face of the dart from x to y. It goes over the shorter one of their two lists: at a hub the time
+/// is that of its neighbours.
+pub fn number_of(lists: &Rotations, t: &FaceNumbers, x: u16, y: u16) -> u32
+    requires simple { IsSimpleMap lists.now }
+    requires numbers { AreFaceNumbers lists.now t.now.own t.now.other t.now.count }
+    requires dart { HasDart lists.now x y }
+    ensures { result ≡ entry lists.now t.now.own x y }
+{
+    if lists.list(x as usize).len() <= lists.list(y as usize).len() {
+        number_in(lists, &t.own, x, y)
+    } else {
+        number_in(lists, &t.other, y, x)
+    }
 }

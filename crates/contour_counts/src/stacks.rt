@@ -1,11 +1,12 @@
 //! A contour as two stacks.
 ghost use Rattle.std.specs.Prelude.{◌≡◌, ◌+◌, ◌<◌, ◌≤◌, ℕ, suc, length, slice_index, slice_range, IfOk};
 ghost use Rattle.map_definitions.specs.Maps.{HasDart, IsSimpleMap};
-ghost use Rattle.face_numbers.specs.FaceNumbers.{entry, IsTable};
+ghost use Rattle.face_numbers.specs.FaceNumbers.{entry, AreFaceNumbers};
 ghost use Rattle.contour_counts.specs.Contours.{contour_of, AreEdges, inner_number};
 
 use crate::numbers::number_of;
-use map_lists::{ItemLists, Rotations};
+use face_numbers::FaceNumbers;
+use map_lists::Rotations;
 use std::alloc::AllocError;
 
 /// The vertex at place i.
@@ -21,22 +22,16 @@ pub fn vertex_at(left: &[u16], right: &[u16], i: usize) -> u16
 }
 
 /// The number of the face inside of the edge from place i to the next.
-pub fn edge_at(
-    lists: &Rotations,
-    own: &ItemLists<u32>,
-    left: &[u16],
-    right: &[u16],
-    i: usize,
-) -> u32
+pub fn edge_at(lists: &Rotations, t: &FaceNumbers, left: &[u16], right: &[u16], i: usize) -> u32
     requires simple { IsSimpleMap lists.now }
-    requires table { (count : ℕ) × IsTable lists.now own.now count }
+    requires numbers { AreFaceNumbers lists.now t.now.own t.now.other t.now.count }
     requires within { suc i < length left.now + length right.now }
     requires edges { AreEdges lists.now (contour_of left.now right.now) }
-    ensures { result ≡ inner_number lists.now own.now (contour_of left.now right.now) i }
+    ensures { result ≡ inner_number lists.now t.now.own (contour_of left.now right.now) i }
 {
     number_of(
         lists,
-        own,
+        t,
         vertex_at(left, right, i + 1),
         vertex_at(left, right, i),
     )

@@ -23,21 +23,6 @@ module _ (lists own : Lists) (ws : List ℕ) (first last faces : ℕ) (cut : ℕ
         | inr ne ↦ (let h = cut_mono i j (omega arith) (omega arith) in let s = are.rises j m in omega arith)
       ]
 
-  pub cuts_first : (row : List ℕ) → row ≡ 0 ∷ [] → IsCutTo row first (suc first) faces cut
-  cuts_first row e =
-      let some = are.some in
-      let begin = are.begin in
-      let s = are.rises 0 some in
-      let here : slice_index row 0 ≡ 0 = ap (λ (z : List ℕ). get_or z 0 0) e in
-      record {
-        at = 0;
-        within = some;
-        long = ap length e;
-        each = λ i l. let z : i ≡ 0 = omega arith in let a = ap (λ k. get_or row k 0) z in let b = ap cut z in omega (arith, a, b, here, begin);
-        low = omega arith;
-        high = omega arith;
-      }
-
   -- the row with a cut more
   push_cut : (row : List ℕ) (x at : ℕ) → length row ≡ suc at → ((i : ℕ) → i ≤ at → slice_index row i + first ≡ cut i) → x + first ≡ cut (suc at) → (i : ℕ) → i ≤ suc at → slice_index (row ++ x ∷ []) i + first ≡ cut i
   push_cut row x at long each here i l =

@@ -9,7 +9,7 @@ ghost use Rattle.convex_orders.specs.Splits.{IsOpenAt, NoneSplit, IsLooseRow, Is
 
 use contour_counts::{edge_at, move_to, step_back};
 use face_numbers::FaceNumbers;
-use map_lists::{ItemLists, Rotations};
+use map_lists::Rotations;
 use std::alloc::AllocError;
 
 // Whether two numbers at one place have no mark.
@@ -176,37 +176,37 @@ pub(crate) fn find(
 }
 
 // Whether the edges from place i on and from the next place on have one number.
-fn same_face(lists: &Rotations, own: &ItemLists<u32>, left: &[u16], right: &[u16], i: usize) -> bool
+fn same_face(lists: &Rotations, t: &FaceNumbers, left: &[u16], right: &[u16], i: usize) -> bool
     requires simple { IsSimpleMap lists.now }
-    requires table { (count : ℕ) × IsTable lists.now own.now count }
+    requires numbers { AreFaceNumbers lists.now t.now.own t.now.other t.now.count }
     requires within { suc (suc i) < length left.now + length right.now }
     requires darts { AreEdges lists.now (contour_of left.now right.now) }
-    ensures { IsTrue result ↔ (inner_number lists.now own.now (contour_of left.now right.now) i ≡ inner_number lists.now own.now (contour_of left.now right.now) (suc i)) }
+    ensures { IsTrue result ↔ (inner_number lists.now t.now.own (contour_of left.now right.now) i ≡ inner_number lists.now t.now.own (contour_of left.now right.now) (suc i)) }
 {
-    edge_at(lists, own, left, right, i) == edge_at(lists, own, left, right, i + 1)
+    edge_at(lists, t, left, right, i) == edge_at(lists, t, left, right, i + 1)
 }
 
 // Whether the edges behind place j have one number.
-fn has_right(lists: &Rotations, own: &ItemLists<u32>, left: &[u16], right: &[u16], j: usize) -> bool
+fn has_right(lists: &Rotations, t: &FaceNumbers, left: &[u16], right: &[u16], j: usize) -> bool
     requires simple { IsSimpleMap lists.now }
-    requires table { (count : ℕ) × IsTable lists.now own.now count }
+    requires numbers { AreFaceNumbers lists.now t.now.own t.now.other t.now.count }
     requires within { suc j < length left.now + length right.now }
     requires darts { AreEdges lists.now (contour_of left.now right.now) }
-    ensures { IsTrue result ↔ ((suc (suc j) < length left.now + length right.now) × (inner_number lists.now own.now (contour_of left.now right.now) j ≡ inner_number lists.now own.now (contour_of left.now right.now) (suc j))) }
+    ensures { IsTrue result ↔ ((suc (suc j) < length left.now + length right.now) × (inner_number lists.now t.now.own (contour_of left.now right.now) j ≡ inner_number lists.now t.now.own (contour_of left.now right.now) (suc j))) }
 {
-    j + 2 < left.len() + right.len() && same_face(lists, own, left, right, j)
+    j + 2 < left.len() + right.len() && same_face(lists, t, left, right, j)
 }
 
 // Whether the edges before place j have one number.
-fn has_left(lists: &Rotations, own: &ItemLists<u32>, left: &[u16], right: &[u16], j: usize) -> bool
+fn has_left(lists: &Rotations, t: &FaceNumbers, left: &[u16], right: &[u16], j: usize) -> bool
     requires simple { IsSimpleMap lists.now }
-    requires table { (count : ℕ) × IsTable lists.now own.now count }
+    requires numbers { AreFaceNumbers lists.now t.now.own t.now.other t.now.count }
     requires within { j < length left.now + length right.now }
     requires darts { AreEdges lists.now (contour_of left.now right.now) }
-    ensures yes { IsTrue result → (h : ℕ) × (suc (suc h) ≡ j) × (inner_number lists.now own.now (contour_of left.now right.now) h ≡ inner_number lists.now own.now (contour_of left.now right.now) (suc h)) }
-    ensures no { (h : ℕ) → suc (suc h) ≡ j → inner_number lists.now own.now (contour_of left.now right.now) h ≡ inner_number lists.now own.now (contour_of left.now right.now) (suc h) → IsTrue result }
+    ensures yes { IsTrue result → (h : ℕ) × (suc (suc h) ≡ j) × (inner_number lists.now t.now.own (contour_of left.now right.now) h ≡ inner_number lists.now t.now.own (contour_of left.now right.now) (suc h)) }
+    ensures no { (h : ℕ) → suc (suc h) ≡ j → inner_number lists.now t.now.own (contour_of left.now right.now) h ≡ inner_number lists.now t.now.own (contour_of left.now right.now) (suc h) → IsTrue result }
 {
-    j >= 2 && same_face(lists, own, left, right, j - 2)
+    j >= 2 && same_face(lists, t, left, right, j - 2)
 }
 
 /// Takes the marks of the numbers of a row away.
@@ -255,10 +255,10 @@ fn take_at(
     let _edges = edges;
     let _base = (s, d);
     let j = left.len() - 1;
-    if has_right(lists, &t.own, left, right, j) {
-        clear_one(marks, edge_at(lists, &t.own, left, right, j));
-    } else if has_left(lists, &t.own, left, right, j) {
-        clear_one(marks, edge_at(lists, &t.own, left, right, j - 1));
+    if has_right(lists, t, left, right, j) {
+        clear_one(marks, edge_at(lists, t, left, right, j));
+    } else if has_left(lists, t, left, right, j) {
+        clear_one(marks, edge_at(lists, t, left, right, j - 1));
     } else {
         clear_row(marks, t.own.list(left[j] as usize));
     }
@@ -268,36 +268,32 @@ fn take_at(
 fn is_kept(
     marks: &[bool],
     lists: &Rotations,
-    own: &ItemLists<u32>,
+    t: &FaceNumbers,
     left: &[u16],
     right: &[u16],
     i: usize,
 ) -> bool
     requires simple { IsSimpleMap lists.now }
-    requires table { IsTable lists.now own.now (length marks.now) }
+    requires numbers { AreFaceNumbers lists.now t.now.own t.now.other t.now.count }
+    requires table { IsTable lists.now t.now.own (length marks.now) }
     requires within { suc i < length left.now + length right.now }
     requires darts { AreEdges lists.now (contour_of left.now right.now) }
-    ensures { result ≡ is_set marks.now (inner_number lists.now own.now (contour_of left.now right.now) i) }
+    ensures { result ≡ is_set marks.now (inner_number lists.now t.now.own (contour_of left.now right.now) i) }
 {
-    marks[edge_at(lists, own, left, right, i) as usize]
+    marks[edge_at(lists, t, left, right, i) as usize]
 }
 
 // Where the edges without marks end, from the vertex before the place on.
-fn end_of(
-    marks: &[bool],
-    lists: &Rotations,
-    own: &ItemLists<u32>,
-    left: &[u16],
-    right: &[u16],
-) -> usize
+fn end_of(marks: &[bool], lists: &Rotations, t: &FaceNumbers, left: &[u16], right: &[u16]) -> usize
     requires simple { IsSimpleMap lists.now }
-    requires table { IsTable lists.now own.now (length marks.now) }
+    requires numbers { AreFaceNumbers lists.now t.now.own t.now.other t.now.count }
+    requires table { IsTable lists.now t.now.own (length marks.now) }
     requires some { 0 < length left.now }
     requires darts { AreEdges lists.now (contour_of left.now right.now) }
-    ensures { (first end j : ℕ) → suc j ≡ length left.now → first ≤ j → j ≤ end → IsGoneRun lists.now own.now marks.now (contour_of left.now right.now) first end → result ≡ end }
+    ensures { (first end j : ℕ) → suc j ≡ length left.now → first ≤ j → j ≤ end → IsGoneRun lists.now t.now.own marks.now (contour_of left.now right.now) first end → result ≡ end }
 {
     for i in left.len() - 1..left.len() + right.len() - 1 {
-        if is_kept(marks, lists, own, left, right, i) {
+        if is_kept(marks, lists, t, left, right, i) {
             return i;
         }
     }
@@ -308,18 +304,19 @@ fn end_of(
 fn first_of(
     marks: &[bool],
     lists: &Rotations,
-    own: &ItemLists<u32>,
+    t: &FaceNumbers,
     left: &[u16],
     right: &[u16],
 ) -> usize
     requires simple { IsSimpleMap lists.now }
-    requires table { IsTable lists.now own.now (length marks.now) }
+    requires numbers { AreFaceNumbers lists.now t.now.own t.now.other t.now.count }
+    requires table { IsTable lists.now t.now.own (length marks.now) }
     requires some { 0 < length left.now }
     requires darts { AreEdges lists.now (contour_of left.now right.now) }
-    ensures { (first end j : ℕ) → suc j ≡ length left.now → first ≤ j → j ≤ end → IsGoneRun lists.now own.now marks.now (contour_of left.now right.now) first end → result ≡ first }
+    ensures { (first end j : ℕ) → suc j ≡ length left.now → first ≤ j → j ≤ end → IsGoneRun lists.now t.now.own marks.now (contour_of left.now right.now) first end → result ≡ first }
 {
     for k in 1..left.len() {
-        if is_kept(marks, lists, own, left, right, left.len() - 1 - k) {
+        if is_kept(marks, lists, t, left, right, left.len() - 1 - k) {
             return left.len() - k;
         }
     }
@@ -351,7 +348,7 @@ pub(crate) fn take_run(
 {
     take_at(marks, lists, t, left, right, s, d, places, edges);
     (
-        first_of(marks, lists, &t.own, left, right),
-        end_of(marks, lists, &t.own, left, right),
+        first_of(marks, lists, t, left, right),
+        end_of(marks, lists, t, left, right),
     )
 }

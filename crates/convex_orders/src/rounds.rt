@@ -47,9 +47,9 @@ fn advance(
     ensures left { IfOk result (λ _. 0 < length left.new.items) }
 {
     let _base = (s, d);
-    let x = take_out(rows, left, right, places, edges, lists, &t.own, first, end)?;
+    let x = take_out(rows, left, right, places, edges, lists, t, first, end)?;
     trace(left, lists, t, marks, x)?;
-    put_in(alloc, rows, left, places, edges, lists, &t.own, first)?;
+    put_in(alloc, rows, left, places, edges, lists, t, first)?;
     Ok(())
 }
 
@@ -152,7 +152,7 @@ pub(crate) fn peel(
     requires left { 0 < length left.old.items }
     ensures { IfOk result (λ _. AreRowsOfRun lists.now s d rows.new) }
 {
-    let base = number_of(lists, &t.own, d, s);
+    let base = number_of(lists, t, d, s);
     for _ in 0..lists.total() {
         if is_last(edges, base, left, right, lists, t, s, d) {
             put_last(rows, left, right, s, d)?;
@@ -183,7 +183,7 @@ fn first_contour(
     ensures shown { IfOk result (λ _. (alive : ℕ → Bool) (w : ℕ → ℕ) (r : ℕ) → IsFirst lists.now s d alive w r → IsShown lists.now t.now.own marks.new s d alive w r) }
     ensures list { IfOk result (λ _. (alive : ℕ → Bool) (w : ℕ → ℕ) (r : ℕ) → IsFirst lists.now s d alive w r → IsListOf left.new.items w r) }
 {
-    let f = number_of(lists, &t.own, s, d);
+    let f = number_of(lists, t, s, d);
     marks[f as usize] = false;
     left.push(d)?;
     trace(left, lists, t, marks, s)?;
@@ -233,7 +233,7 @@ pub(crate) fn begin(
     ensures left { IfOk result (λ _. 0 < length left.new.items) }
 {
     first_contour(marks, left, lists, t, s, d)?;
-    raise_all(places, edges, lists, &t.own, left);
+    raise_all(places, edges, lists, t, left);
     clear_before_base(marks, &t.own, left);
     let r = left.len() - 1;
     advance(

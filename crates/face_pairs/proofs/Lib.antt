@@ -3,3 +3,7 @@ pub mod MarkLemmas
 pub mod WalkMarks
 pub mod PairMarks
 mod Cases
+mod StampLemmas
+mod RingLemmas
+mod ClearLemmas
+mod Bad

@@ -1,2 +1,4 @@
 -- Which vertices the faces of a vertex pass, and marks that tell it.
 pub mod Passing
+pub mod Stamps
+pub mod Clear

@@ -8,6 +8,7 @@ ghost use Rattle.tight_maps.specs.Laws.{IsPlaneUncut};
 ghost use Rattle.face_pairs.specs.Passing.{IsUnused};
 
 use crate::marks::mark_walk;
+use crate::unpaired::is_unpaired;
 use euler_faces::{Faces, faces};
 use half_edges::{DartId, HalfMap, VertexId};
 use std::alloc::{AllocError, Global};
@@ -81,8 +82,9 @@ fn first_pair(map: &HalfMap, faces: &Faces, marks: &mut [u16]) -> Option<(Vertex
 /// The least separating pair of a map of genus zero without cut vertices, by its first vertex and then by
 /// its second, or None exactly where there is none.
 ///
-/// It fails only for want of memory. The memory is linear in the vertices and the darts. The time is the sum
-/// of the lengths of faces over the darts: linear where faces are short, quadratic at most.
+/// It fails only for want of memory. The memory is linear in the vertices and the darts, and so is the time where a
+/// connected map of at least four vertices has no such pair. Elsewhere the time is the sum of the lengths of faces over
+/// the darts: quadratic at most.
 pub fn plane_separating_pair(
     alloc: Global,
     map: &HalfMap,
@@ -93,6 +95,9 @@ pub fn plane_separating_pair(
 {
     map.facts();
     let faces = faces(alloc, map)?;
+    if is_unpaired(alloc, map, &faces)? {
+        return Ok(None);
+    }
     let mut marks = vec![in alloc; map.n(); map.n() as usize]?;
     let pair = first_pair(map, &faces, &mut marks);
     Ok(pair)

@@ -6,9 +6,6 @@ use Rattle.contour_counts.proofs.Rows.{entry-lt}
 use Rattle.contour_counts.proofs.CountLemmas.{raised, counted, edges_to}
 use Rattle.contour_counts.proofs.counts.raise_edges.Goals as goal
 
-pub number_of-f-requires-clause-table : goal.number_of-f-requires-clause-table
-number_of-f-requires-clause-table c = (length c.args.edges.now, c.requires.table)
-
 pub number_of-f-requires-clause-dart : goal.number_of-f-requires-clause-dart
 number_of-f-requires-clause-dart c =
     let i = c.loop-i.i in
@@ -22,8 +19,8 @@ bounds-edges-f c =
     let same = c.loop-i.auto.edges in
     let has = c.requires.edges i (omega (arith, c.loop-i-test.true)) in
     let z : i + 1 ≡ suc i = omega arith in
-    let x_is = c.number_of-f.ensures ∙ ap (λ k. entry c.args.lists.now c.args.own.now (get_or vs k 0) (get_or vs i 0)) z in
-    omega (arith, x_is, entry-lt c.args.lists.now c.args.own.now (length c.args.edges.now) c.requires.table (get_or vs (suc i) 0) (get_or vs i 0) has, same)
+    let x_is = c.number_of-f.ensures ∙ ap (λ k. entry c.args.lists.now c.args.t.now.own (get_or vs k 0) (get_or vs i 0)) z in
+    omega (arith, x_is, entry-lt c.args.lists.now c.args.t.now.own (length c.args.edges.now) c.requires.table (get_or vs (suc i) 0) (get_or vs i 0) has, same)
 
 pub bounds-edges-f-in-loop-i : goal.bounds-edges-f-in-loop-i
 bounds-edges-f-in-loop-i c =
@@ -32,8 +29,8 @@ bounds-edges-f-in-loop-i c =
     let same = c.loop-i.auto.edges in
     let has = c.requires.edges i (omega (arith, c.loop-i-test.true)) in
     let z : i + 1 ≡ suc i = omega arith in
-    let x_is = c.number_of-f.ensures ∙ ap (λ k. entry c.args.lists.now c.args.own.now (get_or vs k 0) (get_or vs i 0)) z in
-    omega (arith, x_is, entry-lt c.args.lists.now c.args.own.now (length c.args.edges.now) c.requires.table (get_or vs (suc i) 0) (get_or vs i 0) has, same)
+    let x_is = c.number_of-f.ensures ∙ ap (λ k. entry c.args.lists.now c.args.t.now.own (get_or vs k 0) (get_or vs i 0)) z in
+    omega (arith, x_is, entry-lt c.args.lists.now c.args.t.now.own (length c.args.edges.now) c.requires.table (get_or vs (suc i) 0) (get_or vs i 0) has, same)
 
 pub overflow_add-edges : goal.overflow_add-edges
 overflow_add-edges c =
@@ -43,10 +40,10 @@ overflow_add-edges c =
     let same = c.loop-i.auto.edges in
     let has = c.requires.edges i (omega (arith, c.loop-i-test.true)) in
     let z : i + 1 ≡ suc i = omega arith in
-    let x_is : x ≡ inner_number c.args.lists.now c.args.own.now vs i = c.number_of-f.ensures ∙ ap (λ k. entry c.args.lists.now c.args.own.now (get_or vs k 0) (get_or vs i 0)) z in
-    let l : x < length c.loop-i.edges = omega (arith, x_is, entry-lt c.args.lists.now c.args.own.now (length c.args.edges.now) c.requires.table (get_or vs (suc i) 0) (get_or vs i 0) has, same) in
-    let within = edges_to c.args.lists.now c.args.own.now vs i (length vs - 1) x c.loop-i-test.true in
-    let one = counted c.args.lists.now c.args.own.now vs c.loop-i.edges c.args.edges.now i x x_is l in
+    let x_is : x ≡ inner_number c.args.lists.now c.args.t.now.own vs i = c.number_of-f.ensures ∙ ap (λ k. entry c.args.lists.now c.args.t.now.own (get_or vs k 0) (get_or vs i 0)) z in
+    let l : x < length c.loop-i.edges = omega (arith, x_is, entry-lt c.args.lists.now c.args.t.now.own (length c.args.edges.now) c.requires.table (get_or vs (suc i) 0) (get_or vs i 0) has, same) in
+    let within = edges_to c.args.lists.now c.args.t.now.own vs i (length vs - 1) x c.loop-i-test.true in
+    let one = counted c.args.lists.now c.args.t.now.own vs c.loop-i.edges c.args.edges.now i x x_is l in
     omega (arith, within, one, c.loop-i.invariant x l, c.requires.room x (omega arith))
 
 pub loop-i-preserved : goal.loop-i-preserved
@@ -57,6 +54,6 @@ loop-i-preserved c =
     let same = c.loop-i.auto.edges in
     let has = c.requires.edges i (omega (arith, c.loop-i-test.true)) in
     let z : i + 1 ≡ suc i = omega arith in
-    let x_is : x ≡ inner_number c.args.lists.now c.args.own.now vs i = c.number_of-f.ensures ∙ ap (λ k. entry c.args.lists.now c.args.own.now (get_or vs k 0) (get_or vs i 0)) z in
-    let l : x < length c.loop-i.edges = omega (arith, x_is, entry-lt c.args.lists.now c.args.own.now (length c.args.edges.now) c.requires.table (get_or vs (suc i) 0) (get_or vs i 0) has, same) in
-    λ f m. raised c.args.lists.now c.args.own.now vs c.loop-i.edges c.args.edges.now i x x_is l c.loop-i.invariant f (omega (arith, m, length-set c.loop-i.edges x (slice_index c.loop-i.edges x + 1)))
+    let x_is : x ≡ inner_number c.args.lists.now c.args.t.now.own vs i = c.number_of-f.ensures ∙ ap (λ k. entry c.args.lists.now c.args.t.now.own (get_or vs k 0) (get_or vs i 0)) z in
+    let l : x < length c.loop-i.edges = omega (arith, x_is, entry-lt c.args.lists.now c.args.t.now.own (length c.args.edges.now) c.requires.table (get_or vs (suc i) 0) (get_or vs i 0) has, same) in
+    λ f m. raised c.args.lists.now c.args.t.now.own vs c.loop-i.edges c.args.edges.now i x x_is l c.loop-i.invariant f (omega (arith, m, length-set c.loop-i.edges x (slice_index c.loop-i.edges x + 1)))

@@ -1,14 +1,11 @@
-use Rattle.std.proofs.Common.{ℕ, List, ◌<◌, ◌≡◌, length, get_or, sym, ap, ◌∙◌, subst}
-use Rattle.map_definitions.specs.Maps.{list_of}
-use Rattle.contour_counts.proofs.Rows.{entry_of_place}
+use Rattle.std.proofs.Common.{◌∙◌}
 use Rattle.contour_counts.proofs.numbers.number_of.Goals as goal
 
-pub returns : goal.returns
-returns c =
-    let lists = c.args.lists.now in
-    let x = c.args.x in
-    let k = c.place_in-k.result in
-    let e = c.list.ensures in
-    let m : k < length (list_of lists x) = subst (λ (z : List ℕ). k < length z) e c.place_in-k.ensures.within in
-    let at : get_or (list_of lists x) k 0 ≡ c.args.y = ap (λ (z : List ℕ). get_or z k 0) (sym e) ∙ c.place_in-k.ensures.here in
-    ap (λ (z : List ℕ). get_or z k 0) c.list-2.ensures ∙ entry_of_place lists c.args.own.now c.requires.simple x c.args.y k c.requires.dart m at
+pub list-requires-2 : goal.list-requires-2
+list-requires-2 c = c.requires.simple.in_range c.args.x c.args.y c.requires.dart
+
+pub number_in-requires-else-list-clause-dart : goal.number_in-requires-else-list-clause-dart
+number_in-requires-else-list-clause-dart c = c.requires.simple.both_ways c.args.x c.args.y c.requires.dart
+
+pub returns-else-list : goal.returns-else-list
+returns-else-list c = c.number_in-else-list.ensures ∙ c.requires.numbers.back c.args.y c.args.x (c.requires.simple.both_ways c.args.x c.args.y c.requires.dart)
