@@ -1,0 +1,4 @@
+-- The lemmas on the search.
+mod Marks
+mod Searching
+mod CountLemmas

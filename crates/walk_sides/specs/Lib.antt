@@ -1,0 +1,3 @@
+-- The faces inside a closed walk.
+pub mod Inside
+pub mod Search

@@ -1,0 +1,7 @@
+//! The faces inside a closed walk, counted by a search of the faces.
+#![tactic(auto)]
+
+mod count;
+mod search;
+
+pub use count::inside_count;
