@@ -1,0 +1,4 @@
+-- Regions of convex woods.
+pub mod Regions
+pub mod Laws
+pub mod Passing
