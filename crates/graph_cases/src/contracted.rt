@@ -51,10 +51,12 @@ fn line_of(alloc: Global, line: &[u8], a: u16, b: u16) -> Result<Vec<u8>, Fail> 
 
 #[test]
 fn an_edge_is_contracted(rt: HostRuntime) -> Result<(), Fail> {
-    let rows: [(&[u8], u16, u16, &[u8]); 6] = [
+    let rows: [(&[u8], u16, u16, &[u8]); 8] = [
         (b"D|s", 1, 2, b"C~"),
         (b"D|s", 0, 1, b"C|"),
         (b"D~{", 0, 1, b"C~"),
+        (b"D~{", 1, 3, b"C~"),
+        (b"D~{", 3, 4, b"C~"),
         (b"C|", 0, 2, b"Bo"),
         (b"C|", 0, 1, b"Bw"),
         (b"A_", 0, 1, b"@"),

@@ -1,4 +1,4 @@
-//! The graphs of six vertices in which the edge of 0 and 5 contracted leaves K5.
+//! The graphs of six vertices in which the edge of 0 and 5 contracted leaves K5, and K3,3 with an edge in two.
 use contracted_graphs::contract;
 use graph6_text::{Graph, read_line};
 use kuratowski::{Kind, Witness, WitnessVerdict, check_witness};
@@ -7,18 +7,25 @@ use map_lists::{Ends, PathList, VertexId, VertexList};
 use std::alloc::{AllocError, Global};
 use std::test::Fail;
 
-// The branches 0 to 4, each two joined by an edge.
-fn five(alloc: Global) -> Result<Witness, AllocError> {
+// The branches from 0 on, joined by edges.
+fn plain(alloc: Global, kind: Kind) -> Result<Witness, AllocError> {
+    let (count, ends) = if kind == Kind::K5 {
+        (5u16, 5u16)
+    } else {
+        (6, 3)
+    };
     let mut branch = VertexList::new(alloc);
     let mut paths = PathList::new(alloc);
-    for a in 0..5u16 {
+    for a in 0..count {
         branch.push(VertexId(a))?;
-        for b in a + 1..5 {
-            paths.push(&[VertexId(a), VertexId(b)])?;
+        for b in 0..count {
+            if a < ends && a < b && (kind == Kind::K5 || b >= ends) {
+                paths.push(&[VertexId(a), VertexId(b)])?;
+            }
         }
     }
     Ok(Witness {
-        kind: Kind::K5,
+        kind,
         branch,
         paths,
     })
@@ -45,13 +52,14 @@ fn lifted(
 }
 
 // The kind and the first path of the witness that comes out.
-fn outcome(rt: &HostRuntime, line: &[u8]) -> Result<(Kind, usize, usize), Fail> {
+fn outcome(
+    rt: &HostRuntime,
+    line: &[u8],
+    kind: Kind,
+    e: Ends,
+) -> Result<(Kind, usize, usize), Fail> {
     let alloc = rt.alloc();
-    let e = Ends {
-        a: VertexId(0),
-        b: VertexId(5),
-    };
-    let witness = five(alloc)?;
+    let witness = plain(alloc, kind)?;
     match read_line(alloc, line) {
         Ok(graph) => match lifted(alloc, &graph, e, &witness)? {
             Some(new) => {
@@ -79,7 +87,28 @@ fn six_vertices(rt: HostRuntime) -> Result<(), Fail> {
         (b"Ez]W", Kind::K33, 9, 18),
     ];
     for (line, kind, paths, vertices) in rows {
-        assert_eq!(rt; outcome(&rt, line)?, (kind, paths, vertices), "at {line:?}");
+        let e = Ends {
+            a: VertexId(0),
+            b: VertexId(5),
+        };
+        assert_eq!(rt;
+            outcome(&rt, line, Kind::K5, e)?,
+            (kind, paths, vertices),
+            "at {line:?}"
+        );
+    }
+    Ok(())
+}
+
+#[test]
+fn a_path_of_two_edges(rt: HostRuntime) -> Result<(), Fail> {
+    // 6 is between 0 and 3
+    for a in [0u16, 3] {
+        let e = Ends {
+            a: VertexId(a),
+            b: VertexId(6),
+        };
+        assert_eq!(rt; outcome(&rt, b"FBzc_", Kind::K33, e)?, (Kind::K33, 9, 19));
     }
     Ok(())
 }

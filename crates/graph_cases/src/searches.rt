@@ -89,7 +89,7 @@ fn search(alloc: Global, graph: &Graph) -> Result<Found, AllocError> {
 
 #[test]
 fn searches_are_checked(rt: HostRuntime) -> Result<(), Fail> {
-    let rows: [(&[u8], Found); 12] = [
+    let rows: [(&[u8], Found); 13] = [
         (b"@", Found::Plane),
         (b"B?", Found::Plane),
         (b"C`", Found::Plane),
@@ -100,6 +100,7 @@ fn searches_are_checked(rt: HostRuntime) -> Result<(), Fail> {
         (b"F~CWw", Found::Plane),
         (b"D~{", Found::K5),
         (b"EFz_", Found::K33),
+        (b"FBzc_", Found::K33),
         (b"IheA@GUAo", Found::K33),
         (b"N?BDCaGWA_H?K?I?B??", Found::K5),
     ];
@@ -129,5 +130,31 @@ fn one_graph_of_five_vertices_lies_in_no_plane(rt: HostRuntime) -> Result<(), Fa
             }
         }
     }
+    Ok(())
+}
+
+#[test]
+fn most_graphs_of_six_vertices_are_planar(rt: HostRuntime) -> Result<(), Fail> {
+    let mut planar: u32 = 0;
+    for code in 0..1u32 << 15 {
+        let bits = [code >> 9 & 63, code >> 3 & 63, (code & 7) << 3];
+        let line = [
+            69,
+            bits[0] as u8 + 63,
+            bits[1] as u8 + 63,
+            bits[2] as u8 + 63,
+        ];
+        match read_line(rt.alloc(), line.as_slice()) {
+            Ok(graph) => {
+                let found = search(rt.alloc(), &graph)?;
+                assert!(rt; found != Found::Wrong, "at {code}");
+                if found == Found::Plane {
+                    planar = planar.wrapping_add(1);
+                }
+            }
+            Err(_) => return Err(Fail::from("no line")),
+        }
+    }
+    assert_eq!(rt; planar, 32071);
     Ok(())
 }

@@ -1,6 +1,9 @@
 //! Inputs and texts of `embed`, worked out by hand.
 use crate::runs::run_over;
+use half_edges::Rotations;
+use map_gen::stacked;
 use pg_io::{MemSource, SureSource};
+use std::alloc::{AllocError, Global};
 use std::test::Fail;
 
 const ROWS: [(&[&str], &str, &str, &str, u8); 20] = [
@@ -152,13 +155,16 @@ fn each_graph_is_drawn_or_refuted(rt: HostRuntime) -> Result<(), Fail> {
 }
 
 // The octahedron, the icosahedron, the cube, a star, K4 and two triangles.
-const PLANAR: &str = "E|tw\nK|fJ@cXBIK_^\nGr`HOk\nEsa?\nC~\nEwCW\n";
+const PLANAR: &str = "E|tw\nK|fJ@cXBIK_^\nGl`HGs\nEsa?\nC~\nEwCW\n";
 // Petersen's graph, that of Heawood, K6, K5 with an edge made a path, K3,3 with an edge more, and K3,3.
 const OTHERS: &str = "IheA@GUAo\nMhEGHC@AI?_PC@_G_\nE~~w\nE^~?\nEfz_\nEFz_\n";
 
+// Behind the header a four-cycle; K5, K3,3, K3,3 with an edge in two, two of K5 with a vertex in common, and a wheel.
+const MORE: &str = ">>graph6<<Cl\nD~{\nEFz_\nFBzc_\nH~{GW[N\nF~CWw\n";
+
 #[test]
 fn what_is_written_is_valid(rt: HostRuntime) -> Result<(), Fail> {
-    for input in [PLANAR, OTHERS] {
+    for input in [PLANAR, OTHERS, MORE] {
         let mut source = SureSource::new(Vec::from_slice(rt.alloc(), input.as_bytes())?, 64);
         let drawn = run_over(rt.alloc(), &["embed"], &mut source, 64, &[])?;
         let mut figures = SureSource::new(drawn.text, 64);
@@ -168,6 +174,64 @@ fn what_is_written_is_valid(rt: HostRuntime) -> Result<(), Fail> {
             b"verdict 1 yes\nverdict 2 yes\nverdict 3 yes\nverdict 4 yes\nverdict 5 yes\nverdict 6 yes\nend records 6 refused 0\n".as_slice()
         );
     }
+    Ok(())
+}
+
+// The bit of a pair joins the line of a graph, if the pair is in order.
+fn join(line: &mut Vec<u8>, u: usize, v: usize) {
+    let place = (v.wrapping_mul(v.wrapping_sub(1)) / 2).wrapping_add(u);
+    let at = (place / 6).wrapping_add(4);
+    if u < v && at < line.len() {
+        line[at] = line[at].wrapping_add(32u8 >> (place % 6));
+    }
+}
+
+// The line of a graph of 255 vertices with the edges of a map.
+fn line_of(alloc: Global, lists: &Rotations) -> Result<Vec<u8>, AllocError> {
+    let mut line = Vec::from_slice(alloc, b"~?B~")?;
+    line.extend_from_slice(&vec![in alloc; 63u8; 5398]?)?;
+    for v in 0..lists.len() {
+        for u in lists.list(v) {
+            join(&mut line, usize::from(*u), v);
+        }
+    }
+    Ok(line)
+}
+
+// Has the graph of a line drawn or refuted, and that judged.
+fn is_answered_well(alloc: Global, line: Vec<u8>, beginning: &str) -> Result<bool, AllocError> {
+    let mut source = SureSource::new(line, 4096);
+    let drawn = run_over(alloc, &["embed"], &mut source, 4096, &[])?;
+    let begins = drawn.text.starts_with(beginning.as_bytes());
+    let mut figures = SureSource::new(drawn.text, 4096);
+    let ran = run_over(alloc, &["verify"], &mut figures, 4096, &[])?;
+    Ok(begins && ran.text.as_slice() == b"verdict 1 yes\nend records 1 refused 0\n".as_slice())
+}
+
+#[test]
+fn as_many_edges_as_can_be_drawn_and_more(rt: HostRuntime) -> Result<(), Fail> {
+    for more in [false, true] {
+        let mut line = line_of(rt.alloc(), &stacked(rt.alloc(), 255, 1)?)?;
+        if more {
+            join(&mut line, 253, 254);
+        }
+        line.push(10)?;
+        let beginning = if more {
+            "figure 1 witness K"
+        } else {
+            "figure 1 schnyder 255\n"
+        };
+        assert!(rt; is_answered_well(rt.alloc(), line, beginning)?, "{more}");
+    }
+    Ok(())
+}
+
+#[test]
+fn all_edges(rt: HostRuntime) -> Result<(), Fail> {
+    let mut line = Vec::from_slice(rt.alloc(), b"~?B~")?;
+    line.extend_from_slice(&vec![in rt.alloc(); 126u8; 5397]?)?;
+    line.extend_from_slice(b"w\n")?;
+    assert!(rt; is_answered_well(rt.alloc(), line, "figure 1 witness K")?);
     Ok(())
 }
 

@@ -50,60 +50,94 @@ fn cell(columns: u16, i: u16, j: u16) -> u16 {
     j.wrapping_mul(columns).wrapping_add(i).wrapping_add(4)
 }
 
+// Where there is no cell.
+const NONE: u16 = u16::MAX;
+
+// The cell there, or else what stands for it.
+fn cell_or(columns: u16, rows: u16, i: u16, j: u16, other: u16) -> u16 {
+    if i < columns && j < rows {
+        cell(columns, i, j)
+    } else {
+        other
+    }
+}
+
 // The neighbours of that cell: above, to the right, below and to the left, and along diagonals that rise.
-fn around(alloc: Global, columns: u16, rows: u16, i: u16, j: u16) -> Result<Vec<u16>, AllocError> {
+fn around(columns: u16, rows: u16, i: u16, j: u16) -> [u16; 6] {
     let (right, above) = (i.wrapping_add(1), j.wrapping_add(1));
     let (left, below) = (i.wrapping_sub(1), j.wrapping_sub(1));
+    [
+        cell_or(columns, rows, i, above, 1),
+        cell_or(columns, rows, right, above, NONE),
+        cell_or(columns, rows, right, j, 2),
+        cell_or(columns, rows, i, below, 3),
+        cell_or(columns, rows, left, below, NONE),
+        cell_or(columns, rows, left, j, 0),
+    ]
+}
+
+// Those of six numbers that stand for something.
+fn some_of(alloc: Global, numbers: [u16; 6]) -> Result<Vec<u16>, AllocError> {
     let mut list = Vec::new(alloc);
-    list.push(if above < rows {
-        cell(columns, i, above)
-    } else {
-        1
-    })?;
-    if above < rows && right < columns {
-        list.push(cell(columns, right, above))?;
+    for number in numbers {
+        if number != NONE {
+            list.push(number)?;
+        }
     }
-    list.push(if right < columns {
-        cell(columns, right, j)
-    } else {
-        2
-    })?;
-    list.push(if j > 0 { cell(columns, i, below) } else { 3 })?;
-    if i > 0 && j > 0 {
-        list.push(cell(columns, left, below))?;
-    }
-    list.push(if i > 0 { cell(columns, left, j) } else { 0 })?;
     Ok(list)
 }
 
-// A grid of cells with diagonals, within a quadrangle of which each vertex is joined to one side.
-fn grid(alloc: Global, columns: u16, rows: u16) -> Result<Rotations, AllocError> {
-    let (last, top) = (columns.wrapping_sub(1), rows.wrapping_sub(1));
-    let mut left = Vec::from_slice(alloc, [1].as_slice())?;
-    let mut right = Vec::from_slice(alloc, [3].as_slice())?;
-    for j in 0..rows {
-        left.push(cell(columns, 0, top.wrapping_sub(j)))?;
-        right.push(cell(columns, last, j))?;
+// So many numbers, each one step behind the one before it, between two others.
+fn side(
+    alloc: Global,
+    ends: (u16, u16),
+    first: u16,
+    step: u16,
+    count: u16,
+) -> Result<Vec<u16>, AllocError> {
+    let mut list = Vec::new(alloc);
+    list.push(ends.0)?;
+    let mut number = first;
+    for _ in 0..count {
+        list.push(number)?;
+        number = number.wrapping_add(step);
     }
-    left.push(3)?;
-    right.push(1)?;
-    let mut upper = Vec::from_slice(alloc, [2].as_slice())?;
-    let mut lower = Vec::from_slice(alloc, [0].as_slice())?;
-    for i in 0..columns {
-        upper.push(cell(columns, last.wrapping_sub(i), top))?;
-        lower.push(cell(columns, i, 0))?;
-    }
-    upper.push(0)?;
-    lower.push(2)?;
-    let mut lists = Rotations::new(alloc);
-    for list in [&left, &upper, &right, &lower] {
-        lists.push(list)?;
-    }
+    list.push(ends.1)?;
+    Ok(list)
+}
+
+// Appends the lists of the cells.
+fn push_cells(
+    alloc: Global,
+    lists: &mut Rotations,
+    columns: u16,
+    rows: u16,
+) -> Result<(), AllocError> {
     for j in 0..rows {
         for i in 0..columns {
-            lists.push(&around(alloc, columns, rows, i, j)?)?;
+            lists.push(&some_of(alloc, around(columns, rows, i, j))?)?;
         }
     }
+    Ok(())
+}
+
+// A grid of cells with diagonals, within a quadrangle of which each vertex is joined to one side: the left one,
+// the upper, the right and the lower.
+fn grid(alloc: Global, columns: u16, rows: u16) -> Result<Rotations, AllocError> {
+    let (last, top) = (columns.wrapping_sub(1), rows.wrapping_sub(1));
+    let (up, right) = (columns, 1u16);
+    let (down, left) = (up.wrapping_neg(), right.wrapping_neg());
+    let sides = [
+        ((1, 3), cell(columns, 0, top), down, rows),
+        ((2, 0), cell(columns, last, top), left, columns),
+        ((3, 1), cell(columns, last, 0), up, rows),
+        ((0, 2), cell(columns, 0, 0), right, columns),
+    ];
+    let mut lists = Rotations::new(alloc);
+    for (ends, first, step, count) in sides {
+        lists.push(&side(alloc, ends, first, step, count)?)?;
+    }
+    push_cells(alloc, &mut lists, columns, rows)?;
     Ok(lists)
 }
 

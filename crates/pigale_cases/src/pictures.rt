@@ -12,7 +12,7 @@ use std::alloc::{AllocError, Global};
 use std::test::Fail;
 use svg_out::svg;
 
-const ROWS: [(&[&str], &str, &[u8], &str, u8); 9] = [
+const ROWS: [(&[&str], &str, &[u8], &str, u8); 10] = [
     (
         &["shift", "--form", "svg"],
         "a triangle",
@@ -104,6 +104,25 @@ const ROWS: [(&[&str], &str, &[u8], &str, u8); 9] = [
         b"\x04\x02\x04\x03\x00\x01\x03\x00\x04\x02\x01\x00\x01\x03\x00",
         "<!-- refused 1 9 SeparatingPair 1 3 -->\n<!-- end records 1 refused 1 -->\n",
         1,
+    ),
+    (
+        &["convex", "--form", "svg"],
+        "a K4 with convex faces",
+        b"\x04\x02\x03\x04\x00\x01\x04\x03\x00\x01\x02\x04\x00\x01\x03\x02\x00",
+        "<svg xmlns=\"http://www.w3.org/2000/svg\" viewBox=\"-10 -10 50 50\">\n\
+<line x1=\"0\" y1=\"0\" x2=\"30\" y2=\"30\" stroke=\"black\"/>\n\
+<line x1=\"0\" y1=\"0\" x2=\"10\" y2=\"20\" stroke=\"black\"/>\n\
+<line x1=\"0\" y1=\"0\" x2=\"0\" y2=\"30\" stroke=\"black\"/>\n\
+<line x1=\"30\" y1=\"30\" x2=\"10\" y2=\"20\" stroke=\"black\"/>\n\
+<line x1=\"30\" y1=\"30\" x2=\"0\" y2=\"30\" stroke=\"black\"/>\n\
+<line x1=\"10\" y1=\"20\" x2=\"0\" y2=\"30\" stroke=\"black\"/>\n\
+<circle cx=\"0\" cy=\"0\" r=\"3\"/>\n\
+<circle cx=\"30\" cy=\"30\" r=\"3\"/>\n\
+<circle cx=\"10\" cy=\"20\" r=\"3\"/>\n\
+<circle cx=\"0\" cy=\"30\" r=\"3\"/>\n\
+</svg>\n\
+<!-- end records 1 refused 0 -->\n",
+        0,
     ),
 ];
 

@@ -310,7 +310,7 @@ const WITNESSES: [(&str, &str, &str, u8); 13] = [
     ),
 ];
 
-const RECTS: [(&str, &str, &str, u8); 17] = [
+const RECTS: [(&str, &str, &str, u8); 18] = [
     (
         "a wheel as rectangles",
         "figure 1 rect 5\n1 x 0 1 y 1 2: 2 5 4\n2 x 0 3 y 2 3: 3 5 1\n3 x 2 3 y 1 2: 4 5 2\n4 x 0 3 y 0 1: 1 5 3\n5 x 1 2 y 1 2: 1 2 3 4\n",
@@ -388,6 +388,12 @@ const RECTS: [(&str, &str, &str, u8); 17] = [
         "figure 1 rect 1\n1 x 0 1 y 0 1048577:\n",
         "stop Limit 2\n",
         3,
+    ),
+    (
+        "a K4 beside the grid of its faces",
+        "figure 1 convex 4\n1 at 0 3: 2 3 4\n2 at 4 0: 1 4 3\n3 at 1 1: 1 2 4\n4 at 0 0: 1 3 2\n",
+        "verdict 1 OutOfGrid 2\nend records 1 refused 1\n",
+        1,
     ),
     (
         "a K4 with convex faces",
