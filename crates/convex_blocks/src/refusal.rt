@@ -5,7 +5,7 @@ use plane_blocks::BlockRefusal;
 use std::alloc::AllocError;
 
 /// The first condition that a record breaks, in this order.
-#[derive(Clone, Copy, Debug, PartialEq, Eq)]
+#[derive(Clone, Copy, PartialEq, Eq)]
 pub enum ConvexRefusal {
     /// It is no map in one block with at least four vertices, or there was not enough memory.
     Block(BlockRefusal),

@@ -4,7 +4,7 @@ use half_edges::MapFault;
 use std::alloc::AllocError;
 
 /// Why a record gets no drawing in a grid: the first condition that it breaks, in this order.
-#[derive(Clone, Copy, Debug, PartialEq, Eq)]
+#[derive(Clone, Copy, PartialEq, Eq)]
 pub enum DrawRefusal {
     /// The lists are no simple map, or there was not enough memory.
     Fault(MapFault),

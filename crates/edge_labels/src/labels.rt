@@ -6,7 +6,7 @@ use map_lists::DartId;
 use std::marker::Model;
 
 /// How an edge stands at the vertex that one of its darts leaves.
-#[derive(Clone, Copy, Debug, PartialEq, Eq)]
+#[derive(Clone, Copy, PartialEq, Eq)]
 pub enum Label {
     /// A rise that leaves the vertex.
     RiseOut,

@@ -17,7 +17,7 @@ use simple_maps::{MapFault, fill_slots};
 use std::alloc::{AllocError, Global};
 
 /// How many vertices, edges, faces and components a map has, each at most 2^24.
-#[derive(Clone, Copy, Debug, PartialEq, Eq)]
+#[derive(Clone, Copy, PartialEq, Eq)]
 pub struct EulerCount {
     /// The vertices.
     pub n: u32,

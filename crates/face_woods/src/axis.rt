@@ -1,7 +1,7 @@
 //! The three axes of a wood.
 
 /// One of the three axes, which are counted cyclically.
-#[derive(Clone, Copy, Debug, PartialEq, Eq)]
+#[derive(Clone, Copy, PartialEq, Eq)]
 pub enum Axis {
     /// The axis on which the head of the base is farthest out.
     One,

@@ -1,7 +1,7 @@
 //! How an input of figures ends.
 
 /// How an input of figures ends.
-#[derive(Clone, Copy, Debug, PartialEq, Eq)]
+#[derive(Clone, Copy, PartialEq, Eq)]
 pub enum Ending {
     /// Outside a figure.
     Well,

@@ -1,7 +1,7 @@
 //! How an input of lines ends.
 
 /// How an input of graph6 lines ends.
-#[derive(Clone, Copy, Debug, PartialEq, Eq)]
+#[derive(Clone, Copy, PartialEq, Eq)]
 pub enum Ending {
     /// Behind a closed line, or with nothing.
     Well,

@@ -12,7 +12,7 @@ use crate::{DartId, Ends, HalfMap, VertexId};
 use std::alloc::AllocError;
 
 /// A place round a vertex, for a new dart.
-#[derive(Clone, Copy, Debug, PartialEq, Eq)]
+#[derive(Clone, Copy, PartialEq, Eq)]
 pub enum Corner {
     /// Directly after this dart, clockwise.
     After(DartId),

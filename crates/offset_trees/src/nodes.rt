@@ -9,7 +9,7 @@ use std::sync::ledger::Ledger;
 
 /// The node of a vertex: how far it stands to the right of the node that leads to it, its height, and the
 /// two vertices to which its links lead.
-#[derive(Clone, Copy, Debug, PartialEq, Eq)]
+#[derive(Clone, Copy, PartialEq, Eq)]
 pub struct Node {
     /// How far it stands to the right of the node that leads to it.
     pub x: i32,

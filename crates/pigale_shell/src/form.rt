@@ -15,7 +15,7 @@ use std::alloc::{AllocError, Global};
 use svg_out::{svg_bars, svg_grid, svg_rects, svg_witness};
 
 /// How a job that draws writes its figures.
-#[derive(Clone, Copy, Debug, PartialEq, Eq)]
+#[derive(Clone, Copy, PartialEq, Eq)]
 pub enum Form {
     /// As lines of text.
     Text,

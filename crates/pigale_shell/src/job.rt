@@ -6,7 +6,7 @@ ghost use Rattle.pigale_shell.specs.Answer.{job_form};
 use super::form::Form;
 
 /// What a run does with each record of its input.
-#[derive(Clone, Copy, Debug, PartialEq, Eq)]
+#[derive(Clone, Copy, PartialEq, Eq)]
 pub enum Job {
     /// Counts the vertices, edges, faces and components of each map, and gives its genus.
     Count,
@@ -44,7 +44,7 @@ impl Job {
 }
 
 /// How a run ended.
-#[derive(Clone, Copy, Debug, PartialEq, Eq)]
+#[derive(Clone, Copy, PartialEq, Eq)]
 pub enum Status {
     /// The input ended well, and no record was refused.
     Done,
@@ -80,7 +80,7 @@ impl Status {
 }
 
 /// Why words name no job.
-#[derive(Clone, Copy, Debug, PartialEq, Eq)]
+#[derive(Clone, Copy, PartialEq, Eq)]
 pub enum WordFault {
     /// They are those of no job.
     BadWords,

@@ -17,7 +17,7 @@ use rect_blocks::RectRefusal;
 use std::alloc::{AllocError, Global};
 
 /// How the bytes of an input end.
-#[derive(Clone, Copy, Debug, PartialEq, Eq)]
+#[derive(Clone, Copy, PartialEq, Eq)]
 pub enum Ending {
     /// After the last record.
     Well,

@@ -4,7 +4,7 @@ use half_edges::{MapFault, VertexId};
 use std::alloc::AllocError;
 
 /// The first condition that a record breaks, in this order.
-#[derive(Clone, Copy, Debug, PartialEq, Eq)]
+#[derive(Clone, Copy, PartialEq, Eq)]
 pub enum BlockRefusal {
     /// The lists are no simple map, or there was not enough memory.
     Fault(MapFault),

@@ -4,7 +4,7 @@ use half_edges::VertexId;
 use plane_blocks::BlockRefusal;
 
 /// The first condition that a record breaks, in this order.
-#[derive(Clone, Copy, Debug, PartialEq, Eq)]
+#[derive(Clone, Copy, PartialEq, Eq)]
 pub enum RectRefusal {
     /// The record is no map in one block, or there was not enough memory.
     Block(BlockRefusal),

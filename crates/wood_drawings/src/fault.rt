@@ -3,7 +3,7 @@
 use std::alloc::AllocError;
 
 /// Why a completed map with a wood got no drawing.
-#[derive(Clone, Copy, Debug, PartialEq, Eq)]
+#[derive(Clone, Copy, PartialEq, Eq)]
 pub enum SchnyderFault {
     /// There was not enough memory.
     NoMemory,
