@@ -854,7 +854,7 @@ def graph_of_networkx(graph):
 
 def to_sage(lists, places=None):
     """A map as a Sage `Graph` with its embedding, and with positions where `places` has one for each vertex."""
-    from sage.graphs.graph import Graph
+    from sage.all import Graph
     graph = Graph([range(1, len(lists) + 1), edges_of(lists)], format="vertices_and_edges")
     graph.set_embedding({v: list(us) for v, us in enumerate(lists, 1)})
     if places:
