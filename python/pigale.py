@@ -20,6 +20,7 @@ As a command:
   pigale.py check [--scale] FILE    the verdict on a drawing: JSON (nodes with id, x and y, and edges with source and
                                     target) or, where FILE ends in .graphml, GraphML with x and y
   pigale.py stacked S N             planar_code of the map that `pigale gen --size S --number N` makes
+  pigale.py picture < TEXT          the first figure of a text of figures, as one SVG document
   pigale.py page JOB < INPUT        the answers of a job as one HTML page with pictures
 """
 import functools
@@ -693,6 +694,17 @@ def dual(lists):
     return [[left[face[(k + 1) % len(face)], v] for k, v in enumerate(face)][::-1] for face in faces]
 
 
+def outside(lists, v, u):
+    """The map with the face of the dart from v to its neighbour u outside, as the drawing jobs take it.
+
+    Vertices v and 1 exchange their numbers, and the list of vertex 1 then begins with the neighbour that was u.
+    """
+    names = {1: v, v: 1}
+    out = [[names.get(w, w) for w in lists[names.get(x, x) - 1]] for x in range(1, len(lists) + 1)]
+    first = out[0].index(names.get(u, u))
+    return [out[0][first:] + out[0][:first], *out[1:]]
+
+
 def witness_graph(witness):
     """The graph of a witness, as (n, edges): the vertices of its graph, and the edges of its paths alone."""
     n, _ = read_graph6(witness.graph6)
@@ -782,24 +794,30 @@ def grid(rows, columns):
     return rotations_of(points, across + upwards)
 
 
-def quadrangle(rows, columns):
+def quadrangle(rows, columns, is_rising=lambda i, j: False):
     """A map that `rect` draws: `rows` times `columns` vertices as a grid with a diagonal in each cell, within four more.
 
-    Vertex 1 is the left one of these four, and the upper one, which is 2, is the first of its list.
+    Vertex 1 is the left one of these four, and the upper one, which is 2, is the first of its list. The others are
+    numbered along the rows, the upper one first. The diagonal of the cell between rows i and i + 1 and columns j and
+    j + 1, counted from 0, rises to the right where `is_rising(i, j)`.
     """
     left, top, right, bottom = 1, 2, 3, 4
 
-    def beside(i, j):
-        if 0 <= i < rows and 0 <= j < columns:
-            return 5 + i * columns + j
-        if 0 <= i < rows:
-            return left if j < 0 else right
-        if 0 <= j < columns:
-            return top if i < 0 else bottom
-        return None
-
     def inner(i, j):
         return 5 + i * columns + j
+
+    def beside(i, j):
+        if 0 <= i < rows and 0 <= j < columns:
+            return inner(i, j)
+        if 0 <= i < rows:
+            return left if j < 0 else right
+        return top if i < 0 else bottom
+
+    def across(i, j, k, l):
+        """The end (k, l) of the diagonal from (i, j), or nothing where the cell has the other one or is none."""
+        cell = min(i, k), min(j, l)
+        is_cell = 0 <= cell[0] < rows - 1 and 0 <= cell[1] < columns - 1
+        return inner(k, l) if is_cell and is_rising(*cell) == ((k < i) == (l > j)) else None
 
     lists = [[top] + [inner(i, 0) for i in range(rows)] + [bottom],
              [right] + [inner(0, j) for j in reversed(range(columns))] + [left],
@@ -807,11 +825,8 @@ def quadrangle(rows, columns):
              [left] + [inner(rows - 1, j) for j in range(columns)] + [right]]
     for i in range(rows):
         for j in range(columns):
-            around = [beside(i - 1, j), beside(i, j + 1), None, beside(i + 1, j), beside(i, j - 1), None]
-            if i + 1 < rows and j + 1 < columns:
-                around[2] = inner(i + 1, j + 1)
-            if i and j:
-                around[5] = inner(i - 1, j - 1)
+            around = [beside(i - 1, j), across(i, j, i - 1, j + 1), beside(i, j + 1), across(i, j, i + 1, j + 1),
+                      beside(i + 1, j), across(i, j, i + 1, j - 1), beside(i, j - 1), across(i, j, i - 1, j - 1)]
             lists.append([v for v in around if v])
     return lists
 
@@ -875,13 +890,13 @@ STYLE = """line{stroke:var(--line,#222);stroke-linecap:round}
 text{font-family:Helvetica,Arial,sans-serif;fill:var(--text,#111);text-anchor:middle;dominant-baseline:central}
 .halo{stroke:var(--ground,#fff);stroke-width:3;stroke-linejoin:round;paint-order:stroke}
 .onbar{fill:var(--onbar,#fff)}"""
-MARGIN = 18
+MARGIN = 26
 
 
 def picture(figure, side=None, labels=True):
     """A figure as one SVG document on a white ground, as text.
 
-    `side` is the length of the longer side in pixels, by default 300 to 960 by the number of vertices; `labels` says
+    `side` is the length of the longer side in pixels, by default 300 to 1100 by the number of vertices; `labels` says
     whether vertices carry their numbers. Lines and dots have one size on the screen, whatever the grid is. Where there
     is no room for a number, it is left out; each vertex has a title with its number and its neighbours. A witness has
     its branch vertices in two rows (K3,3) or on a circle (K5), and the other edges of its graph thin: it is no drawing
@@ -895,7 +910,7 @@ def picture(figure, side=None, labels=True):
 def _sketch(figure, side, labels):
     """The width and the height of a picture in pixels, and what is in it."""
     count = len(figure.lists) if figure.job != "witness" else read_graph6(figure.graph6)[0]
-    side = side or min(960, 300 + 6 * max(0, count - 12))
+    side = side or min(1100, (300 + 6 * max(0, count - 12)) * (3 if figure.job == "shift" else 2) // 2)
     sketch = {"bars": _bar_sketch, "rect": _rect_sketch, "witness": _witness_sketch}.get(figure.job, _grid_sketch)
     return sketch(figure, side, labels)
 
@@ -957,25 +972,25 @@ def _label_places(dots, lists, radius, size):
     """The numbers of vertices that have room beside their dots, each with its middle.
 
     Of eight directions round a dot those that are farthest from its edges are tried first; a number is left out where
-    it would cover a dot or a number each time.
+    it would cover a dot or a number each time. Of more than 100 vertices only those have numbers that stand apart.
     """
     taken, cell = {}, 24
-    boxes = [(x - radius, y - radius, x + radius, y + radius) for x, y in dots]
+    apart = radius + (5 if len(dots) > 100 else 0)
 
     def cells(box):
         xs, ys = (range(int(box[k] // cell), int(box[k + 2] // cell) + 1) for k in (0, 1))
         return [(i, j) for i in xs for j in ys]
 
-    def put(box):
+    def put(box, v):
         for key in cells(box):
-            taken.setdefault(key, []).append(box)
+            taken.setdefault(key, []).append((box, v))
 
-    def is_free(box):
+    def is_free(box, v):
         return not any(box[0] < other[2] and other[0] < box[2] and box[1] < other[3] and other[1] < box[3]
-                       for key in cells(box) for other in taken.get(key, ()))
+                       for key in cells(box) for other, u in taken.get(key, ()) if u != v)
 
-    for box in boxes:
-        put(box)
+    for v, (x, y) in enumerate(dots, 1):
+        put((x - apart, y - apart, x + apart, y + apart), v)
     found = []
     for v, (x, y) in enumerate(dots, 1):
         half = 0.3 * size * len(str(v)) + 0.5
@@ -985,8 +1000,8 @@ def _label_places(dots, lists, radius, size):
         for turn in turns:
             at = (x + math.cos(turn) * (radius + half + 1), y + math.sin(turn) * (radius + size / 2 + 1))
             box = (at[0] - half, at[1] - size / 2, at[0] + half, at[1] + size / 2)
-            if is_free(box):
-                put(box)
+            if is_free(box, v):
+                put(box, v)
                 found.append((v, at))
                 break
     return found
@@ -995,8 +1010,8 @@ def _label_places(dots, lists, radius, size):
 def _bar_sketch(figure, side, labels):
     """Bars and columns, each axis with a unit of its own, so that bars keep apart."""
     count, columns = len(figure.heights), max([b for _, b in figure.spans] + figure.columns + [1])
-    across = min(36, (side - 2 * MARGIN) / columns)
-    upwards = min(30, (side - 2 * MARGIN) / max(count - 1, 1))
+    room = max(side, min(1100, 14 * count)) - 2 * MARGIN
+    across, upwards = min(36, room / columns), min(30, room / max(count - 1, 1))
     thick, line = min(16, 0.62 * upwards), _size_of(count)[1]
     top = max(figure.heights)
 
@@ -1065,17 +1080,22 @@ def _witness_sketch(figure, side, labels):
 
 
 def _witness_places(figure, count):
-    """A place for each vertex of a witness's graph; those that it does not pass stand in a row below."""
+    """A place for each vertex of a witness's graph; those that it does not pass stand in a row below.
+
+    Between two rows inner vertices stand at heights of their own, since paths meet half-way.
+    """
     if figure.kind == "K33":
         corners = [(600 * k, y) for y in (800, 0) for k in range(3)]
     else:
         turns = [math.pi / 2 - 2 * math.pi * k / 5 for k in range(5)]
         corners = [(600 + 600 * math.cos(turn), 600 * math.sin(turn)) for turn in turns]
     places = dict(zip(figure.branches, corners))
-    for track in figure.paths:
+    for i, track in enumerate(figure.paths):
         (x1, y1), (x2, y2) = places[track[0]], places[track[-1]]
         for k, v in enumerate(track[1:-1], 1):
-            part = 0.7 * k / len(track) + 0.06
+            part = k / (len(track) - 1)
+            if figure.kind == "K33":
+                part = 0.3 * part + 0.15 + 0.06 * (i % 3)
             places[v] = (x1 + part * (x2 - x1), y1 + part * (y2 - y1))
     rest = [v for v in range(1, count + 1) if v not in places]
     low = min(y for _, y in places.values())
@@ -1139,9 +1159,11 @@ def page(result, figures=()):
         else:
             cards.append(_card(None, str(answer)))
     last = result.blocks[-1] if result.blocks else None
-    done = {End: lambda: f"{last.records} records, {last.refused} refused",
-            Stop: lambda: f"it stopped: {last}"}.get(type(last), lambda: "it broke off")()
-    made = f"Made by <code>pigale {result.job}</code>, and shown by <code>python/pigale.py</code>: {html.escape(done)}."
+    if isinstance(last, End):
+        done = f"{last.records} record{'' if last.records == 1 else 's'}, {last.refused} refused"
+    else:
+        done = f"it ended with status {result.status}{f' ({last})' if isinstance(last, Stop) else ''}"
+    made = f"A run of <code>pigale {result.job}</code>, shown by <code>python/pigale.py</code>: {html.escape(done)}."
     return PAGE.format(title=f"pigale {result.job}", made=made, style=STYLE, cards="".join(cards))
 
 
@@ -1206,7 +1228,7 @@ def _read_number(text):
 
 def main(words):
     """Runs a command of the list at the top of this file; returns its status."""
-    commands = {"recode": _recode, "check": _check_file, "stacked": _stacked, "page": _page}
+    commands = {"recode": _recode, "check": _check_file, "stacked": _stacked, "picture": _picture, "page": _page}
     try:
         if words and words[0] in commands:
             return commands[words[0]](words[1:])
@@ -1236,6 +1258,15 @@ def _check_file(words):
 def _stacked(words):
     size, number = _wants(words, 2)
     sys.stdout.buffer.write(write_planar_code([stacked(int(size), int(number))]))
+    return 0
+
+
+def _picture(words):
+    _wants(words, 0)
+    figures = read_figures(sys.stdin.buffer.read())
+    if not figures:
+        raise ValueError("the text has no figure")
+    print(picture(figures[0]), end="")
     return 0
 
 

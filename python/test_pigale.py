@@ -207,6 +207,19 @@ class Makers(unittest.TestCase):
                           ("shift", [pigale.path(3), pigale.tree(9, random.Random(2))])):
             self.assertEqual(pigale.run(job, maps).status, 0, job)
 
+    def test_outside(self):
+        lists = pigale.prism(5)
+        for v, u in ((1, 2), (1, 6), (7, 6), (3, 2)):
+            turned = pigale.outside(lists, v, u)
+            size = next(len(face) for face in pigale.faces_of(lists) if (v, u) in zip(face, face[1:] + face[:1]))
+            self.assertEqual(len(pigale.faces_of(turned)[0]), size)
+            self.assertEqual(pigale.run("convex", [turned]).status, 0)
+
+    def test_diagonals_of_ones_own(self):
+        lists = pigale.quadrangle(4, 5, lambda i, j: (i + j) % 2 == 0)
+        self.assertEqual(pigale.run("rect", [lists]).status, 0)
+        self.assertIn((6, 10), pigale.edges_of(lists))
+
     def test_faces(self):
         self.assertEqual(pigale.faces_of(pigale.cycle(3)), [[1, 2, 3], [1, 3, 2]])
         self.assertEqual(len(pigale.faces_of(pigale.grid(4, 6))), 16)
@@ -448,6 +461,12 @@ class Commands(unittest.TestCase):
         status, out, _ = command("stacked", "9", "5")
         self.assertEqual((status, pigale.read_planar_code(out)), (0, [pigale.stacked(9, 5)]))
         self.assertEqual(command("stacked", "9")[0], 3)
+
+    def test_picture(self):
+        status, out, _ = command("picture", data=content("platonic-shift.txt"))
+        figure = pigale.read_figures(content("platonic-shift.txt"))[0]
+        self.assertEqual((status, out.decode()), (0, pigale.picture(figure)))
+        self.assertEqual(command("picture", data=content("house-verify.txt"))[0], 3)
 
     def test_page(self):
         status, out, _ = command("page", "shift", data=content("platonic.plc"))
