@@ -705,6 +705,15 @@ def outside(lists, v, u):
     return [out[0][first:] + out[0][:first], *out[1:]]
 
 
+def without_edge(lists, v, u):
+    """The map without the edge from v to u; its faces at both sides become one.
+
+    Where u was the first of v's list, that face is the one on the left of the dart from v to what is first then. So of a
+    triangulation in which each triangle of edges is a face, `without_edge(lists, 1, lists[0][0])` is drawn by `rect`.
+    """
+    return [[x for x in us if {w, x} != {v, u}] for w, us in enumerate(lists, 1)]
+
+
 def witness_graph(witness):
     """The graph of a witness, as (n, edges): the vertices of its graph, and the edges of its paths alone."""
     n, _ = read_graph6(witness.graph6)

@@ -215,6 +215,12 @@ class Makers(unittest.TestCase):
             self.assertEqual(len(pigale.faces_of(turned)[0]), size)
             self.assertEqual(pigale.run("convex", [turned]).status, 0)
 
+    def test_triangulations_without_an_edge(self):
+        maps = pigale.read_planar_code(content("platonic.plc"))[:2]
+        opened = [pigale.without_edge(lists, 1, lists[0][0]) for lists in maps]
+        self.assertEqual(pigale.run("rect", opened).status, 0)
+        self.assertEqual(pigale.run("rect", [pigale.without_edge(pigale.stacked(9, 1), 1, 2)]).status, 1)
+
     def test_diagonals_of_ones_own(self):
         lists = pigale.quadrangle(4, 5, lambda i, j: (i + j) % 2 == 0)
         self.assertEqual(pigale.run("rect", [lists]).status, 0)
