@@ -429,7 +429,7 @@ class Run:
 
 def program():
     """The path of the program. Raises FileNotFoundError where there is none (see the top of this file)."""
-    here = os.path.dirname(os.path.abspath(__file__))
+    here = os.path.dirname(os.path.realpath(__file__))
     places = [os.environ.get("PIGALE"), os.path.join(here, "..", "crates", "pigale", "out", "pigale")]
     if platform.system() == "Linux" and platform.machine() == "x86_64":
         places.append(os.path.join(here, "..", "release", "pigale-x86_64-linux"))
