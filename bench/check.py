@@ -7,7 +7,6 @@ The drawings are random triangulations on a grid of 2^20, spanning trees of them
 vertex moved over an edge, so that the first fault has nearly the greatest ids. Each count is that of the whole program without that of
 reading the drawing. Wants rt and valgrind. Not part of the gate.
 """
-import math
 import os
 import random
 import re
@@ -15,6 +14,9 @@ import subprocess
 import sys
 
 HERE = os.path.dirname(os.path.abspath(__file__))
+sys.path.insert(0, os.path.join(HERE, "..", "python"))
+import pigale  # noqa: E402
+
 SIDE = 1 << 20
 
 # The program: it reads drawing.txt, which has a word for what to do, the number of vertices, the two ends of a
@@ -274,14 +276,9 @@ def renumbered(points, edges, order):
 
 
 def lists_of(points, edges):
-    """The neighbours of each vertex, clockwise."""
-    lists = [[] for _ in points]
-    for a, b in edges:
-        lists[a].append(b)
-        lists[b].append(a)
-    for v, us in enumerate(lists):
-        us.sort(key=lambda u: -math.atan2(points[u][1] - points[v][1], points[u][0] - points[v][0]))
-    return lists
+    """The neighbours of each vertex, clockwise, as ids from 0."""
+    lists = pigale.rotations_of(points, [(a + 1, b + 1) for a, b in edges])
+    return [[u - 1 for u in us] for us in lists]
 
 
 def instructions(program, folder, word, base, points, lists):

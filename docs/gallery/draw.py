@@ -1,0 +1,140 @@
+#!/usr/bin/env python3
+"""Makes docs/gallery.md, and in docs/gallery/ the maps and pictures that it shows.
+
+  python3 docs/gallery/draw.py
+
+Each picture is the figure that the command under it writes, with numbers at its vertices. The program is found as
+python/pigale.py finds it.
+"""
+import os
+import random
+import sys
+
+HERE = os.path.dirname(os.path.abspath(__file__))
+sys.path.insert(0, os.path.join(HERE, "..", "..", "python"))
+import pigale  # noqa: E402
+
+# In graph6: Tutte's cubic graph of 46 vertices, which has no Hamiltonian cycle, and Petersen's graph.
+TUTTE = ("msOGGC@?H?c??@??_GG?A??C??G_?G_????@???G??__??A???@????g???GC??G????CC???G????G???AC??_????_??G?????_A???@???A"
+         "?????G??_?????G??G??@A???G_??_???c??W???O???O??C_??B???_????aO??")
+PETERSEN = "IheA@GUAo"
+
+HEAD = """# Gallery
+
+Twelve figures, each with the command that makes it, run from the top of the repository. The last part of a command, `picture`, turns the text of a figure into a picture with numbers at the vertices; the program's own pictures, by `--form svg`, have none. `docs/gallery/draw.py` makes the maps, the pictures and this page. That a figure is what its job promises is proved; that a picture shows the figure is not.
+"""
+
+
+def by_embedding(graph):
+    """A map of a graph that has one: that in which `embed` draws it."""
+    return pigale.embed([graph])[0].lists
+
+
+def goldner_harary():
+    """Two tetrahedra on one triangle, and a vertex put into each of their six outer faces."""
+    ring, tops = [(1, 2), (2, 3), (1, 3)], (4, 5)
+    edges = ring + [(v, top) for top in tops for v in (1, 2, 3)]
+    faces = [(u, v, top) for top in tops for u, v in ring]
+    return by_embedding((11, edges + [(v, k) for k, face in enumerate(faces, 6) for v in face]))
+
+
+def tutte():
+    """Tutte's graph with one of its faces of ten vertices outside."""
+    lists = by_embedding(TUTTE)
+    face = max(pigale.faces_of(lists), key=len)
+    return pigale.outside(lists, *face[:2])
+
+
+def platonic(number):
+    with open(os.path.join(HERE, "..", "..", "examples", "platonic.plc"), "rb") as file:
+        return pigale.read_planar_code(file)[number]
+
+
+def truncated(lists):
+    """The map with each vertex cut off: a vertex for each dart, joined to that back and to those beside it."""
+    darts = [(v, u) for v, us in enumerate(lists, 1) for u in us]
+    number = {dart: k for k, dart in enumerate(darts, 1)}
+
+    def beside(v, u, step):
+        us = lists[v - 1]
+        return number[v, us[(us.index(u) + step) % len(us)]]
+
+    return [[number[u, v], beside(v, u, 1), beside(v, u, -1)] for v, u in darts]
+
+
+def buckminster():
+    """The fullerene of 60 vertices in which no two pentagons touch, with a pentagon outside."""
+    lists = truncated(platonic(1))
+    face = min(pigale.faces_of(lists), key=len)
+    return pigale.outside(lists, *face[:2])
+
+
+def rectangles():
+    """A grid of seven by eight vertices in a quadrangle, each cell with one diagonal or the other."""
+    source = random.Random(5)
+    rising = {(i, j): source.random() < 0.5 for i in range(6) for j in range(7)}
+    return pigale.quadrangle(7, 8, lambda i, j: rising[i, j])
+
+
+MAPS = {
+    "tutte": tutte,
+    "dodecahedron": lambda: pigale.dual(platonic(1)),
+    "buckminster": buckminster,
+    "rectangles": rectangles,
+    "grid": lambda: pigale.grid(6, 6),
+    "stacked-30": lambda: pigale.stacked(30, 3),
+    "stacked-255": lambda: pigale.stacked(255, 1),
+    "icosahedron": lambda: platonic(1),
+    "goldner-harary": goldner_harary,
+}
+
+# The picture's name, its job, its input without the ending, the heading and the alternative text.
+PICTURES = [
+    ("tutte-convex", "convex", "tutte", "Tutte's graph with convex faces",
+     "Tutte's graph of 46 vertices drawn with straight edges: in a right triangle three like parts stand at the corners"),
+    ("tutte-bars", "bars", "tutte", "Tutte's graph as bars that see each other",
+     "Tutte's graph as 46 level bars at heights of their own, joined by upright lines"),
+    ("dodecahedron-convex", "convex", "dodecahedron", "The dodecahedron with convex faces",
+     "The dodecahedron in a right triangle: eleven pentagons without a bend inwards"),
+    ("buckminster-convex", "convex", "buckminster", "A fullerene of 60 vertices with convex faces",
+     "The truncated icosahedron in a right triangle, with hexagons and pentagons without a bend inwards"),
+    ("rectangles-rect", "rect", "rectangles", "Sixty vertices as rectangles",
+     "A rectangle tiled by sixty numbered rectangles in six tints"),
+    ("goldner-harary-schnyder", "schnyder", "goldner-harary", "The graph of Goldner and Harary by Schnyder's method",
+     "A triangulation of eleven vertices with straight edges on a grid of nine by nine"),
+    ("icosahedron-schnyder", "schnyder", "icosahedron", "The icosahedron by Schnyder's method",
+     "The icosahedron with straight edges on a grid of ten by ten"),
+    ("grid-bars", "bars", "grid", "A grid graph as bars",
+     "The grid of six by six vertices as 36 level bars, joined by upright lines"),
+    ("icosahedron-bars", "bars", "icosahedron", "The icosahedron as bars",
+     "The icosahedron as twelve level bars, joined by upright lines"),
+    ("stacked-30-shift", "shift", "stacked-30", "A triangulation of thirty vertices by the shift method",
+     "Thirty dots with straight edges in a triangle twice as wide as high"),
+    ("stacked-255-schnyder", "schnyder", "stacked-255", "A triangulation of 255 vertices by Schnyder's method",
+     "255 small dots and 759 thin straight edges in a triangle, with numbers where there is room"),
+    ("petersen-witness", "embed", "petersen", "Why Petersen's graph has no drawing without crossings",
+     "A subdivision of K3,3 in Petersen's graph: three red and three green vertices, with nine paths between them"),
+]
+
+
+def main():
+    for name, make in MAPS.items():
+        with open(os.path.join(HERE, f"{name}.plc"), "wb") as file:
+            file.write(pigale.write_planar_code([make()]))
+    with open(os.path.join(HERE, "petersen.g6"), "w", encoding="ascii") as file:
+        print(PETERSEN, file=file)
+    sections = []
+    for name, job, source, heading, text in PICTURES:
+        source = f"docs/gallery/{source}.{'g6' if job == 'embed' else 'plc'}"
+        with open(os.path.join(HERE, "..", "..", source), "rb") as file:
+            (figure,) = pigale.run(job, file.read()).answers
+        with open(os.path.join(HERE, f"{name}.svg"), "w", encoding="ascii") as file:
+            file.write(pigale.picture(figure))
+        command = f"./pigale {job} < {source} | python3 python/pigale.py picture > {name}.svg"
+        sections.append(f"\n## {heading}\n\n    {command}\n\n![{text}](gallery/{name}.svg)\n")
+    with open(os.path.join(HERE, "..", "gallery.md"), "w", encoding="utf-8") as file:
+        file.write(HEAD + "".join(sections))
+
+
+if __name__ == "__main__":
+    main()

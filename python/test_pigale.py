@@ -1,0 +1,504 @@
+#!/usr/bin/env python3
+"""The tests of pigale.py: `python3 python/test_pigale.py` from anywhere.
+
+Its last lines say what was left out and how many tests passed and failed. Without networkx or Sage the tests that want
+them are left out. The program is found as pigale.py finds it.
+"""
+import contextlib
+import io
+import itertools
+import json
+import os
+import random
+import subprocess
+import sys
+import tempfile
+import unittest
+from xml.etree import ElementTree
+
+HERE = os.path.dirname(os.path.abspath(__file__))
+EXAMPLES = os.path.join(HERE, "..", "examples")
+sys.path.insert(0, HERE)
+import pigale  # noqa: E402
+
+try:
+    import networkx
+except ImportError:
+    networkx = None
+try:
+    from sage.all import Graph as SageGraph
+except ImportError:
+    SageGraph = None
+
+SQUARE = {"a": (0, 0), "b": (4, 0), "c": (4, 4), "d": (0, 4)}
+SIDES = [("a", "b"), ("b", "c"), ("c", "d"), ("d", "a")]
+
+
+def content(name):
+    with open(os.path.join(EXAMPLES, name), "rb") as file:
+        return file.read()
+
+
+def examples(ending):
+    return sorted(name for name in os.listdir(EXAMPLES) if name.endswith(ending))
+
+
+def command(*words, data=b""):
+    """A run of pigale.py as a command: its status, its output and what it says besides."""
+    done = subprocess.run([sys.executable, os.path.join(HERE, "pigale.py"), *words], input=data,
+                          stdout=subprocess.PIPE, stderr=subprocess.PIPE, check=False)
+    return done.returncode, done.stdout, done.stderr.decode()
+
+
+class PlanarCode(unittest.TestCase):
+    def test_examples_come_back(self):
+        for name in examples(".plc"):
+            data = content(name)
+            maps = pigale.read_planar_code(data)
+            self.assertEqual(pigale.write_planar_code(maps, data.startswith(pigale.HEADER)), data, name)
+            with open(os.path.join(EXAMPLES, name), "rb") as file:
+                self.assertEqual(pigale.read_planar_code(file), maps)
+
+    def test_headers_and_orders(self):
+        edge, narrow = [[2], [1]], bytes([2, 2, 0, 1, 0])
+        great = b"\0" + bytes([0, 2, 0, 2, 0, 0, 0, 1, 0, 0])
+        little = b"\0" + bytes([2, 0, 2, 0, 0, 0, 1, 0, 0, 0])
+        rows = [(b"", narrow), (b"", great), (b">>planar_code<<", narrow), (b">>planar_code<<", great),
+                (b">>planar_code be<<", great), (b">>planar_code le<<", narrow), (b">>planar_code le<<", little),
+                (b">>planar_code le<<", narrow + little + narrow), (b">>planar_code <<", great)]
+        for header, records in rows:
+            for lists in pigale.read_planar_code(header + records):
+                self.assertEqual(lists, edge, header + records)
+        self.assertEqual(pigale.read_planar_code(little, "le"), [edge])
+        self.assertEqual(pigale.read_planar_code(b">>planar_code be<<" + great, "le"), [edge])
+        self.assertEqual(pigale.read_planar_code(b""), [])
+        wide = [pigale.cycle(300)]
+        self.assertEqual(pigale.read_planar_code(pigale.write_planar_code(wide)), wide)
+
+    def test_what_is_no_planar_code(self):
+        rows = [(b">>edge_code<<\x07", "edge_code"), (b">>graph6<<C~\n", "graph6"), (b"\x03\x02\x00", "record 1"),
+                (b"\x01\x00\x02", "record 2"), (b"\0\0\0", "no vertices"), (b"\0\1", "record 1"), (b"\0", "record 1"),
+                (b"\0\0\2\0\2\0\0\0\1\0", "record 1")]
+        for data, word in rows:
+            with self.assertRaisesRegex(ValueError, word):
+                pigale.read_planar_code(data)
+        for lists in ([], [[0]], [[256]], [[65536]] * 256, [[]] * 65536):
+            with self.assertRaises(ValueError):
+                pigale.write_planar_code([lists])
+
+
+class Graph6(unittest.TestCase):
+    def test_lines_come_back(self):
+        lines = content("graphs.g6").decode().split("\n")[1:-1]
+        for line in [*lines, "?", "@", "A_"]:
+            self.assertEqual(pigale.write_graph6(pigale.read_graph6(line)), line)
+        self.assertEqual(pigale.read_graph6("Cl"), (4, [(1, 2), (2, 3), (1, 4), (3, 4)]))
+        for n in (62, 63, 255, 300):
+            graph = (n, [(v, v + 1) for v in range(1, n)])
+            self.assertEqual(pigale.read_graph6(pigale.write_graph6(graph)), graph)
+
+    def test_what_is_no_line(self):
+        for line in ("", "C", "C~~", "C\x1f", ":An", "~~?????"):
+            with self.assertRaises(ValueError):
+                pigale.read_graph6(line)
+        for graph in ((2, [(1, 1)]), (2, [(1, 3)]), (2, [(0, 1)]), (258048, [])):
+            with self.assertRaises(ValueError):
+                pigale.write_graph6(graph)
+
+
+class Texts(unittest.TestCase):
+    def test_examples_come_back(self):
+        for name in examples(".txt"):
+            if name != "commands.txt":
+                text = content(name).decode()
+                self.assertEqual("".join(f"{block}\n" for block in pigale.read_blocks(text)), text, name)
+                self.assertEqual(pigale.read_blocks(content(name)), pigale.read_blocks(text))
+
+    def test_each_line_of_the_program(self):
+        text = ("count 1 n 6 m 12 f 8 c 1 genus 0\nrefused 2 12 SeparatingTriangle 1 2 3\nrefused 3 13 NoInner\n"
+                "verdict 4 yes\nverdict 1 yes sum 8 1\nverdict 5 Cross 1 2 3 4\nfigure 7 shift 1\n1 at -3 0:\n"
+                "figure 8 bars 1\n1 y 0 x 0 0:\ncolumns\nstop BadLine 9\nstop TooLong\nend records 3 refused 2\n")
+        blocks = pigale.read_blocks(text)
+        self.assertEqual("".join(f"{block}\n" for block in blocks), text)
+        self.assertEqual(blocks[5], pigale.Verdict(5, "Cross", (1, 2, 3, 4)))
+        self.assertEqual(len(pigale.read_figures(text)), 2)
+
+    def test_what_the_program_does_not_write(self):
+        for text in ("count 1", "hello 1\n", "figure 1 shift 2\n1 at 0 0:\n", "figure 1 circle 1\n1 at 0 0:\n",
+                     "figure 1 bars 1\n1 y 0 x 0 0:\n", "verdict x yes\n", "\n"):
+            with self.assertRaises(ValueError):
+                pigale.read_blocks(text)
+
+
+class Runs(unittest.TestCase):
+    def test_outputs_of_examples(self):
+        for line in content("commands.txt").decode().split("\n"):
+            output, job, source = line.split("\t") if line.count("\t") == 2 else ("", "", "")
+            if output.endswith(".txt"):
+                data = content(source)
+                records = {"embed": lambda d: d.decode().split("\n")[1:-1], "verify": pigale.read_figures}
+                result = pigale.run(job, records.get(job, pigale.read_planar_code)(data))
+                self.assertEqual(result.text.encode(), content(output))
+                self.assertEqual(pigale.run(job, data), result)
+
+    def test_count_and_refusals(self):
+        result = pigale.run("count", [pigale.cycle(3), [[2], []], pigale.cycle(300)])
+        self.assertEqual(result.status, 1)
+        self.assertEqual(result.answers, [pigale.Count(1, 3, 3, 2, 1, 0), pigale.Refused(2, 4, "OneSided", (1, 2)),
+                                          pigale.Count(3, 300, 300, 2, 1, 0)])
+        self.assertEqual(result.blocks[-1], pigale.End(3, 1))
+        figures = pigale.draw([pigale.prism(3), pigale.cycle(4)], "convex")
+        self.assertEqual([type(figure) for figure in figures], [pigale.GridFigure, pigale.Refused])
+        with self.assertRaises(ValueError):
+            pigale.draw([], "verify")
+
+    def test_failures_say_their_status(self):
+        rows = [("count", b"\x03\x02\x00", 3, "EndInRecord 0"), ("nothing", b"", 2, "BadWords"),
+                ("verify", "figure 1 shift 2\n1 at 0 0:\n", 3, "EndInFigure 1"), ("embed", b"C\n", 3, "BadLine 1")]
+        for job, data, status, word in rows:
+            with self.assertRaisesRegex(pigale.PigaleError, word) as caught:
+                pigale.run(job, data)
+            self.assertEqual(caught.exception.run.status, status)
+        data = content("platonic.plc")
+        with self.assertRaises(pigale.PigaleError) as caught:
+            pigale.run("shift", data[:-1])
+        self.assertEqual(len(caught.exception.run.answers), 2)
+
+    def test_embed_and_witnesses(self):
+        figures = pigale.embed(content("graphs.g6").decode().split("\n")[1:-1])
+        jobs = ["schnyder", "witness", "witness", "witness", "schnyder"]
+        self.assertEqual([figure.job for figure in figures], jobs)
+        k5 = pigale.embed([(5, list(itertools.combinations(range(1, 6), 2)))])[0]
+        self.assertEqual(pigale.witness_graph(k5), (5, list(itertools.combinations(range(1, 6), 2))))
+        self.assertEqual(pigale.run("verify", figures).status, 0)
+        for figure in figures[1:4]:
+            n, edges = pigale.witness_graph(figure)
+            self.assertLessEqual(set(edges), set(pigale.read_graph6(figure.graph6)[1]))
+            degrees = sorted(sum(v in edge for edge in edges) for v in range(1, n + 1))
+            branches = [4] * 5 if figure.kind == "K5" else [3] * 6
+            self.assertEqual([d for d in degrees if d > 2], branches)
+
+
+class Makers(unittest.TestCase):
+    def test_stacked_is_the_one_of_gen(self):
+        for size, number in ((3, 7), (4, 0), (5, 0), (60, 1), (255, 4294967295), (300, 2)):
+            count, verdict = pigale.run("gen", size=size, number=number).answers
+            figure = pigale.draw([pigale.stacked(size, number)], "shift")[0]
+            self.assertEqual((count.n, count.genus), (size, 0))
+            self.assertEqual(verdict.numbers, tuple(map(sum, zip(*figure.places))), (size, number))
+        with self.assertRaises(ValueError):
+            pigale.stacked(2, 0)
+
+    def test_counts(self):
+        source = random.Random(1)
+        rows = [(pigale.path(9), 9, 8, 0), (pigale.cycle(9), 9, 9, 0), (pigale.wheel(9), 9, 16, 0),
+                (pigale.prism(9), 18, 27, 0), (pigale.grid(4, 6), 24, 38, 0), (pigale.quadrangle(3, 4), 16, 41, 0),
+                (pigale.tree(40, source), 40, 39, 0), (pigale.triangulation(40, source), 40, 114, 0),
+                (pigale.renumbered(pigale.prism(9), source), 18, 27, 0), (pigale.complete(3), 3, 3, 0),
+                (pigale.dual(pigale.prism(9)), 11, 27, 0), (pigale.dual(pigale.dual(pigale.wheel(9))), 9, 16, 0)]
+        answers = pigale.run("count", [lists for lists, *_ in rows]).answers
+        self.assertEqual([(a.n, a.m, a.genus) for a in answers], [tuple(row) for _, *row in rows])
+        self.assertGreater(pigale.run("count", [pigale.complete(7)]).answers[0].genus, 0)
+
+    def test_jobs_that_they_are_for(self):
+        for job, maps in (("rect", [pigale.quadrangle(1, 1), pigale.quadrangle(3, 4), pigale.quadrangle(4, 1)]),
+                          ("convex", [pigale.wheel(4), pigale.wheel(9), pigale.prism(3), pigale.stacked(9, 1)]),
+                          ("bars", [pigale.grid(2, 2), pigale.grid(4, 6), pigale.cycle(3)]),
+                          ("shift", [pigale.path(3), pigale.tree(9, random.Random(2))])):
+            self.assertEqual(pigale.run(job, maps).status, 0, job)
+
+    def test_outside(self):
+        lists = pigale.prism(5)
+        for v, u in ((1, 2), (1, 6), (7, 6), (3, 2)):
+            turned = pigale.outside(lists, v, u)
+            size = next(len(face) for face in pigale.faces_of(lists) if (v, u) in zip(face, face[1:] + face[:1]))
+            self.assertEqual(len(pigale.faces_of(turned)[0]), size)
+            self.assertEqual(pigale.run("convex", [turned]).status, 0)
+
+    def test_triangulations_without_an_edge(self):
+        maps = pigale.read_planar_code(content("platonic.plc"))[:2]
+        opened = [pigale.without_edge(lists, 1, lists[0][0]) for lists in maps]
+        self.assertEqual(pigale.run("rect", opened).status, 0)
+        self.assertEqual(pigale.run("rect", [pigale.without_edge(pigale.stacked(9, 1), 1, 2)]).status, 1)
+
+    def test_diagonals_of_ones_own(self):
+        lists = pigale.quadrangle(4, 5, lambda i, j: (i + j) % 2 == 0)
+        self.assertEqual(pigale.run("rect", [lists]).status, 0)
+        self.assertIn((6, 10), pigale.edges_of(lists))
+
+    def test_faces(self):
+        self.assertEqual(pigale.faces_of(pigale.cycle(3)), [[1, 2, 3], [1, 3, 2]])
+        self.assertEqual(len(pigale.faces_of(pigale.grid(4, 6))), 16)
+        self.assertEqual(pigale.faces_of([[]]), [])
+
+
+def crosses_or_touches(p, q, r, s):
+    """Whether segments pq and rs have a point in common, by whole numbers."""
+    def turn(a, b, c):
+        area = (b[0] - a[0]) * (c[1] - a[1]) - (c[0] - a[0]) * (b[1] - a[1])
+        return (area > 0) - (area < 0)
+
+    def is_on(a, b, c):
+        return (turn(a, b, c) == 0 and min(a[0], b[0]) <= c[0] <= max(a[0], b[0])
+                and min(a[1], b[1]) <= c[1] <= max(a[1], b[1]))
+
+    if turn(p, q, r) * turn(p, q, s) < 0 and turn(r, s, p) * turn(r, s, q) < 0:
+        return True
+    return is_on(p, q, r) or is_on(p, q, s) or is_on(r, s, p) or is_on(r, s, q)
+
+
+def is_plane(places, edges):
+    """The check of all pairs that the program's verdicts are compared with."""
+    at = [places[v] for v in places]
+    if len(set(at)) < len(at):
+        return False
+    for a, b in edges:
+        for v in places:
+            if v not in (a, b) and crosses_or_touches(places[a], places[b], places[v], places[v]):
+                return False
+    return not any(len({*one, *other}) == 4 and crosses_or_touches(*(places[v] for v in (*one, *other)))
+                   for one, other in itertools.combinations(edges, 2))
+
+
+class Drawings(unittest.TestCase):
+    def test_verdicts_have_your_names(self):
+        rows = [(SQUARE, SIDES, "yes"), (SQUARE, [*SIDES, ("a", "c")], "yes"), ({}, [], "yes"), ({"a": (5, 5)}, [], "yes"),
+                (SQUARE, [*SIDES, ("a", "c"), ("b", "d")], "Cross a c b d"),
+                ({**SQUARE, "e": (2, 0)}, SIDES, "OnEdge e a b"), ({**SQUARE, "e": (4, 4)}, SIDES, "SamePlace c e"),
+                ({**SQUARE, "e": (2, 0)}, [*SIDES, ("a", "e")], "OnEdge e a b"),
+                (SQUARE, [*SIDES, ("a", "a")], "Loop a"), (SQUARE, [*SIDES, ("b", "a")], "Repeated a b")]
+        for places, edges, verdict in rows:
+            answer = pigale.check(places, edges)
+            self.assertEqual(str(answer), verdict)
+            self.assertEqual(bool(answer), verdict == "yes")
+        self.assertEqual(pigale.check([(0, 0), (2, 2), (0, 2), (2, 0)], [(0, 1), (3, 2)]), pigale.Checked("Cross", (0, 1, 2, 3)))
+
+    def test_moved_mirrored_and_large(self):
+        crossed = [*SIDES, ("a", "c"), ("b", "d")]
+        moves = [lambda x, y: (x - 9, y - 5), lambda x, y: (-x, y), lambda x, y: (x, -y), lambda x, y: (y, x),
+                 lambda x, y: (10 ** 12 * x, 7 * y), lambda x, y: (x + 10 ** 15, y), lambda x, y: (1.0 * x, 2.0 * y)]
+        for move in moves:
+            places = {name: move(*place) for name, place in SQUARE.items()}
+            self.assertTrue(pigale.check(places, SIDES))
+            self.assertEqual(str(pigale.check(places, crossed)), "Cross a c b d")
+
+    def test_limits(self):
+        for far in ((8186, 1), (8186, 4092), (1, 8186), (4092, 8186)):
+            places = {"a": (0, 0), "b": far, "c": (1, 0), "d": (0, 1)}
+            self.assertTrue(pigale.check(places, [("a", "b")]), far)
+        self.assertFalse(pigale.check({**places, "b": (1000, 900)}, [("a", "b"), ("c", "d")]))
+        for far in ((8187, 1), (8186, 4093), (1, 8187), (4093, 8186)):
+            with self.assertRaisesRegex(ValueError, "8186 by 4092"):
+                pigale.check({"a": (0, 0), "b": far, "c": (1, 0), "d": (0, 1)}, [])
+        line = [(v, 0) for v in range(4094)]
+        self.assertTrue(pigale.check(line, [(v, v + 1) for v in range(4093)]))
+        with self.assertRaises(ValueError):
+            pigale.check([*line, (4094, 0)], [])
+
+    def test_what_is_no_drawing(self):
+        nan, infinite = float("nan"), float("inf")
+        for places, edges in (({"a": (0.5, 0)}, []), ({"a": (nan, 0)}, []), ({"a": (0, infinite)}, []),
+                              (SQUARE, [("a", "z")])):
+            with self.assertRaises(ValueError):
+                pigale.check(places, edges)
+        with self.assertRaises(ValueError):
+            pigale.scaled({"a": (nan, 0)})
+
+    def test_rotations(self):
+        spokes = [*SIDES, ("a", "c")]
+        right = {"a": ["d", "c", "b"], "b": ["a", "c"], "c": ["d", "b", "a"], "d": ["c", "a"]}
+        self.assertTrue(pigale.check(SQUARE, spokes, right))
+        self.assertEqual(str(pigale.check(SQUARE, spokes, {**right, "a": ["b", "c", "d"]})), "Turned a")
+        self.assertEqual(str(pigale.check(SQUARE, spokes, {**right, "a": ["d", "b"]})), "OneSided c a")
+        with self.assertRaises(ValueError):
+            pigale.check(SQUARE, SIDES, right)
+
+    def test_floats_are_scaled_first(self):
+        places = {name: (0.1 * x - 3, 0.37 * y) for name, (x, y) in SQUARE.items()}
+        self.assertTrue(pigale.check(pigale.scaled(places), SIDES))
+        self.assertEqual(pigale.scaled(places)["c"], (pigale.WIDTH, pigale.HEIGHT))
+        self.assertEqual(pigale.scaled([(0.5, 0.5)]), {0: (0, 0)})
+        self.assertEqual(pigale.scaled({}), {})
+        self.assertEqual(str(pigale.check(pigale.scaled({**places, "e": (-3 + 1e-9, 0)}), SIDES)), "SamePlace a e")
+
+    def test_random_drawings_agree_with_all_pairs(self):
+        source, drawings = random.Random(3), []
+        for _ in range(400):
+            n = source.randrange(1, 9)
+            places = {v: (source.randrange(-4, 5), source.randrange(-4, 5)) for v in range(n)}
+            pairs = list(itertools.combinations(range(n), 2))
+            drawings.append((places, source.sample(pairs, min(len(pairs), source.randrange(7)))))
+        answers = pigale.check_all(drawings)
+        self.assertEqual([bool(answer) for answer in answers], [is_plane(*drawing) for drawing in drawings])
+        self.assertGreater(sum(map(bool, answers)), 50)
+        self.assertGreater(sum(not answer for answer in answers), 50)
+
+
+@unittest.skipUnless(networkx, "networkx is not there")
+class Networkx(unittest.TestCase):
+    @classmethod
+    def setUpClass(cls):
+        cls.drawn = {6: [], 7: []}
+        for graph in networkx.graph_atlas_g():
+            if len(graph) in cls.drawn and networkx.is_connected(graph):
+                planar, embedding = networkx.check_planarity(graph)
+                if planar:
+                    cls.drawn[len(graph)].append((networkx.combinatorial_embedding_to_pos(embedding), list(graph.edges), embedding))
+
+    def test_their_drawings_are_right(self):
+        for n, count in ((6, 99), (7, 646)):
+            self.assertEqual(len(self.drawn[n]), count)
+            rotations = [(places, edges, {v: list(embedding.neighbors_cw_order(v)) for v in embedding})
+                         for places, edges, embedding in self.drawn[n]]
+            self.assertEqual(set(map(str, pigale.check_all(rotations))), {"yes"})
+        self.assertTrue(pigale.check(*self.drawn[7][-1][:2]))
+
+    def test_one_vertex_moved(self):
+        source, moved = random.Random(4), []
+        for places, edges, _ in self.drawn[6] + self.drawn[7]:
+            v, (a, b) = source.choice(list(places)), source.choice(edges)
+            places = {w: (4 * x, 4 * y) for w, (x, y) in places.items()}
+            (x1, y1), (x2, y2) = places[a], places[b]
+            if v not in (a, b):
+                # onto the edge, and a little across it
+                moved.append(({**places, v: ((x1 + x2) // 2, (y1 + y2) // 2)}, edges))
+                moved.append(({**places, v: ((x1 + x2) // 2 + source.choice((-1, 1)), (y1 + y2) // 2)}, edges))
+        answers = pigale.check_all(moved)
+        self.assertEqual([bool(answer) for answer in answers], [is_plane(*drawing) for drawing in moved])
+        self.assertGreater(sum(not answer for answer in answers), 400)
+        self.assertGreater(sum(map(bool, answers)), 20)
+        self.assertGreater(len({answer.name for answer in answers}), 2)
+
+    def test_embeddings_both_ways(self):
+        for _, _, embedding in self.drawn[6]:
+            lists, names = pigale.from_networkx(embedding)
+            back = pigale.to_networkx(lists, names)
+            back.check_structure()
+            self.assertEqual({v: set(back[v]) for v in back}, {v: set(embedding[v]) for v in embedding})
+            again, _ = pigale.from_networkx(back)
+            for one, other in zip(lists, again):
+                turn = other.index(one[0])
+                self.assertEqual(other[turn:] + other[:turn], one)
+        lists, _ = pigale.from_networkx(pigale.to_networkx(pigale.wheel(7)))
+        self.assertEqual(pigale.run("count", [lists]).answers, [pigale.Count(1, 7, 12, 7, 1, 0)])
+        self.assertEqual(pigale.from_networkx(pigale.to_networkx([[], []])), ([[], []], [1, 2]))
+
+    def test_graphs_are_planar_just_where_networkx_says_so(self):
+        graphs = [graph for graph in networkx.graph_atlas_g() if len(graph) in (5, 6)]
+        figures = pigale.embed([pigale.graph_of_networkx(graph)[0] for graph in graphs])
+        for graph, figure in zip(graphs, figures):
+            self.assertEqual(networkx.check_planarity(graph)[0], figure.job == "schnyder")
+
+
+@unittest.skipUnless(SageGraph, "Sage is not there")
+class Sage(unittest.TestCase):
+    def test_graphs_have_their_embedding(self):
+        for lists in [*pigale.read_planar_code(content("platonic.plc")), pigale.cycle(3), pigale.path(2)]:
+            figure = pigale.draw([lists], "shift")[0] if len(lists) > 2 else None
+            graph = pigale.to_sage(lists, figure and figure.places)
+            self.assertEqual(graph.genus(on_embedding=graph.get_embedding()), 0)
+            self.assertEqual(graph.get_embedding(), dict(enumerate(lists, 1)))
+
+
+class Pictures(unittest.TestCase):
+    def figures(self):
+        names = [name for name in examples(".txt") if name != "commands.txt"]
+        return [figure for name in names for figure in pigale.read_figures(content(name))]
+
+    def test_pictures_are_xml(self):
+        space = "{http://www.w3.org/2000/svg}"
+        for figure in [*self.figures(), pigale.draw([pigale.stacked(255, 1)])[0]]:
+            root = ElementTree.fromstring(pigale.picture(figure))
+            titles = sum(1 for _ in root.iter(f"{space}title"))
+            n = pigale.read_graph6(figure.graph6)[0] if figure.job == "witness" else len(figure.lists)
+            self.assertEqual(titles, n)
+            if figure.job in pigale.GRID_JOBS:
+                self.assertEqual(sum(1 for _ in root.iter(f"{space}line")), len(pigale.edges_of(figure.lists)))
+            self.assertFalse(list(ElementTree.fromstring(pigale.picture(figure, labels=False)).iter(f"{space}text")))
+
+    def test_neighbours_have_other_tints(self):
+        for lists in (pigale.quadrangle(6, 9), pigale.stacked(200, 3)):
+            tints = pigale._tints(lists)
+            self.assertTrue(all(tints[u - 1] != tints[v - 1] for u, v in pigale.edges_of(lists)))
+
+    def test_pages(self):
+        page = pigale.page(pigale.run("convex", [pigale.prism(3), pigale.cycle(4)]))
+        self.assertEqual(page.count("<svg"), 1)
+        self.assertIn("refused 2 9 SeparatingPair 1 3", page)
+        self.assertIn("2 records, 1 refused", page)
+        self.assertNotIn("<script", page)
+        self.assertIn("count 1 n 6", pigale.page(pigale.run("count", [pigale.prism(3)])))
+
+
+class Commands(unittest.TestCase):
+    def test_recode(self):
+        data = content("wide.plc")
+        little = b">>planar_code le<<\0" + b"".join(data[k + 1:k + 2] + data[k:k + 1] for k in range(1, len(data), 2))
+        self.assertEqual(command("recode", data=little), (0, pigale.HEADER + data, ""))
+        status, _, said = command("recode", data=b">>double_code<<")
+        self.assertEqual((status, "double_code" in said), (3, True))
+
+    def test_check(self):
+        crossed = [*SIDES, ("a", "c"), ("b", "d")]
+
+        def drawing(move, edges):
+            return json.dumps({"nodes": [{"id": v, "x": move * x, "y": y} for v, (x, y) in SQUARE.items()],
+                               "edges": [{"source": u, "target": v} for u, v in edges]})
+
+        data = "".join(f'<node id="{v}"><data key="k0">{x}</data><data key="k1">{y}</data></node>' for v, (x, y) in SQUARE.items())
+        keys = "".join(f'<key id="k{k}" for="node" attr.name="{name}" attr.type="double"/>' for k, name in enumerate("xy"))
+        graphml = (f'<graphml xmlns="http://graphml.graphdrawing.org/xmlns">{keys}<graph edgedefault="undirected">{data}'
+                   '<edge source="a" target="c"/><edge source="b" target="d"/></graph></graphml>')
+        rows = [("a.json", drawing(1, SIDES), [], 0, "yes"), ("a.json", drawing(1, crossed), [], 1, "Cross a c b d"),
+                ("a.json", drawing(0.3, SIDES), [], 3, ""), ("a.json", drawing(0.3, SIDES), ["--scale"], 0, "yes"),
+                ("a.json", drawing(1, SIDES).replace("edges", "links"), [], 0, "yes"), ("a.json", "[]", [], 3, ""),
+                ("a.json", "{", [], 3, ""), ("a.graphml", graphml, [], 1, "Cross a c b d"), ("a.graphml", "<", [], 3, ""),
+                ("a.graphml", graphml.replace('key="k1"', 'key="k2"'), [], 3, "")]
+        with tempfile.TemporaryDirectory() as folder:
+            for name, text, words, status, verdict in rows:
+                path = os.path.join(folder, name)
+                with open(path, "w", encoding="utf-8") as file:
+                    file.write(text)
+                found, out, _ = command("check", *words, path)
+                self.assertEqual((found, out.decode().strip()), (status, verdict), text[:60])
+            self.assertEqual(command("check", os.path.join(folder, "none.json"))[0], 3)
+
+    def test_stacked(self):
+        status, out, _ = command("stacked", "9", "5")
+        self.assertEqual((status, pigale.read_planar_code(out)), (0, [pigale.stacked(9, 5)]))
+        self.assertEqual(command("stacked", "9")[0], 3)
+
+    def test_picture(self):
+        status, out, _ = command("picture", data=content("platonic-shift.txt"))
+        figure = pigale.read_figures(content("platonic-shift.txt"))[0]
+        self.assertEqual((status, out.decode()), (0, pigale.picture(figure)))
+        self.assertEqual(command("picture", data=content("house-verify.txt"))[0], 3)
+
+    def test_page(self):
+        status, out, _ = command("page", "shift", data=content("platonic.plc"))
+        self.assertEqual((status, out.count(b"<svg")), (0, 3))
+        status, out, _ = command("page", "verify", data=content("crossing.txt"))
+        self.assertIn(b"Cross 1 3 2 4", out)
+        status, out, said = command("page", "shift", data=content("platonic.plc")[:-1])
+        self.assertEqual((status, out.count(b"<svg"), "EndInRecord 119" in said), (3, 2, True))
+        self.assertEqual(command("page", "nothing")[0], 3)
+
+    def test_other_words(self):
+        for words in ((), ("help",)):
+            status, out, said = command(*words)
+            self.assertEqual((status, out, "recode" in said), (2, b"", True))
+
+
+def main():
+    suite = unittest.defaultTestLoader.loadTestsFromModule(sys.modules["__main__"])
+    result = unittest.TextTestRunner(stream=sys.stdout, verbosity=0).run(suite)
+    left_out = sorted({f"{type(test).__name__} (all its tests): {cause}" for test, cause in result.skipped})
+    for line in left_out:
+        print(f"left out: {line}")
+    failed = len(result.failures) + len(result.errors)
+    print(f"{result.testsRun - failed - len(result.skipped)} passed, {failed} failed")
+    return 1 if failed else 0
+
+
+if __name__ == "__main__":
+    sys.exit(main())
