@@ -2,7 +2,6 @@
 use Rattle.std.proofs.Common.{◌≡◌, ◌≢◌, ◌<◌, ℕ, zero, suc, List, [], ◌∷◌, Option, Some, None, true, ℤ, pos, refl, inr, arith}
 use Rattle.std.specs.Prelude.{slice_index}
 use Rattle.std.proofs.lemmas.Int.{ints}
-use Rattle.map_lists.specs.declared.ids.VertexId.{VertexId}
 use Rattle.offset_trees.specs.declared.nodes.Node.{Node}
 use Rattle.offset_trees.specs.Nodes.{right_of}
 use Rattle.offset_trees.specs.Sums.{AreMet}

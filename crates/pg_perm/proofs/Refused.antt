@@ -1,5 +1,5 @@
 -- Faults of images that wrong bodies would name.
-use Rattle.std.proofs.Common.{◌≡◌, ◌<◌, [], ◌∷◌, refl, ⊎_elim, arith}
+use Rattle.std.proofs.Common.{[], ◌∷◌, refl, ⊎_elim, arith}
 use Rattle.pg_perm.specs.Repeat.{IsFirstRepeat, NamesFault}
 use Rattle.pg_perm.specs.declared.fault.PermFault.TheVariants.{Repeated}
 

@@ -1,5 +1,5 @@
 -- A search of one edge, after its second vertex was seen, as a wrong body would leave it.
-use Rattle.std.proofs.Common.{◌≡◌, ◌≤◌, ℕ, List, [], ◌∷◌, refl, arith}
+use Rattle.std.proofs.Common.{◌≤◌, ℕ, List, [], ◌∷◌, refl, arith}
 use Rattle.search_forests.specs.UnderWay.{IsSearching}
 
 -- the vertex that was seen is left at once

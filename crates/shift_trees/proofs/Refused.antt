@@ -1,5 +1,5 @@
 -- Trees of three vertices that wrong bodies would make: none is a tree from vertex 0.
-use Rattle.std.proofs.Common.{◌≡◌, ℕ, List, [], ◌∷◌, Option, Some, None, pos, refl, sym, ap, subst, inr, ⊎_elim, arith}
+use Rattle.std.proofs.Common.{ℕ, List, [], ◌∷◌, Option, Some, None, pos, refl, sym, ap, subst, inr, ⊎_elim, arith}
 use Rattle.std.specs.Prelude.{unwrap_or}
 use Rattle.map_lists.specs.declared.ids.VertexId.{VertexId}
 use Rattle.offset_trees.specs.declared.nodes.Node.{Node}
