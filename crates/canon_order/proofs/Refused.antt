@@ -7,11 +7,12 @@ use Rattle.canon_order.specs.Orders.{IsCanonicalOrder}
 abbrev tetrahedron : Lists
 tetrahedron = (1 ∷ 2 ∷ 3 ∷ []) ∷ (0 ∷ 3 ∷ 2 ∷ []) ∷ (0 ∷ 1 ∷ 3 ∷ []) ∷ (0 ∷ 2 ∷ 1 ∷ []) ∷ []
 
--- the vertex on the other side of the base comes last
-last_on_the_other_side : IsCanonicalOrder tetrahedron (0, 1) (1 ∷ 0 ∷ 3 ∷ 2 ∷ []) → ⊥
+-- the contour begins with the vertex on the other side of the base, which is then the last
+last_on_the_other_side : IsCanonicalOrder tetrahedron (0, 1) (1 ∷ 0 ∷ 2 ∷ 2 ∷ []) → ⊥
 unfolding entry_after
 last_on_the_other_side c = omega (arith, c.last)
 
 -- the first vertex of the base was taken off as the others are
-first_vertex_taken_off : IsCanonicalOrder tetrahedron (0, 1) (2 ∷ 0 ∷ 1 ∷ 3 ∷ []) → ⊥
-first_vertex_taken_off c = omega (arith, c.built.first)
+first_vertex_taken_off : IsCanonicalOrder tetrahedron (0, 1) (1 ∷ 0 ∷ 2 ∷ 1 ∷ []) → ⊥
+unfolding entry_after
+first_vertex_taken_off c = omega (arith, c.last)

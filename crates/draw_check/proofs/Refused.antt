@@ -2,6 +2,7 @@
 use Rattle.std.proofs.Common.{ℕ, List, [], ◌∷◌, ℤ, pos, refl, inl, inr, ⊎_elim, arith}
 use Rattle.std.proofs.lemmas.Int.{ints}
 use Rattle.label_classes.specs.Classes.{merge}
+use Rattle.map_lists.specs.Lists.{Lists}
 use Rattle.map_lists.specs.declared.ids.VertexId.{VertexId}
 use Rattle.map_definitions.specs.Maps.{Dart, entry_after, component_count}
 use Rattle.pg_plane.specs.declared.point.Point.{Point}
@@ -9,17 +10,29 @@ use Rattle.pg_plane.specs.Geometry.{vector, IsFirstHalf, IsClockBefore}
 use Rattle.draw_check.specs.FaceVerdicts.{IsFaceVerdict}
 use Rattle.draw_check.specs.Outer.{IsOuterVerdict}
 use Rattle.draw_check.specs.Verdicts.{IsVerdict}
-use Rattle.draw_check.specs.declared.verdict.FaceVerdict.TheVariants.{Yes as FacesYes}
+use Rattle.draw_check.specs.declared.verdict.FaceVerdict.TheVariants.{Wrong}
 use Rattle.draw_check.specs.declared.verdict.OuterVerdict.TheVariants.{Inside}
 use Rattle.draw_check.specs.declared.verdict.Verdict.TheVariants.{Yes}
 
 abbrev point : ℕ → ℕ → Point
 point x y = record { x = pos x; y = pos y }
 
--- the base's face drawn counterclockwise, as no face but the others may be
-base_face_left_out : (width height : ℤ) → IsFaceVerdict ((1 ∷ 2 ∷ []) ∷ (2 ∷ 0 ∷ []) ∷ (0 ∷ 1 ∷ []) ∷ []) (point 0 0 ∷ point 1 0 ∷ point 0 1 ∷ []) width height (0, 1) FacesYes → ⊥
-unfolding entry_after
-base_face_left_out width height v = omega (arith, ints, v.1.outer)
+abbrev id : ℕ → VertexId
+id v = record { 0 = v }
+
+abbrev triangle : Lists
+triangle = (1 ∷ 2 ∷ []) ∷ (2 ∷ 0 ∷ []) ∷ (0 ∷ 1 ∷ []) ∷ []
+
+-- the base's face, which is drawn counterclockwise, left out, and the other one named
+base_face_left_out : (width height : ℤ) → IsFaceVerdict triangle (point 0 0 ∷ point 1 0 ∷ point 0 1 ∷ []) width height (0, 1) (Wrong (id 0) (id 2) (id 1)) → ⊥
+unfolding merge entry_after
+base_face_left_out width height v =
+    v.1.rest.before 1 2 (omega arith) (record {
+      dart = (omega arith, (0, omega arith, refl));
+      third = refl;
+      least = (omega arith, omega arith);
+      wrong = λ well. omega (arith, ints, well.outer refl);
+    })
 
 -- a star of three edges drawn as in a mirror
 abbrev star : List Point
@@ -43,8 +56,8 @@ mirrored_drawing_accepted width height v =
 no_of_the_sweep_taken_for_yes : (width height : ℤ) → IsVerdict ([] ∷ [] ∷ []) (point 0 0 ∷ point 0 0 ∷ []) width height Yes → ⊥
 no_of_the_sweep_taken_for_yes width height v = v.1 0 1 (record { order = omega arith; vertex = omega arith; same = refl })
 
--- an inner face named in a map of two components
-outer_of_two_components : (points : List Point) (base : Dart) (v u : VertexId) → IsOuterVerdict ([] ∷ [] ∷ []) points base (Inside v u) → ⊥
+-- a face named for a triangle with an isolated vertex beside it
+outer_of_two_components : (points : List Point) (base : Dart) (v u : VertexId) → IsOuterVerdict ((1 ∷ 2 ∷ []) ∷ (2 ∷ 0 ∷ []) ∷ (0 ∷ 1 ∷ []) ∷ [] ∷ []) points base (Inside v u) → ⊥
 unfolding component_count merge
 outer_of_two_components points base v u o = omega (arith, o.0)
 

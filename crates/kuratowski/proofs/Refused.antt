@@ -4,7 +4,7 @@ use Rattle.map_lists.specs.declared.ids.VertexId.{VertexId}
 use Rattle.graph6_text.specs.Graphs.{EdgeGraph}
 use Rattle.kuratowski.specs.Verdicts.{IsVerdict}
 use Rattle.kuratowski.specs.declared.witness.Kind.TheVariants.{K5, K33}
-use Rattle.kuratowski.specs.declared.check.WitnessVerdict.TheVariants.{Yes}
+use Rattle.kuratowski.specs.declared.check.WitnessVerdict.TheVariants.{BadBranch, Yes}
 
 abbrev v : ℕ → VertexId
 v k = record { 0 = k }
@@ -20,9 +20,9 @@ path_through_a_branch graph rest w = w.no_branch 0 1 2 (omega arith) (omega arit
 shared_inner_vertex : (graph : EdgeGraph) → (rest : List (List VertexId)) → IsVerdict graph K5 five ((v 0 ∷ v 7 ∷ v 1 ∷ []) ∷ (v 0 ∷ v 7 ∷ v 2 ∷ []) ∷ rest) Yes → ⊥
 shared_inner_vertex graph rest w = w.apart 0 1 1 1 (omega arith) (omega arith) (omega arith, omega arith) (omega arith, omega arith) refl
 
--- a path of one vertex let through
-path_of_one_vertex : (graph : EdgeGraph) → (rest : List (List VertexId)) → IsVerdict graph K5 five ((v 0 ∷ []) ∷ rest) Yes → ⊥
-path_of_one_vertex graph rest w = let h = (w.shape.joined 0 (omega arith)).long in omega (arith, h)
+-- a path of one vertex taken, where two branches are one, which is named in place of the path
+path_of_one_vertex : (graph : EdgeGraph) (rest : List (List VertexId)) → IsVerdict graph K5 (v 0 ∷ v 0 ∷ v 2 ∷ v 3 ∷ v 4 ∷ []) ((v 0 ∷ []) ∷ rest) (BadBranch 2) → ⊥
+path_of_one_vertex graph rest w = let h = (w.0.joined 0 (omega arith)).long in omega (arith, h)
 
 -- the first step of a path not looked at
 first_step_not_looked_at : (rest : List (List VertexId)) → IsVerdict (record { n = 5; edges = [] }) K5 five ((v 0 ∷ v 1 ∷ []) ∷ rest) Yes → ⊥

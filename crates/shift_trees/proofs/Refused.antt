@@ -13,7 +13,7 @@ abbrev right : Option VertexId → Node
 right link = record { x = pos 0; y = pos 0; left = None; right = link }
 
 -- the base turned round: vertex 1 leads to vertex 0
-base_turned_round : IsTree (right None ∷ right (to 0) ∷ right None ∷ []) 0 → ⊥
+base_turned_round : IsTree (right (to 2) ∷ right (to 0) ∷ right (to 1) ∷ []) 0 → ⊥
 base_turned_round t = t.first 1 (omega arith) (inr refl)
 
 -- the row of vertex 2 turned round: the links go in a circle
