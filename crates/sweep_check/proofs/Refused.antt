@@ -1,8 +1,9 @@
 -- Steps of the sweep that wrong bodies would let through.
-use Rattle.std.proofs.Common.{◌≡◌, ◌<◌, ◌≤◌, ◌-◌, ℕ, zero, suc, List, [], ◌∷◌, ◌++◌, length, take, drop, pos, ◌<ℤ◌, ap, ⊎_elim, arith}
+use Rattle.std.proofs.Common.{◌≡◌, ◌<◌, ◌≤◌, ◌-◌, ℕ, zero, suc, List, [], ◌∷◌, ◌++◌, length, take, drop, pos, ◌<ℤ◌, refl, ap, inl, inr, ⊎_elim, arith}
 use Rattle.std.specs.Prelude.{slice_index_or}
 use Rattle.std.proofs.lemmas.Int.{ints}
 use Rattle.pg_plane.specs.declared.point.Point.{Point}
+use Rattle.drawings.specs.Drawing.{IsPlaneDrawing}
 use Rattle.plane_sweep.specs.declared.line.Line.{Line}
 use Rattle.plane_sweep.specs.Lines.{rise}
 use Rattle.sweep_check.specs.Tests.{IsPassed}
@@ -34,3 +35,11 @@ vertex_below_untested p = none p.begin p.end p.order p.within (p.above (line 0 2
     none zero (suc (suc end)) o w above below after = omega (arith, w)
     none (suc zero) end o w above below after = omega (arith, ints, above (omega arith))
     none (suc (suc begin)) end o w above below after = omega (arith, o, w)
+
+-- an edge left out, which crosses the other one
+edge_left_out : IsPlaneDrawing ((1 ∷ []) ∷ (0 ∷ []) ∷ (3 ∷ []) ∷ (2 ∷ []) ∷ []) (point 0 0 ∷ point 2 2 ∷ point 0 2 ∷ point 2 0 ∷ []) → ⊥
+edge_left_out d =
+    d.no_crossing 0 1 2 3 (omega arith, (0, omega arith, refl)) (omega arith, (0, omega arith, refl)) (λ e. omega (arith, e)) (λ e. omega (arith, e)) (λ e. omega (arith, e)) (λ e. omega (arith, e)) (record {
+      ends_of_second = inr (omega (arith, ints), omega (arith, ints));
+      ends_of_first = inl (omega (arith, ints), omega (arith, ints));
+    })
