@@ -1,11 +1,13 @@
--- A pair that a wrong body would miss: in a star of three edges the middle and one leaf part the two other leaves.
-use Rattle.std.proofs.Common.{◌≡◌, ◌<◌, ℕ, zero, suc, List, [], ◌∷◌, Contains, refl, sym, subst, arith, rules}
+-- A pair that a wrong body would miss, and a cut vertex that one would see.
+use Rattle.std.proofs.Common.{◌≡◌, ◌<◌, ◌-◌, ℕ, zero, suc, List, [], ◌∷◌, length, Contains, refl, sym, subst, arith, rules}
 use Rattle.std.specs.Prelude.{slice_index}
+use Rattle.std.proofs.lemmas.List.Elements.{All-get_or}
 use Rattle.map_lists.specs.Lists.{Lists}
 use Rattle.map_definitions.specs.Maps.{HasDart}
 use Rattle.map_definitions.specs.Paths.{JoinsAvoiding}
-use Rattle.map_cuts.specs.Cuts.{IsSeparatingPair}
+use Rattle.map_cuts.specs.Cuts.{IsCutVertex, IsSeparatingPair}
 
+-- the middle of a star of three edges and one leaf part the two other leaves
 abbrev star : Lists
 star = (1 ∷ 2 ∷ 3 ∷ []) ∷ (0 ∷ []) ∷ (0 ∷ []) ∷ (0 ∷ []) ∷ []
 
@@ -54,3 +56,30 @@ flag_of_the_other_vertex refuse =
     apart (v ∷ w ∷ rest) j =
         let h : w ≡ 0 = leaf w (subst (λ x. HasDart star x w) j.start (j.is_path.steps 0 (omega arith))) in
         j.avoids w (1, omega arith, refl) (0, omega arith, sym h)
+
+abbrev edge : Lists
+edge = (1 ∷ []) ∷ (0 ∷ []) ∷ []
+
+-- the top of a search with one child, an end of the only edge, is cut
+top_with_one_child_is_cut : IsCutVertex edge 0 → ⊥
+top_with_one_child_is_cut (s, t, p) =
+    let path = p.joined.is_path in
+    let first : slice_index p.path 0 < 2 = All-get_or (λ v. v < 2) p.path 0 0 path.some path.vertices in
+    let last : slice_index p.path (length p.path - 1) < 2 = All-get_or (λ v. v < 2) p.path (length p.path - 1) 0 (omega (arith, path.some)) path.vertices in
+    let s_is : s ≡ 1 = not_zero s p.s_off (omega (arith, p.joined.start)) in
+    let t_is : t ≡ 1 = not_zero t p.t_off (omega (arith, p.joined.end)) in
+    p.apart (1 ∷ []) (record {
+      is_path = record { some = omega arith; vertices = search rules; steps = λ i l. absurd (omega (arith, l)) };
+      start = sym s_is;
+      end = sym t_is;
+      avoids = apart;
+    })
+  where
+    not_zero : (x : ℕ) → ¬ Contains (0 ∷ []) x → x < 2 → x ≡ 1
+    not_zero zero off l = absurd (off (0, omega arith, refl))
+    not_zero (suc x) off l = omega (arith, l)
+
+    apart : (x : ℕ) → Contains (1 ∷ []) x → ¬ Contains (0 ∷ []) x
+    apart x (zero, li, e) (zero, lj, f) = omega (arith, e, f)
+    apart x (suc i, li, e) c = omega (arith, li)
+    apart x (zero, li, e) (suc j, lj, f) = omega (arith, lj)
