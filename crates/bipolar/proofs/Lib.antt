@@ -5,3 +5,4 @@ pub mod TableLemmas
 pub mod WholeLemmas
 pub mod FinishLemmas
 mod Cases
+mod Refused

@@ -1,2 +1,3 @@
 -- What numbers of components say.
 pub mod PartLemmas
+mod Refused

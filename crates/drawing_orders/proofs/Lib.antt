@@ -2,3 +2,4 @@
 pub mod CompletionLemmas
 pub mod RefusalLemmas
 mod Cases
+mod Refused

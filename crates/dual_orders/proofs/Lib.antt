@@ -3,3 +3,4 @@ mod Darts
 mod Agree
 mod ColumnLemmas
 mod Numbered
+mod Refused

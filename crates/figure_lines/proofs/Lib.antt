@@ -7,3 +7,4 @@ pub mod ReadLemmas
 pub mod UniqueLemmas
 pub mod ToldLemmas
 pub mod ReadsLemmas
+mod Refused

@@ -5,3 +5,4 @@ mod Writes
 mod Sums
 mod RunRows
 mod DrawLemmas
+mod Refused

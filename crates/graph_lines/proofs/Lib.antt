@@ -4,3 +4,4 @@ pub mod LineLemmas
 pub mod ReadLemmas
 pub mod UniqueLemmas
 pub mod PartLemmas
+mod Refused

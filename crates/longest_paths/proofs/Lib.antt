@@ -1,3 +1,4 @@
 -- The lemmas on sums, and on runs over arcs.
 pub mod Sums
 mod Runs
+mod Refused

@@ -5,3 +5,4 @@ pub mod FlagLemmas
 pub mod PairLemmas
 pub mod PartnerLemmas
 mod Cases
+mod Refused

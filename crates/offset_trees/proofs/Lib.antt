@@ -6,3 +6,4 @@ mod NextLemmas
 mod WriteLemmas
 mod GrownLemmas
 mod Cases
+mod Refused

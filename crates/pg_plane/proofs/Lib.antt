@@ -1,3 +1,4 @@
 -- Lemmas on products of bounded numbers, and on directions.
 pub mod Products
 pub mod Directions
+mod Refused

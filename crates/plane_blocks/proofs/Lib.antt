@@ -1,3 +1,4 @@
 -- Lemmas on records as maps in one block.
 pub mod RefusalLemmas
 mod Cases
+mod Refused

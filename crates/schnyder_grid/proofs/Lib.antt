@@ -5,3 +5,4 @@ mod Writes
 mod Sums
 mod RunGaps
 mod DrawLemmas
+mod Refused

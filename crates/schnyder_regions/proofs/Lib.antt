@@ -3,3 +3,4 @@ mod Marks
 mod Searching
 mod ClosedPathLemmas
 mod CountLemmas
+mod Refused

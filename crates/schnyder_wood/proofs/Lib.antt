@@ -5,3 +5,4 @@ mod Names
 mod Rows
 pub mod Paths
 mod Orders
+mod Refused

@@ -3,3 +3,4 @@ pub mod StepLemmas
 pub mod TableLemmas
 pub mod ForestLemmas
 pub mod LowLemmas
+mod Refused

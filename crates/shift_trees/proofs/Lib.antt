@@ -4,3 +4,4 @@ pub mod DartLemmas
 pub mod TreeLemmas
 pub mod LinkLemmas
 pub mod PointLemmas
+mod Refused

@@ -5,3 +5,4 @@ mod LineLemmas
 mod StepLemmas
 mod SweepLemmas
 mod TopLemmas
+mod Refused

@@ -1,2 +1,3 @@
 -- The lemmas on the graph of a wood.
 mod ArcLemmas
+mod Refused
