@@ -1,3 +1,4 @@
 -- Lemmas on records as three-connected maps.
 pub mod BlockLemmas
 mod Cases
+mod Refused

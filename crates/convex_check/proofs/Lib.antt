@@ -3,3 +3,4 @@ pub mod BendLemmas
 pub mod OuterLemmas
 pub mod VerdictLemmas
 mod Cases
+mod Refused

@@ -2,3 +2,4 @@
 pub mod ByRows
 pub mod OuterFace
 pub mod GridLemmas
+mod Refused

@@ -3,3 +3,4 @@ pub mod SignLemmas
 pub mod NoteLemmas
 pub mod WoodLemmas
 pub mod PointLemmas
+mod Refused

@@ -3,3 +3,4 @@ pub mod TableLemmas
 pub mod OfRun
 pub mod OfOrder
 pub mod DartLemmas
+mod Refused

@@ -1,3 +1,4 @@
 -- What the call rests on.
 pub mod GapParts
 pub mod ExpandedLemmas
+mod Refused

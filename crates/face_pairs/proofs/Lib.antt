@@ -7,3 +7,4 @@ mod StampLemmas
 mod RingLemmas
 mod ClearLemmas
 mod Bad
+mod Refused

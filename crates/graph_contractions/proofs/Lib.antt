@@ -5,3 +5,4 @@ pub mod Contracted
 pub mod Found
 pub mod Exactly
 mod Cases
+mod Refused

@@ -3,3 +3,4 @@ pub mod Ways
 pub mod Links
 pub mod Left
 pub mod Low
+mod Refused

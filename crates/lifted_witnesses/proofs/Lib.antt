@@ -1,2 +1,3 @@
 -- What the calls rest on.
 pub mod Lifts
+mod Refused

@@ -1,3 +1,4 @@
 -- Lemmas on lines.
 pub mod Lines
 pub mod Walks
+mod Refused

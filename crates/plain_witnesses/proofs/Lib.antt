@@ -1,2 +1,3 @@
 -- What the search rests on.
 pub mod Plain
+mod Refused

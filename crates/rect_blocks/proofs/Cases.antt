@@ -39,10 +39,10 @@ unfolding entry_after
 side s = s.no_face (inr (record { dart = (omega arith, (2, omega arith, refl)); second = refl; third = refl; round = refl }))
 
 -- a square with a diagonal has no inner vertex
-abbrev square : Lists
+abbrev pub square : Lists
 square = (1 ∷ 2 ∷ 3 ∷ []) ∷ (2 ∷ 0 ∷ []) ∷ (3 ∷ 0 ∷ 1 ∷ []) ∷ (0 ∷ 2 ∷ []) ∷ []
 
-no_inner : ¬ HasInner square
+pub no_inner : ¬ HasInner square
 unfolding entry_after
 no_inner (zero, i) = i.not_first refl
 no_inner (suc zero, i) = i.not_top refl

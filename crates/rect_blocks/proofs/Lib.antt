@@ -5,3 +5,4 @@ mod FrameDarts
 mod TriangleLemmas
 mod InnerLemmas
 mod RectMapLemmas
+mod Refused

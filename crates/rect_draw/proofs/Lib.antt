@@ -3,3 +3,4 @@ pub mod Sides
 pub mod Rows
 pub mod Ranks
 pub mod Drawn
+mod Refused

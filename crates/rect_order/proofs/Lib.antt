@@ -3,3 +3,4 @@ mod Notes
 mod Passing
 mod Contours
 mod Beginning
+mod Refused

@@ -1,2 +1,3 @@
 -- Lemmas on sides.
 mod Sides
+mod Refused

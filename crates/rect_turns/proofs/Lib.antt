@@ -1,2 +1,3 @@
 -- Lemmas on turns.
 pub mod Turns
+mod Refused

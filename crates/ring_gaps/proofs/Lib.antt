@@ -1,2 +1,3 @@
 -- What the search rests on.
 pub mod GapLemmas
+mod Refused

@@ -5,4 +5,5 @@ pub mod Traces
 pub mod Spans
 pub mod Rings
 pub mod Gaps
+pub mod FewVertices
 mod Cases

@@ -5,7 +5,7 @@ use Rattle.std.proofs.lemmas.Int.{ints}
 use Rattle.pg_plane.specs.declared.point.Point.{Point}
 use Rattle.triangle_corners.specs.Corners.{IsOnTriangle}
 
-abbrev at : ℤ → ℤ → Point
+abbrev pub at : ℤ → ℤ → Point
 at x y = record { x = x; y = y }
 
 -- a point with a flat angle is on a side

@@ -3,3 +3,4 @@ pub mod Points
 pub mod Extremes
 pub mod ThirdCorner
 mod Cases
+mod Refused

@@ -1,0 +1,2 @@
+-- What wrong bodies would give.
+mod Refused
