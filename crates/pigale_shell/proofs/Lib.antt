@@ -8,3 +8,4 @@ mod SizeLemmas
 mod WordLemmas
 mod CountWords
 mod Cases
+mod Refused
