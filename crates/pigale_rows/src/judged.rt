@@ -95,11 +95,20 @@ fn sums_of(drawn: &[u8]) -> (i64, i64) {
 }
 
 /// Appends a text in which the line that tells some sums says so in words.
-fn tell_sums(alloc: Global, told: &mut Vec<u8>, text: &[u8], sums: (i64, i64)) -> Result<(), AllocError> {
+fn tell_sums(
+    alloc: Global,
+    told: &mut Vec<u8>,
+    text: &[u8],
+    sums: (i64, i64),
+) -> Result<(), AllocError> {
     let (x, y) = sums;
     let wanted = format!(in alloc; "verdict 1 yes sum {x} {y}")?;
     for line in text_of(text).lines() {
-        let line = if line == wanted.as_str() { "verdict 1 yes sum of the points" } else { line };
+        let line = if line == wanted.as_str() {
+            "verdict 1 yes sum of the points"
+        } else {
+            line
+        };
         told.extend_from_slice(line.as_bytes())?;
         told.push(b'\n')?;
     }

@@ -5,22 +5,30 @@ use crate::graphs;
 use map_lists::Rotations;
 use std::alloc::{AllocError, Global};
 
-/// Appends bytes so many times.
-fn repeat(input: &mut Vec<u8>, bytes: &[u8], times: usize) -> Result<(), AllocError> {
-    for _ in 0..times {
-        input.extend_from_slice(bytes)?;
+/// Appends a byte so many times; answers whether there is just one.
+fn put_many(input: &mut Vec<u8>, bytes: &[u8], times: usize) -> Result<bool, AllocError> {
+    match bytes {
+        [byte] => {
+            input.resize(input.len().saturating_add(times), *byte)?;
+            Ok(true)
+        }
+        _ => Ok(false),
     }
-    Ok(())
 }
 
-/// Appends bytes in hexadecimal, which `*` and a number may repeat; answers whether they are.
+/// Appends bytes in hexadecimal, or a byte, `*` and how often it comes; answers whether they are such.
 fn put_digits(alloc: Global, input: &mut Vec<u8>, word: &str) -> Result<bool, AllocError> {
-    let (digits, times) = word.split_once('*').unwrap_or((word, "1"));
-    let (Ok(bytes), Ok(times)) = (hex::decode(alloc, digits), times.parse::<usize>()) else {
+    let (digits, times) = word.split_once('*').unwrap_or((word, ""));
+    let Ok(bytes) = hex::decode(alloc, digits) else {
         return Ok(false);
     };
-    repeat(input, &bytes, times)?;
-    Ok(true)
+    match times.parse::<usize>() {
+        Ok(times) => put_many(input, &bytes, times),
+        Err(_) => {
+            input.extend_from_slice(&bytes)?;
+            Ok(times.is_empty())
+        }
+    }
 }
 
 /// Appends all that the words between the spaces say in hexadecimal; answers whether they do.
@@ -120,12 +128,7 @@ fn put_named_map(
 }
 
 /// Appends what a line says to an input; answers whether there is such a line.
-pub fn put(
-    alloc: Global,
-    input: &mut Vec<u8>,
-    word: &str,
-    rest: &str,
-) -> Result<bool, AllocError> {
+pub fn put(alloc: Global, input: &mut Vec<u8>, word: &str, rest: &str) -> Result<bool, AllocError> {
     match word {
         "bytes" => put_bytes(alloc, input, rest),
         "<" => put_text(input, rest, true),

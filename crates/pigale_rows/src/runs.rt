@@ -82,7 +82,10 @@ pub fn told(alloc: Global, words: &[String], given: &Given) -> Result<Vec<u8>, A
 /// What `count` answers for the lists of one record, behind a line that stood there before.
 fn answer_lists(alloc: Global, lists: &Rotations) -> Result<Vec<u8>, AllocError> {
     let mut told = Vec::from_slice(alloc, b"before\n")?;
-    if 0 < lists.len() && lists.len() < 4096 && answer_record(alloc, Job::Count, 1, lists, &mut told)? {
+    if 0 < lists.len()
+        && lists.len() < 4096
+        && answer_record(alloc, Job::Count, 1, lists, &mut told)?
+    {
         told.extend_from_slice(b"served\n")?;
     }
     Ok(told)

@@ -106,7 +106,10 @@ fn copy(named: &[Named], input: &mut Vec<u8>, rest: &str) -> Result<bool, AllocE
     let Some(bytes) = bytes_named(named, name) else {
         return Ok(false);
     };
-    let count = count.parse::<usize>().unwrap_or(bytes.len()).min(bytes.len());
+    let count = count
+        .parse::<usize>()
+        .unwrap_or(bytes.len())
+        .min(bytes.len());
     input.extend_from_slice(&bytes[..count])?;
     Ok(true)
 }
