@@ -78,7 +78,11 @@ fn coordinates(figure: &GridFigure, v: u16) -> [i64; 3] {
     }
     let place = figure.points.get(usize::from(v));
     let (x, y) = (i64::from(place.x), i64::from(place.y));
-    [x, y, i64::from(figure.width).wrapping_sub(x).wrapping_sub(y)]
+    [
+        x,
+        y,
+        i64::from(figure.width).wrapping_sub(x).wrapping_sub(y),
+    ]
 }
 
 // The first vertex whose regions are not its coordinates.

@@ -41,7 +41,15 @@ fn walks(alloc: Global, args: &[&str], out: &mut String) -> Result<(), Refusal> 
 }
 
 fn put_count(count: EulerCount, out: &mut String) -> Result<(), AllocError> {
-    write!(out, "n {} m {} f {} c {} genus {}", count.n, count.m, count.f, count.c, count.genus())
+    write!(
+        out,
+        "n {} m {} f {} c {} genus {}",
+        count.n,
+        count.m,
+        count.f,
+        count.c,
+        count.genus()
+    )
 }
 
 // The counts of lists by a counter that may have counted others before.

@@ -15,10 +15,7 @@ pub fn put_vertex(found: Option<VertexId>, out: &mut String) -> Result<(), Alloc
 }
 
 /// Two vertices, if there are such.
-pub fn put_pair(
-    found: Option<(VertexId, VertexId)>,
-    out: &mut String,
-) -> Result<(), AllocError> {
+pub fn put_pair(found: Option<(VertexId, VertexId)>, out: &mut String) -> Result<(), AllocError> {
     match found {
         Some((u, v)) => write!(out, "{} {}", u.0, v.0),
         None => out.push_str("none"),

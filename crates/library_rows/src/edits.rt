@@ -141,7 +141,12 @@ fn put_left(alloc: Global, map: &HalfMap, out: &mut String) -> Result<(), AllocE
         return put_lists(&lists, out);
     }
     let first = lists.list(0).len();
-    write!(out, "{} entries, {first} of vertex 0 and {} of the last", lists.total(), lists.list(n - 1).len())
+    write!(
+        out,
+        "{} entries, {first} of vertex 0 and {} of the last",
+        lists.total(),
+        lists.list(n - 1).len()
+    )
 }
 
 /// The edits of a map, and its lists after them.

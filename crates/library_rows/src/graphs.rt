@@ -2,8 +2,8 @@
 ghost use Rattle.std.specs.Prelude.{◌≡◌, ◌<◌, IfOk, IfSome, true};
 ghost use Rattle.graph6_text.specs.Graphs.{has_edge};
 
-use crate::refusal::Refusal;
 use crate::cuts::{put_pair, put_vertex};
+use crate::refusal::Refusal;
 use crate::text::{pair, part, put_flag};
 use contracted_graphs::contract;
 use graph_contractions::{contractible_edge, is_three_connected};
@@ -77,7 +77,10 @@ pub fn edge_of(graph: &Graph, text: &str) -> Option<Ends>
 {
     let (a, b) = pair(text);
     if a < b && graph.has(VertexId(a), VertexId(b)) {
-        Some(Ends { a: VertexId(a), b: VertexId(b) })
+        Some(Ends {
+            a: VertexId(a),
+            b: VertexId(b),
+        })
     } else {
         None
     }
@@ -111,7 +114,11 @@ fn contractible(alloc: Global, args: &[&str], out: &mut String) -> Result<(), Re
 // The number of components, the least cut vertex and the least separating pair.
 fn cuts(alloc: Global, args: &[&str], out: &mut String) -> Result<(), Refusal> {
     let graph = some_graph(alloc, part(args, 0))?;
-    write!(out, "{} components, ", graph_components(alloc, &graph)?.count())?;
+    write!(
+        out,
+        "{} components, ",
+        graph_components(alloc, &graph)?.count()
+    )?;
     put_vertex(graph_cut_vertex(alloc, &graph)?, out)?;
     out.push_str(", ")?;
     Ok(put_pair(graph_separating_pair(alloc, &graph)?, out)?)

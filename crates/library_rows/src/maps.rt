@@ -27,7 +27,13 @@ pub fn dart_between(map: &HalfMap, u: u16, v: u16) -> Option<DartId>
 
 /// A map by its numbers of vertices and edges, its spare room, and its lists.
 pub fn put_map(alloc: Global, map: &HalfMap, out: &mut String) -> Result<(), AllocError> {
-    write!(out, "n {} m {} spare {} lists ", map.n(), map.m(), map.spare())?;
+    write!(
+        out,
+        "n {} m {} spare {} lists ",
+        map.n(),
+        map.m(),
+        map.spare()
+    )?;
     put_lists(&map.rotations(alloc)?, out)
 }
 

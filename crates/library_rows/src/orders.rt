@@ -121,18 +121,19 @@ fn node(alloc: Global, args: &[&str], out: &mut String) -> Result<(), Refusal> {
         return Err(Refusal::Row("vertex"));
     }
     let mut tree = Offsets::new(alloc, n)?;
-    let node = Node { x: 3, y: 4, left: None, right: Some(VertexId(v)) };
+    let node = Node {
+        x: 3,
+        y: 4,
+        left: None,
+        right: Some(VertexId(v)),
+    };
     tree.put(VertexId(v), node, &mut steps);
     write!(out, "{} nodes, ", tree.len())?;
     Ok(put_node(tree.get(VertexId(v), &mut steps), out)?)
 }
 
 // The nodes of a tree, each by its place, its height and its links.
-fn put_nodes(
-    tree: &Offsets,
-    steps: &mut Steps<Brand>,
-    out: &mut String,
-) -> Result<(), AllocError> {
+fn put_nodes(tree: &Offsets, steps: &mut Steps<Brand>, out: &mut String) -> Result<(), AllocError> {
     for v in 0..tree.len() {
         put_node(tree.get(VertexId(v), steps), out)?;
         out.push(';')?;
@@ -141,12 +142,7 @@ fn put_nodes(
 }
 
 // The tree of offsets of a completed map, where it is asked for, and the points to which it adds up.
-fn offsets(
-    alloc: Global,
-    args: &[&str],
-    nodes: bool,
-    out: &mut String,
-) -> Result<(), Refusal> {
+fn offsets(alloc: Global, args: &[&str], nodes: bool, out: &mut String) -> Result<(), Refusal> {
     let found = order_of(alloc, part(args, 0))?;
     if found.tri.n() == 0 || found.order.at.len() == 0 {
         return Err(Refusal::Row("vertex"));

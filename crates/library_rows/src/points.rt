@@ -41,7 +41,10 @@ pub fn put_integers(list: &Ints, out: &mut String) -> Result<(), AllocError> {
 // The point of two whole numbers.
 fn point_of(text: &str) -> Point {
     let (x, y) = text.split_once(' ').unwrap_or((text, ""));
-    Point { x: integer(x), y: integer(y) }
+    Point {
+        x: integer(x),
+        y: integer(y),
+    }
 }
 
 /// The points between the semicolons.
@@ -91,18 +94,30 @@ fn point(text: &str) -> Result<Point, Refusal>
     ensures { IfOk result IsInRange }
 {
     let p = point_of(text);
-    if is_in_range(p) { Ok(p) } else { Err(Refusal::Row("point")) }
+    if is_in_range(p) {
+        Ok(p)
+    } else {
+        Err(Refusal::Row("point"))
+    }
 }
 
 // Twice the area of a triangle.
 fn area(args: &[&str], out: &mut String) -> Result<(), Refusal> {
-    let (a, b, c) = (point(part(args, 0))?, point(part(args, 1))?, point(part(args, 2))?);
+    let (a, b, c) = (
+        point(part(args, 0))?,
+        point(part(args, 1))?,
+        point(part(args, 2))?,
+    );
     Ok(write!(out, "{}", area2(a, b, c))?)
 }
 
 // Whether a point is on a segment, from both of its ends.
 fn on(args: &[&str], out: &mut String) -> Result<(), Refusal> {
-    let (p, a, b) = (point(part(args, 0))?, point(part(args, 1))?, point(part(args, 2))?);
+    let (p, a, b) = (
+        point(part(args, 0))?,
+        point(part(args, 1))?,
+        point(part(args, 2))?,
+    );
     put_flag(on_segment(p, a, b), out)?;
     out.push(' ')?;
     Ok(put_flag(on_segment(p, b, a), out)?)

@@ -1,5 +1,5 @@
 //! Records as bytes: fed one by one, taken in pieces, read whole and written.
-ghost use Rattle.std.specs.Prelude.{◌≡◌, ◌+◌, ◌<◌, ◌≤◌, length, All, IsTrue};
+ghost use Rattle.std.specs.Prelude.{◌+◌, ◌<◌, ◌≤◌, length, All, IsTrue, IfOk};
 ghost use Rattle.planar_code.specs.Write.{AreBelow};
 
 use crate::lists::{lists_of, put_lists};
@@ -222,7 +222,12 @@ fn back(alloc: Global, args: &[&str], out: &mut String) -> Result<(), Refusal> {
     bytes.extend_from_slice(&bytes_of(alloc, part(args, 2))?)?;
     match next_record(alloc, &bytes, at) {
         Ok(Step::Lists(found, next)) if are_same(&lists, &found) && next == end => {
-            Ok(write!(out, "{} bytes from {at} to {end} of {}", end - at, bytes.len())?)
+            Ok(write!(
+                out,
+                "{} bytes from {at} to {end} of {}",
+                end - at,
+                bytes.len()
+            )?)
         }
         other => Ok(put_step(other, out)?),
     }

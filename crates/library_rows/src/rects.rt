@@ -64,7 +64,10 @@ fn put_edge(
     v: u16,
     out: &mut String,
 ) -> Result<(), AllocError> {
-    match (label_between(map, labels, u, v), label_between(map, labels, v, u)) {
+    match (
+        label_between(map, labels, u, v),
+        label_between(map, labels, v, u),
+    ) {
         (Some(one), Some(other)) => write!(out, "{u} {v} {one} {other}; "),
         _ => Ok(()),
     }

@@ -2,8 +2,8 @@
 use crate::refusal::{Refusal, tell};
 use crate::text::part;
 use crate::{
-    bars, completions, convex, counts, cuts, edits, graphs, maps, orbits, orders, points, records, rects,
-    searches, texts, verdicts, witnesses, woods,
+    bars, completions, convex, counts, cuts, edits, graphs, maps, orbits, orders, points, records,
+    rects, searches, texts, verdicts, witnesses, woods,
 };
 use std::alloc::{AllocError, Global};
 

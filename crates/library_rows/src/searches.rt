@@ -67,7 +67,11 @@ fn witnessed(alloc: Global, graph: &Graph) -> Result<&'static str, AllocError> {
 // What the searches find: a map, a subdivision of one kind or the other, or something wrong.
 fn searched(alloc: Global, graph: &Graph) -> Result<&'static str, AllocError> {
     match planar_lists(alloc, graph)? {
-        Some(lists) => Ok(if is_drawn(alloc, graph, &lists) { "map" } else { "wrong" }),
+        Some(lists) => Ok(if is_drawn(alloc, graph, &lists) {
+            "map"
+        } else {
+            "wrong"
+        }),
         None => witnessed(alloc, graph),
     }
 }
@@ -81,10 +85,7 @@ fn word_of(answer: Embedding) -> &'static str {
 }
 
 // The answers by the searches and by contracted edges.
-fn both_ways(
-    alloc: Global,
-    graph: &Graph,
-) -> Result<(&'static str, &'static str), AllocError>
+fn both_ways(alloc: Global, graph: &Graph) -> Result<(&'static str, &'static str), AllocError>
     requires { 3 ≤ graph.now.n }
 {
     let quick = word_of(embed(alloc, graph)?);
@@ -118,7 +119,11 @@ struct Tally {
 
 impl Tally {
     fn new() -> Tally {
-        Tally { planar: 0, other: 0, wrong: 0 }
+        Tally {
+            planar: 0,
+            other: 0,
+            wrong: 0,
+        }
     }
 
     // Counts a graph by what was found for it, twice.
@@ -133,7 +138,11 @@ impl Tally {
     }
 
     fn put(&self, out: &mut String) -> Result<(), AllocError> {
-        write!(out, "planar {} other {} wrong {}", self.planar, self.other, self.wrong)
+        write!(
+            out,
+            "planar {} other {} wrong {}",
+            self.planar, self.other, self.wrong
+        )
     }
 }
 

@@ -81,7 +81,13 @@ fn witness(alloc: Global, args: &[&str], out: &mut String) -> Result<(), Refusal
     let graph = graph_of(alloc, part(args, 1))?;
     let witness = witness_of(alloc, part(args, 2), part(args, 3))?;
     let mut bytes = Vec::new(alloc);
-    print_witness(alloc, u32::from(number(part(args, 0))), &graph, &witness, &mut bytes)?;
+    print_witness(
+        alloc,
+        u32::from(number(part(args, 0))),
+        &graph,
+        &witness,
+        &mut bytes,
+    )?;
     Ok(put_bytes(&bytes, out)?)
 }
 

@@ -14,12 +14,7 @@ use std::alloc::{AllocError, Global};
 use sweep_check::is_plane_by_sweep;
 
 // A figure of a map, with a place for each vertex.
-fn figure_of(
-    alloc: Global,
-    map: &HalfMap,
-    places: &str,
-    grid: &str,
-) -> Result<GridFigure, Refusal>
+fn figure_of(alloc: Global, map: &HalfMap, places: &str, grid: &str) -> Result<GridFigure, Refusal>
     ensures { IfOk result (λ figure. HasPlaces map.now.lists figure.points) }
 {
     let points = points_of(alloc, places)?;
@@ -27,7 +22,11 @@ fn figure_of(
     if points.len() != usize::from(map.n()) || !are_in_range(&points) {
         return Err(Refusal::Row("point for each vertex"));
     }
-    Ok(GridFigure { points, width: integer(width), height: integer(height) })
+    Ok(GridFigure {
+        points,
+        width: integer(width),
+        height: integer(height),
+    })
 }
 
 // An edge by its ends.

@@ -51,7 +51,11 @@ pub fn witness_of(alloc: Global, name: &str, text: &str) -> Result<Witness, Allo
     for path in text.split(';') {
         paths.push(&path_of(alloc, path)?)?;
     }
-    Ok(Witness { kind, branch, paths })
+    Ok(Witness {
+        kind,
+        branch,
+        paths,
+    })
 }
 
 fn put_verdict(verdict: WitnessVerdict, out: &mut String) -> Result<(), AllocError> {
@@ -90,7 +94,11 @@ fn lifted(
 // The kind, the number of paths and of their vertices, of a witness, and what the check says of it.
 fn put_witness(graph: &Graph, witness: &Witness, out: &mut String) -> Result<(), AllocError> {
     let (paths, vertices) = (witness.paths.len(), witness.paths.total());
-    write!(out, "{}, {paths} paths of {vertices} vertices, ", name_of(witness.kind))?;
+    write!(
+        out,
+        "{}, {paths} paths of {vertices} vertices, ",
+        name_of(witness.kind)
+    )?;
     put_verdict(check_witness(graph, witness), out)
 }
 

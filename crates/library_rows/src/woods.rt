@@ -61,12 +61,7 @@ fn parents(alloc: Global, args: &[&str], out: &mut String) -> Result<(), Refusal
 }
 
 // The counts of the three regions of an inner vertex.
-fn regions(
-    alloc: Global,
-    tri: &HalfMap,
-    found: &Wood,
-    v: VertexId,
-) -> Result<[u32; 3], AllocError>
+fn regions(alloc: Global, tri: &HalfMap, found: &Wood, v: VertexId) -> Result<[u32; 3], AllocError>
     requires inner { IsInnerIn found.now v.0 }
     requires wood { (base : Dart) × HasDart tri.now.lists base.0 base.1 × IsWoodOf tri.now.lists base found.now }
 {
