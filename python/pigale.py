@@ -35,7 +35,7 @@ import subprocess
 import sys
 from collections.abc import Mapping
 from dataclasses import dataclass
-from typing import Any, Dict, List, Tuple
+from typing import Any, List, Tuple
 
 HEADER = b">>planar_code<<"
 MOST_BYTES = 1 << 24  # of an input that the program reads
@@ -547,10 +547,23 @@ def check(places, edges, rotations=None):
 
 
 def check_all(drawings):
-    """As `check`, for any number of drawings in one run: a list of (places, edges) or (places, edges, rotations)."""
+    """As `check`, for a list of drawings, (places, edges) or (places, edges, rotations), in as few runs as may be."""
     prepared = [_prepared(*drawing) for drawing in drawings]
-    answers = run("verify", [figure for figure, _ in prepared]).answers
+    texts = _joined([f"{figure}\n" for figure, _ in prepared])
+    answers = [answer for text in texts for answer in run("verify", text).answers]
     return [_checked(answer, names) for answer, (_, names) in zip(answers, prepared)]
+
+
+def _joined(texts):
+    """The texts one after another, in as few as a run can read each."""
+    joined, size = [[]], 0
+    for text in texts:
+        if size + len(text) > MOST_BYTES:
+            joined.append([])
+            size = 0
+        joined[-1].append(text)
+        size += len(text)
+    return ["".join(part) for part in joined]
 
 
 def _checked(answer, names):
@@ -576,7 +589,7 @@ def _prepared(places, edges, rotations=None):
             raise ValueError("the rotations have other edges than the drawing")
     width = max((x for x, _ in points), default=0)
     height = max((y for _, y in points), default=0)
-    count = max(len(points) + 1, (width + 5) // 2, height + 3, 3)
+    count = max(len(points) + 1, _vertices_for(width, height))
     if count > MOST_VERTICES:
         raise ValueError(f"{len(points)} vertices on a grid of {width} by {height}: at most {MOST_VERTICES - 1} "
                          f"vertices within {WIDTH} by {HEIGHT} can be judged")
@@ -610,9 +623,14 @@ def _fitted(points):
         unit = functools.reduce(math.gcd, steps) or 1
         axes.append([step // unit for step in steps])
     xs, ys = axes
-    if max(ys) > HEIGHT:
+    if _vertices_for(max(ys), max(xs)) < _vertices_for(max(xs), max(ys)):
         xs, ys = ys, [max(xs) - x for x in xs]
     return list(zip(xs, ys))
+
+
+def _vertices_for(width, height):
+    """The least N for which a grid of 2N - 4 by N - 2 has room for a drawing and a row above it."""
+    return max((width + 5) // 2, height + 3)
 
 
 def scaled(places, width=WIDTH, height=HEIGHT):

@@ -4,8 +4,6 @@
 Its last lines say what was left out and how many tests passed and failed. Without networkx or Sage the tests that want
 them are left out. The program is found as pigale.py finds it.
 """
-import contextlib
-import io
 import itertools
 import json
 import os
@@ -14,6 +12,7 @@ import subprocess
 import sys
 import tempfile
 import unittest
+import unittest.mock
 from xml.etree import ElementTree
 
 HERE = os.path.dirname(os.path.abspath(__file__))
@@ -281,6 +280,15 @@ class Drawings(unittest.TestCase):
             places = {name: move(*place) for name, place in SQUARE.items()}
             self.assertTrue(pigale.check(places, SIDES))
             self.assertEqual(str(pigale.check(places, crossed)), "Cross a c b d")
+
+    def test_many_drawings_take_several_runs(self):
+        crossed = [*SIDES, ("a", "c"), ("b", "d")]
+        drawings = [(SQUARE, SIDES if k % 3 else crossed) for k in range(10)]
+        with unittest.mock.patch.object(pigale, "MOST_BYTES", 400):
+            with unittest.mock.patch.object(pigale, "run", wraps=pigale.run) as runs:
+                answers = pigale.check_all(drawings)
+        self.assertEqual([bool(answer) for answer in answers], [k % 3 > 0 for k in range(10)])
+        self.assertGreater(runs.call_count, 1)
 
     def test_limits(self):
         for far in ((8186, 1), (8186, 4092), (1, 8186), (4092, 8186)):
