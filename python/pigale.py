@@ -323,26 +323,35 @@ def read_blocks(text):
     `text` is text or bytes. Each prints itself as the program does, so the lines are those of the text again. Raises
     ValueError, with the number of the line, where a line is none that the program writes.
     """
+    return _blocks(text, ())
+
+
+def read_figures(text):
+    """The figures of a text, as a list.
+
+    `text` is text or bytes. Lines between figures that begin with `count`, `refused`, `verdict`, `end` or `stop` are
+    passed over, as `verify` does. Raises ValueError, with the number of the line, where another line is no figure's.
+    """
+    return _blocks(text, ("count", "refused", "verdict", "end", "stop"))
+
+
+def _blocks(text, passed_over):
+    """The blocks of a text, but for those that begin with a word that is passed over."""
     lines = _text(text).split("\n")
     if lines[-1]:
         raise ValueError(f"line {len(lines)} is not closed")
     blocks, at = [], 0
     while at < len(lines) - 1:
+        if lines[at].split(" ")[0] in passed_over:
+            at += 1
+            continue
         try:
             block, at = _block(lines, at)
-        except (ValueError, IndexError) as fault:
+        except (ValueError, IndexError, KeyError) as fault:
             raise ValueError(f"line {at + 1}, or the figure that begins there, is none of the program's: "
                              f"{lines[at][:60]}") from fault
         blocks.append(block)
     return blocks
-
-
-def read_figures(text):
-    """The figures of a text, as a list; the lines between them (`count`, `refused`, `verdict`, ..) are passed over.
-
-    `text` is text or bytes. Raises ValueError as `read_blocks` does.
-    """
-    return [block for block in read_blocks(text) if isinstance(block, FIGURES)]
 
 
 def _text(text):
@@ -600,7 +609,7 @@ def _prepared(places, edges, rotations=None):
 def _whole(number, name):
     try:
         whole = int(number)
-    except (ValueError, OverflowError):
+    except (TypeError, ValueError, OverflowError):
         whole = None
     if whole is None or whole != number:
         raise ValueError(f"vertex {name} has the coordinate {number}, which is not whole (scaled makes it so)")
@@ -619,7 +628,8 @@ def _fitted(points):
         return []
     axes = []
     for values in zip(*points):
-        steps = [value - min(values) for value in values]
+        least = min(values)
+        steps = [value - least for value in values]
         unit = functools.reduce(math.gcd, steps) or 1
         axes.append([step // unit for step in steps])
     xs, ys = axes
@@ -727,7 +737,8 @@ def without_edge(lists, v, u):
     """The map without the edge from v to u; its faces at both sides become one.
 
     Where u was the first of v's list, that face is the one on the left of the dart from v to what is first then. So of a
-    triangulation in which each triangle of edges is a face, `without_edge(lists, 1, lists[0][0])` is drawn by `rect`.
+    triangulation of more than four vertices in which each triangle of edges is a face, `rect` draws
+    `without_edge(lists, 1, lists[0][0])`.
     """
     return [[x for x in us if {w, x} != {v, u}] for w, us in enumerate(lists, 1)]
 

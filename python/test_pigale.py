@@ -120,11 +120,13 @@ class Texts(unittest.TestCase):
         blocks = pigale.read_blocks(text)
         self.assertEqual("".join(f"{block}\n" for block in blocks), text)
         self.assertEqual(blocks[5], pigale.Verdict(5, "Cross", (1, 2, 3, 4)))
-        self.assertEqual(len(pigale.read_figures(text)), 2)
+        self.assertEqual([figure.number for figure in pigale.read_figures(text)], [7, 8])
+        self.assertEqual(pigale.read_figures("end of something\nfigure 1 shift 1\n1 at 0 0:\ncount me\n"), [
+            pigale.GridFigure(1, "shift", [(0, 0)], [[]])])
 
     def test_what_the_program_does_not_write(self):
         for text in ("count 1", "hello 1\n", "figure 1 shift 2\n1 at 0 0:\n", "figure 1 circle 1\n1 at 0 0:\n",
-                     "figure 1 bars 1\n1 y 0 x 0 0:\n", "verdict x yes\n", "\n"):
+                     "figure 1 bars 1\n1 y 0 x 0 0:\n", "verdict x yes\n", "\n", "figure 1 witness K6 D~{\n"):
             with self.assertRaises(ValueError):
                 pigale.read_blocks(text)
 
