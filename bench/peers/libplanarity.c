@@ -16,7 +16,7 @@ static void add(int u, int v, void *given) {
 int main(void) {
     for (int n; count = 0, (n = next_graph(add, 0)) >= 0;) {
         graphP g = gp_New();
-        if (gp_InitGraph(g, n) != OK) return 1;
+        if (gp_InitGraph(g, n) != OK || gp_EnsureArcCapacity(g, count) != OK) return 1;
         const int first = gp_GetFirstVertex(g);
         for (int i = 0; i < count; i += 2)
             if (gp_AddEdge(g, ends[i] + first, 0, ends[i + 1] + first, 0) != OK) return 1;

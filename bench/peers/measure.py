@@ -6,7 +6,7 @@
 
 Builds the drivers of this folder against Debian's packages (libboost-graph-dev, libplanarity-dev), takes nauty's planarg
 and geng (nauty) and Python's networkx, and says what is not there. Instructions are counted by valgrind; milliseconds
-are the least of three runs. Each answer of each program is judged by pigale: maps by `count`, drawings and Kuratowski
+are the least of three runs, for networkx those of one. Each answer of each program is judged by pigale: maps by `count`, drawings and Kuratowski
 subgraphs by `verify`. Makes its inputs under bench/out/, the same ones each time. Not part of the gate.
 """
 import importlib.util
@@ -124,7 +124,7 @@ def wrong_ones(graphs, planar, answers):
         else:
             figure = answer[1] if answer[0] == "figure" else witness_of(graph, answer[1])
             wrong += figure is None
-            figures += [figure] if figure else []
+            figures += [] if figure is None else [figure]
     wrong += sum(not isinstance(a, pigale.Count) or a.genus > 0 for a in judged("count", maps))
     wrong += sum(not answer for answer in pigale.check_all(drawings))
     return wrong + sum(a.name != "yes" for a in judged("verify", figures))
@@ -139,7 +139,8 @@ def batches(items, size):
 
 
 def witness_of(graph, edges):
-    """The edges of a subdivision of K5 or K3,3 as a witness, or nothing where they are none: the program judges it."""
+    """The edges of a subdivision of K5 or K3,3 as a witness, which the program judges, or nothing where they are not just
+    those of one."""
     beside = {}
     for u, v in edges:
         beside.setdefault(u, []).append(v)
@@ -161,7 +162,8 @@ def witness_of(graph, edges):
     if len(branches) not in (5, 6) or any(pair not in tracks for pair in pairs):
         return None
     kind = "K5" if len(branches) == 5 else "K33"
-    return pigale.WitnessFigure(1, kind, pigale.write_graph6(graph), branches, [tracks[pair] for pair in pairs])
+    witness = pigale.WitnessFigure(1, kind, pigale.write_graph6(graph), branches, [tracks[pair] for pair in pairs])
+    return witness if pigale.witness_graph(witness)[1] == sorted(tuple(sorted(edge)) for edge in edges) else None
 
 
 # Inputs
@@ -174,7 +176,7 @@ def inputs(small):
         yield "all connected graphs of eight vertices", [pigale.read_graph6(line) for line in done.stdout.split()]
     else:
         print("left out: the graphs of geng, which is not there", flush=True)
-    few = 3 if small else 100
+    few = 3 if small else 40
 
     def whole(n):
         return n, pigale.edges_of(pigale.renumbered(pigale.triangulation(n, source), source))
@@ -188,10 +190,10 @@ def inputs(small):
 
 # The tables
 
-def milliseconds(command, path):
-    """The least time of three runs, and the output."""
+def milliseconds(command, path, runs=3):
+    """The least time of some runs, and the output."""
     times = []
-    for _ in range(3):
+    for _ in range(runs):
         with open(path, "rb") as file:
             begun = time.perf_counter()
             done = subprocess.run(command, stdin=file, stdout=subprocess.PIPE, stderr=subprocess.DEVNULL, check=False)
@@ -209,7 +211,7 @@ def peers_table(small):
             file.writelines(f"{pigale.write_graph6(graph)}\n" for graph in graphs)
         planar = None
         for program, does, command, read in found:
-            taken, output = milliseconds(command, path)
+            taken, output = milliseconds(command, path, 1 if program == "networkx" else 3)
             answers = read(output, graphs)
             planar = planar or [figure.job != "witness" for _, figure in answers]
             used = "" if program == "networkx" else f"{count.instructions(command, path) // len(graphs):,}"
