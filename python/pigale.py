@@ -35,7 +35,7 @@ import subprocess
 import sys
 from collections.abc import Mapping
 from dataclasses import dataclass
-from typing import Any, Dict, List, Tuple
+from typing import Any, List, Tuple
 
 HEADER = b">>planar_code<<"
 MOST_BYTES = 1 << 24  # of an input that the program reads
@@ -323,26 +323,35 @@ def read_blocks(text):
     `text` is text or bytes. Each prints itself as the program does, so the lines are those of the text again. Raises
     ValueError, with the number of the line, where a line is none that the program writes.
     """
+    return _blocks(text, ())
+
+
+def read_figures(text):
+    """The figures of a text, as a list.
+
+    `text` is text or bytes. Lines between figures that begin with `count`, `refused`, `verdict`, `end` or `stop` are
+    passed over, as `verify` does. Raises ValueError, with the number of the line, where another line is no figure's.
+    """
+    return _blocks(text, ("count", "refused", "verdict", "end", "stop"))
+
+
+def _blocks(text, passed_over):
+    """The blocks of a text, but for those that begin with a word that is passed over."""
     lines = _text(text).split("\n")
     if lines[-1]:
         raise ValueError(f"line {len(lines)} is not closed")
     blocks, at = [], 0
     while at < len(lines) - 1:
+        if lines[at].split(" ")[0] in passed_over:
+            at += 1
+            continue
         try:
             block, at = _block(lines, at)
-        except (ValueError, IndexError) as fault:
+        except (ValueError, IndexError, KeyError) as fault:
             raise ValueError(f"line {at + 1}, or the figure that begins there, is none of the program's: "
                              f"{lines[at][:60]}") from fault
         blocks.append(block)
     return blocks
-
-
-def read_figures(text):
-    """The figures of a text, as a list; the lines between them (`count`, `refused`, `verdict`, ..) are passed over.
-
-    `text` is text or bytes. Raises ValueError as `read_blocks` does.
-    """
-    return [block for block in read_blocks(text) if isinstance(block, FIGURES)]
 
 
 def _text(text):
@@ -547,10 +556,23 @@ def check(places, edges, rotations=None):
 
 
 def check_all(drawings):
-    """As `check`, for any number of drawings in one run: a list of (places, edges) or (places, edges, rotations)."""
+    """As `check`, for a list of drawings, (places, edges) or (places, edges, rotations), in as few runs as may be."""
     prepared = [_prepared(*drawing) for drawing in drawings]
-    answers = run("verify", [figure for figure, _ in prepared]).answers
+    texts = _joined([f"{figure}\n" for figure, _ in prepared])
+    answers = [answer for text in texts for answer in run("verify", text).answers]
     return [_checked(answer, names) for answer, (_, names) in zip(answers, prepared)]
+
+
+def _joined(texts):
+    """The texts one after another, in as few as a run can read each."""
+    joined, size = [[]], 0
+    for text in texts:
+        if size + len(text) > MOST_BYTES:
+            joined.append([])
+            size = 0
+        joined[-1].append(text)
+        size += len(text)
+    return ["".join(part) for part in joined]
 
 
 def _checked(answer, names):
@@ -576,7 +598,7 @@ def _prepared(places, edges, rotations=None):
             raise ValueError("the rotations have other edges than the drawing")
     width = max((x for x, _ in points), default=0)
     height = max((y for _, y in points), default=0)
-    count = max(len(points) + 1, (width + 5) // 2, height + 3, 3)
+    count = max(len(points) + 1, _vertices_for(width, height))
     if count > MOST_VERTICES:
         raise ValueError(f"{len(points)} vertices on a grid of {width} by {height}: at most {MOST_VERTICES - 1} "
                          f"vertices within {WIDTH} by {HEIGHT} can be judged")
@@ -587,7 +609,7 @@ def _prepared(places, edges, rotations=None):
 def _whole(number, name):
     try:
         whole = int(number)
-    except (ValueError, OverflowError):
+    except (TypeError, ValueError, OverflowError):
         whole = None
     if whole is None or whole != number:
         raise ValueError(f"vertex {name} has the coordinate {number}, which is not whole (scaled makes it so)")
@@ -606,13 +628,19 @@ def _fitted(points):
         return []
     axes = []
     for values in zip(*points):
-        steps = [value - min(values) for value in values]
+        least = min(values)
+        steps = [value - least for value in values]
         unit = functools.reduce(math.gcd, steps) or 1
         axes.append([step // unit for step in steps])
     xs, ys = axes
-    if max(ys) > HEIGHT:
+    if _vertices_for(max(ys), max(xs)) < _vertices_for(max(xs), max(ys)):
         xs, ys = ys, [max(xs) - x for x in xs]
     return list(zip(xs, ys))
+
+
+def _vertices_for(width, height):
+    """The least N for which a grid of 2N - 4 by N - 2 has room for a drawing and a row above it."""
+    return max((width + 5) // 2, height + 3)
 
 
 def scaled(places, width=WIDTH, height=HEIGHT):
@@ -709,7 +737,8 @@ def without_edge(lists, v, u):
     """The map without the edge from v to u; its faces at both sides become one.
 
     Where u was the first of v's list, that face is the one on the left of the dart from v to what is first then. So of a
-    triangulation in which each triangle of edges is a face, `without_edge(lists, 1, lists[0][0])` is drawn by `rect`.
+    triangulation of more than four vertices in which each triangle of edges is a face, `rect` draws
+    `without_edge(lists, 1, lists[0][0])`.
     """
     return [[x for x in us if {w, x} != {v, u}] for w, us in enumerate(lists, 1)]
 

@@ -4,8 +4,6 @@
 Its last lines say what was left out and how many tests passed and failed. Without networkx or Sage the tests that want
 them are left out. The program is found as pigale.py finds it.
 """
-import contextlib
-import io
 import itertools
 import json
 import os
@@ -14,6 +12,7 @@ import subprocess
 import sys
 import tempfile
 import unittest
+import unittest.mock
 from xml.etree import ElementTree
 
 HERE = os.path.dirname(os.path.abspath(__file__))
@@ -121,11 +120,13 @@ class Texts(unittest.TestCase):
         blocks = pigale.read_blocks(text)
         self.assertEqual("".join(f"{block}\n" for block in blocks), text)
         self.assertEqual(blocks[5], pigale.Verdict(5, "Cross", (1, 2, 3, 4)))
-        self.assertEqual(len(pigale.read_figures(text)), 2)
+        self.assertEqual([figure.number for figure in pigale.read_figures(text)], [7, 8])
+        self.assertEqual(pigale.read_figures("end of something\nfigure 1 shift 1\n1 at 0 0:\ncount me\n"), [
+            pigale.GridFigure(1, "shift", [(0, 0)], [[]])])
 
     def test_what_the_program_does_not_write(self):
         for text in ("count 1", "hello 1\n", "figure 1 shift 2\n1 at 0 0:\n", "figure 1 circle 1\n1 at 0 0:\n",
-                     "figure 1 bars 1\n1 y 0 x 0 0:\n", "verdict x yes\n", "\n"):
+                     "figure 1 bars 1\n1 y 0 x 0 0:\n", "verdict x yes\n", "\n", "figure 1 witness K6 D~{\n"):
             with self.assertRaises(ValueError):
                 pigale.read_blocks(text)
 
@@ -281,6 +282,15 @@ class Drawings(unittest.TestCase):
             places = {name: move(*place) for name, place in SQUARE.items()}
             self.assertTrue(pigale.check(places, SIDES))
             self.assertEqual(str(pigale.check(places, crossed)), "Cross a c b d")
+
+    def test_many_drawings_take_several_runs(self):
+        crossed = [*SIDES, ("a", "c"), ("b", "d")]
+        drawings = [(SQUARE, SIDES if k % 3 else crossed) for k in range(10)]
+        with unittest.mock.patch.object(pigale, "MOST_BYTES", 400):
+            with unittest.mock.patch.object(pigale, "run", wraps=pigale.run) as runs:
+                answers = pigale.check_all(drawings)
+        self.assertEqual([bool(answer) for answer in answers], [k % 3 > 0 for k in range(10)])
+        self.assertGreater(runs.call_count, 1)
 
     def test_limits(self):
         for far in ((8186, 1), (8186, 4092), (1, 8186), (4092, 8186)):
