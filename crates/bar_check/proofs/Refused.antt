@@ -3,7 +3,7 @@ use Rattle.std.proofs.Common.{List, [], ◌∷◌, ℤ, pos, refl, inl, ⊎_elim
 use Rattle.std.proofs.lemmas.Int.{ints}
 use Rattle.map_lists.specs.declared.ids.VertexId.{VertexId}
 use Rattle.map_lists.specs.Lists.{Lists}
-use Rattle.map_definitions.specs.Maps.{entry_after}
+use Rattle.map_theory.specs.Maps.{entry_after}
 use Rattle.pg_plane.specs.declared.figure.BarFigure.{BarFigure}
 use Rattle.bar_check.specs.Bars.{edges_until, edges_before}
 use Rattle.bar_check.specs.Verdicts.{IsBarVerdict}

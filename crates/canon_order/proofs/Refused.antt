@@ -1,7 +1,7 @@
 -- Orders of the tetrahedron that wrong bodies would give for the base from 0 to 1: none is canonical.
 use Rattle.std.proofs.Common.{[], ◌∷◌, arith}
 use Rattle.map_lists.specs.Lists.{Lists}
-use Rattle.map_definitions.specs.Maps.{entry_after}
+use Rattle.map_theory.specs.Maps.{entry_after}
 use Rattle.canon_order.specs.Orders.{IsCanonicalOrder}
 
 abbrev tetrahedron : Lists

@@ -1,7 +1,7 @@
 -- Numberings of two isolated vertices that wrong bodies would give.
 use Rattle.std.proofs.Common.{ℕ, List, [], ◌∷◌, arith}
-use Rattle.label_classes.specs.Classes.{merge}
-use Rattle.map_definitions.specs.Maps.{component_count}
+use Rattle.classes.specs.Classes.{merge}
+use Rattle.map_theory.specs.Maps.{component_count}
 use Rattle.conn_parts.specs.Parts.{ArePartsOf}
 
 -- one component for all vertices

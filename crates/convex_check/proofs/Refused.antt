@@ -2,8 +2,8 @@
 use Rattle.std.specs.Prelude.{List}
 use Rattle.map_lists.specs.Lists.{Lists}
 use Rattle.map_lists.specs.declared.ids.VertexId.{VertexId}
-use Rattle.map_definitions.specs.Maps.{Dart}
-use Rattle.map_definitions.specs.Paths.{SameFace}
+use Rattle.map_theory.specs.Maps.{Dart}
+use Rattle.map_theory.specs.Paths.{SameFace}
 use Rattle.pg_plane.specs.declared.point.Point.{Point}
 use Rattle.convex_check.specs.Convex.{HasOuterCorners}
 use Rattle.convex_check.specs.Verdicts.{IsConvexVerdict}

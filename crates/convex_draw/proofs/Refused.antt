@@ -2,11 +2,11 @@
 use Rattle.std.proofs.Common.{◌≡◌, ◌∙◌, ℕ, ◌-◌, ◌≤◌, sym, ap, pos, arith}
 use Rattle.std.proofs.lemmas.Int.{ints}
 use Rattle.map_lists.specs.Lists.{Lists}
-use Rattle.map_definitions.specs.Maps.{face_count}
+use Rattle.map_theory.specs.Maps.{face_count}
 use Rattle.pg_plane.specs.declared.point.Point.{Point}
 use Rattle.pg_plane.specs.declared.figure.GridFigure.{GridFigure}
-use Rattle.drawings.specs.Drawing.{place}
-use Rattle.convex_drawings.specs.ConvexDrawings.{grid_point}
+use Rattle.plane_drawings.specs.Drawing.{place}
+use Rattle.convex_laws.specs.ConvexDrawings.{grid_point}
 use Rattle.convex_draw.specs.Grids.{IsConvexGrid}
 
 -- the base is turned round: its tail stands at the lower right corner

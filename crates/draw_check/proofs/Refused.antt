@@ -1,10 +1,10 @@
 -- Verdicts that wrong bodies would give, each on a small drawing.
 use Rattle.std.proofs.Common.{ℕ, List, [], ◌∷◌, ℤ, pos, refl, inl, inr, ⊎_elim, arith}
 use Rattle.std.proofs.lemmas.Int.{ints}
-use Rattle.label_classes.specs.Classes.{merge}
+use Rattle.classes.specs.Classes.{merge}
 use Rattle.map_lists.specs.Lists.{Lists}
 use Rattle.map_lists.specs.declared.ids.VertexId.{VertexId}
-use Rattle.map_definitions.specs.Maps.{Dart, entry_after, component_count}
+use Rattle.map_theory.specs.Maps.{Dart, entry_after, component_count}
 use Rattle.pg_plane.specs.declared.point.Point.{Point}
 use Rattle.pg_plane.specs.Geometry.{vector, IsFirstHalf, IsClockBefore}
 use Rattle.draw_check.specs.FaceVerdicts.{IsFaceVerdict}

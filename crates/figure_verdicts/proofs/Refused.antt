@@ -1,9 +1,9 @@
 -- Verdicts that wrong bodies would give on a triangle whose outer face is not that of vertex 0's first dart.
 use Rattle.std.proofs.Common.{◌≡◌, ℕ, List, [], ◌∷◌, ℤ, pos, false, true, refl, arith}
 use Rattle.std.proofs.lemmas.Int.{ints}
-use Rattle.label_classes.specs.Classes.{merge}
+use Rattle.classes.specs.Classes.{merge}
 use Rattle.map_lists.specs.Lists.{Lists}
-use Rattle.map_definitions.specs.Maps.{entry_after, component_count}
+use Rattle.map_theory.specs.Maps.{entry_after, component_count}
 use Rattle.half_edges.specs.Map.{first_dart}
 use Rattle.pg_plane.specs.declared.point.Point.{Point}
 use Rattle.draw_check.specs.Outer.{face_sum, HasOuterFace}

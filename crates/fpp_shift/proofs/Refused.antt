@@ -2,7 +2,7 @@
 use Rattle.std.proofs.Common.{◌≡◌, ℕ, suc, ◌<◌, List, arith}
 use Rattle.std.specs.Prelude.{slice_index}
 use Rattle.contour_runs.specs.Runs.{Stage}
-use Rattle.shift_points.specs.Shift.{Places}
+use Rattle.fpp_shift.specs.Shift.{Places}
 use Rattle.fpp_shift.specs.Offsets.{AreOffsets}
 
 -- so the last end of a row moves by two, and by no other number

@@ -1,7 +1,7 @@
 //! St-orders and visibility drawings, and verdicts on them.
 ghost use Rattle.std.specs.Prelude.{◌≡◌, ◌<◌, ℕ, length, Some, IfOk};
-ghost use Rattle.map_definitions.specs.Maps.{IsPlane, component_count};
-ghost use Rattle.map_cuts.specs.Cuts.{IsCutVertex};
+ghost use Rattle.map_theory.specs.Maps.{IsPlane, component_count};
+ghost use Rattle.graph_search.specs.Cuts.{IsCutVertex};
 ghost use Rattle.half_edges.specs.Map.{IsLive};
 
 use crate::lists::lists_of;
@@ -11,11 +11,11 @@ use crate::points::{integer, integers, put_integers};
 use crate::refusal::Refusal;
 use crate::text::{number, part};
 use bar_check::{BarVerdict, check_bars};
-use bipolar::{StOrder, st_order};
-use dual_orders::dual_numbers;
+use bipolar::dual_orders::dual_numbers;
+use conn_parts::plane_blocks::plane_block;
 use half_edges::{DartId, HalfMap};
 use pg_plane::BarFigure;
-use plane_blocks::plane_block;
+use st_orders::{StOrder, st_order};
 use std::alloc::{AllocError, Global};
 use visibility::bars;
 

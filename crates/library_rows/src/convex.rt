@@ -1,18 +1,18 @@
 //! Convex woods and the regions of their vertices.
 ghost use Rattle.std.specs.Prelude.{◌<◌, length, IfOk};
-ghost use Rattle.map_definitions.specs.Maps.{Dart, IsPlane};
-ghost use Rattle.tight_maps.specs.Tight.{IsThreeConnected};
+ghost use Rattle.map_theory.specs.Maps.{Dart, IsPlane};
+ghost use Rattle.convex_peeling.specs.Tight.{IsThreeConnected};
 ghost use Rattle.half_edges.specs.Map.{IsLive};
-ghost use Rattle.convex_wood.specs.Directions.{IsWoodIn};
+ghost use Rattle.convex_faces.specs.Directions.{IsWoodIn};
 
 use crate::lists::lists_of;
 use crate::points::put_points;
 use crate::refusal::Refusal;
 use crate::text::{number, part};
-use convex_blocks::convex_block;
+use convex_class::convex_blocks::convex_block;
 use convex_draw::convex_draw;
-use convex_wood::{Axis, ConvexWood, convex_wood};
-use face_regions::face_region;
+use convex_faces::face_regions::face_region;
+use convex_faces::wood::{Axis, ConvexWood, convex_wood};
 use half_edges::{DartId, HalfMap, VertexId};
 use pg_plane::GridFigure;
 use std::alloc::{AllocError, Global};

@@ -2,8 +2,8 @@
 use crate::maps::map_of;
 use crate::refusal::Refusal;
 use crate::text::part;
+use graph_search::map_cuts::{cut_vertex, separating_pair};
 use half_edges::VertexId;
-use map_cuts::{cut_vertex, separating_pair};
 use std::alloc::{AllocError, Global};
 
 /// A vertex, if there is one.

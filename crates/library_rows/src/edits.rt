@@ -1,6 +1,6 @@
 //! Edges that come and go.
 ghost use Rattle.std.specs.Prelude.{◌≡◌, ◌<◌, Some, IfSome};
-ghost use Rattle.map_definitions.specs.Maps.{vertex_count};
+ghost use Rattle.map_theory.specs.Maps.{vertex_count};
 ghost use Rattle.half_edges.specs.Edges.{IsCorner, corner_place};
 
 use crate::lists::put_lists;

@@ -1,6 +1,6 @@
 //! Orders of completed maps, and the drawings by shifts and by woods that stand on them.
 ghost use Rattle.std.specs.Prelude.{◌≡◌, IfOk};
-ghost use Rattle.map_definitions.specs.Maps.{Dart, HasDart};
+ghost use Rattle.map_theory.specs.Maps.{Dart, HasDart};
 ghost use Rattle.plane_laws.specs.Completed.{IsCompleted};
 ghost use Rattle.canon_order.specs.Orders.{IsCanonicalOrder, IsRankOf, vertices_of};
 
@@ -9,16 +9,16 @@ use crate::points::put_points;
 use crate::refusal::Refusal;
 use crate::text::{number, part, put_gap};
 use canon_order::Order;
-use drawing_orders::{DrawingOrder, drawing_order};
+use fpp_offsets::offset_trees::{Node, Offsets, sum_offsets};
+use fpp_offsets::shift_trees::offset_tree;
 use fpp_shift::shift_draw;
+use grid_figures::drawing_orders::{DrawingOrder, drawing_order};
+use grid_figures::schnyder_figures::schnyder_figure;
+use grid_figures::schnyder_grid::wood_draw;
+use grid_figures::shift_figures::shift_figure;
 use half_edges::{Counts, VertexId, VertexList};
-use offset_trees::{Node, Offsets, sum_offsets};
 use pg_io::Steps;
 use pg_plane::GridFigure;
-use schnyder_figures::schnyder_figure;
-use schnyder_grid::wood_draw;
-use shift_figures::shift_figure;
-use shift_trees::offset_tree;
 use std::alloc::{AllocError, Global};
 use std::marker::Brand;
 

@@ -1,7 +1,7 @@
 //! Points and whole numbers as texts, and the questions that are asked of points.
 ghost use Rattle.std.specs.Prelude.{◌≡◌, ◌<◌, ℕ, IsTrue, IfOk, length, All};
 ghost use Rattle.pg_plane.specs.Range.{IsInRange};
-ghost use Rattle.drawings.specs.Drawing.{place};
+ghost use Rattle.plane_drawings.specs.Drawing.{place};
 
 use crate::refusal::Refusal;
 use crate::text::{part, put_flag, put_gap};

@@ -1,13 +1,13 @@
 //! Edge labellings of maps that have rectangular duals.
 ghost use Rattle.std.specs.Prelude.{IfOk};
-ghost use Rattle.rect_blocks.specs.RectMaps.{IsRectMap};
+ghost use Rattle.rect_class.specs.RectMaps.{IsRectMap};
 
 use crate::lists::lists_of;
 use crate::refusal::Refusal;
 use crate::text::part;
-use edge_labels::{Label, Labelling, edge_labels};
 use half_edges::{HalfMap, VertexId};
-use rect_blocks::rect_block;
+use rect_class::rect_block;
+use rect_dual::labels::{Label, Labelling, edge_labels};
 use std::alloc::{AllocError, Global};
 
 // The map of lists, if it is of the class.
@@ -25,7 +25,7 @@ fn block_of(alloc: Global, text: &str) -> Result<HalfMap, Refusal>
 fn labelling_of(alloc: Global, map: &HalfMap) -> Result<Labelling, Refusal>
     requires { IsRectMap map.now.lists }
 {
-    rect_blocks::blocks_are_rect_maps();
+    rect_class::blocks_are_rect_maps();
     if map.n() == 0 {
         return Err(Refusal::Row("vertex"));
     }

@@ -1,6 +1,6 @@
 //! Why a row gets no answer.
-use drawing_orders::DrawRefusal;
 use graph6_text::G6Fault;
+use grid_figures::drawing_orders::DrawRefusal;
 use half_edges::MapFault;
 use std::alloc::AllocError;
 

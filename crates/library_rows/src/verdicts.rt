@@ -10,8 +10,8 @@ use crate::text::{pair, part, put_flag};
 use draw_check::{FaceVerdict, OuterVerdict, Verdict, check, check_by_faces, check_outer};
 use half_edges::{Ends, HalfMap};
 use pg_plane::GridFigure;
+use plane_drawings::sweep_check::is_plane_by_sweep;
 use std::alloc::{AllocError, Global};
-use sweep_check::is_plane_by_sweep;
 
 // A figure of a map, with a place for each vertex.
 fn figure_of(alloc: Global, map: &HalfMap, places: &str, grid: &str) -> Result<GridFigure, Refusal>

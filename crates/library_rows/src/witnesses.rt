@@ -5,10 +5,10 @@ ghost use Rattle.graph6_text.specs.Graphs.{has_edge};
 use crate::graphs::{edge_of, graph_of};
 use crate::refusal::Refusal;
 use crate::text::{number, numbers, part};
-use contracted_graphs::contract;
+use embed_witnesses::contracted_graphs::contract;
+use embed_witnesses::lifted_witnesses::lift;
 use graph6_text::Graph;
 use kuratowski::{Kind, Witness, WitnessVerdict, check_witness};
-use lifted_witnesses::lift;
 use map_lists::{Ends, PathList, VertexId, VertexList};
 use std::alloc::{AllocError, Global};
 

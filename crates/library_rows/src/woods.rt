@@ -1,6 +1,6 @@
 //! Woods of completed maps, the regions of their vertices, and the drawing that stands on them.
 ghost use Rattle.std.specs.Prelude.{◌≡◌, ◌<◌, length, IfOk};
-ghost use Rattle.map_definitions.specs.Maps.{Dart, HasDart};
+ghost use Rattle.map_theory.specs.Maps.{Dart, HasDart};
 ghost use Rattle.plane_laws.specs.Completed.{IsCompleted};
 ghost use Rattle.canon_order.specs.Orders.{IsCanonicalOrder, IsRankOf, vertices_of};
 ghost use Rattle.schnyder_wood.specs.Parents.{count_in, IsInnerIn, IsWoodOf};
@@ -12,10 +12,10 @@ use crate::text::{number, part};
 use canon_order::Order;
 use half_edges::{HalfMap, VertexId};
 use pg_plane::Points;
-use schnyder_regions::region_count;
+use schnyder_grid::schnyder_draw;
+use schnyder_wood::schnyder_regions::region_count;
 use schnyder_wood::{Colour, Wood, path_len, wood};
 use std::alloc::{AllocError, Global};
-use wood_drawings::schnyder_draw;
 
 const COLOURS: [Colour; 3] = [Colour::One, Colour::Two, Colour::Three];
 

@@ -8,10 +8,10 @@ use Rattle.figure_text.specs.declared.figure.Figure.TheVariants.{Witness as Witn
 use Rattle.figure_verdicts.specs.Verdicts.{IsFigureVerdict}
 use Rattle.figure_verdicts.specs.declared.verdict.FigureVerdict.{FigureVerdict}
 use Rattle.figure_verdicts.specs.declared.verdict.FigureVerdict.TheVariants.{Refused, Drawing, Inside, Convex, Bars, Rects, Witness as WitnessFault, Yes}
-use Rattle.graph_lines.specs.declared.ending.Ending.TheVariants as graph
-use Rattle.pigale_shell.specs.declared.form.Form.{Form}
-use Rattle.pigale_shell.specs.declared.job.Job.TheVariants.{Count, Embed}
-use Rattle.pigale_shell.specs.declared.job.Status.TheVariants.{Done, BadInput, ReadFault, WriteFault}
+use Rattle.line_inputs.specs.declared.graph_lines.ending.Ending.TheVariants as graph
+use Rattle.pigale_words.specs.declared.form.Form.{Form}
+use Rattle.pigale_words.specs.declared.job.Job.TheVariants.{Count, Embed}
+use Rattle.pigale_words.specs.declared.job.Status.TheVariants.{Done, BadInput, ReadFault, WriteFault}
 use Rattle.pigale_shell.specs.declared.lines.Ending.{Ending}
 use Rattle.pigale_shell.specs.declared.lines.Ending.TheVariants.{Well}
 use Rattle.pigale_shell.specs.EmbedText.{embed_answers}

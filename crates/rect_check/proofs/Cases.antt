@@ -2,7 +2,7 @@
 use Rattle.std.proofs.Common.{◌↔◌, ℕ, zero, suc, ◌+◌, ◌<◌, [], ◌∷◌, pos, refl, inl, inr, arith, rules}
 use Rattle.std.proofs.lemmas.Int.{ints}
 use Rattle.map_lists.specs.Lists.{Lists}
-use Rattle.map_definitions.specs.Maps.{HasDart, entry_after}
+use Rattle.map_theory.specs.Maps.{HasDart, entry_after}
 use Rattle.pg_plane.specs.declared.figure.RectFigure.{RectFigure}
 use Rattle.rect_check.specs.Duals.{IsSpan, IsRect, DoMeet, IsBeside, IsAbove, ShareSide, HasFrame, IsRectangularDual}
 

@@ -1,18 +1,22 @@
--- What the clause on gaps determines: no other numbers meet it.
-use Rattle.std.proofs.Common.{◌≡◌, ℕ, suc, ◌<◌, List, arith}
-use Rattle.std.specs.Prelude.{slice_index}
-use Rattle.contour_runs.specs.Runs.{Stage}
-use Rattle.wood_points.specs.Wood.{Coordinates}
-use Rattle.schnyder_grid.specs.Gaps.{IsUnder, AreGaps}
+-- Orders of the tetrahedron's vertices that wrong bodies would give: none is as a wood has them.
+use Rattle.std.proofs.Common.{ℕ, List, [], ◌∷◌, arith}
+use Rattle.map_lists.specs.Lists.{Lists}
+use Rattle.map_theory.specs.Maps.{entry_after}
+use Rattle.wood_runs.specs.Parents.{Colour}
+use Rattle.wood_laws.specs.Arranged.{IsArranged}
 
--- the drop of the last of a row, as of each vertex of the contour
-drop-unique : (g : Stage) (at : Coordinates) (drops drops' rises rises' spans spans' covers covers' : List ℕ) (i : ℕ) → suc i < g.width → AreGaps g at drops rises spans covers → AreGaps g at drops' rises' spans' covers' → slice_index drops (g.vertex (suc i)) ≡ slice_index drops' (g.vertex (suc i))
-drop-unique g at drops drops' rises rises' spans spans' covers covers' i l a b = omega (arith, a.drop i l, b.drop i l)
+abbrev tetrahedron : Lists
+tetrahedron = (1 ∷ 2 ∷ 3 ∷ []) ∷ (0 ∷ 3 ∷ 2 ∷ []) ∷ (0 ∷ 1 ∷ 3 ∷ []) ∷ (0 ∷ 2 ∷ 1 ∷ []) ∷ []
 
--- the span of a vertex that covers another, whose drop is known
-span-unique : (g : Stage) (at : Coordinates) (drops rises rises' spans spans' covers : List ℕ) (v : ℕ) → IsUnder g at drops rises spans covers v → IsUnder g at drops rises' spans' covers v → slice_index spans (slice_index covers v) ≡ slice_index spans' (slice_index covers v)
-span-unique g at drops rises rises' spans spans' covers v a b = omega (arith, a.one, b.one)
+-- root three comes first
+drawn_from_the_last : (parent : Colour → ℕ → ℕ) (rest : List ℕ) → IsArranged tetrahedron (0, 1) parent (3 ∷ rest) → ⊥
+drawn_from_the_last parent rest a = omega (arith, a.first)
 
--- the vertex covered is noted as covered by itself, the one before the new one
-covered_by_the_vertex_before : (g : Stage) (at : Coordinates) (drops rises spans covers : List ℕ) (v : ℕ) → slice_index covers v ≡ v → IsUnder g at drops rises spans covers v → ⊥
-covered_by_the_vertex_before g at drops rises spans covers v e u = omega (arith, u.later)
+-- the children of root three come after it
+children_of_colour_three_for_one : (parent : Colour → ℕ → ℕ) → IsArranged tetrahedron (0, 1) parent (1 ∷ 0 ∷ 3 ∷ 2 ∷ []) → ⊥
+unfolding entry_after
+children_of_colour_three_for_one parent a = omega (arith, a.last)
+
+-- root three comes right after root one
+root_three_after_root_one : (parent : Colour → ℕ → ℕ) → IsArranged tetrahedron (0, 1) parent (1 ∷ 3 ∷ 0 ∷ 2 ∷ []) → ⊥
+root_three_after_root_one parent a = omega (arith, a.second)

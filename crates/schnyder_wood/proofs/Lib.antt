@@ -6,3 +6,9 @@ mod Rows
 pub mod Paths
 mod Orders
 mod Refused
+mod SchnyderRegionsPaths
+mod Marks
+mod Searching
+mod ClosedPathLemmas
+mod CountLemmas
+mod SchnyderRegionsRefused

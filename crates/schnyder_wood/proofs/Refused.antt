@@ -1,6 +1,6 @@
 -- A length that a wrong body would give for each path.
 use Rattle.std.proofs.Common.{◌≡◌, ℕ, zero, suc, inl, inr, arith}
-use Rattle.run_woods.specs.Parents.{Colour, one, two, three}
+use Rattle.wood_runs.specs.Parents.{Colour, one, two, three}
 use Rattle.schnyder_wood.specs.Parents.{Parents, root_in, IsInnerIn, LeadsIn, IsPathLength}
 
 -- a child of a root, whose path is counted without the root

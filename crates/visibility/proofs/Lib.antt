@@ -2,3 +2,5 @@
 mod EndRows
 mod Drawn
 mod Refused
+-- Lemmas on the figures of records by bars.
+pub mod FirstDart

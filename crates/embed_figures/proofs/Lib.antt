@@ -1,2 +1,0 @@
--- What wrong bodies would give.
-mod Refused

@@ -1,4 +1,0 @@
--- Lemmas on lines.
-pub mod Lines
-pub mod Walks
-mod Refused

@@ -1,3 +1,0 @@
--- What the search rests on.
-pub mod Plain
-mod Refused

@@ -1,3 +1,0 @@
--- Lemmas on sides.
-mod Sides
-mod Refused

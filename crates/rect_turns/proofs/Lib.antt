@@ -1,3 +1,0 @@
--- Lemmas on turns.
-pub mod Turns
-mod Refused

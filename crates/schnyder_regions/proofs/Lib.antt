@@ -1,6 +1,0 @@
-mod Paths
-mod Marks
-mod Searching
-mod ClosedPathLemmas
-mod CountLemmas
-mod Refused

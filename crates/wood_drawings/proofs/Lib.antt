@@ -1,3 +1,0 @@
--- The lemmas on the graph of a wood.
-mod ArcLemmas
-mod Refused
