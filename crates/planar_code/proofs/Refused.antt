@@ -26,3 +26,8 @@ no_limit_of_lists bytes lists e r = ⊎_elim (λ n. omega (arith, n.few_lists)) 
 record_ends_a_byte_early : StandsAt (1 ∷ 0 ∷ []) 0 (Stands ([] ∷ []) 1) → ⊥
 record_ends_a_byte_early s =
     ⊎_elim (λ n. omega (arith, ap length n.spelled)) (λ w. omega (arith, ap length w.spelled)) s.2
+
+-- the first byte of a wide record is taken for a whole record
+record_that_has_not_ended : (lists : Lists) → StandsAt (0 ∷ []) 0 (Stands lists 1) → ⊥
+record_that_has_not_ended lists s =
+    ⊎_elim (λ n. omega (arith, n.some_list, ap (λ bytes. slice_index bytes 0) n.spelled)) (λ w. omega (arith, ap length w.spelled)) s.2

@@ -25,7 +25,7 @@ ends_untested_below_new_lines p =
 abbrev places : ℕ → Point
 places = points (point 0 0 ∷ point 1 0 ∷ point 2 0 ∷ [])
 
--- a vertex on a line is called below it
+-- a vertex on a line is called below it, or above it
 vertex_below_untested : IsPassed places 1 [] (line 0 2 ∷ []) (line 0 2 ∷ []) → ⊥
 vertex_below_untested p = none p.begin p.end p.order p.within (p.above (line 0 2)) (p.below (line 0 2)) p.after
   where
