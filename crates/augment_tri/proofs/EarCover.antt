@@ -3,13 +3,13 @@ use Rattle.std.proofs.Common.{◌≡◌, ◌⊎◌, ℕ, ◌+◌, ◌<◌, ◌�
 use Rattle.std.proofs.lemmas.Bool.{cases_eq, cases_lt, false≢true}
 use Rattle.std.proofs.lemmas.List.{get_or_past}
 use Rattle.map_lists.specs.Lists.{Lists}
-use Rattle.map_definitions.specs.Maps.{Dart, HasDart, IsSimpleMap, IsPlane, list_of, place_of, follows, face_step}
-use Rattle.map_definitions.proofs.DartLemmas.{HasDart-follows, entry_after-injective}
+use Rattle.map_theory.specs.Maps.{Dart, HasDart, IsSimpleMap, IsPlane, list_of, place_of, follows, face_step}
+use Rattle.map_theory.proofs.DartLemmas.{HasDart-follows, entry_after-injective}
 use Rattle.plane_laws.specs.Laws.{IsTriangle}
-use Rattle.map_edits.specs.Chords.{IsEar, IsEarCut}
-use Rattle.map_edits.specs.WithEdge.{IsEdgeMore, IsPutAfter}
-use Rattle.map_edits.proofs.WithEdge.{with_edge_after_law}
-use Rattle.map_edits.proofs.Chords.{ear_cut}
+use Rattle.plane_laws.specs.Chords.{IsEar, IsEarCut}
+use Rattle.plane_laws.specs.WithEdge.{IsEdgeMore, IsPutAfter}
+use Rattle.plane_laws.proofs.WithEdge.{with_edge_after_law}
+use Rattle.plane_laws.proofs.Chords.{ear_cut}
 use Rattle.half_edges.specs.Map.{Map, IsHalfMap, IsLive, dart_at, id_bound}
 use Rattle.augment_tri.specs.Growing.{IsCutEar, IsGrown, IsNear, IsFilled, IsCovered}
 

@@ -1,18 +1,18 @@
 -- Maps that grow by one edge: what stays, and that there is room.
 use Rattle.std.proofs.Common.{◌≡◌, ◌≢◌, ℕ, ◌+◌, ◌*◌, ◌<◌, ◌≤◌, length, refl, sym, ap, ◌∙◌, subst, arith, Some}
-use Rattle.map_definitions.specs.Maps.{HasDart, IsPlane, list_of, place_of, follows, edge_count, component_count, component_classes}
-use Rattle.map_definitions.proofs.DartLemmas.{place_of-lt-length, HasDart-follows}
-use Rattle.label_classes.specs.Classes.{label}
-use Rattle.label_classes.proofs.Classes.{same_class-from}
-use Rattle.euler_bound.proofs.DartPermutations.{edge_together}
+use Rattle.map_theory.specs.Maps.{HasDart, IsPlane, list_of, place_of, follows, edge_count, component_count, component_classes}
+use Rattle.map_theory.proofs.DartLemmas.{place_of-lt-length, HasDart-follows}
+use Rattle.classes.specs.Classes.{label}
+use Rattle.classes.proofs.Classes.{same_class-from}
+use Rattle.map_theory.proofs.DartPermutations.{edge_together}
 use Rattle.plane_laws.specs.Laws.{IsTriangle, SameComponent}
 use Rattle.plane_laws.proofs.EdgeBound.{edge_bound}
 use Rattle.plane_laws.proofs.Triangles.{edge_bound_met}
-use Rattle.map_edits.specs.Chords.{IsEar}
-use Rattle.map_edits.specs.Completed.{IsExtended}
-use Rattle.map_edits.specs.WithEdge.{with_edge_at}
-use Rattle.map_edits.proofs.Extended.{IsExtended-itself, IsExtended-chained, IsExtended-edge, edge_count-edge}
-use Rattle.map_edits.proofs.WithEdge.{edge_put_between}
+use Rattle.plane_laws.specs.Chords.{IsEar}
+use Rattle.plane_laws.specs.MapEditsCompleted.{IsExtended}
+use Rattle.plane_laws.specs.WithEdge.{with_edge_at}
+use Rattle.plane_laws.proofs.Extended.{IsExtended-itself, IsExtended-chained, IsExtended-edge, edge_count-edge}
+use Rattle.plane_laws.proofs.WithEdge.{edge_put_between}
 use Rattle.half_edges.specs.Map.{Map, IsHalfMap, dart_at}
 use Rattle.augment_tri.specs.Growing.{IsRoomy, IsGrown, IsPutIn, IsCutEar}
 use Rattle.augment_tri.proofs.EarCover.{is_cut}

@@ -1,16 +1,16 @@
 -- Components that are joined one after another to that of vertex 0, in the order of their least vertices.
 use Rattle.std.proofs.Common.{◌≡◌, ◌≢◌, ℕ, ◌+◌, ◌<◌, ◌≤◌, ltb, if◌then◌else◌, max, List, length, refl, sym, ap, ◌∙◌, inl, inr, arith}
 use Rattle.std.proofs.lemmas.Bool.{cases_eq, cases_lt, lt-ltb, le-ltb, eq-eqb, ne_eqb}
-use Rattle.label_classes.specs.Classes.{label, merge, relabel}
-use Rattle.label_classes.proofs.Classes.{IsLabels, Together-from, same_class-from, label-merge, length-classes}
+use Rattle.classes.specs.Classes.{label, merge, relabel}
+use Rattle.classes.proofs.Classes.{IsLabels, Together-from, same_class-from, label-merge, length-classes}
 use Rattle.map_lists.specs.Lists.{Lists}
-use Rattle.map_definitions.specs.Maps.{darts, HasDart, IsSimpleMap, component_classes, component_count}
-use Rattle.euler_bound.proofs.DartPermutations.{IsLabels-components, edge_together}
+use Rattle.map_theory.specs.Maps.{darts, HasDart, IsSimpleMap, component_classes, component_count}
+use Rattle.map_theory.proofs.DartPermutations.{IsLabels-components, edge_together}
 use Rattle.plane_laws.specs.Laws.{SameComponent}
-use Rattle.map_edits.proofs.Completions.{one_component}
-use Rattle.map_edits.proofs.EdgeComponents.{components_merged}
-use Rattle.map_edits.proofs.WithEdge.{with_edge, length-new}
-use Rattle.map_edits.specs.WithEdge.{with_edge_at}
+use Rattle.plane_laws.proofs.Completions.{one_component}
+use Rattle.plane_laws.proofs.EdgeComponents.{components_merged}
+use Rattle.plane_laws.proofs.WithEdge.{with_edge, length-new}
+use Rattle.plane_laws.specs.WithEdge.{with_edge_at}
 use Rattle.augment_tri.specs.Growing.{IsPutIn}
 
 -- with the components joined whose least vertices are below v

@@ -3,3 +3,4 @@ mod EarCover
 mod Growth
 mod JoinedParts
 mod NearEars
+mod Refused

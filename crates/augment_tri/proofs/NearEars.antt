@@ -3,11 +3,11 @@ use Rattle.std.proofs.Common.{◌≡◌, ◌≢◌, ◌⊎◌, ℕ, Bool, true, 
 use Rattle.std.specs.Prelude.{MatchBool, IsSome, IsTrue, nat_eq, ◌↔◌}
 use Rattle.std.proofs.lemmas.Bool.{cases_eq, eq-eqb, eqb-true, ne_eqb, false≢true}
 use Rattle.map_lists.specs.Lists.{Lists}
-use Rattle.map_definitions.specs.Maps.{Dart, HasDart, IsSimpleMap, follows, face_step, component_count}
+use Rattle.map_theory.specs.Maps.{Dart, HasDart, IsSimpleMap, follows, face_step, component_count}
 use Rattle.plane_laws.specs.Laws.{IsTriangle}
 use Rattle.plane_laws.proofs.Triangles.{faces_have_three}
-use Rattle.map_edits.specs.Chords.{CanJoin, IsEar}
-use Rattle.map_edits.proofs.Chords.{one_chord, corner_chord}
+use Rattle.plane_laws.specs.Chords.{CanJoin, IsEar}
+use Rattle.plane_laws.proofs.Chords.{one_chord, corner_chord}
 use Rattle.half_edges.specs.Map.{Map, IsHalfMap, IsLive, dart_at, next_dart}
 use Rattle.augment_tri.specs.Growing.{IsRoomy, IsCutEar, IsNear, IsCovered}
 use Rattle.augment_tri.proofs.EarCover.{covered_here, covered_there}

@@ -1,10 +1,10 @@
 -- Maps that edges are put into, and which of their faces are no triangles yet.
 use Rattle.std.specs.Prelude.{ℕ, ◌+◌, ◌*◌, ◌≤◌, ◌≡◌, ◌⊎◌, length, Option, Some, insert}
 use Rattle.map_lists.specs.Lists.{Lists}
-use Rattle.map_definitions.specs.Maps.{Dart, HasDart, IsPlane, list_of, follows, face_step, vertex_count, edge_count}
+use Rattle.map_theory.specs.Maps.{Dart, HasDart, IsPlane, list_of, follows, face_step, vertex_count, edge_count}
 use Rattle.plane_laws.specs.Laws.{IsTriangle}
-use Rattle.map_edits.specs.Completed.{IsExtended}
-use Rattle.map_edits.specs.WithEdge.{with_edge_at, with_edge_after}
+use Rattle.plane_laws.specs.MapEditsCompleted.{IsExtended}
+use Rattle.plane_laws.specs.WithEdge.{with_edge_at, with_edge_after}
 use Rattle.half_edges.specs.Map.{Map, IsHalfMap, dart_at}
 use Rattle.half_edges.specs.Edges.{corner_place, IsCorner, with_entry}
 use Rattle.half_edges.specs.declared.edges.Corner.{Corner}

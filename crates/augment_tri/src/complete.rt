@@ -1,8 +1,8 @@
 //! Maps completed.
 ghost use Rattle.std.specs.Prelude.{◌≡◌, ◌≤◌, ℕ, Some, IfOk, IfErr};
-ghost use Rattle.map_definitions.specs.Maps.{IsPlane, vertex_count};
+ghost use Rattle.map_theory.specs.Maps.{IsPlane, vertex_count};
 ghost use Rattle.plane_laws.specs.Completed.{IsCompleted};
-ghost use Rattle.map_edits.specs.Completed.{IsExtended};
+ghost use Rattle.plane_laws.specs.MapEditsCompleted.{IsExtended};
 ghost use Rattle.half_edges.specs.Map.{IsHalfMap, dart_at};
 
 use crate::fill::fill;

@@ -1,8 +1,8 @@
 //! Ears of faces, found and cut.
 ghost use Rattle.std.specs.Prelude.{◌≡◌, ◌+◌, ◌<◌, ◌≤◌, ◌⊎◌, ◌↔◌, ◌==◌, if◌then◌else◌, ℕ, Some, IsTrue, MatchBool};
-ghost use Rattle.map_definitions.specs.Maps.{IsPlane, vertex_count, component_count, follows};
+ghost use Rattle.map_theory.specs.Maps.{IsPlane, vertex_count, component_count, follows};
 ghost use Rattle.plane_laws.specs.Laws.{IsTriangle};
-ghost use Rattle.map_edits.specs.Chords.{CanJoin, IsEar};
+ghost use Rattle.plane_laws.specs.Chords.{CanJoin, IsEar};
 ghost use Rattle.half_edges.specs.Map.{Map, IsHalfMap, IsLive, dart_at};
 ghost use Rattle.augment_tri.specs.Growing.{IsCovered, IsCutEar, IsGrown, IsNear, IsRoomy};
 

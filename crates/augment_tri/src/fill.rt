@@ -1,6 +1,6 @@
 //! Faces filled with triangles.
 ghost use Rattle.std.specs.Prelude.{◌≡◌, ℕ, Some};
-ghost use Rattle.map_definitions.specs.Maps.{HasDart, component_count};
+ghost use Rattle.map_theory.specs.Maps.{HasDart, component_count};
 ghost use Rattle.plane_laws.specs.Laws.{IsTriangle};
 ghost use Rattle.half_edges.specs.Map.{Map, IsLive, dart_at};
 ghost use Rattle.augment_tri.specs.Growing.{IsCovered, IsFilled, IsGrown, IsRoomy};

@@ -1,6 +1,6 @@
 //! Components joined by edges.
 ghost use Rattle.std.specs.Prelude.{◌≡◌, ◌≢◌, ◌+◌, ◌<◌, ◌≤◌, ℕ, length};
-ghost use Rattle.map_definitions.specs.Maps.{HasDart, vertex_count, component_count};
+ghost use Rattle.map_theory.specs.Maps.{HasDart, vertex_count, component_count};
 ghost use Rattle.half_edges.specs.Map.{IsHalfMap, dart_at};
 ghost use Rattle.conn_parts.specs.Parts.{ArePartsOf};
 ghost use Rattle.augment_tri.specs.Growing.{IsCornerOf, IsPutIn, IsRoomy, IsGrown};

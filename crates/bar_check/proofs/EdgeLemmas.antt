@@ -2,7 +2,7 @@
 use Rattle.std.proofs.Common.{◌≡◌, ℕ, ◌+◌, ◌&&◌, nat_lt, [], length, take, count_by, refl, sym, ap, ◌∙◌, arith, add-one}
 use Rattle.std.proofs.lemmas.List.{take_all}
 use Rattle.map_lists.specs.Lists.{Lists}
-use Rattle.map_definitions.specs.Maps.{list_of}
+use Rattle.map_theory.specs.Maps.{list_of}
 use Rattle.bar_check.specs.Bars.{edges_until, edges_before}
 
 pub edges_until-is : (lists : Lists) (v end : ℕ) → edges_until lists v end ≡ count_by (λ u. nat_lt v u && nat_lt u end) (list_of lists v)

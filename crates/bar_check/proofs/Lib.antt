@@ -8,3 +8,4 @@ mod Cases
 pub mod NumberLemmas
 pub mod NumberCounts
 mod OrderLemmas
+mod Refused

@@ -1,8 +1,8 @@
 -- Breaks between the edges of a vertex, as the walk round it finds them.
 use Rattle.std.proofs.Common.{◌≡◌, ℕ, ◌+◌, ◌<◌, ◌≤◌, Bool, true, length, Some, get_or, sym, ap, subst, ◌∙◌, arith}
 use Rattle.std.specs.Option.{option_map}
-use Rattle.map_definitions.specs.Maps.{Dart, list_of, follows, place_of}
-use Rattle.map_definitions.proofs.DartLemmas.{HasDart-follows}
+use Rattle.map_theory.specs.Maps.{Dart, list_of, follows, place_of}
+use Rattle.map_theory.proofs.DartLemmas.{HasDart-follows}
 use Rattle.half_edges.specs.Map.{Map, IsHalfMap, dart_at, next_dart, first_dart}
 use Rattle.pg_plane.specs.declared.figure.BarFigure.{BarFigure}
 use Rattle.bar_check.specs.Bars.{IsEarlier, IsBreak}

@@ -1,7 +1,7 @@
 -- Visibility drawings: each vertex a level bar, and each edge a column between two bars. When one is valid.
 use Rattle.std.specs.Prelude.{ℕ, zero, suc, ◌+◌, ◌<◌, ◌≤◌, ◌≡◌, ◌≢◌, ◌⊎◌, ◌&&◌, nat_lt, if◌then◌else◌, List, length, count_by, slice_index_or, ℤ, pos, ◌≤ℤ◌, ◌<ℤ◌}
 use Rattle.map_lists.specs.Lists.{Lists}
-use Rattle.map_definitions.specs.Maps.{HasDart, list_of, follows, edge_count}
+use Rattle.map_theory.specs.Maps.{HasDart, list_of, follows, edge_count}
 use Rattle.pg_plane.specs.declared.figure.BarFigure.{BarFigure}
 use Rattle.draw_check.specs.Faults.{HasEdge, ComesBefore}
 

@@ -1,7 +1,7 @@
 -- What may be wrong with a visibility drawing, and where.
 use Rattle.std.specs.Prelude.{ℕ, ◌<◌, ◌≤◌, ◌≡◌, length, ℤ}
 use Rattle.map_lists.specs.Lists.{Lists}
-use Rattle.map_definitions.specs.Maps.{list_of}
+use Rattle.map_theory.specs.Maps.{list_of}
 use Rattle.pg_plane.specs.declared.figure.BarFigure.{BarFigure}
 use Rattle.draw_check.specs.Faults.{HasEdge, ComesBefore}
 use Rattle.bar_check.specs.Bars.{number_at, column_of, IsNewHeight, IsBar, IsColumn, IsStruck, MeetInside, GoesOnceRound}

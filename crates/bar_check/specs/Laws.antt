@@ -2,8 +2,8 @@
 use Rattle.std.specs.Prelude.{ℕ, ℤ, ◌<◌, ◌≤◌, ◌≡◌, ◌↔◌, length, AllPairs, Contains}
 use Rattle.map_lists.specs.Lists.{Lists}
 use Rattle.map_lists.specs.declared.items.Ends.{Ends}
-use Rattle.map_definitions.specs.Maps.{IsSimpleMap, list_of, edge_count}
-use Rattle.map_definitions.specs.Paths.{from_entry}
+use Rattle.map_theory.specs.Maps.{IsSimpleMap, list_of, edge_count}
+use Rattle.map_theory.specs.Paths.{from_entry}
 use Rattle.pg_plane.specs.declared.figure.BarFigure.{BarFigure}
 use Rattle.draw_check.specs.Faults.{HasEdge, ComesBefore}
 use Rattle.bar_check.specs.Bars.{edge_number, IsEarlier, GoesOnceRound, IsValidBars}

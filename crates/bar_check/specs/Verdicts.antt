@@ -1,7 +1,7 @@
 -- The verdict on a visibility drawing: the first kind of fault that it has, with the least ids where it has one.
 use Rattle.std.specs.Prelude.{ℕ, ◌<◌, ◌≤◌, ◌≡◌, length, ℤ}
 use Rattle.map_lists.specs.Lists.{Lists}
-use Rattle.map_definitions.specs.Maps.{list_of, edge_count}
+use Rattle.map_theory.specs.Maps.{list_of, edge_count}
 use Rattle.pg_plane.specs.declared.figure.BarFigure.{BarFigure}
 use Rattle.draw_check.specs.Least.{IsLeast, IsLeastPair, IsLeastTriple, IsLeastFour}
 use Rattle.bar_check.specs.Bars.{IsNewHeight, IsBar, GoesOnceRound, IsValidBars}

@@ -1,7 +1,7 @@
 //! The check of a visibility drawing.
 ghost use Rattle.std.specs.Prelude.{◌≡◌, length, MatchOption};
 ghost use Rattle.half_edges.specs.Map.{IsHalfMap};
-ghost use Rattle.map_definitions.specs.Maps.{edge_count};
+ghost use Rattle.map_theory.specs.Maps.{edge_count};
 ghost use Rattle.bar_check.specs.Bars.{HasBars, IsValidBars};
 ghost use Rattle.bar_check.specs.Verdicts.{HasShape, HasHeights, AreBars, NoBadColumn, NoneThrough, NoneOverlap, KeepsTurns, IsBarVerdict};
 

@@ -1,6 +1,6 @@
 //! Columns that stand wrong, and bars in their way.
 ghost use Rattle.std.specs.Prelude.{◌≡◌, ◌+◌, ◌*◌, ◌<◌, ◌≤◌, ◌↔◌, ℕ, List, length, slice_index, IsTrue, Some, MatchOption};
-ghost use Rattle.map_definitions.specs.Maps.{HasDart};
+ghost use Rattle.map_theory.specs.Maps.{HasDart};
 ghost use Rattle.half_edges.specs.Map.{IsHalfMap, dart_at, first_dart};
 ghost use Rattle.draw_check.specs.Least.{IsLeast, IsLeastPair, IsLeastTriple};
 ghost use Rattle.draw_check.specs.Faults.{HasEdge};

@@ -1,6 +1,6 @@
 //! The edges of a vertex, in the order of its list.
 ghost use Rattle.std.specs.Prelude.{◌≡◌, ◌<◌, ◌≤◌, ◌<ℤ◌, ◌↔◌, ◌||◌, ℕ, length, IsTrue, Some, MatchBool, MatchOption};
-ghost use Rattle.map_definitions.specs.Maps.{list_of};
+ghost use Rattle.map_theory.specs.Maps.{list_of};
 ghost use Rattle.half_edges.specs.Map.{IsHalfMap, dart_at, first_dart};
 ghost use Rattle.draw_check.specs.Least.{IsLeast};
 ghost use Rattle.bar_check.specs.Bars.{column_between as the_column, IsAbove, IsEarlier, GoesOnceRound};

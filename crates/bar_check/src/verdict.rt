@@ -4,7 +4,7 @@ use half_edges::{Ends, VertexId};
 
 /// The first fault of a visibility drawing with the least ids, in the order in which the kinds of fault
 /// stand here, or `Yes` where it has none.
-#[derive(Clone, Copy, Debug, PartialEq, Eq)]
+#[derive(Clone, Copy, PartialEq, Eq)]
 pub enum BarVerdict {
     /// There are not as many columns as edges.
     BadShape,

@@ -1,7 +1,10 @@
--- How vertices are given their places.
-pub mod PlacingLemmas
-pub mod OrderLemmas
-pub mod TableLemmas
-pub mod WholeLemmas
-pub mod FinishLemmas
-mod Cases
+-- The map by its darts, its numberings, and its bars.
+pub mod Bipolar
+pub mod Numberings
+pub mod Bars
+-- The lemmas on darts by their ids, and on rows of faces.
+mod Darts
+mod Agree
+mod ColumnLemmas
+mod Numbered
+mod Refused

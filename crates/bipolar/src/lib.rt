@@ -1,11 +1,8 @@
-//! St-orders of biconnected maps: the vertices from one end of an edge to the other, each of the others
-//! with an earlier and a later neighbour.
-//!
-//! A search from s that sees t next gives each vertex a range of places within its parent's. A vertex stands
-//! on the other side of its parent than the vertex at its low point does: so it stands between the two.
+//! Numbers of the dual of an st-order, by which bars are drawn, and the order itself.
 #![tactic(auto)]
 
-mod orders;
-mod places;
+pub mod bar_laws;
+pub mod dual_orders;
 
-pub use orders::{StOrder, st_order};
+pub use dual_orders::dual_numbers;
+pub use st_orders::{StOrder, st_order};

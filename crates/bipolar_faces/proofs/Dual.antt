@@ -1,11 +1,11 @@
 -- The dual numbers: dart by dart the number of the face on the right is raised, until there is none left; there is just one such numbering, and all its numbers are below the number of faces.
 use Rattle.std.proofs.Common.{◌≡◌, ◌≢◌, ◌⊎◌, ℕ, zero, suc, ◌+◌, ◌<◌, ◌≤◌, Bool, true, false, not, ◌&&◌, ◌||◌, cond, eqb, ltb, length, refl, sym, ap, ◌∙◌, subst, inl, inr, arith}
 use Rattle.std.proofs.lemmas.Bool.{cases_Bool, cases_eq, cases_lt, lt-ltb, le-ltb, eqb-true, eq-eqb, ne_eqb, and_parts, and_from, true≢false, false≢true, not_from_false}
-use Rattle.label_classes.specs.Classes.{count_below, label, same_class, class_count}
-use Rattle.label_classes.proofs.Counting.{count_below_all, count_below_into, count_below-le, count_below_same}
-use Rattle.label_classes.proofs.Classes.{Together-from, same_class-from, Together-not, cases_Together, Together-label, label-lt}
-use Rattle.label_classes.proofs.Orbits.{orbits_of, length-orbits_of, IsLabels-orbits_of}
-use Rattle.label_classes.proofs.Bound.{after}
+use Rattle.classes.specs.Classes.{count_below, label, same_class, class_count}
+use Rattle.classes.proofs.Counting.{count_below_all, count_below_into, count_below-le, count_below_same}
+use Rattle.classes.proofs.Classes.{Together-from, same_class-from, Together-not, cases_Together, Together-label, label-lt}
+use Rattle.classes.proofs.Orbits.{orbits_of, length-orbits_of, IsLabels-orbits_of}
+use Rattle.classes.proofs.Bound.{after}
 use Rattle.bipolar_faces.specs.Upward.{InFace, IsBipolar, IsRising, IsDual}
 use Rattle.bipolar_faces.proofs.Falls.{last_below, last_below-passes, some_or_none, but, count_but}
 use Rattle.bipolar_faces.proofs.Faces.{up, twin_in, steps, step_face, is_up, up_from, is_down, twin_up, face_fails}

@@ -1,10 +1,10 @@
 -- The faces of a bipolar map: each has one peak and one bottom, and its upward darts stand one above another.
 use Rattle.std.proofs.Common.{◌≡◌, ◌⊎◌, ℕ, zero, suc, ◌+◌, ◌<◌, ◌≤◌, Bool, true, false, not, ◌&&◌, ltb, refl, sym, ap, ◌∙◌, subst, inl, inr, arith}
 use Rattle.std.proofs.lemmas.Bool.{cases_Bool, cases_eq, ltb-true, ltb-false, lt-ltb, le-ltb, and_parts, and_from, false≢true, not_from_true, not_from_false}
-use Rattle.label_classes.specs.Classes.{same_class}
-use Rattle.label_classes.proofs.Classes.{Together-from, same_class-from}
-use Rattle.label_classes.proofs.Orbits.{orbits_of, orbits_of-step, IsPermuting}
-use Rattle.label_classes.proofs.Bound.{IsPermuting-pairing, after, IsPermuting-after}
+use Rattle.classes.specs.Classes.{same_class}
+use Rattle.classes.proofs.Classes.{Together-from, same_class-from}
+use Rattle.classes.proofs.Orbits.{orbits_of, orbits_of-step, IsPermuting}
+use Rattle.classes.proofs.Bound.{IsPermuting-pairing, after, IsPermuting-after}
 use Rattle.bipolar_faces.specs.Upward.{SameTail, InFace, IsBipolar}
 use Rattle.bipolar_faces.proofs.Falls.{falls-from, IsMixed, IsMixed-not, one_fall_of_face, one_fall_of_vertex, some_or_none, some_fall, kept_on}
 

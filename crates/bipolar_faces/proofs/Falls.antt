@@ -1,11 +1,11 @@
 -- Falls: darts that pass a test, whose images do not. Where an orbit has both kinds it has a fall, and where there are as few falls as orbits, each has one.
 use Rattle.std.proofs.Common.{◌≡◌, ◌≢◌, ◌⊎◌, ℕ, zero, suc, ◌+◌, ◌<◌, ◌≤◌, Bool, true, false, not, ◌&&◌, cond, eqb, List, refl, sym, ap, ◌∙◌, inl, inr, arith}
 use Rattle.std.proofs.lemmas.Bool.{cases_Bool, cases_eq, cases_lt, eq-eqb, eqb-true, ne_eqb, and_parts, and_from, false≢true, false_from_ne_true, not_from_true, not_from_false}
-use Rattle.label_classes.specs.Classes.{count_below, label, same_class, class_count}
-use Rattle.label_classes.proofs.Counting.{one_if, count_below_same, count_below_more, count_below_not, count_below_into}
-use Rattle.label_classes.proofs.Classes.{Together, Together-from, same_class-from, IsLabels}
-use Rattle.label_classes.proofs.Orbits.{orbits_of, length-orbits_of, IsLabels-orbits_of, orbits_of-step, orbits_of-marked, IsPermuting, count_below-images, marks_back}
-use Rattle.label_classes.proofs.Bound.{IsPairing, IsPermuting-pairing, after, IsPermuting-after}
+use Rattle.classes.specs.Classes.{count_below, label, same_class, class_count}
+use Rattle.classes.proofs.Counting.{one_if, count_below_same, count_below_more, count_below_not, count_below_into}
+use Rattle.classes.proofs.Classes.{Together, Together-from, same_class-from, IsLabels}
+use Rattle.classes.proofs.Orbits.{orbits_of, length-orbits_of, IsLabels-orbits_of, orbits_of-step, orbits_of-marked, IsPermuting, count_below-images, marks_back}
+use Rattle.classes.proofs.Bound.{IsPairing, IsPermuting-pairing, after, IsPermuting-after}
 
 -- the last number below n that passes, or 0
 abbrev pub last_below : (ℕ → Bool) → ℕ → ℕ

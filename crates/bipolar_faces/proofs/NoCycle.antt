@@ -1,9 +1,9 @@
 -- No cycle: in a set of faces without that of the base dart, some face has none of the set on its left. The heights are gone over: at each vertex the faces that begin there leave the set, and those left of the edges below it may join.
 use Rattle.std.proofs.Common.{◌≡◌, ◌⊎◌, ℕ, zero, suc, ◌<◌, ◌≤◌, Bool, true, false, not, ◌&&◌, ◌||◌, eqb, ltb, refl, sym, ap, ap₂, ◌∙◌, subst, inl, inr, arith}
 use Rattle.std.proofs.lemmas.Bool.{cases_Bool, cases_eq, cases_lt, ltb-true, lt-ltb, eqb-true, eq-eqb, or_left, or_right, and_parts, and_from, true≢false, false≢true, not_from_true, not_from_false, false_from_ne_true}
-use Rattle.label_classes.specs.Classes.{label}
-use Rattle.label_classes.proofs.Orbits.{orbits_of, orbits_of-marked}
-use Rattle.label_classes.proofs.Bound.{after}
+use Rattle.classes.specs.Classes.{label}
+use Rattle.classes.proofs.Orbits.{orbits_of, orbits_of-marked}
+use Rattle.classes.proofs.Bound.{after}
 use Rattle.bipolar_faces.specs.Upward.{SameTail, InFace, IsBipolar}
 use Rattle.bipolar_faces.proofs.Falls.{some_or_none, some_fall}
 use Rattle.bipolar_faces.proofs.Faces.{up, twin_in, step_in, steps, step_rank, step_face, corner, is_up, up_from, is_down, down_from, twin_up, one_rise, chain, base_only, face_above}

@@ -1,9 +1,9 @@
 -- Numbers of faces that rise from left to right: they order all edges that cross one level, an edge that passes a vertex has all edges of the vertex on one side, and round a vertex they rise and fall once.
 use Rattle.std.proofs.Common.{◌≡◌, ◌≢◌, ◌⊎◌, ℕ, zero, suc, ◌+◌, ◌<◌, ◌≤◌, true, false, cond, ltb, refl, sym, ap, ◌∙◌, subst, inl, inr, arith}
 use Rattle.std.proofs.lemmas.Bool.{cases_Bool, ltb-true, lt-ltb}
-use Rattle.label_classes.proofs.Classes.{cases_Together}
-use Rattle.label_classes.proofs.Orbits.{orbits_of, orbits_of-marked}
-use Rattle.label_classes.proofs.Bound.{after}
+use Rattle.classes.proofs.Classes.{cases_Together}
+use Rattle.classes.proofs.Orbits.{orbits_of, orbits_of-marked}
+use Rattle.classes.proofs.Bound.{after}
 use Rattle.bipolar_faces.specs.Upward.{SameTail, InFace, IsBipolar, IsRising}
 use Rattle.bipolar_faces.proofs.Falls.{kept_on}
 use Rattle.bipolar_faces.proofs.Faces.{up, twin_in, steps, corner, is_up, up_from, is_down, down_from, twin_up, chain, base_only, crossing_before}

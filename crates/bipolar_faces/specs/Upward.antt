@@ -1,9 +1,9 @@
 -- A plane map by the numbers of its darts, with a rank for each vertex: all edges go upwards, from the tail of the base dart to its head.
 use Rattle.std.specs.Prelude.{ℕ, ◌+◌, ◌<◌, ◌≤◌, ◌≡◌, ◌≢◌}
-use Rattle.label_classes.specs.Classes.{class_count}
-use Rattle.label_classes.proofs.Classes.{Together}
-use Rattle.label_classes.proofs.Orbits.{orbits_of, IsPermuting}
-use Rattle.label_classes.proofs.Bound.{IsPairing, after}
+use Rattle.classes.specs.Classes.{class_count}
+use Rattle.classes.proofs.Classes.{Together}
+use Rattle.classes.proofs.Orbits.{orbits_of, IsPermuting}
+use Rattle.classes.proofs.Bound.{IsPairing, after}
 
 -- two darts leave one vertex: f is the rotation
 abbrev pub SameTail : ℕ → (ℕ → ℕ) → ℕ → ℕ → Type 0

@@ -4,10 +4,10 @@ use Rattle.std.proofs.lemmas.Bool.{cases_eq, cond-true, cond-false}
 use Rattle.std.proofs.lemmas.List.{take-append-le, length-append, get_or_append_left}
 use Rattle.std.proofs.Math.Seq.{take-length, get_or-append_seam}
 use Rattle.map_lists.specs.Lists.{Lists}
-use Rattle.map_definitions.proofs.EntryLemmas.{AllPairs-append}
-use Rattle.map_peeling.specs.Restricted.{restricted, IsFaceOfThree, IsDartOfThree}
-use Rattle.map_peeling.specs.NearTriangulations.{IsOuterCycle}
-use Rattle.map_peeling.proofs.Rings.{each_of_one}
+use Rattle.map_theory.proofs.EntryLemmas.{AllPairs-append}
+use Rattle.plane_peeling.specs.Restricted.{restricted, IsFaceOfThree, IsDartOfThree}
+use Rattle.plane_peeling.specs.NearTriangulations.{IsOuterCycle}
+use Rattle.plane_peeling.proofs.Rings.{each_of_one}
 use Rattle.canon_order.specs.Orders.{stands_in, IsPutOn, IsBuiltUp, IsMade}
 
 -- equations carried through the definitions

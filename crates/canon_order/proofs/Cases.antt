@@ -1,12 +1,12 @@
 -- The definition run on a worked case: an order of the tetrahedron.
 use Rattle.std.proofs.Common.{◌≡◌, ◌≢◌, ℕ, zero, suc, ◌+◌, ◌<◌, ◌≤◌, List, [], ◌∷◌, take, get_or, AllPairs, Contains, refl, inl, inr, arith, lit<}
 use Rattle.map_lists.specs.Lists.{Lists}
-use Rattle.map_definitions.specs.Maps.{HasDart, list_of, entry_after, follows}
-use Rattle.map_definitions.proofs.DartLemmas.{Contains-from_place_of}
-use Rattle.map_definitions.proofs.EntryLemmas.{AllPairs-append}
-use Rattle.map_peeling.specs.Restricted.{restricted, IsFaceOfThree, IsDartOfThree}
-use Rattle.map_peeling.specs.NearTriangulations.{IsOuterCycle}
-use Rattle.map_peeling.proofs.Rings.{each_of_one, each_of_two, each_of_three, AllPairs-put}
+use Rattle.map_theory.specs.Maps.{HasDart, list_of, entry_after, follows}
+use Rattle.map_theory.proofs.DartLemmas.{Contains-from_place_of}
+use Rattle.map_theory.proofs.EntryLemmas.{AllPairs-append}
+use Rattle.plane_peeling.specs.Restricted.{restricted, IsFaceOfThree, IsDartOfThree}
+use Rattle.plane_peeling.specs.NearTriangulations.{IsOuterCycle}
+use Rattle.plane_peeling.proofs.Rings.{each_of_one, each_of_two, each_of_three, AllPairs-put}
 use Rattle.canon_order.specs.Orders.{stands_in, IsPutOn, IsMade, IsCanonicalOrder}
 use Rattle.canon_order.proofs.Built.{topped, AllPairs-one}
 

@@ -3,15 +3,15 @@ use Rattle.std.proofs.Common.{◌≡◌, ◌≢◌, ◌⊎◌, ◌↔◌, ℕ, �
 use Rattle.std.proofs.lemmas.Bool.{cases_eq, cases_Bool, true≢false, false_from_ne_true}
 use Rattle.std.proofs.lemmas.List.{length-reverse}
 use Rattle.map_lists.specs.Lists.{Lists}
-use Rattle.map_definitions.specs.Maps.{Dart, HasDart, list_of, follows}
+use Rattle.map_theory.specs.Maps.{Dart, HasDart, list_of, follows}
 use Rattle.plane_laws.specs.Completed.{IsCompleted}
-use Rattle.map_peeling.specs.Restricted.{restricted, kept_but}
-use Rattle.map_peeling.specs.NearTriangulations.{IsFree}
-use Rattle.map_peeling.proofs.RestrictedMaps.{restricted-old, restricted-new, kept_but-old, kept_but-new, kept_but-itself}
-use Rattle.map_peeling.proofs.FreeVertices.{some_free}
-use Rattle.map_peeling.proofs.FreeCounts.{free_by_count}
-use Rattle.map_peeling.proofs.Steps.{free_taken_off}
-use Rattle.map_peeling.proofs.Covers.{cycle_after}
+use Rattle.plane_peeling.specs.Restricted.{restricted, kept_but}
+use Rattle.plane_peeling.specs.NearTriangulations.{IsFree}
+use Rattle.plane_peeling.proofs.RestrictedMaps.{restricted-old, restricted-new, kept_but-old, kept_but-new, kept_but-itself}
+use Rattle.plane_peeling.proofs.FreeVertices.{some_free}
+use Rattle.plane_peeling.proofs.FreeCounts.{free_by_count}
+use Rattle.plane_peeling.proofs.Steps.{free_taken_off}
+use Rattle.plane_peeling.proofs.Covers.{cycle_after}
 use Rattle.canon_order.specs.Orders.{IsCanonicalOrder}
 use Rattle.canon_order.specs.Lefts.{IsLeft}
 use Rattle.canon_order.specs.Contours.{is_set, IsCounted, LooksFree, IsContour}

@@ -3,15 +3,15 @@ use Rattle.std.proofs.Common.{◌≡◌, ◌-◌, ◌<◌, ℕ, zero, suc, true,
 use Rattle.std.proofs.lemmas.List.{ext_get_or}
 use Rattle.std.proofs.Math.Seq.{take-length}
 use Rattle.map_lists.specs.Lists.{Lists}
-use Rattle.map_definitions.specs.Maps.{Dart, HasDart, follows, entry_after}
-use Rattle.map_definitions.proofs.EntryLemmas.{list_any-from_Contains}
+use Rattle.map_theory.specs.Maps.{Dart, HasDart, follows, entry_after}
+use Rattle.map_theory.proofs.EntryLemmas.{list_any-from_Contains}
 use Rattle.plane_laws.specs.Completed.{IsCompleted}
 use Rattle.plane_laws.proofs.Triangles.{triangles_where_met}
-use Rattle.map_peeling.specs.Restricted.{restricted}
-use Rattle.map_peeling.specs.NearTriangulations.{IsOuterCycle}
-use Rattle.map_peeling.proofs.OuterCycles.{IsFaceOfThree-triangle, round, first_on, last_on, next-last}
-use Rattle.map_peeling.proofs.RestrictedMaps.{restricted_all}
-use Rattle.map_peeling.proofs.Rings.{Leads-at}
+use Rattle.plane_peeling.specs.Restricted.{restricted}
+use Rattle.plane_peeling.specs.NearTriangulations.{IsOuterCycle}
+use Rattle.plane_peeling.proofs.OuterCycles.{IsFaceOfThree-triangle, round, first_on, last_on, next-last}
+use Rattle.plane_peeling.proofs.RestrictedMaps.{restricted_all}
+use Rattle.plane_peeling.proofs.Rings.{Leads-at}
 use Rattle.canon_order.specs.Orders.{stands_in, IsCanonicalOrder}
 use Rattle.canon_order.specs.Laws.{LastCycle}
 use Rattle.canon_order.proofs.Counters.{same_place, all_of_them}

@@ -4,19 +4,19 @@ use Rattle.std.proofs.lemmas.Bool.{cases_eq, cases_Bool, true≢false, false_fro
 use Rattle.std.proofs.lemmas.List.{append-nil, length-append, get_or_append_left, get_or-append-add}
 use Rattle.std.proofs.lemmas.List.Folds.{list_any-append}
 use Rattle.std.proofs.lemmas.List.Elements.{Contains-get_or}
-use Rattle.label_classes.specs.Classes.{count_below}
-use Rattle.label_classes.proofs.Counting.{count_below_all, count_below_same}
+use Rattle.classes.specs.Classes.{count_below}
+use Rattle.classes.proofs.Counting.{count_below_all, count_below_same}
 use Rattle.map_lists.specs.Lists.{Lists}
-use Rattle.map_definitions.specs.Maps.{HasDart, IsSimpleMap, follows, entry_after}
-use Rattle.map_definitions.proofs.EntryLemmas.{Contains-here, Contains-there, Contains-from_list_any, list_any-from_Contains}
+use Rattle.map_theory.specs.Maps.{HasDart, IsSimpleMap, follows, entry_after}
+use Rattle.map_theory.proofs.EntryLemmas.{Contains-here, Contains-there, Contains-from_list_any, list_any-from_Contains}
 use Rattle.plane_laws.specs.Completed.{IsCompleted}
-use Rattle.map_peeling.specs.Restricted.{restricted, kept_but, IsFaceOfThree, IsDartOfThree}
-use Rattle.map_peeling.specs.NearTriangulations.{IsOuterCycle, IsOuterDart}
-use Rattle.map_peeling.specs.Peeled.{IsPeeled, IsFan, IsTakenOff}
-use Rattle.map_peeling.proofs.RestrictedMaps.{restricted-old, restricted_all, kept_but-old, kept_but-itself}
-use Rattle.map_peeling.proofs.Rings.{each_of_two, each_of_three, entry_after-inside, entry_after-last}
-use Rattle.map_peeling.proofs.Covers.{fan_covers}
-use Rattle.map_peeling.proofs.Ends.{nothing_taken_off, three_left}
+use Rattle.plane_peeling.specs.Restricted.{restricted, kept_but, IsFaceOfThree, IsDartOfThree}
+use Rattle.plane_peeling.specs.NearTriangulations.{IsOuterCycle, IsOuterDart}
+use Rattle.plane_peeling.specs.Peeled.{IsPeeled, IsFan, IsTakenOff}
+use Rattle.plane_peeling.proofs.RestrictedMaps.{restricted-old, restricted_all, kept_but-old, kept_but-itself}
+use Rattle.plane_peeling.proofs.Rings.{each_of_two, each_of_three, entry_after-inside, entry_after-last}
+use Rattle.plane_peeling.proofs.Covers.{fan_covers}
+use Rattle.plane_peeling.proofs.Ends.{nothing_taken_off, three_left}
 use Rattle.canon_order.specs.Orders.{stands_in, IsPutOn, IsCanonicalOrder}
 use Rattle.canon_order.specs.Lefts.{IsOrderOfLeft, IsLeft}
 use Rattle.canon_order.proofs.Built.{topped, topped-new, IsBuiltUp-base, IsBuiltUp-more, IsMade-old, IsMade-new}

@@ -8,3 +8,4 @@ mod LastCycle
 pub mod Counters
 mod Marks
 mod Contours
+mod Refused

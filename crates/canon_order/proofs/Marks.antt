@@ -5,11 +5,11 @@ use Rattle.std.proofs.lemmas.List.{get_or_past, get_or_default, take_more, lengt
 use Rattle.std.proofs.lemmas.List.Sums.{sum_by-cons, count_by-le-length}
 use Rattle.std.proofs.lemmas.List.Elements.{All-nil, Contains-append_left, Contains-append_right, Contains-append_cases, Contains-get_or}
 use Rattle.map_lists.specs.Lists.{Lists}
-use Rattle.map_definitions.specs.Maps.{IsSimpleMap, list_of}
-use Rattle.map_definitions.proofs.EntryLemmas.{count_of, count_of-le-one, Contains-from_count_of, Contains-counted, Contains-here, Contains-there}
+use Rattle.map_theory.specs.Maps.{IsSimpleMap, list_of}
+use Rattle.map_theory.proofs.EntryLemmas.{count_of, count_of-le-one, Contains-from_count_of, Contains-counted, Contains-here, Contains-there}
 use Rattle.half_edges.proofs.TableArena.{few_entries}
-use Rattle.map_peeling.proofs.RestrictedMaps.{cases_Contains}
-use Rattle.map_peeling.proofs.Rings.{each_of_one, each_of_three}
+use Rattle.plane_peeling.proofs.RestrictedMaps.{cases_Contains}
+use Rattle.plane_peeling.proofs.Rings.{each_of_one, each_of_three}
 use Rattle.canon_order.specs.Contours.{is_set, IsCounted, IsStacked}
 
 -- a test that passes at one number more counts that number too

@@ -1,12 +1,12 @@
 -- Each completed map has a canonical order.
 use Rattle.std.proofs.Common.{◌≡◌, ℕ, zero, suc, ◌+◌, ◌-◌, Bool, List, ◌∷◌, length, arith, ltb, lt-ltb, ltb-true}
-use Rattle.label_classes.specs.Classes.{count_below}
+use Rattle.classes.specs.Classes.{count_below}
 use Rattle.map_lists.specs.Lists.{Lists}
-use Rattle.map_definitions.specs.Maps.{follows}
+use Rattle.map_theory.specs.Maps.{follows}
 use Rattle.plane_laws.specs.Completed.{IsCompleted}
-use Rattle.map_peeling.specs.Restricted.{kept_but}
-use Rattle.map_peeling.proofs.FreeVertices.{some_free}
-use Rattle.map_peeling.proofs.Steps.{free_taken_off}
+use Rattle.plane_peeling.specs.Restricted.{kept_but}
+use Rattle.plane_peeling.proofs.FreeVertices.{some_free}
+use Rattle.plane_peeling.proofs.Steps.{free_taken_off}
 use Rattle.canon_order.specs.Orders.{IsCanonicalOrder}
 use Rattle.canon_order.specs.Lefts.{IsLeft}
 use Rattle.canon_order.specs.Laws.{SomeOrder}

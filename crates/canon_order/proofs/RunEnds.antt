@@ -5,14 +5,14 @@ use Rattle.std.proofs.lemmas.List.{length-take-le, get_or-take, get_or_default, 
 use Rattle.std.proofs.lemmas.List.Elements.{Contains-get_or}
 use Rattle.std.proofs.Math.Seq.{get_or-append_seam}
 use Rattle.map_lists.specs.Lists.{Lists}
-use Rattle.map_definitions.specs.Maps.{Dart, HasDart, list_of, follows, entry_after}
-use Rattle.map_definitions.proofs.DartLemmas.{entry_after-injective}
-use Rattle.map_definitions.proofs.EntryLemmas.{Contains-here, Contains-from_list_any}
+use Rattle.map_theory.specs.Maps.{Dart, HasDart, list_of, follows, entry_after}
+use Rattle.map_theory.proofs.DartLemmas.{entry_after-injective}
+use Rattle.map_theory.proofs.EntryLemmas.{Contains-here, Contains-from_list_any}
 use Rattle.plane_laws.specs.Completed.{IsCompleted}
-use Rattle.map_peeling.specs.Restricted.{restricted, IsDartOfThree}
-use Rattle.map_peeling.specs.NearTriangulations.{IsOuterCycle}
-use Rattle.map_peeling.proofs.RestrictedMaps.{restricted-map, restricted-old, restricted-new}
-use Rattle.map_peeling.proofs.Rings.{entry_after-inside, each_of_two}
+use Rattle.plane_peeling.specs.Restricted.{restricted, IsDartOfThree}
+use Rattle.plane_peeling.specs.NearTriangulations.{IsOuterCycle}
+use Rattle.plane_peeling.proofs.RestrictedMaps.{restricted-map, restricted-old, restricted-new}
+use Rattle.plane_peeling.proofs.Rings.{entry_after-inside, each_of_two}
 use Rattle.canon_order.specs.Orders.{stands_in, IsPutOn, IsMade, IsCanonicalOrder}
 use Rattle.canon_order.specs.Laws.{RunEnds}
 use Rattle.canon_order.proofs.Counters.{same_place}

@@ -1,7 +1,7 @@
 -- What is kept of the vertices while they are taken off.
 use Rattle.std.specs.Prelude.{ℕ, ◌<◌, ◌≡◌, ◌≢◌, ◌↔◌, Bool, true, false, List, length, slice_index, slice_index_or, count_by, Contains, All}
 use Rattle.map_lists.specs.Lists.{Lists}
-use Rattle.map_definitions.specs.Maps.{list_of}
+use Rattle.map_theory.specs.Maps.{list_of}
 use Rattle.canon_order.specs.Lefts.{IsLeft}
 
 -- the mark of v, in a list of marks

@@ -1,7 +1,7 @@
 -- The laws of canonical orders, as statements about all maps.
 use Rattle.std.specs.Prelude.{ℕ, suc, ◌<◌, ◌≤◌, ◌≡◌, false, List, [], ◌∷◌, length, take, slice_index}
 use Rattle.map_lists.specs.Lists.{Lists}
-use Rattle.map_definitions.specs.Maps.{Dart, HasDart, follows}
+use Rattle.map_theory.specs.Maps.{Dart, HasDart, follows}
 use Rattle.plane_laws.specs.Completed.{IsCompleted}
 use Rattle.canon_order.specs.Orders.{stands_in, IsCanonicalOrder}
 

@@ -1,11 +1,11 @@
 -- What is left of a completed map while its vertices are taken off, and what is kept of it.
 use Rattle.std.specs.Prelude.{ℕ, ◌+◌, ◌<◌, ◌≡◌, Bool, true, List, ◌++◌, length}
-use Rattle.label_classes.specs.Classes.{count_below}
+use Rattle.classes.specs.Classes.{count_below}
 use Rattle.map_lists.specs.Lists.{Lists}
-use Rattle.map_definitions.specs.Maps.{HasDart}
-use Rattle.map_peeling.specs.Restricted.{restricted}
-use Rattle.map_peeling.specs.NearTriangulations.{IsOuterDart}
-use Rattle.map_peeling.specs.Peeled.{IsPeeled}
+use Rattle.map_theory.specs.Maps.{HasDart}
+use Rattle.plane_peeling.specs.Restricted.{restricted}
+use Rattle.plane_peeling.specs.NearTriangulations.{IsOuterDart}
+use Rattle.plane_peeling.specs.Peeled.{IsPeeled}
 use Rattle.canon_order.specs.Orders.{stands_in, IsBuiltUp, IsMade, IsCanonicalOrder}
 
 -- An order of the vertices that are left, built up to their outer cycle: the faces made are all but the outer one.

@@ -2,10 +2,10 @@
 use Rattle.std.specs.Prelude.{ℕ, suc, ◌-◌, ◌<◌, ◌≤◌, ◌≡◌, ◌≢◌, ◌==◌, Bool, List, [], ◌∷◌, ◌++◌, map, length, take, slice_index, AllPairs, All}
 use Rattle.std.specs.List.{list_any}
 use Rattle.map_lists.specs.Lists.{Lists}
-use Rattle.map_definitions.specs.Maps.{Dart, HasDart, vertex_count, follows}
-use Rattle.map_peeling.specs.Restricted.{restricted, IsFaceOfThree, IsDartOfThree}
-use Rattle.map_peeling.specs.NearTriangulations.{IsOuterCycle}
-use Rattle.map_peeling.specs.Peeled.{IsFan}
+use Rattle.map_theory.specs.Maps.{Dart, HasDart, vertex_count, follows}
+use Rattle.plane_peeling.specs.Restricted.{restricted, IsFaceOfThree, IsDartOfThree}
+use Rattle.plane_peeling.specs.NearTriangulations.{IsOuterCycle}
+use Rattle.plane_peeling.specs.Peeled.{IsFan}
 use Rattle.canon_order.specs.declared.order.Order.{Order}
 
 -- whether v stands in a list

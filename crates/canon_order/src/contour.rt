@@ -3,7 +3,7 @@
 //! `marked` says of each vertex whether it is on that cycle, `kept` whether it is left, and `counts` how
 //! many of its neighbours are marked. Each vertex that may be taken off is on `stack`, with others.
 ghost use Rattle.std.specs.Prelude.{◌≡◌, ◌≢◌, ◌<◌, ◌⊎◌, ◌↔◌, ℕ, true, false, [], ◌∷◌, ◌++◌, length, slice_set, Contains, All, IsTrue, IfOk};
-ghost use Rattle.map_definitions.specs.Maps.{IsSimpleMap, list_of};
+ghost use Rattle.map_theory.specs.Maps.{IsSimpleMap, list_of};
 ghost use Rattle.canon_order.specs.Contours.{is_set, IsCounted, IsStacked, LooksFree};
 
 use crate::lists::{lower, raise};

@@ -3,7 +3,7 @@
 use std::alloc::AllocError;
 
 /// Why a completed map got no canonical order.
-#[derive(Clone, Copy, Debug, PartialEq, Eq)]
+#[derive(Clone, Copy, PartialEq, Eq)]
 pub enum OrderFault {
     /// There was not enough memory.
     NoMemory,

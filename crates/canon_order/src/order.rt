@@ -1,6 +1,6 @@
 //! Canonical orders.
 ghost use Rattle.std.specs.Prelude.{◌≡◌, ◌≢◌, ◌<◌, ℕ, false, true, [], ◌∷◌, ◌++◌, reverse, length, slice_index, All, AllPairs, Some, IfOk};
-ghost use Rattle.map_definitions.specs.Maps.{HasDart, follows};
+ghost use Rattle.map_theory.specs.Maps.{HasDart, follows};
 ghost use Rattle.plane_laws.specs.Completed.{IsCompleted};
 ghost use Rattle.half_edges.specs.Map.{IsLive, dart_at};
 ghost use Rattle.canon_order.specs.Contours.{is_set};

@@ -1,11 +1,11 @@
 -- Components and their numbers: the number of a component is how many lesser least vertices there are.
 use Rattle.std.proofs.Common.{◌≡◌, ◌≢◌, ℕ, zero, suc, ◌+◌, ◌<◌, Bool, true, false, List, length, get_or, refl, sym, ap, ◌∙◌, inl, inr, arith, ◌==◌}
 use Rattle.std.proofs.lemmas.Bool.{cases_eq, eq-eqb, ne_eqb}
-use Rattle.label_classes.specs.Classes.{count_below, label}
-use Rattle.label_classes.proofs.Classes.{Together, Together-from, same_class-from, length-classes}
+use Rattle.classes.specs.Classes.{count_below, label}
+use Rattle.classes.proofs.Classes.{Together, Together-from, same_class-from, length-classes}
 use Rattle.map_lists.specs.Lists.{Lists}
-use Rattle.map_definitions.specs.Maps.{darts, IsSimpleMap, component_classes, component_count}
-use Rattle.euler_bound.proofs.DartPermutations.{IsLabels-components}
+use Rattle.map_theory.specs.Maps.{darts, IsSimpleMap, component_classes, component_count}
+use Rattle.map_theory.proofs.DartPermutations.{IsLabels-components}
 use Rattle.euler_faces.specs.Search.{component_number}
 use Rattle.conn_parts.specs.Parts.{ArePartsOf}
 

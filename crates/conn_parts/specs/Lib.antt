@@ -1,2 +1,7 @@
+-- Records as connected maps of genus zero without cut vertices.
+pub mod Blocks
+pub mod Laws
 -- Numberings of the components of maps.
 pub mod Parts
+-- Graphs as lists.
+pub mod GraphLists

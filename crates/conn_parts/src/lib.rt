@@ -1,6 +1,10 @@
 //! The components of a map, numbered.
 #![tactic(auto)]
 
+pub mod graph_cuts;
 mod parts;
+pub mod plane_blocks;
 
+pub use graph_cuts::{graph_components, graph_cut_vertex, graph_separating_pair};
+pub use graph_search::map_cuts::{cut_vertex, separating_pair};
 pub use parts::{Parts, components};

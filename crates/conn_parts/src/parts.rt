@@ -1,7 +1,7 @@
 //! Numbered components.
 ghost use Rattle.std.specs.Prelude.{◌≡◌, ◌<◌, length, slice_index, IfOk};
 ghost use Rattle.map_lists.specs.Cuts.{cut};
-ghost use Rattle.map_definitions.specs.Maps.{IsSimpleMap};
+ghost use Rattle.map_theory.specs.Maps.{IsSimpleMap};
 ghost use Rattle.conn_parts.specs.Parts.{ArePartsOf};
 
 use euler_faces::{UNMET, number_components};

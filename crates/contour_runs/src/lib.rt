@@ -3,6 +3,8 @@
 //! places of the contour alone, and of no map; each law is the contract of a function that does nothing.
 #![tactic(auto)]
 
+pub mod wood_points;
+
 ghost use Rattle.contour_runs.specs.Laws.{PlacesDoNotFall, StageOfRun, ContourAfter, OrderKept, CoveredOnce, CoveredTogether, FaceMadeOnce, FaceCount, ListsAreRun};
 
 /// The place map of a step does not fall: of two places of the contour the earlier one does not come

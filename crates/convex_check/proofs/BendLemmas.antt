@@ -1,14 +1,14 @@
 -- Where faces bend, as the calls of a map answer it.
 use Rattle.std.proofs.Common.{◌≡◌, ℕ, ◌<◌, List, length, Contains, pos, ◌<ℤ◌, refl, sym, ap, subst, ◌∙◌}
-use Rattle.label_classes.proofs.Classes.{Together-from, same_class-from}
-use Rattle.map_definitions.specs.Maps.{HasDart, follows, face_classes}
-use Rattle.map_definitions.specs.Paths.{SameFace}
+use Rattle.classes.proofs.Classes.{Together-from, same_class-from}
+use Rattle.map_theory.specs.Maps.{HasDart, follows, face_classes}
+use Rattle.map_theory.specs.Paths.{SameFace}
 use Rattle.half_edges.specs.Map.{Map, IsHalfMap, IsLive}
 use Rattle.euler_faces.specs.Numbers.{number_at}
 use Rattle.euler_faces.specs.FaceWalks.{walk_at, AreFaces}
 use Rattle.pg_plane.specs.declared.point.Point.{Point}
 use Rattle.pg_plane.specs.Geometry.{area}
-use Rattle.drawings.specs.Drawing.{place}
+use Rattle.plane_drawings.specs.Drawing.{place}
 use Rattle.draw_check.specs.FaceVerdicts.{dart_of}
 use Rattle.draw_check.proofs.WalkFaces.{in_class, in_walk}
 use Rattle.convex_check.specs.Verdicts.{IsBentFrom}

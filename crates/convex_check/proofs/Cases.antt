@@ -3,9 +3,9 @@ use Rattle.std.specs.Prelude.{List, [], ◌∷◌, pos, refl}
 use Rattle.std.proofs.Common.{arith}
 use Rattle.std.proofs.lemmas.Bool.{false≢true}
 use Rattle.std.proofs.lemmas.Int.{ints}
-use Rattle.label_classes.specs.Classes.{merge}
+use Rattle.classes.specs.Classes.{merge}
 use Rattle.map_lists.specs.Lists.{Lists}
-use Rattle.map_definitions.specs.Maps.{entry_after}
+use Rattle.map_theory.specs.Maps.{entry_after}
 use Rattle.pg_plane.specs.declared.point.Point.{Point}
 use Rattle.convex_check.specs.Convex.{IsBent}
 

@@ -2,19 +2,19 @@
 use Rattle.std.proofs.Common.{◌≡◌, ℕ, ◌<◌, pos, List, length, get_or, All, Contains, sym, ap, ◌∙◌, subst, arith}
 use Rattle.std.proofs.lemmas.List.{get_or_default}
 use Rattle.std.proofs.lemmas.List.Elements.{Contains-get_or}
-use Rattle.map_definitions.specs.Maps.{Dart, HasDart}
-use Rattle.map_definitions.specs.Paths.{SameFace}
+use Rattle.map_theory.specs.Maps.{Dart, HasDart}
+use Rattle.map_theory.specs.Paths.{SameFace}
 use Rattle.half_edges.specs.Map.{Map, IsLive, dart_at}
 use Rattle.euler_faces.specs.FaceWalks.{walk_at, AreFaces}
 use Rattle.euler_faces.proofs.NumberLemmas.{live_from}
 use Rattle.pg_plane.specs.declared.point.Point.{Point}
 use Rattle.pg_plane.specs.Geometry.{area}
 use Rattle.pg_plane.specs.Range.{IsInRange}
-use Rattle.drawings.specs.Drawing.{place}
+use Rattle.plane_drawings.specs.Drawing.{place}
 use Rattle.draw_check.specs.Loops.{IsDrawn}
 use Rattle.draw_check.specs.FaceVerdicts.{dart_of}
 use Rattle.draw_check.proofs.FaceIds.{dart_of-is, has_dart}
-use Rattle.triangle_corners.specs.Corners.{IsOnTriangle, HasCorners}
+use Rattle.convex_check.specs.Corners.{IsOnTriangle, HasCorners}
 use Rattle.convex_check.specs.Convex.{IsOnFace, HasOuterCorners}
 use Rattle.convex_check.specs.Walks.{AreWalkPlaces}
 use Rattle.convex_check.proofs.BendLemmas.{one_walk_face, in_walk_of}

@@ -1,12 +1,12 @@
 -- Convex drawings over a base dart: no face but the base's bends inwards, and that one is a triangle, with flat angles.
 use Rattle.std.specs.Prelude.{ℕ, ◌≡◌, ◌≢◌, List, pos, ◌≤ℤ◌, ◌<ℤ◌}
 use Rattle.map_lists.specs.Lists.{Lists}
-use Rattle.map_definitions.specs.Maps.{Dart, HasDart, follows}
-use Rattle.map_definitions.specs.Paths.{SameFace}
+use Rattle.map_theory.specs.Maps.{Dart, HasDart, follows}
+use Rattle.map_theory.specs.Paths.{SameFace}
 use Rattle.pg_plane.specs.declared.point.Point.{Point}
 use Rattle.pg_plane.specs.Geometry.{area}
-use Rattle.drawings.specs.Drawing.{place}
-use Rattle.triangle_corners.specs.Corners.{IsOnTriangle}
+use Rattle.plane_drawings.specs.Drawing.{place}
+use Rattle.convex_check.specs.Corners.{IsOnTriangle}
 
 -- the walk of another face than the base's goes from a over b to c, and turns to the right
 pub record IsBent (lists : Lists) (points : List Point) (base : Dart) (a b c : ℕ) : Type 0 where

@@ -1,7 +1,7 @@
 -- What the verdict `Yes` means.
 use Rattle.std.specs.Prelude.{◌≡◌, ◌↔◌, List}
 use Rattle.map_lists.specs.Lists.{Lists}
-use Rattle.map_definitions.specs.Maps.{Dart}
+use Rattle.map_theory.specs.Maps.{Dart}
 use Rattle.pg_plane.specs.declared.point.Point.{Point}
 use Rattle.convex_check.specs.Convex.{IsConvex}
 use Rattle.convex_check.specs.Verdicts.{IsConvexVerdict}

@@ -1,7 +1,7 @@
 -- The verdict on a convex drawing.
 use Rattle.std.specs.Prelude.{ℕ, List}
 use Rattle.map_lists.specs.Lists.{Lists}
-use Rattle.map_definitions.specs.Maps.{Dart, follows}
+use Rattle.map_theory.specs.Maps.{Dart, follows}
 use Rattle.half_edges.specs.Map.{Map}
 use Rattle.pg_plane.specs.declared.point.Point.{Point}
 use Rattle.draw_check.specs.Least.{IsLeastTriple}

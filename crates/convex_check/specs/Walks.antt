@@ -2,7 +2,7 @@
 use Rattle.std.specs.Prelude.{ℕ, ◌<◌, ◌≡◌, List, length, slice_index}
 use Rattle.half_edges.specs.Map.{Map}
 use Rattle.pg_plane.specs.declared.point.Point.{Point}
-use Rattle.drawings.specs.Drawing.{place}
+use Rattle.plane_drawings.specs.Drawing.{place}
 use Rattle.draw_check.specs.FaceVerdicts.{dart_of}
 
 -- for each id of a walk the place of its dart's tail

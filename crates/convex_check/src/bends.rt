@@ -1,10 +1,10 @@
 //! Faces that bend inwards.
 ghost use Rattle.std.specs.Prelude.{◌≡◌, ◌+◌, ◌<◌, ◌↔◌, ◌<ℤ◌, pos, ℕ, List, length, slice_index, IsTrue, Some, MatchOption};
-ghost use Rattle.map_definitions.specs.Maps.{HasDart, follows};
+ghost use Rattle.map_theory.specs.Maps.{HasDart, follows};
 ghost use Rattle.half_edges.specs.Map.{IsHalfMap, IsLive, dart_at, first_dart};
 ghost use Rattle.euler_faces.specs.FaceWalks.{AreFaces};
 ghost use Rattle.pg_plane.specs.Geometry.{area};
-ghost use Rattle.drawings.specs.Drawing.{place};
+ghost use Rattle.plane_drawings.specs.Drawing.{place};
 ghost use Rattle.draw_check.specs.Least.{IsLeast, IsLeastPair, IsLeastTriple};
 ghost use Rattle.draw_check.specs.Loops.{IsDrawn, IsLeastOf, IsBelow};
 ghost use Rattle.draw_check.specs.FaceVerdicts.{dart_of};

@@ -2,6 +2,8 @@
 //! face is a triangle, with flat angles.
 #![tactic(auto)]
 
+pub mod triangle_corners;
+
 ghost use Rattle.convex_check.specs.Laws.{YesIsConvex};
 
 mod bends;

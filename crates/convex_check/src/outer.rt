@@ -9,11 +9,11 @@ ghost use Rattle.convex_check.specs.Convex.{HasOuterCorners};
 ghost use Rattle.convex_check.specs.Walks.{AreWalkPlaces};
 
 use crate::bends::place_at;
+use crate::triangle_corners::has_corners;
 use euler_faces::Faces;
 use half_edges::{DartId, HalfMap};
 use pg_plane::{Point, Points};
 use std::alloc::{AllocError, Global};
-use triangle_corners::has_corners;
 
 // The places of the vertices of a walk.
 fn walk_points(

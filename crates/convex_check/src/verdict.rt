@@ -3,7 +3,7 @@
 use half_edges::VertexId;
 
 /// Whether a drawing is convex over a base dart.
-#[derive(Clone, Copy, Debug, PartialEq, Eq)]
+#[derive(Clone, Copy, PartialEq, Eq)]
 pub enum ConvexVerdict {
     /// The least three consecutive vertices of the walk of another face than the base's that turn to the
     /// right.

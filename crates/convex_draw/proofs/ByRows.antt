@@ -1,11 +1,11 @@
 -- A run of a map, with as many rows as steps.
 use Rattle.std.proofs.Common.{ℕ, ◌<◌, ◌≡◌, length, sym, subst}
 use Rattle.map_lists.specs.Lists.{Lists}
-use Rattle.face_runs.specs.Runs.{Step}
-use Rattle.convex_runs.specs.RunsOfMaps.{IsRunOf}
-use Rattle.convex_rows.specs.declared.rows.ConvexRows.{ConvexRows}
-use Rattle.convex_rows.specs.Rows.{AreRows, AreRanked}
-use Rattle.convex_removals.specs.Removed.{AreRowsOfRun}
+use Rattle.convex_counts.specs.Runs.{Step}
+use Rattle.convex_laws.specs.RunsOfMaps.{IsRunOf}
+use Rattle.convex_laws.specs.declared.convex_rows.rows.ConvexRows.{ConvexRows}
+use Rattle.convex_laws.specs.Rows.{AreRows, AreRanked}
+use Rattle.convex_laws.specs.Removed.{AreRowsOfRun}
 
 -- The rows are those of a run of the map from the base (s, d), and `at` names the vertex of each rank.
 pub record IsRunByRows (lists : Lists) (s d : ℕ) (rows : ConvexRows) : Type 0 where

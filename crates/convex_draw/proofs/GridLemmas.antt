@@ -2,28 +2,28 @@
 use Rattle.std.proofs.Common.{◌≡◌, ℕ, zero, suc, ◌+◌, ◌*◌, ◌-◌, ◌<◌, ◌≤◌, ◌<ℤ◌, List, length, pos, refl, sym, ap, ◌∙◌, subst, inl, inr, arith}
 use Rattle.std.proofs.lemmas.Int.{ints}
 use Rattle.map_lists.specs.Lists.{Lists}
-use Rattle.map_definitions.specs.Maps.{HasDart, follows, face_count}
-use Rattle.map_definitions.specs.Paths.{SameFace}
-use Rattle.map_definitions.proofs.DartLemmas.{HasDart-face_step}
+use Rattle.map_theory.specs.Maps.{HasDart, follows, face_count}
+use Rattle.map_theory.specs.Paths.{SameFace}
+use Rattle.map_theory.proofs.DartLemmas.{HasDart-face_step}
 use Rattle.pg_plane.specs.declared.point.Point.{Point}
 use Rattle.pg_plane.specs.declared.figure.GridFigure.{GridFigure}
 use Rattle.pg_plane.specs.Geometry.{area}
-use Rattle.face_geometry.proofs.Segments.{IsOnSegment-back}
-use Rattle.drawings.specs.Drawing.{place, IsInGrid}
+use Rattle.pg_plane.proofs.Segments.{IsOnSegment-back}
+use Rattle.plane_drawings.specs.Drawing.{place, IsInGrid}
 use Rattle.draw_check.proofs.FacesJoined.{SameFace-turned}
-use Rattle.face_runs.specs.Runs.{Step, stage_after, faces_made, IsRun}
-use Rattle.face_runs.proofs.Places.{order, cut-add}
-use Rattle.face_runs.proofs.Stages.{IsStage-run, IsRun-less}
-use Rattle.face_points.specs.Counts.{face_counts}
-use Rattle.face_points.specs.Turns.{well_turned}
-use Rattle.face_peeling.proofs.Faces.{SameFace-labels, face_of-step}
-use Rattle.face_points.proofs.Turns.{contours_as_before}
-use Rattle.convex_drawings.specs.ConvexDrawings.{AreCountPoints, IsConvexDrawing, grid_point}
-use Rattle.convex_drawings.proofs.Turned.{touched_run_draws}
+use Rattle.convex_counts.specs.Runs.{Step, stage_after, faces_made, IsRun}
+use Rattle.convex_counts.proofs.Places.{order, cut-add}
+use Rattle.convex_counts.proofs.Stages.{IsStage-run, IsRun-less}
+use Rattle.convex_counts.specs.Counts.{face_counts}
+use Rattle.convex_counts.specs.Turns.{well_turned}
+use Rattle.convex_peeling.proofs.Faces.{SameFace-labels, face_of-step}
+use Rattle.convex_counts.proofs.Turns.{contours_as_before}
+use Rattle.convex_laws.specs.ConvexDrawings.{AreCountPoints, IsConvexDrawing, grid_point}
+use Rattle.convex_laws.proofs.ConvexDrawingsTurned.{touched_run_draws}
 use Rattle.convex_check.specs.Convex.{IsConvex}
-use Rattle.convex_rows.specs.declared.rows.ConvexRows.{ConvexRows}
-use Rattle.convex_points.specs.Points.{IsListedRun, ArePointsOf}
-use Rattle.convex_points.proofs.Listed.{faces_made-well_turned}
+use Rattle.convex_laws.specs.declared.convex_rows.rows.ConvexRows.{ConvexRows}
+use Rattle.convex_draw.specs.Points.{IsListedRun, ArePointsOf}
+use Rattle.convex_draw.proofs.Listed.{faces_made-well_turned}
 use Rattle.convex_draw.proofs.ByRows.{IsRunByRows}
 use Rattle.convex_draw.specs.Grids.{IsConvexGrid}
 use Rattle.convex_draw.proofs.OuterFace.{outer-SameFace, SameFace-outer, before_base}

@@ -1,4 +1,20 @@
+-- Lemmas on points by counts of faces.
+mod Rows
+mod Writes
+mod Passing
+mod Walks
+mod Written
+mod Gone
+mod Puts
+mod Unders
+mod RunSpots
+mod Downs
+mod Onto
+pub mod Listed
 -- Lemmas on convex drawings.
 pub mod ByRows
 pub mod OuterFace
 pub mod GridLemmas
+mod Refused
+-- Lemmas on the figures of records.
+pub mod FirstDart

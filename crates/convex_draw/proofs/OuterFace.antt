@@ -1,17 +1,17 @@
 -- The outer face of a run's map goes along the last contour, and is that of the base.
 use Rattle.std.proofs.Common.{◌≡◌, ◌⊎◌, ℕ, zero, suc, ◌+◌, ◌-◌, ◌<◌, ◌≤◌, length, refl, sym, ap, ◌∙◌, subst, inl, inr, arith}
 use Rattle.map_lists.specs.Lists.{Lists}
-use Rattle.map_definitions.specs.Maps.{HasDart, IsSimpleMap, follows}
-use Rattle.map_definitions.specs.Paths.{SameFace}
-use Rattle.map_definitions.proofs.DartLemmas.{HasDart-face_step}
+use Rattle.map_theory.specs.Maps.{HasDart, IsSimpleMap, follows}
+use Rattle.map_theory.specs.Paths.{SameFace}
+use Rattle.map_theory.proofs.DartLemmas.{HasDart-face_step}
 use Rattle.contour_runs.specs.Runs.{Stage}
 use Rattle.contour_runs.specs.Laws.{IsStage}
 use Rattle.contour_runs.proofs.Stages.{upward}
-use Rattle.face_runs.specs.Runs.{Step, stage_after, faces_made, IsRun}
-use Rattle.face_runs.proofs.Stages.{IsStage-run}
-use Rattle.face_peeling.specs.Contours.{face_of}
-use Rattle.face_peeling.proofs.Faces.{SameFace-labels, labels-SameFace, face_of-step, along_face}
-use Rattle.convex_drawings.specs.ConvexDrawings.{IsRunMap}
+use Rattle.convex_counts.specs.Runs.{Step, stage_after, faces_made, IsRun}
+use Rattle.convex_counts.proofs.Stages.{IsStage-run}
+use Rattle.convex_peeling.specs.Contours.{face_of}
+use Rattle.convex_peeling.proofs.Faces.{SameFace-labels, labels-SameFace, face_of-step, along_face}
+use Rattle.convex_laws.specs.ConvexDrawings.{IsRunMap}
 
 module _ (lists : Lists) (s d : ℕ) (steps : ℕ → Step) (n : ℕ) (rank : ℕ → ℕ) (face : ℕ → ℕ → ℕ) (run : IsRun steps n) (map : IsRunMap lists (s, d) steps n rank face) where
   abbrev g : Stage

@@ -1,12 +1,12 @@
 -- A convex drawing in a grid, with three of its vertices at fixed places.
 use Rattle.std.specs.Prelude.{ℕ, ◌-◌, ◌≡◌, length, pos}
 use Rattle.map_lists.specs.Lists.{Lists}
-use Rattle.map_definitions.specs.Maps.{HasDart, face_count}
-use Rattle.map_definitions.specs.Paths.{SameFace}
+use Rattle.map_theory.specs.Maps.{HasDart, face_count}
+use Rattle.map_theory.specs.Paths.{SameFace}
 use Rattle.pg_plane.specs.declared.figure.GridFigure.{GridFigure}
-use Rattle.drawings.specs.Drawing.{place}
+use Rattle.plane_drawings.specs.Drawing.{place}
 use Rattle.draw_check.specs.Laws.{IsValid}
-use Rattle.convex_drawings.specs.ConvexDrawings.{grid_point}
+use Rattle.convex_laws.specs.ConvexDrawings.{grid_point}
 use Rattle.convex_check.specs.Convex.{IsConvex}
 
 -- The figure draws the map plane and convex, with the rotations kept, in a grid of one less than the number of faces in both directions. The base goes from the upper left corner to the lower right one, and the vertex before it on its face stands at the lower left one.

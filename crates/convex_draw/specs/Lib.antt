@@ -1,2 +1,9 @@
+-- Points by counts of faces, in linear time.
+pub mod Spots
+pub mod Runs
+pub mod Sums
+pub mod Points
 -- Convex drawings from any base.
 pub mod Grids
+-- The figures of records by convex drawings.
+pub mod Figures

@@ -1,12 +1,12 @@
 //! The drawing of a map.
 ghost use Rattle.std.specs.Prelude.{◌≡◌, ◌<◌, ◌≤◌, ◌+◌, ◌-◌, ℕ, length, pos, Some, IfOk};
-ghost use Rattle.map_definitions.specs.Maps.{IsPlane, vertex_count, face_count, component_count};
-ghost use Rattle.tight_maps.specs.Tight.{IsThreeConnected};
+ghost use Rattle.map_theory.specs.Maps.{IsPlane, vertex_count, face_count, component_count};
+ghost use Rattle.convex_peeling.specs.Tight.{IsThreeConnected};
 ghost use Rattle.half_edges.specs.Map.{IsLive, dart_at};
 ghost use Rattle.convex_draw.specs.Grids.{IsConvexGrid};
 
+use crate::convex_points::count_points;
 use convex_orders::convex_rows;
-use convex_points::count_points;
 use half_edges::{DartId, HalfMap};
 use pg_plane::{GridFigure, Points};
 use std::alloc::{AllocError, Global};

@@ -1,6 +1,8 @@
 //! Convex drawings of three-connected plane maps by face counts (Felsner, 2001), from any base.
 #![tactic(auto)]
 
+pub mod convex_figures;
+pub mod convex_points;
 mod draw;
 
 pub use draw::convex_draw;

@@ -3,21 +3,21 @@ use Rattle.std.proofs.Common.{◌≡◌, ℕ, suc, ◌+◌, ◌-◌, ◌<◌, �
 use Rattle.std.specs.Prelude.{reverse, slice_range}
 use Rattle.std.proofs.lemmas.Bool.{cases_lt}
 use Rattle.std.proofs.lemmas.List.{length-append, length-reverse, get_or_append_left, get_or-append_right}
-use Rattle.label_classes.proofs.Counting.{count_below_same}
+use Rattle.classes.proofs.Counting.{count_below_same}
 use Rattle.map_lists.specs.Lists.{Lists}
-use Rattle.map_definitions.specs.Maps.{HasDart, IsSimpleMap}
-use Rattle.map_definitions.proofs.DartCounts.{sum_below-le, sum_below-same}
-use Rattle.face_peeling.specs.Contours.{face_of, IsContour}
-use Rattle.face_peeling.specs.Removals.{Removal, IsTakenOff}
-use Rattle.face_peeling.proofs.Removed.{gone_within, first_lt}
-use Rattle.face_numbers.specs.FaceNumbers.{entry, AreFaceNumbers}
-use Rattle.tight_maps.proofs.Tightness.{three_connected_is_tight}
-use Rattle.convex_rows.specs.declared.rows.ConvexRows.{ConvexRows}
-use Rattle.convex_removals.specs.Removed.{IsRowMore}
-use Rattle.contour_counts.specs.Contours.{contour_of, AreEdges, inner_number}
-use Rattle.contour_counts.specs.Counts.{met_at, met_below, met_between, edges_between, AreCounts}
-use Rattle.contour_counts.proofs.Moves.{length-contour}
-use Rattle.contour_counts.proofs.CountLemmas.{IsSpliced, counts_spliced, met_spliced, edges_spliced, edges_le}
+use Rattle.map_theory.specs.Maps.{HasDart, IsSimpleMap}
+use Rattle.map_theory.proofs.DartCounts.{sum_below-le, sum_below-same}
+use Rattle.convex_peeling.specs.Contours.{face_of, IsContour}
+use Rattle.convex_peeling.specs.Removals.{Removal, IsTakenOff}
+use Rattle.convex_peeling.proofs.Removed.{gone_within, first_lt}
+use Rattle.convex_orders.specs.FaceNumbers.{entry, AreFaceNumbers}
+use Rattle.convex_peeling.proofs.Tightness.{three_connected_is_tight}
+use Rattle.convex_laws.specs.declared.convex_rows.rows.ConvexRows.{ConvexRows}
+use Rattle.convex_laws.specs.Removed.{IsRowMore}
+use Rattle.convex_orders.specs.Contours.{contour_of, AreEdges, inner_number}
+use Rattle.convex_orders.specs.Counts.{met_at, met_below, met_between, edges_between, AreCounts}
+use Rattle.convex_orders.proofs.Moves.{length-contour}
+use Rattle.convex_orders.proofs.CountLemmas.{IsSpliced, counts_spliced, met_spliced, edges_spliced, edges_le}
 use Rattle.convex_orders.specs.Shown.{IsBased, IsListOf, IsOffBy, IsOffAt, IsTrace, SomeTrace}
 use Rattle.convex_orders.specs.Cuts.{AreCutPlaces, SomeCutPlaces, IsCutRow, IsPutIn, IsTakenOut}
 use Rattle.convex_orders.proofs.Once.{number_once}

@@ -2,12 +2,12 @@
 use Rattle.std.proofs.Common.{◌≡◌, ◌≢◌, ℕ, suc, ◌+◌, ◌-◌, ◌<◌, ◌≤◌, Bool, true, false, List, length, slice_index, sym, ap, ap₂, ◌∙◌, subst, inl, inr, arith}
 use Rattle.std.proofs.lemmas.Bool.{cases_Bool, cases_eq, cases_lt, true≢false}
 use Rattle.map_lists.specs.Lists.{Lists}
-use Rattle.map_definitions.specs.Maps.{HasDart, IsSimpleMap}
-use Rattle.face_peeling.specs.Contours.{face_of, IsContour, IsRim}
-use Rattle.face_peeling.specs.Removals.{Removal, IsTakenOff}
-use Rattle.face_peeling.proofs.Removed.{gone_within, first_lt, stays_dead, gone_from}
-use Rattle.face_numbers.specs.FaceNumbers.{entry}
-use Rattle.contour_counts.specs.Contours.{inner_number}
+use Rattle.map_theory.specs.Maps.{HasDart, IsSimpleMap}
+use Rattle.convex_peeling.specs.Contours.{face_of, IsContour, IsRim}
+use Rattle.convex_peeling.specs.Removals.{Removal, IsTakenOff}
+use Rattle.convex_peeling.proofs.Removed.{gone_within, first_lt, stays_dead, gone_from}
+use Rattle.convex_orders.specs.FaceNumbers.{entry}
+use Rattle.convex_orders.specs.Contours.{inner_number}
 use Rattle.convex_orders.specs.Shown.{is_set, AreMarks, IsListOf}
 use Rattle.convex_orders.specs.Splits.{IsGoneRun}
 

@@ -3,12 +3,12 @@ use Rattle.std.proofs.Common.{◌≡◌, ◌≢◌, ℕ, zero, suc, ◌+◌, ◌
 use Rattle.std.specs.Prelude.{if◌then◌else◌}
 use Rattle.std.proofs.lemmas.Bool.{cases_Bool, cases_eq, true≢false}
 use Rattle.std.proofs.lemmas.List.{append-nil}
-use Rattle.label_classes.specs.Classes.{count_below}
-use Rattle.label_classes.proofs.Counting.{count_below-le}
+use Rattle.classes.specs.Classes.{count_below}
+use Rattle.classes.proofs.Counting.{count_below-le}
 use Rattle.map_lists.specs.Lists.{Lists}
-use Rattle.face_numbers.specs.FaceNumbers.{entry}
-use Rattle.contour_counts.specs.Contours.{contour_of, inner_number}
-use Rattle.contour_counts.specs.Counts.{AreCounts}
+use Rattle.convex_orders.specs.FaceNumbers.{entry}
+use Rattle.convex_orders.specs.Contours.{contour_of, inner_number}
+use Rattle.convex_orders.specs.Counts.{AreCounts}
 use Rattle.convex_orders.specs.Standing.{HasOther, AllInner}
 
 pub ne_from : (a b : ℕ) → eqb a b ≡ false → a ≢ b

@@ -1,3 +1,11 @@
+-- Numbers of faces.
+pub mod FaceNumbersRows
+mod Cases
+-- Contours as two stacks, and counts along them.
+pub mod ContourCountsRows
+pub mod Sums
+pub mod Moves
+pub mod CountLemmas
 -- What the orders rest on.
 pub mod Flags
 pub mod Rows

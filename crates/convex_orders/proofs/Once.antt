@@ -3,17 +3,17 @@ use Rattle.std.proofs.Common.{◌≡◌, ◌≢◌, ℕ, zero, suc, ◌+◌, ◌
 use Rattle.std.specs.Prelude.{if◌then◌else◌}
 use Rattle.std.proofs.lemmas.Bool.{cases_eq, cases_lt}
 use Rattle.std.proofs.lemmas.List.{get_or_default}
-use Rattle.label_classes.specs.Classes.{count_below}
+use Rattle.classes.specs.Classes.{count_below}
 use Rattle.map_lists.specs.Lists.{Lists}
-use Rattle.map_definitions.specs.Maps.{list_of, HasDart, IsSimpleMap}
-use Rattle.map_definitions.proofs.DartCounts.{sum_below}
-use Rattle.map_definitions.proofs.EntryLemmas.{count_of-le-one}
-use Rattle.tight_maps.specs.Tight.{IsTight}
-use Rattle.face_peeling.specs.Contours.{face_of}
-use Rattle.face_peeling.proofs.Faces.{SameFace-labels}
-use Rattle.face_numbers.specs.FaceNumbers.{entry, AreFaceNumbers}
-use Rattle.contour_counts.specs.Counts.{met_at}
-use Rattle.contour_counts.proofs.Rows.{entry_at}
+use Rattle.map_theory.specs.Maps.{list_of, HasDart, IsSimpleMap}
+use Rattle.map_theory.proofs.DartCounts.{sum_below}
+use Rattle.map_theory.proofs.EntryLemmas.{count_of-le-one}
+use Rattle.convex_peeling.specs.Tight.{IsTight}
+use Rattle.convex_peeling.specs.Contours.{face_of}
+use Rattle.convex_peeling.proofs.Faces.{SameFace-labels}
+use Rattle.convex_orders.specs.FaceNumbers.{entry, AreFaceNumbers}
+use Rattle.convex_orders.specs.Counts.{met_at}
+use Rattle.convex_orders.proofs.ContourCountsRows.{entry_at}
 
 module _ (lists own other : Lists) (count : ℕ) (simple : IsSimpleMap lists) (tight : IsTight lists) (n : AreFaceNumbers lists own other count) where
   row_distinct : (v : ℕ) → v < length lists → AllPairs ◌≢◌ (list_of own v)

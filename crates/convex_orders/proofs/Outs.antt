@@ -1,14 +1,14 @@
 -- What stands before the place is the beginning of the contour.
 use Rattle.std.proofs.Common.{◌≡◌, ℕ, suc, ◌+◌, ◌-◌, ◌<◌, ◌≤◌, eqb, List, length, slice_index, sym, ap, ap₂, ◌∙◌, subst, arith}
-use Rattle.label_classes.proofs.Counting.{count_below_same}
+use Rattle.classes.proofs.Counting.{count_below_same}
 use Rattle.map_lists.specs.Lists.{Lists}
-use Rattle.map_definitions.specs.Maps.{HasDart}
-use Rattle.map_definitions.proofs.DartCounts.{sum_below-same}
-use Rattle.face_numbers.specs.FaceNumbers.{entry}
-use Rattle.contour_counts.specs.Contours.{contour_of, AreEdges, inner_number}
-use Rattle.contour_counts.specs.Counts.{met_at, met_between, edges_between, AreCounts}
-use Rattle.contour_counts.proofs.Moves.{length-contour, contour_left}
-use Rattle.contour_counts.proofs.Sums.{sum_below-three, count_below-three}
+use Rattle.map_theory.specs.Maps.{HasDart}
+use Rattle.map_theory.proofs.DartCounts.{sum_below-same}
+use Rattle.convex_orders.specs.FaceNumbers.{entry}
+use Rattle.convex_orders.specs.Contours.{contour_of, AreEdges, inner_number}
+use Rattle.convex_orders.specs.Counts.{met_at, met_between, edges_between, AreCounts}
+use Rattle.convex_orders.proofs.Moves.{length-contour, contour_left}
+use Rattle.convex_orders.proofs.Sums.{sum_below-three, count_below-three}
 
 module _ (ws left right : List ℕ) (same : contour_of left right ≡ ws) where
   pub part_at : (i : ℕ) → i < length left → slice_index left i ≡ slice_index ws i

@@ -2,12 +2,12 @@
 use Rattle.std.proofs.Common.{◌≡◌, ◌≢◌, ℕ, zero, suc, ◌+◌, ◌-◌, ◌<◌, ◌≤◌, Bool, sym, ap, ◌∙◌, subst, inl, inr, arith}
 use Rattle.std.proofs.lemmas.Bool.{cases_Bool, cases_eq, cases_lt}
 use Rattle.map_lists.specs.Lists.{Lists}
-use Rattle.map_definitions.specs.Maps.{HasDart, IsSimpleMap, follows}
-use Rattle.map_definitions.proofs.DartLemmas.{HasDart-follows}
-use Rattle.face_peeling.specs.Contours.{face_of, Passes, IsContour}
-use Rattle.face_peeling.specs.Removals.{Removal, IsTakenOff}
-use Rattle.face_peeling.proofs.Faces.{face_of-step}
-use Rattle.face_peeling.proofs.Removed.{gone_within, gone_from}
+use Rattle.map_theory.specs.Maps.{HasDart, IsSimpleMap, follows}
+use Rattle.map_theory.proofs.DartLemmas.{HasDart-follows}
+use Rattle.convex_peeling.specs.Contours.{face_of, Passes, IsContour}
+use Rattle.convex_peeling.specs.Removals.{Removal, IsTakenOff}
+use Rattle.convex_peeling.proofs.Faces.{face_of-step}
+use Rattle.convex_peeling.proofs.Removed.{gone_within, gone_from}
 
 module _ (lists : Lists) (alive : ℕ → Bool) (w : ℕ → ℕ) (r : ℕ) (o : Removal) (simple : IsSimpleMap lists) (contour : IsContour lists alive w r) (off : IsTakenOff lists alive w r o) (next : IsContour lists o.alive o.contour o.places) where
   -- cuts rise

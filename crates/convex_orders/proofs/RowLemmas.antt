@@ -3,13 +3,13 @@ use Rattle.std.proofs.Common.{◌≡◌, ℕ, suc, ◌+◌, ◌-◌, ◌<◌, �
 use Rattle.std.specs.Prelude.{slice_range}
 use Rattle.simple_maps.proofs.FlatLemmas.{get_or-slice_range, length-slice_range}
 use Rattle.map_lists.specs.Lists.{Lists}
-use Rattle.map_definitions.specs.Maps.{HasDart, IsSimpleMap}
-use Rattle.face_peeling.specs.Contours.{face_of, IsContour}
-use Rattle.face_peeling.specs.Removals.{Removal, IsTakenOff}
-use Rattle.face_peeling.proofs.Removed.{gone_within, first_lt}
-use Rattle.face_numbers.specs.FaceNumbers.{entry, AreFaceNumbers}
-use Rattle.convex_removals.specs.Removed.{IsRowOf}
-use Rattle.contour_counts.specs.Contours.{AreEdges}
+use Rattle.map_theory.specs.Maps.{HasDart, IsSimpleMap}
+use Rattle.convex_peeling.specs.Contours.{face_of, IsContour}
+use Rattle.convex_peeling.specs.Removals.{Removal, IsTakenOff}
+use Rattle.convex_peeling.proofs.Removed.{gone_within, first_lt}
+use Rattle.convex_orders.specs.FaceNumbers.{entry, AreFaceNumbers}
+use Rattle.convex_laws.specs.Removed.{IsRowOf}
+use Rattle.convex_orders.specs.Contours.{AreEdges}
 use Rattle.convex_orders.specs.Shown.{IsListOf, IsOffBy}
 use Rattle.convex_orders.specs.Cuts.{edge_number, AreCutPlaces, IsCutRow}
 use Rattle.convex_orders.proofs.RemovedFaces.{cut_high, made_along, made_once}

@@ -1,10 +1,10 @@
 -- The rim by the rows of numbers.
 use Rattle.std.proofs.Common.{◌≡◌, ℕ, ◌<◌, Bool, List, length, slice_index, sym, ap, ◌∙◌, arith}
 use Rattle.map_lists.specs.Lists.{Lists}
-use Rattle.map_definitions.specs.Maps.{list_of, HasDart, IsSimpleMap}
-use Rattle.face_peeling.specs.Contours.{face_of, IsRim}
-use Rattle.face_numbers.specs.FaceNumbers.{entry, AreFaceNumbers}
-use Rattle.contour_counts.proofs.Rows.{entry_at}
+use Rattle.map_theory.specs.Maps.{list_of, HasDart, IsSimpleMap}
+use Rattle.convex_peeling.specs.Contours.{face_of, IsRim}
+use Rattle.convex_orders.specs.FaceNumbers.{entry, AreFaceNumbers}
+use Rattle.convex_orders.proofs.ContourCountsRows.{entry_at}
 use Rattle.convex_orders.specs.Shown.{is_set, AreMarks, IsRimIn}
 use Rattle.convex_orders.specs.Splits.{IsRimAt}
 

@@ -1,9 +1,9 @@
 -- The vertex before the place as one of the contour.
 use Rattle.std.proofs.Common.{◌≡◌, ℕ, suc, ◌+◌, ◌<◌, ◌≤◌, Bool, List, length, slice_index, get_or, sym, ap, ◌∙◌, subst, arith}
 use Rattle.map_lists.specs.Lists.{Lists}
-use Rattle.map_definitions.specs.Maps.{list_of}
-use Rattle.contour_counts.specs.Contours.{contour_of}
-use Rattle.contour_counts.proofs.Moves.{length-contour, contour_left}
+use Rattle.map_theory.specs.Maps.{list_of}
+use Rattle.convex_orders.specs.Contours.{contour_of}
+use Rattle.convex_orders.proofs.Moves.{length-contour, contour_left}
 use Rattle.convex_orders.specs.Splits.{IsLooseRow, IsLoosePlace}
 
 module _ (own other : Lists) (marks : List Bool) (places edges ws left right : List ℕ) (same : contour_of left right ≡ ws) where

@@ -4,32 +4,32 @@ use Rattle.std.specs.Prelude.{slice_range}
 use Rattle.std.proofs.lemmas.Bool.{cases_Bool, cases_eq}
 use Rattle.std.proofs.lemmas.List.{get_or-set_same, get_or-set_other}
 use Rattle.simple_maps.proofs.FlatLemmas.{get_or-slice_range, length-slice_range}
-use Rattle.label_classes.proofs.Counting.{count_below-le}
+use Rattle.classes.proofs.Counting.{count_below-le}
 use Rattle.map_lists.specs.Lists.{Lists}
-use Rattle.map_definitions.specs.Maps.{list_of, HasDart, IsSimpleMap, dart_count}
-use Rattle.tight_maps.specs.Tight.{IsTight}
-use Rattle.tight_maps.proofs.Tightness.{three_connected_is_tight}
-use Rattle.tight_maps.proofs.Neighbours.{three_neighbours}
-use Rattle.face_peeling.specs.Contours.{face_of, IsContour, IsBegun, IsFirst}
-use Rattle.face_peeling.specs.Removals.{Removal, IsTakenOff}
-use Rattle.face_peeling.specs.Laws.{HasThree}
-use Rattle.face_peeling.proofs.ChainsOff.{count-without}
-use Rattle.face_peeling.proofs.Firsts.{first_taken_off_law}
-use Rattle.face_peeling.proofs.TakenOff.{base_living}
-use Rattle.face_peeling.proofs.Removed.{begins_as_before, ends_as_before, goes_on_begun, gone_within, first_lt}
-use Rattle.convex_rows.specs.declared.rows.ConvexRows.{ConvexRows}
-use Rattle.convex_runs.proofs.Last.{last_goes}
-use Rattle.convex_removals.specs.Removed.{IsRowMore, HasRows, AreRowsOfRun}
-use Rattle.convex_removals.proofs.Ends.{IsEnded-more, IsEnded-first}
-use Rattle.convex_removals.proofs.Ended.{IsEnded-base}
-use Rattle.convex_runs.proofs.Grown.{IsShore-contour}
-use Rattle.face_numbers.specs.FaceNumbers.{entry, AreFaceNumbers}
+use Rattle.map_theory.specs.Maps.{list_of, HasDart, IsSimpleMap, dart_count}
+use Rattle.convex_peeling.specs.Tight.{IsTight}
+use Rattle.convex_peeling.proofs.Tightness.{three_connected_is_tight}
+use Rattle.convex_peeling.proofs.Neighbours.{three_neighbours}
+use Rattle.convex_peeling.specs.Contours.{face_of, IsContour, IsBegun, IsFirst}
+use Rattle.convex_peeling.specs.Removals.{Removal, IsTakenOff}
+use Rattle.convex_peeling.specs.FacePeelingLaws.{HasThree}
+use Rattle.convex_peeling.proofs.ChainsOff.{count-without}
+use Rattle.convex_peeling.proofs.Firsts.{first_taken_off_law}
+use Rattle.convex_peeling.proofs.TakenOff.{base_living}
+use Rattle.convex_peeling.proofs.Removed.{begins_as_before, ends_as_before, goes_on_begun, gone_within, first_lt}
+use Rattle.convex_laws.specs.declared.convex_rows.rows.ConvexRows.{ConvexRows}
+use Rattle.convex_laws.proofs.Last.{last_goes}
+use Rattle.convex_laws.specs.Removed.{IsRowMore, HasRows, AreRowsOfRun}
+use Rattle.convex_laws.proofs.Ends.{IsEnded-more, IsEnded-first}
+use Rattle.convex_laws.proofs.Ended.{IsEnded-base}
+use Rattle.convex_laws.proofs.Grown.{IsShore-contour}
+use Rattle.convex_orders.specs.FaceNumbers.{entry, AreFaceNumbers}
 use Rattle.convex_orders.specs.Shown.{is_set, IsBased, IsShown, IsListOf, IsTrace, IsOffBy, IsOffAt, GoesOff, IsChoice}
 use Rattle.convex_orders.specs.Standing.{Stands, HasOther, AllInner, IsLastRow}
-use Rattle.map_definitions.proofs.DartCounts.{sum_below-le}
-use Rattle.contour_counts.specs.Contours.{AreEdges}
-use Rattle.contour_counts.specs.Counts.{met_at, met_below}
-use Rattle.contour_counts.proofs.Rows.{entry-lt}
+use Rattle.map_theory.proofs.DartCounts.{sum_below-le}
+use Rattle.convex_orders.specs.Contours.{AreEdges}
+use Rattle.convex_orders.specs.Counts.{met_at, met_below}
+use Rattle.convex_orders.proofs.ContourCountsRows.{entry-lt}
 use Rattle.convex_orders.proofs.Once.{number_once}
 use Rattle.convex_orders.proofs.Taken.{marks_after_vertex}
 

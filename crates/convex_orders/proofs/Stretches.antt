@@ -1,24 +1,24 @@
 -- Stretches by counts, and loose vertices by rows.
 use Rattle.std.proofs.Common.{◌≡◌, ◌≢◌, ◌↔◌, ℕ, suc, ◌+◌, ◌<◌, ◌≤◌, Bool, true, false, eqb, ltb, lt-ltb, ltb-true, List, length, slice_index, Contains, refl, sym, ap, ap₂, ◌∙◌, subst, inl, inr, arith}
 use Rattle.std.proofs.lemmas.Bool.{cases_eq}
-use Rattle.label_classes.specs.Classes.{count_below}
-use Rattle.label_classes.proofs.Counting.{count_below_same}
+use Rattle.classes.specs.Classes.{count_below}
+use Rattle.classes.proofs.Counting.{count_below_same}
 use Rattle.map_lists.specs.Lists.{Lists}
-use Rattle.map_definitions.specs.Maps.{list_of, HasDart, IsSimpleMap, place_of}
-use Rattle.map_definitions.proofs.EntryLemmas.{Contains-from_count_of, Contains-counted}
-use Rattle.tight_maps.specs.Tight.{IsTight}
-use Rattle.tight_maps.proofs.Tightness.{three_connected_is_tight}
-use Rattle.tight_maps.proofs.Neighbours.{three_neighbours}
-use Rattle.face_peeling.specs.Contours.{face_of, Passes, IsContour, IsStretch, IsLoose}
-use Rattle.face_peeling.specs.Laws.{HasThree}
-use Rattle.face_peeling.proofs.ChainsOff.{edge_passes}
-use Rattle.face_peeling.proofs.Choices.{some_loose_law}
-use Rattle.face_peeling.proofs.StretchCounts.{stretch_by_counts_law}
-use Rattle.face_peeling.proofs.TakenOff.{base_passes, base_living}
-use Rattle.face_numbers.specs.FaceNumbers.{entry, AreFaceNumbers}
-use Rattle.contour_counts.specs.Contours.{inner_number}
-use Rattle.contour_counts.specs.Counts.{met_at, met_below, AreCounts}
-use Rattle.contour_counts.proofs.Rows.{entry_at, entry-lt, entry_within, passes-number}
+use Rattle.map_theory.specs.Maps.{list_of, HasDart, IsSimpleMap, place_of}
+use Rattle.map_theory.proofs.EntryLemmas.{Contains-from_count_of, Contains-counted}
+use Rattle.convex_peeling.specs.Tight.{IsTight}
+use Rattle.convex_peeling.proofs.Tightness.{three_connected_is_tight}
+use Rattle.convex_peeling.proofs.Neighbours.{three_neighbours}
+use Rattle.convex_peeling.specs.Contours.{face_of, Passes, IsContour, IsStretch, IsLoose}
+use Rattle.convex_peeling.specs.FacePeelingLaws.{HasThree}
+use Rattle.convex_peeling.proofs.ChainsOff.{edge_passes}
+use Rattle.convex_peeling.proofs.Choices.{some_loose_law}
+use Rattle.convex_peeling.proofs.StretchCounts.{stretch_by_counts_law}
+use Rattle.convex_peeling.proofs.TakenOff.{base_passes, base_living}
+use Rattle.convex_orders.specs.FaceNumbers.{entry, AreFaceNumbers}
+use Rattle.convex_orders.specs.Contours.{inner_number}
+use Rattle.convex_orders.specs.Counts.{met_at, met_below, AreCounts}
+use Rattle.convex_orders.proofs.ContourCountsRows.{entry_at, entry-lt, entry_within, passes-number}
 use Rattle.convex_orders.specs.Shown.{is_set, IsBased, IsChoice}
 use Rattle.convex_orders.specs.Splits.{IsLooseRow, IsLoosePlace}
 use Rattle.convex_orders.proofs.Once.{number_once, sum_is_count, one_if_some, same_test}

@@ -2,20 +2,20 @@
 use Rattle.std.proofs.Common.{◌≡◌, ◌≢◌, ◌⊎◌, ◌↔◌, ℕ, suc, ◌+◌, ◌<◌, ◌≤◌, Bool, true, false, List, length, set, Contains, refl, sym, ap, ◌∙◌, subst, inl, inr, arith}
 use Rattle.std.proofs.lemmas.Bool.{cases_Bool, true≢false}
 use Rattle.map_lists.specs.Lists.{Lists}
-use Rattle.map_definitions.specs.Maps.{list_of, HasDart, IsSimpleMap}
-use Rattle.tight_maps.specs.Tight.{IsTight}
-use Rattle.face_peeling.specs.Contours.{face_of, Passes, IsContour, IsStretch, IsOpen, IsLoose}
-use Rattle.face_peeling.specs.Removals.{Removal, IsTakenOff}
-use Rattle.face_peeling.proofs.ChainsOff.{edge_passes}
-use Rattle.face_peeling.proofs.TakenOff.{chain_taken_off_law}
-use Rattle.face_peeling.proofs.VertexOff.{vertex_taken_off_law}
-use Rattle.convex_runs.proofs.Grown.{IsShore-contour}
-use Rattle.convex_removals.proofs.Steps.{goer_off}
-use Rattle.face_numbers.specs.FaceNumbers.{entry, AreFaceNumbers}
+use Rattle.map_theory.specs.Maps.{list_of, HasDart, IsSimpleMap}
+use Rattle.convex_peeling.specs.Tight.{IsTight}
+use Rattle.convex_peeling.specs.Contours.{face_of, Passes, IsContour, IsStretch, IsOpen, IsLoose}
+use Rattle.convex_peeling.specs.Removals.{Removal, IsTakenOff}
+use Rattle.convex_peeling.proofs.ChainsOff.{edge_passes}
+use Rattle.convex_peeling.proofs.TakenOff.{chain_taken_off_law}
+use Rattle.convex_peeling.proofs.VertexOff.{vertex_taken_off_law}
+use Rattle.convex_laws.proofs.Grown.{IsShore-contour}
+use Rattle.convex_laws.proofs.Steps.{goer_off}
+use Rattle.convex_orders.specs.FaceNumbers.{entry, AreFaceNumbers}
 use Rattle.convex_orders.specs.Shown.{is_set, IsBased, AreMarks, IsChoice, GoesOff, GoesOffNear}
 use Rattle.convex_orders.proofs.Flags.{set_less}
-use Rattle.contour_counts.specs.Counts.{AreCounts}
-use Rattle.contour_counts.proofs.Rows.{passes-number, entry-lt}
+use Rattle.convex_orders.specs.Counts.{AreCounts}
+use Rattle.convex_orders.proofs.ContourCountsRows.{passes-number, entry-lt}
 use Rattle.convex_orders.proofs.Once.{same_bool}
 use Rattle.convex_orders.proofs.RemovedFaces.{made_passes}
 use Rattle.convex_orders.proofs.Stretches.{tight, has_three, vertex_in, off_base}

@@ -1,11 +1,11 @@
 -- The removal at a loose place of the list, by the three ways in which marks are taken away.
 use Rattle.std.proofs.Common.{◌≡◌, ◌≢◌, ◌↔◌, ℕ, suc, ◌-◌, ◌<◌, ◌≤◌, Bool, true, false, List, length, slice_index, set, Contains, refl, sym, ap, ap₂, ◌∙◌, subst, inl, inr, arith}
 use Rattle.map_lists.specs.Lists.{Lists}
-use Rattle.map_definitions.specs.Maps.{list_of, HasDart, IsSimpleMap}
-use Rattle.face_peeling.specs.Contours.{face_of, IsLoose}
-use Rattle.face_numbers.specs.FaceNumbers.{entry, AreFaceNumbers}
-use Rattle.contour_counts.specs.Contours.{inner_number}
-use Rattle.contour_counts.specs.Counts.{AreCounts}
+use Rattle.map_theory.specs.Maps.{list_of, HasDart, IsSimpleMap}
+use Rattle.convex_peeling.specs.Contours.{face_of, IsLoose}
+use Rattle.convex_orders.specs.FaceNumbers.{entry, AreFaceNumbers}
+use Rattle.convex_orders.specs.Contours.{inner_number}
+use Rattle.convex_orders.specs.Counts.{AreCounts}
 use Rattle.convex_orders.specs.Shown.{is_set, IsBased, IsChoice, GoesOffNear}
 use Rattle.convex_orders.specs.Splits.{IsLoosePlace}
 use Rattle.convex_orders.proofs.Stretches.{edge_back, place_loose}

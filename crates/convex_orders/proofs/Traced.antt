@@ -2,11 +2,11 @@
 use Rattle.std.proofs.Common.{◌≡◌, ◌≢◌, ℕ, suc, ◌+◌, ◌<◌, ◌≤◌, Bool, true, List, [], ◌∷◌, ◌++◌, length, slice_index, get_or, refl, sym, ap, ◌∙◌, subst, inl, inr, arith}
 use Rattle.std.proofs.lemmas.Bool.{cases_eq, cases_lt}
 use Rattle.std.proofs.lemmas.List.{length-append, get_or_append_left, get_or_push}
-use Rattle.label_classes.proofs.Counting.{count_below_into, count_below_all}
+use Rattle.classes.proofs.Counting.{count_below_into, count_below_all}
 use Rattle.map_lists.specs.Lists.{Lists}
-use Rattle.map_definitions.specs.Maps.{IsSimpleMap}
-use Rattle.face_peeling.specs.Contours.{IsContour}
-use Rattle.face_numbers.specs.FaceNumbers.{AreFaceNumbers}
+use Rattle.map_theory.specs.Maps.{IsSimpleMap}
+use Rattle.convex_peeling.specs.Contours.{IsContour}
+use Rattle.convex_orders.specs.FaceNumbers.{AreFaceNumbers}
 use Rattle.convex_orders.specs.Shown.{IsListOf, IsTrace, SomeTrace, IsRimIn}
 use Rattle.convex_orders.proofs.Rows.{rim_from, rim_to}
 

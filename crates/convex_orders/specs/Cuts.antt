@@ -1,8 +1,8 @@
 -- Where the edges along a list go over from one number to another.
 use Rattle.std.specs.Prelude.{ℕ, suc, ◌+◌, ◌<◌, ◌≤◌, ◌≡◌, ◌≢◌, List, [], ◌∷◌, ◌++◌, length, reverse, slice_index, slice_range}
-use Rattle.convex_rows.specs.declared.rows.ConvexRows.{ConvexRows}
+use Rattle.convex_laws.specs.declared.convex_rows.rows.ConvexRows.{ConvexRows}
 use Rattle.map_lists.specs.Lists.{Lists}
-use Rattle.face_numbers.specs.FaceNumbers.{entry}
+use Rattle.convex_orders.specs.FaceNumbers.{entry}
 
 -- the number of the edge from place p to the next
 abbrev pub edge_number : Lists → Lists → List ℕ → ℕ → ℕ

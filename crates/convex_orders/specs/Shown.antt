@@ -1,12 +1,12 @@
 -- The faces that are left as marks on their numbers, and their contour as a list.
 use Rattle.std.specs.Prelude.{ℕ, suc, ◌+◌, ◌<◌, ◌≤◌, ◌≡◌, ◌≢◌, Bool, true, false, List, length, slice_index, slice_index_or}
 use Rattle.map_lists.specs.Lists.{Lists}
-use Rattle.map_definitions.specs.Maps.{HasDart, IsPlane}
-use Rattle.tight_maps.specs.Tight.{IsThreeConnected}
-use Rattle.face_peeling.specs.Contours.{face_of, IsContour, IsBegun}
-use Rattle.face_peeling.specs.Removals.{Removal, IsTakenOff}
-use Rattle.face_peeling.specs.Laws.{AreOpen}
-use Rattle.face_numbers.specs.FaceNumbers.{entry}
+use Rattle.map_theory.specs.Maps.{HasDart, IsPlane}
+use Rattle.convex_peeling.specs.Tight.{IsThreeConnected}
+use Rattle.convex_peeling.specs.Contours.{face_of, IsContour, IsBegun}
+use Rattle.convex_peeling.specs.Removals.{Removal, IsTakenOff}
+use Rattle.convex_peeling.specs.FacePeelingLaws.{AreOpen}
+use Rattle.convex_orders.specs.FaceNumbers.{entry}
 
 -- the mark of a number
 abbrev pub is_set : List Bool → ℕ → Bool

@@ -1,8 +1,8 @@
 -- Which vertices of a contour may go, by rows of numbers and counts.
 use Rattle.std.specs.Prelude.{ℕ, suc, ◌+◌, ◌<◌, ◌≤◌, ◌≡◌, Bool, true, false, List, length, slice_index}
 use Rattle.map_lists.specs.Lists.{Lists}
-use Rattle.map_definitions.specs.Maps.{list_of}
-use Rattle.contour_counts.specs.Contours.{inner_number}
+use Rattle.map_theory.specs.Maps.{list_of}
+use Rattle.convex_orders.specs.Contours.{inner_number}
 use Rattle.convex_orders.specs.Shown.{is_set}
 
 -- neither of two numbers in rows is marked

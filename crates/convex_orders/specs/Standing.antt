@@ -1,13 +1,13 @@
 -- How far the removals have come.
 use Rattle.std.specs.Prelude.{ℕ, suc, ◌+◌, ◌<◌, ◌≡◌, ◌≢◌, Bool, List, [], ◌∷◌, ◌++◌, length, slice_index, slice_range}
-use Rattle.label_classes.specs.Classes.{count_below}
+use Rattle.classes.specs.Classes.{count_below}
 use Rattle.map_lists.specs.Lists.{Lists}
-use Rattle.map_definitions.specs.Maps.{dart_count}
-use Rattle.face_peeling.specs.Contours.{IsBegun}
-use Rattle.convex_rows.specs.declared.rows.ConvexRows.{ConvexRows}
-use Rattle.convex_runs.proofs.Built.{AreLabels}
-use Rattle.convex_removals.proofs.Ends.{IsEnded}
-use Rattle.face_numbers.specs.FaceNumbers.{entry}
+use Rattle.map_theory.specs.Maps.{dart_count}
+use Rattle.convex_peeling.specs.Contours.{IsBegun}
+use Rattle.convex_laws.specs.declared.convex_rows.rows.ConvexRows.{ConvexRows}
+use Rattle.convex_laws.proofs.Built.{AreLabels}
+use Rattle.convex_laws.proofs.Ends.{IsEnded}
+use Rattle.convex_orders.specs.FaceNumbers.{entry}
 use Rattle.convex_orders.specs.Shown.{IsShown, IsListOf}
 
 -- The removals have begun; the marks and the list show what is left, fewer than `bound` faces, and the rows are those of the removals.

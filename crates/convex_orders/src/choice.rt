@@ -1,14 +1,14 @@
 //! Which vertices go next, and the marks of the faces that go with them.
 ghost use Rattle.std.specs.Prelude.{◌≡◌, ◌≢◌, ◌+◌, ◌<◌, ◌≤◌, ◌⊎◌, ◌↔◌, ℕ, suc, Bool, true, false, [], ◌∷◌, ◌++◌, length, slice_index, slice_set, Contains, IsTrue, IfOk};
-ghost use Rattle.map_definitions.specs.Maps.{HasDart, IsSimpleMap, list_of};
-ghost use Rattle.face_numbers.specs.FaceNumbers.{entry, IsTable, AreFaceNumbers};
-ghost use Rattle.contour_counts.specs.Contours.{contour_of, AreEdges, inner_number};
-ghost use Rattle.contour_counts.specs.Counts.{AreCounts};
+ghost use Rattle.map_theory.specs.Maps.{HasDart, IsSimpleMap, list_of};
+ghost use Rattle.convex_orders.specs.FaceNumbers.{entry, IsTable, AreFaceNumbers};
+ghost use Rattle.convex_orders.specs.Contours.{contour_of, AreEdges, inner_number};
+ghost use Rattle.convex_orders.specs.Counts.{AreCounts};
 ghost use Rattle.convex_orders.specs.Shown.{is_set, IsBased, IsChoice, GoesOffNear, GoesOffAt};
 ghost use Rattle.convex_orders.specs.Splits.{IsOpenAt, NoneSplit, IsLooseRow, IsLoosePlace, IsGoneRun};
 
-use contour_counts::{edge_at, move_to, step_back};
-use face_numbers::FaceNumbers;
+use crate::contour_counts::{edge_at, move_to, step_back};
+use crate::face_numbers::FaceNumbers;
 use map_lists::Rotations;
 use std::alloc::AllocError;
 

@@ -6,6 +6,8 @@
 #![tactic(auto)]
 
 mod choice;
+pub mod contour_counts;
+pub mod face_numbers;
 mod orders;
 mod placed;
 mod rims;

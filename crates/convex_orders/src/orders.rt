@@ -1,15 +1,15 @@
 //! The rows of a run of a map.
 ghost use Rattle.std.specs.Prelude.{◌≡◌, ◌<◌, ℕ, true, [], length, slice_index, Some, IfOk};
-ghost use Rattle.map_definitions.specs.Maps.{IsPlane};
-ghost use Rattle.tight_maps.specs.Tight.{IsThreeConnected};
+ghost use Rattle.map_theory.specs.Maps.{IsPlane};
+ghost use Rattle.convex_peeling.specs.Tight.{IsThreeConnected};
 ghost use Rattle.half_edges.specs.Map.{IsLive, dart_at};
-ghost use Rattle.face_numbers.specs.FaceNumbers.{AreFaceNumbers};
-ghost use Rattle.convex_removals.specs.Removed.{AreRowsOfRun};
+ghost use Rattle.convex_orders.specs.FaceNumbers.{AreFaceNumbers};
+ghost use Rattle.convex_laws.specs.Removed.{AreRowsOfRun};
 ghost use Rattle.convex_orders.specs.Shown.{is_set, IsBased};
 
+use crate::face_numbers::{FaceNumbers, face_numbers};
 use crate::rounds::{begin, peel};
-use convex_rows::ConvexRows;
-use face_numbers::{FaceNumbers, face_numbers};
+use convex_laws::convex_rows::ConvexRows;
 use half_edges::{DartId, HalfMap};
 use map_lists::Rotations;
 use std::alloc::{AllocError, Global};

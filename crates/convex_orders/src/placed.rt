@@ -1,15 +1,15 @@
 //! The row of a removal, and what goes out of the contour and comes in.
 ghost use Rattle.std.specs.Prelude.{◌≡◌, ◌≢◌, ◌+◌, ◌-◌, ◌<◌, ◌≤◌, ◌⊎◌, ◌↔◌, ℕ, suc, Bool, true, false, if◌then◌else◌, [], ◌∷◌, ◌++◌, length, slice_index, slice_range, Contains, IsTrue, IfOk};
 ghost use Rattle.map_lists.specs.Lists.{Lists};
-ghost use Rattle.map_definitions.specs.Maps.{HasDart, IsSimpleMap, list_of};
-ghost use Rattle.face_numbers.specs.FaceNumbers.{entry, IsTable, AreFaceNumbers};
-ghost use Rattle.contour_counts.specs.Contours.{contour_of, AreEdges};
-ghost use Rattle.contour_counts.specs.Counts.{met_between, edges_between, AreCounts};
+ghost use Rattle.map_theory.specs.Maps.{HasDart, IsSimpleMap, list_of};
+ghost use Rattle.convex_orders.specs.FaceNumbers.{entry, IsTable, AreFaceNumbers};
+ghost use Rattle.convex_orders.specs.Contours.{contour_of, AreEdges};
+ghost use Rattle.convex_orders.specs.Counts.{met_between, edges_between, AreCounts};
 ghost use Rattle.convex_orders.specs.Cuts.{edge_number, AreCutPlaces, SomeCutPlaces, IsCutRow, IsPutIn, IsTakenOut};
 
-use contour_counts::{lower_part, move_to, number_of, part, raise_part};
-use convex_rows::ConvexRows;
-use face_numbers::FaceNumbers;
+use crate::contour_counts::{lower_part, move_to, number_of, part, raise_part};
+use crate::face_numbers::FaceNumbers;
+use convex_laws::convex_rows::ConvexRows;
 use map_lists::Rotations;
 use std::alloc::{AllocError, Global};
 

@@ -1,11 +1,11 @@
 //! The contour, traced along the darts of the rim.
 ghost use Rattle.std.specs.Prelude.{◌≡◌, ◌≢◌, ◌+◌, ◌<◌, ◌≤◌, ◌⊎◌, ◌↔◌, ℕ, Bool, true, false, [], ◌∷◌, ◌++◌, length, slice_index, All, IsTrue, IfOk};
-ghost use Rattle.map_definitions.specs.Maps.{HasDart, IsSimpleMap, list_of};
-ghost use Rattle.face_numbers.specs.FaceNumbers.{entry, AreFaceNumbers};
+ghost use Rattle.map_theory.specs.Maps.{HasDart, IsSimpleMap, list_of};
+ghost use Rattle.convex_orders.specs.FaceNumbers.{entry, AreFaceNumbers};
 ghost use Rattle.convex_orders.specs.Shown.{is_set, IsListOf, IsTrace, SomeTrace, IsRimIn};
 ghost use Rattle.convex_orders.specs.Splits.{IsRimAt};
 
-use face_numbers::FaceNumbers;
+use crate::face_numbers::FaceNumbers;
 use map_lists::Rotations;
 use std::alloc::AllocError;
 

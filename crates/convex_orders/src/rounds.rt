@@ -1,21 +1,21 @@
 //! One removal after another.
 ghost use Rattle.std.specs.Prelude.{◌≡◌, ◌≢◌, ◌+◌, ◌-◌, ◌<◌, ◌≤◌, ◌⊎◌, ◌↔◌, ℕ, suc, Bool, true, false, List, [], ◌∷◌, ◌++◌, length, slice_index, Contains, IsTrue, IfOk};
-ghost use Rattle.map_definitions.specs.Maps.{HasDart, IsSimpleMap, list_of, dart_count};
-ghost use Rattle.face_peeling.specs.Contours.{IsFirst};
-ghost use Rattle.face_peeling.specs.Removals.{Removal};
-ghost use Rattle.face_numbers.specs.FaceNumbers.{entry, IsTable, AreFaceNumbers};
-ghost use Rattle.convex_removals.specs.Removed.{IsRowMore, HasRows, AreRowsOfRun};
-ghost use Rattle.contour_counts.specs.Contours.{contour_of};
-ghost use Rattle.contour_counts.specs.Counts.{AreCounts};
+ghost use Rattle.map_theory.specs.Maps.{HasDart, IsSimpleMap, list_of, dart_count};
+ghost use Rattle.convex_peeling.specs.Contours.{IsFirst};
+ghost use Rattle.convex_peeling.specs.Removals.{Removal};
+ghost use Rattle.convex_orders.specs.FaceNumbers.{entry, IsTable, AreFaceNumbers};
+ghost use Rattle.convex_laws.specs.Removed.{IsRowMore, HasRows, AreRowsOfRun};
+ghost use Rattle.convex_orders.specs.Contours.{contour_of};
+ghost use Rattle.convex_orders.specs.Counts.{AreCounts};
 ghost use Rattle.convex_orders.specs.Shown.{is_set, IsBased, IsListOf, IsShown, IsOffAt, SomeOff};
 ghost use Rattle.convex_orders.specs.Standing.{Stands, HasOther, AllInner, IsLastRow};
 
 use crate::choice::{clear_row, find, take_run};
+use crate::contour_counts::{move_to, number_of, part, raise_all};
+use crate::face_numbers::FaceNumbers;
 use crate::placed::{push_lists, put_in, take_out};
 use crate::rims::trace;
-use contour_counts::{move_to, number_of, part, raise_all};
-use convex_rows::ConvexRows;
-use face_numbers::FaceNumbers;
+use convex_laws::convex_rows::ConvexRows;
 use map_lists::{ItemLists, Rotations};
 use std::alloc::{AllocError, Global};
 

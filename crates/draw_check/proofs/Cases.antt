@@ -1,9 +1,9 @@
 -- Verdicts that were worked out by hand.
 use Rattle.std.proofs.Common.{◌≡◌, zero, suc, List, [], ◌∷◌, ℤ, pos, negsuc, refl, arith}
 use Rattle.std.proofs.lemmas.Int.{ints}
-use Rattle.label_classes.specs.Classes.{merge}
+use Rattle.classes.specs.Classes.{merge}
 use Rattle.map_lists.specs.Lists.{Lists}
-use Rattle.map_definitions.specs.Maps.{entry_after}
+use Rattle.map_theory.specs.Maps.{entry_after}
 use Rattle.pg_plane.specs.declared.point.Point.{Point}
 use Rattle.draw_check.specs.Verdicts.{AllInGrid, IsVerdict}
 use Rattle.draw_check.specs.Outer.{face_sum}

@@ -3,8 +3,8 @@ use Rattle.std.proofs.Common.{◌≡◌, ◌⊎◌, ℤ, pos, ◌*ℤ◌, ◌<�
 use Rattle.std.proofs.lemmas.Int.{ints, by_lt_z}
 use Rattle.pg_plane.specs.declared.point.Point.{Point}
 use Rattle.pg_plane.specs.Geometry.{cross, IsFirstHalf, IsClockBefore}
-use Rattle.face_geometry.proofs.Ring.{sums, mul_neg, product_signs}
-use Rattle.face_geometry.proofs.Identities.{heights, cross_back}
+use Rattle.pg_plane.proofs.Ring.{sums, mul_neg, product_signs}
+use Rattle.pg_plane.proofs.Identities.{heights, cross_back}
 
 -- a direction is of the first half or not
 half_cases : (d : Point) → IsFirstHalf d ⊎ ¬ IsFirstHalf d

@@ -3,12 +3,12 @@ use Rattle.std.proofs.Common.{◌≡◌, ℕ, suc, ◌+◌, ◌*◌, ◌<◌, Bo
 use Rattle.std.proofs.lemmas.Bool.{cases_lt}
 use Rattle.std.proofs.lemmas.Int.{ints}
 use Rattle.std.proofs.lemmas.List.{take_more, get_or_past}
-use Rattle.map_definitions.specs.Maps.{Dart}
+use Rattle.map_theory.specs.Maps.{Dart}
 use Rattle.pg_plane.specs.declared.point.Point.{Point}
 use Rattle.pg_plane.specs.Geometry.{vector, cross, area}
 use Rattle.pg_plane.specs.Range.{IsWithin, IsInRange}
 use Rattle.pg_plane.proofs.Products.{IsWithin-product}
-use Rattle.drawings.specs.Drawing.{place}
+use Rattle.plane_drawings.specs.Drawing.{place}
 use Rattle.draw_check.specs.Outer.{swept, sum_over}
 
 -- the triangle from (0, 0) along a dart

@@ -4,10 +4,10 @@ use Rattle.std.specs.List.{remove}
 use Rattle.std.proofs.lemmas.Bool.{cases_eq, cond-true, cond-false, false_from_ne_true}
 use Rattle.std.proofs.lemmas.Int.{ints}
 use Rattle.map_lists.specs.Lists.{Lists}
-use Rattle.map_definitions.specs.Maps.{Dart, HasDart, IsSimpleMap, list_of, darts_from, darts_since, darts, dart_number}
-use Rattle.map_definitions.specs.Edges.{without_entry, without_edge}
-use Rattle.map_definitions.proofs.DartLemmas.{length-darts, dart_number-lt, get_or-dart_number, IsDartNumber-darts, place_of-here, place_of-there}
-use Rattle.map_definitions.proofs.EntryLemmas.{Contains-cons_cases}
+use Rattle.map_theory.specs.Maps.{Dart, HasDart, IsSimpleMap, list_of, darts_from, darts_since, darts, dart_number}
+use Rattle.map_theory.specs.Edges.{without_entry, without_edge}
+use Rattle.map_theory.proofs.DartLemmas.{length-darts, dart_number-lt, get_or-dart_number, IsDartNumber-darts, place_of-here, place_of-there}
+use Rattle.map_theory.proofs.EntryLemmas.{Contains-cons_cases}
 use Rattle.draw_check.specs.Outer.{sum_over}
 
 -- the sum of the weights of darts

@@ -3,15 +3,15 @@ use Rattle.std.proofs.Common.{◌≡◌, ℕ, ◌<◌, ◌⊎◌, Bool, true, fa
 use Rattle.std.specs.Option.{option_map}
 use Rattle.std.proofs.lemmas.Bool.{true≢false}
 use Rattle.map_lists.specs.Lists.{Lists}
-use Rattle.map_definitions.specs.Maps.{Dart, HasDart, follows, face_step}
-use Rattle.map_definitions.specs.Paths.{SameFace}
-use Rattle.map_definitions.proofs.DartLemmas.{HasDart-face_step}
+use Rattle.map_theory.specs.Maps.{Dart, HasDart, follows, face_step}
+use Rattle.map_theory.specs.Paths.{SameFace}
+use Rattle.map_theory.proofs.DartLemmas.{HasDart-face_step}
 use Rattle.half_edges.specs.Map.{Map, IsHalfMap, IsLive, dart_at}
 use Rattle.euler_faces.proofs.NumberLemmas.{some_of}
 use Rattle.plane_laws.specs.Completed.{IsCompleted}
 use Rattle.pg_plane.specs.declared.point.Point.{Point}
 use Rattle.pg_plane.specs.Geometry.{area}
-use Rattle.drawings.specs.Drawing.{place}
+use Rattle.plane_drawings.specs.Drawing.{place}
 use Rattle.draw_check.specs.FaceVerdicts.{dart_of, IsDrawnWell, IsDrawnWrong}
 use Rattle.draw_check.proofs.FaceLemmas.{same_step, same_itself, on_base}
 

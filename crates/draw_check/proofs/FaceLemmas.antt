@@ -2,21 +2,21 @@
 use Rattle.std.proofs.Common.{◌≡◌, ℕ, ◌<◌, ◌⊎◌, Bool, true, false, eqb, ◌||◌, List, length, ℤ, pos, ◌<ℤ◌, refl, sym, ap, subst, ◌∙◌, inl, inr, arith, eqb-true}
 use Rattle.std.proofs.lemmas.Bool.{cases_lt}
 use Rattle.std.proofs.lemmas.Int.{ints, by_lt_z}
-use Rattle.label_classes.specs.Classes.{image}
-use Rattle.label_classes.proofs.Classes.{Together, Together-from, same_class-from}
-use Rattle.label_classes.proofs.Orbits.{orbits-step, orbits-closed_marks}
+use Rattle.classes.specs.Classes.{image}
+use Rattle.classes.proofs.Classes.{Together, Together-from, same_class-from}
+use Rattle.classes.proofs.Orbits.{orbits-step, orbits-closed_marks}
 use Rattle.map_lists.specs.Lists.{Lists}
-use Rattle.map_definitions.specs.Maps.{Dart, HasDart, follows, face_step, dart_number, face_images, face_classes}
-use Rattle.map_definitions.specs.Paths.{SameFace}
-use Rattle.map_definitions.proofs.DartLemmas.{dart_number-lt, get_or-dart_number, dart_number-injective, HasDart-face_step, length-face_images, get_or-face_images, IsPermutationOfBelow-face_images}
+use Rattle.map_theory.specs.Maps.{Dart, HasDart, follows, face_step, dart_number, face_images, face_classes}
+use Rattle.map_theory.specs.Paths.{SameFace}
+use Rattle.map_theory.proofs.DartLemmas.{dart_number-lt, get_or-dart_number, dart_number-injective, HasDart-face_step, length-face_images, get_or-face_images, IsPermutationOfBelow-face_images}
 use Rattle.plane_laws.specs.Completed.{IsCompleted}
 use Rattle.plane_laws.proofs.Triangles.{triangles_where_met}
 use Rattle.pg_plane.specs.declared.point.Point.{Point}
 use Rattle.pg_plane.specs.Geometry.{area}
-use Rattle.face_geometry.specs.Faced.{in_base, IsOnFace}
-use Rattle.face_geometry.proofs.Faces.{in_base_from}
-use Rattle.face_geometry.proofs.Identities.{area_turned}
-use Rattle.drawings.specs.Drawing.{place, IsCounterclockwise}
+use Rattle.pg_plane.specs.Faced.{in_base, IsOnFace}
+use Rattle.pg_plane.proofs.Faces.{in_base_from}
+use Rattle.pg_plane.proofs.Identities.{area_turned}
+use Rattle.plane_drawings.specs.Drawing.{place, IsCounterclockwise}
 use Rattle.draw_check.specs.FaceVerdicts.{IsDrawnWell, IsDrawnWrong}
 
 -- a dart that passes the test lies on the face

@@ -4,12 +4,12 @@ use Rattle.std.proofs.lemmas.Bool.{cases_eq, cond-true, cond-false, false_from_n
 use Rattle.std.proofs.lemmas.Int.{ints, by_lt_z}
 use Rattle.std.proofs.lemmas.List.{length-take}
 use Rattle.std.proofs.Math.Seq.{take-length}
-use Rattle.label_classes.specs.Classes.{label}
-use Rattle.label_classes.proofs.Classes.{Together, Together-from, same_class-from}
+use Rattle.classes.specs.Classes.{label}
+use Rattle.classes.proofs.Classes.{Together, Together-from, same_class-from}
 use Rattle.map_lists.specs.Lists.{Lists}
-use Rattle.map_definitions.specs.Maps.{Dart, darts, dart_number, dart_count, face_classes}
-use Rattle.map_definitions.specs.Paths.{SameFace}
-use Rattle.map_definitions.proofs.DartLemmas.{length-darts, get_or-dart_number}
+use Rattle.map_theory.specs.Maps.{Dart, darts, dart_number, dart_count, face_classes}
+use Rattle.map_theory.specs.Paths.{SameFace}
+use Rattle.map_theory.proofs.DartLemmas.{length-darts, get_or-dart_number}
 use Rattle.half_edges.specs.Map.{Map, IsHalfMap, IsLive, dart_at}
 use Rattle.euler_faces.specs.Numbers.{number_at}
 use Rattle.euler_faces.specs.FaceWalks.{walk_at, first_number, AreFaces}

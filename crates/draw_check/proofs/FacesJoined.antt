@@ -2,11 +2,11 @@
 use Rattle.std.proofs.Common.{◌≡◌, ℕ, Bool, cond, List, ℤ, pos, ◌+ℤ◌, refl, sym, ◌∙◌, inl, inr, ⊎_elim, arith}
 use Rattle.std.proofs.lemmas.Bool.{cases_Bool, cond-true, cond-false, false_from_ne_true, true≢false}
 use Rattle.std.proofs.lemmas.Int.{ints}
-use Rattle.label_classes.specs.Classes.{same_class}
-use Rattle.label_classes.proofs.Classes.{Together-from, same_class-from}
+use Rattle.classes.specs.Classes.{same_class}
+use Rattle.classes.proofs.Classes.{Together-from, same_class-from}
 use Rattle.map_lists.specs.Lists.{Lists}
-use Rattle.map_definitions.specs.Maps.{Dart, HasDart, IsSimpleMap, darts, dart_number, face_classes}
-use Rattle.map_definitions.specs.Paths.{SameFace}
+use Rattle.map_theory.specs.Maps.{Dart, HasDart, IsSimpleMap, darts, dart_number, face_classes}
+use Rattle.map_theory.specs.Paths.{SameFace}
 use Rattle.plane_laws.specs.Laws.{IsMergedFaces}
 use Rattle.pg_plane.specs.declared.point.Point.{Point}
 use Rattle.draw_check.specs.Outer.{swept, face_sum, AreOthersPositive}

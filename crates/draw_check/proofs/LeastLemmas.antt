@@ -3,8 +3,8 @@ use Rattle.std.proofs.Common.{◌≡◌, ℕ, ◌+◌, ◌<◌, List, length, Op
 use Rattle.std.specs.Option.{MatchOption}
 use Rattle.std.proofs.lemmas.Bool.{cases_lt}
 use Rattle.map_lists.specs.declared.ids.VertexId.{VertexId}
-use Rattle.map_definitions.specs.Maps.{place_of}
-use Rattle.map_definitions.proofs.DartLemmas.{place_of-lt-length, get_or-place_of}
+use Rattle.map_theory.specs.Maps.{place_of}
+use Rattle.map_theory.proofs.DartLemmas.{place_of-lt-length, get_or-place_of}
 use Rattle.draw_check.specs.Least.{IsLeast, IsLeastPair}
 use Rattle.draw_check.specs.Loops.{IsLeastOf, IsBelow}
 

@@ -2,7 +2,7 @@
 use Rattle.std.proofs.Common.{◌≡◌, ℕ, ◌+◌, ◌-◌, ◌<◌, List, length, Option, Some, None, Contains, get_or, sym, subst, arith}
 use Rattle.std.specs.Option.{MatchOption}
 use Rattle.map_lists.specs.declared.ids.VertexId.{VertexId}
-use Rattle.map_definitions.specs.Maps.{list_of}
+use Rattle.map_theory.specs.Maps.{list_of}
 use Rattle.half_edges.specs.Map.{Map, IsHalfMap, dart_at, first_dart}
 use Rattle.draw_check.specs.Least.{IsLeast}
 use Rattle.draw_check.specs.Loops.{IsLeastOf, IsLaterDart}

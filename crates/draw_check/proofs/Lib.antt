@@ -19,3 +19,4 @@ pub mod RoundOrder
 pub mod TurnLemmas
 pub mod ValidFewer
 pub mod ValidYes
+mod Refused

@@ -3,10 +3,10 @@ use Rattle.std.proofs.Common.{◌≡◌, ℕ, ◌+◌, ◌<◌, ◌≤◌, Bool,
 use Rattle.std.proofs.lemmas.Bool.{cases_lt, true≢false}
 use Rattle.std.proofs.lemmas.List.Elements.{Contains-get_or}
 use Rattle.map_lists.specs.Lists.{Lists}
-use Rattle.map_definitions.specs.Maps.{list_of, place_of, HasDart, IsSimpleMap}
-use Rattle.map_definitions.proofs.DartLemmas.{place_of-lt-length, get_or-place_of, place_of-get_or}
+use Rattle.map_theory.specs.Maps.{list_of, place_of, HasDart, IsSimpleMap}
+use Rattle.map_theory.proofs.DartLemmas.{place_of-lt-length, get_or-place_of, place_of-get_or}
 use Rattle.pg_plane.specs.declared.point.Point.{Point}
-use Rattle.drawings.specs.Drawing.{IsBreak, GoesOnceRound}
+use Rattle.plane_drawings.specs.Drawing.{IsBreak, GoesOnceRound}
 use Rattle.draw_check.specs.Faults.{IsTurned}
 use Rattle.draw_check.specs.Loops.{IsOneOf}
 

@@ -4,24 +4,24 @@ use Rattle.std.specs.List.{list_any, filter, remove}
 use Rattle.std.proofs.lemmas.Bool.{cases_eq, cases_Bool, cond-false, true≢false, false_from_ne_true}
 use Rattle.std.proofs.lemmas.Int.{ints}
 use Rattle.std.proofs.lemmas.List.{ext_get_or}
-use Rattle.label_classes.specs.Classes.{label}
-use Rattle.label_classes.proofs.Counting.{count_below_into}
-use Rattle.label_classes.proofs.Classes.{length-classes}
+use Rattle.classes.specs.Classes.{label}
+use Rattle.classes.proofs.Counting.{count_below_into}
+use Rattle.classes.proofs.Classes.{length-classes}
 use Rattle.map_lists.specs.Lists.{Lists}
-use Rattle.map_definitions.specs.Maps.{Dart, HasDart, IsSimpleMap, IsPlane, list_of, darts, dart_number, dart_count, edge_count, component_count, component_classes}
-use Rattle.map_definitions.specs.Edges.{without_entry, without_edge}
-use Rattle.map_definitions.proofs.DartLemmas.{dart_number-lt, get_or-dart_number, IsDartNumber-darts, place_of-here, place_of-there}
-use Rattle.map_definitions.proofs.EntryLemmas.{Contains-from_list_any, list_any-from_Contains}
-use Rattle.map_definitions.proofs.WithoutEdge.{dart_old, list_at_first, list_at_second, list_elsewhere, length-without_edge, edge_count-without}
-use Rattle.euler_bound.proofs.DartPermutations.{IsLabels-components}
+use Rattle.map_theory.specs.Maps.{Dart, HasDart, IsSimpleMap, IsPlane, list_of, darts, dart_number, dart_count, edge_count, component_count, component_classes}
+use Rattle.map_theory.specs.Edges.{without_entry, without_edge}
+use Rattle.map_theory.proofs.DartLemmas.{dart_number-lt, get_or-dart_number, IsDartNumber-darts, place_of-here, place_of-there}
+use Rattle.map_theory.proofs.EntryLemmas.{Contains-from_list_any, list_any-from_Contains}
+use Rattle.map_theory.proofs.WithoutEdge.{dart_old, list_at_first, list_at_second, list_elsewhere, length-without_edge, edge_count-without}
+use Rattle.map_theory.proofs.DartPermutations.{IsLabels-components}
 use Rattle.plane_laws.specs.Completed.{IsCompleted}
 use Rattle.plane_laws.proofs.EdgeFaces.{bridge_test, faces_merged}
 use Rattle.plane_laws.proofs.EdgeRemoved.{edge_removed}
-use Rattle.map_edits.specs.Completed.{IsExtended}
-use Rattle.map_edits.proofs.KeptEdges.{filter-all, all_or_some}
+use Rattle.plane_laws.specs.MapEditsCompleted.{IsExtended}
+use Rattle.plane_laws.proofs.KeptEdges.{filter-all, all_or_some}
 use Rattle.pg_plane.specs.declared.point.Point.{Point}
-use Rattle.face_geometry.proofs.Identities.{cross_back}
-use Rattle.drawings.specs.Drawing.{place, IsCounterclockwise}
+use Rattle.pg_plane.proofs.Identities.{cross_back}
+use Rattle.plane_drawings.specs.Drawing.{place, IsCounterclockwise}
 use Rattle.draw_check.specs.Outer.{swept, AreOthersPositive, HasOuterFace}
 use Rattle.draw_check.proofs.DartTotals.{total-without}
 use Rattle.draw_check.proofs.FacesJoined.{same_face, AreOthersPositive-joined}

@@ -1,8 +1,8 @@
 -- Steps round a vertex: behind each entry of its list comes the next one, and behind the last the first.
 use Rattle.std.proofs.Common.{◌≡◌, ◌≢◌, ℕ, ◌+◌, ◌<◌, List, [], ◌∷◌, length, Option, Some, unwrap_or, get_or, refl, sym, ap, ◌∙◌, arith}
 use Rattle.std.specs.Option.{option_map}
-use Rattle.map_definitions.specs.Maps.{Dart, list_of, follows, place_of}
-use Rattle.map_definitions.proofs.DartLemmas.{darts_before_more, place_of-here, place_of-lt-length, get_or-place_of}
+use Rattle.map_theory.specs.Maps.{Dart, list_of, follows, place_of}
+use Rattle.map_theory.proofs.DartLemmas.{darts_before_more, place_of-here, place_of-lt-length, get_or-place_of}
 use Rattle.half_edges.specs.Map.{Map, IsHalfMap, IsLive, dart_at, next_dart, first_dart}
 use Rattle.euler_faces.proofs.NumberLemmas.{number_at-is, next-dart, next-back, next-number}
 use Rattle.draw_check.specs.Loops.{IsLaterDart}

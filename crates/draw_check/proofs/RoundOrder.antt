@@ -6,9 +6,9 @@ use Rattle.std.proofs.lemmas.Bool.Decides.{nat_tests}
 use Rattle.std.proofs.lemmas.List.{take-append-drop, get_or_default, get_or_append_left, get_or-append-add}
 use Rattle.std.proofs.lemmas.List.Elements.{filter-append}
 use Rattle.std.proofs.lemmas.List.Kept.{AllPairs-filter}
-use Rattle.map_definitions.specs.Maps.{place_of, entry_after}
-use Rattle.map_definitions.specs.Paths.{from_entry}
-use Rattle.map_definitions.proofs.DartLemmas.{place_of-lt-length, get_or-place_of, place_of-get_or, place_of-entry_after, place_of-here, Contains-entry_after, place_after}
+use Rattle.map_theory.specs.Maps.{place_of, entry_after}
+use Rattle.map_theory.specs.Paths.{from_entry}
+use Rattle.map_theory.proofs.DartLemmas.{place_of-lt-length, get_or-place_of, place_of-get_or, place_of-entry_after, place_of-here, Contains-entry_after, place_after}
 use Rattle.plane_laws.proofs.ArcLemmas.{length-from_entry, from_entry-in, from_entry-next, from_entry-not_first}
 
 place_after-apart : (n k : ℕ) → 2 ≤ n → k < n → place_after n k ≡ k → ⊥

@@ -3,14 +3,14 @@ use Rattle.std.proofs.Common.{◌≡◌, ◌≢◌, ℕ, cond, eqb, List, ℤ, p
 use Rattle.std.proofs.lemmas.Bool.{cases_Bool, cond-true, cond-false, true≢false}
 use Rattle.std.proofs.lemmas.Int.{ints}
 use Rattle.map_lists.specs.Lists.{Lists}
-use Rattle.map_definitions.specs.Maps.{Dart, HasDart, follows, darts, dart_number}
-use Rattle.map_definitions.specs.Paths.{SameFace}
-use Rattle.map_definitions.proofs.DartLemmas.{dart_number-injective, HasDart-face_step}
+use Rattle.map_theory.specs.Maps.{Dart, HasDart, follows, darts, dart_number}
+use Rattle.map_theory.specs.Paths.{SameFace}
+use Rattle.map_theory.proofs.DartLemmas.{dart_number-injective, HasDart-face_step}
 use Rattle.plane_laws.specs.Completed.{IsCompleted}
 use Rattle.pg_plane.specs.declared.point.Point.{Point}
 use Rattle.pg_plane.specs.Geometry.{cross, area}
-use Rattle.face_geometry.proofs.Ring.{ring, sums}
-use Rattle.drawings.specs.Drawing.{place, IsCounterclockwise}
+use Rattle.pg_plane.proofs.Ring.{ring, sums}
+use Rattle.plane_drawings.specs.Drawing.{place, IsCounterclockwise}
 use Rattle.draw_check.specs.Outer.{swept, face_sum, AreOthersPositive}
 use Rattle.draw_check.proofs.DartTotals.{total-add, total-darts, total-dart}
 use Rattle.draw_check.proofs.FacesJoined.{same_face, weight, weight-on, weight-off, face_sum-total}

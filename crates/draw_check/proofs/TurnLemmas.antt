@@ -1,12 +1,12 @@
 -- Breaks between the directions round a vertex, as the walk round it finds them.
 use Rattle.std.proofs.Common.{◌≡◌, ℕ, ◌+◌, ◌<◌, ◌≤◌, Bool, true, List, length, Some, get_or, sym, ap, subst, ◌∙◌, arith}
 use Rattle.std.specs.Option.{option_map}
-use Rattle.map_definitions.specs.Maps.{Dart, list_of, follows, place_of}
-use Rattle.map_definitions.proofs.DartLemmas.{HasDart-follows}
+use Rattle.map_theory.specs.Maps.{Dart, list_of, follows, place_of}
+use Rattle.map_theory.proofs.DartLemmas.{HasDart-follows}
 use Rattle.half_edges.specs.Map.{Map, dart_at, next_dart, first_dart}
 use Rattle.pg_plane.specs.declared.point.Point.{Point}
 use Rattle.pg_plane.specs.Geometry.{vector, IsClockBefore}
-use Rattle.drawings.specs.Drawing.{place, IsBreak}
+use Rattle.plane_drawings.specs.Drawing.{place, IsBreak}
 use Rattle.draw_check.specs.Loops.{IsDrawn, IsLaterDart}
 use Rattle.draw_check.proofs.RoundLemmas.{head_at, LeavesFrom, place_at, at_place, place_at-first, place_at-later, head_at-is, LeavesFrom-later, head_at-result, follows-result}
 

@@ -3,13 +3,13 @@ use Rattle.std.proofs.Common.{◌⊎◌, ℕ, ℤ, ◌<◌, ◌≤◌, Bool, not
 use Rattle.std.specs.List.{list_any}
 use Rattle.std.proofs.lemmas.List.Filters.{length-filter_both}
 use Rattle.map_lists.specs.Lists.{Lists}
-use Rattle.map_definitions.specs.Maps.{HasDart, IsSimpleMap, list_of, entry_after}
-use Rattle.map_definitions.specs.Paths.{from_entry}
-use Rattle.map_definitions.proofs.EntryLemmas.{Contains-from_filter}
-use Rattle.map_edits.specs.Completed.{IsExtended}
+use Rattle.map_theory.specs.Maps.{HasDart, IsSimpleMap, list_of, entry_after}
+use Rattle.map_theory.specs.Paths.{from_entry}
+use Rattle.map_theory.proofs.EntryLemmas.{Contains-from_filter}
+use Rattle.plane_laws.specs.MapEditsCompleted.{IsExtended}
 use Rattle.pg_plane.specs.declared.point.Point.{Point}
 use Rattle.pg_plane.specs.Geometry.{vector, IsClockBefore}
-use Rattle.drawings.specs.Drawing.{place, GoesOnceRound, IsPlaneDrawing, KeepsRotations}
+use Rattle.plane_drawings.specs.Drawing.{place, GoesOnceRound, IsPlaneDrawing, KeepsRotations}
 use Rattle.draw_check.specs.Laws.{IsValid}
 use Rattle.draw_check.proofs.ClockOrder.{clock_cases, clock_apart, clock_chained}
 use Rattle.draw_check.proofs.RoundOrder.{sorted_from_once, once_from_sorted, sorted_kept}

@@ -2,15 +2,15 @@
 use Rattle.std.proofs.Common.{◌≢◌, ℕ, ◌<◌, List, length, ℤ, sym, inl, inr, arith}
 use Rattle.std.proofs.lemmas.Bool.{cases_lt}
 use Rattle.map_lists.specs.Lists.{Lists}
-use Rattle.map_definitions.specs.Maps.{IsSimpleMap, HasDart}
+use Rattle.map_theory.specs.Maps.{IsSimpleMap, HasDart}
 use Rattle.pg_plane.specs.declared.point.Point.{Point}
 use Rattle.pg_plane.specs.Geometry.{IsOnSegment, DoCross}
-use Rattle.drawings.specs.Drawing.{place, IsPlaneDrawing}
+use Rattle.plane_drawings.specs.Drawing.{place, IsPlaneDrawing}
 use Rattle.draw_check.specs.declared.verdict.Verdict.TheVariants.{Yes}
 use Rattle.draw_check.specs.Faults.{HasEdge}
 use Rattle.draw_check.specs.Verdicts.{NoneShareAPlace, NoneOnEdge, NoneCross, IsVerdict}
 use Rattle.draw_check.specs.Laws.{IsValid}
-use Rattle.face_geometry.proofs.Segments.{IsOnSegment-back, DoCross-first_back, DoCross-second_back, DoCross-exchanged}
+use Rattle.pg_plane.proofs.Segments.{IsOnSegment-back, DoCross-first_back, DoCross-second_back, DoCross-exchanged}
 
 module _ (lists : Lists) (points : List Point) (simple : IsSimpleMap lists) (apart : NoneShareAPlace lists points) (off : NoneOnEdge lists points) (none : NoneCross lists points) where
   stand_apart : (u v : ℕ) → u < length lists → v < length lists → u ≢ v → place points u ≢ place points v

@@ -4,12 +4,12 @@ use Rattle.std.specs.List.{list_any}
 use Rattle.std.proofs.lemmas.Bool.{cases_lt}
 use Rattle.std.proofs.lemmas.List.{get_or_default, get_or_past}
 use Rattle.std.proofs.lemmas.List.Elements.{Contains-get_or}
-use Rattle.label_classes.specs.Classes.{image}
-use Rattle.label_classes.proofs.Classes.{Together}
-use Rattle.label_classes.proofs.Orbits.{orbits-step, orbits-closed_marks}
-use Rattle.map_definitions.specs.Maps.{dart_count, face_images, face_classes}
-use Rattle.map_definitions.proofs.DartLemmas.{length-face_images, IsPermutationOfBelow-face_images}
-use Rattle.map_definitions.proofs.EntryLemmas.{Contains-from_list_any, list_any-from_Contains}
+use Rattle.classes.specs.Classes.{image}
+use Rattle.classes.proofs.Classes.{Together}
+use Rattle.classes.proofs.Orbits.{orbits-step, orbits-closed_marks}
+use Rattle.map_theory.specs.Maps.{dart_count, face_images, face_classes}
+use Rattle.map_theory.proofs.DartLemmas.{length-face_images, IsPermutationOfBelow-face_images}
+use Rattle.map_theory.proofs.EntryLemmas.{Contains-from_list_any, list_any-from_Contains}
 use Rattle.half_edges.specs.Map.{Map, IsHalfMap, IsLive, dart_at}
 use Rattle.euler_faces.specs.Numbers.{number_at, id_of}
 use Rattle.euler_faces.specs.FaceWalks.{first_number, IsFaceWalk}

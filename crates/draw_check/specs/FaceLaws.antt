@@ -1,9 +1,9 @@
 -- The verdict by faces implies that by pairs, and both verdicts for a map with fewer edges.
 use Rattle.std.specs.Prelude.{List, ℤ}
 use Rattle.map_lists.specs.Lists.{Lists}
-use Rattle.map_definitions.specs.Maps.{Dart, HasDart, IsSimpleMap}
+use Rattle.map_theory.specs.Maps.{Dart, HasDart, IsSimpleMap}
 use Rattle.plane_laws.specs.Completed.{IsCompleted}
-use Rattle.map_edits.specs.Completed.{IsExtended}
+use Rattle.plane_laws.specs.MapEditsCompleted.{IsExtended}
 use Rattle.pg_plane.specs.declared.point.Point.{Point}
 use Rattle.draw_check.specs.Verdicts.{IsVerdict}
 use Rattle.draw_check.specs.FaceVerdicts.{IsFaceVerdict}

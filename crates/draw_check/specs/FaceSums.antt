@@ -1,8 +1,8 @@
 -- The sums over faces, as a table over the walks of the faces, and the darts whose face has none that is positive.
 use Rattle.std.specs.Prelude.{ℕ, ◌<◌, ◌≡◌, Bool, true, List, length, take, slice_index_or, ℤ, pos, ◌≤ℤ◌}
-use Rattle.label_classes.specs.Classes.{same_class}
-use Rattle.map_definitions.specs.Maps.{Dart, HasDart, darts, dart_number, face_classes}
-use Rattle.map_definitions.specs.Paths.{SameFace}
+use Rattle.classes.specs.Classes.{same_class}
+use Rattle.map_theory.specs.Maps.{Dart, HasDart, darts, dart_number, face_classes}
+use Rattle.map_theory.specs.Paths.{SameFace}
 use Rattle.half_edges.specs.Map.{Map}
 use Rattle.euler_faces.specs.FaceWalks.{walk_at, first_number}
 use Rattle.pg_plane.specs.declared.point.Point.{Point}

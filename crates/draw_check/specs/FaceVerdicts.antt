@@ -1,12 +1,12 @@
 -- The verdict on a drawing of a completed map, by its faces.
 use Rattle.std.specs.Prelude.{ℕ, ◌<◌, ◌≡◌, List, ℤ, pos, ◌<ℤ◌, unwrap_or}
 use Rattle.map_lists.specs.Lists.{Lists}
-use Rattle.map_definitions.specs.Maps.{Dart, HasDart, follows}
-use Rattle.map_definitions.specs.Paths.{SameFace}
+use Rattle.map_theory.specs.Maps.{Dart, HasDart, follows}
+use Rattle.map_theory.specs.Paths.{SameFace}
 use Rattle.half_edges.specs.Map.{Map, dart_at}
 use Rattle.pg_plane.specs.declared.point.Point.{Point}
 use Rattle.pg_plane.specs.Geometry.{area}
-use Rattle.drawings.specs.Drawing.{place, IsCounterclockwise}
+use Rattle.plane_drawings.specs.Drawing.{place, IsCounterclockwise}
 use Rattle.draw_check.specs.Least.{IsLeast, IsLeastTriple}
 use Rattle.draw_check.specs.Faults.{LeavesGrid}
 use Rattle.draw_check.specs.Verdicts.{AllInGrid}

@@ -1,11 +1,11 @@
 -- What may be wrong with a drawing, and where.
 use Rattle.std.specs.Prelude.{ℕ, ◌<◌, ◌≤◌, ◌≡◌, ◌≢◌, ◌⊎◌, List, length, ℤ}
 use Rattle.map_lists.specs.Lists.{Lists}
-use Rattle.map_definitions.specs.Maps.{HasDart, list_of}
+use Rattle.map_theory.specs.Maps.{HasDart, list_of}
 use Rattle.pg_plane.specs.declared.point.Point.{Point}
 use Rattle.pg_plane.specs.Geometry.{IsOnSegment, DoCross}
 use Rattle.pg_plane.specs.Range.{IsInRange}
-use Rattle.drawings.specs.Drawing.{place, IsInGrid, GoesOnceRound}
+use Rattle.plane_drawings.specs.Drawing.{place, IsInGrid, GoesOnceRound}
 
 -- a point for each vertex, within the range of coordinates
 pub record HasPlaces (lists : Lists) (points : List Point) : Type 0 where

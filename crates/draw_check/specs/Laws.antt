@@ -1,10 +1,10 @@
 -- The laws of the verdict: what Yes says, and that it passes to maps with fewer edges.
 use Rattle.std.specs.Prelude.{List, ℤ, ◌↔◌}
 use Rattle.map_lists.specs.Lists.{Lists}
-use Rattle.map_definitions.specs.Maps.{IsSimpleMap}
-use Rattle.map_edits.specs.Completed.{IsExtended}
+use Rattle.map_theory.specs.Maps.{IsSimpleMap}
+use Rattle.plane_laws.specs.MapEditsCompleted.{IsExtended}
 use Rattle.pg_plane.specs.declared.point.Point.{Point}
-use Rattle.drawings.specs.Drawing.{IsPlaneDrawing, KeepsRotations}
+use Rattle.plane_drawings.specs.Drawing.{IsPlaneDrawing, KeepsRotations}
 use Rattle.draw_check.specs.declared.verdict.Verdict.TheVariants.{Yes}
 use Rattle.draw_check.specs.Verdicts.{AllInGrid, IsVerdict}
 

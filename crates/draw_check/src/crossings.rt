@@ -1,6 +1,6 @@
 //! The first two edges that cross.
 ghost use Rattle.std.specs.Prelude.{◌≡◌, ◌+◌, ◌<◌, ◌↔◌, ℕ, List, length, slice_index, IsTrue, Some, MatchOption};
-ghost use Rattle.map_definitions.specs.Maps.{HasDart};
+ghost use Rattle.map_theory.specs.Maps.{HasDart};
 ghost use Rattle.half_edges.specs.Map.{dart_at, first_dart};
 ghost use Rattle.draw_check.specs.Least.{IsLeast, IsLeastPair, IsLeastTriple, IsLeastFour};
 ghost use Rattle.draw_check.specs.Faults.{HasEdge, EdgesCross};

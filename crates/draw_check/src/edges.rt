@@ -1,9 +1,9 @@
 //! Vertices on edges, and edges that cross.
 ghost use Rattle.std.specs.Prelude.{◌≡◌, ◌+◌, ◌<◌, ◌≤◌, ◌↔◌, ℕ, List, length, slice_index, IsTrue, Some, MatchOption};
-ghost use Rattle.map_definitions.specs.Maps.{HasDart, list_of};
+ghost use Rattle.map_theory.specs.Maps.{HasDart, list_of};
 ghost use Rattle.half_edges.specs.Map.{dart_at, first_dart};
 ghost use Rattle.pg_plane.specs.Range.{IsInRange};
-ghost use Rattle.drawings.specs.Drawing.{place};
+ghost use Rattle.plane_drawings.specs.Drawing.{place};
 ghost use Rattle.draw_check.specs.Least.{IsLeast, IsLeastPair, IsLeastTriple, IsLeastFour};
 ghost use Rattle.draw_check.specs.Faults.{HasEdge, LiesOnEdge, EdgesCross};
 ghost use Rattle.draw_check.specs.Verdicts.{NoneOnEdge, NoneCross};

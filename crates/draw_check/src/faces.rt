@@ -1,12 +1,12 @@
 //! The check of a drawing of a completed map by its faces.
 ghost use Rattle.std.specs.Prelude.{◌≡◌, ◌⊎◌, ◌+◌, ◌<◌, ◌↔◌, ℕ, List, length, slice_index, IsTrue, Some, MatchBool, MatchOption, pos, ◌<ℤ◌};
-ghost use Rattle.map_definitions.specs.Maps.{HasDart, follows};
-ghost use Rattle.map_definitions.specs.Paths.{SameFace};
+ghost use Rattle.map_theory.specs.Maps.{HasDart, follows};
+ghost use Rattle.map_theory.specs.Paths.{SameFace};
 ghost use Rattle.half_edges.specs.Map.{IsHalfMap, IsLive, dart_at, first_dart};
 ghost use Rattle.plane_laws.specs.Completed.{IsCompleted};
 ghost use Rattle.pg_plane.specs.Geometry.{area};
 ghost use Rattle.pg_plane.specs.Range.{IsInRange};
-ghost use Rattle.drawings.specs.Drawing.{place};
+ghost use Rattle.plane_drawings.specs.Drawing.{place};
 ghost use Rattle.draw_check.specs.Least.{IsLeast, IsLeastPair, IsLeastTriple};
 ghost use Rattle.draw_check.specs.Faults.{HasPlaces};
 ghost use Rattle.draw_check.specs.Loops.{IsDrawn, IsLeastOf};

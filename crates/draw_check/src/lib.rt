@@ -17,10 +17,10 @@ mod sums;
 mod turns;
 mod verdict;
 
-use drawings::counterclockwise_is_plane;
 pub use faces::check_by_faces;
 pub use outer::check_outer;
 pub use pairs::check;
+use plane_drawings::drawings::counterclockwise_is_plane;
 pub use verdict::{FaceVerdict, OuterVerdict, Verdict};
 
 /// The verdict is `Yes` exactly where all points lie in the grid, the drawing is plane and the rotations

@@ -1,6 +1,6 @@
 //! The check that the face of a base is the outer one.
 ghost use Rattle.std.specs.Prelude.{◌≡◌, ◌+◌, ◌<◌, ◌↔◌, ℕ, List, length, slice_index, IsTrue, Some, IfOk, MatchOption};
-ghost use Rattle.map_definitions.specs.Maps.{component_count};
+ghost use Rattle.map_theory.specs.Maps.{component_count};
 ghost use Rattle.half_edges.specs.Map.{IsHalfMap, IsLive, dart_at, first_dart};
 ghost use Rattle.euler_faces.specs.FaceWalks.{AreFaces};
 ghost use Rattle.draw_check.specs.Least.{IsLeast, IsLeastPair};

@@ -12,7 +12,7 @@ use crate::places::{first_outside, first_shared};
 use crate::turns::first_turned;
 use half_edges::HalfMap;
 use pg_plane::GridFigure;
-use sweep_check::is_plane_by_sweep;
+use plane_drawings::sweep_check::is_plane_by_sweep;
 
 // The first two vertices at one place, the first vertex on an edge or the first two edges that cross, in
 // this order, by going over all pairs.

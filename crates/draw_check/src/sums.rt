@@ -1,11 +1,11 @@
 //! Twice the areas of all faces, each as a sum over the darts of the face.
 ghost use Rattle.std.specs.Prelude.{◌≡◌, ◌<◌, ◌+◌, ℕ, length, Some, IfOk};
-ghost use Rattle.map_definitions.specs.Maps.{darts_before, dart_count};
+ghost use Rattle.map_theory.specs.Maps.{darts_before, dart_count};
 ghost use Rattle.half_edges.specs.Map.{IsLive, dart_at, first_dart};
 ghost use Rattle.euler_faces.specs.Numbers.{number_at};
 ghost use Rattle.euler_faces.specs.FaceWalks.{AreFaces};
 ghost use Rattle.pg_plane.specs.Range.{IsInRange};
-ghost use Rattle.drawings.specs.Drawing.{place};
+ghost use Rattle.plane_drawings.specs.Drawing.{place};
 ghost use Rattle.draw_check.specs.Loops.{IsDrawn};
 ghost use Rattle.draw_check.specs.Outer.{swept};
 ghost use Rattle.draw_check.specs.FaceSums.{AreSumsBelow};

@@ -1,10 +1,10 @@
 //! The directions from a vertex to its neighbours, in the order of its list.
 ghost use Rattle.std.specs.Prelude.{◌≡◌, ◌+◌, ◌<◌, ◌≤◌, ◌↔◌, ◌||◌, ℕ, length, IsTrue, Some, MatchBool, MatchOption};
-ghost use Rattle.map_definitions.specs.Maps.{list_of};
+ghost use Rattle.map_theory.specs.Maps.{list_of};
 ghost use Rattle.half_edges.specs.Map.{dart_at, first_dart};
 ghost use Rattle.pg_plane.specs.Geometry.{vector, IsClockBefore};
 ghost use Rattle.pg_plane.specs.Range.{IsInRange, IsDirection};
-ghost use Rattle.drawings.specs.Drawing.{place, GoesOnceRound, KeepsRotations};
+ghost use Rattle.plane_drawings.specs.Drawing.{place, GoesOnceRound, KeepsRotations};
 ghost use Rattle.draw_check.specs.Least.{IsLeast};
 ghost use Rattle.draw_check.specs.Faults.{IsTurned};
 ghost use Rattle.draw_check.specs.Loops.{IsDrawn};

@@ -4,7 +4,7 @@ use half_edges::{Ends, VertexId};
 
 /// The first fault of a drawing with the least ids, in the order in which the kinds of fault stand here,
 /// or `Yes` where it has none.
-#[derive(Clone, Copy, Debug, PartialEq, Eq)]
+#[derive(Clone, Copy, PartialEq, Eq)]
 pub enum Verdict {
     /// The vertex lies outside the grid.
     OutOfGrid(VertexId),
@@ -21,7 +21,7 @@ pub enum Verdict {
 }
 
 /// Whether the faces of a drawing of a completed map are drawn as they should be.
-#[derive(Clone, Copy, Debug, PartialEq, Eq)]
+#[derive(Clone, Copy, PartialEq, Eq)]
 pub enum FaceVerdict {
     /// The least vertex outside the grid.
     OutOfGrid(VertexId),
@@ -33,7 +33,7 @@ pub enum FaceVerdict {
 }
 
 /// Whether the face left of a base dart is the outer one of a drawing.
-#[derive(Clone, Copy, Debug, PartialEq, Eq)]
+#[derive(Clone, Copy, PartialEq, Eq)]
 pub enum OuterVerdict {
     /// The map is connected, and this is the least dart, by its tail and then by its head, whose face is
     /// not the base's and has an area that is not positive.

@@ -4,13 +4,13 @@ use Rattle.std.specs.List.{list_any}
 use Rattle.std.proofs.lemmas.Bool.{cases_eq, cases_lt, or_cases}
 use Rattle.std.proofs.lemmas.List.Elements.{Contains-append_left, Contains-append_right, Contains-append_cases}
 use Rattle.map_lists.specs.Lists.{Lists}
-use Rattle.map_definitions.specs.Maps.{HasDart, IsSimpleMap, list_of}
+use Rattle.map_theory.specs.Maps.{HasDart, IsSimpleMap, list_of}
 use Rattle.graph6_text.specs.Graphs.{EdgeGraph, AreEdges, joins, has_edge}
 use Rattle.graph6_text.specs.Lines.{pair_place, body_length, is_set, IsLine, IsLineByte, count_form, edges_of}
 use Rattle.graph6_text.proofs.BitLemmas.{one_pair, pair_place-lt, body_length-bounds}
 use Rattle.graph6_text.proofs.PairLemmas.{Contains-first, Contains-cases, Contains-none}
 use Rattle.graph6_text.proofs.EdgeLemmas.{AreMarked-begin, AreEdges-edges_of, joined_as_bit, joined_is, has_edge-turned}
-use Rattle.expanded_edges.specs.Expanded.{HasJustEdges}
+use Rattle.embed_theorem.specs.Expanded.{HasJustEdges}
 use Rattle.embed_graph.specs.Marks.{AreBytes, Adds, Marks}
 
 or_left : (a b : Bool) → a ≡ true → (a || b) ≡ true

@@ -1,7 +1,7 @@
 -- Edges of lists as bits of pairs.
 use Rattle.std.specs.Prelude.{ℕ, ◌<◌, ◌≡◌, ◌⊎◌, true, List, length, All, Contains}
 use Rattle.map_lists.specs.Lists.{Lists}
-use Rattle.map_definitions.specs.Maps.{HasDart}
+use Rattle.map_theory.specs.Maps.{HasDart}
 use Rattle.graph6_text.specs.Lines.{pair_place, body_length, is_set, IsLineByte}
 
 -- bytes with the bits of the pairs of n vertices

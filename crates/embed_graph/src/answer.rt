@@ -1,14 +1,14 @@
 //! The answer.
 ghost use Rattle.std.specs.Prelude.{◌≡◌, ◌<◌, ◌≤◌, length, IfOk, IfSome, IsTrue};
 ghost use Rattle.kuratowski.specs.Witnesses.{IsWitness};
-ghost use Rattle.expanded_edges.specs.Expanded.{IsMapOf};
-ghost use Rattle.graph_embeddings.specs.Embeddings.{IsEmbedding};
+ghost use Rattle.embed_theorem.specs.Expanded.{IsMapOf};
+ghost use Rattle.embed_graph.specs.Embeddings.{IsEmbedding};
 
+use crate::contracted_embeddings::embed_by_contraction;
+use crate::graph_embeddings::Embedding;
 use crate::marks::has_edges;
 use crate::plane::is_plane_map;
-use contracted_embeddings::embed_by_contraction;
 use embed_search::{find_witness, planar_lists};
-use graph_embeddings::Embedding;
 use graph6_text::Graph;
 use kuratowski::{Witness, WitnessVerdict, check_witness};
 use map_lists::Rotations;

@@ -5,7 +5,15 @@
 
 mod answer;
 mod bits;
+pub mod contracted_embeddings;
+pub mod embed_figures;
+pub mod embed_laws;
+pub mod graph_embeddings;
 mod marks;
 mod plane;
 
 pub use answer::embed;
+pub use embed_witnesses::contracted_graphs::contract;
+pub use embed_witnesses::graph_contractions::contractible_edge;
+pub use embed_witnesses::lifted_witnesses::lift;
+pub use graph_embeddings::Embedding;

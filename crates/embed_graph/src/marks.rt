@@ -1,10 +1,10 @@
 //! Whether lists have just the edges of a graph: their edges as bits are those of the graph's line.
 ghost use Rattle.std.specs.Prelude.{◌≡◌, ◌<◌, ◌≤◌, ◌/◌, ◌++◌, ◌∷◌, [], List, ℕ, length, replicate, IfOk, IsTrue};
 ghost use Rattle.map_lists.specs.Lists.{Lists};
-ghost use Rattle.map_definitions.specs.Maps.{IsSimpleMap};
+ghost use Rattle.map_theory.specs.Maps.{IsSimpleMap};
 ghost use Rattle.graph6_text.specs.Graphs.{EdgeGraph};
 ghost use Rattle.graph6_text.specs.Lines.{IsLine, count_form, body_length};
-ghost use Rattle.expanded_edges.specs.Expanded.{HasJustEdges};
+ghost use Rattle.embed_theorem.specs.Expanded.{HasJustEdges};
 ghost use Rattle.embed_graph.specs.Marks.{AreBytes, Adds, Marks};
 
 use crate::bits::{pair_place, set};

@@ -1,6 +1,6 @@
 //! Whether lists are a simple map of genus zero.
 ghost use Rattle.std.specs.Prelude.{◌≡◌, ◌<◌, ◌+◌, ◌*◌, length, IfOk, IsTrue};
-ghost use Rattle.map_definitions.specs.Maps.{IsSimpleMap, IsPlane};
+ghost use Rattle.map_theory.specs.Maps.{IsSimpleMap, IsPlane};
 
 use euler_faces::{EulerCount, count_lists};
 use map_lists::Rotations;

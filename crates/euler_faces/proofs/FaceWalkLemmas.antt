@@ -4,13 +4,13 @@ use Rattle.std.specs.Prelude.{All, Contains}
 use Rattle.std.proofs.lemmas.Bool.{cases_eq, cases_lt, eq-eqb, ne_eqb, or_cases, or_right, ltb-true, ltb-false, true≢false}
 use Rattle.std.proofs.lemmas.List.{length_push, get_or_push, get_or_past, get_or_default, get_or_append_left, get_or-map, length-map}
 use Rattle.std.proofs.lemmas.List.Elements.{Contains-get_or}
-use Rattle.label_classes.specs.Classes.{image, label, orbits, same_class}
-use Rattle.map_definitions.specs.Maps.{dart_count, face_images, face_step, face_classes}
-use Rattle.label_classes.proofs.Classes.{Together, same_class-from}
-use Rattle.label_classes.proofs.Orbits.{length-orbits, IsLabels-orbits, IsPermuting-image, orbits-closed_marks}
-use Rattle.map_definitions.proofs.DartLemmas.{length-face_images, IsPermutationOfBelow-face_images}
-use Rattle.label_classes.proofs.Marks.{KeepsMarks, SetsMark, IsCounting}
-use Rattle.label_classes.proofs.Walks.{walk, visited, visited_at, visited-walk, walk_apart, walk-together, visited_is_orbit}
+use Rattle.classes.specs.Classes.{image, label, orbits, same_class}
+use Rattle.map_theory.specs.Maps.{dart_count, face_images, face_step, face_classes}
+use Rattle.classes.proofs.Classes.{Together, same_class-from}
+use Rattle.classes.proofs.Orbits.{length-orbits, IsLabels-orbits, IsPermuting-image, orbits-closed_marks}
+use Rattle.map_theory.proofs.DartLemmas.{length-face_images, IsPermutationOfBelow-face_images}
+use Rattle.classes.proofs.Marks.{KeepsMarks, SetsMark, IsCounting}
+use Rattle.classes.proofs.Walks.{walk, visited, visited_at, visited-walk, walk_apart, walk-together, visited_is_orbit}
 use Rattle.half_edges.specs.Map.{Map, IsHalfMap, IsLive, dart_at}
 use Rattle.map_lists.specs.declared.ids.DartId.{DartId}
 use Rattle.euler_faces.specs.Numbers.{number_at, id_of}

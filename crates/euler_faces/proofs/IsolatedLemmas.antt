@@ -3,7 +3,7 @@ use Rattle.std.proofs.Common.{◌≡◌, ℕ, ◌+◌, ◌<◌, cond, List, [], 
 use Rattle.std.proofs.lemmas.List.{take_more}
 use Rattle.std.proofs.lemmas.List.Sums.{sum_by-append}
 use Rattle.map_lists.specs.Lists.{Lists}
-use Rattle.map_definitions.specs.Maps.{list_of, is_empty_list, isolated_count}
+use Rattle.map_theory.specs.Maps.{list_of, is_empty_list, isolated_count}
 
 -- one vertex more
 pub isolated_count_more : (lists : Lists) (v : ℕ) → v < length lists → isolated_count (take (v + 1) lists) ≡ isolated_count (take v lists) + cond (is_empty_list (list_of lists v)) 1 0

@@ -3,11 +3,11 @@ use Rattle.std.proofs.Common.{◌≡◌, ◌≢◌, ℕ, zero, suc, ◌+◌, ◌
 use Rattle.std.proofs.lemmas.Bool.{cases_lt, eq-eqb}
 use Rattle.std.proofs.lemmas.List.{get_or_past}
 use Rattle.std.proofs.lemmas.Bool.Decides.{nat_tests}
-use Rattle.label_classes.specs.Classes.{image}
-use Rattle.map_definitions.specs.Maps.{Dart, darts, dart_number, dart_count, darts_before, list_of, place_of, face_images, face_step, follows, same_dart}
-use Rattle.map_definitions.proofs.DartCounts.{dart_count-le}
-use Rattle.map_definitions.proofs.DartLemmas.{dart_number-lt, get_or-dart_number, IsDartNumber-darts, IsDartNumber, get_or-face_images, place_after, place_of-entry_after, place_of-lt-length, entry_after-place, darts_before_more, place_of-get_or}
-use Rattle.label_classes.proofs.Marks.{SetsMark}
+use Rattle.classes.specs.Classes.{image}
+use Rattle.map_theory.specs.Maps.{Dart, darts, dart_number, dart_count, darts_before, list_of, place_of, face_images, face_step, follows, same_dart}
+use Rattle.map_theory.proofs.DartCounts.{dart_count-le}
+use Rattle.map_theory.proofs.DartLemmas.{dart_number-lt, get_or-dart_number, IsDartNumber-darts, IsDartNumber, get_or-face_images, place_after, place_of-entry_after, place_of-lt-length, entry_after-place, darts_before_more, place_of-get_or}
+use Rattle.classes.proofs.Marks.{SetsMark}
 use Rattle.half_edges.specs.Map.{Map, IsHalfMap, IsLive, dart_at, next_dart, id_bound}
 use Rattle.euler_faces.specs.Numbers.{number_at, slot_of, id_of, mark_at, mark_of}
 

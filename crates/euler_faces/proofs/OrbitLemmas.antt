@@ -4,13 +4,13 @@ use Rattle.std.proofs.lemmas.Bool.{cases_eq, eq-eqb}
 use Rattle.std.proofs.lemmas.Bool.Decides.{nat_tests}
 use Rattle.std.proofs.lemmas.List.{length-map, get_or-map, map-set}
 use Rattle.std.proofs.lemmas.Option.{slice_get_within, get_or_from_slice_get}
-use Rattle.label_classes.specs.Classes.{image}
-use Rattle.label_classes.proofs.Marks.{SetsMark}
+use Rattle.classes.specs.Classes.{image}
+use Rattle.classes.proofs.Marks.{SetsMark}
 use Rattle.map_lists.specs.Lists.{Lists}
 use Rattle.map_lists.specs.Cuts.{cut, AreCuts}
 use Rattle.map_lists.proofs.CutLemmas.{length-cut}
-use Rattle.map_definitions.specs.Maps.{Dart, IsSimpleMap, HasDart, list_of, darts, dart_count, dart_number, place_of, twin_dart, face_images}
-use Rattle.map_definitions.proofs.DartLemmas.{length-darts, IsDartNumber-darts, get_or-face_images, place_after, place_of-entry_after, place_of-lt-length, place_of_number}
+use Rattle.map_theory.specs.Maps.{Dart, IsSimpleMap, HasDart, list_of, darts, dart_count, dart_number, place_of, twin_dart, face_images}
+use Rattle.map_theory.proofs.DartLemmas.{length-darts, IsDartNumber-darts, get_or-face_images, place_after, place_of-entry_after, place_of-lt-length, place_of_number}
 use Rattle.simple_maps.proofs.FlatLemmas.{start-is, end-is, count-is, dart-is}
 use Rattle.euler_faces.specs.Slots.{twins_of, walked, HaveTwins}
 use Rattle.euler_faces.specs.declared.slots.Slot.{Slot}

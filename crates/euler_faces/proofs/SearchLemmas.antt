@@ -4,16 +4,16 @@ use Rattle.std.proofs.lemmas.List.{get_or_default, get_or-map, map-set, length-m
 use Rattle.std.proofs.Math.Seq.{take-nil}
 use Rattle.std.proofs.lemmas.Bool.{cases_Bool, cases_eq, or_left, or_right, false≢true, false_from_ne_true, ne_eqb, ltb-false}
 use Rattle.std.specs.List.{All}
-use Rattle.label_classes.specs.Classes.{count_below, label, same_class}
+use Rattle.classes.specs.Classes.{count_below, label, same_class}
 use Rattle.map_lists.specs.Lists.{Lists}
 use Rattle.map_lists.specs.Cuts.{cut, AreCuts}
 use Rattle.map_lists.proofs.CutLemmas.{length-cut}
-use Rattle.map_definitions.specs.Maps.{Dart, darts, dart_number, list_of, HasDart, IsSimpleMap, component_classes}
-use Rattle.label_classes.proofs.Counting.{count_below_more}
-use Rattle.label_classes.proofs.Classes.{Together, Together-from, same_class-from, PairsBelow, classes-holds, classes-marked, length-classes, IsLabels-classes}
+use Rattle.map_theory.specs.Maps.{Dart, darts, dart_number, list_of, HasDart, IsSimpleMap, component_classes}
+use Rattle.classes.proofs.Counting.{count_below_more}
+use Rattle.classes.proofs.Classes.{Together, Together-from, same_class-from, PairsBelow, classes-holds, classes-marked, length-classes, IsLabels-classes}
 use Rattle.simple_maps.proofs.FlatLemmas.{entry-is, end-is}
-use Rattle.map_definitions.proofs.DartLemmas.{HasDart-at, IsDartNumber-darts, length-darts, get_or-dart_number, dart_number-lt}
-use Rattle.label_classes.proofs.Marks.{IsCounting, IsCounting-together}
+use Rattle.map_theory.proofs.DartLemmas.{HasDart-at, IsDartNumber-darts, length-darts, get_or-dart_number, dart_number-lt}
+use Rattle.classes.proofs.Marks.{IsCounting, IsCounting-together}
 use Rattle.euler_faces.specs.Numbers.{mark_at}
 use Rattle.euler_faces.specs.Search.{AllMarked, IsSearching, IsNumbered, component_number, marks_of, unmarked_below, None_open}
 

@@ -1,7 +1,7 @@
 -- The walks of the faces met so far, where the darts are gone over by their numbers.
 use Rattle.std.specs.Prelude.{ℕ, ◌<◌, ◌≡◌, List, length, slice_index}
-use Rattle.label_classes.specs.Classes.{label}
-use Rattle.map_definitions.specs.Maps.{dart_count, face_classes}
+use Rattle.classes.specs.Classes.{label}
+use Rattle.map_theory.specs.Maps.{dart_count, face_classes}
 use Rattle.half_edges.specs.Map.{Map}
 use Rattle.euler_faces.specs.Numbers.{number_at}
 use Rattle.euler_faces.specs.FaceWalks.{walk_at, first_number, IsFaceWalk}

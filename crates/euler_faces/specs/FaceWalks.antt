@@ -1,6 +1,6 @@
 -- The faces of a map, each walked once along the face step from its dart with the least number.
 use Rattle.std.specs.Prelude.{ℕ, ◌+◌, ◌^◌, ◌<◌, ◌≤◌, ◌≡◌, List, [], map, length, slice_index, slice_index_or, Contains, option_map}
-use Rattle.map_definitions.specs.Maps.{face_step}
+use Rattle.map_theory.specs.Maps.{face_step}
 use Rattle.half_edges.specs.Map.{Map, IsLive, dart_at}
 use Rattle.map_lists.specs.declared.ids.DartId.{DartId}
 use Rattle.euler_faces.specs.Numbers.{number_at}

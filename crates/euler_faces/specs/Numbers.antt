@@ -1,6 +1,6 @@
 -- The darts of a half-edge map by their numbers, and marks on ids as marks on numbers.
 use Rattle.std.specs.Prelude.{ℕ, suc, Bool, false, List, [], ◌∷◌, if◌then◌else◌, slice_index_or, Option, Some, None, unwrap_or}
-use Rattle.map_definitions.specs.Maps.{Dart, darts, dart_number, same_dart}
+use Rattle.map_theory.specs.Maps.{Dart, darts, dart_number, same_dart}
 use Rattle.half_edges.specs.Map.{Map, dart_at}
 
 -- the number of the dart of an id

@@ -1,9 +1,9 @@
 -- A search from a vertex: which vertices are marked, and of which the neighbours are still to be marked.
 use Rattle.std.specs.Prelude.{ℕ, ◌<◌, ◌≤◌, ◌≡◌, ◌⊎◌, ◌==◌, Bool, true, false, not, List, map, length, slice_index}
-use Rattle.label_classes.specs.Classes.{count_below, label}
+use Rattle.classes.specs.Classes.{count_below, label}
 use Rattle.map_lists.specs.Lists.{Lists}
-use Rattle.map_definitions.specs.Maps.{HasDart, component_classes}
-use Rattle.label_classes.proofs.Classes.{Together}
+use Rattle.map_theory.specs.Maps.{HasDart, component_classes}
+use Rattle.classes.proofs.Classes.{Together}
 use Rattle.euler_faces.specs.Numbers.{mark_at}
 
 -- all neighbours of a vertex are marked

@@ -1,9 +1,9 @@
 //! The components of a map, numbered by a search that goes from vertex to vertex along a queue.
 ghost use Rattle.std.specs.Prelude.{◌≡◌, ◌<◌, ◌≤◌, ◌+◌, ◌||◌, ℕ, List, Bool, true, false, length, slice_index};
-ghost use Rattle.label_classes.specs.Classes.{same_class};
-ghost use Rattle.label_classes.proofs.Classes.{Together};
+ghost use Rattle.classes.specs.Classes.{same_class};
+ghost use Rattle.classes.proofs.Classes.{Together};
 ghost use Rattle.map_lists.specs.Cuts.{cut, AreCuts};
-ghost use Rattle.map_definitions.specs.Maps.{IsSimpleMap, component_count, component_classes};
+ghost use Rattle.map_theory.specs.Maps.{IsSimpleMap, component_count, component_classes};
 ghost use Rattle.euler_faces.specs.Numbers.{mark_at};
 ghost use Rattle.euler_faces.specs.Search.{AllMarked, IsSearching, IsNumbered, component_number, marks_of, unmarked_below, None_open};
 

@@ -1,7 +1,7 @@
 //! Counts.
 ghost use Rattle.std.specs.Prelude.{◌≡◌, ◌≤◌, ◌<◌, ◌+◌, ◌-◌, ◌*◌, ◌%◌, ℕ, length, map, false, None, OnOk, IfOk, IfErr};
 ghost use Rattle.map_lists.specs.Cuts.{cut, AreCuts};
-ghost use Rattle.map_definitions.specs.Maps.{vertex_count, edge_count, face_count, component_count, genus_of};
+ghost use Rattle.map_theory.specs.Maps.{vertex_count, edge_count, face_count, component_count, genus_of};
 ghost use Rattle.simple_maps.specs.Faults.{first_fault};
 ghost use Rattle.simple_maps.specs.MapFault.{Names};
 ghost use Rattle.simple_maps.specs.Tables.{AreSlots};
@@ -17,7 +17,7 @@ use simple_maps::{MapFault, fill_slots};
 use std::alloc::{AllocError, Global};
 
 /// How many vertices, edges, faces and components a map has, each at most 2^24.
-#[derive(Clone, Copy, Debug, PartialEq, Eq)]
+#[derive(Clone, Copy, PartialEq, Eq)]
 pub struct EulerCount {
     /// The vertices.
     pub n: u32,

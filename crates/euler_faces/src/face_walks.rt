@@ -1,8 +1,8 @@
 //! The faces of a map, each as a walk along the face step.
 ghost use Rattle.std.specs.Prelude.{◌≡◌, ◌<◌, ◌≤◌, ◌+◌, ◌*◌, ◌^◌, ◌||◌, ℕ, List, [], length, false, Some, IfOk, OnOk, slice_index, Contains};
-ghost use Rattle.label_classes.specs.Classes.{class_count, label, orbits, same_class};
-ghost use Rattle.map_definitions.specs.Maps.{edge_count, dart_count, darts_before, face_images, list_of, face_classes};
-ghost use Rattle.label_classes.proofs.Marks.{IsCounting, KeepsMarks};
+ghost use Rattle.classes.specs.Classes.{class_count, label, orbits, same_class};
+ghost use Rattle.map_theory.specs.Maps.{edge_count, dart_count, darts_before, face_images, list_of, face_classes};
+ghost use Rattle.classes.proofs.Marks.{IsCounting, KeepsMarks};
 ghost use Rattle.half_edges.specs.Map.{IsHalfMap, IsLive, dart_at, id_bound};
 ghost use Rattle.euler_faces.specs.Numbers.{number_at, mark_at, mark_of};
 ghost use Rattle.euler_faces.specs.FaceWalks.{AreFaces, AreNumbered, walk_at, ids_of};

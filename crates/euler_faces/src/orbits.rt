@@ -1,9 +1,9 @@
 //! The faces of a map, counted by walks that overwrite the twins of the darts that they meet.
 ghost use Rattle.std.specs.Prelude.{◌≡◌, ◌+◌, ◌≤◌, ◌<◌, ◌||◌, ℕ, [], List, length, false};
-ghost use Rattle.label_classes.specs.Classes.{class_count, same_class};
-ghost use Rattle.label_classes.proofs.Marks.{KeepsMarks};
+ghost use Rattle.classes.specs.Classes.{class_count, same_class};
+ghost use Rattle.classes.proofs.Marks.{KeepsMarks};
 ghost use Rattle.map_lists.specs.Cuts.{cut, AreCuts};
-ghost use Rattle.map_definitions.specs.Maps.{IsSimpleMap, face_images, face_classes, isolated_count};
+ghost use Rattle.map_theory.specs.Maps.{IsSimpleMap, face_images, face_classes, isolated_count};
 ghost use Rattle.euler_faces.specs.Slots.{twins_of, walked, HaveTwins};
 
 use crate::slots::{Slot, WALKED, after};

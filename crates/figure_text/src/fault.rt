@@ -1,7 +1,7 @@
 //! Why no figure is read.
 
 /// A bad place of a text, by the number of a line.
-#[derive(Clone, Copy, Debug, PartialEq, Eq)]
+#[derive(Clone, Copy, PartialEq, Eq)]
 pub enum TextFault {
     /// This closed line does not have the shape that is due there, or this line stands outside a figure and
     /// is not closed.

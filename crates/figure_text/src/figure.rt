@@ -6,7 +6,7 @@ use map_lists::Rotations;
 use pg_plane::{BarFigure, Points, RectFigure};
 
 /// The method by which a straight-line drawing was made.
-#[derive(Clone, Copy, Debug, PartialEq, Eq)]
+#[derive(Clone, Copy, PartialEq, Eq)]
 pub enum GridJob {
     /// The shift method.
     Shift,

@@ -17,7 +17,7 @@ use graph6_text::{G6Fault, Graph, lines_are_graphs, read_line};
 use std::alloc::{AllocError, Global};
 
 /// What a closed line is that stands outside a figure.
-#[derive(Clone, Copy, Debug, PartialEq, Eq)]
+#[derive(Clone, Copy, PartialEq, Eq)]
 pub enum Front {
     /// A note: a line of what another job wrote.
     Note,

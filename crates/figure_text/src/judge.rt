@@ -11,7 +11,7 @@ use crate::words::{Name, Word};
 use kuratowski::Kind as Subdivided;
 
 /// What a figure's first line says of the lines to come.
-#[derive(Clone, Copy, Debug, PartialEq, Eq)]
+#[derive(Clone, Copy, PartialEq, Eq)]
 pub enum Kind {
     /// Lines of a straight-line drawing.
     Grid(GridJob),
@@ -24,7 +24,7 @@ pub enum Kind {
 }
 
 /// What a line is worth.
-#[derive(Clone, Copy, Debug, PartialEq, Eq)]
+#[derive(Clone, Copy, PartialEq, Eq)]
 pub enum Judged {
     /// It does not have the shape that is due.
     Bad,

@@ -28,7 +28,7 @@ pub struct Draft {
 }
 
 /// What became of the line that is due.
-#[derive(Clone, Copy, Debug, PartialEq, Eq)]
+#[derive(Clone, Copy, PartialEq, Eq)]
 pub enum Taken {
     /// It was taken, and ends before this offset.
     Next(usize),

@@ -6,7 +6,7 @@ ghost use Rattle.figure_text.specs.Words.{far, is_digit, one_more, canonical, de
 use std::alloc::{AllocError, Global};
 
 /// A whole number by its sign and its size. A size beyond all ranges stands as `FAR`.
-#[derive(Clone, Copy, Debug, PartialEq, Eq)]
+#[derive(Clone, Copy, PartialEq, Eq)]
 pub struct Signed {
     /// Whether it has a minus.
     pub negative: bool,
@@ -15,7 +15,7 @@ pub struct Signed {
 }
 
 /// A word that a line of a figure may hold.
-#[derive(Clone, Copy, Debug, PartialEq, Eq)]
+#[derive(Clone, Copy, PartialEq, Eq)]
 pub enum Name {
     Figure,
     Shift,
@@ -35,7 +35,7 @@ pub enum Name {
 }
 
 /// A word of a line.
-#[derive(Clone, Copy, Debug, PartialEq, Eq)]
+#[derive(Clone, Copy, PartialEq, Eq)]
 pub enum Word {
     /// A number.
     Number(Signed),
@@ -261,7 +261,7 @@ fn word_end(line: &[u8], at: usize) -> usize
 }
 
 // Digits of a line.
-#[derive(Clone, Copy, Debug, PartialEq, Eq)]
+#[derive(Clone, Copy, PartialEq, Eq)]
 struct Digits {
     // the least of `FAR` and the number that they give
     value: u32,
@@ -306,7 +306,7 @@ fn closes_at(line: &[u8], end: usize) -> bool
 }
 
 // A word of a line.
-#[derive(Clone, Copy, Debug, PartialEq, Eq)]
+#[derive(Clone, Copy, PartialEq, Eq)]
 struct Next {
     // what it is
     word: Word,

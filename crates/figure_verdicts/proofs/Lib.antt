@@ -1,2 +1,3 @@
 -- Lemmas on verdicts of figures.
 pub mod VerdictLemmas
+mod Refused

@@ -2,8 +2,8 @@
 use Rattle.std.proofs.Common.{◌≡◌, ℕ, inl, inr, List, [], length, Contains, refl, ap, ◌∙◌, arith, eqb, eqb-true, true}
 use Rattle.std.specs.Prelude.{◌↔◌}
 use Rattle.map_lists.specs.Lists.{Lists}
-use Rattle.map_definitions.specs.Maps.{HasDart, IsSimpleMap, list_of, component_count}
-use Rattle.map_peeling.proofs.Counted.{marks_everywhere}
+use Rattle.map_theory.specs.Maps.{HasDart, IsSimpleMap, list_of, component_count}
+use Rattle.plane_peeling.proofs.Counted.{marks_everywhere}
 use Rattle.simple_maps.specs.Laws.{NoFaultIsSimple}
 use Rattle.pg_plane.specs.declared.figure.BarFigure.{BarFigure}
 use Rattle.bar_check.specs.Laws.{YesIsValid as BarsYesIsValid}
@@ -17,7 +17,7 @@ use Rattle.kuratowski.proofs.VerdictLemmas.{yes_of_witness}
 use Rattle.draw_check.specs.Laws.{YesIsValid}
 use Rattle.figure_text.specs.declared.figure.Figure.{Figure}
 use Rattle.figure_text.specs.declared.figure.Figure.TheVariants.{Grid, Bars, Rects, Witness as WitnessFigure}
-use Rattle.figure_lines.specs.Given.{IsGiven}
+use Rattle.line_inputs.specs.Given.{IsGiven}
 use Rattle.figure_verdicts.specs.Validity.{IsValidFigure, IsValidGrid, HasShape, grid_width, grid_height, bars_width}
 use Rattle.std.specs.Prelude.{ℤ, Option, None, ◌≢◌}
 use Rattle.std.proofs.lemmas.Int.{ints}

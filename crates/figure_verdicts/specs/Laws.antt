@@ -1,7 +1,7 @@
 -- The laws of the verdict on a figure.
 use Rattle.std.specs.Prelude.{◌↔◌, ◌≡◌}
 use Rattle.figure_text.specs.declared.figure.Figure.{Figure}
-use Rattle.figure_lines.specs.Given.{IsGiven}
+use Rattle.line_inputs.specs.Given.{IsGiven}
 use Rattle.figure_verdicts.specs.Validity.{IsValidFigure}
 use Rattle.figure_verdicts.specs.Verdicts.{IsFigureVerdict}
 use Rattle.figure_verdicts.specs.declared.verdict.FigureVerdict.{FigureVerdict}

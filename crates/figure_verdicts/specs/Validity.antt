@@ -1,7 +1,7 @@
 -- Which figures are valid.
 use Rattle.std.specs.Prelude.{ℕ, ◌*◌, ℤ, pos, ◌-ℤ◌, List, length}
 use Rattle.map_lists.specs.Lists.{Lists}
-use Rattle.map_definitions.specs.Maps.{HasDart, IsSimpleMap, face_count}
+use Rattle.map_theory.specs.Maps.{HasDart, IsSimpleMap, face_count}
 use Rattle.half_edges.specs.Map.{first_dart}
 use Rattle.pg_plane.specs.declared.point.Point.{Point}
 use Rattle.pg_plane.specs.declared.figure.BarFigure.{BarFigure}

@@ -1,7 +1,7 @@
 -- The verdict on a figure.
 use Rattle.std.specs.Prelude.{ℤ, ◌≡◌, ◌≢◌, ◌⊎◌, List, Option, Some, None}
 use Rattle.map_lists.specs.Lists.{Lists}
-use Rattle.map_definitions.specs.Maps.{HasDart, component_count}
+use Rattle.map_theory.specs.Maps.{HasDart, component_count}
 use Rattle.simple_maps.specs.Faults.{Fault, out_of_range, loop_at, repeated, one_sided, first_fault}
 use Rattle.simple_maps.specs.declared.fault.MapFault.{MapFault}
 use Rattle.simple_maps.specs.declared.fault.MapFault.TheVariants.{OutOfRange, Loop, Repeated, OneSided, NoMemory}

@@ -2,7 +2,7 @@
 ghost use Rattle.std.specs.Prelude.{◌≡◌, ◌≢◌, ◌-◌, List, ℤ, pos, ◌-ℤ◌, IfOk};
 ghost use Rattle.map_lists.specs.Lists.{Lists};
 ghost use Rattle.pg_plane.specs.declared.point.Point.{Point};
-ghost use Rattle.map_definitions.specs.Maps.{face_count};
+ghost use Rattle.map_theory.specs.Maps.{face_count};
 ghost use Rattle.half_edges.specs.Map.{first_dart};
 ghost use Rattle.draw_check.specs.Faults.{HasPlaces};
 ghost use Rattle.draw_check.specs.Verdicts.{IsVerdict};

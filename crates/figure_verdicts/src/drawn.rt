@@ -1,7 +1,7 @@
 //! The verdict on a drawing of a simple map.
 ghost use Rattle.std.specs.Prelude.{◌≡◌, ◌+◌, ◌*◌, ◌≤◌, IfOk};
 ghost use Rattle.std.specs.Bool.{OnTrue};
-ghost use Rattle.map_definitions.specs.Maps.{IsPlane, vertex_count, edge_count};
+ghost use Rattle.map_theory.specs.Maps.{IsPlane, vertex_count, edge_count};
 ghost use Rattle.plane_laws.specs.Completed.{IsCompleted};
 ghost use Rattle.half_edges.specs.Map.{first_dart};
 ghost use Rattle.draw_check.specs.Faults.{HasPlaces};

@@ -9,9 +9,9 @@ ghost use Rattle.rect_check.specs.Verdicts.{IsRectVerdict};
 ghost use Rattle.graph6_text.specs.Graphs.{EdgeGraph};
 ghost use Rattle.kuratowski.specs.declared.witness.Witness.{Witness as AWitness};
 ghost use Rattle.kuratowski.specs.Verdicts.{IsVerdict};
-ghost use Rattle.figure_lines.specs.Given.{IsGiven, IsGivenGrid, IsGivenBars, IsGivenRects};
+ghost use Rattle.line_inputs.specs.Given.{IsGiven, IsGivenGrid, IsGivenBars, IsGivenRects};
 ghost use Rattle.figure_verdicts.specs.Validity.{less_one, grid_width, grid_height};
-ghost use Rattle.map_definitions.specs.Maps.{face_count};
+ghost use Rattle.map_theory.specs.Maps.{face_count};
 ghost use Rattle.figure_verdicts.specs.Verdicts.{IsDrawnVerdict, IsShapedVerdict, IsJobVerdict, IsFittingVerdict, IsGridVerdict, IsColumnsVerdict, IsBarsVerdict, IsTiledVerdict, IsRectsVerdict, IsWitnessVerdict, IsFigureVerdict};
 
 use crate::FigureVerdict;

@@ -8,7 +8,7 @@ use kuratowski::WitnessVerdict;
 use rect_check::RectVerdict;
 
 /// The verdict on a figure.
-#[derive(Clone, Copy, Debug, PartialEq, Eq)]
+#[derive(Clone, Copy, PartialEq, Eq)]
 pub enum FigureVerdict {
     /// Its lists are no simple map, and this is their first fault, which is not want of memory.
     Refused(MapFault),

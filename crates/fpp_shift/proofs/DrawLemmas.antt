@@ -1,16 +1,16 @@
 -- Points of a run, and what a drawing is made of.
 use Rattle.std.proofs.Common.{◌≡◌, ◌+◌, ◌-◌, ◌^◌, ◌<◌, ℕ, List, length, get_or, All, pos, refl, ap₂, ◌∙◌, arith}
 use Rattle.map_lists.specs.Lists.{Lists}
-use Rattle.map_definitions.specs.Maps.{Dart}
+use Rattle.map_theory.specs.Maps.{Dart}
 use Rattle.pg_plane.specs.declared.point.Point.{Point}
 use Rattle.canon_order.specs.Orders.{IsCanonicalOrder, IsRankOf}
 use Rattle.contour_runs.specs.Runs.{Step}
-use Rattle.order_runs.specs.OrderRuns.{IsOrderRun}
-use Rattle.shift_points.specs.Shift.{shift_points, point_of}
-use Rattle.shift_points.proofs.Corners.{in_grid}
-use Rattle.shift_drawings.specs.ShiftDrawings.{AreShiftPoints}
-use Rattle.order_tables.specs.Rows.{AreAllRows}
-use Rattle.order_tables.specs.Points.{ArePointsAt}
+use Rattle.order_drawings.specs.OrderRuns.{IsOrderRun}
+use Rattle.fpp_shift.specs.Shift.{shift_points, point_of}
+use Rattle.fpp_shift.proofs.Corners.{in_grid}
+use Rattle.fpp_shift.specs.ShiftDrawings.{AreShiftPoints}
+use Rattle.order_drawings.specs.Rows.{AreAllRows}
+use Rattle.order_drawings.specs.Points.{ArePointsAt}
 use Rattle.fpp_shift.specs.Points.{ArePoints}
 
 -- points at the places of a run

@@ -4,9 +4,9 @@ use Rattle.std.proofs.lemmas.Bool.{cases_lt, cases_eq}
 use Rattle.contour_runs.specs.Runs.{Step, Stage, moved, vertex_after, place_after, after, IsStep}
 use Rattle.contour_runs.specs.Laws.{IsStage}
 use Rattle.contour_runs.proofs.Places.{moved-low, moved-between, moved-high, vertex_after-low, vertex_after-new, vertex_after-high, place_after-older, place_after-new}
-use Rattle.shift_points.specs.Shift.{shift, Places, top_y, x_after, y_after}
-use Rattle.shift_points.specs.Contours.{IsShift}
-use Rattle.shift_points.proofs.Steps.{shift-low, shift-between, shift-high, x_after-older, y_after-older, y_after-new, x_after-contour, top_across}
+use Rattle.fpp_shift.specs.Shift.{shift, Places, top_y, x_after, y_after}
+use Rattle.fpp_shift.specs.Contours.{IsShift}
+use Rattle.fpp_shift.proofs.Steps.{shift-low, shift-between, shift-high, x_after-older, y_after-older, y_after-new, x_after-contour, top_across}
 use Rattle.fpp_shift.specs.Offsets.{IsUnder, AreOffsets, places_after}
 
 -- What a step writes, by the points before it.

@@ -1,13 +1,13 @@
 -- The rows of a run, one after another.
 use Rattle.std.proofs.Common.{◌≡◌, ◌+◌, ◌<◌, ◌≤◌, ℕ, zero, suc, List, length, get_or, refl, ap, ◌∙◌, arith}
 use Rattle.map_lists.specs.Lists.{Lists}
-use Rattle.map_definitions.specs.Maps.{list_of}
+use Rattle.map_theory.specs.Maps.{list_of}
 use Rattle.contour_runs.specs.Runs.{Step, base, stage_after, IsRun}
 use Rattle.contour_runs.proofs.Places.{vertex_after-new}
 use Rattle.contour_runs.proofs.Stages.{IsStage-run, IsRun-less, count-stage_after}
-use Rattle.shift_points.specs.Shift.{shift_points}
-use Rattle.shift_points.proofs.Steps.{IsShift-run}
-use Rattle.order_tables.specs.Rows.{AreRows, AreAllRows}
+use Rattle.fpp_shift.specs.Shift.{shift_points}
+use Rattle.fpp_shift.proofs.Steps.{IsShift-run}
+use Rattle.order_drawings.specs.Rows.{AreRows, AreAllRows}
 use Rattle.fpp_shift.specs.Offsets.{AreOffsets, IsPut, AreLastOffsets}
 
 -- the step k puts the vertex k + 2 over the row k

@@ -3,7 +3,7 @@ use Rattle.std.proofs.Common.{◌≡◌, ◌≢◌, ◌+◌, ◌-◌, ◌*◌, �
 use Rattle.std.proofs.lemmas.Bool.{cases_eq}
 use Rattle.std.proofs.lemmas.List.{get_or-set_same, get_or-set_other}
 use Rattle.contour_runs.specs.Runs.{Stage}
-use Rattle.shift_points.specs.Shift.{Places}
+use Rattle.fpp_shift.specs.Shift.{Places}
 use Rattle.fpp_shift.specs.Offsets.{IsUnder, AreLastOffsets, AreSums}
 
 module _ (g : Stage) (at : Places) (off high cov : List ℕ) (h : AreLastOffsets g at off high cov) where

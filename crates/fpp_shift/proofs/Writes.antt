@@ -4,7 +4,7 @@ use Rattle.std.proofs.lemmas.List.{get_or-set_same, get_or-set_other, get_or_def
 use Rattle.std.proofs.lemmas.Grind.{get_or_after_one}
 use Rattle.std.proofs.Math.Seq.{take-length}
 use Rattle.contour_runs.specs.Runs.{Step, Stage, after}
-use Rattle.shift_points.specs.Shift.{Places, top_y}
+use Rattle.fpp_shift.specs.Shift.{Places, top_y}
 use Rattle.fpp_shift.specs.Offsets.{AreOffsets, IsPut, ArePassed, far_along, places_after}
 use Rattle.fpp_shift.proofs.Passes.{far_along-more}
 use Rattle.fpp_shift.proofs.Puts.{IsWritten, AreOffsets-after}

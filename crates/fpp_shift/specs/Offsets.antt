@@ -2,9 +2,9 @@
 use Rattle.std.specs.Prelude.{ℕ, suc, ◌+◌, ◌<◌, ◌≤◌, ◌≡◌, ◌≢◌, List, length, slice_index, take, sum_by}
 use Rattle.contour_runs.specs.Runs.{Step, Stage, IsStep}
 use Rattle.contour_runs.specs.Laws.{IsStage}
-use Rattle.shift_points.specs.Shift.{Places, x_after, y_after}
-use Rattle.shift_points.specs.Contours.{IsShift}
-use Rattle.order_tables.specs.Rows.{IsRow}
+use Rattle.fpp_shift.specs.Shift.{Places, x_after, y_after}
+use Rattle.fpp_shift.specs.Contours.{IsShift}
+use Rattle.order_drawings.specs.Rows.{IsRow}
 
 -- A vertex v has gone under a later one, w = `covers` at v, and has the place of the contour that w has. The rising diagonal through w meets the line of the base at x w - y w; v stands its offset to the right of that.
 pub record IsUnder (g : Stage) (at : Places) (offsets covers : List ℕ) (v : ℕ) : Type 0 where

@@ -1,9 +1,9 @@
 -- The points of vertices.
 use Rattle.std.specs.Prelude.{ℕ, ◌<◌, ◌≡◌, List, length, slice_index}
 use Rattle.pg_plane.specs.declared.point.Point.{Point}
-use Rattle.drawings.specs.Drawing.{place}
+use Rattle.plane_drawings.specs.Drawing.{place}
 use Rattle.contour_runs.specs.Runs.{Step}
-use Rattle.shift_points.specs.Shift.{shift_points, point_of}
+use Rattle.fpp_shift.specs.Shift.{shift_points, point_of}
 
 -- each vertex stands at the shift point of its rank, after n steps of a run
 pub record ArePoints (steps : ℕ → Step) (n : ℕ) (ranks : List ℕ) (points : List Point) : Type 0 where

@@ -1,18 +1,18 @@
 //! Drawings by the shift method.
 ghost use Rattle.std.specs.Prelude.{◌≡◌, ◌<◌, ◌+◌, ◌-◌, ◌*◌, ℕ, length, All, pos, IfOk};
-ghost use Rattle.map_definitions.specs.Maps.{Dart, HasDart, vertex_count};
+ghost use Rattle.map_theory.specs.Maps.{Dart, HasDart, vertex_count};
 ghost use Rattle.plane_laws.specs.Completed.{IsCompleted};
 ghost use Rattle.canon_order.specs.Orders.{IsCanonicalOrder, IsRankOf, vertices_of};
 ghost use Rattle.contour_runs.specs.Runs.{Step};
-ghost use Rattle.shift_drawings.specs.ShiftDrawings.{AreShiftPoints, IsShiftDrawing};
-ghost use Rattle.order_tables.specs.Rows.{AreAllRows};
+ghost use Rattle.fpp_shift.specs.ShiftDrawings.{AreShiftPoints, IsShiftDrawing};
+ghost use Rattle.order_drawings.specs.Rows.{AreAllRows};
 ghost use Rattle.fpp_shift.specs.Points.{ArePoints};
 
 use crate::fault::ShiftFault;
 use crate::offsets::find_places;
 use canon_order::Order;
 use half_edges::{Counts, HalfMap, Rotations};
-use order_tables::{order_rows, points_at};
+use order_drawings::order_tables::{order_rows, points_at};
 use pg_plane::{GridFigure, Points};
 use std::alloc::{AllocError, Global};
 
@@ -57,9 +57,9 @@ pub fn shift_draw(alloc: Global, tri: &HalfMap, order: &Order) -> Result<GridFig
     ensures height { IfOk result (λ figure. figure.height ≡ pos (vertex_count tri.now.lists - 2)) }
 {
     tri.facts();
-    order_tables::ranks_are_places();
-    order_runs::order_is_run();
-    shift_drawings::shift_points_draw();
+    order_drawings::order_tables::ranks_are_places();
+    order_drawings::order_runs::order_is_run();
+    crate::shift_drawings::shift_points_draw();
     let n = tri.n() as usize;
     let rows = order_rows(alloc, tri, order)?;
     let points = drawn(alloc, &rows, &order.rank)?;

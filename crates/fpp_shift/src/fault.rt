@@ -3,7 +3,7 @@
 use std::alloc::AllocError;
 
 /// Why a completed map got no drawing by the shift method.
-#[derive(Clone, Copy, Debug, PartialEq, Eq)]
+#[derive(Clone, Copy, PartialEq, Eq)]
 pub enum ShiftFault {
     /// There was not enough memory.
     NoMemory,

@@ -4,6 +4,8 @@
 mod draw;
 mod fault;
 mod offsets;
+pub mod shift_drawings;
+pub mod shift_points;
 
 pub use draw::shift_draw;
 pub use fault::ShiftFault;

@@ -6,8 +6,8 @@
 
 ghost use Rattle.std.specs.Prelude.{◌≡◌, ◌≢◌, ◌<◌, ◌≤◌, ◌+◌, ◌^◌, ℕ, length, slice_index, All, AllPairs};
 ghost use Rattle.contour_runs.specs.Runs.{Step, Stage, after, stage_after};
-ghost use Rattle.shift_points.specs.Shift.{Places, shift_points};
-ghost use Rattle.order_tables.specs.Rows.{AreRows, AreAllRows};
+ghost use Rattle.fpp_shift.specs.Shift.{Places, shift_points};
+ghost use Rattle.order_drawings.specs.Rows.{AreRows, AreAllRows};
 ghost use Rattle.fpp_shift.specs.Offsets.{AreLastOffsets, AreOffsets, ArePassed, IsPut, far_along, places_after};
 
 use half_edges::Rotations;

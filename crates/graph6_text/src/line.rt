@@ -9,7 +9,7 @@ use crate::bits::{body_length, spare_bits};
 use std::alloc::{AllocError, Global};
 
 /// Why bytes are no line of a graph with at most 255 vertices.
-#[derive(Clone, Copy, Debug, PartialEq, Eq)]
+#[derive(Clone, Copy, PartialEq, Eq)]
 pub enum G6Fault {
     /// This byte, counted from 0, is the first that is not six bits plus 63.
     BadByte(usize),

@@ -4,8 +4,8 @@ use Rattle.std.proofs.lemmas.List.{length-map, get_or-map, get_or_past, get_or_d
 use Rattle.std.proofs.lemmas.Option.{cond_some}
 use Rattle.std.proofs.lemmas.Bool.{cases_lt, cases_Bool, true≢false, cond-true, lt-ltb}
 use Rattle.map_lists.specs.Lists.{Lists}
-use Rattle.map_definitions.specs.Maps.{Dart, list_of, HasDart, place_of, follows, entry_after, twin_dart}
-use Rattle.map_definitions.proofs.DartLemmas.{place_of-lt-length, get_or-place_of, place_of-get_or, place_after, place_before, place_before-lt, place_after-before, entry_after-place}
+use Rattle.map_theory.specs.Maps.{Dart, list_of, HasDart, place_of, follows, entry_after, twin_dart}
+use Rattle.map_theory.proofs.DartLemmas.{place_of-lt-length, get_or-place_of, place_of-get_or, place_after, place_before, place_before-lt, place_after-before, entry_after-place}
 use Rattle.half_edges.specs.Map.{Map, dart_at, IsLive, IsHalfMap, next_dart}
 use Rattle.half_edges.specs.Arena.{no_record, no_vertex, vertex_at, twin_of, next_of, prev_of, tail_of, live_of, head_of, dart_of_record, dart_in, steps, walk, IsWalkable, arena_lists, arena_map, IsLinked, IsArena}
 use Rattle.half_edges.specs.declared.arena.DartRecord.{DartRecord}

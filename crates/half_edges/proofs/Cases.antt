@@ -1,7 +1,7 @@
 -- The lists of edited maps, as they were worked out by hand.
 use Rattle.std.proofs.Common.{◌≡◌, true, false, [], ◌∷◌, Some, None, refl}
 use Rattle.map_lists.specs.Lists.{Lists}
-use Rattle.map_definitions.specs.Edges.{without_edge}
+use Rattle.map_theory.specs.Edges.{without_edge}
 use Rattle.half_edges.specs.Edges.{corner_place, with_edge}
 use Rattle.half_edges.specs.Induced.{induced_lists}
 use Rattle.half_edges.specs.declared.edges.Corner.TheVariants.{After}

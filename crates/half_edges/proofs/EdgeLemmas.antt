@@ -3,10 +3,10 @@ use Rattle.std.proofs.Common.{ℕ, ◌+◌, ◌-◌, ◌*◌, ◌<◌, ◌≤◌
 use Rattle.std.proofs.lemmas.List.{take_at}
 use Rattle.std.proofs.lemmas.Option.{some_pair_parts}
 use Rattle.map_lists.specs.Lists.{Lists}
-use Rattle.map_definitions.specs.Maps.{Dart, HasDart, list_of, edge_count}
-use Rattle.map_definitions.specs.Edges.{without_edge}
-use Rattle.map_definitions.proofs.WithoutEdge.{edge_count-without}
-use Rattle.map_definitions.proofs.DartCounts.{dart_count-edge_count, few_darts-simple}
+use Rattle.map_theory.specs.Maps.{Dart, HasDart, list_of, edge_count}
+use Rattle.map_theory.specs.Edges.{without_edge}
+use Rattle.map_theory.proofs.WithoutEdge.{edge_count-without}
+use Rattle.map_theory.proofs.DartCounts.{dart_count-edge_count, few_darts-simple}
 use Rattle.half_edges.specs.Map.{Map, dart_at, IsLive}
 use Rattle.half_edges.specs.Arena.{tail_of, head_of, dart_in, arena_lists, arena_map, IsArena, IsWired}
 use Rattle.half_edges.specs.Edges.{corner_place, IsCorner, corner_tail, corner_entry, IsCornerIn, AreCornersIn}

@@ -1,7 +1,7 @@
 -- The free edges of an arena, where records that are live change.
 use Rattle.std.proofs.Common.{ℕ, zero, suc, ◌<◌, ◌≤◌, ◌≡◌, false, List, length, Option, Some, sym, ap, ◌∙◌, subst, arith}
 use Rattle.map_lists.specs.Lists.{Lists}
-use Rattle.map_definitions.specs.Maps.{Dart, list_of}
+use Rattle.map_theory.specs.Maps.{Dart, list_of}
 use Rattle.half_edges.specs.Arena.{twin_of, next_of, prev_of, live_of, record_at, IsLinked, IsPaired, AreFree, IsArena, IsWired}
 use Rattle.half_edges.specs.declared.arena.DartRecord.{DartRecord}
 use Rattle.half_edges.specs.declared.arena.VertexRecord.{VertexRecord}

@@ -6,9 +6,9 @@ use Rattle.std.proofs.lemmas.List.Sums.{sum_by-set}
 use Rattle.std.proofs.lemmas.Bool.{cases_eq}
 use Rattle.std.proofs.lemmas.Option.{none-some}
 use Rattle.map_lists.specs.Lists.{Lists}
-use Rattle.map_definitions.specs.Maps.{Dart, list_of, HasDart, follows, place_of, edge_count}
-use Rattle.map_definitions.proofs.DartCounts.{dart_count-edge_count}
-use Rattle.map_definitions.proofs.DartLemmas.{place_of-lt-length}
+use Rattle.map_theory.specs.Maps.{Dart, list_of, HasDart, follows, place_of, edge_count}
+use Rattle.map_theory.proofs.DartCounts.{dart_count-edge_count}
+use Rattle.map_theory.proofs.DartLemmas.{place_of-lt-length}
 use Rattle.half_edges.specs.Arena.{vertex_at, twin_of, next_of, prev_of, tail_of, live_of, head_of, dart_in, arena_lists, IsLinked, IsPaired, AreFree, IsArena, IsWired}
 use Rattle.half_edges.specs.Links.{IsSpliced}
 use Rattle.half_edges.specs.Edges.{IsPut, IsPutWithin, with_entry, with_edge, corner_tail, corner_entry, IsCornerIn, AreCornersIn}

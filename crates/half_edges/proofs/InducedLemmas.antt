@@ -4,11 +4,11 @@ use Rattle.std.specs.List.{filter}
 use Rattle.std.proofs.lemmas.List.{length-map, get_or-map, map-append, append-nil}
 use Rattle.std.proofs.lemmas.Bool.{cases_order, true≢false}
 use Rattle.map_lists.specs.Lists.{Lists}
-use Rattle.map_definitions.specs.Maps.{list_of, HasDart, IsSimpleMap}
-use Rattle.map_definitions.proofs.EntryLemmas.{Contains-from_filter, Contains-filter, Contains-from_map, Contains-map, AllPairs-map}
+use Rattle.map_theory.specs.Maps.{list_of, HasDart, IsSimpleMap}
+use Rattle.map_theory.proofs.EntryLemmas.{Contains-from_filter, Contains-filter, Contains-from_map, Contains-map, AllPairs-map}
 use Rattle.std.proofs.lemmas.List.Kept.{AllPairs-filter}
 use Rattle.std.proofs.lemmas.Option.{none-some}
-use Rattle.map_definitions.proofs.DartLemmas.{HasDart-at}
+use Rattle.map_theory.proofs.DartLemmas.{HasDart-at}
 use Rattle.simple_maps.specs.Faults.{first_fault, out_of_range, loop_at, repeated, one_sided}
 use Rattle.simple_maps.proofs.FaultLemmas.{first_fault-IsSimpleMap}
 use Rattle.simple_maps.specs.MapFault.{Names}

@@ -4,8 +4,8 @@ use Rattle.std.proofs.Common.{ℕ, ◌<◌, ◌≡◌, ◌≢◌, cond, eqb, Lis
 use Rattle.std.proofs.lemmas.Option.{none-some, some_pair_parts}
 use Rattle.std.proofs.lemmas.Bool.{cases_eq, cond-true, cond-false, eq-eqb, ne_eqb}
 use Rattle.map_lists.specs.Lists.{Lists}
-use Rattle.map_definitions.specs.Maps.{Dart, list_of, HasDart, follows}
-use Rattle.map_definitions.proofs.EntryMore.{AreEntryMore, has_up, has_down, distinct_up, distinct_down, follows_same, follows_skip}
+use Rattle.map_theory.specs.Maps.{Dart, list_of, HasDart, follows}
+use Rattle.map_theory.proofs.EntryMore.{AreEntryMore, has_up, has_down, distinct_up, distinct_down, follows_same, follows_skip}
 use Rattle.half_edges.specs.Arena.{vertex_at, next_of, prev_of, IsLinked}
 use Rattle.half_edges.specs.Links.{IsVertexSet}
 use Rattle.half_edges.specs.declared.arena.DartRecord.{DartRecord}

@@ -5,9 +5,9 @@ use Rattle.std.proofs.lemmas.Option.{slice_get-get_or, slice_get_within, slice_g
 use Rattle.std.proofs.lemmas.Bool.Decides.{nat_tests}
 use Rattle.std.proofs.lemmas.Bool.{cases_lt, true≢false}
 use Rattle.map_lists.specs.Lists.{Lists}
-use Rattle.map_definitions.specs.Maps.{Dart, list_of, HasDart, darts, darts_before, dart_count, dart_number, edge_count, place_of, follows, entry_after}
-use Rattle.map_definitions.proofs.DartLemmas.{length-darts, IsDartNumber-darts, dart_at_place, place_after, place_before, place_after-before, place_before-lt, place_after-lt, darts_before_end, place_of-get_or, place_of-lt-length, entry_after-place, get_or-place_of, darts_before_more}
-use Rattle.map_definitions.proofs.DartCounts.{dart_count-edge_count, few_darts-simple}
+use Rattle.map_theory.specs.Maps.{Dart, list_of, HasDart, darts, darts_before, dart_count, dart_number, edge_count, place_of, follows, entry_after}
+use Rattle.map_theory.proofs.DartLemmas.{length-darts, IsDartNumber-darts, dart_at_place, place_after, place_before, place_after-before, place_before-lt, place_after-lt, darts_before_end, place_of-get_or, place_of-lt-length, entry_after-place, get_or-place_of, darts_before_more}
+use Rattle.map_theory.proofs.DartCounts.{dart_count-edge_count, few_darts-simple}
 use Rattle.half_edges.specs.Map.{Map, dart_at, IsLive, IsHalfMap, next_dart}
 use Rattle.simple_maps.specs.Tables.{AreTables}
 use Rattle.half_edges.specs.Tables.{map_of}

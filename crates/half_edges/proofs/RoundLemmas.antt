@@ -5,15 +5,15 @@ use Rattle.std.proofs.lemmas.List.{length_push, get_or_push, get_or_append_left,
 use Rattle.map_lists.specs.Lists.{Lists}
 use Rattle.map_lists.specs.Cuts.{cut, AreCuts, joined, ends_from}
 use Rattle.map_lists.proofs.CutLemmas.{length-cut, IsStored, IsStored-cuts, IsStored-cut}
-use Rattle.map_definitions.specs.Maps.{Dart, list_of, darts, dart_count}
-use Rattle.map_definitions.proofs.DartLemmas.{length-darts, place_of_number}
+use Rattle.map_theory.specs.Maps.{Dart, list_of, darts, dart_count}
+use Rattle.map_theory.proofs.DartLemmas.{length-darts, place_of_number}
 use Rattle.simple_maps.specs.Tables.{AreTables, AreSlots}
 use Rattle.simple_maps.proofs.FlatLemmas.{start-is, length-list, end-is, count-is, dart-is}
 use Rattle.half_edges.specs.Arena.{no_record, no_vertex, record_at, vertex_at, twin_of, tail_of}
 use Rattle.half_edges.specs.Rounds.{round_record, AreRounds, AreRoundVertices}
 use Rattle.half_edges.specs.Tables.{table_record, AreTableRecords, AreTableVertices, AreLinked}
 use Rattle.half_edges.proofs.TableArena.{few_entries}
-use Rattle.map_definitions.proofs.DartCounts.{few_darts-simple}
+use Rattle.map_theory.proofs.DartCounts.{few_darts-simple}
 use Rattle.half_edges.specs.declared.arena.DartRecord.{DartRecord}
 use Rattle.half_edges.specs.declared.arena.VertexRecord.{VertexRecord}
 

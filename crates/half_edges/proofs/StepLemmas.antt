@@ -5,12 +5,12 @@ use Rattle.std.proofs.lemmas.List.{length-set, get_or-set_same, get_or-set_other
 use Rattle.std.proofs.lemmas.Bool.{cases_eq, cond-true, cond-false, eq-eqb, ne_eqb}
 use Rattle.std.proofs.lemmas.Option.{none-some}
 use Rattle.map_lists.specs.Lists.{Lists}
-use Rattle.map_definitions.specs.Maps.{Dart, list_of, HasDart, follows, entry_after, place_of}
-use Rattle.map_definitions.specs.Edges.{without_entry}
-use Rattle.map_definitions.proofs.DartLemmas.{place_of-lt-length, entry_after-injective, Contains-entry_after}
-use Rattle.map_definitions.proofs.EntryLemmas.{Contains-here}
-use Rattle.map_definitions.proofs.WithoutEntry.{without-old, distinct-insert, Contains-insert, without-insert, entry_after-insert, first-insert, first-without, first-without_skip}
-use Rattle.map_definitions.proofs.EntryMore.{IsEntryMore, AreEntryMore, AreEntryMore-with, AreEntryMore-without, has_up, follows_skip, length_more}
+use Rattle.map_theory.specs.Maps.{Dart, list_of, HasDart, follows, entry_after, place_of}
+use Rattle.map_theory.specs.Edges.{without_entry}
+use Rattle.map_theory.proofs.DartLemmas.{place_of-lt-length, entry_after-injective, Contains-entry_after}
+use Rattle.map_theory.proofs.EntryLemmas.{Contains-here}
+use Rattle.map_theory.proofs.WithoutEntry.{without-old, distinct-insert, Contains-insert, without-insert, entry_after-insert, first-insert, first-without, first-without_skip}
+use Rattle.map_theory.proofs.EntryMore.{IsEntryMore, AreEntryMore, AreEntryMore-with, AreEntryMore-without, has_up, follows_skip, length_more}
 use Rattle.half_edges.specs.Arena.{vertex_at, next_of, prev_of, tail_of, IsLinked}
 use Rattle.half_edges.specs.Links.{IsSpliced, IsVertexSet}
 use Rattle.half_edges.specs.Edges.{moved_first, with_entry, IsPut, IsTakenOut}

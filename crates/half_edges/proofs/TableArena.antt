@@ -5,9 +5,9 @@ use Rattle.std.proofs.lemmas.Option.{slice_get-get_or, slice_get_within, slice_g
 use Rattle.std.proofs.lemmas.Bool.{cases_lt}
 use Rattle.std.proofs.lemmas.Bool.Decides.{nat_tests}
 use Rattle.map_lists.specs.Lists.{Lists}
-use Rattle.map_definitions.specs.Maps.{Dart, list_of, IsSimpleMap, dart_count, edge_count, follows, twin_dart}
-use Rattle.map_definitions.proofs.DartLemmas.{length-darts}
-use Rattle.map_definitions.proofs.DartCounts.{dart_count-edge_count, length-le-below, few_darts-simple}
+use Rattle.map_theory.specs.Maps.{Dart, list_of, IsSimpleMap, dart_count, edge_count, follows, twin_dart}
+use Rattle.map_theory.proofs.DartLemmas.{length-darts}
+use Rattle.map_theory.proofs.DartCounts.{dart_count-edge_count, length-le-below, few_darts-simple}
 use Rattle.half_edges.specs.Map.{next_dart}
 use Rattle.simple_maps.specs.Tables.{AreTables}
 use Rattle.half_edges.specs.Tables.{map_of, table_record, AreTableRecords, AreTableVertices}

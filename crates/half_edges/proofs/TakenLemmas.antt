@@ -4,9 +4,9 @@ use Rattle.std.proofs.lemmas.List.{get_or-set_other}
 use Rattle.std.proofs.lemmas.Bool.{cases_eq, true≢false}
 use Rattle.std.proofs.lemmas.Option.{none-some}
 use Rattle.map_lists.specs.Lists.{Lists}
-use Rattle.map_definitions.specs.Maps.{Dart, list_of, HasDart}
-use Rattle.map_definitions.specs.Edges.{without_entry, without_edge}
-use Rattle.map_definitions.proofs.WithoutEdge.{IsSimpleMap-without_edge, length-without_edge, dart_old}
+use Rattle.map_theory.specs.Maps.{Dart, list_of, HasDart}
+use Rattle.map_theory.specs.Edges.{without_entry, without_edge}
+use Rattle.map_theory.proofs.WithoutEdge.{IsSimpleMap-without_edge, length-without_edge, dart_old}
 use Rattle.half_edges.specs.Arena.{vertex_at, twin_of, prev_of, tail_of, live_of, head_of, dart_in, IsLinked, IsPaired, AreFree, IsWired}
 use Rattle.half_edges.specs.Links.{IsThreaded}
 use Rattle.half_edges.specs.Edges.{IsTakenOut}

@@ -2,7 +2,7 @@
 use Rattle.std.specs.Prelude.{ℕ, ◌+◌, ◌-◌, ◌<◌, ◌≡◌, ◌≢◌, ◌==◌, true, if◌then◌else◌, List, [], ◌∷◌, length, slice_set, Option, Some, None, option_map}
 use Rattle.std.specs.List.{insert}
 use Rattle.map_lists.specs.Lists.{Lists}
-use Rattle.map_definitions.specs.Maps.{HasDart, list_of, place_of}
+use Rattle.map_theory.specs.Maps.{HasDart, list_of, place_of}
 use Rattle.half_edges.specs.Map.{Map, dart_at, IsLive}
 use Rattle.half_edges.specs.Arena.{vertex_at, next_of, tail_of, head_of, live_of}
 use Rattle.half_edges.specs.Links.{IsSpliced, IsUnspliced, IsVertexSet}

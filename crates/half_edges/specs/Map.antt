@@ -1,7 +1,7 @@
 -- What contracts see of a half-edge map: its rotation lists, the room for more edges, and which id is which dart.
 use Rattle.std.specs.Prelude.{ℕ, ◌+◌, ◌*◌, ◌<◌, ◌≤◌, ◌≡◌, List, length, slice_index, slice_index_or, Option, Some, None, IsSome}
 use Rattle.map_lists.specs.Lists.{Lists}
-use Rattle.map_definitions.specs.Maps.{Dart, IsSimpleMap, HasDart, list_of, follows, edge_count}
+use Rattle.map_theory.specs.Maps.{Dart, IsSimpleMap, HasDart, list_of, follows, edge_count}
 
 pub record Map : Type 0 where
   -- for each vertex its neighbours, clockwise

@@ -1,7 +1,7 @@
 -- What the tables of a half-edge map say.
 use Rattle.std.specs.Prelude.{ℕ, ◌+◌, ◌-◌, ◌<◌, ◌≡◌, ◌==◌, nat_lt, if◌then◌else◌, true, List, map, length, slice_index, slice_index_or, Some}
 use Rattle.map_lists.specs.Lists.{Lists}
-use Rattle.map_definitions.specs.Maps.{Dart, list_of}
+use Rattle.map_theory.specs.Maps.{Dart, list_of}
 use Rattle.half_edges.specs.Map.{Map}
 use Rattle.half_edges.specs.Arena.{record_at, vertex_at}
 use Rattle.half_edges.specs.declared.arena.DartRecord.{DartRecord}

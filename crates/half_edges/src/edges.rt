@@ -1,7 +1,7 @@
 //! Edges that come and go, in constant time and with no memory taken.
 ghost use Rattle.std.specs.Prelude.{◌*◌, vec_len, vec_capacity, ◌≡◌, ◌≢◌, ◌+◌, ◌-◌, ◌<◌, ◌≤◌, ℕ, true, min, max, length, Option, Some, OnOk, OnErr};
-ghost use Rattle.map_definitions.specs.Maps.{HasDart};
-ghost use Rattle.map_definitions.specs.Edges.{without_edge};
+ghost use Rattle.map_theory.specs.Maps.{HasDart};
+ghost use Rattle.map_theory.specs.Edges.{without_edge};
 ghost use Rattle.half_edges.specs.Map.{IsHalfMap, IsLive, dart_at};
 ghost use Rattle.half_edges.specs.Arena.{arena_lists, dart_in, vertex_at, next_of, prev_of, tail_of, head_of, live_of, IsPaired, AreFree, IsWired};
 ghost use Rattle.half_edges.specs.Links.{IsFreer};
@@ -12,7 +12,7 @@ use crate::{DartId, Ends, HalfMap, VertexId};
 use std::alloc::AllocError;
 
 /// A place round a vertex, for a new dart.
-#[derive(Clone, Copy, Debug, PartialEq, Eq)]
+#[derive(Clone, Copy, PartialEq, Eq)]
 pub enum Corner {
     /// Directly after this dart, clockwise.
     After(DartId),

@@ -1,6 +1,6 @@
 //! Half-edge maps.
 ghost use Rattle.std.specs.Prelude.{◌≡◌, ◌+◌, ◌-◌, ◌<◌, ◌≤◌, ◌==◌, nat_lt, if◌then◌else◌, ◌↔◌, ℕ, List, [], length, slice_index, Some, None, IsTrue, IfOk, IfErr, IfSome, MatchOption, option_map};
-ghost use Rattle.map_definitions.specs.Maps.{HasDart, list_of, vertex_count, edge_count, face_step, twin_dart};
+ghost use Rattle.map_theory.specs.Maps.{HasDart, list_of, vertex_count, edge_count, face_step, twin_dart};
 ghost use Rattle.simple_maps.specs.Faults.{first_fault};
 ghost use Rattle.half_edges.specs.Map.{IsHalfMap, IsLive, dart_at, first_dart, next_dart};
 ghost use Rattle.simple_maps.specs.MapFault.{Names};

@@ -1,6 +1,6 @@
 //! Maps made of a map: its copy, and the part of it between some of its vertices.
 ghost use Rattle.std.specs.Prelude.{◌≡◌, ◌+◌, ◌<◌, ◌≤◌, ◌++◌, ◌∷◌, [], ℕ, true, length, slice_index, IfOk, OnOk, All, Contains};
-ghost use Rattle.map_definitions.specs.Maps.{IsSimpleMap, vertex_count};
+ghost use Rattle.map_theory.specs.Maps.{IsSimpleMap, vertex_count};
 ghost use Rattle.half_edges.specs.Map.{IsHalfMap};
 ghost use Rattle.half_edges.specs.Induced.{induced_list, induced_lists, kept_before};
 

@@ -1,3 +1,4 @@
 pub mod InnerLemmas
 pub mod VerdictLemmas
 mod Cases
+mod Refused

@@ -12,7 +12,7 @@ use graph6_text::Graph;
 use map_lists::VertexId;
 
 /// What a witness is worth. Places and paths are counted from 1; what is named is the first of its kind.
-#[derive(Clone, Copy, Debug, PartialEq, Eq)]
+#[derive(Clone, Copy, PartialEq, Eq)]
 pub enum WitnessVerdict {
     /// There are not as many branches and paths as the kind has, or a path does not join its pair.
     BadShape,

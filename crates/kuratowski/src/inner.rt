@@ -9,7 +9,7 @@ use crate::branches::stands;
 use map_lists::{PathList, VertexId, VertexList};
 
 /// A vertex that two paths share, or that is wrong in one.
-#[derive(Clone, Copy, Debug, PartialEq, Eq)]
+#[derive(Clone, Copy, PartialEq, Eq)]
 pub struct SharedVertex {
     /// The path in which it is inner.
     pub first: usize,

@@ -2,7 +2,7 @@
 use map_lists::{PathList, VertexList};
 
 /// Which graph is subdivided.
-#[derive(Clone, Copy, Debug, PartialEq, Eq)]
+#[derive(Clone, Copy, PartialEq, Eq)]
 pub enum Kind {
     /// Five vertices, each two joined.
     K5,

@@ -1,7 +1,7 @@
 -- A map in the making: with the vertices below k put in, it has the lists, the faces and the number of the generator.
 use Rattle.std.proofs.Common.{◌≡◌, ◌≢◌, ℕ, suc, ◌+◌, ◌-◌, ◌<◌, ◌≤◌, List, [], ◌∷◌, ◌++◌, length, get_or, set, refl, sym, ap, ap₂, ◌∙◌, subst, arith, append_assoc, length-set, length-append, get_or-set_same, get_or-set_other}
 use Rattle.std.proofs.lemmas.List.{get_or_append_left, get_or-append-add}
-use Rattle.map_definitions.specs.Maps.{list_of}
+use Rattle.map_theory.specs.Maps.{list_of}
 use Rattle.half_edges.specs.Map.{Map}
 use Rattle.map_gen.specs.Stacked.{Face, Stacking, with_vertex, face_at, next_number, chosen, stack, triangle, stacking}
 use Rattle.map_gen.specs.Faces.{IsFaceOf, IsStacked}

@@ -5,7 +5,7 @@ use Rattle.std.proofs.lemmas.Option.{some_pair_parts}
 use Rattle.map_lists.specs.Lists.{Lists}
 use Rattle.map_lists.specs.declared.ids.DartId.{DartId}
 use Rattle.map_lists.specs.declared.ids.VertexId.{VertexId}
-use Rattle.map_definitions.specs.Maps.{Dart, list_of, place_of, HasDart, IsSimpleMap, twin_dart}
+use Rattle.map_theory.specs.Maps.{Dart, list_of, place_of, HasDart, IsSimpleMap, twin_dart}
 use Rattle.half_edges.specs.Map.{Map, dart_at}
 use Rattle.half_edges.specs.Edges.{with_edge, corner_place}
 use Rattle.half_edges.specs.declared.edges.Corner.{Corner}

@@ -4,8 +4,8 @@ use Rattle.std.proofs.lemmas.Bool.{cases_eq, cases_lt}
 use Rattle.std.proofs.lemmas.Bool.Decides.{nat_tests}
 use Rattle.std.proofs.lemmas.List.{get_or_append_left, get_or-append-add}
 use Rattle.map_lists.specs.Lists.{Lists}
-use Rattle.map_definitions.specs.Maps.{list_of, HasDart, IsSimpleMap, IsPlane, edge_count}
-use Rattle.map_definitions.proofs.DartLemmas.{HasDart-follows}
+use Rattle.map_theory.specs.Maps.{list_of, HasDart, IsSimpleMap, IsPlane, edge_count}
+use Rattle.map_theory.proofs.DartLemmas.{HasDart-follows}
 use Rattle.map_gen.specs.Stacked.{Face, Stacking, with_vertex, with_faces, face_at, next_number, chosen, stack, triangle, stacking}
 use Rattle.map_gen.specs.Faces.{IsFaceOf, IsOn, IsOwned, IsStacked}
 use Rattle.map_gen.specs.Laws.{StackedIsCompleted}

@@ -5,15 +5,15 @@ use Rattle.std.proofs.lemmas.Bool.{cases_lt, eq-eqb}
 use Rattle.std.proofs.lemmas.List.{length-replicate, get_or-replicate, get_or_past}
 use Rattle.std.proofs.lemmas.List.Folds.{sum_by-replicate}
 use Rattle.std.proofs.lemmas.List.Sums.{sum_by-append}
-use Rattle.label_classes.specs.Classes.{label, alone, class_count, count_below, orbits, classes}
-use Rattle.label_classes.proofs.Classes.{length-alone, label-alone}
-use Rattle.label_classes.proofs.Counting.{count_below_all, count_below_same}
+use Rattle.classes.specs.Classes.{label, alone, class_count, count_below, orbits, classes}
+use Rattle.classes.proofs.Classes.{length-alone, label-alone}
+use Rattle.classes.proofs.Counting.{count_below_all, count_below_same}
 use Rattle.map_lists.specs.Lists.{Lists}
-use Rattle.map_definitions.specs.Maps.{darts, darts_since, list_of, HasDart, IsSimpleMap, IsPlane, entry_after, face_step, dart_number, face_images, face_classes, face_count, component_count, edge_count, dart_count, is_empty_list, isolated_count}
-use Rattle.map_definitions.specs.Paths.{SameFace}
-use Rattle.map_definitions.proofs.EntryLemmas.{Contains-here, Contains-there, Contains-cons_cases}
-use Rattle.map_definitions.proofs.WithoutEdge.{IsSimpleMap-without_edge}
-use Rattle.map_edits.proofs.EdgeAdded.{edge_in_face, edge_between}
+use Rattle.map_theory.specs.Maps.{darts, darts_since, list_of, HasDart, IsSimpleMap, IsPlane, entry_after, face_step, dart_number, face_images, face_classes, face_count, component_count, edge_count, dart_count, is_empty_list, isolated_count}
+use Rattle.map_theory.specs.Paths.{SameFace}
+use Rattle.map_theory.proofs.EntryLemmas.{Contains-here, Contains-there, Contains-cons_cases}
+use Rattle.map_theory.proofs.WithoutEdge.{IsSimpleMap-without_edge}
+use Rattle.plane_laws.proofs.EdgeAdded.{edge_in_face, edge_between}
 use Rattle.map_gen.specs.Faces.{IsFaceOf}
 use Rattle.map_gen.proofs.VertexPut.{isolated_apart, two_on, none_in}
 

@@ -3,20 +3,20 @@ use Rattle.std.proofs.Common.{◌≡◌, ◌≢◌, ◌⊎◌, ℕ, suc, ◌+◌
 use Rattle.std.specs.List.{insert}
 use Rattle.std.proofs.lemmas.Bool.{cases_eq}
 use Rattle.std.proofs.lemmas.List.{ext_get_or}
-use Rattle.label_classes.proofs.Classes.{Together-from, same_class-from}
+use Rattle.classes.proofs.Classes.{Together-from, same_class-from}
 use Rattle.map_lists.specs.Lists.{Lists}
-use Rattle.map_definitions.specs.Maps.{list_of, place_of, HasDart, IsSimpleMap, IsPlane, follows, entry_after, edge_count, component_classes, is_empty_list, face_classes, dart_number}
-use Rattle.map_definitions.specs.Paths.{SameFace}
-use Rattle.map_definitions.proofs.DartLemmas.{place_of-lt-length, place_of-here, place_of-there, entry_after-injective, HasDart-follows}
-use Rattle.map_definitions.proofs.EntryLemmas.{Contains-cons_cases}
-use Rattle.map_definitions.proofs.WithoutEntry.{entry_after-without}
-use Rattle.euler_bound.proofs.DartPermutations.{IsLabels-components, isolated_alone}
+use Rattle.map_theory.specs.Maps.{list_of, place_of, HasDart, IsSimpleMap, IsPlane, follows, entry_after, edge_count, component_classes, is_empty_list, face_classes, dart_number}
+use Rattle.map_theory.specs.Paths.{SameFace}
+use Rattle.map_theory.proofs.DartLemmas.{place_of-lt-length, place_of-here, place_of-there, entry_after-injective, HasDart-follows}
+use Rattle.map_theory.proofs.EntryLemmas.{Contains-cons_cases}
+use Rattle.map_theory.proofs.WithoutEntry.{entry_after-without}
+use Rattle.map_theory.proofs.DartPermutations.{IsLabels-components, isolated_alone}
 use Rattle.plane_laws.specs.Laws.{SameComponent}
 use Rattle.plane_laws.proofs.DartPaths.{same_face-step}
-use Rattle.map_edits.specs.WithEdge.{with_edge_at, with_edge_after, IsEdgeMore}
-use Rattle.map_edits.proofs.InsertedEntry.{insert-distinct, insert-new, insert-kept, without-insert, entry_after-insert, entry_after-put}
-use Rattle.map_edits.proofs.WithEdge.{edge_more, length-new, new_first, new_second, new_elsewhere, entry_at-after, edge_put_between, edge_put_in_face}
-use Rattle.map_edits.proofs.Extended.{edge_count-edge}
+use Rattle.plane_laws.specs.WithEdge.{with_edge_at, with_edge_after, IsEdgeMore}
+use Rattle.plane_laws.proofs.InsertedEntry.{insert-distinct, insert-new, insert-kept, without-insert, entry_after-insert, entry_after-put}
+use Rattle.plane_laws.proofs.WithEdge.{edge_more, length-new, new_first, new_second, new_elsewhere, entry_at-after, edge_put_between, edge_put_in_face}
+use Rattle.plane_laws.proofs.Extended.{edge_count-edge}
 use Rattle.map_gen.specs.Stacked.{Face, with_behind, with_vertex}
 use Rattle.map_gen.specs.Faces.{IsFaceOf, IsOn}
 

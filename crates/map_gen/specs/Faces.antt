@@ -1,7 +1,7 @@
 -- Faces of three darts, and how they share the darts of a map.
 use Rattle.std.specs.Prelude.{ℕ, ◌+◌, ◌*◌, ◌<◌, ◌≤◌, ◌≡◌, ◌⊎◌, [], length}
 use Rattle.map_lists.specs.Lists.{Lists}
-use Rattle.map_definitions.specs.Maps.{HasDart, IsSimpleMap, IsPlane, list_of, follows, edge_count}
+use Rattle.map_theory.specs.Maps.{HasDart, IsSimpleMap, IsPlane, list_of, follows, edge_count}
 use Rattle.map_gen.specs.Stacked.{Face, Stacking, face_at}
 
 -- the lists have a face that goes from a to b, to c, and back to a

@@ -1,6 +1,6 @@
 -- What the generator makes, as statements about all its maps.
 use Rattle.std.specs.Prelude.{ℕ, ◌≤◌, ◌≡◌}
-use Rattle.map_definitions.specs.Maps.{vertex_count}
+use Rattle.map_theory.specs.Maps.{vertex_count}
 use Rattle.plane_laws.specs.Completed.{IsCompleted}
 use Rattle.map_gen.specs.Stacked.{stacked}
 

@@ -1,7 +1,7 @@
 -- The maps that the generator makes: triangles in which vertex after vertex is put into a face.
 use Rattle.std.specs.Prelude.{ℕ, zero, suc, ◌+◌, ◌*◌, ◌-◌, ◌/◌, ◌%◌, List, [], ◌∷◌, ◌++◌, length, slice_set, slice_index_or, insert, replicate}
 use Rattle.map_lists.specs.Lists.{Lists}
-use Rattle.map_definitions.specs.Maps.{list_of, place_of}
+use Rattle.map_theory.specs.Maps.{list_of, place_of}
 
 -- a face by its vertices: it goes from a to b, to c, and back to a
 pub record Face : Type 0 where

@@ -1,6 +1,6 @@
 //! How a map is made, vertex by vertex.
 ghost use Rattle.std.specs.Prelude.{◌≡◌, ◌+◌, ◌<◌, ◌≤◌, ℕ, [], length, IfOk, Some};
-ghost use Rattle.map_definitions.specs.Maps.{IsSimpleMap, list_of};
+ghost use Rattle.map_theory.specs.Maps.{IsSimpleMap, list_of};
 ghost use Rattle.half_edges.specs.Map.{dart_at};
 ghost use Rattle.map_gen.specs.Faces.{IsFaceOf};
 ghost use Rattle.map_gen.specs.Stacked.{Face, next_number as next_number_of, chosen as chosen_of, triangle as triangle_of, stacked as stacked_lists};

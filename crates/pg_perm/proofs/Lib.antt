@@ -2,3 +2,4 @@
 mod Marking
 mod Perms
 mod Repeats
+mod Refused

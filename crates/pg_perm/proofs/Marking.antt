@@ -1,6 +1,6 @@
 -- A list of marks, of which one is set, as marks on numbers.
 use Rattle.std.proofs.Common.{ℕ, ◌<◌, Bool, true, false, List, length, set, get_or-set_same, get_or-set_other}
-use Rattle.label_classes.proofs.Marks.{SetsMark}
+use Rattle.classes.proofs.Marks.{SetsMark}
 use Rattle.pg_perm.specs.Marks.{mark}
 
 -- setting an entry sets a mark

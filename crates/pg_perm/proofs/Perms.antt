@@ -4,12 +4,12 @@ use Rattle.std.proofs.lemmas.List.{map-id}
 use Rattle.std.specs.List.{swap, range_with_len}
 use Rattle.std.proofs.lemmas.List.Edits.{length-swap}
 use Rattle.std.proofs.lemmas.List.FromFn.{length-range_with_len, map-range_with_len_more}
-use Rattle.label_classes.proofs.Swap.{IsPermutationOfBelow-swap}
+use Rattle.classes.proofs.Swap.{IsPermutationOfBelow-swap}
 use Rattle.std.proofs.lemmas.Bool.{cases_eq}
-use Rattle.label_classes.specs.Classes.{image, label, orbits, same_class, IsPermutationOfBelow}
-use Rattle.label_classes.proofs.Classes.{same_class-from}
-use Rattle.label_classes.proofs.Orbits.{IsPermuting-image}
-use Rattle.label_classes.proofs.Walks.{walk, IsAway, IsAway-more, not_visited, visited_is_orbit, walk-together, walk_returns, IsPermutationOfBelow-identity}
+use Rattle.classes.specs.Classes.{image, label, orbits, same_class, IsPermutationOfBelow}
+use Rattle.classes.proofs.Classes.{same_class-from}
+use Rattle.classes.proofs.Orbits.{IsPermuting-image}
+use Rattle.classes.proofs.Walks.{walk, IsAway, IsAway-more, not_visited, visited_is_orbit, walk-together, walk_returns, IsPermutationOfBelow-identity}
 use Rattle.pg_perm.specs.Perm.{IsPerm}
 
 -- an exchange of two images

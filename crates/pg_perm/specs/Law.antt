@@ -1,6 +1,6 @@
 -- Two laws of permutations, for all lists of images.
 use Rattle.std.specs.Prelude.{ℕ, ◌+◌, ◌<◌, ◌≡◌, ◌≢◌, List, length, swap}
-use Rattle.label_classes.specs.Classes.{IsPermutationOfBelow, IsPairingOfBelow, orbits, IsSwapOfOrbits, IsWithinEuler}
+use Rattle.classes.specs.Classes.{IsPermutationOfBelow, IsPairingOfBelow, orbits, IsSwapOfOrbits, IsWithinEuler}
 
 -- The law of one swap.
 abbrev pub OneSwap : Type 0

@@ -1,6 +1,6 @@
 -- Marks on the numbers below k, as a list.
 use Rattle.std.specs.Prelude.{ℕ, ◌<◌, ◌≡◌, Bool, true, false, List, length, slice_index_or}
-use Rattle.label_classes.specs.Classes.{image}
+use Rattle.classes.specs.Classes.{image}
 
 -- whether i is marked
 abbrev pub mark : List Bool → ℕ → Bool

@@ -1,6 +1,6 @@
 -- What every permutation keeps.
 use Rattle.std.specs.Prelude.{ℕ, ◌<◌, ◌^◌, List, length}
-use Rattle.label_classes.specs.Classes.{IsPermutationOfBelow}
+use Rattle.classes.specs.Classes.{IsPermutationOfBelow}
 
 -- the images of a bijection of fewer than 2^32 numbers
 pub record IsPerm (images : List ℕ) : Type 0 where

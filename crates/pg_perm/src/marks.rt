@@ -1,6 +1,6 @@
 //! Marks on the numbers below k, which the walk along an orbit sets.
 ghost use Rattle.std.specs.Prelude.{◌≡◌, ◌<◌, ◌^◌, ◌||◌, ℕ, false, length};
-ghost use Rattle.label_classes.specs.Classes.{IsPermutationOfBelow, orbits, orbit_count, same_class};
+ghost use Rattle.classes.specs.Classes.{IsPermutationOfBelow, orbits, orbit_count, same_class};
 ghost use Rattle.pg_perm.specs.Marks.{mark, KeepsMarks};
 
 /// Marks the orbit of `start`, given marks that each step keeps; other marks stay as they are.

@@ -1,7 +1,7 @@
 //! A permutation as its list of images.
 ghost use Rattle.std.specs.Prelude.{◌≡◌, ◌≢◌, ◌+◌, ◌<◌, ◌^◌, IsTrue, IfOk, IfErr, true, false, length, swap};
 ghost use Rattle.std.specs.List.{range_with_len};
-ghost use Rattle.label_classes.specs.Classes.{IsPermutationOfBelow, image, orbits, orbit_count, same_class};
+ghost use Rattle.classes.specs.Classes.{IsPermutationOfBelow, image, orbits, orbit_count, same_class};
 ghost use Rattle.pg_perm.specs.Repeat.{NamesFault};
 
 use crate::PermFault;

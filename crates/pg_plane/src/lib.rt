@@ -4,6 +4,7 @@
 //! coordinates from -2^20 to 2^20. Beside them the figures that drawings are made of.
 #![tactic(auto)]
 
+pub mod face_geometry;
 mod figure;
 mod point;
 

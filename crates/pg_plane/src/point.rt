@@ -5,7 +5,7 @@ ghost use Rattle.pg_plane.specs.Range.{IsWithin, IsInRange, IsDirection};
 
 /// A point of the grid, or a direction. Coordinates are from -2^20 to 2^20, those of a direction from
 /// -2^21 to 2^21, wherever a call asks for it.
-#[derive(Clone, Copy, Debug, PartialEq, Eq)]
+#[derive(Clone, Copy, PartialEq, Eq)]
 pub struct Point {
     /// How far to the right.
     pub x: i32,

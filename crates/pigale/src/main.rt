@@ -1,9 +1,20 @@
-//! Pigale, run on three solids: the status is 0.
+//! Pigale: the words after its name to the top call, standard input to its source, its sink to standard
+//! output, and the number of its status to the caller. Its stored run is on three solids.
 #![tactic(auto)]
 
-use pigale_program::run_program;
+mod edge;
+
+use edge::{exit_code, words_of};
+use pg_io::{ReadAdapter, WriteAdapter};
+use pigale_shell::{Status, pigale};
+use std::env;
 use std::process::ExitCode;
 
 fn main(rt: HostRuntime) -> ExitCode {
-    run_program(rt)
+    let Ok(words) = words_of(rt.alloc(), env::args(&rt)) else {
+        return exit_code(Status::NoMemory);
+    };
+    let mut source = ReadAdapter::new(rt.stdin());
+    let mut sink = WriteAdapter::new(rt.stdout());
+    exit_code(pigale(rt.alloc(), &words, &mut source, &mut sink))
 }

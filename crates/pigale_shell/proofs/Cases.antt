@@ -1,21 +1,21 @@
 -- The text of a run, on worked cases. Each is a computation: the two sides come to the same value.
 use Rattle.std.specs.Prelude.{pos, ◌-◌, ◌≡◌, [], ◌∷◌, ◌++◌, map, codes, refl, Some, None}
 use Rattle.std.proofs.Common.{arith, inr}
-use Rattle.label_classes.specs.Classes.{merge}
+use Rattle.classes.specs.Classes.{merge}
 use Rattle.std.specs.Fmt.{digits}
 use Rattle.map_lists.specs.Lists.{Lists}
-use Rattle.map_definitions.specs.Maps.{entry_after, face_count, component_count}
+use Rattle.map_theory.specs.Maps.{entry_after, face_count, component_count}
 use Rattle.simple_maps.specs.Faults.{first_fault}
 use Rattle.clap.proofs.OnLiterals.{clap_on_literals}
-use Rattle.pigale_shell.specs.Words.{given, job_of}
-use Rattle.pigale_shell.specs.declared.job.Job.TheVariants.{Count, Shift, Gen, Verify, Embed}
-use Rattle.pigale_shell.specs.Numbers.{number_in}
+use Rattle.pigale_words.specs.Words.{given, job_of}
+use Rattle.pigale_words.specs.declared.job.Job.TheVariants.{Count, Shift, Gen, Verify, Embed}
+use Rattle.pigale_words.specs.Numbers.{number_in}
 use Rattle.pigale_shell.specs.Made.{sums_line}
-use Rattle.pigale_shell.specs.declared.form.Form.TheVariants as forms
+use Rattle.pigale_words.specs.declared.form.Form.TheVariants as forms
 use Rattle.pigale_shell.specs.Forms.{commented, line_in}
-use Rattle.figure_lines.specs.declared.ending.Ending.TheVariants.{BadLine}
+use Rattle.line_inputs.specs.declared.figure_lines.ending.Ending.TheVariants.{BadLine}
 use Rattle.pigale_shell.specs.Verify.{verdict_line, verify_last_line}
-use Rattle.graph_lines.specs.declared.ending.Ending.TheVariants.{Limit}
+use Rattle.line_inputs.specs.declared.graph_lines.ending.Ending.TheVariants.{Limit}
 use Rattle.pigale_shell.specs.EmbedText.{IsEmbedBlock, embed_last_line}
 use Rattle.pigale_shell.specs.Text.{count_block, counts_line, refused_line, refusal_line, end_line}
 

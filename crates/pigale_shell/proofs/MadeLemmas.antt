@@ -7,7 +7,7 @@ use Rattle.std.proofs.lemmas.Option.{slice_get_within, get_or_from_slice_get}
 use Rattle.pg_plane.specs.declared.point.Point.{Point}
 use Rattle.map_gen.specs.Stacked.{stacked}
 use Rattle.simple_maps.specs.Faults.{Fault}
-use Rattle.drawing_orders.specs.Refusals.{fault, refusal_after}
+use Rattle.grid_figures.specs.Refusals.{fault, refusal_after}
 use Rattle.map_lists.specs.Lists.{Lists}
 use Rattle.pg_io.specs.Io.{GrowsByPrefix, HasRisen}
 use Rattle.pg_io.proofs.Growth.{GrowsByPrefix-none}

@@ -4,15 +4,15 @@ use Rattle.planar_code.specs.Reading.{Ending as SpokenEnding, well, end_in_recor
 use Rattle.planar_code.specs.State.{at_front}
 use Rattle.planar_code.proofs.ProgressLemmas.{Progress-start, Progress-begins}
 use Rattle.planar_code.proofs.ReadingLemmas.{reading-unique}
-use Rattle.figure_lines.specs.Format.{figures}
-use Rattle.figure_lines.proofs.UniqueLemmas.{reading-unique as figures-unique}
-use Rattle.figure_lines.proofs.ReadLemmas.{begins-none}
+use Rattle.line_inputs.specs.FigureLinesFormat.{figures}
+use Rattle.line_inputs.proofs.FigureLinesUniqueLemmas.{reading-unique as figures-unique}
+use Rattle.line_inputs.proofs.FigureLinesReadLemmas.{begins-none}
 use Rattle.pigale_shell.specs.Verify.{verify_answers}
-use Rattle.graph_lines.specs.Format.{graph_lines}
-use Rattle.graph_lines.proofs.UniqueLemmas.{reading-unique as graphs-unique}
-use Rattle.graph_lines.proofs.ReadLemmas.{begins-none as begins-no-graphs}
+use Rattle.line_inputs.specs.GraphLinesFormat.{graph_lines}
+use Rattle.line_inputs.proofs.GraphLinesUniqueLemmas.{reading-unique as graphs-unique}
+use Rattle.line_inputs.proofs.GraphLinesReadLemmas.{begins-none as begins-no-graphs}
 use Rattle.pigale_shell.specs.EmbedText.{embed_answers}
-use Rattle.pigale_shell.specs.declared.form.Form.{Form}
+use Rattle.pigale_words.specs.declared.form.Form.{Form}
 use Rattle.pg_io.specs.Io.{HasRisen}
 use Rattle.pg_io.proofs.Growth.{GrowsByPrefix-none}
 use Rattle.record_runs.specs.Outcome.{Ports, ports, Outcome as RunOutcome}
@@ -27,10 +27,10 @@ use Rattle.pigale_shell.specs.PlanarCode.{planar_code}
 use Rattle.pigale_shell.specs.Made.{made, made_answers}
 use Rattle.pigale_shell.specs.JobInput.{RecordOf, EndingOf, reads_of, answers_of, reads_planar, left_of}
 use Rattle.pigale_shell.specs.Outcome.{Outcome, GrowsByText, MayEnd, status_of}
-use Rattle.pigale_shell.specs.declared.job.Job.{Job}
-use Rattle.pigale_shell.specs.declared.job.Job.TheVariants.{Count, Shift, Schnyder, Bars, Convex, Rect, Gen, Verify, Embed}
-use Rattle.pigale_shell.specs.declared.job.Status.{Status}
-use Rattle.pigale_shell.specs.declared.job.Status.TheVariants.{Done, SomeRefused, BadWords, BadInput, ReadFault, WriteFault, NoMemory}
+use Rattle.pigale_words.specs.declared.job.Job.{Job}
+use Rattle.pigale_words.specs.declared.job.Job.TheVariants.{Count, Shift, Schnyder, Bars, Convex, Rect, Gen, Verify, Embed}
+use Rattle.pigale_words.specs.declared.job.Status.{Status}
+use Rattle.pigale_words.specs.declared.job.Status.TheVariants.{Done, SomeRefused, BadWords, BadInput, ReadFault, WriteFault, NoMemory}
 
 -- an ending of a reading, as the code has it
 told : SpokenEnding → Ending

@@ -1,16 +1,16 @@
 -- The line of a refusal, put together.
 use Rattle.std.proofs.Common.{◌≡◌, ◌≢◌, ℕ, List, [], ◌∷◌, ◌++◌, codes, decimal, refl, ap, ◌∙◌}
 use Rattle.map_lists.specs.Lists.{Lists}
-use Rattle.drawing_orders.specs.Refusals.{draw_refusal}
-use Rattle.drawing_orders.specs.Names.{Names}
-use Rattle.drawing_orders.specs.declared.refusal.DrawRefusal.{DrawRefusal}
-use Rattle.drawing_orders.specs.declared.refusal.DrawRefusal.TheVariants.{Fault, Small, Genus}
+use Rattle.grid_figures.specs.Refusals.{draw_refusal}
+use Rattle.grid_figures.specs.Names.{Names}
+use Rattle.grid_figures.specs.declared.drawing_orders.refusal.DrawRefusal.{DrawRefusal}
+use Rattle.grid_figures.specs.declared.drawing_orders.refusal.DrawRefusal.TheVariants.{Fault, Small, Genus}
 use Rattle.pigale_shell.specs.Text.{refused_line, refusal_line, IsGridBlock}
 use Rattle.simple_maps.specs.declared.fault.MapFault.{MapFault}
 use Rattle.simple_maps.specs.declared.fault.MapFault.TheVariants.{OutOfRange, Loop, Repeated, OneSided, NoMemory}
 use Rattle.figure_text.specs.declared.figure.GridJob.{GridJob}
 use Rattle.pigale_shell.specs.Forms.{line_in}
-use Rattle.pigale_shell.specs.declared.form.Form.{Form}
+use Rattle.pigale_words.specs.declared.form.Form.{Form}
 use Rattle.pigale_shell.specs.Lines.{fault_bytes, WritesFault, WritesRefusal}
 
 -- a text of the parts of the line is the line

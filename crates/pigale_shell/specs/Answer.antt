@@ -2,21 +2,20 @@
 use Rattle.std.specs.Prelude.{ℕ, List, Bool, not, ◌≡◌, ◌↔◌, IsTrue}
 use Rattle.map_lists.specs.Lists.{Lists}
 use Rattle.record_runs.specs.Texts.{Answers}
-use Rattle.plane_blocks.specs.Blocks.{IsPlaneBlock}
-use Rattle.map_definitions.specs.Maps.{IsPlane}
-use Rattle.tight_maps.specs.Tight.{IsThreeConnected}
-use Rattle.rect_blocks.specs.RectMaps.{IsRectMap}
+use Rattle.conn_parts.specs.Blocks.{IsPlaneBlock}
+use Rattle.map_theory.specs.Maps.{IsPlane}
+use Rattle.convex_peeling.specs.Tight.{IsThreeConnected}
+use Rattle.rect_class.specs.RectMaps.{IsRectMap}
 use Rattle.pigale_shell.specs.BarsText.{IsBarsBlock}
 use Rattle.pigale_shell.specs.ConvexText.{IsConvexBlock}
 use Rattle.pigale_shell.specs.RectsText.{IsRectsBlock}
 use Rattle.pigale_shell.specs.Text.{count_block, count_refuses, IsGridBlock, draw_refuses, last_line}
 use Rattle.pigale_shell.specs.Forms.{line_in}
-use Rattle.pigale_shell.specs.declared.form.Form.{Form}
-use Rattle.pigale_shell.specs.declared.form.Form.TheVariants.{Text}
+use Rattle.pigale_words.specs.Jobs.{job_form}
 use Rattle.pigale_shell.specs.Lines.{ending_of}
 use Rattle.pigale_shell.specs.declared.lines.Ending.{Ending}
-use Rattle.pigale_shell.specs.declared.job.Job.{Job}
-use Rattle.pigale_shell.specs.declared.job.Job.TheVariants.{Count, Shift, Schnyder, Bars, Convex, Rect, Gen, Verify, Embed}
+use Rattle.pigale_words.specs.declared.job.Job.{Job}
+use Rattle.pigale_words.specs.declared.job.Job.TheVariants.{Count, Shift, Schnyder, Bars, Convex, Rect, Gen, Verify, Embed}
 use Rattle.figure_text.specs.declared.figure.GridJob.TheVariants as drawn
 
 -- the text is the job's answer for record k; there is none by a job that reads no such records
@@ -42,18 +41,6 @@ ServesRecord (Rect form) lists served = IsTrue served ↔ IsRectMap lists
 ServesRecord (Gen size number) lists served = ⊥
 ServesRecord Verify lists served = ⊥
 ServesRecord (Embed form) lists served = ⊥
-
--- the form in which the job writes
-abbrev pub job_form : Job → Form
-job_form Count = Text
-job_form (Shift form) = form
-job_form (Schnyder form) = form
-job_form (Bars form) = form
-job_form (Convex form) = form
-job_form (Rect form) = form
-job_form (Gen size number) = Text
-job_form Verify = Text
-job_form (Embed form) = form
 
 -- both, and the last line
 abbrev pub planar_answers : Job → Answers Lists Ending

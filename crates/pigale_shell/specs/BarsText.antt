@@ -3,14 +3,14 @@ use Rattle.std.specs.Prelude.{ℕ, ◌+◌, ◌≡◌, ◌≢◌, ◌⊎◌, Lis
 use Rattle.map_lists.specs.Lists.{Lists}
 use Rattle.pg_plane.specs.declared.figure.BarFigure.{BarFigure}
 use Rattle.simple_maps.specs.declared.fault.MapFault.TheVariants.{NoMemory}
-use Rattle.plane_blocks.specs.Blocks.{IsPlaneBlock, BreaksFirst}
-use Rattle.plane_blocks.specs.declared.refusal.BlockRefusal.{BlockRefusal}
-use Rattle.plane_blocks.specs.declared.refusal.BlockRefusal.TheVariants.{Fault, Small, Genus, NotConnected, CutVertex}
-use Rattle.bar_figures.specs.Figures.{IsBarFigure}
+use Rattle.conn_parts.specs.Blocks.{IsPlaneBlock, BreaksFirst}
+use Rattle.conn_parts.specs.declared.plane_blocks.refusal.BlockRefusal.{BlockRefusal}
+use Rattle.conn_parts.specs.declared.plane_blocks.refusal.BlockRefusal.TheVariants.{Fault, Small, Genus, NotConnected, CutVertex}
+use Rattle.visibility.specs.Figures.{IsBarFigure}
 use Rattle.pigale_shell.specs.Text.{line, word_and_number}
 use Rattle.pigale_shell.specs.Lines.{fault_bytes}
 use Rattle.pigale_shell.specs.Forms.{line_in, bars_in}
-use Rattle.pigale_shell.specs.declared.form.Form.{Form}
+use Rattle.pigale_words.specs.declared.form.Form.{Form}
 
 -- the number and name of a condition of maps in one block, and what it says of the record
 abbrev pub block_refusal_bytes : BlockRefusal → List ℕ

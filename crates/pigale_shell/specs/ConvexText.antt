@@ -1,20 +1,20 @@
 -- What the job `convex` writes for a record: its figure, or the line of the first condition that it breaks.
 use Rattle.std.specs.Prelude.{ℕ, ◌+◌, ◌≡◌, ◌≢◌, ◌⊎◌, List, ◌∷◌, ◌++◌, codes}
 use Rattle.map_lists.specs.Lists.{Lists}
-use Rattle.map_definitions.specs.Maps.{IsPlane}
+use Rattle.map_theory.specs.Maps.{IsPlane}
 use Rattle.pg_plane.specs.declared.figure.GridFigure.{GridFigure}
 use Rattle.simple_maps.specs.declared.fault.MapFault.TheVariants.{NoMemory}
-use Rattle.plane_blocks.specs.declared.refusal.BlockRefusal.TheVariants.{Fault}
-use Rattle.tight_maps.specs.Tight.{IsThreeConnected}
-use Rattle.convex_blocks.specs.Convexity.{BreaksFirst}
-use Rattle.convex_blocks.specs.declared.refusal.ConvexRefusal.{ConvexRefusal}
-use Rattle.convex_blocks.specs.declared.refusal.ConvexRefusal.TheVariants.{Block, SeparatingPair}
-use Rattle.convex_figures.specs.Figures.{IsConvexFigure}
+use Rattle.conn_parts.specs.declared.plane_blocks.refusal.BlockRefusal.TheVariants.{Fault}
+use Rattle.convex_peeling.specs.Tight.{IsThreeConnected}
+use Rattle.convex_class.specs.Convexity.{BreaksFirst}
+use Rattle.convex_class.specs.declared.convex_blocks.refusal.ConvexRefusal.{ConvexRefusal}
+use Rattle.convex_class.specs.declared.convex_blocks.refusal.ConvexRefusal.TheVariants.{Block, SeparatingPair}
+use Rattle.convex_draw.specs.Figures.{IsConvexFigure}
 use Rattle.figure_text.specs.declared.figure.GridJob.TheVariants.{Convex}
 use Rattle.pigale_shell.specs.Text.{line, word_and_number}
 use Rattle.pigale_shell.specs.BarsText.{block_refusal_bytes}
 use Rattle.pigale_shell.specs.Forms.{line_in, grid_in}
-use Rattle.pigale_shell.specs.declared.form.Form.{Form}
+use Rattle.pigale_words.specs.declared.form.Form.{Form}
 
 -- the number and name of a condition, and what it says of the record
 abbrev pub convex_refusal_bytes : ConvexRefusal → List ℕ

@@ -7,17 +7,17 @@ use Rattle.graph6_text.specs.Graphs.{EdgeGraph}
 use Rattle.graph6_text.specs.Lines.{IsLine as IsGraphLine}
 use Rattle.kuratowski.specs.Witnesses.{IsWitness}
 use Rattle.kuratowski.specs.declared.witness.Witness.{Witness}
-use Rattle.graph_lines.specs.declared.ending.Ending.{Ending}
-use Rattle.graph_lines.specs.declared.ending.Ending.TheVariants.{Well, BadLine, Limit, TooLong}
+use Rattle.line_inputs.specs.declared.graph_lines.ending.Ending.{Ending}
+use Rattle.line_inputs.specs.declared.graph_lines.ending.Ending.TheVariants.{Well, BadLine, Limit, TooLong}
 use Rattle.figure_text.specs.Text.{witness_text}
 use Rattle.figure_text.specs.declared.figure.GridJob.TheVariants.{Schnyder}
 use Rattle.svg_out.specs.Svg.{IsWitnessSvg}
-use Rattle.drawing_orders.specs.Refusals.{small}
-use Rattle.embed_figures.specs.Figures.{IsDrawnMap}
+use Rattle.grid_figures.specs.Refusals.{small}
+use Rattle.embed_graph.specs.Figures.{IsDrawnMap}
 use Rattle.pigale_shell.specs.Text.{word_and_number, line, refusal_line, end_line}
 use Rattle.pigale_shell.specs.Forms.{line_in, grid_in}
-use Rattle.pigale_shell.specs.declared.form.Form.{Form}
-use Rattle.pigale_shell.specs.declared.form.Form.TheVariants.{Text, Svg}
+use Rattle.pigale_words.specs.declared.form.Form.{Form}
+use Rattle.pigale_words.specs.declared.form.Form.TheVariants.{Text, Svg}
 
 -- figure k, a witness: its text with the line of the graph, which is a comment where pictures are drawn
 abbrev pub WritesWitness : Form → ℕ → EdgeGraph → Witness → List ℕ → Type 0

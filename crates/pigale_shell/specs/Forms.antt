@@ -7,8 +7,8 @@ use Rattle.pg_plane.specs.declared.figure.RectFigure.{RectFigure}
 use Rattle.figure_text.specs.Text.{grid_text, bars_text, rects_text}
 use Rattle.figure_text.specs.declared.figure.GridJob.{GridJob}
 use Rattle.svg_out.specs.Svg.{grid_svg, bars_svg, rects_svg}
-use Rattle.pigale_shell.specs.declared.form.Form.{Form}
-use Rattle.pigale_shell.specs.declared.form.Form.TheVariants.{Text, Svg}
+use Rattle.pigale_words.specs.declared.form.Form.{Form}
+use Rattle.pigale_words.specs.declared.form.Form.TheVariants.{Text, Svg}
 
 -- a closed line as a comment, which is closed too
 unfoldable pub commented : List ℕ → List ℕ

@@ -1,21 +1,21 @@
 -- What each job reads, and what it writes.
-use Rattle.std.specs.Prelude.{ℕ, ◌<◌, ◌≤◌, Bool, true, false, if◌then◌else◌, List, [], Option, Some}
+use Rattle.std.specs.Prelude.{ℕ, Bool, true, false, if◌then◌else◌, List, [], Option, Some}
 use Rattle.map_lists.specs.Lists.{Lists}
 use Rattle.record_runs.specs.Texts.{Reads, Answers}
 use Rattle.pigale_shell.specs.Answer.{planar_answers}
 use Rattle.pigale_shell.specs.PlanarCode.{planar_code}
 use Rattle.figure_text.specs.declared.figure.Figure.{Figure}
-use Rattle.figure_lines.specs.declared.ending.Ending.{Ending as FigureEnding}
-use Rattle.figure_lines.specs.Format.{figures}
+use Rattle.line_inputs.specs.declared.figure_lines.ending.Ending.{Ending as FigureEnding}
+use Rattle.line_inputs.specs.FigureLinesFormat.{figures}
 use Rattle.graph6_text.specs.Graphs.{EdgeGraph}
-use Rattle.graph_lines.specs.declared.ending.Ending.{Ending as GraphEnding}
-use Rattle.graph_lines.specs.Format.{graph_lines}
+use Rattle.line_inputs.specs.declared.graph_lines.ending.Ending.{Ending as GraphEnding}
+use Rattle.line_inputs.specs.GraphLinesFormat.{graph_lines}
 use Rattle.pigale_shell.specs.EmbedText.{embed_answers}
 use Rattle.pigale_shell.specs.Made.{made, made_answers}
 use Rattle.pigale_shell.specs.Verify.{verify_answers}
 use Rattle.pigale_shell.specs.declared.lines.Ending.{Ending}
-use Rattle.pigale_shell.specs.declared.job.Job.{Job}
-use Rattle.pigale_shell.specs.declared.job.Job.TheVariants.{Count, Shift, Schnyder, Bars, Convex, Rect, Gen, Verify, Embed}
+use Rattle.pigale_words.specs.declared.job.Job.{Job}
+use Rattle.pigale_words.specs.declared.job.Job.TheVariants.{Count, Shift, Schnyder, Bars, Convex, Rect, Gen, Verify, Embed}
 
 -- it reads an input; a job that reads none has the empty input, and leaves the source alone
 abbrev pub reads_input : Job → Bool
@@ -44,18 +44,6 @@ reads_planar (Rect form) = true
 reads_planar (Gen size number) = false
 reads_planar Verify = false
 reads_planar (Embed form) = false
-
--- a map that it makes has from 3 to 4095 vertices
-abbrev pub HasSize : Job → Type 0
-HasSize Count = Unit {0}
-HasSize (Shift form) = Unit {0}
-HasSize (Schnyder form) = Unit {0}
-HasSize (Bars form) = Unit {0}
-HasSize (Convex form) = Unit {0}
-HasSize (Rect form) = Unit {0}
-HasSize (Gen size number) = (3 ≤ size) × (size < 4096)
-HasSize Verify = Unit {0}
-HasSize (Embed form) = Unit {0}
 
 -- a record of its input
 abbrev pub RecordOf : Job → Type 0

@@ -1,8 +1,5 @@
 -- What the top call does, in the words of its clauses.
-pub mod Status
 pub mod Lines
-pub mod Numbers
-pub mod Words
 pub mod Forms
 pub mod Answer
 pub mod PlanarCode

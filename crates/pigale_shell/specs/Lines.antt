@@ -5,9 +5,9 @@ use Rattle.planar_code.specs.Reading.{Ending as SpokenEnding, well, end_in_recor
 use Rattle.pigale_shell.specs.Text.{fault_text, refused_line, refusal_line}
 use Rattle.simple_maps.specs.declared.fault.MapFault.{MapFault}
 use Rattle.simple_maps.specs.declared.fault.MapFault.TheVariants.{OutOfRange, Loop, Repeated, OneSided, NoMemory}
-use Rattle.drawing_orders.specs.Refusals.{small, genus_above}
-use Rattle.drawing_orders.specs.declared.refusal.DrawRefusal.{DrawRefusal}
-use Rattle.drawing_orders.specs.declared.refusal.DrawRefusal.TheVariants.{Fault, Small, Genus}
+use Rattle.grid_figures.specs.Refusals.{small, genus_above}
+use Rattle.grid_figures.specs.declared.drawing_orders.refusal.DrawRefusal.{DrawRefusal}
+use Rattle.grid_figures.specs.declared.drawing_orders.refusal.DrawRefusal.TheVariants.{Fault, Small, Genus}
 use Rattle.pigale_shell.specs.declared.lines.Ending.{Ending}
 use Rattle.pigale_shell.specs.declared.lines.Ending.TheVariants.{Well, EndInRecord, BadCount, TooLong}
 

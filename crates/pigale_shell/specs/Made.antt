@@ -5,7 +5,7 @@ use Rattle.map_lists.specs.Lists.{Lists}
 use Rattle.map_gen.specs.Stacked.{stacked}
 use Rattle.pg_plane.specs.declared.point.Point.{Point}
 use Rattle.pg_plane.specs.declared.figure.GridFigure.{GridFigure}
-use Rattle.shift_figures.specs.Figures.{IsShiftFigure}
+use Rattle.grid_figures.specs.ShiftFiguresFigures.{IsShiftFigure}
 use Rattle.record_runs.specs.Texts.{Reads, Answers}
 use Rattle.planar_code.specs.Reading.{well}
 use Rattle.pigale_shell.specs.Text.{word_and_number, line, count_line, last_line}

@@ -6,9 +6,9 @@ use Rattle.record_runs.specs.declared.run.RunEnd.TheVariants as ended
 use Rattle.pigale_shell.specs.Text.{bad_words_line}
 use Rattle.pg_io.specs.Io.{WhereTold, GrowsByPrefix}
 use Rattle.pigale_shell.specs.JobInput.{EndingOf, reads_of, answers_of, left_of}
-use Rattle.pigale_shell.specs.declared.job.Job.{Job}
-use Rattle.pigale_shell.specs.declared.job.Status.{Status}
-use Rattle.pigale_shell.specs.declared.job.Status.TheVariants.{Done, SomeRefused, BadWords, BadInput, ReadFault, WriteFault, NoMemory}
+use Rattle.pigale_words.specs.declared.job.Job.{Job}
+use Rattle.pigale_words.specs.declared.job.Status.{Status}
+use Rattle.pigale_words.specs.declared.job.Status.TheVariants.{Done, SomeRefused, BadWords, BadInput, ReadFault, WriteFault, NoMemory}
 
 -- The input has this ending, the job refuses this many of its records, and the sink grew by the whole text:
 -- one block for each record, in order, and the last line.

@@ -3,16 +3,16 @@ use Rattle.std.specs.Prelude.{ℕ, ◌+◌, ◌≡◌, ◌≢◌, ◌⊎◌, Lis
 use Rattle.map_lists.specs.Lists.{Lists}
 use Rattle.pg_plane.specs.declared.figure.RectFigure.{RectFigure}
 use Rattle.simple_maps.specs.declared.fault.MapFault.TheVariants.{NoMemory}
-use Rattle.plane_blocks.specs.declared.refusal.BlockRefusal.TheVariants.{Fault}
-use Rattle.rect_blocks.specs.RectMaps.{IsRectMap}
-use Rattle.rect_blocks.specs.Refusals.{BreaksRect}
-use Rattle.rect_blocks.specs.declared.refusal.RectRefusal.{RectRefusal}
-use Rattle.rect_blocks.specs.declared.refusal.RectRefusal.TheVariants.{Block, OuterNotQuad, NotTriangle, SeparatingTriangle, NoInner}
-use Rattle.rect_figures.specs.Figures.{IsRectFigure}
+use Rattle.conn_parts.specs.declared.plane_blocks.refusal.BlockRefusal.TheVariants.{Fault}
+use Rattle.rect_class.specs.RectMaps.{IsRectMap}
+use Rattle.rect_class.specs.Refusals.{BreaksRect}
+use Rattle.rect_class.specs.declared.refusal.RectRefusal.{RectRefusal}
+use Rattle.rect_class.specs.declared.refusal.RectRefusal.TheVariants.{Block, OuterNotQuad, NotTriangle, SeparatingTriangle, NoInner}
+use Rattle.rect_dual.specs.Figures.{IsRectFigure}
 use Rattle.pigale_shell.specs.Text.{line, word_and_number}
 use Rattle.pigale_shell.specs.BarsText.{block_refusal_bytes}
 use Rattle.pigale_shell.specs.Forms.{line_in, rects_in}
-use Rattle.pigale_shell.specs.declared.form.Form.{Form}
+use Rattle.pigale_words.specs.declared.form.Form.{Form}
 
 -- the number and name of a condition, and what it says of the record
 abbrev pub rect_refusal_bytes : RectRefusal → List ℕ

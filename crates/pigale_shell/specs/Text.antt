@@ -1,18 +1,18 @@
 -- The bytes that a run writes: a block for each record, in order, and a last line.
 use Rattle.std.specs.Prelude.{ℕ, ◌+◌, ◌≡◌, Bool, List, [], ◌∷◌, ◌++◌, codes, decimal, Option, Some, None, is_some}
 use Rattle.map_lists.specs.Lists.{Lists}
-use Rattle.map_definitions.specs.Maps.{vertex_count, edge_count, face_count, component_count, genus}
+use Rattle.map_theory.specs.Maps.{vertex_count, edge_count, face_count, component_count, genus}
 use Rattle.simple_maps.specs.Faults.{Fault, out_of_range, loop_at, repeated, one_sided, first_fault}
 use Rattle.pg_plane.specs.declared.figure.GridFigure.{GridFigure}
-use Rattle.shift_figures.specs.Figures.{IsShiftFigure}
-use Rattle.schnyder_figures.specs.Figures.{IsSchnyderFigure}
-use Rattle.convex_figures.specs.Figures.{IsConvexFigure}
-use Rattle.drawing_orders.specs.Refusals.{Refusal, small, genus_above, draw_refusal}
-use Rattle.drawing_orders.specs.Refusals as why
+use Rattle.grid_figures.specs.ShiftFiguresFigures.{IsShiftFigure}
+use Rattle.grid_figures.specs.SchnyderFiguresFigures.{IsSchnyderFigure}
+use Rattle.convex_draw.specs.Figures.{IsConvexFigure}
+use Rattle.grid_figures.specs.Refusals.{Refusal, small, genus_above, draw_refusal}
+use Rattle.grid_figures.specs.Refusals as why
 use Rattle.figure_text.specs.declared.figure.GridJob.{GridJob}
 use Rattle.figure_text.specs.declared.figure.GridJob.TheVariants.{Shift, Schnyder, Convex}
 use Rattle.pigale_shell.specs.Forms.{line_in, grid_in}
-use Rattle.pigale_shell.specs.declared.form.Form.{Form}
+use Rattle.pigale_words.specs.declared.form.Form.{Form}
 use Rattle.planar_code.specs.Reading.{Ending, well, end_in_record, bad_count, too_long}
 
 -- a word, a space and a number

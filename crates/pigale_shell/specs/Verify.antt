@@ -12,8 +12,8 @@ use Rattle.kuratowski.specs.declared.check.WitnessVerdict.TheVariants.{BadShape 
 use Rattle.draw_check.specs.declared.verdict.Verdict.{Verdict}
 use Rattle.draw_check.specs.declared.verdict.Verdict.TheVariants.{OutOfGrid, SamePlace, OnEdge, Cross, Turned, Yes as NoFault}
 use Rattle.figure_text.specs.declared.figure.Figure.{Figure}
-use Rattle.figure_lines.specs.declared.ending.Ending.{Ending}
-use Rattle.figure_lines.specs.declared.ending.Ending.TheVariants.{Well, BadLine, Limit, EndInFigure, TooLong}
+use Rattle.line_inputs.specs.declared.figure_lines.ending.Ending.{Ending}
+use Rattle.line_inputs.specs.declared.figure_lines.ending.Ending.TheVariants.{Well, BadLine, Limit, EndInFigure, TooLong}
 use Rattle.figure_verdicts.specs.Validity.{IsValidFigure}
 use Rattle.figure_verdicts.specs.Verdicts.{IsFigureVerdict}
 use Rattle.figure_verdicts.specs.declared.verdict.FigureVerdict.{FigureVerdict}

@@ -2,44 +2,44 @@
 ghost use Rattle.std.specs.Prelude.{◌≡◌, ◌<◌, ◌≤◌, ◌++◌, ◌↔◌, List, ℕ, length, true, false, not, None, IsTrue, IsFalse, IfOk, IfErr, OnOk, OnErr};
 ghost use Rattle.pigale_shell.specs.Text.{count_block, count_refuses, IsOrderJob, IsFigureOf, IsGridBlock, draw_refuses};
 ghost use Rattle.map_lists.specs.Lists.{Lists};
-ghost use Rattle.drawing_orders.specs.Refusals.{draw_refusal};
-ghost use Rattle.drawing_orders.specs.Names.{Names};
+ghost use Rattle.grid_figures.specs.Refusals.{draw_refusal};
+ghost use Rattle.grid_figures.specs.Names.{Names};
 ghost use Rattle.pigale_shell.specs.Answer.{IsBlock, ServesRecord};
 ghost use Rattle.pigale_shell.specs.JobInput.{reads_planar};
 ghost use Rattle.pigale_shell.specs.Forms.{line_in as line_by, grid_in, bars_in};
 ghost use Rattle.pigale_shell.specs.BarsText.{IsBarsBlock};
-ghost use Rattle.plane_blocks.specs.Blocks.{IsPlaneBlock, BreaksFirst};
-ghost use Rattle.map_definitions.specs.Maps.{IsPlane};
-ghost use Rattle.tight_maps.specs.Tight.{IsThreeConnected};
-ghost use Rattle.convex_blocks.specs.Convexity.{BreaksFirst as BreaksConvex};
-ghost use Rattle.convex_figures.specs.Figures.{IsConvexFigure};
+ghost use Rattle.conn_parts.specs.Blocks.{IsPlaneBlock, BreaksFirst};
+ghost use Rattle.map_theory.specs.Maps.{IsPlane};
+ghost use Rattle.convex_peeling.specs.Tight.{IsThreeConnected};
+ghost use Rattle.convex_class.specs.Convexity.{BreaksFirst as BreaksConvex};
+ghost use Rattle.convex_draw.specs.Figures.{IsConvexFigure};
 ghost use Rattle.pigale_shell.specs.ConvexText.{IsConvexBlock};
-ghost use Rattle.rect_blocks.specs.RectMaps.{IsRectMap};
-ghost use Rattle.rect_blocks.specs.Refusals.{BreaksRect};
-ghost use Rattle.rect_figures.specs.Figures.{IsRectFigure};
+ghost use Rattle.rect_class.specs.RectMaps.{IsRectMap};
+ghost use Rattle.rect_class.specs.Refusals.{BreaksRect};
+ghost use Rattle.rect_dual.specs.Figures.{IsRectFigure};
 ghost use Rattle.pigale_shell.specs.RectsText.{IsRectsBlock};
-ghost use Rattle.bar_figures.specs.Figures.{IsBarFigure};
+ghost use Rattle.visibility.specs.Figures.{IsBarFigure};
 
-use super::form::{Form, line_in, print_bars_in, print_grid_in, print_rects_in};
-use super::job::Job;
+use super::form::{line_in, print_bars_in, print_grid_in, print_rects_in};
 use super::lines::{
     block_refusal_line, convex_refusal_line, count_line, drawing_refusal_line, rect_refusal_line,
     refusal_line,
 };
-use bar_figures::bar_figure;
-use convex_blocks::{ConvexRefusal, three_connected_break_nothing};
-use convex_figures::convex_figure;
-use drawing_orders::{DrawRefusal, no_refusal_is_plane};
+use conn_parts::plane_blocks::{BlockRefusal, blocks_break_nothing};
+use convex_class::convex_blocks::{ConvexRefusal, three_connected_break_nothing};
+use convex_draw::convex_figures::convex_figure;
 use euler_faces::Counter;
 use figure_text::GridJob;
+use grid_figures::drawing_orders::{DrawRefusal, no_refusal_is_plane};
+use grid_figures::schnyder_figures::schnyder_figure;
+use grid_figures::shift_figures::shift_figure;
 use half_edges::{MapFault, Rotations};
 use pg_plane::{BarFigure, GridFigure, Points, RectFigure};
-use plane_blocks::{BlockRefusal, blocks_break_nothing};
-use rect_blocks::RectRefusal;
-use rect_figures::rect_figure;
-use schnyder_figures::schnyder_figure;
-use shift_figures::shift_figure;
+use pigale_words::{Form, Job};
+use rect_class::RectRefusal;
+use rect_dual::figures::rect_figure;
 use std::alloc::{AllocError, Global};
+use visibility::bar_figures::bar_figure;
 
 /// Appends the block of a job over planar_code for a record with these lists, which are from 1 to 4095, and
 /// answers whether the record was served. The record's `number` is from 1 to 16777216. After want
@@ -399,7 +399,7 @@ fn refuse_rects(
         → IsTrue served ↔ IsRectMap lists) }
     ensures err { OnErr result (out.new.items ≡ out.old.items) }
 {
-    rect_blocks::blocks_break_nothing();
+    rect_class::blocks_break_nothing();
     match refusal {
         RectRefusal::Block(BlockRefusal::Fault(MapFault::NoMemory)) => Err(AllocError),
         _ => refuse_in(alloc, form, rect_refusal_line(alloc, number, refusal)?, out),

@@ -2,23 +2,24 @@
 ghost use Rattle.std.specs.Prelude.{◌≡◌, ◌↔◌, ◌++◌, ◌<◌, ◌≤◌, List, ℕ, [], true, false, IsTrue, OnOk, OnErr, IfOk};
 ghost use Rattle.map_lists.specs.Lists.{Lists};
 ghost use Rattle.kuratowski.specs.Witnesses.{IsWitness};
-ghost use Rattle.embed_figures.specs.Figures.{IsDrawnMap, IsEmbedFigure};
+ghost use Rattle.embed_graph.specs.Figures.{IsDrawnMap, IsEmbedFigure};
 ghost use Rattle.pigale_shell.specs.Forms.{line_in as line_by};
-ghost use Rattle.drawing_orders.specs.Refusals.{small};
+ghost use Rattle.grid_figures.specs.Refusals.{small};
 ghost use Rattle.pigale_shell.specs.Text.{refusal_line as refusal_line_of};
 ghost use Rattle.pigale_shell.specs.EmbedText.{WritesWitness, IsDrawnText, IsRefutedText, IsSmallRefused, IsFigured, IsEmbedBlock, embed_last_line as last_line_of};
 
 use super::answer::refuse_in;
-use super::form::{Form, line_in, print_grid_in, print_witness_in};
+use super::form::{line_in, print_grid_in, print_witness_in};
 use super::lines::{drawing_refusal_line, end_line, stop_line};
-use drawing_orders::DrawRefusal;
-use embed_figures::{EmbedFigure, embed_figure};
+use embed_graph::embed_figures::{EmbedFigure, embed_figure};
 use figure_text::GridJob;
-use graph_lines::{Ending, GraphReader};
 use graph6_text::Graph;
+use grid_figures::drawing_orders::DrawRefusal;
 use kuratowski::Witness;
+use line_inputs::graph_lines::{Ending, GraphReader};
 use map_lists::Rotations;
 use pg_plane::GridFigure;
+use pigale_words::Form;
 use record_runs::{Format, Job as RecordJob, Taken};
 use std::alloc::{AllocError, Global};
 
@@ -168,7 +169,7 @@ pub struct GraphSource {
 }
 
 impl GraphSource {
-    ghost use Rattle.graph_lines.specs.State.{IsAt};
+    ghost use Rattle.line_inputs.specs.GraphLinesState.{IsAt};
 
     /// A reader before the first byte. It takes no memory.
     pub fn new(alloc: Global) -> GraphSource
@@ -181,9 +182,9 @@ impl GraphSource {
 }
 
 impl Format for GraphSource {
-    ghost use Rattle.graph_lines.specs.State.{IsAt, ending_by};
-    ghost use Rattle.graph_lines.specs.Format.{graph_lines, IsAny};
-    ghost use Rattle.graph_lines.proofs.ReadLemmas.{IsAt-reads, IsAt-begins, reading-begins};
+    ghost use Rattle.line_inputs.specs.GraphLinesState.{IsAt, ending_by};
+    ghost use Rattle.line_inputs.specs.GraphLinesFormat.{graph_lines, IsAny};
+    ghost use Rattle.line_inputs.proofs.GraphLinesReadLemmas.{IsAt-reads, IsAt-begins, reading-begins};
 
     type Record = Graph;
 

@@ -1,6 +1,6 @@
 //! In which form a job writes.
 ghost use Rattle.std.specs.Prelude.{◌≡◌, ◌++◌, List, ℕ, length, OnOk, OnErr, IfOk};
-ghost use Rattle.map_definitions.specs.Maps.{IsSimpleMap};
+ghost use Rattle.map_theory.specs.Maps.{IsSimpleMap};
 ghost use Rattle.svg_out.specs.Svg.{HasColumns};
 ghost use Rattle.pigale_shell.specs.Forms.{commented as comment_of, line_in as line_by, grid_in, bars_in, rects_in};
 ghost use Rattle.figure_text.specs.Text.{HasRects};
@@ -11,17 +11,9 @@ use graph6_text::Graph;
 use half_edges::Rotations;
 use kuratowski::Witness;
 use pg_plane::{BarFigure, Points, RectFigure};
+use pigale_words::Form;
 use std::alloc::{AllocError, Global};
 use svg_out::{svg_bars, svg_grid, svg_rects, svg_witness};
-
-/// How a job that draws writes its figures.
-#[derive(Clone, Copy, Debug, PartialEq, Eq)]
-pub enum Form {
-    /// As lines of text.
-    Text,
-    /// As SVG, and all other lines as comments.
-    Svg,
-}
 
 // A line as a comment.
 fn commented(alloc: Global, line: &[u8]) -> Result<Vec<u8>, AllocError>

@@ -4,18 +4,13 @@
 mod answer;
 mod embed;
 mod form;
-mod job;
 mod lines;
 mod made;
-mod numbers;
 mod planar;
 mod run;
 mod top;
 mod verify;
-mod words;
 
 pub use answer::answer_record;
-pub use form::Form;
-pub use job::{Job, Status, WordFault};
+pub use pigale_words::{Form, Job, Status, WordFault, count_words, words_to_job};
 pub use top::pigale;
-pub use words::{count_words, words_to_job};

@@ -1,23 +1,23 @@
 //! The lines that a run writes.
 ghost use Rattle.std.specs.Prelude.{◌≡◌, ◌≢◌, ◌+◌, ◌++◌, ◌∷◌, [], OnOk, IfOk, codes, decimal};
 ghost use Rattle.pigale_shell.specs.Text.{counts_line, refused_line, bad_words_line, last_line as last_line_of};
-ghost use Rattle.map_definitions.specs.Maps.{genus_of};
+ghost use Rattle.map_theory.specs.Maps.{genus_of};
 ghost use Rattle.pigale_shell.specs.BarsText.{block_refusal_bytes, block_refusal_line as block_refusal_of};
 ghost use Rattle.pigale_shell.specs.ConvexText.{convex_refusal_bytes, convex_refusal_line as convex_refusal_of};
 ghost use Rattle.pigale_shell.specs.RectsText.{rect_refusal_bytes, rect_refusal_line as rect_refusal_of};
 ghost use Rattle.pigale_shell.specs.Lines.{fault_bytes, WritesFault, WritesRefusal, ending_of};
 
-use convex_blocks::ConvexRefusal;
-use drawing_orders::DrawRefusal;
+use conn_parts::plane_blocks::BlockRefusal;
+use convex_class::convex_blocks::ConvexRefusal;
 use euler_faces::EulerCount;
+use grid_figures::drawing_orders::DrawRefusal;
 use half_edges::MapFault;
 use itoa::Buffer;
-use plane_blocks::BlockRefusal;
-use rect_blocks::RectRefusal;
+use rect_class::RectRefusal;
 use std::alloc::{AllocError, Global};
 
 /// How the bytes of an input end.
-#[derive(Clone, Copy, Debug, PartialEq, Eq)]
+#[derive(Clone, Copy, PartialEq, Eq)]
 pub enum Ending {
     /// After the last record.
     Well,

@@ -1,10 +1,10 @@
 //! The job that makes its one record: a map, and the sums over its drawing.
 ghost use Rattle.std.specs.Prelude.{◌≡◌, ◌⊎◌, ◌<◌, ◌≤◌, ◌++◌, ◌∷◌, ℕ, List, [], length, Some, None, pos, neg_ℤ, ◌+ℤ◌, ◌≤ℤ◌, OnOk, IfOk};
 ghost use Rattle.std.specs.Fmt.{signed_decimal};
-ghost use Rattle.map_definitions.specs.Maps.{vertex_count, edge_count, face_count, component_count};
+ghost use Rattle.map_theory.specs.Maps.{vertex_count, edge_count, face_count, component_count};
 ghost use Rattle.simple_maps.specs.Faults.{first_fault};
-ghost use Rattle.shift_figures.specs.Figures.{IsShiftFigure};
-ghost use Rattle.drawing_orders.specs.Refusals.{draw_refusal};
+ghost use Rattle.grid_figures.specs.ShiftFiguresFigures.{IsShiftFigure};
+ghost use Rattle.grid_figures.specs.Refusals.{draw_refusal};
 ghost use Rattle.map_gen.specs.Stacked.{stacked as stacked_lists};
 ghost use Rattle.record_runs.specs.Outcome.{ports, Outcome as RunOutcome};
 ghost use Rattle.planar_code.specs.Reading.{well};
@@ -12,15 +12,15 @@ ghost use Rattle.pigale_shell.specs.Text.{last_line as last_line_of};
 ghost use Rattle.pigale_shell.specs.Made.{total_x, total_y, sums_line as sums_line_of, IsMadeBlock, made, made_answers};
 
 use super::lines::{Ending, count_line, last_line, push_number};
-use drawing_orders::DrawRefusal;
 use euler_faces::{EulerCount, count_lists};
+use grid_figures::drawing_orders::DrawRefusal;
+use grid_figures::shift_figures::shift_figure;
 use half_edges::{MapFault, Rotations};
 use itoa::Buffer;
 use map_gen::stacked;
 use pg_io::{Sink, put_all};
 use pg_plane::{GridFigure, Points};
 use record_runs::RunEnd;
-use shift_figures::shift_figure;
 use std::alloc::{AllocError, Global};
 
 // A sum with one number more.
@@ -122,7 +122,7 @@ fn text(alloc: Global, size: u16, number: u32) -> Result<Vec<u8>, AllocError>
     ensures { IfOk result (λ text. (block : List ℕ) × IsMadeBlock 1 (stacked_lists size number) block × (text.items ≡ block ++ last_line_of 1 0 well)) }
 {
     map_gen::stacked_is_completed();
-    drawing_orders::no_refusal_is_plane();
+    grid_figures::drawing_orders::no_refusal_is_plane();
     let lists = stacked(alloc, size, number)?;
     let mut text = block(alloc, 1, &lists)?;
     text.extend_from_slice(&last_line(alloc, 1, 0, Ending::Well)?)?;

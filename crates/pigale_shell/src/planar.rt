@@ -4,10 +4,10 @@ ghost use Rattle.pigale_shell.specs.JobInput.{reads_planar};
 
 use super::answer::answer_with;
 use super::form::line_in;
-use super::job::Job;
 use super::lines::{Ending, last_line};
 use euler_faces::Counter;
 use map_lists::Rotations;
+use pigale_words::Job;
 use planar_code::{RecordReader, Taken as Found};
 use record_runs::{Format, Job as RecordJob, Taken};
 use std::alloc::{AllocError, Global};

@@ -5,20 +5,20 @@ ghost use Rattle.record_runs.specs.Texts.{input_limit};
 ghost use Rattle.record_runs.specs.Outcome.{ports, Outcome as RunOutcome};
 ghost use Rattle.pigale_shell.specs.Answer.{planar_answers};
 ghost use Rattle.pigale_shell.specs.PlanarCode.{planar_code};
-ghost use Rattle.figure_lines.specs.Format.{figures};
+ghost use Rattle.line_inputs.specs.FigureLinesFormat.{figures};
 ghost use Rattle.pigale_shell.specs.Verify.{verify_answers};
-ghost use Rattle.graph_lines.specs.Format.{graph_lines};
+ghost use Rattle.line_inputs.specs.GraphLinesFormat.{graph_lines};
 ghost use Rattle.pigale_shell.specs.EmbedText.{embed_answers};
-ghost use Rattle.pigale_shell.specs.JobInput.{reads_planar, HasSize, reads_input, left_of};
+ghost use Rattle.pigale_shell.specs.JobInput.{reads_planar, reads_input, left_of};
+ghost use Rattle.pigale_words.specs.Jobs.{HasSize};
 ghost use Rattle.pigale_shell.specs.Outcome.{Outcome, status_of};
 
 use super::embed::{EmbedJob, GraphSource};
-use super::form::Form;
-use super::job::{Job, Status};
 use super::made::run_made;
 use super::planar::{PlanarJob, PlanarReader};
 use super::verify::{FigureSource, VerifyJob};
 use pg_io::{Sink, Source};
+use pigale_words::{Form, Job, Status};
 use record_runs::{RunEnd, run_records};
 use std::alloc::Global;
 

@@ -3,14 +3,13 @@ ghost use Rattle.std.specs.Prelude.{◌≡◌, ◌≢◌, ◌⊎◌, ◌+◌, �
 ghost use Rattle.pigale_shell.specs.Text.{bad_words_line};
 ghost use Rattle.pg_io.specs.Io.{WhereTold, Grows, GrowsByPrefix, HasRisen, TakesAtMost};
 ghost use Rattle.record_runs.specs.Texts.{input_limit};
-ghost use Rattle.pigale_shell.specs.Words.{job_of};
+ghost use Rattle.pigale_words.specs.Words.{job_of};
 ghost use Rattle.pigale_shell.specs.Outcome.{Writes, WritesTaken, GrowsByText, MayEnd};
 ghost use Rattle.pigale_shell.specs.JobInput.{RecordOf, EndingOf, reads_of, reads_input, left_of};
 
-use super::job::{Job, Status, WordFault};
 use super::run::run_job;
-use super::words::words_to_job;
 use pg_io::{Sink, Source, put_all};
+use pigale_words::{Job, Status, WordFault, words_to_job};
 use std::alloc::Global;
 
 // Writes the line for words that name no job.

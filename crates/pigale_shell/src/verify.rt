@@ -1,6 +1,6 @@
 //! Figures as text, and the job over them, for the loop of runs.
 ghost use Rattle.std.specs.Prelude.{◌≡◌, ◌↔◌, ◌++◌, ◌∷◌, ◌<◌, ◌≤◌, List, ℕ, [], IsTrue, OnOk, OnErr, IfOk, codes};
-ghost use Rattle.figure_lines.specs.Given.{IsGiven as IsGivenFigure};
+ghost use Rattle.line_inputs.specs.Given.{IsGiven as IsGivenFigure};
 ghost use Rattle.figure_verdicts.specs.Validity.{IsValidFigure};
 ghost use Rattle.figure_verdicts.specs.declared.verdict.FigureVerdict.TheVariants.{Yes as IsYes};
 ghost use Rattle.pigale_shell.specs.Verify.{numbers, verdict_line as verdict_line_of, verdict_name, verdict_vertices, bars_name, bars_vertices, convex_name, convex_vertices, rects_name, rects_vertices, spaced, numbers_line as numbers_line_of, witness_name, witness_numbers, WritesVerdict, IsVerifyBlock, verify_last_line as last_line_of};
@@ -9,10 +9,10 @@ use super::lines::{end_line, push_number, refusal_line, stop_line};
 use bar_check::BarVerdict;
 use convex_check::ConvexVerdict;
 use draw_check::Verdict;
-use figure_lines::{Ending, FigureReader};
 use figure_text::Figure;
 use figure_verdicts::{FigureVerdict, figure_verdict};
 use kuratowski::WitnessVerdict;
+use line_inputs::figure_lines::{Ending, FigureReader};
 use record_runs::{Format, Job as RecordJob, Taken};
 use rect_check::RectVerdict;
 use std::alloc::{AllocError, Global};
@@ -229,7 +229,7 @@ pub struct FigureSource {
 }
 
 impl FigureSource {
-    ghost use Rattle.figure_lines.specs.State.{IsAt};
+    ghost use Rattle.line_inputs.specs.FigureLinesState.{IsAt};
 
     /// A reader before the first byte. It takes no memory.
     pub fn new(alloc: Global) -> FigureSource
@@ -242,10 +242,10 @@ impl FigureSource {
 }
 
 impl Format for FigureSource {
-    ghost use Rattle.figure_lines.specs.State.{IsAt, ending_by};
-    ghost use Rattle.figure_lines.specs.Given.{IsGiven};
-    ghost use Rattle.figure_lines.specs.Format.{figures};
-    ghost use Rattle.figure_lines.proofs.ReadLemmas.{IsAt-reads, IsAt-begins, reading-begins};
+    ghost use Rattle.line_inputs.specs.FigureLinesState.{IsAt, ending_by};
+    ghost use Rattle.line_inputs.specs.Given.{IsGiven};
+    ghost use Rattle.line_inputs.specs.FigureLinesFormat.{figures};
+    ghost use Rattle.line_inputs.proofs.FigureLinesReadLemmas.{IsAt-reads, IsAt-begins, reading-begins};
 
     type Record = Figure;
 

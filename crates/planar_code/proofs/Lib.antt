@@ -16,3 +16,4 @@ pub mod NextLemmas
 pub mod ReadingLemmas
 pub mod ReadsLemmas
 pub mod WriteLemmas
+mod Refused

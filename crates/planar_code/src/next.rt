@@ -18,7 +18,7 @@ pub enum Step {
 }
 
 /// Why no record stands at an offset of the bytes, which is named.
-#[derive(Clone, Copy, Debug, PartialEq, Eq)]
+#[derive(Clone, Copy, PartialEq, Eq)]
 pub enum CodeFault {
     /// The bytes end before a record that begins there has ended.
     EndInRecord(usize),

@@ -26,7 +26,7 @@ pub enum Fed {
 }
 
 /// What a piece of bytes made of the bytes pending.
-#[derive(Clone, Copy, Debug, PartialEq, Eq)]
+#[derive(Clone, Copy, PartialEq, Eq)]
 pub enum Taken {
     /// All bytes of the piece joined them, and no record ended.
     More,

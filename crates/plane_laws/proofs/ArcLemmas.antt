@@ -3,9 +3,9 @@ use Rattle.std.proofs.Common.{◌≡◌, ◌≢◌, ℕ, zero, suc, ◌+◌, ◌
 use Rattle.std.proofs.lemmas.Bool.{cases_lt, cases_eq}
 use Rattle.std.proofs.lemmas.Bool.Decides.{nat_tests}
 use Rattle.std.proofs.lemmas.List.{get_or_default, get_or-take, get_or-drop, get_or_append_left, get_or-append_right, length-take-le}
-use Rattle.map_definitions.specs.Maps.{place_of, entry_after}
-use Rattle.map_definitions.specs.Paths.{from_entry, arc}
-use Rattle.map_definitions.proofs.DartLemmas.{place_of-le, entry_after-injective, place_of-lt-length, get_or-place_of, before_place_of, place_of-get_or, place_after, entry_after-place, Contains-entry_after}
+use Rattle.map_theory.specs.Maps.{place_of, entry_after}
+use Rattle.map_theory.specs.Paths.{from_entry, arc}
+use Rattle.map_theory.proofs.DartLemmas.{place_of-le, entry_after-injective, place_of-lt-length, get_or-place_of, before_place_of, place_of-get_or, place_after, entry_after-place, Contains-entry_after}
 
 -- place i of the turned list, in the list
 abbrev turned_place : ℕ → ℕ → ℕ → ℕ

@@ -3,14 +3,14 @@ use Rattle.std.proofs.Common.{◌≡◌, ℕ, zero, suc, ◌-◌, ◌<◌, List,
 use Rattle.std.proofs.lemmas.Bool.{cases_eq}
 use Rattle.std.proofs.lemmas.List.{get_or_append_left, get_or_push, length-append}
 use Rattle.std.proofs.lemmas.List.Elements.{All-push, All-cons, Contains-append_cases}
-use Rattle.label_classes.specs.Classes.{label}
-use Rattle.label_classes.proofs.Classes.{Together, IsEquivalenceBelow, classes-lies, same_class-from, Together-from}
+use Rattle.classes.specs.Classes.{label}
+use Rattle.classes.proofs.Classes.{Together, IsEquivalenceBelow, classes-lies, same_class-from, Together-from}
 use Rattle.map_lists.specs.Lists.{Lists}
-use Rattle.map_definitions.specs.Maps.{component_classes, Dart, HasDart, IsSimpleMap, darts}
-use Rattle.map_definitions.specs.Paths.{IsPath, JoinsAvoiding}
-use Rattle.map_definitions.proofs.DartLemmas.{length-darts, HasDart-darts}
-use Rattle.map_definitions.proofs.EntryLemmas.{Contains-cons_cases}
-use Rattle.euler_bound.proofs.DartPermutations.{components, darts_below, edge_together}
+use Rattle.map_theory.specs.Maps.{component_classes, Dart, HasDart, IsSimpleMap, darts}
+use Rattle.map_theory.specs.Paths.{IsPath, JoinsAvoiding}
+use Rattle.map_theory.proofs.DartLemmas.{length-darts, HasDart-darts}
+use Rattle.map_theory.proofs.EntryLemmas.{Contains-cons_cases}
+use Rattle.map_theory.proofs.DartPermutations.{components, darts_below, edge_together}
 use Rattle.plane_laws.specs.Laws.{AreJoined, ComponentsArePaths}
 
 -- a vertex by itself is a path

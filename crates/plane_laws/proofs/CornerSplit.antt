@@ -1,11 +1,11 @@
 -- Where two corners of a vertex lie in one face of a map of genus zero, the vertex separates the two parts of its list: cutting its orbit at the two corners parts the classes.
 use Rattle.std.proofs.Common.{◌≡◌, ◌≢◌, ◌⊎◌, ℕ, [], ◌∷◌, Contains, sym, ap, ◌∙◌, subst, inl, inr, arith}
-use Rattle.label_classes.specs.Classes.{label}
-use Rattle.map_definitions.specs.Maps.{dart_number, dart_count, edge_count}
-use Rattle.map_definitions.proofs.EntryLemmas.{Contains-here}
-use Rattle.label_classes.proofs.Swap.{exchange, swapped_other, IsPermuting-exchange}
-use Rattle.label_classes.proofs.Bound.{joint}
-use Rattle.euler_bound.proofs.DartPermutations.{rotation, twin, IsPermuting-rotation, IsPairing-twin, same_orbit, balances_map, two_m}
+use Rattle.classes.specs.Classes.{label}
+use Rattle.map_theory.specs.Maps.{dart_number, dart_count, edge_count}
+use Rattle.map_theory.proofs.EntryLemmas.{Contains-here}
+use Rattle.classes.proofs.Swap.{exchange, swapped_other, IsPermuting-exchange}
+use Rattle.classes.proofs.Bound.{joint}
+use Rattle.map_theory.proofs.DartPermutations.{rotation, twin, IsPermuting-rotation, IsPairing-twin, same_orbit, balances_map, two_m}
 use Rattle.plane_laws.specs.Laws.{CornerSplit}
 use Rattle.plane_laws.proofs.PlaneCuts.{plane_cut-images_apart}
 use Rattle.plane_laws.proofs.DartPaths.{before_dart, face_together, corner_of, numbers_apart, HoldsCut-joint, arcs_joined}

@@ -2,15 +2,15 @@
 use Rattle.std.proofs.Common.{◌≡◌, ◌⊎◌, ℕ, zero, suc, ◌-◌, ◌<◌, List, length, get_or, Contains, sym, ap, ◌∙◌, subst, inl, inr, arith}
 use Rattle.std.proofs.lemmas.List.{get_or_default}
 use Rattle.std.proofs.lemmas.List.Elements.{Contains-get_or}
-use Rattle.label_classes.specs.Classes.{label}
-use Rattle.label_classes.proofs.Classes.{Together, Together-from, same_class-from}
-use Rattle.label_classes.proofs.Orbits.{orbits_of, orbits_of-step, IsPermuting}
-use Rattle.label_classes.proofs.Bound.{joint, joint-first, joint-second, IsPermuting-pairing, IsPermuting-after, after}
+use Rattle.classes.specs.Classes.{label}
+use Rattle.classes.proofs.Classes.{Together, Together-from, same_class-from}
+use Rattle.classes.proofs.Orbits.{orbits_of, orbits_of-step, IsPermuting}
+use Rattle.classes.proofs.Bound.{joint, joint-first, joint-second, IsPermuting-pairing, IsPermuting-after, after}
 use Rattle.map_lists.specs.Lists.{Lists}
-use Rattle.map_definitions.specs.Maps.{Dart, face_step, list_of, HasDart, IsSimpleMap, follows, dart_number, dart_count, face_classes, twin_dart}
-use Rattle.map_definitions.specs.Paths.{IsPath, JoinsAvoiding, SameFace, arc, from_entry}
-use Rattle.map_definitions.proofs.DartLemmas.{dart_number-lt, get_or-dart_number, dart_number-injective, HasDart-follows, HasDart-face_step}
-use Rattle.euler_bound.proofs.DartPermutations.{dart_of, dart_of-number, tail_of, turned_dart, rotation, twin, IsPermuting-rotation, IsPairing-twin, tail_of-rotation, orbits-face_images}
+use Rattle.map_theory.specs.Maps.{Dart, face_step, list_of, HasDart, IsSimpleMap, follows, dart_number, dart_count, face_classes, twin_dart}
+use Rattle.map_theory.specs.Paths.{IsPath, JoinsAvoiding, SameFace, arc, from_entry}
+use Rattle.map_theory.proofs.DartLemmas.{dart_number-lt, get_or-dart_number, dart_number-injective, HasDart-follows, HasDart-face_step}
+use Rattle.map_theory.proofs.DartPermutations.{dart_of, dart_of-number, tail_of, turned_dart, rotation, twin, IsPermuting-rotation, IsPairing-twin, tail_of-rotation, orbits-face_images}
 use Rattle.plane_laws.proofs.PlaneCuts.{image_of_some}
 use Rattle.plane_laws.proofs.ArcLemmas.{from_entry-first, from_entry-in, from_entry-next, from_entry-not_first, from_entry-has, length-from_entry, before_end, arc-at}
 

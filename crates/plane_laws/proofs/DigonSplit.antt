@@ -2,17 +2,17 @@
 use Rattle.std.proofs.Common.{◌≡◌, ◌≢◌, ◌⊎◌, ℕ, List, [], ◌∷◌, ◌++◌, Contains, refl, sym, ap, ◌∙◌, subst, inl, inr, arith}
 use Rattle.std.proofs.lemmas.Bool.{cases_Bool, false≢true}
 use Rattle.std.proofs.lemmas.List.Elements.{Contains-append_cases}
-use Rattle.label_classes.specs.Classes.{label, same_class}
+use Rattle.classes.specs.Classes.{label, same_class}
 use Rattle.map_lists.specs.Lists.{Lists}
-use Rattle.map_definitions.specs.Maps.{list_of, HasDart, IsSimpleMap, IsPlane, follows, dart_number, dart_count, edge_count, face_classes}
-use Rattle.map_definitions.specs.Paths.{JoinsAvoiding, SameFace, arc}
-use Rattle.map_definitions.proofs.EntryLemmas.{Contains-here, Contains-there, Contains-cons_cases}
-use Rattle.map_definitions.proofs.DartLemmas.{HasDart-follows}
-use Rattle.label_classes.proofs.Classes.{Together}
-use Rattle.label_classes.proofs.Orbits.{orbits_of}
-use Rattle.label_classes.proofs.Swap.{exchange, swapped_other, IsPermuting-exchange}
-use Rattle.label_classes.proofs.Bound.{joint, after}
-use Rattle.euler_bound.proofs.DartPermutations.{tail_of, rotation, twin, IsPermuting-rotation, IsPairing-twin, same_orbit, same_vertex, balances_map, two_m}
+use Rattle.map_theory.specs.Maps.{list_of, HasDart, IsSimpleMap, IsPlane, follows, dart_number, dart_count, edge_count, face_classes}
+use Rattle.map_theory.specs.Paths.{JoinsAvoiding, SameFace, arc}
+use Rattle.map_theory.proofs.EntryLemmas.{Contains-here, Contains-there, Contains-cons_cases}
+use Rattle.map_theory.proofs.DartLemmas.{HasDart-follows}
+use Rattle.classes.proofs.Classes.{Together}
+use Rattle.classes.proofs.Orbits.{orbits_of}
+use Rattle.classes.proofs.Swap.{exchange, swapped_other, IsPermuting-exchange}
+use Rattle.classes.proofs.Bound.{joint, after}
+use Rattle.map_theory.proofs.DartPermutations.{tail_of, rotation, twin, IsPermuting-rotation, IsPairing-twin, same_orbit, same_vertex, balances_map, two_m}
 use Rattle.plane_laws.specs.Laws.{side, DigonSplit}
 use Rattle.plane_laws.proofs.PlaneCuts.{two_cuts_apart, swapped_commute, joint-same}
 use Rattle.plane_laws.proofs.ArcLemmas.{arc-itself, arc-first, arc-last, arc-wider, arc-longer}

@@ -1,15 +1,15 @@
 -- A simple map of genus zero with at least three vertices has at most 3n - 6 edges: a face has three darts or more, but for that of an edge by itself.
 use Rattle.std.proofs.Common.{◌≡◌, ◌≢◌, ◌⊎◌, ◌&&◌, ◌||◌, ℕ, zero, suc, ◌+◌, ◌*◌, ◌<◌, ◌≤◌, Bool, true, false, eqb, List, length, refl, sym, ap, ap₂, ◌∙◌, inl, inr, arith}
 use Rattle.std.proofs.lemmas.Bool.{cases_Bool, cases_eq, cases_lt, eqb-true, eq-eqb, ne_eqb, and_parts, or_left, or_right, or_cases}
-use Rattle.label_classes.specs.Classes.{count_below, label, class_count}
+use Rattle.classes.specs.Classes.{count_below, label, class_count}
 use Rattle.map_lists.specs.Lists.{Lists}
-use Rattle.map_definitions.specs.Maps.{IsSimpleMap, IsPlane, dart_number, dart_count, edge_count, vertex_count, component_count, isolated_count}
+use Rattle.map_theory.specs.Maps.{IsSimpleMap, IsPlane, dart_number, dart_count, edge_count, vertex_count, component_count, isolated_count}
 use Rattle.plane_laws.specs.Laws.{EdgeBound}
-use Rattle.label_classes.proofs.Counting.{one_if, count_below-le, count_below_into, count_below_weaker, count_below_but_two}
-use Rattle.label_classes.proofs.Classes.{Together, IsLabels}
-use Rattle.label_classes.proofs.Orbits.{orbits_of, length-orbits_of, IsLabels-orbits_of, orbits_of-step, IsPermuting, count_below-images}
-use Rattle.label_classes.proofs.Bound.{length-joint, joint-marked, IsPairing, IsPermuting-pairing, IsPermuting-after, after, Balances}
-use Rattle.euler_bound.proofs.DartPermutations.{dart_of, tail_of, rotation, twin, IsPermuting-rotation, IsPairing-twin, dart_of-number, dart_of-twin, tail_of-rotation, two_m, balances_map, vertex_count-orbits, component_count-classes, dart_classes, IsLabels-dart_classes}
+use Rattle.classes.proofs.Counting.{one_if, count_below-le, count_below_into, count_below_weaker, count_below_but_two}
+use Rattle.classes.proofs.Classes.{Together, IsLabels}
+use Rattle.classes.proofs.Orbits.{orbits_of, length-orbits_of, IsLabels-orbits_of, orbits_of-step, IsPermuting, count_below-images}
+use Rattle.classes.proofs.Bound.{length-joint, joint-marked, IsPairing, IsPermuting-pairing, IsPermuting-after, after, Balances}
+use Rattle.map_theory.proofs.DartPermutations.{dart_of, tail_of, rotation, twin, IsPermuting-rotation, IsPairing-twin, dart_of-number, dart_of-twin, tail_of-rotation, two_m, balances_map, vertex_count-orbits, component_count-classes, dart_classes, IsLabels-dart_classes}
 
 -- three tests of which one passes at most, or two where a fourth passes
 pub count_three : (p q r s : ℕ → Bool) (n : ℕ) → ((i : ℕ) → i < n → one_if (p i) + one_if (q i) + one_if (r i) ≤ 1 + one_if (s i)) → count_below p n + count_below q n + count_below r n ≤ n + count_below s n

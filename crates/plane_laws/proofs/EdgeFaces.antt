@@ -1,24 +1,24 @@
 -- An edge taken away: without one in one face there is a face more, and without one in two faces these are made one. So in genus zero it is seen at the faces whether that parts a component.
 use Rattle.std.proofs.Common.{◌≡◌, ◌≢◌, ℕ, ◌+◌, ◌<◌, true, false, List, length, sym, ap, ◌∙◌, subst, inl, inr, arith}
 use Rattle.std.proofs.lemmas.Bool.{false≢true}
-use Rattle.label_classes.specs.Classes.{label, class_count, merge}
+use Rattle.classes.specs.Classes.{label, class_count, merge}
 use Rattle.map_lists.specs.Lists.{Lists}
-use Rattle.map_definitions.specs.Maps.{Dart, HasDart, IsSimpleMap, follows, dart_number, dart_count, edge_count, face_count}
-use Rattle.map_definitions.specs.Paths.{SameFace}
-use Rattle.map_definitions.specs.Edges.{without_edge}
+use Rattle.map_theory.specs.Maps.{Dart, HasDart, IsSimpleMap, follows, dart_number, dart_count, edge_count, face_count}
+use Rattle.map_theory.specs.Paths.{SameFace}
+use Rattle.map_theory.specs.Edges.{without_edge}
 use Rattle.plane_laws.specs.Laws.{BridgeTest, FacesMerged, IsMergedFaces}
-use Rattle.label_classes.proofs.Classes.{Together, Together-not, IsLabels, same_class-from, apart-from, merge-joined, merge-keeps, joined-merge}
-use Rattle.label_classes.proofs.Orbits.{orbits_of, length-orbits_of, IsLabels-orbits_of, orbits_of-step, IsPermuting}
-use Rattle.label_classes.proofs.Swap.{exchange, IsPermuting-exchange, exchange_orbits, orbits_of-same}
-use Rattle.label_classes.proofs.Bound.{IsPairing, IsPermuting-pairing, IsPermuting-after, after, after-exchange}
+use Rattle.classes.proofs.Classes.{Together, Together-not, IsLabels, same_class-from, apart-from, merge-joined, merge-keeps, joined-merge}
+use Rattle.classes.proofs.Orbits.{orbits_of, length-orbits_of, IsLabels-orbits_of, orbits_of-step, IsPermuting}
+use Rattle.classes.proofs.Swap.{exchange, IsPermuting-exchange, exchange_orbits, orbits_of-same}
+use Rattle.classes.proofs.Bound.{IsPairing, IsPermuting-pairing, IsPermuting-after, after, after-exchange}
 use Rattle.plane_laws.proofs.PlaneCuts.{lone, lone_before, lone_other}
-use Rattle.euler_bound.proofs.Transfer.{IsTransfer}
+use Rattle.map_theory.proofs.Transfer.{IsTransfer}
 use Rattle.plane_laws.proofs.Generated.{IsRenumbering, neither_first, IsGenerated-orbits, GoesOver-after, IsTransfer-renumbered, neither}
 use Rattle.plane_laws.proofs.LoneEdge.{IsPermuting-lone_edge, GoesOver-out, off_alike, off_joined, second_alike}
-use Rattle.map_definitions.proofs.WithoutEdge.{back, u_not_v, length-without_edge, dart_old, dart_new, IsSimpleMap-without_edge, edge_count-without}
+use Rattle.map_theory.proofs.WithoutEdge.{back, u_not_v, length-without_edge, dart_old, dart_new, IsSimpleMap-without_edge, edge_count-without}
 use Rattle.plane_laws.proofs.EdgeRemoved.{before_first, before_second, rest_counts, apart_twin, apart_twin', edge_removed_plane, in_out, twin_out, renumbering, twin_over, rotation_over, apart, apart'}
-use Rattle.map_definitions.proofs.DartLemmas.{dart_number-lt, get_or-dart_number, HasDart-follows}
-use Rattle.euler_bound.proofs.DartPermutations.{dart_of, tail_of, rotation, twin, IsPermuting-rotation, IsPairing-twin, two_m, vertex_count-orbits, face_count-orbits}
+use Rattle.map_theory.proofs.DartLemmas.{dart_number-lt, get_or-dart_number, HasDart-follows}
+use Rattle.map_theory.proofs.DartPermutations.{dart_of, tail_of, rotation, twin, IsPermuting-rotation, IsPairing-twin, two_m, vertex_count-orbits, face_count-orbits}
 use Rattle.plane_laws.proofs.DartPaths.{tail_of-number, rotation-number, numbers_apart, face_together, same_face}
 
 module _ (lists : Lists) (simple : IsSimpleMap lists) (u v : ℕ) (edge : HasDart lists u v) where

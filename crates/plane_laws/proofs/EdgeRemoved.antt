@@ -2,18 +2,18 @@
 use Rattle.std.proofs.Common.{◌≡◌, ◌≢◌, ℕ, ◌<◌, true, sym, ap, ap₂, ◌∙◌, subst, inl, inr, arith}
 use Rattle.std.proofs.lemmas.Bool.{cases_eq}
 use Rattle.map_lists.specs.Lists.{Lists}
-use Rattle.map_definitions.specs.Maps.{HasDart, IsSimpleMap, IsPlane, follows, dart_number, dart_count, edge_count}
-use Rattle.map_definitions.specs.Edges.{without_edge}
+use Rattle.map_theory.specs.Maps.{HasDart, IsSimpleMap, IsPlane, follows, dart_number, dart_count, edge_count}
+use Rattle.map_theory.specs.Edges.{without_edge}
 use Rattle.plane_laws.specs.Laws.{EdgeRemoved}
-use Rattle.label_classes.proofs.Swap.{exchange, IsPermuting-exchange}
-use Rattle.label_classes.proofs.Bound.{Balances}
+use Rattle.classes.proofs.Swap.{exchange, IsPermuting-exchange}
+use Rattle.classes.proofs.Bound.{Balances}
 use Rattle.plane_laws.proofs.PlaneCuts.{image_of_some}
 use Rattle.plane_laws.proofs.Generated.{IsRenumbering, neither, neither_other, neither_true}
 use Rattle.plane_laws.proofs.LoneEdge.{IsLeftOut, lone_edge-balances, lone_edge-skip, lone_edge-skip_second, lone_edge-other, lone_edge_counts}
-use Rattle.map_definitions.proofs.DartLemmas.{dart_number-lt, get_or-dart_number, dart_number-injective, HasDart-follows}
-use Rattle.euler_bound.proofs.DartPermutations.{dart_of, tail_of, rotation, twin, IsPermuting-rotation, IsPairing-twin, dart_of-number, dart_of-rotation, dart_of-twin, tail_of-rotation, two_m, map_balances, balances_map}
+use Rattle.map_theory.proofs.DartLemmas.{dart_number-lt, get_or-dart_number, dart_number-injective, HasDart-follows}
+use Rattle.map_theory.proofs.DartPermutations.{dart_of, tail_of, rotation, twin, IsPermuting-rotation, IsPairing-twin, dart_of-number, dart_of-rotation, dart_of-twin, tail_of-rotation, two_m, map_balances, balances_map}
 use Rattle.plane_laws.proofs.DartPaths.{tail_of-number, twin-number, rotation-number}
-use Rattle.map_definitions.proofs.WithoutEdge.{back, u_not_v, dart_old, dart_new, IsSimpleMap-without_edge, follows_skip_first, follows_skip_second, follows_same, edge_count-without}
+use Rattle.map_theory.proofs.WithoutEdge.{back, u_not_v, dart_old, dart_new, IsSimpleMap-without_edge, follows_skip_first, follows_skip_second, follows_same, edge_count-without}
 
 -- The darts that are left, numbered anew: the two permutations of the map that is left are those of the map, with the edge taken off and left out.
 module _ (lists : Lists) (simple : IsSimpleMap lists) (u v : ℕ) (edge : HasDart lists u v) where

@@ -2,12 +2,12 @@
 use Rattle.std.proofs.Common.{◌≡◌, ◌≢◌, ◌⊎◌, ℕ, suc, ◌+◌, ◌<◌, Bool, true, false, not, ◌&&◌, cond, eqb, List, length, refl, sym, ap, ◌∙◌, inl, inr, arith}
 use Rattle.std.proofs.lemmas.Bool.{cases_Bool, cases_eq, eq-eqb, ne_eqb, true≢false}
 use Rattle.std.proofs.Math.Bool.{and-false}
-use Rattle.label_classes.specs.Classes.{count_below, label}
-use Rattle.label_classes.proofs.Counting.{one_if, count_below_none, count_below_but_two}
-use Rattle.label_classes.proofs.Classes.{Together, IsLabels}
-use Rattle.label_classes.proofs.Orbits.{StaysBelow, orbits_of, length-orbits_of, IsLabels-orbits_of, orbits_of-step, orbits_of-marked}
-use Rattle.label_classes.proofs.Bound.{joint, length-joint, IsLabels-joint, joint-first, joint-second, joint-marked}
-use Rattle.euler_bound.proofs.Transfer.{IsTransfer}
+use Rattle.classes.specs.Classes.{count_below, label}
+use Rattle.classes.proofs.Counting.{one_if, count_below_none, count_below_but_two}
+use Rattle.classes.proofs.Classes.{Together, IsLabels}
+use Rattle.classes.proofs.Orbits.{StaysBelow, orbits_of, length-orbits_of, IsLabels-orbits_of, orbits_of-step, orbits_of-marked}
+use Rattle.classes.proofs.Bound.{joint, length-joint, IsLabels-joint, joint-first, joint-second, joint-marked}
+use Rattle.map_theory.proofs.Transfer.{IsTransfer}
 
 -- The least classes of the numbers below k in which each number is with its images under f and g.
 pub record IsGenerated (labels : List ℕ) (f g : ℕ → ℕ) (k : ℕ) : Type 0 where

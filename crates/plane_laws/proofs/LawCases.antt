@@ -1,11 +1,11 @@
 -- The definitions that the laws cite, run on small maps.
 use Rattle.std.specs.Prelude.{◌≡◌, [], ◌∷◌, refl, true, false}
 use Rattle.map_lists.specs.Lists.{Lists}
-use Rattle.map_definitions.specs.Maps.{entry_after, component_classes}
-use Rattle.map_definitions.specs.Paths.{arc}
-use Rattle.map_definitions.specs.Edges.{without_edge}
+use Rattle.map_theory.specs.Maps.{entry_after, component_classes}
+use Rattle.map_theory.specs.Paths.{arc}
+use Rattle.map_theory.specs.Edges.{without_edge}
 use Rattle.plane_laws.specs.Laws.{side, IsTriangle}
-use Rattle.label_classes.specs.Classes.{same_class, merge}
+use Rattle.classes.specs.Classes.{same_class, merge}
 
 -- from the third entry on, round to before the second
 arc_round : arc (11 ∷ 12 ∷ 13 ∷ 14 ∷ []) 13 12 ≡ 13 ∷ 14 ∷ 11 ∷ []

@@ -1,14 +1,14 @@
 -- An edge taken off both its vertices, where nothing is missing from the Euler bound: nothing is missing after it, and the edge, which is now a class of its own, may be left out.
 use Rattle.std.proofs.Common.{◌≡◌, ◌≢◌, ◌⊎◌, ℕ, ◌+◌, ◌<◌, Bool, true, false, not, eqb, List, sym, ap, ◌∙◌, inl, inr, arith}
 use Rattle.std.proofs.lemmas.Bool.{cases_Bool, cases_eq, eq-eqb, false≢true, not-true}
-use Rattle.label_classes.specs.Classes.{label, merge_all, class_count}
-use Rattle.label_classes.proofs.Counting.{one_if}
-use Rattle.label_classes.proofs.Classes.{Together, Together-label, same_class-from, apart-from}
-use Rattle.label_classes.proofs.Orbits.{StaysBelow, steps, orbits_of, IsLabels-orbits_of, orbits_of-step, IsPermuting, marks_back}
-use Rattle.label_classes.proofs.Swap.{swapped, exchange, swapped_first, swapped_other, IsPermuting-exchange, exchange_orbits, orbits_of-same}
-use Rattle.label_classes.proofs.Bound.{joint, IsPairing, IsPermuting-pairing, IsPermuting-after, after, after-exchange, cut_orbits, Balances}
+use Rattle.classes.specs.Classes.{label, merge_all, class_count}
+use Rattle.classes.proofs.Counting.{one_if}
+use Rattle.classes.proofs.Classes.{Together, Together-label, same_class-from, apart-from}
+use Rattle.classes.proofs.Orbits.{StaysBelow, steps, orbits_of, IsLabels-orbits_of, orbits_of-step, IsPermuting, marks_back}
+use Rattle.classes.proofs.Swap.{swapped, exchange, swapped_first, swapped_other, IsPermuting-exchange, exchange_orbits, orbits_of-same}
+use Rattle.classes.proofs.Bound.{joint, IsPairing, IsPermuting-pairing, IsPermuting-after, after, after-exchange, cut_orbits, Balances}
 use Rattle.plane_laws.proofs.PlaneCuts.{fixed_alone, plane_cut, lone, lone_before, lone_other, lone_together}
-use Rattle.euler_bound.proofs.Transfer.{class_count-transfer}
+use Rattle.map_theory.proofs.Transfer.{class_count-transfer}
 use Rattle.plane_laws.proofs.Generated.{IsGenerated, IsGenerated-orbits, IsGenerated-joint, IsRenumbering, GoesOver, GoesOver-after, IsTransfer-renumbered, neither, neither_first, neither_second, neither_cases, left_out, left_out_one}
 
 -- exchanging an image with itself changes nothing

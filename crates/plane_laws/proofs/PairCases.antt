@@ -1,6 +1,6 @@
 -- The Euler bound's counts for two permutations, run on worked cases.
 use Rattle.std.specs.Prelude.{ℕ, ◌≡◌, List, [], ◌∷◌, refl}
-use Rattle.label_classes.specs.Classes.{merge, orbit_count, class_count, composed, joint_classes}
+use Rattle.classes.specs.Classes.{merge, orbit_count, class_count, composed, joint_classes}
 
 -- a permutation and a pairing: the orbits of the permutation, of the permutation after the pairing, and their classes together
 abbrev pair_counts : List ℕ → List ℕ → List ℕ

@@ -1,12 +1,12 @@
 -- What a cut does where nothing is missing from the Euler bound, as in a map of genus zero.
 use Rattle.std.proofs.Common.{◌≡◌, ◌≢◌, ◌⊎◌, ℕ, zero, suc, ◌+◌, ◌<◌, false, eqb, refl, sym, ap, ◌∙◌, subst, inl, inr, arith}
 use Rattle.std.proofs.lemmas.Bool.{cases_eq, eq-eqb, ne_eqb}
-use Rattle.label_classes.specs.Classes.{label, class_count, merge_all}
-use Rattle.label_classes.proofs.Counting.{one_if, count_below_none, count_below_same, count_below_more}
-use Rattle.label_classes.proofs.Classes.{Together, merge-joined, merge-keeps, joined-merge, merge-within, same_class-from, apart-from}
-use Rattle.label_classes.proofs.Orbits.{steps, orbits_of, length-orbits_of, IsLabels-orbits_of, orbits_of-step, orbits_of-marked, IsPermuting, count_below-images}
-use Rattle.label_classes.proofs.Swap.{orbits_of-same, swapped, exchange, swapped_first, swapped_second, swapped_other, IsPermuting-exchange, exchange_orbits}
-use Rattle.label_classes.proofs.Bound.{joint, joint-first, length-joint, IsLabels-joint, IsPairing, IsPermuting-pairing, IsPermuting-after, after, after-exchange, Balances, Balances-cut, cut_orbits, joint-cut, euler_bound_at}
+use Rattle.classes.specs.Classes.{label, class_count, merge_all}
+use Rattle.classes.proofs.Counting.{one_if, count_below_none, count_below_same, count_below_more}
+use Rattle.classes.proofs.Classes.{Together, merge-joined, merge-keeps, joined-merge, merge-within, same_class-from, apart-from}
+use Rattle.classes.proofs.Orbits.{steps, orbits_of, length-orbits_of, IsLabels-orbits_of, orbits_of-step, orbits_of-marked, IsPermuting, count_below-images}
+use Rattle.classes.proofs.Swap.{orbits_of-same, swapped, exchange, swapped_first, swapped_second, swapped_other, IsPermuting-exchange, exchange_orbits}
+use Rattle.classes.proofs.Bound.{joint, joint-first, length-joint, IsLabels-joint, IsPairing, IsPermuting-pairing, IsPermuting-after, after, after-exchange, Balances, Balances-cut, cut_orbits, joint-cut, euler_bound_at}
 
 -- two numbers that both balance are one
 pub Balances-one : (f g : ℕ → ℕ) (k m d d' : ℕ) → Balances f g k m d → Balances f g k m d' → d ≡ d'

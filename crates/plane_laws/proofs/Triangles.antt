@@ -1,13 +1,13 @@
 -- Where the bound on the number of edges is met: the map is connected, and each face is a triangle.
 use Rattle.std.proofs.Common.{◌≡◌, ◌≢◌, ◌⊎◌, ◌||◌, ℕ, zero, suc, ◌+◌, ◌*◌, ◌<◌, ◌≤◌, Bool, true, false, eqb, refl, sym, ap, ◌∙◌, inl, inr, arith}
 use Rattle.std.proofs.lemmas.Bool.{cases_Bool, cases_eq, eqb-true, eq-eqb, or_left, or_right, or_cases, false_from_ne_true, true≢false}
-use Rattle.label_classes.specs.Classes.{count_below, label, class_count}
-use Rattle.label_classes.proofs.Counting.{one_if, count_below_none}
-use Rattle.label_classes.proofs.Orbits.{length-orbits_of, orbits_of-marked, count_below-images}
+use Rattle.classes.specs.Classes.{count_below, label, class_count}
+use Rattle.classes.proofs.Counting.{one_if, count_below_none}
+use Rattle.classes.proofs.Orbits.{length-orbits_of, orbits_of-marked, count_below-images}
 use Rattle.map_lists.specs.Lists.{Lists}
-use Rattle.map_definitions.specs.Maps.{Dart, HasDart, IsSimpleMap, IsPlane, face_step, dart_number, dart_count, edge_count, vertex_count, component_count}
-use Rattle.map_definitions.proofs.DartLemmas.{dart_number-lt, dart_number-injective, HasDart-face_step}
-use Rattle.euler_bound.proofs.DartPermutations.{dart_of, dart_of-number, two_m, balances_map, vertex_count-orbits, component_count-classes}
+use Rattle.map_theory.specs.Maps.{Dart, HasDart, IsSimpleMap, IsPlane, face_step, dart_number, dart_count, edge_count, vertex_count, component_count}
+use Rattle.map_theory.proofs.DartLemmas.{dart_number-lt, dart_number-injective, HasDart-face_step}
+use Rattle.map_theory.proofs.DartPermutations.{dart_of, dart_of-number, two_m, balances_map, vertex_count-orbits, component_count-classes}
 use Rattle.plane_laws.specs.Laws.{FacesHaveThree, IsTriangle, EdgeBoundMet}
 use Rattle.plane_laws.proofs.DartPaths.{face_step-number}
 use Rattle.plane_laws.proofs.EdgeBound.{h, P, P_known, own_label, own_count, met_connected, own, short, own_same, turn, hw, no_fixed, one_of_three, count_three, none_isolated, none_of_two, short_round, edge_bound}

@@ -1,7 +1,7 @@
 -- Completed maps.
 use Rattle.std.specs.Prelude.{ℕ, ◌+◌, ◌*◌, ◌≤◌, ◌≡◌}
 use Rattle.map_lists.specs.Lists.{Lists}
-use Rattle.map_definitions.specs.Maps.{IsSimpleMap, IsPlane, vertex_count, edge_count}
+use Rattle.map_theory.specs.Maps.{IsSimpleMap, IsPlane, vertex_count, edge_count}
 
 -- a simple map of genus zero with at least three vertices, and as many edges as such a map can have
 pub record IsCompleted (lists : Lists) : Type 0 where

@@ -1,10 +1,10 @@
 -- Laws of simple maps, and of those of genus zero.
 use Rattle.std.specs.Prelude.{ℕ, ◌+◌, ◌*◌, ◌<◌, ◌≤◌, ◌≡◌, ◌⊎◌, ◌↔◌, true, List, [], ◌∷◌, ◌++◌, ◌≢◌, Contains, length}
-use Rattle.label_classes.specs.Classes.{same_class}
+use Rattle.classes.specs.Classes.{same_class}
 use Rattle.map_lists.specs.Lists.{Lists}
-use Rattle.map_definitions.specs.Maps.{Dart, HasDart, IsSimpleMap, IsPlane, vertex_count, edge_count, component_count, component_classes, list_of, follows, face_step}
-use Rattle.map_definitions.specs.Edges.{without_edge}
-use Rattle.map_definitions.specs.Paths.{JoinsAvoiding, arc, SameFace}
+use Rattle.map_theory.specs.Maps.{Dart, HasDart, IsSimpleMap, IsPlane, vertex_count, edge_count, component_count, component_classes, list_of, follows, face_step}
+use Rattle.map_theory.specs.Edges.{without_edge}
+use Rattle.map_theory.specs.Paths.{JoinsAvoiding, arc, SameFace}
 
 -- u and v are in one of the classes that count components
 abbrev pub SameComponent : Lists → ℕ → ℕ → Type 0

@@ -1,6 +1,8 @@
 //! Laws of plane maps. Each is the contract of a function that does nothing, and speaks of all maps.
 #![tactic(auto)]
 
+pub mod map_edits;
+
 ghost use Rattle.plane_laws.specs.Laws.{ComponentsArePaths, EdgeRemoved, BridgeTest, FacesMerged, EdgeBound, FacesHaveThree, EdgeBoundMet, CornerSplit, DigonSplit};
 
 /// Two vertices of a simple map are in one of the classes that count its components exactly where a

@@ -2,3 +2,4 @@
 mod BlockLemmas
 mod StopLemmas
 mod EndLemmas
+mod Refused

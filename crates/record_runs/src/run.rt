@@ -13,7 +13,7 @@ use pg_io::{Sink, Source, put_all};
 use std::alloc::Global;
 
 /// How a run ended.
-#[derive(Clone, Copy, Debug, PartialEq, Eq)]
+#[derive(Clone, Copy, PartialEq, Eq)]
 pub enum RunEnd {
     /// The input ended well, and no record was refused.
     Done,
@@ -52,7 +52,7 @@ pub enum Stop<End> {
 }
 
 /// Why a text could not be written.
-#[derive(Clone, Copy, Debug, PartialEq, Eq)]
+#[derive(Clone, Copy, PartialEq, Eq)]
 pub enum Failure {
     /// A write failed.
     WriteFault,

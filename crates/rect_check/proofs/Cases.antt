@@ -2,7 +2,7 @@
 use Rattle.std.proofs.Common.{◌↔◌, ℕ, zero, suc, ◌+◌, ◌<◌, [], ◌∷◌, pos, refl, inl, inr, arith, rules}
 use Rattle.std.proofs.lemmas.Int.{ints}
 use Rattle.map_lists.specs.Lists.{Lists}
-use Rattle.map_definitions.specs.Maps.{HasDart, entry_after}
+use Rattle.map_theory.specs.Maps.{HasDart, entry_after}
 use Rattle.pg_plane.specs.declared.figure.RectFigure.{RectFigure}
 use Rattle.rect_check.specs.Duals.{IsSpan, IsRect, DoMeet, IsBeside, IsAbove, ShareSide, HasFrame, IsRectangularDual}
 
@@ -11,7 +11,7 @@ abbrev wheel : Lists
 wheel = (1 ∷ 4 ∷ 3 ∷ []) ∷ (2 ∷ 4 ∷ 0 ∷ []) ∷ (3 ∷ 4 ∷ 1 ∷ []) ∷ (0 ∷ 4 ∷ 2 ∷ []) ∷ (0 ∷ 1 ∷ 2 ∷ 3 ∷ []) ∷ []
 
 -- a frame of four, and the hub inside
-abbrev framed_hub : RectFigure
+abbrev pub framed_hub : RectFigure
 framed_hub = record {
   x1 = pos 0 ∷ pos 0 ∷ pos 2 ∷ pos 0 ∷ pos 1 ∷ [];
   x2 = pos 1 ∷ pos 3 ∷ pos 3 ∷ pos 3 ∷ pos 2 ∷ [];
@@ -61,7 +61,7 @@ besides : (u v : ℕ) → IsBeside framed_hub v u → HasDart wheel u v → Touc
 besides u v h d = ((λ m. let l = m.left in let e = h.line in omega (arith, ints)), ((λ s. d), (λ e. inl (inr h))))
 
 -- the left one and the right one, the upper one and the lower one are apart
-left_and_right : ¬ ShareSide framed_hub 0 2
+pub left_and_right : ¬ ShareSide framed_hub 0 2
 left_and_right (inl (inl h)) = let e = h.line in omega (arith, ints)
 left_and_right (inl (inr h)) = let e = h.line in omega (arith, ints)
 left_and_right (inr (inl h)) = let e = h.line in omega (arith, ints)

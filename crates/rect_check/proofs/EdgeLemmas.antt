@@ -3,7 +3,7 @@ use Rattle.std.proofs.Common.{◌≡◌, ℕ, ◌+◌, List, Option, Some, get_o
 use Rattle.std.specs.Option.{option_map}
 use Rattle.map_lists.specs.Lists.{Lists}
 use Rattle.map_lists.specs.declared.ids.VertexId.{VertexId}
-use Rattle.map_definitions.specs.Maps.{Dart, HasDart}
+use Rattle.map_theory.specs.Maps.{Dart, HasDart}
 use Rattle.half_edges.specs.Map.{Map, IsHalfMap, dart_at}
 use Rattle.pg_plane.specs.declared.figure.RectFigure.{RectFigure}
 use Rattle.draw_check.specs.Loops.{IsLeastOf}

@@ -2,7 +2,7 @@
 use Rattle.std.proofs.Common.{◌≡◌, ℕ, Some, sym, ap, subst, ◌∙◌, arith}
 use Rattle.std.specs.Option.{option_map}
 use Rattle.map_lists.specs.Lists.{Lists}
-use Rattle.map_definitions.specs.Maps.{Dart, follows, face_step}
+use Rattle.map_theory.specs.Maps.{Dart, follows, face_step}
 use Rattle.half_edges.specs.Map.{Map, dart_at, first_dart}
 use Rattle.rect_check.specs.Duals.{HasFrame, top_vertex, right_vertex, bottom_vertex}
 use Rattle.rect_check.specs.Loops.{AreFour, IsRoundOfFour}

@@ -5,3 +5,4 @@ mod EdgeLemmas
 mod SweepLemmas
 mod FrameLemmas
 mod Cases
+mod Refused

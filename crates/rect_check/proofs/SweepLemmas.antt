@@ -7,7 +7,7 @@ use Rattle.std.proofs.lemmas.List.{get_or_default}
 use Rattle.std.proofs.lemmas.List.Elements.{All-from_get_or}
 use Rattle.std.proofs.lemmas.List.Sorted.{Contains-permutation, All-permutation}
 use Rattle.map_lists.specs.Lists.{Lists}
-use Rattle.map_definitions.specs.Maps.{IsSimpleMap}
+use Rattle.map_theory.specs.Maps.{IsSimpleMap}
 use Rattle.pg_plane.specs.declared.figure.RectFigure.{RectFigure}
 use Rattle.rect_check.specs.Duals.{left_of, right_of, IsRect}
 use Rattle.rect_check.specs.Loops.{DoFit, DoFitFrom, DoRise, AreFitting}

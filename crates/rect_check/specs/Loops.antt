@@ -1,7 +1,7 @@
 -- What the loops of the check go over: pairs that fit, in the order of their left sides, and edges that are missed.
 use Rattle.std.specs.Prelude.{ℕ, ◌<◌, ◌≡◌, ◌≢◌, List, length, slice_index, ℤ, pos, ◌≤ℤ◌}
 use Rattle.map_lists.specs.Lists.{Lists}
-use Rattle.map_definitions.specs.Maps.{HasDart}
+use Rattle.map_theory.specs.Maps.{HasDart}
 use Rattle.pg_plane.specs.declared.figure.RectFigure.{RectFigure}
 use Rattle.rect_check.specs.Duals.{left_of, DoMeet, ShareSide, HasFrame, top_vertex, right_vertex, bottom_vertex}
 

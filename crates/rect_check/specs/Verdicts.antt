@@ -1,7 +1,7 @@
 -- The verdict on a rectangular dual: the first kind of fault that it has, with the least ids where it has one.
 use Rattle.std.specs.Prelude.{ℕ, ◌<◌, ◌≡◌, ◌↔◌, length, ◌*ℤ◌}
 use Rattle.map_lists.specs.Lists.{Lists}
-use Rattle.map_definitions.specs.Maps.{HasDart}
+use Rattle.map_theory.specs.Maps.{HasDart}
 use Rattle.pg_plane.specs.declared.figure.RectFigure.{RectFigure}
 use Rattle.draw_check.specs.Least.{IsLeast, IsLeastPair}
 use Rattle.rect_check.specs.Duals.{IsRect, DoMeet, ShareSide, area_of, width_of, height_of, top_vertex, right_vertex, bottom_vertex, HasFrame, IsRectangularDual}

@@ -2,7 +2,7 @@
 ghost use Rattle.std.specs.Prelude.{◌≡◌, ◌+◌, ◌<◌, ℕ, List, length, slice_index, Some, MatchOption};
 ghost use Rattle.std.specs.Bool.{OnTrue};
 ghost use Rattle.map_lists.specs.Lists.{Lists};
-ghost use Rattle.map_definitions.specs.Maps.{HasDart};
+ghost use Rattle.map_theory.specs.Maps.{HasDart};
 ghost use Rattle.half_edges.specs.Map.{IsHalfMap, dart_at, first_dart};
 ghost use Rattle.draw_check.specs.Least.{IsLeast};
 ghost use Rattle.draw_check.specs.Loops.{IsLeastOf};

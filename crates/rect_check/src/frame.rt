@@ -11,7 +11,7 @@ use half_edges::{DartId, HalfMap, VertexId};
 use pg_plane::RectFigure;
 
 /// The vertices behind vertex 0 on an outer face of four.
-#[derive(Clone, Copy, Debug, PartialEq, Eq)]
+#[derive(Clone, Copy, PartialEq, Eq)]
 pub struct OuterFour {
     /// The first neighbour of vertex 0.
     pub top: VertexId,

@@ -1,6 +1,6 @@
 //! The search over all pairs of rectangles, for the least two with a fault.
 ghost use Rattle.std.specs.Prelude.{◌≡◌, ◌<◌, ◌↔◌, ℕ, length, IsTrue, MatchOption};
-ghost use Rattle.map_definitions.specs.Maps.{HasDart};
+ghost use Rattle.map_theory.specs.Maps.{HasDart};
 ghost use Rattle.half_edges.specs.Map.{IsHalfMap};
 ghost use Rattle.draw_check.specs.Least.{IsLeast, IsLeastPair};
 ghost use Rattle.rect_check.specs.Duals.{ShareSide};

@@ -1,6 +1,6 @@
 //! Steps round a vertex, from the first entry of its list to the last.
 ghost use Rattle.std.specs.Prelude.{◌≡◌, ◌+◌, ◌<◌, ◌↔◌, ℕ, length, IsTrue, Some, MatchOption};
-ghost use Rattle.map_definitions.specs.Maps.{list_of, place_of};
+ghost use Rattle.map_theory.specs.Maps.{list_of, place_of};
 ghost use Rattle.half_edges.specs.Map.{IsHalfMap, IsLive, dart_at};
 ghost use Rattle.draw_check.specs.Loops.{IsLaterDart, IsBelow};
 

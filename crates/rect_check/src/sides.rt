@@ -1,6 +1,6 @@
 //! Two rectangles: whether they meet, and whether they share a side.
 ghost use Rattle.std.specs.Prelude.{◌≡◌, ◌<◌, ◌↔◌, ◌<ℤ◌, IsTrue, length};
-ghost use Rattle.map_definitions.specs.Maps.{HasDart};
+ghost use Rattle.map_theory.specs.Maps.{HasDart};
 ghost use Rattle.half_edges.specs.Map.{IsHalfMap};
 ghost use Rattle.rect_check.specs.Duals.{left_of, right_of, low_of, high_of, DoMeet, IsBeside, IsAbove, ShareSide};
 

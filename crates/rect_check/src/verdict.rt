@@ -4,7 +4,7 @@ use half_edges::VertexId;
 
 /// The first fault of a rectangular dual with the least ids, in the order in which the kinds of fault stand
 /// here, or `Yes` where it has none.
-#[derive(Clone, Copy, Debug, PartialEq, Eq)]
+#[derive(Clone, Copy, PartialEq, Eq)]
 pub enum RectVerdict {
     /// The rectangle of the vertex is empty, or does not lie within n - 2 by n - 2.
     BadRect(VertexId),

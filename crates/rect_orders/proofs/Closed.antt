@@ -3,23 +3,23 @@ use Rattle.std.proofs.Common.{◌≡◌, ◌≢◌, ℕ, ◌+◌, ◌<◌, ◌�
 use Rattle.std.specs.List.{insert}
 use Rattle.std.proofs.lemmas.Bool.{true≢false}
 use Rattle.map_lists.specs.Lists.{Lists}
-use Rattle.map_definitions.specs.Maps.{list_of, place_of, HasDart, IsSimpleMap, follows, entry_after}
-use Rattle.map_definitions.proofs.DartLemmas.{place_of-lt-length}
+use Rattle.map_theory.specs.Maps.{list_of, place_of, HasDart, IsSimpleMap, follows, entry_after}
+use Rattle.map_theory.proofs.DartLemmas.{place_of-lt-length}
 use Rattle.plane_laws.specs.Completed.{IsCompleted}
 use Rattle.plane_laws.specs.Laws.{IsTriangle}
 use Rattle.plane_laws.proofs.Triangles.{edge_bound_met}
-use Rattle.map_edits.specs.Chords.{IsEarCut}
-use Rattle.map_edits.specs.WithEdge.{IsEdgeMore, IsPutAfter}
-use Rattle.map_edits.proofs.Chords.{ear_cut}
-use Rattle.map_edits.proofs.WithEdge.{with_edge_after_law, length-new, new_first, new_second, new_elsewhere}
-use Rattle.map_peeling.specs.Restricted.{restricted, kept_but, IsFaceOfThree}
-use Rattle.map_peeling.specs.NearTriangulations.{IsOuterCycle}
-use Rattle.map_peeling.specs.Peeled.{IsPeeled}
-use Rattle.map_peeling.specs.TwoGone.{IsOpenOutside}
-use Rattle.map_peeling.proofs.Rings.{entry_after-inside, entry_after-last, each_of_four, only_two}
-use Rattle.map_peeling.proofs.RestrictedMaps.{restricted-old, kept_but-old, kept_but-itself}
-use Rattle.map_peeling.proofs.OuterCycles.{cases_outer, first_on, two_steps_on, next-last, last_on, IsFaceOfThree-turned, IsTriangle-face}
-use Rattle.map_peeling.proofs.Quadrangles.{quadrangle_opened}
+use Rattle.plane_laws.specs.Chords.{IsEarCut}
+use Rattle.plane_laws.specs.WithEdge.{IsEdgeMore, IsPutAfter}
+use Rattle.plane_laws.proofs.Chords.{ear_cut}
+use Rattle.plane_laws.proofs.WithEdge.{with_edge_after_law, length-new, new_first, new_second, new_elsewhere}
+use Rattle.plane_peeling.specs.Restricted.{restricted, kept_but, IsFaceOfThree}
+use Rattle.plane_peeling.specs.NearTriangulations.{IsOuterCycle}
+use Rattle.plane_peeling.specs.Peeled.{IsPeeled}
+use Rattle.plane_peeling.specs.TwoGone.{IsOpenOutside}
+use Rattle.plane_peeling.proofs.Rings.{entry_after-inside, entry_after-last, each_of_four, only_two}
+use Rattle.plane_peeling.proofs.RestrictedMaps.{restricted-old, kept_but-old, kept_but-itself}
+use Rattle.plane_peeling.proofs.OuterCycles.{cases_outer, first_on, two_steps_on, next-last, last_on, IsFaceOfThree-turned, IsTriangle-face}
+use Rattle.plane_peeling.proofs.Quadrangles.{quadrangle_opened}
 use Rattle.rect_orders.specs.Maps.{IsRectMap, closed}
 
 module _ (lists : Lists) (s d p t : ℕ) (h : IsRectMap lists s d p t) where

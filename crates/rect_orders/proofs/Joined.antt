@@ -2,17 +2,17 @@
 use Rattle.std.proofs.Common.{◌≡◌, ◌≢◌, ◌⊎◌, ◌↔◌, ℕ, suc, ◌+◌, ◌-◌, ◌<◌, List, length, get_or, sym, ◌∙◌, subst, inl, inr, arith}
 use Rattle.std.proofs.lemmas.Bool.{cases_eq}
 use Rattle.map_lists.specs.Lists.{Lists}
-use Rattle.map_definitions.specs.Maps.{Dart, HasDart, follows}
+use Rattle.map_theory.specs.Maps.{Dart, HasDart, follows}
 use Rattle.plane_laws.specs.Completed.{IsCompleted}
-use Rattle.map_peeling.specs.Restricted.{IsDartOfThree}
-use Rattle.map_peeling.proofs.OuterCycles.{IsFaceOfThree-turned}
+use Rattle.plane_peeling.specs.Restricted.{IsDartOfThree}
+use Rattle.plane_peeling.proofs.OuterCycles.{IsFaceOfThree-turned}
 use Rattle.canon_order.specs.Orders.{IsCanonicalOrder}
 use Rattle.canon_order.proofs.Counters.{same_place}
 use Rattle.contour_runs.specs.Runs.{Step, IsRun, IsFaceOf, IsDartOf}
 use Rattle.contour_runs.proofs.Stages.{IsStage-run, IsRun-less, count-stage_after}
-use Rattle.order_runs.specs.OrderRuns.{IsMadeByStep, IsOrderRun}
-use Rattle.rect_boxes.specs.Laws.{AreJoined}
-use Rattle.rect_boxes.proofs.Faces.{joined_by_faces}
+use Rattle.order_drawings.specs.OrderRuns.{IsMadeByStep, IsOrderRun}
+use Rattle.rect_runs.specs.RectBoxesLaws.{AreJoined}
+use Rattle.rect_runs.proofs.Faces.{joined_by_faces}
 
 -- a dart is one of three or not
 cases_pair : (x y a b : ℕ) → ((x ≡ a) × (y ≡ b)) ⊎ (¬ ((x ≡ a) × (y ≡ b)))

@@ -2,23 +2,23 @@
 use Rattle.std.proofs.Common.{◌≡◌, ◌≢◌, ◌⊎◌, ℕ, zero, suc, ◌+◌, ◌-◌, ◌<◌, ◌≤◌, Bool, true, false, not, eqb, List, [], ◌∷◌, ◌++◌, length, get_or, AllPairs, Contains, refl, sym, ap, ◌∙◌, subst, inl, inr, arith}
 use Rattle.std.proofs.lemmas.Bool.{cases_eq, cases_Bool, true≢false, and_left}
 use Rattle.std.proofs.lemmas.List.{get_or_default}
-use Rattle.label_classes.specs.Classes.{count_below}
+use Rattle.classes.specs.Classes.{count_below}
 use Rattle.map_lists.specs.Lists.{Lists}
-use Rattle.map_definitions.specs.Maps.{HasDart, IsSimpleMap, follows, entry_after}
-use Rattle.map_definitions.proofs.EntryLemmas.{Contains-here, Contains-there}
-use Rattle.map_definitions.proofs.DartLemmas.{Contains-entry_after}
-use Rattle.map_peeling.specs.Restricted.{restricted, kept_but, IsFaceOfThree}
-use Rattle.map_peeling.specs.NearTriangulations.{IsOuterCycle, IsFree}
-use Rattle.map_peeling.specs.Peeled.{IsTakenOff}
-use Rattle.map_peeling.specs.Laws.{CanBeTakenOff}
-use Rattle.map_peeling.proofs.Rings.{each_of_three, entry_after-inside}
-use Rattle.map_peeling.proofs.RestrictedMaps.{restricted-old, kept_but-old, kept_but-new, kept_but-itself}
-use Rattle.map_peeling.proofs.OuterCycles.{IsFaceOfThree-turned, next-last}
-use Rattle.map_peeling.proofs.Covers.{new_or_old, cycle_after}
-use Rattle.map_peeling.proofs.Ends.{three_left}
-use Rattle.map_peeling.proofs.OpenAfter.{open_after}
-use Rattle.map_peeling.proofs.Steps.{free_taken_off}
-use Rattle.map_peeling.proofs.TwoGone.{some_free_of_two}
+use Rattle.map_theory.specs.Maps.{HasDart, IsSimpleMap, follows, entry_after}
+use Rattle.map_theory.proofs.EntryLemmas.{Contains-here, Contains-there}
+use Rattle.map_theory.proofs.DartLemmas.{Contains-entry_after}
+use Rattle.plane_peeling.specs.Restricted.{restricted, kept_but, IsFaceOfThree}
+use Rattle.plane_peeling.specs.NearTriangulations.{IsOuterCycle, IsFree}
+use Rattle.plane_peeling.specs.Peeled.{IsTakenOff}
+use Rattle.plane_peeling.specs.Laws.{CanBeTakenOff}
+use Rattle.plane_peeling.proofs.Rings.{each_of_three, entry_after-inside}
+use Rattle.plane_peeling.proofs.RestrictedMaps.{restricted-old, kept_but-old, kept_but-new, kept_but-itself}
+use Rattle.plane_peeling.proofs.OuterCycles.{IsFaceOfThree-turned, next-last}
+use Rattle.plane_peeling.proofs.Covers.{new_or_old, cycle_after}
+use Rattle.plane_peeling.proofs.Ends.{three_left}
+use Rattle.plane_peeling.proofs.OpenAfter.{open_after}
+use Rattle.plane_peeling.proofs.Steps.{free_taken_off}
+use Rattle.plane_peeling.proofs.TwoGone.{some_free_of_two}
 use Rattle.canon_order.specs.Lefts.{IsLeft}
 use Rattle.canon_order.proofs.Lefts.{IsLeft-begin, IsLeft-taken, IsLeft-three}
 use Rattle.rect_orders.specs.Maps.{IsRectMap, closed}

@@ -2,14 +2,14 @@
 use Rattle.std.proofs.Common.{◌≡◌, ◌≢◌, ◌↔◌, ℕ, suc, ◌+◌, ◌-◌, ◌<◌, ◌≤◌, List, length, get_or, sym, ap, ◌∙◌, subst, inl, inr, arith}
 use Rattle.std.proofs.lemmas.Bool.{cases_eq}
 use Rattle.map_lists.specs.Lists.{Lists}
-use Rattle.map_definitions.specs.Maps.{HasDart, follows}
+use Rattle.map_theory.specs.Maps.{HasDart, follows}
 use Rattle.canon_order.proofs.Counters.{same_place}
 use Rattle.contour_runs.specs.Runs.{Step, stage_after, IsRun, IsCovered}
 use Rattle.contour_runs.proofs.Stages.{IsStage-run, IsRun-less, count-stage_after}
-use Rattle.order_runs.specs.OrderRuns.{IsOrderRun}
+use Rattle.order_drawings.specs.OrderRuns.{IsOrderRun}
 use Rattle.rect_runs.specs.Later.{StandsOver, HaveTwoLater}
-use Rattle.rect_boxes.specs.Boxes.{IsRectRun}
-use Rattle.rect_boxes.specs.Laws.{AreJoined}
+use Rattle.rect_runs.specs.Boxes.{IsRectRun}
+use Rattle.rect_runs.specs.RectBoxesLaws.{AreJoined}
 use Rattle.rect_orders.specs.Maps.{IsRectMap, closed}
 use Rattle.rect_orders.specs.Orders.{IsRectOrder}
 use Rattle.rect_orders.specs.Runs.{shortened, RectOrderIsRun}

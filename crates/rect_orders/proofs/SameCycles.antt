@@ -1,13 +1,13 @@
 -- A base has one outer cycle.
 use Rattle.std.proofs.Common.{◌≡◌, ℕ, List, Bool, false, Contains, sym, ap, ◌∙◌, subst}
 use Rattle.map_lists.specs.Lists.{Lists}
-use Rattle.map_definitions.specs.Maps.{IsSimpleMap, follows, entry_after}
-use Rattle.map_definitions.proofs.DartLemmas.{Contains-entry_after}
-use Rattle.map_peeling.specs.Restricted.{IsFaceOfThree}
-use Rattle.map_peeling.specs.NearTriangulations.{IsOuterCycle}
-use Rattle.map_peeling.specs.TwoGone.{IsOpenOutside}
-use Rattle.map_peeling.proofs.Rings.{entries_closed}
-use Rattle.map_peeling.proofs.OuterCycles.{last_on, next-last}
+use Rattle.map_theory.specs.Maps.{IsSimpleMap, follows, entry_after}
+use Rattle.map_theory.proofs.DartLemmas.{Contains-entry_after}
+use Rattle.plane_peeling.specs.Restricted.{IsFaceOfThree}
+use Rattle.plane_peeling.specs.NearTriangulations.{IsOuterCycle}
+use Rattle.plane_peeling.specs.TwoGone.{IsOpenOutside}
+use Rattle.plane_peeling.proofs.Rings.{entries_closed}
+use Rattle.plane_peeling.proofs.OuterCycles.{last_on, next-last}
 
 -- what stands on the one cycle stands on the other, and goes on to the same vertex
 pub same_cycle : (lists : Lists) (s t : ℕ) (ws ws' : List ℕ) → IsSimpleMap lists → IsOuterCycle lists s t ws → IsOuterCycle lists s t ws' → (x : ℕ) → Contains ws x → Contains ws' x × (entry_after x ws ≡ entry_after x ws')

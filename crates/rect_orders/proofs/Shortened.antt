@@ -7,8 +7,8 @@ use Rattle.contour_runs.proofs.Stages.{IsStage-run, IsRun-less, count-stage_afte
 use Rattle.contour_runs.proofs.Places.{place_after-new}
 use Rattle.rect_runs.specs.Later.{StandsOver, HaveTwoLater}
 use Rattle.rect_runs.proofs.Later.{two_later_sort}
-use Rattle.rect_boxes.specs.Boxes.{IsRectRun}
-use Rattle.rect_boxes.specs.Laws.{AreJoined}
+use Rattle.rect_runs.specs.Boxes.{IsRectRun}
+use Rattle.rect_runs.specs.RectBoxesLaws.{AreJoined}
 use Rattle.rect_orders.specs.Runs.{shortened}
 
 -- a vertex over which a step is put is not covered before

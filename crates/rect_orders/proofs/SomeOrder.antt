@@ -1,9 +1,9 @@
 -- Each map of this class has a rectangular order.
 use Rattle.std.proofs.Common.{◌≡◌, ℕ, zero, suc, ◌+◌, ◌-◌, Bool, List, [], ◌∷◌, length, arith, ltb, lt-ltb, ltb-true}
-use Rattle.label_classes.specs.Classes.{count_below}
+use Rattle.classes.specs.Classes.{count_below}
 use Rattle.map_lists.specs.Lists.{Lists}
-use Rattle.map_definitions.specs.Maps.{follows}
-use Rattle.map_peeling.specs.Restricted.{kept_but}
+use Rattle.map_theory.specs.Maps.{follows}
+use Rattle.plane_peeling.specs.Restricted.{kept_but}
 use Rattle.rect_orders.specs.Maps.{IsRectMap, closed}
 use Rattle.rect_orders.specs.Orders.{IsRectOrder}
 use Rattle.rect_orders.specs.Lefts.{IsRectLeft}

@@ -5,14 +5,14 @@ use Rattle.std.proofs.lemmas.Bool.{cases_eq, true≢false, and_left, and_right}
 use Rattle.std.proofs.lemmas.List.{length-append}
 use Rattle.std.proofs.lemmas.List.Elements.{Contains-get_or}
 use Rattle.map_lists.specs.Lists.{Lists}
-use Rattle.map_definitions.specs.Maps.{list_of, HasDart, IsSimpleMap, follows}
-use Rattle.map_definitions.proofs.WithoutEntry.{filter-insert}
-use Rattle.map_edits.proofs.KeptEdges.{same_kept, list_of-with_kept}
-use Rattle.map_peeling.specs.Restricted.{restricted, kept_but, IsFaceOfThree}
-use Rattle.map_peeling.specs.NearTriangulations.{IsNearTriangulation}
-use Rattle.map_peeling.specs.Peeled.{IsPeeled, IsFan, IsTakenOff}
-use Rattle.map_peeling.proofs.RestrictedMaps.{both, length-restricted, restricted-old}
-use Rattle.map_peeling.proofs.OuterCycles.{IsFaceOfThree-turned}
+use Rattle.map_theory.specs.Maps.{list_of, HasDart, IsSimpleMap, follows}
+use Rattle.map_theory.proofs.WithoutEntry.{filter-insert}
+use Rattle.plane_laws.proofs.KeptEdges.{same_kept, list_of-with_kept}
+use Rattle.plane_peeling.specs.Restricted.{restricted, kept_but, IsFaceOfThree}
+use Rattle.plane_peeling.specs.NearTriangulations.{IsNearTriangulation}
+use Rattle.plane_peeling.specs.Peeled.{IsPeeled, IsFan, IsTakenOff}
+use Rattle.plane_peeling.proofs.RestrictedMaps.{both, length-restricted, restricted-old}
+use Rattle.plane_peeling.proofs.OuterCycles.{IsFaceOfThree-turned}
 use Rattle.rect_orders.specs.Maps.{IsRectMap, closed}
 use Rattle.rect_orders.proofs.Closed.{length-closed, list_top, list_bottom, list_elsewhere, more, put}
 

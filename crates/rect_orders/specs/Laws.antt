@@ -1,7 +1,7 @@
 -- The laws of rectangular orders.
 use Rattle.std.specs.Prelude.{ℕ, List}
 use Rattle.map_lists.specs.Lists.{Lists}
-use Rattle.map_definitions.specs.Maps.{HasDart}
+use Rattle.map_theory.specs.Maps.{HasDart}
 use Rattle.plane_laws.specs.Completed.{IsCompleted}
 use Rattle.rect_orders.specs.Maps.{IsRectMap, closed}
 use Rattle.rect_orders.specs.Orders.{IsRectOrder}

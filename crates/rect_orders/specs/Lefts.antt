@@ -1,10 +1,10 @@
 -- What is left of a map while its vertices are taken off, the top first and the right one next.
 use Rattle.std.specs.Prelude.{ℕ, ◌+◌, ◌-◌, ◌<◌, ◌≤◌, ◌≡◌, ◌≢◌, ◌⊎◌, ◌↔◌, Bool, false, List, length, slice_index, Contains}
 use Rattle.map_lists.specs.Lists.{Lists}
-use Rattle.map_definitions.specs.Maps.{HasDart}
-use Rattle.map_peeling.specs.Restricted.{restricted}
-use Rattle.map_peeling.specs.Peeled.{IsPeeled}
-use Rattle.map_peeling.specs.TwoGone.{IsOpenOutside}
+use Rattle.map_theory.specs.Maps.{HasDart}
+use Rattle.plane_peeling.specs.Restricted.{restricted}
+use Rattle.plane_peeling.specs.Peeled.{IsPeeled}
+use Rattle.plane_peeling.specs.TwoGone.{IsOpenOutside}
 use Rattle.canon_order.specs.Lefts.{IsLeft}
 use Rattle.rect_orders.specs.Maps.{closed}
 use Rattle.rect_orders.specs.Orders.{HasTwoLater}

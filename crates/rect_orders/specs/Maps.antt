@@ -1,10 +1,10 @@
 -- Maps that have rectangular duals.
 use Rattle.std.specs.Prelude.{ℕ, ◌<◌, ◌≡◌, [], ◌∷◌, length}
 use Rattle.map_lists.specs.Lists.{Lists}
-use Rattle.map_definitions.specs.Maps.{component_count}
-use Rattle.map_edits.specs.WithEdge.{with_edge_after}
-use Rattle.map_peeling.specs.NearTriangulations.{IsNearTriangulation}
-use Rattle.map_peeling.specs.TwoGone.{HasNoSeparatingTriangle}
+use Rattle.map_theory.specs.Maps.{component_count}
+use Rattle.plane_laws.specs.WithEdge.{with_edge_after}
+use Rattle.plane_peeling.specs.NearTriangulations.{IsNearTriangulation}
+use Rattle.plane_peeling.specs.TwoGone.{HasNoSeparatingTriangle}
 
 -- A connected simple map of genus zero with at least five vertices, whose outer face goes along the four vertices s, d, p and t: the left one, the top, the right one and the bottom. Each other face is a triangle, and each triangle of edges is a face.
 pub record IsRectMap (lists : Lists) (s d p t : ℕ) : Type 0 where

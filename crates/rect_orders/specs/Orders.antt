@@ -1,7 +1,7 @@
 -- Rectangular orders.
 use Rattle.std.specs.Prelude.{ℕ, ◌+◌, ◌-◌, ◌<◌, ◌≤◌, ◌≡◌, ◌≢◌, List, length, slice_index}
 use Rattle.map_lists.specs.Lists.{Lists}
-use Rattle.map_definitions.specs.Maps.{HasDart}
+use Rattle.map_theory.specs.Maps.{HasDart}
 use Rattle.canon_order.specs.Orders.{IsCanonicalOrder}
 use Rattle.rect_orders.specs.Maps.{closed}
 

@@ -1,11 +1,11 @@
 -- A rectangular order as a run.
 use Rattle.std.specs.Prelude.{ℕ, ◌-◌, ◌<◌, ◌↔◌, ◌==◌, if◌then◌else◌, List, length, slice_index}
 use Rattle.map_lists.specs.Lists.{Lists}
-use Rattle.map_definitions.specs.Maps.{HasDart}
+use Rattle.map_theory.specs.Maps.{HasDart}
 use Rattle.contour_runs.specs.Runs.{Step}
-use Rattle.order_runs.specs.OrderRuns.{IsOrderRun}
-use Rattle.rect_boxes.specs.Boxes.{IsRectRun}
-use Rattle.rect_boxes.specs.Laws.{AreJoined}
+use Rattle.order_drawings.specs.OrderRuns.{IsOrderRun}
+use Rattle.rect_runs.specs.Boxes.{IsRectRun}
+use Rattle.rect_runs.specs.RectBoxesLaws.{AreJoined}
 use Rattle.rect_orders.specs.Maps.{IsRectMap, closed}
 use Rattle.rect_orders.specs.Orders.{IsRectOrder}
 

@@ -2,6 +2,12 @@
 //! later neighbours. Each law is the contract of a function that does nothing.
 #![tactic(auto)]
 
+pub mod marked_counts;
+pub mod rect_corners;
+pub mod rect_duals;
+pub mod rect_labellings;
+pub mod rect_order;
+
 ghost use Rattle.rect_orders.specs.Laws.{ClosedIsCompleted, SomeRectOrder};
 ghost use Rattle.rect_orders.specs.Runs.{RectOrderIsRun};
 

@@ -5,3 +5,12 @@ pub mod Corners
 pub mod Parents
 pub mod Later
 pub mod Laws
+-- Boxes over a run.
+pub mod Boxes
+pub mod Frame
+pub mod RectBoxesLaws
+-- Leading vertices of the contour.
+pub mod Leads
+-- Edges of a run at their ends.
+pub mod Ends
+pub mod Rounds

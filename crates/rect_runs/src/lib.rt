@@ -3,6 +3,10 @@
 //! contour alone, and of no map; each law is the contract of a function that does nothing.
 #![tactic(auto)]
 
+pub mod rect_boxes;
+pub mod rect_ends;
+pub mod rect_leads;
+
 ghost use Rattle.rect_runs.specs.Laws.{NumbersFit, StepsFit, NumbersBounded, TurnsCounted};
 ghost use Rattle.rect_runs.specs.Corners.{CornersFollow, CoveredLeaves};
 ghost use Rattle.rect_runs.specs.Parents.{LabelsLead};

@@ -1,7 +1,3 @@
--- Lemmas on drawings by Schnyder's coordinates.
-mod Passes
-mod Puts
-mod Writes
-mod Sums
-mod RunGaps
-mod DrawLemmas
+-- The lemmas on the graph of a wood.
+mod ArcLemmas
+mod Refused

@@ -1,3 +1,2 @@
--- Drawings by Schnyder's coordinates.
-pub mod Gaps
-pub mod Points
+-- The order of a wood as a graph.
+pub mod Arcs

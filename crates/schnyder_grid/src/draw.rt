@@ -1,70 +1,45 @@
-//! Drawings by Schnyder's coordinates.
-ghost use Rattle.std.specs.Prelude.{◌≡◌, ◌<◌, ◌+◌, ◌-◌, ℕ, length, All, pos, IfOk};
-ghost use Rattle.map_definitions.specs.Maps.{Dart, HasDart, vertex_count};
+//! Drawings of woods.
+ghost use Rattle.std.specs.Prelude.{◌≡◌, ◌-◌, ℕ, pos, IfOk};
+ghost use Rattle.map_theory.specs.Maps.{Dart, HasDart, vertex_count};
 ghost use Rattle.plane_laws.specs.Completed.{IsCompleted};
-ghost use Rattle.canon_order.specs.Orders.{IsCanonicalOrder, IsRankOf, vertices_of};
-ghost use Rattle.contour_runs.specs.Runs.{Step};
-ghost use Rattle.order_tables.specs.Rows.{AreAllRows};
-ghost use Rattle.schnyder_drawings.specs.SchnyderDrawings.{AreWoodPoints, IsSchnyderDrawing};
-ghost use Rattle.schnyder_grid.specs.Points.{ArePoints};
+ghost use Rattle.order_drawings.specs.SchnyderDrawings.{IsSchnyderDrawing};
+ghost use Rattle.wood_laws.specs.Woods.{IsInner};
+ghost use Rattle.wood_laws.specs.WoodRegionsLaws.{StandsAtCoordinates};
+ghost use Rattle.schnyder_wood.specs.Parents.{parent_in, IsWoodOf};
 
-use crate::gaps::find_coordinates;
-use canon_order::Order;
-use half_edges::{Counts, HalfMap, Rotations};
-use order_tables::{order_rows, points_at};
-use pg_plane::{GridFigure, Points};
-use std::alloc::{AllocError, Global};
+use crate::fault::SchnyderFault;
+use crate::order::wood_order;
+use grid_figures::schnyder_grid::wood_draw;
+use half_edges::HalfMap;
+use pg_plane::GridFigure;
+use schnyder_wood::Wood;
+use std::alloc::Global;
 
-// The points of a run, by its rows, for vertices of these ranks.
-fn drawn(alloc: Global, rows: &Rotations, ranks: &Counts) -> Result<Points, AllocError>
-    requires few { length ranks.now < 4096 }
-    requires rows { length rows.now + 2 ≡ length ranks.now }
-    requires ranks { All (λ k. k < length ranks.now) ranks.now }
-    requires run { (steps : ℕ → Step) × AreAllRows steps rows.now }
-    ensures { IfOk result (λ points. (steps : ℕ → Step) → AreAllRows steps rows.now → ArePoints steps (length rows.now) ranks.now points) }
-{
-    let n = ranks.len();
-    let mut drops = vec![in alloc; 0; n]?;
-    let mut rises = vec![in alloc; 0; n]?;
-    let mut spans = vec![in alloc; 0; n]?;
-    let mut covers = vec![in alloc; 0; n]?;
-    find_coordinates(&mut drops, &mut rises, &mut spans, &mut covers, rows);
-    points_at(alloc, &drops, &rises, ranks)
-}
-
-/// The drawing of a completed map by Schnyder's coordinates over a canonical order of it: a simple map of
-/// genus zero with n >= 3 vertices and 3n - 6 edges.
+/// The drawing of a completed map, a simple map of genus zero with n >= 3 vertices and 3n - 6 edges, by the
+/// regions of a wood of it.
 ///
-/// It is plane and keeps the rotations, in the grid n - 2 by n - 2. The order's first vertex stands at
-/// (n - 2, 1), its second at (0, n - 2) and its last at (1, 0); of all faces that of the base alone is drawn
-/// clockwise.
+/// It is plane and keeps the rotations, in the grid n - 2 by n - 2. Each vertex but the roots has as coordinate
+/// of a colour by how much more vertices its region of this colour has than its path of the colour before; those
+/// of colours one and two are x and y. The roots stand at (n - 2, 1), (0, n - 2) and (1, 0); of all faces that of
+/// the dart from root two to root one alone is drawn clockwise.
 ///
-/// It fails only for want of memory. The map and the order stay as they are. The time is linear in the
-/// vertices: a vertex is put over a row of the contour, which gives how far what it covers stands from it, and
-/// these differences are added up in the end.
+/// It fails only for want of memory. The map and the wood stay as they are. The time is linear in the map: no
+/// region is counted, for the wood gives a canonical order, and over this the coordinates are sums of few terms.
 ///
 /// Source: Schnyder, Embedding planar graphs on the grid, 1990.
-pub fn wood_draw(alloc: Global, tri: &HalfMap, order: &Order) -> Result<GridFigure, AllocError>
+pub fn schnyder_draw(alloc: Global, tri: &HalfMap, wood: &Wood) -> Result<GridFigure, SchnyderFault>
     requires completed { IsCompleted tri.now.lists }
-    requires order { (base : Dart) × IsCanonicalOrder tri.now.lists base (vertices_of order.now) }
-    requires rank { IsRankOf order.now.rank (vertices_of order.now) }
-    ensures points { IfOk result (λ figure. (base : Dart) (canonical : IsCanonicalOrder tri.now.lists base (vertices_of order.now))
-        → AreWoodPoints tri.now.lists base (vertices_of order.now) canonical.cycle figure.points) }
-    ensures drawing { IfOk result (λ figure. (base : Dart) → HasDart tri.now.lists base.0 base.1 → IsCanonicalOrder tri.now.lists base (vertices_of order.now)
-        → IsSchnyderDrawing tri.now.lists base figure.points) }
+    requires wood { (base : Dart) × HasDart tri.now.lists base.0 base.1 × IsWoodOf tri.now.lists base wood.now }
+    ensures coordinates { IfOk result (λ figure. (base : Dart) (v : ℕ) → HasDart tri.now.lists base.0 base.1 → IsWoodOf tri.now.lists base wood.now → IsInner tri.now.lists base v
+        → StandsAtCoordinates tri.now.lists base (parent_in wood.now) figure.points v) }
+    ensures drawing { IfOk result (λ figure. (base : Dart) → HasDart tri.now.lists base.0 base.1 → IsWoodOf tri.now.lists base wood.now → IsSchnyderDrawing tri.now.lists base figure.points) }
     ensures width { IfOk result (λ figure. figure.width ≡ pos (vertex_count tri.now.lists - 2)) }
     ensures height { IfOk result (λ figure. figure.height ≡ pos (vertex_count tri.now.lists - 2)) }
 {
-    tri.facts();
-    order_tables::ranks_are_places();
-    order_runs::order_is_run();
-    schnyder_drawings::wood_points_draw();
-    let side = (tri.n() - 2) as i32;
-    let rows = order_rows(alloc, tri, order)?;
-    let points = drawn(alloc, &rows, &order.rank)?;
-    Ok(GridFigure {
-        points,
-        width: side,
-        height: side,
-    })
+    wood_laws::wood_orders::arranged_is_order();
+    wood_laws::wood_orders::parents_of_arranged();
+    wood_laws::wood_regions::drawn_at_coordinates();
+    let order = wood_order(alloc, tri, wood)?;
+    let figure = wood_draw(alloc, tri, &order)?;
+    Ok(figure)
 }

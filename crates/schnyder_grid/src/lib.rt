@@ -1,7 +1,11 @@
-//! Drawings of completed maps by Schnyder's coordinates (1990), in linear time.
+//! Drawings of completed maps by the regions of their woods (Schnyder, 1990), in linear time.
 #![tactic(auto)]
 
+mod arcs;
 mod draw;
-mod gaps;
+mod fault;
+mod order;
 
-pub use draw::wood_draw;
+pub use draw::schnyder_draw;
+pub use fault::SchnyderFault;
+pub use order::wood_order;

@@ -1,6 +1,6 @@
 -- A wood of five vertices, as a worked case.
 use Rattle.std.proofs.Common.{◌<◌, ℕ, [], ◌∷◌, refl, inl, inr, arith}
-use Rattle.run_woods.specs.Parents.{one, three}
+use Rattle.wood_runs.specs.Parents.{one, three}
 use Rattle.schnyder_wood.specs.Parents.{Parents, IsRoot, IsInnerIn, IsPathLength}
 
 -- the roots are 0, 1 and 4; vertex 2 stands over 0 and 1, vertex 3 over 0, 2 and 1, and vertex 4 over 0, 3 and 1

@@ -5,3 +5,10 @@ mod Names
 mod Rows
 pub mod Paths
 mod Orders
+mod Refused
+mod SchnyderRegionsPaths
+mod Marks
+mod Searching
+mod ClosedPathLemmas
+mod CountLemmas
+mod SchnyderRegionsRefused

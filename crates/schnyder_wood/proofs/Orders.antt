@@ -2,17 +2,17 @@
 use Rattle.std.proofs.Common.{◌≡◌, ◌≢◌, ◌⊎◌, ◌+◌, ◌-◌, ◌<◌, ◌≤◌, ℕ, suc, List, length, get_or, refl, sym, ap, ◌∙◌, subst, inl, inr, arith}
 use Rattle.std.proofs.lemmas.Bool.{cases_eq}
 use Rattle.map_lists.specs.Lists.{Lists}
-use Rattle.map_definitions.specs.Maps.{Dart, follows}
+use Rattle.map_theory.specs.Maps.{Dart, follows}
 use Rattle.plane_laws.specs.Completed.{IsCompleted}
 use Rattle.canon_order.specs.Orders.{IsCanonicalOrder, IsRankOf}
 use Rattle.contour_runs.specs.Runs.{Step}
 use Rattle.contour_runs.proofs.Stages.{IsCovered-own}
-use Rattle.order_runs.specs.OrderRuns.{IsOrderRun}
-use Rattle.run_woods.specs.Parents.{Colour, one, two, three, IsParent}
-use Rattle.run_woods.specs.Rules.{LeadsAway}
-use Rattle.run_woods.proofs.ParentLemmas.{leads_away, three_parents}
-use Rattle.order_woods.specs.Woods.{root, IsInner, IsWood, AreParentsOf, WoodOfOrder}
-use Rattle.order_tables.proofs.OrderLemmas.{ranks_within}
+use Rattle.order_drawings.specs.OrderRuns.{IsOrderRun}
+use Rattle.wood_runs.specs.Parents.{Colour, one, two, three, IsParent}
+use Rattle.wood_runs.specs.Rules.{LeadsAway}
+use Rattle.wood_runs.proofs.ParentLemmas.{leads_away, three_parents}
+use Rattle.wood_laws.specs.Woods.{root, IsInner, IsWood, AreParentsOf, WoodOfOrder}
+use Rattle.order_drawings.proofs.OrderLemmas.{ranks_within}
 use Rattle.schnyder_wood.specs.Parents.{by_colour, Parents, count_in, root_in, parent_in, IsInnerIn, IsRooted, IsWoodOf}
 use Rattle.schnyder_wood.specs.Tables.{AreParentTables, AreNamed, AreParentsAt}
 

@@ -1,6 +1,6 @@
 -- Paths to the roots.
 use Rattle.std.proofs.Common.{◌≡◌, ◌≢◌, ◌+◌, ◌≤◌, ℕ, zero, suc, refl, sym, ap, ◌∙◌, subst, inl, inr, arith}
-use Rattle.run_woods.specs.Parents.{Colour, one, two, three}
+use Rattle.wood_runs.specs.Parents.{Colour, one, two, three}
 use Rattle.schnyder_wood.specs.Parents.{Parents, root_in, parent_in, IsInnerIn, IsRooted, LeadsIn, IsPathLength}
 
 -- one step more at the end

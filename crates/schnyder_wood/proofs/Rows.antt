@@ -3,11 +3,11 @@ use Rattle.std.proofs.Common.{◌≡◌, ◌≢◌, ◌+◌, ◌-◌, ◌<◌, �
 use Rattle.std.proofs.lemmas.Bool.{cases_lt, cases_eq}
 use Rattle.std.proofs.lemmas.List.{get_or-set_same, get_or-set_other, get_or_default}
 use Rattle.map_lists.specs.Lists.{Lists}
-use Rattle.map_definitions.specs.Maps.{list_of}
+use Rattle.map_theory.specs.Maps.{list_of}
 use Rattle.contour_runs.specs.Runs.{Step, stage_after, IsCovered}
 use Rattle.contour_runs.proofs.Stages.{IsStage-run, IsRun-less, count-stage_after, covered_alone}
-use Rattle.run_woods.specs.Parents.{Colour, one, two, three, IsParent}
-use Rattle.order_tables.specs.Rows.{AreRows}
+use Rattle.wood_runs.specs.Parents.{Colour, one, two, three, IsParent}
+use Rattle.order_drawings.specs.Rows.{AreRows}
 use Rattle.schnyder_wood.specs.Parents.{by_colour}
 use Rattle.schnyder_wood.specs.Tables.{AreCovered, AreParentTables}
 

@@ -1,9 +1,9 @@
 -- Woods: roots, parents, and the paths to the roots.
 use Rattle.std.specs.Prelude.{ℕ, zero, suc, ◌<◌, ◌≡◌, ◌⊎◌, List, length, slice_index}
 use Rattle.map_lists.specs.Lists.{Lists}
-use Rattle.map_definitions.specs.Maps.{Dart}
-use Rattle.run_woods.specs.Parents.{Colour, one, two, three}
-use Rattle.order_woods.specs.Woods.{root, IsWood}
+use Rattle.map_theory.specs.Maps.{Dart}
+use Rattle.wood_runs.specs.Parents.{Colour, one, two, three}
+use Rattle.wood_laws.specs.Woods.{root, IsWood}
 use Rattle.schnyder_wood.specs.declared.colour.Colour.{Colour as GivenColour}
 use Rattle.schnyder_wood.specs.declared.colour.Colour.TheVariants.{One, Two, Three}
 

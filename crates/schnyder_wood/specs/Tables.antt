@@ -1,7 +1,7 @@
 -- The parents of a run, in tables.
 use Rattle.std.specs.Prelude.{ℕ, ◌<◌, ◌≡◌, ◌≢◌, ◌⊎◌, List, length, slice_index}
 use Rattle.contour_runs.specs.Runs.{Step}
-use Rattle.run_woods.specs.Parents.{Colour, IsParent}
+use Rattle.wood_runs.specs.Parents.{Colour, IsParent}
 use Rattle.schnyder_wood.specs.Parents.{by_colour}
 
 -- The vertices of a row from its second place up to the place j, not included, are noted as covered by v.

@@ -1,7 +1,7 @@
 //! The colours of a wood.
 
 /// One of the three colours, which are counted cyclically.
-#[derive(Clone, Copy, Debug, PartialEq, Eq)]
+#[derive(Clone, Copy, PartialEq, Eq)]
 pub enum Colour {
     /// The colour of the tree whose root is the first vertex of the order.
     One,

@@ -1,13 +1,13 @@
 //! The wood of a canonical order.
 ghost use Rattle.std.specs.Prelude.{◌≡◌, ◌<◌, ◌+◌, ◌-◌, ℕ, length, slice_index, All, IfOk};
-ghost use Rattle.map_definitions.specs.Maps.{Dart, vertex_count};
+ghost use Rattle.map_theory.specs.Maps.{Dart, vertex_count};
 ghost use Rattle.plane_laws.specs.Completed.{IsCompleted};
 ghost use Rattle.canon_order.specs.Orders.{IsCanonicalOrder, IsRankOf, vertices_of};
 ghost use Rattle.contour_runs.specs.Runs.{Step};
-ghost use Rattle.order_runs.specs.OrderRuns.{IsOrderRun};
-ghost use Rattle.run_woods.specs.Parents.{Colour as TreeColour};
-ghost use Rattle.order_woods.specs.Woods.{AreParentsOf};
-ghost use Rattle.order_tables.specs.Rows.{AreRows};
+ghost use Rattle.order_drawings.specs.OrderRuns.{IsOrderRun};
+ghost use Rattle.wood_runs.specs.Parents.{Colour as TreeColour};
+ghost use Rattle.wood_laws.specs.Woods.{AreParentsOf};
+ghost use Rattle.order_drawings.specs.Rows.{AreRows};
 ghost use Rattle.schnyder_wood.specs.Parents.{by_colour, parent_in, IsWoodOf};
 ghost use Rattle.schnyder_wood.specs.Tables.{AreNamed, AreParentsAt};
 
@@ -15,7 +15,7 @@ use crate::tables::{find_parents, name_of, named};
 use crate::woods::Wood;
 use canon_order::Order;
 use half_edges::{HalfMap, Rotations};
-use order_tables::order_rows;
+use order_drawings::order_tables::order_rows;
 use std::alloc::{AllocError, Global};
 
 // For each vertex its parent of each colour.
@@ -88,9 +88,9 @@ pub fn wood(alloc: Global, tri: &HalfMap, order: &Order) -> Result<Wood, AllocEr
         → IsOrderRun tri.now.lists base (vertices_of order.now) canonical.cycle steps → AreParentsOf (vertices_of order.now) steps (parent_in wood)) }
 {
     tri.facts();
-    order_tables::ranks_are_places();
-    order_runs::order_is_run();
-    order_woods::wood_of_order();
+    order_drawings::order_tables::ranks_are_places();
+    order_drawings::order_runs::order_is_run();
+    wood_laws::order_woods::wood_of_order();
     let last = order.at.len() - 1;
     let rows = order_rows(alloc, tri, order)?;
     let tables = parent_tables(alloc, &rows, order)?;

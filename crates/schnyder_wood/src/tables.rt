@@ -5,7 +5,7 @@
 ghost use Rattle.std.specs.Prelude.{◌≡◌, ◌<◌, ◌≤◌, ◌+◌, ◌-◌, ℕ, length, slice_index, slice_set, All, IfOk};
 ghost use Rattle.contour_runs.specs.Runs.{Step};
 ghost use Rattle.canon_order.specs.Orders.{vertices_of};
-ghost use Rattle.order_tables.specs.Rows.{AreRows};
+ghost use Rattle.order_drawings.specs.Rows.{AreRows};
 ghost use Rattle.schnyder_wood.specs.Tables.{AreCovered, AreParentTables, AreNamed};
 
 use canon_order::Order;

@@ -5,9 +5,9 @@ use Rattle.std.proofs.lemmas.List.{take_more}
 use Rattle.std.proofs.lemmas.Option.{none-some}
 use Rattle.std.proofs.lemmas.Bool.{lt-leb, false≢true, cases_lt, cases_eq, eqb-false, cond-true, cond-false, true≢false, not-false, not_from_true, false_from_ne_true}
 use Rattle.map_lists.specs.Lists.{Lists}
-use Rattle.map_definitions.specs.Maps.{list_of, HasDart, IsSimpleMap}
+use Rattle.map_theory.specs.Maps.{list_of, HasDart, IsSimpleMap}
 use Rattle.simple_maps.specs.Faults.{Fault, out_of_range, loop_at, repeated, one_sided, lesser_of, least_where, or_from, first_from, least_out_of_range, own_number, least_repeated, least_one_sided, fault_or, first_fault}
-use Rattle.map_definitions.proofs.EntryLemmas.{Contains-here, Contains-there, Contains-cons_cases, count_of, one-le-count_of, Contains-from_count_of, count_of-le-one, AllPairs-from_counts, Contains-from_list_any, list_any-from_Contains, count_of-push, count_of-push_same, count_of-push_other}
+use Rattle.map_theory.proofs.EntryLemmas.{Contains-here, Contains-there, Contains-cons_cases, count_of, one-le-count_of, Contains-from_count_of, count_of-le-one, AllPairs-from_counts, Contains-from_list_any, list_any-from_Contains, count_of-push, count_of-push_same, count_of-push_other}
 
 -- the least number of which P holds, where there is one
 abbrev pub IsLeast : (ℕ → Type 0) → Option ℕ → Type 0

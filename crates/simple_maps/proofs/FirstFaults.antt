@@ -4,8 +4,8 @@ use Rattle.std.proofs.lemmas.List.{get_or_past}
 use Rattle.std.specs.List.{list_any}
 use Rattle.std.proofs.lemmas.Bool.{cases_lt, cases_eq, not_from_true, false_from_ne_true, true≢false}
 use Rattle.map_lists.specs.Lists.{Lists}
-use Rattle.map_definitions.specs.Maps.{list_of}
-use Rattle.map_definitions.proofs.EntryLemmas.{list_any-from_Contains, Contains-from_list_any}
+use Rattle.map_theory.specs.Maps.{list_of}
+use Rattle.map_theory.proofs.EntryLemmas.{list_any-from_Contains, Contains-from_list_any}
 use Rattle.simple_maps.specs.Faults.{Fault, out_of_range, loop_at, repeated, one_sided, or_from, first_from, least_out_of_range, own_number, least_repeated, least_one_sided, fault_or, first_fault}
 use Rattle.simple_maps.specs.Laws.{HasFault, kind, first_vertex, second_vertex, IsNoLater, IsFirstFault, NoFaultIsSimple, FirstFaultIsFirst}
 use Rattle.simple_maps.proofs.FaultLemmas.{IsLeast, IsLeast-same, IsLeast-least_where, IsLeast-least_repeated, Passes, IsSimpleMap-from_first_fault, first_fault-IsSimpleMap}

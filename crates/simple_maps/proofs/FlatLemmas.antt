@@ -3,8 +3,8 @@ use Rattle.std.proofs.Common.{ℕ, zero, suc, ◌+◌, ◌-◌, ◌<◌, ◌≤�
 use Rattle.std.proofs.lemmas.List.{length-take-le, length-drop, get_or-take, get_or-drop}
 use Rattle.map_lists.specs.Cuts.{cut, AreCuts}
 use Rattle.map_lists.proofs.CutLemmas.{length-cut, get_or-cut, AreCuts-le, AreCuts-at}
-use Rattle.map_definitions.specs.Maps.{list_of, darts, darts_before, dart_count}
-use Rattle.map_definitions.proofs.DartLemmas.{darts_before_all, dart_at_place, place_of_number}
+use Rattle.map_theory.specs.Maps.{list_of, darts, darts_before, dart_count}
+use Rattle.map_theory.proofs.DartLemmas.{darts_before_all, dart_at_place, place_of_number}
 
 -- the part of a list from one place to another
 pub length-slice_range : (entries : List ℕ) (start end : ℕ) → start ≤ end → end ≤ length entries → length (slice_range entries start end) ≡ end - start

@@ -8,3 +8,4 @@ pub mod PassedLemmas
 pub mod TableLemmas
 pub mod TwinLemmas
 pub mod FirstFaults
+mod Refused

@@ -5,8 +5,8 @@ use Rattle.std.proofs.lemmas.List.Elements.{Contains-push, Contains-push_cases, 
 use Rattle.std.proofs.lemmas.Bool.{cases_eq}
 use Rattle.simple_maps.specs.Faults.{lesser_of, least_repeated, first_from, least_out_of_range}
 use Rattle.map_lists.specs.Lists.{Lists}
-use Rattle.map_definitions.specs.Maps.{list_of}
-use Rattle.map_definitions.proofs.DartLemmas.{HasDart-at}
+use Rattle.map_theory.specs.Maps.{list_of}
+use Rattle.map_theory.proofs.DartLemmas.{HasDart-at}
 use Rattle.simple_maps.proofs.FaultLemmas.{in_range_from_none, least_repeated_push_again, least_repeated_push_first}
 
 -- the numbers with this mark are those of the list, and no mark is greater

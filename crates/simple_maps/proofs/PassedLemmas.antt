@@ -5,8 +5,8 @@ use Rattle.std.proofs.lemmas.List.{get_or_default}
 use Rattle.std.proofs.lemmas.Option.{slice_get-get_or}
 use Rattle.map_lists.specs.Cuts.{cut, AreCuts}
 use Rattle.map_lists.proofs.CutLemmas.{length-cut}
-use Rattle.map_definitions.specs.Maps.{Dart, HasDart, list_of, darts, dart_number, place_of, twin_dart}
-use Rattle.map_definitions.proofs.DartLemmas.{length-darts, get_or-dart_number, dart_number-lt, place_of-lt-length, get_or-place_of, HasDart-darts}
+use Rattle.map_theory.specs.Maps.{Dart, HasDart, list_of, darts, dart_number, place_of, twin_dart}
+use Rattle.map_theory.proofs.DartLemmas.{length-darts, get_or-dart_number, dart_number-lt, place_of-lt-length, get_or-place_of, HasDart-darts}
 use Rattle.simple_maps.specs.Tables.{AreSlots}
 use Rattle.simple_maps.specs.Pass.{IsSimpleList, IsPlaced, AreMutual}
 use Rattle.simple_maps.proofs.FlatLemmas.{end-is, entry-is, last-is, count-is, dart-by}

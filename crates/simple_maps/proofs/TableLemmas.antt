@@ -3,8 +3,8 @@ use Rattle.std.proofs.Common.{ℕ, ◌+◌, ◌<◌, ◌≡◌, List, [], ◌∷
 use Rattle.std.proofs.lemmas.List.{length_push, get_or_append_left, get_or_push}
 use Rattle.std.proofs.lemmas.Bool.{cases_lt}
 use Rattle.map_lists.specs.Lists.{Lists}
-use Rattle.map_definitions.specs.Maps.{list_of, darts_before, dart_count, dart_number, place_of}
-use Rattle.map_definitions.proofs.DartLemmas.{darts_before_none, darts_before_end}
+use Rattle.map_theory.specs.Maps.{list_of, darts_before, dart_count, dart_number, place_of}
+use Rattle.map_theory.proofs.DartLemmas.{darts_before_none, darts_before_end}
 use Rattle.simple_maps.specs.Tables.{StartsTo}
 
 -- at first no dart stands before

@@ -5,11 +5,11 @@ use Rattle.std.proofs.lemmas.List.{length_push, get_or_append_left, get_or_push,
 use Rattle.std.proofs.lemmas.Option.{none-some, slice_get-get_or, slice_get_within, get_or_from_slice_get}
 use Rattle.std.proofs.lemmas.Bool.{cases_lt, not_from_true, not_from_false, false_from_ne_true}
 use Rattle.map_lists.specs.Lists.{Lists}
-use Rattle.map_definitions.specs.Maps.{Dart, list_of, HasDart, darts, darts_before, dart_count, dart_number, twin_dart}
+use Rattle.map_theory.specs.Maps.{Dart, list_of, HasDart, darts, darts_before, dart_count, dart_number, twin_dart}
 use Rattle.simple_maps.specs.Faults.{lesser_of, least_one_sided}
-use Rattle.map_definitions.proofs.DartLemmas.{length-darts, darts_before_none, darts_before_more, HasDart-darts, get_or-dart_number, dart_number-lt, dart_at_place}
+use Rattle.map_theory.proofs.DartLemmas.{length-darts, darts_before_none, darts_before_more, HasDart-darts, get_or-dart_number, dart_number-lt, dart_at_place}
 use Rattle.simple_maps.proofs.FaultLemmas.{least_where_more_yes, least_where_more_no}
-use Rattle.map_definitions.proofs.EntryLemmas.{list_any-from_Contains, Contains-from_list_any}
+use Rattle.map_theory.proofs.EntryLemmas.{list_any-from_Contains, Contains-from_list_any}
 use Rattle.simple_maps.specs.Tables.{AreTwins}
 
 -- what stands among the ends is a dart

@@ -1,7 +1,7 @@
 -- The tables of a simple map.
 use Rattle.std.specs.Prelude.{ℕ, ◌+◌, ◌<◌, ◌≤◌, ◌≡◌, List, length, slice_get, slice_index, slice_index_or, Some}
 use Rattle.map_lists.specs.Lists.{Lists}
-use Rattle.map_definitions.specs.Maps.{Dart, IsSimpleMap, twin_dart, darts, darts_before}
+use Rattle.map_theory.specs.Maps.{Dart, IsSimpleMap, twin_dart, darts, darts_before}
 
 -- for each vertex up to n, how many darts stand before its own
 pub record StartsTo (lists : Lists) (starts : List ℕ) (n : ℕ) : Type 0 where

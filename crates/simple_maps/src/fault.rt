@@ -5,7 +5,7 @@ use std::alloc::AllocError;
 /// Why lists are no simple map, with vertices numbered from 0, or want of memory.
 ///
 /// The first kind that applies is named, and of it the least first and then the least second vertex.
-#[derive(Clone, Copy, Debug, PartialEq, Eq)]
+#[derive(Clone, Copy, PartialEq, Eq)]
 pub enum MapFault {
     /// The first vertex's list holds the second number, which is no vertex.
     OutOfRange(u16, u16),

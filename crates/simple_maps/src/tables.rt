@@ -1,6 +1,6 @@
 //! The tables of a map: where each vertex's darts begin, what each dart's ends are, and its twin.
 ghost use Rattle.std.specs.Prelude.{◌≡◌, ◌+◌, ◌^◌, ◌<◌, ◌++◌, ◌↔◌, ℕ, [], length, slice_get, Some, None, IsTrue, IfOk, OnOk, IfSome, IfNone, MatchOption, Contains};
-ghost use Rattle.map_definitions.specs.Maps.{HasDart, list_of, darts, darts_from, darts_before, dart_count, dart_number, place_of};
+ghost use Rattle.map_theory.specs.Maps.{HasDart, list_of, darts, darts_from, darts_before, dart_count, dart_number, place_of};
 ghost use Rattle.simple_maps.specs.Tables.{StartsTo};
 
 use crate::faults::lesser;

@@ -4,7 +4,7 @@
 //! list is gone over. What the threads give is a hint only: it is tried before it is taken, and where it
 //! fails the other list is searched. So no answer rests on the threads.
 ghost use Rattle.std.specs.Prelude.{◌≡◌, ◌+◌, ◌^◌, ◌<◌, length, slice_get, Some, None, IfOk, IfErr, OnOk, MatchOption};
-ghost use Rattle.map_definitions.specs.Maps.{HasDart, list_of, darts, darts_before, dart_count};
+ghost use Rattle.map_theory.specs.Maps.{HasDart, list_of, darts, darts_before, dart_count};
 ghost use Rattle.simple_maps.specs.Faults.{first_fault, first_from, least_out_of_range, own_number, least_repeated, least_one_sided};
 ghost use Rattle.simple_maps.specs.MapFault.{Names};
 ghost use Rattle.simple_maps.specs.Tables.{StartsTo, AreTwins};

@@ -6,9 +6,9 @@ use Rattle.std.proofs.lemmas.List.Concat.{length-flat_map}
 use Rattle.std.proofs.lemmas.List.Sums.{length-filter, sum_by_push, sum_by-cons}
 use Rattle.std.proofs.lemmas.Bool.{cases_lt, cond-true, cond-false, le-ltb}
 use Rattle.map_lists.specs.Lists.{Lists}
-use Rattle.map_definitions.specs.Maps.{Dart, IsSimpleMap, list_of, dart_count, edge_count, darts_from}
-use Rattle.map_definitions.proofs.EntryLemmas.{count_of, count_of-le-one, Contains-from_count_of, Contains-counted, Contains-from_list_any, list_any-from_Contains}
-use Rattle.map_definitions.proofs.DartCounts.{sum_below, sum_below-add, sum_below-same, sum_below-zero, sum_below-count_of, sum_below-front, dart_count-edge_count, count_mirrored}
+use Rattle.map_theory.specs.Maps.{Dart, IsSimpleMap, list_of, dart_count, edge_count, darts_from}
+use Rattle.map_theory.proofs.EntryLemmas.{count_of, count_of-le-one, Contains-from_count_of, Contains-counted, Contains-from_list_any, list_any-from_Contains}
+use Rattle.map_theory.proofs.DartCounts.{sum_below, sum_below-add, sum_below-same, sum_below-zero, sum_below-count_of, sum_below-front, dart_count-edge_count, count_mirrored}
 use Rattle.svg_out.specs.Edges.{vertices, later_neighbours, edges}
 use Rattle.svg_out.proofs.EdgeLemmas.{range-more}
 

@@ -8,8 +8,8 @@ use Rattle.std.proofs.lemmas.List.Elements.{All-append, All-nil, All-map, All-co
 use Rattle.std.proofs.lemmas.List.Sorted.{IsNonDecreasingBy-from_sort, Contains-permutation, IsPermutation-sym, sum_by-IsPermutation}
 use Rattle.std.proofs.lemmas.List.Kept.{AllPairs-filter}
 use Rattle.map_lists.specs.Lists.{Lists}
-use Rattle.map_definitions.specs.Maps.{Dart, IsSimpleMap, list_of, darts_from}
-use Rattle.map_definitions.proofs.EntryLemmas.{Contains-here, Contains-there, Contains-cons_cases, AllPairs-from_counts, count_of-le-one, Contains-from_filter, Contains-filter, Contains-from_list_any, list_any-from_Contains}
+use Rattle.map_theory.specs.Maps.{Dart, IsSimpleMap, list_of, darts_from}
+use Rattle.map_theory.proofs.EntryLemmas.{Contains-here, Contains-there, Contains-cons_cases, AllPairs-from_counts, count_of-le-one, Contains-from_filter, Contains-filter, Contains-from_list_any, list_any-from_Contains}
 use Rattle.svg_out.specs.Edges.{vertices, later_neighbours, edges, AreBelow}
 
 -- one number more

@@ -2,7 +2,7 @@
 use Rattle.std.specs.Prelude.{ℕ, ◌<◌, List, All, filter, flat_map, ◌&&◌, nat_lt, ◌==◌}
 use Rattle.std.specs.List.{range_with_len, list_any}
 use Rattle.map_lists.specs.Lists.{Lists}
-use Rattle.map_definitions.specs.Maps.{Dart, list_of, vertex_count, darts_from}
+use Rattle.map_theory.specs.Maps.{Dart, list_of, vertex_count, darts_from}
 
 -- the vertices, in rising order
 abbrev pub vertices : Lists → List ℕ

@@ -3,7 +3,7 @@ use Rattle.std.specs.Prelude.{ℕ, ℤ, pos, ◌+ℤ◌, ◌-ℤ◌, ◌*ℤ◌,
 use Rattle.std.specs.Int.{int_max}
 use Rattle.std.specs.Fmt.{signed_decimal}
 use Rattle.map_lists.specs.Lists.{Lists}
-use Rattle.map_definitions.specs.Maps.{Dart, IsSimpleMap, vertex_count, edge_count}
+use Rattle.map_theory.specs.Maps.{Dart, IsSimpleMap, vertex_count, edge_count}
 use Rattle.pg_plane.specs.declared.point.Point.{Point}
 use Rattle.pg_plane.specs.declared.figure.BarFigure.{BarFigure}
 use Rattle.pg_plane.specs.declared.figure.RectFigure.{RectFigure}

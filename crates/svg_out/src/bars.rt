@@ -1,7 +1,7 @@
 //! Visibility drawings as SVG.
 ghost use Rattle.std.specs.Prelude.{◌≡◌, ◌<◌, ℕ, ℤ, pos, ◌+ℤ◌, ◌-ℤ◌, ◌++◌, length, fold, slice_index_or, OnOk, OnErr, IfOk};
 ghost use Rattle.std.specs.Int.{int_max};
-ghost use Rattle.map_definitions.specs.Maps.{Dart, IsSimpleMap, edge_count};
+ghost use Rattle.map_theory.specs.Maps.{Dart, IsSimpleMap, edge_count};
 ghost use Rattle.figure_text.specs.Text.{integer_at, HasBars};
 ghost use Rattle.svg_out.specs.Edges.{edges as the_edges, AreBelow};
 ghost use Rattle.svg_out.specs.Svg.{across as far_right, greatest, thick as the_width, bar, upright, bar_marks, column_marks, bars_body, bars_svg, HasColumns};

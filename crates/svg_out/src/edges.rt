@@ -1,6 +1,6 @@
 //! The edges of a map in their order.
 ghost use Rattle.std.specs.Prelude.{◌≡◌, ◌<◌, [], ◌∷◌, ◌++◌, length, filter, nat_lt, OnOk, IfOk};
-ghost use Rattle.map_definitions.specs.Maps.{IsSimpleMap, edge_count, darts_from};
+ghost use Rattle.map_theory.specs.Maps.{IsSimpleMap, edge_count, darts_from};
 ghost use Rattle.svg_out.specs.Edges.{later_neighbours, edges as the_edges};
 
 use map_lists::Rotations;

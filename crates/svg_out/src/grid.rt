@@ -1,6 +1,6 @@
 //! Straight-line drawings as SVG.
 ghost use Rattle.std.specs.Prelude.{◌≡◌, ◌<◌, ℕ, ◌++◌, length, map, flat_map, slice_index_or, OnOk, OnErr, IfOk};
-ghost use Rattle.map_definitions.specs.Maps.{Dart, IsSimpleMap};
+ghost use Rattle.map_theory.specs.Maps.{Dart, IsSimpleMap};
 ghost use Rattle.figure_text.specs.Text.{point_at};
 ghost use Rattle.svg_out.specs.Edges.{edges as the_edges, AreBelow};
 ghost use Rattle.svg_out.specs.Svg.{across as far_right, down as far_down, greatest, straight_edge, dot, grid_body, grid_svg};

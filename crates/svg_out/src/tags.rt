@@ -49,7 +49,7 @@ pub(crate) fn extent(p: i32, q: i32) -> i64
 }
 
 /// A place in the picture.
-#[derive(Clone, Copy, Debug, PartialEq, Eq)]
+#[derive(Clone, Copy, PartialEq, Eq)]
 pub(crate) struct Spot {
     /// How far right it lies.
     pub(crate) x: i64,

@@ -4,24 +4,24 @@ use Rattle.std.proofs.lemmas.Int.{ints}
 use Rattle.std.proofs.lemmas.Bool.{cases_eq, cases_lt, lt-ltb, le-ltb}
 use Rattle.std.proofs.lemmas.List.{length-map, get_or_past}
 use Rattle.std.proofs.lemmas.List.Elements.{Contains-get_or}
-use Rattle.label_classes.specs.Classes.{label}
-use Rattle.label_classes.proofs.Counting.{count_below-le}
-use Rattle.label_classes.proofs.Orbits.{orbits_of, length-orbits_of}
-use Rattle.label_classes.proofs.Bound.{after}
-use Rattle.map_definitions.specs.Maps.{HasDart, list_of, place_of, dart_count, face_count}
-use Rattle.map_definitions.proofs.DartLemmas.{place_of-lt-length, place_of-get_or}
-use Rattle.euler_bound.proofs.DartPermutations.{rotation, twin, two_m}
+use Rattle.classes.specs.Classes.{label}
+use Rattle.classes.proofs.Counting.{count_below-le}
+use Rattle.classes.proofs.Orbits.{orbits_of, length-orbits_of}
+use Rattle.classes.proofs.Bound.{after}
+use Rattle.map_theory.specs.Maps.{HasDart, list_of, place_of, dart_count, face_count}
+use Rattle.map_theory.proofs.DartLemmas.{place_of-lt-length, place_of-get_or}
+use Rattle.map_theory.proofs.DartPermutations.{rotation, twin, two_m}
 use Rattle.pg_plane.specs.declared.figure.BarFigure.{BarFigure}
 use Rattle.half_edges.specs.Map.{Map, IsHalfMap, IsLive, dart_at}
 use Rattle.euler_faces.proofs.NumberLemmas.{some_of}
 use Rattle.bar_check.specs.Bars.{column_between}
-use Rattle.longest_paths.specs.Arcs.{arcs_of}
-use Rattle.bar_laws.specs.Drawn.{Reaches, IsDrawnBy}
-use Rattle.bar_laws.specs.Laws.{IsStMap}
-use Rattle.bar_laws.proofs.Bipolar.{faces_are}
-use Rattle.bar_laws.proofs.Bars.{column-numbered, dual_numbers_are_bars}
-use Rattle.dual_orders.specs.Columns.{AreColumns, in_row}
-use Rattle.dual_orders.specs.Numbered.{IsStOf, GiveDualNumbers}
+use Rattle.graph_search.specs.Arcs.{arcs_of}
+use Rattle.bipolar.specs.Drawn.{Reaches, IsDrawnBy}
+use Rattle.bipolar.specs.Laws.{IsStMap}
+use Rattle.bipolar.proofs.Bipolar.{faces_are}
+use Rattle.bipolar.proofs.Bars.{column-numbered, dual_numbers_are_bars}
+use Rattle.bipolar.specs.Columns.{AreColumns, in_row}
+use Rattle.bipolar.specs.Numbered.{IsStOf, GiveDualNumbers}
 use Rattle.visibility.specs.Ends.{IsLeastOf, IsGreatestOf, AreEnds}
 use Rattle.visibility.specs.Bars.{AreBarsOf}
 

@@ -2,7 +2,7 @@
 use Rattle.std.proofs.Common.{◌≡◌, ℕ, ◌+◌, ◌<◌, ◌++◌, List, [], ◌∷◌, length, get_or, map, take, ℤ, pos, sym, ap, ◌∙◌, subst, inl, inr, arith}
 use Rattle.std.proofs.lemmas.Bool.{cases_lt}
 use Rattle.std.proofs.lemmas.List.{length-append, get_or_append_left, get_or_push, map_more}
-use Rattle.longest_paths.specs.Arcs.{arcs_of}
+use Rattle.graph_search.specs.Arcs.{arcs_of}
 
 -- ends of the rows before v
 pub record AreEndsBelow (rows : List (List ℕ)) (IsEnd : List ℕ → ℕ → Type 0) (v : ℕ) (ends : List ℤ) : Type 0 where

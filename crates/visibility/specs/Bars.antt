@@ -1,12 +1,12 @@
 -- The bars of an st-order.
 use Rattle.std.specs.Prelude.{ℕ, ◌-◌, ◌≡◌, List, Some, pos}
-use Rattle.map_definitions.specs.Maps.{face_count}
+use Rattle.map_theory.specs.Maps.{face_count}
 use Rattle.pg_plane.specs.declared.figure.BarFigure.{BarFigure}
 use Rattle.half_edges.specs.Map.{Map, dart_at}
-use Rattle.bipolar.specs.StOrders.{IsStOrder}
+use Rattle.st_orders.specs.StOrders.{IsStOrder}
 use Rattle.bar_check.specs.Bars.{HasBars, IsValidBars}
-use Rattle.bar_laws.specs.DualNumbers.{AreDualNumbers}
-use Rattle.bar_laws.specs.Drawn.{IsDrawnBy}
+use Rattle.bipolar.specs.DualNumbers.{AreDualNumbers}
+use Rattle.bipolar.specs.Drawn.{IsDrawnBy}
 
 -- the heights are these ranks, the columns are their dual numbers for the dart of this id, and each bar reaches over the columns of its edges; and the bars are valid
 pub record AreBarsOf (map : Map) (rank : List ℕ) (st : ℕ) (fig : BarFigure) : Type 0 where

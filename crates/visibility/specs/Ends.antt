@@ -1,6 +1,6 @@
 -- The least and the greatest number of a row, and lists of them as whole numbers.
 use Rattle.std.specs.Prelude.{ℕ, ◌<◌, ◌≤◌, ◌≡◌, List, length, slice_index, slice_index_or, ℤ, pos}
-use Rattle.longest_paths.specs.Arcs.{arcs_of}
+use Rattle.graph_search.specs.Arcs.{arcs_of}
 
 -- x is the least number of a row
 pub record IsLeastOf (row : List ℕ) (x : ℕ) : Type 0 where

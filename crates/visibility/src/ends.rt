@@ -1,6 +1,6 @@
 //! Where bars begin and end.
 ghost use Rattle.std.specs.Prelude.{◌≡◌, ◌<◌, ◌≤◌, ◌^◌, ◌⊎◌, ℕ, map, pos, length, slice_index, IfOk};
-ghost use Rattle.longest_paths.specs.Arcs.{arcs_of};
+ghost use Rattle.graph_search.specs.Arcs.{arcs_of};
 ghost use Rattle.visibility.specs.Ends.{IsLeastOf, IsGreatestOf, AreEnds};
 
 use half_edges::Counts;

@@ -1,18 +1,18 @@
 //! The bars of an st-order.
 ghost use Rattle.std.specs.Prelude.{◌≡◌, ◌<◌, ◌-◌, ℕ, pos, length, Some, IfOk};
-ghost use Rattle.map_definitions.specs.Maps.{IsPlane, component_count};
-ghost use Rattle.map_cuts.specs.Cuts.{IsCutVertex};
+ghost use Rattle.map_theory.specs.Maps.{IsPlane, component_count};
+ghost use Rattle.graph_search.specs.Cuts.{IsCutVertex};
 ghost use Rattle.half_edges.specs.Map.{IsHalfMap, IsLive, dart_at};
-ghost use Rattle.bipolar.specs.StOrders.{IsStOrderOf};
-ghost use Rattle.dual_orders.specs.Numbered.{IsStOf, GiveDualNumbers};
+ghost use Rattle.st_orders.specs.StOrders.{IsStOrderOf};
+ghost use Rattle.bipolar.specs.Numbered.{IsStOf, GiveDualNumbers};
 ghost use Rattle.visibility.specs.Bars.{AreBarsOf, AreBarsFor};
 
 use crate::ends::{coordinates, left_ends, right_ends};
-use bipolar::{StOrder, st_order};
-use dual_orders::{dual_rows, edge_columns};
+use bipolar::dual_orders::{dual_rows, edge_columns};
 use half_edges::{Counts, DartId, HalfMap};
 use map_lists::ItemLists;
 use pg_plane::BarFigure;
+use st_orders::{StOrder, st_order};
 use std::alloc::{AllocError, Global};
 
 // The drawing of ranks and of rows of dual numbers.

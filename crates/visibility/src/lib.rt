@@ -1,7 +1,9 @@
 //! Visibility drawings of plane maps: level bars for vertices, and upright segments for edges.
 #![tactic(auto)]
 
+pub mod bar_figures;
 mod ends;
 mod figure;
 
+pub use bar_check::{BarVerdict, check_bars};
 pub use figure::{bars, bars_of_order};

@@ -1,6 +1,6 @@
 use Rattle.std.proofs.Common.{subst, arith}
 use Rattle.map_lists.specs.Lists.{Lists}
-use Rattle.map_edits.specs.Completed.{IsExtended}
+use Rattle.plane_laws.specs.MapEditsCompleted.{IsExtended}
 use Rattle.plane_laws.proofs.EdgeBound.{edge_bound}
 use Rattle.plane_laws.proofs.Triangles.{edge_bound_met}
 use Rattle.augment_tri.proofs.Growth.{IsGrown-chained}

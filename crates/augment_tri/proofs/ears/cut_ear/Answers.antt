@@ -1,5 +1,5 @@
 use Rattle.std.proofs.Common.{◌≡◌, Some, option_map, ap, ◌∙◌}
-use Rattle.map_definitions.specs.Maps.{Dart, follows, face_step, twin_dart}
+use Rattle.map_theory.specs.Maps.{Dart, follows, face_step, twin_dart}
 use Rattle.half_edges.specs.Map.{dart_at}
 use Rattle.augment_tri.proofs.NearEars.{dart_before}
 use Rattle.augment_tri.proofs.ears.cut_ear.Goals as goal

@@ -1,5 +1,5 @@
 use Rattle.std.proofs.Common.{inl, inr}
-use Rattle.map_edits.specs.Chords.{CanJoin}
+use Rattle.plane_laws.specs.Chords.{CanJoin}
 use Rattle.augment_tri.proofs.NearEars.{MatchBool-weaker, CanJoin-turned}
 use Rattle.augment_tri.proofs.ears.is_first.Goals as goal
 

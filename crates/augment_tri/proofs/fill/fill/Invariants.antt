@@ -1,5 +1,5 @@
 use Rattle.std.proofs.Common.{◌≡◌}
-use Rattle.map_definitions.specs.Maps.{component_count}
+use Rattle.map_theory.specs.Maps.{component_count}
 use Rattle.augment_tri.specs.Growing.{IsFilled, IsGrown, IsRoomy}
 use Rattle.augment_tri.proofs.fill.fill.Given as goal
 

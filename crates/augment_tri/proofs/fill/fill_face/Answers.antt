@@ -1,5 +1,5 @@
 use Rattle.std.proofs.Common.{subst, sym, ◌∙◌}
-use Rattle.map_definitions.specs.Maps.{Dart}
+use Rattle.map_theory.specs.Maps.{Dart}
 use Rattle.augment_tri.specs.Growing.{IsCovered}
 use Rattle.augment_tri.proofs.EarCover.{filled_from_covered}
 use Rattle.augment_tri.proofs.Growth.{IsGrown-itself, IsGrown-chained}

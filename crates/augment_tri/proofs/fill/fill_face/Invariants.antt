@@ -1,5 +1,5 @@
 use Rattle.std.proofs.Common.{◌≡◌, ℕ, Some}
-use Rattle.map_definitions.specs.Maps.{component_count}
+use Rattle.map_theory.specs.Maps.{component_count}
 use Rattle.half_edges.specs.Map.{Map, IsLive, dart_at}
 use Rattle.augment_tri.specs.Growing.{IsCovered, IsGrown, IsRoomy}
 use Rattle.augment_tri.proofs.fill.fill_face.Given as goal

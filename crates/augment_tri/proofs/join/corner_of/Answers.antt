@@ -1,7 +1,7 @@
 use Rattle.std.proofs.Common.{◌+◌, Option, Some, option_map, is_some, ap, refl, arith, get_or}
 use Rattle.std.proofs.lemmas.List.{get_or_default}
-use Rattle.map_definitions.specs.Maps.{Dart, list_of, place_of}
-use Rattle.map_definitions.proofs.DartLemmas.{place_of-lt-length}
+use Rattle.map_theory.specs.Maps.{Dart, list_of, place_of}
+use Rattle.map_theory.proofs.DartLemmas.{place_of-lt-length}
 use Rattle.augment_tri.proofs.join.corner_of.Goals as goal
 
 pub returns-in-Some : goal.returns-in-Some

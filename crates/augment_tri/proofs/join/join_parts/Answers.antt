@@ -1,9 +1,9 @@
 use Rattle.std.proofs.Common.{◌≡◌, ◌+◌, ◌<◌, length, sym, ap, ◌∙◌, refl, arith, ◌==◌}
-use Rattle.label_classes.specs.Classes.{label}
-use Rattle.label_classes.proofs.Classes.{same_class-from}
-use Rattle.label_classes.proofs.Counting.{count_below-le}
-use Rattle.map_definitions.specs.Maps.{component_classes}
-use Rattle.euler_bound.proofs.DartPermutations.{IsLabels-components, edge_together}
+use Rattle.classes.specs.Classes.{label}
+use Rattle.classes.proofs.Classes.{same_class-from}
+use Rattle.classes.proofs.Counting.{count_below-le}
+use Rattle.map_theory.specs.Maps.{component_classes}
+use Rattle.map_theory.proofs.DartPermutations.{IsLabels-components, edge_together}
 use Rattle.conn_parts.proofs.PartLemmas.{least-from_number, not_least-from_number, least_counted, not_least_counted, first_counted}
 use Rattle.augment_tri.proofs.Growth.{IsGrown-itself, IsGrown-chained, grown_join, spare_for_join}
 use Rattle.augment_tri.proofs.JoinedParts.{AreJoined-none, AreJoined-apart, AreJoined-skip, AreJoined-more, AreJoined-all}

@@ -1,6 +1,6 @@
 use Rattle.std.proofs.Common.{◌≡◌, ◌<◌, ◌==◌}
-use Rattle.label_classes.specs.Classes.{count_below, label}
-use Rattle.map_definitions.specs.Maps.{component_classes}
+use Rattle.classes.specs.Classes.{count_below, label}
+use Rattle.map_theory.specs.Maps.{component_classes}
 use Rattle.augment_tri.specs.Growing.{IsGrown, IsRoomy}
 use Rattle.augment_tri.proofs.JoinedParts.{AreJoined}
 use Rattle.augment_tri.proofs.join.join_parts.Given as goal

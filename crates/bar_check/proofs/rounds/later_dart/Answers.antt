@@ -1,6 +1,6 @@
 use Rattle.std.proofs.Common.{◌≡◌, ℕ, Some, sym, ap, ◌∙◌, subst}
 use Rattle.std.specs.Option.{option_map}
-use Rattle.map_definitions.specs.Maps.{Dart}
+use Rattle.map_theory.specs.Maps.{Dart}
 use Rattle.half_edges.specs.Map.{dart_at, first_dart}
 use Rattle.draw_check.proofs.RoundLemmas.{last_place, later_place}
 use Rattle.bar_check.proofs.rounds.later_dart.Goals as goal

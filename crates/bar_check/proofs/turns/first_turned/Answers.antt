@@ -1,5 +1,5 @@
 use Rattle.std.proofs.Common.{ℕ, ◌≤◌, length, below_more}
-use Rattle.map_definitions.specs.Maps.{list_of}
+use Rattle.map_theory.specs.Maps.{list_of}
 use Rattle.bar_check.specs.Bars.{GoesOnceRound}
 use Rattle.bar_check.proofs.turns.first_turned.Goals as goal
 

@@ -1,6 +1,6 @@
 use Rattle.std.proofs.Common.{◌≡◌, ℕ, ◌+◌, Bool, true, sym, subst, ◌∙◌, arith}
 use Rattle.std.proofs.lemmas.Bool.{true≢false}
-use Rattle.map_definitions.specs.Maps.{list_of}
+use Rattle.map_theory.specs.Maps.{list_of}
 use Rattle.bar_check.specs.Bars.{IsBreak}
 use Rattle.draw_check.specs.Loops.{IsOneOf}
 use Rattle.draw_check.proofs.OnceLemmas.{IsOneOf-more}

@@ -1,5 +1,5 @@
 use Rattle.std.proofs.Common.{◌-◌, length}
-use Rattle.map_definitions.specs.Maps.{list_of}
+use Rattle.map_theory.specs.Maps.{list_of}
 use Rattle.bar_check.specs.Bars.{IsBreak}
 use Rattle.draw_check.specs.Loops.{IsOneOf}
 use Rattle.draw_check.proofs.RoundLemmas.{LeavesFrom, place_at}

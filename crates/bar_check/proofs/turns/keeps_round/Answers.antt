@@ -1,5 +1,5 @@
 use Rattle.std.proofs.Common.{get_or}
-use Rattle.map_definitions.specs.Maps.{list_of}
+use Rattle.map_theory.specs.Maps.{list_of}
 use Rattle.bar_check.proofs.OnceRound.{match_turned}
 use Rattle.bar_check.proofs.TurnLemmas.{two_from_later, one_from_last}
 use Rattle.bar_check.proofs.turns.keeps_round.Goals as goal

@@ -1,8 +1,8 @@
 use Rattle.std.proofs.Common.{◌≡◌, ◌+◌, ◌<◌, ℕ, List, [], ◌∷◌, ◌++◌, length, get_or, set, true, All, subst, sym, ap, ◌∙◌, arith}
 use Rattle.std.proofs.lemmas.Result.{IfOk-weaker}
 use Rattle.std.proofs.lemmas.List.Elements.{All-append, All-cons, All-nil}
-use Rattle.map_definitions.specs.Maps.{list_of}
-use Rattle.map_definitions.proofs.EntryLemmas.{count_of}
+use Rattle.map_theory.specs.Maps.{list_of}
+use Rattle.map_theory.proofs.EntryLemmas.{count_of}
 use Rattle.canon_order.proofs.Marks.{list_within, counter_room, IsCounted-marked, IsStacked-marked}
 use Rattle.canon_order.specs.Contours.{IsCounted, IsStacked}
 use Rattle.canon_order.proofs.contour.mark.Goals as goal

@@ -1,8 +1,8 @@
 use Rattle.std.proofs.Common.{◌≡◌, ◌↔◌, ◌⊎◌, ◌<◌, ℕ, List, Bool, true, false, [], ◌∷◌, length, reverse, set, Contains, sym, ap, ◌∙◌, subst, arith, length-set}
 use Rattle.std.proofs.lemmas.List.{reverse-append, length-append, length-reverse}
 use Rattle.std.proofs.lemmas.Result.{IfOk-weaker}
-use Rattle.map_definitions.specs.Maps.{follows, list_of}
-use Rattle.map_definitions.proofs.DartLemmas.{HasDart-follows}
+use Rattle.map_theory.specs.Maps.{follows, list_of}
+use Rattle.map_theory.proofs.DartLemmas.{HasDart-follows}
 use Rattle.canon_order.specs.Contours.{is_set, IsCounted, IsContour}
 use Rattle.canon_order.specs.Orders.{IsCanonicalOrder}
 use Rattle.canon_order.proofs.Marks.{IsCounted-none}

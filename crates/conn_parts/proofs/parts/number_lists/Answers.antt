@@ -3,7 +3,7 @@ use Rattle.std.proofs.Math.Seq.{take-append_seam}
 use Rattle.map_lists.specs.Cuts.{cut}
 use Rattle.map_lists.specs.Lists.{Lists}
 use Rattle.map_lists.proofs.CutLemmas.{IsStored, IsStored-cuts, IsStored-cut, length-cut}
-use Rattle.map_definitions.specs.Maps.{IsSimpleMap}
+use Rattle.map_theory.specs.Maps.{IsSimpleMap}
 use Rattle.euler_faces.specs.Numbers.{mark_at}
 use Rattle.euler_faces.specs.Search.{marks_of}
 use Rattle.euler_faces.proofs.SearchLemmas.{unset_after}

@@ -1,8 +1,8 @@
 use Rattle.std.proofs.Common.{◌≡◌, Some, Contains, refl, sym, ap, subst, ◌∙◌, eq-eqb}
 use Rattle.std.proofs.lemmas.Bool.{true≢false}
 use Rattle.std.specs.Option.{option_map}
-use Rattle.map_definitions.specs.Maps.{Dart}
-use Rattle.map_definitions.specs.Paths.{SameFace}
+use Rattle.map_theory.specs.Maps.{Dart}
+use Rattle.map_theory.specs.Paths.{SameFace}
 use Rattle.euler_faces.specs.FaceWalks.{walk_at}
 use Rattle.draw_check.specs.FaceVerdicts.{dart_of}
 use Rattle.draw_check.proofs.FaceIds.{dart_of-live, dart_of-is, third_is}

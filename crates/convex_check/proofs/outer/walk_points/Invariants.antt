@@ -1,6 +1,6 @@
 use Rattle.std.proofs.Common.{◌≡◌, ℕ, ◌<◌, length, get_or}
 use Rattle.euler_faces.specs.FaceWalks.{ids_of}
-use Rattle.drawings.specs.Drawing.{place}
+use Rattle.plane_drawings.specs.Drawing.{place}
 use Rattle.draw_check.specs.FaceVerdicts.{dart_of}
 use Rattle.convex_check.proofs.outer.walk_points.Given as goal
 

@@ -1,14 +1,14 @@
 use Rattle.std.proofs.Common.{Option, ◌≡◌, ◌∙◌, ◌+◌, ℕ, Some, unwrap_or, length, sym, ap, subst}
 use Rattle.std.specs.Option.{option_map}
 use Rattle.map_lists.specs.Lists.{Lists}
-use Rattle.map_definitions.specs.Maps.{Dart, face_count}
+use Rattle.map_theory.specs.Maps.{Dart, face_count}
 use Rattle.half_edges.specs.Map.{Map, dart_at}
 use Rattle.draw_check.specs.FaceVerdicts.{dart_of}
 use Rattle.draw_check.proofs.FaceIds.{dart_of-live}
-use Rattle.face_points.specs.Counts.{face_counts}
-use Rattle.face_points.specs.Turns.{well_turned}
-use Rattle.convex_points.specs.Points.{IsListedRun, ArePointsOf}
-use Rattle.convex_rows.specs.declared.rows.ConvexRows.{ConvexRows}
+use Rattle.convex_counts.specs.Counts.{face_counts}
+use Rattle.convex_counts.specs.Turns.{well_turned}
+use Rattle.convex_draw.specs.Points.{IsListedRun, ArePointsOf}
+use Rattle.convex_laws.specs.declared.convex_rows.rows.ConvexRows.{ConvexRows}
 use Rattle.convex_draw.proofs.ByRows.{IsRunByRows, IsRunByRows-of}
 use Rattle.convex_draw.proofs.GridLemmas.{faces_two, side_small, IsListedRun-rows, IsConvexGrid-drawn}
 use Rattle.convex_draw.proofs.draw.convex_draw.Goals as goal

@@ -1,7 +1,7 @@
 use Rattle.std.proofs.Common.{◌≡◌, ◌+◌, ◌-◌, ◌<◌, ◌≤◌, ℕ, suc, length, sym, ap, ◌∙◌, inl, inr, arith}
 use Rattle.std.proofs.lemmas.Bool.{cases_lt, true≢false}
-use Rattle.contour_counts.specs.Contours.{contour_of, inner_number}
-use Rattle.contour_counts.proofs.Moves.{length-contour}
+use Rattle.convex_orders.specs.Contours.{contour_of, inner_number}
+use Rattle.convex_orders.proofs.Moves.{length-contour}
 use Rattle.convex_orders.specs.Shown.{is_set}
 use Rattle.convex_orders.proofs.choice.end_of.Goals as goal
 

@@ -1,5 +1,5 @@
 use Rattle.std.proofs.Common.{ℕ, suc, ◌≤◌, ◌≡◌, length}
-use Rattle.contour_counts.specs.Contours.{contour_of}
+use Rattle.convex_orders.specs.Contours.{contour_of}
 use Rattle.convex_orders.specs.Splits.{IsGoneRun}
 use Rattle.convex_orders.proofs.choice.end_of.Given as goal
 

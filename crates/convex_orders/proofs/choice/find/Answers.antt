@@ -1,7 +1,7 @@
 use Rattle.std.proofs.Common.{◌≡◌, ◌+◌, ◌-◌, ◌<◌, ◌≤◌, ℕ, suc, List, true, false, length, slice_index, refl, sym, ap, ◌∙◌, subst, arith}
 use Rattle.std.proofs.lemmas.Result.{IfOk-weaker}
-use Rattle.contour_counts.specs.Contours.{contour_of}
-use Rattle.contour_counts.proofs.Moves.{length-contour}
+use Rattle.convex_orders.specs.Contours.{contour_of}
+use Rattle.convex_orders.proofs.Moves.{length-contour}
 use Rattle.convex_orders.specs.Splits.{IsLoosePlace}
 use Rattle.convex_orders.proofs.choice.find.Goals as goal
 

@@ -1,7 +1,7 @@
 use Rattle.std.proofs.Common.{◌+◌, ◌<◌, ℕ, suc, length, get_or, arith}
-use Rattle.contour_counts.specs.Contours.{contour_of}
-use Rattle.contour_counts.proofs.Moves.{length-contour}
-use Rattle.contour_counts.proofs.Rows.{entry-lt}
+use Rattle.convex_orders.specs.Contours.{contour_of}
+use Rattle.convex_orders.proofs.Moves.{length-contour}
+use Rattle.convex_orders.proofs.ContourCountsRows.{entry-lt}
 use Rattle.convex_orders.proofs.choice.is_kept.Goals as goal
 
 pub bounds-marks-edge_at : goal.bounds-marks-edge_at

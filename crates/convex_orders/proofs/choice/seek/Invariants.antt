@@ -1,5 +1,5 @@
 use Rattle.std.proofs.Common.{ℕ, ◌<◌, ◌≡◌, ◌+◌, length}
-use Rattle.contour_counts.specs.Contours.{contour_of}
+use Rattle.convex_orders.specs.Contours.{contour_of}
 use Rattle.convex_orders.specs.Splits.{IsLoosePlace}
 use Rattle.convex_orders.proofs.choice.seek.Given as goal
 

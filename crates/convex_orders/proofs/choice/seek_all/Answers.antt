@@ -1,6 +1,6 @@
 use Rattle.std.proofs.Common.{◌≡◌, ◌+◌, ◌-◌, ◌<◌, ◌≤◌, ℕ, suc, List, length, slice_index, inl, inr, sym, ap, ◌∙◌, subst, arith}
 use Rattle.std.proofs.lemmas.Bool.{cases_Bool}
-use Rattle.contour_counts.proofs.Moves.{length-contour}
+use Rattle.convex_orders.proofs.Moves.{length-contour}
 use Rattle.convex_orders.specs.Splits.{IsLoosePlace}
 use Rattle.convex_orders.proofs.choice.seek_all.Goals as goal
 

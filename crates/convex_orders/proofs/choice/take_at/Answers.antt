@@ -1,9 +1,9 @@
 use Rattle.std.proofs.Common.{◌≡◌, ◌↔◌, ◌+◌, ◌-◌, ◌<◌, ℕ, suc, List, true, length, get_or, Contains, refl, sym, ap, ◌∙◌, subst, arith}
 use Rattle.std.proofs.lemmas.Bool.{true≢false}
-use Rattle.map_definitions.specs.Maps.{HasDart, list_of}
-use Rattle.contour_counts.specs.Contours.{contour_of, inner_number}
-use Rattle.contour_counts.proofs.Moves.{length-contour, contour_left}
-use Rattle.contour_counts.proofs.Rows.{entry-lt}
+use Rattle.map_theory.specs.Maps.{HasDart, list_of}
+use Rattle.convex_orders.specs.Contours.{contour_of, inner_number}
+use Rattle.convex_orders.proofs.Moves.{length-contour, contour_left}
+use Rattle.convex_orders.proofs.ContourCountsRows.{entry-lt}
 use Rattle.convex_orders.specs.Shown.{is_set}
 use Rattle.convex_orders.proofs.TakenAt.{goes_right, goes_left, goes_only}
 use Rattle.convex_orders.proofs.choice.take_at.Goals as goal

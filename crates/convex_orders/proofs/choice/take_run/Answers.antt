@@ -1,6 +1,6 @@
 use Rattle.std.proofs.Common.{◌≡◌, ◌+◌, ◌-◌, ℕ, suc, length, sym, ◌∙◌, subst, arith}
-use Rattle.face_numbers.specs.FaceNumbers.{IsTable}
-use Rattle.contour_counts.specs.Contours.{contour_of}
+use Rattle.convex_orders.specs.FaceNumbers.{IsTable}
+use Rattle.convex_orders.specs.Contours.{contour_of}
 use Rattle.convex_orders.proofs.GoneRuns.{gone_run}
 use Rattle.convex_orders.proofs.choice.take_run.Goals as goal
 

@@ -1,5 +1,5 @@
 use Rattle.std.proofs.Common.{ℕ, List, get_or, sym, ap, subst}
-use Rattle.map_definitions.specs.Maps.{list_of}
+use Rattle.map_theory.specs.Maps.{list_of}
 use Rattle.convex_orders.specs.Shown.{IsRimIn}
 use Rattle.convex_orders.specs.Splits.{IsRimAt}
 use Rattle.convex_orders.proofs.Rows.{place_rim}

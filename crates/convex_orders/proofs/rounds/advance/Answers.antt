@@ -1,8 +1,8 @@
 use Rattle.std.proofs.Common.{◌≡◌, ◌+◌, ◌-◌, ◌<◌, ℕ, suc, List, length, slice_index, sym, ap, ◌∙◌, subst, arith}
-use Rattle.map_definitions.specs.Maps.{HasDart}
-use Rattle.face_numbers.specs.FaceNumbers.{IsTable}
-use Rattle.contour_counts.specs.Contours.{contour_of, AreEdges}
-use Rattle.contour_counts.specs.Counts.{met_between, edges_between, AreCounts}
+use Rattle.map_theory.specs.Maps.{HasDart}
+use Rattle.convex_orders.specs.FaceNumbers.{IsTable}
+use Rattle.convex_orders.specs.Contours.{contour_of, AreEdges}
+use Rattle.convex_orders.specs.Counts.{met_between, edges_between, AreCounts}
 use Rattle.convex_orders.specs.Cuts.{SomeCutPlaces, AreCutPlaces, IsPutIn}
 use Rattle.convex_orders.proofs.RowLemmas.{us_edges, us_back, us_in}
 use Rattle.convex_orders.proofs.Advanced.{order, within, ws_in, ws_edges, trace_from, new_list, put_order, us_short, some_cuts, room, room_edges, new_counts, row_more}

@@ -1,8 +1,8 @@
 use Rattle.std.proofs.Common.{◌≡◌, ◌↔◌, ◌+◌, ◌-◌, ◌<◌, ◌≤◌, List, ℕ, suc, true, length, get_or, slice_index, Contains, sym, ap, ◌∙◌, subst, arith}
-use Rattle.map_definitions.specs.Maps.{list_of, HasDart}
-use Rattle.face_numbers.specs.FaceNumbers.{IsTable}
-use Rattle.contour_counts.specs.Contours.{contour_of, AreEdges}
-use Rattle.contour_counts.specs.Counts.{met_below, AreCounts}
+use Rattle.map_theory.specs.Maps.{list_of, HasDart}
+use Rattle.convex_orders.specs.FaceNumbers.{IsTable}
+use Rattle.convex_orders.specs.Contours.{contour_of, AreEdges}
+use Rattle.convex_orders.specs.Counts.{met_below, AreCounts}
 use Rattle.convex_orders.specs.Shown.{is_set, IsOffAt, SomeOff}
 use Rattle.convex_orders.proofs.LastRounds.{contour_all}
 use Rattle.convex_orders.proofs.StandLemmas.{found, two_first, off_first, stands_first, shown_in, shown_edges, shown_room}

@@ -1,8 +1,8 @@
 use Rattle.std.proofs.Common.{◌≡◌, ◌+◌, ◌-◌, ◌<◌, ◌≤◌, List, ℕ, suc, length, get_or, sym, ap, ap₂, ◌∙◌, subst, arith}
-use Rattle.map_definitions.specs.Maps.{HasDart, dart_count}
-use Rattle.contour_counts.specs.Contours.{contour_of}
-use Rattle.contour_counts.specs.Counts.{AreCounts}
-use Rattle.contour_counts.proofs.Rows.{entry-lt}
+use Rattle.map_theory.specs.Maps.{HasDart, dart_count}
+use Rattle.convex_orders.specs.Contours.{contour_of}
+use Rattle.convex_orders.specs.Counts.{AreCounts}
+use Rattle.convex_orders.proofs.ContourCountsRows.{entry-lt}
 use Rattle.convex_orders.specs.Standing.{AllInner, HasOther, IsLastRow}
 use Rattle.convex_orders.proofs.StandLemmas.{base_back, stands_left, two_places, last_rows}
 use Rattle.convex_orders.proofs.rounds.peel.Goals as goal

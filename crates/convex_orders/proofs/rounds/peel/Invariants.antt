@@ -1,7 +1,7 @@
 use Rattle.std.proofs.Common.{ℕ, suc, ◌<◌, ◌≡◌, ◌+◌, length}
-use Rattle.map_definitions.specs.Maps.{dart_count}
-use Rattle.contour_counts.specs.Contours.{contour_of}
-use Rattle.contour_counts.specs.Counts.{AreCounts}
+use Rattle.map_theory.specs.Maps.{dart_count}
+use Rattle.convex_orders.specs.Contours.{contour_of}
+use Rattle.convex_orders.specs.Counts.{AreCounts}
 use Rattle.convex_orders.specs.Standing.{Stands}
 use Rattle.convex_orders.proofs.rounds.peel.Given as goal
 

@@ -1,7 +1,7 @@
 use Rattle.std.proofs.Common.{◌≡◌, ◌+◌, ◌-◌, ◌<◌, ◌≤◌, ◌++◌, List, [], ◌∷◌, ℕ, suc, length, get_or, refl, sym, ap, ap₂, ◌∙◌, subst, arith}
 use Rattle.std.specs.Prelude.{slice_range}
-use Rattle.contour_counts.specs.Contours.{contour_of}
-use Rattle.contour_counts.proofs.Moves.{length-contour}
+use Rattle.convex_orders.specs.Contours.{contour_of}
+use Rattle.convex_orders.proofs.Moves.{length-contour}
 use Rattle.convex_orders.proofs.LastRounds.{contour_all}
 use Rattle.convex_orders.proofs.rounds.put_last.Goals as goal
 

@@ -1,6 +1,6 @@
 use Rattle.std.proofs.Common.{◌≡◌, ◌+◌, ◌<◌, ℕ, suc, List, length, slice_index, refl, sym, ap, ap₂, ◌∙◌, subst, arith}
-use Rattle.contour_counts.specs.Contours.{contour_of, AreEdges}
-use Rattle.contour_counts.specs.Counts.{AreCounts}
+use Rattle.convex_orders.specs.Contours.{contour_of, AreEdges}
+use Rattle.convex_orders.specs.Counts.{AreCounts}
 use Rattle.convex_orders.specs.Shown.{IsChoice, SomeOff, IsOffAt}
 use Rattle.convex_orders.specs.Splits.{IsLoosePlace}
 use Rattle.convex_orders.specs.Standing.{Stands}

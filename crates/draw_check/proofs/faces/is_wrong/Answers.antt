@@ -1,7 +1,7 @@
 use Rattle.std.proofs.Common.{◌≡◌, ℕ, ◌<◌, true, not, Some, sym, ap, subst, ◌∙◌, arith}
 use Rattle.std.specs.Option.{option_map}
-use Rattle.map_definitions.specs.Maps.{Dart}
-use Rattle.map_definitions.specs.Paths.{SameFace}
+use Rattle.map_theory.specs.Maps.{Dart}
+use Rattle.map_theory.specs.Paths.{SameFace}
 use Rattle.draw_check.specs.FaceVerdicts.{IsDrawnWrong, dart_of}
 use Rattle.draw_check.proofs.FaceIds.{third_is, dart_of-live, dart_of-is, IsSign, well_is, wrong_is}
 use Rattle.draw_check.proofs.faces.is_wrong.Goals as goal

@@ -1,7 +1,7 @@
 use Rattle.std.proofs.Common.{◌≡◌, ℤ, pos, ◌<ℤ◌, true, MatchBool, rules, w64, FitsSigned, subst}
 use Rattle.std.proofs.lemmas.Int.{to_z-of_z}
 use Rattle.pg_plane.specs.Geometry.{area}
-use Rattle.drawings.specs.Drawing.{place}
+use Rattle.plane_drawings.specs.Drawing.{place}
 use Rattle.draw_check.proofs.faces.turns_well.Goals as goal
 
 pub returns : goal.returns

@@ -1,7 +1,7 @@
 use Rattle.std.proofs.Common.{◌≡◌, Some, sym, ap, subst, ◌∙◌}
 use Rattle.std.proofs.lemmas.Bool.{true≢false}
 use Rattle.std.specs.Option.{option_map}
-use Rattle.map_definitions.specs.Maps.{Dart}
+use Rattle.map_theory.specs.Maps.{Dart}
 use Rattle.draw_check.specs.Loops.{IsBelow}
 use Rattle.draw_check.specs.FaceSums.{HasLowSum}
 use Rattle.draw_check.proofs.LeastLemmas.{IsLeastOf-same}

@@ -1,5 +1,5 @@
 use Rattle.std.proofs.Common.{sym, subst}
-use Rattle.map_definitions.specs.Maps.{dart_count}
+use Rattle.map_theory.specs.Maps.{dart_count}
 use Rattle.draw_check.specs.FaceVerdicts.{dart_of}
 use Rattle.draw_check.specs.Outer.{IsInside}
 use Rattle.draw_check.specs.FaceSums.{AreSumsBelow, HasLowSum}

@@ -1,5 +1,5 @@
 use Rattle.std.proofs.Common.{ℕ, below_more, rules}
-use Rattle.drawings.specs.Drawing.{place, IsInGrid}
+use Rattle.plane_drawings.specs.Drawing.{place, IsInGrid}
 use Rattle.draw_check.proofs.places.first_outside.Goals as goal
 
 pub loop-v-preserved : goal.loop-v-preserved

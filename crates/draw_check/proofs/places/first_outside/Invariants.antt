@@ -1,5 +1,5 @@
 use Rattle.std.proofs.Common.{ℕ, ◌<◌}
-use Rattle.drawings.specs.Drawing.{place, IsInGrid}
+use Rattle.plane_drawings.specs.Drawing.{place, IsInGrid}
 use Rattle.draw_check.proofs.places.first_outside.Given as goal
 
 abbrev pub invariant-loop-v : goal.invariant-loop-v

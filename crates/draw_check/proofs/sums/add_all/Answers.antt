@@ -1,5 +1,5 @@
 use Rattle.std.proofs.Common.{arith}
-use Rattle.map_definitions.proofs.DartLemmas.{darts_before_none, darts_before_all}
+use Rattle.map_theory.proofs.DartLemmas.{darts_before_none, darts_before_all}
 use Rattle.draw_check.proofs.sums.add_all.Goals as goal
 
 pub loop-v-init : goal.loop-v-init

@@ -1,4 +1,4 @@
-use Rattle.map_definitions.specs.Maps.{darts_before}
+use Rattle.map_theory.specs.Maps.{darts_before}
 use Rattle.draw_check.specs.FaceSums.{AreSumsBelow}
 use Rattle.draw_check.proofs.sums.add_all.Given as goal
 

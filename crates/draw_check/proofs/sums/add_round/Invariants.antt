@@ -1,5 +1,5 @@
 use Rattle.std.proofs.Common.{◌≡◌, ℕ, ◌-◌, Some}
-use Rattle.map_definitions.specs.Maps.{dart_count}
+use Rattle.map_theory.specs.Maps.{dart_count}
 use Rattle.half_edges.specs.Map.{dart_at}
 use Rattle.euler_faces.specs.Numbers.{number_at}
 use Rattle.draw_check.specs.FaceSums.{AreSumsBelow}

@@ -1,6 +1,6 @@
 use Rattle.std.proofs.Common.{◌≡◌, ◌+◌, ℕ, List, length, ap, arith}
-use Rattle.map_definitions.specs.Maps.{darts_before}
-use Rattle.map_definitions.proofs.DartLemmas.{darts_before_more}
+use Rattle.map_theory.specs.Maps.{darts_before}
+use Rattle.map_theory.proofs.DartLemmas.{darts_before_more}
 use Rattle.draw_check.proofs.sums.add_vertex.Goals as goal
 
 pub returns-in_default : goal.returns-in_default

@@ -1,6 +1,6 @@
 use Rattle.std.proofs.Common.{ℕ, ◌≤◌, length, below_more}
-use Rattle.map_definitions.specs.Maps.{list_of}
-use Rattle.drawings.specs.Drawing.{GoesOnceRound}
+use Rattle.map_theory.specs.Maps.{list_of}
+use Rattle.plane_drawings.specs.Drawing.{GoesOnceRound}
 use Rattle.draw_check.proofs.turns.first_turned.Goals as goal
 
 pub loop-v-preserved : goal.loop-v-preserved

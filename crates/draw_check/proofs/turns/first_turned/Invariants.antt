@@ -1,6 +1,6 @@
 use Rattle.std.proofs.Common.{ℕ, ◌<◌, ◌≤◌, length}
-use Rattle.map_definitions.specs.Maps.{list_of}
-use Rattle.drawings.specs.Drawing.{GoesOnceRound}
+use Rattle.map_theory.specs.Maps.{list_of}
+use Rattle.plane_drawings.specs.Drawing.{GoesOnceRound}
 use Rattle.draw_check.proofs.turns.first_turned.Given as goal
 
 abbrev pub invariant-loop-v : goal.invariant-loop-v

@@ -1,7 +1,7 @@
 use Rattle.std.proofs.Common.{◌≡◌, ℕ, ◌+◌, Bool, true, sym, subst, ◌∙◌, arith}
 use Rattle.std.proofs.lemmas.Bool.{true≢false}
-use Rattle.map_definitions.specs.Maps.{list_of}
-use Rattle.drawings.specs.Drawing.{IsBreak}
+use Rattle.map_theory.specs.Maps.{list_of}
+use Rattle.plane_drawings.specs.Drawing.{IsBreak}
 use Rattle.draw_check.specs.Loops.{IsOneOf}
 use Rattle.draw_check.proofs.OnceLemmas.{IsOneOf-more, twice_round, match_round}
 use Rattle.draw_check.proofs.RoundLemmas.{head_at, place_at, at_place, place_at-later, LeavesFrom-later}

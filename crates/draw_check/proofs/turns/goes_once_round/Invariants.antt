@@ -1,6 +1,6 @@
 use Rattle.std.proofs.Common.{◌-◌, length}
-use Rattle.map_definitions.specs.Maps.{list_of}
-use Rattle.drawings.specs.Drawing.{IsBreak}
+use Rattle.map_theory.specs.Maps.{list_of}
+use Rattle.plane_drawings.specs.Drawing.{IsBreak}
 use Rattle.draw_check.specs.Loops.{IsOneOf}
 use Rattle.draw_check.proofs.RoundLemmas.{LeavesFrom, place_at}
 use Rattle.draw_check.proofs.turns.goes_once_round.Given as goal

@@ -1,5 +1,5 @@
 use Rattle.std.proofs.Common.{get_or}
-use Rattle.map_definitions.specs.Maps.{list_of}
+use Rattle.map_theory.specs.Maps.{list_of}
 use Rattle.draw_check.proofs.OnceLemmas.{match_turned}
 use Rattle.draw_check.proofs.TurnLemmas.{two_from_later, one_from_last}
 use Rattle.draw_check.proofs.turns.keeps_round.Goals as goal

@@ -1,5 +1,5 @@
 use Rattle.std.proofs.Common.{◌≡◌, ℕ, List, sym, subst, ap, ◌∙◌, arith}
-use Rattle.map_definitions.specs.Maps.{list_of}
+use Rattle.map_theory.specs.Maps.{list_of}
 use Rattle.embed_graph.specs.Marks.{AreBytes, Adds, Marks}
 use Rattle.embed_graph.proofs.MarkLemmas.{AreBytes-none, Marks-none, Marks-more}
 use Rattle.embed_graph.proofs.marks.set_lists.Goals as goal

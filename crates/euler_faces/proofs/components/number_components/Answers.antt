@@ -1,11 +1,11 @@
 use Rattle.std.proofs.Common.{length, arith, refl, sym, ◌∙◌}
 use Rattle.std.proofs.lemmas.Bool.{lt-ltb, false≢true}
-use Rattle.label_classes.specs.Classes.{label}
-use Rattle.label_classes.proofs.Classes.{length-classes, IsLabels-classes}
-use Rattle.label_classes.proofs.Marks.{IsCounting-none, IsCounting-le, IsCounting-new, IsCounting-old, IsCounting-all}
+use Rattle.classes.specs.Classes.{label}
+use Rattle.classes.proofs.Classes.{length-classes, IsLabels-classes}
+use Rattle.classes.proofs.Marks.{IsCounting-none, IsCounting-le, IsCounting-new, IsCounting-old, IsCounting-all}
 use Rattle.map_lists.specs.Cuts.{cut}
 use Rattle.map_lists.proofs.CutLemmas.{length-cut}
-use Rattle.map_definitions.specs.Maps.{darts, component_count, component_classes}
+use Rattle.map_theory.specs.Maps.{darts, component_count, component_classes}
 use Rattle.euler_faces.specs.Numbers.{mark_at}
 use Rattle.euler_faces.specs.Search.{marks_of}
 use Rattle.euler_faces.proofs.SearchLemmas.{component_numbers, met, unmet, components-below, search-kept, unmarked_below-none}

@@ -1,7 +1,7 @@
 use Rattle.std.proofs.Common.{◌≡◌, ℕ, ◌+◌, ◌<◌, true, length, get_or}
-use Rattle.label_classes.proofs.Marks.{IsCounting}
+use Rattle.classes.proofs.Marks.{IsCounting}
 use Rattle.map_lists.specs.Cuts.{cut}
-use Rattle.map_definitions.specs.Maps.{component_classes}
+use Rattle.map_theory.specs.Maps.{component_classes}
 use Rattle.euler_faces.specs.Numbers.{mark_at}
 use Rattle.euler_faces.specs.Search.{component_number, marks_of, unmarked_below}
 use Rattle.euler_faces.proofs.components.number_components.Given as goal

@@ -1,7 +1,7 @@
 use Rattle.std.proofs.Common.{◌≡◌, ℕ, ◌+◌, ◌<◌, ◌≤◌, ◌∷◌, Bool, true, List, length, get_or}
-use Rattle.label_classes.proofs.Classes.{Together}
+use Rattle.classes.proofs.Classes.{Together}
 use Rattle.map_lists.specs.Cuts.{cut}
-use Rattle.map_definitions.specs.Maps.{component_classes}
+use Rattle.map_theory.specs.Maps.{component_classes}
 use Rattle.euler_faces.specs.Numbers.{mark_at}
 use Rattle.euler_faces.specs.Search.{IsSearching, IsNumbered, marks_of, unmarked_below}
 use Rattle.euler_faces.proofs.components.push_neighbours.Given as goal

@@ -3,11 +3,11 @@ use Rattle.std.proofs.lemmas.Bool.{ne_eqb}
 use Rattle.std.proofs.lemmas.Option.{slice_get_within}
 use Rattle.map_lists.specs.Cuts.{cut}
 use Rattle.map_lists.proofs.CutLemmas.{length-cut}
-use Rattle.map_definitions.specs.Maps.{darts, edge_count, face_count}
-use Rattle.map_definitions.proofs.DartLemmas.{length-darts}
-use Rattle.map_definitions.proofs.DartCounts.{few_darts-simple}
+use Rattle.map_theory.specs.Maps.{darts, edge_count, face_count}
+use Rattle.map_theory.proofs.DartLemmas.{length-darts}
+use Rattle.map_theory.proofs.DartCounts.{few_darts-simple}
 use Rattle.simple_maps.proofs.FlatLemmas.{count-is}
-use Rattle.euler_bound.proofs.DartPermutations.{euler_bound_map}
+use Rattle.map_theory.proofs.DartPermutations.{euler_bound_map}
 use Rattle.euler_faces.specs.Slots.{twins_of}
 use Rattle.euler_faces.proofs.OrbitLemmas.{length-twins_of}
 use Rattle.euler_faces.proofs.count.count_slots.Goals as goal

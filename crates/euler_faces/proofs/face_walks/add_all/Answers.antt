@@ -1,9 +1,9 @@
 use Rattle.std.proofs.Common.{arith}
-use Rattle.label_classes.specs.Classes.{orbits}
-use Rattle.map_definitions.specs.Maps.{face_images, face_classes}
-use Rattle.map_definitions.proofs.DartLemmas.{length-face_images, darts_before_none, darts_before_all}
-use Rattle.label_classes.proofs.Orbits.{length-orbits}
-use Rattle.label_classes.proofs.Marks.{IsCounting-none, IsCounting-le, IsCounting-all}
+use Rattle.classes.specs.Classes.{orbits}
+use Rattle.map_theory.specs.Maps.{face_images, face_classes}
+use Rattle.map_theory.proofs.DartLemmas.{length-face_images, darts_before_none, darts_before_all}
+use Rattle.classes.proofs.Orbits.{length-orbits}
+use Rattle.classes.proofs.Marks.{IsCounting-none, IsCounting-le, IsCounting-all}
 use Rattle.euler_faces.specs.Numbers.{mark_of, id_of}
 use Rattle.euler_faces.proofs.NumberLemmas.{few_darts}
 use Rattle.euler_faces.proofs.FaceWalkLemmas.{AreWalksBelow-none, AreWalksBelow-all}

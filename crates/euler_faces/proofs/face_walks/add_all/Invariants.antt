@@ -1,6 +1,6 @@
 use Rattle.std.proofs.Common.{◌≡◌, length}
-use Rattle.map_definitions.specs.Maps.{darts_before, face_classes}
-use Rattle.label_classes.proofs.Marks.{IsCounting}
+use Rattle.map_theory.specs.Maps.{darts_before, face_classes}
+use Rattle.classes.proofs.Marks.{IsCounting}
 use Rattle.half_edges.specs.Map.{IsHalfMap, id_bound}
 use Rattle.euler_faces.specs.Numbers.{mark_of}
 use Rattle.euler_faces.specs.FaceSearch.{AreWalksBelow}

@@ -1,10 +1,10 @@
 use Rattle.std.proofs.Common.{◌∙◌, ◌≡◌, ◌+◌, ap, arith, refl, length, subst, sym}
 use Rattle.std.proofs.lemmas.List.{length_push}
-use Rattle.label_classes.specs.Classes.{orbits}
-use Rattle.map_definitions.specs.Maps.{face_images}
-use Rattle.map_definitions.proofs.DartLemmas.{length-face_images, IsPermutationOfBelow-face_images}
-use Rattle.label_classes.proofs.Orbits.{length-orbits, IsLabels-orbits}
-use Rattle.label_classes.proofs.Marks.{IsCounting-new, IsCounting-old, KeepsMarks-counting}
+use Rattle.classes.specs.Classes.{orbits}
+use Rattle.map_theory.specs.Maps.{face_images}
+use Rattle.map_theory.proofs.DartLemmas.{length-face_images, IsPermutationOfBelow-face_images}
+use Rattle.classes.proofs.Orbits.{length-orbits, IsLabels-orbits}
+use Rattle.classes.proofs.Marks.{IsCounting-new, IsCounting-old, KeepsMarks-counting}
 use Rattle.euler_faces.specs.Numbers.{number_at, mark_of}
 use Rattle.euler_faces.specs.FaceSearch.{AreWalksBelow}
 use Rattle.euler_faces.proofs.NumberLemmas.{number_at-lt, mark_of-number}

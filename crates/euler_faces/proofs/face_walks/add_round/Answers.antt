@@ -1,5 +1,5 @@
 use Rattle.std.proofs.Common.{arith}
-use Rattle.map_definitions.specs.Maps.{follows}
+use Rattle.map_theory.specs.Maps.{follows}
 use Rattle.euler_faces.proofs.NumberLemmas.{number_at-lt, live_from, next-dart, next-back, next-number}
 use Rattle.euler_faces.proofs.face_walks.add_round.Goals as goal
 

@@ -1,6 +1,6 @@
 use Rattle.std.proofs.Common.{◌≡◌, ℕ, ◌-◌, length, Some}
-use Rattle.map_definitions.specs.Maps.{dart_count, face_classes}
-use Rattle.label_classes.proofs.Marks.{IsCounting}
+use Rattle.map_theory.specs.Maps.{dart_count, face_classes}
+use Rattle.classes.proofs.Marks.{IsCounting}
 use Rattle.half_edges.specs.Map.{dart_at, id_bound}
 use Rattle.euler_faces.specs.Numbers.{number_at, mark_of}
 use Rattle.euler_faces.specs.FaceSearch.{AreWalksBelow}

@@ -1,6 +1,6 @@
 use Rattle.std.proofs.Common.{ap, List, ℕ, length, arith, ◌+◌, ◌≡◌}
-use Rattle.map_definitions.specs.Maps.{darts_before}
-use Rattle.map_definitions.proofs.DartLemmas.{darts_before_more}
+use Rattle.map_theory.specs.Maps.{darts_before}
+use Rattle.map_theory.proofs.DartLemmas.{darts_before_more}
 use Rattle.euler_faces.proofs.face_walks.add_vertex.Goals as goal
 
 pub returns-in-None-clause-counting : goal.returns-in-None-clause-counting

@@ -1,7 +1,7 @@
 use Rattle.std.proofs.Common.{length-set, ◌∙◌, true, set, subst, sym, arith}
 use Rattle.euler_faces.specs.Numbers.{number_at, mark_of}
 use Rattle.euler_faces.proofs.NumberLemmas.{number_at-lt, live-lt, SetsMark-set, mark_of-number, face_step-live}
-use Rattle.label_classes.proofs.Marks.{unmarked_below-set}
+use Rattle.classes.proofs.Marks.{unmarked_below-set}
 use Rattle.euler_faces.proofs.FaceWalkLemmas.{IsWalking, live_now, IsWalking-more, IsWalking-marks, IsWalking-all}
 use Rattle.euler_faces.proofs.face_walks.walk_face.Goals as goal
 

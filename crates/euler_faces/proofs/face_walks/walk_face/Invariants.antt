@@ -1,8 +1,8 @@
 use Rattle.std.proofs.Common.{◌≡◌, length}
-use Rattle.map_definitions.specs.Maps.{dart_count}
+use Rattle.map_theory.specs.Maps.{dart_count}
 use Rattle.half_edges.specs.Map.{id_bound}
 use Rattle.euler_faces.specs.Numbers.{mark_of}
-use Rattle.label_classes.proofs.Marks.{unmarked_below}
+use Rattle.classes.proofs.Marks.{unmarked_below}
 use Rattle.euler_faces.proofs.FaceWalkLemmas.{IsWalking}
 use Rattle.euler_faces.proofs.face_walks.walk_face.Given as goal
 

@@ -2,7 +2,7 @@ use Rattle.std.proofs.Common.{◌≡◌, suc, ◌+◌, length, refl, sym, ap, �
 use Rattle.std.proofs.lemmas.List.{take_all, nil_from_length}
 use Rattle.map_lists.specs.Cuts.{cut}
 use Rattle.map_lists.proofs.CutLemmas.{length-cut, AreCuts-at}
-use Rattle.map_definitions.specs.Maps.{list_of, isolated_count}
+use Rattle.map_theory.specs.Maps.{list_of, isolated_count}
 use Rattle.simple_maps.proofs.FlatLemmas.{length-list}
 use Rattle.euler_faces.proofs.IsolatedLemmas.{isolated_count_empty, isolated_count_some}
 use Rattle.euler_faces.proofs.orbits.count_isolated.Goals as goal

@@ -1,6 +1,6 @@
 use Rattle.std.proofs.Common.{◌≡◌, ◌≤◌, ◌∷◌, ℕ, List, length, get_or, take}
 use Rattle.map_lists.specs.Cuts.{cut, AreCuts}
-use Rattle.map_definitions.specs.Maps.{isolated_count}
+use Rattle.map_theory.specs.Maps.{isolated_count}
 use Rattle.euler_faces.proofs.orbits.count_isolated.Given as goal
 
 abbrev pub invariant-loop-v : goal.invariant-loop-v

@@ -1,10 +1,10 @@
 use Rattle.std.proofs.Common.{refl, ◌∙◌, arith}
 use Rattle.std.proofs.lemmas.Bool.{ne_eqb, eq-eqb}
-use Rattle.label_classes.proofs.Orbits.{length-orbits, IsLabels-orbits}
-use Rattle.label_classes.proofs.Marks.{IsCounting-none, IsCounting-le, IsCounting-new, IsCounting-old, IsCounting-all, KeepsMarks-counting}
+use Rattle.classes.proofs.Orbits.{length-orbits, IsLabels-orbits}
+use Rattle.classes.proofs.Marks.{IsCounting-none, IsCounting-le, IsCounting-new, IsCounting-old, IsCounting-all, KeepsMarks-counting}
 use Rattle.map_lists.specs.Cuts.{cut}
-use Rattle.map_definitions.specs.Maps.{face_images, face_classes}
-use Rattle.map_definitions.proofs.DartLemmas.{length-face_images, IsPermutationOfBelow-face_images}
+use Rattle.map_theory.specs.Maps.{face_images, face_classes}
+use Rattle.map_theory.proofs.DartLemmas.{length-face_images, IsPermutationOfBelow-face_images}
 use Rattle.simple_maps.proofs.FlatLemmas.{count-is}
 use Rattle.euler_faces.specs.Slots.{twins_of, walked}
 use Rattle.euler_faces.proofs.OrbitLemmas.{walked-read}

@@ -1,7 +1,7 @@
 use Rattle.std.proofs.Common.{◌≡◌, length}
-use Rattle.label_classes.proofs.Marks.{IsCounting}
+use Rattle.classes.proofs.Marks.{IsCounting}
 use Rattle.map_lists.specs.Cuts.{cut}
-use Rattle.map_definitions.specs.Maps.{face_classes}
+use Rattle.map_theory.specs.Maps.{face_classes}
 use Rattle.euler_faces.specs.Slots.{twins_of, walked, HaveTwins}
 use Rattle.euler_faces.proofs.orbits.count_orbits.Given as goal
 

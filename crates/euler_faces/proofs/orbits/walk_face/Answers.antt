@@ -1,9 +1,9 @@
 use Rattle.std.proofs.Common.{◌≡◌, false, length, set, ◌∙◌, arith, length-set}
 use Rattle.std.proofs.lemmas.Bool.{ne_eqb, eq-eqb}
-use Rattle.label_classes.proofs.Marks.{IsMarking-none, IsMarking-more, IsMarking-all, unmarked_below-set}
+use Rattle.classes.proofs.Marks.{IsMarking-none, IsMarking-more, IsMarking-all, unmarked_below-set}
 use Rattle.map_lists.specs.Cuts.{cut}
-use Rattle.map_definitions.specs.Maps.{face_images}
-use Rattle.map_definitions.proofs.DartLemmas.{length-face_images, IsPermutationOfBelow-face_images}
+use Rattle.map_theory.specs.Maps.{face_images}
+use Rattle.map_theory.proofs.DartLemmas.{length-face_images, IsPermutationOfBelow-face_images}
 use Rattle.simple_maps.proofs.FlatLemmas.{count-is}
 use Rattle.euler_faces.specs.Slots.{twins_of, walked}
 use Rattle.euler_faces.proofs.OrbitLemmas.{SetsMark-walked, HaveTwins-walked, step-is, read_twin, walked-read, twins_of-walked, length-twins_of}

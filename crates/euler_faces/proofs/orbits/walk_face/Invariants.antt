@@ -1,7 +1,7 @@
 use Rattle.std.proofs.Common.{◌≡◌, ◌<◌, length}
-use Rattle.label_classes.proofs.Marks.{IsMarking, unmarked_below}
+use Rattle.classes.proofs.Marks.{IsMarking, unmarked_below}
 use Rattle.map_lists.specs.Cuts.{cut}
-use Rattle.map_definitions.specs.Maps.{face_images}
+use Rattle.map_theory.specs.Maps.{face_images}
 use Rattle.euler_faces.specs.Slots.{twins_of, walked, HaveTwins}
 use Rattle.euler_faces.proofs.orbits.walk_face.Given as goal
 

@@ -1,7 +1,7 @@
 -- The bends over the first dart of the first vertex.
 use Rattle.std.proofs.Common.{get_or, ap, subst}
 use Rattle.std.specs.Prelude.{unwrap_or}
-use Rattle.map_definitions.specs.Maps.{Dart, list_of}
+use Rattle.map_theory.specs.Maps.{Dart, list_of}
 use Rattle.convex_check.specs.Verdicts.{IsConvexVerdict}
 use Rattle.figure_verdicts.proofs.convex.bend_verdict.Goals as goal
 

@@ -1,8 +1,8 @@
 -- The law for a map that it completes, at the map itself.
 use Rattle.std.proofs.Common.{get_or, ap, subst}
 use Rattle.std.specs.Prelude.{unwrap_or}
-use Rattle.map_definitions.specs.Maps.{Dart, list_of}
-use Rattle.map_edits.proofs.Extended.{IsExtended-itself}
+use Rattle.map_theory.specs.Maps.{Dart, list_of}
+use Rattle.plane_laws.proofs.Extended.{IsExtended-itself}
 use Rattle.half_edges.specs.Map.{first_dart}
 use Rattle.draw_check.specs.FaceVerdicts.{IsFaceVerdict}
 use Rattle.draw_check.specs.declared.verdict.FaceVerdict.TheVariants.{Yes as FacesYes}

@@ -2,8 +2,8 @@ use Rattle.std.proofs.Common.{◌≡◌, ◌+◌, ◌<◌, ℕ, length, slice_in
 use Rattle.std.proofs.lemmas.List.{take_at}
 use Rattle.std.proofs.lemmas.Result.{IfOk-weaker}
 use Rattle.contour_runs.specs.Runs.{Step}
-use Rattle.order_tables.specs.Rows.{AreAllRows}
-use Rattle.order_tables.specs.Points.{ArePointsAt}
+use Rattle.order_drawings.specs.Rows.{AreAllRows}
+use Rattle.order_drawings.specs.Points.{ArePointsAt}
 use Rattle.fpp_shift.specs.Points.{ArePoints}
 use Rattle.fpp_shift.proofs.DrawLemmas.{ArePoints-at, small_places}
 use Rattle.fpp_shift.proofs.draw.drawn.Goals as goal

@@ -1,4 +1,4 @@
-use Rattle.shift_points.specs.Shift.{Places}
+use Rattle.fpp_shift.specs.Shift.{Places}
 use Rattle.contour_runs.specs.Runs.{Stage}
 use Rattle.fpp_shift.specs.Offsets.{AreLastOffsets, AreSums}
 use Rattle.fpp_shift.proofs.offsets.add_up.Given as goal

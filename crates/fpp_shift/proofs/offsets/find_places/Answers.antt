@@ -1,7 +1,7 @@
 use Rattle.std.proofs.Common.{ℕ, length, arith}
 use Rattle.contour_runs.specs.Runs.{stage_after}
 use Rattle.contour_runs.proofs.Stages.{count-stage_after}
-use Rattle.shift_points.specs.Shift.{shift_points}
+use Rattle.fpp_shift.specs.Shift.{shift_points}
 use Rattle.fpp_shift.proofs.RunRows.{AreLastOffsets-run}
 use Rattle.fpp_shift.proofs.offsets.find_places.Goals as goal
 

@@ -1,6 +1,6 @@
 use Rattle.std.proofs.Common.{◌≡◌, ◌+◌, ℕ, suc, length, sym, subst, arith}
 use Rattle.contour_runs.specs.Runs.{stage_after}
-use Rattle.shift_points.specs.Shift.{shift_points}
+use Rattle.fpp_shift.specs.Shift.{shift_points}
 use Rattle.fpp_shift.specs.Offsets.{AreOffsets, IsPut}
 use Rattle.fpp_shift.proofs.RunRows.{IsPut-run, AreOffsets-base}
 use Rattle.fpp_shift.proofs.offsets.put_all.Goals as goal

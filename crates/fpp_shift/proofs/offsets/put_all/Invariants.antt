@@ -1,7 +1,7 @@
 use Rattle.std.proofs.Common.{ℕ}
 use Rattle.contour_runs.specs.Runs.{Step, stage_after}
-use Rattle.shift_points.specs.Shift.{shift_points}
-use Rattle.order_tables.specs.Rows.{AreRows}
+use Rattle.fpp_shift.specs.Shift.{shift_points}
+use Rattle.order_drawings.specs.Rows.{AreRows}
 use Rattle.fpp_shift.specs.Offsets.{AreOffsets}
 use Rattle.fpp_shift.proofs.offsets.put_all.Given as goal
 

@@ -1,6 +1,6 @@
 use Rattle.std.proofs.Common.{◌≡◌, ◌-◌, arith, ap, ap₂, ◌∙◌, sym, subst, List, [], ◌∷◌, ◌++◌, length}
 use Rattle.map_lists.specs.Lists.{Lists}
-use Rattle.map_definitions.specs.Maps.{IsSimpleMap}
+use Rattle.map_theory.specs.Maps.{IsSimpleMap}
 use Rattle.map_gen.specs.Stacked.{triangle, chosen, next_number}
 use Rattle.map_gen.specs.Faces.{IsFaceOf}
 use Rattle.map_gen.specs.Darts.{HasDarts}

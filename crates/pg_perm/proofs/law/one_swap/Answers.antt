@@ -1,4 +1,4 @@
-use Rattle.label_classes.proofs.Swap.{swap_orbits}
+use Rattle.classes.proofs.Swap.{swap_orbits}
 use Rattle.pg_perm.proofs.law.one_swap.Goals as goal
 
 pub returns : goal.returns

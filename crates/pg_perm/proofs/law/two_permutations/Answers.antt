@@ -1,4 +1,4 @@
-use Rattle.label_classes.proofs.Bound.{euler_bound_images}
+use Rattle.classes.proofs.Bound.{euler_bound_images}
 use Rattle.pg_perm.proofs.law.two_permutations.Goals as goal
 
 pub returns : goal.returns

@@ -1,7 +1,7 @@
 use Rattle.std.proofs.Common.{arith, refl}
-use Rattle.label_classes.specs.Classes.{orbits}
-use Rattle.label_classes.proofs.Orbits.{length-orbits, IsLabels-orbits}
-use Rattle.label_classes.proofs.Marks.{IsCounting-none, IsCounting-new, IsCounting-old, IsCounting-all, IsCounting-le, KeepsMarks-counting}
+use Rattle.classes.specs.Classes.{orbits}
+use Rattle.classes.proofs.Orbits.{length-orbits, IsLabels-orbits}
+use Rattle.classes.proofs.Marks.{IsCounting-none, IsCounting-new, IsCounting-old, IsCounting-all, IsCounting-le, KeepsMarks-counting}
 use Rattle.pg_perm.specs.Marks.{mark}
 use Rattle.pg_perm.proofs.marks.count_orbits.Goals as goal
 use Rattle.pg_perm.proofs.marks.count_orbits.Goals.{then-not-marked-i, else-not-marked-i}

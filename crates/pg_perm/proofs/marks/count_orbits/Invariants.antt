@@ -1,6 +1,6 @@
 use Rattle.std.proofs.Common.{◌≡◌, length}
-use Rattle.label_classes.specs.Classes.{orbits}
-use Rattle.label_classes.proofs.Marks.{IsCounting}
+use Rattle.classes.specs.Classes.{orbits}
+use Rattle.classes.proofs.Marks.{IsCounting}
 use Rattle.pg_perm.specs.Marks.{mark}
 use Rattle.pg_perm.proofs.marks.count_orbits.Given as goal
 

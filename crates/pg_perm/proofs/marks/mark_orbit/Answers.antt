@@ -1,6 +1,6 @@
 use Rattle.std.proofs.Common.{length, length-set, ◌∙◌, true, set, arith}
 use Rattle.std.proofs.lemmas.List.{get_or_default}
-use Rattle.label_classes.proofs.Marks.{IsMarking-none, IsMarking-more, IsMarking-all, unmarked_below-set}
+use Rattle.classes.proofs.Marks.{IsMarking-none, IsMarking-more, IsMarking-all, unmarked_below-set}
 use Rattle.pg_perm.specs.Marks.{mark}
 use Rattle.pg_perm.proofs.Marking.{SetsMark-set}
 use Rattle.pg_perm.proofs.marks.mark_orbit.Goals as goal

@@ -1,5 +1,5 @@
 use Rattle.std.proofs.Common.{◌≡◌, length}
-use Rattle.label_classes.proofs.Marks.{IsMarking, unmarked_below}
+use Rattle.classes.proofs.Marks.{IsMarking, unmarked_below}
 use Rattle.pg_perm.specs.Marks.{mark}
 use Rattle.pg_perm.proofs.marks.mark_orbit.Given as goal
 

@@ -1,6 +1,6 @@
 use Rattle.std.proofs.Common.{◌≢◌, rules}
 use Rattle.std.proofs.lemmas.Result.{on_ok_weaker}
-use Rattle.drawing_orders.specs.declared.refusal.DrawRefusal.TheVariants.{Fault}
+use Rattle.grid_figures.specs.declared.drawing_orders.refusal.DrawRefusal.TheVariants.{Fault}
 use Rattle.simple_maps.specs.declared.fault.MapFault.TheVariants.{NoMemory}
 use Rattle.pigale_shell.proofs.RefusalLines.{IsGridBlock-refused}
 use Rattle.pigale_shell.proofs.answer.refuse_drawing.Goals as goal

@@ -1,5 +1,5 @@
 use Rattle.std.proofs.Common.{ℕ, ◌<◌, ◌↔◌, length}
-use Rattle.map_definitions.specs.Maps.{HasDart}
+use Rattle.map_theory.specs.Maps.{HasDart}
 use Rattle.rect_check.specs.Duals.{ShareSide}
 use Rattle.rect_check.proofs.pairs.first_wrong.Given as goal
 

@@ -1,4 +1,4 @@
-use Rattle.run_woods.specs.Parents.{one, two, three}
+use Rattle.wood_runs.specs.Parents.{one, two, three}
 use Rattle.schnyder_wood.proofs.Orders.{all_named}
 use Rattle.schnyder_wood.proofs.of_order.named_all.Goals as goal
 

@@ -3,8 +3,8 @@ use Rattle.std.proofs.lemmas.List.{take_at}
 use Rattle.std.proofs.lemmas.Result.{IfOk-weaker}
 use Rattle.canon_order.specs.Orders.{vertices_of}
 use Rattle.contour_runs.specs.Runs.{Step}
-use Rattle.run_woods.specs.Parents.{Colour}
-use Rattle.order_tables.specs.Rows.{AreRows}
+use Rattle.wood_runs.specs.Parents.{Colour}
+use Rattle.order_drawings.specs.Rows.{AreRows}
 use Rattle.schnyder_wood.specs.Parents.{by_colour}
 use Rattle.schnyder_wood.specs.Tables.{AreNamed, AreParentsAt}
 use Rattle.schnyder_wood.proofs.Orders.{AreParentTables-at, AreParentsAt-named}

@@ -1,7 +1,7 @@
 use Rattle.std.proofs.Common.{◌≡◌, ◌-◌, length, slice_index, sym, ap, ◌∙◌}
 use Rattle.std.proofs.lemmas.List.{length-map}
 use Rattle.canon_order.specs.Orders.{vertices_of}
-use Rattle.run_woods.specs.Parents.{one, two, three}
+use Rattle.wood_runs.specs.Parents.{one, two, three}
 use Rattle.schnyder_wood.proofs.Orders.{IsRooted-made, IsWoodOf-made, made_parents}
 use Rattle.schnyder_wood.proofs.of_order.wood.Goals as goal
 

@@ -1,6 +1,6 @@
 use Rattle.std.proofs.Common.{ℕ, length}
 use Rattle.contour_runs.specs.Runs.{Step}
-use Rattle.order_tables.specs.Rows.{AreRows}
+use Rattle.order_drawings.specs.Rows.{AreRows}
 use Rattle.schnyder_wood.specs.Tables.{AreParentTables}
 use Rattle.schnyder_wood.proofs.tables.find_parents.Given as goal
 

@@ -1,6 +1,6 @@
 use Rattle.std.proofs.Common.{◌≡◌, ◌==◌, ap, sym, ◌∙◌, arith, below_more, true, false}
 use Rattle.std.specs.List.{list_any}
-use Rattle.map_definitions.specs.Maps.{list_of}
+use Rattle.map_theory.specs.Maps.{list_of}
 use Rattle.simple_maps.specs.Faults.{own_number}
 use Rattle.simple_maps.proofs.FaultLemmas.{first_from_found, first_from_none, own_number_found, own_number_none}
 use Rattle.simple_maps.proofs.faults.first_loop.Goals as goal

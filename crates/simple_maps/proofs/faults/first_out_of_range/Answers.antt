@@ -1,5 +1,5 @@
 use Rattle.std.proofs.Common.{◌≡◌, length, ap, sym, ◌∙◌, arith, Some, leb}
-use Rattle.map_definitions.specs.Maps.{list_of}
+use Rattle.map_theory.specs.Maps.{list_of}
 use Rattle.simple_maps.specs.Faults.{least_out_of_range, least_where}
 use Rattle.simple_maps.proofs.FaultLemmas.{first_from_found, first_from_none}
 use Rattle.simple_maps.proofs.faults.first_out_of_range.Goals as goal

@@ -1,5 +1,5 @@
 use Rattle.std.proofs.Common.{◌≡◌, length, ap, sym, ◌∙◌, arith, Some}
-use Rattle.map_definitions.specs.Maps.{list_of}
+use Rattle.map_theory.specs.Maps.{list_of}
 use Rattle.simple_maps.specs.Faults.{least_repeated}
 use Rattle.simple_maps.proofs.FaultLemmas.{first_from_found, first_from_none}
 use Rattle.simple_maps.proofs.MarkLemmas.{entries_within}

@@ -1,6 +1,6 @@
 use Rattle.std.proofs.Common.{◌<◌, length, sym, ◌∙◌, subst}
-use Rattle.map_definitions.specs.Maps.{dart_count, IsSimpleMap}
-use Rattle.map_definitions.proofs.DartCounts.{few_darts}
+use Rattle.map_theory.specs.Maps.{dart_count, IsSimpleMap}
+use Rattle.map_theory.proofs.DartCounts.{few_darts}
 use Rattle.simple_maps.specs.Tables.{AreTables, AreTwins}
 use Rattle.simple_maps.proofs.FaultLemmas.{HasNoFault, first_fault_out_of_range, first_fault_loop, first_fault_repeated, first_fault_none, in_range_from_none, no_repeat_from_none, IsSimpleMap-from_HasNoFault}
 use Rattle.simple_maps.proofs.simple.tables_of.Goals as goal

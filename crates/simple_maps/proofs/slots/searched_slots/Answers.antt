@@ -1,9 +1,9 @@
 use Rattle.std.proofs.Common.{◌≡◌, ℕ, List, length, get_or, drop, arith, ap, subst, ◌∙◌}
 use Rattle.std.proofs.lemmas.List.{take_at, length-map}
 use Rattle.std.specs.Prelude.{slice_get}
-use Rattle.map_definitions.specs.Maps.{Dart, darts}
-use Rattle.map_definitions.proofs.DartLemmas.{length-darts}
-use Rattle.map_definitions.proofs.DartCounts.{few_darts-simple}
+use Rattle.map_theory.specs.Maps.{Dart, darts}
+use Rattle.map_theory.proofs.DartLemmas.{length-darts}
+use Rattle.map_theory.proofs.DartCounts.{few_darts-simple}
 use Rattle.simple_maps.specs.Tables.{AreTwins}
 use Rattle.simple_maps.proofs.slots.searched_slots.Goals as goal
 

@@ -1,6 +1,6 @@
 use Rattle.std.proofs.Common.{◌++◌, ap, sym, ◌∙◌, arith}
-use Rattle.map_definitions.specs.Maps.{darts_from, list_of}
-use Rattle.map_definitions.proofs.DartLemmas.{darts_more}
+use Rattle.map_theory.specs.Maps.{darts_from, list_of}
+use Rattle.map_theory.proofs.DartLemmas.{darts_more}
 use Rattle.simple_maps.proofs.tables.darts_of.Goals as goal
 
 pub loop-v-preserved : goal.loop-v-preserved

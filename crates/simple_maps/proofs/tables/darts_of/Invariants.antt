@@ -1,5 +1,5 @@
 use Rattle.std.proofs.Common.{◌≡◌, take}
-use Rattle.map_definitions.specs.Maps.{darts}
+use Rattle.map_theory.specs.Maps.{darts}
 use Rattle.simple_maps.proofs.tables.darts_of.Given as goal
 
 abbrev pub invariant-loop-v : goal.invariant-loop-v

@@ -1,6 +1,6 @@
 use Rattle.std.proofs.Common.{◌≡◌, length, ap, ◌∙◌, arith}
-use Rattle.map_definitions.specs.Maps.{list_of, place_of}
-use Rattle.map_definitions.proofs.DartLemmas.{Contains-from_place_of}
+use Rattle.map_theory.specs.Maps.{list_of, place_of}
+use Rattle.map_theory.proofs.DartLemmas.{Contains-from_place_of}
 use Rattle.simple_maps.proofs.TableLemmas.{dart_number-from_start, start-lt}
 use Rattle.simple_maps.proofs.tables.find_dart.Goals as goal
 

@@ -1,5 +1,5 @@
 use Rattle.std.proofs.Common.{arith, sym}
-use Rattle.map_definitions.proofs.DartLemmas.{place_of-is, not-Contains-from}
+use Rattle.map_theory.proofs.DartLemmas.{place_of-is, not-Contains-from}
 use Rattle.simple_maps.proofs.tables.place_in.Goals as goal
 
 pub returns-then-w-u : goal.returns-then-w-u

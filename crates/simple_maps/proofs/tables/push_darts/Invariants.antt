@@ -1,5 +1,5 @@
 use Rattle.std.proofs.Common.{◌≡◌, ◌++◌, take}
-use Rattle.map_definitions.specs.Maps.{darts_from}
+use Rattle.map_theory.specs.Maps.{darts_from}
 use Rattle.simple_maps.proofs.tables.push_darts.Given as goal
 
 abbrev pub invariant-loop-u : goal.invariant-loop-u

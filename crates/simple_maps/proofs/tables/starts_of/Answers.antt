@@ -1,5 +1,5 @@
 use Rattle.std.proofs.Common.{◌≡◌, ◌+◌, ◌++◌, ◌∷◌, [], length, ap, sym, ◌∙◌, arith}
-use Rattle.map_definitions.proofs.DartLemmas.{darts_before_none, darts_before_more, darts_before_le}
+use Rattle.map_theory.proofs.DartLemmas.{darts_before_none, darts_before_more, darts_before_le}
 use Rattle.simple_maps.proofs.TableLemmas.{StartsTo-none, StartsTo-push}
 use Rattle.simple_maps.proofs.tables.starts_of.Goals as goal
 

@@ -1,5 +1,5 @@
 use Rattle.std.proofs.Common.{◌≡◌}
-use Rattle.map_definitions.specs.Maps.{darts_before}
+use Rattle.map_theory.specs.Maps.{darts_before}
 use Rattle.simple_maps.specs.Tables.{StartsTo}
 use Rattle.simple_maps.proofs.tables.starts_of.Given as goal
 

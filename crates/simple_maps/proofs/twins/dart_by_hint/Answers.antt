@@ -1,6 +1,6 @@
 use Rattle.std.proofs.Common.{◌≡◌, Some, None, Option, slice_get, MatchOption, ap, ◌∙◌, ℕ, List}
 use Rattle.map_lists.specs.Lists.{Lists}
-use Rattle.map_definitions.specs.Maps.{Dart, HasDart, darts, dart_number}
+use Rattle.map_theory.specs.Maps.{Dart, HasDart, darts, dart_number}
 use Rattle.simple_maps.proofs.TwinLemmas.{HasDart-from_slice_get, slice_get-dart_number}
 use Rattle.simple_maps.proofs.twins.dart_by_hint.Goals as goal
 

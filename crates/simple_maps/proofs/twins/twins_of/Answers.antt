@@ -1,7 +1,7 @@
 use Rattle.std.proofs.Common.{◌≡◌, length, ap, sym, ◌∙◌, subst, arith}
-use Rattle.map_definitions.specs.Maps.{darts_before}
+use Rattle.map_theory.specs.Maps.{darts_before}
 use Rattle.simple_maps.specs.Faults.{least_one_sided}
-use Rattle.map_definitions.proofs.DartLemmas.{length-darts, darts_before_all}
+use Rattle.map_theory.proofs.DartLemmas.{length-darts, darts_before_all}
 use Rattle.simple_maps.proofs.FaultLemmas.{first_from_found, first_from_none, first_fault_one_sided}
 use Rattle.simple_maps.specs.Tables.{AreTwins}
 use Rattle.simple_maps.proofs.TwinLemmas.{AreTwins-none}

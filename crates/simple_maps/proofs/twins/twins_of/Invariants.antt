@@ -1,4 +1,4 @@
-use Rattle.map_definitions.specs.Maps.{darts_before}
+use Rattle.map_theory.specs.Maps.{darts_before}
 use Rattle.simple_maps.specs.Faults.{least_one_sided}
 use Rattle.simple_maps.proofs.FaultLemmas.{NoneBelow}
 use Rattle.simple_maps.specs.Tables.{AreTwins}

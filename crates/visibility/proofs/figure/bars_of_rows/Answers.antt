@@ -1,5 +1,5 @@
 use Rattle.std.proofs.Common.{ℕ, List, subst}
-use Rattle.dual_orders.specs.Columns.{AreColumns}
+use Rattle.bipolar.specs.Columns.{AreColumns}
 use Rattle.visibility.proofs.Drawn.{small_ranks, some_row, small_rows, small_columns, bars_are}
 use Rattle.visibility.proofs.figure.bars_of_rows.Goals as goal
 

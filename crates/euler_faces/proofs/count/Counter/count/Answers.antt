@@ -1,6 +1,6 @@
 use Rattle.std.proofs.Common.{length, ap, ◌∙◌, arith}
 use Rattle.map_lists.proofs.CutLemmas.{IsStored, IsStored-cuts, IsStored-cut, length-cut}
-use Rattle.map_definitions.specs.Maps.{vertex_count, edge_count, face_count, component_count}
+use Rattle.map_theory.specs.Maps.{vertex_count, edge_count, face_count, component_count}
 use Rattle.simple_maps.proofs.FaultLemmas.{first_fault-IsSimpleMap}
 use Rattle.euler_faces.proofs.count.Counter.count.Goals as goal
 

@@ -1,8 +1,8 @@
 use Rattle.std.proofs.Common.{◌≡◌, ◌+◌, ◌-◌, ◌++◌, ℕ, Some, List, length, take, drop, refl, ap, ap₂, ◌∙◌, subst, arith}
 use Rattle.std.specs.Prelude.{min, max}
 use Rattle.map_lists.specs.Lists.{Lists}
-use Rattle.map_definitions.specs.Maps.{HasDart}
-use Rattle.map_definitions.specs.Edges.{without_edge}
+use Rattle.map_theory.specs.Maps.{HasDart}
+use Rattle.map_theory.specs.Edges.{without_edge}
 use Rattle.half_edges.specs.Map.{Map, dart_at}
 use Rattle.half_edges.specs.Arena.{arena_lists, dart_in, tail_of, head_of, live_of, IsArena, IsWired}
 use Rattle.half_edges.specs.declared.arena.DartRecord.{DartRecord}

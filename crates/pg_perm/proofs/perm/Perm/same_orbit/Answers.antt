@@ -1,6 +1,6 @@
 use Rattle.std.proofs.Common.{◌<◌, length, ap, ◌∙◌, arith}
 use Rattle.std.proofs.lemmas.List.{get_or_read}
-use Rattle.label_classes.specs.Classes.{orbits, same_class}
+use Rattle.classes.specs.Classes.{orbits, same_class}
 use Rattle.pg_perm.proofs.Perms.{IsAt-more, same_orbit-met, same_orbit-back, same_orbit-never}
 use Rattle.pg_perm.proofs.perm.Perm.same_orbit.Goals as goal
 

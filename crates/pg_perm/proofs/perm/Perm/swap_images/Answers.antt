@@ -1,4 +1,4 @@
-use Rattle.label_classes.proofs.Swap.{orbit_count-cut, orbit_count-joined}
+use Rattle.classes.proofs.Swap.{orbit_count-cut, orbit_count-joined}
 use Rattle.pg_perm.specs.Perm.{IsPerm}
 use Rattle.pg_perm.proofs.Perms.{IsPerm-swap}
 use Rattle.pg_perm.proofs.perm.Perm.swap_images.Goals as goal

@@ -1,4 +1,4 @@
-use Rattle.graph_lines.proofs.ReadLemmas.{IsAt-too_long}
+use Rattle.line_inputs.proofs.GraphLinesReadLemmas.{IsAt-too_long}
 use Rattle.pigale_shell.proofs.embed.GraphSourceFormat.too_long.Goals as goal
 
 pub returns-clause-reading : goal.returns-clause-reading

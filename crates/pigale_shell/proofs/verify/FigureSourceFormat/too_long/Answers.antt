@@ -1,4 +1,4 @@
-use Rattle.figure_lines.proofs.ReadLemmas.{IsAt-too_long}
+use Rattle.line_inputs.proofs.FigureLinesReadLemmas.{IsAt-too_long}
 use Rattle.pigale_shell.proofs.verify.FigureSourceFormat.too_long.Goals as goal
 
 pub returns-clause-reading : goal.returns-clause-reading

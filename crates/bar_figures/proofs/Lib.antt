@@ -1,2 +1,0 @@
--- Lemmas on the figures of records by bars.
-pub mod FirstDart

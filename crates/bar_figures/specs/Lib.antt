@@ -1,2 +1,0 @@
--- The figures of records by bars.
-pub mod Figures

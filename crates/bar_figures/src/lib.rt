@@ -1,7 +1,0 @@
-//! The answer of the job `bars` to a record, as a value: the visibility drawing of Tamassia and Tollis (1986), or
-//! the first condition of the job that the record breaks.
-#![tactic(auto)]
-
-mod draw;
-
-pub use draw::bar_figure;

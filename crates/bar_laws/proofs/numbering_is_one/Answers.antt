@@ -1,5 +1,0 @@
-use Rattle.bar_laws.proofs.Numberings.{one_numbering}
-use Rattle.bar_laws.proofs.numbering_is_one.Goals as goal
-
-pub returns : goal.returns
-returns c = λ lists s t at rank x. one_numbering x

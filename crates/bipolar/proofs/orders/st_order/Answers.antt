@@ -1,7 +1,0 @@
-use Rattle.std.proofs.Common.{ℕ, sym, subst}
-use Rattle.map_lists.specs.Lists.{Lists}
-use Rattle.map_cuts.specs.Cuts.{IsCutVertex}
-use Rattle.bipolar.proofs.orders.st_order.Goals as goal
-
-pub list_order-requires-clause-uncut : goal.list_order-requires-clause-uncut
-list_order-requires-clause-uncut c = subst (λ (ls : Lists). (v : ℕ) → IsCutVertex ls v → ⊥) (sym c.in_ok-lists.ensures) c.requires.uncut

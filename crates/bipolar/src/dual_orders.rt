@@ -1,0 +1,11 @@
+//! The dual numbers of an st-order.
+
+mod arcs;
+mod columns;
+mod numbers;
+mod rows;
+
+pub use arcs::face_arcs;
+pub use columns::edge_columns;
+pub use numbers::{dual_numbers, dual_rows};
+pub use rows::number_rows;

@@ -1,0 +1,80 @@
+//! The dual numbers of an st-order.
+ghost use Rattle.std.specs.Prelude.{◌≡◌, ◌<◌, ◌^◌, ℕ, length, slice_index, Some, IfOk, MatchResult};
+ghost use Rattle.map_theory.specs.Maps.{IsPlane, component_count};
+ghost use Rattle.half_edges.specs.Map.{IsHalfMap, IsLive, dart_at};
+ghost use Rattle.euler_faces.specs.FaceWalks.{AreFaces};
+ghost use Rattle.st_orders.specs.StOrders.{IsStOrderOf};
+ghost use Rattle.bipolar.specs.DualNumbers.{AreDualNumbers};
+ghost use Rattle.bipolar.specs.FaceArcs.{AreNumberRows};
+ghost use Rattle.bipolar.specs.Columns.{AreColumns};
+ghost use Rattle.bipolar.specs.Numbered.{IsStOf, GiveDualNumbers};
+
+use crate::dual_orders::arcs::face_arcs;
+use crate::dual_orders::columns::edge_columns;
+use crate::dual_orders::rows::number_rows;
+use euler_faces::{Faces, faces};
+use graph_search::longest_paths::longest_paths;
+use half_edges::{Counts, DartId, HalfMap};
+use map_lists::ItemLists;
+use st_orders::StOrder;
+use std::alloc::{AllocError, Global};
+
+// For each face its number, and so for each vertex those of the left faces of its edges.
+fn rows_of_order(
+    alloc: Global,
+    map: &HalfMap,
+    rank: &Counts,
+    faces: &Faces,
+    st: DartId,
+) -> Result<ItemLists<u32>, AllocError>
+    requires known { IsHalfMap map.now }
+    requires live { IsLive map.now st.0 }
+    requires order { IsStOf map.now rank.now st.0 }
+    requires faces { AreFaces map.now faces.now }
+    ensures { IfOk result (GiveDualNumbers map.now rank.now st.0) }
+{
+    let arcs = face_arcs(alloc, map, rank, faces)?;
+    let numbers = longest_paths(alloc, &arcs, faces.of_dart(st).0)?;
+    let rows = number_rows(alloc, map, rank, faces, &numbers)?;
+    Ok(rows)
+}
+
+/// For each vertex the dual numbers of its edges, in the order of its list; by their clause the columns that
+/// `edge_columns` makes of them are the dual numbers. It fails only for want of memory.
+pub fn dual_rows(
+    alloc: Global,
+    map: &HalfMap,
+    order: &StOrder,
+    st: DartId,
+) -> Result<ItemLists<u32>, AllocError>
+    requires live { IsLive map.now st.0 }
+    requires plane { IsPlane map.now.lists }
+    requires connected { component_count map.now.lists ≡ 1 }
+    requires order { (s t : ℕ) → dart_at map.now st.0 ≡ Some (s, t) → IsStOrderOf map.now.lists s t order.now }
+    ensures { IfOk result (GiveDualNumbers map.now order.now.rank st.0) }
+{
+    map.facts();
+    let faces = faces(alloc, map)?;
+    let rows = rows_of_order(alloc, map, &order.rank, &faces, st)?;
+    Ok(rows)
+}
+
+/// The dual numbers of an st-order of a connected map of genus zero, for each edge in the order of edges. It
+/// fails only for want of memory. The time is linear in the edges, and so is the memory.
+pub fn dual_numbers(
+    alloc: Global,
+    map: &HalfMap,
+    order: &StOrder,
+    st: DartId,
+) -> Result<Counts, AllocError>
+    requires live { IsLive map.now st.0 }
+    requires plane { IsPlane map.now.lists }
+    requires connected { component_count map.now.lists ≡ 1 }
+    requires order { (s t : ℕ) → dart_at map.now st.0 ≡ Some (s, t) → IsStOrderOf map.now.lists s t order.now }
+    ensures { IfOk result (λ columns. (s t : ℕ) → dart_at map.now st.0 ≡ Some (s, t) → AreDualNumbers map.now.lists order.now.rank s t columns) }
+{
+    let rows = dual_rows(alloc, map, order, st)?;
+    let lists = map.rotations(alloc)?;
+    let columns = edge_columns(alloc, &lists, &rows, map.m())?;
+    Ok(columns)
+}

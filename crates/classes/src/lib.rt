@@ -1,0 +1,18 @@
+//! Classes of numbers as lists of labels, the orbits of permutations, the law of one swap and the Euler
+//! bound for two permutations: definitions and lemmas. Two laws are the contracts of functions that do
+//! nothing, and speak of all pairs and all permutations.
+#![tactic(auto)]
+
+ghost use Rattle.classes.specs.Laws.{ClassesAreLeast, OrbitsAreSteps};
+
+/// The classes into which pairs join the numbers below k hold the two numbers of each pair together,
+/// and lie in every equivalence that does.
+pub fn classes_are_least()
+    ensures { ClassesAreLeast }
+{}
+
+/// Two numbers are in one orbit of a permutation exactly where steps from a number to its image lead
+/// from the one to the other.
+pub fn orbits_are_steps()
+    ensures { OrbitsAreSteps }
+{}

@@ -1,0 +1,20 @@
+use Rattle.std.proofs.Common.{ℕ, length, ap, subst, arith}
+use Rattle.map_lists.specs.Lists.{Lists}
+use Rattle.graph_search.proofs.ForestLemmas.{IsAdjacency-simple}
+use Rattle.graph_search.specs.Cuts.{IsSeparatingPair}
+use Rattle.conn_parts.specs.GraphLists.{graph_lists}
+use Rattle.conn_parts.proofs.GraphLemmas.{length-graph_lists, IsSimpleMap-graph_lists}
+use Rattle.conn_parts.proofs.graph_cuts.cuts.graph_separating_pair.Goals as goal
+
+pub list_separating_pair-requires-clause-adjacency : goal.list_separating_pair-requires-clause-adjacency
+list_separating_pair-requires-clause-adjacency c = rw c.in_ok-lists.ensures (IsAdjacency-simple (graph_lists c.args.graph.now) (IsSimpleMap-graph_lists c.args.graph.now c.n-n.ensures.known c.requires))
+
+pub list_separating_pair-requires-clause-few : goal.list_separating_pair-requires-clause-few
+list_separating_pair-requires-clause-few c =
+    let few = c.n-n.ensures.known.few in
+    omega (arith, ap length c.in_ok-lists.ensures, length-graph_lists c.args.graph.now c.n-n.ensures.known)
+
+pub returns : goal.returns
+returns c =
+    let none = rw c.in-None.is at c.in_ok-p.ensures in
+    subst (λ (ls : Lists). (u v : ℕ) → IsSeparatingPair ls u v → ⊥) c.in_ok-lists.ensures none

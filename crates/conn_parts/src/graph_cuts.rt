@@ -1,0 +1,7 @@
+//! Components, cut vertices and separating pairs of graphs, by their lists.
+
+mod cuts;
+mod lists;
+
+pub use cuts::{graph_components, graph_cut_vertex, graph_separating_pair};
+pub use lists::graph_lists;

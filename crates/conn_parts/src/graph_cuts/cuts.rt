@@ -1,0 +1,58 @@
+//! Components, cut vertices and separating pairs of graphs.
+ghost use Rattle.std.specs.Prelude.{◌≡◌, ◌<◌, ℕ, length, MatchOption, IfOk};
+ghost use Rattle.conn_parts.specs.Parts.{ArePartsOf};
+ghost use Rattle.graph_search.specs.Cuts.{IsCutVertex, IsLeastCutVertex, IsSeparatingPair, IsLeastPair};
+ghost use Rattle.conn_parts.specs.GraphLists.{graph_lists as lists_of_graph};
+
+use crate::graph_cuts::lists::graph_lists;
+use crate::{Parts, components};
+use graph_search::map_cuts::{list_cut_vertex, list_separating_pair};
+use graph6_text::Graph;
+use half_edges::HalfMap;
+use map_lists::VertexId;
+use std::alloc::{AllocError, Global};
+
+/// The components of a graph with a vertex, numbered by their least vertices. It fails only for want of
+/// memory.
+pub fn graph_components(alloc: Global, graph: &Graph) -> Result<Parts, AllocError>
+    requires { 0 < graph.now.n }
+    ensures { IfOk result (ArePartsOf (lists_of_graph graph.now)) }
+{
+    let _n = graph.n();
+    let lists = graph_lists(alloc, graph)?;
+    match HalfMap::from_rotations(alloc, &lists) {
+        Ok(map) => components(alloc, &map),
+        Err(_) => Err(AllocError),
+    }
+}
+
+/// The least cut vertex of a graph with a vertex, or None exactly where there is none. It fails only for
+/// want of memory.
+pub fn graph_cut_vertex(alloc: Global, graph: &Graph) -> Result<Option<VertexId>, AllocError>
+    requires { 0 < graph.now.n }
+    ensures { IfOk result (λ found. MatchOption found ((v : ℕ) → ¬ IsCutVertex (lists_of_graph graph.now) v) (λ v. IsLeastCutVertex (lists_of_graph graph.now) v.0)) }
+{
+    let _n = graph.n();
+    let lists = graph_lists(alloc, graph)?;
+    match list_cut_vertex(alloc, &lists)? {
+        Some(v) => Ok(Some(VertexId(v))),
+        None => Ok(None),
+    }
+}
+
+/// The least separating pair of a graph with a vertex, by its first vertex and then by its second, or None
+/// exactly where there is none. It fails only for want of memory.
+pub fn graph_separating_pair(
+    alloc: Global,
+    graph: &Graph,
+) -> Result<Option<(VertexId, VertexId)>, AllocError>
+    requires { 0 < graph.now.n }
+    ensures { IfOk result (λ found. MatchOption found ((u v : ℕ) → ¬ IsSeparatingPair (lists_of_graph graph.now) u v) (λ p. IsLeastPair (lists_of_graph graph.now) p.0.0 p.1.0)) }
+{
+    let _n = graph.n();
+    let lists = graph_lists(alloc, graph)?;
+    match list_separating_pair(alloc, &lists)? {
+        Some(p) => Ok(Some((VertexId(p.0), VertexId(p.1)))),
+        None => Ok(None),
+    }
+}

@@ -1,6 +1,0 @@
-use Rattle.std.proofs.Common.{◌≡◌, ◌+◌, ◌<◌, ℕ, length, slice_index}
-use Rattle.contour_counts.specs.Counts.{edges_below}
-use Rattle.contour_counts.proofs.counts.raise_edges.Given as goal
-
-abbrev pub invariant-loop-i : goal.invariant-loop-i
-invariant-loop-i l = (f : ℕ) → f < length l.edges → slice_index l.edges f ≡ slice_index l.initial.edges f + edges_below l.lists l.t.own l.vs l.i f

@@ -1,4 +1,0 @@
-use Rattle.contracted_embeddings.proofs.lifted.+witness_within.Given as goal
-
-abbrev pub decreases-witness_within : goal.decreases-witness_within
-decreases-witness_within l = l.count

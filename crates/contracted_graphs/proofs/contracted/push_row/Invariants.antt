@@ -1,9 +1,0 @@
-use Rattle.std.proofs.Common.{◌≡◌, ◌++◌, ◌+◌, ◌-◌, map}
-use Rattle.std.specs.List.{range_with_len}
-use Rattle.graph6_text.specs.Graphs.{edge_of}
-use Rattle.contracted_graphs.specs.ContractedEdges.{contracted_among}
-use Rattle.contracted_graphs.proofs.contracted.push_row.Given as goal
-
-abbrev pub invariant-loop-v : goal.invariant-loop-v
-invariant-loop-v l =
-    map edge_of l.edges.items ≡ map edge_of l.fn.edges.items ++ contracted_among l.graph l.e.a.0 l.e.b.0 (map (λ b. (l.u, b)) (range_with_len (l.u + 1) (l.v - (l.u + 1))))

@@ -1,2 +1,0 @@
--- Graphs with an edge contracted.
-pub mod ContractedEdges

@@ -1,2 +1,0 @@
--- What the call rests on.
-pub mod MovedLemmas

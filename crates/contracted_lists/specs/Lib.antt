@@ -1,2 +1,0 @@
--- The edges that are left when one is contracted.
-pub mod Moved

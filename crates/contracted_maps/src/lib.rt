@@ -1,7 +1,0 @@
-//! A plane map of any graph, by contraction and gluing.
-#![tactic(auto)]
-
-mod recursion;
-mod whole;
-
-pub use recursion::map_of_lists;

@@ -1,4 +1,0 @@
--- What the law rests on.
-pub mod Parts
-pub mod Growth
-mod Cases

@@ -1,2 +1,0 @@
--- Edges that can be contracted.
-pub mod Linked

@@ -1,3 +1,0 @@
--- Lemmas on records as three-connected maps.
-pub mod BlockLemmas
-mod Cases

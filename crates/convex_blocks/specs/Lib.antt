@@ -1,3 +1,0 @@
--- Records as three-connected maps of genus zero.
-pub mod Convexity
-pub mod Laws

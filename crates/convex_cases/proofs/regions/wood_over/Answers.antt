@@ -1,8 +1,0 @@
-use Rattle.draw_check.specs.FaceVerdicts.{dart_of}
-use Rattle.draw_check.proofs.FaceIds.{dart_of-live}
-use Rattle.convex_cases.proofs.regions.wood_over.Goals as goal
-
-pub returns : goal.returns
-returns c =
-    let b = dart_of c.args.map.now c.args.base.0 in
-    (b, c.in_ok-wood.ensures b.0 b.1 (dart_of-live c.args.map.now c.args.base.0 c.requires.base))

@@ -1,0 +1,169 @@
+//! Whether points lie on the sides of a triangle whose corners are among them.
+//!
+//! The first and the last from left to right are two of the corners, and of the others that farthest from
+//! the line between them.
+
+ghost use Rattle.std.specs.Prelude.{◌≡◌, ◌⊎◌, ◌<◌, ◌↔◌, ◌<ℤ◌, ◌≤ℤ◌, pos, true, length, All, Contains, IsTrue};
+ghost use Rattle.pg_plane.specs.Geometry.{area};
+ghost use Rattle.pg_plane.specs.Range.{IsInRange};
+ghost use Rattle.plane_drawings.specs.PlaneSweepLines.{IsBefore};
+ghost use Rattle.convex_check.specs.Corners.{IsOnTriangle, AreCorners, HasCorners};
+
+use pg_plane::{Point, area2, on_segment};
+
+// Whether p comes before q from left to right, and upwards.
+fn is_before(p: Point, q: Point) -> bool
+    ensures { IsTrue result ↔ IsBefore p q }
+{
+    p.x < q.x || (p.x == q.x && p.y < q.y)
+}
+
+// The first of two points.
+fn earlier(p: Point, q: Point) -> Point
+    ensures one { (result ≡ p) ⊎ (result ≡ q) }
+    ensures before_p { ¬ IsBefore p result }
+    ensures before_q { (r : Point) → ¬ IsBefore r q → ¬ IsBefore r result }
+{
+    if is_before(p, q) { p } else { q }
+}
+
+// The last of two points.
+fn later(p: Point, q: Point) -> Point
+    ensures one { (result ≡ p) ⊎ (result ≡ q) }
+    ensures after_p { ¬ IsBefore result p }
+    ensures after_q { (r : Point) → ¬ IsBefore q r → ¬ IsBefore result r }
+{
+    if is_before(q, p) { p } else { q }
+}
+
+// The first of some points.
+fn first_of(points: &[Point]) -> Point
+    requires { 0 < length points.now }
+    ensures on { Contains points.now result }
+    ensures first { (p : Point) → Contains points.now p → ¬ IsBefore p result }
+{
+    let mut best = points[0];
+    for p in points {
+        best = earlier(*p, best);
+    }
+    best
+}
+
+// The last of some points.
+fn last_of(points: &[Point]) -> Point
+    requires { 0 < length points.now }
+    ensures on { Contains points.now result }
+    ensures last { (p : Point) → Contains points.now p → ¬ IsBefore result p }
+{
+    let mut best = points[0];
+    for p in points {
+        best = later(*p, best);
+    }
+    best
+}
+
+// Which of two points lies farther to the left of the way from `a` to `b`.
+fn farther(a: Point, b: Point, p: Point, q: Point) -> Point
+    requires a { IsInRange a }
+    requires b { IsInRange b }
+    requires p { IsInRange p }
+    requires q { IsInRange q }
+    ensures one { (result ≡ p) ⊎ (result ≡ q) }
+    ensures than_p { area a b p ≤ℤ area a b result }
+    ensures than_q { area a b q ≤ℤ area a b result }
+{
+    if area2(a, b, q) < area2(a, b, p) {
+        p
+    } else {
+        q
+    }
+}
+
+// The one of some points that lies farthest to the left of the way from `a` to `b`.
+fn farthest(points: &[Point], a: Point, b: Point) -> Point
+    requires some { 0 < length points.now }
+    requires in_range { All IsInRange points.now }
+    requires a { IsInRange a }
+    requires b { IsInRange b }
+    ensures on { Contains points.now result }
+    ensures far { (p : Point) → Contains points.now p → area a b p ≤ℤ area a b result }
+{
+    let mut best = points[0];
+    for p in points {
+        best = farther(a, b, *p, best);
+    }
+    best
+}
+
+// Whether a point lies on one of the segments between three others.
+fn is_on_triangle(p: Point, a: Point, b: Point, c: Point) -> bool
+    requires p { IsInRange p }
+    requires a { IsInRange a }
+    requires b { IsInRange b }
+    requires c { IsInRange c }
+    ensures { IsTrue result ↔ IsOnTriangle p a b c }
+{
+    on_segment(p, a, b) || on_segment(p, b, c) || on_segment(p, c, a)
+}
+
+// Whether all points do.
+fn all_on_triangle(points: &[Point], a: Point, b: Point, c: Point) -> bool
+    requires in_range { All IsInRange points.now }
+    requires a { IsInRange a }
+    requires b { IsInRange b }
+    requires c { IsInRange c }
+    ensures { IsTrue result ↔ ((p : Point) → Contains points.now p → IsOnTriangle p a b c) }
+{
+    for p in points {
+        if !is_on_triangle(*p, a, b, c) {
+            return false;
+        }
+    }
+    true
+}
+
+// Whether a third point lies to the left of the way from `a` to `b`.
+fn is_left(a: Point, b: Point, c: Point) -> bool
+    requires a { IsInRange a }
+    requires b { IsInRange b }
+    requires c { IsInRange c }
+    ensures { IsTrue result ↔ (pos 0 <ℤ area a b c) }
+{
+    0 < area2(a, b, c)
+}
+
+// Whether two of the points are corners, with a third to the left of the way from the one to the other.
+fn has_third(points: &[Point], a: Point, b: Point) -> bool
+    requires in_range { All IsInRange points.now }
+    requires a { Contains points.now a }
+    requires b { Contains points.now b }
+    ensures yes { result ≡ true → HasCorners points.now }
+    ensures no { (c : Point) → AreCorners points.now a b c → pos 0 <ℤ area a b c → result ≡ true }
+{
+    let c = farthest(points, a, b);
+    if is_left(a, b, c) {
+        all_on_triangle(points, a, b, c)
+    } else {
+        false
+    }
+}
+
+/// Whether three of the points have an area other than 0, and each of the points is on one of the segments
+/// between these three.
+///
+/// No coordinate is beyond 2^20 in size. The time is linear in the points, and it takes no memory.
+pub fn has_corners(points: &[Point]) -> bool
+    requires { All IsInRange points.now }
+    ensures { IsTrue result ↔ HasCorners points.now }
+{
+    if points.is_empty() {
+        return false;
+    }
+    let a = first_of(points);
+    let b = last_of(points);
+    if has_third(points, a, b) {
+        true
+    } else {
+        has_third(points, b, a)
+    }
+}

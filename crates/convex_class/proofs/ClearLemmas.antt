@@ -1,0 +1,156 @@
+-- What marks at a vertex and along a face tell of it.
+use Rattle.std.proofs.Common.{◌≡◌, ◌≢◌, ℕ, ◌+◌, ◌<◌, ◌≤◌, List, length, get_or, set, Contains, Option, Some, unwrap_or, sym, ap, ◌∙◌, subst, inl, inr, arith, get_or-set_other, get_or-set_same}
+use Rattle.std.specs.Option.{option_map}
+use Rattle.std.proofs.lemmas.Bool.{cases_eq, cases_lt}
+use Rattle.std.proofs.lemmas.List.{get_or_default}
+use Rattle.map_lists.specs.declared.ids.DartId.{DartId}
+use Rattle.map_theory.specs.Maps.{Dart, HasDart, list_of, twin_dart}
+use Rattle.half_edges.specs.Map.{Map, IsHalfMap, IsLive, dart_at}
+use Rattle.euler_faces.specs.FaceWalks.{walk_at, ids_of, AreFaces}
+use Rattle.euler_faces.proofs.NumberLemmas.{live_from}
+use Rattle.convex_class.specs.Stamps.{IsStamped, AreStamped}
+use Rattle.convex_class.specs.Clear.{IsRing, IsNumber, IsOffAt, IsOff, IsClearVertex, IsAcross, IsOffCorner, IsOffPlace, IsClearFace, after_place}
+use Rattle.convex_class.proofs.WalkMarks.{get_or-ids, length-ids}
+use Rattle.convex_class.proofs.StampLemmas.{IsStamped-fewer}
+
+-- what calls of `head` and `tail` answer
+pub head_is : (o : Option Dart) (v w z : ℕ) → o ≡ Some (v, w) → option_map (λ (e : Dart). e.1) o ≡ Some z → w ≡ z
+head_is o v w z is e = ap (λ (x : Option ℕ). unwrap_or x 0) (sym (ap (option_map (λ (e : Dart). e.1)) is) ∙ e)
+
+pub tail_is : (o : Option Dart) (v w z : ℕ) → o ≡ Some (v, w) → option_map (λ (e : Dart). e.0) o ≡ Some z → v ≡ z
+tail_is o v w z is e = ap (λ (x : Option ℕ). unwrap_or x 0) (sym (ap (option_map (λ (e : Dart). e.0)) is) ∙ e)
+
+-- an entry of a list is at a place
+pub place_in : (xs : List ℕ) (x : ℕ) → Contains xs x → (i : ℕ) × (i < length xs) × (get_or xs i 0 ≡ x)
+place_in xs x c = (c.0, c.1, get_or_default xs c.0 0 x c.1 ∙ c.2)
+
+-- what holds of each id holds of each dart of a row
+pub each_dart : (ds : List DartId) (P : ℕ → Type 0) → ((i : ℕ) → i < length (ids_of ds) → P (get_or (ids_of ds) i 0)) → (i : ℕ) → i < length ds → P (get_or ds i (record { 0 = 0 })).0
+each_dart ds P all i l = let long = length-ids ds in subst P (get_or-ids ds i l) (all i (omega arith))
+
+-- what is marked at each place of a row is marked for each of its entries
+pub stamped_each : (x k : ℕ) (ids : List ℕ) (Z : ℕ → ℕ → Type 0) (old new : List ℕ) → k ≡ length ids → AreStamped x k (λ i. Z (get_or ids i 0)) old new → IsStamped x (λ z. (d : ℕ) × Contains ids d × Z d z) old new
+stamped_each x k ids Z old new whole s =
+    IsStamped-fewer x (λ z. (i : ℕ) × (i < k) × Z (get_or ids i 0) z) (λ z. (d : ℕ) × Contains ids d × Z d z) old new
+    (λ z h. let p = place_in ids h.0 h.1 in let l = p.1 in (p.0, omega arith, subst (λ d. Z d z) (sym p.2) h.2)) s.all
+
+-- the darts of a row of u
+pub ring_dart : (map : Map) (u : ℕ) (ds : List DartId) → IsRing map u (ids_of ds) → (i : ℕ) → i < length ds → dart_at map (get_or ds i (record { 0 = 0 })).0 ≡ Some (u, get_or (list_of map.lists u) i 0)
+ring_dart map u ds r i l =
+    let long = length-ids ds in
+    ap (dart_at map) (sym (get_or-ids ds i l)) ∙ r.each i (omega arith)
+
+pub ring_live : (map : Map) (u : ℕ) (ds : List DartId) → IsRing map u (ids_of ds) → (i : ℕ) → i < length ds → IsLive map (get_or ds i (record { 0 = 0 })).0
+ring_live map u ds r i l = live_from (dart_at map (get_or ds i (record { 0 = 0 })).0) (u, get_or (list_of map.lists u) i 0) (ring_dart map u ds r i l)
+
+-- a live dart has a number
+pub some_number : (map : Map) (walks : List (List ℕ)) → AreFaces map walks → (d : ℕ) → IsLive map d → (f : ℕ) × IsNumber walks d f
+some_number map walks faces d live = let h = faces.all d live in (h.0, (h.1, h.2))
+
+-- ---- from a vertex
+module _ (u z p : ℕ) (us marks : List ℕ) (z_in : z < length marks) (at : get_or us p 0 ≡ z) where
+  -- a neighbour more has the mark
+  pub heads_more : ((i : ℕ) → i < p → get_or marks (get_or us i 0) 0 ≡ u) → (i : ℕ) → i < p + 1 → get_or (set marks z u) (get_or us i 0) 0 ≡ u
+  heads_more all i l =
+      elim (cases_eq (get_or us i 0) z) [
+        | inl e ↦ ap (λ y. get_or (set marks z u) y 0) e ∙ get_or-set_same marks z u 0 z_in
+        | inr ne ↦ elim (cases_lt i p) [
+          | inl less ↦ get_or-set_other marks z (get_or us i 0) u 0 ne ∙ all i less
+          | inr most ↦ absurd (ne (ap (λ k. get_or us k 0) (let e : i ≡ p = omega arith in e) ∙ at))
+        ]
+      ]
+
+-- so all have it
+pub heads_all : (u k : ℕ) (us marks : List ℕ) → k ≡ length us → ((i : ℕ) → i < k → get_or marks (get_or us i 0) 0 ≡ u) → (z : ℕ) → Contains us z → get_or marks z 0 ≡ u
+heads_all u k us marks whole all z c =
+    let p = place_in us z c in
+    let l = p.1 in
+    ap (λ y. get_or marks y 0) (sym p.2) ∙ all p.0 (omega arith)
+
+module _ (map : Map) (known : IsHalfMap map) (walks : List (List ℕ)) (faces : AreFaces map walks) where
+  -- the walk of a dart is one
+  pub one_number : (d f g : ℕ) → IsNumber walks d f → IsNumber walks d g → f ≡ g
+  one_number d f g p q = faces.apart f g d p.0 q.0 p.1 q.1
+
+  -- a dart from u is in its row
+  pub in_ring : (u a d : ℕ) (ring : List ℕ) → IsRing map u ring → dart_at map d ≡ Some (u, a) → (i : ℕ) × (i < length ring) × (get_or ring i 0 ≡ d)
+  in_ring u a d ring r is =
+      let p = place_in (list_of map.lists u) a (known.is_dart d u a is).1 in
+      let long = r.long in
+      let l = p.1 in
+      let within : p.0 < length ring = omega arith in
+      (p.0, within, known.one_id (get_or ring p.0 0) d u a (r.each p.0 within ∙ ap (λ z. Some (u, z)) p.2) is)
+
+  -- what the face of a dart from u passes, by the walk that the calls name
+  pub off_in_walk : (most u a d f z : ℕ) → option_map (λ (w : Dart). w.1) (dart_at map d) ≡ Some a → IsNumber walks d f → IsOff map walks most u d z → (length (walk_at walks f) ≤ most) × ((e : ℕ) × Contains (walk_at walks f) e × IsOffAt map u a e z)
+  off_in_walk most u a d f z head number h =
+      let e = one_number d h.f f h.number number in
+      let same = head_is (dart_at map d) u h.a a h.dart head in
+      let off : IsOffAt map u a h.e z = subst (λ b. IsOffAt map u b h.e z) same h.off in
+      (subst (λ g. length (walk_at walks g) ≤ most) e h.short, (h.e, subst (λ g. Contains (walk_at walks g) h.e) e h.on, off))
+
+  module _ (most u : ℕ) (ring mid new : List ℕ) (whole : most ≡ length (list_of map.lists u)) (r : IsRing map u ring) (heads : (z : ℕ) → HasDart map.lists u z → get_or mid z 0 ≡ u) (s : AreStamped u (length ring) (λ i. IsOff map walks most u (get_or ring i 0)) mid new) where
+    abbrev Off : ℕ → ℕ → Type 0
+    Off d z = IsOff map walks most u d z
+
+    off_at : (d z : ℕ) → Off d z → (i : ℕ) × (i < length ring) × (get_or ring i 0 ≡ d) × Off (get_or ring i 0) z
+    off_at d z h = let p = in_ring u h.a d ring r h.dart in (p.0, p.1, p.2, subst (λ e. Off e z) (sym p.2) h)
+
+    clear_alone : (d z : ℕ) → Off d z → ¬ HasDart map.lists u z
+    clear_alone d z h has = let p = off_at d z h in s.all.fresh z (p.0, p.1, p.3) (heads z has)
+
+    clear_apart : (d e z : ℕ) → d ≢ e → Off d z → Off e z → ⊥
+    clear_apart d e z ne h k =
+        let p = off_at d z h in
+        let q = off_at e z k in
+        elim (cases_lt p.0 q.0) [
+          | inl less ↦ s.apart p.0 q.0 z less q.1 p.3 q.3
+          | inr le ↦ elim (cases_eq p.0 q.0) [
+            | inl same ↦ ne (sym p.2 ∙ (ap (λ i. get_or ring i 0) same ∙ q.2))
+            | inr other ↦ s.apart q.0 p.0 z (omega arith) p.1 q.3 p.3
+          ]
+        ]
+
+    pub clear_vertex : IsClearVertex map walks u
+    clear_vertex =
+        record {
+          alone = λ d z h. clear_alone d z (subst (λ n. IsOff map walks n u d z) (sym whole) h);
+          apart = λ d e z ne h k. clear_apart d e z ne (subst (λ n. IsOff map walks n u d z) (sym whole) h) (subst (λ n. IsOff map walks n u e z) (sym whole) k);
+        }
+
+  -- ---- from a face
+  -- the face across a dart, by the twin and the number that the calls name
+  pub across_one : (d t r z : ℕ) → dart_at map t ≡ option_map twin_dart (dart_at map d) → IsNumber walks t r → IsAcross map walks d z → z ≡ r
+  across_one d t r z twin number h =
+      let same = known.one_id h.2 t h.1 h.0 h.4 (twin ∙ ap (option_map twin_dart) h.3) in
+      one_number t z r (subst (λ e. IsNumber walks e z) same h.5) number
+
+  -- the faces at the vertex of e that are not across d or e, by the row that the calls name
+  pub off_in_ring : (most f d e v x y z : ℕ) (ring : List ℕ) → option_map (λ (w : Dart). w.0) (dart_at map e) ≡ Some v → IsAcross map walks d x → IsAcross map walks e y → IsRing map v ring → IsOffCorner map walks most f d e z → (c : ℕ) × Contains ring c × IsNumber walks c z × (z ≢ f) × (z ≢ x) × (z ≢ y)
+  off_in_ring most f d e v x y z ring tail at_x at_y r h =
+      let same = tail_is (dart_at map e) h.v h.y v h.dart tail in
+      let p = in_ring v h.h h.c ring r (h.corner ∙ ap (λ w. Some (w, h.h)) same) in (
+        h.c,
+        (p.0, p.1, get_or_default ring p.0 h.c 0 p.1 ∙ p.2),
+        h.number,
+        h.other,
+        (λ q. h.not_before (subst (IsAcross map walks d) (sym q) at_x)),
+        (λ q. h.not_behind (subst (IsAcross map walks e) (sym q) at_y)),
+      )
+
+-- the marks of a call at place i of walk f, by the numbers that the call names
+pub off_place : (map : Map) (walks : List (List ℕ)) (f i n d e : ℕ) (old new : List ℕ) → n ≡ length (walk_at walks f) → d ≡ get_or (walk_at walks f) i 0 → e ≡ after_place (walk_at walks f) i → IsStamped f (IsOffCorner map walks n f d e) old new → IsStamped f (IsOffPlace map walks f i) old new
+off_place map walks f i n d e old new long at behind s =
+    let w = walk_at walks f in
+    subst (λ x. IsStamped f (IsOffCorner map walks (length w) f (get_or w i 0) x) old new) behind
+    (subst (λ x. IsStamped f (IsOffCorner map walks (length w) f x e) old new) at
+    (subst (λ x. IsStamped f (IsOffCorner map walks x f d e) old new) long s))
+
+pub clear_face : (map : Map) (walks : List (List ℕ)) (f : ℕ) (walk old mid new : List ℕ) → walk ≡ walk_at walks f → AreStamped f (length walk) (λ i. IsAcross map walks (get_or walk i 0)) old mid → AreStamped f (length (walk_at walks f)) (IsOffPlace map walks f) mid new → IsClearFace map walks f
+clear_face map walks f walk old mid new is across s =
+    let t : AreStamped f (length (walk_at walks f)) (λ i. IsAcross map walks (get_or (walk_at walks f) i 0)) old mid = subst (λ (w : List ℕ). AreStamped f (length w) (λ i. IsAcross map walks (get_or w i 0)) old mid) is across in
+    record {
+      once = t.apart;
+      alone = λ i j z l m off over. s.all.fresh z (i, l, off) (t.all.set z (j, m, over));
+      apart = s.apart;
+    }

@@ -1,0 +1,14 @@
+-- Lemmas on marks that faces set.
+pub mod MarkLemmas
+pub mod WalkMarks
+pub mod PairMarks
+mod FacePairsCases
+mod StampLemmas
+mod RingLemmas
+mod ClearLemmas
+mod Bad
+mod FacePairsRefused
+-- Lemmas on records as three-connected maps.
+pub mod BlockLemmas
+mod ConvexBlocksCases
+mod ConvexBlocksRefused

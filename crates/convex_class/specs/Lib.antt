@@ -1,0 +1,7 @@
+-- Which vertices the faces of a vertex pass, and marks that tell it.
+pub mod Passing
+pub mod Stamps
+pub mod Clear
+-- Records as three-connected maps of genus zero.
+pub mod Convexity
+pub mod Laws

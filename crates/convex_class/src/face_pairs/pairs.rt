@@ -1,0 +1,104 @@
+//! The least separating pair.
+ghost use Rattle.std.specs.Prelude.{◌≡◌, ◌≢◌, ◌<◌, ◌≤◌, ℕ, length, Some, MatchOption, IfOk};
+ghost use Rattle.map_theory.specs.Maps.{IsPlane};
+ghost use Rattle.half_edges.specs.Map.{IsHalfMap, IsLive, dart_at, first_dart};
+ghost use Rattle.euler_faces.specs.FaceWalks.{AreFaces};
+ghost use Rattle.graph_search.specs.Cuts.{IsCutVertex, IsSeparatingPair, IsLeastPair};
+ghost use Rattle.convex_peeling.specs.TightMapsLaws.{IsPlaneUncut};
+ghost use Rattle.convex_class.specs.Passing.{IsUnused};
+
+use crate::face_pairs::marks::mark_walk;
+use crate::face_pairs::unpaired::is_unpaired;
+use euler_faces::{Faces, faces};
+use half_edges::{DartId, HalfMap, VertexId};
+use std::alloc::{AllocError, Global};
+
+// The least greater vertex with which u is a separating pair, or the number of vertices; `first` is the
+// dart to the first entry of its list.
+fn partner_in_round(
+    map: &HalfMap,
+    faces: &Faces,
+    u: VertexId,
+    first: DartId,
+    marks: &mut [u16],
+) -> u16
+    requires known { IsHalfMap map.now }
+    requires uncut { IsPlaneUncut map.now.lists }
+    requires faces { AreFaces map.now faces.now }
+    requires first { dart_at map.now first.0 ≡ Some (first_dart map.now.lists u.0) }
+    requires marks { length marks.old ≡ length map.now.lists }
+    requires unused { IsUnused marks.old u.0 }
+    ensures pair { result < length map.now.lists → IsSeparatingPair map.now.lists u.0 result }
+    ensures least { (w : ℕ) → IsSeparatingPair map.now.lists u.0 w → result ≤ w }
+    ensures unused { (x : ℕ) → x ≢ u.0 → IsUnused marks.old x → IsUnused marks.new x }
+{
+    let mut best = map.n();
+    let mut d = first;
+    'round: loop {
+        best = mark_walk(map, faces.walk(faces.of_dart(d)), u, marks, best);
+        d = map.next(d);
+        if d.0 == first.0 {
+            return best;
+        }
+    }
+}
+
+// The same, where the vertex has any neighbours.
+fn partner(map: &HalfMap, faces: &Faces, u: VertexId, marks: &mut [u16]) -> u16
+    requires known { IsHalfMap map.now }
+    requires uncut { IsPlaneUncut map.now.lists }
+    requires faces { AreFaces map.now faces.now }
+    requires vertex { u.0 < length map.now.lists }
+    requires marks { length marks.old ≡ length map.now.lists }
+    requires unused { IsUnused marks.old u.0 }
+    ensures pair { result < length map.now.lists → IsSeparatingPair map.now.lists u.0 result }
+    ensures least { (w : ℕ) → IsSeparatingPair map.now.lists u.0 w → result ≤ w }
+    ensures unused { (x : ℕ) → x ≢ u.0 → IsUnused marks.old x → IsUnused marks.new x }
+{
+    match map.first_dart(u) {
+        Some(first) => partner_in_round(map, faces, u, first, marks),
+        None => map.n(),
+    }
+}
+
+// The least separating pair, given marks that are no vertices.
+fn first_pair(map: &HalfMap, faces: &Faces, marks: &mut [u16]) -> Option<(VertexId, VertexId)>
+    requires known { IsHalfMap map.now }
+    requires uncut { IsPlaneUncut map.now.lists }
+    requires faces { AreFaces map.now faces.now }
+    requires marks { length marks.old ≡ length map.now.lists }
+    requires unused { (x : ℕ) → x < length map.now.lists → IsUnused marks.old x }
+    ensures { MatchOption result ((u v : ℕ) → ¬ IsSeparatingPair map.now.lists u v) (λ p. IsLeastPair map.now.lists p.0.0 p.1.0) }
+{
+    for u in 0..map.n() {
+        let v = partner(map, faces, VertexId(u), marks);
+        if v < map.n() {
+            return Some((VertexId(u), VertexId(v)));
+        }
+    }
+    None
+}
+
+/// The least separating pair of a map of genus zero without cut vertices, by its first vertex and then by
+/// its second, or None exactly where there is none.
+///
+/// It fails only for want of memory. The memory is linear in the vertices and the darts, and so is the time where a
+/// connected map of at least four vertices has no such pair. Elsewhere the time is the sum of the lengths of faces over
+/// the darts: quadratic at most.
+pub fn plane_separating_pair(
+    alloc: Global,
+    map: &HalfMap,
+) -> Result<Option<(VertexId, VertexId)>, AllocError>
+    requires plane { IsPlane map.now.lists }
+    requires uncut { (v : ℕ) → ¬ IsCutVertex map.now.lists v }
+    ensures { IfOk result (λ found. MatchOption found ((u v : ℕ) → ¬ IsSeparatingPair map.now.lists u v) (λ p. IsLeastPair map.now.lists p.0.0 p.1.0)) }
+{
+    map.facts();
+    let faces = faces(alloc, map)?;
+    if is_unpaired(alloc, map, &faces)? {
+        return Ok(None);
+    }
+    let mut marks = vec![in alloc; map.n(); map.n() as usize]?;
+    let pair = first_pair(map, &faces, &mut marks);
+    Ok(pair)
+}

@@ -1,0 +1,106 @@
+-- The grid, its corners and the outer face of a whole run.
+use Rattle.std.proofs.Common.{◌≡◌, ℕ, zero, suc, ◌+◌, ◌-◌, ◌*◌, ◌<◌, ◌≤◌, ℤ, pos, negsuc, neg_ℤ, ◌-ℤ◌, ◌*ℤ◌, ◌<ℤ◌, refl, sym, ap, ap₂, subst, ◌∙◌, inl, inr, arith}
+use Rattle.std.proofs.lemmas.Bool.{cases_lt}
+use Rattle.std.proofs.lemmas.Int.{ints}
+use Rattle.pg_plane.specs.declared.point.Point.{Point}
+use Rattle.pg_plane.specs.Geometry.{area}
+use Rattle.pg_plane.proofs.Ring.{sums, product_signs}
+use Rattle.contour_runs.specs.Runs.{Stage}
+use Rattle.contour_runs.specs.Laws.{IsStage}
+use Rattle.contour_runs.specs.Wood.{Coordinates}
+use Rattle.convex_counts.specs.Runs.{Step, stage_after, IsRun, faces_made}
+use Rattle.convex_counts.proofs.Stages.{IsStage-run}
+use Rattle.convex_counts.specs.Counts.{face_counts, thrice}
+use Rattle.convex_counts.specs.Contours.{IsFalling}
+use Rattle.convex_counts.specs.FacePointsLaws.{IsWholeRun, IsCornered, outside}
+use Rattle.convex_counts.proofs.Areas.{rising, level}
+use Rattle.convex_counts.proofs.Steps.{IsFalling-run}
+
+-- an area by four differences
+differences : (u v p : Point) (x y z w : ℤ) → v.x -ℤ u.x ≡ x → v.y -ℤ u.y ≡ y → p.x -ℤ u.x ≡ z → p.y -ℤ u.y ≡ w → area u v p ≡ (x *ℤ w) -ℤ (z *ℤ y)
+differences u v p x y z w ex ey ez ew = ap₂ (λ m n. m -ℤ n) (ap₂ (λ m n. m *ℤ n) ex ew) (ap₂ (λ m n. m *ℤ n) ez ey)
+
+-- the outside point, left of an edge on the one axis and on the other
+outside_right : (at : Coordinates) (u v : ℕ) → at.two u ≡ 0 → at.two v ≡ 0 → at.one v < at.one u → pos 0 <ℤ area (thrice at u) (thrice at v) outside
+outside_right at u v e f l =
+    let d : ℕ = 3 * (at.one u - at.one v) in
+    subst (λ m. pos 0 <ℤ m)
+    (sym (differences (thrice at u) (thrice at v) outside (neg_ℤ (pos d)) (pos 0) (negsuc 0 -ℤ pos (3 * at.one u)) (neg_ℤ (pos 1)) (omega (arith, ints)) (omega (arith, ints)) refl (omega (arith, ints)) ∙ level (pos d) (pos 1) (negsuc 0 -ℤ pos (3 * at.one u))))
+    ((product_signs (pos d) (pos 1)).both_above (omega (arith, ints)) (omega (arith, ints)))
+
+outside_left : (at : Coordinates) (u v : ℕ) → at.one u ≡ 0 → at.one v ≡ 0 → at.two u < at.two v → pos 0 <ℤ area (thrice at u) (thrice at v) outside
+outside_left at u v e f l =
+    let d : ℕ = 3 * (at.two v - at.two u) in
+    subst (λ m. pos 0 <ℤ m)
+    (sym (differences (thrice at u) (thrice at v) outside (pos 0) (pos d) (neg_ℤ (pos 1)) (negsuc 0 -ℤ pos (3 * at.two u)) (omega (arith, ints)) (omega (arith, ints)) (omega (arith, ints)) refl ∙ rising (pos 1) (pos d) (negsuc 0 -ℤ pos (3 * at.two u))))
+    ((product_signs (pos 1) (pos d)).both_above (omega (arith, ints)) (omega (arith, ints)))
+
+-- and right of the base
+outside_base : (at : Coordinates) (m : ℕ) → 0 < m → at.one 1 ≡ 0 → at.two 1 ≡ m → at.one 0 ≡ m → at.two 0 ≡ 0 → area (thrice at 1) (thrice at 0) outside <ℤ pos 0
+outside_base at m some a b c d =
+    let k : ℕ = 3 * m in
+    let e = differences (thrice at 1) (thrice at 0) outside (pos k) (neg_ℤ (pos k)) (neg_ℤ (pos 1)) (neg_ℤ (pos (suc k))) (omega (arith, ints)) (omega (arith, ints)) (omega (arith, ints)) (omega (arith, ints)) in
+    let p = (product_signs (pos k) (neg_ℤ (pos (suc k)))).above_below (omega (arith, ints)) (omega (arith, ints)) in
+    let q = (product_signs (neg_ℤ (pos 1)) (neg_ℤ (pos k))).both_below (omega (arith, ints)) (omega (arith, ints)) in
+    subst (λ z. z <ℤ pos 0) (sym e) (omega (arith, sums))
+
+module _ (steps : ℕ → Step) (n : ℕ) (whole : IsWholeRun steps n) where
+  abbrev g : Stage
+  g = stage_after steps n
+
+  abbrev at : Coordinates
+  at = face_counts steps n
+
+  fall : IsFalling g at (faces_made steps n)
+  fall = IsFalling-run steps n whole.turned.run
+
+  stage : IsStage g
+  stage = IsStage-run steps n whole.turned.run
+
+  -- up to the last vertex all is on the one axis, from it on all on the other
+  on_first_axis : (j : ℕ) → j ≤ whole.top → at.two (g.vertex j) ≡ 0
+  on_first_axis zero l = ap at.two stage.begin ∙ fall.first_two
+  on_first_axis (suc j) l = (whole.right j l).two ∙ on_first_axis j (omega arith)
+
+  on_second_axis : (d j : ℕ) → j + d + 1 ≡ g.width → whole.top ≤ j → at.one (g.vertex j) ≡ 0
+  on_second_axis zero j e l = ap at.one (stage.end j (omega arith)) ∙ fall.second_one
+  on_second_axis (suc d) j e l = sym (whole.left j l (omega arith)).one ∙ on_second_axis d (suc j) (omega arith) (omega arith)
+
+  second_axis : (j : ℕ) → whole.top ≤ j → j < g.width → at.one (g.vertex j) ≡ 0
+  second_axis j a b = on_second_axis (g.width - 1 - j) j (omega arith) a
+
+  at_last : (v : ℕ) → suc v ≡ g.count → (at.one v ≡ 0) × (at.two v ≡ 0)
+  at_last v e =
+      let l = whole.last in
+      let same : v ≡ g.vertex whole.top = omega arith in
+      (ap at.one same ∙ second_axis whole.top (omega arith) whole.within, ap at.two same ∙ on_first_axis whole.top (omega arith))
+
+  cornered_at : IsCornered steps n (faces_made steps n)
+  cornered_at = record {
+    grid = λ v l. let s = fall.sums v l in (omega arith, omega arith);
+    first = (fall.first_one, fall.first_two);
+    second = (fall.second_one, fall.second_two);
+    last = at_last;
+    axes = λ j l. elim (cases_lt whole.top j) [ inr a ↦ inl (on_first_axis j a) | inl a ↦ inr (second_axis j (omega arith) l) ];
+  }
+
+  outer_left : (j : ℕ) → suc j < g.width → pos 0 <ℤ area (thrice at (g.vertex j)) (thrice at (g.vertex (suc j))) outside
+  outer_left j l = elim (cases_lt j whole.top) [
+    | inl a ↦ outside_right at (g.vertex j) (g.vertex (suc j)) (on_first_axis j (omega arith)) (on_first_axis (suc j) a) (whole.right j a).one
+    | inr a ↦ outside_left at (g.vertex j) (g.vertex (suc j)) (second_axis j a (omega arith)) (second_axis (suc j) (omega arith) l) (whole.left j a l).two
+  ]
+
+pub some_faces : (steps : ℕ → Step) (n : ℕ) → IsRun steps n → 0 < n → 0 < faces_made steps n
+some_faces steps zero run l = absurd (omega arith)
+some_faces steps (suc n) run l = let s = (run n (omega arith)).some_face in omega arith
+
+pub cornered : (steps : ℕ → Step) (n : ℕ) → IsWholeRun steps n → IsCornered steps n (faces_made steps n)
+cornered steps n whole = cornered_at steps n whole
+
+pub left_of_outer : (steps : ℕ → Step) (n j : ℕ) → IsWholeRun steps n → suc j < (stage_after steps n).width → pos 0 <ℤ area (thrice (face_counts steps n) ((stage_after steps n).vertex j)) (thrice (face_counts steps n) ((stage_after steps n).vertex (suc j))) outside
+left_of_outer steps n j whole l = outer_left steps n whole j l
+
+pub right_of_base : (steps : ℕ → Step) (n : ℕ) → IsWholeRun steps n → 0 < n → area (thrice (face_counts steps n) 1) (thrice (face_counts steps n) 0) outside <ℤ pos 0
+right_of_base steps n whole some =
+    let h = fall steps n whole in
+    outside_base (face_counts steps n) (faces_made steps n) (some_faces steps n whole.turned.run some) h.second_one h.second_two h.first_one h.first_two

@@ -1,0 +1,288 @@
+-- No two faces that a run makes have a dart in common.
+use Rattle.std.proofs.Common.{◌≡◌, ◌⊎◌, ℕ, suc, ◌+◌, ◌-◌, ◌<◌, ◌≤◌, sym, ap, ◌∙◌, subst, inl, inr, arith}
+use Rattle.std.proofs.lemmas.Bool.{cases_order}
+use Rattle.contour_runs.specs.Runs.{Stage}
+use Rattle.contour_runs.specs.Laws.{IsStage}
+use Rattle.contour_runs.proofs.Stages.{upward}
+use Rattle.convex_counts.specs.Runs.{Step, after, stage_after, IsStep, IsRun, IsAlong, IsUp, IsDown, IsDartOf}
+use Rattle.convex_counts.specs.FaceRunsLaws.{GoesAlong}
+use Rattle.convex_counts.proofs.Places.{cut-lt, cut-le, cut-first, cut-last, order, vertex_after-low, vertex_after-new, vertex_after-high}
+use Rattle.convex_counts.proofs.Stages.{IsStage-run, IsRun-less, count-le}
+
+-- it went along the contour before the step, at one side of it
+pub record IsBeside (g : Stage) (s : Step) (x y : ℕ) : Type 0 where
+  pub place : ℕ
+  pub along : GoesAlong g x y place
+  pub outside : (place < s.first) ⊎ (s.last ≤ place)
+
+-- it is new: up to the first new vertex, between two of them, or on from the last
+pub record IsUpward (g : Stage) (s : Step) (x y : ℕ) : Type 0 where
+  pub tail : x ≡ g.vertex s.first
+  pub head : y ≡ g.count
+
+pub record IsOnward (g : Stage) (s : Step) (x y : ℕ) : Type 0 where
+  pub next : suc x ≡ y
+  pub new : g.count ≤ x
+
+pub record IsDownward (g : Stage) (s : Step) (x y : ℕ) : Type 0 where
+  pub tail : suc x ≡ g.count + s.vertices
+  pub head : y ≡ g.vertex s.last
+
+module _ (g : Stage) (s : Step) (h : IsStage g) (step : IsStep g s) where
+  -- what goes along the contour after a step went along it before, or is new
+  pub cases_along : (x y i : ℕ) → GoesAlong (after g s) x y i → IsBeside g s x y ⊎ (IsUpward g s x y ⊎ (IsOnward g s x y ⊎ IsDownward g s x y))
+  cases_along x y i a =
+      let o = order g s step in
+      let w = step.within in
+      let l = a.within in
+      let t = a.tail in
+      let u = a.head in
+      let some = step.some_vertex in
+      elim (cases_order i s.first) [
+        | inl e ↦
+            let n = vertex_after-new g s (suc i) (omega arith) (omega arith) in
+            inr (inl record { tail = sym a.tail ∙ vertex_after-low g s i (omega arith) ∙ ap g.vertex e; head = omega arith })
+        | inr (inl below) ↦
+            inl record {
+              place = i;
+              along = record { within = omega arith; tail = sym (vertex_after-low g s i (omega arith)) ∙ a.tail; head = sym (vertex_after-low g s (suc i) (omega arith)) ∙ a.head };
+              outside = inl below;
+            }
+        | inr (inr above) ↦ elim (cases_order i (s.first + s.vertices)) [
+          | inl e ↦
+              let n = vertex_after-new g s i above (omega arith) in
+              inr (inr (inr record { tail = omega arith; head = sym a.head ∙ vertex_after-high g s (suc i) s.last (omega arith) (omega arith) }))
+          | inr (inl below) ↦
+              let n = vertex_after-new g s i above (omega arith) in
+              let m = vertex_after-new g s (suc i) (omega arith) (omega arith) in
+              inr (inr (inl record { next = omega arith; new = omega arith }))
+          | inr (inr high) ↦
+              let j : ℕ = i + s.last - (s.first + s.vertices + 1) in
+              inl record {
+                place = j;
+                along = record {
+                  within = omega arith;
+                  tail = sym (vertex_after-high g s i j (omega arith) (omega arith)) ∙ a.tail;
+                  head = sym (vertex_after-high g s (suc i) (suc j) (omega arith) (omega arith)) ∙ a.head;
+                };
+                outside = inr (omega arith);
+              }
+        ]
+      ]
+
+  -- one vertex has one place
+  pub one_place : (i j : ℕ) → i < g.width → j < g.width → g.vertex i ≡ g.vertex j → i ≡ j
+  one_place i j l m e = sym (h.own i l) ∙ ap g.place e ∙ h.own j m
+
+  -- the vertices at the cuts are placed
+  pub cut_placed : (i : ℕ) → i ≤ s.faces → (s.cut i < g.width) × (g.vertex (s.cut i) < g.count)
+  cut_placed i l = let a = cut-last g s step i l in let w = step.within in let m : s.cut i < g.width = omega arith in (m, h.placed (s.cut i) m)
+
+  -- where the ends of a dart of a face are
+  pub along_placed : (i x y : ℕ) → i < s.faces → (a : IsAlong g s i x y) → (suc a.place < g.width) × (x < g.count) × (y < g.count) × (s.first ≤ a.place) × (a.place < s.last)
+  along_placed i x y l a =
+      let w = step.within in
+      let lo = cut-first g s step i (omega arith) in
+      let hi = cut-last g s step (suc i) l in
+      let lo' = a.low in
+      let hi' = a.high in
+      let p = h.placed a.place (omega arith) in
+      let q = h.placed (suc a.place) (omega arith) in
+      let t = a.tail in
+      let u = a.head in
+      (omega arith, omega arith, omega arith, omega arith, omega arith)
+
+  pub up_placed : (i x y : ℕ) → i < s.faces → IsUp g s i x y → (x < g.count) × (g.count ≤ y) × (y < g.count + s.vertices)
+  up_placed i x y l a = let p = (cut_placed (suc i) l).1 in let t = a.tail in let u = a.head in let some = step.some_vertex in (omega arith, omega arith, omega arith)
+
+  pub down_placed : (i x y : ℕ) → i < s.faces → IsDown g s i x y → (x ≡ g.count) × (y < g.count)
+  down_placed i x y l a = let p = (cut_placed i (omega arith)).1 in let t = a.tail in let u = a.head in (omega arith, omega arith)
+
+  pub ends_placed : (i x y : ℕ) → IsDartOf g s i x y → (x < g.count + s.vertices) × (y < g.count + s.vertices)
+  ends_placed i x y d =
+      let l = d.within in
+      let some = step.some_vertex in
+      elim d.dart [
+        | inl a ↦ let p = along_placed i x y l a in (omega (arith, p.1), omega (arith, p.2))
+        | inr (inl a) ↦ let p = up_placed i x y l a in (omega (arith, p.0), p.2)
+        | inr (inr (inl a)) ↦ let p = a.next in let q = a.high in (q, omega arith)
+        | inr (inr (inr a)) ↦ let p = down_placed i x y l a in (omega (arith, p.0), omega (arith, p.1))
+      ]
+
+  -- a dart of a face does not go along the contour after the step
+  pub not_along_next : (i x y : ℕ) → IsDartOf g s i x y → (j : ℕ) → ¬ GoesAlong (after g s) x y j
+  not_along_next i x y d j along =
+      let l = d.within in
+      let w = step.within in
+      let o = order g s step in
+      let pf = h.placed s.first (omega arith) in
+      let pl = h.placed s.last w in
+      elim (cases_along x y j along) [
+        | inl b ↦
+            let m = b.along.within in
+            let bx = h.placed b.place (omega arith) in
+            let by = h.placed (suc b.place) m in
+            let tx = b.along.tail in
+            let ty = b.along.head in
+            elim d.dart [
+              | inl a ↦
+                  let p = along_placed i x y l a in
+                  let e = one_place a.place b.place (omega (arith, p.0)) (omega arith) (a.tail ∙ sym tx) in
+                  elim b.outside [ inl z ↦ omega (arith, p.3) | inr z ↦ omega (arith, p.4) ]
+              | inr (inl a) ↦ omega (arith, (up_placed i x y l a).1)
+              | inr (inr (inl a)) ↦ let p = a.low in let q = a.next in omega arith
+              | inr (inr (inr a)) ↦ omega (arith, (down_placed i x y l a).0)
+            ]
+        | inr (inl b) ↦
+            let tx = b.tail in
+            let ty = b.head in
+            elim d.dart [
+              | inl a ↦ omega (arith, (along_placed i x y l a).2)
+              | inr (inl a) ↦
+                  let e = one_place (s.cut (suc i)) s.first (cut_placed (suc i) l).0 (omega arith) (a.tail ∙ tx) in
+                  let z = cut-lt g s step 0 (suc i) (omega arith) l in
+                  let z' = step.begin in
+                  omega arith
+              | inr (inr (inl a)) ↦ let p = a.low in let q = a.next in omega arith
+              | inr (inr (inr a)) ↦ omega (arith, (down_placed i x y l a).0)
+            ]
+        | inr (inr (inl b)) ↦
+            let tx = b.next in
+            let ty = b.new in
+            elim d.dart [
+              | inl a ↦ omega (arith, (along_placed i x y l a).1)
+              | inr (inl a) ↦ omega (arith, (up_placed i x y l a).0)
+              | inr (inr (inl a)) ↦ let q = a.next in omega arith
+              | inr (inr (inr a)) ↦ omega (arith, (down_placed i x y l a).1)
+            ]
+        | inr (inr (inr b)) ↦
+            let tx = b.tail in
+            let ty = b.head in
+            let some = step.some_vertex in
+            elim d.dart [
+              | inl a ↦ omega (arith, (along_placed i x y l a).1)
+              | inr (inl a) ↦ omega (arith, (up_placed i x y l a).0)
+              | inr (inr (inl a)) ↦ let p = a.low in omega arith
+              | inr (inr (inr a)) ↦
+                  let e = one_place (s.cut i) s.last (cut_placed i (omega arith)).0 w (a.head ∙ ty) in
+                  let z = cut-lt g s step i s.faces l (omega arith) in
+                  let z' = step.end in
+                  omega arith
+            ]
+      ]
+
+  -- no two faces of a step have a dart in common
+  apart_by_cuts : (i j p : ℕ) → i < s.faces → j < s.faces → s.cut i ≤ p → p < s.cut (suc i) → s.cut j ≤ p → p < s.cut (suc j) → i ≡ j
+  apart_by_cuts i j p li lj a b c d = elim (cases_order i j) [
+    | inl e ↦ e
+    | inr (inl m) ↦ let z = cut-le g s step (suc i) j m (omega arith) in absurd (omega arith)
+    | inr (inr m) ↦ let z = cut-le g s step (suc j) i m (omega arith) in absurd (omega arith)
+  ]
+
+  same_cut : (i j : ℕ) → i ≤ s.faces → j ≤ s.faces → g.vertex (s.cut i) ≡ g.vertex (s.cut j) → i ≡ j
+  same_cut i j li lj e =
+      let f = one_place (s.cut i) (s.cut j) (cut_placed i li).0 (cut_placed j lj).0 e in
+      elim (cases_order i j) [
+        | inl same ↦ same
+        | inr (inl m) ↦ let z = cut-lt g s step i j m lj in absurd (omega arith)
+        | inr (inr m) ↦ let z = cut-lt g s step j i m li in absurd (omega arith)
+      ]
+
+  pub same_face : (i j x y : ℕ) → IsDartOf g s i x y → IsDartOf g s j x y → i ≡ j
+  same_face i j x y d e =
+      let li = d.within in
+      let lj = e.within in
+      elim d.dart [
+        | inl a ↦
+            let p = along_placed i x y li a in
+            let px = p.1 in
+            let py = p.2 in
+            elim e.dart [
+              | inl b ↦
+                  let q = along_placed j x y lj b in
+                  let same = one_place a.place b.place (omega (arith, p.0)) (omega (arith, q.0)) (a.tail ∙ sym b.tail) in
+                  apart_by_cuts i j a.place li lj a.low a.high (let z = b.low in omega arith) (let z = b.high in omega arith)
+              | inr (inl b) ↦ absurd (omega (arith, (up_placed j x y lj b).1))
+              | inr (inr (inl b)) ↦ let z = b.low in absurd (omega arith)
+              | inr (inr (inr b)) ↦ absurd (omega (arith, (down_placed j x y lj b).0))
+            ]
+        | inr (inl a) ↦
+            let p = up_placed i x y li a in
+            let px = p.0 in
+            let py = p.1 in
+            elim e.dart [
+              | inl b ↦ absurd (omega (arith, (along_placed j x y lj b).2))
+              | inr (inl b) ↦ let z = same_cut (suc i) (suc j) li lj (a.tail ∙ sym b.tail) in omega arith
+              | inr (inr (inl b)) ↦ let z = b.low in let z' = b.next in absurd (omega arith)
+              | inr (inr (inr b)) ↦ absurd (omega (arith, (down_placed j x y lj b).1))
+            ]
+        | inr (inr (inl a)) ↦
+            let z1 = a.low in
+            let z2 = a.next in
+            let z3 = a.high in
+            elim e.dart [
+              | inl b ↦ absurd (omega (arith, (along_placed j x y lj b).2))
+              | inr (inl b) ↦ absurd (omega (arith, (up_placed j x y lj b).0))
+              | inr (inr (inl b)) ↦ elim step.single [ inl one ↦ absurd (omega arith) | inr one ↦ omega arith ]
+              | inr (inr (inr b)) ↦ absurd (omega (arith, (down_placed j x y lj b).1))
+            ]
+        | inr (inr (inr a)) ↦
+            let p = down_placed i x y li a in
+            let px = p.0 in
+            let py = p.1 in
+            elim e.dart [
+              | inl b ↦ absurd (omega (arith, (along_placed j x y lj b).1))
+              | inr (inl b) ↦ absurd (omega (arith, (up_placed j x y lj b).0))
+              | inr (inr (inl b)) ↦ let z = b.low in absurd (omega arith)
+              | inr (inr (inr b)) ↦ same_cut i j (omega arith) (omega arith) (a.head ∙ sym b.head)
+            ]
+      ]
+
+module _ (steps : ℕ → Step) (n : ℕ) (run : IsRun steps n) where
+  abbrev at : ℕ → Stage
+  at k = stage_after steps k
+
+  sound : (k : ℕ) → k ≤ n → IsStage (at k)
+  sound k l = IsStage-run steps k (IsRun-less steps k n l run)
+
+  -- nor does it go along any later contour
+  pub not_along : (k m i x y : ℕ) → k < m → m ≤ n → IsDartOf (at k) (steps k) i x y → (j : ℕ) → ¬ GoesAlong (at m) x y j
+  not_along k m i x y l b d =
+      let small = ends_placed (at k) (steps k) (sound k (omega arith)) (run k (omega arith)) i x y d in
+      upward (λ z. (j : ℕ) → ¬ GoesAlong (at z) x y j) (suc k) m l (not_along_next (at k) (steps k) (sound k (omega arith)) (run k (omega arith)) i x y d)
+      (λ z low high none j a.
+      let c = count-le steps (suc k) z low in
+      let step = run z (omega arith) in
+      let some = step.some_vertex in
+      elim (cases_along (at z) (steps z) (sound z (omega arith)) step x y j a) [
+        | inl e ↦ none e.place e.along
+        | inr (inl e) ↦ omega (arith, e.head, small.1)
+        | inr (inr (inl e)) ↦ omega (arith, e.new, small.0)
+        | inr (inr (inr e)) ↦ omega (arith, e.tail, small.0)
+      ])
+
+  -- so a face of a later step does not have it
+  not_later : (k l i j x y : ℕ) → k < l → l < n → IsDartOf (at k) (steps k) i x y → ¬ IsDartOf (at l) (steps l) j x y
+  not_later k l i j x y a b d e =
+      let small = ends_placed (at k) (steps k) (sound k (omega arith)) (run k (omega arith)) i x y d in
+      let c = count-le steps (suc k) l a in
+      let stage = sound l (omega arith) in
+      elim e.dart [
+        | inl z ↦ not_along k l i x y a (omega arith) d z.place record { within = (along_placed (at l) (steps l) stage (run l b) j x y e.within z).0; tail = z.tail; head = z.head }
+        | inr (inl z) ↦ omega (arith, (up_placed (at l) (steps l) stage (run l b) j x y e.within z).1, small.1)
+        | inr (inr (inl z)) ↦ omega (arith, z.low, small.1)
+        | inr (inr (inr z)) ↦ omega (arith, z.tail, small.0)
+      ]
+
+  same_step : (k l i j x y : ℕ) → k < n → l < n → IsDartOf (at k) (steps k) i x y → IsDartOf (at l) (steps l) j x y → (k ≡ l) × (i ≡ j)
+  same_step k l i j x y a b d e = elim (cases_order k l) [
+    | inl same ↦ (same, same_face (at k) (steps k) (sound k (omega arith)) (run k a) i j x y d (subst (λ z. IsDartOf (at z) (steps z) j x y) (sym same) e))
+    | inr (inl m) ↦ absurd (not_later k l i j x y m b d e)
+    | inr (inr m) ↦ absurd (not_later l k j i x y m a e d)
+  ]
+
+pub face_made_once : (steps : ℕ → Step) (n k l i j x y : ℕ) → IsRun steps n → k < n → l < n → IsDartOf (stage_after steps k) (steps k) i x y → IsDartOf (stage_after steps l) (steps l) j x y → (k ≡ l) × (i ≡ j)
+face_made_once steps n k l i j x y run a b d e = same_step steps n run k l i j x y a b d e
+
+pub none_along_later : (steps : ℕ → Step) (n k i j x y : ℕ) → IsRun steps n → k < n → IsDartOf (stage_after steps k) (steps k) i x y → ¬ GoesAlong (stage_after steps n) x y j
+none_along_later steps n k i j x y run l d = not_along steps n run k n i x y l (omega arith) d j

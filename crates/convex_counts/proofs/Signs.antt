@@ -1,0 +1,103 @@
+-- What lies on the two sides of an edge, by the signs of its differences.
+use Rattle.std.proofs.Common.{◌≡◌, ℕ, ◌+◌, ◌<◌, refl, sym, ap, ◌∙◌, inl, inr, arith}
+use Rattle.std.proofs.lemmas.Bool.{cases_lt}
+use Rattle.contour_runs.specs.Wood.{Coordinates}
+use Rattle.convex_counts.specs.Pairs.{AreOnFirst, AreOnSecond, IsFirstSecond, IsSecondThird, IsThirdFirst}
+use Rattle.convex_counts.specs.declared.face_woods.axis.Axis.{Axis}
+use Rattle.convex_counts.specs.declared.face_woods.axis.Axis.TheVariants.{One, Two, Three}
+use Rattle.convex_counts.specs.Axes.{next, previous, IsEntry, out, into, IsAhead, IsBehind}
+use Rattle.convex_counts.specs.Rising.{IsRising}
+
+-- what holds of none of the three axes
+pub for_none : (P : Axis → Type 0) → ¬ P One → ¬ P Two → ¬ P Three → (c : Axis) → ¬ P c
+for_none P a b d One h = a h
+for_none P a b d Two h = b h
+for_none P a b d Three h = d h
+
+-- what lies on the two sides is determined, where an edge leads along one axis at most
+pub IsEntry-alone : (Leads : Axis → ℕ → ℕ → Type 0) → ((c d : Axis) (x y : ℕ) → Leads c x y → Leads d x y → c ≡ d) → (v u : ℕ) (a b a' b' : Axis) → IsEntry Leads v u a b → IsEntry Leads v u a' b' → (a ≡ a') × (b ≡ b')
+IsEntry-alone Leads one v u a b a' b' (out c l ea eb) (out d m ea' eb') = let e = one c d v u l m in (ea ∙ ap previous e ∙ sym ea', eb ∙ ap next e ∙ sym eb')
+IsEntry-alone Leads one v u a b a' b' (out c l ea eb) (into d m none ea' eb') = absurd (none c l)
+IsEntry-alone Leads one v u a b a' b' (into c l none ea eb) (out d m ea' eb') = absurd (none d m)
+IsEntry-alone Leads one v u a b a' b' (into c l none ea eb) (into d m none' ea' eb') = let e = one c d u v l m in (ea ∙ e ∙ sym ea', eb ∙ e ∙ sym eb')
+
+module _ (at : Coordinates) where
+  -- no two coordinates rise alone along one edge, and none rises both ways
+  pub IsRising-one : (c d : Axis) (x y : ℕ) → IsRising at c x y → IsRising at d x y → c ≡ d
+  IsRising-one One One x y h k = refl
+  IsRising-one One Two x y h k = absurd (omega arith)
+  IsRising-one One Three x y h k = absurd (omega arith)
+  IsRising-one Two One x y h k = absurd (omega arith)
+  IsRising-one Two Two x y h k = refl
+  IsRising-one Two Three x y h k = absurd (omega arith)
+  IsRising-one Three One x y h k = absurd (omega arith)
+  IsRising-one Three Two x y h k = absurd (omega arith)
+  IsRising-one Three Three x y h k = refl
+
+  pub IsRising-other : (c : Axis) (x y : ℕ) → IsRising at c x y → ¬ IsRising at c y x
+  IsRising-other One x y h k = omega arith
+  IsRising-other Two x y h k = omega arith
+  IsRising-other Three x y h k = omega arith
+
+  module _ (x y : ℕ) where
+    -- along the first side, the second and the third there is one sector at both ends
+    pub first_sides : AreOnFirst at x y → IsAhead (IsRising at) x y One × IsBehind (IsRising at) y x One
+    first_sides h =
+        let a : IsRising at Two x y = let e = h.one in let l = h.two in (l, omega arith, omega arith) in
+        let b : IsRising at Three y x = let e = h.one in let l = h.two in (omega arith, omega arith, omega arith) in
+        ((Three, out Two a refl refl), (Two, out Three b refl refl))
+
+    pub second_sides : AreOnSecond at x y → IsAhead (IsRising at) x y Two × IsBehind (IsRising at) y x Two
+    second_sides h =
+        let a : IsRising at Three x y = let e = h.two in let l = h.one in (omega arith, omega arith, omega arith) in
+        let b : IsRising at One y x = let e = h.two in let l = h.one in (l, omega arith, omega arith) in
+        ((One, out Three a refl refl), (Three, out One b refl refl))
+
+    pub third_sides : at.one x < at.one y → at.one y + at.two y ≡ at.one x + at.two x → IsAhead (IsRising at) x y Three × IsBehind (IsRising at) y x Three
+    third_sides l e =
+        let a : IsRising at One x y = (l, omega arith, omega arith) in
+        let b : IsRising at Two y x = (omega arith, omega arith, omega arith) in
+        ((Two, out One a refl refl), (One, out Two b refl refl))
+
+    -- from one side to the next the sector changes
+    pub first_second_sides : IsFirstSecond at x y → IsAhead (IsRising at) x y One × IsBehind (IsRising at) y x Two
+    first_second_sides h =
+        let l = h.one in
+        let m = h.two in (
+          elim (cases_lt (at.one y + at.two y) (at.one x + at.two x)) [
+            | inl less ↦ let b : IsRising at One y x = (l, omega arith, omega arith) in (One, into One b (for_none (λ c. IsRising at c x y) (λ z. omega arith) (λ z. omega arith) (λ z. omega arith)) refl refl)
+            | inr more ↦ let a : IsRising at Two x y = (m, omega arith, omega arith) in (Three, out Two a refl refl)
+          ],
+          elim (cases_lt (at.one x + at.two x) (at.one y + at.two y)) [
+            | inl less ↦ let a : IsRising at Two x y = (m, omega arith, omega arith) in (Two, into Two a (for_none (λ c. IsRising at c y x) (λ z. omega arith) (λ z. omega arith) (λ z. omega arith)) refl refl)
+            | inr more ↦ let b : IsRising at One y x = (l, omega arith, omega arith) in (Three, out One b refl refl)
+          ],
+        )
+
+    pub second_third_sides : IsSecondThird at x y → IsAhead (IsRising at) x y Two × IsBehind (IsRising at) y x Three
+    second_third_sides h =
+        let l = h.two in
+        let m = h.sum in (
+          elim (cases_lt (at.one x) (at.one y)) [
+            | inl less ↦ let b : IsRising at Two y x = (l, omega arith, omega arith) in (Two, into Two b (for_none (λ c. IsRising at c x y) (λ z. omega arith) (λ z. omega arith) (λ z. omega arith)) refl refl)
+            | inr more ↦ let a : IsRising at Three x y = (m, omega arith, omega arith) in (One, out Three a refl refl)
+          ],
+          elim (cases_lt (at.one y) (at.one x)) [
+            | inl less ↦ let a : IsRising at Three x y = (m, omega arith, omega arith) in (Three, into Three a (for_none (λ c. IsRising at c y x) (λ z. omega arith) (λ z. omega arith) (λ z. omega arith)) refl refl)
+            | inr more ↦ let b : IsRising at Two y x = (l, omega arith, omega arith) in (One, out Two b refl refl)
+          ],
+        )
+
+    pub third_first_sides : IsThirdFirst at x y → IsAhead (IsRising at) x y Three × IsBehind (IsRising at) y x One
+    third_first_sides h =
+        let l = h.one in
+        let m = h.sum in (
+          elim (cases_lt (at.two x) (at.two y)) [
+            | inl less ↦ let b : IsRising at Three y x = (m, omega arith, omega arith) in (Three, into Three b (for_none (λ c. IsRising at c x y) (λ z. omega arith) (λ z. omega arith) (λ z. omega arith)) refl refl)
+            | inr more ↦ let a : IsRising at One x y = (l, omega arith, omega arith) in (Two, out One a refl refl)
+          ],
+          elim (cases_lt (at.two y) (at.two x)) [
+            | inl less ↦ let a : IsRising at One x y = (l, omega arith, omega arith) in (One, into One a (for_none (λ c. IsRising at c y x) (λ z. omega arith) (λ z. omega arith) (λ z. omega arith)) refl refl)
+            | inr more ↦ let b : IsRising at Three y x = (m, omega arith, omega arith) in (Two, out Three b refl refl)
+          ],
+        )

@@ -1,0 +1,155 @@
+-- The darts of a face along its walk.
+use Rattle.std.proofs.Common.{◌≡◌, ◌⊎◌, ℕ, suc, ◌+◌, ◌-◌, ◌<◌, ◌≤◌, pos, ◌≤ℤ◌, leb, sym, ap, subst, ◌∙◌, inl, inr, arith}
+use Rattle.std.proofs.lemmas.Bool.{cases_lt, cond-true, cond-false, le-leb, lt-leb}
+use Rattle.pg_plane.specs.Geometry.{area}
+use Rattle.pg_plane.proofs.Identities.{area_turned}
+use Rattle.contour_runs.specs.Runs.{Stage}
+use Rattle.contour_runs.specs.Laws.{IsStage}
+use Rattle.contour_runs.specs.Wood.{Coordinates, point_of}
+use Rattle.convex_counts.specs.Runs.{Step, stage_after, IsStep, IsDartOf, face_length, face_vertex}
+use Rattle.convex_counts.proofs.Places.{cut-next, cut-last}
+use Rattle.convex_counts.proofs.Stages.{IsStage-run, IsRun-less}
+use Rattle.convex_counts.proofs.Faces.{one_place}
+use Rattle.convex_counts.specs.Counts.{face_counts, IsTurnedRun}
+use Rattle.convex_counts.proofs.Convex.{faces_convex}
+
+-- the dart from x to y leaves the vertex r of a face, and the next vertex is r + 1, or the first one after the last
+pub record IsInside (g : Stage) (s : Step) (i r x y : ℕ) : Type 0 where
+  pub within : suc r < face_length s i
+  pub tail : face_vertex g s i r ≡ x
+  pub head : face_vertex g s i (suc r) ≡ y
+
+pub record IsClosing (g : Stage) (s : Step) (i r x y : ℕ) : Type 0 where
+  pub last : suc r ≡ face_length s i
+  pub tail : face_vertex g s i r ≡ x
+  pub head : face_vertex g s i 0 ≡ y
+
+module _ (g : Stage) (s : Step) (i : ℕ) where
+  vertex-old : (r : ℕ) → s.cut i + r ≤ s.cut (suc i) → face_vertex g s i r ≡ g.vertex (s.cut i + r)
+  unfolding face_vertex
+  vertex-old r l = cond-true (leb (s.cut i + r) (s.cut (suc i))) (g.vertex (s.cut i + r)) (g.count + face_length s i - suc r) (le-leb (s.cut i + r) (s.cut (suc i)) l)
+
+  vertex-new : (r : ℕ) → s.cut (suc i) < s.cut i + r → r < face_length s i → face_vertex g s i r + suc r ≡ g.count + face_length s i
+  unfolding face_vertex
+  vertex-new r l m =
+      let e = cond-false (leb (s.cut i + r) (s.cut (suc i))) (g.vertex (s.cut i + r)) (g.count + face_length s i - suc r) (lt-leb (s.cut i + r) (s.cut (suc i)) l) in
+      omega (arith, e)
+
+  module _ (stage : IsStage g) (step : IsStep g s) (li : i < s.faces) where
+    -- where a dart of the face is
+    dart_at : (x y : ℕ) → IsDartOf g s i x y → (r : ℕ) × (IsInside g s i r x y ⊎ IsClosing g s i r x y)
+    dart_at x y d =
+        let rise = cut-next g s step i li in
+        let some = step.some_vertex in
+        let m : ℕ = s.cut (suc i) + 1 - s.cut i in
+        elim d.dart [
+          | inl a ↦
+              let r : ℕ = a.place - s.cut i in
+              let lo = a.low in
+              let hi = a.high in
+              let e : s.cut i + r ≡ a.place = omega arith in
+              let f : s.cut i + suc r ≡ suc a.place = omega arith in
+              (r, inl record { within = omega arith; tail = vertex-old r (omega arith) ∙ ap g.vertex e ∙ a.tail; head = vertex-old (suc r) (omega arith) ∙ ap g.vertex f ∙ a.head })
+          | inr (inl a) ↦
+              let r : ℕ = m - 1 in
+              let e : s.cut i + r ≡ s.cut (suc i) = omega arith in
+              let h = a.head in
+              let new = vertex-new (suc r) (omega arith) (omega arith) in
+              (r, inl record { within = omega arith; tail = vertex-old r (omega arith) ∙ ap g.vertex e ∙ a.tail; head = omega arith })
+          | inr (inr (inl a)) ↦
+              let lo = a.low in
+              let hi = a.high in
+              let next = a.next in
+              let r : ℕ = g.count + face_length s i - suc x in
+              let new = vertex-new r (omega arith) (omega arith) in
+              let new' = vertex-new (suc r) (omega arith) (omega arith) in
+              (r, inl record { within = omega arith; tail = omega arith; head = omega arith })
+          | inr (inr (inr a)) ↦
+              let r : ℕ = face_length s i - 1 in
+              let t = a.tail in
+              let e : s.cut i + 0 ≡ s.cut i = omega arith in
+              let new = vertex-new r (omega arith) (omega arith) in
+              (r, inr record { last = omega arith; tail = omega arith; head = vertex-old 0 (omega arith) ∙ ap g.vertex e ∙ a.head })
+        ]
+
+    -- each vertex is passed once
+    passed_once : (r t : ℕ) → r < face_length s i → t < face_length s i → face_vertex g s i r ≡ face_vertex g s i t → r ≡ t
+    passed_once r t l m e =
+        let w = step.within in
+        let c = cut-last g s step (suc i) li in
+        elim (cases_lt (s.cut (suc i)) (s.cut i + r)) [
+          | inr a ↦
+              let p = stage.placed (s.cut i + r) (omega arith) in
+              let o = vertex-old r a in
+              elim (cases_lt (s.cut (suc i)) (s.cut i + t)) [
+                | inr b ↦ let same = one_place g s stage step (s.cut i + r) (s.cut i + t) (omega arith) (omega arith) (sym o ∙ e ∙ vertex-old t b) in omega arith
+                | inl b ↦ let n = vertex-new t b m in absurd (omega arith)
+              ]
+          | inl a ↦
+              let n = vertex-new r a l in
+              elim (cases_lt (s.cut (suc i)) (s.cut i + t)) [
+                | inr b ↦ let p = stage.placed (s.cut i + t) (omega arith) in let o = vertex-old t b in absurd (omega arith)
+                | inl b ↦ let n' = vertex-new t b m in omega arith
+              ]
+        ]
+
+module _ (steps : ℕ → Step) (n k i : ℕ) (turned : IsTurnedRun steps n) (lk : k < n) (li : i < (steps k).faces) where
+  abbrev g : Stage
+  g = stage_after steps k
+
+  abbrev s : Step
+  s = steps k
+
+  abbrev at : Coordinates
+  at = face_counts steps n
+
+  abbrev vertex : ℕ → ℕ
+  vertex r = face_vertex g s i r
+
+  stage : IsStage g
+  stage = IsStage-run steps k (IsRun-less steps k n (omega arith) turned.run)
+
+  step : IsStep g s
+  step = turned.run k lk
+
+  renamed : (a b c x y z : ℕ) → a ≡ x → b ≡ y → c ≡ z → pos 0 ≤ℤ area (point_of at a) (point_of at b) (point_of at c) → pos 0 ≤ℤ area (point_of at x) (point_of at y) (point_of at z)
+  renamed a b c x y z e f d h =
+      subst (λ x. pos 0 ≤ℤ area (point_of at x) (point_of at y) (point_of at z)) e (subst (λ y. pos 0 ≤ℤ area (point_of at a) (point_of at y) (point_of at z)) f (subst (λ z. pos 0 ≤ℤ area (point_of at a) (point_of at b) (point_of at z)) d h))
+
+  turn_on : (a b c : ℕ) → pos 0 ≤ℤ area (point_of at b) (point_of at c) (point_of at a) → pos 0 ≤ℤ area (point_of at a) (point_of at b) (point_of at c)
+  turn_on a b c h = subst (λ z. pos 0 ≤ℤ z) (area_turned (point_of at a) (point_of at b) (point_of at c)) h
+
+  at_corner : (x y z : ℕ) → IsDartOf g s i x y → IsDartOf g s i y z → pos 0 ≤ℤ area (point_of at x) (point_of at y) (point_of at z)
+  at_corner x y z d e =
+      let rise = cut-next g s step i li in
+      let some = step.some_vertex in
+      let p = dart_at g s i stage step li x y d in
+      let q = dart_at g s i stage step li y z e in
+      elim p.1 [
+        | inl a ↦
+            let aw = a.within in
+            elim q.1 [
+              | inl b ↦
+                  let bw = b.within in
+                  let same = passed_once g s i stage step li (suc p.0) q.0 aw (omega arith) (a.head ∙ sym b.tail) in
+                  let after : suc q.0 ≡ suc (suc p.0) = omega arith in
+                  renamed (vertex p.0) (vertex (suc p.0)) (vertex (suc (suc p.0))) x y z a.tail a.head (ap vertex (sym after) ∙ b.head) (faces_convex steps n k i p.0 (suc p.0) (suc (suc p.0)) turned lk li (omega arith) (omega arith) (omega arith))
+              | inr b ↦
+                  let bl = b.last in
+                  let same = passed_once g s i stage step li (suc p.0) q.0 aw (omega arith) (a.head ∙ sym b.tail) in
+                  renamed (vertex p.0) (vertex (suc p.0)) (vertex 0) x y z a.tail a.head b.head (turn_on (vertex p.0) (vertex (suc p.0)) (vertex 0) (turn_on (vertex (suc p.0)) (vertex 0) (vertex p.0) (faces_convex steps n k i 0 p.0 (suc p.0) turned lk li (omega arith) (omega arith) (omega arith))))
+            ]
+        | inr a ↦
+            let al = a.last in
+            elim q.1 [
+              | inl b ↦
+                  let bw = b.within in
+                  let same = passed_once g s i stage step li 0 q.0 (omega arith) (omega arith) (a.head ∙ sym b.tail) in
+                  let after : suc q.0 ≡ 1 = omega arith in
+                  renamed (vertex p.0) (vertex 0) (vertex 1) x y z a.tail a.head (ap vertex (sym after) ∙ b.head) (turn_on (vertex p.0) (vertex 0) (vertex 1) (faces_convex steps n k i 0 1 p.0 turned lk li (omega arith) (omega arith) (omega arith)))
+              | inr b ↦ let bl = b.last in let same = passed_once g s i stage step li 0 q.0 (omega arith) (omega arith) (a.head ∙ sym b.tail) in absurd (omega arith)
+            ]
+      ]
+
+pub corners_convex : (steps : ℕ → Step) (n k i x y z : ℕ) → IsTurnedRun steps n → k < n → IsDartOf (stage_after steps k) (steps k) i x y → IsDartOf (stage_after steps k) (steps k) i y z → pos 0 ≤ℤ area (point_of (face_counts steps n) x) (point_of (face_counts steps n) y) (point_of (face_counts steps n) z)
+corners_convex steps n k i x y z turned lk d e = at_corner steps n k i turned lk d.within x y z d e

@@ -1,0 +1,63 @@
+-- Two coordinates for each vertex, by counts of faces (Felsner 2001), over a run: of the faces that a step makes, a vertex counts those that turn before its place as two and the others as one.
+use Rattle.std.specs.Prelude.{ℕ, zero, suc, ◌+◌, ◌-◌, ◌<◌, ◌≤◌, ◌≡◌, nat_lt, if◌then◌else◌, ◌*◌, pos}
+use Rattle.pg_plane.specs.declared.point.Point.{Point}
+use Rattle.contour_runs.specs.Runs.{Stage}
+use Rattle.contour_runs.specs.Wood.{Coordinates}
+use Rattle.convex_counts.specs.Runs.{Step, stage_after, IsRun}
+
+-- how many of the first so many turns come before a place
+unfoldable pub turned : (ℕ → ℕ) → ℕ → ℕ → ℕ
+turned turn zero i = 0
+turned turn (suc m) i = if nat_lt (turn m) i then suc (turned turn m i) else turned turn m i
+
+-- what a step adds to coordinate two of what stands at a place, and to coordinate one
+abbrev pub two_gain : Step → ℕ → ℕ
+two_gain s i = turned s.turn s.faces i
+
+abbrev pub one_gain : Step → ℕ → ℕ
+one_gain s i = s.faces - two_gain s i
+
+-- Coordinates one and two of each vertex after a step. A new vertex has as one what the vertex at the last place had, and as two what that at the first place had.
+unfoldable pub one_after : Stage → Step → Coordinates → ℕ → ℕ
+one_after g s at v = if nat_lt v g.count then at.one v + one_gain s (g.place v) else at.one (g.vertex s.last)
+
+unfoldable pub two_after : Stage → Step → Coordinates → ℕ → ℕ
+two_after g s at v = if nat_lt v g.count then at.two v + two_gain s (g.place v) else at.two (g.vertex s.first)
+
+abbrev pub counts_after : Stage → Step → Coordinates → Coordinates
+counts_after g s at = record { one = one_after g s at; two = two_after g s at }
+
+-- the coordinates after so many steps; with no face there is nothing to count
+abbrev pub face_counts : (ℕ → Step) → ℕ → Coordinates
+face_counts steps zero = record { one = λ v. 0; two = λ v. 0 }
+face_counts steps (suc k) = counts_after (stage_after steps k) (steps k) (face_counts steps k)
+
+-- How the contour goes on from place j: to the left, where coordinate two alone changes and grows; or to the right, where one alone changes and shrinks.
+pub record IsLeft (g : Stage) (at : Coordinates) (j : ℕ) : Type 0 where
+  pub one : at.one (g.vertex (suc j)) ≡ at.one (g.vertex j)
+  pub two : at.two (g.vertex j) < at.two (g.vertex (suc j))
+
+pub record IsRight (g : Stage) (at : Coordinates) (j : ℕ) : Type 0 where
+  pub one : at.one (g.vertex (suc j)) < at.one (g.vertex j)
+  pub two : at.two (g.vertex (suc j)) ≡ at.two (g.vertex j)
+
+-- A step turns well: under each of its faces the edges of the contour go left up to its turn, and right behind the edge at it.
+pub record IsTurned (g : Stage) (at : Coordinates) (s : Step) : Type 0 where
+  pub left : (i j : ℕ) → i < s.faces → s.cut i ≤ j → j < s.turn i → IsLeft g at j
+  pub right : (i j : ℕ) → i < s.faces → s.turn i < j → j < s.cut (suc i) → IsRight g at j
+
+-- a run of n steps each of which turns well
+pub record IsTurnedRun (steps : ℕ → Step) (n : ℕ) : Type 0 where
+  pub run : IsRun steps n
+  pub turned : (k : ℕ) → k < n → IsTurned (stage_after steps k) (face_counts steps k) (steps k)
+
+-- the point of a vertex in a drawing three times as large, and the sum of three points
+abbrev pub thrice : Coordinates → ℕ → Point
+thrice at v = record { x = pos (3 * at.one v); y = pos (3 * at.two v) }
+
+abbrev pub sum_of : Coordinates → ℕ → ℕ → ℕ → Point
+sum_of at a b c = record { x = pos (at.one a + at.one b + at.one c); y = pos (at.two a + at.two b + at.two c) }
+
+-- the place of a face: the middle of three of its vertices, that at its turn, the last one under it and the first new one
+abbrev pub middle : (ℕ → Step) → Coordinates → ℕ → ℕ → Point
+middle steps at k i = (let g = stage_after steps k in let s = steps k in sum_of at (g.vertex (s.turn i)) (g.vertex (s.cut (suc i))) g.count)

@@ -1,0 +1,6 @@
+//! Counts of faces over runs that make faces of any size: the steps, the points, and the woods.
+#![tactic(auto)]
+
+pub mod face_points;
+pub mod face_runs;
+pub mod face_woods;

@@ -1,0 +1,57 @@
+//! The figure of a record, or why it has none.
+ghost use Rattle.std.specs.Prelude.{◌≡◌, ◌<◌, length, Some, IfOk, IfErr, OnOk};
+ghost use Rattle.half_edges.specs.Map.{IsLive, dart_at, first_dart as first_of};
+ghost use Rattle.map_theory.specs.Maps.{IsPlane};
+ghost use Rattle.convex_peeling.specs.Tight.{IsThreeConnected};
+ghost use Rattle.convex_class.specs.Convexity.{BreaksFirst};
+ghost use Rattle.convex_draw.specs.Figures.{IsConvexFigure};
+
+use crate::convex_draw;
+use convex_class::convex_blocks::{ConvexRefusal, convex_block};
+use half_edges::{DartId, HalfMap, Rotations, VertexId};
+use pg_plane::GridFigure;
+use std::alloc::{AllocError, Global};
+
+// The dart from vertex 0 to the first of its list.
+fn first_dart(map: &HalfMap) -> DartId
+    requires three { IsThreeConnected map.now.lists }
+    ensures live { IsLive map.now result.0 }
+    ensures first { dart_at map.now result.0 ≡ Some (first_of map.now.lists 0) }
+{
+    match map.first_dart(VertexId(0)) {
+        Some(d) => d,
+        None => unreachable!(),
+    }
+}
+
+// The figure of a three-connected map.
+fn map_figure(alloc: Global, map: &HalfMap) -> Result<GridFigure, AllocError>
+    requires plane { IsPlane map.now.lists }
+    requires three { IsThreeConnected map.now.lists }
+    ensures { IfOk result (IsConvexFigure map.now.lists) }
+{
+    convex_draw(alloc, map, first_dart(map))
+}
+
+/// The figure of a record with these lists, which are from 1 to 4095: a point for each vertex, so that each edge is a
+/// straight segment, no two cross, each list is kept clockwise, no inner face bends inwards, and the outer one, that of
+/// the dart from vertex 0 to the first of its list, is a triangle with flat angles. The grid is f - 1 by f - 1, for f
+/// faces.
+///
+/// `Err` names the first condition that the lists break, of these in this order: the four faults of a map, each
+/// with the least vertices; fewer than four vertices; a genus above zero; more than one component; a cut vertex,
+/// the least; a separating pair, the least. Or there was not enough memory.
+///
+/// Source: Felsner, Convex drawings of planar graphs and the order dimension of 3-polytopes, 2001.
+pub fn convex_figure(alloc: Global, lists: &Rotations) -> Result<GridFigure, ConvexRefusal>
+    requires some_list { 0 < length lists.now }
+    requires few_lists { length lists.now < 4096 }
+    ensures figure { IfOk result (IsConvexFigure lists.now) }
+    ensures plane { OnOk result (IsPlane lists.now) }
+    ensures served { OnOk result (IsThreeConnected lists.now) }
+    ensures refused { IfErr result (BreaksFirst lists.now) }
+{
+    let map = convex_block(alloc, lists)?;
+    let figure = map_figure(alloc, &map)?;
+    Ok(figure)
+}

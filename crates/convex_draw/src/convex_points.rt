@@ -1,0 +1,7 @@
+//! The points of vertices by counts of faces over a run that makes faces of any size (Felsner, 2001), in linear time.
+
+mod down;
+mod points;
+mod spots;
+
+pub use points::count_points;

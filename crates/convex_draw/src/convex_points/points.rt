@@ -1,0 +1,84 @@
+//! The points of a run.
+ghost use Rattle.std.specs.Prelude.{◌≡◌, ◌<◌, ◌+◌, ℕ, length, pos, IfOk};
+ghost use Rattle.convex_counts.specs.Runs.{Step};
+ghost use Rattle.convex_counts.specs.Counts.{face_counts};
+ghost use Rattle.convex_counts.specs.Turns.{well_turned};
+ghost use Rattle.convex_draw.specs.Spots.{spot_of};
+ghost use Rattle.convex_draw.specs.Points.{IsListedRun, ArePointsOf, ArePlaced};
+
+use crate::convex_points::down::find_counts;
+use crate::convex_points::spots::Spot;
+use convex_laws::convex_rows::ConvexRows;
+use map_lists::VertexId;
+use pg_plane::{Point, Points};
+use std::alloc::{AllocError, Global};
+
+// A number as a coordinate.
+fn coordinate(number: u32) -> i32
+    requires { number < 1048576 }
+    ensures { result ≡ pos number }
+{
+    number as i32
+}
+
+// The points of all vertices.
+fn points_of(alloc: Global, spots: &[Spot]) -> Result<Points, AllocError>
+    requires small { (u : ℕ) → u < length spots.now → ((spot_of spots.now u).one < 1048576) × ((spot_of spots.now u).two < 1048576) }
+    ensures { IfOk result (λ points. ArePlaced spots.now (length spots.now) points) }
+{
+    let mut points = Points::new(alloc);
+    for v in 0..spots.len() {
+        points.push(Point {
+            x: coordinate(spots[v].one),
+            y: coordinate(spots[v].two),
+        })?;
+    }
+    Ok(points)
+}
+
+// The points of a run, with room for what is kept of its vertices.
+fn run_points(
+    alloc: Global,
+    spots: &mut [Spot],
+    rows: &ConvexRows,
+    d: u16,
+    s: u16,
+    faces: u32,
+) -> Result<Points, AllocError>
+    requires few { faces < 1048576 }
+    requires small { length spots.old < 65536 }
+    requires run { (steps : ℕ → Step) × (at : ℕ → ℕ) × IsListedRun steps at rows.now d s (length spots.old) faces }
+    ensures { IfOk result (λ points. (steps : ℕ → Step) (at : ℕ → ℕ) → IsListedRun steps at rows.now d s (length spots.old) faces
+        → ArePointsOf (face_counts (well_turned steps) (length rows.now.rows)) at (length spots.old) points) }
+{
+    find_counts(spots, rows, d, s, faces);
+    points_of(alloc, spots)
+}
+
+/// The points of `count` vertices by counts of faces over a run from the base d, s, which makes so many faces. The
+/// turns of its faces are read off the counts.
+///
+/// It fails only for want of memory. The time is linear in the entries of the rows: a step gives how far what it
+/// covers stands from what takes its place, and these differences are added up in the end.
+///
+/// Source: Felsner, Convex drawings of planar graphs and the order dimension of 3-polytopes, 2001.
+pub fn count_points(
+    alloc: Global,
+    rows: &ConvexRows,
+    d: VertexId,
+    s: VertexId,
+    count: u16,
+    faces: u32,
+) -> Result<Points, AllocError>
+    requires few { faces < 1048576 }
+    requires run { (steps : ℕ → Step) × (at : ℕ → ℕ) × IsListedRun steps at rows.now d.0 s.0 count faces }
+    ensures { IfOk result (λ points. (steps : ℕ → Step) (at : ℕ → ℕ) → IsListedRun steps at rows.now d.0 s.0 count faces
+        → ArePointsOf (face_counts (well_turned steps) (length rows.now.rows)) at count points) }
+{
+    let mut spots = vec![in alloc; Spot {
+        one: 0,
+        two: 0,
+        over: 0
+    }; count as usize]?;
+    run_points(alloc, &mut spots, rows, d.0, s.0, faces)
+}

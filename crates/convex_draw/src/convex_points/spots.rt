@@ -1,0 +1,173 @@
+//! Coordinates by counts of faces, each kept as a difference from another vertex.
+//!
+//! A vertex of the contour names the one before it, and keeps how far coordinate one falls and coordinate two
+//! rises from there. One that has gone under another names the vertex whose place it took, and keeps how far it
+//! stands above that in both. So a step changes what is kept of its row and of its new vertices alone.
+
+ghost use Rattle.std.specs.Prelude.{◌≡◌, ◌<◌, ◌≤◌, ◌+◌, ◌==◌, ◌&&◌, nat_lt, if◌then◌else◌, ℕ, List, length, slice_index, All, AllPairs, ◌≢◌};
+ghost use Rattle.convex_counts.specs.Runs.{Step, stage_after, faces_made};
+ghost use Rattle.convex_counts.specs.Counts.{face_counts};
+ghost use Rattle.convex_draw.specs.Spots.{Setting, IsRowOver, IsPut, IsRowSettled, IsWritten, settled, AreLinked, AreKept, spot_of};
+ghost use Rattle.convex_draw.specs.Runs.{IsCountRun};
+
+use convex_laws::convex_rows::ConvexRows;
+
+/// What is kept of a vertex: two differences, and the vertex from which they are.
+#[derive(Clone, Copy)]
+pub(crate) struct Spot {
+    pub(crate) one: u32,
+    pub(crate) two: u32,
+    pub(crate) over: u16,
+}
+
+// How far coordinate one falls along a row.
+fn total_fall(spots: &[Spot], row: &[u16]) -> u32
+    requires over { (z : Setting) × IsRowOver z spots.now row.now }
+    ensures { (z : Setting) → IsRowOver z spots.now row.now → result + z.at.one (z.stage.vertex z.step.last) ≡ z.at.one (z.stage.vertex z.step.first) }
+{
+    let mut fall = 0;
+    for j in 1..row.len() {
+        fall += spots[row[j] as usize].one;
+    }
+    fall
+}
+
+// What is kept of a covered vertex that counts so many of the new faces as two.
+fn settle_as(faces: u16, gain: u16, fall: u32, rise: u32, p: u16, z: u16, q: u16) -> Spot
+    requires gain { gain ≤ faces }
+    requires small { (fall < 1048576) × (rise < 1048576) }
+    ensures { result ≡ settled faces gain fall rise p z q }
+{
+    if gain == 0 {
+        Spot {
+            one: 0,
+            two: rise,
+            over: p,
+        }
+    } else if gain == faces {
+        Spot {
+            one: fall,
+            two: 0,
+            over: q,
+        }
+    } else {
+        Spot {
+            one: fall + (faces - gain) as u32,
+            two: rise + gain as u32,
+            over: z,
+        }
+    }
+}
+
+// One more where this holds.
+fn more_if(test: bool, face: u16) -> u16
+    requires { face < 65535 }
+    ensures { result ≡ (if test then face + 1 else face) }
+{
+    if test { face + 1 } else { face }
+}
+
+// How many faces turn before the next place: one more than before this face, but for an edge that goes left and
+// comes before its last place.
+fn gain_at(at_cut: bool, left: bool, face: u16, gain: u16) -> u16
+    requires { face < 65535 }
+    ensures { result ≡ (if at_cut then face + 1 else (if left then gain else face + 1)) }
+{
+    if at_cut {
+        face + 1
+    } else if left {
+        gain
+    } else {
+        face + 1
+    }
+}
+
+// Whether the edge of the contour to a vertex goes left.
+fn is_left(spot: Spot) -> bool
+    ensures { result ≡ (spot.one == 0) && nat_lt 0 spot.two }
+{
+    spot.one == 0 && 0 < spot.two
+}
+
+// Lets the vertices strictly within a row go under others. The rise is that up to the last of them.
+fn settle(spots: &mut [Spot], row: &[u16], cuts: &[u16], z: u16, fall: u32) -> u32
+    requires put { (w : Setting) × (news : List ℕ) × IsPut w spots.old row.now cuts.now news × (w.name w.stage.count ≡ z) × (fall + w.at.one (w.stage.vertex w.step.last) ≡ w.at.one (w.stage.vertex w.step.first)) }
+    ensures { (w : Setting) (news : List ℕ) → IsPut w spots.old row.now cuts.now news → w.name w.stage.count ≡ z → fall + w.at.one (w.stage.vertex w.step.last) ≡ w.at.one (w.stage.vertex w.step.first)
+        → IsRowSettled w result spots.old spots.new }
+{
+    let (p, q) = (row[0], row[row.len() - 1]);
+    let faces = (cuts.len() - 1) as u16;
+    let mut far = fall;
+    let mut rise = 0;
+    let mut face = 0;
+    let mut gain = 0;
+    for j in 1..row.len() - 1 {
+        let u = row[j] as usize;
+        let old = spots[u];
+        let at_cut = j == cuts[face as usize + 1] as usize;
+        far -= old.one;
+        rise += old.two;
+        gain = gain_at(at_cut, is_left(old), face, gain);
+        face = more_if(at_cut, face);
+        spots[u] = settle_as(faces, gain, far, rise, p, z, q);
+    }
+    rise
+}
+
+// Links new vertices to one another, each but the first to the one before it, with no difference.
+fn link(spots: &mut [Spot], news: &[u16])
+    requires some { 0 < length news.now }
+    requires within { All (λ u. u < length spots.old) news.now }
+    requires distinct { AllPairs ◌≢◌ news.now }
+    ensures { AreLinked news.now (length news.now) spots.old spots.new }
+{
+    for j in 1..news.len() {
+        spots[news[j] as usize] = Spot {
+            one: 0,
+            two: 0,
+            over: news[j - 1],
+        };
+    }
+}
+
+// Puts new vertices over a row of the contour.
+fn put_over(spots: &mut [Spot], row: &[u16], cuts: &[u16], news: &[u16])
+    requires put { (w : Setting) × IsPut w spots.old row.now cuts.now news.now }
+    ensures { (w : Setting) → IsPut w spots.old row.now cuts.now news.now → IsWritten w spots.old spots.new }
+{
+    let (p, q) = (row[0], row[row.len() - 1]);
+    let (z, y) = (news[0], news[news.len() - 1]);
+    let faces = (cuts.len() - 1) as u32;
+    let fall = total_fall(spots, row);
+    let rise = settle(spots, row, cuts, z, fall) + spots[q as usize].two;
+    link(spots, news);
+    spots[z as usize] = Spot {
+        one: fall + faces,
+        two: 0,
+        over: p,
+    };
+    spots[q as usize] = Spot {
+        one: 0,
+        two: rise + faces,
+        over: y,
+    };
+}
+
+// Puts all vertices on, step after step, and tells how many places the last contour has.
+pub(crate) fn put_all(spots: &mut [Spot], rows: &ConvexRows, d: u16, s: u16) -> usize
+    requires run { (steps : ℕ → Step) × (name : ℕ → ℕ) × IsCountRun steps name rows.now (length spots.old) × (name 0 ≡ d) × (name 1 ≡ s) }
+    ensures { (steps : ℕ → Step) (name : ℕ → ℕ) → IsCountRun steps name rows.now (length spots.old) → name 0 ≡ d → name 1 ≡ s → AreKept steps name (length rows.now.rows) result spots.new }
+{
+    spots[s as usize] = Spot {
+        one: 0,
+        two: 0,
+        over: d,
+    };
+    let mut width = 2;
+    for j in (0..rows.rows.len()).rev() {
+        let (row, news) = (rows.rows.list(j), rows.news.list(j));
+        put_over(spots, row, rows.cuts.list(j), news);
+        width = width + news.len() + 2 - row.len();
+    }
+    width
+}

@@ -1,2 +1,0 @@
--- Drawings of maps by counts of faces.
-pub mod ConvexDrawings

@@ -1,0 +1,23 @@
+-- Lemmas on convex woods as values.
+pub mod SignLemmas
+pub mod NoteLemmas
+pub mod WoodLemmas
+pub mod PointLemmas
+mod Refused
+-- Lemmas on closed walks.
+pub mod Flips
+mod Covers
+pub mod Degrees
+pub mod Sides
+pub mod WalkLemmas
+mod Cases
+-- The lemmas on the search.
+mod Marks
+mod Searching
+mod CountLemmas
+-- Lemmas on regions.
+mod PassLemmas
+mod RestLemmas
+mod AxisLemmas
+mod RegionLemmas
+mod OneRegion

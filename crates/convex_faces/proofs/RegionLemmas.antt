@@ -1,0 +1,110 @@
+-- The closed path of a region.
+use Rattle.std.proofs.Common.{◌≡◌, ℕ, Bool, false, List, [], ◌∷◌, ◌++◌, Some, refl, sym, ap, ap₂, ◌∙◌, subst}
+use Rattle.map_lists.specs.Lists.{Lists}
+use Rattle.map_theory.specs.Maps.{Dart, HasDart, IsSimpleMap, follows}
+use Rattle.map_theory.proofs.DartLemmas.{HasDart-follows}
+use Rattle.half_edges.specs.Map.{Map, IsHalfMap, dart_at}
+use Rattle.euler_faces.specs.Numbers.{mark_at}
+use Rattle.euler_faces.proofs.NumberLemmas.{live_from}
+use Rattle.draw_check.specs.FaceVerdicts.{dart_of}
+use Rattle.draw_check.proofs.FaceIds.{dart_of-is}
+use Rattle.convex_counts.specs.declared.face_woods.axis.Axis.{Axis}
+use Rattle.convex_counts.specs.declared.face_woods.axis.Axis.TheVariants.{One, Two, Three}
+use Rattle.convex_counts.specs.Axes.{next, previous}
+use Rattle.convex_laws.specs.ConvexWoods.{AreRoots, IsConvexWood}
+use Rattle.convex_faces.specs.Directions.{Directions, root_in, IsWoodIn}
+use Rattle.convex_faces.specs.Walks.{IsWalk, turned, flipped, is_odd_on}
+use Rattle.convex_faces.proofs.Flips.{flipped_false}
+use Rattle.convex_faces.proofs.WalkLemmas.{IsWalk-append, IsWalk-turned, is_odd_on-append, is_odd_on-turned_walk}
+use Rattle.convex_faces.specs.Regions.{IsAxisWay, IsOuterWay, IsRegionWalk}
+use Rattle.convex_faces.specs.Passing.{PassesAxis, PassesOuter, IsOuterCorner, corner, MarksRegion}
+use Rattle.convex_faces.proofs.PassLemmas.{Passes-append}
+
+-- ---- its ways are walks
+IsAxisWay-walk : (lists : Lists) (base : Dart) (root : Axis → ℕ) (out : Axis → ℕ → ℕ) → IsConvexWood lists base root out → (c : Axis) (v w : ℕ) (ds : List Dart) → IsAxisWay lists root out c v w ds → IsWalk lists v w ds
+IsAxisWay-walk lists base root out wood c v w [] e = e
+IsAxisWay-walk lists base root out wood c v w (d ∷ ds) h =
+    (h.0, subst (λ z. HasDart lists z d.1) (sym h.0) (wood.edges c v d.1 h.1), IsAxisWay-walk lists base root out wood c d.1 w ds h.2)
+
+IsOuterWay-walk : (lists : Lists) (base : Dart) (avoided v w : ℕ) (ds : List Dart) → IsOuterWay lists base avoided v w ds → IsWalk lists v w ds
+IsOuterWay-walk lists base avoided v w [] e = e
+IsOuterWay-walk lists base avoided v w (d ∷ ds) h = (h.0, h.1, IsOuterWay-walk lists base avoided d.1 w ds h.4)
+
+pub IsRegionWalk-closed : (lists : Lists) (base : Dart) (root : Axis → ℕ) (out : Axis → ℕ → ℕ) → IsSimpleMap lists → IsConvexWood lists base root out → (c : Axis) (v : ℕ) (walk : List Dart) → IsRegionWalk lists base root out c v walk → IsWalk lists v v walk
+IsRegionWalk-closed lists base root out simple wood c v walk r =
+    let a = IsAxisWay-walk lists base root out wood (next c) v (root (next c)) r.ahead r.along_next in
+    let o = IsWalk-turned lists simple r.outer (root (previous c)) (root (next c)) (IsOuterWay-walk lists base (root c) (root (previous c)) (root (next c)) r.outer r.along_outer) in
+    let b = IsWalk-turned lists simple r.back v (root (previous c)) (IsAxisWay-walk lists base root out wood (previous c) v (root (previous c)) r.back r.along_previous) in
+    subst (IsWalk lists v v) (sym r.is) (IsWalk-append lists r.ahead (turned r.outer ++ turned r.back) v (root (next c)) v a (IsWalk-append lists (turned r.outer) (turned r.back) (root (next c)) (root (previous c)) v o b))
+
+-- the turned parts are passed as often
+region_odd : (a o b : List Dart) (x y : ℕ) → is_odd_on (a ++ (turned o ++ turned b)) x y ≡ is_odd_on (a ++ (o ++ b)) x y
+region_odd a o b x y =
+    is_odd_on-append a (turned o ++ turned b) x y
+    ∙ (ap (flipped (is_odd_on a x y)) (is_odd_on-append (turned o) (turned b) x y ∙ (ap₂ flipped (is_odd_on-turned_walk o x y) (is_odd_on-turned_walk b x y) ∙ sym (is_odd_on-append o b x y)))
+    ∙ sym (is_odd_on-append a (o ++ b) x y))
+
+outer_moved : (lists : Lists) (base base' : Dart) (a a' v v' w w' : ℕ) (ds : List Dart) → base ≡ base' → a ≡ a' → v ≡ v' → w ≡ w' → IsOuterWay lists base a v w ds → IsOuterWay lists base' a' v' w' ds
+outer_moved lists base base' a a' v v' w w' ds eb ea ev ew h =
+    subst (λ b. IsOuterWay lists b a' v' w' ds) eb (subst (λ a. IsOuterWay lists base a v' w' ds) ea (subst (λ v. IsOuterWay lists base a v w' ds) ev (subst (λ w. IsOuterWay lists base a v w ds) ew h)))
+
+-- ---- the roots
+module _ (map : Map) (known : IsHalfMap map) (start : Dart) (wood : Directions) (w : IsWoodIn map start wood) where
+  abbrev lists : Lists
+  lists = map.lists
+
+  abbrev root : Axis → ℕ
+  root = root_in wood
+
+  roots : AreRoots lists start root
+  roots = w.convex.roots
+
+  -- the base goes from root two to root one
+  pub start_is : (root Two, root One) ≡ start
+  start_is = ap₂ (λ (x y : ℕ). (x, y)) roots.two roots.one
+
+  pub has_before : HasDart lists (root Three) (root Two)
+  has_before = subst (HasDart lists (root Three)) (sym roots.two) roots.before
+
+  pub has_base : HasDart lists (root Two) (root One)
+  has_base =
+      let next = HasDart-follows lists start.0 (root Three) (known.simple.both_ways (root Three) start.0 roots.before) in
+      subst (λ x. HasDart lists x (root One)) (sym roots.two) (subst (HasDart lists start.0) (roots.step ∙ sym roots.one) next)
+
+  module _ (base before : ℕ) (at_base : dart_at map base ≡ Some (root Two, root One)) (at_before : dart_at map before ≡ Some (root Three, root Two)) where
+    base_is : dart_of map base ≡ (root Two, root One)
+    base_is = dart_of-is map base (root Two, root One) at_base
+
+    before_is : dart_of map before ≡ (root Three, root Two)
+    before_is = dart_of-is map before (root Three, root Two) at_before
+
+    pub outer_corner : IsOuterCorner map base before
+    outer_corner = record {
+      base_live = live_from (dart_at map base) (root Two, root One) at_base;
+      before_live = live_from (dart_at map before) (root Three, root Two) at_before;
+      meets = ap (λ (x : Dart). x.1) before_is ∙ sym (ap (λ (x : Dart). x.0) base_is);
+      step = ap₂ (follows lists) (ap (λ (x : Dart). x.0) base_is ∙ roots.two) (ap (λ (x : Dart). x.0) before_is) ∙ (roots.step ∙ (sym roots.one ∙ sym (ap (λ (x : Dart). x.1) base_is)));
+    }
+
+    corner_is : (c : Axis) → corner map base before c ≡ root c
+    corner_is One = ap (λ (x : Dart). x.1) base_is
+    corner_is Two = ap (λ (x : Dart). x.0) base_is
+    corner_is Three = ap (λ (x : Dart). x.0) before_is
+
+    -- the three parts are passed one after another
+    pub marks_region : (c : Axis) (v : ℕ) (old one two new : List Bool) → ((i : ℕ) → mark_at old i ≡ false) → PassesAxis map root w.head (next c) v (root (next c)) old one → PassesOuter map base before c one two → PassesAxis map root w.head (previous c) v (root (previous c)) two new → MarksRegion map start root w.head c v new
+    marks_region c v old one two new unset p o q = record {
+      walk = p.way ++ (turned o.way ++ turned q.way);
+      closed = record {
+        ahead = p.way;
+        outer = o.way;
+        back = q.way;
+        along_next = p.is_way;
+        along_outer = outer_moved lists (dart_of map base) start (corner map base before c) (root c) (corner map base before (previous c)) (root (previous c)) (corner map base before (next c)) (root (next c)) o.way (base_is ∙ start_is) (corner_is c) (corner_is (previous c)) (corner_is (next c)) o.is_way;
+        along_previous = q.is_way;
+        is = refl;
+      };
+      marks = λ d x y e.
+          let all = Passes-append map p.way (o.way ++ q.way) old one new p.passes (Passes-append map o.way q.way one two new o.passes q.passes) in
+          all d x y e ∙ (ap (flipped (is_odd_on (p.way ++ (o.way ++ q.way)) x y)) (unset d) ∙ (flipped_false (is_odd_on (p.way ++ (o.way ++ q.way)) x y) ∙ sym (region_odd p.way o.way q.way x y)));
+    }

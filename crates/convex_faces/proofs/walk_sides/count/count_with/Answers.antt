@@ -1,0 +1,10 @@
+use Rattle.convex_faces.specs.Walks.{is_odd_on}
+use Rattle.convex_faces.proofs.CountLemmas.{count_is}
+use Rattle.convex_faces.proofs.walk_sides.count.count_with.Goals as goal
+
+pub returns : goal.returns
+returns c = λ start v walk e closed marks.
+    let map = c.args.map.now in
+    let known = c.facts.ensures in
+    count_is map known _ c.in_ok-all.ensures.walks c.requires.plane c.requires.connected start v walk (known.is_dart c.args.base.0 start.0 start.1 e) closed c.search.new.met (c.in_ok-search.ensures start (is_odd_on walk) e marks) c.of_dart.result.0
+    (c.of_dart.ensures.face, (c.args.base.0, c.of_dart.ensures.stands, e)) c.counted.result c.counted.ensures

@@ -1,0 +1,9 @@
+use Rattle.draw_check.specs.FaceVerdicts.{dart_of}
+use Rattle.draw_check.proofs.FaceIds.{dart_of-live}
+use Rattle.convex_faces.proofs.wood.of_run.convex_wood.Goals as goal
+
+pub wood_by-requires-clause-points : goal.wood_by-requires-clause-points
+wood_by-requires-clause-points c =
+    let b = dart_of c.args.map.now c.args.base.0 in
+    let live = dart_of-live c.args.map.now c.args.base.0 c.requires.base in
+    (c.in_ok-points.ensures b.0 b.1 live).count

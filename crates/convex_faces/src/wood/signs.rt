@@ -1,0 +1,84 @@
+//! Along which axis a point lies from another.
+ghost use Rattle.std.specs.Prelude.{◌≡◌, ◌↔◌, ◌<ℤ◌, ◌≤ℤ◌, ◌+ℤ◌, IsTrue};
+ghost use Rattle.convex_faces.specs.Signs.{IsRisingBy};
+
+use convex_counts::face_woods::Axis;
+use pg_plane::Point;
+
+// Both coordinates.
+fn sum_of(p: Point) -> i64
+    ensures { result ≡ p.x +ℤ p.y }
+{
+    p.x as i64 + p.y as i64
+}
+
+// Whether x rises from p to q, and whether it does not fall.
+fn x_rises(p: Point, q: Point) -> bool
+    ensures { IsTrue result ↔ (p.x <ℤ q.x) }
+{
+    p.x < q.x
+}
+
+fn x_stays(p: Point, q: Point) -> bool
+    ensures { IsTrue result ↔ (p.x ≤ℤ q.x) }
+{
+    p.x <= q.x
+}
+
+// The same of y.
+fn y_rises(p: Point, q: Point) -> bool
+    ensures { IsTrue result ↔ (p.y <ℤ q.y) }
+{
+    p.y < q.y
+}
+
+fn y_stays(p: Point, q: Point) -> bool
+    ensures { IsTrue result ↔ (p.y ≤ℤ q.y) }
+{
+    p.y <= q.y
+}
+
+// The same of their sum.
+fn sum_rises(p: Point, q: Point) -> bool
+    ensures { IsTrue result ↔ ((p.x +ℤ p.y) <ℤ (q.x +ℤ q.y)) }
+{
+    sum_of(p) < sum_of(q)
+}
+
+fn sum_stays(p: Point, q: Point) -> bool
+    ensures { IsTrue result ↔ ((p.x +ℤ p.y) ≤ℤ (q.x +ℤ q.y)) }
+{
+    sum_of(p) <= sum_of(q)
+}
+
+// Whether x alone rises.
+fn rises_one(p: Point, q: Point) -> bool
+    ensures { IsTrue result ↔ ((p.x <ℤ q.x) × (q.y ≤ℤ p.y) × ((p.x +ℤ p.y) ≤ℤ (q.x +ℤ q.y))) }
+{
+    x_rises(p, q) && y_stays(q, p) && sum_stays(p, q)
+}
+
+// Whether y alone rises.
+fn rises_two(p: Point, q: Point) -> bool
+    ensures { IsTrue result ↔ ((p.y <ℤ q.y) × (q.x ≤ℤ p.x) × ((p.x +ℤ p.y) ≤ℤ (q.x +ℤ q.y))) }
+{
+    y_rises(p, q) && x_stays(q, p) && sum_stays(p, q)
+}
+
+// Whether what both lack of a constant sum alone rises.
+fn rises_three(p: Point, q: Point) -> bool
+    ensures { IsTrue result ↔ (((q.x +ℤ q.y) <ℤ (p.x +ℤ p.y)) × (q.x ≤ℤ p.x) × (q.y ≤ℤ p.y)) }
+{
+    sum_rises(q, p) && x_stays(q, p) && y_stays(q, p)
+}
+
+// Whether the coordinate of an axis alone rises from p to q.
+pub(crate) fn rises(axis: Axis, p: Point, q: Point) -> bool
+    ensures { IsTrue result ↔ IsRisingBy axis p q }
+{
+    match axis {
+        Axis::One => rises_one(p, q),
+        Axis::Two => rises_two(p, q),
+        Axis::Three => rises_three(p, q),
+    }
+}

@@ -1,5 +1,0 @@
-use Rattle.convex_figures.proofs.FirstDart.{some_neighbour}
-use Rattle.convex_figures.proofs.draw.first_dart.Goals as goal
-
-pub unreachable-requires : goal.unreachable-requires
-unreachable-requires c = some_neighbour c.args.map.now.lists c.requires.three c.in-None.ensures.dart

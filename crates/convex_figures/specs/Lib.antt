@@ -1,2 +1,0 @@
--- The figures of records by convex drawings.
-pub mod Figures

@@ -1,7 +1,0 @@
-//! The answer of the job `convex` to a record, as a value: the convex drawing by face counts of Felsner (2001), or
-//! the first condition of the job that the record breaks.
-#![tactic(auto)]
-
-mod draw;
-
-pub use draw::convex_figure;

@@ -1,0 +1,18 @@
+-- Drawings whose faces have middles.
+pub mod Middles
+pub mod FaceMiddlesLaws
+-- Drawings by counts of faces.
+pub mod FaceDrawings
+pub mod FaceDrawingsLaws
+-- Drawings of maps by counts of faces.
+pub mod ConvexDrawings
+-- Runs of tight maps.
+pub mod RunsOfMaps
+pub mod ConvexMaps
+-- The steps of a run as rows of numbers.
+pub mod Rows
+-- Convex woods.
+pub mod ConvexWoods
+pub mod ConvexWoodsLaws
+-- Rows of removals.
+pub mod Removed

@@ -1,0 +1,129 @@
+//! The numbers of faces, for each entry of the lists of a map: that of the face of its dart, and that of the
+//! face of the dart back. With them code goes round a vertex by slices alone.
+
+ghost use Rattle.std.specs.Prelude.{◌≡◌, ◌<◌, ◌^◌, ℕ, [], length, slice_index, slice_index_or, Some, IfOk};
+ghost use Rattle.map_theory.specs.Maps.{list_of};
+ghost use Rattle.half_edges.specs.Map.{IsHalfMap, IsLive, dart_at, first_dart};
+ghost use Rattle.euler_faces.specs.FaceWalks.{AreFaces};
+ghost use Rattle.convex_orders.specs.FaceNumbers.{InWalk, AreOwn, AreOther, AreFaceNumbers};
+
+use euler_faces::{Faces, faces};
+use half_edges::{DartId, HalfMap, VertexId};
+use map_lists::ItemLists;
+use std::alloc::{AllocError, Global};
+
+/// For each entry of a map's lists the numbers of two faces.
+#[derive(Drop)]
+pub struct FaceNumbers {
+    /// The number of the face of the dart to the entry.
+    pub own: ItemLists<u32>,
+    /// The number of the face of the dart back.
+    pub other: ItemLists<u32>,
+    /// How many numbers there are.
+    pub count: u32,
+}
+
+// The number of a dart's face.
+fn number_of(map: &HalfMap, faces: &Faces, d: DartId) -> u32
+    requires known { IsHalfMap map.now }
+    requires faces { AreFaces map.now faces.now }
+    requires live { IsLive map.now d.0 }
+    ensures { (u v : ℕ) → dart_at map.now d.0 ≡ Some (u, v) → InWalk map.now faces.now result u v }
+{
+    faces.of_dart(d).0
+}
+
+// Puts the numbers of the edges of `v` into rows; `first` is the dart to the first entry of its list.
+fn put_round(
+    map: &HalfMap,
+    faces: &Faces,
+    v: VertexId,
+    first: DartId,
+    own: &mut Vec<u32>,
+    other: &mut Vec<u32>,
+) -> Result<(), AllocError>
+    requires known { IsHalfMap map.now }
+    requires faces { AreFaces map.now faces.now }
+    requires vertex { v.0 < length map.now.lists }
+    requires first { dart_at map.now first.0 ≡ Some (first_dart map.now.lists v.0) }
+    requires own_empty { own.old.items ≡ [] }
+    requires other_empty { other.old.items ≡ [] }
+    ensures own_size { IfOk result (λ _. length own.new.items ≡ length (list_of map.now.lists v.0)) }
+    ensures own { IfOk result (λ _. AreOwn map.now faces.now v.0 own.new.items) }
+    ensures other_size { IfOk result (λ _. length other.new.items ≡ length (list_of map.now.lists v.0)) }
+    ensures other { IfOk result (λ _. AreOther map.now faces.now v.0 other.new.items) }
+{
+    let mut d = first;
+    for _ in 0..map.degree(v) {
+        let twin = map.twin(d);
+        own.push(number_of(map, faces, d))?;
+        other.push(number_of(map, faces, twin))?;
+        d = map.next(d);
+    }
+    Ok(())
+}
+
+// Puts the numbers of the edges of `v` into rows.
+fn put_vertex(
+    map: &HalfMap,
+    faces: &Faces,
+    v: VertexId,
+    own: &mut Vec<u32>,
+    other: &mut Vec<u32>,
+) -> Result<(), AllocError>
+    requires known { IsHalfMap map.now }
+    requires faces { AreFaces map.now faces.now }
+    requires vertex { v.0 < length map.now.lists }
+    requires own_empty { own.old.items ≡ [] }
+    requires other_empty { other.old.items ≡ [] }
+    ensures own_size { IfOk result (λ _. length own.new.items ≡ length (list_of map.now.lists v.0)) }
+    ensures own { IfOk result (λ _. AreOwn map.now faces.now v.0 own.new.items) }
+    ensures other_size { IfOk result (λ _. length other.new.items ≡ length (list_of map.now.lists v.0)) }
+    ensures other { IfOk result (λ _. AreOther map.now faces.now v.0 other.new.items) }
+{
+    match map.first_dart(v) {
+        Some(first) => put_round(map, faces, v, first, own, other),
+        None => Ok(()),
+    }
+}
+
+// Puts the rows of all vertices into two tables.
+fn put_rows(
+    map: &HalfMap,
+    faces: &Faces,
+    own: &mut ItemLists<u32>,
+    other: &mut ItemLists<u32>,
+    row: &mut Vec<u32>,
+    row_back: &mut Vec<u32>,
+) -> Result<(), AllocError>
+    requires known { IsHalfMap map.now }
+    requires faces { AreFaces map.now faces.now }
+    requires own_empty { own.old ≡ [] }
+    requires other_empty { other.old ≡ [] }
+    ensures { IfOk result (λ _. AreFaceNumbers map.now.lists own.new other.new (length faces.now)) }
+{
+    for v in 0..map.n() {
+        row.clear();
+        row_back.clear();
+        put_vertex(map, faces, VertexId(v), row, row_back)?;
+        own.push(row)?;
+        other.push(row_back)?;
+    }
+    Ok(())
+}
+
+/// The numbers of the faces of a map. It fails only for want of memory. The time is linear in the darts, and so
+/// is the memory.
+pub fn face_numbers(alloc: Global, map: &HalfMap) -> Result<FaceNumbers, AllocError>
+    ensures { IfOk result (λ t. AreFaceNumbers map.now.lists t.own t.other t.count) }
+{
+    map.facts();
+    let all = faces(alloc, map)?;
+    let mut own = ItemLists::new(alloc);
+    let mut other = ItemLists::new(alloc);
+    let mut row = Vec::new(alloc);
+    let mut row_back = Vec::new(alloc);
+    put_rows(map, &all, &mut own, &mut other, &mut row, &mut row_back)?;
+    let count = all.count();
+    Ok(FaceNumbers { own, other, count })
+}

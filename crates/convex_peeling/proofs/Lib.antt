@@ -1,0 +1,23 @@
+-- Faces and cuts in plane maps without cut vertices.
+pub mod Corners
+pub mod TwoFaces
+pub mod Sides
+pub mod Meetings
+pub mod Tightness
+pub mod Neighbours
+mod TightMapsCases
+-- What the laws of contours rest on.
+pub mod Faces
+pub mod Kept
+pub mod Crossings
+pub mod Sections
+pub mod Choices
+pub mod Ears
+pub mod EarsOff
+pub mod ChainsOff
+pub mod VertexOff
+pub mod TakenOff
+pub mod Removed
+pub mod Firsts
+pub mod StretchCounts
+mod FacePeelingCases

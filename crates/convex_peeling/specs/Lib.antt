@@ -1,0 +1,8 @@
+-- Maps in which two faces have at most a vertex or an edge in common, and three-connected ones.
+pub mod Tight
+pub mod TwoFaces
+pub mod TightMapsLaws
+-- Faces taken off a plane map from its contour.
+pub mod Contours
+pub mod Removals
+pub mod FacePeelingLaws

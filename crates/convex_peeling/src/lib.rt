@@ -1,0 +1,5 @@
+//! Taking faces off a three-connected map in which two faces share a vertex or an edge at most.
+#![tactic(auto)]
+
+pub mod face_peeling;
+pub mod tight_maps;

@@ -1,9 +1,0 @@
-use Rattle.std.proofs.Common.{◌≡◌, ◌+◌, ℕ, suc, List}
-use Rattle.convex_points.specs.Spots.{Setting, IsPut, AreSettled}
-use Rattle.convex_points.proofs.Passing.{IsPassing}
-use Rattle.convex_points.proofs.spots.settle.Given as goal
-
-abbrev pub invariant-loop-j : goal.invariant-loop-j
-invariant-loop-j l =
-    (w : Setting) (news : List ℕ) → IsPut w l.fn.spots l.row l.cuts news → w.name w.stage.count ≡ l.z → l.fall + w.at.one (w.stage.vertex w.step.last) ≡ w.at.one (w.stage.vertex w.step.first)
-    → (i : ℕ) → suc i ≡ w.step.first + l.j → IsPassing w i l.face l.gain l.far l.rise × AreSettled w (suc i) l.fn.spots l.spots

@@ -1,8 +1,0 @@
-//! The points of vertices by counts of faces over a run that makes faces of any size (Felsner, 2001), in linear time.
-#![tactic(auto)]
-
-mod down;
-mod points;
-mod spots;
-
-pub use points::count_points;

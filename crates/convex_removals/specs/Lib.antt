@@ -1,2 +1,0 @@
--- Rows of removals.
-pub mod Removed

@@ -1,2 +1,0 @@
--- The steps of a run as rows of numbers.
-pub mod Rows

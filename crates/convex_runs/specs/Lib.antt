@@ -1,3 +1,0 @@
--- Runs of tight maps.
-pub mod RunsOfMaps
-pub mod ConvexMaps

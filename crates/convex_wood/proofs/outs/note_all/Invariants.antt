@@ -1,6 +1,0 @@
-use Rattle.std.proofs.Common.{◌≡◌}
-use Rattle.convex_wood.specs.Notes.{AreNoted}
-use Rattle.convex_wood.proofs.outs.note_all.Given as goal
-
-abbrev pub invariant-loop-d : goal.invariant-loop-d
-invariant-loop-d l = AreNoted l.map l.points l.axis l.d l.outs

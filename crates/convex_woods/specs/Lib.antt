@@ -1,3 +1,0 @@
--- Convex woods.
-pub mod ConvexWoods
-pub mod Laws

@@ -1,4 +1,0 @@
--- Lemmas on records as completed maps.
-pub mod CompletionLemmas
-pub mod RefusalLemmas
-mod Cases

@@ -1,4 +1,0 @@
--- The lemmas on drawings.
-mod Cases
-pub mod ByDarts
-pub mod OfLists

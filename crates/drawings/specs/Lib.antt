@@ -1,3 +1,0 @@
--- Drawings of maps, and their law.
-pub mod Drawing
-pub mod Law

@@ -1,3 +1,0 @@
--- Edge labellings as values.
-pub mod Tables
-pub mod Labellings

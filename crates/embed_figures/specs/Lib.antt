@@ -1,2 +1,0 @@
--- What the job `embed` answers to a graph.
-pub mod Figures

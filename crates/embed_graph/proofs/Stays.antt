@@ -1,0 +1,43 @@
+-- When a graph has a witness, and when one stays.
+use Rattle.std.proofs.Common.{◌≡◌, ◌<◌, ℕ, Bool, true, false, refl, sym, subst, inl, inr}
+use Rattle.std.specs.Prelude.{Result, Ok, Option, Some, None, IfOk, MatchOption, IsTrue, ◌↔◌}
+use Rattle.std.proofs.lemmas.Bool.{true≢false}
+use Rattle.map_lists.specs.Lists.{Lists}
+use Rattle.graph6_text.specs.Graphs.{EdgeGraph, IsGraph}
+use Rattle.embed_contraction.specs.Traces.{HasWitness}
+use Rattle.embed_theorem.specs.Expanded.{IsMapOf}
+use Rattle.embed_theorem.proofs.Refuted.{witnesses_refute}
+use Rattle.embed_witnesses.proofs.ContractedLemmas.{edge_within}
+use Rattle.embed_witnesses.specs.Kept.{HasPlain, IsKept}
+use Rattle.embed_witnesses.proofs.Kept.{plain_or_kept}
+
+-- a map and a witness are not both there
+map_refutes : (graph : EdgeGraph) (map : Lists) → IsMapOf map graph → ¬ HasWitness graph
+map_refutes graph map of w = witnesses_refute graph w.0 w.1 w.2 w.3 map of.simple of.plane of.edges.all
+
+-- a map of the graph, or none where it has a witness
+abbrev IsAnswer : EdgeGraph → Option Lists → Type 0
+IsAnswer graph answer = MatchOption answer (HasWitness graph) (λ map. IsMapOf map graph)
+
+-- whether it has one
+abbrev Tells : {E : Type 0} → EdgeGraph → Result Bool E → Type 0
+Tells graph result = IfOk result (λ yes. IsTrue yes ↔ HasWitness graph)
+
+pub told_by_map : {E : Type 0} (graph : EdgeGraph) (answer : Option Lists) (map : Lists) (result : Result Bool E) → IsAnswer graph answer → answer ≡ Some map → result ≡ Ok false → Tells graph result
+told_by_map graph answer map result h e r = subst (Tells graph) (sym r) ((λ t. absurd (true≢false (sym t))), λ w. absurd (map_refutes graph map (subst (IsAnswer graph) e h) w))
+
+pub told_by_none : {E : Type 0} (graph : EdgeGraph) (answer : Option Lists) (result : Result Bool E) → IsAnswer graph answer → answer ≡ None → result ≡ Ok true → Tells graph result
+told_by_none graph answer result h e r = subst (Tells graph) (sym r) ((λ t. subst (IsAnswer graph) e h), λ w. refl)
+
+-- the ends of an edge that keeps a witness are vertices
+pub kept_within : (graph : EdgeGraph) (a b : ℕ) → IsGraph graph → IsKept graph a b → (a < graph.n) × (b < graph.n)
+kept_within graph a b known kept = edge_within graph known.edges a b kept.joined
+
+-- where no edge keeps a witness, single edges are one
+pub plain_where_none : (graph : EdgeGraph) → IsGraph graph → HasWitness graph → ((a b : ℕ) → ¬ IsKept graph a b) → HasPlain graph
+plain_where_none graph known w none = elim (plain_or_kept graph known w) [ inl p ↦ p | inr k ↦ absurd (none k.0 k.1 k.2) ]
+
+-- it is not so that neither is found
+pub one_is_found : {A B : Type 0} (graph : EdgeGraph) (edge : Option A) (witness : Option B) (P : A → Type 0) (Q : B → Type 0) → IsGraph graph → HasWitness graph → MatchOption edge ((a b : ℕ) → ¬ IsKept graph a b) P → edge ≡ None → MatchOption witness (¬ HasPlain graph) Q → witness ≡ None → ⊥
+one_is_found graph edge witness P Q known has none e no_plain e' =
+    subst (λ o. MatchOption o (¬ HasPlain graph) Q) e' no_plain (plain_where_none graph known has (subst (λ o. MatchOption o ((a b : ℕ) → ¬ IsKept graph a b) P) e none))

@@ -1,0 +1,5 @@
+//! The answer of the job `embed` to a graph, as a value: a map of it with a drawing, or a Kuratowski witness.
+
+mod draw;
+
+pub use draw::{EmbedFigure, embed_figure};

@@ -1,0 +1,48 @@
+//! The figure of a graph.
+ghost use Rattle.std.specs.Prelude.{◌≤◌, IfOk};
+ghost use Rattle.embed_theorem.specs.Expanded.{IsMapOf};
+ghost use Rattle.embed_graph.specs.Figures.{IsEmbedFigure};
+
+use crate::embed;
+use crate::graph_embeddings::Embedding;
+use graph6_text::Graph;
+use grid_figures::schnyder_figures::schnyder_figure;
+use kuratowski::Witness;
+use map_lists::Rotations;
+use pg_plane::GridFigure;
+use std::alloc::{AllocError, Global};
+
+/// What a graph is answered by.
+#[derive(Drop)]
+pub enum EmbedFigure {
+    /// A map of genus zero with exactly the edges of the graph, and its drawing by Schnyder's coordinates.
+    Drawn(Rotations, GridFigure),
+    /// A subdivision of K5 or K3,3 in the graph.
+    NotPlanar(Witness),
+}
+
+// The drawing of a map of a graph.
+fn drawn(alloc: Global, graph: &Graph, lists: Rotations) -> Result<EmbedFigure, AllocError>
+    requires some { 3 ≤ graph.now.n }
+    requires map { IsMapOf lists graph.now }
+    ensures { IfOk result (IsEmbedFigure graph.now) }
+{
+    let _n = graph.n();
+    match schnyder_figure(alloc, &lists) {
+        Ok(figure) => Ok(EmbedFigure::Drawn(lists, figure)),
+        // such a map breaks no condition
+        Err(_) => Err(AllocError),
+    }
+}
+
+/// A map of a graph with at least three vertices and the map's drawing in the grid n - 2 by n - 2, or a witness that there
+/// is none. It fails only for want of memory.
+pub fn embed_figure(alloc: Global, graph: &Graph) -> Result<EmbedFigure, AllocError>
+    requires { 3 ≤ graph.now.n }
+    ensures { IfOk result (IsEmbedFigure graph.now) }
+{
+    match embed(alloc, graph)? {
+        Embedding::Map(lists) => drawn(alloc, graph, lists),
+        Embedding::NotPlanar(witness) => Ok(EmbedFigure::NotPlanar(witness)),
+    }
+}

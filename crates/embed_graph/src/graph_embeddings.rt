@@ -1,0 +1,6 @@
+//! What the search for a map of a graph answers: a map of genus zero with exactly the graph's edges, or a Kuratowski
+//! witness that there is none.
+
+mod embedding;
+
+pub use embedding::Embedding;

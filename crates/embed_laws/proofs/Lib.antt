@@ -1,2 +1,0 @@
--- Figures of graphs.
-mod Figured

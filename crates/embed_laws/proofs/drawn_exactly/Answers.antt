@@ -1,5 +1,0 @@
-use Rattle.embed_laws.proofs.Figured.{exactly}
-use Rattle.embed_laws.proofs.drawn_exactly.Goals as goal
-
-pub returns : goal.returns
-returns c = exactly c.planar_exactly.ensures c.some_schnyder_figure.ensures

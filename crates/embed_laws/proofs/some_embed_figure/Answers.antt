@@ -1,5 +1,0 @@
-use Rattle.embed_laws.proofs.Figured.{some_figure}
-use Rattle.embed_laws.proofs.some_embed_figure.Goals as goal
-
-pub returns : goal.returns
-returns c = some_figure c.map_or_witness.ensures c.some_schnyder_figure.ensures

@@ -1,2 +1,0 @@
--- Which graphs are drawn.
-pub mod Laws

@@ -1,0 +1,10 @@
+-- Rings under way.
+pub mod Walks
+-- Rows of maps that are put together.
+pub mod GluedMapsRows
+-- Gaps of rings.
+pub mod Gaps
+-- Rows of lists with an edge more.
+pub mod PutVerticesRows
+-- Maps of contracted graphs.
+pub mod ContractedMaps

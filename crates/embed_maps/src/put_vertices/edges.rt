@@ -1,0 +1,79 @@
+//! Lists with an edge more.
+ghost use Rattle.std.specs.Prelude.{◌≡◌, ◌≤◌, ◌+◌, ◌++◌, ◌∷◌, [], ℕ, length, slice_index_or, IfOk, OnOk};
+ghost use Rattle.std.specs.List.{insert};
+ghost use Rattle.map_theory.specs.Maps.{place_of as place_of_entry};
+ghost use Rattle.embed_maps.specs.PutVerticesRows.{row_with_edge};
+ghost use Rattle.plane_laws.specs.WithEdge.{with_edge_after as lists_with_edge};
+
+use map_lists::Rotations;
+use std::alloc::{AllocError, Global};
+
+/// The lists with an edge between two vertices more: `v` stands directly after `a` in the list of `u`, and `u`
+/// directly after `c` in that of `v`; at the end, where the list has no such entry. It fails only for want of memory.
+pub fn with_edge_after(
+    alloc: Global,
+    lists: &Rotations,
+    u: u16,
+    a: u16,
+    v: u16,
+    c: u16,
+) -> Result<Rotations, AllocError>
+    ensures { IfOk result (λ new. new ≡ lists_with_edge lists.now u a v c) }
+{
+    let mut new = Rotations::new(alloc);
+    for w in 0..lists.len() {
+        push_row(alloc, &mut new, lists.list(w), w, u, a, v, c)?;
+    }
+    Ok(new)
+}
+
+// Appends the list of a vertex.
+fn push_row(
+    alloc: Global,
+    new: &mut Rotations,
+    us: &[u16],
+    w: usize,
+    u: u16,
+    a: u16,
+    v: u16,
+    c: u16,
+) -> Result<(), AllocError>
+    ensures { OnOk result (new.new ≡ new.old ++ row_with_edge u a v c w us.now ∷ []) }
+{
+    if w == v as usize {
+        push_with(alloc, new, us, c, u)
+    } else if w == u as usize {
+        push_with(alloc, new, us, a, v)
+    } else {
+        new.push(us)
+    }
+}
+
+// Appends a list with an entry directly after its first `a`, or at its end where it has none.
+fn push_with(
+    alloc: Global,
+    new: &mut Rotations,
+    us: &[u16],
+    a: u16,
+    x: u16,
+) -> Result<(), AllocError>
+    ensures { OnOk result (new.new ≡ new.old ++ insert us.now (place_of_entry a us.now + 1) x ∷ []) }
+{
+    let mut row = Vec::new(alloc);
+    row.extend_from_slice(us)?;
+    row.insert(place_after(us, a), x)?;
+    new.push(&row)
+}
+
+// The place behind the first `a` of a list, or its end where it has none.
+fn place_after(us: &[u16], a: u16) -> usize
+    ensures within { result ≤ length us.now }
+    ensures place { (x : ℕ) → insert us.now result x ≡ insert us.now (place_of_entry a us.now + 1) x }
+{
+    for i in 0..us.len() {
+        if us[i] == a {
+            return i + 1;
+        }
+    }
+    us.len()
+}

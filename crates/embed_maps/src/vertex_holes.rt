@@ -1,0 +1,7 @@
+//! Vertices taken out of maps, and the ring of the face that they leave.
+
+mod hole;
+mod rest;
+
+pub use hole::hole_ring;
+pub use rest::without_vertex;

@@ -1,0 +1,11 @@
+//! Which vertices of a simple map part the others, and an edge that can be contracted.
+
+mod contractible;
+mod pairs;
+mod partings;
+mod rest;
+
+pub use contractible::contractible_edge;
+pub use pairs::{first_off, has_edge, list_parts, parted_pair};
+pub use partings::{Parting, parting_pair, parting_vertex};
+pub use rest::{is_outside, without_vertices};

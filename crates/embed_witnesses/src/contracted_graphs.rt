@@ -1,0 +1,5 @@
+//! Graphs with an edge contracted.
+
+mod contracted;
+
+pub use contracted::contract;

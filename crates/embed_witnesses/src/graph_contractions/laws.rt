@@ -1,0 +1,8 @@
+//! What a third vertex has to do with a contracted edge, as a function that does nothing.
+ghost use Rattle.embed_witnesses.specs.Contractible.{ContractedExactly};
+
+/// Contracting an edge of a three-connected graph with at least five vertices leaves a three-connected graph
+/// exactly where no third vertex parts the others together with its ends.
+pub fn contracted_exactly()
+    ensures { ContractedExactly }
+{}

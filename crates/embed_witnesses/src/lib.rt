@@ -1,0 +1,10 @@
+//! Kuratowski witnesses of contracted graphs, and how they are lifted to the graph.
+#![tactic(auto)]
+
+pub mod contracted_graphs;
+pub mod graph_contractions;
+pub mod kept_witnesses;
+pub mod lifted_witnesses;
+pub mod merged_ends;
+pub mod plain_witnesses;
+pub mod renamed_witnesses;

@@ -1,0 +1,11 @@
+//! Witnesses of a graph from those of the graph with an edge contracted.
+
+mod changed;
+mod changes;
+mod lifted;
+mod mended;
+mod numbers;
+mod parted;
+mod tried;
+
+pub use lifted::lift;

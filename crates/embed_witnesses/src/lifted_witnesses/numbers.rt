@@ -1,0 +1,309 @@
+//! The vertices of a changed witness, place by place.
+ghost use Rattle.std.specs.Prelude.{◌≡◌, ◌<◌, ◌+◌, ◌-◌, ◌==◌, nat_lt, if◌then◌else◌, length};
+ghost use Rattle.kuratowski.specs.Witnesses.{branch_count as branches_of, vertex_at as vertex_of};
+ghost use Rattle.embed_contraction.specs.Traces.{path_count as paths_of};
+ghost use Rattle.embed_witnesses.specs.Merged.{exchanged_number as number_of_other};
+ghost use Rattle.embed_witnesses.specs.Changes.{step_count as steps_of, place_in as vertex_of_path, moved as moved_number, put_in as put_number, mended_count as mended_steps, longer as longer_vertex, mended_place as mended_vertex, named_branch as branch_named, first_name as name_of_first, second_name as name_of_second, path_between as path_of_two, link_between as link_of_two, link_of as link_number, linked_place as linked_vertex, ended as ended_vertex, parted_count as parted_steps, parted_place as parted_vertex, parted_branch as parted_branch_vertex, kind_in, branch_in, count_in, vertex_in};
+
+use crate::lifted_witnesses::changes::{Change, Mending, Parting};
+use kuratowski::Kind;
+use map_lists::{PathList, VertexId, VertexList};
+
+// The vertex at a place of a list, or 0 past its end.
+fn vertex_at(list: &[VertexId], i: usize) -> u16
+    ensures { result ≡ vertex_of list.now i }
+{
+    if i < list.len() { list[i].0 } else { 0 }
+}
+
+// The branch with a number, or 0 past the last.
+fn branch_at(list: &VertexList, i: usize) -> u16
+    ensures { result ≡ vertex_of list.now i }
+{
+    if i < list.len() { list.get(i).0 } else { 0 }
+}
+
+// The vertex of a path at a place, or 0 where there is none.
+fn place_in(paths: &PathList, p: usize, i: usize) -> u16
+    ensures { result ≡ vertex_of_path paths.now p i }
+{
+    if p < paths.len() {
+        vertex_at(paths.list(p), i)
+    } else {
+        0
+    }
+}
+
+/// How many steps a path has; past the last path there are none.
+pub(crate) fn step_count(paths: &PathList, p: usize) -> usize
+    ensures value { result ≡ steps_of paths.now p }
+    ensures few { result < 18446744073709551615 }
+{
+    if p < paths.len() {
+        steps(paths.list(p))
+    } else {
+        0
+    }
+}
+
+// One less than the vertices of a path.
+fn steps(path: &[VertexId]) -> usize
+    ensures value { result ≡ length path.now - 1 }
+    ensures few { result < 18446744073709551615 }
+{
+    if path.len() == 0 { 0 } else { path.len() - 1 }
+}
+
+fn exchanged_number(a: u16, b: u16, v: u16) -> u16
+    ensures { result ≡ number_of_other a b v }
+{
+    if v == a {
+        b
+    } else if v == b {
+        a
+    } else {
+        v
+    }
+}
+
+fn moved(m: Mending, v: u16) -> u16
+    ensures { result ≡ moved_number m v }
+{
+    if m.exchange {
+        exchanged_number(m.a, m.b, v)
+    } else {
+        v
+    }
+}
+
+fn put_in(m: Mending) -> u16
+    ensures { result ≡ put_number m }
+{
+    if m.exchange { m.a } else { m.b }
+}
+
+fn mended_count(m: Mending, paths: &PathList, p: usize) -> usize
+    ensures { result ≡ mended_steps m paths.now p }
+{
+    if p == m.path {
+        step_count(paths, p) + 1
+    } else {
+        step_count(paths, p)
+    }
+}
+
+fn longer(m: Mending, paths: &PathList, i: usize) -> u16
+    ensures { result ≡ longer_vertex m paths.now i }
+{
+    if m.place < i {
+        if i == m.place + 1 {
+            put_in(m)
+        } else {
+            moved(m, place_in(paths, m.path, i - 1))
+        }
+    } else {
+        moved(m, place_in(paths, m.path, i))
+    }
+}
+
+fn mended_place(m: Mending, paths: &PathList, p: usize, i: usize) -> u16
+    ensures { result ≡ mended_vertex m paths.now p i }
+{
+    if p == m.path {
+        longer(m, paths, i)
+    } else {
+        moved(m, place_in(paths, p, i))
+    }
+}
+
+fn named_branch(order: u32, k: usize) -> u32
+    ensures value { result ≡ branch_named order k }
+    ensures few { result < 5 }
+{
+    if k == 0 {
+        order % 5
+    } else if k == 1 {
+        order / 5 % 5
+    } else if k == 2 {
+        order / 25 % 5
+    } else if k == 3 {
+        order / 125 % 5
+    } else {
+        order / 625 % 5
+    }
+}
+
+fn first_name(p: usize) -> usize
+    ensures { result ≡ name_of_first p }
+{
+    let row = p / 3;
+    if row == 0 { 0 } else { row + 2 }
+}
+
+fn path_between(a: u32, b: u32) -> u32
+    requires { b < 5 }
+    ensures { result ≡ path_of_two a b }
+{
+    if a == 0 {
+        if b == 0 { 0 } else { b - 1 }
+    } else if a == 1 {
+        b + 2
+    } else if a == 2 {
+        b + 4
+    } else {
+        9
+    }
+}
+
+fn link_between(a: u32, b: u32) -> u32
+    requires first { a < 5 }
+    requires second { b < 5 }
+    ensures { result ≡ link_of_two a b }
+{
+    if a < b {
+        path_between(a, b)
+    } else {
+        path_between(b, a)
+    }
+}
+
+fn link_of(order: u32, p: usize) -> usize
+    ensures { result ≡ link_number order p }
+{
+    let first = named_branch(order, first_name(p));
+    let second = named_branch(order, p % 3);
+    link_between(first, second) as usize
+}
+
+// Whether that path is read from its first branch on.
+fn is_forward(order: u32, p: usize) -> bool
+    ensures { result ≡ nat_lt (branch_named order (name_of_first p)) (branch_named order (name_of_second p)) }
+{
+    named_branch(order, first_name(p)) < named_branch(order, p % 3)
+}
+
+fn linked_place(order: u32, paths: &PathList, p: usize, i: usize) -> u16
+    ensures { result ≡ linked_vertex order paths.now p i }
+{
+    let link = link_of(order, p);
+    if is_forward(order, p) {
+        place_in(paths, link, i)
+    } else {
+        place_in(paths, link, less(step_count(paths, link), i))
+    }
+}
+
+fn less(a: usize, b: usize) -> usize
+    ensures { result ≡ a - b }
+{
+    if a < b { 0 } else { a - b }
+}
+
+fn ended(t: Parting, p: usize, v: u16) -> u16
+    ensures { result ≡ ended_vertex t p v }
+{
+    if p % 3 == 0 && v == t.a { t.b } else { v }
+}
+
+fn parted_count(t: Parting, paths: &PathList, p: usize) -> usize
+    ensures value { result ≡ parted_steps t paths.now p }
+    ensures few { result < 18446744073709551615 }
+{
+    if p == 0 {
+        1
+    } else {
+        step_count(paths, link_of(t.order, p))
+    }
+}
+
+fn parted_place(t: Parting, paths: &PathList, p: usize, i: usize) -> u16
+    ensures { result ≡ parted_vertex t paths.now p i }
+{
+    if p == 0 {
+        if i == 0 { t.a } else { t.b }
+    } else {
+        ended(t, p, linked_place(t.order, paths, p, i))
+    }
+}
+
+fn name_of_branch(j: usize) -> usize
+    ensures { result ≡ (if j == 0 then 0 else if nat_lt j 3 then j + 2 else j - 3) }
+{
+    if j == 0 {
+        0
+    } else if j < 3 {
+        j + 2
+    } else {
+        j - 3
+    }
+}
+
+fn parted_branch(t: Parting, branch: &VertexList, j: usize) -> u16
+    ensures { result ≡ parted_branch_vertex t branch.now j }
+{
+    if j == 3 {
+        t.b
+    } else {
+        branch_at(branch, named_branch(t.order, name_of_branch(j)) as usize)
+    }
+}
+
+/// The kind of the changed witness.
+pub(crate) fn kind_of(change: Change, kind: Kind) -> Kind
+    ensures { result ≡ kind_in change kind }
+{
+    match change {
+        Change::Mended(_) => kind,
+        Change::Parted(_) => Kind::K33,
+    }
+}
+
+/// How many branches a kind has.
+pub(crate) fn branch_count(kind: Kind) -> usize
+    ensures { result ≡ branches_of kind }
+{
+    match kind {
+        Kind::K5 => 5,
+        Kind::K33 => 6,
+    }
+}
+
+/// How many paths it has.
+pub(crate) fn path_count(kind: Kind) -> usize
+    ensures { result ≡ paths_of kind }
+{
+    match kind {
+        Kind::K5 => 10,
+        Kind::K33 => 9,
+    }
+}
+
+/// A branch of the changed witness.
+pub(crate) fn branch_of(change: Change, branch: &VertexList, j: usize) -> u16
+    ensures { result ≡ branch_in change branch.now j }
+{
+    match change {
+        Change::Mended(m) => moved(m, branch_at(branch, j)),
+        Change::Parted(t) => parted_branch(t, branch, j),
+    }
+}
+
+/// How many steps a path of it has.
+pub(crate) fn count_of(change: Change, paths: &PathList, p: usize) -> usize
+    ensures { result ≡ count_in change paths.now p }
+{
+    match change {
+        Change::Mended(m) => mended_count(m, paths, p),
+        Change::Parted(t) => parted_count(t, paths, p),
+    }
+}
+
+/// A vertex of that path.
+pub(crate) fn vertex_of_change(change: Change, paths: &PathList, p: usize, i: usize) -> u16
+    ensures { result ≡ vertex_in change paths.now p i }
+{
+    match change {
+        Change::Mended(m) => mended_place(m, paths, p, i),
+        Change::Parted(t) => parted_place(t, paths, p, i),
+    }
+}

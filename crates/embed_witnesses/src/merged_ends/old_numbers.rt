@@ -1,0 +1,54 @@
+//! Witnesses of a contracted graph on the numbers that its vertices had.
+ghost use Rattle.std.specs.Prelude.{◌≡◌, ◌<◌, ◌≤◌, ℕ, true, length, map, IfOk};
+ghost use Rattle.std.specs.List.{range_with_len};
+ghost use Rattle.graph6_text.specs.Graphs.{has_edge};
+ghost use Rattle.kuratowski.specs.Witnesses.{IsWitness};
+ghost use Rattle.embed_witnesses.specs.ContractedEdges.{contraction};
+ghost use Rattle.embed_witnesses.specs.Merged.{merged, old_number as number_before};
+
+use crate::renamed_witnesses::renamed;
+use graph6_text::Graph;
+use kuratowski::Witness;
+use map_lists::Ends;
+use std::alloc::{AllocError, Global};
+
+/// A witness of the graph with an edge contracted, on the numbers that its vertices had: one of the graph in
+/// which the lesser end has the neighbours of both and the greater none. It fails only for want of memory.
+pub fn on_old_numbers(
+    alloc: Global,
+    graph: &Graph,
+    e: Ends,
+    small: &Witness,
+) -> Result<Witness, AllocError>
+    requires edge { has_edge graph.now e.a.0 e.b.0 ≡ true }
+    requires accepted { IsWitness (contraction graph.now e.a.0 e.b.0) small.now.kind small.now.branch small.now.paths }
+    ensures { IfOk result (λ new. IsWitness (merged graph.now e.a.0 e.b.0) new.kind new.branch new.paths) }
+{
+    let table = old_numbers(alloc, graph.n(), e.b.0)?;
+    renamed(alloc, small, &table)
+}
+
+// For each number up to before the last the one before `b` left, and for the last `b`.
+fn old_numbers(alloc: Global, n: u16, b: u16) -> Result<Vec<u16>, AllocError>
+    requires { n ≤ 255 }
+    ensures { IfOk result (λ table. table.items ≡ map (number_before n b) (range_with_len 0 n)) }
+{
+    let mut table = Vec::new(alloc);
+    for v in 0..n {
+        table.push(old_number(n, b, v))?;
+    }
+    Ok(table)
+}
+
+fn old_number(n: u16, b: u16, v: u16) -> u16
+    requires { v < 255 }
+    ensures { result ≡ number_before n b v }
+{
+    if v < b {
+        v
+    } else if v + 1 < n {
+        v + 1
+    } else {
+        b
+    }
+}

@@ -1,0 +1,76 @@
+//! Chosen branches as a witness.
+ghost use Rattle.std.specs.Prelude.{◌≡◌, ◌<◌, ◌++◌, ◌∷◌, [], ◌↔◌, length, IsTrue, IfOk, OnOk, MatchOption};
+ghost use Rattle.kuratowski.specs.Witnesses.{pairs_of, IsWitness};
+ghost use Rattle.embed_witnesses.specs.Plain.{plain_branch as branches_of, plain_path as path_of, plain_paths as paths_of};
+
+use crate::plain_witnesses::numbers::{branch_count, chosen_at, pair_at, path_count};
+use graph6_text::Graph;
+use kuratowski::{Kind, Witness, WitnessVerdict, check_witness};
+use map_lists::{PathList, VertexId, VertexList};
+use std::alloc::{AllocError, Global};
+
+/// Chosen branches with the edges between them as a witness, or none where it is not one of the graph. It fails only
+/// for want of memory.
+pub(crate) fn as_witness(
+    alloc: Global,
+    graph: &Graph,
+    kind: Kind,
+    chosen: &[u16],
+) -> Result<Option<Witness>, AllocError>
+    ensures { IfOk result (λ found. MatchOption found (¬ IsWitness graph.now kind (branches_of kind chosen.now) (paths_of kind chosen.now)) (λ w. IsWitness graph.now w.kind w.branch w.paths)) }
+{
+    let branch = plain_branch(alloc, kind, chosen)?;
+    let paths = plain_paths(alloc, kind, chosen)?;
+    let witness = Witness {
+        kind,
+        branch,
+        paths,
+    };
+    if is_accepted(graph, &witness) {
+        Ok(Some(witness))
+    } else {
+        Ok(None)
+    }
+}
+
+fn is_accepted(graph: &Graph, witness: &Witness) -> bool
+    ensures { IsTrue result ↔ IsWitness graph.now witness.now.kind witness.now.branch witness.now.paths }
+{
+    match check_witness(graph, witness) {
+        WitnessVerdict::Yes => true,
+        _ => false,
+    }
+}
+
+fn plain_branch(alloc: Global, kind: Kind, chosen: &[u16]) -> Result<VertexList, AllocError>
+    ensures { IfOk result (λ new. new ≡ branches_of kind chosen.now) }
+{
+    let mut new = VertexList::new(alloc);
+    for i in 0..branch_count(kind) {
+        new.push(VertexId(chosen_at(chosen, i)))?;
+    }
+    Ok(new)
+}
+
+fn plain_paths(alloc: Global, kind: Kind, chosen: &[u16]) -> Result<PathList, AllocError>
+    ensures { IfOk result (λ new. new ≡ paths_of kind chosen.now) }
+{
+    let mut new = PathList::new(alloc);
+    for p in 0..path_count(kind) {
+        push_path(&mut new, kind, chosen, p)?;
+    }
+    Ok(new)
+}
+
+// Appends a path.
+fn push_path(paths: &mut PathList, kind: Kind, chosen: &[u16], p: usize) -> Result<(), AllocError>
+    requires { p < length (pairs_of kind) }
+    ensures { OnOk result (paths.new ≡ paths.old ++ path_of kind chosen.now p ∷ []) }
+{
+    let (a, b) = pair_at(kind, p);
+    let path = [
+        VertexId(chosen_at(chosen, a)),
+        VertexId(chosen_at(chosen, b)),
+    ];
+    paths.push(&path)
+}

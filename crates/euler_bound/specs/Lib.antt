@@ -1,2 +1,0 @@
--- The Euler bound for maps.
-pub mod Bound

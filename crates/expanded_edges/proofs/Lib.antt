@@ -1,3 +1,0 @@
--- What the law rests on.
-pub mod Joined
-pub mod Expanded

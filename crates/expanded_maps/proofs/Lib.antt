@@ -1,3 +1,0 @@
--- What the call rests on.
-pub mod GapParts
-pub mod ExpandedLemmas

@@ -1,2 +1,0 @@
--- Maps of contracted graphs.
-pub mod ContractedMaps

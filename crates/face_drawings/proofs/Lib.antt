@@ -1,2 +1,0 @@
--- The lemmas on drawings by counts of faces.
-pub mod Joined

@@ -1,3 +1,0 @@
--- Drawings by counts of faces.
-pub mod FaceDrawings
-pub mod Laws

@@ -1,4 +1,0 @@
--- Faces told apart by marks; vertices taken out of maps, and put into faces.
-pub mod Marks
-pub mod Holes
-pub mod Inserts

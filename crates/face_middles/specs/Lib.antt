@@ -1,3 +1,0 @@
--- Drawings whose faces have middles.
-pub mod Middles
-pub mod Laws

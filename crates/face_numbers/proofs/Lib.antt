@@ -1,3 +1,0 @@
--- Numbers of faces.
-pub mod Rows
-mod Cases

@@ -1,2 +1,0 @@
--- Numbers of faces, entry by entry.
-pub mod FaceNumbers

@@ -1,4 +1,0 @@
--- Which vertices the faces of a vertex pass, and marks that tell it.
-pub mod Passing
-pub mod Stamps
-pub mod Clear

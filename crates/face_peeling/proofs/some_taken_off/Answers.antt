@@ -1,5 +1,0 @@
-use Rattle.face_peeling.proofs.TakenOff.{some_taken_off_law}
-use Rattle.face_peeling.proofs.some_taken_off.Goals as goal
-
-pub returns : goal.returns
-returns c = some_taken_off_law

@@ -1,4 +1,0 @@
--- Regions of convex woods.
-pub mod Regions
-pub mod Laws
-pub mod Passing

@@ -1,2 +1,0 @@
--- Rings under way.
-pub mod Walks

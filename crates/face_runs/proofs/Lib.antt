@@ -1,5 +1,0 @@
--- The lemmas on runs.
-pub mod Places
-pub mod Stages
-pub mod Faces
-pub mod Cases

@@ -1,0 +1,33 @@
+-- Where the row of the contour begins and ends over which a vertex of an order is put.
+use Rattle.std.specs.Prelude.{ℕ, ◌+◌, ◌<◌, ◌≤◌, ◌≡◌, ◌⊎◌, List, length, slice_index}
+use Rattle.map_lists.specs.Lists.{Lists}
+use Rattle.map_theory.specs.Maps.{Dart, HasDart, follows}
+use Rattle.plane_laws.specs.Completed.{IsCompleted}
+use Rattle.canon_order.specs.Orders.{IsCanonicalOrder, IsRankOf}
+use Rattle.order_drawings.specs.OrderRuns.{IsOrderRun}
+use Rattle.contour_runs.specs.Runs.{Step, stage_after}
+
+-- The row of the vertex v, of rank k, begins at its neighbour u: u is of a lower rank, and it is the first vertex of all or the neighbour after it is of a higher one.
+pub record BeginsRow (lists : Lists) (ranks : List ℕ) (k v u : ℕ) : Type 0 where
+  pub dart : HasDart lists v u
+  pub earlier : slice_index ranks u < k
+  pub begins : (slice_index ranks u ≡ 0) ⊎ (k ≤ slice_index ranks (follows lists v u))
+
+-- It ends at u: u is of a lower rank, and it is the second vertex of all or the neighbour before it is of a higher one.
+pub record EndsRow (lists : Lists) (ranks : List ℕ) (k v u : ℕ) : Type 0 where
+  pub dart : HasDart lists v u
+  pub earlier : slice_index ranks u < k
+  pub ends : (slice_index ranks u ≡ 1) ⊎ ((w : ℕ) → HasDart lists v w → follows lists v w ≡ u → k ≤ slice_index ranks w)
+
+-- It begins at p and ends at q, and nowhere else.
+pub record HasRow (lists : Lists) (ranks : List ℕ) (k v p q : ℕ) : Type 0 where
+  pub begin : BeginsRow lists ranks k v p
+  pub only_begin : (u : ℕ) → BeginsRow lists ranks k v u → u ≡ p
+  pub end : EndsRow lists ranks k v q
+  pub only_end : (u : ℕ) → EndsRow lists ranks k v u → u ≡ q
+
+-- So each vertex of a canonical order from the third on has a row, from the first vertex of a step of the order's run to the last.
+abbrev pub OrderHasRows : Type 0
+OrderHasRows =
+    (lists : Lists) (base : Dart) (at ranks : List ℕ) → IsCompleted lists → (order : IsCanonicalOrder lists base at) → IsRankOf ranks at → (steps : ℕ → Step) → IsOrderRun lists base at order.cycle steps
+    → (k : ℕ) → k + 2 < length at → HasRow lists ranks (k + 2) (slice_index at (k + 2)) (slice_index at ((stage_after steps k).vertex (steps k).first)) (slice_index at ((stage_after steps k).vertex (steps k).last))

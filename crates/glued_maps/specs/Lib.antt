@@ -1,2 +1,0 @@
--- Rows of maps that are put together.
-pub mod Rows

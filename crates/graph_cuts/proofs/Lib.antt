@@ -1,2 +1,0 @@
--- What the lists of a graph hold.
-pub mod GraphLemmas

@@ -1,2 +1,0 @@
--- Graphs as lists.
-pub mod GraphLists

@@ -1,2 +1,0 @@
--- Answers to the question whether a graph is planar.
-pub mod Embeddings

@@ -1,7 +1,0 @@
-//! What the search for a map of a graph answers: a map of genus zero with exactly the graph's edges, or a Kuratowski
-//! witness that there is none.
-#![tactic(auto)]
-
-mod embedding;
-
-pub use embedding::Embedding;

@@ -1,0 +1,6 @@
+use Rattle.std.proofs.Common.{ℕ}
+use Rattle.graph_search.specs.Runs.{IsAt}
+use Rattle.graph_search.proofs.longest_paths.paths.visit_all.Given as goal
+
+abbrev pub invariant-loop-head : goal.invariant-loop-head
+invariant-loop-head l = (used : ℕ → ℕ) × IsAt l.arcs l.base l.head used l.number l.waiting l.queue.items

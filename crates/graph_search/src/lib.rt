@@ -1,0 +1,6 @@
+//! Searches of maps and graphs: depth-first forests with low points, cut vertices and separating pairs, longest paths.
+#![tactic(auto)]
+
+pub mod longest_paths;
+pub mod map_cuts;
+pub mod search_forests;

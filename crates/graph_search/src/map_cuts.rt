@@ -1,0 +1,14 @@
+//! Cut vertices and separating pairs.
+//!
+//! A vertex is a cut vertex where it parts two other vertices: a path joins them, and none that avoids it.
+//! Two vertices are a separating pair where they do so together. The calls on lists serve maps and graphs
+//! alike: all that they ask is that adjacency goes both ways.
+
+mod flags;
+mod least;
+mod pairs;
+mod without;
+
+pub use flags::cut_flags;
+pub use least::{cut_vertex, list_cut_vertex};
+pub use pairs::{list_separating_pair, separating_pair};

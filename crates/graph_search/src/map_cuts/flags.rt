@@ -1,0 +1,95 @@
+//! Which vertices are cut vertices.
+ghost use Rattle.std.specs.Prelude.{◌≡◌, ◌+◌, ◌<◌, ◌≤◌, ◌↔◌, ℕ, length, slice_index, All, IfOk, IsTrue, MatchBool};
+ghost use Rattle.graph_search.specs.Forests.{IsAdjacency};
+ghost use Rattle.graph_search.specs.Flags.{AreCutFlags, IsPartedIn, HasParted, TellParted};
+
+use crate::search_forests::{low_points, search_forest};
+use map_lists::Rotations;
+use std::alloc::{AllocError, Global};
+
+// Whether v parts its child u from its own parent.
+fn is_low(number: &[u16], low: &[u16], v: u16, u: u16) -> bool
+    requires number { v < length number.now }
+    requires low { u < length low.now }
+    ensures { IsTrue result ↔ (slice_index number.now v ≤ slice_index low.now u) }
+{
+    number[v as usize] <= low[u as usize]
+}
+
+// Whether v, which has no parent, has a child before its child u.
+fn is_later(number: &[u16], v: u16, u: u16) -> bool
+    requires few { length number.now < 4096 }
+    requires small { slice_index number.now v < length number.now }
+    requires v_in { v < length number.now }
+    requires u_in { u < length number.now }
+    ensures { IsTrue result ↔ (slice_index number.now v + 1 < slice_index number.now u) }
+{
+    number[v as usize] + 1 < number[u as usize]
+}
+
+// Whether u is a child of v that v parts from other vertices.
+fn is_parted(number: &[u16], parent: &[u16], low: &[u16], v: u16, u: u16) -> bool
+    requires few { length number.now < 4096 }
+    requires small { slice_index number.now v < length number.now }
+    requires parents { length parent.now ≡ length number.now }
+    requires lows { length low.now ≡ length number.now }
+    requires v_in { v < length number.now }
+    requires u_in { u < length number.now }
+    ensures { IsTrue result ↔ IsPartedIn number.now parent.now low.now v u }
+{
+    if parent[u as usize] != v {
+        false
+    } else if (parent[v as usize] as usize) < number.len() {
+        is_low(number, low, v, u)
+    } else {
+        is_later(number, v, u)
+    }
+}
+
+// Whether a list has such a child.
+fn has_parted(list: &[u16], number: &[u16], parent: &[u16], low: &[u16], v: u16) -> bool
+    requires few { length number.now < 4096 }
+    requires small { slice_index number.now v < length number.now }
+    requires parents { length parent.now ≡ length number.now }
+    requires lows { length low.now ≡ length number.now }
+    requires v_in { v < length number.now }
+    requires vertices { All (λ u. u < length number.now) list.now }
+    ensures { MatchBool result (HasParted number.now parent.now low.now v list.now) (¬ HasParted number.now parent.now low.now v list.now) }
+{
+    for u in list {
+        if is_parted(number, parent, low, v, *u) {
+            return true;
+        }
+    }
+    false
+}
+
+// Sets the flag of each vertex whose list has one.
+fn set_flags(lists: &Rotations, number: &[u16], parent: &[u16], low: &[u16], flags: &mut [bool])
+    requires adjacency { IsAdjacency lists.now }
+    requires few { length lists.now < 4096 }
+    requires numbers { length number.now ≡ length lists.now }
+    requires small { (v : ℕ) → v < length lists.now → slice_index number.now v < length lists.now }
+    requires parents { length parent.now ≡ length lists.now }
+    requires lows { length low.now ≡ length lists.now }
+    requires flags { length flags.old ≡ length lists.now }
+    ensures { TellParted lists.now number.now parent.now low.now flags.new (length lists.now) }
+{
+    for v in 0..lists.len() {
+        flags[v] = has_parted(lists.list(v), number, parent, low, v as u16);
+    }
+}
+
+/// For each vertex of lists in which adjacency goes both ways, whether it is a cut vertex, in time linear in
+/// the entries. It fails only for want of memory.
+pub fn cut_flags(alloc: Global, lists: &Rotations) -> Result<Vec<bool>, AllocError>
+    requires adjacency { IsAdjacency lists.now }
+    requires few { length lists.now < 4096 }
+    ensures { IfOk result (λ flags. AreCutFlags lists.now flags.items) }
+{
+    let forest = search_forest(alloc, lists)?;
+    let low = low_points(alloc, lists, &forest)?;
+    let mut flags = vec![in alloc; false; lists.len()]?;
+    set_flags(lists, &forest.number, &forest.parent, &low, &mut flags);
+    Ok(flags)
+}

@@ -1,0 +1,51 @@
+//! The least cut vertex.
+ghost use Rattle.std.specs.Prelude.{◌≡◌, ◌<◌, ◌≤◌, ℕ, true, false, length, slice_index_or, MatchOption, IfOk};
+ghost use Rattle.map_theory.specs.Maps.{IsSimpleMap};
+ghost use Rattle.graph_search.specs.Forests.{IsAdjacency};
+ghost use Rattle.graph_search.specs.Cuts.{IsCutVertex, IsLeastCutVertex};
+ghost use Rattle.graph_search.specs.Flags.{AreCutFlags};
+
+use crate::map_cuts::flags::cut_flags;
+use half_edges::HalfMap;
+use map_lists::{Rotations, VertexId};
+use std::alloc::{AllocError, Global};
+
+// The first place from `from` on whose flag is set.
+pub(crate) fn first_set(flags: &[bool], from: usize) -> Option<usize>
+    requires { length flags.now < 4096 }
+    ensures none { MatchOption result ((i : ℕ) → from ≤ i → i < length flags.now → slice_index_or flags.now i false ≡ false) (λ i. (i < length flags.now) × (from ≤ i) × (slice_index_or flags.now i false ≡ true) × ((k : ℕ) → from ≤ k → k < i → slice_index_or flags.now k false ≡ false)) }
+{
+    for i in from..flags.len() {
+        if flags[i] {
+            return Some(i);
+        }
+    }
+    None
+}
+
+/// The least cut vertex of lists in which adjacency goes both ways, or None exactly where there is none, in
+/// time linear in the entries. It fails only for want of memory.
+pub fn list_cut_vertex(alloc: Global, lists: &Rotations) -> Result<Option<u16>, AllocError>
+    requires adjacency { IsAdjacency lists.now }
+    requires few { length lists.now < 4096 }
+    ensures { IfOk result (λ found. MatchOption found ((v : ℕ) → ¬ IsCutVertex lists.now v) (λ v. IsLeastCutVertex lists.now v)) }
+{
+    let flags = cut_flags(alloc, lists)?;
+    match first_set(&flags, 0) {
+        Some(v) => Ok(Some(v as u16)),
+        None => Ok(None),
+    }
+}
+
+/// The least cut vertex of a map, or None exactly where there is none, in linear time. It fails only for
+/// want of memory.
+pub fn cut_vertex(alloc: Global, map: &HalfMap) -> Result<Option<VertexId>, AllocError>
+    ensures { IfOk result (λ found. MatchOption found ((v : ℕ) → ¬ IsCutVertex map.now.lists v) (λ v. IsLeastCutVertex map.now.lists v.0)) }
+{
+    map.facts();
+    let lists = map.rotations(alloc)?;
+    match list_cut_vertex(alloc, &lists)? {
+        Some(v) => Ok(Some(VertexId(v))),
+        None => Ok(None),
+    }
+}

@@ -1,0 +1,10 @@
+//! Depth-first search over lists in which adjacency goes both ways, in time linear in their entries.
+//!
+//! The search keeps no stack: the way back from a vertex is its parent.
+
+mod forest;
+mod lows;
+mod steps;
+
+pub use forest::{Forest, search_forest, search_forest_along};
+pub use lows::low_points;

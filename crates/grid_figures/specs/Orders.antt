@@ -1,0 +1,24 @@
+-- A record as a completed map with a canonical order.
+use Rattle.std.specs.Prelude.{ℕ, ◌<◌, ◌≡◌, [], length, slice_index}
+use Rattle.map_lists.specs.Lists.{Lists}
+use Rattle.map_theory.specs.Maps.{HasDart, IsSimpleMap, list_of}
+use Rattle.plane_laws.specs.Completed.{IsCompleted}
+use Rattle.plane_laws.specs.MapEditsCompleted.{IsExtended}
+use Rattle.canon_order.specs.Orders.{IsCanonicalOrder, IsRankOf, vertices_of}
+use Rattle.grid_figures.specs.declared.drawing_orders.order.DrawingOrder.{DrawingOrder}
+
+-- The base for the map of `lists` in its completion `more` goes from vertex 0 to the first entry of its list there, or to its least neighbour in the completion where the list is empty.
+pub record IsBaseTo (lists more : Lists) (to : ℕ) : Type 0 where
+  pub dart : HasDart more 0 to
+  pub first : 0 < length (list_of lists 0) → to ≡ slice_index (list_of lists 0) 0
+  pub least : list_of lists 0 ≡ [] → (u : ℕ) → u < to → ¬ HasDart more 0 u
+
+-- A completion of the simple map of these lists, with a canonical order of it for such a base.
+pub record IsDrawingOrder (lists : Lists) (found : DrawingOrder) : Type 0 where
+  pub simple : IsSimpleMap lists
+  pub completed : IsCompleted found.tri.lists
+  pub extended : IsExtended lists found.tri.lists
+  pub to : ℕ
+  pub base : IsBaseTo lists found.tri.lists to
+  pub canonical : IsCanonicalOrder found.tri.lists (0, to) (vertices_of found.order)
+  pub rank : IsRankOf found.order.rank (vertices_of found.order)

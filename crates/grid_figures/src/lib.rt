@@ -1,0 +1,7 @@
+//! The figures of the jobs shift and schnyder: the completed map, its order, the drawing, and its place in the record.
+#![tactic(auto)]
+
+pub mod drawing_orders;
+pub mod schnyder_figures;
+pub mod schnyder_grid;
+pub mod shift_figures;

@@ -1,0 +1,6 @@
+//! Drawings of completed maps by Schnyder's coordinates (1990), in linear time.
+
+mod draw;
+mod gaps;
+
+pub use draw::wood_draw;

@@ -1,0 +1,19 @@
+//! The answer of the job `shift` to a record, as a value: a figure by the shift method of de Fraysseix, Pach
+//! and Pollack (1990), or the first condition of the job that the record breaks.
+
+ghost use Rattle.grid_figures.specs.ShiftFiguresLaws.{SomeShiftFigure};
+
+mod draw;
+
+pub use draw::shift_figure;
+
+/// Each simple map of genus zero with at least three vertices has a figure.
+pub fn some_shift_figure()
+    ensures { SomeShiftFigure }
+{
+    crate::drawing_orders::some_completion();
+    crate::drawing_orders::completion_draws();
+    canon_order::some_order();
+    fpp_shift::shift_drawings::some_shift_points();
+    fpp_shift::shift_drawings::shift_points_draw();
+}

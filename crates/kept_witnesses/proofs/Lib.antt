@@ -1,3 +1,0 @@
--- What the law rests on.
-pub mod Shortened
-pub mod Kept

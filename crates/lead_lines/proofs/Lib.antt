@@ -1,5 +1,0 @@
--- Lemmas on lines of vertices over a contour.
-pub mod Ways
-pub mod Links
-pub mod Left
-pub mod Low

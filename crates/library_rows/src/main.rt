@@ -1,0 +1,41 @@
+//! Calls of the libraries, each row of standard input one call or a family of calls: what the row shows, a kind,
+//! and arguments, with `/` between them. What the row shows goes to standard output, and behind it the answer.
+//! Lines that begin with `#`, and empty ones, go there as they are.
+//!
+//! Vertices are numbered from 0. A map is written as its lists with `;` between them, as `1 2;2 0;0 1`, or as the
+//! name of a family and a number of vertices, as `wheel 300`.
+#![tactic(auto)]
+
+mod bars;
+mod completions;
+mod convex;
+mod counts;
+mod cuts;
+mod edits;
+mod graphs;
+mod lists;
+mod maps;
+mod orbits;
+mod orders;
+mod points;
+mod records;
+mod rects;
+mod refusal;
+mod rows;
+mod searches;
+mod text;
+mod texts;
+mod verdicts;
+mod witnesses;
+mod woods;
+
+use std::io::{self, Write};
+
+fn main(rt: HostRuntime) -> io::Result<()> {
+    let mut out = rt.stdout();
+    for line in rt.lines(rt.alloc()) {
+        let told = rows::answer(rt.alloc(), line?.as_str())?;
+        out.write_all(told.as_bytes())?;
+    }
+    out.flush()
+}

@@ -1,2 +1,0 @@
--- Witnesses changed.
-pub mod Changes

@@ -1,0 +1,17 @@
+-- Lemmas on how an input of figures is read.
+pub mod MoreLemmas
+pub mod ItemLemmas
+pub mod FigureLinesLineLemmas
+pub mod FigureLinesPartLemmas
+pub mod FigureLinesReadLemmas
+pub mod FigureLinesUniqueLemmas
+pub mod ToldLemmas
+pub mod ReadsLemmas
+mod FigureLinesRefused
+-- Lemmas on inputs of lines.
+pub mod HeaderLemmas
+pub mod GraphLinesLineLemmas
+pub mod GraphLinesReadLemmas
+pub mod GraphLinesUniqueLemmas
+pub mod GraphLinesPartLemmas
+mod GraphLinesRefused

@@ -1,0 +1,17 @@
+//! The figures of an input, read piece by piece: closed lines are judged one by one, as lines of figures and as
+//! notes between them.
+//!
+//! `FigureReader` takes pieces of bytes, and answers each figure as its last line is closed. It keeps the open
+//! line and what the lines of a figure have given, and looks at no byte twice.
+
+mod begun;
+mod ending;
+mod head;
+mod held;
+pub mod laws;
+mod part;
+mod reader;
+mod step;
+
+pub use ending::Ending;
+pub use reader::FigureReader;

@@ -1,0 +1,53 @@
+//! What the first line of a figure says.
+ghost use Rattle.std.specs.Prelude.{◌≡◌, Some, IfOk};
+ghost use Rattle.figure_text.specs.Lines.{TailInRange};
+ghost use Rattle.line_inputs.specs.Heads.{head_kind, HasGraph};
+
+use figure_text::{GridJob, Kind, front_graph};
+use graph6_text::Graph;
+use kuratowski::Kind as Subdivided;
+use std::alloc::{AllocError, Global};
+
+/// What the first line of a figure says besides numbers.
+#[derive(Drop)]
+pub enum Head {
+    /// A straight-line drawing, made so.
+    Grid(GridJob),
+    /// A visibility drawing.
+    Bars,
+    /// A rectangular dual.
+    Rects,
+    /// A subdivision of this graph, in that one.
+    Witness(Subdivided, Graph),
+}
+
+impl Head {
+    /// The kind of the figure.
+    pub fn kind(&self) -> Kind
+        ensures { result ≡ head_kind self.now }
+    {
+        match self {
+            Head::Grid(job) => Kind::Grid(*job),
+            Head::Bars => Kind::Bars,
+            Head::Rects => Kind::Rects,
+            Head::Witness(kind, _) => Kind::Witness(*kind),
+        }
+    }
+}
+
+/// What a first line says of a figure of this kind. It is given without the byte 10 that closes it.
+pub fn head_of(alloc: Global, kind: Kind, line: &[u8]) -> Result<Head, AllocError>
+    requires { TailInRange (Some kind) line.now }
+    ensures kind { IfOk result (λ head. head_kind head ≡ kind) }
+    ensures graph { IfOk result (λ head. HasGraph head line.now) }
+{
+    match kind {
+        Kind::Grid(job) => Ok(Head::Grid(job)),
+        Kind::Bars => Ok(Head::Bars),
+        Kind::Rects => Ok(Head::Rects),
+        Kind::Witness(subdivided) => {
+            let graph = front_graph(alloc, line)?;
+            Ok(Head::Witness(subdivided, graph))
+        }
+    }
+}

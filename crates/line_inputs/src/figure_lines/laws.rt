@@ -1,0 +1,18 @@
+//! Laws on how inputs of figures are read, each the contract of a function that does nothing.
+ghost use Rattle.line_inputs.specs.FigureLinesLaws.{OneReading, EachInputIsRead, ConsumedIsRead};
+
+/// Each input is read in one way at most: two readings of it have the same figures, in the same order, and
+/// the same ending.
+pub fn one_reading()
+    ensures { OneReading }
+{}
+
+/// Each input is read in one way at least: whatever its bytes are, it has figures and an ending.
+pub fn each_input_is_read()
+    ensures { EachInputIsRead }
+{}
+
+/// What a reader has consumed is read as the figures that it has answered, and ends as the reader says.
+pub fn consumed_is_read()
+    ensures { ConsumedIsRead }
+{}

@@ -1,0 +1,224 @@
+//! What a closed line does to what has come before it.
+ghost use Rattle.std.specs.Prelude.{◌≡◌, ◌+◌, ◌<◌, ◌≤◌, ◌++◌, ◌∷◌, [], List, ℕ, length, IfOk};
+ghost use Rattle.record_runs.specs.Texts.{input_limit};
+ghost use Rattle.line_inputs.specs.Given.{IsGiven, AreDrawn};
+ghost use Rattle.line_inputs.specs.Steps.{IsFresh, IsGrown};
+ghost use Rattle.line_inputs.specs.FigureLinesProgress.{Progress, Closes, IsWhole};
+ghost use Rattle.figure_text.specs.declared.figure.Figure.{Figure as AFigure};
+
+use crate::figure_lines::begun::{AllBars, Begun, Due, SomeRows};
+use crate::figure_lines::ending::Ending;
+use crate::figure_lines::head::{Head, head_of};
+use crate::figure_lines::held::{HeldDraft, HeldFigure};
+use figure_text::{
+    Columns, Draft, Figure, Front, Judged, Word, columns_line, draft_rects, draft_witness,
+    front_line,
+};
+use pg_plane::{BarFigure, Ints};
+use std::alloc::{AllocError, Global};
+
+/// What a closed line made of what had come before it.
+#[derive(Drop)]
+pub enum After {
+    /// The figure goes on, or none has begun.
+    Goes(Option<Begun>),
+    /// The figure is whole.
+    Whole(HeldFigure),
+    /// The input ends badly with the line.
+    Bad(Ending),
+}
+
+// A figure of which the first line has come.
+fn begun_figure(alloc: Global, head: Head, n: usize, first: u32) -> Result<Begun, AllocError>
+    requires some { 0 < n }
+    requires few { n < 4096 }
+    ensures first { IfOk result (λ begun. begun.first ≡ first) }
+    ensures due { IfOk result (λ begun. IsFresh head n begun.due) }
+{
+    let draft = HeldDraft::new(alloc)?;
+    Ok(Begun {
+        first,
+        due: Due::Row(SomeRows { head, n, draft }),
+    })
+}
+
+// What a line outside a figure makes, which has this number.
+fn after_front(alloc: Global, line: &[u8], number: u32) -> Result<After, AllocError>
+    ensures whole { IfOk result IsWhole }
+    ensures closes { (consumed : List ℕ) (figures : List AFigure) → Progress consumed figures number line.now None
+        → length consumed < input_limit → IfOk result (Closes (consumed ++ 10 ∷ []) figures number) }
+{
+    match front_line(alloc, line)? {
+        Front::Note => Ok(After::Goes(None)),
+        Front::Begins(kind, n) => {
+            let head = head_of(alloc, kind, line)?;
+            let begun = begun_figure(alloc, head, n, number)?;
+            Ok(After::Goes(Some(begun)))
+        }
+        Front::Limit(_) => Ok(After::Bad(Ending::Limit(number))),
+        Front::Bad => Ok(After::Bad(Ending::BadLine(number))),
+    }
+}
+
+// What comes of all lines of vertices, or of branches and paths.
+fn all_drawn(alloc: Global, head: Head, first: u32, draft: HeldDraft) -> Result<After, AllocError>
+    requires some { 0 < length draft.lists }
+    requires few { length draft.lists < 4096 }
+    requires drawn { AreDrawn head draft }
+    ensures whole { IfOk result IsWhole }
+    ensures grown { IfOk result (IsGrown head (length draft.lists) first draft) }
+{
+    match head {
+        Head::Grid(job) => {
+            let Draft { lists, points, .. } = draft.into_draft();
+            let held = HeldFigure::new(alloc, Figure::Grid { job, lists, points })?;
+            Ok(After::Whole(held))
+        }
+        Head::Bars => Ok(After::Goes(Some(Begun {
+            first,
+            due: Due::Columns(AllBars { draft }),
+        }))),
+        Head::Rects => {
+            let held = HeldFigure::new(alloc, draft_rects(draft.into_draft()))?;
+            Ok(After::Whole(held))
+        }
+        Head::Witness(kind, graph) => {
+            let witness = draft_witness(alloc, kind, draft.draft())?;
+            let held = HeldFigure::new(alloc, Figure::Witness { graph, witness })?;
+            Ok(After::Whole(held))
+        }
+    }
+}
+
+// What comes of some of them.
+fn grown(
+    alloc: Global,
+    head: Head,
+    n: usize,
+    first: u32,
+    draft: HeldDraft,
+) -> Result<After, AllocError>
+    requires some { 0 < n }
+    requires few { n < 4096 }
+    requires within { length draft.lists ≤ n }
+    requires drawn { AreDrawn head draft }
+    ensures whole { IfOk result IsWhole }
+    ensures grown { IfOk result (IsGrown head n first draft) }
+{
+    if draft.len() < n {
+        Ok(After::Goes(Some(Begun {
+            first,
+            due: Due::Row(SomeRows { head, n, draft }),
+        })))
+    } else {
+        all_drawn(alloc, head, first, draft)
+    }
+}
+
+// What the next line of vertices, or of branches and paths, makes of a figure.
+fn after_row(
+    alloc: Global,
+    found: &mut Vec<Word>,
+    first: u32,
+    rows: SomeRows,
+    line: &[u8],
+    number: u32,
+) -> Result<After, AllocError>
+    ensures whole { IfOk result IsWhole }
+    ensures closes { (consumed : List ℕ) (figures : List AFigure)
+        → Progress consumed figures number line.now (Some (record { first = first; due = Due.Row rows }))
+        → length consumed < input_limit → IfOk result (Closes (consumed ++ 10 ∷ []) figures number) }
+{
+    let SomeRows { head, n, mut draft } = rows;
+    let place = draft.len() + 1;
+    match draft.row(found, head.kind(), place, line) {
+        Some(Judged::Good) => {
+            let after = grown(alloc, head, n, first, draft)?;
+            Ok(after)
+        }
+        Some(Judged::Bad) => Ok(After::Bad(Ending::BadLine(number))),
+        Some(Judged::Limit) => Ok(After::Bad(Ending::Limit(number))),
+        None => Err(AllocError),
+    }
+}
+
+// Bars with these columns.
+fn with_columns(bars: AllBars, column: Ints) -> Figure
+    ensures whole { IsGiven result }
+    ensures is { result ≡ Figure.Bars bars.draft.lists (record { y = bars.draft.y; x1 = bars.draft.x1; x2 = bars.draft.x2; column = column }) }
+{
+    let AllBars { draft } = bars;
+    let Draft {
+        lists,
+        y,
+        x1,
+        x2,
+        ..
+    } = draft.into_draft();
+    Figure::Bars {
+        lists,
+        bars: BarFigure { y, x1, x2, column },
+    }
+}
+
+// What the line of the columns makes of bars.
+fn after_columns(
+    alloc: Global,
+    first: u32,
+    bars: AllBars,
+    line: &[u8],
+    number: u32,
+) -> Result<After, AllocError>
+    ensures whole { IfOk result IsWhole }
+    ensures closes { (consumed : List ℕ) (figures : List AFigure)
+        → Progress consumed figures number line.now (Some (record { first = first; due = Due.Columns bars }))
+        → length consumed < input_limit → IfOk result (Closes (consumed ++ 10 ∷ []) figures number) }
+{
+    match columns_line(alloc, line) {
+        Columns::Good(column) => {
+            let held = HeldFigure::new(alloc, with_columns(bars, column))?;
+            Ok(After::Whole(held))
+        }
+        Columns::Bad => Ok(After::Bad(Ending::BadLine(number))),
+        Columns::Limit => Ok(After::Bad(Ending::Limit(number))),
+        Columns::NoMemory => Err(AllocError),
+    }
+}
+
+// What the line that is due makes of a figure.
+fn after_due(
+    alloc: Global,
+    found: &mut Vec<Word>,
+    begun: Begun,
+    line: &[u8],
+    number: u32,
+) -> Result<After, AllocError>
+    ensures whole { IfOk result IsWhole }
+    ensures closes { (consumed : List ℕ) (figures : List AFigure) → Progress consumed figures number line.now (Some begun)
+        → length consumed < input_limit → IfOk result (Closes (consumed ++ 10 ∷ []) figures number) }
+{
+    let Begun { first, due } = begun;
+    match due {
+        Due::Row(rows) => after_row(alloc, found, first, rows, line, number),
+        Due::Columns(bars) => after_columns(alloc, first, bars, line, number),
+    }
+}
+
+/// What a closed line makes of what has come before it. It has the number `number`, and is given without the
+/// byte 10 that closes it. The vector is for the words of the line, and keeps its memory for those of the next.
+pub fn after_line(
+    alloc: Global,
+    found: &mut Vec<Word>,
+    before: Option<Begun>,
+    line: &[u8],
+    number: u32,
+) -> Result<After, AllocError>
+    ensures whole { IfOk result IsWhole }
+    ensures closes { (consumed : List ℕ) (figures : List AFigure) → Progress consumed figures number line.now before
+        → length consumed < input_limit → IfOk result (Closes (consumed ++ 10 ∷ []) figures number) }
+{
+    match before {
+        Some(begun) => after_due(alloc, found, begun, line, number),
+        None => after_front(alloc, line, number),
+    }
+}

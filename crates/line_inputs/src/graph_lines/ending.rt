@@ -1,0 +1,14 @@
+//! How an input of lines ends.
+
+/// How an input of graph6 lines ends.
+#[derive(Clone, Copy, PartialEq, Eq)]
+pub enum Ending {
+    /// Behind a closed line, or with nothing.
+    Well,
+    /// At a line that is that of no graph, or is not closed.
+    BadLine(u32),
+    /// At the line of a graph with too many vertices.
+    Limit(u32),
+    /// Not within the bytes that are read.
+    TooLong,
+}

@@ -1,0 +1,108 @@
+//! A part of a piece, up to the end of a line.
+ghost use Rattle.std.specs.Prelude.{◌≡◌, ◌+◌, ◌<◌, ◌≤◌, ◌++◌, ◌∷◌, [], List, ℕ, length, drop, IfOk, OnOk, OnErr, Bool, ◌↔◌, IsTrue};
+ghost use Rattle.record_runs.specs.Texts.{input_limit};
+ghost use Rattle.graph6_text.specs.Graphs.{EdgeGraph};
+ghost use Rattle.graph6_text.specs.Header.{graph_header};
+ghost use Rattle.graph6_text.specs.Faults.{NamesFault, line_fault};
+ghost use Rattle.line_inputs.specs.GraphLinesProgress.{Progress, Closes, Judges, IsJudged, behind_header as line_behind};
+ghost use Rattle.line_inputs.specs.GraphLinesState.{IsLinePart, TakesLine};
+
+use crate::graph_lines::ending::Ending;
+use figure_text::line_length;
+use graph6_text::{G6Fault, Graph, after_graph_header, read_line};
+use std::alloc::{AllocError, Global};
+
+/// What a closed line is.
+#[derive(Drop)]
+pub enum Judged {
+    /// The header.
+    Header,
+    /// The line of this graph.
+    Graph(Graph),
+    /// The input ends badly with it.
+    Bad(Ending),
+}
+
+/// What a part of a piece made of the open line.
+#[derive(Drop)]
+pub enum Line {
+    /// It is open still, and the whole part joined it.
+    Open,
+    /// It was closed by so many bytes of the part.
+    Closed(usize, Judged),
+}
+
+// Whether a line is the header.
+fn is_header(line: &[u8]) -> bool
+    ensures { IsTrue result ↔ (line.now ≡ graph_header) }
+{
+    line == b">>graph6<<".as_slice()
+}
+
+/// A line without the header, where it is the first one.
+pub fn behind_header(first: bool, line: &[u8]) -> &[u8]
+    ensures { result.now ≡ line_behind first line.now }
+{
+    if first {
+        &line[after_graph_header(line)..]
+    } else {
+        line
+    }
+}
+
+// How an input ends with a line that has this fault; without memory there is no answer.
+fn fault_ending(fault: G6Fault, number: u32) -> Option<Ending>
+    ensures { (line : List ℕ) → NamesFault line fault → Judges number line fault result }
+{
+    match fault {
+        G6Fault::TooMany(_) => Some(Ending::Limit(number)),
+        G6Fault::NoMemory => None,
+        _ => Some(Ending::BadLine(number)),
+    }
+}
+
+// What a line is, which is given without the header and the byte 10 that closes it.
+fn judged_graph(alloc: Global, line: &[u8], number: u32) -> Result<Judged, AllocError>
+    ensures { IfOk result (IsJudged number line.now) }
+{
+    match read_line(alloc, line) {
+        Ok(graph) => Ok(Judged::Graph(graph)),
+        Err(fault) => match fault_ending(fault, number) {
+            Some(ending) => Ok(Judged::Bad(ending)),
+            None => Err(AllocError),
+        },
+    }
+}
+
+// What a closed line is, which is given without the byte 10 that closes it.
+fn judged_line(alloc: Global, line: &[u8], first: bool, number: u32) -> Result<Judged, AllocError>
+    ensures { (consumed : List ℕ) (graphs : List EdgeGraph) → Progress consumed graphs number first line.now
+        → length consumed < input_limit → IfOk result (Closes (consumed ++ 10 ∷ []) graphs number) }
+{
+    if first && is_header(line) {
+        return Ok(Judged::Header);
+    }
+    judged_graph(alloc, behind_header(first, line), number)
+}
+
+/// Takes a part to the end of the open line, which is then judged, or to its own end.
+pub fn take_line(
+    alloc: Global,
+    pending: &mut Vec<u8>,
+    first: bool,
+    number: u32,
+    part: &[u8],
+) -> Result<Line, AllocError>
+    ensures part { IfOk result (IsLinePart part.now) }
+    ensures takes { (consumed : List ℕ) (graphs : List EdgeGraph) → Progress consumed graphs number first pending.old.items
+        → length consumed + length part.now ≤ input_limit → IfOk result (TakesLine consumed graphs number first part.now pending.new.items) }
+{
+    let len = line_length(part);
+    pending.extend_from_slice(&part[..len])?;
+    if len == part.len() {
+        return Ok(Line::Open);
+    }
+    let judged = judged_line(alloc, pending, first, number)?;
+    pending.clear();
+    Ok(Line::Closed(len + 1, judged))
+}

@@ -1,3 +1,0 @@
--- Lemmas on lines.
-pub mod Lines
-pub mod Walks

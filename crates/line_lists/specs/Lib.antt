@@ -1,2 +1,0 @@
--- Lines in an order, as linked lists.
-pub mod Lines

@@ -1,2 +1,0 @@
--- What adjacency in a graph of lists means.
-pub mod GraphLemmas

@@ -1,2 +1,0 @@
--- The graphs of lists.
-pub mod ListGraphs

@@ -1,9 +1,0 @@
--- The graph of lists, in which the order round a vertex is not looked at.
-use Rattle.std.specs.Prelude.{length}
-use Rattle.map_lists.specs.Lists.{Lists}
-use Rattle.map_definitions.specs.Maps.{darts}
-use Rattle.graph6_text.specs.Graphs.{EdgeGraph}
-
--- it has the vertices of the lists, and an edge for each dart
-abbrev pub graph_of : Lists → EdgeGraph
-graph_of lists = record { n = length lists; edges = darts lists }

@@ -1,6 +1,0 @@
-//! The graph that lists are of, and which of its vertices are adjacent.
-#![tactic(auto)]
-
-mod adjacent;
-
-pub use adjacent::are_adjacent;

@@ -1,3 +1,0 @@
--- The lemmas on sums, and on runs over arcs.
-pub mod Sums
-mod Runs

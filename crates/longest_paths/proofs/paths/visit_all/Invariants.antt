@@ -1,6 +1,0 @@
-use Rattle.std.proofs.Common.{ℕ}
-use Rattle.longest_paths.specs.Runs.{IsAt}
-use Rattle.longest_paths.proofs.paths.visit_all.Given as goal
-
-abbrev pub invariant-loop-head : goal.invariant-loop-head
-invariant-loop-head l = (used : ℕ → ℕ) × IsAt l.arcs l.base l.head used l.number l.waiting l.queue.items

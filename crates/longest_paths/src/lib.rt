@@ -1,6 +1,0 @@
-//! Longest paths from one vertex of a directed graph in which every way ends, and its vertices in order.
-#![tactic(auto)]
-
-mod paths;
-
-pub use paths::{longest_paths, topological_order};

@@ -1,8 +1,0 @@
--- The lemmas on maps that several crates need, and the worked cases on which the definitions were run.
-mod Cases
-pub mod EntryLemmas
-pub mod DartLemmas
-pub mod DartCounts
-pub mod WithoutEntry
-pub mod EntryMore
-pub mod WithoutEdge

@@ -1,4 +1,0 @@
--- The definitions of maps, paths and lists without an edge.
-pub mod Maps
-pub mod Paths
-pub mod Edges

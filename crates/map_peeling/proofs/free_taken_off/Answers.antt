@@ -1,5 +1,0 @@
-use Rattle.map_peeling.proofs.Steps.{free_taken_off}
-use Rattle.map_peeling.proofs.free_taken_off.Goals as goal
-
-pub returns : goal.returns
-returns c = free_taken_off

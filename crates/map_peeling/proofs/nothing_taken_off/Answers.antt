@@ -1,5 +1,0 @@
-use Rattle.map_peeling.proofs.Ends.{nothing_taken_off}
-use Rattle.map_peeling.proofs.nothing_taken_off.Goals as goal
-
-pub returns : goal.returns
-returns c = nothing_taken_off

@@ -1,5 +1,0 @@
-use Rattle.map_peeling.proofs.BaseFaces.{outer_cycle_is_face}
-use Rattle.map_peeling.proofs.outer_cycle_is_face.Goals as goal
-
-pub returns : goal.returns
-returns c = outer_cycle_is_face

@@ -1,0 +1,11 @@
+-- The lemmas on maps that several crates need, and the worked cases on which the definitions were run.
+mod Cases
+pub mod EntryLemmas
+pub mod DartLemmas
+pub mod DartCounts
+pub mod WithoutEntry
+pub mod EntryMore
+pub mod WithoutEdge
+-- The darts of a map as permutations.
+pub mod Transfer
+pub mod DartPermutations

@@ -1,2 +1,0 @@
--- Lemmas on marks and counts.
-pub mod Tallies

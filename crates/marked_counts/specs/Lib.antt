@@ -1,2 +1,0 @@
--- Marks of vertices, and counts of marked neighbours.
-pub mod Tallies

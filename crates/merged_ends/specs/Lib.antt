@@ -1,2 +1,0 @@
--- Graphs with the ends of an edge merged.
-pub mod Merged

@@ -1,0 +1,42 @@
+-- Drawings of completed maps by Schnyder's coordinates.
+use Rattle.std.specs.Prelude.{ℕ, ◌-◌, ◌<◌, ◌≡◌, List, length, slice_index, pos}
+use Rattle.map_lists.specs.Lists.{Lists}
+use Rattle.map_theory.specs.Maps.{Dart, HasDart, follows}
+use Rattle.plane_laws.specs.Completed.{IsCompleted}
+use Rattle.pg_plane.specs.declared.point.Point.{Point}
+use Rattle.plane_drawings.specs.Drawing.{place, IsInGrid, IsPlaneDrawing, KeepsRotations, IsCounterclockwise}
+use Rattle.canon_order.specs.Orders.{IsCanonicalOrder}
+use Rattle.contour_runs.specs.Runs.{Step}
+use Rattle.order_drawings.specs.OrderRuns.{IsOrderRun}
+use Rattle.contour_runs.specs.Wood.{wood_points, point_of}
+
+-- The points are those of Schnyder's coordinates over a canonical order: of its run, where all vertices are placed.
+pub record AreWoodPoints (lists : Lists) (base : Dart) (at : List ℕ) (cycle : ℕ → List ℕ) (points : List Point) : Type 0 where
+  pub steps : ℕ → Step
+  pub order : IsOrderRun lists base at cycle steps
+  pub count : length points ≡ length lists
+  pub placed : (k : ℕ) → k < length at → place points (slice_index at k) ≡ point_of (wood_points steps (length at - 2)) k
+
+-- A plane drawing in the grid n - 2 by n - 2 that keeps the rotations, with the face of the base outside. Its three vertices, the roots, stand at the corners: the head of the base, root one, at (n - 2, 1), its tail, root two, at (0, n - 2), and root three at (1, 0).
+pub record IsSchnyderDrawing (lists : Lists) (base : Dart) (points : List Point) : Type 0 where
+  pub counterclockwise : IsCounterclockwise lists points base
+  pub plane : IsPlaneDrawing lists points
+  pub rotations : KeepsRotations lists points
+  pub grid : (v : ℕ) → v < length lists → IsInGrid (pos (length lists - 2)) (pos (length lists - 2)) (place points v)
+  pub root_one : place points base.1 ≡ record { x = pos (length lists - 2); y = pos 1 }
+  pub root_two : place points base.0 ≡ record { x = pos 0; y = pos (length lists - 2) }
+  pub root_three : place points (follows lists base.1 base.0) ≡ record { x = pos 1; y = pos 0 }
+
+-- Such points are such a drawing.
+abbrev pub WoodPointsDraw : Type 0
+WoodPointsDraw =
+    (lists : Lists) (base : Dart) (at : List ℕ) (points : List Point) → IsCompleted lists → HasDart lists base.0 base.1 → (order : IsCanonicalOrder lists base at) → AreWoodPoints lists base at order.cycle points → IsSchnyderDrawing lists base points
+
+-- Each canonical order has such points.
+abbrev pub SomeWoodPoints : Type 0
+SomeWoodPoints =
+    (lists : Lists) (base : Dart) (at : List ℕ) → IsCompleted lists → (order : IsCanonicalOrder lists base at) → (points : List Point) × AreWoodPoints lists base at order.cycle points
+
+-- So each completed map has such a drawing, for each base dart.
+abbrev pub SomeSchnyderDrawing : Type 0
+SomeSchnyderDrawing = (lists : Lists) (base : Dart) → IsCompleted lists → HasDart lists base.0 base.1 → (points : List Point) × IsSchnyderDrawing lists base points

@@ -1,0 +1,15 @@
+//! What methods of drawing read from a canonical order and write by it: the rows of the contour over which its
+//! vertices are put, and the points of vertices by their places in it.
+
+ghost use Rattle.order_drawings.specs.Ranks.{RanksArePlaces};
+
+mod points;
+mod rows;
+
+pub use points::points_at;
+pub use rows::order_rows;
+
+/// The ranks of an order are places of it.
+pub fn ranks_are_places()
+    ensures { RanksArePlaces }
+{}

@@ -1,0 +1,47 @@
+//! The points of vertices, by two numbers for each place of an order.
+ghost use Rattle.std.specs.Prelude.{◌≡◌, ◌<◌, ◌^◌, ℕ, length, slice_index, All, pos, IfOk};
+ghost use Rattle.order_drawings.specs.Points.{ArePointsAt};
+
+use half_edges::Counts;
+use pg_plane::{Point, Points};
+use std::alloc::{AllocError, Global};
+
+// A number as a coordinate.
+fn coordinate(number: u32) -> i32
+    requires { number < 2 ^ 20 }
+    ensures { result ≡ pos number }
+{
+    number as i32
+}
+
+// The point of the vertex of rank k.
+fn point_at(xs: &[u32], ys: &[u32], k: usize) -> Point
+    requires xs { k < length xs.now }
+    requires ys { k < length ys.now }
+    requires small { (slice_index xs.now k < 2 ^ 20) × (slice_index ys.now k < 2 ^ 20) }
+    ensures { result ≡ record { x = pos (slice_index xs.now k); y = pos (slice_index ys.now k) } }
+{
+    Point {
+        x: coordinate(xs[k]),
+        y: coordinate(ys[k]),
+    }
+}
+
+/// The points of vertices, by their ranks: each stands at the two numbers at its rank.
+pub fn points_at(
+    alloc: Global,
+    xs: &[u32],
+    ys: &[u32],
+    ranks: &Counts,
+) -> Result<Points, AllocError>
+    requires ys { length ys.now ≡ length xs.now }
+    requires ranks { All (λ k. k < length xs.now) ranks.now }
+    requires small { (k : ℕ) → k < length xs.now → (slice_index xs.now k < 2 ^ 20) × (slice_index ys.now k < 2 ^ 20) }
+    ensures { IfOk result (λ points. ArePointsAt xs.now ys.now ranks.now points) }
+{
+    let mut points = Points::new(alloc);
+    for v in 0..ranks.len() {
+        points.push(point_at(xs, ys, ranks.get(v) as usize))?;
+    }
+    Ok(points)
+}

@@ -1,0 +1,159 @@
+//! The rows of the contour over which the vertices of an order are put, by their lists.
+ghost use Rattle.std.specs.Prelude.{◌≡◌, ◌<◌, ◌≤◌, ◌+◌, ◌^◌, ◌↔◌, ℕ, List, [], length, map, slice_index, All, IsTrue, IfOk};
+ghost use Rattle.map_theory.specs.Maps.{Dart, list_of};
+ghost use Rattle.plane_laws.specs.Completed.{IsCompleted};
+ghost use Rattle.canon_order.specs.Orders.{IsCanonicalOrder, IsRankOf, vertices_of};
+ghost use Rattle.order_drawings.specs.Rows.{place_before, place_after, rank_at, IsFirstPlace, IsLastPlace, IsRowIn, AreRanked, OrderRows, AreRowsOf};
+
+use canon_order::Order;
+use half_edges::{Counts, HalfMap, Rotations, VertexList};
+use std::alloc::{AllocError, Global};
+
+// The place before a place of a list of n, cyclically.
+fn before(n: usize, i: usize) -> usize
+    requires { i < n }
+    ensures place { result ≡ place_before n i }
+    ensures within { result < n }
+{
+    if i == 0 { n - 1 } else { i - 1 }
+}
+
+// The place after it.
+fn after(n: usize, i: usize) -> usize
+    requires { i < n }
+    ensures place { result ≡ place_after n i }
+    ensures within { result < n }
+{
+    if i + 1 < n { i + 1 } else { 0 }
+}
+
+// The rank of an entry.
+fn entry_rank(list: &[u16], ranks: &Counts, i: usize) -> u32
+    requires place { i < length list.now }
+    requires vertices { All (λ u. u < length ranks.now) list.now }
+    ensures { result ≡ rank_at list.now ranks.now i }
+{
+    ranks.get(list[i] as usize)
+}
+
+// Whether the row of the vertex of rank k begins at a place of its list.
+fn is_first(list: &[u16], ranks: &Counts, k: u32, i: usize) -> bool
+    requires place { i < length list.now }
+    requires vertices { All (λ u. u < length ranks.now) list.now }
+    ensures { IsTrue result ↔ IsFirstPlace list.now ranks.now k i }
+{
+    let rank = entry_rank(list, ranks, i);
+    let next = entry_rank(list, ranks, after(list.len(), i));
+    rank < k && (rank == 0 || k <= next)
+}
+
+// Whether it ends there.
+fn is_last(list: &[u16], ranks: &Counts, k: u32, i: usize) -> bool
+    requires place { i < length list.now }
+    requires vertices { All (λ u. u < length ranks.now) list.now }
+    ensures { IsTrue result ↔ IsLastPlace list.now ranks.now k i }
+{
+    let rank = entry_rank(list, ranks, i);
+    let next = entry_rank(list, ranks, before(list.len(), i));
+    rank == 1 || k <= next
+}
+
+// Where it begins.
+fn first_place(list: &[u16], ranks: &Counts, k: u32) -> usize
+    requires some { 0 < length list.now }
+    requires vertices { All (λ u. u < length ranks.now) list.now }
+    ensures place { (start : ℕ) (us : List ℕ) → IsRowIn list.now ranks.now k start us → result ≡ start }
+    ensures within { result < length list.now }
+{
+    for i in 0..list.len() {
+        if is_first(list, ranks, k, i) {
+            return i;
+        }
+    }
+    0
+}
+
+// The ranks of a row, which goes backwards in the list of its vertex.
+fn fill_row(
+    row: &mut Vec<u16>,
+    list: &[u16],
+    ranks: &Counts,
+    k: u32,
+    start: usize,
+) -> Result<(), AllocError>
+    requires empty { row.old.items ≡ [] }
+    requires start { start < length list.now }
+    requires vertices { All (λ u. u < length ranks.now) list.now }
+    requires few { (u : ℕ) → slice_index ranks.now u < 2 ^ 16 }
+    ensures { IfOk result (λ _. (us : List ℕ) → IsRowIn list.now ranks.now k start us → row.new.items ≡ map (slice_index ranks.now) us) }
+{
+    let mut i = start;
+    for _count in 0..list.len() {
+        row.push(entry_rank(list, ranks, i) as u16)?;
+        if is_last(list, ranks, k, i) {
+            return Ok(());
+        }
+        i = before(list.len(), i);
+    }
+    Ok(())
+}
+
+// The row of a vertex of a canonical order stands in its list, and is that of a step of the order's run.
+fn order_has_rows()
+    ensures { OrderRows }
+{
+    canon_order::run_ends();
+}
+
+// The rows in lists, from that of the third vertex of an order on.
+fn listed_rows(
+    alloc: Global,
+    lists: &Rotations,
+    at: &VertexList,
+    ranks: &Counts,
+) -> Result<Rotations, AllocError>
+    requires many { 2 ≤ length at.now }
+    requires size { length at.now < 4096 }
+    requires at { All (λ v. v.0 < length lists.now) at.now }
+    requires some { (k : ℕ) → 2 ≤ k → k < length at.now → 0 < length (list_of lists.now (slice_index (map (λ v. v.0) at.now) k)) }
+    requires vertices { (v : ℕ) → v < length lists.now → All (λ u. u < length ranks.now) (list_of lists.now v) }
+    requires few { (u : ℕ) → slice_index ranks.now u < 2 ^ 16 }
+    ensures count { IfOk result (λ rows. length rows + 2 ≡ length at.now) }
+    ensures rows { IfOk result (λ rows. AreRanked lists.now (map (λ v. v.0) at.now) ranks.now rows) }
+{
+    let mut rows = Rotations::new(alloc);
+    let mut row = Vec::new(alloc);
+    for k in 2..at.len() {
+        let list = lists.list(at.get(k).0 as usize);
+        row.clear();
+        fill_row(
+            &mut row,
+            list,
+            ranks,
+            k as u32,
+            first_place(list, ranks, k as u32),
+        )?;
+        rows.push(&row)?;
+    }
+    Ok(rows)
+}
+
+/// The rows of the contour over which the vertices of a canonical order of a completed map are put, from that
+/// of its third vertex on. Each names the vertices by their ranks, from the first one under the new vertex to
+/// the last one.
+///
+/// It fails only for want of memory. The map and the order stay as they are. The time is linear in the
+/// entries of the map.
+pub fn order_rows(alloc: Global, tri: &HalfMap, order: &Order) -> Result<Rotations, AllocError>
+    requires completed { IsCompleted tri.now.lists }
+    requires order { (base : Dart) × IsCanonicalOrder tri.now.lists base (vertices_of order.now) }
+    requires rank { IsRankOf order.now.rank (vertices_of order.now) }
+    ensures { IfOk result (AreRowsOf tri.now.lists (vertices_of order.now)) }
+{
+    tri.facts();
+    order_has_rows();
+    crate::order_runs::order_is_run();
+    let lists = tri.rotations(alloc)?;
+    let rows = listed_rows(alloc, &lists, &order.at, &order.rank)?;
+    Ok(rows)
+}

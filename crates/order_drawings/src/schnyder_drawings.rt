@@ -1,0 +1,30 @@
+//! Completed maps drawn by Schnyder's coordinates (1990). Each law is the contract of a function that does
+//! nothing but call those on which it stands.
+
+ghost use Rattle.order_drawings.specs.SchnyderDrawings.{WoodPointsDraw, SomeWoodPoints, SomeSchnyderDrawing};
+
+/// Schnyder's coordinates over a canonical order of a completed map are a plane drawing in the grid n - 2 by
+/// n - 2 that keeps the rotations. The face of the base is outside, and its three vertices stand at the
+/// corners.
+pub fn wood_points_draw()
+    ensures { WoodPointsDraw }
+{
+    crate::run_drawings::counterclockwise_run_draws();
+}
+
+/// Each canonical order of a completed map has such points.
+pub fn some_wood_points()
+    ensures { SomeWoodPoints }
+{
+    crate::order_runs::order_is_run();
+    crate::run_drawings::points_of_order();
+}
+
+/// Each completed map has such a drawing, for each base dart.
+pub fn some_schnyder_drawing()
+    ensures { SomeSchnyderDrawing }
+{
+    canon_order::some_order();
+    some_wood_points();
+    wood_points_draw();
+}

@@ -1,3 +1,0 @@
--- The lemmas on the runs of canonical orders.
-pub mod OrderIsRun
-pub mod OrderRows

@@ -1,5 +1,0 @@
-use Rattle.order_runs.proofs.OrderIsRun.{order_is_run}
-use Rattle.order_runs.proofs.order_is_run.Goals as goal
-
-pub returns : goal.returns
-returns c = λ lists base at completed order. order_is_run lists base at completed order c.last_cycle.ensures

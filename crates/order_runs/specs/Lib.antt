@@ -1,2 +1,0 @@
--- Canonical orders as runs.
-pub mod OrderRuns

@@ -1,5 +1,0 @@
-use Rattle.order_tables.proofs.OrderRows.{order_row}
-use Rattle.order_tables.proofs.rows.order_has_rows.Goals as goal
-
-pub returns : goal.returns
-returns c = λ lists base at ranks completed order rank steps run k l. order_row lists base at ranks completed order rank steps run k l c.run_ends.ensures

@@ -1,2 +1,0 @@
--- The lemmas on woods of orders.
-pub mod WoodLemmas

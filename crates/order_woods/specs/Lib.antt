@@ -1,2 +1,0 @@
--- Schnyder's wood of a canonical order.
-pub mod Woods

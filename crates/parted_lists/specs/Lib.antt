@@ -1,2 +1,0 @@
--- What parts vertices.
-pub mod Parted

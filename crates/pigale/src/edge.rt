@@ -1,0 +1,60 @@
+//! What the program decides at its edges: which words it was given, and with which number it ends.
+ghost use Rattle.std.specs.Prelude.{◌≡◌, [], drop, IfOk, OnErr, IfErr, IsErr, MatchResult};
+ghost use Rattle.std.specs.Vec.Iter.{into_iter_items};
+ghost use Rattle.std.specs.IoError.{error_kind};
+ghost use Rattle.std.specs.Process.{exit_status};
+ghost use Rattle.pigale_words.specs.Status.{status_number};
+
+use pigale_shell::Status;
+use std::alloc::{AllocError, Global};
+use std::env::Args;
+use std::io::{self, ErrorKind};
+use std::process::ExitCode;
+
+// All words.
+fn all_of(alloc: Global, mut all: Args) -> Result<Vec<String>, AllocError>
+    ensures { IfOk result (λ words. words.items ≡ into_iter_items all) }
+{
+    let mut words = Vec::new(alloc);
+    'words: while let Some(word) = all.next() {
+        words.push(word)?;
+    }
+    Ok(words)
+}
+
+// All words but the first.
+fn after_first(alloc: Global, mut all: Args) -> Result<Vec<String>, AllocError>
+    ensures { IfOk result (λ words. words.items ≡ drop 1 (into_iter_items all)) }
+{
+    match all.next() {
+        None => Ok(Vec::new(alloc)),
+        Some(_) => all_of(alloc, all),
+    }
+}
+
+/// The words after the program's name, by what the system reports of its arguments: none where one of
+/// them is not UTF-8, since the words are then bad. It fails only for want of memory.
+pub fn words_of(alloc: Global, args: io::Result<Args>) -> Result<Vec<String>, AllocError>
+    ensures words { IfOk result (λ words. MatchResult args
+        (λ all. words.items ≡ drop 1 (into_iter_items all)) (λ _. words.items ≡ [])) }
+    ensures no_memory { OnErr result (IfErr args (λ error. error_kind error ≡ ErrorKind.OutOfMemory)) }
+    ensures only { IfErr args (λ error. error_kind error ≡ ErrorKind.OutOfMemory → IsErr result) }
+{
+    match args {
+        Ok(all) => after_first(alloc, all),
+        Err(error) => {
+            if error.kind() == ErrorKind::OutOfMemory {
+                Err(AllocError)
+            } else {
+                Ok(Vec::new(alloc))
+            }
+        }
+    }
+}
+
+/// The number of a status, as the program hands it to the system.
+pub fn exit_code(status: Status) -> ExitCode
+    ensures { exit_status result ≡ status_number status }
+{
+    ExitCode::from(status.number())
+}

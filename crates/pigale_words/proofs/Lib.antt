@@ -1,0 +1,5 @@
+-- Lemmas on words and numbers.
+mod NumberLemmas
+mod SizeLemmas
+mod WordLemmas
+mod CountWords

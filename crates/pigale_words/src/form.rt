@@ -1,0 +1,10 @@
+//! In which form a job writes.
+
+/// How a job that draws writes its figures.
+#[derive(Clone, Copy, PartialEq, Eq)]
+pub enum Form {
+    /// As lines of text.
+    Text,
+    /// As SVG, and all other lines as comments.
+    Svg,
+}

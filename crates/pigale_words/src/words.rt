@@ -1,0 +1,234 @@
+//! The words of the program, as clap reads them.
+ghost use Rattle.std.specs.Prelude.{◌≡◌, ◌≢◌, ◌<◌, map, is_some, option_map, IfOk, IfSome, MatchResult, Some, codes, string_bytes};
+ghost use Rattle.clap.specs.Matches.{found_of};
+ghost use Rattle.clap.specs.Values.{kind_of};
+ghost use Rattle.clap.specs.Walk.{first_of, rows_of};
+ghost use Rattle.clap.specs.Simple.{app_of};
+ghost use Rattle.pigale_words.specs.Words.{command as the_command, given, given_in, has_option as gives_option, has_number as gives_number, form_of as form_by, form_given as form_from, drawing_named, number_given as number_by, gen_of, gen_given as gen_by, job_given as job_by};
+ghost use Rattle.pigale_words.specs.Words.{job_of, CountWords};
+ghost use Rattle.pigale_words.specs.Status.{RefusesWords};
+ghost use Rattle.pigale_words.specs.Jobs.{HasSize};
+
+use super::form::Form;
+use super::job::{Job, WordFault};
+use super::numbers::number_in;
+use clap::error::ErrorKind;
+use clap::{Arg, ArgMatches, Command, Error};
+use std::alloc::{AllocError, Global};
+
+// The job's word, and the options of all jobs, each with one text.
+fn command<'a>(alloc: Global) -> Result<Command<'a>, AllocError>
+    ensures { IfOk result (λ r. app_of r ≡ the_command) }
+{
+    let job = Arg::new(alloc, "job");
+    let form = Arg::new(alloc, "form").long("form");
+    let size = Arg::new(alloc, "size").long("size");
+    let number = Arg::new(alloc, "number").long("number");
+    Command::new(alloc, "pigale")
+        .no_binary_name(true)
+        .disable_help_flag(true)
+        .arg(job)?
+        .arg(form)?
+        .arg(size)?
+        .arg(number)
+}
+
+// What clap refuses words for.
+fn fault_of(error: &Error) -> WordFault
+    ensures { result ≡ WordFault.BadWords → kind_of error.now ≢ ErrorKind.OutOfMemory }
+{
+    if error.kind() == ErrorKind::OutOfMemory {
+        WordFault::NoMemory
+    } else {
+        WordFault::BadWords
+    }
+}
+
+// What the words give.
+fn matches_of<'a>(alloc: Global, words: &'a [String]) -> Result<ArgMatches<'a>, WordFault>
+    ensures { MatchResult result
+        (λ matches. given (map string_bytes words.entry.now) ≡ Some (given_in (rows_of (found_of matches))))
+        (RefusesWords (given (map string_bytes words.entry.now))) }
+{
+    let Ok(command) = command(alloc) else {
+        return Err(WordFault::NoMemory);
+    };
+    match command.try_get_matches_from(words) {
+        Ok(matches) => Ok(matches),
+        Err(error) => Err(fault_of(&error)),
+    }
+}
+
+// The text that the words give for an argument.
+fn text_of<'a>(matches: &ArgMatches<'a>, id: &str) -> Option<&'a str>
+    ensures { option_map (λ text. text.now) result ≡ first_of id.now (rows_of (found_of matches.now)) }
+{
+    matches.get_str(id)
+}
+
+// Whether the words give one.
+fn is_given(matches: &ArgMatches, id: &str) -> bool
+    ensures { result ≡ is_some (first_of id.now (rows_of (found_of matches.now))) }
+{
+    match text_of(matches, id) {
+        Some(_) => true,
+        None => false,
+    }
+}
+
+// Whether they give an option.
+fn has_option(matches: &ArgMatches) -> bool
+    ensures { result ≡ gives_option (given_in (rows_of (found_of matches.now))) }
+{
+    is_given(matches, "form") || is_given(matches, "size") || is_given(matches, "number")
+}
+
+// Whether they give an option that no job that draws has.
+fn has_number(matches: &ArgMatches) -> bool
+    ensures { result ≡ gives_number (given_in (rows_of (found_of matches.now))) }
+{
+    is_given(matches, "size") || is_given(matches, "number")
+}
+
+// The form with this name.
+fn form_named(name: &str) -> Option<Form>
+    ensures { result ≡ form_by (Some name.now) }
+{
+    if name == "text" {
+        Some(Form::Text)
+    } else if name == "svg" {
+        Some(Form::Svg)
+    } else {
+        None
+    }
+}
+
+// The form that the words name; text where they name none.
+fn form_of(matches: &ArgMatches) -> Option<Form>
+    ensures { result ≡ form_by (first_of (codes "form") (rows_of (found_of matches.now))) }
+{
+    match text_of(matches, "form") {
+        Some(name) => form_named(name),
+        None => Some(Form::Text),
+    }
+}
+
+// The form of a job that draws, where the words give no option that it does not have.
+fn form_given(matches: &ArgMatches) -> Option<Form>
+    ensures { result ≡ form_from (given_in (rows_of (found_of matches.now))) }
+{
+    if has_number(matches) {
+        None
+    } else {
+        form_of(matches)
+    }
+}
+
+// The job that draws with this word, in a form.
+fn drawing_job(word: &str, form: Form) -> Option<Job>
+    ensures { result ≡ drawing_named word.now form }
+{
+    if word == "shift" {
+        Some(Job::Shift(form))
+    } else if word == "schnyder" {
+        Some(Job::Schnyder(form))
+    } else if word == "bars" {
+        Some(Job::Bars(form))
+    } else if word == "convex" {
+        Some(Job::Convex(form))
+    } else if word == "rect" {
+        Some(Job::Rect(form))
+    } else if word == "embed" {
+        Some(Job::Embed(form))
+    } else {
+        None
+    }
+}
+
+// The number from `least` to `most` that an option gives.
+fn number_given(matches: &ArgMatches, id: &str, least: u32, most: u32) -> Option<u32>
+    ensures { result ≡ number_by least most (first_of id.now (rows_of (found_of matches.now))) }
+{
+    match text_of(matches, id) {
+        Some(text) => number_in(text.as_bytes(), least, most),
+        None => None,
+    }
+}
+
+// The job that makes a map of so many vertices from a number.
+fn gen_job(size: Option<u32>, number: Option<u32>) -> Option<Job>
+    requires { IfSome size (λ size. size < 4096) }
+    ensures { result ≡ gen_of size number }
+{
+    match size {
+        Some(size) => match number {
+            Some(number) => Some(Job::Gen(size as u16, number)),
+            None => None,
+        },
+        None => None,
+    }
+}
+
+// The same, by the texts of its options.
+fn gen_given(matches: &ArgMatches) -> Option<Job>
+    ensures { result ≡ gen_by (given_in (rows_of (found_of matches.now))) }
+{
+    if is_given(matches, "form") {
+        return None;
+    }
+    let size = number_given(matches, "size", 3, 4095);
+    let number = number_given(matches, "number", 0, u32::MAX);
+    gen_job(size, number)
+}
+
+// The job that the words ask for: none where there is no such job, or an option that it does not have.
+fn job_given(matches: &ArgMatches) -> Option<Job>
+    ensures { result ≡ job_by (given_in (rows_of (found_of matches.now))) }
+{
+    match text_of(matches, "job") {
+        Some(word) => {
+            if word == "count" && !has_option(matches) {
+                Some(Job::Count)
+            } else if word == "gen" {
+                gen_given(matches)
+            } else if word == "verify" && !has_option(matches) {
+                Some(Job::Verify)
+            } else {
+                match form_given(matches) {
+                    Some(form) => drawing_job(word, form),
+                    None => None,
+                }
+            }
+        }
+        None => None,
+    }
+}
+
+/// The job of the words after the program's name.
+///
+/// clap reads them as a command with one positional, the job's word, and the options `--form`, `--size`
+/// and `--number`, each with one text, which may follow as the next word or behind a `=`. `count` is the
+/// job `Count` and has none of these options; `shift`, `schnyder`, `bars`, `convex`, `rect` and `embed` are the jobs
+/// `Shift`, `Schnyder`, `Bars`, `Convex`, `Rect` and `Embed` and have the first, of which the text is `text` or `svg`;
+/// `gen` is the job `Gen` and has the other two,
+/// which it wants: a size from 3 to 4095 and a number from 0 to 4294967295, both in decimal; `verify` is
+/// the job `Verify` and has none. `BadWords` comes exactly where the words are those of no
+/// job: where clap refuses them, where there is no such job, and where an option is there that the job
+/// does not have.
+pub fn words_to_job(alloc: Global, words: &[String]) -> Result<Job, WordFault>
+    ensures job { MatchResult result
+        (λ job. job_of (map string_bytes words.now) ≡ Some job)
+        (RefusesWords (job_of (map string_bytes words.now))) }
+    ensures sized { IfOk result HasSize }
+{
+    let matches = matches_of(alloc, words)?;
+    match job_given(&matches) {
+        Some(job) => Ok(job),
+        None => Err(WordFault::BadWords),
+    }
+}
+
+/// A law: the words of `count` are that word, alone or with `--` before or behind it, and no others.
+pub fn count_words()
+    ensures { CountWords }
+{}

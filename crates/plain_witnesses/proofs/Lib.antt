@@ -1,2 +1,0 @@
--- What the search rests on.
-pub mod Plain

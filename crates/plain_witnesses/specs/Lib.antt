@@ -1,2 +1,0 @@
--- Witnesses all of whose paths are single edges.
-pub mod Plain

@@ -1,8 +1,0 @@
-//! K5 and K3,3 as parts of graphs.
-#![tactic(auto)]
-
-mod numbers;
-mod search;
-mod written;
-
-pub use search::plain_witness;

@@ -1,3 +1,0 @@
--- Lemmas on records as maps in one block.
-pub mod RefusalLemmas
-mod Cases

@@ -1,3 +1,0 @@
--- Records as connected maps of genus zero without cut vertices.
-pub mod Blocks
-pub mod Laws

@@ -1,0 +1,20 @@
+-- The lemmas on drawings.
+mod DrawingsCases
+pub mod ByDarts
+pub mod OfLists
+-- The lemmas on sweeps.
+mod PlaneSweepCases
+pub mod Order
+pub mod Areas
+pub mod Pairs
+pub mod Stacks
+pub mod Kept
+pub mod Done
+-- Lemmas of the sweep.
+mod ListLemmas
+mod FreshLemmas
+mod LineLemmas
+mod StepLemmas
+mod SweepLemmas
+mod TopLemmas
+mod Refused

@@ -1,0 +1,11 @@
+//! Drawings of maps by points: what it means that one is plane, keeps the rotations and is counterclockwise,
+//! and the law that counterclockwise faces of a completed map are a plane drawing.
+
+ghost use Rattle.plane_drawings.specs.DrawingsLaw.{CounterclockwiseIsPlane};
+
+/// In a map of genus zero with at least three vertices and 3n - 6 edges, a drawing in which each face is
+/// walked counterclockwise but that of a base dart, which is walked clockwise, is plane and keeps the
+/// rotations.
+pub fn counterclockwise_is_plane()
+    ensures { CounterclockwiseIsPlane }
+{}

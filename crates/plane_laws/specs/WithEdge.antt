@@ -1,0 +1,60 @@
+-- Lists with an edge more.
+use Rattle.std.specs.Prelude.{ℕ, ◌+◌, ◌<◌, ◌≤◌, ◌≡◌, ◌≢◌, ◌⊎◌, List, length, slice_set, slice_index_or, insert}
+use Rattle.map_lists.specs.Lists.{Lists}
+use Rattle.map_theory.specs.Maps.{HasDart, IsSimpleMap, IsPlane, list_of, follows, place_of}
+use Rattle.map_theory.specs.Edges.{without_edge}
+use Rattle.map_theory.specs.Paths.{SameFace}
+use Rattle.plane_laws.specs.Laws.{SameComponent}
+use Rattle.plane_laws.specs.Added.{IsSplitFace, IsJoinedFaces}
+
+-- the lists with an edge between u and v more: v is put in at place i of u's list, and u at place j of v's
+abbrev pub with_edge_at : Lists → ℕ → ℕ → ℕ → ℕ → Lists
+with_edge_at lists u i v j =
+    slice_set (slice_set lists u (insert (list_of lists u) i v)) v (insert (list_of lists v) j u)
+
+-- what x comes before, put in at place i of a list, cyclically; itself in an empty list
+abbrev pub entry_at : List ℕ → ℕ → ℕ → ℕ
+entry_at us i x = slice_index_or us i (slice_index_or us 0 x)
+
+-- It is a simple map with the edge and all that was there, and the old one without it; at both ends the new entry comes before what stood at its place.
+pub record IsEdgeMore (old new : Lists) (u i v j : ℕ) : Type 0 where
+  pub simple : IsSimpleMap new
+  pub edge : HasDart new u v
+  pub kept : (w z : ℕ) → HasDart old w z → HasDart new w z
+  pub only : (w z : ℕ) → HasDart new w z → HasDart old w z ⊎ (((w ≡ u) × (z ≡ v)) ⊎ ((w ≡ v) × (z ≡ u)))
+  pub without : without_edge new u v ≡ old
+  pub next : follows new u v ≡ entry_at (list_of old u) i v
+  pub next' : follows new v u ≡ entry_at (list_of old v) j u
+
+-- An edge may be put between any two vertices that are not adjacent, at any places.
+abbrev pub WithEdge : Type 0
+WithEdge =
+    (lists : Lists) (u i v j : ℕ) → IsSimpleMap lists → u < length lists → v < length lists → u ≢ v → ¬ HasDart lists u v → i ≤ length (list_of lists u) → j ≤ length (list_of lists v) → IsEdgeMore lists (with_edge_at lists u i v j) u i v j
+
+-- the lists with an edge more, between u and v: v is put in directly after a in u's list, and u directly after c in v's
+abbrev pub with_edge_after : Lists → ℕ → ℕ → ℕ → ℕ → Lists
+with_edge_after lists u a v c =
+    with_edge_at lists u (place_of a (list_of lists u) + 1) v (place_of c (list_of lists v) + 1)
+
+-- What follows what, with the edge: v comes between a and what followed it, and u between c and what followed it; all else is as it was.
+pub record IsPutAfter (old new : Lists) (u a v c : ℕ) : Type 0 where
+  pub turn : follows new u a ≡ v
+  pub turn' : follows new v c ≡ u
+  pub next : follows new u v ≡ follows old u a
+  pub next' : follows new v u ≡ follows old v c
+  pub other : (w z : ℕ) → HasDart old w z → (w ≡ u → z ≢ a) → (w ≡ v → z ≢ c) → follows new w z ≡ follows old w z
+
+-- An edge may be put between two corners of vertices that are not adjacent.
+abbrev pub WithEdgeAfter : Type 0
+WithEdgeAfter =
+    (lists : Lists) (u a v c : ℕ) → IsSimpleMap lists → HasDart lists u a → HasDart lists v c → u ≢ v → ¬ HasDart lists u v → IsEdgeMore lists (with_edge_after lists u a v c) u (place_of a (list_of lists u) + 1) v (place_of c (list_of lists v) + 1) × IsPutAfter lists (with_edge_after lists u a v c) u a v c
+
+-- An edge put between two corners of one face, in the words of the map before.
+abbrev pub EdgePutInFace : Type 0
+EdgePutInFace =
+    (lists : Lists) (u a v c : ℕ) → IsSimpleMap lists → IsPlane lists → HasDart lists u a → HasDart lists v c → u ≢ v → ¬ HasDart lists u v → SameFace lists (u, follows lists u a) (v, follows lists v c) → IsSimpleMap (with_edge_after lists u a v c) × IsSplitFace lists (with_edge_after lists u a v c) u v
+
+-- An edge put between two components, at any places, in the words of the map before.
+abbrev pub EdgePutBetween : Type 0
+EdgePutBetween =
+    (lists : Lists) (u i v j : ℕ) → IsSimpleMap lists → IsPlane lists → u < length lists → v < length lists → ¬ SameComponent lists u v → i ≤ length (list_of lists u) → j ≤ length (list_of lists v) → IsSimpleMap (with_edge_at lists u i v j) × IsJoinedFaces lists (with_edge_at lists u i v j) u v

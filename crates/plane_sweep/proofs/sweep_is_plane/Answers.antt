@@ -1,9 +1,0 @@
-use Rattle.std.proofs.Common.{length, arith}
-use Rattle.plane_sweep.specs.Law.{point_at}
-use Rattle.plane_sweep.proofs.Done.{swept_at, drawing_done}
-use Rattle.plane_sweep.proofs.sweep_is_plane.Goals as goal
-
-pub returns : goal.returns
-returns c = λ lists points vertex rank lines status simple ranked lines_of sweep.
-    drawing_done lists points vertex rank lines (status (length lists)) simple ranked lines_of
-    (swept_at (length lists) (point_at points vertex) ranked.in_order lines lines_of.each_line status sweep (length lists) (omega arith))

@@ -1,2 +1,0 @@
--- Rows of lists with an edge more.
-pub mod Rows

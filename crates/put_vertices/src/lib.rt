@@ -1,8 +1,0 @@
-//! Vertices put into rings of maps, as calls.
-#![tactic(auto)]
-
-mod edges;
-mod rings;
-
-pub use edges::with_edge_after;
-pub use rings::put_in_ring;

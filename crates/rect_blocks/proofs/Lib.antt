@@ -1,7 +1,0 @@
--- Lemmas on maps that have a rectangular dual.
-mod HeadLemmas
-mod Cases
-mod FrameDarts
-mod TriangleLemmas
-mod InnerLemmas
-mod RectMapLemmas

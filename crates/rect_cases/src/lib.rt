@@ -1,5 +1,0 @@
-//! Edge labellings on small cases that were worked out by hand. Tests alone.
-#![tactic(auto)]
-
-#[cfg(test)]
-mod labels;

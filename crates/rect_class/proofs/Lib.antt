@@ -1,0 +1,8 @@
+-- Lemmas on maps that have a rectangular dual.
+mod HeadLemmas
+mod Cases
+mod FrameDarts
+mod TriangleLemmas
+mod InnerLemmas
+mod RectMapLemmas
+mod Refused

@@ -1,0 +1,40 @@
+-- The laws of the class.
+use Rattle.std.proofs.Common.{◌≡◌, ◌<◌, length, ap}
+use Rattle.map_lists.specs.Lists.{Lists}
+use Rattle.simple_maps.specs.declared.fault.MapFault.TheVariants.{NoMemory}
+use Rattle.conn_parts.specs.Laws.{BlocksBreakNothing}
+use Rattle.conn_parts.specs.declared.plane_blocks.refusal.BlockRefusal.TheVariants.{Fault}
+use Rattle.rect_check.specs.Duals.{top_vertex, right_vertex, bottom_vertex}
+use Rattle.rect_class.specs.RectMaps.{IsRectMap}
+use Rattle.rect_class.specs.Refusals.{BreaksRect}
+use Rattle.rect_class.specs.Laws.{BlocksAreRectMaps}
+use Rattle.rect_class.specs.declared.refusal.RectRefusal.{RectRefusal}
+use Rattle.rect_class.specs.declared.refusal.RectRefusal.TheVariants.{Block, OuterNotQuad, NotTriangle, SeparatingTriangle, NoInner}
+use Rattle.rect_class.proofs.FrameDarts.{IsOuterCycle-quadrangle, IsOuterDart-outer}
+use Rattle.rect_class.proofs.TriangleLemmas.{HasNoSeparatingTriangle-rising}
+use Rattle.rect_class.proofs.InnerLemmas.{more-inner}
+
+pub nothing_broken : BlocksBreakNothing → (lists : Lists) (refusal : RectRefusal) → 0 < length lists → IsRectMap lists → BreaksRect lists refusal → refusal ≡ Block (Fault NoMemory)
+nothing_broken blocks lists (Block refusal) some h b = ap Block (blocks 3 lists refusal some h.block b)
+nothing_broken blocks lists OuterNotQuad some h b = absurd (b.1 h.frame)
+nothing_broken blocks lists (NotTriangle v u) some h b = let l = b.2.rest.here in absurd (l.large (h.faces v.0 u.0 l.dart l.inner))
+nothing_broken blocks lists (SeparatingTriangle x y z) some h b = absurd (h.triangles x.0 y.0 z.0 b.3.rest.rest.here)
+nothing_broken blocks lists NoInner some h b = absurd (b.4 h.inner)
+
+pub open_quadrangle : BlocksAreRectMaps
+open_quadrangle lists h =
+    let d = top_vertex lists in
+    let p = right_vertex lists in
+    let q = bottom_vertex lists in
+    let simple = h.block.simple in
+    record {
+      connected = h.block.connected;
+      more = more-inner lists simple h.frame h.inner;
+      near = record {
+        simple = simple;
+        plane = h.block.plane;
+        cycle = IsOuterCycle-quadrangle lists simple 0 d p q h.frame;
+        inner = λ x y has off. h.faces x y has (λ o. off (IsOuterDart-outer lists simple h.frame x y has o));
+      };
+      triangles = HasNoSeparatingTriangle-rising lists simple h.triangles;
+    }

@@ -1,0 +1,34 @@
+use Rattle.std.proofs.Common.{ℕ}
+use Rattle.rect_class.specs.Loops.{IsLargeDart}
+use Rattle.draw_check.proofs.LeastRounds.{IsRound-first, IsRound-later, left_of_round-later, IsRound-last}
+use Rattle.draw_check.proofs.RoundLemmas.{head_at}
+use Rattle.rect_class.proofs.HeadLemmas.{LeavesFrom-headed, IsBetter-headed}
+use Rattle.rect_class.proofs.faces.least_large_round.Goals as goal
+
+pub round-init : goal.round-init
+round-init c = IsRound-first c.args.map.now _ c.args.v.0 c.args.first.0 c.requires.first
+
+pub better-best-requires : goal.better-best-requires
+better-best-requires c = record { known = c.requires.known; dart = LeavesFrom-headed c.args.map.now c.args.v.0 c.round.d.0 c.head.result.0 c.round.invariant.dart c.head.ensures }
+
+pub round-smaller : goal.round-smaller
+round-smaller c =
+    let map = c.args.map.now in
+    let d = c.round.d.0 in
+    left_of_round-later map _ c.args.v.0 d c.requires.known _ c.better-best.result c.round.invariant _ (c.in-Some.ensures c.args.v.0 (head_at map d) c.round.invariant.dart)
+
+pub round-preserved : goal.round-preserved
+round-preserved c =
+    let map = c.args.map.now in
+    let d = c.round.d.0 in
+    let dart = c.round.invariant.dart in
+    let P : ℕ → Type 0 = IsLargeDart map.lists c.args.four.top.0 c.args.four.right.0 c.args.four.bottom.0 c.args.v.0 in
+    IsRound-later map P c.args.v.0 d c.requires.known _ _ c.round.invariant _ (c.in-Some.ensures c.args.v.0 (head_at map d) dart) (IsBetter-headed map P c.args.v.0 d c.head.result.0 _ _ dart c.head.ensures c.better-best.ensures)
+
+pub returns-in-None : goal.returns-in-None
+returns-in-None c =
+    let map = c.args.map.now in
+    let d = c.round.d.0 in
+    let dart = c.round.invariant.dart in
+    let P : ℕ → Type 0 = IsLargeDart map.lists c.args.four.top.0 c.args.four.right.0 c.args.four.bottom.0 c.args.v.0 in
+    IsRound-last map P c.args.v.0 d c.requires.known _ c.better-best.result c.round.invariant (c.in-None.ensures c.args.v.0 (head_at map d) dart) (λ x large. large.dart.1) (IsBetter-headed map P c.args.v.0 d c.head.result.0 _ _ dart c.head.ensures c.better-best.ensures)

@@ -1,2 +1,0 @@
--- Lemmas on corners of a map.
-pub mod Corners

@@ -1,2 +1,0 @@
--- Corners of a map with a rectangular order.
-pub mod Corners

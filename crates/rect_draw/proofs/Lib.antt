@@ -1,5 +1,0 @@
--- Lemmas on boxes in tables.
-pub mod Sides
-pub mod Rows
-pub mod Ranks
-pub mod Drawn

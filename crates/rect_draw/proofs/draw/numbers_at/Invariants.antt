@@ -1,5 +1,0 @@
-use Rattle.rect_draw.proofs.Ranks.{AreFirst}
-use Rattle.rect_draw.proofs.draw.numbers_at.Given as goal
-
-abbrev pub invariant-loop-v : goal.invariant-loop-v
-invariant-loop-v l = AreFirst l.numbers l.ranks l.v l.made

@@ -1,2 +1,0 @@
--- Boxes in tables, and by the ranks of vertices.
-pub mod Tables

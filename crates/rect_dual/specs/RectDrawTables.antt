@@ -1,0 +1,28 @@
+-- The sides of boxes in tables, and figures that have them.
+use Rattle.std.specs.Prelude.{ℕ, ◌+◌, ◌-◌, ◌<◌, ◌≡◌, List, ℤ, length, slice_index, pos}
+use Rattle.map_lists.specs.Lists.{Lists}
+use Rattle.map_theory.specs.Maps.{Dart}
+use Rattle.canon_order.specs.Orders.{IsCanonicalOrder}
+use Rattle.contour_runs.specs.Runs.{Step}
+use Rattle.order_drawings.specs.OrderRuns.{IsOrderRun}
+use Rattle.order_drawings.specs.Rows.{AreRows}
+use Rattle.rect_runs.specs.Boxes.{Boxes}
+use Rattle.rect_check.specs.Duals.{number_at}
+use Rattle.rect_orders.specs.Runs.{shortened}
+
+-- these are the four sides of the first m boxes
+pub record AreBoxTables (b : Boxes) (m : ℕ) (left right low high : List ℕ) : Type 0 where
+  pub left_is : (v : ℕ) → v < m → slice_index left v ≡ b.left v
+  pub right_is : (v : ℕ) → v < m → slice_index right v ≡ b.right v
+  pub low_is : (v : ℕ) → v < m → slice_index low v ≡ b.low v
+  pub high_is : (v : ℕ) → v < m → slice_index high v ≡ b.high v
+
+-- the numbers at the ranks of vertices
+pub record AreAtRanks (numbers ranks : List ℕ) (made : List ℤ) : Type 0 where
+  pub count : length made ≡ length ranks
+  pub at : (v : ℕ) → v < length ranks → number_at made v ≡ pos (slice_index numbers (slice_index ranks v))
+
+-- These are the rows of all vertices of an order but the last one, in the run that ends a place earlier.
+pub record AreLowerRowsOf (lists : Lists) (at : List ℕ) (rows : Lists) : Type 0 where
+  pub count : length rows + 3 ≡ length at
+  pub of_run : (base : Dart) (order : IsCanonicalOrder lists base at) (steps : ℕ → Step) → IsOrderRun lists base at order.cycle steps → AreRows (shortened steps (length at - 3)) rows

@@ -1,0 +1,130 @@
+//! Rectangular duals of maps.
+ghost use Rattle.std.specs.Prelude.{◌≡◌, ◌<◌, ◌≤◌, ◌^◌, ℕ, length, slice_index, Some, All, IfOk, pos};
+ghost use Rattle.map_theory.specs.Maps.{Dart, follows};
+ghost use Rattle.half_edges.specs.Map.{IsLive, dart_at};
+ghost use Rattle.plane_laws.specs.Completed.{IsCompleted};
+ghost use Rattle.canon_order.specs.Orders.{IsCanonicalOrder, IsRankOf, vertices_of};
+ghost use Rattle.rect_check.specs.Duals.{HasRects};
+ghost use Rattle.rect_orders.specs.Maps.{IsRectMap};
+ghost use Rattle.rect_orders.specs.Figures.{IsDualFor};
+ghost use Rattle.rect_dual.specs.RectDrawTables.{AreAtRanks, AreLowerRowsOf};
+
+use crate::draw::tables::{BoxTables, box_tables};
+use canon_order::Order;
+use half_edges::{Counts, DartId, HalfMap, Rotations};
+use order_drawings::order_tables::order_rows;
+use pg_plane::{Ints, RectFigure};
+use rect_orders::rect_order::{Frame, closed_map, frame_of, rect_order};
+use std::alloc::{AllocError, Global};
+
+// A number as a coordinate.
+fn coordinate(number: u32) -> i32
+    requires { number < 2 ^ 20 }
+    ensures { result ≡ pos number }
+{
+    number as i32
+}
+
+// The number at the rank of each vertex.
+fn numbers_at(alloc: Global, numbers: &[u32], ranks: &Counts) -> Result<Ints, AllocError>
+    requires ranks { All (λ k. k < length numbers.now) ranks.now }
+    requires small { (k : ℕ) → k < length numbers.now → slice_index numbers.now k < 2 ^ 20 }
+    ensures { IfOk result (AreAtRanks numbers.now ranks.now) }
+{
+    let mut made = Ints::new(alloc);
+    for v in 0..ranks.len() {
+        made.push(coordinate(numbers[ranks.get(v) as usize]))?;
+    }
+    Ok(made)
+}
+
+// Each box at its vertex.
+fn figure_at(alloc: Global, tables: &BoxTables, ranks: &Counts) -> Result<RectFigure, AllocError>
+    requires ranks { All (λ k. k < length ranks.now) ranks.now }
+    requires left { length tables.now.left.items ≡ length ranks.now }
+    requires right { length tables.now.right.items ≡ length ranks.now }
+    requires low { length tables.now.low.items ≡ length ranks.now }
+    requires high { length tables.now.high.items ≡ length ranks.now }
+    requires left_small { (k : ℕ) → k < length ranks.now → slice_index tables.now.left.items k < 2 ^ 20 }
+    requires right_small { (k : ℕ) → k < length ranks.now → slice_index tables.now.right.items k < 2 ^ 20 }
+    requires low_small { (k : ℕ) → k < length ranks.now → slice_index tables.now.low.items k < 2 ^ 20 }
+    requires high_small { (k : ℕ) → k < length ranks.now → slice_index tables.now.high.items k < 2 ^ 20 }
+    ensures x1 { IfOk result (λ fig. AreAtRanks tables.now.left.items ranks.now fig.x1) }
+    ensures x2 { IfOk result (λ fig. AreAtRanks tables.now.right.items ranks.now fig.x2) }
+    ensures y1 { IfOk result (λ fig. AreAtRanks tables.now.low.items ranks.now fig.y1) }
+    ensures y2 { IfOk result (λ fig. AreAtRanks tables.now.high.items ranks.now fig.y2) }
+{
+    let x1 = numbers_at(alloc, &tables.left, ranks)?;
+    let x2 = numbers_at(alloc, &tables.right, ranks)?;
+    let y1 = numbers_at(alloc, &tables.low, ranks)?;
+    let y2 = numbers_at(alloc, &tables.high, ranks)?;
+    Ok(RectFigure { x1, x2, y1, y2 })
+}
+
+// The rows of an order but the last one.
+fn lower_rows(alloc: Global, more: &HalfMap, order: &Order) -> Result<Rotations, AllocError>
+    requires completed { IsCompleted more.now.lists }
+    requires order { (base : Dart) × IsCanonicalOrder more.now.lists base (vertices_of order.now) }
+    requires rank { IsRankOf order.now.rank (vertices_of order.now) }
+    requires many { 5 ≤ length (vertices_of order.now) }
+    ensures { IfOk result (AreLowerRowsOf more.now.lists (vertices_of order.now)) }
+{
+    let mut rows = order_rows(alloc, more, order)?;
+    let lower = rows.len() - 1;
+    rows.truncate(lower);
+    Ok(rows)
+}
+
+// Lets a frame go.
+fn let_go(frame: Frame) {
+    let Frame {
+        left: _left,
+        top: _top,
+        right: _right,
+        bottom: _bottom,
+        inner: _inner,
+    } = frame;
+}
+
+// The dual of a map with this frame.
+fn framed(alloc: Global, map: &HalfMap, frame: &Frame) -> Result<RectFigure, AllocError>
+    requires class { IsRectMap map.now.lists frame.now.left.0 frame.now.top.0 frame.now.right.0 frame.now.bottom.0 }
+    requires inner { frame.now.inner.0 ≡ follows map.now.lists frame.now.bottom.0 frame.now.left.0 }
+    ensures rects { IfOk result (HasRects map.now.lists) }
+    ensures dual { IfOk result (IsDualFor map.now.lists frame.now.left.0 frame.now.top.0 frame.now.right.0 frame.now.bottom.0) }
+{
+    map.facts();
+    rect_orders::closed_is_completed();
+    rect_orders::rect_order_is_run();
+    order_drawings::order_runs::order_is_run();
+    order_drawings::order_tables::ranks_are_places();
+    rect_runs::rect_boxes::boxes_are_dual();
+    rect_orders::rect_duals::boxes_are_dual_of_map();
+    let more = closed_map(alloc, map, frame)?;
+    let order = rect_order(alloc, &more, frame)?;
+    let rows = lower_rows(alloc, &more, &order)?;
+    let tables = box_tables(alloc, &rows)?;
+    let figure = figure_at(alloc, &tables, &order.rank)?;
+    Ok(figure)
+}
+
+/// A rectangular dual of a map of the class of the job `rect`, whose outer face is that of the base dart: a
+/// rectangle for each vertex, which together fill one of at most n - 2 by n - 2, and of which two share a side of
+/// positive length just where their vertices are adjacent. The outer face is walked by the left, the upper, the
+/// right and the lower rectangle, of which the base dart leaves the first.
+///
+/// It fails only for want of memory, and the map stays as it is.
+///
+/// Source: Kant, He, Regular edge labeling of 4-connected plane graphs and its applications in graph drawing
+/// problems, 1997.
+pub fn rect_draw(alloc: Global, map: &HalfMap, base: DartId) -> Result<RectFigure, AllocError>
+    requires live { IsLive map.now base.0 }
+    requires class { (s : ℕ) × (d : ℕ) × (p : ℕ) × (t : ℕ) × (dart_at map.now base.0 ≡ Some (s, d)) × IsRectMap map.now.lists s d p t }
+    ensures rects { IfOk result (HasRects map.now.lists) }
+    ensures dual { IfOk result (λ figure. (s d p t : ℕ) → dart_at map.now base.0 ≡ Some (s, d) → IsRectMap map.now.lists s d p t → IsDualFor map.now.lists s d p t figure) }
+{
+    let frame = frame_of(map, base);
+    let figure = framed(alloc, map, &frame);
+    let_go(frame);
+    figure
+}

@@ -1,0 +1,6 @@
+//! The answer of the job `rect` to a record, as a value: the rectangular dual of Kant and He (1997), or the first
+//! condition of the job that the record breaks.
+
+mod draw;
+
+pub use draw::rect_figure;

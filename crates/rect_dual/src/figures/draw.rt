@@ -1,0 +1,63 @@
+//! The figure of a record, or why it has none.
+ghost use Rattle.std.specs.Prelude.{◌≡◌, ◌<◌, length, Some, IfOk, IfErr, OnOk};
+ghost use Rattle.half_edges.specs.Map.{IsLive, dart_at};
+ghost use Rattle.rect_check.specs.Duals.{top_vertex};
+ghost use Rattle.rect_class.specs.RectMaps.{IsRectMap};
+ghost use Rattle.rect_class.specs.Refusals.{BreaksRect};
+ghost use Rattle.rect_dual.specs.Figures.{IsRectFigure};
+
+use crate::draw::rect_draw;
+use conn_parts::plane_blocks::BlockRefusal;
+use half_edges::{DartId, HalfMap, MapFault, Rotations, VertexId};
+use pg_plane::RectFigure;
+use rect_class::{RectRefusal, rect_block};
+use std::alloc::{AllocError, Global};
+
+// The dart from vertex 0 to the first of its list.
+fn first_dart(map: &HalfMap) -> DartId
+    requires class { IsRectMap map.now.lists }
+    ensures live { IsLive map.now result.0 }
+    ensures first { dart_at map.now result.0 ≡ Some (0, top_vertex map.now.lists) }
+{
+    match map.first_dart(VertexId(0)) {
+        Some(d) => d,
+        None => unreachable!(),
+    }
+}
+
+// The rectangles of a map of the class.
+fn block_rects(alloc: Global, map: &HalfMap) -> Result<RectFigure, AllocError>
+    requires class { IsRectMap map.now.lists }
+    ensures { IfOk result (IsRectFigure map.now.lists) }
+{
+    rect_class::blocks_are_rect_maps();
+    rect_orders::rect_duals::dual_for_first();
+    let figure = rect_draw(alloc, map, first_dart(map))?;
+    Ok(figure)
+}
+
+/// The figure of a record with these lists, which are from 1 to 4095: a rectangle for each vertex, which together fill
+/// one of at most n - 2 by n - 2, and two of which share a side just where their vertices are adjacent. The outer face,
+/// that of the dart from vertex 0 to the first of its list, is walked by the left, the upper, the right and the lower
+/// rectangle.
+///
+/// `Err` names the first condition that the lists break, of these in this order: the four faults of a map, each
+/// with the least vertices; fewer than three vertices; a genus above zero; more than one component; a cut vertex,
+/// the least; an outer face that is no quadrangle; another that is no triangle, with its least dart; three edges that
+/// bound no face, with the least vertices; no vertex inside. Or there was not enough memory.
+///
+/// Source: Kant, He, Regular edge labeling of 4-connected plane graphs and its applications in graph drawing
+/// problems, 1997.
+pub fn rect_figure(alloc: Global, lists: &Rotations) -> Result<RectFigure, RectRefusal>
+    requires some_list { 0 < length lists.now }
+    requires few_lists { length lists.now < 4096 }
+    ensures figure { IfOk result (IsRectFigure lists.now) }
+    ensures served { OnOk result (IsRectMap lists.now) }
+    ensures refused { IfErr result (BreaksRect lists.now) }
+{
+    let map = rect_block(alloc, lists)?;
+    match block_rects(alloc, &map) {
+        Ok(figure) => Ok(figure),
+        Err(_) => Err(RectRefusal::Block(BlockRefusal::Fault(MapFault::NoMemory))),
+    }
+}

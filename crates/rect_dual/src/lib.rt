@@ -1,0 +1,15 @@
+//! Rectangular duals (Kant, He 1997): turns, numbers and sides of boxes, the drawing, the figure, and the edge labelling.
+#![tactic(auto)]
+
+pub mod draw;
+pub mod figures;
+pub mod labels;
+pub mod lead_lines;
+pub mod line_lists;
+pub mod rect_numbers;
+pub mod rect_sides;
+pub mod rect_turns;
+
+pub use draw::rect_draw;
+pub use labels::{Label, Labelling, edge_labels};
+pub use rect_check::{RectVerdict, check_rects};

@@ -1,0 +1,87 @@
+//! Things on lines that stand in an order, where a line may be put in behind any other: the lines are a linked
+//! list, and the numbers are read off it in the end. A line more moves all numbers behind it in constant time.
+
+ghost use Rattle.std.specs.Prelude.{◌≡◌, ◌<◌, ◌≤◌, ◌^◌, ℕ, suc, List, length, slice_index, slice_set, All, IfOk};
+ghost use Rattle.rect_runs.specs.Numbers.{shifted, with_new};
+ghost use Rattle.rect_dual.specs.Lines.{AreLines, AreWalked};
+
+use std::alloc::{AllocError, Global};
+
+/// Puts thing z, the next one, on the line of thing u.
+pub fn put_level(lines: &mut [u16], u: u16, z: u16)
+    requires u { u < length lines.old }
+    requires z { z < length lines.old }
+    requires within { All (λ l. l < length lines.old) lines.old }
+    ensures lines { (f : ℕ → ℕ) (q first : ℕ) (next : List ℕ) → AreLines f z q first lines.old next → u < z → AreLines (with_new z f (f u)) (suc z) q first lines.new next }
+    ensures within { All (λ l. l < length lines.old) lines.new }
+{
+    lines[z as usize] = lines[u as usize];
+}
+
+/// Puts thing z, the next one, on a line of its own, directly behind that of thing u.
+pub fn put_own(lines: &mut [u16], next: &mut [u16], u: u16, z: u16)
+    requires u { u < length lines.old }
+    requires z { z < length lines.old }
+    requires size { length next.old ≡ length lines.old }
+    requires within { All (λ l. l < length lines.old) lines.old }
+    requires next_within { All (λ l. l < length lines.old) next.old }
+    ensures lines { (f : ℕ → ℕ) (q first : ℕ) → AreLines f z q first lines.old next.old → u < z
+        → AreLines (with_new z (λ v. shifted (suc (f u)) (f v)) (suc (f u))) (suc z) (suc q) first lines.new next.new }
+    ensures within { All (λ l. l < length lines.old) lines.new }
+    ensures next_within { All (λ l. l < length lines.old) next.new }
+{
+    let line = lines[u as usize];
+    next[z as usize] = next[line as usize];
+    next[line as usize] = z;
+    lines[z as usize] = z;
+}
+
+// Writes the number of each line at its thing.
+fn walk(numbers: &mut [u32], next: &[u16], first: u16, count: usize)
+    requires first { first < length next.now }
+    requires size { length numbers.old ≡ length next.now }
+    requires few { count < 2 ^ 20 }
+    requires within { All (λ l. l < length next.now) next.now }
+    ensures { (f : ℕ → ℕ) (lines : List ℕ) → (h : AreLines f (length next.now) count first lines next.now) → (r : ℕ) × AreWalked f (length next.now) count first lines next.now h count r numbers.new }
+{
+    let mut r = first;
+    for i in 0..count {
+        numbers[r as usize] = i as u32;
+        r = next[r as usize];
+    }
+}
+
+// The number at the line of each thing.
+fn numbers_at(alloc: Global, numbers: &[u32], lines: &[u16]) -> Result<Vec<u32>, AllocError>
+    requires { All (λ l. l < length numbers.now) lines.now }
+    ensures count { IfOk result (λ made. length made.items ≡ length lines.now) }
+    ensures at { IfOk result (λ made. (v : ℕ) → v < length lines.now → slice_index made.items v ≡ slice_index numbers.now (slice_index lines.now v)) }
+{
+    let mut made = vec![in alloc; 0; lines.len()]?;
+    for v in 0..lines.len() {
+        made[v] = numbers[lines[v] as usize];
+    }
+    Ok(made)
+}
+
+/// The number of the line of each thing, in time linear in the things and the lines. It fails only for want of
+/// memory.
+pub fn line_numbers(
+    alloc: Global,
+    lines: &[u16],
+    next: &[u16],
+    first: u16,
+    count: usize,
+) -> Result<Vec<u32>, AllocError>
+    requires first { first < length lines.now }
+    requires size { length next.now ≡ length lines.now }
+    requires few { count < 2 ^ 20 }
+    requires within { All (λ l. l < length lines.now) lines.now }
+    requires next_within { All (λ l. l < length lines.now) next.now }
+    ensures count { IfOk result (λ numbers. length numbers.items ≡ length lines.now) }
+    ensures numbers { IfOk result (λ numbers. (f : ℕ → ℕ) → AreLines f (length lines.now) count first lines.now next.now → (v : ℕ) → v < length lines.now → slice_index numbers.items v ≡ f v) }
+{
+    let mut numbers = vec![in alloc; 0; lines.len()]?;
+    walk(&mut numbers, next, first, count);
+    numbers_at(alloc, &numbers, lines)
+}

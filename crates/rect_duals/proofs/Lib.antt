@@ -1,3 +1,0 @@
--- Lemmas on rectangular duals of maps.
-pub mod Renamed
-pub mod Figures

@@ -1,5 +1,0 @@
-use Rattle.rect_duals.proofs.Figures.{boxes_are_dual_of_map}
-use Rattle.rect_duals.proofs.boxes_are_dual_of_map.Goals as goal
-
-pub returns : goal.returns
-returns c = boxes_are_dual_of_map

@@ -1,2 +1,0 @@
--- Rectangular duals of maps.
-pub mod Figures

@@ -1,4 +1,0 @@
--- Lemmas on ends of edges.
-pub mod Ends
-pub mod Frame
-pub mod Rounds

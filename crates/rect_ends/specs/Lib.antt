@@ -1,3 +1,0 @@
--- Edges of a run at their ends.
-pub mod Ends
-pub mod Rounds

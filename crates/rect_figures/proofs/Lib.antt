@@ -1,1 +1,0 @@
--- Lemmas on the figures of records.

@@ -1,2 +1,0 @@
--- The figures of records by rectangular duals.
-pub mod Figures

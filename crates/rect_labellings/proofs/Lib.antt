@@ -1,5 +1,0 @@
--- Lemmas on edge labellings.
-pub mod Cyclic
-pub mod Around
-pub mod Frame
-pub mod Cases

@@ -1,2 +1,0 @@
--- Edge labellings.
-pub mod Labellings

@@ -1,4 +1,0 @@
--- Lemmas on leading vertices.
-pub mod Left
-pub mod Lower
-pub mod Room

@@ -1,2 +1,0 @@
--- Leading vertices of the contour.
-pub mod Leads

@@ -1,3 +1,0 @@
--- Lemmas on the lines of a run.
-pub mod Begin
-pub mod Rows

@@ -1,2 +1,0 @@
--- The left and the lower sides of boxes, as code fills them.
-pub mod Tables

@@ -1,5 +1,0 @@
--- Lemmas on rectangular orders as code.
-mod Notes
-mod Passing
-mod Contours
-mod Beginning

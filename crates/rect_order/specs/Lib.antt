@@ -1,3 +1,0 @@
--- What is kept of the vertices while they are taken off.
-pub mod Contours
-pub mod Frames

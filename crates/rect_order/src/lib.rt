@@ -1,9 +1,0 @@
-//! Rectangular orders: the vertices of a map in an order from which a rectangular dual can be made.
-#![tactic(auto)]
-
-mod closing;
-mod contour;
-mod order;
-
-pub use closing::{Frame, closed_map, frame_of};
-pub use order::rect_order;

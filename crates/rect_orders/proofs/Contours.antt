@@ -1,0 +1,219 @@
+-- The outer cycle as marks: how it begins, that some vertex is ready, one taken off, and how it ends.
+use Rattle.std.proofs.Common.{◌≡◌, ◌≢◌, ◌↔◌, ◌&&◌, ℕ, ◌+◌, ◌<◌, Bool, true, false, not, List, [], ◌∷◌, length, set, count_by, Contains, refl, sym, ap, ap₂, ◌∙◌, subst, inl, inr, arith, ltb, lt-ltb, ltb-true, length-set, ne_eqb}
+use Rattle.std.proofs.lemmas.Bool.{cases_eq, cases_Bool, true≢false, and_parts, and_from, and_right, not-true}
+use Rattle.map_lists.specs.Lists.{Lists}
+use Rattle.map_theory.specs.Maps.{HasDart, IsSimpleMap, list_of, follows, entry_after}
+use Rattle.plane_peeling.specs.Restricted.{restricted, kept_but}
+use Rattle.plane_peeling.specs.NearTriangulations.{IsFree}
+use Rattle.plane_peeling.proofs.RestrictedMaps.{restricted-old, restricted-new, kept_but-itself}
+use Rattle.plane_peeling.proofs.FreeCounts.{free_by_count}
+use Rattle.rect_orders.specs.Tallies.{is_set}
+use Rattle.rect_orders.proofs.Tallies.{is_set-here, is_set-other}
+use Rattle.rect_orders.specs.Maps.{IsRectMap, closed}
+use Rattle.rect_orders.specs.Orders.{IsRectOrder}
+use Rattle.rect_orders.specs.Lefts.{HasTwoGone, IsCycleAfter, IsRectLeft}
+use Rattle.rect_orders.proofs.Closed.{more, put, length-closed, list_elsewhere, dart_ts, dart_dp, s_not_p, d_not_p, d_not_t}
+use Rattle.rect_orders.proofs.Lefts.{IsRectLeft-begin, some_two_gone, IsRectLeft-less, IsRectLeft-three}
+use Rattle.rect_orders.specs.Contours.{kept_of, IsReady, IsPrepared, IsTaken, IsClosedOf, IsContour}
+use Rattle.rect_orders.proofs.Passing.{two_pass, two_counted}
+
+-- what is left
+kept_of-parts : (gone : List Bool) (u : ℕ) → kept_of gone u ≡ true → (u < length gone) × (is_set gone u ≡ false)
+kept_of-parts gone u e =
+    let parts = and_parts (ltb u (length gone)) (not (is_set gone u)) e in
+    (ltb-true u (length gone) parts.0, not-true (is_set gone u) parts.1)
+
+kept_of-from : (gone : List Bool) (u : ℕ) → u < length gone → is_set gone u ≡ false → kept_of gone u ≡ true
+kept_of-from gone u l e = and_from (ltb u (length gone)) (not (is_set gone u)) (lt-ltb u (length gone) l) (ap not e)
+
+gone_of-false : (gone : List Bool) (u : ℕ) → u < length gone → kept_of gone u ≡ false → is_set gone u ≡ true
+gone_of-false gone u l e = elim (cases_Bool (is_set gone u)) [ inl t ↦ t | inr f ↦ absurd (true≢false (sym (kept_of-from gone u l f) ∙ e)) ]
+
+-- one vertex less
+kept_of-set : (gone : List Bool) (v : ℕ) → v < length gone → kept_but (kept_of gone) v ≡ kept_of (set gone v true)
+kept_of-set gone v l =
+    let same : (u : ℕ) → kept_but (kept_of gone) v u ≡ kept_of (set gone v true) u = λ u.
+    elim (cases_eq u v) [
+      | inl e ↦
+          ap (kept_but (kept_of gone) v) e ∙ (kept_but-itself (kept_of gone) v
+          ∙ sym (ap (kept_of (set gone v true)) e ∙ and_right (ltb v (length (set gone v true))) (not (is_set (set gone v true) v)) (ap not (is_set-here gone v true l))))
+      | inr ne ↦
+          ap (λ b. kept_of gone u && not b) (ne_eqb u v ne) ∙ (and_true (kept_of gone u)
+          ∙ sym (ap₂ (λ n b. ltb u n && not b) (length-set gone v true) (is_set-other gone v u true ne)))
+    ] in
+    λ i u. same u i
+  where
+    and_true : (x : Bool) → (x && true) ≡ x
+    and_true true = refl
+    and_true false = refl
+
+-- what is marked after a vertex is taken off
+marks_after : (C : Lists) (gone marked : List Bool) (v : ℕ) (gone' marked' : List Bool) (ws after : List ℕ) → IsSimpleMap C → v < length C → length gone ≡ length C → length marked ≡ length C → kept_of gone v ≡ true → IsCycleAfter C (kept_of gone) v ws after → ((u : ℕ) → (is_set marked u ≡ true) ↔ Contains ws u) → IsTaken C v marked gone marked' gone' → (u : ℕ) → (is_set marked' u ≡ true) ↔ Contains after u
+marks_after C gone marked v gone' marked' ws after simple l n m kept cycle marks taken u = (
+  (λ e. (cycle u).1 (elim ((taken.marks u).0 e) [
+    | inl old ↦
+        let ne : u ≢ v = λ q. true≢false (sym old ∙ (ap (is_set (set marked v false)) q ∙ is_set-here marked v false (omega arith))) in
+        inl ((marks u).0 (sym (is_set-other marked v u false ne) ∙ old), ne)
+    | inr c ↦
+        let left : is_set (set gone v true) u ≡ false = sym (ap (λ g. is_set g u) taken.gone_is) ∙ c.1 in
+        let ne : u ≢ v = λ q. true≢false (sym (ap (is_set (set gone v true)) q ∙ is_set-here gone v true (omega arith)) ∙ left) in
+        let in_u = simple.in_range v u (l, c.0) in
+        inr (restricted-new C (kept_of gone) v u (l, c.0) kept (kept_of-from gone u (omega arith) (sym (is_set-other gone v u true ne) ∙ left)))
+  ])),
+  λ c. (taken.marks u).1 (elim ((cycle u).0 c) [
+    | inl o ↦ inl (is_set-other marked v u false o.1 ∙ (marks u).1 o.0)
+    | inr d ↦
+        let old = restricted-old C (kept_of gone) v u d in
+        let ne = simple.no_loop v u old.0 in
+        inr (old.0.1, ap (λ g. is_set g u) taken.gone_is ∙ (is_set-other gone v u true ne ∙ (kept_of-parts gone u old.2).1))
+  ]),
+)
+
+module _ (map : Lists) (s d p t x : ℕ) (L : Lists) (h : IsClosedOf L map s d p t x) where
+  abbrev C : Lists
+  C = closed map s d p t
+
+  class : IsRectMap map s d p t
+  class = h.class
+
+  simple : IsSimpleMap C
+  simple = (more map s d p t class).simple
+
+  taken_closed : (v : ℕ) (marked gone marked' gone' : List Bool) → IsTaken L v marked gone marked' gone' → IsTaken C v marked gone marked' gone'
+  taken_closed v marked gone marked' gone' k = subst (λ l. IsTaken l v marked gone marked' gone') h.closed_is k
+
+  pub same_length : length L ≡ length map
+  same_length = ap length h.closed_is ∙ length-closed map s d p t class
+
+  pub simple_here : IsSimpleMap L
+  simple_here = subst IsSimpleMap (sym h.closed_is) simple
+
+  -- the top and the right vertex are taken off
+  pub IsContour-begin : (marked gone marked1 gone1 marked2 gone2 : List Bool) → length marked ≡ length L → length gone ≡ length L → ((u : ℕ) → is_set gone u ≡ false) → ((u : ℕ) → (is_set marked u ≡ true) ↔ Contains (s ∷ d ∷ t ∷ []) u) → IsTaken L d marked gone marked1 gone1 → length marked1 ≡ length L → IsTaken L p marked1 gone1 marked2 gone2 → IsContour map s d p t gone2 marked2 (p ∷ d ∷ [])
+  IsContour-begin marked gone marked1 gone1 marked2 gone2 m n none marks one m1 two =
+      let same = same_length in
+      let e = ap length h.closed_is in
+      let all : (v : ℕ) → v < length map → kept_of gone v ≡ true = λ v l. kept_of-from gone v (omega arith) (none v) in
+      let begin = IsRectLeft-begin map s d p t class (kept_of gone) all (λ v k. (let l = (kept_of-parts gone v k).0 in omega arith)) in
+      let d_in = (dart_dp map s d p t class).0 in
+      let p_in = class.near.simple.in_range d p (dart_dp map s d p t class) in
+      let first = kept_of-set gone d (omega arith) in
+      let g1 : kept_but (kept_of gone) d ≡ kept_of gone1 = first ∙ sym (ap kept_of one.gone_is) in
+      let n1 : length gone1 ≡ length L = ap length one.gone_is ∙ (length-set gone d true ∙ n) in
+      let g2 : kept_but (kept_but (kept_of gone) d) p ≡ kept_of gone2 = ap (λ k. kept_but k p) g1 ∙ (kept_of-set gone1 p (omega arith) ∙ sym (ap kept_of two.gone_is)) in
+      let marks1 = marks_after C gone marked d gone1 marked1 (s ∷ d ∷ t ∷ []) begin.0 simple (omega arith) (omega arith) (omega arith) (all d d_in) begin.2 marks (taken_closed d marked gone marked1 gone1 one) in
+      let kept_p : kept_of gone1 p ≡ true = kept_of-from gone1 p (omega arith) (ap (λ g. is_set g p) one.gone_is ∙ (is_set-other gone d p true (λ q. d_not_p map s d p t class (sym q)) ∙ none p)) in
+      let cycle2 = subst (λ k. IsCycleAfter C k p begin.0 begin.1) g1 begin.3 in
+      record {
+        ws = begin.1;
+        left = subst (λ k. IsRectLeft map s d p t k begin.1 (p ∷ d ∷ [])) g2 begin.4;
+        marks = marks_after C gone1 marked1 p gone2 marked2 begin.0 begin.1 simple (omega arith) (omega arith) (omega arith) kept_p cycle2 marks1 (taken_closed p marked1 gone1 marked2 gone2 two);
+      }
+
+  -- the right vertex is marked once the top is taken off
+  pub right_marked : (marked gone marked1 gone1 : List Bool) → length gone ≡ length L → ((u : ℕ) → is_set gone u ≡ false) → IsTaken L d marked gone marked1 gone1 → (is_set marked1 p ≡ true) × (is_set gone1 p ≡ false)
+  right_marked marked gone marked1 gone1 n none one =
+      let left : is_set gone1 p ≡ false = ap (λ g. is_set g p) one.gone_is ∙ (is_set-other gone d p true (λ q. d_not_p map s d p t class (sym q)) ∙ none p) in
+      let dp = (more map s d p t class).kept d p (dart_dp map s d p t class) in
+      ((one.marks p).1 (inr (subst (λ l. Contains (list_of l d) p) (sym h.closed_is) dp.1, left)), left)
+
+  module _ (gone marked : List Bool) (rest : List ℕ) (o : IsContour map s d p t gone marked rest) where
+    abbrev kept : ℕ → Bool
+    kept = kept_of gone
+
+    -- what is marked is left
+    pub on_left : (v : ℕ) → is_set marked v ≡ true → (v < length L) × (is_set gone v ≡ false) × (kept v ≡ true)
+    on_left v e =
+        let old = restricted-old C kept v (entry_after v o.ws) (o.left.left.peeled.near.cycle.darts v ((o.marks v).0 e)) in
+        let l = old.0.0 in
+        let n = ap length h.closed_is in
+        (omega arith, (kept_of-parts gone v old.1).1, old.1)
+
+    not_top : (v : ℕ) → is_set marked v ≡ true → v ≢ d
+    not_top v e q = true≢false (sym (on_left v e).2 ∙ (ap kept q ∙ o.left.top))
+
+    module _ (near away stack : List ℕ) (k : IsPrepared L t s marked near gone away stack) where
+      -- the lists of a vertex off the base are those of the map
+      list_same : (v : ℕ) → is_set marked v ≡ true → v ≢ t → list_of L v ≡ list_of map v
+      list_same v e n = ap (λ l. list_of l v) h.closed_is ∙ list_elsewhere map s d p t class v (not_top v e) n
+
+      -- some vertex is ready
+      pub some_ready : (v : ℕ) × IsReady t s marked near away v
+      some_ready =
+          let found = some_two_gone map s d p t class kept o.ws rest o.left in
+          let v = found.0 in
+          let free = found.1 in
+          let g = found.2 in
+          let on = (o.marks v).1 free.on in
+          let l = (on_left v on).0 in
+          let two = (free_by_count C kept (is_set marked) s t o.ws v o.left.left.peeled o.marks free.on free.not_first free.not_last).0 free in
+          let list = list_same v on free.not_last in
+          let n = k.tally_gone.marks_of_all in
+          let same = same_length in
+          let gone_at : (u : ℕ) → HasDart map v u → kept u ≡ false → is_set gone u ≡ true = λ u a out. (let m = class.near.simple.in_range v u a in gone_of-false gone u (omega arith) out) in
+          let many = two_counted (is_set gone) (list_of map v) g.one g.other g.apart g.first.1 g.second.1 (gone_at g.one g.first g.first_gone) (gone_at g.other g.second g.second_gone) in
+          let count = k.tally_gone.counted v l ∙ ap (λ us. count_by (is_set gone) us) list in (
+            v,
+            record {
+              marked_is = on;
+              not_last = free.not_last;
+              not_first = free.not_first;
+              two = k.tally.counted v l ∙ (ap (λ l. count_by (is_set marked) (list_of l v)) h.closed_is ∙ two);
+              two_gone = omega (arith, count, many);
+            },
+          )
+
+      module _ (v : ℕ) (ready : IsReady t s marked near away v) where
+        -- and one that is may be taken off
+        ready_free : IsFree (restricted kept C) s t o.ws v
+        ready_free =
+            let on = ready.marked_is in
+            (free_by_count C kept (is_set marked) s t o.ws v o.left.left.peeled o.marks ((o.marks v).0 on) ready.not_first ready.not_last).1
+            (sym (k.tally.counted v (on_left v on).0 ∙ ap (λ l. count_by (is_set marked) (list_of l v)) h.closed_is) ∙ ready.two)
+
+        ready_gone : HasTwoGone map kept v
+        ready_gone =
+            let on = ready.marked_is in
+            let l = (on_left v on).0 in
+            let same = same_length in
+            let list = list_same v on ready.not_last in
+            let count = k.tally_gone.counted v l ∙ ap (λ us. count_by (is_set gone) us) list in
+            let many = ready.two_gone in
+            let l' : v < length map = omega arith in
+            let two = two_pass (is_set gone) (list_of map v) (class.near.simple.no_repeat v l') (omega (arith, count, many)) in
+            let out : (u : ℕ) → is_set gone u ≡ true → kept u ≡ false = λ u e. and_right (ltb u (length gone)) (not (is_set gone u)) (ap not e) in
+            record {
+              one = two.0;
+              other = two.1;
+              apart = two.2;
+              first = (l', two.3);
+              second = (l', two.4);
+              first_gone = out two.0 two.5;
+              second_gone = out two.1 two.6;
+            }
+
+        pub IsContour-taken : length rest + 3 < length L → (marked' gone' : List Bool) → IsTaken L v marked gone marked' gone' → IsContour map s d p t gone' marked' (v ∷ rest)
+        IsContour-taken many marked' gone' taken =
+            let on = ready.marked_is in
+            let left = on_left v on in
+            let n = k.tally_gone.marks_of_all in
+            let m = k.tally.marks_of_all in
+            let count = o.left.left.count in
+            let e = ap length h.closed_is in
+            let l = left.0 in
+            let less = IsRectLeft-less map s d p t class kept o.ws rest o.left v ready_free ready_gone (omega arith) in
+            let g : kept_but kept v ≡ kept_of gone' = kept_of-set gone v (omega arith) ∙ sym (ap kept_of taken.gone_is) in
+            record {
+              ws = less.0;
+              left = subst (λ z. IsRectLeft map s d p t z less.0 (v ∷ rest)) g less.2;
+              marks = marks_after C gone marked v gone' marked' o.ws less.0 simple (omega arith) (omega arith) (omega arith) left.2 less.1 o.marks (taken_closed v marked gone marked' gone' taken);
+            }
+
+    -- three are left
+    pub IsContour-three : length rest + 3 ≡ length L → IsRectOrder map s d p t (s ∷ t ∷ x ∷ rest)
+    IsContour-three few =
+        let count = o.left.left.count in
+        let e = ap length h.closed_is in
+        let inner : follows C t s ≡ x =
+        (put map s d p t class).other t s (dart_ts map s d p t class) (λ q. absurd (d_not_t map s d p t class (sym q))) (λ _. s_not_p map s d p t class) ∙ sym h.inner_is in
+        subst (λ z. IsRectOrder map s d p t (s ∷ t ∷ z ∷ rest)) inner (IsRectLeft-three map s d p t class kept o.ws rest o.left (omega arith))

@@ -1,0 +1,10 @@
+use Rattle.std.proofs.Common.{◌≡◌, ◌⊎◌, ◌↔◌, ℕ, true, false, take, Contains}
+use Rattle.rect_orders.specs.Tallies.{is_set}
+use Rattle.rect_orders.specs.Contours.{IsNoted}
+use Rattle.rect_orders.proofs.rect_order.contour.mark_all.Given as goal
+
+abbrev pub invariant-loop-u : goal.invariant-loop-u
+invariant-loop-u l = record {
+  noted : IsNoted l.lists l.initial.marked l.initial.near l.initial.stack.items l.marked l.near l.stack.items;
+  marks : (u : ℕ) → (is_set l.marked u ≡ true) ↔ ((is_set l.initial.marked u ≡ true) ⊎ (Contains (take l.u-index l.entries) u × (is_set l.gone u ≡ false)));
+}

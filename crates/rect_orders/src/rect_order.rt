@@ -1,0 +1,8 @@
+//! Rectangular orders: the vertices of a map in an order from which a rectangular dual can be made.
+
+mod closing;
+mod contour;
+mod order;
+
+pub use closing::{Frame, closed_map, frame_of};
+pub use order::rect_order;

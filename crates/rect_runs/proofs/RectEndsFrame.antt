@@ -1,0 +1,99 @@
+-- The ends of edges at the frame.
+use Rattle.std.proofs.Common.{◌≡◌, ◌≢◌, ℕ, suc, ◌+◌, ◌<◌, ◌≤◌, leb, sym, ap, ◌∙◌, inl, inr, arith}
+use Rattle.std.proofs.lemmas.Bool.{cases_eq, cond-true, cond-false, le-leb, lt-leb}
+use Rattle.contour_runs.specs.Runs.{Step, stage_after}
+use Rattle.contour_runs.specs.Laws.{IsStage}
+use Rattle.contour_runs.proofs.Stages.{IsStage-run, IsRun-less, count-stage_after}
+use Rattle.rect_runs.specs.Numbers.{turn_of}
+use Rattle.rect_runs.specs.Corners.{End, run_in, rise_out, run_out, rise_in, at_older, at_new}
+use Rattle.rect_runs.specs.Later.{StandsOver}
+use Rattle.rect_runs.specs.Boxes.{IsRectRun}
+use Rattle.rect_runs.specs.Frame.{IsFrameLabelling}
+use Rattle.rect_runs.proofs.RectBoxesFrame.{labelling}
+use Rattle.rect_runs.specs.Ends.{IsEndAt, FrameEnds}
+
+older-left : (c j : ℕ) → j ≤ c → at_older c j ≡ run_out
+unfolding at_older
+older-left c j l = cond-true (leb j c) run_out rise_out (le-leb j c l)
+
+older-below : (c j : ℕ) → c < j → at_older c j ≡ rise_out
+unfolding at_older
+older-below c j l = cond-false (leb j c) run_out rise_out (lt-leb j c l)
+
+new-left : (c j : ℕ) → j ≤ c → at_new c j ≡ run_in
+unfolding at_new
+new-left c j l = cond-true (leb j c) run_in rise_in (le-leb j c l)
+
+new-below : (c j : ℕ) → c < j → at_new c j ≡ rise_in
+unfolding at_new
+new-below c j l = cond-false (leb j c) run_in rise_in (lt-leb j c l)
+
+module _ (steps : ℕ → Step) (n : ℕ) (h : IsRectRun steps n) where
+  frame : IsFrameLabelling steps n
+  frame = labelling steps n h
+
+  stage_at : (k : ℕ) → k ≤ suc n → IsStage (stage_after steps k)
+  stage_at k l = IsStage-run steps k (IsRun-less steps k (suc n) l h.labelled.run)
+
+  -- the lower of two that a step joins was there before
+  placed : (k u v : ℕ) → k < suc n → StandsOver steps k u v → u < k + 2
+  placed k u v l a =
+      let w = (h.labelled.run k l).within in
+      let hi = a.high in
+      omega (arith, (stage_at k (omega arith)).placed a.place (omega arith), a.vertex, count-stage_after steps k)
+
+  first : (v : ℕ) (e : End) → IsEndAt steps (suc n) 0 v e → e ≡ run_out
+  first v e end = elim end [
+    | inl a ↦
+        let l = a.before in
+        let w = (h.labelled.run a.step l).within in
+        let hi = a.over.high in
+        let z = frame.first a.step a.over.place (omega arith) (omega arith) a.over.vertex in
+        a.end_is ∙ older-left (turn_of steps a.step) a.over.place (omega arith)
+    | inr a ↦ absurd (omega (arith, a.over.new))
+  ]
+
+  second : (v : ℕ) (e : End) → IsEndAt steps (suc n) 1 v e → e ≡ rise_out
+  second v e end = elim end [
+    | inl a ↦
+        let l = a.before in
+        let w = (h.labelled.run a.step l).within in
+        let hi = a.over.high in
+        let z = frame.second a.step a.over.place (omega arith) (omega arith) a.over.vertex in
+        let t = (frame.entering a.step l).1 in
+        a.end_is ∙ older-below (turn_of steps a.step) a.over.place (omega arith)
+    | inr a ↦ absurd (omega (arith, a.over.new))
+  ]
+
+  right : (v : ℕ) (e : End) → v ≢ 1 → v ≢ n + 2 → IsEndAt steps (suc n) (n + 1) v e → e ≡ run_in
+  right v e n1 n2 end = elim end [
+    | inl a ↦ let l = a.before in let new = a.over.new in let p = placed a.step (n + 1) v a.before a.over in absurd (n2 (omega arith))
+    | inr a ↦
+        let l = a.before in
+        let new = a.over.new in
+        let some = h.some in
+        let o : suc a.step ≡ n = omega arith in
+        let last = h.right a.step o in
+        let turn = frame.right a.step o in
+        let hi = a.over.high in
+        a.end_is ∙ new-left (turn_of steps a.step) a.over.place (elim (cases_eq a.over.place (steps a.step).last) [
+          | inl e ↦ absurd (n1 (sym a.over.vertex ∙ (ap (stage_after steps a.step).vertex e ∙ (stage_at a.step (omega arith)).end (steps a.step).last last)))
+          | inr ne ↦ omega arith
+        ])
+  ]
+
+  top : (v : ℕ) (e : End) → v ≢ 0 → IsEndAt steps (suc n) (n + 2) v e → e ≡ rise_in
+  top v e n0 end = elim end [
+    | inl a ↦ let l = a.before in let p = placed a.step (n + 2) v a.before a.over in absurd (omega arith)
+    | inr a ↦
+        let new = a.over.new in
+        let o : a.step ≡ n = omega arith in
+        let turn = ap (turn_of steps) o ∙ frame.top in
+        a.end_is ∙ new-below (turn_of steps a.step) a.over.place (elim (cases_eq a.over.place 0) [
+          | inl e ↦ absurd (n0 (sym a.over.vertex ∙ (ap (stage_after steps a.step).vertex e ∙ (stage_at a.step (let l = a.before in omega arith)).begin)))
+          | inr ne ↦ omega arith
+        ])
+  ]
+
+pub frame_ends : FrameEnds
+frame_ends steps n h = record { first = first steps n h; second = second steps n h; right = right steps n h; top = top steps n h }

@@ -1,2 +1,0 @@
--- Lemmas on sides.
-mod Sides

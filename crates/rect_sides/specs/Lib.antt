@@ -1,2 +1,0 @@
--- The right and the upper sides of boxes, as code fills them.
-pub mod Sides

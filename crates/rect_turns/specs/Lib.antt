@@ -1,2 +1,0 @@
--- The turns of a rectangular run, from its rows.
-pub mod Turns

@@ -1,3 +1,0 @@
--- What renaming keeps.
-pub mod RenamedLemmas
-mod Cases

@@ -1,6 +1,0 @@
-use Rattle.std.proofs.Common.{◌≡◌, ◌++◌, ◌∷◌, [], take}
-use Rattle.renamed_witnesses.specs.Renamed.{named, renamed_list}
-use Rattle.renamed_witnesses.proofs.rename.push_renamed.Given as goal
-
-abbrev pub invariant-loop-i : goal.invariant-loop-i
-invariant-loop-i l = l.paths ≡ l.fn.paths ++ renamed_list (named l.table) (take l.i l.path) ∷ []

@@ -1,2 +1,0 @@
--- Witnesses renamed.
-pub mod Renamed

@@ -1,7 +1,0 @@
-//! What renaming keeps, as a function that does nothing.
-ghost use Rattle.renamed_witnesses.specs.Renamed.{RenamedWitness};
-
-/// A witness renamed is one of each graph that has its edges under the new numbers.
-pub fn renamed_witness()
-    ensures { RenamedWitness }
-{}

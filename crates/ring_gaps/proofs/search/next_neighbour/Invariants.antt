@@ -1,8 +1,0 @@
-use Rattle.std.proofs.Common.{◌≡◌, ◌<◌, false, ℕ}
-use Rattle.graph6_text.specs.Graphs.{has_edge}
-use Rattle.list_graphs.specs.ListGraphs.{graph_of}
-use Rattle.ring_gaps.specs.Gaps.{behind}
-use Rattle.ring_gaps.proofs.search.next_neighbour.Given as goal
-
-abbrev pub invariant-loop-j : goal.invariant-loop-j
-invariant-loop-j l = (i : ℕ) → 0 < i → i < l.j → has_edge (graph_of l.lists) l.x (behind l.ring l.s i) ≡ false

@@ -1,2 +1,0 @@
--- Gaps of rings.
-pub mod Gaps

@@ -1,8 +1,0 @@
--- What the laws rest on.
-pub mod Numbers
-pub mod Places
-pub mod Traces
-pub mod Spans
-pub mod Rings
-pub mod Gaps
-mod Cases

@@ -1,2 +1,0 @@
--- Drawings of completed maps by runs.
-pub mod RunDrawings

@@ -1,5 +1,0 @@
-use Rattle.run_regions.proofs.Regions.{darts_crossed}
-use Rattle.run_regions.proofs.darts_crossed.Goals as goal
-
-pub returns : goal.returns
-returns c = λ steps n v x y s run some end inside h. darts_crossed steps n run v x y s some end inside h

@@ -1,5 +1,0 @@
--- The regions of runs.
-pub mod Fronts
-pub mod Sides
-pub mod Edges
-pub mod Laws

@@ -1,4 +1,0 @@
--- The lemmas on woods of runs.
-pub mod ParentLemmas
-pub mod Corners
-mod Cases

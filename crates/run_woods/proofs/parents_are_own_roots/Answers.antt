@@ -1,5 +1,0 @@
-use Rattle.run_woods.proofs.ParentLemmas.{own_root}
-use Rattle.run_woods.proofs.parents_are_own_roots.Goals as goal
-
-pub returns : goal.returns
-returns c = λ steps n v w c run. own_root steps n run v w c

@@ -1,3 +1,0 @@
--- The woods of runs.
-pub mod Parents
-pub mod Rules

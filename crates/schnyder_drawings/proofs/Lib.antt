@@ -1,2 +1,0 @@
--- The lemmas on drawings by Schnyder's coordinates.
-mod SchnyderLemmas

@@ -1,5 +1,0 @@
-use Rattle.schnyder_drawings.proofs.SchnyderLemmas.{drawing}
-use Rattle.schnyder_drawings.proofs.wood_points_draw.Goals as goal
-
-pub returns : goal.returns
-returns c = λ lists base at points completed dart order h. drawing lists base at points completed dart order h c.counterclockwise_run_draws.ensures

@@ -1,2 +1,0 @@
--- Drawings of completed maps by Schnyder's coordinates.
-pub mod SchnyderDrawings

@@ -1,0 +1,99 @@
+//! What stands before what as a wood has it.
+ghost use Rattle.std.specs.Prelude.{◌≡◌, ◌<◌, ◌↔◌, ℕ, [], length, All, IsTrue, IfOk};
+ghost use Rattle.map_theory.specs.Maps.{HasDart};
+ghost use Rattle.schnyder_wood.specs.Parents.{kind, count_in};
+ghost use Rattle.schnyder_grid.specs.Arcs.{HasParent, ComesDown, JoinsRoots, GoesUp, IsArc, IsArcPut, AreArcs, AreWoodArcs};
+
+use half_edges::{Rotations, VertexId};
+use map_lists::ItemLists;
+use schnyder_wood::{Colour, Wood};
+use std::alloc::{AllocError, Global};
+
+// Whether u is the parent of a colour of v.
+fn is_parent(wood: &Wood, colour: Colour, v: u16, u: u16) -> bool
+    requires { v < count_in wood.now }
+    ensures { IsTrue result ↔ HasParent wood.now (kind colour) v u }
+{
+    match wood.parent(colour, VertexId(v)) {
+        Some(parent) => parent.0 == u,
+        None => false,
+    }
+}
+
+fn comes_down(wood: &Wood, e: u16, r: u16) -> bool
+    requires { r < count_in wood.now }
+    ensures { IsTrue result ↔ ComesDown wood.now e r }
+{
+    is_parent(wood, Colour::One, r, e) || is_parent(wood, Colour::Two, r, e)
+}
+
+fn joins(wood: &Wood, e: u16, r: u16) -> bool
+    ensures { IsTrue result ↔ JoinsRoots wood.now e r }
+{
+    let one = wood.root(Colour::One).0;
+    let two = wood.root(Colour::Two).0;
+    let three = wood.root(Colour::Three).0;
+    (e == one && r == two) || (e == two && r == three)
+}
+
+fn goes_up(wood: &Wood, e: u16, r: u16) -> bool
+    requires { e < count_in wood.now }
+    ensures { IsTrue result ↔ GoesUp wood.now e r }
+{
+    is_parent(wood, Colour::Three, e, r) || joins(wood, e, r)
+}
+
+// Whether e stands before r.
+fn leads(wood: &Wood, e: u16, r: u16) -> bool
+    requires e_in { e < count_in wood.now }
+    requires r_in { r < count_in wood.now }
+    ensures { IsTrue result ↔ IsArc wood.now e r }
+{
+    comes_down(wood, e, r) || goes_up(wood, e, r)
+}
+
+// Puts r behind a row, if e stands before it.
+fn put_arc(wood: &Wood, e: u16, r: u16, row: &mut Vec<u32>) -> Result<(), AllocError>
+    requires e_in { e < count_in wood.now }
+    requires r_in { r < count_in wood.now }
+    ensures { IfOk result (λ _. IsArcPut wood.now e r row.old.items row.new.items) }
+{
+    if leads(wood, e, r) {
+        row.push(r as u32)?;
+    }
+    Ok(())
+}
+
+// Puts those of a list into a row before which e stands.
+fn put_row(wood: &Wood, e: u16, list: &[u16], row: &mut Vec<u32>) -> Result<(), AllocError>
+    requires e_in { e < count_in wood.now }
+    requires within { All (λ r. r < count_in wood.now) list.now }
+    requires empty { row.old.items ≡ [] }
+    ensures { IfOk result (λ _. AreArcs wood.now e list.now row.new.items) }
+{
+    for r in list {
+        put_arc(wood, e, *r, row)?;
+    }
+    Ok(())
+}
+
+// For each vertex the neighbours before which it stands.
+pub(crate) fn wood_arcs(
+    alloc: Global,
+    lists: &Rotations,
+    wood: &Wood,
+) -> Result<ItemLists<u32>, AllocError>
+    requires few { length lists.now < 4096 }
+    requires count { count_in wood.now ≡ length lists.now }
+    requires within { (e r : ℕ) → HasDart lists.now e r → r < length lists.now }
+    ensures { IfOk result (AreWoodArcs lists.now wood.now) }
+{
+    let mut arcs = ItemLists::new(alloc);
+    let mut row = Vec::new(alloc);
+    for e in 0..lists.len() {
+        row.clear();
+        put_row(wood, e as u16, lists.list(e), &mut row)?;
+        arcs.push(&row)?;
+    }
+    Ok(arcs)
+}

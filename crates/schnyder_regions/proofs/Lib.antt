@@ -1,5 +1,0 @@
-mod Paths
-mod Marks
-mod Searching
-mod ClosedPathLemmas
-mod CountLemmas

@@ -1,5 +1,0 @@
--- Regions, counted.
-pub mod Boundaries
-pub mod ClosedPaths
-pub mod Search
-pub mod Counting

@@ -1,8 +1,0 @@
-//! Schnyder's regions (1990), counted by a search of the faces.
-#![tactic(auto)]
-
-mod boundary;
-mod count;
-mod search;
-
-pub use count::region_count;

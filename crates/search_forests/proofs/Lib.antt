@@ -1,5 +1,0 @@
--- Lemmas on searches.
-pub mod StepLemmas
-pub mod TableLemmas
-pub mod ForestLemmas
-pub mod LowLemmas

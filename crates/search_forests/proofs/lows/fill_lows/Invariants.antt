@@ -1,9 +1,0 @@
-use Rattle.std.proofs.Common.{◌≡◌, ℕ, ◌+◌, ◌<◌, ◌≤◌, length, get_or}
-use Rattle.search_forests.specs.Lows.{IsLow}
-use Rattle.search_forests.proofs.lows.fill_lows.Given as goal
-
-abbrev pub invariant-loop-i : goal.invariant-loop-i
-invariant-loop-i l = record {
-  lows : length l.low ≡ length l.lists;
-  done : (v : ℕ) → v < length l.lists → length l.lists ≤ get_or l.number v 0 + l.i → IsLow l.lists (λ u. get_or l.number u 0) (λ u. get_or l.last u 0) v (get_or l.low v 0);
-}

@@ -1,2 +1,0 @@
--- The lemmas on drawings by shift points.
-pub mod ShiftLemmas

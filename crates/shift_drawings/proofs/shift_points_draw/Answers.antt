@@ -1,5 +1,0 @@
-use Rattle.shift_drawings.proofs.ShiftLemmas.{drawing}
-use Rattle.shift_drawings.proofs.shift_points_draw.Goals as goal
-
-pub returns : goal.returns
-returns c = λ lists base at points completed dart order h. drawing lists base at points completed dart order h c.counterclockwise_run_draws.ensures

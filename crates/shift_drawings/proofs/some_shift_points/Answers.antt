@@ -1,9 +1,0 @@
-use Rattle.std.proofs.Common.{length, ◌-◌}
-use Rattle.shift_points.specs.Shift.{shift_points, point_of}
-use Rattle.shift_drawings.proofs.some_shift_points.Goals as goal
-
-pub returns : goal.returns
-returns c = λ lists base at completed order.
-    let run = c.order_is_run.ensures lists base at completed order in
-    let points = c.points_of_order.ensures lists base at (point_of (shift_points run.0 (length at - 2))) order in
-    (points.0, record { steps = run.0; order = run.1; count = points.1; placed = points.2 })

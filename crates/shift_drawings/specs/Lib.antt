@@ -1,2 +1,0 @@
--- Drawings by the shift method.
-pub mod ShiftDrawings

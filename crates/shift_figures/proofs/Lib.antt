@@ -1,3 +1,0 @@
--- Lemmas for figures.
-pub mod FigureLemmas
-mod Cases

@@ -1,9 +1,0 @@
-use Rattle.shift_figures.proofs.draw.order_figure.Goals as goal
-
-pub returns-in-Ok : goal.returns-in-Ok
-returns-in-Ok c = λ base dart canonical. record {
-  count = (c.in-Ok.ensures.points base canonical).count;
-  drawing = c.in-Ok.ensures.drawing base dart canonical;
-  width = c.in-Ok.ensures.width;
-  height = c.in-Ok.ensures.height;
-}

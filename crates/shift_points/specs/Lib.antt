@@ -1,6 +1,0 @@
--- The points of the shift method.
-pub mod Shift
-pub mod Contours
-pub mod Opened
-pub mod Tree
-pub mod Laws

@@ -1,3 +1,0 @@
--- What the calls rest on.
-pub mod Sided
-pub mod JoinedUp

@@ -1,2 +1,0 @@
--- The sides of a graph that vertices part.
-pub mod Parting

@@ -1,2 +1,0 @@
--- Maps of the graphs of lists, or witnesses.
-pub mod Answers

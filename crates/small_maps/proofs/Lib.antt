@@ -1,3 +1,0 @@
--- What the law and the calls rest on.
-pub mod Few
-mod FourLemmas

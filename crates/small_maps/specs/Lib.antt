@@ -1,2 +1,0 @@
--- Maps with few edges.
-pub mod Small

@@ -1,0 +1,8 @@
+-- How vertices are given their places.
+pub mod PlacingLemmas
+pub mod OrderLemmas
+pub mod TableLemmas
+pub mod WholeLemmas
+pub mod FinishLemmas
+mod Cases
+mod Refused

@@ -1,0 +1,11 @@
+//! St-orders of biconnected maps: the vertices from one end of an edge to the other, each of the others
+//! with an earlier and a later neighbour.
+//!
+//! A search from s that sees t next gives each vertex a range of places within its parent's. A vertex stands
+//! on the other side of its parent than the vertex at its low point does: so it stands between the two.
+#![tactic(auto)]
+
+mod orders;
+mod places;
+
+pub use orders::{StOrder, st_order};

@@ -1,0 +1,138 @@
+//! St-orders.
+ghost use Rattle.std.specs.Prelude.{◌≡◌, ◌<◌, ◌≤◌, ◌≢◌, ℕ, map, length, slice_index, Some, IfOk};
+ghost use Rattle.map_theory.specs.Maps.{IsSimpleMap, HasDart, component_count};
+ghost use Rattle.half_edges.specs.Map.{IsLive, dart_at};
+ghost use Rattle.graph_search.specs.Forests.{IsForestOf};
+ghost use Rattle.graph_search.specs.Lows.{AreLows};
+ghost use Rattle.graph_search.specs.Cuts.{IsCutVertex};
+ghost use Rattle.st_orders.specs.StOrders.{IsStOrderOf};
+ghost use Rattle.st_orders.specs.Placing.{ArePlaces, IsWholeSearch};
+
+use crate::places::place_all;
+use graph_search::search_forests::{low_points, search_forest_along};
+use half_edges::{Counts, DartId, HalfMap, Rotations, VertexId, VertexList};
+use std::alloc::{AllocError, Global};
+
+/// The vertices of a map in an order, and its inverse.
+#[derive(Drop)]
+pub struct StOrder {
+    /// The vertices, one after another, all of them once.
+    pub at: VertexList,
+    /// For each vertex, by its number, its place in `at`, from 0.
+    pub rank: Counts,
+}
+
+// Writes each vertex at its place.
+fn put_all(from: &[u16], at: &mut [u16])
+    requires few { length from.now < 4096 }
+    requires long { length at.old ≡ length from.now }
+    requires within { (v : ℕ) → v < length from.now → slice_index from.now v < length from.now }
+    requires apart { (u v : ℕ) → u < length from.now → v < length from.now → slice_index from.now u ≡ slice_index from.now v → u ≡ v }
+    ensures { (v : ℕ) → v < length from.now → slice_index at.new (slice_index from.now v) ≡ v }
+{
+    for v in 0..from.len() {
+        at[from[v] as usize] = v as u16;
+    }
+}
+
+// Numbers as a list.
+fn counts_of(alloc: Global, numbers: &[u16]) -> Result<Counts, AllocError>
+    ensures { IfOk result (λ counts. counts ≡ numbers.now) }
+{
+    let mut counts = Counts::new(alloc);
+    for x in numbers {
+        counts.push(u32::from(*x))?;
+    }
+    Ok(counts)
+}
+
+// Vertices as a list.
+fn vertices_of(alloc: Global, numbers: &[u16]) -> Result<VertexList, AllocError>
+    ensures { IfOk result (λ vertices. map (λ v. v.0) vertices ≡ numbers.now) }
+{
+    let mut vertices = VertexList::new(alloc);
+    for x in numbers {
+        vertices.push(VertexId(*x))?;
+    }
+    Ok(vertices)
+}
+
+// The places of an st-order for the dart from s to t.
+fn places(alloc: Global, lists: &Rotations, s: u16, t: u16) -> Result<Vec<u16>, AllocError>
+    requires simple { IsSimpleMap lists.now }
+    requires few { length lists.now < 4096 }
+    requires connected { component_count lists.now ≡ 1 }
+    requires uncut { (v : ℕ) → ¬ IsCutVertex lists.now v }
+    requires dart { HasDart lists.now s t }
+    ensures { IfOk result (λ from. ArePlaces lists.now s t from.items) }
+{
+    let n = lists.len();
+    let forest = search_forest_along(alloc, lists, s, t)?;
+    let low = low_points(alloc, lists, &forest)?;
+    let mut from = vec![in alloc; 0u16; n]?;
+    let mut to = vec![in alloc; 0u16; n]?;
+    let mut side = vec![in alloc; false; n]?;
+    let mut recent = vec![in alloc; false; n]?;
+    place_all(
+        lists,
+        &forest.order,
+        &forest.number,
+        &forest.last,
+        &forest.parent,
+        &low,
+        &mut from,
+        &mut to,
+        &mut side,
+        &mut recent,
+    );
+    Ok(from)
+}
+
+// The order with these places.
+fn order_of(
+    alloc: Global,
+    lists: &Rotations,
+    from: &[u16],
+    s: u16,
+    t: u16,
+) -> Result<StOrder, AllocError>
+    requires few { length lists.now < 4096 }
+    requires places { ArePlaces lists.now s t from.now }
+    ensures { IfOk result (λ order. IsStOrderOf lists.now s t order) }
+{
+    let mut at = vec![in alloc; 0u16; from.len()]?;
+    put_all(from, &mut at);
+    Ok(StOrder {
+        at: vertices_of(alloc, &at)?,
+        rank: counts_of(alloc, from)?,
+    })
+}
+
+// An st-order of lists for the dart from s to t.
+fn list_order(alloc: Global, lists: &Rotations, s: u16, t: u16) -> Result<StOrder, AllocError>
+    requires simple { IsSimpleMap lists.now }
+    requires few { length lists.now < 4096 }
+    requires connected { component_count lists.now ≡ 1 }
+    requires uncut { (v : ℕ) → ¬ IsCutVertex lists.now v }
+    requires dart { HasDart lists.now s t }
+    ensures { IfOk result (λ order. IsStOrderOf lists.now s t order) }
+{
+    let from = places(alloc, lists, s, t)?;
+    order_of(alloc, lists, &from, s, t)
+}
+
+/// An st-order for a dart of a connected map without cut vertices, in linear time: the dart's tail stands
+/// first, its head last, and each other vertex has an earlier and a later neighbour. It fails only for want
+/// of memory.
+pub fn st_order(alloc: Global, map: &HalfMap, st: DartId) -> Result<StOrder, AllocError>
+    requires connected { component_count map.now.lists ≡ 1 }
+    requires uncut { (v : ℕ) → ¬ IsCutVertex map.now.lists v }
+    requires live { IsLive map.now st.0 }
+    ensures { IfOk result (λ order. (s t : ℕ) → dart_at map.now st.0 ≡ Some (s, t) → IsStOrderOf map.now.lists s t order) }
+{
+    map.facts();
+    let s = map.tail(st);
+    let t = map.head(st);
+    let lists = map.rotations(alloc)?;
+    list_order(alloc, &lists, s.0, t.0)
+}

@@ -1,7 +1,0 @@
--- Lemmas of the sweep.
-mod ListLemmas
-mod FreshLemmas
-mod LineLemmas
-mod StepLemmas
-mod SweepLemmas
-mod TopLemmas

@@ -1,8 +1,0 @@
-use Rattle.std.proofs.Common.{ℕ, ◌+◌, ◌<◌, ◌≤◌, length, slice_index_or}
-use Rattle.drawings.specs.Drawing.{place}
-use Rattle.plane_sweep.specs.declared.line.Line.{Line}
-use Rattle.plane_sweep.specs.Lines.{Ends}
-use Rattle.sweep_check.proofs.status.all_end_apart.Given as goal
-
-abbrev pub invariant-loop-k : goal.invariant-loop-k
-invariant-loop-k l = (j : ℕ) (d : Line) → l.begin ≤ j → j < l.k → j + 1 < length l.status → Ends (place l.places) (slice_index_or l.status j d) (slice_index_or l.status (j + 1) d)

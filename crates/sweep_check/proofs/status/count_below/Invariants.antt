@@ -1,8 +1,0 @@
-use Rattle.std.proofs.Common.{◌-◌, ◌≤◌, length}
-use Rattle.sweep_check.proofs.status.count_below.Given as goal
-
-abbrev pub invariant-loop-begin : goal.invariant-loop-begin
-invariant-loop-begin l = (l.begin ≤ l.end) × (l.end ≤ length l.status)
-
-abbrev pub decreases-loop-begin : goal.decreases-loop-begin
-decreases-loop-begin l = l.end - l.begin

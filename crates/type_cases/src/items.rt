@@ -1,0 +1,75 @@
+//! Lists that were filled by hand.
+use map_lists::{Counts, EdgeList, Ends, PathList, Rotations, VertexId, VertexList};
+use pg_plane::{Ints, Point, Points};
+use std::test::Fail;
+
+#[test]
+fn items_come_back_by_value(rt: HostRuntime) -> Result<(), Fail> {
+    let mut counts = Counts::new(rt.alloc());
+    assert_eq!(rt; counts.len(), 0);
+    counts.push(7)?;
+    assert_eq!(rt; (counts.len(), counts.get(0)), (1, 7));
+    let mut vertices = VertexList::new(rt.alloc());
+    vertices.push(VertexId(3))?;
+    assert_eq!(rt; (vertices.len(), vertices.get(0).0), (1, 3));
+    let edge = Ends {
+        a: VertexId(3),
+        b: VertexId(4),
+    };
+    let mut edges = EdgeList::new(rt.alloc());
+    edges.push(edge)?;
+    assert!(rt; edges.len() == 1 && edges.get(0) == edge);
+    Ok(())
+}
+
+#[test]
+fn points_and_whole_numbers_come_back(rt: HostRuntime) -> Result<(), Fail> {
+    let point = Point { x: 3, y: -4 };
+    let mut points = Points::new(rt.alloc());
+    points.push(point)?;
+    assert!(rt; points.len() == 1 && points.get(0) == point);
+    let mut numbers = Ints::new(rt.alloc());
+    numbers.push(-7)?;
+    assert_eq!(rt; (numbers.len(), numbers.get(0)), (1, -7));
+    Ok(())
+}
+
+#[test]
+fn lists_come_back_whole(rt: HostRuntime) -> Result<(), Fail> {
+    let mut paths = PathList::new(rt.alloc());
+    paths.push(&[])?;
+    paths.push(&[VertexId(1), VertexId(0)])?;
+    assert_eq!(rt; (paths.len(), paths.total()), (2, 2));
+    assert!(rt; paths.list(1) == [VertexId(1), VertexId(0)].as_slice());
+    Ok(())
+}
+
+#[test]
+fn lists_grow_by_entries(rt: HostRuntime) -> Result<(), Fail> {
+    let mut lists = Rotations::new(rt.alloc());
+    lists.push(&[4])?;
+    lists.open()?;
+    lists.append(1)?;
+    lists.append(2)?;
+    lists.open()?;
+    assert_eq!(rt; lists.entries(), [4, 1, 2].as_slice());
+    assert_eq!(rt; lists.ends(), [1, 3, 3].as_slice());
+    lists.truncate(2);
+    lists.append(5)?;
+    assert_eq!(rt; lists.list(1), [1, 2, 5].as_slice());
+    let (entries, ends) = lists.into_parts();
+    assert_eq!(rt; entries.as_slice(), [4, 1, 2, 5].as_slice());
+    assert_eq!(rt; ends.as_slice(), [1, 4].as_slice());
+    Ok(())
+}
+
+#[test]
+fn parts_make_lists(rt: HostRuntime) -> Result<(), Fail> {
+    let entries = vec![in rt.alloc(); 4, 1, 2]?;
+    let ends = vec![in rt.alloc(); 1, 3]?;
+    let mut lists = Rotations::from_parts(entries, ends);
+    assert_eq!(rt; (lists.len(), lists.total()), (2, 3));
+    lists.clear();
+    assert_eq!(rt; (lists.len(), lists.total()), (0, 0));
+    Ok(())
+}

@@ -1,0 +1,8 @@
+//! Types that a caller chooses: sources and sinks in memory and over std's readers and writers, and generic lists at
+//! the types of their items. Tests alone; all other calls are rows of `library_rows`.
+#![tactic(auto)]
+
+#[cfg(test)]
+mod items;
+#[cfg(test)]
+mod sources;

@@ -1,8 +1,0 @@
-//! Vertices taken out of maps, and the ring of the face that they leave.
-#![tactic(auto)]
-
-mod hole;
-mod rest;
-
-pub use hole::hole_ring;
-pub use rest::without_vertex;

@@ -1,0 +1,54 @@
+//! The figure of a record, or why it has none.
+ghost use Rattle.std.specs.Prelude.{◌≡◌, ◌<◌, length, Some, IfOk, IfErr, OnOk};
+ghost use Rattle.half_edges.specs.Map.{IsLive, dart_at, first_dart as first_of};
+ghost use Rattle.conn_parts.specs.Blocks.{IsPlaneBlock, BreaksFirst};
+ghost use Rattle.visibility.specs.Figures.{IsBarFigure};
+
+use crate::bars;
+use conn_parts::plane_blocks::{BlockRefusal, plane_block};
+use half_edges::{DartId, HalfMap, Rotations, VertexId};
+use pg_plane::BarFigure;
+use std::alloc::{AllocError, Global};
+
+// The dart from vertex 0 to the first of its list.
+fn first_dart(map: &HalfMap) -> DartId
+    requires block { IsPlaneBlock 3 map.now.lists }
+    ensures live { IsLive map.now result.0 }
+    ensures first { dart_at map.now result.0 ≡ Some (first_of map.now.lists 0) }
+{
+    match map.first_dart(VertexId(0)) {
+        Some(d) => d,
+        None => unreachable!(),
+    }
+}
+
+// The bars of a map in one block.
+fn block_bars(alloc: Global, map: &HalfMap) -> Result<BarFigure, AllocError>
+    requires block { IsPlaneBlock 3 map.now.lists }
+    ensures { IfOk result (IsBarFigure map.now.lists) }
+{
+    bars(alloc, map, first_dart(map))
+}
+
+/// The figure of a record with these lists, which are from 1 to 4095: each vertex as a level bar, each edge as a
+/// column between the bars of its ends, over a width of one less than the number of faces.
+///
+/// The heights are an st-order from vertex 0 to the first of its list, the columns are its dual numbers, and each
+/// bar reaches from its least column to its greatest.
+///
+/// `Err` names the first condition that the lists break, of these in this order: the four faults of a map, each
+/// with the least vertices; fewer than three vertices; a genus above zero; more than one component; a cut vertex,
+/// the least. Or there was not enough memory. The time is linear in the entries.
+///
+/// Source: Tamassia, Tollis, A unified approach to visibility representations of planar graphs, 1986.
+pub fn bar_figure(alloc: Global, lists: &Rotations) -> Result<BarFigure, BlockRefusal>
+    requires some_list { 0 < length lists.now }
+    requires few_lists { length lists.now < 4096 }
+    ensures figure { IfOk result (IsBarFigure lists.now) }
+    ensures served { OnOk result (IsPlaneBlock 3 lists.now) }
+    ensures refused { IfErr result (BreaksFirst 3 lists.now) }
+{
+    let map = plane_block(alloc, lists, 3)?;
+    let figure = block_bars(alloc, &map)?;
+    Ok(figure)
+}

@@ -1,4 +1,0 @@
--- The lemmas on the search.
-mod Marks
-mod Searching
-mod CountLemmas

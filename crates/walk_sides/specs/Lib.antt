@@ -1,3 +1,0 @@
--- The faces inside a closed walk.
-pub mod Inside
-pub mod Search

@@ -1,7 +1,0 @@
-//! The faces inside a closed walk, counted by a search of the faces.
-#![tactic(auto)]
-
-mod count;
-mod search;
-
-pub use count::inside_count;

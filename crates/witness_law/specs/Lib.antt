@@ -1,2 +1,0 @@
--- The law of witnesses.
-pub mod Refuted

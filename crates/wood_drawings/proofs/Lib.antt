@@ -1,2 +1,0 @@
--- The lemmas on the graph of a wood.
-mod ArcLemmas

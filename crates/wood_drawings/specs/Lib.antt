@@ -1,2 +1,0 @@
--- The order of a wood as a graph.
-pub mod Arcs

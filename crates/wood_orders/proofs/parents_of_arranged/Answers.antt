@@ -1,5 +1,0 @@
-use Rattle.wood_orders.proofs.RunParents.{parents_are}
-use Rattle.wood_orders.proofs.parents_of_arranged.Goals as goal
-
-pub returns : goal.returns
-returns c = λ lists base parent at steps completed has wood arranged order run. parents_are lists base parent at completed has wood arranged order steps run

@@ -1,3 +1,0 @@
--- The orders of a wood.
-pub mod Arranged
-pub mod Laws

@@ -1,5 +1,0 @@
-use Rattle.wood_points.proofs.Steps.{IsFalling-run}
-use Rattle.wood_points.proofs.contour_falls.Goals as goal
-
-pub returns : goal.returns
-returns c = IsFalling-run

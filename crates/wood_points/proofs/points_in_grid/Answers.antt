@@ -1,5 +1,0 @@
-use Rattle.wood_points.proofs.Corners.{in_grid}
-use Rattle.wood_points.proofs.points_in_grid.Goals as goal
-
-pub returns : goal.returns
-returns c = λ steps n m v whole. in_grid steps n m whole v

@@ -1,4 +1,0 @@
-pub mod ColourNumbers
-mod EdgeKinds
-mod RegionLemmas
-mod CountLemmas

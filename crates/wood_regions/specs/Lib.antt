@@ -1,3 +1,0 @@
--- The regions of woods.
-pub mod Regions
-pub mod Laws

@@ -1,0 +1,8 @@
+-- The woods of runs.
+pub mod Parents
+pub mod Rules
+-- The regions of runs.
+pub mod Fronts
+pub mod Sides
+pub mod Edges
+pub mod Laws
