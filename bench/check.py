@@ -29,7 +29,7 @@ ghost use Rattle.std.specs.Bool.{OnTrue};
 ghost use Rattle.plane_laws.specs.Completed.{IsCompleted};
 ghost use Rattle.draw_check.specs.Faults.{HasPlaces};
 ghost use Rattle.pg_plane.specs.Range.{IsInRange};
-ghost use Rattle.drawings.specs.Drawing.{place};
+ghost use Rattle.plane_drawings.specs.Drawing.{place};
 
 use draw_check::{FaceVerdict, Verdict, check, check_by_faces};
 use euler_faces::euler;
@@ -204,7 +204,7 @@ fn main(rt: HostRuntime) -> io::Result<()> {
 
 INVARIANT = """use Rattle.std.proofs.Common.{ℕ, ◌<◌}
 use Rattle.pg_plane.specs.Range.{IsInRange}
-use Rattle.drawings.specs.Drawing.{place}
+use Rattle.plane_drawings.specs.Drawing.{place}
 use Rattle.drawing.proofs.are_in_range.Given as goal
 
 abbrev pub invariant-loop-i : goal.invariant-loop-i

@@ -26,7 +26,7 @@ BENCHED = """        Ok(count) => {
         }
 """
 CODE = """
-ghost use Rattle.map_definitions.specs.Maps.{IsPlane, vertex_count};
+ghost use Rattle.map_theory.specs.Maps.{IsPlane, vertex_count};
 
 const STEPS: usize = %d;
 
@@ -79,7 +79,7 @@ def programs(folder):
     """The program with no step more than `count`, with one more, and so on."""
     copy = os.path.join(folder, "pigale")
     shutil.copytree(os.path.join(HERE, ".."), copy, symlinks=True, ignore=shutil.ignore_patterns(".git"))
-    edit(os.path.join(copy, "crates.txt"), "\npigale_shell:", "\npigale_shell: euler_bound plane_laws map_edits conn_parts augment_tri map_peeling canon_order")
+    edit(os.path.join(copy, "crates.txt"), "\npigale_shell:", "\npigale_shell: plane_laws plane_peeling augment_tri canon_order")
     answer = os.path.join(copy, "crates", "pigale_shell", "src", "answer.rt")
     edit(answer, ARM, BENCHED)
     base = open(answer, encoding="utf-8").read()

@@ -32,7 +32,8 @@ static int is_refused(void) {
     return 1;
 }
 
-extern void *__libc_malloc(size_t), *__libc_calloc(size_t, size_t), *__libc_realloc(void *, size_t), *__libc_memalign(size_t, size_t);
+extern void *__libc_malloc(size_t), *__libc_calloc(size_t, size_t), *__libc_realloc(void *, size_t);
+extern void *__libc_memalign(size_t, size_t);
 
 void *malloc(size_t size) { return is_refused() ? 0 : __libc_malloc(size); }
 void *calloc(size_t some, size_t size) { return is_refused() ? 0 : __libc_calloc(some, size); }

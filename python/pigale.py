@@ -938,7 +938,7 @@ def picture(figure, side=None, labels=True):
     whether vertices carry their numbers. Lines and dots have one size on the screen, whatever the grid is. Where there
     is no room for a number, it is left out; each vertex has a title with its number and its neighbours. A witness has
     its branch vertices in two rows (K3,3) or on a circle (K5), and the other edges of its graph thin: it is no drawing
-    without crossings.
+    without crossings. Raises ValueError where the figure names a vertex that it does not have.
     """
     width, height, body = _sketch(figure, side, labels)
     return (f'<svg xmlns="http://www.w3.org/2000/svg" viewBox="0 0 {width} {height}" width="{width}" '
@@ -950,7 +950,10 @@ def _sketch(figure, side, labels):
     count = len(figure.lists) if figure.job != "witness" else read_graph6(figure.graph6)[0]
     side = side or min(1100, (300 + 6 * max(0, count - 12)) * (3 if figure.job == "shift" else 2) // 2)
     sketch = {"bars": _bar_sketch, "rect": _rect_sketch, "witness": _witness_sketch}.get(figure.job, _grid_sketch)
-    return sketch(figure, side, labels)
+    try:
+        return sketch(figure, side, labels)
+    except (IndexError, KeyError) as fault:
+        raise ValueError(f"figure {figure.number} names a vertex that it does not have") from fault
 
 
 def _size_of(count):
@@ -1185,17 +1188,17 @@ def page(result, figures=()):
     """A run as one HTML page, as text, that needs nothing from elsewhere.
 
     `result` is a `Run`. Each figure has its picture and a caption, each refusal is a caption, and a count line too. For
-    `verify` give the `figures` of its input: each is shown with its verdict. The page is light or dark as its reader's
-    browser asks.
+    `verify` give the `figures` of its input: each is shown with its verdict, without a picture where it names a vertex
+    that it does not have. The page is light or dark as its reader's browser asks.
     """
     cards = []
     for k, answer in enumerate(result.answers):
         if isinstance(answer, FIGURES):
-            cards.append(_card(answer, _caption(answer)))
+            cards.append(_card(_caption(answer), answer))
         elif k < len(figures):
-            cards.append(_card(figures[k], f"{_caption(figures[k])}: {_line(answer.name, *answer.numbers)}"))
+            cards.append(_card(f"{_caption(figures[k])}: {_line(answer.name, *answer.numbers)}", figures[k]))
         else:
-            cards.append(_card(None, str(answer)))
+            cards.append(_card(str(answer)))
     last = result.blocks[-1] if result.blocks else None
     if isinstance(last, End):
         done = f"{last.records} record{'' if last.records == 1 else 's'}, {last.refused} refused"
@@ -1212,29 +1215,37 @@ def _caption(figure):
     return f"{figure.number}: {figure.job}, {len(figure.lists)} vertices, {len(edges_of(figure.lists))} edges"
 
 
-def _card(figure, caption):
-    if figure is None:
-        return f'<figure class="refused"><figcaption>{html.escape(caption)}</figcaption></figure>\n'
-    width, height, body = _sketch(figure, None, True)
+def _card(caption, figure=None):
+    words = html.escape(caption)
+    try:
+        width, height, body = _sketch(figure, None, True) if figure else (0, 0, "")
+    except ValueError:
+        body = ""
+    if not body:
+        return f'<figure class="refused"><figcaption>{words}</figcaption></figure>\n'
     return (f'<figure><div><svg viewBox="0 0 {width} {height}" width="{width}" height="{height}" role="img" '
-            f'aria-label="{html.escape(caption)}">\n{body}</svg></div><figcaption>{html.escape(caption)}</figcaption></figure>\n')
+            f'aria-label="{words}">\n{body}</svg></div><figcaption>{words}</figcaption></figure>\n')
 
 
 # Files of drawings
 
-def read_drawing(path_, text):
-    """The drawing in a file's text, as (places, edges): GraphML where the path ends in .graphml, else JSON.
+def read_drawing(name, text):
+    """The drawing in a file's text, as (places, edges): GraphML where its name ends in .graphml, else JSON.
 
     JSON is an object with `nodes`, each with `id`, `x` and `y`, and `edges` or `links`, each with `source` and
-    `target`. In GraphML the nodes have data by the names x and y. Raises ValueError where something of this is wanting.
+    `target`. In GraphML the nodes have data by the names x and y. Raises ValueError where something of this is wanting,
+    or there is no node.
     """
-    return (_graphml_drawing if path_.endswith(".graphml") else _json_drawing)(text)
+    places, edges = (_graphml_drawing if name.endswith(".graphml") else _json_drawing)(text)
+    if not places:
+        raise ValueError("the drawing has no nodes")
+    return places, edges
 
 
 def _json_drawing(text):
     try:
         data = json.loads(text)
-        places = {node["id"]: (node["x"], node["y"]) for node in data["nodes"]}
+        places = {node["id"]: (node["x"] + 0, node["y"] + 0) for node in data["nodes"]}
         links = data["edges"] if "edges" in data else data["links"]
         return places, [(link["source"], link["target"]) for link in links]
     except (KeyError, TypeError) as fault:
@@ -1285,9 +1296,9 @@ def _recode(words):
 
 def _check_file(words):
     scale = words[:1] == ["--scale"]
-    (path_,) = _wants(words[scale:], 1)
-    with open(path_, encoding="utf-8") as file:
-        places, edges = read_drawing(path_, file.read())
+    (name,) = _wants(words[scale:], 1)
+    with open(name, encoding="utf-8") as file:
+        places, edges = read_drawing(name, file.read())
     answer = check(scaled(places) if scale else places, edges)
     print(answer)
     return 0 if answer else 1

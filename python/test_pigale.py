@@ -366,13 +366,11 @@ class Networkx(unittest.TestCase):
     def test_one_vertex_moved(self):
         source, moved = random.Random(4), []
         for places, edges, _ in self.drawn[6] + self.drawn[7]:
-            v, (a, b) = source.choice(list(places)), source.choice(edges)
+            v, (a, b) = source.choice([(v, edge) for v in places for edge in edges if v not in edge])
             places = {w: (4 * x, 4 * y) for w, (x, y) in places.items()}
-            (x1, y1), (x2, y2) = places[a], places[b]
-            if v not in (a, b):
-                # onto the edge, and a little across it
-                moved.append(({**places, v: ((x1 + x2) // 2, (y1 + y2) // 2)}, edges))
-                moved.append(({**places, v: ((x1 + x2) // 2 + source.choice((-1, 1)), (y1 + y2) // 2)}, edges))
+            x, y = ((places[a][k] + places[b][k]) // 2 for k in (0, 1))
+            # onto the edge, and a little across it
+            moved += [({**places, v: (x, y)}, edges), ({**places, v: (x + source.choice((-1, 1)), y)}, edges)]
         answers = pigale.check_all(moved)
         self.assertEqual([bool(answer) for answer in answers], [is_plane(*drawing) for drawing in moved])
         self.assertGreater(sum(not answer for answer in answers), 400)
@@ -439,6 +437,16 @@ class Pictures(unittest.TestCase):
         self.assertNotIn("<script", page)
         self.assertIn("count 1 n 6", pigale.page(pigale.run("count", [pigale.prism(3)])))
 
+    def test_pages_of_wrong_figures(self):
+        text = content("witnesses.txt").decode().replace("path 1 2\n", "path 6 2\n") + "figure 1 shift 2\n1 at 0 0: 3\n2 at 1 0:\n"
+        figures = pigale.read_figures(text)
+        page = pigale.page(pigale.run("verify", figures), figures)
+        self.assertEqual(page.count("<svg"), 1)
+        self.assertIn("OutOfRange 1 3", page)
+        for figure in (figures[0], figures[2]):
+            with self.assertRaises(ValueError):
+                pigale.picture(figure)
+
 
 class Commands(unittest.TestCase):
     def test_recode(self):
@@ -462,7 +470,9 @@ class Commands(unittest.TestCase):
         rows = [("a.json", drawing(1, SIDES), [], 0, "yes"), ("a.json", drawing(1, crossed), [], 1, "Cross a c b d"),
                 ("a.json", drawing(0.3, SIDES), [], 3, ""), ("a.json", drawing(0.3, SIDES), ["--scale"], 0, "yes"),
                 ("a.json", drawing(1, SIDES).replace("edges", "links"), [], 0, "yes"), ("a.json", "[]", [], 3, ""),
-                ("a.json", "{", [], 3, ""), ("a.graphml", graphml, [], 1, "Cross a c b d"), ("a.graphml", "<", [], 3, ""),
+                ("a.json", "{", [], 3, ""), ("a.json", '{"nodes": [], "edges": []}', [], 3, ""),
+                ("a.json", drawing(1, SIDES).replace('"x": 0', '"x": "0"'), ["--scale"], 3, ""),
+                ("a.graphml", "<graphml/>", [], 3, ""), ("a.graphml", graphml, [], 1, "Cross a c b d"), ("a.graphml", "<", [], 3, ""),
                 ("a.graphml", graphml.replace('key="k1"', 'key="k2"'), [], 3, "")]
         with tempfile.TemporaryDirectory() as folder:
             for name, text, words, status, verdict in rows:

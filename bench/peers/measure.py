@@ -6,17 +6,18 @@
 
 Builds the drivers of this folder against Debian's packages (libboost-graph-dev, libplanarity-dev), takes nauty's planarg
 and geng (nauty) and Python's networkx, and says what is not there. Instructions are counted by valgrind; milliseconds
-are the least of three runs, for networkx those of one. Each answer of each program is judged by pigale: maps by `count`, drawings and Kuratowski
-subgraphs by `verify`. Makes its inputs under bench/out/, the same ones each time. Not part of the gate.
+are those on a processor, the least of three runs, for networkx of one. Each answer of each program is judged by pigale:
+maps by `count`, drawings and Kuratowski subgraphs by `verify`. Makes its inputs under bench/out/, the same ones each
+time. Not part of the gate.
 """
 import importlib.util
 import itertools
 import os
 import random
+import resource
 import shutil
 import subprocess
 import sys
-import time
 
 HERE = os.path.dirname(os.path.abspath(__file__))
 sys.path.insert(0, os.path.join(HERE, ".."))
@@ -172,8 +173,8 @@ def inputs(small):
     """(name, graphs) of each input."""
     source, geng = random.Random(1), shutil.which("nauty-geng") or shutil.which("geng")
     if geng:
-        done = subprocess.run([geng, "-c", "-q", "6" if small else "8"], stdout=subprocess.PIPE, text=True, check=True)
-        yield "all connected graphs of eight vertices", [pigale.read_graph6(line) for line in done.stdout.split()]
+        done = subprocess.run([geng, "-c", "-q", "5" if small else "7"], stdout=subprocess.PIPE, text=True, check=True)
+        yield "all connected graphs of seven vertices", [pigale.read_graph6(line) for line in done.stdout.split()]
     else:
         print("left out: the graphs of geng, which is not there", flush=True)
     few = 3 if small else 40
@@ -191,13 +192,14 @@ def inputs(small):
 # The tables
 
 def milliseconds(command, path, runs=3):
-    """The least time of some runs, and the output."""
+    """The least time on a processor of some runs, and the output."""
     times = []
     for _ in range(runs):
+        before = resource.getrusage(resource.RUSAGE_CHILDREN)
         with open(path, "rb") as file:
-            begun = time.perf_counter()
             done = subprocess.run(command, stdin=file, stdout=subprocess.PIPE, stderr=subprocess.DEVNULL, check=False)
-            times.append(time.perf_counter() - begun)
+        after = resource.getrusage(resource.RUSAGE_CHILDREN)
+        times.append(after.ru_utime + after.ru_stime - before.ru_utime - before.ru_stime)
     return 1000 * min(times), done.stdout
 
 
