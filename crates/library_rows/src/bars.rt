@@ -1,29 +1,26 @@
 //! St-orders and visibility drawings, and verdicts on them.
-ghost use Rattle.std.specs.Prelude.{◌≡◌, ◌<◌, ℕ, length, Some, IfOk};
-ghost use Rattle.map_theory.specs.Maps.{IsPlane, component_count};
-ghost use Rattle.graph_search.specs.Cuts.{IsCutVertex};
+ghost use Rattle.std.specs.Prelude.{IfOk};
 ghost use Rattle.half_edges.specs.Map.{IsLive};
+ghost use Rattle.conn_parts.specs.Blocks.{IsPlaneBlock};
 
 use crate::lists::lists_of;
 use crate::maps::{dart_between, map_of};
 use crate::orders::{put_counts, put_vertices};
 use crate::points::{integer, integers, put_integers};
 use crate::refusal::Refusal;
-use crate::text::{number, part};
+use crate::text::{behind, number, part};
 use bar_check::{BarVerdict, check_bars};
 use bipolar::dual_orders::dual_numbers;
 use conn_parts::plane_blocks::plane_block;
 use half_edges::{DartId, HalfMap};
 use pg_plane::BarFigure;
-use st_orders::{StOrder, st_order};
+use st_orders::st_order;
 use std::alloc::{AllocError, Global};
 use visibility::bars;
 
 // The map of lists, if it is plane, connected and without a cut vertex.
 fn block_of(alloc: Global, text: &str) -> Result<HalfMap, Refusal>
-    ensures plane { IfOk result (λ map. IsPlane map.lists) }
-    ensures connected { IfOk result (λ map. component_count map.lists ≡ 1) }
-    ensures uncut { IfOk result (λ map. (v : ℕ) → ¬ IsCutVertex map.lists v) }
+    ensures { IfOk result (λ map. IsPlaneBlock 3 map.lists) }
 {
     let lists = lists_of(alloc, text)?;
     match plane_block(alloc, &lists, 3) {
@@ -104,7 +101,7 @@ fn put_verdict(verdict: BarVerdict, out: &mut String) -> Result<(), AllocError> 
 // The verdict on a figure of a map.
 fn check(alloc: Global, args: &[&str], out: &mut String) -> Result<(), Refusal> {
     let map = map_of(alloc, part(args, 0))?;
-    let figure = bars_of(alloc, &args[1..])?;
+    let figure = bars_of(alloc, behind(args, 1))?;
     let n = usize::from(map.n());
     if figure.y.len() != n || figure.x1.len() != n || figure.x2.len() != n {
         return Err(Refusal::Row("bar for each vertex"));
@@ -118,7 +115,7 @@ pub fn answer(alloc: Global, call: &str, args: &[&str], out: &mut String) -> Res
         "order" => order(alloc, args, out),
         "columns" => columns(alloc, args, out),
         "drawing" => drawing(alloc, args, out),
-        "check" if args.len() > 1 => check(alloc, args, out),
+        "check" => check(alloc, args, out),
         _ => Err(Refusal::Row("such call")),
     }
 }

@@ -16,9 +16,9 @@ use grid_figures::drawing_orders::{DrawingOrder, drawing_order};
 use grid_figures::schnyder_figures::schnyder_figure;
 use grid_figures::schnyder_grid::wood_draw;
 use grid_figures::shift_figures::shift_figure;
-use half_edges::{Counts, VertexId, VertexList};
+use half_edges::{Counts, HalfMap, VertexId, VertexList};
 use pg_io::Steps;
-use pg_plane::GridFigure;
+use pg_plane::{GridFigure, Points};
 use std::alloc::{AllocError, Global};
 use std::marker::Brand;
 
@@ -133,26 +133,37 @@ fn node(alloc: Global, args: &[&str], out: &mut String) -> Result<(), Refusal> {
 }
 
 // The nodes of a tree, each by its place, its height and its links.
-fn put_nodes(tree: &Offsets, steps: &mut Steps<Brand>, out: &mut String) -> Result<(), AllocError> {
+fn put_nodes(tree: &Offsets, out: &mut String) -> Result<(), AllocError> {
+    let mut steps: Steps<Brand> = Steps::new();
     for v in 0..tree.len() {
-        put_node(tree.get(VertexId(v), steps), out)?;
+        put_node(tree.get(VertexId(v), &mut steps), out)?;
         out.push(';')?;
     }
     Ok(())
 }
 
-// The tree of offsets of a completed map, where it is asked for, and the points to which it adds up.
-fn offsets(alloc: Global, args: &[&str], nodes: bool, out: &mut String) -> Result<(), Refusal> {
-    let found = order_of(alloc, part(args, 0))?;
-    if found.tri.n() == 0 || found.order.at.len() == 0 {
+// The tree of offsets of a completed map, and the points to which it adds up.
+fn summed(alloc: Global, tri: &HalfMap, order: &Order) -> Result<(Offsets, Points), Refusal>
+    requires completed { IsCompleted tri.now.lists }
+    requires order { (base : Dart) × IsCanonicalOrder tri.now.lists base (vertices_of order.now) }
+    requires rank { IsRankOf order.now.rank (vertices_of order.now) }
+{
+    if tri.n() == 0 || order.at.len() == 0 {
         return Err(Refusal::Row("vertex"));
     }
     let mut steps: Steps<Brand> = Steps::new();
-    let mut tree = Offsets::new(alloc, found.tri.n())?;
-    offset_tree(&found.tri, &found.order, &mut tree, &mut steps);
-    let points = sum_offsets(alloc, &tree, found.order.at.get(0), &mut steps)?;
+    let mut tree = Offsets::new(alloc, tri.n())?;
+    offset_tree(tri, order, &mut tree, &mut steps);
+    let points = sum_offsets(alloc, &tree, order.at.get(0), &mut steps)?;
+    Ok((tree, points))
+}
+
+// The points of a tree of offsets, and before them its nodes where they are asked for.
+fn offsets(alloc: Global, args: &[&str], nodes: bool, out: &mut String) -> Result<(), Refusal> {
+    let found = order_of(alloc, part(args, 0))?;
+    let (tree, points) = summed(alloc, &found.tri, &found.order)?;
     if nodes {
-        put_nodes(&tree, &mut steps, out)?;
+        put_nodes(&tree, out)?;
         out.push_str(" points ")?;
     }
     Ok(put_points(&points, usize::MAX, out)?)

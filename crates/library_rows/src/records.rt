@@ -220,6 +220,9 @@ fn back(alloc: Global, args: &[&str], out: &mut String) -> Result<(), Refusal> {
     put_written(&lists, &mut bytes)?;
     let end = bytes.len();
     bytes.extend_from_slice(&bytes_of(alloc, part(args, 2))?)?;
+    if end < at || bytes.len() < end {
+        return Err(Refusal::Row("record"));
+    }
     match next_record(alloc, &bytes, at) {
         Ok(Step::Lists(found, next)) if are_same(&lists, &found) && next == end => {
             Ok(write!(

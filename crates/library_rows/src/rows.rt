@@ -1,6 +1,6 @@
 //! A row and its answer.
 use crate::refusal::{Refusal, tell};
-use crate::text::part;
+use crate::text::{behind, part};
 use crate::{
     bars, completions, convex, counts, cuts, edits, graphs, maps, orbits, orders, points, records,
     rects, searches, texts, verdicts, witnesses, woods,
@@ -50,8 +50,7 @@ fn answered(alloc: Global, kind: &str, args: &[&str], out: &mut String) -> Resul
 fn put_row(alloc: Global, parts: &[&str], out: &mut String) -> Result<(), AllocError> {
     out.push_str(part(parts, 0))?;
     out.push_str(": ")?;
-    let args = if parts.len() < 2 { parts } else { &parts[2..] };
-    if let Err(refusal) = answered(alloc, part(parts, 1), args, out) {
+    if let Err(refusal) = answered(alloc, part(parts, 1), behind(parts, 2), out) {
         tell(refusal, out)?;
     }
     Ok(())

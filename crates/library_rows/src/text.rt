@@ -6,6 +6,15 @@ pub fn part<'a>(parts: &[&'a str], i: usize) -> &'a str {
     if i < parts.len() { parts[i] } else { "" }
 }
 
+/// The arguments behind the first ones, so many.
+pub fn behind<'a, 'b>(parts: &'b [&'a str], count: usize) -> &'b [&'a str] {
+    if parts.len() < count {
+        parts
+    } else {
+        &parts[count..]
+    }
+}
+
 /// The number that a text is, and 0 where it is none.
 pub fn number(text: &str) -> u16 {
     text.parse::<u16>().unwrap_or(0)

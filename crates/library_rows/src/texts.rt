@@ -7,7 +7,7 @@ use crate::graphs::{graph_of, lines_of, put_bytes};
 use crate::lists::lists_of;
 use crate::points::points_of;
 use crate::refusal::Refusal;
-use crate::text::{number, part};
+use crate::text::{behind, number, part};
 use crate::witnesses::witness_of;
 use figure_text::{Figure, GridJob, Item, TextFault, print_figure, print_witness, read_figure};
 use half_edges::Rotations;
@@ -66,7 +66,7 @@ fn has_bars(lists: &Rotations, bars: &BarFigure) -> bool
 // The text of a visibility drawing of some lists.
 fn bars(alloc: Global, args: &[&str], out: &mut String) -> Result<(), Refusal> {
     let lists = lists_of(alloc, part(args, 1))?;
-    let bars = bars_of(alloc, &args[2..])?;
+    let bars = bars_of(alloc, behind(args, 2))?;
     if !has_bars(&lists, &bars) {
         return Err(Refusal::Row("bar for each vertex"));
     }
@@ -115,7 +115,7 @@ pub fn answer(alloc: Global, call: &str, args: &[&str], out: &mut String) -> Res
     match call {
         "grid" => grid(alloc, args, out),
         "nothing" => nothing(alloc, args, out),
-        "bars" if args.len() > 2 => bars(alloc, args, out),
+        "bars" => bars(alloc, args, out),
         "witness" => witness(alloc, args, out),
         "read" => read(alloc, args, out),
         _ => Err(Refusal::Row("such call")),
