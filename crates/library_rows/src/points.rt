@@ -1,5 +1,5 @@
 //! Points and whole numbers as texts, and the questions that are asked of points.
-ghost use Rattle.std.specs.Prelude.{◌≡◌, ◌<◌, ℕ, IsTrue, IfOk, length, All};
+ghost use Rattle.std.specs.Prelude.{◌<◌, ℕ, IsTrue, IfOk, length, All};
 ghost use Rattle.pg_plane.specs.Range.{IsInRange};
 ghost use Rattle.plane_drawings.specs.Drawing.{place};
 

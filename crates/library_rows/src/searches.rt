@@ -1,5 +1,5 @@
 //! Graphs that are drawn or refuted, by the fast searches and by contracted edges: single ones, and all of a size.
-ghost use Rattle.std.specs.Prelude.{◌≡◌, ◌≤◌, IfOk};
+ghost use Rattle.std.specs.Prelude.{◌≤◌};
 
 use crate::graphs::graph_of;
 use crate::refusal::Refusal;

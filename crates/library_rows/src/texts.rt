@@ -1,5 +1,5 @@
 //! Texts of figures, printed and read. A line ends with `;` in a row and in an answer.
-ghost use Rattle.std.specs.Prelude.{◌<◌, ◌≤◌, length, IsTrue, IfOk};
+ghost use Rattle.std.specs.Prelude.{IsTrue};
 ghost use Rattle.figure_text.specs.Text.{HasBars};
 
 use crate::bars::bars_of;

@@ -1,5 +1,5 @@
 //! Verdicts on drawings.
-ghost use Rattle.std.specs.Prelude.{◌≡◌, IfOk, length};
+ghost use Rattle.std.specs.Prelude.{IfOk};
 ghost use Rattle.draw_check.specs.Faults.{HasPlaces};
 
 use crate::maps::{dart_between, map_of};

@@ -1,5 +1,5 @@
 //! Witnesses that a graph is not planar: checked, lifted and found.
-ghost use Rattle.std.specs.Prelude.{◌≡◌, OnOk, IfOk, true};
+ghost use Rattle.std.specs.Prelude.{◌≡◌, true};
 ghost use Rattle.graph6_text.specs.Graphs.{has_edge};
 
 use crate::graphs::{edge_of, graph_of};

@@ -1,5 +1,5 @@
 //! Woods of completed maps, the regions of their vertices, and the drawing that stands on them.
-ghost use Rattle.std.specs.Prelude.{◌≡◌, ◌<◌, length, IfOk};
+ghost use Rattle.std.specs.Prelude.{◌<◌, IfOk};
 ghost use Rattle.map_theory.specs.Maps.{Dart, HasDart};
 ghost use Rattle.plane_laws.specs.Completed.{IsCompleted};
 ghost use Rattle.canon_order.specs.Orders.{IsCanonicalOrder, IsRankOf, vertices_of};
@@ -126,7 +126,7 @@ fn drawing(alloc: Global, args: &[&str], out: &mut String) -> Result<(), Refusal
     let found = wood_of(alloc, &set.tri, &set.order)?;
     match schnyder_draw(alloc, &set.tri, &found) {
         Ok(figure) => {
-            put_points(&figure.points, 12, out)?;
+            put_points(&figure.points, usize::from(number(part(args, 1))), out)?;
             let count = standing(alloc, &set.tri, &found, &figure.points)?;
             Ok(write!(out, ", {count} by regions")?)
         }
