@@ -1,18 +1,20 @@
 -- What the search for faulty edges says of columns and of bars in their way.
-use Rattle.std.proofs.Common.{ℕ, ℤ, Option, Some, None}
+use Rattle.std.proofs.Common.{◌≡◌, ◌<◌, Bool, true, ℕ, ℤ, Option, Some, None}
+use Rattle.map_theory.specs.Maps.{HasDart}
 use Rattle.std.specs.Option.{MatchOption}
 use Rattle.map_lists.specs.Lists.{Lists}
 use Rattle.map_lists.specs.declared.ids.VertexId.{VertexId}
 use Rattle.map_lists.specs.declared.items.Ends.{Ends}
 use Rattle.std.specs.Prelude.{length}
 use Rattle.pg_plane.specs.declared.figure.BarFigure.{BarFigure}
-use Rattle.draw_check.specs.Least.{IsLeast, IsLeastPair}
-use Rattle.draw_check.specs.Faults.{HasEdge}
-use Rattle.draw_check.proofs.LeastLemmas.{IsLeastPair-alike}
+use Rattle.vertex_rounds.specs.Least.{IsLeast, IsLeastPair}
+use Rattle.vertex_rounds.specs.Rounds.{HasEdge}
+use Rattle.vertex_rounds.proofs.LeastLemmas.{IsLeastPair-alike}
 use Rattle.bar_check.specs.Bars.{column_of}
 use Rattle.bar_check.specs.Faults.{HasBadColumn, GoesThrough}
 use Rattle.bar_check.specs.Verdicts.{NoBadColumn}
-use Rattle.bar_check.specs.Loops.{IsStruckBelow, IsFaultyEdge}
+use Rattle.bar_check.specs.Loops.{IsStruckBelow, IsFaulty, IsFaultyPair, IsFaultyEdge}
+use Rattle.bar_check.specs.declared.columns.Kind.{Kind}
 use Rattle.bar_check.specs.declared.columns.Kind.TheVariants.{Misplaced, Blocked}
 
 module _ (lists : Lists) (fig : BarFigure) (width : ℤ) where
@@ -38,4 +40,18 @@ module _ (lists : Lists) (fig : BarFigure) (a b : ℕ) where
   first_in_way edge (Some v) h = record {
     here = record { edge = edge; vertex = h.here.0; struck = h.here.1 };
     before = λ u l through. h.before u l (through.vertex, through.struck);
+  }
+
+module _ (lists : Lists) (fig : BarFigure) (kind : Kind) (a : ℕ) where
+  -- what decides the fault of an edge upwards decides it of the pair
+  pub faulty_pair : (b : ℕ) (r : Bool) → a < b → ((r ≡ true → IsFaulty (length lists) fig kind a b (column_of lists fig a b)) × (IsFaulty (length lists) fig kind a b (column_of lists fig a b) → r ≡ true)) → (r ≡ true → IsFaultyPair lists fig kind a b) × (IsFaultyPair lists fig kind a b → r ≡ true)
+  faulty_pair b r less is = (λ t. (less, is.0 t), λ p. is.1 p.1)
+
+  -- the least such pair that is a dart is the least edge with a fault
+  pub least_faulty_edge : (found : Option VertexId) → MatchOption found ((b : ℕ) → HasDart lists a b → ¬ IsFaultyPair lists fig kind a b) (λ (b : VertexId). IsLeast (λ x. HasDart lists a x × IsFaultyPair lists fig kind a x) b.0)
+      → MatchOption found ((b : ℕ) → ¬ IsFaultyEdge lists fig kind a b) (λ (b : VertexId). IsLeast (IsFaultyEdge lists fig kind a) b.0)
+  least_faulty_edge None none = λ b x. none b x.edge.1 (x.edge.0, x.faulty)
+  least_faulty_edge (Some b) least = record {
+    here = record { edge = (least.here.1.0, least.here.0); faulty = least.here.1.1 };
+    before = λ t less x. least.before t less (x.edge.1, (x.edge.0, x.faulty));
   }

@@ -1,7 +1,6 @@
 -- The lemmas on checks of visibility drawings.
 pub mod EdgeLemmas
 mod ColumnLemmas
-mod OnceRound
 mod TurnLemmas
 pub mod OverlapLemmas
 mod Cases

@@ -3,7 +3,7 @@ use Rattle.std.specs.Prelude.{ℕ, zero, suc, ◌+◌, ◌<◌, ◌≤◌, ◌�
 use Rattle.map_lists.specs.Lists.{Lists}
 use Rattle.map_theory.specs.Maps.{HasDart, list_of, follows, edge_count}
 use Rattle.pg_plane.specs.declared.figure.BarFigure.{BarFigure}
-use Rattle.draw_check.specs.Faults.{HasEdge, ComesBefore}
+use Rattle.vertex_rounds.specs.Rounds.{HasEdge, ComesBefore}
 
 -- number i of a list, or 0 behind its end
 abbrev pub number_at : List ℤ → ℕ → ℤ

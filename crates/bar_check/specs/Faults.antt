@@ -3,7 +3,7 @@ use Rattle.std.specs.Prelude.{ℕ, ◌<◌, ◌≤◌, ◌≡◌, length, ℤ}
 use Rattle.map_lists.specs.Lists.{Lists}
 use Rattle.map_theory.specs.Maps.{list_of}
 use Rattle.pg_plane.specs.declared.figure.BarFigure.{BarFigure}
-use Rattle.draw_check.specs.Faults.{HasEdge, ComesBefore}
+use Rattle.vertex_rounds.specs.Rounds.{HasEdge, ComesBefore}
 use Rattle.bar_check.specs.Bars.{number_at, column_of, IsNewHeight, IsBar, IsColumn, IsStruck, MeetInside, GoesOnceRound}
 
 -- the height of v is not from 0 to n - 1, or a lesser vertex has it

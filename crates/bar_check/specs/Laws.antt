@@ -5,7 +5,7 @@ use Rattle.map_lists.specs.declared.items.Ends.{Ends}
 use Rattle.map_theory.specs.Maps.{IsSimpleMap, list_of, edge_count}
 use Rattle.map_theory.specs.Paths.{from_entry}
 use Rattle.pg_plane.specs.declared.figure.BarFigure.{BarFigure}
-use Rattle.draw_check.specs.Faults.{HasEdge, ComesBefore}
+use Rattle.vertex_rounds.specs.Rounds.{HasEdge, ComesBefore}
 use Rattle.bar_check.specs.Bars.{edge_number, IsEarlier, GoesOnceRound, IsValidBars}
 use Rattle.bar_check.specs.Verdicts.{IsBarVerdict}
 use Rattle.bar_check.specs.declared.verdict.BarVerdict.{BarVerdict}

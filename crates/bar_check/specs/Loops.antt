@@ -2,8 +2,8 @@
 use Rattle.std.specs.Prelude.{ℕ, ◌<◌, length, ℤ}
 use Rattle.map_lists.specs.Lists.{Lists}
 use Rattle.pg_plane.specs.declared.figure.BarFigure.{BarFigure}
-use Rattle.draw_check.specs.Faults.{HasEdge}
-use Rattle.bar_check.specs.Bars.{column_of, IsColumn, IsStruck}
+use Rattle.vertex_rounds.specs.Rounds.{HasEdge}
+use Rattle.bar_check.specs.Bars.{column_of, IsColumn, IsStruck, IsBreak}
 use Rattle.bar_check.specs.declared.columns.Kind.{Kind}
 use Rattle.bar_check.specs.declared.columns.Kind.TheVariants.{Misplaced, Blocked}
 
@@ -16,7 +16,15 @@ abbrev pub IsFaulty : ℕ → BarFigure → Kind → ℕ → ℕ → ℤ → Typ
 IsFaulty n fig (Misplaced width) a b x = ¬ IsColumn fig width a b x
 IsFaulty n fig Blocked a b x = (v : ℕ) × IsStruckBelow n fig a b x v
 
+-- a is below b, and an edge from a to b has a fault of this kind
+abbrev pub IsFaultyPair : Lists → BarFigure → Kind → ℕ → ℕ → Type 0
+IsFaultyPair lists fig kind a b = (a < b) × IsFaulty (length lists) fig kind a b (column_of lists fig a b)
+
 -- an edge with a fault of this kind
 pub record IsFaultyEdge (lists : Lists) (fig : BarFigure) (kind : Kind) (a b : ℕ) : Type 0 where
   pub edge : HasEdge lists a b
   pub faulty : IsFaulty (length lists) fig kind a b (column_of lists fig a b)
+
+-- the edges of v break behind that to u
+pub record Breaks (lists : Lists) (fig : BarFigure) (v u : ℕ) : Type 0 where
+  pub break : IsBreak lists fig v u

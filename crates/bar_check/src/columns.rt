@@ -1,21 +1,20 @@
 //! Columns that stand wrong, and bars in their way.
 ghost use Rattle.std.specs.Prelude.{◌≡◌, ◌+◌, ◌*◌, ◌<◌, ◌≤◌, ◌↔◌, ℕ, List, length, slice_index, IsTrue, Some, MatchOption};
 ghost use Rattle.map_theory.specs.Maps.{HasDart};
-ghost use Rattle.half_edges.specs.Map.{IsHalfMap, dart_at, first_dart};
-ghost use Rattle.draw_check.specs.Least.{IsLeast, IsLeastPair, IsLeastTriple};
-ghost use Rattle.draw_check.specs.Faults.{HasEdge};
-ghost use Rattle.draw_check.specs.Loops.{IsLeastOf};
+ghost use Rattle.half_edges.specs.Map.{IsHalfMap, IsLive};
+ghost use Rattle.vertex_rounds.specs.Least.{IsLeast, IsLeastPair, IsLeastTriple};
+ghost use Rattle.vertex_rounds.specs.Rounds.{HasEdge, dart_of};
 ghost use Rattle.bar_check.specs.Bars.{number_at, edges_before, column_of as the_column, Holds, IsColumn, IsBetween, IsStruck};
 ghost use Rattle.bar_check.specs.declared.columns.Kind.TheVariants.{Blocked};
 ghost use Rattle.bar_check.specs.Faults.{HasBadColumn, GoesThrough};
 ghost use Rattle.bar_check.specs.Verdicts.{NoBadColumn, NoneThrough};
-ghost use Rattle.bar_check.specs.Loops.{IsStruckBelow, IsFaulty, IsFaultyEdge};
+ghost use Rattle.bar_check.specs.Loops.{IsStruckBelow, IsFaulty, IsFaultyPair, IsFaultyEdge};
 
 use crate::edges::{column_from, column_of, edges_with};
 use crate::heights::number;
-use crate::rounds::{is_below, later_dart};
 use half_edges::{DartId, Ends, HalfMap, VertexId};
 use pg_plane::BarFigure;
+use vertex_rounds::least_head;
 
 // A kind of fault of an edge.
 #[derive(Clone, Copy)]
@@ -115,57 +114,25 @@ fn is_faulty(
     )
 }
 
-// The least neighbour so far to which an edge from `a` has a fault of this kind, with `b` beside those
-// before; `before` edges have their lesser end below `a`.
-fn better(
+// Whether the dart leads from `a` to a greater vertex, and the edge has a fault of this kind; `before` edges
+// have their lesser end below `a`.
+fn leads_to_faulty(
     map: &HalfMap,
     fig: &BarFigure,
     kind: Kind,
     before: u32,
     a: VertexId,
-    b: VertexId,
-    best: Option<VertexId>,
-) -> Option<VertexId>
+    d: DartId,
+) -> bool
     requires known { IsHalfMap map.now }
-    requires dart { HasDart map.now.lists a.0 b.0 }
+    requires vertex { a.0 < length map.now.lists }
     requires before { before ≡ edges_before map.now.lists a.0 }
     requires few { before ≤ 65535 * a.0 }
-    ensures { (us : List ℕ) (k : ℕ) → slice_index us k ≡ b.0 → IsLeastOf (IsFaultyEdge map.now.lists fig.now kind a.0) us k best
-        → IsLeastOf (IsFaultyEdge map.now.lists fig.now kind a.0) us (k + 1) result }
+    requires live { IsLive map.now d.0 }
+    ensures { IsTrue result ↔ IsFaultyPair map.now.lists fig.now kind a.0 (dart_of map.now d.0).1 }
 {
-    if a.0 < b.0 && is_below(b, best) && is_faulty(map, fig, kind, before, a, b) {
-        Some(b)
-    } else {
-        best
-    }
-}
-
-// The least neighbour to which an edge from `a` has a fault of this kind; `first` is the dart to the first
-// entry of its list.
-fn least_faulty_round(
-    map: &HalfMap,
-    fig: &BarFigure,
-    kind: Kind,
-    before: u32,
-    a: VertexId,
-    first: DartId,
-) -> Option<VertexId>
-    requires known { IsHalfMap map.now }
-    requires first { dart_at map.now first.0 ≡ Some (first_dart map.now.lists a.0) }
-    requires before { before ≡ edges_before map.now.lists a.0 }
-    requires few { before ≤ 65535 * a.0 }
-    ensures { MatchOption result ((b : ℕ) → ¬ IsFaultyEdge map.now.lists fig.now kind a.0 b)
-        (λ b. IsLeast (IsFaultyEdge map.now.lists fig.now kind a.0) b.0) }
-{
-    let mut best = None;
-    let mut d = first;
-    'round: loop {
-        best = better(map, fig, kind, before, a, map.head(d), best);
-        match later_dart(map, d) {
-            Some(next) => d = next,
-            None => return best,
-        }
-    }
+    let b = map.head(d);
+    a.0 < b.0 && is_faulty(map, fig, kind, before, a, b)
 }
 
 // The least neighbour to which an edge from `a`, which is its lesser end, has a fault of this kind.
@@ -183,10 +150,7 @@ fn least_faulty(
     ensures { MatchOption result ((b : ℕ) → ¬ IsFaultyEdge map.now.lists fig.now kind a.0 b)
         (λ b. IsLeast (IsFaultyEdge map.now.lists fig.now kind a.0) b.0) }
 {
-    match map.first_dart(a) {
-        Some(first) => least_faulty_round(map, fig, kind, before, a, first),
-        None => None,
-    }
+    least_head(map, a, |d| leads_to_faulty(map, fig, kind, before, a, d))
 }
 
 // The first edge with a fault of this kind.

@@ -5,9 +5,9 @@ ghost use Rattle.half_edges.specs.Map.{IsHalfMap, dart_at, first_dart};
 ghost use Rattle.bar_check.specs.Bars.{number_at, edges_until as the_edges_until, edges_before as the_edges_before, column_of as the_column, column_between as the_column_between};
 
 use crate::heights::number;
-use crate::rounds::later_dart;
 use half_edges::{DartId, HalfMap, VertexId};
 use pg_plane::BarFigure;
+use vertex_rounds::later_dart;
 
 // The count with one more where `u` is above `v` and below `end`.
 fn counted(count: u32, v: VertexId, u: VertexId, end: u16) -> u32

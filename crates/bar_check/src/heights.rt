@@ -1,7 +1,7 @@
 //! Heights and bars, vertex by vertex.
 ghost use Rattle.std.specs.Prelude.{◌≡◌, ◌≢◌, ◌<◌, ◌↔◌, ℕ, length, IsTrue, MatchBool, MatchOption};
 ghost use Rattle.map_lists.specs.Lists.{Lists};
-ghost use Rattle.draw_check.specs.Least.{IsLeast};
+ghost use Rattle.vertex_rounds.specs.Least.{IsLeast};
 ghost use Rattle.bar_check.specs.Bars.{number_at, IsNewHeight, IsBar};
 ghost use Rattle.bar_check.specs.Faults.{HasBadHeight, HasBadBar};
 ghost use Rattle.bar_check.specs.Verdicts.{HasHeights, AreBars};

@@ -9,7 +9,6 @@ mod check;
 mod columns;
 mod edges;
 mod heights;
-mod rounds;
 mod turns;
 mod verdict;
 

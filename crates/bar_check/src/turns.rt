@@ -1,17 +1,19 @@
 //! The edges of a vertex, in the order of its list.
 ghost use Rattle.std.specs.Prelude.{◌≡◌, ◌<◌, ◌≤◌, ◌<ℤ◌, ◌↔◌, ◌||◌, ℕ, length, IsTrue, Some, MatchBool, MatchOption};
 ghost use Rattle.map_theory.specs.Maps.{list_of};
-ghost use Rattle.half_edges.specs.Map.{IsHalfMap, dart_at, first_dart};
-ghost use Rattle.draw_check.specs.Least.{IsLeast};
+ghost use Rattle.half_edges.specs.Map.{IsHalfMap, IsLive};
+ghost use Rattle.vertex_rounds.specs.Least.{IsLeast};
+ghost use Rattle.vertex_rounds.specs.Rounds.{HoldsAt};
+ghost use Rattle.bar_check.specs.Loops.{Breaks};
 ghost use Rattle.bar_check.specs.Bars.{column_between as the_column, IsAbove, IsEarlier, GoesOnceRound};
 ghost use Rattle.bar_check.specs.Faults.{IsTurned};
 ghost use Rattle.bar_check.specs.Verdicts.{KeepsTurns};
 
 use crate::edges::column_between;
 use crate::heights::number;
-use crate::rounds::later_dart;
 use half_edges::{DartId, HalfMap, VertexId};
 use pg_plane::BarFigure;
+use vertex_rounds::turns_once;
 
 // Whether `u` stands higher than `v`.
 fn is_above(fig: &BarFigure, v: VertexId, u: VertexId) -> bool
@@ -47,59 +49,13 @@ fn is_earlier(map: &HalfMap, fig: &BarFigure, v: VertexId, u: VertexId, w: Verte
     }
 }
 
-// Whether one of two holds.
-fn either(a: bool, b: bool) -> bool
-    ensures { result ≡ (a || b) }
-{
-    a || b
-}
-
-// Whether the entries of the list of `v` go once round in the order of its edges; `first` is the dart to the
-// first of them.
-fn goes_once_round(map: &HalfMap, fig: &BarFigure, v: VertexId, first: DartId) -> bool
+// Whether the edge of a dart does not come before that of the entry behind it.
+fn is_break(map: &HalfMap, fig: &BarFigure, d: DartId) -> bool
     requires known { IsHalfMap map.now }
-    requires first { dart_at map.now first.0 ≡ Some (first_dart map.now.lists v.0) }
-    ensures { MatchBool result (GoesOnceRound map.now.lists fig.now v.0)
-        (¬ GoesOnceRound map.now.lists fig.now v.0) }
+    requires live { IsLive map.now d.0 }
+    ensures { IsTrue result ↔ HoldsAt map.now (Breaks map.now.lists fig.now) d.0 }
 {
-    let mut broken = false;
-    let mut d = first;
-    'round: loop {
-        let breaks = is_break(map, fig, v, map.head(d), map.head(map.next(d)));
-        if broken && breaks {
-            return false;
-        }
-        broken = either(broken, breaks);
-        match later_dart(map, d) {
-            Some(next) => d = next,
-            None => return broken,
-        }
-    }
-}
-
-// Whether the edge of `v` to `u` does not come before that to `w`.
-fn is_break(map: &HalfMap, fig: &BarFigure, v: VertexId, u: VertexId, w: VertexId) -> bool
-    requires known { IsHalfMap map.now }
-    requires v { v.0 < length map.now.lists }
-    requires u { u.0 < length map.now.lists }
-    requires w { w.0 < length map.now.lists }
-    ensures { IsTrue result ↔ (¬ IsEarlier map.now.lists fig.now v.0 u.0 w.0) }
-{
-    !is_earlier(map, fig, v, u, w)
-}
-
-// Whether the list of `v` goes once round, where it has at least two entries; `first` is the dart to the
-// first of them.
-fn keeps_round(map: &HalfMap, fig: &BarFigure, v: VertexId, first: DartId) -> bool
-    requires known { IsHalfMap map.now }
-    requires first { dart_at map.now first.0 ≡ Some (first_dart map.now.lists v.0) }
-    ensures { MatchBool result (2 ≤ length (list_of map.now.lists v.0) → GoesOnceRound map.now.lists fig.now v.0)
-        (IsTurned map.now.lists fig.now v.0) }
-{
-    match later_dart(map, first) {
-        Some(_) => goes_once_round(map, fig, v, first),
-        None => true,
-    }
+    !is_earlier(map, fig, map.tail(d), map.head(d), map.head(map.next(d)))
 }
 
 // Whether the list of `v` goes once round, where it has at least two entries.
@@ -109,10 +65,7 @@ fn keeps_rotation(map: &HalfMap, fig: &BarFigure, v: VertexId) -> bool
     ensures { MatchBool result (2 ≤ length (list_of map.now.lists v.0) → GoesOnceRound map.now.lists fig.now v.0)
         (IsTurned map.now.lists fig.now v.0) }
 {
-    match map.first_dart(v) {
-        Some(first) => keeps_round(map, fig, v, first),
-        None => true,
-    }
+    turns_once(map, v, |d| is_break(map, fig, d))
 }
 
 // The least vertex whose list is not in the order of its edges.

@@ -10,7 +10,7 @@ use Rattle.map_theory.specs.Paths.{SameFace}
 use Rattle.half_edges.specs.Map.{Map, IsHalfMap, dart_at}
 use Rattle.euler_faces.specs.FaceWalks.{walk_at, first_number, AreFaces}
 use Rattle.euler_faces.proofs.NumberLemmas.{number_at-is}
-use Rattle.draw_check.proofs.WalkFaces.{in_class, in_walk}
+use Rattle.euler_faces.proofs.WalkFaces.{in_class, in_walk}
 use Rattle.graph_search.specs.Arcs.{arcs_of, HasArc, IsAcyclic, AreLongest}
 use Rattle.bipolar.specs.DualNumbers.{IsUpward, IsFaceNumbering}
 use Rattle.bipolar.specs.FaceArcs.{InWalk, AreFaceArcs}

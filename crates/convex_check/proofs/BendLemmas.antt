@@ -1,5 +1,5 @@
 -- Where faces bend, as the calls of a map answer it.
-use Rattle.std.proofs.Common.{◌≡◌, ℕ, ◌<◌, List, length, Contains, pos, ◌<ℤ◌, refl, sym, ap, subst, ◌∙◌}
+use Rattle.std.proofs.Common.{◌≡◌, ℕ, ◌<◌, List, length, Contains, pos, ◌<ℤ◌, refl, sym, ap, subst, ◌∙◌, arith}
 use Rattle.classes.proofs.Classes.{Together-from, same_class-from}
 use Rattle.map_theory.specs.Maps.{HasDart, follows, face_classes}
 use Rattle.map_theory.specs.Paths.{SameFace}
@@ -9,9 +9,11 @@ use Rattle.euler_faces.specs.FaceWalks.{walk_at, AreFaces}
 use Rattle.pg_plane.specs.declared.point.Point.{Point}
 use Rattle.pg_plane.specs.Geometry.{area}
 use Rattle.plane_drawings.specs.Drawing.{place}
-use Rattle.draw_check.specs.FaceVerdicts.{dart_of}
-use Rattle.draw_check.proofs.WalkFaces.{in_class, in_walk}
-use Rattle.convex_check.specs.Verdicts.{IsBentFrom}
+use Rattle.vertex_rounds.specs.Rounds.{dart_of}
+use Rattle.euler_faces.proofs.WalkFaces.{in_class, in_walk}
+use Rattle.convex_check.specs.Verdicts.{NoneBent, IsBentFrom}
+use Rattle.convex_check.specs.Convex.{IsBent}
+use Rattle.vertex_rounds.specs.Least.{IsLeastPair, IsLeastTriple}
 
 -- Two ids stand in one walk exactly where their darts are in one face.
 module _ (map : Map) (h : IsHalfMap map) (walks : List (List ℕ)) (faces : AreFaces map walks) (d e : ℕ) (live : IsLive map d) (live' : IsLive map e) where
@@ -40,3 +42,23 @@ module _ (map : Map) (points : List Point) (base a b s t w : ℕ) (tail : s ≡ 
 
   pub turn-IsBentFrom : IsBentFrom map points base a b → area (place points s) (place points t) (place points w) <ℤ pos 0
   turn-IsBentFrom bent = subst (λ z. z <ℤ pos 0) (sym turn_is) bent.turn
+
+module _ (map : Map) (points : List Point) (base : ℕ) where
+  -- three vertices where a face bends are told by the first two
+  told_by_two : (a b w : ℕ) → IsBent map.lists points (dart_of map base) a b w → IsBentFrom map points base a b
+  told_by_two a b w x = subst (IsBent map.lists points (dart_of map base) a b) (sym x.third) x
+
+  pub none_bent : ((a b : ℕ) → ¬ IsBentFrom map points base a b) → NoneBent map.lists points (dart_of map base)
+  none_bent none a b w x = none a b (told_by_two a b w x)
+
+  pub least_bent : (a b w : ℕ) → IsLeastPair (IsBentFrom map points base) a b → follows map.lists b a ≡ w → IsLeastTriple (IsBent map.lists points (dart_of map base)) a b w
+  least_bent a b w least third = record {
+    before = λ r s t less x. least.before r s less (told_by_two r s t x);
+    rest = record {
+      before = λ s t less x. least.rest.before s less (told_by_two a s t x);
+      rest = record {
+        here = subst (IsBent map.lists points (dart_of map base) a b) third least.rest.here;
+        before = λ t less x. let same = x.third in omega arith;
+      };
+    };
+  }

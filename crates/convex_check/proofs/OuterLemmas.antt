@@ -12,8 +12,8 @@ use Rattle.pg_plane.specs.Geometry.{area}
 use Rattle.pg_plane.specs.Range.{IsInRange}
 use Rattle.plane_drawings.specs.Drawing.{place}
 use Rattle.draw_check.specs.Loops.{IsDrawn}
-use Rattle.draw_check.specs.FaceVerdicts.{dart_of}
-use Rattle.draw_check.proofs.FaceIds.{dart_of-is, has_dart}
+use Rattle.vertex_rounds.specs.Rounds.{dart_of}
+use Rattle.vertex_rounds.proofs.DartIds.{dart_of-is, has_dart}
 use Rattle.convex_check.specs.Corners.{IsOnTriangle, HasCorners}
 use Rattle.convex_check.specs.Convex.{IsOnFace, HasOuterCorners}
 use Rattle.convex_check.specs.Walks.{AreWalkPlaces}

@@ -4,8 +4,8 @@ use Rattle.map_lists.specs.Lists.{Lists}
 use Rattle.map_theory.specs.Maps.{Dart, follows}
 use Rattle.half_edges.specs.Map.{Map}
 use Rattle.pg_plane.specs.declared.point.Point.{Point}
-use Rattle.draw_check.specs.Least.{IsLeastTriple}
-use Rattle.draw_check.specs.FaceVerdicts.{dart_of}
+use Rattle.vertex_rounds.specs.Least.{IsLeastTriple}
+use Rattle.vertex_rounds.specs.Rounds.{dart_of}
 use Rattle.convex_check.specs.Convex.{IsBent, HasOuterCorners, IsConvex}
 use Rattle.convex_check.specs.declared.verdict.ConvexVerdict.{ConvexVerdict}
 use Rattle.convex_check.specs.declared.verdict.ConvexVerdict.TheVariants.{Bent, OuterBent, Yes}

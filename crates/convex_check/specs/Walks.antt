@@ -3,7 +3,7 @@ use Rattle.std.specs.Prelude.{ℕ, ◌<◌, ◌≡◌, List, length, slice_index
 use Rattle.half_edges.specs.Map.{Map}
 use Rattle.pg_plane.specs.declared.point.Point.{Point}
 use Rattle.plane_drawings.specs.Drawing.{place}
-use Rattle.draw_check.specs.FaceVerdicts.{dart_of}
+use Rattle.vertex_rounds.specs.Rounds.{dart_of}
 
 -- for each id of a walk the place of its dart's tail
 pub record AreWalkPlaces (map : Map) (points : List Point) (walk : List ℕ) (places : List Point) : Type 0 where

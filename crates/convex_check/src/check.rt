@@ -2,7 +2,7 @@
 ghost use Rattle.std.specs.Prelude.{IfOk};
 ghost use Rattle.half_edges.specs.Map.{IsLive};
 ghost use Rattle.draw_check.specs.Faults.{HasPlaces};
-ghost use Rattle.draw_check.specs.FaceVerdicts.{dart_of};
+ghost use Rattle.vertex_rounds.specs.Rounds.{dart_of};
 ghost use Rattle.convex_check.specs.Verdicts.{IsConvexVerdict};
 
 use crate::ConvexVerdict;

@@ -11,7 +11,7 @@ use Rattle.map_theory.specs.Paths.{SameFace}
 use Rattle.half_edges.specs.Map.{Map, IsHalfMap, dart_at}
 use Rattle.euler_faces.specs.FaceWalks.{walk_at, first_number, AreFaces}
 use Rattle.euler_faces.proofs.NumberLemmas.{live_from, number_at-is, some_of}
-use Rattle.draw_check.proofs.WalkFaces.{in_class, in_walk}
+use Rattle.euler_faces.proofs.WalkFaces.{in_class, in_walk}
 use Rattle.graph_search.specs.Cuts.{IsSeparatingPair}
 use Rattle.convex_peeling.specs.TwoFaces.{AreOnTwoFaces}
 use Rattle.convex_peeling.specs.TightMapsLaws.{IsPlaneUncut}

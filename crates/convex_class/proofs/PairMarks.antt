@@ -9,7 +9,7 @@ use Rattle.map_theory.specs.Paths.{SameFace}
 use Rattle.map_theory.proofs.DartLemmas.{place_of-get_or, HasDart-at}
 use Rattle.half_edges.specs.Map.{Map, IsHalfMap, IsLive, dart_at, first_dart, next_dart}
 use Rattle.euler_faces.proofs.NumberLemmas.{live_from}
-use Rattle.draw_check.proofs.RoundLemmas.{LeavesFrom, LeavesFrom-later, head_at, place_at, place_at-later, at_place, last_place, later_place}
+use Rattle.vertex_rounds.proofs.RoundLemmas.{LeavesFrom, LeavesFrom-later, head_at, place_at, place_at-later, at_place, last_place, later_place}
 use Rattle.graph_search.specs.Cuts.{IsSeparatingPair, IsLeastPair}
 use Rattle.graph_search.proofs.PartnerLemmas.{least_pair}
 use Rattle.convex_peeling.specs.TwoFaces.{AreMetTwice}

@@ -11,10 +11,10 @@ use Rattle.euler_faces.specs.Numbers.{number_at}
 use Rattle.euler_faces.specs.FaceWalks.{IsFaceWalk, ids_of}
 use Rattle.map_lists.specs.declared.ids.DartId.{DartId}
 use Rattle.euler_faces.proofs.NumberLemmas.{live_from}
-use Rattle.draw_check.specs.FaceVerdicts.{dart_of}
-use Rattle.draw_check.proofs.FaceIds.{dart_of-live, dart_of-is, has_dart}
-use Rattle.draw_check.proofs.RoundLemmas.{LeavesFrom, head_at, place_at, at_place}
-use Rattle.draw_check.proofs.WalkFaces.{in_class, in_walk}
+use Rattle.vertex_rounds.specs.Rounds.{dart_of}
+use Rattle.vertex_rounds.proofs.DartIds.{dart_of-live, dart_of-is, has_dart}
+use Rattle.vertex_rounds.proofs.RoundLemmas.{LeavesFrom, head_at, place_at, at_place}
+use Rattle.euler_faces.proofs.WalkFaces.{in_class, in_walk}
 use Rattle.convex_peeling.specs.TightMapsLaws.{IsPlaneUncut}
 use Rattle.convex_peeling.proofs.Tightness.{faces_pass_once}
 use Rattle.convex_class.specs.Passing.{IsPassed, IsSeen, IsTwiceSeen, AreMarks, AreMarksOf, IsMarked, IsUnused}

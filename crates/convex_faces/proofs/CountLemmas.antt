@@ -14,7 +14,7 @@ use Rattle.map_theory.proofs.DartPermutations.{dart_of, dart_of-number}
 use Rattle.euler_faces.specs.Numbers.{mark_at, id_of}
 use Rattle.euler_faces.specs.FaceWalks.{walk_at, first_number, AreFaces}
 use Rattle.euler_faces.proofs.NumberLemmas.{number_at-is, id_of-number}
-use Rattle.draw_check.proofs.WalkFaces.{in_class, in_walk}
+use Rattle.euler_faces.proofs.WalkFaces.{in_class, in_walk}
 use Rattle.convex_peeling.specs.Contours.{face_of}
 use Rattle.convex_peeling.proofs.Faces.{along_face}
 use Rattle.convex_orders.specs.FaceNumbers.{InWalk}

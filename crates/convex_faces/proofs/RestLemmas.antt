@@ -12,8 +12,8 @@ use Rattle.map_theory.proofs.DartLemmas.{dart_number-lt, dart_number-injective, 
 use Rattle.map_theory.proofs.DartCounts.{dart_count-edge_count}
 use Rattle.half_edges.specs.Map.{Map, IsLive, IsHalfMap, dart_at, id_bound}
 use Rattle.euler_faces.proofs.NumberLemmas.{live_from, face_step-number}
-use Rattle.draw_check.specs.FaceVerdicts.{dart_of}
-use Rattle.draw_check.proofs.FaceIds.{dart_of-live, dart_of-is, has_dart}
+use Rattle.vertex_rounds.specs.Rounds.{dart_of}
+use Rattle.vertex_rounds.proofs.DartIds.{dart_of-live, dart_of-is, has_dart}
 use Rattle.convex_peeling.proofs.Faces.{before_once}
 use Rattle.convex_peeling.specs.Tight.{IsTight, IsThreeConnected}
 use Rattle.convex_peeling.proofs.Corners.{SameFace-turned, SameFace-chained, SameFace-step}

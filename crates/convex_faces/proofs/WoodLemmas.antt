@@ -7,8 +7,8 @@ use Rattle.half_edges.specs.Map.{Map, IsHalfMap, IsLive, dart_at, next_dart, id_
 use Rattle.euler_faces.proofs.NumberLemmas.{live_from, live-lt}
 use Rattle.pg_plane.specs.declared.point.Point.{Point}
 use Rattle.plane_drawings.specs.Drawing.{place}
-use Rattle.draw_check.specs.FaceVerdicts.{dart_of}
-use Rattle.draw_check.proofs.FaceIds.{dart_of-is, dart_of-live}
+use Rattle.vertex_rounds.specs.Rounds.{dart_of}
+use Rattle.vertex_rounds.proofs.DartIds.{dart_of-is, dart_of-live}
 use Rattle.contour_runs.specs.Wood.{Coordinates, point_of}
 use Rattle.convex_counts.specs.Runs.{faces_made}
 use Rattle.convex_counts.specs.Counts.{face_counts}

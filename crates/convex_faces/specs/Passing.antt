@@ -3,7 +3,7 @@ use Rattle.std.specs.Prelude.{ℕ, ◌≡◌, Bool, List, [], ◌∷◌, Some}
 use Rattle.map_theory.specs.Maps.{Dart, follows}
 use Rattle.half_edges.specs.Map.{Map, IsLive, dart_at}
 use Rattle.euler_faces.specs.Numbers.{mark_at}
-use Rattle.draw_check.specs.FaceVerdicts.{dart_of}
+use Rattle.vertex_rounds.specs.Rounds.{dart_of}
 use Rattle.convex_counts.specs.declared.face_woods.axis.Axis.{Axis}
 use Rattle.convex_counts.specs.declared.face_woods.axis.Axis.TheVariants.{One, Two, Three}
 use Rattle.convex_counts.specs.Axes.{next, previous}

@@ -8,7 +8,7 @@ use Rattle.pg_plane.specs.Faced.{turn}
 use Rattle.pg_plane.specs.Law.{IsPlaneByDarts, direction}
 use Rattle.pg_plane.proofs.Round.{find_below}
 use Rattle.pg_plane.proofs.PlaneByDarts.{plane_by_darts}
-use Rattle.draw_check.proofs.ClockOrder.{clock_cases, clock_apart, clock_chained}
+use Rattle.pg_plane.proofs.ClockOrder.{clock_cases, clock_apart, clock_chained}
 use Rattle.convex_laws.specs.Middles.{IsMiddled, next, IsBreakAt, IsPlaneRound}
 use Rattle.convex_laws.specs.FaceMiddlesLaws.{MiddlesArePlane}
 use Rattle.convex_laws.proofs.Triangles.{twin3, step3, at3, tail3, all, twin-first, twin-third, step-first, step-second, step-third, at-first, at-second, tail-first, tail-second, in_all, second_in_all, IsFaced-three, IsTailed-three}

@@ -10,7 +10,7 @@ use Rattle.map_theory.proofs.DartLemmas.{place_of-get_or, place_of-lt-length, ge
 use Rattle.half_edges.specs.Map.{Map, IsHalfMap, dart_at, next_dart}
 use Rattle.euler_faces.specs.FaceWalks.{walk_at, first_number, AreFaces}
 use Rattle.euler_faces.proofs.NumberLemmas.{number_at-is}
-use Rattle.draw_check.proofs.WalkFaces.{in_class, in_walk}
+use Rattle.euler_faces.proofs.WalkFaces.{in_class, in_walk}
 use Rattle.convex_peeling.specs.Contours.{face_of}
 use Rattle.convex_orders.specs.FaceNumbers.{entry, AreFaceNumbers, InWalk, AreOwn, AreOther}
 

@@ -1,5 +1,5 @@
 -- The darts of the base's face, and faces that are drawn well, as the calls of a map answer them.
-use Rattle.std.proofs.Common.{◌≡◌, ℕ, ◌<◌, ◌⊎◌, Bool, true, false, not, MatchBool, List, Option, Some, unwrap_or, pos, ◌<ℤ◌, refl, sym, ap, subst, ◌∙◌, inl, inr}
+use Rattle.std.proofs.Common.{◌≡◌, ℕ, ◌<◌, ◌⊎◌, Bool, true, false, not, MatchBool, List, Some, pos, ◌<ℤ◌, refl, sym, ap, subst, ◌∙◌, inl, inr, arith}
 use Rattle.std.specs.Option.{option_map}
 use Rattle.std.proofs.lemmas.Bool.{true≢false}
 use Rattle.map_lists.specs.Lists.{Lists}
@@ -7,25 +7,17 @@ use Rattle.map_theory.specs.Maps.{Dart, HasDart, follows, face_step}
 use Rattle.map_theory.specs.Paths.{SameFace}
 use Rattle.map_theory.proofs.DartLemmas.{HasDart-face_step}
 use Rattle.half_edges.specs.Map.{Map, IsHalfMap, IsLive, dart_at}
-use Rattle.euler_faces.proofs.NumberLemmas.{some_of}
 use Rattle.plane_laws.specs.Completed.{IsCompleted}
 use Rattle.pg_plane.specs.declared.point.Point.{Point}
 use Rattle.pg_plane.specs.Geometry.{area}
 use Rattle.plane_drawings.specs.Drawing.{place}
-use Rattle.draw_check.specs.FaceVerdicts.{dart_of, IsDrawnWell, IsDrawnWrong}
+use Rattle.vertex_rounds.specs.Rounds.{dart_of}
+use Rattle.vertex_rounds.proofs.DartIds.{dart_of-live, dart_of-is, has_dart}
+use Rattle.draw_check.specs.FaceVerdicts.{IsDrawnWell, IsDrawnWrong, IsWrongFrom}
+use Rattle.vertex_rounds.specs.Least.{IsLeastPair, IsLeastTriple}
 use Rattle.draw_check.proofs.FaceLemmas.{same_step, same_itself, on_base}
 
--- the dart of a live id
-pub dart_of-live : (map : Map) (d : ℕ) → IsLive map d → dart_at map d ≡ Some (dart_of map d)
-dart_of-live map d live = let x = some_of (dart_at map d) live in x.1 ∙ ap (λ (e : Dart). Some e) (sym (ap (λ (o : Option Dart). unwrap_or o (0, 0)) x.1))
-
-pub dart_of-is : (map : Map) (d : ℕ) (x : Dart) → dart_at map d ≡ Some x → dart_of map d ≡ x
-dart_of-is map d x is = ap (λ (o : Option Dart). unwrap_or o (0, 0)) is
-
 module _ (map : Map) (h : IsHalfMap map) where
-  pub has_dart : (d : ℕ) → IsLive map d → HasDart map.lists (dart_of map d).0 (dart_of map d).1
-  has_dart d live = h.is_dart d (dart_of map d).0 (dart_of map d).1 (dart_of-live map d live)
-
   -- the head of the next dart along the face
   pub third_is : (d e a b w : ℕ) → dart_at map d ≡ Some (a, b) → dart_at map e ≡ option_map (face_step map.lists) (dart_at map d) → option_map (λ (x : Dart). x.1) (dart_at map e) ≡ Some w → (follows map.lists b a ≡ w) × HasDart map.lists b w
   third_is d e a b w is step head =
@@ -39,7 +31,7 @@ module _ (map : Map) (h : IsHalfMap map) where
     b = dart_of map base
 
     has : HasDart map.lists b.0 b.1
-    has = has_dart base live
+    has = has_dart map h base live
 
     second_is : dart_at map second ≡ Some (face_step map.lists b)
     second_is = step ∙ ap (option_map (face_step map.lists)) (dart_of-live map base live)
@@ -62,7 +54,7 @@ module _ (map : Map) (h : IsHalfMap map) where
 
     from_face : SameFace map.lists b (dart_of map d) → (d ≡ base) ⊎ ((d ≡ second) ⊎ (d ≡ third))
     from_face same =
-        elim (on_base map.lists c b has (dart_of map d) (has_dart d live') same) [
+        elim (on_base map.lists c b has (dart_of map d) (has_dart map h d live') same) [
           | inl e ↦ inl (one_id base b (dart_of-live map base live) e)
           | inr o ↦ elim o [
             | inl e ↦ inr (inl (one_id second (face_step map.lists b) second_is e))
@@ -90,3 +82,23 @@ module _ (lists : Lists) (points : List Point) (base : Dart) (a b w : ℕ) where
   pub wrong_is : (r : Bool) → HasDart lists a b → follows lists b a ≡ w → (a < b) × (a < w) → ((r ≡ true → IsDrawnWell lists points base a b w) × (IsDrawnWell lists points base a b w → r ≡ true)) → (not r ≡ true → IsDrawnWrong lists points base a b w) × (IsDrawnWrong lists points base a b w → not r ≡ true)
   wrong_is true has third least well = (λ t. absurd (true≢false (sym t)), λ wrong. absurd (wrong.wrong (well.0 refl)))
   wrong_is false has third least well = (λ t. record { dart = has; third = third; least = least; wrong = λ w'. true≢false (sym (well.1 w')) }, λ wrong. refl)
+
+module _ (map : Map) (points : List Point) (base : ℕ) where
+  -- three vertices of a face that is drawn wrong are told by the first two
+  told_by_two : (a b w : ℕ) → IsDrawnWrong map.lists points (dart_of map base) a b w → IsWrongFrom map points base a b
+  told_by_two a b w x = subst (IsDrawnWrong map.lists points (dart_of map base) a b) (sym x.third) x
+
+  pub no_wrong_three : ((a b : ℕ) → ¬ IsWrongFrom map points base a b) → (a b w : ℕ) → ¬ IsDrawnWrong map.lists points (dart_of map base) a b w
+  no_wrong_three none a b w x = none a b (told_by_two a b w x)
+
+  pub least_wrong_three : (a b w : ℕ) → IsLeastPair (IsWrongFrom map points base) a b → follows map.lists b a ≡ w → IsLeastTriple (IsDrawnWrong map.lists points (dart_of map base)) a b w
+  least_wrong_three a b w least third = record {
+    before = λ r s t less x. least.before r s less (told_by_two r s t x);
+    rest = record {
+      before = λ s t less x. least.rest.before s less (told_by_two a s t x);
+      rest = record {
+        here = subst (IsDrawnWrong map.lists points (dart_of map base) a b) third least.rest.here;
+        before = λ t less x. let same = x.third in omega arith;
+      };
+    };
+  }

@@ -17,11 +17,11 @@ use Rattle.euler_faces.proofs.NumberLemmas.{number_at-is, number_at-lt, few_dart
 use Rattle.pg_plane.specs.declared.point.Point.{Point}
 use Rattle.pg_plane.specs.Range.{IsWithin}
 use Rattle.draw_check.specs.Loops.{IsDrawn}
-use Rattle.draw_check.specs.FaceVerdicts.{dart_of}
+use Rattle.vertex_rounds.specs.Rounds.{dart_of}
 use Rattle.draw_check.specs.Outer.{swept, sum_over, face_sum, IsInside, HasOuterFace}
 use Rattle.draw_check.specs.FaceSums.{is_on_walk, AreSumsBelow, HasLowSum}
 use Rattle.draw_check.proofs.DartSums.{sum_over-take, sum_over-within, swept-within}
-use Rattle.draw_check.proofs.WalkFaces.{in_class, in_walk}
+use Rattle.euler_faces.proofs.WalkFaces.{in_class, in_walk}
 
 -- a dart by its tail and its head
 pub dart_from_ends : (o : Option Dart) (a b : ℕ) → option_map (λ (x : Dart). x.0) o ≡ Some a → option_map (λ (x : Dart). x.1) o ≡ Some b → o ≡ Some (a, b)

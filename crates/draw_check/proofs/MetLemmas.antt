@@ -1,14 +1,16 @@
 -- What the searches for met edges say of vertices on edges and of crossings.
-use Rattle.std.proofs.Common.{ℕ, ◌+◌, ◌<◌, List, length, Option, Some, None, sym, inl, ⊎_elim, arith}
+use Rattle.std.proofs.Common.{◌≡◌, ◌≤◌, Bool, true, ℕ, ◌+◌, ◌<◌, List, length, Option, Some, None, sym, inl, ⊎_elim, arith}
 use Rattle.std.specs.Option.{MatchOption}
 use Rattle.map_lists.specs.Lists.{Lists}
 use Rattle.map_lists.specs.declared.ids.VertexId.{VertexId}
 use Rattle.map_lists.specs.declared.items.Ends.{Ends}
 use Rattle.pg_plane.specs.declared.point.Point.{Point}
-use Rattle.draw_check.specs.Least.{IsLeastPair}
-use Rattle.draw_check.specs.Faults.{HasEdge, LiesOnEdge, EdgesCross}
-use Rattle.draw_check.specs.Loops.{IsMetFrom}
-use Rattle.draw_check.proofs.LeastLemmas.{IsLeastPair-alike}
+use Rattle.vertex_rounds.specs.Least.{IsLeastPair}
+use Rattle.vertex_rounds.specs.Rounds.{HasEdge}
+use Rattle.draw_check.specs.Faults.{LiesOnEdge, EdgesCross}
+use Rattle.draw_check.specs.Loops.{IsMet, IsMetFrom}
+use Rattle.vertex_rounds.proofs.LeastLemmas.{IsLeastPair-alike}
+use Rattle.draw_check.specs.declared.edges.Probe.{Probe}
 use Rattle.draw_check.specs.declared.edges.Probe.TheVariants.{Vertex, Edge}
 
 module _ (lists : Lists) (points : List Point) (v : VertexId) where
@@ -41,3 +43,7 @@ module _ (lists : Lists) (points : List Point) (a b : VertexId) (edge : HasEdge 
   pub first_cross : (found : Option Ends) → MatchOption found ((c d : ℕ) → ¬ IsMetFrom lists points (Edge a b) (a.0 + 1) c d) (λ e. IsLeastPair (IsMetFrom lists points (Edge a b) (a.0 + 1)) e.a.0 e.b.0) → MatchOption found ((c d : ℕ) → ¬ EdgesCross lists points a.0 b.0 c d) (λ e. IsLeastPair (EdgesCross lists points a.0 b.0) e.a.0 e.b.0)
   first_cross None h = λ c d x. h c d (met_by_edge c d x)
   first_cross (Some e) h = IsLeastPair-alike (IsMetFrom lists points (Edge a b) (a.0 + 1)) (EdgesCross lists points a.0 b.0) edges_cross met_by_edge e.a.0 e.b.0 h
+
+-- what decides that an edge is met decides it of an edge whose lesser end is not below `from`
+pub decides_late : (lists : Lists) (points : List Point) (probe : Probe) (from a b : ℕ) (r : Bool) → from ≤ a → ((r ≡ true → IsMet lists points probe a b) × (IsMet lists points probe a b → r ≡ true)) → (r ≡ true → IsMetFrom lists points probe from a b) × (IsMetFrom lists points probe from a b → r ≡ true)
+decides_late lists points probe from a b r late is = (λ t. record { late = late; met = is.0 t }, λ m. is.1 m.met)

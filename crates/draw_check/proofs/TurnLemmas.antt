@@ -1,62 +1,33 @@
--- Breaks between the directions round a vertex, as the walk round it finds them.
-use Rattle.std.proofs.Common.{◌≡◌, ℕ, ◌+◌, ◌<◌, ◌≤◌, Bool, true, List, length, Some, get_or, sym, ap, subst, ◌∙◌, arith}
+-- Breaks of the directions round a vertex, as the calls of a map answer them.
+use Rattle.std.proofs.Common.{◌≡◌, ℕ, ◌<◌, ◌≤◌, Bool, true, false, MatchBool, List, length, Some, sym, ap, subst, ◌∙◌}
 use Rattle.std.specs.Option.{option_map}
-use Rattle.map_theory.specs.Maps.{Dart, list_of, follows, place_of}
+use Rattle.map_lists.specs.Lists.{Lists}
+use Rattle.map_theory.specs.Maps.{Dart, HasDart, list_of, follows}
 use Rattle.map_theory.proofs.DartLemmas.{HasDart-follows}
-use Rattle.half_edges.specs.Map.{Map, dart_at, next_dart, first_dart}
+use Rattle.half_edges.specs.Map.{Map, IsHalfMap, IsLive, dart_at, next_dart}
 use Rattle.pg_plane.specs.declared.point.Point.{Point}
 use Rattle.pg_plane.specs.Geometry.{vector, IsClockBefore}
-use Rattle.plane_drawings.specs.Drawing.{place, IsBreak}
-use Rattle.draw_check.specs.Loops.{IsDrawn, IsLaterDart}
-use Rattle.draw_check.proofs.RoundLemmas.{head_at, LeavesFrom, place_at, at_place, place_at-first, place_at-later, head_at-is, LeavesFrom-later, head_at-result, follows-result}
+use Rattle.plane_drawings.specs.Drawing.{place, GoesOnceRound}
+use Rattle.draw_check.specs.Loops.{Breaks}
+use Rattle.vertex_rounds.specs.Rounds.{dart_of, GoesOnce}
+use Rattle.vertex_rounds.proofs.DartIds.{dart_of-live, has_dart}
+use Rattle.draw_check.specs.Faults.{IsTurned}
 
 -- the direction to u is not before that to w
-abbrev IsBreakOf : List Point → ℕ → ℕ → ℕ → Type 0
+abbrev pub IsBreakOf : List Point → ℕ → ℕ → ℕ → Type 0
 IsBreakOf points v u w = ¬ IsClockBefore (vector (place points v) (place points u)) (vector (place points v) (place points w))
 
-module _ (map : Map) (points : List Point) (h : IsDrawn map points) (v d u : ℕ) (dart : LeavesFrom map v d) (head : option_map (λ (e : Dart). e.1) (dart_at map d) ≡ Some u) where
-  -- the head is a vertex
-  pub head_in : u < length points
-  head_in =
-      let e = head_at-result map v d u dart head in
-      let l = h.known.simple.in_range v (head_at map d) (h.known.is_dart d v (head_at map d) dart) in
-      let n = h.places.count in
-      omega arith
+-- what the calls answer for a dart and the next one
+pub break_is : (lists : Lists) (points : List Point) (v u s t w : ℕ) → v ≡ s → u ≡ t → follows lists v u ≡ w → (r : Bool) → ((r ≡ true → IsBreakOf points s t w) × (IsBreakOf points s t w → r ≡ true)) → (r ≡ true → Breaks lists points v u) × (Breaks lists points v u → r ≡ true)
+break_is lists points v u s t w tail head next r is =
+    let same : (r ≡ true → IsBreakOf points v u (follows lists v u)) × (IsBreakOf points v u (follows lists v u) → r ≡ true) =
+    subst (λ (x : ℕ). (r ≡ true → IsBreakOf points v u x) × (IsBreakOf points v u x → r ≡ true)) (sym next)
+    (subst (λ (x : ℕ). (r ≡ true → IsBreakOf points v x w) × (IsBreakOf points v x w → r ≡ true)) (sym head)
+    (subst (λ (x : ℕ). (r ≡ true → IsBreakOf points x t w) × (IsBreakOf points x t w → r ≡ true)) (sym tail) is)) in
+    (λ e. record { break = same.0 e }, λ b. same.1 b.break)
 
-  -- and stands at the place
-  pub head_placed : get_or (list_of map.lists v) (place_at map v d) 0 ≡ u
-  head_placed = (at_place map h.known v d dart).1 ∙ head_at-result map v d u dart head
-
-  module _ (e w : ℕ) (step : dart_at map e ≡ option_map (next_dart map.lists) (dart_at map d)) (head' : option_map (λ (x : Dart). x.1) (dart_at map e) ≡ Some w) where
-    -- so is the next one
-    pub next_in : w < length points
-    next_in =
-        let q = follows-result map v d e w dart step head' in
-        let has = HasDart-follows map.lists v (head_at map d) (h.known.is_dart d v (head_at map d) dart) in
-        let l = h.known.simple.in_range v (follows map.lists v (head_at map d)) has in
-        let n = h.places.count in
-        omega arith
-
-    -- a break of these two is a break of the list
-    pub break_is : (r : Bool) → ((r ≡ true → IsBreakOf points v u w) × (IsBreakOf points v u w → r ≡ true)) → (r ≡ true → IsBreak map.lists points v u) × (IsBreak map.lists points v u → r ≡ true)
-    break_is r is =
-        let q : follows map.lists v u ≡ w = ap (λ (x : ℕ). follows map.lists v x) (sym (head_at-result map v d u dart head)) ∙ follows-result map v d e w dart step head' in
-        subst (λ (x : ℕ). (r ≡ true → IsBreakOf points v u x) × (IsBreakOf points v u x → r ≡ true)) (sym q) is
-
--- a list with a later dart after the first has two entries
-pub two_from_later : (map : Map) (points : List Point) → IsDrawn map points → (v first e : ℕ) → dart_at map first ≡ Some (first_dart map.lists v) → IsLaterDart map v (get_or (list_of map.lists v) 0 0) e → 2 ≤ length (list_of map.lists v)
-two_from_later map points h v first e is later =
-    let u = get_or (list_of map.lists v) 0 0 in
-    let same = head_at-is map v u first is in
-    let next : IsLaterDart map v (head_at map first) e = subst (λ (x : ℕ). IsLaterDart map v x e) (sym same) later in
-    let zero_place = place_at-first map v first is in
-    let one_place = place_at-later map v first e next in
-    let within = (at_place map h.known v e (LeavesFrom-later map v first e next)).0 in
-    omega arith
-
--- and one without has no two
-pub one_from_last : (map : Map) (v first : ℕ) → dart_at map first ≡ Some (first_dart map.lists v) → place_of (get_or (list_of map.lists v) 0 0) (list_of map.lists v) + 1 ≡ length (list_of map.lists v) → 2 ≤ length (list_of map.lists v) → ⊥
-one_from_last map v first is last two =
-    let zero_place = place_at-first map v first is in
-    let same = ap (λ (x : ℕ). place_of x (list_of map.lists v)) (head_at-is map v (get_or (list_of map.lists v) 0 0) first is) in
-    omega arith
+-- just one break among the entries is once round
+pub turned_or_not : (lists : Lists) (points : List Point) (v : ℕ) (r : Bool) → v < length lists → MatchBool r (2 ≤ length (list_of lists v) → GoesOnce lists v (Breaks lists points v)) ((2 ≤ length (list_of lists v)) × (¬ GoesOnce lists v (Breaks lists points v)))
+    → MatchBool r (2 ≤ length (list_of lists v) → GoesOnceRound lists points v) (IsTurned lists points v)
+turned_or_not lists points v true l o = λ two. let g = o two in record { some = (g.some.0, g.some.1, g.some.2.break); one = λ u w has has' b c. g.one u w has has' (record { break = b }) (record { break = c }) }
+turned_or_not lists points v false l o = record { vertex = l; two = o.0; turned = λ g. o.1 (record { some = (g.some.0, g.some.1, record { break = g.some.2 }); one = λ u w has has' b c. g.one u w has has' b.break c.break }) }

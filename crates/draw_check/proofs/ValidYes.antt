@@ -7,7 +7,7 @@ use Rattle.pg_plane.specs.declared.point.Point.{Point}
 use Rattle.pg_plane.specs.Geometry.{IsOnSegment, DoCross}
 use Rattle.plane_drawings.specs.Drawing.{place, IsPlaneDrawing}
 use Rattle.draw_check.specs.declared.verdict.Verdict.TheVariants.{Yes}
-use Rattle.draw_check.specs.Faults.{HasEdge}
+use Rattle.vertex_rounds.specs.Rounds.{HasEdge}
 use Rattle.draw_check.specs.Verdicts.{NoneShareAPlace, NoneOnEdge, NoneCross, IsVerdict}
 use Rattle.draw_check.specs.Laws.{IsValid}
 use Rattle.pg_plane.proofs.Segments.{IsOnSegment-back, DoCross-first_back, DoCross-second_back, DoCross-exchanged}

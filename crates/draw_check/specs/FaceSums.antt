@@ -6,7 +6,7 @@ use Rattle.map_theory.specs.Paths.{SameFace}
 use Rattle.half_edges.specs.Map.{Map}
 use Rattle.euler_faces.specs.FaceWalks.{walk_at, first_number}
 use Rattle.pg_plane.specs.declared.point.Point.{Point}
-use Rattle.draw_check.specs.FaceVerdicts.{dart_of}
+use Rattle.vertex_rounds.specs.Rounds.{dart_of}
 use Rattle.draw_check.specs.Outer.{swept, sum_over}
 
 -- a dart lies on the face of a walk

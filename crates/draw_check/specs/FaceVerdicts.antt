@@ -1,21 +1,18 @@
 -- The verdict on a drawing of a completed map, by its faces.
-use Rattle.std.specs.Prelude.{ℕ, ◌<◌, ◌≡◌, List, ℤ, pos, ◌<ℤ◌, unwrap_or}
+use Rattle.std.specs.Prelude.{ℕ, ◌<◌, ◌≡◌, List, ℤ, pos, ◌<ℤ◌}
 use Rattle.map_lists.specs.Lists.{Lists}
 use Rattle.map_theory.specs.Maps.{Dart, HasDart, follows}
 use Rattle.map_theory.specs.Paths.{SameFace}
-use Rattle.half_edges.specs.Map.{Map, dart_at}
+use Rattle.half_edges.specs.Map.{Map}
 use Rattle.pg_plane.specs.declared.point.Point.{Point}
 use Rattle.pg_plane.specs.Geometry.{area}
 use Rattle.plane_drawings.specs.Drawing.{place, IsCounterclockwise}
-use Rattle.draw_check.specs.Least.{IsLeast, IsLeastTriple}
+use Rattle.vertex_rounds.specs.Least.{IsLeast, IsLeastTriple}
+use Rattle.vertex_rounds.specs.Rounds.{dart_of}
 use Rattle.draw_check.specs.Faults.{LeavesGrid}
 use Rattle.draw_check.specs.Verdicts.{AllInGrid}
 use Rattle.draw_check.specs.declared.verdict.FaceVerdict.{FaceVerdict}
 use Rattle.draw_check.specs.declared.verdict.FaceVerdict.TheVariants.{OutOfGrid, Wrong, Yes}
-
--- the dart of a live id
-abbrev pub dart_of : Map → ℕ → Dart
-dart_of map d = unwrap_or (dart_at map d) (0, 0)
 
 -- the face of the dart from a to b, which goes on to c, is drawn counterclockwise, or clockwise where it is that of the base
 pub record IsDrawnWell (lists : Lists) (points : List Point) (base : Dart) (a b c : ℕ) : Type 0 where
@@ -30,8 +27,8 @@ pub record IsDrawnWrong (lists : Lists) (points : List Point) (base : Dart) (a b
   pub wrong : ¬ IsDrawnWell lists points base a b c
 
 -- the face of the dart from a to b is, a being its least vertex
-pub record IsWrongFrom (map : Map) (points : List Point) (base a b : ℕ) : Type 0 where
-  pub drawn_wrong : IsDrawnWrong map.lists points (dart_of map base) a b (follows map.lists b a)
+abbrev pub IsWrongFrom : Map → List Point → ℕ → ℕ → ℕ → Type 0
+IsWrongFrom map points base a b = IsDrawnWrong map.lists points (dart_of map base) a b (follows map.lists b a)
 
 abbrev pub IsFaceVerdict : Lists → List Point → ℤ → ℤ → Dart → FaceVerdict → Type 0
 IsFaceVerdict lists points width height base (OutOfGrid v) = IsLeast (LeavesGrid lists points width height) v.0

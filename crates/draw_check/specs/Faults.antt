@@ -1,20 +1,17 @@
 -- What may be wrong with a drawing, and where.
-use Rattle.std.specs.Prelude.{ℕ, ◌<◌, ◌≤◌, ◌≡◌, ◌≢◌, ◌⊎◌, List, length, ℤ}
+use Rattle.std.specs.Prelude.{ℕ, ◌<◌, ◌≤◌, ◌≡◌, ◌≢◌, List, length, ℤ}
 use Rattle.map_lists.specs.Lists.{Lists}
-use Rattle.map_theory.specs.Maps.{HasDart, list_of}
+use Rattle.map_theory.specs.Maps.{list_of}
 use Rattle.pg_plane.specs.declared.point.Point.{Point}
 use Rattle.pg_plane.specs.Geometry.{IsOnSegment, DoCross}
 use Rattle.pg_plane.specs.Range.{IsInRange}
 use Rattle.plane_drawings.specs.Drawing.{place, IsInGrid, GoesOnceRound}
+use Rattle.vertex_rounds.specs.Rounds.{HasEdge, ComesBefore}
 
 -- a point for each vertex, within the range of coordinates
 pub record HasPlaces (lists : Lists) (points : List Point) : Type 0 where
   pub count : length points ≡ length lists
   pub in_range : (v : ℕ) → v < length points → IsInRange (place points v)
-
--- an edge, by its lesser end and then its greater
-abbrev pub HasEdge : Lists → ℕ → ℕ → Type 0
-HasEdge lists a b = (a < b) × HasDart lists a b
 
 -- vertex v lies outside the grid
 pub record LeavesGrid (lists : Lists) (points : List Point) (width height : ℤ) (v : ℕ) : Type 0 where
@@ -34,10 +31,6 @@ pub record LiesOnEdge (lists : Lists) (points : List Point) (v a b : ℕ) : Type
   pub not_first : v ≢ a
   pub not_second : v ≢ b
   pub on : IsOnSegment (place points v) (place points a) (place points b)
-
--- edges are in order by the lesser end, and then by the greater
-abbrev pub ComesBefore : ℕ → ℕ → ℕ → ℕ → Type 0
-ComesBefore a b c d = (a < c) ⊎ ((a ≡ c) × (b < d))
 
 -- the edge from a to b crosses the later one from c to d, and has no end in common with it
 pub record EdgesCross (lists : Lists) (points : List Point) (a b c d : ℕ) : Type 0 where

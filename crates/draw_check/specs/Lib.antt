@@ -1,5 +1,4 @@
 -- What a check of a drawing answers, and its laws.
-pub mod Least
 pub mod Faults
 pub mod Verdicts
 pub mod Laws

@@ -1,13 +1,12 @@
 -- What the loops of a check go over: edges that something meets, entries of lists, and breaks.
-use Rattle.std.specs.Prelude.{ℕ, ◌+◌, ◌<◌, ◌≤◌, ◌≡◌, ◌≢◌, Bool, true, false, List, slice_index, Option, Some, None, ⊤}
+use Rattle.std.specs.Prelude.{ℕ, ◌<◌, ◌≤◌, ◌≢◌, List}
 use Rattle.map_lists.specs.Lists.{Lists}
-use Rattle.map_lists.specs.declared.ids.VertexId.{VertexId}
-use Rattle.map_theory.specs.Maps.{list_of, follows, place_of}
-use Rattle.half_edges.specs.Map.{Map, IsHalfMap, dart_at}
+use Rattle.half_edges.specs.Map.{Map, IsHalfMap}
 use Rattle.pg_plane.specs.declared.point.Point.{Point}
 use Rattle.pg_plane.specs.Geometry.{IsOnSegment, DoCross}
-use Rattle.plane_drawings.specs.Drawing.{place}
-use Rattle.draw_check.specs.Faults.{HasPlaces, HasEdge, EdgesCross}
+use Rattle.plane_drawings.specs.Drawing.{place, IsBreak}
+use Rattle.draw_check.specs.Faults.{HasPlaces, EdgesCross}
+use Rattle.vertex_rounds.specs.Rounds.{HasEdge}
 use Rattle.draw_check.specs.declared.edges.Probe.{Probe}
 use Rattle.draw_check.specs.declared.edges.Probe.TheVariants.{Vertex, Edge}
 
@@ -43,23 +42,6 @@ pub record IsCrossed (lists : Lists) (points : List Point) (a b : ℕ) : Type 0 
   pub second : ℕ
   pub cross : EdgesCross lists points a b first second
 
--- the least of the first k entries of a list that have a property
-abbrev pub IsLeastOf : (ℕ → Type 0) → List ℕ → ℕ → Option VertexId → Type 0
-IsLeastOf P us k None = (i : ℕ) → i < k → ¬ P (slice_index us i)
-IsLeastOf P us k (Some x) = P x.0 × ((i : ℕ) → i < k → slice_index us i < x.0 → ¬ P (slice_index us i))
-
--- just one of the first k entries of a list has a property, or none
-abbrev pub IsOneOf : (ℕ → Type 0) → List ℕ → ℕ → Bool → Type 0
-IsOneOf P us k true =
-    ((i : ℕ) × (i < k) × P (slice_index us i)) × ((i j : ℕ) → i < k → j < k → P (slice_index us i) → P (slice_index us j) → i ≡ j)
-IsOneOf P us k false = (i : ℕ) → i < k → ¬ P (slice_index us i)
-
--- e is the dart from v to the entry after u, which stands behind u in the list
-pub record IsLaterDart (map : Map) (v u e : ℕ) : Type 0 where
-  pub dart : dart_at map e ≡ Some (v, follows map.lists v u)
-  pub place : place_of (follows map.lists v u) (list_of map.lists v) ≡ place_of u (list_of map.lists v) + 1
-
--- a vertex is below the least one so far, if there is one
-abbrev pub IsBelow : ℕ → Option VertexId → Type 0
-IsBelow v None = ⊤
-IsBelow v (Some u) = v < u.0
+-- the directions round v break behind u
+pub record Breaks (lists : Lists) (points : List Point) (v u : ℕ) : Type 0 where
+  pub break : IsBreak lists points v u

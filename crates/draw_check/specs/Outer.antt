@@ -7,7 +7,7 @@ use Rattle.map_theory.specs.Paths.{SameFace}
 use Rattle.pg_plane.specs.declared.point.Point.{Point}
 use Rattle.pg_plane.specs.Geometry.{cross}
 use Rattle.plane_drawings.specs.Drawing.{place}
-use Rattle.draw_check.specs.Least.{IsLeastPair}
+use Rattle.vertex_rounds.specs.Least.{IsLeastPair}
 use Rattle.draw_check.specs.declared.verdict.OuterVerdict.{OuterVerdict}
 use Rattle.draw_check.specs.declared.verdict.OuterVerdict.TheVariants.{Inside, Yes}
 

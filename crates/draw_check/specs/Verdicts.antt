@@ -3,7 +3,7 @@ use Rattle.std.specs.Prelude.{ℕ, ◌<◌, List, length, ℤ}
 use Rattle.map_lists.specs.Lists.{Lists}
 use Rattle.pg_plane.specs.declared.point.Point.{Point}
 use Rattle.plane_drawings.specs.Drawing.{place, IsInGrid, KeepsRotations}
-use Rattle.draw_check.specs.Least.{IsLeast, IsLeastPair, IsLeastTriple, IsLeastFour}
+use Rattle.vertex_rounds.specs.Least.{IsLeast, IsLeastPair, IsLeastTriple, IsLeastFour}
 use Rattle.draw_check.specs.Faults.{LeavesGrid, ShareAPlace, LiesOnEdge, EdgesCross, IsTurned}
 use Rattle.draw_check.specs.declared.verdict.Verdict.{Verdict}
 use Rattle.draw_check.specs.declared.verdict.Verdict.TheVariants.{OutOfGrid, SamePlace, OnEdge, Cross, Turned, Yes}

@@ -7,16 +7,18 @@ ghost use Rattle.plane_laws.specs.Completed.{IsCompleted};
 ghost use Rattle.pg_plane.specs.Geometry.{area};
 ghost use Rattle.pg_plane.specs.Range.{IsInRange};
 ghost use Rattle.plane_drawings.specs.Drawing.{place};
-ghost use Rattle.draw_check.specs.Least.{IsLeast, IsLeastPair, IsLeastTriple};
+ghost use Rattle.vertex_rounds.specs.Least.{IsLeast, IsLeastPair, IsLeastTriple};
 ghost use Rattle.draw_check.specs.Faults.{HasPlaces};
-ghost use Rattle.draw_check.specs.Loops.{IsDrawn, IsLeastOf};
-ghost use Rattle.draw_check.specs.FaceVerdicts.{IsDrawnWrong, IsWrongFrom, IsFaceVerdict, dart_of};
+ghost use Rattle.draw_check.specs.Loops.{IsDrawn};
+ghost use Rattle.vertex_rounds.specs.Rounds.{IsLeastOf, HoldsAt};
+ghost use Rattle.draw_check.specs.FaceVerdicts.{IsDrawnWrong, IsWrongFrom, IsFaceVerdict};
+ghost use Rattle.vertex_rounds.specs.Rounds.{dart_of};
 
 use crate::FaceVerdict;
 use crate::places::{first_outside, place_at};
-use crate::rounds::{is_below, later_dart};
 use half_edges::{DartId, HalfMap, VertexId};
 use pg_plane::{GridFigure, Points, area2};
+use vertex_rounds::first_dart;
 
 // Whether an id is one of three.
 fn is_one_of(d: DartId, one: DartId, two: DartId, three: DartId) -> bool
@@ -70,85 +72,18 @@ fn turns_well(points: &Points, is_outer: bool, a: VertexId, b: VertexId, c: Vert
     has_sign(double, is_outer)
 }
 
-// Whether the face of a dart from `a` is drawn wrong and `a` is its least vertex.
-fn is_wrong(map: &HalfMap, points: &Points, base: DartId, a: VertexId, d: DartId) -> bool
+// Whether the face of a dart is drawn wrong and the tail is its least vertex.
+fn is_wrong(map: &HalfMap, points: &Points, base: DartId, d: DartId) -> bool
     requires drawn { IsDrawn map.now points.now }
     requires completed { IsCompleted map.now.lists }
     requires base { IsLive map.now base.0 }
     requires live { IsLive map.now d.0 }
-    ensures { (b : ℕ) → dart_at map.now d.0 ≡ Some (a.0, b)
-        → (IsTrue result ↔ IsDrawnWrong map.now.lists points.now (dart_of map.now base.0) a.0 b (follows map.now.lists b a.0)) }
+    ensures { IsTrue result ↔ HoldsAt map.now (IsWrongFrom map.now points.now base.0) d.0 }
 {
+    let a = map.tail(d);
     let b = map.head(d);
     let c = map.head(map.face_step(d));
-    is_least(a, b, c) && !turns_well(points, is_on_base(map, base, d), map.tail(d), b, c)
-}
-
-// The least neighbour so far to which a face from `a` is drawn wrong, with that of `d` beside those before.
-fn better_wrong(
-    map: &HalfMap,
-    points: &Points,
-    base: DartId,
-    a: VertexId,
-    d: DartId,
-    best: Option<VertexId>,
-) -> Option<VertexId>
-    requires drawn { IsDrawn map.now points.now }
-    requires completed { IsCompleted map.now.lists }
-    requires base { IsLive map.now base.0 }
-    requires live { IsLive map.now d.0 }
-    ensures { (b : ℕ) → dart_at map.now d.0 ≡ Some (a.0, b) → (us : List ℕ) (k : ℕ) → slice_index us k ≡ b
-        → IsLeastOf (IsWrongFrom map.now points.now base.0 a.0) us k best
-        → IsLeastOf (IsWrongFrom map.now points.now base.0 a.0) us (k + 1) result }
-{
-    let b = map.head(d);
-    if is_below(b, best) && is_wrong(map, points, base, a, d) {
-        Some(b)
-    } else {
-        best
-    }
-}
-
-// The least neighbour to which a face from `a`, which is its least vertex, is drawn wrong; `first` is the
-// dart to the first entry of its list.
-fn least_wrong_round(
-    map: &HalfMap,
-    points: &Points,
-    base: DartId,
-    a: VertexId,
-    first: DartId,
-) -> Option<VertexId>
-    requires drawn { IsDrawn map.now points.now }
-    requires completed { IsCompleted map.now.lists }
-    requires base { IsLive map.now base.0 }
-    requires first { dart_at map.now first.0 ≡ Some (first_dart map.now.lists a.0) }
-    ensures { MatchOption result ((b : ℕ) → ¬ IsWrongFrom map.now points.now base.0 a.0 b)
-        (λ b. IsLeast (IsWrongFrom map.now points.now base.0 a.0) b.0) }
-{
-    let mut best = None;
-    let mut d = first;
-    'round: loop {
-        best = better_wrong(map, points, base, a, d, best);
-        match later_dart(map, d) {
-            Some(next) => d = next,
-            None => return best,
-        }
-    }
-}
-
-// The least neighbour to which a face from `a`, which is its least vertex, is drawn wrong.
-fn least_wrong(map: &HalfMap, points: &Points, base: DartId, a: VertexId) -> Option<VertexId>
-    requires drawn { IsDrawn map.now points.now }
-    requires completed { IsCompleted map.now.lists }
-    requires base { IsLive map.now base.0 }
-    requires vertex { a.0 < length map.now.lists }
-    ensures { MatchOption result ((b : ℕ) → ¬ IsWrongFrom map.now points.now base.0 a.0 b)
-        (λ b. IsLeast (IsWrongFrom map.now points.now base.0 a.0) b.0) }
-{
-    match map.first_dart(a) {
-        Some(first) => least_wrong_round(map, points, base, a, first),
-        None => None,
-    }
+    is_least(a, b, c) && !turns_well(points, is_on_base(map, base, d), a, b, c)
 }
 
 // The vertex to which the face of the dart from `a` to `b` goes on.
@@ -160,29 +95,6 @@ fn third_vertex(map: &HalfMap, a: VertexId, b: VertexId) -> Option<VertexId>
 {
     match map.dart_of(a, b) {
         Some(d) => Some(map.head(map.face_step(d))),
-        None => None,
-    }
-}
-
-// The least face from `a`, which is its least vertex, that is drawn wrong.
-fn wrong_face_at(
-    map: &HalfMap,
-    points: &Points,
-    base: DartId,
-    a: VertexId,
-) -> Option<(VertexId, VertexId)>
-    requires drawn { IsDrawn map.now points.now }
-    requires completed { IsCompleted map.now.lists }
-    requires base { IsLive map.now base.0 }
-    requires vertex { a.0 < length map.now.lists }
-    ensures { MatchOption result ((b c : ℕ) → ¬ IsDrawnWrong map.now.lists points.now (dart_of map.now base.0) a.0 b c)
-        (λ p. IsLeastPair (IsDrawnWrong map.now.lists points.now (dart_of map.now base.0) a.0) p.0.0 p.1.0) }
-{
-    match least_wrong(map, points, base, a) {
-        Some(b) => match third_vertex(map, a, b) {
-            Some(c) => Some((b, c)),
-            None => None,
-        },
         None => None,
     }
 }
@@ -199,12 +111,13 @@ fn first_wrong(
     ensures { MatchOption result ((a b c : ℕ) → ¬ IsDrawnWrong map.now.lists points.now (dart_of map.now base.0) a b c)
         (λ p. IsLeastTriple (IsDrawnWrong map.now.lists points.now (dart_of map.now base.0)) p.0.0 p.1.0 p.2.0) }
 {
-    for a in 0..map.n() {
-        if let Some((b, c)) = wrong_face_at(map, points, base, VertexId(a)) {
-            return Some((VertexId(a), b, c));
-        }
+    match first_dart(map, |d| is_wrong(map, points, base, d)) {
+        Some((a, b)) => match third_vertex(map, a, b) {
+            Some(c) => Some((a, b, c)),
+            None => None,
+        },
+        None => None,
     }
-    None
 }
 
 /// The least vertex outside the grid, or else the least face, written from its least vertex, that is not

@@ -12,7 +12,6 @@ mod faces;
 mod outer;
 mod pairs;
 mod places;
-mod rounds;
 mod sums;
 mod turns;
 mod verdict;

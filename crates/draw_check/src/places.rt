@@ -1,7 +1,7 @@
 //! Where the vertices stand.
 ghost use Rattle.std.specs.Prelude.{◌≡◌, ℕ, ◌<◌, ◌↔◌, length, IsTrue, MatchOption};
 ghost use Rattle.plane_drawings.specs.Drawing.{place, IsInGrid};
-ghost use Rattle.draw_check.specs.Least.{IsLeast, IsLeastPair};
+ghost use Rattle.vertex_rounds.specs.Least.{IsLeast, IsLeastPair};
 ghost use Rattle.draw_check.specs.Faults.{LeavesGrid, ShareAPlace};
 ghost use Rattle.draw_check.specs.Verdicts.{AllInGrid, NoneShareAPlace};
 ghost use Rattle.draw_check.specs.Loops.{IsDrawn};

@@ -1,5 +1,6 @@
 -- Lemmas on darts by their numbers.
 pub mod NumberLemmas
+pub mod WalkFaces
 mod IsolatedLemmas
 pub mod SearchLemmas
 mod FaceWalkLemmas

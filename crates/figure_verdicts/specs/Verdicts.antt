@@ -20,7 +20,7 @@ use Rattle.graph6_text.specs.Graphs.{EdgeGraph}
 use Rattle.kuratowski.specs.declared.witness.Witness.{Witness}
 use Rattle.kuratowski.specs.Verdicts.{IsVerdict as IsVerdictOf}
 use Rattle.kuratowski.specs.declared.check.WitnessVerdict.TheVariants.{Yes as NoWitnessFault}
-use Rattle.draw_check.specs.Least.{IsLeastPair}
+use Rattle.vertex_rounds.specs.Least.{IsLeastPair}
 use Rattle.draw_check.specs.Verdicts.{IsVerdict}
 use Rattle.draw_check.specs.Outer.{IsInside, HasOuterFace}
 use Rattle.draw_check.specs.declared.verdict.Verdict.TheVariants.{Yes as NoFault}

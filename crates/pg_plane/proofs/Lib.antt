@@ -16,3 +16,4 @@ pub mod Round
 pub mod Tilted
 pub mod OnEdge
 pub mod PlaneByDarts
+pub mod ClockOrder

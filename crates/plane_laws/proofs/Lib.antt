@@ -3,6 +3,7 @@ pub mod PlaneCuts
 mod PairCases
 mod LawCases
 pub mod ArcLemmas
+pub mod RoundOrder
 pub mod DartPaths
 pub mod ComponentPaths
 pub mod CornerSplit

@@ -2,7 +2,7 @@
 ghost use Rattle.std.specs.Prelude.{◌≡◌, MatchOption};
 ghost use Rattle.std.specs.Bool.{OnTrue};
 ghost use Rattle.half_edges.specs.Map.{IsHalfMap};
-ghost use Rattle.draw_check.specs.Least.{IsLeastPair};
+ghost use Rattle.vertex_rounds.specs.Least.{IsLeastPair};
 ghost use Rattle.rect_check.specs.Duals.{HasRects, HasFrame, IsRectangularDual};
 ghost use Rattle.rect_check.specs.Faults.{RectsMeet, HasWrongContact};
 ghost use Rattle.rect_check.specs.Loops.{AreFitting, IsFrame};

@@ -12,14 +12,12 @@ mod edges;
 mod frame;
 mod pairs;
 mod rects;
-mod rounds;
 mod sides;
 mod sweep;
 mod verdict;
 
 pub use check::check_rects;
 pub use frame::{OuterFour, outer_four};
-pub use rounds::{is_below, later_dart};
 pub use sides::are_adjacent;
 pub use verdict::RectVerdict;
 

@@ -1,6 +1,6 @@
 //! Rectangles, vertex by vertex.
 ghost use Rattle.std.specs.Prelude.{◌≡◌, ◌<◌, ◌↔◌, ℕ, length, IsTrue, MatchOption};
-ghost use Rattle.draw_check.specs.Least.{IsLeast};
+ghost use Rattle.vertex_rounds.specs.Least.{IsLeast};
 ghost use Rattle.rect_check.specs.Duals.{number_at, left_of, right_of, low_of, high_of, IsSpan, IsRect};
 ghost use Rattle.rect_check.specs.Faults.{HasBadRect};
 ghost use Rattle.rect_check.specs.Verdicts.{AreRects};

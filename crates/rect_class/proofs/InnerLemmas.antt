@@ -5,8 +5,8 @@ use Rattle.std.proofs.lemmas.Bool.{cases_eq}
 use Rattle.map_lists.specs.Lists.{Lists}
 use Rattle.map_lists.specs.declared.ids.VertexId.{VertexId}
 use Rattle.map_theory.specs.Maps.{IsSimpleMap}
-use Rattle.draw_check.specs.Least.{IsLeastPair}
-use Rattle.draw_check.proofs.LeastLemmas.{IsLeastPair-alike}
+use Rattle.vertex_rounds.specs.Least.{IsLeastPair}
+use Rattle.vertex_rounds.proofs.LeastLemmas.{IsLeastPair-alike}
 use Rattle.rect_check.specs.Duals.{IsQuadrangle, HasFrame, top_vertex, right_vertex, bottom_vertex}
 use Rattle.rect_check.specs.Loops.{IsFrame}
 use Rattle.rect_class.specs.RectMaps.{HasLargeFace, HasTriangles, HasInner}

@@ -1,5 +1,8 @@
 -- Triangles of edges, in any order of their vertices.
-use Rattle.std.proofs.Common.{◌≡◌, ◌⊎◌, ℕ, ◌<◌, Contains, inl, inr, ⊎_elim, sym, subst, arith}
+use Rattle.std.proofs.Common.{◌≡◌, ◌⊎◌, ℕ, ◌<◌, length, Option, Some, None, Contains, inl, inr, ⊎_elim, sym, subst, arith}
+use Rattle.std.specs.Option.{MatchOption}
+use Rattle.map_lists.specs.declared.ids.VertexId.{VertexId}
+use Rattle.vertex_rounds.specs.Least.{IsLeast}
 use Rattle.std.proofs.lemmas.Bool.{cases_lt, cases_eq}
 use Rattle.map_lists.specs.Lists.{Lists}
 use Rattle.map_theory.specs.Maps.{IsSimpleMap, HasDart, list_of, follows}
@@ -12,6 +15,13 @@ use Rattle.rect_class.specs.RectMaps.{IsSeparating, NoneSeparating}
 pub third_in : (lists : Lists) (a b w x : ℕ) → (w ≡ a) ⊎ (w ≡ b) → IsSeparating lists a b x → Contains (list_of lists w) x
 third_in lists a b w x end s =
     ⊎_elim (λ e. subst (λ y. Contains (list_of lists y) x) (sym e) s.across.1) (λ e. subst (λ y. Contains (list_of lists y) x) (sym e) s.high.1) end
+
+-- the least third vertex in the list of an end is the least one
+pub third_at : (lists : Lists) (a b w : ℕ) → (w ≡ a) ⊎ (w ≡ b) → w < length lists → (found : Option VertexId)
+    → MatchOption found ((c : ℕ) → HasDart lists w c → ¬ IsSeparating lists a b c) (λ (c : VertexId). IsLeast (λ x. HasDart lists w x × IsSeparating lists a b x) c.0)
+    → MatchOption found ((c : ℕ) → ¬ IsSeparating lists a b c) (λ (c : VertexId). IsLeast (IsSeparating lists a b) c.0)
+third_at lists a b w end l None none = λ c s. none c (l, third_in lists a b w c end s) s
+third_at lists a b w end l (Some x) least = record { here = least.here.1; before = λ t less s. least.before t less ((l, third_in lists a b w t end s), s) }
 
 -- whether three steps go round three vertices is decided
 IsFaceOfThree-decided : (lists : Lists) (a b c : ℕ) → HasDart lists a b → IsFaceOfThree lists a b c ⊎ (¬ IsFaceOfThree lists a b c)

@@ -1,6 +1,6 @@
 -- The first condition of rectangular duals that lists break.
 use Rattle.map_lists.specs.Lists.{Lists}
-use Rattle.draw_check.specs.Least.{IsLeastPair, IsLeastTriple}
+use Rattle.vertex_rounds.specs.Least.{IsLeastPair, IsLeastTriple}
 use Rattle.conn_parts.specs.Blocks.{IsPlaneBlock, BreaksFirst}
 use Rattle.rect_check.specs.Duals.{HasFrame}
 use Rattle.rect_class.specs.RectMaps.{HasLargeFace, HasTriangles, IsSeparating, NoneSeparating, HasInner}

@@ -1,7 +1,7 @@
 //! A record as a map of the class.
 ghost use Rattle.std.specs.Prelude.{◌≡◌, ◌<◌, length, MatchOption, IfOk, IfErr};
 ghost use Rattle.half_edges.specs.Map.{IsHalfMap};
-ghost use Rattle.draw_check.specs.Least.{IsLeastPair};
+ghost use Rattle.vertex_rounds.specs.Least.{IsLeastPair};
 ghost use Rattle.conn_parts.specs.Blocks.{IsPlaneBlock};
 ghost use Rattle.rect_check.specs.Duals.{HasFrame};
 ghost use Rattle.rect_check.specs.Loops.{IsFrame};

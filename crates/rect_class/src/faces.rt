@@ -2,12 +2,13 @@
 ghost use Rattle.std.specs.Prelude.{◌≡◌, ◌+◌, ◌<◌, ◌↔◌, ℕ, List, length, slice_index, IsTrue, Some, MatchOption};
 ghost use Rattle.plane_laws.specs.Laws.{IsTriangle};
 ghost use Rattle.half_edges.specs.Map.{IsHalfMap, IsLive, dart_at, first_dart};
-ghost use Rattle.draw_check.specs.Least.{IsLeast, IsLeastPair};
-ghost use Rattle.draw_check.specs.Loops.{IsLeastOf};
+ghost use Rattle.vertex_rounds.specs.Least.{IsLeast, IsLeastPair};
+ghost use Rattle.vertex_rounds.specs.Rounds.{HoldsAt, dart_of};
 ghost use Rattle.rect_class.specs.Loops.{IsDart as IsOneDart, IsFrameDart, IsLargeDart};
 
 use half_edges::{DartId, HalfMap, VertexId};
-use rect_check::{OuterFour, is_below, later_dart};
+use rect_check::OuterFour;
+use vertex_rounds::first_dart;
 
 // Whether the dart from `v` to `u` is that from `x` to `y`.
 fn is_dart(v: VertexId, u: VertexId, x: VertexId, y: VertexId) -> bool
@@ -30,7 +31,7 @@ fn is_frame_dart(four: OuterFour, v: VertexId, u: VertexId) -> bool
 fn is_triangle(map: &HalfMap, d: DartId) -> bool
     requires known { IsHalfMap map.now }
     requires live { IsLive map.now d.0 }
-    ensures { (v u : ℕ) → dart_at map.now d.0 ≡ Some (v, u) → (IsTrue result ↔ IsTriangle map.now.lists (v, u)) }
+    ensures { IsTrue result ↔ IsTriangle map.now.lists (dart_of map.now d.0) }
 {
     let second = map.face_step(d);
     let third = map.face_step(second);
@@ -39,66 +40,12 @@ fn is_triangle(map: &HalfMap, d: DartId) -> bool
 }
 
 // Whether a dart is off the outer face, and its face is no triangle.
-fn is_large(map: &HalfMap, four: OuterFour, d: DartId, v: VertexId, u: VertexId) -> bool
+fn is_large(map: &HalfMap, four: OuterFour, d: DartId) -> bool
     requires known { IsHalfMap map.now }
-    requires dart { dart_at map.now d.0 ≡ Some (v.0, u.0) }
-    ensures { IsTrue result ↔ IsLargeDart map.now.lists four.top.0 four.right.0 four.bottom.0 v.0 u.0 }
+    requires live { IsLive map.now d.0 }
+    ensures { IsTrue result ↔ HoldsAt map.now (IsLargeDart map.now.lists four.top.0 four.right.0 four.bottom.0) d.0 }
 {
-    !is_frame_dart(four, v, u) && !is_triangle(map, d)
-}
-
-// The least neighbour so far to which there is such a dart from `v`, with `u` beside those before.
-fn better(
-    map: &HalfMap,
-    four: OuterFour,
-    d: DartId,
-    v: VertexId,
-    u: VertexId,
-    best: Option<VertexId>,
-) -> Option<VertexId>
-    requires known { IsHalfMap map.now }
-    requires dart { dart_at map.now d.0 ≡ Some (v.0, u.0) }
-    ensures { (us : List ℕ) (k : ℕ) → slice_index us k ≡ u.0
-        → IsLeastOf (IsLargeDart map.now.lists four.top.0 four.right.0 four.bottom.0 v.0) us k best
-        → IsLeastOf (IsLargeDart map.now.lists four.top.0 four.right.0 four.bottom.0 v.0) us (k + 1) result }
-{
-    if is_below(u, best) && is_large(map, four, d, v, u) {
-        Some(u)
-    } else {
-        best
-    }
-}
-
-// The least neighbour to which there is such a dart from `v`; `first` is the dart to the first entry of its
-// list.
-fn least_large_round(map: &HalfMap, four: OuterFour, v: VertexId, first: DartId) -> Option<VertexId>
-    requires known { IsHalfMap map.now }
-    requires first { dart_at map.now first.0 ≡ Some (first_dart map.now.lists v.0) }
-    ensures { MatchOption result ((u : ℕ) → ¬ IsLargeDart map.now.lists four.top.0 four.right.0 four.bottom.0 v.0 u)
-        (λ u. IsLeast (IsLargeDart map.now.lists four.top.0 four.right.0 four.bottom.0 v.0) u.0) }
-{
-    let mut best = None;
-    let mut d = first;
-    'round: loop {
-        best = better(map, four, d, v, map.head(d), best);
-        match later_dart(map, d) {
-            Some(next) => d = next,
-            None => return best,
-        }
-    }
-}
-
-// The least neighbour to which there is such a dart from `v`.
-fn least_large(map: &HalfMap, four: OuterFour, v: VertexId) -> Option<VertexId>
-    requires known { IsHalfMap map.now }
-    requires vertex { v.0 < length map.now.lists }
-    ensures { MatchOption result ((u : ℕ) → ¬ IsLargeDart map.now.lists four.top.0 four.right.0 four.bottom.0 v.0 u)
-        (λ u. IsLeast (IsLargeDart map.now.lists four.top.0 four.right.0 four.bottom.0 v.0) u.0) }
-{
-    match map.first_dart(v) {
-        Some(first) => least_large_round(map, four, v, first),
-        None => None,
-    }
+    !is_frame_dart(four, map.tail(d), map.head(d)) && !is_triangle(map, d)
 }
 
 // The least dart off the outer face whose face is no triangle.
@@ -107,10 +54,5 @@ pub(crate) fn first_large(map: &HalfMap, four: OuterFour) -> Option<(VertexId, V
     ensures { MatchOption result ((v u : ℕ) → ¬ IsLargeDart map.now.lists four.top.0 four.right.0 four.bottom.0 v u)
         (λ p. IsLeastPair (IsLargeDart map.now.lists four.top.0 four.right.0 four.bottom.0) p.0.0 p.1.0) }
 {
-    for v in 0..map.n() {
-        if let Some(u) = least_large(map, four, VertexId(v)) {
-            return Some((VertexId(v), u));
-        }
-    }
-    None
+    first_dart(map, |d| is_large(map, four, d))
 }

@@ -2,14 +2,15 @@
 ghost use Rattle.std.specs.Prelude.{◌≡◌, ◌⊎◌, ◌+◌, ◌<◌, ◌↔◌, ℕ, List, length, slice_index, IsTrue, Some, MatchOption};
 ghost use Rattle.map_theory.specs.Maps.{HasDart};
 ghost use Rattle.plane_peeling.specs.Restricted.{IsFaceOfThree};
-ghost use Rattle.half_edges.specs.Map.{IsHalfMap, dart_at, first_dart};
-ghost use Rattle.draw_check.specs.Least.{IsLeast, IsLeastTriple};
-ghost use Rattle.draw_check.specs.Loops.{IsLeastOf};
+ghost use Rattle.half_edges.specs.Map.{IsHalfMap, IsLive, dart_at};
+ghost use Rattle.vertex_rounds.specs.Least.{IsLeast, IsLeastTriple};
+ghost use Rattle.vertex_rounds.specs.Rounds.{HoldsAt, dart_of};
 ghost use Rattle.rect_class.specs.RectMaps.{IsSeparating, NoneSeparating};
 ghost use Rattle.rect_class.specs.Loops.{HasThird};
 
 use half_edges::{DartId, HalfMap, VertexId};
-use rect_check::{are_adjacent, is_below, later_dart};
+use rect_check::are_adjacent;
+use vertex_rounds::{first_dart, least_head};
 
 // Whether the face of the dart from `a` to `b` goes on to `c` and back.
 fn is_face(map: &HalfMap, d: DartId, a: VertexId, b: VertexId, c: VertexId) -> bool
@@ -46,58 +47,17 @@ fn is_separating(map: &HalfMap, d: DartId, a: VertexId, b: VertexId, c: VertexId
         && are_adjacent(map, a, c)
 }
 
-// The least third vertex so far, with `c` beside those before.
-fn better_third(
-    map: &HalfMap,
-    d: DartId,
-    a: VertexId,
-    b: VertexId,
-    c: VertexId,
-    best: Option<VertexId>,
-) -> Option<VertexId>
+// Whether the head of dart `e` is the third vertex of a separating triangle with `a` and `b`.
+fn leads_to_third(map: &HalfMap, d: DartId, a: VertexId, b: VertexId, e: DartId) -> bool
     requires known { IsHalfMap map.now }
     requires dart { dart_at map.now d.0 ≡ Some (a.0, b.0) }
-    requires third { c.0 < length map.now.lists }
-    ensures { (us : List ℕ) (k : ℕ) → slice_index us k ≡ c.0
-        → IsLeastOf (IsSeparating map.now.lists a.0 b.0) us k best
-        → IsLeastOf (IsSeparating map.now.lists a.0 b.0) us (k + 1) result }
+    requires live { IsLive map.now e.0 }
+    ensures { IsTrue result ↔ IsSeparating map.now.lists a.0 b.0 (dart_of map.now e.0).1 }
 {
-    if is_below(c, best) && is_separating(map, d, a, b, c) {
-        Some(c)
-    } else {
-        best
-    }
+    is_separating(map, d, a, b, map.head(e))
 }
 
-// The least third vertex of `a` and `b`, by the list of `w`, which is one of them; `first` is the dart to
-// the first entry of that list.
-fn least_third_round(
-    map: &HalfMap,
-    d: DartId,
-    a: VertexId,
-    b: VertexId,
-    w: VertexId,
-    first: DartId,
-) -> Option<VertexId>
-    requires known { IsHalfMap map.now }
-    requires dart { dart_at map.now d.0 ≡ Some (a.0, b.0) }
-    requires end { (w.0 ≡ a.0) ⊎ (w.0 ≡ b.0) }
-    requires first { dart_at map.now first.0 ≡ Some (first_dart map.now.lists w.0) }
-    ensures { MatchOption result ((c : ℕ) → ¬ IsSeparating map.now.lists a.0 b.0 c)
-        (λ c. IsLeast (IsSeparating map.now.lists a.0 b.0) c.0) }
-{
-    let mut best = None;
-    let mut e = first;
-    'round: loop {
-        best = better_third(map, d, a, b, map.head(e), best);
-        match later_dart(map, e) {
-            Some(next) => e = next,
-            None => return best,
-        }
-    }
-}
-
-// The same, from the first dart of `w` on.
+// The least third vertex of `a` and `b`, by the list of `w`, which is one of them.
 fn least_third_at(
     map: &HalfMap,
     d: DartId,
@@ -111,10 +71,7 @@ fn least_third_at(
     ensures { MatchOption result ((c : ℕ) → ¬ IsSeparating map.now.lists a.0 b.0 c)
         (λ c. IsLeast (IsSeparating map.now.lists a.0 b.0) c.0) }
 {
-    match map.first_dart(w) {
-        Some(first) => least_third_round(map, d, a, b, w, first),
-        None => None,
-    }
+    least_head(map, w, |e| leads_to_third(map, d, a, b, e))
 }
 
 // The least third vertex of the edge from `a` to `b`. It goes over the shorter of the two lists.
@@ -143,54 +100,15 @@ fn has_third(map: &HalfMap, d: DartId, a: VertexId, b: VertexId) -> bool
     }
 }
 
-// The least second vertex so far, with `b` beside those before.
-fn better_second(
-    map: &HalfMap,
-    d: DartId,
-    a: VertexId,
-    b: VertexId,
-    best: Option<VertexId>,
-) -> Option<VertexId>
+// Whether the edge of a dart has a third vertex, and the tail is its lesser end.
+fn is_second(map: &HalfMap, d: DartId) -> bool
     requires known { IsHalfMap map.now }
-    requires dart { dart_at map.now d.0 ≡ Some (a.0, b.0) }
-    ensures { (us : List ℕ) (k : ℕ) → slice_index us k ≡ b.0
-        → IsLeastOf (HasThird map.now.lists a.0) us k best
-        → IsLeastOf (HasThird map.now.lists a.0) us (k + 1) result }
+    requires live { IsLive map.now d.0 }
+    ensures { IsTrue result ↔ HoldsAt map.now (HasThird map.now.lists) d.0 }
 {
-    if a.0 < b.0 && is_below(b, best) && has_third(map, d, a, b) {
-        Some(b)
-    } else {
-        best
-    }
-}
-
-// The least second vertex of `a`; `first` is the dart to the first entry of its list.
-fn least_second_round(map: &HalfMap, a: VertexId, first: DartId) -> Option<VertexId>
-    requires known { IsHalfMap map.now }
-    requires first { dart_at map.now first.0 ≡ Some (first_dart map.now.lists a.0) }
-    ensures { MatchOption result ((b : ℕ) → ¬ HasThird map.now.lists a.0 b) (λ b. IsLeast (HasThird map.now.lists a.0) b.0) }
-{
-    let mut best = None;
-    let mut d = first;
-    'round: loop {
-        best = better_second(map, d, a, map.head(d), best);
-        match later_dart(map, d) {
-            Some(next) => d = next,
-            None => return best,
-        }
-    }
-}
-
-// The least second vertex of `a`.
-fn least_second(map: &HalfMap, a: VertexId) -> Option<VertexId>
-    requires known { IsHalfMap map.now }
-    requires vertex { a.0 < length map.now.lists }
-    ensures { MatchOption result ((b : ℕ) → ¬ HasThird map.now.lists a.0 b) (λ b. IsLeast (HasThird map.now.lists a.0) b.0) }
-{
-    match map.first_dart(a) {
-        Some(first) => least_second_round(map, a, first),
-        None => None,
-    }
+    let a = map.tail(d);
+    let b = map.head(d);
+    a.0 < b.0 && has_third(map, d, a, b)
 }
 
 // The least third vertex of `a` and `b`, which have one.
@@ -224,10 +142,8 @@ pub(crate) fn first_separating(map: &HalfMap) -> Option<(VertexId, VertexId, Ver
     ensures { MatchOption result (NoneSeparating map.now.lists)
         (λ t. IsLeastTriple (IsSeparating map.now.lists) t.0.0 t.1.0 t.2.0) }
 {
-    for a in 0..map.n() {
-        if let Some(b) = least_second(map, VertexId(a)) {
-            return Some((VertexId(a), b, third_between(map, VertexId(a), b)));
-        }
+    match first_dart(map, |d| is_second(map, d)) {
+        Some((a, b)) => Some((a, b, third_between(map, a, b))),
+        None => None,
     }
-    None
 }

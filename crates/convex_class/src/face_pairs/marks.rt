@@ -2,7 +2,7 @@
 ghost use Rattle.std.specs.Prelude.{◌≡◌, ◌⊎◌, ◌≢◌, ◌+◌, ◌<◌, ◌≤◌, ℕ, length, Some, Contains};
 ghost use Rattle.half_edges.specs.Map.{IsHalfMap, IsLive, dart_at};
 ghost use Rattle.euler_faces.specs.FaceWalks.{IsFaceWalk, ids_of};
-ghost use Rattle.draw_check.proofs.RoundLemmas.{LeavesFrom, place_at};
+ghost use Rattle.vertex_rounds.proofs.RoundLemmas.{LeavesFrom, place_at};
 ghost use Rattle.convex_peeling.specs.TightMapsLaws.{IsPlaneUncut};
 ghost use Rattle.convex_class.specs.Passing.{AreMarksOf, IsUnused, IsMarked};
 

@@ -3,7 +3,7 @@ ghost use Rattle.std.specs.Prelude.{◌≡◌, ◌<◌, ℕ, Some, length};
 ghost use Rattle.map_theory.specs.Maps.{Dart, IsPlane};
 ghost use Rattle.convex_peeling.specs.Tight.{IsThreeConnected};
 ghost use Rattle.half_edges.specs.Map.{IsLive, dart_at, id_bound};
-ghost use Rattle.draw_check.specs.FaceVerdicts.{dart_of};
+ghost use Rattle.vertex_rounds.specs.Rounds.{dart_of};
 ghost use Rattle.convex_faces.specs.Directions.{root_in, IsWoodIn};
 ghost use Rattle.convex_counts.specs.Axes.{next, previous};
 ghost use Rattle.convex_faces.specs.Passing.{Passes, PassesDart, PassesAxis, PassesOuter, PassesRest, IsOuterCorner};

@@ -1,6 +1,6 @@
 use Rattle.std.proofs.Common.{◌+◌, ◌≡◌, ◌&&◌, nat_lt, ℕ, take, count_by, sym, subst, ◌∙◌, arith}
 use Rattle.map_theory.specs.Maps.{list_of}
-use Rattle.draw_check.proofs.RoundLemmas.{head_at, place_at, at_place, place_at-later, LeavesFrom-later, head_at-result}
+use Rattle.vertex_rounds.proofs.RoundLemmas.{head_at, place_at, at_place, place_at-later, LeavesFrom-later, head_at-result}
 use Rattle.bar_check.proofs.EdgeLemmas.{edges_until-all}
 use Rattle.bar_check.proofs.edges.edges_until_round.Goals as goal
 

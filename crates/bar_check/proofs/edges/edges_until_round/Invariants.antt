@@ -1,6 +1,6 @@
 use Rattle.std.proofs.Common.{◌≡◌, ◌-◌, ◌≤◌, ◌&&◌, nat_lt, length, take, count_by}
 use Rattle.map_theory.specs.Maps.{list_of}
-use Rattle.draw_check.proofs.RoundLemmas.{LeavesFrom, place_at}
+use Rattle.vertex_rounds.proofs.RoundLemmas.{LeavesFrom, place_at}
 use Rattle.bar_check.proofs.edges.edges_until_round.Given as goal
 
 abbrev pub invariant-round : goal.invariant-round

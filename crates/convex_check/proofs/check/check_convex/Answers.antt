@@ -1,4 +1,4 @@
-use Rattle.draw_check.specs.FaceVerdicts.{dart_of}
+use Rattle.vertex_rounds.specs.Rounds.{dart_of}
 use Rattle.convex_check.proofs.VerdictLemmas.{IsConvex-unbent}
 use Rattle.convex_check.proofs.check.check_convex.Goals as goal
 

@@ -1,7 +1,7 @@
 use Rattle.std.proofs.Common.{◌≡◌, ℕ, ◌<◌, length, get_or}
 use Rattle.euler_faces.specs.FaceWalks.{ids_of}
 use Rattle.plane_drawings.specs.Drawing.{place}
-use Rattle.draw_check.specs.FaceVerdicts.{dart_of}
+use Rattle.vertex_rounds.specs.Rounds.{dart_of}
 use Rattle.convex_check.proofs.outer.walk_points.Given as goal
 
 abbrev pub invariant-loop-d : goal.invariant-loop-d

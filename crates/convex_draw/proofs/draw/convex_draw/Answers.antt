@@ -3,8 +3,8 @@ use Rattle.std.specs.Option.{option_map}
 use Rattle.map_lists.specs.Lists.{Lists}
 use Rattle.map_theory.specs.Maps.{Dart, face_count}
 use Rattle.half_edges.specs.Map.{Map, dart_at}
-use Rattle.draw_check.specs.FaceVerdicts.{dart_of}
-use Rattle.draw_check.proofs.FaceIds.{dart_of-live}
+use Rattle.vertex_rounds.specs.Rounds.{dart_of}
+use Rattle.vertex_rounds.proofs.DartIds.{dart_of-live}
 use Rattle.convex_counts.specs.Counts.{face_counts}
 use Rattle.convex_counts.specs.Turns.{well_turned}
 use Rattle.convex_draw.specs.Points.{IsListedRun, ArePointsOf}

@@ -1,5 +1,5 @@
-use Rattle.draw_check.specs.FaceVerdicts.{dart_of}
-use Rattle.draw_check.proofs.FaceIds.{has_dart}
+use Rattle.vertex_rounds.specs.Rounds.{dart_of}
+use Rattle.vertex_rounds.proofs.DartIds.{has_dart}
 use Rattle.draw_check.proofs.FaceLemmas.{counterclockwise_from}
 use Rattle.draw_check.proofs.faces.check_by_faces.Goals as goal
 

@@ -1,9 +1,9 @@
 use Rattle.std.proofs.Common.{sym, subst}
 use Rattle.map_theory.specs.Maps.{dart_count}
-use Rattle.draw_check.specs.FaceVerdicts.{dart_of}
+use Rattle.vertex_rounds.specs.Rounds.{dart_of}
 use Rattle.draw_check.specs.Outer.{IsInside}
 use Rattle.draw_check.specs.FaceSums.{AreSumsBelow, HasLowSum}
-use Rattle.draw_check.proofs.LeastLemmas.{IsLeastPair-alike}
+use Rattle.vertex_rounds.proofs.LeastLemmas.{IsLeastPair-alike}
 use Rattle.draw_check.proofs.FaceSumLemmas.{inside_from, inside_to, outer_from}
 use Rattle.draw_check.proofs.outer.outer_verdict.Goals as goal
 

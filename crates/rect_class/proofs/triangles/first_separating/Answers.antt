@@ -1,20 +1,24 @@
-use Rattle.std.proofs.Common.{◌≡◌, inl, inr, subst, arith}
-use Rattle.std.proofs.lemmas.Bool.{cases_lt}
-use Rattle.rect_class.specs.RectMaps.{IsSeparating}
+use Rattle.std.proofs.Common.{Some, None, rules, arith}
+use Rattle.vertex_rounds.proofs.FirstLemmas.{least_pair}
+use Rattle.rect_class.specs.Loops.{HasThird}
 use Rattle.rect_class.proofs.triangles.first_separating.Goals as goal
 
-pub returns-in-Some : goal.returns-in-Some
-returns-in-Some c = record {
-  before = λ s b t l. c.loop-a.invariant s b t l;
-  rest = record {
-    before = λ b t l x. c.in-Some.ensures.before b l (record { third = t; separating = x });
-    rest = c.third_between.ensures;
-  };
-}
+pub third_between-requires-clause-third : goal.third_between-requires-clause-third
+third_between-requires-clause-third c =
+    (least_pair c.args.map.now c.requires _ (HasThird c.args.map.now.lists) 0 (Some (c.in-Some.a, c.in-Some.b)) c.in-Some.ensures (λ d live late r s. search rules) (λ a b x. (omega arith, x.separating.low))).rest.here
 
-pub loop-a-preserved : goal.loop-a-preserved
-loop-a-preserved c = λ s b t l x.
-    elim (cases_lt s c.loop-a.a) [
-      | inl less ↦ c.loop-a.invariant s b t less x
-      | inr more ↦ (let same : s ≡ c.loop-a.a = omega arith in c.in_default.ensures b (record { third = t; separating = subst (λ y. IsSeparating c.args.map.now.lists y b t) same x }))
-    ]
+pub returns-in-Some : goal.returns-in-Some
+returns-in-Some c =
+    let first = least_pair c.args.map.now c.requires _ (HasThird c.args.map.now.lists) 0 (Some (c.in-Some.a, c.in-Some.b)) c.in-Some.ensures (λ d live late r s. search rules) (λ a b x. (omega arith, x.separating.low)) in
+    record {
+      before = λ a b t less x. first.before a b less (record { third = t; separating = x });
+      rest = record {
+        before = λ b t less x. first.rest.before b less (record { third = t; separating = x });
+        rest = c.third_between.ensures;
+      };
+    }
+
+pub returns-in-None : goal.returns-in-None
+returns-in-None c =
+    let none = least_pair c.args.map.now c.requires _ (HasThird c.args.map.now.lists) 0 None c.in-None.ensures (λ d live late r s. search rules) (λ a b x. (omega arith, x.separating.low)) in
+    λ a b t x. none a b (record { third = t; separating = x })

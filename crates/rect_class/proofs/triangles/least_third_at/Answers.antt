@@ -1,9 +1,20 @@
-use Rattle.std.proofs.Common.{◌<◌, ℕ, length, ⊎_elim, sym, subst}
+use Rattle.std.proofs.Common.{◌<◌, ℕ, length, ⊎_elim, sym, subst, rules}
+use Rattle.vertex_rounds.proofs.FirstLemmas.{least_one}
+use Rattle.rect_class.specs.RectMaps.{IsSeparating}
 use Rattle.rect_class.proofs.HeadLemmas.{ends-below}
+use Rattle.rect_class.proofs.TriangleLemmas.{third_at}
 use Rattle.rect_class.proofs.triangles.least_third_at.Goals as goal
 
-pub first_dart-requires : goal.first_dart-requires
-first_dart-requires c =
+pub least_head-requires-clause-vertex : goal.least_head-requires-clause-vertex
+least_head-requires-clause-vertex c =
     let map = c.args.map.now in
     let (la, lb) = ends-below map c.requires.known c.args.d.0 c.args.a.0 c.args.b.0 c.requires.dart in
     ⊎_elim (λ e. subst (λ (x : ℕ). x < length map.lists) (sym e) la) (λ e. subst (λ (x : ℕ). x < length map.lists) (sym e) lb) c.requires.end
+
+pub returns : goal.returns
+returns c =
+    let map = c.args.map.now in
+    let (la, lb) = ends-below map c.requires.known c.args.d.0 c.args.a.0 c.args.b.0 c.requires.dart in
+    let l = ⊎_elim (λ e. subst (λ (x : ℕ). x < length map.lists) (sym e) la) (λ e. subst (λ (x : ℕ). x < length map.lists) (sym e) lb) c.requires.end in
+    third_at map.lists c.args.a.0 c.args.b.0 c.args.w.0 c.requires.end l c.least_head.result
+    (least_one map c.requires.known _ (λ w x. IsSeparating map.lists c.args.a.0 c.args.b.0 x) c.args.w.0 c.least_head.result c.least_head.ensures (λ e live late r s. search rules))

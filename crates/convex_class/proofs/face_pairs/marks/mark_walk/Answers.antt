@@ -1,10 +1,10 @@
 use Rattle.std.proofs.Common.{◌≡◌, ◌<◌, length, get_or, Some, subst, arith}
 use Rattle.half_edges.specs.Map.{IsLive, dart_at}
 use Rattle.euler_faces.specs.FaceWalks.{ids_of}
-use Rattle.draw_check.proofs.RoundLemmas.{place_at}
+use Rattle.vertex_rounds.proofs.RoundLemmas.{place_at}
 use Rattle.convex_class.proofs.WalkMarks.{AreMarksUnderWay, AreMarksUnderWay-none, AreMarksUnderWay-step, AreMarksUnderWay-whole, IsUnused-step, get_or-ids, length-ids}
-use Rattle.draw_check.specs.FaceVerdicts.{dart_of}
-use Rattle.draw_check.proofs.FaceIds.{dart_of-live}
+use Rattle.vertex_rounds.specs.Rounds.{dart_of}
+use Rattle.vertex_rounds.proofs.DartIds.{dart_of-live}
 use Rattle.convex_class.proofs.face_pairs.marks.mark_walk.Goals as goal
 
 pub loop-d-init : goal.loop-d-init

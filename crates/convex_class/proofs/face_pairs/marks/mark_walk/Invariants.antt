@@ -1,6 +1,6 @@
 use Rattle.std.proofs.Common.{◌≢◌, ℕ, Contains}
 use Rattle.euler_faces.specs.FaceWalks.{ids_of}
-use Rattle.draw_check.proofs.RoundLemmas.{LeavesFrom, place_at}
+use Rattle.vertex_rounds.proofs.RoundLemmas.{LeavesFrom, place_at}
 use Rattle.convex_class.specs.Passing.{AreMarksOf, IsUnused}
 use Rattle.convex_class.proofs.WalkMarks.{AreMarksUnderWay}
 use Rattle.convex_class.proofs.face_pairs.marks.mark_walk.Given as goal

@@ -1,5 +1,5 @@
-use Rattle.draw_check.specs.FaceVerdicts.{dart_of}
-use Rattle.draw_check.proofs.FaceIds.{dart_of-live}
+use Rattle.vertex_rounds.specs.Rounds.{dart_of}
+use Rattle.vertex_rounds.proofs.DartIds.{dart_of-live}
 use Rattle.convex_faces.proofs.wood.of_run.convex_wood.Goals as goal
 
 pub wood_by-requires-clause-points : goal.wood_by-requires-clause-points

@@ -1,6 +1,6 @@
 use Rattle.std.proofs.Common.{◌<◌, length, arith, rules}
-use Rattle.draw_check.specs.FaceVerdicts.{dart_of}
-use Rattle.draw_check.proofs.FaceIds.{dart_of-live, has_dart}
+use Rattle.vertex_rounds.specs.Rounds.{dart_of}
+use Rattle.vertex_rounds.proofs.DartIds.{dart_of-live, has_dart}
 use Rattle.half_edges.specs.Map.{IsLive, dart_at}
 use Rattle.convex_faces.specs.Notes.{IsRisingDart}
 use Rattle.convex_faces.proofs.NoteLemmas.{tail_is, IsRisingDart-not_live, Notes-none, Notes-set}

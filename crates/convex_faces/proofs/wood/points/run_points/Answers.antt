@@ -2,8 +2,8 @@ use Rattle.std.proofs.Common.{Option, ◌≡◌, ◌∙◌, ◌+◌, ℕ, Some, 
 use Rattle.map_lists.specs.Lists.{Lists}
 use Rattle.map_theory.specs.Maps.{face_count}
 use Rattle.half_edges.specs.Map.{dart_at}
-use Rattle.draw_check.specs.FaceVerdicts.{dart_of}
-use Rattle.draw_check.proofs.FaceIds.{dart_of-live}
+use Rattle.vertex_rounds.specs.Rounds.{dart_of}
+use Rattle.vertex_rounds.proofs.DartIds.{dart_of-live}
 use Rattle.convex_draw.specs.Points.{IsListedRun}
 use Rattle.convex_laws.specs.declared.convex_rows.rows.ConvexRows.{ConvexRows}
 use Rattle.convex_draw.proofs.ByRows.{IsRunByRows, IsRunByRows-of}

@@ -1,9 +1,0 @@
-use Rattle.draw_check.specs.Loops.{IsCrossed}
-use Rattle.draw_check.proofs.LeastRounds.{IsRound, left_of_round}
-use Rattle.draw_check.proofs.crossings.least_crossed_round.Given as goal
-
-abbrev pub invariant-round : goal.invariant-round
-invariant-round l = IsRound l.map (IsCrossed l.map.lists l.points l.fn.a.0) l.fn.a.0 l.d.0 l.best
-
-abbrev pub decreases-round : goal.decreases-round
-decreases-round l = left_of_round l.map l.fn.a.0 l.d.0
