@@ -1,0 +1,20 @@
+use Rattle.std.proofs.Common.{length, ap, arith}
+use Rattle.map_lists.specs.Lists.{Lists}
+use Rattle.std.proofs.Common.{sym, subst}
+use Rattle.map_theory.specs.Maps.{Dart}
+use Rattle.plane_laws.specs.Completed.{IsCompleted}
+use Rattle.canon_order.specs.Orders.{IsCanonicalOrder, vertices_of}
+use Rattle.order_drawings.specs.Rows.{AreRowsOf}
+use Rattle.order_drawings.proofs.order_tables.rows.order_rows.Goals as goal
+
+pub list_rows-requires-clause-completed : goal.list_rows-requires-clause-completed
+list_rows-requires-clause-completed c = subst IsCompleted (sym c.in_ok-lists.ensures) c.requires.completed
+
+pub list_rows-requires-clause-few : goal.list_rows-requires-clause-few
+list_rows-requires-clause-few c = omega (arith, ap length c.in_ok-lists.ensures, c.facts.ensures.few_vertices)
+
+pub list_rows-requires-clause-order : goal.list_rows-requires-clause-order
+list_rows-requires-clause-order c = subst (λ (ls : Lists). (base : Dart) × IsCanonicalOrder ls base (vertices_of c.args.order.now)) (sym c.in_ok-lists.ensures) c.requires.order
+
+pub returns : goal.returns
+returns c = subst (λ (ls : Lists). AreRowsOf ls (vertices_of c.args.order.now) c.in_ok-rows.rows) c.in_ok-lists.ensures c.in_ok-rows.ensures
