@@ -4,10 +4,11 @@ ghost use Rattle.map_theory.specs.Maps.{IsPlane, vertex_count};
 ghost use Rattle.plane_laws.specs.Completed.{IsCompleted};
 ghost use Rattle.plane_laws.specs.MapEditsCompleted.{IsExtended};
 ghost use Rattle.half_edges.specs.Map.{IsHalfMap, dart_at};
+ghost use Rattle.conn_parts.specs.Parts.{ArePartsOf};
 
 use crate::fill::fill;
 use crate::join::join_parts;
-use conn_parts::components;
+use conn_parts::{Parts, components};
 use half_edges::HalfMap;
 use std::alloc::{AllocError, Global};
 
@@ -26,15 +27,28 @@ pub fn triangulate(alloc: Global, map: HalfMap) -> Result<HalfMap, (HalfMap, All
     ensures known { IfOk result IsHalfMap }
     ensures err { IfErr result (λ e. e.0 ≡ map) }
 {
+    match components(alloc, &map) {
+        Ok(parts) => triangulate_parts(map, &parts),
+        Err(e) => Err((map, e)),
+    }
+}
+
+/// The same, of a map whose components are known.
+pub fn triangulate_parts(map: HalfMap, parts: &Parts) -> Result<HalfMap, (HalfMap, AllocError)>
+    requires plane { IsPlane map.lists }
+    requires some { 3 ≤ vertex_count map.lists }
+    requires parts { ArePartsOf map.lists parts.now }
+    ensures completed { IfOk result (λ new. IsCompleted new.lists) }
+    ensures extended { IfOk result (λ new. IsExtended map.lists new.lists) }
+    ensures ids { IfOk result (λ new. (d v u : ℕ) → dart_at map d ≡ Some (v, u) → dart_at new d ≡ Some (v, u)) }
+    ensures known { IfOk result IsHalfMap }
+    ensures err { IfErr result (λ e. e.0 ≡ map) }
+{
     let mut map = map;
-    let parts = match components(alloc, &map) {
-        Ok(parts) => parts,
-        Err(e) => return Err((map, e)),
-    };
     let room = 3 * map.n() as u32 - 6 - map.m();
     match map.reserve_edges(room) {
         Ok(()) => {
-            join_parts(&mut map, &parts);
+            join_parts(&mut map, parts);
             fill(&mut map);
             Ok(map)
         }

@@ -10,7 +10,7 @@ mod lists;
 mod order;
 
 pub use fault::OrderFault;
-pub use order::{Order, canon_order, turned_order};
+pub use order::{Order, canon_order, list_order, turned_order};
 
 /// Each completed map has a canonical order for each base dart.
 pub fn some_order()

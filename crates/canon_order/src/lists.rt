@@ -31,7 +31,7 @@ pub(crate) fn lower(counts: &mut [u16], entries: &[u16])
 pub(crate) fn turned_vertices(alloc: Global, taken: &[u16]) -> Result<VertexList, AllocError>
     ensures { IfOk result (λ at. map (λ v. v.0) at ≡ reverse taken.now) }
 {
-    let mut at = VertexList::new(alloc);
+    let mut at = VertexList::with_capacity(alloc, taken.len())?;
     for v in taken.iter().rev() {
         at.push(VertexId(*v))?;
     }
@@ -46,20 +46,9 @@ fn write_ranks(ranks: &mut [u32], taken: &[u16])
     requires distinct { AllPairs ◌≢◌ taken.now }
     ensures { (i : ℕ) → i < length taken.now → slice_index ranks.new (slice_index taken.now i) + i + 1 ≡ length taken.now }
 {
-    for i in 0..taken.len() {
-        ranks[taken[i] as usize] = (taken.len() - 1 - i) as u32;
+    for (i, v) in taken.iter().enumerate() {
+        ranks[*v as usize] = (taken.len() - 1 - i) as u32;
     }
-}
-
-// A list of these numbers.
-fn counts_of(alloc: Global, numbers: &[u32]) -> Result<Counts, AllocError>
-    ensures { IfOk result (λ counts. counts ≡ numbers.now) }
-{
-    let mut counts = Counts::new(alloc);
-    for k in numbers {
-        counts.push(*k)?;
-    }
-    Ok(counts)
 }
 
 // For each number its place, counted from the last.
@@ -71,5 +60,5 @@ pub(crate) fn turned_ranks(alloc: Global, taken: &[u16]) -> Result<Counts, Alloc
 {
     let mut ranks = vec![in alloc; 0; taken.len()]?;
     write_ranks(&mut ranks, taken);
-    counts_of(alloc, &ranks)
+    Ok(Counts::from_vec(ranks))
 }

@@ -89,8 +89,8 @@ fn taken_off(
     let mut marked = vec![in alloc; false; n]?;
     let mut kept = vec![in alloc; true; n]?;
     let mut counts = vec![in alloc; 0; n]?;
-    let mut stack = Vec::new(alloc);
-    let mut taken = Vec::new(alloc);
+    let mut stack = Vec::with_capacity(alloc, lists.total())?;
+    let mut taken = Vec::with_capacity(alloc, n)?;
     peel(
         &mut marked,
         &mut kept,
@@ -139,14 +139,30 @@ pub fn canon_order(alloc: Global, tri: &HalfMap, base: DartId) -> Result<Order, 
     ensures order { IfOk result (λ order. (t s : ℕ) → dart_at tri.now base.0 ≡ Some (t, s) → IsCanonicalOrder tri.now.lists (t, s) (vertices_of order)) }
     ensures rank { IfOk result (λ order. IsRankOf order.rank (vertices_of order)) }
 {
-    tri.facts();
     let lists = tri.rotations(alloc)?;
+    let order = list_order(alloc, tri, &lists, base)?;
+    Ok(order)
+}
+
+/// The same, where the lists of the map are at hand.
+pub fn list_order(
+    alloc: Global,
+    tri: &HalfMap,
+    lists: &Rotations,
+    base: DartId,
+) -> Result<Order, AllocError>
+    requires completed { IsCompleted tri.now.lists }
+    requires lists { lists.now ≡ tri.now.lists }
+    requires live { IsLive tri.now base.0 }
+    ensures order { IfOk result (λ order. (t s : ℕ) → dart_at tri.now base.0 ≡ Some (t, s) → IsCanonicalOrder tri.now.lists (t, s) (vertices_of order)) }
+    ensures rank { IfOk result (λ order. IsRankOf order.rank (vertices_of order)) }
+{
+    tri.facts();
     let t = tri.tail(base).0;
     let s = tri.head(base).0;
     let third = tri.head(tri.face_step(base)).0;
     let under = tri.head(tri.face_step(tri.twin(base))).0;
-    let taken = taken_off(alloc, &lists, t, s, third, under)?;
-    let at = turned_vertices(alloc, &taken)?;
-    let rank = turned_ranks(alloc, &taken)?;
-    Ok(Order { at, rank })
+    let taken = taken_off(alloc, lists, t, s, third, under)?;
+    let order = turned_order(alloc, &taken)?;
+    Ok(order)
 }

@@ -7,4 +7,4 @@ pub mod plane_blocks;
 
 pub use graph_cuts::{graph_components, graph_cut_vertex, graph_separating_pair};
 pub use graph_search::map_cuts::{cut_vertex, separating_pair};
-pub use parts::{Parts, components};
+pub use parts::{Parts, components, list_components};

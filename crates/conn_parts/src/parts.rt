@@ -50,11 +50,12 @@ pub fn components(alloc: Global, map: &HalfMap) -> Result<Parts, AllocError>
 {
     map.facts();
     let lists = map.rotations(alloc)?;
-    number_lists(alloc, &lists)
+    list_components(alloc, &lists)
 }
 
-// The components of lists that are a simple map.
-fn number_lists(alloc: Global, lists: &Rotations) -> Result<Parts, AllocError>
+/// The components of lists that are a simple map of at most 4095 vertices, in time linear in the entries. It
+/// fails only for want of memory.
+pub fn list_components(alloc: Global, lists: &Rotations) -> Result<Parts, AllocError>
     requires simple { IsSimpleMap lists.now }
     requires few { length lists.now < 4096 }
     ensures { IfOk result (ArePartsOf lists.now) }

@@ -160,11 +160,14 @@ pub fn euler(alloc: Global, map: &HalfMap) -> Result<EulerCount, AllocError>
     ensures f { IfOk result (λ count. count.f ≡ face_count map.now.lists) }
     ensures c { IfOk result (λ count. count.c ≡ component_count map.now.lists) }
 {
-    let _n = map.n();
+    map.facts();
     let lists = map.rotations(alloc)?;
     match count_lists(alloc, &lists) {
         Ok(count) => Ok(count),
-        // the lists of a map have no fault
-        Err(_) => Err(AllocError),
+        Err(fault) => match fault {
+            MapFault::NoMemory => Err(AllocError),
+            // the lists of a map have no fault
+            _ => unreachable!(),
+        },
     }
 }

@@ -1,9 +1,10 @@
 -- What the records of an arena say of its darts, its lists and their ids.
-use Rattle.std.proofs.Common.{ℕ, zero, suc, ◌+◌, ◌<◌, ◌≤◌, ◌≡◌, ◌≢◌, true, false, cond, ltb, List, [], ◌∷◌, ◌++◌, map, length, get_or, take, AllPairs, Contains, Option, Some, None, is_some, option_map, refl, sym, ap, ◌∙◌, subst, inl, inr, arith}
-use Rattle.std.proofs.lemmas.List.{length-map, get_or-map, get_or_past, get_or_default, take_more, take_all, ext_get_or}
+use Rattle.std.proofs.Common.{ℕ, zero, suc, ◌+◌, ◌<◌, ◌≤◌, ◌≡◌, ◌≢◌, true, false, cond, ltb, List, [], ◌∷◌, ◌++◌, map, length, get_or, take, AllPairs, Contains, Option, Some, None, is_some, option_map, refl, sym, ap, ap₂, ◌∙◌, subst, inl, inr, arith}
+use Rattle.std.proofs.lemmas.List.{length-append, map-append, length-map, get_or-map, get_or_past, get_or_default, take_more, take_all, ext_get_or}
 use Rattle.std.proofs.lemmas.Option.{cond_some}
 use Rattle.std.proofs.lemmas.Bool.{cases_lt, cases_Bool, true≢false, cond-true, lt-ltb}
 use Rattle.map_lists.specs.Lists.{Lists}
+use Rattle.map_lists.proofs.CutLemmas.{IsStored, IsStored-push}
 use Rattle.map_theory.specs.Maps.{Dart, list_of, HasDart, place_of, follows, entry_after, twin_dart}
 use Rattle.map_theory.proofs.DartLemmas.{place_of-lt-length, get_or-place_of, place_of-get_or, place_after, place_before, place_before-lt, place_after-before, entry_after-place}
 use Rattle.half_edges.specs.Map.{Map, dart_at, IsLive, IsHalfMap, next_dart}
@@ -244,3 +245,17 @@ walkable_here darts vertices edges free spare a v l =
 pub walkable_read : (darts read : List DartRecord) (vertex other : VertexRecord) → read ≡ darts → other ≡ vertex → IsWalkable darts vertex.first vertex.degree → IsWalkable read other.first other.degree
 walkable_read darts read vertex other e i h =
     subst (λ (v : VertexRecord). IsWalkable read v.first v.degree) (sym i) (subst (λ ds. IsWalkable ds vertex.first vertex.degree) (sym e) h)
+
+-- a list more: the entries and ends of the lists of the first vertices, and then those with the next list
+pub IsStored-walk : (darts read : List DartRecord) (vertices others : List VertexRecord) (v : ℕ) (entries new_entries ends new_ends : List ℕ) (end : ℕ) → read ≡ darts → others ≡ vertices → v < length vertices → IsStored (arena_lists darts (take v vertices)) entries ends → new_entries ≡ entries ++ walk read (vertex_at others v).first (vertex_at others v).degree → new_ends ≡ ends ++ end ∷ [] → end ≡ length new_entries → IsStored (arena_lists darts (take (v + 1) vertices)) new_entries new_ends
+IsStored-walk darts read vertices others v entries new_entries ends new_ends end same_darts same l is grown ended size =
+    let us = walk darts (vertex_at vertices v).first (vertex_at vertices v).degree in
+    let added : new_entries ≡ entries ++ us = grown ∙ ap₂ (λ ds vs. entries ++ walk ds (vertex_at vs v).first (vertex_at vs v).degree) same_darts same in
+    let e : end ≡ length entries + length us = size ∙ ap length added ∙ length-append entries us in
+    let more : arena_lists darts (take (v + 1) vertices) ≡ arena_lists darts (take v vertices) ++ us ∷ [] =
+    ap (λ vs. arena_lists darts vs) (take_more vertices v no_vertex l)
+    ∙ map-append (λ (w : VertexRecord). walk darts w.first w.degree) (take v vertices) (vertex_at vertices v ∷ []) in
+    subst (λ lists. IsStored lists new_entries new_ends) (sym more)
+    (subst (λ es. IsStored (arena_lists darts (take v vertices) ++ us ∷ []) es new_ends) (sym added)
+    (subst (λ ks. IsStored (arena_lists darts (take v vertices) ++ us ∷ []) (entries ++ us) ks) (sym (ended ∙ ap (λ k. ends ++ k ∷ []) e))
+    (IsStored-push (arena_lists darts (take v vertices)) entries ends us is)))

@@ -7,13 +7,7 @@ use Rattle.map_lists.specs.Lists.{Lists}
 use Rattle.map_theory.specs.Maps.{list_of, HasDart, IsSimpleMap}
 use Rattle.map_theory.proofs.EntryLemmas.{Contains-from_filter, Contains-filter, Contains-from_map, Contains-map, AllPairs-map}
 use Rattle.std.proofs.lemmas.List.Kept.{AllPairs-filter}
-use Rattle.std.proofs.lemmas.Option.{none-some}
 use Rattle.map_theory.proofs.DartLemmas.{HasDart-at}
-use Rattle.simple_maps.specs.Faults.{first_fault, out_of_range, loop_at, repeated, one_sided}
-use Rattle.simple_maps.proofs.FaultLemmas.{first_fault-IsSimpleMap}
-use Rattle.simple_maps.specs.MapFault.{Names}
-use Rattle.simple_maps.specs.declared.fault.MapFault.{MapFault}
-use Rattle.simple_maps.specs.declared.fault.MapFault.TheVariants.{OutOfRange, Loop, Repeated, OneSided, NoMemory}
 use Rattle.half_edges.specs.Induced.{kept_before, is_kept, induced_list, kept_lists, induced_lists}
 
 -- one vertex more
@@ -235,14 +229,6 @@ induced_more_no keep lists i l m is_no =
     ap (λ xs. map (induced_list keep) xs) (kept_lists_more keep lists i l m ∙ ap (λ b. kept_lists (take i keep) (take i lists) ++ cond b (list_of lists i ∷ []) []) is_no)
     ∙ map-append (induced_list keep) (kept_lists (take i keep) (take i lists)) []
     ∙ append-nil (map (induced_list keep) (kept_lists (take i keep) (take i lists)))
-
--- lists that are simple have no fault to name
-pub NoMemory-from_simple : (lists : Lists) (fault : MapFault) → IsSimpleMap lists → Names (first_fault lists) fault → fault ≡ NoMemory
-NoMemory-from_simple lists (OutOfRange v u) simple named = absurd (none-some (out_of_range v u) (sym (first_fault-IsSimpleMap lists simple) ∙ named))
-NoMemory-from_simple lists (Loop v) simple named = absurd (none-some (loop_at v) (sym (first_fault-IsSimpleMap lists simple) ∙ named))
-NoMemory-from_simple lists (Repeated v u) simple named = absurd (none-some (repeated v u) (sym (first_fault-IsSimpleMap lists simple) ∙ named))
-NoMemory-from_simple lists (OneSided v u) simple named = absurd (none-some (one_sided v u) (sym (first_fault-IsSimpleMap lists simple) ∙ named))
-NoMemory-from_simple lists NoMemory simple named = refl
 
 -- the entries of a simple map's list have flags
 pub entries_flagged : (lists : Lists) (keep : List Bool) (v : ℕ) (us : List ℕ) → IsSimpleMap lists → length keep ≡ length lists → v < length lists → us ≡ list_of lists v → All (λ u. u < length keep) us

@@ -1,5 +1,5 @@
 //! The records of the arena, and walks along them.
-ghost use Rattle.std.specs.Prelude.{◌≡◌, ◌+◌, ◌-◌, ◌<◌, ◌≤◌, ◌==◌, nat_lt, if◌then◌else◌, ◌∷◌, ◌⊎◌, ℕ, length, map, slice_index, slice_index_or, OnOk, IfOk, MatchOption};
+ghost use Rattle.std.specs.Prelude.{◌≡◌, ◌+◌, ◌-◌, ◌<◌, ◌≤◌, ◌==◌, nat_lt, if◌then◌else◌, ◌∷◌, ◌++◌, ◌⊎◌, ℕ, length, map, slice_index, slice_index_or, OnOk, IfOk, MatchOption};
 ghost use Rattle.map_lists.specs.Cuts.{AreCuts};
 ghost use Rattle.half_edges.specs.Arena.{IsWalkable, record_at, steps, head_of, walk, next_of, prev_of};
 ghost use Rattle.half_edges.specs.Links.{IsSpliced, IsUnspliced, IsThreaded};
@@ -61,24 +61,23 @@ pub(crate) struct VertexRecord {
     pub(crate) degree: u16,
 }
 
-// The heads of the darts that are met in `degree` steps from `first`.
-pub(crate) fn walked(
-    alloc: Global,
+// Appends the heads of the darts that are met in `degree` steps from `first`.
+pub(crate) fn push_heads(
+    entries: &mut Vec<u16>,
     darts: &[DartRecord],
     first: u32,
     degree: u16,
-) -> Result<Vec<u16>, AllocError>
+) -> Result<(), AllocError>
     requires { IsWalkable darts.now first degree }
-    ensures { IfOk result (λ heads. heads.items ≡ walk darts.now first degree) }
+    ensures { OnOk result (entries.new.items ≡ entries.old.items ++ walk darts.now first degree) }
 {
-    let mut heads = Vec::with_capacity(alloc, degree as usize)?;
     let mut d = first;
     for k in 0..degree {
         let record = darts[d as usize];
-        heads.push(darts[record.twin as usize].tail)?;
+        entries.push(darts[record.twin as usize].tail)?;
         d = record.next;
     }
-    Ok(heads)
+    Ok(())
 }
 
 // The first dart with this head that is met in `degree` steps from `first`.

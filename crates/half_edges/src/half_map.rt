@@ -5,7 +5,7 @@ ghost use Rattle.simple_maps.specs.Faults.{first_fault};
 ghost use Rattle.half_edges.specs.Map.{IsHalfMap, IsLive, dart_at, first_dart, next_dart};
 ghost use Rattle.simple_maps.specs.MapFault.{Names};
 
-use crate::arena::{DartRecord, VertexRecord, dart_to, link_darts, walked};
+use crate::arena::{DartRecord, VertexRecord, dart_to, link_darts, push_heads};
 use map_lists::{DartId, Rotations, VertexId};
 use simple_maps::{MapFault, fill_slots};
 use std::alloc::{AllocError, Global};
@@ -195,11 +195,12 @@ impl HalfMap {
     pub fn rotations(&self, alloc: Global) -> Result<Rotations, AllocError>
         ensures { IfOk result (λ lists. lists ≡ self.now.lists) }
     {
-        let mut lists = Rotations::new(alloc);
-        for v in 0..self.vertices.len() {
-            let vertex = self.vertices[v];
-            lists.push(&walked(alloc, &self.darts, vertex.first, vertex.degree)?)?;
+        let mut entries = Vec::with_capacity(alloc, 2 * self.edges as usize)?;
+        let mut ends = Vec::with_capacity(alloc, self.vertices.len())?;
+        for vertex in &self.vertices {
+            push_heads(&mut entries, &self.darts, vertex.first, vertex.degree)?;
+            ends.push(entries.len())?;
         }
-        Ok(lists)
+        Ok(Rotations::from_parts(entries, ends))
     }
 }

@@ -8,6 +8,24 @@ use crate::{HalfMap, MapFault, Rotations};
 use std::alloc::{AllocError, Global};
 
 impl HalfMap {
+    /// The map with these lists, which are at most 4095 and a simple map. Its `spare` is 0. It fails only for
+    /// want of memory.
+    pub fn from_simple(alloc: Global, lists: &Rotations) -> Result<HalfMap, AllocError>
+        requires simple { IsSimpleMap lists.now }
+        requires few { length lists.now < 4096 }
+        ensures lists { IfOk result (λ map. map.lists ≡ lists.now) }
+        ensures spare { IfOk result (λ map. map.spare ≡ 0) }
+        ensures known { IfOk result IsHalfMap }
+    {
+        match HalfMap::from_rotations(alloc, lists) {
+            Ok(map) => Ok(map),
+            Err(fault) => match fault {
+                MapFault::NoMemory => Err(AllocError),
+                _ => unreachable!(),
+            },
+        }
+    }
+
     /// A map with the same lists. Its `spare` is 0, and its ids may be others. It fails only for want of
     /// memory.
     pub fn copy(&self, alloc: Global) -> Result<HalfMap, AllocError>
@@ -17,7 +35,7 @@ impl HalfMap {
     {
         self.facts();
         let lists = self.rotations(alloc)?;
-        simple_map(alloc, &lists)
+        HalfMap::from_simple(alloc, &lists)
     }
 
     /// The part of the map between the vertices whose flag in `keep` is set: they are numbered anew in
@@ -34,24 +52,7 @@ impl HalfMap {
         self.facts();
         let lists = self.rotations(alloc)?;
         let part = induced_rotations(alloc, &lists, keep)?;
-        simple_map(alloc, &part)
-    }
-}
-
-// The map of lists that are simple.
-fn simple_map(alloc: Global, lists: &Rotations) -> Result<HalfMap, AllocError>
-    requires simple { IsSimpleMap lists.now }
-    requires few { length lists.now < 4096 }
-    ensures lists { IfOk result (λ map. map.lists ≡ lists.now) }
-    ensures spare { IfOk result (λ map. map.spare ≡ 0) }
-    ensures known { IfOk result IsHalfMap }
-{
-    match HalfMap::from_rotations(alloc, lists) {
-        Ok(map) => Ok(map),
-        Err(fault) => match fault {
-            MapFault::NoMemory => Err(AllocError),
-            _ => unreachable!(),
-        },
+        HalfMap::from_simple(alloc, &part)
     }
 }
 

@@ -6,7 +6,7 @@ ghost use Rattle.map_gen.specs.Faces.{IsFaceOf};
 ghost use Rattle.map_gen.specs.Stacked.{Face, next_number as next_number_of, chosen as chosen_of, triangle as triangle_of, stacked as stacked_lists};
 ghost use Rattle.map_gen.specs.Darts.{HasDarts, IsVertexPut};
 
-use half_edges::{Corner, DartId, HalfMap, MapFault, Rotations, VertexId};
+use half_edges::{Corner, DartId, HalfMap, Rotations, VertexId};
 use std::alloc::{AllocError, Global};
 
 /// A face by its three darts, in the order of its walk.
@@ -106,22 +106,6 @@ fn inner_face(map: &HalfMap) -> FaceDarts
     }
 }
 
-// The map of lists that are simple.
-fn simple_map(alloc: Global, lists: &Rotations) -> Result<HalfMap, AllocError>
-    requires simple { IsSimpleMap lists.now }
-    requires few { length lists.now < 4096 }
-    ensures lists { IfOk result (λ map. map.lists ≡ lists.now) }
-    ensures spare { IfOk result (λ map. map.spare ≡ 0) }
-{
-    match HalfMap::from_rotations(alloc, lists) {
-        Ok(map) => Ok(map),
-        Err(fault) => match fault {
-            MapFault::NoMemory => Err(AllocError),
-            _ => unreachable!(),
-        },
-    }
-}
-
 /// The map with `n` vertices, from 3 to 4095, that the generator makes from a number.
 ///
 /// It begins with the triangle of the vertices 0, 1 and 2, whose lists are `1 2`, `2 0` and `0 1`, and with
@@ -138,7 +122,7 @@ pub fn stacked(alloc: Global, n: u16, number: u32) -> Result<Rotations, AllocErr
     ensures { IfOk result (λ lists. lists ≡ stacked_lists n number) }
 {
     let start = triangle(alloc, n)?;
-    let mut map = simple_map(alloc, &start)?;
+    let mut map = HalfMap::from_simple(alloc, &start)?;
     map.reserve_edges(3 * (n as u32 - 3))?;
     let mut faces = Vec::new(alloc);
     faces.push(inner_face(&map))?;

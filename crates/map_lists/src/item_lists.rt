@@ -1,5 +1,5 @@
 //! Lists of lists of copied items, all of them in one vector.
-ghost use Rattle.std.specs.Prelude.{◌≡◌, ◌<◌, ◌≤◌, List, [], ◌∷◌, ◌++◌, length, sum_by, take, slice_index_or, slice_range, OnOk, OnErr};
+ghost use Rattle.std.specs.Prelude.{◌≡◌, ◌<◌, ◌≤◌, List, [], ◌∷◌, ◌++◌, length, sum_by, take, slice_index_or, slice_range, OnOk, OnErr, IfOk};
 ghost use Rattle.map_lists.specs.Cuts.{cut, joined, AreCuts, ends_from};
 
 use crate::VertexId;
@@ -46,6 +46,15 @@ impl<T: Copy> ItemLists<T> {
             entries: Vec::new(alloc),
             ends: Vec::new(alloc),
         }
+    }
+
+    /// No lists, with room for `items` items in `lists` lists.
+    pub fn with_capacity(alloc: Global, items: usize, lists: usize) -> Result<Self, AllocError>
+        ensures { IfOk result (λ list. list ≡ []) }
+    {
+        let entries = Vec::with_capacity(alloc, items)?;
+        let ends = Vec::with_capacity(alloc, lists)?;
+        Ok(ItemLists { entries, ends })
     }
 
     /// The pieces of `entries` that end at the places `ends`.

@@ -1,9 +1,12 @@
 //! Lists of copied items.
-ghost use Rattle.std.specs.Prelude.{◌≡◌, ◌<◌, [], ◌∷◌, ◌++◌, length, slice_get, Some, OnOk, OnErr};
+ghost use Rattle.std.specs.Prelude.{◌≡◌, ◌<◌, ◌^◌, [], ◌∷◌, ◌++◌, length, slice_get, Some, OnOk, OnErr, IfOk};
+ghost use Rattle.std.specs.Iterator.Runs.{EveryRun, ItemsMapTo};
+ghost use Rattle.std.specs.Slice.Iter.{iter_rest, iter_steps};
 
 use crate::VertexId;
 use std::alloc::{AllocError, Global};
 use std::marker::Model;
+use std::slice;
 
 /// An edge, by its two ends. The first is the lesser; edges are in order by it and then by the second.
 #[derive(Clone, Copy, PartialEq, Eq)]
@@ -48,6 +51,21 @@ impl<T: Copy> ItemList<T> {
         }
     }
 
+    /// No items, with room for `capacity` of them.
+    pub fn with_capacity(alloc: Global, capacity: usize) -> Result<Self, AllocError>
+        ensures { IfOk result (λ list. list ≡ []) }
+    {
+        let items = Vec::with_capacity(alloc, capacity)?;
+        Ok(ItemList { items })
+    }
+
+    /// The items of a vector, in its memory.
+    pub fn from_vec(items: Vec<T>) -> Self
+        ensures { result ≡ items.items }
+    {
+        ItemList { items }
+    }
+
     /// Appends an item. After an error nothing has changed.
     pub fn push(&mut self, item: T) -> Result<(), AllocError>
         ensures ok { OnOk result (self.new ≡ self.old ++ item ∷ []) }
@@ -72,5 +90,33 @@ impl<T: Copy> ItemList<T> {
         ensures { slice_get self.now i ≡ Some result }
     {
         self.items[i]
+    }
+
+    /// The items, in order.
+    pub fn as_slice(&self) -> &[T]
+        ensures { result.now ≡ self.now }
+    {
+        self.items.as_slice()
+    }
+
+    /// Goes over the items, in order.
+    pub fn iter(&self) -> slice::Iter<'_, T>
+        ensures items { iter_rest result ≡ self.now }
+        ensures few { length (iter_rest result) < 2 ^ 64 }
+    {
+        self.as_slice().iter()
+    }
+}
+
+impl<'a, T: Copy> IntoIterator for &'a ItemList<T> {
+    type Item = &'a T;
+
+    type IntoIter = slice::Iter<'a, T>;
+
+    ghost into_iter_gives = { λ list it. (iter_rest it ≡ list.now) × (length (iter_rest it) < 2 ^ 64)
+        × EveryRun (iter_steps {A = T}) (λ p. ItemsMapTo p (λ x. x.now) (iter_rest p.from)) };
+
+    fn into_iter(self) -> slice::Iter<'a, T> {
+        self.as_slice().iter()
     }
 }

@@ -7,6 +7,9 @@ use Rattle.std.proofs.lemmas.Bool.{lt-leb, false≢true, cases_lt, cases_eq, eqb
 use Rattle.map_lists.specs.Lists.{Lists}
 use Rattle.map_theory.specs.Maps.{list_of, HasDart, IsSimpleMap}
 use Rattle.simple_maps.specs.Faults.{Fault, out_of_range, loop_at, repeated, one_sided, lesser_of, least_where, or_from, first_from, least_out_of_range, own_number, least_repeated, least_one_sided, fault_or, first_fault}
+use Rattle.simple_maps.specs.MapFault.{Names}
+use Rattle.simple_maps.specs.declared.fault.MapFault.{MapFault}
+use Rattle.simple_maps.specs.declared.fault.MapFault.TheVariants.{OutOfRange, Loop, Repeated, OneSided, NoMemory}
 use Rattle.map_theory.proofs.EntryLemmas.{Contains-here, Contains-there, Contains-cons_cases, count_of, one-le-count_of, Contains-from_count_of, count_of-le-one, AllPairs-from_counts, Contains-from_list_any, list_any-from_Contains, count_of-push, count_of-push_same, count_of-push_other}
 
 -- the least number of which P holds, where there is one
@@ -319,3 +322,11 @@ least_repeated_push_first v us u n =
       | inr e ↦ absurd (n (Contains-from_count_of u us (omega (arith, subst (λ z. StandsTwice (us ++ u ∷ []) z) e t, count_of-push_same u us u refl))))
     ])
     (IsLeast-least_repeated v us))
+
+-- lists that are simple have no fault to name
+pub NoMemory-from_simple : (lists : Lists) (fault : MapFault) → IsSimpleMap lists → Names (first_fault lists) fault → fault ≡ NoMemory
+NoMemory-from_simple lists (OutOfRange v u) simple named = absurd (none-some (out_of_range v u) (sym (first_fault-IsSimpleMap lists simple) ∙ named))
+NoMemory-from_simple lists (Loop v) simple named = absurd (none-some (loop_at v) (sym (first_fault-IsSimpleMap lists simple) ∙ named))
+NoMemory-from_simple lists (Repeated v u) simple named = absurd (none-some (repeated v u) (sym (first_fault-IsSimpleMap lists simple) ∙ named))
+NoMemory-from_simple lists (OneSided v u) simple named = absurd (none-some (one_sided v u) (sym (first_fault-IsSimpleMap lists simple) ∙ named))
+NoMemory-from_simple lists NoMemory simple named = refl

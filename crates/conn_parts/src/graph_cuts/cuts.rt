@@ -5,10 +5,9 @@ ghost use Rattle.graph_search.specs.Cuts.{IsCutVertex, IsLeastCutVertex, IsSepar
 ghost use Rattle.conn_parts.specs.GraphLists.{graph_lists as lists_of_graph};
 
 use crate::graph_cuts::lists::graph_lists;
-use crate::{Parts, components};
+use crate::{Parts, list_components};
 use graph_search::map_cuts::{list_cut_vertex, list_separating_pair};
 use graph6_text::Graph;
-use half_edges::HalfMap;
 use map_lists::VertexId;
 use std::alloc::{AllocError, Global};
 
@@ -20,10 +19,7 @@ pub fn graph_components(alloc: Global, graph: &Graph) -> Result<Parts, AllocErro
 {
     let _n = graph.n();
     let lists = graph_lists(alloc, graph)?;
-    match HalfMap::from_rotations(alloc, &lists) {
-        Ok(map) => components(alloc, &map),
-        Err(_) => Err(AllocError),
-    }
+    list_components(alloc, &lists)
 }
 
 /// The least cut vertex of a graph with a vertex, or None exactly where there is none. It fails only for

@@ -39,9 +39,9 @@ pub fn points_at(
     requires small { (k : ℕ) → k < length xs.now → (slice_index xs.now k < 2 ^ 20) × (slice_index ys.now k < 2 ^ 20) }
     ensures { IfOk result (λ points. ArePointsAt xs.now ys.now ranks.now points) }
 {
-    let mut points = Points::new(alloc);
-    for v in 0..ranks.len() {
-        points.push(point_at(xs, ys, ranks.get(v) as usize))?;
+    let mut points = Points::with_capacity(alloc, ranks.len())?;
+    for k in ranks.as_slice() {
+        points.push(point_at(xs, ys, *k as usize))?;
     }
     Ok(points)
 }

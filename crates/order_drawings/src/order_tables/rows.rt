@@ -121,7 +121,7 @@ fn listed_rows(
     ensures count { IfOk result (λ rows. length rows + 2 ≡ length at.now) }
     ensures rows { IfOk result (λ rows. AreRanked lists.now (map (λ v. v.0) at.now) ranks.now rows) }
 {
-    let mut rows = Rotations::new(alloc);
+    let mut rows = Rotations::with_capacity(alloc, lists.total() / 2, at.len())?;
     let mut row = Vec::new(alloc);
     for k in 2..at.len() {
         let list = lists.list(at.get(k).0 as usize);
@@ -151,9 +151,21 @@ pub fn order_rows(alloc: Global, tri: &HalfMap, order: &Order) -> Result<Rotatio
     ensures { IfOk result (AreRowsOf tri.now.lists (vertices_of order.now)) }
 {
     tri.facts();
+    let lists = tri.rotations(alloc)?;
+    let rows = list_rows(alloc, &lists, order)?;
+    Ok(rows)
+}
+
+/// The same, by the lists of the map.
+pub fn list_rows(alloc: Global, lists: &Rotations, order: &Order) -> Result<Rotations, AllocError>
+    requires completed { IsCompleted lists.now }
+    requires few { length lists.now < 4096 }
+    requires order { (base : Dart) × IsCanonicalOrder lists.now base (vertices_of order.now) }
+    requires rank { IsRankOf order.now.rank (vertices_of order.now) }
+    ensures { IfOk result (AreRowsOf lists.now (vertices_of order.now)) }
+{
     order_has_rows();
     crate::order_runs::order_is_run();
-    let lists = tri.rotations(alloc)?;
-    let rows = listed_rows(alloc, &lists, &order.at, &order.rank)?;
+    let rows = listed_rows(alloc, lists, &order.at, &order.rank)?;
     Ok(rows)
 }

@@ -1,6 +1,5 @@
 use Rattle.std.proofs.Common.{◌≡◌, ℕ, List, length, reverse, subst, sym, ap, ◌∙◌, arith}
 use Rattle.std.proofs.lemmas.List.{take_at}
-use Rattle.std.proofs.lemmas.Result.{IfOk-weaker}
 use Rattle.canon_order.specs.Orders.{IsRankOf}
 use Rattle.canon_order.proofs.Counters.{IsRankOf-turned}
 use Rattle.canon_order.proofs.lists.turned_ranks.Goals as goal
@@ -9,7 +8,5 @@ pub returns : goal.returns
 returns c =
     let items = ap length c.deref_mut.ensures.value in
     let n : length c.write_ranks.new.ranks ≡ length c.args.taken.now = omega (arith, c.write_ranks.auto.ranks, c.in_ok-ranks.ensures.len, items) in
-    let len : length c.write_ranks.new.ranks ≡ c.in_ok-ranks.ranks.len = omega (arith, c.write_ranks.auto.ranks, c.in_ok-ranks.ensures.len, items) in
-    let whole : c.deref.result.now ≡ c.write_ranks.new.ranks = c.deref.ensures.value ∙ take_at c.write_ranks.new.ranks _ c.in_ok-ranks.ranks.len len in
     let done = IsRankOf-turned c.write_ranks.new.ranks c.args.taken.now n c.requires.within c.requires.distinct c.write_ranks.ensures in
-    IfOk-weaker c.counts_of.result (λ counts. counts ≡ c.deref.result.now) (λ rank. IsRankOf rank (reverse c.args.taken.now)) (λ rank e. subst (λ (r : List ℕ). IsRankOf r (reverse c.args.taken.now)) (sym (e ∙ whole)) done) c.counts_of.ensures
+    subst (λ (r : List ℕ). IsRankOf r (reverse c.args.taken.now)) (sym (c.from_vec.ensures ∙ take_at c.write_ranks.new.ranks _ c.in_ok-ranks.ranks.len (omega (arith, n, c.in_ok-ranks.ensures.len)))) done

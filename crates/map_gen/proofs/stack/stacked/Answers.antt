@@ -9,11 +9,11 @@ use Rattle.map_gen.proofs.Start as start
 use Rattle.map_gen.proofs.Making.{IsMade-begin, IsMade-more, some_face, vertex_in, vertex_alone, face_darts, is_face, f}
 use Rattle.map_gen.proofs.stack.stacked.Goals as goal
 
-pub simple_map-requires-clause-simple : goal.simple_map-requires-clause-simple
-simple_map-requires-clause-simple c = subst IsSimpleMap (sym (c.in_ok-start.ensures 0)) (start.simple (c.args.n - 3))
+pub from_simple-requires-clause-simple : goal.from_simple-requires-clause-simple
+from_simple-requires-clause-simple c = subst IsSimpleMap (sym (c.in_ok-start.ensures 0)) (start.simple (c.args.n - 3))
 
-pub simple_map-requires-clause-few : goal.simple_map-requires-clause-few
-simple_map-requires-clause-few c =
+pub from_simple-requires-clause-few : goal.from_simple-requires-clause-few
+from_simple-requires-clause-few c =
     let e = ap length (c.in_ok-start.ensures 0) in
     let n = start.length-triangle (c.args.n - 3) in
     omega arith

@@ -4,15 +4,15 @@ use Rattle.plane_laws.specs.MapEditsCompleted.{IsExtended}
 use Rattle.plane_laws.proofs.EdgeBound.{edge_bound}
 use Rattle.plane_laws.proofs.Triangles.{edge_bound_met}
 use Rattle.augment_tri.proofs.Growth.{IsGrown-chained}
-use Rattle.augment_tri.proofs.complete.triangulate.Goals as goal
+use Rattle.augment_tri.proofs.complete.triangulate_parts.Goals as goal
 
 pub overflow_sub-room-2 : goal.overflow_sub-room-2
 overflow_sub-room-2 c =
     let bound = edge_bound c.args.map.lists c.n.ensures.known.simple c.requires.plane c.requires.some in
     omega (arith, c.n.ensures.count, c.m.ensures.count)
 
-pub returns-in-Ok-reserve_edges-clause-completed : goal.returns-in-Ok-reserve_edges-clause-completed
-returns-in-Ok-reserve_edges-clause-completed c =
+pub returns-in-Ok-clause-completed : goal.returns-in-Ok-clause-completed
+returns-in-Ok-clause-completed c =
     let h = c.fill.ensures.roomy in
     record {
       simple = h.known.simple;
@@ -21,7 +21,7 @@ returns-in-Ok-reserve_edges-clause-completed c =
       edges = (edge_bound_met c.fill.new.map.lists h.known.simple h.plane h.some).1 (c.fill.ensures.one, c.fill.ensures.triangles);
     }
 
-pub returns-in-Ok-reserve_edges-clause-extended : goal.returns-in-Ok-reserve_edges-clause-extended
-returns-in-Ok-reserve_edges-clause-extended c =
-    subst (λ (ls : Lists). IsExtended ls c.fill.new.map.lists) c.in-Ok-reserve_edges.ensures.lists
+pub returns-in-Ok-clause-extended : goal.returns-in-Ok-clause-extended
+returns-in-Ok-clause-extended c =
+    subst (λ (ls : Lists). IsExtended ls c.fill.new.map.lists) c.in-Ok.ensures.lists
     (IsGrown-chained c.reserve_edges.new.self c.join_parts.new.map c.fill.new.map c.join_parts.ensures.grown c.fill.ensures.grown).extended

@@ -9,7 +9,7 @@ use Rattle.euler_faces.specs.Search.{marks_of}
 use Rattle.euler_faces.proofs.SearchLemmas.{unset_after}
 use Rattle.conn_parts.specs.Parts.{ArePartsOf}
 use Rattle.conn_parts.proofs.PartLemmas.{ArePartsOf-numbers}
-use Rattle.conn_parts.proofs.parts.number_lists.Goals as goal
+use Rattle.conn_parts.proofs.parts.list_components.Goals as goal
 
 pub number_components-count-requires-clause-cuts : goal.number_components-count-requires-clause-cuts
 number_components-count-requires-clause-cuts c =

@@ -1,0 +1,9 @@
+use Rattle.std.proofs.Common.{◌≡◌, ◌++◌}
+use Rattle.half_edges.specs.Arena.{steps, walk}
+use Rattle.half_edges.proofs.arena.push_heads.Given as goal
+
+abbrev pub invariant-loop-k : goal.invariant-loop-k
+invariant-loop-k l = record {
+  at : l.d ≡ steps l.darts l.first l.k;
+  met : l.entries.items ≡ l.initial.entries.items ++ walk l.darts l.first l.k;
+}
