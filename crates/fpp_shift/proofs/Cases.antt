@@ -4,7 +4,7 @@ use Rattle.std.specs.List.{range_with_len}
 use Rattle.contour_runs.specs.Runs.{Step, vertex_after, place_after, moved}
 use Rattle.contour_runs.proofs.Cases.{tetrahedron, octahedron}
 use Rattle.fpp_shift.specs.Shift.{shift, x_after, y_after, shift_points}
-use Rattle.fpp_shift.specs.Tree.{parent_after, parents}
+use Rattle.fpp_shift.specs.Parents.{parent_after, parents}
 
 -- x of the vertices, then y
 abbrev xs : (ℕ → Step) → ℕ → List ℕ

@@ -1,49 +1,24 @@
--- Points of a run, and what a drawing is made of.
-use Rattle.std.proofs.Common.{◌≡◌, ◌+◌, ◌-◌, ◌^◌, ◌<◌, ℕ, List, length, get_or, All, pos, refl, ap₂, ◌∙◌, arith}
+-- The points to which the tree of an order adds up are its shift points.
+use Rattle.std.proofs.Common.{◌≡◌, ◌+◌, ◌-◌, ◌<◌, ℕ, List, length, get_or, ◌∙◌}
 use Rattle.map_lists.specs.Lists.{Lists}
 use Rattle.map_theory.specs.Maps.{Dart}
 use Rattle.pg_plane.specs.declared.point.Point.{Point}
-use Rattle.canon_order.specs.Orders.{IsCanonicalOrder, IsRankOf}
+use Rattle.plane_laws.specs.Completed.{IsCompleted}
+use Rattle.canon_order.specs.Orders.{IsCanonicalOrder}
 use Rattle.contour_runs.specs.Runs.{Step}
 use Rattle.order_drawings.specs.OrderRuns.{IsOrderRun}
-use Rattle.fpp_shift.specs.Shift.{shift_points, point_of}
-use Rattle.fpp_shift.proofs.Corners.{in_grid}
 use Rattle.fpp_shift.specs.ShiftDrawings.{AreShiftPoints}
-use Rattle.order_drawings.specs.Rows.{AreAllRows}
-use Rattle.order_drawings.specs.Points.{ArePointsAt}
-use Rattle.fpp_shift.specs.Points.{ArePoints}
+use Rattle.fpp_shift.specs.declared.offset_trees.nodes.Node.{Node}
+use Rattle.fpp_shift.specs.Ways.{ArePointsOf}
+use Rattle.fpp_shift.specs.Trees.{IsTreeOf}
+use Rattle.fpp_shift.specs.ShiftTreesLaws.{OffsetTreeAddsUp}
 
--- points at the places of a run
-pub ArePoints-at :
-    (steps : ℕ → Step) (n : ℕ) (xs ys ranks : List ℕ) (points : List Point) → ArePointsAt xs ys ranks points → All (λ k. k < length xs) ranks
-    → ((k : ℕ) → k < length xs → (get_or xs k 0 ≡ (shift_points steps n).x k) × (get_or ys k 0 ≡ (shift_points steps n).y k))
-    → ArePoints steps n ranks points
-ArePoints-at steps n xs ys ranks points h within places = record {
-  count = h.count;
-  placed = λ v l.
-      let at = places (get_or ranks v 0) (within v 0 l) in
-      h.placed v l ∙ ap₂ (λ x y. record { x = pos x; y = pos y }) at.0 at.1;
+pub AreShiftPoints-tree :
+    OffsetTreeAddsUp → (lists : Lists) (base : Dart) (at : List ℕ) (nodes : List Node) (points : List Point) → IsCompleted lists → length lists < 4096 → (order : IsCanonicalOrder lists base at) → (steps : ℕ → Step) → IsOrderRun lists base at order.cycle steps
+    → length nodes ≡ length lists → IsTreeOf lists at nodes → ArePointsOf nodes (get_or at 0 0) points → AreShiftPoints lists base at order.cycle points
+AreShiftPoints-tree law lists base at nodes points completed few order steps run count tree sums = record {
+  steps = steps;
+  order = run;
+  count = sums.count ∙ count;
+  placed = (law lists base at nodes completed few order steps run count tree).points points sums;
 }
-
--- they are small
-pub small_places : (steps : ℕ → Step) (rows : Lists) (k : ℕ) → AreAllRows steps rows → length rows + 2 < 4096 → k < length rows + 2 → ((shift_points steps (length rows)).x k < 2 ^ 20) × ((shift_points steps (length rows)).y k < 2 ^ 20)
-small_places steps rows k h few l =
-    let g = in_grid steps (length rows) (length rows + 2) k h.rows_are.run refl l in
-    (omega (arith, g.0), omega (arith, g.1))
-
-module _ (lists : Lists) (base : Dart) (at ranks : List ℕ) (order : IsCanonicalOrder lists base at) (rank : IsRankOf ranks at) (steps : ℕ → Step) (run : IsOrderRun lists base at order.cycle steps) where
-  -- the points are the shift points of the order
-  pub AreShiftPoints-order : (m : ℕ) (points : List Point) → m + 2 ≡ length at → ArePoints steps m ranks points → AreShiftPoints lists base at order.cycle points
-  AreShiftPoints-order m points n h =
-      let c = h.count in
-      let count = rank.count in
-      let count' = order.count in
-      let e : m ≡ length at - 2 = omega arith in
-      record {
-        steps = steps;
-        order = run;
-        count = omega arith;
-        placed = λ k l.
-            let v = order.vertices k 0 l in
-            h.placed (get_or at k 0) (omega arith) ∙ ap₂ (λ m k. point_of (shift_points steps m) k) e (rank.of_place k l);
-      }

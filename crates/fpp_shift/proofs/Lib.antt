@@ -3,15 +3,25 @@ pub mod Areas
 pub mod Steps
 pub mod Opening
 pub mod Corners
-pub mod Trees
+pub mod ParentLemmas
 mod Cases
 -- The lemmas on drawings by shift points.
 pub mod ShiftLemmas
+-- Lemmas on trees of offsets.
+mod MetLemmas
+mod OffsetTreesRowLemmas
+mod PutLemmas
+mod NextLemmas
+mod WriteLemmas
+mod GrownLemmas
+mod OffsetTreeCases
+mod OffsetTreesRefused
+-- Lemmas on trees of offsets over a map.
+pub mod ShiftTreesRowLemmas
+pub mod DartLemmas
+pub mod TreeLemmas
+pub mod LinkLemmas
+pub mod PointLemmas
+mod ShiftTreesRefused
 -- Lemmas on drawings by the shift method.
-mod Passes
-mod Puts
-mod Writes
-mod Sums
-mod RunRows
 mod DrawLemmas
-mod Refused

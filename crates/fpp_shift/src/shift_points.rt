@@ -3,7 +3,7 @@
 //! in which the run places them; all coordinates are naturals.
 
 ghost use Rattle.fpp_shift.specs.Laws.{OpenedArea, FacesCounterclockwise, ContourRises, PointsInGrid, ThreeCorners, FirstThree, BaseClockwise};
-ghost use Rattle.fpp_shift.specs.Tree.{ParentsAreTree, OffsetsKept, OffsetsOfStep};
+ghost use Rattle.fpp_shift.specs.Parents.{ParentsAreTree, OffsetsKept, OffsetsOfStep};
 
 /// A face of which six naturals are kept, so that its area is a sum of products of them, is counterclockwise.
 pub fn opened_area()

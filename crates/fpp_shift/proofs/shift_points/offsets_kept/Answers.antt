@@ -1,4 +1,4 @@
-use Rattle.fpp_shift.proofs.Trees.{offsets_kept}
+use Rattle.fpp_shift.proofs.ParentLemmas.{offsets_kept}
 use Rattle.fpp_shift.proofs.shift_points.offsets_kept.Goals as goal
 
 pub returns : goal.returns

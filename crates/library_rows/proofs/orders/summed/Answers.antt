@@ -1,6 +1,6 @@
 use Rattle.std.proofs.Common.{ℕ, subst}
-use Rattle.fpp_offsets.specs.Ways.{IsTree}
-use Rattle.fpp_offsets.proofs.TreeLemmas.{vertex-is}
+use Rattle.fpp_shift.specs.Ways.{IsTree}
+use Rattle.fpp_shift.proofs.TreeLemmas.{vertex-is}
 use Rattle.library_rows.proofs.orders.summed.Goals as goal
 
 pub sum_offsets-requires : goal.sum_offsets-requires

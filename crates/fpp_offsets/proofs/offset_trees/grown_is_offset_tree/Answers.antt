@@ -1,5 +1,0 @@
-use Rattle.fpp_offsets.proofs.GrownLemmas.{IsOffsetTree-grown}
-use Rattle.fpp_offsets.proofs.offset_trees.grown_is_offset_tree.Goals as goal
-
-pub returns : goal.returns
-returns c = IsOffsetTree-grown

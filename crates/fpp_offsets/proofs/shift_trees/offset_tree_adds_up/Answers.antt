@@ -1,5 +1,0 @@
-use Rattle.fpp_offsets.proofs.PointLemmas.{AddsUp-order}
-use Rattle.fpp_offsets.proofs.shift_trees.offset_tree_adds_up.Goals as goal
-
-pub returns : goal.returns
-returns c = AddsUp-order

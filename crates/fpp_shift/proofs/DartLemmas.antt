@@ -1,0 +1,72 @@
+-- The ends of rows, by darts.
+use Rattle.std.proofs.Common.{◌≡◌, ℕ, ◌+◌, ◌<◌, ◌≤◌, ◌⊎◌, List, length, get_or, Option, Some, option_map, unwrap_or, sym, ap, ◌∙◌, subst, inl, inr, arith, Contains}
+use Rattle.std.proofs.lemmas.List.{get_or_default}
+use Rattle.map_theory.specs.Maps.{Dart, HasDart, list_of, follows}
+use Rattle.map_theory.proofs.DartLemmas.{entry_after-injective}
+use Rattle.half_edges.specs.Map.{Map, IsHalfMap, IsLive, dart_at, next_dart}
+use Rattle.half_edges.proofs.ArenaLemmas.{entry_after-next}
+use Rattle.euler_faces.proofs.NumberLemmas.{some_of}
+use Rattle.fpp_shift.specs.ShiftTreesRows.{BeginsRow, EndsRow}
+
+-- what a call of `head` answers for the dart to u
+pub head-is : (map : Map) (d v u r : ℕ) → dart_at map d ≡ Some (v, u) → option_map (λ (e : Dart). e.1) (dart_at map d) ≡ Some r → u ≡ r
+head-is map d v u r is e =
+    let t : Some u ≡ Some r = sym (ap (option_map (λ (e : Dart). e.1)) is) ∙ e in
+    cc
+
+-- a dart leads to a vertex
+pub head-within : (map : Map) (d r : ℕ) → IsHalfMap map → IsLive map d → option_map (λ (e : Dart). e.1) (dart_at map d) ≡ Some r → r < length map.lists
+head-within map d r known live e =
+    let y = some_of (dart_at map d) live in
+    let same = head-is map d y.0.0 y.0.1 r y.1 e in
+    let within = known.simple.in_range y.0.0 y.0.1 (known.is_dart d y.0.0 y.0.1 y.1) in
+    omega arith
+
+-- the dart before another
+pub before-is : (map : Map) (d e v u : ℕ) → IsLive map e → option_map (next_dart map.lists) (dart_at map e) ≡ dart_at map d → dart_at map d ≡ Some (v, u) → (w : ℕ) × (dart_at map e ≡ Some (v, w)) × (follows map.lists v w ≡ u)
+before-is map d e v u live step is =
+    let y = some_of (dart_at map e) live in
+    let same : Some (next_dart map.lists y.0) ≡ Some (v, u) = sym (ap (option_map (next_dart map.lists)) y.1) ∙ step ∙ is in
+    let tail : y.0.0 ≡ v = ap (λ (o : Option Dart). (unwrap_or o (0, 0)).0) same in
+    let head : follows map.lists y.0.0 y.0.1 ≡ u = ap (λ (o : Option Dart). (unwrap_or o (0, 0)).1) same in
+    (y.0.1, y.1 ∙ ap (λ (x : ℕ). Some (x, y.0.1)) tail, subst (λ (x : ℕ). follows map.lists x y.0.1 ≡ u) tail head)
+
+-- the dart after that to an entry before the last
+pub next-is : (map : Map) (d e v k : ℕ) → IsHalfMap map → v < length map.lists → k + 1 < length (list_of map.lists v) → dart_at map d ≡ Some (v, get_or (list_of map.lists v) k 0) → dart_at map e ≡ option_map (next_dart map.lists) (dart_at map d) → dart_at map e ≡ Some (v, get_or (list_of map.lists v) (k + 1) 0)
+next-is map d e v k known vertex l is step =
+    step ∙ ap (option_map (next_dart map.lists)) is ∙ ap (λ (u : ℕ). Some (v, u)) (entry_after-next (list_of map.lists v) k (known.simple.no_repeat v vertex) l)
+
+module _ (map : Map) (known : IsHalfMap map) (ranks : List ℕ) (k v u r b : ℕ) (dart : HasDart map.lists v u) (rank : r ≡ get_or ranks u 0) where
+  -- where a row begins, by the ranks of a neighbour and the next
+  pub BeginsRow-iff : b ≡ get_or ranks (follows map.lists v u) 0 → (((r < k) × ((r ≡ 0) ⊎ (k ≤ b))) → BeginsRow map.lists ranks k v u) × (BeginsRow map.lists ranks k v u → ((r < k) × ((r ≡ 0) ⊎ (k ≤ b))))
+  BeginsRow-iff next = (
+    λ t. record {
+      dart = dart;
+      earlier = omega (arith, t.0);
+      begins = elim t.1 [ inl z ↦ inl (sym rank ∙ z) | inr h ↦ inr (omega arith) ];
+    },
+    λ s. let e = s.earlier in (omega arith, elim s.begins [ inl z ↦ inl (rank ∙ z) | inr h ↦ inr (omega arith) ]),
+  )
+
+  -- where a row ends, by the ranks of a neighbour and the one before it, w
+  pub EndsRow-iff : (w : ℕ) → HasDart map.lists v w → follows map.lists v w ≡ u → b ≡ get_or ranks w 0 → (((r < k) × ((r ≡ 1) ⊎ (k ≤ b))) → EndsRow map.lists ranks k v u) × (EndsRow map.lists ranks k v u → ((r < k) × ((r ≡ 1) ⊎ (k ≤ b))))
+  EndsRow-iff w has turns before = (
+    λ t. record {
+      dart = dart;
+      earlier = omega (arith, t.0);
+      ends = elim t.1 [
+        | inl z ↦ inl (sym rank ∙ z)
+        | inr h ↦ inr (λ x on f.
+            let same = entry_after-injective (list_of map.lists v) x w (known.simple.no_repeat v dart.0) on.1 has.1 (f ∙ sym turns) in
+            omega (arith, ap (λ u. get_or ranks u 0) same))
+      ];
+    },
+    λ s. let e = s.earlier in (omega arith, elim s.ends [ inl z ↦ inl (rank ∙ z) | inr h ↦ inr (let l = h w has turns in omega arith) ]),
+  )
+
+-- a search of a list comes to what stands in it
+pub not-none : (P : ℕ → Type 0) (us : List ℕ) (n u : ℕ) → length us ≤ n → Contains us u → P u → ((j : ℕ) → j < n → ¬ P (get_or us j 0)) → ⊥
+not-none P us n u all on p none =
+    let e = get_or_default us on.0 0 u on.1 ∙ on.2 in
+    let m = on.1 in
+    none on.0 (omega arith) (subst P (sym e) p)

@@ -1,0 +1,86 @@
+//! The nodes of a tree of offsets.
+ghost use Rattle.std.specs.Prelude.{◌≡◌, ◌<◌, ◌≤◌, ◌+◌, length, replicate, slice_set, IfOk};
+
+use map_lists::VertexId;
+use pg_io::Steps;
+use std::alloc::{AllocError, Global};
+use std::marker::Model;
+use std::sync::ledger::Ledger;
+
+/// The node of a vertex: how far it stands to the right of the node that leads to it, its height, and the
+/// two vertices to which its links lead.
+#[derive(Clone, Copy, PartialEq, Eq)]
+pub struct Node {
+    /// How far it stands to the right of the node that leads to it.
+    pub x: i32,
+    /// How high it stands.
+    pub y: i32,
+    /// The vertex to which the left link leads.
+    pub left: Option<VertexId>,
+    /// The vertex to which the right link leads.
+    pub right: Option<VertexId>,
+}
+
+/// A node for each vertex. Contracts see the list of nodes. Each use of a node counts a step.
+#[derive(Drop)]
+pub struct Offsets {
+    nodes: Vec<Node>,
+}
+
+impl Model for Offsets {
+    ghost use Rattle.std.specs.Prelude.{List, ◌<◌, length};
+    ghost use Rattle.fpp_shift.specs.declared.offset_trees.nodes.Node.{Node};
+
+    ghost Value = { List Node };
+
+    ghost view = { λ tree. tree.nodes.items };
+
+    ghost invariant = { λ tree. length tree.nodes.items < 65536 };
+}
+
+impl Offsets {
+    ghost use Rattle.fpp_shift.specs.Nodes.{empty_node, node_at};
+
+    /// The nodes of `n` vertices, all of zeros and without links.
+    pub fn new(alloc: Global, n: u16) -> Result<Offsets, AllocError>
+        requires { 1 ≤ n }
+        ensures { IfOk result (λ tree. tree ≡ replicate n empty_node) }
+    {
+        let node = Node {
+            x: 0,
+            y: 0,
+            left: None,
+            right: None,
+        };
+        let nodes = vec![in alloc; node; n as usize]?;
+        Ok(Offsets { nodes })
+    }
+
+    /// The number of nodes. It takes no memory.
+    pub fn len(&self) -> u16
+        ensures { result ≡ length self.now }
+    {
+        self.nodes.len() as u16
+    }
+
+    /// The node of a vertex, and one step. It takes no memory.
+    pub fn get<L: Ledger>(&self, v: VertexId, steps: &mut Steps<L>) -> Node
+        requires { v.0 < length self.now }
+        ensures node { result ≡ node_at self.now v.0 }
+        ensures step { steps.new ≡ steps.old + 1 }
+    {
+        let node = self.nodes[v.0 as usize];
+        steps.tick();
+        node
+    }
+
+    /// Sets the node of a vertex and keeps all others, and one step. It takes no memory.
+    pub fn put<L: Ledger>(&mut self, v: VertexId, node: Node, steps: &mut Steps<L>)
+        requires { v.0 < length self.old }
+        ensures set { self.new ≡ slice_set self.old v.0 node }
+        ensures step { steps.new ≡ steps.old + 1 }
+    {
+        steps.tick();
+        self.nodes[v.0 as usize] = node;
+    }
+}
