@@ -1,12 +1,12 @@
 -- Edges as bits, set one by one, and what follows where they are those of a graph.
-use Rattle.std.proofs.Common.{◌≡◌, ◌⊎◌, ℕ, ◌+◌, ◌/◌, ◌<◌, ◌≤◌, ◌==◌, ◌||◌, Bool, true, false, true≢false, List, [], ◌∷◌, ◌++◌, length, replicate, Contains, refl, sym, ap, ◌∙◌, subst, inl, inr, arith, eqb-true, eq-eqb}
+use Rattle.std.proofs.Common.{◌≡◌, ℕ, ◌+◌, ◌/◌, ◌<◌, ◌≤◌, ◌==◌, ◌||◌, Bool, true, false, true≢false, List, [], ◌∷◌, ◌++◌, length, replicate, Contains, refl, sym, ap, ◌∙◌, subst, inl, inr, arith, eqb-true, eq-eqb}
 use Rattle.std.specs.List.{list_any}
 use Rattle.std.proofs.lemmas.Bool.{cases_eq, cases_lt, or_cases}
 use Rattle.std.proofs.lemmas.List.Elements.{Contains-append_left, Contains-append_right, Contains-append_cases}
 use Rattle.map_lists.specs.Lists.{Lists}
 use Rattle.map_theory.specs.Maps.{HasDart, IsSimpleMap, list_of}
 use Rattle.graph6_text.specs.Graphs.{EdgeGraph, AreEdges, joins, has_edge}
-use Rattle.graph6_text.specs.Lines.{pair_place, body_length, is_set, IsLine, IsLineByte, count_form, edges_of}
+use Rattle.graph6_text.specs.Lines.{pair_place, body_length, is_set, edges_of}
 use Rattle.graph6_text.proofs.BitLemmas.{one_pair, pair_place-lt, body_length-bounds}
 use Rattle.graph6_text.proofs.PairLemmas.{Contains-first, Contains-cases, Contains-none}
 use Rattle.graph6_text.proofs.EdgeLemmas.{AreMarked-begin, AreEdges-edges_of, joined_as_bit, joined_is, has_edge-turned}
@@ -125,13 +125,3 @@ module _ (graph : EdgeGraph) (lists : Lists) (body : List ℕ) (simple : IsSimpl
 
   pub has_just_edges : HasJustEdges lists graph
   has_just_edges = record { vertices = vertices; there = there; all = every }
-
--- what stands behind the number of vertices in a line is the bits
-pub length_of_bits : (graph : EdgeGraph) (line bits : List ℕ) → IsLine line graph → ((b : List ℕ) → line ≡ count_form graph.n ++ b → bits ≡ b) → length bits ≡ body_length graph.n
-length_of_bits graph line bits is bits_are = ap length (bits_are is.body is.front) ∙ is.is_body.long
-
--- so lists with the same bits have just the edges of the graph of a line
-pub edges_of_line : (graph : EdgeGraph) (lists : Lists) (line bits body : List ℕ) → IsSimpleMap lists → length lists ≡ graph.n → IsLine line graph → ((b : List ℕ) → line ≡ count_form graph.n ++ b → bits ≡ b) → body ≡ bits → Marks lists graph.n body → HasJustEdges lists graph
-edges_of_line graph lists line bits body simple vertices is bits_are same marks =
-    let here = same ∙ bits_are is.body is.front in
-    has_just_edges graph lists body simple vertices (is.edges ∙ ap (edges_of graph.n) (sym here)) marks

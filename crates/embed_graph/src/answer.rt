@@ -10,7 +10,7 @@ use crate::marks::has_edges;
 use crate::plane::is_plane_map;
 use embed_search::{find_witness, planar_lists};
 use graph6_text::Graph;
-use kuratowski::{Witness, WitnessVerdict, check_witness};
+use kuratowski::{Witness, check_witness};
 use map_lists::Rotations;
 use std::alloc::{AllocError, Global};
 
@@ -45,23 +45,13 @@ fn found_map(alloc: Global, graph: &Graph) -> Result<Option<Rotations>, AllocErr
     }
 }
 
-// Whether a witness is accepted for a graph.
-fn is_witness(graph: &Graph, witness: &Witness) -> bool
-    ensures { IsTrue result → IsWitness graph.now witness.now.kind witness.now.branch witness.now.paths }
-{
-    match check_witness(graph, witness) {
-        WitnessVerdict::Yes => true,
-        _ => false,
-    }
-}
-
 // The witness that the search finds, if it is one.
 fn found_witness(alloc: Global, graph: &Graph) -> Result<Option<Witness>, AllocError>
     ensures { IfOk result (λ found. IfSome found (λ w. IsWitness graph.now w.kind w.branch w.paths)) }
 {
     match find_witness(alloc, graph)? {
         Some(witness) => {
-            if is_witness(graph, &witness) {
+            if check_witness(graph, &witness).is_yes() {
                 Ok(Some(witness))
             } else {
                 Ok(None)

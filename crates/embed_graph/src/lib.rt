@@ -4,7 +4,6 @@
 #![tactic(auto)]
 
 mod answer;
-mod bits;
 pub mod contracted_embeddings;
 pub mod embed_figures;
 pub mod embed_laws;

@@ -1,14 +1,12 @@
-//! Whether lists have just the edges of a graph: their edges as bits are those of the graph's line.
-ghost use Rattle.std.specs.Prelude.{◌≡◌, ◌<◌, ◌≤◌, ◌/◌, ◌++◌, ◌∷◌, [], List, ℕ, length, replicate, IfOk, IsTrue};
-ghost use Rattle.map_lists.specs.Lists.{Lists};
+//! Whether lists have just the edges of a graph: their edges as bits are those of the graph.
+ghost use Rattle.std.specs.Prelude.{◌≡◌, ◌<◌, ◌≤◌, ◌∷◌, [], length, replicate, IfOk, IsTrue};
 ghost use Rattle.map_theory.specs.Maps.{IsSimpleMap};
-ghost use Rattle.graph6_text.specs.Graphs.{EdgeGraph};
-ghost use Rattle.graph6_text.specs.Lines.{IsLine, count_form, body_length};
+ghost use Rattle.graph6_text.specs.Lines.{body_length as bytes_of_pairs};
 ghost use Rattle.embed_theorem.specs.Expanded.{HasJustEdges};
 ghost use Rattle.embed_graph.specs.Marks.{AreBytes, Adds, Marks};
 
-use crate::bits::{pair_place, set};
-use graph6_text::{Graph, write_line};
+use graph6_text::Graph;
+use graph6_text::bits::{body_length, pair_place, set};
 use map_lists::Rotations;
 use std::alloc::{AllocError, Global};
 
@@ -39,7 +37,7 @@ fn set_list(body: &mut [u8], n: u16, v: u16, list: &[u16])
 // Sets the bits of all edges.
 fn set_lists(body: &mut [u8], n: u16, lists: &Rotations)
     requires vertices { length lists.now ≡ n }
-    requires empty { body.old ≡ replicate (body_length n) 63 }
+    requires empty { body.old ≡ replicate (bytes_of_pairs n) 63 }
     ensures { Marks lists.now n body.new }
 {
     for v in 0..n {
@@ -47,26 +45,13 @@ fn set_lists(body: &mut [u8], n: u16, lists: &Rotations)
     }
 }
 
-// The bits of a line behind the number of vertices.
-fn bits_of(line: &[u8], n: u16) -> &[u8]
-    requires { (graph : EdgeGraph) × IsLine line.now graph × (graph.n ≡ n) }
-    ensures { (body : List ℕ) → line.now ≡ count_form n ++ body → result.now ≡ body }
-{
-    if n < 63 { &line[1..] } else { &line[4..] }
-}
-
-// The edges of lists as bits, in so many bytes.
-fn bits_of_lists(
-    alloc: Global,
-    lists: &Rotations,
-    n: u16,
-    bytes: usize,
-) -> Result<Vec<u8>, AllocError>
+// The edges of lists as bits.
+fn bits_of_lists(alloc: Global, lists: &Rotations, n: u16) -> Result<Vec<u8>, AllocError>
+    requires few { n ≤ 255 }
     requires vertices { length lists.now ≡ n }
-    requires bytes { bytes ≡ body_length n }
     ensures { IfOk result (λ body. Marks lists.now n body.items) }
 {
-    let mut body = vec![in alloc; 63u8; bytes]?;
+    let mut body = vec![in alloc; 63u8; body_length(n)]?;
     set_lists(&mut body, n, lists);
     Ok(body)
 }
@@ -84,9 +69,7 @@ pub fn has_edges(alloc: Global, graph: &Graph, lists: &Rotations) -> Result<bool
     requires vertices { length lists.now ≡ graph.now.n }
     ensures { IfOk result (λ yes. IsTrue yes → HasJustEdges lists.now graph.now) }
 {
-    let mut line = Vec::new(alloc);
-    write_line(graph, &mut line)?;
-    let bits = bits_of(&line, graph.n());
-    let body = bits_of_lists(alloc, lists, graph.n(), bits.len())?;
-    Ok(are_equal(&body, bits))
+    let bits = graph.body();
+    let edges = bits_of_lists(alloc, lists, graph.n())?;
+    Ok(are_equal(&edges, bits))
 }

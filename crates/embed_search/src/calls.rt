@@ -2,7 +2,7 @@
 ghost use Rattle.std.specs.Prelude.{◌≡◌, length, IfOk, IfSome};
 
 use crate::conflicts::agrees;
-use crate::edges::{Edges, first_edges, graph_line, some_edges};
+use crate::edges::{Edges, first_edges, some_edges};
 use crate::fronts::{Choice, choose};
 use crate::links::Links;
 use crate::nesting::{depth_end, sort_leaving};
@@ -48,8 +48,7 @@ fn lists_by_sides(alloc: Global, edges: &Edges, n: u16) -> Result<Option<Rotatio
 pub fn planar_lists(alloc: Global, graph: &Graph) -> Result<Option<Rotations>, AllocError>
     ensures { IfOk result (λ found. IfSome found (λ lists. length lists ≡ graph.now.n)) }
 {
-    let line = graph_line(alloc, graph)?;
-    let edges = some_edges(&line, u32::from(graph.n()));
+    let edges = some_edges(graph);
     if edges.are_many() {
         return Ok(None);
     }
@@ -59,8 +58,7 @@ pub fn planar_lists(alloc: Global, graph: &Graph) -> Result<Option<Rotations>, A
 /// A witness that a graph is nonplanar, or none where that is not seen to be. It fails only for want of
 /// memory.
 pub fn find_witness(alloc: Global, graph: &Graph) -> Result<Option<Witness>, AllocError> {
-    let line = graph_line(alloc, graph)?;
-    let edges = first_edges(&line, u32::from(graph.n()));
+    let edges = first_edges(graph);
     let mut parts = Parts::new(&edges);
     let mut choice = Choice::new();
     choose(&edges, &mut parts, &mut choice);

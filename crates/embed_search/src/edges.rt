@@ -1,7 +1,6 @@
-//! The edges of a graph, read out of the bits of its line.
+//! The edges of a graph, read out of its bits.
 use crate::row::{ByEdge, minus, plus};
-use graph6_text::{Graph, write_line};
-use std::alloc::{AllocError, Global};
+use graph6_text::Graph;
 
 /// Edges by number.
 #[derive(Drop)]
@@ -98,40 +97,18 @@ pub fn most_edges(vertices: u32) -> u32 {
     }
 }
 
-// What stands in a line behind the number of vertices.
-fn bits_of(line: &[u8]) -> &[u8] {
-    let start = if line.len() > 4 && line[0] == 126 {
-        4
-    } else {
-        1
-    };
-    if start <= line.len() {
-        &line[start..]
-    } else {
-        line
-    }
-}
-
-/// The line of a graph.
-pub fn graph_line(alloc: Global, graph: &Graph) -> Result<Vec<u8>, AllocError> {
-    let mut line: Vec<u8> = Vec::new(alloc);
-    write_line(graph, &mut line)?;
-    Ok(line)
-}
-
-/// The edges of a line on so many vertices; of those that are too many for a plane map, only some, but too
-/// many.
-pub fn some_edges(line: &[u8], vertices: u32) -> Edges {
-    let mut edges = Edges::new(vertices);
-    edges.push_all(bits_of(line));
+/// The edges of a graph; of those that are too many for a plane map, only some, but too many.
+pub fn some_edges(graph: &Graph) -> Edges {
+    let mut edges = Edges::new(u32::from(graph.n()));
+    edges.push_all(graph.body());
     edges
 }
 
-/// The edges of a line; of those that are too many for a plane map, the first ones, one too many.
-pub fn first_edges(line: &[u8], vertices: u32) -> Edges {
-    let mut edges = some_edges(line, vertices);
+/// The edges of a graph; of those that are too many for a plane map, the first ones, one too many.
+pub fn first_edges(graph: &Graph) -> Edges {
+    let mut edges = some_edges(graph);
     if edges.are_many() {
-        edges.count = plus(most_edges(vertices), 1);
+        edges.count = plus(most_edges(edges.vertices), 1);
     }
     edges
 }

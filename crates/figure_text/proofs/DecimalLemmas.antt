@@ -2,56 +2,56 @@
 use Rattle.std.proofs.Common.{◌≡◌, ◌≢◌, ◌++◌, ℕ, suc, ◌+◌, ◌-◌, ◌*◌, ◌<◌, ◌≤◌, Bool, true, false, List, [], ◌∷◌, length, take, drop, length-drop, get_or, refl, sym, ap, ◌∙◌, arith, add-one, drop-cons}
 use Rattle.std.proofs.lemmas.List.{take_more, get_or-drop}
 use Rattle.std.specs.Prelude.{min, Option, Some, None, option_map}
-use Rattle.figure_text.specs.Words.{far, is_digit, decimal_from, one_more}
+use Rattle.figure_text.specs.Words.{is_digit, decimal_from, one_more}
 
 -- the number of digits, cut
-abbrev pub cut_from : ℕ → List ℕ → Option ℕ
-cut_from n bytes = option_map (min far) (decimal_from n bytes)
+abbrev pub cut_from : ℕ → ℕ → List ℕ → Option ℕ
+cut_from most n bytes = option_map (min most) (decimal_from n bytes)
 
 -- a number is cut before or after more digits are read
-pub cut_from-cut : (bytes : List ℕ) (n m : ℕ) → min far n ≡ min far m → cut_from n bytes ≡ cut_from m bytes
-cut_from-cut [] n m same = ap (λ (k : ℕ). Some k) same
-cut_from-cut (b ∷ bytes) n m same = by_digit (is_digit b) refl (cut_from-cut bytes (10 * n + (b - 48)) (10 * m + (b - 48)) (omega arith))
+pub cut_from-cut : (most : ℕ) (bytes : List ℕ) (n m : ℕ) → min most n ≡ min most m → cut_from most n bytes ≡ cut_from most m bytes
+cut_from-cut most [] n m same = ap (λ (k : ℕ). Some k) same
+cut_from-cut most (b ∷ bytes) n m same = by_digit (is_digit b) refl (cut_from-cut most bytes (10 * n + (b - 48)) (10 * m + (b - 48)) (omega arith))
   where
-    by_digit : (digit : Bool) → is_digit b ≡ digit → cut_from (10 * n + (b - 48)) bytes ≡ cut_from (10 * m + (b - 48)) bytes → cut_from n (b ∷ bytes) ≡ cut_from m (b ∷ bytes)
+    by_digit : (digit : Bool) → is_digit b ≡ digit → cut_from most (10 * n + (b - 48)) bytes ≡ cut_from most (10 * m + (b - 48)) bytes → cut_from most n (b ∷ bytes) ≡ cut_from most m (b ∷ bytes)
     by_digit true e rest = rw e rest
     by_digit false e rest = rw e refl
 
 -- one digit more
-digit-more : (digit : Bool) (n b next : ℕ) (bytes : List ℕ) → is_digit b ≡ digit → one_more n b ≡ Some next → cut_from next bytes ≡ cut_from n (b ∷ bytes)
-digit-more true n b next bytes e is =
-    let one : Some (min far (10 * n + (b - 48))) ≡ Some next = rw e at is in
-    let same : next ≡ min far (10 * n + (b - 48)) = cc in
-    rw e (cut_from-cut bytes next (10 * n + (b - 48)) (omega arith))
-digit-more false n b next bytes e is =
+digit-more : (most : ℕ) (digit : Bool) (n b next : ℕ) (bytes : List ℕ) → is_digit b ≡ digit → one_more most n b ≡ Some next → cut_from most next bytes ≡ cut_from most n (b ∷ bytes)
+digit-more most true n b next bytes e is =
+    let one : Some (min most (10 * n + (b - 48))) ≡ Some next = rw e at is in
+    let same : next ≡ min most (10 * n + (b - 48)) = cc in
+    rw e (cut_from-cut most bytes next (10 * n + (b - 48)) (omega arith))
+digit-more most false n b next bytes e is =
     let none : None ≡ Some next = rw e at is in cc
 
-pub cut_from-more : (word : List ℕ) (n i b next : ℕ) → i < length word → get_or word i 0 ≡ b → one_more n b ≡ Some next → cut_from next (drop (i + 1) word) ≡ cut_from n (drop i word)
-cut_from-more word n i b next within at is =
+pub cut_from-more : (most : ℕ) (word : List ℕ) (n i b next : ℕ) → i < length word → get_or word i 0 ≡ b → one_more most n b ≡ Some next → cut_from most next (drop (i + 1) word) ≡ cut_from most n (drop i word)
+cut_from-more most word n i b next within at is =
     let parts : drop i word ≡ b ∷ drop (i + 1) word = rw (add-one, drop-cons word i 0) (rw at refl) in
-    digit-more (is_digit b) n b next (drop (i + 1) word) refl is ∙ ap (λ (bytes : List ℕ). cut_from n bytes) (sym parts)
+    digit-more most (is_digit b) n b next (drop (i + 1) word) refl is ∙ ap (λ (bytes : List ℕ). cut_from most n bytes) (sym parts)
 
-more-near : (digit : Bool) (n b next : ℕ) → is_digit b ≡ digit → one_more n b ≡ Some next → next ≤ far
-more-near true n b next e is =
-    let one : Some (min far (10 * n + (b - 48))) ≡ Some next = rw e at is in
-    let same : next ≡ min far (10 * n + (b - 48)) = cc in
+more-near : (most : ℕ) (digit : Bool) (n b next : ℕ) → is_digit b ≡ digit → one_more most n b ≡ Some next → next ≤ most
+more-near most true n b next e is =
+    let one : Some (min most (10 * n + (b - 48))) ≡ Some next = rw e at is in
+    let same : next ≡ min most (10 * n + (b - 48)) = cc in
     omega arith
-more-near false n b next e is =
+more-near most false n b next e is =
     let none : None ≡ Some next = rw e at is in cc
 
-pub one_more-le : (n b next : ℕ) → one_more n b ≡ Some next → next ≤ far
-one_more-le n b next is = more-near (is_digit b) n b next refl is
+pub one_more-le : (most : ℕ) (n b next : ℕ) → one_more most n b ≡ Some next → next ≤ most
+one_more-le most n b next is = more-near most (is_digit b) n b next refl is
 
 -- a byte that is no digit
-digit-none : (digit : Bool) (n b : ℕ) (bytes : List ℕ) → is_digit b ≡ digit → one_more n b ≡ None → cut_from n (b ∷ bytes) ≡ None
-digit-none true n b bytes e is =
-    let some : Some (min far (10 * n + (b - 48))) ≡ None = rw e at is in cc
-digit-none false n b bytes e is = rw e refl
+digit-none : (most : ℕ) (digit : Bool) (n b : ℕ) (bytes : List ℕ) → is_digit b ≡ digit → one_more most n b ≡ None → cut_from most n (b ∷ bytes) ≡ None
+digit-none most true n b bytes e is =
+    let some : Some (min most (10 * n + (b - 48))) ≡ None = rw e at is in cc
+digit-none most false n b bytes e is = rw e refl
 
-pub cut_from-none : (word : List ℕ) (n i b : ℕ) → i < length word → get_or word i 0 ≡ b → one_more n b ≡ None → cut_from n (drop i word) ≡ None
-cut_from-none word n i b within at is =
+pub cut_from-none : (most : ℕ) (word : List ℕ) (n i b : ℕ) → i < length word → get_or word i 0 ≡ b → one_more most n b ≡ None → cut_from most n (drop i word) ≡ None
+cut_from-none most word n i b within at is =
     let parts : drop i word ≡ b ∷ drop (suc i) word = rw (drop-cons word i 0) (rw at refl) in
-    ap (λ (bytes : List ℕ). cut_from n bytes) parts ∙ digit-none (is_digit b) n b (drop (suc i) word) refl is
+    ap (λ (bytes : List ℕ). cut_from most n bytes) parts ∙ digit-none most (is_digit b) n b (drop (suc i) word) refl is
 
 -- digits behind digits
 decimal-append : (xs ys : List ℕ) (n m : ℕ) → decimal_from n xs ≡ Some m → decimal_from n (xs ++ ys) ≡ decimal_from m ys
@@ -62,22 +62,22 @@ decimal-append (b ∷ xs) ys n m is = by_digit (is_digit b) refl (decimal-append
     by_digit true e rest = rw e (rest (rw e at is))
     by_digit false e rest = let none : None ≡ Some m = rw e at is in cc
 
-pub cut_from-snoc : (xs : List ℕ) (b v next : ℕ) → cut_from 0 xs ≡ Some v → one_more v b ≡ Some next → cut_from 0 (xs ++ b ∷ []) ≡ Some next
-cut_from-snoc xs b v next is more = by_value (decimal_from 0 xs) refl is
+pub cut_from-snoc : (most : ℕ) (xs : List ℕ) (b v next : ℕ) → cut_from most 0 xs ≡ Some v → one_more most v b ≡ Some next → cut_from most 0 (xs ++ b ∷ []) ≡ Some next
+cut_from-snoc most xs b v next is more = by_value (decimal_from 0 xs) refl is
   where
-    by_value : (o : Option ℕ) → decimal_from 0 xs ≡ o → option_map (min far) o ≡ Some v → cut_from 0 (xs ++ b ∷ []) ≡ Some next
+    by_value : (o : Option ℕ) → decimal_from 0 xs ≡ o → option_map (min most) o ≡ Some v → cut_from most 0 (xs ++ b ∷ []) ≡ Some next
     by_value None e none = cc
     by_value (Some m) e some =
-        let same : min far m ≡ v = cc in
-        let near : next ≤ far = one_more-le v b next more in
-        ap (λ (o : Option ℕ). option_map (min far) o) (decimal-append xs (b ∷ []) 0 m e)
-        ∙ cut_from-cut (b ∷ []) m v (omega arith)
-        ∙ sym (digit-more (is_digit b) v b next [] refl more)
+        let same : min most m ≡ v = cc in
+        let near : next ≤ most = one_more-le most v b next more in
+        ap (λ (o : Option ℕ). option_map (min most) o) (decimal-append xs (b ∷ []) 0 m e)
+        ∙ cut_from-cut most (b ∷ []) m v (omega arith)
+        ∙ sym (digit-more most (is_digit b) v b next [] refl more)
         ∙ ap (λ (k : ℕ). Some k) (omega arith)
 
 -- a digit is no space
-pub one_more-digit : (v b next : ℕ) → one_more v b ≡ Some next → b ≢ 32
-one_more-digit v b next is same = let none : None ≡ Some next = rw same at is in absurd (cc)
+pub one_more-digit : (most : ℕ) (v b next : ℕ) → one_more most v b ≡ Some next → b ≢ 32
+one_more-digit most v b next is same = let none : None ≡ Some next = rw same at is in absurd (cc)
 
 -- one byte more of a line
 pub take-one_more : (line : List ℕ) (at k b : ℕ) → at ≤ k → k < length line → get_or line k 0 ≡ b → take (k + 1 - at) (drop at line) ≡ take (k - at) (drop at line) ++ b ∷ []
@@ -87,6 +87,6 @@ take-one_more line at k b order within is =
     ap (λ (j : ℕ). take j (drop at line)) count
     ∙ take_more (drop at line) (k - at) 0 (omega (arith, length-drop at line)) ∙ ap (λ (c : ℕ). take (k - at) (drop at line) ++ c ∷ []) here
 
-pub digits-more : (line : List ℕ) (at k v b next : ℕ) → at ≤ k → k < length line → get_or line k 0 ≡ b → cut_from 0 (take (k - at) (drop at line)) ≡ Some v → one_more v b ≡ Some next → cut_from 0 (take (k + 1 - at) (drop at line)) ≡ Some next
-digits-more line at k v b next order within is so_far more =
-    ap (cut_from 0) (take-one_more line at k b order within is) ∙ cut_from-snoc (take (k - at) (drop at line)) b v next so_far more
+pub digits-more : (most : ℕ) (line : List ℕ) (at k v b next : ℕ) → at ≤ k → k < length line → get_or line k 0 ≡ b → cut_from most 0 (take (k - at) (drop at line)) ≡ Some v → one_more most v b ≡ Some next → cut_from most 0 (take (k + 1 - at) (drop at line)) ≡ Some next
+digits-more most line at k v b next order within is so_far more =
+    ap (cut_from most 0) (take-one_more line at k b order within is) ∙ cut_from-snoc most (take (k - at) (drop at line)) b v next so_far more

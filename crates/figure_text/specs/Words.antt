@@ -19,9 +19,9 @@ abbrev pub decimal_from : ℕ → List ℕ → Option ℕ
 decimal_from n [] = Some n
 decimal_from n (b ∷ bytes) = if is_digit b then decimal_from (10 * n + (b - 48)) bytes else None
 
--- one digit more for a number that is cut to `far`
-abbrev pub one_more : ℕ → ℕ → Option ℕ
-one_more n b = if is_digit b then Some (min far (10 * n + (b - 48))) else None
+-- one digit more for a number that is cut to `most`
+abbrev pub one_more : ℕ → ℕ → ℕ → Option ℕ
+one_more most n b = if is_digit b then Some (min most (10 * n + (b - 48))) else None
 
 -- digits begin with 0 only where they are just that, and there is one at least
 abbrev pub canonical : List ℕ → Bool

@@ -288,26 +288,6 @@ pub fn job_kind(words: &[Word]) -> Option<Kind>
     }
 }
 
-// The number of branches.
-pub fn branches_of(kind: Subdivided) -> usize
-    ensures { result ≡ branch_count kind }
-{
-    match kind {
-        Subdivided::K5 => 5,
-        Subdivided::K33 => 6,
-    }
-}
-
-// The number of paths.
-pub fn paths_of(kind: Subdivided) -> usize
-    ensures { result ≡ length (pairs_of kind) }
-{
-    match kind {
-        Subdivided::K5 => 10,
-        Subdivided::K33 => 9,
-    }
-}
-
 // How many lines of vertices, or of branches and paths, a first line announces.
 pub fn row_count(kind: Kind, words: &[Word]) -> usize
     ensures { result ≡ rows_due kind words.now }
@@ -316,7 +296,7 @@ pub fn row_count(kind: Kind, words: &[Word]) -> usize
         Kind::Grid(_) => size_of(word(words, 3)) as usize,
         Kind::Bars => size_of(word(words, 3)) as usize,
         Kind::Rects => size_of(word(words, 3)) as usize,
-        Kind::Witness(kind) => paths_of(kind) + 1,
+        Kind::Witness(kind) => kind.path_count() + 1,
     }
 }
 
@@ -332,7 +312,7 @@ fn is_long_row(kind: Subdivided, place: usize, len: usize) -> bool
     ensures { result ≡ is_row_length kind place len }
 {
     if place == 1 {
-        len == branches_of(kind) + 1
+        len == kind.branch_count() + 1
     } else {
         1 < len
     }

@@ -8,6 +8,7 @@
 //! answer at an offset.
 #![tactic(auto)]
 
+pub mod decimals;
 mod fault;
 mod figure;
 mod front;

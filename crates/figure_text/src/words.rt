@@ -1,8 +1,9 @@
 //! The words of a line.
 ghost use Rattle.std.specs.Prelude.{◌≡◌, ◌↔◌, ◌<◌, ◌≤◌, ◌-◌, ◌+◌, take, drop, Some, length, min, option_map, bytes_eq, map, ◌==◌, ◌&&◌, ◌≢◌, ℕ, nat_lt, slice_index, IsTrue, IfOk, OnOk, All};
 ghost use Rattle.std.specs.List.{slice_split};
-ghost use Rattle.figure_text.specs.Words.{far, is_digit, one_more, canonical, decimal_from, number_of, signed_of, plus, minus, word_of as word_meant, words_of, numeral_word, closing_of};
+ghost use Rattle.figure_text.specs.Words.{far, decimal_from, number_of, signed_of, plus, minus, word_of as word_meant, words_of, numeral_word, closing_of};
 
+use crate::decimals::{decimal_number, is_canonical, with_digit};
 use std::alloc::{AllocError, Global};
 
 /// A whole number by its sign and its size. A size beyond all ranges stands as `FAR`.
@@ -48,67 +49,18 @@ pub enum Word {
 }
 
 /// What numbers beyond all ranges are taken for.
-pub const FAR: u32 = 100_000_000;
-
-// The number, or `FAR` if it is beyond.
-fn nearer(value: u32) -> u32
-    ensures { result ≡ min far value }
-{
-    if value < FAR { value } else { FAR }
-}
-
-// Whether a byte is from 0 to 9.
-fn is_digit_byte(byte: u8) -> bool
-    ensures { result ≡ is_digit byte }
-{
-    b'0' <= byte && byte <= b'9'
-}
-
-// A number with one digit more, or nothing where the byte is no digit.
-fn with_digit(value: u32, byte: u8) -> Option<u32>
-    requires { value ≤ far }
-    ensures { result ≡ one_more value byte }
-{
-    if is_digit_byte(byte) {
-        Some(nearer(10 * value + u32::from(byte - b'0')))
-    } else {
-        None
-    }
-}
-
-// The least of `FAR` and the number that decimal digits give, or nothing where a byte is no digit.
-fn decimal_number(word: &[u8]) -> Option<u32>
-    ensures { result ≡ option_map (min far) (decimal_from 0 word.now) }
-{
-    let mut value = 0;
-    for byte in word {
-        match with_digit(value, *byte) {
-            Some(more) => value = more,
-            None => return None,
-        }
-    }
-    Some(value)
-}
-
-// Whether digits begin with a 0 only where they are just that.
-fn is_canonical(word: &[u8]) -> bool
-    ensures { result ≡ canonical word.now }
-{
-    match word {
-        [] => false,
-        [b'0', rest @ ..] => rest.is_empty(),
-        _ => true,
-    }
-}
+pub const FAR: u64 = 100_000_000;
 
 // The number that a word is, if it is one.
 fn number(word: &[u8]) -> Option<u32>
     ensures { result ≡ number_of word.now }
 {
-    if is_canonical(word) {
-        decimal_number(word)
-    } else {
-        None
+    if !is_canonical(word) {
+        return None;
+    }
+    match decimal_number(FAR, word) {
+        Some(size) => Some(size as u32),
+        None => None,
     }
 }
 
@@ -279,13 +231,18 @@ fn digits_from(line: &[u8], at: usize) -> Digits
 {
     let mut value = 0;
     for k in at..line.len() {
-        match with_digit(value, line[k]) {
+        match with_digit(FAR, value, line[k]) {
             Some(more) => value = more,
-            None => return Digits { value, end: k },
+            None => {
+                return Digits {
+                    value: value as u32,
+                    end: k,
+                };
+            }
         }
     }
     Digits {
-        value,
+        value: value as u32,
         end: line.len(),
     }
 }

@@ -102,8 +102,8 @@ impl Graph {
         is_set(&self.body, pair_place(u, v))
     }
 
-    // The bytes of its line behind the number of vertices.
-    pub(crate) fn body(&self) -> &[u8]
+    /// The bytes of its line behind the number of vertices: its bits, six a byte.
+    pub fn body(&self) -> &[u8]
         ensures few { self.now.n ≤ 255 }
         ensures bits { IsBody self.now.n result.now }
         ensures edges { self.now.edges ≡ edges_of self.now.n result.now }

@@ -4,7 +4,7 @@
 //! keeps these bytes as they are.
 #![tactic(auto)]
 
-mod bits;
+pub mod bits;
 mod graph;
 mod header;
 mod laws;

@@ -1,5 +1,5 @@
 //! The check of a witness.
-ghost use Rattle.std.specs.Prelude.{◌≡◌, ◌↔◌};
+ghost use Rattle.std.specs.Prelude.{◌≡◌, ◌↔◌, IsTrue};
 ghost use Rattle.kuratowski.specs.Witnesses.{IsShape, IsWitness};
 ghost use Rattle.kuratowski.specs.Verdicts.{IsVerdict, NoBadBranch, LacksNone};
 
@@ -25,6 +25,18 @@ pub enum WitnessVerdict {
     Shared(usize, usize, VertexId),
     /// It is a witness.
     Yes,
+}
+
+impl WitnessVerdict {
+    /// Whether it is a witness.
+    pub fn is_yes(self) -> bool
+        ensures { IsTrue result ↔ (self ≡ WitnessVerdict.Yes) }
+    {
+        match self {
+            WitnessVerdict::Yes => true,
+            _ => false,
+        }
+    }
 }
 
 /// The verdict on a witness for a graph. It takes no memory.

@@ -5,56 +5,13 @@ ghost use Rattle.kuratowski.specs.Witnesses.{branch_count as branches_of, pairs_
 use crate::Kind;
 use map_lists::{PathList, VertexId, VertexList};
 
-const K5_PAIRS: [(usize, usize); 10] = [
-    (0, 1),
-    (0, 2),
-    (0, 3),
-    (0, 4),
-    (1, 2),
-    (1, 3),
-    (1, 4),
-    (2, 3),
-    (2, 4),
-    (3, 4),
-];
-
-const K33_PAIRS: [(usize, usize); 9] = [
-    (0, 3),
-    (0, 4),
-    (0, 5),
-    (1, 3),
-    (1, 4),
-    (1, 5),
-    (2, 3),
-    (2, 4),
-    (2, 5),
-];
-
 /// Whether there are as many branches and paths as the kind has, and each path joins its pair.
 pub fn has_shape(kind: Kind, branch: &VertexList, paths: &PathList) -> bool
     ensures { IsTrue result ↔ IsShape kind branch.now paths.now }
 {
-    branch.len() == branch_count(kind)
-        && paths.len() == path_count(kind)
+    branch.len() == kind.branch_count()
+        && paths.len() == kind.path_count()
         && all_join(kind, branch, paths)
-}
-
-fn branch_count(kind: Kind) -> usize
-    ensures { result ≡ branches_of kind }
-{
-    match kind {
-        Kind::K5 => 5,
-        Kind::K33 => 6,
-    }
-}
-
-fn path_count(kind: Kind) -> usize
-    ensures { result ≡ length (pairs_of kind) }
-{
-    match kind {
-        Kind::K5 => 10,
-        Kind::K33 => 9,
-    }
 }
 
 // Whether each path joins its pair.
@@ -77,7 +34,7 @@ fn joins(kind: Kind, branch: &VertexList, path: &[VertexId], p: usize) -> bool
     requires path { p < length (pairs_of kind) }
     ensures { IsTrue result ↔ Joins branch.now path.now (pair_of kind p) }
 {
-    let (a, b) = pair_at(kind, p);
+    let (a, b) = kind.pair_at(p);
     path.len() >= 2 && has_ends(path, vertex_at(branch, a), vertex_at(branch, b))
 }
 
@@ -87,19 +44,6 @@ fn has_ends(path: &[VertexId], start: u16, end: u16) -> bool
     ensures { IsTrue result ↔ ((vertex_of path.now 0 ≡ start) × (vertex_of path.now (length path.now - 1) ≡ end)) }
 {
     path[0].0 == start && path[path.len() - 1].0 == end
-}
-
-// The pair of path number `p`.
-fn pair_at(kind: Kind, p: usize) -> (usize, usize)
-    requires { p < length (pairs_of kind) }
-    ensures pair { result ≡ pair_of kind p }
-    ensures first { result.0 < branches_of kind }
-    ensures second { result.1 < branches_of kind }
-{
-    match kind {
-        Kind::K5 => K5_PAIRS[p],
-        Kind::K33 => K33_PAIRS[p],
-    }
 }
 
 /// The vertex at a place of a list.

@@ -1,5 +1,33 @@
 //! Witnesses.
+ghost use Rattle.std.specs.Prelude.{◌≡◌, ◌<◌, length};
+ghost use Rattle.kuratowski.specs.Witnesses.{branch_count as branches_of, pairs_of, pair_at as pair_of};
+
 use map_lists::{PathList, VertexList};
+
+const K5_PAIRS: [(usize, usize); 10] = [
+    (0, 1),
+    (0, 2),
+    (0, 3),
+    (0, 4),
+    (1, 2),
+    (1, 3),
+    (1, 4),
+    (2, 3),
+    (2, 4),
+    (3, 4),
+];
+
+const K33_PAIRS: [(usize, usize); 9] = [
+    (0, 3),
+    (0, 4),
+    (0, 5),
+    (1, 3),
+    (1, 4),
+    (1, 5),
+    (2, 3),
+    (2, 4),
+    (2, 5),
+];
 
 /// Which graph is subdivided.
 #[derive(Clone, Copy, PartialEq, Eq)]
@@ -8,6 +36,41 @@ pub enum Kind {
     K5,
     /// Two parts of three vertices, each joined to those of the other part.
     K33,
+}
+
+impl Kind {
+    /// How many branches there are.
+    pub fn branch_count(self) -> usize
+        ensures { result ≡ branches_of self }
+    {
+        match self {
+            Kind::K5 => 5,
+            Kind::K33 => 6,
+        }
+    }
+
+    /// How many paths there are.
+    pub fn path_count(self) -> usize
+        ensures { result ≡ length (pairs_of self) }
+    {
+        match self {
+            Kind::K5 => 10,
+            Kind::K33 => 9,
+        }
+    }
+
+    /// The places of the two branches that path number `p`, counted from 0, joins.
+    pub fn pair_at(self, p: usize) -> (usize, usize)
+        requires { p < length (pairs_of self) }
+        ensures pair { result ≡ pair_of self p }
+        ensures first { result.0 < branches_of self }
+        ensures second { result.1 < branches_of self }
+    {
+        match self {
+            Kind::K5 => K5_PAIRS[p],
+            Kind::K33 => K33_PAIRS[p],
+        }
+    }
 }
 
 /// A subdivision in a graph.

@@ -1,5 +1,4 @@
 -- Lemmas on words and numbers.
-mod NumberLemmas
 mod SizeLemmas
 mod WordLemmas
 mod CountWords

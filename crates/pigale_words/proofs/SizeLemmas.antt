@@ -1,5 +1,5 @@
 -- A map that words ask for has a size within its range.
-use Rattle.std.proofs.Common.{◌≡◌, ◌&&◌, not, ℕ, ◌<◌, ◌≤◌, Bool, Option, Some, None, true, false, refl, subst, codes, option_map, arith}
+use Rattle.std.proofs.Common.{◌≡◌, ◌&&◌, not, ℕ, ◌<◌, ◌≤◌, Bool, Option, Some, None, true, false, refl, subst, codes, arith}
 use Rattle.std.proofs.lemmas.Bool.Decides.{nat_tests}
 use Rattle.std.proofs.lemmas.Option.{none-some}
 use Rattle.std.specs.Prelude.{List, option_and_then, bytes_eq, if◌then◌else◌, is_some}

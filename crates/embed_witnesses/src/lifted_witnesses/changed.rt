@@ -5,9 +5,7 @@ ghost use Rattle.embed_contraction.proofs.Traces.{vertices_of};
 ghost use Rattle.embed_witnesses.specs.Changes.{branch_in, path_in, IsChanged};
 
 use crate::lifted_witnesses::changes::Change;
-use crate::lifted_witnesses::numbers::{
-    branch_count, branch_of, count_of, kind_of, path_count, vertex_of_change,
-};
+use crate::lifted_witnesses::numbers::{branch_of, count_of, kind_of, vertex_of_change};
 use kuratowski::Witness;
 use map_lists::{PathList, VertexId, VertexList};
 use std::alloc::{AllocError, Global};
@@ -17,8 +15,8 @@ pub(crate) fn changed(alloc: Global, old: &Witness, change: Change) -> Result<Wi
     ensures { IfOk result (IsChanged change old.now) }
 {
     let kind = kind_of(change, old.kind);
-    let branch = changed_branch(alloc, &old.branch, change, branch_count(kind))?;
-    let paths = changed_paths(alloc, &old.paths, change, path_count(kind))?;
+    let branch = changed_branch(alloc, &old.branch, change, kind.branch_count())?;
+    let paths = changed_paths(alloc, &old.paths, change, kind.path_count())?;
     Ok(Witness {
         kind,
         branch,

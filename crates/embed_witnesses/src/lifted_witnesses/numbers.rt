@@ -258,26 +258,6 @@ pub(crate) fn kind_of(change: Change, kind: Kind) -> Kind
     }
 }
 
-/// How many branches a kind has.
-pub(crate) fn branch_count(kind: Kind) -> usize
-    ensures { result ≡ branches_of kind }
-{
-    match kind {
-        Kind::K5 => 5,
-        Kind::K33 => 6,
-    }
-}
-
-/// How many paths it has.
-pub(crate) fn path_count(kind: Kind) -> usize
-    ensures { result ≡ paths_of kind }
-{
-    match kind {
-        Kind::K5 => 10,
-        Kind::K33 => 9,
-    }
-}
-
 /// A branch of the changed witness.
 pub(crate) fn branch_of(change: Change, branch: &VertexList, j: usize) -> u16
     ensures { result ≡ branch_in change branch.now j }

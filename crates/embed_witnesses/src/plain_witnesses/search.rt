@@ -5,7 +5,7 @@ ghost use Rattle.kuratowski.specs.Witnesses.{branch_count as branches_of, IsWitn
 ghost use Rattle.embed_witnesses.specs.Kept.{HasPlain};
 ghost use Rattle.embed_witnesses.specs.Plain.{chosen_at as vertex_chosen, is_pair as is_pair_of, NoneBegins, NoneContinues, HasLive};
 
-use crate::plain_witnesses::numbers::{branch_count, is_pair};
+use crate::plain_witnesses::numbers::is_pair;
 use crate::plain_witnesses::written::as_witness;
 use graph6_text::Graph;
 use kuratowski::{Kind, Witness};
@@ -65,7 +65,7 @@ fn begun(
     requires few { length chosen.now ≤ branches_of kind }
     ensures { IfOk result (λ found. MatchOption found (NoneBegins graph.now kind chosen.now) (λ w. IsWitness graph.now w.kind w.branch w.paths)) }
 {
-    if chosen.len() >= branch_count(kind) {
+    if chosen.len() >= kind.branch_count() {
         return as_witness(alloc, graph, kind, chosen);
     }
     for i in 0..live.len() {

@@ -1,11 +1,11 @@
 //! Chosen branches as a witness.
-ghost use Rattle.std.specs.Prelude.{◌≡◌, ◌<◌, ◌++◌, ◌∷◌, [], ◌↔◌, length, IsTrue, IfOk, OnOk, MatchOption};
+ghost use Rattle.std.specs.Prelude.{◌≡◌, ◌<◌, ◌++◌, ◌∷◌, [], length, IfOk, OnOk, MatchOption};
 ghost use Rattle.kuratowski.specs.Witnesses.{pairs_of, IsWitness};
 ghost use Rattle.embed_witnesses.specs.Plain.{plain_branch as branches_of, plain_path as path_of, plain_paths as paths_of};
 
-use crate::plain_witnesses::numbers::{branch_count, chosen_at, pair_at, path_count};
+use crate::plain_witnesses::numbers::chosen_at;
 use graph6_text::Graph;
-use kuratowski::{Kind, Witness, WitnessVerdict, check_witness};
+use kuratowski::{Kind, Witness, check_witness};
 use map_lists::{PathList, VertexId, VertexList};
 use std::alloc::{AllocError, Global};
 
@@ -26,19 +26,10 @@ pub(crate) fn as_witness(
         branch,
         paths,
     };
-    if is_accepted(graph, &witness) {
+    if check_witness(graph, &witness).is_yes() {
         Ok(Some(witness))
     } else {
         Ok(None)
-    }
-}
-
-fn is_accepted(graph: &Graph, witness: &Witness) -> bool
-    ensures { IsTrue result ↔ IsWitness graph.now witness.now.kind witness.now.branch witness.now.paths }
-{
-    match check_witness(graph, witness) {
-        WitnessVerdict::Yes => true,
-        _ => false,
     }
 }
 
@@ -46,7 +37,7 @@ fn plain_branch(alloc: Global, kind: Kind, chosen: &[u16]) -> Result<VertexList,
     ensures { IfOk result (λ new. new ≡ branches_of kind chosen.now) }
 {
     let mut new = VertexList::new(alloc);
-    for i in 0..branch_count(kind) {
+    for i in 0..kind.branch_count() {
         new.push(VertexId(chosen_at(chosen, i)))?;
     }
     Ok(new)
@@ -56,7 +47,7 @@ fn plain_paths(alloc: Global, kind: Kind, chosen: &[u16]) -> Result<PathList, Al
     ensures { IfOk result (λ new. new ≡ paths_of kind chosen.now) }
 {
     let mut new = PathList::new(alloc);
-    for p in 0..path_count(kind) {
+    for p in 0..kind.path_count() {
         push_path(&mut new, kind, chosen, p)?;
     }
     Ok(new)
@@ -67,7 +58,7 @@ fn push_path(paths: &mut PathList, kind: Kind, chosen: &[u16], p: usize) -> Resu
     requires { p < length (pairs_of kind) }
     ensures { OnOk result (paths.new ≡ paths.old ++ path_of kind chosen.now p ∷ []) }
 {
-    let (a, b) = pair_at(kind, p);
+    let (a, b) = kind.pair_at(p);
     let path = [
         VertexId(chosen_at(chosen, a)),
         VertexId(chosen_at(chosen, b)),

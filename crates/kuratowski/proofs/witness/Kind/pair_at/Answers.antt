@@ -1,7 +1,7 @@
 use Rattle.std.proofs.Common.{◌<◌, ℕ, zero, suc, ap, arith}
 use Rattle.kuratowski.specs.Witnesses.{branch_count, pair_at}
 use Rattle.kuratowski.specs.declared.witness.Kind.TheVariants.{K5}
-use Rattle.kuratowski.proofs.shape.pair_at.Goals as goal
+use Rattle.kuratowski.proofs.witness.Kind.pair_at.Goals as goal
 
 -- the ten pairs are of five branches
 within : (p : ℕ) → ((pair_at K5 p).0 < 5) × ((pair_at K5 p).1 < 5)

@@ -1,0 +1,57 @@
+//! Decimal numbers, cut while their digits are read.
+ghost use Rattle.std.specs.Prelude.{◌≡◌, ◌≤◌, min, option_map, IfSome};
+ghost use Rattle.figure_text.specs.Words.{is_digit, one_more, canonical, decimal_from};
+
+// The number, or `most` if it is beyond.
+fn nearer(most: u64, value: u64) -> u64
+    ensures { result ≡ min most value }
+{
+    if value < most { value } else { most }
+}
+
+// Whether a byte is from 0 to 9.
+fn is_digit_byte(byte: u8) -> bool
+    ensures { result ≡ is_digit byte }
+{
+    b'0' <= byte && byte <= b'9'
+}
+
+/// The least of `most` and a number with one digit more, or nothing where the byte is no digit.
+pub fn with_digit(most: u64, value: u64, byte: u8) -> Option<u64>
+    requires few { most ≤ 4294967296 }
+    requires near { value ≤ most }
+    ensures { result ≡ one_more most value byte }
+{
+    if is_digit_byte(byte) {
+        Some(nearer(most, 10 * value + u64::from(byte - b'0')))
+    } else {
+        None
+    }
+}
+
+/// The least of `most` and the number that decimal digits give, or nothing where a byte is no digit. No digits give 0.
+pub fn decimal_number(most: u64, text: &[u8]) -> Option<u64>
+    requires few { most ≤ 4294967296 }
+    ensures near { IfSome result (λ n. n ≤ most) }
+    ensures number { result ≡ option_map (min most) (decimal_from 0 text.now) }
+{
+    let mut value = 0;
+    for byte in text {
+        match with_digit(most, value, *byte) {
+            Some(more) => value = more,
+            None => return None,
+        }
+    }
+    Some(value)
+}
+
+/// Whether there is a first byte, and it is a 0 only where no other follows.
+pub fn is_canonical(text: &[u8]) -> bool
+    ensures { result ≡ canonical text.now }
+{
+    match text {
+        [] => false,
+        [b'0', rest @ ..] => rest.is_empty(),
+        _ => true,
+    }
+}
