@@ -5,8 +5,8 @@ ghost use Rattle.plane_laws.specs.Completed.{IsCompleted};
 ghost use Rattle.canon_order.specs.Orders.{IsCanonicalOrder, IsRankOf, vertices_of};
 ghost use Rattle.grid_figures.specs.Refusals.{draw_refusal};
 ghost use Rattle.grid_figures.specs.Names.{Names};
-ghost use Rattle.grid_figures.specs.SchnyderFiguresBases.{IsDrawnBy};
-ghost use Rattle.grid_figures.specs.SchnyderFiguresFigures.{IsSchnyderFigure};
+ghost use Rattle.grid_figures.specs.Forms.{IsDrawnBy};
+ghost use Rattle.grid_figures.specs.SchnyderFiguresFigures.{schnyder_form, IsSchnyderFigure};
 
 use crate::drawing_orders::{DrawRefusal, drawing_order};
 use crate::schnyder_grid::list_draw;
@@ -21,7 +21,7 @@ fn order_figure(alloc: Global, lists: &Rotations, order: &Order) -> Result<GridF
     requires few { length lists.now < 4096 }
     requires order { (base : Dart) × IsCanonicalOrder lists.now base (vertices_of order.now) }
     requires rank { IsRankOf order.now.rank (vertices_of order.now) }
-    ensures { IfOk result (IsDrawnBy lists.now (vertices_of order.now)) }
+    ensures { IfOk result (IsDrawnBy schnyder_form lists.now (vertices_of order.now)) }
 {
     let figure = list_draw(alloc, lists, order)?;
     Ok(figure)

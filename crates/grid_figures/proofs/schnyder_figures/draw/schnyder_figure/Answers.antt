@@ -3,8 +3,9 @@ use Rattle.map_lists.specs.Lists.{Lists}
 use Rattle.plane_laws.specs.Completed.{IsCompleted}
 use Rattle.canon_order.specs.Orders.{IsCanonicalOrder, vertices_of}
 use Rattle.grid_figures.specs.DrawingOrdersLaws.{IsCompletionFor}
-use Rattle.grid_figures.specs.SchnyderFiguresBases.{IsDrawnBy}
-use Rattle.grid_figures.proofs.SchnyderFiguresFigureLemmas.{figure_of_drawing}
+use Rattle.grid_figures.specs.Forms.{IsDrawnBy}
+use Rattle.grid_figures.specs.SchnyderFiguresFigures.{schnyder_form}
+use Rattle.grid_figures.proofs.FigureLemmas.{figure_of_drawing}
 use Rattle.grid_figures.proofs.schnyder_figures.draw.schnyder_figure.Goals as goal
 
 pub order_figure-requires-clause-completed : goal.order_figure-requires-clause-completed
@@ -25,6 +26,6 @@ pub returns-clause-figure : goal.returns-clause-figure
 returns-clause-figure c =
     let h = c.in_ok-found.ensures.order in
     let found = c.in_ok-found.found in
-    let drawn = subst (λ (ls : Lists). IsDrawnBy ls (vertices_of found.order) c.in_ok-figure.figure) h.listed c.in_ok-figure.ensures in
+    let drawn = subst (λ (ls : Lists). IsDrawnBy schnyder_form ls (vertices_of found.order) c.in_ok-figure.figure) h.listed c.in_ok-figure.ensures in
     let for_base : IsCompletionFor c.args.lists.now found.tri.lists h.to = record { simple = h.simple; completed = h.completed; extended = h.extended; base = h.base } in
-    figure_of_drawing c.completion_draws.ensures c.args.lists.now found.tri.lists h.to for_base c.in_ok-figure.figure (drawn (0, h.to) h.base.dart h.canonical)
+    figure_of_drawing schnyder_form c.completion_draws.ensures c.args.lists.now found.tri.lists h.to for_base c.in_ok-figure.figure (drawn h.to h.base.dart h.canonical)
