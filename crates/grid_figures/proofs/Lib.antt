@@ -4,8 +4,8 @@ pub mod RefusalLemmas
 mod DrawingOrdersCases
 mod DrawingOrdersRefused
 -- Lemmas for figures.
-pub mod ShiftFiguresFigureLemmas
-mod ShiftFiguresCases
+pub mod FigureLemmas
+mod FigureCases
 -- Lemmas on drawings by Schnyder's coordinates.
 mod Passes
 mod Puts
@@ -14,6 +14,3 @@ mod Sums
 mod RunGaps
 mod DrawLemmas
 mod SchnyderGridRefused
--- Lemmas for figures.
-pub mod SchnyderFiguresFigureLemmas
-mod SchnyderFiguresCases

@@ -4,14 +4,12 @@ pub mod Names
 pub mod DrawingOrdersBases
 pub mod Orders
 pub mod DrawingOrdersLaws
--- What the job `shift` answers to a record.
+-- What the jobs `shift` and `schnyder` answer to a record.
+pub mod Forms
 pub mod ShiftFiguresFigures
-pub mod ShiftFiguresBases
 pub mod ShiftFiguresLaws
+pub mod SchnyderFiguresFigures
+pub mod SchnyderFiguresLaws
 -- Drawings by Schnyder's coordinates.
 pub mod Gaps
 pub mod Points
--- What the job `schnyder` answers to a record.
-pub mod SchnyderFiguresFigures
-pub mod SchnyderFiguresBases
-pub mod SchnyderFiguresLaws

@@ -17,6 +17,7 @@ pub record IsBaseTo (lists more : Lists) (to : ℕ) : Type 0 where
 pub record IsDrawingOrder (lists : Lists) (found : DrawingOrder) : Type 0 where
   pub simple : IsSimpleMap lists
   pub completed : IsCompleted found.tri.lists
+  pub listed : found.lists ≡ found.tri.lists
   pub extended : IsExtended lists found.tri.lists
   pub to : ℕ
   pub base : IsBaseTo lists found.tri.lists to

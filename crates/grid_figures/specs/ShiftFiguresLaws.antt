@@ -1,11 +1,7 @@
--- Which lists have a figure.
-use Rattle.std.specs.Prelude.{◌≤◌}
-use Rattle.map_lists.specs.Lists.{Lists}
-use Rattle.map_theory.specs.Maps.{IsSimpleMap, IsPlane, vertex_count}
-use Rattle.pg_plane.specs.declared.figure.GridFigure.{GridFigure}
-use Rattle.grid_figures.specs.ShiftFiguresFigures.{IsShiftFigure}
+-- Which lists have a figure by the shift method.
+use Rattle.grid_figures.specs.Forms.{SomeFigure}
+use Rattle.grid_figures.specs.ShiftFiguresFigures.{shift_form}
 
--- Each simple map of genus zero with at least three vertices has a figure.
+-- Each simple map of genus zero with at least three vertices has one.
 abbrev pub SomeShiftFigure : Type 0
-SomeShiftFigure =
-    (lists : Lists) → IsSimpleMap lists → IsPlane lists → 3 ≤ vertex_count lists → (figure : GridFigure) × IsShiftFigure lists figure
+SomeShiftFigure = SomeFigure shift_form

@@ -7,8 +7,7 @@ ghost use Rattle.embed_contraction.specs.Linked.{HasEdge, IsLinkedWithout, witho
 ghost use Rattle.embed_recursion.specs.Parted.{IsOff, IsOffApart, ArePartedBy};
 
 use crate::parted_lists::rest::{is_outside, without_vertices};
-use conn_parts::{Parts, components};
-use half_edges::HalfMap;
+use conn_parts::{Parts, list_components};
 use map_lists::{Rotations, VertexId};
 use std::alloc::{AllocError, Global};
 
@@ -24,20 +23,8 @@ pub fn parted_pair(
     ensures { IfOk result (λ found. MatchOption found (IsLinkedWithout lists.now vs.now) (λ p. ArePartedBy lists.now vs.now p.0 p.1)) }
 {
     let rest = without_vertices(alloc, lists, vs)?;
-    let parts = list_parts(alloc, &rest)?;
+    let parts = list_components(alloc, &rest)?;
     Ok(pair_apart(lists, vs, &parts))
-}
-
-/// The components of lists that are a simple map. It fails only for want of memory.
-pub fn list_parts(alloc: Global, lists: &Rotations) -> Result<Parts, AllocError>
-    requires simple { IsSimpleMap lists.now }
-    requires few { length lists.now < 4096 }
-    ensures { IfOk result (ArePartsOf lists.now) }
-{
-    match HalfMap::from_rotations(alloc, lists) {
-        Ok(map) => components(alloc, &map),
-        Err(_) => Err(AllocError),
-    }
 }
 
 // The same, by the components without `vs`.

@@ -9,9 +9,9 @@ ghost use Rattle.embed_recursion.specs.Parted.{IsUncut, IsCutBy, ArePairParting}
 ghost use Rattle.embed_theorem.specs.Sides.{IsSided};
 ghost use Rattle.embed_recursion.specs.Parting.{is_beside, beside as vertices_beside, AreSplit, ArePairSides};
 
-use crate::parted_lists::{Parting, is_outside, list_parts, without_vertices};
+use crate::parted_lists::{Parting, is_outside, without_vertices};
 use crate::side_lists::joined::joined_up;
-use conn_parts::Parts;
+use conn_parts::{Parts, list_components};
 use map_lists::{Rotations, VertexId};
 use std::alloc::{AllocError, Global};
 
@@ -62,7 +62,7 @@ fn both_sides(
     ensures { IfOk result (λ sides. AreSplit lists.now sides.0 sides.1 vs.now s) }
 {
     let rest = without_vertices(alloc, lists, vs)?;
-    let parts = list_parts(alloc, &rest)?;
+    let parts = list_components(alloc, &rest)?;
     let far = beside(alloc, lists, vs, &parts, s, false)?;
     let near = beside(alloc, lists, vs, &parts, s, true)?;
     let inner = without_vertices(alloc, lists, &far)?;

@@ -19,10 +19,8 @@ pub(crate) fn without_edge(
     requires edge { HasDart lists.now u v }
     ensures { IfOk result (λ new. new ≡ lists_without lists.now u v) }
 {
-    match HalfMap::from_rotations(alloc, lists) {
-        Ok(map) => rest_of(alloc, map, u, v),
-        Err(_) => Err(AllocError),
-    }
+    let map = HalfMap::from_simple(alloc, lists)?;
+    rest_of(alloc, map, u, v)
 }
 
 // The lists of a map without that edge.

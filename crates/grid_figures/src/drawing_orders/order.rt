@@ -1,16 +1,18 @@
 //! A canonical order of the completion of a record's map, or why there is none.
 ghost use Rattle.std.specs.Prelude.{◌≡◌, ◌≤◌, ◌<◌, ℕ, length, Some, None, IfOk, IfErr, IfSome, IfNone, OnOk};
-ghost use Rattle.map_theory.specs.Maps.{IsPlane, vertex_count};
+ghost use Rattle.map_theory.specs.Maps.{IsPlane, IsSimpleMap, vertex_count};
 ghost use Rattle.plane_laws.specs.Completed.{IsCompleted};
+ghost use Rattle.conn_parts.specs.Parts.{ArePartsOf};
 ghost use Rattle.grid_figures.specs.DrawingOrdersBases.{LeadsToLeast};
 ghost use Rattle.grid_figures.specs.Orders.{IsDrawingOrder};
 ghost use Rattle.grid_figures.specs.Refusals.{draw_refusal};
 ghost use Rattle.grid_figures.specs.Names.{Names};
 
 use crate::drawing_orders::refusal::DrawRefusal;
-use augment_tri::triangulate;
-use canon_order::{Order, canon_order};
-use euler_faces::euler;
+use augment_tri::triangulate_parts;
+use canon_order::{Order, list_order};
+use conn_parts::{Parts, list_components};
+use euler_faces::count_lists;
 use half_edges::{DartId, HalfMap, Rotations, VertexId};
 use std::alloc::{AllocError, Global};
 
@@ -19,6 +21,8 @@ use std::alloc::{AllocError, Global};
 pub struct DrawingOrder {
     /// The map.
     pub tri: HalfMap,
+    /// Its lists.
+    pub lists: Rotations,
     /// The order of its vertices.
     pub order: Order,
 }
@@ -49,24 +53,38 @@ fn base_dart(tri: &HalfMap, first: Option<DartId>) -> DartId
     }
 }
 
-// The completion of a map of genus zero with at least three vertices, and an order of it.
-fn completed_order(alloc: Global, map: HalfMap) -> Result<DrawingOrder, AllocError>
+// The completion of a map of genus zero with at least three vertices and these components, and an order of it.
+fn completed_order(alloc: Global, map: HalfMap, parts: &Parts) -> Result<DrawingOrder, AllocError>
     requires plane { IsPlane map.lists }
     requires some { 3 ≤ vertex_count map.lists }
+    requires parts { ArePartsOf map.lists parts.now }
     ensures { IfOk result (IsDrawingOrder map.lists) }
 {
     map.facts();
     let first = map.first_dart(VertexId(0));
-    let tri = match triangulate(alloc, map) {
+    let tri = match triangulate_parts(map, parts) {
         Ok(tri) => tri,
         Err((_, e)) => return Err(e),
     };
     tri.facts();
     let base = base_dart(&tri, first);
-    match canon_order(alloc, &tri, base) {
-        Ok(order) => Ok(DrawingOrder { tri, order }),
-        Err(_) => Err(AllocError),
-    }
+    let lists = tri.rotations(alloc)?;
+    let order = list_order(alloc, &tri, &lists, base)?;
+    Ok(DrawingOrder { tri, lists, order })
+}
+
+// The same, of the map with these lists.
+fn plane_order(alloc: Global, lists: &Rotations) -> Result<DrawingOrder, AllocError>
+    requires simple { IsSimpleMap lists.now }
+    requires few { length lists.now < 4096 }
+    requires plane { IsPlane lists.now }
+    requires some { 3 ≤ vertex_count lists.now }
+    ensures { IfOk result (IsDrawingOrder lists.now) }
+{
+    let parts = list_components(alloc, lists)?;
+    let map = HalfMap::from_simple(alloc, lists)?;
+    let found = completed_order(alloc, map, &parts)?;
+    Ok(found)
 }
 
 /// The completion of the map of a record with these lists, which are from 1 to 4095, and a canonical order of
@@ -83,15 +101,15 @@ pub fn drawing_order(alloc: Global, lists: &Rotations) -> Result<DrawingOrder, D
     ensures served { OnOk result (draw_refusal lists.now ≡ None) }
     ensures refused { IfErr result (Names (draw_refusal lists.now)) }
 {
-    let map = HalfMap::from_rotations(alloc, lists)?;
-    let count = euler(alloc, &map)?;
+    simple_maps::no_fault_is_simple();
+    let count = count_lists(alloc, lists)?;
     if count.n < 3 {
-        return Err(DrawRefusal::Small(map.n()));
+        return Err(DrawRefusal::Small(count.n as u16));
     }
     let genus = count.genus();
     if 0 < genus {
         return Err(DrawRefusal::Genus(genus));
     }
-    let found = completed_order(alloc, map)?;
+    let found = plane_order(alloc, lists)?;
     Ok(found)
 }

@@ -5,24 +5,25 @@ ghost use Rattle.plane_laws.specs.Completed.{IsCompleted};
 ghost use Rattle.canon_order.specs.Orders.{IsCanonicalOrder, IsRankOf, vertices_of};
 ghost use Rattle.grid_figures.specs.Refusals.{draw_refusal};
 ghost use Rattle.grid_figures.specs.Names.{Names};
-ghost use Rattle.grid_figures.specs.SchnyderFiguresBases.{IsDrawnBy};
-ghost use Rattle.grid_figures.specs.SchnyderFiguresFigures.{IsSchnyderFigure};
+ghost use Rattle.grid_figures.specs.Forms.{IsDrawnBy};
+ghost use Rattle.grid_figures.specs.SchnyderFiguresFigures.{schnyder_form, IsSchnyderFigure};
 
 use crate::drawing_orders::{DrawRefusal, drawing_order};
-use crate::schnyder_grid::wood_draw;
+use crate::schnyder_grid::list_draw;
 use canon_order::Order;
-use half_edges::{HalfMap, Rotations};
+use half_edges::Rotations;
 use pg_plane::GridFigure;
 use std::alloc::{AllocError, Global};
 
 // The drawing of a completed map by a canonical order.
-fn order_figure(alloc: Global, tri: &HalfMap, order: &Order) -> Result<GridFigure, AllocError>
-    requires completed { IsCompleted tri.now.lists }
-    requires order { (base : Dart) × IsCanonicalOrder tri.now.lists base (vertices_of order.now) }
+fn order_figure(alloc: Global, lists: &Rotations, order: &Order) -> Result<GridFigure, AllocError>
+    requires completed { IsCompleted lists.now }
+    requires few { length lists.now < 4096 }
+    requires order { (base : Dart) × IsCanonicalOrder lists.now base (vertices_of order.now) }
     requires rank { IsRankOf order.now.rank (vertices_of order.now) }
-    ensures { IfOk result (IsDrawnBy tri.now.lists (vertices_of order.now)) }
+    ensures { IfOk result (IsDrawnBy schnyder_form lists.now (vertices_of order.now)) }
 {
-    let figure = wood_draw(alloc, tri, order)?;
+    let figure = list_draw(alloc, lists, order)?;
     Ok(figure)
 }
 
@@ -47,6 +48,6 @@ pub fn schnyder_figure(alloc: Global, lists: &Rotations) -> Result<GridFigure, D
 {
     crate::drawing_orders::completion_draws();
     let found = drawing_order(alloc, lists)?;
-    let figure = order_figure(alloc, &found.tri, &found.order)?;
+    let figure = order_figure(alloc, &found.lists, &found.order)?;
     Ok(figure)
 }

@@ -11,7 +11,7 @@ ghost use Rattle.grid_figures.specs.Points.{ArePoints};
 use crate::schnyder_grid::gaps::find_coordinates;
 use canon_order::Order;
 use half_edges::{Counts, HalfMap, Rotations};
-use order_drawings::order_tables::{order_rows, points_at};
+use order_drawings::order_tables::{list_rows, points_at};
 use pg_plane::{GridFigure, Points};
 use std::alloc::{AllocError, Global};
 
@@ -56,11 +56,29 @@ pub fn wood_draw(alloc: Global, tri: &HalfMap, order: &Order) -> Result<GridFigu
     ensures height { IfOk result (λ figure. figure.height ≡ pos (vertex_count tri.now.lists - 2)) }
 {
     tri.facts();
+    let lists = tri.rotations(alloc)?;
+    let figure = list_draw(alloc, &lists, order)?;
+    Ok(figure)
+}
+
+/// The same, by the lists of the map.
+pub fn list_draw(alloc: Global, lists: &Rotations, order: &Order) -> Result<GridFigure, AllocError>
+    requires completed { IsCompleted lists.now }
+    requires few { length lists.now < 4096 }
+    requires order { (base : Dart) × IsCanonicalOrder lists.now base (vertices_of order.now) }
+    requires rank { IsRankOf order.now.rank (vertices_of order.now) }
+    ensures points { IfOk result (λ figure. (base : Dart) (canonical : IsCanonicalOrder lists.now base (vertices_of order.now))
+        → AreWoodPoints lists.now base (vertices_of order.now) canonical.cycle figure.points) }
+    ensures drawing { IfOk result (λ figure. (base : Dart) → HasDart lists.now base.0 base.1 → IsCanonicalOrder lists.now base (vertices_of order.now)
+        → IsSchnyderDrawing lists.now base figure.points) }
+    ensures width { IfOk result (λ figure. figure.width ≡ pos (vertex_count lists.now - 2)) }
+    ensures height { IfOk result (λ figure. figure.height ≡ pos (vertex_count lists.now - 2)) }
+{
     order_drawings::order_tables::ranks_are_places();
     order_drawings::order_runs::order_is_run();
     order_drawings::schnyder_drawings::wood_points_draw();
-    let side = (tri.n() - 2) as i32;
-    let rows = order_rows(alloc, tri, order)?;
+    let side = (lists.len() - 2) as i32;
+    let rows = list_rows(alloc, lists, order)?;
     let points = drawn(alloc, &rows, &order.rank)?;
     Ok(GridFigure {
         points,

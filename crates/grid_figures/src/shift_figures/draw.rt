@@ -5,8 +5,8 @@ ghost use Rattle.plane_laws.specs.Completed.{IsCompleted};
 ghost use Rattle.canon_order.specs.Orders.{IsCanonicalOrder, IsRankOf, vertices_of};
 ghost use Rattle.grid_figures.specs.Refusals.{draw_refusal};
 ghost use Rattle.grid_figures.specs.Names.{Names};
-ghost use Rattle.grid_figures.specs.ShiftFiguresBases.{IsDrawnBy};
-ghost use Rattle.grid_figures.specs.ShiftFiguresFigures.{IsShiftFigure};
+ghost use Rattle.grid_figures.specs.Forms.{IsDrawnBy};
+ghost use Rattle.grid_figures.specs.ShiftFiguresFigures.{shift_form, IsShiftFigure};
 
 use crate::drawing_orders::{DrawRefusal, drawing_order};
 use canon_order::Order;
@@ -20,7 +20,7 @@ fn order_figure(alloc: Global, tri: &HalfMap, order: &Order) -> Result<GridFigur
     requires completed { IsCompleted tri.now.lists }
     requires order { (base : Dart) × IsCanonicalOrder tri.now.lists base (vertices_of order.now) }
     requires rank { IsRankOf order.now.rank (vertices_of order.now) }
-    ensures { IfOk result (IsDrawnBy tri.now.lists (vertices_of order.now)) }
+    ensures { IfOk result (IsDrawnBy shift_form tri.now.lists (vertices_of order.now)) }
 {
     match shift_draw(alloc, tri, order) {
         Ok(figure) => Ok(figure),

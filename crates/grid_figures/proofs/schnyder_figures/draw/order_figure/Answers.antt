@@ -1,9 +1,6 @@
+use Rattle.grid_figures.proofs.FigureLemmas.{drawn_by_wood}
 use Rattle.grid_figures.proofs.schnyder_figures.draw.order_figure.Goals as goal
 
 pub returns : goal.returns
-returns c = λ base dart canonical. record {
-  count = (c.in_ok-figure.ensures.points base canonical).count;
-  drawing = c.in_ok-figure.ensures.drawing base dart canonical;
-  width = c.in_ok-figure.ensures.width;
-  height = c.in_ok-figure.ensures.height;
-}
+returns c = λ to dart canonical.
+    drawn_by_wood c.args.lists.now to c.in_ok-figure.figure (c.in_ok-figure.ensures.points (0, to) canonical).count (c.in_ok-figure.ensures.drawing (0, to) dart canonical) c.in_ok-figure.ensures.width c.in_ok-figure.ensures.height

@@ -1,9 +1,6 @@
+use Rattle.grid_figures.proofs.FigureLemmas.{drawn_by_shift}
 use Rattle.grid_figures.proofs.shift_figures.draw.order_figure.Goals as goal
 
 pub returns-in-Ok : goal.returns-in-Ok
-returns-in-Ok c = λ base dart canonical. record {
-  count = (c.in-Ok.ensures.points base canonical).count;
-  drawing = c.in-Ok.ensures.drawing base dart canonical;
-  width = c.in-Ok.ensures.width;
-  height = c.in-Ok.ensures.height;
-}
+returns-in-Ok c = λ to dart canonical.
+    drawn_by_shift c.args.tri.now.lists to c.in-Ok.figure (c.in-Ok.ensures.points (0, to) canonical).count (c.in-Ok.ensures.drawing (0, to) dart canonical) c.in-Ok.ensures.width c.in-Ok.ensures.height

@@ -1,5 +1,6 @@
 use Rattle.grid_figures.specs.DrawingOrdersLaws.{IsCompletionFor}
-use Rattle.grid_figures.proofs.ShiftFiguresFigureLemmas.{figure_of_drawing}
+use Rattle.grid_figures.specs.ShiftFiguresFigures.{shift_form}
+use Rattle.grid_figures.proofs.FigureLemmas.{figure_of_drawing}
 use Rattle.grid_figures.proofs.shift_figures.draw.shift_figure.Goals as goal
 
 pub order_figure-requires-clause-order : goal.order_figure-requires-clause-order
@@ -9,4 +10,4 @@ pub returns-clause-figure : goal.returns-clause-figure
 returns-clause-figure c =
     let h = c.in_ok-found.ensures.order in
     let for_base : IsCompletionFor c.args.lists.now c.in_ok-found.found.tri.lists h.to = record { simple = h.simple; completed = h.completed; extended = h.extended; base = h.base } in
-    figure_of_drawing c.completion_draws.ensures c.args.lists.now c.in_ok-found.found.tri.lists h.to for_base c.in_ok-figure.figure (c.in_ok-figure.ensures (0, h.to) h.base.dart h.canonical)
+    figure_of_drawing shift_form c.completion_draws.ensures c.args.lists.now c.in_ok-found.found.tri.lists h.to for_base c.in_ok-figure.figure (c.in_ok-figure.ensures h.to h.base.dart h.canonical)
