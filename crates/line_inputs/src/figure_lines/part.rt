@@ -1,5 +1,5 @@
 //! A part of a piece, up to the end of a line.
-ghost use Rattle.std.specs.Prelude.{◌≡◌, ◌+◌, ◌<◌, ◌≤◌, ◌++◌, if◌then◌else◌, List, ℕ, length, IfOk, OnOk};
+ghost use Rattle.std.specs.Prelude.{◌+◌, ◌≤◌, List, ℕ, length, IfOk};
 ghost use Rattle.record_runs.specs.Texts.{input_limit};
 ghost use Rattle.line_inputs.specs.FigureLinesProgress.{Progress};
 ghost use Rattle.line_inputs.specs.FigureLinesState.{IsLinePart, TakesLine};
@@ -8,6 +8,7 @@ ghost use Rattle.figure_text.specs.declared.figure.Figure.{Figure as AFigure};
 use crate::figure_lines::begun::Begun;
 use crate::figure_lines::ending::Ending;
 use crate::figure_lines::step::{After, after_line};
+use crate::whole_lines::{chosen, join};
 use figure_text::{Word, line_length};
 use std::alloc::{AllocError, Global};
 
@@ -29,23 +30,6 @@ pub enum Part {
     Ended(usize),
     /// The input ends badly in it.
     Bad(Ending),
-}
-
-// Puts the end of a line behind its front, but where the end is the whole line.
-fn join(alone: bool, front: &mut Vec<u8>, end: &[u8]) -> Result<(), AllocError>
-    ensures { OnOk result (front.new.items ≡ (if alone then front.old.items else front.old.items ++ end.now)) }
-{
-    if !alone {
-        front.extend_from_slice(end)?;
-    }
-    Ok(())
-}
-
-// The whole line: its end where that is the whole, or else what was joined.
-fn chosen<'a>(alone: bool, end: &'a [u8], joined: &'a [u8]) -> &'a [u8]
-    ensures { result.now ≡ (if alone then end.now else joined.now) }
-{
-    if alone { end } else { joined }
 }
 
 /// Takes a part to the end of the open line, which is then judged, or to its own end. A line that stands whole in the
