@@ -6,7 +6,6 @@ ghost use Rattle.line_inputs.specs.FigureLinesState.{IsLinePart, TakesLine};
 ghost use Rattle.figure_text.specs.declared.figure.Figure.{Figure as AFigure};
 
 use crate::figure_lines::begun::Begun;
-use crate::figure_lines::ending::Ending;
 use crate::figure_lines::step::{After, after_line};
 use crate::whole_lines::{chosen, join};
 use figure_text::{Word, line_length};
@@ -19,17 +18,6 @@ pub enum Line {
     Open(Option<Begun>),
     /// It was closed by so many bytes of the part.
     Closed(usize, After),
-}
-
-/// What a part of a piece made of what had come before.
-#[derive(Drop)]
-pub enum Part {
-    /// So many bytes of it were consumed, and no figure became whole.
-    Goes(usize),
-    /// A figure became whole with so many bytes.
-    Ended(usize),
-    /// The input ends badly in it.
-    Bad(Ending),
 }
 
 /// Takes a part to the end of the open line, which is then judged, or to its own end. A line that stands whole in the
