@@ -9,7 +9,6 @@ pub mod RoundLemmas
 pub mod BarLemmas
 pub mod RectLemmas
 pub mod WitnessLemmas
-pub mod ItemLemmas
 pub mod LawLemmas
 mod Cases
 pub mod UniqueRows

@@ -1,14 +1,12 @@
 -- What lines have given while they are read one by one.
-use Rattle.std.specs.Prelude.{ℕ, ℤ, ◌≤◌, ◌≡◌, List, [], ◌∷◌, ◌++◌, length, drop}
+use Rattle.std.specs.Prelude.{ℕ, ℤ, List, [], ◌∷◌, ◌++◌}
 use Rattle.figure_text.specs.declared.judge.Kind.{Kind}
 use Rattle.figure_text.specs.declared.judge.Kind.TheVariants.{Grid, Bars, Rects, Witness}
 use Rattle.figure_text.specs.declared.rows.Draft.{Draft}
-use Rattle.figure_text.specs.declared.rows.Taken.{Taken}
-use Rattle.figure_text.specs.declared.rows.Taken.TheVariants.{Next, Bad, Limit, NotClosed, NoMemory}
 use Rattle.figure_text.specs.declared.words.Word.{Word}
-use Rattle.figure_text.specs.Words.{words_of, word_at}
+use Rattle.figure_text.specs.Words.{word_at}
 use Rattle.figure_text.specs.Lines.{integer_of}
-use Rattle.figure_text.specs.Reading.{IsLine, IsPlain, IsRow, RowInRange, IsGoodRow, Rows, point_of, vertices_from, of_lines}
+use Rattle.figure_text.specs.Reading.{point_of, vertices_from, of_lines}
 
 -- word number n, as a whole number
 abbrev pub integer_in : ℕ → List Word → ℤ
@@ -58,22 +56,3 @@ with_row Rects draft words =
       y2 = draft.y2 ++ integer_in 6 words ∷ [];
     }
 with_row (Witness kind) draft words = record draft { lists = draft.lists ++ vertices_from 1 words ∷ [] }
-
--- what became of the line that is due at the front of a text, which lies in some bytes
-abbrev pub TakesRow : Kind → ℕ → List ℕ → List ℕ → Draft → Draft → Taken → Type 0
-TakesRow kind place bytes text old new (Next next) =
-    (line : List ℕ) × IsLine text line (drop next bytes) × (next ≤ length bytes) × IsGoodRow kind place line × (new ≡ with_row kind old (words_of line))
-TakesRow kind place bytes text old new Bad =
-    (line : List ℕ) × (rest : List ℕ) × IsLine text line rest × (¬ IsRow kind place (words_of line))
-TakesRow kind place bytes text old new Limit =
-    (line : List ℕ) × (rest : List ℕ) × IsLine text line rest × IsRow kind place (words_of line) × (¬ RowInRange kind (words_of line))
-TakesRow kind place bytes text old new NotClosed = IsPlain text
-TakesRow kind place bytes text old new NoMemory = Unit {0}
-
--- so many lines are taken from the front of a text, and `next` is the offset behind them
-pub record RowsTo (kind : Kind) (bytes text : List ℕ) (next count : ℕ) (draft : Draft) : Type 0 where
-  pub lines : List (List ℕ)
-  pub rows : Rows kind text lines (drop next bytes)
-  pub counted : length lines ≡ count
-  pub within : next ≤ length bytes
-  pub gives : draft ≡ drafted kind lines

@@ -2,9 +2,9 @@
 //!
 //! `print_figure` appends the text of a figure: a first line, and a line for each vertex with its place and its
 //! neighbours in clockwise order, all numbered from 1; for bars a line of the columns comes last. The first line of
-//! a witness holds its graph, and a line of the branches and one for each path follow. `read_figure`
-//! answers what stands at an offset of such a text: a figure, a note that another job wrote, the end, or the bad
-//! line. `laws` says that what is printed is read as the same figure, whatever follows, and that there is one
+//! a witness holds its graph, and a line of the branches and one for each path follow. `Item` is what stands at an
+//! offset of such a text: a figure, a note that another job wrote, or the end; `TextFault` is the bad line; both are
+//! read in `line_inputs`. `laws` says that what is printed is read as the same figure, whatever follows, and that there is one
 //! answer at an offset.
 #![tactic(auto)]
 
@@ -25,9 +25,9 @@ pub use fault::TextFault;
 pub use figure::{Figure, GridJob};
 pub use front::{Front, front_graph, front_line};
 pub use judge::{Judged, Kind};
-pub use lines::line_length;
+pub use lines::{line_length, next_line};
 pub use print::{print_bars, print_figure, print_grid, print_rects};
-pub use read::{Columns, Item, columns_line, draft_rects, draft_witness, read_figure};
+pub use read::{Columns, Item, columns_line, draft_rects, draft_witness};
 pub use rows::{Draft, row_of};
 pub use witness_print::print_witness;
 pub use words::{Name, Signed, Word};

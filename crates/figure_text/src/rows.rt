@@ -1,13 +1,11 @@
 //! The lines of a figure's vertices, one by one.
-ghost use Rattle.std.specs.Prelude.{◌≡◌, ◌+◌, ◌++◌, ◌<◌, ◌≤◌, [], ◌∷◌, length, drop, map, All, OnOk, IfOk, IfSome, MatchResult};
+ghost use Rattle.std.specs.Prelude.{◌≡◌, ◌++◌, [], ◌∷◌, map, All, OnOk, IfSome};
 ghost use Rattle.figure_text.specs.Words.{words_of};
 ghost use Rattle.figure_text.specs.Lines.{vertex_of, signed_value, integer_of, IsVertex, GridInRange, BarsInRange, RectsInRange, WitnessInRange};
-ghost use Rattle.figure_text.specs.Reading.{Judges, IsRow, RowInRange, RowsFail, point_of, vertices_from};
-ghost use Rattle.figure_text.specs.Drafts.{integer_in, with_row, drafted, TakesRow, RowsTo};
+ghost use Rattle.figure_text.specs.Reading.{Judges, IsRow, RowInRange, point_of, vertices_from};
+ghost use Rattle.figure_text.specs.Drafts.{integer_in, with_row};
 
-use crate::TextFault;
 use crate::judge::{Judged, Kind, MOST, behind, judged_row, size_of, word};
-use crate::lines::next_line;
 use crate::words::{Signed, Word, fill_words};
 use map_lists::Rotations;
 use pg_plane::{Ints, Point, Points};
@@ -25,21 +23,6 @@ pub struct Draft {
     pub x2: Ints,
     /// The upper side of each rectangle.
     pub y2: Ints,
-}
-
-/// What became of the line that is due.
-#[derive(Clone, Copy, PartialEq, Eq)]
-pub enum Taken {
-    /// It was taken, and ends before this offset.
-    Next(usize),
-    /// It does not have the due shape.
-    Bad,
-    /// A number is outside its range.
-    Limit,
-    /// It is not closed.
-    NotClosed,
-    /// There was not enough memory.
-    NoMemory,
 }
 
 // The vertex that a number from 1 to 65535 names, from 0.
@@ -176,59 +159,4 @@ pub fn row_of(
         },
         Err(_) => None,
     }
-}
-
-// Takes the line of the next vertex.
-fn take_row(
-    found: &mut Vec<Word>,
-    bytes: &[u8],
-    at: usize,
-    kind: Kind,
-    place: usize,
-    draft: &mut Draft,
-) -> Taken
-    requires { at ≤ length bytes.now }
-    ensures { TakesRow kind place bytes.now (drop at bytes.now) draft.old draft.new result }
-{
-    match next_line(bytes, at) {
-        Some((line, next)) => match row_of(found, kind, place, line, draft) {
-            Some(Judged::Good) => Taken::Next(next),
-            Some(Judged::Bad) => Taken::Bad,
-            Some(Judged::Limit) => Taken::Limit,
-            None => Taken::NoMemory,
-        },
-        None => Taken::NotClosed,
-    }
-}
-
-/// Takes the lines of `n` vertices of a figure that began at line `first`, and answers the offset behind
-/// them.
-pub fn take_rows(
-    alloc: Global,
-    bytes: &[u8],
-    at: usize,
-    kind: Kind,
-    n: usize,
-    first: u32,
-    draft: &mut Draft,
-) -> Result<usize, TextFault>
-    requires within { at ≤ length bytes.now }
-    requires few { n ≤ 4095 }
-    requires line { first ≤ 16777217 }
-    requires empty { draft.old ≡ drafted kind [] }
-    ensures { MatchResult result (λ next. RowsTo kind bytes.now (drop at bytes.now) next n draft.new)
-        (RowsFail kind n (drop at bytes.now) first) }
-{
-    let mut found = Vec::new(alloc);
-    let mut next = at;
-    for i in 0..n {
-        match take_row(&mut found, bytes, next, kind, i + 1, draft) {
-            Taken::Next(behind) => next = behind,
-            Taken::Bad => return Err(TextFault::BadLine(first + 1 + i as u32)),
-            Taken::Limit => return Err(TextFault::Limit(first + 1 + i as u32)),
-            Taken::NotClosed => return Err(TextFault::EndInFigure(first)),
-            Taken::NoMemory => return Err(TextFault::NoMemory),
-        }
-    }
-    Ok(next)
 }

@@ -7,34 +7,11 @@ ghost use Rattle.graph6_text.specs.Header.{header_length};
 pub fn after_graph_header(bytes: &[u8]) -> usize
     ensures { result ≡ header_length bytes.now }
 {
-    match bytes {
-        [
-            b'>',
-            b'>',
-            b'g',
-            b'r',
-            b'a',
-            b'p',
-            b'h',
-            b'6',
-            b'<',
-            b'<',
-            10,
-            ..
-        ] => 11,
-        [
-            b'>',
-            b'>',
-            b'g',
-            b'r',
-            b'a',
-            b'p',
-            b'h',
-            b'6',
-            b'<',
-            b'<',
-            ..
-        ] => 10,
-        _ => 0,
+    if bytes.starts_with(b">>graph6<<\n") {
+        11
+    } else if bytes.starts_with(b">>graph6<<") {
+        10
+    } else {
+        0
     }
 }

@@ -9,8 +9,9 @@ use crate::points::points_of;
 use crate::refusal::Refusal;
 use crate::text::{behind, number, part};
 use crate::witnesses::witness_of;
-use figure_text::{Figure, GridJob, Item, TextFault, print_figure, print_witness, read_figure};
+use figure_text::{Figure, GridJob, Item, TextFault, print_figure, print_witness};
 use half_edges::Rotations;
+use line_inputs::read_figure;
 use pg_plane::{BarFigure, Points};
 use std::alloc::{AllocError, Global};
 

@@ -6,7 +6,7 @@ use Rattle.std.proofs.Math.ListN.{get_or-append}
 use Rattle.std.proofs.Math.Seq.{get_or-append_seam}
 use Rattle.pg_plane.specs.declared.point.Point.{Point}
 use Rattle.pg_plane.specs.Range.{IsInRange, IsWithin}
-use Rattle.std.proofs.lemmas.List.{length-map}
+use Rattle.std.proofs.lemmas.List.{length-map, length-drop, drop-drop}
 use Rattle.std.proofs.lemmas.List.Elements.{All-nil}
 use Rattle.std.proofs.Math.Seq.{drop-length, take-append-add}
 use Rattle.std.specs.Prelude.{Ok, Option, Some, None, IsTrue, IsFalse, ◌⊎◌}
@@ -28,7 +28,7 @@ use Rattle.figure_text.specs.Reading.{IsPlain, IsLine, Rows, RowsFail, IsRow, Ro
 use Rattle.figure_text.specs.Front.{IsFirstOf}
 use Rattle.figure_text.specs.Drafts.{drafted, with_row, integer_in}
 use Rattle.figure_text.specs.Figures.{IsHead, IsBody, Begins, FirstFails, BodyFails, lines_due, columns_of, witness_of}
-use Rattle.figure_text.proofs.UniqueRows.{IsPlain-no_line}
+use Rattle.figure_text.proofs.UniqueRows.{plain-front}
 use Rattle.figure_text.proofs.RowLemmas.{Rows-more as Rows-push, drafted-more}
 use Rattle.figure_text.specs.Laws.{IsAnswer}
 use Rattle.line_inputs.specs.FigureLinesReading.{AreItems, EndsAs, IsReading}
@@ -36,12 +36,12 @@ use Rattle.line_inputs.specs.Heads.{head_kind, HasGraph}
 use Rattle.line_inputs.specs.declared.figure_lines.head.Head.{Head}
 use Rattle.line_inputs.specs.declared.figure_lines.head.Head.TheVariants.{Grid as GridHead, Bars as BarsHead, Rects as RectsHead, Witness as WitnessHead}
 use Rattle.line_inputs.specs.Given.{AreDrawn}
-use Rattle.line_inputs.specs.FigureLinesProgress.{IsBegun, IsDue, Progress, Closes}
+use Rattle.line_inputs.specs.FigureLinesProgress.{IsBegun, IsDue, Progress, Makes, Closes}
 use Rattle.line_inputs.specs.Steps.{no_lines, IsFresh, GoesOn, IsMadeOf, IsGrown}
 use Rattle.line_inputs.specs.declared.figure_lines.step.After.{After}
 use Rattle.line_inputs.specs.declared.figure_lines.step.After.TheVariants.{Goes, Whole, Bad}
 use Rattle.line_inputs.specs.declared.figure_lines.ending.Ending.{Ending}
-use Rattle.line_inputs.specs.declared.figure_lines.ending.Ending.TheVariants as ending
+use Rattle.line_inputs.specs.declared.figure_lines.ending.Ending.TheVariants.{Well, BadLine, Limit, EndInFigure, TooLong}
 use Rattle.line_inputs.specs.declared.figure_lines.begun.Begun.{Begun}
 use Rattle.line_inputs.specs.declared.figure_lines.begun.Due.{Due}
 use Rattle.line_inputs.specs.declared.figure_lines.begun.Due.TheVariants.{Row, Columns}
@@ -122,115 +122,38 @@ fails-columns_limit {n = n} {first = first} line rest b full plain shaped not =
 closed-more : (bytes more : List ℕ) → (bytes ++ 10 ∷ []) ++ more ≡ bytes ++ (10 ∷ more)
 closed-more bytes more = append_assoc bytes (10 ∷ []) more
 
--- the bytes that are read of an input
-read-parts : (consumed tail : List ℕ) → length consumed < input_limit → take input_limit ((consumed ++ 10 ∷ []) ++ tail) ≡ consumed ++ (10 ∷ take (input_limit - (length consumed + 1)) tail)
-read-parts consumed tail short =
-    let long : length (consumed ++ 10 ∷ []) ≡ length consumed + 1 = length-append consumed (10 ∷ []) in
-    let k : ℕ = input_limit - (length consumed + 1) in
-    let e : input_limit ≡ length (consumed ++ 10 ∷ []) + k = omega arith in
-    ap (λ (n : ℕ). take n ((consumed ++ 10 ∷ []) ++ tail)) e ∙ take-append-add (consumed ++ 10 ∷ []) tail k ∙ closed-more consumed (take k tail)
+-- a text that fails however it goes on
+fails-closed : (text : List ℕ) (first : ℕ) (f : TextFault) → ((more : List ℕ) → Fails (text ++ (10 ∷ more)) first f) → (more : List ℕ) → Fails ((text ++ 10 ∷ []) ++ more) first f
+fails-closed text first f fails more = subst (λ (x : List ℕ). Fails x first f) (sym (closed-more text more)) (fails more)
 
-module _ (consumed : List ℕ) (figures : List Figure) (number : ℕ) (line : List ℕ) (open_figure : Option Begun) (p : Progress consumed figures number line open_figure) where
-  -- the text behind the items, with the byte that closes its last line
-  text-more : (more : List ℕ) → drop p.at consumed ++ (10 ∷ more) ≡ drop p.at (consumed ++ (10 ∷ more))
-  text-more more = sym (drop-more consumed (10 ∷ more) p.at p.within)
+-- a line outside a figure
+module _ (number : ℕ) (line : List ℕ) (plain : IsPlain line) where
+  -- it is bad
+  pub makes-bad : IsFalse (is_note line) → ¬ IsFirstLine line → Makes number number (line ++ 10 ∷ []) (Bad (BadLine number))
+  makes-bad other not = (tt, fails-closed line number (fault.BadLine number) (λ more. fails-bad line more number plain other not))
 
-  items-more : (more : List ℕ) → AreItems (consumed ++ (10 ∷ more)) 0 1 p.items p.at p.first
-  items-more more = AreItems-more consumed (10 ∷ more) 0 1 p.items p.at p.first (omega arith) p.are
+  pub makes-limit : IsFalse (is_note line) → IsFirstLine line → ¬ FirstInRange line → Makes number number (line ++ 10 ∷ []) (Bad (Limit number))
+  makes-limit other shape not = (tt, fails-closed line number (fault.Limit number) (λ more. fails-limit line more number plain other shape not))
 
-  -- an input ends badly with the line that is closed
-  pub ends-here : (end : Ending) → length consumed < input_limit → ((more : List ℕ) (total : ℕ) → EndsAs total (consumed ++ (10 ∷ more)) p.at p.first end) → (tail : List ℕ) → IsReading ((consumed ++ 10 ∷ []) ++ tail) figures end
-  ends-here end short ends tail =
-      let parts = read-parts consumed tail short in
-      let more : List ℕ = take (input_limit - (length consumed + 1)) tail in
-      record {
-        items = p.items;
-        at = p.at;
-        line = p.first;
-        are = subst (λ (x : List ℕ). AreItems x 0 1 p.items p.at p.first) (sym parts) (items-more more);
-        figures_are = p.figures_are;
-        ends = subst (λ (x : List ℕ). EndsAs (length ((consumed ++ 10 ∷ []) ++ tail)) x p.at p.first end) (sym parts) (ends more (length ((consumed ++ 10 ∷ []) ++ tail)));
-      }
-
-  pub ends-bad_line : (k : ℕ) → length consumed < input_limit → ((more : List ℕ) → Fails (drop p.at consumed ++ (10 ∷ more)) p.first (fault.BadLine k)) → ((more : List ℕ) → (l : List ℕ) × (r : List ℕ) × IsLine (drop p.at consumed ++ (10 ∷ more)) l r) → (tail : List ℕ) → IsReading ((consumed ++ 10 ∷ []) ++ tail) figures (ending.BadLine k)
-  ends-bad_line k short fails front =
-      ends-here (ending.BadLine k) short
-      (λ more total. (
-        subst (λ (x : List ℕ). Fails x p.first (fault.BadLine k)) (text-more more) (fails more),
-        inr (λ plain. IsPlain-no_line (drop p.at consumed ++ (10 ∷ more)) (front more).0 (front more).1 (subst IsPlain (sym (text-more more)) plain) (front more).2),
-      ))
-
-  pub ends-limit : (k : ℕ) → length consumed < input_limit → ((more : List ℕ) → Fails (drop p.at consumed ++ (10 ∷ more)) p.first (fault.Limit k)) → (tail : List ℕ) → IsReading ((consumed ++ 10 ∷ []) ++ tail) figures (ending.Limit k)
-  ends-limit k short fails =
-      ends-here (ending.Limit k) short (λ more total. subst (λ (x : List ℕ). Fails x p.first (fault.Limit k)) (text-more more) (fails more))
-
-  -- nothing is left behind what was consumed
-  none-left : drop (length (consumed ++ 10 ∷ [])) (consumed ++ 10 ∷ []) ≡ []
-  none-left = drop-length (consumed ++ 10 ∷ [])
-
-module _ (consumed : List ℕ) (figures : List Figure) (number : ℕ) (line : List ℕ) (p : Progress consumed figures number line None) where
-  -- the line stands alone behind the items
-  line-here : (more : List ℕ) → line ++ (10 ∷ more) ≡ drop p.at consumed ++ (10 ∷ more)
-  line-here more = ap (λ (x : List ℕ). x ++ (10 ∷ more)) (sym p.stands.1)
-
-  front : (more : List ℕ) → (l : List ℕ) × (r : List ℕ) × IsLine (drop p.at consumed ++ (10 ∷ more)) l r
-  front more = (line, more, subst (λ (x : List ℕ). IsLine x line more) (line-here more) (IsLine-here line more p.plain))
-
-  fails-here : (f : TextFault) → ((more : List ℕ) → Fails (line ++ (10 ∷ more)) number f) → (more : List ℕ) → Fails (drop p.at consumed ++ (10 ∷ more)) p.first f
-  fails-here f fails more = subst (λ (x : List ℕ). Fails x p.first f) (line-here more) (subst (λ (n : ℕ). Fails (line ++ (10 ∷ more)) n f) p.stands.0 (fails more))
-
-  pub closes-bad : length consumed < input_limit → IsFalse (is_note line) → ¬ IsFirstLine line → (tail : List ℕ) → IsReading ((consumed ++ 10 ∷ []) ++ tail) figures (ending.BadLine number)
-  closes-bad short other not =
-      ends-bad_line consumed figures number line None p number short (fails-here (fault.BadLine number) (λ more. fails-bad line more number p.plain other not)) front
-
-  pub closes-limit : length consumed < input_limit → IsFalse (is_note line) → IsFirstLine line → ¬ FirstInRange line → (tail : List ℕ) → IsReading ((consumed ++ 10 ∷ []) ++ tail) figures (ending.Limit number)
-  closes-limit short other shape not =
-      ends-limit consumed figures number line None p number short (fails-here (fault.Limit number) (λ more. fails-limit line more number p.plain other shape not))
-
-  whole-text : line ++ 10 ∷ [] ≡ drop p.at (consumed ++ 10 ∷ [])
-  whole-text = line-here [] ∙ text-more consumed figures number line None p []
-
-  -- the line is a note
-  pub closes-note : IsTrue (is_note line) → Progress (consumed ++ 10 ∷ []) figures (number + 1) [] None
-  closes-note note =
-      let end : ℕ = length (consumed ++ 10 ∷ []) in
-      let is : IsLine (drop p.at (consumed ++ 10 ∷ [])) line [] = subst (λ (x : List ℕ). IsLine x line []) whole-text (IsLine-here line [] p.plain) in
-      let stands : IsAnswer (consumed ++ 10 ∷ []) p.at p.first (Ok (Note end (number + 1))) =
-      (line, subst (λ (x : List ℕ). IsLine (drop p.at (consumed ++ 10 ∷ [])) line x) (sym (none-left consumed figures number line None p)) is, note, omega arith, ap (λ (n : ℕ). n + 1) p.stands.0) in
-      record {
-        items = p.items ++ Note end (number + 1) ∷ [];
-        at = end;
-        first = number + 1;
-        are = AreItems-note (consumed ++ 10 ∷ []) 0 1 p.items p.at p.first end (number + 1) (items-more consumed figures number line None p []) stands;
-        figures_are = p.figures_are ∙ sym (figures_of-note p.items end (number + 1));
-        within = omega arith;
-        plain = IsPlain-none;
-        stands = (refl, none-left consumed figures number line None p);
-      }
+  -- it is a note
+  pub makes-note : IsTrue (is_note line) → Makes number number (line ++ 10 ∷ []) (Goes None)
+  makes-note note =
+      let le : length (line ++ 10 ∷ []) ≤ length (line ++ 10 ∷ []) = omega arith in
+      (line, subst (λ (x : List ℕ). IsLine (line ++ 10 ∷ []) line x) (sym (drop-length (line ++ 10 ∷ []))) (IsLine-here line [] plain), note, le, refl)
 
   -- it begins a figure
-  pub closes-head : (head : Head) (n : ℕ) (begun : Begun) → begun.first ≡ number → IsFresh head n begun.due → IsFalse (is_note line) → IsHead (head_kind head) n line → HasGraph head line → Progress (consumed ++ 10 ∷ []) figures (number + 1) [] (Some begun)
-  closes-head head n begun first fresh other says graph =
-      let is : IsLine (drop p.at (consumed ++ 10 ∷ [])) line [] = subst (λ (x : List ℕ). IsLine x line []) whole-text (IsLine-here line [] p.plain) in
-      let begins : IsBegun head n p.first (number + 1) no_lines (drop p.at (consumed ++ 10 ∷ [])) [] = record {
+  pub makes-head : (head : Head) (n : ℕ) (begun : Begun) → begun.first ≡ number → IsFresh head n begun.due → IsFalse (is_note line) → IsHead (head_kind head) n line → HasGraph head line → Makes number number (line ++ 10 ∷ []) (Goes (Some begun))
+  makes-head head n begun first fresh other says graph =
+      let begins : IsBegun head n number (number + 1) no_lines (line ++ 10 ∷ []) [] = record {
         body = [];
-        begins = record { line = line; is = is; other = other; head = says };
+        begins = record { line = line; is = IsLine-here line [] plain; other = other; head = says };
         graph = graph;
         lines = [];
         rows = record { parts = refl; plain = All-nil IsPlain; good = λ i h. absurd (omega arith) };
-        counted = ap (λ (n : ℕ). n + 1) p.stands.0 ∙ (omega arith);
+        counted = omega arith;
         gives = none-drafted (head_kind head);
       } in
-      record {
-        items = p.items;
-        at = p.at;
-        first = p.first;
-        are = items-more consumed figures number line None p [];
-        figures_are = p.figures_are;
-        within = within-more consumed (10 ∷ []) p.at p.within;
-        plain = IsPlain-none;
-        stands = (first ∙ p.stands.0, is-due begun.due fresh begins);
-      }
+      (first, is-due begun.due fresh begins)
     where
       none-drafted : (kind : Kind) → no_lines ≡ drafted kind []
       none-drafted (Grid job) = refl
@@ -238,55 +161,27 @@ module _ (consumed : List ℕ) (figures : List Figure) (number : ℕ) (line : Li
       none-drafted Rects = refl
       none-drafted (Witness kind) = refl
 
-      is-due : (due : Due) → IsFresh head n due → IsBegun head n p.first (number + 1) no_lines (drop p.at (consumed ++ 10 ∷ [])) [] → IsDue due p.first (number + 1) (drop p.at (consumed ++ 10 ∷ [])) []
+      is-due : (due : Due) → IsFresh head n due → IsBegun head n number (number + 1) no_lines (line ++ 10 ∷ []) [] → IsDue due number (number + 1) (line ++ 10 ∷ []) []
       is-due (Row rows) (same_head, same_n, same_draft) b = rw (same_head, same_n, same_draft) b
       is-due (Columns bars) none b = absurd none
 
 -- the line of a figure that is due
-module _ (consumed : List ℕ) (figures : List Figure) (number : ℕ) (line : List ℕ) (old : Begun) (p : Progress consumed figures number line (Some old)) where
-  -- the figure goes on
-  pub goes_on : (new : Begun) → new.first ≡ old.first → IsDue new.due p.first (number + 1) (drop p.at (consumed ++ 10 ∷ [])) [] → Progress (consumed ++ 10 ∷ []) figures (number + 1) [] (Some new)
-  goes_on new first due = record {
-    items = p.items;
-    at = p.at;
-    first = p.first;
-    are = items-more consumed figures number line (Some old) p [];
-    figures_are = p.figures_are;
-    within = within-more consumed (10 ∷ []) p.at p.within;
-    plain = IsPlain-none;
-    stands = (first ∙ p.stands.0, due);
-  }
-
+module _ (text : List ℕ) (first number : ℕ) (line : List ℕ) (plain : IsPlain line) where
   -- the figure is whole
-  pub is_whole : (kind : Kind) (n : ℕ) (body : List ℕ) (fig : Figure) (begins : Begins kind n (drop p.at (consumed ++ 10 ∷ [])) body) → IsBody kind n begins.line body [] fig → number + 1 ≡ p.first + 1 + lines_due kind n → Progress (consumed ++ 10 ∷ []) (figures ++ fig ∷ []) (number + 1) [] None
+  is_whole : (kind : Kind) (n : ℕ) (body : List ℕ) (fig : Figure) (begins : Begins kind n (text ++ 10 ∷ []) body) → IsBody kind n begins.line body [] fig → number + 1 ≡ first + 1 + lines_due kind n → Makes first number (text ++ 10 ∷ []) (Whole fig)
   is_whole kind n body fig begins is counted =
-      let end : ℕ = length (consumed ++ 10 ∷ []) in
-      let left = none-left consumed figures number line (Some old) p in
-      let stands : IsAnswer (consumed ++ 10 ∷ []) p.at p.first (Ok (Drawn fig end (number + 1))) =
-      (kind, n, body, begins, (subst (λ (x : List ℕ). IsBody kind n begins.line body x fig) (sym left) is, (let le : end ≤ length (consumed ++ 10 ∷ []) = omega arith in le), counted)) in
-      record {
-        items = p.items ++ Drawn fig end (number + 1) ∷ [];
-        at = end;
-        first = number + 1;
-        are = AreItems-drawn (consumed ++ 10 ∷ []) 0 1 p.items p.at p.first fig end (number + 1) (items-more consumed figures number line (Some old) p []) stands;
-        figures_are = ap (λ (x : List Figure). x ++ fig ∷ []) p.figures_are ∙ sym (figures_of-drawn p.items fig end (number + 1));
-        within = omega arith;
-        plain = IsPlain-none;
-        stands = (refl, left);
-      }
+      let le : length (text ++ 10 ∷ []) ≤ length (text ++ 10 ∷ []) = omega arith in
+      (kind, n, body, begins, (subst (λ (x : List ℕ). IsBody kind n begins.line body x fig) (sym (drop-length (text ++ 10 ∷ []))) is, le, counted))
 
-  module _ (head : Head) (n : ℕ) (draft : Draft) (b : IsBegun head n p.first number draft (drop p.at consumed) line) where
-    begun-more : (more : List ℕ) → IsBegun head n p.first number draft (drop p.at consumed ++ (10 ∷ more)) (line ++ (10 ∷ more))
-    begun-more more = IsBegun-more head n p.first number draft (drop p.at consumed) line (10 ∷ more) b
-
-    due-front : (more : List ℕ) → (l : List ℕ) × (r : List ℕ) × IsLine (drop p.at consumed ++ (10 ∷ more)) l r
-    due-front more = let m = (begun-more more).begins in (m.line, (begun-more more).body, m.is)
+  module _ (head : Head) (n : ℕ) (draft : Draft) (b : IsBegun head n first number draft text line) where
+    begun-more : (more : List ℕ) → IsBegun head n first number draft (text ++ (10 ∷ more)) (line ++ (10 ∷ more))
+    begun-more more = IsBegun-more head n first number draft text line (10 ∷ more) b
 
     -- what is read of it so far
-    begins-now : Begins (head_kind head) n (drop p.at (consumed ++ 10 ∷ [])) (b.body ++ 10 ∷ [])
+    begins-now : Begins (head_kind head) n (text ++ 10 ∷ []) (b.body ++ 10 ∷ [])
     begins-now = record {
       line = b.begins.line;
-      is = subst (λ (x : List ℕ). IsLine x b.begins.line (b.body ++ 10 ∷ [])) (text-more consumed figures number line (Some old) p []) (IsLine-more (drop p.at consumed) b.begins.line b.body (10 ∷ []) b.begins.is);
+      is = IsLine-more text b.begins.line b.body (10 ∷ []) b.begins.is;
       other = b.begins.other;
       head = b.begins.head;
     }
@@ -295,29 +190,27 @@ module _ (consumed : List ℕ) (figures : List Figure) (number : ℕ) (line : Li
     rows-now = Rows-more (head_kind head) b.body b.lines line (10 ∷ []) b.rows
 
     -- the line of a vertex is bad
-    pub closes-bad_row : length draft.lists < n → length consumed < input_limit → ¬ IsRow (head_kind head) (length draft.lists + 1) (words_of line) → (tail : List ℕ) → IsReading ((consumed ++ 10 ∷ []) ++ tail) figures (ending.BadLine number)
+    pub makes-bad_row : length draft.lists < n → ¬ IsRow (head_kind head) (length draft.lists + 1) (words_of line) → Makes first number (text ++ 10 ∷ []) (Bad (BadLine number))
     unfolding begun-more IsBegun-more
-    closes-bad_row few short not =
-        ends-bad_line consumed figures number line (Some old) p number short
-        (λ more. fails-row line more (begun-more more) (subst (λ (k : ℕ). k < n) (lists-lines b) few) p.plain (subst (λ (k : ℕ). ¬ IsRow (head_kind head) (k + 1) (words_of line)) (lists-lines b) not)) due-front
+    makes-bad_row few not =
+        (tt, fails-closed text first (fault.BadLine number) (λ more. fails-row line more (begun-more more) (subst (λ (k : ℕ). k < n) (lists-lines b) few) plain (subst (λ (k : ℕ). ¬ IsRow (head_kind head) (k + 1) (words_of line)) (lists-lines b) not)))
 
-    pub closes-far_row : length draft.lists < n → length consumed < input_limit → IsRow (head_kind head) (length draft.lists + 1) (words_of line) → ¬ RowInRange (head_kind head) (words_of line) → (tail : List ℕ) → IsReading ((consumed ++ 10 ∷ []) ++ tail) figures (ending.Limit number)
+    pub makes-far_row : length draft.lists < n → IsRow (head_kind head) (length draft.lists + 1) (words_of line) → ¬ RowInRange (head_kind head) (words_of line) → Makes first number (text ++ 10 ∷ []) (Bad (Limit number))
     unfolding begun-more IsBegun-more
-    closes-far_row few short shaped not =
-        ends-limit consumed figures number line (Some old) p number short
-        (λ more. fails-row_limit line more (begun-more more) (subst (λ (k : ℕ). k < n) (lists-lines b) few) p.plain (subst (λ (k : ℕ). IsRow (head_kind head) (k + 1) (words_of line)) (lists-lines b) shaped) not)
+    makes-far_row few shaped not =
+        (tt, fails-closed text first (fault.Limit number) (λ more. fails-row_limit line more (begun-more more) (subst (λ (k : ℕ). k < n) (lists-lines b) few) plain (subst (λ (k : ℕ). IsRow (head_kind head) (k + 1) (words_of line)) (lists-lines b) shaped) not))
 
     module _ (good : IsGoodRow (head_kind head) (length draft.lists + 1) line) (draft' : Draft) (is : draft' ≡ with_row (head_kind head) draft (words_of line)) where
       rows-push : Rows (head_kind head) (b.body ++ 10 ∷ []) (b.lines ++ line ∷ []) []
-      rows-push = Rows-push (head_kind head) (b.body ++ 10 ∷ []) b.lines line [] rows-now p.plain (subst (λ (k : ℕ). IsGoodRow (head_kind head) (k + 1) line) (lists-lines b) good)
+      rows-push = Rows-push (head_kind head) (b.body ++ 10 ∷ []) b.lines line [] rows-now plain (subst (λ (k : ℕ). IsGoodRow (head_kind head) (k + 1) line) (lists-lines b) good)
 
-      counted-push : number + 1 ≡ p.first + 1 + length (b.lines ++ line ∷ [])
+      counted-push : number + 1 ≡ first + 1 + length (b.lines ++ line ∷ [])
       counted-push = let c = b.counted in let l = length-append b.lines (line ∷ []) in omega arith
 
       gives-push : draft' ≡ drafted (head_kind head) (b.lines ++ line ∷ [])
       gives-push = is ∙ ap (λ (d : Draft). with_row (head_kind head) d (words_of line)) b.gives ∙ sym (drafted-more (head_kind head) b.lines line)
 
-      begun-push : IsBegun head n p.first (number + 1) draft' (drop p.at (consumed ++ 10 ∷ [])) []
+      begun-push : IsBegun head n first (number + 1) draft' (text ++ 10 ∷ []) []
       unfolding begins-now
       begun-push = record {
         body = b.body ++ 10 ∷ [];
@@ -333,14 +226,14 @@ module _ (consumed : List ℕ) (figures : List Figure) (number : ℕ) (line : Li
       lists-push = ap (λ (d : Draft). length d.lists) gives-push ∙ drafted-lists (head_kind head) (b.lines ++ line ∷ [])
 
     -- a figure is whole with this line
-    closes-made : IsGoodRow (head_kind head) (length draft.lists + 1) line → (draft' : Draft) → draft' ≡ with_row (head_kind head) draft (words_of line) → length draft'.lists ≡ n → (fig : Figure) → IsMadeOf head draft' fig → Progress (consumed ++ 10 ∷ []) (figures ++ fig ∷ []) (number + 1) [] None
+    makes-made : IsGoodRow (head_kind head) (length draft.lists + 1) line → (draft' : Draft) → draft' ≡ with_row (head_kind head) draft (words_of line) → length draft'.lists ≡ n → (fig : Figure) → IsMadeOf head draft' fig → Makes first number (text ++ 10 ∷ []) (Whole fig)
     unfolding begins-now
-    closes-made good draft' is full fig made =
+    makes-made good draft' is full fig made =
         let rows = rows-push good draft' is in
         let count : length (b.lines ++ line ∷ []) ≡ n = sym (lists-push good draft' is) ∙ full in
-        by_head head n (b.body ++ 10 ∷ []) (b.lines ++ line ∷ []) draft' fig begins-now b.graph rows count (gives-push good draft' is) made (counted-push good draft' is ∙ ap (λ (k : ℕ). p.first + 1 + k) count)
+        by_head head n (b.body ++ 10 ∷ []) (b.lines ++ line ∷ []) draft' fig begins-now b.graph rows count (gives-push good draft' is) made (counted-push good draft' is ∙ ap (λ (k : ℕ). first + 1 + k) count)
       where
-        by_head : (head : Head) (n : ℕ) (body : List ℕ) (lines : List (List ℕ)) (draft : Draft) (fig : Figure) (begins : Begins (head_kind head) n (drop p.at (consumed ++ 10 ∷ [])) body) → HasGraph head begins.line → Rows (head_kind head) body lines [] → length lines ≡ n → draft ≡ drafted (head_kind head) lines → IsMadeOf head draft fig → number + 1 ≡ p.first + 1 + n → Progress (consumed ++ 10 ∷ []) (figures ++ fig ∷ []) (number + 1) [] None
+        by_head : (head : Head) (n : ℕ) (body : List ℕ) (lines : List (List ℕ)) (draft : Draft) (fig : Figure) (begins : Begins (head_kind head) n (text ++ 10 ∷ []) body) → HasGraph head begins.line → Rows (head_kind head) body lines [] → length lines ≡ n → draft ≡ drafted (head_kind head) lines → IsMadeOf head draft fig → number + 1 ≡ first + 1 + n → Makes first number (text ++ 10 ∷ []) (Whole fig)
         by_head (GridHead job) n body lines draft fig begins graph rows count gives made counted =
             is_whole (Grid job) n body fig begins (lines, rows, count, made ∙ ap (λ (d : Draft). GridFigure job d.lists d.points) gives) counted
         by_head BarsHead n body lines draft fig begins graph rows count gives none counted = absurd none
@@ -350,51 +243,147 @@ module _ (consumed : List ℕ) (figures : List Figure) (number : ℕ) (line : Li
             is_whole (Witness kind) n body fig begins (graph, lines, of, rows, count, made ∙ ap (λ (d : Draft). WitnessFigure graph (witness_of kind d.lists)) gives) counted
 
     -- a figure goes on with another such line or with that of the columns
-    due-push : IsGoodRow (head_kind head) (length draft.lists + 1) line → (draft' : Draft) → draft' ≡ with_row (head_kind head) draft (words_of line) → length draft'.lists ≤ n → (due : Due) → GoesOn head n draft' due → IsDue due p.first (number + 1) (drop p.at (consumed ++ 10 ∷ [])) []
+    due-push : IsGoodRow (head_kind head) (length draft.lists + 1) line → (draft' : Draft) → draft' ≡ with_row (head_kind head) draft (words_of line) → length draft'.lists ≤ n → (due : Due) → GoesOn head n draft' due → IsDue due first (number + 1) (text ++ 10 ∷ []) []
     due-push good draft' is within (Row rows) (few, same_head, same_n, same_draft) = rw (same_head, same_n, same_draft) (begun-push good draft' is)
     due-push good draft' is within (Columns bars) (full, same_head, same_draft) =
         let count : n ≡ length draft'.lists = omega arith in
         all_bars head n draft' bars.draft same_head count same_draft (begun-push good draft' is)
       where
-        all_bars : (head : Head) (n : ℕ) (draft new : Draft) → head ≡ BarsHead → n ≡ length draft.lists → new ≡ draft → IsBegun head n p.first (number + 1) draft (drop p.at (consumed ++ 10 ∷ [])) [] → IsBegun BarsHead (length new.lists) p.first (number + 1) new (drop p.at (consumed ++ 10 ∷ [])) []
+        all_bars : (head : Head) (n : ℕ) (draft new : Draft) → head ≡ BarsHead → n ≡ length draft.lists → new ≡ draft → IsBegun head n first (number + 1) draft (text ++ 10 ∷ []) [] → IsBegun BarsHead (length new.lists) first (number + 1) new (text ++ 10 ∷ []) []
         all_bars head n draft new same_head count same b =
-            rw same (subst (λ (k : Head). IsBegun k (length draft.lists) p.first (number + 1) draft (drop p.at (consumed ++ 10 ∷ [])) []) same_head (subst (λ (k : ℕ). IsBegun head k p.first (number + 1) draft (drop p.at (consumed ++ 10 ∷ [])) []) count b))
+            rw same (subst (λ (k : Head). IsBegun k (length draft.lists) first (number + 1) draft (text ++ 10 ∷ []) []) same_head (subst (λ (k : ℕ). IsBegun head k first (number + 1) draft (text ++ 10 ∷ []) []) count b))
 
     -- the line is good
-    pub closes-grown : IsGoodRow (head_kind head) (length draft.lists + 1) line → (draft' : Draft) → draft' ≡ with_row (head_kind head) draft (words_of line) → length draft'.lists ≤ n → (after : After) → IsGrown head n old.first draft' after → Closes (consumed ++ 10 ∷ []) figures number after
-    closes-grown good draft' is within (Goes (Some new)) (first, due) = goes_on new first (due-push good draft' is within new.due due)
-    closes-grown good draft' is within (Goes None) none = absurd none
-    closes-grown good draft' is within (Whole fig) (full, made) = closes-made good draft' is (omega arith) fig made
-    closes-grown good draft' is within (Bad end) none = absurd none
+    pub makes-grown : IsGoodRow (head_kind head) (length draft.lists + 1) line → (draft' : Draft) → draft' ≡ with_row (head_kind head) draft (words_of line) → length draft'.lists ≤ n → (start : ℕ) → start ≡ first → (after : After) → IsGrown head n start draft' after → Makes first number (text ++ 10 ∷ []) after
+    makes-grown good draft' is within start here (Goes (Some new)) (same, due) = (same ∙ here, due-push good draft' is within new.due due)
+    makes-grown good draft' is within start here (Goes None) none = absurd none
+    makes-grown good draft' is within start here (Whole fig) (full, made) = makes-made good draft' is (omega arith) fig made
+    makes-grown good draft' is within start here (Bad end) none = absurd none
 
   -- the line of the columns
-  module _ (draft : Draft) (b : IsBegun BarsHead (length draft.lists) p.first number draft (drop p.at consumed) line) where
-    pub closes-bad_columns : length consumed < input_limit → ¬ IsColumnsLine (words_of line) → (tail : List ℕ) → IsReading ((consumed ++ 10 ∷ []) ++ tail) figures (ending.BadLine number)
+  module _ (draft : Draft) (b : IsBegun BarsHead (length draft.lists) first number draft text line) where
+    pub makes-bad_columns : ¬ IsColumnsLine (words_of line) → Makes first number (text ++ 10 ∷ []) (Bad (BadLine number))
     unfolding begun-more IsBegun-more
-    closes-bad_columns short not =
-        ends-bad_line consumed figures number line (Some old) p number short
-        (λ more. fails-columns line more (begun-more BarsHead (length draft.lists) draft b more) (sym (lists-lines b)) p.plain not) (due-front BarsHead (length draft.lists) draft b)
+    makes-bad_columns not =
+        (tt, fails-closed text first (fault.BadLine number) (λ more. fails-columns line more (begun-more BarsHead (length draft.lists) draft b more) (sym (lists-lines b)) plain not))
 
-    pub closes-far_columns : length consumed < input_limit → IsColumnsLine (words_of line) → ¬ ColumnsInRange (words_of line) → (tail : List ℕ) → IsReading ((consumed ++ 10 ∷ []) ++ tail) figures (ending.Limit number)
+    pub makes-far_columns : IsColumnsLine (words_of line) → ¬ ColumnsInRange (words_of line) → Makes first number (text ++ 10 ∷ []) (Bad (Limit number))
     unfolding begun-more IsBegun-more
-    closes-far_columns short shaped not =
-        ends-limit consumed figures number line (Some old) p number short
-        (λ more. fails-columns_limit line more (begun-more BarsHead (length draft.lists) draft b more) (sym (lists-lines b)) p.plain shaped not)
+    makes-far_columns shaped not =
+        (tt, fails-closed text first (fault.Limit number) (λ more. fails-columns_limit line more (begun-more BarsHead (length draft.lists) draft b more) (sym (lists-lines b)) plain shaped not))
 
-    pub closes-columns : IsColumnsLine (words_of line) → ColumnsInRange (words_of line) → (fig : Figure) → fig ≡ BarsFigure draft.lists (record { y = draft.y; x1 = draft.x1; x2 = draft.x2; column = columns_of (words_of line) }) → Progress (consumed ++ 10 ∷ []) (figures ++ fig ∷ []) (number + 1) [] None
-    closes-columns shaped range fig is =
+    pub makes-columns : IsColumnsLine (words_of line) → ColumnsInRange (words_of line) → (fig : Figure) → fig ≡ BarsFigure draft.lists (record { y = draft.y; x1 = draft.x1; x2 = draft.x2; column = columns_of (words_of line) }) → Makes first number (text ++ 10 ∷ []) (Whole fig)
+    makes-columns shaped range fig is =
         let n : ℕ = length draft.lists in
         is_whole Bars n (b.body ++ 10 ∷ []) fig (begins-now BarsHead n draft b) (
           b.lines,
           line,
           rows-now BarsHead n draft b,
           sym (lists-lines b),
-          p.plain,
+          plain,
           shaped,
           range,
           is ∙ ap (λ (d : Draft). BarsFigure d.lists (record { y = d.y; x1 = d.x1; x2 = d.x2; column = columns_of (words_of line) })) b.gives,
         )
         (let c = b.counted in let l = lists-lines b in omega arith)
+
+-- an item at the front of what stands behind an offset
+pub drawn-at : (bytes : List ℕ) (at first : ℕ) (fig : Figure) (next after : ℕ) → at ≤ length bytes → IsAnswer (drop at bytes) 0 first (Ok (Drawn fig next after)) → IsAnswer bytes at first (Ok (Drawn fig (at + next) after))
+drawn-at bytes at first fig next after within (kind, n, text, begins, (body, inside, counted)) =
+    let l = length-drop at bytes in
+    let le : at + next ≤ length bytes = omega arith in
+    (kind, n, text, begins, (subst (λ (x : List ℕ). IsBody kind n begins.line text x fig) (drop-drop next at bytes) body, le, counted))
+
+pub note-at : (bytes : List ℕ) (at first next after : ℕ) → at ≤ length bytes → IsAnswer (drop at bytes) 0 first (Ok (Note next after)) → IsAnswer bytes at first (Ok (Note (at + next) after))
+note-at bytes at first next after within (line, is, note, inside, counted) =
+    let l = length-drop at bytes in
+    let le : at + next ≤ length bytes = omega arith in
+    (line, subst (λ (x : List ℕ). IsLine (drop at bytes) line x) (drop-drop next at bytes) is, note, le, counted)
+
+-- what a closed line makes of what stands behind the items, and what is read then
+module _ (consumed : List ℕ) (figures : List Figure) (number : ℕ) (line : List ℕ) (before : Option Begun) (p : Progress consumed figures number line before) where
+  abbrev whole : List ℕ
+  whole = consumed ++ 10 ∷ []
+
+  abbrev text : List ℕ
+  text = drop p.at whole
+
+  inside : p.at ≤ length whole
+  inside = within-more consumed (10 ∷ []) p.at p.within
+
+  items-now : AreItems whole 0 1 p.items p.at p.first
+  items-now = AreItems-more consumed (10 ∷ []) 0 1 p.items p.at p.first (omega arith) p.are
+
+  -- an input ends badly with the line that is closed
+  ends-here : (end : Ending) → length consumed < input_limit → ((more : List ℕ) (total : ℕ) → EndsAs total (whole ++ more) p.at p.first end) → (tail : List ℕ) → IsReading (whole ++ tail) figures end
+  ends-here end short ends tail =
+      let long = length-append consumed (10 ∷ []) in
+      let k : ℕ = input_limit - length whole in
+      let e : input_limit ≡ length whole + k = omega arith in
+      let parts : take input_limit (whole ++ tail) ≡ whole ++ take k tail = ap (λ (n : ℕ). take n (whole ++ tail)) e ∙ take-append-add whole tail k in
+      record {
+        items = p.items;
+        at = p.at;
+        line = p.first;
+        are = subst (λ (x : List ℕ). AreItems x 0 1 p.items p.at p.first) (sym parts) (AreItems-more whole (take k tail) 0 1 p.items p.at p.first (omega arith) items-now);
+        figures_are = p.figures_are;
+        ends = subst (λ (x : List ℕ). EndsAs (length (whole ++ tail)) x p.at p.first end) (sym parts) (ends (take k tail) (length (whole ++ tail)));
+      }
+
+  fails-here : (f : TextFault) → ((more : List ℕ) → Fails (text ++ more) p.first f) → (more : List ℕ) → Fails (drop p.at (whole ++ more)) p.first f
+  fails-here f fails more = subst (λ (x : List ℕ). Fails x p.first f) (sym (drop-more whole more p.at inside)) (fails more)
+
+  -- the line that is closed stands in what is left
+  not-plain : (more : List ℕ) → ¬ IsPlain (drop p.at (whole ++ more))
+  not-plain more plain =
+      let parts : drop p.at (whole ++ more) ≡ drop p.at consumed ++ 10 ∷ more = ap (λ (x : List ℕ). drop p.at x) (closed-more consumed more) ∙ drop-more consumed (10 ∷ more) p.at p.within in
+      plain-front (drop p.at consumed) more (subst IsPlain parts plain)
+
+  none-left : drop (length whole) whole ≡ []
+  none-left = drop-length whole
+
+  ends-text : p.at + length text ≡ length whole
+  ends-text = let l = length-drop p.at whole in let w = inside in omega arith
+
+  closes-made : length consumed < input_limit → (after : After) → Makes p.first number text after → Closes whole figures number after
+  closes-made short (Goes None) note = record {
+    items = p.items ++ Note (length whole) (number + 1) ∷ [];
+    at = length whole;
+    first = number + 1;
+    are = AreItems-note whole 0 1 p.items p.at p.first (length whole) (number + 1) items-now (subst (λ (k : ℕ). IsAnswer whole p.at p.first (Ok (Note k (number + 1)))) ends-text (note-at whole p.at p.first (length text) (number + 1) inside note));
+    figures_are = p.figures_are ∙ sym (figures_of-note p.items (length whole) (number + 1));
+    within = omega arith;
+    plain = IsPlain-none;
+    stands = (refl, none-left);
+  }
+  closes-made short (Goes (Some begun)) (first, due) = record {
+    items = p.items;
+    at = p.at;
+    first = p.first;
+    are = items-now;
+    figures_are = p.figures_are;
+    within = inside;
+    plain = IsPlain-none;
+    stands = (first, due);
+  }
+  closes-made short (Whole fig) drawn = record {
+    items = p.items ++ Drawn fig (length whole) (number + 1) ∷ [];
+    at = length whole;
+    first = number + 1;
+    are = AreItems-drawn whole 0 1 p.items p.at p.first fig (length whole) (number + 1) items-now (subst (λ (k : ℕ). IsAnswer whole p.at p.first (Ok (Drawn fig k (number + 1)))) ends-text (drawn-at whole p.at p.first fig (length text) (number + 1) inside drawn));
+    figures_are = ap (λ (x : List Figure). x ++ fig ∷ []) p.figures_are ∙ sym (figures_of-drawn p.items fig (length whole) (number + 1));
+    within = omega arith;
+    plain = IsPlain-none;
+    stands = (refl, none-left);
+  }
+  closes-made short (Bad Well) (none, fails) = absurd none
+  closes-made short (Bad (BadLine k)) (here, fails) = (tt, ends-here (BadLine k) short (λ more total. (fails-here (fault.BadLine k) fails more, inr (not-plain more))))
+  closes-made short (Bad (Limit k)) (here, fails) = (tt, ends-here (Limit k) short (λ more total. fails-here (fault.Limit k) fails more))
+  closes-made short (Bad (EndInFigure k)) (none, fails) = absurd none
+  closes-made short (Bad TooLong) (none, fails) = absurd none
+
+  pub closes : length consumed < input_limit → (after : After) → Makes p.first number (drop p.at consumed ++ 10 ∷ []) after → Closes whole figures number after
+  closes short after makes = closes-made short after (subst (λ (x : List ℕ). Makes p.first number x after) (sym (drop-more consumed (10 ∷ []) p.at p.within)) makes)
 
 -- numbers of a line are within the range of coordinates
 within-size : (n : ℕ) → IsWithin (pos 1048576) (pos (min 1048576 n))

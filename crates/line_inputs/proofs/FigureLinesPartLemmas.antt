@@ -7,14 +7,14 @@ use Rattle.record_runs.specs.Texts.{input_limit}
 use Rattle.figure_text.specs.declared.figure.Figure.{Figure}
 use Rattle.line_inputs.specs.declared.figure_lines.head.Head.TheVariants.{Bars}
 use Rattle.figure_text.specs.Reading.{IsPlain}
-use Rattle.line_inputs.specs.FigureLinesProgress.{IsDue, IsOpen, Progress, Closes}
+use Rattle.line_inputs.specs.FigureLinesProgress.{IsDue, IsOpen, Progress, Makes, Closes}
 use Rattle.line_inputs.specs.declared.figure_lines.begun.Begun.{Begun}
 use Rattle.line_inputs.specs.declared.figure_lines.begun.Due.{Due}
 use Rattle.line_inputs.specs.declared.figure_lines.begun.Due.TheVariants.{Row, Columns}
 use Rattle.line_inputs.specs.declared.figure_lines.step.After.{After}
 use Rattle.line_inputs.proofs.MoreLemmas.{drop-more, within-more}
 use Rattle.line_inputs.proofs.ItemLemmas.{AreItems-more}
-use Rattle.line_inputs.proofs.FigureLinesLineLemmas.{IsBegun-more}
+use Rattle.line_inputs.proofs.FigureLinesLineLemmas.{IsBegun-more, closes}
 
 -- bytes without a byte 10
 pub IsPlain-front : (bytes : List ℕ) (n : ℕ) → n ≤ length bytes → ((k : ℕ) → k < n → get_or bytes k 0 ≢ 10) → IsPlain (take n bytes)
@@ -26,7 +26,7 @@ due-more : (due : Due) (first number : ℕ) (text pending more : List ℕ) → I
 due-more (Row rows) first number text pending more b = IsBegun-more rows.head rows.n first number rows.draft text pending more b
 due-more (Columns bars) first number text pending more b = IsBegun-more Bars (length bars.draft.lists) first number bars.draft text pending more b
 
-open-more : (begun : Option Begun) (first number : ℕ) (text text' pending more : List ℕ) → text' ≡ text ++ more → IsOpen begun first number text pending → IsOpen begun first number text' (pending ++ more)
+pub open-more : (begun : Option Begun) (first number : ℕ) (text text' pending more : List ℕ) → text' ≡ text ++ more → IsOpen begun first number text pending → IsOpen begun first number text' (pending ++ more)
 open-more None first number text text' pending more is (here, same) = (here, is ∙ ap (λ (x : List ℕ). x ++ more) same)
 open-more (Some b) first number text text' pending more is (here, due) = (here, rw is (due-more b.due first number text pending more due))
 
@@ -51,19 +51,15 @@ joins-all consumed figures number pending pending' begun part n all none is p =
     subst (λ (x : List ℕ). Progress x figures number pending' begun) (ap (λ (x : List ℕ). consumed ++ x) whole) (rw is joined)
 
 -- one that closes the line with its byte n
-pub closes-part : (consumed : List ℕ) (figures : List Figure) (number : ℕ) (after : After) (part : List ℕ) (n : ℕ) → n < length part → get_or part n 0 ≡ 10 → Closes ((consumed ++ take n part) ++ 10 ∷ []) figures number after → Closes (consumed ++ take (n + 1) part) figures number after
-closes-part consumed figures number after part n within ten closes =
-    let e : (consumed ++ take n part) ++ 10 ∷ [] ≡ consumed ++ take (n + 1) part = append_assoc consumed (take n part) (10 ∷ [])
-    ∙ ap (λ (b : ℕ). consumed ++ (take n part ++ b ∷ [])) (sym ten) ∙ ap (λ (x : List ℕ). consumed ++ x) (sym (take_more part n 0 within)) in
-    subst (λ (x : List ℕ). Closes x figures number after) e closes
-
--- what the closed line makes is what the part makes that closes it
-pub closes-line : (consumed : List ℕ) (figures : List Figure) (number : ℕ) (pending line : List ℕ) (begun : Option Begun) (after : After) (part : List ℕ) (n : ℕ) → n < length part → ((k : ℕ) → k < n → get_or part k 0 ≢ 10) → get_or part n 0 ≡ 10 → length consumed + length part ≤ input_limit → line ≡ pending ++ take n part → Progress consumed figures number pending begun → ((text : List ℕ) (given : List Figure) → Progress text given number line begun → length text < input_limit → Closes (text ++ 10 ∷ []) given number after) → Closes (consumed ++ take (n + 1) part) figures number after
+pub closes-line : (consumed : List ℕ) (figures : List Figure) (number : ℕ) (pending line : List ℕ) (begun : Option Begun) (after : After) (part : List ℕ) (n : ℕ) → n < length part → ((k : ℕ) → k < n → get_or part k 0 ≢ 10) → get_or part n 0 ≡ 10 → length consumed + length part ≤ input_limit → line ≡ pending ++ take n part → Progress consumed figures number pending begun → ((text : List ℕ) (first : ℕ) → IsPlain line → IsOpen begun first number text line → Makes first number (text ++ 10 ∷ []) after) → Closes (consumed ++ take (n + 1) part) figures number after
 closes-line consumed figures number pending line begun after part n within none ten few is p makes =
+    let front : List ℕ = consumed ++ take n part in
     let joined = Progress-joined consumed figures number pending begun (take n part) p (IsPlain-front part n (omega arith) none) in
-    let here = subst (λ (x : List ℕ). Progress (consumed ++ take n part) figures number x begun) (sym is) joined in
-    let short : length (consumed ++ take n part) < input_limit = let l = length-append consumed (take n part) in let t = length-take-le n part (omega arith) in omega arith in
-    closes-part consumed figures number after part n within ten (makes (consumed ++ take n part) figures here short)
+    let here = subst (λ (x : List ℕ). Progress front figures number x begun) (sym is) joined in
+    let short : length front < input_limit = let l = length-append consumed (take n part) in let t = length-take-le n part (omega arith) in omega arith in
+    let e : front ++ 10 ∷ [] ≡ consumed ++ take (n + 1) part = append_assoc consumed (take n part) (10 ∷ [])
+    ∙ ap (λ (b : ℕ). consumed ++ (take n part ++ b ∷ [])) (sym ten) ∙ ap (λ (x : List ℕ). consumed ++ x) (sym (take_more part n 0 within)) in
+    subst (λ (x : List ℕ). Closes x figures number after) e (closes front figures number line begun here short after (makes (drop here.at front) here.first here.plain here.stands))
 
 -- no bytes
 pub none-of_length : (bytes : List ℕ) → length bytes ≡ 0 → bytes ≡ []

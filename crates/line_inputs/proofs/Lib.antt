@@ -5,6 +5,7 @@ pub mod FigureLinesLineLemmas
 pub mod FigureLinesPartLemmas
 pub mod FigureLinesReadLemmas
 pub mod FigureLinesUniqueLemmas
+mod ReadToLemmas
 pub mod ToldLemmas
 pub mod ReadsLemmas
 mod FigureLinesRefused

@@ -1,5 +1,5 @@
 -- Each input has a reading: it is read byte after byte, and of each closed line it can be told what it does.
-use Rattle.std.proofs.Common.{◌≡◌, ◌≢◌, ℕ, ◌+◌, ◌<◌, ◌≤◌, List, [], ◌∷◌, ◌++◌, length, refl, sym, ap, ◌∙◌, subst, arith, append_assoc, append-nil, length-append, Bool, true, false, inl, inr}
+use Rattle.std.proofs.Common.{◌≡◌, ◌≢◌, ℕ, ◌+◌, ◌<◌, ◌≤◌, List, [], ◌∷◌, ◌++◌, length, drop, refl, sym, ap, ◌∙◌, subst, arith, append_assoc, append-nil, length-append, Bool, true, false, inl, inr}
 use Rattle.std.proofs.lemmas.Bool.{cases_lt, cases_eq}
 use Rattle.std.proofs.lemmas.List.Elements.{All-cons}
 use Rattle.std.specs.Prelude.{IsFalse, Option, Some, None}
@@ -14,7 +14,7 @@ use Rattle.kuratowski.specs.declared.witness.Kind.{Kind as Subdivided}
 use Rattle.kuratowski.specs.declared.witness.Kind.TheVariants.{K5, K33}
 use Rattle.figure_text.specs.Words.{words_of, part_at}
 use Rattle.figure_text.specs.Lines.{kind_of, rows_due, TailInRange, IsFirstLine, FirstInRange, IsColumnsLine, ColumnsInRange}
-use Rattle.figure_text.specs.Reading.{IsRow, RowInRange, IsGoodRow, is_note}
+use Rattle.figure_text.specs.Reading.{IsPlain, IsRow, RowInRange, IsGoodRow, is_note}
 use Rattle.figure_text.specs.Drafts.{with_row}
 use Rattle.figure_text.specs.Figures.{IsHead, columns_of, witness_of}
 use Rattle.graph6_text.proofs.LineLemmas.{graph-said}
@@ -23,7 +23,7 @@ use Rattle.line_inputs.specs.Heads.{head_kind, HasGraph}
 use Rattle.line_inputs.specs.declared.figure_lines.head.Head.{Head}
 use Rattle.line_inputs.specs.declared.figure_lines.head.Head.TheVariants.{Grid as GridHead, Bars as BarsHead, Rects as RectsHead, Witness as WitnessHead}
 use Rattle.line_inputs.specs.Given.{AreDrawn}
-use Rattle.line_inputs.specs.FigureLinesProgress.{Progress, Closes}
+use Rattle.line_inputs.specs.FigureLinesProgress.{IsDue, IsOpen, Progress, Makes, Closes}
 use Rattle.line_inputs.specs.Steps.{no_lines, IsGrown}
 use Rattle.line_inputs.specs.declared.figure_lines.begun.Begun.{Begun}
 use Rattle.line_inputs.specs.declared.figure_lines.begun.Due.{Due}
@@ -36,7 +36,7 @@ use Rattle.line_inputs.specs.declared.figure_lines.ending.Ending.{Ending}
 use Rattle.line_inputs.specs.declared.figure_lines.ending.Ending.TheVariants.{BadLine, Limit, TooLong}
 use Rattle.line_inputs.specs.FigureLinesState.{State, IsAt, ending_by}
 use Rattle.line_inputs.proofs.ToldLemmas.{Told, told-row, told-row_range, told-columns, told-columns_range, told-first, told-first_range, kind-said}
-use Rattle.line_inputs.proofs.FigureLinesLineLemmas.{IsHead-of, closes-note, closes-head, closes-limit, closes-bad, closes-bad_row, closes-far_row, closes-grown, closes-bad_columns, closes-far_columns, closes-columns, lists-with_row, AreDrawn-more, IsPlain-none}
+use Rattle.line_inputs.proofs.FigureLinesLineLemmas.{IsHead-of, makes-note, makes-head, makes-limit, makes-bad, makes-bad_row, makes-far_row, makes-grown, makes-bad_columns, makes-far_columns, makes-columns, closes, lists-with_row, AreDrawn-more, IsPlain-none}
 use Rattle.line_inputs.proofs.FigureLinesPartLemmas.{Progress-joined}
 use Rattle.line_inputs.proofs.FigureLinesReadLemmas.{IsAt-reads, IsAt-too_long}
 
@@ -87,16 +87,16 @@ some-grown head n first draft some few within drawn =
           )
     ]
 
-module _ (consumed : List ℕ) (figures : List Figure) (number : ℕ) (line : List ℕ) (short : length consumed < input_limit) where
-  -- what a closed line does
-  abbrev Closed : Type 0
-  Closed = (after : After) × Closes (consumed ++ 10 ∷ []) figures number after
+module _ (number : ℕ) (line : List ℕ) (plain : IsPlain line) where
+  -- what a closed line makes of a text
+  abbrev Closed : ℕ → List ℕ → Type 0
+  Closed first text = (after : After) × Makes first number (text ++ 10 ∷ []) after
 
   -- outside a figure
-  first-closes : Progress consumed figures number line None → Closed
-  first-closes p = by_note (is_note line) refl
+  first-makes : Closed number line
+  first-makes = by_note (is_note line) refl
     where
-      in-range : IsFalse (is_note line) → (shape : IsFirstLine line) → FirstInRange line → (kind : Kind) × (kind_of (words_of line) ≡ Some kind) → Closed
+      in-range : IsFalse (is_note line) → (shape : IsFirstLine line) → FirstInRange line → (kind : Kind) × (kind_of (words_of line) ≡ Some kind) → Closed number line
       in-range other shape range (kind, job) =
           let n : ℕ = rows_due kind (words_of line) in
           let tail : TailInRange (Some kind) line = subst (λ (k : Option Kind). TailInRange k line) job range.tail in
@@ -104,62 +104,63 @@ module _ (consumed : List ℕ) (figures : List Figure) (number : ℕ) (line : Li
           let said = head-said kind line tail in
           let begun : Begun = fresh said.0 n number few.0 (omega (arith, few.1)) in
           let says = IsHead-of kind n line (record { shape = shape; job = job }) range refl in
-          (Goes (Some begun), closes-head consumed figures number line p said.0 n begun refl (refl, refl, refl) other (subst (λ (k : Kind). IsHead k n line) (sym said.1) says) said.2)
+          (Goes (Some begun), makes-head number line plain said.0 n begun refl (refl, refl, refl) other (subst (λ (k : Kind). IsHead k n line) (sym said.1) says) said.2)
 
-      by_range : IsFalse (is_note line) → IsFirstLine line → Told (FirstInRange line) → Closed
+      by_range : IsFalse (is_note line) → IsFirstLine line → Told (FirstInRange line) → Closed number line
       by_range other shape (inl range) = in-range other shape range (kind-said (kind_of (words_of line)) line shape.tail)
-      by_range other shape (inr not) = (Bad (Limit number), (tt, closes-limit consumed figures number line p short other shape not))
+      by_range other shape (inr not) = (Bad (Limit number), makes-limit number line plain other shape not)
 
-      by_shape : IsFalse (is_note line) → Told (IsFirstLine line) → Closed
+      by_shape : IsFalse (is_note line) → Told (IsFirstLine line) → Closed number line
       by_shape other (inl shape) = by_range other shape (told-first_range line)
-      by_shape other (inr not) = (Bad (BadLine number), (tt, closes-bad consumed figures number line p short other not))
+      by_shape other (inr not) = (Bad (BadLine number), makes-bad number line plain other not)
 
-      by_note : (b : Bool) → is_note line ≡ b → Closed
-      by_note true is = (Goes None, closes-note consumed figures number line p is)
+      by_note : (b : Bool) → is_note line ≡ b → Closed number line
+      by_note true is = (Goes None, makes-note number line plain is)
       by_note false is = by_shape is (told-first line)
 
-  -- where a vertex is due
-  row-closes : (first : ℕ) (rows : SomeRows) → Progress consumed figures number line (Some (record { first = first; due = Row rows })) → Closed
-  row-closes first rows p = by_shape (told-row (head_kind rows.head) (length rows.draft.lists + 1) (words_of line))
-    where
-      good : IsGoodRow (head_kind rows.head) (length rows.draft.lists + 1) line → Closed
-      good is =
-          let draft : Draft = with_row (head_kind rows.head) rows.draft (words_of line) in
-          let long = lists-with_row (head_kind rows.head) rows.draft (words_of line) in
-          let due = rows.due in
-          let within : length draft.lists ≤ rows.n = omega arith in
-          let grown = some-grown rows.head rows.n first draft (omega arith) rows.few within (AreDrawn-more rows.head rows.draft (words_of line) rows.drawn) in
-          (grown.0, closes-grown consumed figures number line _ p rows.head rows.n rows.draft p.stands.1 is draft refl within grown.0 grown.1)
+  module _ (text : List ℕ) (first : ℕ) where
+    -- where a vertex is due
+    row-makes : (rows : SomeRows) → IsDue (Row rows) first number text line → Closed first text
+    row-makes rows b = by_shape (told-row (head_kind rows.head) (length rows.draft.lists + 1) (words_of line))
+      where
+        good : IsGoodRow (head_kind rows.head) (length rows.draft.lists + 1) line → Closed first text
+        good is =
+            let draft : Draft = with_row (head_kind rows.head) rows.draft (words_of line) in
+            let long = lists-with_row (head_kind rows.head) rows.draft (words_of line) in
+            let due = rows.due in
+            let within : length draft.lists ≤ rows.n = omega arith in
+            let grown = some-grown rows.head rows.n first draft (omega arith) rows.few within (AreDrawn-more rows.head rows.draft (words_of line) rows.drawn) in
+            (grown.0, makes-grown text first number line plain rows.head rows.n rows.draft b is draft refl within first refl grown.0 grown.1)
 
-      by_range : IsRow (head_kind rows.head) (length rows.draft.lists + 1) (words_of line) → Told (RowInRange (head_kind rows.head) (words_of line)) → Closed
-      by_range shaped (inl range) = good (shaped, range)
-      by_range shaped (inr not) = (Bad (Limit number), (tt, closes-far_row consumed figures number line _ p rows.head rows.n rows.draft p.stands.1 rows.due short shaped not))
+        by_range : IsRow (head_kind rows.head) (length rows.draft.lists + 1) (words_of line) → Told (RowInRange (head_kind rows.head) (words_of line)) → Closed first text
+        by_range shaped (inl range) = good (shaped, range)
+        by_range shaped (inr not) = (Bad (Limit number), makes-far_row text first number line plain rows.head rows.n rows.draft b rows.due shaped not)
 
-      by_shape : Told (IsRow (head_kind rows.head) (length rows.draft.lists + 1) (words_of line)) → Closed
-      by_shape (inl shaped) = by_range shaped (told-row_range (head_kind rows.head) (words_of line))
-      by_shape (inr not) = (Bad (BadLine number), (tt, closes-bad_row consumed figures number line _ p rows.head rows.n rows.draft p.stands.1 rows.due short not))
+        by_shape : Told (IsRow (head_kind rows.head) (length rows.draft.lists + 1) (words_of line)) → Closed first text
+        by_shape (inl shaped) = by_range shaped (told-row_range (head_kind rows.head) (words_of line))
+        by_shape (inr not) = (Bad (BadLine number), makes-bad_row text first number line plain rows.head rows.n rows.draft b rows.due not)
 
-  -- where the columns are due
-  columns-close : (first : ℕ) (bars : AllBars) → Progress consumed figures number line (Some (record { first = first; due = Columns bars })) → Closed
-  columns-close first bars p = by_shape (told-columns (words_of line))
-    where
-      by_range : IsColumnsLine (words_of line) → Told (ColumnsInRange (words_of line)) → Closed
-      by_range shaped (inl range) =
-          let fig : Figure = BarsFigure bars.draft.lists (record { y = bars.draft.y; x1 = bars.draft.x1; x2 = bars.draft.x2; column = columns_of (words_of line) }) in
-          (Whole fig, closes-columns consumed figures number line _ p bars.draft p.stands.1 shaped range fig refl)
-      by_range shaped (inr not) = (Bad (Limit number), (tt, closes-far_columns consumed figures number line _ p bars.draft p.stands.1 short shaped not))
+    -- where the columns are due
+    columns-make : (bars : AllBars) → IsDue (Columns bars) first number text line → Closed first text
+    columns-make bars b = by_shape (told-columns (words_of line))
+      where
+        by_range : IsColumnsLine (words_of line) → Told (ColumnsInRange (words_of line)) → Closed first text
+        by_range shaped (inl range) =
+            let fig : Figure = BarsFigure bars.draft.lists (record { y = bars.draft.y; x1 = bars.draft.x1; x2 = bars.draft.x2; column = columns_of (words_of line) }) in
+            (Whole fig, makes-columns text first number line plain bars.draft b shaped range fig refl)
+        by_range shaped (inr not) = (Bad (Limit number), makes-far_columns text first number line plain bars.draft b shaped not)
 
-      by_shape : Told (IsColumnsLine (words_of line)) → Closed
-      by_shape (inl shaped) = by_range shaped (told-columns_range (words_of line))
-      by_shape (inr not) = (Bad (BadLine number), (tt, closes-bad_columns consumed figures number line _ p bars.draft p.stands.1 short not))
+        by_shape : Told (IsColumnsLine (words_of line)) → Closed first text
+        by_shape (inl shaped) = by_range shaped (told-columns_range (words_of line))
+        by_shape (inr not) = (Bad (BadLine number), makes-bad_columns text first number line plain bars.draft b not)
 
-  due-closes : (first : ℕ) (due : Due) → Progress consumed figures number line (Some (record { first = first; due = due })) → Closed
-  due-closes first (Row rows) p = row-closes first rows p
-  due-closes first (Columns bars) p = columns-close first bars p
+    due-makes : (due : Due) → IsDue due first number text line → Closed first text
+    due-makes (Row rows) b = row-makes rows b
+    due-makes (Columns bars) b = columns-make bars b
 
-  some-closes : (open_figure : Option Begun) → Progress consumed figures number line open_figure → Closed
-  some-closes None p = first-closes p
-  some-closes (Some begun) p = due-closes begun.first begun.due p
+    some-makes : (before : Option Begun) → IsOpen before first number text line → Closed first text
+    some-makes None (here, alone) = subst (λ (x : List ℕ). Closed first x) (sym alone) (subst (λ (k : ℕ). Closed k line) here first-makes)
+    some-makes (Some begun) (here, due) = due-makes begun.due due
 
 -- an input that begins so has a reading
 abbrev HasReading : List ℕ → Type 0
@@ -201,8 +202,8 @@ module _ (consumed : List ℕ) (figures : List Figure) (number : ℕ) (pending :
   byte-on b rest short on =
       elim (cases_eq b 10) [
         | inl ten ↦ (
-            let closed = some-closes consumed figures number pending short begun p in
-            subst HasReading (append_assoc consumed (10 ∷ []) rest ∙ ap (λ (x : ℕ). consumed ++ x ∷ rest) (sym ten)) (closed-on rest short on closed.0 closed.1)
+            let made = some-makes number pending p.plain (drop p.at consumed) p.first begun p.stands in
+            subst HasReading (append_assoc consumed (10 ∷ []) rest ∙ ap (λ (x : ℕ). consumed ++ x ∷ rest) (sym ten)) (closed-on rest short on made.0 (closes consumed figures number pending begun p short made.0 made.1))
             )
         | inr other ↦ (
             let few : length (consumed ++ b ∷ []) ≤ input_limit = let l = length-append consumed (b ∷ []) in omega arith in

@@ -1,8 +1,12 @@
 -- How far the bytes consumed so far have been read.
-use Rattle.std.specs.Prelude.{ℕ, ◌+◌, ◌≤◌, ◌≡◌, List, [], ◌∷◌, ◌++◌, length, drop, Option, Some, None}
+use Rattle.std.specs.Prelude.{ℕ, ◌+◌, ◌≤◌, ◌≡◌, List, [], ◌∷◌, ◌++◌, length, drop, Option, Some, None, Ok, Err}
 use Rattle.figure_text.specs.declared.figure.Figure.{Figure}
 use Rattle.figure_text.specs.declared.rows.Draft.{Draft}
 use Rattle.figure_text.specs.declared.read.Item.{Item}
+use Rattle.figure_text.specs.declared.read.Item.TheVariants.{Drawn, Note}
+use Rattle.figure_text.specs.declared.fault.TextFault.{TextFault}
+use Rattle.figure_text.specs.declared.fault.TextFault.TheVariants as fault
+use Rattle.figure_text.specs.Laws.{IsAnswer}
 use Rattle.figure_text.specs.Reading.{IsPlain, Rows}
 use Rattle.figure_text.specs.Figures.{Begins}
 use Rattle.figure_text.specs.Drafts.{drafted}
@@ -10,6 +14,8 @@ use Rattle.line_inputs.specs.FigureLinesReading.{AreItems, figures_of, IsReading
 use Rattle.line_inputs.specs.FigureLinesFormat.{IsBad}
 use Rattle.line_inputs.specs.Given.{IsGiven}
 use Rattle.line_inputs.specs.Heads.{head_kind, HasGraph}
+use Rattle.line_inputs.specs.declared.figure_lines.ending.Ending.{Ending}
+use Rattle.line_inputs.specs.declared.figure_lines.ending.Ending.TheVariants.{Well, BadLine, Limit, EndInFigure, TooLong}
 use Rattle.line_inputs.specs.declared.figure_lines.head.Head.{Head}
 use Rattle.line_inputs.specs.declared.figure_lines.head.Head.TheVariants.{Bars}
 use Rattle.line_inputs.specs.declared.figure_lines.begun.Begun.{Begun}
@@ -50,6 +56,30 @@ pub record Progress (consumed : List ℕ) (figures : List Figure) (line : ℕ) (
   pub plain : IsPlain pending
   pub stands : IsOpen open_figure first line (drop at consumed) pending
 
+-- an input ends badly at a line that is closed
+abbrev pub IsAtLine : Ending → Type 0
+IsAtLine Well = ⊥
+IsAtLine (BadLine k) = Unit {0}
+IsAtLine (Limit k) = Unit {0}
+IsAtLine (EndInFigure k) = ⊥
+IsAtLine TooLong = ⊥
+
+-- and this is the fault
+abbrev pub fault_at : Ending → TextFault
+fault_at Well = fault.NoMemory
+fault_at (BadLine k) = fault.BadLine k
+fault_at (Limit k) = fault.Limit k
+fault_at (EndInFigure k) = fault.EndInFigure k
+fault_at TooLong = fault.NoMemory
+
+-- A line with this number ends a text that begins on the line `first`, outside a figure. It is a note, the figure goes on
+-- or is whole, or every longer text is bad at that line.
+abbrev pub Makes : ℕ → ℕ → List ℕ → After → Type 0
+Makes first number text (Goes None) = IsAnswer text 0 first (Ok (Note (length text) (number + 1)))
+Makes first number text (Goes (Some begun)) = (begun.first ≡ first) × IsDue begun.due first (number + 1) text []
+Makes first number text (Whole fig) = IsAnswer text 0 first (Ok (Drawn fig (length text) (number + 1)))
+Makes first number text (Bad ending) = IsAtLine ending × ((more : List ℕ) → IsAnswer (text ++ more) 0 first (Err (fault_at ending)))
+
 -- what became of a line with this number that was closed, where a text ends: the figure goes on or none has begun, or one is
 -- whole, or an input that begins so ends badly here, however it goes on
 abbrev pub Closes : List ℕ → List Figure → ℕ → After → Type 0
@@ -62,3 +92,16 @@ abbrev pub IsWhole : After → Type 0
 IsWhole (Goes open_figure) = Unit {0}
 IsWhole (Whole fig) = IsGiven fig
 IsWhole (Bad ending) = Unit {0}
+
+-- the fault of a text that ends in a figure that has begun, or in this line outside one
+abbrev pub end_fault : Option Begun → ℕ → TextFault
+end_fault (Some begun) line = fault.EndInFigure begun.first
+end_fault None line = fault.BadLine line
+
+-- From an offset on, where the line `first` begins, whole lines of a figure that is open stand up to `next`, where the line
+-- `number` begins, or none.
+pub record IsReadTo (bytes : List ℕ) (at first next number : ℕ) (begun : Option Begun) : Type 0 where
+  pub text : List ℕ
+  pub parts : drop at bytes ≡ text ++ drop next bytes
+  pub placed : at + length text ≡ next
+  pub stands : IsOpen begun first number text []

@@ -1,17 +1,12 @@
 -- What contracts see of a reader, and what pieces do to it.
-use Rattle.std.specs.Prelude.{ℕ, ◌+◌, ◌<◌, ◌≤◌, ◌≡◌, List, [], ◌∷◌, ◌++◌, length, take, Option, Some, None}
+use Rattle.std.specs.Prelude.{ℕ, ◌<◌, ◌≤◌, ◌≡◌, List, [], ◌∷◌, ◌++◌, length, take, Option, Some, None}
 use Rattle.figure_text.specs.declared.figure.Figure.{Figure}
 use Rattle.line_inputs.specs.FigureLinesProgress.{Progress, Closes, IsWhole}
-use Rattle.line_inputs.specs.FigureLinesFormat.{IsBad}
-use Rattle.line_inputs.specs.Given.{IsGiven}
-use Rattle.line_inputs.specs.FigureLinesReading.{IsReading}
 use Rattle.line_inputs.specs.declared.figure_lines.ending.Ending.{Ending}
 use Rattle.line_inputs.specs.declared.figure_lines.ending.Ending.TheVariants.{Well, BadLine, EndInFigure}
 use Rattle.line_inputs.specs.declared.figure_lines.begun.Begun.{Begun}
 use Rattle.line_inputs.specs.declared.figure_lines.part.Line.{Line}
 use Rattle.line_inputs.specs.declared.figure_lines.part.Line.TheVariants.{Open, Closed}
-use Rattle.line_inputs.specs.declared.figure_lines.part.Part.{Part}
-use Rattle.line_inputs.specs.declared.figure_lines.part.Part.TheVariants.{Goes, Ended, Bad}
 
 -- A reader: how many bytes it has consumed, the number of the open line and what has come of it, the figure that has begun,
 -- and the one that became whole last.
@@ -41,15 +36,3 @@ IsLinePart part (Closed k after) = (0 < k) × (k ≤ length part) × IsWhole aft
 abbrev pub TakesLine : List ℕ → List Figure → ℕ → List ℕ → List ℕ → Line → Type 0
 TakesLine consumed figures line part pending (Open begun) = Progress (consumed ++ part) figures line pending begun
 TakesLine consumed figures line part pending (Closed k after) = (pending ≡ []) × Closes (consumed ++ take k part) figures line after
-
--- how far a reader moved with a part, and that a figure which became whole may be judged
-abbrev pub MovesPart : State → State → List ℕ → Part → Type 0
-MovesPart old new part (Goes k) = (0 < k) × (k ≤ length part) × (new.place ≡ old.place + k)
-MovesPart old new part (Ended k) = (0 < k) × (k ≤ length part) × (new.place ≡ old.place + k) × IsGiven new.figure
-MovesPart old new part (Bad ending) = Unit {0}
-
--- what so many bytes of a part have done, after those consumed
-abbrev pub TakesPart : State → List ℕ → List Figure → List ℕ → Part → Type 0
-TakesPart new consumed figures part (Goes k) = IsAt new (consumed ++ take k part) figures
-TakesPart new consumed figures part (Ended k) = IsAt new (consumed ++ take k part) (figures ++ new.figure ∷ [])
-TakesPart new consumed figures part (Bad ending) = IsBad ending × ((tail : List ℕ) → IsReading ((consumed ++ part) ++ tail) figures ending)

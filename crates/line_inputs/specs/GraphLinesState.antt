@@ -1,15 +1,11 @@
 -- What contracts see of a reader, and what pieces do to it.
-use Rattle.std.specs.Prelude.{ℕ, ◌+◌, ◌<◌, ◌≤◌, ◌≡◌, Bool, List, [], ◌∷◌, ◌++◌, length, take}
+use Rattle.std.specs.Prelude.{ℕ, ◌<◌, ◌≤◌, ◌≡◌, Bool, List, [], ◌∷◌, ◌++◌, length, take}
 use Rattle.graph6_text.specs.Graphs.{EdgeGraph}
 use Rattle.line_inputs.specs.GraphLinesProgress.{Progress, Closes, behind_header}
-use Rattle.line_inputs.specs.GraphLinesFormat.{IsBad}
-use Rattle.line_inputs.specs.GraphLinesReading.{IsReading}
 use Rattle.line_inputs.specs.declared.graph_lines.ending.Ending.{Ending}
 use Rattle.line_inputs.specs.declared.graph_lines.ending.Ending.TheVariants.{Well, BadLine}
 use Rattle.line_inputs.specs.declared.graph_lines.line.Line.{Line}
 use Rattle.line_inputs.specs.declared.graph_lines.line.Line.TheVariants.{Open, Closed}
-use Rattle.line_inputs.specs.declared.graph_lines.reader.Part.{Part}
-use Rattle.line_inputs.specs.declared.graph_lines.reader.Part.TheVariants.{Goes, Ended, Bad}
 
 -- A reader: how many bytes it has consumed, the number of the open line, whether it is the first one, what has come of it, and the graph that was read last.
 pub record State : Type 0 where
@@ -40,15 +36,3 @@ IsLinePart part (Closed k judged) = (0 < k) × (k ≤ length part)
 abbrev pub TakesLine : List ℕ → List EdgeGraph → ℕ → Bool → List ℕ → List ℕ → Line → Type 0
 TakesLine consumed graphs line first part pending Open = Progress (consumed ++ part) graphs line first pending
 TakesLine consumed graphs line first part pending (Closed k judged) = (pending ≡ []) × Closes (consumed ++ take k part) graphs line judged
-
--- how far a reader moved with a part
-abbrev pub MovesPart : State → State → List ℕ → Part → Type 0
-MovesPart old new part (Goes k) = (0 < k) × (k ≤ length part) × (new.place ≡ old.place + k)
-MovesPart old new part (Ended k) = (0 < k) × (k ≤ length part) × (new.place ≡ old.place + k)
-MovesPart old new part (Bad ending) = Unit {0}
-
--- what so many bytes of a part have done, after those consumed
-abbrev pub TakesPart : State → List ℕ → List EdgeGraph → List ℕ → Part → Type 0
-TakesPart new consumed graphs part (Goes k) = IsAt new (consumed ++ take k part) graphs
-TakesPart new consumed graphs part (Ended k) = IsAt new (consumed ++ take k part) (graphs ++ new.graph ∷ [])
-TakesPart new consumed graphs part (Bad ending) = IsBad ending × ((tail : List ℕ) → IsReading ((consumed ++ part) ++ tail) graphs ending)

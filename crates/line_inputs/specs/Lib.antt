@@ -13,3 +13,5 @@ pub mod GraphLinesFormat
 pub mod GraphLinesProgress
 pub mod GraphLinesState
 pub mod GraphLinesLaws
+-- Both part by part.
+pub mod Parts

@@ -1,13 +1,13 @@
 //! A part of a piece, up to the end of a line.
-ghost use Rattle.std.specs.Prelude.{◌≡◌, ◌+◌, ◌<◌, ◌≤◌, ◌++◌, if◌then◌else◌, List, ℕ, length, IfOk, OnOk};
+ghost use Rattle.std.specs.Prelude.{◌+◌, ◌≤◌, List, ℕ, length, IfOk};
 ghost use Rattle.record_runs.specs.Texts.{input_limit};
 ghost use Rattle.line_inputs.specs.FigureLinesProgress.{Progress};
 ghost use Rattle.line_inputs.specs.FigureLinesState.{IsLinePart, TakesLine};
 ghost use Rattle.figure_text.specs.declared.figure.Figure.{Figure as AFigure};
 
 use crate::figure_lines::begun::Begun;
-use crate::figure_lines::ending::Ending;
 use crate::figure_lines::step::{After, after_line};
+use crate::whole_lines::{chosen, join};
 use figure_text::{Word, line_length};
 use std::alloc::{AllocError, Global};
 
@@ -18,34 +18,6 @@ pub enum Line {
     Open(Option<Begun>),
     /// It was closed by so many bytes of the part.
     Closed(usize, After),
-}
-
-/// What a part of a piece made of what had come before.
-#[derive(Drop)]
-pub enum Part {
-    /// So many bytes of it were consumed, and no figure became whole.
-    Goes(usize),
-    /// A figure became whole with so many bytes.
-    Ended(usize),
-    /// The input ends badly in it.
-    Bad(Ending),
-}
-
-// Puts the end of a line behind its front, but where the end is the whole line.
-fn join(alone: bool, front: &mut Vec<u8>, end: &[u8]) -> Result<(), AllocError>
-    ensures { OnOk result (front.new.items ≡ (if alone then front.old.items else front.old.items ++ end.now)) }
-{
-    if !alone {
-        front.extend_from_slice(end)?;
-    }
-    Ok(())
-}
-
-// The whole line: its end where that is the whole, or else what was joined.
-fn chosen<'a>(alone: bool, end: &'a [u8], joined: &'a [u8]) -> &'a [u8]
-    ensures { result.now ≡ (if alone then end.now else joined.now) }
-{
-    if alone { end } else { joined }
 }
 
 /// Takes a part to the end of the open line, which is then judged, or to its own end. A line that stands whole in the

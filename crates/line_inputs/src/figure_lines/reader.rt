@@ -8,8 +8,9 @@ ghost use Rattle.figure_text.specs.declared.figure.Figure.{Figure as AFigure};
 
 use crate::figure_lines::begun::Begun;
 use crate::figure_lines::ending::Ending;
-use crate::figure_lines::part::{Line, Part, take_line};
+use crate::figure_lines::part::{Line, take_line};
 use crate::figure_lines::step::After;
+use crate::parts::{Part, Parts, take_piece};
 use figure_text::{Figure, GridJob, Word};
 use map_lists::Rotations;
 use pg_plane::Points;
@@ -47,7 +48,7 @@ impl Model for FigureReader {
 }
 
 impl FigureReader {
-    ghost use Rattle.line_inputs.specs.FigureLinesState.{IsAt, MovesPart, TakesPart, ending_by};
+    ghost use Rattle.line_inputs.specs.FigureLinesState.{IsAt, ending_by};
 
     /// A reader before the first byte. It takes no memory.
     pub fn new(alloc: Global) -> FigureReader
@@ -91,14 +92,40 @@ impl FigureReader {
         }
     }
 
-    // Takes a part to the end of the open line or to its own end.
-    fn take_part(&mut self, part: &[u8]) -> Result<Part, AllocError>
-        requires some_bytes { 0 < length part.now }
-        requires room { self.old.place + length part.now ≤ input_limit }
-        ensures moves { IfOk result (MovesPart self.old self.new part.now) }
-        ensures takes { (consumed : List ℕ) (figures : List AFigure) → IsAt self.old consumed figures
-            → IfOk result (TakesPart self.new consumed figures part.now) }
+    /// Takes the bytes of a piece to the end of a figure or to its own end.
+    ///
+    /// Each line is judged as it is closed. After a bad place, and after want of memory, the reader is not to be
+    /// asked again.
+    pub fn take(&mut self, piece: &[u8]) -> Result<Taken<Ending>, AllocError>
+        requires { self.old.place + length piece.now ≤ input_limit }
+        ensures moves { IfOk result (Moves IsGiven self.old.place self.new.place self.new.figure piece.now) }
+        ensures reads { (consumed : List ℕ) (figures : List AFigure) → IsAt self.old consumed figures
+            → IfOk result (TakesPiece the_figures IsAt consumed figures self.new self.new.figure piece.now) }
     {
+        take_piece(self, piece)
+    }
+}
+
+impl Parts for FigureReader {
+    ghost use Rattle.line_inputs.specs.FigureLinesState.{IsAt};
+    ghost use Rattle.line_inputs.specs.Given.{IsGiven};
+    ghost use Rattle.line_inputs.specs.FigureLinesFormat.{figures};
+
+    type Record = Figure;
+
+    type End = Ending;
+
+    ghost reads = { figures };
+
+    ghost At = { IsAt };
+
+    ghost place = { λ reader. reader.place };
+
+    ghost lent = { λ reader. reader.figure };
+
+    ghost IsGiven = { IsGiven };
+
+    fn take_part(&mut self, part: &[u8]) -> Result<Part<Ending>, AllocError> {
         let before = self.begun.take();
         match take_line(
             self.alloc,
@@ -129,26 +156,5 @@ impl FigureReader {
                 }
             }
         }
-    }
-
-    /// Takes the bytes of a piece to the end of a figure or to its own end.
-    ///
-    /// Each line is judged as it is closed. After a bad place, and after want of memory, the reader is not to be
-    /// asked again.
-    pub fn take(&mut self, piece: &[u8]) -> Result<Taken<Ending>, AllocError>
-        requires { self.old.place + length piece.now ≤ input_limit }
-        ensures moves { IfOk result (Moves IsGiven self.old.place self.new.place self.new.figure piece.now) }
-        ensures reads { (consumed : List ℕ) (figures : List AFigure) → IsAt self.old consumed figures
-            → IfOk result (TakesPiece the_figures IsAt consumed figures self.new self.new.figure piece.now) }
-    {
-        let mut done = 0;
-        while done < piece.len() {
-            match self.take_part(&piece[done..])? {
-                Part::Goes(k) => done += k,
-                Part::Ended(k) => return Ok(Taken::Ended(done + k)),
-                Part::Bad(ending) => return Ok(Taken::Bad(ending)),
-            }
-        }
-        Ok(Taken::More)
     }
 }

@@ -1,10 +1,9 @@
 //! What a closed line does to what has come before it.
 ghost use Rattle.std.specs.Prelude.{◌≡◌, ◌+◌, ◌<◌, ◌≤◌, ◌++◌, ◌∷◌, [], List, ℕ, length, IfOk};
-ghost use Rattle.record_runs.specs.Texts.{input_limit};
+ghost use Rattle.figure_text.specs.Reading.{IsPlain};
 ghost use Rattle.line_inputs.specs.Given.{IsGiven, AreDrawn};
 ghost use Rattle.line_inputs.specs.Steps.{IsFresh, IsGrown};
-ghost use Rattle.line_inputs.specs.FigureLinesProgress.{Progress, Closes, IsWhole};
-ghost use Rattle.figure_text.specs.declared.figure.Figure.{Figure as AFigure};
+ghost use Rattle.line_inputs.specs.FigureLinesProgress.{IsDue, IsOpen, Makes, IsWhole};
 
 use crate::figure_lines::begun::{AllBars, Begun, Due, SomeRows};
 use crate::figure_lines::ending::Ending;
@@ -45,8 +44,7 @@ fn begun_figure(alloc: Global, head: Head, n: usize, first: u32) -> Result<Begun
 // What a line outside a figure makes, which has this number.
 fn after_front(alloc: Global, line: &[u8], number: u32) -> Result<After, AllocError>
     ensures whole { IfOk result IsWhole }
-    ensures closes { (consumed : List ℕ) (figures : List AFigure) → Progress consumed figures number line.now None
-        → length consumed < input_limit → IfOk result (Closes (consumed ++ 10 ∷ []) figures number) }
+    ensures makes { IsPlain line.now → IfOk result (Makes number number (line.now ++ 10 ∷ [])) }
 {
     match front_line(alloc, line)? {
         Front::Note => Ok(After::Goes(None)),
@@ -125,9 +123,8 @@ fn after_row(
     number: u32,
 ) -> Result<After, AllocError>
     ensures whole { IfOk result IsWhole }
-    ensures closes { (consumed : List ℕ) (figures : List AFigure)
-        → Progress consumed figures number line.now (Some (record { first = first; due = Due.Row rows }))
-        → length consumed < input_limit → IfOk result (Closes (consumed ++ 10 ∷ []) figures number) }
+    ensures makes { (text : List ℕ) (start : ℕ) → IsPlain line.now → first ≡ start → IsDue (Due.Row rows) start number text line.now
+        → IfOk result (Makes start number (text ++ 10 ∷ [])) }
 {
     let SomeRows { head, n, mut draft } = rows;
     let place = draft.len() + 1;
@@ -170,9 +167,8 @@ fn after_columns(
     number: u32,
 ) -> Result<After, AllocError>
     ensures whole { IfOk result IsWhole }
-    ensures closes { (consumed : List ℕ) (figures : List AFigure)
-        → Progress consumed figures number line.now (Some (record { first = first; due = Due.Columns bars }))
-        → length consumed < input_limit → IfOk result (Closes (consumed ++ 10 ∷ []) figures number) }
+    ensures makes { (text : List ℕ) (start : ℕ) → IsPlain line.now → first ≡ start → IsDue (Due.Columns bars) start number text line.now
+        → IfOk result (Makes start number (text ++ 10 ∷ [])) }
 {
     match columns_line(alloc, line) {
         Columns::Good(column) => {
@@ -194,8 +190,8 @@ fn after_due(
     number: u32,
 ) -> Result<After, AllocError>
     ensures whole { IfOk result IsWhole }
-    ensures closes { (consumed : List ℕ) (figures : List AFigure) → Progress consumed figures number line.now (Some begun)
-        → length consumed < input_limit → IfOk result (Closes (consumed ++ 10 ∷ []) figures number) }
+    ensures makes { (text : List ℕ) (start : ℕ) → IsPlain line.now → begun.first ≡ start → IsDue begun.due start number text line.now
+        → IfOk result (Makes start number (text ++ 10 ∷ [])) }
 {
     let Begun { first, due } = begun;
     match due {
@@ -214,8 +210,8 @@ pub fn after_line(
     number: u32,
 ) -> Result<After, AllocError>
     ensures whole { IfOk result IsWhole }
-    ensures closes { (consumed : List ℕ) (figures : List AFigure) → Progress consumed figures number line.now before
-        → length consumed < input_limit → IfOk result (Closes (consumed ++ 10 ∷ []) figures number) }
+    ensures makes { (text : List ℕ) (start : ℕ) → IsPlain line.now → IsOpen before start number text line.now
+        → IfOk result (Makes start number (text ++ 10 ∷ [])) }
 {
     match before {
         Some(begun) => after_due(alloc, found, begun, line, number),

@@ -8,6 +8,7 @@ ghost use Rattle.line_inputs.specs.GraphLinesProgress.{Progress, Closes, Judges,
 ghost use Rattle.line_inputs.specs.GraphLinesState.{IsLinePart, TakesLine};
 
 use crate::graph_lines::ending::Ending;
+use crate::whole_lines::{chosen, join};
 use figure_text::line_length;
 use graph6_text::{G6Fault, Graph, after_graph_header, read_line};
 use std::alloc::{AllocError, Global};
@@ -85,7 +86,8 @@ fn judged_line(alloc: Global, line: &[u8], first: bool, number: u32) -> Result<J
     judged_graph(alloc, behind_header(first, line), number)
 }
 
-/// Takes a part to the end of the open line, which is then judged, or to its own end.
+/// Takes a part to the end of the open line, which is then judged, or to its own end. A line that stands whole in the
+/// part is judged where it stands.
 pub fn take_line(
     alloc: Global,
     pending: &mut Vec<u8>,
@@ -98,11 +100,13 @@ pub fn take_line(
         → length consumed + length part.now ≤ input_limit → IfOk result (TakesLine consumed graphs number first part.now pending.new.items) }
 {
     let len = line_length(part);
-    pending.extend_from_slice(&part[..len])?;
     if len == part.len() {
+        pending.extend_from_slice(&part[..len])?;
         return Ok(Line::Open);
     }
-    let judged = judged_line(alloc, pending, first, number)?;
+    let alone = pending.is_empty();
+    join(alone, pending, &part[..len])?;
+    let judged = judged_line(alloc, chosen(alone, &part[..len], pending), first, number)?;
     pending.clear();
     Ok(Line::Closed(len + 1, judged))
 }

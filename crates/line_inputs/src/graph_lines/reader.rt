@@ -9,21 +9,11 @@ ghost use Rattle.line_inputs.specs.GraphLinesState.{ending_of};
 
 use crate::graph_lines::ending::Ending;
 use crate::graph_lines::line::{Judged, Line, behind_header, take_line};
+use crate::parts::{Part, Parts, take_piece};
 use graph6_text::Graph;
 use record_runs::Taken;
 use std::alloc::{AllocError, Global};
 use std::marker::Model;
-
-/// What a part of a piece made of what had come before.
-#[derive(Drop)]
-pub enum Part {
-    /// So many bytes of it were consumed, and no graph was read.
-    Goes(usize),
-    /// A graph was read with so many bytes.
-    Ended(usize),
-    /// The input ends badly in it.
-    Bad(Ending),
-}
 
 /// A reader of the graphs of one input.
 #[derive(Drop)]
@@ -64,7 +54,7 @@ fn open_ending(first: bool, pending: &[u8], line: u32) -> Ending
 }
 
 impl GraphReader {
-    ghost use Rattle.line_inputs.specs.GraphLinesState.{IsAt, MovesPart, TakesPart, ending_by};
+    ghost use Rattle.line_inputs.specs.GraphLinesState.{IsAt, ending_by};
 
     /// A reader before the first byte. It takes no memory.
     pub fn new(alloc: Global) -> GraphReader
@@ -94,14 +84,39 @@ impl GraphReader {
         open_ending(self.first, &self.pending, self.line)
     }
 
-    // Takes a part to the end of the open line or to its own end.
-    fn take_part(&mut self, part: &[u8]) -> Result<Part, AllocError>
-        requires some_bytes { 0 < length part.now }
-        requires room { self.old.place + length part.now ≤ input_limit }
-        ensures moves { IfOk result (MovesPart self.old self.new part.now) }
-        ensures takes { (consumed : List ℕ) (graphs : List EdgeGraph) → IsAt self.old consumed graphs
-            → IfOk result (TakesPart self.new consumed graphs part.now) }
+    /// Takes the bytes of a piece to the end of the line of a graph or to its own end.
+    ///
+    /// Each line is judged as it is closed. After a bad place, and after want of memory, the reader is not to be
+    /// asked again.
+    pub fn take(&mut self, piece: &[u8]) -> Result<Taken<Ending>, AllocError>
+        requires { self.old.place + length piece.now ≤ input_limit }
+        ensures moves { IfOk result (Moves IsAny self.old.place self.new.place self.new.graph piece.now) }
+        ensures reads { (consumed : List ℕ) (graphs : List EdgeGraph) → IsAt self.old consumed graphs
+            → IfOk result (TakesPiece the_lines IsAt consumed graphs self.new self.new.graph piece.now) }
     {
+        take_piece(self, piece)
+    }
+}
+
+impl Parts for GraphReader {
+    ghost use Rattle.line_inputs.specs.GraphLinesState.{IsAt};
+    ghost use Rattle.line_inputs.specs.GraphLinesFormat.{graph_lines, IsAny};
+
+    type Record = Graph;
+
+    type End = Ending;
+
+    ghost reads = { graph_lines };
+
+    ghost At = { IsAt };
+
+    ghost place = { λ reader. reader.place };
+
+    ghost lent = { λ reader. reader.graph };
+
+    ghost IsGiven = { IsAny };
+
+    fn take_part(&mut self, part: &[u8]) -> Result<Part<Ending>, AllocError> {
         match take_line(self.alloc, &mut self.pending, self.first, self.line, part)? {
             Line::Open => {
                 self.place += part.len();
@@ -121,26 +136,5 @@ impl GraphReader {
                 }
             }
         }
-    }
-
-    /// Takes the bytes of a piece to the end of the line of a graph or to its own end.
-    ///
-    /// Each line is judged as it is closed. After a bad place, and after want of memory, the reader is not to be
-    /// asked again.
-    pub fn take(&mut self, piece: &[u8]) -> Result<Taken<Ending>, AllocError>
-        requires { self.old.place + length piece.now ≤ input_limit }
-        ensures moves { IfOk result (Moves IsAny self.old.place self.new.place self.new.graph piece.now) }
-        ensures reads { (consumed : List ℕ) (graphs : List EdgeGraph) → IsAt self.old consumed graphs
-            → IfOk result (TakesPiece the_lines IsAt consumed graphs self.new self.new.graph piece.now) }
-    {
-        let mut done = 0;
-        while done < piece.len() {
-            match self.take_part(&piece[done..])? {
-                Part::Goes(k) => done += k,
-                Part::Ended(k) => return Ok(Taken::Ended(done + k)),
-                Part::Bad(ending) => return Ok(Taken::Bad(ending)),
-            }
-        }
-        Ok(Taken::More)
     }
 }

@@ -14,4 +14,4 @@ returns-clause-takes c = λ consumed figures p few.
     let within : n < length part = let le = c.line_length-len.ensures.within in let ne = c.if-len-part.false in omega arith in
     let line : c.chosen.result.now ≡ c.args.pending.now.items ++ take n part =
     joined c.is_empty-alone.result c.args.pending.now.items (take n part) c.join.new.front.items c.chosen.result.now (λ is. none-of_length c.args.pending.now.items (search rules)) c.in_ok-join.ensures (search rules) in
-    (c.clear.ensures.items, closes-line consumed figures c.args.line c.args.pending.now.items c.chosen.result.now c.args.before c.in_ok-after.after part n within c.line_length-len.ensures.before (c.line_length-len.ensures.found within) few line p c.in_ok-after.ensures.closes)
+    (c.clear.ensures.items, closes-line consumed figures c.args.line c.args.pending.now.items c.chosen.result.now c.args.before c.in_ok-after.after part n within c.line_length-len.ensures.before (c.line_length-len.ensures.found within) few line p c.in_ok-after.ensures.makes)

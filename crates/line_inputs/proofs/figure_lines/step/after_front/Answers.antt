@@ -4,32 +4,32 @@ use Rattle.std.specs.Prelude.{Option}
 use Rattle.figure_text.specs.declared.judge.Kind.{Kind}
 use Rattle.figure_text.specs.Figures.{IsHead}
 use Rattle.figure_text.specs.Lines.{TailInRange}
-use Rattle.line_inputs.proofs.FigureLinesLineLemmas.{closes-note, closes-head, closes-limit, closes-bad, IsHead-of}
+use Rattle.line_inputs.proofs.FigureLinesLineLemmas.{makes-note, makes-head, makes-limit, makes-bad, IsHead-of}
 use Rattle.line_inputs.proofs.figure_lines.step.after_front.Goals as goal
 
-pub returns-in-Note-clause-closes : goal.returns-in-Note-clause-closes
-returns-in-Note-clause-closes c = λ consumed figures p short.
+pub returns-in-Note-clause-makes : goal.returns-in-Note-clause-makes
+returns-in-Note-clause-makes c = λ plain.
     let is = rw c.in-Note.is at c.in_ok-front_line.ensures in
-    closes-note consumed figures c.args.number c.args.line.now p is
+    makes-note c.args.number c.args.line.now plain is
 
 pub head_of-requires : goal.head_of-requires
 head_of-requires c =
     let is = rw c.in-Begins.is at c.in_ok-front_line.ensures in
     subst (λ (k : Option Kind). TailInRange k c.args.line.now) is.1.0.job is.1.1.tail
 
-pub returns-in_ok-begun-in-Begins-clause-closes : goal.returns-in_ok-begun-in-Begins-clause-closes
-returns-in_ok-begun-in-Begins-clause-closes c = λ consumed figures p short.
+pub returns-in_ok-begun-in-Begins-clause-makes : goal.returns-in_ok-begun-in-Begins-clause-makes
+returns-in_ok-begun-in-Begins-clause-makes c = λ plain.
     let is = rw c.in-Begins.is at c.in_ok-front_line.ensures in
     let line = c.args.line.now in
     let says = IsHead-of c.in-Begins.kind c.in-Begins.n line is.1.0 is.1.1 is.1.2 in
-    closes-head consumed figures c.args.number line p c.in_ok-head-in-Begins.head c.in-Begins.n c.in_ok-begun-in-Begins.begun c.in_ok-begun-in-Begins.ensures.first c.in_ok-begun-in-Begins.ensures.due is.0 (subst (λ (k : Kind). IsHead k c.in-Begins.n line) (sym c.in_ok-head-in-Begins.ensures.kind) says) c.in_ok-head-in-Begins.ensures.graph
+    makes-head c.args.number line plain c.in_ok-head-in-Begins.head c.in-Begins.n c.in_ok-begun-in-Begins.begun c.in_ok-begun-in-Begins.ensures.first c.in_ok-begun-in-Begins.ensures.due is.0 (subst (λ (k : Kind). IsHead k c.in-Begins.n line) (sym c.in_ok-head-in-Begins.ensures.kind) says) c.in_ok-head-in-Begins.ensures.graph
 
-pub returns-in-Limit-clause-closes : goal.returns-in-Limit-clause-closes
-returns-in-Limit-clause-closes c = λ consumed figures p short.
+pub returns-in-Limit-clause-makes : goal.returns-in-Limit-clause-makes
+returns-in-Limit-clause-makes c = λ plain.
     let is = rw c.in-Limit.is at c.in_ok-front_line.ensures in
-    (tt, closes-limit consumed figures c.args.number c.args.line.now p short is.0 is.1.0.shape is.1.1)
+    makes-limit c.args.number c.args.line.now plain is.0 is.1.0.shape is.1.1
 
-pub returns-in-Bad-clause-closes : goal.returns-in-Bad-clause-closes
-returns-in-Bad-clause-closes c = λ consumed figures p short.
+pub returns-in-Bad-clause-makes : goal.returns-in-Bad-clause-makes
+returns-in-Bad-clause-makes c = λ plain.
     let is = rw c.in-Bad.is at c.in_ok-front_line.ensures in
-    (tt, closes-bad consumed figures c.args.number c.args.line.now p short is.0 is.1)
+    makes-bad c.args.number c.args.line.now plain is.0 is.1

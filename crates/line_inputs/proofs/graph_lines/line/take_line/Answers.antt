@@ -1,5 +1,6 @@
 -- The part holds a byte 10 or none.
-use Rattle.std.proofs.Common.{◌≡◌, ◌<◌, ◌++◌, length, take, arith, ◌∙◌}
+use Rattle.std.proofs.Common.{◌≡◌, ◌<◌, ◌++◌, length, take, arith, rules}
+use Rattle.line_inputs.proofs.FigureLinesPartLemmas.{none-of_length, joined}
 use Rattle.line_inputs.proofs.GraphLinesPartLemmas.{joins-all, closes-line}
 use Rattle.line_inputs.proofs.graph_lines.line.take_line.Goals as goal
 
@@ -12,5 +13,6 @@ returns-clause-takes c = λ consumed graphs p few.
     let n = c.line_length-len.result in
     let part = c.args.part.now in
     let within : n < length part = let le = c.line_length-len.ensures.within in let ne = c.if-len-part.false in omega arith in
-    let line : c.deref.result.now ≡ c.args.pending.now.items ++ take n part = c.deref.ensures.value ∙ c.in_ok-extend_from_slice.ensures.items in
-    (c.clear.ensures.items, closes-line consumed graphs c.args.number c.args.first c.args.pending.now.items c.deref.result.now c.in_ok-judged.judged part n within c.line_length-len.ensures.before (c.line_length-len.ensures.found within) few line p c.in_ok-judged.ensures)
+    let line : c.chosen.result.now ≡ c.args.pending.now.items ++ take n part =
+    joined c.is_empty-alone.result c.args.pending.now.items (take n part) c.join.new.front.items c.chosen.result.now (λ is. none-of_length c.args.pending.now.items (search rules)) c.in_ok-join.ensures (search rules) in
+    (c.clear.ensures.items, closes-line consumed graphs c.args.number c.args.first c.args.pending.now.items c.chosen.result.now c.in_ok-judged.judged part n within c.line_length-len.ensures.before (c.line_length-len.ensures.found within) few line p c.in_ok-judged.ensures)

@@ -5,7 +5,7 @@ use Rattle.record_runs.specs.Texts.{input_limit}
 use Rattle.line_inputs.specs.FigureLinesReading.{IsReading}
 use Rattle.line_inputs.specs.FigureLinesState.{State}
 use Rattle.line_inputs.proofs.FigureLinesPartLemmas.{part-splits}
-use Rattle.line_inputs.proofs.figure_lines.reader.FigureReader.take_part.Goals as goal
+use Rattle.line_inputs.proofs.figure_lines.reader.FigureReaderParts.take_part.Goals as goal
 
 pub returns-in-Bad-clause-takes : goal.returns-in-Bad-clause-takes
 returns-in-Bad-clause-takes c = λ consumed figures at.

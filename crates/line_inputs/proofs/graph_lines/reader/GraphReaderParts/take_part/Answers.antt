@@ -5,7 +5,7 @@ use Rattle.line_inputs.proofs.FigureLinesPartLemmas.{part-splits}
 use Rattle.line_inputs.specs.GraphLinesProgress.{Progress}
 use Rattle.line_inputs.specs.GraphLinesReading.{IsReading}
 use Rattle.line_inputs.specs.GraphLinesState.{State}
-use Rattle.line_inputs.proofs.graph_lines.reader.GraphReader.take_part.Goals as goal
+use Rattle.line_inputs.proofs.graph_lines.reader.GraphReaderParts.take_part.Goals as goal
 
 pub returns-in-Bad-clause-takes : goal.returns-in-Bad-clause-takes
 returns-in-Bad-clause-takes c = λ consumed graphs at.
