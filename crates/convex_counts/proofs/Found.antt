@@ -23,7 +23,7 @@ use Rattle.convex_counts.proofs.Apart.{new_apart}
 use Rattle.convex_counts.proofs.FacePointsSides.{on_third}
 
 -- the step in which a vertex is new
-new_step : (steps : ℕ → Step) (n v : ℕ) → 2 ≤ v → v < (stage_after steps n).count → (k : ℕ) × (k < n) × ((stage_after steps k).count ≤ v) × (v < (stage_after steps k).count + (steps k).vertices)
+pub new_step : (steps : ℕ → Step) (n v : ℕ) → 2 ≤ v → v < (stage_after steps n).count → (k : ℕ) × (k < n) × ((stage_after steps k).count ≤ v) × (v < (stage_after steps k).count + (steps k).vertices)
 new_step steps zero v a b = absurd (omega arith)
 new_step steps (suc n) v a b = elim (cases_lt v (stage_after steps n).count) [
   | inl l ↦ let z = new_step steps n v a l in (z.0, let m = z.1 in omega arith, z.2, z.3)

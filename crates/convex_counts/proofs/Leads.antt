@@ -18,11 +18,11 @@ use Rattle.convex_counts.specs.Rising.{IsRising, IsDart}
 use Rattle.convex_counts.proofs.DartKinds.{first, turn, second, up_last, up_middle, across, down_first, down_middle, IsAnyKind, made, right, left, base, any_kind}
 
 -- v stands nowhere on the contour
-abbrev IsOff : Stage → ℕ → Type 0
+abbrev pub IsOff : Stage → ℕ → Type 0
 IsOff g v = (p : ℕ) → p < g.width → g.vertex p ≢ v
 
 module _ (g : Stage) (s : Step) (stage : IsStage g) (step : IsStep g s) where
-  off_after : (v : ℕ) → v < g.count → IsOff g v → IsOff (after g s) v
+  pub off_after : (v : ℕ) → v < g.count → IsOff g v → IsOff (after g s) v
   off_after v older off p l e =
       let o = order g s step in
       let w = step.within in
@@ -32,7 +32,7 @@ module _ (g : Stage) (s : Step) (stage : IsStage g) (step : IsStep g s) where
         | inr (inr c) ↦ let a = c.high in off c.from c.within (sym (vertex_after-high g s p c.from (omega arith) c.to) ∙ e)
       ]
 
-  off_covered : (q : ℕ) → s.first < q → q < s.last → IsOff (after g s) (g.vertex q)
+  pub off_covered : (q : ℕ) → s.first < q → q < s.last → IsOff (after g s) (g.vertex q)
   off_covered q low high p l e =
       let o = order g s step in
       let w = step.within in
@@ -56,11 +56,11 @@ module _ (steps : ℕ → Step) (n : ℕ) (whole : IsWholeRun steps n) (some : 0
   sound : (k : ℕ) → k ≤ n → IsStage (st k)
   sound k l = IsStage-run steps k (IsRun-less steps k n l run)
 
-  same_place : (k : ℕ) → k ≤ n → (i j : ℕ) → i < (st k).width → j < (st k).width → (st k).vertex i ≡ (st k).vertex j → i ≡ j
+  pub same_place : (k : ℕ) → k ≤ n → (i j : ℕ) → i < (st k).width → j < (st k).width → (st k).vertex i ≡ (st k).vertex j → i ≡ j
   same_place k l i j a b e = sym ((sound k l).own i a) ∙ ap (st k).place e ∙ (sound k l).own j b
 
   -- a vertex is new in one step
-  new_once : (v k l : ℕ) → (st k).count ≤ v → v < (st k).count + (steps k).vertices → (st l).count ≤ v → v < (st l).count + (steps l).vertices → k ≡ l
+  pub new_once : (v k l : ℕ) → (st k).count ≤ v → v < (st k).count + (steps k).vertices → (st l).count ≤ v → v < (st l).count + (steps l).vertices → k ≡ l
   new_once v k l a b c d = elim (cases_order k l) [
     | inl e ↦ e
     | inr (inl m) ↦ let z = count-le steps (suc k) l m in absurd (omega arith)
@@ -71,12 +71,12 @@ module _ (steps : ℕ → Step) (n : ℕ) (whole : IsWholeRun steps n) (some : 0
   two_vertices k = let z = count-le steps 0 k (omega arith) in omega arith
 
   -- along axis one to the vertex before, along axis two to that behind
-  data LeadsOne (v w : ℕ) : Type 0 where
+  pub data LeadsOne (v w : ℕ) : Type 0 where
     base_one : v ≡ 1 → w ≡ 0 → LeadsOne v w
     first_one : (k : ℕ) → k < n → v ≡ (st k).count → (st k).vertex (steps k).first ≡ w → LeadsOne v w
     next_one : (k : ℕ) → k < n → (st k).count ≤ w → suc w ≡ v → v < (st k).count + (steps k).vertices → LeadsOne v w
 
-  data LeadsTwo (v w : ℕ) : Type 0 where
+  pub data LeadsTwo (v w : ℕ) : Type 0 where
     base_two : v ≡ 0 → w ≡ 1 → LeadsTwo v w
     last_two : (k : ℕ) → k < n → (st k).count + (steps k).vertices ≡ suc v → (st k).vertex (steps k).last ≡ w → LeadsTwo v w
     next_two : (k : ℕ) → k < n → (st k).count ≤ v → suc v ≡ w → w < (st k).count + (steps k).vertices → LeadsTwo v w
@@ -139,13 +139,13 @@ module _ (steps : ℕ → Step) (n : ℕ) (whole : IsWholeRun steps n) (some : 0
   two_alone v u w (next_two k l e f g) (next_two k' l' e' f' g') = omega arith
 
   -- along axis three, from under a face along the contour away from its turn, or from between two faces to the new vertex
-  data LeadsFrom (k p w : ℕ) : Type 0 where
+  pub data LeadsFrom (k p w : ℕ) : Type 0 where
     back : (i q : ℕ) → i < (steps k).faces → (steps k).cut i < p → p ≤ (steps k).turn i → suc q ≡ p → (st k).vertex q ≡ w → LeadsFrom k p w
     on : (i : ℕ) → i < (steps k).faces → (steps k).turn i < p → p < (steps k).cut (suc i) → (st k).vertex (suc p) ≡ w → LeadsFrom k p w
     over : (i : ℕ) → i < (steps k).faces → 0 < i → p ≡ (steps k).cut i → w ≡ (st k).count → LeadsFrom k p w
 
   -- and along the last contour to the last vertex
-  data LeadsThree (v w : ℕ) : Type 0 where
+  pub data LeadsThree (v w : ℕ) : Type 0 where
     covered : (k p : ℕ) → k < n → (steps k).first < p → p < (steps k).last → (st k).vertex p ≡ v → LeadsFrom k p w → LeadsThree v w
     to_right : (p : ℕ) → p < whole.top → (st n).vertex p ≡ v → (st n).vertex (suc p) ≡ w → LeadsThree v w
     to_left : (p : ℕ) → whole.top ≤ p → suc p < (st n).width → (st n).vertex (suc p) ≡ v → (st n).vertex p ≡ w → LeadsThree v w
@@ -190,7 +190,7 @@ module _ (steps : ℕ → Step) (n : ℕ) (whole : IsWholeRun steps n) (some : 0
   from_alone k p u w l (over i li a b f) (over i' li' a' b' f') = f ∙ sym f'
 
   -- what is covered stands on no later contour
-  off_later : (k m p v : ℕ) → k < m → m ≤ n → (steps k).first < p → p < (steps k).last → (st k).vertex p ≡ v → IsOff (st m) v
+  pub off_later : (k m p v : ℕ) → k < m → m ≤ n → (steps k).first < p → p < (steps k).last → (st k).vertex p ≡ v → IsOff (st m) v
   off_later k m p v l b low high e =
       let step = run k (omega arith) in
       let w = step.within in
@@ -235,7 +235,7 @@ module _ (steps : ℕ → Step) (n : ℕ) (whole : IsWholeRun steps n) (some : 0
       sym f ∙ ap (st n).vertex (let y : p ≡ p' = omega arith in y) ∙ f'
 
   -- What rises alone leads so. Along axis one the dart itself says it, along axis two its twin.
-  one_leads : (v u : ℕ) → IsAnyKind steps n whole v u → IsRising at One v u → LeadsOne v u
+  pub one_leads : (v u : ℕ) → IsAnyKind steps n whole v u → IsRising at One v u → LeadsOne v u
   one_leads v u (made k i l li (first p a b e f h)) r = let x = h.one in absurd (omega arith)
   one_leads v u (made k i l li (turn p a e f h)) r = let x = h.one in absurd (omega arith)
   one_leads v u (made k i l li (second p a b e f h)) r = let x = h.one in absurd (omega arith)
@@ -248,7 +248,7 @@ module _ (steps : ℕ → Step) (n : ℕ) (whole : IsWholeRun steps n) (some : 0
   one_leads v u (left p l a h) r = let x = h.one in absurd (omega arith)
   one_leads v u (base a b h) r = base_one a b
 
-  two_leads : (v u : ℕ) → IsAnyKind steps n whole u v → IsRising at Two v u → LeadsTwo v u
+  pub two_leads : (v u : ℕ) → IsAnyKind steps n whole u v → IsRising at Two v u → LeadsTwo v u
   two_leads v u (made k i l li (first p a b e f h)) r = let x = h.two in absurd (omega arith)
   two_leads v u (made k i l li (turn p a e f h)) r = let x = h.two in absurd (omega arith)
   two_leads v u (made k i l li (second p a b e f h)) r = let x = h.two in absurd (omega arith)
@@ -280,7 +280,7 @@ module _ (steps : ℕ → Step) (n : ℕ) (whole : IsWholeRun steps n) (some : 0
   back_leads v u (left p l a h) m r = to_left p l a.within a.head a.tail
   back_leads v u (base a b h) m r = let x = h.one in absurd (omega arith)
 
-  three_leads : (v u : ℕ) → IsAnyKind steps n whole v u → IsAnyKind steps n whole u v → IsRising at Three v u → LeadsThree v u
+  pub three_leads : (v u : ℕ) → IsAnyKind steps n whole v u → IsAnyKind steps n whole u v → IsRising at Three v u → LeadsThree v u
   three_leads v u (made k i l li (first p a b e f h)) z r = let x = h.two in absurd (omega arith)
   three_leads v u (made k i l li (turn p a e f h)) z r = let x = h.two in absurd (omega arith)
   three_leads v u (made k i l li (second p a b e f h)) z r =

@@ -2,7 +2,7 @@
 use Rattle.std.proofs.Common.{◌≡◌, ℕ, zero, suc, ◌+◌, ◌*◌, ◌-◌, ◌<◌, ◌≤◌, ◌<ℤ◌, List, length, pos, refl, sym, ap, ◌∙◌, subst, inl, inr, arith}
 use Rattle.std.proofs.lemmas.Int.{ints}
 use Rattle.map_lists.specs.Lists.{Lists}
-use Rattle.map_theory.specs.Maps.{HasDart, follows, face_count}
+use Rattle.map_theory.specs.Maps.{HasDart, IsPlane, follows, face_count, component_count}
 use Rattle.map_theory.specs.Paths.{SameFace}
 use Rattle.map_theory.proofs.DartLemmas.{HasDart-face_step}
 use Rattle.pg_plane.specs.declared.point.Point.{Point}
@@ -18,6 +18,11 @@ use Rattle.convex_counts.specs.Counts.{face_counts}
 use Rattle.convex_counts.specs.Turns.{well_turned}
 use Rattle.convex_peeling.proofs.Faces.{SameFace-labels, face_of-step}
 use Rattle.convex_counts.proofs.Turns.{contours_as_before}
+use Rattle.convex_counts.specs.declared.face_woods.axis.Axis.{Axis}
+use Rattle.convex_counts.specs.declared.face_woods.axis.Axis.TheVariants.{One, Two, Three}
+use Rattle.convex_laws.specs.ConvexWoods.{AreRoots}
+use Rattle.convex_laws.specs.ConvexWoodsLaws.{IsNamedRun}
+use Rattle.convex_laws.proofs.WoodRegions.{regions_draw, some_wood, some_wood-rises}
 use Rattle.convex_laws.specs.ConvexDrawings.{AreCountPoints, IsConvexDrawing, grid_point}
 use Rattle.convex_laws.proofs.ConvexDrawingsTurned.{touched_run_draws}
 use Rattle.convex_check.specs.Convex.{IsConvex}
@@ -26,7 +31,7 @@ use Rattle.convex_draw.specs.Points.{IsListedRun, ArePointsOf}
 use Rattle.convex_draw.proofs.Listed.{faces_made-well_turned}
 use Rattle.convex_draw.proofs.ByRows.{IsRunByRows}
 use Rattle.convex_draw.specs.Grids.{IsConvexGrid}
-use Rattle.convex_draw.proofs.OuterFace.{outer-SameFace, SameFace-outer, before_base}
+use Rattle.convex_laws.proofs.OuterFace.{outer-SameFace, SameFace-outer, before_base}
 
 -- a run makes no more faces than twice its vertices
 pub faces_made-few : (steps : ℕ → Step) (n : ℕ) → IsRun steps n → faces_made steps n + (stage_after steps n).width ≤ 2 * (stage_after steps n).count
@@ -45,6 +50,12 @@ faces_made-few steps (suc n) run =
     let v = step.some_vertex in
     let k : s.first + s.faces ≤ s.last = omega (arith, ap s.cut z) in
     elim step.single [ inl one ↦ omega arith | inr one ↦ omega arith ]
+
+-- the roots of the axes
+roots_at : ℕ → ℕ → ℕ → Axis → ℕ
+roots_at s d e One = d
+roots_at s d e Two = s
+roots_at s d e Three = e
 
 module _ (lists : Lists) (s d : ℕ) (rows : ConvexRows) (h : IsRunByRows lists s d rows) where
   abbrev n : ℕ
@@ -144,8 +155,15 @@ module _ (lists : Lists) (s d : ℕ) (rows : ConvexRows) (h : IsRunByRows lists 
     less_one : side ≡ face_count lists - 1
     less_one = omega arith
 
-    pub IsConvexGrid-drawn : IsConvexGrid lists s d figure
-    IsConvexGrid-drawn = record {
+    named : IsNamedRun lists s d steps n h.rank h.face h.at
+    named = record { run = h.run; ranked = h.ranked; named = h.back }
+
+    roots : AreRoots lists (s, d) (roots_at s d last)
+    unfolding roots_at
+    roots = record { one = refl; two = refl; before = last_dart; step = (before_base lists s d steps n h.rank h.face h.run.touched.run h.run.map).1.step }
+
+    pub IsConvexGrid-drawn : IsPlane lists → component_count lists ≡ 1 → IsConvexGrid lists s d figure
+    IsConvexGrid-drawn plane connected = record {
       count = are.count;
       width = width ∙ ap pos less_one;
       height = height ∙ ap pos less_one;
@@ -158,4 +176,8 @@ module _ (lists : Lists) (s d : ℕ) (rows : ConvexRows) (h : IsRunByRows lists 
       first = drawing.second ∙ ap (λ m. grid_point 0 m) (made ∙ less_one);
       second = drawing.first ∙ ap (λ m. grid_point m 0) (made ∙ less_one);
       third = λ e has same. drawing.last e has.0 (rank_last e has same);
+      root = roots_at s d last;
+      out = some_wood lists s d steps n h.rank h.face h.at (roots_at s d last) named roots;
+      regions = regions_draw lists s d steps n h.rank h.face h.at (roots_at s d last) (some_wood lists s d steps n h.rank h.face h.at (roots_at s d last) named roots) points plane connected named roots
+        (some_wood-rises lists s d steps n h.rank h.face h.at (roots_at s d last) named roots) points_are;
     }

@@ -13,7 +13,6 @@ mod Onto
 pub mod Listed
 -- Lemmas on convex drawings.
 pub mod ByRows
-pub mod OuterFace
 pub mod GridLemmas
 mod Refused
 -- Lemmas on the figures of records.

@@ -19,11 +19,11 @@ use Rattle.convex_peeling.specs.Contours.{face_of}
 use Rattle.convex_peeling.proofs.Faces.{along_face}
 use Rattle.convex_orders.specs.FaceNumbers.{InWalk}
 use Rattle.convex_orders.proofs.FaceNumbersRows.{live_dart, live_at}
-use Rattle.convex_faces.specs.Walks.{IsWalk, is_odd_on}
-use Rattle.convex_faces.specs.Chains.{along, Reaches}
-use Rattle.convex_faces.specs.ClosedWalksLaws.{HasSide}
-use Rattle.convex_faces.proofs.Sides.{sides_are_known}
-use Rattle.convex_faces.specs.Inside.{is_other_face, IsInsideCount}
+use Rattle.convex_laws.specs.Walks.{IsWalk, is_odd_on}
+use Rattle.convex_laws.specs.Chains.{along, Reaches}
+use Rattle.convex_laws.specs.ClosedWalksLaws.{HasSide}
+use Rattle.convex_laws.proofs.Sides.{sides_are_known}
+use Rattle.convex_laws.specs.Inside.{is_other_face, IsInsideCount}
 use Rattle.convex_faces.specs.Search.{place, AreReached, is_counted}
 
 not-eqb : (a b : ℕ) → not (eqb a b) ≡ true → a ≢ b

@@ -4,13 +4,6 @@ pub mod NoteLemmas
 pub mod WoodLemmas
 pub mod PointLemmas
 mod Refused
--- Lemmas on closed walks.
-pub mod Flips
-mod Covers
-pub mod Degrees
-pub mod Sides
-pub mod WalkLemmas
-mod Cases
 -- The lemmas on the search.
 mod Marks
 mod Searching
@@ -20,4 +13,3 @@ mod PassLemmas
 mod RestLemmas
 mod AxisLemmas
 mod RegionLemmas
-mod OneRegion

@@ -8,10 +8,10 @@ use Rattle.euler_faces.specs.Numbers.{mark_at}
 use Rattle.euler_faces.proofs.NumberLemmas.{live-lt, live_from}
 use Rattle.convex_counts.specs.declared.face_woods.axis.Axis.{Axis}
 use Rattle.convex_laws.specs.ConvexWoods.{IsOut}
-use Rattle.convex_faces.specs.Walks.{flipped, is_edge, is_odd_on}
-use Rattle.convex_faces.proofs.Flips.{flipped_assoc, flipped_comm, flipped_false}
-use Rattle.convex_faces.proofs.WalkLemmas.{is_odd_on-append}
-use Rattle.convex_faces.specs.Regions.{IsAxisWay, IsOuterWay}
+use Rattle.convex_laws.specs.Walks.{flipped, is_edge, is_odd_on}
+use Rattle.convex_laws.proofs.Flips.{flipped_assoc, flipped_comm, flipped_false}
+use Rattle.convex_laws.proofs.WalkLemmas.{is_odd_on-append}
+use Rattle.convex_laws.specs.Regions.{IsAxisWay, IsOuterWay}
 use Rattle.convex_faces.specs.Passing.{Passes, PassesDart, PassesAxis}
 
 -- ---- walks

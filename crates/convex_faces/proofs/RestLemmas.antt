@@ -19,7 +19,7 @@ use Rattle.convex_peeling.specs.Tight.{IsTight, IsThreeConnected}
 use Rattle.convex_peeling.proofs.Corners.{SameFace-turned, SameFace-chained, SameFace-step}
 use Rattle.convex_peeling.proofs.Tightness.{three_connected_is_tight}
 use Rattle.convex_counts.specs.declared.face_woods.axis.Axis.TheVariants.{One, Three}
-use Rattle.convex_faces.specs.Regions.{IsOuterWay}
+use Rattle.convex_laws.specs.Regions.{IsOuterWay}
 use Rattle.convex_faces.specs.Passing.{PassesDart, PassesOuterWay, PassesRest, PassesOuter, IsOuterCorner}
 use Rattle.convex_faces.proofs.PassLemmas.{Passes-append, IsOuterWay-more}
 

@@ -9,10 +9,10 @@ use Rattle.half_edges.specs.Map.{Map, IsLive, IsHalfMap, dart_at, id_bound}
 use Rattle.euler_faces.specs.Numbers.{mark_at}
 use Rattle.euler_faces.proofs.SearchLemmas.{unmarked_below-set}
 use Rattle.euler_faces.proofs.NumberLemmas.{live_from}
-use Rattle.convex_faces.specs.Walks.{flipped}
-use Rattle.convex_faces.specs.Chains.{GoesOn, along, over, ReachesBy, Reaches}
+use Rattle.convex_laws.specs.Walks.{flipped}
+use Rattle.convex_laws.specs.Chains.{GoesOn, along, over, ReachesBy, Reaches}
 use Rattle.convex_faces.specs.declared.walk_sides.search.Side.{Side}
-use Rattle.convex_faces.specs.Inside.{HasMarks}
+use Rattle.convex_faces.specs.Passing.{HasMarks}
 use Rattle.convex_faces.specs.Search.{place, IsMet, Meets, before, now, work, GoesFrom, AreReached, IsSearching}
 use Rattle.convex_faces.proofs.Marks.{mark-same, mark-other, place_same, place_live, live_after, not_in_none, some_pair, dart_in}
 

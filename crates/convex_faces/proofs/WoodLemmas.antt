@@ -1,7 +1,7 @@
 -- The wood of the darts that are noted.
 use Rattle.std.proofs.Common.{◌≡◌, ◌≢◌, ℕ, suc, ◌+◌, ◌<◌, ◌≤◌, List, length, get_or, Option, Some, unwrap_or, refl, sym, ap, ◌∙◌, subst, arith}
 use Rattle.map_lists.specs.Lists.{Lists}
-use Rattle.map_theory.specs.Maps.{Dart, HasDart, follows}
+use Rattle.map_theory.specs.Maps.{Dart, HasDart, IsPlane, follows, component_count}
 use Rattle.std.specs.Option.{option_map}
 use Rattle.half_edges.specs.Map.{Map, IsHalfMap, IsLive, dart_at, next_dart, id_bound}
 use Rattle.euler_faces.proofs.NumberLemmas.{live_from, live-lt}
@@ -18,11 +18,13 @@ use Rattle.convex_counts.specs.declared.face_woods.axis.Axis.TheVariants.{One, T
 use Rattle.convex_counts.specs.Rising.{IsRising}
 use Rattle.convex_laws.specs.ConvexWoods.{AreRoots, IsOut, IsConvexWood}
 use Rattle.convex_laws.specs.ConvexWoodsLaws.{AreRisingOut}
+use Rattle.convex_laws.specs.RegionDrawings.{IsRegionDrawing}
 use Rattle.convex_laws.proofs.Heights.{height}
+use Rattle.convex_laws.proofs.WoodRegions.{regions_draw}
 use Rattle.convex_laws.proofs.ConvexWoodsWhole.{IsWoodRun-named, some_out, wood_of_run, out_higher, most}
 use Rattle.convex_faces.specs.Signs.{IsRisingBy}
 use Rattle.convex_faces.specs.Notes.{IsNoted, AreNoted}
-use Rattle.convex_faces.specs.Directions.{Directions, root_in, table_in, out_in, count_in, IsWoodIn}
+use Rattle.convex_faces.specs.Directions.{Directions, root_in, table_in, out_in, count_in, IsWoodIn, IsDrawnWood}
 use Rattle.convex_faces.specs.RunPoints.{AreRunPoints}
 use Rattle.convex_faces.proofs.SignLemmas.{IsRisingBy-counts, IsRising-points}
 use Rattle.convex_faces.proofs.NoteLemmas.{tail_is, head_is as ends_head}
@@ -57,13 +59,26 @@ module _ (map : Map) (known : IsHalfMap map) (s d : ℕ) (points : List Point) (
   darts : (c : Axis) (v : ℕ) → v < length lists → v ≢ root c → dart_at map (out_in wood c v) ≡ Some (v, head c v)
   darts c v l ne = let n = noted_at c v l ne in n.dart ∙ ap (λ (u : ℕ). Some (v, u)) (sym (head_is c v n))
 
-  are : AreRisingOut lists counts r.rank root head
-  are c v l ne =
+  -- whatever tells the heads of the darts
+  are_by : (to : Axis → ℕ → ℕ) → ((c : Axis) (v : ℕ) → v < length lists → v ≢ root c → dart_at map (out_in wood c v) ≡ Some (v, to c v)) → AreRisingOut lists counts r.rank root to
+  are_by to told c v l ne =
       let n = noted_at c v l ne in
-      let has = known.is_dart (out_in wood c v) v (head c v) (darts c v l ne) in
-      let lu = known.simple.in_range v (head c v) has in
-      let by = subst (λ u. IsRisingBy c (place points v) (place points u)) (sym (head_is c v n)) n.rises in
-      (has, IsRising-points counts c (r.rank v) (r.rank (head c v)) (subst (λ p. IsRisingBy c p (point_of counts (r.rank (head c v)))) (r.placed v l) (subst (IsRisingBy c (place points v)) (r.placed (head c v) lu) by)))
+      let has = known.is_dart (out_in wood c v) v (to c v) (told c v l ne) in
+      let lu = known.simple.in_range v (to c v) has in
+      let same : n.head ≡ to c v = ap (λ (o : Option Dart). (unwrap_or o (0, 0)).1) (sym n.dart ∙ told c v l ne) in
+      let by = subst (λ u. IsRisingBy c (place points v) (place points u)) same n.rises in
+      (has, IsRising-points counts c (r.rank v) (r.rank (to c v)) (subst (λ p. IsRisingBy c p (point_of counts (r.rank (to c v)))) (r.placed v l) (subst (IsRisingBy c (place points v)) (r.placed (to c v) lu) by)))
+
+  are : AreRisingOut lists counts r.rank root head
+  are = are_by head darts
+
+  -- the points are a drawing by its regions
+  pub IsDrawnWood-noted : IsPlane lists → component_count lists ≡ 1 → IsDrawnWood map s d wood
+  IsDrawnWood-noted plane connected = record {
+    figure = r.figure;
+    grid = r.grid;
+    regions = λ w. subst (IsRegionDrawing lists (s, d) root w.head) (sym r.drawn) (regions_draw lists s d r.steps r.n r.rank r.face r.at root w.head points plane connected r.run roots (are_by w.head w.darts) r.placed);
+  }
 
   pub IsWoodIn-noted : IsWoodIn map (s, d) wood
   IsWoodIn-noted =
@@ -100,12 +115,14 @@ noted_all map points wood a b d One = a
 noted_all map points wood a b d Two = b
 noted_all map points wood a b d Three = d
 
-pub IsWoodIn-made :
-    (map : Map) (known : IsHalfMap map) (base s d : ℕ) (points : List Point) (wood : Directions) → dart_at map base ≡ Some (s, d) → option_map (λ (x : Dart). x.1) (dart_at map base) ≡ Some wood.root_one → option_map (λ (x : Dart). x.0) (dart_at map base) ≡ Some wood.root_two
-    → ((s d : ℕ) → dart_at map base ≡ Some (s, d) → HasDart map.lists wood.root_three s × (follows map.lists s wood.root_three ≡ d)) → count_in wood ≡ length map.lists
-    → AreNoted map points One (id_bound map) wood.ones → AreNoted map points Two (id_bound map) wood.twos → AreNoted map points Three (id_bound map) wood.threes → AreRunPoints map.lists s d points → IsWoodIn map (s, d) wood
-IsWoodIn-made map known base s d points wood e one two three count a b t r =
-    let before = three s d e in
-    IsWoodIn-noted map known s d points r wood
-    record { one = sym (ends_head (dart_at map base) s d wood.root_one e one); two = sym (tail_is (dart_at map base) s d wood.root_two e two); before = before.0; step = before.1 }
-    count (noted_all map points wood a b t)
+module _ (map : Map) (known : IsHalfMap map) (base s d : ℕ) (points : List Point) (wood : Directions) (e : dart_at map base ≡ Some (s, d)) (one : option_map (λ (x : Dart). x.1) (dart_at map base) ≡ Some wood.root_one) (two : option_map (λ (x : Dart). x.0) (dart_at map base) ≡ Some wood.root_two) (three : (s d : ℕ) → dart_at map base ≡ Some (s, d) → HasDart map.lists wood.root_three s × (follows map.lists s wood.root_three ≡ d)) (count : count_in wood ≡ length map.lists) (a : AreNoted map points One (id_bound map) wood.ones) (b : AreNoted map points Two (id_bound map) wood.twos) (t : AreNoted map points Three (id_bound map) wood.threes) (r : AreRunPoints map.lists s d points) where
+  roots_made : AreRoots map.lists (s, d) (root_in wood)
+  roots_made =
+      let before = three s d e in
+      record { one = sym (ends_head (dart_at map base) s d wood.root_one e one); two = sym (tail_is (dart_at map base) s d wood.root_two e two); before = before.0; step = before.1 }
+
+  pub IsWoodIn-made : IsWoodIn map (s, d) wood
+  IsWoodIn-made = IsWoodIn-noted map known s d points r wood roots_made count (noted_all map points wood a b t)
+
+  pub IsDrawnWood-made : IsPlane map.lists → component_count map.lists ≡ 1 → IsDrawnWood map s d wood
+  IsDrawnWood-made plane connected = IsDrawnWood-noted map known s d points r wood roots_made count (noted_all map points wood a b t) plane connected

@@ -2,9 +2,12 @@
 use Rattle.std.specs.Prelude.{ℕ, ◌<◌, ◌≡◌, ◌≢◌, List, length, slice_index, Some}
 use Rattle.map_theory.specs.Maps.{Dart}
 use Rattle.half_edges.specs.Map.{Map, dart_at}
+use Rattle.pg_plane.specs.declared.figure.GridFigure.{GridFigure}
 use Rattle.convex_counts.specs.declared.face_woods.axis.Axis.{Axis}
 use Rattle.convex_counts.specs.declared.face_woods.axis.Axis.TheVariants.{One, Two, Three}
 use Rattle.convex_laws.specs.ConvexWoods.{IsOut, IsConvexWood}
+use Rattle.convex_laws.specs.RegionDrawings.{IsRegionDrawing}
+use Rattle.convex_draw.specs.Grids.{IsConvexGrid}
 
 -- the roots, and for each axis a table of the darts out of the vertices
 pub record Directions : Type 0 where
@@ -40,3 +43,9 @@ pub record IsWoodIn (map : Map) (base : Dart) (wood : Directions) : Type 0 where
   pub height : Axis → ℕ → ℕ
   pub higher : (c : Axis) (v u : ℕ) → IsOut map.lists (root_in wood) head c v u → height c v < height c u
   pub most : (c : Axis) (v : ℕ) → v < length map.lists → height c v < 1048576
+
+-- Over the base from s to d some convex drawing of the map in a grid is by the regions of this wood.
+pub record IsDrawnWood (map : Map) (s d : ℕ) (wood : Directions) : Type 0 where
+  pub figure : GridFigure
+  pub grid : IsConvexGrid map.lists s d figure
+  pub regions : (w : IsWoodIn map (s, d) wood) → IsRegionDrawing map.lists (s, d) (root_in wood) w.head figure.points

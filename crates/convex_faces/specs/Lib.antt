@@ -3,14 +3,7 @@ pub mod Signs
 pub mod Notes
 pub mod Directions
 pub mod RunPoints
--- Closed walks and their sides.
-pub mod Walks
-pub mod Chains
-pub mod ClosedWalksLaws
--- The faces inside a closed walk.
-pub mod Inside
+-- The faces inside a closed walk, and regions of convex woods.
 pub mod Search
--- Regions of convex woods.
-pub mod Regions
-pub mod FaceRegionsLaws
 pub mod Passing
+pub mod FaceRegionsLaws

@@ -7,9 +7,12 @@ use Rattle.vertex_rounds.specs.Rounds.{dart_of}
 use Rattle.convex_counts.specs.declared.face_woods.axis.Axis.{Axis}
 use Rattle.convex_counts.specs.declared.face_woods.axis.Axis.TheVariants.{One, Two, Three}
 use Rattle.convex_counts.specs.Axes.{next, previous}
-use Rattle.convex_faces.specs.Walks.{flipped, is_odd_on}
-use Rattle.convex_faces.specs.Inside.{HasMarks}
-use Rattle.convex_faces.specs.Regions.{IsAxisWay, IsOuterWay, IsRegionWalk}
+use Rattle.convex_laws.specs.Walks.{flipped, is_odd_on}
+use Rattle.convex_laws.specs.Regions.{IsAxisWay, IsOuterWay, IsRegionWalk}
+
+-- the id of each dart whose edge counts has a mark
+abbrev pub HasMarks : Map → (ℕ → ℕ → Bool) → List Bool → Type 0
+HasMarks map counts marked = (d x y : ℕ) → dart_at map d ≡ Some (x, y) → mark_at marked d ≡ counts x y
 
 -- the marks of the edges that a walk passes an odd number of times are turned round, and no others
 abbrev pub Passes : Map → List Dart → List Bool → List Bool → Type 0

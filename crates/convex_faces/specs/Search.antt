@@ -5,8 +5,8 @@ use Rattle.map_theory.specs.Maps.{Dart, twin_dart, face_step}
 use Rattle.half_edges.specs.Map.{Map, dart_at}
 use Rattle.euler_faces.specs.Numbers.{mark_at}
 use Rattle.euler_faces.specs.FaceWalks.{walk_at}
-use Rattle.convex_faces.specs.Walks.{flipped}
-use Rattle.convex_faces.specs.Chains.{GoesOn, Reaches}
+use Rattle.convex_laws.specs.Walks.{flipped}
+use Rattle.convex_laws.specs.Chains.{GoesOn, Reaches}
 use Rattle.convex_faces.specs.declared.walk_sides.search.Side.{Side}
 
 -- the place of a dart's mark: two for each dart, as a chain comes to its face with an even number or an odd one

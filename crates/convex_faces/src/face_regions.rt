@@ -1,14 +1,17 @@
 //! The regions of convex woods (Felsner, 2001), each as the number of its faces. A law is the contract of a function
 //! that does nothing.
 
-ghost use Rattle.convex_faces.specs.FaceRegionsLaws.{RegionsAreOne};
+ghost use Rattle.convex_faces.specs.FaceRegionsLaws.{RegionsAreCoordinates};
 
 mod passing;
 mod region;
 
+pub use convex_laws::face_regions::regions_are_one;
 pub use region::face_region;
 
-/// The closed path of a vertex for an axis is one, and so is the number of faces in its region.
-pub fn regions_are_one()
-    ensures { RegionsAreOne }
+/// For the wood of a call of `convex_wood` the numbers of `face_region` are coordinates: of a figure that meets the
+/// contract of `convex_draw` for the same map and base. For axis one it is x, for axis two y, and for axis three what
+/// both lack of f - 1, for f faces.
+pub fn regions_are_coordinates()
+    ensures { RegionsAreCoordinates }
 {}

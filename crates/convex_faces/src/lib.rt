@@ -1,12 +1,12 @@
 //! Convex drawings by counts of faces (Felsner 2001): the wood of a map, its regions, the drawing, and the check.
 #![tactic(auto)]
 
-pub mod closed_walks;
 pub mod face_regions;
 pub mod walk_sides;
 pub mod wood;
 
 pub use convex_check::{ConvexVerdict, check_convex};
 pub use convex_draw::convex_draw;
+pub use convex_laws::closed_walks;
 pub use face_regions::face_region;
 pub use wood::{Axis, ConvexWood, convex_wood};

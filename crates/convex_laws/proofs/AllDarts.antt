@@ -16,6 +16,34 @@ use Rattle.convex_laws.specs.ConvexDrawings.{IsRunMap}
 use Rattle.convex_counts.proofs.Apart.{find_face}
 use Rattle.convex_counts.specs.Rising.{IsRunEdge, along, back, over, IsDart}
 
+module _ (steps : ℕ → Step) (n : ℕ) (run : IsRun steps n) where
+  abbrev at_stage : ℕ → Stage
+  at_stage k = stage_after steps k
+
+  sound_at : (k : ℕ) → k ≤ n → IsStage (at_stage k)
+  sound_at k l = IsStage-run steps k (IsRun-less steps k n l run)
+
+  -- the base from its second vertex to its first is on no face that is made
+  pub base_outside : (k i x y : ℕ) → k < n → IsDartOf (at_stage k) (steps k) i x y → x ≡ 1 → y ≡ 0 → ⊥
+  base_outside k i x y l h ex ey =
+      let g = sound_at k (omega arith) in
+      let li = h.within in
+      let some = (run k l).some_vertex in
+      let two = count-le steps 0 k (omega arith) in
+      elim h.dart [
+        | inl a ↦
+            let c = cut-last (at_stage k) (steps k) (run k l) (suc i) li in
+            let hi = a.high in
+            let w = (run k l).within in
+            let end : ℕ = (at_stage k).width - 1 in
+            let wide = g.wide in
+            let z = one_place (at_stage k) (steps k) g (run k l) a.place end (omega arith) (omega arith) (a.tail ∙ ex ∙ sym (g.end end (omega arith))) in
+            omega arith
+        | inr (inl a) ↦ let e = a.head in omega arith
+        | inr (inr (inl a)) ↦ let e = a.low in omega arith
+        | inr (inr (inr a)) ↦ let e = a.tail in omega arith
+      ]
+
 module _ (lists : Lists) (s d : ℕ) (steps : ℕ → Step) (n : ℕ) (rank : ℕ → ℕ) (face : ℕ → ℕ → ℕ) (at : ℕ → ℕ) (run : IsRun steps n) (map : IsRunMap lists (s, d) steps n rank face) (all : (stage_after steps n).count ≡ length lists) (below : (r : ℕ) → r < length lists → at r < length lists) (one : (r q : ℕ) → r < length lists → q < length lists → at r ≡ at q → r ≡ q) (named : (v : ℕ) → v < length lists → at (rank v) ≡ v) where
   abbrev st : ℕ → Stage
   st k = stage_after steps k
@@ -50,33 +78,12 @@ module _ (lists : Lists) (s d : ℕ) (steps : ℕ → Step) (n : ℕ) (rank : �
   IsDartOf-at : (k k' i i' x y : ℕ) → k ≡ k' → i ≡ i' → IsDartOf (st k) (steps k) i x y → IsDartOf (st k') (steps k') i' x y
   IsDartOf-at k k' i i' x y ek ei h = subst (λ k. IsDartOf (st k) (steps k) i' x y) ek (subst (λ i. IsDartOf (st k) (steps k) i x y) ei h)
 
-  -- the base from its second vertex to its first is on no face that is made
-  base_outside : (k i x y : ℕ) → k < n → IsDartOf (st k) (steps k) i x y → x ≡ 1 → y ≡ 0 → ⊥
-  base_outside k i x y l h ex ey =
-      let g = sound k (omega arith) in
-      let li = h.within in
-      let some = (run k l).some_vertex in
-      let two = count-le steps 0 k (omega arith) in
-      elim h.dart [
-        | inl a ↦
-            let c = cut-last (st k) (steps k) (run k l) (suc i) li in
-            let hi = a.high in
-            let w = (run k l).within in
-            let end : ℕ = (st k).width - 1 in
-            let wide = g.wide in
-            let z = one_place (st k) (steps k) g (run k l) a.place end (omega arith) (omega arith) (a.tail ∙ ex ∙ sym (g.end end (omega arith))) in
-            omega arith
-        | inr (inl a) ↦ let e = a.head in omega arith
-        | inr (inr (inl a)) ↦ let e = a.low in omega arith
-        | inr (inr (inr a)) ↦ let e = a.tail in omega arith
-      ]
-
   -- a dart on a face that is made has its number, and the next dart is on that face too
   pub numbered : (k i x y : ℕ) → k < n → HasDart lists x y → IsDartOf (st k) (steps k) i (rank x) (rank y) → face x y ≡ faces_made steps k + i
   numbered k i x y l has h = elim (map.on_face x y has) [
     | inl m ↦ let z = face_made_once steps n m.step k m.place i (rank x) (rank y) run m.earlier l m.dart h in m.number ∙ ap₂ (λ k i. faces_made steps k + i) z.0 z.1
     | inr (inl out) ↦ absurd (none_along_later steps n k i out.place (rank x) (rank y) run l h out.along)
-    | inr (inr base) ↦ absurd (base_outside k i (rank x) (rank y) l h base.tail base.head)
+    | inr (inr base) ↦ absurd (base_outside steps n run k i (rank x) (rank y) l h base.tail base.head)
   ]
 
   pub on_number : (k i x y : ℕ) → k < n → i < (steps k).faces → HasDart lists x y → face x y ≡ faces_made steps k + i → IsDartOf (st k) (steps k) i (rank x) (rank y)

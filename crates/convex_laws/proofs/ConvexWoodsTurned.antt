@@ -8,7 +8,7 @@ use Rattle.convex_counts.proofs.Turns.{contours_as_before}
 use Rattle.convex_laws.specs.FaceDrawings.{IsRunDart}
 use Rattle.convex_laws.specs.ConvexDrawings.{IsRunMap}
 
-faces_as_before : (s : ℕ → Step) (n : ℕ) → faces_made (well_turned s) n ≡ faces_made s n
+pub faces_as_before : (s : ℕ → Step) (n : ℕ) → faces_made (well_turned s) n ≡ faces_made s n
 faces_as_before s zero = refl
 faces_as_before s (suc n) = ap (λ m. m + (s n).faces) (faces_as_before s n)
 

@@ -29,3 +29,22 @@ pub mod Steps
 pub mod Ends
 pub mod Ranked
 pub mod Ended
+-- Lemmas on closed walks.
+pub mod Flips
+pub mod Covers
+pub mod Degrees
+pub mod Sides
+pub mod WalkLemmas
+mod WalkCases
+-- Lemmas on regions.
+pub mod OneRegion
+pub mod RegionWalks
+pub mod FaceTests
+pub mod TestOrders
+pub mod EdgeTests
+pub mod WayTests
+pub mod ThirdWays
+pub mod RunSides
+pub mod OuterFace
+pub mod WoodSides
+pub mod WoodRegions

@@ -16,3 +16,12 @@ pub mod ConvexWoods
 pub mod ConvexWoodsLaws
 -- Rows of removals.
 pub mod Removed
+-- Closed walks, their sides, and the faces inside.
+pub mod Walks
+pub mod Chains
+pub mod ClosedWalksLaws
+pub mod Inside
+-- Regions of convex woods.
+pub mod Regions
+pub mod RegionDrawings
+pub mod FaceRegionsLaws

@@ -7,7 +7,7 @@ ghost use Rattle.euler_faces.specs.Numbers.{mark_at};
 ghost use Rattle.convex_counts.specs.declared.face_woods.axis.Axis.TheVariants.{One, Two, Three};
 ghost use Rattle.convex_counts.specs.Axes.{next, previous};
 ghost use Rattle.convex_faces.specs.Directions.{root_in, IsWoodIn};
-ghost use Rattle.convex_faces.specs.Regions.{IsFaceRegion};
+ghost use Rattle.convex_laws.specs.Regions.{IsFaceRegion};
 ghost use Rattle.convex_faces.specs.Passing.{MarksRegion};
 
 use crate::face_regions::passing::{pass_axis, pass_outer};

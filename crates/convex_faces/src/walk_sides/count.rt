@@ -5,8 +5,9 @@ ghost use Rattle.map_theory.specs.Maps.{Dart, IsPlane, component_count};
 ghost use Rattle.half_edges.specs.Map.{IsHalfMap, IsLive, dart_at, id_bound};
 ghost use Rattle.euler_faces.specs.Numbers.{mark_at};
 ghost use Rattle.euler_faces.specs.FaceWalks.{AreFaces};
-ghost use Rattle.convex_faces.specs.Walks.{IsWalk, is_odd_on};
-ghost use Rattle.convex_faces.specs.Inside.{HasMarks, IsInsideCount};
+ghost use Rattle.convex_laws.specs.Walks.{IsWalk, is_odd_on};
+ghost use Rattle.convex_laws.specs.Inside.{IsInsideCount};
+ghost use Rattle.convex_faces.specs.Passing.{HasMarks};
 ghost use Rattle.convex_faces.specs.Search.{is_counted};
 
 use crate::walk_sides::search::search;

@@ -3,8 +3,8 @@ ghost use Rattle.std.specs.Prelude.{◌≡◌, ◌<◌, ◌*◌, ℕ, Bool, fals
 ghost use Rattle.map_theory.specs.Maps.{Dart};
 ghost use Rattle.half_edges.specs.Map.{IsLive, dart_at, id_bound};
 ghost use Rattle.euler_faces.specs.Numbers.{mark_at};
-ghost use Rattle.convex_faces.specs.Walks.{flipped};
-ghost use Rattle.convex_faces.specs.Inside.{HasMarks};
+ghost use Rattle.convex_laws.specs.Walks.{flipped};
+ghost use Rattle.convex_faces.specs.Passing.{HasMarks};
 ghost use Rattle.convex_faces.specs.Search.{place, Meets, IsAlong, IsAcross, GoesFrom, AreReached};
 
 use half_edges::{DartId, HalfMap};

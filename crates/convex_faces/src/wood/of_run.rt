@@ -1,11 +1,11 @@
 //! The convex wood of a map.
 ghost use Rattle.std.specs.Prelude.{◌≡◌, ◌<◌, ℕ, Some, length, IfOk};
-ghost use Rattle.map_theory.specs.Maps.{IsPlane, HasDart, follows};
+ghost use Rattle.map_theory.specs.Maps.{IsPlane, HasDart, follows, component_count};
 ghost use Rattle.convex_peeling.specs.Tight.{IsThreeConnected};
 ghost use Rattle.half_edges.specs.Map.{IsLive, dart_at, id_bound};
 ghost use Rattle.convex_faces.specs.Notes.{AreNoted};
 ghost use Rattle.convex_faces.specs.RunPoints.{AreRunPoints};
-ghost use Rattle.convex_faces.specs.Directions.{IsWoodIn};
+ghost use Rattle.convex_faces.specs.Directions.{IsWoodIn, IsDrawnWood};
 
 use crate::wood::outs::outs_along;
 use crate::wood::points::run_points;
@@ -34,7 +34,8 @@ fn wood_by(
 ) -> Result<ConvexWood, AllocError>
     requires base { IsLive map.now base.0 }
     requires points { length points.now ≡ length map.now.lists }
-    ensures { IfOk result (λ wood. (s d : ℕ) → dart_at map.now base.0 ≡ Some (s, d) → AreRunPoints map.now.lists s d points.now → IsWoodIn map.now (s, d) wood) }
+    ensures wood { IfOk result (λ wood. (s d : ℕ) → dart_at map.now base.0 ≡ Some (s, d) → AreRunPoints map.now.lists s d points.now → IsWoodIn map.now (s, d) wood) }
+    ensures drawn { IfOk result (λ wood. (s d : ℕ) → dart_at map.now base.0 ≡ Some (s, d) → IsPlane map.now.lists → component_count map.now.lists ≡ 1 → AreRunPoints map.now.lists s d points.now → IsDrawnWood map.now s d wood) }
 {
     map.facts();
     let ones = outs_along(alloc, map, points, Axis::One)?;
@@ -61,6 +62,9 @@ fn wood_by(
 /// vertex stand the outgoing ones as one, two, three, and those of an axis that enter between the two others. No
 /// inner face has an axis along which all its darts lead.
 ///
+/// Some figure that meets the contract of `convex_draw` for the same map and base is drawn by this wood: its coordinates
+/// are the numbers of faces in the regions of its vertices.
+///
 /// It fails only for want of memory. The map stays as it is. The time is linear in the map: the directions are read
 /// off the counts of faces of the convex drawing, one dart after another.
 ///
@@ -69,7 +73,8 @@ pub fn convex_wood(alloc: Global, map: &HalfMap, base: DartId) -> Result<ConvexW
     requires plane { IsPlane map.now.lists }
     requires three { IsThreeConnected map.now.lists }
     requires base { IsLive map.now base.0 }
-    ensures { IfOk result (λ wood. (s d : ℕ) → dart_at map.now base.0 ≡ Some (s, d) → IsWoodIn map.now (s, d) wood) }
+    ensures wood { IfOk result (λ wood. (s d : ℕ) → dart_at map.now base.0 ≡ Some (s, d) → IsWoodIn map.now (s, d) wood) }
+    ensures drawn { IfOk result (λ wood. (s d : ℕ) → dart_at map.now base.0 ≡ Some (s, d) → IsDrawnWood map.now s d wood) }
 {
     map.facts();
     let points = run_points(alloc, map, base)?;

@@ -64,4 +64,4 @@ returns c = λ s d e.
     let steps = well_turned h.steps in
     IsConvexGrid-drawn map.lists s d c.in_ok-rows.rows h c.side_of-side.result c.side_of-side.ensures c.in_square.result c.in_square.ensures.width c.in_square.ensures.height
     (subst (λ points. ArePointsOf (face_counts steps (length c.in_ok-rows.rows.rows)) h.at (length map.lists) points) (sym c.in_square.ensures.points)
-    (subst (λ m. ArePointsOf (face_counts steps (length c.in_ok-rows.rows.rows)) h.at m c.in_ok-points.points) c.n.ensures.count are))
+    (subst (λ m. ArePointsOf (face_counts steps (length c.in_ok-rows.rows.rows)) h.at m c.in_ok-points.points) c.n.ensures.count are)) c.requires.plane c.requires.three.connected

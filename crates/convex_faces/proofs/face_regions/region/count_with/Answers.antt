@@ -1,7 +1,8 @@
 use Rattle.std.proofs.Common.{Some, ap, ◌∙◌}
 use Rattle.std.proofs.lemmas.Result.{IfOk-weaker}
 use Rattle.convex_faces.specs.Directions.{root_in}
-use Rattle.convex_faces.proofs.RegionLemmas.{start_is, IsRegionWalk-closed}
+use Rattle.convex_laws.proofs.RegionWalks.{IsRegionWalk-closed}
+use Rattle.convex_faces.proofs.RegionLemmas.{start_is}
 use Rattle.convex_faces.proofs.face_regions.region.count_with.Goals as goal
 
 pub returns : goal.returns

@@ -1,4 +1,4 @@
-use Rattle.convex_faces.specs.Walks.{is_odd_on}
+use Rattle.convex_laws.specs.Walks.{is_odd_on}
 use Rattle.convex_faces.proofs.CountLemmas.{count_is}
 use Rattle.convex_faces.proofs.walk_sides.count.count_with.Goals as goal
 

@@ -1,7 +1,7 @@
 use Rattle.std.proofs.Common.{◌≡◌, ◌*◌, ℕ, Bool, Some, length, Contains}
 use Rattle.map_theory.specs.Maps.{Dart}
 use Rattle.half_edges.specs.Map.{IsLive, dart_at, id_bound}
-use Rattle.convex_faces.specs.Inside.{HasMarks}
+use Rattle.convex_faces.specs.Passing.{HasMarks}
 use Rattle.convex_faces.specs.declared.walk_sides.search.Side.{Side}
 use Rattle.convex_faces.specs.Search.{work, IsSearching}
 use Rattle.convex_faces.proofs.walk_sides.search.search.Given as goal

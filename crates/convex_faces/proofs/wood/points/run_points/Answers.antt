@@ -43,4 +43,4 @@ returns c = λ s d e.
     let map = c.args.map.now in
     let h = IsRunByRows-of map.lists s d c.in_ok-rows.rows (c.in_ok-rows.ensures s d e) in
     let run = listed map.lists s d c.in_ok-rows.rows h c.side_of-side.result c.head.result.0 c.tail.result.0 c.n.result c.side_of-side.ensures (head_is (dart_at map c.args.base.0) s d c.head.result.0 e c.head.ensures) (tail_is (dart_at map c.args.base.0) s d c.tail.result.0 e c.tail.ensures) (sym c.n.ensures.count) in
-    AreRunPoints-counts map.lists s d c.in_ok-rows.rows h c.side_of-side.result c.n.result c.in_ok-points.points c.side_of-side.ensures c.n.ensures.count c.n.ensures.known.few_vertices (c.in_ok-points.ensures h.steps h.at run)
+    AreRunPoints-counts map.lists s d c.in_ok-rows.rows h c.side_of-side.result c.n.result c.in_ok-points.points c.side_of-side.ensures c.n.ensures.count c.n.ensures.known.few_vertices (c.in_ok-points.ensures h.steps h.at run) c.requires.plane c.requires.three.connected

@@ -1,16 +1,10 @@
 -- The faces inside a closed walk, and how many there are.
-use Rattle.std.specs.Prelude.{ℕ, ◌≡◌, Bool, not, ◌&&◌, ◌==◌, List, Some}
+use Rattle.std.specs.Prelude.{ℕ, ◌≡◌, Bool, not, ◌&&◌, ◌==◌, List}
 use Rattle.classes.specs.Classes.{count_below, label, same_class}
 use Rattle.map_lists.specs.Lists.{Lists}
 use Rattle.map_theory.specs.Maps.{Dart, HasDart, dart_count, dart_number, face_classes}
-use Rattle.half_edges.specs.Map.{Map, dart_at}
-use Rattle.euler_faces.specs.Numbers.{mark_at}
-use Rattle.convex_faces.specs.Walks.{is_odd_on}
-use Rattle.convex_faces.specs.ClosedWalksLaws.{HasSide}
-
--- the id of each dart whose edge counts has a mark
-abbrev pub HasMarks : Map → (ℕ → ℕ → Bool) → List Bool → Type 0
-HasMarks map counts marked = (d x y : ℕ) → dart_at map d ≡ Some (x, y) → mark_at marked d ≡ counts x y
+use Rattle.convex_laws.specs.Walks.{is_odd_on}
+use Rattle.convex_laws.specs.ClosedWalksLaws.{HasSide}
 
 -- the number of a dart is the least of a face, by which the face is counted, and the face is not the base's
 abbrev pub is_other_face : Lists → Dart → ℕ → Bool

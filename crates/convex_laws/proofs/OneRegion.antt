@@ -14,10 +14,10 @@ use Rattle.convex_counts.specs.declared.face_woods.axis.Axis.{Axis}
 use Rattle.convex_counts.specs.declared.face_woods.axis.Axis.TheVariants.{One, Two, Three}
 use Rattle.convex_counts.specs.Axes.{next, previous}
 use Rattle.convex_laws.specs.ConvexWoods.{AreRoots, IsConvexWood}
-use Rattle.convex_faces.specs.Walks.{turned}
-use Rattle.convex_faces.specs.Inside.{is_other_face, IsInsideCount}
-use Rattle.convex_faces.specs.Regions.{IsAxisWay, IsOuterWay, IsRegionWalk}
-use Rattle.convex_faces.specs.FaceRegionsLaws.{RegionsAreOne}
+use Rattle.convex_laws.specs.Walks.{turned}
+use Rattle.convex_laws.specs.Inside.{is_other_face, IsInsideCount}
+use Rattle.convex_laws.specs.Regions.{IsAxisWay, IsOuterWay, IsRegionWalk}
+use Rattle.convex_laws.specs.FaceRegionsLaws.{RegionsAreOne}
 
 -- along an axis there is one way to its root
 axis_once : (lists : Lists) (root : Axis → ℕ) (out : Axis → ℕ → ℕ) (c : Axis) (v : ℕ) (ds es : List Dart) → IsAxisWay lists root out c v (root c) ds → IsAxisWay lists root out c v (root c) es → ds ≡ es

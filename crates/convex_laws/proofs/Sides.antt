@@ -12,11 +12,11 @@ use Rattle.map_theory.proofs.DartPermutations.{rotation, twin, IsPermuting-rotat
 use Rattle.plane_laws.proofs.DartPaths.{twin-number, face_step-number}
 use Rattle.plane_laws.proofs.EdgeBound.{one_class}
 use Rattle.plane_peeling.proofs.Rings.{entries_closed}
-use Rattle.convex_faces.specs.Walks.{IsWalk, flipped, is_odd_on}
-use Rattle.convex_faces.specs.Chains.{GoesOn, along, over, ReachesBy, Reaches}
-use Rattle.convex_faces.specs.ClosedWalksLaws.{SidesAreKnown}
-use Rattle.convex_faces.proofs.Covers.{copy, J, copies_apart, over_together, along_together}
-use Rattle.convex_faces.proofs.Degrees.{passed, passed-twin, sector, sector-rotation}
+use Rattle.convex_laws.specs.Walks.{IsWalk, flipped, is_odd_on}
+use Rattle.convex_laws.specs.Chains.{GoesOn, along, over, ReachesBy, Reaches}
+use Rattle.convex_laws.specs.ClosedWalksLaws.{SidesAreKnown}
+use Rattle.convex_laws.proofs.Covers.{copy, J, copies_apart, over_together, along_together}
+use Rattle.convex_laws.proofs.Degrees.{passed, passed-twin, sector, sector-rotation}
 
 -- some class where there is some number
 some_class : (labels : List ℕ) → IsLabels labels → (i : ℕ) → i < length labels → 1 ≤ class_count labels

@@ -6,8 +6,8 @@ use Rattle.map_lists.specs.Lists.{Lists}
 use Rattle.map_theory.specs.Maps.{Dart, HasDart, IsSimpleMap, list_of, place_of, dart_count, same_dart}
 use Rattle.map_theory.proofs.DartLemmas.{place_of-lt-length, get_or-place_of, place_of-get_or, place_after, place_of-entry_after}
 use Rattle.map_theory.proofs.DartPermutations.{dart_of, dart_of-number, dart_of-twin, dart_of-rotation, rotation, twin}
-use Rattle.convex_faces.specs.Walks.{IsWalk, flipped, is_edge, is_odd_on}
-use Rattle.convex_faces.proofs.Flips.{flipped_swap, flipped_assoc, flipped_comm, flipped_both, flipped_self}
+use Rattle.convex_laws.specs.Walks.{IsWalk, flipped, is_edge, is_odd_on}
+use Rattle.convex_laws.proofs.Flips.{flipped_swap, flipped_assoc, flipped_comm, flipped_both, flipped_self}
 
 -- whether an odd number of the places below n pass a test
 abbrev pub odd_below : (ℕ → Bool) → ℕ → Bool

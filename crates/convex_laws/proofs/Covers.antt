@@ -7,8 +7,8 @@ use Rattle.classes.proofs.Classes.{Together, IsLabels, label-lt}
 use Rattle.classes.proofs.Orbits.{StaysBelow, IsPermuting, orbits_of, length-orbits_of, IsLabels-orbits_of, orbits_of-step, orbits_of-marked}
 use Rattle.classes.proofs.Bound.{joint, length-joint, IsLabels-joint, joint-first, joint-second, joint-marked, IsPairing, IsPermuting-pairing, IsPermuting-after, after, Balances, euler_bound_at}
 use Rattle.plane_laws.proofs.EdgeBound.{one_class}
-use Rattle.convex_faces.specs.Walks.{flipped}
-use Rattle.convex_faces.proofs.Flips.{flipped_twice, flipped_cancel, flipped_both, pair_alike}
+use Rattle.convex_laws.specs.Walks.{flipped}
+use Rattle.convex_laws.proofs.Flips.{flipped_twice, flipped_cancel, flipped_both, pair_alike}
 
 -- ---- the numbers of the two copies
 abbrev pub copy : ℕ → ℕ → Bool → ℕ
@@ -89,7 +89,7 @@ IsPairing-lifted g test k v alike = record {
 }
 
 -- ---- counts
-count_below-add : (p : ℕ → Bool) (k n : ℕ) → count_below p (k + n) ≡ count_below p k + count_below (λ i. p (k + i)) n
+pub count_below-add : (p : ℕ → Bool) (k n : ℕ) → count_below p (k + n) ≡ count_below p k + count_below (λ i. p (k + i)) n
 count_below-add p k zero = let e : k + 0 ≡ k = omega arith in ap (count_below p) e ∙ omega arith
 count_below-add p k (suc n) = let e : k + suc n ≡ suc (k + n) = omega arith in ap (count_below p) e ∙ omega (arith, count_below-add p k n)
 

@@ -106,6 +106,21 @@ module _ (lists : Lists) (s d : ℕ) (steps : ℕ → Step) (n : ℕ) (rank : �
   pub record IsBefore (e : ℕ) : Type 0 where
     pub dart : HasDart lists e s
     pub same : SameFace lists (s, d) (e, s)
+    pub step : follows lists s e ≡ d
+
+  -- behind it comes the base
+  before_step : (e : ℕ) → HasDart lists e s → face e s ≡ outer → follows lists s e ≡ d
+  before_step e has same =
+      let y = follows lists s e in
+      let next = HasDart-face_step lists (e, s) simple has in
+      elim (cases_outer s y next (map.faces e s has ∙ same)) [
+        | inl on ↦
+            let w = on.within in
+            let end = stage.end (g.width - 1) (omega arith) in
+            let k : on.place ≡ g.width - 1 = sym (stage.own on.place (omega arith)) ∙ (ap g.place (on.tail ∙ (map.second ∙ sym end)) ∙ stage.own (g.width - 1) (omega arith)) in
+            absurd (omega arith)
+        | inr base ↦ map.ranks y d (vertex_in s y next).1 (vertex_in s d map.dart).1 (base.1 ∙ sym map.first)
+      ]
 
   pub before_base : (e : ℕ) × IsBefore e
   before_base =
@@ -116,4 +131,4 @@ module _ (lists : Lists) (s d : ℕ) (steps : ℕ → Step) (n : ℕ) (rank : �
       let m = vertex_in at.x at.y at.dart in
       let b = vertex_in s d map.dart in
       let ey : at.y ≡ s = map.ranks at.y s m.1 b.0 (sym at.head ∙ end ∙ sym map.second) in
-      (at.x, subst (λ y. HasDart lists at.x y → SameFace lists (s, d) (at.x, y) → IsBefore at.x) (sym ey) (λ h k. record { dart = h; same = k }) at.dart (SameFace-labels lists s d at.x at.y at.same))
+      (at.x, subst (λ y. HasDart lists at.x y → SameFace lists (s, d) (at.x, y) → face at.x y ≡ outer → IsBefore at.x) (sym ey) (λ h k o. record { dart = h; same = k; step = before_step at.x h o }) at.dart (SameFace-labels lists s d at.x at.y at.same) at.outer_face)

@@ -2,7 +2,7 @@
 use Rattle.std.specs.Prelude.{ℕ, zero, suc, ◌≡◌, Bool, false}
 use Rattle.map_lists.specs.Lists.{Lists}
 use Rattle.map_theory.specs.Maps.{Dart, follows}
-use Rattle.convex_faces.specs.Walks.{flipped}
+use Rattle.convex_laws.specs.Walks.{flipped}
 
 -- A chain goes on from the dart (x, y): along the face that lies on its left, or over the edge to the face on the other side. It counts whether it has stepped over an odd number of edges that count.
 pub data GoesOn (lists : Lists) (counts : ℕ → ℕ → Bool) (x y : ℕ) (odd : Bool) (x' y' : ℕ) (odd' : Bool) : Type 0 where

@@ -6,8 +6,8 @@ use Rattle.map_theory.specs.Paths.{SameFace}
 use Rattle.convex_counts.specs.declared.face_woods.axis.Axis.{Axis}
 use Rattle.convex_counts.specs.Axes.{next, previous}
 use Rattle.convex_laws.specs.ConvexWoods.{IsOut}
-use Rattle.convex_faces.specs.Walks.{turned}
-use Rattle.convex_faces.specs.Inside.{IsInsideCount}
+use Rattle.convex_laws.specs.Walks.{turned}
+use Rattle.convex_laws.specs.Inside.{IsInsideCount}
 
 -- the darts lead from v along an axis to w
 abbrev pub IsAxisWay : Lists → (Axis → ℕ) → (Axis → ℕ → ℕ) → Axis → ℕ → ℕ → List Dart → Type 0

@@ -1,6 +1,6 @@
 -- Flips of Booleans.
 use Rattle.std.proofs.Common.{◌≡◌, ◌≢◌, ℕ, Bool, true, false, ◌&&◌, eqb, refl, sym, ap, ap₂, ◌∙◌, true≢false}
-use Rattle.convex_faces.specs.Walks.{flipped}
+use Rattle.convex_laws.specs.Walks.{flipped}
 
 pub flipped_twice : (a b : Bool) → flipped a (flipped a b) ≡ b
 flipped_twice true true = refl

@@ -1,5 +1,0 @@
-use Rattle.convex_faces.proofs.Sides.{sides_are_known}
-use Rattle.convex_faces.proofs.closed_walks.sides_are_known.Goals as goal
-
-pub returns : goal.returns
-returns c = sides_are_known

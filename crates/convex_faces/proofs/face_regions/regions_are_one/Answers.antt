@@ -1,5 +1,0 @@
-use Rattle.convex_faces.proofs.OneRegion.{regions_are_one}
-use Rattle.convex_faces.proofs.face_regions.regions_are_one.Goals as goal
-
-pub returns : goal.returns
-returns c = regions_are_one
