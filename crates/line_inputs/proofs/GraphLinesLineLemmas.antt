@@ -18,7 +18,7 @@ use Rattle.line_inputs.specs.declared.graph_lines.ending.Ending.{Ending}
 use Rattle.line_inputs.specs.declared.graph_lines.ending.Ending.TheVariants.{Well, BadLine, Limit, TooLong}
 use Rattle.line_inputs.specs.declared.graph_lines.line.Judged.{Judged}
 use Rattle.line_inputs.specs.declared.graph_lines.line.Judged.TheVariants.{Header, Graph, Bad}
-use Rattle.line_inputs.proofs.HeaderLemmas.{header-of-line, header-within, settled-line, settled-header, settled-more}
+use Rattle.line_inputs.proofs.HeaderLemmas.{header-of-line, header-within, settled-line, settled-more}
 
 -- a line more
 AreLines-push : (lines : List (List ℕ)) (graphs : List EdgeGraph) (line : List ℕ) (g : EdgeGraph) → AreLines lines graphs → IsPlain line → IsLine line g → AreLines (lines ++ line ∷ []) (graphs ++ g ∷ [])
@@ -86,16 +86,6 @@ settled-closed false consumed graphs line plain other (settled, has) = settled-m
 -- nothing is open
 pub plain-none : IsPlain []
 plain-none = All-nil (λ b. b ≢ 10)
-
--- the header is closed
-pub closes-header : (consumed : List ℕ) (graphs : List EdgeGraph) (number : ℕ) (first : Bool) (line : List ℕ) → Progress consumed graphs number first line → first ≡ true → line ≡ graph_header → Closes (consumed ++ 10 ∷ []) graphs number Header
-closes-header consumed graphs number first line p is header = by first is p.stands
-  where
-    by : (first : Bool) → first ≡ true → Stands first consumed graphs line → Progress (consumed ++ 10 ∷ []) graphs number false []
-    by true e (same, none) =
-        let whole : consumed ≡ graph_header = same ∙ header in
-        record { counted = p.counted; plain = plain-none; stands = rw (whole, none) (settled-header, HasLines-none []) }
-    by false e s = absurd (cc)
 
 -- the line of a graph is closed
 pub closes-graph : (consumed : List ℕ) (graphs : List EdgeGraph) (number : ℕ) (first : Bool) (line : List ℕ) (g : EdgeGraph) → Progress consumed graphs number first line → (first ≡ true → line ≢ graph_header) → IsLine (behind_header first line) g → Closes (consumed ++ 10 ∷ []) graphs number (Graph g)

@@ -60,10 +60,7 @@ front_of line plain = by (Begins line graph_header) refl
     by true e = let p = begins-parts line graph_header e in split p.0 p.1
     by false e = none e
 
--- how long the header is, before the end of a line and there
-pub header-closed : (more : List ℕ) → header_length (graph_header ++ 10 ∷ more) ≡ 11
-header-closed more = refl
-
+-- how long the header is where the line goes on
 pub header-before : (c : ℕ) (more : List ℕ) → c ≢ 10 → header_length (graph_header ++ c ∷ more) ≡ 10
 header-before c more not = by_test (nat_eq 10 c) refl
   where

@@ -16,9 +16,6 @@ use Rattle.line_inputs.proofs.FigureLinesLineLemmas.{lists-lines, drawn-at, note
 use Rattle.line_inputs.proofs.FigureLinesPartLemmas.{open-more}
 use Rattle.line_inputs.proofs.FigureLinesReadLemmas.{open-bad, begun-ends}
 
-pub ReadTo-begin : (bytes : List ℕ) (at first : ℕ) → IsReadTo bytes at first at first None
-ReadTo-begin bytes at first = record { text = []; parts = refl; placed = omega arith; stands = (refl, refl) }
-
 -- a figure has few lines
 due-few : (due : Due) (first number : ℕ) (text : List ℕ) → IsDue due first number text [] → number ≤ first + 4096
 due-few (Row rows) first number text b = let l = lists-lines b in let c = b.counted in let d = rows.due in let f = rows.few in omega arith
