@@ -7,8 +7,6 @@ pub mod HoleLemmas
 -- What the search rests on.
 pub mod GapLemmas
 mod RingGapsRefused
--- What the calls rest on.
-pub mod PutLemmas
 -- What the call rests on.
 pub mod GapParts
 pub mod ExpandedLemmas

@@ -4,7 +4,5 @@ pub mod Walks
 pub mod GluedMapsRows
 -- Gaps of rings.
 pub mod Gaps
--- Rows of lists with an edge more.
-pub mod PutVerticesRows
 -- Maps of contracted graphs.
 pub mod ContractedMaps

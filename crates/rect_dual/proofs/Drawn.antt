@@ -17,7 +17,7 @@ use Rattle.rect_orders.specs.Orders.{IsRectOrder}
 use Rattle.rect_orders.specs.Runs.{shortened, IsRunOfMap, RectOrderIsRun}
 use Rattle.rect_orders.proofs.Closed.{length-closed}
 use Rattle.rect_orders.specs.Figures.{AreBoxesAt, IsDualFor, BoxesAreDualOfMap}
-use Rattle.rect_dual.specs.RectDrawTables.{AreBoxTables, AreAtRanks, AreLowerRowsOf}
+use Rattle.rect_dual.specs.RectDrawTables.{AreBoxTables, AreAtRanks, HasLowerRows}
 
 -- a fact about four vertices, by other names of them
 pub by_names : (P : ℕ → ℕ → ℕ → ℕ → Type 0) (s s' d d' p p' t t' : ℕ) → s ≡ s' → d ≡ d' → p ≡ p' → t ≡ t' → P s d p t → P s' d' p' t'
@@ -30,16 +30,7 @@ pub record AreSmall (m : ℕ) (left right low high : List ℕ) : Type 0 where
   pub low_small : (k : ℕ) → k < m → get_or low k 0 < 2 ^ 20
   pub high_small : (k : ℕ) → k < m → get_or high k 0 < 2 ^ 20
 
--- a rectangular order of a map, its ranks, and the rows of its vertices but the last one
-pub record HasLowerRows (lists more : Lists) (s d p t : ℕ) (at ranks : List ℕ) (rows : Lists) : Type 0 where
-  pub class : IsRectMap lists s d p t
-  pub closed_is : more ≡ closed lists s d p t
-  pub completed : IsCompleted (closed lists s d p t)
-  pub order : IsRectOrder lists s d p t at
-  pub rank : IsRankOf ranks at
-  pub lower : AreLowerRowsOf more at rows
-
-module _ (lists more : Lists) (s d p t : ℕ) (at ranks : List ℕ) (rows : Lists) (h : HasLowerRows lists more s d p t at ranks rows) (runs : OrderIsRun) where
+module _ (lists : Lists) (s d p t : ℕ) (at ranks : List ℕ) (rows : Lists) (h : HasLowerRows lists s d p t at ranks rows) (runs : OrderIsRun) where
   abbrev order : IsRectOrder lists s d p t at
   order = h.order
 
@@ -53,7 +44,7 @@ module _ (lists more : Lists) (s d p t : ℕ) (at ranks : List ℕ) (rows : List
   steps = shortened found.0 n
 
   pub rows_are : AreRows steps rows
-  rows_are = (subst (λ C. AreLowerRowsOf C at rows) h.closed_is h.lower).of_run (t, s) order.canonical found.0 found.1
+  rows_are = h.lower.of_run (t, s) order.canonical found.0 found.1
 
   many : (length at ≡ length lists) × (length rows + 3 ≡ length at)
   many = let c = order.canonical.count in let e = length-closed lists s d p t h.class in (omega (arith, c, e), h.lower.count)

@@ -15,16 +15,17 @@ use Rattle.rect_dual.specs.Turns.{AreTurns}
 use Rattle.rect_runs.specs.Ends.{IsEndAt}
 use Rattle.rect_runs.proofs.RectEndsEnds.{ends_agree}
 use Rattle.rect_orders.specs.Labellings.{IsFrameEdge, AreEndsOf, IsEdgeLabelling, LabelsOfOrder}
-use Rattle.rect_dual.proofs.Drawn.{HasLowerRows, found, rows_are}
+use Rattle.rect_dual.specs.RectDrawTables.{HasLowerRows}
+use Rattle.rect_dual.proofs.Drawn.{found, rows_are}
 use Rattle.rect_dual.specs.EdgeLabelsTables.{AreFirsts, AreLefts, end_at, end_by}
 use Rattle.rect_dual.proofs.OfRun.{end_at-earlier, end_at-later, earlier_end}
 
-module _ (lists more : Lists) (s d p t : ℕ) (at ranks : List ℕ) (rows : Lists) (h : HasLowerRows lists more s d p t at ranks rows) (runs : OrderIsRun) (law : RectOrderIsRun) where
+module _ (lists : Lists) (s d p t : ℕ) (at ranks : List ℕ) (rows : Lists) (h : HasLowerRows lists s d p t at ranks rows) (runs : OrderIsRun) (law : RectOrderIsRun) where
   abbrev order : IsRectOrder lists s d p t at
   order = h.order
 
   abbrev of_run : (x : ℕ → Step) × IsOrderRun (closed lists s d p t) (t, s) at order.canonical.cycle x
-  of_run = found lists more s d p t at ranks rows h runs
+  of_run = found lists s d p t at ranks rows h runs
 
   abbrev pub short : ℕ → Step
   short = shortened of_run.0 (length at - 3)
@@ -36,7 +37,7 @@ module _ (lists more : Lists) (s d p t : ℕ) (at ranks : List ℕ) (rows : List
   of_map = law lists s d p t at of_run.0 h.class order of_run.1
 
   pub short_rows : AreRows short rows
-  short_rows = rows_are lists more s d p t at ranks rows h runs
+  short_rows = rows_are lists s d p t at ranks rows h runs
 
   pub size : (length at ≡ length lists) × (length rows + 3 ≡ length at) × (4 < length lists)
   size = let c = order.canonical.count in let e = length-closed lists s d p t h.class in (omega (arith, c, e), h.lower.count, h.class.large)

@@ -2,12 +2,15 @@
 use Rattle.std.specs.Prelude.{ℕ, ◌+◌, ◌-◌, ◌<◌, ◌≡◌, List, ℤ, length, slice_index, pos}
 use Rattle.map_lists.specs.Lists.{Lists}
 use Rattle.map_theory.specs.Maps.{Dart}
-use Rattle.canon_order.specs.Orders.{IsCanonicalOrder}
+use Rattle.plane_laws.specs.Completed.{IsCompleted}
+use Rattle.canon_order.specs.Orders.{IsCanonicalOrder, IsRankOf}
 use Rattle.contour_runs.specs.Runs.{Step}
 use Rattle.order_drawings.specs.OrderRuns.{IsOrderRun}
 use Rattle.order_drawings.specs.Rows.{AreRows}
 use Rattle.rect_runs.specs.Boxes.{Boxes}
 use Rattle.rect_check.specs.Duals.{number_at}
+use Rattle.rect_orders.specs.Maps.{IsRectMap, closed}
+use Rattle.rect_orders.specs.Orders.{IsRectOrder}
 use Rattle.rect_orders.specs.Runs.{shortened}
 
 -- these are the four sides of the first m boxes
@@ -26,3 +29,11 @@ pub record AreAtRanks (numbers ranks : List ℕ) (made : List ℤ) : Type 0 wher
 pub record AreLowerRowsOf (lists : Lists) (at : List ℕ) (rows : Lists) : Type 0 where
   pub count : length rows + 3 ≡ length at
   pub of_run : (base : Dart) (order : IsCanonicalOrder lists base at) (steps : ℕ → Step) → IsOrderRun lists base at order.cycle steps → AreRows (shortened steps (length at - 3)) rows
+
+-- a rectangular order of a map, its ranks, and the rows of its vertices but the last one
+pub record HasLowerRows (lists : Lists) (s d p t : ℕ) (at ranks : List ℕ) (rows : Lists) : Type 0 where
+  pub class : IsRectMap lists s d p t
+  pub completed : IsCompleted (closed lists s d p t)
+  pub order : IsRectOrder lists s d p t at
+  pub rank : IsRankOf ranks at
+  pub lower : AreLowerRowsOf (closed lists s d p t) at rows

@@ -6,6 +6,7 @@ pub mod figures;
 pub mod labels;
 pub mod lead_lines;
 pub mod line_lists;
+mod orders;
 pub mod rect_numbers;
 pub mod rect_sides;
 pub mod rect_turns;

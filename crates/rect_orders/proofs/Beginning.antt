@@ -79,5 +79,8 @@ module _ (lists map : Lists) (s d p t x : ℕ) (h : IsClosedOf lists map s d p t
       let c = order.canonical.count in
       λ k d' l. let lt = All-from_reverse (λ v. v < length (closed map s d p t)) us order.canonical.vertices k d' l in omega arith
 
+  pub taken_count : length us ≡ length lists
+  taken_count = let n = length-reverse us in let c = order.canonical.count in let e = ap length h.closed_is in omega arith
+
   pub taken_apart : AllPairs ◌≢◌ us
   taken_apart = AllPairs-from_reverse us order.canonical.built.once

@@ -4,5 +4,5 @@ mod closing;
 mod contour;
 mod order;
 
-pub use closing::{Frame, closed_map, frame_of};
+pub use closing::{Frame, closed_lists, frame_of};
 pub use order::rect_order;

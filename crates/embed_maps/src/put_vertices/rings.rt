@@ -6,8 +6,8 @@ ghost use Rattle.graph6_text.specs.Graphs.{has_edge};
 ghost use Rattle.embed_surgery.specs.Inserts.{put_in_ring as lists_put_in};
 ghost use Rattle.embed_theorem.specs.ListGraphs.{graph_of};
 
-use crate::put_vertices::edges::with_edge_after;
 use embed_theorem::list_graphs::are_adjacent;
+use list_edits::with_edge_after;
 use map_lists::Rotations;
 use std::alloc::{AllocError, Global};
 

@@ -1,20 +1,17 @@
 //! Rectangular duals of maps.
 ghost use Rattle.std.specs.Prelude.{◌≡◌, ◌<◌, ◌≤◌, ◌^◌, ℕ, length, slice_index, Some, All, IfOk, pos};
-ghost use Rattle.map_theory.specs.Maps.{Dart, follows};
+ghost use Rattle.map_theory.specs.Maps.{follows};
 ghost use Rattle.half_edges.specs.Map.{IsLive, dart_at};
-ghost use Rattle.plane_laws.specs.Completed.{IsCompleted};
-ghost use Rattle.canon_order.specs.Orders.{IsCanonicalOrder, IsRankOf, vertices_of};
 ghost use Rattle.rect_check.specs.Duals.{HasRects};
 ghost use Rattle.rect_orders.specs.Maps.{IsRectMap};
 ghost use Rattle.rect_orders.specs.Figures.{IsDualFor};
-ghost use Rattle.rect_dual.specs.RectDrawTables.{AreAtRanks, AreLowerRowsOf};
+ghost use Rattle.rect_dual.specs.RectDrawTables.{AreAtRanks};
 
 use crate::draw::tables::{BoxTables, box_tables};
-use canon_order::Order;
-use half_edges::{Counts, DartId, HalfMap, Rotations};
-use order_drawings::order_tables::order_rows;
+use crate::orders::framed_order;
+use half_edges::{Counts, DartId, HalfMap};
 use pg_plane::{Ints, RectFigure};
-use rect_orders::rect_order::{Frame, closed_map, frame_of, rect_order};
+use rect_orders::rect_order::{Frame, frame_of};
 use std::alloc::{AllocError, Global};
 
 // A number as a coordinate.
@@ -61,50 +58,21 @@ fn figure_at(alloc: Global, tables: &BoxTables, ranks: &Counts) -> Result<RectFi
     Ok(RectFigure { x1, x2, y1, y2 })
 }
 
-// The rows of an order but the last one.
-fn lower_rows(alloc: Global, more: &HalfMap, order: &Order) -> Result<Rotations, AllocError>
-    requires completed { IsCompleted more.now.lists }
-    requires order { (base : Dart) × IsCanonicalOrder more.now.lists base (vertices_of order.now) }
-    requires rank { IsRankOf order.now.rank (vertices_of order.now) }
-    requires many { 5 ≤ length (vertices_of order.now) }
-    ensures { IfOk result (AreLowerRowsOf more.now.lists (vertices_of order.now)) }
-{
-    let mut rows = order_rows(alloc, more, order)?;
-    let lower = rows.len() - 1;
-    rows.truncate(lower);
-    Ok(rows)
-}
-
-// Lets a frame go.
-fn let_go(frame: Frame) {
-    let Frame {
-        left: _left,
-        top: _top,
-        right: _right,
-        bottom: _bottom,
-        inner: _inner,
-    } = frame;
-}
-
 // The dual of a map with this frame.
-fn framed(alloc: Global, map: &HalfMap, frame: &Frame) -> Result<RectFigure, AllocError>
-    requires class { IsRectMap map.now.lists frame.now.left.0 frame.now.top.0 frame.now.right.0 frame.now.bottom.0 }
-    requires inner { frame.now.inner.0 ≡ follows map.now.lists frame.now.bottom.0 frame.now.left.0 }
+fn framed(alloc: Global, map: &HalfMap, frame: Frame) -> Result<RectFigure, AllocError>
+    requires class { IsRectMap map.now.lists frame.left.0 frame.top.0 frame.right.0 frame.bottom.0 }
+    requires inner { frame.inner.0 ≡ follows map.now.lists frame.bottom.0 frame.left.0 }
     ensures rects { IfOk result (HasRects map.now.lists) }
-    ensures dual { IfOk result (IsDualFor map.now.lists frame.now.left.0 frame.now.top.0 frame.now.right.0 frame.now.bottom.0) }
+    ensures dual { IfOk result (IsDualFor map.now.lists frame.left.0 frame.top.0 frame.right.0 frame.bottom.0) }
 {
     map.facts();
-    rect_orders::closed_is_completed();
     rect_orders::rect_order_is_run();
     order_drawings::order_runs::order_is_run();
-    order_drawings::order_tables::ranks_are_places();
     rect_runs::rect_boxes::boxes_are_dual();
     rect_orders::rect_duals::boxes_are_dual_of_map();
-    let more = closed_map(alloc, map, frame)?;
-    let order = rect_order(alloc, &more, frame)?;
-    let rows = lower_rows(alloc, &more, &order)?;
-    let tables = box_tables(alloc, &rows)?;
-    let figure = figure_at(alloc, &tables, &order.rank)?;
+    let made = framed_order(alloc, map, frame)?;
+    let tables = box_tables(alloc, &made.rows)?;
+    let figure = figure_at(alloc, &tables, &made.order.rank)?;
     Ok(figure)
 }
 
@@ -123,8 +91,5 @@ pub fn rect_draw(alloc: Global, map: &HalfMap, base: DartId) -> Result<RectFigur
     ensures rects { IfOk result (HasRects map.now.lists) }
     ensures dual { IfOk result (λ figure. (s d p t : ℕ) → dart_at map.now base.0 ≡ Some (s, d) → IsRectMap map.now.lists s d p t → IsDualFor map.now.lists s d p t figure) }
 {
-    let frame = frame_of(map, base);
-    let figure = framed(alloc, map, &frame);
-    let_go(frame);
-    figure
+    framed(alloc, map, frame_of(map, base))
 }

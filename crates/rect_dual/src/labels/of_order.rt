@@ -1,67 +1,34 @@
 //! The edge labelling of a map.
 ghost use Rattle.std.specs.Prelude.{◌≡◌, ◌<◌, ◌≤◌, ◌-◌, ℕ, length, Some, IfOk};
-ghost use Rattle.map_theory.specs.Maps.{Dart, follows};
+ghost use Rattle.map_theory.specs.Maps.{follows};
 ghost use Rattle.half_edges.specs.Map.{IsLive, dart_at};
-ghost use Rattle.plane_laws.specs.Completed.{IsCompleted};
-ghost use Rattle.canon_order.specs.Orders.{IsCanonicalOrder, IsRankOf, vertices_of};
 ghost use Rattle.rect_orders.specs.Maps.{IsRectMap};
-ghost use Rattle.rect_dual.specs.RectDrawTables.{AreLowerRowsOf};
 ghost use Rattle.rect_dual.specs.Labellings.{IsLabellingIn};
 
 use crate::labels::darts::dart_labels;
 use crate::labels::labels::Labelling;
 use crate::labels::tables::run_tables;
+use crate::orders::framed_order;
 use crate::rect_turns::row_turns;
-use canon_order::Order;
-use half_edges::{DartId, HalfMap, Rotations};
-use order_drawings::order_tables::order_rows;
-use rect_orders::rect_order::{Frame, closed_map, frame_of, rect_order};
+use half_edges::{DartId, HalfMap};
+use rect_orders::rect_order::{Frame, frame_of};
 use std::alloc::{AllocError, Global};
 
-// The rows of an order but the last one.
-fn lower_rows(alloc: Global, more: &HalfMap, order: &Order) -> Result<Rotations, AllocError>
-    requires completed { IsCompleted more.now.lists }
-    requires order { (base : Dart) × IsCanonicalOrder more.now.lists base (vertices_of order.now) }
-    requires rank { IsRankOf order.now.rank (vertices_of order.now) }
-    requires many { 5 ≤ length (vertices_of order.now) }
-    ensures { IfOk result (AreLowerRowsOf more.now.lists (vertices_of order.now)) }
-{
-    let mut rows = order_rows(alloc, more, order)?;
-    let lower = rows.len() - 1;
-    rows.truncate(lower);
-    Ok(rows)
-}
-
-// Lets a frame go.
-fn let_go(frame: Frame) {
-    let Frame {
-        left: _left,
-        top: _top,
-        right: _right,
-        bottom: _bottom,
-        inner: _inner,
-    } = frame;
-}
-
 // The labelling of a map with this frame.
-fn framed(alloc: Global, map: &HalfMap, frame: &Frame) -> Result<Labelling, AllocError>
-    requires class { IsRectMap map.now.lists frame.now.left.0 frame.now.top.0 frame.now.right.0 frame.now.bottom.0 }
-    requires inner { frame.now.inner.0 ≡ follows map.now.lists frame.now.bottom.0 frame.now.left.0 }
+fn framed(alloc: Global, map: &HalfMap, frame: Frame) -> Result<Labelling, AllocError>
+    requires class { IsRectMap map.now.lists frame.left.0 frame.top.0 frame.right.0 frame.bottom.0 }
+    requires inner { frame.inner.0 ≡ follows map.now.lists frame.bottom.0 frame.left.0 }
     ensures covers { IfOk result (λ labels. (id : ℕ) → IsLive map.now id → id < length labels) }
-    ensures labelling { IfOk result (IsLabellingIn map.now frame.now.left.0 frame.now.top.0 frame.now.right.0 frame.now.bottom.0) }
+    ensures labelling { IfOk result (IsLabellingIn map.now frame.left.0 frame.top.0 frame.right.0 frame.bottom.0) }
 {
     map.facts();
-    rect_orders::closed_is_completed();
     rect_orders::rect_order_is_run();
     order_drawings::order_runs::order_is_run();
-    order_drawings::order_tables::ranks_are_places();
     rect_orders::rect_labellings::labels_of_order();
-    let more = closed_map(alloc, map, frame)?;
-    let order = rect_order(alloc, &more, frame)?;
-    let rows = lower_rows(alloc, &more, &order)?;
-    let turns = row_turns(alloc, &rows)?;
-    let tables = run_tables(alloc, &rows, &turns)?;
-    let labels = dart_labels(alloc, map, frame, &order.rank, &tables)?;
+    let made = framed_order(alloc, map, frame)?;
+    let turns = row_turns(alloc, &made.rows)?;
+    let tables = run_tables(alloc, &made.rows, &turns)?;
+    let labels = dart_labels(alloc, map, &frame, &made.order.rank, &tables)?;
     Ok(Labelling { labels })
 }
 
@@ -82,8 +49,5 @@ pub fn edge_labels(alloc: Global, map: &HalfMap, base: DartId) -> Result<Labelli
     ensures covers { IfOk result (λ labels. (id : ℕ) → IsLive map.now id → id < length labels) }
     ensures labelling { IfOk result (λ labels. (s d p t : ℕ) → dart_at map.now base.0 ≡ Some (s, d) → IsRectMap map.now.lists s d p t → IsLabellingIn map.now s d p t labels) }
 {
-    let frame = frame_of(map, base);
-    let labelling = framed(alloc, map, &frame);
-    let_go(frame);
-    labelling
+    framed(alloc, map, frame_of(map, base))
 }

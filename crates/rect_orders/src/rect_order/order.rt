@@ -13,7 +13,7 @@ use crate::marked_counts::mark;
 use crate::rect_order::closing::Frame;
 use crate::rect_order::contour::{ready_vertex, take_off};
 use canon_order::{Order, turned_order};
-use half_edges::{HalfMap, Rotations};
+use half_edges::Rotations;
 use std::alloc::{AllocError, Global};
 
 // Appends three vertices.
@@ -192,26 +192,25 @@ fn taken_off(
     Ok(taken)
 }
 
-/// A rectangular order of the map of which `more` is the closed one, with the outer face `frame`: the left vertex
-/// is the first, the bottom the second, the right one the last but one, and the top the last. Each other vertex
-/// has two later neighbours or more. `rank` has the place of each vertex in `at`.
+/// A rectangular order of the map of which `more` are the lists of the closed one, with the outer face `frame`: the
+/// left vertex is the first, the bottom the second, the right one the last but one, and the top the last. Each other
+/// vertex has two later neighbours or more. `rank` has the place of each vertex in `at`.
 ///
-/// It fails only for want of memory. The map stays as it is. The time is linear in the vertices: they are taken
+/// It fails only for want of memory. The lists stay as they are. The time is linear in the vertices: they are taken
 /// off from the last one on, each goes onto the outer cycle and off it once, and its neighbours count how many of
 /// theirs are there and how many are gone.
 ///
 /// Source: Kant, He, Regular edge labeling of 4-connected plane graphs, 1997.
-pub fn rect_order(alloc: Global, more: &HalfMap, frame: &Frame) -> Result<Order, AllocError>
-    requires class { (map : Lists) × IsClosedOf more.now.lists map frame.now.left.0 frame.now.top.0 frame.now.right.0 frame.now.bottom.0 frame.now.inner.0 }
-    ensures order { IfOk result (λ order. (map : Lists) → IsClosedOf more.now.lists map frame.now.left.0 frame.now.top.0 frame.now.right.0 frame.now.bottom.0 frame.now.inner.0
-        → IsRectOrder map frame.now.left.0 frame.now.top.0 frame.now.right.0 frame.now.bottom.0 (vertices_of order)) }
+pub fn rect_order(alloc: Global, more: &Rotations, frame: Frame) -> Result<Order, AllocError>
+    requires few { length more.now < 4096 }
+    requires class { (map : Lists) × IsClosedOf more.now map frame.left.0 frame.top.0 frame.right.0 frame.bottom.0 frame.inner.0 }
+    ensures order { IfOk result (λ order. (map : Lists) → IsClosedOf more.now map frame.left.0 frame.top.0 frame.right.0 frame.bottom.0 frame.inner.0
+        → IsRectOrder map frame.left.0 frame.top.0 frame.right.0 frame.bottom.0 (vertices_of order)) }
     ensures rank { IfOk result (λ order. IsRankOf order.rank (vertices_of order)) }
 {
-    more.facts();
-    let lists = more.rotations(alloc)?;
     let taken = taken_off(
         alloc,
-        &lists,
+        more,
         frame.left.0,
         frame.top.0,
         frame.right.0,

@@ -6,25 +6,25 @@ use Rattle.rect_orders.specs.Figures.{IsDualFor}
 use Rattle.rect_dual.proofs.Drawn.{by_names}
 use Rattle.rect_dual.proofs.draw.draw.rect_draw.Goals as goal
 
-pub framed-figure-requires-clause-class : goal.framed-figure-requires-clause-class
-framed-figure-requires-clause-class c =
+pub framed-requires-clause-class : goal.framed-requires-clause-class
+framed-requires-clause-class c =
     let (s, d, p, t, at, class) = c.requires.class in
-    let f = c.frame_of-frame.ensures s d p t at class in
-    let frame = c.frame_of-frame.result in
+    let f = c.frame_of.ensures s d p t at class in
+    let frame = c.frame_of.result in
     by_names (IsRectMap c.args.map.now.lists) s frame.left.0 d frame.top.0 p frame.right.0 t frame.bottom.0 (sym f.left_is) (sym f.top_is) (sym f.right_is) (sym f.bottom_is) class
 
-pub framed-figure-requires-clause-inner : goal.framed-figure-requires-clause-inner
-framed-figure-requires-clause-inner c =
+pub framed-requires-clause-inner : goal.framed-requires-clause-inner
+framed-requires-clause-inner c =
     let (s, d, p, t, at, class) = c.requires.class in
-    let f = c.frame_of-frame.ensures s d p t at class in
+    let f = c.frame_of.ensures s d p t at class in
     let lists = c.args.map.now.lists in
-    f.inner_is ∙ (ap (λ u. follows lists u s) (sym f.bottom_is) ∙ ap (follows lists c.frame_of-frame.result.bottom.0) (sym f.left_is))
+    f.inner_is ∙ (ap (λ u. follows lists u s) (sym f.bottom_is) ∙ ap (follows lists c.frame_of.result.bottom.0) (sym f.left_is))
 
 pub returns-clause-dual : goal.returns-clause-dual
 returns-clause-dual c =
-    let frame = c.frame_of-frame.result in
-    IfOk-weaker c.framed-figure.result _ _
+    let frame = c.frame_of.result in
+    IfOk-weaker c.framed.result _ _
     (λ fig dual s d p t at class.
-    let f = c.frame_of-frame.ensures s d p t at class in
+    let f = c.frame_of.ensures s d p t at class in
     by_names (λ s d p t. IsDualFor c.args.map.now.lists s d p t fig) frame.left.0 s frame.top.0 d frame.right.0 p frame.bottom.0 t f.left_is f.top_is f.right_is f.bottom_is dual)
-    c.framed-figure.ensures.dual
+    c.framed.ensures.dual

@@ -1,7 +1,7 @@
 use Rattle.std.proofs.Common.{◌++◌, ◌∷◌, [], List, ap, ◌∙◌, arith}
-use Rattle.embed_maps.specs.PutVerticesRows.{row_with_edge}
-use Rattle.embed_maps.proofs.PutLemmas.{one_row, all_rows}
-use Rattle.embed_maps.proofs.put_vertices.edges.with_edge_after.Goals as goal
+use Rattle.list_edits.specs.Rows.{row_with_edge}
+use Rattle.list_edits.proofs.PutLemmas.{one_row, all_rows}
+use Rattle.list_edits.proofs.edges.with_edge_after.Goals as goal
 
 pub loop-w-preserved : goal.loop-w-preserved
 loop-w-preserved c =

@@ -1,0 +1,2 @@
+-- What the calls rest on.
+mod PutLemmas

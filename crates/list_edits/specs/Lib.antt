@@ -1,0 +1,2 @@
+-- What edits of lists write.
+pub mod Rows

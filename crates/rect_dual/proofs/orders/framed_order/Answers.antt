@@ -1,0 +1,49 @@
+use Rattle.std.proofs.Common.{◌≡◌, ◌<◌, length, All, refl, sym, ap, subst, arith}
+use Rattle.map_lists.specs.Lists.{Lists}
+use Rattle.plane_laws.specs.Completed.{IsCompleted}
+use Rattle.canon_order.specs.Orders.{vertices_of}
+use Rattle.rect_orders.specs.Maps.{closed}
+use Rattle.rect_orders.proofs.Closed.{length-closed}
+use Rattle.rect_dual.specs.RectDrawTables.{AreLowerRowsOf}
+use Rattle.rect_dual.proofs.orders.framed_order.Goals as goal
+
+pub rect_order-requires-clause-few : goal.rect_order-requires-clause-few
+rect_order-requires-clause-few c =
+    let f = c.args.frame in
+    let few = c.facts.ensures.few_vertices in
+    let n = length-closed c.args.map.now.lists f.left.0 f.top.0 f.right.0 f.bottom.0 c.requires.class in
+    let same = ap length c.in_ok-more.ensures in
+    omega arith
+
+pub rect_order-requires-clause-class : goal.rect_order-requires-clause-class
+rect_order-requires-clause-class c = (c.args.map.now.lists, record { class = c.requires.class; closed_is = c.in_ok-more.ensures; inner_is = c.requires.inner })
+
+pub lower_rows-requires-clause-few : goal.lower_rows-requires-clause-few
+lower_rows-requires-clause-few c =
+    let f = c.args.frame in
+    let few = c.facts.ensures.few_vertices in
+    let n = length-closed c.args.map.now.lists f.left.0 f.top.0 f.right.0 f.bottom.0 c.requires.class in
+    let same = ap length c.in_ok-more.ensures in
+    omega arith
+
+pub lower_rows-requires-clause-completed : goal.lower_rows-requires-clause-completed
+lower_rows-requires-clause-completed c =
+    let f = c.args.frame in
+    subst IsCompleted (sym c.in_ok-more.ensures) (c.closed_is_completed.ensures c.args.map.now.lists f.left.0 f.top.0 f.right.0 f.bottom.0 c.requires.class).0
+
+pub returns-clause-rows : goal.returns-clause-rows
+returns-clause-rows c =
+    let f = c.args.frame in
+    record {
+      class = c.requires.class;
+      completed = (c.closed_is_completed.ensures c.args.map.now.lists f.left.0 f.top.0 f.right.0 f.bottom.0 c.requires.class).0;
+      order = c.in_ok-order.ensures.order c.args.map.now.lists record { class = c.requires.class; closed_is = c.in_ok-more.ensures; inner_is = c.requires.inner };
+      rank = c.in_ok-order.ensures.rank;
+      lower = subst (λ (l : Lists). AreLowerRowsOf l (vertices_of c.in_ok-order.order) c.in_ok-rows.rows) c.in_ok-more.ensures c.in_ok-rows.ensures;
+    }
+
+pub returns-clause-ranks : goal.returns-clause-ranks
+returns-clause-ranks c =
+    let f = c.args.frame in
+    let order = c.in_ok-order.ensures.order c.args.map.now.lists record { class = c.requires.class; closed_is = c.in_ok-more.ensures; inner_is = c.requires.inner } in
+    c.ranks_are_places.ensures (closed c.args.map.now.lists f.left.0 f.top.0 f.right.0 f.bottom.0) (f.bottom.0, f.left.0) (vertices_of c.in_ok-order.order) c.in_ok-order.order.rank order.canonical c.in_ok-order.ensures.rank

@@ -1,0 +1,56 @@
+//! A rectangular order of a map, with the rows of its run.
+ghost use Rattle.std.specs.Prelude.{◌≡◌, ◌<◌, ◌≤◌, ℕ, length, All, IfOk};
+ghost use Rattle.map_theory.specs.Maps.{Dart, follows};
+ghost use Rattle.plane_laws.specs.Completed.{IsCompleted};
+ghost use Rattle.canon_order.specs.Orders.{IsCanonicalOrder, IsRankOf, vertices_of};
+ghost use Rattle.rect_orders.specs.Maps.{IsRectMap};
+ghost use Rattle.rect_dual.specs.RectDrawTables.{AreLowerRowsOf, HasLowerRows};
+
+use canon_order::Order;
+use half_edges::{HalfMap, Rotations};
+use order_drawings::order_tables::list_rows;
+use rect_orders::rect_order::{Frame, closed_lists, rect_order};
+use std::alloc::{AllocError, Global};
+
+// An order, and the rows of its vertices but the last one.
+#[derive(Drop)]
+pub(crate) struct FramedOrder {
+    pub order: Order,
+    pub rows: Rotations,
+}
+
+// The rows of an order but the last one.
+fn lower_rows(alloc: Global, more: &Rotations, order: &Order) -> Result<Rotations, AllocError>
+    requires few { length more.now < 4096 }
+    requires completed { IsCompleted more.now }
+    requires order { (base : Dart) × IsCanonicalOrder more.now base (vertices_of order.now) }
+    requires rank { IsRankOf order.now.rank (vertices_of order.now) }
+    requires many { 5 ≤ length (vertices_of order.now) }
+    ensures { IfOk result (AreLowerRowsOf more.now (vertices_of order.now)) }
+{
+    let mut rows = list_rows(alloc, more, order)?;
+    let lower = rows.len() - 1;
+    rows.truncate(lower);
+    Ok(rows)
+}
+
+// A rectangular order of a map with this frame, and its rows: those of the map with an edge more, between the top and
+// the bottom.
+pub(crate) fn framed_order(
+    alloc: Global,
+    map: &HalfMap,
+    frame: Frame,
+) -> Result<FramedOrder, AllocError>
+    requires class { IsRectMap map.now.lists frame.left.0 frame.top.0 frame.right.0 frame.bottom.0 }
+    requires inner { frame.inner.0 ≡ follows map.now.lists frame.bottom.0 frame.left.0 }
+    ensures rows { IfOk result (λ made. HasLowerRows map.now.lists frame.left.0 frame.top.0 frame.right.0 frame.bottom.0 (vertices_of made.order) made.order.rank made.rows) }
+    ensures ranks { IfOk result (λ made. All (λ k. k < length made.order.rank) made.order.rank) }
+{
+    map.facts();
+    rect_orders::closed_is_completed();
+    order_drawings::order_tables::ranks_are_places();
+    let more = closed_lists(alloc, map, frame)?;
+    let order = rect_order(alloc, &more, frame)?;
+    let rows = lower_rows(alloc, &more, &order)?;
+    Ok(FramedOrder { order, rows })
+}
