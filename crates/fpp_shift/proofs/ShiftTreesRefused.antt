@@ -44,4 +44,4 @@ uses_one_by_one (suc k) = uses_one_by_one k + 2 * (k + 1)
 places_moved_one_by_one : (old new : ℕ) → new ≡ old + uses_one_by_one 40 → new ≤ old + 24 * 42 → ⊥
 places_moved_one_by_one old new e l = omega (arith, e, l)
 
--- A body that counts on a counter of its own, and leaves that of its caller as it was, cannot be written, so no edit shows it: a tree over a ledger L is read and set by counts of L alone, and a function over any L cannot make one.
+-- A body that counts on a counter of its own, and leaves that of its caller as it was: a count of another ledger does not fit the tree, so that it cannot be written, and no edit shows it; a new count of the ledger L wants a blank that is L, which a function over any L does not have (must-fail/counter-of-its-own.edit).

@@ -1,5 +1,5 @@
 //! Drawings by the shift method.
-ghost use Rattle.std.specs.Prelude.{◌≡◌, ◌-◌, ◌*◌, pos, IfOk};
+ghost use Rattle.std.specs.Prelude.{◌≡◌, ◌<◌, ◌-◌, ◌*◌, pos, IfOk};
 ghost use Rattle.map_theory.specs.Maps.{Dart, HasDart, vertex_count};
 ghost use Rattle.plane_laws.specs.Completed.{IsCompleted};
 ghost use Rattle.canon_order.specs.Orders.{IsCanonicalOrder, IsRankOf, vertices_of};
@@ -14,15 +14,18 @@ use pg_io::Steps;
 use pg_plane::{GridFigure, Points};
 use std::alloc::{AllocError, Global};
 use std::marker::Brand;
-use std::sync::ledger::Ledger;
+use std::sync::ledger::{Blank, Ledger};
 
-// The shift points of an order, by its tree of offsets.
+// The shift points of an order, by its tree of offsets, whose uses a new ledger counts.
 fn tree_points<L: Ledger>(
     alloc: Global,
     tri: &HalfMap,
     order: &Order,
-    steps: &mut Steps<L>,
+    blank: Blank,
 ) -> Result<Points, AllocError>
+    requires name { blank.name ≡ L.name }
+    requires parts { blank.parts ≡ L.parts }
+    requires some { 0 < blank.parts }
     requires completed { IsCompleted tri.now.lists }
     requires order { (base : Dart) × IsCanonicalOrder tri.now.lists base (vertices_of order.now) }
     requires rank { IsRankOf order.now.rank (vertices_of order.now) }
@@ -32,9 +35,10 @@ fn tree_points<L: Ledger>(
     tri.facts();
     order_drawings::order_runs::order_is_run();
     crate::shift_trees::offset_tree_adds_up();
-    let mut tree = Offsets::new(alloc, tri.n())?;
-    offset_tree(tri, order, &mut tree, steps);
-    let points = sum_offsets(alloc, &tree, order.at.get(0), steps)?;
+    let mut steps: Steps<L> = Steps::new(blank);
+    let mut tree: Offsets<L> = Offsets::new(alloc, tri.n())?;
+    offset_tree(tri, order, &mut tree, &mut steps);
+    let points = sum_offsets(alloc, &tree, order.at.get(0), &mut steps)?;
     Ok(points)
 }
 
@@ -64,8 +68,7 @@ pub fn shift_draw(alloc: Global, tri: &HalfMap, order: &Order) -> Result<GridFig
     tri.facts();
     crate::shift_drawings::shift_points_draw();
     let n = tri.n() as usize;
-    let mut steps: Steps<Brand> = Steps::new();
-    let points = tree_points(alloc, tri, order, &mut steps)?;
+    let points = tree_points::<Brand>(alloc, tri, order, Blank::new(1))?;
     Ok(GridFigure {
         points,
         width: (2 * n - 4) as i32,

@@ -1,5 +1,5 @@
 //! Orders of completed maps, and the drawings by shifts and by woods that stand on them.
-ghost use Rattle.std.specs.Prelude.{IfOk};
+ghost use Rattle.std.specs.Prelude.{◌≡◌, ◌<◌, IfOk};
 ghost use Rattle.map_theory.specs.Maps.{Dart, HasDart};
 ghost use Rattle.plane_laws.specs.Completed.{IsCompleted};
 ghost use Rattle.canon_order.specs.Orders.{IsCanonicalOrder, IsRankOf, vertices_of};
@@ -19,6 +19,7 @@ use pg_io::Steps;
 use pg_plane::{GridFigure, Points};
 use std::alloc::{AllocError, Global};
 use std::marker::Brand;
+use std::sync::ledger::{Blank, Ledger};
 
 /// The completed map of lists, and a canonical order of it for a dart from vertex 0.
 pub fn order_of(alloc: Global, text: &str) -> Result<DrawingOrder, Refusal>
@@ -112,13 +113,22 @@ fn put_node(node: Node, out: &mut String) -> Result<(), AllocError> {
 }
 
 // A node that is put at a vertex of so many, and taken from there.
-fn node(alloc: Global, args: &[&str], out: &mut String) -> Result<(), Refusal> {
-    let mut steps: Steps<Brand> = Steps::new();
+fn node<L: Ledger>(
+    alloc: Global,
+    args: &[&str],
+    blank: Blank,
+    out: &mut String,
+) -> Result<(), Refusal>
+    requires name { blank.name ≡ L.name }
+    requires parts { blank.parts ≡ L.parts }
+    requires some { 0 < blank.parts }
+{
+    let mut steps: Steps<L> = Steps::new(blank);
     let (n, v) = (number(part(args, 0)), number(part(args, 1)));
     if v >= n {
         return Err(Refusal::Row("vertex"));
     }
-    let mut tree = Offsets::new(alloc, n)?;
+    let mut tree: Offsets<L> = Offsets::new(alloc, n)?;
     let node = Node {
         x: 3,
         y: 4,
@@ -131,17 +141,25 @@ fn node(alloc: Global, args: &[&str], out: &mut String) -> Result<(), Refusal> {
 }
 
 // The nodes of a tree, each by its place, its height and its links.
-fn put_nodes(tree: &Offsets, out: &mut String) -> Result<(), AllocError> {
-    let mut steps: Steps<Brand> = Steps::new();
+fn put_nodes<L: Ledger>(
+    tree: &Offsets<L>,
+    steps: &mut Steps<L>,
+    out: &mut String,
+) -> Result<(), AllocError> {
     for v in 0..tree.len() {
-        put_node(tree.get(VertexId(v), &mut steps), out)?;
+        put_node(tree.get(VertexId(v), steps), out)?;
         out.push(';')?;
     }
     Ok(())
 }
 
 // The tree of offsets of a completed map, and the points to which it adds up.
-fn summed(alloc: Global, tri: &HalfMap, order: &Order) -> Result<(Offsets, Points), Refusal>
+fn summed<L: Ledger>(
+    alloc: Global,
+    tri: &HalfMap,
+    order: &Order,
+    steps: &mut Steps<L>,
+) -> Result<(Offsets<L>, Points), Refusal>
     requires completed { IsCompleted tri.now.lists }
     requires order { (base : Dart) × IsCanonicalOrder tri.now.lists base (vertices_of order.now) }
     requires rank { IsRankOf order.now.rank (vertices_of order.now) }
@@ -149,19 +167,29 @@ fn summed(alloc: Global, tri: &HalfMap, order: &Order) -> Result<(Offsets, Point
     if tri.n() == 0 || order.at.len() == 0 {
         return Err(Refusal::Row("vertex"));
     }
-    let mut steps: Steps<Brand> = Steps::new();
     let mut tree = Offsets::new(alloc, tri.n())?;
-    offset_tree(tri, order, &mut tree, &mut steps);
-    let points = sum_offsets(alloc, &tree, order.at.get(0), &mut steps)?;
+    offset_tree(tri, order, &mut tree, steps);
+    let points = sum_offsets(alloc, &tree, order.at.get(0), steps)?;
     Ok((tree, points))
 }
 
 // The points of a tree of offsets, and before them its nodes where they are asked for.
-fn offsets(alloc: Global, args: &[&str], nodes: bool, out: &mut String) -> Result<(), Refusal> {
+fn offsets<L: Ledger>(
+    alloc: Global,
+    args: &[&str],
+    nodes: bool,
+    blank: Blank,
+    out: &mut String,
+) -> Result<(), Refusal>
+    requires name { blank.name ≡ L.name }
+    requires parts { blank.parts ≡ L.parts }
+    requires some { 0 < blank.parts }
+{
     let found = order_of(alloc, part(args, 0))?;
-    let (tree, points) = summed(alloc, &found.tri, &found.order)?;
+    let mut steps: Steps<L> = Steps::new(blank);
+    let (tree, points) = summed(alloc, &found.tri, &found.order, &mut steps)?;
     if nodes {
-        put_nodes(&tree, out)?;
+        put_nodes(&tree, &mut steps, out)?;
         out.push_str(" points ")?;
     }
     Ok(put_points(&points, usize::MAX, out)?)
@@ -175,9 +203,9 @@ pub fn answer(alloc: Global, call: &str, args: &[&str], out: &mut String) -> Res
         "schnyder" => schnyder(alloc, args, out),
         "shift figure" => shift_front(alloc, args, out),
         "schnyder figure" => schnyder_front(alloc, args, out),
-        "node" => node(alloc, args, out),
-        "offsets" => offsets(alloc, args, true, out),
-        "sums" => offsets(alloc, args, false, out),
+        "node" => node::<Brand>(alloc, args, Blank::new(1), out),
+        "offsets" => offsets::<Brand>(alloc, args, true, Blank::new(1), out),
+        "sums" => offsets::<Brand>(alloc, args, false, Blank::new(1), out),
         _ => Err(Refusal::Row("such call")),
     }
 }

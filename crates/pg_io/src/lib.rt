@@ -11,7 +11,6 @@
 #![tactic(auto)]
 
 mod adapters;
-mod count;
 mod memory;
 mod put;
 mod steps;

@@ -1,42 +1,46 @@
 //! A count of steps that contracts see, and that takes no bytes.
-ghost use Rattle.std.specs.Prelude.{◌≡◌, ◌+◌};
+ghost use Rattle.std.specs.Prelude.{◌≡◌, ◌<◌, ◌+◌};
 
-use super::count::Count;
-use std::marker::{Model, PhantomData};
-use std::sync::ledger::Ledger;
+use std::marker::Model;
+use std::sync::ledger::{Blank, Book, Ledger, Share};
 
-/// A count of steps. Contracts see it as its number, and at run time it takes no bytes. The ledger `L` keeps
-/// counts apart: a function over any `L` is lent the count of its caller.
+/// A count of steps. Contracts see it as its number, and at run time it takes no bytes.
+///
+/// The ledger `L` keeps counts apart: its one book is the count. So a function over any `L` has no count of it
+/// but the one that it is lent, can make no other, and changes that by [`Steps::tick`] alone.
 #[derive(Drop)]
 pub struct Steps<L: Ledger> {
-    of: PhantomData<L>,
-    count: Count,
+    book: Book<L>,
+    share: Share<L>,
 }
 
 impl<L: Ledger> Model for Steps<L> {
-    ghost use Rattle.std.specs.Prelude.{ℕ};
+    ghost use Rattle.std.specs.Prelude.{ℕ, ◌<◌};
 
     ghost Value = { ℕ };
 
-    ghost view = { λ steps. steps.count.number };
+    ghost view = { λ steps. steps.book.total };
+
+    ghost invariant = { λ steps. 0 < steps.share.parts };
 }
 
 impl<L: Ledger> Steps<L> {
-    /// A count of no steps. It takes no memory.
-    pub fn new() -> Steps<L>
+    /// A count of no steps, of a ledger that has no count yet: `blank` is it, with one part at least, and takes
+    /// no bytes. It takes no memory.
+    pub fn new(blank: Blank) -> Steps<L>
+        requires name { blank.name ≡ L.name }
+        requires parts { blank.parts ≡ L.parts }
+        requires some { 0 < blank.parts }
         ensures { result ≡ 0 }
     {
-        Steps {
-            of: PhantomData,
-            count: Count::new(),
-        }
+        let (book, share) = blank.open();
+        Steps { book, share }
     }
 
     /// Counts one step more.
     pub fn tick(&mut self)
         ensures { self.new ≡ self.old + 1 }
     {
-        let next = Count::after(&self.count);
-        self.count = next;
+        self.book.add(&mut self.share, 1);
     }
 }

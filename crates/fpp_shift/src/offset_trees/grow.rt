@@ -23,7 +23,7 @@ fn wider(width: i32, offset: i32) -> i32
 }
 
 // The vertex to which the right link of a vertex leads.
-fn to_right<L: Ledger>(tree: &Offsets, at: u16, steps: &mut Steps<L>) -> u16
+fn to_right<L: Ledger>(tree: &Offsets<L>, at: u16, steps: &mut Steps<L>) -> u16
     requires at { at < length tree.now }
     requires link { (u : ℕ) × (right_of tree.now at ≡ Some u) }
     ensures link { right_of tree.now at ≡ Some result }
@@ -37,7 +37,7 @@ fn to_right<L: Ledger>(tree: &Offsets, at: u16, steps: &mut Steps<L>) -> u16
 }
 
 // The offset of a vertex.
-fn offset_of<L: Ledger>(tree: &Offsets, at: u16, steps: &mut Steps<L>) -> i32
+fn offset_of<L: Ledger>(tree: &Offsets<L>, at: u16, steps: &mut Steps<L>) -> i32
     requires { at < length tree.now }
     ensures offset { result ≡ (node_at tree.now at).x }
     ensures steps { steps.new ≡ steps.old + 1 }
@@ -47,7 +47,7 @@ fn offset_of<L: Ledger>(tree: &Offsets, at: u16, steps: &mut Steps<L>) -> i32
 }
 
 // Along right links from p to q: how far q stands to the right of p, and the vertex before q.
-pub(crate) fn walk<L: Ledger>(tree: &Offsets, p: u16, q: u16, steps: &mut Steps<L>) -> (i32, u16)
+pub(crate) fn walk<L: Ledger>(tree: &Offsets<L>, p: u16, q: u16, steps: &mut Steps<L>) -> (i32, u16)
     requires { (row : ℕ → ℕ) × (m : ℕ) × IsRow tree.now row m p q }
     ensures width { (row : ℕ → ℕ) (m : ℕ) → IsRow tree.now row m p q → result.0 ≡ far tree.now row m }
     ensures before { (row : ℕ → ℕ) (m : ℕ) → IsRow tree.now row (suc m) p q → result.1 ≡ row m }
@@ -91,7 +91,7 @@ fn top(apart: i32, y_p: i32, y_q: i32) -> (i32, i32, i32)
 // Tells the nodes between p and q from the vertex over them, which stands x to the right of p; `before` is the
 // vertex before q. Gives the first of them, if there is any.
 fn cover<L: Ledger>(
-    tree: &mut Offsets,
+    tree: &mut Offsets<L>,
     p: u16,
     before: u16,
     x: i32,
@@ -126,7 +126,7 @@ fn from_top(offset: i32, x: i32) -> i32
 }
 
 // The height of a vertex.
-fn height_of<L: Ledger>(tree: &Offsets, at: u16, steps: &mut Steps<L>) -> i32
+fn height_of<L: Ledger>(tree: &Offsets<L>, at: u16, steps: &mut Steps<L>) -> i32
     requires { at < length tree.now }
     ensures height { result ≡ (node_at tree.now at).y }
     ensures steps { steps.new ≡ steps.old + 1 }
@@ -137,7 +137,7 @@ fn height_of<L: Ledger>(tree: &Offsets, at: u16, steps: &mut Steps<L>) -> i32
 
 // Sets the node of a vertex.
 fn set_node<L: Ledger>(
-    tree: &mut Offsets,
+    tree: &mut Offsets<L>,
     v: u16,
     place: (i32, i32),
     links: (Option<VertexId>, Option<VertexId>),
@@ -160,7 +160,7 @@ fn set_node<L: Ledger>(
 /// before that step. Five nodes change at most; the tree is used 14 times at most, and twice for each vertex
 /// that follows `p` up to `q`. It takes no memory.
 pub fn put_over<L: Ledger>(
-    tree: &mut Offsets,
+    tree: &mut Offsets<L>,
     v: VertexId,
     p: VertexId,
     q: VertexId,
@@ -186,7 +186,7 @@ pub fn put_over<L: Ledger>(
 
 /// Makes the nodes of `s` and `t` the tree of a run before its first step, whatever they were: both of zeros,
 /// and `s` leads to `t`. The tree is used twice. It takes no memory.
-pub fn begin_tree<L: Ledger>(tree: &mut Offsets, s: VertexId, t: VertexId, steps: &mut Steps<L>)
+pub fn begin_tree<L: Ledger>(tree: &mut Offsets<L>, s: VertexId, t: VertexId, steps: &mut Steps<L>)
     requires s { s.0 < length tree.old }
     requires t { t.0 < length tree.old }
     requires apart { s.0 ≢ t.0 }

@@ -4,7 +4,7 @@ ghost use Rattle.std.specs.Prelude.{◌≡◌, ◌<◌, ◌≤◌, ◌+◌, leng
 use map_lists::VertexId;
 use pg_io::Steps;
 use std::alloc::{AllocError, Global};
-use std::marker::Model;
+use std::marker::{Model, PhantomData};
 use std::sync::ledger::Ledger;
 
 /// The node of a vertex: how far it stands to the right of the node that leads to it, its height, and the
@@ -21,13 +21,17 @@ pub struct Node {
     pub right: Option<VertexId>,
 }
 
-/// A node for each vertex. Contracts see the list of nodes. Each use of a node counts a step.
+/// A node for each vertex. Contracts see the list of nodes.
+///
+/// Each use of a node counts a step of the ledger `L`, which is the tree's from the first on: no other count
+/// serves it.
 #[derive(Drop)]
-pub struct Offsets {
+pub struct Offsets<L: Ledger> {
     nodes: Vec<Node>,
+    uses: PhantomData<L>,
 }
 
-impl Model for Offsets {
+impl<L: Ledger> Model for Offsets<L> {
     ghost use Rattle.std.specs.Prelude.{List, ◌<◌, length};
     ghost use Rattle.fpp_shift.specs.declared.offset_trees.nodes.Node.{Node};
 
@@ -38,11 +42,11 @@ impl Model for Offsets {
     ghost invariant = { λ tree. length tree.nodes.items < 65536 };
 }
 
-impl Offsets {
+impl<L: Ledger> Offsets<L> {
     ghost use Rattle.fpp_shift.specs.Nodes.{empty_node, node_at};
 
     /// The nodes of `n` vertices, all of zeros and without links.
-    pub fn new(alloc: Global, n: u16) -> Result<Offsets, AllocError>
+    pub fn new(alloc: Global, n: u16) -> Result<Offsets<L>, AllocError>
         requires { 1 ≤ n }
         ensures { IfOk result (λ tree. tree ≡ replicate n empty_node) }
     {
@@ -53,7 +57,10 @@ impl Offsets {
             right: None,
         };
         let nodes = vec![in alloc; node; n as usize]?;
-        Ok(Offsets { nodes })
+        Ok(Offsets {
+            nodes,
+            uses: PhantomData,
+        })
     }
 
     /// The number of nodes. It takes no memory.
@@ -64,7 +71,7 @@ impl Offsets {
     }
 
     /// The node of a vertex, and one step. It takes no memory.
-    pub fn get<L: Ledger>(&self, v: VertexId, steps: &mut Steps<L>) -> Node
+    pub fn get(&self, v: VertexId, steps: &mut Steps<L>) -> Node
         requires { v.0 < length self.now }
         ensures node { result ≡ node_at self.now v.0 }
         ensures step { steps.new ≡ steps.old + 1 }
@@ -75,7 +82,7 @@ impl Offsets {
     }
 
     /// Sets the node of a vertex and keeps all others, and one step. It takes no memory.
-    pub fn put<L: Ledger>(&mut self, v: VertexId, node: Node, steps: &mut Steps<L>)
+    pub fn put(&mut self, v: VertexId, node: Node, steps: &mut Steps<L>)
         requires { v.0 < length self.old }
         ensures set { self.new ≡ slice_set self.old v.0 node }
         ensures step { steps.new ≡ steps.old + 1 }

@@ -55,7 +55,7 @@ fn put_sum(sums: &mut [i32], v: u16, sum: i32)
 }
 
 // Sets the sum of the root, which is its own offset.
-fn put_first<L: Ledger>(tree: &Offsets, root: VertexId, sums: &mut [i32], steps: &mut Steps<L>)
+fn put_first<L: Ledger>(tree: &Offsets<L>, root: VertexId, sums: &mut [i32], steps: &mut Steps<L>)
     requires sums { length sums.old ≡ length tree.now }
     requires root { root.0 < length tree.now }
     ensures sum { sum_at sums.new root.0 ≡ (node_at tree.now root.0).x }
@@ -67,7 +67,7 @@ fn put_first<L: Ledger>(tree: &Offsets, root: VertexId, sums: &mut [i32], steps:
 
 // Goes along one link of a vertex: what it leads to is met, and its sum is that of the vertex and its own offset.
 fn follow<L: Ledger>(
-    tree: &Offsets,
+    tree: &Offsets<L>,
     met: &mut Vec<u16>,
     sums: &mut [i32],
     v: u16,
@@ -96,7 +96,7 @@ fn follow<L: Ledger>(
 
 // Goes along both links of the vertex at place i of those met, if there is one.
 fn follow_both<L: Ledger>(
-    tree: &Offsets,
+    tree: &Offsets<L>,
     met: &mut Vec<u16>,
     sums: &mut [i32],
     i: usize,
@@ -121,7 +121,7 @@ fn follow_both<L: Ledger>(
 
 // Goes along both links of each vertex, in the order in which they are met.
 fn follow_all<L: Ledger>(
-    tree: &Offsets,
+    tree: &Offsets<L>,
     met: &mut Vec<u16>,
     sums: &mut [i32],
     steps: &mut Steps<L>,
@@ -142,7 +142,7 @@ fn follow_all<L: Ledger>(
 // The point of each vertex, by its sum and its node.
 fn points_at<L: Ledger>(
     alloc: Global,
-    tree: &Offsets,
+    tree: &Offsets<L>,
     sums: &[i32],
     steps: &mut Steps<L>,
 ) -> Result<Points, AllocError>
@@ -167,7 +167,7 @@ fn points_at<L: Ledger>(
 // The points of a tree, where the sums are still to be found.
 fn points_of<L: Ledger>(
     alloc: Global,
-    tree: &Offsets,
+    tree: &Offsets<L>,
     root: VertexId,
     sums: &mut [i32],
     steps: &mut Steps<L>,
@@ -194,7 +194,7 @@ fn points_of<L: Ledger>(
 /// It fails only for want of memory.
 pub fn sum_offsets<L: Ledger>(
     alloc: Global,
-    tree: &Offsets,
+    tree: &Offsets<L>,
     root: VertexId,
     steps: &mut Steps<L>,
 ) -> Result<Points, AllocError>

@@ -8,7 +8,7 @@ use pg_io::Steps;
 use std::sync::ledger::Ledger;
 
 // Sets the offset of a vertex.
-pub(crate) fn set_x<L: Ledger>(tree: &mut Offsets, u: u16, x: i32, steps: &mut Steps<L>)
+pub(crate) fn set_x<L: Ledger>(tree: &mut Offsets<L>, u: u16, x: i32, steps: &mut Steps<L>)
     requires { u < length tree.old }
     ensures set { SetsX tree.old tree.new u x }
     ensures steps { steps.new ≡ steps.old + 2 }
@@ -20,7 +20,7 @@ pub(crate) fn set_x<L: Ledger>(tree: &mut Offsets, u: u16, x: i32, steps: &mut S
 
 // Sets the right link of a vertex.
 pub(crate) fn set_right<L: Ledger>(
-    tree: &mut Offsets,
+    tree: &mut Offsets<L>,
     u: u16,
     link: Option<VertexId>,
     steps: &mut Steps<L>,

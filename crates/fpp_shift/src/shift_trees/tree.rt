@@ -25,7 +25,7 @@ use std::sync::ledger::Ledger;
 pub fn offset_tree<L: Ledger>(
     tri: &HalfMap,
     order: &Order,
-    tree: &mut Offsets,
+    tree: &mut Offsets<L>,
     steps: &mut Steps<L>,
 )
     requires completed { IsCompleted tri.now.lists }

@@ -4,5 +4,5 @@ use Rattle.fpp_shift.proofs.TreeLemmas.{vertex-is}
 use Rattle.library_rows.proofs.orders.summed.Goals as goal
 
 pub sum_offsets-requires : goal.sum_offsets-requires
-sum_offsets-requires c =
+sum_offsets-requires g c =
     subst (λ (v : ℕ). IsTree c.offset_tree.new.tree v) (vertex-is c.args.order.now.at 0 c.get.result c.get.ensures) c.offset_tree.ensures.links
