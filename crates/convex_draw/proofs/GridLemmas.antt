@@ -179,5 +179,5 @@ module _ (lists : Lists) (s d : ℕ) (rows : ConvexRows) (h : IsRunByRows lists 
       root = roots_at s d last;
       out = some_wood lists s d steps n h.rank h.face h.at (roots_at s d last) named roots;
       regions = regions_draw lists s d steps n h.rank h.face h.at (roots_at s d last) (some_wood lists s d steps n h.rank h.face h.at (roots_at s d last) named roots) points plane connected named roots
-        (some_wood-rises lists s d steps n h.rank h.face h.at (roots_at s d last) named roots) points_are;
+          (some_wood-rises lists s d steps n h.rank h.face h.at (roots_at s d last) named roots) points_are;
     }

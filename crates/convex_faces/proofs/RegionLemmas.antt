@@ -1,7 +1,7 @@
 -- The closed path of a region.
-use Rattle.std.proofs.Common.{◌≡◌, ℕ, Bool, false, List, [], ◌∷◌, ◌++◌, Some, refl, sym, ap, ap₂, ◌∙◌, subst}
+use Rattle.std.proofs.Common.{◌≡◌, ℕ, Bool, false, List, ◌++◌, Some, refl, sym, ap, ap₂, ◌∙◌, subst}
 use Rattle.map_lists.specs.Lists.{Lists}
-use Rattle.map_theory.specs.Maps.{Dart, HasDart, IsSimpleMap, follows}
+use Rattle.map_theory.specs.Maps.{Dart, HasDart, follows}
 use Rattle.map_theory.proofs.DartLemmas.{HasDart-follows}
 use Rattle.half_edges.specs.Map.{Map, IsHalfMap, dart_at}
 use Rattle.euler_faces.specs.Numbers.{mark_at}
@@ -11,12 +11,12 @@ use Rattle.vertex_rounds.proofs.DartIds.{dart_of-is}
 use Rattle.convex_counts.specs.declared.face_woods.axis.Axis.{Axis}
 use Rattle.convex_counts.specs.declared.face_woods.axis.Axis.TheVariants.{One, Two, Three}
 use Rattle.convex_counts.specs.Axes.{next, previous}
-use Rattle.convex_laws.specs.ConvexWoods.{AreRoots, IsConvexWood}
+use Rattle.convex_laws.specs.ConvexWoods.{AreRoots}
 use Rattle.convex_faces.specs.Directions.{Directions, root_in, IsWoodIn}
-use Rattle.convex_laws.specs.Walks.{IsWalk, turned, flipped, is_odd_on}
+use Rattle.convex_laws.specs.Walks.{turned, flipped, is_odd_on}
 use Rattle.convex_laws.proofs.Flips.{flipped_false}
-use Rattle.convex_laws.proofs.WalkLemmas.{IsWalk-append, IsWalk-turned, is_odd_on-append, is_odd_on-turned_walk}
-use Rattle.convex_laws.specs.Regions.{IsAxisWay, IsOuterWay, IsRegionWalk}
+use Rattle.convex_laws.proofs.WalkLemmas.{is_odd_on-append, is_odd_on-turned_walk}
+use Rattle.convex_laws.specs.Regions.{IsOuterWay}
 use Rattle.convex_faces.specs.Passing.{PassesAxis, PassesOuter, IsOuterCorner, corner, MarksRegion}
 use Rattle.convex_faces.proofs.PassLemmas.{Passes-append}
 

@@ -1,5 +1,5 @@
 -- The signs of differences, of points and of counts.
-use Rattle.std.proofs.Common.{◌≡◌, ℕ, ◌+◌, ◌<◌, ◌≤◌, ℤ, pos, ◌<ℤ◌, ◌≤ℤ◌, ◌+ℤ◌, arith}
+use Rattle.std.proofs.Common.{ℕ, arith}
 use Rattle.std.proofs.lemmas.Int.{ints}
 use Rattle.contour_runs.specs.Wood.{Coordinates, point_of}
 use Rattle.convex_counts.specs.declared.face_woods.axis.Axis.{Axis}

@@ -1,5 +1,5 @@
 -- The wood of the darts that are noted.
-use Rattle.std.proofs.Common.{◌≡◌, ◌≢◌, ℕ, suc, ◌+◌, ◌<◌, ◌≤◌, List, length, get_or, Option, Some, unwrap_or, refl, sym, ap, ◌∙◌, subst, arith}
+use Rattle.std.proofs.Common.{◌≡◌, ◌≢◌, ℕ, ◌<◌, List, length, Option, Some, unwrap_or, sym, ap, ◌∙◌, subst, arith}
 use Rattle.map_lists.specs.Lists.{Lists}
 use Rattle.map_theory.specs.Maps.{Dart, HasDart, IsPlane, follows, component_count}
 use Rattle.std.specs.Option.{option_map}
@@ -15,8 +15,7 @@ use Rattle.convex_counts.specs.Counts.{face_counts}
 use Rattle.convex_counts.specs.Turns.{well_turned}
 use Rattle.convex_counts.specs.declared.face_woods.axis.Axis.{Axis}
 use Rattle.convex_counts.specs.declared.face_woods.axis.Axis.TheVariants.{One, Two, Three}
-use Rattle.convex_counts.specs.Rising.{IsRising}
-use Rattle.convex_laws.specs.ConvexWoods.{AreRoots, IsOut, IsConvexWood}
+use Rattle.convex_laws.specs.ConvexWoods.{AreRoots}
 use Rattle.convex_laws.specs.ConvexWoodsLaws.{AreRisingOut}
 use Rattle.convex_laws.specs.RegionDrawings.{IsRegionDrawing}
 use Rattle.convex_laws.proofs.Heights.{height}

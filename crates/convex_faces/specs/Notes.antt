@@ -1,5 +1,5 @@
 -- Darts that lead along an axis, noted at their vertices.
-use Rattle.std.specs.Prelude.{ℕ, ◌<◌, ◌≡◌, List, length, slice_index, Some}
+use Rattle.std.specs.Prelude.{ℕ, ◌<◌, ◌≡◌, List, slice_index, Some}
 use Rattle.pg_plane.specs.declared.point.Point.{Point}
 use Rattle.plane_drawings.specs.Drawing.{place}
 use Rattle.half_edges.specs.Map.{Map, dart_at}

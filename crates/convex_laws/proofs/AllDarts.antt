@@ -1,19 +1,18 @@
 -- All darts of a run are darts of its map.
-use Rattle.std.proofs.Common.{◌≡◌, ◌⊎◌, ℕ, zero, suc, ◌+◌, ◌-◌, ◌<◌, ◌≤◌, length, refl, sym, ap, ap₂, ◌∙◌, subst, inl, inr, arith}
-use Rattle.std.proofs.lemmas.Bool.{cases_lt, cases_eq, cases_order}
+use Rattle.std.proofs.Common.{◌≡◌, ℕ, zero, suc, ◌+◌, ◌-◌, ◌<◌, ◌≤◌, length, refl, sym, ap, ap₂, ◌∙◌, subst, inl, inr, arith}
+use Rattle.std.proofs.lemmas.Bool.{cases_order}
 use Rattle.map_lists.specs.Lists.{Lists}
 use Rattle.map_theory.specs.Maps.{HasDart, IsSimpleMap, follows}
 use Rattle.map_theory.proofs.DartLemmas.{HasDart-face_step}
 use Rattle.contour_runs.specs.Runs.{Stage}
 use Rattle.contour_runs.specs.Laws.{IsStage}
 use Rattle.contour_runs.proofs.Stages.{upward}
-use Rattle.convex_counts.specs.Runs.{Step, stage_after, IsStep, IsRun, IsDartOf, IsAlong, faces_made}
+use Rattle.convex_counts.specs.Runs.{Step, stage_after, IsStep, IsRun, IsDartOf, faces_made}
 use Rattle.convex_counts.specs.FaceRunsLaws.{GoesAlong}
-use Rattle.convex_counts.proofs.Places.{order, cut-last}
+use Rattle.convex_counts.proofs.Places.{cut-last}
 use Rattle.convex_counts.proofs.Stages.{IsStage-run, IsRun-less, count-le}
-use Rattle.convex_counts.proofs.Faces.{one_place, cut_placed, cases_along, face_made_once, none_along_later}
+use Rattle.convex_counts.proofs.Faces.{one_place, cases_along, face_made_once, none_along_later}
 use Rattle.convex_laws.specs.ConvexDrawings.{IsRunMap}
-use Rattle.convex_counts.proofs.Apart.{find_face}
 use Rattle.convex_counts.specs.Rising.{IsRunEdge, along, back, over, IsDart}
 
 module _ (steps : ℕ → Step) (n : ℕ) (run : IsRun steps n) where

@@ -1,10 +1,10 @@
 -- What an edge of a run tells of the counts of the faces on its two sides.
-use Rattle.std.proofs.Common.{◌≡◌, ◌≢◌, ◌⊎◌, ℕ, zero, suc, ◌+◌, ◌-◌, ◌<◌, ◌≤◌, Bool, true, false, not, ◌&&◌, ltb, leb, refl, sym, ap, ap₂, ◌∙◌, subst, inl, inr, arith}
+use Rattle.std.proofs.Common.{◌≡◌, ◌⊎◌, ℕ, suc, ◌+◌, ◌<◌, ◌≤◌, Bool, true, false, not, ◌&&◌, ltb, leb, refl, sym, ap, ap₂, ◌∙◌, subst, inl, inr, arith}
 use Rattle.std.proofs.lemmas.Bool.{cases_lt, cases_eq, lt-ltb, le-ltb, lt-leb, le-leb}
 use Rattle.contour_runs.specs.Runs.{Stage}
 use Rattle.contour_runs.specs.Laws.{IsStage}
 use Rattle.contour_runs.proofs.Stages.{upward}
-use Rattle.convex_counts.specs.Runs.{Step, moved, after, stage_after, IsStep, IsRun}
+use Rattle.convex_counts.specs.Runs.{Step, moved, stage_after, IsStep, IsRun}
 use Rattle.convex_counts.proofs.Places.{order, moved-le, place_after-older, place_after-new}
 use Rattle.convex_counts.proofs.Stages.{IsStage-run, IsRun-less, count-le, moved-low, moved-high}
 use Rattle.convex_counts.proofs.Leads.{IsOff, off_after, off_covered}

@@ -1,14 +1,14 @@
 -- Which faces each vertex counts in the coordinates of a run, face by face.
-use Rattle.std.proofs.Common.{◌≡◌, ℕ, zero, suc, ◌+◌, ◌-◌, ◌<◌, ◌≤◌, Bool, true, false, ◌&&◌, ltb, leb, if◌then◌else◌, cond, refl, sym, ap, ap₂, ◌∙◌, subst, inl, inr, arith}
+use Rattle.std.proofs.Common.{◌≡◌, ℕ, zero, suc, ◌+◌, ◌-◌, ◌<◌, ◌≤◌, Bool, false, ◌&&◌, ltb, leb, if◌then◌else◌, refl, sym, ap, ◌∙◌, inl, inr, arith}
 use Rattle.std.proofs.lemmas.Bool.{cases_lt, cond-true, cond-false, lt-ltb, le-ltb, lt-leb, le-leb}
 use Rattle.classes.specs.Classes.{count_below}
 use Rattle.classes.proofs.Counting.{count_below_same, count_below_none}
 use Rattle.contour_runs.specs.Runs.{Stage}
 use Rattle.contour_runs.proofs.Stages.{upward}
-use Rattle.convex_counts.specs.Runs.{Step, stage_after, IsRun, faces_made}
+use Rattle.convex_counts.specs.Runs.{Step, stage_after, faces_made}
 use Rattle.convex_counts.proofs.Stages.{count-le}
-use Rattle.convex_counts.specs.Counts.{turned, face_counts, one_gain, two_gain}
-use Rattle.convex_counts.proofs.Gains.{turned-before, turned-from, turned-most, gain-most, one_after-older, two_after-older, one_after-new, two_after-new}
+use Rattle.convex_counts.specs.Counts.{turned, face_counts}
+use Rattle.convex_counts.proofs.Gains.{turned-before, turned-from, one_after-older, two_after-older, one_after-new, two_after-new}
 use Rattle.convex_laws.proofs.Covers.{count_below-add}
 
 -- A vertex counts a face of a step or not: an older one by its place as the face is made, as `hits` says; one that is new in that step does not; and a later one as the vertex at the place `end` of the step in which it is new.
@@ -119,7 +119,6 @@ hits_two turn (suc m) x = elim (cases_lt (turn m) x) [
   | inl l ↦ omega (arith, hits_two turn m x, turned-before turn m x l, cond-true {A = ℕ} (ltb (turn m) x) 1 0 (lt-ltb (turn m) x l))
   | inr l ↦ omega (arith, hits_two turn m x, turned-from turn m x l, cond-false {A = ℕ} (ltb (turn m) x) 1 0 (le-ltb (turn m) x l))
 ]
-
 
 -- the coordinates count these faces
 module _ (steps : ℕ → Step) where

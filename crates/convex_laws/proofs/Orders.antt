@@ -1,5 +1,5 @@
 -- The order of edges round a vertex.
-use Rattle.std.proofs.Common.{◌≡◌, ◌≢◌, ◌⊎◌, ℕ, zero, suc, ◌+◌, ◌-◌, ◌<◌, ◌≤◌, length, refl, sym, ap, ◌∙◌, subst, inl, inr, arith}
+use Rattle.std.proofs.Common.{◌≡◌, ◌≢◌, ◌⊎◌, ℕ, suc, ◌+◌, ◌-◌, ◌<◌, ◌≤◌, length, refl, sym, ap, ◌∙◌, subst, inl, inr, arith}
 use Rattle.std.proofs.lemmas.Bool.{cases_lt, cases_eq}
 use Rattle.map_lists.specs.Lists.{Lists}
 use Rattle.map_theory.specs.Maps.{HasDart, follows}
@@ -14,11 +14,11 @@ use Rattle.convex_counts.proofs.Stages.{IsStage-run, count-le}
 use Rattle.convex_counts.specs.Counts.{face_counts}
 use Rattle.convex_counts.specs.declared.face_woods.axis.Axis.{Axis}
 use Rattle.convex_counts.specs.declared.face_woods.axis.Axis.TheVariants.{One, Two, Three}
-use Rattle.convex_counts.specs.Axes.{next, previous, IsEntry, IsAhead, IsBehind}
+use Rattle.convex_counts.specs.Axes.{next, previous, IsAhead, IsBehind}
 use Rattle.convex_counts.specs.Rising.{IsRising}
-use Rattle.convex_counts.specs.FaceWoodsLaws.{AreOuterSides, HasOutside}
+use Rattle.convex_counts.specs.FaceWoodsLaws.{AreOuterSides}
 use Rattle.convex_counts.proofs.FaceWoodsSides.{corners_meet_at, outer_sides_at}
-use Rattle.convex_laws.specs.ConvexWoods.{AreRoots, IsOut, IsBeforeOuter, IsOrdered}
+use Rattle.convex_laws.specs.ConvexWoods.{AreRoots, IsBeforeOuter, IsOrdered}
 use Rattle.convex_laws.specs.ConvexWoodsLaws.{AreRisingOut}
 use Rattle.convex_laws.proofs.AllDarts.{on_number}
 use Rattle.convex_laws.proofs.Outs.{IsWoodRun, head_in, rank_one, rank_two, rank_three, entry_out}

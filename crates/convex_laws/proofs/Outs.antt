@@ -1,13 +1,13 @@
 -- The edges along which a coordinate rises alone, in a map of a run.
-use Rattle.std.proofs.Common.{◌≡◌, ◌≢◌, ◌⊎◌, ℕ, suc, ◌+◌, ◌<◌, ◌≤◌, length, refl, sym, ap, ◌∙◌, subst, inl, inr, arith}
+use Rattle.std.proofs.Common.{◌≡◌, ◌≢◌, ℕ, suc, ◌<◌, length, sym, ap, ◌∙◌, subst, arith}
 use Rattle.map_lists.specs.Lists.{Lists}
-use Rattle.map_theory.specs.Maps.{HasDart, follows}
+use Rattle.map_theory.specs.Maps.{HasDart}
 use Rattle.map_theory.specs.Paths.{SameFace}
 use Rattle.contour_runs.specs.Wood.{Coordinates}
 use Rattle.convex_counts.specs.Runs.{Step, stage_after, faces_made}
 use Rattle.convex_counts.specs.Counts.{face_counts}
 use Rattle.convex_counts.specs.Contours.{IsFalling}
-use Rattle.convex_counts.specs.FacePointsLaws.{IsWholeRun, IsCornered}
+use Rattle.convex_counts.specs.FacePointsLaws.{IsWholeRun}
 use Rattle.convex_counts.proofs.Steps.{IsFalling-run}
 use Rattle.convex_counts.proofs.Corners.{cornered}
 use Rattle.convex_peeling.specs.Contours.{face_of}

@@ -1,5 +1,5 @@
 -- The closed path of a region is a closed walk.
-use Rattle.std.proofs.Common.{◌≡◌, ℕ, List, [], ◌∷◌, ◌++◌, sym, subst}
+use Rattle.std.proofs.Common.{ℕ, List, [], ◌∷◌, ◌++◌, sym, subst}
 use Rattle.map_lists.specs.Lists.{Lists}
 use Rattle.map_theory.specs.Maps.{Dart, HasDart, IsSimpleMap}
 use Rattle.convex_counts.specs.declared.face_woods.axis.Axis.{Axis}

@@ -1,23 +1,23 @@
 -- What the counts of the faces on the two sides of an edge of a run tell of the ways that pass it.
-use Rattle.std.proofs.Common.{◌≡◌, ◌≢◌, ◌⊎◌, ℕ, zero, suc, ◌+◌, ◌-◌, ◌<◌, ◌≤◌, Bool, true, false, not, ltb, leb, refl, sym, ap, ap₂, ◌∙◌, subst, inl, inr, arith}
-use Rattle.std.proofs.lemmas.Bool.{cases_lt, cases_order, lt-ltb, le-ltb, lt-leb, le-leb}
+use Rattle.std.proofs.Common.{◌≡◌, ◌⊎◌, ℕ, zero, suc, ◌+◌, ◌-◌, ◌<◌, ◌≤◌, Bool, true, false, not, ltb, leb, refl, sym, ap, ap₂, ◌∙◌, subst, inl, inr, arith}
+use Rattle.std.proofs.lemmas.Bool.{cases_lt, cases_order, le-ltb, lt-leb}
 use Rattle.contour_runs.specs.Runs.{Stage}
 use Rattle.contour_runs.specs.Laws.{IsStage}
-use Rattle.convex_counts.specs.Runs.{Step, moved, after, stage_after, IsStep, IsRun, IsDartOf, IsAlong, IsUp, IsAcross, IsDown, faces_made}
+use Rattle.convex_counts.specs.Runs.{Step, moved, stage_after, IsStep, IsRun, IsDartOf, IsAlong, IsUp, IsAcross, IsDown, faces_made}
 use Rattle.convex_counts.specs.FaceRunsLaws.{GoesAlong}
 use Rattle.convex_counts.specs.FacePointsLaws.{IsWholeRun}
 use Rattle.convex_counts.proofs.Places.{order, cut-lt, cut-first, cut-last, cases_moved, turn-le, first_turn, last_turn, vertex_after-low, vertex_after-high, place_after-older, place_after-new}
 use Rattle.convex_counts.proofs.Stages.{count-le}
 use Rattle.convex_counts.proofs.Faces.{one_place, cut_placed, up_placed, down_placed, face_made_once, none_along_later, not_along}
 use Rattle.convex_counts.proofs.Leads.{new_once}
-use Rattle.convex_laws.specs.FaceDrawings.{IsRunDart, IsMadeDart, IsOuterDart, IsBaseDart}
+use Rattle.convex_laws.specs.FaceDrawings.{IsRunDart, IsOuterDart}
 use Rattle.convex_laws.specs.Walks.{flipped}
 use Rattle.convex_laws.proofs.AllDarts.{base_outside}
 use Rattle.convex_laws.proofs.Flips.{flipped_comm, flipped_false, flipped_self}
 use Rattle.convex_laws.proofs.FaceTests.{AreLater, test, test-outer, test-old, test-new, test-later, one_hits, two_hits, made-le}
-use Rattle.convex_laws.proofs.EdgeTests.{sound, third_test, leb_same, ltb_not, ltb_pair, flipped_over, IsSide-one, IsSide-two, end_placed, Agrees, agrees_low, agrees_high, agrees_new, told}
-use Rattle.convex_laws.proofs.WayTests.{AreWays, IsBegun, some_begun, IsBorn, born, one_start, two_start, one_old, two_old, one_new, two_new, ways_born, ways_base, ways_middle, begins, ends}
-use Rattle.convex_laws.proofs.ThirdWays.{AreThirdWays, IsDone, ways_done, over_test, over_outside, over_done, middle_test, middle_outside, middle_done, last_test, ways_last}
+use Rattle.convex_laws.proofs.EdgeTests.{sound, third_test, leb_same, ltb_not, ltb_pair, flipped_over, IsSide-one, IsSide-two, end_placed, agrees_low, agrees_high, agrees_new, told}
+use Rattle.convex_laws.proofs.WayTests.{AreWays, some_begun, IsBorn, born, one_start, two_start, one_old, two_old, one_new, two_new, ways_born, ways_base, ways_middle}
+use Rattle.convex_laws.proofs.ThirdWays.{AreThirdWays, ways_done, over_test, over_outside, over_done, middle_test, middle_outside, middle_done, last_test, ways_last}
 
 -- of which face of a step an edge of the contour after it is
 data IsUnderEdge (s : Step) (i j : ℕ) : Type 0 where
@@ -423,13 +423,13 @@ module _ (steps : ℕ → Step) (n : ℕ) (whole : IsWholeRun steps n) (some : 0
           let outside = over_outside steps n whole some m j i lm li lo hi in
           let c_at = over_test steps n whole some m j i lm li lo hi in
           let told_one = told steps n run m lm c_at outside (λ s. s.last) (λ x j. leb x j) IsSide-one (ones g) (ones f) h.two
-            (λ z v a. h.ones_later z v (omega arith)) (test-later (λ s. s.last) one_hits steps n m i lm li last_placed) (λ z v a. h.two_later z v (omega arith))
-            (λ v l. ap₂ flipped (h.agree_one v l) (test-old (λ s. s.last) one_hits steps n m i lm li v l) ∙ flipped_over (leb ((st m).place v) j) (h.two v) (leb ((st m).place v) t))
-            (λ v l d. ap₂ flipped (agrees_new steps n run (λ s. s.last) (λ x j. leb x j) IsSide-one m lm (ones g) h.two h.ones_later h.two_later j v h.agree_one (lt-leb (steps m).last j (omega arith)) l d) (test-new (λ s. s.last) one_hits steps n m i lm li v l d) ∙ flipped_false (h.two v)) in
+          (λ z v a. h.ones_later z v (omega arith)) (test-later (λ s. s.last) one_hits steps n m i lm li last_placed) (λ z v a. h.two_later z v (omega arith))
+          (λ v l. ap₂ flipped (h.agree_one v l) (test-old (λ s. s.last) one_hits steps n m i lm li v l) ∙ flipped_over (leb ((st m).place v) j) (h.two v) (leb ((st m).place v) t))
+          (λ v l d. ap₂ flipped (agrees_new steps n run (λ s. s.last) (λ x j. leb x j) IsSide-one m lm (ones g) h.two h.ones_later h.two_later j v h.agree_one (lt-leb (steps m).last j (omega arith)) l d) (test-new (λ s. s.last) one_hits steps n m i lm li v l d) ∙ flipped_false (h.two v)) in
           let told_two = told steps n run m lm c_at outside (λ s. s.first) (λ x j. ltb j x) IsSide-two (twos g) (twos f) h.one
-            (λ z v a. h.twos_later z v (omega arith)) (test-later (λ s. s.first) two_hits steps n m i lm li first_placed) (λ z v a. h.one_later z v (omega arith))
-            (λ v l. ap₂ flipped (h.agree_two v l) (test-old (λ s. s.first) two_hits steps n m i lm li v l) ∙ (flipped_over (ltb j ((st m).place v)) (h.one v) (ltb t ((st m).place v)) ∙ ap (flipped (h.one v)) (ltb_pair j t ((st m).place v))))
-            (λ v l d. ap₂ flipped (agrees_new steps n run (λ s. s.first) (λ x j. ltb j x) IsSide-two m lm (twos g) h.one h.twos_later h.one_later j v h.agree_two (le-ltb j (steps m).first (omega arith)) l d) (test-new (λ s. s.first) two_hits steps n m i lm li v l d) ∙ flipped_false (h.one v)) in
+          (λ z v a. h.twos_later z v (omega arith)) (test-later (λ s. s.first) two_hits steps n m i lm li first_placed) (λ z v a. h.one_later z v (omega arith))
+          (λ v l. ap₂ flipped (h.agree_two v l) (test-old (λ s. s.first) two_hits steps n m i lm li v l) ∙ (flipped_over (ltb j ((st m).place v)) (h.one v) (ltb t ((st m).place v)) ∙ ap (flipped (h.one v)) (ltb_pair j t ((st m).place v))))
+          (λ v l d. ap₂ flipped (agrees_new steps n run (λ s. s.first) (λ x j. ltb j x) IsSide-two m lm (twos g) h.one h.twos_later h.one_later j v h.agree_two (le-ltb j (steps m).first (omega arith)) l d) (test-new (λ s. s.first) two_hits steps n m i lm li v l d) ∙ flipped_false (h.one v)) in
           let done = over_done steps n whole some m j i lm li lo hi gone gone_back in
           let kind : (o : Bool) × IsBy x y f g false false o = elim h.below [
             | inl d ↦ (false, inner (less_all m i lm li) (subst (λ z. z < all_faces) (sym d.number) (less_all d.step d.place d.earlier d.dart.within)) (λ p. gone n p lm (omega arith)) (λ p. gone_back n p lm (omega arith)) refl refl refl)
@@ -474,13 +474,13 @@ module _ (steps : ℕ → Step) (n : ℕ) (whole : IsWholeRun steps n) (some : 0
       let outside = middle_outside steps n whole some m i lm li in
       let none : ℕ → Bool = λ v. false in
       let told_one = told steps n run m lm c outside (λ s. s.last) (λ x j. leb x j) IsSide-one (ones f) (ones g) none
-        (test-later (λ s. s.last) one_hits steps n m i lm lf last_placed) (test-later (λ s. s.last) one_hits steps n m (suc i) lm li last_placed) (λ z v a b d e. refl)
-        (λ v l. ap₂ flipped (test-old (λ s. s.last) one_hits steps n m i lm lf v l) (test-old (λ s. s.last) one_hits steps n m (suc i) lm li v l))
-        (λ v l d. ap₂ flipped (test-new (λ s. s.last) one_hits steps n m i lm lf v l d) (test-new (λ s. s.last) one_hits steps n m (suc i) lm li v l d)) in
+      (test-later (λ s. s.last) one_hits steps n m i lm lf last_placed) (test-later (λ s. s.last) one_hits steps n m (suc i) lm li last_placed) (λ z v a b d e. refl)
+      (λ v l. ap₂ flipped (test-old (λ s. s.last) one_hits steps n m i lm lf v l) (test-old (λ s. s.last) one_hits steps n m (suc i) lm li v l))
+      (λ v l d. ap₂ flipped (test-new (λ s. s.last) one_hits steps n m i lm lf v l d) (test-new (λ s. s.last) one_hits steps n m (suc i) lm li v l d)) in
       let told_two = told steps n run m lm c outside (λ s. s.first) (λ x j. ltb j x) IsSide-two (twos f) (twos g) none
-        (test-later (λ s. s.first) two_hits steps n m i lm lf first_placed) (test-later (λ s. s.first) two_hits steps n m (suc i) lm li first_placed) (λ z v a b d e. refl)
-        (λ v l. ap₂ flipped (test-old (λ s. s.first) two_hits steps n m i lm lf v l) (test-old (λ s. s.first) two_hits steps n m (suc i) lm li v l) ∙ ltb_pair t t' ((st m).place v))
-        (λ v l d. ap₂ flipped (test-new (λ s. s.first) two_hits steps n m i lm lf v l d) (test-new (λ s. s.first) two_hits steps n m (suc i) lm li v l d)) in
+      (test-later (λ s. s.first) two_hits steps n m i lm lf first_placed) (test-later (λ s. s.first) two_hits steps n m (suc i) lm li first_placed) (λ z v a b d e. refl)
+      (λ v l. ap₂ flipped (test-old (λ s. s.first) two_hits steps n m i lm lf v l) (test-old (λ s. s.first) two_hits steps n m (suc i) lm li v l) ∙ ltb_pair t t' ((st m).place v))
+      (λ v l d. ap₂ flipped (test-new (λ s. s.first) two_hits steps n m i lm lf v l d) (test-new (λ s. s.first) two_hits steps n m (suc i) lm li v l d)) in
       record {
         one = none;
         two = none;

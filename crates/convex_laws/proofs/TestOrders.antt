@@ -4,7 +4,7 @@ use Rattle.std.proofs.lemmas.Bool.{cases_lt, lt-ltb, le-ltb, lt-leb, le-leb, ltb
 use Rattle.std.proofs.Common.{true≢false, ltb, leb}
 use Rattle.contour_runs.specs.Runs.{Stage}
 use Rattle.contour_runs.specs.Laws.{IsStage}
-use Rattle.convex_counts.specs.Runs.{Step, vertex_after, after, stage_after, IsStep, IsRun, faces_made}
+use Rattle.convex_counts.specs.Runs.{Step, stage_after, IsStep, IsRun, faces_made}
 use Rattle.convex_counts.proofs.Places.{order, cut-first, cut-last, vertex_after-low, vertex_after-new, vertex_after-high, cases_place}
 use Rattle.convex_counts.proofs.Stages.{IsStage-run, IsRun-less}
 use Rattle.convex_laws.proofs.FaceTests.{one_counted, two_counted, one_hits, two_hits, counted-older, counted-later, counted-hits, counted-new}
@@ -112,8 +112,7 @@ module _ (steps : ℕ → Step) where
     at_older p q l e =
         let v = (st n).vertex p in
         let pl = stage.placed p l in
-        let own = stage.own p l in
-        (
+        let own = stage.own p l in (
           ap (O (suc n) F) e ∙ (counted-hits (λ s. s.last) one_hits steps n i v pl ∙ ap (λ z. leb z ((steps n).turn i)) own),
           ap (T (suc n) F) e ∙ (counted-hits (λ s. s.first) two_hits steps n i v pl ∙ ap (λ z. ltb ((steps n).turn i) z) own),
         )

@@ -1,5 +1,5 @@
 -- Which vertices of a run lead over an edge on their ways along axis three.
-use Rattle.std.proofs.Common.{◌≡◌, ◌≢◌, ◌⊎◌, ℕ, zero, suc, ◌+◌, ◌-◌, ◌<◌, ◌≤◌, Bool, true, false, ◌&&◌, ltb, leb, refl, sym, ap, ap₂, ◌∙◌, subst, inl, inr, arith}
+use Rattle.std.proofs.Common.{◌≡◌, ◌≢◌, ◌⊎◌, ℕ, zero, suc, ◌<◌, ◌≤◌, Bool, true, false, leb, refl, sym, ap, ap₂, ◌∙◌, subst, inl, inr, arith}
 use Rattle.std.proofs.lemmas.Bool.{cases_lt, cases_eq, cases_order, lt-leb, le-leb}
 use Rattle.contour_runs.specs.Runs.{Stage}
 use Rattle.contour_runs.specs.Laws.{IsStage}
@@ -8,7 +8,7 @@ use Rattle.convex_counts.specs.FaceRunsLaws.{GoesAlong}
 use Rattle.convex_counts.specs.Counts.{face_counts, two_gain, IsTurned}
 use Rattle.convex_counts.specs.Contours.{IsFalling}
 use Rattle.convex_counts.specs.FacePointsLaws.{IsWholeRun}
-use Rattle.convex_counts.proofs.Places.{order, cut-lt, cut-le, cut-first, cut-last}
+use Rattle.convex_counts.proofs.Places.{cut-lt, cut-le, cut-first, cut-last}
 use Rattle.convex_counts.proofs.Stages.{IsRun-less, count-le}
 use Rattle.convex_counts.proofs.Steps.{IsFalling-run}
 use Rattle.convex_counts.proofs.Gains.{gain-first, gain-second}
@@ -273,8 +273,8 @@ module _ (steps : ℕ → Step) (n : ℕ) (whole : IsWholeRun steps n) (some : 0
         let flips : leb p j ≡ flipped edge (leb q j) = elim (cases_eq q j) [
           | inl same ↦ changes_back (leb p j) (leb q j) edge (lt-leb p j (omega arith)) (le-leb q j (omega arith)) (edge_back v u x y (ap (st m).vertex (sym e ∙ ap suc same)) (sym f ∙ ap (st m).vertex same))
           | inr ne ↦ stays (leb p j) (leb q j) edge (ap (λ p. leb p j) (sym e) ∙ leb-next q j ne) (no_edge v u x y
-            (λ ev eu. let z = places m p j (omega arith) (omega arith) (omega arith) ev in let z' = places m q (suc j) (omega arith) (omega arith) bd (f ∙ eu) in omega arith)
-            (λ ev eu. ne (places m q j (omega arith) (omega arith) (omega arith) (f ∙ eu))))
+              (λ ev eu. let z = places m p j (omega arith) (omega arith) (omega arith) ev in let z' = places m q (suc j) (omega arith) (omega arith) bd (f ∙ eu) in omega arith)
+              (λ ev eu. ne (places m q j (omega arith) (omega arith) (omega arith) (f ∙ eu))))
         ] in
         ap₂ flipped flips turns ∙ (sym (flipped_assoc edge (leb q j) (leb q t)) ∙ ap (flipped edge) (sym (over_old q u (omega arith) f)))
     over_here p u lo hi (on i' li' a b f) =
@@ -288,8 +288,8 @@ module _ (steps : ℕ → Step) (n : ℕ) (whole : IsWholeRun steps n) (some : 0
         let flips : leb p j ≡ flipped edge (leb q j) = elim (cases_eq p j) [
           | inl same ↦ changes (leb p j) (leb q j) edge (le-leb p j (omega arith)) (lt-leb q j (omega arith)) (edge_on v u x y (ap (st m).vertex same) (sym f ∙ ap (λ z. (st m).vertex (suc z)) same))
           | inr ne ↦ stays (leb p j) (leb q j) edge (sym (leb-next p j ne)) (no_edge v u x y
-            (λ ev eu. ne (places m p j (omega arith) (omega arith) (omega arith) ev))
-            (λ ev eu. let z = places m p (suc j) (omega arith) (omega arith) bd ev in let z' = places m q j (omega arith) (omega arith) (omega arith) (f ∙ eu) in omega arith))
+              (λ ev eu. ne (places m p j (omega arith) (omega arith) (omega arith) ev))
+              (λ ev eu. let z = places m p (suc j) (omega arith) (omega arith) bd ev in let z' = places m q j (omega arith) (omega arith) (omega arith) (f ∙ eu) in omega arith))
         ] in
         ap₂ flipped flips turns ∙ (sym (flipped_assoc edge (leb q j) (leb q t)) ∙ ap (flipped edge) (sym (over_old q u (omega arith) f)))
     over_here p u lo hi (over i' li' a b f) =
@@ -462,16 +462,16 @@ module _ (steps : ℕ → Step) (n : ℕ) (whole : IsWholeRun steps n) (some : 0
         last_step p (suc p) v u (omega arith) (omega arith) e f (elim (cases_eq p j) [
           | inl same ↦ changes (leb p j) (leb (suc p) j) (is_edge (v, u) x y) (le-leb p j (omega arith)) (lt-leb (suc p) j (omega arith)) (edge_on v u x y (sym e ∙ ap (st n).vertex same ∙ along.tail) (sym f ∙ ap (λ z. (st n).vertex (suc z)) same ∙ along.head))
           | inr ne ↦ stays (leb p j) (leb (suc p) j) (is_edge (v, u) x y) (sym (leb-next p j ne)) (no_edge v u x y
-            (λ ev eu. ne (places n p j (omega arith) (omega arith) (omega arith) (e ∙ ev ∙ sym along.tail)))
-            (λ ev eu. let z = places n p (suc j) (omega arith) (omega arith) w (e ∙ ev ∙ sym along.head) in let z' = places n (suc p) j (omega arith) (omega arith) (omega arith) (f ∙ eu ∙ sym along.tail) in omega arith))
+              (λ ev eu. ne (places n p j (omega arith) (omega arith) (omega arith) (e ∙ ev ∙ sym along.tail)))
+              (λ ev eu. let z = places n p (suc j) (omega arith) (omega arith) w (e ∙ ev ∙ sym along.head) in let z' = places n (suc p) j (omega arith) (omega arith) (omega arith) (f ∙ eu ∙ sym along.tail) in omega arith))
         ])
     last_steps v u (to_left p a b e f) =
         let w = along.within in
         last_step (suc p) p v u b (omega arith) e f (elim (cases_eq p j) [
           | inl same ↦ changes_back (leb (suc p) j) (leb p j) (is_edge (v, u) x y) (lt-leb (suc p) j (omega arith)) (le-leb p j (omega arith)) (edge_back v u x y (sym e ∙ ap (λ z. (st n).vertex (suc z)) same ∙ along.head) (sym f ∙ ap (st n).vertex same ∙ along.tail))
           | inr ne ↦ stays (leb (suc p) j) (leb p j) (is_edge (v, u) x y) (leb-next p j ne) (no_edge v u x y
-            (λ ev eu. let z = places n (suc p) j (omega arith) b (omega arith) (e ∙ ev ∙ sym along.tail) in let z' = places n p (suc j) (omega arith) (omega arith) w (f ∙ eu ∙ sym along.head) in omega arith)
-            (λ ev eu. ne (places n p j (omega arith) (omega arith) (omega arith) (f ∙ eu ∙ sym along.tail))))
+              (λ ev eu. let z = places n (suc p) j (omega arith) b (omega arith) (e ∙ ev ∙ sym along.tail) in let z' = places n p (suc j) (omega arith) (omega arith) w (f ∙ eu ∙ sym along.head) in omega arith)
+              (λ ev eu. ne (places n p j (omega arith) (omega arith) (omega arith) (f ∙ eu ∙ sym along.tail))))
         ])
 
     pub ways_last : AreThirdWays steps n whole some x y last_test

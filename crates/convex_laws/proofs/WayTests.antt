@@ -1,9 +1,9 @@
 -- Which vertices of a run lead over an edge on their ways along axes one and two.
-use Rattle.std.proofs.Common.{◌≡◌, ◌≢◌, ◌⊎◌, ℕ, zero, suc, ◌+◌, ◌-◌, ◌<◌, ◌≤◌, Bool, true, false, ◌&&◌, ◌||◌, ltb, leb, eqb, if◌then◌else◌, refl, sym, ap, ap₂, ◌∙◌, subst, inl, inr, arith}
-use Rattle.std.proofs.lemmas.Bool.{cases_lt, cases_eq, cases_order, cond-true, cond-false, lt-ltb, le-ltb, lt-leb, le-leb, eq-eqb, eqb-true, and_parts, false_from_ne_true, or_left, or_right, or_from, and_from}
+use Rattle.std.proofs.Common.{◌≡◌, ◌≢◌, ◌⊎◌, ℕ, zero, suc, ◌+◌, ◌<◌, ◌≤◌, Bool, true, false, ◌&&◌, ltb, leb, eqb, if◌then◌else◌, refl, sym, ap, ap₂, ◌∙◌, inl, inr, arith}
+use Rattle.std.proofs.lemmas.Bool.{cases_lt, cases_order, cond-true, cond-false, lt-ltb, le-ltb, lt-leb, le-leb, eq-eqb, eqb-true, and_parts, false_from_ne_true, or_left, or_right, or_from, and_from}
 use Rattle.contour_runs.specs.Runs.{Stage}
 use Rattle.contour_runs.specs.Laws.{IsStage}
-use Rattle.convex_counts.specs.Runs.{Step, stage_after, IsStep, IsRun}
+use Rattle.convex_counts.specs.Runs.{Step, stage_after, IsRun}
 use Rattle.convex_counts.specs.FaceRunsLaws.{GoesAlong}
 use Rattle.convex_counts.specs.FacePointsLaws.{IsWholeRun}
 use Rattle.convex_counts.proofs.Places.{order, cut-lt, vertex_after-low, vertex_after-new, vertex_after-high}
@@ -55,8 +55,7 @@ some_begun end steps (suc n) k start placed l = elim (cases_lt n k) [
         let w = g.vertex (end (steps n)) in
         let T : ℕ → Bool = λ v. if ltb v g.count then h.0 v else h.0 w in
         let old : (v : ℕ) → v < g.count → T v ≡ h.0 v = λ v a. cond-true (ltb v g.count) (h.0 v) (h.0 w) (lt-ltb v g.count a) in
-        let new : (v : ℕ) → g.count ≤ v → T v ≡ h.0 w = λ v a. cond-false (ltb v g.count) (h.0 v) (h.0 w) (le-ltb v g.count a) in
-        (
+        let new : (v : ℕ) → g.count ≤ v → T v ≡ h.0 w = λ v a. cond-false (ltb v g.count) (h.0 v) (h.0 w) (le-ltb v g.count a) in (
           T,
           record {
             begun = λ v a. let c = count-le steps k n (omega arith) in old v (omega arith) ∙ h.1.begun v a;

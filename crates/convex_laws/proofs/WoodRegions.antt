@@ -1,20 +1,17 @@
 -- The coordinates of a run are the face counts of the regions of its wood.
-use Rattle.std.proofs.Common.{◌≡◌, ◌≢◌, ◌⊎◌, ℕ, zero, suc, ◌+◌, ◌-◌, ◌<◌, ◌≤◌, pos, ◌+ℤ◌, Bool, true, false, not, ◌&&◌, ltb, eqb, List, length, refl, sym, ap, ap₂, ◌∙◌, subst, inl, inr, arith, true≢false}
+use Rattle.std.proofs.Common.{◌≡◌, ◌≢◌, ◌⊎◌, ℕ, zero, suc, ◌+◌, ◌-◌, ◌<◌, ◌≤◌, pos, ◌+ℤ◌, Bool, true, false, not, ◌&&◌, eqb, List, length, refl, sym, ap, ap₂, ◌∙◌, subst, inl, inr, arith}
 use Rattle.std.proofs.lemmas.Bool.{cases_lt, cases_eq, lt-ltb, eq-eqb, ne_eqb, and_from}
-use Rattle.std.proofs.lemmas.Int.{ints}
 use Rattle.classes.specs.Classes.{count_below, class_count, same_class}
 use Rattle.classes.specs.Classes.{label as label_in}
 use Rattle.classes.proofs.Counting.{one_if, count_below_same, count_below_into, count_below_not, count_below_split}
 use Rattle.classes.proofs.Classes.{IsLabels, label-lt}
 use Rattle.classes.proofs.Orbits.{length-orbits, IsLabels-orbits}
 use Rattle.map_lists.specs.Lists.{Lists}
-use Rattle.map_theory.specs.Maps.{Dart, HasDart, IsSimpleMap, IsPlane, follows, face_classes, face_images, face_count, dart_count, dart_number, component_count}
+use Rattle.map_theory.specs.Maps.{Dart, HasDart, IsSimpleMap, IsPlane, face_classes, face_images, face_count, dart_count, dart_number, component_count}
 use Rattle.map_theory.proofs.DartLemmas.{dart_number-lt, get_or-dart_number, length-face_images, IsPermutationOfBelow-face_images, HasDart-face_step}
 use Rattle.map_theory.proofs.DartPermutations.{dart_of, dart_of-number}
 use Rattle.pg_plane.specs.declared.point.Point.{Point}
 use Rattle.plane_drawings.specs.Drawing.{place}
-use Rattle.contour_runs.specs.Runs.{Stage}
-use Rattle.contour_runs.specs.Laws.{IsStage}
 use Rattle.contour_runs.specs.Wood.{Coordinates, point_of}
 use Rattle.convex_counts.specs.Runs.{Step, stage_after, IsRun, IsDartOf, faces_made}
 use Rattle.convex_counts.specs.Counts.{face_counts}
@@ -29,13 +26,12 @@ use Rattle.convex_peeling.specs.Contours.{face_of}
 use Rattle.convex_peeling.proofs.Faces.{along_face}
 use Rattle.convex_laws.specs.ConvexWoods.{AreRoots}
 use Rattle.convex_laws.specs.ConvexWoodsLaws.{IsNamedRun, AreRisingOut}
-use Rattle.convex_laws.specs.ConvexDrawings.{AreCountPoints}
-use Rattle.convex_laws.specs.RegionDrawings.{IsCoordinate, IsRegionDrawing}
+use Rattle.convex_laws.specs.RegionDrawings.{IsCoordinate}
 use Rattle.convex_laws.specs.FaceRegionsLaws.{RegionsDraw}
 use Rattle.convex_laws.specs.Walks.{flipped, is_odd_on, IsWalk}
 use Rattle.convex_laws.specs.Chains.{GoesOn, along, over, ReachesBy, Reaches}
 use Rattle.convex_laws.specs.ClosedWalksLaws.{HasSide}
-use Rattle.convex_laws.specs.Inside.{is_other_face, IsInsideCount}
+use Rattle.convex_laws.specs.Inside.{is_other_face}
 use Rattle.convex_laws.specs.Regions.{IsRegionWalk, IsFaceRegion}
 use Rattle.convex_laws.proofs.Flips.{flipped_twice, flipped_comm, and_comm}
 use Rattle.convex_laws.proofs.Sides.{sides_are_known}
@@ -212,8 +208,7 @@ module _ (lists : Lists) (s d : ℕ) (steps : ℕ → Step) (n : ℕ) (rank : �
             (subst (λ z. HasDart lists z y) (sym ex) (subst (HasDart lists y') (sym ey) on), ap lab (ap₂ face ex ey ∙ h.map.faces x' y' has) ∙ (e ∙ sym eo))
         goes x' y' odd' has e (over ex ey eo) =
             let on = simple.both_ways x' y' has in
-            let told = label_sides lists s d steps n rank face at h root roots out_of are c v x' y' lv has in
-            (
+            let told = label_sides lists s d steps n rank face at h root roots out_of are c v x' y' lv has in (
               subst (λ z. HasDart lists z y) (sym ex) (subst (HasDart lists y') (sym ey) on),
               ap lab (ap₂ face ex ey) ∙ (flip_back (lab (face x' y')) (lab (face y' x')) (is_odd_on walk x' y') told ∙ (ap (flipped (is_odd_on walk x' y')) e ∙ sym eo)),
             )

@@ -1,5 +1,5 @@
 -- Which faces of a map lie inside the closed paths of its regions, by what the vertices count over a run.
-use Rattle.std.proofs.Common.{◌≡◌, ◌≢◌, ◌⊎◌, ℕ, zero, suc, ◌+◌, ◌-◌, ◌<◌, ◌≤◌, Bool, true, false, not, ◌&&◌, ◌||◌, ltb, leb, eqb, List, [], ◌∷◌, ◌++◌, length, refl, sym, ap, ap₂, ◌∙◌, subst, inl, inr, arith}
+use Rattle.std.proofs.Common.{◌≡◌, ◌≢◌, ℕ, zero, suc, ◌+◌, ◌-◌, ◌<◌, ◌≤◌, Bool, true, false, not, ◌&&◌, ◌||◌, ltb, leb, eqb, List, [], ◌∷◌, ◌++◌, length, refl, sym, ap, ap₂, ◌∙◌, subst, inl, inr, arith}
 use Rattle.std.proofs.Math.Bool.{or_comm}
 use Rattle.std.proofs.lemmas.Bool.{cases_lt, cases_eq, cases_order, lt-ltb, le-ltb, lt-leb, le-leb, eq-eqb, ne_eqb, and_left, and_right, and_from}
 use Rattle.map_lists.specs.Lists.{Lists}
@@ -7,7 +7,6 @@ use Rattle.map_theory.specs.Maps.{Dart, HasDart, IsSimpleMap, same_dart}
 use Rattle.map_theory.specs.Paths.{SameFace}
 use Rattle.contour_runs.specs.Runs.{Stage}
 use Rattle.contour_runs.specs.Laws.{IsStage}
-use Rattle.contour_runs.specs.Wood.{Coordinates}
 use Rattle.convex_counts.specs.Runs.{Step, stage_after, IsRun, faces_made}
 use Rattle.convex_counts.specs.FaceRunsLaws.{GoesAlong}
 use Rattle.convex_counts.specs.Counts.{face_counts}
@@ -18,14 +17,12 @@ use Rattle.convex_counts.specs.Axes.{next, previous}
 use Rattle.convex_counts.specs.Rising.{IsRising, IsDart}
 use Rattle.convex_counts.proofs.DartKinds.{any_kind}
 use Rattle.convex_counts.proofs.Leads.{one_leads, two_leads, three_leads}
-use Rattle.convex_peeling.specs.Contours.{face_of}
 use Rattle.convex_peeling.proofs.Faces.{SameFace-labels}
-use Rattle.convex_laws.specs.FaceDrawings.{IsRunDart}
 use Rattle.convex_laws.specs.ConvexWoods.{AreRoots, IsOut}
 use Rattle.convex_laws.specs.ConvexWoodsLaws.{AreRisingOut}
 use Rattle.convex_laws.specs.Walks.{flipped, turned, is_edge, is_odd_on}
 use Rattle.convex_laws.specs.Regions.{IsAxisWay, IsOuterWay, IsRegionWalk}
-use Rattle.convex_laws.proofs.Flips.{flipped_assoc, flipped_comm, flipped_false}
+use Rattle.convex_laws.proofs.Flips.{flipped_comm, flipped_false}
 use Rattle.convex_laws.proofs.WalkLemmas.{is_odd_on-append, is_odd_on-turned_walk}
 use Rattle.convex_laws.proofs.AllDarts.{rank_at, run_dart, goes_all}
 use Rattle.convex_laws.proofs.OuterFace.{outer-SameFace}
@@ -35,7 +32,7 @@ use Rattle.convex_laws.proofs.ConvexWoodsWhole.{out_higher, most}
 use Rattle.convex_laws.proofs.WayTests.{no_edge, edge_on, edge_back}
 use Rattle.convex_laws.proofs.EdgeTests.{ltb_not}
 use Rattle.convex_laws.proofs.FaceTests.{test-outer, one_hits, two_hits}
-use Rattle.convex_laws.proofs.RunSides.{ones, twos, all_faces, IsBy, inner, last, base, IsSided, sided_at, one_number, base_off, base_behind}
+use Rattle.convex_laws.proofs.RunSides.{ones, twos, IsBy, inner, last, base, IsSided, sided_at, one_number, base_off, base_behind}
 
 inner_three : (p q r : Bool) → flipped (flipped (flipped q r) false) (flipped (flipped p r) false) ≡ flipped p (flipped false q)
 inner_three true true true = refl

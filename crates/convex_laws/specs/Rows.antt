@@ -1,6 +1,5 @@
 -- The steps of a run as rows of numbers, the last step first. A vertex of the run is a rank, which stands for a vertex of a map.
 use Rattle.std.specs.Prelude.{ℕ, suc, ◌+◌, ◌<◌, ◌≤◌, ◌≡◌, List, length, slice_index}
-use Rattle.map_lists.specs.Lists.{Lists}
 use Rattle.map_theory.specs.Maps.{list_of}
 use Rattle.contour_runs.specs.Runs.{Stage}
 use Rattle.convex_counts.specs.Runs.{Step, stage_after}

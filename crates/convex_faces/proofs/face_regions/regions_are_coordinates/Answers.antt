@@ -1,4 +1,4 @@
-use Rattle.std.proofs.Common.{ℕ, ◌-◌, sym, subst}
+use Rattle.std.proofs.Common.{◌-◌, subst}
 use Rattle.map_theory.specs.Maps.{face_count}
 use Rattle.plane_drawings.specs.Drawing.{place}
 use Rattle.convex_laws.specs.RegionDrawings.{IsCoordinate}

@@ -1,4 +1,4 @@
-use Rattle.std.proofs.Common.{◌≡◌, length, sym, ◌∙◌, arith}
+use Rattle.std.proofs.Common.{sym, ◌∙◌, arith}
 use Rattle.convex_faces.proofs.WoodLemmas.{IsWoodIn-made, IsDrawnWood-made}
 use Rattle.convex_faces.proofs.wood.of_run.wood_by.Goals as goal
 

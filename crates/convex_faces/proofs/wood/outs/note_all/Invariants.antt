@@ -1,4 +1,3 @@
-use Rattle.std.proofs.Common.{◌≡◌}
 use Rattle.convex_faces.specs.Notes.{AreNoted}
 use Rattle.convex_faces.proofs.wood.outs.note_all.Given as goal
 
