@@ -17,3 +17,4 @@ pub mod ReadingLemmas
 pub mod ReadsLemmas
 pub mod WriteLemmas
 mod Refused
+mod StandsLemmas

@@ -113,7 +113,7 @@ record-no_bad_count xs ys lists (inr wide) =
     rw wide.spelled
     (not_bad-count (length lists) (flat_map two_bytes (record_numbers lists) ++ ys) wide.some_list wide.few_lists)
 
-record-positive : (xs : List ℕ) (lists : Lists) → IsRecord xs lists → 0 < length xs
+pub record-positive : (xs : List ℕ) (lists : Lists) → IsRecord xs lists → 0 < length xs
 record-positive [] lists is = absurd (record-not_empty lists is)
 record-positive (x ∷ xs) lists is = omega arith
 

@@ -1,5 +1,5 @@
 //! Laws on how inputs are read, each the contract of a function that does nothing.
-ghost use Rattle.planar_code.specs.Laws.{OneReading, EachInputIsRead};
+ghost use Rattle.planar_code.specs.Laws.{OneReading, EachInputIsRead, RecordIsRead};
 
 /// Each input is read in one way at most: two readings of it have the same records, in the same
 /// order, and the same ending.
@@ -10,4 +10,10 @@ pub fn one_reading()
 /// Each input is read in one way at least: it has records and an ending.
 pub fn each_input_is_read()
     ensures { EachInputIsRead }
+{}
+
+/// What `write_record` writes is read back by `next_record`, whatever stands before it and behind it: each
+/// record is, by no other step, and with no fault but want of memory.
+pub fn record_is_read()
+    ensures { RecordIsRead }
 {}
