@@ -1,5 +1,4 @@
 -- Lemmas on convex woods as values.
-pub mod SignLemmas
 pub mod NoteLemmas
 pub mod WoodLemmas
 pub mod PointLemmas

@@ -8,7 +8,7 @@ use Rattle.map_theory.specs.Maps.{Dart}
 use Rattle.half_edges.specs.Map.{Map, IsLive, dart_at}
 use Rattle.euler_faces.proofs.NumberLemmas.{live_from}
 use Rattle.convex_counts.specs.declared.face_woods.axis.Axis.{Axis}
-use Rattle.convex_faces.specs.Signs.{IsRisingBy}
+use Rattle.convex_laws.specs.Signs.{IsRisingBy}
 use Rattle.convex_faces.specs.Notes.{IsNoted, IsRisingDart, Notes, AreNoted}
 
 -- what the ends of a dart tell

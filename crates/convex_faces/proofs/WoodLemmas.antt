@@ -21,11 +21,11 @@ use Rattle.convex_laws.specs.RegionDrawings.{IsRegionDrawing}
 use Rattle.convex_laws.proofs.Heights.{height}
 use Rattle.convex_laws.proofs.WoodRegions.{regions_draw}
 use Rattle.convex_laws.proofs.ConvexWoodsWhole.{IsWoodRun-named, some_out, wood_of_run, out_higher, most}
-use Rattle.convex_faces.specs.Signs.{IsRisingBy}
+use Rattle.convex_laws.specs.Signs.{IsRisingBy}
 use Rattle.convex_faces.specs.Notes.{IsNoted, AreNoted}
 use Rattle.convex_faces.specs.Directions.{Directions, root_in, table_in, out_in, count_in, IsWoodIn, IsDrawnWood}
 use Rattle.convex_faces.specs.RunPoints.{AreRunPoints}
-use Rattle.convex_faces.proofs.SignLemmas.{IsRisingBy-counts, IsRising-points}
+use Rattle.convex_laws.proofs.SignLemmas.{IsRisingBy-counts, IsRising-points}
 use Rattle.convex_faces.proofs.NoteLemmas.{tail_is, head_is as ends_head}
 
 module _ (map : Map) (known : IsHalfMap map) (s d : ℕ) (points : List Point) (r : AreRunPoints map.lists s d points) (wood : Directions) (roots : AreRoots map.lists (s, d) (root_in wood)) (count : count_in wood ≡ length map.lists) (noted : (c : Axis) → AreNoted map points c (id_bound map) (table_in wood c)) where

@@ -4,7 +4,7 @@ use Rattle.pg_plane.specs.declared.point.Point.{Point}
 use Rattle.plane_drawings.specs.Drawing.{place}
 use Rattle.half_edges.specs.Map.{Map, dart_at}
 use Rattle.convex_counts.specs.declared.face_woods.axis.Axis.{Axis}
-use Rattle.convex_faces.specs.Signs.{IsRisingBy}
+use Rattle.convex_laws.specs.Signs.{IsRisingBy}
 
 -- the id is that of a dart from v along the axis
 pub record IsNoted (map : Map) (points : List Point) (c : Axis) (v id : ℕ) : Type 0 where

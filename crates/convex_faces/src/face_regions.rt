@@ -6,12 +6,13 @@ ghost use Rattle.convex_faces.specs.FaceRegionsLaws.{RegionsAreCoordinates};
 mod passing;
 mod region;
 
-pub use convex_laws::face_regions::regions_are_one;
+pub use convex_laws::face_regions::{regions_are_one, rising_woods_draw};
 pub use region::face_region;
 
 /// For the wood of a call of `convex_wood` the numbers of `face_region` are coordinates: of a figure that meets the
 /// contract of `convex_draw` for the same map and base. For axis one it is x, for axis two y, and for axis three what
-/// both lack of f - 1, for f faces.
+/// both lack of f - 1, for f faces. So it is for each figure of `convex_draw` in which each dart of the wood leads along
+/// the axis whose coordinate alone rises (`rising_woods_draw`).
 pub fn regions_are_coordinates()
     ensures { RegionsAreCoordinates }
 {}

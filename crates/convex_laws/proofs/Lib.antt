@@ -47,4 +47,6 @@ pub mod ThirdWays
 pub mod RunSides
 pub mod OuterFace
 pub mod WoodSides
+pub mod SignLemmas
 pub mod WoodRegions
+pub mod Readings

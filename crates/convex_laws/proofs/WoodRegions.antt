@@ -27,7 +27,9 @@ use Rattle.convex_peeling.proofs.Faces.{along_face}
 use Rattle.convex_laws.specs.ConvexWoods.{AreRoots}
 use Rattle.convex_laws.specs.ConvexWoodsLaws.{IsNamedRun, AreRisingOut}
 use Rattle.convex_laws.specs.RegionDrawings.{IsCoordinate}
+use Rattle.convex_laws.specs.Signs.{IsRisingBy}
 use Rattle.convex_laws.specs.FaceRegionsLaws.{RegionsDraw}
+use Rattle.convex_laws.proofs.SignLemmas.{IsRising-points}
 use Rattle.convex_laws.specs.Walks.{flipped, is_odd_on, IsWalk}
 use Rattle.convex_laws.specs.Chains.{GoesOn, along, over, ReachesBy, Reaches}
 use Rattle.convex_laws.specs.ClosedWalksLaws.{HasSide}
@@ -37,7 +39,7 @@ use Rattle.convex_laws.proofs.Flips.{flipped_twice, flipped_comm, and_comm}
 use Rattle.convex_laws.proofs.Sides.{sides_are_known}
 use Rattle.convex_laws.proofs.RegionWalks.{IsRegionWalk-closed}
 use Rattle.convex_laws.proofs.AllDarts.{rank_at, goes_all, numbered}
-use Rattle.convex_laws.proofs.Outs.{IsWoodRun}
+use Rattle.convex_laws.proofs.Outs.{IsWoodRun, rises_out}
 use Rattle.convex_laws.proofs.Heights.{height}
 use Rattle.convex_laws.proofs.ConvexWoodsTurned.{faces_as_before}
 use Rattle.convex_laws.proofs.ConvexWoodsWhole.{wood_at, IsWoodRun-named, some_out}
@@ -294,6 +296,10 @@ regions_draw lists s d steps n rank face at root out points plane connected run 
         regions_counted lists s d turned n rank face at h root roots out are plane connected all c v l,
         coordinate_is (face_counts turned n) (faces_made turned n) (face_count lists) c (rank v) (place points v) (placed v l) (fall.sums (rank v) (h.map.placed v l)) all,
       );
+      rising = λ c v u has r.
+          let lu = h.map.simple.in_range v u has in
+          rises_out lists s d turned n rank face at h root roots out are c v u has
+          (IsRising-points (face_counts turned n) c (rank v) (rank u) (subst (λ p. IsRisingBy c p (point_of (face_counts turned n) (rank u))) (placed v has.0) (subst (IsRisingBy c (place points v)) (placed u lu) r)));
     }
 
 -- Some edges rise from all vertices, so a run has a wood.

@@ -23,5 +23,6 @@ pub mod ClosedWalksLaws
 pub mod Inside
 -- Regions of convex woods.
 pub mod Regions
+pub mod Signs
 pub mod RegionDrawings
 pub mod FaceRegionsLaws

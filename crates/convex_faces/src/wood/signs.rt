@@ -1,6 +1,6 @@
 //! Along which axis a point lies from another.
 ghost use Rattle.std.specs.Prelude.{◌≡◌, ◌↔◌, ◌<ℤ◌, ◌≤ℤ◌, ◌+ℤ◌, IsTrue};
-ghost use Rattle.convex_faces.specs.Signs.{IsRisingBy};
+ghost use Rattle.convex_laws.specs.Signs.{IsRisingBy};
 
 use convex_counts::face_woods::Axis;
 use pg_plane::Point;
