@@ -4,14 +4,13 @@ ghost use Rattle.map_theory.specs.Maps.{IsPlane, vertex_count};
 ghost use Rattle.plane_laws.specs.Completed.{IsCompleted};
 ghost use Rattle.grid_figures.specs.DrawingOrdersBases.{LeadsToLeast};
 ghost use Rattle.grid_figures.specs.Orders.{IsDrawingOrder};
-ghost use Rattle.grid_figures.specs.Refusals.{draw_refusal};
-ghost use Rattle.grid_figures.specs.Names.{Names};
+ghost use Rattle.refusals.specs.Conditions.{first_refusal, IfRefused};
 
-use crate::drawing_orders::refusal::DrawRefusal;
 use augment_tri::triangulate;
 use canon_order::{Order, canon_order};
 use euler_faces::euler;
 use half_edges::{DartId, HalfMap, Rotations, VertexId};
+use refusals::{Refusal, Unserved};
 use std::alloc::{AllocError, Global};
 
 /// A completed map with a canonical order of it.
@@ -76,21 +75,21 @@ fn completed_order(alloc: Global, map: HalfMap) -> Result<DrawingOrder, AllocErr
 /// `Err` names the first condition that the lists break, of these in this order: the four faults of a map,
 /// each with the least vertices; fewer than three vertices; a genus above zero. Or there was not enough
 /// memory. The time is linear in the entries.
-pub fn drawing_order(alloc: Global, lists: &Rotations) -> Result<DrawingOrder, DrawRefusal>
+pub fn drawing_order(alloc: Global, lists: &Rotations) -> Result<DrawingOrder, Unserved>
     requires some_list { 0 < length lists.now }
     requires few_lists { length lists.now < 4096 }
     ensures order { IfOk result (IsDrawingOrder lists.now) }
-    ensures served { OnOk result (draw_refusal lists.now ≡ None) }
-    ensures refused { IfErr result (Names (draw_refusal lists.now)) }
+    ensures served { OnOk result (first_refusal 3 lists.now ≡ None) }
+    ensures refused { IfErr result (IfRefused (λ refusal. first_refusal 3 lists.now ≡ Some refusal)) }
 {
     let map = HalfMap::from_rotations(alloc, lists)?;
     let count = euler(alloc, &map)?;
     if count.n < 3 {
-        return Err(DrawRefusal::Small(map.n()));
+        return Err(Unserved::Refused(Refusal::Small(map.n())));
     }
     let genus = count.genus();
     if 0 < genus {
-        return Err(DrawRefusal::Genus(genus));
+        return Err(Unserved::Refused(Refusal::Genus(genus)));
     }
     let found = completed_order(alloc, map)?;
     Ok(found)
