@@ -6,7 +6,7 @@ use Rattle.map_lists.specs.Lists.{Lists}
 use Rattle.map_theory.specs.Maps.{entry_after, face_count, component_count}
 use Rattle.simple_maps.specs.Faults.{first_fault}
 use Rattle.conn_parts.specs.Blocks.{BreaksFirst}
-use Rattle.conn_parts.specs.declared.plane_blocks.refusal.BlockRefusal.TheVariants.{Small, NotConnected}
+use Rattle.refusals.specs.declared.refusal.Refusal.TheVariants.{NotConnected}
 
 abbrev two_triangles : Lists
 two_triangles = (1 ∷ 2 ∷ []) ∷ (2 ∷ 0 ∷ []) ∷ (0 ∷ 1 ∷ []) ∷ (4 ∷ 5 ∷ []) ∷ (5 ∷ 3 ∷ []) ∷ (3 ∷ 4 ∷ []) ∷ []
@@ -14,9 +14,4 @@ two_triangles = (1 ∷ 2 ∷ []) ∷ (2 ∷ 0 ∷ []) ∷ (0 ∷ 1 ∷ []) ∷ (
 -- two triangles are not connected
 apart : BreaksFirst 3 two_triangles NotConnected
 unfolding entry_after merge face_count component_count first_fault
-apart = (record { simple = refl; some = omega arith }, refl, (λ e. omega (arith, e)))
-
--- a triangle has too few vertices for jobs that want four
-triangle : BreaksFirst 4 ((1 ∷ 2 ∷ []) ∷ (2 ∷ 0 ∷ []) ∷ (0 ∷ 1 ∷ []) ∷ []) (Small 3)
-unfolding first_fault
-triangle = (refl, refl, omega arith)
+apart = (refl, (λ e. omega (arith, e)))

@@ -1,11 +1,11 @@
 -- Refusals that wrong bodies would answer.
-use Rattle.std.proofs.Common.{ℕ, [], ◌∷◌, arith}
+use Rattle.std.proofs.Common.{[], ◌∷◌, arith}
 use Rattle.classes.specs.Classes.{merge}
 use Rattle.map_lists.specs.Lists.{Lists}
 use Rattle.map_theory.specs.Maps.{component_count}
 use Rattle.map_lists.specs.declared.ids.VertexId.{VertexId}
 use Rattle.conn_parts.specs.Blocks.{IsPlaneBlock, BreaksFirst}
-use Rattle.conn_parts.specs.declared.plane_blocks.refusal.BlockRefusal.TheVariants.{Small, CutVertex}
+use Rattle.refusals.specs.declared.refusal.Refusal.TheVariants.{CutVertex}
 
 -- two paths of three vertices each
 abbrev two_paths : Lists
@@ -14,11 +14,7 @@ two_paths = (1 ∷ []) ∷ (0 ∷ 2 ∷ []) ∷ (1 ∷ []) ∷ (4 ∷ []) ∷ (3
 -- a cut vertex named where the lists have two components
 cut_vertex_before_components : (v : VertexId) → BreaksFirst 3 two_paths (CutVertex v) → ⊥
 unfolding component_count merge
-cut_vertex_before_components v b = omega (arith, b.2)
-
--- as many vertices as are wanted called too few
-least_is_few : (lists : Lists) (n : ℕ) → BreaksFirst n lists (Small n) → ⊥
-least_is_few lists n b = omega (arith, b.2)
+cut_vertex_before_components v b = omega (arith, b.1)
 
 -- lists of two components taken
 two_components_are_one : IsPlaneBlock 2 ([] ∷ [] ∷ []) → ⊥

@@ -4,14 +4,12 @@
 ghost use Rattle.conn_parts.specs.Laws.{BlocksBreakNothing};
 
 mod block;
-mod refusal;
 
 pub use block::plane_block;
-pub use refusal::BlockRefusal;
 
 /// A map in one block breaks no condition.
 pub fn blocks_break_nothing()
     ensures { BlocksBreakNothing }
 {
-    simple_maps::no_fault_is_simple();
+    refusals::no_refusal_is_plane();
 }

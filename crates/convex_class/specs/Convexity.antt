@@ -1,11 +1,11 @@
 -- The first condition that lists break which are no three-connected map of genus zero.
 use Rattle.map_lists.specs.Lists.{Lists}
 use Rattle.graph_search.specs.Cuts.{IsLeastPair}
-use Rattle.conn_parts.specs.Blocks.{IsPlaneBlock, BreaksFirst as BreaksFirstOfBlocks}
-use Rattle.convex_class.specs.declared.convex_blocks.refusal.ConvexRefusal.{ConvexRefusal}
-use Rattle.convex_class.specs.declared.convex_blocks.refusal.ConvexRefusal.TheVariants.{Block, SeparatingPair}
+use Rattle.refusals.specs.declared.refusal.Refusal.{Refusal}
+use Rattle.refusals.specs.declared.refusal.Refusal.TheVariants.{SeparatingPair}
+use Rattle.conn_parts.specs.Blocks.{IsPlaneBlock, BreaksFirst}
 
--- The condition is the first one that the lists break, in the order of the variants; want of memory says nothing of them.
-abbrev pub BreaksFirst : Lists → ConvexRefusal → Type 0
-BreaksFirst lists (Block refusal) = BreaksFirstOfBlocks 4 lists refusal
-BreaksFirst lists (SeparatingPair u v) = IsPlaneBlock 4 lists × IsLeastPair lists u.0 v.0
+-- The condition is the first one that the lists break, of those on maps in one block, and then of separating pairs.
+abbrev pub BreaksConvex : Lists → Refusal → Type 0
+BreaksConvex lists (SeparatingPair u v) = IsPlaneBlock 4 lists × IsLeastPair lists u.0 v.0
+BreaksConvex lists refusal = BreaksFirst 4 lists refusal

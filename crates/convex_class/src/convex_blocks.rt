@@ -4,10 +4,8 @@
 ghost use Rattle.convex_class.specs.Laws.{ThreeConnectedBreakNothing};
 
 mod block;
-mod refusal;
 
 pub use block::convex_block;
-pub use refusal::ConvexRefusal;
 
 /// A three-connected map of genus zero breaks no condition.
 pub fn three_connected_break_nothing()

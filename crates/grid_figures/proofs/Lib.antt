@@ -1,7 +1,5 @@
 -- Lemmas on records as completed maps.
 pub mod CompletionLemmas
-pub mod RefusalLemmas
-mod DrawingOrdersCases
 mod DrawingOrdersRefused
 -- Lemmas for figures.
 pub mod FigureLemmas

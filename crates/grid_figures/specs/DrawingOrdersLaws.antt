@@ -10,13 +10,7 @@ use Rattle.plane_drawings.specs.Drawing.{IsPlaneDrawing, KeepsRotations, IsCount
 use Rattle.draw_check.specs.Verdicts.{AllInGrid}
 use Rattle.draw_check.specs.Laws.{IsValid}
 use Rattle.draw_check.specs.Outer.{HasOuterFace}
-use Rattle.grid_figures.specs.Refusals.{draw_refusal}
 use Rattle.grid_figures.specs.Orders.{IsBaseTo}
-
--- Lists of at least one vertex break no condition exactly where they are a simple map of genus zero with at least three vertices.
-abbrev pub NoRefusalIsPlane : Type 0
-NoRefusalIsPlane =
-    (lists : Lists) → 0 < length lists → (draw_refusal lists ≡ None) ↔ (IsSimpleMap lists × IsPlane lists × (3 ≤ vertex_count lists))
 
 -- a completion of the map of `lists`, with a base to `to`
 pub record IsCompletionFor (lists more : Lists) (to : ℕ) : Type 0 where

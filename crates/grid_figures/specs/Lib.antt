@@ -1,6 +1,4 @@
 -- A record as a completed map with a canonical order.
-pub mod Refusals
-pub mod Names
 pub mod DrawingOrdersBases
 pub mod Orders
 pub mod DrawingOrdersLaws

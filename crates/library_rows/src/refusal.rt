@@ -1,7 +1,7 @@
 //! Why a row gets no answer.
 use graph6_text::G6Fault;
-use grid_figures::drawing_orders::DrawRefusal;
 use half_edges::MapFault;
+use refusals::{Refusal as Condition, Unserved};
 use std::alloc::AllocError;
 
 /// Why a row gets no answer.
@@ -9,12 +9,8 @@ use std::alloc::AllocError;
 pub enum Refusal {
     /// There was not enough memory.
     NoMemory,
-    /// The lists are no map.
-    Map(MapFault),
-    /// The map has only so many vertices.
-    Small(u16),
-    /// The map has this genus.
-    Genus(u32),
+    /// The record breaks this condition.
+    Record(Condition),
     /// The line is no graph.
     Line(G6Fault),
     /// The row lacks this.
@@ -27,19 +23,18 @@ impl From<AllocError> for Refusal {
     }
 }
 
-impl From<MapFault> for Refusal {
-    fn from(fault: MapFault) -> Refusal {
-        Refusal::Map(fault)
+impl From<Unserved> for Refusal {
+    fn from(unserved: Unserved) -> Refusal {
+        match unserved {
+            Unserved::Refused(condition) => Refusal::Record(condition),
+            Unserved::NoMemory => Refusal::NoMemory,
+        }
     }
 }
 
-impl From<DrawRefusal> for Refusal {
-    fn from(refusal: DrawRefusal) -> Refusal {
-        match refusal {
-            DrawRefusal::Fault(fault) => Refusal::Map(fault),
-            DrawRefusal::Small(n) => Refusal::Small(n),
-            DrawRefusal::Genus(genus) => Refusal::Genus(genus),
-        }
+impl From<MapFault> for Refusal {
+    fn from(fault: MapFault) -> Refusal {
+        Refusal::from(Unserved::from(fault))
     }
 }
 
@@ -49,14 +44,16 @@ impl From<G6Fault> for Refusal {
     }
 }
 
-/// Tells a fault by its name and its vertices.
-pub fn tell_fault(fault: MapFault, out: &mut String) -> Result<(), AllocError> {
-    match fault {
-        MapFault::OutOfRange(v, u) => write!(out, "OutOfRange {v} {u}"),
-        MapFault::Loop(v) => write!(out, "Loop {v}"),
-        MapFault::Repeated(v, u) => write!(out, "Repeated {v} {u}"),
-        MapFault::OneSided(v, u) => write!(out, "OneSided {v} {u}"),
-        MapFault::NoMemory => out.push_str("NoMemory"),
+/// Tells a condition by its name and its numbers.
+pub fn tell_condition(condition: Condition, out: &mut String) -> Result<(), AllocError> {
+    match condition {
+        Condition::OutOfRange(v, u) => write!(out, "OutOfRange {v} {u}"),
+        Condition::Loop(v) => write!(out, "Loop {v}"),
+        Condition::Repeated(v, u) => write!(out, "Repeated {v} {u}"),
+        Condition::OneSided(v, u) => write!(out, "OneSided {v} {u}"),
+        Condition::Small(n) => write!(out, "Small {n}"),
+        Condition::Genus(genus) => write!(out, "Genus {genus}"),
+        _ => out.push_str("another"),
     }
 }
 
@@ -77,9 +74,7 @@ pub fn tell_line_fault(fault: G6Fault, out: &mut String) -> Result<(), AllocErro
 pub fn tell(refusal: Refusal, out: &mut String) -> Result<(), AllocError> {
     match refusal {
         Refusal::NoMemory => out.push_str("NoMemory"),
-        Refusal::Map(fault) => tell_fault(fault, out),
-        Refusal::Small(n) => write!(out, "Small {n}"),
-        Refusal::Genus(genus) => write!(out, "Genus {genus}"),
+        Refusal::Record(condition) => tell_condition(condition, out),
         Refusal::Line(fault) => tell_line_fault(fault, out),
         Refusal::Row(lacks) => write!(out, "no {lacks}"),
     }

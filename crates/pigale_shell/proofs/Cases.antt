@@ -1,6 +1,6 @@
 -- The text of a run, on worked cases. Each is a computation: the two sides come to the same value.
 use Rattle.std.specs.Prelude.{pos, ◌-◌, ◌≡◌, [], ◌∷◌, ◌++◌, map, codes, refl, Some, None}
-use Rattle.std.proofs.Common.{arith, inr}
+use Rattle.std.proofs.Common.{arith, inl, inr}
 use Rattle.classes.specs.Classes.{merge}
 use Rattle.std.specs.Fmt.{digits}
 use Rattle.map_lists.specs.Lists.{Lists}
@@ -17,7 +17,10 @@ use Rattle.line_inputs.specs.declared.figure_lines.ending.Ending.TheVariants.{Ba
 use Rattle.pigale_shell.specs.Verify.{verdict_line, verify_last_line}
 use Rattle.line_inputs.specs.declared.graph_lines.ending.Ending.TheVariants.{Limit}
 use Rattle.pigale_shell.specs.EmbedText.{IsEmbedBlock, embed_last_line}
-use Rattle.pigale_shell.specs.Text.{count_block, counts_line, refused_line, refusal_line, end_line}
+use Rattle.pigale_shell.specs.Text.{counts_line, refusal_line, end_line}
+use Rattle.pigale_shell.specs.Answer.{IsMapBlock}
+use Rattle.pigale_shell.specs.declared.kinds.MapJob.TheVariants as maps
+use Rattle.refusals.specs.declared.refusal.Refusal.TheVariants.{OutOfRange, Loop, Repeated, OneSided, Small}
 
 -- lists with vertices numbered from 1, as they are printed
 abbrev from_one : Lists → Lists
@@ -25,25 +28,25 @@ from_one lists = map (map (λ u. u - 1)) lists
 
 -- the blocks of `count` for lists whose vertices are numbered from 1
 
-octahedron_block : count_block 1 (from_one ((2 ∷ 3 ∷ 4 ∷ 5 ∷ []) ∷ (1 ∷ 5 ∷ 6 ∷ 3 ∷ []) ∷ (1 ∷ 2 ∷ 6 ∷ 4 ∷ []) ∷ (1 ∷ 3 ∷ 6 ∷ 5 ∷ []) ∷ (1 ∷ 4 ∷ 6 ∷ 2 ∷ []) ∷ (2 ∷ 5 ∷ 4 ∷ 3 ∷ []) ∷ [])) ≡ codes "count 1 n 6 m 12 f 8 c 1 genus 0" ++ 10 ∷ []
+octahedron_block : IsMapBlock maps.Count 1 (from_one ((2 ∷ 3 ∷ 4 ∷ 5 ∷ []) ∷ (1 ∷ 5 ∷ 6 ∷ 3 ∷ []) ∷ (1 ∷ 2 ∷ 6 ∷ 4 ∷ []) ∷ (1 ∷ 3 ∷ 6 ∷ 5 ∷ []) ∷ (1 ∷ 4 ∷ 6 ∷ 2 ∷ []) ∷ (2 ∷ 5 ∷ 4 ∷ 3 ∷ []) ∷ [])) (codes "count 1 n 6 m 12 f 8 c 1 genus 0" ++ 10 ∷ [])
 unfolding entry_after merge face_count component_count first_fault counts_line digits
-octahedron_block = refl
+octahedron_block = inl (refl, refl)
 
-one_sided_block : count_block 1 (from_one ((2 ∷ []) ∷ [] ∷ [])) ≡ codes "refused 1 4 OneSided 1 2" ++ 10 ∷ []
-unfolding first_fault refused_line digits
-one_sided_block = refl
+one_sided_block : IsMapBlock maps.Count 1 (from_one ((2 ∷ []) ∷ [] ∷ [])) (codes "refused 1 4 OneSided 1 2" ++ 10 ∷ [])
+unfolding first_fault refusal_line digits
+one_sided_block = inr (OneSided 0 1, refl, refl)
 
-loop_block : count_block 1 (from_one ((1 ∷ 2 ∷ 2 ∷ []) ∷ (1 ∷ []) ∷ [])) ≡ codes "refused 1 2 Loop 1" ++ 10 ∷ []
-unfolding first_fault refused_line digits
-loop_block = refl
+loop_block : IsMapBlock maps.Count 1 (from_one ((1 ∷ 2 ∷ 2 ∷ []) ∷ (1 ∷ []) ∷ [])) (codes "refused 1 2 Loop 1" ++ 10 ∷ [])
+unfolding first_fault refusal_line digits
+loop_block = inr (Loop 0, refl, refl)
 
-repeated_block : count_block 1 (from_one ((2 ∷ 2 ∷ []) ∷ (1 ∷ []) ∷ [])) ≡ codes "refused 1 3 Repeated 1 2" ++ 10 ∷ []
-unfolding first_fault refused_line digits
-repeated_block = refl
+repeated_block : IsMapBlock maps.Count 1 (from_one ((2 ∷ 2 ∷ []) ∷ (1 ∷ []) ∷ [])) (codes "refused 1 3 Repeated 1 2" ++ 10 ∷ [])
+unfolding first_fault refusal_line digits
+repeated_block = inr (Repeated 0 1, refl, refl)
 
-out_of_range_block : count_block 1 (from_one ((3 ∷ []) ∷ (2 ∷ []) ∷ [])) ≡ codes "refused 1 1 OutOfRange 1 3" ++ 10 ∷ []
-unfolding first_fault refused_line digits
-out_of_range_block = refl
+out_of_range_block : IsMapBlock maps.Count 1 (from_one ((3 ∷ []) ∷ (2 ∷ []) ∷ [])) (codes "refused 1 1 OutOfRange 1 3" ++ 10 ∷ [])
+unfolding first_fault refusal_line digits
+out_of_range_block = inr (OutOfRange 0 2, refl, refl)
 
 last_line_of_three : end_line 3 0 ≡ codes "end records 3 refused 0" ++ 10 ∷ []
 unfolding end_line digits
@@ -163,7 +166,7 @@ embed_as_pictures = refl
 
 one_vertex_refused : IsEmbedBlock forms.Text 1 (record { n = 1; edges = [] }) (codes "refused 1 5 Small 1" ++ 10 ∷ [])
 unfolding refusal_line digits
-one_vertex_refused = inr (record { few = omega arith; text_is = refl })
+one_vertex_refused = inr (Small 1, (refl, omega arith), refl)
 
 last_line_of_limit : embed_last_line 1 0 (Limit 2) ≡ codes "stop Limit 2" ++ 10 ∷ []
 unfolding embed_last_line digits

@@ -1,5 +1,5 @@
 -- Lemmas on runs.
-mod RefusalLines
+mod AnswerLemmas
 mod PlanarLemmas
 mod OutcomeLemmas
 mod MadeLemmas

@@ -6,8 +6,6 @@ use Rattle.std.proofs.lemmas.List.{append-nil}
 use Rattle.std.proofs.lemmas.Option.{slice_get_within, get_or_from_slice_get}
 use Rattle.pg_plane.specs.declared.point.Point.{Point}
 use Rattle.map_gen.specs.Stacked.{stacked}
-use Rattle.simple_maps.specs.Faults.{Fault}
-use Rattle.grid_figures.specs.Refusals.{fault, refusal_after}
 use Rattle.map_lists.specs.Lists.{Lists}
 use Rattle.pg_io.specs.Io.{GrowsByPrefix, HasRisen}
 use Rattle.pg_io.proofs.Growth.{GrowsByPrefix-none}
@@ -29,11 +27,6 @@ total-suc f points i p at =
     take-suc points i p (slice_get_within points i p at) ∙ ap (λ (q : Point). take i points ++ q ∷ []) (get_or_from_slice_get points i p p at) in
     let last : total f (p ∷ []) ≡ f p = omega (arith, ints) in
     ap (total f) parts ∙ total-append f (take i points) (p ∷ []) ∙ ap (λ (z : ℤ). total f (take i points) +ℤ z) last
-
--- lists that break no condition of the job `shift` are a simple map
-pub no_fault : (found : Option Fault) (n g : ℕ) → refusal_after found n g ≡ None → found ≡ None
-no_fault None n g none = refl
-no_fault (Some f) n g none = let some : Some (fault f) ≡ None = none in cc
 
 -- the block is the text of the one record
 block-alone : (lists : Lists) (block : List ℕ) → IsMadeBlock 1 lists block → AreBlocks IsMadeBlock 1 (lists ∷ []) block

@@ -1,18 +1,13 @@
 -- How a run of the top call ends.
-use Rattle.std.proofs.Common.{◌≡◌, ℕ, List, [], refl, sym, ap, subst, ◌∙◌, inl, arith, Option, Some, None, true, true≢false}
+use Rattle.std.proofs.Common.{◌≡◌, ℕ, List, [], refl, sym, ap, subst, ◌∙◌, inl, arith, Option, Some, None}
 use Rattle.planar_code.specs.Reading.{Ending as SpokenEnding, well, end_in_record, bad_count, too_long}
 use Rattle.planar_code.specs.State.{at_front}
 use Rattle.planar_code.proofs.ProgressLemmas.{Progress-start, Progress-begins}
 use Rattle.planar_code.proofs.ReadingLemmas.{reading-unique}
-use Rattle.line_inputs.specs.FigureLinesFormat.{figures}
 use Rattle.line_inputs.proofs.FigureLinesUniqueLemmas.{reading-unique as figures-unique}
 use Rattle.line_inputs.proofs.FigureLinesReadLemmas.{begins-none}
-use Rattle.pigale_shell.specs.Verify.{verify_answers}
-use Rattle.line_inputs.specs.GraphLinesFormat.{graph_lines}
 use Rattle.line_inputs.proofs.GraphLinesUniqueLemmas.{reading-unique as graphs-unique}
 use Rattle.line_inputs.proofs.GraphLinesReadLemmas.{begins-none as begins-no-graphs}
-use Rattle.pigale_shell.specs.EmbedText.{embed_answers}
-use Rattle.pigale_words.specs.declared.form.Form.{Form}
 use Rattle.pg_io.specs.Io.{HasRisen}
 use Rattle.pg_io.proofs.Growth.{GrowsByPrefix-none}
 use Rattle.record_runs.specs.Outcome.{Ports, ports, Outcome as RunOutcome}
@@ -22,13 +17,10 @@ use Rattle.pigale_shell.specs.Text.{bad_words_line}
 use Rattle.pigale_shell.specs.Lines.{ending_of}
 use Rattle.pigale_shell.specs.declared.lines.Ending.{Ending}
 use Rattle.pigale_shell.specs.declared.lines.Ending.TheVariants.{Well, EndInRecord, BadCount, TooLong}
-use Rattle.pigale_shell.specs.Answer.{planar_answers}
-use Rattle.pigale_shell.specs.PlanarCode.{planar_code}
-use Rattle.pigale_shell.specs.Made.{made, made_answers}
-use Rattle.pigale_shell.specs.JobInput.{RecordOf, EndingOf, reads_of, answers_of, reads_planar, left_of}
+use Rattle.pigale_shell.specs.JobInput.{RecordOf, EndingOf, reads_of, answers_of, left_of}
 use Rattle.pigale_shell.specs.Outcome.{Outcome, GrowsByText, MayEnd, status_of}
-use Rattle.pigale_words.specs.declared.job.Job.{Job}
-use Rattle.pigale_words.specs.declared.job.Job.TheVariants.{Count, Shift, Schnyder, Bars, Convex, Rect, Gen, Verify, Embed}
+use Rattle.pigale_shell.specs.declared.kinds.JobKind.{JobKind}
+use Rattle.pigale_shell.specs.declared.kinds.JobKind.TheVariants.{Maps, Graphs, Figures, Made}
 use Rattle.pigale_words.specs.declared.job.Status.{Status}
 use Rattle.pigale_words.specs.declared.job.Status.TheVariants.{Done, SomeRefused, BadWords, BadInput, ReadFault, WriteFault, NoMemory}
 
@@ -47,37 +39,22 @@ told-ending_of (BadCount at) = refl
 told-ending_of TooLong = refl
 
 -- each input of a job is read in one way
-one_ending : (job : Job) (input : List ℕ) (records records' : List (RecordOf job)) (ending ending' : EndingOf job) → (reads_of job).IsReading input records ending → (reads_of job).IsReading input records' ending' → ending ≡ ending'
-one_ending Count input records records' ending ending' reading reading' =
+one_ending : (job : JobKind) (input : List ℕ) (records records' : List (RecordOf job)) (ending ending' : EndingOf job) → (reads_of job).IsReading input records ending → (reads_of job).IsReading input records' ending' → ending ≡ ending'
+one_ending (Maps job) input records records' ending ending' reading reading' =
     sym (told-ending_of ending) ∙ ap told (reading-unique input records records' (ending_of ending) (ending_of ending') reading reading').1 ∙ told-ending_of ending'
-one_ending (Shift form) input records records' ending ending' reading reading' =
-    sym (told-ending_of ending) ∙ ap told (reading-unique input records records' (ending_of ending) (ending_of ending') reading reading').1 ∙ told-ending_of ending'
-one_ending (Schnyder form) input records records' ending ending' reading reading' =
-    sym (told-ending_of ending) ∙ ap told (reading-unique input records records' (ending_of ending) (ending_of ending') reading reading').1 ∙ told-ending_of ending'
-one_ending (Bars form) input records records' ending ending' reading reading' =
-    sym (told-ending_of ending) ∙ ap told (reading-unique input records records' (ending_of ending) (ending_of ending') reading reading').1 ∙ told-ending_of ending'
-one_ending (Convex form) input records records' ending ending' reading reading' =
-    sym (told-ending_of ending) ∙ ap told (reading-unique input records records' (ending_of ending) (ending_of ending') reading reading').1 ∙ told-ending_of ending'
-one_ending (Rect form) input records records' ending ending' reading reading' =
-    sym (told-ending_of ending) ∙ ap told (reading-unique input records records' (ending_of ending) (ending_of ending') reading reading').1 ∙ told-ending_of ending'
-one_ending (Gen size number) input records records' ending ending' reading reading' = refl
-one_ending Verify input records records' ending ending' reading reading' = (figures-unique input records records' ending ending' reading reading').1
-one_ending (Embed form) input records records' ending ending' reading reading' = (graphs-unique input records records' ending ending' reading reading').1
+one_ending (Graphs form) input records records' ending ending' reading reading' = (graphs-unique input records records' ending ending' reading reading').1
+one_ending Figures input records records' ending ending' reading reading' = (figures-unique input records records' ending ending' reading reading').1
+one_ending (Made size number) input records records' ending ending' reading reading' = refl
 
 -- each input begins with no records
-begins_none : (job : Job) (input : List ℕ) → (reads_of job).BeginsWith input []
-begins_none Count input = Progress-begins [] [] at_front input Progress-start (omega arith)
-begins_none (Shift form) input = Progress-begins [] [] at_front input Progress-start (omega arith)
-begins_none (Schnyder form) input = Progress-begins [] [] at_front input Progress-start (omega arith)
-begins_none (Bars form) input = Progress-begins [] [] at_front input Progress-start (omega arith)
-begins_none (Convex form) input = Progress-begins [] [] at_front input Progress-start (omega arith)
-begins_none (Rect form) input = Progress-begins [] [] at_front input Progress-start (omega arith)
-begins_none (Gen size number) input = inl refl
-begins_none Verify input = begins-none input
-begins_none (Embed form) input = begins-no-graphs input
+begins_none : (job : JobKind) (input : List ℕ) → (reads_of job).BeginsWith input []
+begins_none (Maps job) input = Progress-begins [] [] at_front input Progress-start (omega arith)
+begins_none (Graphs form) input = begins-no-graphs input
+begins_none Figures input = begins-none input
+begins_none (Made size number) input = inl refl
 
 -- nothing was written: a part of any text
-pub GrowsByText-none : (found : Option Job) (left o : Option (List ℕ)) → GrowsByText found left o o
+pub GrowsByText-none : (found : Option JobKind) (left o : Option (List ℕ)) → GrowsByText found left o o
 GrowsByText-none None left o = GrowsByPrefix-none bad_words_line refl
 GrowsByText-none (Some job) left o = λ input told. record {
   records = [];
@@ -90,7 +67,7 @@ GrowsByText-none (Some job) left o = λ input told. record {
 }
 
 -- a run over records, as the job has it
-Outcome-of : (job : Job) (before after : Ports) (end : RunEnd) → RunOutcome (reads_of job) (answers_of job) before after end → Outcome job before after (status_of end)
+Outcome-of : (job : JobKind) (before after : Ports) (end : RunEnd) → RunOutcome (reads_of job) (answers_of job) before after end → Outcome job before after (status_of end)
 Outcome-of job before after ended.Done outcome = outcome
 Outcome-of job before after ended.SomeRefused outcome = outcome
 Outcome-of job before after ended.BadInput outcome = outcome
@@ -98,32 +75,12 @@ Outcome-of job before after ended.ReadFault outcome = outcome
 Outcome-of job before after ended.WriteFault outcome = outcome
 Outcome-of job before after ended.NoMemory outcome = outcome
 
-module _ (job : Job) (left left' : Option (List ℕ)) (reads reads' writes writes' : ℕ) (written written' : Option (List ℕ)) (end : RunEnd) where
-  -- what holds of a run of the job between these moments, which ended thus
-  abbrev IsOutcome : Type 0
-  IsOutcome = Outcome job (ports (left_of job left) reads written writes) (ports (left_of job left') reads' written' writes') (status_of end)
-
-  -- a run over planar_code, as a job over it has it
-  pub Outcome-planar : reads_planar job ≡ true → RunOutcome planar_code (planar_answers job) (ports left reads written writes) (ports left' reads' written' writes') end → IsOutcome
-  Outcome-planar = elim job as (λ job. reads_planar job ≡ true → RunOutcome planar_code (planar_answers job) (ports left reads written writes) (ports left' reads' written' writes') end → Outcome job (ports (left_of job left) reads written writes) (ports (left_of job left') reads' written' writes') (status_of end)) [ Count ↦ λ over outcome. Outcome-of Count _ _ end outcome | Shift form ↦ λ over outcome. Outcome-of (Shift form) _ _ end outcome | Schnyder form ↦ λ over outcome. Outcome-of (Schnyder form) _ _ end outcome | Bars form ↦ λ over outcome. Outcome-of (Bars form) _ _ end outcome | Convex form ↦ λ over outcome. Outcome-of (Convex form) _ _ end outcome | Rect form ↦ λ over outcome. Outcome-of (Rect form) _ _ end outcome | Gen size number ↦ λ over outcome. absurd (true≢false (sym over)) | Verify ↦ λ over outcome. absurd (true≢false (sym over)) | Embed form ↦ λ over outcome. absurd (true≢false (sym over)) ]
-
-  -- a run that makes its record, as its job has it
-  pub Outcome-made : (size number : ℕ) → job ≡ Gen size number → RunOutcome (made size number) made_answers (ports (Some []) reads written writes) (ports (Some []) reads' written' writes') end → IsOutcome
-  Outcome-made size number is outcome =
-      subst (λ (job : Job). Outcome job (ports (left_of job left) reads written writes) (ports (left_of job left') reads' written' writes') (status_of end)) (sym is) (Outcome-of (Gen size number) _ _ end outcome)
-
-  -- a run over figures, as its job has it
-  pub Outcome-verify : job ≡ Verify → RunOutcome figures verify_answers (ports left reads written writes) (ports left' reads' written' writes') end → IsOutcome
-  Outcome-verify is outcome =
-      subst (λ (job : Job). Outcome job (ports (left_of job left) reads written writes) (ports (left_of job left') reads' written' writes') (status_of end)) (sym is) (Outcome-of Verify _ _ end outcome)
-
-  -- a run over graphs, as its job has it
-  pub Outcome-embed : (form : Form) → job ≡ Embed form → RunOutcome graph_lines (embed_answers form) (ports left reads written writes) (ports left' reads' written' writes') end → IsOutcome
-  Outcome-embed form is outcome =
-      subst (λ (job : Job). Outcome job (ports (left_of job left) reads written writes) (ports (left_of job left') reads' written' writes') (status_of end)) (sym is) (Outcome-of (Embed form) _ _ end outcome)
+-- the same of a run whose job is told by an equation
+pub Outcome-run : (job kind : JobKind) (left left' : Option (List ℕ)) (reads reads' writes writes' : ℕ) (written written' : Option (List ℕ)) (end : RunEnd) → job ≡ kind → RunOutcome (reads_of kind) (answers_of kind) (ports (left_of kind left) reads written writes) (ports (left_of kind left') reads' written' writes') end → Outcome job (ports (left_of job left) reads written writes) (ports (left_of job left') reads' written' writes') (status_of end)
+Outcome-run job kind left left' reads reads' writes writes' written written' end is outcome = rw is (Outcome-of kind _ _ end outcome)
 
 -- where nothing failed the ending of the input decides the status
-pub Outcome-complete : (job : Job) (before after : Ports) (status : Status) (input : List ℕ) (records : List (RecordOf job)) (ending : EndingOf job) → Outcome job before after status → before.left ≡ Some input → (reads_of job).IsReading input records ending → ¬ HasRisen before.read_faults after.read_faults → ¬ HasRisen before.write_faults after.write_faults → MayEnd job ending status
+pub Outcome-complete : (job : JobKind) (before after : Ports) (status : Status) (input : List ℕ) (records : List (RecordOf job)) (ending : EndingOf job) → Outcome job before after status → before.left ≡ Some input → (reads_of job).IsReading input records ending → ¬ HasRisen before.read_faults after.read_faults → ¬ HasRisen before.write_faults after.write_faults → MayEnd job ending status
 Outcome-complete job before after Done input records ending outcome told reading no_read no_write =
     one_ending job input records (outcome.1 input told).1.records ending (reads_of job).well reading (outcome.1 input told).1.reading
 Outcome-complete job before after SomeRefused input records ending outcome told reading no_read no_write =

@@ -12,9 +12,10 @@ use Rattle.line_inputs.specs.declared.graph_lines.ending.Ending.TheVariants.{Wel
 use Rattle.figure_text.specs.Text.{witness_text}
 use Rattle.figure_text.specs.declared.figure.GridJob.TheVariants.{Schnyder}
 use Rattle.svg_out.specs.Svg.{IsWitnessSvg}
-use Rattle.grid_figures.specs.Refusals.{small}
+use Rattle.refusals.specs.declared.refusal.Refusal.TheVariants.{Small}
 use Rattle.embed_graph.specs.Figures.{IsDrawnMap}
-use Rattle.pigale_shell.specs.Text.{word_and_number, line, refusal_line, end_line}
+use Rattle.pigale_shell.specs.Text.{word_and_number, line, end_line}
+use Rattle.pigale_shell.specs.Blocks.{IsJobBlock}
 use Rattle.pigale_shell.specs.Forms.{line_in, grid_in}
 use Rattle.pigale_words.specs.declared.form.Form.{Form}
 use Rattle.pigale_words.specs.declared.form.Form.TheVariants.{Text, Svg}
@@ -37,19 +38,13 @@ pub record IsRefutedText (form : Form) (k : ℕ) (graph : EdgeGraph) (text : Lis
   pub valid : IsWitness graph witness.kind witness.branch witness.paths
   pub text_is : WritesWitness form k graph witness text
 
--- the graph has fewer than three vertices, and the text is the line that says so
-pub record IsSmallRefused (form : Form) (k : ℕ) (graph : EdgeGraph) (text : List ℕ) : Type 0 where
-  pub few : graph.n < 3
-  pub text_is : text ≡ line_in form (refusal_line k (small graph.n))
+-- the text is a figure of the graph
+abbrev pub IsGraphText : Form → ℕ → EdgeGraph → List ℕ → Type 0
+IsGraphText form k graph text = IsDrawnText form k graph text ⊎ IsRefutedText form k graph text
 
--- the graph has three vertices or more, and the text is a figure of it
-pub record IsFigured (form : Form) (k : ℕ) (graph : EdgeGraph) (text : List ℕ) : Type 0 where
-  pub some : 3 ≤ graph.n
-  pub figure : IsDrawnText form k graph text ⊎ IsRefutedText form k graph text
-
--- the text is the answer of `embed` to graph k
+-- the text is the answer of `embed` to graph k, which is refused where it has fewer than three vertices
 abbrev pub IsEmbedBlock : Form → ℕ → EdgeGraph → List ℕ → Type 0
-IsEmbedBlock form k graph text = IsFigured form k graph text ⊎ IsSmallRefused form k graph text
+IsEmbedBlock form k graph text = IsJobBlock (3 ≤ graph.n) (IsGraphText form k graph) (λ refusal. (refusal ≡ Small graph.n) × (graph.n < 3)) form k text
 
 -- the last line, by the ending of the input
 unfoldable pub embed_last_line : ℕ → ℕ → Ending → List ℕ

@@ -1,6 +1,8 @@
 -- What the top call does, in the words of its clauses.
 pub mod Lines
 pub mod Forms
+pub mod Kinds
+pub mod Blocks
 pub mod Answer
 pub mod PlanarCode
 pub mod Made
@@ -8,7 +10,4 @@ pub mod Verify
 pub mod JobInput
 pub mod Outcome
 pub mod Text
-pub mod BarsText
-pub mod ConvexText
-pub mod RectsText
 pub mod EmbedText

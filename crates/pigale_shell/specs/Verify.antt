@@ -18,8 +18,11 @@ use Rattle.figure_verdicts.specs.Validity.{IsValidFigure}
 use Rattle.figure_verdicts.specs.Verdicts.{IsFigureVerdict}
 use Rattle.figure_verdicts.specs.declared.verdict.FigureVerdict.{FigureVerdict}
 use Rattle.figure_verdicts.specs.declared.verdict.FigureVerdict.TheVariants.{Refused, Drawing, Inside, Convex, Bars, Rects, Witness, Yes}
-use Rattle.pigale_shell.specs.Text.{word_and_number, line, end_line}
-use Rattle.pigale_shell.specs.Lines.{WritesFault}
+use Rattle.simple_maps.specs.declared.fault.MapFault.{MapFault}
+use Rattle.refusals.specs.Conditions.{unserved_for}
+use Rattle.refusals.specs.declared.refusal.Refusal.{Refusal}
+use Rattle.refusals.specs.declared.refusal.Unserved.TheVariants.{Refused as UnservedFor}
+use Rattle.pigale_shell.specs.Text.{word_and_number, line, refusal_line, end_line}
 
 -- vertices, each after a space and numbered from 1
 abbrev pub numbers : List ℕ → List ℕ
@@ -118,6 +121,10 @@ witness_numbers (BadBranch i) = i ∷ []
 witness_numbers (NotEdge p i) = p ∷ i ∷ []
 witness_numbers (Shared p q v) = p ∷ q ∷ (v.0 + 1) ∷ []
 witness_numbers NoWitnessFault = []
+
+-- the text is the line that refuses figure k for a fault of its map
+abbrev pub WritesFault : ℕ → MapFault → List ℕ → Type 0
+WritesFault k fault text = (refusal : Refusal) × (unserved_for fault ≡ UnservedFor refusal) × (text ≡ refusal_line k refusal)
 
 -- the text is the line of a verdict on figure k
 abbrev pub WritesVerdict : ℕ → FigureVerdict → List ℕ → Type 0

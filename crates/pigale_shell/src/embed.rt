@@ -3,24 +3,22 @@ ghost use Rattle.std.specs.Prelude.{◌≡◌, ◌↔◌, ◌++◌, ◌<◌, ◌
 ghost use Rattle.map_lists.specs.Lists.{Lists};
 ghost use Rattle.kuratowski.specs.Witnesses.{IsWitness};
 ghost use Rattle.embed_graph.specs.Figures.{IsDrawnMap, IsEmbedFigure};
-ghost use Rattle.pigale_shell.specs.Forms.{line_in as line_by};
-ghost use Rattle.grid_figures.specs.Refusals.{small};
-ghost use Rattle.pigale_shell.specs.Text.{refusal_line as refusal_line_of};
-ghost use Rattle.pigale_shell.specs.EmbedText.{WritesWitness, IsDrawnText, IsRefutedText, IsSmallRefused, IsFigured, IsEmbedBlock, embed_last_line as last_line_of};
+ghost use Rattle.pigale_shell.specs.Blocks.{Appends};
+ghost use Rattle.pigale_shell.specs.EmbedText.{IsDrawnText, IsRefutedText, IsGraphText, IsEmbedBlock, embed_last_line as last_line_of};
 
-use super::answer::refuse_in;
+use super::answer::refuse;
 use super::form::{line_in, print_grid_in, print_witness_in};
-use super::lines::{drawing_refusal_line, end_line, stop_line};
+use super::lines::{end_line, stop_line};
 use embed_graph::embed_figures::{EmbedFigure, embed_figure};
 use figure_text::GridJob;
 use graph6_text::Graph;
-use grid_figures::drawing_orders::DrawRefusal;
 use kuratowski::Witness;
 use line_inputs::graph_lines::{Ending, GraphReader};
 use map_lists::Rotations;
 use pg_plane::GridFigure;
 use pigale_words::Form;
 use record_runs::{Format, Job as RecordJob, Taken};
+use refusals::Refusal;
 use std::alloc::{AllocError, Global};
 
 // Appends a map of a graph as it is drawn.
@@ -34,8 +32,7 @@ fn draw_map(
     out: &mut Vec<u8>,
 ) -> Result<(), AllocError>
     requires { IsDrawnMap graph.now lists.now figure.now }
-    ensures block { OnOk result
-        ((block : List ℕ) × IsDrawnText form number graph.now block × (out.new.items ≡ out.old.items ++ block)) }
+    ensures block { OnOk result (Appends (IsDrawnText form number graph.now) out.old.items out.new.items) }
     ensures err { OnErr result (out.new.items ≡ out.old.items) }
 {
     print_grid_in(
@@ -59,8 +56,7 @@ fn draw_witness(
     out: &mut Vec<u8>,
 ) -> Result<(), AllocError>
     requires { IsWitness graph.now witness.now.kind witness.now.branch witness.now.paths }
-    ensures block { OnOk result
-        ((block : List ℕ) × IsRefutedText form number graph.now block × (out.new.items ≡ out.old.items ++ block)) }
+    ensures block { OnOk result (Appends (IsRefutedText form number graph.now) out.old.items out.new.items) }
     ensures err { OnErr result (out.new.items ≡ out.old.items) }
 {
     print_witness_in(alloc, form, number, graph, witness, out)
@@ -77,8 +73,7 @@ fn push_figure(
 ) -> Result<(), AllocError>
     requires some { 3 ≤ graph.now.n }
     requires figure { IsEmbedFigure graph.now figure.now }
-    ensures block { OnOk result
-        ((block : List ℕ) × IsFigured form number graph.now block × (out.new.items ≡ out.old.items ++ block)) }
+    ensures block { OnOk result (Appends (IsGraphText form number graph.now) out.old.items out.new.items) }
     ensures err { OnErr result (out.new.items ≡ out.old.items) }
 {
     match figure {
@@ -98,30 +93,13 @@ fn serve_graph(
     out: &mut Vec<u8>,
 ) -> Result<bool, AllocError>
     requires { 3 ≤ graph.now.n }
-    ensures block { OnOk result
-        ((block : List ℕ) × IsFigured form number graph.now block × (out.new.items ≡ out.old.items ++ block)) }
+    ensures block { OnOk result (Appends (IsGraphText form number graph.now) out.old.items out.new.items) }
     ensures served { IfOk result (λ served. served ≡ true) }
     ensures err { OnErr result (out.new.items ≡ out.old.items) }
 {
     let figure = embed_figure(alloc, graph)?;
     push_figure(alloc, form, number, graph, &figure, out)?;
     Ok(true)
-}
-
-// Appends the refusal of a graph with only so many vertices.
-fn refuse_small(
-    alloc: Global,
-    form: Form,
-    number: u32,
-    n: u16,
-    out: &mut Vec<u8>,
-) -> Result<bool, AllocError>
-    ensures block { OnOk result (out.new.items ≡ out.old.items ++ line_by form (refusal_line_of number (small n))) }
-    ensures refused { IfOk result (λ served. served ≡ false) }
-    ensures err { OnErr result (out.new.items ≡ out.old.items) }
-{
-    let line = drawing_refusal_line(alloc, number, DrawRefusal::Small(n))?;
-    refuse_in(alloc, form, line, out)
 }
 
 // Appends the figure of a graph, or its refusal, and answers whether it was served.
@@ -132,14 +110,13 @@ fn embed_line(
     graph: &Graph,
     out: &mut Vec<u8>,
 ) -> Result<bool, AllocError>
-    ensures block { OnOk result
-        ((block : List ℕ) × IsEmbedBlock form number graph.now block × (out.new.items ≡ out.old.items ++ block)) }
+    ensures block { OnOk result (Appends (IsEmbedBlock form number graph.now) out.old.items out.new.items) }
     ensures served { IfOk result (λ served. IsTrue served ↔ (3 ≤ graph.now.n)) }
     ensures err { OnErr result (out.new.items ≡ out.old.items) }
 {
     let n = graph.n();
     if n < 3 {
-        refuse_small(alloc, form, number, n, out)
+        refuse(alloc, form, number, Refusal::Small(n), out)
     } else {
         serve_graph(alloc, form, number, graph, out)
     }

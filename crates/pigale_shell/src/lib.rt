@@ -4,6 +4,7 @@
 mod answer;
 mod embed;
 mod form;
+mod kinds;
 mod lines;
 mod made;
 mod planar;

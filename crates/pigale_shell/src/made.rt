@@ -4,7 +4,7 @@ ghost use Rattle.std.specs.Fmt.{signed_decimal};
 ghost use Rattle.map_theory.specs.Maps.{vertex_count, edge_count, face_count, component_count};
 ghost use Rattle.simple_maps.specs.Faults.{first_fault};
 ghost use Rattle.grid_figures.specs.ShiftFiguresFigures.{IsShiftFigure};
-ghost use Rattle.grid_figures.specs.Refusals.{draw_refusal};
+ghost use Rattle.refusals.specs.Conditions.{first_refusal};
 ghost use Rattle.map_gen.specs.Stacked.{stacked as stacked_lists};
 ghost use Rattle.record_runs.specs.Outcome.{ports, Outcome as RunOutcome};
 ghost use Rattle.planar_code.specs.Reading.{well};
@@ -13,7 +13,6 @@ ghost use Rattle.pigale_shell.specs.Made.{total_x, total_y, sums_line as sums_li
 
 use super::lines::{Ending, count_line, last_line, push_number};
 use euler_faces::{EulerCount, count_lists};
-use grid_figures::drawing_orders::DrawRefusal;
 use grid_figures::shift_figures::shift_figure;
 use half_edges::{MapFault, Rotations};
 use itoa::Buffer;
@@ -21,6 +20,7 @@ use map_gen::stacked;
 use pg_io::{Sink, put_all};
 use pg_plane::{GridFigure, Points};
 use record_runs::RunEnd;
+use refusals::Unserved;
 use std::alloc::{AllocError, Global};
 
 // A sum with one number more.
@@ -91,13 +91,13 @@ fn count(alloc: Global, lists: &Rotations) -> Result<EulerCount, AllocError>
 fn figure(alloc: Global, lists: &Rotations) -> Result<GridFigure, AllocError>
     requires some_list { 0 < length lists.now }
     requires few_lists { length lists.now < 4096 }
-    requires served { draw_refusal lists.now ≡ None }
+    requires served { first_refusal 3 lists.now ≡ None }
     ensures { IfOk result (IsShiftFigure lists.now) }
 {
     match shift_figure(alloc, lists) {
         Ok(figure) => Ok(figure),
-        Err(DrawRefusal::Fault(MapFault::NoMemory)) => Err(AllocError),
-        Err(_) => unreachable!(),
+        Err(Unserved::NoMemory) => Err(AllocError),
+        Err(Unserved::Refused(_)) => unreachable!(),
     }
 }
 
@@ -105,7 +105,7 @@ fn figure(alloc: Global, lists: &Rotations) -> Result<GridFigure, AllocError>
 fn block(alloc: Global, number: u32, lists: &Rotations) -> Result<Vec<u8>, AllocError>
     requires some_list { 0 < length lists.now }
     requires few_lists { length lists.now < 4096 }
-    requires served { draw_refusal lists.now ≡ None }
+    requires served { first_refusal 3 lists.now ≡ None }
     ensures { IfOk result (λ block. IsMadeBlock number lists.now block.items) }
 {
     let mut block = count_line(alloc, number, &count(alloc, lists)?)?;
@@ -122,7 +122,7 @@ fn text(alloc: Global, size: u16, number: u32) -> Result<Vec<u8>, AllocError>
     ensures { IfOk result (λ text. (block : List ℕ) × IsMadeBlock 1 (stacked_lists size number) block × (text.items ≡ block ++ last_line_of 1 0 well)) }
 {
     map_gen::stacked_is_completed();
-    grid_figures::drawing_orders::no_refusal_is_plane();
+    refusals::no_refusal_is_plane();
     let lists = stacked(alloc, size, number)?;
     let mut text = block(alloc, 1, &lists)?;
     text.extend_from_slice(&last_line(alloc, 1, 0, Ending::Well)?)?;

@@ -1,13 +1,12 @@
 //! planar_code, and the jobs over it, for the loop of runs.
-ghost use Rattle.std.specs.Prelude.{◌≡◌, true, IsTrue};
-ghost use Rattle.pigale_shell.specs.JobInput.{reads_planar};
+ghost use Rattle.std.specs.Prelude.{◌≡◌, true};
 
 use super::answer::answer_with;
 use super::form::line_in;
+use super::kinds::MapJob;
 use super::lines::{Ending, last_line};
 use euler_faces::Counter;
 use map_lists::Rotations;
-use pigale_words::Job;
 use planar_code::{RecordReader, Taken as Found};
 use record_runs::{Format, Job as RecordJob, Taken};
 use std::alloc::{AllocError, Global};
@@ -97,16 +96,14 @@ impl Format for PlanarReader {
 #[derive(Drop)]
 pub struct PlanarJob {
     alloc: Global,
-    job: Job,
+    job: MapJob,
     // keeps its memory from record to record
     counter: Counter,
-    ghost planar: { IsTrue (reads_planar job) },
 }
 
 impl PlanarJob {
     /// A job before the first record. It takes no memory.
-    pub fn new(alloc: Global, job: Job) -> PlanarJob
-        requires { IsTrue (reads_planar job) }
+    pub fn new(alloc: Global, job: MapJob) -> PlanarJob
         ensures { result.job ≡ job }
     {
         PlanarJob {
@@ -120,7 +117,7 @@ impl PlanarJob {
 impl RecordJob<PlanarReader> for PlanarJob {
     ghost use Rattle.pigale_shell.specs.Answer.{planar_answers};
 
-    type Kind = Job;
+    type Kind = MapJob;
 
     ghost kind = { λ planar. planar.job };
 

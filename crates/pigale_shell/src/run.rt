@@ -1,5 +1,5 @@
 //! One run of a job.
-ghost use Rattle.std.specs.Prelude.{◌≡◌, ◌⊎◌, ◌+◌, IsTrue, IsFalse};
+ghost use Rattle.std.specs.Prelude.{◌≡◌, ◌⊎◌, ◌+◌, IsFalse};
 ghost use Rattle.pg_io.specs.Io.{TakesAtMost};
 ghost use Rattle.record_runs.specs.Texts.{input_limit};
 ghost use Rattle.record_runs.specs.Outcome.{ports, Outcome as RunOutcome};
@@ -9,16 +9,17 @@ ghost use Rattle.line_inputs.specs.FigureLinesFormat.{figures};
 ghost use Rattle.pigale_shell.specs.Verify.{verify_answers};
 ghost use Rattle.line_inputs.specs.GraphLinesFormat.{graph_lines};
 ghost use Rattle.pigale_shell.specs.EmbedText.{embed_answers};
-ghost use Rattle.pigale_shell.specs.JobInput.{reads_planar, reads_input, left_of};
-ghost use Rattle.pigale_words.specs.Jobs.{HasSize};
+ghost use Rattle.pigale_shell.specs.JobInput.{reads_input, left_of};
+ghost use Rattle.pigale_shell.specs.Kinds.{IsSized};
 ghost use Rattle.pigale_shell.specs.Outcome.{Outcome, status_of};
 
 use super::embed::{EmbedJob, GraphSource};
+use super::kinds::{JobKind, MapJob};
 use super::made::run_made;
 use super::planar::{PlanarJob, PlanarReader};
 use super::verify::{FigureSource, VerifyJob};
 use pg_io::{Sink, Source};
-use pigale_words::{Form, Job, Status};
+use pigale_words::{Form, Status};
 use record_runs::{RunEnd, run_records};
 use std::alloc::Global;
 
@@ -37,8 +38,7 @@ fn status(end: RunEnd) -> Status
 }
 
 // Runs a job over planar_code.
-fn run_planar<S: Source, K: Sink>(alloc: Global, job: Job, src: &mut S, out: &mut K) -> RunEnd
-    requires { IsTrue (reads_planar job) }
+fn run_planar<S: Source, K: Sink>(alloc: Global, job: MapJob, src: &mut S, out: &mut K) -> RunEnd
     ensures outcome { RunOutcome planar_code (planar_answers job)
         (ports (S.left src.old) (S.faults src.old) (K.written out.old) (K.faults out.old))
         (ports (S.left src.new) (S.faults src.new) (K.written out.new) (K.faults out.new)) result }
@@ -72,8 +72,8 @@ fn run_embed<S: Source, K: Sink>(alloc: Global, form: Form, src: &mut S, out: &m
 
 /// Runs a job over the records of a source, to the end of its input or to what stops it. A job that reads no
 /// input does not touch the source.
-pub fn run_job<S: Source, K: Sink>(alloc: Global, job: Job, src: &mut S, out: &mut K) -> Status
-    requires sized { HasSize job }
+pub fn run_job<S: Source, K: Sink>(alloc: Global, job: JobKind, src: &mut S, out: &mut K) -> Status
+    requires sized { IsSized job }
     ensures outcome { Outcome job
         (ports (left_of job (S.left src.old)) (S.faults src.old) (K.written out.old) (K.faults out.old))
         (ports (left_of job (S.left src.new)) (S.faults src.new) (K.written out.new) (K.faults out.new)) result }
@@ -82,14 +82,9 @@ pub fn run_job<S: Source, K: Sink>(alloc: Global, job: Job, src: &mut S, out: &m
     ensures limit { TakesAtMost (input_limit + 1) (S.left src.old) (S.left src.new) }
 {
     match job {
-        Job::Count
-        | Job::Shift(_)
-        | Job::Schnyder(_)
-        | Job::Bars(_)
-        | Job::Convex(_)
-        | Job::Rect(_) => status(run_planar(alloc, job, src, out)),
-        Job::Gen(size, number) => status(run_made(alloc, size, number, out)),
-        Job::Verify => status(run_verify(alloc, src, out)),
-        Job::Embed(form) => status(run_embed(alloc, form, src, out)),
+        JobKind::Maps(job) => status(run_planar(alloc, job, src, out)),
+        JobKind::Graphs(form) => status(run_embed(alloc, form, src, out)),
+        JobKind::Figures => status(run_verify(alloc, src, out)),
+        JobKind::Made(size, number) => status(run_made(alloc, size, number, out)),
     }
 }

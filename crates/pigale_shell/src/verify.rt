@@ -3,7 +3,7 @@ ghost use Rattle.std.specs.Prelude.{◌≡◌, ◌↔◌, ◌++◌, ◌∷◌, �
 ghost use Rattle.line_inputs.specs.Given.{IsGiven as IsGivenFigure};
 ghost use Rattle.figure_verdicts.specs.Validity.{IsValidFigure};
 ghost use Rattle.figure_verdicts.specs.declared.verdict.FigureVerdict.TheVariants.{Yes as IsYes};
-ghost use Rattle.pigale_shell.specs.Verify.{numbers, verdict_line as verdict_line_of, verdict_name, verdict_vertices, bars_name, bars_vertices, convex_name, convex_vertices, rects_name, rects_vertices, spaced, numbers_line as numbers_line_of, witness_name, witness_numbers, WritesVerdict, IsVerifyBlock, verify_last_line as last_line_of};
+ghost use Rattle.pigale_shell.specs.Verify.{numbers, verdict_line as verdict_line_of, verdict_name, verdict_vertices, bars_name, bars_vertices, convex_name, convex_vertices, rects_name, rects_vertices, spaced, numbers_line as numbers_line_of, witness_name, witness_numbers, WritesFault, WritesVerdict, IsVerifyBlock, verify_last_line as last_line_of};
 
 use super::lines::{end_line, push_number, refusal_line, stop_line};
 use bar_check::BarVerdict;
@@ -11,10 +11,12 @@ use convex_check::ConvexVerdict;
 use draw_check::Verdict;
 use figure_text::Figure;
 use figure_verdicts::{FigureVerdict, figure_verdict};
+use half_edges::MapFault;
 use kuratowski::WitnessVerdict;
 use line_inputs::figure_lines::{Ending, FigureReader};
 use record_runs::{Format, Job as RecordJob, Taken};
 use rect_check::RectVerdict;
+use refusals::Unserved;
 use std::alloc::{AllocError, Global};
 
 // Appends vertices, each after a space and numbered from 1.
@@ -157,12 +159,22 @@ fn witness_line(alloc: Global, number: u32, verdict: WitnessVerdict) -> Result<V
     }
 }
 
+// The line of a fault of a figure's map.
+fn map_line(alloc: Global, number: u32, fault: MapFault) -> Result<Vec<u8>, AllocError>
+    ensures { IfOk result (λ line. WritesFault number fault line.items) }
+{
+    match Unserved::from(fault) {
+        Unserved::Refused(refusal) => refusal_line(alloc, number, refusal),
+        Unserved::NoMemory => Err(AllocError),
+    }
+}
+
 // The line of a verdict.
 fn figure_line(alloc: Global, number: u32, verdict: FigureVerdict) -> Result<Vec<u8>, AllocError>
     ensures { IfOk result (λ line. WritesVerdict number verdict line.items) }
 {
     match verdict {
-        FigureVerdict::Refused(fault) => refusal_line(alloc, number, fault),
+        FigureVerdict::Refused(fault) => map_line(alloc, number, fault),
         FigureVerdict::Drawing(verdict) => fault_line(alloc, number, verdict),
         FigureVerdict::Inside(v, u) => verdict_line(alloc, number, b"Inside", &[v.0, u.0]),
         FigureVerdict::Convex(verdict) => convex_line(alloc, number, verdict),

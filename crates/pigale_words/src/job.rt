@@ -1,7 +1,6 @@
 //! Jobs and statuses.
 ghost use Rattle.std.specs.Prelude.{◌≡◌};
 ghost use Rattle.pigale_words.specs.Status.{status_number};
-ghost use Rattle.pigale_words.specs.Jobs.{job_form};
 
 use super::form::Form;
 
@@ -28,19 +27,6 @@ pub enum Job {
     /// Draws a map of each graph with at least three vertices that has one of genus zero, and gives a Kuratowski witness of
     /// each other one.
     Embed(Form),
-}
-
-impl Job {
-    /// The form in which the job writes.
-    pub fn form(self) -> Form
-        ensures { result ≡ job_form self }
-    {
-        match self {
-            Job::Count | Job::Gen(..) | Job::Verify => Form::Text,
-            Job::Shift(form) | Job::Schnyder(form) | Job::Bars(form) => form,
-            Job::Convex(form) | Job::Rect(form) | Job::Embed(form) => form,
-        }
-    }
 }
 
 /// How a run ended.

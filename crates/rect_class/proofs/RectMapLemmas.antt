@@ -1,25 +1,23 @@
 -- The laws of the class.
-use Rattle.std.proofs.Common.{◌≡◌, ◌<◌, length, ap}
+use Rattle.std.proofs.Common.{◌<◌, length}
 use Rattle.map_lists.specs.Lists.{Lists}
-use Rattle.simple_maps.specs.declared.fault.MapFault.TheVariants.{NoMemory}
+use Rattle.refusals.specs.declared.refusal.Refusal.{Refusal}
+use Rattle.refusals.specs.declared.refusal.Refusal.TheVariants.{OuterNotQuad, NotTriangle, SeparatingTriangle, NoInner}
 use Rattle.conn_parts.specs.Laws.{BlocksBreakNothing}
-use Rattle.conn_parts.specs.declared.plane_blocks.refusal.BlockRefusal.TheVariants.{Fault}
 use Rattle.rect_check.specs.Duals.{top_vertex, right_vertex, bottom_vertex}
 use Rattle.rect_class.specs.RectMaps.{IsRectMap}
 use Rattle.rect_class.specs.Refusals.{BreaksRect}
 use Rattle.rect_class.specs.Laws.{BlocksAreRectMaps}
-use Rattle.rect_class.specs.declared.refusal.RectRefusal.{RectRefusal}
-use Rattle.rect_class.specs.declared.refusal.RectRefusal.TheVariants.{Block, OuterNotQuad, NotTriangle, SeparatingTriangle, NoInner}
 use Rattle.rect_class.proofs.FrameDarts.{IsOuterCycle-quadrangle, IsOuterDart-outer}
 use Rattle.rect_class.proofs.TriangleLemmas.{HasNoSeparatingTriangle-rising}
 use Rattle.rect_class.proofs.InnerLemmas.{more-inner}
 
-pub nothing_broken : BlocksBreakNothing → (lists : Lists) (refusal : RectRefusal) → 0 < length lists → IsRectMap lists → BreaksRect lists refusal → refusal ≡ Block (Fault NoMemory)
-nothing_broken blocks lists (Block refusal) some h b = ap Block (blocks 3 lists refusal some h.block b)
-nothing_broken blocks lists OuterNotQuad some h b = absurd (b.1 h.frame)
-nothing_broken blocks lists (NotTriangle v u) some h b = let l = b.2.rest.here in absurd (l.large (h.faces v.0 u.0 l.dart l.inner))
-nothing_broken blocks lists (SeparatingTriangle x y z) some h b = absurd (h.triangles x.0 y.0 z.0 b.3.rest.rest.here)
-nothing_broken blocks lists NoInner some h b = absurd (b.4 h.inner)
+pub nothing_broken : BlocksBreakNothing → (lists : Lists) (refusal : Refusal) → 0 < length lists → IsRectMap lists → ¬ BreaksRect lists refusal
+nothing_broken blocks lists OuterNotQuad some h b = b.1 h.frame
+nothing_broken blocks lists (NotTriangle v u) some h b = let l = b.2.rest.here in l.large (h.faces v.0 u.0 l.dart l.inner)
+nothing_broken blocks lists (SeparatingTriangle x y z) some h b = h.triangles x.0 y.0 z.0 b.3.rest.rest.here
+nothing_broken blocks lists NoInner some h b = b.4 h.inner
+nothing_broken blocks lists refusal some h b = blocks 3 lists refusal some h.block b
 
 pub open_quadrangle : BlocksAreRectMaps
 open_quadrangle lists h =

@@ -2,20 +2,16 @@
 use Rattle.std.specs.Prelude.{ℕ, ◌<◌, ◌≡◌, [], ◌∷◌, length}
 use Rattle.map_lists.specs.Lists.{Lists}
 use Rattle.map_theory.specs.Maps.{component_count}
-use Rattle.simple_maps.specs.declared.fault.MapFault.TheVariants.{NoMemory}
 use Rattle.plane_peeling.specs.NearTriangulations.{IsNearTriangulation}
 use Rattle.plane_peeling.specs.TwoGone.{HasNoSeparatingTriangle}
-use Rattle.conn_parts.specs.declared.plane_blocks.refusal.BlockRefusal.TheVariants.{Fault}
+use Rattle.refusals.specs.declared.refusal.Refusal.{Refusal}
 use Rattle.rect_check.specs.Duals.{top_vertex, right_vertex, bottom_vertex}
 use Rattle.rect_class.specs.RectMaps.{IsRectMap}
 use Rattle.rect_class.specs.Refusals.{BreaksRect}
-use Rattle.rect_class.specs.declared.refusal.RectRefusal.{RectRefusal}
-use Rattle.rect_class.specs.declared.refusal.RectRefusal.TheVariants.{Block}
 
--- Lists of such a map break no condition first: just want of memory may be said.
+-- Lists of such a map break no condition first.
 abbrev pub RectBlocksBreakNothing : Type 0
-RectBlocksBreakNothing =
-    (lists : Lists) (refusal : RectRefusal) → 0 < length lists → IsRectMap lists → BreaksRect lists refusal → refusal ≡ Block (Fault NoMemory)
+RectBlocksBreakNothing = (lists : Lists) (refusal : Refusal) → 0 < length lists → IsRectMap lists → ¬ BreaksRect lists refusal
 
 -- A connected near triangulation with this quadrangle as its outer cycle, in which no triangle separates, with more than four vertices.
 pub record IsOpenQuadrangle (lists : Lists) (s d p t : ℕ) : Type 0 where

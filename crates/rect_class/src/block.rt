@@ -2,18 +2,19 @@
 ghost use Rattle.std.specs.Prelude.{◌≡◌, ◌<◌, length, MatchOption, IfOk, IfErr};
 ghost use Rattle.half_edges.specs.Map.{IsHalfMap};
 ghost use Rattle.vertex_rounds.specs.Least.{IsLeastPair};
+ghost use Rattle.refusals.specs.Conditions.{IfRefused};
 ghost use Rattle.conn_parts.specs.Blocks.{IsPlaneBlock};
 ghost use Rattle.rect_check.specs.Duals.{HasFrame};
 ghost use Rattle.rect_check.specs.Loops.{IsFrame};
 ghost use Rattle.rect_class.specs.RectMaps.{HasLargeFace, HasTriangles, NoneSeparating, IsRectMap};
 ghost use Rattle.rect_class.specs.Refusals.{BreaksRect};
 
-use crate::RectRefusal;
 use crate::faces::first_large;
 use crate::triangles::first_separating;
 use conn_parts::plane_blocks::plane_block;
 use half_edges::{HalfMap, Rotations, VertexId};
 use rect_check::{OuterFour, outer_four};
+use refusals::{Refusal, Unserved};
 use std::alloc::Global;
 
 // How many vertices the outer face has.
@@ -30,7 +31,7 @@ fn first_large_face(map: &HalfMap, four: OuterFour) -> Option<(VertexId, VertexI
 }
 
 // The first condition on triangles that a map breaks.
-fn first_of_triangles(map: &HalfMap) -> Option<RectRefusal>
+fn first_of_triangles(map: &HalfMap) -> Option<Refusal>
     requires known { IsHalfMap map.now }
     requires block { IsPlaneBlock 3 map.now.lists }
     requires frame { HasFrame map.now.lists }
@@ -38,37 +39,37 @@ fn first_of_triangles(map: &HalfMap) -> Option<RectRefusal>
     ensures { MatchOption result (IsRectMap map.now.lists) (BreaksRect map.now.lists) }
 {
     if let Some((a, b, c)) = first_separating(map) {
-        return Some(RectRefusal::SeparatingTriangle(a, b, c));
+        return Some(Refusal::SeparatingTriangle(a, b, c));
     }
     if map.n() <= OUTER_COUNT {
-        Some(RectRefusal::NoInner)
+        Some(Refusal::NoInner)
     } else {
         None
     }
 }
 
 // The first condition behind that on the outer face.
-fn first_of_faces(map: &HalfMap, four: OuterFour) -> Option<RectRefusal>
+fn first_of_faces(map: &HalfMap, four: OuterFour) -> Option<Refusal>
     requires known { IsHalfMap map.now }
     requires block { IsPlaneBlock 3 map.now.lists }
     requires frame { IsFrame map.now.lists four.top.0 four.right.0 four.bottom.0 }
     ensures { MatchOption result (IsRectMap map.now.lists) (BreaksRect map.now.lists) }
 {
     match first_large_face(map, four) {
-        Some((v, u)) => Some(RectRefusal::NotTriangle(v, u)),
+        Some((v, u)) => Some(Refusal::NotTriangle(v, u)),
         None => first_of_triangles(map),
     }
 }
 
 // The first condition that a map in one block breaks.
-fn first_broken(map: &HalfMap) -> Option<RectRefusal>
+fn first_broken(map: &HalfMap) -> Option<Refusal>
     requires { IsPlaneBlock 3 map.now.lists }
     ensures { MatchOption result (IsRectMap map.now.lists) (BreaksRect map.now.lists) }
 {
     map.facts();
     match outer_four(map) {
         Some(four) => first_of_faces(map, four),
-        None => Some(RectRefusal::OuterNotQuad),
+        None => Some(Refusal::OuterNotQuad),
     }
 }
 
@@ -76,19 +77,19 @@ fn first_broken(map: &HalfMap) -> Option<RectRefusal>
 /// has no cut vertex, its outer face is a quadrangle, each other face is a triangle, each triangle of edges is
 /// a face, and some vertex is inside.
 ///
-/// `Err` names the first condition that the lists break, in the order of [`RectRefusal`], with the least
+/// `Err` names the first condition that the lists break, in the order of [`Refusal`], with the least
 /// vertices. Or there was not enough memory. For each edge it goes over the shorter of two lists, and looks
 /// each common neighbour up in the shorter of two more.
-pub fn rect_block(alloc: Global, lists: &Rotations) -> Result<HalfMap, RectRefusal>
+pub fn rect_block(alloc: Global, lists: &Rotations) -> Result<HalfMap, Unserved>
     requires some_list { 0 < length lists.now }
     requires few_lists { length lists.now < 4096 }
     ensures lists { IfOk result (λ map. map.lists ≡ lists.now) }
     ensures served { IfOk result (λ map. IsRectMap lists.now) }
-    ensures refused { IfErr result (BreaksRect lists.now) }
+    ensures refused { IfErr result (IfRefused (BreaksRect lists.now)) }
 {
     let map = plane_block(alloc, lists, 3)?;
     match first_broken(&map) {
-        Some(refusal) => Err(refusal),
+        Some(refusal) => Err(Unserved::Refused(refusal)),
         None => Ok(map),
     }
 }

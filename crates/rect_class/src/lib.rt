@@ -5,11 +5,9 @@ ghost use Rattle.rect_class.specs.Laws.{RectBlocksBreakNothing, BlocksAreRectMap
 
 mod block;
 mod faces;
-mod refusal;
 mod triangles;
 
 pub use block::rect_block;
-pub use refusal::RectRefusal;
 
 /// A map of the class breaks no condition.
 pub fn blocks_break_nothing()

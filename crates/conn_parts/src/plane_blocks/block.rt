@@ -1,36 +1,37 @@
 //! A record as a map in one block.
 ghost use Rattle.std.specs.Prelude.{◌≡◌, ◌<◌, length, IfOk, IfErr, OnOk};
 ghost use Rattle.map_lists.specs.Lists.{Lists};
+ghost use Rattle.refusals.specs.Conditions.{IfRefused};
 ghost use Rattle.conn_parts.specs.Blocks.{IsPlaneBlock, BreaksFirst};
 
-use crate::plane_blocks::refusal::BlockRefusal;
 use euler_faces::count_lists;
 use graph_search::map_cuts::list_cut_vertex;
 use half_edges::{HalfMap, Rotations, VertexId};
+use refusals::{Refusal, Unserved};
 use simple_maps::no_fault_is_simple;
 use std::alloc::Global;
 
 // Whether lists are a map in one block, or the first condition that they break.
-fn check_block(alloc: Global, lists: &Rotations, least: u16) -> Result<(), BlockRefusal>
+fn check_block(alloc: Global, lists: &Rotations, least: u16) -> Result<(), Unserved>
     requires some_list { 0 < length lists.now }
     requires few_lists { length lists.now < 4096 }
     ensures served { OnOk result (IsPlaneBlock least lists.now) }
-    ensures refused { IfErr result (BreaksFirst least lists.now) }
+    ensures refused { IfErr result (IfRefused (BreaksFirst least lists.now)) }
 {
     no_fault_is_simple();
     let count = count_lists(alloc, lists)?;
     if count.n < least as u32 {
-        return Err(BlockRefusal::Small(count.n as u16));
+        return Err(Unserved::Refused(Refusal::Small(count.n as u16)));
     }
     let genus = count.genus();
     if 0 < genus {
-        return Err(BlockRefusal::Genus(genus));
+        return Err(Unserved::Refused(Refusal::Genus(genus)));
     }
     if count.c != 1 {
-        return Err(BlockRefusal::NotConnected);
+        return Err(Unserved::Refused(Refusal::NotConnected));
     }
     match list_cut_vertex(alloc, lists)? {
-        Some(v) => Err(BlockRefusal::CutVertex(VertexId(v))),
+        Some(v) => Err(Unserved::Refused(Refusal::CutVertex(VertexId(v)))),
         None => Ok(()),
     }
 }
@@ -38,14 +39,14 @@ fn check_block(alloc: Global, lists: &Rotations, least: u16) -> Result<(), Block
 /// The map of a record with these lists, which are from 1 to 4095, where it has genus zero and at least
 /// `least` vertices, is connected and has no cut vertex.
 ///
-/// `Err` names the first condition that the lists break, in the order of [`BlockRefusal`], with the least
+/// `Err` names the first condition that the lists break, in the order of [`Refusal`], with the least
 /// vertices. Or there was not enough memory. The time is linear in the entries.
-pub fn plane_block(alloc: Global, lists: &Rotations, least: u16) -> Result<HalfMap, BlockRefusal>
+pub fn plane_block(alloc: Global, lists: &Rotations, least: u16) -> Result<HalfMap, Unserved>
     requires some_list { 0 < length lists.now }
     requires few_lists { length lists.now < 4096 }
     ensures lists { IfOk result (λ map. map.lists ≡ lists.now) }
     ensures served { IfOk result (λ map. IsPlaneBlock least lists.now) }
-    ensures refused { IfErr result (BreaksFirst least lists.now) }
+    ensures refused { IfErr result (IfRefused (BreaksFirst least lists.now)) }
 {
     check_block(alloc, lists, least)?;
     let map = HalfMap::from_rotations(alloc, lists)?;

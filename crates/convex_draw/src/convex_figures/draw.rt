@@ -3,13 +3,15 @@ ghost use Rattle.std.specs.Prelude.{◌≡◌, ◌<◌, length, Some, IfOk, IfEr
 ghost use Rattle.half_edges.specs.Map.{IsLive, dart_at, first_dart as first_of};
 ghost use Rattle.map_theory.specs.Maps.{IsPlane};
 ghost use Rattle.convex_peeling.specs.Tight.{IsThreeConnected};
-ghost use Rattle.convex_class.specs.Convexity.{BreaksFirst};
+ghost use Rattle.refusals.specs.Conditions.{IfRefused};
+ghost use Rattle.convex_class.specs.Convexity.{BreaksConvex};
 ghost use Rattle.convex_draw.specs.Figures.{IsConvexFigure};
 
 use crate::convex_draw;
-use convex_class::convex_blocks::{ConvexRefusal, convex_block};
+use convex_class::convex_blocks::convex_block;
 use half_edges::{DartId, HalfMap, Rotations, VertexId};
 use pg_plane::GridFigure;
+use refusals::Unserved;
 use std::alloc::{AllocError, Global};
 
 // The dart from vertex 0 to the first of its list.
@@ -43,13 +45,13 @@ fn map_figure(alloc: Global, map: &HalfMap) -> Result<GridFigure, AllocError>
 /// the least; a separating pair, the least. Or there was not enough memory.
 ///
 /// Source: Felsner, Convex drawings of planar graphs and the order dimension of 3-polytopes, 2001.
-pub fn convex_figure(alloc: Global, lists: &Rotations) -> Result<GridFigure, ConvexRefusal>
+pub fn convex_figure(alloc: Global, lists: &Rotations) -> Result<GridFigure, Unserved>
     requires some_list { 0 < length lists.now }
     requires few_lists { length lists.now < 4096 }
     ensures figure { IfOk result (IsConvexFigure lists.now) }
     ensures plane { OnOk result (IsPlane lists.now) }
     ensures served { OnOk result (IsThreeConnected lists.now) }
-    ensures refused { IfErr result (BreaksFirst lists.now) }
+    ensures refused { IfErr result (IfRefused (BreaksConvex lists.now)) }
 {
     let map = convex_block(alloc, lists)?;
     let figure = map_figure(alloc, &map)?;

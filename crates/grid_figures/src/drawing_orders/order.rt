@@ -5,15 +5,14 @@ ghost use Rattle.plane_laws.specs.Completed.{IsCompleted};
 ghost use Rattle.conn_parts.specs.Parts.{ArePartsOf};
 ghost use Rattle.grid_figures.specs.DrawingOrdersBases.{LeadsToLeast};
 ghost use Rattle.grid_figures.specs.Orders.{IsDrawingOrder};
-ghost use Rattle.grid_figures.specs.Refusals.{draw_refusal};
-ghost use Rattle.grid_figures.specs.Names.{Names};
+ghost use Rattle.refusals.specs.Conditions.{first_refusal, IfRefused};
 
-use crate::drawing_orders::refusal::DrawRefusal;
 use augment_tri::triangulate_parts;
 use canon_order::{Order, list_order};
 use conn_parts::{Parts, list_components};
 use euler_faces::count_lists;
 use half_edges::{DartId, HalfMap, Rotations, VertexId};
+use refusals::{Refusal, Unserved};
 use std::alloc::{AllocError, Global};
 
 /// A completed map with a canonical order of it.
@@ -94,21 +93,21 @@ fn plane_order(alloc: Global, lists: &Rotations) -> Result<DrawingOrder, AllocEr
 /// `Err` names the first condition that the lists break, of these in this order: the four faults of a map,
 /// each with the least vertices; fewer than three vertices; a genus above zero. Or there was not enough
 /// memory. The time is linear in the entries.
-pub fn drawing_order(alloc: Global, lists: &Rotations) -> Result<DrawingOrder, DrawRefusal>
+pub fn drawing_order(alloc: Global, lists: &Rotations) -> Result<DrawingOrder, Unserved>
     requires some_list { 0 < length lists.now }
     requires few_lists { length lists.now < 4096 }
     ensures order { IfOk result (IsDrawingOrder lists.now) }
-    ensures served { OnOk result (draw_refusal lists.now ≡ None) }
-    ensures refused { IfErr result (Names (draw_refusal lists.now)) }
+    ensures served { OnOk result (first_refusal 3 lists.now ≡ None) }
+    ensures refused { IfErr result (IfRefused (λ refusal. first_refusal 3 lists.now ≡ Some refusal)) }
 {
     simple_maps::no_fault_is_simple();
     let count = count_lists(alloc, lists)?;
     if count.n < 3 {
-        return Err(DrawRefusal::Small(count.n as u16));
+        return Err(Unserved::Refused(Refusal::Small(count.n as u16)));
     }
     let genus = count.genus();
     if 0 < genus {
-        return Err(DrawRefusal::Genus(genus));
+        return Err(Unserved::Refused(Refusal::Genus(genus)));
     }
     let found = plane_order(alloc, lists)?;
     Ok(found)

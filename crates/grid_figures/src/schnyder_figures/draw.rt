@@ -1,18 +1,18 @@
 //! The figure of a record, or why it has none.
-ghost use Rattle.std.specs.Prelude.{◌≡◌, ◌<◌, length, None, IfOk, IfErr, OnOk};
+ghost use Rattle.std.specs.Prelude.{◌≡◌, ◌<◌, length, Some, None, IfOk, IfErr, OnOk};
 ghost use Rattle.map_theory.specs.Maps.{Dart};
 ghost use Rattle.plane_laws.specs.Completed.{IsCompleted};
 ghost use Rattle.canon_order.specs.Orders.{IsCanonicalOrder, IsRankOf, vertices_of};
-ghost use Rattle.grid_figures.specs.Refusals.{draw_refusal};
-ghost use Rattle.grid_figures.specs.Names.{Names};
+ghost use Rattle.refusals.specs.Conditions.{first_refusal, IfRefused};
 ghost use Rattle.grid_figures.specs.Forms.{IsDrawnBy};
 ghost use Rattle.grid_figures.specs.SchnyderFiguresFigures.{schnyder_form, IsSchnyderFigure};
 
-use crate::drawing_orders::{DrawRefusal, drawing_order};
+use crate::drawing_orders::drawing_order;
 use crate::schnyder_grid::list_draw;
 use canon_order::Order;
 use half_edges::Rotations;
 use pg_plane::GridFigure;
+use refusals::Unserved;
 use std::alloc::{AllocError, Global};
 
 // The drawing of a completed map by a canonical order.
@@ -39,12 +39,12 @@ fn order_figure(alloc: Global, lists: &Rotations, order: &Order) -> Result<GridF
 /// memory. The time is linear in the entries.
 ///
 /// Source: Schnyder, Embedding planar graphs on the grid, 1990.
-pub fn schnyder_figure(alloc: Global, lists: &Rotations) -> Result<GridFigure, DrawRefusal>
+pub fn schnyder_figure(alloc: Global, lists: &Rotations) -> Result<GridFigure, Unserved>
     requires some_list { 0 < length lists.now }
     requires few_lists { length lists.now < 4096 }
     ensures figure { IfOk result (IsSchnyderFigure lists.now) }
-    ensures served { OnOk result (draw_refusal lists.now ≡ None) }
-    ensures refused { IfErr result (Names (draw_refusal lists.now)) }
+    ensures served { OnOk result (first_refusal 3 lists.now ≡ None) }
+    ensures refused { IfErr result (IfRefused (λ refusal. first_refusal 3 lists.now ≡ Some refusal)) }
 {
     crate::drawing_orders::completion_draws();
     let found = drawing_order(alloc, lists)?;

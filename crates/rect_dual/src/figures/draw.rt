@@ -2,15 +2,16 @@
 ghost use Rattle.std.specs.Prelude.{◌≡◌, ◌<◌, length, Some, IfOk, IfErr, OnOk};
 ghost use Rattle.half_edges.specs.Map.{IsLive, dart_at};
 ghost use Rattle.rect_check.specs.Duals.{top_vertex};
+ghost use Rattle.refusals.specs.Conditions.{IfRefused};
 ghost use Rattle.rect_class.specs.RectMaps.{IsRectMap};
 ghost use Rattle.rect_class.specs.Refusals.{BreaksRect};
 ghost use Rattle.rect_dual.specs.Figures.{IsRectFigure};
 
 use crate::draw::rect_draw;
-use conn_parts::plane_blocks::BlockRefusal;
-use half_edges::{DartId, HalfMap, MapFault, Rotations, VertexId};
+use half_edges::{DartId, HalfMap, Rotations, VertexId};
 use pg_plane::RectFigure;
-use rect_class::{RectRefusal, rect_block};
+use rect_class::rect_block;
+use refusals::Unserved;
 use std::alloc::{AllocError, Global};
 
 // The dart from vertex 0 to the first of its list.
@@ -48,16 +49,14 @@ fn block_rects(alloc: Global, map: &HalfMap) -> Result<RectFigure, AllocError>
 ///
 /// Source: Kant, He, Regular edge labeling of 4-connected plane graphs and its applications in graph drawing
 /// problems, 1997.
-pub fn rect_figure(alloc: Global, lists: &Rotations) -> Result<RectFigure, RectRefusal>
+pub fn rect_figure(alloc: Global, lists: &Rotations) -> Result<RectFigure, Unserved>
     requires some_list { 0 < length lists.now }
     requires few_lists { length lists.now < 4096 }
     ensures figure { IfOk result (IsRectFigure lists.now) }
     ensures served { OnOk result (IsRectMap lists.now) }
-    ensures refused { IfErr result (BreaksRect lists.now) }
+    ensures refused { IfErr result (IfRefused (BreaksRect lists.now)) }
 {
     let map = rect_block(alloc, lists)?;
-    match block_rects(alloc, &map) {
-        Ok(figure) => Ok(figure),
-        Err(_) => Err(RectRefusal::Block(BlockRefusal::Fault(MapFault::NoMemory))),
-    }
+    let figure = block_rects(alloc, &map)?;
+    Ok(figure)
 }

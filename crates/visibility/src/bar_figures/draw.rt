@@ -1,13 +1,15 @@
 //! The figure of a record, or why it has none.
 ghost use Rattle.std.specs.Prelude.{◌≡◌, ◌<◌, length, Some, IfOk, IfErr, OnOk};
 ghost use Rattle.half_edges.specs.Map.{IsLive, dart_at, first_dart as first_of};
+ghost use Rattle.refusals.specs.Conditions.{IfRefused};
 ghost use Rattle.conn_parts.specs.Blocks.{IsPlaneBlock, BreaksFirst};
 ghost use Rattle.visibility.specs.Figures.{IsBarFigure};
 
 use crate::bars;
-use conn_parts::plane_blocks::{BlockRefusal, plane_block};
+use conn_parts::plane_blocks::plane_block;
 use half_edges::{DartId, HalfMap, Rotations, VertexId};
 use pg_plane::BarFigure;
+use refusals::Unserved;
 use std::alloc::{AllocError, Global};
 
 // The dart from vertex 0 to the first of its list.
@@ -41,12 +43,12 @@ fn block_bars(alloc: Global, map: &HalfMap) -> Result<BarFigure, AllocError>
 /// the least. Or there was not enough memory. The time is linear in the entries.
 ///
 /// Source: Tamassia, Tollis, A unified approach to visibility representations of planar graphs, 1986.
-pub fn bar_figure(alloc: Global, lists: &Rotations) -> Result<BarFigure, BlockRefusal>
+pub fn bar_figure(alloc: Global, lists: &Rotations) -> Result<BarFigure, Unserved>
     requires some_list { 0 < length lists.now }
     requires few_lists { length lists.now < 4096 }
     ensures figure { IfOk result (IsBarFigure lists.now) }
     ensures served { OnOk result (IsPlaneBlock 3 lists.now) }
-    ensures refused { IfErr result (BreaksFirst 3 lists.now) }
+    ensures refused { IfErr result (IfRefused (BreaksFirst 3 lists.now)) }
 {
     let map = plane_block(alloc, lists, 3)?;
     let figure = block_bars(alloc, &map)?;

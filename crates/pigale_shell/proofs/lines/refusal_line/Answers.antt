@@ -1,6 +1,7 @@
-use Rattle.std.proofs.Common.{rules, append_assoc, refl}
-use Rattle.pigale_shell.proofs.RefusalLines.{WritesFault-from_parts}
+use Rattle.std.proofs.Common.{rules, append_assoc}
+use Rattle.pigale_shell.specs.Text.{refusal_line}
 use Rattle.pigale_shell.proofs.lines.refusal_line.Goals as goal
 
 pub returns : goal.returns
-returns c = WritesFault-from_parts _ _ _ _ (search (rules, append_assoc)) refl
+unfolding refusal_line
+returns c = search (rules, append_assoc)

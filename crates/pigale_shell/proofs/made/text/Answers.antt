@@ -17,5 +17,5 @@ block-requires-clause-few_lists c =
 pub block-requires-clause-served : goal.block-requires-clause-served
 block-requires-clause-served c =
     let made = c.stacked_is_completed.ensures c.args.size c.args.number c.requires.some in
-    let is = c.no_refusal_is_plane.ensures (stacked c.args.size c.args.number) in
+    let is = c.no_refusal_is_plane.ensures 3 (stacked c.args.size c.args.number) in
     rw c.in_ok-lists.ensures ((is (omega (arith, c.requires.some, made.1))).1 (made.0.simple, made.0.plane, made.0.some))

@@ -1,0 +1,22 @@
+-- The block of a record: what it is where the record is served, and the line that names the first condition that it breaks.
+use Rattle.std.specs.Prelude.{ℕ, ◌≡◌, ◌⊎◌, List, ◌++◌}
+use Rattle.refusals.specs.declared.refusal.Refusal.{Refusal}
+use Rattle.pigale_words.specs.declared.form.Form.{Form}
+use Rattle.pigale_shell.specs.Text.{refusal_line}
+use Rattle.pigale_shell.specs.Forms.{line_in}
+
+-- the text is a figure, as it is printed
+abbrev pub IsPrinted : (Figure : Type 0) → (Figure → Type 0) → (Figure → List ℕ) → List ℕ → Type 0
+IsPrinted Figure IsFigure print text = (figure : Figure) × IsFigure figure × (text ≡ print figure)
+
+-- the text refuses record k for a condition that it breaks
+abbrev pub IsRefused : (Refusal → Type 0) → Form → ℕ → List ℕ → Type 0
+IsRefused Breaks form k text = (refusal : Refusal) × Breaks refusal × (text ≡ line_in form (refusal_line k refusal))
+
+-- the record is served, and the text is such a one; or it breaks a condition, and the text says so
+abbrev pub IsJobBlock : Type 0 → (List ℕ → Type 0) → (Refusal → Type 0) → Form → ℕ → List ℕ → Type 0
+IsJobBlock Served IsText Breaks form k text = (Served × IsText text) ⊎ IsRefused Breaks form k text
+
+-- the bytes have grown by such a text
+abbrev pub Appends : (List ℕ → Type 0) → List ℕ → List ℕ → Type 0
+Appends IsText old new = (text : List ℕ) × IsText text × (new ≡ old ++ text)

@@ -1,0 +1,18 @@
+//! Why a record is refused: the conditions of all jobs, in one order, and how an answer names the first that the
+//! record breaks.
+#![tactic(auto)]
+
+ghost use Rattle.refusals.specs.Laws.{NoRefusalIsPlane};
+
+mod refusal;
+
+pub use refusal::{Refusal, Unserved};
+
+/// Lists of at least one vertex break none of the first six conditions exactly where they are a simple map of genus
+/// zero with as many vertices as are wanted.
+pub fn no_refusal_is_plane()
+    ensures { NoRefusalIsPlane }
+{
+    simple_maps::no_fault_is_simple();
+    map_theory::euler_bound::euler_bound();
+}
