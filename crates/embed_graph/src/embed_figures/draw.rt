@@ -10,6 +10,7 @@ use grid_figures::schnyder_figures::schnyder_figure;
 use kuratowski::Witness;
 use map_lists::Rotations;
 use pg_plane::GridFigure;
+use refusals::Unserved;
 use std::alloc::{AllocError, Global};
 
 /// What a graph is answered by.
@@ -27,11 +28,13 @@ fn drawn(alloc: Global, graph: &Graph, lists: Rotations) -> Result<EmbedFigure, 
     requires map { IsMapOf lists graph.now }
     ensures { IfOk result (IsEmbedFigure graph.now) }
 {
+    refusals::no_refusal_is_plane();
     let _n = graph.n();
     match schnyder_figure(alloc, &lists) {
         Ok(figure) => Ok(EmbedFigure::Drawn(lists, figure)),
+        Err(Unserved::NoMemory) => Err(AllocError),
         // such a map breaks no condition
-        Err(_) => Err(AllocError),
+        Err(Unserved::Refused(_)) => unreachable!(),
     }
 }
 
