@@ -28,7 +28,7 @@ use Rattle.convex_laws.proofs.ConvexDrawingsTurned.{touched_run_draws}
 use Rattle.convex_check.specs.Convex.{IsConvex}
 use Rattle.convex_laws.specs.declared.convex_rows.rows.ConvexRows.{ConvexRows}
 use Rattle.convex_draw.specs.Points.{IsListedRun, ArePointsOf}
-use Rattle.convex_draw.proofs.Listed.{faces_made-well_turned}
+use Rattle.convex_laws.proofs.ConvexWoodsTurned.{faces_made-well_turned}
 use Rattle.convex_draw.proofs.ByRows.{IsRunByRows}
 use Rattle.convex_draw.specs.Grids.{IsConvexGrid}
 use Rattle.convex_laws.proofs.OuterFace.{outer-SameFace, SameFace-outer, before_base}

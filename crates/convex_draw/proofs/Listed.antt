@@ -1,11 +1,12 @@
 -- A listed run with its turns read off.
-use Rattle.std.proofs.Common.{◌≡◌, ℕ, zero, suc, ◌+◌, ◌-◌, ◌<◌, List, length, pos, subst, refl, sym, ap, ap₂, ◌∙◌, arith}
-use Rattle.convex_counts.specs.Runs.{Step, faces_made}
+use Rattle.std.proofs.Common.{◌≡◌, ℕ, suc, ◌+◌, ◌-◌, ◌<◌, List, length, pos, subst, refl, sym, ap, ap₂, ◌∙◌, arith}
+use Rattle.convex_counts.specs.Runs.{Step}
 use Rattle.convex_counts.specs.Counts.{face_counts}
 use Rattle.convex_counts.specs.FacePointsLaws.{IsWholeRun}
 use Rattle.convex_counts.specs.Turns.{well_turned, turn_from}
 use Rattle.convex_counts.proofs.Turns.{stage_is, contours_as_before}
 use Rattle.convex_laws.specs.declared.convex_rows.rows.ConvexRows.{ConvexRows}
+use Rattle.convex_laws.proofs.ConvexWoodsTurned.{faces_made-well_turned}
 use Rattle.convex_draw.specs.Runs.{IsCountRun}
 use Rattle.pg_plane.specs.declared.point.Point.{Point}
 use Rattle.convex_counts.proofs.Steps.{IsFalling-run}
@@ -13,10 +14,6 @@ use Rattle.convex_draw.specs.declared.convex_points.spots.Spot.{Spot}
 use Rattle.convex_draw.specs.Spots.{spot_of}
 use Rattle.convex_draw.specs.Points.{IsListedRun, ArePlaced, ArePointsOf}
 use Rattle.convex_draw.proofs.Onto.{onto}
-
-pub faces_made-well_turned : (steps : ℕ → Step) (n : ℕ) → faces_made (well_turned steps) n ≡ faces_made steps n
-faces_made-well_turned steps zero = refl
-faces_made-well_turned steps (suc n) = ap (λ m. m + (steps n).faces) (faces_made-well_turned steps n)
 
 pub IsCountRun-listed :
     (steps : ℕ → Step) (at : ℕ → ℕ) (rows : ConvexRows) (d s count faces : ℕ) → IsListedRun steps at rows d s count faces → IsWholeRun (well_turned steps) (length rows.rows) → faces < 1048576 → count < 65536 → IsCountRun (well_turned steps) at rows count

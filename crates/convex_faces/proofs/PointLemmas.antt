@@ -8,7 +8,7 @@ use Rattle.plane_drawings.specs.Drawing.{place}
 use Rattle.convex_counts.specs.Counts.{face_counts}
 use Rattle.convex_counts.specs.Turns.{well_turned}
 use Rattle.convex_draw.specs.Points.{ArePointsOf}
-use Rattle.convex_draw.proofs.Listed.{faces_made-well_turned}
+use Rattle.convex_laws.proofs.ConvexWoodsTurned.{faces_made-well_turned}
 use Rattle.convex_laws.specs.declared.convex_rows.rows.ConvexRows.{ConvexRows}
 use Rattle.convex_draw.proofs.ByRows.{IsRunByRows}
 use Rattle.convex_draw.proofs.GridLemmas.{side_small, IsConvexGrid-drawn}

@@ -14,6 +14,7 @@ use Rattle.convex_counts.proofs.Stages.{IsStage-run, IsRun-less, count-le}
 use Rattle.convex_counts.proofs.Faces.{one_place, cases_along, face_made_once, none_along_later}
 use Rattle.convex_laws.specs.ConvexDrawings.{IsRunMap}
 use Rattle.convex_counts.specs.Rising.{IsRunEdge, along, back, over, IsDart}
+use Rattle.convex_laws.proofs.FaceNumbers.{made-less}
 
 module _ (steps : ℕ → Step) (n : ℕ) (run : IsRun steps n) where
   abbrev at_stage : ℕ → Stage
@@ -63,9 +64,6 @@ module _ (lists : Lists) (s d : ℕ) (steps : ℕ → Step) (n : ℕ) (rank : �
   small : (k r : ℕ) → k ≤ n → r < (st k).count → r < length lists
   small k r l m = let c = count-le steps k n l in omega arith
 
-  made_less : (k i : ℕ) → k < n → i < (steps k).faces → faces_made steps k + i < faces_made steps n
-  made_less k i l m = let up = upward (λ z. faces_made steps (suc k) ≤ faces_made steps z) (suc k) n l (omega arith) (λ z a b c. omega arith) in omega arith
-
   -- a number is that of one face
   number_once : (k i l j : ℕ) → i < (steps k).faces → j < (steps l).faces → faces_made steps k + i ≡ faces_made steps l + j → (k ≡ l) × (i ≡ j)
   number_once k i l j a b e = elim (cases_order k l) [
@@ -87,7 +85,7 @@ module _ (lists : Lists) (s d : ℕ) (steps : ℕ → Step) (n : ℕ) (rank : �
 
   pub on_number : (k i x y : ℕ) → k < n → i < (steps k).faces → HasDart lists x y → face x y ≡ faces_made steps k + i → IsDartOf (st k) (steps k) i (rank x) (rank y)
   on_number k i x y l li has e =
-      let less = made_less k i l li in
+      let less = made-less steps n k i l li in
       elim (map.on_face x y has) [
         | inl m ↦ let z = number_once m.step m.place k i m.dart.within li (sym m.number ∙ e) in IsDartOf-at m.step k m.place i (rank x) (rank y) z.0 z.1 m.dart
         | inr (inl out) ↦ let q = out.number in absurd (omega arith)

@@ -8,9 +8,10 @@ use Rattle.convex_counts.proofs.Turns.{contours_as_before}
 use Rattle.convex_laws.specs.FaceDrawings.{IsRunDart}
 use Rattle.convex_laws.specs.ConvexDrawings.{IsRunMap}
 
-pub faces_as_before : (s : ℕ → Step) (n : ℕ) → faces_made (well_turned s) n ≡ faces_made s n
-faces_as_before s zero = refl
-faces_as_before s (suc n) = ap (λ m. m + (s n).faces) (faces_as_before s n)
+-- turns read off make no face more
+pub faces_made-well_turned : (s : ℕ → Step) (n : ℕ) → faces_made (well_turned s) n ≡ faces_made s n
+faces_made-well_turned s zero = refl
+faces_made-well_turned s (suc n) = ap (λ m. m + (s n).faces) (faces_made-well_turned s n)
 
 module _ (s : ℕ → Step) (n : ℕ) (x y face : ℕ) where
   abbrev ws : ℕ → Step
@@ -33,12 +34,12 @@ module _ (s : ℕ → Step) (n : ℕ) (x y face : ℕ) where
       }
 
   run_dart_as_before : IsRunDart s n x y face → IsRunDart ws n x y face
-  run_dart_as_before (inl d) = inl record { step = d.step; place = d.place; earlier = d.earlier; dart = dart_as_before d.step d.place d.dart; number = d.number ∙ ap (λ m. m + d.place) (sym (faces_as_before s d.step)) }
+  run_dart_as_before (inl d) = inl record { step = d.step; place = d.place; earlier = d.earlier; dart = dart_as_before d.step d.place d.dart; number = d.number ∙ ap (λ m. m + d.place) (sym (faces_made-well_turned s d.step)) }
   run_dart_as_before (inr (inl d)) =
       let w = d.along.within in
       let width = (contours_as_before s n).0 in
-      inr (inl record { place = d.place; along = record { within = omega arith; tail = vertex_at n d.place ∙ d.along.tail; head = vertex_at n (suc d.place) ∙ d.along.head }; number = d.number ∙ sym (faces_as_before s n) })
-  run_dart_as_before (inr (inr d)) = inr (inr record { tail = d.tail; head = d.head; number = d.number ∙ sym (faces_as_before s n) })
+      inr (inl record { place = d.place; along = record { within = omega arith; tail = vertex_at n d.place ∙ d.along.tail; head = vertex_at n (suc d.place) ∙ d.along.head }; number = d.number ∙ sym (faces_made-well_turned s n) })
+  run_dart_as_before (inr (inr d)) = inr (inr record { tail = d.tail; head = d.head; number = d.number ∙ sym (faces_made-well_turned s n) })
 
 pub map_as_before : (lists : Lists) (base : Dart) (s : ℕ → Step) (n : ℕ) (rank : ℕ → ℕ) (face : ℕ → ℕ → ℕ) → IsRunMap lists base s n rank face → IsRunMap lists base (well_turned s) n rank face
 map_as_before lists base s n rank face m = record {
@@ -51,5 +52,5 @@ map_as_before lists base s n rank face m = record {
   faces = m.faces;
   first = m.first;
   second = m.second;
-  outer = m.outer ∙ sym (faces_as_before s n);
+  outer = m.outer ∙ sym (faces_made-well_turned s n);
 }

@@ -1,20 +1,15 @@
 -- The drawing by the counts of the run of a map.
-use Rattle.std.proofs.Common.{◌≡◌, ℕ, zero, suc, ◌+◌, ◌<◌, List, length, map, get_or, pos, refl, ap, ◌∙◌, arith}
+use Rattle.std.proofs.Common.{◌≡◌, ℕ, ◌+◌, ◌<◌, List, length, map, get_or, pos, ap, ◌∙◌, arith}
 use Rattle.std.specs.List.{range_with_len}
 use Rattle.std.proofs.lemmas.List.FromFn.{length-map-range_with_len, get_or-map-range_with_len}
 use Rattle.pg_plane.specs.declared.point.Point.{Point}
 use Rattle.contour_runs.specs.Wood.{point_of}
-use Rattle.convex_counts.specs.Runs.{Step, faces_made}
 use Rattle.convex_counts.specs.Counts.{face_counts}
 use Rattle.convex_counts.specs.Turns.{well_turned}
 use Rattle.convex_laws.proofs.ConvexDrawingsTurned.{touched_run_draws}
 use Rattle.convex_laws.specs.ConvexMaps.{SomeConvexDrawing}
 use Rattle.convex_laws.proofs.ConvexRunsWhole.{run_of_map_law}
-
--- turns read off make no face more
-faces_made-well_turned : (steps : ℕ → Step) (n : ℕ) → faces_made (well_turned steps) n ≡ faces_made steps n
-faces_made-well_turned steps zero = refl
-faces_made-well_turned steps (suc n) = ap (λ m. m + (steps n).faces) (faces_made-well_turned steps n)
+use Rattle.convex_laws.proofs.ConvexWoodsTurned.{faces_made-well_turned}
 
 -- THE LAW: a convex drawing
 pub some_convex_drawing_law : SomeConvexDrawing

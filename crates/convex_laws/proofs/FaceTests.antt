@@ -7,6 +7,7 @@ use Rattle.contour_runs.specs.Runs.{Stage}
 use Rattle.contour_runs.proofs.Stages.{upward}
 use Rattle.convex_counts.specs.Runs.{Step, stage_after, faces_made}
 use Rattle.convex_counts.proofs.Stages.{count-le}
+use Rattle.convex_laws.proofs.FaceNumbers.{made-le}
 use Rattle.convex_counts.specs.Counts.{turned, face_counts}
 use Rattle.convex_counts.proofs.Gains.{turned-before, turned-from, one_after-older, two_after-older, one_after-new, two_after-new}
 use Rattle.convex_laws.proofs.Covers.{count_below-add}
@@ -23,9 +24,6 @@ counted end hits steps (suc n) f v =
 abbrev pub AreLater : (Step → ℕ) → (ℕ → Step) → ℕ → ℕ → (ℕ → Bool) → Type 0
 AreLater end steps n k T =
     (m v : ℕ) → k ≤ m → m < n → (stage_after steps m).count ≤ v → v < (stage_after steps m).count + (steps m).vertices → T v ≡ T ((stage_after steps m).vertex (end (steps m)))
-
-pub made-le : (steps : ℕ → Step) (k n : ℕ) → k ≤ n → faces_made steps k ≤ faces_made steps n
-made-le steps k n l = upward (λ z. faces_made steps k ≤ faces_made steps z) k n l (omega arith) (λ z a b c. omega arith)
 
 module _ (end : Step → ℕ) (hits : Step → ℕ → ℕ → Bool) (steps : ℕ → Step) where
   abbrev st : ℕ → Stage

@@ -19,6 +19,7 @@ pub mod ConvexRunsWhole
 pub mod Drawn
 -- The lemmas on convex woods.
 pub mod ConvexWoodsTurned
+pub mod FaceNumbers
 pub mod AllDarts
 pub mod Outs
 pub mod Orders

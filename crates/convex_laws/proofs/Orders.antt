@@ -6,7 +6,6 @@ use Rattle.map_theory.specs.Maps.{HasDart, follows}
 use Rattle.map_theory.proofs.DartLemmas.{HasDart-follows}
 use Rattle.contour_runs.specs.Runs.{Stage}
 use Rattle.contour_runs.specs.Laws.{IsStage}
-use Rattle.contour_runs.proofs.Stages.{upward}
 use Rattle.contour_runs.specs.Wood.{Coordinates}
 use Rattle.convex_counts.specs.Runs.{Step, stage_after, faces_made, IsRun}
 use Rattle.convex_counts.specs.FaceRunsLaws.{GoesAlong}
@@ -22,6 +21,7 @@ use Rattle.convex_laws.specs.ConvexWoods.{AreRoots, IsBeforeOuter, IsOrdered}
 use Rattle.convex_laws.specs.ConvexWoodsLaws.{AreRisingOut}
 use Rattle.convex_laws.proofs.AllDarts.{on_number}
 use Rattle.convex_laws.proofs.Outs.{IsWoodRun, head_in, rank_one, rank_two, rank_three, entry_out}
+use Rattle.convex_laws.proofs.FaceNumbers.{made-less}
 
 module _ (lists : Lists) (s d : ℕ) (steps : ℕ → Step) (n : ℕ) (rank : ℕ → ℕ) (face : ℕ → ℕ → ℕ) (at : ℕ → ℕ) (h : IsWoodRun lists s d steps n rank face at) (root : Axis → ℕ) (roots : AreRoots lists (s, d) root) (out_of : Axis → ℕ → ℕ) (are : AreRisingOut lists (face_counts steps n) rank root out_of) where
   abbrev counts : Coordinates
@@ -48,9 +48,6 @@ module _ (lists : Lists) (s d : ℕ) (steps : ℕ → Step) (n : ℕ) (rank : �
   one_place : (p q : ℕ) → p < g.width → q < g.width → g.vertex p ≡ g.vertex q → p ≡ q
   one_place p q a b e = sym (stage.own p a) ∙ ap g.place e ∙ stage.own q b
 
-  made_less : (k i : ℕ) → k < n → i < (steps k).faces → faces_made steps k + i < outer
-  made_less k i l m = let up = upward (λ z. faces_made steps (suc k) ≤ faces_made steps z) (suc k) n l (omega arith) (λ z a b c. omega arith) in omega arith
-
   many : 3 ≤ g.count
   many = let some = h.some in let v = (run 0 some).some_vertex in let c = count-le steps 1 n some in omega arith
 
@@ -64,7 +61,7 @@ module _ (lists : Lists) (s d : ℕ) (steps : ℕ → Step) (n : ℕ) (rank : �
 
   cases_outer : (x y : ℕ) → HasDart lists x y → face x y ≡ outer → Goes x y ⊎ ((rank x ≡ 1) × (rank y ≡ 0))
   cases_outer x y has e = elim (h.map.on_face x y has) [
-    | inl made ↦ let b = made.dart.within in let l = made_less made.step made.place made.earlier b in let q = made.number in absurd (omega arith)
+    | inl made ↦ let b = made.dart.within in let l = made-less steps n made.step made.place made.earlier b in let q = made.number in absurd (omega arith)
     | inr (inl o) ↦ inl record { place = o.place; along = o.along }
     | inr (inr b) ↦ inr (b.tail, b.head)
   ]
@@ -164,7 +161,7 @@ module _ (lists : Lists) (s d : ℕ) (steps : ℕ → Step) (n : ℕ) (rank : �
     ordered_made k i l li e =
         let on = on_number lists s d steps n rank face at run h.map h.all h.below h.one h.named in
         let meet = corners_meet_at steps n h.whole k i (rank u) (rank v) (rank w) l (on k i u v l li back e) (on k i v w l li after (same_face ∙ e)) in
-        let less = made_less k i l li in
+        let less = made-less steps n k i l li in
         ordered v u meet.0 meet.0 has meet.1 meet.2 (λ c ev b. let z = before_is_outer c v u back ev b in absurd (omega arith), λ z. refl)
 
     -- at root one, behind the base

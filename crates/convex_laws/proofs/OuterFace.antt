@@ -1,17 +1,17 @@
 -- The outer face of a run's map goes along the last contour, and is that of the base.
-use Rattle.std.proofs.Common.{◌≡◌, ◌⊎◌, ℕ, zero, suc, ◌+◌, ◌-◌, ◌<◌, ◌≤◌, length, refl, sym, ap, ◌∙◌, subst, inl, inr, arith}
+use Rattle.std.proofs.Common.{◌≡◌, ◌⊎◌, ℕ, zero, suc, ◌-◌, ◌<◌, length, refl, sym, ap, ◌∙◌, subst, inl, inr, arith}
 use Rattle.map_lists.specs.Lists.{Lists}
 use Rattle.map_theory.specs.Maps.{HasDart, IsSimpleMap, follows}
 use Rattle.map_theory.specs.Paths.{SameFace}
 use Rattle.map_theory.proofs.DartLemmas.{HasDart-face_step}
 use Rattle.contour_runs.specs.Runs.{Stage}
 use Rattle.contour_runs.specs.Laws.{IsStage}
-use Rattle.contour_runs.proofs.Stages.{upward}
 use Rattle.convex_counts.specs.Runs.{Step, stage_after, faces_made, IsRun}
 use Rattle.convex_counts.proofs.Stages.{IsStage-run}
 use Rattle.convex_peeling.specs.Contours.{face_of}
 use Rattle.convex_peeling.proofs.Faces.{SameFace-labels, labels-SameFace, face_of-step, along_face}
 use Rattle.convex_laws.specs.ConvexDrawings.{IsRunMap}
+use Rattle.convex_laws.proofs.FaceNumbers.{made-less}
 
 module _ (lists : Lists) (s d : ℕ) (steps : ℕ → Step) (n : ℕ) (rank : ℕ → ℕ) (face : ℕ → ℕ → ℕ) (run : IsRun steps n) (map : IsRunMap lists (s, d) steps n rank face) where
   abbrev g : Stage
@@ -26,11 +26,6 @@ module _ (lists : Lists) (s d : ℕ) (steps : ℕ → Step) (n : ℕ) (rank : �
   stage : IsStage g
   stage = IsStage-run steps n run
 
-  made_less : (k i : ℕ) → k < n → i < (steps k).faces → faces_made steps k + i < outer
-  made_less k i l m =
-      let up = upward (λ z. faces_made steps (suc k) ≤ faces_made steps z) (suc k) n l (omega arith) (λ z a b c. omega arith) in
-      omega arith
-
   -- a dart of the outer face leaves a place of the contour for the next, or is the base
   pub record GoesOn (x y : ℕ) : Type 0 where
     pub place : ℕ
@@ -40,7 +35,7 @@ module _ (lists : Lists) (s d : ℕ) (steps : ℕ → Step) (n : ℕ) (rank : �
 
   cases_outer : (x y : ℕ) → HasDart lists x y → face x y ≡ outer → GoesOn x y ⊎ ((rank x ≡ 1) × (rank y ≡ 0))
   cases_outer x y has e = elim (map.on_face x y has) [
-    | inl made ↦ let b = made.dart.within in let l = made_less made.step made.place made.earlier b in let q = made.number in absurd (omega arith)
+    | inl made ↦ let b = made.dart.within in let l = made-less steps n made.step made.place made.earlier b in let q = made.number in absurd (omega arith)
     | inr (inl out) ↦ inl record { place = out.place; within = out.along.within; tail = out.along.tail; head = out.along.head }
     | inr (inr base) ↦ inr (base.tail, base.head)
   ]

@@ -1,7 +1,7 @@
 -- A wood that is read off a drawing by regions is that of the drawing.
-use Rattle.std.proofs.Common.{◌≡◌, ◌≢◌, ℕ, ◌-◌, ◌<◌, List, [], ◌∷◌, length, sym, ap, ◌∙◌, subst}
+use Rattle.std.proofs.Common.{◌≡◌, ℕ, ◌-◌, List, [], ◌∷◌, sym, ◌∙◌, subst}
 use Rattle.map_lists.specs.Lists.{Lists}
-use Rattle.map_theory.specs.Maps.{Dart, IsPlane, face_count}
+use Rattle.map_theory.specs.Maps.{Dart, face_count}
 use Rattle.pg_plane.specs.declared.point.Point.{Point}
 use Rattle.plane_drawings.specs.Drawing.{place}
 use Rattle.convex_counts.specs.declared.face_woods.axis.Axis.{Axis}
@@ -10,7 +10,7 @@ use Rattle.convex_counts.specs.Axes.{next, previous}
 use Rattle.convex_peeling.specs.Tight.{IsThreeConnected}
 use Rattle.convex_peeling.proofs.Faces.{before_once}
 use Rattle.convex_laws.specs.ConvexWoods.{IsOut, IsConvexWood}
-use Rattle.convex_laws.specs.Regions.{IsAxisWay, IsOuterWay, IsRegionWalk, IsFaceRegion}
+use Rattle.convex_laws.specs.Regions.{IsAxisWay, IsOuterWay, IsFaceRegion}
 use Rattle.convex_laws.specs.RegionDrawings.{IsCoordinate, IsRegionDrawing}
 use Rattle.convex_laws.specs.Signs.{IsRisingBy}
 use Rattle.convex_laws.specs.FaceRegionsLaws.{RisingWoodsDraw}

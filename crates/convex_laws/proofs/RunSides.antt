@@ -13,8 +13,9 @@ use Rattle.convex_counts.proofs.Leads.{new_once}
 use Rattle.convex_laws.specs.FaceDrawings.{IsRunDart, IsOuterDart}
 use Rattle.convex_laws.specs.Walks.{flipped}
 use Rattle.convex_laws.proofs.AllDarts.{base_outside}
+use Rattle.convex_laws.proofs.FaceNumbers.{made-less}
 use Rattle.convex_laws.proofs.Flips.{flipped_comm, flipped_false, flipped_self}
-use Rattle.convex_laws.proofs.FaceTests.{AreLater, test, test-outer, test-old, test-new, test-later, one_hits, two_hits, made-le}
+use Rattle.convex_laws.proofs.FaceTests.{AreLater, test, test-outer, test-old, test-new, test-later, one_hits, two_hits}
 use Rattle.convex_laws.proofs.EdgeTests.{sound, third_test, leb_same, ltb_not, ltb_pair, flipped_over, IsSide-one, IsSide-two, end_placed, agrees_low, agrees_high, agrees_new, told}
 use Rattle.convex_laws.proofs.WayTests.{AreWays, some_begun, IsBorn, born, one_start, two_start, one_old, two_old, one_new, two_new, ways_born, ways_base, ways_middle}
 use Rattle.convex_laws.proofs.ThirdWays.{AreThirdWays, ways_done, over_test, over_outside, over_done, middle_test, middle_outside, middle_done, last_test, ways_last}
@@ -386,9 +387,6 @@ module _ (steps : ℕ → Step) (n : ℕ) (whole : IsWholeRun steps n) (some : 0
     pub side_one : (v : ℕ) → v < (st n).count → flipped (ones f v) (ones g v) ≡ flipped (flipped (two v) (three v)) outer_one
     pub side_two : (v : ℕ) → v < (st n).count → flipped (twos f v) (twos g v) ≡ flipped (flipped (one v) (three v)) outer_two
 
-  less_all : (k i : ℕ) → k < n → i < (steps k).faces → faces_made steps k + i < all_faces
-  less_all k i l li = let m = made-le steps (suc k) n l in omega arith
-
   -- an edge that a step covers
   record Sided (x y f : ℕ) : Type 0 where
     pub face : ℕ
@@ -432,9 +430,9 @@ module _ (steps : ℕ → Step) (n : ℕ) (whole : IsWholeRun steps n) (some : 0
           (λ v l d. ap₂ flipped (agrees_new steps n run (λ s. s.first) (λ x j. ltb j x) IsSide-two m lm (twos g) h.one h.twos_later h.one_later j v h.agree_two (le-ltb j (steps m).first (omega arith)) l d) (test-new (λ s. s.first) two_hits steps n m i lm li v l d) ∙ flipped_false (h.one v)) in
           let done = over_done steps n whole some m j i lm li lo hi gone gone_back in
           let kind : (o : Bool) × IsBy x y f g false false o = elim h.below [
-            | inl d ↦ (false, inner (less_all m i lm li) (subst (λ z. z < all_faces) (sym d.number) (less_all d.step d.place d.earlier d.dart.within)) (λ p. gone n p lm (omega arith)) (λ p. gone_back n p lm (omega arith)) refl refl refl)
+            | inl d ↦ (false, inner (made-less steps n m i lm li) (subst (λ z. z < all_faces) (sym d.number) (made-less steps n d.step d.place d.earlier d.dart.within)) (λ p. gone n p lm (omega arith)) (λ p. gone_back n p lm (omega arith)) refl refl refl)
             | inr (inl d) ↦ absurd (gone_back n d.place lm (omega arith) d.along)
-            | inr (inr d) ↦ (true, base d.head d.tail (less_all m i lm li) d.number (λ p. gone n p lm (omega arith)) refl refl refl)
+            | inr (inr d) ↦ (true, base d.head d.tail (made-less steps n m i lm li) d.number (λ p. gone n p lm (omega arith)) refl refl refl)
           ] in
           record {
             face = g;
@@ -490,7 +488,7 @@ module _ (steps : ℕ → Step) (n : ℕ) (whole : IsWholeRun steps n) (some : 0
         outer_one = false;
         outer_two = false;
         outer_three = false;
-        by = inner (less_all m i lm lf) (less_all m (suc i) lm li) (λ p. gone n p lm (omega arith)) (λ p. gone_back n p lm (omega arith)) refl refl refl;
+        by = inner (made-less steps n m i lm lf) (made-less steps n m (suc i) lm li) (λ p. gone n p lm (omega arith)) (λ p. gone_back n p lm (omega arith)) refl refl refl;
         side_one = λ v l. told_one v l ∙ sym (flipped_false (third_test steps m c v));
         side_two = λ v l. told_two v l ∙ sym (flipped_false (third_test steps m c v));
       }
@@ -520,7 +518,7 @@ module _ (steps : ℕ → Step) (n : ℕ) (whole : IsWholeRun steps n) (some : 0
       let g = h.face in
       let t = leb whole.top j in
       let less : g < all_faces = elim h.below [
-        | inl d ↦ subst (λ z. z < all_faces) (sym d.number) (less_all d.step d.place d.earlier d.dart.within)
+        | inl d ↦ subst (λ z. z < all_faces) (sym d.number) (made-less steps n d.step d.place d.earlier d.dart.within)
         | inr (inl d) ↦ absurd (h.behind n d.place (omega arith) (omega arith) d.along)
         | inr (inr d) ↦ absurd (base_off j (subst (λ z. GoesAlong (st n) 0 z j) d.tail (subst (λ z. GoesAlong (st n) z y j) d.head along)))
       ] in

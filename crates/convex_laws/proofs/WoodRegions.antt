@@ -41,7 +41,7 @@ use Rattle.convex_laws.proofs.RegionWalks.{IsRegionWalk-closed}
 use Rattle.convex_laws.proofs.AllDarts.{rank_at, goes_all, numbered}
 use Rattle.convex_laws.proofs.Outs.{IsWoodRun, rises_out}
 use Rattle.convex_laws.proofs.Heights.{height}
-use Rattle.convex_laws.proofs.ConvexWoodsTurned.{faces_as_before}
+use Rattle.convex_laws.proofs.ConvexWoodsTurned.{faces_made-well_turned}
 use Rattle.convex_laws.proofs.ConvexWoodsWhole.{wood_at, IsWoodRun-named, some_out}
 use Rattle.convex_laws.proofs.FaceTests.{one_counted, two_counted, one_is_count, two_is_count}
 use Rattle.convex_laws.proofs.TestOrders.{tests_apart}
@@ -285,7 +285,7 @@ pub regions_draw : RegionsDraw
 regions_draw lists s d steps n rank face at root out points plane connected run roots are placed =
     let h = IsWoodRun-named lists s d steps n rank face at run in
     let turned = well_turned steps in
-    let made = faces_as_before steps n in
+    let made = faces_made-well_turned steps n in
     let faces = run.run.faces in
     let all : faces_made turned n + 1 ≡ face_count lists = omega arith in
     let fall = IsFalling-run turned n h.whole.turned.run in

@@ -2,7 +2,8 @@ use Rattle.std.proofs.Common.{◌∙◌, ℕ, length, arith}
 use Rattle.std.proofs.lemmas.Result.{IfOk-weaker}
 use Rattle.convex_counts.specs.Turns.{well_turned}
 use Rattle.convex_counts.proofs.Whole.{touched_turns}
-use Rattle.convex_draw.proofs.Listed.{faces_made-well_turned, IsCountRun-listed, small_counts, ArePointsOf-placed}
+use Rattle.convex_laws.proofs.ConvexWoodsTurned.{faces_made-well_turned}
+use Rattle.convex_draw.proofs.Listed.{IsCountRun-listed, small_counts, ArePointsOf-placed}
 use Rattle.convex_draw.proofs.convex_points.points.run_points.Goals as goal
 
 pub find_counts-requires : goal.find_counts-requires
