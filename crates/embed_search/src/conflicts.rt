@@ -1,18 +1,19 @@
-//! The second search: it puts returning darts into pairs of intervals, of which one is left and one right.
+//! The second search, the testing phase: it keeps a stack of conflict pairs, each of two intervals of return edges that
+//! lie on different sides.
 use crate::links::Links;
 use crate::row::{NONE, lesser, minus, plus};
 use crate::search::{Search, steps};
 
-// The returning darts from one to another, each relative to the next, or none.
+// The return edges from one to another, each relative to the next, or none.
 #[derive(Clone, Copy)]
 struct Interval {
     low: u32,
     high: u32,
 }
 
-// Two intervals on different sides.
+// A conflict pair: two intervals on different sides.
 #[derive(Clone, Copy)]
-struct Pair {
+struct ConflictPair {
     left: Interval,
     right: Interval,
 }
@@ -29,10 +30,10 @@ impl Interval {
     }
 }
 
-impl Pair {
+impl ConflictPair {
     #[inline(always)]
-    fn swapped(self) -> Pair {
-        Pair {
+    fn swapped(self) -> ConflictPair {
+        ConflictPair {
             left: self.right,
             right: self.left,
         }
@@ -40,10 +41,10 @@ impl Pair {
 }
 
 impl Search {
-    // The pair at a place of the stack.
+    // The conflict pair at a place of the stack.
     #[inline(always)]
-    fn pair(&self, place: u32) -> Pair {
-        Pair {
+    fn pair(&self, place: u32) -> ConflictPair {
+        ConflictPair {
             left: Interval {
                 low: self.left_low.get(place),
                 high: self.left_high.get(place),
@@ -56,7 +57,7 @@ impl Search {
     }
 
     #[inline(always)]
-    fn push_pair(&mut self, pair: Pair) {
+    fn push_pair(&mut self, pair: ConflictPair) {
         self.left_low.set(self.top, pair.left.low);
         self.left_high.set(self.top, pair.left.high);
         self.right_low.set(self.top, pair.right.low);
@@ -66,9 +67,9 @@ impl Search {
 
     // Takes the last pair; of no pairs, an empty one.
     #[inline(always)]
-    fn pop_pair(&mut self) -> Pair {
+    fn pop_pair(&mut self) -> ConflictPair {
         if self.top == 0 {
-            return Pair {
+            return ConflictPair {
                 left: EMPTY,
                 right: EMPTY,
             };
@@ -80,7 +81,7 @@ impl Search {
     // Whether an interval returns to above where a dart does.
     #[inline(always)]
     fn conflicts(&self, interval: Interval, low: u32) -> bool {
-        !interval.is_empty() && self.low.get(interval.high) > low
+        !interval.is_empty() && self.lowpt.get(interval.high) > low
     }
 
     // Whether the last pair has such an interval.
@@ -95,13 +96,16 @@ impl Search {
 
     // The least height that a pair returns to.
     #[inline(always)]
-    fn least_return(&self, pair: Pair) -> u32 {
+    fn least_return(&self, pair: ConflictPair) -> u32 {
         if pair.left.is_empty() {
-            self.low.get(pair.right.low)
+            self.lowpt.get(pair.right.low)
         } else if pair.right.is_empty() {
-            self.low.get(pair.left.low)
+            self.lowpt.get(pair.left.low)
         } else {
-            lesser(self.low.get(pair.left.low), self.low.get(pair.right.low))
+            lesser(
+                self.lowpt.get(pair.left.low),
+                self.lowpt.get(pair.right.low),
+            )
         }
     }
 
@@ -114,17 +118,17 @@ impl Search {
         if below.is_empty() {
             return above;
         }
-        self.relative.set(above.low, below.high);
+        self.reference.set(above.low, below.high);
         Interval {
             low: below.low,
             high: above.high,
         }
     }
 
-    // All that returns along a dart, on one side; or none where it needs both.
-    fn returns_of(&mut self, dart: u32, parent: u32) -> Option<Interval> {
+    // All return edges from a dart or from beyond it, on one side; or none where they need both.
+    fn return_edges_of(&mut self, dart: u32, parent: u32) -> Option<Interval> {
         let mut right = EMPTY;
-        let bottom = self.bottom.get(dart);
+        let bottom = self.stack_bottom.get(dart);
         for _ in 0..self.top {
             let popped = self.pop_pair();
             let pair = if popped.left.is_empty() {
@@ -135,10 +139,11 @@ impl Search {
             if !pair.left.is_empty() {
                 return None;
             }
-            if self.low.get(pair.right.low) > self.low.get(parent) {
+            if self.lowpt.get(pair.right.low) > self.lowpt.get(parent) {
                 right = self.joined(right, pair.right);
             } else {
-                self.relative.set(pair.right.low, self.lowest.get(parent));
+                self.reference
+                    .set(pair.right.low, self.lowpt_edge.get(parent));
             }
             if self.top <= bottom {
                 return Some(right);
@@ -149,8 +154,8 @@ impl Search {
 
     // A pair of those that return along a dart on the right, and those before it that conflict with them on
     // the left.
-    fn with_conflicts(&mut self, right: Interval, low: u32) -> Option<Pair> {
-        let mut pair = Pair { left: EMPTY, right };
+    fn with_conflicts(&mut self, right: Interval, low: u32) -> Option<ConflictPair> {
+        let mut pair = ConflictPair { left: EMPTY, right };
         for _ in 0..self.top {
             if !self.top_conflicts(low) {
                 return Some(pair);
@@ -164,7 +169,7 @@ impl Search {
             if self.conflicts(next.right, low) {
                 return None;
             }
-            pair = Pair {
+            pair = ConflictPair {
                 left: self.joined(pair.left, next.left),
                 right: self.joined(pair.right, next.right),
             };
@@ -175,8 +180,8 @@ impl Search {
     // Brings what returns along a dart together with what returned along earlier ones. It answers whether
     // that can be.
     fn constrain(&mut self, dart: u32, parent: u32) -> bool {
-        let low = self.low.get(dart);
-        match self.returns_of(dart, parent) {
+        let low = self.lowpt.get(dart);
+        match self.return_edges_of(dart, parent) {
             Some(right) => match self.with_conflicts(right, low) {
                 Some(pair) => {
                     if !pair.left.is_empty() || !pair.right.is_empty() {
@@ -193,12 +198,12 @@ impl Search {
     // The same, where the dart is ended, which leaves a vertex. The first of its darts has no earlier ones.
     #[inline(always)]
     fn integrate(&mut self, dart: u32, vertex: u32) -> bool {
-        if self.low.get(dart) >= self.height.get(vertex) {
+        if self.lowpt.get(dart) >= self.height.get(vertex) {
             return true;
         }
         let parent = self.parent.get(vertex);
         if self.leaving.get(vertex) == dart {
-            self.lowest.set(parent, self.lowest.get(dart));
+            self.lowpt_edge.set(parent, self.lowpt_edge.get(dart));
             return true;
         }
         let fits = self.constrain(dart, parent);
@@ -220,10 +225,10 @@ impl Search {
             if high == NONE || links.head.get(high) != vertex {
                 break;
             }
-            high = self.relative.get(high);
+            high = self.reference.get(high);
         }
         if high == NONE {
-            self.relative.set(interval.low, other);
+            self.reference.set(interval.low, other);
             self.side.set(interval.low, 1);
             return EMPTY;
         }
@@ -248,7 +253,7 @@ impl Search {
 
     // Drops all that returns to a vertex.
     #[inline(always)]
-    fn drop_returns(&mut self, links: &Links, vertex: u32) {
+    fn drop_return_edges(&mut self, links: &Links, vertex: u32) {
         let height = self.height.get(vertex);
         self.drop_pairs(height);
         if self.top == 0 {
@@ -257,35 +262,36 @@ impl Search {
         let pair = self.pop_pair();
         let left = self.trimmed(links, pair.left, pair.right.low, vertex);
         let right = self.trimmed(links, pair.right, left.low, vertex);
-        self.push_pair(Pair { left, right });
+        self.push_pair(ConflictPair { left, right });
     }
 
     // The side of a dart to a vertex is that of the highest dart that returns along it.
     #[inline(always)]
     fn follow_highest(&mut self, dart: u32, vertex: u32) {
-        if self.low.get(dart) >= self.height.get(vertex) || self.top == 0 {
+        if self.lowpt.get(dart) >= self.height.get(vertex) || self.top == 0 {
             return;
         }
         let pair = self.pair(minus(self.top, 1));
         let left = pair.left.high;
         let right = pair.right.high;
-        let by_left = left != NONE && (right == NONE || self.low.get(left) > self.low.get(right));
-        self.relative.set(dart, if by_left { left } else { right });
+        let by_left = left != NONE
+            && (right == NONE || self.lowpt.get(left) > self.lowpt.get(right));
+        self.reference.set(dart, if by_left { left } else { right });
     }
 }
 
 // Looks at an oriented dart of a vertex. It answers the vertex to go on at, or none after a conflict.
 #[inline(always)]
 fn look(links: &Links, search: &mut Search, vertex: u32, dart: u32) -> Option<u32> {
-    search.bottom.set(dart, search.top);
+    search.stack_bottom.set(dart, search.top);
     search.note_look(dart);
     let head = links.head.get(dart);
     if search.parent.get(head) == dart {
         search.entry.set(head, search.looks);
         return Some(head);
     }
-    search.lowest.set(dart, dart);
-    search.push_pair(Pair {
+    search.lowpt_edge.set(dart, dart);
+    search.push_pair(ConflictPair {
         left: EMPTY,
         right: Interval {
             low: dart,
@@ -303,7 +309,7 @@ fn look(links: &Links, search: &mut Search, vertex: u32, dart: u32) -> Option<u3
 #[inline(always)]
 fn go_back(links: &Links, search: &mut Search, parent: u32) -> Option<u32> {
     let vertex = links.tail(parent);
-    search.drop_returns(links, vertex);
+    search.drop_return_edges(links, vertex);
     search.follow_highest(parent, vertex);
     if search.integrate(parent, vertex) {
         Some(vertex)

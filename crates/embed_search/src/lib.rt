@@ -1,5 +1,5 @@
-//! Fast answers for bare graphs: rotation lists by the left-right test, and Kuratowski witnesses by tests on
-//! parts.
+//! Fast answers for bare graphs: rotation lists by the left-right planarity test (de Fraysseix, Rosenstiehl; as in
+//! Brandes, The left-right planarity test, 2009), and Kuratowski subdivisions by tests on parts.
 //!
 //! Nothing is promised of an answer but that it comes: whoever calls checks it.
 #![tactic(auto)]

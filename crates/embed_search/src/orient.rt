@@ -1,4 +1,4 @@
-//! The first search: it orients edges, and finds where they return to.
+//! The first search, the orientation phase: it orients edges, and finds their lowpoints and nesting depths.
 use crate::links::Links;
 use crate::row::{NONE, lesser, plus, twice};
 use crate::search::{Search, steps};
@@ -6,36 +6,36 @@ use crate::search::{Search, steps};
 // What the dart to a vertex learns of a dart that leaves it. A root has no such dart, and nothing reads what is
 // written for it.
 #[inline(always)]
-fn tell_parent(search: &mut Search, vertex: u32, low: u32, low_next: u32) {
+fn tell_parent(search: &mut Search, vertex: u32, low: u32, lowpt2: u32) {
     let parent = search.parent.get(vertex);
-    let old = search.low.get(parent);
-    let old_next = search.low_next.get(parent);
+    let old = search.lowpt.get(parent);
+    let old2 = search.lowpt2.get(parent);
     if low < old {
-        search.low.set(parent, low);
-        search.low_next.set(parent, lesser(old, low_next));
+        search.lowpt.set(parent, low);
+        search.lowpt2.set(parent, lesser(old, lowpt2));
     } else if low > old {
-        search.low_next.set(parent, lesser(old_next, low));
+        search.lowpt2.set(parent, lesser(old2, low));
     } else {
-        search.low_next.set(parent, lesser(old_next, low_next));
+        search.lowpt2.set(parent, lesser(old2, lowpt2));
     }
 }
 
 // Ends an oriented dart of a vertex: all that returns along it is known.
 #[inline(always)]
 fn end_dart(search: &mut Search, vertex: u32, dart: u32) {
-    let low = search.low.get(dart);
-    let low_next = search.low_next.get(dart);
-    let chordal = if low_next < search.height.get(vertex) {
+    let low = search.lowpt.get(dart);
+    let lowpt2 = search.lowpt2.get(dart);
+    let chordal = if lowpt2 < search.height.get(vertex) {
         1
     } else {
         0
     };
     let nest = plus(twice(low), chordal);
-    search.nest.set(dart, nest);
-    search.relative.set(dart, NONE);
+    search.nesting_depth.set(dart, nest);
+    search.reference.set(dart, NONE);
     search.side.set(dart, 0);
     search.put_in_bucket(dart, nest);
-    tell_parent(search, vertex, low, low_next);
+    tell_parent(search, vertex, low, lowpt2);
 }
 
 // Looks at a dart of a vertex. It answers the vertex to go on at.
@@ -45,16 +45,16 @@ fn look(links: &Links, search: &mut Search, vertex: u32, dart: u32) -> u32 {
     let height = search.height.get(vertex);
     let reached = search.height.get(head);
     if reached == NONE {
-        search.low.set(dart, height);
-        search.low_next.set(dart, height);
+        search.lowpt.set(dart, height);
+        search.lowpt2.set(dart, height);
         search.parent.set(head, dart);
         search.height.set(head, plus(height, 1));
         search.cursor.set(head, links.first.get(head));
         return head;
     }
     if reached < height && search.parent.get(vertex) != dart ^ 1 {
-        search.low.set(dart, reached);
-        search.low_next.set(dart, height);
+        search.lowpt.set(dart, reached);
+        search.lowpt2.set(dart, height);
         end_dart(search, vertex, dart);
     }
     vertex
