@@ -13,5 +13,5 @@ mod top;
 mod verify;
 
 pub use answer::answer_record;
-pub use pigale_words::{Form, Job, Status, WordFault, count_words, words_to_job};
+pub use pigale_words::{Form, Job, Status, WordFault, count_words, job_words, words_to_job};
 pub use top::pigale;

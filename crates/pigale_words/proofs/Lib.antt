@@ -1,4 +1,4 @@
 -- Lemmas on words and numbers.
 mod SizeLemmas
 mod WordLemmas
-mod CountWords
+mod JobWords

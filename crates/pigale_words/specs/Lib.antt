@@ -3,3 +3,4 @@ pub mod Status
 pub mod Jobs
 pub mod Numbers
 pub mod Words
+pub mod Spelling

@@ -6,6 +6,7 @@ ghost use Rattle.clap.specs.Walk.{first_of, rows_of};
 ghost use Rattle.clap.specs.Simple.{app_of};
 ghost use Rattle.pigale_words.specs.Words.{command as the_command, given, given_in, has_option as gives_option, has_number as gives_number, form_of as form_by, form_given as form_from, drawing_named, number_given as number_by, gen_of, gen_given as gen_by, job_given as job_by};
 ghost use Rattle.pigale_words.specs.Words.{job_of, CountWords};
+ghost use Rattle.pigale_words.specs.Spelling.{JobWords};
 ghost use Rattle.pigale_words.specs.Status.{RefusesWords};
 ghost use Rattle.pigale_words.specs.Jobs.{HasSize};
 
@@ -231,4 +232,13 @@ pub fn words_to_job(alloc: Global, words: &[String]) -> Result<Job, WordFault>
 /// A law: the words of `count` are that word, alone or with `--` before or behind it, and no others.
 pub fn count_words()
     ensures { CountWords }
+{}
+
+/// A law: the words of each job are its word and its options, and no others.
+///
+/// The options stand before or behind the word, each as the two words `--name text` or as the one word `--name=text`. `--` may
+/// stand once; behind it is no option, and so nothing but the job's word where that has not come before. A job that draws
+/// has the form at most, and `gen` the size and the number, in either order.
+pub fn job_words()
+    ensures { JobWords }
 {}

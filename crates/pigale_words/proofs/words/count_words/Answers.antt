@@ -1,5 +1,5 @@
-use Rattle.pigale_words.proofs.CountWords.{IsCountWords-job_of, job_of-count}
+use Rattle.pigale_words.proofs.JobWords.{count_words-law}
 use Rattle.pigale_words.proofs.words.count_words.Goals as goal
 
 pub returns : goal.returns
-returns c = λ words. (IsCountWords-job_of words, job_of-count words)
+returns c = count_words-law
