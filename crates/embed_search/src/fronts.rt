@@ -2,13 +2,19 @@
 use crate::edges::Edges;
 use crate::forest::mark_forest;
 use crate::parts::{Parts, is_planar};
-use crate::row::{ByEdge, NONE, lesser, plus, twice};
+use crate::row::{ByEdge, NONE, lesser, minus, plus, twice};
 
 // How many edges more than a forest the first front has.
 const FIRST_STEP: u32 = 16;
 
 // From how many roots conflicts are looked for at most.
 const MOST_ROOTS: u32 = 12;
+
+// How many edges beside a forest are looked for at most.
+const MOST_FIXED: u32 = 24;
+
+// Fewer edges than these beside a forest are no longer looked through.
+const FEW_LOOSE: u32 = 24;
 
 // In how many parts paths are left out first.
 const FIRST_PARTS: u32 = 16;
@@ -28,6 +34,12 @@ pub struct Choice {
     paths: ByEdge,
     // how many of them there are
     path_count: u32,
+    // how many edges, the first ones of the list, stay in each test
+    fixed: u32,
+    // how many edges, the first ones of the list, have been seen to be planar
+    planar: u32,
+    // whether the edges are a subdivision of K5 or K3,3
+    is_least: bool,
 }
 
 impl Choice {
@@ -41,6 +53,9 @@ impl Choice {
             out: ByEdge::new(),
             paths: ByEdge::new(),
             path_count: 0,
+            fixed: 0,
+            planar: 0,
+            is_least: false,
         }
     }
 
@@ -93,8 +108,21 @@ impl Choice {
         self.mark_way(parts, search.failed);
     }
 
+    // How many of the first edges are marked.
+    fn marked_of(&self, front: u32) -> u32 {
+        let mut count = 0;
+        for i in 0..front {
+            count = plus(count, self.stays.get(self.list.get(i)));
+        }
+        count
+    }
+
     // Keeps of the first edges the marked ones.
     fn keep_marked(&mut self, front: u32) {
+        let fixed = self.marked_of(lesser(self.fixed, front));
+        let planar = self.marked_of(lesser(self.planar, front));
+        self.fixed = fixed;
+        self.planar = planar;
         self.count = 0;
         for i in 0..front {
             let edge = self.list.get(i);
@@ -104,10 +132,43 @@ impl Choice {
         }
     }
 
+    // Fixes those edges of the forest of the last test that are left, and puts them before the others.
+    fn fix_forest(&mut self, parts: &Parts) {
+        if parts.search.failed == NONE {
+            return;
+        }
+        self.stays.fill(0);
+        for vertex in 0..parts.links.vertices {
+            let dart = parts.search.parent.get(vertex);
+            if parts.links.degree.get(vertex) > 0 && dart != NONE {
+                self.mark_ring(parts, dart >> 1);
+            }
+        }
+        self.fixed = 0;
+        for i in 0..self.count {
+            let edge = self.list.get(i);
+            if self.stays.get(edge) == 1 {
+                self.list.set(i, self.list.get(self.fixed));
+                self.list.set(self.fixed, edge);
+                self.fixed = plus(self.fixed, 1);
+            }
+        }
+    }
+
+    // Makes the last edge a fixed one.
+    fn fix_last(&mut self) {
+        let last = minus(self.count, 1);
+        let edge = self.list.get(last);
+        self.list.set(last, self.list.get(self.fixed));
+        self.list.set(self.fixed, edge);
+        self.fixed = plus(self.fixed, 1);
+    }
+
     // Keeps of the first edges those among which the last test met its conflict, or else what it left.
     fn keep_nonplanar(&mut self, parts: &Parts, front: u32) {
         self.stays.fill(0);
-        if parts.search.failed == NONE {
+        self.is_least = parts.is_least;
+        if self.is_least || parts.search.failed == NONE {
             self.mark_left(parts, front);
         } else {
             self.mark_conflict(parts);
@@ -212,6 +273,50 @@ fn narrow(edges: &Edges, parts: &mut Parts, choice: &mut Choice) {
     }
 }
 
+// Finds the shortest front that is nonplanar.
+fn shorten(edges: &Edges, parts: &mut Parts, choice: &mut Choice) {
+    choice.planar = choice.fixed;
+    for _ in 0..16u32 {
+        if choice.is_least || plus(choice.planar, 1) >= choice.count {
+            return;
+        }
+        let middle = plus(choice.planar, choice.count) / 2;
+        if try_front(edges, parts, choice, middle) {
+            choice.planar = middle;
+        }
+    }
+}
+
+// Finds edges that are needed beside those of a forest, the last of the list first, while that makes the list shorter.
+fn fix(edges: &Edges, parts: &mut Parts, choice: &mut Choice) {
+    for _ in 0..MOST_FIXED {
+        let count = choice.count;
+        let fixed = choice.fixed;
+        if choice.is_least || plus(fixed, FEW_LOOSE) > count {
+            return;
+        }
+        if !try_front(edges, parts, choice, fixed) {
+            return;
+        }
+        shorten(edges, parts, choice);
+        choice.fix_last();
+        if plus(choice.count, choice.count / 16) > count {
+            return;
+        }
+    }
+}
+
+// Fixes the edges of the forest that the next test goes along, and finds what is needed beside it.
+fn fix_beside(edges: &Edges, parts: &mut Parts, choice: &mut Choice) {
+    choice.fixed = 0;
+    let count = choice.count;
+    if choice.is_least || try_front(edges, parts, choice, count) {
+        return;
+    }
+    choice.fix_forest(parts);
+    fix(edges, parts, choice);
+}
+
 // Leaves out some paths, if the others are nonplanar.
 fn try_without(edges: &Edges, parts: &mut Parts, choice: &mut Choice, from: u32, end: u32) {
     choice.set_out(from, end, 1);
@@ -228,6 +333,9 @@ fn leave_out_by(edges: &Edges, parts: &mut Parts, choice: &mut Choice, size: u32
             return;
         }
         let end = lesser(plus(from, size), choice.path_count);
+        if choice.is_least {
+            return;
+        }
         if choice.has_some(from, end) {
             try_without(edges, parts, choice, from, end);
         }
@@ -246,7 +354,7 @@ fn leave_out(edges: &Edges, parts: &mut Parts, choice: &mut Choice) {
     let mut size = NONE;
     for _ in 0..16u32 {
         let front = choice.count;
-        if try_front(edges, parts, choice, front) {
+        if choice.is_least || try_front(edges, parts, choice, front) {
             return;
         }
         choice.note_paths(parts);
@@ -263,5 +371,6 @@ pub fn choose(edges: &Edges, parts: &mut Parts, choice: &mut Choice) {
     let forest = choice.set_all(edges, parts);
     lengthen(edges, parts, choice, forest);
     narrow(edges, parts, choice);
+    fix_beside(edges, parts, choice);
     leave_out(edges, parts, choice);
 }

@@ -23,6 +23,8 @@ pub struct Parts {
     pub work: ByDart,
     /// How many vertices are on it.
     pub waiting: u32,
+    /// Whether the last test left as many vertices and edges as K5 or K3,3 has: if it is nonplanar, it is one of them.
+    pub is_least: bool,
 }
 
 impl Parts {
@@ -36,6 +38,7 @@ impl Parts {
             ring: ByEdge::new(),
             work: ByDart::new(),
             waiting: 0,
+            is_least: false,
         }
     }
 
@@ -81,6 +84,7 @@ pub fn is_planar(parts: &mut Parts) -> bool {
     reduce(parts);
     parts.search.failed = NONE;
     let (vertices, darts) = sizes(&parts.links);
+    parts.is_least = darts == 18 || (darts == 20 && vertices == 5);
     if darts < 18 {
         return true;
     }

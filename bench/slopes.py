@@ -1,0 +1,138 @@
+#!/usr/bin/env python3
+"""Whether any job has a slow input: instructions a vertex by size, over families of maps, figures and graphs.
+
+  slopes.py             all families at 60, 255, 1,000 and 4,095 vertices; `!` where a size costs more than 1.3 times the
+                        least of the smaller ones
+  slopes.py NAME ..     those families alone
+  slopes.py --limits    the inputs that have been slow, each beside the most that it should take
+
+Counted by valgrind, with the start of the program taken off; glibc's copying by `rep` is turned off, since valgrind
+counts it by bytes. Not part of the gate.
+"""
+import os
+import re
+import subprocess
+import sys
+import time
+
+import count
+import families
+import pigale
+
+SIZES = (60, 255, 1000, 4095)
+os.environ["GLIBC_TUNABLES"] = "glibc.cpu.x86_rep_stosb_threshold=2000000000:glibc.cpu.x86_rep_movsb_threshold=2000000000"
+
+
+def put(data):
+    os.makedirs(count.OUT, exist_ok=True)
+    path = os.path.join(count.OUT, "slopes.in")
+    with open(path, "wb") as out:
+        out.write(data)
+    return path
+
+
+def start():
+    return count.instructions([count.PROGRAM, "count"], put(b""))
+
+
+def cost(job, data):
+    return count.instructions([count.PROGRAM, job], put(data)) - START
+
+
+def answer(job, data):
+    return subprocess.run([count.PROGRAM, job], input=data, stdout=subprocess.PIPE, check=False).stdout
+
+
+def records(make, size):
+    """Some 4,000 vertices of the family in maps of this size, and how many vertices that is."""
+    lists = make(size)
+    times = max(1, 4000 // len(lists))
+    return count.record(lists) * times, len(lists) * times
+
+
+def late_crossing(figure):
+    """A straight-line figure with the places of its last two vertices exchanged."""
+    lines = figure.decode().split("\n")
+    at = [i for i, line in enumerate(lines) if re.match(r"\d+ at ", line)][-2:]
+    places = [re.search(r" at (\S+ \S+):", lines[i]).group(1) for i in at]
+    for i, place in zip(at, reversed(places)):
+        lines[i] = re.sub(r" at \S+ \S+:", f" at {place}:", lines[i])
+    return "\n".join(lines).encode()
+
+
+def row(name, job, costs):
+    least, said = None, []
+    for value in costs:
+        said.append(f"{value:.0f}{'!' if least and value > 1.3 * least else ''}")
+        least = value if least is None else min(least, value)
+    print(f"| {name} | {job} | {' | '.join(said)} |", flush=True)
+
+
+def slopes(names):
+    print("| Family | Job | " + " | ".join(f"{n:,}" for n in SIZES) + " |\n|---|---|" + "---|" * len(SIZES))
+    for name, (make, jobs) in families.MAPS.items():
+        if names and name not in names:
+            continue
+        inputs = [records(make, size) for size in SIZES]
+        for job in jobs:
+            row(name, job, [cost(job, data) / vertices for data, vertices in inputs])
+            if job == "count":
+                continue
+            figures = [(answer(job, data), vertices) for data, vertices in inputs]
+            if b"figure" in figures[0][0]:
+                row(name, f"verify of {job}", [cost("verify", text) / vertices for text, vertices in figures])
+                if job in ("shift", "convex"):
+                    row(name, f"verify of {job}, one late crossing", [cost("verify", late_crossing(text)) / n for text, n in figures])
+
+
+def hostile(strip, side):
+    """One figure: a strip without crossing, and behind it a drawn complete bipartite graph with great numbers."""
+    n = strip + 2 * side
+    lists = [[u for u in (v - 1, v + 1) if 1 <= u <= strip] for v in range(1, strip + 1)]
+    left, right = range(strip + 1, strip + side + 1), range(strip + side + 1, n + 1)
+    lists += [list(right)] * side + [list(left)] * side
+    places = [(v, 0) for v in range(strip)] + [(v, 10) for v in range(side)] + [(v, 20) for v in range(side)]
+    lines = [f"{v} at {x} {y}: {' '.join(map(str, us))}" for v, ((x, y), us) in enumerate(zip(places, lists), 1)]
+    return (f"figure 1 shift {n}\n" + "\n".join(lines) + "\n").encode()
+
+
+def limits():
+    """(what, million instructions, the most that it should take)"""
+    one = lambda make: count.record(make(4095))
+    yield "verify: bars of 4,095 vertices", cost("verify", answer("bars", one(families.stacked))), 40
+    yield "verify: a column of 4,095 rectangles", cost("verify", answer("rect", one(families.column))), 40
+    drawn = answer("shift", one(families.stacked))
+    yield "verify: a drawing of 4,095 vertices with one late crossing", cost("verify", late_crossing(drawn)), 300
+    yield "verify: a convex double wheel of 4,095", cost("verify", answer("convex", one(families.double_wheel))), 30
+    yield "convex: a wheel of 4,095, hub last", cost("convex", one(families.wheel_last)), 30
+    yield "convex: a double wheel of 4,095", cost("convex", one(families.double_wheel)), 30
+    yield "convex: a comb of 4,095", cost("convex", one(families.comb)), 30
+    yield "convex: refused for a late pair, 4,095", cost("convex", one(families.wheel_with_pair)), 60
+    yield "rect: a column between two hubs, one last, 4,095", cost("rect", one(families.column_hub_last)), 40
+    for name, graph in families.GRAPHS.items():
+        yield f"embed: {name}", cost("embed", (families.graph6(graph) + "\n").encode()), 4 if "wheel" in name else 2.6
+
+
+def timed(job, data):
+    begun = time.perf_counter()
+    with open(put(data), "rb") as text:
+        subprocess.run([count.PROGRAM, job], stdin=text, stdout=subprocess.DEVNULL, check=False)
+    return time.perf_counter() - begun
+
+
+def main():
+    if "--limits" in sys.argv[1:]:
+        print("| Input | Million instructions | At most |\n|---|---|---|")
+        for what, found, most in limits():
+            print(f"| {what} | {found / 1e6:.1f}{'!' if found > most * 1e6 else ''} | {most} |", flush=True)
+        print("\n| Input | Seconds | At most |\n|---|---|---|")
+        for what, found, most in (("verify: 14.5 MB, a strip of 1,500 vertices and K(1200,1200)", timed("verify", hostile(1500, 1200)), 15),
+                                  ("embed: 4 million lines of K5", timed("embed", b"D~{\n" * (1 << 22)), 12)):
+            print(f"| {what} | {found:.1f}{'!' if found > most else ''} | {most} |", flush=True)
+    else:
+        slopes(sys.argv[1:])
+
+
+START = start()
+if __name__ == "__main__":
+    main()
