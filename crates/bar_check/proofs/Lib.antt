@@ -7,4 +7,7 @@ mod Cases
 pub mod NumberLemmas
 pub mod NumberCounts
 mod OrderLemmas
+mod TableLemmas
+mod ClearLemmas
+mod HeightLemmas
 mod Refused

@@ -1,5 +1,5 @@
 -- What the loops of the check go over: edges with one of two kinds of fault.
-use Rattle.std.specs.Prelude.{ℕ, ◌<◌, length, ℤ}
+use Rattle.std.specs.Prelude.{ℕ, ◌<◌, ◌≡◌, length, ℤ}
 use Rattle.map_lists.specs.Lists.{Lists}
 use Rattle.pg_plane.specs.declared.figure.BarFigure.{BarFigure}
 use Rattle.vertex_rounds.specs.Rounds.{HasEdge}
@@ -16,9 +16,10 @@ abbrev pub IsFaulty : ℕ → BarFigure → Kind → ℕ → ℕ → ℤ → Typ
 IsFaulty n fig (Misplaced width) a b x = ¬ IsColumn fig width a b x
 IsFaulty n fig Blocked a b x = (v : ℕ) × IsStruckBelow n fig a b x v
 
--- a is below b, and an edge from a to b has a fault of this kind
-abbrev pub IsFaultyPair : Lists → BarFigure → Kind → ℕ → ℕ → Type 0
-IsFaultyPair lists fig kind a b = (a < b) × IsFaulty (length lists) fig kind a b (column_of lists fig a b)
+-- v is a, which is below b, and an edge from a to b has a fault of this kind
+abbrev pub IsFaultyFrom : Lists → BarFigure → Kind → ℕ → ℕ → ℕ → Type 0
+IsFaultyFrom lists fig kind a v b =
+    (v ≡ a) × (a < b) × IsFaulty (length lists) fig kind a b (column_of lists fig a b)
 
 -- an edge with a fault of this kind
 pub record IsFaultyEdge (lists : Lists) (fig : BarFigure) (kind : Kind) (a b : ℕ) : Type 0 where

@@ -1,13 +1,16 @@
 //! The check of a visibility drawing.
-ghost use Rattle.std.specs.Prelude.{◌≡◌, length, MatchOption};
+ghost use Rattle.std.specs.Prelude.{◌≡◌, ◌<◌, ◌≤◌, length, MatchOption};
 ghost use Rattle.half_edges.specs.Map.{IsHalfMap};
 ghost use Rattle.map_theory.specs.Maps.{edge_count};
 ghost use Rattle.bar_check.specs.Bars.{HasBars, IsValidBars};
 ghost use Rattle.bar_check.specs.Verdicts.{HasShape, HasHeights, AreBars, NoBadColumn, NoneThrough, NoneOverlap, KeepsTurns, IsBarVerdict};
+ghost use Rattle.bar_check.specs.Tables.{AreColumns, AreClear};
 
 use crate::BarVerdict;
+use crate::clear::fill_clear;
 use crate::columns::{first_bad_column, first_through};
 use crate::heights::{first_bad_bar, first_bad_height};
+use crate::table::fill_columns;
 use crate::turns::first_turned;
 use half_edges::HalfMap;
 use pg_plane::BarFigure;
@@ -31,26 +34,35 @@ fn first_of_bars(map: &HalfMap, fig: &BarFigure, width: i32) -> Option<BarVerdic
 }
 
 // The first fault of an edge.
-fn first_of_edges(map: &HalfMap, fig: &BarFigure, width: i32) -> Option<BarVerdict>
+fn first_of_edges(
+    map: &HalfMap,
+    fig: &BarFigure,
+    width: i32,
+    columns: &[i32],
+    clear: &[bool],
+) -> Option<BarVerdict>
     requires known { IsHalfMap map.now }
+    requires table { AreColumns map.now fig.now columns.now }
+    requires clear { AreClear map.now fig.now clear.now }
     requires shape { HasShape map.now.lists fig.now }
     requires heights { HasHeights map.now.lists fig.now }
     requires bars { AreBars map.now.lists fig.now width }
     ensures { MatchOption result (NoBadColumn map.now.lists fig.now width × NoneThrough map.now.lists fig.now)
         (IsBarVerdict map.now.lists fig.now width) }
 {
-    if let Some(e) = first_bad_column(map, fig, width) {
+    if let Some(e) = first_bad_column(map, fig, width, columns, clear) {
         return Some(BarVerdict::BadColumn(e));
     }
-    match first_through(map, fig) {
+    match first_through(map, fig, columns, clear) {
         Some((e, v)) => Some(BarVerdict::Through(e, v)),
         None => None,
     }
 }
 
 // The first fault of a list.
-fn first_of_turns(map: &HalfMap, fig: &BarFigure, width: i32) -> BarVerdict
+fn first_of_turns(map: &HalfMap, fig: &BarFigure, width: i32, columns: &[i32]) -> BarVerdict
     requires known { IsHalfMap map.now }
+    requires table { AreColumns map.now fig.now columns.now }
     requires shape { HasShape map.now.lists fig.now }
     requires heights { HasHeights map.now.lists fig.now }
     requires bars { AreBars map.now.lists fig.now width }
@@ -58,10 +70,71 @@ fn first_of_turns(map: &HalfMap, fig: &BarFigure, width: i32) -> BarVerdict
     requires through { NoneThrough map.now.lists fig.now }
     ensures { IsBarVerdict map.now.lists fig.now width result }
 {
-    match first_turned(map, fig) {
+    match first_turned(map, fig, columns) {
         Some(v) => BarVerdict::Turned(v),
         None => BarVerdict::Yes,
     }
+}
+
+// The first fault of an edge or of a list, with room for a number at each vertex, for the vertices in the
+// order of their heights, for the highest bars of columns, and for what is known of each dart.
+fn first_behind_in(
+    map: &HalfMap,
+    fig: &BarFigure,
+    width: i32,
+    next: &mut [u32],
+    order: &mut [u16],
+    tops: &mut [u16],
+    columns: &mut [i32],
+    clear: &mut [bool],
+) -> BarVerdict
+    requires known { IsHalfMap map.now }
+    requires shape { HasShape map.now.lists fig.now }
+    requires heights { HasHeights map.now.lists fig.now }
+    requires bars { AreBars map.now.lists fig.now width }
+    requires next { length next.old ≡ length map.now.lists }
+    requires order { length order.old ≡ length map.now.lists }
+    ensures { IsBarVerdict map.now.lists fig.now width result }
+{
+    fill_columns(map, fig, next, columns);
+    fill_clear(map, fig, columns, order, tops, clear);
+    match first_of_edges(map, fig, width, columns, clear) {
+        Some(verdict) => verdict,
+        None => first_of_turns(map, fig, width, columns),
+    }
+}
+
+// The same, with room for `MOST` vertices, `COLUMNS` columns and `DARTS` darts.
+fn first_behind_of<const MOST: usize, const COLUMNS: usize, const DARTS: usize>(
+    map: &HalfMap,
+    fig: &BarFigure,
+    width: i32,
+    n: usize,
+) -> BarVerdict
+    requires known { IsHalfMap map.now }
+    requires shape { HasShape map.now.lists fig.now }
+    requires heights { HasHeights map.now.lists fig.now }
+    requires bars { AreBars map.now.lists fig.now width }
+    requires n { n ≡ length map.now.lists }
+    requires most { n ≤ MOST }
+    requires room { (MOST < 4096) × (COLUMNS < 65536) × (DARTS < 65536) }
+    ensures { IsBarVerdict map.now.lists fig.now width result }
+{
+    let mut next = [0; MOST];
+    let mut order = [0; MOST];
+    let mut tops = [0; COLUMNS];
+    let mut columns = [0; DARTS];
+    let mut clear = [false; DARTS];
+    first_behind_in(
+        map,
+        fig,
+        width,
+        &mut next[..n],
+        &mut order[..n],
+        &mut tops,
+        &mut columns,
+        &mut clear,
+    )
 }
 
 // The first fault of an edge or of a list.
@@ -72,18 +145,23 @@ fn first_behind_bars(map: &HalfMap, fig: &BarFigure, width: i32) -> BarVerdict
     requires bars { AreBars map.now.lists fig.now width }
     ensures { IsBarVerdict map.now.lists fig.now width result }
 {
-    match first_of_edges(map, fig, width) {
-        Some(verdict) => verdict,
-        None => first_of_turns(map, fig, width),
+    let n = map.n() as usize;
+    // room for 2n - 4 faces and 3n - 6 edges, the most of a plane map
+    if n <= 63 {
+        first_behind_of::<63, 122, 366>(map, fig, width, n)
+    } else if n <= 255 {
+        first_behind_of::<255, 506, 1518>(map, fig, width, n)
+    } else {
+        first_behind_of::<4095, 8186, 24558>(map, fig, width, n)
     }
 }
 
 /// The first fault of a visibility drawing in the order of the variants of `BarVerdict`, with the least ids,
 /// or `Yes` exactly where it is one of the map within this width.
 ///
-/// `fig` has a bar for each vertex. It takes no memory from the heap. Each edge is compared with each vertex,
-/// and for each entry of a list the edges before it are counted: the time is n m for n vertices and m edges,
-/// and m^2 for the lists.
+/// `fig` has a bar for each vertex. It takes no memory from the heap, and at most 200 KB of the stack. Where
+/// the edges are no more than those of a plane map, the time is that of reading the map, besides that in
+/// which a sweep fills the columns of each bar, eight at a time; else each edge is compared with each vertex.
 pub fn check_bars(map: &HalfMap, fig: &BarFigure, width: i32) -> BarVerdict
     requires { HasBars map.now.lists fig.now }
     ensures { IsBarVerdict map.now.lists fig.now width result }

@@ -1,17 +1,20 @@
 //! Columns that stand wrong, and bars in their way.
 ghost use Rattle.std.specs.Prelude.{◌≡◌, ◌+◌, ◌*◌, ◌<◌, ◌≤◌, ◌↔◌, ℕ, List, length, slice_index, IsTrue, Some, MatchOption};
-ghost use Rattle.map_theory.specs.Maps.{HasDart};
-ghost use Rattle.half_edges.specs.Map.{IsHalfMap, IsLive};
+ghost use Rattle.half_edges.specs.Map.{IsHalfMap, IsLive, dart_at};
+ghost use Rattle.pg_plane.specs.declared.figure.BarFigure.{BarFigure as Bars};
 ghost use Rattle.vertex_rounds.specs.Least.{IsLeast, IsLeastPair, IsLeastTriple};
-ghost use Rattle.vertex_rounds.specs.Rounds.{HasEdge, dart_of};
+ghost use Rattle.vertex_rounds.specs.Rounds.{HasEdge, HoldsAt};
 ghost use Rattle.bar_check.specs.Bars.{number_at, edges_before, column_of as the_column, Holds, IsColumn, IsBetween, IsStruck};
 ghost use Rattle.bar_check.specs.declared.columns.Kind.TheVariants.{Blocked};
 ghost use Rattle.bar_check.specs.Faults.{HasBadColumn, GoesThrough};
 ghost use Rattle.bar_check.specs.Verdicts.{NoBadColumn, NoneThrough};
-ghost use Rattle.bar_check.specs.Loops.{IsStruckBelow, IsFaulty, IsFaultyPair, IsFaultyEdge};
+ghost use Rattle.bar_check.specs.Loops.{IsStruckBelow, IsFaulty, IsFaultyFrom, IsFaultyEdge};
+ghost use Rattle.bar_check.specs.Tables.{AreColumns, AreClear};
 
-use crate::edges::{column_from, column_of, edges_with};
+use crate::clear::is_clear;
+use crate::edges::{column_of, edges_with};
 use crate::heights::number;
+use crate::table::column_upwards;
 use half_edges::{DartId, Ends, HalfMap, VertexId};
 use pg_plane::BarFigure;
 use vertex_rounds::least_head;
@@ -89,29 +92,46 @@ fn has_fault(fig: &BarFigure, n: u16, kind: Kind, a: VertexId, b: VertexId, x: i
     }
 }
 
-// Whether the edge from `a` to `b` has a fault of this kind; `before` edges have their lesser end below `a`.
+// Whether the edge of a dart is known to have no fault of this kind.
+fn is_passed(map: &HalfMap, clear: &[bool], kind: Kind, d: DartId) -> bool
+    requires known { IsHalfMap map.now }
+    requires live { IsLive map.now d.0 }
+    ensures { (fig : Bars) (a b : ℕ) → AreClear map.now fig clear.now → dart_at map.now d.0 ≡ Some (a, b) → HasEdge map.now.lists a b
+        → IsTrue result → ¬ IsFaulty (length map.now.lists) fig kind a b (the_column map.now.lists fig a b) }
+{
+    match kind {
+        Kind::Misplaced(_) => false,
+        Kind::Blocked => is_clear(map, clear, d),
+    }
+}
+
+// Whether the edge of a dart from `a` to `b` has a fault of this kind; `before` edges have their lesser end
+// below `a`.
 fn is_faulty(
     map: &HalfMap,
     fig: &BarFigure,
     kind: Kind,
+    columns: &[i32],
+    clear: &[bool],
     before: u32,
     a: VertexId,
     b: VertexId,
+    d: DartId,
 ) -> bool
     requires known { IsHalfMap map.now }
-    requires vertex { a.0 < length map.now.lists }
+    requires columns { AreColumns map.now fig.now columns.now }
+    requires clear { AreClear map.now fig.now clear.now }
     requires before { before ≡ edges_before map.now.lists a.0 }
     requires few { before ≤ 65535 * a.0 }
+    requires dart { dart_at map.now d.0 ≡ Some (a.0, b.0) }
+    requires order { a.0 < b.0 }
     ensures { IsTrue result ↔ IsFaulty (length map.now.lists) fig.now kind a.0 b.0 (the_column map.now.lists fig.now a.0 b.0) }
 {
-    has_fault(
-        fig,
-        map.n(),
-        kind,
-        a,
-        b,
-        column_from(map, fig, before, a, b),
-    )
+    if is_passed(map, clear, kind, d) {
+        return false;
+    }
+    let x = column_upwards(map, fig, columns, before, a, b, d);
+    has_fault(fig, map.n(), kind, a, b, x)
 }
 
 // Whether the dart leads from `a` to a greater vertex, and the edge has a fault of this kind; `before` edges
@@ -120,19 +140,22 @@ fn leads_to_faulty(
     map: &HalfMap,
     fig: &BarFigure,
     kind: Kind,
+    columns: &[i32],
+    clear: &[bool],
     before: u32,
     a: VertexId,
     d: DartId,
 ) -> bool
     requires known { IsHalfMap map.now }
-    requires vertex { a.0 < length map.now.lists }
+    requires columns { AreColumns map.now fig.now columns.now }
+    requires clear { AreClear map.now fig.now clear.now }
     requires before { before ≡ edges_before map.now.lists a.0 }
     requires few { before ≤ 65535 * a.0 }
     requires live { IsLive map.now d.0 }
-    ensures { IsTrue result ↔ IsFaultyPair map.now.lists fig.now kind a.0 (dart_of map.now d.0).1 }
+    ensures { IsTrue result ↔ HoldsAt map.now (IsFaultyFrom map.now.lists fig.now kind a.0) d.0 }
 {
     let b = map.head(d);
-    a.0 < b.0 && is_faulty(map, fig, kind, before, a, b)
+    map.tail(d).0 == a.0 && a.0 < b.0 && is_faulty(map, fig, kind, columns, clear, before, a, b, d)
 }
 
 // The least neighbour to which an edge from `a`, which is its lesser end, has a fault of this kind.
@@ -140,28 +163,44 @@ fn least_faulty(
     map: &HalfMap,
     fig: &BarFigure,
     kind: Kind,
+    columns: &[i32],
+    clear: &[bool],
     before: u32,
     a: VertexId,
 ) -> Option<VertexId>
     requires known { IsHalfMap map.now }
     requires vertex { a.0 < length map.now.lists }
+    requires columns { AreColumns map.now fig.now columns.now }
+    requires clear { AreClear map.now fig.now clear.now }
     requires before { before ≡ edges_before map.now.lists a.0 }
     requires few { before ≤ 65535 * a.0 }
     ensures { MatchOption result ((b : ℕ) → ¬ IsFaultyEdge map.now.lists fig.now kind a.0 b)
         (λ b. IsLeast (IsFaultyEdge map.now.lists fig.now kind a.0) b.0) }
 {
-    least_head(map, a, |d| leads_to_faulty(map, fig, kind, before, a, d))
+    least_head(
+        map,
+        a,
+        |d| leads_to_faulty(map, fig, kind, columns, clear, before, a, d),
+    )
 }
 
 // The first edge with a fault of this kind.
-fn first_faulty(map: &HalfMap, fig: &BarFigure, kind: Kind) -> Option<Ends>
-    requires { IsHalfMap map.now }
+fn first_faulty(
+    map: &HalfMap,
+    fig: &BarFigure,
+    kind: Kind,
+    columns: &[i32],
+    clear: &[bool],
+) -> Option<Ends>
+    requires known { IsHalfMap map.now }
+    requires columns { AreColumns map.now fig.now columns.now }
+    requires clear { AreClear map.now fig.now clear.now }
     ensures { MatchOption result ((a b : ℕ) → ¬ IsFaultyEdge map.now.lists fig.now kind a b)
         (λ e. IsLeastPair (IsFaultyEdge map.now.lists fig.now kind) e.a.0 e.b.0) }
 {
     let mut before = 0;
     for a in 0..map.n() {
-        if let Some(b) = least_faulty(map, fig, kind, before, VertexId(a)) {
+        if let Some(b) = least_faulty(map, fig, kind, columns, clear, before, VertexId(a)) {
             return Some(Ends { a: VertexId(a), b });
         }
         before = edges_with(map, VertexId(a), before);
@@ -170,12 +209,20 @@ fn first_faulty(map: &HalfMap, fig: &BarFigure, kind: Kind) -> Option<Ends>
 }
 
 // The first edge whose column leaves the width or the bar of an end.
-pub(crate) fn first_bad_column(map: &HalfMap, fig: &BarFigure, width: i32) -> Option<Ends>
-    requires { IsHalfMap map.now }
+pub(crate) fn first_bad_column(
+    map: &HalfMap,
+    fig: &BarFigure,
+    width: i32,
+    columns: &[i32],
+    clear: &[bool],
+) -> Option<Ends>
+    requires known { IsHalfMap map.now }
+    requires columns { AreColumns map.now fig.now columns.now }
+    requires clear { AreClear map.now fig.now clear.now }
     ensures { MatchOption result (NoBadColumn map.now.lists fig.now width)
         (λ e. IsLeastPair (HasBadColumn map.now.lists fig.now width) e.a.0 e.b.0) }
 {
-    first_faulty(map, fig, Kind::Misplaced(width))
+    first_faulty(map, fig, Kind::Misplaced(width), columns, clear)
 }
 
 // The least vertex whose bar is in the way of an edge.
@@ -189,12 +236,19 @@ fn struck_by(map: &HalfMap, fig: &BarFigure, e: Ends) -> Option<VertexId>
 }
 
 // The first edge that goes through a bar, with the least such bar.
-pub(crate) fn first_through(map: &HalfMap, fig: &BarFigure) -> Option<(Ends, VertexId)>
-    requires { IsHalfMap map.now }
+pub(crate) fn first_through(
+    map: &HalfMap,
+    fig: &BarFigure,
+    columns: &[i32],
+    clear: &[bool],
+) -> Option<(Ends, VertexId)>
+    requires known { IsHalfMap map.now }
+    requires columns { AreColumns map.now fig.now columns.now }
+    requires clear { AreClear map.now fig.now clear.now }
     ensures { MatchOption result (NoneThrough map.now.lists fig.now)
         (λ p. IsLeastTriple (GoesThrough map.now.lists fig.now) p.0.a.0 p.0.b.0 p.1.0) }
 {
-    match first_faulty(map, fig, Kind::Blocked) {
+    match first_faulty(map, fig, Kind::Blocked, columns, clear) {
         Some(e) => with_struck(map, fig, e),
         None => None,
     }

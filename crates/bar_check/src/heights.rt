@@ -1,10 +1,10 @@
 //! Heights and bars, vertex by vertex.
-ghost use Rattle.std.specs.Prelude.{◌≡◌, ◌≢◌, ◌<◌, ◌↔◌, ℕ, length, IsTrue, MatchBool, MatchOption};
-ghost use Rattle.map_lists.specs.Lists.{Lists};
+ghost use Rattle.std.specs.Prelude.{◌≡◌, ◌≢◌, ◌<◌, ◌≤◌, ◌↔◌, ℕ, true, false, length, slice_index_or, pos, IsTrue, MatchOption};
 ghost use Rattle.vertex_rounds.specs.Least.{IsLeast};
-ghost use Rattle.bar_check.specs.Bars.{number_at, IsNewHeight, IsBar};
+ghost use Rattle.bar_check.specs.Bars.{number_at, IsBar};
 ghost use Rattle.bar_check.specs.Faults.{HasBadHeight, HasBadBar};
 ghost use Rattle.bar_check.specs.Verdicts.{HasHeights, AreBars};
+ghost use Rattle.bar_check.specs.Tables.{IsFree};
 
 use half_edges::{HalfMap, VertexId};
 use pg_plane::{BarFigure, Ints};
@@ -16,26 +16,54 @@ pub(crate) fn number(list: &Ints, i: usize) -> i32
     if i < list.len() { list.get(i) } else { 0 }
 }
 
-// Whether no vertex below `v` has its height.
-fn is_new(fig: &BarFigure, v: VertexId) -> bool
-    ensures { MatchBool result ((u : ℕ) → u < v.0 → number_at fig.now.y u ≢ number_at fig.now.y v.0)
-        (¬ ((u : ℕ) → u < v.0 → number_at fig.now.y u ≢ number_at fig.now.y v.0)) }
+// Whether `z` is the number of an entry that is not marked.
+fn is_free(seen: &[bool], z: i32) -> bool
+    ensures { IsTrue result ↔ IsFree seen.now z }
 {
-    let height = number(&fig.y, v.0 as usize);
-    for u in 0..v.0 {
-        if number(&fig.y, u as usize) == height {
-            return false;
-        }
-    }
-    true
+    0 <= z && (z as usize) < seen.len() && !seen[z as usize]
 }
 
-// Whether the height of a vertex is one of those below `n`, and no lesser vertex has it.
-fn is_new_height(fig: &BarFigure, n: u16, v: VertexId) -> bool
-    ensures { (lists : Lists) → length lists ≡ n → IsTrue result ↔ IsNewHeight lists fig.now v.0 }
+// Marks entry `z`.
+fn mark(seen: &mut [bool], z: i32)
+    requires { IsFree seen.old z }
+    ensures size { length seen.new ≡ length seen.old }
+    ensures here { (k : ℕ) → z ≡ pos k → slice_index_or seen.new k false ≡ true }
+    ensures elsewhere { (k : ℕ) → z ≢ pos k → slice_index_or seen.new k false ≡ slice_index_or seen.old k false }
 {
-    let height = number(&fig.y, v.0 as usize);
-    0 <= height && height < i32::from(n) && is_new(fig, v)
+    seen[z as usize] = true;
+}
+
+// The least vertex with a wrong height, with room for a mark at each height.
+fn first_bad_height_in(map: &HalfMap, fig: &BarFigure, seen: &mut [bool]) -> Option<VertexId>
+    requires size { length seen.old ≡ length map.now.lists }
+    requires none { (k : ℕ) → slice_index_or seen.old k false ≡ false }
+    ensures { MatchOption result (HasHeights map.now.lists fig.now)
+        (λ v. IsLeast (HasBadHeight map.now.lists fig.now) v.0) }
+{
+    for v in 0..map.n() {
+        let height = number(&fig.y, v as usize);
+        if !is_free(seen, height) {
+            return Some(VertexId(v));
+        }
+        mark(seen, height);
+    }
+    None
+}
+
+// The same, with room for `MOST` vertices.
+fn first_bad_height_of<const MOST: usize>(
+    map: &HalfMap,
+    fig: &BarFigure,
+    n: usize,
+) -> Option<VertexId>
+    requires n { n ≡ length map.now.lists }
+    requires most { n ≤ MOST }
+    requires room { MOST < 4096 }
+    ensures { MatchOption result (HasHeights map.now.lists fig.now)
+        (λ v. IsLeast (HasBadHeight map.now.lists fig.now) v.0) }
+{
+    let mut seen = [false; MOST];
+    first_bad_height_in(map, fig, &mut seen[..n])
 }
 
 // The least vertex with a wrong height.
@@ -43,12 +71,13 @@ pub(crate) fn first_bad_height(map: &HalfMap, fig: &BarFigure) -> Option<VertexI
     ensures { MatchOption result (HasHeights map.now.lists fig.now)
         (λ v. IsLeast (HasBadHeight map.now.lists fig.now) v.0) }
 {
-    for v in 0..map.n() {
-        if !is_new_height(fig, map.n(), VertexId(v)) {
-            return Some(VertexId(v));
-        }
+    map.facts();
+    let n = map.n() as usize;
+    if n <= 255 {
+        first_bad_height_of::<255>(map, fig, n)
+    } else {
+        first_bad_height_of::<4095>(map, fig, n)
     }
-    None
 }
 
 // Whether a bar goes from left to right within the width.

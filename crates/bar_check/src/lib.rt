@@ -6,9 +6,11 @@
 ghost use Rattle.bar_check.specs.Laws.{EdgeNumbers, OnceIsInOrder, OverlapIsNever, YesIsValid};
 
 mod check;
+mod clear;
 mod columns;
 mod edges;
 mod heights;
+mod table;
 mod turns;
 mod verdict;
 

@@ -1,12 +1,11 @@
--- Pairs of rectangles: what holds either way round, and what is far behind another.
-use Rattle.std.proofs.Common.{◌≡◌, ◌⊎◌, ℕ, ◌+◌, ◌<◌, ◌<ℤ◌, inl, inr, ⊎_elim, subst, sym, arith}
+-- Pairs of rectangles: which share a side, and which contacts are right.
+use Rattle.std.proofs.Common.{◌≡◌, ◌⊎◌, ℕ, ◌+◌, ◌<◌, inl, inr, ⊎_elim, subst, sym, arith}
 use Rattle.std.proofs.lemmas.Bool.{cases_lt}
 use Rattle.std.proofs.lemmas.Int.{ints, by_lt_z}
 use Rattle.map_lists.specs.Lists.{Lists}
-use Rattle.map_theory.specs.Maps.{IsSimpleMap}
 use Rattle.pg_plane.specs.declared.figure.RectFigure.{RectFigure}
-use Rattle.rect_check.specs.Duals.{left_of, right_of, low_of, high_of, IsRect, DoMeet, IsBeside, IsAbove, ShareSide}
-use Rattle.rect_check.specs.Loops.{DoFit, AreFitting, IsMissed}
+use Rattle.rect_check.specs.Duals.{left_of, right_of, low_of, high_of, IsBeside, IsAbove, ShareSide}
+use Rattle.rect_check.specs.Loops.{AreFitting, IsMissed}
 use Rattle.rect_check.specs.Verdicts.{HasContacts}
 
 -- what holds between u and k, and at k, holds up to k
@@ -16,35 +15,6 @@ between_more P u k below here w after l =
       | inl less ↦ below w after less
       | inr more ↦ (let same : w ≡ k = omega arith in subst P (sym same) here)
     ]
-
-pub DoMeet-turned : (fig : RectFigure) (u v : ℕ) → DoMeet fig u v → DoMeet fig v u
-DoMeet-turned fig u v h = record { left = h.right; right = h.left; low = h.high; high = h.low }
-
-pub ShareSide-turned : (fig : RectFigure) (u v : ℕ) → ShareSide fig u v → ShareSide fig v u
-ShareSide-turned fig u v (inl (inl h)) = inl (inr h)
-ShareSide-turned fig u v (inl (inr h)) = inl (inl h)
-ShareSide-turned fig u v (inr (inl h)) = inr (inr h)
-ShareSide-turned fig u v (inr (inr h)) = inr (inl h)
-
-pub DoFit-turned : (lists : Lists) (fig : RectFigure) (u v : ℕ) → IsSimpleMap lists → DoFit lists fig u v → DoFit lists fig v u
-DoFit-turned lists fig u v simple h = record {
-  apart = λ m. h.apart (DoMeet-turned fig v u m);
-  joined = λ s. simple.both_ways u v (h.joined (ShareSide-turned fig v u s));
-}
-
--- what begins behind the right side of u shares no side with it
-none_shared : (n : ℕ) (fig : RectFigure) (u v : ℕ) → IsRect n fig u → IsRect n fig v → right_of fig u <ℤ left_of fig v → ¬ ShareSide fig u v
-none_shared n fig u v ru rv l (inl (inl h)) = let e = h.line in omega (arith, ints)
-none_shared n fig u v ru rv l (inl (inr h)) = let e = h.line in let a = ru.wide.order in let b = rv.wide.order in omega (arith, ints)
-none_shared n fig u v ru rv l (inr (inl h)) = let a = h.right in omega (arith, ints)
-none_shared n fig u v ru rv l (inr (inr h)) = let a = h.left in omega (arith, ints)
-
--- so they fit
-pub DoFit-behind : (lists : Lists) (n : ℕ) (fig : RectFigure) (u v : ℕ) → IsRect n fig u → IsRect n fig v → right_of fig u <ℤ left_of fig v → DoFit lists fig u v
-DoFit-behind lists n fig u v ru rv l = record {
-  apart = λ m. let a = m.right in omega (arith, ints);
-  joined = λ s. absurd (none_shared n fig u v ru rv l s);
-}
 
 -- whether one is beside another, or above it, is decided
 IsBeside-decided : (fig : RectFigure) (u v : ℕ) → IsBeside fig u v ⊎ (¬ IsBeside fig u v)

@@ -1,5 +1,5 @@
--- The order of the left sides, and what it shows of pairs.
-use Rattle.std.proofs.Common.{◌≡◌, ℕ, ◌+◌, ◌-◌, ◌<◌, ◌≤◌, List, length, get_or, All, ◌≤ℤ◌, ◌<ℤ◌, inl, inr, sym, ap, subst, ◌∙◌, arith}
+-- The last rectangles of rows along one axis, and what the sweeps along both show of pairs.
+use Rattle.std.proofs.Common.{◌≡◌, ◌≢◌, ◌⊎◌, ℕ, ◌+◌, ◌<◌, ◌≤◌, List, length, get_or, All, ℤ, pos, negsuc, ◌≤ℤ◌, ◌<ℤ◌, inl, inr, ⊎_elim, refl, sym, ap, subst, ◌∙◌, arith}
 use Rattle.std.specs.List.Sorted.{IsPermutation}
 use Rattle.std.proofs.lemmas.Bool.{cases_lt}
 use Rattle.std.proofs.lemmas.Int.{ints}
@@ -7,46 +7,15 @@ use Rattle.std.proofs.lemmas.List.{get_or_default}
 use Rattle.std.proofs.lemmas.List.Elements.{All-from_get_or}
 use Rattle.std.proofs.lemmas.List.Sorted.{Contains-permutation, All-permutation}
 use Rattle.map_lists.specs.Lists.{Lists}
-use Rattle.map_theory.specs.Maps.{IsSimpleMap}
+use Rattle.map_theory.specs.Maps.{HasDart, IsSimpleMap}
 use Rattle.pg_plane.specs.declared.figure.RectFigure.{RectFigure}
-use Rattle.rect_check.specs.Duals.{left_of, right_of, IsRect}
-use Rattle.rect_check.specs.Loops.{DoFit, DoFitFrom, DoRise, AreFitting}
-use Rattle.rect_check.proofs.PairLemmas.{DoFit-turned, DoFit-behind}
+use Rattle.rect_check.specs.Duals.{number_at, IsRect, ShareSide}
+use Rattle.rect_check.specs.Loops.{AreFitting, HasRow, DoesFollow, FollowsInRows, AreRanked, DoFollow, AreLast, AreSpans}
 
--- the left sides rise up to k
-abbrev pub RiseBelow : RectFigure → List ℕ → ℕ → Type 0
-RiseBelow fig order k = (i j : ℕ) → i < j → j < k → left_of fig (get_or order i 0) ≤ℤ left_of fig (get_or order j 0)
-
--- one place more
-pub RiseBelow-more : (fig : RectFigure) (order : List ℕ) (k : ℕ) → 1 ≤ k → RiseBelow fig order k → left_of fig (get_or order (k - 1) 0) ≤ℤ left_of fig (get_or order k 0) → RiseBelow fig order (k + 1)
-RiseBelow-more fig order k some below here i j l m =
-    elim (cases_lt j k) [
-      | inl less ↦ below i j l less
-      | inr more ↦ (let same : j ≡ k = omega arith in subst (λ x. left_of fig (get_or order i 0) ≤ℤ left_of fig (get_or order x 0)) (sym same) (last i (omega arith)))
-    ]
-  where
-    last : (i : ℕ) → i < k → left_of fig (get_or order i 0) ≤ℤ left_of fig (get_or order k 0)
-    last i l =
-        elim (cases_lt i (k - 1)) [
-          | inl less ↦ (let a = below i (k - 1) less (omega arith) in omega (arith, ints))
-          | inr more ↦ (let same : i ≡ k - 1 = omega arith in subst (λ x. left_of fig (get_or order x 0) ≤ℤ left_of fig (get_or order k 0)) (sym same) here)
-        ]
-
-module _ (lists : Lists) (fig : RectFigure) (order : List ℕ) (rects : (v : ℕ) → v < length lists → IsRect (length lists) fig v) (vertices : All (λ (v : ℕ). v < length lists) order) (rise : DoRise fig order) where
-  -- where the vertex at place j begins behind that at place i, those that come later do so too
-  pub DoFitFrom-behind : (i j : ℕ) → i < j → j < length order → ((k : ℕ) → i < k → k < j → DoFit lists fig (get_or order i 0) (get_or order k 0)) → right_of fig (get_or order i 0) <ℤ left_of fig (get_or order j 0) → DoFitFrom lists fig order i
-  DoFitFrom-behind i j l m below behind k after in_order =
-      elim (cases_lt k j) [
-        | inl less ↦ below k after less
-        | inr more ↦ DoFit-behind lists (length lists) fig (get_or order i 0) (get_or order k 0) (rects (get_or order i 0) (vertices i 0 (omega arith))) (rects (get_or order k 0) (vertices k 0 in_order)) (far k more in_order)
-      ]
-    where
-      far : (k : ℕ) → j ≤ k → k < length order → right_of fig (get_or order i 0) <ℤ left_of fig (get_or order k 0)
-      far k more in_order =
-          elim (cases_lt j k) [
-            | inl less ↦ (let a = rise j k less in_order in omega (arith, ints))
-            | inr other ↦ (let same : j ≡ k = omega arith in subst (λ x. right_of fig (get_or order i 0) <ℤ left_of fig (get_or order x 0)) same behind)
-          ]
+-- a number that is not below 0
+natural_is : (z : ℤ) → pos 0 ≤ℤ z → (k : ℕ) × (z ≡ pos k)
+natural_is (pos k) l = (k, refl)
+natural_is (negsuc k) l = absurd (omega (arith, ints))
 
 -- the vertices in their own order
 abbrev pub AreVertices : List ℕ → Type 0
@@ -65,20 +34,147 @@ place_of_vertex n old new count old_is same v l =
     let (i, li, e) = Contains-permutation old new v same (v, within, get_or_default old v v 0 within ∙ old_is v within) in
     (i, li, get_or_default new i 0 v li ∙ e)
 
--- where all fit in the order, all fit
-pub AreFitting-from_order : (lists : Lists) (fig : RectFigure) (old new : List ℕ) → IsSimpleMap lists → length old ≡ length lists → AreVertices old → IsPermutation old new → ((i : ℕ) → i < length new → DoFitFrom lists fig new i) → AreFitting lists fig
-AreFitting-from_order lists fig old new simple count old_is same fits u v less l =
-    let n = length lists in
-    let (i, li, ei) = place_of_vertex n old new count old_is same u (omega arith) in
-    let (j, lj, ej) = place_of_vertex n old new count old_is same v l in
-    elim (cases_lt i j) [
-      | inl before ↦ subst (λ x. DoFit lists fig x v) ei (subst (λ y. DoFit lists fig (get_or new i 0) y) ej (fits i li j before lj))
-      | inr after ↦ (let before : j < i = strictly i j u v new ei ej less after in DoFit-turned lists fig v u simple (subst (λ x. DoFit lists fig x u) ej (subst (λ y. DoFit lists fig (get_or new j 0) y) ei (fits j lj i before li))))
+module _ (lists : Lists) (begin end low high : List ℤ) (spans : AreSpans (length lists) begin end) (rows : AreSpans (length lists) low high) where
+  abbrev at : List ℕ → ℕ → ℕ
+  at order j = get_or order j 0
+
+  -- one vertex more, at place i of the order
+  module _ (order : List ℕ) (i : ℕ) (last : List ℕ) (v : ℕ) (place : get_or order i 0 ≡ v) (lv : v < length lists) (all : AreLast lists begin end low high order i last) (size : length last ≡ length lists) (before : DoFollow lists begin end low high order i)
+      (first behind : ℕ) (lower : pos first ≡ number_at low v) (upper : pos behind ≡ number_at high v) (follows : (y u : ℕ) → first ≤ y → y < behind → get_or last y 0 ≡ u + 1 → DoesFollow lists begin end u v) where
+    -- a row of v is one of the table
+    row_is : (y : ℕ) → HasRow low high v y → (first ≤ y) × (y < behind) × (y < length last)
+    row_is y has =
+        let l = has.0 in
+        let m = has.1 in
+        let high = (rows v lv).last in
+        let few : y < behind = omega (arith, ints, m, upper) in
+        (omega (arith, ints, l, lower), few, omega (arith, ints, few, upper, high, size))
+
+    -- v follows each vertex before it
+    follows_one : (j : ℕ) → j < i → FollowsInRows lists begin end low high (at order j) v
+    follows_one j l y hu hv =
+        let is = row_is y hv in
+        let e = all.each j y l is.2 hu in
+        let t = e.0 in
+        let f = follows y t is.0 is.1 e.1 in
+        let b = f.behind in
+        ⊎_elim (λ same. subst (λ z. DoesFollow lists begin end z v) (sym same) f)
+        (λ less.
+        let lt : t < length lists = (let m = all.vertices y in omega (arith, m, e.1)) in
+        let o = (spans t lt).order in
+        record { behind = omega (arith, ints, less, o, b); joined = λ s. absurd (omega (arith, ints, less, o, b, s)) }) e.3
+
+    pub DoFollow-more : DoFollow lists begin end low high order (i + 1)
+    DoFollow-more j k l m = elim (cases_lt k i) [
+      | inl less ↦ before j k l less
+      | inr most ↦ (let here : k ≡ i = omega (arith, m, most) in subst (λ z. FollowsInRows lists begin end low high (at order j) z) (sym (ap (at order) here ∙ place)) (follows_one j (omega (arith, l, here))))
     ]
-  where
-    strictly : (i j u v : ℕ) (new : List ℕ) → get_or new i 0 ≡ u → get_or new j 0 ≡ v → u < v → j ≤ i → j < i
-    strictly i j u v new ei ej less after =
-        elim (cases_lt j i) [
-          | inl l ↦ l
-          | inr l ↦ absurd (let same : i ≡ j = omega arith in let e = ap (λ k. get_or new k 0) same in omega arith)
+
+    pub AreLast-more : (last' : List ℕ) → length last' ≡ length last → ((y : ℕ) → first ≤ y → y < behind → get_or last' y 0 ≡ v + 1) → ((y : ℕ) → (y < first) ⊎ (behind ≤ y) → get_or last' y 0 ≡ get_or last y 0) → AreLast lists begin end low high order (i + 1) last'
+    AreLast-more last' kept inside outside = record {
+      vertices = λ y. elim (cases_lt y first) [
+        | inl less ↦ few y (outside y (inl less))
+        | inr from ↦ elim (cases_lt y behind) [
+          | inl to ↦ omega (arith, inside y from to, lv)
+          | inr past ↦ few y (outside y (inr past))
         ]
+      ];
+      each = λ j y l ly has. elim (cases_lt y first) [
+        | inl less ↦ old j y l ly has (outside y (inl less)) (λ hv. let f = (row_is y hv).0 in omega (arith, less, f))
+        | inr from ↦ elim (cases_lt y behind) [
+          | inr past ↦ old j y l ly has (outside y (inr past)) (λ hv. let f = (row_is y hv).1 in omega (arith, past, f))
+          | inl to ↦ (let hv : HasRow low high v y = (omega (arith, ints, lower, from), omega (arith, ints, upper, to)) in (v, inside y from to, hv, ended j l y has hv))
+        ]
+      ];
+    }
+      where
+        few : (y : ℕ) → get_or last' y 0 ≡ get_or last y 0 → get_or last' y 0 ≤ length lists
+        few y e = let m = all.vertices y in omega (arith, m, e)
+
+        old : (j y : ℕ) → j < i + 1 → y < length last' → HasRow low high (at order j) y → get_or last' y 0 ≡ get_or last y 0 → ¬ HasRow low high v y → (t : ℕ) × (get_or last' y 0 ≡ t + 1) × HasRow low high t y × (((at order j) ≡ t) ⊎ (number_at end (at order j) ≤ℤ number_at begin t))
+        old j y l ly has e no_row = elim (cases_lt j i) [
+          | inl less ↦ (let x = all.each j y less (omega (arith, ly, kept)) has in (x.0, e ∙ x.1, x.2, x.3))
+          | inr most ↦ (let here : j ≡ i = omega (arith, l, most) in absurd (no_row (subst (λ z. HasRow low high z y) (ap (at order) here ∙ place) has)))
+        ]
+
+        ended : (j : ℕ) → j < i + 1 → (y : ℕ) → HasRow low high (at order j) y → HasRow low high v y → ((at order j) ≡ v) ⊎ (number_at end (at order j) ≤ℤ number_at begin v)
+        ended j l y has hv = elim (cases_lt j i) [
+          | inl less ↦ inr (follows_one j less y has hv).behind
+          | inr most ↦ (let here : j ≡ i = omega (arith, l, most) in inl (ap (at order) here ∙ place))
+        ]
+
+  -- before all vertices
+  pub AreLast-none : (order last : List ℕ) → ((y : ℕ) → get_or last y 0 ≡ 0) → AreLast lists begin end low high order 0 last
+  AreLast-none order last none = record {
+    vertices = λ y. omega (arith, none y);
+    each = λ j y l. absurd (omega arith);
+  }
+
+  -- two that have a row in common, by their ends
+  common : (u v : ℕ) → u < length lists → v < length lists → number_at low u <ℤ number_at high v → number_at low v <ℤ number_at high u → (y : ℕ) × HasRow low high u y × HasRow low high v y
+  common u v lu lv a b =
+      let p = natural_is (number_at low u) (rows u lu).first in
+      let q = natural_is (number_at low v) (rows v lv).first in
+      let ou = (rows u lu).order in
+      let ov = (rows v lv).order in
+      elim (cases_lt p.0 q.0) [
+        | inl less ↦ (q.0, (omega (arith, ints, p.1, less), omega (arith, ints, q.1, b)), (omega (arith, ints, q.1), omega (arith, ints, q.1, ov)))
+        | inr most ↦ (p.0, (omega (arith, ints, p.1), omega (arith, ints, p.1, ou)), (omega (arith, ints, q.1, most), omega (arith, ints, p.1, a)))
+      ]
+
+  module _ (ranked : AreRanked lists begin end low high) (u v : ℕ) (other : u ≢ v) (lu : u < length lists) (lv : v < length lists) (a : number_at low u <ℤ number_at high v) (b : number_at low v <ℤ number_at high u) where
+    either : DoesFollow lists begin end u v ⊎ DoesFollow lists begin end v u
+    either =
+        let y = common u v lu lv a b in
+        ⊎_elim (λ f. inl (f y.0 y.1 y.2)) (λ f. inr (f y.0 y.2 y.1)) (ranked u v other lu lv)
+
+    -- their interiors do not meet
+    pub none_meet : number_at begin u <ℤ number_at end v → number_at begin v <ℤ number_at end u → ⊥
+    none_meet l m = ⊎_elim (λ f. let e = f.behind in omega (arith, ints, e, m)) (λ f. let e = f.behind in omega (arith, ints, e, l)) either
+
+    -- where v begins at the end of u, they are adjacent
+    pub joined_at : number_at end u ≡ number_at begin v → HasDart lists u v
+    joined_at e = ⊎_elim (λ f. f.joined e) (λ f. let g = f.behind in let o = (spans u lu).order in let p = (spans v lv).order in absurd (omega (arith, ints, e, g, o, p))) either
+
+  -- where each vertex follows those before it, of each two one follows the other
+  pub AreRanked-from_order : (old new : List ℕ) → length old ≡ length lists → AreVertices old → IsPermutation old new → DoFollow lists begin end low high new (length new) → AreRanked lists begin end low high
+  AreRanked-from_order old new count old_is same follow u v other lu lv =
+      let n = length lists in
+      let (i, li, ei) = place_of_vertex n old new count old_is same u lu in
+      let (j, lj, ej) = place_of_vertex n old new count old_is same v lv in
+      elim (cases_lt i j) [
+        | inl before ↦ inl (subst (λ x. FollowsInRows lists begin end low high x v) ei (subst (λ y. FollowsInRows lists begin end low high (get_or new i 0) y) ej (follow i j before lj)))
+        | inr after ↦ (let before : j < i = strictly i j u v new ei ej other after in inr (subst (λ x. FollowsInRows lists begin end low high x u) ej (subst (λ y. FollowsInRows lists begin end low high (get_or new j 0) y) ei (follow j i before li))))
+      ]
+    where
+      strictly : (i j u v : ℕ) (new : List ℕ) → get_or new i 0 ≡ u → get_or new j 0 ≡ v → u ≢ v → j ≤ i → j < i
+      strictly i j u v new ei ej other after =
+          elim (cases_lt j i) [
+            | inl l ↦ l
+            | inr l ↦ absurd (let same : i ≡ j = omega arith in other (sym ei ∙ (ap (λ k. get_or new k 0) same ∙ ej)))
+          ]
+
+-- where both sweeps pass, all fit
+pub AreFitting-from_ranks : (lists : Lists) (fig : RectFigure) → IsSimpleMap lists → ((v : ℕ) → v < length lists → IsRect (length lists) fig v) → AreRanked lists fig.x1 fig.x2 fig.y1 fig.y2 → AreRanked lists fig.y1 fig.y2 fig.x1 fig.x2 → AreFitting lists fig
+AreFitting-from_ranks lists fig simple rects across up u v less lv = record {
+  apart = λ m. none_meet lists fig.x1 fig.x2 fig.y1 fig.y2 wide tall across u v other lu lv m.low m.high m.left m.right;
+  joined = joined;
+}
+  where
+    wide : AreSpans (length lists) fig.x1 fig.x2
+    wide v l = (rects v l).wide
+
+    tall : AreSpans (length lists) fig.y1 fig.y2
+    tall v l = (rects v l).tall
+
+    lu : u < length lists
+    lu = omega (arith, less, lv)
+
+    other : u ≢ v
+    other e = omega (arith, less, e)
+
+    joined : ShareSide fig u v → HasDart lists u v
+    joined (inl (inl h)) = joined_at lists fig.x1 fig.x2 fig.y1 fig.y2 wide tall across u v other lu lv h.low h.high h.line
+    joined (inl (inr h)) = simple.both_ways v u (joined_at lists fig.x1 fig.x2 fig.y1 fig.y2 wide tall across v u (λ e. other (sym e)) lv lu h.low h.high h.line)
+    joined (inr (inl h)) = joined_at lists fig.y1 fig.y2 fig.x1 fig.x2 tall wide up u v other lu lv h.left h.right h.line
+    joined (inr (inr h)) = simple.both_ways v u (joined_at lists fig.y1 fig.y2 fig.x1 fig.x2 tall wide up v u (λ e. other (sym e)) lv lu h.left h.right h.line)

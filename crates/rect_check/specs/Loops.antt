@@ -1,22 +1,49 @@
--- What the loops of the check go over: pairs that fit, in the order of their left sides, and edges that are missed.
-use Rattle.std.specs.Prelude.{ℕ, ◌<◌, ◌≡◌, ◌≢◌, List, length, slice_index, ℤ, pos, ◌≤ℤ◌}
+-- What the loops of the check go over: pairs that fit, the last rectangles of rows, and edges that are missed.
+use Rattle.std.specs.Prelude.{ℕ, ◌+◌, ◌<◌, ◌≤◌, ◌≡◌, ◌≢◌, ◌⊎◌, List, length, slice_index, ℤ, pos, ◌≤ℤ◌, ◌<ℤ◌}
 use Rattle.map_lists.specs.Lists.{Lists}
 use Rattle.map_theory.specs.Maps.{HasDart}
 use Rattle.pg_plane.specs.declared.figure.RectFigure.{RectFigure}
-use Rattle.rect_check.specs.Duals.{left_of, DoMeet, ShareSide, HasFrame, top_vertex, right_vertex, bottom_vertex}
+use Rattle.rect_check.specs.Duals.{number_at, IsSpan, DoMeet, ShareSide, HasFrame, top_vertex, right_vertex, bottom_vertex}
 
 -- two rectangles do not meet, and their vertices are adjacent where they share a side
 pub record DoFit (lists : Lists) (fig : RectFigure) (u v : ℕ) : Type 0 where
   pub apart : ¬ DoMeet fig u v
   pub joined : ShareSide fig u v → HasDart lists u v
 
--- vertices in the order of their left sides
-abbrev pub DoRise : RectFigure → List ℕ → Type 0
-DoRise fig order = (i j : ℕ) → i < j → j < length order → left_of fig (slice_index order i) ≤ℤ left_of fig (slice_index order j)
+-- Along one of the two axes the rectangle of v goes from number v of one list to that of a second one, and across it over the rows from number v of a third to that of a fourth.
 
--- each two fit that stand in the order
-abbrev pub DoFitFrom : Lists → RectFigure → List ℕ → ℕ → Type 0
-DoFitFrom lists fig order i = (j : ℕ) → i < j → j < length order → DoFit lists fig (slice_index order i) (slice_index order j)
+-- row y is one of those of v
+abbrev pub HasRow : (low high : List ℤ) → ℕ → ℕ → Type 0
+HasRow low high v y = (number_at low v ≤ℤ pos y) × (pos y <ℤ number_at high v)
+
+-- v begins at the end of u or behind it, and is adjacent to u where it begins there
+pub record DoesFollow (lists : Lists) (begin end : List ℤ) (u v : ℕ) : Type 0 where
+  pub behind : number_at end u ≤ℤ number_at begin v
+  pub joined : number_at end u ≡ number_at begin v → HasDart lists u v
+
+-- v follows u if they have a row in common
+abbrev pub FollowsInRows : Lists → (begin end low high : List ℤ) → ℕ → ℕ → Type 0
+FollowsInRows lists begin end low high u v =
+    (y : ℕ) → HasRow low high u y → HasRow low high v y → DoesFollow lists begin end u v
+
+-- of each two one follows the other if they have a row in common
+abbrev pub AreRanked : Lists → (begin end low high : List ℤ) → Type 0
+AreRanked lists begin end low high =
+    (u v : ℕ) → u ≢ v → u < length lists → v < length lists → (FollowsInRows lists begin end low high u v) ⊎ (FollowsInRows lists begin end low high v u)
+
+-- of the first i vertices of an order, each follows those before it
+abbrev pub DoFollow : Lists → (begin end low high : List ℤ) → List ℕ → ℕ → Type 0
+DoFollow lists begin end low high order i =
+    (j k : ℕ) → j < k → k < i → FollowsInRows lists begin end low high (slice_index order j) (slice_index order k)
+
+-- Each row of a table has one more than the last vertex in it, of the first i ones of an order; or 0. In its row each of these is the last one, or ends before that begins.
+pub record AreLast (lists : Lists) (begin end low high : List ℤ) (order : List ℕ) (i : ℕ) (last : List ℕ) : Type 0 where
+  pub vertices : (y : ℕ) → slice_index last y ≤ length lists
+  pub each : (j y : ℕ) → j < i → y < length last → HasRow low high (slice_index order j) y → (t : ℕ) × (slice_index last y ≡ t + 1) × HasRow low high t y × (((slice_index order j) ≡ t) ⊎ (number_at end (slice_index order j) ≤ℤ number_at begin t))
+
+-- what goes from number v of one list to that of another is not empty, and lies from 0 to n - 2
+abbrev pub AreSpans : ℕ → (first last : List ℤ) → Type 0
+AreSpans n first last = (v : ℕ) → v < n → IsSpan n (number_at first v) (number_at last v)
 
 -- the edge from u to a greater vertex v is missed: they do not share a side
 pub record IsMissed (lists : Lists) (fig : RectFigure) (u v : ℕ) : Type 0 where

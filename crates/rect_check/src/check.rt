@@ -105,10 +105,10 @@ fn first_behind_rects(map: &HalfMap, fig: &RectFigure) -> RectVerdict
 /// The first fault of a rectangular dual in the order of the variants of `RectVerdict`, with the least ids,
 /// or `Yes` exactly where it is one of the map.
 ///
-/// `fig` has a rectangle for each vertex. It takes no memory from the heap, and at most 8 KB of the stack. A
-/// sweep from left to right compares the rectangles that can meet, those of which one begins before the other
-/// ends, and looks each contact up in the shorter of two lists; where a pair is wrong, all pairs are compared
-/// for the least one.
+/// `fig` has a rectangle for each vertex. It takes no memory from the heap, and at most 16 KB of the stack. A
+/// sweep along each of the two axes compares each rectangle with the last ones in its rows, and looks each
+/// contact up in the shorter of two lists: the time is the sum of all widths and heights, besides that of
+/// sorting; where a pair is wrong, all pairs are compared for the least one.
 pub fn check_rects(map: &HalfMap, fig: &RectFigure) -> RectVerdict
     requires { HasRects map.now.lists fig.now }
     ensures { IsRectVerdict map.now.lists fig.now result }

@@ -4,5 +4,5 @@ use Rattle.bar_check.proofs.columns.is_faulty.Goals as goal
 
 pub returns : goal.returns
 returns c =
-    let f : FitsSigned w32 c.column_from.result = search rules in
-    rw (c.column_from.ensures, c.n.ensures.count) at (simp to_z-of_z at c.has_fault.ensures)
+    let f : FitsSigned w32 c.column_upwards-x.result = search rules in
+    rw (c.column_upwards-x.ensures, c.n.ensures.count) at (simp to_z-of_z at c.has_fault.ensures)

@@ -1,6 +1,6 @@
 use Rattle.std.proofs.Common.{rules}
 use Rattle.vertex_rounds.proofs.FirstLemmas.{least_one}
-use Rattle.bar_check.specs.Loops.{IsFaultyPair}
+use Rattle.bar_check.specs.Loops.{IsFaultyFrom}
 use Rattle.bar_check.proofs.ColumnLemmas.{least_faulty_edge}
 use Rattle.bar_check.proofs.columns.least_faulty.Goals as goal
 
@@ -8,4 +8,4 @@ pub returns : goal.returns
 returns c =
     let map = c.args.map.now in
     least_faulty_edge map.lists c.args.fig.now c.args.kind c.args.a.0 c.least_head.result
-    (least_one map c.requires.known _ (λ a b. IsFaultyPair map.lists c.args.fig.now c.args.kind c.args.a.0 b) c.args.a.0 c.least_head.result c.least_head.ensures (λ d live late r s. search rules))
+    (least_one map c.requires.known _ (IsFaultyFrom map.lists c.args.fig.now c.args.kind c.args.a.0) c.args.a.0 c.least_head.result c.least_head.ensures (λ d live late r s. search rules))

@@ -1,4 +1,4 @@
-use Rattle.std.proofs.Common.{◌≡◌, ◌<◌, true, subst, arith}
+use Rattle.std.proofs.Common.{◌≡◌, ◌<◌, true, subst}
 use Rattle.map_theory.specs.Maps.{Dart}
 use Rattle.vertex_rounds.specs.Rounds.{dart_of}
 use Rattle.vertex_rounds.proofs.DartIds.{ends_are, has_dart}

@@ -1,0 +1,197 @@
+-- The pass that writes the columns of all edges at their darts, list by list.
+use Rattle.std.proofs.Common.{◌≡◌, ◌≢◌, ℕ, suc, ◌+◌, ◌<◌, ◌≤◌, Bool, true, false, cond, ltb, eqb, List, length, get_or, take, set, Contains, length-set, Option, Some, unwrap_or, ℤ, refl, sym, ap, ◌∙◌, subst, inl, inr, ⊎_elim, arith, eq-eqb, ne_eqb}
+use Rattle.std.proofs.Math.Seq.{take-length}
+use Rattle.std.proofs.lemmas.Bool.{cases_eq, cases_lt, cases_order, lt-ltb, le-ltb, true≢false}
+use Rattle.std.proofs.lemmas.List.{get_or-set_same, get_or-set_other}
+use Rattle.std.proofs.lemmas.List.Sums.{count_by_more_yes, count_by_more_no, sum_by-take-le}
+use Rattle.map_lists.specs.Lists.{Lists}
+use Rattle.map_theory.specs.Maps.{Dart, HasDart, list_of, place_of}
+use Rattle.map_theory.proofs.DartLemmas.{place_of-lt-length, get_or-place_of}
+use Rattle.map_theory.proofs.DartCounts.{sum_below, count_mirrored}
+use Rattle.map_theory.proofs.EntryLemmas.{count_of, count_of-le-one}
+use Rattle.half_edges.specs.Map.{Map, IsHalfMap, IsLive, dart_at}
+use Rattle.pg_plane.specs.declared.figure.BarFigure.{BarFigure}
+use Rattle.vertex_rounds.specs.Rounds.{HasEdge, dart_of}
+use Rattle.vertex_rounds.proofs.DartIds.{dart_of-live, has_dart}
+use Rattle.bar_check.specs.Bars.{number_at, edges_until, edges_before, edge_number, column_of, column_between}
+use Rattle.bar_check.specs.Tables.{IsDartOf, AreColumns, IsWritten, IsMet, AreFilled}
+use Rattle.bar_check.proofs.NumberLemmas.{above, edges_until-sum}
+use Rattle.bar_check.proofs.NumberCounts.{edge_number-lt}
+
+module _ (map : Map) (fig : BarFigure) (h : IsHalfMap map) where
+  abbrev lists : Lists
+  lists = map.lists
+
+  -- an entry of the list of b, when it is met
+  module _ (b a : ℕ) (next : List ℕ) (columns : List ℤ) (has : HasDart lists b a) (w : AreFilled map fig b (place_of a (list_of lists b)) next columns) where
+    abbrev us : List ℕ
+    us = list_of lists b
+
+    abbrev i : ℕ
+    i = place_of a us
+
+    li : i < length us
+    li = place_of-lt-length a us has.1
+
+    at_i : get_or us i 0 ≡ a
+    at_i = get_or-place_of a us 0 li
+
+    pub lesser_in : a < length lists
+    lesser_in = h.simple.in_range b a has
+
+    more_here : count_of a (take (i + 1) us) ≡ count_of a (take i us) + 1
+    more_here = count_by_more_yes (λ u. eqb u a) us i 0 li (ap (λ z. eqb z a) at_i ∙ eq-eqb a a refl)
+
+    -- a has not been met before
+    none_before : count_of a (take i us) ≡ 0
+    none_before =
+        let le = take_le us a (i + 1) in
+        omega (arith, more_here, le, count_of-le-one a us (h.simple.no_repeat b has.0))
+      where
+        take_le : (us : List ℕ) (x k : ℕ) → count_of x (take k us) ≤ count_of x us
+        take_le us x k = sum_by-take-le (λ u. cond (eqb u x) 1 0) us k
+
+    edge_here : a < b → HasEdge lists a b
+    edge_here l = (l, h.simple.both_ways b a has)
+
+    number_is : a < b → get_or next a 0 ≡ edge_number lists a b
+    number_is l =
+        let here = w.numbers a lesser_in in
+        let zero_here : cond (ltb a b) (count_of a (take i us)) 0 ≡ 0 = ap (λ t. cond t (count_of a (take i us)) 0) (lt-ltb a b l) ∙ none_before in
+        omega (arith, here, zero_here)
+
+    pub number_few : a < b → get_or next a 0 < 4294967295
+    number_few l = let n = edge_number-lt lists h.simple a b (edge_here l) in omega (arith, number_is l, n, h.few_edges)
+
+    -- where c is met next at b, it is a
+    met_before : (c d : ℕ) → IsMet lists b (i + 1) c d → HasEdge lists c d → ((c ≡ a) → (d ≡ b) → ⊥) → IsMet lists b i c d
+    met_before c d m e other = ⊎_elim (λ less. inl less) (λ same. inr (same.0, before same.0 same.1)) m
+      where
+        back : d ≡ b → Contains us c
+        back s = subst (λ z. Contains (list_of lists z) c) s (h.simple.both_ways c d e.1).1
+
+        before : d ≡ b → place_of c us < i + 1 → place_of c us < i
+        before s l = elim (cases_eq (place_of c us) i) [
+          | inl same ↦ absurd (other (sym (get_or-place_of c us 0 (place_of-lt-length c us (back s))) ∙ (ap (λ k. get_or us k 0) same ∙ at_i)) s)
+          | inr ne ↦ omega (arith, l, ne)
+        ]
+
+    module _ (next' : List ℕ) (columns' : List ℤ) where
+      -- the edge to a, whose turn it is
+      pub AreFilled-put : a < b → (d t : ℕ) → dart_at map d ≡ Some (b, a) → dart_at map t ≡ Some (a, b) → next' ≡ set next a (get_or next a 0 + 1) → IsWritten d t (number_at fig.column (get_or next a 0)) columns columns' → AreFilled map fig b (i + 1) next' columns'
+      AreFilled-put l d t at_d at_t en put = record {
+        vertices = ap length en ∙ (length-set next a (get_or next a 0 + 1) ∙ w.vertices);
+        numbers = λ c lc. ap (λ (z : List ℕ). get_or z c 0) en ∙ elim (cases_eq c a) [
+          | inl s ↦
+              let new = get_or-set_same next a (get_or next a 0 + 1) 0 (omega (arith, lesser_in, w.vertices)) in
+              let now : cond (ltb a b) (count_of a (take (i + 1) us)) 0 ≡ 1 = ap (λ t. cond t (count_of a (take (i + 1) us)) 0) (lt-ltb a b l) ∙ omega (arith, more_here, none_before) in
+              subst (λ z. get_or (set next a (get_or next a 0 + 1)) z 0 ≡ edges_before lists z + edges_until lists z b + cond (ltb z b) (count_of z (take (i + 1) us)) 0) (sym s) (omega (arith, new, number_is l, now))
+          | inr ne ↦
+              let kept = get_or-set_other next a c (get_or next a 0 + 1) 0 ne in
+              let same = count_by_more_no (λ u. eqb u c) us i 0 li (ne_eqb (get_or us i 0) c (λ s. ne (sym (sym at_i ∙ s)))) in
+              kept ∙ (w.numbers c lc ∙ ap (λ z. edges_before lists c + edges_until lists c b + cond (ltb c b) z 0) (sym same))
+        ];
+        known = λ c e x edge met of lx. elim (cases_eq x d) [
+          | inl s ↦ (let k = here c e edge (subst (λ z. IsDartOf map z c e) s of) at_d in
+              subst (λ z. number_at columns' z ≡ column_of lists fig c e) (sym s) (put.here (subst (λ z. z < length columns') s lx) ∙ value c e k))
+          | inr nd ↦ elim (cases_eq x t) [
+            | inl s ↦ (let k = there c e edge (subst (λ z. IsDartOf map z c e) s of) at_t in
+                subst (λ z. number_at columns' z ≡ column_of lists fig c e) (sym s) (put.there (subst (λ z. z < length columns') s lx) ∙ value c e k))
+            | inr nt ↦ put.elsewhere x nd nt ∙ w.known c e x edge (met_before c e met edge (other c e x of nd nt)) of (omega (arith, lx, put.size))
+          ]
+        ];
+      }
+        where
+          value : (c e : ℕ) → (c ≡ a) × (e ≡ b) → number_at fig.column (get_or next a 0) ≡ column_of lists fig c e
+          value c e k = ap (λ z. number_at fig.column z) (number_is l ∙ (ap (λ z. edge_number lists z b) (sym k.0) ∙ ap (λ z. edge_number lists c z) (sym k.1)))
+
+          both : (p q r s : ℕ) → (let x : Option Dart = Some (p, q) in let y : Option Dart = Some (r, s) in x ≡ y) → (p ≡ r) × (q ≡ s)
+          both p q r s e = (ap (λ (o : Option Dart). (unwrap_or o (0, 0)).0) e, ap (λ (o : Option Dart). (unwrap_or o (0, 0)).1) e)
+
+          here : (c e : ℕ) → HasEdge lists c e → IsDartOf map d c e → dart_at map d ≡ Some (b, a) → (c ≡ a) × (e ≡ b)
+          here c e edge of at = ⊎_elim
+              (λ up. let s = both b a c e (sym at ∙ up) in absurd (omega (arith, edge.0, l, s.0, s.1)))
+              (λ down. let s = both b a e c (sym at ∙ down) in (sym s.1, sym s.0)) of
+
+          there : (c e : ℕ) → HasEdge lists c e → IsDartOf map t c e → dart_at map t ≡ Some (a, b) → (c ≡ a) × (e ≡ b)
+          there c e edge of at = ⊎_elim
+              (λ up. let s = both a b c e (sym at ∙ up) in (sym s.0, sym s.1))
+              (λ down. let s = both a b e c (sym at ∙ down) in absurd (omega (arith, edge.0, l, s.0, s.1))) of
+
+          other : (c e x : ℕ) → IsDartOf map x c e → x ≢ d → x ≢ t → (c ≡ a) → (e ≡ b) → ⊥
+          other c e x of nd nt sc se = ⊎_elim
+              (λ up. nt (h.one_id x t a b (up ∙ (ap (λ z. Some (z, e)) sc ∙ ap (λ z. Some (a, z)) se)) at_t))
+              (λ down. nd (h.one_id x d b a (down ∙ (ap (λ z. Some (e, z)) sc ∙ ap (λ z. Some (z, a)) se)) at_d)) of
+
+      -- an edge that leads up, whose turn it is not
+      pub AreFilled-past : b ≤ a → AreFilled map fig b (i + 1) next columns
+      AreFilled-past l = record {
+        vertices = w.vertices;
+        numbers = λ c lc. elim (cases_lt c b) [
+          | inl less ↦
+              let same = count_by_more_no (λ u. eqb u c) us i 0 li (ne_eqb (get_or us i 0) c (λ s. absurd (omega (arith, less, l, at_i, s)))) in
+              w.numbers c lc ∙ ap (λ z. edges_before lists c + edges_until lists c b + cond (ltb c b) z 0) (sym same)
+          | inr most ↦ w.numbers c lc ∙ ap (λ z. edges_before lists c + edges_until lists c b + z) (off (ltb c b) (le-ltb c b most) (count_of c (take i us)) (count_of c (take (i + 1) us)))
+        ];
+        known = λ c e x edge met of lx. w.known c e x edge (met_before c e met edge (λ sc se. absurd (omega (arith, edge.0, sc, se, l)))) of lx;
+      }
+        where
+          off : (t : Bool) → t ≡ false → (x z : ℕ) → cond t x 0 ≡ cond t z 0
+          off true e x z = absurd (true≢false e)
+          off false e x z = refl
+
+  nothing : (t : Bool) → cond {A = ℕ} t 0 0 ≡ 0
+  nothing true = refl
+  nothing false = refl
+
+  -- the next list
+  pub AreFilled-next : (b i : ℕ) (next : List ℕ) (columns : List ℤ) → b < length lists → i ≡ length (list_of lists b) → AreFilled map fig b i next columns → AreFilled map fig (b + 1) 0 next columns
+  AreFilled-next b i next columns lb whole w =
+      let us = list_of lists b in
+      record {
+        vertices = w.vertices;
+        numbers = λ a la.
+            let all = ap (λ k. count_of a (take k us)) whole ∙ ap (count_of a) (take-length us) in
+            let mirrored = count_mirrored lists h.simple b a lb la in
+            let old = edges_until-sum lists a b in
+            let new : edges_until lists a (b + 1) ≡ sum_below (above (list_of lists a) a) b + cond (ltb a b) (count_of b (list_of lists a)) 0 = edges_until-sum lists a (b + 1) ∙ ap (sum_below (above (list_of lists a) a)) (plus_one b) in
+            let none : (cond (ltb a (b + 1)) (count_of a (take 0 (list_of lists (b + 1)))) 0) ≡ 0 = nothing (ltb a (b + 1)) in
+            let same : cond (ltb a b) (count_of a (take i us)) 0 ≡ cond (ltb a b) (count_of b (list_of lists a)) 0 = ap (λ z. cond (ltb a b) z 0) (all ∙ mirrored) in
+            omega (arith, w.numbers a la, old, new, none, same);
+        known = λ a c e edge met. w.known a c e edge (⊎_elim (λ less. met_now a c edge less) (λ same. absurd (omega (arith, same.1))) met);
+      }
+    where
+      plus_one : (n : ℕ) → n + 1 ≡ suc n
+      plus_one n = omega arith
+
+      met_now : (a c : ℕ) → HasEdge lists a c → c < b + 1 → IsMet lists b i a c
+      met_now a c edge less = elim (cases_eq c b) [
+        | inr ne ↦ inl (omega (arith, less, ne))
+        | inl s ↦ inr (s, let back : Contains (list_of lists b) a = subst (λ z. Contains (list_of lists z) a) s (h.simple.both_ways a c edge.1).1 in let l = place_of-lt-length a (list_of lists b) back in omega (arith, l, whole))
+      ]
+
+  -- before all lists, and behind them
+  pub AreFilled-none : (next : List ℕ) (columns : List ℤ) → length next ≡ length lists → ((a : ℕ) → a < length lists → get_or next a 0 ≡ edges_before lists a) → AreFilled map fig 0 0 next columns
+  AreFilled-none next columns size all = record {
+    vertices = size;
+    numbers = λ a l. omega (arith, all a l, edges_until-sum lists a 0, nothing (ltb a 0));
+    known = λ a c e edge met. ⊎_elim (λ less. absurd (omega arith)) (λ same. absurd (omega (arith, same.1))) met;
+  }
+
+  pub AreColumns-from : (b : ℕ) (next : List ℕ) (columns : List ℤ) → length lists ≤ b → AreFilled map fig b 0 next columns → AreColumns map fig columns
+  AreColumns-from b next columns l w = record { each = λ a c e edge. w.known a c e edge (inl (let n = h.simple.in_range a c edge.1 in omega (arith, n, l))) }
+
+  -- the column at a dart
+  pub column-at : (columns : List ℤ) → AreColumns map fig columns → (d : ℕ) → IsLive map d → d < length columns → number_at columns d ≡ column_between lists fig (dart_of map d).0 (dart_of map d).1
+  column-at columns all d live l =
+      let v = (dart_of map d).0 in
+      let u = (dart_of map d).1 in
+      let at = dart_of-live map d live in
+      let has = has_dart map h d live in
+      elim (cases_order v u) [
+        | inl same ↦ absurd (h.simple.no_loop v u has (sym same))
+        | inr o ↦ elim o [
+          | inl less ↦ all.each v u d (less, has) (inl at) l ∙ ap (λ t. cond t (column_of lists fig v u) (column_of lists fig u v)) (sym (lt-ltb v u less))
+          | inr more ↦ all.each u v d (more, h.simple.both_ways v u has) (inr at) l ∙ ap (λ t. cond t (column_of lists fig v u) (column_of lists fig u v)) (sym (le-ltb v u (omega (arith, more))))
+        ]
+      ]

@@ -1,0 +1,41 @@
+use Rattle.std.proofs.Common.{ℕ, ◌+◌, sym, subst, arith}
+use Rattle.vertex_rounds.proofs.RoundLemmas.{head_at, place_at, at_place, place_at-first, place_at-later, LeavesFrom-is, LeavesFrom-later}
+use Rattle.bar_check.specs.Tables.{AreFilled}
+use Rattle.bar_check.proofs.TableLemmas.{AreFilled-next}
+use Rattle.bar_check.proofs.table.put_round.Goals as goal
+
+pub round-init : goal.round-init
+round-init c =
+    let map = c.args.map.now in
+    let b = c.args.b.0 in
+    record {
+      dart = LeavesFrom-is map b _ c.args.first.0 c.requires.first;
+      filled = subst (λ (k : ℕ). AreFilled map c.args.fig.now b k c.args.next.now c.args.columns.now) (sym (place_at-first map b c.args.first.0 c.requires.first)) c.requires.filled;
+    }
+
+pub round-smaller : goal.round-smaller
+round-smaller c =
+    let map = c.args.map.now in
+    let b = c.args.b.0 in
+    let d = c.round.d.0 in
+    let within = (at_place map c.requires.known b d c.round.invariant.dart).0 in
+    let later = place_at-later map b d c.in-Some.later.0 (c.in-Some.ensures b (head_at map d) c.round.invariant.dart) in
+    omega arith
+
+pub round-preserved : goal.round-preserved
+round-preserved c =
+    let map = c.args.map.now in
+    let b = c.args.b.0 in
+    let d = c.round.d.0 in
+    let later = c.in-Some.ensures b (head_at map d) c.round.invariant.dart in
+    record {
+      dart = LeavesFrom-later map b d c.in-Some.later.0 later;
+      filled = subst (λ (k : ℕ). AreFilled map c.args.fig.now b k c.put_edge.new.next c.put_edge.new.columns) (sym (place_at-later map b d c.in-Some.later.0 later)) c.put_edge.ensures;
+    }
+
+pub returns-in-None : goal.returns-in-None
+returns-in-None c =
+    let map = c.args.map.now in
+    let b = c.args.b.0 in
+    let d = c.round.d.0 in
+    AreFilled-next map c.args.fig.now c.requires.known b (place_at map b d + 1) c.put_edge.new.next c.put_edge.new.columns c.requires.vertex (c.in-None.ensures b (head_at map d) c.round.invariant.dart) c.put_edge.ensures

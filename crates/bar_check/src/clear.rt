@@ -1,0 +1,255 @@
+//! A sweep over the bars from below, that marks edges with no bar in their way. It keeps for each column the
+//! highest bar so far that holds it: an edge whose column shows its lower end is clear.
+ghost use Rattle.std.specs.Prelude.{◌≡◌, ◌⊎◌, ◌+◌, ◌<◌, ◌≤◌, ◌≤ℤ◌, ◌<ℤ◌, ℕ, true, false, length, slice_index, slice_index_or, pos, Some, IsTrue};
+ghost use Rattle.std.specs.Bool.{OnTrue};
+ghost use Rattle.half_edges.specs.Map.{IsHalfMap, IsLive, dart_at, first_dart};
+ghost use Rattle.pg_plane.specs.declared.figure.BarFigure.{BarFigure as Bars};
+ghost use Rattle.vertex_rounds.specs.Rounds.{HasEdge, dart_of};
+ghost use Rattle.bar_check.specs.Bars.{number_at, column_of, IsStruck};
+ghost use Rattle.bar_check.specs.Verdicts.{HasHeights};
+ghost use Rattle.bar_check.specs.Tables.{AreColumns, AreClear, HasTops, IsAtTop, IsSeen, DoGoRight, StandsAt};
+
+use crate::heights::number;
+use crate::table::column_at;
+use half_edges::{DartId, HalfMap, VertexId};
+use pg_plane::BarFigure;
+use vertex_rounds::later_dart;
+
+// Writes the vertices in the order of their heights, as far as these are numbers of vertices.
+fn fill_order(fig: &BarFigure, order: &mut [u16])
+    requires { length order.old < 4096 }
+    ensures { length order.new ≡ length order.old }
+{
+    for v in 0..order.len() {
+        let height = number(&fig.y, v);
+        if 0 <= height && (height as usize) < order.len() {
+            order[height as usize] = v as u16;
+        }
+    }
+}
+
+// Takes all marks off.
+fn clear_all(clear: &mut [bool])
+    ensures size { length clear.new ≡ length clear.old }
+    ensures none { (d : ℕ) → d < length clear.new → slice_index_or clear.new d false ≡ false }
+{
+    for d in 0..clear.len() {
+        clear[d] = false;
+    }
+}
+
+// Marks a dart, where the table reaches so far.
+fn mark(clear: &mut [bool], d: DartId)
+    ensures { (e : ℕ) → slice_index_or clear.new e false ≡ true → (e ≡ d.0) ⊎ (slice_index_or clear.old e false ≡ true) }
+{
+    if (d.0 as usize) < clear.len() {
+        clear[d.0 as usize] = true;
+    }
+}
+
+// Whether column `x` has a mark, which is not above that of a bar of this height.
+fn is_at_top(tops: &[u16], x: i32, height: i32) -> bool
+    requires { height <ℤ pos 65536 }
+    ensures { OnTrue result (IsAtTop tops.now x height) }
+{
+    0 <= x && (x as usize) < tops.len() && i32::from(tops[x as usize]) <= height + 1
+}
+
+// Whether the bar of `u` is below height `h`, and the highest of those that hold column `x`.
+fn is_seen(fig: &BarFigure, tops: &[u16], h: u16, x: i32, u: VertexId) -> bool
+    ensures { OnTrue result (IsSeen fig.now h tops.now x u.0) }
+{
+    let height = number(&fig.y, u.0 as usize);
+    height < i32::from(h) && is_at_top(tops, x, height)
+}
+
+// Marks a dart of the vertex at height `h`, where its edge leads down and no bar is in its way.
+fn mark_if_seen(
+    map: &HalfMap,
+    fig: &BarFigure,
+    columns: &[i32],
+    tops: &[u16],
+    clear: &mut [bool],
+    h: u16,
+    d: DartId,
+)
+    requires known { IsHalfMap map.now }
+    requires heights { HasHeights map.now.lists fig.now }
+    requires columns { AreColumns map.now fig.now columns.now }
+    requires tops { HasTops (length map.now.lists) fig.now h tops.now }
+    requires live { IsLive map.now d.0 }
+    requires height { number_at fig.now.y (dart_of map.now d.0).0 ≡ pos h }
+    requires clear { AreClear map.now fig.now clear.old }
+    ensures { AreClear map.now fig.now clear.new }
+{
+    let x = column_at(map, fig, columns, d);
+    if is_seen(fig, tops, h, x, map.head(d)) {
+        mark(clear, d);
+    }
+}
+
+// Marks the clear edges that lead down from the vertex at height `h`, from dart `first` on.
+fn mark_round(
+    map: &HalfMap,
+    fig: &BarFigure,
+    columns: &[i32],
+    tops: &[u16],
+    clear: &mut [bool],
+    h: u16,
+    v: VertexId,
+    first: DartId,
+)
+    requires known { IsHalfMap map.now }
+    requires heights { HasHeights map.now.lists fig.now }
+    requires columns { AreColumns map.now fig.now columns.now }
+    requires tops { HasTops (length map.now.lists) fig.now h tops.now }
+    requires vertex { StandsAt (length map.now.lists) fig.now h v.0 }
+    requires first { dart_at map.now first.0 ≡ Some (first_dart map.now.lists v.0) }
+    requires clear { AreClear map.now fig.now clear.old }
+    ensures { AreClear map.now fig.now clear.new }
+{
+    let mut d = first;
+    'round: loop {
+        mark_if_seen(map, fig, columns, tops, clear, h, d);
+        match later_dart(map, d) {
+            Some(later) => d = later,
+            None => return,
+        }
+    }
+}
+
+// Marks the clear edges that lead down from the vertex at height `h`.
+fn mark_list(
+    map: &HalfMap,
+    fig: &BarFigure,
+    columns: &[i32],
+    tops: &[u16],
+    clear: &mut [bool],
+    h: u16,
+    v: VertexId,
+)
+    requires known { IsHalfMap map.now }
+    requires heights { HasHeights map.now.lists fig.now }
+    requires columns { AreColumns map.now fig.now columns.now }
+    requires tops { HasTops (length map.now.lists) fig.now h tops.now }
+    requires vertex { StandsAt (length map.now.lists) fig.now h v.0 }
+    requires clear { AreClear map.now fig.now clear.old }
+    ensures { AreClear map.now fig.now clear.new }
+{
+    if let Some(first) = map.first_dart(v) {
+        mark_round(map, fig, columns, tops, clear, h, v, first);
+    }
+}
+
+// Writes `top` at the columns from `left` to `right`, where the table reaches so far.
+fn fill_between(tops: &mut [u16], left: usize, right: usize, top: u16)
+    requires few { right < 4294967296 }
+    ensures size { length tops.new ≡ length tops.old }
+    ensures inside { (k : ℕ) → left ≤ k → k ≤ right → k < length tops.new → slice_index tops.new k ≡ top }
+    ensures outside { (k : ℕ) → (k < left) ⊎ (right < k) → slice_index tops.new k ≡ slice_index tops.old k }
+{
+    let end = tops.len().min(right + 1);
+    if end < left {
+        return;
+    }
+    for k in left..end {
+        tops[k] = top;
+    }
+}
+
+// A number that is not below 0.
+fn natural(z: i32) -> usize
+    requires { pos 0 ≤ℤ z }
+    ensures value { pos result ≡ z }
+    ensures few { result < 4294967296 }
+{
+    z as usize
+}
+
+// Makes the bar at height `h` the highest of the columns that it holds.
+fn put_bar(map: &HalfMap, fig: &BarFigure, tops: &mut [u16], h: u16, v: VertexId)
+    requires heights { HasHeights map.now.lists fig.now }
+    requires bars { DoGoRight (length map.now.lists) fig.now }
+    requires few { h < 65535 }
+    requires vertex { StandsAt (length map.now.lists) fig.now h v.0 }
+    requires tops { HasTops (length map.now.lists) fig.now h tops.old }
+    ensures { HasTops (length map.now.lists) fig.now (h + 1) tops.new }
+{
+    let left = natural(number(&fig.x1, v.0 as usize));
+    let right = natural(number(&fig.x2, v.0 as usize));
+    fill_between(tops, left, right, h + 1);
+}
+
+// Whether `v` is the vertex at height `h`.
+fn stands_at(fig: &BarFigure, n: u16, h: u16, v: VertexId) -> bool
+    ensures { OnTrue result (StandsAt n fig.now h v.0) }
+{
+    v.0 < n && number(&fig.y, v.0 as usize) == i32::from(h)
+}
+
+// Marks edges with no bar in their way, by a sweep over the bars in this order as long as it is that of
+// their heights.
+fn sweep(
+    map: &HalfMap,
+    fig: &BarFigure,
+    columns: &[i32],
+    order: &[u16],
+    tops: &mut [u16],
+    clear: &mut [bool],
+)
+    requires known { IsHalfMap map.now }
+    requires heights { HasHeights map.now.lists fig.now }
+    requires bars { DoGoRight (length map.now.lists) fig.now }
+    requires columns { AreColumns map.now fig.now columns.now }
+    requires order { length order.now ≡ length map.now.lists }
+    requires clear { AreClear map.now fig.now clear.old }
+    ensures { AreClear map.now fig.now clear.new }
+{
+    for h in 0..map.n() {
+        let v = VertexId(order[h as usize]);
+        if !stands_at(fig, map.n(), h, v) {
+            return;
+        }
+        mark_list(map, fig, columns, tops, clear, h, v);
+        put_bar(map, fig, tops, h, v);
+    }
+}
+
+// Marks edges with no bar in their way, with room for the vertices in the order of their heights and for the
+// highest bars of columns.
+pub(crate) fn fill_clear(
+    map: &HalfMap,
+    fig: &BarFigure,
+    columns: &[i32],
+    order: &mut [u16],
+    tops: &mut [u16],
+    clear: &mut [bool],
+)
+    requires known { IsHalfMap map.now }
+    requires heights { HasHeights map.now.lists fig.now }
+    requires bars { DoGoRight (length map.now.lists) fig.now }
+    requires columns { AreColumns map.now fig.now columns.now }
+    requires order { length order.old ≡ length map.now.lists }
+    ensures { AreClear map.now fig.now clear.new }
+{
+    fill_order(fig, order);
+    clear_all(clear);
+    sweep(map, fig, columns, order, tops, clear);
+}
+
+// Whether a dart is marked.
+fn is_marked(clear: &[bool], d: DartId) -> bool
+    ensures { IsTrue result → slice_index_or clear.now d.0 false ≡ true }
+{
+    (d.0 as usize) < clear.len() && clear[d.0 as usize]
+}
+
+// Whether the edge of a dart is known to have no bar in its way.
+pub(crate) fn is_clear(map: &HalfMap, clear: &[bool], d: DartId) -> bool
+    requires known { IsHalfMap map.now }
+    requires live { IsLive map.now d.0 }
+    ensures { (fig : Bars) (a b : ℕ) → AreClear map.now fig clear.now → dart_at map.now d.0 ≡ Some (a, b) → HasEdge map.now.lists a b
+        → IsTrue result → (w : ℕ) → w < length map.now.lists → ¬ IsStruck fig a b (column_of map.now.lists fig a b) w }
+{
+    is_marked(clear, d) || is_marked(clear, map.twin(d))
+}

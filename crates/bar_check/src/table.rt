@@ -1,0 +1,176 @@
+//! The column of each edge, at the ids of its darts.
+ghost use Rattle.std.specs.Prelude.{◌≡◌, ◌≢◌, ◌+◌, ◌*◌, ◌<◌, ◌≤◌, ℕ, length, slice_index, slice_set, Some};
+ghost use Rattle.map_theory.specs.Maps.{list_of, place_of};
+ghost use Rattle.half_edges.specs.Map.{IsHalfMap, IsLive, dart_at, first_dart};
+ghost use Rattle.vertex_rounds.specs.Rounds.{dart_of};
+ghost use Rattle.bar_check.specs.Bars.{number_at, edges_before, column_of as the_column, column_between as the_column_between};
+ghost use Rattle.bar_check.specs.Tables.{AreColumns, AreFilled, IsWritten};
+
+use crate::edges::{column_between, column_from, edges_with};
+use crate::heights::number;
+use half_edges::{DartId, HalfMap, VertexId};
+use pg_plane::BarFigure;
+use vertex_rounds::later_dart;
+
+// Writes a column at a dart, where the table reaches so far.
+fn put(columns: &mut [i32], d: DartId, x: i32)
+    ensures size { length columns.new ≡ length columns.old }
+    ensures here { d.0 < length columns.new → number_at columns.new d.0 ≡ x }
+    ensures elsewhere { (e : ℕ) → e ≢ d.0 → number_at columns.new e ≡ number_at columns.old e }
+{
+    if (d.0 as usize) < columns.len() {
+        columns[d.0 as usize] = x;
+    }
+}
+
+// The same at both darts of an edge.
+fn put_both(columns: &mut [i32], d: DartId, twin: DartId, x: i32)
+    ensures { IsWritten d.0 twin.0 x columns.old columns.new }
+{
+    put(columns, d, x);
+    put(columns, twin, x);
+}
+
+// Writes the column of the next edge upwards of `a` at its darts.
+fn put_next(
+    fig: &BarFigure,
+    next: &mut [u32],
+    columns: &mut [i32],
+    a: VertexId,
+    d: DartId,
+    twin: DartId,
+)
+    requires vertex { a.0 < length next.old }
+    requires few { slice_index next.old a.0 < 4294967295 }
+    ensures next { next.new ≡ slice_set next.old a.0 (slice_index next.old a.0 + 1) }
+    ensures columns { IsWritten d.0 twin.0 (number_at fig.now.column (slice_index next.old a.0)) columns.old columns.new }
+{
+    let edge = next[a.0 as usize];
+    next[a.0 as usize] = edge + 1;
+    put_both(columns, d, twin, number(&fig.column, edge as usize));
+}
+
+// The same for a dart from `b`, where its edge leads down to a lesser vertex.
+fn put_edge(
+    map: &HalfMap,
+    fig: &BarFigure,
+    next: &mut [u32],
+    columns: &mut [i32],
+    b: VertexId,
+    d: DartId,
+)
+    requires known { IsHalfMap map.now }
+    requires live { IsLive map.now d.0 }
+    requires tail { (dart_of map.now d.0).0 ≡ b.0 }
+    requires filled { AreFilled map.now fig.now b.0 (place_of (dart_of map.now d.0).1 (list_of map.now.lists b.0)) next.old columns.old }
+    ensures { AreFilled map.now fig.now b.0 (place_of (dart_of map.now d.0).1 (list_of map.now.lists b.0) + 1) next.new columns.new }
+{
+    let a = map.head(d);
+    if a.0 < b.0 {
+        put_next(fig, next, columns, a, d, map.twin(d));
+    }
+}
+
+// Writes the columns of the edges of `b` to lesser vertices, from dart `first` on.
+fn put_round(
+    map: &HalfMap,
+    fig: &BarFigure,
+    next: &mut [u32],
+    columns: &mut [i32],
+    b: VertexId,
+    first: DartId,
+)
+    requires known { IsHalfMap map.now }
+    requires vertex { b.0 < length map.now.lists }
+    requires first { dart_at map.now first.0 ≡ Some (first_dart map.now.lists b.0) }
+    requires filled { AreFilled map.now fig.now b.0 0 next.old columns.old }
+    ensures { AreFilled map.now fig.now (b.0 + 1) 0 next.new columns.new }
+{
+    let mut d = first;
+    'round: loop {
+        put_edge(map, fig, next, columns, b, d);
+        match later_dart(map, d) {
+            Some(later) => d = later,
+            None => return,
+        }
+    }
+}
+
+// Writes the columns of the edges of `b` to lesser vertices.
+fn put_list(map: &HalfMap, fig: &BarFigure, next: &mut [u32], columns: &mut [i32], b: VertexId)
+    requires known { IsHalfMap map.now }
+    requires vertex { b.0 < length map.now.lists }
+    requires filled { AreFilled map.now fig.now b.0 0 next.old columns.old }
+    ensures { AreFilled map.now fig.now (b.0 + 1) 0 next.new columns.new }
+{
+    if let Some(first) = map.first_dart(b) {
+        put_round(map, fig, next, columns, b, first);
+    }
+}
+
+// For each vertex the number of edges with a lesser first end.
+fn fill_next(map: &HalfMap, next: &mut [u32])
+    requires known { IsHalfMap map.now }
+    requires vertices { length next.old ≡ length map.now.lists }
+    ensures size { length next.new ≡ length map.now.lists }
+    ensures next { (a : ℕ) → a < length map.now.lists → slice_index next.new a ≡ edges_before map.now.lists a }
+{
+    let mut before = 0;
+    for v in 0..map.n() {
+        next[v as usize] = before;
+        before = edges_with(map, VertexId(v), before);
+    }
+}
+
+// Writes the columns of all edges, with room for a number at each vertex.
+pub(crate) fn fill_columns(map: &HalfMap, fig: &BarFigure, next: &mut [u32], columns: &mut [i32])
+    requires known { IsHalfMap map.now }
+    requires vertices { length next.old ≡ length map.now.lists }
+    ensures size { length columns.new ≡ length columns.old }
+    ensures columns { AreColumns map.now fig.now columns.new }
+{
+    fill_next(map, next);
+    for b in 0..map.n() {
+        put_list(map, fig, next, columns, VertexId(b));
+    }
+}
+
+// The column of the edge of a dart from `a` to `b`, its greater end, where `before` edges have their lesser
+// end below `a`.
+pub(crate) fn column_upwards(
+    map: &HalfMap,
+    fig: &BarFigure,
+    columns: &[i32],
+    before: u32,
+    a: VertexId,
+    b: VertexId,
+    d: DartId,
+) -> i32
+    requires known { IsHalfMap map.now }
+    requires columns { AreColumns map.now fig.now columns.now }
+    requires before { before ≡ edges_before map.now.lists a.0 }
+    requires few { before ≤ 65535 * a.0 }
+    requires dart { dart_at map.now d.0 ≡ Some (a.0, b.0) }
+    requires order { a.0 < b.0 }
+    ensures { result ≡ the_column map.now.lists fig.now a.0 b.0 }
+{
+    if (d.0 as usize) < columns.len() {
+        columns[d.0 as usize]
+    } else {
+        column_from(map, fig, before, a, b)
+    }
+}
+
+// The column of the edge of a dart.
+pub(crate) fn column_at(map: &HalfMap, fig: &BarFigure, columns: &[i32], d: DartId) -> i32
+    requires known { IsHalfMap map.now }
+    requires columns { AreColumns map.now fig.now columns.now }
+    requires live { IsLive map.now d.0 }
+    ensures { result ≡ the_column_between map.now.lists fig.now (dart_of map.now d.0).0 (dart_of map.now d.0).1 }
+{
+    if (d.0 as usize) < columns.len() {
+        columns[d.0 as usize]
+    } else {
+        column_between(map, fig, map.tail(d), map.head(d))
+    }
+}
