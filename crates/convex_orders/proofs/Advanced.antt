@@ -76,7 +76,23 @@ module _ (lists own other : Lists) (count s d : ℕ) (based : IsBased lists s d)
           to = ap o.contour (sym z) ∙ (off.behind 0 ∙ (ap w z' ∙ (sym (at.off_by.list.each end (omega arith)) ∙ sym out.end_is)));
         }
 
-    module _ (us : List ℕ) (list : IsListOf us o.contour o.last) where
+    pub some_trace : SomeTrace lists own marks left x
+    some_trace = record { alive = o.alive; w = o.contour; r = o.places; a = first; b = o.last; trace = trace_from }
+
+    -- what is gone along from there on
+    module _ (us : List ℕ) (traced : (alive : ℕ → Bool) (w : ℕ → ℕ) (r a b : ℕ) → IsTrace lists own marks left x alive w r a b → IsListOf us w b) where
+      list : IsListOf us o.contour o.last
+      list = traced o.alive o.contour o.places first o.last trace_from
+
+      pub put_in : (i : ℕ) → i < length us → slice_index us i < length lists
+      put_in = us_in lists own other count simple n marks s d ws us alive w r o at.off_by list
+
+      pub put_back : AreEdges lists us
+      put_back = us_back lists own other count simple n marks s d ws us alive w r o at.off_by list
+
+      pub put_edges : (i : ℕ) → suc i < length us → HasDart lists (slice_index us i) (slice_index us (suc i))
+      put_edges = us_edges lists own other count simple n marks s d ws us alive w r o at.off_by list
+
       us_long : length us ≡ suc o.last
       us_long = list.long
 

@@ -1,14 +1,14 @@
 //! The rows of a run of a map.
-ghost use Rattle.std.specs.Prelude.{◌≡◌, ◌<◌, ℕ, true, [], length, slice_index, Some, IfOk};
+ghost use Rattle.std.specs.Prelude.{◌≡◌, ◌<◌, ℕ, [], length, Some, IfOk};
 ghost use Rattle.map_theory.specs.Maps.{IsPlane};
 ghost use Rattle.convex_peeling.specs.Tight.{IsThreeConnected};
 ghost use Rattle.half_edges.specs.Map.{IsLive, dart_at};
 ghost use Rattle.convex_orders.specs.FaceNumbers.{AreFaceNumbers};
 ghost use Rattle.convex_laws.specs.Removed.{AreRowsOfRun};
-ghost use Rattle.convex_orders.specs.Shown.{is_set, IsBased};
+ghost use Rattle.convex_orders.specs.Shown.{IsBased};
 
 use crate::face_numbers::{FaceNumbers, face_numbers};
-use crate::rounds::{begin, peel};
+use crate::rounds::put_all;
 use convex_laws::convex_rows::ConvexRows;
 use half_edges::{DartId, HalfMap};
 use map_lists::Rotations;
@@ -25,45 +25,6 @@ fn no_rows(alloc: Global) -> ConvexRows
         cuts: Rotations::new(alloc),
         news: Rotations::new(alloc),
     }
-}
-
-// All removals, with all numbers marked at first.
-fn put_all(
-    alloc: Global,
-    rows: &mut ConvexRows,
-    marks: &mut [bool],
-    left: &mut Vec<u16>,
-    right: &mut Vec<u16>,
-    places: &mut [u16],
-    edges: &mut [u16],
-    lists: &Rotations,
-    t: &FaceNumbers,
-    s: u16,
-    d: u16,
-) -> Result<(), AllocError>
-    requires based { IsBased lists.now s d }
-    requires few { length lists.now < 4096 }
-    requires numbers { AreFaceNumbers lists.now t.now.own t.now.other t.now.count }
-    requires marks { length marks.old ≡ t.now.count }
-    requires all { (f : ℕ) → f < t.now.count → is_set marks.old f ≡ true }
-    requires empty { left.old.items ≡ [] }
-    requires empty_right { right.old.items ≡ [] }
-    requires places { length places.old ≡ t.now.count }
-    requires edges { length edges.old ≡ t.now.count }
-    requires no_places { (f : ℕ) → slice_index places.old f ≡ 0 }
-    requires no_edges { (f : ℕ) → slice_index edges.old f ≡ 0 }
-    requires rows { rows.old.rows ≡ [] }
-    requires cuts { rows.old.cuts ≡ [] }
-    requires news { rows.old.news ≡ [] }
-    ensures { IfOk result (λ _. AreRowsOfRun lists.now s d rows.new) }
-{
-    begin(
-        alloc, rows, marks, left, right, places, edges, lists, t, s, d,
-    )?;
-    peel(
-        alloc, rows, marks, left, right, places, edges, lists, t, s, d,
-    )?;
-    Ok(())
 }
 
 // The rows of a map by its lists, from the base (s, d).

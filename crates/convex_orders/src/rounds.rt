@@ -129,8 +129,8 @@ fn put_last(
     Ok(())
 }
 
-/// Takes one removal after another, to the last one.
-pub(crate) fn peel(
+// Takes one removal after another, to the last one.
+fn peel(
     alloc: Global,
     rows: &mut ConvexRows,
     marks: &mut [bool],
@@ -201,8 +201,9 @@ fn clear_before_base(marks: &mut [bool], own: &ItemLists<u32>, ws: &[u16])
     clear_row(marks, own.list(ws[ws.len() - 2] as usize));
 }
 
-/// Takes off the face of the base, and then the vertex before the base with all its faces.
-pub(crate) fn begin(
+/// Takes all removals: the face of the base, then the vertex before the base with all its faces, and then one after
+/// another. All numbers are marked at first.
+pub(crate) fn put_all(
     alloc: Global,
     rows: &mut ConvexRows,
     marks: &mut [bool],
@@ -227,10 +228,7 @@ pub(crate) fn begin(
     requires no_places { (f : ℕ) → slice_index places.old f ≡ 0 }
     requires no_edges { (f : ℕ) → slice_index edges.old f ≡ 0 }
     requires none { HasRows rows.old 0 }
-    ensures long { length marks.new ≡ length marks.old }
-    ensures stands { IfOk result (λ _. Stands lists.now t.now.own marks.new s d (contour_of left.new.items right.new.items) rows.new (suc (dart_count lists.now))) }
-    ensures counts { IfOk result (λ _. AreCounts lists.now t.now.own t.now.count (contour_of left.new.items right.new.items) places.new edges.new) }
-    ensures left { IfOk result (λ _. 0 < length left.new.items) }
+    ensures { IfOk result (λ _. AreRowsOfRun lists.now s d rows.new) }
 {
     first_contour(marks, left, lists, t, s, d)?;
     raise_all(places, edges, lists, t, left);
@@ -250,6 +248,9 @@ pub(crate) fn begin(
         d,
         r - 2,
         r,
+    )?;
+    peel(
+        alloc, rows, marks, left, right, places, edges, lists, t, s, d,
     )?;
     Ok(())
 }
