@@ -4,8 +4,6 @@ pub mod WoodLemmas
 pub mod PointLemmas
 mod Refused
 -- The lemmas on the search.
-mod Marks
-mod Searching
 mod CountLemmas
 -- Lemmas on regions.
 mod PassLemmas
