@@ -1,7 +1,6 @@
 -- Lemmas on convex woods as values.
 pub mod NoteLemmas
 pub mod WoodLemmas
-pub mod PointLemmas
 mod Refused
 -- The lemmas on the search.
 mod CountLemmas
