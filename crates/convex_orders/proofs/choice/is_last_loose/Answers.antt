@@ -30,7 +30,7 @@ is_loose-requires-clause-other_in c =
 
 pub returns : goal.returns
 returns c = λ j e.
-    let t = c.args.t.now in
+    let t = c.args.faces.now in
     let left = c.args.left.now in
     let marks = c.args.marks.now in
     let places = c.args.places.now in

@@ -27,7 +27,7 @@ step_back-requires c = omega (arith, c.loop.invariant.long, c.loop-test.true)
 
 pub returns-then-is_last_loose-clause-found : goal.returns-then-is_last_loose-clause-found
 returns-then-is_last_loose-clause-found c = λ _ j e.
-    let t = c.args.t.now in
+    let t = c.args.faces.now in
     let ws = contour_of c.args.left.now.items c.args.right.now.items in
     let left = c.loop.left.items in
     let value = c.deref.ensures.value in
@@ -41,7 +41,7 @@ returns-then-is_last_loose-clause-none c = λ f. absurd (true≢false f)
 pub loop-preserved : goal.loop-preserved
 loop-preserved c =
     let inv = c.loop.invariant in
-    let t = c.args.t.now in
+    let t = c.args.faces.now in
     let ws = contour_of c.args.left.now.items c.args.right.now.items in
     let left = c.loop.left.items in
     let value = c.deref.ensures.value in

@@ -22,7 +22,7 @@ seek-requires-clause-behind c =
 
 pub returns-clause-found : goal.returns-clause-found
 returns-clause-found c = λ j e.
-    let t = c.args.t.now in
+    let t = c.args.faces.now in
     let same = c.in_ok-move_to.ensures.same in
     let n = length-contour c.args.left.now.items c.args.right.now.items in
     elim (cases_Bool c.in_ok-found.found) [
