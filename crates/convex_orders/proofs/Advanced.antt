@@ -1,13 +1,13 @@
 -- What a removal does to the two stacks and the counts: what is taken out, gone along and put in.
-use Rattle.std.proofs.Common.{◌≡◌, ℕ, suc, ◌+◌, ◌-◌, ◌<◌, ◌≤◌, Bool, eqb, List, [], ◌∷◌, ◌++◌, length, slice_index, get_or, refl, sym, ap, ap₂, ◌∙◌, subst, inl, inr, arith}
+use Rattle.std.proofs.Common.{◌≡◌, ℕ, suc, ◌+◌, ◌-◌, ◌<◌, ◌≤◌, Bool, eqb, List, [], ◌∷◌, ◌++◌, length, slice_index, refl, sym, ap, ap₂, ◌∙◌, subst, inl, inr, arith}
 use Rattle.std.specs.Prelude.{reverse, slice_range}
 use Rattle.std.proofs.lemmas.Bool.{cases_lt}
-use Rattle.std.proofs.lemmas.List.{length-append, length-reverse, get_or_append_left, get_or-append_right}
+use Rattle.std.proofs.lemmas.List.{get_or_append_left, get_or-append_right}
 use Rattle.classes.proofs.Counting.{count_below_same}
 use Rattle.map_lists.specs.Lists.{Lists}
 use Rattle.map_theory.specs.Maps.{HasDart, IsSimpleMap}
 use Rattle.map_theory.proofs.DartCounts.{sum_below-le, sum_below-same}
-use Rattle.convex_peeling.specs.Contours.{face_of, IsContour}
+use Rattle.convex_peeling.specs.Contours.{IsContour}
 use Rattle.convex_peeling.specs.Removals.{Removal, IsTakenOff}
 use Rattle.convex_peeling.proofs.Removed.{gone_within, first_lt}
 use Rattle.convex_orders.specs.FaceNumbers.{entry, AreFaceNumbers}
@@ -18,7 +18,7 @@ use Rattle.convex_orders.specs.Contours.{contour_of, AreEdges, inner_number}
 use Rattle.convex_orders.specs.Counts.{met_at, met_below, met_between, edges_between, AreCounts}
 use Rattle.convex_orders.proofs.Moves.{length-contour}
 use Rattle.convex_orders.proofs.CountLemmas.{IsSpliced, counts_spliced, met_spliced, edges_spliced, edges_le}
-use Rattle.convex_orders.specs.Shown.{IsBased, IsListOf, IsOffBy, IsOffAt, IsTrace, SomeTrace}
+use Rattle.convex_orders.specs.Shown.{IsBased, IsListOf, IsOffAt, IsTrace, SomeTrace}
 use Rattle.convex_orders.specs.Cuts.{AreCutPlaces, SomeCutPlaces, IsCutRow, IsPutIn, IsTakenOut}
 use Rattle.convex_orders.proofs.Once.{number_once}
 use Rattle.convex_orders.proofs.Traced.{contour_short}

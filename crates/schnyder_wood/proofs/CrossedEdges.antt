@@ -1,5 +1,5 @@
 -- Chains over the edges of the tables are those over the edges of a region's closed path.
-use Rattle.std.proofs.Common.{◌≡◌, ◌⊎◌, ◌<◌, ℕ, zero, suc, Bool, true, false, not, if◌then◌else◌, ◌||◌, ◌&&◌, eqb, List, length, get_or, Option, Some, option_map, refl, sym, ap, ◌∙◌, subst, inl, inr}
+use Rattle.std.proofs.Common.{◌≡◌, ℕ, zero, suc, Bool, true, false, not, if◌then◌else◌, ◌||◌, ◌&&◌, eqb, List, get_or, Some, refl, sym, ap, ◌∙◌, subst}
 use Rattle.std.specs.Bool.{Decides}
 use Rattle.std.proofs.lemmas.Bool.Decides.{Decides-eqb, Decides-or, Decides-and, not_from_Decides, same_from_decides}
 use Rattle.map_lists.specs.Lists.{Lists}
@@ -7,10 +7,10 @@ use Rattle.map_lists.specs.declared.ids.DartId.{DartId}
 use Rattle.map_theory.specs.Maps.{Dart, HasDart, IsSimpleMap, follows}
 use Rattle.map_theory.proofs.DartLemmas.{HasDart-follows}
 use Rattle.half_edges.specs.Map.{Map, IsHalfMap, dart_at}
-use Rattle.euler_faces.specs.Chains.{GoesOn as ChainGoesOn, along as chain_along, over as chain_over, ReachesBy as ChainReachesBy, Reaches as ChainReaches}
-use Rattle.euler_faces.specs.ChainSearch.{Tells, AreReached as ChainsReach}
+use Rattle.euler_faces.specs.Chains.{GoesOn as ChainGoesOn, along as chain_along, over as chain_over, ReachesBy as ChainReachesBy}
+use Rattle.euler_faces.specs.ChainSearch.{AreReached as ChainsReach}
 use Rattle.wood_runs.specs.Parents.{Colour}
-use Rattle.wood_laws.specs.Regions.{IsBoundaryEdge, GoesOn, along, over, past, ReachesBy, Reaches}
+use Rattle.wood_laws.specs.Regions.{IsBoundaryEdge, GoesOn, along, over, past, ReachesBy}
 use Rattle.schnyder_wood.specs.declared.schnyder_regions.boundary.ClosedPath.{ClosedPath}
 use Rattle.schnyder_wood.specs.ClosedPaths.{IsEdgeOf}
 use Rattle.schnyder_wood.specs.Search.{IsCrossed, HasEdges, AreReached}

@@ -1,4 +1,4 @@
-use Rattle.std.proofs.Common.{◌+◌, ◌<◌, ℕ, suc, length, get_or, arith}
+use Rattle.std.proofs.Common.{suc, length, get_or, arith}
 use Rattle.convex_orders.specs.Contours.{contour_of}
 use Rattle.convex_orders.proofs.Moves.{length-contour}
 use Rattle.convex_orders.proofs.ContourCountsRows.{entry-lt}

@@ -1,10 +1,9 @@
-use Rattle.std.proofs.Common.{◌≡◌, ◌↔◌, ◌+◌, ◌-◌, ◌<◌, ◌≤◌, ℕ, suc, true, false, List, length, get_or, slice_index, refl, sym, ap, ◌∙◌, subst, inl, inr, arith}
-use Rattle.std.specs.Prelude.{IsTrue}
+use Rattle.std.proofs.Common.{◌<◌, ℕ, suc, List, length, get_or, slice_index, sym, ap, ◌∙◌, subst, inl, inr, arith}
 use Rattle.std.proofs.lemmas.Bool.{cases_eq, cases_lt, true≢false}
 use Rattle.map_theory.specs.Maps.{list_of}
 use Rattle.convex_orders.specs.Contours.{contour_of}
 use Rattle.convex_orders.proofs.Moves.{length-contour, contour_left}
-use Rattle.convex_orders.specs.Splits.{IsLooseRow, IsLoosePlace}
+use Rattle.convex_orders.specs.Splits.{IsLooseRow}
 use Rattle.convex_orders.proofs.SeekLemmas.{place_from, row_from}
 use Rattle.convex_orders.proofs.choice.seek.Goals as goal
 

@@ -1,9 +1,8 @@
-use Rattle.std.proofs.Common.{◌≡◌, ◌+◌, ◌-◌, ◌<◌, ◌≤◌, ◌++◌, List, [], ◌∷◌, ℕ, suc, length, get_or, slice_index, take, refl, sym, ap, ◌∙◌, subst, arith}
-use Rattle.std.specs.Prelude.{slice_range, reverse}
+use Rattle.std.proofs.Common.{◌≡◌, ◌+◌, ◌<◌, ◌≤◌, List, ℕ, length, slice_index, sym, ap, subst, arith}
 use Rattle.convex_orders.specs.Contours.{contour_of, AreEdges}
-use Rattle.convex_orders.specs.Counts.{met_between, edges_between, AreCounts}
+use Rattle.convex_orders.specs.Counts.{met_between, edges_between}
 use Rattle.convex_orders.proofs.Moves.{length-contour}
-use Rattle.convex_orders.proofs.Outs.{part_at, left_in, left_edges, met_prefix, edges_prefix, met_some, edges_some}
+use Rattle.convex_orders.proofs.Outs.{left_in, left_edges, met_prefix, edges_prefix, met_some, edges_some}
 use Rattle.convex_orders.proofs.placed.take_out.Goals as goal
 
 pub move_to-requires : goal.move_to-requires

@@ -1,6 +1,6 @@
-use Rattle.std.proofs.Common.{◌≡◌, ◌+◌, ◌-◌, ◌<◌, ◌≤◌, ℕ, suc, Bool, List, [], ◌∷◌, length, get_or, refl, sym, ap, ◌∙◌, subst, arith}
+use Rattle.std.proofs.Common.{◌≡◌, ◌+◌, ℕ, suc, List, [], ◌∷◌, length, get_or, sym, ap, ◌∙◌, subst, arith}
 use Rattle.std.proofs.lemmas.List.{length-append, get_or_push}
-use Rattle.convex_orders.specs.Shown.{IsTrace, SomeTrace, IsListOf, IsRimIn}
+use Rattle.convex_orders.specs.Shown.{IsTrace}
 use Rattle.convex_orders.proofs.Traced.{traced_last, traced_rim, traced_more, traced_end, traced_short}
 use Rattle.convex_orders.proofs.rims.trace.Goals as goal
 

@@ -1,6 +1,5 @@
-use Rattle.std.proofs.Common.{◌≡◌, ◌+◌, ◌<◌, ℕ, suc, Bool, List, [], ◌∷◌, ◌++◌, false, length, get_or, set, refl, sym, ap, ◌∙◌, subst, arith}
+use Rattle.std.proofs.Common.{ℕ, List, [], ◌∷◌, ◌++◌, false, set, ap, ◌∙◌, arith}
 use Rattle.convex_orders.proofs.ContourCountsRows.{entry-lt}
-use Rattle.convex_orders.specs.Shown.{IsShown, IsTrace}
 use Rattle.convex_orders.proofs.StandLemmas.{first_shown, found, first_trace}
 use Rattle.convex_orders.proofs.rounds.first_contour.Goals as goal
 

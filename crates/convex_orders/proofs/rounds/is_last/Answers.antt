@@ -1,4 +1,4 @@
-use Rattle.std.proofs.Common.{◌≡◌, ◌≢◌, ◌+◌, ◌-◌, ◌<◌, ℕ, suc, List, length, slice_index, eqb-true, ne_eqb, eq-eqb, sym, ap, ◌∙◌, subst, arith}
+use Rattle.std.proofs.Common.{◌-◌, length, eqb-true, arith}
 use Rattle.convex_orders.specs.Contours.{contour_of}
 use Rattle.convex_orders.proofs.Moves.{length-contour}
 use Rattle.convex_orders.proofs.LastRounds.{all_inner, some_other, ne_from}

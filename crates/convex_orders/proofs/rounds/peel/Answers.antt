@@ -1,9 +1,9 @@
-use Rattle.std.proofs.Common.{◌≡◌, ◌+◌, ◌-◌, ◌<◌, ◌≤◌, List, ℕ, suc, length, get_or, sym, ap, ap₂, ◌∙◌, subst, arith}
-use Rattle.map_theory.specs.Maps.{HasDart, dart_count}
+use Rattle.std.proofs.Common.{◌-◌, List, ℕ, suc, length, sym, ap, ap₂, ◌∙◌, subst, arith}
+use Rattle.map_theory.specs.Maps.{dart_count}
 use Rattle.convex_orders.specs.Contours.{contour_of}
 use Rattle.convex_orders.specs.Counts.{AreCounts}
 use Rattle.convex_orders.proofs.ContourCountsRows.{entry-lt}
-use Rattle.convex_orders.specs.Standing.{AllInner, HasOther, IsLastRow}
+use Rattle.convex_orders.specs.Standing.{AllInner, HasOther}
 use Rattle.convex_orders.proofs.StandLemmas.{base_back, stands_left, two_places, last_rows}
 use Rattle.convex_orders.proofs.rounds.peel.Goals as goal
 

@@ -1,5 +1,4 @@
-use Rattle.std.proofs.Common.{◌≡◌, ◌+◌, ◌-◌, ◌<◌, ◌≤◌, List, ℕ, length, slice_index, sym, ap, ◌∙◌, subst, arith}
-use Rattle.map_theory.specs.Maps.{HasDart}
+use Rattle.std.proofs.Common.{◌≡◌, ◌<◌, ◌≤◌, List, ℕ, length, slice_index, sym, ap, ◌∙◌, subst, arith}
 use Rattle.convex_orders.specs.FaceNumbers.{IsTable}
 use Rattle.convex_orders.specs.Contours.{contour_of, AreEdges}
 use Rattle.convex_orders.specs.Counts.{met_below, AreCounts}

@@ -1,9 +1,8 @@
-use Rattle.std.proofs.Common.{◌≡◌, ◌+◌, ◌<◌, ℕ, suc, List, length, slice_index, refl, sym, ap, ap₂, ◌∙◌, subst, arith}
+use Rattle.std.proofs.Common.{◌<◌, ℕ, List, length, slice_index, refl, sym, ap, ap₂, ◌∙◌, subst, arith}
 use Rattle.convex_orders.specs.Contours.{contour_of, AreEdges}
 use Rattle.convex_orders.specs.Counts.{AreCounts}
 use Rattle.convex_orders.specs.Shown.{IsChoice, SomeOff, IsOffAt}
 use Rattle.convex_orders.specs.Splits.{IsLoosePlace}
-use Rattle.convex_orders.specs.Standing.{Stands}
 use Rattle.convex_orders.proofs.Stretches.{some_place}
 use Rattle.convex_orders.proofs.StandLemmas.{stands_vertices, stands_edges, choice, off_by, stands_more}
 use Rattle.convex_orders.proofs.rounds.round.Goals as goal

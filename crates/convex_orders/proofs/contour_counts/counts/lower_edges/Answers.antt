@@ -1,4 +1,4 @@
-use Rattle.std.proofs.Common.{◌≡◌, ◌+◌, ◌-◌, ◌<◌, ◌≤◌, suc, length, get_or, slice_index, length-set, ap, ◌∙◌, subst, arith}
+use Rattle.std.proofs.Common.{◌≡◌, ◌+◌, ◌-◌, ◌<◌, ◌≤◌, suc, length, get_or, slice_index, length-set, subst, arith}
 use Rattle.map_theory.specs.Maps.{HasDart}
 use Rattle.convex_orders.proofs.ContourCountsRows.{edge_number_in}
 use Rattle.convex_orders.proofs.CountLemmas.{lowered, counted, edges_to}
