@@ -14,6 +14,7 @@ pub mod Listed
 -- Lemmas on convex drawings.
 pub mod ByRows
 pub mod GridLemmas
+mod PointLemmas
 mod Refused
 -- Lemmas on the figures of records.
 pub mod FirstDart

@@ -1,5 +1,5 @@
 -- Adding up along the last contour.
-use Rattle.std.proofs.Common.{◌≡◌, ℕ, suc, ◌+◌, ◌-◌, ◌<◌, ◌≤◌, List, length, set, refl, sym, ap, ◌∙◌, subst, inl, inr, arith}
+use Rattle.std.proofs.Common.{◌≡◌, ℕ, suc, ◌+◌, ◌-◌, ◌<◌, ◌≤◌, List, length, set, sym, ap, ◌∙◌, subst, inl, inr, arith}
 use Rattle.std.proofs.lemmas.Bool.{cases_eq}
 use Rattle.contour_runs.specs.Runs.{Stage}
 use Rattle.contour_runs.specs.Wood.{Coordinates}
@@ -30,18 +30,6 @@ module _ (g : Stage) (at : Coordinates) (name : ℕ → ℕ) (old : List Spot) (
 
   pub two_wide : 2 ≤ width
   two_wide = let a = h.stage.wide in let b = h.wide in omega arith
-
-  pub IsWalking-begin : (p : ℕ) → suc p ≡ width → IsWalking g at name p 0 faces s old old
-  IsWalking-begin p e =
-      let w = h.wide in
-      let end = h.stage.end p (omega arith) in
-      record {
-        within = omega arith;
-        one = sym (ap at.one end ∙ h.falling.second_one);
-        two = sym (ap at.two end ∙ h.falling.second_two);
-        here = sym h.end ∙ ap name (sym end);
-        behind = record { done = λ i a b. absurd (omega arith); others = λ u away. refl };
-      }
 
   module _ (p x y u : ℕ) (now : List Spot) (k : IsWalking g at name p x y u old now) (same : length now ≡ length old) where
     pub here_in : u < length now

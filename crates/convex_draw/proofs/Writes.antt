@@ -31,9 +31,6 @@ AreLinked-more us j old now h some l m distinct =
           spot_of-set_other now (get_or us j 0) u x (λ e. away (j - 1) (omega arith) (ap (λ v. get_or us v 0) d ∙ sym e)) ∙ h.others u (λ i k. away i (omega arith));
     }
 
-pub AreLinked-none : (us : List ℕ) (spots : List Spot) → AreLinked us 1 spots spots
-AreLinked-none us spots = record { linked = λ i k. absurd (omega arith); others = λ u away. refl }
-
 -- equal numbers settle alike
 pub settled-same : (n a b c p z q a' b' c' p' q' : ℕ) → a ≡ a' → b ≡ b' → c ≡ c' → p ≡ p' → q ≡ q' → settled n a b c p z q ≡ settled n a' b' c' p' z q'
 settled-same n a b c p z q a' b' c' p' q' e f h i j =

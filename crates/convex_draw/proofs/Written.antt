@@ -18,9 +18,6 @@ module _ (w : Setting) (spots : List Spot) (row cuts news : List ℕ) (put : IsP
   abbrev h : IsRowOver w spots row
   h = put.over
 
-  pub news_some : 0 < length news
-  news_some = let n = put.news_are.long in let v = h.step.some_vertex in omega arith
-
   new_at : (i : ℕ) → i < s.vertices → get_or news i 0 ≡ w.name (g.count + i)
   new_at i l = let n = put.news_are.long in put.news_are.each i (omega arith)
 

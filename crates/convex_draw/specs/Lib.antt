@@ -5,5 +5,6 @@ pub mod Sums
 pub mod Points
 -- Convex drawings from any base.
 pub mod Grids
+pub mod RunPoints
 -- The figures of records by convex drawings.
 pub mod Figures

@@ -4,6 +4,7 @@ ghost use Rattle.map_theory.specs.Maps.{IsPlane, vertex_count, face_count, compo
 ghost use Rattle.convex_peeling.specs.Tight.{IsThreeConnected};
 ghost use Rattle.half_edges.specs.Map.{IsLive, dart_at};
 ghost use Rattle.convex_draw.specs.Grids.{IsConvexGrid};
+ghost use Rattle.convex_draw.specs.RunPoints.{AreRunPoints};
 
 use crate::convex_points::count_points;
 use convex_orders::convex_rows;
@@ -45,6 +46,22 @@ fn in_square(points: Points, side: u32) -> GridFigure
     }
 }
 
+/// The figure that `convex_draw` gives, whose points are the counts of faces over a run of the map.
+///
+/// It fails only for want of memory. The map stays as it is.
+pub fn run_figure(alloc: Global, map: &HalfMap, base: DartId) -> Result<GridFigure, AllocError>
+    requires plane { IsPlane map.now.lists }
+    requires three { IsThreeConnected map.now.lists }
+    requires base { IsLive map.now base.0 }
+    ensures points { IfOk result (λ figure. (s d : ℕ) → dart_at map.now base.0 ≡ Some (s, d) → AreRunPoints map.now.lists s d figure.points) }
+    ensures grid { IfOk result (λ figure. (s d : ℕ) → dart_at map.now base.0 ≡ Some (s, d) → IsConvexGrid map.now.lists s d figure) }
+{
+    let rows = convex_rows(alloc, map, base)?;
+    let side = side_of(map);
+    let points = count_points(alloc, &rows, map.head(base), map.tail(base), map.n(), side)?;
+    Ok(in_square(points, side))
+}
+
 /// The convex drawing of a three-connected map of genus zero over a base: a dart, which is drawn from the upper
 /// left corner of the grid to the lower right one, and whose face is the outer one. The grid is f - 1 by f - 1, for
 /// f faces. No inner face bends inwards, and the outer one is a triangle with flat angles.
@@ -58,8 +75,5 @@ pub fn convex_draw(alloc: Global, map: &HalfMap, base: DartId) -> Result<GridFig
     requires base { IsLive map.now base.0 }
     ensures { IfOk result (λ figure. (s d : ℕ) → dart_at map.now base.0 ≡ Some (s, d) → IsConvexGrid map.now.lists s d figure) }
 {
-    let rows = convex_rows(alloc, map, base)?;
-    let side = side_of(map);
-    let points = count_points(alloc, &rows, map.head(base), map.tail(base), map.n(), side)?;
-    Ok(in_square(points, side))
+    run_figure(alloc, map, base)
 }

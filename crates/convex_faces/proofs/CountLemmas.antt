@@ -12,6 +12,8 @@ use Rattle.map_theory.proofs.DartLemmas.{dart_number-lt, length-face_images, IsP
 use Rattle.half_edges.specs.Map.{Map, IsHalfMap, dart_at}
 use Rattle.map_theory.proofs.DartPermutations.{dart_of, dart_of-number}
 use Rattle.euler_faces.specs.Numbers.{mark_at, id_of}
+use Rattle.euler_faces.specs.Chains.{along, Reaches}
+use Rattle.euler_faces.specs.ChainSearch.{place, AreReached}
 use Rattle.euler_faces.specs.FaceWalks.{walk_at, first_number, AreFaces}
 use Rattle.euler_faces.proofs.NumberLemmas.{number_at-is, id_of-number}
 use Rattle.euler_faces.proofs.WalkFaces.{in_class, in_walk}
@@ -20,11 +22,10 @@ use Rattle.convex_peeling.proofs.Faces.{along_face}
 use Rattle.convex_orders.specs.FaceNumbers.{InWalk}
 use Rattle.convex_orders.proofs.FaceNumbersRows.{live_dart, live_at}
 use Rattle.convex_laws.specs.Walks.{IsWalk, is_odd_on}
-use Rattle.convex_laws.specs.Chains.{along, Reaches}
 use Rattle.convex_laws.specs.ClosedWalksLaws.{HasSide}
 use Rattle.convex_laws.proofs.Sides.{sides_are_known}
 use Rattle.convex_laws.specs.Inside.{is_other_face, IsInsideCount}
-use Rattle.convex_faces.specs.Search.{place, AreReached, is_counted}
+use Rattle.convex_faces.specs.Search.{is_counted}
 
 not-eqb : (a b : ℕ) → not (eqb a b) ≡ true → a ≢ b
 not-eqb a b e q = true≢false (sym e ∙ ap not (eq-eqb a b q))

@@ -1,11 +1,8 @@
 -- Lemmas on convex woods as values.
 pub mod NoteLemmas
 pub mod WoodLemmas
-pub mod PointLemmas
 mod Refused
 -- The lemmas on the search.
-mod Marks
-mod Searching
 mod CountLemmas
 -- Lemmas on regions.
 mod PassLemmas

@@ -24,7 +24,7 @@ use Rattle.convex_laws.proofs.ConvexWoodsWhole.{IsWoodRun-named, some_out, wood_
 use Rattle.convex_laws.specs.Signs.{IsRisingBy}
 use Rattle.convex_faces.specs.Notes.{IsNoted, AreNoted}
 use Rattle.convex_faces.specs.Directions.{Directions, root_in, table_in, out_in, count_in, IsWoodIn, IsDrawnWood}
-use Rattle.convex_faces.specs.RunPoints.{AreRunPoints}
+use Rattle.convex_draw.specs.RunPoints.{AreRunPoints}
 use Rattle.convex_laws.proofs.SignLemmas.{IsRisingBy-counts, IsRising-points}
 use Rattle.convex_faces.proofs.NoteLemmas.{tail_is, head_is as ends_head}
 

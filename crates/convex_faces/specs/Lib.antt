@@ -1,7 +1,6 @@
 -- Convex woods as values.
 pub mod Notes
 pub mod Directions
-pub mod RunPoints
 -- The faces inside a closed walk, and regions of convex woods.
 pub mod Search
 pub mod Passing

@@ -1,6 +1,5 @@
 //! The faces inside a closed walk, counted by a search of the faces.
 
 mod count;
-mod search;
 
 pub use count::inside_count;

@@ -2,7 +2,6 @@
 
 mod of_run;
 mod outs;
-mod points;
 mod signs;
 mod woods;
 

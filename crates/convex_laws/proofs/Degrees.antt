@@ -14,10 +14,6 @@ abbrev pub odd_below : (ℕ → Bool) → ℕ → Bool
 odd_below t zero = false
 odd_below t (suc n) = flipped (t n) (odd_below t n)
 
-odd_below_same : (t u : ℕ → Bool) (n : ℕ) → ((i : ℕ) → i < n → t i ≡ u i) → odd_below t n ≡ odd_below u n
-odd_below_same t u zero h = refl
-odd_below_same t u (suc n) h = ap₂ flipped (h n (omega arith)) (odd_below_same t u n (λ i l. h i (omega arith)))
-
 odd_below_none : (t : ℕ → Bool) (n : ℕ) → ((i : ℕ) → i < n → t i ≡ false) → odd_below t n ≡ false
 odd_below_none t zero h = refl
 odd_below_none t (suc n) h = ap (λ b. flipped b (odd_below t n)) (h n (omega arith)) ∙ odd_below_none t n (λ i l. h i (omega arith))

@@ -13,7 +13,7 @@ use Rattle.plane_laws.proofs.DartPaths.{twin-number, face_step-number}
 use Rattle.plane_laws.proofs.EdgeBound.{one_class}
 use Rattle.plane_peeling.proofs.Rings.{entries_closed}
 use Rattle.convex_laws.specs.Walks.{IsWalk, flipped, is_odd_on}
-use Rattle.convex_laws.specs.Chains.{GoesOn, along, over, ReachesBy, Reaches}
+use Rattle.euler_faces.specs.Chains.{GoesOn, along, over, ReachesBy, Reaches}
 use Rattle.convex_laws.specs.ClosedWalksLaws.{SidesAreKnown}
 use Rattle.convex_laws.proofs.Covers.{copy, J, copies_apart, over_together, along_together}
 use Rattle.convex_laws.proofs.Degrees.{passed, passed-twin, sector, sector-rotation}

@@ -31,7 +31,7 @@ use Rattle.convex_laws.specs.Signs.{IsRisingBy}
 use Rattle.convex_laws.specs.FaceRegionsLaws.{RegionsDraw}
 use Rattle.convex_laws.proofs.SignLemmas.{IsRising-points}
 use Rattle.convex_laws.specs.Walks.{flipped, is_odd_on, IsWalk}
-use Rattle.convex_laws.specs.Chains.{GoesOn, along, over, ReachesBy, Reaches}
+use Rattle.euler_faces.specs.Chains.{GoesOn, along, over, ReachesBy, Reaches}
 use Rattle.convex_laws.specs.ClosedWalksLaws.{HasSide}
 use Rattle.convex_laws.specs.Inside.{is_other_face}
 use Rattle.convex_laws.specs.Regions.{IsRegionWalk, IsFaceRegion}

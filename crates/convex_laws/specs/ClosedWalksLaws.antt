@@ -3,7 +3,7 @@ use Rattle.std.specs.Prelude.{ℕ, ◌≡◌, Bool, List}
 use Rattle.map_lists.specs.Lists.{Lists}
 use Rattle.map_theory.specs.Maps.{Dart, HasDart, IsSimpleMap, IsPlane, component_count}
 use Rattle.convex_laws.specs.Walks.{IsWalk, is_odd_on}
-use Rattle.convex_laws.specs.Chains.{Reaches}
+use Rattle.euler_faces.specs.Chains.{Reaches}
 
 -- Whether the chains to a dart step over an odd number of edges; each of them does so, or none.
 pub record HasSide (lists : Lists) (counts : ℕ → ℕ → Bool) (base : Dart) (x y : ℕ) (odd : Bool) : Type 0 where

@@ -18,7 +18,6 @@ pub mod ConvexWoodsLaws
 pub mod Removed
 -- Closed walks, their sides, and the faces inside.
 pub mod Walks
-pub mod Chains
 pub mod ClosedWalksLaws
 pub mod Inside
 -- Regions of convex woods.

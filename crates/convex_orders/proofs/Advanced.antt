@@ -1,13 +1,13 @@
 -- What a removal does to the two stacks and the counts: what is taken out, gone along and put in.
-use Rattle.std.proofs.Common.{◌≡◌, ℕ, suc, ◌+◌, ◌-◌, ◌<◌, ◌≤◌, Bool, eqb, List, [], ◌∷◌, ◌++◌, length, slice_index, get_or, refl, sym, ap, ap₂, ◌∙◌, subst, inl, inr, arith}
+use Rattle.std.proofs.Common.{◌≡◌, ℕ, suc, ◌+◌, ◌-◌, ◌<◌, ◌≤◌, Bool, eqb, List, [], ◌∷◌, ◌++◌, length, slice_index, refl, sym, ap, ap₂, ◌∙◌, subst, inl, inr, arith}
 use Rattle.std.specs.Prelude.{reverse, slice_range}
 use Rattle.std.proofs.lemmas.Bool.{cases_lt}
-use Rattle.std.proofs.lemmas.List.{length-append, length-reverse, get_or_append_left, get_or-append_right}
+use Rattle.std.proofs.lemmas.List.{get_or_append_left, get_or-append_right}
 use Rattle.classes.proofs.Counting.{count_below_same}
 use Rattle.map_lists.specs.Lists.{Lists}
 use Rattle.map_theory.specs.Maps.{HasDart, IsSimpleMap}
 use Rattle.map_theory.proofs.DartCounts.{sum_below-le, sum_below-same}
-use Rattle.convex_peeling.specs.Contours.{face_of, IsContour}
+use Rattle.convex_peeling.specs.Contours.{IsContour}
 use Rattle.convex_peeling.specs.Removals.{Removal, IsTakenOff}
 use Rattle.convex_peeling.proofs.Removed.{gone_within, first_lt}
 use Rattle.convex_orders.specs.FaceNumbers.{entry, AreFaceNumbers}
@@ -18,7 +18,7 @@ use Rattle.convex_orders.specs.Contours.{contour_of, AreEdges, inner_number}
 use Rattle.convex_orders.specs.Counts.{met_at, met_below, met_between, edges_between, AreCounts}
 use Rattle.convex_orders.proofs.Moves.{length-contour}
 use Rattle.convex_orders.proofs.CountLemmas.{IsSpliced, counts_spliced, met_spliced, edges_spliced, edges_le}
-use Rattle.convex_orders.specs.Shown.{IsBased, IsListOf, IsOffBy, IsOffAt, IsTrace, SomeTrace}
+use Rattle.convex_orders.specs.Shown.{IsBased, IsListOf, IsOffAt, IsTrace, SomeTrace}
 use Rattle.convex_orders.specs.Cuts.{AreCutPlaces, SomeCutPlaces, IsCutRow, IsPutIn, IsTakenOut}
 use Rattle.convex_orders.proofs.Once.{number_once}
 use Rattle.convex_orders.proofs.Traced.{contour_short}
@@ -76,7 +76,23 @@ module _ (lists own other : Lists) (count s d : ℕ) (based : IsBased lists s d)
           to = ap o.contour (sym z) ∙ (off.behind 0 ∙ (ap w z' ∙ (sym (at.off_by.list.each end (omega arith)) ∙ sym out.end_is)));
         }
 
-    module _ (us : List ℕ) (list : IsListOf us o.contour o.last) where
+    pub some_trace : SomeTrace lists own marks left x
+    some_trace = record { alive = o.alive; w = o.contour; r = o.places; a = first; b = o.last; trace = trace_from }
+
+    -- what is gone along from there on
+    module _ (us : List ℕ) (traced : (alive : ℕ → Bool) (w : ℕ → ℕ) (r a b : ℕ) → IsTrace lists own marks left x alive w r a b → IsListOf us w b) where
+      list : IsListOf us o.contour o.last
+      list = traced o.alive o.contour o.places first o.last trace_from
+
+      pub put_in : (i : ℕ) → i < length us → slice_index us i < length lists
+      put_in = us_in lists own other count simple n marks s d ws us alive w r o at.off_by list
+
+      pub put_back : AreEdges lists us
+      put_back = us_back lists own other count simple n marks s d ws us alive w r o at.off_by list
+
+      pub put_edges : (i : ℕ) → suc i < length us → HasDart lists (slice_index us i) (slice_index us (suc i))
+      put_edges = us_edges lists own other count simple n marks s d ws us alive w r o at.off_by list
+
       us_long : length us ≡ suc o.last
       us_long = list.long
 

@@ -25,9 +25,6 @@ live_at o u v e = subst IsSome (sym e) refl
 pub twin_at : (o o' : Option Dart) (u v : ℕ) → o ≡ Some (u, v) → o' ≡ option_map twin_dart o → o' ≡ Some (v, u)
 twin_at o o' u v e step = step ∙ ap (option_map twin_dart) e
 
-pub twin_live : (o o' : Option Dart) → IsSome o → o' ≡ option_map twin_dart o → IsSome o'
-twin_live o o' s step = let x = live_dart o s in live_at o' x.1 x.0 (twin_at o o' x.0 x.1 x.2 step)
-
 pub next_live : (map : Map) (o o' : Option Dart) → IsSome o → o' ≡ option_map (next_dart map.lists) o → IsSome o'
 next_live map o o' s step = let x = live_dart o s in live_at o' x.0 (follows map.lists x.0 x.1) (step ∙ ap (option_map (next_dart map.lists)) x.2)
 

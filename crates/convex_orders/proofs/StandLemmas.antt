@@ -24,7 +24,7 @@ use Rattle.convex_laws.proofs.Ends.{IsEnded-more, IsEnded-first}
 use Rattle.convex_laws.proofs.Ended.{IsEnded-base}
 use Rattle.convex_laws.proofs.Grown.{IsShore-contour}
 use Rattle.convex_orders.specs.FaceNumbers.{entry, AreFaceNumbers}
-use Rattle.convex_orders.specs.Shown.{is_set, IsBased, IsShown, IsListOf, IsTrace, IsOffBy, IsOffAt, GoesOff, IsChoice}
+use Rattle.convex_orders.specs.Shown.{is_set, IsBased, IsShown, IsListOf, IsTrace, IsOffBy, IsOffAt, SomeOff, GoesOff, IsChoice}
 use Rattle.convex_orders.specs.Standing.{Stands, HasOther, AllInner, IsLastRow}
 use Rattle.map_theory.proofs.DartCounts.{sum_below-le}
 use Rattle.convex_orders.specs.Contours.{AreEdges}
@@ -32,6 +32,7 @@ use Rattle.convex_orders.specs.Counts.{met_at, met_below}
 use Rattle.convex_orders.proofs.ContourCountsRows.{entry-lt}
 use Rattle.convex_orders.proofs.Once.{number_once}
 use Rattle.convex_orders.proofs.Taken.{marks_after_vertex}
+use Rattle.convex_orders.proofs.Traced.{contour_short}
 
 module _ (lists : Lists) (s d : ℕ) (based : IsBased lists s d) where
   abbrev pub simple : IsSimpleMap lists
@@ -321,3 +322,50 @@ module _ (lists : Lists) (s d : ℕ) (based : IsBased lists s d) where
               ended = IsEnded-first lists s d simple based.three.connected tight has_three based.base x.0 x.1 x.2 x.4 o x.5 x.8 x.9 x.6 old rows none more;
               fewer = omega arith;
             }
+
+    -- the list of the contour where just the face of the base is taken off, and what goes with the vertex before the base
+    module _ (marks : List Bool) (ws : List ℕ) (shows : (alive : ℕ → Bool) (w : ℕ → ℕ) (r : ℕ) → IsFirst lists s d alive w r → IsShown lists own marks s d alive w r) (is_list : (alive : ℕ → Bool) (w : ℕ → ℕ) (r : ℕ) → IsFirst lists s d alive w r → IsListOf ws w r) where
+      abbrev x : Found
+      x = found
+
+      shown : IsShown lists own marks s d x.0 x.1 x.2
+      shown = shows x.0 x.1 x.2 x.4
+
+      list : IsListOf ws x.1 x.2
+      list = is_list x.0 x.1 x.2 x.4
+
+      pub begun_two : 2 ≤ length ws
+      begun_two = two_first marks marks ws x shown list
+
+      pub begun_short : length ws ≤ length lists
+      begun_short = omega (arith, contour_short lists x.0 x.1 x.2 shown.contour, list.long)
+
+      pub begun_in : (i : ℕ) → i < length ws → slice_index ws i < length lists
+      begun_in = shown_in own marks ws x.0 x.1 x.2 shown list
+
+      pub begun_edges : AreEdges lists ws
+      begun_edges = shown_edges own marks ws x.0 x.1 x.2 shown list
+
+      pub begun_room : (f : ℕ) → met_below own ws (length ws) f ≤ length ws
+      begun_room = shown_room own marks ws x.0 x.1 x.2 shown list other count n
+
+      pub begun_places : (m : ℕ) → m ≡ length ws → 3 ≤ m
+      begun_places m e = omega (arith, x.8, list.long, e)
+
+      module _ (new : List Bool) (row all : List ℕ) (same : row ≡ ws) (alone : all ≡ ws) (set_is : (f : ℕ) → (is_set new f ≡ true) ↔ ((is_set marks f ≡ true) × (¬ Contains (list_of own (slice_index row (length row - 2))) f))) (m : ℕ) (long : m ≡ length ws) where
+        ends : length ws - 2 + 2 ≡ length ws
+        ends = let two = begun_two in omega arith
+
+        set_at : (f : ℕ) → (is_set new f ≡ true) ↔ ((is_set marks f ≡ true) × (¬ Contains (list_of own (slice_index ws (length ws - 2))) f))
+        set_at = subst (λ (z : List ℕ). (f : ℕ) → (is_set new f ≡ true) ↔ ((is_set marks f ≡ true) × (¬ Contains (list_of own (slice_index z (length z - 2))) f))) same set_is
+
+        begun_off : IsOffAt lists own new s d all (m - 1 - 2) (m - 1) x.0 x.1 x.2 x.3
+        begun_off =
+            subst (λ (z : List ℕ). IsOffAt lists own new s d z (m - 1 - 2) (m - 1) x.0 x.1 x.2 x.3) (sym alone)
+            (record { off_by = off_first marks new ws x shown list (length ws - 2) ends set_at; first_is = omega (arith, x.8, list.long, long); end_is = omega (arith, x.8, x.9, list.long, long) })
+
+        pub begun_some : SomeOff lists own new s d all (m - 1 - 2) (m - 1)
+        begun_some = record { alive = x.0; w = x.1; r = x.2; o = x.3; is = begun_off }
+
+        pub begun_stands : (us : List ℕ) (old rows : ConvexRows) → HasRows old 0 → ((alive : ℕ → Bool) (w : ℕ → ℕ) (r : ℕ) (o : Removal) → IsOffAt lists own new s d all (m - 1 - 2) (m - 1) alive w r o → IsListOf us o.contour o.places) → ((alive : ℕ → Bool) (w : ℕ → ℕ) (r : ℕ) (o : Removal) → IsOffAt lists own new s d all (m - 1 - 2) (m - 1) alive w r o → IsRowMore lists w o old rows) → Stands lists own new s d us rows (suc (dart_count lists))
+        begun_stands us old rows none goes_on more = stands_first marks new ws x shown list (length ws - 2) ends set_at us old rows none (goes_on x.0 x.1 x.2 x.3 begun_off) (more x.0 x.1 x.2 x.3 begun_off)

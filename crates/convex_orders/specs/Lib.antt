@@ -8,3 +8,4 @@ pub mod Shown
 pub mod Splits
 pub mod Cuts
 pub mod Standing
+pub mod Tables

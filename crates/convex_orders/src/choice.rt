@@ -59,22 +59,22 @@ fn is_loose(own: &[u32], other: &[u32], marks: &[bool], places: &[u16], edges: &
 fn is_last_loose(
     left: &[u16],
     lists: &Rotations,
-    t: &FaceNumbers,
+    faces: &FaceNumbers,
     marks: &[bool],
     places: &[u16],
     edges: &[u16],
 ) -> bool
-    requires numbers { AreFaceNumbers lists.now t.now.own t.now.other t.now.count }
-    requires marks { length marks.now ≡ t.now.count }
-    requires places { length places.now ≡ t.now.count }
-    requires edges { length edges.now ≡ t.now.count }
+    requires numbers { AreFaceNumbers lists.now faces.now.own faces.now.other faces.now.count }
+    requires marks { length marks.now ≡ faces.now.count }
+    requires places { length places.now ≡ faces.now.count }
+    requires edges { length edges.now ≡ faces.now.count }
     requires some { 0 < length left.now }
     requires vertices { (i : ℕ) → i < length left.now → slice_index left.now i < length lists.now }
-    ensures { (j : ℕ) → suc j ≡ length left.now → IsTrue result ↔ IsLooseRow (list_of t.now.own (slice_index left.now j)) (list_of t.now.other (slice_index left.now j)) marks.now places.now edges.now }
+    ensures { (j : ℕ) → suc j ≡ length left.now → IsTrue result ↔ IsLooseRow (list_of faces.now.own (slice_index left.now j)) (list_of faces.now.other (slice_index left.now j)) marks.now places.now edges.now }
 {
     let _lists = lists;
     let v = left[left.len() - 1] as usize;
-    is_loose(t.own.list(v), t.other.list(v), marks, places, edges)
+    is_loose(faces.own.list(v), faces.other.list(v), marks, places, edges)
 }
 
 // Goes back along the contour to a vertex that may go, and says whether there is one.
@@ -82,25 +82,25 @@ fn seek(
     left: &mut Vec<u16>,
     right: &mut Vec<u16>,
     lists: &Rotations,
-    t: &FaceNumbers,
+    faces: &FaceNumbers,
     marks: &[bool],
     places: &[u16],
     edges: &[u16],
 ) -> Result<bool, AllocError>
-    requires numbers { AreFaceNumbers lists.now t.now.own t.now.other t.now.count }
-    requires marks { length marks.now ≡ t.now.count }
-    requires places { length places.now ≡ t.now.count }
-    requires edges { length edges.now ≡ t.now.count }
+    requires numbers { AreFaceNumbers lists.now faces.now.own faces.now.other faces.now.count }
+    requires marks { length marks.now ≡ faces.now.count }
+    requires places { length places.now ≡ faces.now.count }
+    requires edges { length edges.now ≡ faces.now.count }
     requires some { 0 < length left.old.items }
     requires behind { 0 < length right.old.items }
     requires vertices { (i : ℕ) → i < length (contour_of left.old.items right.old.items) → slice_index (contour_of left.old.items right.old.items) i < length lists.now }
     ensures same { IfOk result (λ _. contour_of left.new.items right.new.items ≡ contour_of left.old.items right.old.items) }
-    ensures found { IfOk result (λ b. b ≡ true → (j : ℕ) → suc j ≡ length left.new.items → IsLoosePlace t.now.own t.now.other marks.now places.now edges.now (contour_of left.old.items right.old.items) j) }
-    ensures none { IfOk result (λ b. b ≡ false → (j : ℕ) → IsLoosePlace t.now.own t.now.other marks.now places.now edges.now (contour_of left.old.items right.old.items) j → length left.old.items ≤ j) }
+    ensures found { IfOk result (λ b. b ≡ true → (j : ℕ) → suc j ≡ length left.new.items → IsLoosePlace faces.now.own faces.now.other marks.now places.now edges.now (contour_of left.old.items right.old.items) j) }
+    ensures none { IfOk result (λ b. b ≡ false → (j : ℕ) → IsLoosePlace faces.now.own faces.now.other marks.now places.now edges.now (contour_of left.old.items right.old.items) j → length left.old.items ≤ j) }
     ensures some { IfOk result (λ _. 0 < length left.new.items) }
 {
     for _ in 1..left.len() {
-        if is_last_loose(left, lists, t, marks, places, edges) {
+        if is_last_loose(left, lists, faces, marks, places, edges) {
             return Ok(true);
         }
         step_back(left, right)?;
@@ -123,24 +123,24 @@ fn seek_all(
     left: &mut Vec<u16>,
     right: &mut Vec<u16>,
     lists: &Rotations,
-    t: &FaceNumbers,
+    faces: &FaceNumbers,
     marks: &[bool],
     places: &[u16],
     edges: &[u16],
 ) -> Result<(), AllocError>
-    requires numbers { AreFaceNumbers lists.now t.now.own t.now.other t.now.count }
-    requires marks { length marks.now ≡ t.now.count }
-    requires places { length places.now ≡ t.now.count }
-    requires edges { length edges.now ≡ t.now.count }
+    requires numbers { AreFaceNumbers lists.now faces.now.own faces.now.other faces.now.count }
+    requires marks { length marks.now ≡ faces.now.count }
+    requires places { length places.now ≡ faces.now.count }
+    requires edges { length edges.now ≡ faces.now.count }
     requires vertices { (i : ℕ) → i < length (contour_of left.old.items right.old.items) → slice_index (contour_of left.old.items right.old.items) i < length lists.now }
-    requires loose { (j : ℕ) × IsLoosePlace t.now.own t.now.other marks.now places.now edges.now (contour_of left.old.items right.old.items) j }
+    requires loose { (j : ℕ) × IsLoosePlace faces.now.own faces.now.other marks.now places.now edges.now (contour_of left.old.items right.old.items) j }
     ensures same { IfOk result (λ _. contour_of left.new.items right.new.items ≡ contour_of left.old.items right.old.items) }
-    ensures found { IfOk result (λ _. (j : ℕ) → suc j ≡ length left.new.items → IsLoosePlace t.now.own t.now.other marks.now places.now edges.now (contour_of left.old.items right.old.items) j) }
+    ensures found { IfOk result (λ _. (j : ℕ) → suc j ≡ length left.new.items → IsLoosePlace faces.now.own faces.now.other marks.now places.now edges.now (contour_of left.old.items right.old.items) j) }
     ensures some { IfOk result (λ _. 0 < length left.new.items) }
 {
     let last = left.len() + right.len() - 1;
     move_to(left, right, last)?;
-    let found = seek(left, right, lists, t, marks, places, edges)?;
+    let found = seek(left, right, lists, faces, marks, places, edges)?;
     let _found = found;
     Ok(())
 }
@@ -150,63 +150,63 @@ pub(crate) fn find(
     left: &mut Vec<u16>,
     right: &mut Vec<u16>,
     lists: &Rotations,
-    t: &FaceNumbers,
+    faces: &FaceNumbers,
     marks: &[bool],
     places: &[u16],
     edges: &[u16],
 ) -> Result<(), AllocError>
-    requires numbers { AreFaceNumbers lists.now t.now.own t.now.other t.now.count }
-    requires marks { length marks.now ≡ t.now.count }
-    requires places { length places.now ≡ t.now.count }
-    requires edges { length edges.now ≡ t.now.count }
+    requires numbers { AreFaceNumbers lists.now faces.now.own faces.now.other faces.now.count }
+    requires marks { length marks.now ≡ faces.now.count }
+    requires places { length places.now ≡ faces.now.count }
+    requires edges { length edges.now ≡ faces.now.count }
     requires vertices { (i : ℕ) → i < length (contour_of left.old.items right.old.items) → slice_index (contour_of left.old.items right.old.items) i < length lists.now }
     requires some { 0 < length left.old.items }
-    requires loose { (j : ℕ) × IsLoosePlace t.now.own t.now.other marks.now places.now edges.now (contour_of left.old.items right.old.items) j }
+    requires loose { (j : ℕ) × IsLoosePlace faces.now.own faces.now.other marks.now places.now edges.now (contour_of left.old.items right.old.items) j }
     ensures same { IfOk result (λ _. contour_of left.new.items right.new.items ≡ contour_of left.old.items right.old.items) }
-    ensures found { IfOk result (λ _. (j : ℕ) → suc j ≡ length left.new.items → IsLoosePlace t.now.own t.now.other marks.now places.now edges.now (contour_of left.old.items right.old.items) j) }
+    ensures found { IfOk result (λ _. (j : ℕ) → suc j ≡ length left.new.items → IsLoosePlace faces.now.own faces.now.other marks.now places.now edges.now (contour_of left.old.items right.old.items) j) }
     ensures some { IfOk result (λ _. 0 < length left.new.items) }
 {
     let count = before_last(left.len(), right.len());
     move_to(left, right, count)?;
-    if seek(left, right, lists, t, marks, places, edges)? {
+    if seek(left, right, lists, faces, marks, places, edges)? {
         Ok(())
     } else {
-        seek_all(left, right, lists, t, marks, places, edges)
+        seek_all(left, right, lists, faces, marks, places, edges)
     }
 }
 
 // Whether the edges from place i on and from the next place on have one number.
-fn same_face(lists: &Rotations, t: &FaceNumbers, left: &[u16], right: &[u16], i: usize) -> bool
+fn same_face(lists: &Rotations, faces: &FaceNumbers, left: &[u16], right: &[u16], i: usize) -> bool
     requires simple { IsSimpleMap lists.now }
-    requires numbers { AreFaceNumbers lists.now t.now.own t.now.other t.now.count }
+    requires numbers { AreFaceNumbers lists.now faces.now.own faces.now.other faces.now.count }
     requires within { suc (suc i) < length left.now + length right.now }
     requires darts { AreEdges lists.now (contour_of left.now right.now) }
-    ensures { IsTrue result ↔ (inner_number lists.now t.now.own (contour_of left.now right.now) i ≡ inner_number lists.now t.now.own (contour_of left.now right.now) (suc i)) }
+    ensures { IsTrue result ↔ (inner_number lists.now faces.now.own (contour_of left.now right.now) i ≡ inner_number lists.now faces.now.own (contour_of left.now right.now) (suc i)) }
 {
-    edge_at(lists, t, left, right, i) == edge_at(lists, t, left, right, i + 1)
+    edge_at(lists, faces, left, right, i) == edge_at(lists, faces, left, right, i + 1)
 }
 
 // Whether the edges behind place j have one number.
-fn has_right(lists: &Rotations, t: &FaceNumbers, left: &[u16], right: &[u16], j: usize) -> bool
+fn has_right(lists: &Rotations, faces: &FaceNumbers, left: &[u16], right: &[u16], j: usize) -> bool
     requires simple { IsSimpleMap lists.now }
-    requires numbers { AreFaceNumbers lists.now t.now.own t.now.other t.now.count }
+    requires numbers { AreFaceNumbers lists.now faces.now.own faces.now.other faces.now.count }
     requires within { suc j < length left.now + length right.now }
     requires darts { AreEdges lists.now (contour_of left.now right.now) }
-    ensures { IsTrue result ↔ ((suc (suc j) < length left.now + length right.now) × (inner_number lists.now t.now.own (contour_of left.now right.now) j ≡ inner_number lists.now t.now.own (contour_of left.now right.now) (suc j))) }
+    ensures { IsTrue result ↔ ((suc (suc j) < length left.now + length right.now) × (inner_number lists.now faces.now.own (contour_of left.now right.now) j ≡ inner_number lists.now faces.now.own (contour_of left.now right.now) (suc j))) }
 {
-    j + 2 < left.len() + right.len() && same_face(lists, t, left, right, j)
+    j + 2 < left.len() + right.len() && same_face(lists, faces, left, right, j)
 }
 
 // Whether the edges before place j have one number.
-fn has_left(lists: &Rotations, t: &FaceNumbers, left: &[u16], right: &[u16], j: usize) -> bool
+fn has_left(lists: &Rotations, faces: &FaceNumbers, left: &[u16], right: &[u16], j: usize) -> bool
     requires simple { IsSimpleMap lists.now }
-    requires numbers { AreFaceNumbers lists.now t.now.own t.now.other t.now.count }
+    requires numbers { AreFaceNumbers lists.now faces.now.own faces.now.other faces.now.count }
     requires within { j < length left.now + length right.now }
     requires darts { AreEdges lists.now (contour_of left.now right.now) }
-    ensures yes { IsTrue result → (h : ℕ) × (suc (suc h) ≡ j) × (inner_number lists.now t.now.own (contour_of left.now right.now) h ≡ inner_number lists.now t.now.own (contour_of left.now right.now) (suc h)) }
-    ensures no { (h : ℕ) → suc (suc h) ≡ j → inner_number lists.now t.now.own (contour_of left.now right.now) h ≡ inner_number lists.now t.now.own (contour_of left.now right.now) (suc h) → IsTrue result }
+    ensures yes { IsTrue result → (h : ℕ) × (suc (suc h) ≡ j) × (inner_number lists.now faces.now.own (contour_of left.now right.now) h ≡ inner_number lists.now faces.now.own (contour_of left.now right.now) (suc h)) }
+    ensures no { (h : ℕ) → suc (suc h) ≡ j → inner_number lists.now faces.now.own (contour_of left.now right.now) h ≡ inner_number lists.now faces.now.own (contour_of left.now right.now) (suc h) → IsTrue result }
 {
-    j >= 2 && same_face(lists, t, left, right, j - 2)
+    j >= 2 && same_face(lists, faces, left, right, j - 2)
 }
 
 /// Takes the marks of the numbers of a row away.
@@ -232,35 +232,35 @@ fn clear_one(marks: &mut [bool], f: u32)
 fn take_at(
     marks: &mut [bool],
     lists: &Rotations,
-    t: &FaceNumbers,
+    faces: &FaceNumbers,
     left: &[u16],
     right: &[u16],
-    s: u16,
-    d: u16,
+    tail: u16,
+    head: u16,
     places: &[u16],
     edges: &[u16],
 )
-    requires based { IsBased lists.now s d }
-    requires numbers { AreFaceNumbers lists.now t.now.own t.now.other t.now.count }
-    requires marks { length marks.old ≡ t.now.count }
+    requires based { IsBased lists.now tail head }
+    requires numbers { AreFaceNumbers lists.now faces.now.own faces.now.other faces.now.count }
+    requires marks { length marks.old ≡ faces.now.count }
     requires some { 0 < length left.now }
-    requires place { (j : ℕ) → suc j ≡ length left.now → IsLoosePlace t.now.own t.now.other marks.old places.now edges.now (contour_of left.now right.now) j }
-    requires counts { AreCounts lists.now t.now.own t.now.count (contour_of left.now right.now) places.now edges.now }
+    requires place { (j : ℕ) → suc j ≡ length left.now → IsLoosePlace faces.now.own faces.now.other marks.old places.now edges.now (contour_of left.now right.now) j }
+    requires counts { AreCounts lists.now faces.now.own faces.now.count (contour_of left.now right.now) places.now edges.now }
     requires vertices { (i : ℕ) → i < length (contour_of left.now right.now) → slice_index (contour_of left.now right.now) i < length lists.now }
     requires darts { AreEdges lists.now (contour_of left.now right.now) }
     ensures long { length marks.new ≡ length marks.old }
-    ensures goes { (alive : ℕ → Bool) (w : ℕ → ℕ) (r j : ℕ) → suc j ≡ length left.now → IsChoice lists.now t.now.own marks.old s d (contour_of left.now right.now) alive w r → GoesOffNear lists.now t.now.own marks.new alive w r j }
+    ensures goes { (alive : ℕ → Bool) (w : ℕ → ℕ) (r j : ℕ) → suc j ≡ length left.now → IsChoice lists.now faces.now.own marks.old tail head (contour_of left.now right.now) alive w r → GoesOffNear lists.now faces.now.own marks.new alive w r j }
 {
     let _places = places;
     let _edges = edges;
-    let _base = (s, d);
+    let _base = (tail, head);
     let j = left.len() - 1;
-    if has_right(lists, t, left, right, j) {
-        clear_one(marks, edge_at(lists, t, left, right, j));
-    } else if has_left(lists, t, left, right, j) {
-        clear_one(marks, edge_at(lists, t, left, right, j - 1));
+    if has_right(lists, faces, left, right, j) {
+        clear_one(marks, edge_at(lists, faces, left, right, j));
+    } else if has_left(lists, faces, left, right, j) {
+        clear_one(marks, edge_at(lists, faces, left, right, j - 1));
     } else {
-        clear_row(marks, t.own.list(left[j] as usize));
+        clear_row(marks, faces.own.list(left[j] as usize));
     }
 }
 
@@ -268,32 +268,38 @@ fn take_at(
 fn is_kept(
     marks: &[bool],
     lists: &Rotations,
-    t: &FaceNumbers,
+    faces: &FaceNumbers,
     left: &[u16],
     right: &[u16],
     i: usize,
 ) -> bool
     requires simple { IsSimpleMap lists.now }
-    requires numbers { AreFaceNumbers lists.now t.now.own t.now.other t.now.count }
-    requires table { IsTable lists.now t.now.own (length marks.now) }
+    requires numbers { AreFaceNumbers lists.now faces.now.own faces.now.other faces.now.count }
+    requires table { IsTable lists.now faces.now.own (length marks.now) }
     requires within { suc i < length left.now + length right.now }
     requires darts { AreEdges lists.now (contour_of left.now right.now) }
-    ensures { result ≡ is_set marks.now (inner_number lists.now t.now.own (contour_of left.now right.now) i) }
+    ensures { result ≡ is_set marks.now (inner_number lists.now faces.now.own (contour_of left.now right.now) i) }
 {
-    marks[edge_at(lists, t, left, right, i) as usize]
+    marks[edge_at(lists, faces, left, right, i) as usize]
 }
 
 // Where the edges without marks end, from the vertex before the place on.
-fn end_of(marks: &[bool], lists: &Rotations, t: &FaceNumbers, left: &[u16], right: &[u16]) -> usize
+fn end_of(
+    marks: &[bool],
+    lists: &Rotations,
+    faces: &FaceNumbers,
+    left: &[u16],
+    right: &[u16],
+) -> usize
     requires simple { IsSimpleMap lists.now }
-    requires numbers { AreFaceNumbers lists.now t.now.own t.now.other t.now.count }
-    requires table { IsTable lists.now t.now.own (length marks.now) }
+    requires numbers { AreFaceNumbers lists.now faces.now.own faces.now.other faces.now.count }
+    requires table { IsTable lists.now faces.now.own (length marks.now) }
     requires some { 0 < length left.now }
     requires darts { AreEdges lists.now (contour_of left.now right.now) }
-    ensures { (first end j : ℕ) → suc j ≡ length left.now → first ≤ j → j ≤ end → IsGoneRun lists.now t.now.own marks.now (contour_of left.now right.now) first end → result ≡ end }
+    ensures { (first end j : ℕ) → suc j ≡ length left.now → first ≤ j → j ≤ end → IsGoneRun lists.now faces.now.own marks.now (contour_of left.now right.now) first end → result ≡ end }
 {
     for i in left.len() - 1..left.len() + right.len() - 1 {
-        if is_kept(marks, lists, t, left, right, i) {
+        if is_kept(marks, lists, faces, left, right, i) {
             return i;
         }
     }
@@ -304,19 +310,19 @@ fn end_of(marks: &[bool], lists: &Rotations, t: &FaceNumbers, left: &[u16], righ
 fn first_of(
     marks: &[bool],
     lists: &Rotations,
-    t: &FaceNumbers,
+    faces: &FaceNumbers,
     left: &[u16],
     right: &[u16],
 ) -> usize
     requires simple { IsSimpleMap lists.now }
-    requires numbers { AreFaceNumbers lists.now t.now.own t.now.other t.now.count }
-    requires table { IsTable lists.now t.now.own (length marks.now) }
+    requires numbers { AreFaceNumbers lists.now faces.now.own faces.now.other faces.now.count }
+    requires table { IsTable lists.now faces.now.own (length marks.now) }
     requires some { 0 < length left.now }
     requires darts { AreEdges lists.now (contour_of left.now right.now) }
-    ensures { (first end j : ℕ) → suc j ≡ length left.now → first ≤ j → j ≤ end → IsGoneRun lists.now t.now.own marks.now (contour_of left.now right.now) first end → result ≡ first }
+    ensures { (first end j : ℕ) → suc j ≡ length left.now → first ≤ j → j ≤ end → IsGoneRun lists.now faces.now.own marks.now (contour_of left.now right.now) first end → result ≡ first }
 {
     for k in 1..left.len() {
-        if is_kept(marks, lists, t, left, right, left.len() - 1 - k) {
+        if is_kept(marks, lists, faces, left, right, left.len() - 1 - k) {
             return left.len() - k;
         }
     }
@@ -327,28 +333,28 @@ fn first_of(
 pub(crate) fn take_run(
     marks: &mut [bool],
     lists: &Rotations,
-    t: &FaceNumbers,
+    faces: &FaceNumbers,
     left: &[u16],
     right: &[u16],
-    s: u16,
-    d: u16,
+    tail: u16,
+    head: u16,
     places: &[u16],
     edges: &[u16],
 ) -> (usize, usize)
-    requires based { IsBased lists.now s d }
-    requires numbers { AreFaceNumbers lists.now t.now.own t.now.other t.now.count }
-    requires marks { length marks.old ≡ t.now.count }
+    requires based { IsBased lists.now tail head }
+    requires numbers { AreFaceNumbers lists.now faces.now.own faces.now.other faces.now.count }
+    requires marks { length marks.old ≡ faces.now.count }
     requires some { 0 < length left.now }
-    requires place { (j : ℕ) → suc j ≡ length left.now → IsLoosePlace t.now.own t.now.other marks.old places.now edges.now (contour_of left.now right.now) j }
-    requires counts { AreCounts lists.now t.now.own t.now.count (contour_of left.now right.now) places.now edges.now }
+    requires place { (j : ℕ) → suc j ≡ length left.now → IsLoosePlace faces.now.own faces.now.other marks.old places.now edges.now (contour_of left.now right.now) j }
+    requires counts { AreCounts lists.now faces.now.own faces.now.count (contour_of left.now right.now) places.now edges.now }
     requires vertices { (i : ℕ) → i < length (contour_of left.now right.now) → slice_index (contour_of left.now right.now) i < length lists.now }
     requires darts { AreEdges lists.now (contour_of left.now right.now) }
     ensures long { length marks.new ≡ length marks.old }
-    ensures goes { (alive : ℕ → Bool) (w : ℕ → ℕ) (r : ℕ) → IsChoice lists.now t.now.own marks.old s d (contour_of left.now right.now) alive w r → GoesOffAt lists.now t.now.own marks.new alive w r result.0 result.1 }
+    ensures goes { (alive : ℕ → Bool) (w : ℕ → ℕ) (r : ℕ) → IsChoice lists.now faces.now.own marks.old tail head (contour_of left.now right.now) alive w r → GoesOffAt lists.now faces.now.own marks.new alive w r result.0 result.1 }
 {
-    take_at(marks, lists, t, left, right, s, d, places, edges);
+    take_at(marks, lists, faces, left, right, tail, head, places, edges);
     (
-        first_of(marks, lists, t, left, right),
-        end_of(marks, lists, t, left, right),
+        first_of(marks, lists, faces, left, right),
+        end_of(marks, lists, faces, left, right),
     )
 }

@@ -1,14 +1,13 @@
 //! The rows of a run of a map.
-ghost use Rattle.std.specs.Prelude.{◌≡◌, ◌<◌, ℕ, true, [], length, slice_index, Some, IfOk};
+ghost use Rattle.std.specs.Prelude.{◌≡◌, ◌<◌, ℕ, [], length, Some, IfOk};
 ghost use Rattle.map_theory.specs.Maps.{IsPlane};
 ghost use Rattle.convex_peeling.specs.Tight.{IsThreeConnected};
 ghost use Rattle.half_edges.specs.Map.{IsLive, dart_at};
-ghost use Rattle.convex_orders.specs.FaceNumbers.{AreFaceNumbers};
 ghost use Rattle.convex_laws.specs.Removed.{AreRowsOfRun};
-ghost use Rattle.convex_orders.specs.Shown.{is_set, IsBased};
+ghost use Rattle.convex_orders.specs.Tables.{AreTables};
 
-use crate::face_numbers::{FaceNumbers, face_numbers};
-use crate::rounds::{begin, peel};
+use crate::face_numbers::face_numbers;
+use crate::rounds::{Tables, put_all};
 use convex_laws::convex_rows::ConvexRows;
 use half_edges::{DartId, HalfMap};
 use map_lists::Rotations;
@@ -27,62 +26,16 @@ fn no_rows(alloc: Global) -> ConvexRows
     }
 }
 
-// All removals, with all numbers marked at first.
-fn put_all(
-    alloc: Global,
-    rows: &mut ConvexRows,
-    marks: &mut [bool],
-    left: &mut Vec<u16>,
-    right: &mut Vec<u16>,
-    places: &mut [u16],
-    edges: &mut [u16],
-    lists: &Rotations,
-    t: &FaceNumbers,
-    s: u16,
-    d: u16,
-) -> Result<(), AllocError>
-    requires based { IsBased lists.now s d }
-    requires few { length lists.now < 4096 }
-    requires numbers { AreFaceNumbers lists.now t.now.own t.now.other t.now.count }
-    requires marks { length marks.old ≡ t.now.count }
-    requires all { (f : ℕ) → f < t.now.count → is_set marks.old f ≡ true }
-    requires empty { left.old.items ≡ [] }
-    requires empty_right { right.old.items ≡ [] }
-    requires places { length places.old ≡ t.now.count }
-    requires edges { length edges.old ≡ t.now.count }
-    requires no_places { (f : ℕ) → slice_index places.old f ≡ 0 }
-    requires no_edges { (f : ℕ) → slice_index edges.old f ≡ 0 }
-    requires rows { rows.old.rows ≡ [] }
-    requires cuts { rows.old.cuts ≡ [] }
-    requires news { rows.old.news ≡ [] }
-    ensures { IfOk result (λ _. AreRowsOfRun lists.now s d rows.new) }
-{
-    begin(
-        alloc, rows, marks, left, right, places, edges, lists, t, s, d,
-    )?;
-    peel(
-        alloc, rows, marks, left, right, places, edges, lists, t, s, d,
-    )?;
-    Ok(())
-}
-
-// The rows of a map by its lists, from the base (s, d).
-fn rows_from(
-    alloc: Global,
-    lists: &Rotations,
-    t: &FaceNumbers,
-    s: u16,
-    d: u16,
-) -> Result<ConvexRows, AllocError>
-    requires based { IsBased lists.now s d }
-    requires few { length lists.now < 4096 }
-    requires numbers { AreFaceNumbers lists.now t.now.own t.now.other t.now.count }
-    ensures { IfOk result (AreRowsOfRun lists.now s d) }
+// The rows of a map by its tables.
+fn rows_from(alloc: Global, tables: &Tables) -> Result<ConvexRows, AllocError>
+    requires known { AreTables tables.now }
+    ensures { IfOk result (AreRowsOfRun tables.now.lists tables.now.tail tables.now.head) }
 {
     let mut rows = no_rows(alloc);
-    let mut marks = vec![in alloc; true; t.count as usize]?;
-    let mut places = vec![in alloc; 0u16; t.count as usize]?;
-    let mut edges = vec![in alloc; 0u16; t.count as usize]?;
+    let count = tables.faces.count as usize;
+    let mut marks = vec![in alloc; true; count]?;
+    let mut places = vec![in alloc; 0u16; count]?;
+    let mut edges = vec![in alloc; 0u16; count]?;
     let mut left = Vec::new(alloc);
     let mut right = Vec::new(alloc);
     put_all(
@@ -93,10 +46,7 @@ fn rows_from(
         &mut right,
         &mut places,
         &mut edges,
-        lists,
-        t,
-        s,
-        d,
+        tables,
     )?;
     Ok(rows)
 }
@@ -113,8 +63,12 @@ pub fn convex_rows(alloc: Global, map: &HalfMap, base: DartId) -> Result<ConvexR
     ensures { IfOk result (λ rows. (s d : ℕ) → dart_at map.now base.0 ≡ Some (s, d) → AreRowsOfRun map.now.lists s d rows) }
 {
     map.facts();
-    let lists = map.rotations(alloc)?;
-    let t = face_numbers(alloc, map)?;
-    let rows = rows_from(alloc, &lists, &t, map.tail(base).0, map.head(base).0)?;
+    let tables = Tables {
+        lists: map.rotations(alloc)?,
+        faces: face_numbers(alloc, map)?,
+        tail: map.tail(base).0,
+        head: map.head(base).0,
+    };
+    let rows = rows_from(alloc, &tables)?;
     Ok(rows)
 }

@@ -14,14 +14,14 @@ use map_lists::Rotations;
 use std::alloc::{AllocError, Global};
 
 // Whether the edges from place p on and from the next place on have one number.
-fn same_edge(lists: &Rotations, t: &FaceNumbers, ws: &[u16], p: usize) -> bool
+fn same_edge(lists: &Rotations, faces: &FaceNumbers, ws: &[u16], p: usize) -> bool
     requires simple { IsSimpleMap lists.now }
-    requires numbers { AreFaceNumbers lists.now t.now.own t.now.other t.now.count }
+    requires numbers { AreFaceNumbers lists.now faces.now.own faces.now.other faces.now.count }
     requires within { p + 2 < length ws.now }
     requires edges { (i : ℕ) → suc i < length ws.now → HasDart lists.now (slice_index ws.now i) (slice_index ws.now (suc i)) }
-    ensures { IsTrue result ↔ (edge_number lists.now t.now.own ws.now p ≡ edge_number lists.now t.now.own ws.now (suc p)) }
+    ensures { IsTrue result ↔ (edge_number lists.now faces.now.own ws.now p ≡ edge_number lists.now faces.now.own ws.now (suc p)) }
 {
-    number_of(lists, t, ws[p], ws[p + 1]) == number_of(lists, t, ws[p + 1], ws[p + 2])
+    number_of(lists, faces, ws[p], ws[p + 1]) == number_of(lists, faces, ws[p + 1], ws[p + 2])
 }
 
 // Appends a number, unless the test holds.
@@ -38,24 +38,24 @@ fn push_unless(row: &mut Vec<u16>, test: bool, x: u16) -> Result<(), AllocError>
 fn put_cuts(
     row: &mut Vec<u16>,
     lists: &Rotations,
-    t: &FaceNumbers,
+    faces: &FaceNumbers,
     ws: &[u16],
     first: usize,
     last: usize,
 ) -> Result<(), AllocError>
     requires simple { IsSimpleMap lists.now }
-    requires numbers { AreFaceNumbers lists.now t.now.own t.now.other t.now.count }
+    requires numbers { AreFaceNumbers lists.now faces.now.own faces.now.other faces.now.count }
     requires order { first < last }
     requires within { last < length ws.now }
     requires few { length ws.now < 65536 }
     requires edges { (i : ℕ) → suc i < length ws.now → HasDart lists.now (slice_index ws.now i) (slice_index ws.now (suc i)) }
-    requires some { SomeCutPlaces lists.now t.now.own ws.now first last }
+    requires some { SomeCutPlaces lists.now faces.now.own ws.now first last }
     requires empty { row.old.items ≡ [] }
-    ensures { IfOk result (λ _. (faces : ℕ) (cut : ℕ → ℕ) → AreCutPlaces lists.now t.now.own ws.now first last faces cut → IsCutRow row.new.items first faces cut) }
+    ensures { IfOk result (λ _. (count : ℕ) (cut : ℕ → ℕ) → AreCutPlaces lists.now faces.now.own ws.now first last count cut → IsCutRow row.new.items first count cut) }
 {
     row.push(0)?;
     for p in first + 1..last {
-        let test = same_edge(lists, t, ws, p - 1);
+        let test = same_edge(lists, faces, ws, p - 1);
         push_unless(row, test, (p - first) as u16)?;
     }
     row.push((last - first) as u16)?;
@@ -99,22 +99,22 @@ fn put_row(
     alloc: Global,
     rows: &mut ConvexRows,
     lists: &Rotations,
-    t: &FaceNumbers,
+    faces: &FaceNumbers,
     us: &[u16],
     first: usize,
     last: usize,
 ) -> Result<(), AllocError>
     requires simple { IsSimpleMap lists.now }
-    requires numbers { AreFaceNumbers lists.now t.now.own t.now.other t.now.count }
+    requires numbers { AreFaceNumbers lists.now faces.now.own faces.now.other faces.now.count }
     requires order { first < last }
     requires within { last < length us.now }
     requires few { length us.now < 65536 }
     requires edges { (i : ℕ) → suc i < length us.now → HasDart lists.now (slice_index us.now i) (slice_index us.now (suc i)) }
-    requires some { SomeCutPlaces lists.now t.now.own us.now first last }
-    ensures { IfOk result (λ _. (faces : ℕ) (cut : ℕ → ℕ) → AreCutPlaces lists.now t.now.own us.now first last faces cut → IsPutIn us.now first last faces cut rows.old rows.new) }
+    requires some { SomeCutPlaces lists.now faces.now.own us.now first last }
+    ensures { IfOk result (λ _. (count : ℕ) (cut : ℕ → ℕ) → AreCutPlaces lists.now faces.now.own us.now first last count cut → IsPutIn us.now first last count cut rows.old rows.new) }
 {
     let mut cuts = Vec::new(alloc);
-    put_cuts(&mut cuts, lists, t, us, first, last)?;
+    put_cuts(&mut cuts, lists, faces, us, first, last)?;
     push_row(rows, part(us, first, last + 1), &cuts)?;
     Ok(())
 }
@@ -128,24 +128,24 @@ pub(crate) fn take_out(
     places: &mut [u16],
     edges: &mut [u16],
     lists: &Rotations,
-    t: &FaceNumbers,
+    faces: &FaceNumbers,
     first: usize,
     end: usize,
 ) -> Result<u16, AllocError>
     requires simple { IsSimpleMap lists.now }
-    requires numbers { AreFaceNumbers lists.now t.now.own t.now.other t.now.count }
-    requires table { IsTable lists.now t.now.own (length edges.old) }
+    requires numbers { AreFaceNumbers lists.now faces.now.own faces.now.other faces.now.count }
+    requires table { IsTable lists.now faces.now.own (length edges.old) }
     requires order { first < end }
     requires within { end < length (contour_of left.old.items right.old.items) }
     requires vertices { (i : ℕ) → i < length (contour_of left.old.items right.old.items) → slice_index (contour_of left.old.items right.old.items) i < length lists.now }
     requires darts { AreEdges lists.now (contour_of left.old.items right.old.items) }
-    requires counts { AreCounts lists.now t.now.own (length edges.old) (contour_of left.old.items right.old.items) places.old edges.old }
+    requires counts { AreCounts lists.now faces.now.own (length edges.old) (contour_of left.old.items right.old.items) places.old edges.old }
     ensures out { IfOk result (λ x. IsTakenOut (contour_of left.old.items right.old.items) left.new.items right.new.items x first end rows.old rows.new) }
-    ensures places { IfOk result (λ _. (f : ℕ) → f < length edges.old → slice_index places.new f + met_between t.now.own (contour_of left.old.items right.old.items) first end f ≡ slice_index places.old f) }
-    ensures edges { IfOk result (λ _. (f : ℕ) → f < length edges.old → slice_index edges.new f + edges_between lists.now t.now.own (contour_of left.old.items right.old.items) first end f ≡ slice_index edges.old f) }
+    ensures places { IfOk result (λ _. (f : ℕ) → f < length edges.old → slice_index places.new f + met_between faces.now.own (contour_of left.old.items right.old.items) first end f ≡ slice_index places.old f) }
+    ensures edges { IfOk result (λ _. (f : ℕ) → f < length edges.old → slice_index edges.new f + edges_between lists.now faces.now.own (contour_of left.old.items right.old.items) first end f ≡ slice_index edges.old f) }
 {
     move_to(left, right, end + 1)?;
-    lower_part(places, edges, lists, t, left, first, end);
+    lower_part(places, edges, lists, faces, left, first, end);
     let x = left[end];
     push_news(rows, part(left, first + 1, end))?;
     left.truncate(first + 1);
@@ -160,26 +160,26 @@ pub(crate) fn put_in(
     places: &mut [u16],
     edges: &mut [u16],
     lists: &Rotations,
-    t: &FaceNumbers,
+    faces: &FaceNumbers,
     first: usize,
 ) -> Result<(), AllocError>
     requires simple { IsSimpleMap lists.now }
-    requires numbers { AreFaceNumbers lists.now t.now.own t.now.other t.now.count }
-    requires table { IsTable lists.now t.now.own (length edges.old) }
+    requires numbers { AreFaceNumbers lists.now faces.now.own faces.now.other faces.now.count }
+    requires table { IsTable lists.now faces.now.own (length edges.old) }
     requires long { length places.old ≡ length edges.old }
     requires order { suc first < length left.now }
     requires few { length left.now < 65536 }
     requires vertices { (i : ℕ) → i < length left.now → slice_index left.now i < length lists.now }
     requires darts { AreEdges lists.now left.now }
     requires darts_on { (i : ℕ) → suc i < length left.now → HasDart lists.now (slice_index left.now i) (slice_index left.now (suc i)) }
-    requires some { SomeCutPlaces lists.now t.now.own left.now first (length left.now - 1) }
-    requires room { (f : ℕ) → f < length places.old → slice_index places.old f + met_between t.now.own left.now first (length left.now - 1) f < 65536 }
-    requires room_edges { (f : ℕ) → f < length edges.old → slice_index edges.old f + edges_between lists.now t.now.own left.now first (length left.now - 1) f < 65536 }
-    ensures places { IfOk result (λ _. (f : ℕ) → f < length places.old → slice_index places.new f ≡ slice_index places.old f + met_between t.now.own left.now first (length left.now - 1) f) }
-    ensures edges { IfOk result (λ _. (f : ℕ) → f < length edges.old → slice_index edges.new f ≡ slice_index edges.old f + edges_between lists.now t.now.own left.now first (length left.now - 1) f) }
-    ensures row { IfOk result (λ _. (faces : ℕ) (cut : ℕ → ℕ) → AreCutPlaces lists.now t.now.own left.now first (length left.now - 1) faces cut → IsPutIn left.now first (length left.now - 1) faces cut rows.old rows.new) }
+    requires some { SomeCutPlaces lists.now faces.now.own left.now first (length left.now - 1) }
+    requires room { (f : ℕ) → f < length places.old → slice_index places.old f + met_between faces.now.own left.now first (length left.now - 1) f < 65536 }
+    requires room_edges { (f : ℕ) → f < length edges.old → slice_index edges.old f + edges_between lists.now faces.now.own left.now first (length left.now - 1) f < 65536 }
+    ensures places { IfOk result (λ _. (f : ℕ) → f < length places.old → slice_index places.new f ≡ slice_index places.old f + met_between faces.now.own left.now first (length left.now - 1) f) }
+    ensures edges { IfOk result (λ _. (f : ℕ) → f < length edges.old → slice_index edges.new f ≡ slice_index edges.old f + edges_between lists.now faces.now.own left.now first (length left.now - 1) f) }
+    ensures row { IfOk result (λ _. (count : ℕ) (cut : ℕ → ℕ) → AreCutPlaces lists.now faces.now.own left.now first (length left.now - 1) count cut → IsPutIn left.now first (length left.now - 1) count cut rows.old rows.new) }
 {
     let last = left.len() - 1;
-    raise_part(places, edges, lists, t, left, first, last);
-    put_row(alloc, rows, lists, t, left, first, last)
+    raise_part(places, edges, lists, faces, left, first, last);
+    put_row(alloc, rows, lists, faces, left, first, last)
 }

@@ -26,15 +26,15 @@ fn first_rim(own: &[u32], other: &[u32], marks: &[bool]) -> usize
 }
 
 // The head of a dart of the rim.
-fn next_on(lists: &Rotations, t: &FaceNumbers, marks: &[bool], x: u16) -> u16
+fn next_on(lists: &Rotations, faces: &FaceNumbers, marks: &[bool], x: u16) -> u16
     requires simple { IsSimpleMap lists.now }
-    requires numbers { AreFaceNumbers lists.now t.now.own t.now.other t.now.count }
-    requires marks { length marks.now ≡ t.now.count }
-    requires some { (y : ℕ) × IsRimIn lists.now t.now.own t.now.other marks.now x y }
-    ensures { IsRimIn lists.now t.now.own t.now.other marks.now x result }
+    requires numbers { AreFaceNumbers lists.now faces.now.own faces.now.other faces.now.count }
+    requires marks { length marks.now ≡ faces.now.count }
+    requires some { (y : ℕ) × IsRimIn lists.now faces.now.own faces.now.other marks.now x y }
+    ensures { IsRimIn lists.now faces.now.own faces.now.other marks.now x result }
 {
     let v = x as usize;
-    let k = first_rim(t.own.list(v), t.other.list(v), marks);
+    let k = first_rim(faces.own.list(v), faces.other.list(v), marks);
     lists.list(v)[k]
 }
 
@@ -42,19 +42,19 @@ fn next_on(lists: &Rotations, t: &FaceNumbers, marks: &[bool], x: u16) -> u16
 pub(crate) fn trace(
     left: &mut Vec<u16>,
     lists: &Rotations,
-    t: &FaceNumbers,
+    faces: &FaceNumbers,
     marks: &[bool],
     stop: u16,
 ) -> Result<(), AllocError>
     requires simple { IsSimpleMap lists.now }
-    requires numbers { AreFaceNumbers lists.now t.now.own t.now.other t.now.count }
-    requires marks { length marks.now ≡ t.now.count }
-    requires some { SomeTrace lists.now t.now.own marks.now left.old.items stop }
-    ensures { IfOk result (λ _. (alive : ℕ → Bool) (w : ℕ → ℕ) (r a b : ℕ) → IsTrace lists.now t.now.own marks.now left.old.items stop alive w r a b → IsListOf left.new.items w b) }
+    requires numbers { AreFaceNumbers lists.now faces.now.own faces.now.other faces.now.count }
+    requires marks { length marks.now ≡ faces.now.count }
+    requires some { SomeTrace lists.now faces.now.own marks.now left.old.items stop }
+    ensures { IfOk result (λ _. (alive : ℕ → Bool) (w : ℕ → ℕ) (r a b : ℕ) → IsTrace lists.now faces.now.own marks.now left.old.items stop alive w r a b → IsListOf left.new.items w b) }
 {
     let mut x = left[left.len() - 1];
     for _ in 0..lists.len() {
-        x = next_on(lists, t, marks, x);
+        x = next_on(lists, faces, marks, x);
         left.push(x)?;
         if x == stop {
             return Ok(());

@@ -3,12 +3,12 @@ ghost use Rattle.std.specs.Prelude.{◌≡◌, ◌≢◌, ◌+◌, ◌-◌, ◌<
 ghost use Rattle.map_theory.specs.Maps.{HasDart, IsSimpleMap, list_of, dart_count};
 ghost use Rattle.convex_peeling.specs.Contours.{IsFirst};
 ghost use Rattle.convex_peeling.specs.Removals.{Removal};
-ghost use Rattle.convex_orders.specs.FaceNumbers.{entry, IsTable, AreFaceNumbers};
+ghost use Rattle.convex_orders.specs.FaceNumbers.{entry};
 ghost use Rattle.convex_laws.specs.Removed.{IsRowMore, HasRows, AreRowsOfRun};
 ghost use Rattle.convex_orders.specs.Contours.{contour_of};
-ghost use Rattle.convex_orders.specs.Counts.{AreCounts};
-ghost use Rattle.convex_orders.specs.Shown.{is_set, IsBased, IsListOf, IsShown, IsOffAt, SomeOff};
-ghost use Rattle.convex_orders.specs.Standing.{Stands, HasOther, AllInner, IsLastRow};
+ghost use Rattle.convex_orders.specs.Shown.{is_set, IsListOf, IsShown, IsOffAt, SomeOff};
+ghost use Rattle.convex_orders.specs.Standing.{HasOther, AllInner, IsLastRow};
+ghost use Rattle.convex_orders.specs.Tables.{AreTables, StandsBy, CountsBy};
 
 use crate::choice::{clear_row, find, take_run};
 use crate::contour_counts::{move_to, number_of, part, raise_all};
@@ -19,6 +19,15 @@ use convex_laws::convex_rows::ConvexRows;
 use map_lists::{ItemLists, Rotations};
 use std::alloc::{AllocError, Global};
 
+/// What the removals read: the lists of a map, the numbers of its faces, and the base, by its two ends.
+#[derive(Drop)]
+pub(crate) struct Tables {
+    pub(crate) lists: Rotations,
+    pub(crate) faces: FaceNumbers,
+    pub(crate) tail: u16,
+    pub(crate) head: u16,
+}
+
 // Takes out what stands strictly between two places, goes along what comes there, and appends the row.
 fn advance(
     alloc: Global,
@@ -28,28 +37,24 @@ fn advance(
     right: &mut Vec<u16>,
     places: &mut [u16],
     edges: &mut [u16],
-    lists: &Rotations,
-    t: &FaceNumbers,
-    s: u16,
-    d: u16,
+    tables: &Tables,
     first: usize,
     end: usize,
 ) -> Result<(), AllocError>
-    requires based { IsBased lists.now s d }
-    requires few { length lists.now < 4096 }
-    requires numbers { AreFaceNumbers lists.now t.now.own t.now.other t.now.count }
-    requires marks { length marks.now ≡ t.now.count }
-    requires some { SomeOff lists.now t.now.own marks.now s d (contour_of left.old.items right.old.items) first end }
-    requires counts { AreCounts lists.now t.now.own t.now.count (contour_of left.old.items right.old.items) places.old edges.old }
-    ensures list { IfOk result (λ _. (alive : ℕ → Bool) (w : ℕ → ℕ) (r : ℕ) (o : Removal) → IsOffAt lists.now t.now.own marks.now s d (contour_of left.old.items right.old.items) first end alive w r o → IsListOf (contour_of left.new.items right.new.items) o.contour o.places) }
-    ensures row { IfOk result (λ _. (alive : ℕ → Bool) (w : ℕ → ℕ) (r : ℕ) (o : Removal) → IsOffAt lists.now t.now.own marks.now s d (contour_of left.old.items right.old.items) first end alive w r o → IsRowMore lists.now w o rows.old rows.new) }
-    ensures counts { IfOk result (λ _. AreCounts lists.now t.now.own t.now.count (contour_of left.new.items right.new.items) places.new edges.new) }
+    requires known { AreTables tables.now }
+    requires marks { length marks.now ≡ tables.now.faces.count }
+    requires some { SomeOff tables.now.lists tables.now.faces.own marks.now tables.now.tail tables.now.head (contour_of left.old.items right.old.items) first end }
+    requires counts { CountsBy tables.now left.old.items right.old.items places.old edges.old }
+    ensures list { IfOk result (λ _. (alive : ℕ → Bool) (w : ℕ → ℕ) (r : ℕ) (o : Removal) → IsOffAt tables.now.lists tables.now.faces.own marks.now tables.now.tail tables.now.head (contour_of left.old.items right.old.items) first end alive w r o → IsListOf (contour_of left.new.items right.new.items) o.contour o.places) }
+    ensures row { IfOk result (λ _. (alive : ℕ → Bool) (w : ℕ → ℕ) (r : ℕ) (o : Removal) → IsOffAt tables.now.lists tables.now.faces.own marks.now tables.now.tail tables.now.head (contour_of left.old.items right.old.items) first end alive w r o → IsRowMore tables.now.lists w o rows.old rows.new) }
+    ensures counts { IfOk result (λ _. CountsBy tables.now left.new.items right.new.items places.new edges.new) }
     ensures left { IfOk result (λ _. 0 < length left.new.items) }
 {
-    let _base = (s, d);
-    let x = take_out(rows, left, right, places, edges, lists, t, first, end)?;
-    trace(left, lists, t, marks, x)?;
-    put_in(alloc, rows, left, places, edges, lists, t, first)?;
+    let lists = &tables.lists;
+    let faces = &tables.faces;
+    let x = take_out(rows, left, right, places, edges, lists, faces, first, end)?;
+    trace(left, lists, faces, marks, x)?;
+    put_in(alloc, rows, left, places, edges, lists, faces, first)?;
     Ok(())
 }
 
@@ -62,53 +67,49 @@ fn round(
     right: &mut Vec<u16>,
     places: &mut [u16],
     edges: &mut [u16],
-    lists: &Rotations,
-    t: &FaceNumbers,
-    s: u16,
-    d: u16,
+    tables: &Tables,
 ) -> Result<(), AllocError>
-    requires based { IsBased lists.now s d }
-    requires few { length lists.now < 4096 }
-    requires numbers { AreFaceNumbers lists.now t.now.own t.now.other t.now.count }
-    requires marks { length marks.old ≡ t.now.count }
-    requires stands { (bound : ℕ) × Stands lists.now t.now.own marks.old s d (contour_of left.old.items right.old.items) rows.old bound }
-    requires other { HasOther lists.now t.now.own s d (contour_of left.old.items right.old.items) }
-    requires counts { AreCounts lists.now t.now.own t.now.count (contour_of left.old.items right.old.items) places.old edges.old }
+    requires known { AreTables tables.now }
+    requires marks { length marks.old ≡ tables.now.faces.count }
+    requires stands { (bound : ℕ) × StandsBy tables.now marks.old left.old.items right.old.items rows.old bound }
+    requires other { HasOther tables.now.lists tables.now.faces.own tables.now.tail tables.now.head (contour_of left.old.items right.old.items) }
+    requires counts { CountsBy tables.now left.old.items right.old.items places.old edges.old }
     requires left { 0 < length left.old.items }
     ensures long { length marks.new ≡ length marks.old }
-    ensures stands { IfOk result (λ _. (bound : ℕ) → Stands lists.now t.now.own marks.old s d (contour_of left.old.items right.old.items) rows.old (suc bound) → Stands lists.now t.now.own marks.new s d (contour_of left.new.items right.new.items) rows.new bound) }
-    ensures counts { IfOk result (λ _. AreCounts lists.now t.now.own t.now.count (contour_of left.new.items right.new.items) places.new edges.new) }
+    ensures stands { IfOk result (λ _. (bound : ℕ) → StandsBy tables.now marks.old left.old.items right.old.items rows.old (suc bound) → StandsBy tables.now marks.new left.new.items right.new.items rows.new bound) }
+    ensures counts { IfOk result (λ _. CountsBy tables.now left.new.items right.new.items places.new edges.new) }
     ensures left { IfOk result (λ _. 0 < length left.new.items) }
 {
-    find(left, right, lists, t, marks, places, edges)?;
-    let (first, end) = take_run(marks, lists, t, left, right, s, d, places, edges);
+    let lists = &tables.lists;
+    let faces = &tables.faces;
+    find(left, right, lists, faces, marks, places, edges)?;
+    let (first, end) = take_run(
+        marks,
+        lists,
+        faces,
+        left,
+        right,
+        tables.tail,
+        tables.head,
+        places,
+        edges,
+    );
     advance(
-        alloc, rows, marks, left, right, places, edges, lists, t, s, d, first, end,
+        alloc, rows, marks, left, right, places, edges, tables, first, end,
     )?;
     Ok(())
 }
 
 // Whether all edges along the contour have the number `base`, that of the face inside of the base.
-fn is_last(
-    edges: &[u16],
-    base: u32,
-    left: &[u16],
-    right: &[u16],
-    lists: &Rotations,
-    t: &FaceNumbers,
-    s: u16,
-    d: u16,
-) -> bool
-    requires counts { (places : List ℕ) × AreCounts lists.now t.now.own t.now.count (contour_of left.now right.now) places edges.now }
+fn is_last(edges: &[u16], base: u32, left: &[u16], right: &[u16], tables: &Tables) -> bool
+    requires counts { (places : List ℕ) × CountsBy tables.now left.now right.now places edges.now }
     requires some { 0 < length left.now }
-    requires base { base ≡ entry lists.now t.now.own d s }
-    requires base_in { base < t.now.count }
-    ensures yes { IsTrue result → AllInner lists.now t.now.own s d (contour_of left.now right.now) }
-    ensures no { result ≡ false → HasOther lists.now t.now.own s d (contour_of left.now right.now) }
+    requires base { base ≡ entry tables.now.lists tables.now.faces.own tables.now.head tables.now.tail }
+    requires base_in { base < tables.now.faces.count }
+    ensures yes { IsTrue result → AllInner tables.now.lists tables.now.faces.own tables.now.tail tables.now.head (contour_of left.now right.now) }
+    ensures no { result ≡ false → HasOther tables.now.lists tables.now.faces.own tables.now.tail tables.now.head (contour_of left.now right.now) }
 {
-    let _lists = lists;
-    let _t = t;
-    let _base = (s, d);
+    let _tables = tables;
     usize::from(edges[base as usize]) + 1 == left.len() + right.len()
 }
 
@@ -117,20 +118,20 @@ fn put_last(
     rows: &mut ConvexRows,
     left: &mut Vec<u16>,
     right: &mut Vec<u16>,
-    s: u16,
-    d: u16,
+    tail: u16,
+    head: u16,
 ) -> Result<(), AllocError>
     requires long { 2 ≤ length (contour_of left.old.items right.old.items) }
-    ensures { IfOk result (λ _. IsLastRow (contour_of left.old.items right.old.items) s d rows.old rows.new) }
+    ensures { IfOk result (λ _. IsLastRow (contour_of left.old.items right.old.items) tail head rows.old rows.new) }
 {
     let all = left.len() + right.len();
     move_to(left, right, all)?;
-    push_lists(rows, &[d, s], &[0, 1], part(left, 1, all - 1))?;
+    push_lists(rows, &[head, tail], &[0, 1], part(left, 1, all - 1))?;
     Ok(())
 }
 
-/// Takes one removal after another, to the last one.
-pub(crate) fn peel(
+// Takes one removal after another, to the last one.
+fn peel(
     alloc: Global,
     rows: &mut ConvexRows,
     marks: &mut [bool],
@@ -138,55 +139,40 @@ pub(crate) fn peel(
     right: &mut Vec<u16>,
     places: &mut [u16],
     edges: &mut [u16],
-    lists: &Rotations,
-    t: &FaceNumbers,
-    s: u16,
-    d: u16,
+    tables: &Tables,
 ) -> Result<(), AllocError>
-    requires based { IsBased lists.now s d }
-    requires few { length lists.now < 4096 }
-    requires numbers { AreFaceNumbers lists.now t.now.own t.now.other t.now.count }
-    requires marks { length marks.old ≡ t.now.count }
-    requires stands { Stands lists.now t.now.own marks.old s d (contour_of left.old.items right.old.items) rows.old (suc (dart_count lists.now)) }
-    requires counts { AreCounts lists.now t.now.own t.now.count (contour_of left.old.items right.old.items) places.old edges.old }
+    requires known { AreTables tables.now }
+    requires marks { length marks.old ≡ tables.now.faces.count }
+    requires stands { StandsBy tables.now marks.old left.old.items right.old.items rows.old (suc (dart_count tables.now.lists)) }
+    requires counts { CountsBy tables.now left.old.items right.old.items places.old edges.old }
     requires left { 0 < length left.old.items }
-    ensures { IfOk result (λ _. AreRowsOfRun lists.now s d rows.new) }
+    ensures { IfOk result (λ _. AreRowsOfRun tables.now.lists tables.now.tail tables.now.head rows.new) }
 {
-    let base = number_of(lists, t, d, s);
-    for _ in 0..lists.total() {
-        if is_last(edges, base, left, right, lists, t, s, d) {
-            put_last(rows, left, right, s, d)?;
+    let base = number_of(&tables.lists, &tables.faces, tables.head, tables.tail);
+    for _ in 0..tables.lists.total() {
+        if is_last(edges, base, left, right, tables) {
+            put_last(rows, left, right, tables.tail, tables.head)?;
             return Ok(());
         }
-        round(
-            alloc, rows, marks, left, right, places, edges, lists, t, s, d,
-        )?;
+        round(alloc, rows, marks, left, right, places, edges, tables)?;
     }
     Ok(())
 }
 
 // Goes along the contour where just the face of the base is taken off. At first all numbers are marked.
-fn first_contour(
-    marks: &mut [bool],
-    left: &mut Vec<u16>,
-    lists: &Rotations,
-    t: &FaceNumbers,
-    s: u16,
-    d: u16,
-) -> Result<(), AllocError>
-    requires based { IsBased lists.now s d }
-    requires numbers { AreFaceNumbers lists.now t.now.own t.now.other t.now.count }
-    requires marks { length marks.old ≡ t.now.count }
-    requires all { (f : ℕ) → f < t.now.count → is_set marks.old f ≡ true }
+fn first_contour(marks: &mut [bool], left: &mut Vec<u16>, tables: &Tables) -> Result<(), AllocError>
+    requires known { AreTables tables.now }
+    requires marks { length marks.old ≡ tables.now.faces.count }
+    requires all { (f : ℕ) → f < tables.now.faces.count → is_set marks.old f ≡ true }
     requires empty { left.old.items ≡ [] }
     ensures long { length marks.new ≡ length marks.old }
-    ensures shown { IfOk result (λ _. (alive : ℕ → Bool) (w : ℕ → ℕ) (r : ℕ) → IsFirst lists.now s d alive w r → IsShown lists.now t.now.own marks.new s d alive w r) }
-    ensures list { IfOk result (λ _. (alive : ℕ → Bool) (w : ℕ → ℕ) (r : ℕ) → IsFirst lists.now s d alive w r → IsListOf left.new.items w r) }
+    ensures shown { IfOk result (λ _. (alive : ℕ → Bool) (w : ℕ → ℕ) (r : ℕ) → IsFirst tables.now.lists tables.now.tail tables.now.head alive w r → IsShown tables.now.lists tables.now.faces.own marks.new tables.now.tail tables.now.head alive w r) }
+    ensures list { IfOk result (λ _. (alive : ℕ → Bool) (w : ℕ → ℕ) (r : ℕ) → IsFirst tables.now.lists tables.now.tail tables.now.head alive w r → IsListOf left.new.items w r) }
 {
-    let f = number_of(lists, t, s, d);
+    let f = number_of(&tables.lists, &tables.faces, tables.tail, tables.head);
     marks[f as usize] = false;
-    left.push(d)?;
-    trace(left, lists, t, marks, s)?;
+    left.push(tables.head)?;
+    trace(left, &tables.lists, &tables.faces, marks, tables.tail)?;
     Ok(())
 }
 
@@ -201,8 +187,9 @@ fn clear_before_base(marks: &mut [bool], own: &ItemLists<u32>, ws: &[u16])
     clear_row(marks, own.list(ws[ws.len() - 2] as usize));
 }
 
-/// Takes off the face of the base, and then the vertex before the base with all its faces.
-pub(crate) fn begin(
+/// Takes all removals: the face of the base, then the vertex before the base with all its faces, and then one after
+/// another. All numbers are marked at first.
+pub(crate) fn put_all(
     alloc: Global,
     rows: &mut ConvexRows,
     marks: &mut [bool],
@@ -210,31 +197,23 @@ pub(crate) fn begin(
     right: &mut Vec<u16>,
     places: &mut [u16],
     edges: &mut [u16],
-    lists: &Rotations,
-    t: &FaceNumbers,
-    s: u16,
-    d: u16,
+    tables: &Tables,
 ) -> Result<(), AllocError>
-    requires based { IsBased lists.now s d }
-    requires few { length lists.now < 4096 }
-    requires numbers { AreFaceNumbers lists.now t.now.own t.now.other t.now.count }
-    requires marks { length marks.old ≡ t.now.count }
-    requires all { (f : ℕ) → f < t.now.count → is_set marks.old f ≡ true }
+    requires known { AreTables tables.now }
+    requires marks { length marks.old ≡ tables.now.faces.count }
+    requires all { (f : ℕ) → f < tables.now.faces.count → is_set marks.old f ≡ true }
     requires empty { left.old.items ≡ [] }
     requires empty_right { right.old.items ≡ [] }
-    requires places { length places.old ≡ t.now.count }
-    requires edges { length edges.old ≡ t.now.count }
+    requires places { length places.old ≡ tables.now.faces.count }
+    requires edges { length edges.old ≡ tables.now.faces.count }
     requires no_places { (f : ℕ) → slice_index places.old f ≡ 0 }
     requires no_edges { (f : ℕ) → slice_index edges.old f ≡ 0 }
     requires none { HasRows rows.old 0 }
-    ensures long { length marks.new ≡ length marks.old }
-    ensures stands { IfOk result (λ _. Stands lists.now t.now.own marks.new s d (contour_of left.new.items right.new.items) rows.new (suc (dart_count lists.now))) }
-    ensures counts { IfOk result (λ _. AreCounts lists.now t.now.own t.now.count (contour_of left.new.items right.new.items) places.new edges.new) }
-    ensures left { IfOk result (λ _. 0 < length left.new.items) }
+    ensures { IfOk result (λ _. AreRowsOfRun tables.now.lists tables.now.tail tables.now.head rows.new) }
 {
-    first_contour(marks, left, lists, t, s, d)?;
-    raise_all(places, edges, lists, t, left);
-    clear_before_base(marks, &t.own, left);
+    first_contour(marks, left, tables)?;
+    raise_all(places, edges, &tables.lists, &tables.faces, left);
+    clear_before_base(marks, &tables.faces.own, left);
     let r = left.len() - 1;
     advance(
         alloc,
@@ -244,12 +223,10 @@ pub(crate) fn begin(
         right,
         places,
         edges,
-        lists,
-        t,
-        s,
-        d,
+        tables,
         r - 2,
         r,
     )?;
+    peel(alloc, rows, marks, left, right, places, edges, tables)?;
     Ok(())
 }

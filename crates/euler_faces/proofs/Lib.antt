@@ -5,3 +5,6 @@ mod IsolatedLemmas
 pub mod SearchLemmas
 mod FaceWalkLemmas
 mod OrbitLemmas
+-- Lemmas on the search by chains of faces.
+pub mod SideMarks
+mod ChainLemmas

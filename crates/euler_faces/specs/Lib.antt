@@ -1,4 +1,6 @@
 -- Darts by their numbers, under the ids of a map.
+pub mod Chains
+pub mod ChainSearch
 pub mod FaceSearch
 pub mod FaceWalks
 pub mod Numbers

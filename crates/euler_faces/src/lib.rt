@@ -1,7 +1,8 @@
 //! The Euler count of a map: its vertices, edges, faces and components, and its genus. The faces of a
-//! map as walks along the face step.
+//! map as walks along the face step, and a search of them by chains of faces.
 #![tactic(auto)]
 
+mod chains;
 mod components;
 mod count;
 mod face_walks;
@@ -9,6 +10,7 @@ mod orbits;
 mod slots;
 mod walks;
 
+pub use chains::mark_reached;
 pub use components::{UNMET, number_components};
 pub use count::{Counter, EulerCount, count_lists, euler};
 pub use face_walks::faces;

@@ -7,8 +7,7 @@ pub mod Paths
 mod Orders
 mod Refused
 mod SchnyderRegionsPaths
-mod Marks
-mod Searching
+mod CrossedEdges
 mod ClosedPathLemmas
 mod CountLemmas
 mod SchnyderRegionsRefused

@@ -8,7 +8,7 @@ use Rattle.euler_faces.specs.Numbers.{mark_at}
 use Rattle.wood_laws.specs.Regions.{IsOnBoundary}
 use Rattle.schnyder_wood.specs.declared.schnyder_regions.boundary.ClosedPath.{ClosedPath}
 use Rattle.schnyder_wood.specs.ClosedPaths.{IsVertexOf}
-use Rattle.schnyder_wood.specs.Search.{IsMet}
+use Rattle.euler_faces.specs.ChainSearch.{IsMet}
 
 -- w has a dart, of the ids below k, whose face is met with an odd number
 abbrev pub HasOdd : Map → List Bool → ℕ → ℕ → Type 0

@@ -10,8 +10,7 @@ ghost use Rattle.convex_laws.specs.Inside.{IsInsideCount};
 ghost use Rattle.convex_faces.specs.Passing.{HasMarks};
 ghost use Rattle.convex_faces.specs.Search.{is_counted};
 
-use crate::walk_sides::search::search;
-use euler_faces::{Faces, faces};
+use euler_faces::{Faces, faces, mark_reached};
 use half_edges::{DartId, FaceId, HalfMap};
 use std::alloc::{AllocError, Global};
 
@@ -58,7 +57,7 @@ fn count_with(
     ensures { IfOk result (λ k. (start : Dart) (v : ℕ) (walk : List Dart) → dart_at map.now base.0 ≡ Some start → IsWalk map.now.lists v v walk → HasMarks map.now (is_odd_on walk) marked.now → IsInsideCount map.now.lists start walk k) }
 {
     map.facts();
-    search(alloc, map, marked, met, base)?;
+    mark_reached(alloc, map, met, base, |d| marked[d.0 as usize])?;
     let all = faces(alloc, map)?;
     Ok(counted(map, &all, met, all.of_dart(base)))
 }

@@ -4,13 +4,13 @@ ghost use Rattle.map_theory.specs.Maps.{IsPlane, HasDart, follows, component_cou
 ghost use Rattle.convex_peeling.specs.Tight.{IsThreeConnected};
 ghost use Rattle.half_edges.specs.Map.{IsLive, dart_at, id_bound};
 ghost use Rattle.convex_faces.specs.Notes.{AreNoted};
-ghost use Rattle.convex_faces.specs.RunPoints.{AreRunPoints};
+ghost use Rattle.convex_draw.specs.RunPoints.{AreRunPoints};
 ghost use Rattle.convex_faces.specs.Directions.{IsWoodIn, IsDrawnWood};
 
 use crate::wood::outs::outs_along;
-use crate::wood::points::run_points;
 use crate::wood::woods::ConvexWood;
 use convex_counts::face_woods::Axis;
+use convex_draw::run_figure;
 use half_edges::{DartId, HalfMap, VertexId};
 use pg_plane::Points;
 use std::alloc::{AllocError, Global};
@@ -77,7 +77,7 @@ pub fn convex_wood(alloc: Global, map: &HalfMap, base: DartId) -> Result<ConvexW
     ensures drawn { IfOk result (λ wood. (s d : ℕ) → dart_at map.now base.0 ≡ Some (s, d) → IsDrawnWood map.now s d wood) }
 {
     map.facts();
-    let points = run_points(alloc, map, base)?;
-    let wood = wood_by(alloc, map, base, &points)?;
+    let figure = run_figure(alloc, map, base)?;
+    let wood = wood_by(alloc, map, base, &figure.points)?;
     Ok(wood)
 }

@@ -57,33 +57,33 @@ fn lower_vertices(places: &mut [u16], own: &ItemLists<u32>, vs: &[u16])
 }
 
 // Adds edges.
-fn raise_edges(edges: &mut [u16], lists: &Rotations, t: &FaceNumbers, vs: &[u16])
+fn raise_edges(edges: &mut [u16], lists: &Rotations, faces: &FaceNumbers, vs: &[u16])
     requires simple { IsSimpleMap lists.now }
-    requires numbers { AreFaceNumbers lists.now t.now.own t.now.other t.now.count }
-    requires table { IsTable lists.now t.now.own (length edges.old) }
+    requires numbers { AreFaceNumbers lists.now faces.now.own faces.now.other faces.now.count }
+    requires table { IsTable lists.now faces.now.own (length edges.old) }
     requires some { 0 < length vs.now }
     requires edges { AreEdges lists.now vs.now }
-    requires room { (f : ℕ) → f < length edges.old → slice_index edges.old f + edges_below lists.now t.now.own vs.now (length vs.now - 1) f < 65536 }
-    ensures { (f : ℕ) → f < length edges.old → slice_index edges.new f ≡ slice_index edges.old f + edges_below lists.now t.now.own vs.now (length vs.now - 1) f }
+    requires room { (f : ℕ) → f < length edges.old → slice_index edges.old f + edges_below lists.now faces.now.own vs.now (length vs.now - 1) f < 65536 }
+    ensures { (f : ℕ) → f < length edges.old → slice_index edges.new f ≡ slice_index edges.old f + edges_below lists.now faces.now.own vs.now (length vs.now - 1) f }
 {
     for i in 0..vs.len() - 1 {
-        let f = number_of(lists, t, vs[i + 1], vs[i]) as usize;
+        let f = number_of(lists, faces, vs[i + 1], vs[i]) as usize;
         edges[f] += 1;
     }
 }
 
 // Takes edges away.
-fn lower_edges(edges: &mut [u16], lists: &Rotations, t: &FaceNumbers, vs: &[u16])
+fn lower_edges(edges: &mut [u16], lists: &Rotations, faces: &FaceNumbers, vs: &[u16])
     requires simple { IsSimpleMap lists.now }
-    requires numbers { AreFaceNumbers lists.now t.now.own t.now.other t.now.count }
-    requires table { IsTable lists.now t.now.own (length edges.old) }
+    requires numbers { AreFaceNumbers lists.now faces.now.own faces.now.other faces.now.count }
+    requires table { IsTable lists.now faces.now.own (length edges.old) }
     requires some { 0 < length vs.now }
     requires edges { AreEdges lists.now vs.now }
-    requires enough { (f : ℕ) → f < length edges.old → edges_below lists.now t.now.own vs.now (length vs.now - 1) f ≤ slice_index edges.old f }
-    ensures { (f : ℕ) → f < length edges.old → slice_index edges.new f + edges_below lists.now t.now.own vs.now (length vs.now - 1) f ≡ slice_index edges.old f }
+    requires enough { (f : ℕ) → f < length edges.old → edges_below lists.now faces.now.own vs.now (length vs.now - 1) f ≤ slice_index edges.old f }
+    ensures { (f : ℕ) → f < length edges.old → slice_index edges.new f + edges_below lists.now faces.now.own vs.now (length vs.now - 1) f ≡ slice_index edges.old f }
 {
     for i in 0..vs.len() - 1 {
-        let f = number_of(lists, t, vs[i + 1], vs[i]) as usize;
+        let f = number_of(lists, faces, vs[i + 1], vs[i]) as usize;
         edges[f] -= 1;
     }
 }
@@ -93,26 +93,26 @@ pub fn raise_part(
     places: &mut [u16],
     edges: &mut [u16],
     lists: &Rotations,
-    t: &FaceNumbers,
+    faces: &FaceNumbers,
     ws: &[u16],
     first: usize,
     last: usize,
 )
     requires simple { IsSimpleMap lists.now }
-    requires numbers { AreFaceNumbers lists.now t.now.own t.now.other t.now.count }
-    requires table { IsTable lists.now t.now.own (length edges.old) }
+    requires numbers { AreFaceNumbers lists.now faces.now.own faces.now.other faces.now.count }
+    requires table { IsTable lists.now faces.now.own (length edges.old) }
     requires long { length places.old ≡ length edges.old }
     requires order { first < last }
     requires within { last < length ws.now }
     requires vertices { (i : ℕ) → i < length ws.now → slice_index ws.now i < length lists.now }
     requires edges { AreEdges lists.now ws.now }
-    requires room { (f : ℕ) → f < length places.old → slice_index places.old f + met_between t.now.own ws.now first last f < 65536 }
-    requires room_edges { (f : ℕ) → f < length edges.old → slice_index edges.old f + edges_between lists.now t.now.own ws.now first last f < 65536 }
-    ensures places { (f : ℕ) → f < length places.old → slice_index places.new f ≡ slice_index places.old f + met_between t.now.own ws.now first last f }
-    ensures edges { (f : ℕ) → f < length edges.old → slice_index edges.new f ≡ slice_index edges.old f + edges_between lists.now t.now.own ws.now first last f }
+    requires room { (f : ℕ) → f < length places.old → slice_index places.old f + met_between faces.now.own ws.now first last f < 65536 }
+    requires room_edges { (f : ℕ) → f < length edges.old → slice_index edges.old f + edges_between lists.now faces.now.own ws.now first last f < 65536 }
+    ensures places { (f : ℕ) → f < length places.old → slice_index places.new f ≡ slice_index places.old f + met_between faces.now.own ws.now first last f }
+    ensures edges { (f : ℕ) → f < length edges.old → slice_index edges.new f ≡ slice_index edges.old f + edges_between lists.now faces.now.own ws.now first last f }
 {
-    raise_vertices(places, &t.own, part(ws, first + 1, last));
-    raise_edges(edges, lists, t, part(ws, first, last + 1));
+    raise_vertices(places, &faces.own, part(ws, first + 1, last));
+    raise_edges(edges, lists, faces, part(ws, first, last + 1));
 }
 
 /// Takes away what goes from places of the list: the rows of the vertices strictly between, and all edges.
@@ -120,26 +120,26 @@ pub fn lower_part(
     places: &mut [u16],
     edges: &mut [u16],
     lists: &Rotations,
-    t: &FaceNumbers,
+    faces: &FaceNumbers,
     ws: &[u16],
     first: usize,
     last: usize,
 )
     requires simple { IsSimpleMap lists.now }
-    requires numbers { AreFaceNumbers lists.now t.now.own t.now.other t.now.count }
-    requires table { IsTable lists.now t.now.own (length edges.old) }
+    requires numbers { AreFaceNumbers lists.now faces.now.own faces.now.other faces.now.count }
+    requires table { IsTable lists.now faces.now.own (length edges.old) }
     requires long { length places.old ≡ length edges.old }
     requires order { first < last }
     requires within { last < length ws.now }
     requires vertices { (i : ℕ) → i < length ws.now → slice_index ws.now i < length lists.now }
     requires edges { AreEdges lists.now ws.now }
-    requires some { (f : ℕ) → f < length places.old → met_between t.now.own ws.now first last f ≤ slice_index places.old f }
-    requires some_edges { (f : ℕ) → f < length edges.old → edges_between lists.now t.now.own ws.now first last f ≤ slice_index edges.old f }
-    ensures places { (f : ℕ) → f < length places.old → slice_index places.new f + met_between t.now.own ws.now first last f ≡ slice_index places.old f }
-    ensures edges { (f : ℕ) → f < length edges.old → slice_index edges.new f + edges_between lists.now t.now.own ws.now first last f ≡ slice_index edges.old f }
+    requires some { (f : ℕ) → f < length places.old → met_between faces.now.own ws.now first last f ≤ slice_index places.old f }
+    requires some_edges { (f : ℕ) → f < length edges.old → edges_between lists.now faces.now.own ws.now first last f ≤ slice_index edges.old f }
+    ensures places { (f : ℕ) → f < length places.old → slice_index places.new f + met_between faces.now.own ws.now first last f ≡ slice_index places.old f }
+    ensures edges { (f : ℕ) → f < length edges.old → slice_index edges.new f + edges_between lists.now faces.now.own ws.now first last f ≡ slice_index edges.old f }
 {
-    lower_vertices(places, &t.own, part(ws, first + 1, last));
-    lower_edges(edges, lists, t, part(ws, first, last + 1));
+    lower_vertices(places, &faces.own, part(ws, first + 1, last));
+    lower_edges(edges, lists, faces, part(ws, first, last + 1));
 }
 
 /// Counts a whole contour. At first there are no counts.
@@ -147,12 +147,12 @@ pub fn raise_all(
     places: &mut [u16],
     edges: &mut [u16],
     lists: &Rotations,
-    t: &FaceNumbers,
+    faces: &FaceNumbers,
     ws: &[u16],
 )
     requires simple { IsSimpleMap lists.now }
-    requires numbers { AreFaceNumbers lists.now t.now.own t.now.other t.now.count }
-    requires table { IsTable lists.now t.now.own (length edges.old) }
+    requires numbers { AreFaceNumbers lists.now faces.now.own faces.now.other faces.now.count }
+    requires table { IsTable lists.now faces.now.own (length edges.old) }
     requires long { length places.old ≡ length edges.old }
     requires some { 0 < length ws.now }
     requires few { length ws.now < 65536 }
@@ -160,9 +160,9 @@ pub fn raise_all(
     requires darts { AreEdges lists.now ws.now }
     requires no_places { (f : ℕ) → slice_index places.old f ≡ 0 }
     requires no_edges { (f : ℕ) → slice_index edges.old f ≡ 0 }
-    requires room { (f : ℕ) → f < length places.old → met_below t.now.own ws.now (length ws.now) f < 65536 }
-    ensures { AreCounts lists.now t.now.own (length edges.old) ws.now places.new edges.new }
+    requires room { (f : ℕ) → f < length places.old → met_below faces.now.own ws.now (length ws.now) f < 65536 }
+    ensures { AreCounts lists.now faces.now.own (length edges.old) ws.now places.new edges.new }
 {
-    raise_vertices(places, &t.own, ws);
-    raise_edges(edges, lists, t, ws);
+    raise_vertices(places, &faces.own, ws);
+    raise_edges(edges, lists, faces, ws);
 }

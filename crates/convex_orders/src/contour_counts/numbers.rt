@@ -33,15 +33,15 @@ fn number_in(lists: &Rotations, table: &ItemLists<u32>, x: u16, y: u16) -> u32
 
 /// The number of the face of the dart from x to y. It goes over the shorter one of their two lists: at a hub the time
 /// is that of its neighbours.
-pub fn number_of(lists: &Rotations, t: &FaceNumbers, x: u16, y: u16) -> u32
+pub fn number_of(lists: &Rotations, faces: &FaceNumbers, x: u16, y: u16) -> u32
     requires simple { IsSimpleMap lists.now }
-    requires numbers { AreFaceNumbers lists.now t.now.own t.now.other t.now.count }
+    requires numbers { AreFaceNumbers lists.now faces.now.own faces.now.other faces.now.count }
     requires dart { HasDart lists.now x y }
-    ensures { result ≡ entry lists.now t.now.own x y }
+    ensures { result ≡ entry lists.now faces.now.own x y }
 {
     if lists.list(x as usize).len() <= lists.list(y as usize).len() {
-        number_in(lists, &t.own, x, y)
+        number_in(lists, &faces.own, x, y)
     } else {
-        number_in(lists, &t.other, y, x)
+        number_in(lists, &faces.other, y, x)
     }
 }

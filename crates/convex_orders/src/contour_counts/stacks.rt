@@ -22,16 +22,16 @@ pub fn vertex_at(left: &[u16], right: &[u16], i: usize) -> u16
 }
 
 /// The number of the face inside of the edge from place i to the next.
-pub fn edge_at(lists: &Rotations, t: &FaceNumbers, left: &[u16], right: &[u16], i: usize) -> u32
+pub fn edge_at(lists: &Rotations, faces: &FaceNumbers, left: &[u16], right: &[u16], i: usize) -> u32
     requires simple { IsSimpleMap lists.now }
-    requires numbers { AreFaceNumbers lists.now t.now.own t.now.other t.now.count }
+    requires numbers { AreFaceNumbers lists.now faces.now.own faces.now.other faces.now.count }
     requires within { suc i < length left.now + length right.now }
     requires edges { AreEdges lists.now (contour_of left.now right.now) }
-    ensures { result ≡ inner_number lists.now t.now.own (contour_of left.now right.now) i }
+    ensures { result ≡ inner_number lists.now faces.now.own (contour_of left.now right.now) i }
 {
     number_of(
         lists,
-        t,
+        faces,
         vertex_at(left, right, i + 1),
         vertex_at(left, right, i),
     )

@@ -9,7 +9,8 @@ ghost use Rattle.wood_laws.specs.Regions.{IsRegionCount};
 ghost use Rattle.schnyder_wood.specs.Parents.{kind, root_in, parent_in, IsInnerIn, IsWoodOf};
 ghost use Rattle.schnyder_wood.specs.Boundaries.{base_in};
 ghost use Rattle.schnyder_wood.specs.ClosedPaths.{HasAll, IsVertexOf};
-ghost use Rattle.schnyder_wood.specs.Search.{HasEdges, IsMet};
+ghost use Rattle.euler_faces.specs.ChainSearch.{IsMet};
+ghost use Rattle.schnyder_wood.specs.Search.{HasEdges};
 ghost use Rattle.schnyder_wood.specs.Counting.{HasOdd, MarksMore, HasVertices};
 
 use crate::schnyder_regions::boundary::{ClosedPath, closed_path, is_on_boundary};

@@ -1,4 +1,4 @@
-use Rattle.std.proofs.Common.{◌≡◌, ◌+◌, ◌-◌, ◌<◌, ◌≤◌, ℕ, suc, length, sym, ap, ◌∙◌, inl, inr, arith}
+use Rattle.std.proofs.Common.{◌≡◌, sym, ap, ◌∙◌, inl, inr, arith}
 use Rattle.std.proofs.lemmas.Bool.{cases_lt, true≢false}
 use Rattle.convex_orders.specs.Contours.{contour_of, inner_number}
 use Rattle.convex_orders.proofs.Moves.{length-contour}
@@ -23,7 +23,7 @@ loop-i-preserved c = λ first end j e low high run.
       | inl less ↦ omega arith
       | inr most ↦
           let z : i ≡ end = omega arith in
-          absurd (true≢false (sym (ap (λ k. is_set c.args.marks.now (inner_number c.args.lists.now c.args.t.now.own (contour_of c.args.left.now c.args.right.now) k)) z ∙ run.high (omega (arith, c.loop-i-test.true, z, n))) ∙ (sym c.is_kept.ensures ∙ c.if-is_kept.false)))
+          absurd (true≢false (sym (ap (λ k. is_set c.args.marks.now (inner_number c.args.lists.now c.args.faces.now.own (contour_of c.args.left.now c.args.right.now) k)) z ∙ run.high (omega (arith, c.loop-i-test.true, z, n))) ∙ (sym c.is_kept.ensures ∙ c.if-is_kept.false)))
     ]
 
 pub returns : goal.returns

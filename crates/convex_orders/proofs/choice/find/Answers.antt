@@ -1,4 +1,4 @@
-use Rattle.std.proofs.Common.{◌≡◌, ◌+◌, ◌-◌, ◌<◌, ◌≤◌, ℕ, suc, List, true, false, length, slice_index, refl, sym, ap, ◌∙◌, subst, arith}
+use Rattle.std.proofs.Common.{◌≡◌, ◌<◌, ℕ, suc, List, length, slice_index, sym, ap, ◌∙◌, subst, arith}
 use Rattle.std.proofs.lemmas.Result.{IfOk-weaker}
 use Rattle.convex_orders.specs.Contours.{contour_of}
 use Rattle.convex_orders.proofs.Moves.{length-contour}
@@ -20,12 +20,12 @@ seek-requires-clause-vertices c = subst (λ (z : List ℕ). (i : ℕ) → i < le
 
 pub returns-then-branch-clause-found : goal.returns-then-branch-clause-found
 returns-then-branch-clause-found c = λ j e.
-    let t = c.args.t.now in
+    let t = c.args.faces.now in
     subst (λ (z : List ℕ). IsLoosePlace t.own t.other c.args.marks.now c.args.places.now c.args.edges.now z j) c.in_ok-move_to.ensures.same (c.in_ok-seek.ensures.found c.if-branch.true j e)
 
 pub returns-else-branch-clause-found : goal.returns-else-branch-clause-found
 returns-else-branch-clause-found c =
-    let t = c.args.t.now in
+    let t = c.args.faces.now in
     let ws = contour_of c.args.left.now.items c.args.right.now.items in
     IfOk-weaker c.seek_all.result _ (λ _. (j : ℕ) → suc j ≡ length c.seek_all.new.left.items → IsLoosePlace t.own t.other c.args.marks.now c.args.places.now c.args.edges.now ws j)
     (λ _ found j e. subst (λ (z : List ℕ). IsLoosePlace t.own t.other c.args.marks.now c.args.places.now c.args.edges.now z j) (c.in_ok-seek.ensures.same ∙ c.in_ok-move_to.ensures.same) (found j e)) c.seek_all.ensures.found

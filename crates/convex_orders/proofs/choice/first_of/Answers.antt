@@ -1,7 +1,5 @@
-use Rattle.std.proofs.Common.{◌≡◌, ◌+◌, ◌-◌, ◌<◌, ◌≤◌, ℕ, suc, length, sym, ap, ◌∙◌, inl, inr, arith}
+use Rattle.std.proofs.Common.{◌-◌, ℕ, length, sym, ◌∙◌, inl, inr, arith}
 use Rattle.std.proofs.lemmas.Bool.{cases_lt, true≢false}
-use Rattle.convex_orders.specs.Contours.{contour_of, inner_number}
-use Rattle.convex_orders.specs.Shown.{is_set}
 use Rattle.convex_orders.proofs.choice.first_of.Goals as goal
 
 pub returns-then-is_kept : goal.returns-then-is_kept

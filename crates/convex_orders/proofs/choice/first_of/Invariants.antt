@@ -4,4 +4,4 @@ use Rattle.convex_orders.specs.Splits.{IsGoneRun}
 use Rattle.convex_orders.proofs.choice.first_of.Given as goal
 
 abbrev pub invariant-loop-k : goal.invariant-loop-k
-invariant-loop-k l = (first end j : ℕ) → suc j ≡ length l.left → first ≤ j → j ≤ end → IsGoneRun l.lists l.t.own l.marks (contour_of l.left l.right) first end → first + l.k ≤ length l.left
+invariant-loop-k l = (first end j : ℕ) → suc j ≡ length l.left → first ≤ j → j ≤ end → IsGoneRun l.lists l.faces.own l.marks (contour_of l.left l.right) first end → first + l.k ≤ length l.left

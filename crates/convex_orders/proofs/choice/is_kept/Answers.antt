@@ -1,4 +1,4 @@
-use Rattle.std.proofs.Common.{◌+◌, ◌<◌, ℕ, suc, length, get_or, arith}
+use Rattle.std.proofs.Common.{suc, length, get_or, arith}
 use Rattle.convex_orders.specs.Contours.{contour_of}
 use Rattle.convex_orders.proofs.Moves.{length-contour}
 use Rattle.convex_orders.proofs.ContourCountsRows.{entry-lt}
@@ -10,5 +10,5 @@ bounds-marks-edge_at c =
     let i = c.args.i in
     let n = length-contour c.args.left.now c.args.right.now in
     let has = c.requires.darts i (omega (arith, n, c.requires.within)) in
-    let l = entry-lt c.args.lists.now c.args.t.now.own (length c.args.marks.now) c.requires.table (get_or ws (suc i) 0) (get_or ws i 0) has in
+    let l = entry-lt c.args.lists.now c.args.faces.now.own (length c.args.marks.now) c.requires.table (get_or ws (suc i) 0) (get_or ws i 0) has in
     omega (arith, l, c.edge_at.ensures)

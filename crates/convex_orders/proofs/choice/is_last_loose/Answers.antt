@@ -1,4 +1,4 @@
-use Rattle.std.proofs.Common.{◌≡◌, ◌↔◌, ◌+◌, ◌-◌, ◌<◌, ℕ, suc, List, length, get_or, slice_index, sym, ap, ◌∙◌, subst, arith}
+use Rattle.std.proofs.Common.{◌≡◌, ◌↔◌, ◌-◌, ◌<◌, ℕ, List, length, get_or, slice_index, sym, ap, subst, arith}
 use Rattle.std.specs.Prelude.{IsTrue}
 use Rattle.map_theory.specs.Maps.{list_of}
 use Rattle.convex_orders.specs.Splits.{IsLooseRow}
@@ -30,7 +30,7 @@ is_loose-requires-clause-other_in c =
 
 pub returns : goal.returns
 returns c = λ j e.
-    let t = c.args.t.now in
+    let t = c.args.faces.now in
     let left = c.args.left.now in
     let marks = c.args.marks.now in
     let places = c.args.places.now in

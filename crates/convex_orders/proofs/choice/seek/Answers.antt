@@ -1,10 +1,9 @@
-use Rattle.std.proofs.Common.{◌≡◌, ◌↔◌, ◌+◌, ◌-◌, ◌<◌, ◌≤◌, ℕ, suc, true, false, List, length, get_or, slice_index, refl, sym, ap, ◌∙◌, subst, inl, inr, arith}
-use Rattle.std.specs.Prelude.{IsTrue}
+use Rattle.std.proofs.Common.{◌<◌, ℕ, suc, List, length, get_or, slice_index, sym, ap, ◌∙◌, subst, inl, inr, arith}
 use Rattle.std.proofs.lemmas.Bool.{cases_eq, cases_lt, true≢false}
 use Rattle.map_theory.specs.Maps.{list_of}
 use Rattle.convex_orders.specs.Contours.{contour_of}
 use Rattle.convex_orders.proofs.Moves.{length-contour, contour_left}
-use Rattle.convex_orders.specs.Splits.{IsLooseRow, IsLoosePlace}
+use Rattle.convex_orders.specs.Splits.{IsLooseRow}
 use Rattle.convex_orders.proofs.SeekLemmas.{place_from, row_from}
 use Rattle.convex_orders.proofs.choice.seek.Goals as goal
 
@@ -27,7 +26,7 @@ step_back-requires c = omega (arith, c.loop.invariant.long, c.loop-test.true)
 
 pub returns-then-is_last_loose-clause-found : goal.returns-then-is_last_loose-clause-found
 returns-then-is_last_loose-clause-found c = λ _ j e.
-    let t = c.args.t.now in
+    let t = c.args.faces.now in
     let ws = contour_of c.args.left.now.items c.args.right.now.items in
     let left = c.loop.left.items in
     let value = c.deref.ensures.value in
@@ -41,7 +40,7 @@ returns-then-is_last_loose-clause-none c = λ f. absurd (true≢false f)
 pub loop-preserved : goal.loop-preserved
 loop-preserved c =
     let inv = c.loop.invariant in
-    let t = c.args.t.now in
+    let t = c.args.faces.now in
     let ws = contour_of c.args.left.now.items c.args.right.now.items in
     let left = c.loop.left.items in
     let value = c.deref.ensures.value in

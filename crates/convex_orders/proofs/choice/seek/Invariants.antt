@@ -8,5 +8,5 @@ invariant-loop l = record {
   same : contour_of l.left.items l.right.items ≡ contour_of l.initial.left.items l.initial.right.items;
   long : length l.left.items + l.counter ≡ length l.initial.left.items + 1;
   behind : 0 < length l.right.items;
-  none : (j : ℕ) → IsLoosePlace l.t.own l.t.other l.marks l.places l.edges (contour_of l.initial.left.items l.initial.right.items) j → j < length l.initial.left.items → j < length l.left.items;
+  none : (j : ℕ) → IsLoosePlace l.faces.own l.faces.other l.marks l.places l.edges (contour_of l.initial.left.items l.initial.right.items) j → j < length l.initial.left.items → j < length l.left.items;
 }

@@ -1,4 +1,4 @@
-use Rattle.std.proofs.Common.{◌≡◌, ◌+◌, ◌-◌, ◌<◌, ◌≤◌, ℕ, suc, List, length, slice_index, inl, inr, sym, ap, ◌∙◌, subst, arith}
+use Rattle.std.proofs.Common.{ℕ, List, length, inl, inr, sym, ap, subst, arith}
 use Rattle.std.proofs.lemmas.Bool.{cases_Bool}
 use Rattle.convex_orders.proofs.Moves.{length-contour}
 use Rattle.convex_orders.specs.Splits.{IsLoosePlace}
@@ -22,7 +22,7 @@ seek-requires-clause-behind c =
 
 pub returns-clause-found : goal.returns-clause-found
 returns-clause-found c = λ j e.
-    let t = c.args.t.now in
+    let t = c.args.faces.now in
     let same = c.in_ok-move_to.ensures.same in
     let n = length-contour c.args.left.now.items c.args.right.now.items in
     elim (cases_Bool c.in_ok-found.found) [

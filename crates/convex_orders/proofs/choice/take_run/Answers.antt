@@ -5,14 +5,14 @@ use Rattle.convex_orders.proofs.GoneRuns.{gone_run}
 use Rattle.convex_orders.proofs.choice.take_run.Goals as goal
 
 pub first_of-requires-clause-table : goal.first_of-requires-clause-table
-first_of-requires-clause-table c = subst (IsTable c.args.lists.now c.args.t.now.own) (sym (c.take_at.ensures.long ∙ c.requires.marks)) c.requires.numbers.own_table
+first_of-requires-clause-table c = subst (IsTable c.args.lists.now c.args.faces.now.own) (sym (c.take_at.ensures.long ∙ c.requires.marks)) c.requires.numbers.own_table
 
 pub end_of-requires-clause-table : goal.end_of-requires-clause-table
-end_of-requires-clause-table c = subst (IsTable c.args.lists.now c.args.t.now.own) (sym (c.take_at.ensures.long ∙ c.requires.marks)) c.requires.numbers.own_table
+end_of-requires-clause-table c = subst (IsTable c.args.lists.now c.args.faces.now.own) (sym (c.take_at.ensures.long ∙ c.requires.marks)) c.requires.numbers.own_table
 
 pub returns-clause-goes : goal.returns-clause-goes
 returns-clause-goes c = λ alive w r choice.
-    let t = c.args.t.now in
+    let t = c.args.faces.now in
     let lists = c.args.lists.now in
     let ws = contour_of c.args.left.now c.args.right.now in
     let j : ℕ = length c.args.left.now - 1 in

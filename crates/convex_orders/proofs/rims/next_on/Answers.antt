@@ -8,7 +8,7 @@ use Rattle.convex_orders.proofs.rims.next_on.Goals as goal
 pub returns : goal.returns
 returns c =
     let lists = c.args.lists.now in
-    let t = c.args.t.now in
+    let t = c.args.faces.now in
     let marks = c.args.marks.now in
     let x = c.args.x in
     let k = c.first_rim-k.result in

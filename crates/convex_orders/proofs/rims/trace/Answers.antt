@@ -1,6 +1,6 @@
-use Rattle.std.proofs.Common.{◌≡◌, ◌+◌, ◌-◌, ◌<◌, ◌≤◌, ℕ, suc, Bool, List, [], ◌∷◌, length, get_or, refl, sym, ap, ◌∙◌, subst, arith}
+use Rattle.std.proofs.Common.{◌≡◌, ◌+◌, ℕ, suc, List, [], ◌∷◌, length, get_or, sym, ap, ◌∙◌, subst, arith}
 use Rattle.std.proofs.lemmas.List.{length-append, get_or_push}
-use Rattle.convex_orders.specs.Shown.{IsTrace, SomeTrace, IsListOf, IsRimIn}
+use Rattle.convex_orders.specs.Shown.{IsTrace}
 use Rattle.convex_orders.proofs.Traced.{traced_last, traced_rim, traced_more, traced_end, traced_short}
 use Rattle.convex_orders.proofs.rims.trace.Goals as goal
 
@@ -12,7 +12,7 @@ overflow_sub-len c = let long = c.requires.some.trace.from.long in omega arith
 
 pub next_on-x-requires-clause-some : goal.next_on-x-requires-clause-some
 next_on-x-requires-clause-some c =
-    let t = c.args.t.now in
+    let t = c.args.faces.now in
     let some = c.requires.some in
     let tr = c.loop.invariant.all some.alive some.w some.r some.a some.b some.trace in
     let k : ℕ = some.a + c.loop.counter in
@@ -22,7 +22,7 @@ next_on-x-requires-clause-some c =
 
 pub returns-then-x-stop : goal.returns-then-x-stop
 returns-then-x-stop c = λ alive w r a b is.
-    let t = c.args.t.now in
+    let t = c.args.faces.now in
     let tr = c.loop.invariant.all alive w r a b is in
     let k : ℕ = a + c.loop.counter in
     let long = tr.from.long in
@@ -32,7 +32,7 @@ returns-then-x-stop c = λ alive w r a b is.
 pub loop-preserved : goal.loop-preserved
 loop-preserved c = record {
   all = λ alive w r a b is.
-      let t = c.args.t.now in
+      let t = c.args.faces.now in
       let tr = c.loop.invariant.all alive w r a b is in
       let k : ℕ = a + c.loop.counter in
       let long = tr.from.long in
@@ -49,7 +49,7 @@ loop-preserved c = record {
 
 pub returns : goal.returns
 returns c = λ alive w r a b is.
-    let t = c.args.t.now in
+    let t = c.args.faces.now in
     let tr = c.loop.invariant.all alive w r a b is in
     let short = traced_short c.args.lists.now t.own t.other t.count c.args.marks.now c.requires.simple c.requires.numbers c.loop.left.items c.args.stop alive w r (a + c.loop.counter) b tr in
     absurd (omega (arith, short, c.loop-test.false, c.len-end.ensures))

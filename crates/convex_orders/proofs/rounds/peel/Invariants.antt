@@ -7,8 +7,8 @@ use Rattle.convex_orders.proofs.rounds.peel.Given as goal
 
 abbrev pub invariant-loop : goal.invariant-loop
 invariant-loop l = record {
-  long : length l.marks ≡ l.t.count;
+  long : length l.marks ≡ l.tables.faces.count;
   left : 0 < length l.left.items;
-  counts : AreCounts l.lists l.t.own l.t.count (contour_of l.left.items l.right.items) l.places l.edges;
-  stands : (bound : ℕ) → bound + l.counter ≡ suc (dart_count l.lists) → Stands l.lists l.t.own l.marks l.s l.d (contour_of l.left.items l.right.items) l.rows bound;
+  counts : AreCounts l.tables.lists l.tables.faces.own l.tables.faces.count (contour_of l.left.items l.right.items) l.places l.edges;
+  stands : (bound : ℕ) → bound + l.counter ≡ suc (dart_count l.tables.lists) → Stands l.tables.lists l.tables.faces.own l.marks l.tables.tail l.tables.head (contour_of l.left.items l.right.items) l.rows bound;
 }

@@ -19,4 +19,4 @@ returns c =
     let ws = contour_of c.args.left.now c.args.right.now in
     let i = c.args.i in
     let z : i + 1 ≡ suc i = omega arith in
-    c.number_of.ensures ∙ ap₂ (entry c.args.lists.now c.args.t.now.own) (c.vertex_at.ensures ∙ ap (λ k. get_or ws k 0) z) c.vertex_at-2.ensures
+    c.number_of.ensures ∙ ap₂ (entry c.args.lists.now c.args.faces.now.own) (c.vertex_at.ensures ∙ ap (λ k. get_or ws k 0) z) c.vertex_at-2.ensures

@@ -1,54 +1,9 @@
-use Rattle.std.proofs.Common.{arith, sym, ◌∙◌, ap, subst, ◌∷◌, [], refl, Contains}
-use Rattle.std.proofs.lemmas.List.Elements.{Contains-push, Contains-append_left}
-use Rattle.schnyder_wood.specs.declared.schnyder_regions.search.Side.{Side}
-use Rattle.schnyder_wood.specs.Search.{IsSearching, Meets, work}
-use Rattle.schnyder_wood.proofs.Marks.{some_dart, none_left}
-use Rattle.schnyder_wood.proofs.Searching.{starts, live_first, live_on, work_less, work_taken, goes_from, finished, met_long}
+use Rattle.std.proofs.Common.{rules}
+use Rattle.schnyder_wood.proofs.CrossedEdges.{is_edge_of, are_marked, told_same}
 use Rattle.schnyder_wood.proofs.schnyder_regions.search.search.Goals as goal
-
-pub loop-side-init : goal.loop-side-init
-loop-side-init c =
-    let map = c.args.map.now in
-    let side : Side = record { dart = c.args.start; odd = _ } in
-    let m : Meets c.args.met.now [] side c.meet.new.met c.meet.new.sides.items = subst (λ sides. Meets c.args.met.now sides side c.meet.new.met c.meet.new.sides.items) c.new-sides.ensures.items c.in_ok-meet.ensures in
-    record {
-      marks = met_long c.args.met.now [] side c.meet.new.met c.meet.new.sides.items m ∙ c.requires.marks;
-      live = live_first map c.args.met.now side c.meet.new.met c.meet.new.sides.items c.requires.live m;
-      search = λ base parent d v start edges. starts map c.facts.ensures base parent d v c.args.met.now side c.meet.new.met c.meet.new.sides.items start refl c.requires.unset c.requires.marks m;
-    }
-
-pub go_on-requires-clause-live : goal.go_on-requires-clause-live
-go_on-requires-clause-live c = c.loop-side.invariant.live c.in-Some.side (subst (λ sides. Contains sides c.in-Some.side) (sym c.in-Some.ensures.items) (Contains-push c.pop.new.self.items c.in-Some.side))
-
-pub loop-side-smaller : goal.loop-side-smaller
-loop-side-smaller c =
-    let map = c.args.map.now in
-    let sides = c.pop.new.self.items in
-    let side = c.in-Some.side in
-    let live = c.loop-side.invariant.live side (subst (λ sides. Contains sides side) (sym c.in-Some.ensures.items) (Contains-push sides side)) in
-    let less = work_less map c.facts.ensures c.args.path.now side c.loop-side.met sides c.go_on.new.met c.go_on.new.sides.items c.in_ok-go_on.ensures live c.loop-side.invariant.marks in
-    let taken = work_taken c.loop-side.met sides side in
-    let same = ap (work c.loop-side.met) c.in-Some.ensures.items in
-    omega (arith, less.1, taken, same)
-
-pub loop-side-preserved : goal.loop-side-preserved
-loop-side-preserved c =
-    let map = c.args.map.now in
-    let sides = c.pop.new.self.items in
-    let side = c.in-Some.side in
-    let h = c.loop-side.invariant in
-    let live = h.live side (subst (λ sides. Contains sides side) (sym c.in-Some.ensures.items) (Contains-push sides side)) in
-    let less = work_less map c.facts.ensures c.args.path.now side c.loop-side.met sides c.go_on.new.met c.go_on.new.sides.items c.in_ok-go_on.ensures live h.marks in
-    let d = some_dart _ live in
-    record {
-      marks = less.0 ∙ h.marks;
-      live = live_on map c.facts.ensures c.args.path.now side c.loop-side.met sides c.go_on.new.met c.go_on.new.sides.items c.in_ok-go_on.ensures live (λ s on. h.live s (subst (λ sides. Contains sides s) (sym c.in-Some.ensures.items) (Contains-append_left sides (side ∷ []) s on)));
-      search = λ base parent k v start edges.
-          goes_from map c.facts.ensures base parent k v c.args.path.now edges side c.loop-side.met sides c.go_on.new.met c.go_on.new.sides.items c.in_ok-go_on.ensures h.marks d.0 d.1 d.2
-          (subst (λ sides. IsSearching map base parent k v c.loop-side.met sides (λ d odd. ⊥)) c.in-Some.ensures.items (h.search base parent k v start edges));
-    }
 
 pub returns : goal.returns
 returns c = λ base parent k v start edges.
     let map = c.args.map.now in
-    finished map c.facts.ensures base parent k v c.loop-side.met c.loop-side.sides.items (c.facts.ensures.is_dart c.args.start.0 base.0 base.1 start) (none_left c.loop-side.sides.items (omega (arith, c.in_default.ensures.cases))) (c.loop-side.invariant.search base parent k v start edges)
+    are_marked map c.facts.ensures c.args.path.now base parent k v c.mark_reached.new.met (c.facts.ensures.is_dart c.args.start.0 base.0 base.1 start) edges
+    (c.in_ok-mark_reached.ensures base (is_edge_of c.args.path.now) start (λ d answer x y e s. told_same map c.args.path.now d answer x y e (search rules)))

@@ -12,7 +12,7 @@ use Rattle.convex_laws.proofs.ConvexWoodsTurned.{faces_made-well_turned}
 use Rattle.convex_laws.specs.declared.convex_rows.rows.ConvexRows.{ConvexRows}
 use Rattle.convex_draw.proofs.ByRows.{IsRunByRows}
 use Rattle.convex_draw.proofs.GridLemmas.{side_small, IsConvexGrid-drawn}
-use Rattle.convex_faces.specs.RunPoints.{AreRunPoints}
+use Rattle.convex_draw.specs.RunPoints.{AreRunPoints}
 
 pub AreRunPoints-counts :
     (lists : Lists) (s d : ℕ) (rows : ConvexRows) (h : IsRunByRows lists s d rows) (side count : ℕ) (points : List Point) → side + 1 ≡ face_count lists → count ≡ length lists → length lists < 4096 → ArePointsOf (face_counts (well_turned h.steps) (length rows.rows)) h.at count points → IsPlane lists → component_count lists ≡ 1 → AreRunPoints lists s d points

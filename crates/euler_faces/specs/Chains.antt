@@ -1,13 +1,12 @@
 -- Chains of faces, each sharing an edge with the next, and whether they step over an odd number of edges.
-use Rattle.std.specs.Prelude.{ℕ, zero, suc, ◌≡◌, Bool, false}
+use Rattle.std.specs.Prelude.{ℕ, zero, suc, ◌≡◌, Bool, false, not, if◌then◌else◌}
 use Rattle.map_lists.specs.Lists.{Lists}
 use Rattle.map_theory.specs.Maps.{Dart, follows}
-use Rattle.convex_laws.specs.Walks.{flipped}
 
 -- A chain goes on from the dart (x, y): along the face that lies on its left, or over the edge to the face on the other side. It counts whether it has stepped over an odd number of edges that count.
 pub data GoesOn (lists : Lists) (counts : ℕ → ℕ → Bool) (x y : ℕ) (odd : Bool) (x' y' : ℕ) (odd' : Bool) : Type 0 where
   along : x' ≡ y → y' ≡ follows lists y x → odd' ≡ odd → GoesOn lists counts x y odd x' y' odd'
-  over : x' ≡ y → y' ≡ x → odd' ≡ flipped (counts x y) odd → GoesOn lists counts x y odd x' y' odd'
+  over : x' ≡ y → y' ≡ x → odd' ≡ (if counts x y then not odd else odd) → GoesOn lists counts x y odd x' y' odd'
 
 -- a chain of so many moves leads from the face left of the base to the face left of (x, y)
 abbrev pub ReachesBy : Lists → (ℕ → ℕ → Bool) → Dart → ℕ → ℕ → ℕ → Bool → Type 0

@@ -1,17 +1,17 @@
 use Rattle.std.proofs.Common.{arith}
 use Rattle.map_theory.specs.Maps.{face_step, twin_dart}
-use Rattle.convex_faces.proofs.Marks.{live_after, place_live}
-use Rattle.convex_faces.proofs.walk_sides.search.go_on.Goals as goal
+use Rattle.euler_faces.proofs.SideMarks.{live_after, place_live}
+use Rattle.euler_faces.proofs.chains.go_on.Goals as goal
 
 pub meet-requires : goal.meet-requires
-meet-requires c =
+meet-requires g c =
     let map = c.args.map.now in
     let t = live_after map c.facts.ensures c.args.side.dart.0 c.along.result.dart.0 (face_step map.lists) c.requires.live c.along.ensures.dart in
     let p = place_live map c.facts.ensures c.along.result.dart.0 c.along.result.odd _ t.3 in
     omega (arith, c.requires.room)
 
 pub meet-requires-2 : goal.meet-requires-2
-meet-requires-2 c =
+meet-requires-2 g c =
     let map = c.args.map.now in
     let t = live_after map c.facts.ensures c.args.side.dart.0 c.across.result.dart.0 twin_dart c.requires.live c.across.ensures.dart in
     let p = place_live map c.facts.ensures c.across.result.dart.0 c.across.result.odd _ t.3 in

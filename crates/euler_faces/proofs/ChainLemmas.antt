@@ -1,20 +1,19 @@
--- The search of the faces.
-use Rattle.std.proofs.Common.{◌≡◌, ◌⊎◌, ◌+◌, ◌*◌, ◌<◌, ◌≤◌, ℕ, zero, suc, Bool, true, false, not, List, [], ◌∷◌, ◌++◌, length, set, Contains, Some, option_map, refl, sym, ap, ap₂, ◌∙◌, subst, inl, inr, arith, length-set, true≢false}
+-- The search by chains of faces.
+use Rattle.std.proofs.Common.{◌≡◌, ◌⊎◌, ◌+◌, ◌*◌, ◌<◌, ◌≤◌, ℕ, zero, suc, Bool, true, false, not, if◌then◌else◌, List, [], ◌∷◌, ◌++◌, length, set, Contains, Some, option_map, refl, sym, ap, ap₂, ◌∙◌, subst, inl, inr, arith, length-set, true≢false}
 use Rattle.std.proofs.lemmas.Bool.{cases_eq}
 use Rattle.std.proofs.lemmas.List.Elements.{Contains-push, Contains-append_left, Contains-push_cases}
 use Rattle.classes.specs.Classes.{count_below}
+use Rattle.map_lists.specs.declared.ids.DartId.{DartId}
 use Rattle.map_theory.specs.Maps.{Dart, HasDart, twin_dart, face_step, follows}
 use Rattle.map_theory.proofs.DartLemmas.{HasDart-follows}
 use Rattle.half_edges.specs.Map.{Map, IsLive, IsHalfMap, dart_at, id_bound}
 use Rattle.euler_faces.specs.Numbers.{mark_at}
 use Rattle.euler_faces.proofs.SearchLemmas.{unmarked_below-set}
 use Rattle.euler_faces.proofs.NumberLemmas.{live_from}
-use Rattle.convex_laws.specs.Walks.{flipped}
-use Rattle.convex_laws.specs.Chains.{GoesOn, along, over, ReachesBy, Reaches}
-use Rattle.convex_faces.specs.declared.walk_sides.search.Side.{Side}
-use Rattle.convex_faces.specs.Passing.{HasMarks}
-use Rattle.convex_faces.specs.Search.{place, IsMet, Meets, before, now, work, GoesFrom, AreReached, IsSearching}
-use Rattle.convex_faces.proofs.Marks.{mark-same, mark-other, place_same, place_live, live_after, not_in_none, some_pair, dart_in}
+use Rattle.euler_faces.specs.Chains.{GoesOn, along, over, ReachesBy, Reaches}
+use Rattle.euler_faces.specs.declared.chains.Side.{Side}
+use Rattle.euler_faces.specs.ChainSearch.{place, IsMet, Tells, Meets, before, now, work, GoesFrom, AreReached, IsChaining}
+use Rattle.euler_faces.proofs.SideMarks.{mark-same, mark-other, place_same, place_live, live_after, not_in_none, some_pair, dart_in}
 
 -- what has been marked stays so
 pub met_stays : (met : List Bool) (sides : List Side) (side : Side) (met' : List Bool) (sides' : List Side) → Meets met sides side met' sides' → (i : ℕ) → mark_at met i ≡ true → mark_at met' i ≡ true
@@ -67,7 +66,7 @@ met_cases met sides side met' sides' (now a e f) d odd m = elim (cases_eq (place
 
 module _ (map : Map) (known : IsHalfMap map) (base : Dart) (counts : ℕ → ℕ → Bool) where
   abbrev Searching : List Bool → List Side → (ℕ → Bool → Type 0) → Type 0
-  Searching = IsSearching map base counts
+  Searching = IsChaining map base counts
 
   abbrev Goes : ℕ → ℕ → Bool → ℕ → ℕ → Bool → Type 0
   Goes = GoesOn map.lists counts
@@ -154,7 +153,7 @@ module _ (map : Map) (known : IsHalfMap map) (base : Dart) (counts : ℕ → ℕ
           nothing s m = absurd (not_in_none m)
 
   -- from a side that is taken off
-  module _ (marked : List Bool) (marks : HasMarks map counts marked) (side : Side) (met : List Bool) (sides : List Side) (met' : List Bool) (sides' : List Side) (from : GoesFrom map marked side met sides met' sides') (long : length met ≡ 2 * id_bound map) (x y : ℕ) (dart : dart_at map side.dart.0 ≡ Some (x, y)) where
+  module _ (says : DartId → Bool → Type 0) (tells : Tells map says counts) (side : Side) (met : List Bool) (sides : List Side) (met' : List Bool) (sides' : List Side) (from : GoesFrom map says side met sides met' sides') (long : length met ≡ 2 * id_bound map) (x y : ℕ) (dart : dart_at map side.dart.0 ≡ Some (x, y)) where
     first_dart : dart_at map from.first.dart.0 ≡ Some (y, follows map.lists y x)
     first_dart = from.along.dart ∙ ap (option_map (face_step map.lists)) dart
 
@@ -164,8 +163,8 @@ module _ (map : Map) (known : IsHalfMap map) (base : Dart) (counts : ℕ → ℕ
     same_pair : {a b a' b' : ℕ} → some_pair a b ≡ some_pair a' b' → (a ≡ a') × (b ≡ b')
     same_pair e = (ap (λ o. (dart_in o).0) e, ap (λ o. (dart_in o).1) e)
 
-    second_odd : from.second.odd ≡ flipped (counts x y) side.odd
-    second_odd = from.across.odd ∙ ap (λ t. flipped t side.odd) (marks side.dart.0 x y dart)
+    second_odd : from.second.odd ≡ (if counts x y then not side.odd else side.odd)
+    second_odd = from.across.odd ∙ ap (λ turn. if turn then not side.odd else side.odd) (tells side.dart from.across.turn x y dart from.across.told)
 
     pub goes_from : Searching met (sides ++ side ∷ []) (λ d odd. ⊥) → Searching met' sides' (λ d odd. ⊥)
     goes_from h =
@@ -219,8 +218,8 @@ module _ (map : Map) (known : IsHalfMap map) (base : Dart) (counts : ℕ → ℕ
 pub live_first : (map : Map) (met : List Bool) (side : Side) (met' : List Bool) (sides' : List Side) → IsLive map side.dart.0 → Meets met [] side met' sides' → (s : Side) → Contains sides' s → IsLive map s.dart.0
 live_first map met side met' sides' l m s q = elim (waits_cases met [] side met' sides' m s q) [ inl a ↦ absurd (not_in_none a) | inr a ↦ subst (λ s. IsLive map s.dart.0) a l ]
 
-pub live_on : (map : Map) (known : IsHalfMap map) (marked : List Bool) (side : Side) (met : List Bool) (sides : List Side) (met' : List Bool) (sides' : List Side) → GoesFrom map marked side met sides met' sides' → IsLive map side.dart.0 → ((s : Side) → Contains sides s → IsLive map s.dart.0) → (s : Side) → Contains sides' s → IsLive map s.dart.0
-live_on map known marked side met sides met' sides' from l h s q =
+pub live_on : (map : Map) (known : IsHalfMap map) (says : DartId → Bool → Type 0) (side : Side) (met : List Bool) (sides : List Side) (met' : List Bool) (sides' : List Side) → GoesFrom map says side met sides met' sides' → IsLive map side.dart.0 → ((s : Side) → Contains sides s → IsLive map s.dart.0) → (s : Side) → Contains sides' s → IsLive map s.dart.0
+live_on map known says side met sides met' sides' from l h s q =
     let one = live_after map known side.dart.0 from.first.dart.0 (face_step map.lists) l from.along.dart in
     let two = live_after map known side.dart.0 from.second.dart.0 twin_dart l from.across.dart in
     elim (waits_cases from.between from.waiting from.second met' sides' from.meets_second s q) [
@@ -232,8 +231,8 @@ live_on map known marked side met sides met' sides' from l h s q =
     ]
 
 -- there is less to do
-pub work_less : (map : Map) (known : IsHalfMap map) (marked : List Bool) (side : Side) (met : List Bool) (sides : List Side) (met' : List Bool) (sides' : List Side) → GoesFrom map marked side met sides met' sides' → IsLive map side.dart.0 → length met ≡ 2 * id_bound map → (length met' ≡ length met) × (work met' sides' ≤ work met sides)
-work_less map known marked side met sides met' sides' from l long =
+pub work_less : (map : Map) (known : IsHalfMap map) (says : DartId → Bool → Type 0) (side : Side) (met : List Bool) (sides : List Side) (met' : List Bool) (sides' : List Side) → GoesFrom map says side met sides met' sides' → IsLive map side.dart.0 → length met ≡ 2 * id_bound map → (length met' ≡ length met) × (work met' sides' ≤ work met sides)
+work_less map known says side met sides met' sides' from l long =
     let one = live_after map known side.dart.0 from.first.dart.0 (face_step map.lists) l from.along.dart in
     let two = live_after map known side.dart.0 from.second.dart.0 twin_dart l from.across.dart in
     let p = place_live map known from.first.dart.0 from.first.odd _ one.3 in

@@ -4,7 +4,7 @@ use Rattle.half_edges.specs.Map.{Map, IsLive, IsHalfMap, dart_at, id_bound}
 use Rattle.map_theory.specs.Maps.{Dart}
 use Rattle.euler_faces.specs.Numbers.{mark_at}
 use Rattle.euler_faces.proofs.NumberLemmas.{live-lt, live_from, some_of}
-use Rattle.convex_faces.specs.Search.{place}
+use Rattle.euler_faces.specs.ChainSearch.{place}
 
 pub mark-same : (met : List Bool) (i : ℕ) → i < length met → mark_at (set met i true) i ≡ true
 mark-same met i l = get_or-set_same met i true false l
@@ -22,11 +22,7 @@ pub place_small : (d k : ℕ) (odd : Bool) → d < k → place d odd < 2 * k
 place_small d k true l = omega arith
 place_small d k false l = omega arith
 
--- the ends of a live dart
-pub tail_is : (o : Option Dart) (x : ℕ) → option_map (λ d. d.0) o ≡ Some x → (y : ℕ) × (o ≡ Some (x, y))
-tail_is None x e = cc
-tail_is (Some d) x e = (d.1, ap (λ x. Some (x, d.1)) (ap (λ o. unwrap_or o 0) e))
-
+-- the dart of a live id
 pub head_is : (o : Option Dart) (y : ℕ) → option_map (λ d. d.1) o ≡ Some y → (x : ℕ) × (o ≡ Some (x, y))
 head_is None y e = cc
 head_is (Some d) y e = (d.0, ap (λ y. Some (d.0, y)) (ap (λ o. unwrap_or o 0) e))
@@ -34,11 +30,8 @@ head_is (Some d) y e = (d.0, ap (λ y. Some (d.0, y)) (ap (λ o. unwrap_or o 0) 
 pub some_dart : (o : Option Dart) → IsSome o → (x : ℕ) × (y : ℕ) × (o ≡ Some (x, y))
 some_dart o l = let t = some_of o l in (t.0.0, t.0.1, t.1)
 
--- and they are vertices
+-- and its ends are vertices
 module _ (map : Map) (known : IsHalfMap map) where
-  pub tail_small : (d x : ℕ) → option_map (λ d. d.0) (dart_at map d) ≡ Some x → x < length map.lists
-  tail_small d x e = let t = tail_is (dart_at map d) x e in (known.is_dart d x t.0 t.1).0
-
   pub head_small : (d y : ℕ) → option_map (λ d. d.1) (dart_at map d) ≡ Some y → y < length map.lists
   head_small d y e = let t = head_is (dart_at map d) y e in known.simple.in_range t.0 y (known.is_dart d t.0 y t.1)
 

@@ -11,7 +11,9 @@ use Rattle.convex_draw.specs.Points.{IsListedRun, ArePointsOf}
 use Rattle.convex_laws.specs.declared.convex_rows.rows.ConvexRows.{ConvexRows}
 use Rattle.convex_draw.proofs.ByRows.{IsRunByRows, IsRunByRows-of}
 use Rattle.convex_draw.proofs.GridLemmas.{faces_two, side_small, IsListedRun-rows, IsConvexGrid-drawn}
-use Rattle.convex_draw.proofs.draw.convex_draw.Goals as goal
+use Rattle.convex_draw.proofs.PointLemmas.{AreRunPoints-counts}
+use Rattle.convex_draw.specs.RunPoints.{AreRunPoints}
+use Rattle.convex_draw.proofs.draw.run_figure.Goals as goal
 
 pub side_of-side-requires-clause-faces : goal.side_of-side-requires-clause-faces
 side_of-side-requires-clause-faces c =
@@ -55,8 +57,8 @@ count_points-requires-clause-run c =
     let h = IsRunByRows-of map.lists b.0 b.1 c.in_ok-rows.rows (c.in_ok-rows.ensures b.0 b.1 live) in
     (h.steps, h.at, listed map.lists b.0 b.1 c.in_ok-rows.rows h c.side_of-side.result c.head.result.0 c.tail.result.0 c.n.result c.side_of-side.ensures (head_is map c.args.base.0 b.0 b.1 c.head.result.0 live c.head.ensures) (tail_is map c.args.base.0 b.0 b.1 c.tail.result.0 live c.tail.ensures) (sym c.n.ensures.count))
 
-pub returns : goal.returns
-returns c = λ s d e.
+pub returns-clause-grid : goal.returns-clause-grid
+returns-clause-grid c = λ s d e.
     let map = c.args.map.now in
     let h = IsRunByRows-of map.lists s d c.in_ok-rows.rows (c.in_ok-rows.ensures s d e) in
     let run = listed map.lists s d c.in_ok-rows.rows h c.side_of-side.result c.head.result.0 c.tail.result.0 c.n.result c.side_of-side.ensures (head_is map c.args.base.0 s d c.head.result.0 e c.head.ensures) (tail_is map c.args.base.0 s d c.tail.result.0 e c.tail.ensures) (sym c.n.ensures.count) in
@@ -65,3 +67,11 @@ returns c = λ s d e.
     IsConvexGrid-drawn map.lists s d c.in_ok-rows.rows h c.side_of-side.result c.side_of-side.ensures c.in_square.result c.in_square.ensures.width c.in_square.ensures.height
     (subst (λ points. ArePointsOf (face_counts steps (length c.in_ok-rows.rows.rows)) h.at (length map.lists) points) (sym c.in_square.ensures.points)
     (subst (λ m. ArePointsOf (face_counts steps (length c.in_ok-rows.rows.rows)) h.at m c.in_ok-points.points) c.n.ensures.count are)) c.requires.plane c.requires.three.connected
+
+pub returns-clause-points : goal.returns-clause-points
+returns-clause-points c = λ s d e.
+    let map = c.args.map.now in
+    let h = IsRunByRows-of map.lists s d c.in_ok-rows.rows (c.in_ok-rows.ensures s d e) in
+    let run = listed map.lists s d c.in_ok-rows.rows h c.side_of-side.result c.head.result.0 c.tail.result.0 c.n.result c.side_of-side.ensures (head_is map c.args.base.0 s d c.head.result.0 e c.head.ensures) (tail_is map c.args.base.0 s d c.tail.result.0 e c.tail.ensures) (sym c.n.ensures.count) in
+    subst (AreRunPoints map.lists s d) (sym c.in_square.ensures.points)
+    (AreRunPoints-counts map.lists s d c.in_ok-rows.rows h c.side_of-side.result c.n.result c.in_ok-points.points c.side_of-side.ensures c.n.ensures.count c.n.ensures.known.few_vertices (c.in_ok-points.ensures h.steps h.at run) c.requires.plane c.requires.three.connected)
