@@ -1,5 +1,12 @@
--- The lemmas on runs.
+-- The lemmas on runs that make faces of any size.
+pub mod Upward
+pub mod FaceRunsPlaces
+pub mod FaceRunsStages
+pub mod FaceRunsFaces
+pub mod FaceRunsCases
+-- The lemmas on runs of insertions.
 pub mod Places
+pub mod Fans
 pub mod Stages
 pub mod Contours
 pub mod Faces

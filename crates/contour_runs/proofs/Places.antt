@@ -1,6 +1,7 @@
 -- Where a step moves places, and what stands where after it.
 use Rattle.std.proofs.Common.{◌≡◌, ◌⊎◌, ℕ, suc, ◌+◌, ◌-◌, ◌<◌, ◌≤◌, eqb, ltb, leb, ap, ◌∙◌, inl, inr, arith, eq-eqb, ne_eqb}
 use Rattle.std.proofs.lemmas.Bool.{cases_eq, cases_lt, cond-true, cond-false, lt-ltb, le-ltb, le-leb, lt-leb}
+use Rattle.std.proofs.lemmas.Bool.Decides.{nat_tests}
 use Rattle.contour_runs.specs.Runs.{Step, Stage, moved, vertex_after, place_after, after, IsStep}
 
 -- the place map: low, between, high
@@ -20,22 +21,8 @@ moved-high s i o l =
 
 -- it does not fall
 pub moved-le : (s : Step) (i j : ℕ) → s.first < s.last → i ≤ j → moved s i ≤ moved s j
-moved-le s i j o l = elim (cases_lt s.first i) [
-  | inr a ↦ elim (cases_lt s.first j) [
-    | inr b ↦ omega (arith, moved-low s i a, moved-low s j b)
-    | inl b ↦ elim (cases_lt j s.last) [
-      | inl c ↦ omega (arith, moved-low s i a, moved-between s j b c)
-      | inr c ↦ omega (arith, moved-low s i a, moved-high s j o c)
-    ]
-  ]
-  | inl a ↦ elim (cases_lt i s.last) [
-    | inl c ↦ elim (cases_lt j s.last) [
-      | inl d ↦ omega (arith, moved-between s i a c, moved-between s j (omega arith) d)
-      | inr d ↦ omega (arith, moved-between s i a c, moved-high s j o d)
-    ]
-    | inr c ↦ omega (arith, moved-high s i o c, moved-high s j o (omega arith))
-  ]
-]
+unfolding moved
+moved-le s i j o l = grind (arith, nat_tests)
 
 -- what stands where after a step: low, new, high
 pub vertex_after-low : (g : Stage) (s : Step) (i : ℕ) → i ≤ s.first → vertex_after g s i ≡ g.vertex i

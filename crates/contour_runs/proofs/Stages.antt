@@ -1,67 +1,30 @@
 -- Stages along a run.
-use Rattle.std.proofs.Common.{◌≡◌, ◌≢◌, ◌⊎◌, ℕ, zero, suc, ◌+◌, ◌-◌, ◌*◌, ◌<◌, ◌≤◌, refl, sym, ap, ◌∙◌, subst, inl, inr, arith}
+use Rattle.std.proofs.Common.{◌≡◌, ◌≢◌, ◌⊎◌, ℕ, zero, suc, ◌+◌, ◌*◌, ◌<◌, ◌≤◌, refl, sym, ap, ◌∙◌, subst, inl, inr, arith}
 use Rattle.std.proofs.lemmas.Bool.{cases_lt}
-use Rattle.contour_runs.specs.Runs.{Step, Stage, moved, vertex_after, place_after, after, base, stage_after, IsStep, IsRun, IsCovered, faces_made}
+use Rattle.std.proofs.lemmas.Bool.Decides.{nat_tests}
+use Rattle.contour_runs.specs.Runs.{Step, Stage, moved, vertex_after, place_after, after, stage_after, IsStep, IsRun, IsCovered, faces_made}
 use Rattle.contour_runs.specs.Laws.{IsStage, IsCoveredOnce}
+use Rattle.contour_runs.specs.FaceRuns as face_runs
+use Rattle.contour_runs.specs.Fans.{fan, fans}
+use Rattle.contour_runs.proofs.Upward.{upward}
+use Rattle.contour_runs.proofs.FaceRunsStages as face_stages
+use Rattle.contour_runs.proofs.Fans.{fan-step, one_stage-after, one_stage-same, one_stage-run, run-fan, IsStage-one}
 use Rattle.contour_runs.proofs.Places.{moved-low, moved-between, moved-high, moved-le, vertex_after-low, vertex_after-new, vertex_after-high, place_after-older, place_after-new, cases_place}
 
--- the base
-pub IsStage-base : IsStage base
-IsStage-base = record {
-  wide = omega arith;
-  few = omega arith;
-  begin = refl;
-  end = λ i e. omega arith;
-  placed = λ i l. l;
-  own = λ i l. refl;
-  within = λ v l. l;
-}
-
 -- a step from a stage
-module _ (g : Stage) (s : Step) (h : IsStage g) (step : IsStep g s) where
-  -- where an older vertex goes
-  pub moved-within : (i : ℕ) → i < g.width → moved s i < (after g s).width
-  moved-within i l =
-      let o = step.order in
-      let w = step.within in
-      elim (cases_lt s.first i) [
-        | inr a ↦ omega (arith, moved-low s i a)
-        | inl a ↦ elim (cases_lt i s.last) [ inl b ↦ omega (arith, moved-between s i a b) | inr b ↦ omega (arith, moved-high s i o b) ]
-      ]
+pub IsStage-after : (g : Stage) (s : Step) → IsStage g → IsStep g s → IsStage (after g s)
+IsStage-after g s h step = IsStage-one (after g s) (face_runs.after g (fan s)) (one_stage-after g g s step (one_stage-same g)) (face_stages.IsStage-after g (fan s) h (fan-step g s step))
 
-  pub IsStage-after : IsStage (after g s)
-  IsStage-after =
-      let o = step.order in
-      let w = step.within in
-      let few = h.few in
-      record {
-        wide = omega arith;
-        few = omega arith;
-        begin = vertex_after-low g s 0 (omega arith) ∙ h.begin;
-        end = λ i e. vertex_after-high g s i (g.width - 1) (omega arith) (omega arith) (omega arith) ∙ h.end (g.width - 1) (omega arith);
-        placed = λ i l. elim (cases_place g s i step l) [
-          | inl c ↦ let a = c.low in let n = h.placed i (omega arith) in omega (arith, vertex_after-low g s i a)
-          | inr (inl c) ↦ omega (arith, vertex_after-new g s i c.new)
-          | inr (inr c) ↦ let a = c.high in let e = c.to in let n = h.placed c.from c.within in omega (arith, vertex_after-high g s i c.from (omega arith) a e)
-        ];
-        own = λ i l. elim (cases_place g s i step l) [
-          | inl c ↦
-              let a = c.low in
-              let m : i < g.width = omega arith in
-              ap (place_after g s) (vertex_after-low g s i a) ∙ place_after-older g s (g.vertex i) (h.placed i m) ∙ ap (moved s) (h.own i m) ∙ moved-low s i a
-          | inr (inl c) ↦ place_after-new g s (vertex_after g s i) (vertex_after-new g s i c.new) ∙ sym c.new
-          | inr (inr c) ↦
-              let a = c.high in
-              let e = c.to in
-              let n = moved-high s c.from o a in
-              let back : moved s c.from ≡ i = omega arith in
-              ap (place_after g s) (vertex_after-high g s i c.from (omega arith) a e) ∙ place_after-older g s (g.vertex c.from) (h.placed c.from c.within) ∙ ap (moved s) (h.own c.from c.within) ∙ back
-        ];
-        within = λ v l. elim (cases_lt v g.count) [
-          | inl older ↦ let m = moved-within (g.place v) (h.within v older) in omega (arith, place_after-older g s v older)
-          | inr new ↦ omega (arith, place_after-new g s v (omega arith))
-        ];
-      }
+-- the corners of a face that it makes have places from left to right
+pub corners_placed : (g : Stage) (s : Step) → IsStage g → IsStep g s → (i : ℕ) → s.first ≤ i → i < s.last → (place_after g s (g.vertex i) ≤ place_after g s g.count) × (place_after g s g.count ≤ place_after g s (g.vertex (suc i)))
+unfolding place_after moved
+corners_placed g s stage step i l m =
+    let w = step.within in
+    let p = stage.placed i (omega arith) in
+    let q = stage.placed (suc i) (omega arith) in
+    let e = stage.own i (omega arith) in
+    let f = stage.own (suc i) (omega arith) in
+    (grind (arith, nat_tests), grind (arith, nat_tests))
 
 -- the first steps of a run are a run
 pub IsRun-less : (steps : ℕ → Step) (m n : ℕ) → m ≤ n → IsRun steps n → IsRun steps m
@@ -72,8 +35,7 @@ count-stage_after steps zero = refl
 count-stage_after steps (suc n) = omega (arith, count-stage_after steps n)
 
 pub IsStage-run : (steps : ℕ → Step) (n : ℕ) → IsRun steps n → IsStage (stage_after steps n)
-IsStage-run steps zero h = IsStage-base
-IsStage-run steps (suc n) h = IsStage-after (stage_after steps n) (steps n) (IsStage-run steps n (IsRun-less steps n (suc n) (omega arith) h)) (h n (omega arith))
+IsStage-run steps n h = IsStage-one (stage_after steps n) (face_runs.stage_after (fans steps) n) (one_stage-run steps n h) (face_stages.IsStage-run (fans steps) n (run-fan steps n h))
 
 -- how many faces are made
 pub faces_made-run : (steps : ℕ → Step) (n : ℕ) → IsRun steps n → faces_made steps n + (stage_after steps n).width ≡ 2 * n + 2
@@ -84,14 +46,6 @@ faces_made-run steps (suc n) h =
     let o = step.order in
     let w = step.within in
     omega arith
-
--- what each later stage keeps
-pub upward : (P : ℕ → Type 0) (m n : ℕ) → m ≤ n → P m → ((k : ℕ) → m ≤ k → k < n → P k → P (suc k)) → P n
-upward P m zero l p more = let e : m ≡ zero = omega arith in subst P e p
-upward P m (suc n) l p more = elim (cases_lt m (suc n)) [
-  | inr top ↦ let e : m ≡ suc n = omega arith in subst P e p
-  | inl below ↦ more n (omega arith) (omega arith) (upward P m n (omega arith) p (λ k a b. more k a (omega arith)))
-]
 
 module _ (g : Stage) (s : Step) (h : IsStage g) (step : IsStep g s) where
   -- an older vertex of the contour stood on it before

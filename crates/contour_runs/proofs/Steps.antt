@@ -1,9 +1,10 @@
 -- What a step does to the coordinates.
-use Rattle.std.proofs.Common.{◌≡◌, ◌⊎◌, ℕ, zero, suc, ◌+◌, ◌-◌, ◌<◌, ◌≤◌, ltb, leb, refl, ap, ◌∙◌, subst, inl, inr, arith}
-use Rattle.std.proofs.lemmas.Bool.{cases_lt, cond-true, cond-false, lt-ltb, le-ltb, le-leb, lt-leb}
-use Rattle.contour_runs.specs.Runs.{Step, Stage, vertex_after, place_after, after, base, stage_after, IsStep, IsRun}
+use Rattle.std.proofs.Common.{◌≡◌, ◌⊎◌, ℕ, zero, suc, ◌+◌, ◌-◌, ◌<◌, ◌≤◌, ltb, refl, ap, ◌∙◌, subst, inl, inr, arith}
+use Rattle.std.proofs.lemmas.Bool.{cases_lt, cond-true, cond-false, lt-ltb, le-ltb}
+use Rattle.std.proofs.lemmas.Bool.Decides.{nat_tests}
+use Rattle.contour_runs.specs.Runs.{Step, Stage, moved, vertex_after, place_after, after, base, stage_after, IsStep, IsRun}
 use Rattle.contour_runs.specs.Laws.{IsStage}
-use Rattle.contour_runs.proofs.Places.{moved-low, moved-between, moved-high, vertex_after-low, vertex_after-new, vertex_after-high, place_after-older, place_after-new, cases_place}
+use Rattle.contour_runs.proofs.Places.{vertex_after-low, vertex_after-new, vertex_after-high, place_after-new, cases_place}
 use Rattle.contour_runs.proofs.Stages.{IsStage-run, IsRun-less}
 use Rattle.contour_runs.specs.Wood.{one_gain, two_gain, Coordinates, one_after, two_after, coordinates_after, base_coordinates, coordinates}
 use Rattle.contour_runs.specs.Contours.{IsFalling}
@@ -11,30 +12,29 @@ use Rattle.contour_runs.specs.Contours.{IsFalling}
 -- the gains
 pub one_gain-low : (s : Step) (i : ℕ) → i ≤ s.first → one_gain s i ≡ 1
 unfolding one_gain
-one_gain-low s i l = cond-true {A = ℕ} (leb i s.first) 1 0 (le-leb i s.first l)
+one_gain-low s i l = grind (arith, nat_tests)
 
 pub one_gain-high : (s : Step) (i : ℕ) → s.first < i → one_gain s i ≡ 0
 unfolding one_gain
-one_gain-high s i l = cond-false {A = ℕ} (leb i s.first) 1 0 (lt-leb i s.first l)
+one_gain-high s i l = grind (arith, nat_tests)
 
 pub two_gain-low : (s : Step) (i : ℕ) → i ≤ s.first → two_gain s i ≡ 0
 unfolding two_gain
-two_gain-low s i l = cond-true {A = ℕ} (leb i s.first) 0 1 (le-leb i s.first l)
+two_gain-low s i l = grind (arith, nat_tests)
 
 pub two_gain-high : (s : Step) (i : ℕ) → s.first < i → two_gain s i ≡ 1
 unfolding two_gain
-two_gain-high s i l = cond-false {A = ℕ} (leb i s.first) 0 1 (lt-leb i s.first l)
+two_gain-high s i l = grind (arith, nat_tests)
 
 -- both at once: one of them is 1
 pub gain_both : (s : Step) (i : ℕ) → one_gain s i + two_gain s i ≡ 1
-gain_both s i = elim (cases_lt s.first i) [ inr a ↦ omega (arith, one_gain-low s i a, two_gain-low s i a) | inl a ↦ omega (arith, one_gain-high s i a, two_gain-high s i a) ]
+unfolding one_gain two_gain
+gain_both s i = grind (arith, nat_tests)
 
 -- along the places the first does not rise, and the second does not fall
 pub gain-le : (s : Step) (i j : ℕ) → i ≤ j → (one_gain s j ≤ one_gain s i) × (two_gain s i ≤ two_gain s j)
-gain-le s i j l = elim (cases_lt s.first i) [
-  | inl a ↦ let b : s.first < j = omega arith in (omega (arith, one_gain-high s i a, one_gain-high s j b), omega (arith, two_gain-high s i a, two_gain-high s j b))
-  | inr a ↦ (omega (arith, one_gain-low s i a, gain_both s j), omega (arith, two_gain-low s i a))
-]
+unfolding one_gain two_gain
+gain-le s i j l = (grind (arith, nat_tests), grind (arith, nat_tests))
 
 module _ (g : Stage) (s : Step) (at : Coordinates) where
   pub one_after-older : (v : ℕ) → v < g.count → one_after g s at v ≡ at.one v + one_gain s (g.place v)
@@ -114,15 +114,8 @@ module _ (g : Stage) (s : Step) (at : Coordinates) (stage : IsStage g) (step : I
 
   -- a placed vertex that is not at place 0 does not come there
   alone_after : (v : ℕ) → v < g.count → 0 < g.place v → 0 < place_after g s v
-  alone_after v l some =
-      let o = step.order in
-      elim (cases_lt s.first (g.place v)) [
-        | inr a ↦ omega (arith, place_after-older g s v l, moved-low s (g.place v) a)
-        | inl a ↦ elim (cases_lt (g.place v) s.last) [
-          | inl b ↦ omega (arith, place_after-older g s v l, moved-between s (g.place v) a b)
-          | inr b ↦ omega (arith, place_after-older g s v l, moved-high s (g.place v) o b)
-        ]
-      ]
+  unfolding place_after moved
+  alone_after v l some = let o = step.order in grind (arith, nat_tests)
 
   module _ (h : IsFalling g at) where
     -- not only strictly
@@ -135,61 +128,48 @@ module _ (g : Stage) (s : Step) (at : Coordinates) (stage : IsStage g) (step : I
         let w = step.within in
         let pq = h.falls s.first s.last o w in
         elim (cases_falling i (omega arith)) [
-          | inl c ↦
-              let c' = c.low in
-              elim (cases_falling j b) [
-                | inl d ↦ let d' = d.low in omega (arith, c.one, d.one, h.falls i j a (omega arith))
-                | inr (inl d) ↦ omega (arith, c.one, d.one, pq, falls_or_same i s.first c' (omega arith))
-                | inr (inr d) ↦ let d' = d.high in omega (arith, c.one, d.one, h.falls i d.from (omega arith) d.within)
-              ]
-          | inr (inl c) ↦
-              let c' = c.new in
-              elim (cases_falling j b) [
-                | inl d ↦ let d' = d.low in absurd (omega arith)
-                | inr (inl d) ↦ let d' = d.new in absurd (omega arith)
-                | inr (inr d) ↦ omega (arith, c.one, d.one, falls_or_same s.last d.from d.high d.within)
-              ]
-          | inr (inr c) ↦
-              let c' = c.high in
-              let c'' = c.to in
-              elim (cases_falling j b) [
-                | inl d ↦ let d' = d.low in absurd (omega arith)
-                | inr (inl d) ↦ let d' = d.new in absurd (omega arith)
-                | inr (inr d) ↦ let d' = d.to in omega (arith, c.one, d.one, h.falls c.from d.from (omega arith) d.within)
-              ]
+          | inl c ↦ elim (cases_falling j b) [
+            | inl d ↦ let l = c.low in let m = d.low in omega (arith, c.one, d.one, h.falls i j a (omega arith))
+            | inr (inl d) ↦ omega (arith, c.one, d.one, pq, falls_or_same i s.first c.low (omega arith))
+            | inr (inr d) ↦ let l = c.low in let m = d.high in omega (arith, c.one, d.one, h.falls i d.from (omega arith) d.within)
+          ]
+          | inr (inl c) ↦ let l = c.new in elim (cases_falling j b) [
+            | inl d ↦ let m = d.low in absurd (omega arith)
+            | inr (inl d) ↦ let m = d.new in absurd (omega arith)
+            | inr (inr d) ↦ omega (arith, c.one, d.one, falls_or_same s.last d.from d.high d.within)
+          ]
+          | inr (inr c) ↦ let l = c.high in let k = c.to in elim (cases_falling j b) [
+            | inl d ↦ let m = d.low in absurd (omega arith)
+            | inr (inl d) ↦ let m = d.new in absurd (omega arith)
+            | inr (inr d) ↦ let m = d.to in omega (arith, c.one, d.one, h.falls c.from d.from (omega arith) d.within)
+          ]
         ]
 
-    rises_after : (i j : ℕ) → i < j → j < (after g s).width → two_after g s at (vertex_after g s i) ≤ two_after g s at (vertex_after g s j)
+    rises_after : (i j : ℕ) → i ≤ j → j < (after g s).width → two_after g s at (vertex_after g s i) ≤ two_after g s at (vertex_after g s j)
     rises_after i j a b =
         let o = step.order in
         let w = step.within in
+        let pq = h.rises s.first s.last (omega arith) w in
         elim (cases_falling i (omega arith)) [
           | inl c ↦
-              let c' = c.low in
+              let l = c.low in
+              let ip = h.rises i s.first l (omega arith) in
               elim (cases_falling j b) [
-                | inl d ↦ let d' = d.low in omega (arith, c.two, d.two, h.rises i j (omega arith) (omega arith))
-                | inr (inl d) ↦ omega (arith, c.two, d.two, h.rises i s.first c' (omega arith))
-                | inr (inr d) ↦ let d' = d.high in omega (arith, c.two, d.two, h.rises i d.from (omega arith) d.within)
+                | inl d ↦ let m = d.low in omega (arith, c.two, d.two, h.rises i j a (omega arith))
+                | inr (inl d) ↦ omega (arith, c.two, d.two)
+                | inr (inr d) ↦ let m = d.high in omega (arith, c.two, d.two, h.rises s.first d.from (omega arith) d.within)
               ]
-          | inr (inl c) ↦
-              let c' = c.new in
-              elim (cases_falling j b) [
-                | inl d ↦ let d' = d.low in absurd (omega arith)
-                | inr (inl d) ↦ let d' = d.new in absurd (omega arith)
-                | inr (inr d) ↦ let d' = d.high in omega (arith, c.two, d.two, h.rises s.first d.from (omega arith) d.within)
-              ]
-          | inr (inr c) ↦
-              let c' = c.high in
-              let c'' = c.to in
-              elim (cases_falling j b) [
-                | inl d ↦ let d' = d.low in absurd (omega arith)
-                | inr (inl d) ↦ let d' = d.new in absurd (omega arith)
-                | inr (inr d) ↦ let d' = d.to in omega (arith, c.two, d.two, h.rises c.from d.from (omega arith) d.within)
-              ]
+          | inr (inl c) ↦ let l = c.new in elim (cases_falling j b) [
+            | inl d ↦ let m = d.low in absurd (omega arith)
+            | inr (inl d) ↦ omega (arith, c.two, d.two)
+            | inr (inr d) ↦ let m = d.high in omega (arith, c.two, d.two, h.rises s.first d.from (omega arith) d.within)
+          ]
+          | inr (inr c) ↦ let l = c.high in let k = c.to in elim (cases_falling j b) [
+            | inl d ↦ let m = d.low in absurd (omega arith)
+            | inr (inl d) ↦ let m = d.new in absurd (omega arith)
+            | inr (inr d) ↦ let m = d.to in omega (arith, c.two, d.two, h.rises c.from d.from (omega arith) d.within)
+          ]
         ]
-
-    same_two : (i j : ℕ) → i ≡ j → two_after g s at (vertex_after g s i) ≤ two_after g s at (vertex_after g s j)
-    same_two i j e = subst (λ n. two_after g s at (vertex_after g s i) ≤ two_after g s at (vertex_after g s n)) e (omega arith)
 
     -- the two of the base
     base_after : (i v : ℕ) → i < g.width → g.vertex i ≡ v → (one_after g s at v ≡ at.one v + one_gain s i) × (two_after g s at v ≡ at.two v + two_gain s i)
@@ -225,7 +205,7 @@ module _ (g : Stage) (s : Step) (at : Coordinates) (stage : IsStage g) (step : I
         let second = base_after end 1 (omega arith) (stage.end end (omega arith)) in
         record {
           falls = falls_after;
-          rises = λ i j a b. elim (cases_lt i j) [ inl l ↦ rises_after i j l b | inr l ↦ same_two i j (omega arith) ];
+          rises = rises_after;
           first_one = omega (arith, first.0, h.first_one, one_gain-low s 0 (omega arith));
           first_two = omega (arith, first.1, h.first_two, two_gain-low s 0 (omega arith));
           second_one = omega (arith, second.0, h.second_one, one_gain-high s end (omega arith));

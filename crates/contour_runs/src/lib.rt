@@ -1,11 +1,14 @@
 //! Runs of insertions over a contour: a map is built up from the two vertices of its base by putting on
-//! vertices from outside, one at a time. Methods of drawing rest on such runs. The definitions speak of
-//! places of the contour alone, and of no map; each law is the contract of a function that does nothing.
+//! vertices from outside, one at a time; or, in the general form of `face_runs`, by faces of any size. Methods
+//! of drawing rest on such runs. The definitions speak of places of the contour alone, and of no map; each law
+//! is the contract of a function that does nothing.
 #![tactic(auto)]
 
+pub mod face_runs;
 pub mod wood_points;
 
 ghost use Rattle.contour_runs.specs.Laws.{PlacesDoNotFall, StageOfRun, ContourAfter, OrderKept, CoveredOnce, CoveredTogether, FaceMadeOnce, FaceCount, ListsAreRun};
+ghost use Rattle.contour_runs.specs.Fans.{RunOfFans};
 
 /// The place map of a step does not fall: of two places of the contour the earlier one does not come
 /// behind the later one.
@@ -54,4 +57,10 @@ pub fn face_count()
 /// follow one another under it. In this form an order of the vertices of a map is a run.
 pub fn lists_are_run()
     ensures { ListsAreRun }
+{}
+
+/// A run of insertions is a run that makes faces of any size, where each step joins its vertex to all places
+/// from the first to the last: it has the same stages, and the same faces.
+pub fn run_of_fans()
+    ensures { RunOfFans }
 {}

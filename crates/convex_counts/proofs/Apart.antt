@@ -3,11 +3,11 @@ use Rattle.std.proofs.Common.{◌≡◌, ◌⊎◌, ℕ, zero, suc, ◌+◌, ◌
 use Rattle.std.proofs.lemmas.Bool.{cases_lt, cases_order}
 use Rattle.contour_runs.specs.Runs.{Stage}
 use Rattle.contour_runs.specs.Laws.{IsStage}
-use Rattle.contour_runs.proofs.Stages.{upward}
+use Rattle.contour_runs.proofs.Upward.{upward}
 use Rattle.contour_runs.specs.Wood.{Coordinates}
-use Rattle.convex_counts.specs.Runs.{Step, after, stage_after, IsStep}
-use Rattle.convex_counts.proofs.Places.{order, vertex_after-low, vertex_after-new, vertex_after-high}
-use Rattle.convex_counts.proofs.Stages.{IsStage-run, IsRun-less, count-le}
+use Rattle.contour_runs.specs.FaceRuns.{Step, after, stage_after, IsStep}
+use Rattle.contour_runs.proofs.FaceRunsPlaces.{order, vertex_after-low, vertex_after-new, vertex_after-high}
+use Rattle.contour_runs.proofs.FaceRunsStages.{IsStage-run, IsRun-less, count-le}
 use Rattle.convex_counts.specs.Counts.{face_counts, counts_after, two_gain, IsTurned, IsTurnedRun}
 use Rattle.convex_counts.specs.FacePointsLaws.{IsWholeRun}
 use Rattle.convex_counts.proofs.Gains.{gain-first, gain-second, gain-le, one_after-older}

@@ -7,8 +7,8 @@ use Rattle.pg_plane.proofs.Identities.{area_turned}
 use Rattle.contour_runs.specs.Runs.{Stage}
 use Rattle.contour_runs.specs.Wood.{Coordinates, point_of}
 use Rattle.contour_runs.proofs.Areas.{spread_area}
-use Rattle.convex_counts.specs.Runs.{Step, stage_after, IsStep, face_length, face_vertex}
-use Rattle.convex_counts.proofs.Places.{cut-next}
+use Rattle.contour_runs.specs.FaceRuns.{Step, stage_after, IsStep, face_length, face_vertex}
+use Rattle.contour_runs.proofs.FaceRunsPlaces.{cut-next}
 use Rattle.convex_counts.specs.Counts.{face_counts, IsTurnedRun}
 use Rattle.convex_counts.proofs.Areas.{first_weak, second_weak, third_weak}
 use Rattle.convex_counts.proofs.FacePointsSides.{on_first, on_second, on_third, first_second, second_third, third_first, three_sides, step}

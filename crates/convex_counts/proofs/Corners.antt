@@ -8,8 +8,8 @@ use Rattle.pg_plane.proofs.Ring.{sums, product_signs}
 use Rattle.contour_runs.specs.Runs.{Stage}
 use Rattle.contour_runs.specs.Laws.{IsStage}
 use Rattle.contour_runs.specs.Wood.{Coordinates}
-use Rattle.convex_counts.specs.Runs.{Step, stage_after, IsRun, faces_made}
-use Rattle.convex_counts.proofs.Stages.{IsStage-run}
+use Rattle.contour_runs.specs.FaceRuns.{Step, stage_after, IsRun, faces_made}
+use Rattle.contour_runs.proofs.FaceRunsStages.{IsStage-run}
 use Rattle.convex_counts.specs.Counts.{face_counts, thrice}
 use Rattle.convex_counts.specs.Contours.{IsFalling}
 use Rattle.convex_counts.specs.FacePointsLaws.{IsWholeRun, IsCornered, outside}

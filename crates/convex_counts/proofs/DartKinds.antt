@@ -3,8 +3,8 @@ use Rattle.std.proofs.Common.{◌≡◌, ℕ, suc, ◌+◌, ◌-◌, ◌<◌, �
 use Rattle.std.proofs.lemmas.Bool.{cases_lt, cases_order}
 use Rattle.contour_runs.specs.Runs.{Stage}
 use Rattle.contour_runs.specs.Wood.{Coordinates}
-use Rattle.convex_counts.specs.Runs.{Step, stage_after, IsDartOf}
-use Rattle.convex_counts.specs.FaceRunsLaws.{GoesAlong}
+use Rattle.contour_runs.specs.FaceRuns.{Step, stage_after, IsDartOf}
+use Rattle.contour_runs.specs.FaceRunsLaws.{GoesAlong}
 use Rattle.convex_counts.specs.Counts.{face_counts}
 use Rattle.convex_counts.specs.Pairs.{AreOnFirst, AreOnSecond, IsFirstSecond, IsSecondThird, IsThirdFirst}
 use Rattle.convex_counts.specs.FacePointsLaws.{IsWholeRun}

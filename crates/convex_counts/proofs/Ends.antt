@@ -3,9 +3,9 @@ use Rattle.std.proofs.Common.{◌≡◌, ℕ, suc, ◌+◌, ◌<◌, ◌≤◌, 
 use Rattle.contour_runs.specs.Runs.{Stage}
 use Rattle.contour_runs.specs.Laws.{IsStage}
 use Rattle.contour_runs.specs.Wood.{Coordinates}
-use Rattle.convex_counts.specs.Runs.{Step, moved, after, stage_after, IsStep, IsRun}
-use Rattle.convex_counts.proofs.Places.{order, moved-le, place_after-older, place_after-new}
-use Rattle.convex_counts.proofs.Stages.{IsStage-run, IsRun-less, moved-low, moved-high}
+use Rattle.contour_runs.specs.FaceRuns.{Step, moved, after, stage_after, IsStep, IsRun}
+use Rattle.contour_runs.proofs.FaceRunsPlaces.{order, moved-le, place_after-older, place_after-new}
+use Rattle.contour_runs.proofs.FaceRunsStages.{IsStage-run, IsRun-less, moved-low, moved-high}
 use Rattle.convex_counts.specs.Counts.{counts_after, face_counts}
 use Rattle.convex_counts.proofs.Gains.{gain-le, gain-low, gain-high, one_after-older, two_after-older, one_after-new, two_after-new, one_after-contour, two_after-contour}
 use Rattle.convex_counts.proofs.Kept.{kept_on}

@@ -2,8 +2,8 @@
 use Rattle.std.specs.Prelude.{zero, suc, ℕ, ◌≡◌, List, [], ◌∷◌, map, ◌<◌, refl}
 use Rattle.std.specs.List.{range_with_len}
 use Rattle.std.proofs.Common.{◌⊎◌, inl, inr, sym, ap, subst, ◌∙◌, arith}
-use Rattle.convex_counts.specs.Runs.{Step, vertex_after, place_after, moved, stage_after, IsTouched, IsUnder}
-use Rattle.convex_counts.proofs.FaceRunsCases.{row, fan, tetrahedron, cube, cube_run}
+use Rattle.contour_runs.specs.FaceRuns.{Step, vertex_after, place_after, moved, stage_after, IsTouched, IsUnder}
+use Rattle.contour_runs.proofs.FaceRunsCases.{row, fan, tetrahedron, cube, cube_run}
 use Rattle.convex_counts.specs.Counts.{turned, one_after, two_after, face_counts}
 use Rattle.convex_counts.specs.Turns.{goes_left, turn_from, well_turned, IsTouchedRun}
 use Rattle.convex_counts.specs.FacePointsLaws.{IsWholeRun}

@@ -5,9 +5,9 @@ use Rattle.contour_runs.specs.Runs.{Stage}
 use Rattle.contour_runs.specs.Laws.{IsStage}
 use Rattle.contour_runs.specs.Wood.{Coordinates}
 use Rattle.contour_runs.specs.Spread.{IsSpread}
-use Rattle.convex_counts.specs.Runs.{Step, stage_after, IsStep, faces_made}
-use Rattle.convex_counts.proofs.Places.{cut-last}
-use Rattle.convex_counts.proofs.Stages.{IsStage-run, IsRun-less}
+use Rattle.contour_runs.specs.FaceRuns.{Step, stage_after, IsStep, faces_made}
+use Rattle.contour_runs.proofs.FaceRunsPlaces.{cut-last}
+use Rattle.contour_runs.proofs.FaceRunsStages.{IsStage-run, IsRun-less}
 use Rattle.convex_counts.specs.Counts.{face_counts, IsTurned, IsTurnedRun}
 use Rattle.convex_counts.specs.Contours.{IsFalling}
 use Rattle.convex_counts.specs.Pairs.{AreOnFirst, AreOnSecond, AreOnThird, IsFirstSecond, IsSecondThird, IsThirdFirst}

@@ -3,10 +3,10 @@ use Rattle.std.proofs.Common.{◌≡◌, ℕ, suc, ◌<◌, ◌≤◌, refl, sym
 use Rattle.contour_runs.specs.Runs.{Stage}
 use Rattle.contour_runs.specs.Laws.{IsStage}
 use Rattle.contour_runs.specs.Wood.{Coordinates}
-use Rattle.convex_counts.specs.Runs.{Step, stage_after, IsStep, IsDartOf}
-use Rattle.convex_counts.proofs.Places.{cut-last}
-use Rattle.convex_counts.proofs.Stages.{IsStage-run, IsRun-less}
-use Rattle.convex_counts.proofs.Faces.{one_place}
+use Rattle.contour_runs.specs.FaceRuns.{Step, stage_after, IsStep, IsDartOf}
+use Rattle.contour_runs.proofs.FaceRunsPlaces.{cut-last}
+use Rattle.contour_runs.proofs.FaceRunsStages.{IsStage-run, IsRun-less}
+use Rattle.contour_runs.proofs.FaceRunsFaces.{one_place}
 use Rattle.convex_counts.specs.Counts.{face_counts}
 use Rattle.convex_counts.specs.FacePointsLaws.{IsWholeRun}
 use Rattle.convex_counts.specs.declared.face_woods.axis.Axis.{Axis}

@@ -3,12 +3,12 @@ use Rattle.std.proofs.Common.{◌≡◌, ◌≢◌, ◌⊎◌, ℕ, zero, suc, �
 use Rattle.std.proofs.lemmas.Bool.{cases_lt, cases_eq, cases_order}
 use Rattle.contour_runs.specs.Runs.{Stage}
 use Rattle.contour_runs.specs.Laws.{IsStage}
-use Rattle.contour_runs.proofs.Stages.{upward}
+use Rattle.contour_runs.proofs.Upward.{upward}
 use Rattle.contour_runs.specs.Wood.{Coordinates}
-use Rattle.convex_counts.specs.Runs.{Step, stage_after, IsRun}
-use Rattle.convex_counts.specs.FaceRunsLaws.{GoesAlong}
-use Rattle.convex_counts.proofs.Places.{order, cut-last, vertex_after-low, vertex_after-new, vertex_after-high}
-use Rattle.convex_counts.proofs.Stages.{IsStage-run, IsRun-less}
+use Rattle.contour_runs.specs.FaceRuns.{Step, stage_after, IsRun}
+use Rattle.contour_runs.specs.FaceRunsLaws.{GoesAlong}
+use Rattle.contour_runs.proofs.FaceRunsPlaces.{order, cut-last, vertex_after-low, vertex_after-new, vertex_after-high}
+use Rattle.contour_runs.proofs.FaceRunsStages.{IsStage-run, IsRun-less}
 use Rattle.convex_counts.specs.Counts.{face_counts}
 use Rattle.convex_counts.specs.Pairs.{AreOnFirst, AreOnSecond, IsThirdFirst}
 use Rattle.convex_counts.specs.FacePointsLaws.{IsWholeRun}

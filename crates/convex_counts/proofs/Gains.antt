@@ -4,8 +4,8 @@ use Rattle.std.proofs.lemmas.Bool.{cases_lt, cond-true, cond-false, lt-ltb, le-l
 use Rattle.contour_runs.specs.Runs.{Stage}
 use Rattle.contour_runs.specs.Laws.{IsStage}
 use Rattle.contour_runs.specs.Wood.{Coordinates}
-use Rattle.convex_counts.specs.Runs.{Step, vertex_after, after, IsStep}
-use Rattle.convex_counts.proofs.Places.{cut-le, turn-le, first_turn, last_turn, order, vertex_after-low, vertex_after-new, vertex_after-high, cases_place}
+use Rattle.contour_runs.specs.FaceRuns.{Step, vertex_after, after, IsStep}
+use Rattle.contour_runs.proofs.FaceRunsPlaces.{cut-le, turn-le, first_turn, last_turn, order, vertex_after-low, vertex_after-new, vertex_after-high, cases_place}
 use Rattle.convex_counts.specs.Counts.{turned, one_gain, two_gain, one_after, two_after}
 
 module _ (turn : ℕ → ℕ) where

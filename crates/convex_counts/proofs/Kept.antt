@@ -1,11 +1,11 @@
 -- What two vertices of a face keep over a step, with the order of their places.
 use Rattle.std.proofs.Common.{◌≡◌, ℕ, suc, ◌+◌, ◌<◌, ◌≤◌, sym, ap, ◌∙◌, arith}
 use Rattle.contour_runs.specs.Runs.{Stage}
-use Rattle.contour_runs.proofs.Stages.{upward}
+use Rattle.contour_runs.proofs.Upward.{upward}
 use Rattle.contour_runs.specs.Wood.{Coordinates}
-use Rattle.convex_counts.specs.Runs.{Step, moved, after, stage_after, IsStep, IsRun}
-use Rattle.convex_counts.proofs.Places.{moved-le, place_after-older}
-use Rattle.convex_counts.proofs.Stages.{count-le}
+use Rattle.contour_runs.specs.FaceRuns.{Step, moved, after, stage_after, IsStep, IsRun}
+use Rattle.contour_runs.proofs.FaceRunsPlaces.{moved-le, place_after-older}
+use Rattle.contour_runs.proofs.FaceRunsStages.{count-le}
 use Rattle.convex_counts.specs.Counts.{counts_after, face_counts, two_gain}
 use Rattle.convex_counts.specs.Pairs.{AreOnFirst, AreOnSecond, AreOnThird, IsFirstSecond, IsSecondThird, IsThirdFirst}
 use Rattle.convex_counts.proofs.Gains.{gain-le, one_after-older, two_after-older}

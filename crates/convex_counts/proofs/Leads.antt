@@ -3,12 +3,12 @@ use Rattle.std.proofs.Common.{◌≡◌, ◌≢◌, ℕ, suc, ◌+◌, ◌<◌, 
 use Rattle.std.proofs.lemmas.Bool.{cases_order}
 use Rattle.contour_runs.specs.Runs.{Stage}
 use Rattle.contour_runs.specs.Laws.{IsStage}
-use Rattle.contour_runs.proofs.Stages.{upward}
+use Rattle.contour_runs.proofs.Upward.{upward}
 use Rattle.contour_runs.specs.Wood.{Coordinates}
-use Rattle.convex_counts.specs.Runs.{Step, after, stage_after, IsStep, IsRun}
-use Rattle.convex_counts.proofs.Places.{order, cut-lt, cut-first, cut-last, vertex_after-low, vertex_after-new, vertex_after-high, cases_place}
-use Rattle.convex_counts.proofs.Stages.{IsStage-run, IsRun-less, count-le}
-use Rattle.convex_counts.proofs.Faces.{one_place}
+use Rattle.contour_runs.specs.FaceRuns.{Step, after, stage_after, IsStep, IsRun}
+use Rattle.contour_runs.proofs.FaceRunsPlaces.{order, cut-lt, cut-first, cut-last, vertex_after-low, vertex_after-new, vertex_after-high, cases_place}
+use Rattle.contour_runs.proofs.FaceRunsStages.{IsStage-run, IsRun-less, count-le}
+use Rattle.contour_runs.proofs.FaceRunsFaces.{one_place}
 use Rattle.convex_counts.specs.Counts.{face_counts}
 use Rattle.convex_counts.specs.FacePointsLaws.{IsWholeRun}
 use Rattle.convex_counts.proofs.Gains.{gain-first, gain-second}

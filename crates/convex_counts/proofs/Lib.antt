@@ -1,8 +1,3 @@
--- The lemmas on runs.
-pub mod Places
-pub mod Stages
-pub mod Faces
-pub mod FaceRunsCases
 -- The lemmas on points by counts of faces.
 pub mod Gains
 pub mod Steps

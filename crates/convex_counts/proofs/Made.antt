@@ -4,8 +4,8 @@ use Rattle.std.proofs.lemmas.Bool.{cases_lt}
 use Rattle.contour_runs.specs.Runs.{Stage}
 use Rattle.contour_runs.specs.Laws.{IsStage}
 use Rattle.contour_runs.specs.Wood.{Coordinates}
-use Rattle.convex_counts.specs.Runs.{Step, moved, after, place_after, IsStep}
-use Rattle.convex_counts.proofs.Places.{cut-first, cut-last, cut-le, turn-le, first_turn, last_turn, order, cases_moved, moved-le, place_after-older, place_after-new}
+use Rattle.contour_runs.specs.FaceRuns.{Step, moved, after, place_after, IsStep}
+use Rattle.contour_runs.proofs.FaceRunsPlaces.{cut-first, cut-last, cut-le, turn-le, first_turn, last_turn, order, cases_moved, moved-le, place_after-older, place_after-new}
 use Rattle.convex_counts.specs.Counts.{counts_after, IsTurned}
 use Rattle.convex_counts.specs.Contours.{IsFalling}
 use Rattle.convex_counts.proofs.Gains.{gain-first, gain-second, one_after-new, two_after-new, one_after-contour, two_after-contour}

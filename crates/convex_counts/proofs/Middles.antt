@@ -9,7 +9,7 @@ use Rattle.pg_plane.proofs.Identities.{area_turned}
 use Rattle.contour_runs.specs.Runs.{Stage}
 use Rattle.contour_runs.specs.Wood.{Coordinates, point_of}
 use Rattle.contour_runs.proofs.Areas.{spread_area}
-use Rattle.convex_counts.specs.Runs.{Step, stage_after, IsStep, IsAlong, IsUp, IsAcross, IsDown, IsDartOf}
+use Rattle.contour_runs.specs.FaceRuns.{Step, stage_after, IsStep, IsAlong, IsUp, IsAcross, IsDown, IsDartOf}
 use Rattle.convex_counts.specs.Counts.{face_counts, thrice, sum_of, middle}
 use Rattle.convex_counts.specs.FacePointsLaws.{IsWholeRun}
 use Rattle.convex_counts.proofs.Areas.{first_weak, first_strict, second_weak, second_strict, third_weak, third_strict}

@@ -5,8 +5,8 @@ use Rattle.pg_plane.specs.Geometry.{IsOnSegment}
 use Rattle.contour_runs.specs.Wood.{Coordinates, point_of}
 use Rattle.contour_runs.proofs.Areas.{spread_area}
 use Rattle.pg_plane.proofs.Ring.{neg_mul, mul_neg, sums}
-use Rattle.convex_counts.specs.Runs.{Step, stage_after}
-use Rattle.convex_counts.proofs.Stages.{IsStage-run}
+use Rattle.contour_runs.specs.FaceRuns.{Step, stage_after}
+use Rattle.contour_runs.proofs.FaceRunsStages.{IsStage-run}
 use Rattle.convex_counts.specs.Counts.{face_counts}
 use Rattle.convex_counts.specs.FacePointsLaws.{IsWholeRun, IsOuterTriangle}
 use Rattle.convex_counts.proofs.Corners.{cornered, some_faces}

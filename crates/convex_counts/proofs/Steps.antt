@@ -4,9 +4,9 @@ use Rattle.std.proofs.lemmas.Bool.{cases_lt}
 use Rattle.contour_runs.specs.Runs.{Stage, base}
 use Rattle.contour_runs.specs.Laws.{IsStage}
 use Rattle.contour_runs.specs.Wood.{Coordinates}
-use Rattle.convex_counts.specs.Runs.{Step, vertex_after, after, stage_after, IsStep, IsRun, faces_made}
-use Rattle.convex_counts.proofs.Places.{order}
-use Rattle.convex_counts.proofs.Stages.{IsStage-run, IsRun-less}
+use Rattle.contour_runs.specs.FaceRuns.{Step, vertex_after, after, stage_after, IsStep, IsRun, faces_made}
+use Rattle.contour_runs.proofs.FaceRunsPlaces.{order}
+use Rattle.contour_runs.proofs.FaceRunsStages.{IsStage-run, IsRun-less}
 use Rattle.convex_counts.specs.Counts.{one_after, two_after, counts_after, face_counts, two_gain}
 use Rattle.convex_counts.specs.Contours.{IsFalling}
 use Rattle.convex_counts.proofs.Gains.{gain-low, gain-high, one_after-older, two_after-older, one_after-new, two_after-new, one_after-contour, two_after-contour, cases_counted}

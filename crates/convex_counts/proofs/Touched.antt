@@ -3,11 +3,11 @@ use Rattle.std.proofs.Common.{◌≡◌, ◌⊎◌, ℕ, suc, ◌+◌, ◌-◌, 
 use Rattle.std.proofs.lemmas.Bool.{cases_lt}
 use Rattle.contour_runs.specs.Runs.{Stage}
 use Rattle.contour_runs.specs.Laws.{IsStage}
-use Rattle.contour_runs.proofs.Stages.{upward}
+use Rattle.contour_runs.proofs.Upward.{upward}
 use Rattle.contour_runs.specs.Wood.{Coordinates}
-use Rattle.convex_counts.specs.Runs.{Step, vertex_after, after, stage_after, IsStep, IsRun, IsTouched, faces_made}
-use Rattle.convex_counts.proofs.Places.{order, vertex_after-low, vertex_after-new, vertex_after-high, cases_place}
-use Rattle.convex_counts.proofs.Stages.{IsStage-run, IsStage-after, IsRun-less, count-le}
+use Rattle.contour_runs.specs.FaceRuns.{Step, vertex_after, after, stage_after, IsStep, IsRun, IsTouched, faces_made}
+use Rattle.contour_runs.proofs.FaceRunsPlaces.{order, vertex_after-low, vertex_after-new, vertex_after-high, cases_place}
+use Rattle.contour_runs.proofs.FaceRunsStages.{IsStage-run, IsStage-after, IsRun-less, count-le}
 use Rattle.convex_counts.specs.Counts.{face_counts, counts_after, IsLeft, IsRight}
 use Rattle.convex_counts.specs.Contours.{IsFalling}
 use Rattle.convex_counts.proofs.Gains.{counted-low, counted-new, high_counts}

@@ -3,7 +3,7 @@ use Rattle.std.proofs.Common.{◌≡◌, ◌⊎◌, ℕ, zero, suc, ◌+◌, ◌
 use Rattle.std.proofs.lemmas.Bool.{cases_lt, cases_eq, cond-true, cond-false, lt-ltb, le-ltb}
 use Rattle.contour_runs.specs.Runs.{Stage}
 use Rattle.contour_runs.specs.Wood.{Coordinates}
-use Rattle.convex_counts.specs.Runs.{Step, vertex_after, after, stage_after, IsStep, IsRun}
+use Rattle.contour_runs.specs.FaceRuns.{Step, vertex_after, after, stage_after, IsStep, IsRun}
 use Rattle.convex_counts.specs.Counts.{face_counts, counts_after, IsLeft}
 use Rattle.convex_counts.specs.Turns.{goes_left, turn_from, with_turns, state, well_turned}
 

@@ -6,10 +6,10 @@ use Rattle.pg_plane.proofs.Identities.{area_turned}
 use Rattle.contour_runs.specs.Runs.{Stage}
 use Rattle.contour_runs.specs.Laws.{IsStage}
 use Rattle.contour_runs.specs.Wood.{Coordinates, point_of}
-use Rattle.convex_counts.specs.Runs.{Step, stage_after, IsStep, IsDartOf, face_length, face_vertex}
-use Rattle.convex_counts.proofs.Places.{cut-next, cut-last}
-use Rattle.convex_counts.proofs.Stages.{IsStage-run, IsRun-less}
-use Rattle.convex_counts.proofs.Faces.{one_place}
+use Rattle.contour_runs.specs.FaceRuns.{Step, stage_after, IsStep, IsDartOf, face_length, face_vertex}
+use Rattle.contour_runs.proofs.FaceRunsPlaces.{cut-next, cut-last}
+use Rattle.contour_runs.proofs.FaceRunsStages.{IsStage-run, IsRun-less}
+use Rattle.contour_runs.proofs.FaceRunsFaces.{one_place}
 use Rattle.convex_counts.specs.Counts.{face_counts, IsTurnedRun}
 use Rattle.convex_counts.proofs.Convex.{faces_convex}
 

@@ -4,9 +4,9 @@ use Rattle.std.proofs.lemmas.Bool.{cases_lt}
 use Rattle.contour_runs.specs.Runs.{Stage}
 use Rattle.contour_runs.specs.Laws.{IsStage}
 use Rattle.contour_runs.specs.Wood.{Coordinates}
-use Rattle.convex_counts.specs.Runs.{Step, stage_after, IsRun, IsTouched}
-use Rattle.convex_counts.proofs.Places.{order, cut-last, vertex_after-new}
-use Rattle.convex_counts.proofs.Stages.{IsStage-run, IsRun-less}
+use Rattle.contour_runs.specs.FaceRuns.{Step, stage_after, IsRun, IsTouched}
+use Rattle.contour_runs.proofs.FaceRunsPlaces.{order, cut-last, vertex_after-new}
+use Rattle.contour_runs.proofs.FaceRunsStages.{IsStage-run, IsRun-less}
 use Rattle.convex_counts.specs.Counts.{face_counts, IsLeft, IsRight, IsTurned, IsTurnedRun}
 use Rattle.convex_counts.specs.Turns.{turn_from, with_turns, well_turned, IsTouchedRun}
 use Rattle.convex_counts.specs.FacePointsLaws.{IsWholeRun}

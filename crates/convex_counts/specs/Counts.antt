@@ -3,7 +3,7 @@ use Rattle.std.specs.Prelude.{ℕ, zero, suc, ◌+◌, ◌-◌, ◌<◌, ◌≤�
 use Rattle.pg_plane.specs.declared.point.Point.{Point}
 use Rattle.contour_runs.specs.Runs.{Stage}
 use Rattle.contour_runs.specs.Wood.{Coordinates}
-use Rattle.convex_counts.specs.Runs.{Step, stage_after, IsRun}
+use Rattle.contour_runs.specs.FaceRuns.{Step, stage_after, IsRun}
 
 -- how many of the first so many turns come before a place
 unfoldable pub turned : (ℕ → ℕ) → ℕ → ℕ → ℕ

@@ -3,7 +3,7 @@ use Rattle.std.specs.Prelude.{ℕ, suc, ◌<◌, ◌≤◌, ◌≡◌, ◌⊎◌
 use Rattle.pg_plane.specs.declared.point.Point.{Point}
 use Rattle.pg_plane.specs.Geometry.{area, IsOnSegment}
 use Rattle.contour_runs.specs.Wood.{point_of}
-use Rattle.convex_counts.specs.Runs.{Step, stage_after, IsRun, IsDartOf, face_length, face_vertex, faces_made}
+use Rattle.contour_runs.specs.FaceRuns.{Step, stage_after, IsRun, IsDartOf, face_length, face_vertex, faces_made}
 use Rattle.convex_counts.specs.Counts.{face_counts, IsLeft, IsRight, IsTurnedRun, thrice, middle}
 use Rattle.convex_counts.specs.Contours.{IsFalling}
 use Rattle.convex_counts.specs.Turns.{well_turned, IsTouchedRun}

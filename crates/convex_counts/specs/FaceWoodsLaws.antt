@@ -1,7 +1,7 @@
 -- The laws of the wood of a run.
 use Rattle.std.specs.Prelude.{ℕ, ◌<◌, ◌≤◌, ◌≡◌}
-use Rattle.convex_counts.specs.Runs.{Step, stage_after, IsDartOf}
-use Rattle.convex_counts.specs.FaceRunsLaws.{GoesAlong}
+use Rattle.contour_runs.specs.FaceRuns.{Step, stage_after, IsDartOf}
+use Rattle.contour_runs.specs.FaceRunsLaws.{GoesAlong}
 use Rattle.convex_counts.specs.Counts.{face_counts}
 use Rattle.convex_counts.specs.FacePointsLaws.{IsWholeRun}
 use Rattle.convex_counts.specs.declared.face_woods.axis.Axis.{Axis}

@@ -1,6 +1,3 @@
--- Runs over a contour that make faces of any size.
-pub mod Runs
-pub mod FaceRunsLaws
 -- Points by counts of faces, over a run.
 pub mod Counts
 pub mod Contours

@@ -2,7 +2,7 @@
 use Rattle.std.specs.Prelude.{ℕ, zero, suc, ◌-◌, ◌<◌, ◌==◌, ◌&&◌, nat_lt, if◌then◌else◌, Bool}
 use Rattle.contour_runs.specs.Runs.{Stage, base}
 use Rattle.contour_runs.specs.Wood.{Coordinates}
-use Rattle.convex_counts.specs.Runs.{Step, after, stage_after, IsRun, IsUnder, IsTouched}
+use Rattle.contour_runs.specs.FaceRuns.{Step, after, stage_after, IsRun, IsUnder, IsTouched}
 use Rattle.convex_counts.specs.Counts.{counts_after}
 
 -- the edge of the contour from place j on goes left

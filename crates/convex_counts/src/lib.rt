@@ -1,6 +1,5 @@
-//! Counts of faces over runs that make faces of any size: the steps, the points, and the woods.
+//! Counts of faces over runs that make faces of any size: the points, and the woods.
 #![tactic(auto)]
 
 pub mod face_points;
-pub mod face_runs;
 pub mod face_woods;

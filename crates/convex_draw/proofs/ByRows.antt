@@ -1,7 +1,7 @@
 -- A run of a map, with as many rows as steps.
 use Rattle.std.proofs.Common.{ℕ, ◌<◌, ◌≡◌, length, sym, subst}
 use Rattle.map_lists.specs.Lists.{Lists}
-use Rattle.convex_counts.specs.Runs.{Step}
+use Rattle.contour_runs.specs.FaceRuns.{Step}
 use Rattle.convex_laws.specs.RunsOfMaps.{IsRunOf}
 use Rattle.convex_laws.specs.declared.convex_rows.rows.ConvexRows.{ConvexRows}
 use Rattle.convex_laws.specs.Rows.{AreRows, AreRanked}

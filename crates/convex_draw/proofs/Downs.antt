@@ -4,11 +4,11 @@ use Rattle.std.proofs.lemmas.Bool.{cases_lt, cases_eq}
 use Rattle.map_theory.specs.Maps.{list_of}
 use Rattle.contour_runs.specs.Runs.{Stage}
 use Rattle.contour_runs.specs.Laws.{IsStage}
-use Rattle.contour_runs.proofs.Stages.{upward}
+use Rattle.contour_runs.proofs.Upward.{upward}
 use Rattle.contour_runs.specs.Wood.{Coordinates}
-use Rattle.convex_counts.specs.Runs.{Step, moved, stage_after, faces_made, IsStep}
-use Rattle.convex_counts.proofs.Places.{order, place_after-older}
-use Rattle.convex_counts.proofs.Stages.{IsStage-run, IsRun-less, count-le, moved-within}
+use Rattle.contour_runs.specs.FaceRuns.{Step, moved, stage_after, faces_made, IsStep}
+use Rattle.contour_runs.proofs.FaceRunsPlaces.{order, place_after-older}
+use Rattle.contour_runs.proofs.FaceRunsStages.{IsStage-run, IsRun-less, count-le, moved-within}
 use Rattle.convex_counts.specs.Counts.{face_counts, two_gain}
 use Rattle.convex_counts.proofs.Gains.{one_after-older, two_after-older}
 use Rattle.convex_counts.proofs.Steps.{IsFalling-run}

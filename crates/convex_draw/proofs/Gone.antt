@@ -3,9 +3,9 @@ use Rattle.std.proofs.Common.{◌≡◌, ◌⊎◌, ℕ, zero, suc, ◌<◌, ◌
 use Rattle.std.proofs.lemmas.Bool.{cases_lt, cases_eq}
 use Rattle.contour_runs.specs.Runs.{Stage}
 use Rattle.contour_runs.specs.Laws.{IsStage}
-use Rattle.convex_counts.specs.Runs.{Step, moved, vertex_after, place_after, after, stage_after, IsStep, IsRun}
-use Rattle.convex_counts.proofs.Places.{order, vertex_after-low, vertex_after-new, vertex_after-high, place_after-older, place_after-new, cases_place}
-use Rattle.convex_counts.proofs.Stages.{IsStage-after, IsStage-run, IsRun-less, moved-low, moved-high}
+use Rattle.contour_runs.specs.FaceRuns.{Step, moved, vertex_after, place_after, after, stage_after, IsStep, IsRun}
+use Rattle.contour_runs.proofs.FaceRunsPlaces.{order, vertex_after-low, vertex_after-new, vertex_after-high, place_after-older, place_after-new, cases_place}
+use Rattle.contour_runs.proofs.FaceRunsStages.{IsStage-after, IsStage-run, IsRun-less, moved-low, moved-high}
 use Rattle.convex_draw.specs.Sums.{IsGone}
 
 -- where an older vertex of the contour after a step stood before

@@ -11,9 +11,9 @@ use Rattle.pg_plane.specs.Geometry.{area}
 use Rattle.pg_plane.proofs.Segments.{IsOnSegment-back}
 use Rattle.plane_drawings.specs.Drawing.{place, IsInGrid}
 use Rattle.draw_check.proofs.FacesJoined.{SameFace-turned}
-use Rattle.convex_counts.specs.Runs.{Step, stage_after, faces_made, IsRun}
-use Rattle.convex_counts.proofs.Places.{order, cut-add}
-use Rattle.convex_counts.proofs.Stages.{IsStage-run, IsRun-less}
+use Rattle.contour_runs.specs.FaceRuns.{Step, stage_after, faces_made, IsRun}
+use Rattle.contour_runs.proofs.FaceRunsPlaces.{order, cut-add}
+use Rattle.contour_runs.proofs.FaceRunsStages.{IsStage-run, IsRun-less}
 use Rattle.convex_counts.specs.Counts.{face_counts}
 use Rattle.convex_counts.specs.Turns.{well_turned}
 use Rattle.convex_peeling.proofs.Faces.{SameFace-labels, face_of-step}

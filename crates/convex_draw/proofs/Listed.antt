@@ -1,6 +1,6 @@
 -- A listed run with its turns read off.
 use Rattle.std.proofs.Common.{◌≡◌, ℕ, suc, ◌+◌, ◌-◌, ◌<◌, List, length, pos, subst, refl, sym, ap, ap₂, ◌∙◌, arith}
-use Rattle.convex_counts.specs.Runs.{Step}
+use Rattle.contour_runs.specs.FaceRuns.{Step}
 use Rattle.convex_counts.specs.Counts.{face_counts}
 use Rattle.convex_counts.specs.FacePointsLaws.{IsWholeRun}
 use Rattle.convex_counts.specs.Turns.{well_turned, turn_from}

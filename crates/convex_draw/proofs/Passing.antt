@@ -2,8 +2,8 @@
 use Rattle.std.proofs.Common.{◌≡◌, ◌≢◌, ◌⊎◌, ℕ, suc, ◌+◌, ◌-◌, ◌<◌, ◌≤◌, ◌&&◌, true, false, if◌then◌else◌, ltb, eqb, List, length, get_or, set, sym, ap, ap₂, ◌∙◌, subst, inl, inr, arith, eq-eqb, ne_eqb}
 use Rattle.std.proofs.lemmas.Bool.{cases_lt, cases_eq, cond-true, cond-false, lt-ltb, le-ltb}
 use Rattle.contour_runs.specs.Runs.{Stage}
-use Rattle.convex_counts.specs.Runs.{Step}
-use Rattle.convex_counts.proofs.Places.{cut-next, cut-add}
+use Rattle.contour_runs.specs.FaceRuns.{Step}
+use Rattle.contour_runs.proofs.FaceRunsPlaces.{cut-next, cut-add}
 use Rattle.convex_counts.specs.Counts.{two_gain, IsLeft}
 use Rattle.convex_counts.proofs.Gains.{gain-first, gain-second, gain-low, gain-most}
 use Rattle.convex_counts.proofs.Turns.{found}

@@ -3,8 +3,8 @@ use Rattle.std.proofs.Common.{◌≡◌, ◌≢◌, ◌⊎◌, ℕ, suc, ◌+◌
 use Rattle.std.proofs.lemmas.Bool.{cases_lt, cases_eq}
 use Rattle.contour_runs.specs.Runs.{Stage}
 use Rattle.contour_runs.specs.Wood.{Coordinates}
-use Rattle.convex_counts.specs.Runs.{Step, vertex_after, after}
-use Rattle.convex_counts.proofs.Places.{order, vertex_after-low, vertex_after-new, vertex_after-high}
+use Rattle.contour_runs.specs.FaceRuns.{Step, vertex_after, after}
+use Rattle.contour_runs.proofs.FaceRunsPlaces.{order, vertex_after-low, vertex_after-new, vertex_after-high}
 use Rattle.convex_counts.specs.Counts.{counts_after}
 use Rattle.convex_counts.proofs.Gains.{counted-low, counted-new, high_counts}
 use Rattle.convex_draw.specs.declared.convex_points.spots.Spot.{Spot}

@@ -2,8 +2,8 @@
 use Rattle.std.proofs.Common.{◌≡◌, ◌≢◌, ℕ, suc, ◌+◌, ◌-◌, ◌<◌, ◌≤◌, List, length, get_or, sym, ap, ◌∙◌, arith}
 use Rattle.contour_runs.specs.Runs.{Stage}
 use Rattle.contour_runs.specs.Wood.{Coordinates}
-use Rattle.convex_counts.specs.Runs.{Step}
-use Rattle.convex_counts.proofs.Places.{order}
+use Rattle.contour_runs.specs.FaceRuns.{Step}
+use Rattle.contour_runs.proofs.FaceRunsPlaces.{order}
 use Rattle.convex_draw.specs.declared.convex_points.spots.Spot.{Spot}
 use Rattle.convex_draw.specs.Spots.{Setting, IsRowOver, spot_of}
 

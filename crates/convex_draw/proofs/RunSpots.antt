@@ -2,10 +2,10 @@
 use Rattle.std.proofs.Common.{◌≡◌, ℕ, suc, ◌+◌, ◌<◌, ◌≤◌, List, length, set, sym, ap, ◌∙◌, subst, inl, inr, arith}
 use Rattle.std.proofs.lemmas.Bool.{cases_lt}
 use Rattle.map_theory.specs.Maps.{list_of}
-use Rattle.contour_runs.proofs.Stages.{upward}
+use Rattle.contour_runs.proofs.Upward.{upward}
 use Rattle.contour_runs.specs.Wood.{Coordinates}
-use Rattle.convex_counts.specs.Runs.{Step, moved, stage_after, faces_made}
-use Rattle.convex_counts.proofs.Stages.{IsStage-run, IsRun-less, count-le}
+use Rattle.contour_runs.specs.FaceRuns.{Step, moved, stage_after, faces_made}
+use Rattle.contour_runs.proofs.FaceRunsStages.{IsStage-run, IsRun-less, count-le}
 use Rattle.convex_counts.specs.Counts.{face_counts}
 use Rattle.convex_counts.proofs.Steps.{IsFalling-run}
 use Rattle.convex_laws.specs.declared.convex_rows.rows.ConvexRows.{ConvexRows}

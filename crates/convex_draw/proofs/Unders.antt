@@ -3,8 +3,8 @@ use Rattle.std.proofs.Common.{◌≡◌, ◌≢◌, ℕ, zero, suc, ◌+◌, ◌
 use Rattle.std.proofs.lemmas.Bool.{cond-true, cond-false}
 use Rattle.contour_runs.specs.Runs.{Stage}
 use Rattle.contour_runs.specs.Wood.{Coordinates}
-use Rattle.convex_counts.specs.Runs.{Step, moved, vertex_after}
-use Rattle.convex_counts.proofs.Places.{order, vertex_after-low, vertex_after-new, vertex_after-high, cases_moved}
+use Rattle.contour_runs.specs.FaceRuns.{Step, moved, vertex_after}
+use Rattle.contour_runs.proofs.FaceRunsPlaces.{order, vertex_after-low, vertex_after-new, vertex_after-high, cases_moved}
 use Rattle.convex_counts.specs.Counts.{counts_after, two_gain}
 use Rattle.convex_counts.proofs.Gains.{gain-first, gain-second, gain-le, one_after-contour, two_after-contour, counted-low, counted-new, high_counts}
 use Rattle.convex_draw.specs.declared.convex_points.spots.Spot.{Spot}

@@ -3,7 +3,7 @@ use Rattle.std.specs.Prelude.{ℕ, ◌<◌, ◌≡◌, List, length, pos}
 use Rattle.pg_plane.specs.declared.point.Point.{Point}
 use Rattle.plane_drawings.specs.Drawing.{place}
 use Rattle.contour_runs.specs.Wood.{Coordinates, point_of}
-use Rattle.convex_counts.specs.Runs.{Step, faces_made}
+use Rattle.contour_runs.specs.FaceRuns.{Step, faces_made}
 use Rattle.convex_counts.specs.Turns.{IsTouchedRun}
 use Rattle.convex_laws.specs.declared.convex_rows.rows.ConvexRows.{ConvexRows}
 use Rattle.convex_laws.specs.Rows.{AreRows, AreRanked}

@@ -5,7 +5,7 @@ use Rattle.pg_plane.specs.declared.point.Point.{Point}
 use Rattle.pg_plane.specs.declared.figure.GridFigure.{GridFigure}
 use Rattle.plane_drawings.specs.Drawing.{place}
 use Rattle.contour_runs.specs.Wood.{point_of}
-use Rattle.convex_counts.specs.Runs.{Step, faces_made}
+use Rattle.contour_runs.specs.FaceRuns.{Step, faces_made}
 use Rattle.convex_counts.specs.Counts.{face_counts}
 use Rattle.convex_counts.specs.Turns.{well_turned}
 use Rattle.convex_laws.specs.ConvexWoodsLaws.{IsNamedRun}

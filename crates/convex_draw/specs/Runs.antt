@@ -1,6 +1,6 @@
 -- Runs whose turns are read off the counts, with the rows of their steps.
 use Rattle.std.specs.Prelude.{ℕ, suc, ◌-◌, ◌<◌, ◌≡◌, length}
-use Rattle.convex_counts.specs.Runs.{Step, stage_after, faces_made, IsRun}
+use Rattle.contour_runs.specs.FaceRuns.{Step, stage_after, faces_made, IsRun}
 use Rattle.convex_counts.specs.Counts.{face_counts, IsTurned}
 use Rattle.convex_counts.specs.Turns.{turn_from}
 use Rattle.convex_laws.specs.declared.convex_rows.rows.ConvexRows.{ConvexRows}

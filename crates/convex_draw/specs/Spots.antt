@@ -3,7 +3,7 @@ use Rattle.std.specs.Prelude.{ℕ, suc, ◌+◌, ◌-◌, ◌<◌, ◌≤◌, �
 use Rattle.contour_runs.specs.Runs.{Stage}
 use Rattle.contour_runs.specs.Laws.{IsStage}
 use Rattle.contour_runs.specs.Wood.{Coordinates}
-use Rattle.convex_counts.specs.Runs.{Step, moved, stage_after, IsStep}
+use Rattle.contour_runs.specs.FaceRuns.{Step, moved, stage_after, IsStep}
 use Rattle.convex_counts.specs.Counts.{face_counts, two_gain, IsTurned}
 use Rattle.convex_counts.specs.Contours.{IsFalling}
 use Rattle.convex_counts.specs.Turns.{turn_from}

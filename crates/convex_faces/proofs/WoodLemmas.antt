@@ -10,7 +10,7 @@ use Rattle.plane_drawings.specs.Drawing.{place}
 use Rattle.vertex_rounds.specs.Rounds.{dart_of}
 use Rattle.vertex_rounds.proofs.DartIds.{dart_of-is, dart_of-live}
 use Rattle.contour_runs.specs.Wood.{Coordinates, point_of}
-use Rattle.convex_counts.specs.Runs.{faces_made}
+use Rattle.contour_runs.specs.FaceRuns.{faces_made}
 use Rattle.convex_counts.specs.Counts.{face_counts}
 use Rattle.convex_counts.specs.Turns.{well_turned}
 use Rattle.convex_counts.specs.declared.face_woods.axis.Axis.{Axis}

@@ -6,12 +6,12 @@ use Rattle.map_theory.specs.Maps.{HasDart, IsSimpleMap, follows}
 use Rattle.map_theory.proofs.DartLemmas.{HasDart-face_step}
 use Rattle.contour_runs.specs.Runs.{Stage}
 use Rattle.contour_runs.specs.Laws.{IsStage}
-use Rattle.contour_runs.proofs.Stages.{upward}
-use Rattle.convex_counts.specs.Runs.{Step, stage_after, IsStep, IsRun, IsDartOf, faces_made}
-use Rattle.convex_counts.specs.FaceRunsLaws.{GoesAlong}
-use Rattle.convex_counts.proofs.Places.{cut-last}
-use Rattle.convex_counts.proofs.Stages.{IsStage-run, IsRun-less, count-le}
-use Rattle.convex_counts.proofs.Faces.{one_place, cases_along, face_made_once, none_along_later}
+use Rattle.contour_runs.proofs.Upward.{upward}
+use Rattle.contour_runs.specs.FaceRuns.{Step, stage_after, IsStep, IsRun, IsDartOf, faces_made}
+use Rattle.contour_runs.specs.FaceRunsLaws.{GoesAlong}
+use Rattle.contour_runs.proofs.FaceRunsPlaces.{cut-last}
+use Rattle.contour_runs.proofs.FaceRunsStages.{IsStage-run, IsRun-less, count-le}
+use Rattle.contour_runs.proofs.FaceRunsFaces.{one_place, cases_along, face_made_once, none_along_later}
 use Rattle.convex_laws.specs.ConvexDrawings.{IsRunMap}
 use Rattle.convex_counts.specs.Rising.{IsRunEdge, along, back, over, IsDart}
 use Rattle.convex_laws.proofs.FaceNumbers.{made-less}

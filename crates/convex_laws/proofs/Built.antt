@@ -7,7 +7,7 @@ use Rattle.map_lists.specs.Lists.{Lists}
 use Rattle.map_theory.specs.Maps.{HasDart, IsSimpleMap, IsPlane, component_count, dart_count, face_classes}
 use Rattle.map_theory.proofs.DartPermutations.{dart_of, dart_of-number}
 use Rattle.convex_peeling.specs.Tight.{IsTight}
-use Rattle.convex_counts.specs.Runs.{Step}
+use Rattle.contour_runs.specs.FaceRuns.{Step}
 use Rattle.convex_peeling.specs.Contours.{face_of, IsContour, IsOpen, IsBegun}
 use Rattle.convex_peeling.specs.Removals.{Removal, IsTakenOff}
 use Rattle.convex_peeling.specs.FacePeelingLaws.{HasThree, AreOpen}

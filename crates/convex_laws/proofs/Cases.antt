@@ -6,8 +6,8 @@ use Rattle.map_theory.specs.Maps.{HasDart, IsSimpleMap, follows, entry_after}
 use Rattle.map_theory.proofs.DartLemmas.{Contains-from_place_of}
 use Rattle.simple_maps.specs.Faults.{first_fault}
 use Rattle.simple_maps.proofs.FaultLemmas.{IsSimpleMap-from_first_fault}
-use Rattle.convex_counts.specs.Runs.{Step, stage_after, vertex_after, IsStep, IsUnder, IsTouched}
-use Rattle.convex_counts.proofs.FaceRunsCases.{row, listed, row_step}
+use Rattle.contour_runs.specs.FaceRuns.{Step, stage_after, vertex_after, IsStep, IsUnder, IsTouched}
+use Rattle.contour_runs.proofs.FaceRunsCases.{row, listed, row_step}
 use Rattle.convex_counts.specs.Turns.{IsTouchedRun}
 use Rattle.convex_laws.specs.FaceDrawings.{IsRunDart}
 use Rattle.convex_laws.specs.ConvexDrawings.{IsRunMap}

@@ -11,7 +11,7 @@ use Rattle.map_theory.proofs.DartLemmas.{HasDart-at}
 use Rattle.plane_laws.proofs.EdgeBound.{none_isolated}
 use Rattle.plane_peeling.proofs.Counted.{list-count_below}
 use Rattle.convex_peeling.specs.Tight.{IsTight}
-use Rattle.convex_counts.specs.Runs.{Step, stage_after, faces_made, IsTouched}
+use Rattle.contour_runs.specs.FaceRuns.{Step, stage_after, faces_made, IsTouched}
 use Rattle.convex_counts.specs.Turns.{IsTouchedRun}
 use Rattle.convex_laws.specs.FaceDrawings.{IsMadeDart, IsRunDart}
 use Rattle.convex_laws.specs.ConvexDrawings.{IsRunMap}

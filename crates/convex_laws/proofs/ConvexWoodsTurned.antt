@@ -2,7 +2,7 @@
 use Rattle.std.proofs.Common.{◌≡◌, ℕ, zero, suc, ◌+◌, refl, sym, ap, ◌∙◌, inl, inr, arith}
 use Rattle.map_lists.specs.Lists.{Lists}
 use Rattle.map_theory.specs.Maps.{Dart}
-use Rattle.convex_counts.specs.Runs.{Step, stage_after, IsDartOf, faces_made}
+use Rattle.contour_runs.specs.FaceRuns.{Step, stage_after, IsDartOf, faces_made}
 use Rattle.convex_counts.specs.Turns.{well_turned}
 use Rattle.convex_counts.proofs.Turns.{contours_as_before}
 use Rattle.convex_laws.specs.FaceDrawings.{IsRunDart}

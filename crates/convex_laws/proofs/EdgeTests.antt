@@ -3,10 +3,10 @@ use Rattle.std.proofs.Common.{◌≡◌, ◌⊎◌, ℕ, suc, ◌+◌, ◌<◌, 
 use Rattle.std.proofs.lemmas.Bool.{cases_lt, cases_eq, lt-ltb, le-ltb, lt-leb, le-leb}
 use Rattle.contour_runs.specs.Runs.{Stage}
 use Rattle.contour_runs.specs.Laws.{IsStage}
-use Rattle.contour_runs.proofs.Stages.{upward}
-use Rattle.convex_counts.specs.Runs.{Step, moved, stage_after, IsStep, IsRun}
-use Rattle.convex_counts.proofs.Places.{order, moved-le, place_after-older, place_after-new}
-use Rattle.convex_counts.proofs.Stages.{IsStage-run, IsRun-less, count-le, moved-low, moved-high}
+use Rattle.contour_runs.proofs.Upward.{upward}
+use Rattle.contour_runs.specs.FaceRuns.{Step, moved, stage_after, IsStep, IsRun}
+use Rattle.contour_runs.proofs.FaceRunsPlaces.{order, moved-le, place_after-older, place_after-new}
+use Rattle.contour_runs.proofs.FaceRunsStages.{IsStage-run, IsRun-less, count-le, moved-low, moved-high}
 use Rattle.convex_counts.proofs.Leads.{IsOff, off_after, off_covered}
 use Rattle.convex_laws.specs.Walks.{flipped}
 use Rattle.convex_laws.proofs.Flips.{flipped_assoc, flipped_comm, flipped_false}

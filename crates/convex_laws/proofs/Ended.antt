@@ -6,7 +6,7 @@ use Rattle.classes.proofs.Counting.{count_below_same, count_below_none}
 use Rattle.map_lists.specs.Lists.{Lists}
 use Rattle.map_theory.specs.Maps.{HasDart, IsSimpleMap, dart_count, face_classes}
 use Rattle.map_theory.proofs.DartPermutations.{dart_of, dart_of-number}
-use Rattle.convex_counts.specs.Runs.{Step, faces_made, IsRun}
+use Rattle.contour_runs.specs.FaceRuns.{Step, faces_made, IsRun}
 use Rattle.convex_peeling.specs.Contours.{face_of}
 use Rattle.convex_laws.specs.declared.convex_rows.rows.ConvexRows.{ConvexRows}
 use Rattle.convex_laws.specs.RunsOfMaps.{IsRunOf}

@@ -5,7 +5,7 @@ use Rattle.std.proofs.lemmas.List.{length-append, get_or_append_left, get_or_pus
 use Rattle.map_lists.specs.Lists.{Lists}
 use Rattle.map_theory.specs.Maps.{list_of, HasDart, IsSimpleMap, component_count}
 use Rattle.contour_runs.specs.Runs.{Stage}
-use Rattle.convex_counts.specs.Runs.{Step, stage_after}
+use Rattle.contour_runs.specs.FaceRuns.{Step, stage_after}
 use Rattle.convex_peeling.specs.Tight.{IsTight}
 use Rattle.convex_peeling.specs.Contours.{face_of, IsContour, IsOpen, IsFirst}
 use Rattle.convex_peeling.specs.Removals.{Removal, IsTakenOff}

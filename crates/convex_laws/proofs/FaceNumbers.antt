@@ -1,7 +1,7 @@
 -- The numbers of the faces that a run makes.
 use Rattle.std.proofs.Common.{ℕ, suc, ◌+◌, ◌<◌, ◌≤◌, arith}
-use Rattle.contour_runs.proofs.Stages.{upward}
-use Rattle.convex_counts.specs.Runs.{Step, faces_made}
+use Rattle.contour_runs.proofs.Upward.{upward}
+use Rattle.contour_runs.specs.FaceRuns.{Step, faces_made}
 
 pub made-le : (steps : ℕ → Step) (k n : ℕ) → k ≤ n → faces_made steps k ≤ faces_made steps n
 made-le steps k n l = upward (λ z. faces_made steps k ≤ faces_made steps z) k n l (omega arith) (λ z a b c. omega arith)

@@ -4,9 +4,9 @@ use Rattle.std.proofs.lemmas.Bool.{cases_lt, cond-true, cond-false, lt-ltb, le-l
 use Rattle.classes.specs.Classes.{count_below}
 use Rattle.classes.proofs.Counting.{count_below_same, count_below_none}
 use Rattle.contour_runs.specs.Runs.{Stage}
-use Rattle.contour_runs.proofs.Stages.{upward}
-use Rattle.convex_counts.specs.Runs.{Step, stage_after, faces_made}
-use Rattle.convex_counts.proofs.Stages.{count-le}
+use Rattle.contour_runs.proofs.Upward.{upward}
+use Rattle.contour_runs.specs.FaceRuns.{Step, stage_after, faces_made}
+use Rattle.contour_runs.proofs.FaceRunsStages.{count-le}
 use Rattle.convex_laws.proofs.FaceNumbers.{made-le}
 use Rattle.convex_counts.specs.Counts.{turned, face_counts}
 use Rattle.convex_counts.proofs.Gains.{turned-before, turned-from, one_after-older, two_after-older, one_after-new, two_after-new}

@@ -7,8 +7,8 @@ use Rattle.map_theory.specs.Maps.{list_of, HasDart, IsSimpleMap, follows, dart_c
 use Rattle.map_theory.proofs.DartLemmas.{HasDart-follows}
 use Rattle.plane_peeling.proofs.Rings.{entries_closed}
 use Rattle.contour_runs.specs.Runs.{Stage}
-use Rattle.convex_counts.specs.Runs.{Step, after, stage_after, faces_made, IsStep, IsRun, IsDartOf, IsUnder, IsTouched}
-use Rattle.convex_counts.proofs.Places.{cut-le, cut-first, cut-last, vertex_after-low, vertex_after-new, vertex_after-high}
+use Rattle.contour_runs.specs.FaceRuns.{Step, after, stage_after, faces_made, IsStep, IsRun, IsDartOf, IsUnder, IsTouched}
+use Rattle.contour_runs.proofs.FaceRunsPlaces.{cut-le, cut-first, cut-last, vertex_after-low, vertex_after-new, vertex_after-high}
 use Rattle.convex_laws.specs.FaceDrawings.{IsMadeDart}
 use Rattle.convex_peeling.specs.Contours.{face_of, IsRim, IsContour, IsOpen}
 use Rattle.convex_peeling.specs.Removals.{Removal, IsTakenOff, IsOnRemoved}

@@ -5,8 +5,8 @@ use Rattle.std.proofs.lemmas.Int.{ints}
 use Rattle.pg_plane.specs.declared.point.Point.{Point}
 use Rattle.pg_plane.specs.Geometry.{area}
 use Rattle.contour_runs.specs.Wood.{Coordinates, point_of}
-use Rattle.convex_counts.specs.Runs.{Step, stage_after, faces_made}
-use Rattle.contour_runs.proofs.Stages.{upward}
+use Rattle.contour_runs.specs.FaceRuns.{Step, stage_after, faces_made}
+use Rattle.contour_runs.proofs.Upward.{upward}
 use Rattle.convex_counts.specs.Counts.{face_counts, thrice, middle}
 use Rattle.convex_counts.specs.FacePointsLaws.{IsWholeRun, outside}
 use Rattle.convex_counts.proofs.Middles.{middle_within}

@@ -3,7 +3,7 @@ use Rattle.std.proofs.Common.{◌≡◌, ◌≢◌, ◌⊎◌, ◌==◌, ℕ, ze
 use Rattle.std.proofs.lemmas.Bool.{cases_eq}
 use Rattle.std.proofs.lemmas.Bool.Decides.{nat_tests}
 use Rattle.contour_runs.specs.Runs.{Stage}
-use Rattle.convex_counts.specs.Runs.{Step, after, stage_after, faces_made, IsStep, IsRun, IsDartOf, IsUnder, IsTouched}
+use Rattle.contour_runs.specs.FaceRuns.{Step, after, stage_after, faces_made, IsStep, IsRun, IsDartOf, IsUnder, IsTouched}
 use Rattle.convex_laws.specs.FaceDrawings.{IsMadeDart}
 
 -- a step after the first n

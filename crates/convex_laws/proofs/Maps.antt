@@ -2,7 +2,7 @@
 use Rattle.std.proofs.Common.{◌≡◌, ◌≢◌, ◌⊎◌, ℕ, suc, ◌+◌, ◌-◌, ◌<◌, ◌≤◌, List, length, pos, ◌≤ℤ◌, ◌<ℤ◌, sym, ap, ap₂, subst, ◌∙◌, inl, inr, arith}
 use Rattle.std.proofs.lemmas.Bool.{cases_order}
 use Rattle.std.proofs.lemmas.Int.{ints}
-use Rattle.contour_runs.proofs.Stages.{upward}
+use Rattle.contour_runs.proofs.Upward.{upward}
 use Rattle.classes.proofs.Bound.{IsPermuting-pairing}
 use Rattle.map_lists.specs.Lists.{Lists}
 use Rattle.map_theory.specs.Maps.{Dart, HasDart, follows, dart_number, dart_count}
@@ -12,8 +12,8 @@ use Rattle.pg_plane.specs.declared.point.Point.{Point}
 use Rattle.pg_plane.specs.Geometry.{area, IsOnSegment}
 use Rattle.plane_drawings.specs.Drawing.{place}
 use Rattle.contour_runs.specs.Wood.{Coordinates, point_of}
-use Rattle.convex_counts.specs.Runs.{Step, stage_after, IsDartOf, faces_made}
-use Rattle.convex_counts.proofs.Stages.{IsStage-run}
+use Rattle.contour_runs.specs.FaceRuns.{Step, stage_after, IsDartOf, faces_made}
+use Rattle.contour_runs.proofs.FaceRunsStages.{IsStage-run}
 use Rattle.convex_counts.specs.Counts.{face_counts}
 use Rattle.convex_counts.specs.FacePointsLaws.{IsWholeRun}
 use Rattle.convex_counts.proofs.Corners.{cornered}

@@ -7,9 +7,9 @@ use Rattle.map_theory.proofs.DartLemmas.{HasDart-follows}
 use Rattle.contour_runs.specs.Runs.{Stage}
 use Rattle.contour_runs.specs.Laws.{IsStage}
 use Rattle.contour_runs.specs.Wood.{Coordinates}
-use Rattle.convex_counts.specs.Runs.{Step, stage_after, faces_made, IsRun}
-use Rattle.convex_counts.specs.FaceRunsLaws.{GoesAlong}
-use Rattle.convex_counts.proofs.Stages.{IsStage-run, count-le}
+use Rattle.contour_runs.specs.FaceRuns.{Step, stage_after, faces_made, IsRun}
+use Rattle.contour_runs.specs.FaceRunsLaws.{GoesAlong}
+use Rattle.contour_runs.proofs.FaceRunsStages.{IsStage-run, count-le}
 use Rattle.convex_counts.specs.Counts.{face_counts}
 use Rattle.convex_counts.specs.declared.face_woods.axis.Axis.{Axis}
 use Rattle.convex_counts.specs.declared.face_woods.axis.Axis.TheVariants.{One, Two, Three}

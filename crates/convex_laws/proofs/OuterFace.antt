@@ -6,8 +6,8 @@ use Rattle.map_theory.specs.Paths.{SameFace}
 use Rattle.map_theory.proofs.DartLemmas.{HasDart-face_step}
 use Rattle.contour_runs.specs.Runs.{Stage}
 use Rattle.contour_runs.specs.Laws.{IsStage}
-use Rattle.convex_counts.specs.Runs.{Step, stage_after, faces_made, IsRun}
-use Rattle.convex_counts.proofs.Stages.{IsStage-run}
+use Rattle.contour_runs.specs.FaceRuns.{Step, stage_after, faces_made, IsRun}
+use Rattle.contour_runs.proofs.FaceRunsStages.{IsStage-run}
 use Rattle.convex_peeling.specs.Contours.{face_of}
 use Rattle.convex_peeling.proofs.Faces.{SameFace-labels, labels-SameFace, face_of-step, along_face}
 use Rattle.convex_laws.specs.ConvexDrawings.{IsRunMap}

@@ -4,7 +4,7 @@ use Rattle.map_lists.specs.Lists.{Lists}
 use Rattle.map_theory.specs.Maps.{HasDart}
 use Rattle.map_theory.specs.Paths.{SameFace}
 use Rattle.contour_runs.specs.Wood.{Coordinates}
-use Rattle.convex_counts.specs.Runs.{Step, stage_after, faces_made}
+use Rattle.contour_runs.specs.FaceRuns.{Step, stage_after, faces_made}
 use Rattle.convex_counts.specs.Counts.{face_counts}
 use Rattle.convex_counts.specs.Contours.{IsFalling}
 use Rattle.convex_counts.specs.FacePointsLaws.{IsWholeRun}

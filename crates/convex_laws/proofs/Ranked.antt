@@ -4,7 +4,7 @@ use Rattle.std.proofs.lemmas.Bool.{cases_eq, cases_lt}
 use Rattle.classes.proofs.Counting.{count_below_into, count_below_all}
 use Rattle.map_lists.specs.Lists.{Lists}
 use Rattle.map_theory.specs.Maps.{list_of}
-use Rattle.convex_counts.specs.Runs.{Step, stage_after}
+use Rattle.contour_runs.specs.FaceRuns.{Step, stage_after}
 use Rattle.convex_peeling.proofs.Faces.{some_or_none}
 use Rattle.convex_laws.specs.declared.convex_rows.rows.ConvexRows.{ConvexRows}
 use Rattle.convex_laws.specs.RunsOfMaps.{IsRunOf}

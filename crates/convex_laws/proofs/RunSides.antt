@@ -3,12 +3,12 @@ use Rattle.std.proofs.Common.{◌≡◌, ◌⊎◌, ℕ, zero, suc, ◌+◌, ◌
 use Rattle.std.proofs.lemmas.Bool.{cases_lt, cases_order, le-ltb, lt-leb}
 use Rattle.contour_runs.specs.Runs.{Stage}
 use Rattle.contour_runs.specs.Laws.{IsStage}
-use Rattle.convex_counts.specs.Runs.{Step, moved, stage_after, IsStep, IsRun, IsDartOf, IsAlong, IsUp, IsAcross, IsDown, faces_made}
-use Rattle.convex_counts.specs.FaceRunsLaws.{GoesAlong}
+use Rattle.contour_runs.specs.FaceRuns.{Step, moved, stage_after, IsStep, IsRun, IsDartOf, IsAlong, IsUp, IsAcross, IsDown, faces_made}
+use Rattle.contour_runs.specs.FaceRunsLaws.{GoesAlong}
 use Rattle.convex_counts.specs.FacePointsLaws.{IsWholeRun}
-use Rattle.convex_counts.proofs.Places.{order, cut-lt, cut-first, cut-last, cases_moved, turn-le, first_turn, last_turn, vertex_after-low, vertex_after-high, place_after-older, place_after-new}
-use Rattle.convex_counts.proofs.Stages.{count-le}
-use Rattle.convex_counts.proofs.Faces.{one_place, cut_placed, up_placed, down_placed, face_made_once, none_along_later, not_along}
+use Rattle.contour_runs.proofs.FaceRunsPlaces.{order, cut-lt, cut-first, cut-last, cases_moved, turn-le, first_turn, last_turn, vertex_after-low, vertex_after-high, place_after-older, place_after-new}
+use Rattle.contour_runs.proofs.FaceRunsStages.{count-le}
+use Rattle.contour_runs.proofs.FaceRunsFaces.{one_place, cut_placed, up_placed, down_placed, face_made_once, none_along_later, not_along}
 use Rattle.convex_counts.proofs.Leads.{new_once}
 use Rattle.convex_laws.specs.FaceDrawings.{IsRunDart, IsOuterDart}
 use Rattle.convex_laws.specs.Walks.{flipped}

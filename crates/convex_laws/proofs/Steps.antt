@@ -5,7 +5,7 @@ use Rattle.map_lists.specs.Lists.{Lists}
 use Rattle.map_theory.specs.Maps.{HasDart, IsSimpleMap, follows}
 use Rattle.map_theory.proofs.DartLemmas.{HasDart-follows}
 use Rattle.contour_runs.specs.Runs.{Stage}
-use Rattle.convex_counts.specs.Runs.{Step, stage_after}
+use Rattle.contour_runs.specs.FaceRuns.{Step, stage_after}
 use Rattle.convex_peeling.specs.Contours.{face_of, IsContour}
 use Rattle.convex_peeling.specs.Removals.{Removal, IsTakenOff}
 use Rattle.convex_peeling.proofs.Faces.{face_of-step}

@@ -4,9 +4,9 @@ use Rattle.std.proofs.lemmas.Bool.{cases_lt, lt-ltb, le-ltb, lt-leb, le-leb, ltb
 use Rattle.std.proofs.Common.{true≢false, ltb, leb}
 use Rattle.contour_runs.specs.Runs.{Stage}
 use Rattle.contour_runs.specs.Laws.{IsStage}
-use Rattle.convex_counts.specs.Runs.{Step, stage_after, IsStep, IsRun, faces_made}
-use Rattle.convex_counts.proofs.Places.{order, cut-first, cut-last, vertex_after-low, vertex_after-new, vertex_after-high, cases_place}
-use Rattle.convex_counts.proofs.Stages.{IsStage-run, IsRun-less}
+use Rattle.contour_runs.specs.FaceRuns.{Step, stage_after, IsStep, IsRun, faces_made}
+use Rattle.contour_runs.proofs.FaceRunsPlaces.{order, cut-first, cut-last, vertex_after-low, vertex_after-new, vertex_after-high, cases_place}
+use Rattle.contour_runs.proofs.FaceRunsStages.{IsStage-run, IsRun-less}
 use Rattle.convex_laws.proofs.FaceTests.{one_counted, two_counted, one_hits, two_hits, counted-older, counted-later, counted-hits, counted-new}
 
 never : (b : Bool) → b ≡ false → b ≡ true → ⊥

@@ -3,13 +3,13 @@ use Rattle.std.proofs.Common.{◌≡◌, ◌≢◌, ◌⊎◌, ℕ, zero, suc, �
 use Rattle.std.proofs.lemmas.Bool.{cases_lt, cases_eq, cases_order, lt-leb, le-leb}
 use Rattle.contour_runs.specs.Runs.{Stage}
 use Rattle.contour_runs.specs.Laws.{IsStage}
-use Rattle.convex_counts.specs.Runs.{Step, stage_after, IsStep, IsRun, faces_made}
-use Rattle.convex_counts.specs.FaceRunsLaws.{GoesAlong}
+use Rattle.contour_runs.specs.FaceRuns.{Step, stage_after, IsStep, IsRun, faces_made}
+use Rattle.contour_runs.specs.FaceRunsLaws.{GoesAlong}
 use Rattle.convex_counts.specs.Counts.{face_counts, two_gain, IsTurned}
 use Rattle.convex_counts.specs.Contours.{IsFalling}
 use Rattle.convex_counts.specs.FacePointsLaws.{IsWholeRun}
-use Rattle.convex_counts.proofs.Places.{cut-lt, cut-le, cut-first, cut-last}
-use Rattle.convex_counts.proofs.Stages.{IsRun-less, count-le}
+use Rattle.contour_runs.proofs.FaceRunsPlaces.{cut-lt, cut-le, cut-first, cut-last}
+use Rattle.contour_runs.proofs.FaceRunsStages.{IsRun-less, count-le}
 use Rattle.convex_counts.proofs.Steps.{IsFalling-run}
 use Rattle.convex_counts.proofs.Gains.{gain-first, gain-second}
 use Rattle.convex_counts.proofs.Kept.{KeepsFirst, KeepsSecond, KeepsSecondThird, KeepsThirdFirst, KeepsFirst-after, KeepsSecond-after, KeepsSecondThird-after, KeepsThirdFirst-after, kept_on}

@@ -3,11 +3,11 @@ use Rattle.std.proofs.Common.{◌≡◌, ◌≢◌, ◌⊎◌, ℕ, zero, suc, �
 use Rattle.std.proofs.lemmas.Bool.{cases_lt, cases_order, cond-true, cond-false, lt-ltb, le-ltb, lt-leb, le-leb, eq-eqb, eqb-true, and_parts, false_from_ne_true, or_left, or_right, or_from, and_from}
 use Rattle.contour_runs.specs.Runs.{Stage}
 use Rattle.contour_runs.specs.Laws.{IsStage}
-use Rattle.convex_counts.specs.Runs.{Step, stage_after, IsRun}
-use Rattle.convex_counts.specs.FaceRunsLaws.{GoesAlong}
+use Rattle.contour_runs.specs.FaceRuns.{Step, stage_after, IsRun}
+use Rattle.contour_runs.specs.FaceRunsLaws.{GoesAlong}
 use Rattle.convex_counts.specs.FacePointsLaws.{IsWholeRun}
-use Rattle.convex_counts.proofs.Places.{order, cut-lt, vertex_after-low, vertex_after-new, vertex_after-high}
-use Rattle.convex_counts.proofs.Stages.{count-le}
+use Rattle.contour_runs.proofs.FaceRunsPlaces.{order, cut-lt, vertex_after-low, vertex_after-new, vertex_after-high}
+use Rattle.contour_runs.proofs.FaceRunsStages.{count-le}
 use Rattle.convex_counts.proofs.Leads.{LeadsOne, base_one, first_one, next_one, LeadsTwo, base_two, last_two, next_two, same_place}
 use Rattle.map_theory.specs.Maps.{same_dart}
 use Rattle.convex_laws.specs.Walks.{flipped, is_edge}

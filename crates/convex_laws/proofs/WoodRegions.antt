@@ -13,12 +13,12 @@ use Rattle.map_theory.proofs.DartPermutations.{dart_of, dart_of-number}
 use Rattle.pg_plane.specs.declared.point.Point.{Point}
 use Rattle.plane_drawings.specs.Drawing.{place}
 use Rattle.contour_runs.specs.Wood.{Coordinates, point_of}
-use Rattle.convex_counts.specs.Runs.{Step, stage_after, IsRun, IsDartOf, faces_made}
+use Rattle.contour_runs.specs.FaceRuns.{Step, stage_after, IsRun, IsDartOf, faces_made}
 use Rattle.convex_counts.specs.Counts.{face_counts}
 use Rattle.convex_counts.specs.Turns.{well_turned}
 use Rattle.convex_counts.proofs.Steps.{IsFalling-run}
-use Rattle.convex_counts.proofs.Places.{cut-last, cut-next}
-use Rattle.convex_counts.proofs.Stages.{IsStage-run, IsRun-less, count-le}
+use Rattle.contour_runs.proofs.FaceRunsPlaces.{cut-last, cut-next}
+use Rattle.contour_runs.proofs.FaceRunsStages.{IsStage-run, IsRun-less, count-le}
 use Rattle.convex_counts.specs.Rising.{IsRising}
 use Rattle.convex_counts.specs.declared.face_woods.axis.Axis.{Axis}
 use Rattle.convex_counts.specs.declared.face_woods.axis.Axis.TheVariants.{One, Two, Three}

@@ -7,10 +7,10 @@ use Rattle.map_theory.specs.Maps.{Dart, HasDart, IsSimpleMap, same_dart}
 use Rattle.map_theory.specs.Paths.{SameFace}
 use Rattle.contour_runs.specs.Runs.{Stage}
 use Rattle.contour_runs.specs.Laws.{IsStage}
-use Rattle.convex_counts.specs.Runs.{Step, stage_after, IsRun, faces_made}
-use Rattle.convex_counts.specs.FaceRunsLaws.{GoesAlong}
+use Rattle.contour_runs.specs.FaceRuns.{Step, stage_after, IsRun, faces_made}
+use Rattle.contour_runs.specs.FaceRunsLaws.{GoesAlong}
 use Rattle.convex_counts.specs.Counts.{face_counts}
-use Rattle.convex_counts.proofs.Stages.{IsStage-run, count-le}
+use Rattle.contour_runs.proofs.FaceRunsStages.{IsStage-run, count-le}
 use Rattle.convex_counts.specs.declared.face_woods.axis.Axis.{Axis}
 use Rattle.convex_counts.specs.declared.face_woods.axis.Axis.TheVariants.{One, Two, Three}
 use Rattle.convex_counts.specs.Axes.{next, previous}

@@ -6,7 +6,7 @@ use Rattle.pg_plane.specs.declared.point.Point.{Point}
 use Rattle.pg_plane.specs.Geometry.{area, IsOnSegment}
 use Rattle.plane_drawings.specs.Drawing.{place, IsInGrid, IsPlaneDrawing, KeepsRotations}
 use Rattle.contour_runs.specs.Wood.{point_of}
-use Rattle.convex_counts.specs.Runs.{Step, stage_after, faces_made}
+use Rattle.contour_runs.specs.FaceRuns.{Step, stage_after, faces_made}
 use Rattle.convex_counts.specs.Counts.{face_counts}
 use Rattle.convex_counts.specs.FacePointsLaws.{IsWholeRun}
 use Rattle.convex_counts.specs.Turns.{well_turned, IsTouchedRun}

@@ -5,7 +5,7 @@ use Rattle.map_theory.specs.Maps.{HasDart, IsSimpleMap, IsPlane, component_count
 use Rattle.pg_plane.specs.declared.point.Point.{Point}
 use Rattle.convex_peeling.specs.Tight.{IsTight}
 use Rattle.convex_peeling.specs.FacePeelingLaws.{HasThree}
-use Rattle.convex_counts.specs.Runs.{Step, faces_made}
+use Rattle.contour_runs.specs.FaceRuns.{Step, faces_made}
 use Rattle.convex_counts.specs.Turns.{well_turned}
 use Rattle.convex_laws.specs.ConvexDrawings.{AreCountPoints, IsConvexDrawing}
 use Rattle.convex_laws.specs.RunsOfMaps.{IsRunOf}

@@ -3,8 +3,8 @@ use Rattle.std.specs.Prelude.{ℕ, zero, suc, ◌+◌, ◌-◌, ◌<◌, ◌≡�
 use Rattle.pg_plane.specs.declared.point.Point.{Point}
 use Rattle.classes.proofs.Orbits.{IsPermuting}
 use Rattle.contour_runs.specs.Wood.{Coordinates}
-use Rattle.convex_counts.specs.Runs.{Step, stage_after, IsDartOf, faces_made}
-use Rattle.convex_counts.specs.FaceRunsLaws.{GoesAlong}
+use Rattle.contour_runs.specs.FaceRuns.{Step, stage_after, IsDartOf, faces_made}
+use Rattle.contour_runs.specs.FaceRunsLaws.{GoesAlong}
 use Rattle.convex_counts.specs.Counts.{middle}
 use Rattle.convex_counts.specs.FacePointsLaws.{outside}
 

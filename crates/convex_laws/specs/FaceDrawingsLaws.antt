@@ -1,7 +1,7 @@
 -- Points by counts of faces are a plane drawing.
 use Rattle.std.specs.Prelude.{ℕ, ◌<◌}
 use Rattle.contour_runs.specs.Wood.{point_of}
-use Rattle.convex_counts.specs.Runs.{Step}
+use Rattle.contour_runs.specs.FaceRuns.{Step}
 use Rattle.convex_counts.specs.Counts.{face_counts}
 use Rattle.convex_counts.specs.FacePointsLaws.{IsWholeRun}
 use Rattle.convex_laws.specs.Middles.{IsPlaneRound}

@@ -1,7 +1,7 @@
 -- The row of a removal, and what rows of removals have to do with runs of a map.
 use Rattle.std.specs.Prelude.{ℕ, suc, ◌+◌, ◌<◌, ◌≤◌, ◌≡◌, List, [], ◌∷◌, ◌++◌, length, slice_index}
 use Rattle.map_lists.specs.Lists.{Lists}
-use Rattle.convex_counts.specs.Runs.{Step}
+use Rattle.contour_runs.specs.FaceRuns.{Step}
 use Rattle.convex_peeling.specs.Removals.{Removal}
 use Rattle.convex_laws.specs.Rows.{AreRows, AreRanked}
 use Rattle.convex_laws.specs.declared.convex_rows.rows.ConvexRows.{ConvexRows}

@@ -2,7 +2,7 @@
 use Rattle.std.specs.Prelude.{ℕ, suc, ◌+◌, ◌<◌, ◌≤◌, ◌≡◌, List, length, slice_index}
 use Rattle.map_theory.specs.Maps.{list_of}
 use Rattle.contour_runs.specs.Runs.{Stage}
-use Rattle.convex_counts.specs.Runs.{Step, stage_after}
+use Rattle.contour_runs.specs.FaceRuns.{Step, stage_after}
 use Rattle.convex_laws.specs.declared.convex_rows.rows.ConvexRows.{ConvexRows}
 
 -- the vertices of the contour from the first place of a step to the last

@@ -5,7 +5,7 @@ use Rattle.map_theory.specs.Maps.{HasDart, IsSimpleMap, IsPlane, component_count
 use Rattle.map_theory.specs.Paths.{SameFace}
 use Rattle.convex_peeling.specs.Tight.{IsTight}
 use Rattle.convex_peeling.specs.FacePeelingLaws.{HasThree}
-use Rattle.convex_counts.specs.Runs.{Step, stage_after, faces_made}
+use Rattle.contour_runs.specs.FaceRuns.{Step, stage_after, faces_made}
 use Rattle.convex_counts.specs.Turns.{IsTouchedRun}
 use Rattle.convex_laws.specs.ConvexDrawings.{IsRunMap}
 

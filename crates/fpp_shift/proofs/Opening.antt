@@ -5,7 +5,8 @@ use Rattle.std.proofs.lemmas.Nat.{mul-le}
 use Rattle.contour_runs.specs.Runs.{Step, Stage, place_after, moved, after, stage_after, IsStep, IsRun, IsFaceOf}
 use Rattle.contour_runs.specs.Laws.{IsStage}
 use Rattle.contour_runs.proofs.Places.{moved-low, moved-between, moved-high, moved-le, place_after-older, place_after-new}
-use Rattle.contour_runs.proofs.Stages.{upward, IsStage-run, IsRun-less, count-stage_after}
+use Rattle.contour_runs.proofs.Upward.{upward}
+use Rattle.contour_runs.proofs.Stages.{corners_placed, IsStage-run, IsRun-less, count-stage_after}
 use Rattle.fpp_shift.specs.Shift.{shift, Places, shift_points}
 use Rattle.fpp_shift.specs.Contours.{IsShift}
 use Rattle.fpp_shift.specs.Opened.{IsOpened}
@@ -101,18 +102,6 @@ module _ (g : Stage) (s : Step) (at : Places) (stage : IsStage g) (h : IsShift g
         ]
       ]
 
-  -- its corners have places from left to right
-  placed_made : (i : ℕ) → s.first ≤ i → i < s.last → (place_after g s (g.vertex i) ≤ place_after g s g.count) × (place_after g s g.count ≤ place_after g s (g.vertex (suc i)))
-  placed_made i l m =
-      let o = step.order in
-      let w = step.within in
-      let a = place_after-older g s (g.vertex i) (stage.placed i (omega arith)) ∙ ap (moved s) (stage.own i (omega arith)) in
-      let b = place_after-older g s (g.vertex (suc i)) (stage.placed (suc i) (omega arith)) ∙ ap (moved s) (stage.own (suc i) (omega arith)) in
-      let v = place_after-new g s g.count refl in (
-        elim (cases_lt s.first i) [ inr c ↦ omega (arith, moved-low s i c) | inl c ↦ omega (arith, moved-between s i c m) ],
-        elim (cases_lt (suc i) s.last) [ inl c ↦ omega (arith, moved-between s (suc i) (omega arith) c) | inr c ↦ omega (arith, moved-high s (suc i) o c) ],
-      )
-
 -- a face under way: opened, with its corners placed from left to right
 record IsKept (g : Stage) (at : Places) (a b v : ℕ) : Type 0 where
   pub opened : IsOpened at a b v
@@ -146,7 +135,7 @@ opened_run steps n k i a b v run l f =
     let hi = f.high in
     let c = count-stage_after steps k in
     let made : IsKept (after g s) (places_after g s at) (g.vertex i) (g.vertex (suc i)) g.count =
-    record { opened = opened_made g s at stage h step i lo hi; left = (placed_made g s at stage h step i lo hi).0; right = (placed_made g s at stage h step i lo hi).1 } in
+    record { opened = opened_made g s at stage h step i lo hi; left = (corners_placed g s stage step i lo hi).0; right = (corners_placed g s stage step i lo hi).1 } in
     let begun : IsKept (after g s) (places_after g s at) a b v =
     subst (λ z. IsKept (after g s) (places_after g s at) a b z) f.new
     (subst (λ z. IsKept (after g s) (places_after g s at) a z g.count) f.right (subst (λ z. IsKept (after g s) (places_after g s at) z (g.vertex (suc i)) g.count) f.left made)) in

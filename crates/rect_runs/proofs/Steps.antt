@@ -4,7 +4,8 @@ use Rattle.std.proofs.lemmas.Bool.{cases_eq, cases_lt, cases_Bool, cond-true, co
 use Rattle.contour_runs.specs.Runs.{Step, Stage, after, base, stage_after, IsStep}
 use Rattle.contour_runs.specs.Laws.{IsStage}
 use Rattle.contour_runs.proofs.Places.{cases_place, vertex_after-low, vertex_after-new, vertex_after-high}
-use Rattle.contour_runs.proofs.Stages.{IsStage-run, IsRun-less, count-stage_after, upward}
+use Rattle.contour_runs.proofs.Upward.{upward}
+use Rattle.contour_runs.proofs.Stages.{IsStage-run, IsRun-less, count-stage_after}
 use Rattle.rect_runs.specs.Labels.{labels_after, labels, turn, IsSorted, IsLabelledRun}
 use Rattle.rect_runs.specs.Numbers.{past, shifted, with_new, Numbers, new_x, new_y, x_after, y_after, numbers_after, base_numbers, numbers, turn_of, turns_at_run, rise_turns, run_turns}
 use Rattle.rect_runs.specs.Laws.{IsNumbered, IsPut}

@@ -3,7 +3,8 @@ use Rattle.std.proofs.Common.{◌≡◌, ◌⊎◌, ℕ, zero, suc, ◌+◌, ◌
 use Rattle.std.proofs.lemmas.Bool.{cases_lt}
 use Rattle.contour_runs.specs.Runs.{Step, Stage, stage_after, IsRun, IsFaceOf}
 use Rattle.contour_runs.proofs.Stages.{IsStage-run, IsRun-less, count-stage_after}
-use Rattle.contour_runs.proofs.Faces.{IsAlong, cases_along}
+use Rattle.contour_runs.specs.FaceRunsLaws.{GoesAlong}
+use Rattle.contour_runs.proofs.Faces.{cases_along}
 use Rattle.wood_runs.specs.Parents.{one, two, three, IsParent, out, into}
 use Rattle.wood_runs.specs.Rules.{IsCorner, IsOrdered}
 use Rattle.wood_runs.proofs.ParentLemmas.{IsParent-more}
@@ -13,7 +14,7 @@ module _ (steps : ℕ → Step) where
   at k = stage_after steps k
 
   -- an edge of the contour other than the base leads to the parent of colour one backwards, or to that of colour two forwards
-  coloured : (n : ℕ) → IsRun steps n → (x y i : ℕ) → IsAlong (at n) x y i → (2 ≤ x) ⊎ (2 ≤ y) → IsParent one steps n y x ⊎ IsParent two steps n x y
+  coloured : (n : ℕ) → IsRun steps n → (x y i : ℕ) → GoesAlong (at n) x y i → (2 ≤ x) ⊎ (2 ≤ y) → IsParent one steps n y x ⊎ IsParent two steps n x y
   coloured zero run x y i a some =
       let w = a.within in
       let t = a.tail in
@@ -38,7 +39,7 @@ module _ (steps : ℕ → Step) where
     new : top ≡ k + 2
     new = sym f.new ∙ count-stage_after steps k
 
-    along : IsAlong (at k) a b i
+    along : GoesAlong (at k) a b i
     along = let w = (run k l).within in let h = f.high in record { within = omega arith; tail = f.left; head = f.right }
 
     -- the edge under the face

@@ -3,7 +3,8 @@ use Rattle.std.proofs.Common.{◌≡◌, ◌≢◌, ℕ, suc, ◌+◌, ◌-◌, 
 use Rattle.std.proofs.lemmas.Bool.{cases_eq, cases_lt, cases_Bool}
 use Rattle.contour_runs.specs.Runs.{Step, Stage, stage_after, IsStep, IsRun, IsCovered}
 use Rattle.contour_runs.specs.Laws.{IsStage}
-use Rattle.contour_runs.proofs.Stages.{upward, IsStage-run, IsRun-less, count-stage_after, covered_gone}
+use Rattle.contour_runs.proofs.Upward.{upward}
+use Rattle.contour_runs.proofs.Stages.{IsStage-run, IsRun-less, count-stage_after, covered_gone}
 use Rattle.wood_runs.specs.Parents.{Colour, one, two, three}
 use Rattle.wood_runs.specs.Fronts.{shade_after, fronts, shades, IsOn}
 use Rattle.wood_runs.specs.Sides.{on_after, paths, sides}

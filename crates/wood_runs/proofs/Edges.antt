@@ -4,7 +4,8 @@ use Rattle.std.proofs.lemmas.Bool.{cases_eq, cases_lt}
 use Rattle.contour_runs.specs.Runs.{Step, Stage, stage_after, IsStep, IsRun, IsFaceOf, IsDartOf}
 use Rattle.contour_runs.specs.Laws.{IsStage}
 use Rattle.contour_runs.proofs.Places.{vertex_after-low, vertex_after-new, vertex_after-high, place_after-new}
-use Rattle.contour_runs.proofs.Stages.{upward, IsStage-run, IsRun-less, count-stage_after}
+use Rattle.contour_runs.proofs.Upward.{upward}
+use Rattle.contour_runs.proofs.Stages.{IsStage-run, IsRun-less, count-stage_after}
 use Rattle.wood_runs.specs.Fronts.{fronts, shades, IsNewOn, at_first, at_last, under, new_first, new_last, IsOn}
 use Rattle.wood_runs.specs.Sides.{paths, sides}
 use Rattle.wood_runs.proofs.Steps.{front_after-low, front_after-first, front_after-last, front_after-high, stays, behind, goes}

@@ -2,7 +2,8 @@
 use Rattle.std.proofs.Common.{◌≡◌, ◌≢◌, ◌⊎◌, ℕ, zero, suc, ◌+◌, ◌<◌, ◌≤◌, true, refl, sym, ap, ◌∙◌, subst, inl, inr, arith, true≢false}
 use Rattle.std.proofs.lemmas.Bool.{cases_lt}
 use Rattle.contour_runs.specs.Runs.{Step, Stage, stage_after, IsRun}
-use Rattle.contour_runs.proofs.Stages.{upward, IsStage-run, IsRun-less, count-stage_after, covered_together, IsCovered-own}
+use Rattle.contour_runs.proofs.Upward.{upward}
+use Rattle.contour_runs.proofs.Stages.{IsStage-run, IsRun-less, count-stage_after, covered_together, IsCovered-own}
 use Rattle.wood_runs.specs.Parents.{Colour, one, two, three, IsParent}
 use Rattle.wood_runs.specs.Sides.{paths}
 use Rattle.wood_runs.specs.Edges.{root_at}

@@ -2,7 +2,7 @@
 ghost use Rattle.std.specs.Prelude.{◌≡◌, ◌<◌, ◌≤◌, ◌+◌, ◌-◌, ℕ, List, length, slice_index, All, AllPairs, ◌≢◌};
 ghost use Rattle.contour_runs.specs.Runs.{Stage};
 ghost use Rattle.contour_runs.specs.Wood.{Coordinates};
-ghost use Rattle.convex_counts.specs.Runs.{Step, stage_after, faces_made};
+ghost use Rattle.contour_runs.specs.FaceRuns.{Step, stage_after, faces_made};
 ghost use Rattle.convex_counts.specs.Counts.{face_counts};
 ghost use Rattle.convex_draw.specs.Spots.{spot_of};
 ghost use Rattle.convex_draw.specs.Sums.{IsLast, AreWalked, IsFree, AreAdded, AreDone};

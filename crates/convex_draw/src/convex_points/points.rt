@@ -1,6 +1,6 @@
 //! The points of a run.
 ghost use Rattle.std.specs.Prelude.{◌≡◌, ◌<◌, ◌+◌, ℕ, length, pos, IfOk};
-ghost use Rattle.convex_counts.specs.Runs.{Step};
+ghost use Rattle.contour_runs.specs.FaceRuns.{Step};
 ghost use Rattle.convex_counts.specs.Counts.{face_counts};
 ghost use Rattle.convex_counts.specs.Turns.{well_turned};
 ghost use Rattle.convex_draw.specs.Spots.{spot_of};

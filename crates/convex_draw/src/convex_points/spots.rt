@@ -5,7 +5,7 @@
 //! stands above that in both. So a step changes what is kept of its row and of its new vertices alone.
 
 ghost use Rattle.std.specs.Prelude.{◌≡◌, ◌<◌, ◌≤◌, ◌+◌, ◌==◌, ◌&&◌, nat_lt, if◌then◌else◌, ℕ, List, length, slice_index, All, AllPairs, ◌≢◌};
-ghost use Rattle.convex_counts.specs.Runs.{Step, stage_after, faces_made};
+ghost use Rattle.contour_runs.specs.FaceRuns.{Step, stage_after, faces_made};
 ghost use Rattle.convex_counts.specs.Counts.{face_counts};
 ghost use Rattle.convex_draw.specs.Spots.{Setting, IsRowOver, IsPut, IsRowSettled, IsWritten, settled, AreLinked, AreKept, spot_of};
 ghost use Rattle.convex_draw.specs.Runs.{IsCountRun};

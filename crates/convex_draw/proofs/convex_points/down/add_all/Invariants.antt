@@ -1,5 +1,5 @@
 use Rattle.std.proofs.Common.{◌≡◌, ◌+◌, ℕ, length}
-use Rattle.convex_counts.specs.Runs.{Step}
+use Rattle.contour_runs.specs.FaceRuns.{Step}
 use Rattle.convex_draw.specs.Sums.{AreDone}
 use Rattle.convex_draw.specs.Runs.{IsCountRun}
 use Rattle.convex_draw.proofs.convex_points.down.add_all.Given as goal

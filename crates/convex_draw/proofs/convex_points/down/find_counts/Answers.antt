@@ -1,5 +1,5 @@
 use Rattle.std.proofs.Common.{◌∙◌, ℕ, length, subst, sym}
-use Rattle.convex_counts.specs.Runs.{stage_after}
+use Rattle.contour_runs.specs.FaceRuns.{stage_after}
 use Rattle.convex_counts.specs.Counts.{face_counts}
 use Rattle.convex_draw.specs.Runs.{IsCountRun}
 use Rattle.convex_draw.specs.Sums.{IsLast}

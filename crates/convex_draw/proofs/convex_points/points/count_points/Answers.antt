@@ -1,5 +1,5 @@
 use Rattle.std.proofs.Common.{◌≡◌, ℕ, length, IfOk, subst, arith}
-use Rattle.convex_counts.specs.Runs.{Step}
+use Rattle.contour_runs.specs.FaceRuns.{Step}
 use Rattle.convex_counts.specs.Counts.{face_counts}
 use Rattle.convex_counts.specs.Turns.{well_turned}
 use Rattle.convex_draw.specs.Points.{IsListedRun, ArePointsOf}

@@ -1,5 +1,5 @@
 use Rattle.std.proofs.Common.{◌≡◌, ◌+◌, ℕ, length}
-use Rattle.convex_counts.specs.Runs.{Step}
+use Rattle.contour_runs.specs.FaceRuns.{Step}
 use Rattle.convex_draw.specs.Spots.{AreKept}
 use Rattle.convex_draw.specs.Runs.{IsCountRun}
 use Rattle.convex_draw.proofs.convex_points.spots.put_all.Given as goal

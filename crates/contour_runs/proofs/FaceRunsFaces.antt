@@ -3,11 +3,11 @@ use Rattle.std.proofs.Common.{◌≡◌, ◌⊎◌, ℕ, suc, ◌+◌, ◌-◌, 
 use Rattle.std.proofs.lemmas.Bool.{cases_order}
 use Rattle.contour_runs.specs.Runs.{Stage}
 use Rattle.contour_runs.specs.Laws.{IsStage}
-use Rattle.contour_runs.proofs.Stages.{upward}
-use Rattle.convex_counts.specs.Runs.{Step, after, stage_after, IsStep, IsRun, IsAlong, IsUp, IsDown, IsDartOf}
-use Rattle.convex_counts.specs.FaceRunsLaws.{GoesAlong}
-use Rattle.convex_counts.proofs.Places.{cut-lt, cut-le, cut-first, cut-last, order, vertex_after-low, vertex_after-new, vertex_after-high}
-use Rattle.convex_counts.proofs.Stages.{IsStage-run, IsRun-less, count-le}
+use Rattle.contour_runs.proofs.Upward.{upward}
+use Rattle.contour_runs.specs.FaceRuns.{Step, after, stage_after, IsStep, IsRun, IsAlong, IsUp, IsAcross, IsDown, IsDartOf}
+use Rattle.contour_runs.specs.FaceRunsLaws.{GoesAlong}
+use Rattle.contour_runs.proofs.FaceRunsPlaces.{cut-lt, cut-le, cut-first, cut-last, order, vertex_after-low, vertex_after-new, vertex_after-high}
+use Rattle.contour_runs.proofs.FaceRunsStages.{IsStage-run, IsRun-less, count-le}
 
 -- it went along the contour before the step, at one side of it
 pub record IsBeside (g : Stage) (s : Step) (x y : ℕ) : Type 0 where
@@ -27,6 +27,13 @@ pub record IsOnward (g : Stage) (s : Step) (x y : ℕ) : Type 0 where
 pub record IsDownward (g : Stage) (s : Step) (x y : ℕ) : Type 0 where
   pub tail : suc x ≡ g.count + s.vertices
   pub head : y ≡ g.vertex s.last
+
+-- which of its ends are new
+pub record HasKind (g : Stage) (s : Step) (i x y : ℕ) : Type 0 where
+  pub along : x < g.count → y < g.count → IsAlong g s i x y
+  pub up : x < g.count → g.count ≤ y → IsUp g s i x y
+  pub across : g.count ≤ x → g.count ≤ y → IsAcross g s i x y
+  pub down : g.count ≤ x → y < g.count → IsDown g s i x y
 
 module _ (g : Stage) (s : Step) (h : IsStage g) (step : IsStep g s) where
   -- what goes along the contour after a step went along it before, or is new
@@ -109,6 +116,17 @@ module _ (g : Stage) (s : Step) (h : IsStage g) (step : IsStep g s) where
         | inr (inr (inr a)) ↦ let p = down_placed i x y l a in (omega (arith, p.0), omega (arith, p.1))
       ]
 
+  -- what kind of dart it is, its ends tell
+  pub kinds : (i x y : ℕ) → IsDartOf g s i x y → HasKind g s i x y
+  kinds i x y d =
+      let l = d.within in
+      elim d.dart [
+        | inl a ↦ let p = along_placed i x y l a in let px = p.1 in let py = p.2 in record { along = λ u v. a; up = λ u v. absurd (omega arith); across = λ u v. absurd (omega arith); down = λ u v. absurd (omega arith) }
+        | inr (inl a) ↦ let p = up_placed i x y l a in let px = p.0 in let py = p.1 in record { along = λ u v. absurd (omega arith); up = λ u v. a; across = λ u v. absurd (omega arith); down = λ u v. absurd (omega arith) }
+        | inr (inr (inl a)) ↦ let py = a.low in let px = a.next in record { along = λ u v. absurd (omega arith); up = λ u v. absurd (omega arith); across = λ u v. a; down = λ u v. absurd (omega arith) }
+        | inr (inr (inr a)) ↦ let p = down_placed i x y l a in let px = p.0 in let py = p.1 in record { along = λ u v. absurd (omega arith); up = λ u v. absurd (omega arith); across = λ u v. absurd (omega arith); down = λ u v. a }
+      ]
+
   -- a dart of a face does not go along the contour after the step
   pub not_along_next : (i x y : ℕ) → IsDartOf g s i x y → (j : ℕ) → ¬ GoesAlong (after g s) x y j
   not_along_next i x y d j along =
@@ -117,58 +135,34 @@ module _ (g : Stage) (s : Step) (h : IsStage g) (step : IsStep g s) where
       let o = order g s step in
       let pf = h.placed s.first (omega arith) in
       let pl = h.placed s.last w in
+      let some = step.some_vertex in
+      let kind = kinds i x y d in
       elim (cases_along x y j along) [
         | inl b ↦
             let m = b.along.within in
-            let bx = h.placed b.place (omega arith) in
-            let by = h.placed (suc b.place) m in
             let tx = b.along.tail in
             let ty = b.along.head in
-            elim d.dart [
-              | inl a ↦
-                  let p = along_placed i x y l a in
-                  let e = one_place a.place b.place (omega (arith, p.0)) (omega arith) (a.tail ∙ sym tx) in
-                  elim b.outside [ inl z ↦ omega (arith, p.3) | inr z ↦ omega (arith, p.4) ]
-              | inr (inl a) ↦ omega (arith, (up_placed i x y l a).1)
-              | inr (inr (inl a)) ↦ let p = a.low in let q = a.next in omega arith
-              | inr (inr (inr a)) ↦ omega (arith, (down_placed i x y l a).0)
-            ]
+            let a = kind.along (omega (arith, h.placed b.place (omega arith))) (omega (arith, h.placed (suc b.place) m)) in
+            let p = along_placed i x y l a in
+            let e = one_place a.place b.place (omega (arith, p.0)) (omega arith) (a.tail ∙ sym tx) in
+            elim b.outside [ inl z ↦ omega (arith, p.3) | inr z ↦ omega (arith, p.4) ]
         | inr (inl b) ↦
             let tx = b.tail in
             let ty = b.head in
-            elim d.dart [
-              | inl a ↦ omega (arith, (along_placed i x y l a).2)
-              | inr (inl a) ↦
-                  let e = one_place (s.cut (suc i)) s.first (cut_placed (suc i) l).0 (omega arith) (a.tail ∙ tx) in
-                  let z = cut-lt g s step 0 (suc i) (omega arith) l in
-                  let z' = step.begin in
-                  omega arith
-              | inr (inr (inl a)) ↦ let p = a.low in let q = a.next in omega arith
-              | inr (inr (inr a)) ↦ omega (arith, (down_placed i x y l a).0)
-            ]
-        | inr (inr (inl b)) ↦
-            let tx = b.next in
-            let ty = b.new in
-            elim d.dart [
-              | inl a ↦ omega (arith, (along_placed i x y l a).1)
-              | inr (inl a) ↦ omega (arith, (up_placed i x y l a).0)
-              | inr (inr (inl a)) ↦ let q = a.next in omega arith
-              | inr (inr (inr a)) ↦ omega (arith, (down_placed i x y l a).1)
-            ]
+            let a = kind.up (omega arith) (omega arith) in
+            let e = one_place (s.cut (suc i)) s.first (cut_placed (suc i) l).0 (omega arith) (a.tail ∙ tx) in
+            let z = cut-lt g s step 0 (suc i) (omega arith) l in
+            let z' = step.begin in
+            omega arith
+        | inr (inr (inl b)) ↦ let tx = b.next in let ty = b.new in let q = (kind.across ty (omega arith)).next in omega arith
         | inr (inr (inr b)) ↦
             let tx = b.tail in
             let ty = b.head in
-            let some = step.some_vertex in
-            elim d.dart [
-              | inl a ↦ omega (arith, (along_placed i x y l a).1)
-              | inr (inl a) ↦ omega (arith, (up_placed i x y l a).0)
-              | inr (inr (inl a)) ↦ let p = a.low in omega arith
-              | inr (inr (inr a)) ↦
-                  let e = one_place (s.cut i) s.last (cut_placed i (omega arith)).0 w (a.head ∙ ty) in
-                  let z = cut-lt g s step i s.faces l (omega arith) in
-                  let z' = step.end in
-                  omega arith
-            ]
+            let a = kind.down (omega arith) (omega arith) in
+            let e = one_place (s.cut i) s.last (cut_placed i (omega arith)).0 w (a.head ∙ ty) in
+            let z = cut-lt g s step i s.faces l (omega arith) in
+            let z' = step.end in
+            omega arith
       ]
 
   -- no two faces of a step have a dart in common
@@ -192,50 +186,17 @@ module _ (g : Stage) (s : Step) (h : IsStage g) (step : IsStep g s) where
   same_face i j x y d e =
       let li = d.within in
       let lj = e.within in
+      let kind = kinds j x y e in
       elim d.dart [
         | inl a ↦
             let p = along_placed i x y li a in
-            let px = p.1 in
-            let py = p.2 in
-            elim e.dart [
-              | inl b ↦
-                  let q = along_placed j x y lj b in
-                  let same = one_place a.place b.place (omega (arith, p.0)) (omega (arith, q.0)) (a.tail ∙ sym b.tail) in
-                  apart_by_cuts i j a.place li lj a.low a.high (let z = b.low in omega arith) (let z = b.high in omega arith)
-              | inr (inl b) ↦ absurd (omega (arith, (up_placed j x y lj b).1))
-              | inr (inr (inl b)) ↦ let z = b.low in absurd (omega arith)
-              | inr (inr (inr b)) ↦ absurd (omega (arith, (down_placed j x y lj b).0))
-            ]
-        | inr (inl a) ↦
-            let p = up_placed i x y li a in
-            let px = p.0 in
-            let py = p.1 in
-            elim e.dart [
-              | inl b ↦ absurd (omega (arith, (along_placed j x y lj b).2))
-              | inr (inl b) ↦ let z = same_cut (suc i) (suc j) li lj (a.tail ∙ sym b.tail) in omega arith
-              | inr (inr (inl b)) ↦ let z = b.low in let z' = b.next in absurd (omega arith)
-              | inr (inr (inr b)) ↦ absurd (omega (arith, (down_placed j x y lj b).1))
-            ]
-        | inr (inr (inl a)) ↦
-            let z1 = a.low in
-            let z2 = a.next in
-            let z3 = a.high in
-            elim e.dart [
-              | inl b ↦ absurd (omega (arith, (along_placed j x y lj b).2))
-              | inr (inl b) ↦ absurd (omega (arith, (up_placed j x y lj b).0))
-              | inr (inr (inl b)) ↦ elim step.single [ inl one ↦ absurd (omega arith) | inr one ↦ omega arith ]
-              | inr (inr (inr b)) ↦ absurd (omega (arith, (down_placed j x y lj b).1))
-            ]
-        | inr (inr (inr a)) ↦
-            let p = down_placed i x y li a in
-            let px = p.0 in
-            let py = p.1 in
-            elim e.dart [
-              | inl b ↦ absurd (omega (arith, (along_placed j x y lj b).1))
-              | inr (inl b) ↦ absurd (omega (arith, (up_placed j x y lj b).0))
-              | inr (inr (inl b)) ↦ let z = b.low in absurd (omega arith)
-              | inr (inr (inr b)) ↦ same_cut i j (omega arith) (omega arith) (a.head ∙ sym b.head)
-            ]
+            let b = kind.along p.1 p.2 in
+            let q = along_placed j x y lj b in
+            let same = one_place a.place b.place (omega (arith, p.0)) (omega (arith, q.0)) (a.tail ∙ sym b.tail) in
+            apart_by_cuts i j a.place li lj a.low a.high (let z = b.low in omega arith) (let z = b.high in omega arith)
+        | inr (inl a) ↦ let p = up_placed i x y li a in let z = same_cut (suc i) (suc j) li lj (a.tail ∙ sym (kind.up p.0 p.1).tail) in omega arith
+        | inr (inr (inl a)) ↦ let p = a.low in let q = a.next in let r = a.high in elim step.single [ inl one ↦ absurd (omega arith) | inr one ↦ omega arith ]
+        | inr (inr (inr a)) ↦ let p = down_placed i x y li a in same_cut i j (omega arith) (omega arith) (a.head ∙ sym (kind.down (omega (arith, p.0)) p.1).head)
       ]
 
 module _ (steps : ℕ → Step) (n : ℕ) (run : IsRun steps n) where

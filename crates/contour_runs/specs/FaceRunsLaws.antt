@@ -2,7 +2,7 @@
 use Rattle.std.specs.Prelude.{ℕ, suc, ◌<◌, ◌≤◌, ◌≡◌}
 use Rattle.contour_runs.specs.Runs.{Stage}
 use Rattle.contour_runs.specs.Laws.{IsStage}
-use Rattle.convex_counts.specs.Runs.{Step, moved, stage_after, IsStep, IsRun, IsDartOf}
+use Rattle.contour_runs.specs.FaceRuns.{Step, moved, stage_after, IsStep, IsRun, IsDartOf}
 
 -- The place map does not fall.
 abbrev pub PlacesDoNotFall : Type 0

@@ -1,8 +1,9 @@
 -- Where a step moves places, and what stands where after it.
-use Rattle.std.proofs.Common.{◌≡◌, ◌⊎◌, ℕ, zero, suc, ◌+◌, ◌-◌, ◌<◌, ◌≤◌, ltb, leb, if◌then◌else◌, ap, ◌∙◌, inl, inr, arith}
+use Rattle.std.proofs.Common.{◌≡◌, ◌⊎◌, ℕ, zero, suc, ◌+◌, ◌-◌, ◌<◌, ◌≤◌, ltb, leb, ap, ◌∙◌, inl, inr, arith}
 use Rattle.std.proofs.lemmas.Bool.{cases_lt, cond-true, cond-false, lt-ltb, le-ltb, le-leb, lt-leb}
+use Rattle.std.proofs.lemmas.Bool.Decides.{nat_tests}
 use Rattle.contour_runs.specs.Runs.{Stage}
-use Rattle.convex_counts.specs.Runs.{Step, moved, vertex_after, place_after, after, IsStep}
+use Rattle.contour_runs.specs.FaceRuns.{Step, moved, vertex_after, place_after, after, IsStep}
 
 module _ (g : Stage) (s : Step) (step : IsStep g s) where
   -- the cuts rise
@@ -96,80 +97,29 @@ module _ (g : Stage) (s : Step) (step : IsStep g s) where
       let t' = last_turn g s step in
       let m = turn-le g s step 0 (s.faces - 1) (omega arith) (let some = step.some_face in omega arith) in
       elim (cases_lt s.first i) [
-        | inr a ↦ inl record { low = a; to = cond-true (leb i s.first) i _ (le-leb i s.first a) }
-        | inl a ↦
-            let e = cond-false (leb i s.first) i (if_back i) (lt-leb i s.first a) in
-            elim (cases_lt (s.turn 0) i) [
-              | inr b ↦ inr (inl record { low = a; high = b; to = e ∙ cond-true (leb i (s.turn 0)) s.first _ (le-leb i (s.turn 0) b) })
-              | inl b ↦
-                  let f = cond-false (leb i (s.turn 0)) s.first (if_between i) (lt-leb i (s.turn 0) b) in
-                  elim (cases_lt (s.turn (s.faces - 1)) i) [
-                    | inr c ↦ inr (inr (inl record { low = b; high = c; to = e ∙ f ∙ cond-true (leb i (s.turn (s.faces - 1))) (suc s.first) _ (le-leb i (s.turn (s.faces - 1)) c) }))
-                    | inl c ↦
-                        let h = cond-false (leb i (s.turn (s.faces - 1))) (suc s.first) (if_on i) (lt-leb i (s.turn (s.faces - 1)) c) in
-                        elim (cases_lt i s.last) [
-                          | inl d ↦ inr (inr (inr (inl record { low = c; high = d; to = e ∙ f ∙ h ∙ cond-true (ltb i s.last) (s.first + s.vertices + 1) _ (lt-ltb i s.last d) })))
-                          | inr d ↦
-                              let all = e ∙ f ∙ h ∙ cond-false (ltb i s.last) (s.first + s.vertices + 1) (i + s.first + s.vertices + 1 - s.last) (le-ltb i s.last d) in
-                              inr (inr (inr (inr record { low = d; to = omega (arith, all) })))
-                        ]
-                  ]
+        | inr a ↦ inl record { low = a; to = grind (arith, nat_tests) }
+        | inl a ↦ elim (cases_lt (s.turn 0) i) [
+          | inr b ↦ inr (inl record { low = a; high = b; to = grind (arith, nat_tests) })
+          | inl b ↦ elim (cases_lt (s.turn (s.faces - 1)) i) [
+            | inr c ↦ inr (inr (inl record { low = b; high = c; to = grind (arith, nat_tests) }))
+            | inl c ↦ elim (cases_lt i s.last) [
+              | inl d ↦ inr (inr (inr (inl record { low = c; high = d; to = grind (arith, nat_tests) })))
+              | inr d ↦ inr (inr (inr (inr record { low = d; to = grind (arith, nat_tests) })))
             ]
+          ]
+        ]
       ]
-    where
-      if_on : ℕ → ℕ
-      if_on i = if ltb i s.last then s.first + s.vertices + 1 else i + s.first + s.vertices + 1 - s.last
-
-      if_between : ℕ → ℕ
-      if_between i = if leb i (s.turn (s.faces - 1)) then suc s.first else if_on i
-
-      if_back : ℕ → ℕ
-      if_back i = if leb i (s.turn 0) then s.first else if_between i
 
   -- the place map does not fall
   pub moved-le : (i j : ℕ) → i ≤ j → moved s i ≤ moved s j
+  unfolding moved
   moved-le i j l =
       let o = order g s step in
       let t = first_turn g s step in
       let t' = last_turn g s step in
       let some = step.some_vertex in
-      elim (cases_moved i) [
-        | inl a ↦ let a' = a.low in let a'' = a.to in elim (cases_moved j) [
-          | inl b ↦ let b' = b.to in omega arith
-          | inr (inl b) ↦ let b' = b.to in omega arith
-          | inr (inr (inl b)) ↦ let b' = b.to in omega arith
-          | inr (inr (inr (inl b))) ↦ let b' = b.to in omega arith
-          | inr (inr (inr (inr b))) ↦ let b' = b.to in let c = b.low in omega arith
-        ]
-        | inr (inl a) ↦ let a' = a.low in let a'' = a.to in elim (cases_moved j) [
-          | inl b ↦ let b' = b.low in absurd (omega arith)
-          | inr (inl b) ↦ let b' = b.to in omega arith
-          | inr (inr (inl b)) ↦ let b' = b.to in omega arith
-          | inr (inr (inr (inl b))) ↦ let b' = b.to in omega arith
-          | inr (inr (inr (inr b))) ↦ let b' = b.to in let c = b.low in omega arith
-        ]
-        | inr (inr (inl a)) ↦ let a' = a.low in let a'' = a.to in elim (cases_moved j) [
-          | inl b ↦ let b' = b.low in absurd (omega arith)
-          | inr (inl b) ↦ let b' = b.high in absurd (omega arith)
-          | inr (inr (inl b)) ↦ let b' = b.to in omega arith
-          | inr (inr (inr (inl b))) ↦ let b' = b.to in omega arith
-          | inr (inr (inr (inr b))) ↦ let b' = b.to in let c = b.low in omega arith
-        ]
-        | inr (inr (inr (inl a))) ↦ let a' = a.low in let a'' = a.to in elim (cases_moved j) [
-          | inl b ↦ let b' = b.low in let m = turn-le g s step 0 (s.faces - 1) (omega arith) (let z = step.some_face in omega arith) in absurd (omega arith)
-          | inr (inl b) ↦ let b' = b.high in let m = turn-le g s step 0 (s.faces - 1) (omega arith) (let z = step.some_face in omega arith) in absurd (omega arith)
-          | inr (inr (inl b)) ↦ let b' = b.high in absurd (omega arith)
-          | inr (inr (inr (inl b))) ↦ let b' = b.to in omega arith
-          | inr (inr (inr (inr b))) ↦ let b' = b.to in let c = b.low in omega arith
-        ]
-        | inr (inr (inr (inr a))) ↦ let a' = a.low in let a'' = a.to in elim (cases_moved j) [
-          | inl b ↦ let b' = b.low in absurd (omega arith)
-          | inr (inl b) ↦ let b' = b.high in let m = turn-le g s step 0 (s.faces - 1) (omega arith) (let z = step.some_face in omega arith) in absurd (omega arith)
-          | inr (inr (inl b)) ↦ let b' = b.high in absurd (omega arith)
-          | inr (inr (inr (inl b))) ↦ let b' = b.high in absurd (omega arith)
-          | inr (inr (inr (inr b))) ↦ let b' = b.to in omega arith
-        ]
-      ]
+      let m = turn-le g s step 0 (s.faces - 1) (omega arith) (let z = step.some_face in omega arith) in
+      grind (arith, nat_tests)
 
 -- what stands where after a step: low, new, high
 pub vertex_after-low : (g : Stage) (s : Step) (i : ℕ) → i ≤ s.first → vertex_after g s i ≡ g.vertex i

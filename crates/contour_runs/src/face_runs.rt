@@ -3,7 +3,7 @@
 //! speak of places of the contour alone, and of no map; each law is the contract of a function that does
 //! nothing.
 
-ghost use Rattle.convex_counts.specs.FaceRunsLaws.{PlacesDoNotFall, StageOfRun, OrderKept, FaceMadeOnce, NoneAlongLater};
+ghost use Rattle.contour_runs.specs.FaceRunsLaws.{PlacesDoNotFall, StageOfRun, OrderKept, FaceMadeOnce, NoneAlongLater};
 
 /// The place map of a step does not fall.
 pub fn places_do_not_fall()
