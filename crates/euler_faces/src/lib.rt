@@ -5,6 +5,7 @@
 mod components;
 mod count;
 mod face_walks;
+mod map_faces;
 mod orbits;
 mod slots;
 mod walks;
@@ -12,4 +13,5 @@ mod walks;
 pub use components::{UNMET, number_components};
 pub use count::{Counter, EulerCount, count_lists, euler};
 pub use face_walks::faces;
+pub use map_faces::euler_by_components;
 pub use walks::Faces;
