@@ -5,3 +5,5 @@ pub mod Laws
 pub mod Parts
 -- Graphs as lists.
 pub mod GraphLists
+-- Maps with what is counted of them.
+pub mod Counted

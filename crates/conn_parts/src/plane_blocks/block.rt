@@ -4,37 +4,11 @@ ghost use Rattle.map_lists.specs.Lists.{Lists};
 ghost use Rattle.refusals.specs.Conditions.{IfRefused};
 ghost use Rattle.conn_parts.specs.Blocks.{IsPlaneBlock, BreaksFirst};
 
-use euler_faces::count_lists;
+use crate::plane_map;
 use graph_search::map_cuts::list_cut_vertex;
 use half_edges::{HalfMap, Rotations, VertexId};
 use refusals::{Refusal, Unserved};
-use simple_maps::no_fault_is_simple;
 use std::alloc::Global;
-
-// Whether lists are a map in one block, or the first condition that they break.
-fn check_block(alloc: Global, lists: &Rotations, least: u16) -> Result<(), Unserved>
-    requires some_list { 0 < length lists.now }
-    requires few_lists { length lists.now < 4096 }
-    ensures served { OnOk result (IsPlaneBlock least lists.now) }
-    ensures refused { IfErr result (IfRefused (BreaksFirst least lists.now)) }
-{
-    no_fault_is_simple();
-    let count = count_lists(alloc, lists)?;
-    if count.n < least as u32 {
-        return Err(Unserved::Refused(Refusal::Small(count.n as u16)));
-    }
-    let genus = count.genus();
-    if 0 < genus {
-        return Err(Unserved::Refused(Refusal::Genus(genus)));
-    }
-    if count.c != 1 {
-        return Err(Unserved::Refused(Refusal::NotConnected));
-    }
-    match list_cut_vertex(alloc, lists)? {
-        Some(v) => Err(Unserved::Refused(Refusal::CutVertex(VertexId(v)))),
-        None => Ok(()),
-    }
-}
 
 /// The map of a record with these lists, which are from 1 to 4095, where it has genus zero and at least
 /// `least` vertices, is connected and has no cut vertex.
@@ -48,7 +22,12 @@ pub fn plane_block(alloc: Global, lists: &Rotations, least: u16) -> Result<HalfM
     ensures served { IfOk result (λ map. IsPlaneBlock least lists.now) }
     ensures refused { IfErr result (IfRefused (BreaksFirst least lists.now)) }
 {
-    check_block(alloc, lists, least)?;
-    let map = HalfMap::from_rotations(alloc, lists)?;
-    Ok(map)
+    let plane = plane_map(alloc, lists, least)?;
+    if plane.count.c != 1 {
+        return Err(Unserved::Refused(Refusal::NotConnected));
+    }
+    match list_cut_vertex(alloc, lists)? {
+        Some(v) => Err(Unserved::Refused(Refusal::CutVertex(VertexId(v)))),
+        None => Ok(plane.map),
+    }
 }

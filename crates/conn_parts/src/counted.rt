@@ -1,0 +1,65 @@
+//! The map of a record, made once, with what is counted of it.
+ghost use Rattle.std.specs.Prelude.{◌≡◌, ◌<◌, length, Some, None, IfOk, IfErr, OnOk};
+ghost use Rattle.simple_maps.specs.Faults.{first_fault};
+ghost use Rattle.simple_maps.specs.MapFault.{Names};
+ghost use Rattle.refusals.specs.Conditions.{first_refusal, IfRefused};
+ghost use Rattle.conn_parts.specs.Counted.{IsCountedMap, IsPlaneMap};
+
+use crate::{Parts, list_components};
+use euler_faces::{EulerCount, euler_by_components};
+use half_edges::{HalfMap, Rotations};
+use refusals::{Refusal, Unserved};
+use simple_maps::{MapFault, no_fault_is_simple};
+use std::alloc::Global;
+
+/// A map with its components and its counts. An edit of the map leaves both as they were.
+#[derive(Drop)]
+pub struct CountedMap {
+    /// The map.
+    pub map: HalfMap,
+    /// Its components.
+    pub parts: Parts,
+    /// How many vertices, edges, faces and components it has.
+    pub count: EulerCount,
+}
+
+/// The map with these lists, which are from 1 to 4095, its components and its counts, or the first fault of the lists.
+/// The time is linear in the entries, and so is the memory.
+pub fn counted_map(alloc: Global, lists: &Rotations) -> Result<CountedMap, MapFault>
+    requires some_list { 0 < length lists.now }
+    requires few_lists { length lists.now < 4096 }
+    ensures counted { IfOk result (IsCountedMap lists.now) }
+    ensures simple { OnOk result (first_fault lists.now ≡ None) }
+    ensures fault { IfErr result (Names (first_fault lists.now)) }
+{
+    let map = HalfMap::from_rotations(alloc, lists)?;
+    no_fault_is_simple();
+    let parts = list_components(alloc, lists)?;
+    let count = euler_by_components(alloc, &map, parts.count())?;
+    Ok(CountedMap { map, parts, count })
+}
+
+/// The map of a record with these lists, which are from 1 to 4095, where it has genus zero and at least `least`
+/// vertices, with its components and its counts.
+///
+/// `Err` names the first condition that the lists break, of these in this order: the four faults of a map, each with
+/// the least vertices; too few vertices; a genus above zero. Or there was not enough memory. The time is linear in the
+/// entries.
+pub fn plane_map(alloc: Global, lists: &Rotations, least: u16) -> Result<CountedMap, Unserved>
+    requires some_list { 0 < length lists.now }
+    requires few_lists { length lists.now < 4096 }
+    ensures plane { IfOk result (IsPlaneMap least lists.now) }
+    ensures served { OnOk result (first_refusal least lists.now ≡ None) }
+    ensures refused { IfErr result (IfRefused (λ refusal. first_refusal least lists.now ≡ Some refusal)) }
+{
+    let counted = counted_map(alloc, lists)?;
+    let count = counted.count;
+    if count.n < least as u32 {
+        return Err(Unserved::Refused(Refusal::Small(count.n as u16)));
+    }
+    let genus = count.genus();
+    if 0 < genus {
+        return Err(Unserved::Refused(Refusal::Genus(genus)));
+    }
+    Ok(counted)
+}
