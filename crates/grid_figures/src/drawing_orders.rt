@@ -5,7 +5,7 @@ ghost use Rattle.grid_figures.specs.DrawingOrdersLaws.{CompletionDraws, SomeComp
 
 mod order;
 
-pub use order::{DrawingOrder, drawing_order};
+pub use order::{DrawingOrder, drawing_order, plane_order};
 
 /// A plane drawing of a completion of a map in a grid is a valid drawing of the map, with its outer face.
 pub fn completion_draws()

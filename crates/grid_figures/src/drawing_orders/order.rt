@@ -1,18 +1,16 @@
 //! A canonical order of the completion of a record's map, or why there is none.
 ghost use Rattle.std.specs.Prelude.{◌≡◌, ◌≤◌, ◌<◌, ℕ, length, Some, None, IfOk, IfErr, IfSome, IfNone, OnOk};
-ghost use Rattle.map_theory.specs.Maps.{IsPlane, IsSimpleMap, vertex_count};
 ghost use Rattle.plane_laws.specs.Completed.{IsCompleted};
-ghost use Rattle.conn_parts.specs.Parts.{ArePartsOf};
+ghost use Rattle.conn_parts.specs.Counted.{IsPlaneMap};
 ghost use Rattle.grid_figures.specs.DrawingOrdersBases.{LeadsToLeast};
 ghost use Rattle.grid_figures.specs.Orders.{IsDrawingOrder};
 ghost use Rattle.refusals.specs.Conditions.{first_refusal, IfRefused};
 
 use augment_tri::triangulate_parts;
 use canon_order::{Order, list_order};
-use conn_parts::{Parts, list_components};
-use euler_faces::count_lists;
+use conn_parts::{CountedMap, plane_map};
 use half_edges::{DartId, HalfMap, Rotations, VertexId};
-use refusals::{Refusal, Unserved};
+use refusals::Unserved;
 use std::alloc::{AllocError, Global};
 
 /// A completed map with a canonical order of it.
@@ -52,16 +50,15 @@ fn base_dart(tri: &HalfMap, first: Option<DartId>) -> DartId
     }
 }
 
-// The completion of a map of genus zero with at least three vertices and these components, and an order of it.
-fn completed_order(alloc: Global, map: HalfMap, parts: &Parts) -> Result<DrawingOrder, AllocError>
-    requires plane { IsPlane map.lists }
-    requires some { 3 ≤ vertex_count map.lists }
-    requires parts { ArePartsOf map.lists parts.now }
-    ensures { IfOk result (IsDrawingOrder map.lists) }
+/// The completion of a map of genus zero with at least three vertices, and an order of it, as `drawing_order` has them. It
+/// fails only for want of memory.
+pub fn plane_order(alloc: Global, plane: CountedMap) -> Result<DrawingOrder, AllocError>
+    requires { IsPlaneMap 3 plane.map.lists plane }
+    ensures { IfOk result (IsDrawingOrder plane.map.lists) }
 {
-    map.facts();
-    let first = map.first_dart(VertexId(0));
-    let tri = match triangulate_parts(map, parts) {
+    plane.map.facts();
+    let first = plane.map.first_dart(VertexId(0));
+    let tri = match triangulate_parts(plane.map, &plane.parts) {
         Ok(tri) => tri,
         Err((_, e)) => return Err(e),
     };
@@ -70,20 +67,6 @@ fn completed_order(alloc: Global, map: HalfMap, parts: &Parts) -> Result<Drawing
     let lists = tri.rotations(alloc)?;
     let order = list_order(alloc, &tri, &lists, base)?;
     Ok(DrawingOrder { tri, lists, order })
-}
-
-// The same, of the map with these lists.
-fn plane_order(alloc: Global, lists: &Rotations) -> Result<DrawingOrder, AllocError>
-    requires simple { IsSimpleMap lists.now }
-    requires few { length lists.now < 4096 }
-    requires plane { IsPlane lists.now }
-    requires some { 3 ≤ vertex_count lists.now }
-    ensures { IfOk result (IsDrawingOrder lists.now) }
-{
-    let parts = list_components(alloc, lists)?;
-    let map = HalfMap::from_simple(alloc, lists)?;
-    let found = completed_order(alloc, map, &parts)?;
-    Ok(found)
 }
 
 /// The completion of the map of a record with these lists, which are from 1 to 4095, and a canonical order of
@@ -100,15 +83,7 @@ pub fn drawing_order(alloc: Global, lists: &Rotations) -> Result<DrawingOrder, U
     ensures served { OnOk result (first_refusal 3 lists.now ≡ None) }
     ensures refused { IfErr result (IfRefused (λ refusal. first_refusal 3 lists.now ≡ Some refusal)) }
 {
-    simple_maps::no_fault_is_simple();
-    let count = count_lists(alloc, lists)?;
-    if count.n < 3 {
-        return Err(Unserved::Refused(Refusal::Small(count.n as u16)));
-    }
-    let genus = count.genus();
-    if 0 < genus {
-        return Err(Unserved::Refused(Refusal::Genus(genus)));
-    }
-    let found = plane_order(alloc, lists)?;
+    let plane = plane_map(alloc, lists, 3)?;
+    let found = plane_order(alloc, plane)?;
     Ok(found)
 }

@@ -3,13 +3,15 @@ ghost use Rattle.std.specs.Prelude.{◌≡◌, ◌<◌, length, Some, None, IfOk
 ghost use Rattle.map_theory.specs.Maps.{Dart};
 ghost use Rattle.plane_laws.specs.Completed.{IsCompleted};
 ghost use Rattle.canon_order.specs.Orders.{IsCanonicalOrder, IsRankOf, vertices_of};
+ghost use Rattle.conn_parts.specs.Counted.{IsPlaneMap};
 ghost use Rattle.refusals.specs.Conditions.{first_refusal, IfRefused};
 ghost use Rattle.grid_figures.specs.Forms.{IsDrawnBy};
 ghost use Rattle.grid_figures.specs.SchnyderFiguresFigures.{schnyder_form, IsSchnyderFigure};
 
-use crate::drawing_orders::drawing_order;
+use crate::drawing_orders::plane_order;
 use crate::schnyder_grid::list_draw;
 use canon_order::Order;
+use conn_parts::{CountedMap, plane_map};
 use half_edges::Rotations;
 use pg_plane::GridFigure;
 use refusals::Unserved;
@@ -24,6 +26,19 @@ fn order_figure(alloc: Global, lists: &Rotations, order: &Order) -> Result<GridF
     ensures { IfOk result (IsDrawnBy schnyder_form lists.now (vertices_of order.now)) }
 {
     let figure = list_draw(alloc, lists, order)?;
+    Ok(figure)
+}
+
+/// The same figure as `schnyder_figure` has, of a map that is counted, has genus zero and at least three vertices. It fails
+/// only for want of memory.
+pub fn plane_figure(alloc: Global, plane: CountedMap) -> Result<GridFigure, AllocError>
+    requires { IsPlaneMap 3 plane.map.lists plane }
+    ensures { IfOk result (IsSchnyderFigure plane.map.lists) }
+{
+    crate::drawing_orders::completion_draws();
+    plane.map.facts();
+    let found = plane_order(alloc, plane)?;
+    let figure = order_figure(alloc, &found.lists, &found.order)?;
     Ok(figure)
 }
 
@@ -46,8 +61,7 @@ pub fn schnyder_figure(alloc: Global, lists: &Rotations) -> Result<GridFigure, U
     ensures served { OnOk result (first_refusal 3 lists.now ≡ None) }
     ensures refused { IfErr result (IfRefused (λ refusal. first_refusal 3 lists.now ≡ Some refusal)) }
 {
-    crate::drawing_orders::completion_draws();
-    let found = drawing_order(alloc, lists)?;
-    let figure = order_figure(alloc, &found.lists, &found.order)?;
+    let plane = plane_map(alloc, lists, 3)?;
+    let figure = plane_figure(alloc, plane)?;
     Ok(figure)
 }

@@ -1,4 +1,15 @@
+-- The lists of the map are those of the record.
+use Rattle.std.proofs.Common.{sym, subst}
+use Rattle.map_lists.specs.Lists.{Lists}
+use Rattle.conn_parts.specs.Counted.{IsPlaneMap}
+use Rattle.grid_figures.specs.Orders.{IsDrawingOrder}
 use Rattle.grid_figures.proofs.drawing_orders.order.drawing_order.Goals as goal
 
-pub plane_order-requires-clause-simple : goal.plane_order-requires-clause-simple
-plane_order-requires-clause-simple c = (c.no_fault_is_simple.ensures c.args.lists.now c.requires.some_list).0 c.in_ok-count.ensures.simple
+pub plane_order-requires : goal.plane_order-requires
+plane_order-requires c =
+    let plane = c.in_ok-plane.ensures.plane in
+    subst (λ (ls : Lists). IsPlaneMap 3 ls c.in_ok-plane.plane) (sym plane.counted.lists_are) plane
+
+pub returns-clause-order : goal.returns-clause-order
+returns-clause-order c =
+    subst (λ (ls : Lists). IsDrawingOrder ls c.in_ok-found.found) c.in_ok-plane.ensures.plane.counted.lists_are c.in_ok-found.ensures

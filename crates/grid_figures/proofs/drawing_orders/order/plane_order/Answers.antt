@@ -1,18 +1,25 @@
-use Rattle.std.proofs.Common.{sym, subst, ◌≤◌}
-use Rattle.map_lists.specs.Lists.{Lists}
-use Rattle.map_theory.specs.Maps.{IsPlane, vertex_count}
-use Rattle.conn_parts.specs.Parts.{ArePartsOf}
-use Rattle.grid_figures.specs.Orders.{IsDrawingOrder}
+use Rattle.std.proofs.Common.{refl}
+use Rattle.grid_figures.proofs.CompletionLemmas.{base_of_choice}
 use Rattle.grid_figures.proofs.drawing_orders.order.plane_order.Goals as goal
 
-pub completed_order-requires-clause-plane : goal.completed_order-requires-clause-plane
-completed_order-requires-clause-plane c = subst IsPlane (sym c.in_ok-map.ensures.lists) c.requires.plane
-
-pub completed_order-requires-clause-some : goal.completed_order-requires-clause-some
-completed_order-requires-clause-some c = subst (λ (ls : Lists). 3 ≤ vertex_count ls) (sym c.in_ok-map.ensures.lists) c.requires.some
-
-pub completed_order-requires-clause-parts : goal.completed_order-requires-clause-parts
-completed_order-requires-clause-parts c = subst (λ (ls : Lists). ArePartsOf ls c.in_ok-parts.parts) (sym c.in_ok-map.ensures.lists) c.in_ok-parts.ensures
+pub list_order-requires-clause-live : goal.list_order-requires-clause-live
+list_order-requires-clause-live c =
+    let base =
+    base_of_choice c.args.plane.map c.in-Ok.tri c.first_dart-first.result c.base_dart-base.result c.facts-2.ensures.is_dart c.first_dart-first.ensures.dart c.in-Ok.ensures.ids c.base_dart-base.ensures.given c.base_dart-base.ensures.least c.first_dart-first.ensures.not_isolated in
+    rw base.dart refl
 
 pub returns : goal.returns
-returns c = subst (λ (ls : Lists). IsDrawingOrder ls c.in_ok-found.found) c.in_ok-map.ensures.lists c.in_ok-found.ensures
+returns c =
+    let tri = c.in-Ok.tri in
+    let base =
+    base_of_choice c.args.plane.map tri c.first_dart-first.result c.base_dart-base.result c.facts-2.ensures.is_dart c.first_dart-first.ensures.dart c.in-Ok.ensures.ids c.base_dart-base.ensures.given c.base_dart-base.ensures.least c.first_dart-first.ensures.not_isolated in
+    record {
+      simple = c.facts.ensures.simple;
+      completed = c.in-Ok.ensures.completed;
+      listed = c.in_ok-lists.ensures;
+      extended = c.in-Ok.ensures.extended;
+      to = base.to;
+      base = base.base_to;
+      canonical = c.in_ok-order.ensures.order 0 base.to base.dart;
+      rank = c.in_ok-order.ensures.rank;
+    }

@@ -1,31 +1,15 @@
-use Rattle.std.proofs.Common.{length, sym, ap, subst, arith}
+-- The lists of the map are those of the record.
+use Rattle.std.proofs.Common.{sym, subst}
 use Rattle.map_lists.specs.Lists.{Lists}
-use Rattle.plane_laws.specs.Completed.{IsCompleted}
-use Rattle.canon_order.specs.Orders.{IsCanonicalOrder, vertices_of}
-use Rattle.grid_figures.specs.DrawingOrdersLaws.{IsCompletionFor}
-use Rattle.grid_figures.specs.Forms.{IsDrawnBy}
-use Rattle.grid_figures.specs.SchnyderFiguresFigures.{schnyder_form}
-use Rattle.grid_figures.proofs.FigureLemmas.{figure_of_drawing}
+use Rattle.conn_parts.specs.Counted.{IsPlaneMap}
+use Rattle.grid_figures.specs.SchnyderFiguresFigures.{IsSchnyderFigure}
 use Rattle.grid_figures.proofs.schnyder_figures.draw.schnyder_figure.Goals as goal
 
-pub order_figure-requires-clause-completed : goal.order_figure-requires-clause-completed
-order_figure-requires-clause-completed c = let h = c.in_ok-found.ensures.order in subst IsCompleted (sym h.listed) h.completed
-
-pub order_figure-requires-clause-few : goal.order_figure-requires-clause-few
-order_figure-requires-clause-few c =
-    let h = c.in_ok-found.ensures.order in
-    let same = h.extended.vertices in
-    omega (arith, ap length h.listed, c.requires.few_lists)
-
-pub order_figure-requires-clause-order : goal.order_figure-requires-clause-order
-order_figure-requires-clause-order c =
-    let h = c.in_ok-found.ensures.order in
-    ((0, h.to), subst (λ (ls : Lists). IsCanonicalOrder ls (0, h.to) (vertices_of c.in_ok-found.found.order)) (sym h.listed) h.canonical)
+pub plane_figure-requires : goal.plane_figure-requires
+plane_figure-requires c =
+    let plane = c.in_ok-plane.ensures.plane in
+    subst (λ (ls : Lists). IsPlaneMap 3 ls c.in_ok-plane.plane) (sym plane.counted.lists_are) plane
 
 pub returns-clause-figure : goal.returns-clause-figure
 returns-clause-figure c =
-    let h = c.in_ok-found.ensures.order in
-    let found = c.in_ok-found.found in
-    let drawn = subst (λ (ls : Lists). IsDrawnBy schnyder_form ls (vertices_of found.order) c.in_ok-figure.figure) h.listed c.in_ok-figure.ensures in
-    let for_base : IsCompletionFor c.args.lists.now found.tri.lists h.to = record { simple = h.simple; completed = h.completed; extended = h.extended; base = h.base } in
-    figure_of_drawing schnyder_form c.completion_draws.ensures c.args.lists.now found.tri.lists h.to for_base c.in_ok-figure.figure (drawn h.to h.base.dart h.canonical)
+    subst (λ (ls : Lists). IsSchnyderFigure ls c.in_ok-figure.figure) c.in_ok-plane.ensures.plane.counted.lists_are c.in_ok-figure.ensures
