@@ -6,6 +6,6 @@ mod OrderLaws
 mod RunEnds
 mod LastCycle
 pub mod Counters
-mod Marks
+pub mod Marks
 mod Contours
 mod Refused

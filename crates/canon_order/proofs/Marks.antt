@@ -1,22 +1,24 @@
--- Marks that are set and taken away, the counters of marked neighbours, and the stack.
-use Rattle.std.proofs.Common.{◌≡◌, ◌≢◌, ◌⊎◌, ◌↔◌, ℕ, ◌+◌, ◌-◌, ◌<◌, ◌≤◌, Bool, true, false, cond, eqb, List, [], ◌∷◌, ◌++◌, length, get_or, take, set, count_by, Contains, All, refl, sym, ap, ◌∙◌, subst, inl, inr, arith, eq-eqb, ne_eqb, length-set, get_or-set_same, get_or-set_other}
-use Rattle.std.proofs.lemmas.Bool.{cases_eq, cases_lt, true≢false, false≢true}
+-- Marks that are set and taken away, the counts of marked neighbours, and what a mark puts on the stack.
+use Rattle.std.proofs.Common.{◌≡◌, ◌≢◌, ◌⊎◌, ◌↔◌, ◌&&◌, ℕ, ◌+◌, ◌-◌, ◌<◌, ◌≤◌, Bool, true, false, not, cond, eqb, List, [], ◌∷◌, ◌++◌, length, get_or, take, set, count_by, Contains, All, refl, sym, ap, ap₂, ◌∙◌, subst, inl, inr, arith, ltb, lt-ltb, ltb-true, eq-eqb, ne_eqb, length-set, get_or-set_same, get_or-set_other}
+use Rattle.std.proofs.lemmas.Bool.{cases_eq, cases_lt, cases_Bool, true≢false, false≢true, and_parts, and_from, and_right, not-true}
 use Rattle.std.proofs.lemmas.List.{get_or_past, get_or_default, take_more, length-take-le, get_or-take}
 use Rattle.std.proofs.lemmas.List.Sums.{sum_by-cons, count_by-le-length}
-use Rattle.std.proofs.lemmas.List.Elements.{All-nil, Contains-append_left, Contains-append_right, Contains-append_cases, Contains-get_or}
+use Rattle.std.proofs.lemmas.List.Elements.{All-append, All-cons, All-nil, Contains-append_left, Contains-append_right, Contains-append_cases, Contains-get_or}
 use Rattle.map_lists.specs.Lists.{Lists}
 use Rattle.map_theory.specs.Maps.{IsSimpleMap, list_of}
-use Rattle.map_theory.proofs.EntryLemmas.{count_of, count_of-le-one, Contains-from_count_of, Contains-counted, Contains-here, Contains-there}
-use Rattle.half_edges.proofs.TableArena.{few_entries}
-use Rattle.plane_peeling.proofs.RestrictedMaps.{cases_Contains}
+use Rattle.map_theory.proofs.DartCounts.{length-le-below}
+use Rattle.map_theory.proofs.EntryLemmas.{count_of, count_of-le-one, Contains-from_count_of, Contains-counted, Contains-here}
+use Rattle.plane_peeling.specs.Restricted.{kept_but}
+use Rattle.plane_peeling.proofs.RestrictedMaps.{cases_Contains, restricted-old, restricted-new, kept_but-itself}
 use Rattle.plane_peeling.proofs.Rings.{each_of_one, each_of_three}
-use Rattle.canon_order.specs.Contours.{is_set, IsCounted, IsStacked}
+use Rattle.canon_order.specs.Marks.{is_set, kept_of, IsTally, IsUnmarked, IsNoted, IsTaken}
+use Rattle.canon_order.specs.Lefts.{IsCycleAfter}
 
 -- a test that passes at one number more counts that number too
-count_by-one_more : (p q : ℕ → Bool) (v : ℕ) → p v ≡ false → q v ≡ true → ((u : ℕ) → u ≢ v → q u ≡ p u) → (us : List ℕ) → count_by q us ≡ count_by p us + count_of v us
-count_by-one_more p q v fails passes same [] = refl
-count_by-one_more p q v fails passes same (x ∷ us) =
-    let rest = count_by-one_more p q v fails passes same us in
+count_by-more : (p q : ℕ → Bool) (v : ℕ) → p v ≡ false → q v ≡ true → ((u : ℕ) → u ≢ v → q u ≡ p u) → (us : List ℕ) → count_by q us ≡ count_by p us + count_of v us
+count_by-more p q v fails passes same [] = refl
+count_by-more p q v fails passes same (x ∷ us) =
+    let rest = count_by-more p q v fails passes same us in
     let sp = sum_by-cons (λ u. cond (p u) 1 0) x us in
     let sq = sum_by-cons (λ u. cond (q u) 1 0) x us in
     let sv = sum_by-cons (λ u. cond (eqb u v) 1 0) x us in
@@ -38,9 +40,21 @@ pub is_set-lt : (marks : List Bool) (v : ℕ) → is_set marks v ≡ true → v 
 is_set-lt marks v t =
     elim (cases_lt v (length marks)) [ inl l ↦ l | inr l ↦ absurd (false≢true (sym (get_or_past marks v false l) ∙ t)) ]
 
+-- no marks
+count_by-none : (p : ℕ → Bool) → ((u : ℕ) → p u ≡ false) → (us : List ℕ) → count_by p us ≡ 0
+count_by-none p none [] = refl
+count_by-none p none (x ∷ us) = omega (arith, count_by-none p none us, sum_by-cons (λ u. cond (p u) 1 0) x us, ap {B = ℕ} (λ b. cond b 1 0) (none x))
+
+pub IsTally-none : (lists : Lists) (marks : List Bool) (counts : List ℕ) → IsUnmarked lists marks counts → IsTally lists marks counts
+IsTally-none lists marks counts h = record {
+  marks_of_all = h.marks_of_all;
+  counts_of_all = h.counts_of_all;
+  counted = λ v l. h.zeros v l ∙ sym (count_by-none (is_set marks) h.none (list_of lists v));
+}
+
 module _ (lists : Lists) (simple : IsSimpleMap lists) where
   -- v stands in w's list as often as w in v's
-  pub counted_both : (v w : ℕ) → v < length lists → w < length lists → count_of v (list_of lists w) ≡ count_of w (list_of lists v)
+  counted_both : (v w : ℕ) → v < length lists → w < length lists → count_of v (list_of lists w) ≡ count_of w (list_of lists v)
   counted_both v w l m =
       let one = count_of-le-one v (list_of lists w) (simple.no_repeat w m) in
       let other = count_of-le-one w (list_of lists v) (simple.no_repeat v l) in
@@ -50,113 +64,138 @@ module _ (lists : Lists) (simple : IsSimpleMap lists) where
           | inr some ↦
               absurd (omega (arith, none, Contains-counted v (list_of lists w) (simple.both_ways v w (l, Contains-from_count_of w (list_of lists v) some)).1))
         ]
-        | inr some ↦
-            omega (arith, one, other, some, Contains-counted w (list_of lists v) (simple.both_ways w v (m, Contains-from_count_of v (list_of lists w) some)).1)
+        | inr some ↦ omega (arith, one, other, some, Contains-counted w (list_of lists v) (simple.both_ways w v (m, Contains-from_count_of v (list_of lists w) some)).1)
       ]
 
   -- the neighbours of a vertex are vertices
   pub list_within : (v : ℕ) → v < length lists → All (λ u. u < length lists) (list_of lists v)
   list_within v l = λ k d m. simple.in_range v (get_or (list_of lists v) k d) (l, Contains-get_or (list_of lists v) k d m)
 
-  -- no counter is too great for one more
-  pub counter_room : length lists < 4096 → (marked : List Bool) (counts stack : List ℕ) → IsCounted lists marked counts stack → (v : ℕ) → v < length lists → (w : ℕ) → get_or counts w 0 + count_of w (list_of lists v) < 65536
-  counter_room few marked counts stack h v l w =
-      let one = count_of-le-one w (list_of lists v) (simple.no_repeat v l) in
-      elim (cases_lt w (length lists)) [
-        | inl m ↦
-            let le = count_by-le-length (is_set marked) (list_of lists w) in
-            let short = few_entries lists w simple few m in
-            omega (arith, h.counted w m)
-        | inr past ↦ let n = h.counters in omega (arith, get_or_past counts w 0 (omega arith))
+  module _ (marks : List Bool) (counts : List ℕ) (v : ℕ) (l : v < length lists) (h : IsTally lists marks counts) where
+    -- no count is too great for one more
+    pub room : length lists < 4096 → (w : ℕ) → get_or counts w 0 + count_of w (list_of lists v) < 65536
+    room few w =
+        let one = count_of-le-one w (list_of lists v) (simple.no_repeat v l) in
+        elim (cases_lt w (length lists)) [
+          | inl m ↦
+              let le = count_by-le-length (is_set marks) (list_of lists w) in
+              let short = length-le-below (list_of lists w) (length lists) (λ u c. simple.in_range w u (m, c)) (simple.no_repeat w m) in
+              omega (arith, h.counted w m)
+          | inr past ↦ let n = h.counts_of_all in omega (arith, get_or_past counts w 0 (omega arith))
+        ]
+
+    -- each neighbour of a marked vertex counts it
+    pub some : is_set marks v ≡ true → (w : ℕ) → w < length counts → count_of w (list_of lists v) ≤ get_or counts w 0
+    some passes w k =
+        let c = h.counts_of_all in
+        let m = h.marks_of_all in
+        let k' : w < length lists = omega arith in
+        let count = count_by-more (is_set (set marks v false)) (is_set marks) v (is_set-here marks v false (omega arith)) passes (λ u ne. sym (is_set-other marks v u false ne)) (list_of lists w) in
+        omega (arith, count, counted_both v w l k', h.counted w k')
+
+    module _ (counts' : List ℕ) (n : length counts' ≡ length counts) where
+      -- one is marked
+      pub IsTally-marked : is_set marks v ≡ false → ((w : ℕ) → w < length counts → get_or counts' w 0 ≡ get_or counts w 0 + count_of w (list_of lists v)) → IsTally lists (set marks v true) counts'
+      IsTally-marked fails more =
+          let m = h.marks_of_all in
+          let c = h.counts_of_all in
+          record {
+            marks_of_all = length-set marks v true ∙ m;
+            counts_of_all = n ∙ c;
+            counted = λ w k.
+                let count = count_by-more (is_set marks) (is_set (set marks v true)) v fails (is_set-here marks v true (omega arith)) (λ u ne. is_set-other marks v u true ne) (list_of lists w) in
+                omega (arith, count, counted_both v w l k, more w (omega arith), h.counted w k);
+          }
+
+      -- one loses its mark
+      pub IsTally-unmarked : is_set marks v ≡ true → ((w : ℕ) → w < length counts → get_or counts' w 0 + count_of w (list_of lists v) ≡ get_or counts w 0) → IsTally lists (set marks v false) counts'
+      IsTally-unmarked passes less =
+          let m = h.marks_of_all in
+          let c = h.counts_of_all in
+          record {
+            marks_of_all = length-set marks v false ∙ m;
+            counts_of_all = n ∙ c;
+            counted = λ w k.
+                let count = count_by-more (is_set (set marks v false)) (is_set marks) v (is_set-here marks v false (omega arith)) passes (λ u ne. sym (is_set-other marks v u false ne)) (list_of lists w) in
+                omega (arith, count, counted_both v w l k, less w (omega arith), h.counted w k);
+          }
+
+      -- what is no neighbour keeps its count
+      not_counted : (u : ℕ) → ¬ Contains (list_of lists v) u → count_of u (list_of lists v) ≡ 0
+      not_counted u none = elim (cases_lt (count_of u (list_of lists v)) 1) [ inl z ↦ omega arith | inr some ↦ absurd (none (Contains-from_count_of u (list_of lists v) some)) ]
+
+      pub elsewhere-marked : ((w : ℕ) → w < length counts → get_or counts' w 0 ≡ get_or counts w 0 + count_of w (list_of lists v)) → (u : ℕ) → ¬ Contains (list_of lists v) u → get_or counts' u 0 ≡ get_or counts u 0
+      elsewhere-marked more u none = elim (cases_lt u (length counts)) [
+        | inl m ↦ omega (arith, more u m, not_counted u none)
+        | inr past ↦ get_or_past counts' u 0 (omega arith) ∙ sym (get_or_past counts u 0 past)
       ]
 
-  module _ (marked : List Bool) (counts stack : List ℕ) (v : ℕ) (l : v < length lists) (h : IsCounted lists marked counts stack) (counts' stack' : List ℕ) (n : length counts' ≡ length counts) (vertices : All (λ u. u < length lists) stack') where
-    -- one is marked
-    pub IsCounted-marked : is_set marked v ≡ false → ((w : ℕ) → w < length counts → get_or counts' w 0 ≡ get_or counts w 0 + count_of w (list_of lists v)) → IsCounted lists (set marked v true) counts' stack'
-    IsCounted-marked fails more =
-        let m = h.marks in
-        let c = h.counters in
-        record {
-          marks = length-set marked v true ∙ m;
-          counters = n ∙ c;
-          counted = λ w k.
-              let count = count_by-one_more (is_set marked) (is_set (set marked v true)) v fails (is_set-here marked v true (omega arith)) (λ u ne. is_set-other marked v u true ne) (list_of lists w) in
-              omega (arith, count, counted_both v w l k, more w (omega arith), h.counted w k);
-          vertices = vertices;
-        }
+      pub elsewhere-unmarked : ((w : ℕ) → w < length counts → get_or counts' w 0 + count_of w (list_of lists v) ≡ get_or counts w 0) → (u : ℕ) → ¬ Contains (list_of lists v) u → get_or counts' u 0 ≡ get_or counts u 0
+      elsewhere-unmarked less u none = elim (cases_lt u (length counts)) [
+        | inl m ↦ omega (arith, less u m, not_counted u none)
+        | inr past ↦ get_or_past counts' u 0 (omega arith) ∙ sym (get_or_past counts u 0 past)
+      ]
 
-    -- one loses its mark
-    pub IsCounted-unmarked : is_set marked v ≡ true → ((w : ℕ) → w < length counts → get_or counts' w 0 + count_of w (list_of lists v) ≡ get_or counts w 0) → IsCounted lists (set marked v false) counts' stack'
-    IsCounted-unmarked passes less =
-        let m = h.marks in
-        let c = h.counters in
-        record {
-          marks = length-set marked v false ∙ m;
-          counters = n ∙ c;
-          counted = λ w k.
-              let count = count_by-one_more (is_set (set marked v false)) (is_set marked) v (is_set-here marked v false (omega arith)) passes (λ u ne. sym (is_set-other marked v u false ne)) (list_of lists w) in
-              omega (arith, count, counted_both v w l k, less w (omega arith), h.counted w k);
-          vertices = vertices;
-        }
+-- one mark
+pub IsNoted-marked : (lists : Lists) (simple : IsSimpleMap lists) (marked : List Bool) (near stack : List ℕ) (v : ℕ) (marked' : List Bool) (near' stack' : List ℕ) → v < length lists → All (λ u. u < length lists) stack → marked' ≡ set marked v true → stack' ≡ stack ++ v ∷ [] ++ list_of lists v → IsTally lists marked' near' → ((u : ℕ) → ¬ Contains (list_of lists v) u → get_or near' u 0 ≡ get_or near u 0) → IsNoted lists marked near stack marked' near' stack'
+IsNoted-marked lists simple marked near stack v marked' near' stack' l vertices e e' tally elsewhere =
+    let us = list_of lists v in
+    let P : ℕ → Type 0 = λ u. u < length lists in
+    record {
+      tally = tally;
+      vertices = subst (All P) (sym e') (All-append P (stack ++ v ∷ []) us (All-append P stack (v ∷ []) vertices (All-cons P v [] l (All-nil P))) (list_within lists simple v l));
+      kept = λ u c. subst (λ (s : List ℕ). Contains s u) (sym e') (Contains-append_left (stack ++ v ∷ []) us u (Contains-append_left stack (v ∷ []) u c));
+      noted = λ u. elim (cases_Contains stack' u) [
+        | inl c ↦ inl c
+        | inr none ↦
+            let out : ¬ Contains (stack ++ v ∷ [] ++ us) u = λ c. none (subst (λ (s : List ℕ). Contains s u) (sym e') c) in
+            let ne : u ≢ v = λ q. out (Contains-append_left (stack ++ v ∷ []) us u (Contains-append_right stack (v ∷ []) u (subst (λ z. Contains (v ∷ []) z) (sym q) (Contains-here v [])))) in
+            inr ((λ on. sym (ap (λ m. is_set m u) e ∙ is_set-other marked v u true ne) ∙ on), elsewhere u (λ c. out (Contains-append_right (stack ++ v ∷ []) us u c)))
+      ];
+    }
 
-  -- each neighbour of a marked vertex counts it
-  pub counter_some : (marked : List Bool) (counts stack : List ℕ) → IsCounted lists marked counts stack → (v : ℕ) → v < length lists → is_set marked v ≡ true → (w : ℕ) → w < length counts → count_of w (list_of lists v) ≤ get_or counts w 0
-  counter_some marked counts stack h v l passes w k =
-      let c = h.counters in
-      let m = h.marks in
-      let k' : w < length lists = omega arith in
-      let count = count_by-one_more (is_set (set marked v false)) (is_set marked) v (is_set-here marked v false (omega arith)) passes (λ u ne. sym (is_set-other marked v u false ne)) (list_of lists w) in
-      omega (arith, count, counted_both v w l k', h.counted w k')
+-- one mark less
+pub IsNoted-unmarked : (lists : Lists) (simple : IsSimpleMap lists) (marked : List Bool) (near stack : List ℕ) (v : ℕ) (marked' : List Bool) (near' stack' : List ℕ) → v < length lists → length marked ≡ length lists → All (λ u. u < length lists) stack → marked' ≡ set marked v false → stack' ≡ stack ++ list_of lists v → IsTally lists marked' near' → ((u : ℕ) → ¬ Contains (list_of lists v) u → get_or near' u 0 ≡ get_or near u 0) → IsNoted lists marked near stack marked' near' stack'
+IsNoted-unmarked lists simple marked near stack v marked' near' stack' l m vertices e e' tally elsewhere =
+    let us = list_of lists v in
+    let P : ℕ → Type 0 = λ u. u < length lists in
+    record {
+      tally = tally;
+      vertices = subst (All P) (sym e') (All-append P stack us vertices (list_within lists simple v l));
+      kept = λ u c. subst (λ (s : List ℕ). Contains s u) (sym e') (Contains-append_left stack us u c);
+      noted = λ u. elim (cases_Contains stack' u) [
+        | inl c ↦ inl c
+        | inr none ↦
+            inr (
+              (λ on.
+                  let on' : is_set (set marked v false) u ≡ true = sym (ap (λ m. is_set m u) e) ∙ on in
+                  let ne : u ≢ v = λ z. true≢false (sym on' ∙ (ap (is_set (set marked v false)) z ∙ is_set-here marked v false (omega arith))) in
+                  sym (is_set-other marked v u false ne) ∙ on'),
+              elsewhere u (λ c. none (subst (λ (s : List ℕ). Contains s u) (sym e') (Contains-append_right stack us u c))),
+            )
+      ];
+    }
 
--- what looks free and is not on the stack looked free before
-IsStacked-kept : (t s : ℕ) (marked marked' : List Bool) (counts counts' stack stack' : List ℕ) → ((u : ℕ) → Contains stack u → Contains stack' u) → ((u : ℕ) → is_set marked' u ≡ true → ¬ Contains stack' u → (is_set marked u ≡ true) × (get_or counts' u 0 ≡ get_or counts u 0)) → IsStacked t s marked counts stack → IsStacked t s marked' counts' stack'
-IsStacked-kept t s marked marked' counts counts' stack stack' kept same h = λ u free.
-    elim (cases_Contains stack' u) [
-      | inl c ↦ c
-      | inr none ↦
-          let old = same u free.marked none in
-          kept u (h u record { marked = old.0; not_last = free.not_last; not_first = free.not_first; two = sym old.1 ∙ free.two })
-    ]
+-- one after another
+pub IsNoted-chained : (lists : Lists) (m0 : List Bool) (n0 s0 : List ℕ) (m1 : List Bool) (n1 s1 : List ℕ) (m2 : List Bool) (n2 s2 : List ℕ) → IsNoted lists m0 n0 s0 m1 n1 s1 → IsNoted lists m1 n1 s1 m2 n2 s2 → IsNoted lists m0 n0 s0 m2 n2 s2
+IsNoted-chained lists m0 n0 s0 m1 n1 s1 m2 n2 s2 one two = record {
+  tally = two.tally;
+  vertices = two.vertices;
+  kept = λ u c. two.kept u (one.kept u c);
+  noted = λ u. elim (two.noted u) [
+    | inl c ↦ inl c
+    | inr e ↦ elim (one.noted u) [ inl c ↦ inl (two.kept u c) | inr e' ↦ inr ((λ on. e'.0 (e.0 on)), e.1 ∙ e'.1) ]
+  ];
+}
 
-module _ (t s : ℕ) (marked : List Bool) (counts stack : List ℕ) (v : ℕ) (us counts' : List ℕ) (l : v < length marked) (same_length : length counts ≡ length marked) where
-  -- what is not in a list is not counted
-  not_counted : (u : ℕ) → ¬ Contains us u → count_of u us ≡ 0
-  not_counted u none =
-      elim (cases_lt (count_of u us) 1) [ inl z ↦ omega arith | inr some ↦ absurd (none (Contains-from_count_of u us some)) ]
-
-  pub IsStacked-marked : ((w : ℕ) → w < length counts → get_or counts' w 0 ≡ get_or counts w 0 + count_of w us) → IsStacked t s marked counts stack → IsStacked t s (set marked v true) counts' (stack ++ v ∷ [] ++ us)
-  IsStacked-marked more h =
-      IsStacked-kept t s marked (set marked v true) counts counts' stack (stack ++ v ∷ [] ++ us)
-      (λ u c. Contains-append_left (stack ++ v ∷ []) us u (Contains-append_left stack (v ∷ []) u c))
-      (λ u passes none.
-      let ne : u ≢ v = λ e. none (Contains-append_left (stack ++ v ∷ []) us u (Contains-append_right stack (v ∷ []) u (subst (λ z. Contains (v ∷ []) z) (sym e) (Contains-here v [])))) in
-      let old : is_set marked u ≡ true = sym (is_set-other marked v u true ne) ∙ passes in
-      let within = is_set-lt marked u old in
-      let zero' = not_counted u (λ c. none (Contains-append_right (stack ++ v ∷ []) us u c)) in
-      (old, omega (arith, more u (omega arith)))) h
-
-  pub IsStacked-unmarked : ((w : ℕ) → w < length counts → get_or counts' w 0 + count_of w us ≡ get_or counts w 0) → IsStacked t s marked counts stack → IsStacked t s (set marked v false) counts' (stack ++ us)
-  IsStacked-unmarked less h =
-      IsStacked-kept t s marked (set marked v false) counts counts' stack (stack ++ us) (λ u c. Contains-append_left stack us u c)
-      (λ u passes none.
-      let ne : u ≢ v = λ e. true≢false (sym passes ∙ (ap (is_set (set marked v false)) e ∙ is_set-here marked v false l)) in
-      let old : is_set marked u ≡ true = sym (is_set-other marked v u false ne) ∙ passes in
-      let within = is_set-lt marked u old in
-      let zero' = not_counted u (λ c. none (Contains-append_right stack us u c)) in
-      (old, omega (arith, less u (omega arith)))) h
-
--- one more of a list marked, if it is kept
-pub marks-more : (p0 p1 p2 kept : ℕ → Bool) (us : List ℕ) (i : ℕ) → i < length us → ((u : ℕ) → (p1 u ≡ true) ↔ ((p0 u ≡ true) ⊎ (Contains (take i us) u × (kept u ≡ true)))) → ((u : ℕ) → (p2 u ≡ true) ↔ ((p1 u ≡ true) ⊎ ((u ≡ get_or us i 0) × (kept u ≡ true)))) → (u : ℕ) → (p2 u ≡ true) ↔ ((p0 u ≡ true) ⊎ (Contains (take (i + 1) us) u × (kept u ≡ true)))
-marks-more p0 p1 p2 kept us i l one two u =
+-- one more of a list marked, if it passes
+pub marks-more : (p0 p1 p2 passes : ℕ → Type 0) (us : List ℕ) (i : ℕ) → i < length us → ((u : ℕ) → p1 u ↔ (p0 u ⊎ (Contains (take i us) u × passes u))) → ((u : ℕ) → p2 u ↔ (p1 u ⊎ ((u ≡ get_or us i 0) × passes u))) → (u : ℕ) → p2 u ↔ (p0 u ⊎ (Contains (take (i + 1) us) u × passes u))
+marks-more p0 p1 p2 passes us i l one two u =
     let more = take_more us i 0 l in
-    let x = get_or us i 0 in
-    let grown : Contains (take i us) u ⊎ (u ≡ x) → Contains (take (i + 1) us) u = λ c. subst (λ (vs : List ℕ). Contains vs u) (sym more) (elim c [
-      | inl c' ↦ Contains-append_left (take i us) (x ∷ []) u c'
-      | inr e ↦ Contains-append_right (take i us) (x ∷ []) u (subst (λ z. Contains (x ∷ []) z) (sym e) (Contains-here x []))
-    ]) in (
+    let x = get_or us i 0 in (
       (λ t. elim ((two u).0 t) [
-        | inl t' ↦ elim ((one u).0 t') [ inl t'' ↦ inl t'' | inr c ↦ inr (grown (inl c.0), c.1) ]
-        | inr e ↦ inr (grown (inr e.0), e.1)
+        | inl t' ↦ elim ((one u).0 t') [ inl t'' ↦ inl t'' | inr c ↦ inr (subst (λ (vs : List ℕ). Contains vs u) (sym more) (Contains-append_left (take i us) (x ∷ []) u c.0), c.1) ]
+        | inr e ↦ inr (subst (λ (vs : List ℕ). Contains vs u) (sym more) (Contains-append_right (take i us) (x ∷ []) u (subst (λ z. Contains (x ∷ []) z) (sym e.0) (Contains-here x []))), e.1)
       ]),
       λ h. (two u).1 (elim h [
         | inl t ↦ inl ((one u).1 (inl t))
@@ -167,9 +206,9 @@ marks-more p0 p1 p2 kept us i l one two u =
       ]),
     )
 
--- all but the last entry of a stack, where the last one does not look free
-pub Contains-before_last : (us : List ℕ) (last u : ℕ) → last ≡ get_or us (length us - 1) last → Contains us u → u ≢ last → Contains (take (length us - 1) us) u
-Contains-before_last us last u e c ne =
+-- all but the last entry of a stack
+pub Contains-but_last : (us : List ℕ) (last u : ℕ) → last ≡ get_or us (length us - 1) last → Contains us u → u ≢ last → Contains (take (length us - 1) us) u
+Contains-but_last us last u e c ne =
     let k = c.0 in
     elim (cases_eq k (length us - 1)) [
       | inl q ↦ absurd (ne (sym c.2 ∙ (get_or_default us k u last c.1 ∙ (ap (λ n. get_or us n last) q ∙ sym e))))
@@ -180,41 +219,75 @@ Contains-before_last us last u e c ne =
     ]
 
 -- three marked
-pub three_marked : (marked : List Bool) (t s w : ℕ) → ((u : ℕ) → is_set marked u ≡ false) → t < length marked → s < length marked → w < length marked → (u : ℕ) → (is_set (set (set (set marked t true) s true) w true) u ≡ true) ↔ Contains (s ∷ w ∷ t ∷ []) u
-three_marked marked t s w none lt ls lw u =
-    let one = set marked t true in
-    let two = set one s true in
-    let n1 = length-set marked t true in
-    let n2 = length-set one s true in
-    let at = λ (x : ℕ) (e : u ≡ x) (c : Contains (s ∷ w ∷ t ∷ []) x). subst (λ z. Contains (s ∷ w ∷ t ∷ []) z) (sym e) c in
-    let on_s = Contains-here s (w ∷ t ∷ []) in
-    let on_w = Contains-there s (w ∷ t ∷ []) w (Contains-here w (t ∷ [])) in
-    let on_t = Contains-there s (w ∷ t ∷ []) t (Contains-there w (t ∷ []) t (Contains-here t [])) in
-    elim (cases_eq u w) [
-      | inl e ↦ ((λ _. at w e on_w), λ _. ap (is_set (set two w true)) e ∙ is_set-here two w true (omega arith))
-      | inr nw ↦ elim (cases_eq u s) [
-        | inl e ↦ ((λ _. at s e on_s), λ _. is_set-other two w u true nw ∙ (ap (is_set two) e ∙ is_set-here one s true (omega arith)))
-        | inr ns ↦ elim (cases_eq u t) [
-          | inl e ↦ ((λ _. at t e on_t), λ _. is_set-other two w u true nw ∙ (is_set-other one s u true ns ∙ (ap (is_set one) e ∙ is_set-here marked t true lt)))
-          | inr nt ↦
-              let left = is_set-other two w u true nw ∙ (is_set-other one s u true ns ∙ (is_set-other marked t u true nt ∙ none u)) in (
+pub three_marked : (marked : List Bool) (s d t : ℕ) → ((u : ℕ) → is_set marked u ≡ false) → s < length marked → d < length marked → t < length marked → (u : ℕ) → (is_set (set (set (set marked s true) d true) t true) u ≡ true) ↔ Contains (s ∷ d ∷ t ∷ []) u
+three_marked marked s d t none ls ld lt u =
+    let one = set marked s true in
+    let two = set one d true in
+    let n1 = length-set marked s true in
+    let n2 = length-set one d true in
+    elim (cases_eq u t) [
+      | inl e ↦ ((λ _. subst (Contains (s ∷ d ∷ t ∷ [])) (sym e) (2, omega arith, refl)), λ _. ap (is_set (set two t true)) e ∙ is_set-here two t true (omega arith))
+      | inr nt ↦ elim (cases_eq u d) [
+        | inl e ↦ ((λ _. subst (Contains (s ∷ d ∷ t ∷ [])) (sym e) (1, omega arith, refl)), λ _. is_set-other two t u true nt ∙ (ap (is_set two) e ∙ is_set-here one d true (omega arith)))
+        | inr nd ↦ elim (cases_eq u s) [
+          | inl e ↦ ((λ _. subst (Contains (s ∷ d ∷ t ∷ [])) (sym e) (0, omega arith, refl)), λ _. is_set-other two t u true nt ∙ (is_set-other one d u true nd ∙ (ap (is_set one) e ∙ is_set-here marked s true ls)))
+          | inr ns ↦
+              let left = is_set-other two t u true nt ∙ (is_set-other one d u true nd ∙ (is_set-other marked s u true ns ∙ none u)) in (
                 (λ passes. absurd (false≢true (sym left ∙ passes))),
-                λ c. absurd (each_of_three (λ z. u ≢ z) s w t ns nw nt u c refl),
+                λ c. absurd (each_of_three (λ z. u ≢ z) s d t ns nd nt u c refl),
               )
         ]
       ]
     ]
 
--- no marks
-count_by-none : (p : ℕ → Bool) → ((u : ℕ) → p u ≡ false) → (us : List ℕ) → count_by p us ≡ 0
-count_by-none p none [] = refl
-count_by-none p none (x ∷ us) =
-    omega (arith, count_by-none p none us, sum_by-cons (λ u. cond (p u) 1 0) x us, ap {B = ℕ} (λ b. cond b 1 0) (none x))
+-- what is left
+pub kept_of-parts : (gone : List Bool) (u : ℕ) → kept_of gone u ≡ true → (u < length gone) × (is_set gone u ≡ false)
+kept_of-parts gone u e =
+    let parts = and_parts (ltb u (length gone)) (not (is_set gone u)) e in
+    (ltb-true u (length gone) parts.0, not-true (is_set gone u) parts.1)
 
-pub IsCounted-none : (lists : Lists) (marked : List Bool) (counts : List ℕ) → length marked ≡ length lists → length counts ≡ length lists → ((u : ℕ) → is_set marked u ≡ false) → ((v : ℕ) → v < length lists → get_or counts v 0 ≡ 0) → IsCounted lists marked counts []
-IsCounted-none lists marked counts m n none zeros = record {
-  marks = m;
-  counters = n;
-  counted = λ v l. zeros v l ∙ sym (count_by-none (is_set marked) none (list_of lists v));
-  vertices = All-nil (λ v. v < length lists);
-}
+pub kept_of-from : (gone : List Bool) (u : ℕ) → u < length gone → is_set gone u ≡ false → kept_of gone u ≡ true
+kept_of-from gone u l e = and_from (ltb u (length gone)) (not (is_set gone u)) (lt-ltb u (length gone) l) (ap not e)
+
+pub gone_of-false : (gone : List Bool) (u : ℕ) → u < length gone → kept_of gone u ≡ false → is_set gone u ≡ true
+gone_of-false gone u l e = elim (cases_Bool (is_set gone u)) [ inl t ↦ t | inr f ↦ absurd (true≢false (sym (kept_of-from gone u l f) ∙ e)) ]
+
+-- one vertex less
+pub kept_of-set : (gone : List Bool) (v : ℕ) → v < length gone → kept_but (kept_of gone) v ≡ kept_of (set gone v true)
+kept_of-set gone v l =
+    let same : (u : ℕ) → kept_but (kept_of gone) v u ≡ kept_of (set gone v true) u = λ u.
+    elim (cases_eq u v) [
+      | inl e ↦
+          ap (kept_but (kept_of gone) v) e ∙ (kept_but-itself (kept_of gone) v
+          ∙ sym (ap (kept_of (set gone v true)) e ∙ and_right (ltb v (length (set gone v true))) (not (is_set (set gone v true) v)) (ap not (is_set-here gone v true l))))
+      | inr ne ↦
+          ap (λ b. kept_of gone u && not b) (ne_eqb u v ne) ∙ (and_true (kept_of gone u)
+          ∙ sym (ap₂ (λ n b. ltb u n && not b) (length-set gone v true) (is_set-other gone v u true ne)))
+    ] in
+    λ i u. same u i
+  where
+    and_true : (x : Bool) → (x && true) ≡ x
+    and_true true = refl
+    and_true false = refl
+
+-- what is marked after a vertex is taken off
+pub marks_after : (C : Lists) (gone marked : List Bool) (v : ℕ) (gone' marked' : List Bool) (ws after : List ℕ) → IsSimpleMap C → v < length C → length gone ≡ length C → length marked ≡ length C → kept_of gone v ≡ true → IsCycleAfter C (kept_of gone) v ws after → ((u : ℕ) → (is_set marked u ≡ true) ↔ Contains ws u) → IsTaken C v marked gone marked' gone' → (u : ℕ) → (is_set marked' u ≡ true) ↔ Contains after u
+marks_after C gone marked v gone' marked' ws after simple l n m kept cycle marks taken u = (
+  (λ e. (cycle u).1 (elim ((taken.marks u).0 e) [
+    | inl old ↦
+        let ne : u ≢ v = λ q. true≢false (sym old ∙ (ap (is_set (set marked v false)) q ∙ is_set-here marked v false (omega arith))) in
+        inl ((marks u).0 (sym (is_set-other marked v u false ne) ∙ old), ne)
+    | inr c ↦
+        let left : is_set (set gone v true) u ≡ false = sym (ap (λ g. is_set g u) taken.gone_is) ∙ c.1 in
+        let ne : u ≢ v = λ q. true≢false (sym (ap (is_set (set gone v true)) q ∙ is_set-here gone v true (omega arith)) ∙ left) in
+        let in_u = simple.in_range v u (l, c.0) in
+        inr (restricted-new C (kept_of gone) v u (l, c.0) kept (kept_of-from gone u (omega arith) (sym (is_set-other gone v u true ne) ∙ left)))
+  ])),
+  λ c. (taken.marks u).1 (elim ((cycle u).0 c) [
+    | inl o ↦ inl (is_set-other marked v u false o.1 ∙ (marks u).1 o.0)
+    | inr d ↦
+        let old = restricted-old C (kept_of gone) v u d in
+        let ne = simple.no_loop v u old.0 in
+        inr (old.0.1, ap (λ g. is_set g u) taken.gone_is ∙ (is_set-other gone v u true ne ∙ (kept_of-parts gone u old.2).1))
+  ]),
+)

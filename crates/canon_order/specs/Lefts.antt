@@ -1,5 +1,5 @@
 -- What is left of a completed map while its vertices are taken off, and what is kept of it.
-use Rattle.std.specs.Prelude.{ℕ, ◌+◌, ◌<◌, ◌≡◌, Bool, true, List, ◌++◌, length}
+use Rattle.std.specs.Prelude.{ℕ, ◌+◌, ◌<◌, ◌≡◌, ◌≢◌, ◌⊎◌, ◌↔◌, Bool, true, List, ◌++◌, length, Contains}
 use Rattle.classes.specs.Classes.{count_below}
 use Rattle.map_lists.specs.Lists.{Lists}
 use Rattle.map_theory.specs.Maps.{HasDart}
@@ -7,6 +7,10 @@ use Rattle.plane_peeling.specs.Restricted.{restricted}
 use Rattle.plane_peeling.specs.NearTriangulations.{IsOuterDart}
 use Rattle.plane_peeling.specs.Peeled.{IsPeeled}
 use Rattle.canon_order.specs.Orders.{stands_in, IsBuiltUp, IsMade, IsCanonicalOrder}
+
+-- With v taken off, the vertices of the outer cycle are those that were on it, without v, and the neighbours of v that are left.
+abbrev pub IsCycleAfter : Lists → (ℕ → Bool) → ℕ → List ℕ → List ℕ → Type 0
+IsCycleAfter lists kept v ws after = (u : ℕ) → Contains after u ↔ ((Contains ws u × (u ≢ v)) ⊎ HasDart (restricted kept lists) v u)
 
 -- An order of the vertices that are left, built up to their outer cycle: the faces made are all but the outer one.
 pub record IsOrderOfLeft (lists : Lists) (s t : ℕ) (kept : ℕ → Bool) (ws us : List ℕ) (cycle : ℕ → List ℕ) : Type 0 where

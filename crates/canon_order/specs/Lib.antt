@@ -2,4 +2,5 @@
 pub mod Orders
 pub mod Laws
 pub mod Lefts
+pub mod Marks
 pub mod Contours

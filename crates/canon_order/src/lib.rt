@@ -5,11 +5,13 @@
 ghost use Rattle.canon_order.specs.Laws.{LastCycle, RunEnds, SomeOrder};
 
 mod contour;
+pub mod cycle_marks;
 mod fault;
 mod lists;
 mod order;
 
 pub use fault::OrderFault;
+pub use lists::push_three;
 pub use order::{Order, canon_order, list_order, turned_order};
 
 /// Each completed map has a canonical order for each base dart.

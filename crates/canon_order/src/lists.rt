@@ -1,5 +1,5 @@
 //! Counters of entries, and lists made of vectors.
-ghost use Rattle.std.specs.Prelude.{◌≡◌, ◌+◌, ◌<◌, ◌≤◌, ◌==◌, ℕ, map, reverse, length, slice_index, count_by, All, AllPairs, ◌≢◌, IfOk};
+ghost use Rattle.std.specs.Prelude.{◌≡◌, ◌+◌, ◌<◌, ◌≤◌, ◌==◌, ℕ, [], ◌∷◌, ◌++◌, map, reverse, length, slice_index, count_by, All, AllPairs, ◌≢◌, IfOk};
 ghost use Rattle.canon_order.specs.Orders.{IsRankOf};
 
 use half_edges::{Counts, VertexId, VertexList};
@@ -61,4 +61,19 @@ pub(crate) fn turned_ranks(alloc: Global, taken: &[u16]) -> Result<Counts, Alloc
     let mut ranks = vec![in alloc; 0; taken.len()]?;
     write_ranks(&mut ranks, taken);
     Ok(Counts::from_vec(ranks))
+}
+
+/// Appends three vertices.
+pub fn push_three(
+    taken: &mut Vec<u16>,
+    first: u16,
+    second: u16,
+    third: u16,
+) -> Result<(), AllocError>
+    ensures { IfOk result (λ _. taken.new.items ≡ taken.old.items ++ first ∷ second ∷ third ∷ []) }
+{
+    taken.push(first)?;
+    taken.push(second)?;
+    taken.push(third)?;
+    Ok(())
 }

@@ -3,12 +3,12 @@ ghost use Rattle.std.specs.Prelude.{◌≡◌, ◌≢◌, ◌<◌, ℕ, false, t
 ghost use Rattle.map_theory.specs.Maps.{HasDart, follows};
 ghost use Rattle.plane_laws.specs.Completed.{IsCompleted};
 ghost use Rattle.half_edges.specs.Map.{IsLive, dart_at};
-ghost use Rattle.canon_order.specs.Contours.{is_set};
+ghost use Rattle.canon_order.specs.Marks.{is_set, IsUnmarked};
 ghost use Rattle.canon_order.specs.Orders.{IsCanonicalOrder, IsRankOf, vertices_of};
 
 use crate::contour::{free_vertex, mark_base, take_off};
 use crate::fault::OrderFault;
-use crate::lists::{turned_ranks, turned_vertices};
+use crate::lists::{push_three, turned_ranks, turned_vertices};
 use half_edges::{Counts, DartId, HalfMap, Rotations, VertexList};
 use std::alloc::{AllocError, Global};
 
@@ -21,22 +21,12 @@ pub struct Order {
     pub rank: Counts,
 }
 
-// Appends three vertices.
-fn push_three(taken: &mut Vec<u16>, first: u16, second: u16, third: u16) -> Result<(), AllocError>
-    ensures { IfOk result (λ _. taken.new.items ≡ taken.old.items ++ first ∷ second ∷ third ∷ []) }
-{
-    taken.push(first)?;
-    taken.push(second)?;
-    taken.push(third)?;
-    Ok(())
-}
-
 // Takes vertices off until three are left, and those too: from the last one of an order to the first. At
 // first all vertices are left, and none is marked.
 fn peel(
     marked: &mut [bool],
-    kept: &mut [bool],
-    counts: &mut [u16],
+    near: &mut [u16],
+    gone: &mut [bool],
     stack: &mut Vec<u16>,
     taken: &mut Vec<u16>,
     lists: &Rotations,
@@ -50,20 +40,17 @@ fn peel(
     requires base { HasDart lists.now t s }
     requires third { third ≡ follows lists.now s t }
     requires under { under ≡ follows lists.now t s }
-    requires kept { length kept.old ≡ length lists.now }
-    requires all { (u : ℕ) → u < length lists.now → is_set kept.old u ≡ true }
-    requires marked { length marked.old ≡ length lists.now }
-    requires none { (u : ℕ) → is_set marked.old u ≡ false }
-    requires counts { length counts.old ≡ length lists.now }
-    requires zeros { (u : ℕ) → u < length lists.now → slice_index counts.old u ≡ 0 }
+    requires unmarked { IsUnmarked lists.now marked.old near.old }
+    requires gone { length gone.old ≡ length lists.now }
+    requires all_left { (u : ℕ) → is_set gone.old u ≡ false }
     requires empty { stack.old.items ≡ [] }
     requires nothing { taken.old.items ≡ [] }
     ensures { IfOk result (λ _. IsCanonicalOrder lists.now (t, s) (reverse taken.new.items)) }
 {
-    mark_base(marked, counts, stack, lists, t, s, third)?;
+    mark_base(marked, near, stack, lists, t, s, third)?;
     for _ in 3..lists.len() {
-        let v = free_vertex(marked, counts, stack, lists, t, s);
-        take_off(marked, kept, counts, stack, lists, v)?;
+        let v = free_vertex(marked, near, stack, lists, t, s);
+        take_off(marked, near, gone, stack, lists, v)?;
         taken.push(v)?;
     }
     push_three(taken, under, t, s)
@@ -87,14 +74,14 @@ fn taken_off(
 {
     let n = lists.len();
     let mut marked = vec![in alloc; false; n]?;
-    let mut kept = vec![in alloc; true; n]?;
-    let mut counts = vec![in alloc; 0; n]?;
+    let mut near = vec![in alloc; 0; n]?;
+    let mut gone = vec![in alloc; false; n]?;
     let mut stack = Vec::with_capacity(alloc, lists.total())?;
     let mut taken = Vec::with_capacity(alloc, n)?;
     peel(
         &mut marked,
-        &mut kept,
-        &mut counts,
+        &mut near,
+        &mut gone,
         &mut stack,
         &mut taken,
         lists,

@@ -24,41 +24,22 @@ vertex_at-vertices_of f n i l =
     ap (λ (v : VertexId). v.0) (get_or-map {Y = VertexId} (λ i. record { 0 = f i }) (range_with_len 0 n) i 0 (record { 0 = 0 }) (omega arith))
     ∙ ap f (get_or-range_with_len 0 n i 0 l ∙ omega arith)
 
-module _ (graph : EdgeGraph) (kind : Kind) (branch size : ℕ → ℕ) (way : ℕ → ℕ → ℕ) (t : IsTraced graph kind branch size way) where
-  abbrev branches : List VertexId
-  branches = vertices_of branch (branch_count kind)
+-- each path joins two of the branches
+pub pairs_within : (kind : Kind) (p : ℕ) → p < path_count kind → ((pair_at kind p).0 < branch_count kind) × ((pair_at kind p).1 < branch_count kind)
+pairs_within K5 =
+    each_of_ten (λ p. ((pair_at K5 p).0 < 5) × ((pair_at K5 p).1 < 5)) (omega arith, omega arith) (omega arith, omega arith) (omega arith, omega arith) (omega arith, omega arith) (omega arith, omega arith)
+    (omega arith, omega arith) (omega arith, omega arith) (omega arith, omega arith) (omega arith, omega arith) (omega arith, omega arith)
+pairs_within K33 =
+    each_of_nine (λ p. ((pair_at K33 p).0 < 6) × ((pair_at K33 p).1 < 6)) (omega arith, omega arith) (omega arith, omega arith) (omega arith, omega arith) (omega arith, omega arith) (omega arith, omega arith)
+    (omega arith, omega arith) (omega arith, omega arith) (omega arith, omega arith) (omega arith, omega arith)
 
-  abbrev path : ℕ → List VertexId
-  path p = vertices_of (way p) (suc (size p))
-
-  abbrev paths : List (List VertexId)
-  paths = map path (range_with_len 0 (path_count kind))
-
-  size_paths : length paths ≡ path_count kind
-  size_paths = length-map {B = List VertexId} (range_with_len 0 (path_count kind)) path ∙ length-range_with_len 0 (path_count kind)
-
-  path_is : (p : ℕ) → p < path_count kind → path_at paths p ≡ path p
-  path_is p l =
-      let r = length-range_with_len 0 (path_count kind) in
-      get_or-map {Y = List VertexId} path (range_with_len 0 (path_count kind)) p 0 [] (omega arith) ∙ ap path (get_or-range_with_len 0 (path_count kind) p 0 l ∙ omega arith)
-
-  size_path : (p : ℕ) → p < path_count kind → length (path_at paths p) ≡ suc (size p)
-  size_path p l = ap (λ (q : List VertexId). length q) (path_is p l) ∙ length-vertices_of (way p) (suc (size p))
-
-  vertex_is : (p i : ℕ) → p < path_count kind → i ≤ size p → vertex_at (path_at paths p) i ≡ way p i
-  vertex_is p i l m = ap (λ q. vertex_at q i) (path_is p l) ∙ vertex_at-vertices_of (way p) (suc (size p)) i (omega arith)
-
-  branch_is : (j : ℕ) → j < branch_count kind → vertex_at branches j ≡ branch j
-  branch_is j l = vertex_at-vertices_of branch (branch_count kind) j l
-
-  size_branches : length branches ≡ branch_count kind
-  size_branches = length-vertices_of branch (branch_count kind)
-
+-- lists that agree with the functions of a traced witness are a witness
+module _ (graph : EdgeGraph) (kind : Kind) (branch size : ℕ → ℕ) (way : ℕ → ℕ → ℕ) (t : IsTraced graph kind branch size way) (branches : List VertexId) (paths : List (List VertexId)) (size_branches : length branches ≡ branch_count kind) (branch_is : (j : ℕ) → j < branch_count kind → vertex_at branches j ≡ branch j) (size_paths : length paths ≡ path_count kind) (size_path : (p : ℕ) → p < path_count kind → length (path_at paths p) ≡ suc (size p)) (vertex_is : (p i : ℕ) → p < path_count kind → i ≤ size p → vertex_at (path_at paths p) i ≡ way p i) where
   inner_is : (p i : ℕ) → p < path_count kind → IsInnerPlace (path_at paths p) i → i < size p
   inner_is p i l h = let s = size_path p l in let m = h.1 in omega arith
 
-  witness : ((p : ℕ) → p < path_count kind → ((pair_at kind p).0 < branch_count kind) × ((pair_at kind p).1 < branch_count kind)) → IsWitness graph kind branches paths
-  witness pairs = record {
+  pub witness_by : IsWitness graph kind branches paths
+  witness_by = record {
     shape = record {
       branches = size_branches;
       count = size_paths;
@@ -67,7 +48,7 @@ module _ (graph : EdgeGraph) (kind : Kind) (branch size : ℕ → ℕ) (way : �
           let in_p : p < path_count kind = omega arith in
           let s = size_path p in_p in
           let long = t.long p in_p in
-          let ends = pairs p in_p in
+          let ends = pairs_within kind p in_p in
           let last : length (path_at paths p) - 1 ≡ size p = omega arith in
           record {
             long = omega arith;
@@ -108,16 +89,40 @@ module _ (graph : EdgeGraph) (kind : Kind) (branch size : ℕ → ℕ) (way : �
         t.apart p q i j l in_q h.0 in_i h'.0 in_j (sym (vertex_is p i in_p (omega arith)) ∙ (e ∙ vertex_is q j in_q (omega arith)));
   }
 
--- each path joins two of the branches
-pub pairs_within : (kind : Kind) (p : ℕ) → p < path_count kind → ((pair_at kind p).0 < branch_count kind) × ((pair_at kind p).1 < branch_count kind)
-pairs_within K5 =
-    each_of_ten (λ p. ((pair_at K5 p).0 < 5) × ((pair_at K5 p).1 < 5)) (omega arith, omega arith) (omega arith, omega arith) (omega arith, omega arith) (omega arith, omega arith) (omega arith, omega arith)
-    (omega arith, omega arith) (omega arith, omega arith) (omega arith, omega arith) (omega arith, omega arith) (omega arith, omega arith)
-pairs_within K33 =
-    each_of_nine (λ p. ((pair_at K33 p).0 < 6) × ((pair_at K33 p).1 < 6)) (omega arith, omega arith) (omega arith, omega arith) (omega arith, omega arith) (omega arith, omega arith) (omega arith, omega arith)
-    (omega arith, omega arith) (omega arith, omega arith) (omega arith, omega arith) (omega arith, omega arith)
+module _ (graph : EdgeGraph) (kind : Kind) (branch size : ℕ → ℕ) (way : ℕ → ℕ → ℕ) (t : IsTraced graph kind branch size way) where
+  abbrev branches : List VertexId
+  branches = vertices_of branch (branch_count kind)
+
+  abbrev path : ℕ → List VertexId
+  path p = vertices_of (way p) (suc (size p))
+
+  abbrev paths : List (List VertexId)
+  paths = map path (range_with_len 0 (path_count kind))
+
+  size_paths : length paths ≡ path_count kind
+  size_paths = length-map {B = List VertexId} (range_with_len 0 (path_count kind)) path ∙ length-range_with_len 0 (path_count kind)
+
+  path_is : (p : ℕ) → p < path_count kind → path_at paths p ≡ path p
+  path_is p l =
+      let r = length-range_with_len 0 (path_count kind) in
+      get_or-map {Y = List VertexId} path (range_with_len 0 (path_count kind)) p 0 [] (omega arith) ∙ ap path (get_or-range_with_len 0 (path_count kind) p 0 l ∙ omega arith)
+
+  size_path : (p : ℕ) → p < path_count kind → length (path_at paths p) ≡ suc (size p)
+  size_path p l = ap (λ (q : List VertexId). length q) (path_is p l) ∙ length-vertices_of (way p) (suc (size p))
+
+  vertex_is : (p i : ℕ) → p < path_count kind → i ≤ size p → vertex_at (path_at paths p) i ≡ way p i
+  vertex_is p i l m = ap (λ q. vertex_at q i) (path_is p l) ∙ vertex_at-vertices_of (way p) (suc (size p)) i (omega arith)
+
+  branch_is : (j : ℕ) → j < branch_count kind → vertex_at branches j ≡ branch j
+  branch_is j l = vertex_at-vertices_of branch (branch_count kind) j l
+
+  size_branches : length branches ≡ branch_count kind
+  size_branches = length-vertices_of branch (branch_count kind)
+
+  witness : IsWitness graph kind branches paths
+  witness = witness_by graph kind branch size way t branches paths size_branches branch_is size_paths size_path vertex_is
 
 -- THE LAW: a witness from functions
 pub traced_witness : TracedWitness
 traced_witness graph kind branch size way t =
-    (kind, branches graph kind branch size way t, paths graph kind branch size way t, witness graph kind branch size way t (pairs_within kind))
+    (kind, branches graph kind branch size way t, paths graph kind branch size way t, witness graph kind branch size way t)

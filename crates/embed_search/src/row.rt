@@ -1,74 +1,49 @@
 //! Rows of numbers that are read and written at any place: of a place only the last bits count.
 //!
 //! A graph has at most 255 vertices, and of its edges at most 760 are looked at, so that all places are apart.
+ghost use Rattle.std.specs.Prelude.{◌<◌};
 
 /// What stands for no vertex, no dart and no edge: its cell is none that belongs to one.
 pub const NONE: u32 = 0xffff;
 
-/// Numbers by vertex.
+/// N numbers; of a place the rest by N counts.
 #[derive(Drop)]
-pub struct ByVertex {
-    cells: [u16; 256],
+pub struct Row<const N: usize> {
+    cells: [u16; N],
 }
+
+/// Numbers by vertex.
+pub type ByVertex = Row<256>;
 
 /// Numbers by edge.
-#[derive(Drop)]
-pub struct ByEdge {
-    cells: [u16; 1024],
-}
+pub type ByEdge = Row<1024>;
 
 /// Numbers by dart.
-#[derive(Drop)]
-pub struct ByDart {
-    cells: [u16; 2048],
-}
+pub type ByDart = Row<2048>;
 
-impl ByVertex {
+impl<const N: usize> Row<N> {
     /// Zeros.
     #[inline(always)]
-    pub fn new() -> ByVertex {
-        ByVertex { cells: [0u16; 256] }
+    pub fn new() -> Row<N>
+        requires { N < 4096 }
+    {
+        Row { cells: [0u16; N] }
     }
 
     /// The number at a place.
     #[inline(always)]
-    pub fn get(&self, place: u32) -> u32 {
-        u32::from(self.cells[(place & 255) as usize])
+    pub fn get(&self, place: u32) -> u32
+        requires { 0 < N }
+    {
+        u32::from(self.cells[place as usize % N])
     }
 
     /// Writes a number at a place.
     #[inline(always)]
-    pub fn set(&mut self, place: u32, number: u32) {
-        self.cells[(place & 255) as usize] = (number & 0xffff) as u16;
-    }
-
-    /// Writes one number everywhere.
-    pub fn fill(&mut self, number: u32) {
-        for cell in self.cells.iter_mut() {
-            *cell = (number & 0xffff) as u16;
-        }
-    }
-}
-
-impl ByEdge {
-    /// Zeros.
-    #[inline(always)]
-    pub fn new() -> ByEdge {
-        ByEdge {
-            cells: [0u16; 1024],
-        }
-    }
-
-    /// The number at a place.
-    #[inline(always)]
-    pub fn get(&self, place: u32) -> u32 {
-        u32::from(self.cells[(place & 1023) as usize])
-    }
-
-    /// Writes a number at a place.
-    #[inline(always)]
-    pub fn set(&mut self, place: u32, number: u32) {
-        self.cells[(place & 1023) as usize] = (number & 0xffff) as u16;
+    pub fn set(&mut self, place: u32, number: u32)
+        requires { 0 < N }
+    {
+        self.cells[place as usize % N] = (number & 0xffff) as u16;
     }
 
     /// Writes one number everywhere.
@@ -82,7 +57,7 @@ impl ByEdge {
 /// Numbers by edge, which each of its darts names.
 #[derive(Drop)]
 pub struct ByArc {
-    cells: [u16; 1024],
+    edges: ByEdge,
 }
 
 impl ByArc {
@@ -90,42 +65,20 @@ impl ByArc {
     #[inline(always)]
     pub fn new() -> ByArc {
         ByArc {
-            cells: [0u16; 1024],
+            edges: ByEdge::new(),
         }
     }
 
     /// The number at a dart's edge.
     #[inline(always)]
     pub fn get(&self, dart: u32) -> u32 {
-        u32::from(self.cells[((dart >> 1) & 1023) as usize])
+        self.edges.get(dart >> 1)
     }
 
     /// Writes a number at a dart's edge.
     #[inline(always)]
     pub fn set(&mut self, dart: u32, number: u32) {
-        self.cells[((dart >> 1) & 1023) as usize] = (number & 0xffff) as u16;
-    }
-}
-
-impl ByDart {
-    /// Zeros.
-    #[inline(always)]
-    pub fn new() -> ByDart {
-        ByDart {
-            cells: [0u16; 2048],
-        }
-    }
-
-    /// The number at a place.
-    #[inline(always)]
-    pub fn get(&self, place: u32) -> u32 {
-        u32::from(self.cells[(place & 2047) as usize])
-    }
-
-    /// Writes a number at a place.
-    #[inline(always)]
-    pub fn set(&mut self, place: u32, number: u32) {
-        self.cells[(place & 2047) as usize] = (number & 0xffff) as u16;
+        self.edges.set(dart >> 1, number);
     }
 }
 

@@ -6,13 +6,13 @@ use Rattle.std.proofs.Math.Nat.{div-add-mod, mod-lt}
 use Rattle.map_lists.specs.declared.ids.VertexId.{VertexId}
 use Rattle.graph6_text.specs.Graphs.{EdgeGraph, has_edge}
 use Rattle.graph6_text.proofs.EdgeLemmas.{has_edge-turned}
-use Rattle.kuratowski.specs.Witnesses.{branch_count, pair_at, vertex_at, path_at, IsInnerPlace, IsWitness}
+use Rattle.kuratowski.specs.Witnesses.{branch_count, vertex_at, path_at, IsWitness}
 use Rattle.kuratowski.specs.declared.witness.Kind.{Kind}
 use Rattle.kuratowski.specs.declared.witness.Kind.TheVariants.{K5, K33}
 use Rattle.kuratowski.specs.declared.witness.Witness.{Witness}
 use Rattle.embed_contraction.specs.Traces.{path_count, IsTraced}
 use Rattle.embed_contraction.proofs.Numbers.{each_of_five, each_of_six, each_of_nine}
-use Rattle.embed_contraction.proofs.Traces.{length-vertices_of, vertex_at-vertices_of, pairs_within}
+use Rattle.embed_contraction.proofs.Traces.{length-vertices_of, vertex_at-vertices_of, witness_by}
 use Rattle.embed_contraction.specs.Contracted.{IsEdgeOf}
 use Rattle.embed_contraction.proofs.Frames.{IsFrame, HasSteps, traced-frame, frame-witness, exchanged}
 use Rattle.embed_contraction.proofs.Inserted.{size', way', longer, inserted, steps-inserted}
@@ -29,55 +29,7 @@ use Rattle.embed_witnesses.specs.Changes.{step_count, named_branch, path_between
 
 -- ---- lists that agree with functions
 right-by : (graph : EdgeGraph) (old : Witness) (change : Change) (branch size : ℕ → ℕ) (way : ℕ → ℕ → ℕ) → ((j : ℕ) → j < branch_count (kind_in change old.kind) → branch_in change old.branch j ≡ branch j) → ((p : ℕ) → p < path_count (kind_in change old.kind) → count_in change old.paths p ≡ size p) → ((p i : ℕ) → p < path_count (kind_in change old.kind) → vertex_in change old.paths p i ≡ way p i) → IsTraced graph (kind_in change old.kind) branch size way → IsRight graph old change
-right-by graph old change branch size way eb es ew t = record {
-  shape = record {
-    branches = size_branches;
-    count = size_paths;
-    joined = λ p l.
-        let n = size_paths in
-        let in_p : p < path_count kind = omega arith in
-        let s = size_path p in_p in
-        let long = t.long p in_p in
-        let ends = pairs_within kind p in_p in
-        let last : length (path_at paths p) - 1 ≡ size p = omega arith in
-        record {
-          long = omega arith;
-          start = vertex_is p 0 in_p (omega arith) ∙ (t.start p in_p ∙ sym (branch_is (pair_at kind p).0 ends.0));
-          end = ap (vertex_at (path_at paths p)) last ∙ (vertex_is p (size p) in_p (omega arith) ∙ (t.end p in_p ∙ sym (branch_is (pair_at kind p).1 ends.1)));
-        };
-  };
-  vertices = λ j l. let n = size_branches in let m : j < branch_count kind = omega arith in subst (λ v. v < graph.n) (sym (branch_is j m)) (t.vertices j m);
-  distinct = λ i j l m e.
-      let n = size_branches in
-      let in_j : j < branch_count kind = omega arith in
-      t.distinct i j l in_j (sym (branch_is i (omega arith)) ∙ (e ∙ branch_is j in_j));
-  edges = λ p i l m.
-      let n = size_paths in
-      let in_p : p < path_count kind = omega arith in
-      let s = size_path p in_p in
-      ap₂ (has_edge graph) (vertex_is p i in_p (omega arith)) (vertex_is p (suc i) in_p (omega arith)) ∙ t.edges p i in_p (omega arith);
-  no_branch = λ p i j l h m e.
-      let n = size_paths in
-      let b = size_branches in
-      let in_p : p < path_count kind = omega arith in
-      let in_j : j < branch_count kind = omega arith in
-      let in_i = inner_is p i in_p h in
-      t.no_branch p i j in_p h.0 in_i in_j (sym (vertex_is p i in_p (omega arith)) ∙ (e ∙ branch_is j in_j));
-  once = λ p i j l h m e.
-      let n = size_paths in
-      let in_p : p < path_count kind = omega arith in
-      let s = size_path p in_p in
-      let in_i = inner_is p i in_p h in
-      let in_j : j ≤ size p = omega arith in
-      t.once p i j in_p h.0 in_i in_j (sym (vertex_is p i in_p (omega arith)) ∙ (e ∙ vertex_is p j in_p in_j));
-  apart = λ p q i j l m h h' e.
-      let n = size_paths in
-      let in_q : q < path_count kind = omega arith in
-      let in_p : p < path_count kind = omega arith in
-      let in_i = inner_is p i in_p h in
-      let in_j = inner_is q j in_q h' in
-      t.apart p q i j l in_q h.0 in_i h'.0 in_j (sym (vertex_is p i in_p (omega arith)) ∙ (e ∙ vertex_is q j in_q (omega arith)));
-}
+right-by graph old change branch size way eb es ew t = witness_by graph kind branch size way t branches paths size_branches branch_is size_paths size_path vertex_is
   where
     kind : Kind
     kind = kind_in change old.kind
@@ -107,9 +59,6 @@ right-by graph old change branch size way eb es ew t = record {
     vertex_is p i l m =
         let s = es p l in
         ap (λ q. vertex_at q i) (path_is p l) ∙ (vertex_at-vertices_of (vertex_in change old.paths p) (suc (count_in change old.paths p)) i (omega arith) ∙ ew p i l)
-
-    inner_is : (p i : ℕ) → p < path_count kind → IsInnerPlace (path_at paths p) i → i < size p
-    inner_is p i l h = let s = size_path p l in let m = h.1 in omega arith
 
 -- ---- numbers
 -- five digits

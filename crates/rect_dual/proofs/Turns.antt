@@ -11,8 +11,8 @@ use Rattle.contour_runs.proofs.Stages.{IsStage-run, IsRun-less, count-stage_afte
 use Rattle.rect_runs.specs.Labels.{labels}
 use Rattle.rect_runs.specs.Numbers.{turn_of, turns_at_run}
 use Rattle.rect_runs.proofs.Edges.{IsFirstRun, IsFirstRun-first_run, cases_edge}
-use Rattle.rect_orders.specs.Tallies.{is_set}
-use Rattle.rect_orders.proofs.Tallies.{is_set-here, is_set-other}
+use Rattle.canon_order.specs.Marks.{is_set}
+use Rattle.canon_order.proofs.Marks.{is_set-here, is_set-other}
 use Rattle.order_drawings.specs.Rows.{IsRow, AreRows}
 use Rattle.rect_dual.specs.Turns.{IsTurnIn, IsTurned}
 

@@ -3,7 +3,7 @@ use Rattle.std.specs.Prelude.{ℕ, suc, ◌+◌, ◌<◌, ◌≤◌, ◌≡◌, 
 use Rattle.contour_runs.specs.Runs.{Step, stage_after}
 use Rattle.rect_runs.specs.Labels.{labels}
 use Rattle.rect_runs.specs.Numbers.{turn_of, turns_at_run}
-use Rattle.rect_orders.specs.Tallies.{is_set}
+use Rattle.canon_order.specs.Marks.{is_set}
 
 -- c is the first place of a row whose vertex has a run behind it, or else the last but one
 pub record IsTurnIn (row : List ℕ) (runs : List Bool) (c : ℕ) : Type 0 where

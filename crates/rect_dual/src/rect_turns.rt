@@ -2,7 +2,7 @@
 
 ghost use Rattle.std.specs.Prelude.{◌≡◌, ◌<◌, ◌≤◌, ◌+◌, ℕ, false, [], length, slice_index, slice_set, true, All, IfOk};
 ghost use Rattle.contour_runs.specs.Runs.{Step};
-ghost use Rattle.rect_orders.specs.Tallies.{is_set};
+ghost use Rattle.canon_order.specs.Marks.{is_set};
 ghost use Rattle.order_drawings.specs.Rows.{AreRows};
 ghost use Rattle.rect_dual.specs.Turns.{IsTurnIn, AreTurns, IsTurned};
 

@@ -1,73 +1,22 @@
 -- The outer cycle as marks: how it begins, that some vertex is ready, one taken off, and how it ends.
-use Rattle.std.proofs.Common.{◌≡◌, ◌≢◌, ◌↔◌, ◌&&◌, ℕ, ◌+◌, ◌<◌, Bool, true, false, not, List, [], ◌∷◌, length, set, count_by, Contains, refl, sym, ap, ap₂, ◌∙◌, subst, inl, inr, arith, ltb, lt-ltb, ltb-true, length-set, ne_eqb}
-use Rattle.std.proofs.lemmas.Bool.{cases_eq, cases_Bool, true≢false, and_parts, and_from, and_right, not-true}
+use Rattle.std.proofs.Common.{◌≡◌, ◌≢◌, ◌↔◌, ℕ, ◌+◌, ◌<◌, Bool, true, false, not, List, [], ◌∷◌, length, count_by, Contains, sym, ap, ◌∙◌, subst, inr, arith, ltb, length-set}
+use Rattle.std.proofs.lemmas.Bool.{true≢false, and_right}
 use Rattle.map_lists.specs.Lists.{Lists}
 use Rattle.map_theory.specs.Maps.{HasDart, IsSimpleMap, list_of, follows, entry_after}
 use Rattle.plane_peeling.specs.Restricted.{restricted, kept_but}
 use Rattle.plane_peeling.specs.NearTriangulations.{IsFree}
-use Rattle.plane_peeling.proofs.RestrictedMaps.{restricted-old, restricted-new, kept_but-itself}
+use Rattle.plane_peeling.proofs.RestrictedMaps.{restricted-old}
 use Rattle.plane_peeling.proofs.FreeCounts.{free_by_count}
-use Rattle.rect_orders.specs.Tallies.{is_set}
-use Rattle.rect_orders.proofs.Tallies.{is_set-here, is_set-other}
+use Rattle.canon_order.specs.Marks.{is_set, kept_of, IsTaken}
+use Rattle.canon_order.specs.Lefts.{IsCycleAfter}
+use Rattle.canon_order.proofs.Marks.{is_set-other, kept_of-parts, kept_of-from, gone_of-false, kept_of-set, marks_after}
 use Rattle.rect_orders.specs.Maps.{IsRectMap, closed}
 use Rattle.rect_orders.specs.Orders.{IsRectOrder}
-use Rattle.rect_orders.specs.Lefts.{HasTwoGone, IsCycleAfter, IsRectLeft}
+use Rattle.rect_orders.specs.Lefts.{HasTwoGone, IsRectLeft}
 use Rattle.rect_orders.proofs.Closed.{more, put, length-closed, list_elsewhere, dart_ts, dart_dp, s_not_p, d_not_p, d_not_t}
 use Rattle.rect_orders.proofs.Lefts.{IsRectLeft-begin, some_two_gone, IsRectLeft-less, IsRectLeft-three}
-use Rattle.rect_orders.specs.Contours.{kept_of, IsReady, IsPrepared, IsTaken, IsClosedOf, IsContour}
+use Rattle.rect_orders.specs.Contours.{IsReady, IsPrepared, IsClosedOf, IsContour}
 use Rattle.rect_orders.proofs.Passing.{two_pass, two_counted}
-
--- what is left
-kept_of-parts : (gone : List Bool) (u : ℕ) → kept_of gone u ≡ true → (u < length gone) × (is_set gone u ≡ false)
-kept_of-parts gone u e =
-    let parts = and_parts (ltb u (length gone)) (not (is_set gone u)) e in
-    (ltb-true u (length gone) parts.0, not-true (is_set gone u) parts.1)
-
-kept_of-from : (gone : List Bool) (u : ℕ) → u < length gone → is_set gone u ≡ false → kept_of gone u ≡ true
-kept_of-from gone u l e = and_from (ltb u (length gone)) (not (is_set gone u)) (lt-ltb u (length gone) l) (ap not e)
-
-gone_of-false : (gone : List Bool) (u : ℕ) → u < length gone → kept_of gone u ≡ false → is_set gone u ≡ true
-gone_of-false gone u l e = elim (cases_Bool (is_set gone u)) [ inl t ↦ t | inr f ↦ absurd (true≢false (sym (kept_of-from gone u l f) ∙ e)) ]
-
--- one vertex less
-kept_of-set : (gone : List Bool) (v : ℕ) → v < length gone → kept_but (kept_of gone) v ≡ kept_of (set gone v true)
-kept_of-set gone v l =
-    let same : (u : ℕ) → kept_but (kept_of gone) v u ≡ kept_of (set gone v true) u = λ u.
-    elim (cases_eq u v) [
-      | inl e ↦
-          ap (kept_but (kept_of gone) v) e ∙ (kept_but-itself (kept_of gone) v
-          ∙ sym (ap (kept_of (set gone v true)) e ∙ and_right (ltb v (length (set gone v true))) (not (is_set (set gone v true) v)) (ap not (is_set-here gone v true l))))
-      | inr ne ↦
-          ap (λ b. kept_of gone u && not b) (ne_eqb u v ne) ∙ (and_true (kept_of gone u)
-          ∙ sym (ap₂ (λ n b. ltb u n && not b) (length-set gone v true) (is_set-other gone v u true ne)))
-    ] in
-    λ i u. same u i
-  where
-    and_true : (x : Bool) → (x && true) ≡ x
-    and_true true = refl
-    and_true false = refl
-
--- what is marked after a vertex is taken off
-marks_after : (C : Lists) (gone marked : List Bool) (v : ℕ) (gone' marked' : List Bool) (ws after : List ℕ) → IsSimpleMap C → v < length C → length gone ≡ length C → length marked ≡ length C → kept_of gone v ≡ true → IsCycleAfter C (kept_of gone) v ws after → ((u : ℕ) → (is_set marked u ≡ true) ↔ Contains ws u) → IsTaken C v marked gone marked' gone' → (u : ℕ) → (is_set marked' u ≡ true) ↔ Contains after u
-marks_after C gone marked v gone' marked' ws after simple l n m kept cycle marks taken u = (
-  (λ e. (cycle u).1 (elim ((taken.marks u).0 e) [
-    | inl old ↦
-        let ne : u ≢ v = λ q. true≢false (sym old ∙ (ap (is_set (set marked v false)) q ∙ is_set-here marked v false (omega arith))) in
-        inl ((marks u).0 (sym (is_set-other marked v u false ne) ∙ old), ne)
-    | inr c ↦
-        let left : is_set (set gone v true) u ≡ false = sym (ap (λ g. is_set g u) taken.gone_is) ∙ c.1 in
-        let ne : u ≢ v = λ q. true≢false (sym (ap (is_set (set gone v true)) q ∙ is_set-here gone v true (omega arith)) ∙ left) in
-        let in_u = simple.in_range v u (l, c.0) in
-        inr (restricted-new C (kept_of gone) v u (l, c.0) kept (kept_of-from gone u (omega arith) (sym (is_set-other gone v u true ne) ∙ left)))
-  ])),
-  λ c. (taken.marks u).1 (elim ((cycle u).0 c) [
-    | inl o ↦ inl (is_set-other marked v u false o.1 ∙ (marks u).1 o.0)
-    | inr d ↦
-        let old = restricted-old C (kept_of gone) v u d in
-        let ne = simple.no_loop v u old.0 in
-        inr (old.0.1, ap (λ g. is_set g u) taken.gone_is ∙ (is_set-other gone v u true ne ∙ (kept_of-parts gone u old.2).1))
-  ]),
-)
 
 module _ (map : Lists) (s d p t x : ℕ) (L : Lists) (h : IsClosedOf L map s d p t x) where
   abbrev C : Lists

@@ -19,11 +19,11 @@ use Rattle.plane_peeling.proofs.Ends.{three_left}
 use Rattle.plane_peeling.proofs.OpenAfter.{open_after}
 use Rattle.plane_peeling.proofs.Steps.{free_taken_off}
 use Rattle.plane_peeling.proofs.TwoGone.{some_free_of_two}
-use Rattle.canon_order.specs.Lefts.{IsLeft}
+use Rattle.canon_order.specs.Lefts.{IsCycleAfter, IsLeft}
 use Rattle.canon_order.proofs.Lefts.{IsLeft-begin, IsLeft-taken, IsLeft-three}
 use Rattle.rect_orders.specs.Maps.{IsRectMap, closed}
 use Rattle.rect_orders.specs.Orders.{HasTwoLater, IsRectOrder}
-use Rattle.rect_orders.specs.Lefts.{HasTwoGone, IsCycleAfter, IsRectLeft}
+use Rattle.rect_orders.specs.Lefts.{HasTwoGone, IsRectLeft}
 use Rattle.rect_orders.proofs.Closed.{completed, more, put, length-closed, opened, face_tsd, face_dpt, turn_p, dart_dp, d_not_p, d_not_t, p_not_t, s_not_p, s_not_d}
 use Rattle.rect_orders.proofs.SameCycles.{same_cycle, IsOpenOutside-same}
 use Rattle.rect_orders.proofs.Transfer.{same_restricted, IsPeeled-old, IsTakenOff-old}

@@ -1,5 +1,3 @@
--- Lemmas on marks and counts.
-pub mod Tallies
 -- Lemmas on rectangular orders.
 mod Cases
 pub mod Closed

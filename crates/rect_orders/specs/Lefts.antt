@@ -1,17 +1,12 @@
 -- What is left of a map while its vertices are taken off, the top first and the right one next.
-use Rattle.std.specs.Prelude.{ℕ, ◌+◌, ◌-◌, ◌<◌, ◌≤◌, ◌≡◌, ◌≢◌, ◌⊎◌, ◌↔◌, Bool, false, List, length, slice_index, Contains}
+use Rattle.std.specs.Prelude.{ℕ, ◌+◌, ◌-◌, ◌<◌, ◌≤◌, ◌≡◌, ◌≢◌, Bool, false, List, length, slice_index, Contains}
 use Rattle.map_lists.specs.Lists.{Lists}
 use Rattle.map_theory.specs.Maps.{HasDart}
-use Rattle.plane_peeling.specs.Restricted.{restricted}
 use Rattle.plane_peeling.specs.Peeled.{IsPeeled}
 use Rattle.plane_peeling.specs.TwoGone.{IsOpenOutside}
 use Rattle.canon_order.specs.Lefts.{IsLeft}
 use Rattle.rect_orders.specs.Maps.{closed}
 use Rattle.rect_orders.specs.Orders.{HasTwoLater}
-
--- With v taken off, the vertices of the outer cycle are those that were on it, without v, and the neighbours of v that are left.
-abbrev pub IsCycleAfter : Lists → (ℕ → Bool) → ℕ → List ℕ → List ℕ → Type 0
-IsCycleAfter lists kept v ws after = (u : ℕ) → Contains after u ↔ ((Contains ws u × (u ≢ v)) ⊎ HasDart (restricted kept lists) v u)
 
 -- two neighbours of v are taken off
 pub record HasTwoGone (lists : Lists) (kept : ℕ → Bool) (v : ℕ) : Type 0 where

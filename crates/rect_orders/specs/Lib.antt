@@ -1,5 +1,3 @@
--- Marks of vertices, and counts of marked neighbours.
-pub mod Tallies
 -- Orders that rectangular duals rest on.
 pub mod Maps
 pub mod Orders

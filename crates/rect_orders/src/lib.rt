@@ -2,7 +2,6 @@
 //! later neighbours. Each law is the contract of a function that does nothing.
 #![tactic(auto)]
 
-pub mod marked_counts;
 pub mod rect_corners;
 pub mod rect_duals;
 pub mod rect_labellings;

@@ -93,7 +93,7 @@ module _ (lists : Lists) (adjacency : IsAdjacency lists) (order number last pare
       let at_in : (i : ℕ) → i < n → get_or at i 0 < n = λ i l. (let v = (some i l).1 in omega (arith, is_at i l)) in
       let s_in = w.whole.s_in in
       let t_in = w.whole.t_in in
-      let froms = p.froms in
+      let froms = p.tables.froms in
       record {
         count = long;
         ranks = froms;
@@ -124,7 +124,7 @@ module _ (lists : Lists) (adjacency : IsAdjacency lists) (order number last pare
   ArePlaces-placed x y is_x is_y dart =
       let here : HasDart lists (get_or order 0 0) (get_or order 1 0) = rw (is_x, is_y) dart in
       record {
-        count = p.froms;
+        count = p.tables.froms;
         within = permuting.within;
         apart = permuting.apart;
         order_of = λ at long own. subst (λ z. IsStOrder lists z y at from) is_x (subst (λ z. IsStOrder lists s z at from) is_y (IsStOrder-placed here at long own));

@@ -3,7 +3,7 @@ use Rattle.std.proofs.Common.{◌≡◌, ◌≢◌, ◌⊎◌, ℕ, ◌+◌, ◌
 use Rattle.std.proofs.lemmas.Bool.{cases_eq, false≢true}
 use Rattle.map_lists.specs.Lists.{Lists}
 use Rattle.graph_search.proofs.ForestLemmas.{same_vertex}
-use Rattle.st_orders.specs.Placing.{IsWholeForest, IsPlacing, IsCarved, IsMarked, IsWholeSearch, IsPlacingIn}
+use Rattle.st_orders.specs.Placing.{IsWholeForest, IsPlacing, IsCarved, IsMarked, IsWholeSearch, AreTables, IsPlacingIn}
 use Rattle.st_orders.proofs.PlacingLemmas.{room_left, IsPlacing-more}
 
 pub IsMarked-set : (xs : List Bool) (i : ℕ) (b : Bool) → i < length xs → IsMarked (λ v. get_or xs v false) (λ v. get_or (set xs i b) v false) i b
@@ -47,13 +47,11 @@ module _ (lists : Lists) (order number last parent low : List ℕ) (w : IsWholeS
       let v_in = i.v_in in
       let p_in = i.p_in in
       let ends = i.ends in
-      let ls = h.sides in
-      let lr = h.recents in
+      let tables = h.tables in
+      let ls = tables.sides in
+      let lr = tables.recents in
       record {
-        froms = same_from ∙ h.froms;
-        tos = same_to ∙ h.tos;
-        sides = length-set side v b ∙ ls;
-        recents = length-set recent p b ∙ lr;
+        tables = record { froms = same_from ∙ tables.froms; tos = same_to ∙ tables.tos; sides = length-set side v b ∙ ls; recents = length-set recent p b ∙ lr };
         placing = IsPlacing-more lists _ _ _ _ _ _ _ w.whole _ _ _ _ k h.placing two few _ _ _ _ (get_or last v 0 - k) (omega arith) b refl carved (IsMarked-set side v b (omega arith)) (IsMarked-set recent p b (omega arith));
       }
 
@@ -131,8 +129,12 @@ module _ (lists : Lists) (order number last parent low : ℕ → ℕ) (s t : ℕ
       }
 
 -- the first two, in tables
-pub IsPlacingIn-two : (lists : Lists) (order number last parent low from to : List ℕ) (side recent : List Bool) → IsWholeSearch lists order number last parent low → 2 ≤ length lists → length from ≡ length lists → length to ≡ length lists → length side ≡ length lists → length recent ≡ length lists → IsPlacingIn lists order number last parent low (set (set from (get_or order 0 0) 0) (get_or order 1 0) 1) (set (set to (get_or order 0 0) 1) (get_or order 1 0) (length lists)) (set side (get_or order 1 0) false) (set recent (get_or order 0 0) false) 2
-IsPlacingIn-two lists order number last parent low from to side recent w some froms tos sides recents =
+pub IsPlacingIn-two : (lists : Lists) (order number last parent low from to : List ℕ) (side recent : List Bool) → IsWholeSearch lists order number last parent low → 2 ≤ length lists → AreTables lists from to side recent → IsPlacingIn lists order number last parent low (set (set from (get_or order 0 0) 0) (get_or order 1 0) 1) (set (set to (get_or order 0 0) 1) (get_or order 1 0) (length lists)) (set side (get_or order 1 0) false) (set recent (get_or order 0 0) false) 2
+IsPlacingIn-two lists order number last parent low from to side recent w some tables =
+    let froms = tables.froms in
+    let tos = tables.tos in
+    let sides = tables.sides in
+    let recents = tables.recents in
     let s = get_or order 0 0 in
     let t = get_or order 1 0 in
     let s_in = w.whole.s_in in
@@ -141,10 +143,12 @@ IsPlacingIn-two lists order number last parent low from to side recent w some fr
     let long_from = length-set from s 0 in
     let long_to = length-set to s 1 in
     record {
-      froms = length-set (set from s 0) t 1 ∙ (long_from ∙ froms);
-      tos = length-set (set to s 1) t (length lists) ∙ (long_to ∙ tos);
-      sides = length-set side t false ∙ sides;
-      recents = length-set recent s false ∙ recents;
+      tables = record {
+        froms = length-set (set from s 0) t 1 ∙ (long_from ∙ froms);
+        tos = length-set (set to s 1) t (length lists) ∙ (long_to ∙ tos);
+        sides = length-set side t false ∙ sides;
+        recents = length-set recent s false ∙ recents;
+      };
       placing = IsPlacing-two lists _ _ _ _ _ s t w.whole _ _ _ _
           (get_or-set_other (set from s 0) t s 1 0 ne ∙ get_or-set_same from s 0 0 (omega arith))
           (get_or-set_other (set to s 1) t s (length lists) 0 ne ∙ get_or-set_same to s 1 0 (omega arith))

@@ -59,12 +59,16 @@ pub record IsWholeSearch (lists : Lists) (order number last parent low : List �
   pub lows : length low ≡ length lists
   pub whole : IsWholeForest lists (λ k. slice_index order k) (λ v. slice_index number v) (λ v. slice_index last v) (λ v. slice_index parent v) (λ v. slice_index low v) (slice_index order 0) (slice_index order 1)
 
--- and the ranges in tables
-pub record IsPlacingIn (lists : Lists) (order number last parent low from to : List ℕ) (side recent : List Bool) (k : ℕ) : Type 0 where
+-- the ranges, and what goes with them, have an entry for each vertex
+pub record AreTables (lists : Lists) (from to : List ℕ) (side recent : List Bool) : Type 0 where
   pub froms : length from ≡ length lists
   pub tos : length to ≡ length lists
   pub sides : length side ≡ length lists
   pub recents : length recent ≡ length lists
+
+-- and the ranges in tables
+pub record IsPlacingIn (lists : Lists) (order number last parent low from to : List ℕ) (side recent : List Bool) (k : ℕ) : Type 0 where
+  pub tables : AreTables lists from to side recent
   pub placing : IsPlacing lists (λ i. slice_index order i) (λ v. slice_index number v) (λ v. slice_index last v) (λ v. slice_index parent v) (λ v. slice_index low v) (slice_index order 1) (λ v. slice_index from v) (λ v. slice_index to v) (λ v. slice_index_or side v false) (λ v. slice_index_or recent v false) k
 
 -- Different places below the number of vertices, which with the vertices at them are an st-order.

@@ -1,56 +1,56 @@
 //! The places of vertices in an st-order, by a search.
 ghost use Rattle.std.specs.Prelude.{◌≡◌, ◌+◌, ◌<◌, ◌≤◌, ◌≢◌, ℕ, true, false, length, slice_index, slice_index_or, slice_set};
-ghost use Rattle.st_orders.specs.Placing.{IsCarved, IsWholeSearch, IsPlacingIn};
+ghost use Rattle.st_orders.specs.Placing.{IsCarved, IsWholeSearch, AreTables, IsPlacingIn};
 
 use map_lists::Rotations;
 
-// v takes `size` places from below those of p.
-fn take_below(from: &mut [u16], to: &mut [u16], v: u16, p: u16, size: u16)
+// A vertex takes `size` places from below those of its parent.
+fn take_below(from: &mut [u16], to: &mut [u16], vertex: u16, parent: u16, size: u16)
     requires froms { length from.old ≡ length to.old }
-    requires v_in { v < length from.old }
-    requires p_in { p < length from.old }
-    requires other { p ≢ v }
-    requires room { slice_index from.old p + size < slice_index to.old p }
-    ensures { IsCarved (λ x. slice_index from.old x) (λ x. slice_index to.old x) (λ x. slice_index from.new x) (λ x. slice_index to.new x) v p size true }
+    requires vertex_in { vertex < length from.old }
+    requires parent_in { parent < length from.old }
+    requires other { parent ≢ vertex }
+    requires room { slice_index from.old parent + size < slice_index to.old parent }
+    ensures { IsCarved (λ x. slice_index from.old x) (λ x. slice_index to.old x) (λ x. slice_index from.new x) (λ x. slice_index to.new x) vertex parent size true }
 {
-    let start = from[p as usize];
-    from[p as usize] = start + size;
-    from[v as usize] = start;
-    to[v as usize] = start + size;
+    let start = from[parent as usize];
+    from[parent as usize] = start + size;
+    from[vertex as usize] = start;
+    to[vertex as usize] = start + size;
 }
 
-// v takes `size` places from above those of p.
-fn take_above(from: &mut [u16], to: &mut [u16], v: u16, p: u16, size: u16)
+// A vertex takes `size` places from above those of its parent.
+fn take_above(from: &mut [u16], to: &mut [u16], vertex: u16, parent: u16, size: u16)
     requires froms { length from.old ≡ length to.old }
-    requires v_in { v < length from.old }
-    requires p_in { p < length from.old }
-    requires other { p ≢ v }
-    requires room { slice_index from.old p + size < slice_index to.old p }
-    ensures { IsCarved (λ x. slice_index from.old x) (λ x. slice_index to.old x) (λ x. slice_index from.new x) (λ x. slice_index to.new x) v p size false }
+    requires vertex_in { vertex < length from.old }
+    requires parent_in { parent < length from.old }
+    requires other { parent ≢ vertex }
+    requires room { slice_index from.old parent + size < slice_index to.old parent }
+    ensures { IsCarved (λ x. slice_index from.old x) (λ x. slice_index to.old x) (λ x. slice_index from.new x) (λ x. slice_index to.new x) vertex parent size false }
 {
-    let end = to[p as usize];
-    to[p as usize] = end - size;
-    from[v as usize] = end - size;
-    to[v as usize] = end;
+    let end = to[parent as usize];
+    to[parent as usize] = end - size;
+    from[vertex as usize] = end - size;
+    to[vertex as usize] = end;
 }
 
-// v takes `size` places of those of p.
-fn take_places(from: &mut [u16], to: &mut [u16], v: u16, p: u16, size: u16, below: bool)
+// A vertex takes `size` places of those of its parent.
+fn take_places(from: &mut [u16], to: &mut [u16], vertex: u16, parent: u16, size: u16, below: bool)
     requires froms { length from.old ≡ length to.old }
-    requires v_in { v < length from.old }
-    requires p_in { p < length from.old }
-    requires other { p ≢ v }
-    requires room { slice_index from.old p + size < slice_index to.old p }
-    ensures { IsCarved (λ x. slice_index from.old x) (λ x. slice_index to.old x) (λ x. slice_index from.new x) (λ x. slice_index to.new x) v p size below }
+    requires vertex_in { vertex < length from.old }
+    requires parent_in { parent < length from.old }
+    requires other { parent ≢ vertex }
+    requires room { slice_index from.old parent + size < slice_index to.old parent }
+    ensures { IsCarved (λ x. slice_index from.old x) (λ x. slice_index to.old x) (λ x. slice_index from.new x) (λ x. slice_index to.new x) vertex parent size below }
 {
     if below {
-        take_below(from, to, v, p, size);
+        take_below(from, to, vertex, parent, size);
     } else {
-        take_above(from, to, v, p, size);
+        take_above(from, to, vertex, parent, size);
     }
 }
 
-// The vertex numbered k gets its places, on the other side of its parent than the vertex at its low point.
+// The vertex numbered `next` gets its places, on the other side of its parent than the vertex at its low point.
 fn place_next(
     lists: &Rotations,
     order: &[u16],
@@ -62,21 +62,21 @@ fn place_next(
     to: &mut [u16],
     side: &mut [bool],
     recent: &mut [bool],
-    k: u16,
+    next: u16,
 )
     requires whole { IsWholeSearch lists.now order.now number.now last.now parent.now low.now }
-    requires placing { IsPlacingIn lists.now order.now number.now last.now parent.now low.now from.old to.old side.old recent.old k }
-    requires two { 2 ≤ k }
-    requires few { k < length lists.now }
-    ensures { IsPlacingIn lists.now order.now number.now last.now parent.now low.now from.new to.new side.new recent.new (k + 1) }
+    requires placing { IsPlacingIn lists.now order.now number.now last.now parent.now low.now from.old to.old side.old recent.old next }
+    requires two { 2 ≤ next }
+    requires few { next < length lists.now }
+    ensures { IsPlacingIn lists.now order.now number.now last.now parent.now low.now from.new to.new side.new recent.new (next + 1) }
 {
-    let v = order[k as usize];
-    let p = parent[v as usize];
-    let far = order[low[v as usize] as usize];
+    let vertex = order[next as usize];
+    let above = parent[vertex as usize];
+    let far = order[low[vertex as usize] as usize];
     let below = !recent[far as usize];
-    take_places(from, to, v, p, last[v as usize] - k, below);
-    side[v as usize] = below;
-    recent[p as usize] = below;
+    take_places(from, to, vertex, above, last[vertex as usize] - next, below);
+    side[vertex as usize] = below;
+    recent[above as usize] = below;
 }
 
 // The first two vertices get their places, s the first and t all others.
@@ -95,10 +95,7 @@ fn place_two(
     requires few { length lists.now < 4096 }
     requires some { 2 ≤ length lists.now }
     requires whole { IsWholeSearch lists.now order.now number.now last.now parent.now low.now }
-    requires froms { length from.old ≡ length lists.now }
-    requires tos { length to.old ≡ length lists.now }
-    requires sides { length side.old ≡ length lists.now }
-    requires recents { length recent.old ≡ length lists.now }
+    requires tables { AreTables lists.now from.old to.old side.old recent.old }
     ensures { IsPlacingIn lists.now order.now number.now last.now parent.now low.now from.new to.new side.new recent.new 2 }
 {
     let s = order[0] as usize;
@@ -127,10 +124,7 @@ pub(crate) fn place_all(
     requires few { length lists.now < 4096 }
     requires some { 2 ≤ length lists.now }
     requires whole { IsWholeSearch lists.now order.now number.now last.now parent.now low.now }
-    requires froms { length from.old ≡ length lists.now }
-    requires tos { length to.old ≡ length lists.now }
-    requires sides { length side.old ≡ length lists.now }
-    requires recents { length recent.old ≡ length lists.now }
+    requires tables { AreTables lists.now from.old to.old side.old recent.old }
     ensures { IsPlacingIn lists.now order.now number.now last.now parent.now low.now from.new to.new side.new recent.new (length lists.now) }
 {
     place_two(

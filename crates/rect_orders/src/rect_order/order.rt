@@ -1,52 +1,18 @@
 //! Rectangular orders.
-ghost use Rattle.std.specs.Prelude.{◌≡◌, ◌<◌, ◌↔◌, ℕ, false, true, Contains, [], ◌∷◌, ◌++◌, length, slice_index, reverse, All, AllPairs, ◌≢◌, IfOk};
+ghost use Rattle.std.specs.Prelude.{◌≡◌, ◌<◌, ℕ, [], ◌∷◌, length, reverse, IfOk};
 ghost use Rattle.map_lists.specs.Lists.{Lists};
-ghost use Rattle.map_theory.specs.Maps.{IsSimpleMap};
 ghost use Rattle.canon_order.specs.Orders.{IsRankOf, vertices_of};
-ghost use Rattle.rect_orders.specs.Tallies.{is_set, IsTally};
-ghost use Rattle.rect_orders.specs.Maps.{IsRectMap, closed};
 ghost use Rattle.rect_orders.specs.Orders.{IsRectOrder};
-ghost use Rattle.rect_orders.specs.Contours.{IsClosedOf, IsContour, IsPrepared};
-ghost use Rattle.rect_orders.specs.Frames.{IsFrameOf};
+ghost use Rattle.rect_orders.specs.Contours.{IsFresh, IsPrepared, IsClosedOf, IsClosedAt, IsContourAt, IsOrderAt};
 
-use crate::marked_counts::mark;
 use crate::rect_order::closing::Frame;
 use crate::rect_order::contour::{ready_vertex, take_off};
-use canon_order::{Order, turned_order};
+use canon_order::cycle_marks::mark_three;
+use canon_order::{Order, push_three, turned_order};
 use half_edges::Rotations;
 use std::alloc::{AllocError, Global};
 
-// Appends three vertices.
-fn push_three(taken: &mut Vec<u16>, first: u16, second: u16, third: u16) -> Result<(), AllocError>
-    ensures { IfOk result (λ _. taken.new.items ≡ taken.old.items ++ first ∷ second ∷ third ∷ []) }
-{
-    taken.push(first)?;
-    taken.push(second)?;
-    taken.push(third)?;
-    Ok(())
-}
-
-// Marks the left vertex, the top and the bottom.
-fn mark_frame(marked: &mut [bool], near: &mut [u16], lists: &Rotations, s: u16, d: u16, t: u16)
-    requires simple { IsSimpleMap lists.now }
-    requires few { length lists.now < 4096 }
-    requires s_in { s < length lists.now }
-    requires d_in { d < length lists.now }
-    requires t_in { t < length lists.now }
-    requires s_d { s ≢ d }
-    requires s_t { s ≢ t }
-    requires d_t { d ≢ t }
-    requires tally { IsTally lists.now marked.old near.old }
-    requires none { (u : ℕ) → is_set marked.old u ≡ false }
-    ensures tally { IsTally lists.now marked.new near.new }
-    ensures marks { (u : ℕ) → (is_set marked.new u ≡ true) ↔ Contains (s ∷ d ∷ t ∷ []) u }
-{
-    mark(marked, near, lists, s);
-    mark(marked, near, lists, d);
-    mark(marked, near, lists, t);
-}
-
-// Takes the top off, and then the right vertex. At first all vertices are left, and none is marked.
+// Takes the top off, and then the right vertex.
 fn begin(
     marked: &mut [bool],
     near: &mut [u16],
@@ -54,29 +20,24 @@ fn begin(
     away: &mut [u16],
     stack: &mut Vec<u16>,
     lists: &Rotations,
-    s: u16,
-    d: u16,
-    p: u16,
-    t: u16,
-    inner: u16,
+    frame: Frame,
 ) -> Result<(), AllocError>
-    requires class { (map : Lists) × IsClosedOf lists.now map s d p t inner }
+    requires class { (map : Lists) × IsClosedAt lists.now map frame }
     requires few { length lists.now < 4096 }
-    requires marked { length marked.old ≡ length lists.now }
-    requires none { (u : ℕ) → is_set marked.old u ≡ false }
-    requires near { length near.old ≡ length lists.now }
-    requires near_zeros { (u : ℕ) → u < length lists.now → slice_index near.old u ≡ 0 }
-    requires gone { length gone.old ≡ length lists.now }
-    requires none_gone { (u : ℕ) → is_set gone.old u ≡ false }
-    requires away { length away.old ≡ length lists.now }
-    requires away_zeros { (u : ℕ) → u < length lists.now → slice_index away.old u ≡ 0 }
-    requires empty { stack.old.items ≡ [] }
-    ensures prepared { IfOk result (λ _. IsPrepared lists.now t s marked.new near.new gone.new away.new stack.new.items) }
-    ensures contour { IfOk result (λ _. (map : Lists) → IsClosedOf lists.now map s d p t inner → IsContour map s d p t gone.new marked.new (p ∷ d ∷ [])) }
+    requires fresh { IsFresh lists.now marked.old near.old gone.old away.old stack.old.items }
+    ensures prepared { IfOk result (λ _. IsPrepared lists.now frame.bottom.0 frame.left.0 marked.new near.new gone.new away.new stack.new.items) }
+    ensures contour { IfOk result (λ _. IsContourAt lists.now frame gone.new marked.new (frame.right.0 ∷ frame.top.0 ∷ [])) }
 {
-    mark_frame(marked, near, lists, s, d, t);
-    take_off(marked, near, gone, away, stack, lists, d)?;
-    take_off(marked, near, gone, away, stack, lists, p)
+    mark_three(
+        marked,
+        near,
+        lists,
+        frame.left.0,
+        frame.top.0,
+        frame.bottom.0,
+    );
+    take_off(marked, near, gone, away, stack, lists, frame.top.0)?;
+    take_off(marked, near, gone, away, stack, lists, frame.right.0)
 }
 
 // Takes vertices off until three are left, and those too: from the last one of an order to the first.
@@ -88,28 +49,33 @@ fn peel(
     stack: &mut Vec<u16>,
     taken: &mut Vec<u16>,
     lists: &Rotations,
-    s: u16,
-    d: u16,
-    p: u16,
-    t: u16,
-    inner: u16,
+    frame: Frame,
 ) -> Result<(), AllocError>
-    requires class { (map : Lists) × IsClosedOf lists.now map s d p t inner }
+    requires class { (map : Lists) × IsClosedAt lists.now map frame }
     requires few { length lists.now < 4096 }
-    requires prepared { IsPrepared lists.now t s marked.old near.old gone.old away.old stack.old.items }
-    requires contour { (map : Lists) → IsClosedOf lists.now map s d p t inner → IsContour map s d p t gone.old marked.old (p ∷ d ∷ []) }
-    requires begun { taken.old.items ≡ d ∷ p ∷ [] }
-    ensures { IfOk result (λ _. (map : Lists) → IsClosedOf lists.now map s d p t inner → IsRectOrder map s d p t (reverse taken.new.items)) }
+    requires prepared { IsPrepared lists.now frame.bottom.0 frame.left.0 marked.old near.old gone.old away.old stack.old.items }
+    requires contour { IsContourAt lists.now frame gone.old marked.old (frame.right.0 ∷ frame.top.0 ∷ []) }
+    requires begun { taken.old.items ≡ frame.top.0 ∷ frame.right.0 ∷ [] }
+    ensures { IfOk result (λ _. IsOrderAt lists.now frame (reverse taken.new.items)) }
 {
     for _ in 5..lists.len() {
-        let v = ready_vertex(marked, near, gone, away, stack, lists, t, s);
+        let v = ready_vertex(
+            marked,
+            near,
+            gone,
+            away,
+            stack,
+            lists,
+            frame.bottom.0,
+            frame.left.0,
+        );
         take_off(marked, near, gone, away, stack, lists, v)?;
         taken.push(v)?;
     }
-    push_three(taken, inner, t, s)
+    push_three(taken, frame.inner.0, frame.bottom.0, frame.left.0)
 }
 
-// Takes all vertices off, from the last one of an order to the first. At first all are left, and none is marked.
+// Takes all vertices off, from the last one of an order to the first.
 fn take_all(
     marked: &mut [bool],
     near: &mut [u16],
@@ -118,55 +84,33 @@ fn take_all(
     stack: &mut Vec<u16>,
     taken: &mut Vec<u16>,
     lists: &Rotations,
-    s: u16,
-    d: u16,
-    p: u16,
-    t: u16,
-    inner: u16,
+    frame: Frame,
 ) -> Result<(), AllocError>
-    requires class { (map : Lists) × IsClosedOf lists.now map s d p t inner }
+    requires class { (map : Lists) × IsClosedAt lists.now map frame }
     requires few { length lists.now < 4096 }
-    requires marked { length marked.old ≡ length lists.now }
-    requires none { (u : ℕ) → is_set marked.old u ≡ false }
-    requires near { length near.old ≡ length lists.now }
-    requires near_zeros { (u : ℕ) → u < length lists.now → slice_index near.old u ≡ 0 }
-    requires gone { length gone.old ≡ length lists.now }
-    requires none_gone { (u : ℕ) → is_set gone.old u ≡ false }
-    requires away { length away.old ≡ length lists.now }
-    requires away_zeros { (u : ℕ) → u < length lists.now → slice_index away.old u ≡ 0 }
-    requires empty { stack.old.items ≡ [] }
-    requires begun { taken.old.items ≡ d ∷ p ∷ [] }
-    ensures { IfOk result (λ _. (map : Lists) → IsClosedOf lists.now map s d p t inner → IsRectOrder map s d p t (reverse taken.new.items)) }
+    requires fresh { IsFresh lists.now marked.old near.old gone.old away.old stack.old.items }
+    requires begun { taken.old.items ≡ frame.top.0 ∷ frame.right.0 ∷ [] }
+    ensures { IfOk result (λ _. IsOrderAt lists.now frame (reverse taken.new.items)) }
 {
-    begin(marked, near, gone, away, stack, lists, s, d, p, t, inner)?;
-    peel(
-        marked, near, gone, away, stack, taken, lists, s, d, p, t, inner,
-    )
+    begin(marked, near, gone, away, stack, lists, frame)?;
+    peel(marked, near, gone, away, stack, taken, lists, frame)
 }
 
 // The first two that are taken off.
-fn first_taken(alloc: Global, d: u16, p: u16) -> Result<Vec<u16>, AllocError>
-    ensures { IfOk result (λ taken. taken.items ≡ d ∷ p ∷ []) }
+fn first_taken(alloc: Global, frame: Frame) -> Result<Vec<u16>, AllocError>
+    ensures { IfOk result (λ taken. taken.items ≡ frame.top.0 ∷ frame.right.0 ∷ []) }
 {
     let mut taken = Vec::new(alloc);
-    taken.push(d)?;
-    taken.push(p)?;
+    taken.push(frame.top.0)?;
+    taken.push(frame.right.0)?;
     Ok(taken)
 }
 
 // The vertices from the last one of an order to the first.
-fn taken_off(
-    alloc: Global,
-    lists: &Rotations,
-    s: u16,
-    d: u16,
-    p: u16,
-    t: u16,
-    inner: u16,
-) -> Result<Vec<u16>, AllocError>
-    requires class { (map : Lists) × IsClosedOf lists.now map s d p t inner }
+fn taken_off(alloc: Global, lists: &Rotations, frame: Frame) -> Result<Vec<u16>, AllocError>
+    requires class { (map : Lists) × IsClosedAt lists.now map frame }
     requires few { length lists.now < 4096 }
-    ensures { IfOk result (λ taken. (map : Lists) → IsClosedOf lists.now map s d p t inner → IsRectOrder map s d p t (reverse taken.items)) }
+    ensures { IfOk result (λ taken. IsOrderAt lists.now frame (reverse taken.items)) }
 {
     let n = lists.len();
     let mut marked = vec![in alloc; false; n]?;
@@ -174,7 +118,7 @@ fn taken_off(
     let mut gone = vec![in alloc; false; n]?;
     let mut away = vec![in alloc; 0; n]?;
     let mut stack = Vec::new(alloc);
-    let mut taken = first_taken(alloc, d, p)?;
+    let mut taken = first_taken(alloc, frame)?;
     take_all(
         &mut marked,
         &mut near,
@@ -183,11 +127,7 @@ fn taken_off(
         &mut stack,
         &mut taken,
         lists,
-        s,
-        d,
-        p,
-        t,
-        inner,
+        frame,
     )?;
     Ok(taken)
 }
@@ -208,15 +148,7 @@ pub fn rect_order(alloc: Global, more: &Rotations, frame: Frame) -> Result<Order
         → IsRectOrder map frame.left.0 frame.top.0 frame.right.0 frame.bottom.0 (vertices_of order)) }
     ensures rank { IfOk result (λ order. IsRankOf order.rank (vertices_of order)) }
 {
-    let taken = taken_off(
-        alloc,
-        more,
-        frame.left.0,
-        frame.top.0,
-        frame.right.0,
-        frame.bottom.0,
-        frame.inner.0,
-    )?;
+    let taken = taken_off(alloc, more, frame)?;
     let order = turned_order(alloc, &taken)?;
     Ok(order)
 }

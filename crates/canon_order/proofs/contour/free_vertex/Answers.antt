@@ -2,7 +2,7 @@ use Rattle.std.proofs.Common.{◌≡◌, ◌-◌, ◌<◌, ℕ, List, length, ta
 use Rattle.std.proofs.lemmas.Bool.{false≢true}
 use Rattle.std.proofs.lemmas.List.Elements.{All-take}
 use Rattle.canon_order.specs.Contours.{LooksFree}
-use Rattle.canon_order.proofs.Marks.{Contains-before_last}
+use Rattle.canon_order.proofs.Marks.{Contains-but_last}
 use Rattle.canon_order.proofs.contour.free_vertex.Goals as goal
 
 pub loop-stack-preserved : goal.loop-stack-preserved
@@ -13,14 +13,10 @@ loop-stack-preserved c =
     let rest : c.pop.new.self.items ≡ take (length us - 1) us = c.pop.ensures.rest ∙ ap (λ k. take (k - 1) us) n in
     let last = c.index-v.ensures ∙ ap (λ k. slice_index_or us (k - 1) c.index-v.result.now) (c.len-in-loop-stack.ensures ∙ n) in
     record {
-      counted = record {
-        marks = h.counted.marks;
-        counters = h.counted.counters;
-        counted = h.counted.counted;
-        vertices = subst (λ (vs : List ℕ). All (λ v. v < length c.args.lists.now) vs) (sym rest) (All-take (λ v. v < length c.args.lists.now) (length us - 1) us h.counted.vertices);
-      };
+      tally = h.tally;
+      vertices = subst (λ (vs : List ℕ). All (λ v. v < length c.args.lists.now) vs) (sym rest) (All-take (λ v. v < length c.args.lists.now) (length us - 1) us h.vertices);
       stacked = λ v free.
           subst (λ (vs : List ℕ). Contains vs v) (sym rest)
-          (Contains-before_last us c.index-v.result.now v last (h.stacked v free)
-          (λ e. false≢true (sym c.if-is_free.false ∙ c.is_free.ensures.1 (subst (λ z. LooksFree c.args.t c.args.s c.args.marked.now c.args.counts.now z) e free))));
+          (Contains-but_last us c.index-v.result.now v last (h.stacked v free)
+          (λ e. false≢true (sym c.if-is_free.false ∙ c.is_free.ensures.1 (subst (λ z. LooksFree c.args.t c.args.s c.args.marked.now c.args.near.now z) e free))));
     }

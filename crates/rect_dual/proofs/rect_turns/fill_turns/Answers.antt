@@ -1,6 +1,6 @@
 use Rattle.std.proofs.Common.{◌≡◌, ◌<◌, ◌+◌, ◌∷◌, ◌++◌, ℕ, suc, List, [], Bool, true, length, get_or, set, All, subst, sym, ap, ◌∙◌, arith}
 use Rattle.map_theory.specs.Maps.{list_of}
-use Rattle.rect_orders.specs.Tallies.{is_set}
+use Rattle.canon_order.specs.Marks.{is_set}
 use Rattle.rect_dual.specs.Turns.{IsTurnIn, AreTurns, IsTurned}
 use Rattle.rect_dual.proofs.Turns.{row_long, row_within, IsTurned-none, IsTurned-more}
 use Rattle.rect_dual.proofs.rect_turns.fill_turns.Goals as goal

@@ -1,5 +1,5 @@
 use Rattle.std.proofs.Common.{◌≡◌, ◌<◌, ℕ, false, slice_index}
-use Rattle.rect_orders.specs.Tallies.{is_set}
+use Rattle.canon_order.specs.Marks.{is_set}
 use Rattle.rect_dual.proofs.rect_turns.turn_place.Given as goal
 
 abbrev pub invariant-loop-i : goal.invariant-loop-i

@@ -2,7 +2,7 @@ use Rattle.std.proofs.Common.{◌≡◌, ◌-◌, ◌<◌, ℕ, List, length, ta
 use Rattle.std.proofs.lemmas.Bool.{false≢true}
 use Rattle.std.proofs.lemmas.List.Elements.{All-take}
 use Rattle.rect_orders.specs.Contours.{IsReady}
-use Rattle.rect_orders.proofs.Notes.{Contains-but_last}
+use Rattle.canon_order.proofs.Marks.{Contains-but_last}
 use Rattle.rect_orders.proofs.rect_order.contour.ready_vertex.Goals as goal
 
 pub loop-stack-preserved : goal.loop-stack-preserved

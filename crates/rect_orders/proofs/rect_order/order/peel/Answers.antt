@@ -1,27 +1,32 @@
 use Rattle.std.proofs.Common.{ℕ, List, [], ◌∷◌, length, reverse, subst, sym, ap, ◌∙◌, arith}
 use Rattle.std.proofs.lemmas.List.{reverse-append, length-append, length-reverse}
 use Rattle.std.proofs.lemmas.Result.{IfOk-weaker}
-use Rattle.map_lists.specs.Lists.{Lists}
 use Rattle.rect_orders.specs.Orders.{IsRectOrder}
-use Rattle.rect_orders.specs.Contours.{IsClosedOf, IsContour}
+use Rattle.rect_orders.specs.Contours.{IsContour, IsOrderAt}
 use Rattle.rect_orders.proofs.Contours.{simple_here, same_length, on_left, some_ready, IsContour-taken, IsContour-three}
 use Rattle.rect_orders.proofs.rect_order.order.peel.Goals as goal
 
 pub loop-init : goal.loop-init
-loop-init c = record {
-  prepared = c.requires.prepared;
-  contour = λ map k. subst (λ (us : List ℕ). IsContour map c.args.s c.args.d c.args.p c.args.t c.args.gone.now c.args.marked.now (reverse us)) (sym c.requires.begun) (c.requires.contour map k);
-  place = let two = ap length c.requires.begun in omega arith;
-}
+loop-init c =
+    let f = c.args.frame in
+    record {
+      prepared = c.requires.prepared;
+      contour = λ map k. subst (λ (us : List ℕ). IsContour map f.left.0 f.top.0 f.right.0 f.bottom.0 c.args.gone.now c.args.marked.now (reverse us)) (sym c.requires.begun) (c.requires.contour map k);
+      place = let two = ap length c.requires.begun in omega arith;
+    }
 
 pub ready_vertex-v-requires-clause-prepared : goal.ready_vertex-v-requires-clause-prepared
 ready_vertex-v-requires-clause-prepared c = c.loop.invariant.prepared
 
 pub ready_vertex-v-requires-clause-some : goal.ready_vertex-v-requires-clause-some
-ready_vertex-v-requires-clause-some c = some_ready c.requires.class.0 c.args.s c.args.d c.args.p c.args.t c.args.inner c.args.lists.now c.requires.class.1 c.loop.gone c.loop.marked (reverse c.loop.taken.items) (c.loop.invariant.contour c.requires.class.0 c.requires.class.1) c.loop.near c.loop.away c.loop.stack.items c.loop.invariant.prepared
+ready_vertex-v-requires-clause-some c =
+    let f = c.args.frame in
+    some_ready c.requires.class.0 f.left.0 f.top.0 f.right.0 f.bottom.0 f.inner.0 c.args.lists.now c.requires.class.1 c.loop.gone c.loop.marked (reverse c.loop.taken.items) (c.loop.invariant.contour c.requires.class.0 c.requires.class.1) c.loop.near c.loop.away c.loop.stack.items c.loop.invariant.prepared
 
 pub take_off-requires-clause-simple : goal.take_off-requires-clause-simple
-take_off-requires-clause-simple c = simple_here c.requires.class.0 c.args.s c.args.d c.args.p c.args.t c.args.inner c.args.lists.now c.requires.class.1
+take_off-requires-clause-simple c =
+    let f = c.args.frame in
+    simple_here c.requires.class.0 f.left.0 f.top.0 f.right.0 f.bottom.0 f.inner.0 c.args.lists.now c.requires.class.1
 
 pub take_off-requires-clause-near : goal.take_off-requires-clause-near
 take_off-requires-clause-near c = c.ready_vertex-v.ensures.prepared.tally
@@ -36,32 +41,36 @@ pub take_off-requires-clause-marked : goal.take_off-requires-clause-marked
 take_off-requires-clause-marked c = c.ready_vertex-v.ensures.ready.marked_is
 
 pub take_off-requires-clause-left : goal.take_off-requires-clause-left
-take_off-requires-clause-left c = (on_left c.requires.class.0 c.args.s c.args.d c.args.p c.args.t c.args.inner c.args.lists.now c.requires.class.1 c.loop.gone c.loop.marked (reverse c.loop.taken.items) (c.loop.invariant.contour c.requires.class.0 c.requires.class.1) c.ready_vertex-v.result c.ready_vertex-v.ensures.ready.marked_is).1
+take_off-requires-clause-left c =
+    let f = c.args.frame in
+    (on_left c.requires.class.0 f.left.0 f.top.0 f.right.0 f.bottom.0 f.inner.0 c.args.lists.now c.requires.class.1 c.loop.gone c.loop.marked (reverse c.loop.taken.items) (c.loop.invariant.contour c.requires.class.0 c.requires.class.1) c.ready_vertex-v.result c.ready_vertex-v.ensures.ready.marked_is).1
 
 pub loop-preserved : goal.loop-preserved
 loop-preserved c =
+    let f = c.args.frame in
     let h = c.loop.invariant in
     let us = c.loop.taken.items in
     let v = c.ready_vertex-v.result in
     let items = c.in_ok-push.ensures.items in
     let len = length-reverse us in
     record {
-      prepared = c.in_ok-take_off.ensures.prepared c.args.t c.args.s c.ready_vertex-v.ensures.prepared;
+      prepared = c.in_ok-take_off.ensures.prepared f.bottom.0 f.left.0 c.ready_vertex-v.ensures.prepared;
       contour = λ map k.
-          let taken = IsContour-taken map c.args.s c.args.d c.args.p c.args.t c.args.inner c.args.lists.now k c.loop.gone c.loop.marked (reverse us) (h.contour map k) c.loop.near c.loop.away c.ready_vertex-v.new.stack.items c.ready_vertex-v.ensures.prepared v c.ready_vertex-v.ensures.ready
+          let taken = IsContour-taken map f.left.0 f.top.0 f.right.0 f.bottom.0 f.inner.0 c.args.lists.now k c.loop.gone c.loop.marked (reverse us) (h.contour map k) c.loop.near c.loop.away c.ready_vertex-v.new.stack.items c.ready_vertex-v.ensures.prepared v c.ready_vertex-v.ensures.ready
           (omega (arith, c.len-end.ensures, c.loop-test.true, h.place)) c.take_off.new.marked c.take_off.new.gone c.in_ok-take_off.ensures.taken in
-          subst (λ (r : List ℕ). IsContour map c.args.s c.args.d c.args.p c.args.t c.take_off.new.gone c.take_off.new.marked r) (sym (ap reverse items ∙ reverse-append us (v ∷ []))) taken;
+          subst (λ (r : List ℕ). IsContour map f.left.0 f.top.0 f.right.0 f.bottom.0 c.take_off.new.gone c.take_off.new.marked r) (sym (ap reverse items ∙ reverse-append us (v ∷ []))) taken;
       place = let more = ap length items in let push = length-append us (v ∷ []) in let place = h.place in omega arith;
     }
 
 pub returns : goal.returns
 returns c =
+    let f = c.args.frame in
     let h = c.loop.invariant in
     let us = c.loop.taken.items in
     let len = length-reverse us in
-    let n = same_length c.requires.class.0 c.args.s c.args.d c.args.p c.args.t c.args.inner c.args.lists.now c.requires.class.1 in
+    let n = same_length c.requires.class.0 f.left.0 f.top.0 f.right.0 f.bottom.0 f.inner.0 c.args.lists.now c.requires.class.1 in
     let large = c.requires.class.1.class.large in
-    IfOk-weaker c.push_three.result _ (λ _. (map : Lists) → IsClosedOf c.args.lists.now map c.args.s c.args.d c.args.p c.args.t c.args.inner → IsRectOrder map c.args.s c.args.d c.args.p c.args.t (reverse c.push_three.new.taken.items))
+    IfOk-weaker c.push_three.result _ (λ _. IsOrderAt c.args.lists.now c.args.frame (reverse c.push_three.new.taken.items))
     (λ _ e map k.
-    let done = IsContour-three map c.args.s c.args.d c.args.p c.args.t c.args.inner c.args.lists.now k c.loop.gone c.loop.marked (reverse us) (h.contour map k) (omega (arith, c.len-end.ensures, c.loop-test.false, c.loop.auto.counter-end, h.place, n, large)) in
-    subst (λ (r : List ℕ). IsRectOrder map c.args.s c.args.d c.args.p c.args.t r) (sym (ap reverse e ∙ reverse-append us (c.args.inner ∷ c.args.t ∷ c.args.s ∷ []))) done) c.push_three.ensures
+    let done = IsContour-three map f.left.0 f.top.0 f.right.0 f.bottom.0 f.inner.0 c.args.lists.now k c.loop.gone c.loop.marked (reverse us) (h.contour map k) (omega (arith, c.len-end.ensures, c.loop-test.false, c.loop.auto.counter-end, h.place, n, large)) in
+    subst (λ (r : List ℕ). IsRectOrder map f.left.0 f.top.0 f.right.0 f.bottom.0 r) (sym (ap reverse e ∙ reverse-append us (f.inner.0 ∷ f.bottom.0 ∷ f.left.0 ∷ []))) done) c.push_three.ensures

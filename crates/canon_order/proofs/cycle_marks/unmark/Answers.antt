@@ -1,7 +1,7 @@
 use Rattle.std.proofs.Common.{◌≡◌, ◌+◌, ◌<◌, ◌≤◌, ℕ, List, length, get_or, All, subst, sym, arith}
 use Rattle.map_theory.proofs.EntryLemmas.{count_of}
-use Rattle.rect_orders.proofs.Tallies.{list_within, some, IsTally-unmarked, elsewhere-unmarked}
-use Rattle.rect_orders.proofs.marked_counts.unmark.Goals as goal
+use Rattle.canon_order.proofs.Marks.{list_within, some, IsTally-unmarked, elsewhere-unmarked}
+use Rattle.canon_order.proofs.cycle_marks.unmark.Goals as goal
 
 pub lower-requires-clause-within : goal.lower-requires-clause-within
 lower-requires-clause-within c =

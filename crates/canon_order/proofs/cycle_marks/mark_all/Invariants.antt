@@ -1,7 +1,7 @@
 use Rattle.std.proofs.Common.{◌≡◌, ◌⊎◌, ◌↔◌, ℕ, true, false, take, Contains}
-use Rattle.rect_orders.specs.Tallies.{is_set}
-use Rattle.rect_orders.specs.Contours.{IsNoted}
-use Rattle.rect_orders.proofs.rect_order.contour.mark_all.Given as goal
+use Rattle.canon_order.specs.Marks.{is_set}
+use Rattle.canon_order.specs.Marks.{IsNoted}
+use Rattle.canon_order.proofs.cycle_marks.mark_all.Given as goal
 
 abbrev pub invariant-loop-u : goal.invariant-loop-u
 invariant-loop-u l = record {

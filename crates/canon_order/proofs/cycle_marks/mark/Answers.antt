@@ -1,7 +1,7 @@
 use Rattle.std.proofs.Common.{◌≡◌, ◌+◌, ◌<◌, ℕ, List, length, get_or, All, subst, sym, arith}
 use Rattle.map_theory.proofs.EntryLemmas.{count_of}
-use Rattle.rect_orders.proofs.Tallies.{list_within, room, IsTally-marked, elsewhere-marked}
-use Rattle.rect_orders.proofs.marked_counts.mark.Goals as goal
+use Rattle.canon_order.proofs.Marks.{list_within, room, IsTally-marked, elsewhere-marked}
+use Rattle.canon_order.proofs.cycle_marks.mark.Goals as goal
 
 pub raise-requires-clause-within : goal.raise-requires-clause-within
 raise-requires-clause-within c =

@@ -1,8 +1,8 @@
 use Rattle.std.proofs.Common.{◌≡◌, ◌∷◌, ◌++◌, [], ap, ◌∙◌}
 use Rattle.std.proofs.lemmas.Result.{IfOk-weaker}
-use Rattle.rect_orders.specs.Contours.{IsNoted}
-use Rattle.rect_orders.proofs.Notes.{IsNoted-marked}
-use Rattle.rect_orders.proofs.rect_order.contour.mark_new.Goals as goal
+use Rattle.canon_order.specs.Marks.{IsNoted}
+use Rattle.canon_order.proofs.Marks.{IsNoted-marked}
+use Rattle.canon_order.proofs.cycle_marks.mark_new.Goals as goal
 
 pub returns-clause-noted : goal.returns-clause-noted
 returns-clause-noted c =

@@ -1,8 +1,8 @@
 use Rattle.std.proofs.Common.{◌≡◌, ◌⊎◌, ◌↔◌, ℕ, List, true, false, length, take, Contains, subst, ap, ◌∙◌, arith}
 use Rattle.std.proofs.Math.Seq.{take-length}
-use Rattle.rect_orders.specs.Tallies.{is_set}
-use Rattle.rect_orders.proofs.Notes.{marks-more, IsNoted-chained}
-use Rattle.rect_orders.proofs.rect_order.contour.mark_all.Goals as goal
+use Rattle.canon_order.specs.Marks.{is_set}
+use Rattle.canon_order.proofs.Marks.{marks-more, IsNoted-chained}
+use Rattle.canon_order.proofs.cycle_marks.mark_all.Goals as goal
 
 pub loop-u-preserved : goal.loop-u-preserved
 loop-u-preserved c =
