@@ -1,23 +1,17 @@
-use Rattle.std.proofs.Common.{inl, inr, arith}
+use Rattle.std.proofs.Common.{ℕ, ◌≡◌, get_or, ap, ◌∙◌, inl, inr, arith}
 use Rattle.std.proofs.lemmas.Bool.{cases_lt, OnTrue_at}
 use Rattle.rect_check.proofs.sweep.follows_rows.Goals as goal
 
-pub loop-reached-preserved : goal.loop-reached-preserved
-loop-reached-preserved c =
-    let i = c.loop-reached.invariant in
-    let next = c.part_end-next.ensures in
-    let part = OnTrue_at c.if-not-follows_part.false c.follows_part.ensures in
-    let from = i.low in
-    let later = next.later in
+pub loop-y-preserved : goal.loop-y-preserved
+loop-y-preserved c =
+    let here = OnTrue_at c.if-not-follows_next.false c.follows_next.ensures in
     record {
-      low = omega (arith, from, later);
-      within = next.within;
-      rows = λ z u low l e. elim (cases_lt z c.loop-reached.reached) [
-        | inl less ↦ i.rows z u low less e
-        | inr most ↦ part z u most l e
+      rows = λ z u low l e. elim (cases_lt z c.loop-y.y) [
+        | inl less ↦ c.loop-y.invariant.rows z u low less e
+        | inr most ↦ (let same : c.loop-y.y ≡ z = omega (arith, l, most) in here u (ap (λ (k : ℕ). get_or c.args.last.now k 0) same ∙ e))
       ];
-      tried = λ u e. part _ u (omega (arith, later)) (omega (arith, later)) e;
+      tried = here;
     }
 
 pub returns : goal.returns
-returns c = λ y u low l e. c.loop-reached.invariant.rows y u low (omega (arith, l, c.loop-reached-test.false)) e
+returns c = λ y u low l e. c.loop-y.invariant.rows y u low (omega (arith, l, c.loop-y-test.false)) e

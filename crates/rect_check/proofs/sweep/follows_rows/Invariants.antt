@@ -1,14 +1,9 @@
-use Rattle.std.proofs.Common.{ℕ, ◌≡◌, ◌+◌, ◌-◌, ◌<◌, ◌≤◌, slice_index}
+use Rattle.std.proofs.Common.{ℕ, ◌≡◌, ◌+◌, ◌<◌, ◌≤◌, slice_index}
 use Rattle.rect_check.specs.Loops.{DoesFollow}
 use Rattle.rect_check.proofs.sweep.follows_rows.Given as goal
 
-abbrev pub invariant-loop-reached : goal.invariant-loop-reached
-invariant-loop-reached l = record {
-  low : l.fn.low ≤ l.reached;
-  within : l.reached ≤ l.fn.high;
-  rows : (z u : ℕ) → l.fn.low ≤ z → z < l.reached → slice_index l.last z ≡ u + 1 → DoesFollow l.map.lists l.begin l.end u l.fn.v.0;
-  tried : (u : ℕ) → l.tried ≡ u + 1 → DoesFollow l.map.lists l.begin l.end u l.fn.v.0;
+abbrev pub invariant-loop-y : goal.invariant-loop-y
+invariant-loop-y l = record {
+  rows : (z u : ℕ) → l.low ≤ z → z < l.y → slice_index l.last z ≡ u + 1 → DoesFollow l.map.lists l.begin l.end u l.v.0;
+  tried : (u : ℕ) → l.tried ≡ u + 1 → DoesFollow l.map.lists l.begin l.end u l.v.0;
 }
-
-abbrev pub decreases-loop-reached : goal.decreases-loop-reached
-decreases-loop-reached l = l.fn.high - l.reached
