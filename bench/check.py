@@ -116,6 +116,13 @@ fn read_vertices(
     true
 }
 
+fn corner(fig: &GridFigure) -> Point {
+    Point {
+        x: fig.width,
+        y: fig.height,
+    }
+}
+
 fn report_faces(rt: &HostRuntime, map: &HalfMap, fig: &GridFigure, u: u16, v: u16) -> io::Result<()>
     requires { HasPlaces map.now.lists fig.now.points }
 {
@@ -124,7 +131,7 @@ fn report_faces(rt: &HostRuntime, map: &HalfMap, fig: &GridFigure, u: u16, v: u1
     }
     match is_completed(rt.alloc(), map) {
         Some(true) => match map.dart_of(VertexId(u), VertexId(v)) {
-            Some(base) => match check_by_faces(map, base, fig) {
+            Some(base) => match check_by_faces(map, base, &fig.points, corner(fig)) {
                 FaceVerdict::OutOfGrid(_) => println!(rt; "OutOfGrid")?,
                 FaceVerdict::Wrong(_, _, _) => println!(rt; "Wrong")?,
                 FaceVerdict::Yes => println!(rt; "Yes")?,
@@ -139,7 +146,7 @@ fn report_faces(rt: &HostRuntime, map: &HalfMap, fig: &GridFigure, u: u16, v: u1
 fn report_pairs(rt: &HostRuntime, map: &HalfMap, fig: &GridFigure) -> io::Result<()>
     requires { HasPlaces map.now.lists fig.now.points }
 {
-    match check(map, fig) {
+    match check(map, &fig.points, corner(fig)) {
         Verdict::OutOfGrid(_) => println!(rt; "OutOfGrid")?,
         Verdict::SamePlace(_, _) => println!(rt; "SamePlace")?,
         Verdict::OnEdge(_, _) => println!(rt; "OnEdge")?,

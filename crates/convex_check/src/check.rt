@@ -10,32 +10,32 @@ use crate::bends::first_bent;
 use crate::outer::is_outer_convex;
 use euler_faces::faces;
 use half_edges::{DartId, HalfMap};
-use pg_plane::GridFigure;
+use pg_plane::Points;
 use std::alloc::{AllocError, Global};
 
 /// The least three consecutive vertices of the walk of a face other than that of `base` that turn to the
 /// right; or else `OuterBent`, where no three vertices of the base's face are the corners of a triangle on
 /// whose sides all its vertices lie; or `Yes`.
 ///
-/// `base` is live, `fig` has one point for each vertex, and no coordinate is beyond 2^20 in size; its grid is
-/// not looked at, nor whether the drawing is plane. It fails only for want of memory. The time and the memory
+/// `base` is live, there is one point for each vertex, and no coordinate is beyond 2^20 in size; whether the drawing is
+/// plane is not looked at. It fails only for want of memory. The time and the memory
 /// are linear in the vertices and the darts.
 pub fn check_convex(
     alloc: Global,
     map: &HalfMap,
     base: DartId,
-    fig: &GridFigure,
+    points: &Points,
 ) -> Result<ConvexVerdict, AllocError>
     requires base { IsLive map.now base.0 }
-    requires places { HasPlaces map.now.lists fig.now.points }
-    ensures { IfOk result (IsConvexVerdict map.now.lists fig.now.points (dart_of map.now base.0)) }
+    requires places { HasPlaces map.now.lists points.now }
+    ensures { IfOk result (IsConvexVerdict map.now.lists points.now (dart_of map.now base.0)) }
 {
     map.facts();
     let faces = faces(alloc, map)?;
-    if let Some((a, b, c)) = first_bent(map, &faces, &fig.points, base) {
+    if let Some((a, b, c)) = first_bent(map, &faces, points, base) {
         return Ok(ConvexVerdict::Bent(a, b, c));
     }
-    if is_outer_convex(alloc, map, &faces, &fig.points, base)? {
+    if is_outer_convex(alloc, map, &faces, points, base)? {
         Ok(ConvexVerdict::Yes)
     } else {
         Ok(ConvexVerdict::OuterBent)

@@ -1,16 +1,12 @@
 -- Breaks of the directions round a vertex, as the calls of a map answer them.
-use Rattle.std.proofs.Common.{◌≡◌, ℕ, ◌<◌, ◌≤◌, Bool, true, false, MatchBool, List, length, Some, sym, ap, subst, ◌∙◌}
-use Rattle.std.specs.Option.{option_map}
+use Rattle.std.proofs.Common.{◌≡◌, ℕ, ◌<◌, ◌≤◌, Bool, true, false, MatchBool, List, length, sym, subst}
 use Rattle.map_lists.specs.Lists.{Lists}
-use Rattle.map_theory.specs.Maps.{Dart, HasDart, list_of, follows}
-use Rattle.map_theory.proofs.DartLemmas.{HasDart-follows}
-use Rattle.half_edges.specs.Map.{Map, IsHalfMap, IsLive, dart_at, next_dart}
+use Rattle.map_theory.specs.Maps.{list_of, follows}
 use Rattle.pg_plane.specs.declared.point.Point.{Point}
 use Rattle.pg_plane.specs.Geometry.{vector, IsClockBefore}
 use Rattle.plane_drawings.specs.Drawing.{place, GoesOnceRound}
 use Rattle.draw_check.specs.Loops.{Breaks}
-use Rattle.vertex_rounds.specs.Rounds.{dart_of, GoesOnce}
-use Rattle.vertex_rounds.proofs.DartIds.{dart_of-live, has_dart}
+use Rattle.vertex_rounds.specs.Rounds.{GoesOnce}
 use Rattle.draw_check.specs.Faults.{IsTurned}
 
 -- the direction to u is not before that to w

@@ -17,7 +17,7 @@ ghost use Rattle.vertex_rounds.specs.Rounds.{dart_of};
 use crate::FaceVerdict;
 use crate::places::{first_outside, place_at};
 use half_edges::{DartId, HalfMap, VertexId};
-use pg_plane::{GridFigure, Points, area2};
+use pg_plane::{Point, Points, area2};
 use vertex_rounds::first_dart;
 
 // Whether an id is one of three.
@@ -124,19 +124,19 @@ fn first_wrong(
 /// drawn counterclockwise, or not clockwise for the face left of `base`; or `Yes`.
 ///
 /// `tri` is a completed map: of genus zero, with at least three vertices and 3n - 6 edges. `base` is live,
-/// `fig` has one point for each vertex, and no coordinate is beyond 2^20 in size. It takes no memory, and
-/// linear time.
-pub fn check_by_faces(tri: &HalfMap, base: DartId, fig: &GridFigure) -> FaceVerdict
+/// and the grid goes from (0, 0) to `corner`. There is one point for each vertex, and no coordinate is beyond
+/// 2^20 in size. It takes no memory, and linear time.
+pub fn check_by_faces(tri: &HalfMap, base: DartId, points: &Points, corner: Point) -> FaceVerdict
     requires completed { IsCompleted tri.now.lists }
     requires base { IsLive tri.now base.0 }
-    requires places { HasPlaces tri.now.lists fig.now.points }
-    ensures { IsFaceVerdict tri.now.lists fig.now.points fig.now.width fig.now.height (dart_of tri.now base.0) result }
+    requires places { HasPlaces tri.now.lists points.now }
+    ensures { IsFaceVerdict tri.now.lists points.now corner.x corner.y (dart_of tri.now base.0) result }
 {
     tri.facts();
-    if let Some(v) = first_outside(tri, fig) {
+    if let Some(v) = first_outside(tri, points, corner) {
         return FaceVerdict::OutOfGrid(v);
     }
-    match first_wrong(tri, &fig.points, base) {
+    match first_wrong(tri, points, base) {
         Some((a, b, c)) => FaceVerdict::Wrong(a, b, c),
         None => FaceVerdict::Yes,
     }

@@ -17,7 +17,7 @@ mod turns;
 mod verdict;
 
 pub use faces::check_by_faces;
-pub use outer::check_outer;
+pub use outer::{check_outer, check_outer_connected};
 pub use pairs::check;
 use plane_drawings::drawings::counterclockwise_is_plane;
 pub use verdict::{FaceVerdict, OuterVerdict, Verdict};

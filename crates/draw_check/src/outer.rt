@@ -14,7 +14,7 @@ use crate::OuterVerdict;
 use crate::sums::face_sums;
 use euler_faces::{Faces, euler, faces};
 use half_edges::{DartId, HalfMap, VertexId};
-use pg_plane::GridFigure;
+use pg_plane::Points;
 use std::alloc::{AllocError, Global};
 use vertex_rounds::first_dart;
 
@@ -49,21 +49,21 @@ fn first_low(
     first_dart(map, |d| has_low_sum(map, faces, sums, base, d))
 }
 
-// The verdict where the map is connected.
-fn outer_verdict(
+/// The verdict of `check_outer` where the map is connected, of which it needs no count.
+pub fn check_outer_connected(
     alloc: Global,
     map: &HalfMap,
     base: DartId,
-    fig: &GridFigure,
+    points: &Points,
 ) -> Result<OuterVerdict, AllocError>
-    requires known { IsHalfMap map.now }
     requires base { IsLive map.now base.0 }
-    requires places { HasPlaces map.now.lists fig.now.points }
-    ensures { component_count map.now.lists ≡ 1
-        → IfOk result (IsOuterVerdict map.now.lists fig.now.points (dart_of map.now base.0)) }
+    requires places { HasPlaces map.now.lists points.now }
+    requires connected { component_count map.now.lists ≡ 1 }
+    ensures { IfOk result (IsOuterVerdict map.now.lists points.now (dart_of map.now base.0)) }
 {
+    map.facts();
     let faces = faces(alloc, map)?;
-    let sums = face_sums(alloc, map, &fig.points, &faces)?;
+    let sums = face_sums(alloc, map, points, &faces)?;
     match first_low(map, &faces, &sums, base) {
         Some((v, u)) => Ok(OuterVerdict::Inside(v, u)),
         None => Ok(OuterVerdict::Yes),
@@ -74,23 +74,22 @@ fn outer_verdict(
 /// is not positive, where the map is connected; and `Yes` where there is none or the map is not connected.
 ///
 /// Twice the area of a face is the sum of a.x * b.y - b.x * a.y over its darts from a to b, in 128 bits.
-/// `base` is live, `fig` has one point for each vertex, and no coordinate is beyond 2^20 in size; its grid is
-/// not looked at. It fails only for want of memory. The time and the memory are linear in the vertices and
-/// the darts.
+/// `base` is live, there is one point for each vertex, and no coordinate is beyond 2^20 in size. It fails only
+/// for want of memory. The time and the memory are linear in the vertices and the darts.
 pub fn check_outer(
     alloc: Global,
     map: &HalfMap,
     base: DartId,
-    fig: &GridFigure,
+    points: &Points,
 ) -> Result<OuterVerdict, AllocError>
     requires base { IsLive map.now base.0 }
-    requires places { HasPlaces map.now.lists fig.now.points }
-    ensures { IfOk result (IsOuterVerdict map.now.lists fig.now.points (dart_of map.now base.0)) }
+    requires places { HasPlaces map.now.lists points.now }
+    ensures { IfOk result (IsOuterVerdict map.now.lists points.now (dart_of map.now base.0)) }
 {
     map.facts();
     let count = euler(alloc, map)?;
     if count.c == 1 {
-        outer_verdict(alloc, map, base, fig)
+        check_outer_connected(alloc, map, base, points)
     } else {
         Ok(OuterVerdict::Yes)
     }

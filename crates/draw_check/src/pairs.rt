@@ -1,5 +1,5 @@
 //! The check of a drawing.
-ghost use Rattle.std.specs.Prelude.{MatchOption};
+ghost use Rattle.std.specs.Prelude.{MatchOption, ℤ};
 ghost use Rattle.draw_check.specs.declared.verdict.Verdict.TheVariants.{Yes};
 ghost use Rattle.draw_check.specs.Faults.{HasPlaces};
 ghost use Rattle.draw_check.specs.Loops.{IsDrawn};
@@ -11,56 +11,54 @@ use crate::edges::first_on_edge;
 use crate::places::{first_outside, first_shared};
 use crate::turns::first_turned;
 use half_edges::HalfMap;
-use pg_plane::GridFigure;
+use pg_plane::{Point, Points};
 use plane_drawings::sweep_check::is_plane_by_sweep;
 
 // The first two vertices at one place, the first vertex on an edge or the first two edges that cross, in
 // this order, by going over all pairs.
-fn first_pair(map: &HalfMap, fig: &GridFigure) -> Option<Verdict>
-    requires drawn { IsDrawn map.now fig.now.points }
-    requires in_grid { AllInGrid map.now.lists fig.now.points fig.now.width fig.now.height }
-    ensures { MatchOption result (NoneShareAPlace map.now.lists fig.now.points × NoneOnEdge map.now.lists fig.now.points × NoneCross map.now.lists fig.now.points)
-        (IsVerdict map.now.lists fig.now.points fig.now.width fig.now.height) }
+fn first_pair(map: &HalfMap, points: &Points) -> Option<Verdict>
+    requires { IsDrawn map.now points.now }
+    ensures { MatchOption result (NoneShareAPlace map.now.lists points.now × NoneOnEdge map.now.lists points.now × NoneCross map.now.lists points.now)
+        (λ verdict. (width height : ℤ) → AllInGrid map.now.lists points.now width height → IsVerdict map.now.lists points.now width height verdict) }
 {
-    if let Some((u, v)) = first_shared(map, &fig.points) {
+    if let Some((u, v)) = first_shared(map, points) {
         return Some(Verdict::SamePlace(u, v));
     }
-    if let Some((v, e)) = first_on_edge(map, &fig.points) {
+    if let Some((v, e)) = first_on_edge(map, points) {
         return Some(Verdict::OnEdge(v, e));
     }
-    match first_crossing(map, &fig.points) {
+    match first_crossing(map, points) {
         Some((e, f)) => Some(Verdict::Cross(e, f)),
         None => None,
     }
 }
 
 // The same. A sweep that finds the drawing plane spares the search.
-fn first_pair_by_sweep(map: &HalfMap, fig: &GridFigure) -> Option<Verdict>
-    requires drawn { IsDrawn map.now fig.now.points }
-    requires in_grid { AllInGrid map.now.lists fig.now.points fig.now.width fig.now.height }
-    ensures { MatchOption result (NoneShareAPlace map.now.lists fig.now.points × NoneOnEdge map.now.lists fig.now.points × NoneCross map.now.lists fig.now.points)
-        (IsVerdict map.now.lists fig.now.points fig.now.width fig.now.height) }
+fn first_pair_by_sweep(map: &HalfMap, points: &Points) -> Option<Verdict>
+    requires { IsDrawn map.now points.now }
+    ensures { MatchOption result (NoneShareAPlace map.now.lists points.now × NoneOnEdge map.now.lists points.now × NoneCross map.now.lists points.now)
+        (λ verdict. (width height : ℤ) → AllInGrid map.now.lists points.now width height → IsVerdict map.now.lists points.now width height verdict) }
 {
-    if is_plane_by_sweep(map, &fig.points) {
+    if is_plane_by_sweep(map, points) {
         None
     } else {
-        first_pair(map, fig)
+        first_pair(map, points)
     }
 }
 
 // The first fault of a drawing, if it has one.
-fn first_fault(map: &HalfMap, fig: &GridFigure) -> Option<Verdict>
-    requires { IsDrawn map.now fig.now.points }
-    ensures { MatchOption result (IsVerdict map.now.lists fig.now.points fig.now.width fig.now.height Yes)
-        (IsVerdict map.now.lists fig.now.points fig.now.width fig.now.height) }
+fn first_fault(map: &HalfMap, points: &Points, corner: Point) -> Option<Verdict>
+    requires { IsDrawn map.now points.now }
+    ensures { MatchOption result (IsVerdict map.now.lists points.now corner.x corner.y Yes)
+        (IsVerdict map.now.lists points.now corner.x corner.y) }
 {
-    if let Some(v) = first_outside(map, fig) {
+    if let Some(v) = first_outside(map, points, corner) {
         return Some(Verdict::OutOfGrid(v));
     }
-    if let Some(verdict) = first_pair_by_sweep(map, fig) {
+    if let Some(verdict) = first_pair_by_sweep(map, points) {
         return Some(verdict);
     }
-    match first_turned(map, &fig.points) {
+    match first_turned(map, points) {
         Some(v) => Some(Verdict::Turned(v)),
         None => None,
     }
@@ -69,16 +67,16 @@ fn first_fault(map: &HalfMap, fig: &GridFigure) -> Option<Verdict>
 /// The first fault of a drawing in the order of the variants of `Verdict`, with the least ids, or `Yes`
 /// where all points lie in the grid, the drawing is plane and the rotations are kept.
 ///
-/// `fig` has one point for each vertex, and no coordinate is beyond 2^20 in size. It takes no memory from
-/// the heap. Where a sweep finds the drawing plane, the time is m log n for n vertices and m edges, besides
-/// that in which the lines that the sweep meets are moved; else each edge is compared with each vertex and
-/// each edge after it.
-pub fn check(map: &HalfMap, fig: &GridFigure) -> Verdict
-    requires { HasPlaces map.now.lists fig.now.points }
-    ensures { IsVerdict map.now.lists fig.now.points fig.now.width fig.now.height result }
+/// The grid goes from (0, 0) to `corner`. There is one point for each vertex, and no coordinate is beyond
+/// 2^20 in size. It takes no memory from the heap. Where a sweep finds the drawing plane, the time is
+/// m log n for n vertices and m edges, besides that in which the lines that the sweep meets are moved; else
+/// each edge is compared with each vertex and each edge after it.
+pub fn check(map: &HalfMap, points: &Points, corner: Point) -> Verdict
+    requires { HasPlaces map.now.lists points.now }
+    ensures { IsVerdict map.now.lists points.now corner.x corner.y result }
 {
     map.facts();
-    match first_fault(map, fig) {
+    match first_fault(map, points, corner) {
         Some(verdict) => verdict,
         None => Verdict::Yes,
     }

@@ -7,7 +7,7 @@ ghost use Rattle.draw_check.specs.Verdicts.{AllInGrid, NoneShareAPlace};
 ghost use Rattle.draw_check.specs.Loops.{IsDrawn};
 
 use half_edges::{HalfMap, VertexId};
-use pg_plane::{GridFigure, Point, Points};
+use pg_plane::{Point, Points};
 
 // The place of a vertex.
 pub(crate) fn place_at(points: &Points, v: VertexId) -> Point
@@ -18,20 +18,20 @@ pub(crate) fn place_at(points: &Points, v: VertexId) -> Point
 }
 
 // Whether a point lies in the grid.
-fn is_in_grid(p: Point, width: i32, height: i32) -> bool
-    ensures { IsTrue result ↔ IsInGrid width height p }
+fn is_in_grid(p: Point, corner: Point) -> bool
+    ensures { IsTrue result ↔ IsInGrid corner.x corner.y p }
 {
-    0 <= p.x && p.x <= width && 0 <= p.y && p.y <= height
+    0 <= p.x && p.x <= corner.x && 0 <= p.y && p.y <= corner.y
 }
 
 // The least vertex outside the grid.
-pub(crate) fn first_outside(map: &HalfMap, fig: &GridFigure) -> Option<VertexId>
-    requires { IsDrawn map.now fig.now.points }
-    ensures { MatchOption result (AllInGrid map.now.lists fig.now.points fig.now.width fig.now.height)
-        (λ v. IsLeast (LeavesGrid map.now.lists fig.now.points fig.now.width fig.now.height) v.0) }
+pub(crate) fn first_outside(map: &HalfMap, points: &Points, corner: Point) -> Option<VertexId>
+    requires { IsDrawn map.now points.now }
+    ensures { MatchOption result (AllInGrid map.now.lists points.now corner.x corner.y)
+        (λ v. IsLeast (LeavesGrid map.now.lists points.now corner.x corner.y) v.0) }
 {
     for v in 0..map.n() {
-        if !is_in_grid(place_at(&fig.points, VertexId(v)), fig.width, fig.height) {
+        if !is_in_grid(place_at(points, VertexId(v)), corner) {
             return Some(VertexId(v));
         }
     }

@@ -8,7 +8,6 @@ use Rattle.simple_maps.specs.Laws.{NoFaultIsSimple}
 use Rattle.pg_plane.specs.declared.figure.BarFigure.{BarFigure}
 use Rattle.bar_check.specs.Laws.{YesIsValid as BarsYesIsValid}
 use Rattle.convex_check.specs.Laws.{YesIsConvex}
-use Rattle.convex_check.specs.declared.verdict.ConvexVerdict.{ConvexVerdict}
 use Rattle.rect_check.specs.Laws.{YesIsDual}
 use Rattle.rect_check.specs.declared.verdict.RectVerdict.TheVariants.{Yes as NoRectFault}
 use Rattle.pg_plane.specs.declared.figure.RectFigure.{RectFigure}
@@ -18,7 +17,7 @@ use Rattle.draw_check.specs.Laws.{YesIsValid}
 use Rattle.figure_text.specs.declared.figure.Figure.{Figure}
 use Rattle.figure_text.specs.declared.figure.Figure.TheVariants.{Grid, Bars, Rects, Witness as WitnessFigure}
 use Rattle.line_inputs.specs.Given.{IsGiven}
-use Rattle.figure_verdicts.specs.Validity.{IsValidFigure, IsValidGrid, HasShape, grid_width, grid_height, bars_width}
+use Rattle.figure_verdicts.specs.Validity.{IsValidFigure, IsValidGrid, grid_width, grid_height, bars_width}
 use Rattle.std.specs.Prelude.{ℤ, Option, None, ◌≢◌}
 use Rattle.std.proofs.lemmas.Int.{ints}
 use Rattle.simple_maps.specs.Faults.{Fault}
@@ -32,7 +31,7 @@ use Rattle.simple_maps.specs.Faults.{first_fault}
 use Rattle.pg_plane.specs.declared.point.Point.{Point}
 use Rattle.figure_text.specs.declared.figure.GridJob.{GridJob}
 use Rattle.figure_text.specs.declared.figure.GridJob.TheVariants.{Shift, Schnyder, Convex}
-use Rattle.figure_verdicts.specs.Verdicts.{IsFigureVerdict, HasBase, IsDrawnVerdict, IsShapedVerdict, IsJobVerdict, IsFittingVerdict, IsGridVerdict, IsColumnsVerdict, IsBarsVerdict, IsTiledVerdict, IsRectsVerdict}
+use Rattle.figure_verdicts.specs.Verdicts.{IsFigureVerdict, IsJobVerdict, IsFittingVerdict, IsGridVerdict, IsColumnsVerdict, IsBarsVerdict, IsTiledVerdict, IsRectsVerdict}
 use Rattle.figure_verdicts.specs.declared.verdict.FigureVerdict.{FigureVerdict}
 use Rattle.figure_verdicts.specs.declared.verdict.FigureVerdict.TheVariants.{Refused, Drawing, Inside, Convex as ConvexFault, Bars as BarFault, Rects as RectFault, Witness as WitnessFault, Yes}
 
@@ -76,8 +75,8 @@ yes_is_valid no_fault is_valid is_dual (Rects lists rects) given =
 yes_is_valid no_fault is_valid is_dual (WitnessFigure graph witness) given = (λ yes. yes, λ v. v)
 
 -- a verdict in the grid of the job
-pub IsFittingVerdict-of : (job : GridJob) (lists : Lists) (points points' : List Point) (width height : ℤ) (verdict : FigureVerdict) → points' ≡ points → width ≡ grid_width job lists → height ≡ grid_height job lists → IsJobVerdict job lists points' width height verdict → IsFittingVerdict job lists points verdict
-IsFittingVerdict-of job lists points points' width height verdict same wide high drawn = rw (same, wide, high) at drawn
+pub IsFittingVerdict-of : (job : GridJob) (lists : Lists) (points : List Point) (width height : ℤ) (verdict : FigureVerdict) → width ≡ grid_width job lists → height ≡ grid_height job lists → IsJobVerdict job lists points width height verdict → IsFittingVerdict job lists points verdict
+IsFittingVerdict-of job lists points width height verdict wide high drawn = rw (wide, high) at drawn
 
 -- a verdict on a drawing of lists without a fault
 pub IsGridVerdict-drawn : (job : GridJob) (lists lists' : Lists) (points : List Point) (verdict : FigureVerdict) → lists' ≡ lists → first_fault lists ≡ None → IsFittingVerdict job lists' points verdict → IsGridVerdict job lists points verdict

@@ -14,7 +14,7 @@ use crate::FigureVerdict;
 use convex_check::{ConvexVerdict, check_convex};
 use draw_check::{Verdict, check};
 use half_edges::{HalfMap, VertexId};
-use pg_plane::GridFigure;
+use pg_plane::{Point, Points};
 use std::alloc::{AllocError, Global};
 
 // The verdict on a drawing without another fault, by that of the check of bends.
@@ -29,14 +29,14 @@ fn of_convex(verdict: ConvexVerdict) -> FigureVerdict
 }
 
 // The verdict on a drawing without another fault, by its bends.
-fn bend_verdict(alloc: Global, map: &HalfMap, fig: &GridFigure) -> Result<FigureVerdict, AllocError>
-    requires places { HasPlaces map.now.lists fig.now.points }
-    ensures { IfOk result (IsBendVerdict map.now.lists fig.now.points) }
+fn bend_verdict(alloc: Global, map: &HalfMap, points: &Points) -> Result<FigureVerdict, AllocError>
+    requires places { HasPlaces map.now.lists points.now }
+    ensures { IfOk result (IsBendVerdict map.now.lists points.now) }
 {
     map.facts();
     match map.first_dart(VertexId(0)) {
         Some(base) => {
-            let verdict = check_convex(alloc, map, base, fig)?;
+            let verdict = check_convex(alloc, map, base, points)?;
             Ok(of_convex(verdict))
         }
         None => Ok(FigureVerdict::Convex(ConvexVerdict::OuterBent)),
@@ -48,14 +48,15 @@ fn bend_verdict(alloc: Global, map: &HalfMap, fig: &GridFigure) -> Result<Figure
 pub fn convex_verdict(
     alloc: Global,
     map: &HalfMap,
-    fig: &GridFigure,
+    points: &Points,
+    corner: Point,
 ) -> Result<FigureVerdict, AllocError>
-    requires places { HasPlaces map.now.lists fig.now.points }
-    ensures { IfOk result (IsShapedVerdict map.now.lists fig.now.points fig.now.width fig.now.height) }
+    requires places { HasPlaces map.now.lists points.now }
+    ensures { IfOk result (IsShapedVerdict map.now.lists points.now corner.x corner.y) }
 {
-    match check(map, fig) {
+    match check(map, points, corner) {
         Verdict::Yes => {
-            let verdict = bend_verdict(alloc, map, fig)?;
+            let verdict = bend_verdict(alloc, map, points)?;
             Ok(verdict)
         }
         verdict => Ok(FigureVerdict::Drawing(verdict)),

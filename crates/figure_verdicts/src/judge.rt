@@ -10,6 +10,7 @@ ghost use Rattle.graph6_text.specs.Graphs.{EdgeGraph};
 ghost use Rattle.kuratowski.specs.declared.witness.Witness.{Witness as AWitness};
 ghost use Rattle.kuratowski.specs.Verdicts.{IsVerdict};
 ghost use Rattle.line_inputs.specs.Given.{IsGiven, IsGivenGrid, IsGivenBars, IsGivenRects};
+ghost use Rattle.conn_parts.specs.Counted.{IsCountOf};
 ghost use Rattle.figure_verdicts.specs.Validity.{less_one, grid_width, grid_height};
 ghost use Rattle.map_theory.specs.Maps.{face_count};
 ghost use Rattle.figure_verdicts.specs.Verdicts.{IsDrawnVerdict, IsShapedVerdict, IsJobVerdict, IsFittingVerdict, IsGridVerdict, IsColumnsVerdict, IsBarsVerdict, IsTiledVerdict, IsRectsVerdict, IsWitnessVerdict, IsFigureVerdict};
@@ -18,26 +19,16 @@ use crate::FigureVerdict;
 use crate::convex::convex_verdict;
 use crate::drawn::drawn_verdict;
 use bar_check::{BarVerdict, check_bars};
-use euler_faces::euler;
+use conn_parts::counted_map;
+use euler_faces::EulerCount;
 use figure_text::{Figure, GridJob};
 use graph6_text::Graph;
 use half_edges::{HalfMap, MapFault};
 use kuratowski::{Witness, WitnessVerdict, check_witness};
 use map_lists::Rotations;
-use pg_plane::{BarFigure, GridFigure, Points, RectFigure};
+use pg_plane::{BarFigure, Point, Points, RectFigure};
 use rect_check::{RectVerdict, check_rects};
 use std::alloc::{AllocError, Global};
-
-// A copy of points.
-fn copied(alloc: Global, points: &Points) -> Result<Points, AllocError>
-    ensures { IfOk result (λ copy. copy ≡ points.now) }
-{
-    let mut copy = Points::new(alloc);
-    for i in 0..points.len() {
-        copy.push(points.get(i))?;
-    }
-    Ok(copy)
-}
 
 // A small number with a sign.
 fn signed(n: usize) -> i32
@@ -47,49 +38,45 @@ fn signed(n: usize) -> i32
     n as i32
 }
 
-// How far a convex drawing of a map reaches in both directions.
-fn convex_side(alloc: Global, map: &HalfMap) -> Result<i32, AllocError>
-    ensures { IfOk result (λ side. side ≡ less_one (face_count map.now.lists)) }
-{
-    map.facts();
-    let count = euler(alloc, map)?;
-    Ok(bars_width(count.f))
-}
-
-// How far the grid of a drawing of a map reaches to the right.
-fn width(alloc: Global, job: GridJob, map: &HalfMap) -> Result<i32, AllocError>
-    ensures { IfOk result (λ width. width ≡ grid_width job map.now.lists) }
+// How far the grid of a drawing of a map with these counts reaches to the right.
+fn width(job: GridJob, map: &HalfMap, count: EulerCount) -> i32
+    requires { IsCountOf map.now.lists count }
+    ensures { result ≡ grid_width job map.now.lists }
 {
     match job {
-        GridJob::Shift => Ok(signed(2 * usize::from(map.n())) - 4),
-        GridJob::Schnyder => Ok(signed(usize::from(map.n())) - 2),
-        GridJob::Convex => convex_side(alloc, map),
+        GridJob::Shift => signed(2 * usize::from(map.n())) - 4,
+        GridJob::Schnyder => signed(usize::from(map.n())) - 2,
+        GridJob::Convex => bars_width(count.f),
     }
 }
 
 // How far it reaches up.
-fn height(alloc: Global, job: GridJob, map: &HalfMap) -> Result<i32, AllocError>
-    ensures { IfOk result (λ height. height ≡ grid_height job map.now.lists) }
+fn height(job: GridJob, map: &HalfMap, count: EulerCount) -> i32
+    requires { IsCountOf map.now.lists count }
+    ensures { result ≡ grid_height job map.now.lists }
 {
     match job {
-        GridJob::Convex => convex_side(alloc, map),
-        _ => Ok(signed(usize::from(map.n())) - 2),
+        GridJob::Convex => bars_width(count.f),
+        _ => signed(usize::from(map.n())) - 2,
     }
 }
 
-// The verdict on a drawing of a simple map, by what it is to be.
+// The verdict on a drawing of a simple map with these counts, by what it is to be.
 fn job_verdict(
     alloc: Global,
     job: GridJob,
     map: &HalfMap,
-    fig: &GridFigure,
+    count: EulerCount,
+    points: &Points,
+    corner: Point,
 ) -> Result<FigureVerdict, AllocError>
-    requires places { HasPlaces map.now.lists fig.now.points }
-    ensures { IfOk result (IsJobVerdict job map.now.lists fig.now.points fig.now.width fig.now.height) }
+    requires counted { IsCountOf map.now.lists count }
+    requires places { HasPlaces map.now.lists points.now }
+    ensures { IfOk result (IsJobVerdict job map.now.lists points.now corner.x corner.y) }
 {
     match job {
-        GridJob::Convex => convex_verdict(alloc, map, fig),
-        _ => drawn_verdict(alloc, map, fig),
+        GridJob::Convex => convex_verdict(alloc, map, points, corner),
+        _ => drawn_verdict(alloc, map, count, points, corner),
     }
 }
 
@@ -103,25 +90,22 @@ fn refused(fault: MapFault) -> Result<FigureVerdict, AllocError>
     }
 }
 
-// The verdict on a straight-line drawing of a simple map, in the grid of its job.
+// The verdict on a straight-line drawing of a simple map with these counts, in the grid of its job.
 fn map_verdict(
     alloc: Global,
     job: GridJob,
     map: &HalfMap,
+    count: EulerCount,
     points: &Points,
 ) -> Result<FigureVerdict, AllocError>
-    requires { HasPlaces map.now.lists points.now }
+    requires counted { IsCountOf map.now.lists count }
+    requires places { HasPlaces map.now.lists points.now }
     ensures { IfOk result (IsFittingVerdict job map.now.lists points.now) }
 {
-    let copy = copied(alloc, points)?;
-    let wide = width(alloc, job, map)?;
-    let high = height(alloc, job, map)?;
-    let figure = GridFigure {
-        points: copy,
-        width: wide,
-        height: high,
-    };
-    let verdict = job_verdict(alloc, job, map, &figure)?;
+    let wide = width(job, map, count);
+    let high = height(job, map, count);
+    let corner = Point { x: wide, y: high };
+    let verdict = job_verdict(alloc, job, map, count, points, corner)?;
     Ok(verdict)
 }
 
@@ -135,9 +119,9 @@ fn grid_verdict(
     requires { IsGivenGrid lists.now points.now }
     ensures { IfOk result (IsGridVerdict job lists.now points.now) }
 {
-    match HalfMap::from_rotations(alloc, lists) {
-        Ok(map) => {
-            let verdict = map_verdict(alloc, job, &map, points)?;
+    match counted_map(alloc, lists) {
+        Ok(found) => {
+            let verdict = map_verdict(alloc, job, &found.map, found.count, points)?;
             Ok(verdict)
         }
         Err(fault) => refused(fault),
@@ -171,10 +155,9 @@ fn bars_verdict(
     requires { IsGivenBars lists.now bars.now }
     ensures { IfOk result (IsBarsVerdict lists.now bars.now) }
 {
-    match HalfMap::from_rotations(alloc, lists) {
-        Ok(map) => {
-            let count = euler(alloc, &map)?;
-            let verdict = check_bars(&map, bars, bars_width(count.f));
+    match counted_map(alloc, lists) {
+        Ok(found) => {
+            let verdict = check_bars(&found.map, bars, bars_width(found.count.f));
             Ok(of_bars(verdict))
         }
         Err(fault) => refused(fault),

@@ -9,7 +9,7 @@ use crate::refusal::Refusal;
 use crate::text::{pair, part, put_flag};
 use draw_check::{FaceVerdict, OuterVerdict, Verdict, check, check_by_faces, check_outer};
 use half_edges::{Ends, HalfMap};
-use pg_plane::GridFigure;
+use pg_plane::{GridFigure, Point};
 use plane_drawings::sweep_check::is_plane_by_sweep;
 use std::alloc::{AllocError, Global};
 
@@ -27,6 +27,14 @@ fn figure_of(alloc: Global, map: &HalfMap, places: &str, grid: &str) -> Result<G
         width: integer(width),
         height: integer(height),
     })
+}
+
+// Where the grid of a figure ends.
+fn corner(figure: &GridFigure) -> Point {
+    Point {
+        x: figure.width,
+        y: figure.height,
+    }
 }
 
 // An edge by its ends.
@@ -56,7 +64,7 @@ fn put_verdict(verdict: Verdict, out: &mut String) -> Result<(), AllocError> {
 fn grid(alloc: Global, args: &[&str], out: &mut String) -> Result<(), Refusal> {
     let map = map_of(alloc, part(args, 0))?;
     let figure = figure_of(alloc, &map, part(args, 1), part(args, 2))?;
-    Ok(put_verdict(check(&map, &figure), out)?)
+    Ok(put_verdict(check(&map, &figure.points, corner(&figure)), out)?)
 }
 
 fn put_face_verdict(verdict: FaceVerdict, out: &mut String) -> Result<(), AllocError> {
@@ -73,7 +81,10 @@ fn faces(alloc: Global, args: &[&str], out: &mut String) -> Result<(), Refusal> 
     let figure = figure_of(alloc, &set.tri, part(args, 1), part(args, 2))?;
     match dart_between(&set.tri, 0, 1) {
         Some(base) if set.tri.is_live(base) => {
-            Ok(put_face_verdict(check_by_faces(&set.tri, base, &figure), out)?)
+            Ok(put_face_verdict(
+                check_by_faces(&set.tri, base, &figure.points, corner(&figure)),
+                out,
+            )?)
         }
         _ => Err(Refusal::Row("base")),
     }
@@ -93,7 +104,7 @@ fn outer(alloc: Global, args: &[&str], out: &mut String) -> Result<(), Refusal> 
     let (u, v) = pair(part(args, 2));
     match dart_between(&map, u, v) {
         Some(base) if map.is_live(base) => {
-            Ok(put_outer_verdict(check_outer(alloc, &map, base, &figure)?, out)?)
+            Ok(put_outer_verdict(check_outer(alloc, &map, base, &figure.points)?, out)?)
         }
         _ => Err(Refusal::Row("base")),
     }

@@ -7,5 +7,5 @@ pub returns-in-None : goal.returns-in-None
 returns-in-None c =
     let map = c.args.tri.now in (
       c.in_default.ensures,
-      counterclockwise_from map.lists c.requires.completed c.args.fig.now.points (dart_of map c.args.base.0) c.in-None.ensures (has_dart map c.facts.ensures c.args.base.0 c.requires.base),
+      counterclockwise_from map.lists c.requires.completed c.args.points.now (dart_of map c.args.base.0) c.in-None.ensures (has_dart map c.facts.ensures c.args.base.0 c.requires.base),
     )

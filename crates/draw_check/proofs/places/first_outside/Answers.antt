@@ -4,8 +4,8 @@ use Rattle.draw_check.proofs.places.first_outside.Goals as goal
 
 pub loop-v-preserved : goal.loop-v-preserved
 loop-v-preserved c =
-    let fig = c.args.fig.now in
-    below_more (λ (u : ℕ). IsInGrid fig.width fig.height (place fig.points u)) c.loop-v.v c.loop-v.invariant (search rules)
+    let corner = c.args.corner in
+    below_more (λ (u : ℕ). IsInGrid corner.x corner.y (place c.args.points.now u)) c.loop-v.v c.loop-v.invariant (search rules)
 
 pub returns-then-not-is_in_grid : goal.returns-then-not-is_in_grid
 returns-then-not-is_in_grid c = record {
