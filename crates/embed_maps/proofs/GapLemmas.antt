@@ -1,6 +1,6 @@
 -- Gaps by places, from gaps by parts.
 use Rattle.std.proofs.Common.{◌≡◌, ◌≢◌, ℕ, suc, ◌+◌, ◌-◌, ◌<◌, ◌≤◌, List, [], ◌∷◌, ◌++◌, length, get_or, take, drop, AllPairs, Contains, sym, ap, ◌∙◌, subst, inl, inr, arith}
-use Rattle.std.proofs.lemmas.Bool.{cases_Bool, cases_lt, cases_order, true≢false}
+use Rattle.std.proofs.lemmas.Bool.{cases_Bool, cases_lt}
 use Rattle.std.proofs.lemmas.List.{append-nil, append_assoc, get_or_default, get_or_append_left, get_or-append_right, get_or-take, get_or-drop, length-append, length-drop}
 use Rattle.std.proofs.Math.Seq.{get_or-append_seam, take-append_seam, drop-append_seam}
 use Rattle.graph6_text.specs.Graphs.{EdgeGraph, has_edge}
@@ -9,7 +9,7 @@ use Rattle.embed_contraction.specs.Places.{HasTwo}
 use Rattle.embed_contraction.specs.Rims.{IsRimmed, spoke, IsGapOf}
 use Rattle.embed_contraction.specs.Traces.{HasWitness}
 use Rattle.embed_contraction.proofs.Gaps.{gap_or_witness}
-use Rattle.embed_maps.specs.Gaps.{read_from, behind, IsGapAt, IsNext}
+use Rattle.embed_maps.specs.Gaps.{read_from, behind, IsGapAt}
 
 -- ---- the vertex behind a place
 pub behind-inside : (ws : List ℕ) (s j : ℕ) → s < length ws → j < length ws - s → get_or ws (s + j) 0 ≡ behind ws s j
@@ -111,15 +111,4 @@ witness_where_none graph ws x y rim two_x two_y none =
       | inr r ↦
           let found = some_gap graph ws x y rim.distinct r.0 r.1 r.2 r.3 r.4 r.5 r.6 in
           absurd (none found.0 (suc (length r.3)) found.1 found.2)
-    ]
-
--- ---- the next neighbour is that of the gap
-pub same_next : (graph : EdgeGraph) (ws : List ℕ) (x y s k m : ℕ) → IsNext graph ws x s k → IsGapAt graph ws x y s m → m ≡ k
-same_next graph ws x y s k m n g =
-    elim (cases_order m k) [
-      | inl e ↦ e
-      | inr r ↦ elim r [
-        | inl less ↦ absurd (true≢false (sym g.last ∙ n.none m g.some less))
-        | inr more ↦ absurd (true≢false (sym n.last ∙ g.none k n.some more))
-      ]
     ]

@@ -1,6 +1,7 @@
 -- Lists kept entry by entry, and the neighbours of a vertex on the ring that it leaves.
-use Rattle.std.proofs.Common.{◌≡◌, ◌≢◌, ℕ, zero, suc, ◌+◌, ◌<◌, Bool, List, [], ◌∷◌, ◌++◌, length, get_or, take, Contains, sym, ap, ◌∙◌, subst, arith}
+use Rattle.std.proofs.Common.{◌≡◌, ◌≢◌, ℕ, zero, suc, ◌+◌, ◌<◌, ◌||◌, Bool, false, not, List, [], ◌∷◌, ◌++◌, length, get_or, take, Contains, sym, ap, ◌∙◌, subst, inl, inr, arith, eq-eqb, ne_eqb}
 use Rattle.std.specs.List.{filter}
+use Rattle.std.proofs.lemmas.Bool.{cases_eq}
 use Rattle.std.proofs.lemmas.List.Elements.{filter-append}
 use Rattle.std.proofs.Math.Seq.{take-suc}
 use Rattle.map_lists.specs.Lists.{Lists}
@@ -8,7 +9,9 @@ use Rattle.map_theory.specs.Maps.{list_of, HasDart, IsSimpleMap, follows}
 use Rattle.map_theory.specs.Paths.{SameFace}
 use Rattle.map_theory.proofs.DartLemmas.{HasDart-follows}
 use Rattle.plane_laws.specs.Kept.{kept_from}
+use Rattle.plane_peeling.specs.Restricted.{restricted}
 use Rattle.plane_peeling.proofs.RestrictedMaps.{restricted-map}
+use Rattle.embed_contraction.specs.Linked.{outside, without_vertices}
 use Rattle.embed_surgery.specs.Holes.{IsPassedOnce, IsRingOf, all_but, without_vertex}
 use Rattle.embed_surgery.proofs.Holes.{hole_of_vertex, rest_dart}
 
@@ -23,6 +26,16 @@ kept-more keep s (us ∷ lists) zero l = let e : s + 0 ≡ s = omega arith in ap
 kept-more keep s (us ∷ lists) (suc v) l =
     let e : s + suc v ≡ s + 1 + v = omega arith in
     ap (λ k. filter (keep s) us ∷ (kept_from keep (s + 1) (take v lists) ++ filter (keep k) (list_of lists v) ∷ [])) e ∙ ap (λ (ls : Lists). filter (keep s) us ∷ ls) (kept-more keep (s + 1) lists v (omega arith))
+
+-- without one vertex, as without those of a list
+pub without-one : (x : ℕ) (lists : Lists) → without_vertices (x ∷ []) lists ≡ without_vertex x lists
+without-one x lists =
+    let same : (u : ℕ) → outside (x ∷ []) u ≡ all_but x u = λ u.
+    elim (cases_eq u x) [
+      | inl e ↦ ap (λ b. not (b || false)) (eq-eqb x u (sym e)) ∙ sym (ap not (eq-eqb u x e))
+      | inr ne ↦ ap (λ b. not (b || false)) (ne_eqb x u (λ e. ne (sym e))) ∙ sym (ap not (ne_eqb u x ne))
+    ] in
+    ap (λ kept. restricted kept lists) (λ i u. same u i)
 
 -- a neighbour of the vertex, and the dart that follows it
 pub past : (map rest : Lists) (x p : ℕ) → IsSimpleMap map → rest ≡ without_vertex x map → ((q : ℕ) → HasDart map x q → follows map q x ≢ x) → HasDart map x p → HasDart rest p (follows map p x)

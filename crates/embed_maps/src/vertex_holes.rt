@@ -4,4 +4,4 @@ mod hole;
 mod rest;
 
 pub use hole::hole_ring;
-pub use rest::without_vertex;
+pub use rest::{is_outside, without_vertex, without_vertices};

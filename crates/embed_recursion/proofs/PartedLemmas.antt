@@ -8,7 +8,7 @@ use Rattle.map_theory.specs.Maps.{list_of, IsSimpleMap, component_classes}
 use Rattle.plane_laws.specs.Laws.{SameComponent}
 use Rattle.plane_peeling.proofs.Rings.{each_of_two}
 use Rattle.embed_contraction.specs.Linked.{HasEdge, outside, IsThreeLinked, IsLinkedWithout, without_vertices}
-use Rattle.embed_contraction.proofs.Parts.{outside-is, outside-from, closed_part, part-chained, part-turned, part-itself, rest-simple, rest-length, rest-old, rest-together}
+use Rattle.embed_contraction.proofs.Parts.{outside-is, outside-from, closed_part, part-chained, part-itself, rest-simple, rest-length, rest-old, rest-together}
 use Rattle.embed_recursion.specs.Parted.{IsOff, IsOffApart, IsUncut}
 
 -- lists of vertices that leave the same vertices out
@@ -68,12 +68,6 @@ linked_from lists simple uncut rising u v =
         ]
       ]
     ]
-
--- all others are joined to one, so to each other
-pub all_linked : (lists : Lists) (vs : List ℕ) (s : ℕ) → ((z : ℕ) → IsOff lists vs z → SameComponent (without_vertices vs lists) s z) → IsLinkedWithout lists vs
-all_linked lists vs s all a b ha hb oa ob =
-    let G = without_vertices vs lists in
-    part-chained G a s b (part-turned G s a (all a record { edge = ha; off = oa })) (all b record { edge = hb; off = ob })
 
 pub none_linked : (lists : Lists) (vs : List ℕ) → ((z : ℕ) → ¬ IsOff lists vs z) → IsLinkedWithout lists vs
 none_linked lists vs none a b ha hb oa ob = absurd (none a record { edge = ha; off = oa })

@@ -3,9 +3,7 @@
 mod contractible;
 mod pairs;
 mod partings;
-mod rest;
 
 pub use contractible::contractible_edge;
 pub use pairs::{first_off, has_edge, parted_pair};
 pub use partings::{Parting, parting_pair, parting_vertex};
-pub use rest::{is_outside, without_vertices};

@@ -112,9 +112,6 @@ settled-line line plain not = record {
   same = λ more. ap header_length (append_assoc line (10 ∷ []) more) ∙ header-of-line line more plain not ∙ sym (header-of-line line [] plain not);
 }
 
-pub settled-header : IsSettled (graph_header ++ 10 ∷ [])
-settled-header = record { within = omega arith; same = λ more. refl }
-
 pub settled-more : (bytes more : List ℕ) → IsSettled bytes → IsSettled (bytes ++ more)
 settled-more bytes more s = record {
   within = let e = s.same more in let w = s.within in let l = length-append bytes more in omega arith;

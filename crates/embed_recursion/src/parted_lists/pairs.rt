@@ -6,8 +6,8 @@ ghost use Rattle.conn_parts.specs.Parts.{ArePartsOf};
 ghost use Rattle.embed_contraction.specs.Linked.{HasEdge, IsLinkedWithout, without_vertices as lists_without};
 ghost use Rattle.embed_recursion.specs.Parted.{IsOff, IsOffApart, ArePartedBy};
 
-use crate::parted_lists::rest::{is_outside, without_vertices};
 use conn_parts::{Parts, list_components};
+use embed_maps::vertex_holes::{is_outside, without_vertices};
 use map_lists::{Rotations, VertexId};
 use std::alloc::{AllocError, Global};
 
@@ -74,7 +74,8 @@ fn is_off(lists: &Rotations, vs: &[u16], v: u16) -> bool
     requires { v < length lists.now }
     ensures { IsTrue result ↔ IsOff lists.now vs.now v }
 {
-    has_edge(lists, usize::from(v)) && is_outside(vs, v)
+    let place = usize::from(v);
+    has_edge(lists, place) && is_outside(vs, place)
 }
 
 fn is_off_apart(lists: &Rotations, vs: &[u16], parts: &Parts, s: u16, v: u16) -> bool

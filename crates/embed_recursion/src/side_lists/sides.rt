@@ -9,9 +9,10 @@ ghost use Rattle.embed_recursion.specs.Parted.{IsUncut, IsCutBy, ArePairParting}
 ghost use Rattle.embed_theorem.specs.Sides.{IsSided};
 ghost use Rattle.embed_recursion.specs.Parting.{is_beside, beside as vertices_beside, AreSplit, ArePairSides};
 
-use crate::parted_lists::{Parting, is_outside, without_vertices};
+use crate::parted_lists::Parting;
 use crate::side_lists::joined::joined_up;
 use conn_parts::{Parts, list_components};
+use embed_maps::vertex_holes::{is_outside, without_vertices};
 use map_lists::{Rotations, VertexId};
 use std::alloc::{AllocError, Global};
 
@@ -119,7 +120,7 @@ fn stands_beside(lists: &Rotations, vs: &[u16], parts: &Parts, s: u16, joined: b
     ensures { result ≡ is_beside lists.now vs.now s joined z }
 {
     let same = are_joined(lists, vs, parts, s, z);
-    is_outside(vs, z) && chosen(joined, same)
+    is_outside(vs, usize::from(z)) && chosen(joined, same)
 }
 
 fn chosen(joined: bool, same: bool) -> bool

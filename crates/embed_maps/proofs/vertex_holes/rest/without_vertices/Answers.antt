@@ -4,7 +4,7 @@ use Rattle.map_theory.specs.Maps.{list_of}
 use Rattle.plane_laws.specs.Kept.{kept_from}
 use Rattle.embed_contraction.specs.Linked.{outside}
 use Rattle.embed_maps.proofs.HoleLemmas.{kept-more}
-use Rattle.embed_recursion.proofs.parted_lists.rest.without_vertices.Goals as goal
+use Rattle.embed_maps.proofs.vertex_holes.rest.without_vertices.Goals as goal
 
 pub loop-v-preserved : goal.loop-v-preserved
 loop-v-preserved c =
