@@ -26,7 +26,7 @@ PROGRAM = r"""//! Checks the drawing in drawing.txt.
 
 ghost use Rattle.std.specs.Prelude.{◌≡◌, ◌<◌, ◌≤◌, ◌+◌, ◌*◌, ◌^◌, ℕ, length, IsTrue, IfSome, OnOk};
 ghost use Rattle.std.specs.Bool.{OnTrue};
-ghost use Rattle.plane_laws.specs.Completed.{IsCompleted};
+ghost use Rattle.plane_laws.specs.Triangulations.{IsTriangulation};
 ghost use Rattle.draw_check.specs.Faults.{HasPlaces};
 ghost use Rattle.pg_plane.specs.Range.{IsInRange};
 ghost use Rattle.plane_drawings.specs.Drawing.{place};
@@ -78,7 +78,7 @@ fn are_completed(n: u64, m: u64, f: u64, c: u64) -> bool
 }
 
 fn is_completed(alloc: Global, map: &HalfMap) -> Option<bool>
-    ensures { IfSome result (λ r. IsTrue r → IsCompleted map.now.lists) }
+    ensures { IfSome result (λ r. IsTrue r → IsTriangulation map.now.lists) }
 {
     map.facts();
     match euler(alloc, map) {
@@ -116,13 +116,6 @@ fn read_vertices(
     true
 }
 
-fn corner(fig: &GridFigure) -> Point {
-    Point {
-        x: fig.width,
-        y: fig.height,
-    }
-}
-
 fn report_faces(rt: &HostRuntime, map: &HalfMap, fig: &GridFigure, u: u16, v: u16) -> io::Result<()>
     requires { HasPlaces map.now.lists fig.now.points }
 {
@@ -131,7 +124,7 @@ fn report_faces(rt: &HostRuntime, map: &HalfMap, fig: &GridFigure, u: u16, v: u1
     }
     match is_completed(rt.alloc(), map) {
         Some(true) => match map.dart_of(VertexId(u), VertexId(v)) {
-            Some(base) => match check_by_faces(map, base, &fig.points, corner(fig)) {
+            Some(base) => match check_by_faces(map, base, fig) {
                 FaceVerdict::OutOfGrid(_) => println!(rt; "OutOfGrid")?,
                 FaceVerdict::Wrong(_, _, _) => println!(rt; "Wrong")?,
                 FaceVerdict::Yes => println!(rt; "Yes")?,
@@ -146,7 +139,7 @@ fn report_faces(rt: &HostRuntime, map: &HalfMap, fig: &GridFigure, u: u16, v: u1
 fn report_pairs(rt: &HostRuntime, map: &HalfMap, fig: &GridFigure) -> io::Result<()>
     requires { HasPlaces map.now.lists fig.now.points }
 {
-    match check(map, &fig.points, corner(fig)) {
+    match check(map, fig) {
         Verdict::OutOfGrid(_) => println!(rt; "OutOfGrid")?,
         Verdict::SamePlace(_, _) => println!(rt; "SamePlace")?,
         Verdict::OnEdge(_, _) => println!(rt; "OnEdge")?,

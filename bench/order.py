@@ -57,7 +57,7 @@ fn complete(alloc: Global, map: half_edges::HalfMap)
 }
 
 fn order(alloc: Global, tri: &half_edges::HalfMap)
-    requires { IsCompleted tri.now.lists }
+    requires { IsTriangulation tri.now.lists }
 {
     tri.facts();
     if let Some(base) = tri.first_dart(half_edges::VertexId(0)) {
@@ -65,7 +65,7 @@ fn order(alloc: Global, tri: &half_edges::HalfMap)
     }
 }
 
-ghost use Rattle.plane_laws.specs.Completed.{IsCompleted};
+ghost use Rattle.plane_laws.specs.Triangulations.{IsTriangulation};
 """
 
 

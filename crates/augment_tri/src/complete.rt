@@ -1,7 +1,7 @@
-//! Maps completed.
+//! Maps with edges put in until all faces are triangles.
 ghost use Rattle.std.specs.Prelude.{◌≡◌, ◌≤◌, ℕ, Some, IfOk, IfErr};
 ghost use Rattle.map_theory.specs.Maps.{IsPlane, vertex_count};
-ghost use Rattle.plane_laws.specs.Completed.{IsCompleted};
+ghost use Rattle.plane_laws.specs.Triangulations.{IsTriangulation};
 ghost use Rattle.plane_laws.specs.MapEditsCompleted.{IsExtended};
 ghost use Rattle.half_edges.specs.Map.{IsHalfMap, dart_at};
 ghost use Rattle.conn_parts.specs.Parts.{ArePartsOf};
@@ -21,7 +21,7 @@ use std::alloc::{AllocError, Global};
 pub fn triangulate(alloc: Global, map: HalfMap) -> Result<HalfMap, (HalfMap, AllocError)>
     requires plane { IsPlane map.lists }
     requires some { 3 ≤ vertex_count map.lists }
-    ensures completed { IfOk result (λ new. IsCompleted new.lists) }
+    ensures triangulation { IfOk result (λ new. IsTriangulation new.lists) }
     ensures extended { IfOk result (λ new. IsExtended map.lists new.lists) }
     ensures ids { IfOk result (λ new. (d v u : ℕ) → dart_at map d ≡ Some (v, u) → dart_at new d ≡ Some (v, u)) }
     ensures known { IfOk result IsHalfMap }
@@ -38,7 +38,7 @@ pub fn triangulate_parts(map: HalfMap, parts: &Parts) -> Result<HalfMap, (HalfMa
     requires plane { IsPlane map.lists }
     requires some { 3 ≤ vertex_count map.lists }
     requires parts { ArePartsOf map.lists parts.now }
-    ensures completed { IfOk result (λ new. IsCompleted new.lists) }
+    ensures triangulation { IfOk result (λ new. IsTriangulation new.lists) }
     ensures extended { IfOk result (λ new. IsExtended map.lists new.lists) }
     ensures ids { IfOk result (λ new. (d v u : ℕ) → dart_at map d ≡ Some (v, u) → dart_at new d ≡ Some (v, u)) }
     ensures known { IfOk result IsHalfMap }

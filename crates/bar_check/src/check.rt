@@ -161,7 +161,7 @@ fn first_behind_bars(map: &HalfMap, fig: &BarFigure, width: i32) -> BarVerdict
 ///
 /// `fig` has a bar for each vertex. It takes no memory from the heap, and at most 200 KB of the stack. Where
 /// the edges are no more than those of a plane map, the time is that of reading the map, besides that in
-/// which a sweep fills the columns of each bar, eight at a time; else each edge is compared with each vertex.
+/// which a sweep fills the columns of each bar; else each edge is compared with each vertex.
 pub fn check_bars(map: &HalfMap, fig: &BarFigure, width: i32) -> BarVerdict
     requires { HasBars map.now.lists fig.now }
     ensures { IsBarVerdict map.now.lists fig.now width result }

@@ -1,4 +1,4 @@
--- The definition run on a worked case: an order of the tetrahedron.
+-- The definition tried on a worked case: an order of the tetrahedron.
 use Rattle.std.proofs.Common.{◌≡◌, ◌≢◌, ℕ, zero, suc, ◌+◌, ◌<◌, ◌≤◌, List, [], ◌∷◌, take, get_or, AllPairs, Contains, refl, inl, inr, arith, lit<}
 use Rattle.map_lists.specs.Lists.{Lists}
 use Rattle.map_theory.specs.Maps.{HasDart, list_of, entry_after, follows}

@@ -5,7 +5,7 @@ use Rattle.std.proofs.Math.Seq.{take-length}
 use Rattle.map_lists.specs.Lists.{Lists}
 use Rattle.map_theory.specs.Maps.{Dart, HasDart, follows, entry_after}
 use Rattle.map_theory.proofs.EntryLemmas.{list_any-from_Contains}
-use Rattle.plane_laws.specs.Completed.{IsCompleted}
+use Rattle.plane_laws.specs.Triangulations.{IsTriangulation}
 use Rattle.plane_laws.proofs.Triangles.{triangles_where_met}
 use Rattle.plane_peeling.specs.Restricted.{restricted}
 use Rattle.plane_peeling.specs.NearTriangulations.{IsOuterCycle}
@@ -16,7 +16,7 @@ use Rattle.canon_order.specs.Orders.{stands_in, IsCanonicalOrder}
 use Rattle.canon_order.specs.Laws.{LastCycle}
 use Rattle.canon_order.proofs.Counters.{same_place, all_of_them}
 
-module _ (lists : Lists) (base : Dart) (at : List ℕ) (completed : IsCompleted lists) (order : IsCanonicalOrder lists base at) where
+module _ (lists : Lists) (base : Dart) (at : List ℕ) (triangulation : IsTriangulation lists) (order : IsCanonicalOrder lists base at) where
   abbrev s : ℕ
   s = base.1
 
@@ -39,32 +39,32 @@ module _ (lists : Lists) (base : Dart) (at : List ℕ) (completed : IsCompleted 
   whole : IsOuterCycle lists s t ws
   whole =
       let n = order.count in
-      let some = completed.some in
-      subst (λ m. IsOuterCycle m s t ws) (ap (λ us. restricted (stands_in us) lists) (take-length at) ∙ restricted_all lists (stands_in at) completed.simple all_in)
+      let some = triangulation.some in
+      subst (λ m. IsOuterCycle m s t ws) (ap (λ us. restricted (stands_in us) lists) (take-length at) ∙ restricted_all lists (stands_in at) triangulation.simple all_in)
       (order.built.outer (length at) (omega arith) (omega arith))
 
   abbrev next : ℕ → ℕ
   next x = entry_after x ws
 
   pub base_dart : HasDart lists t s
-  base_dart = subst (HasDart lists t) (next-last lists s t ws completed.simple whole) (whole.darts t (last_on lists s t ws completed.simple whole))
+  base_dart = subst (HasDart lists t) (next-last lists s t ws triangulation.simple whole) (whole.darts t (last_on lists s t ws triangulation.simple whole))
 
   -- from s on to the third vertex of the base's face, and on to t
   after_s : next s ≡ w
   after_s =
-      let e = next-last lists s t ws completed.simple whole in
-      sym (ap (λ x. follows lists x t) (sym e) ∙ (whole.turns t (last_on lists s t ws completed.simple whole) ∙ ap next e))
+      let e = next-last lists s t ws triangulation.simple whole in
+      sym (ap (λ x. follows lists x t) (sym e) ∙ (whole.turns t (last_on lists s t ws triangulation.simple whole) ∙ ap next e))
 
   after_w : next w ≡ t
   after_w =
-      let triangle = triangles_where_met lists completed.simple completed.plane completed.some completed.edges (t, s) base_dart in
+      let triangle = triangles_where_met lists triangulation.simple triangulation.plane triangulation.some triangulation.edges (t, s) base_dart in
       let face = IsFaceOfThree-triangle lists t s base_dart triangle in
-      ap next (sym after_s) ∙ (sym (whole.turns s (first_on lists s t ws completed.simple whole)) ∙ (ap (λ x. follows lists x s) after_s ∙ face.third))
+      ap next (sym after_s) ∙ (sym (whole.turns s (first_on lists s t ws triangulation.simple whole)) ∙ (ap (λ x. follows lists x s) after_s ∙ face.third))
 
   pub last_cycle_here : ws ≡ s ∷ w ∷ t ∷ []
   last_cycle_here =
       let long = whole.long in
-      let way = round lists s t ws completed.simple whole in
+      let way = round lists s t ws triangulation.simple whole in
       let first : get_or ws 0 0 ≡ s = whole.first in
       let second : get_or ws 1 0 ≡ w = Leads-at next t ws t 0 1 way (omega arith) ∙ (ap next first ∙ after_s) in
       let third : get_or ws 2 0 ≡ t = Leads-at next t ws t 0 2 way (omega arith) ∙ (ap next second ∙ after_w) in
@@ -79,4 +79,4 @@ module _ (lists : Lists) (base : Dart) (at : List ℕ) (completed : IsCompleted 
 
 -- THE LAW
 pub last_cycle : LastCycle
-last_cycle lists base at completed order = last_cycle_here lists base at completed order
+last_cycle lists base at triangulation order = last_cycle_here lists base at triangulation order

@@ -9,7 +9,7 @@ use Rattle.classes.proofs.Counting.{count_below_all, count_below_same}
 use Rattle.map_lists.specs.Lists.{Lists}
 use Rattle.map_theory.specs.Maps.{HasDart, IsSimpleMap, follows, entry_after}
 use Rattle.map_theory.proofs.EntryLemmas.{Contains-here, Contains-there, Contains-from_list_any, list_any-from_Contains}
-use Rattle.plane_laws.specs.Completed.{IsCompleted}
+use Rattle.plane_laws.specs.Triangulations.{IsTriangulation}
 use Rattle.plane_peeling.specs.Restricted.{restricted, kept_but, IsFaceOfThree, IsDartOfThree}
 use Rattle.plane_peeling.specs.NearTriangulations.{IsOuterCycle, IsOuterDart}
 use Rattle.plane_peeling.specs.Peeled.{IsPeeled, IsFan, IsTakenOff}
@@ -52,12 +52,12 @@ middle_of_three a b c (x ∷ front) p v q back e =
     absurd (omega (arith, ap length e, length-append front (p ∷ v ∷ q ∷ back)))
 
 -- ---- nothing is taken off
-module _ (lists : Lists) (s t : ℕ) (kept : ℕ → Bool) (completed : IsCompleted lists) (base : HasDart lists t s) (all : (v : ℕ) → v < length lists → kept v ≡ true) (vertices : (v : ℕ) → kept v ≡ true → v < length lists) where
+module _ (lists : Lists) (s t : ℕ) (kept : ℕ → Bool) (triangulation : IsTriangulation lists) (base : HasDart lists t s) (all : (v : ℕ) → v < length lists → kept v ≡ true) (vertices : (v : ℕ) → kept v ≡ true → v < length lists) where
   abbrev w : ℕ
   w = follows lists s t
 
   whole : IsPeeled lists kept s t (three s w t)
-  whole = nothing_taken_off lists kept s t completed base all
+  whole = nothing_taken_off lists kept s t triangulation base all
 
   whole_count : count_below kept (length lists) ≡ length lists
   whole_count = count_below_same kept (λ i. true) (length lists) all ∙ count_below_all (length lists)
@@ -66,7 +66,7 @@ module _ (lists : Lists) (s t : ℕ) (kept : ℕ → Bool) (completed : IsComple
   order_of_all : (us : List ℕ) (cycle : ℕ → List ℕ) → IsOrderOfLeft lists s t kept (three s w t) us cycle → IsCanonicalOrder lists (t, s) us
   order_of_all us cycle order =
       let n = order.count ∙ whole_count in
-      let some = completed.some in
+      let some = triangulation.some in
       record {
         count = n;
         vertices = λ k d l. vertices (get_or us k d) (sym (order.same (get_or us k d)) ∙ list_any-from_Contains (get_or us k d) us (Contains-get_or us k d l));
@@ -76,7 +76,7 @@ module _ (lists : Lists) (s t : ℕ) (kept : ℕ → Bool) (completed : IsComple
             middle_of_three s w t put.front put.p (get_or us (length lists - 1) 0) put.q put.back (sym (ap cycle top ∙ order.top) ∙ put.after);
         cycle = cycle;
         built = order.built;
-        faces = λ x y d n'. order.faces x y (subst (λ z. HasDart z x y) (sym (restricted_all lists kept completed.simple all)) d) (λ o. n' (outer_of_three s w t x y whole.near.cycle.distinct o));
+        faces = λ x y d n'. order.faces x y (subst (λ z. HasDart z x y) (sym (restricted_all lists kept triangulation.simple all)) d) (λ o. n' (outer_of_three s w t x y whole.near.cycle.distinct o));
       }
 
   pub IsLeft-begin : IsLeft lists s t kept (three s w t) []
@@ -105,17 +105,17 @@ stands_in-more us v u b e here =
     stays true = refl
     stays false = refl
 
--- the entries of a run within a list
+-- the entries of a row within a list
 run_at : (front : List ℕ) (p : ℕ) (mid : List ℕ) (q : ℕ) (back : List ℕ) (i : ℕ) → i < length mid + 2 → get_or (front ++ (p ∷ mid ++ q ∷ back)) (length front + i) 0 ≡ get_or (p ∷ mid ++ q ∷ []) i 0
 run_at front p mid q back i l =
     get_or-append-add front (p ∷ mid ++ q ∷ back) i 0
     ∙ (ap (λ z. get_or z i 0) (sym (append_assoc (p ∷ mid) (q ∷ []) back))
     ∙ get_or_append_left (p ∷ mid ++ q ∷ []) back 0 i (omega (arith, length-append (p ∷ mid) (q ∷ []))))
 
-length-run : (front : List ℕ) (p : ℕ) (mid : List ℕ) (q : ℕ) (back : List ℕ) → length front + length mid + 2 ≤ length (front ++ (p ∷ mid ++ q ∷ back))
-length-run front p mid q back = omega (arith, length-append front (p ∷ mid ++ q ∷ back), length-append (p ∷ mid) (q ∷ back))
+length-row : (front : List ℕ) (p : ℕ) (mid : List ℕ) (q : ℕ) (back : List ℕ) → length front + length mid + 2 ≤ length (front ++ (p ∷ mid ++ q ∷ back))
+length-row front p mid q back = omega (arith, length-append front (p ∷ mid ++ q ∷ back), length-append (p ∷ mid) (q ∷ back))
 
-module _ (lists : Lists) (s t : ℕ) (kept : ℕ → Bool) (ws rest : List ℕ) (completed : IsCompleted lists) (left : IsLeft lists s t kept ws rest) where
+module _ (lists : Lists) (s t : ℕ) (kept : ℕ → Bool) (ws rest : List ℕ) (triangulation : IsTriangulation lists) (left : IsLeft lists s t kept ws rest) where
   -- what is on the outer cycle is left
   pub on_kept : (v : ℕ) → Contains ws v → kept v ≡ true
   on_kept v on = (restricted-old lists kept v (entry_after v ws) (left.peeled.near.cycle.darts v on)).1
@@ -154,7 +154,7 @@ module _ (lists : Lists) (s t : ℕ) (kept : ℕ → Bool) (ws rest : List ℕ) 
                 let in_run = h.1 in
                 let at = run_at front p mid q back h.0 (omega arith) in
                 let at' = run_at front p mid q back (h.0 + 1) (omega arith) in
-                let long = length-run front p mid q back in
+                let long = length-row front p mid q back in
                 let one = ap (λ z. get_or z (length front + h.0) 0) order.top ∙ at in
                 let e : suc (length front + h.0) ≡ length front + (h.0 + 1) = omega arith in
                 let next = ap₂ (λ z k. get_or z k 0) order.top e ∙ at' in
@@ -186,7 +186,7 @@ module _ (lists : Lists) (s t : ℕ) (kept : ℕ → Bool) (ws rest : List ℕ) 
     cycle_of_three = subst (λ z. IsOuterCycle map s t z) last.1 left.peeled.near.cycle
 
     simple : IsSimpleMap lists
-    simple = completed.simple
+    simple = triangulation.simple
 
     apart : (s ≢ x) × ((s ≢ t) × (x ≢ t))
     apart =

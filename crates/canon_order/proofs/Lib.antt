@@ -3,7 +3,7 @@ mod Cases
 mod Built
 pub mod Lefts
 mod OrderLaws
-mod RunEnds
+mod RowEnds
 mod LastCycle
 pub mod Counters
 pub mod Marks

@@ -1,4 +1,4 @@
--- What is left of a completed map while its vertices are taken off, and what is kept of it.
+-- What is left of a triangulation while its vertices are taken off, and what is kept of it.
 use Rattle.std.specs.Prelude.{ℕ, ◌+◌, ◌<◌, ◌≡◌, ◌≢◌, ◌⊎◌, ◌↔◌, Bool, true, List, ◌++◌, length, Contains}
 use Rattle.classes.specs.Classes.{count_below}
 use Rattle.map_lists.specs.Lists.{Lists}

@@ -1,4 +1,4 @@
--- Canonical orders of completed maps.
+-- Canonical orders of triangulations.
 use Rattle.std.specs.Prelude.{ℕ, suc, ◌-◌, ◌<◌, ◌≤◌, ◌≡◌, ◌≢◌, ◌==◌, Bool, List, [], ◌∷◌, ◌++◌, map, length, take, slice_index, AllPairs, All}
 use Rattle.std.specs.List.{list_any}
 use Rattle.map_lists.specs.Lists.{Lists}
@@ -12,7 +12,7 @@ use Rattle.canon_order.specs.declared.order.Order.{Order}
 abbrev pub stands_in : List ℕ → ℕ → Bool
 stands_in us v = list_any (λ w. w == v) us
 
--- The vertex v is put on the cycle `old`, over a run of it, from p to q: those strictly between p and q leave it. Of `us`, which has v and those before it, v is adjacent to the run alone, and with each two of the run that follow one another it is on a face of the whole map.
+-- The vertex v is put on the cycle `old`, over a stretch of it, from p to q: those strictly between p and q leave it. Of `us`, which has v and those before it, v is adjacent to the row alone, and with each two of the row that follow one another it is on a face of the whole map.
 pub record IsPutOn (lists : Lists) (us : List ℕ) (v : ℕ) (old new : List ℕ) : Type 0 where
   pub front : List ℕ
   pub p : ℕ

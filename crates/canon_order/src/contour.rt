@@ -1,24 +1,24 @@
-//! The outer cycle of what is left, while vertices that look free are taken off it.
+//! The outer cycle of what is left, while vertices that look removable are taken off it.
 ghost use Rattle.std.specs.Prelude.{◌≡◌, ◌≢◌, ◌<◌, ◌⊎◌, ◌↔◌, ℕ, false, true, [], ◌∷◌, length, slice_set, Contains, All, IsTrue, IfOk};
 ghost use Rattle.map_theory.specs.Maps.{IsSimpleMap};
 ghost use Rattle.canon_order.specs.Marks.{is_set, IsTally, IsUnmarked, IsNoted, IsTaken};
-ghost use Rattle.canon_order.specs.Contours.{LooksFree, IsPrepared};
+ghost use Rattle.canon_order.specs.Contours.{LooksRemovable, IsPrepared};
 
 use crate::cycle_marks::{leave_cycle, mark_three};
 use half_edges::Rotations;
 use std::alloc::AllocError;
 
-// Whether a vertex looks free.
-fn is_free(marked: &[bool], near: &[u16], t: u16, s: u16, v: u16) -> bool
+// Whether a vertex looks removable.
+fn is_removable(marked: &[bool], near: &[u16], t: u16, s: u16, v: u16) -> bool
     requires marked { v < length marked.now }
     requires near { v < length near.now }
-    ensures { IsTrue result ↔ LooksFree t s marked.now near.now v }
+    ensures { IsTrue result ↔ LooksRemovable t s marked.now near.now v }
 {
     marked[v as usize] && v != t && v != s && near[v as usize] == 2
 }
 
-// A vertex that looks free, where there is one.
-pub(crate) fn free_vertex(
+// A vertex that looks removable, where there is one.
+pub(crate) fn removable_vertex(
     marked: &[bool],
     near: &[u16],
     stack: &mut Vec<u16>,
@@ -27,14 +27,14 @@ pub(crate) fn free_vertex(
     s: u16,
 ) -> u16
     requires prepared { IsPrepared lists.now t s marked.now near.now stack.old.items }
-    requires some { (v : ℕ) × LooksFree t s marked.now near.now v }
-    ensures free { LooksFree t s marked.now near.now result }
+    requires some { (v : ℕ) × LooksRemovable t s marked.now near.now v }
+    ensures removable { LooksRemovable t s marked.now near.now result }
     ensures vertex { result < length lists.now }
     ensures prepared { IsPrepared lists.now t s marked.now near.now stack.new.items }
 {
     while stack.len() > 0 {
         let v = stack[stack.len() - 1];
-        if is_free(marked, near, t, s, v) {
+        if is_removable(marked, near, t, s, v) {
             return v;
         }
         stack.pop();
@@ -65,7 +65,7 @@ pub(crate) fn take_off(
     leave_cycle(marked, near, stack, gone, lists, v)
 }
 
-// Marks the three vertices of the base's face, of which just one may look free.
+// Marks the three vertices of the base's face, of which just one may look removable.
 pub(crate) fn mark_base(
     marked: &mut [bool],
     near: &mut [u16],

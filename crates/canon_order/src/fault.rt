@@ -2,7 +2,7 @@
 
 use std::alloc::AllocError;
 
-/// Why a completed map got no canonical order.
+/// Why a triangulation got no canonical order.
 #[derive(Clone, Copy, PartialEq, Eq)]
 pub enum OrderFault {
     /// There was not enough memory.

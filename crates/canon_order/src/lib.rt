@@ -1,8 +1,8 @@
-//! Canonical orders of completed maps: the vertices in an order in which each is put on the outer cycle of
+//! Canonical orders of triangulations: the vertices in an order in which each is put on the outer cycle of
 //! those before it.
 #![tactic(auto)]
 
-ghost use Rattle.canon_order.specs.Laws.{LastCycle, RunEnds, SomeOrder};
+ghost use Rattle.canon_order.specs.Laws.{LastCycle, RowEnds, SomeOrder};
 
 mod contour;
 pub mod cycle_marks;
@@ -14,7 +14,7 @@ pub use fault::OrderFault;
 pub use lists::push_three;
 pub use order::{Order, canon_order, list_order, turned_order};
 
-/// Each completed map has a canonical order for each base dart.
+/// Each triangulation has a canonical order for each base dart.
 pub fn some_order()
     ensures { SomeOrder }
 {}
@@ -26,7 +26,7 @@ pub fn last_cycle()
 {}
 
 /// In the list of a vertex of a canonical order that is neither of the base nor the last one, clockwise,
-/// the vertices of its run stand from q back to p, and after p and before q stands a later vertex.
-pub fn run_ends()
-    ensures { RunEnds }
+/// the vertices of its row stand from q back to p, and after p and before q stands a later vertex.
+pub fn row_ends()
+    ensures { RowEnds }
 {}

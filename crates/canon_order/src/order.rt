@@ -1,12 +1,12 @@
 //! Canonical orders.
 ghost use Rattle.std.specs.Prelude.{◌≡◌, ◌≢◌, ◌<◌, ℕ, false, true, [], ◌∷◌, ◌++◌, reverse, length, slice_index, All, AllPairs, Some, IfOk};
 ghost use Rattle.map_theory.specs.Maps.{HasDart, follows};
-ghost use Rattle.plane_laws.specs.Completed.{IsCompleted};
+ghost use Rattle.plane_laws.specs.Triangulations.{IsTriangulation};
 ghost use Rattle.half_edges.specs.Map.{IsLive, dart_at};
 ghost use Rattle.canon_order.specs.Marks.{is_set, IsUnmarked};
 ghost use Rattle.canon_order.specs.Orders.{IsCanonicalOrder, IsRankOf, vertices_of};
 
-use crate::contour::{free_vertex, mark_base, take_off};
+use crate::contour::{mark_base, removable_vertex, take_off};
 use crate::fault::OrderFault;
 use crate::lists::{push_three, turned_ranks, turned_vertices};
 use half_edges::{Counts, DartId, HalfMap, Rotations, VertexList};
@@ -35,7 +35,7 @@ fn peel(
     third: u16,
     under: u16,
 ) -> Result<(), AllocError>
-    requires completed { IsCompleted lists.now }
+    requires triangulation { IsTriangulation lists.now }
     requires few { length lists.now < 4096 }
     requires base { HasDart lists.now t s }
     requires third { third ≡ follows lists.now s t }
@@ -49,7 +49,7 @@ fn peel(
 {
     mark_base(marked, near, stack, lists, t, s, third)?;
     for _ in 3..lists.len() {
-        let v = free_vertex(marked, near, stack, lists, t, s);
+        let v = removable_vertex(marked, near, stack, lists, t, s);
         take_off(marked, near, gone, stack, lists, v)?;
         taken.push(v)?;
     }
@@ -65,7 +65,7 @@ fn taken_off(
     third: u16,
     under: u16,
 ) -> Result<Vec<u16>, AllocError>
-    requires completed { IsCompleted lists.now }
+    requires triangulation { IsTriangulation lists.now }
     requires few { length lists.now < 4096 }
     requires base { HasDart lists.now t s }
     requires third { third ≡ follows lists.now s t }
@@ -106,7 +106,7 @@ pub fn turned_order(alloc: Global, taken: &[u16]) -> Result<Order, AllocError>
     Ok(Order { at, rank })
 }
 
-/// A canonical order of a completed map, a simple map of genus zero with n >= 3 and m = 3n - 6, for a base
+/// A canonical order of a triangulation, a simple map of genus zero with n >= 3 and m = 3n - 6, for a base
 /// dart, from t to s.
 ///
 /// `at` has all vertices once: s is the first, t the second, and the third vertex of the face on the left
@@ -121,7 +121,7 @@ pub fn turned_order(alloc: Global, taken: &[u16]) -> Result<Order, AllocError>
 ///
 /// Source: de Fraysseix, Pach, Pollack, How to draw a planar graph on a grid, 1990.
 pub fn canon_order(alloc: Global, tri: &HalfMap, base: DartId) -> Result<Order, OrderFault>
-    requires completed { IsCompleted tri.now.lists }
+    requires triangulation { IsTriangulation tri.now.lists }
     requires live { IsLive tri.now base.0 }
     ensures order { IfOk result (λ order. (t s : ℕ) → dart_at tri.now base.0 ≡ Some (t, s) → IsCanonicalOrder tri.now.lists (t, s) (vertices_of order)) }
     ensures rank { IfOk result (λ order. IsRankOf order.rank (vertices_of order)) }
@@ -138,7 +138,7 @@ pub fn list_order(
     lists: &Rotations,
     base: DartId,
 ) -> Result<Order, AllocError>
-    requires completed { IsCompleted tri.now.lists }
+    requires triangulation { IsTriangulation tri.now.lists }
     requires lists { lists.now ≡ tri.now.lists }
     requires live { IsLive tri.now base.0 }
     ensures order { IfOk result (λ order. (t s : ℕ) → dart_at tri.now base.0 ≡ Some (t, s) → IsCanonicalOrder tri.now.lists (t, s) (vertices_of order)) }

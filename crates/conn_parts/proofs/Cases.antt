@@ -5,7 +5,7 @@ use Rattle.classes.specs.Classes.{merge}
 use Rattle.map_lists.specs.Lists.{Lists}
 use Rattle.map_theory.specs.Maps.{entry_after, face_count, component_count}
 use Rattle.simple_maps.specs.Faults.{first_fault}
-use Rattle.conn_parts.specs.Blocks.{BreaksFirst}
+use Rattle.conn_parts.specs.BiconnectedMaps.{BreaksFirst}
 use Rattle.refusals.specs.declared.refusal.Refusal.TheVariants.{NotConnected}
 
 abbrev two_triangles : Lists

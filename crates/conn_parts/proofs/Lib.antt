@@ -1,7 +1,7 @@
--- Lemmas on records as maps in one block.
+-- Lemmas on records as biconnected maps.
 pub mod RefusalLemmas
 mod Cases
-mod PlaneBlocksRefused
+mod BiconnectedMapsRefused
 -- What numbers of components say.
 pub mod PartLemmas
 mod Refused

@@ -1,5 +1,5 @@
 -- Records as connected maps of genus zero without cut vertices.
-pub mod Blocks
+pub mod BiconnectedMaps
 pub mod Laws
 -- Numberings of the components of maps.
 pub mod Parts

@@ -1,10 +1,10 @@
 //! The components of a map, numbered.
 #![tactic(auto)]
 
+pub mod biconnected_maps;
 mod counted;
 pub mod graph_cuts;
 mod parts;
-pub mod plane_blocks;
 
 pub use counted::{CountedMap, counted_map, plane_map};
 pub use graph_cuts::{graph_components, graph_cut_vertex, graph_separating_pair};

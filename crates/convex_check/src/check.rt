@@ -10,7 +10,7 @@ use crate::bends::first_bent;
 use crate::outer::is_outer_convex;
 use euler_faces::faces;
 use half_edges::{DartId, HalfMap};
-use pg_plane::Points;
+use pg_plane::{GridFigure, Points};
 use std::alloc::{AllocError, Global};
 
 /// The least three consecutive vertices of the walk of a face other than that of `base` that turn to the
@@ -20,7 +20,7 @@ use std::alloc::{AllocError, Global};
 /// `base` is live, there is one point for each vertex, and no coordinate is beyond 2^20 in size; whether the drawing is
 /// plane is not looked at. It fails only for want of memory. The time and the memory
 /// are linear in the vertices and the darts.
-pub fn check_convex(
+pub fn check_convex_points(
     alloc: Global,
     map: &HalfMap,
     base: DartId,
@@ -40,4 +40,18 @@ pub fn check_convex(
     } else {
         Ok(ConvexVerdict::OuterBent)
     }
+}
+
+/// The same of a figure, of which the grid is not looked at.
+pub fn check_convex(
+    alloc: Global,
+    map: &HalfMap,
+    base: DartId,
+    fig: &GridFigure,
+) -> Result<ConvexVerdict, AllocError>
+    requires base { IsLive map.now base.0 }
+    requires places { HasPlaces map.now.lists fig.now.points }
+    ensures { IfOk result (IsConvexVerdict map.now.lists fig.now.points (dart_of map.now base.0)) }
+{
+    check_convex_points(alloc, map, base, &fig.points)
 }

@@ -11,7 +11,7 @@ mod check;
 mod outer;
 mod verdict;
 
-pub use check::check_convex;
+pub use check::{check_convex, check_convex_points};
 pub use verdict::ConvexVerdict;
 
 /// The verdict is `Yes` exactly where the drawing is convex.

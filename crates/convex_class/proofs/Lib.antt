@@ -9,6 +9,6 @@ mod ClearLemmas
 mod Bad
 mod FacePairsRefused
 -- Lemmas on records as three-connected maps.
-pub mod BlockLemmas
-mod ConvexBlocksCases
-mod ConvexBlocksRefused
+pub mod BiconnectedLemmas
+mod ConvexMapsCases
+mod ConvexMapsRefused

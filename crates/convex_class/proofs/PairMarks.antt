@@ -13,8 +13,8 @@ use Rattle.vertex_rounds.proofs.RoundLemmas.{LeavesFrom, LeavesFrom-later, head_
 use Rattle.graph_search.specs.Cuts.{IsSeparatingPair, IsLeastPair}
 use Rattle.graph_search.proofs.PartnerLemmas.{least_pair}
 use Rattle.convex_peeling.specs.TwoFaces.{AreMetTwice}
-use Rattle.convex_peeling.specs.TightMapsLaws.{IsPlaneUncut}
-use Rattle.convex_peeling.proofs.Tightness.{pairs_meet_twice}
+use Rattle.convex_peeling.specs.PolyhedralMapsLaws.{IsPlaneUncut}
+use Rattle.convex_peeling.proofs.PolyhedralLemmas.{pairs_meet_twice}
 use Rattle.convex_class.specs.Passing.{IsPassed, IsTwiceSeen, AreMarksOf}
 
 -- the round of u stands at dart d, and the marks are those of the darts before

@@ -15,8 +15,8 @@ use Rattle.vertex_rounds.specs.Rounds.{dart_of}
 use Rattle.vertex_rounds.proofs.DartIds.{dart_of-live, dart_of-is, has_dart}
 use Rattle.vertex_rounds.proofs.RoundLemmas.{LeavesFrom, head_at, place_at, at_place}
 use Rattle.euler_faces.proofs.WalkFaces.{in_class, in_walk}
-use Rattle.convex_peeling.specs.TightMapsLaws.{IsPlaneUncut}
-use Rattle.convex_peeling.proofs.Tightness.{faces_pass_once}
+use Rattle.convex_peeling.specs.PolyhedralMapsLaws.{IsPlaneUncut}
+use Rattle.convex_peeling.proofs.PolyhedralLemmas.{faces_pass_once}
 use Rattle.convex_class.specs.Passing.{IsPassed, IsSeen, IsTwiceSeen, AreMarks, AreMarksOf, IsMarked, IsUnused}
 use Rattle.convex_class.proofs.MarkLemmas.{Alike, AreMarks-alike, AreMarks-more, IsUnused-more, IsSeen-more, IsTwiceSeen-more}
 

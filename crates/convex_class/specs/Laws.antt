@@ -2,7 +2,7 @@
 use Rattle.map_lists.specs.Lists.{Lists}
 use Rattle.map_theory.specs.Maps.{IsPlane}
 use Rattle.refusals.specs.declared.refusal.Refusal.{Refusal}
-use Rattle.convex_peeling.specs.Tight.{IsThreeConnected}
+use Rattle.convex_peeling.specs.Polyhedral.{IsThreeConnected}
 use Rattle.convex_class.specs.Convexity.{BreaksConvex}
 
 -- Lists of a three-connected map of genus zero break no condition first.

@@ -1,5 +1,5 @@
 //! Which maps the job convex serves, and the first broken condition of the others.
 #![tactic(auto)]
 
-pub mod convex_blocks;
+pub mod convex_maps;
 pub mod face_pairs;

@@ -6,7 +6,7 @@ use Rattle.map_theory.specs.Maps.{Dart, IsPlane, face_count}
 use Rattle.pg_plane.specs.declared.point.Point.{Point}
 use Rattle.pg_plane.specs.declared.figure.GridFigure.{GridFigure}
 use Rattle.plane_drawings.specs.Drawing.{place}
-use Rattle.convex_peeling.specs.Tight.{IsThreeConnected}
+use Rattle.convex_peeling.specs.Polyhedral.{IsThreeConnected}
 use Rattle.convex_counts.specs.declared.face_woods.axis.Axis.{Axis}
 use Rattle.convex_counts.specs.declared.face_woods.axis.Axis.TheVariants.{One, Two}
 use Rattle.convex_laws.specs.ConvexDrawings.{grid_point}

@@ -1,7 +1,7 @@
 //! The drawing of a map.
 ghost use Rattle.std.specs.Prelude.{◌≡◌, ◌<◌, ◌≤◌, ◌+◌, ◌-◌, ℕ, length, pos, Some, IfOk};
 ghost use Rattle.map_theory.specs.Maps.{IsPlane, vertex_count, face_count, component_count};
-ghost use Rattle.convex_peeling.specs.Tight.{IsThreeConnected};
+ghost use Rattle.convex_peeling.specs.Polyhedral.{IsThreeConnected};
 ghost use Rattle.half_edges.specs.Map.{IsLive, dart_at};
 ghost use Rattle.convex_draw.specs.Grids.{IsConvexGrid};
 ghost use Rattle.convex_draw.specs.RunPoints.{AreRunPoints};

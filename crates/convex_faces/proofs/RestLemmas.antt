@@ -15,9 +15,9 @@ use Rattle.euler_faces.proofs.NumberLemmas.{live_from, face_step-number}
 use Rattle.vertex_rounds.specs.Rounds.{dart_of}
 use Rattle.vertex_rounds.proofs.DartIds.{dart_of-live, dart_of-is, has_dart}
 use Rattle.convex_peeling.proofs.Faces.{before_once}
-use Rattle.convex_peeling.specs.Tight.{IsTight, IsThreeConnected}
+use Rattle.convex_peeling.specs.Polyhedral.{IsPolyhedral, IsThreeConnected}
 use Rattle.convex_peeling.proofs.Corners.{SameFace-turned, SameFace-chained, SameFace-step}
-use Rattle.convex_peeling.proofs.Tightness.{three_connected_is_tight}
+use Rattle.convex_peeling.proofs.PolyhedralLemmas.{three_connected_is_polyhedral}
 use Rattle.convex_counts.specs.declared.face_woods.axis.Axis.TheVariants.{One, Three}
 use Rattle.convex_laws.specs.Regions.{IsOuterWay}
 use Rattle.convex_faces.specs.Passing.{PassesDart, PassesOuterWay, PassesRest, PassesOuter, IsOuterCorner}
@@ -66,8 +66,8 @@ module _ (map : Map) (known : IsHalfMap map) (plane : IsPlane map.lists) (three 
   abbrev images : List ℕ
   images = face_images lists
 
-  tight : IsTight lists
-  tight = three_connected_is_tight lists three plane
+  polyhedral : IsPolyhedral lists
+  polyhedral = three_connected_is_polyhedral lists three plane
 
   pub has_B : HasDart lists B.0 B.1
   has_B = has_dart map known base meet.base_live
@@ -86,7 +86,7 @@ module _ (map : Map) (known : IsHalfMap map) (plane : IsPlane map.lists) (three 
 
   -- its tail is not the head of the base
   pub apart : E.0 ≢ B.1
-  apart e = tight.apart B.0 B.1 has_B (subst (SameFace lists B) (ap₂ (λ (x y : ℕ). (x, y)) e meet.meets) same_E)
+  apart e = polyhedral.apart B.0 B.1 has_B (subst (SameFace lists B) (ap₂ (λ (x y : ℕ). (x, y)) e meet.meets) same_E)
 
   -- nor the tail of the base
   pub no_loop : B.0 ≢ E.0
@@ -123,7 +123,7 @@ module _ (map : Map) (known : IsHalfMap map) (plane : IsPlane map.lists) (three 
       let back : SameFace lists B (B.0, follows lists B.0 X.0) = subst (λ z. SameFace lists B (z, follows lists z X.0)) q goes in
       let has' : HasDart lists X.0 B.0 = subst (HasDart lists X.0) q has in
       let on : HasDart lists B.0 (follows lists B.0 X.0) = subst (λ z. HasDart lists z (follows lists z X.0)) q (has_step X has) in
-      let one = tight.once B.0 B.1 (follows lists B.0 X.0) has_B on back in
+      let one = polyhedral.once B.0 B.1 (follows lists B.0 X.0) has_B on back in
       let tails = before_once lists known.simple X.0 B.0 E.0 has' (subst (HasDart lists E.0) meet.meets has_E) (sym one ∙ sym meet.step) in
       other (ap₂ (λ (x y : ℕ). (x, y)) tails (q ∙ sym meet.meets)) in
       subst (λ j. IsOnRest map base before e j old new) (sym ej) record {

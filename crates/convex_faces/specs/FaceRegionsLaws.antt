@@ -3,7 +3,7 @@ use Rattle.std.specs.Prelude.{ℕ, ◌-◌, ◌<◌, length}
 use Rattle.map_theory.specs.Maps.{IsPlane, face_count}
 use Rattle.half_edges.specs.Map.{Map}
 use Rattle.plane_drawings.specs.Drawing.{place}
-use Rattle.convex_peeling.specs.Tight.{IsThreeConnected}
+use Rattle.convex_peeling.specs.Polyhedral.{IsThreeConnected}
 use Rattle.convex_counts.specs.declared.face_woods.axis.Axis.{Axis}
 use Rattle.convex_laws.specs.Regions.{IsFaceRegion}
 use Rattle.convex_laws.specs.RegionDrawings.{IsCoordinate}

@@ -6,7 +6,7 @@ use Rattle.classes.proofs.Counting.{count_below_same, count_below_none}
 use Rattle.map_lists.specs.Lists.{Lists}
 use Rattle.map_theory.specs.Maps.{HasDart, IsSimpleMap, IsPlane, component_count, dart_count, face_classes}
 use Rattle.map_theory.proofs.DartPermutations.{dart_of, dart_of-number}
-use Rattle.convex_peeling.specs.Tight.{IsTight}
+use Rattle.convex_peeling.specs.Polyhedral.{IsPolyhedral}
 use Rattle.contour_runs.specs.FaceRuns.{Step}
 use Rattle.convex_peeling.specs.Contours.{face_of, IsContour, IsOpen, IsBegun}
 use Rattle.convex_peeling.specs.Removals.{Removal, IsTakenOff}
@@ -99,7 +99,7 @@ module _ (lists : Lists) (alive : ℕ → Bool) (w : ℕ → ℕ) (r : ℕ) (sim
     λ i some l closed. absurd (omega arith),
   )
 
-module _ (lists : Lists) (simple : IsSimpleMap lists) (plane : IsPlane lists) (one : component_count lists ≡ 1) (tight : IsTight lists) (three : HasThree lists) where
+module _ (lists : Lists) (simple : IsSimpleMap lists) (plane : IsPlane lists) (one : component_count lists ≡ 1) (polyhedral : IsPolyhedral lists) (three : HasThree lists) where
   -- a removal at each of whose vertices an edge is taken off, and a run of what it leaves
   grown : (alive : ℕ → Bool) (w : ℕ → ℕ) (r : ℕ) (o : Removal) → IsContour lists alive w r → IsTakenOff lists alive w r o → IsShore lists o.alive o.contour o.places → AreOpen lists alive w o → HasRun lists o.alive o.contour o.places → HasRun lists alive w r
   grown alive w r o contour off shore open_at run =
@@ -123,9 +123,9 @@ module _ (lists : Lists) (simple : IsSimpleMap lists) (plane : IsPlane lists) (o
   pub run_by : (m : ℕ) (alive : ℕ → Bool) (w : ℕ → ℕ) (r : ℕ) → IsContour lists alive w r → IsBegun lists alive w r → AreLabels lists alive → count_below alive (dart_count lists) < m → HasRun lists alive w r
   run_by zero alive w r contour begun labels l = absurd (omega arith)
   run_by (suc m) alive w r contour begun labels l =
-      elim (some_taken_off_law lists alive w r simple plane tight three contour begun) [
+      elim (some_taken_off_law lists alive w r simple plane polyhedral three contour begun) [
         | inl all ↦
-            let last = last_goes lists alive w r simple one tight three contour all in
+            let last = last_goes lists alive w r simple one polyhedral three contour all in
             let o = last.0 in
             let is_last = last.1 in
             let apart : o.contour 0 ≢ o.contour o.places = λ e. (let q = is_last.two in let z : 0 ≡ o.places = is_last.shore.distinct 0 o.places (omega arith) (omega arith) e in omega arith) in

@@ -10,7 +10,7 @@ use Rattle.map_theory.specs.Paths.{SameFace}
 use Rattle.map_theory.proofs.DartLemmas.{HasDart-at}
 use Rattle.plane_laws.proofs.EdgeBound.{none_isolated}
 use Rattle.plane_peeling.proofs.Counted.{list-count_below}
-use Rattle.convex_peeling.specs.Tight.{IsTight}
+use Rattle.convex_peeling.specs.Polyhedral.{IsPolyhedral}
 use Rattle.contour_runs.specs.FaceRuns.{Step, stage_after, faces_made, IsTouched}
 use Rattle.convex_counts.specs.Turns.{IsTouchedRun}
 use Rattle.convex_laws.specs.FaceDrawings.{IsMadeDart, IsRunDart}
@@ -34,7 +34,7 @@ three_vertices lists simple three =
     let more = three 0 simple.some_vertex in
     omega arith
 
-module _ (lists : Lists) (s d : ℕ) (simple : IsSimpleMap lists) (one : component_count lists ≡ 1) (tight : IsTight lists) (three : HasThree lists) (base : HasDart lists s d) (alive : ℕ → Bool) (w : ℕ → ℕ) (r : ℕ) (f : IsFirst lists s d alive w r) where
+module _ (lists : Lists) (s d : ℕ) (simple : IsSimpleMap lists) (one : component_count lists ≡ 1) (polyhedral : IsPolyhedral lists) (three : HasThree lists) (base : HasDart lists s d) (alive : ℕ → Bool) (w : ℕ → ℕ) (r : ℕ) (f : IsFirst lists s d alive w r) where
   abbrev pub H : ℕ
   H = face_of lists s d
 
@@ -46,7 +46,7 @@ module _ (lists : Lists) (s d : ℕ) (simple : IsSimpleMap lists) (one : compone
         outside = dead;
         inside = elim (cases_Bool (alive (face_of lists y x))) [
           | inl t ↦ t
-          | inr g ↦ absurd (tight.apart x y has (SameFace-labels lists x y y x (f.outer x y has dead ∙ sym (f.outer y x (simple.both_ways x y has) g))))
+          | inr g ↦ absurd (polyhedral.apart x y has (SameFace-labels lists x y y x (f.outer x y has dead ∙ sym (f.outer y x (simple.both_ways x y has) g))))
         ];
       }
 
@@ -184,21 +184,21 @@ module _ (lists : Lists) (s d : ℕ) (simple : IsSimpleMap lists) (one : compone
     pub run_is : IsRunOf lists s d all_steps (suc n) all_ranks (λ x y. numbered (face_of lists x y))
     run_is = record { touched = run_touched; map = map_is; faces = faces_are; last = last_is }
 
--- THE LAW: a run of a tight map
+-- THE LAW: a run of a polyhedral map
 pub run_of_map_law : RunOfMap
-run_of_map_law lists s d simple plane one tight three base =
-    let found = first_taken_off_law lists s d simple tight three base in
+run_of_map_law lists s d simple plane one polyhedral three base =
+    let found = first_taken_off_law lists s d simple polyhedral three base in
     let alive = found.0 in
     let w = found.1 in
     let r = found.2 in
     let o = found.3 in
     let f = found.4 in
     let off = found.5 in
-    let rest = run_by lists simple plane one tight three (suc (count_below o.alive (dart_count lists))) o.alive o.contour o.places found.6 found.7 (λ g t. f.labels g (off.still g t)) (omega arith) in
+    let rest = run_by lists simple plane one polyhedral three (suc (count_below o.alive (dart_count lists))) o.alive o.contour o.places found.6 found.7 (λ g t. f.labels g (off.still g t)) (omega arith) in
     let shore = IsShore-contour lists o.alive o.contour o.places found.6 in (
-      all_steps lists s d simple one tight three base alive w r f o off found.8 found.9 shore rest.0 rest.1 rest.2 rest.3 rest.4 rest.5,
+      all_steps lists s d simple one polyhedral three base alive w r f o off found.8 found.9 shore rest.0 rest.1 rest.2 rest.3 rest.4 rest.5,
       suc rest.1,
-      all_ranks lists s d simple one tight three base alive w r f o off found.8 found.9 shore rest.0 rest.1 rest.2 rest.3 rest.4 rest.5,
-      (λ x y. numbered lists s d simple one tight three base alive w r f o off found.8 found.9 shore rest.0 rest.1 rest.2 rest.3 rest.4 rest.5 (face_of lists x y)),
-      run_is lists s d simple one tight three base alive w r f o off found.8 found.9 shore rest.0 rest.1 rest.2 rest.3 rest.4 rest.5,
+      all_ranks lists s d simple one polyhedral three base alive w r f o off found.8 found.9 shore rest.0 rest.1 rest.2 rest.3 rest.4 rest.5,
+      (λ x y. numbered lists s d simple one polyhedral three base alive w r f o off found.8 found.9 shore rest.0 rest.1 rest.2 rest.3 rest.4 rest.5 (face_of lists x y)),
+      run_is lists s d simple one polyhedral three base alive w r f o off found.8 found.9 shore rest.0 rest.1 rest.2 rest.3 rest.4 rest.5,
     )

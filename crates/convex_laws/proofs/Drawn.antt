@@ -13,8 +13,8 @@ use Rattle.convex_laws.proofs.ConvexWoodsTurned.{faces_made-well_turned}
 
 -- THE LAW: a convex drawing
 pub some_convex_drawing_law : SomeConvexDrawing
-some_convex_drawing_law lists s d simple plane one tight three base =
-    let found = run_of_map_law lists s d simple plane one tight three base in
+some_convex_drawing_law lists s d simple plane one polyhedral three base =
+    let found = run_of_map_law lists s d simple plane one polyhedral three base in
     let steps = found.0 in
     let n = found.1 in
     let rank = found.2 in

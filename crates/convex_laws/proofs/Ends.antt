@@ -6,7 +6,7 @@ use Rattle.map_lists.specs.Lists.{Lists}
 use Rattle.map_theory.specs.Maps.{list_of, HasDart, IsSimpleMap, component_count}
 use Rattle.contour_runs.specs.Runs.{Stage}
 use Rattle.contour_runs.specs.FaceRuns.{Step, stage_after}
-use Rattle.convex_peeling.specs.Tight.{IsTight}
+use Rattle.convex_peeling.specs.Polyhedral.{IsPolyhedral}
 use Rattle.convex_peeling.specs.Contours.{face_of, IsContour, IsOpen, IsFirst}
 use Rattle.convex_peeling.specs.Removals.{Removal, IsTakenOff}
 use Rattle.convex_peeling.specs.FacePeelingLaws.{HasThree, AreOpen}
@@ -131,23 +131,23 @@ module _ (lists : Lists) (s d : ℕ) (alive : ℕ → Bool) (w : ℕ → ℕ) (r
       }
 
 -- the first removal after the face of the base
-module _ (lists : Lists) (s d : ℕ) (simple : IsSimpleMap lists) (one : component_count lists ≡ 1) (tight : IsTight lists) (three : HasThree lists) (base : HasDart lists s d) (alive : ℕ → Bool) (w : ℕ → ℕ) (r : ℕ) (f : IsFirst lists s d alive w r) (o : Removal) (off : IsTakenOff lists alive w r o) (first_is : o.first + 2 ≡ r) (one_is : o.vertices ≡ 1) (contour : IsContour lists o.alive o.contour o.places) where
+module _ (lists : Lists) (s d : ℕ) (simple : IsSimpleMap lists) (one : component_count lists ≡ 1) (polyhedral : IsPolyhedral lists) (three : HasThree lists) (base : HasDart lists s d) (alive : ℕ → Bool) (w : ℕ → ℕ) (r : ℕ) (f : IsFirst lists s d alive w r) (o : Removal) (off : IsTakenOff lists alive w r o) (first_is : o.first + 2 ≡ r) (one_is : o.vertices ≡ 1) (contour : IsContour lists o.alive o.contour o.places) where
   pub IsEnded-first : (old new : ConvexRows) → HasRows old 0 → IsRowMore lists w o old new → IsEnded lists s d new 1 o.alive o.contour o.places
   IsEnded-first old new has more =
       let shore = IsShore-contour lists o.alive o.contour o.places contour in
       record {
         has = has_more lists w o old new 0 has more;
         ends = λ steps n rank number built touched.
-            let all = all_steps lists s d simple one tight three base alive w r f o off first_is one_is shore steps n rank number built touched in
-            let ranks = all_ranks lists s d simple one tight three base alive w r f o off first_is one_is shore steps n rank number built touched in
+            let all = all_steps lists s d simple one polyhedral three base alive w r f o off first_is one_is shore steps n rank number built touched in
+            let ranks = all_ranks lists s d simple one polyhedral three base alive w r f o off first_is one_is shore steps n rank number built touched in
             let z : suc n ≡ suc n + 0 = omega arith in
             goes_on lists s d alive w r o simple f.contour off shore old new 0 has more steps n rank number built
             (record {
               all_steps = all;
               all_rank = ranks;
-              face = λ x y. numbered lists s d simple one tight three base alive w r f o off first_is one_is shore steps n rank number built touched (face_of lists x y);
-              run = subst (λ t. IsRunOf lists s d all t ranks (λ x y. numbered lists s d simple one tight three base alive w r f o off first_is one_is shore steps n rank number built touched (face_of lists x y))) z
-                  (run_is lists s d simple one tight three base alive w r f o off first_is one_is shore steps n rank number built touched);
+              face = λ x y. numbered lists s d simple one polyhedral three base alive w r f o off first_is one_is shore steps n rank number built touched (face_of lists x y);
+              run = subst (λ t. IsRunOf lists s d all t ranks (λ x y. numbered lists s d simple one polyhedral three base alive w r f o off first_is one_is shore steps n rank number built touched (face_of lists x y))) z
+                  (run_is lists s d simple one polyhedral three base alive w r f o off first_is one_is shore steps n rank number built touched);
               same_steps = λ k l. refl;
               same_rank = λ v p. refl;
               rows_are = λ k j l e. absurd (omega arith);

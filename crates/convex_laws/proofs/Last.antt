@@ -8,7 +8,7 @@ use Rattle.plane_peeling.specs.Restricted.{kept_but}
 use Rattle.plane_peeling.proofs.RestrictedMaps.{kept_but-old, kept_but-new}
 use Rattle.plane_peeling.proofs.Rings.{entries_closed}
 use Rattle.plane_peeling.proofs.Counted.{marks_everywhere}
-use Rattle.convex_peeling.specs.Tight.{IsTight}
+use Rattle.convex_peeling.specs.Polyhedral.{IsPolyhedral}
 use Rattle.convex_peeling.specs.Contours.{face_of, Passes, IsContour, IsOpen, IsEar}
 use Rattle.convex_peeling.specs.Removals.{Removal, IsTakenOff}
 use Rattle.convex_peeling.specs.FacePeelingLaws.{HasThree, AreOpen}
@@ -42,7 +42,7 @@ pub record IsLast (lists : Lists) (alive : ℕ → Bool) (w : ℕ → ℕ) (r : 
   pub none : (x y : ℕ) → HasDart lists x y → o.alive (face_of lists x y) ≢ true
   pub two : o.places ≡ 1
 
-module _ (lists : Lists) (alive : ℕ → Bool) (w : ℕ → ℕ) (r : ℕ) (simple : IsSimpleMap lists) (one : component_count lists ≡ 1) (tight : IsTight lists) (three : HasThree lists) (contour : IsContour lists alive w r) (all : (i : ℕ) → i < r → face_of lists (w (suc i)) (w i) ≡ face_of lists (w 0) (w r)) where
+module _ (lists : Lists) (alive : ℕ → Bool) (w : ℕ → ℕ) (r : ℕ) (simple : IsSimpleMap lists) (one : component_count lists ≡ 1) (polyhedral : IsPolyhedral lists) (three : HasThree lists) (contour : IsContour lists alive w r) (all : (i : ℕ) → i < r → face_of lists (w (suc i)) (w i) ≡ face_of lists (w 0) (w r)) where
   abbrev face : ℕ
   face = face_of lists (w 1) (w 0)
 
@@ -79,13 +79,13 @@ module _ (lists : Lists) (alive : ℕ → Bool) (w : ℕ → ℕ) (r : ℕ) (sim
   the_ear : (walk : ℕ → ℕ) × IsEar lists w r face 0 r walk 1
   the_ear =
       let l = three_places in
-      let found = stretch_is_ear_law lists alive w r 0 simple tight contour (omega arith) (λ a i b m n k p q. edge_face i (omega arith)) in
+      let found = stretch_is_ear_law lists alive w r 0 simple polyhedral contour (omega arith) (λ a i b m n k p q. edge_face i (omega arith)) in
       let a = found.0 in
       let b = found.1 in
       let walk = found.2 in
       let many = found.3 in
       let ear = found.4 in
-      let ends = base_passes lists alive w r simple tight three contour in
+      let ends = base_passes lists alive w r simple polyhedral three contour in
       let low = ear.places 0 (omega arith) (subst (λ f. Passes lists f (w 0)) (sym own) ends.0) in
       let high = ear.places r (omega arith) (subst (λ f. Passes lists f (w r)) (sym own) ends.1) in
       let a_low = low.0 in
@@ -97,7 +97,7 @@ module _ (lists : Lists) (alive : ℕ → Bool) (w : ℕ → ℕ) (r : ℕ) (sim
       let first_dart = ear.darts 0 some in
       let start : walk 0 ≡ w 0 = ear.first ∙ ap w a_is in
       let has : HasDart lists (w 0) (walk 1) = subst (λ v. HasDart lists v (walk 1)) start first_dart.0 in
-      let at : walk 1 ≡ w r = leaves_once lists alive simple tight (w 0) (walk 1) (w r) has base_dart (ap (λ v. face_of lists v (walk 1)) (sym start) ∙ (first_dart.1 ∙ own)) in
+      let at : walk 1 ≡ w r = leaves_once lists alive simple polyhedral (w 0) (walk 1) (w r) has base_dart (ap (λ v. face_of lists v (walk 1)) (sym start) ∙ (first_dart.1 ∙ own)) in
       let many_is : many ≡ 1 = ear.distinct many 1 (omega arith) some (ear.last ∙ (ap w b_is ∙ sym at)) in
       (walk, subst (λ t. IsEar lists w r face 0 r walk t) many_is (subst (λ t. IsEar lists w r face 0 t walk many) b_is (subst (λ t. IsEar lists w r face t b walk many) a_is ear)))
 
@@ -141,7 +141,7 @@ module _ (lists : Lists) (alive : ℕ → Bool) (w : ℕ → ℕ) (r : ℕ) (sim
                       | inr ne ↦ p.1 (kept_but-new alive face (face_of lists v z) living ne)
                       | inl e ↦
                           let b = leaves i l in
-                          let z_is : z ≡ b.0 = leaves_once lists alive simple tight v z b.0 p.0 b.1 (e ∙ sym b.2) in
+                          let z_is : z ≡ b.0 = leaves_once lists alive simple polyhedral v z b.0 p.0 b.1 (e ∙ sym b.2) in
                           true≢false (sym was.0 ∙ (ap (λ u. alive (face_of lists u v)) z_is ∙ b.3))
                     ]
               ],
@@ -210,7 +210,7 @@ module _ (lists : Lists) (alive : ℕ → Bool) (w : ℕ → ℕ) (r : ℕ) (sim
             };
             open_at = λ q m.
                 let z : suc q ≡ suc (0 + q) = omega arith in
-                subst (λ n. IsOpen lists alive (w n)) z (between_open lists alive w r simple contour tight three q (omega arith) (edge_face q (omega arith) ∙ sym (edge_face (suc q) (omega arith))));
+                subst (λ n. IsOpen lists alive (w n)) z (between_open lists alive w r simple contour polyhedral three q (omega arith) (edge_face q (omega arith) ∙ sym (edge_face (suc q) (omega arith))));
             none = none_left;
             two = two;
           },

@@ -7,9 +7,9 @@ use Rattle.map_theory.specs.Paths.{SameFace}
 use Rattle.map_theory.proofs.DartLemmas.{HasDart-follows}
 use Rattle.map_theory.proofs.DartPermutations.{dart_of, dart_of-number}
 use Rattle.convex_peeling.proofs.Faces.{before_once}
-use Rattle.convex_peeling.specs.Tight.{IsTight, IsThreeConnected}
+use Rattle.convex_peeling.specs.Polyhedral.{IsPolyhedral, IsThreeConnected}
 use Rattle.convex_peeling.proofs.Corners.{SameFace-turned, SameFace-chained, SameFace-step}
-use Rattle.convex_peeling.proofs.Tightness.{three_connected_is_tight}
+use Rattle.convex_peeling.proofs.PolyhedralLemmas.{three_connected_is_polyhedral}
 use Rattle.convex_counts.specs.declared.face_woods.axis.Axis.{Axis}
 use Rattle.convex_counts.specs.declared.face_woods.axis.Axis.TheVariants.{One, Two, Three}
 use Rattle.convex_counts.specs.Axes.{next, previous}
@@ -32,8 +32,8 @@ module _ (lists : Lists) (base : Dart) (root : Axis → ℕ) (out : Axis → ℕ
   simple : IsSimpleMap lists
   simple = three.simple
 
-  tight : IsTight lists
-  tight = three_connected_is_tight lists three plane
+  polyhedral : IsPolyhedral lists
+  polyhedral = three_connected_is_polyhedral lists three plane
 
   roots : AreRoots lists base root
   roots = wood.roots
@@ -49,7 +49,7 @@ module _ (lists : Lists) (base : Dart) (root : Axis → ℕ) (out : Axis → ℕ
   to_two x has same =
       let back = simple.both_ways x base.0 has in
       let on = SameFace-chained lists simple base (x, base.0) (base.0, follows lists base.0 x) same (SameFace-step lists simple x base.0 has) in
-      let one = tight.once base.0 base.1 (follows lists base.0 x) has_base (HasDart-follows lists base.0 x back) on in
+      let one = polyhedral.once base.0 base.1 (follows lists base.0 x) has_base (HasDart-follows lists base.0 x back) on in
       before_once lists simple x base.0 (root Three) has roots.before (sym one ∙ sym roots.step)
 
   -- and one that comes to its head is the base
@@ -60,7 +60,7 @@ module _ (lists : Lists) (base : Dart) (root : Axis → ℕ) (out : Axis → ℕ
       let on : SameFace lists (x, base.1) (base.1, follows lists base.1 x) = SameFace-step lists simple x base.1 has in
       let after : SameFace lists base (base.1, follows lists base.1 base.0) = SameFace-step lists simple base.0 base.1 has_base in
       let both = SameFace-chained lists simple (base.1, follows lists base.1 x) base (base.1, follows lists base.1 base.0) (SameFace-turned lists simple base (base.1, follows lists base.1 x) (SameFace-chained lists simple base (x, base.1) (base.1, follows lists base.1 x) same on)) after in
-      let one = tight.once base.1 (follows lists base.1 x) (follows lists base.1 base.0) (HasDart-follows lists base.1 x back) (HasDart-follows lists base.1 base.0 base_back) both in
+      let one = polyhedral.once base.1 (follows lists base.1 x) (follows lists base.1 base.0) (HasDart-follows lists base.1 x back) (HasDart-follows lists base.1 base.0 base_back) both in
       before_once lists simple x base.1 base.0 has has_base one
 
   -- a way that does not leave root three, and begins elsewhere than at root two, does not come to root one
@@ -73,10 +73,10 @@ module _ (lists : Lists) (base : Dart) (root : Axis → ℕ) (out : Axis → ℕ
 
   -- the darts of the outer face from root two and from root three
   from_two : (y : ℕ) → HasDart lists base.0 y → SameFace lists base (base.0, y) → y ≡ base.1
-  from_two y has same = sym (tight.once base.0 base.1 y has_base has same)
+  from_two y has same = sym (polyhedral.once base.0 base.1 y has_base has same)
 
   from_three : (y : ℕ) → HasDart lists (root Three) y → SameFace lists base (root Three, y) → y ≡ base.0
-  from_three y has same = sym (tight.once (root Three) base.0 y roots.before has (SameFace-chained lists simple (root Three, base.0) base (root Three, y) (SameFace-turned lists simple base (root Three, base.0) same_before) same))
+  from_three y has same = sym (polyhedral.once (root Three) base.0 y roots.before has (SameFace-chained lists simple (root Three, base.0) base (root Three, y) (SameFace-turned lists simple base (root Three, base.0) same_before) same))
 
   -- no way goes on from a vertex that is avoided
   stuck : (a w : ℕ) (ds : List Dart) → IsOuterWay lists base a a w ds → a ≡ w
@@ -104,7 +104,7 @@ module _ (lists : Lists) (base : Dart) (root : Axis → ℕ) (out : Axis → ℕ
       let tails : e.0 ≡ d.0 = g.0 ∙ sym h.0 in
       let on = subst (λ z. HasDart lists z e.1) tails g.1 in
       let same = subst (λ z. SameFace lists base (z, e.1)) tails g.2 in
-      let heads : d.1 ≡ e.1 = tight.once d.0 d.1 e.1 h.1 on (SameFace-chained lists simple d base (d.0, e.1) (SameFace-turned lists simple base d h.2) same) in
+      let heads : d.1 ≡ e.1 = polyhedral.once d.0 d.1 e.1 h.1 on (SameFace-chained lists simple d base (d.0, e.1) (SameFace-turned lists simple base d h.2) same) in
       ap₂ (λ (x : Dart) (xs : List Dart). x ∷ xs) (ap₂ (λ (x y : ℕ). (x, y)) (sym tails) heads) (outer_once c d.1 ds es h.4 (subst (λ z. IsOuterWay lists base (root c) z (root (next c)) es) (sym heads) g.4))
 
   walk_once : (c : Axis) (v : ℕ) (xs ys : List Dart) → IsRegionWalk lists base root out c v xs → IsRegionWalk lists base root out c v ys → xs ≡ ys

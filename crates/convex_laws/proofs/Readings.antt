@@ -7,7 +7,7 @@ use Rattle.plane_drawings.specs.Drawing.{place}
 use Rattle.convex_counts.specs.declared.face_woods.axis.Axis.{Axis}
 use Rattle.convex_counts.specs.declared.face_woods.axis.Axis.TheVariants.{One, Two, Three}
 use Rattle.convex_counts.specs.Axes.{next, previous}
-use Rattle.convex_peeling.specs.Tight.{IsThreeConnected}
+use Rattle.convex_peeling.specs.Polyhedral.{IsThreeConnected}
 use Rattle.convex_peeling.proofs.Faces.{before_once}
 use Rattle.convex_laws.specs.ConvexWoods.{IsOut, IsConvexWood}
 use Rattle.convex_laws.specs.Regions.{IsAxisWay, IsOuterWay, IsFaceRegion}

@@ -108,8 +108,8 @@ module _ (lists : Lists) (simple : IsSimpleMap lists) (one : component_count lis
     step_over : (i : ℕ) (b : Bool) → i < k → Together parts (copy k i b) (copy k (g i) (flipped (test i) b))
     step_over = over_together f g k (edge_count lists) (two_m lists simple) (IsPermuting-rotation lists simple) (IsPairing-twin lists simple) test (passed-twin lists simple walk v closed) (sector lists simple walk v closed) (sector-rotation lists simple walk v closed) flat one_joint
 
-    parted : (i : ℕ) → i < k → ¬ Together parts (copy k i false) (copy k i true)
-    parted = copies_apart f g k (edge_count lists) (two_m lists simple) (IsPermuting-rotation lists simple) (IsPairing-twin lists simple) test (passed-twin lists simple walk v closed) (sector lists simple walk v closed) (sector-rotation lists simple walk v closed) flat one_joint
+    separated : (i : ℕ) → i < k → ¬ Together parts (copy k i false) (copy k i true)
+    separated = copies_apart f g k (edge_count lists) (two_m lists simple) (IsPermuting-rotation lists simple) (IsPairing-twin lists simple) test (passed-twin lists simple walk v closed) (sector lists simple walk v closed) (sector-rotation lists simple walk v closed) flat one_joint
 
     -- a dart is in one part with the base's first copy, by the copy that a chain comes to
     abbrev Linked : ℕ → ℕ → Bool → Type 0
@@ -143,7 +143,7 @@ module _ (lists : Lists) (simple : IsSimpleMap lists) (one : component_count lis
     once x y odd odd' r r' =
         let h = linked r.0 x y odd r.1 in
         let h' = linked r'.0 x y odd' r'.1 in
-        let apart = parted (dart_number lists (x, y)) (number-lt x y h.0) in
+        let apart = separated (dart_number lists (x, y)) (number-lt x y h.0) in
         by (λ b. label parts (copy k (dart_number lists (x, y)) b)) odd odd' (sym h.1 ∙ h'.1) apart
       where
         by : (at : Bool → ℕ) (a b : Bool) → at a ≡ at b → ¬ (at false ≡ at true) → a ≡ b

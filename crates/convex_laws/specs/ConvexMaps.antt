@@ -1,9 +1,9 @@
--- That each tight map has a convex plane drawing.
+-- That each polyhedral map has a convex plane drawing.
 use Rattle.std.specs.Prelude.{ℕ, ◌+◌, ◌≡◌, List, length}
 use Rattle.map_lists.specs.Lists.{Lists}
 use Rattle.map_theory.specs.Maps.{HasDart, IsSimpleMap, IsPlane, component_count, face_count}
 use Rattle.pg_plane.specs.declared.point.Point.{Point}
-use Rattle.convex_peeling.specs.Tight.{IsTight}
+use Rattle.convex_peeling.specs.Polyhedral.{IsPolyhedral}
 use Rattle.convex_peeling.specs.FacePeelingLaws.{HasThree}
 use Rattle.contour_runs.specs.FaceRuns.{Step, faces_made}
 use Rattle.convex_counts.specs.Turns.{well_turned}
@@ -18,8 +18,8 @@ pub record IsDrawnBy (lists : Lists) (s d : ℕ) (steps : ℕ → Step) (n : ℕ
   pub drawing : IsConvexDrawing lists (s, d) (well_turned steps) n rank face points
   pub grid : faces_made (well_turned steps) n + 1 ≡ face_count lists
 
--- Each connected tight map of genus zero whose vertices have three neighbours or more has such a drawing, from each of its darts.
+-- Each connected polyhedral map of genus zero whose vertices have three neighbours or more has such a drawing, from each of its darts.
 abbrev pub SomeConvexDrawing : Type 0
 SomeConvexDrawing =
-    (lists : Lists) (s d : ℕ) → IsSimpleMap lists → IsPlane lists → component_count lists ≡ 1 → IsTight lists → HasThree lists → HasDart lists s d
+    (lists : Lists) (s d : ℕ) → IsSimpleMap lists → IsPlane lists → component_count lists ≡ 1 → IsPolyhedral lists → HasThree lists → HasDart lists s d
     → (steps : ℕ → Step) × (n : ℕ) × (rank : ℕ → ℕ) × (face : ℕ → ℕ → ℕ) × (points : List Point) × IsDrawnBy lists s d steps n rank face points

@@ -7,7 +7,7 @@ use Rattle.plane_drawings.specs.Drawing.{place}
 use Rattle.contour_runs.specs.FaceRuns.{Step}
 use Rattle.convex_counts.specs.Counts.{face_counts}
 use Rattle.convex_counts.specs.Turns.{well_turned}
-use Rattle.convex_peeling.specs.Tight.{IsThreeConnected}
+use Rattle.convex_peeling.specs.Polyhedral.{IsThreeConnected}
 use Rattle.convex_counts.specs.declared.face_woods.axis.Axis.{Axis}
 use Rattle.convex_laws.specs.ConvexDrawings.{AreCountPoints}
 use Rattle.convex_laws.specs.ConvexWoods.{AreRoots, IsOut, IsConvexWood}

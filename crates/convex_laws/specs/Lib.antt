@@ -6,7 +6,7 @@ pub mod FaceDrawings
 pub mod FaceDrawingsLaws
 -- Drawings of maps by counts of faces.
 pub mod ConvexDrawings
--- Runs of tight maps.
+-- Runs of polyhedral maps.
 pub mod RunsOfMaps
 pub mod ConvexMaps
 -- The steps of a run as rows of numbers.

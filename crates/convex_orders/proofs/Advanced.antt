@@ -11,7 +11,7 @@ use Rattle.convex_peeling.specs.Contours.{IsContour}
 use Rattle.convex_peeling.specs.Removals.{Removal, IsTakenOff}
 use Rattle.convex_peeling.proofs.Removed.{gone_within, first_lt}
 use Rattle.convex_orders.specs.FaceNumbers.{entry, AreFaceNumbers}
-use Rattle.convex_peeling.proofs.Tightness.{three_connected_is_tight}
+use Rattle.convex_peeling.proofs.PolyhedralLemmas.{three_connected_is_polyhedral}
 use Rattle.convex_laws.specs.declared.convex_rows.rows.ConvexRows.{ConvexRows}
 use Rattle.convex_laws.specs.Removed.{IsRowMore}
 use Rattle.convex_orders.specs.Contours.{contour_of, AreEdges, inner_number}
@@ -147,9 +147,9 @@ module _ (lists own other : Lists) (count s d : ℕ) (based : IsBased lists s d)
 
       pub new_short : length (contour_of us right) < 4096 → (f : ℕ) → met_below own (contour_of us right) (length (contour_of us right)) f < 4096
       new_short few f =
-          let tight = three_connected_is_tight lists based.three based.plane in
+          let polyhedral = three_connected_is_polyhedral lists based.three based.plane in
           let long = new_list.long in
-          let le = sum_below-le (λ i. met_at own f (slice_index (contour_of us right) i)) (length (contour_of us right)) (λ k l. subst (λ v. met_at own f v ≤ 1) (sym (new_list.each k (omega arith))) (number_once lists own other count simple tight n (o.contour k) (next.edge k (omega arith)).dart.0 f)) in
+          let le = sum_below-le (λ i. met_at own f (slice_index (contour_of us right) i)) (length (contour_of us right)) (λ k l. subst (λ v. met_at own f v ≤ 1) (sym (new_list.each k (omega arith))) (number_once lists own other count simple polyhedral n (o.contour k) (next.edge k (omega arith)).dart.0 f)) in
           omega arith
 
       last_is : length us - 1 ≡ o.last

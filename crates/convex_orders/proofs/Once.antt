@@ -1,4 +1,4 @@
--- No number stands twice in a row of a tight map, and counts of what is met at most once.
+-- No number stands twice in a row of a polyhedral map, and counts of what is met at most once.
 use Rattle.std.proofs.Common.{◌≡◌, ◌≢◌, ℕ, zero, suc, ◌+◌, ◌<◌, ◌≤◌, Bool, true, false, eqb, ltb, eq-eqb, eqb-true, lt-ltb, ltb-true, List, length, slice_index, get_or, AllPairs, refl, sym, ap, ◌∙◌, inl, inr, arith}
 use Rattle.std.specs.Prelude.{if◌then◌else◌}
 use Rattle.std.proofs.lemmas.Bool.{cases_eq, cases_lt}
@@ -8,14 +8,14 @@ use Rattle.map_lists.specs.Lists.{Lists}
 use Rattle.map_theory.specs.Maps.{list_of, HasDart, IsSimpleMap}
 use Rattle.map_theory.proofs.DartCounts.{sum_below}
 use Rattle.map_theory.proofs.EntryLemmas.{count_of-le-one}
-use Rattle.convex_peeling.specs.Tight.{IsTight}
+use Rattle.convex_peeling.specs.Polyhedral.{IsPolyhedral}
 use Rattle.convex_peeling.specs.Contours.{face_of}
 use Rattle.convex_peeling.proofs.Faces.{SameFace-labels}
 use Rattle.convex_orders.specs.FaceNumbers.{entry, AreFaceNumbers}
 use Rattle.convex_orders.specs.Counts.{met_at}
 use Rattle.convex_orders.proofs.ContourCountsRows.{entry_at}
 
-module _ (lists own other : Lists) (count : ℕ) (simple : IsSimpleMap lists) (tight : IsTight lists) (n : AreFaceNumbers lists own other count) where
+module _ (lists own other : Lists) (count : ℕ) (simple : IsSimpleMap lists) (polyhedral : IsPolyhedral lists) (n : AreFaceNumbers lists own other count) where
   row_distinct : (v : ℕ) → v < length lists → AllPairs ◌≢◌ (list_of own v)
   row_distinct v l = λ i j d before within e.
       let a = entry_at lists own count simple n.own_table v i l (omega arith) in
@@ -26,7 +26,7 @@ module _ (lists own other : Lists) (count : ℕ) (simple : IsSimpleMap lists) (t
       let j_d = get_or_default (list_of own v) j d 0 within in
       let same : entry lists own v x ≡ entry lists own v y = sym a.is ∙ (sym i_d ∙ (e ∙ (j_d ∙ b.is))) in
       let face = (n.alike v x v y a.dart b.dart).0 same in
-      let z : x ≡ y = tight.once v x y a.dart b.dart (SameFace-labels lists v x v y face) in
+      let z : x ≡ y = polyhedral.once v x y a.dart b.dart (SameFace-labels lists v x v y face) in
       simple.no_repeat v l i j 0 before (omega (arith, within, n.own_table.sizes v l)) z
 
   pub number_once : (v : ℕ) → v < length lists → (f : ℕ) → met_at own f v ≤ 1

@@ -4,7 +4,7 @@ use Rattle.map_lists.specs.Lists.{Lists}
 use Rattle.map_theory.specs.Maps.{list_of}
 use Rattle.convex_orders.specs.Contours.{contour_of}
 use Rattle.convex_orders.proofs.Moves.{length-contour, contour_left}
-use Rattle.convex_orders.specs.Splits.{IsLooseRow, IsLoosePlace}
+use Rattle.convex_orders.specs.Splits.{IsRemovableRow, IsRemovablePlace}
 
 module _ (own other : Lists) (marks : List Bool) (places edges ws left right : List ℕ) (same : contour_of left right ≡ ws) where
   pub last_at : (j : ℕ) → j < length left → slice_index left j ≡ slice_index ws j
@@ -13,12 +13,12 @@ module _ (own other : Lists) (marks : List Bool) (places edges ws left right : L
   pub all_long : length ws ≡ length left + length right
   all_long = sym (ap length same) ∙ length-contour left right
 
-  pub place_from : (j : ℕ) → suc j ≡ length left → 0 < j → 0 < length right → IsLooseRow (list_of own (slice_index left j)) (list_of other (slice_index left j)) marks places edges → IsLoosePlace own other marks places edges ws j
+  pub place_from : (j : ℕ) → suc j ≡ length left → 0 < j → 0 < length right → IsRemovableRow (list_of own (slice_index left j)) (list_of other (slice_index left j)) marks places edges → IsRemovablePlace own other marks places edges ws j
   place_from j e after behind row = record {
     after = after;
     before = let n = all_long in omega arith;
-    loose = subst (λ v. IsLooseRow (list_of own v) (list_of other v) marks places edges) (last_at j (omega arith)) row;
+    removable = subst (λ v. IsRemovableRow (list_of own v) (list_of other v) marks places edges) (last_at j (omega arith)) row;
   }
 
-  pub row_from : (j : ℕ) → suc j ≡ length left → IsLoosePlace own other marks places edges ws j → IsLooseRow (list_of own (slice_index left j)) (list_of other (slice_index left j)) marks places edges
-  row_from j e p = subst (λ v. IsLooseRow (list_of own v) (list_of other v) marks places edges) (sym (last_at j (omega arith))) p.loose
+  pub row_from : (j : ℕ) → suc j ≡ length left → IsRemovablePlace own other marks places edges ws j → IsRemovableRow (list_of own (slice_index left j)) (list_of other (slice_index left j)) marks places edges
+  row_from j e p = subst (λ v. IsRemovableRow (list_of own v) (list_of other v) marks places edges) (sym (last_at j (omega arith))) p.removable

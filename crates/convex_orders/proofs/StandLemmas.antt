@@ -7,8 +7,8 @@ use Rattle.simple_maps.proofs.FlatLemmas.{get_or-slice_range, length-slice_range
 use Rattle.classes.proofs.Counting.{count_below-le}
 use Rattle.map_lists.specs.Lists.{Lists}
 use Rattle.map_theory.specs.Maps.{list_of, HasDart, IsSimpleMap, dart_count}
-use Rattle.convex_peeling.specs.Tight.{IsTight}
-use Rattle.convex_peeling.proofs.Tightness.{three_connected_is_tight}
+use Rattle.convex_peeling.specs.Polyhedral.{IsPolyhedral}
+use Rattle.convex_peeling.proofs.PolyhedralLemmas.{three_connected_is_polyhedral}
 use Rattle.convex_peeling.proofs.Neighbours.{three_neighbours}
 use Rattle.convex_peeling.specs.Contours.{face_of, IsContour, IsBegun, IsFirst}
 use Rattle.convex_peeling.specs.Removals.{Removal, IsTakenOff}
@@ -38,8 +38,8 @@ module _ (lists : Lists) (s d : ℕ) (based : IsBased lists s d) where
   abbrev pub simple : IsSimpleMap lists
   simple = based.three.simple
 
-  pub tight : IsTight lists
-  tight = three_connected_is_tight lists based.three based.plane
+  pub polyhedral : IsPolyhedral lists
+  polyhedral = three_connected_is_polyhedral lists based.three based.plane
 
   pub has_three : HasThree lists
   has_three v l = three_neighbours lists v based.three l
@@ -113,7 +113,7 @@ module _ (lists : Lists) (s d : ℕ) (based : IsBased lists s d) where
         let w = st.w in
         let r = st.r in
         let dart : HasDart lists (w 0) (w r) = simple.both_ways (w r) (w 0) (subst (HasDart lists (w r)) c.round (c.edge r (omega arith)).dart) in
-        let count = count-without lists st.alive simple (w 0) (w r) dart (base_living lists st.alive w r simple tight has_three c) in
+        let count = count-without lists st.alive simple (w 0) (w r) dart (base_living lists st.alive w r simple polyhedral has_three c) in
         let fewer = st.fewer in
         omega arith
 
@@ -133,7 +133,7 @@ module _ (lists : Lists) (s d : ℕ) (based : IsBased lists s d) where
 
       pub two_places : 2 ≤ length ws
       two_places =
-          let last = last_goes lists st.alive st.w st.r simple based.three.connected tight has_three st.shown.contour inner in
+          let last = last_goes lists st.alive st.w st.r simple based.three.connected polyhedral has_three st.shown.contour inner in
           let gone = gone_within lists st.alive st.w st.r last.0 last.1.off in
           let long = st.list.long in
           omega arith
@@ -143,7 +143,7 @@ module _ (lists : Lists) (s d : ℕ) (based : IsBased lists s d) where
           let w = st.w in
           let r = st.r in
           let c = st.shown.contour in
-          let last = last_goes lists st.alive w r simple based.three.connected tight has_three c inner in
+          let last = last_goes lists st.alive w r simple based.three.connected polyhedral has_three c inner in
           let o = last.0 in
           let is = last.1 in
           let off = is.off in
@@ -226,7 +226,7 @@ module _ (lists : Lists) (s d : ℕ) (based : IsBased lists s d) where
         subst (λ v. HasDart lists v (slice_index ws i)) (sym (list.each (suc i) (omega arith))) (subst (HasDart lists (w (suc i))) (sym (list.each i (omega arith))) back)
 
     pub shown_room : (other : Lists) (count : ℕ) → AreFaceNumbers lists own other count → (f : ℕ) → met_below own ws (length ws) f ≤ length ws
-    shown_room other count n f = sum_below-le (λ i. met_at own f (slice_index ws i)) (length ws) (λ k l. number_once lists own other count simple tight n (slice_index ws k) (shown_in k l) f)
+    shown_room other count n f = sum_below-le (λ i. met_at own f (slice_index ws i)) (length ws) (λ k l. number_once lists own other count simple polyhedral n (slice_index ws k) (shown_in k l) f)
 
   -- the way along a contour that is shown begins with d
   pub first_trace : (own : Lists) (marks : List Bool) (items : List ℕ) (alive : ℕ → Bool) (w : ℕ → ℕ) (r : ℕ) → IsShown lists own marks s d alive w r → items ≡ d ∷ [] → IsTrace lists own marks items s alive w r 0 r
@@ -276,7 +276,7 @@ module _ (lists : Lists) (s d : ℕ) (based : IsBased lists s d) where
     Found = (alive : ℕ → Bool) × (w : ℕ → ℕ) × (r : ℕ) × (o : Removal) × IsFirst lists s d alive w r × IsTakenOff lists alive w r o × IsContour lists o.alive o.contour o.places × IsBegun lists o.alive o.contour o.places × (o.first + 2 ≡ r) × (o.vertices ≡ 1)
 
     pub found : Found
-    found = first_taken_off_law lists s d simple tight has_three based.base
+    found = first_taken_off_law lists s d simple polyhedral has_three based.base
 
     module _ (marks new : List Bool) (ws : List ℕ) (x : Found) (shown : IsShown lists own marks s d x.0 x.1 x.2) (list : IsListOf ws x.1 x.2) where
       pub two_first : 2 ≤ length ws
@@ -319,7 +319,7 @@ module _ (lists : Lists) (s d : ℕ) (based : IsBased lists s d) where
               begun = x.7;
               labels = λ f t. x.4.labels f (x.5.still f t);
               list = list';
-              ended = IsEnded-first lists s d simple based.three.connected tight has_three based.base x.0 x.1 x.2 x.4 o x.5 x.8 x.9 x.6 old rows none more;
+              ended = IsEnded-first lists s d simple based.three.connected polyhedral has_three based.base x.0 x.1 x.2 x.4 o x.5 x.8 x.9 x.6 old rows none more;
               fewer = omega arith;
             }
 

@@ -1,4 +1,4 @@
--- Stretches by counts, and loose vertices by rows.
+-- Stretches by counts, and removable vertices by rows.
 use Rattle.std.proofs.Common.{◌≡◌, ◌≢◌, ◌↔◌, ℕ, suc, ◌+◌, ◌<◌, ◌≤◌, Bool, true, false, eqb, ltb, lt-ltb, ltb-true, List, length, slice_index, Contains, refl, sym, ap, ap₂, ◌∙◌, subst, inl, inr, arith}
 use Rattle.std.proofs.lemmas.Bool.{cases_eq}
 use Rattle.classes.specs.Classes.{count_below}
@@ -6,13 +6,13 @@ use Rattle.classes.proofs.Counting.{count_below_same}
 use Rattle.map_lists.specs.Lists.{Lists}
 use Rattle.map_theory.specs.Maps.{list_of, HasDart, IsSimpleMap, place_of}
 use Rattle.map_theory.proofs.EntryLemmas.{Contains-from_count_of, Contains-counted}
-use Rattle.convex_peeling.specs.Tight.{IsTight}
-use Rattle.convex_peeling.proofs.Tightness.{three_connected_is_tight}
+use Rattle.convex_peeling.specs.Polyhedral.{IsPolyhedral}
+use Rattle.convex_peeling.proofs.PolyhedralLemmas.{three_connected_is_polyhedral}
 use Rattle.convex_peeling.proofs.Neighbours.{three_neighbours}
-use Rattle.convex_peeling.specs.Contours.{face_of, Passes, IsContour, IsStretch, IsLoose}
+use Rattle.convex_peeling.specs.Contours.{face_of, Passes, IsContour, IsStretch, IsRemovable}
 use Rattle.convex_peeling.specs.FacePeelingLaws.{HasThree}
 use Rattle.convex_peeling.proofs.ChainsOff.{edge_passes}
-use Rattle.convex_peeling.proofs.Choices.{some_loose_law}
+use Rattle.convex_peeling.proofs.Choices.{some_removable_law}
 use Rattle.convex_peeling.proofs.StretchCounts.{stretch_by_counts_law}
 use Rattle.convex_peeling.proofs.TakenOff.{base_passes, base_living}
 use Rattle.convex_orders.specs.FaceNumbers.{entry, AreFaceNumbers}
@@ -20,15 +20,15 @@ use Rattle.convex_orders.specs.Contours.{inner_number}
 use Rattle.convex_orders.specs.Counts.{met_at, met_below, AreCounts}
 use Rattle.convex_orders.proofs.ContourCountsRows.{entry_at, entry-lt, entry_within, passes-number}
 use Rattle.convex_orders.specs.Shown.{is_set, IsBased, IsChoice}
-use Rattle.convex_orders.specs.Splits.{IsLooseRow, IsLoosePlace}
+use Rattle.convex_orders.specs.Splits.{IsRemovableRow, IsRemovablePlace}
 use Rattle.convex_orders.proofs.Once.{number_once, sum_is_count, one_if_some, same_test}
 
 module _ (lists own other : Lists) (count s d : ℕ) (based : IsBased lists s d) (n : AreFaceNumbers lists own other count) (marks : List Bool) (ws places edges : List ℕ) (counts : AreCounts lists own count ws places edges) (alive : ℕ → Bool) (w : ℕ → ℕ) (r : ℕ) (choice : IsChoice lists own marks s d ws alive w r) where
   abbrev simple : IsSimpleMap lists
   simple = based.three.simple
 
-  pub tight : IsTight lists
-  tight = three_connected_is_tight lists based.three based.plane
+  pub polyhedral : IsPolyhedral lists
+  polyhedral = three_connected_is_polyhedral lists based.three based.plane
 
   pub has_three : HasThree lists
   has_three v l = three_neighbours lists v based.three l
@@ -50,7 +50,7 @@ module _ (lists own other : Lists) (count s d : ℕ) (based : IsBased lists s d)
 
   -- no row has a number twice
   row_once : (v : ℕ) → v < length lists → (f : ℕ) → met_at own f v ≤ 1
-  row_once v l f = number_once lists own other count simple tight n v l f
+  row_once v l f = number_once lists own other count simple polyhedral n v l f
 
   -- a face at a vertex of the contour meets it in one stretch exactly where its number is met once more than it has edges
   pub whole_stretch : (j u : ℕ) → j ≤ r → HasDart lists (w j) u → (slice_index places (entry lists own (w j) u) ≡ slice_index edges (entry lists own (w j) u) + 1) ↔ IsStretch lists w r (face_of lists (w j) u)
@@ -78,18 +78,18 @@ module _ (lists own other : Lists) (count s d : ℕ) (based : IsBased lists s d)
         (λ stretch. places_are ∙ (law.1 stretch ∙ ap (λ z. z + 1) (sym edges_are))),
       )
 
-  -- a loose vertex by its rows
-  loose_place : (j : ℕ) → IsLoose lists alive w r j → IsLoosePlace own other marks places edges ws j
-  loose_place j loose =
+  -- a removable vertex by its rows
+  removable_place : (j : ℕ) → IsRemovable lists alive w r j → IsRemovablePlace own other marks places edges ws j
+  removable_place j removable =
       let v = w j in
       let length_is = long in
-      let j_r = loose.before in
+      let j_r = removable.before in
       let at = at_place j (omega arith) in
       let l = vertex_in j (omega arith) in
-      let open_at = loose.open_at in
+      let open_at = removable.open_at in
       let x = open_at.0 in
       let has = open_at.1 in
-      let row : IsLooseRow (list_of own v) (list_of other v) marks places edges = record {
+      let row : IsRemovableRow (list_of own v) (list_of other v) marks places edges = record {
         place = place_of x (list_of lists v);
         open_at = record {
           within = entry_within lists own count n.own_table v x has;
@@ -100,23 +100,23 @@ module _ (lists own other : Lists) (count s d : ℕ) (based : IsBased lists s d)
             let e = entry_at lists own count simple n.own_table v i l m in
             let u = slice_index (list_of lists v) i in
             let live_face : alive (face_of lists v u) ≡ true = sym (choice.shown.marks_are v u e.dart) ∙ (ap (is_set marks) (sym e.is) ∙ live) in
-            let whole = (whole_stretch j u (omega arith) e.dart).1 (loose.stretches u e.dart live_face) in
+            let whole = (whole_stretch j u (omega arith) e.dart).1 (removable.stretches u e.dart live_face) in
             ap (λ f. slice_index places f) e.is ∙ (whole ∙ ap (λ f. slice_index edges f + 1) (sym e.is));
       } in
       record {
-        after = loose.after;
+        after = removable.after;
         before = omega arith;
-        loose = subst (λ z. IsLooseRow (list_of own z) (list_of other z) marks places edges) (sym at) row;
+        removable = subst (λ z. IsRemovableRow (list_of own z) (list_of other z) marks places edges) (sym at) row;
       }
 
-  pub place_loose : (j : ℕ) → IsLoosePlace own other marks places edges ws j → IsLoose lists alive w r j
-  place_loose j p =
+  pub place_removable : (j : ℕ) → IsRemovablePlace own other marks places edges ws j → IsRemovable lists alive w r j
+  place_removable j p =
       let v = w j in
       let length_is = long in
       let before = p.before in
       let at = at_place j (omega arith) in
       let l = vertex_in j (omega arith) in
-      let row : IsLooseRow (list_of own v) (list_of other v) marks places edges = subst (λ z. IsLooseRow (list_of own z) (list_of other z) marks places edges) at p.loose in
+      let row : IsRemovableRow (list_of own v) (list_of other v) marks places edges = subst (λ z. IsRemovableRow (list_of own z) (list_of other z) marks places edges) at p.removable in
       let k = row.place in
       let e = entry_at lists own count simple n.own_table v k l row.open_at.within in
       let m : k < length (list_of other v) = omega (arith, row.open_at.within, n.own_table.sizes v l, n.other_table.sizes v l) in
@@ -143,17 +143,17 @@ module _ (lists own other : Lists) (count s d : ℕ) (based : IsBased lists s d)
       let l = o.1 in
       o.2 ((n.alike (w (suc o.0)) (w o.0) (w 0) (w r) (edge_back o.0 (omega arith)) inner).1 (all o.0 l) ∙ ap₂ (entry lists own) choice.shown.first choice.shown.last)
 
-  -- THE CHOICE: some place is loose
-  pub some_place : (j : ℕ) × IsLoosePlace own other marks places edges ws j
+  -- THE CHOICE: some place is removable
+  pub some_place : (j : ℕ) × IsRemovablePlace own other marks places edges ws j
   some_place =
-      elim (some_loose_law lists alive w r simple based.plane tight contour choice.begun) [
+      elim (some_removable_law lists alive w r simple based.plane polyhedral contour choice.begun) [
         | inl all ↦ absurd (not_all all choice.other)
-        | inr found ↦ (found.0, loose_place found.0 found.1)
+        | inr found ↦ (found.0, removable_place found.0 found.1)
       ]
 
-  -- the face inside of the base does not pass a loose vertex
-  pub off_base : (j : ℕ) → IsLoose lists alive w r j → ¬ Passes lists (face_of lists (w 0) (w r)) (w j)
-  off_base j loose p =
-      let ends = base_passes lists alive w r simple tight has_three contour in
-      let stretch = subst (IsStretch lists w r) p.2 (loose.stretches p.0 p.1 (ap alive p.2 ∙ base_living lists alive w r simple tight has_three contour)) in
+  -- the face inside of the base does not pass a removable vertex
+  pub off_base : (j : ℕ) → IsRemovable lists alive w r j → ¬ Passes lists (face_of lists (w 0) (w r)) (w j)
+  off_base j removable p =
+      let ends = base_passes lists alive w r simple polyhedral has_three contour in
+      let stretch = subst (IsStretch lists w r) p.2 (removable.stretches p.0 p.1 (ap alive p.2 ∙ base_living lists alive w r simple polyhedral has_three contour)) in
       not_all (λ i l. stretch 0 i r (omega arith) l (omega arith) ends.0 ends.1) choice.other

@@ -1,10 +1,10 @@
--- The marks after a removal, and the removal at a loose vertex.
+-- The marks after a removal, and the removal at a removable vertex.
 use Rattle.std.proofs.Common.{◌≡◌, ◌≢◌, ◌⊎◌, ◌↔◌, ℕ, suc, ◌+◌, ◌<◌, ◌≤◌, Bool, true, false, List, length, set, Contains, refl, sym, ap, ◌∙◌, subst, inl, inr, arith}
 use Rattle.std.proofs.lemmas.Bool.{cases_Bool, true≢false}
 use Rattle.map_lists.specs.Lists.{Lists}
 use Rattle.map_theory.specs.Maps.{list_of, HasDart, IsSimpleMap}
-use Rattle.convex_peeling.specs.Tight.{IsTight}
-use Rattle.convex_peeling.specs.Contours.{face_of, Passes, IsContour, IsStretch, IsOpen, IsLoose}
+use Rattle.convex_peeling.specs.Polyhedral.{IsPolyhedral}
+use Rattle.convex_peeling.specs.Contours.{face_of, Passes, IsContour, IsStretch, IsOpen, IsRemovable}
 use Rattle.convex_peeling.specs.Removals.{Removal, IsTakenOff}
 use Rattle.convex_peeling.proofs.ChainsOff.{edge_passes}
 use Rattle.convex_peeling.proofs.TakenOff.{chain_taken_off_law}
@@ -18,7 +18,7 @@ use Rattle.convex_orders.specs.Counts.{AreCounts}
 use Rattle.convex_orders.proofs.ContourCountsRows.{passes-number, entry-lt}
 use Rattle.convex_orders.proofs.Once.{same_bool}
 use Rattle.convex_orders.proofs.RemovedFaces.{made_passes}
-use Rattle.convex_orders.proofs.Stretches.{tight, has_three, vertex_in, off_base}
+use Rattle.convex_orders.proofs.Stretches.{polyhedral, has_three, vertex_in, off_base}
 
 module _ (lists own other : Lists) (count : ℕ) (simple : IsSimpleMap lists) (n : AreFaceNumbers lists own other count) (marks new : List Bool) (alive : ℕ → Bool) (w : ℕ → ℕ) (r : ℕ) (o : Removal) (off : IsTakenOff lists alive w r o) (are : AreMarks lists own marks alive) where
   -- the marks after a removal, where some numbers lose their marks
@@ -63,18 +63,18 @@ module _ (lists own other : Lists) (count s d : ℕ) (based : IsBased lists s d)
   abbrev contour : IsContour lists alive w r
   contour = choice.shown.contour
 
-  abbrev is_tight : IsTight lists
-  is_tight = tight lists own other count s d based n marks ws places edges counts alive w r choice
+  abbrev is_polyhedral : IsPolyhedral lists
+  is_polyhedral = polyhedral lists own other count s d based n marks ws places edges counts alive w r choice
 
   living_edge : (i : ℕ) → i ≤ r → alive (face_of lists (w (suc i)) (w i)) ≡ true
   living_edge i l = (contour.edge i l).inside
 
-  module _ (j : ℕ) (loose : IsLoose lists alive w r j) where
+  module _ (j : ℕ) (removable : IsRemovable lists alive w r j) where
     stretches : (face : ℕ) → alive face ≡ true → Passes lists face (w j) → IsStretch lists w r face
-    stretches face live p = subst (IsStretch lists w r) p.2 (loose.stretches p.0 p.1 (ap alive p.2 ∙ live))
+    stretches face live p = subst (IsStretch lists w r) p.2 (removable.stretches p.0 p.1 (ap alive p.2 ∙ live))
 
     not_base : (face : ℕ) → Passes lists face (w j) → face ≢ face_of lists (w 0) (w r)
-    not_base face p e = off_base lists own other count s d based n marks ws places edges counts alive w r choice j loose (subst (λ f. Passes lists f (w j)) e p)
+    not_base face p e = off_base lists own other count s d based n marks ws places edges counts alive w r choice j removable (subst (λ f. Passes lists f (w j)) e p)
 
     -- two edges of one face, from place i on
     pub goes_chain : (i : ℕ) → suc (suc i) ≤ r → (i ≡ j) ⊎ (suc (suc i) ≡ j) → face_of lists (w (suc (suc i))) (w (suc i)) ≡ face_of lists (w (suc i)) (w i) → (x y : ℕ) → HasDart lists x y → face_of lists x y ≡ face_of lists (w (suc i)) (w i) → new ≡ set marks (entry lists own x y) false → GoesOffNear lists own new alive w r j
@@ -87,7 +87,7 @@ module _ (lists own other : Lists) (count s d : ℕ) (based : IsBased lists s d)
           | inr z ↦ subst (λ k. Passes lists face (w k)) z (subst (λ f. Passes lists f (w (suc (suc i)))) same two.1)
         ] in
         let three = has_three lists own other count s d based n marks ws places edges counts alive w r choice in
-        let go = chain_taken_off_law lists alive w r i face simple is_tight three contour l refl same (stretches face (living_edge i (omega arith)) p) (not_base face p) in
+        let go = chain_taken_off_law lists alive w r i face simple is_polyhedral three contour l refl same (stretches face (living_edge i (omega arith)) p) (not_base face p) in
         let first_le = go.6 in
         let after_le = go.7 in
         record {
@@ -105,8 +105,8 @@ module _ (lists own other : Lists) (count s d : ℕ) (based : IsBased lists s d)
     -- one vertex
     pub goes_vertex : (i : ℕ) → suc i ≡ j → (suc j < r → face_of lists (w (suc (suc j))) (w (suc j)) ≢ face_of lists (w (suc j)) (w j)) → ((h : ℕ) → suc h ≡ i → face_of lists (w (suc h)) (w h) ≢ face_of lists (w (suc i)) (w i)) → ((f : ℕ) → (is_set new f ≡ true) ↔ ((is_set marks f ≡ true) × (¬ Contains (list_of own (w j)) f))) → GoesOffNear lists own new alive w r j
     goes_vertex i at right left set =
-        let before = loose.before in
-        let go = vertex_taken_off_law lists alive w r i simple is_tight contour (record {
+        let before = removable.before in
+        let go = vertex_taken_off_law lists alive w r i simple is_polyhedral contour (record {
           within = omega arith;
           stretches = λ face live p. stretches face live (subst (λ k. Passes lists face (w k)) at p);
           right = λ l. let z = at in subst (λ k. face_of lists (w (suc (suc k))) (w (suc k)) ≢ face_of lists (w (suc k)) (w k)) (sym at) (right (omega arith));
@@ -121,7 +121,7 @@ module _ (lists own other : Lists) (count s d : ℕ) (based : IsBased lists s d)
             o = go.0;
             off = go.1;
             contour = go.2;
-            open_at = λ q l. let z : suc (go.0.first + q) ≡ j = omega arith in subst (λ k. IsOpen lists alive (w k)) (sym z) loose.open_at;
+            open_at = λ q l. let z : suc (go.0.first + q) ≡ j = omega arith in subst (λ k. IsOpen lists alive (w k)) (sym z) removable.open_at;
             marks_are = marks_after_vertex lists own other count simple n marks new alive w r go.0 go.1 choice.shown.marks_are contour go.2 go.4 (w j) (vertex_in lists own other count s d based n marks ws places edges counts alive w r choice j (omega arith)) (ap w first) set;
           };
           low = omega arith;

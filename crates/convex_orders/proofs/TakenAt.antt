@@ -1,19 +1,19 @@
--- The removal at a loose place of the list, by the three ways in which marks are taken away.
+-- The removal at a removable place of the list, by the three ways in which marks are taken away.
 use Rattle.std.proofs.Common.{◌≡◌, ◌≢◌, ◌↔◌, ℕ, suc, ◌-◌, ◌<◌, ◌≤◌, Bool, true, false, List, length, slice_index, set, Contains, refl, sym, ap, ap₂, ◌∙◌, subst, inl, inr, arith}
 use Rattle.map_lists.specs.Lists.{Lists}
 use Rattle.map_theory.specs.Maps.{list_of, HasDart, IsSimpleMap}
-use Rattle.convex_peeling.specs.Contours.{face_of, IsLoose}
+use Rattle.convex_peeling.specs.Contours.{face_of, IsRemovable}
 use Rattle.convex_orders.specs.FaceNumbers.{entry, AreFaceNumbers}
 use Rattle.convex_orders.specs.Contours.{inner_number}
 use Rattle.convex_orders.specs.Counts.{AreCounts}
 use Rattle.convex_orders.specs.Shown.{is_set, IsBased, IsChoice, GoesOffNear}
-use Rattle.convex_orders.specs.Splits.{IsLoosePlace}
-use Rattle.convex_orders.proofs.Stretches.{edge_back, place_loose}
+use Rattle.convex_orders.specs.Splits.{IsRemovablePlace}
+use Rattle.convex_orders.proofs.Stretches.{edge_back, place_removable}
 use Rattle.convex_orders.proofs.Taken.{goes_chain, goes_vertex}
 
-module _ (lists own other : Lists) (count s d : ℕ) (based : IsBased lists s d) (n : AreFaceNumbers lists own other count) (marks new : List Bool) (ws places edges : List ℕ) (counts : AreCounts lists own count ws places edges) (many : length marks ≡ count) (j : ℕ) (place : IsLoosePlace own other marks places edges ws j) (alive : ℕ → Bool) (w : ℕ → ℕ) (r : ℕ) (choice : IsChoice lists own marks s d ws alive w r) where
-  loose : IsLoose lists alive w r j
-  loose = place_loose lists own other count s d based n marks ws places edges counts alive w r choice j place
+module _ (lists own other : Lists) (count s d : ℕ) (based : IsBased lists s d) (n : AreFaceNumbers lists own other count) (marks new : List Bool) (ws places edges : List ℕ) (counts : AreCounts lists own count ws places edges) (many : length marks ≡ count) (j : ℕ) (place : IsRemovablePlace own other marks places edges ws j) (alive : ℕ → Bool) (w : ℕ → ℕ) (r : ℕ) (choice : IsChoice lists own marks s d ws alive w r) where
+  removable : IsRemovable lists alive w r j
+  removable = place_removable lists own other count s d based n marks ws places edges counts alive w r choice j place
 
   at : (i : ℕ) → i ≤ r → slice_index ws i ≡ w i
   at i l = choice.list.each i l
@@ -36,25 +36,25 @@ module _ (lists own other : Lists) (count s d : ℕ) (based : IsBased lists s d)
   goes_right m m_is two f f_is e =
       let long = choice.list.long in
       let l = two.0 in
-      goes_chain lists own other count s d based n marks new ws places edges counts many alive w r choice j loose j (omega arith) (inl refl) (same j (omega arith) two.1) (w (suc j)) (w j) (edge j (omega arith)) refl
+      goes_chain lists own other count s d based n marks new ws places edges counts many alive w r choice j removable j (omega arith) (inl refl) (same j (omega arith) two.1) (w (suc j)) (w j) (edge j (omega arith)) refl
       (e ∙ ap (λ k. set marks k false) (f_is ∙ number j (omega arith)))
 
   pub goes_left : (h : ℕ) → suc (suc h) ≡ j → inner_number lists own ws h ≡ inner_number lists own ws (suc h) → (f : ℕ) → f ≡ inner_number lists own ws (j - 1) → new ≡ set marks f false → GoesOffNear lists own new alive w r j
   goes_left h z eq f f_is e =
-      let j_r = loose.before in
+      let j_r = removable.before in
       let one = same h (omega arith) eq in
       let k : j - 1 ≡ suc h = omega arith in
-      goes_chain lists own other count s d based n marks new ws places edges counts many alive w r choice j loose h (omega arith) (inr z) one (w (suc (suc h))) (w (suc h)) (edge (suc h) (omega arith)) one
+      goes_chain lists own other count s d based n marks new ws places edges counts many alive w r choice j removable h (omega arith) (inr z) one (w (suc (suc h))) (w (suc h)) (edge (suc h) (omega arith)) one
       (e ∙ ap (λ g. set marks g false) (f_is ∙ (ap (inner_number lists own ws) k ∙ number (suc h) (omega arith))))
 
   pub goes_only : (m : ℕ) → m ≡ length ws → ¬ ((suc (suc j) < m) × (inner_number lists own ws j ≡ inner_number lists own ws (suc j))) → ((h : ℕ) → suc (suc h) ≡ j → inner_number lists own ws h ≢ inner_number lists own ws (suc h)) → ((f : ℕ) → (is_set new f ≡ true) ↔ ((is_set marks f ≡ true) × (¬ Contains (list_of own (slice_index ws j)) f))) → GoesOffNear lists own new alive w r j
   goes_only m m_is right left set =
       let long = choice.list.long in
-      let after = loose.after in
-      let j_r = loose.before in
+      let after = removable.after in
+      let j_r = removable.before in
       let i : ℕ = j - 1 in
       let i_j : suc i ≡ j = omega arith in
-      goes_vertex lists own other count s d based n marks new ws places edges counts many alive w r choice j loose i i_j
+      goes_vertex lists own other count s d based n marks new ws places edges counts many alive w r choice j removable i i_j
       (λ l e. right (omega arith, differ j (omega arith) e))
       (λ h z e. let z' : i ≡ suc h = omega arith in left h (omega arith) (differ h (omega arith) (sym (e ∙ ap (λ k. face_of lists (w (suc k)) (w k)) z'))))
       (subst (λ v. (f : ℕ) → (is_set new f ≡ true) ↔ ((is_set marks f ≡ true) × (¬ Contains (list_of own v) f))) (at j (omega arith)) set)

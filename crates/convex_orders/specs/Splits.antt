@@ -22,16 +22,16 @@ abbrev pub NoneSplit : List ℕ → List Bool → List ℕ → List ℕ → Type
 NoneSplit own marks places edges = (i : ℕ) → i < length own → is_set marks (slice_index own i) ≡ true → slice_index places (slice_index own i) ≡ slice_index edges (slice_index own i) + 1
 
 -- a row at which some entry has no mark, and no marked number is split
-pub record IsLooseRow (own other : List ℕ) (marks : List Bool) (places edges : List ℕ) : Type 0 where
+pub record IsRemovableRow (own other : List ℕ) (marks : List Bool) (places edges : List ℕ) : Type 0 where
   pub place : ℕ
   pub open_at : IsOpenAt own other marks place
   pub whole : NoneSplit own marks places edges
 
 -- such a row is that of the vertex at place j of the list, neither the first nor the last
-pub record IsLoosePlace (own other : Lists) (marks : List Bool) (places edges ws : List ℕ) (j : ℕ) : Type 0 where
+pub record IsRemovablePlace (own other : Lists) (marks : List Bool) (places edges ws : List ℕ) (j : ℕ) : Type 0 where
   pub after : 0 < j
   pub before : suc j < length ws
-  pub loose : IsLooseRow (list_of own (slice_index ws j)) (list_of other (slice_index ws j)) marks places edges
+  pub removable : IsRemovableRow (list_of own (slice_index ws j)) (list_of other (slice_index ws j)) marks places edges
 
 -- The edges from place `first` to place `end`, and no others, have numbers that are not marked.
 pub record IsGoneRun (lists own : Lists) (marks : List Bool) (ws : List ℕ) (first end : ℕ) : Type 0 where

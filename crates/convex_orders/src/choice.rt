@@ -5,7 +5,7 @@ ghost use Rattle.convex_orders.specs.FaceNumbers.{entry, IsTable, AreFaceNumbers
 ghost use Rattle.convex_orders.specs.Contours.{contour_of, AreEdges, inner_number};
 ghost use Rattle.convex_orders.specs.Counts.{AreCounts};
 ghost use Rattle.convex_orders.specs.Shown.{is_set, IsBased, IsChoice, GoesOffNear, GoesOffAt};
-ghost use Rattle.convex_orders.specs.Splits.{IsOpenAt, NoneSplit, IsLooseRow, IsLoosePlace, IsGoneRun};
+ghost use Rattle.convex_orders.specs.Splits.{IsOpenAt, NoneSplit, IsRemovableRow, IsRemovablePlace, IsGoneRun};
 
 use crate::contour_counts::{edge_at, move_to, step_back};
 use crate::face_numbers::FaceNumbers;
@@ -44,19 +44,19 @@ fn none_split(own: &[u32], marks: &[bool], places: &[u16], edges: &[u16]) -> boo
 }
 
 // Whether a row is that of a vertex that may go.
-fn is_loose(own: &[u32], other: &[u32], marks: &[bool], places: &[u16], edges: &[u16]) -> bool
+fn is_removable(own: &[u32], other: &[u32], marks: &[bool], places: &[u16], edges: &[u16]) -> bool
     requires long { length other.now ≡ length own.now }
     requires own_in { (k : ℕ) → k < length own.now → slice_index own.now k < length marks.now }
     requires other_in { (k : ℕ) → k < length other.now → slice_index other.now k < length marks.now }
     requires places { length places.now ≡ length marks.now }
     requires edges { length edges.now ≡ length marks.now }
-    ensures { IsTrue result ↔ IsLooseRow own.now other.now marks.now places.now edges.now }
+    ensures { IsTrue result ↔ IsRemovableRow own.now other.now marks.now places.now edges.now }
 {
     none_split(own, marks, places, edges) && is_open(own, other, marks)
 }
 
 // Whether the last vertex of the list may go.
-fn is_last_loose(
+fn is_last_removable(
     left: &[u16],
     lists: &Rotations,
     faces: &FaceNumbers,
@@ -70,11 +70,11 @@ fn is_last_loose(
     requires edges { length edges.now ≡ faces.now.count }
     requires some { 0 < length left.now }
     requires vertices { (i : ℕ) → i < length left.now → slice_index left.now i < length lists.now }
-    ensures { (j : ℕ) → suc j ≡ length left.now → IsTrue result ↔ IsLooseRow (list_of faces.now.own (slice_index left.now j)) (list_of faces.now.other (slice_index left.now j)) marks.now places.now edges.now }
+    ensures { (j : ℕ) → suc j ≡ length left.now → IsTrue result ↔ IsRemovableRow (list_of faces.now.own (slice_index left.now j)) (list_of faces.now.other (slice_index left.now j)) marks.now places.now edges.now }
 {
     let _lists = lists;
     let v = left[left.len() - 1] as usize;
-    is_loose(faces.own.list(v), faces.other.list(v), marks, places, edges)
+    is_removable(faces.own.list(v), faces.other.list(v), marks, places, edges)
 }
 
 // Goes back along the contour to a vertex that may go, and says whether there is one.
@@ -95,12 +95,12 @@ fn seek(
     requires behind { 0 < length right.old.items }
     requires vertices { (i : ℕ) → i < length (contour_of left.old.items right.old.items) → slice_index (contour_of left.old.items right.old.items) i < length lists.now }
     ensures same { IfOk result (λ _. contour_of left.new.items right.new.items ≡ contour_of left.old.items right.old.items) }
-    ensures found { IfOk result (λ b. b ≡ true → (j : ℕ) → suc j ≡ length left.new.items → IsLoosePlace faces.now.own faces.now.other marks.now places.now edges.now (contour_of left.old.items right.old.items) j) }
-    ensures none { IfOk result (λ b. b ≡ false → (j : ℕ) → IsLoosePlace faces.now.own faces.now.other marks.now places.now edges.now (contour_of left.old.items right.old.items) j → length left.old.items ≤ j) }
+    ensures found { IfOk result (λ b. b ≡ true → (j : ℕ) → suc j ≡ length left.new.items → IsRemovablePlace faces.now.own faces.now.other marks.now places.now edges.now (contour_of left.old.items right.old.items) j) }
+    ensures none { IfOk result (λ b. b ≡ false → (j : ℕ) → IsRemovablePlace faces.now.own faces.now.other marks.now places.now edges.now (contour_of left.old.items right.old.items) j → length left.old.items ≤ j) }
     ensures some { IfOk result (λ _. 0 < length left.new.items) }
 {
     for _ in 1..left.len() {
-        if is_last_loose(left, lists, faces, marks, places, edges) {
+        if is_last_removable(left, lists, faces, marks, places, edges) {
             return Ok(true);
         }
         step_back(left, right)?;
@@ -133,9 +133,9 @@ fn seek_all(
     requires places { length places.now ≡ faces.now.count }
     requires edges { length edges.now ≡ faces.now.count }
     requires vertices { (i : ℕ) → i < length (contour_of left.old.items right.old.items) → slice_index (contour_of left.old.items right.old.items) i < length lists.now }
-    requires loose { (j : ℕ) × IsLoosePlace faces.now.own faces.now.other marks.now places.now edges.now (contour_of left.old.items right.old.items) j }
+    requires removable { (j : ℕ) × IsRemovablePlace faces.now.own faces.now.other marks.now places.now edges.now (contour_of left.old.items right.old.items) j }
     ensures same { IfOk result (λ _. contour_of left.new.items right.new.items ≡ contour_of left.old.items right.old.items) }
-    ensures found { IfOk result (λ _. (j : ℕ) → suc j ≡ length left.new.items → IsLoosePlace faces.now.own faces.now.other marks.now places.now edges.now (contour_of left.old.items right.old.items) j) }
+    ensures found { IfOk result (λ _. (j : ℕ) → suc j ≡ length left.new.items → IsRemovablePlace faces.now.own faces.now.other marks.now places.now edges.now (contour_of left.old.items right.old.items) j) }
     ensures some { IfOk result (λ _. 0 < length left.new.items) }
 {
     let last = left.len() + right.len() - 1;
@@ -161,9 +161,9 @@ pub(crate) fn find(
     requires edges { length edges.now ≡ faces.now.count }
     requires vertices { (i : ℕ) → i < length (contour_of left.old.items right.old.items) → slice_index (contour_of left.old.items right.old.items) i < length lists.now }
     requires some { 0 < length left.old.items }
-    requires loose { (j : ℕ) × IsLoosePlace faces.now.own faces.now.other marks.now places.now edges.now (contour_of left.old.items right.old.items) j }
+    requires removable { (j : ℕ) × IsRemovablePlace faces.now.own faces.now.other marks.now places.now edges.now (contour_of left.old.items right.old.items) j }
     ensures same { IfOk result (λ _. contour_of left.new.items right.new.items ≡ contour_of left.old.items right.old.items) }
-    ensures found { IfOk result (λ _. (j : ℕ) → suc j ≡ length left.new.items → IsLoosePlace faces.now.own faces.now.other marks.now places.now edges.now (contour_of left.old.items right.old.items) j) }
+    ensures found { IfOk result (λ _. (j : ℕ) → suc j ≡ length left.new.items → IsRemovablePlace faces.now.own faces.now.other marks.now places.now edges.now (contour_of left.old.items right.old.items) j) }
     ensures some { IfOk result (λ _. 0 < length left.new.items) }
 {
     let count = before_last(left.len(), right.len());
@@ -244,7 +244,7 @@ fn take_at(
     requires numbers { AreFaceNumbers lists.now faces.now.own faces.now.other faces.now.count }
     requires marks { length marks.old ≡ faces.now.count }
     requires some { 0 < length left.now }
-    requires place { (j : ℕ) → suc j ≡ length left.now → IsLoosePlace faces.now.own faces.now.other marks.old places.now edges.now (contour_of left.now right.now) j }
+    requires place { (j : ℕ) → suc j ≡ length left.now → IsRemovablePlace faces.now.own faces.now.other marks.old places.now edges.now (contour_of left.now right.now) j }
     requires counts { AreCounts lists.now faces.now.own faces.now.count (contour_of left.now right.now) places.now edges.now }
     requires vertices { (i : ℕ) → i < length (contour_of left.now right.now) → slice_index (contour_of left.now right.now) i < length lists.now }
     requires darts { AreEdges lists.now (contour_of left.now right.now) }
@@ -345,7 +345,7 @@ pub(crate) fn take_run(
     requires numbers { AreFaceNumbers lists.now faces.now.own faces.now.other faces.now.count }
     requires marks { length marks.old ≡ faces.now.count }
     requires some { 0 < length left.now }
-    requires place { (j : ℕ) → suc j ≡ length left.now → IsLoosePlace faces.now.own faces.now.other marks.old places.now edges.now (contour_of left.now right.now) j }
+    requires place { (j : ℕ) → suc j ≡ length left.now → IsRemovablePlace faces.now.own faces.now.other marks.old places.now edges.now (contour_of left.now right.now) j }
     requires counts { AreCounts lists.now faces.now.own faces.now.count (contour_of left.now right.now) places.now edges.now }
     requires vertices { (i : ℕ) → i < length (contour_of left.now right.now) → slice_index (contour_of left.now right.now) i < length lists.now }
     requires darts { AreEdges lists.now (contour_of left.now right.now) }

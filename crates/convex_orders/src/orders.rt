@@ -1,7 +1,7 @@
 //! The rows of a run of a map.
 ghost use Rattle.std.specs.Prelude.{◌≡◌, ◌<◌, ℕ, [], length, Some, IfOk};
 ghost use Rattle.map_theory.specs.Maps.{IsPlane};
-ghost use Rattle.convex_peeling.specs.Tight.{IsThreeConnected};
+ghost use Rattle.convex_peeling.specs.Polyhedral.{IsThreeConnected};
 ghost use Rattle.half_edges.specs.Map.{IsLive, dart_at};
 ghost use Rattle.convex_laws.specs.Removed.{AreRowsOfRun};
 ghost use Rattle.convex_orders.specs.Tables.{AreTables};

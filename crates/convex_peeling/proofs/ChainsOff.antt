@@ -12,7 +12,7 @@ use Rattle.map_theory.proofs.DartPermutations.{rotation, twin, orbits-face_image
 use Rattle.plane_laws.proofs.EdgeBound.{hw}
 use Rattle.plane_peeling.specs.Restricted.{kept_but}
 use Rattle.plane_peeling.proofs.RestrictedMaps.{kept_but-old, kept_but-new, kept_but-itself, count-kept_but}
-use Rattle.convex_peeling.specs.Tight.{IsTight}
+use Rattle.convex_peeling.specs.Polyhedral.{IsPolyhedral}
 use Rattle.convex_peeling.specs.Contours.{face_of, Passes, IsContour, IsOpen, IsEar, spliced}
 use Rattle.convex_peeling.specs.Removals.{Removal, IsTakenOff, IsOnRemoved, two_cuts}
 use Rattle.convex_peeling.specs.FacePeelingLaws.{HasThree}
@@ -47,8 +47,8 @@ module _ (lists : Lists) (alive : ℕ → Bool) (w : ℕ → ℕ) (r : ℕ) (sim
       )
 
   -- a vertex between two edges of one face, with three neighbours or more, has an edge that is taken off
-  pub between_open : IsTight lists → HasThree lists → (i : ℕ) → suc i ≤ r → face_of lists (w (suc i)) (w i) ≡ face_of lists (w (suc (suc i))) (w (suc i)) → IsOpen lists alive (w (suc i))
-  between_open tight three i l same =
+  pub between_open : IsPolyhedral lists → HasThree lists → (i : ℕ) → suc i ≤ r → face_of lists (w (suc i)) (w i) ≡ face_of lists (w (suc (suc i))) (w (suc i)) → IsOpen lists alive (w (suc i))
+  between_open polyhedral three i l same =
       let v = w (suc i) in
       let p = w i in
       let q = w (suc (suc i)) in
@@ -57,7 +57,7 @@ module _ (lists : Lists) (alive : ℕ → Bool) (w : ℕ → ℕ) (r : ℕ) (sim
       let has_p = simple.both_ways p v one.dart in
       let has_q = two.dart in
       let from_q = simple.both_ways v q has_q in
-      let turn : follows lists v q ≡ p = leaves_once lists alive simple tight v (follows lists v q) p (HasDart-follows lists v q has_q) has_p (face_of-step lists simple q v from_q ∙ sym same) in
+      let turn : follows lists v q ≡ p = leaves_once lists alive simple polyhedral v (follows lists v q) p (HasDart-follows lists v q has_q) has_p (face_of-step lists simple q v from_q ∙ sym same) in
       let z = follows lists v p in
       let has_z = HasDart-follows lists v p has_p in
       let dead : alive (face_of lists v z) ≡ false = ap alive (face_of-step lists simple p v one.dart) ∙ one.outside in (

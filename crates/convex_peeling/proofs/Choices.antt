@@ -4,9 +4,9 @@ use Rattle.std.proofs.lemmas.Bool.{cases_eq, cases_lt}
 use Rattle.map_lists.specs.Lists.{Lists}
 use Rattle.map_theory.specs.Maps.{HasDart, IsSimpleMap, IsPlane, follows}
 use Rattle.map_theory.proofs.DartLemmas.{HasDart-follows}
-use Rattle.convex_peeling.specs.Tight.{IsTight}
-use Rattle.convex_peeling.specs.Contours.{face_of, Passes, IsContour, IsBegun, IsGap, IsStretch, IsLoose}
-use Rattle.convex_peeling.specs.FacePeelingLaws.{SomeLoose}
+use Rattle.convex_peeling.specs.Polyhedral.{IsPolyhedral}
+use Rattle.convex_peeling.specs.Contours.{face_of, Passes, IsContour, IsBegun, IsGap, IsStretch, IsRemovable}
+use Rattle.convex_peeling.specs.FacePeelingLaws.{SomeRemovable}
 use Rattle.convex_peeling.proofs.Faces.{some_or_none, some_dart, cases_Passes, face_of-step}
 use Rattle.convex_peeling.proofs.Crossings.{no_crossing_law}
 use Rattle.convex_peeling.proofs.Sections.{cases_is, section_open_law}
@@ -68,7 +68,7 @@ module _ (lists : Lists) (alive : ℕ → Bool) (w : ℕ → ℕ) (r : ℕ) (sim
         | inr n ↦ (j, b, record { living = gap.living; low = n; high = high; within = within; first = at; last = gap.last; gap = gap.gap }, omega arith, omega arith, omega arith)
       ]
 
-  module _ (plane : IsPlane lists) (tight : IsTight lists) (contour : IsContour lists alive w r) (begun : IsBegun lists alive w r) where
+  module _ (plane : IsPlane lists) (polyhedral : IsPolyhedral lists) (contour : IsContour lists alive w r) (begun : IsBegun lists alive w r) where
     -- a gap of a face that passes a place within a gap lies within that gap, and makes a shorter one
     inner_gap : (face a i b j other a' i' b' : ℕ) → IsGap lists alive w r face a i b → a < j → j < b → Passes lists other (w j) → IsGap lists alive w r other a' i' b' → (g : ℕ) × (p : ℕ) × (q : ℕ) × (s : ℕ) × IsGap lists alive w r g p q s × (s + a < b + p)
     inner_gap face a i b j other a' i' b' gap l m at gap' =
@@ -93,12 +93,12 @@ module _ (lists : Lists) (alive : ℕ → Bool) (w : ℕ → ℕ) (r : ℕ) (sim
               ]
         ]
 
-    -- so in the shortest gap there is a loose vertex
-    loose_within : (n face a i b : ℕ) → IsGap lists alive w r face a i b → b < n + a → (j : ℕ) × IsLoose lists alive w r j
-    loose_within zero face a i b gap l = let low = gap.low in let high = gap.high in absurd (omega arith)
-    loose_within (suc n) face a i b gap l =
+    -- so in the shortest gap there is a removable vertex
+    removable_within : (n face a i b : ℕ) → IsGap lists alive w r face a i b → b < n + a → (j : ℕ) × IsRemovable lists alive w r j
+    removable_within zero face a i b gap l = let low = gap.low in let high = gap.high in absurd (omega arith)
+    removable_within (suc n) face a i b gap l =
         let within = gap.within in
-        let open_at = section_open_law lists alive w r face a i b simple tight contour begun gap in
+        let open_at = section_open_law lists alive w r face a i b simple polyhedral contour begun gap in
         let j = open_at.0 in
         let l' = open_at.1 in
         let m = open_at.2 in
@@ -113,7 +113,7 @@ module _ (lists : Lists) (alive : ℕ → Bool) (w : ℕ → ℕ) (r : ℕ) (sim
               let at : Passes lists other (w j) = (found.0, found.1, refl) in
               let less = inner_gap face a i b j other g.2 g.4 g.0 gap l' m at g.6 in
               let bound = less.5 in
-              loose_within n less.0 less.1 less.2 less.3 less.4 (omega arith)
+              removable_within n less.0 less.1 less.2 less.3 less.4 (omega arith)
           | inr none ↦ (
             j,
             record {
@@ -125,9 +125,9 @@ module _ (lists : Lists) (alive : ℕ → Bool) (w : ℕ → ℕ) (r : ℕ) (sim
           )
         ]
 
--- THE LAW: a loose vertex
-pub some_loose_law : SomeLoose
-some_loose_law lists alive w r simple plane tight contour begun =
+-- THE LAW: a removable vertex
+pub some_removable_law : SomeRemovable
+some_removable_law lists alive w r simple plane polyhedral contour begun =
     let F = face_of lists (w 0) (w r) in
     let rim = contour.edge r (omega arith) in
     let base : HasDart lists (w r) (w 0) = subst (HasDart lists (w r)) contour.round rim.dart in
@@ -136,7 +136,7 @@ some_loose_law lists alive w r simple plane tight contour begun =
     let next = HasDart-follows lists (w r) (w 0) base in
     elim (some_or_none (λ i. face_of lists (w (suc i)) (w i) ≢ F) r (λ i l. elim (cases_eq (face_of lists (w (suc i)) (w i)) F) [ inl e ↦ inr (λ ne. ne e) | inr ne ↦ inl ne ])) [
       | inr none ↦ inl (λ i l. elim (cases_eq (face_of lists (w (suc i)) (w i)) F) [ inl e ↦ e | inr ne ↦ absurd (none i l ne) ])
-      | inl found ↦ inr (loose_within lists alive w r simple plane tight contour begun (suc r) F 0 found.0 r (record {
+      | inl found ↦ inr (removable_within lists alive w r simple plane polyhedral contour begun (suc r) F 0 found.0 r (record {
         living = live;
         low = omega arith;
         high = found.1;

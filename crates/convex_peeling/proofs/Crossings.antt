@@ -71,13 +71,13 @@ module _ (lists : Lists) (alive : ℕ → Bool) (w : ℕ → ℕ) (r a b one : �
   cut p z = ((p ≡ u) × ((z ≡ x) ⊎ (z ≡ w (suc a)))) ⊎ ((p ≡ v) × ((z ≡ y) ⊎ (z ≡ w (suc b))))
 
   -- classes that hold all else, and part the two corners of v
-  record IsParting (labels : List ℕ) : Type 0 where
+  record IsSeparating (labels : List ℕ) : Type 0 where
     holds : HoldsCut M labels (u ∷ v ∷ []) cut
     apart : Together labels (dart_number M (v, y)) (dart_number M (v, w (suc b))) → ⊥
 
-  parting : (labels : List ℕ) × IsParting labels
+  separating : (labels : List ℕ) × IsSeparating labels
   unfolding cut
-  parting =
+  separating =
       let pw = IsPermuting-rotation M M_simple in
       let pair = IsPairing-twin M M_simple in
       let n = dart_number M in
@@ -130,7 +130,7 @@ module _ (lists : Lists) (alive : ℕ → Bool) (w : ℕ → ℕ) (r a b one : �
         },
       )
 
-  module _ (labels : List ℕ) (p : IsParting labels) where
+  module _ (labels : List ℕ) (p : IsSeparating labels) where
     -- the class of a dart
     abbrev class_of : ℕ → ℕ → ℕ
     class_of s t = label labels (dart_number M (s, t))
@@ -243,7 +243,7 @@ no_crossing_law lists alive w r a j b l one other simple plane contour a_j j_b b
     elim (cases_eq one other) [
       | inl e ↦ e
       | inr ne ↦
-          let cut_at = parting lists alive w r a b one simple plane contour (omega arith) (omega arith) living at_a at_b in
+          let cut_at = separating lists alive w r a b one simple plane contour (omega arith) (omega arith) living at_a at_b in
           let live = ap alive at_j.2 ∙ living' in
           let has = kept_living lists alive simple (w j) at_j.0 at_j.1 live in
           let has' = kept_living lists alive simple (w l) at_l.0 at_l.1 (ap alive at_l.2 ∙ living') in

@@ -4,7 +4,7 @@ use Rattle.std.proofs.lemmas.Bool.{cases_eq, cases_lt}
 use Rattle.map_lists.specs.Lists.{Lists}
 use Rattle.map_theory.specs.Maps.{HasDart, IsSimpleMap, follows}
 use Rattle.map_theory.proofs.DartLemmas.{HasDart-follows}
-use Rattle.convex_peeling.specs.Tight.{IsTight}
+use Rattle.convex_peeling.specs.Polyhedral.{IsPolyhedral}
 use Rattle.convex_peeling.specs.Contours.{face_of, Passes, IsContour, IsEar}
 use Rattle.convex_peeling.specs.FacePeelingLaws.{StretchIsEar}
 use Rattle.convex_peeling.proofs.Faces.{some_or_none, first_or_none, cases_Passes, face_of-step, stepped, HasDart-stepped, steps_on, along_face, before_once}
@@ -32,7 +32,7 @@ cases_place w r v =
       | inr none ↦ inr (λ i l e. none i (omega arith) e)
     ]
 
-module _ (lists : Lists) (alive : ℕ → Bool) (w : ℕ → ℕ) (r face a h : ℕ) (simple : IsSimpleMap lists) (tight : IsTight lists) (contour : IsContour lists alive w r) (within : suc (a + h) ≤ r) (edges : (i : ℕ) → a ≤ i → i ≤ a + h → face_of lists (w (suc i)) (w i) ≡ face) (places : (i : ℕ) → i ≤ r → Passes lists face (w i) → (a ≤ i) × (i ≤ suc (a + h))) where
+module _ (lists : Lists) (alive : ℕ → Bool) (w : ℕ → ℕ) (r face a h : ℕ) (simple : IsSimpleMap lists) (polyhedral : IsPolyhedral lists) (contour : IsContour lists alive w r) (within : suc (a + h) ≤ r) (edges : (i : ℕ) → a ≤ i → i ≤ a + h → face_of lists (w (suc i)) (w i) ≡ face) (places : (i : ℕ) → i ≤ r → Passes lists face (w i) → (a ≤ i) × (i ≤ suc (a + h))) where
   abbrev pub b : ℕ
   b = suc (a + h)
 
@@ -78,7 +78,7 @@ module _ (lists : Lists) (alive : ℕ → Bool) (w : ℕ → ℕ) (r face a h : 
   walk_passes t = (walk (suc t), walk_dart t, walk_face t)
 
   once : (x y z : ℕ) → HasDart lists x y → HasDart lists x z → face_of lists x y ≡ face → face_of lists x z ≡ face → y ≡ z
-  once x y z has has' e e' = leaves_once lists alive simple tight x y z has has' (e ∙ sym e')
+  once x y z has has' e e' = leaves_once lists alive simple polyhedral x y z has has' (e ∙ sym e')
 
   -- so many steps lead to the other end
   reaches : (n : ℕ) × (walk n ≡ w b)
@@ -237,7 +237,7 @@ module _ (lists : Lists) (alive : ℕ → Bool) (w : ℕ → ℕ) (r face a h : 
 
 -- THE LAW: ears
 pub stretch_is_ear_law : StretchIsEar
-stretch_is_ear_law lists alive w r i simple tight contour l stretch =
+stretch_is_ear_law lists alive w r i simple polyhedral contour l stretch =
     let face = face_of lists (w (suc i)) (w i) in
     let P : ℕ → Type 0 = λ j. Passes lists face (w j) in
     let decided = λ (j : ℕ) (m : j < suc r). cases_Passes lists simple face (w j) in
@@ -259,7 +259,7 @@ stretch_is_ear_law lists alive w r i simple tight contour l stretch =
             let e : b' ≡ suc (a + h) = omega arith in
             let places : (j : ℕ) → j ≤ r → P j → (a ≤ j) × (j ≤ suc (a + h)) = λ j m p. (below j p, let t = high.3 j (omega arith) p in omega arith) in
             let edges : (j : ℕ) → a ≤ j → j ≤ a + h → face_of lists (w (suc j)) (w j) ≡ face = λ j m n. stretch a j b' m (omega arith) (omega arith) low.2 high.2 in
-            let met = meeting lists alive w r face a h simple tight contour (omega arith) edges places in
-            (a, suc (a + h), walk lists alive w r face a h simple tight contour (omega arith) edges places, met.0, ear_here lists alive w r face a h simple tight contour (omega arith) edges places met.0 met.1)
+            let met = meeting lists alive w r face a h simple polyhedral contour (omega arith) edges places in
+            (a, suc (a + h), walk lists alive w r face a h simple polyhedral contour (omega arith) edges places, met.0, ear_here lists alive w r face a h simple polyhedral contour (omega arith) edges places met.0 met.1)
       ]
     ]

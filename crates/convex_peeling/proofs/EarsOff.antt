@@ -7,7 +7,7 @@ use Rattle.map_theory.specs.Maps.{IsSimpleMap, follows}
 use Rattle.map_theory.proofs.DartLemmas.{HasDart-follows}
 use Rattle.plane_peeling.specs.Restricted.{kept_but}
 use Rattle.plane_peeling.proofs.RestrictedMaps.{kept_but-old, kept_but-new, kept_but-itself}
-use Rattle.convex_peeling.specs.Tight.{IsTight}
+use Rattle.convex_peeling.specs.Polyhedral.{IsPolyhedral}
 use Rattle.convex_peeling.specs.Contours.{face_of, Passes, IsRim, IsContour, IsEar, spliced}
 use Rattle.convex_peeling.specs.FacePeelingLaws.{EarTakenOff}
 use Rattle.convex_peeling.proofs.Faces.{SameFace-labels, face_of-step}
@@ -49,7 +49,7 @@ module _ (lists : Lists) (w : ℕ → ℕ) (r face a b : ℕ) (walk : ℕ → �
           rest : spliced w a b walk many i ≡ w (i + b - (a + many))
           rest = grind (arith, nat_tests)
 
-module _ (lists : Lists) (alive : ℕ → Bool) (w : ℕ → ℕ) (r face a b : ℕ) (walk : ℕ → ℕ) (many : ℕ) (simple : IsSimpleMap lists) (tight : IsTight lists) (contour : IsContour lists alive w r) (ear : IsEar lists w r face a b walk many) (inner : face ≢ face_of lists (w 0) (w r)) where
+module _ (lists : Lists) (alive : ℕ → Bool) (w : ℕ → ℕ) (r face a b : ℕ) (walk : ℕ → ℕ) (many : ℕ) (simple : IsSimpleMap lists) (polyhedral : IsPolyhedral lists) (contour : IsContour lists alive w r) (ear : IsEar lists w r face a b walk many) (inner : face ≢ face_of lists (w 0) (w r)) where
   abbrev pub alive' : ℕ → Bool
   alive' = kept_but alive face
 
@@ -100,7 +100,7 @@ module _ (lists : Lists) (alive : ℕ → Bool) (w : ℕ → ℕ) (r face a b : 
       let dart = ear.darts t l in
       let back = simple.both_ways (walk t) (walk (suc t)) dart.0 in
       let other = face_of lists (walk (suc t)) (walk t) in
-      let ne : other ≢ face = λ e. tight.apart (walk t) (walk (suc t)) dart.0 (SameFace-labels lists (walk t) (walk (suc t)) (walk (suc t)) (walk t) (dart.1 ∙ sym e)) in
+      let ne : other ≢ face = λ e. polyhedral.apart (walk t) (walk (suc t)) dart.0 (SameFace-labels lists (walk t) (walk (suc t)) (walk (suc t)) (walk t) (dart.1 ∙ sym e)) in
       record {
         dart = dart.0;
         outside = ap alive' dart.1 ∙ kept_but-itself alive face;
@@ -265,6 +265,6 @@ module _ (lists : Lists) (alive : ℕ → Bool) (w : ℕ → ℕ) (r face a b : 
 
 -- THE LAW: an ear taken off
 pub ear_taken_off_law : EarTakenOff
-ear_taken_off_law lists alive w r face a b walk many simple tight contour ear inner =
+ear_taken_off_law lists alive w r face a b walk many simple polyhedral contour ear inner =
     let within = ear.within in
-    contour_after lists alive w r face a b walk many simple tight contour ear inner (r + a + many - b) (omega arith)
+    contour_after lists alive w r face a b walk many simple polyhedral contour ear inner (r + a + many - b) (omega arith)

@@ -9,7 +9,7 @@ use Rattle.map_theory.specs.Maps.{HasDart, IsSimpleMap, follows, dart_number, da
 use Rattle.map_theory.proofs.DartLemmas.{HasDart-follows, IsPermutationOfBelow-face_images, length-face_images}
 use Rattle.plane_peeling.specs.Restricted.{kept_but}
 use Rattle.plane_peeling.proofs.RestrictedMaps.{kept_but-old, kept_but-new, kept_but-itself, count-kept_but}
-use Rattle.convex_peeling.specs.Tight.{IsTight}
+use Rattle.convex_peeling.specs.Polyhedral.{IsPolyhedral}
 use Rattle.convex_peeling.specs.Contours.{face_of, Passes, IsContour, IsOpen, IsBegun, IsFirst}
 use Rattle.convex_peeling.specs.Removals.{Removal, IsTakenOff}
 use Rattle.convex_peeling.specs.FacePeelingLaws.{HasThree, FirstTakenOff}
@@ -37,7 +37,7 @@ begun_at : (lists : Lists) (alive : ℕ → Bool) (w : ℕ → ℕ) (r e s d : �
 begun_at lists alive w r e s d last first has on dead =
     (e, subst (HasDart lists e) (sym last) has, ap (face_of lists e) last ∙ (on ∙ ap₂ (face_of lists) (sym last) (sym first)), ap (λ t. alive (face_of lists t e)) last ∙ dead)
 
-module _ (lists : Lists) (s d : ℕ) (simple : IsSimpleMap lists) (tight : IsTight lists) (base : HasDart lists s d) where
+module _ (lists : Lists) (s d : ℕ) (simple : IsSimpleMap lists) (polyhedral : IsPolyhedral lists) (base : HasDart lists s d) where
   abbrev H : ℕ
   H = face_of lists s d
 
@@ -109,7 +109,7 @@ module _ (lists : Lists) (s d : ℕ) (simple : IsSimpleMap lists) (tight : IsTig
   walk_face (suc t) = ap (face_of lists (walk (suc t))) (walk_turn t) ∙ (face_of-step lists simple (walk t) (walk (suc t)) (walk_dart t) ∙ walk_face t)
 
   once : (x y z : ℕ) → HasDart lists x y → HasDart lists x z → face_of lists x y ≡ H → face_of lists x z ≡ H → y ≡ z
-  once x y z has has' e e' = leaves_once lists alive simple tight x y z has has' (e ∙ sym e')
+  once x y z has has' e e' = leaves_once lists alive simple polyhedral x y z has has' (e ∙ sym e')
 
   reaches : (n : ℕ) × (walk n ≡ s)
   unfolding walk
@@ -175,7 +175,7 @@ module _ (lists : Lists) (s d : ℕ) (simple : IsSimpleMap lists) (tight : IsTig
             edge = λ i l. record {
               dart = walk_dart i;
               outside = ap alive (walk_face i) ∙ alive-taken;
-              inside = alive-other (walk (suc i)) (walk i) (λ e. tight.apart (walk i) (walk (suc i)) (walk_dart i) (SameFace-labels lists (walk i) (walk (suc i)) (walk (suc i)) (walk i) (walk_face i ∙ sym e)));
+              inside = alive-other (walk (suc i)) (walk i) (λ e. polyhedral.apart (walk i) (walk (suc i)) (walk_dart i) (SameFace-labels lists (walk i) (walk (suc i)) (walk (suc i)) (walk i) (walk_face i ∙ sym e)));
             };
             only = λ x y rim. (along_face lists simple (λ p q. (face_of lists p q ≡ H) × IsHere p q) here_on d next x y has_next rim.dart (next_face ∙ sym (alive-dead x y rim.outside)) (next_face, (0, omega arith, walk_first, walk_second))).1;
           };
@@ -199,7 +199,7 @@ module _ (lists : Lists) (s d : ℕ) (simple : IsSimpleMap lists) (tight : IsTig
 
     -- nothing else is taken off yet
     none_open : (v : ℕ) → ¬ IsOpen lists alive v
-    none_open v o = tight.apart v o.0 o.1 (SameFace-labels lists v o.0 o.0 v (f.outer v o.0 o.1 o.2 ∙ sym (f.outer o.0 v (simple.both_ways v o.0 o.1) o.3)))
+    none_open v o = polyhedral.apart v o.0 o.1 (SameFace-labels lists v o.0 o.0 v (f.outer v o.0 o.1 o.2 ∙ sym (f.outer o.0 v (simple.both_ways v o.0 o.1) o.3)))
 
     -- a face with two places has an edge between them, or is the one inside of the base
     two_places : (face a b : ℕ) → alive face ≡ true → a < b → b ≤ r → Passes lists face (w a) → Passes lists face (w b) → ((b ≡ suc a) × (face_of lists (w (suc a)) (w a) ≡ face)) ⊎ ((a ≡ 0) × (b ≡ r) × (face_of lists (w a) (w b) ≡ face))
@@ -207,7 +207,7 @@ module _ (lists : Lists) (s d : ℕ) (simple : IsSimpleMap lists) (tight : IsTig
         let apart : w a ≢ w b = λ q. (let z : a ≡ b = contour.distinct a b (omega arith) (omega arith) q in absurd (omega arith)) in
         let one = contour.edge a (omega arith) in
         let two = contour.edge b m in
-        let shared = tight.share (w a) (w b) x.0 y.0 (w (suc a)) (w (suc b)) apart x.1 y.1 one.dart two.dart
+        let shared = polyhedral.share (w a) (w b) x.0 y.0 (w (suc a)) (w (suc b)) apart x.1 y.1 one.dart two.dart
         (SameFace-labels lists (w a) x.0 (w b) y.0 (x.2 ∙ sym y.2)) (SameFace-labels lists (w a) (w (suc a)) (w b) (w (suc b)) (rim_face a (omega arith) ∙ sym (rim_face b m)))
         (λ q. true≢false (sym live ∙ (ap alive (sym x.2 ∙ labels-SameFace lists (w a) x.0 (w a) (w (suc a)) q) ∙ one.outside))) in
         elim shared.1 [
@@ -241,7 +241,7 @@ module _ (lists : Lists) (s d : ℕ) (simple : IsSimpleMap lists) (tight : IsTig
                 | inl e ↦ simple.no_loop s d base (sym (sym f.last ∙ (ap w e ∙ f.first)))
                 | inr e ↦
                     let last : w 1 ≡ s = ap w (sym e) ∙ f.last in
-                    tight.apart s d base (SameFace-labels lists s d d s (sym (ap₂ (face_of lists) (sym f.first) (sym last) ∙ rim_face 0 (omega arith))))
+                    polyhedral.apart s d base (SameFace-labels lists s d d s (sym (ap₂ (face_of lists) (sym f.first) (sym last) ∙ rim_face 0 (omega arith))))
               ])
         ]
 
@@ -249,8 +249,8 @@ module _ (lists : Lists) (s d : ℕ) (simple : IsSimpleMap lists) (tight : IsTig
     base_apart : (i : ℕ) → suc (suc i) ≡ r → ¬ Passes lists (face_of lists (w 0) (w r)) (w (suc i))
     base_apart i e p =
         let face = face_of lists (w 0) (w r) in
-        let ends = base_passes lists alive w r simple tight three contour in
-        let live = base_living lists alive w r simple tight three contour in
+        let ends = base_passes lists alive w r simple polyhedral three contour in
+        let live = base_living lists alive w r simple polyhedral three contour in
         elim (two_places face 0 (suc i) live (omega arith) (omega arith) ends.0 p) [
           | inr far ↦ (let z = far.1 in omega arith)
           | inl near ↦ elim (two_places face (suc i) r live (omega arith) (omega arith) p ends.1) [
@@ -259,7 +259,7 @@ module _ (lists : Lists) (s d : ℕ) (simple : IsSimpleMap lists) (tight : IsTig
                 let z = near.0 in
                 let i_0 : i ≡ 0 = omega arith in
                 let one : face_of lists (w (suc i)) (w i) ≡ face = ap (λ n. face_of lists (w (suc n)) (w n)) i_0 ∙ near.1 in
-                none_open (w (suc i)) (between_open lists alive w r simple contour tight three i (omega arith) (one ∙ sym near'.1))
+                none_open (w (suc i)) (between_open lists alive w r simple contour polyhedral three i (omega arith) (one ∙ sym near'.1))
           ]
         ]
 
@@ -270,7 +270,7 @@ module _ (lists : Lists) (s d : ℕ) (simple : IsSimpleMap lists) (tight : IsTig
         let e : suc (suc i) ≡ r = omega arith in
         let apart = base_apart i e in
         let j = suc i in
-        let went = vertex_goes (suc (count_below alive (dart_count lists))) lists alive w r i simple tight contour (record {
+        let went = vertex_goes (suc (count_below alive (dart_count lists))) lists alive w r i simple polyhedral contour (record {
           within = omega arith;
           stretches = λ face live p a n b l m k at_a at_b. elim (two_places face a b live (omega arith) k at_a at_b) [
             | inl near ↦ (let z = near.0 in let z' : n ≡ a = omega arith in ap (λ t. face_of lists (w (suc t)) (w t)) z' ∙ near.1)
@@ -310,7 +310,7 @@ module _ (lists : Lists) (s d : ℕ) (simple : IsSimpleMap lists) (tight : IsTig
 
 -- THE LAW: the first removal
 pub first_taken_off_law : FirstTakenOff
-first_taken_off_law lists s d simple tight three base =
-    let f = first lists s d simple tight base in
-    let o = first_goes lists s d simple tight base three f.0 f.1 f.2 in
-    (alive lists s d simple tight base, f.0, f.1, o.0, f.2, o.1, o.2, o.3, o.4, o.5)
+first_taken_off_law lists s d simple polyhedral three base =
+    let f = first lists s d simple polyhedral base in
+    let o = first_goes lists s d simple polyhedral base three f.0 f.1 f.2 in
+    (alive lists s d simple polyhedral base, f.0, f.1, o.0, f.2, o.1, o.2, o.3, o.4, o.5)

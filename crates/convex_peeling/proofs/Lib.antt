@@ -3,9 +3,9 @@ pub mod Corners
 pub mod TwoFaces
 pub mod Sides
 pub mod Meetings
-pub mod Tightness
+pub mod PolyhedralLemmas
 pub mod Neighbours
-mod TightMapsCases
+mod PolyhedralMapsCases
 -- What the laws of contours rest on.
 pub mod Faces
 pub mod Kept

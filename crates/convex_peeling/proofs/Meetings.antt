@@ -9,7 +9,7 @@ use Rattle.map_theory.proofs.DartLemmas.{HasDart-follows, HasDart-face_step, ent
 use Rattle.plane_laws.proofs.DartPaths.{same_face-step}
 use Rattle.graph_search.specs.Forests.{IsAdjacency}
 use Rattle.graph_search.proofs.ForestLemmas.{IsAdjacency-simple}
-use Rattle.graph_search.specs.Cuts.{AreParted, IsCutVertex}
+use Rattle.graph_search.specs.Cuts.{AreSeparated, IsCutVertex}
 use Rattle.graph_search.proofs.WalkLemmas.{Off, linked_turned, linked_path, path_linked_by, walks_keep}
 use Rattle.graph_search.proofs.CutLemmas.{off_one, ne_off}
 use Rattle.graph_search.proofs.PairLemmas.{AreBoth-pair}
@@ -17,30 +17,30 @@ use Rattle.convex_peeling.specs.TwoFaces.{MeetTwice}
 use Rattle.convex_peeling.proofs.Corners.{SameFace-turned, SameFace-step, passed_once, comes_along}
 use Rattle.convex_peeling.proofs.Sides.{face_closed, some_entry, ring_changes, IsSide, IsSide-other, side_of}
 
-AreParted-turned : (lists : Lists) → IsAdjacency lists → (avoided : List ℕ) (s t : ℕ) → AreParted lists avoided s t → AreParted lists avoided t s
-AreParted-turned lists adjacency avoided s t parted =
-    let w = linked_turned lists adjacency (Off []) s t (linked_path lists adjacency [] s t parted.path parted.joined) in
+AreSeparated-turned : (lists : Lists) → IsAdjacency lists → (avoided : List ℕ) (s t : ℕ) → AreSeparated lists avoided s t → AreSeparated lists avoided t s
+AreSeparated-turned lists adjacency avoided s t separated =
+    let w = linked_turned lists adjacency (Off []) s t (linked_path lists adjacency [] s t separated.path separated.joined) in
     let path = path_linked_by lists adjacency [] t s w in
     record {
-      s_off = parted.t_off;
-      t_off = parted.s_off;
+      s_off = separated.t_off;
+      t_off = separated.s_off;
       path = path.0;
       joined = path.1;
       apart = λ other j.
           let k = linked_turned lists adjacency (Off avoided) t s (linked_path lists adjacency avoided t s other j) in
           let p = path_linked_by lists adjacency avoided s t k in
-          parted.apart p.0 p.1;
+          separated.apart p.0 p.1;
     }
 
 module _ (lists : Lists) (simple : IsSimpleMap lists) (u v : ℕ) (u_in : u < length lists) where
   -- u has a neighbour of the colour of s, which v alone does not part from t
-  neighbour_of_side : ¬ IsCutVertex lists v → (s t : ℕ) → AreParted lists (u ∷ v ∷ []) s t → (side : ℕ → Bool) → IsSide lists u v side → side s ≡ true → side t ≡ false → (a : ℕ) × HasDart lists u a × (a ≢ v) × (side a ≡ true)
-  neighbour_of_side uncut s t parted side h at_s at_t =
+  neighbour_of_side : ¬ IsCutVertex lists v → (s t : ℕ) → AreSeparated lists (u ∷ v ∷ []) s t → (side : ℕ → Bool) → IsSide lists u v side → side s ≡ true → side t ≡ false → (a : ℕ) × HasDart lists u a × (a ≢ v) × (side a ≡ true)
+  neighbour_of_side uncut s t separated side h at_s at_t =
       let adjacency = IsAdjacency-simple lists simple in
       let test : ℕ → Bool = λ z. side z && not (eqb z v) in
-      let s_u : s ≢ u = λ e. parted.s_off (subst (Contains (u ∷ v ∷ [])) (sym e) (AreBoth-pair u v).one) in
-      let s_v : s ≢ v = λ e. parted.s_off (subst (Contains (u ∷ v ∷ [])) (sym e) (AreBoth-pair u v).other) in
-      let t_v : t ≢ v = λ e. parted.t_off (subst (Contains (u ∷ v ∷ [])) (sym e) (AreBoth-pair u v).other) in
+      let s_u : s ≢ u = λ e. separated.s_off (subst (Contains (u ∷ v ∷ [])) (sym e) (AreBoth-pair u v).one) in
+      let s_v : s ≢ v = λ e. separated.s_off (subst (Contains (u ∷ v ∷ [])) (sym e) (AreBoth-pair u v).other) in
+      let t_v : t ≢ v = λ e. separated.t_off (subst (Contains (u ∷ v ∷ [])) (sym e) (AreBoth-pair u v).other) in
       elim (some_entry test (list_of lists u)) [
         | inl found ↦
             let parts = and_parts (side found.0) (not (eqb found.0 v)) found.2 in
@@ -60,8 +60,8 @@ module _ (lists : Lists) (simple : IsSimpleMap lists) (u v : ℕ) (u_in : u < le
               record {
                 s_off = off_one v s s_v;
                 t_off = off_one v t t_v;
-                path = parted.path;
-                joined = parted.joined;
+                path = separated.path;
+                joined = separated.joined;
                 apart = λ other j.
                     let w = linked_path lists adjacency (v ∷ []) s t other j in
                     let end = walks_keep lists adjacency (Off (v ∷ [])) Coloured goes w.0 s t w.1 (s_u, s_v, at_s) in
@@ -170,16 +170,16 @@ module _ (lists : Lists) (simple : IsSimpleMap lists) (plane : IsPlane lists) (u
       ]
 
   -- THE MEETINGS: what u and v part, two faces lead round
-  pub meet_twice : u < length lists → (s t : ℕ) → AreParted lists (u ∷ v ∷ []) s t → MeetTwice lists u v
-  meet_twice u_in s t parted =
+  pub meet_twice : u < length lists → (s t : ℕ) → AreSeparated lists (u ∷ v ∷ []) s t → MeetTwice lists u v
+  meet_twice u_in s t separated =
       let us = list_of lists u in
-      let found = side_of lists simple u v s t parted in
+      let found = side_of lists simple u v s t separated in
       let side = found.0 in
       let h = found.1 in
       let other : ℕ → Bool = λ x. not (side x) in
       let h' = IsSide-other lists u v side h in
-      let a = neighbour_of_side lists simple u v u_in (uncut v) s t parted side h found.2 found.3 in
-      let b = neighbour_of_side lists simple u v u_in (uncut v) t s (AreParted-turned lists (IsAdjacency-simple lists simple) (u ∷ v ∷ []) s t parted) other h' (ap not found.3) (ap not found.2) in
+      let a = neighbour_of_side lists simple u v u_in (uncut v) s t separated side h found.2 found.3 in
+      let b = neighbour_of_side lists simple u v u_in (uncut v) t s (AreSeparated-turned lists (IsAdjacency-simple lists simple) (u ∷ v ∷ []) s t separated) other h' (ap not found.3) (ap not found.2) in
       let distinct = simple.no_repeat u u_in in
       let at_a : colour_at side a.0 ≡ true = colour-other side a.0 a.2 ∙ a.3 in
       let at_b : colour_at side b.0 ≡ false = colour-other side b.0 b.2 ∙ not-true (side b.0) b.3 in

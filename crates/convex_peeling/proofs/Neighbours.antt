@@ -13,14 +13,14 @@ use Rattle.plane_laws.specs.Laws.{AreJoined}
 use Rattle.plane_laws.proofs.EdgeBound.{one_class}
 use Rattle.plane_laws.proofs.ComponentPaths.{components_are_paths}
 use Rattle.graph_search.proofs.ForestLemmas.{IsAdjacency-simple}
-use Rattle.graph_search.specs.Cuts.{AreParted}
+use Rattle.graph_search.specs.Cuts.{AreSeparated}
 use Rattle.graph_search.specs.Flags.{Walks}
 use Rattle.graph_search.proofs.WalkLemmas.{Off, linked_path, walks_start}
 use Rattle.graph_search.proofs.CutLemmas.{off_one}
 use Rattle.graph_search.proofs.PairLemmas.{AreBoth-pair, off_both}
 use Rattle.map_theory.proofs.EntryLemmas.{Contains-here}
-use Rattle.convex_peeling.specs.TightMapsLaws.{ThreeNeighbours}
-use Rattle.convex_peeling.proofs.Tightness.{pair_of_parted}
+use Rattle.convex_peeling.specs.PolyhedralMapsLaws.{ThreeNeighbours}
+use Rattle.convex_peeling.proofs.PolyhedralLemmas.{pair_of_separated}
 
 -- a number is none of three, or one of them
 abbrev IsOneOf : ℕ → ℕ → ℕ → ℕ → Type 0
@@ -67,8 +67,8 @@ module _ (lists : Lists) (simple : IsSimpleMap lists) (one : component_count lis
       (components_are_paths lists u v simple u_in v_in).0 (same_class-from C u v together)
 
   -- where all neighbours of v are avoided, it is parted from any vertex that is not
-  parted_alone : (avoided : List ℕ) (v w : ℕ) → v < length lists → w < length lists → v ≢ w → Off avoided v → Off avoided w → ((z : ℕ) → HasDart lists v z → Contains avoided z) → AreParted lists avoided v w
-  parted_alone avoided v w v_in w_in ne off_v off_w all =
+  separated_alone : (avoided : List ℕ) (v w : ℕ) → v < length lists → w < length lists → v ≢ w → Off avoided v → Off avoided w → ((z : ℕ) → HasDart lists v z → Contains avoided z) → AreSeparated lists avoided v w
+  separated_alone avoided v w v_in w_in ne off_v off_w all =
       let joined = all_joined v w v_in w_in in
       record {
         s_off = off_v;
@@ -92,7 +92,7 @@ three_neighbours lists v three v_in =
     let us = list_of lists v in
     let a = get_or us 0 0 in
     let b = get_or us 1 0 in
-    let alone = parted_alone lists simple three.connected in
+    let alone = separated_alone lists simple three.connected in
     elim (cases_lt (length us) 3) [
       | inr many ↦ many
       | inl few ↦
@@ -116,11 +116,11 @@ three_neighbours lists v three v_in =
                 let both = AreBoth-pair a b in
                 let distinct = simple.no_repeat v v_in in
                 let a_b : a ≢ b = λ e. absurd (omega (arith, sym (place_of-get_or us 0 0 distinct (omega arith)) ∙ (ap (λ z. place_of z us) e ∙ place_of-get_or us 1 0 distinct (omega arith)))) in
-                let parted = alone (a ∷ b ∷ []) v w.0 v_in (omega arith) (λ e. w.2 (sym e))
+                let separated = alone (a ∷ b ∷ []) v w.0 v_in (omega arith) (λ e. w.2 (sym e))
                 (off_both a b (a ∷ b ∷ []) both v (λ e. simple.no_loop v a has_a (sym e)) (λ e. simple.no_loop v b has_b (sym e)))
                 (off_both a b (a ∷ b ∷ []) both w.0 w.3 w.4)
                 (λ z d. at_either us z d.1 few (a ∷ b ∷ []) both.one both.other) in
-                elim (pair_of_parted lists a b (simple.in_range v a has_a) (simple.in_range v b has_b) a_b (v, w.0, parted)) [
+                elim (pair_of_separated lists a b (simple.in_range v a has_a) (simple.in_range v b has_b) a_b (v, w.0, separated)) [
                   | inl pair ↦ absurd (three.unpaired a b pair)
                   | inr pair ↦ absurd (three.unpaired b a pair)
                 ]

@@ -4,7 +4,7 @@ use Rattle.std.proofs.lemmas.Bool.{cases_Bool, cases_eq, cases_lt, true≢false}
 use Rattle.map_lists.specs.Lists.{Lists}
 use Rattle.map_theory.specs.Maps.{HasDart, IsSimpleMap, follows}
 use Rattle.map_theory.proofs.DartLemmas.{HasDart-follows}
-use Rattle.convex_peeling.specs.Tight.{IsTight}
+use Rattle.convex_peeling.specs.Polyhedral.{IsPolyhedral}
 use Rattle.convex_peeling.specs.Contours.{face_of, IsRim, IsContour, IsOpen, IsBegun}
 use Rattle.convex_peeling.specs.FacePeelingLaws.{SectionOpen}
 use Rattle.convex_peeling.proofs.Faces.{SameFace-labels, labels-SameFace, some_or_none, some_dart, cases_both, face_of-step, before_once}
@@ -24,9 +24,9 @@ module _ (lists : Lists) (alive : ℕ → Bool) (simple : IsSimpleMap lists) whe
         | inr none ↦ inr (λ o. none o.0 o.1 (o.2, o.3))
       ]
 
-  -- once: in a tight map a face leaves a vertex along one dart
-  pub leaves_once : IsTight lists → (x y z : ℕ) → HasDart lists x y → HasDart lists x z → face_of lists x y ≡ face_of lists x z → y ≡ z
-  leaves_once tight x y z has has' e = tight.once x y z has has' (SameFace-labels lists x y x z e)
+  -- once: in a polyhedral map a face leaves a vertex along one dart
+  pub leaves_once : IsPolyhedral lists → (x y z : ℕ) → HasDart lists x y → HasDart lists x z → face_of lists x y ≡ face_of lists x z → y ≡ z
+  leaves_once polyhedral x y z has has' e = polyhedral.once x y z has has' (SameFace-labels lists x y x z e)
 
   module _ (w : ℕ → ℕ) (r : ℕ) (contour : IsContour lists alive w r) where
     -- where no edge is taken off, the face that is taken off goes on along the contour
@@ -68,19 +68,19 @@ module _ (lists : Lists) (alive : ℕ → Bool) (simple : IsSimpleMap lists) whe
         ]
 
     -- the face of the base is not that of the last dart of the contour, once the removals have begun
-    begun_apart : IsTight lists → IsBegun lists alive w r → (i : ℕ) → suc i ≡ r → face_of lists (w i) (w r) ≢ face_of lists (w r) (w 0)
-    begun_apart tight begun i q e =
+    begun_apart : IsPolyhedral lists → IsBegun lists alive w r → (i : ℕ) → suc i ≡ r → face_of lists (w i) (w r) ≢ face_of lists (w r) (w 0)
+    begun_apart polyhedral begun i q e =
         let base : HasDart lists (w r) (w 0) = subst (HasDart lists (w r)) contour.round (contour.edge r (omega arith)).dart in
         let rim = contour.edge i (omega arith) in
         let dart : HasDart lists (w i) (w r) = subst (λ t. HasDart lists (w i) (w t)) q rim.dart in
         let to_base : (p : ℕ) → HasDart lists p (w r) → face_of lists p (w r) ≡ face_of lists (w r) (w 0) → follows lists (w r) p ≡ w 0 = λ p has on.
-        leaves_once tight (w r) (follows lists (w r) p) (w 0) (HasDart-follows lists (w r) p (simple.both_ways p (w r) has)) base (face_of-step lists simple p (w r) has ∙ on) in
+        leaves_once polyhedral (w r) (follows lists (w r) p) (w 0) (HasDart-follows lists (w r) p (simple.both_ways p (w r) has)) base (face_of-step lists simple p (w r) has ∙ on) in
         let same : w i ≡ begun.0 = before_once lists simple (w i) (w r) begun.0 dart begun.1 (to_base (w i) dart e ∙ sym (to_base begun.0 begun.1 begun.2)) in
         true≢false (sym (ap (λ t. alive (face_of lists (w t) (w i))) (sym q) ∙ rim.inside) ∙ (ap (λ t. alive (face_of lists (w r) t)) same ∙ begun.3))
 
 -- THE LAW: sections
 pub section_open_law : SectionOpen
-section_open_law lists alive w r face a i b simple tight contour begun gap =
+section_open_law lists alive w r face a i b simple polyhedral contour begun gap =
     let l = gap.low in
     let l' = gap.high in
     let m = gap.within in
@@ -102,7 +102,7 @@ section_open_law lists alive w r face a i b simple tight contour begun gap =
           let x = gap.first in
           let y = gap.last in
           let apart : w a ≢ w b = λ q. (let z : a ≡ b = contour.distinct a b (omega arith) (omega arith) q in absurd (omega arith)) in
-          let shared = tight.share (w a) (w b) x.0 y.0 (w (suc a)) c apart x.1 y.1 rim.dart has_c
+          let shared = polyhedral.share (w a) (w b) x.0 y.0 (w (suc a)) c apart x.1 y.1 rim.dart has_c
           (SameFace-labels lists (w a) x.0 (w b) y.0 (x.2 ∙ sym y.2)) (SameFace-labels lists (w a) (w (suc a)) (w b) c (sym on_c))
           (λ q. true≢false (sym gap.living ∙ (ap alive (sym x.2 ∙ labels-SameFace lists (w a) x.0 (w a) (w (suc a)) q) ∙ rim.outside))) in
           elim shared.1 [
@@ -115,7 +115,7 @@ section_open_law lists alive w r face a i b simple tight contour begun gap =
                   inside = ap alive f_on ∙ gap.living;
                 }) in
                 let q : suc (a + h) ≡ r = e ∙ back.1 in
-                absurd (begun_apart lists alive simple w r contour tight begun (a + h) q (ap (λ t. face_of lists (w (a + h)) (w t)) (sym back.1) ∙ (last_face ∙ (h_on ∙ ap₂ (λ s t. face_of lists (w s) (w t)) back.1 back.0))))
+                absurd (begun_apart lists alive simple w r contour polyhedral begun (a + h) q (ap (λ t. face_of lists (w (a + h)) (w t)) (sym back.1) ∙ (last_face ∙ (h_on ∙ ap₂ (λ s t. face_of lists (w s) (w t)) back.1 back.0))))
             | inr s ↦
                 let f_on : face_of lists (w b) (w a) ≡ face = sym (labels-SameFace lists (w a) x.0 (w b) (w a) s.0) ∙ x.2 in
                 let h_on : H ≡ face_of lists (w a) (w b) = labels-SameFace lists (w a) (w (suc a)) (w a) (w b) s.1 in

@@ -13,7 +13,7 @@ use Rattle.map_theory.proofs.DartPermutations.{dart_of, dart_of-number, rotation
 use Rattle.classes.proofs.Bound.{after}
 use Rattle.plane_laws.proofs.DartPaths.{face_step-number, same_face-step}
 use Rattle.graph_search.proofs.ForestLemmas.{IsAdjacency-simple}
-use Rattle.graph_search.specs.Cuts.{AreParted}
+use Rattle.graph_search.specs.Cuts.{AreSeparated}
 use Rattle.graph_search.specs.Flags.{AreLinked}
 use Rattle.graph_search.proofs.WalkLemmas.{Off, linked_itself, linked_dart, linked_chained, path_linked_by}
 use Rattle.graph_search.proofs.PairLemmas.{AreBoth-pair, off_both}
@@ -77,7 +77,7 @@ pub record IsSide (lists : Lists) (u v : ℕ) (side : ℕ → Bool) : Type 0 whe
 pub IsSide-other : (lists : Lists) (u v : ℕ) (side : ℕ → Bool) → IsSide lists u v side → IsSide lists u v (λ x. not (side x))
 IsSide-other lists u v side h = record { along = λ x y has xu xv yu yv. ap not (h.along x y has xu xv yu yv) }
 
-module _ (lists : Lists) (simple : IsSimpleMap lists) (u v s t : ℕ) (parted : AreParted lists (u ∷ v ∷ []) s t) where
+module _ (lists : Lists) (simple : IsSimpleMap lists) (u v s t : ℕ) (separated : AreSeparated lists (u ∷ v ∷ []) s t) where
   kept : ℕ → Bool
   kept x = not (eqb x u) && not (eqb x v)
 
@@ -98,10 +98,10 @@ module _ (lists : Lists) (simple : IsSimpleMap lists) (u v s t : ℕ) (parted : 
   R_simple = (restricted-map lists kept simple).simple
 
   s_in : s < length lists
-  s_in = let j = parted.joined in subst (λ x. x < length lists) j.start (j.is_path.vertices 0 0 j.is_path.some)
+  s_in = let j = separated.joined in subst (λ x. x < length lists) j.start (j.is_path.vertices 0 0 j.is_path.some)
 
   t_in : t < length lists
-  t_in = let j = parted.joined in let some = j.is_path.some in subst (λ x. x < length lists) j.end (j.is_path.vertices (length parted.path - 1) 0 (omega arith))
+  t_in = let j = separated.joined in let some = j.is_path.some in subst (λ x. x < length lists) j.end (j.is_path.vertices (length separated.path - 1) 0 (omega arith))
 
   -- who is linked to s off both is so along each dart that is left
   linked_alike : Together (component_classes R) s t → AreLinked lists (Off (u ∷ v ∷ [])) s t
@@ -127,7 +127,7 @@ module _ (lists : Lists) (simple : IsSimpleMap lists) (u v s t : ℕ) (parted : 
       ((λ w. linked_chained lists (Off both) s c.0 c.1 w there), λ w. linked_chained lists (Off both) s c.1 c.0 w back) in
       let ls = s_in in
       let lt = t_in in
-      (classes-lies Alike (length R) alike (darts R) (darts_below R R_simple) darts_alike s t (omega arith) (omega arith) together).0 (linked_itself lists (Off both) s ls parted.s_off)
+      (classes-lies Alike (length R) alike (darts R) (darts_below R R_simple) darts_alike s t (omega arith) (omega arith) together).0 (linked_itself lists (Off both) s ls separated.s_off)
 
   -- a colour of the one and not of the other
   pub side_of : (side : ℕ → Bool) × IsSide lists u v side × (side s ≡ true) × (side t ≡ false)
@@ -141,5 +141,5 @@ module _ (lists : Lists) (simple : IsSimpleMap lists) (u v s t : ℕ) (parted : 
               ap (eqb (label C s)) e;
         },
         eq-eqb (label C s) (label C s) refl,
-        apart-from C s t (λ together. let path = path_linked_by lists adjacency (u ∷ v ∷ []) s t (linked_alike together) in parted.apart path.0 path.1),
+        apart-from C s t (λ together. let path = path_linked_by lists adjacency (u ∷ v ∷ []) s t (linked_alike together) in separated.apart path.0 path.1),
       )

@@ -15,7 +15,7 @@ use Rattle.map_theory.proofs.DartPermutations.{tail_of, rotation, twin, IsPermut
 use Rattle.plane_laws.proofs.PlaneCuts.{two_cuts_apart, swapped_commute, joint-same}
 use Rattle.plane_laws.proofs.ArcLemmas.{arc-first, arc-longer}
 use Rattle.plane_laws.proofs.DartPaths.{before_dart, face_together, same_face, corner_of, numbers_apart, HoldsCut, HoldsCut-joint, arcs_joined}
-use Rattle.graph_search.specs.Cuts.{AreParted, IsCutVertex}
+use Rattle.graph_search.specs.Cuts.{AreSeparated, IsCutVertex}
 use Rattle.graph_search.proofs.PairLemmas.{AreBoth-pair, off_both}
 use Rattle.convex_peeling.specs.TwoFaces.{AreOnTwoFaces, AreMetTwice}
 use Rattle.plane_peeling.proofs.Rings.{entries_closed}
@@ -100,8 +100,8 @@ module _ (lists : Lists) (simple : IsSimpleMap lists) (plane : IsPlane lists) (u
       turned_ends z p q h = elim h [ inl r ↦ inr r | inr r ↦ inl r ]
 
   -- two entries of the two parts, other than v, are parted
-  parted_by_parts : (s t : ℕ) → Contains (arc (list_of lists u) a c) s → Contains (arc (list_of lists u) c a) t → HasDart lists u s → HasDart lists u t → s ≢ v → t ≢ v → AreParted lists (u ∷ v ∷ []) s t
-  parted_by_parts s t in_s in_t has_s has_t s_v t_v =
+  separated_by_parts : (s t : ℕ) → Contains (arc (list_of lists u) a c) s → Contains (arc (list_of lists u) c a) t → HasDart lists u s → HasDart lists u t → s ≢ v → t ≢ v → AreSeparated lists (u ∷ v ∷ []) s t
+  separated_by_parts s t in_s in_t has_s has_t s_v t_v =
       let both = u ∷ v ∷ [] in
       let are = AreBoth-pair u v in
       let joined = neighbours_joined lists simple u s t has_s has_t in
@@ -131,7 +131,7 @@ entry_besides lists simple u v a c has_a has_c a_c more =
 
 module _ (lists : Lists) (simple : IsSimpleMap lists) (plane : IsPlane lists) where
   -- So u and v part two vertices.
-  pub two_faces_part : (u v a b c e : ℕ) → u ≢ v → AreOnTwoFaces lists u v a b c e → (s : ℕ) × (t : ℕ) × AreParted lists (u ∷ v ∷ []) s t
+  pub two_faces_part : (u v a b c e : ℕ) → u ≢ v → AreOnTwoFaces lists u v a b c e → (s : ℕ) × (t : ℕ) × AreSeparated lists (u ∷ v ∷ []) s t
   two_faces_part u v a b c e u_v on =
       let has_a = on.from_u.0 in
       let has_c = on.from_u.1 in
@@ -146,7 +146,7 @@ module _ (lists : Lists) (simple : IsSimpleMap lists) (plane : IsPlane lists) wh
       let along : (z : ℕ) → z ≡ v → SameFace lists (u, z) (u, v) = λ z e'. same_face lists simple (u, z) (u, v) (ap (λ r. label (orbits_of (after (rotation lists) (twin lists)) (dart_count lists)) (dart_number lists (u, r))) e') in
       let s = entry_besides lists simple u v a c has_a has_c a_c (λ h. on.no_edge (subst (HasDart lists u) h.0 has_a, inl (along a h.0, goes_on a c has_a h.0 h.1 has_c))) in
       let t = entry_besides lists simple u v c a has_c has_a (λ q. a_c (sym q)) (λ h. on.no_edge (subst (HasDart lists u) h.0 has_c, inr (goes_on c a has_c h.0 h.1 has_a, along c h.0))) in
-      (s.0, t.0, parted_by_parts lists simple plane u v a b c e u_v has_a has_b has_c has_e on.one on.other on.apart s.0 t.0 s.1 t.1 s.2 t.2 s.3 t.3)
+      (s.0, t.0, separated_by_parts lists simple plane u v a b c e u_v has_a has_b has_c has_e on.one on.other on.apart s.0 t.0 s.1 t.1 s.2 t.2 s.3 t.3)
 
   module _ (uncut : (v : ℕ) → ¬ IsCutVertex lists v) where
     -- Where no vertex is a cut vertex, faces that are met twice are two, and the edge is not between them.

@@ -7,9 +7,9 @@ use Rattle.map_lists.specs.Lists.{Lists}
 use Rattle.map_theory.specs.Maps.{HasDart, IsSimpleMap, dart_count}
 use Rattle.plane_peeling.specs.Restricted.{kept_but}
 use Rattle.plane_peeling.proofs.RestrictedMaps.{kept_but-old, kept_but-new, kept_but-itself}
-use Rattle.convex_peeling.specs.Tight.{IsTight}
+use Rattle.convex_peeling.specs.Polyhedral.{IsPolyhedral}
 use Rattle.convex_peeling.specs.Contours.{face_of, Passes, IsRim, IsContour, IsEar, spliced}
-use Rattle.convex_peeling.specs.Removals.{IsReady, Removal, IsTakenOff, IsOnRemoved}
+use Rattle.convex_peeling.specs.Removals.{IsRemovableNext, Removal, IsTakenOff, IsOnRemoved}
 use Rattle.convex_peeling.specs.FacePeelingLaws.{VertexGoes, VertexTakenOff}
 use Rattle.convex_peeling.proofs.Faces.{SameFace-labels, labels-SameFace}
 use Rattle.convex_peeling.proofs.Ears.{stretch_is_ear_law}
@@ -39,7 +39,7 @@ longer_made-last : (made : ℕ → ℕ) (faces face : ℕ) → longer_made made 
 unfolding longer_made
 longer_made-last made faces face = grind (arith, nat_tests)
 
-module _ (lists : Lists) (alive : ℕ → Bool) (w : ℕ → ℕ) (r i : ℕ) (simple : IsSimpleMap lists) (tight : IsTight lists) (contour : IsContour lists alive w r) (ready : IsReady lists alive w r i) (walk : ℕ → ℕ) (many : ℕ) (ear : IsEar lists w r (face_of lists (w (suc (suc i))) (w (suc i))) (suc i) (suc (suc i)) walk many) where
+module _ (lists : Lists) (alive : ℕ → Bool) (w : ℕ → ℕ) (r i : ℕ) (simple : IsSimpleMap lists) (polyhedral : IsPolyhedral lists) (contour : IsContour lists alive w r) (removable_next : IsRemovableNext lists alive w r i) (walk : ℕ → ℕ) (many : ℕ) (ear : IsEar lists w r (face_of lists (w (suc (suc i))) (w (suc i))) (suc i) (suc (suc i)) walk many) where
   abbrev j : ℕ
   j = suc i
 
@@ -65,10 +65,10 @@ module _ (lists : Lists) (alive : ℕ → Bool) (w : ℕ → ℕ) (r i : ℕ) (s
   high = spliced-high lists w r face j (suc j) walk many ear
 
   edge_at : IsRim lists alive (w j) (w (suc j))
-  edge_at = let l = ready.within in contour.edge j (omega arith)
+  edge_at = let l = removable_next.within in contour.edge j (omega arith)
 
   inner : face ≢ face_of lists (w 0) (w r)
-  inner e = let l = ready.within in ready.base (subst (λ f. Passes lists f (w j)) e (edge_passes lists alive w r simple contour j (omega arith)).0)
+  inner e = let l = removable_next.within in removable_next.base (subst (λ f. Passes lists f (w j)) e (edge_passes lists alive w r simple contour j (omega arith)).0)
 
   -- the walk has two steps at least
   long : 1 < many
@@ -80,24 +80,24 @@ module _ (lists : Lists) (alive : ℕ → Bool) (w : ℕ → ℕ) (r i : ℕ) (s
             let dart = ear.darts 0 some in
             let z : 1 ≡ many = sym e in
             let on : face_of lists (w j) (w (suc j)) ≡ face = ap₂ (face_of lists) (sym ear.first) (sym ear.last ∙ ap walk (sym z)) ∙ dart.1 in
-            absurd (true≢false (sym (living lists alive w r face j (suc j) walk many simple tight contour ear inner) ∙ (ap alive (sym on) ∙ edge_at.outside)))
+            absurd (true≢false (sym (living lists alive w r face j (suc j) walk many simple polyhedral contour ear inner) ∙ (ap alive (sym on) ∙ edge_at.outside)))
       ]
 
   pub after_contour : IsContour lists alive' w' r'
-  after_contour = let l = ready.within in contour_after lists alive w r face j (suc j) walk many simple tight contour ear inner r' (omega arith)
+  after_contour = let l = removable_next.within in contour_after lists alive w r face j (suc j) walk many simple polyhedral contour ear inner r' (omega arith)
 
   -- another face at the vertex passes no place beyond it, unless it is that of the new edge there
   beyond : (other q : ℕ) → alive other ≡ true → other ≢ face → Passes lists other (w j) → j < q → q ≤ r' → Passes lists other (w' q) → (q ≡ suc j) × (face_of lists (walk 1) (walk 0) ≡ other)
   beyond other q live ne at l m at_q =
-      let within = ready.within in
-      elim (kind lists alive w r face j (suc j) walk many simple tight contour ear inner r' q (omega arith) m) [
+      let within = removable_next.within in
+      elim (kind lists alive w r face j (suc j) walk many simple polyhedral contour ear inner r' q (omega arith) m) [
         | inl old ↦
             let n = old.0 in
             absurd (elim old.1.place [
               | inl p ↦ (let p0 = p.0 in let p1 = p.1 in omega arith)
               | inr p ↦
                   let at_n : Passes lists other (w n) = subst (Passes lists other) old.1.vertex at_q in
-                  ne (sym (ready.stretches other live at j j n (omega arith) p.0 old.1.within at at_n))
+                  ne (sym (removable_next.stretches other live at j j n (omega arith) p.0 old.1.within at at_n))
             ])
         | inr new ↦
             let t = new.0 in
@@ -108,7 +108,7 @@ module _ (lists : Lists) (alive : ℕ → Bool) (w : ℕ → ℕ) (r i : ℕ) (s
             let own' = ear.darts t less in
             let x : Passes lists other (walk 0) = subst (Passes lists other) (sym ear.first) at in
             let y : Passes lists other (walk t) = subst (Passes lists other) new.1.vertex at_q in
-            let shared = tight.share (walk 0) (walk t) x.0 y.0 (walk 1) (walk (suc t)) u_v x.1 y.1 own.0 own'.0
+            let shared = polyhedral.share (walk 0) (walk t) x.0 y.0 (walk 1) (walk (suc t)) u_v x.1 y.1 own.0 own'.0
             (SameFace-labels lists (walk 0) x.0 (walk t) y.0 (x.2 ∙ sym y.2)) (SameFace-labels lists (walk 0) (walk 1) (walk t) (walk (suc t)) (own.1 ∙ sym own'.1))
             (λ s. ne (sym x.2 ∙ (labels-SameFace lists (walk 0) x.0 (walk 0) (walk 1) s ∙ own.1))) in
             elim shared.1 [
@@ -135,9 +135,9 @@ module _ (lists : Lists) (alive : ℕ → Bool) (w : ℕ → ℕ) (r i : ℕ) (s
       ]
 
   -- so the vertex stays ready
-  pub still_ready : IsReady lists alive' w' r' i
-  still_ready =
-      let within = ready.within in
+  pub still_removable_next : IsRemovableNext lists alive' w' r' i
+  still_removable_next =
+      let within = removable_next.within in
       let two = long in
       let at_j : w' j ≡ w j = low j (omega arith) in
       let at_0 : w' 0 ≡ w 0 = low 0 (omega arith) in
@@ -154,7 +154,7 @@ module _ (lists : Lists) (alive : ℕ → Bool) (w : ℕ → ℕ) (r i : ℕ) (s
         stretches = λ other live at a e b l m n at_a at_b.
             let was = kept_but-old alive face other live in
             let here : Passes lists other (w j) = subst (Passes lists other) at_j at in
-            let old = ready.stretches other was.0 here in
+            let old = removable_next.stretches other was.0 here in
             elim (cases_lt e j) [
               | inl before ↦
                   let low_a : Passes lists other (w a) = subst (Passes lists other) (low a (omega arith)) at_a in
@@ -173,8 +173,8 @@ module _ (lists : Lists) (alive : ℕ → Bool) (w : ℕ → ℕ) (r i : ℕ) (s
             let far = beyond other (suc (suc j)) was.0 was.1 here (omega arith) (omega arith) (subst (λ f. Passes lists f (w' (suc (suc j)))) same next.1) in
             let q = far.0 in
             omega arith;
-        left = λ h e same. ready.left h e (sym (ap₂ (face_of lists) (low (suc h) (omega arith)) (low h (omega arith))) ∙ (same ∙ ap₂ (face_of lists) at_j (low i (omega arith))));
-        base = λ p. ready.base (subst (Passes lists (face_of lists (w 0) (w r))) at_j (subst (λ f. Passes lists f (w' j)) (ap₂ (face_of lists) at_0 at_r) p));
+        left = λ h e same. removable_next.left h e (sym (ap₂ (face_of lists) (low (suc h) (omega arith)) (low h (omega arith))) ∙ (same ∙ ap₂ (face_of lists) at_j (low i (omega arith))));
+        base = λ p. removable_next.base (subst (Passes lists (face_of lists (w 0) (w r))) at_j (subst (λ f. Passes lists f (w' j)) (ap₂ (face_of lists) at_0 at_r) p));
       }
 
   pub fewer_left : count_below alive (dart_count lists) ≡ count_below alive' (dart_count lists) + 1
@@ -255,7 +255,7 @@ module _ (lists : Lists) (alive : ℕ → Bool) (w : ℕ → ℕ) (r i : ℕ) (s
 
     fresh_here : (p n : ℕ) → o.first < p → p < o.last + (many - 1) → n ≤ r → o.contour p ≢ w n
     fresh_here p n l m in_r e =
-        let within = ready.within in
+        let within = removable_next.within in
         elim (cases_lt p o.last) [
           | inl before ↦ elim (cases_lt j n) [
             | inr at ↦ off.fresh p n l before (omega arith) (e ∙ sym (low n at))
@@ -273,11 +273,11 @@ module _ (lists : Lists) (alive : ℕ → Bool) (w : ℕ → ℕ) (r i : ℕ) (s
     pub longer_off : IsTakenOff lists alive w r longer
     longer_off =
         let two = long in
-        let within = ready.within in
+        let within = removable_next.within in
         let some_face = off.some_face in
         let in_off = off.within in
         let width = off.width in
-        let live = living lists alive w r face j (suc j) walk many simple tight contour ear inner in
+        let live = living lists alive w r face j (suc j) walk many simple polyhedral contour ear inner in
         record {
           some_face = omega arith;
           some_vertex = off.some_vertex;
@@ -311,15 +311,15 @@ module _ (lists : Lists) (alive : ℕ → Bool) (w : ℕ → ℕ) (r i : ℕ) (s
         }
 
 -- a vertex that is ready goes
-pub vertex_goes : (n : ℕ) (lists : Lists) (alive : ℕ → Bool) (w : ℕ → ℕ) (r i : ℕ) → IsSimpleMap lists → IsTight lists → IsContour lists alive w r → IsReady lists alive w r i → count_below alive (dart_count lists) < n → VertexGoes lists alive w r i
-vertex_goes zero lists alive w r i simple tight contour ready l = absurd (omega arith)
-vertex_goes (suc n) lists alive w r i simple tight contour ready l =
-    let within = ready.within in
+pub vertex_goes : (n : ℕ) (lists : Lists) (alive : ℕ → Bool) (w : ℕ → ℕ) (r i : ℕ) → IsSimpleMap lists → IsPolyhedral lists → IsContour lists alive w r → IsRemovableNext lists alive w r i → count_below alive (dart_count lists) < n → VertexGoes lists alive w r i
+vertex_goes zero lists alive w r i simple polyhedral contour removable_next l = absurd (omega arith)
+vertex_goes (suc n) lists alive w r i simple polyhedral contour removable_next l =
+    let within = removable_next.within in
     let j = suc i in
     let face = face_of lists (w (suc j)) (w j) in
     let ends = edge_passes lists alive w r simple contour j (omega arith) in
     let living = (contour.edge j (omega arith)).inside in
-    let found = stretch_is_ear_law lists alive w r j simple tight contour within (ready.stretches face living ends.0) in
+    let found = stretch_is_ear_law lists alive w r j simple polyhedral contour within (removable_next.stretches face living ends.0) in
     let a = found.0 in
     let b = found.1 in
     let walk = found.2 in
@@ -330,17 +330,17 @@ vertex_goes (suc n) lists alive w r i simple tight contour ready l =
     let a_j = low.0 in
     let j_b = high.1 in
     let b_r = ear.within in
-    let inner : face ≢ face_of lists (w 0) (w r) = λ e. ready.base (subst (λ f. Passes lists f (w j)) e ends.0) in
+    let inner : face ≢ face_of lists (w 0) (w r) = λ e. removable_next.base (subst (λ f. Passes lists f (w j)) e ends.0) in
     let b_is : b ≡ suc j = elim (cases_eq b (suc j)) [
       | inl e ↦ e
-      | inr ne ↦ absurd (ready.right (omega arith) (ear.edges (suc j) (omega arith) (omega arith)))
+      | inr ne ↦ absurd (removable_next.right (omega arith) (ear.edges (suc j) (omega arith) (omega arith)))
     ] in
     elim (cases_eq a j) [
       | inl a_is ↦
           let ear' : IsEar lists w r face j (suc j) walk many = subst (λ t. IsEar lists w r face t (suc j) walk many) a_is (subst (λ t. IsEar lists w r face a t walk many) b_is ear) in
-          let fewer = fewer_left lists alive w r i simple tight contour ready walk many ear' in
-          let rest = vertex_goes n lists (kept_but alive face) (spliced w j (suc j) walk many) (r + j + many - suc j) i simple tight (after_contour lists alive w r i simple tight contour ready walk many ear') (still_ready lists alive w r i simple tight contour ready walk many ear') (omega arith) in
-          (longer lists alive w r i simple tight contour ready walk many ear' rest.0 rest.1 rest.3 rest.4, longer_off lists alive w r i simple tight contour ready walk many ear' rest.0 rest.1 rest.3 rest.4, rest.2, rest.3, rest.4)
+          let fewer = fewer_left lists alive w r i simple polyhedral contour removable_next walk many ear' in
+          let rest = vertex_goes n lists (kept_but alive face) (spliced w j (suc j) walk many) (r + j + many - suc j) i simple polyhedral (after_contour lists alive w r i simple polyhedral contour removable_next walk many ear') (still_removable_next lists alive w r i simple polyhedral contour removable_next walk many ear') (omega arith) in
+          (longer lists alive w r i simple polyhedral contour removable_next walk many ear' rest.0 rest.1 rest.3 rest.4, longer_off lists alive w r i simple polyhedral contour removable_next walk many ear' rest.0 rest.1 rest.3 rest.4, rest.2, rest.3, rest.4)
       | inr a_not ↦
           let own : face_of lists (w (suc i)) (w i) ≡ face = ear.edges i (omega arith) (omega arith) in
           let a_is : a ≡ i = elim (cases_eq a i) [
@@ -348,11 +348,11 @@ vertex_goes (suc n) lists alive w r i simple tight contour ready l =
             | inr ne ↦
                 let h : ℕ = i - 1 in
                 let z : suc h ≡ i = omega arith in
-                absurd (ready.left h z (ear.edges h (omega arith) (omega arith) ∙ sym own))
+                absurd (removable_next.left h z (ear.edges h (omega arith) (omega arith) ∙ sym own))
           ] in (
             removal lists alive w r face a b walk many 1 simple contour ear (omega arith) (omega arith),
             chain_off lists alive w r face a b walk many 1 simple contour ear (omega arith) (omega arith),
-            contour_after lists alive w r face a b walk many simple tight contour ear inner (r + a + many - b) (omega arith),
+            contour_after lists alive w r face a b walk many simple polyhedral contour ear inner (r + a + many - b) (omega arith),
             a_is,
             refl {a = 1},
           )
@@ -360,4 +360,4 @@ vertex_goes (suc n) lists alive w r i simple tight contour ready l =
 
 -- THE LAW: a vertex taken off
 pub vertex_taken_off_law : VertexTakenOff
-vertex_taken_off_law lists alive w r i simple tight contour ready = vertex_goes (suc (count_below alive (dart_count lists))) lists alive w r i simple tight contour ready (omega arith)
+vertex_taken_off_law lists alive w r i simple polyhedral contour removable_next = vertex_goes (suc (count_below alive (dart_count lists))) lists alive w r i simple polyhedral contour removable_next (omega arith)

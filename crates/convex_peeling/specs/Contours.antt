@@ -48,7 +48,7 @@ pub record IsGap (lists : Lists) (alive : ℕ → Bool) (w : ℕ → ℕ) (r fac
   pub gap : face_of lists (w (suc i)) (w i) ≢ face
 
 -- A vertex of the contour that may go: not of the base, an edge at it is taken off, and each face there that is left meets the contour in one stretch.
-pub record IsLoose (lists : Lists) (alive : ℕ → Bool) (w : ℕ → ℕ) (r j : ℕ) : Type 0 where
+pub record IsRemovable (lists : Lists) (alive : ℕ → Bool) (w : ℕ → ℕ) (r j : ℕ) : Type 0 where
   pub after : 0 < j
   pub before : j < r
   pub open_at : IsOpen lists alive (w j)

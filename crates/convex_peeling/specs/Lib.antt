@@ -1,7 +1,7 @@
 -- Maps in which two faces have at most a vertex or an edge in common, and three-connected ones.
-pub mod Tight
+pub mod Polyhedral
 pub mod TwoFaces
-pub mod TightMapsLaws
+pub mod PolyhedralMapsLaws
 -- Faces taken off a plane map from its contour.
 pub mod Contours
 pub mod Removals

@@ -50,8 +50,8 @@ abbrev pub two_cuts : ℕ → ℕ → ℕ → ℕ
 two_cuts p q zero = p
 two_cuts p q (suc i) = q
 
--- The vertex at place i + 1 is ready to go: each face there that is left is one stretch, of one edge beside the vertex at most, and none is the face inside of the base.
-pub record IsReady (lists : Lists) (alive : ℕ → Bool) (w : ℕ → ℕ) (r i : ℕ) : Type 0 where
+-- The vertex at place i + 1 is removable next: each face there that is left is one stretch, of one edge beside the vertex at most, and none is the face inside of the base.
+pub record IsRemovableNext (lists : Lists) (alive : ℕ → Bool) (w : ℕ → ℕ) (r i : ℕ) : Type 0 where
   pub within : suc i < r
   pub stretches : (face : ℕ) → alive face ≡ true → Passes lists face (w (suc i)) → IsStretch lists w r face
   pub right : suc (suc i) < r → face_of lists (w (suc (suc (suc i)))) (w (suc (suc i))) ≢ face_of lists (w (suc (suc i))) (w (suc i))

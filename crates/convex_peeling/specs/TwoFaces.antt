@@ -3,7 +3,7 @@ use Rattle.std.specs.Prelude.{ℕ, ◌≢◌}
 use Rattle.map_lists.specs.Lists.{Lists}
 use Rattle.map_theory.specs.Maps.{HasDart}
 use Rattle.map_theory.specs.Paths.{SameFace}
-use Rattle.convex_peeling.specs.Tight.{IsEdgeBetween}
+use Rattle.convex_peeling.specs.Polyhedral.{IsEdgeBetween}
 
 -- The faces of (u, a) and of (u, c) are two, and pass v with its darts to b and to e; u and v are no edge between them.
 pub record AreOnTwoFaces (lists : Lists) (u v a b c e : ℕ) : Type 0 where

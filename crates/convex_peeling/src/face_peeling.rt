@@ -1,26 +1,26 @@
 //! Faces taken off a plane map from its contour. Each law is the contract of a function that does nothing,
 //! and speaks of all maps.
 
-ghost use Rattle.convex_peeling.specs.FacePeelingLaws.{ChainTakenOff, EarTakenOff, FirstTakenOff, NoCrossing, SectionOpen, SomeLoose, SomeTakenOff, StretchByCounts, StretchIsEar, VertexTakenOff};
+ghost use Rattle.convex_peeling.specs.FacePeelingLaws.{ChainTakenOff, EarTakenOff, FirstTakenOff, NoCrossing, SectionOpen, SomeRemovable, SomeTakenOff, StretchByCounts, StretchIsEar, VertexTakenOff};
 
 /// Two faces that are left do not cross along the contour.
 pub fn no_crossing()
     ensures { NoCrossing }
 {}
 
-/// In a tight map a face that has not all edges of the contour between two of its places has a vertex
+/// In a polyhedral map a face that has not all edges of the contour between two of its places has a vertex
 /// strictly between them at which an edge is taken off.
 pub fn section_open()
     ensures { SectionOpen }
 {}
 
-/// In a tight map the whole contour is of the face inside of the base, or some vertex of it may go next: an
+/// In a polyhedral map the whole contour is of the face inside of the base, or some vertex of it may go next: an
 /// edge at it is taken off, and each face at it meets the contour in one stretch.
-pub fn some_loose()
-    ensures { SomeLoose }
+pub fn some_removable()
+    ensures { SomeRemovable }
 {}
 
-/// In a tight map a face with an edge on the contour, which meets the contour in one stretch, has a walk
+/// In a polyhedral map a face with an edge on the contour, which meets the contour in one stretch, has a walk
 /// behind it that meets the contour at its ends alone.
 pub fn stretch_is_ear()
     ensures { StretchIsEar }
@@ -32,7 +32,7 @@ pub fn ear_taken_off()
     ensures { EarTakenOff }
 {}
 
-/// In a tight map whose vertices have three neighbours or more there is a removal while not the whole contour
+/// In a polyhedral map whose vertices have three neighbours or more there is a removal while not the whole contour
 /// is of the face inside of the base: a row of vertices under one face, or one vertex with all its faces.
 pub fn some_taken_off()
     ensures { SomeTakenOff }
@@ -54,7 +54,7 @@ pub fn chain_taken_off()
     ensures { ChainTakenOff }
 {}
 
-/// In a tight map a vertex each of whose faces meets the contour in one stretch, of one edge beside it at most,
+/// In a polyhedral map a vertex each of whose faces meets the contour in one stretch, of one edge beside it at most,
 /// can be taken off with all its faces.
 pub fn vertex_taken_off()
     ensures { VertexTakenOff }

@@ -2,4 +2,4 @@
 #![tactic(auto)]
 
 pub mod face_peeling;
-pub mod tight_maps;
+pub mod polyhedral_maps;

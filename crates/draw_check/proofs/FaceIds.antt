@@ -7,7 +7,7 @@ use Rattle.map_theory.specs.Maps.{Dart, HasDart, follows, face_step}
 use Rattle.map_theory.specs.Paths.{SameFace}
 use Rattle.map_theory.proofs.DartLemmas.{HasDart-face_step}
 use Rattle.half_edges.specs.Map.{Map, IsHalfMap, IsLive, dart_at}
-use Rattle.plane_laws.specs.Completed.{IsCompleted}
+use Rattle.plane_laws.specs.Triangulations.{IsTriangulation}
 use Rattle.pg_plane.specs.declared.point.Point.{Point}
 use Rattle.pg_plane.specs.Geometry.{area}
 use Rattle.plane_drawings.specs.Drawing.{place}
@@ -26,7 +26,7 @@ module _ (map : Map) (h : IsHalfMap map) where
       let same : follows map.lists b a ≡ w = cc in
       (same, subst (λ (x : ℕ). HasDart map.lists b x) same (h.is_dart e b (follows map.lists b a) to))
 
-  module _ (c : IsCompleted map.lists) (base d second third : ℕ) (live : IsLive map base) (live' : IsLive map d) (step : dart_at map second ≡ option_map (face_step map.lists) (dart_at map base)) (step' : dart_at map third ≡ option_map (face_step map.lists) (dart_at map second)) where
+  module _ (c : IsTriangulation map.lists) (base d second third : ℕ) (live : IsLive map base) (live' : IsLive map d) (step : dart_at map second ≡ option_map (face_step map.lists) (dart_at map base)) (step' : dart_at map third ≡ option_map (face_step map.lists) (dart_at map second)) where
     abbrev b : Dart
     b = dart_of map base
 

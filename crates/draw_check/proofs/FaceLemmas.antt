@@ -1,4 +1,4 @@
--- The faces of a completed map: three darts each, of which one leaves the least vertex.
+-- The faces of a triangulation: three darts each, of which one leaves the least vertex.
 use Rattle.std.proofs.Common.{◌≡◌, ℕ, ◌<◌, ◌⊎◌, Bool, true, false, eqb, ◌||◌, List, length, ℤ, pos, ◌<ℤ◌, refl, sym, ap, subst, ◌∙◌, inl, inr, arith, eqb-true}
 use Rattle.std.proofs.lemmas.Bool.{cases_lt}
 use Rattle.std.proofs.lemmas.Int.{ints, by_lt_z}
@@ -9,7 +9,7 @@ use Rattle.map_lists.specs.Lists.{Lists}
 use Rattle.map_theory.specs.Maps.{Dart, HasDart, follows, face_step, dart_number, face_images, face_classes}
 use Rattle.map_theory.specs.Paths.{SameFace}
 use Rattle.map_theory.proofs.DartLemmas.{dart_number-lt, get_or-dart_number, dart_number-injective, HasDart-face_step, length-face_images, get_or-face_images, IsPermutationOfBelow-face_images}
-use Rattle.plane_laws.specs.Completed.{IsCompleted}
+use Rattle.plane_laws.specs.Triangulations.{IsTriangulation}
 use Rattle.plane_laws.proofs.Triangles.{triangles_where_met}
 use Rattle.pg_plane.specs.declared.point.Point.{Point}
 use Rattle.pg_plane.specs.Geometry.{area}
@@ -28,7 +28,7 @@ on_face_from step b i e = either_of (eqb i b) (eqb i (step b)) (eqb i (step (ste
     either_of false true r f g h e = inr (inl (g refl))
     either_of false false r f g h e = inr (inr (h e))
 
-module _ (lists : Lists) (c : IsCompleted lists) where
+module _ (lists : Lists) (c : IsTriangulation lists) where
   -- three steps lead back
   pub thrice : (d : Dart) → HasDart lists d.0 d.1 → face_step lists (face_step lists (face_step lists d)) ≡ d
   thrice d has = triangles_where_met lists c.simple c.plane c.some c.edges d has

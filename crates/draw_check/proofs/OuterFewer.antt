@@ -14,7 +14,7 @@ use Rattle.map_theory.proofs.DartLemmas.{dart_number-lt, get_or-dart_number, IsD
 use Rattle.map_theory.proofs.EntryLemmas.{Contains-from_list_any, list_any-from_Contains}
 use Rattle.map_theory.proofs.WithoutEdge.{dart_old, list_at_first, list_at_second, list_elsewhere, length-without_edge, edge_count-without}
 use Rattle.map_theory.proofs.DartPermutations.{IsLabels-components}
-use Rattle.plane_laws.specs.Completed.{IsCompleted}
+use Rattle.plane_laws.specs.Triangulations.{IsTriangulation}
 use Rattle.plane_laws.proofs.EdgeFaces.{bridge_test, faces_merged}
 use Rattle.plane_laws.proofs.EdgeRemoved.{edge_removed}
 use Rattle.plane_laws.specs.MapEditsCompleted.{IsExtended}
@@ -134,6 +134,6 @@ module _ (old : Lists) (simple : IsSimpleMap old) where
         ]
 
 -- where a completion is drawn counterclockwise, the base's face is the outer one of the map itself
-pub outer_fewer : (lists more : Lists) (points : List Point) (base : Dart) → IsSimpleMap lists → IsCompleted more → IsExtended lists more → HasDart lists base.0 base.1 → IsCounterclockwise more points base → HasOuterFace lists points base
+pub outer_fewer : (lists more : Lists) (points : List Point) (base : Dart) → IsSimpleMap lists → IsTriangulation more → IsExtended lists more → HasDart lists base.0 base.1 → IsCounterclockwise more points base → HasOuterFace lists points base
 outer_fewer lists more points base simple c h has turns one =
     (passes lists simple points base has one (edge_count more) more (omega arith) c.simple c.plane h).1 (AreOthersPositive-counterclockwise more c points base turns)

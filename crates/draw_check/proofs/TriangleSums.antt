@@ -1,4 +1,4 @@
--- The face of a completed map is a triangle, and its area is that of the triangle.
+-- The face of a triangulation is a triangle, and its area is that of the triangle.
 use Rattle.std.proofs.Common.{◌≡◌, ◌≢◌, ℕ, cond, eqb, List, ℤ, pos, ◌+ℤ◌, ◌<ℤ◌, refl, sym, ap, subst, ◌∙◌, inl, inr, arith, eq-eqb, ne_eqb}
 use Rattle.std.proofs.lemmas.Bool.{cases_Bool, cond-true, cond-false, true≢false}
 use Rattle.std.proofs.lemmas.Int.{ints}
@@ -6,7 +6,7 @@ use Rattle.map_lists.specs.Lists.{Lists}
 use Rattle.map_theory.specs.Maps.{Dart, HasDart, follows, darts, dart_number}
 use Rattle.map_theory.specs.Paths.{SameFace}
 use Rattle.map_theory.proofs.DartLemmas.{dart_number-injective, HasDart-face_step}
-use Rattle.plane_laws.specs.Completed.{IsCompleted}
+use Rattle.plane_laws.specs.Triangulations.{IsTriangulation}
 use Rattle.pg_plane.specs.declared.point.Point.{Point}
 use Rattle.pg_plane.specs.Geometry.{cross, area}
 use Rattle.pg_plane.proofs.Ring.{ring, sums}
@@ -20,7 +20,7 @@ use Rattle.draw_check.proofs.FaceLemmas.{thrice, same_step, same_itself, on_base
 pub swept_triangle : (p q r : Point) → (cross p q +ℤ cross q r) +ℤ cross r p ≡ area p q r
 swept_triangle p q r = simp ring (omega (arith, sums))
 
-module _ (lists : Lists) (c : IsCompleted lists) (points : List Point) (u v : ℕ) (has : HasDart lists u v) where
+module _ (lists : Lists) (c : IsTriangulation lists) (points : List Point) (u v : ℕ) (has : HasDart lists u v) where
   abbrev w : ℕ
   w = follows lists v u
 
@@ -128,7 +128,7 @@ module _ (lists : Lists) (c : IsCompleted lists) (points : List Point) (u v : �
       let sum : face_sum lists points (u, v) ≡ (swept points (u, v) +ℤ swept points (v, w)) +ℤ swept points (w, u) = omega (arith, ints) in
       sum ∙ swept_triangle (place points u) (place points v) (place points w)
 
--- in a counterclockwise drawing of a completed map each face but the base's has a positive area
-pub AreOthersPositive-counterclockwise : (lists : Lists) → IsCompleted lists → (points : List Point) (base : Dart) → IsCounterclockwise lists points base → AreOthersPositive lists points base
+-- in a counterclockwise drawing of a triangulation each face but the base's has a positive area
+pub AreOthersPositive-counterclockwise : (lists : Lists) → IsTriangulation lists → (points : List Point) (base : Dart) → IsCounterclockwise lists points base → AreOthersPositive lists points base
 AreOthersPositive-counterclockwise lists c points base h v u has off =
     subst (λ (z : ℤ). pos 0 <ℤ z) (sym (triangle_sum lists c points v u has)) (h.inner v u has off)

@@ -1,4 +1,4 @@
--- The verdict on a drawing of a completed map, by its faces.
+-- The verdict on a drawing of a triangulation, by its faces.
 use Rattle.std.specs.Prelude.{ℕ, ◌<◌, ◌≡◌, List, ℤ, pos, ◌<ℤ◌}
 use Rattle.map_lists.specs.Lists.{Lists}
 use Rattle.map_theory.specs.Maps.{Dart, HasDart, follows}

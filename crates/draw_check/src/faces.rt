@@ -1,9 +1,9 @@
-//! The check of a drawing of a completed map by its faces.
+//! The check of a drawing of a triangulation by its faces.
 ghost use Rattle.std.specs.Prelude.{◌≡◌, ◌⊎◌, ◌+◌, ◌<◌, ◌↔◌, ℕ, List, length, slice_index, IsTrue, Some, MatchBool, MatchOption, pos, ◌<ℤ◌};
 ghost use Rattle.map_theory.specs.Maps.{HasDart, follows};
 ghost use Rattle.map_theory.specs.Paths.{SameFace};
 ghost use Rattle.half_edges.specs.Map.{IsHalfMap, IsLive, dart_at, first_dart};
-ghost use Rattle.plane_laws.specs.Completed.{IsCompleted};
+ghost use Rattle.plane_laws.specs.Triangulations.{IsTriangulation};
 ghost use Rattle.pg_plane.specs.Geometry.{area};
 ghost use Rattle.pg_plane.specs.Range.{IsInRange};
 ghost use Rattle.plane_drawings.specs.Drawing.{place};
@@ -15,9 +15,9 @@ ghost use Rattle.draw_check.specs.FaceVerdicts.{IsDrawnWrong, IsWrongFrom, IsFac
 ghost use Rattle.vertex_rounds.specs.Rounds.{dart_of};
 
 use crate::FaceVerdict;
-use crate::places::{first_outside, place_at};
+use crate::places::{corner_of, first_outside, place_at};
 use half_edges::{DartId, HalfMap, VertexId};
-use pg_plane::{Point, Points, area2};
+use pg_plane::{GridFigure, Point, Points, area2};
 use vertex_rounds::first_dart;
 
 // Whether an id is one of three.
@@ -30,7 +30,7 @@ fn is_one_of(d: DartId, one: DartId, two: DartId, three: DartId) -> bool
 // Whether a dart lies on the face left of the base, which is a triangle.
 fn is_on_base(map: &HalfMap, base: DartId, d: DartId) -> bool
     requires known { IsHalfMap map.now }
-    requires completed { IsCompleted map.now.lists }
+    requires triangulation { IsTriangulation map.now.lists }
     requires base { IsLive map.now base.0 }
     requires live { IsLive map.now d.0 }
     ensures { IsTrue result ↔ SameFace map.now.lists (dart_of map.now base.0) (dart_of map.now d.0) }
@@ -75,7 +75,7 @@ fn turns_well(points: &Points, is_outer: bool, a: VertexId, b: VertexId, c: Vert
 // Whether the face of a dart is drawn wrong and the tail is its least vertex.
 fn is_wrong(map: &HalfMap, points: &Points, base: DartId, d: DartId) -> bool
     requires drawn { IsDrawn map.now points.now }
-    requires completed { IsCompleted map.now.lists }
+    requires triangulation { IsTriangulation map.now.lists }
     requires base { IsLive map.now base.0 }
     requires live { IsLive map.now d.0 }
     ensures { IsTrue result ↔ HoldsAt map.now (IsWrongFrom map.now points.now base.0) d.0 }
@@ -106,7 +106,7 @@ fn first_wrong(
     base: DartId,
 ) -> Option<(VertexId, VertexId, VertexId)>
     requires drawn { IsDrawn map.now points.now }
-    requires completed { IsCompleted map.now.lists }
+    requires triangulation { IsTriangulation map.now.lists }
     requires base { IsLive map.now base.0 }
     ensures { MatchOption result ((a b c : ℕ) → ¬ IsDrawnWrong map.now.lists points.now (dart_of map.now base.0) a b c)
         (λ p. IsLeastTriple (IsDrawnWrong map.now.lists points.now (dart_of map.now base.0)) p.0.0 p.1.0 p.2.0) }
@@ -123,11 +123,16 @@ fn first_wrong(
 /// The least vertex outside the grid, or else the least face, written from its least vertex, that is not
 /// drawn counterclockwise, or not clockwise for the face left of `base`; or `Yes`.
 ///
-/// `tri` is a completed map: of genus zero, with at least three vertices and 3n - 6 edges. `base` is live,
+/// `tri` is a triangulation: of genus zero, with at least three vertices and 3n - 6 edges. `base` is live,
 /// and the grid goes from (0, 0) to `corner`. There is one point for each vertex, and no coordinate is beyond
 /// 2^20 in size. It takes no memory, and linear time.
-pub fn check_by_faces(tri: &HalfMap, base: DartId, points: &Points, corner: Point) -> FaceVerdict
-    requires completed { IsCompleted tri.now.lists }
+pub fn check_points_by_faces(
+    tri: &HalfMap,
+    base: DartId,
+    points: &Points,
+    corner: Point,
+) -> FaceVerdict
+    requires triangulation { IsTriangulation tri.now.lists }
     requires base { IsLive tri.now base.0 }
     requires places { HasPlaces tri.now.lists points.now }
     ensures { IsFaceVerdict tri.now.lists points.now corner.x corner.y (dart_of tri.now base.0) result }
@@ -140,4 +145,14 @@ pub fn check_by_faces(tri: &HalfMap, base: DartId, points: &Points, corner: Poin
         Some((a, b, c)) => FaceVerdict::Wrong(a, b, c),
         None => FaceVerdict::Yes,
     }
+}
+
+/// The same of a figure: its points, in its grid.
+pub fn check_by_faces(tri: &HalfMap, base: DartId, fig: &GridFigure) -> FaceVerdict
+    requires triangulation { IsTriangulation tri.now.lists }
+    requires base { IsLive tri.now base.0 }
+    requires places { HasPlaces tri.now.lists fig.now.points }
+    ensures { IsFaceVerdict tri.now.lists fig.now.points fig.now.width fig.now.height (dart_of tri.now base.0) result }
+{
+    check_points_by_faces(tri, base, &fig.points, corner_of(fig))
 }

@@ -1,6 +1,6 @@
 //! Checks of straight-line drawings: whether all points lie in the grid, the drawing is plane, and each
 //! vertex has its neighbours in the order of its list; and where not, which fault comes first. Of a
-//! completed map by its faces; and of a connected one whether the face of a base dart is the outer one.
+//! triangulation by its faces; and of a connected one whether the face of a base dart is the outer one.
 #![tactic(auto)]
 
 ghost use Rattle.draw_check.specs.FaceLaws.{FacesYesForFewer, FacesYesIsYes};
@@ -16,9 +16,9 @@ mod sums;
 mod turns;
 mod verdict;
 
-pub use faces::check_by_faces;
+pub use faces::{check_by_faces, check_points_by_faces};
 pub use outer::{check_outer, check_outer_connected};
-pub use pairs::check;
+pub use pairs::{check, check_points};
 use plane_drawings::drawings::counterclockwise_is_plane;
 pub use verdict::{FaceVerdict, OuterVerdict, Verdict};
 

@@ -14,7 +14,7 @@ use crate::OuterVerdict;
 use crate::sums::face_sums;
 use euler_faces::{Faces, euler, faces};
 use half_edges::{DartId, HalfMap, VertexId};
-use pg_plane::Points;
+use pg_plane::{GridFigure, Points};
 use std::alloc::{AllocError, Global};
 use vertex_rounds::first_dart;
 
@@ -74,22 +74,22 @@ pub fn check_outer_connected(
 /// is not positive, where the map is connected; and `Yes` where there is none or the map is not connected.
 ///
 /// Twice the area of a face is the sum of a.x * b.y - b.x * a.y over its darts from a to b, in 128 bits.
-/// `base` is live, there is one point for each vertex, and no coordinate is beyond 2^20 in size. It fails only
-/// for want of memory. The time and the memory are linear in the vertices and the darts.
+/// `base` is live, `fig` has one point for each vertex, and no coordinate is beyond 2^20 in size; its grid is
+/// not looked at. It fails only for want of memory. The time and the memory are linear in the vertices and the darts.
 pub fn check_outer(
     alloc: Global,
     map: &HalfMap,
     base: DartId,
-    points: &Points,
+    fig: &GridFigure,
 ) -> Result<OuterVerdict, AllocError>
     requires base { IsLive map.now base.0 }
-    requires places { HasPlaces map.now.lists points.now }
-    ensures { IfOk result (IsOuterVerdict map.now.lists points.now (dart_of map.now base.0)) }
+    requires places { HasPlaces map.now.lists fig.now.points }
+    ensures { IfOk result (IsOuterVerdict map.now.lists fig.now.points (dart_of map.now base.0)) }
 {
     map.facts();
     let count = euler(alloc, map)?;
     if count.c == 1 {
-        check_outer_connected(alloc, map, base, points)
+        check_outer_connected(alloc, map, base, &fig.points)
     } else {
         Ok(OuterVerdict::Yes)
     }

@@ -8,10 +8,10 @@ ghost use Rattle.draw_check.specs.Verdicts.{AllInGrid, NoneShareAPlace, NoneOnEd
 use crate::Verdict;
 use crate::crossings::first_crossing;
 use crate::edges::first_on_edge;
-use crate::places::{first_outside, first_shared};
+use crate::places::{corner_of, first_outside, first_shared};
 use crate::turns::first_turned;
 use half_edges::HalfMap;
-use pg_plane::{Point, Points};
+use pg_plane::{GridFigure, Point, Points};
 use plane_drawings::sweep_check::is_plane_by_sweep;
 
 // The first two vertices at one place, the first vertex on an edge or the first two edges that cross, in
@@ -71,7 +71,7 @@ fn first_fault(map: &HalfMap, points: &Points, corner: Point) -> Option<Verdict>
 /// 2^20 in size. It takes no memory from the heap. Where a sweep finds the drawing plane, the time is
 /// m log n for n vertices and m edges, besides that in which the lines that the sweep meets are moved; else
 /// each edge is compared with each vertex and each edge after it.
-pub fn check(map: &HalfMap, points: &Points, corner: Point) -> Verdict
+pub fn check_points(map: &HalfMap, points: &Points, corner: Point) -> Verdict
     requires { HasPlaces map.now.lists points.now }
     ensures { IsVerdict map.now.lists points.now corner.x corner.y result }
 {
@@ -80,4 +80,12 @@ pub fn check(map: &HalfMap, points: &Points, corner: Point) -> Verdict
         Some(verdict) => verdict,
         None => Verdict::Yes,
     }
+}
+
+/// The same of a figure: its points, in its grid.
+pub fn check(map: &HalfMap, fig: &GridFigure) -> Verdict
+    requires { HasPlaces map.now.lists fig.now.points }
+    ensures { IsVerdict map.now.lists fig.now.points fig.now.width fig.now.height result }
+{
+    check_points(map, &fig.points, corner_of(fig))
 }

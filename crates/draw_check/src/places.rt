@@ -7,7 +7,7 @@ ghost use Rattle.draw_check.specs.Verdicts.{AllInGrid, NoneShareAPlace};
 ghost use Rattle.draw_check.specs.Loops.{IsDrawn};
 
 use half_edges::{HalfMap, VertexId};
-use pg_plane::{Point, Points};
+use pg_plane::{GridFigure, Point, Points};
 
 // The place of a vertex.
 pub(crate) fn place_at(points: &Points, v: VertexId) -> Point
@@ -15,6 +15,17 @@ pub(crate) fn place_at(points: &Points, v: VertexId) -> Point
     ensures { result ≡ place points.now v.0 }
 {
     points.get(v.0 as usize)
+}
+
+// Where the grid of a figure ends.
+pub(crate) fn corner_of(fig: &GridFigure) -> Point
+    ensures x { result.x ≡ fig.now.width }
+    ensures y { result.y ≡ fig.now.height }
+{
+    Point {
+        x: fig.width,
+        y: fig.height,
+    }
 }
 
 // Whether a point lies in the grid.

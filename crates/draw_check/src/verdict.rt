@@ -20,7 +20,7 @@ pub enum Verdict {
     Yes,
 }
 
-/// Whether the faces of a drawing of a completed map are drawn as they should be.
+/// Whether the faces of a drawing of a triangulation are drawn as they should be.
 #[derive(Clone, Copy, PartialEq, Eq)]
 pub enum FaceVerdict {
     /// The least vertex outside the grid.

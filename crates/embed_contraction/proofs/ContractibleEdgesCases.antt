@@ -13,7 +13,7 @@ none_left : without_vertices (0 ∷ 2 ∷ []) square ≡ [] ∷ [] ∷ [] ∷ []
 none_left = refl
 
 -- so these part the others
-parted : ¬ IsThreeLinked square
-parted linked =
+separated : ¬ IsThreeLinked square
+separated linked =
     let off : (z : ℕ) → (0 ≡ z → ⊥) → (2 ≡ z → ⊥) → ¬ Contains (0 ∷ 2 ∷ []) z = λ z n n' c. each_of_two (λ w. w ≡ z → ⊥) 0 2 n n' z c refl in
     false≢true (linked 0 2 1 3 (0, (omega arith, (0, omega arith, refl))) (0, (omega arith, (0, omega arith, refl))) (off 1 (λ e. omega arith) (λ e. omega arith)) (off 3 (λ e. omega arith) (λ e. omega arith)))

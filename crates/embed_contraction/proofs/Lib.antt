@@ -17,7 +17,7 @@ pub mod Inserted
 pub mod BadSteps
 pub mod AtVertex
 pub mod Links
-pub mod Parted
+pub mod Separations
 pub mod Lifted
 pub mod Single
 pub mod Routed

@@ -1,4 +1,4 @@
--- A witness lifted: mended at x, or with x and y exchanged, or else K5 parted.
+-- A witness lifted: mended at x, or with x and y exchanged, or else K5 split.
 use Rattle.std.proofs.Common.{◌≡◌, ◌≢◌, ◌⊎◌, ◌&&◌, ◌||◌, ℕ, zero, suc, ◌+◌, ◌-◌, ◌<◌, ◌≤◌, true, false, not, eqb, length, refl, sym, ap, ap₂, ◌∙◌, inl, inr, arith}
 use Rattle.std.proofs.lemmas.Bool.{cases_eq, true≢false, eqb-true, or_cases, and_parts}
 use Rattle.std.proofs.lemmas.Bool.Decides.{nat_tests}
@@ -16,7 +16,7 @@ use Rattle.embed_contraction.proofs.Frames.{IsFrame, HasSteps, frame-map, frame-
 use Rattle.embed_contraction.proofs.BadSteps.{StepsAt, IsBadStep, AreTwoBad, mended_or_two}
 use Rattle.embed_contraction.proofs.AtVertex.{step_apart, IsAt, far, far_second, far_first, three_steps, four_steps, end_step, one_step, three_paths}
 use Rattle.embed_contraction.proofs.Links.{number, number-pair, link_number, link_number-up, link_number-down, link, link-up, link-down}
-use Rattle.embed_contraction.proofs.Parted.{parted}
+use Rattle.embed_contraction.proofs.Separations.{separated}
 
 -- a step at x that leads to a neighbour of the one end of the edge, and not of the other
 pub record IsLone (graph : EdgeGraph) (kind : Kind) (branch size : ℕ → ℕ) (way : ℕ → ℕ → ℕ) (frame : IsFrame graph.n kind branch size way) (x no yes' p i : ℕ) : Type 0 where
@@ -242,17 +242,17 @@ five_apart a b c d e ab ac ad ae bc bd be cd ce de k l lk ll =
     k lk l ll
 
 -- K5 has x as its branch b; from it paths lead to c and d over neighbours of x, and to e and f over neighbours of y.
-pub record IsParting (graph : EdgeGraph) (branch size : ℕ → ℕ) (way : ℕ → ℕ → ℕ) (frame : IsFrame graph.n K5 branch size way) (x y b c d e f : ℕ) : Type 0 where
+pub record IsSeparating (graph : EdgeGraph) (branch size : ℕ → ℕ) (way : ℕ → ℕ → ℕ) (frame : IsFrame graph.n K5 branch size way) (x y b c d e f : ℕ) : Type 0 where
   pub is_x : branch b ≡ x
   pub below : (k : ℕ) → k < 5 → five_names b c d e f k < 5
   pub apart : (k l : ℕ) → k < 5 → l < 5 → five_names b c d e f k ≡ five_names b c d e f l → k ≡ l
   pub of_x : (k : ℕ) → 0 < k → k < 3 → has_edge graph x (link graph.n branch size way frame b (five_names b c d e f k) 1) ≡ true
   pub of_y : (k : ℕ) → 3 ≤ k → k < 5 → has_edge graph y (link graph.n branch size way frame b (five_names b c d e f k) 1) ≡ true
 
-is_parting : (graph : EdgeGraph) (branch size : ℕ → ℕ) (way : ℕ → ℕ → ℕ) (frame : IsFrame graph.n K5 branch size way) (x y b c d e f : ℕ) → b < 5 → c < 5 → d < 5 → e < 5 → f < 5 → b ≢ c → b ≢ d → b ≢ e → b ≢ f → c ≢ d → c ≢ e → c ≢ f → d ≢ e → d ≢ f → e ≢ f → branch b ≡ x
-    → has_edge graph x (link graph.n branch size way frame b c 1) ≡ true → has_edge graph x (link graph.n branch size way frame b d 1) ≡ true → has_edge graph y (link graph.n branch size way frame b e 1) ≡ true → has_edge graph y (link graph.n branch size way frame b f 1) ≡ true → IsParting graph branch size way frame x y b c d e f
+is_separating : (graph : EdgeGraph) (branch size : ℕ → ℕ) (way : ℕ → ℕ → ℕ) (frame : IsFrame graph.n K5 branch size way) (x y b c d e f : ℕ) → b < 5 → c < 5 → d < 5 → e < 5 → f < 5 → b ≢ c → b ≢ d → b ≢ e → b ≢ f → c ≢ d → c ≢ e → c ≢ f → d ≢ e → d ≢ f → e ≢ f → branch b ≡ x
+    → has_edge graph x (link graph.n branch size way frame b c 1) ≡ true → has_edge graph x (link graph.n branch size way frame b d 1) ≡ true → has_edge graph y (link graph.n branch size way frame b e 1) ≡ true → has_edge graph y (link graph.n branch size way frame b f 1) ≡ true → IsSeparating graph branch size way frame x y b c d e f
 unfolding five_names
-is_parting graph branch size way frame x y b c d e f lb lc ld le lf bc bd be bf cd ce cf de df ef is_b xc xd ye yf =
+is_separating graph branch size way frame x y b c d e f lb lc ld le lf bc bd be bf cd ce cf de df ef is_b xc xd ye yf =
     let name = five_names b c d e f in
     record {
       is_x = is_b;
@@ -262,10 +262,10 @@ is_parting graph branch size way frame x y b c d e f lb lc ld le lf bc bd be bf 
       of_y = λ k far l. each_of_five (λ k. 3 ≤ k → has_edge graph y (link graph.n branch size way frame b (name k) 1) ≡ true) (λ z. absurd (omega arith)) (λ z. absurd (omega arith)) (λ z. absurd (omega arith)) (λ z. ye) (λ z. yf) k l far;
     }
 
-five_parted : (graph : EdgeGraph) (branch size : ℕ → ℕ) (way : ℕ → ℕ → ℕ) (frame : IsFrame graph.n K5 branch size way) (x y : ℕ) → IsEdgeOf graph x y → ((p i : ℕ) → p < 10 → i ≤ size p → way p i ≢ y) → ((j : ℕ) → j < 5 → branch j ≢ y) → HasSteps K5 size way (StepsAt graph x y) → (b c d e f : ℕ) → IsParting graph branch size way frame x y b c d e f → HasWitness graph
+five_separated : (graph : EdgeGraph) (branch size : ℕ → ℕ) (way : ℕ → ℕ → ℕ) (frame : IsFrame graph.n K5 branch size way) (x y : ℕ) → IsEdgeOf graph x y → ((p i : ℕ) → p < 10 → i ≤ size p → way p i ≢ y) → ((j : ℕ) → j < 5 → branch j ≢ y) → HasSteps K5 size way (StepsAt graph x y) → (b c d e f : ℕ) → IsSeparating graph branch size way frame x y b c d e f → HasWitness graph
 unfolding five_names
-five_parted graph branch size way frame x y edge off no_branch steps b c d e f s =
-    parted graph branch size way frame x y edge.second edge.joined off no_branch steps (five_names b c d e f) s.below s.apart s.is_x s.of_x s.of_y
+five_separated graph branch size way frame x y edge off no_branch steps b c d e f s =
+    separated graph branch size way frame x y edge.second edge.joined off no_branch steps (five_names b c d e f) s.below s.apart s.is_x s.of_x s.of_y
 
 -- there are no two steps of each kind at a branch of K3,3
 pub not_six : (graph : EdgeGraph) (branch size : ℕ → ℕ) (way : ℕ → ℕ → ℕ) (frame : IsFrame graph.n K33 branch size way) (x y : ℕ) → IsEdgeOf graph x y → ((p i : ℕ) → p < 9 → i ≤ size p → way p i ≢ y) → ((j : ℕ) → j < 6 → branch j ≢ y) → HasSteps K33 size way (StepsAt graph x y) → AreTwoLone graph K33 branch size way frame x x y → AreTwoLone graph K33 branch size way frame x y x → (b : ℕ) → b < 6 → branch b ≡ x → ⊥
@@ -277,8 +277,8 @@ not_six graph branch size way frame x y edge off no_branch steps t t' b in_b is_
     omega arith
 
 -- at one of K5 they part it
-pub parting_five : (graph : EdgeGraph) (branch size : ℕ → ℕ) (way : ℕ → ℕ → ℕ) (frame : IsFrame graph.n K5 branch size way) (x y : ℕ) → AreTwoLone graph K5 branch size way frame x x y → AreTwoLone graph K5 branch size way frame x y x → (b : ℕ) → b < 5 → branch b ≡ x → (c : ℕ) × (d : ℕ) × (e : ℕ) × (f : ℕ) × IsParting graph branch size way frame x y b c d e f
-parting_five graph branch size way frame x y t t' b in_b is_b =
+pub separating_five : (graph : EdgeGraph) (branch size : ℕ → ℕ) (way : ℕ → ℕ → ℕ) (frame : IsFrame graph.n K5 branch size way) (x y : ℕ) → AreTwoLone graph K5 branch size way frame x x y → AreTwoLone graph K5 branch size way frame x y x → (b : ℕ) → b < 5 → branch b ≡ x → (c : ℕ) × (d : ℕ) × (e : ℕ) × (f : ℕ) × IsSeparating graph branch size way frame x y b c d e f
+separating_five graph branch size way frame x y t t' b in_b is_b =
     let L : ℕ → ℕ = λ c. link graph.n branch size way frame b c 1 in
     let c1 = other_of graph branch size way frame x b in_b is_b t.p t.i t.one.at in
     let c2 = other_of graph branch size way frame x b in_b is_b t.q t.k t.other.at in
@@ -298,7 +298,7 @@ parting_five graph branch size way frame x y t t' b in_b is_b =
       c4.0,
       c1.0,
       c2.0,
-      is_parting graph branch size way frame x y b c3.0 c4.0 c1.0 c2.0 in_b c3.1.within c4.1.within c1.1.within c2.1.within
+      is_separating graph branch size way frame x y b c3.0 c4.0 c1.0 c2.0 in_b c3.1.within c4.1.within c1.1.within c2.1.within
           (λ e. c3.1.two (sym e)) (λ e. c4.1.two (sym e)) (λ e. c1.1.two (sym e)) (λ e. c2.1.two (sym e)) d34 (differ c3.0 c1.0 has3 no1) (differ c3.0 c2.0 has3 no2) (differ c4.0 c1.0 has4 no1) (differ c4.0 c2.0 has4 no2) d12
           is_b has3 has4 has1 has2,
     )
@@ -307,8 +307,8 @@ parting_five graph branch size way frame x y t t' b in_b is_b =
 at_branch : (graph : EdgeGraph) (kind : Kind) (branch size : ℕ → ℕ) (way : ℕ → ℕ → ℕ) (frame : IsFrame graph.n kind branch size way) (x y : ℕ) → IsEdgeOf graph x y → ((p i : ℕ) → p < path_count kind → i ≤ size p → way p i ≢ y) → ((j : ℕ) → j < branch_count kind → branch j ≢ y) → HasSteps kind size way (StepsAt graph x y) → AreTwoLone graph kind branch size way frame x x y → AreTwoLone graph kind branch size way frame x y x → (b : ℕ) → b < branch_count kind → branch b ≡ x → HasWitness graph
 at_branch graph K33 branch size way frame x y edge off no_branch steps t t' b in_b is_b = absurd (not_six graph branch size way frame x y edge off no_branch steps t t' b in_b is_b)
 at_branch graph K5 branch size way frame x y edge off no_branch steps t t' b in_b is_b =
-    let r = parting_five graph branch size way frame x y t t' b in_b is_b in
-    five_parted graph branch size way frame x y edge off no_branch steps b r.0 r.1 r.2 r.3 r.4
+    let r = separating_five graph branch size way frame x y t t' b in_b is_b in
+    five_separated graph branch size way frame x y edge off no_branch steps b r.0 r.1 r.2 r.3 r.4
 
 -- ---- the law
 -- each branch is an end of a path

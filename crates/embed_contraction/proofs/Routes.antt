@@ -7,7 +7,7 @@ use Rattle.map_theory.specs.Maps.{HasDart}
 use Rattle.map_theory.proofs.EntryLemmas.{Contains-there, Contains-cons_cases, AllPairs-tail, AllPairs-right, head_apart}
 use Rattle.graph6_text.specs.Graphs.{EdgeGraph, has_edge}
 use Rattle.plane_laws.proofs.ComponentPaths.{components_are_paths}
-use Rattle.plane_peeling.proofs.Rings.{parted_at, AllPairs-put}
+use Rattle.plane_peeling.proofs.Rings.{separated_at, AllPairs-put}
 use Rattle.plane_peeling.proofs.RestrictedMaps.{cases_Contains}
 use Rattle.embed_contraction.specs.Routed.{LeadsAlong, IsRoute, SomeRoute}
 
@@ -32,7 +32,7 @@ route-more graph s u v mid r e s_v u_v =
           },
         )
         | inl c ↦
-            let p = parted_at mid s c in
+            let p = separated_at mid s c in
             let whole : AllPairs ◌≢◌ (p.0 ++ s ∷ p.1) = subst (AllPairs ◌≢◌) p.2 r.distinct in
             let tail = AllPairs-right p.0 (s ∷ p.1) whole in (
               p.1,

@@ -8,19 +8,19 @@ use Rattle.embed_surgery.proofs.Turned.{Contains-turned}
 use Rattle.embed_contraction.specs.Rims.{IsGapOf}
 use Rattle.embed_maps.specs.Gaps.{read_from, behind, IsGapAt}
 
--- a list parted at a place
-parted : (us : List ℕ) (k : ℕ) → k < length us → (front : List ℕ) × (b : ℕ) × (back : List ℕ) × (us ≡ front ++ b ∷ back) × (length front ≡ k)
-parted [] k l = absurd (omega arith)
-parted (u ∷ us) zero l = ([], u, us, refl, refl)
-parted (u ∷ us) (suc k) l =
-    let r = parted us k (omega arith) in
+-- a list split at a place
+separated : (us : List ℕ) (k : ℕ) → k < length us → (front : List ℕ) × (b : ℕ) × (back : List ℕ) × (us ≡ front ++ b ∷ back) × (length front ≡ k)
+separated [] k l = absurd (omega arith)
+separated (u ∷ us) zero l = ([], u, us, refl, refl)
+separated (u ∷ us) (suc k) l =
+    let r = separated us k (omega arith) in
     (u ∷ r.0, r.1, r.2, ap (λ ws. u ∷ ws) r.3, ap suc r.4)
 
 two_parts : (us : List ℕ) (k : ℕ) → 0 < k → k < length us → (a : ℕ) × (mid : List ℕ) × (b : ℕ) × (back : List ℕ) × (us ≡ a ∷ mid ++ b ∷ back) × (suc (length mid) ≡ k)
 two_parts [] k pos l = absurd (omega arith)
 two_parts (u ∷ us) zero pos l = absurd (omega arith)
 two_parts (u ∷ us) (suc k) pos l =
-    let r = parted us k (omega arith) in
+    let r = separated us k (omega arith) in
     (u, r.0, r.1, r.2, ap (λ ws. u ∷ ws) r.3, ap suc r.4)
 
 take_to : (front : List ℕ) (b : ℕ) (back : List ℕ) → take (suc (length front)) (front ++ b ∷ back) ≡ front ++ b ∷ []

@@ -12,11 +12,11 @@ use Rattle.embed_maps.specs.GluedMapsRows.{MeetAt, MeetAlong}
 
 -- ---- rows put behind lists
 -- lists have a last one
-parted_last : (lists : Lists) → 0 < length lists → (before : Lists) × (last : List ℕ) × (lists ≡ before ++ last ∷ [])
-parted_last [] l = absurd (omega arith)
-parted_last (us ∷ []) l = ([], us, refl)
-parted_last (us ∷ vs ∷ lists) l =
-    let r = parted_last (vs ∷ lists) (omega arith) in
+separated_last : (lists : Lists) → 0 < length lists → (before : Lists) × (last : List ℕ) × (lists ≡ before ++ last ∷ [])
+separated_last [] l = absurd (omega arith)
+separated_last (us ∷ []) l = ([], us, refl)
+separated_last (us ∷ vs ∷ lists) l =
+    let r = separated_last (vs ∷ lists) (omega arith) in
     (us ∷ r.0, r.1, ap (λ (ls : Lists). us ∷ ls) r.2)
 
 length-last : (before : Lists) (us vs : List ℕ) → length (before ++ us ∷ []) ≡ length (before ++ vs ∷ [])
@@ -26,7 +26,7 @@ length-last (ws ∷ before) us vs = ap suc (length-last before us vs)
 -- what is put behind the last list leaves their number
 pub same_length : (old new : Lists) (more : List ℕ → List ℕ) → 0 < length old → ((before : Lists) (last : List ℕ) → old ≡ before ++ last ∷ [] → new ≡ before ++ more last ∷ []) → length new ≡ length old
 same_length old new more some made =
-    let r = parted_last old some in
+    let r = separated_last old some in
     ap (λ (ls : Lists). length ls) (made r.0 r.1 r.2) ∙ (length-last r.0 (more r.1) r.1 ∙ ap (λ (ls : Lists). length ls) (sym r.2))
 
 pub one_more : (last us : List ℕ) (i x : ℕ) → i < length us → get_or us i 0 ≡ x → (last ++ take i us) ++ x ∷ [] ≡ last ++ take (i + 1) us

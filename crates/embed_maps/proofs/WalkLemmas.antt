@@ -118,18 +118,18 @@ module _ (lists : Lists) (simple : IsSimpleMap lists) (u v : ℕ) (ws : List ℕ
       ]
 
 -- ---- the ring of a face, from one of its darts on
-parted_at : (us : List ℕ) (x : ℕ) → Contains us x → (front : List ℕ) × (back : List ℕ) × (us ≡ front ++ x ∷ back)
-parted_at [] x c = absurd (omega (arith, c.1))
-parted_at (u ∷ us) x (zero, l, e) = ([], us, ap (λ y. y ∷ us) e)
-parted_at (u ∷ us) x (suc k, l, e) =
-    let r = parted_at us x (k, omega arith, e) in
+separated_at : (us : List ℕ) (x : ℕ) → Contains us x → (front : List ℕ) × (back : List ℕ) × (us ≡ front ++ x ∷ back)
+separated_at [] x c = absurd (omega (arith, c.1))
+separated_at (u ∷ us) x (zero, l, e) = ([], us, ap (λ y. y ∷ us) e)
+separated_at (u ∷ us) x (suc k, l, e) =
+    let r = separated_at us x (k, omega arith, e) in
     (u ∷ r.0, r.1, ap (λ ys. u ∷ ys) r.2)
 
 pub some_ring : (lists : Lists) (u v : ℕ) → IsSimpleMap lists → HasDart lists u v → IsOnceAround lists u v → (ws : List ℕ) × IsRingFrom lists u v ws × IsRingOf lists u v (u ∷ ws)
 some_ring lists u v simple dart once =
     let found = face_is_ring lists u v simple dart once in
     let of = found.1 in
-    let p = parted_at found.0 u of.on in
+    let p = separated_at found.0 u of.on in
     let front = p.0 in
     let back = p.1 in
     let ring = subst (IsRing lists) p.2 of.ring in

@@ -5,7 +5,7 @@ use Rattle.plane_peeling.proofs.Rings.{each_of_one, each_of_two}
 use Rattle.plane_peeling.proofs.RestrictedMaps.{cases_Contains}
 use Rattle.embed_theorem.specs.Expanded.{HasFour}
 use Rattle.embed_theorem.proofs.Induction.{four_of}
-use Rattle.embed_recursion.specs.Parted.{IsOff}
+use Rattle.embed_recursion.specs.Separations.{IsOff}
 use Rattle.embed_recursion.specs.Small.{IsSmall}
 
 -- no vertex besides those of a list has an edge

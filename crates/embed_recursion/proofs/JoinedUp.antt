@@ -11,7 +11,7 @@ use Rattle.plane_laws.proofs.WithEdge.{with_edge}
 use Rattle.embed_surgery.specs.Glued.{lists_by}
 use Rattle.embed_surgery.proofs.UnionLists.{length-lists_by, list_of-lists_by}
 use Rattle.embed_theorem.specs.Sides.{IsJoinedUp}
-use Rattle.embed_recursion.specs.Parting.{joined_row}
+use Rattle.embed_recursion.specs.Separating.{joined_row}
 
 insert-last : (us : List ℕ) (x : ℕ) → insert us (length us) x ≡ us ++ x ∷ []
 insert-last [] x = refl

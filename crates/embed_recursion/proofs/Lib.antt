@@ -1,6 +1,6 @@
 -- What the calls rest on.
-pub mod PartedLemmas
-mod PartedListsRefused
+pub mod SeparationLemmas
+mod SeparationsRefused
 -- What the call rests on.
 pub mod MovedLemmas
 -- What the calls rest on.

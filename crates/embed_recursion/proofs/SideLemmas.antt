@@ -12,7 +12,7 @@ use Rattle.embed_maps.specs.GluedMapsRows.{MeetAt, MeetAlong}
 use Rattle.embed_theorem.specs.ListGraphs.{graph_of}
 use Rattle.embed_theorem.specs.Sides.{IsSided}
 use Rattle.embed_theorem.proofs.Sides.{sides_turned, witness_of_side, side_witness, sides_long, sides_meet, sides_glued, joined_long, joined_first, joined_second, joined_meet, joined_edge_glued, joined_glued, joined_glued_without}
-use Rattle.embed_recursion.specs.Parting.{ArePairSides}
+use Rattle.embed_recursion.specs.Separating.{ArePairSides}
 use Rattle.embed_theorem.proofs.GraphLemmas.{has_edge-is, has_edge-from}
 
 -- ---- at a vertex

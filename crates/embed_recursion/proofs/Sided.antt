@@ -12,12 +12,12 @@ use Rattle.plane_laws.specs.Laws.{SameComponent}
 use Rattle.plane_peeling.proofs.RestrictedMaps.{cases_Contains}
 use Rattle.embed_contraction.specs.Linked.{HasEdge, outside, without_vertices}
 use Rattle.embed_contraction.proofs.Parts.{closed_part, cases_part, part-chained, part-turned, part-itself, rest-simple, rest-length, rest-dart, rest-old, rest-together, outside-from, outside-is}
-use Rattle.embed_recursion.specs.Parted.{IsUncut, ArePartedBy, ArePairParting}
-use Rattle.embed_recursion.proofs.PartedLemmas.{in_two}
+use Rattle.embed_recursion.specs.Separations.{IsUncut, AreSeparatedBy, ArePairSeparating}
+use Rattle.embed_recursion.proofs.SeparationLemmas.{in_two}
 use Rattle.embed_theorem.specs.Sides.{IsSided, IsJoinedUp}
 use Rattle.embed_theorem.proofs.Graphs.{in_range, live_is, live_from}
 use Rattle.embed_theorem.proofs.Sides.{sides_turned, joined_edge}
-use Rattle.embed_recursion.specs.Parting.{is_beside, beside, inner_side, outer_side, AreSplit, ArePairSides}
+use Rattle.embed_recursion.specs.Separating.{is_beside, beside, inner_side, outer_side, AreSplit, ArePairSides}
 
 module _ (lists : Lists) (vs : List ℕ) (s : ℕ) where
   abbrev G : Lists
@@ -65,18 +65,18 @@ module _ (lists : Lists) (vs : List ℕ) (s : ℕ) where
         q.1 (part-chained G s a b p.1 (rest-together lists simple vs a b d p.0 q.0))
 
 -- t has no edge in the side of s, and s none in the other
-inner_gone : (lists : Lists) (u v s t : ℕ) → IsSimpleMap lists → ArePartedBy lists (u ∷ v ∷ []) s t → ¬ HasEdge (inner_side lists (u ∷ v ∷ []) s) t
+inner_gone : (lists : Lists) (u v s t : ℕ) → IsSimpleMap lists → AreSeparatedBy lists (u ∷ v ∷ []) s t → ¬ HasEdge (inner_side lists (u ∷ v ∷ []) s) t
 inner_gone lists u v s t simple p h =
     let V = u ∷ v ∷ [] in
     (rest-old lists simple (beside lists V s false) t h.0 h.1).1 (apart_from lists V s t p.second.here.edge.1.0 p.second.here.off p.second.far)
 
-outer_gone : (lists : Lists) (u v s t : ℕ) → IsSimpleMap lists → ArePartedBy lists (u ∷ v ∷ []) s t → ¬ HasEdge (outer_side lists (u ∷ v ∷ []) s) s
+outer_gone : (lists : Lists) (u v s t : ℕ) → IsSimpleMap lists → AreSeparatedBy lists (u ∷ v ∷ []) s t → ¬ HasEdge (outer_side lists (u ∷ v ∷ []) s) s
 outer_gone lists u v s t simple p h =
     let V = u ∷ v ∷ [] in
     (rest-old lists simple (beside lists V s true) s h.0 h.1).1 (joined_from lists V s s p.first.edge.1.0 p.first.off (part-itself (without_vertices V lists) s))
 
-pub parted_sided : (lists : Lists) (u v s t : ℕ) → IsSimpleMap lists → ArePartedBy lists (u ∷ v ∷ []) s t → IsSided lists (inner_side lists (u ∷ v ∷ []) s) (outer_side lists (u ∷ v ∷ []) s) u v
-parted_sided lists u v s t simple p = record {
+pub separated_sided : (lists : Lists) (u v s t : ℕ) → IsSimpleMap lists → AreSeparatedBy lists (u ∷ v ∷ []) s t → IsSided lists (inner_side lists (u ∷ v ∷ []) s) (outer_side lists (u ∷ v ∷ []) s) u v
+separated_sided lists u v s t simple p = record {
   simple_A = rest-simple lists simple far;
   simple_B = rest-simple lists simple near;
   length_A = rest-length lists simple far;
@@ -207,7 +207,7 @@ sided_joined lists A B u v p q simple s uncut u_v live_p gone_p live_q gone_q of
         gone_q (live_is A q (in_A q lq) m.0)
 
 -- two sides that meet in u and v, each with the edge
-pub sided_pair : (lists A B one other : Lists) (u v s t : ℕ) → IsSimpleMap lists → IsUncut lists → ArePartedBy lists (u ∷ v ∷ []) s t → u < length lists → v < length lists → u ≢ v → IsSided lists A B u v → ¬ HasEdge A t → ¬ HasEdge B s → IsJoinedUp A one u v → IsJoinedUp B other u v → ArePairSides lists one other u v
+pub sided_pair : (lists A B one other : Lists) (u v s t : ℕ) → IsSimpleMap lists → IsUncut lists → AreSeparatedBy lists (u ∷ v ∷ []) s t → u < length lists → v < length lists → u ≢ v → IsSided lists A B u v → ¬ HasEdge A t → ¬ HasEdge B s → IsJoinedUp A one u v → IsJoinedUp B other u v → ArePairSides lists one other u v
 sided_pair lists A B one other u v s t simple uncut p lu lv u_v sided gone_A gone_B up up' = record {
   A = A;
   B = B;
@@ -222,15 +222,15 @@ sided_pair lists A B one other u v s t simple uncut p lu lv u_v sided gone_A gon
 }
 
 -- ---- in the words of the calls
-pub split_sided : (lists one other : Lists) (u v s t : ℕ) → IsSimpleMap lists → ArePartedBy lists (u ∷ v ∷ []) s t → AreSplit lists one other (u ∷ v ∷ []) s → IsSided lists one other u v
+pub split_sided : (lists one other : Lists) (u v s t : ℕ) → IsSimpleMap lists → AreSeparatedBy lists (u ∷ v ∷ []) s t → AreSplit lists one other (u ∷ v ∷ []) s → IsSided lists one other u v
 split_sided lists one other u v s t simple p is =
-    subst (λ ls. IsSided lists ls other u v) (sym is.near) (subst (λ ls. IsSided lists (inner_side lists (u ∷ v ∷ []) s) ls u v) (sym is.far) (parted_sided lists u v s t simple p))
+    subst (λ ls. IsSided lists ls other u v) (sym is.near) (subst (λ ls. IsSided lists (inner_side lists (u ∷ v ∷ []) s) ls u v) (sym is.far) (separated_sided lists u v s t simple p))
 
-pub split_pair : (lists A B one other : Lists) (u v s t : ℕ) → IsSimpleMap lists → IsUncut lists → ArePairParting lists u v s t → AreSplit lists A B (u ∷ v ∷ []) s → IsJoinedUp A one u v → IsJoinedUp B other u v → ArePairSides lists one other u v
+pub split_pair : (lists A B one other : Lists) (u v s t : ℕ) → IsSimpleMap lists → IsUncut lists → ArePairSeparating lists u v s t → AreSplit lists A B (u ∷ v ∷ []) s → IsJoinedUp A one u v → IsJoinedUp B other u v → ArePairSides lists one other u v
 split_pair lists A B one other u v s t simple uncut p is up up' =
-    sided_pair lists A B one other u v s t simple uncut p.parted p.first p.second p.two (split_sided lists A B u v s t simple p.parted is)
-    (subst (λ ls. ¬ HasEdge ls t) (sym is.near) (inner_gone lists u v s t simple p.parted))
-    (subst (λ ls. ¬ HasEdge ls s) (sym is.far) (outer_gone lists u v s t simple p.parted)) up up'
+    sided_pair lists A B one other u v s t simple uncut p.separated p.first p.second p.two (split_sided lists A B u v s t simple p.separated is)
+    (subst (λ ls. ¬ HasEdge ls t) (sym is.near) (inner_gone lists u v s t simple p.separated))
+    (subst (λ ls. ¬ HasEdge ls s) (sym is.far) (outer_gone lists u v s t simple p.separated)) up up'
 
 pub split_simple : (lists A B : Lists) (vs : List ℕ) (s : ℕ) → IsSimpleMap lists → AreSplit lists A B vs s → (IsSimpleMap A × IsSimpleMap B) × (length A ≡ length lists) × (length B ≡ length lists)
 split_simple lists A B vs s simple is = (

@@ -11,7 +11,7 @@ use Rattle.embed_theorem.specs.Contracted.{AreContracted}
 use Rattle.embed_theorem.proofs.Graphs.{just_edges}
 use Rattle.embed_theorem.proofs.Sides.{sides_turned, side_less, joined_up_less}
 use Rattle.embed_theorem.proofs.Contracted.{contracted_less, contracted_into, contracted_witness}
-use Rattle.embed_recursion.specs.Parting.{ArePairSides}
+use Rattle.embed_recursion.specs.Separating.{ArePairSides}
 use Rattle.embed_recursion.specs.Small.{IsSmall}
 use Rattle.embed_recursion.proofs.Few.{small_plane}
 use Rattle.embed_maps.specs.ContractedMaps.{IsContractedMap}

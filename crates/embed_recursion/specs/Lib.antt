@@ -1,9 +1,9 @@
 -- What parts vertices.
-pub mod Parted
+pub mod Separations
 -- The edges that are left when one is contracted.
 pub mod Moved
 -- The sides of a graph that vertices part.
-pub mod Parting
+pub mod Separating
 -- Maps with few edges.
 pub mod Small
 -- Maps of the graphs of lists, or witnesses.

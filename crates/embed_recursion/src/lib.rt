@@ -4,7 +4,7 @@
 pub mod contracted_lists;
 pub mod contracted_maps;
 pub mod graph_maps;
-pub mod parted_lists;
+pub mod separations;
 pub mod side_lists;
 pub mod side_maps;
 pub mod small_maps;

@@ -13,6 +13,9 @@ const MOST_ROOTS: u32 = 12;
 // How many edges beside a forest are looked for at most.
 const MOST_FIXED: u32 = 24;
 
+// Fewer edges than these are not looked through so.
+const MANY_EDGES: u32 = 64;
+
 // Fewer edges than these beside a forest are no longer looked through.
 const FEW_LOOSE: u32 = 24;
 
@@ -308,9 +311,9 @@ fn fix(edges: &Edges, parts: &mut Parts, choice: &mut Choice) {
 
 // Fixes the edges of the forest that the next test goes along, and finds what is needed beside it.
 fn fix_beside(edges: &Edges, parts: &mut Parts, choice: &mut Choice) {
-    choice.fixed = 0;
     let count = choice.count;
-    if choice.is_least || try_front(edges, parts, choice, count) {
+    choice.fixed = 0;
+    if count < MANY_EDGES || choice.is_least || try_front(edges, parts, choice, count) {
         return;
     }
     choice.fix_forest(parts);

@@ -159,7 +159,7 @@ fn branch_list(alloc: Global, branch: &ByVertex, count: u32) -> Result<VertexLis
 }
 
 // Six branches in two parts: first those that no path joins to the first one.
-fn parted(links: &Links, branch: &ByVertex, sorted: &mut ByVertex) {
+fn separated(links: &Links, branch: &ByVertex, sorted: &mut ByVertex) {
     let first = branch.get(0);
     let mut near = 0u32;
     let mut far = 3u32;
@@ -211,7 +211,7 @@ pub fn traced(
         return witness_of(alloc, links, &branch, Kind::K5, 5);
     }
     if count == 6 {
-        parted(links, &branch, &mut sorted);
+        separated(links, &branch, &mut sorted);
         return witness_of(alloc, links, &sorted, Kind::K33, 6);
     }
     Ok(None)

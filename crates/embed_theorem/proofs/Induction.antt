@@ -20,7 +20,7 @@ use Rattle.embed_theorem.specs.Sides.{live}
 use Rattle.embed_theorem.proofs.Graphs.{just_edges, lists_of, length-lists_of, HasDart-lists_of, lists_of-dart, IsSimpleMap-lists_of, witness_more, Result}
 use Rattle.embed_theorem.proofs.Contracted.{contracted_less, contracted_into, contracted_witness, contracted_by, moved_test, moved-is, moved-from}
 use Rattle.embed_theorem.proofs.Sides.{Smaller}
-use Rattle.embed_theorem.proofs.TwoSides.{parted_sides}
+use Rattle.embed_theorem.proofs.TwoSides.{separated_sides}
 use Rattle.embed_theorem.proofs.Base.{empty_plane, edge_map, triangle_map}
 use Rattle.embed_theorem.specs.ListGraphs.{graph_of}
 use Rattle.embed_theorem.proofs.GraphLemmas.{has_edge-from, has_edge-is}
@@ -56,7 +56,7 @@ in_two a b z c = each_of_two (λ w. w ≡ z → (z ≡ a) ⊎ (z ≡ b)) a b (λ
 pub in_three : (a b c z : ℕ) → Contains (a ∷ b ∷ c ∷ []) z → (z ≡ a) ⊎ ((z ≡ b) ⊎ (z ≡ c))
 in_three a b c z h = each_of_three (λ w. w ≡ z → (z ≡ a) ⊎ ((z ≡ b) ⊎ (z ≡ c))) a b c (λ e. inl (sym e)) (λ e. inr (inl (sym e))) (λ e. inr (inr (sym e))) z h refl
 
-record ArePartedBy (lists : Lists) (u v s t : ℕ) : Type 0 where
+record AreSeparatedBy (lists : Lists) (u v s t : ℕ) : Type 0 where
   live_s : HasEdge lists s
   live_t : HasEdge lists t
   off_s : ¬ Contains (u ∷ v ∷ []) s
@@ -64,11 +64,11 @@ record ArePartedBy (lists : Lists) (u v s t : ℕ) : Type 0 where
   far : ¬ SameComponent (without_vertices (u ∷ v ∷ []) lists) s t
 
 abbrev Some : Lists → ℕ → ℕ → Type 0
-Some lists u v = (s : ℕ) × (t : ℕ) × ArePartedBy lists u v s t
+Some lists u v = (s : ℕ) × (t : ℕ) × AreSeparatedBy lists u v s t
 
 cases_two : (lists : Lists) (u v : ℕ) → IsLinkedWithout lists (u ∷ v ∷ []) ⊎ Some lists u v
 cases_two lists u v =
-    elim (all_or_one (λ s. HasEdge lists s → ¬ Contains V s → (t : ℕ) → HasEdge lists t → ¬ Contains V t → SameComponent G s t) (λ s. (t : ℕ) × ArePartedBy lists u v s t) (length lists) each) [
+    elim (all_or_one (λ s. HasEdge lists s → ¬ Contains V s → (t : ℕ) → HasEdge lists t → ¬ Contains V t → SameComponent G s t) (λ s. (t : ℕ) × AreSeparatedBy lists u v s t) (length lists) each) [
       | inl all ↦ inl (λ s t hs ht os ot. all s hs.1.0 hs os t ht ot)
       | inr r ↦ inr (r.0, r.2.0, r.2.1)
     ]
@@ -79,7 +79,7 @@ cases_two lists u v =
     G : Lists
     G = without_vertices V lists
 
-    second : (s : ℕ) → HasEdge lists s → ¬ Contains V s → (t : ℕ) → t < length lists → (HasEdge lists t → ¬ Contains V t → SameComponent G s t) ⊎ ArePartedBy lists u v s t
+    second : (s : ℕ) → HasEdge lists s → ¬ Contains V s → (t : ℕ) → t < length lists → (HasEdge lists t → ¬ Contains V t → SameComponent G s t) ⊎ AreSeparatedBy lists u v s t
     second s hs os t l =
         elim (cases_edge lists t l) [
           | inr none ↦ inl (λ h. absurd (none h))
@@ -92,13 +92,13 @@ cases_two lists u v =
           ]
         ]
 
-    each : (s : ℕ) → s < length lists → (HasEdge lists s → ¬ Contains V s → (t : ℕ) → HasEdge lists t → ¬ Contains V t → SameComponent G s t) ⊎ ((t : ℕ) × ArePartedBy lists u v s t)
+    each : (s : ℕ) → s < length lists → (HasEdge lists s → ¬ Contains V s → (t : ℕ) → HasEdge lists t → ¬ Contains V t → SameComponent G s t) ⊎ ((t : ℕ) × AreSeparatedBy lists u v s t)
     each s l =
         elim (cases_edge lists s l) [
           | inr none ↦ inl (λ h. absurd (none h))
           | inl hs ↦ elim (cases_Contains V s) [
             | inl c ↦ inl (λ _ o. absurd (o c))
-            | inr os ↦ elim (all_or_one (λ t. HasEdge lists t → ¬ Contains V t → SameComponent G s t) (ArePartedBy lists u v s) (length lists) (second s hs os)) [
+            | inr os ↦ elim (all_or_one (λ t. HasEdge lists t → ¬ Contains V t → SameComponent G s t) (AreSeparatedBy lists u v s) (length lists) (second s hs os)) [
               | inl all ↦ inl (λ _ _ t ht ot. all t ht.1.0 ht ot)
               | inr r ↦ inr (r.0, r.2)
             ]
@@ -220,7 +220,7 @@ solve lists simple smaller =
         | inl linked ↦ linked_result lists e.0 e.1.0 simple linked e.1.1 smaller
         | inr r ↦
             let p = r.2.2 in
-            parted_sides lists r.0 r.1 r.2.0 r.2.1 simple p.live_s p.live_t p.off_s p.off_t p.far smaller
+            separated_sides lists r.0 r.1 r.2.0 r.2.1 simple p.live_s p.live_t p.off_s p.off_t p.far smaller
       ]
     ]
 

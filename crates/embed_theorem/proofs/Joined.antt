@@ -89,7 +89,7 @@ pub follows_other : (lists : Lists) → IsSimpleMap lists → (p z c : ℕ) → 
 follows_other lists simple p z c has has_c ne e =
     ne (entries_closed (λ w. w ≡ z) (list_of lists p) z c (simple.no_repeat p has.0) has.1 refl (λ w q. ap (λ t. entry_after t (list_of lists p)) q ∙ e) has_c.1)
 
--- a list parted at the first entry that passes
+-- a list split at the first entry that passes
 pub first_taken : (taken : ℕ → Bool) (us : List ℕ) (w : ℕ) → Contains us w → taken w ≡ true → (front : List ℕ) × (b : ℕ) × (back : List ℕ) × (us ≡ front ++ b ∷ back) × (taken b ≡ true) × ((z : ℕ) → Contains front z → taken z ≡ false)
 first_taken taken [] w c t = absurd (omega (arith, c.1))
 first_taken taken (u ∷ us) w c t =

@@ -146,8 +146,8 @@ solve_sides lists A B u v simple s smaller =
     ]
 
 -- two vertices that two others part give two sides
-pub parted_sides : (lists : Lists) (u v s t : ℕ) → IsSimpleMap lists → HasEdge lists s → HasEdge lists t → ¬ Contains (u ∷ v ∷ []) s → ¬ Contains (u ∷ v ∷ []) t → ¬ SameComponent (without_vertices (u ∷ v ∷ []) lists) s t → Smaller lists → Result lists
-parted_sides lists u v s t simple live_s live_t off_s off_t far smaller = solve_sides lists A B u v simple sided smaller
+pub separated_sides : (lists : Lists) (u v s t : ℕ) → IsSimpleMap lists → HasEdge lists s → HasEdge lists t → ¬ Contains (u ∷ v ∷ []) s → ¬ Contains (u ∷ v ∷ []) t → ¬ SameComponent (without_vertices (u ∷ v ∷ []) lists) s t → Smaller lists → Result lists
+separated_sides lists u v s t simple live_s live_t off_s off_t far smaller = solve_sides lists A B u v simple sided smaller
   where
     V : List ℕ
     V = u ∷ v ∷ []

@@ -1,4 +1,4 @@
--- The contracted graph is three-connected where no third vertex parts the others together with the ends of the edge.
+-- The contracted graph is three-connected where no third vertex separates the others together with the ends of the edge.
 use Rattle.std.proofs.Common.{◌≡◌, ◌≢◌, ◌⊎◌, ◌&&◌, ◌||◌, ℕ, ◌-◌, ◌<◌, ◌≤◌, true, not, nat_lt, nat_eq, eqb, if◌then◌else◌, List, [], ◌∷◌, Contains, refl, sym, ap, ap₂, ◌∙◌, subst, inl, inr, arith}
 use Rattle.std.specs.List.{range_with_len}
 use Rattle.std.proofs.lemmas.Bool.{cases_eq, and_from, or_left, or_right, eq-eqb, ne_eqb}
@@ -13,7 +13,7 @@ use Rattle.plane_laws.specs.Laws.{SameComponent}
 use Rattle.plane_laws.proofs.ComponentPaths.{components_are_paths}
 use Rattle.plane_laws.proofs.Completions.{one_component}
 use Rattle.graph6_text.specs.Graphs.{EdgeGraph, IsGraph, has_edge}
-use Rattle.convex_peeling.specs.Tight.{IsThreeConnected}
+use Rattle.convex_peeling.specs.Polyhedral.{IsThreeConnected}
 use Rattle.conn_parts.specs.GraphLists.{graph_lists, neighbours_below}
 use Rattle.conn_parts.proofs.GraphLemmas.{length-graph_lists, IsSimpleMap-graph_lists}
 use Rattle.embed_contraction.specs.Linked.{HasEdge, IsLinkedWithout, without_vertices}

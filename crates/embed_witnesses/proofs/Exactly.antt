@@ -1,11 +1,11 @@
--- A contracted graph that is three-connected shows that no third vertex parts the others together with the ends of the edge.
+-- A contracted graph that is three-connected shows that no third vertex separates the others together with the ends of the edge.
 use Rattle.std.proofs.Common.{◌≡◌, ◌≢◌, ◌&&◌, ◌||◌, ℕ, ◌<◌, ◌≤◌, true, not, eqb, List, [], ◌∷◌, length, Contains, sym, ap, ◌∙◌, subst, inl, inr, arith}
 use Rattle.std.proofs.lemmas.Bool.{and_parts, or_cases, eqb-true}
 use Rattle.classes.specs.Classes.{same_class}
 use Rattle.map_lists.specs.Lists.{Lists}
 use Rattle.map_theory.specs.Maps.{IsSimpleMap, component_classes}
 use Rattle.graph6_text.specs.Graphs.{EdgeGraph, IsGraph, has_edge}
-use Rattle.convex_peeling.specs.Tight.{IsThreeConnected}
+use Rattle.convex_peeling.specs.Polyhedral.{IsThreeConnected}
 use Rattle.conn_parts.specs.GraphLists.{graph_lists}
 use Rattle.conn_parts.proofs.GraphLemmas.{length-graph_lists}
 use Rattle.embed_contraction.specs.Linked.{HasEdge, IsLinkedWithout, without_vertices}

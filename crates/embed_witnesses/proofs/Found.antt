@@ -3,7 +3,7 @@ use Rattle.std.proofs.Common.{ℕ, ◌≤◌, [], ◌∷◌, sym, ◌∙◌, inl
 use Rattle.std.proofs.lemmas.Bool.{cases_order}
 use Rattle.graph6_text.specs.Graphs.{EdgeGraph, IsGraph}
 use Rattle.graph6_text.proofs.EdgeLemmas.{has_edge-turned}
-use Rattle.convex_peeling.specs.Tight.{IsThreeConnected}
+use Rattle.convex_peeling.specs.Polyhedral.{IsThreeConnected}
 use Rattle.conn_parts.specs.GraphLists.{graph_lists}
 use Rattle.conn_parts.proofs.GraphLemmas.{length-graph_lists}
 use Rattle.embed_contraction.proofs.Growth.{contractible_edge}

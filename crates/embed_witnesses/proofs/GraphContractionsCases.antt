@@ -8,7 +8,7 @@ use Rattle.embed_witnesses.specs.ContractedEdges.{contraction}
 abbrev wheel : EdgeGraph
 wheel = record { n = 5; edges = (0, 1) ∷ (0, 2) ∷ (0, 3) ∷ (0, 4) ∷ (1, 2) ∷ (1, 4) ∷ (2, 3) ∷ (3, 4) ∷ [] }
 
--- with a spoke contracted, what were 2 and 4 are parted by two
+-- with a spoke contracted, what were 2 and 4 are split by two
 spoke : graph_lists (contraction wheel 0 1) ≡ (1 ∷ 2 ∷ 3 ∷ []) ∷ (0 ∷ 2 ∷ []) ∷ (0 ∷ 1 ∷ 3 ∷ []) ∷ (0 ∷ 2 ∷ []) ∷ []
 unfolding pairs
 spoke = refl

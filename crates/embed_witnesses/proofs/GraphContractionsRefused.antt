@@ -2,7 +2,7 @@
 use Rattle.std.proofs.Common.{◌≡◌, ◌≢◌, ℕ, ◌+◌, [], ◌∷◌, false, true, Contains, sym, inl, inr, refl, arith}
 use Rattle.classes.specs.Classes.{merge}
 use Rattle.graph6_text.specs.Graphs.{EdgeGraph}
-use Rattle.convex_peeling.specs.Tight.{IsThreeConnected}
+use Rattle.convex_peeling.specs.Polyhedral.{IsThreeConnected}
 use Rattle.conn_parts.specs.GraphLists.{graph_lists}
 use Rattle.embed_witnesses.specs.Contractible.{IsContractibleEdge}
 use Rattle.embed_witnesses.proofs.ThreeLinked.{in_two, three_linked}

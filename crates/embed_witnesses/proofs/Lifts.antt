@@ -18,14 +18,14 @@ use Rattle.embed_contraction.proofs.Frames.{IsFrame, HasSteps, traced-frame, fra
 use Rattle.embed_contraction.proofs.Inserted.{size', way', longer, inserted, steps-inserted}
 use Rattle.embed_contraction.proofs.BadSteps.{StepsAt, AreTwoBad, IsOneBad, one_or_two}
 use Rattle.embed_contraction.proofs.Links.{number, link_number, link, link_size}
-use Rattle.embed_contraction.proofs.Parted.{from_name, to_name, ends_at_x, branch_name, hidden, size33, way33, vertex_named, branch33, frame33, edges33}
-use Rattle.embed_contraction.proofs.Lifted.{AreTwoLone, frame', off', no_branch', steps', four, is_branch, not_six, parting_five, IsParting, five_names, small_frame, small_steps, small_off, small_no_branch}
+use Rattle.embed_contraction.proofs.Separations.{from_name, to_name, ends_at_x, branch_name, hidden, size33, way33, vertex_named, branch33, frame33, edges33}
+use Rattle.embed_contraction.proofs.Lifted.{AreTwoLone, frame', off', no_branch', steps', four, is_branch, not_six, separating_five, IsSeparating, five_names, small_frame, small_steps, small_off, small_no_branch}
 use Rattle.embed_witnesses.specs.Merged.{merged}
 use Rattle.embed_witnesses.proofs.MergedLemmas.{merged_is_contracted}
-use Rattle.embed_witnesses.specs.declared.lifted_witnesses.changes.Parting.{Parting}
+use Rattle.embed_witnesses.specs.declared.lifted_witnesses.changes.Splitting.{Splitting}
 use Rattle.embed_witnesses.specs.declared.lifted_witnesses.changes.Change.{Change}
-use Rattle.embed_witnesses.specs.declared.lifted_witnesses.changes.Change.TheVariants.{Mended, Parted}
-use Rattle.embed_witnesses.specs.Changes.{step_count, named_branch, path_between, link_between, parted_count, parted_place, parted_branch, kind_in, branch_in, count_in, vertex_in, branches_in, path_in, paths_in, IsRight}
+use Rattle.embed_witnesses.specs.declared.lifted_witnesses.changes.Change.TheVariants.{Mended, Split}
+use Rattle.embed_witnesses.specs.Changes.{step_count, named_branch, path_between, link_between, split_count, split_place, split_branch, kind_in, branch_in, count_in, vertex_in, branches_in, path_in, paths_in, IsRight}
 
 -- ---- lists that agree with functions
 right-by : (graph : EdgeGraph) (old : Witness) (change : Change) (branch size : ℕ → ℕ) (way : ℕ → ℕ → ℕ) → ((j : ℕ) → j < branch_count (kind_in change old.kind) → branch_in change old.branch j ≡ branch j) → ((p : ℕ) → p < path_count (kind_in change old.kind) → count_in change old.paths p ≡ size p) → ((p i : ℕ) → p < path_count (kind_in change old.kind) → vertex_in change old.paths p i ≡ way p i) → IsTraced graph (kind_in change old.kind) branch size way → IsRight graph old change
@@ -210,7 +210,7 @@ module _ (graph : EdgeGraph) (a b : ℕ) (edge : IsEdgeOf graph a b) (kind : Kin
   at_a : Lone → (j : ℕ) × (j < branch_count kind) × (B j ≡ a)
   at_a t = is_branch graph kind B S P frame a b edge off no_branch steps t.0 t.1
 
--- ---- K5 parted
+-- ---- K5 split
 module _ (graph : EdgeGraph) (a b : ℕ) (edge : IsEdgeOf graph a b) (branch : List VertexId) (paths : List (List VertexId)) (w : IsWitness (merged graph a b) K5 branch paths) where
   abbrev old5 : Witness
   old5 = record { kind = K5; branch = branch; paths = paths }
@@ -240,7 +240,7 @@ module _ (graph : EdgeGraph) (a b : ℕ) (edge : IsEdgeOf graph a b) (branch : L
     abbrev N : ℕ → ℕ
     N k = named_branch order k
 
-    abbrev cut : Parting
+    abbrev cut : Splitting
     cut = record { a = a; b = b; order = order }
 
     abbrev branch3 : ℕ → ℕ
@@ -252,16 +252,16 @@ module _ (graph : EdgeGraph) (a b : ℕ) (edge : IsEdgeOf graph a b) (branch : L
     abbrev way3 : ℕ → ℕ → ℕ
     way3 p i = way33 graph B5 S5 P5 frame5 a b edge.second edge.joined off5 no_branch5 steps5 N below names_apart is_a p i
 
-    branch_same : (j : ℕ) → j < 6 → parted_branch cut branch j ≡ branch3 j
+    branch_same : (j : ℕ) → j < 6 → split_branch cut branch j ≡ branch3 j
     unfolding branch33 branch_name vertex_named
-    branch_same = each_of_six (λ j. parted_branch cut branch j ≡ branch3 j) refl refl refl refl refl refl
+    branch_same = each_of_six (λ j. split_branch cut branch j ≡ branch3 j) refl refl refl refl refl refl
 
     count : (k l : ℕ) → S5 (link_between (N k) (N l)) ≡ S5 (link_number (N k) (N l))
     count k l = ap S5 (link-is (N k) (N l))
 
-    size_same : (p : ℕ) → p < 9 → parted_count cut paths p ≡ size3 p
+    size_same : (p : ℕ) → p < 9 → split_count cut paths p ≡ size3 p
     unfolding size33 from_name to_name link_size
-    size_same = each_of_nine (λ p. parted_count cut paths p ≡ size3 p) refl (count 0 1) (count 0 2) (count 3 0) (count 3 1) (count 3 2) (count 4 0) (count 4 1) (count 4 2)
+    size_same = each_of_nine (λ p. split_count cut paths p ≡ size3 p) refl (count 0 1) (count 0 2) (count 3 0) (count 3 1) (count 3 2) (count 4 0) (count 4 1) (count 4 2)
 
     abbrev read : ℕ → ℕ → ℕ → ℕ → ℕ
     read k l i m = cond (ltb (N k) (N l)) (P5 m i) (P5 m (S5 m - i))
@@ -270,25 +270,25 @@ module _ (graph : EdgeGraph) (a b : ℕ) (edge : IsEdgeOf graph a b) (branch : L
     unfolding link
     place k l i = ap (read k l i) (link-is (N k) (N l))
 
-    way_same : (p i : ℕ) → p < 9 → parted_place cut paths p i ≡ way3 p i
+    way_same : (p i : ℕ) → p < 9 → split_place cut paths p i ≡ way3 p i
     unfolding way33 from_name to_name ends_at_x hidden
     way_same p i l =
-        each_of_nine (λ p. parted_place cut paths p i ≡ way3 p i) (edge_place i) (place 0 1 i) (place 0 2 i) (ap end (place 3 0 i)) (place 3 1 i) (place 3 2 i) (ap end (place 4 0 i)) (place 4 1 i) (place 4 2 i) p l
+        each_of_nine (λ p. split_place cut paths p i ≡ way3 p i) (edge_place i) (place 0 1 i) (place 0 2 i) (ap end (place 3 0 i)) (place 3 1 i) (place 3 2 i) (ap end (place 4 0 i)) (place 4 1 i) (place 4 2 i) p l
       where
         end : ℕ → ℕ
         end v = cond (eqb v a) b v
 
-        edge_place : (i : ℕ) → parted_place cut paths 0 i ≡ way3 0 i
+        edge_place : (i : ℕ) → split_place cut paths 0 i ≡ way3 0 i
         edge_place zero = refl
         edge_place (suc i) = cond-false (eqb (suc i) 0) a b (ne_eqb (suc i) 0 (λ e. omega arith))
 
-    cut_right : ((k : ℕ) → 0 < k → k < 3 → has_edge graph a (link graph.n B5 S5 P5 frame5 (N 0) (N k) 1) ≡ true) → ((k : ℕ) → 3 ≤ k → k < 5 → has_edge graph b (link graph.n B5 S5 P5 frame5 (N 0) (N k) 1) ≡ true) → IsRight graph old5 (Parted cut)
+    cut_right : ((k : ℕ) → 0 < k → k < 3 → has_edge graph a (link graph.n B5 S5 P5 frame5 (N 0) (N k) 1) ≡ true) → ((k : ℕ) → 3 ≤ k → k < 5 → has_edge graph b (link graph.n B5 S5 P5 frame5 (N 0) (N k) 1) ≡ true) → IsRight graph old5 (Split cut)
     cut_right of_a of_b =
-        right-by graph old5 (Parted cut) branch3 size3 way3 branch_same size_same way_same
+        right-by graph old5 (Split cut) branch3 size3 way3 branch_same size_same way_same
         (traced-frame graph K33 branch3 size3 way3 (frame33 graph B5 S5 P5 frame5 a b edge.second edge.joined off5 no_branch5 steps5 N below names_apart is_a) (edges33 graph B5 S5 P5 frame5 a b edge.second edge.joined off5 no_branch5 steps5 N below names_apart is_a of_a of_b))
 
   -- five names as digits
-  module _ (c0 c1 c2 c3 c4 : ℕ) (t : IsParting graph B5 S5 P5 frame5 a b c0 c1 c2 c3 c4) where
+  module _ (c0 c1 c2 c3 c4 : ℕ) (t : IsSeparating graph B5 S5 P5 frame5 a b c0 c1 c2 c3 c4) where
     abbrev code : ℕ
     code = digits c0 c1 c2 c3 c4
 
@@ -349,8 +349,8 @@ module _ (graph : EdgeGraph) (a b : ℕ) (edge : IsEdgeOf graph a b) (branch : L
     unfolding five_names
     first_is = refl
 
-    parting_right : IsRight graph old5 (Parted (record { a = a; b = b; order = code }))
-    parting_right =
+    splitting_right : IsRight graph old5 (Split (record { a = a; b = b; order = code }))
+    splitting_right =
         let e0 : c0 ≡ named_branch code 0 = sym first_is ∙ name_is 0 (omega arith) in
         let at : (x k : ℕ) → k < 5 → has_edge graph x (link graph.n B5 S5 P5 frame5 c0 (five_names c0 c1 c2 c3 c4 k) 1) ≡ true → has_edge graph x (link graph.n B5 S5 P5 frame5 (named_branch code 0) (named_branch code k) 1) ≡ true = λ x k l h.
         sym (ap₂ (λ u v. has_edge graph x (link graph.n B5 S5 P5 frame5 u v 1)) e0 (name_is k l)) ∙ h in
@@ -366,7 +366,7 @@ module _ (graph : EdgeGraph) (a b : ℕ) (edge : IsEdgeOf graph a b) (branch : L
 pub some_right : (graph : EdgeGraph) (a b : ℕ) → IsEdgeOf graph a b → (kind : Kind) (branch : List VertexId) (paths : List (List VertexId)) → IsWitness (merged graph a b) kind branch paths
     → ((q k : ℕ) → q < 11 → k ≤ step_count paths q → ¬ IsRight graph (record { kind = kind; branch = branch; paths = paths }) (Mended (record { exchange = false; a = a; b = b; path = q; place = k })))
     → ((q k : ℕ) → q < 11 → k ≤ step_count paths q → ¬ IsRight graph (record { kind = kind; branch = branch; paths = paths }) (Mended (record { exchange = true; a = a; b = b; path = q; place = k })))
-    → ((order : ℕ) → order < 3125 → ¬ IsRight graph (record { kind = kind; branch = branch; paths = paths }) (Parted (record { a = a; b = b; order = order })))
+    → ((order : ℕ) → order < 3125 → ¬ IsRight graph (record { kind = kind; branch = branch; paths = paths }) (Split (record { a = a; b = b; order = order })))
     → ⊥
 unfolding frame5 frame
 some_right graph a b edge K33 branch paths w none none' none'' =
@@ -376,5 +376,5 @@ some_right graph a b edge K33 branch paths w none none' none'' =
 some_right graph a b edge K5 branch paths w none none' none'' =
     let t = two_lone graph a b edge K5 branch paths w none none' in
     let r = at_a graph a b edge K5 branch paths w t in
-    let p = parting_five graph (λ j. vertex_at branch j) (λ p. length (path_at paths p) - 1) (λ p i. vertex_at (path_at paths p) i) (frame graph a b edge K5 branch paths w) a b t.0 t.1 r.0 r.1 r.2 in
-    none'' (code graph a b edge branch paths w r.0 p.0 p.1 p.2 p.3 p.4) (code_below graph a b edge branch paths w r.0 p.0 p.1 p.2 p.3 p.4) (parting_right graph a b edge branch paths w r.0 p.0 p.1 p.2 p.3 p.4)
+    let p = separating_five graph (λ j. vertex_at branch j) (λ p. length (path_at paths p) - 1) (λ p i. vertex_at (path_at paths p) i) (frame graph a b edge K5 branch paths w) a b t.0 t.1 r.0 r.1 r.2 in
+    none'' (code graph a b edge branch paths w r.0 p.0 p.1 p.2 p.3 p.4) (code_below graph a b edge branch paths w r.0 p.0 p.1 p.2 p.3 p.4) (splitting_right graph a b edge branch paths w r.0 p.0 p.1 p.2 p.3 p.4)

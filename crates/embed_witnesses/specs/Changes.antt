@@ -1,4 +1,4 @@
--- Witnesses changed: a vertex put into one step of a path, and K5 parted into K3,3.
+-- Witnesses changed: a vertex put into one step of a path, and K5 split into K3,3.
 use Rattle.std.specs.Prelude.{ℕ, suc, ◌+◌, ◌-◌, ◌/◌, ◌%◌, ◌≡◌, ◌&&◌, ◌==◌, nat_lt, if◌then◌else◌, List, map, length}
 use Rattle.std.specs.List.{range_with_len}
 use Rattle.map_lists.specs.declared.ids.VertexId.{VertexId}
@@ -11,9 +11,9 @@ use Rattle.embed_contraction.specs.Traces.{path_count}
 use Rattle.embed_contraction.proofs.Traces.{vertices_of}
 use Rattle.embed_witnesses.specs.Merged.{exchanged_number}
 use Rattle.embed_witnesses.specs.declared.lifted_witnesses.changes.Mending.{Mending}
-use Rattle.embed_witnesses.specs.declared.lifted_witnesses.changes.Parting.{Parting}
+use Rattle.embed_witnesses.specs.declared.lifted_witnesses.changes.Splitting.{Splitting}
 use Rattle.embed_witnesses.specs.declared.lifted_witnesses.changes.Change.{Change}
-use Rattle.embed_witnesses.specs.declared.lifted_witnesses.changes.Change.TheVariants.{Mended, Parted}
+use Rattle.embed_witnesses.specs.declared.lifted_witnesses.changes.Change.TheVariants.{Mended, Split}
 
 -- how many steps path p has
 abbrev pub step_count : List (List VertexId) → ℕ → ℕ
@@ -41,8 +41,8 @@ longer m paths i =
 abbrev pub mended_place : Mending → List (List VertexId) → ℕ → ℕ → ℕ
 mended_place m paths p i = if p == m.path then longer m paths i else moved m (place_in paths p i)
 
--- ---- K5 parted
--- the branch with a name: 0 is parted, the paths to 1 and 2 stay at it, and those to 3 and 4 end at the other vertex
+-- ---- K5 split
+-- the branch with a name: 0 is split, the paths to 1 and 2 stay at it, and those to 3 and 4 end at the other vertex
 abbrev pub named_branch : ℕ → ℕ → ℕ
 named_branch order k =
     if k == 0 then order % 5 else if k == 1 then order / 5 % 5 else if k == 2 then order / 25 % 5 else if k == 3 then order / 125 % 5 else order / 625 % 5
@@ -71,36 +71,36 @@ abbrev pub linked_place : ℕ → List (List VertexId) → ℕ → ℕ → ℕ
 linked_place order paths p i =
     if nat_lt (named_branch order (first_name p)) (named_branch order (second_name p)) then place_in paths (link_of order p) i else place_in paths (link_of order p) (step_count paths (link_of order p) - i)
 
--- where it ends at the vertex that is parted, it ends at the other in its place
-abbrev pub ended : Parting → ℕ → ℕ → ℕ
+-- where it ends at the vertex that is split, it ends at the other in its place
+abbrev pub ended : Splitting → ℕ → ℕ → ℕ
 ended t p v = if (second_name p == 0) && (v == t.a) then t.b else v
 
-abbrev pub parted_count : Parting → List (List VertexId) → ℕ → ℕ
-parted_count t paths p = if p == 0 then 1 else step_count paths (link_of t.order p)
+abbrev pub split_count : Splitting → List (List VertexId) → ℕ → ℕ
+split_count t paths p = if p == 0 then 1 else step_count paths (link_of t.order p)
 
-abbrev pub parted_place : Parting → List (List VertexId) → ℕ → ℕ → ℕ
-parted_place t paths p i = if p == 0 then (if i == 0 then t.a else t.b) else ended t p (linked_place t.order paths p i)
+abbrev pub split_place : Splitting → List (List VertexId) → ℕ → ℕ → ℕ
+split_place t paths p i = if p == 0 then (if i == 0 then t.a else t.b) else ended t p (linked_place t.order paths p i)
 
-abbrev pub parted_branch : Parting → List VertexId → ℕ → ℕ
-parted_branch t branch j =
+abbrev pub split_branch : Splitting → List VertexId → ℕ → ℕ
+split_branch t branch j =
     if j == 3 then t.b else vertex_at branch (named_branch t.order (if j == 0 then 0 else if nat_lt j 3 then j + 2 else j - 3))
 
 -- ---- both
 abbrev pub kind_in : Change → Kind → Kind
 kind_in (Mended m) kind = kind
-kind_in (Parted t) kind = K33
+kind_in (Split t) kind = K33
 
 abbrev pub branch_in : Change → List VertexId → ℕ → ℕ
 branch_in (Mended m) branch j = moved m (vertex_at branch j)
-branch_in (Parted t) branch j = parted_branch t branch j
+branch_in (Split t) branch j = split_branch t branch j
 
 abbrev pub count_in : Change → List (List VertexId) → ℕ → ℕ
 count_in (Mended m) paths p = mended_count m paths p
-count_in (Parted t) paths p = parted_count t paths p
+count_in (Split t) paths p = split_count t paths p
 
 abbrev pub vertex_in : Change → List (List VertexId) → ℕ → ℕ → ℕ
 vertex_in (Mended m) paths p i = mended_place m paths p i
-vertex_in (Parted t) paths p i = parted_place t paths p i
+vertex_in (Split t) paths p i = split_place t paths p i
 
 -- the branches and paths of the changed witness
 abbrev pub branches_in : Change → Witness → List VertexId

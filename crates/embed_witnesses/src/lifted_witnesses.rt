@@ -5,7 +5,7 @@ mod changes;
 mod lifted;
 mod mended;
 mod numbers;
-mod parted;
+mod split;
 mod tried;
 
 pub use lifted::lift;

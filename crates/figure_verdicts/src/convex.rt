@@ -11,8 +11,8 @@ ghost use Rattle.convex_check.specs.Verdicts.{IsConvexVerdict};
 ghost use Rattle.figure_verdicts.specs.Verdicts.{HasBase, IsBendVerdict, IsShapedVerdict};
 
 use crate::FigureVerdict;
-use convex_check::{ConvexVerdict, check_convex};
-use draw_check::{Verdict, check};
+use convex_check::{ConvexVerdict, check_convex_points};
+use draw_check::{Verdict, check_points};
 use half_edges::{HalfMap, VertexId};
 use pg_plane::{Point, Points};
 use std::alloc::{AllocError, Global};
@@ -36,7 +36,7 @@ fn bend_verdict(alloc: Global, map: &HalfMap, points: &Points) -> Result<FigureV
     map.facts();
     match map.first_dart(VertexId(0)) {
         Some(base) => {
-            let verdict = check_convex(alloc, map, base, points)?;
+            let verdict = check_convex_points(alloc, map, base, points)?;
             Ok(of_convex(verdict))
         }
         None => Ok(FigureVerdict::Convex(ConvexVerdict::OuterBent)),
@@ -54,7 +54,7 @@ pub fn convex_verdict(
     requires places { HasPlaces map.now.lists points.now }
     ensures { IfOk result (IsShapedVerdict map.now.lists points.now corner.x corner.y) }
 {
-    match check(map, points, corner) {
+    match check_points(map, points, corner) {
         Verdict::Yes => {
             let verdict = bend_verdict(alloc, map, points)?;
             Ok(verdict)

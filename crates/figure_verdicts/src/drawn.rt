@@ -2,7 +2,7 @@
 ghost use Rattle.std.specs.Prelude.{◌≡◌, ◌+◌, ◌*◌, ◌≤◌, IfOk, ℤ};
 ghost use Rattle.std.specs.Bool.{OnTrue};
 ghost use Rattle.map_theory.specs.Maps.{IsPlane, vertex_count, edge_count, component_count};
-ghost use Rattle.plane_laws.specs.Completed.{IsCompleted};
+ghost use Rattle.plane_laws.specs.Triangulations.{IsTriangulation};
 ghost use Rattle.conn_parts.specs.Counted.{IsCountOf};
 ghost use Rattle.half_edges.specs.Map.{first_dart};
 ghost use Rattle.draw_check.specs.Faults.{HasPlaces};
@@ -13,7 +13,7 @@ ghost use Rattle.draw_check.specs.declared.verdict.Verdict.TheVariants.{Yes as N
 
 use crate::FigureVerdict;
 use draw_check::{
-    FaceVerdict, OuterVerdict, Verdict, check, check_by_faces, check_outer_connected,
+    FaceVerdict, OuterVerdict, Verdict, check_outer_connected, check_points, check_points_by_faces,
     faces_yes_for_fewer,
 };
 use euler_faces::EulerCount;
@@ -22,17 +22,17 @@ use pg_plane::{Point, Points};
 use std::alloc::{AllocError, Global};
 
 // Whether a map with these counts has genus zero, at least three vertices and as many edges as such a map can have.
-fn is_completed(map: &HalfMap, count: EulerCount) -> bool
+fn is_triangulation(map: &HalfMap, count: EulerCount) -> bool
     requires { IsCountOf map.now.lists count }
-    ensures { OnTrue result (IsCompleted map.now.lists) }
+    ensures { OnTrue result (IsTriangulation map.now.lists) }
 {
     map.facts();
     3 <= count.n && count.m + 6 == 3 * count.n && count.n + count.f == 2 * count.c + count.m
 }
 
-// Whether all faces of a drawing of a completed map are drawn well, as seen from the first vertex's first dart.
+// Whether all faces of a drawing of a triangulation are drawn well, as seen from the first vertex's first dart.
 fn is_drawn_well(map: &HalfMap, points: &Points, corner: Point) -> bool
-    requires completed { IsCompleted map.now.lists }
+    requires triangulation { IsTriangulation map.now.lists }
     requires places { HasPlaces map.now.lists points.now }
     ensures { OnTrue result (IsVerdict map.now.lists points.now corner.x corner.y NoFault
         × HasOuterFace map.now.lists points.now (first_dart map.now.lists 0)) }
@@ -40,7 +40,7 @@ fn is_drawn_well(map: &HalfMap, points: &Points, corner: Point) -> bool
     map.facts();
     faces_yes_for_fewer();
     match map.first_dart(VertexId(0)) {
-        Some(base) => match check_by_faces(map, base, points, corner) {
+        Some(base) => match check_points_by_faces(map, base, points, corner) {
             FaceVerdict::Yes => true,
             _ => false,
         },
@@ -55,7 +55,7 @@ fn is_valid_by_faces(map: &HalfMap, count: EulerCount, points: &Points, corner: 
     ensures { OnTrue result (IsVerdict map.now.lists points.now corner.x corner.y NoFault
         × HasOuterFace map.now.lists points.now (first_dart map.now.lists 0)) }
 {
-    if is_completed(map, count) {
+    if is_triangulation(map, count) {
         is_drawn_well(map, points, corner)
     } else {
         false
@@ -115,7 +115,7 @@ pub fn drawn_verdict(
     if is_valid_by_faces(map, count, points, corner) {
         return Ok(FigureVerdict::Yes);
     }
-    match check(map, points, corner) {
+    match check_points(map, points, corner) {
         Verdict::Yes => {
             let verdict = faultless_verdict(alloc, map, count, points)?;
             Ok(verdict)

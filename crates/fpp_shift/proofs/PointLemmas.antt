@@ -4,7 +4,7 @@ use Rattle.std.proofs.lemmas.Int.{ints}
 use Rattle.std.proofs.lemmas.List.{get_or_default}
 use Rattle.map_lists.specs.Lists.{Lists}
 use Rattle.map_theory.specs.Maps.{Dart}
-use Rattle.plane_laws.specs.Completed.{IsCompleted}
+use Rattle.plane_laws.specs.Triangulations.{IsTriangulation}
 use Rattle.canon_order.specs.Orders.{IsCanonicalOrder}
 use Rattle.canon_order.proofs.Counters.{same_place, all_of_them}
 use Rattle.contour_runs.specs.Runs.{Step}
@@ -28,7 +28,7 @@ way-more nodes r (w ∷ us) v u way leads = (way.0, way-more nodes w us v u way.
 within-small : (k : ℕ) → k < 1048577 → IsWithin (pos 1048576) (pos k)
 within-small k l = record { least = omega (arith, ints); most = omega (arith, ints) }
 
-module _ (lists : Lists) (base : Dart) (at : List ℕ) (nodes : List Node) (completed : IsCompleted lists) (few : length lists < 4096) (order : IsCanonicalOrder lists base at) (steps : ℕ → Step) (run : IsOrderRun lists base at order.cycle steps) (count : length nodes ≡ length lists) (made : IsTreeOf lists at nodes) where
+module _ (lists : Lists) (base : Dart) (at : List ℕ) (nodes : List Node) (triangulation : IsTriangulation lists) (few : length lists < 4096) (order : IsCanonicalOrder lists base at) (steps : ℕ → Step) (run : IsOrderRun lists base at order.cycle steps) (count : length nodes ≡ length lists) (made : IsTreeOf lists at nodes) where
   abbrev name : ℕ → ℕ
   name k = get_or at k 0
 
@@ -45,7 +45,7 @@ module _ (lists : Lists) (base : Dart) (at : List ℕ) (nodes : List Node) (comp
   tree = made base order steps run
 
   many : 3 ≤ length at
-  many = omega (arith, completed.some, order.count)
+  many = omega (arith, triangulation.some, order.count)
 
   some : 1 ≤ n
   some = omega (arith, many)

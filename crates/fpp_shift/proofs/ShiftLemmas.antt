@@ -4,7 +4,7 @@ use Rattle.std.proofs.lemmas.Int.{ints}
 use Rattle.pg_plane.specs.declared.point.Point.{Point}
 use Rattle.map_lists.specs.Lists.{Lists}
 use Rattle.map_theory.specs.Maps.{Dart, HasDart}
-use Rattle.plane_laws.specs.Completed.{IsCompleted}
+use Rattle.plane_laws.specs.Triangulations.{IsTriangulation}
 use Rattle.plane_drawings.specs.Drawing.{IsInGrid}
 use Rattle.canon_order.specs.Orders.{IsCanonicalOrder}
 use Rattle.order_drawings.specs.RunDrawings.{IsCounterclockwiseRun, CounterclockwiseRunDraws}
@@ -15,7 +15,7 @@ use Rattle.fpp_shift.proofs.Opening.{opened_run}
 use Rattle.fpp_shift.proofs.Corners.{in_grid, cornered, base_clockwise}
 use Rattle.fpp_shift.specs.ShiftDrawings.{AreShiftPoints, IsShiftDrawing}
 
-module _ (lists : Lists) (base : Dart) (at : List ℕ) (points : List Point) (completed : IsCompleted lists) (dart : HasDart lists base.0 base.1) (order : IsCanonicalOrder lists base at) (h : AreShiftPoints lists base at order.cycle points) where
+module _ (lists : Lists) (base : Dart) (at : List ℕ) (points : List Point) (triangulation : IsTriangulation lists) (dart : HasDart lists base.0 base.1) (order : IsCanonicalOrder lists base at) (h : AreShiftPoints lists base at order.cycle points) where
   abbrev last : ℕ
   last = length at - 2
 
@@ -23,7 +23,7 @@ module _ (lists : Lists) (base : Dart) (at : List ℕ) (points : List Point) (co
   point = point_of (shift_points h.steps last)
 
   some_at : 3 ≤ length at
-  some_at = let c = order.count in let s = completed.some in omega arith
+  some_at = let c = order.count in let s = triangulation.some in omega arith
 
   good : IsCounterclockwiseRun h.steps (length at) point
   good =
@@ -42,7 +42,7 @@ module _ (lists : Lists) (base : Dart) (at : List ℕ) (points : List Point) (co
 
   pub drawing : CounterclockwiseRunDraws → IsShiftDrawing lists base points
   drawing law =
-      let d = law lists base at h.steps point points completed dart order h.order good h.placed in
+      let d = law lists base at h.steps point points triangulation dart order h.order good h.placed in
       let n = order.count in
       let some = some_at in
       let c = corners in

@@ -5,15 +5,15 @@ use Rattle.std.proofs.Math.Seq.{get_or-append_seam}
 use Rattle.map_lists.specs.Lists.{Lists}
 use Rattle.map_theory.specs.Maps.{Dart, HasDart, follows}
 use Rattle.map_theory.proofs.DartLemmas.{HasDart-follows}
-use Rattle.plane_laws.specs.Completed.{IsCompleted}
+use Rattle.plane_laws.specs.Triangulations.{IsTriangulation}
 use Rattle.canon_order.specs.Orders.{IsPutOn, IsCanonicalOrder, IsRankOf}
-use Rattle.canon_order.specs.Laws.{RunEnds}
+use Rattle.canon_order.specs.Laws.{RowEnds}
 use Rattle.contour_runs.specs.Runs.{Step, Stage, stage_after}
 use Rattle.order_drawings.specs.OrderRuns.{IsOrderRun}
 use Rattle.order_drawings.proofs.OrderRunsOrderRows.{IsRowOf, row_of}
 use Rattle.fpp_shift.specs.ShiftTreesRows.{BeginsRow, EndsRow, HasRow}
 
-module _ (lists : Lists) (base : Dart) (at ranks : List ℕ) (completed : IsCompleted lists) (order : IsCanonicalOrder lists base at) (rank : IsRankOf ranks at) (steps : ℕ → Step) (run : IsOrderRun lists base at order.cycle steps) (k : ℕ) (l : k + 2 < length at) where
+module _ (lists : Lists) (base : Dart) (at ranks : List ℕ) (triangulation : IsTriangulation lists) (order : IsCanonicalOrder lists base at) (rank : IsRankOf ranks at) (steps : ℕ → Step) (run : IsOrderRun lists base at order.cycle steps) (k : ℕ) (l : k + 2 < length at) where
   abbrev name : ℕ → ℕ
   name k = get_or at k 0
 
@@ -36,7 +36,7 @@ module _ (lists : Lists) (base : Dart) (at ranks : List ℕ) (completed : IsComp
   s = steps k
 
   row : IsRowOf lists at ranks steps k v ws
-  row = row_of lists base at ranks completed order rank steps run k l
+  row = row_of lists base at ranks triangulation order rank steps run k l
 
   length-ws : length ws ≡ length put.middle + 2
   length-ws = omega (arith, length-append put.middle (put.q ∷ []))
@@ -60,17 +60,17 @@ module _ (lists : Lists) (base : Dart) (at ranks : List ℕ) (completed : IsComp
       let e : s.last ≡ s.first + top = omega arith in
       ap (λ i. name (g.vertex i)) e ∙ row.named top (omega arith) ∙ q_at top (omega arith)
 
-  module _ (ends : RunEnds) where
+  module _ (ends : RowEnds) where
     begin : BeginsRow lists ranks (k + 2) v put.p
     begin =
         let some : 0 < length ws = omega (arith, length-ws) in
         let dart = row.dart 0 some in
-        let next = completed.simple.in_range v (follows lists v put.p) (HasDart-follows lists v put.p dart) in
+        let next = triangulation.simple.in_range v (follows lists v put.p) (HasDart-follows lists v put.p dart) in
         record {
           dart = dart;
           earlier = row.earlier 0 some;
           begins = elim (cases_lt (suc (k + 2)) (length at)) [
-            | inl more ↦ inr (row.is_later (follows lists v put.p) next (ends lists base at completed order (k + 2) later l more).after)
+            | inl more ↦ inr (row.is_later (follows lists v put.p) next (ends lists base at triangulation order (k + 2) later l more).after)
             | inr last ↦
                 let z = (row.whole (omega arith)).0 in
                 let d : s.first + 0 ≡ 0 = omega arith in
@@ -107,7 +107,7 @@ module _ (lists : Lists) (base : Dart) (at ranks : List ℕ) (completed : IsComp
           dart = subst (HasDart lists v) q (row.dart top m);
           earlier = omega (arith, row.earlier top m, ap (λ u. get_or ranks u 0) q);
           ends = elim (cases_lt (suc (k + 2)) (length at)) [
-            | inl more ↦ inr (λ w dart f. row.is_later w (completed.simple.in_range v w dart) ((ends lists base at completed order (k + 2) later l more).before w dart f))
+            | inl more ↦ inr (λ w dart f. row.is_later w (triangulation.simple.in_range v w dart) ((ends lists base at triangulation order (k + 2) later l more).before w dart f))
             | inr last ↦
                 let z = (row.whole (omega arith)).1 in
                 let at_end = row.stage.end (s.first + top) (omega (arith, row.reach, length-ws)) in

@@ -5,7 +5,7 @@ use Rattle.std.proofs.lemmas.Option.{get_or_from_slice_get, slice_get_within}
 use Rattle.map_lists.specs.Lists.{Lists}
 use Rattle.map_lists.specs.declared.ids.VertexId.{VertexId}
 use Rattle.map_theory.specs.Maps.{Dart}
-use Rattle.plane_laws.specs.Completed.{IsCompleted}
+use Rattle.plane_laws.specs.Triangulations.{IsTriangulation}
 use Rattle.canon_order.specs.Orders.{IsCanonicalOrder, IsRankOf}
 use Rattle.canon_order.proofs.Counters.{same_place}
 use Rattle.contour_runs.specs.Runs.{Step, stage_after, faces_made}
@@ -30,12 +30,12 @@ AreUsesTo lists at old new k = (base : Dart) (order : IsCanonicalOrder lists bas
 pub vertex-is : (vs : List VertexId) (k : ℕ) (v : VertexId) → slice_get vs k ≡ Some v → get_or (map (λ v. v.0) vs) k 0 ≡ v.0
 vertex-is vs k v e = get_or-map (λ v. v.0) vs k v 0 (slice_get_within vs k v e) ∙ ap (λ v. v.0) (get_or_from_slice_get vs k v v e)
 
-module _ (lists : Lists) (base : Dart) (at ranks : List ℕ) (completed : IsCompleted lists) (order : IsCanonicalOrder lists base at) (rank : IsRankOf ranks at) (steps : ℕ → Step) (run : IsOrderRun lists base at order.cycle steps) (found : OrderHasRows) (few : length at < 4096) (nodes : List Node) (count : length nodes ≡ length at) where
+module _ (lists : Lists) (base : Dart) (at ranks : List ℕ) (triangulation : IsTriangulation lists) (order : IsCanonicalOrder lists base at) (rank : IsRankOf ranks at) (steps : ℕ → Step) (run : IsOrderRun lists base at order.cycle steps) (found : OrderHasRows) (few : length at < 4096) (nodes : List Node) (count : length nodes ≡ length at) where
   -- the next step of the order
   pub IsNextStep-order : (j k v p q : ℕ) → j + 2 ≡ k → k < length at → IsTreeTo lists at nodes k → get_or at k 0 ≡ v → BeginsRow lists ranks k v p → EndsRow lists ranks k v q → IsNextStep at steps j nodes v p q
   IsNextStep-order j k v p q d l tree e begin end =
       let l' : j + 2 < length at = omega arith in
-      let row = found lists base at ranks completed order rank steps run j l' in
+      let row = found lists base at ranks triangulation order rank steps run j l' in
       let new : get_or at (j + 2) 0 ≡ v = ap (λ i. get_or at i 0) d ∙ e in
       record {
         run = IsRun-less steps (suc j) (length at - 2) (omega arith) run.run;
@@ -51,12 +51,12 @@ module _ (lists : Lists) (base : Dart) (at ranks : List ℕ) (completed : IsComp
       }
 
 -- each vertex from the third on has a row
-pub row-at : (lists : Lists) (base : Dart) (at ranks : List ℕ) → IsCompleted lists → IsCanonicalOrder lists base at → IsRankOf ranks at → OrderIsRun → OrderHasRows → (k v : ℕ) → 2 ≤ k → k < length at → get_or at k 0 ≡ v → ((p : ℕ) × BeginsRow lists ranks k v p) × ((q : ℕ) × EndsRow lists ranks k v q)
-row-at lists base at ranks completed order rank runs found k v low l e =
-    let run = runs lists base at completed order in
+pub row-at : (lists : Lists) (base : Dart) (at ranks : List ℕ) → IsTriangulation lists → IsCanonicalOrder lists base at → IsRankOf ranks at → OrderIsRun → OrderHasRows → (k v : ℕ) → 2 ≤ k → k < length at → get_or at k 0 ≡ v → ((p : ℕ) × BeginsRow lists ranks k v p) × ((q : ℕ) × EndsRow lists ranks k v q)
+row-at lists base at ranks triangulation order rank runs found k v low l e =
+    let run = runs lists base at triangulation order in
     let j : ℕ = k - 2 in
     let d : j + 2 ≡ k = omega arith in
-    let row = found lists base at ranks completed order rank run.0 run.1 j (omega arith) in
+    let row = found lists base at ranks triangulation order rank run.0 run.1 j (omega arith) in
     let new : get_or at (j + 2) 0 ≡ v = ap (λ i. get_or at i 0) d ∙ e in (
       (get_or at ((stage_after run.0 j).vertex (run.0 j).first) 0, subst (λ i. BeginsRow lists ranks i v (get_or at ((stage_after run.0 j).vertex (run.0 j).first) 0)) d (subst (λ v. BeginsRow lists ranks (j + 2) v (get_or at ((stage_after run.0 j).vertex (run.0 j).first) 0)) new row.begin)),
       (get_or at ((stage_after run.0 j).vertex (run.0 j).last) 0, subst (λ i. EndsRow lists ranks i v (get_or at ((stage_after run.0 j).vertex (run.0 j).last) 0)) d (subst (λ v. EndsRow lists ranks (j + 2) v (get_or at ((stage_after run.0 j).vertex (run.0 j).last) 0)) new row.end)),

@@ -1,8 +1,8 @@
--- Drawings of completed maps by shift points.
+-- Drawings of triangulations by shift points.
 use Rattle.std.specs.Prelude.{ℕ, ◌-◌, ◌*◌, ◌<◌, ◌≡◌, List, length, slice_index, pos}
 use Rattle.map_lists.specs.Lists.{Lists}
 use Rattle.map_theory.specs.Maps.{Dart, HasDart, follows}
-use Rattle.plane_laws.specs.Completed.{IsCompleted}
+use Rattle.plane_laws.specs.Triangulations.{IsTriangulation}
 use Rattle.pg_plane.specs.declared.point.Point.{Point}
 use Rattle.plane_drawings.specs.Drawing.{place, IsInGrid, IsPlaneDrawing, KeepsRotations, IsCounterclockwise}
 use Rattle.canon_order.specs.Orders.{IsCanonicalOrder}
@@ -30,13 +30,13 @@ pub record IsShiftDrawing (lists : Lists) (base : Dart) (points : List Point) : 
 -- Shift points are such a drawing.
 abbrev pub ShiftPointsDraw : Type 0
 ShiftPointsDraw =
-    (lists : Lists) (base : Dart) (at : List ℕ) (points : List Point) → IsCompleted lists → HasDart lists base.0 base.1 → (order : IsCanonicalOrder lists base at) → AreShiftPoints lists base at order.cycle points → IsShiftDrawing lists base points
+    (lists : Lists) (base : Dart) (at : List ℕ) (points : List Point) → IsTriangulation lists → HasDart lists base.0 base.1 → (order : IsCanonicalOrder lists base at) → AreShiftPoints lists base at order.cycle points → IsShiftDrawing lists base points
 
 -- Each canonical order has shift points.
 abbrev pub SomeShiftPoints : Type 0
 SomeShiftPoints =
-    (lists : Lists) (base : Dart) (at : List ℕ) → IsCompleted lists → (order : IsCanonicalOrder lists base at) → (points : List Point) × AreShiftPoints lists base at order.cycle points
+    (lists : Lists) (base : Dart) (at : List ℕ) → IsTriangulation lists → (order : IsCanonicalOrder lists base at) → (points : List Point) × AreShiftPoints lists base at order.cycle points
 
--- So each completed map has such a drawing, for each base dart.
+-- So each triangulation has such a drawing, for each base dart.
 abbrev pub SomeShiftDrawing : Type 0
-SomeShiftDrawing = (lists : Lists) (base : Dart) → IsCompleted lists → HasDart lists base.0 base.1 → (points : List Point) × IsShiftDrawing lists base points
+SomeShiftDrawing = (lists : Lists) (base : Dart) → IsTriangulation lists → HasDart lists base.0 base.1 → (points : List Point) × IsShiftDrawing lists base points

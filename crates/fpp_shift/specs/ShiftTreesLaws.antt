@@ -3,7 +3,7 @@ use Rattle.std.specs.Prelude.{ℕ, ◌-◌, ◌<◌, ◌≡◌, List, length, sl
 use Rattle.map_lists.specs.Lists.{Lists}
 use Rattle.map_theory.specs.Maps.{Dart}
 use Rattle.pg_plane.specs.declared.point.Point.{Point}
-use Rattle.plane_laws.specs.Completed.{IsCompleted}
+use Rattle.plane_laws.specs.Triangulations.{IsTriangulation}
 use Rattle.canon_order.specs.Orders.{IsCanonicalOrder}
 use Rattle.order_drawings.specs.OrderRuns.{IsOrderRun}
 use Rattle.contour_runs.specs.Runs.{Step}
@@ -18,7 +18,7 @@ pub record AddsUp (at : List ℕ) (steps : ℕ → Step) (nodes : List Node) : T
   pub tree : IsTree nodes (slice_index at 0)
   pub points : (points : List Point) → ArePointsOf nodes (slice_index at 0) points → (k : ℕ) → k < length at → place points (slice_index at k) ≡ point_of (shift_points steps (length at - 2)) k
 
--- So does the tree of offsets of each canonical order of a completed map.
+-- So does the tree of offsets of each canonical order of a triangulation.
 abbrev pub OffsetTreeAddsUp : Type 0
 OffsetTreeAddsUp =
-    (lists : Lists) (base : Dart) (at : List ℕ) (nodes : List Node) → IsCompleted lists → length lists < 4096 → (order : IsCanonicalOrder lists base at) → (steps : ℕ → Step) → IsOrderRun lists base at order.cycle steps → length nodes ≡ length lists → IsTreeOf lists at nodes → AddsUp at steps nodes
+    (lists : Lists) (base : Dart) (at : List ℕ) (nodes : List Node) → IsTriangulation lists → length lists < 4096 → (order : IsCanonicalOrder lists base at) → (steps : ℕ → Step) → IsOrderRun lists base at order.cycle steps → length nodes ≡ length lists → IsTreeOf lists at nodes → AddsUp at steps nodes

@@ -2,7 +2,7 @@
 use Rattle.std.specs.Prelude.{ℕ, ◌+◌, ◌<◌, ◌≤◌, ◌≡◌, ◌⊎◌, List, length, slice_index}
 use Rattle.map_lists.specs.Lists.{Lists}
 use Rattle.map_theory.specs.Maps.{Dart, HasDart, follows}
-use Rattle.plane_laws.specs.Completed.{IsCompleted}
+use Rattle.plane_laws.specs.Triangulations.{IsTriangulation}
 use Rattle.canon_order.specs.Orders.{IsCanonicalOrder, IsRankOf}
 use Rattle.order_drawings.specs.OrderRuns.{IsOrderRun}
 use Rattle.contour_runs.specs.Runs.{Step, stage_after}
@@ -29,5 +29,5 @@ pub record HasRow (lists : Lists) (ranks : List ℕ) (k v p q : ℕ) : Type 0 wh
 -- So each vertex of a canonical order from the third on has a row, from the first vertex of a step of the order's run to the last.
 abbrev pub OrderHasRows : Type 0
 OrderHasRows =
-    (lists : Lists) (base : Dart) (at ranks : List ℕ) → IsCompleted lists → (order : IsCanonicalOrder lists base at) → IsRankOf ranks at → (steps : ℕ → Step) → IsOrderRun lists base at order.cycle steps
+    (lists : Lists) (base : Dart) (at ranks : List ℕ) → IsTriangulation lists → (order : IsCanonicalOrder lists base at) → IsRankOf ranks at → (steps : ℕ → Step) → IsOrderRun lists base at order.cycle steps
     → (k : ℕ) → k + 2 < length at → HasRow lists ranks (k + 2) (slice_index at (k + 2)) (slice_index at ((stage_after steps k).vertex (steps k).first)) (slice_index at ((stage_after steps k).vertex (steps k).last))

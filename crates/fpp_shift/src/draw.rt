@@ -1,7 +1,7 @@
 //! Drawings by the shift method.
 ghost use Rattle.std.specs.Prelude.{◌≡◌, ◌<◌, ◌-◌, ◌*◌, pos, IfOk};
 ghost use Rattle.map_theory.specs.Maps.{Dart, HasDart, vertex_count};
-ghost use Rattle.plane_laws.specs.Completed.{IsCompleted};
+ghost use Rattle.plane_laws.specs.Triangulations.{IsTriangulation};
 ghost use Rattle.canon_order.specs.Orders.{IsCanonicalOrder, IsRankOf, vertices_of};
 ghost use Rattle.fpp_shift.specs.ShiftDrawings.{AreShiftPoints, IsShiftDrawing};
 
@@ -26,7 +26,7 @@ fn tree_points<L: Ledger>(
     requires name { blank.name ≡ L.name }
     requires parts { blank.parts ≡ L.parts }
     requires some { 0 < blank.parts }
-    requires completed { IsCompleted tri.now.lists }
+    requires triangulation { IsTriangulation tri.now.lists }
     requires order { (base : Dart) × IsCanonicalOrder tri.now.lists base (vertices_of order.now) }
     requires rank { IsRankOf order.now.rank (vertices_of order.now) }
     ensures { IfOk result (λ points. (base : Dart) (canonical : IsCanonicalOrder tri.now.lists base (vertices_of order.now))
@@ -42,7 +42,7 @@ fn tree_points<L: Ledger>(
     Ok(points)
 }
 
-/// The drawing of a completed map by the shift method, for a canonical order of it: a simple map of genus
+/// The drawing of a triangulation by the shift method, for a canonical order of it: a simple map of genus
 /// zero with n >= 3 vertices and 3n - 6 edges.
 ///
 /// It is plane and keeps the rotations, in the grid 2n - 4 by n - 2. The order's first vertex stands at
@@ -55,7 +55,7 @@ fn tree_points<L: Ledger>(
 /// Source: de Fraysseix, Pach, Pollack, How to draw a planar graph on a grid, 1990; the offsets: Chrobak,
 /// Payne, A linear-time algorithm for drawing a planar graph on a grid, 1995.
 pub fn shift_draw(alloc: Global, tri: &HalfMap, order: &Order) -> Result<GridFigure, ShiftFault>
-    requires completed { IsCompleted tri.now.lists }
+    requires triangulation { IsTriangulation tri.now.lists }
     requires order { (base : Dart) × IsCanonicalOrder tri.now.lists base (vertices_of order.now) }
     requires rank { IsRankOf order.now.rank (vertices_of order.now) }
     ensures points { IfOk result (λ figure. (base : Dart) (canonical : IsCanonicalOrder tri.now.lists base (vertices_of order.now))

@@ -2,7 +2,7 @@
 
 use std::alloc::AllocError;
 
-/// Why a completed map got no drawing by the shift method.
+/// Why a triangulation got no drawing by the shift method.
 #[derive(Clone, Copy, PartialEq, Eq)]
 pub enum ShiftFault {
     /// There was not enough memory.

@@ -1,4 +1,4 @@
-//! Drawings of completed maps by the shift method of de Fraysseix, Pach and Pollack (1990), in linear time, and
+//! Drawings of triangulations by the shift method of de Fraysseix, Pach and Pollack (1990), in linear time, and
 //! the tree of offsets by which they are made.
 #![tactic(auto)]
 

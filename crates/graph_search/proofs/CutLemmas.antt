@@ -1,4 +1,4 @@
--- A vertex is a cut vertex exactly where it has a parted child.
+-- A vertex is a cut vertex exactly where it has a separated child.
 use Rattle.std.proofs.Common.{◌≡◌, ◌≢◌, ℕ, zero, suc, ◌+◌, ◌<◌, ◌≤◌, [], ◌∷◌, length, Contains, sym, ap, ◌∙◌, subst, inl, inr, arith}
 use Rattle.std.proofs.lemmas.Bool.{cases_eq, cases_lt}
 use Rattle.map_lists.specs.Lists.{Lists}
@@ -8,7 +8,7 @@ use Rattle.graph_search.specs.Forests.{IsAdjacency, Holds, IsForest}
 use Rattle.graph_search.specs.Lows.{IsWithin, IsLow}
 use Rattle.graph_search.proofs.ForestLemmas.{same_vertex, IsWithin-itself, IsWithin-cases, IsWithin-ends, IsWithin-parent, Holds-edge, child_towards}
 use Rattle.graph_search.specs.Cuts.{IsCutVertex}
-use Rattle.graph_search.specs.Flags.{IsPartedChild, Walks, AreLinked}
+use Rattle.graph_search.specs.Flags.{IsSeparatedChild, Walks, AreLinked}
 use Rattle.graph_search.proofs.WalkLemmas.{Off, linked_itself, linked_weaker, linked_chained, linked_dart, linked_turned, walks_keep, linked_path, path_linked_by}
 
 -- avoiding one vertex
@@ -62,14 +62,14 @@ module _ (lists : Lists) (adjacency : IsAdjacency lists) (order number last pare
   climb_below v u w l m i less = linked_weaker lists (IsBetween number (number u) (number w)) (λ x. x ≢ v) (λ x q b e. (let to = b.to in let same = ap number e in omega arith)) w u (climb u w l m i)
 
   module _ (low : ℕ → ℕ) (lows : (v : ℕ) → v < length lists → IsLow lists number last v (low v)) (v : ℕ) (l : v < length lists) where
-    -- what a parted child holds, and a neighbour of that, is held by it, but for v
-    stays : (c : ℕ) → IsPartedChild (length lists) number parent low v c → (x y : ℕ) → HasDart lists x y → y ≢ v → IsWithin number last c x → IsWithin number last c y
-    stays c parted x y has ne i =
-        let k = parted.vertex in
+    -- what a separated child holds, and a neighbour of that, is held by it, but for v
+    stays : (c : ℕ) → IsSeparatedChild (length lists) number parent low v c → (x y : ℕ) → HasDart lists x y → y ≢ v → IsWithin number last c x → IsWithin number last c y
+    stays c separated x y has ne i =
+        let k = separated.vertex in
         let x_in = has.0 in
         let y_in = adjacency.in_range x y has in
-        let p : parent c < length lists = rw parted.child l in
-        let held : Holds number last v c = subst (λ z. Holds number last z c) parted.child (f.held c k p) in
+        let p : parent c < length lists = rw separated.child l in
+        let held : Holds number last v c = subst (λ z. Holds number last z c) separated.child (f.held c k p) in
         let ends = IsWithin-ends lists order number last parent f c x k x_in i in
         let before = f.edges x y has in
         let from = i.from in
@@ -81,7 +81,7 @@ module _ (lists : Lists) (adjacency : IsAdjacency lists) (order number last pare
         elim (cases_lt (parent v) (length lists)) [
           | inl inner ↦
               let least = (lows c k).least y (record { w = x; within = i; dart = has }) in
-              let q = parted.from_parent inner in
+              let q = separated.from_parent inner in
               omega arith
           | inr top ↦ elim (cases_lt (number y) (number v)) [
             | inl less ↦
@@ -94,7 +94,7 @@ module _ (lists : Lists) (adjacency : IsAdjacency lists) (order number last pare
           | inl less ↦
               let b = f.edges y x (adjacency.both_ways x y has) in
               let near = f.nearest y c y_in k (record { after = less; before = omega arith }) in
-              absurd (let q = ap number parted.child in omega arith)
+              absurd (let q = ap number separated.child in omega arith)
           | inr more ↦ record { from = more; before = omega arith }
         ]
 
@@ -105,11 +105,11 @@ module _ (lists : Lists) (adjacency : IsAdjacency lists) (order number last pare
       pub dart : HasDart lists v x
       pub outside : number x < number c
 
-    far_side : (c : ℕ) → IsPartedChild (length lists) number parent low v c → (x : ℕ) × IsFarSide c x
-    far_side c parted =
-        let k = parted.vertex in
-        let p : parent c < length lists = rw parted.child l in
-        let held : Holds number last v c = subst (λ z. Holds number last z c) parted.child (f.held c k p) in
+    far_side : (c : ℕ) → IsSeparatedChild (length lists) number parent low v c → (x : ℕ) × IsFarSide c x
+    far_side c separated =
+        let k = separated.vertex in
+        let p : parent c < length lists = rw separated.child l in
+        let held : Holds number last v c = subst (λ z. Holds number last z c) separated.child (f.held c k p) in
         let after = held.after in
         elim (cases_lt (parent v) (length lists)) [
           | inl inner ↦
@@ -123,7 +123,7 @@ module _ (lists : Lists) (adjacency : IsAdjacency lists) (order number last pare
                 },
               )
           | inr top ↦
-              let later = parted.from_first top in
+              let later = separated.from_first top in
               let c_number = f.numbered c k in
               let next = number v + 1 in
               let next_in : next < length lists = omega arith in
@@ -146,14 +146,14 @@ module _ (lists : Lists) (adjacency : IsAdjacency lists) (order number last pare
               )
         ]
 
-    -- THE FIRST HALF: a vertex with a parted child is a cut vertex
-    pub IsCutVertex-parted : (c : ℕ) → IsPartedChild (length lists) number parent low v c → IsCutVertex lists v
-    IsCutVertex-parted c parted =
-        let k = parted.vertex in
-        let p : parent c < length lists = rw parted.child l in
-        let dart : HasDart lists v c = subst (λ z. HasDart lists z c) parted.child (f.adjacent c k p) in
-        let held : Holds number last v c = subst (λ z. Holds number last z c) parted.child (f.held c k p) in
-        let far = far_side c parted in
+    -- THE FIRST HALF: a vertex with a separated child is a cut vertex
+    pub IsCutVertex-separated : (c : ℕ) → IsSeparatedChild (length lists) number parent low v c → IsCutVertex lists v
+    IsCutVertex-separated c separated =
+        let k = separated.vertex in
+        let p : parent c < length lists = rw separated.child l in
+        let dart : HasDart lists v c = subst (λ z. HasDart lists z c) separated.child (f.adjacent c k p) in
+        let held : Holds number last v c = subst (λ z. Holds number last z c) separated.child (f.held c k p) in
+        let far = far_side c separated in
         let c_other : c ≢ v = λ e. (let a = held.after in let q = ap number e in omega arith) in
         let through = linked_chained lists (Off []) c v far.0
         (linked_dart lists adjacency (Off []) c v (adjacency.both_ways v c dart) (off_none c) (off_none v))
@@ -168,14 +168,14 @@ module _ (lists : Lists) (adjacency : IsAdjacency lists) (order number last pare
             joined = path.1;
             apart = λ other j.
                 let w = linked_path lists adjacency (v ∷ []) c far.0 other j in
-                let within = walks_keep lists adjacency (Off (v ∷ [])) (IsWithin number last c) (λ x y has off i. stays c parted x y has (ne_off v y off) i) w.0 c far.0 w.1 (IsWithin-itself lists order number last parent f c k) in
+                let within = walks_keep lists adjacency (Off (v ∷ [])) (IsWithin number last c) (λ x y has off i. stays c separated x y has (ne_off v y off) i) w.0 c far.0 w.1 (IsWithin-itself lists order number last parent f c k) in
                 let outside = far.1.outside in
                 let from = within.from in
                 omega arith;
           },
         )
 
-    module _ (none : (c : ℕ) → ¬ IsPartedChild (length lists) number parent low v c) where
+    module _ (none : (c : ℕ) → ¬ IsSeparatedChild (length lists) number parent low v c) where
       abbrev Apart : ℕ → Type 0
       Apart x = x ≢ v
 
@@ -268,13 +268,13 @@ module _ (lists : Lists) (adjacency : IsAdjacency lists) (order number last pare
             ],
           )
 
-      -- THE SECOND HALF: a vertex without a parted child is none
+      -- THE SECOND HALF: a vertex without a separated child is none
       pub not_IsCutVertex : ¬ IsCutVertex lists v
       not_IsCutVertex cut =
           let s = cut.0 in
           let t = cut.1 in
-          let parted = cut.2 in
-          let w = linked_path lists adjacency [] s t parted.path parted.joined in
-          let round = (walk_round w.0 s t w.1 (ne_off v t parted.t_off)).0 (ne_off v s parted.s_off) in
+          let separated = cut.2 in
+          let w = linked_path lists adjacency [] s t separated.path separated.joined in
+          let round = (walk_round w.0 s t w.1 (ne_off v t separated.t_off)).0 (ne_off v s separated.s_off) in
           let path = path_linked_by lists adjacency (v ∷ []) s t (linked_weaker lists Apart (Off (v ∷ [])) (λ x q ne. off_one v x ne) s t round) in
-          parted.apart path.0 path.1
+          separated.apart path.0 path.1

@@ -14,5 +14,5 @@ mod Cases
 mod MapCutsRefused
 -- The lemmas on sums, and on runs over arcs.
 pub mod Sums
-mod Runs
+mod Progress
 mod LongestPathsRefused

@@ -1,6 +1,6 @@
 -- A number that a wrong body would give.
 use Rattle.std.proofs.Common.{[], ◌∷◌, ⊎_elim, arith}
-use Rattle.graph_search.specs.Runs.{IsRaised}
+use Rattle.graph_search.specs.Progress.{IsRaised}
 
 -- a greater number lowered to that of a shorter path
 shortest_paths : IsRaised (1 ∷ 5 ∷ []) (1 ∷ 2 ∷ []) 0 1 → ⊥

@@ -5,15 +5,15 @@ use Rattle.std.proofs.lemmas.List.Elements.{All-get_or}
 use Rattle.map_lists.specs.Lists.{Lists}
 use Rattle.map_theory.specs.Maps.{HasDart}
 use Rattle.map_theory.specs.Paths.{JoinsAvoiding}
-use Rattle.graph_search.specs.Cuts.{AreParted, IsCutVertex, IsSeparatingPair, IsLeastCutVertex}
+use Rattle.graph_search.specs.Cuts.{AreSeparated, IsCutVertex, IsSeparatingPair, IsLeastCutVertex}
 
 -- the middle of a star of three edges and one leaf part the two other leaves
 abbrev star : Lists
 star = (1 ∷ 2 ∷ 3 ∷ []) ∷ (0 ∷ []) ∷ (0 ∷ []) ∷ (0 ∷ []) ∷ []
 
 -- any vertices with the middle, but without two of the leaves, part these two
-parted : (avoided : List ℕ) → Contains avoided 0 → ¬ Contains avoided 1 → ¬ Contains avoided 2 → AreParted star avoided 1 2
-parted avoided middle one_off two_off = record {
+separated : (avoided : List ℕ) → Contains avoided 0 → ¬ Contains avoided 1 → ¬ Contains avoided 2 → AreSeparated star avoided 1 2
+separated avoided middle one_off two_off = record {
   s_off = one_off;
   t_off = two_off;
   path = 1 ∷ 0 ∷ 2 ∷ [];
@@ -45,7 +45,7 @@ parted avoided middle one_off two_off = record {
 -- the flag of the leaf, which is no cut vertex of the rest, taken for that of the middle
 flag_of_the_other_vertex : ¬ IsSeparatingPair star 0 3 → ⊥
 flag_of_the_other_vertex refuse =
-    refuse (omega arith, omega arith, 1, 2, parted (0 ∷ 3 ∷ []) (0, omega arith, refl) (off 1 (omega arith) (omega arith)) (off 2 (omega arith) (omega arith)))
+    refuse (omega arith, omega arith, 1, 2, separated (0 ∷ 3 ∷ []) (0, omega arith, refl) (off 1 (omega arith) (omega arith)) (off 2 (omega arith) (omega arith)))
   where
     off : (x : ℕ) → 0 < x → x < 3 → Contains (0 ∷ 3 ∷ []) x → ⊥
     off x l m (zero, li, e) = omega (arith, e)
@@ -61,7 +61,7 @@ vertex_0_passed_over found other w = none found other w
     off x l (suc i, li, e) = omega (arith, li)
 
     cut : IsCutVertex star 0
-    cut = (1, 2, parted (0 ∷ []) (0, omega arith, refl) (off 1 (omega arith)) (off 2 (omega arith)))
+    cut = (1, 2, separated (0 ∷ []) (0, omega arith, refl) (off 1 (omega arith)) (off 2 (omega arith)))
 
     none : (found : Option ℕ) → found ≢ Some 0 → MatchOption found ((v : ℕ) → ¬ IsCutVertex star v) (λ v. IsLeastCutVertex star v) → ⊥
     none None other w = w 0 cut

@@ -6,7 +6,7 @@ use Rattle.map_lists.specs.Lists.{Lists}
 use Rattle.map_theory.specs.Maps.{HasDart, list_of}
 use Rattle.map_theory.proofs.EntryLemmas.{Contains-cons_cases, Contains-here, Contains-there, Contains-filter, Contains-from_filter}
 use Rattle.graph_search.specs.Forests.{IsAdjacency}
-use Rattle.graph_search.specs.Cuts.{AreParted, IsCutVertex}
+use Rattle.graph_search.specs.Cuts.{AreSeparated, IsCutVertex}
 use Rattle.graph_search.specs.Flags.{Walks, AreLinked}
 use Rattle.graph_search.specs.Without.{IsWithoutVertex}
 use Rattle.graph_search.proofs.WalkLemmas.{Off, linked_itself, linked_weaker, linked_chained, linked_dart, linked_turned, linked_path, path_linked_by, walks_start}
@@ -125,42 +125,42 @@ module _ (lists rest : Lists) (x : ℕ) (h : IsWithoutVertex lists rest x) where
   walks_alone passes (suc k) t w = absurd ((dart_only x w.0 w.1).1 refl)
 
   -- What a cut vertex of the rest parts, it and x part together.
-  pub AreParted-of_rest : IsAdjacency lists → (y : ℕ) (both : List ℕ) → AreBoth x y both → x ≢ y → (s t : ℕ) → AreParted rest (y ∷ []) s t → AreParted lists both s t
-  AreParted-of_rest adjacency y both a ne s t parted =
+  pub AreSeparated-of_rest : IsAdjacency lists → (y : ℕ) (both : List ℕ) → AreBoth x y both → x ≢ y → (s t : ℕ) → AreSeparated rest (y ∷ []) s t → AreSeparated lists both s t
+  AreSeparated-of_rest adjacency y both a ne s t separated =
       let adjacent = IsAdjacency-without adjacency in
-      let w = linked_path rest adjacent [] s t parted.path parted.joined in
+      let w = linked_path rest adjacent [] s t separated.path separated.joined in
       let alone : (z : ℕ) → z ≡ x → s ≡ z → t ≡ z → ⊥ = λ z e f g.
       (let start = walks_start rest (Off []) w.0 s t w.1 in
       let at = path_linked_by rest adjacent (y ∷ []) s t (subst (AreLinked rest (Off (y ∷ [])) s) (f ∙ sym g) (linked_itself rest (Off (y ∷ [])) s start.0 (off_one y s (λ q. ne (sym (f ∙ e) ∙ q))))) in
-      parted.apart at.0 at.1) in
+      separated.apart at.0 at.1) in
       let s_other : s ≢ x = λ e. alone x refl e (walks_alone (Off []) w.0 t (subst (λ z. Walks rest (Off []) w.0 z t) e w.1)) in
       let back = linked_turned rest adjacent (Off []) s t w in
       let t_other : t ≢ x = λ e. alone x refl (walks_alone (Off []) back.0 s (subst (λ z. Walks rest (Off []) back.0 z s) e back.1)) e in
       let path = path_linked_by lists adjacency [] s t (walks_back w.0 s t w.1) in
       record {
-        s_off = off_both x y both a s s_other (ne_off y s parted.s_off);
-        t_off = off_both x y both a t t_other (ne_off y t parted.t_off);
+        s_off = off_both x y both a s s_other (ne_off y s separated.s_off);
+        t_off = off_both x y both a t t_other (ne_off y t separated.t_off);
         path = path.0;
         joined = path.1;
         apart = λ other j.
             let v = linked_path lists adjacency both s t other j in
             let k = walks_kept y both a v.0 s t v.1 in
             let p = path_linked_by rest adjacent (y ∷ []) s t k in
-            parted.apart p.0 p.1;
+            separated.apart p.0 p.1;
       }
 
   -- Where neither is a cut vertex, they part nothing.
-  pub not_AreParted : IsAdjacency lists → (y : ℕ) (both : List ℕ) → AreBoth x y both → ¬ IsCutVertex lists x → ¬ IsCutVertex rest y → (s t : ℕ) → ¬ AreParted lists both s t
-  not_AreParted adjacency y both a not_x not_y s t parted =
+  pub not_AreSeparated : IsAdjacency lists → (y : ℕ) (both : List ℕ) → AreBoth x y both → ¬ IsCutVertex lists x → ¬ IsCutVertex rest y → (s t : ℕ) → ¬ AreSeparated lists both s t
+  not_AreSeparated adjacency y both a not_x not_y s t separated =
       let adjacent = IsAdjacency-without adjacency in
       not_x (
         s,
         t,
         record {
-          s_off = off_one x s (ne_one x y both a s parted.s_off);
-          t_off = off_one x t (ne_one x y both a t parted.t_off);
-          path = parted.path;
-          joined = parted.joined;
+          s_off = off_one x s (ne_one x y both a s separated.s_off);
+          t_off = off_one x t (ne_one x y both a t separated.t_off);
+          path = separated.path;
+          joined = separated.joined;
           apart = λ other j.
               let w = linked_path lists adjacency (x ∷ []) s t other j in
               let kept = walks_kept_one w.0 s t w.1 in
@@ -169,15 +169,15 @@ module _ (lists rest : Lists) (x : ℕ) (h : IsWithoutVertex lists rest x) where
                 s,
                 t,
                 record {
-                  s_off = off_one y s (ne_other x y both a s parted.s_off);
-                  t_off = off_one y t (ne_other x y both a t parted.t_off);
+                  s_off = off_one y s (ne_other x y both a s separated.s_off);
+                  t_off = off_one y t (ne_other x y both a t separated.t_off);
                   path = path.0;
                   joined = path.1;
                   apart = λ around k.
                       let v = linked_path rest adjacent (y ∷ []) s t around k in
-                      let back = walks_back_off y both a v.0 s t (ne_one x y both a s parted.s_off) v.1 in
+                      let back = walks_back_off y both a v.0 s t (ne_one x y both a s separated.s_off) v.1 in
                       let p = path_linked_by lists adjacency both s t back in
-                      parted.apart p.0 p.1;
+                      separated.apart p.0 p.1;
                 },
               );
         },
@@ -203,12 +203,12 @@ module _ (lists : Lists) (adjacency : IsAdjacency lists) where
   neighbour_besides u v cut =
       let s = cut.0 in
       let t = cut.1 in
-      let parted = cut.2 in
-      let apart : AreLinked lists (Off (v ∷ [])) s t → ⊥ = λ w. (let p = path_linked_by lists adjacency (v ∷ []) s t w in parted.apart p.0 p.1) in
-      let w = linked_path lists adjacency [] s t parted.path parted.joined in
+      let separated = cut.2 in
+      let apart : AreLinked lists (Off (v ∷ [])) s t → ⊥ = λ w. (let p = path_linked_by lists adjacency (v ∷ []) s t w in separated.apart p.0 p.1) in
+      let w = linked_path lists adjacency [] s t separated.path separated.joined in
       let back = linked_turned lists adjacency (Off []) s t w in
-      let ne_s = ne_off v s parted.s_off in
-      let ne_t = ne_off v t parted.t_off in
+      let ne_s = ne_off v s separated.s_off in
+      let ne_t = ne_off v t separated.t_off in
       elim (before_vertex v w.0 s t w.1 ne_s ne_t) [
         | inl round ↦ absurd (apart round)
         | inr a ↦ elim (before_vertex v back.0 t s back.1 ne_t ne_s) [
@@ -224,64 +224,64 @@ module _ (lists : Lists) (adjacency : IsAdjacency lists) where
       ]
 
   -- where v itself is one of those that u parts, a neighbour of v stands for it
-  parted_beside : (u v t : ℕ) (both : List ℕ) → AreBoth u v both → IsCutVertex lists v → AreParted lists (u ∷ []) v t → (s : ℕ) × AreParted lists both s t
-  parted_beside u v t both a cut parted =
+  separated_beside : (u v t : ℕ) (both : List ℕ) → AreBoth u v both → IsCutVertex lists v → AreSeparated lists (u ∷ []) v t → (s : ℕ) × AreSeparated lists both s t
+  separated_beside u v t both a cut separated =
       let b = neighbour_besides u v cut in
-      let w = linked_path lists adjacency [] v t parted.path parted.joined in
+      let w = linked_path lists adjacency [] v t separated.path separated.joined in
       let path = path_linked_by lists adjacency [] b.0 t (linked_chained lists (Off []) b.0 v t (linked_dart lists adjacency (Off []) b.0 v (adjacency.both_ways v b.0 b.1) (off_none b.0) (off_none v)) w) in
-      let ne_t : t ≢ v = λ e. (let p = path_linked_by lists adjacency (u ∷ []) v t (subst (AreLinked lists (Off (u ∷ [])) v) (sym e) (linked_itself lists (Off (u ∷ [])) v b.1.0 parted.s_off)) in parted.apart p.0 p.1) in (
+      let ne_t : t ≢ v = λ e. (let p = path_linked_by lists adjacency (u ∷ []) v t (subst (AreLinked lists (Off (u ∷ [])) v) (sym e) (linked_itself lists (Off (u ∷ [])) v b.1.0 separated.s_off)) in separated.apart p.0 p.1) in (
         b.0,
         record {
           s_off = off_both u v both a b.0 b.3 b.2;
-          t_off = off_both u v both a t (ne_off u t parted.t_off) ne_t;
+          t_off = off_both u v both a t (ne_off u t separated.t_off) ne_t;
           path = path.0;
           joined = path.1;
           apart = λ other j.
               let k = linked_path lists adjacency both b.0 t other j in
               let weak = linked_weaker lists (Off both) (Off (u ∷ [])) (λ z l off. off_one u z (ne_one u v both a z off)) b.0 t k in
-              let p = path_linked_by lists adjacency (u ∷ []) v t (linked_chained lists (Off (u ∷ [])) v b.0 t (linked_dart lists adjacency (Off (u ∷ [])) v b.0 b.1 parted.s_off (off_one u b.0 b.3)) weak) in
-              parted.apart p.0 p.1;
+              let p = path_linked_by lists adjacency (u ∷ []) v t (linked_chained lists (Off (u ∷ [])) v b.0 t (linked_dart lists adjacency (Off (u ∷ [])) v b.0 b.1 separated.s_off (off_one u b.0 b.3)) weak) in
+              separated.apart p.0 p.1;
         },
       )
 
-  parted_turned : (avoided : List ℕ) (s t : ℕ) → AreParted lists avoided s t → AreParted lists avoided t s
-  parted_turned avoided s t parted =
-      let w = linked_turned lists adjacency (Off []) s t (linked_path lists adjacency [] s t parted.path parted.joined) in
+  separated_turned : (avoided : List ℕ) (s t : ℕ) → AreSeparated lists avoided s t → AreSeparated lists avoided t s
+  separated_turned avoided s t separated =
+      let w = linked_turned lists adjacency (Off []) s t (linked_path lists adjacency [] s t separated.path separated.joined) in
       let path = path_linked_by lists adjacency [] t s w in
       record {
-        s_off = parted.t_off;
-        t_off = parted.s_off;
+        s_off = separated.t_off;
+        t_off = separated.s_off;
         path = path.0;
         joined = path.1;
         apart = λ other j.
             let k = linked_turned lists adjacency (Off avoided) t s (linked_path lists adjacency avoided t s other j) in
             let p = path_linked_by lists adjacency avoided s t k in
-            parted.apart p.0 p.1;
+            separated.apart p.0 p.1;
       }
 
   -- Two cut vertices part two vertices together.
-  pub both_cut : (u v : ℕ) (both : List ℕ) → AreBoth u v both → IsCutVertex lists u → IsCutVertex lists v → (s : ℕ) × (t : ℕ) × AreParted lists both s t
+  pub both_cut : (u v : ℕ) (both : List ℕ) → AreBoth u v both → IsCutVertex lists u → IsCutVertex lists v → (s : ℕ) × (t : ℕ) × AreSeparated lists both s t
   both_cut u v both a cut_u cut_v =
       let s = cut_u.0 in
       let t = cut_u.1 in
-      let parted = cut_u.2 in
+      let separated = cut_u.2 in
       elim (cases_eq s v) [
-        | inl e ↦ (let p = parted_beside u v t both a cut_v (subst (λ z. AreParted lists (u ∷ []) z t) e parted) in (p.0, t, p.1))
+        | inl e ↦ (let p = separated_beside u v t both a cut_v (subst (λ z. AreSeparated lists (u ∷ []) z t) e separated) in (p.0, t, p.1))
         | inr ne_s ↦ elim (cases_eq t v) [
-          | inl e ↦ (let p = parted_beside u v s both a cut_v (subst (λ z. AreParted lists (u ∷ []) z s) e (parted_turned (u ∷ []) s t parted)) in (p.0, s, p.1))
+          | inl e ↦ (let p = separated_beside u v s both a cut_v (subst (λ z. AreSeparated lists (u ∷ []) z s) e (separated_turned (u ∷ []) s t separated)) in (p.0, s, p.1))
           | inr ne_t ↦ (
             s,
             t,
             record {
-              s_off = off_both u v both a s (ne_off u s parted.s_off) ne_s;
-              t_off = off_both u v both a t (ne_off u t parted.t_off) ne_t;
-              path = parted.path;
-              joined = parted.joined;
+              s_off = off_both u v both a s (ne_off u s separated.s_off) ne_s;
+              t_off = off_both u v both a t (ne_off u t separated.t_off) ne_t;
+              path = separated.path;
+              joined = separated.joined;
               apart = λ other j.
                   let k = linked_path lists adjacency both s t other j in
                   let weak = linked_weaker lists (Off both) (Off (u ∷ [])) (λ z l off. off_one u z (ne_one u v both a z off)) s t k in
                   let p = path_linked_by lists adjacency (u ∷ []) s t weak in
-                  parted.apart p.0 p.1;
+                  separated.apart p.0 p.1;
             },
           )
         ]

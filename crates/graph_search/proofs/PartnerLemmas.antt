@@ -8,7 +8,7 @@ use Rattle.graph_search.specs.Flags.{AreCutFlags}
 use Rattle.graph_search.specs.Without.{IsWithoutVertex}
 use Rattle.graph_search.proofs.WalkLemmas.{Off, linked_weaker, linked_path, path_linked_by}
 use Rattle.graph_search.proofs.CutLemmas.{off_one}
-use Rattle.graph_search.proofs.PairLemmas.{AreBoth-pair, AreBoth-turned, AreParted-of_rest, not_AreParted, both_cut}
+use Rattle.graph_search.proofs.PairLemmas.{AreBoth-pair, AreBoth-turned, AreSeparated-of_rest, not_AreSeparated, both_cut}
 
 module _ (lists : Lists) (adjacency : IsAdjacency lists) where
   -- only a vertex parts others
@@ -17,11 +17,11 @@ module _ (lists : Lists) (adjacency : IsAdjacency lists) where
       elim (cases_lt v (length lists)) [
         | inl l ↦ l
         | inr past ↦
-            let parted = cut.2 in
-            let w = linked_path lists adjacency [] cut.0 cut.1 parted.path parted.joined in
+            let separated = cut.2 in
+            let w = linked_path lists adjacency [] cut.0 cut.1 separated.path separated.joined in
             let off = linked_weaker lists (Off []) (Off (v ∷ [])) (λ x l q. off_one v x (λ e. (let m = e in omega arith))) cut.0 cut.1 w in
             let path = path_linked_by lists adjacency (v ∷ []) cut.0 cut.1 off in
-            absurd (parted.apart path.0 path.1)
+            absurd (separated.apart path.0 path.1)
       ]
 
   module _ (flags : List Bool) (h : AreCutFlags lists flags) where
@@ -48,7 +48,7 @@ module _ (lists : Lists) (adjacency : IsAdjacency lists) where
         not_partner : (v : ℕ) → v < length cuts → get_or cuts v false ≡ false → ¬ IsSeparatingPair lists u v
         not_partner v l clear pair =
             let n = k.count in
-            not_AreParted lists rest u w adjacency v (u ∷ v ∷ []) (AreBoth-pair u v) (h.no u u_in other) (k.no v (omega arith) clear) pair.2 pair.3 pair.4
+            not_AreSeparated lists rest u w adjacency v (u ∷ v ∷ []) (AreBoth-pair u v) (h.no u u_in other) (k.no v (omega arith) clear) pair.2 pair.3 pair.4
 
         pub no_partner : ((i : ℕ) → u + 1 ≤ i → i < length cuts → get_or cuts i false ≡ false) → (v : ℕ) → ¬ IsSeparatingPair lists u v
         no_partner none v pair =
@@ -65,7 +65,7 @@ module _ (lists : Lists) (adjacency : IsAdjacency lists) where
             let m = w.count in
             let cut = k.yes v (omega arith) set in
             let ne : u ≢ v = λ e. (let q = e in omega arith) in (
-              (omega arith, omega arith, cut.0, cut.1, AreParted-of_rest lists rest u w adjacency v (u ∷ v ∷ []) (AreBoth-pair u v) ne cut.0 cut.1 cut.2),
+              (omega arith, omega arith, cut.0, cut.1, AreSeparated-of_rest lists rest u w adjacency v (u ∷ v ∷ []) (AreBoth-pair u v) ne cut.0 cut.1 cut.2),
               λ x pair. elim (cases_lt x v) [
                 | inl less ↦
                     let x_after = pair.0 in
@@ -83,10 +83,10 @@ module _ (lists : Lists) (adjacency : IsAdjacency lists) where
               let m = w.count in
               let cut = k.yes u (omega arith) e in
               let ne : v ≢ u = λ q. (let z = q in omega arith) in
-              (order, v_in, cut.0, cut.1, AreParted-of_rest lists rest v w adjacency u (u ∷ v ∷ []) (AreBoth-turned u v (u ∷ v ∷ []) (AreBoth-pair u v)) ne cut.0 cut.1 cut.2)
+              (order, v_in, cut.0, cut.1, AreSeparated-of_rest lists rest v w adjacency u (u ∷ v ∷ []) (AreBoth-turned u v (u ∷ v ∷ []) (AreBoth-pair u v)) ne cut.0 cut.1 cut.2)
           is_partner_by false e = λ pair.
               let m = w.count in
-              not_AreParted lists rest v w adjacency u (u ∷ v ∷ []) (AreBoth-turned u v (u ∷ v ∷ []) (AreBoth-pair u v)) (h.no v v_in other) (k.no u (omega arith) e) pair.2 pair.3 pair.4
+              not_AreSeparated lists rest v w adjacency u (u ∷ v ∷ []) (AreBoth-turned u v (u ∷ v ∷ []) (AreBoth-pair u v)) (h.no v v_in other) (k.no u (omega arith) e) pair.2 pair.3 pair.4
 
     -- two cut vertices are a pair
     pub cut_partners : (u v : ℕ) → u < v → v < length lists → get_or flags u false ≡ true → get_or flags v false ≡ true → IsSeparatingPair lists u v

@@ -6,7 +6,7 @@ use Rattle.map_lists.specs.Cuts.{joined}
 use Rattle.map_theory.proofs.DartCounts.{sum_below, sum_below-same, sum_below-front}
 use Rattle.map_theory.proofs.EntryLemmas.{count_of, count_of-append}
 use Rattle.graph_search.specs.Arcs.{arcs_of, HasArc}
-use Rattle.graph_search.specs.Runs.{all_into}
+use Rattle.graph_search.specs.Progress.{all_into}
 
 pub sum_below-most : (f g : ℕ → ℕ) (n : ℕ) → ((i : ℕ) → i < n → f i ≤ g i) → sum_below f n ≤ sum_below g n
 sum_below-most f g zero h = omega arith

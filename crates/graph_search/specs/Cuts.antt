@@ -4,7 +4,7 @@ use Rattle.map_lists.specs.Lists.{Lists}
 use Rattle.map_theory.specs.Paths.{JoinsAvoiding}
 
 -- Two vertices that are not avoided are joined by a path, and by none that avoids.
-pub record AreParted (lists : Lists) (avoided : List ℕ) (s t : ℕ) : Type 0 where
+pub record AreSeparated (lists : Lists) (avoided : List ℕ) (s t : ℕ) : Type 0 where
   pub s_off : ¬ Contains avoided s
   pub t_off : ¬ Contains avoided t
   pub path : List ℕ
@@ -13,11 +13,11 @@ pub record AreParted (lists : Lists) (avoided : List ℕ) (s t : ℕ) : Type 0 w
 
 -- v parts two other vertices
 abbrev pub IsCutVertex : Lists → ℕ → Type 0
-IsCutVertex lists v = (s : ℕ) × (t : ℕ) × AreParted lists (v ∷ []) s t
+IsCutVertex lists v = (s : ℕ) × (t : ℕ) × AreSeparated lists (v ∷ []) s t
 
 -- u and v together part two other vertices
 abbrev pub IsSeparatingPair : Lists → ℕ → ℕ → Type 0
-IsSeparatingPair lists u v = (u < v) × (v < length lists) × (s : ℕ) × (t : ℕ) × AreParted lists (u ∷ v ∷ []) s t
+IsSeparatingPair lists u v = (u < v) × (v < length lists) × (s : ℕ) × (t : ℕ) × AreSeparated lists (u ∷ v ∷ []) s t
 
 -- no lesser vertex is a cut vertex
 pub record IsLeastCutVertex (lists : Lists) (v : ℕ) : Type 0 where

@@ -8,4 +8,4 @@ pub mod Flags
 pub mod Without
 -- Directed graphs as lists, the lengths of longest paths, and a run over them.
 pub mod Arcs
-pub mod Runs
+pub mod Progress

@@ -7,7 +7,7 @@ use Rattle.map_lists.specs.Lists.{Lists}
 use Rattle.map_theory.specs.Maps.{HasDart, IsSimpleMap, IsPlane, list_of, component_count}
 use Rattle.map_theory.proofs.DartLemmas.{HasDart-at}
 use Rattle.map_theory.proofs.EntryLemmas.{Contains-from_list_any, list_any-from_Contains}
-use Rattle.plane_laws.specs.Completed.{IsCompleted}
+use Rattle.plane_laws.specs.Triangulations.{IsTriangulation}
 use Rattle.plane_laws.proofs.EdgeBound.{met_connected}
 use Rattle.plane_laws.specs.MapEditsCompleted.{IsExtended, Completion}
 use Rattle.plane_peeling.proofs.Counted.{marks_everywhere}
@@ -39,8 +39,8 @@ some_neighbour lists simple one some =
       | inl e ↦ absurd (true≢false (sym (marks_everywhere lists simple one (λ u. eqb u 0) (λ x u d t. absurd (none_in (list_of lists x) u (ap (list_of lists) (eqb-true x 0 t) ∙ e) d.1)) 0 1 (omega arith) some refl) ∙ refl))
     ]
 
--- so it has one in a completed map
-pub neighbour_in_completed : (lists : Lists) → IsCompleted lists → 0 < length (list_of lists 0)
+-- so it has one in a triangulation
+pub neighbour_in_completed : (lists : Lists) → IsTriangulation lists → 0 < length (list_of lists 0)
 neighbour_in_completed lists c =
     let some = c.some in
     some_neighbour lists c.simple (met_connected lists c.simple c.plane c.some c.edges) (omega arith)
@@ -48,14 +48,14 @@ neighbour_in_completed lists c =
 -- a drawing of a completion is one of the map
 module _ (lists more : Lists) (to : ℕ) (points : List Point) (width height : ℤ) (h : IsCompletionFor lists more to) (d : IsBaseDrawing more to points width height) where
   valid : IsValid lists points width height
-  valid = valid_with_fewer lists more points width height h.simple h.completed.simple h.extended (record { in_grid = d.grid; plane = d.plane; rotations = d.rotations })
+  valid = valid_with_fewer lists more points width height h.simple h.triangulation.simple h.extended (record { in_grid = d.grid; plane = d.plane; rotations = d.rotations })
 
   outer : HasOuterFace lists points (first_dart lists 0)
   outer one =
-      let some = h.completed.some in
+      let some = h.triangulation.some in
       let same = h.extended.vertices in
       let l = some_neighbour lists h.simple one (omega (arith, same)) in
-      outer_fewer lists more points (0, get_or (list_of lists 0) 0 0) h.simple h.completed h.extended (HasDart-at lists 0 0 0 (omega (arith, same)) l) (subst (λ (k : ℕ). IsCounterclockwise more points (0, k)) (h.base.first l) d.counterclockwise) one
+      outer_fewer lists more points (0, get_or (list_of lists 0) 0 0) h.simple h.triangulation h.extended (HasDart-at lists 0 0 0 (omega (arith, same)) l) (subst (λ (k : ℕ). IsCounterclockwise more points (0, k)) (h.base.first l) d.counterclockwise) one
 
   pub completion_draws : IsValid lists points width height × HasOuterFace lists points (first_dart lists 0)
   completion_draws = (valid, outer)
@@ -100,16 +100,16 @@ least_below us (suc n) = elim (least_below us n) [
   ]
 ]
 
--- a completed map has a base
-base_in : (lists more : Lists) → IsSimpleMap lists → IsCompleted more → IsExtended lists more → (to : ℕ) × IsBaseTo lists more to
-base_in lists more simple completed extended =
-    let some = completed.some in
+-- a triangulation has a base
+base_in : (lists more : Lists) → IsSimpleMap lists → IsTriangulation more → IsExtended lists more → (to : ℕ) × IsBaseTo lists more to
+base_in lists more simple triangulation extended =
+    let some = triangulation.some in
     elim (entry_or_none (list_of lists 0)) [
       | inr l ↦
           let to = get_or (list_of lists 0) 0 0 in (
             to,
             record {
-              dart = dart_more lists more [] simple completed.simple extended 0 to (HasDart-at lists 0 0 0 simple.some_vertex l);
+              dart = dart_more lists more [] simple triangulation.simple extended 0 to (HasDart-at lists 0 0 0 simple.some_vertex l);
               first = λ m. refl;
               least = λ e. let n = ap length e in absurd (omega arith);
             },
@@ -124,8 +124,8 @@ base_in lists more simple completed extended =
           },
         )
         | inl none ↦
-            let d = HasDart-at more 0 0 0 (omega arith) (neighbour_in_completed more completed) in
-            absurd (none (get_or (list_of more 0) 0 0) (completed.simple.in_range 0 (get_or (list_of more 0) 0 0) d) d.1)
+            let d = HasDart-at more 0 0 0 (omega arith) (neighbour_in_completed more triangulation) in
+            absurd (none (get_or (list_of more 0) 0 0) (triangulation.simple.in_range 0 (get_or (list_of more 0) 0 0) d) d.1)
       ]
     ]
 
@@ -133,4 +133,4 @@ pub some_completion : (lists : Lists) → Completion → IsSimpleMap lists → I
 some_completion lists completion simple plane some =
     let more = completion lists simple plane some in
     let base = base_in lists more.0 simple more.1 more.2 in
-    (more.0, (base.0, record { simple = simple; completed = more.1; extended = more.2; base = base.1 }))
+    (more.0, (base.0, record { simple = simple; triangulation = more.1; extended = more.2; base = base.1 }))

@@ -4,7 +4,7 @@ use Rattle.map_lists.specs.Lists.{Lists}
 use Rattle.map_theory.specs.Maps.{HasDart, follows}
 use Rattle.map_theory.proofs.DartLemmas.{HasDart-follows}
 use Rattle.pg_plane.specs.declared.figure.GridFigure.{GridFigure}
-use Rattle.plane_laws.specs.Completed.{IsCompleted}
+use Rattle.plane_laws.specs.Triangulations.{IsTriangulation}
 use Rattle.plane_drawings.specs.Drawing.{place}
 use Rattle.canon_order.specs.Orders.{IsCanonicalOrder}
 use Rattle.canon_order.specs.Laws.{SomeOrder}
@@ -21,14 +21,14 @@ module _ (form : Form) (draws : CompletionDraws) (lists more : Lists) (to : ℕ)
 
   placed : IsPlaced form lists figure.points
   placed =
-      let back = h.completed.simple.both_ways 0 to h.base.dart in
+      let back = h.triangulation.simple.both_ways 0 to h.base.dart in
       let third = HasDart-follows more to 0 back in
       let head = d.head ∙ ap form.head same in
       record {
         tail = d.tail ∙ ap form.tail same;
         head = (to, subst (λ n. to < n) same back.0, head);
         first = λ l. subst (λ (k : ℕ). place figure.points k ≡ form.head (length lists)) (h.base.first l) head;
-        third = (follows more to 0, subst (λ n. follows more to 0 < n) same (h.completed.simple.in_range to (follows more to 0) third), d.third ∙ ap form.third same);
+        third = (follows more to 0, subst (λ n. follows more to 0 < n) same (h.triangulation.simple.in_range to (follows more to 0) third), d.third ∙ ap form.third same);
       }
 
   pub figure_of_drawing : IsFigure form lists figure
@@ -43,15 +43,15 @@ module _ (form : Form) (draws : CompletionDraws) (lists more : Lists) (to : ℕ)
         placed = placed;
       }
 
--- so each map that can be completed has a figure, where completed maps are drawn
-pub some_figure : (form : Form) → CompletionDraws → SomeCompletion → SomeOrder → ((more : Lists) (to : ℕ) (at : List ℕ) → IsCompleted more → HasDart more 0 to → IsCanonicalOrder more (0, to) at → (figure : GridFigure) × IsDrawnFor form more to figure) → SomeFigure form
+-- so each map that can be completed has a figure, where triangulations are drawn
+pub some_figure : (form : Form) → CompletionDraws → SomeCompletion → SomeOrder → ((more : Lists) (to : ℕ) (at : List ℕ) → IsTriangulation more → HasDart more 0 to → IsCanonicalOrder more (0, to) at → (figure : GridFigure) × IsDrawnFor form more to figure) → SomeFigure form
 some_figure form draws completion orders drawn lists simple plane some =
     let found = completion lists simple plane some in
     let more = found.0 in
     let to = found.1.0 in
     let h = found.1.1 in
-    let order = orders more (0, to) h.completed h.base.dart in
-    let figure = drawn more to order.0 h.completed h.base.dart order.1 in
+    let order = orders more (0, to) h.triangulation h.base.dart in
+    let figure = drawn more to order.0 h.triangulation h.base.dart order.1 in
     (figure.0, figure_of_drawing form draws lists more to h figure.0 figure.1)
 
 -- what the shift method draws
@@ -88,15 +88,15 @@ drawn_by_wood lists to figure count d width height = record {
   third = d.root_three;
 }
 
--- so a completed map has a figure of each method
-pub some_drawn_by_shift : SomeShiftPoints → ShiftPointsDraw → (more : Lists) (to : ℕ) (at : List ℕ) → IsCompleted more → HasDart more 0 to → IsCanonicalOrder more (0, to) at → (figure : GridFigure) × IsDrawnFor shift_form more to figure
-some_drawn_by_shift some_points draw more to at completed dart order =
-    let points = some_points more (0, to) at completed order in
+-- so a triangulation has a figure of each method
+pub some_drawn_by_shift : SomeShiftPoints → ShiftPointsDraw → (more : Lists) (to : ℕ) (at : List ℕ) → IsTriangulation more → HasDart more 0 to → IsCanonicalOrder more (0, to) at → (figure : GridFigure) × IsDrawnFor shift_form more to figure
+some_drawn_by_shift some_points draw more to at triangulation dart order =
+    let points = some_points more (0, to) at triangulation order in
     let figure : GridFigure = record { points = points.0; width = pos (2 * length more - 4); height = pos (length more - 2) } in
-    (figure, drawn_by_shift more to figure points.1.count (draw more (0, to) at points.0 completed dart order points.1) refl refl)
+    (figure, drawn_by_shift more to figure points.1.count (draw more (0, to) at points.0 triangulation dart order points.1) refl refl)
 
-pub some_drawn_by_wood : SomeWoodPoints → WoodPointsDraw → (more : Lists) (to : ℕ) (at : List ℕ) → IsCompleted more → HasDart more 0 to → IsCanonicalOrder more (0, to) at → (figure : GridFigure) × IsDrawnFor schnyder_form more to figure
-some_drawn_by_wood some_points draw more to at completed dart order =
-    let points = some_points more (0, to) at completed order in
+pub some_drawn_by_wood : SomeWoodPoints → WoodPointsDraw → (more : Lists) (to : ℕ) (at : List ℕ) → IsTriangulation more → HasDart more 0 to → IsCanonicalOrder more (0, to) at → (figure : GridFigure) × IsDrawnFor schnyder_form more to figure
+some_drawn_by_wood some_points draw more to at triangulation dart order =
+    let points = some_points more (0, to) at triangulation order in
     let figure : GridFigure = record { points = points.0; width = pos (length more - 2); height = pos (length more - 2) } in
-    (figure, drawn_by_wood more to figure points.1.count (draw more (0, to) at points.0 completed dart order points.1) refl refl)
+    (figure, drawn_by_wood more to figure points.1.count (draw more (0, to) at points.0 triangulation dart order points.1) refl refl)

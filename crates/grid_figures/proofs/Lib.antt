@@ -1,4 +1,4 @@
--- Lemmas on records as completed maps.
+-- Lemmas on records as triangulations.
 pub mod CompletionLemmas
 mod DrawingOrdersRefused
 -- Lemmas for figures.

@@ -2,7 +2,7 @@
 use Rattle.std.specs.Prelude.{ℕ, ◌<◌, ◌≤◌, ◌≡◌, ◌↔◌, List, length, None, ℤ}
 use Rattle.map_lists.specs.Lists.{Lists}
 use Rattle.map_theory.specs.Maps.{IsSimpleMap, IsPlane, vertex_count}
-use Rattle.plane_laws.specs.Completed.{IsCompleted}
+use Rattle.plane_laws.specs.Triangulations.{IsTriangulation}
 use Rattle.plane_laws.specs.MapEditsCompleted.{IsExtended}
 use Rattle.half_edges.specs.Map.{first_dart}
 use Rattle.pg_plane.specs.declared.point.Point.{Point}
@@ -15,11 +15,11 @@ use Rattle.grid_figures.specs.Orders.{IsBaseTo}
 -- a completion of the map of `lists`, with a base to `to`
 pub record IsCompletionFor (lists more : Lists) (to : ℕ) : Type 0 where
   pub simple : IsSimpleMap lists
-  pub completed : IsCompleted more
+  pub triangulation : IsTriangulation more
   pub extended : IsExtended lists more
   pub base : IsBaseTo lists more to
 
--- a plane drawing of a completed map in a grid, which keeps the rotations and has all faces but that of the dart from vertex 0 to `to` counterclockwise
+-- a plane drawing of a triangulation in a grid, which keeps the rotations and has all faces but that of the dart from vertex 0 to `to` counterclockwise
 pub record IsBaseDrawing (lists : Lists) (to : ℕ) (points : List Point) (width height : ℤ) : Type 0 where
   pub counterclockwise : IsCounterclockwise lists points (0, to)
   pub plane : IsPlaneDrawing lists points

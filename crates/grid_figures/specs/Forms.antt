@@ -39,7 +39,7 @@ pub record IsFigure (form : Form) (lists : Lists) (figure : GridFigure) : Type 0
   pub outer : HasOuterFace lists figure.points (first_dart lists 0)
   pub placed : IsPlaced form lists figure.points
 
--- the figure draws a completed map for the base from vertex 0 to `to`
+-- the figure draws a triangulation for the base from vertex 0 to `to`
 pub record IsDrawnFor (form : Form) (lists : Lists) (to : ℕ) (figure : GridFigure) : Type 0 where
   pub count : length figure.points ≡ length lists
   pub width : figure.width ≡ pos (form.width (length lists))

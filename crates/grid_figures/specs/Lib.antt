@@ -1,4 +1,4 @@
--- A record as a completed map with a canonical order.
+-- A record as a triangulation with a canonical order.
 pub mod DrawingOrdersBases
 pub mod Orders
 pub mod DrawingOrdersLaws

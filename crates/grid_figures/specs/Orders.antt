@@ -1,8 +1,8 @@
--- A record as a completed map with a canonical order.
+-- A record as a triangulation with a canonical order.
 use Rattle.std.specs.Prelude.{ℕ, ◌<◌, ◌≡◌, [], length, slice_index}
 use Rattle.map_lists.specs.Lists.{Lists}
 use Rattle.map_theory.specs.Maps.{HasDart, IsSimpleMap, list_of}
-use Rattle.plane_laws.specs.Completed.{IsCompleted}
+use Rattle.plane_laws.specs.Triangulations.{IsTriangulation}
 use Rattle.plane_laws.specs.MapEditsCompleted.{IsExtended}
 use Rattle.canon_order.specs.Orders.{IsCanonicalOrder, IsRankOf, vertices_of}
 use Rattle.grid_figures.specs.declared.drawing_orders.order.DrawingOrder.{DrawingOrder}
@@ -16,7 +16,7 @@ pub record IsBaseTo (lists more : Lists) (to : ℕ) : Type 0 where
 -- A completion of the simple map of these lists, with a canonical order of it for such a base.
 pub record IsDrawingOrder (lists : Lists) (found : DrawingOrder) : Type 0 where
   pub simple : IsSimpleMap lists
-  pub completed : IsCompleted found.tri.lists
+  pub triangulation : IsTriangulation found.tri.lists
   pub listed : found.lists ≡ found.tri.lists
   pub extended : IsExtended lists found.tri.lists
   pub to : ℕ

@@ -1,4 +1,4 @@
-//! A record as what methods of drawing in a grid start from, a completed map with a canonical order, or the
+//! A record as what methods of drawing in a grid start from, a triangulation with a canonical order, or the
 //! first condition that the record breaks.
 
 ghost use Rattle.grid_figures.specs.DrawingOrdersLaws.{CompletionDraws, SomeCompletion};

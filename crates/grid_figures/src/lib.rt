@@ -1,4 +1,4 @@
-//! The figures of the jobs shift and schnyder: the completed map, its order, the drawing, and its place in the record.
+//! The figures of the jobs shift and schnyder: the triangulation, its order, the drawing, and its place in the record.
 #![tactic(auto)]
 
 pub mod drawing_orders;

@@ -1,4 +1,4 @@
-//! Drawings of completed maps by Schnyder's coordinates (1990), in linear time.
+//! Drawings of triangulations by Schnyder's coordinates (1990), in linear time.
 
 mod draw;
 mod gaps;

@@ -1,7 +1,7 @@
 //! St-orders and visibility drawings, and verdicts on them.
 ghost use Rattle.std.specs.Prelude.{IfOk};
 ghost use Rattle.half_edges.specs.Map.{IsLive};
-ghost use Rattle.conn_parts.specs.Blocks.{IsPlaneBlock};
+ghost use Rattle.conn_parts.specs.BiconnectedMaps.{IsBiconnectedMap};
 
 use crate::lists::lists_of;
 use crate::maps::{dart_between, map_of};
@@ -11,7 +11,7 @@ use crate::refusal::Refusal;
 use crate::text::{behind, number, part};
 use bar_check::{BarVerdict, check_bars};
 use bipolar::dual_orders::dual_numbers;
-use conn_parts::plane_blocks::plane_block;
+use conn_parts::biconnected_maps::biconnected_map;
 use half_edges::{DartId, HalfMap};
 use pg_plane::BarFigure;
 use st_orders::st_order;
@@ -20,10 +20,10 @@ use visibility::bars;
 
 // The map of lists, if it is plane, connected and without a cut vertex.
 fn block_of(alloc: Global, text: &str) -> Result<HalfMap, Refusal>
-    ensures { IfOk result (λ map. IsPlaneBlock 3 map.lists) }
+    ensures { IfOk result (λ map. IsBiconnectedMap 3 map.lists) }
 {
     let lists = lists_of(alloc, text)?;
-    match plane_block(alloc, &lists, 3) {
+    match biconnected_map(alloc, &lists, 3) {
         Ok(map) => Ok(map),
         Err(_) => Err(Refusal::Row("plane block")),
     }

@@ -27,7 +27,7 @@ fn are_kept(old: &Rotations, new: &Rotations) -> bool {
     true
 }
 
-/// The lists of a completed map; or its size, and whether the old lists are in the new ones.
+/// The lists of a triangulation; or its size, and whether the old lists are in the new ones.
 pub fn answer(alloc: Global, call: &str, args: &[&str], out: &mut String) -> Result<(), Refusal> {
     let old = lists_of(alloc, part(args, 0))?;
     let found = order_of(alloc, part(args, 0))?;

@@ -1,7 +1,7 @@
 //! Convex woods and the regions of their vertices.
 ghost use Rattle.std.specs.Prelude.{◌<◌, length, IfOk};
 ghost use Rattle.map_theory.specs.Maps.{Dart, IsPlane};
-ghost use Rattle.convex_peeling.specs.Tight.{IsThreeConnected};
+ghost use Rattle.convex_peeling.specs.Polyhedral.{IsThreeConnected};
 ghost use Rattle.half_edges.specs.Map.{IsLive};
 ghost use Rattle.convex_faces.specs.Directions.{IsWoodIn};
 
@@ -9,7 +9,7 @@ use crate::lists::lists_of;
 use crate::points::put_points;
 use crate::refusal::Refusal;
 use crate::text::{number, part};
-use convex_class::convex_blocks::convex_block;
+use convex_class::convex_maps::convex_map;
 use convex_draw::convex_draw;
 use convex_faces::face_regions::face_region;
 use convex_faces::wood::{Axis, ConvexWood, convex_wood};
@@ -23,7 +23,7 @@ fn block_of(alloc: Global, text: &str) -> Result<HalfMap, Refusal>
     ensures three { IfOk result (λ map. IsThreeConnected map.lists) }
 {
     let lists = lists_of(alloc, text)?;
-    match convex_block(alloc, &lists) {
+    match convex_map(alloc, &lists) {
         Ok(map) => Ok(map),
         Err(_) => Err(Refusal::Row("three-connected map")),
     }

@@ -1,7 +1,7 @@
-//! Orders of completed maps, and the drawings by shifts and by woods that stand on them.
+//! Orders of triangulations, and the drawings by shifts and by woods that stand on them.
 ghost use Rattle.std.specs.Prelude.{◌≡◌, ◌<◌, IfOk};
 ghost use Rattle.map_theory.specs.Maps.{Dart, HasDart};
-ghost use Rattle.plane_laws.specs.Completed.{IsCompleted};
+ghost use Rattle.plane_laws.specs.Triangulations.{IsTriangulation};
 ghost use Rattle.canon_order.specs.Orders.{IsCanonicalOrder, IsRankOf, vertices_of};
 
 use crate::lists::lists_of;
@@ -21,9 +21,9 @@ use std::alloc::{AllocError, Global};
 use std::marker::Brand;
 use std::sync::ledger::{Blank, Ledger};
 
-/// The completed map of lists, and a canonical order of it for a dart from vertex 0.
+/// The triangulation of lists, and a canonical order of it for a dart from vertex 0.
 pub fn order_of(alloc: Global, text: &str) -> Result<DrawingOrder, Refusal>
-    ensures completed { IfOk result (λ found. IsCompleted found.tri.lists) }
+    ensures triangulation { IfOk result (λ found. IsTriangulation found.tri.lists) }
     ensures order { IfOk result (λ found. (base : Dart) × IsCanonicalOrder found.tri.lists base (vertices_of found.order)) }
     ensures based { IfOk result (λ found. (base : Dart) × HasDart found.tri.lists base.0 base.1 × IsCanonicalOrder found.tri.lists base (vertices_of found.order)) }
     ensures rank { IfOk result (λ found. IsRankOf found.order.rank (vertices_of found.order)) }
@@ -153,14 +153,14 @@ fn put_nodes<L: Ledger>(
     Ok(())
 }
 
-// The tree of offsets of a completed map, and the points to which it adds up.
+// The tree of offsets of a triangulation, and the points to which it adds up.
 fn summed<L: Ledger>(
     alloc: Global,
     tri: &HalfMap,
     order: &Order,
     steps: &mut Steps<L>,
 ) -> Result<(Offsets<L>, Points), Refusal>
-    requires completed { IsCompleted tri.now.lists }
+    requires triangulation { IsTriangulation tri.now.lists }
     requires order { (base : Dart) × IsCanonicalOrder tri.now.lists base (vertices_of order.now) }
     requires rank { IsRankOf order.now.rank (vertices_of order.now) }
 {

@@ -6,7 +6,7 @@ use crate::lists::lists_of;
 use crate::refusal::Refusal;
 use crate::text::part;
 use half_edges::{HalfMap, VertexId};
-use rect_class::rect_block;
+use rect_class::rect_map;
 use rect_dual::labels::{Label, Labelling, edge_labels};
 use std::alloc::{AllocError, Global};
 
@@ -15,7 +15,7 @@ fn block_of(alloc: Global, text: &str) -> Result<HalfMap, Refusal>
     ensures { IfOk result (λ map. IsRectMap map.lists) }
 {
     let lists = lists_of(alloc, text)?;
-    match rect_block(alloc, &lists) {
+    match rect_map(alloc, &lists) {
         Ok(map) => Ok(map),
         Err(_) => Err(Refusal::Row("map of the class")),
     }
@@ -25,7 +25,7 @@ fn block_of(alloc: Global, text: &str) -> Result<HalfMap, Refusal>
 fn labelling_of(alloc: Global, map: &HalfMap) -> Result<Labelling, Refusal>
     requires { IsRectMap map.now.lists }
 {
-    rect_class::blocks_are_rect_maps();
+    rect_class::biconnected_are_rect_maps();
     if map.n() == 0 {
         return Err(Refusal::Row("vertex"));
     }

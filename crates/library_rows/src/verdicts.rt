@@ -9,7 +9,7 @@ use crate::refusal::Refusal;
 use crate::text::{pair, part, put_flag};
 use draw_check::{FaceVerdict, OuterVerdict, Verdict, check, check_by_faces, check_outer};
 use half_edges::{Ends, HalfMap};
-use pg_plane::{GridFigure, Point};
+use pg_plane::GridFigure;
 use plane_drawings::sweep_check::is_plane_by_sweep;
 use std::alloc::{AllocError, Global};
 
@@ -27,14 +27,6 @@ fn figure_of(alloc: Global, map: &HalfMap, places: &str, grid: &str) -> Result<G
         width: integer(width),
         height: integer(height),
     })
-}
-
-// Where the grid of a figure ends.
-fn corner(figure: &GridFigure) -> Point {
-    Point {
-        x: figure.width,
-        y: figure.height,
-    }
 }
 
 // An edge by its ends.
@@ -64,7 +56,7 @@ fn put_verdict(verdict: Verdict, out: &mut String) -> Result<(), AllocError> {
 fn grid(alloc: Global, args: &[&str], out: &mut String) -> Result<(), Refusal> {
     let map = map_of(alloc, part(args, 0))?;
     let figure = figure_of(alloc, &map, part(args, 1), part(args, 2))?;
-    Ok(put_verdict(check(&map, &figure.points, corner(&figure)), out)?)
+    Ok(put_verdict(check(&map, &figure), out)?)
 }
 
 fn put_face_verdict(verdict: FaceVerdict, out: &mut String) -> Result<(), AllocError> {
@@ -75,16 +67,13 @@ fn put_face_verdict(verdict: FaceVerdict, out: &mut String) -> Result<(), AllocE
     }
 }
 
-// The verdict by the faces of a completed map, with the dart from vertex 0 to vertex 1 as its base.
+// The verdict by the faces of a triangulation, with the dart from vertex 0 to vertex 1 as its base.
 fn faces(alloc: Global, args: &[&str], out: &mut String) -> Result<(), Refusal> {
     let set = order_of(alloc, part(args, 0))?;
     let figure = figure_of(alloc, &set.tri, part(args, 1), part(args, 2))?;
     match dart_between(&set.tri, 0, 1) {
         Some(base) if set.tri.is_live(base) => {
-            Ok(put_face_verdict(
-                check_by_faces(&set.tri, base, &figure.points, corner(&figure)),
-                out,
-            )?)
+            Ok(put_face_verdict(check_by_faces(&set.tri, base, &figure), out)?)
         }
         _ => Err(Refusal::Row("base")),
     }
@@ -104,7 +93,7 @@ fn outer(alloc: Global, args: &[&str], out: &mut String) -> Result<(), Refusal> 
     let (u, v) = pair(part(args, 2));
     match dart_between(&map, u, v) {
         Some(base) if map.is_live(base) => {
-            Ok(put_outer_verdict(check_outer(alloc, &map, base, &figure.points)?, out)?)
+            Ok(put_outer_verdict(check_outer(alloc, &map, base, &figure)?, out)?)
         }
         _ => Err(Refusal::Row("base")),
     }

@@ -1,7 +1,7 @@
-//! Woods of completed maps, the regions of their vertices, and the drawing that stands on them.
+//! Woods of triangulations, the regions of their vertices, and the drawing that stands on them.
 ghost use Rattle.std.specs.Prelude.{◌<◌, IfOk};
 ghost use Rattle.map_theory.specs.Maps.{Dart, HasDart};
-ghost use Rattle.plane_laws.specs.Completed.{IsCompleted};
+ghost use Rattle.plane_laws.specs.Triangulations.{IsTriangulation};
 ghost use Rattle.canon_order.specs.Orders.{IsCanonicalOrder, IsRankOf, vertices_of};
 ghost use Rattle.schnyder_wood.specs.Parents.{count_in, IsInnerIn, IsWoodOf};
 
@@ -21,7 +21,7 @@ const COLOURS: [Colour; 3] = [Colour::One, Colour::Two, Colour::Three];
 
 // The wood of an order.
 fn wood_of(alloc: Global, tri: &HalfMap, order: &Order) -> Result<Wood, AllocError>
-    requires completed { IsCompleted tri.now.lists }
+    requires triangulation { IsTriangulation tri.now.lists }
     requires order { (base : Dart) × IsCanonicalOrder tri.now.lists base (vertices_of order.now) }
     requires based { (base : Dart) × HasDart tri.now.lists base.0 base.1 × IsCanonicalOrder tri.now.lists base (vertices_of order.now) }
     requires rank { IsRankOf order.now.rank (vertices_of order.now) }

@@ -17,13 +17,13 @@ pub header-plain : IsPlain graph_header
 header-plain = All-from_recursion (λ b. b ≢ 10) graph_header (other 62 refl, (other 62 refl, (other 103 refl, (other 114 refl, (other 97 refl, (other 112 refl, (other 104 refl, (other 54 refl, (other 60 refl, (other 60 refl, tt))))))))))
 
 -- what begins with a front that has no byte 10 does so before its first byte 10
-parted : (front line rest more : List ℕ) → IsPlain front → line ++ 10 ∷ more ≡ front ++ rest → (r : List ℕ) × (line ≡ front ++ r)
-parted [] line rest more plain e = (line, refl)
-parted (x ∷ front) [] rest more plain e = let here : x ≡ 10 = cc in absurd (All-head (λ b. b ≢ 10) x front plain here)
-parted (x ∷ front) (b ∷ line) rest more plain e =
+separated : (front line rest more : List ℕ) → IsPlain front → line ++ 10 ∷ more ≡ front ++ rest → (r : List ℕ) × (line ≡ front ++ r)
+separated [] line rest more plain e = (line, refl)
+separated (x ∷ front) [] rest more plain e = let here : x ≡ 10 = cc in absurd (All-head (λ b. b ≢ 10) x front plain here)
+separated (x ∷ front) (b ∷ line) rest more plain e =
     let same : b ≡ x = cc in
     let behind : line ++ 10 ∷ more ≡ front ++ rest = cc in
-    let r = parted front line rest more (All-tail (λ b. b ≢ 10) x front plain) behind in
+    let r = separated front line rest more (All-tail (λ b. b ≢ 10) x front plain) behind in
     (r.0, whole same r.1)
   where
     whole : {b x : ℕ} {xs ys : List ℕ} → b ≡ x → xs ≡ ys → b ∷ xs ≡ x ∷ ys
@@ -83,7 +83,7 @@ none-closed line more e = by (Begins (line ++ 10 ∷ more) graph_header) refl
     by : (b : Bool) → Begins (line ++ 10 ∷ more) graph_header ≡ b → Begins (line ++ 10 ∷ more) graph_header ≡ false
     by true t =
         let p = begins-parts (line ++ 10 ∷ more) graph_header t in
-        let r = parted graph_header line p.0 more header-plain p.1 in
+        let r = separated graph_header line p.0 more header-plain p.1 in
         absurd (true≢false (sym (parts-begin line graph_header r.0 r.1) ∙ e))
     by false f = f
 

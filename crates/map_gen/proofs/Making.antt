@@ -37,34 +37,34 @@ before_next n number k some =
     let e' : k - 3 + 3 ≡ k = omega arith in
     ap (stacking n number) e ∙ ap (λ z. stack z (before n number k)) e'
 
--- the ids of the faces, of which one was parted
+-- the ids of the faces, of which one was split
 module _ (ids : List FaceDarts) (i : ℕ) (one two three d : FaceDarts) (l : i < length ids) where
-  abbrev pub parted_ids : List FaceDarts
-  parted_ids = (set ids i one ++ two ∷ []) ++ three ∷ []
+  abbrev pub separated_ids : List FaceDarts
+  separated_ids = (set ids i one ++ two ∷ []) ++ three ∷ []
 
-  whole : parted_ids ≡ set ids i one ++ two ∷ three ∷ []
+  whole : separated_ids ≡ set ids i one ++ two ∷ three ∷ []
   whole = append_assoc (set ids i one) (two ∷ []) (three ∷ [])
 
-  pub length-parted_ids : length parted_ids ≡ length ids + 2
-  length-parted_ids = let n = length-append (set ids i one) (two ∷ three ∷ []) in let m = length-set ids i one in ap length whole ∙ omega arith
+  pub length-separated_ids : length separated_ids ≡ length ids + 2
+  length-separated_ids = let n = length-append (set ids i one) (two ∷ three ∷ []) in let m = length-set ids i one in ap length whole ∙ omega arith
 
-  front : (j : ℕ) → j < length ids → get_or parted_ids j d ≡ get_or (set ids i one) j d
+  front : (j : ℕ) → j < length ids → get_or separated_ids j d ≡ get_or (set ids i one) j d
   front j m = let n = length-set ids i one in ap (λ xs. get_or xs j d) whole ∙ get_or_append_left (set ids i one) (two ∷ three ∷ []) d j (omega arith)
 
-  pub id_here : get_or parted_ids i d ≡ one
+  pub id_here : get_or separated_ids i d ≡ one
   id_here = front i l ∙ get_or-set_same ids i one d l
 
-  pub id_other : (j : ℕ) → j < length ids → j ≢ i → get_or parted_ids j d ≡ get_or ids j d
+  pub id_other : (j : ℕ) → j < length ids → j ≢ i → get_or separated_ids j d ≡ get_or ids j d
   id_other j m ne = front j m ∙ get_or-set_other ids i j one d ne
 
-  back : (j : ℕ) → get_or parted_ids (length ids + j) d ≡ get_or (two ∷ three ∷ []) j d
+  back : (j : ℕ) → get_or separated_ids (length ids + j) d ≡ get_or (two ∷ three ∷ []) j d
   back j = ap (λ xs. get_or xs (length ids + j) d) whole ∙ (ap (λ z. get_or (set ids i one ++ two ∷ three ∷ []) (z + j) d) (sym (length-set ids i one)) ∙ get_or-append-add (set ids i one) (two ∷ three ∷ []) j d)
 
-  pub id_next : (j : ℕ) → j ≡ length ids → get_or parted_ids j d ≡ two
-  id_next j e = let z : j ≡ length ids + 0 = omega arith in ap (λ x. get_or parted_ids x d) z ∙ back 0
+  pub id_next : (j : ℕ) → j ≡ length ids → get_or separated_ids j d ≡ two
+  id_next j e = let z : j ≡ length ids + 0 = omega arith in ap (λ x. get_or separated_ids x d) z ∙ back 0
 
-  pub id_last : (j : ℕ) → j ≡ length ids + 1 → get_or parted_ids j d ≡ three
-  id_last j e = ap (λ x. get_or parted_ids x d) e ∙ back 1
+  pub id_last : (j : ℕ) → j ≡ length ids + 1 → get_or separated_ids j d ≡ three
+  id_last j e = ap (λ x. get_or separated_ids x d) e ∙ back 1
 
 module _ (n number k : ℕ) (map : Map) (ids : List FaceDarts) (row : ℕ) (some : 3 ≤ k) (l : k < n) (h : IsMade (before n number k) map ids row) where
   abbrev s : Stacking
@@ -111,7 +111,7 @@ module _ (n number k : ℕ) (map : Map) (ids : List FaceDarts) (row : ℕ) (some
     IsMade-more new one two three put =
         let grown = (set ids i one ++ two ∷ []) ++ three ∷ [] in
         let next : Stacking = stack k s in
-        let total = length-parted_ids ids i one two three one in_ids in
+        let total = length-separated_ids ids i one two three one in_ids in
         let faces = length-with_faces (λ g j. Unit {0}) s.faces at k in_at f in
         let made : IsMade next new grown (next_number row) = record {
           lists = put.lists ∙ ap (λ ls. with_vertex ls k f) h.lists;

@@ -8,13 +8,13 @@ use Rattle.map_theory.specs.Maps.{list_of, HasDart, IsSimpleMap, IsPlane, edge_c
 use Rattle.map_theory.proofs.DartLemmas.{HasDart-follows}
 use Rattle.map_gen.specs.Stacked.{Face, Stacking, with_vertex, with_faces, face_at, next_number, chosen, stack, triangle, stacking}
 use Rattle.map_gen.specs.Faces.{IsFaceOf, IsOn, IsOwned, IsStacked}
-use Rattle.map_gen.specs.Laws.{StackedIsCompleted}
+use Rattle.map_gen.specs.Laws.{StackedIsTriangulation}
 use Rattle.map_gen.proofs.Start as start
 use Rattle.map_gen.proofs.VertexPut.{third_is, length-third, edges-third, simple-third, plane-third, face_ab, face_bc, face_ca, face-third, isolated-third, third, none_in}
 
--- Owners of the darts of a face that was parted: the first part keeps the number i, and the others have n and n + 1.
-abbrev parted : (ℕ → ℕ → ℕ) → Face → ℕ → ℕ → ℕ → ℕ → ℕ → ℕ
-parted owner f k i n x y =
+-- Owners of the darts of a face that was split: the first part keeps the number i, and the others have n and n + 1.
+abbrev separated : (ℕ → ℕ → ℕ) → Face → ℕ → ℕ → ℕ → ℕ → ℕ → ℕ
+separated owner f k i n x y =
     if y == k then (if x == f.b then i else if x == f.c then n else n + 1)
     else if x == k then (if y == f.a then i else if y == f.b then n else n + 1)
     else if (x == f.b) && (y == f.c) then n
@@ -31,16 +31,16 @@ record AreApart (f : Face) (k : ℕ) : Type 0 where
   c_k : f.c ≢ k
 
 module _ (owner : ℕ → ℕ → ℕ) (f : Face) (k i n : ℕ) (apart : AreApart f k) where
-  owned_ab : IsOwned owner f i → IsOwned (parted owner f k i n) (record { a = f.a; b = f.b; c = k }) i
+  owned_ab : IsOwned owner f i → IsOwned (separated owner f k i n) (record { a = f.a; b = f.b; c = k }) i
   owned_ab h = record { of_ab = grind (arith, nat_tests); of_bc = grind (arith, nat_tests); of_ca = grind (arith, nat_tests) }
 
-  owned_bc : IsOwned (parted owner f k i n) (record { a = f.b; b = f.c; c = k }) n
+  owned_bc : IsOwned (separated owner f k i n) (record { a = f.b; b = f.c; c = k }) n
   owned_bc = record { of_ab = grind (arith, nat_tests); of_bc = grind (arith, nat_tests); of_ca = grind (arith, nat_tests) }
 
-  owned_ca : IsOwned (parted owner f k i n) (record { a = f.c; b = f.a; c = k }) (n + 1)
+  owned_ca : IsOwned (separated owner f k i n) (record { a = f.c; b = f.a; c = k }) (n + 1)
   owned_ca = record { of_ab = grind (arith, nat_tests); of_bc = grind (arith, nat_tests); of_ca = grind (arith, nat_tests) }
 
-  owned_else : (x y : ℕ) → x ≢ k → y ≢ k → ¬ IsOn f x y → parted owner f k i n x y ≡ owner x y
+  owned_else : (x y : ℕ) → x ≢ k → y ≢ k → ¬ IsOn f x y → separated owner f k i n x y ≡ owner x y
   owned_else x y nx ny off = grind (arith, nat_tests)
 
 -- the owner of a dart
@@ -51,7 +51,7 @@ owner_on owner f j x y h on =
       | inr r ↦ elim r [ inl e ↦ ap₂ owner e.0 e.1 ∙ h.of_bc | inr e ↦ ap₂ owner e.0 e.1 ∙ h.of_ca ]
     ]
 
--- ---- the faces with one of them parted
+-- ---- the faces with one of them split
 
 -- a place among them, and what stands there
 module _ (P : Face → ℕ → Type 0) (faces : List Face) (i k : ℕ) (l : i < length faces) (f : Face) where
@@ -176,8 +176,8 @@ module _ (n k : ℕ) (s : Stacking) (h : IsStacked n k s) (l : k < n) where
             (to_new (λ ls. IsFaceOf ls (record { a = f.c; b = f.a; c = k })) (face_ca s.lists k f h.simple face in_k alone))
             (λ j m ne. to_new (λ ls. IsFaceOf ls (face_at s.faces j)) (face-third s.lists k f h.simple face in_k alone (face_at s.faces j) (h.faces j m) (λ x y on on'. ne (sym (owner_on owner (face_at s.faces j) j x y (h.apart.1 j m) on) ∙ owner_on owner f i x y (h.apart.1 i in_i) on'))));
         apart = (
-          parted owner f k i (length s.faces),
-          each_face (IsOwned (parted owner f k i (length s.faces))) s.faces i k in_i f
+          separated owner f k i (length s.faces),
+          each_face (IsOwned (separated owner f k i (length s.faces))) s.faces i k in_i f
               (owned_ab owner f k i (length s.faces) three (h.apart.1 i in_i))
               (owned_bc owner f k i (length s.faces) three)
               (owned_ca owner f k i (length s.faces) three)
@@ -203,8 +203,8 @@ IsStacked-stacking n number (suc k) l =
     subst (λ z. IsStacked n z (stack (k + 3) (stacking n number k))) e (IsStacked-more n (k + 3) (stacking n number k) (IsStacked-stacking n number k (omega arith)) (omega arith))
 
 -- DONE, and THE LAW: all vertices are put in
-pub stacked_is_completed : StackedIsCompleted
-stacked_is_completed n number some =
+pub stacked_is_triangulation : StackedIsTriangulation
+stacked_is_triangulation n number some =
     let h = IsStacked-stacking n number (n - 3) (omega arith) in
     let e : (n - 3) + 3 ≡ n = omega arith in
     let edges = h.edges in

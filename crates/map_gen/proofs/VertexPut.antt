@@ -371,7 +371,7 @@ module _ (lists : Lists) (k : ℕ) (f : Face) (simple : IsSimpleMap lists) (face
   next_c : follows third c k ≡ a
   next_c = ap (entry_after k) third_c ∙ (behind_k (list_of lists c) b has_cb.1 (λ h. not_to_k c (has_cb.0, h)) ∙ face.after_c)
 
-  -- the face is parted into three
+  -- the face is split into three
   pub face_ab : IsFaceOf third (record { a = f.a; b = f.b; c = k })
   face_ab = record {
     edge = kept a b face.edge;

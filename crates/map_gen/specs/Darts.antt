@@ -10,7 +10,7 @@ pub record HasDarts (map : Map) (ids : FaceDarts) (f : Face) : Type 0 where
   pub bc : dart_at map ids.b.0 ≡ Some (f.b, f.c)
   pub ca : dart_at map ids.c.0 ≡ Some (f.c, f.a)
 
--- The vertex k was put into the face f, which is parted into three: those of its first, second and third dart. Old darts keep their ids.
+-- The vertex k was put into the face f, which is split into three: those of its first, second and third dart. Old darts keep their ids.
 pub record IsVertexPut (old new : Map) (k : ℕ) (f : Face) (one two three : FaceDarts) : Type 0 where
   pub lists : new.lists ≡ with_vertex old.lists k f
   pub ids : (e v u : ℕ) → dart_at old e ≡ Some (v, u) → dart_at new e ≡ Some (v, u)

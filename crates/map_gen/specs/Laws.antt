@@ -1,9 +1,9 @@
 -- What the generator makes, as statements about all its maps.
 use Rattle.std.specs.Prelude.{ℕ, ◌≤◌, ◌≡◌}
 use Rattle.map_theory.specs.Maps.{vertex_count}
-use Rattle.plane_laws.specs.Completed.{IsCompleted}
+use Rattle.plane_laws.specs.Triangulations.{IsTriangulation}
 use Rattle.map_gen.specs.Stacked.{stacked}
 
--- Each of its maps has n vertices and is completed: of genus zero, and all its faces are triangles.
-abbrev pub StackedIsCompleted : Type 0
-StackedIsCompleted = (n number : ℕ) → 3 ≤ n → IsCompleted (stacked n number) × (vertex_count (stacked n number) ≡ n)
+-- Each of its maps has n vertices and is a triangulation: of genus zero, and all its faces are triangles.
+abbrev pub StackedIsTriangulation : Type 0
+StackedIsTriangulation = (n number : ℕ) → 3 ≤ n → IsTriangulation (stacked n number) × (vertex_count (stacked n number) ≡ n)

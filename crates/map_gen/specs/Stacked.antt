@@ -32,7 +32,7 @@ pub record Stacking : Type 0 where
   pub faces : List Face
   pub number : ℕ
 
--- the faces with the face number i parted into three about k
+-- the faces with the face number i split into three about k
 abbrev pub with_faces : List Face → ℕ → ℕ → Face → List Face
 with_faces faces i k f =
     slice_set faces i (record { a = f.a; b = f.b; c = k }) ++ record { a = f.b; b = f.c; c = k } ∷ record { a = f.c; b = f.a; c = k } ∷ []

@@ -49,7 +49,7 @@ fn triangle(alloc: Global, n: u16) -> Result<Rotations, AllocError>
 }
 
 // Joins the isolated vertex k to the vertices of a face, and answers the three faces into which that is
-// parted: those of its first, second and third dart.
+// split: those of its first, second and third dart.
 fn put_vertex(map: &mut HalfMap, k: VertexId, face: FaceDarts) -> (FaceDarts, FaceDarts, FaceDarts)
     requires spare { 3 ≤ map.old.spare }
     requires vertex { k.0 < length map.old.lists }

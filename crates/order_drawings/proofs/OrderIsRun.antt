@@ -5,7 +5,7 @@ use Rattle.std.proofs.lemmas.List.Elements.{Contains-get_or}
 use Rattle.map_lists.specs.Lists.{Lists}
 use Rattle.map_theory.specs.Maps.{Dart, HasDart}
 use Rattle.map_theory.proofs.EntryLemmas.{list_any-from_Contains}
-use Rattle.plane_laws.specs.Completed.{IsCompleted}
+use Rattle.plane_laws.specs.Triangulations.{IsTriangulation}
 use Rattle.plane_peeling.specs.Restricted.{IsFaceOfThree, IsDartOfThree}
 use Rattle.plane_peeling.proofs.OuterCycles.{IsFaceOfThree-turned}
 use Rattle.plane_peeling.proofs.RestrictedMaps.{restricted-new}
@@ -32,12 +32,12 @@ dart_named a b v a' b' v' x y ea eb ev d = elim d [
   | inr (inr e) ↦ inr (inl (e.0 ∙ sym eb, e.1 ∙ sym ev))
 ]
 
-module _ (lists : Lists) (base : Dart) (at : List ℕ) (completed : IsCompleted lists) (order : IsCanonicalOrder lists base at) where
+module _ (lists : Lists) (base : Dart) (at : List ℕ) (triangulation : IsTriangulation lists) (order : IsCanonicalOrder lists base at) where
   abbrev cycle : ℕ → List ℕ
   cycle = order.cycle
 
   some_at : 3 ≤ length at
-  some_at = let c = order.count in let s = completed.some in omega arith
+  some_at = let c = order.count in let s = triangulation.some in omega arith
 
   abbrev put_on : (k : ℕ) → k + 2 < length at → IsPutOn lists (take (suc (k + 2)) at) (get_or at (k + 2) 0) (cycle (k + 2)) (cycle (suc (k + 2)))
   put_on k l = order.built.put (k + 2) (omega arith) l
@@ -79,7 +79,7 @@ module _ (lists : Lists) (base : Dart) (at : List ℕ) (completed : IsCompleted 
         let made : IsFaceOfThree lists (name v) (name a) (name b) =
         subst (λ z. IsFaceOfThree lists z (name a) (name b)) n.top
         (subst (λ z. IsFaceOfThree lists (name (k + 2)) z (name b)) n.left (subst (λ z. IsFaceOfThree lists (name (k + 2)) (get_or (under k l) n.place 0) z) right triangle)) in
-        IsFaceOfThree-turned lists (name v) (name a) (name b) completed.simple made
+        IsFaceOfThree-turned lists (name v) (name a) (name b) triangulation.simple made
 
     -- one vertex has one place of the contour
     one_place : (k i j : ℕ) → k + 2 ≤ length at → i < (stage k).width → j < (stage k).width → name ((stage k).vertex i) ≡ name ((stage k).vertex j) → i ≡ j
@@ -125,11 +125,11 @@ module _ (lists : Lists) (base : Dart) (at : List ℕ) (completed : IsCompleted 
         let v : name (k + 2) ≡ made.v = ap name e ∙ made.vertex in
         let a : name ((stage k).vertex made.i) ≡ made.a = sym (cycle-name k made.i (omega arith) (omega arith)) ∙ ap (λ z. get_or (cycle z) made.i 0) e ∙ made.one in
         let b : name ((stage k).vertex (suc made.i)) ≡ made.b = sym (cycle-name k (suc made.i) (omega arith) inside) ∙ ap (λ z. get_or (cycle z) (suc made.i) 0) e ∙ made.next in
-        let turned = IsFaceOfThree-turned lists made.v made.a made.b completed.simple made.face in
-        let again = IsFaceOfThree-turned lists made.a made.b made.v completed.simple turned in
+        let turned = IsFaceOfThree-turned lists made.v made.a made.b triangulation.simple made.face in
+        let again = IsFaceOfThree-turned lists made.a made.b made.v triangulation.simple turned in
         let va : HasDart lists (name (k + 2)) (name ((stage k).vertex made.i)) = subst (λ z. HasDart lists (name (k + 2)) z) (sym a) (subst (λ z. HasDart lists z made.a) (sym v) made.face.dart) in
         let vb : HasDart lists (name (k + 2)) (name ((stage k).vertex (suc made.i))) =
-        subst (λ z. HasDart lists (name (k + 2)) z) (sym b) (subst (λ z. HasDart lists z made.b) (sym v) (completed.simple.both_ways made.b made.v again.dart)) in
+        subst (λ z. HasDart lists (name (k + 2)) z) (sym b) (subst (λ z. HasDart lists z made.b) (sym v) (triangulation.simple.both_ways made.b made.v again.dart)) in
         let low = on_row k made.i l (omega arith) va in
         let high = on_row k (suc made.i) l inside vb in
         record {
@@ -154,7 +154,7 @@ module _ (lists : Lists) (base : Dart) (at : List ℕ) (completed : IsCompleted 
         steps,
         record {
           run = h.run;
-          end = sym (width-cycle steps h n (omega arith)) ∙ ap (λ z. length (cycle z)) top ∙ ap length (last lists base at completed order);
+          end = sym (width-cycle steps h n (omega arith)) ∙ ap (λ z. length (cycle z)) top ∙ ap length (last lists base at triangulation order);
           contours = h.contours;
           faces = λ k i a b v l f. face_of_map steps h k i a b v l f;
           made = λ x y d other. made_by_step steps h x y (order.faces x y d other);

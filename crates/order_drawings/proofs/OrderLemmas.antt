@@ -5,7 +5,7 @@ use Rattle.std.proofs.lemmas.List.{get_or_default, get_or_past}
 use Rattle.std.proofs.lemmas.List.Elements.{Contains-get_or}
 use Rattle.map_lists.specs.Lists.{Lists}
 use Rattle.map_theory.specs.Maps.{Dart, HasDart, list_of}
-use Rattle.plane_laws.specs.Completed.{IsCompleted}
+use Rattle.plane_laws.specs.Triangulations.{IsTriangulation}
 use Rattle.canon_order.specs.Orders.{IsCanonicalOrder, IsRankOf}
 use Rattle.canon_order.proofs.Counters.{all_of_them}
 use Rattle.contour_runs.specs.Runs.{Step, stage_after}
@@ -24,7 +24,7 @@ ranks_within lists base at ranks order rank v d l =
     let r : get_or ranks v d ≡ i = get_or_default ranks v d 0 l ∙ ap (λ u. get_or ranks u 0) (sym here) ∙ rank.of_place i in_at in
     omega arith
 
-module _ (lists : Lists) (base : Dart) (at ranks : List ℕ) (completed : IsCompleted lists) (order : IsCanonicalOrder lists base at) (rank : IsRankOf ranks at) where
+module _ (lists : Lists) (base : Dart) (at ranks : List ℕ) (triangulation : IsTriangulation lists) (order : IsCanonicalOrder lists base at) (rank : IsRankOf ranks at) where
   pub ranks_small : length lists < 4096 → (u : ℕ) → get_or ranks u 0 < 2 ^ 16
   ranks_small few u =
       let n = rank.count in
@@ -39,12 +39,12 @@ module _ (lists : Lists) (base : Dart) (at ranks : List ℕ) (completed : IsComp
       let n = rank.count in
       let e = order.count in
       let dart : HasDart lists v (get_or (list_of lists v) i d) = (l, Contains-get_or (list_of lists v) i d m) in
-      let r = completed.simple.in_range v (get_or (list_of lists v) i d) dart in
+      let r = triangulation.simple.in_range v (get_or (list_of lists v) i d) dart in
       omega arith
 
   module _ (found : OrderRows) (steps : ℕ → Step) (run : IsOrderRun lists base at order.cycle steps) where
     pub row_of : (k : ℕ) → k + 2 < length at → IsOrderRow (list_of lists (get_or at (k + 2) 0)) ranks steps k
-    row_of k l = found lists base at ranks completed order rank steps run k l
+    row_of k l = found lists base at ranks triangulation order rank steps run k l
 
     pub list_some : (k : ℕ) → 2 ≤ k → k < length at → 0 < length (list_of lists (get_or at k 0))
     list_some k l m =
@@ -57,7 +57,7 @@ module _ (lists : Lists) (base : Dart) (at ranks : List ℕ) (completed : IsComp
     pub AreAllRows-order : (rows : Lists) → length rows + 2 ≡ length at → AreRanked lists at ranks rows → AreAllRows steps rows
     AreAllRows-order rows n h =
         let count = order.count in
-        let some = completed.some in
+        let some = triangulation.some in
         let e : length at - 2 ≡ length rows = omega arith in
         record {
           rows_are = record {

@@ -6,7 +6,7 @@ use Rattle.std.proofs.lemmas.List.Elements.{Contains-get_or}
 use Rattle.map_lists.specs.Lists.{Lists}
 use Rattle.map_theory.specs.Maps.{Dart, HasDart, follows}
 use Rattle.map_theory.proofs.EntryLemmas.{Contains-from_list_any, list_any-from_Contains}
-use Rattle.plane_laws.specs.Completed.{IsCompleted}
+use Rattle.plane_laws.specs.Triangulations.{IsTriangulation}
 use Rattle.plane_peeling.proofs.RestrictedMaps.{restricted-old, restricted-new}
 use Rattle.canon_order.specs.Orders.{stands_in, IsPutOn, IsCanonicalOrder, IsRankOf}
 use Rattle.canon_order.proofs.Counters.{same_place, all_of_them}
@@ -38,7 +38,7 @@ pub record IsRowOf (lists : Lists) (at ranks : List ℕ) (steps : ℕ → Step) 
   -- the last vertex of all is put over the whole contour
   pub whole : suc (k + 2) ≡ length at → ((steps k).first ≡ 0) × (suc (steps k).last ≡ (stage_after steps k).width)
 
-module _ (lists : Lists) (base : Dart) (at ranks : List ℕ) (completed : IsCompleted lists) (order : IsCanonicalOrder lists base at) (rank : IsRankOf ranks at) (steps : ℕ → Step) (run : IsOrderRun lists base at order.cycle steps) where
+module _ (lists : Lists) (base : Dart) (at ranks : List ℕ) (triangulation : IsTriangulation lists) (order : IsCanonicalOrder lists base at) (rank : IsRankOf ranks at) (steps : ℕ → Step) (run : IsOrderRun lists base at order.cycle steps) where
   abbrev name : ℕ → ℕ
   name k = get_or at k 0
 
@@ -115,7 +115,7 @@ module _ (lists : Lists) (base : Dart) (at ranks : List ℕ) (completed : IsComp
     dart_at c m = restricted-old lists (stands_in us) v (get_or ws c 0) ((put.fan.neighbours (get_or ws c 0)).1 (Contains-get_or ws c 0 m))
 
     rank-ws : (c : ℕ) → c < length ws → get_or ranks (get_or ws c 0) 0 < k + 2
-    rank-ws c m = let d = dart_at c m in is_earlier (get_or ws c 0) d.2 (completed.simple.no_loop v (get_or ws c 0) d.0)
+    rank-ws c m = let d = dart_at c m in is_earlier (get_or ws c 0) d.2 (triangulation.simple.no_loop v (get_or ws c 0) d.0)
 
     turns : (c : ℕ) → suc c < length ws → follows lists v (get_or ws (suc c) 0) ≡ get_or ws c 0
     turns c m =
@@ -126,7 +126,7 @@ module _ (lists : Lists) (base : Dart) (at ranks : List ℕ) (completed : IsComp
     -- an earlier neighbour stands in the row
     on_row : (u : ℕ) → HasDart lists v u → get_or ranks u 0 < k + 2 → (c : ℕ) × (c < length ws) × (get_or ws c 0 ≡ u)
     on_row u dart r =
-        let kept = stands_earlier u (completed.simple.in_range v u dart) r in
+        let kept = stands_earlier u (triangulation.simple.in_range v u dart) r in
         let on = (put.fan.neighbours u).0 (restricted-new lists (stands_in us) v u dart v_kept kept) in
         (on.0, on.1, get_or_default ws on.0 0 u on.1 ∙ on.2)
 

@@ -9,9 +9,9 @@ use Rattle.map_theory.specs.Maps.{Dart, list_of, follows, place_of, entry_after}
 use Rattle.map_theory.proofs.DartLemmas.{place_of-lt-length, get_or-place_of, place_of-get_or, entry_after-place, entry_after-injective, place_after-lt, place_before-lt, place_after-before}
 use Rattle.map_theory.proofs.DartCounts.{length-le-below}
 use Rattle.map_theory.proofs.EntryLemmas.{Contains-from_map, AllPairs-map}
-use Rattle.plane_laws.specs.Completed.{IsCompleted}
+use Rattle.plane_laws.specs.Triangulations.{IsTriangulation}
 use Rattle.canon_order.specs.Orders.{stands_in, IsPutOn, IsCanonicalOrder, IsRankOf}
-use Rattle.canon_order.specs.Laws.{RunEnds}
+use Rattle.canon_order.specs.Laws.{RowEnds}
 use Rattle.contour_runs.specs.Runs.{Step, Stage, stage_after}
 use Rattle.order_drawings.specs.OrderRuns.{IsOrderRun}
 use Rattle.order_drawings.proofs.OrderRunsOrderRows.{IsRowOf, row_of}
@@ -27,7 +27,7 @@ entry_at_before : (us : List ℕ) (i : ℕ) → AllPairs ◌≢◌ us → i < le
 entry_at_before us i distinct l =
     sym (entry_at_after us (place_before (length us) i) distinct (place_before-lt (length us) i l)) ∙ ap (λ j. get_or us j 0) (place_after-before (length us) i l)
 
-module _ (lists : Lists) (base : Dart) (at ranks : List ℕ) (completed : IsCompleted lists) (order : IsCanonicalOrder lists base at) (rank : IsRankOf ranks at) (steps : ℕ → Step) (run : IsOrderRun lists base at order.cycle steps) (k : ℕ) (l : k + 2 < length at) where
+module _ (lists : Lists) (base : Dart) (at ranks : List ℕ) (triangulation : IsTriangulation lists) (order : IsCanonicalOrder lists base at) (rank : IsRankOf ranks at) (steps : ℕ → Step) (run : IsOrderRun lists base at order.cycle steps) (k : ℕ) (l : k + 2 < length at) where
   abbrev v : ℕ
   v = get_or at (k + 2) 0
 
@@ -50,13 +50,13 @@ module _ (lists : Lists) (base : Dart) (at ranks : List ℕ) (completed : IsComp
   s = steps k
 
   row : IsRowOf lists at ranks steps k v ws
-  row = row_of lists base at ranks completed order rank steps run k l
+  row = row_of lists base at ranks triangulation order rank steps run k l
 
   v_in : v < length lists
   v_in = order.vertices (k + 2) 0 l
 
   distinct : AllPairs ◌≢◌ list
-  distinct = completed.simple.no_repeat v v_in
+  distinct = triangulation.simple.no_repeat v v_in
 
   IsRow-ws : IsRow g s (map (λ u. get_or ranks u 0) ws)
   IsRow-ws = record {
@@ -86,12 +86,12 @@ module _ (lists : Lists) (base : Dart) (at ranks : List ℕ) (completed : IsComp
       (entry_at_before list i distinct (back_in c) ∙ less ∙ sym (row.turns c m))
 
   in_lists : (i : ℕ) → i < length list → get_or list i 0 < length lists
-  in_lists i m = completed.simple.in_range v (get_or list i 0) (v_in, Contains-get_or list i 0 m)
+  in_lists i m = triangulation.simple.in_range v (get_or list i 0) (v_in, Contains-get_or list i 0 m)
 
   after_is : (i : ℕ) → i < length list → get_or list (Rattle.order_drawings.specs.Rows.place_after (length list) i) 0 ≡ follows lists v (get_or list i 0)
   after_is i m = entry_at_after list i distinct m
 
-  module _ (ends : RunEnds) where
+  module _ (ends : RowEnds) where
     first_place : IsFirstPlace list ranks (k + 2) start
     first_place =
         let e = entries 0 (omega (arith, row.some)) in
@@ -102,7 +102,7 @@ module _ (lists : Lists) (base : Dart) (at ranks : List ℕ) (completed : IsComp
           earlier = omega (arith, ap (λ u. get_or ranks u 0) e);
           begins = elim (cases_lt (suc (k + 2)) (length at)) [
             | inl more ↦
-                let a = (ends lists base at completed order (k + 2) later l more).after in
+                let a = (ends lists base at triangulation order (k + 2) later l more).after in
                 inr (row.is_later (get_or list (Rattle.order_drawings.specs.Rows.place_after (length list) start) 0) next_in (ap (stands_in (take (suc (k + 2)) at)) (f ∙ ap (follows lists v) e) ∙ a))
             | inr top ↦
                 let z = (row.whole (omega arith)).0 in
@@ -164,7 +164,7 @@ module _ (lists : Lists) (base : Dart) (at ranks : List ℕ) (completed : IsComp
           | inl more ↦
               let x : ℕ = get_or list (place_before (length list) i) 0 in
               let b = place_before-lt (length list) i (back_in c) in
-              let n = (ends lists base at completed order (k + 2) later l more).before x (v_in, Contains-get_or list (place_before (length list) i) 0 b) (entry_at_before list i distinct (back_in c) ∙ e ∙ q_at) in
+              let n = (ends lists base at triangulation order (k + 2) later l more).before x (v_in, Contains-get_or list (place_before (length list) i) 0 b) (entry_at_before list i distinct (back_in c) ∙ e ∙ q_at) in
               inr (row.is_later x (in_lists (place_before (length list) i) b) n)
           | inr top ↦
               let z = (row.whole (omega arith)).1 in

@@ -10,7 +10,7 @@ use Rattle.map_lists.specs.Lists.{Lists}
 use Rattle.map_theory.specs.Maps.{Dart, HasDart, follows, place_of, entry_after}
 use Rattle.map_theory.specs.Paths.{SameFace}
 use Rattle.map_theory.proofs.DartLemmas.{place_of-get_or}
-use Rattle.plane_laws.specs.Completed.{IsCompleted}
+use Rattle.plane_laws.specs.Triangulations.{IsTriangulation}
 use Rattle.plane_peeling.specs.Restricted.{IsFaceOfThree, IsDartOfThree}
 use Rattle.plane_peeling.specs.NearTriangulations.{IsOuterCycle, IsOuterDart}
 use Rattle.plane_peeling.specs.Laws.{NothingTakenOff, OuterCycleIsFace}
@@ -41,7 +41,7 @@ ends steps n run k i a b v l f =
     (omega arith, omega arith, omega arith)
 
 -- the darts of the face of the base
-module _ (lists : Lists) (base : Dart) (completed : IsCompleted lists) (dart : HasDart lists base.0 base.1) (peeled : NothingTakenOff) (face : OuterCycleIsFace) where
+module _ (lists : Lists) (base : Dart) (triangulation : IsTriangulation lists) (dart : HasDart lists base.0 base.1) (peeled : NothingTakenOff) (face : OuterCycleIsFace) where
   abbrev third : ℕ
   third = follows lists base.1 base.0
 
@@ -50,11 +50,11 @@ module _ (lists : Lists) (base : Dart) (completed : IsCompleted lists) (dart : H
 
   whole : IsOuterCycle lists base.1 base.0 round
   whole =
-      subst (λ map. IsOuterCycle map base.1 base.0 round) (restricted_all lists (λ v. true) completed.simple (λ v l. refl))
-      (peeled lists (λ v. true) base.1 base.0 completed dart (λ v l. refl)).near.cycle
+      subst (λ map. IsOuterCycle map base.1 base.0 round) (restricted_all lists (λ v. true) triangulation.simple (λ v l. refl))
+      (peeled lists (λ v. true) base.1 base.0 triangulation dart (λ v l. refl)).near.cycle
 
   on_base : (x y : ℕ) → HasDart lists x y → IsDartOfThree base.0 base.1 third x y → SameFace lists base (x, y)
-  on_base x y d three = (face lists base.1 base.0 round completed.simple whole x y d).1 (outer three)
+  on_base x y d three = (face lists base.1 base.0 round triangulation.simple whole x y d).1 (outer three)
     where
       outer : IsDartOfThree base.0 base.1 third x y → IsOuterDart round x y
       outer (inl e) = ((2, omega arith, sym e.0), ap (λ z. entry_after z round) e.0 ∙ entry_after-last (base.1 ∷ third ∷ []) base.0 whole.distinct ∙ sym e.1)
@@ -66,7 +66,7 @@ module _ (lists : Lists) (base : Dart) (completed : IsCompleted lists) (dart : H
     name k = get_or at k 0
 
     some_at : 3 ≤ length at
-    some_at = let c = order.count in let s = completed.some in omega arith
+    some_at = let c = order.count in let s = triangulation.some in omega arith
 
     -- the corners of a face by a dart of it
     corner : (a b c x y : ℕ) → x ≡ a → y ≡ b → follows lists b a ≡ c → pos 0 <ℤ area (place points a) (place points b) (place points c) → pos 0 <ℤ area (place points x) (place points y) (place points (follows lists y x))
@@ -122,7 +122,7 @@ module _ (lists : Lists) (base : Dart) (completed : IsCompleted lists) (dart : H
     drawing law =
         let n = order.count in
         let ccw : IsCounterclockwise lists points base = record { inner = inner; outer = base_outside } in
-        let plane = law lists points base completed dart ccw in
+        let plane = law lists points base triangulation dart ccw in
         record {
           counterclockwise = ccw;
           plane = plane.0;

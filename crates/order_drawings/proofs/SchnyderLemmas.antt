@@ -4,7 +4,7 @@ use Rattle.std.proofs.lemmas.Int.{ints}
 use Rattle.pg_plane.specs.declared.point.Point.{Point}
 use Rattle.map_lists.specs.Lists.{Lists}
 use Rattle.map_theory.specs.Maps.{Dart, HasDart}
-use Rattle.plane_laws.specs.Completed.{IsCompleted}
+use Rattle.plane_laws.specs.Triangulations.{IsTriangulation}
 use Rattle.plane_drawings.specs.Drawing.{IsInGrid}
 use Rattle.canon_order.specs.Orders.{IsCanonicalOrder}
 use Rattle.order_drawings.specs.RunDrawings.{IsCounterclockwiseRun, CounterclockwiseRunDraws}
@@ -13,7 +13,7 @@ use Rattle.contour_runs.specs.WoodPointsLaws.{IsWholeRun, StandsAt}
 use Rattle.contour_runs.proofs.Corners.{in_grid, cornered, counterclockwise, outside}
 use Rattle.order_drawings.specs.SchnyderDrawings.{AreWoodPoints, IsSchnyderDrawing}
 
-module _ (lists : Lists) (base : Dart) (at : List ℕ) (points : List Point) (completed : IsCompleted lists) (dart : HasDart lists base.0 base.1) (order : IsCanonicalOrder lists base at) (h : AreWoodPoints lists base at order.cycle points) where
+module _ (lists : Lists) (base : Dart) (at : List ℕ) (points : List Point) (triangulation : IsTriangulation lists) (dart : HasDart lists base.0 base.1) (order : IsCanonicalOrder lists base at) (h : AreWoodPoints lists base at order.cycle points) where
   abbrev last : ℕ
   last = length at - 2
 
@@ -22,7 +22,7 @@ module _ (lists : Lists) (base : Dart) (at : List ℕ) (points : List Point) (co
 
   -- the run of the order is a whole one
   whole : IsWholeRun h.steps last (length at)
-  whole = let n = order.count in let some = completed.some in record { run = h.order.run; count = omega arith; some = omega arith; end = h.order.end }
+  whole = let n = order.count in let some = triangulation.some in record { run = h.order.run; count = omega arith; some = omega arith; end = h.order.end }
 
   good : IsCounterclockwiseRun h.steps (length at) point
   good = record { made = λ k i a b v l f. counterclockwise h.steps last (length at) whole k i a b v (omega arith) f; outside = outside h.steps last (length at) whole }
@@ -33,7 +33,7 @@ module _ (lists : Lists) (base : Dart) (at : List ℕ) (points : List Point) (co
 
   pub drawing : CounterclockwiseRunDraws → IsSchnyderDrawing lists base points
   drawing law =
-      let d = law lists base at h.steps point points completed dart order h.order good h.placed in
+      let d = law lists base at h.steps point points triangulation dart order h.order good h.placed in
       let n = order.count in
       let c = cornered h.steps last (length at) whole in
       record {

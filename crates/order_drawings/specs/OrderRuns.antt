@@ -2,7 +2,7 @@
 use Rattle.std.specs.Prelude.{ℕ, ◌+◌, ◌-◌, ◌<◌, ◌≤◌, ◌≡◌, List, map, length, slice_index}
 use Rattle.map_lists.specs.Lists.{Lists}
 use Rattle.map_theory.specs.Maps.{Dart, HasDart, follows}
-use Rattle.plane_laws.specs.Completed.{IsCompleted}
+use Rattle.plane_laws.specs.Triangulations.{IsTriangulation}
 use Rattle.plane_peeling.specs.Restricted.{IsFaceOfThree, IsDartOfThree}
 use Rattle.canon_order.specs.Orders.{IsCanonicalOrder}
 use Rattle.contour_runs.specs.Runs.{Step, stage_after, IsRun, contour, IsFaceOf}
@@ -29,4 +29,4 @@ pub record IsOrderRun (lists : Lists) (base : Dart) (at : List ℕ) (cycle : ℕ
 -- Each canonical order has such a run.
 abbrev pub OrderIsRun : Type 0
 OrderIsRun =
-    (lists : Lists) (base : Dart) (at : List ℕ) → IsCompleted lists → (order : IsCanonicalOrder lists base at) → (steps : ℕ → Step) × IsOrderRun lists base at order.cycle steps
+    (lists : Lists) (base : Dart) (at : List ℕ) → IsTriangulation lists → (order : IsCanonicalOrder lists base at) → (steps : ℕ → Step) × IsOrderRun lists base at order.cycle steps

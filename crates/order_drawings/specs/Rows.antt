@@ -2,7 +2,7 @@
 use Rattle.std.specs.Prelude.{ℕ, zero, suc, ◌+◌, ◌-◌, ◌<◌, ◌≤◌, ◌≡◌, ◌⊎◌, ◌==◌, nat_lt, if◌then◌else◌, List, length, map, slice_index}
 use Rattle.map_lists.specs.Lists.{Lists}
 use Rattle.map_theory.specs.Maps.{Dart, list_of}
-use Rattle.plane_laws.specs.Completed.{IsCompleted}
+use Rattle.plane_laws.specs.Triangulations.{IsTriangulation}
 use Rattle.canon_order.specs.Orders.{IsCanonicalOrder, IsRankOf}
 use Rattle.order_drawings.specs.OrderRuns.{IsOrderRun}
 use Rattle.contour_runs.specs.Runs.{Step, Stage, stage_after, IsRun}
@@ -75,7 +75,7 @@ pub record IsOrderRow (list ranks : List ℕ) (steps : ℕ → Step) (k : ℕ) :
 -- So it is for each vertex of a canonical order from the third on, and a run of it.
 abbrev pub OrderRows : Type 0
 OrderRows =
-    (lists : Lists) (base : Dart) (at ranks : List ℕ) → IsCompleted lists → (order : IsCanonicalOrder lists base at) → IsRankOf ranks at → (steps : ℕ → Step) → IsOrderRun lists base at order.cycle steps
+    (lists : Lists) (base : Dart) (at ranks : List ℕ) → IsTriangulation lists → (order : IsCanonicalOrder lists base at) → IsRankOf ranks at → (steps : ℕ → Step) → IsOrderRun lists base at order.cycle steps
     → (k : ℕ) → k + 2 < length at → IsOrderRow (list_of lists (slice_index at (k + 2))) ranks steps k
 
 -- These are the rows of an order with the vertices `at`: one for each from the third on, and those of the run of each canonical order that these are.

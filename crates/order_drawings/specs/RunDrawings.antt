@@ -1,8 +1,8 @@
--- Drawings of completed maps by the run of a canonical order.
+-- Drawings of triangulations by the run of a canonical order.
 use Rattle.std.specs.Prelude.{ℕ, ◌+◌, ◌-◌, ◌<◌, ◌≡◌, List, length, slice_index, pos, ◌<ℤ◌}
 use Rattle.map_lists.specs.Lists.{Lists}
 use Rattle.map_theory.specs.Maps.{Dart, HasDart, follows}
-use Rattle.plane_laws.specs.Completed.{IsCompleted}
+use Rattle.plane_laws.specs.Triangulations.{IsTriangulation}
 use Rattle.pg_plane.specs.declared.point.Point.{Point}
 use Rattle.pg_plane.specs.Geometry.{area}
 use Rattle.plane_drawings.specs.Drawing.{place, IsPlaneDrawing, KeepsRotations, IsCounterclockwise}
@@ -32,7 +32,7 @@ pub record IsRunDrawing (lists : Lists) (base : Dart) (point : ℕ → Point) (p
 -- Such points of the run of a canonical order are such a drawing.
 abbrev pub CounterclockwiseRunDraws : Type 0
 CounterclockwiseRunDraws =
-    (lists : Lists) (base : Dart) (at : List ℕ) (steps : ℕ → Step) (point : ℕ → Point) (points : List Point) → IsCompleted lists → HasDart lists base.0 base.1 → (order : IsCanonicalOrder lists base at) → IsOrderRun lists base at order.cycle steps
+    (lists : Lists) (base : Dart) (at : List ℕ) (steps : ℕ → Step) (point : ℕ → Point) (points : List Point) → IsTriangulation lists → HasDart lists base.0 base.1 → (order : IsCanonicalOrder lists base at) → IsOrderRun lists base at order.cycle steps
     → IsCounterclockwiseRun steps (length at) point → ArePlacedBy at point points → IsRunDrawing lists base point points
 
 -- There are points of vertices for any points of the places of an order.

@@ -1,4 +1,4 @@
-//! A canonical order of a completed map is a run of insertions over the contour, whose faces are those of the
+//! A canonical order of a triangulation is a run of insertions over the contour, whose faces are those of the
 //! map. What is proved of runs then holds of orders.
 
 ghost use Rattle.order_drawings.specs.OrderRuns.{OrderIsRun};

@@ -1,10 +1,10 @@
-//! Completed maps drawn by the run of a canonical order. What a method of drawing has to show is of runs alone:
+//! Triangulations drawn by the run of a canonical order. What a method of drawing has to show is of runs alone:
 //! that the faces which a run makes are counterclockwise, and the one on the other side of the base is not.
 //! Each law is the contract of a function that does nothing but call those on which it stands.
 
 ghost use Rattle.order_drawings.specs.RunDrawings.{CounterclockwiseRunDraws, PointsOfOrder};
 
-/// Points for the places of a canonical order of a completed map, by which each face that its run makes is
+/// Points for the places of a canonical order of a triangulation, by which each face that its run makes is
 /// counterclockwise and the face on the other side of the base is clockwise, are a plane drawing that keeps
 /// the rotations, with the face of the base outside.
 pub fn counterclockwise_run_draws()

@@ -1,9 +1,9 @@
-//! Completed maps drawn by Schnyder's coordinates (1990). Each law is the contract of a function that does
+//! Triangulations drawn by Schnyder's coordinates (1990). Each law is the contract of a function that does
 //! nothing but call those on which it stands.
 
 ghost use Rattle.order_drawings.specs.SchnyderDrawings.{WoodPointsDraw, SomeWoodPoints, SomeSchnyderDrawing};
 
-/// Schnyder's coordinates over a canonical order of a completed map are a plane drawing in the grid n - 2 by
+/// Schnyder's coordinates over a canonical order of a triangulation are a plane drawing in the grid n - 2 by
 /// n - 2 that keeps the rotations. The face of the base is outside, and its three vertices stand at the
 /// corners.
 pub fn wood_points_draw()
@@ -12,7 +12,7 @@ pub fn wood_points_draw()
     crate::run_drawings::counterclockwise_run_draws();
 }
 
-/// Each canonical order of a completed map has such points.
+/// Each canonical order of a triangulation has such points.
 pub fn some_wood_points()
     ensures { SomeWoodPoints }
 {
@@ -20,7 +20,7 @@ pub fn some_wood_points()
     crate::run_drawings::points_of_order();
 }
 
-/// Each completed map has such a drawing, for each base dart.
+/// Each triangulation has such a drawing, for each base dart.
 pub fn some_schnyder_drawing()
     ensures { SomeSchnyderDrawing }
 {

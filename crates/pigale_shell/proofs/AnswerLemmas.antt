@@ -2,9 +2,9 @@
 use Rattle.std.proofs.Common.{◌≡◌, ◌↔◌, ◌∙◌, ℕ, ◌<◌, length, Bool, false, IsTrue, true≢false, sym}
 use Rattle.map_lists.specs.Lists.{Lists}
 use Rattle.refusals.specs.declared.refusal.Refusal.{Refusal}
-use Rattle.conn_parts.specs.Laws.{BlocksBreakNothing}
+use Rattle.conn_parts.specs.Laws.{BiconnectedBreakNothing}
 use Rattle.convex_class.specs.Laws.{ThreeConnectedBreakNothing}
-use Rattle.rect_class.specs.Laws.{RectBlocksBreakNothing}
+use Rattle.rect_class.specs.Laws.{RectMapsBreakNothing}
 use Rattle.simple_maps.specs.Faults.{first_fault}
 use Rattle.pigale_words.specs.declared.form.Form.{Form}
 use Rattle.pigale_shell.specs.declared.kinds.Method.TheVariants.{Shift, Schnyder, Bars, Convex, Rect}
@@ -12,7 +12,7 @@ use Rattle.pigale_shell.specs.declared.kinds.MapJob.{MapJob}
 use Rattle.pigale_shell.specs.declared.kinds.MapJob.TheVariants.{Count, Draw}
 use Rattle.pigale_shell.specs.Answer.{Serves, Breaks, ServedBreaksNothing}
 
-pub served_breaks_nothing : BlocksBreakNothing → ThreeConnectedBreakNothing → RectBlocksBreakNothing → ServedBreaksNothing
+pub served_breaks_nothing : BiconnectedBreakNothing → ThreeConnectedBreakNothing → RectMapsBreakNothing → ServedBreaksNothing
 served_breaks_nothing blocks three rect Count lists refusal some served breaks = absurd (cc)
 served_breaks_nothing blocks three rect (Draw Shift form) lists refusal some served breaks = absurd (cc)
 served_breaks_nothing blocks three rect (Draw Schnyder form) lists refusal some served breaks = absurd (cc)

@@ -9,8 +9,8 @@ use Rattle.pg_plane.specs.declared.figure.RectFigure.{RectFigure}
 use Rattle.record_runs.specs.Texts.{Answers}
 use Rattle.refusals.specs.Conditions.{fault_refusal, first_refusal}
 use Rattle.refusals.specs.declared.refusal.Refusal.{Refusal}
-use Rattle.conn_parts.specs.Blocks.{IsPlaneBlock, BreaksFirst}
-use Rattle.convex_peeling.specs.Tight.{IsThreeConnected}
+use Rattle.conn_parts.specs.BiconnectedMaps.{IsBiconnectedMap, BreaksFirst}
+use Rattle.convex_peeling.specs.Polyhedral.{IsThreeConnected}
 use Rattle.convex_class.specs.Convexity.{BreaksConvex}
 use Rattle.rect_class.specs.RectMaps.{IsRectMap}
 use Rattle.rect_class.specs.Refusals.{BreaksRect}
@@ -38,7 +38,7 @@ use Rattle.pigale_shell.specs.declared.kinds.JobKind.TheVariants.{Maps}
 abbrev pub Draws : Method → Lists → Type 0
 Draws Shift lists = first_refusal 3 lists ≡ None
 Draws Schnyder lists = first_refusal 3 lists ≡ None
-Draws Bars lists = IsPlaneBlock 3 lists
+Draws Bars lists = IsBiconnectedMap 3 lists
 Draws Convex lists = IsPlane lists × IsThreeConnected lists
 Draws Rect lists = IsRectMap lists
 

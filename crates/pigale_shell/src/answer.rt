@@ -53,9 +53,9 @@ pub fn answer_record(
 fn served_breaks_nothing()
     ensures { ServedBreaksNothing }
 {
-    conn_parts::plane_blocks::blocks_break_nothing();
-    convex_class::convex_blocks::three_connected_break_nothing();
-    rect_class::blocks_break_nothing();
+    conn_parts::biconnected_maps::biconnected_break_nothing();
+    convex_class::convex_maps::three_connected_break_nothing();
+    rect_class::biconnected_break_nothing();
 }
 
 /// The same, with a counter that may have counted other records before.

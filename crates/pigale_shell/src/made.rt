@@ -121,7 +121,7 @@ fn text(alloc: Global, size: u16, number: u32) -> Result<Vec<u8>, AllocError>
     requires few { size < 4096 }
     ensures { IfOk result (λ text. (block : List ℕ) × IsMadeBlock 1 (stacked_lists size number) block × (text.items ≡ block ++ last_line_of 1 0 well)) }
 {
-    map_gen::stacked_is_completed();
+    map_gen::stacked_is_triangulation();
     refusals::no_refusal_is_plane();
     let lists = stacked(alloc, size, number)?;
     let mut text = block(alloc, 1, &lists)?;

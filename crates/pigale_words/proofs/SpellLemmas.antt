@@ -14,7 +14,7 @@ use Rattle.clap.specs.declared.error.kind.ErrorKind.TheVariants as kind
 use Rattle.pigale_words.specs.Words.{Given, command, given, given_by, given_in, job_given, job_of}
 use Rattle.pigale_words.specs.Spelling.{Spell, Spell.nothing, Spell.hyphens, Spell.behind, Spell.job_word, Spell.apart, Spell.joined}
 use Rattle.pigale_words.specs.declared.job.Job.{Job}
-use Rattle.pigale_words.proofs.WordRows.{shape, rules, Which, Which.the_job, Which.the_form, Which.the_size, Which.the_number, name, rule, use_one, some_kind, or_else-nil, nil-or_else, behind_sign, parted, long_word, row, used_row, Full, Full-more, put, get, given_put, none_of, get_given, Held_text, Held_text.no_text, Held_text.text_of, pend, held, given_with, Fresh, not_again, first_time, settles_fresh, fresh_settles, given_settled, full_settled}
+use Rattle.pigale_words.proofs.WordRows.{shape, rules, Which, Which.the_job, Which.the_form, Which.the_size, Which.the_number, name, rule, use_one, some_kind, or_else-nil, nil-or_else, behind_sign, separated, long_word, row, used_row, Full, Full-more, put, get, given_put, none_of, get_given, Held_text, Held_text.no_text, Held_text.text_of, pend, held, given_with, Fresh, not_again, first_time, settles_fresh, fresh_settles, given_settled, full_settled}
 use Rattle.pigale_words.proofs.WordSteps.{place, idle_at, waiting_at, trailing_at, is_hyphens, fault_by, is_job, at_word, walk_by, turn_fault_by, walked_by, apart_fault, apart_met, joined_fault, joined_met, plain_fault, plain_walk, plain_goes, waiting_takes, waiting_faults, first_fault, first_takes}
 
 -- ---- from words to what they spell
@@ -101,11 +101,11 @@ named_is : (text nm : Text) (v : Option Text) (has : Bool) → has_byte 61 text 
     → pair (before_first (λ x. x == 61) text) (if has then Some (after_first (λ x. x == 61) text) else None) ≡ pair nm v → 45 ∷ 45 ∷ text ≡ long_word nm v
 named_is text nm v true is same =
     let parts = same_pair _ nm _ v same in
-    let here : text ≡ before_first (λ x. x == 61) text ++ 61 ∷ after_first (λ x. x == 61) text = parted text ∙ ap (λ h. before_first (λ x. x == 61) text ++ behind_sign h (after_first (λ x. x == 61) text)) is in
+    let here : text ≡ before_first (λ x. x == 61) text ++ 61 ∷ after_first (λ x. x == 61) text = separated text ∙ ap (λ h. before_first (λ x. x == 61) text ++ behind_sign h (after_first (λ x. x == 61) text)) is in
     ap (λ t. 45 ∷ 45 ∷ t) (here ∙ sym (append_assoc (before_first (λ x. x == 61) text) (61 ∷ []) (after_first (λ x. x == 61) text))) ∙ (λ i. long_word (parts.0 i) (parts.1 i))
 named_is text nm v false is same =
     let parts = same_pair _ nm _ v same in
-    let here : text ≡ before_first (λ x. x == 61) text ++ [] = parted text ∙ ap (λ h. before_first (λ x. x == 61) text ++ behind_sign h (after_first (λ x. x == 61) text)) is in
+    let here : text ≡ before_first (λ x. x == 61) text ++ [] = separated text ∙ ap (λ h. before_first (λ x. x == 61) text ++ behind_sign h (after_first (λ x. x == 61) text)) is in
     ap (λ t. 45 ∷ 45 ∷ t) (here ∙ append-nil _) ∙ (λ i. long_word (parts.0 i) (parts.1 i))
 
 rest_is : (text nm : Text) (v : Option Text) → long_of_rest text ≡ pair nm v → 45 ∷ 45 ∷ text ≡ long_word nm v

@@ -71,9 +71,9 @@ behind_sign false rest = []
 cut_at : (m n m2 n2 : ℕ) (has : Bool) (text : Text) → m ≡ m2 → n ≡ n2 → take m text ++ behind_sign has (drop n text) ≡ take m2 text ++ behind_sign has (drop n2 text)
 cut_at m n m2 n2 has text e f = λ i. take (e i) text ++ behind_sign has (drop (f i) text)
 
-pub parted : (text : Text) → text ≡ before_first (λ x. x == 61) text ++ behind_sign (has_byte 61 text) (after_first (λ x. x == 61) text)
-parted [] = refl
-parted (x ∷ xs) = go (x == 61) refl (parted xs)
+pub separated : (text : Text) → text ≡ before_first (λ x. x == 61) text ++ behind_sign (has_byte 61 text) (after_first (λ x. x == 61) text)
+separated [] = refl
+separated (x ∷ xs) = go (x == 61) refl (separated xs)
   where
     go : (b : Bool) → (x == 61) ≡ b → xs ≡ before_first (λ y. y == 61) xs ++ behind_sign (has_byte 61 xs) (after_first (λ y. y == 61) xs)
         → x ∷ xs ≡ take (cond (not b) (1 + position_or_len (λ y. y == 61) xs) 0) (x ∷ xs) ++ behind_sign (b || has_byte 61 xs) (drop (cond (not b) (1 + position_or_len (λ y. y == 61) xs) 0 + 1) (x ∷ xs))

@@ -1,4 +1,4 @@
--- A counterclockwise drawing of a completed map, said of its darts by their numbers.
+-- A counterclockwise drawing of a triangulation, said of its darts by their numbers.
 use Rattle.std.proofs.Common.{◌≡◌, ℕ, ◌<◌, false, List, ℤ, pos, ◌<ℤ◌, refl, sym, ap, ap₂, subst, ◌∙◌, inl, inr}
 use Rattle.std.proofs.lemmas.Bool.{true≢false}
 use Rattle.classes.proofs.Classes.{Together, Together-from}
@@ -15,9 +15,9 @@ use Rattle.pg_plane.specs.Geometry.{area}
 use Rattle.pg_plane.specs.Faced.{in_base, IsFaced, IsTailed, IsOnFace}
 use Rattle.pg_plane.proofs.Faces.{in_base_from, face_back, face_then}
 use Rattle.plane_drawings.specs.Drawing.{place, IsCounterclockwise}
-use Rattle.plane_laws.specs.Completed.{IsCompleted}
+use Rattle.plane_laws.specs.Triangulations.{IsTriangulation}
 
-module _ (lists : Lists) (points : List Point) (base : Dart) (c : IsCompleted lists) (has : HasDart lists base.0 base.1) (turns : IsCounterclockwise lists points base) where
+module _ (lists : Lists) (points : List Point) (base : Dart) (c : IsTriangulation lists) (has : HasDart lists base.0 base.1) (turns : IsCounterclockwise lists points base) where
   abbrev pub k : ℕ
   k = dart_count lists
 

@@ -12,9 +12,9 @@ use Rattle.pg_plane.specs.Faced.{turn}
 use Rattle.pg_plane.specs.Law.{IsPlaneByDarts, direction}
 use Rattle.pg_plane.proofs.Counts.{count_one}
 use Rattle.plane_drawings.specs.Drawing.{place, IsPlaneDrawing, IsBreak, KeepsRotations}
-use Rattle.plane_laws.specs.Completed.{IsCompleted}
+use Rattle.plane_laws.specs.Triangulations.{IsTriangulation}
 
-module _ (lists : Lists) (points : List Point) (c : IsCompleted lists) (thrice : (i : ℕ) → i < dart_count lists → rotation lists (twin lists (rotation lists (twin lists (rotation lists (twin lists i))))) ≡ i) (p : IsPlaneByDarts (dart_count lists) (twin lists) (λ i. rotation lists (twin lists i)) (λ i. place points (tail_of lists i)) (tail_of lists)) where
+module _ (lists : Lists) (points : List Point) (c : IsTriangulation lists) (thrice : (i : ℕ) → i < dart_count lists → rotation lists (twin lists (rotation lists (twin lists (rotation lists (twin lists i))))) ≡ i) (p : IsPlaneByDarts (dart_count lists) (twin lists) (λ i. rotation lists (twin lists i)) (λ i. place points (tail_of lists i)) (tail_of lists)) where
   abbrev h' : ℕ → ℕ
   h' i = rotation lists (twin lists i)
 

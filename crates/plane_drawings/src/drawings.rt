@@ -1,5 +1,5 @@
 //! Drawings of maps by points: what it means that one is plane, keeps the rotations and is counterclockwise,
-//! and the law that counterclockwise faces of a completed map are a plane drawing.
+//! and the law that counterclockwise faces of a triangulation are a plane drawing.
 
 ghost use Rattle.plane_drawings.specs.DrawingsLaw.{CounterclockwiseIsPlane};
 

@@ -14,7 +14,7 @@ use Rattle.plane_laws.proofs.DartPaths.{corner_of, before_dart}
 use Rattle.plane_laws.proofs.EdgeBound.{edge_bound}
 use Rattle.plane_laws.proofs.Triangles.{IsTriangle-number, number-IsTriangle, edge_bound_met}
 use Rattle.plane_laws.specs.Chords.{IsEar}
-use Rattle.plane_laws.specs.Completed.{IsCompleted}
+use Rattle.plane_laws.specs.Triangulations.{IsTriangulation}
 use Rattle.plane_laws.specs.MapEditsCompleted.{IsExtended, Completion}
 use Rattle.plane_laws.specs.WithEdge.{with_edge_at, with_edge_after}
 use Rattle.plane_laws.proofs.KeptEdges.{all_or_some}
@@ -83,8 +83,8 @@ join_step lists simple plane v l far =
       edge_count-edge lists 0 0 v 0 simple zeroth l apart not_adjacent (omega arith) (omega arith),
     )
 
--- a map is completed, or an edge can be put in
-done_or_more : (lists : Lists) → IsSimpleMap lists → IsPlane lists → 3 ≤ vertex_count lists → IsCompleted lists ⊎ ((new : Lists) × IsSimpleMap new × IsPlane new × IsExtended lists new × (edge_count new ≡ edge_count lists + 1))
+-- a map is a triangulation, or an edge can be put in
+done_or_more : (lists : Lists) → IsSimpleMap lists → IsPlane lists → 3 ≤ vertex_count lists → IsTriangulation lists ⊎ ((new : Lists) × IsSimpleMap new × IsPlane new × IsExtended lists new × (edge_count new ≡ edge_count lists + 1))
 done_or_more lists simple plane some =
     let C = component_classes lists in
     let h = after (rotation lists) (twin lists) in
@@ -109,7 +109,7 @@ done_or_more lists simple plane some =
           ]
     ]
 
-completed_by : (n : ℕ) (lists : Lists) → IsSimpleMap lists → IsPlane lists → 3 ≤ vertex_count lists → 3 * vertex_count lists < n + edge_count lists → (new : Lists) × IsCompleted new × IsExtended lists new
+completed_by : (n : ℕ) (lists : Lists) → IsSimpleMap lists → IsPlane lists → 3 ≤ vertex_count lists → 3 * vertex_count lists < n + edge_count lists → (new : Lists) × IsTriangulation new × IsExtended lists new
 completed_by zero lists simple plane some l = let bound = edge_bound lists simple plane some in absurd (omega arith)
 completed_by (suc n) lists simple plane some l =
     elim (done_or_more lists simple plane some) [

@@ -11,14 +11,14 @@ use Rattle.map_theory.proofs.WithoutEdge.{length-without_edge, IsSimpleMap-witho
 use Rattle.map_theory.proofs.DartPermutations.{components, euler_bound_map}
 use Rattle.plane_laws.proofs.EdgeFaces.{one_face_counts, two_faces_count, corners_apart}
 use Rattle.plane_laws.specs.Added.{EdgeInFace, EdgeBetween}
-use Rattle.plane_laws.proofs.EdgeComponents.{parted, not_parted}
+use Rattle.plane_laws.proofs.EdgeComponents.{separated, not_separated}
 
 -- with an edge there are as many components as without, or one less
 fewer_components : (lists : Lists) (simple : IsSimpleMap lists) (u v : ℕ) → HasDart lists u v → component_count lists ≤ component_count (without_edge lists u v)
 fewer_components lists simple u v edge =
     elim (cases_Together (components (without_edge lists u v) (IsSimpleMap-without_edge lists simple u v edge)) u v) [
-      | inl t ↦ omega (arith, not_parted lists simple u v edge t)
-      | inr t ↦ omega (arith, parted lists simple u v edge t)
+      | inl t ↦ omega (arith, not_separated lists simple u v edge t)
+      | inr t ↦ omega (arith, separated lists simple u v edge t)
     ]
 
 -- THE LAW: an edge between two corners of one face
@@ -36,7 +36,7 @@ edge_in_face lists u v simple edge more more' plane face =
 -- THE LAW: an edge between two components
 pub edge_between : EdgeBetween
 edge_between lists u v simple edge plane far =
-    let components_fall = parted lists simple u v edge (λ t. far (same_class-from (component_classes (without_edge lists u v)) u v t)) in
+    let components_fall = separated lists simple u v edge (λ t. far (same_class-from (component_classes (without_edge lists u v)) u v t)) in
     let bound = euler_bound_map lists simple in
     let n = length-without_edge lists simple u v edge in
     let m = edge_count-without lists simple u v edge in

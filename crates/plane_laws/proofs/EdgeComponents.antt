@@ -74,17 +74,17 @@ module _ (lists : Lists) (simple : IsSimpleMap lists) (u v : ℕ) (edge : HasDar
         ]
       ])
 
-  pub parted : (Together (components rest simple') u v → ⊥) → component_count rest ≡ component_count lists + 1
+  pub separated : (Together (components rest simple') u v → ⊥) → component_count rest ≡ component_count lists + 1
   unfolding component_count
-  parted h =
+  separated h =
       let D = components rest simple' in
       let dn = length-classes (length rest) (darts rest) in
       let n = n' in
       class_count-merge_apart D u v (IsLabels-components rest simple') (let l = edge.0 in omega arith) (let l = other_way.0 in omega arith) h ∙ ap (λ l. class_count l + 1) (sym components_merged)
 
-  pub not_parted : Together (components rest simple') u v → component_count rest ≡ component_count lists
+  pub not_separated : Together (components rest simple') u v → component_count rest ≡ component_count lists
   unfolding component_count
-  not_parted h =
+  not_separated h =
       let D = components rest simple' in
       let dn = length-classes (length rest) (darts rest) in
       let n = n' in

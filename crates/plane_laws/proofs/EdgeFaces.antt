@@ -197,18 +197,18 @@ module _ (lists : Lists) (simple : IsSimpleMap lists) (u v : ℕ) (edge : HasDar
         ∙ ((exchange_orbits (after f g) k (g p) (g d) (IsPermuting-after f g k w gw) (pair.within p lp) le ne).joined (apart-from P (g p) (g d) off)).joined
 
     -- where they lie in one, it parts the corners at which the edge stood
-    corners_parted : Together P d (g d) → Together P1 (f d) (f (g d)) → ⊥
-    corners_parted one t =
+    corners_separated : Together P d (g d) → Together P1 (f d) (f (g d)) → ⊥
+    corners_separated one t =
         let face1 = after f1' g in
         let step = orbits_of-step face1 k (IsPermuting-after f1' g k w1' gw).within in
         let L = label P1 in
         let ne : g p ≢ g d = λ e. p_not_d (gw.apart p d lp ld e) in
         let same = orbits_of-same face1 (exchange (after f g) (g p) (g d)) k (after-exchange f g k p d pair lp ld) in
         let law = exchange_orbits (after f g) k (g p) (g d) (IsPermuting-after f g k w gw) (pair.within p lp) le ne in
-        let parted = (law.cut (same_class-from P (g p) (g d) (before_d ∙ one))).apart in
+        let separated = (law.cut (same_class-from P (g p) (g d) (before_d ∙ one))).apart in
         let from_p : Together P1 (g p) (f d) = step (g p) (pair.within p lp) ∙ ap L (ap f1' (pair.back p lp) ∙ lone_before f p d) in
         let from_e : Together P1 (g d) (f (g d)) = step (g d) le ∙ (ap L (ap f1' (pair.back d ld) ∙ lone f p d fp) ∙ (step d ld ∙ ap L one_e)) in
-        Together-not (orbits_of (exchange (after f g) (g p) (g d)) k) (g p) (g d) parted (rw same at (from_p ∙ (t ∙ sym from_e)))
+        Together-not (orbits_of (exchange (after f g) (g p) (g d)) k) (g p) (g d) separated (rw same at (from_p ∙ (t ∙ sym from_e)))
 
     -- the second takes the two darts out of it
     second_cuts : P1 ≡ merge P2 (g q) (g (g d))
@@ -326,7 +326,7 @@ module _ (lists : Lists) (simple : IsSimpleMap lists) (u v : ℕ) (edge : HasDar
               ];
         }
 
-  -- An edge in one face, alone at neither end, parts the two corners at which it stands.
+  -- An edge in one face, alone at neither end, separates the two corners at which it stands.
   pub corners_apart : follows lists u v ≢ v → follows lists v u ≢ u → SameFace lists (u, v) (v, u) → ¬ SameFace rest (u, follows lists u v) (v, follows lists v u)
   corners_apart more more' face one =
       let has = HasDart-follows lists u v edge in
@@ -339,7 +339,7 @@ module _ (lists : Lists) (simple : IsSimpleMap lists) (u v : ℕ) (edge : HasDar
       let left' = dart_new lists simple u v edge v (follows lists v u) has' (λ e. absurd (u_v (sym e))) (λ _. more') in
       let together = rest_to_cut big big' (u, follows lists u v) (v, follows lists v u) left left' one in
       let L = label (orbits_of (after (exchange f p d) g) k) in
-      corners_parted big big' (to_both face) (ap L at_u ∙ (together ∙ sym (ap L at_v)))
+      corners_separated big big' (to_both face) (ap L at_u ∙ (together ∙ sym (ap L at_v)))
 
   faces_merged_here : ¬ SameFace lists (u, v) (v, u) → IsMergedFaces lists rest (u, v) (v, u)
   faces_merged_here not_one =

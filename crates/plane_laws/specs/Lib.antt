@@ -1,6 +1,6 @@
 -- The laws of plane maps, as statements about all maps.
 pub mod Laws
-pub mod Completed
+pub mod Triangulations
 -- The laws of edges put in and kept, and of vertices smoothed.
 pub mod Added
 pub mod Kept

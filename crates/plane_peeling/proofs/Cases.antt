@@ -4,9 +4,9 @@ use Rattle.std.proofs.lemmas.Bool.{true≢false}
 use Rattle.map_lists.specs.Lists.{Lists}
 use Rattle.map_theory.specs.Maps.{HasDart, follows, entry_after}
 use Rattle.plane_peeling.specs.Restricted.{restricted, kept_but, IsFaceOfThree}
-use Rattle.plane_peeling.specs.NearTriangulations.{IsOuterCycle, IsFree, IsFreeStretch}
+use Rattle.plane_peeling.specs.NearTriangulations.{IsOuterCycle, IsRemovable, IsRemovableStretch}
 use Rattle.plane_peeling.specs.Peeled.{IsFan}
-use Rattle.plane_peeling.specs.TwoGone.{IsOpenOutside, IsFreeOfTwo}
+use Rattle.plane_peeling.specs.TwoGone.{IsOpenOutside, IsRemovableOfTwo}
 use Rattle.plane_peeling.proofs.Rings.{AllPairs-put, each_of_one, each_of_two, each_of_three, each_of_four}
 
 -- ---- the tetrahedron
@@ -59,10 +59,10 @@ square = (1 ∷ 2 ∷ 3 ∷ []) ∷ (2 ∷ 0 ∷ []) ∷ (3 ∷ 0 ∷ 1 ∷ []) 
 abbrev around : List ℕ
 around = 1 ∷ 2 ∷ 3 ∷ 0 ∷ []
 
--- the vertex that is not on the diagonal and not of the base is free
-square_free : IsFree square 1 0 around 3
+-- the vertex that is not on the diagonal and not of the base is removable
+square_removable : IsRemovable square 1 0 around 3
 unfolding entry_after
-square_free =
+square_removable =
     record {
       on = (2, omega arith, refl);
       not_first = λ e. omega (arith, e);
@@ -71,21 +71,21 @@ square_free =
     }
 
 -- an end of the diagonal is not
-square_chord : ¬ IsFree square 1 0 around 2
+square_chord : ¬ IsRemovable square 1 0 around 2
 unfolding entry_after
-square_chord free =
-    elim (free.chordless 0 (omega arith, (1, omega arith, refl)) (3, omega arith, refl)) [
+square_chord removable =
+    elim (removable.chordless 0 (omega arith, (1, omega arith, refl)) (3, omega arith, refl)) [
       | inl e ↦ let one : 1 ≡ 2 = e in omega (arith, one)
       | inr e ↦ let three : 3 ≡ 0 = e in omega (arith, three)
     ]
 
 -- nor is a vertex of the base, which has no chord
-square_base : ¬ IsFree square 1 0 around 1
-square_base free = free.not_first refl
+square_base : ¬ IsRemovable square 1 0 around 1
+square_base removable = removable.not_first refl
 
 -- the diagonal cuts it off
-square_stretch : IsFreeStretch square 1 0 around (1 ∷ []) 2 (3 ∷ []) 0 []
-square_stretch = record { parts = refl; some = omega arith; chord = (omega arith, (1, omega arith, refl)); free = λ v c. each_of_one (IsFree square 1 0 around) 3 square_free v c }
+square_stretch : IsRemovableStretch square 1 0 around (1 ∷ []) 2 (3 ∷ []) 0 []
+square_stretch = record { parts = refl; some = omega arith; chord = (omega arith, (1, omega arith, refl)); removable = λ v c. each_of_one (IsRemovable square 1 0 around) 3 square_removable v c }
 
 -- ---- the octahedron, with the base from 0 to 1
 abbrev octahedron : Lists
@@ -145,11 +145,11 @@ octahedron_open =
     company (suc (suc (suc (suc (suc (suc z)))))) l e = absurd (omega (arith, l))
 
 -- so the vertex off the diagonal has both as neighbours
-octahedron_two : IsFreeOfTwo octahedron four_kept 1 0 around 2 3
+octahedron_two : IsRemovableOfTwo octahedron four_kept 1 0 around 2 3
 unfolding entry_after
 octahedron_two =
     record {
-      free = record {
+      removable = record {
         on = (2, omega arith, refl);
         not_first = λ e. omega (arith, e);
         not_last = λ e. omega (arith, e);

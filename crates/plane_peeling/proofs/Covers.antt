@@ -10,7 +10,7 @@ use Rattle.plane_peeling.specs.Restricted.{restricted, kept_but, IsFaceOfThree, 
 use Rattle.plane_peeling.specs.NearTriangulations.{IsOuterDart}
 use Rattle.plane_peeling.specs.Peeled.{IsPeeled, IsTakenOff}
 use Rattle.plane_peeling.specs.Laws.{CycleAfter, FanCovers}
-use Rattle.plane_peeling.proofs.Rings.{parted_at, last-entry, entry_after-inside, entry_after-last}
+use Rattle.plane_peeling.proofs.Rings.{separated_at, last-entry, entry_after-inside, entry_after-last}
 use Rattle.plane_peeling.proofs.RestrictedMaps.{cases_Contains, restricted-old, restricted-new, kept_but-new}
 use Rattle.plane_peeling.proofs.OuterCycles.{cases_outer, IsFaceOfThree-turned}
 use Rattle.map_theory.proofs.DartLemmas.{Contains-entry_after}
@@ -28,32 +28,32 @@ same_counts us vs distinct distinct' to from u =
     ]
 
 -- the entry after one, from the parts of the list
-entry_after-parted : (us front : List ℕ) (x y : ℕ) (back : List ℕ) → AllPairs ◌≢◌ us → us ≡ front ++ x ∷ y ∷ back → entry_after x us ≡ y
-entry_after-parted us front x y back distinct e = ap (entry_after x) e ∙ entry_after-inside front x y back (subst (AllPairs ◌≢◌) e distinct)
+entry_after-separated : (us front : List ℕ) (x y : ℕ) (back : List ℕ) → AllPairs ◌≢◌ us → us ≡ front ++ x ∷ y ∷ back → entry_after x us ≡ y
+entry_after-separated us front x y back distinct e = ap (entry_after x) e ∙ entry_after-inside front x y back (subst (AllPairs ◌≢◌) e distinct)
 
 -- what follows an entry of a front does not hang on what comes behind the entry after the front
 front_alike : (front : List ℕ) (p : ℕ) (rest other : List ℕ) → AllPairs ◌≢◌ (front ++ p ∷ rest) → AllPairs ◌≢◌ (front ++ p ∷ other) → (x : ℕ) → Contains front x → entry_after x (front ++ p ∷ rest) ≡ entry_after x (front ++ p ∷ other)
 front_alike front p rest other distinct distinct' x c =
-    let parts = parted_at front x c in
+    let parts = separated_at front x c in
     let f1 = parts.0 in
     let whole : (tail : List ℕ) → front ++ p ∷ tail ≡ f1 ++ (x ∷ parts.1 ++ p ∷ tail) = λ tail.
     ap (λ l. l ++ p ∷ tail) parts.2 ∙ append_assoc f1 (x ∷ parts.1) (p ∷ tail) in
     at f1 parts.1 (whole rest) (whole other)
   where
     at : (f1 f2 : List ℕ) → front ++ p ∷ rest ≡ f1 ++ (x ∷ f2 ++ p ∷ rest) → front ++ p ∷ other ≡ f1 ++ (x ∷ f2 ++ p ∷ other) → entry_after x (front ++ p ∷ rest) ≡ entry_after x (front ++ p ∷ other)
-    at f1 [] e e' = entry_after-parted (front ++ p ∷ rest) f1 x p rest distinct e ∙ sym (entry_after-parted (front ++ p ∷ other) f1 x p other distinct' e')
-    at f1 (b ∷ f2) e e' = entry_after-parted (front ++ p ∷ rest) f1 x b (f2 ++ p ∷ rest) distinct e ∙ sym (entry_after-parted (front ++ p ∷ other) f1 x b (f2 ++ p ∷ other) distinct' e')
+    at f1 [] e e' = entry_after-separated (front ++ p ∷ rest) f1 x p rest distinct e ∙ sym (entry_after-separated (front ++ p ∷ other) f1 x p other distinct' e')
+    at f1 (b ∷ f2) e e' = entry_after-separated (front ++ p ∷ rest) f1 x b (f2 ++ p ∷ rest) distinct e ∙ sym (entry_after-separated (front ++ p ∷ other) f1 x b (f2 ++ p ∷ other) distinct' e')
 
 -- nor that of one of the back on what comes before the back, but for the first of all
 back_alike : (one two back : List ℕ) → AllPairs ◌≢◌ (one ++ back) → AllPairs ◌≢◌ (two ++ back) → (x : ℕ) → get_or (one ++ back) 0 x ≡ get_or (two ++ back) 0 x → Contains back x → entry_after x (one ++ back) ≡ entry_after x (two ++ back)
 back_alike one two back distinct distinct' x first c =
-    let parts = parted_at back x c in
+    let parts = separated_at back x c in
     let whole : (head : List ℕ) → head ++ back ≡ (head ++ parts.0) ++ x ∷ parts.1 = λ head.
     ap (λ l. head ++ l) parts.2 ∙ sym (append_assoc head parts.0 (x ∷ parts.1)) in
     at parts.0 parts.1 (whole one) (whole two)
   where
     at : (b1 b2 : List ℕ) → one ++ back ≡ (one ++ b1) ++ x ∷ b2 → two ++ back ≡ (two ++ b1) ++ x ∷ b2 → entry_after x (one ++ back) ≡ entry_after x (two ++ back)
-    at b1 (y ∷ b2) e e' = entry_after-parted (one ++ back) (one ++ b1) x y b2 distinct e ∙ sym (entry_after-parted (two ++ back) (two ++ b1) x y b2 distinct' e')
+    at b1 (y ∷ b2) e e' = entry_after-separated (one ++ back) (one ++ b1) x y b2 distinct e ∙ sym (entry_after-separated (two ++ back) (two ++ b1) x y b2 distinct' e')
     at b1 [] e e' = end one b1 distinct e ∙ (first ∙ sym (end two b1 distinct' e'))
       where
         end : (head b1 : List ℕ) → AllPairs ◌≢◌ (head ++ back) → head ++ back ≡ (head ++ b1) ++ x ∷ [] → entry_after x (head ++ back) ≡ get_or (head ++ back) 0 x
@@ -139,7 +139,7 @@ module _ (lists : Lists) (kept : ℕ → Bool) (s t : ℕ) (ws : List ℕ) (v : 
       let c = (off.fan.neighbours y).0 d in
       let j = c.0 in
       let at : get_or nbrs j 0 ≡ y = get_or_default nbrs j 0 y c.1 ∙ c.2 in
-      let v_q : entry_after v ws ≡ q = entry_after-parted ws (front ++ p ∷ []) v q back distinct (off.before ∙ sym (append_assoc front (p ∷ []) (v ∷ q ∷ back))) in
+      let v_q : entry_after v ws ≡ q = entry_after-separated ws (front ++ p ∷ []) v q back distinct (off.before ∙ sym (append_assoc front (p ∷ []) (v ∷ q ∷ back))) in
       let on_v = on_ws v (Contains-append_right front (p ∷ v ∷ q ∷ back) v (Contains-there p (v ∷ q ∷ back) v (Contains-here v (q ∷ back)))) in
       let ne : j ≢ length mid + 1 = λ e. n (on_v, v_q ∙ (sym last_nbr ∙ (ap (λ k. get_or nbrs k 0) (sym e) ∙ at))) in
       let l = c.1 in
@@ -150,7 +150,7 @@ module _ (lists : Lists) (kept : ℕ → Bool) (s t : ℕ) (ws : List ℕ) (v : 
   to_v x d n =
       let c = (off.fan.neighbours x).0 (simple.both_ways x v d) in
       let at : get_or nbrs c.0 0 ≡ x = get_or_default nbrs c.0 0 x c.1 ∙ c.2 in
-      let p_v : entry_after p ws ≡ v = entry_after-parted ws front p v (q ∷ back) distinct off.before in
+      let p_v : entry_after p ws ≡ v = entry_after-separated ws front p v (q ∷ back) distinct off.before in
       let on_p = on_ws p (Contains-append_right front (p ∷ v ∷ q ∷ back) p (Contains-here p (v ∷ q ∷ back))) in
       let ne : c.0 ≢ 0 = λ e. let x_p : x ≡ p = sym at ∙ ap (λ k. get_or nbrs k 0) e in n (subst (Contains ws) (sym x_p) on_p, ap (λ z. entry_after z ws) x_p ∙ p_v) in
       let l = c.1 in
@@ -173,7 +173,7 @@ module _ (lists : Lists) (kept : ℕ → Bool) (s t : ℕ) (ws : List ℕ) (v : 
                   let same = back_alike (front ++ p ∷ v ∷ []) (front ++ p ∷ mid) (q ∷ back) (subst (AllPairs ◌≢◌) one was_distinct) (subst (AllPairs ◌≢◌) two after_distinct) x first c' in
                   let on_x = on_ws x (Contains-append_right front (p ∷ v ∷ q ∷ back) x (Contains-there p (v ∷ q ∷ back) x (Contains-there v (q ∷ back) x c'))) in
                   absurd (n (on_x, ap (entry_after x) (off.before ∙ one) ∙ (same ∙ (ap (entry_after x) (sym two) ∙ o.1))))
-              | inl c' ↦ let parts = parted_at (p ∷ mid) x c' in between parts.0 parts.1 parts.2
+              | inl c' ↦ let parts = separated_at (p ∷ mid) x c' in between parts.0 parts.1 parts.2
             ]
       ]
     where
@@ -190,8 +190,8 @@ module _ (lists : Lists) (kept : ℕ → Bool) (s t : ℕ) (ws : List ℕ) (v : 
           )
         where
           head : (f2 : List ℕ) → after ≡ (front ++ f1) ++ (x ∷ f2 ++ q ∷ back) → entry_after x after ≡ get_or (f2 ++ q ∷ []) 0 0
-          head [] w = entry_after-parted after (front ++ f1) x q back after_distinct w
-          head (b ∷ f2) w = entry_after-parted after (front ++ f1) x b (f2 ++ q ∷ back) after_distinct w
+          head [] w = entry_after-separated after (front ++ f1) x q back after_distinct w
+          head (b ∷ f2) w = entry_after-separated after (front ++ f1) x b (f2 ++ q ∷ back) after_distinct w
 
   -- v is not on the new cycle
   pub not_v : (x : ℕ) → Contains after x → x ≢ v

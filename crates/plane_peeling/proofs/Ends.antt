@@ -7,7 +7,7 @@ use Rattle.classes.proofs.Counting.{count_below_weaker, weaker_test_back}
 use Rattle.map_lists.specs.Lists.{Lists}
 use Rattle.map_theory.specs.Maps.{HasDart, IsSimpleMap, follows, entry_after}
 use Rattle.map_theory.proofs.EntryLemmas.{Contains-here, Contains-there, Contains-from_list_any}
-use Rattle.plane_laws.specs.Completed.{IsCompleted}
+use Rattle.plane_laws.specs.Triangulations.{IsTriangulation}
 use Rattle.plane_laws.specs.Laws.{IsTriangle}
 use Rattle.plane_laws.proofs.Triangles.{triangles_where_met}
 use Rattle.plane_peeling.specs.Restricted.{restricted, IsFaceOfThree}
@@ -19,12 +19,12 @@ use Rattle.plane_peeling.proofs.RestrictedMaps.{restricted_all, restricted-old}
 use Rattle.plane_peeling.proofs.OuterCycles.{IsFaceOfThree-turned, IsFaceOfThree-triangle, inner_face}
 use Rattle.plane_peeling.proofs.Counted.{list-count_below}
 
-module _ (lists : Lists) (s t : ℕ) (completed : IsCompleted lists) (base : HasDart lists t s) where
+module _ (lists : Lists) (s t : ℕ) (triangulation : IsTriangulation lists) (base : HasDart lists t s) where
   simple : IsSimpleMap lists
-  simple = completed.simple
+  simple = triangulation.simple
 
   triangle : (x y : ℕ) → HasDart lists x y → IsTriangle lists (x, y)
-  triangle x y d = triangles_where_met lists simple completed.plane completed.some completed.edges (x, y) d
+  triangle x y d = triangles_where_met lists simple triangulation.plane triangulation.some triangulation.edges (x, y) d
 
   abbrev r : ℕ
   r = follows lists s t
@@ -81,7 +81,7 @@ module _ (lists : Lists) (s t : ℕ) (completed : IsCompleted lists) (base : Has
       }
 
   pub near_whole : IsNearTriangulation lists s t ws
-  near_whole = record { simple = simple; plane = completed.plane; cycle = base_cycle; inner = λ x y d n. triangle x y d }
+  near_whole = record { simple = simple; plane = triangulation.plane; cycle = base_cycle; inner = λ x y d n. triangle x y d }
 
 -- THE LAWS: nothing taken off
 pub whole_is_peeled : WholeIsPeeled
@@ -95,7 +95,7 @@ whole_is_peeled lists kept s t ws near all =
     }
 
 pub nothing_taken_off : NothingTakenOff
-nothing_taken_off lists kept s t completed base all = whole_is_peeled lists kept s t (s ∷ follows lists s t ∷ t ∷ []) (near_whole lists s t completed base) all
+nothing_taken_off lists kept s t triangulation base all = whole_is_peeled lists kept s t (s ∷ follows lists s t ∷ t ∷ []) (near_whole lists s t triangulation base) all
 
 -- ---- three left
 module _ (lists : Lists) (kept : ℕ → Bool) (s t : ℕ) (ws : List ℕ) (peeled : IsPeeled lists kept s t ws) (three : count_below kept (length lists) ≡ 3) where

@@ -7,13 +7,13 @@ use Rattle.map_theory.specs.Maps.{list_of, HasDart, IsSimpleMap, follows, entry_
 use Rattle.map_theory.proofs.EntryLemmas.{Contains-from_list_any, list_any-from_Contains, count_of, head_apart}
 use Rattle.map_theory.proofs.DartLemmas.{HasDart-follows, entry_after-injective}
 use Rattle.plane_peeling.specs.Restricted.{restricted, IsFaceOfThree}
-use Rattle.plane_peeling.specs.NearTriangulations.{IsOuterCycle, IsOuterDart, IsFree}
+use Rattle.plane_peeling.specs.NearTriangulations.{IsOuterCycle, IsOuterDart, IsRemovable}
 use Rattle.plane_peeling.specs.Peeled.{IsPeeled}
 use Rattle.plane_peeling.proofs.Rings.{Leads, Leads-part, Leads-in, Leads-end, Leads-back, ring_from, Contains-counts, AllPairs-counts}
 use Rattle.plane_peeling.proofs.RestrictedMaps.{cases_Contains, restricted-old}
 use Rattle.plane_peeling.proofs.OuterCycles.{entry_before, IsFaceOfThree-turned, inner_face, next-apart, two_steps_on, next-last}
 
-module _ (lists : Lists) (kept : ℕ → Bool) (s t : ℕ) (ws : List ℕ) (v : ℕ) (whole : IsSimpleMap lists) (peeled : IsPeeled lists kept s t ws) (free : IsFree (restricted kept lists) s t ws v) where
+module _ (lists : Lists) (kept : ℕ → Bool) (s t : ℕ) (ws : List ℕ) (v : ℕ) (whole : IsSimpleMap lists) (peeled : IsPeeled lists kept s t ws) (removable : IsRemovable (restricted kept lists) s t ws v) where
   abbrev pub map : Lists
   map = restricted kept lists
 
@@ -31,12 +31,12 @@ module _ (lists : Lists) (kept : ℕ → Bool) (s t : ℕ) (ws : List ℕ) (v : 
 
   -- the vertex before v on the cycle
   pub before : (p : ℕ) × Contains ws p × (next p ≡ v)
-  before = entry_before ws v cycle.distinct free.on
+  before = entry_before ws v cycle.distinct removable.on
 
   -- a neighbour of v on the cycle is that before it or that after it
   pub chords : (p : ℕ) → Contains ws p → next p ≡ v → (u : ℕ) → HasDart map v u → Contains ws u → (u ≡ p) ⊎ (u ≡ q)
   chords p c e u d on =
-      elim (free.chordless u d on) [
+      elim (removable.chordless u d on) [
         | inl h ↦ inl (next-apart map s t ws simple cycle u p on c (h ∙ sym e))
         | inr h ↦ inr (sym h)
       ]
@@ -50,7 +50,7 @@ module _ (lists : Lists) (kept : ℕ → Bool) (s t : ℕ) (ws : List ℕ) (v : 
       let f' = IsFaceOfThree-turned map v z y simple f in
       let f'' = IsFaceOfThree-turned map z y v simple f' in
       let not_second : ¬ IsOuterDart ws z y = λ o.
-      elim (free.chordless z d o.0) [
+      elim (removable.chordless z d o.0) [
         | inl e ↦ simple.no_loop y v f''.dart (sym e ∙ o.1)
         | inr e ↦ n (sym e)
       ] in
@@ -72,7 +72,7 @@ module _ (lists : Lists) (kept : ℕ → Bool) (s t : ℕ) (ws : List ℕ) (v : 
   next_after z = cond (turned z) (follows map z v) (next z)
 
   pub in_v : v < length map
-  in_v = (cycle.darts v free.on).0
+  in_v = (cycle.darts v removable.on).0
 
   pub next_after-turned : (z : ℕ) → HasDart map v z → z ≢ q → next_after z ≡ follows map z v
   next_after-turned z d n =
@@ -101,7 +101,7 @@ module _ (lists : Lists) (kept : ℕ → Bool) (s t : ℕ) (ws : List ℕ) (v : 
     p_not_q e = two_steps_on map s t ws simple cycle p on_p (ap next leads_p ∙ sym e)
 
     pub p_not_last : p ≢ t
-    p_not_last e = free.not_first (sym leads_p ∙ (ap next e ∙ next-last map s t ws simple cycle))
+    p_not_last e = removable.not_first (sym leads_p ∙ (ap next e ∙ next-last map s t ws simple cycle))
 
     -- round v, the vertex after it follows that before it
     pub corner_v : follows map v p ≡ q
@@ -113,7 +113,7 @@ module _ (lists : Lists) (kept : ℕ → Bool) (s t : ℕ) (ws : List ℕ) (v : 
         let us = list_of map v in
         let g : ℕ → ℕ = λ u. entry_after u us in
         let distinct = simple.no_repeat v in_v in
-        let has_q = cycle.darts v free.on in
+        let has_q = cycle.darts v removable.on in
         let ring = ring_from us q distinct has_q.1 in
         let rest = ring.0 in
         let way = Leads-part g q rest (q ∷ []) q ring.1 in
@@ -132,7 +132,7 @@ module _ (lists : Lists) (kept : ℕ → Bool) (s t : ℕ) (ws : List ℕ) (v : 
         let out = found.0 in
         ends out (subst (λ z. Leads next_after z out q) end found.1) (λ u. ap (λ z. count_of u (z ∷ out)) (sym end) ∙ (found.2 u ∙ (nothing u ∙ ring.2 u)))
       where
-        nothing : (u : ℕ) → count_of u (q ∷ (ring_from (list_of map v) q (simple.no_repeat v in_v) (cycle.darts v free.on).1).0) + count_of u [] ≡ count_of u (q ∷ (ring_from (list_of map v) q (simple.no_repeat v in_v) (cycle.darts v free.on).1).0)
+        nothing : (u : ℕ) → count_of u (q ∷ (ring_from (list_of map v) q (simple.no_repeat v in_v) (cycle.darts v removable.on).1).0) + count_of u [] ≡ count_of u (q ∷ (ring_from (list_of map v) q (simple.no_repeat v in_v) (cycle.darts v removable.on).1).0)
         nothing u = let z : count_of u [] ≡ 0 = refl in omega (arith, z)
 
         ends : (out : List ℕ) → Leads next_after p out q → ((u : ℕ) → count_of u (p ∷ out) ≡ count_of u (list_of map v)) → (mid : List ℕ) × Leads next_after p (mid ++ q ∷ []) q × ((u : ℕ) → count_of u (p ∷ mid ++ q ∷ []) ≡ count_of u (list_of map v))

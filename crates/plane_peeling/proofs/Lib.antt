@@ -6,14 +6,14 @@ pub mod RestrictedMaps
 pub mod OuterCycles
 pub mod BaseFaces
 pub mod OnCycle
-pub mod FreeVertices
+pub mod RemovableVertices
 pub mod Fans
 pub mod CycleAfter
 pub mod TakenOff
 pub mod Counted
 pub mod Steps
 pub mod Ends
-pub mod FreeCounts
+pub mod RemovableCounts
 pub mod Covers
 pub mod TwoGone
 pub mod OpenAfter

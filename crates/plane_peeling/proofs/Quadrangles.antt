@@ -9,11 +9,11 @@ use Rattle.map_lists.specs.Lists.{Lists}
 use Rattle.map_theory.specs.Maps.{list_of, HasDart, IsSimpleMap, component_count, follows, entry_after}
 use Rattle.map_theory.proofs.EntryLemmas.{Contains-here, Contains-there, parts_apart}
 use Rattle.plane_peeling.specs.Restricted.{restricted, kept_but, IsFaceOfThree}
-use Rattle.plane_peeling.specs.NearTriangulations.{IsOuterCycle, IsNearTriangulation, IsFree}
+use Rattle.plane_peeling.specs.NearTriangulations.{IsOuterCycle, IsNearTriangulation, IsRemovable}
 use Rattle.plane_peeling.specs.Peeled.{IsPeeled, IsTakenOff}
 use Rattle.plane_peeling.specs.Laws.{CanBeTakenOff}
 use Rattle.plane_peeling.specs.TwoGone.{HasNoSeparatingTriangle, IsOpenOutside, QuadrangleOpened}
-use Rattle.plane_peeling.proofs.Rings.{entry_after-inside, entry_after-last, each_of_two, each_of_three, each_of_four, entries_closed, parted_once, rest_of, ends_with, last-entry}
+use Rattle.plane_peeling.proofs.Rings.{entry_after-inside, entry_after-last, each_of_two, each_of_three, each_of_four, entries_closed, separated_once, rest_of, ends_with, last-entry}
 use Rattle.plane_peeling.proofs.RestrictedMaps.{restricted-old, kept_but-new, kept_but-itself}
 use Rattle.plane_peeling.proofs.OuterCycles.{next-last}
 use Rattle.plane_peeling.proofs.Steps.{all_on_cycle, connected_taken_off}
@@ -148,8 +148,8 @@ module _ (lists : Lists) (kept : ℕ → Bool) (s d p t : ℕ) (connected : comp
       omega (arith, few, count_all, large)
 
   -- so d can be taken off
-  free_d : IsFree (restricted kept lists) s t ws d
-  free_d =
+  removable_d : IsRemovable (restricted kept lists) s t ws d
+  removable_d =
       record {
         on = on_d;
         not_first = λ e. s_not_d (sym e);
@@ -160,11 +160,11 @@ module _ (lists : Lists) (kept : ℕ → Bool) (s d p t : ℕ) (connected : comp
       }
 
   off_d : CanBeTakenOff lists kept s t ws d
-  off_d = connected_taken_off lists kept s t ws d simple connected peeled (omega (arith, count_all, large)) free_d
+  off_d = connected_taken_off lists kept s t ws d simple connected peeled (omega (arith, count_all, large)) removable_d
 
   off_d_is : (front : List ℕ) (a : ℕ) (mid : List ℕ) (b : ℕ) (back : List ℕ) → IsTakenOff lists kept s t ws d front a mid b back → IsTakenOff lists kept s t ws d [] s mid p (t ∷ [])
   off_d_is front a mid b back off =
-      let e = parted_once (s ∷ []) d (p ∷ t ∷ []) (front ++ a ∷ []) (b ∷ back) distinct (off.before ∙ sym (append_assoc front (a ∷ []) (d ∷ b ∷ back))) in
+      let e = separated_once (s ∷ []) d (p ∷ t ∷ []) (front ++ a ∷ []) (b ∷ back) distinct (off.before ∙ sym (append_assoc front (a ∷ []) (d ∷ b ∷ back))) in
       let b_p : p ≡ b = ap (λ l. get_or l 0 0) e.1 in
       let back_t : t ∷ [] ≡ back = ap rest_of e.1 in
       at_front front e.0 (subst (λ z. IsTakenOff lists kept s t ws d front a mid p z) (sym back_t) (subst (λ z. IsTakenOff lists kept s t ws d front a mid z back) (sym b_p) off))
@@ -219,8 +219,8 @@ module _ (lists : Lists) (kept : ℕ → Bool) (s d p t : ℕ) (connected : comp
         let second : get_or (row ++ p ∷ []) (length mid + 1) 0 ≡ p = ap (λ k. get_or (row ++ p ∷ []) k 0) m ∙ last-entry row p 0 in
         ap (follows lists d) (sym second) ∙ (f ∙ first)
 
-    free_p : IsFree (restricted kept1 lists) s t ws1 p
-    free_p =
+    removable_p : IsRemovable (restricted kept1 lists) s t ws1 p
+    removable_p =
         record {
           on = on_p1;
           not_first = λ e. s_not_p (sym e);
@@ -240,7 +240,7 @@ module _ (lists : Lists) (kept : ℕ → Bool) (s d p t : ℕ) (connected : comp
         }
 
     off_p : count_below kept (length lists) ≡ count_below kept1 (length lists) + 1 → CanBeTakenOff lists kept1 s t ws1 p
-    off_p less = connected_taken_off lists kept1 s t ws1 p simple connected peeled1 (omega (arith, less, count_all, large)) free_p
+    off_p less = connected_taken_off lists kept1 s t ws1 p simple connected peeled1 (omega (arith, less, count_all, large)) removable_p
 
     gone_d : kept2 d ≡ false
     gone_d = and_left (kept1 d) (not (eqb d p)) (kept_but-itself kept d)

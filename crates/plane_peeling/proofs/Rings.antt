@@ -13,7 +13,7 @@ abbrev pub Leads : (ℕ → ℕ) → ℕ → List ℕ → ℕ → Type 0
 Leads next x [] t = x ≡ t
 Leads next x (w ∷ ws) t = (next x ≡ w) × Leads next w ws t
 
--- a way parted
+-- a way split
 pub Leads-part : (next : ℕ → ℕ) (x : ℕ) (l r : List ℕ) (t : ℕ) → Leads next x (l ++ r) t → (y : ℕ) × Leads next x l y × Leads next y r t
 Leads-part next x [] r t h = (x, refl, h)
 Leads-part next x (w ∷ l) r t h = let rest = Leads-part next w l r t h.1 in (rest.0, (h.0, rest.1), rest.2)
@@ -40,12 +40,12 @@ Leads-end next x w [] t h = ([], ap (λ z. z ∷ []) h.1)
 Leads-end next x w (w' ∷ l) t h = let rest = Leads-end next w w' l t h.1 in (w ∷ rest.0, ap (λ l. w ∷ l) rest.1)
 
 -- a list before an entry and after it
-pub parted_at : (us : List ℕ) (x : ℕ) → Contains us x → (front : List ℕ) × (back : List ℕ) × (us ≡ front ++ x ∷ back)
-parted_at [] x c = absurd (omega (arith, c.1))
-parted_at (y ∷ us) x c =
+pub separated_at : (us : List ℕ) (x : ℕ) → Contains us x → (front : List ℕ) × (back : List ℕ) × (us ≡ front ++ x ∷ back)
+separated_at [] x c = absurd (omega (arith, c.1))
+separated_at (y ∷ us) x c =
     elim (Contains-cons_cases y us x c) [
       | inl e ↦ ([], us, ap (λ z. z ∷ us) e)
-      | inr there ↦ let rest = parted_at us x there in (y ∷ rest.0, rest.1, ap (λ l. y ∷ l) rest.2)
+      | inr there ↦ let rest = separated_at us x there in (y ∷ rest.0, rest.1, ap (λ l. y ∷ l) rest.2)
     ]
 
 -- the last entry
@@ -63,8 +63,8 @@ ends_with (x ∷ y ∷ us) t d some e =
     (x ∷ rest.0, ap (λ l. x ∷ l) rest.1)
 
 -- where an entry stands in a list without repeats
-place_of-parted : (front : List ℕ) (x : ℕ) (back : List ℕ) → AllPairs ◌≢◌ (front ++ x ∷ back) → place_of x (front ++ x ∷ back) ≡ length front
-place_of-parted front x back distinct =
+place_of-separated : (front : List ℕ) (x : ℕ) (back : List ℕ) → AllPairs ◌≢◌ (front ++ x ∷ back) → place_of x (front ++ x ∷ back) ≡ length front
+place_of-separated front x back distinct =
     let us = front ++ x ∷ back in
     let n : length front + 0 ≡ length front = omega arith in
     let at : get_or us (length front) 0 ≡ x = ap (λ k. get_or us k 0) (sym n) ∙ get_or-append-add front (x ∷ back) 0 0 in
@@ -75,14 +75,14 @@ pub entry_after-inside : (front : List ℕ) (x y : ℕ) (back : List ℕ) → Al
 unfolding entry_after
 entry_after-inside front x y back distinct =
     let us = front ++ x ∷ y ∷ back in
-    ap (λ k. get_or us (k + 1) (get_or us 0 x)) (place_of-parted front x (y ∷ back) distinct) ∙ get_or-append-add front (x ∷ y ∷ back) 1 (get_or us 0 x)
+    ap (λ k. get_or us (k + 1) (get_or us 0 x)) (place_of-separated front x (y ∷ back) distinct) ∙ get_or-append-add front (x ∷ y ∷ back) 1 (get_or us 0 x)
 
 -- the entry after the last is the first
 pub entry_after-last : (front : List ℕ) (x : ℕ) → AllPairs ◌≢◌ (front ++ x ∷ []) → entry_after x (front ++ x ∷ []) ≡ get_or (front ++ x ∷ []) 0 x
 unfolding entry_after
 entry_after-last front x distinct =
     let us = front ++ x ∷ [] in
-    ap (λ k. get_or us (k + 1) (get_or us 0 x)) (place_of-parted front x [] distinct) ∙ get_or_past us (length front + 1) (get_or us 0 x) (omega (arith, length-append front (x ∷ [])))
+    ap (λ k. get_or us (k + 1) (get_or us 0 x)) (place_of-separated front x [] distinct) ∙ get_or_past us (length front + 1) (get_or us 0 x) (omega (arith, length-append front (x ∷ [])))
 
 -- a list without its first entry
 abbrev pub rest_of : List ℕ → List ℕ
@@ -118,7 +118,7 @@ leads_round (w ∷ l) t distinct front e =
 -- where a function leads round a list without repeats, it gives the entry after each
 pub round-entry : (next : ℕ → ℕ) (us : List ℕ) (t : ℕ) → AllPairs ◌≢◌ us → Leads next t us t → (x : ℕ) → Contains us x → entry_after x us ≡ next x
 round-entry next us t distinct h x c =
-    let parts = parted_at us x c in
+    let parts = separated_at us x c in
     let front = parts.0 in
     let back = parts.1 in
     let e = parts.2 in
@@ -134,7 +134,7 @@ round-entry next us t distinct h x c =
 pub ring_from : (us : List ℕ) (q : ℕ) → AllPairs ◌≢◌ us → Contains us q → (rest : List ℕ) × Leads (λ u. entry_after u us) q (rest ++ q ∷ []) q × ((u : ℕ) → count_of u (q ∷ rest) ≡ count_of u us)
 ring_from us q distinct c =
     let g : ℕ → ℕ = λ u. entry_after u us in
-    let parts = parted_at us q c in
+    let parts = separated_at us q c in
     let front = parts.0 in
     let back = parts.1 in
     let e = parts.2 in
@@ -252,10 +252,10 @@ Leads-last next x (w ∷ us) t d some h =
     let end = Leads-end next x w us t h in
     ap (λ l. get_or l (length l - 1) d) end.1 ∙ last-entry end.0 t d
 
--- A ring parted at three entries that follow one another, of which the last entry may be the third alone.
-pub parted_round : (next : ℕ → ℕ) (us : List ℕ) (t p v q : ℕ) → Leads next t us t → Contains us p → next p ≡ v → next v ≡ q → p ≢ t → v ≢ t → (front : List ℕ) × (back : List ℕ) × (us ≡ front ++ p ∷ v ∷ q ∷ back) × Leads next t (front ++ p ∷ []) p × Leads next q back t
-parted_round next us t p v q h c e e' n n' =
-    let parts = parted_at us p c in
+-- A ring split at three entries that follow one another, of which the last entry may be the third alone.
+pub separated_round : (next : ℕ → ℕ) (us : List ℕ) (t p v q : ℕ) → Leads next t us t → Contains us p → next p ≡ v → next v ≡ q → p ≢ t → v ≢ t → (front : List ℕ) × (back : List ℕ) × (us ≡ front ++ p ∷ v ∷ q ∷ back) × Leads next t (front ++ p ∷ []) p × Leads next q back t
+separated_round next us t p v q h c e e' n n' =
+    let parts = separated_at us p c in
     let way = Leads-part next t parts.0 (p ∷ parts.1) t (subst (λ l. Leads next t l t) parts.2 h) in
     let rest = two parts.1 way.2.1 in
     let upto : Leads next way.0 (p ∷ []) p = (way.2.0, refl) in
@@ -301,13 +301,13 @@ entries_closed P us a u distinct has start keeps c =
     let in_ring = Contains-counts us (a ∷ ring.0) (λ x. sym (ring.2 x)) u c in
     Leads-closed P turn a (ring.0 ++ a ∷ []) a start keeps ring.1 u (Contains-append_left (a ∷ ring.0) (a ∷ []) u in_ring)
 
--- a list without repeats is parted at an entry in one way
-pub parted_once : (f : List ℕ) (x : ℕ) (r f' r' : List ℕ) → AllPairs ◌≢◌ (f ++ x ∷ r) → f ++ x ∷ r ≡ f' ++ x ∷ r' → (f ≡ f') × (r ≡ r')
-parted_once [] x r [] r' distinct e = (refl, ap rest_of e)
-parted_once [] x r (a ∷ f') r' distinct e =
+-- a list without repeats is split at an entry in one way
+pub separated_once : (f : List ℕ) (x : ℕ) (r f' r' : List ℕ) → AllPairs ◌≢◌ (f ++ x ∷ r) → f ++ x ∷ r ≡ f' ++ x ∷ r' → (f ≡ f') × (r ≡ r')
+separated_once [] x r [] r' distinct e = (refl, ap rest_of e)
+separated_once [] x r (a ∷ f') r' distinct e =
     absurd (head_apart x r distinct (subst (λ l. Contains l x) (sym (ap rest_of e)) (Contains-append_right f' (x ∷ r') x (Contains-here x r'))))
-parted_once (a ∷ f) x r [] r' distinct e =
+separated_once (a ∷ f) x r [] r' distinct e =
     absurd (head_apart a (f ++ x ∷ r) distinct (subst (Contains (f ++ x ∷ r)) (sym (ap (λ l. get_or l 0 0) e)) (Contains-append_right f (x ∷ r) x (Contains-here x r))))
-parted_once (a ∷ f) x r (b ∷ f') r' distinct e =
-    let rest = parted_once f x r f' r' (AllPairs-tail a (f ++ x ∷ r) distinct) (ap rest_of e) in
+separated_once (a ∷ f) x r (b ∷ f') r' distinct e =
+    let rest = separated_once f x r f' r' (AllPairs-tail a (f ++ x ∷ r) distinct) (ap rest_of e) in
     (ap₂ (λ y l. y ∷ l) (ap (λ l. get_or l 0 0) e) rest.0, rest.1)

@@ -10,10 +10,10 @@ use Rattle.map_theory.specs.Maps.{list_of, HasDart, IsSimpleMap, component_count
 use Rattle.map_theory.proofs.EntryLemmas.{Contains-here, Contains-there, Contains-cons_cases, Contains-from_list_any, list_any-from_Contains, count_of, parts_apart, head_apart, AllPairs-right}
 use Rattle.plane_laws.proofs.EdgeBound.{met_connected}
 use Rattle.plane_peeling.specs.Restricted.{restricted, IsFaceOfThree}
-use Rattle.plane_peeling.specs.NearTriangulations.{IsOuterCycle, IsFree}
+use Rattle.plane_peeling.specs.NearTriangulations.{IsOuterCycle, IsRemovable}
 use Rattle.plane_peeling.specs.Peeled.{IsPeeled, IsFan, IsTakenOff}
-use Rattle.plane_peeling.specs.Laws.{FreeTakenOff, ConnectedTakenOff}
-use Rattle.plane_peeling.proofs.Rings.{Leads, Leads-part, Leads-join, Leads-in, Leads-same, Leads-at, Contains-counts, AllPairs-counts, last-entry, parted_round, only_two, each_of_two, each_of_three}
+use Rattle.plane_peeling.specs.Laws.{RemovableTakenOff, ConnectedTakenOff}
+use Rattle.plane_peeling.proofs.Rings.{Leads, Leads-part, Leads-join, Leads-in, Leads-same, Leads-at, Contains-counts, AllPairs-counts, last-entry, separated_round, only_two, each_of_two, each_of_three}
 use Rattle.plane_peeling.proofs.RestrictedMaps.{restricted-old, restricted-new, count-kept_but}
 use Rattle.plane_peeling.proofs.OuterCycles.{round, last_on, first_on, next-on}
 use Rattle.plane_peeling.proofs.Counted.{count_below-within, marks_everywhere}
@@ -48,7 +48,7 @@ all_on_cycle lists kept s t ws whole one peeled closed =
     let in_first = (restricted-old lists kept s (entry_after s ws) (cycle.darts s first)).0.0 in
     count_below-within kept ws (length lists) (λ u l k. is_on u k (marks_everywhere lists whole one mark over s u in_first l (on_is s first)))
 
-module _ (lists : Lists) (kept : ℕ → Bool) (s t : ℕ) (ws : List ℕ) (v : ℕ) (whole : IsSimpleMap lists) (peeled : IsPeeled lists kept s t ws) (free : IsFree (restricted kept lists) s t ws v) where
+module _ (lists : Lists) (kept : ℕ → Bool) (s t : ℕ) (ws : List ℕ) (v : ℕ) (whole : IsSimpleMap lists) (peeled : IsPeeled lists kept s t ws) (removable : IsRemovable (restricted kept lists) s t ws v) where
   abbrev M : Lists
   M = restricted kept lists
 
@@ -59,7 +59,7 @@ module _ (lists : Lists) (kept : ℕ → Bool) (s t : ℕ) (ws : List ℕ) (v : 
   q = step v
 
   abbrev step' : ℕ → ℕ
-  step' = next_after lists kept s t ws v whole peeled free
+  step' = next_after lists kept s t ws v whole peeled removable
 
   sM : IsSimpleMap M
   sM = peeled.near.simple
@@ -68,7 +68,7 @@ module _ (lists : Lists) (kept : ℕ → Bool) (s t : ℕ) (ws : List ℕ) (v : 
   cM = peeled.near.cycle
 
   in_M : v < length M
-  in_M = in_v lists kept s t ws v whole peeled free
+  in_M = in_v lists kept s t ws v whole peeled removable
 
   -- the neighbours of v in a row, and the cycle before
   module _ (p : ℕ) (on_p : Contains ws p) (leads_p : step p ≡ v) (mid : List ℕ) (way : Leads step' p (mid ++ q ∷ []) q) (counts : (u : ℕ) → count_of u (p ∷ mid ++ q ∷ []) ≡ count_of u (list_of M v)) (front back : List ℕ) (was : ws ≡ front ++ p ∷ v ∷ q ∷ back) (way_front : Leads step t (front ++ p ∷ []) p) (way_back : Leads step q back t) where
@@ -96,7 +96,7 @@ module _ (lists : Lists) (kept : ℕ → Bool) (s t : ℕ) (ws : List ℕ) (v : 
               let one : i + 1 ≡ suc i = omega arith in
               let at : get_or nbrs (i + 1) 0 ≡ step' a = ap (λ k. get_or nbrs k 0) one ∙ Leads-at step' p (mid ++ q ∷ []) q 0 i way (omega arith) in
               let ne : a ≢ q = λ e. nbrs_distinct i (length mid + 1) 0 (omega arith) (omega arith) (e ∙ sym last_nbr) in
-              subst (λ y. IsFaceOfThree lists v a y) (sym (at ∙ next_after-turned lists kept s t ws v whole peeled free a d ne)) (fan lists kept s t ws v whole peeled free a d ne).1;
+              subst (λ y. IsFaceOfThree lists v a y) (sym (at ∙ next_after-turned lists kept s t ws v whole peeled removable a d ne)) (fan lists kept s t ws v whole peeled removable a d ne).1;
         }
       where
         last_nbr : get_or (p ∷ mid ++ q ∷ []) (length mid + 1) 0 ≡ q
@@ -112,12 +112,12 @@ module _ (lists : Lists) (kept : ℕ → Bool) (s t : ℕ) (ws : List ℕ) (v : 
     was_distinct = subst (AllPairs ◌≢◌) was cM.distinct
 
     stays : (z : ℕ) → Contains ws z → z ≢ p → step' z ≡ step z
-    stays z c n = next_after-on lists kept s t ws v whole peeled free p on_p leads_p z c n
+    stays z c n = next_after-on lists kept s t ws v whole peeled removable p on_p leads_p z c n
 
     stays_front : (z : ℕ) → Contains (t ∷ front) z → step' z ≡ step z
     stays_front z c =
         elim (Contains-cons_cases t front z c) [
-          | inl e ↦ ap (λ x. step' x) (sym e) ∙ (stays t (last_on M s t ws sM cM) (λ e'. p_not_last lists kept s t ws v whole peeled free p on_p leads_p (sym e')) ∙ ap step e)
+          | inl e ↦ ap (λ x. step' x) (sym e) ∙ (stays t (last_on M s t ws sM cM) (λ e'. p_not_last lists kept s t ws v whole peeled removable p on_p leads_p (sym e')) ∙ ap step e)
           | inr c' ↦
               stays z (on_ws z (Contains-append_left front (p ∷ v ∷ q ∷ back) z c')) (λ e.
               parts_apart front (p ∷ v ∷ q ∷ back) was_distinct z c' (subst (Contains (p ∷ v ∷ q ∷ back)) (sym e) (Contains-here p (v ∷ q ∷ back))))
@@ -149,37 +149,37 @@ module _ (lists : Lists) (kept : ℕ → Bool) (s t : ℕ) (ws : List ℕ) (v : 
 
     distinct_after : AllPairs ◌≢◌ after
     distinct_after =
-        after_distinct ws front p v mid q back (list_of M v) cM.distinct was (sM.no_repeat v in_M) counts (λ u c on. chords lists kept s t ws v whole peeled free p on_p leads_p u (in_M, c) on)
+        after_distinct ws front p v mid q back (list_of M v) cM.distinct was (sM.no_repeat v in_M) counts (λ u c on. chords lists kept s t ws v whole peeled removable p on_p leads_p u (in_M, c) on)
 
     taken_off : 3 ≤ length after → IsTakenOff lists kept s t ws v front p mid q back
     taken_off long =
         record {
           before = was;
           fan = fan_here;
-          left = left lists kept s t ws v whole peeled free p on_p leads_p after on_after after_on distinct_after ring_after long;
+          left = left lists kept s t ws v whole peeled removable p on_p leads_p after on_after after_on distinct_after ring_after long;
         }
 
     -- Where v has two neighbours alone, and the cycle has three vertices, each neighbour of these is on the cycle.
     closed : front ≡ [] → mid ≡ [] → back ≡ [] → (x u : ℕ) → Contains ws x → HasDart M x u → Contains ws u
     closed no_front no_mid no_back x u c d =
-        let d_p = dart_p lists kept s t ws v whole peeled free p on_p leads_p in
-        let pq = p_not_q lists kept s t ws v whole peeled free p on_p leads_p in
+        let d_p = dart_p lists kept s t ws v whole peeled removable p on_p leads_p in
+        let pq = p_not_q lists kept s t ws v whole peeled removable p on_p leads_p in
         let last : q ≡ t = subst (λ l. Leads step q l t) no_back way_back in
         let to_p : step q ≡ p = ap step last ∙ (subst (λ l. Leads step t (l ++ p ∷ []) p) no_front way_front).0 in
-        let p_v : follows M p v ≡ q = sym (next_after-turned lists kept s t ws v whole peeled free p d_p pq) ∙ (subst (λ l. Leads step' p (l ++ q ∷ []) q) no_mid way).0 in
-        let p_q : follows M p q ≡ v = ap (λ z. follows M z q) (sym to_p) ∙ (cM.turns q (next-on M s t ws sM cM v free.on) ∙ (ap step to_p ∙ leads_p)) in
-        let q_v : follows M q v ≡ p = cM.turns v free.on ∙ to_p in
-        let q_p : follows M q p ≡ v = ap (λ z. follows M z p) (sym p_v) ∙ (fan lists kept s t ws v whole peeled free p d_p pq).0.third in
-        let on_q = next-on M s t ws sM cM v free.on in
-        let d_q = cM.darts v free.on in
+        let p_v : follows M p v ≡ q = sym (next_after-turned lists kept s t ws v whole peeled removable p d_p pq) ∙ (subst (λ l. Leads step' p (l ++ q ∷ []) q) no_mid way).0 in
+        let p_q : follows M p q ≡ v = ap (λ z. follows M z q) (sym to_p) ∙ (cM.turns q (next-on M s t ws sM cM v removable.on) ∙ (ap step to_p ∙ leads_p)) in
+        let q_v : follows M q v ≡ p = cM.turns v removable.on ∙ to_p in
+        let q_p : follows M q p ≡ v = ap (λ z. follows M z p) (sym p_v) ∙ (fan lists kept s t ws v whole peeled removable p d_p pq).0.third in
+        let on_q = next-on M s t ws sM cM v removable.on in
+        let d_q = cM.darts v removable.on in
         let at_p : HasDart M p u → Contains ws u = λ d'.
         let p_to_v = sM.both_ways v p d_p in
-        elim (only_two (list_of M p) v q u (sM.no_repeat p d'.0) p_to_v.1 p_v p_q d'.1) [ inl h ↦ subst (Contains ws) (sym h) free.on | inr h ↦ subst (Contains ws) (sym h) on_q ] in
+        elim (only_two (list_of M p) v q u (sM.no_repeat p d'.0) p_to_v.1 p_v p_q d'.1) [ inl h ↦ subst (Contains ws) (sym h) removable.on | inr h ↦ subst (Contains ws) (sym h) on_q ] in
         let at_v : HasDart M v u → Contains ws u = λ d'.
         each_of_two (Contains ws) p q on_p on_q u (subst (λ l. Contains (p ∷ l ++ q ∷ []) u) no_mid (Contains-counts (list_of M v) nbrs (λ w. sym (counts w)) u d'.1)) in
         let at_q : HasDart M q u → Contains ws u = λ d'.
         let q_to_v = sM.both_ways v q d_q in
-        elim (only_two (list_of M q) v p u (sM.no_repeat q d'.0) q_to_v.1 q_v q_p d'.1) [ inl h ↦ subst (Contains ws) (sym h) free.on | inr h ↦ subst (Contains ws) (sym h) on_p ] in
+        elim (only_two (list_of M q) v p u (sM.no_repeat q d'.0) q_to_v.1 q_v q_p d'.1) [ inl h ↦ subst (Contains ws) (sym h) removable.on | inr h ↦ subst (Contains ws) (sym h) on_p ] in
         each_of_three (λ z. HasDart M z u → Contains ws u) p v q at_p at_v at_q x (subst (λ l. Contains l x) (was ∙ ap₂ (λ l r. l ++ p ∷ v ∷ q ∷ r) no_front no_back) c) d
 
     -- with more than three vertices left, the new cycle has three
@@ -202,12 +202,12 @@ module _ (lists : Lists) (kept : ℕ → Bool) (s t : ℕ) (ws : List ℕ) (v : 
   -- all put together
   step_here : component_count lists ≡ 1 → 3 < count_below kept (length lists) → (front : List ℕ) × (p : ℕ) × (mid : List ℕ) × (q : ℕ) × (back : List ℕ) × IsTakenOff lists kept s t ws v front p mid q back
   step_here connected many =
-      let b = before lists kept s t ws v whole peeled free in
+      let b = before lists kept s t ws v whole peeled removable in
       let p = b.0 in
       let on_p = b.1 in
       let leads_p = b.2 in
-      let parts = parted_round step ws t p v q (round M s t ws sM cM) on_p leads_p refl (p_not_last lists kept s t ws v whole peeled free p on_p leads_p) free.not_last in
-      let r = run lists kept s t ws v whole peeled free p on_p leads_p in (
+      let parts = separated_round step ws t p v q (round M s t ws sM cM) on_p leads_p refl (p_not_last lists kept s t ws v whole peeled removable p on_p leads_p) removable.not_last in
+      let r = run lists kept s t ws v whole peeled removable p on_p leads_p in (
         parts.0,
         p,
         r.0,
@@ -218,12 +218,12 @@ module _ (lists : Lists) (kept : ℕ → Bool) (s t : ℕ) (ws : List ℕ) (v : 
 
 -- THE LAWS: a vertex without a chord taken off
 pub connected_taken_off : ConnectedTakenOff
-connected_taken_off lists kept s t ws v whole connected peeled many free =
-    let d = peeled.near.cycle.darts v free.on in
+connected_taken_off lists kept s t ws v whole connected peeled many removable =
+    let d = peeled.near.cycle.darts v removable.on in
     let old = restricted-old lists kept v (entry_after v ws) d in
-    (step_here lists kept s t ws v whole peeled free connected many, count-kept_but kept v (length lists) old.0.0 old.1)
+    (step_here lists kept s t ws v whole peeled removable connected many, count-kept_but kept v (length lists) old.0.0 old.1)
 
-pub free_taken_off : FreeTakenOff
-free_taken_off lists kept s t ws v completed peeled many free =
-    let connected = met_connected lists completed.simple completed.plane completed.some completed.edges in
-    connected_taken_off lists kept s t ws v completed.simple connected peeled many free
+pub removable_taken_off : RemovableTakenOff
+removable_taken_off lists kept s t ws v triangulation peeled many removable =
+    let connected = met_connected lists triangulation.simple triangulation.plane triangulation.some triangulation.edges in
+    connected_taken_off lists kept s t ws v triangulation.simple connected peeled many removable

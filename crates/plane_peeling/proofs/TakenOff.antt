@@ -6,7 +6,7 @@ use Rattle.map_theory.specs.Maps.{HasDart, IsSimpleMap, follows, entry_after}
 use Rattle.map_theory.proofs.DartLemmas.{HasDart-follows}
 use Rattle.plane_laws.specs.Kept.{IsKeptMap}
 use Rattle.plane_peeling.specs.Restricted.{restricted, kept_but, IsFaceOfThree}
-use Rattle.plane_peeling.specs.NearTriangulations.{IsOuterCycle, IsOuterDart, IsFree}
+use Rattle.plane_peeling.specs.NearTriangulations.{IsOuterCycle, IsOuterDart, IsRemovable}
 use Rattle.plane_peeling.specs.Peeled.{IsPeeled}
 use Rattle.plane_peeling.proofs.Rings.{Leads, Leads-first, Leads-last, round-entry}
 use Rattle.plane_peeling.proofs.RestrictedMaps.{both, restricted-map, restricted-old, restricted-new, restricted_again, kept_but-old, kept_but-new, kept_but-itself}
@@ -14,7 +14,7 @@ use Rattle.plane_peeling.proofs.OuterCycles.{IsFaceOfThree-turned, IsTriangle-fa
 use Rattle.plane_peeling.proofs.Fans.{q, fan, next_after, next_after-turned, next_after-other, next_after-on, dart_p, p_not_q, p_not_last}
 
 -- The map without v. The list `after` has on it the vertices of the cycle but for v, and its neighbours, and next_after leads round it.
-module _ (lists : Lists) (kept : ℕ → Bool) (s t : ℕ) (ws : List ℕ) (v : ℕ) (whole : IsSimpleMap lists) (peeled : IsPeeled lists kept s t ws) (free : IsFree (restricted kept lists) s t ws v) (p : ℕ) (on_p : Contains ws p) (leads_p : entry_after p ws ≡ v) (after : List ℕ) (on_after : (u : ℕ) → Contains after u → (Contains ws u × (u ≢ v)) ⊎ HasDart (restricted kept lists) v u) (after_on : (u : ℕ) → (Contains ws u × (u ≢ v)) ⊎ HasDart (restricted kept lists) v u → Contains after u) (distinct : AllPairs ◌≢◌ after) (ring : Leads (next_after lists kept s t ws v whole peeled free) t after t) (long : 3 ≤ length after) where
+module _ (lists : Lists) (kept : ℕ → Bool) (s t : ℕ) (ws : List ℕ) (v : ℕ) (whole : IsSimpleMap lists) (peeled : IsPeeled lists kept s t ws) (removable : IsRemovable (restricted kept lists) s t ws v) (p : ℕ) (on_p : Contains ws p) (leads_p : entry_after p ws ≡ v) (after : List ℕ) (on_after : (u : ℕ) → Contains after u → (Contains ws u × (u ≢ v)) ⊎ HasDart (restricted kept lists) v u) (after_on : (u : ℕ) → (Contains ws u × (u ≢ v)) ⊎ HasDart (restricted kept lists) v u → Contains after u) (distinct : AllPairs ◌≢◌ after) (ring : Leads (next_after lists kept s t ws v whole peeled removable) t after t) (long : 3 ≤ length after) where
   abbrev M : Lists
   M = restricted kept lists
 
@@ -28,7 +28,7 @@ module _ (lists : Lists) (kept : ℕ → Bool) (s t : ℕ) (ws : List ℕ) (v : 
   step x = entry_after x ws
 
   abbrev step' : ℕ → ℕ
-  step' = next_after lists kept s t ws v whole peeled free
+  step' = next_after lists kept s t ws v whole peeled removable
 
   sM : IsSimpleMap M
   sM = peeled.near.simple
@@ -81,17 +81,17 @@ module _ (lists : Lists) (kept : ℕ → Bool) (s t : ℕ) (ws : List ℕ) (v : 
       let on_ws : Contains ws x → x ≢ v → (HasDart M v x × (x ≢ step v) × (step' x ≡ follows M x v)) ⊎ (Contains ws x × (x ≢ v) × (x ≢ p) × (step' x ≡ step x)) = λ on n.
       elim (cases_eq x p) [
         | inl e ↦
-            let d = subst (HasDart M v) (sym e) (dart_p lists kept s t ws v whole peeled free p on_p leads_p) in
-            let n' : x ≢ step v = λ e'. p_not_q lists kept s t ws v whole peeled free p on_p leads_p (sym e ∙ e') in
-            inl (d, n', next_after-turned lists kept s t ws v whole peeled free x d n')
-        | inr ne ↦ inr (on, n, ne, next_after-on lists kept s t ws v whole peeled free p on_p leads_p x on ne)
+            let d = subst (HasDart M v) (sym e) (dart_p lists kept s t ws v whole peeled removable p on_p leads_p) in
+            let n' : x ≢ step v = λ e'. p_not_q lists kept s t ws v whole peeled removable p on_p leads_p (sym e ∙ e') in
+            inl (d, n', next_after-turned lists kept s t ws v whole peeled removable x d n')
+        | inr ne ↦ inr (on, n, ne, next_after-on lists kept s t ws v whole peeled removable p on_p leads_p x on ne)
       ] in
       elim (on_after x c) [
         | inl on ↦ on_ws on.0 on.1
         | inr d ↦
             elim (cases_eq x (step v)) [
-              | inl e ↦ on_ws (subst (Contains ws) (sym e) (next-on M s t ws sM cM v free.on)) (not_v x d)
-              | inr n ↦ inl (d, n, next_after-turned lists kept s t ws v whole peeled free x d n)
+              | inl e ↦ on_ws (subst (Contains ws) (sym e) (next-on M s t ws sM cM v removable.on)) (not_v x d)
+              | inr n ↦ inl (d, n, next_after-turned lists kept s t ws v whole peeled removable x d n)
             ]
       ]
 
@@ -99,10 +99,10 @@ module _ (lists : Lists) (kept : ℕ → Bool) (s t : ℕ) (ws : List ℕ) (v : 
   turn_on : (y : ℕ) → HasDart M v y → follows M y v ≡ step' y
   turn_on y d =
       elim (cases_eq y (step v)) [
-        | inr n ↦ sym (next_after-turned lists kept s t ws v whole peeled free y d n)
+        | inr n ↦ sym (next_after-turned lists kept s t ws v whole peeled removable y d n)
         | inl e ↦
             ap (λ z. follows M z v) e
-            ∙ (cM.turns v free.on ∙ (ap step (sym e) ∙ sym (next_after-other lists kept s t ws v whole peeled free y (λ _. e))))
+            ∙ (cM.turns v removable.on ∙ (ap step (sym e) ∙ sym (next_after-other lists kept s t ws v whole peeled removable y (λ _. e))))
       ]
 
   -- and that is not v
@@ -110,10 +110,10 @@ module _ (lists : Lists) (kept : ℕ → Bool) (s t : ℕ) (ws : List ℕ) (v : 
   turn_not_v y d e =
       elim (cases_eq y (step v)) [
         | inr n ↦
-            let f = (fan lists kept s t ws v whole peeled free y d n).0 in
+            let f = (fan lists kept s t ws v whole peeled removable y d n).0 in
             let f' = IsFaceOfThree-turned M y (follows M y v) v sM (IsFaceOfThree-turned M v y (follows M y v) sM f) in
             sM.no_loop (follows M y v) v f'.dart (sym e)
-        | inl q ↦ two_steps_on M s t ws sM cM v free.on (sym (cM.turns v free.on) ∙ (ap (λ z. follows M z v) (sym q) ∙ e))
+        | inl q ↦ two_steps_on M s t ws sM cM v removable.on (sym (cM.turns v removable.on) ∙ (ap (λ z. follows M z v) (sym q) ∙ e))
       ]
 
   -- one step of the new cycle
@@ -132,7 +132,7 @@ module _ (lists : Lists) (kept : ℕ → Bool) (s t : ℕ) (ws : List ℕ) (v : 
       round_v : HasDart M v x → x ≢ step v → step' x ≡ follows M x v → IsStep x
       round_v d n e =
           let y = follows M x v in
-          let f = (fan lists kept s t ws v whole peeled free x d n).0 in
+          let f = (fan lists kept s t ws v whole peeled removable x d n).0 in
           let f' = IsFaceOfThree-turned M v x y sM f in
           let back = (IsFaceOfThree-turned M x y v sM f').dart in
           let d_y = sM.both_ways y v back in
@@ -157,11 +157,11 @@ module _ (lists : Lists) (kept : ℕ → Bool) (s t : ℕ) (ws : List ℕ) (v : 
           let turn : follows M' y x ≡ step' y =
           elim (cases_eq y p) [
             | inl q ↦
-                let d_y = subst (HasDart M v) (sym q) (dart_p lists kept s t ws v whole peeled free p on_p leads_p) in
+                let d_y = subst (HasDart M v) (sym q) (dart_p lists kept s t ws v whole peeled removable p on_p leads_p) in
                 turn_skip y x back (cM.turns x on ∙ (ap step q ∙ leads_p)) (turn_not_v y d_y) ∙ turn_on y d_y
             | inr n ↦
                 let n' : follows M y x ≢ v = λ q. n (next-apart M s t ws sM cM y p on_y on_p (sym (cM.turns x on) ∙ (q ∙ sym leads_p))) in
-                turn_same y x back n' ∙ (cM.turns x on ∙ sym (next_after-on lists kept s t ws v whole peeled free p on_p leads_p y on_y n))
+                turn_same y x back n' ∙ (cM.turns x on ∙ sym (next_after-on lists kept s t ws v whole peeled removable p on_p leads_p y on_y n))
           ] in
           record {
             stays = after_on (step' x) (inl (subst (λ w. Contains ws w × (w ≢ v)) (sym e) (on_y, y_v)));
@@ -175,7 +175,7 @@ module _ (lists : Lists) (kept : ℕ → Bool) (s t : ℕ) (ws : List ℕ) (v : 
   -- the last vertex leads on as it did, to the first
   first_stays : step' t ≡ s
   first_stays =
-      next_after-on lists kept s t ws v whole peeled free p on_p leads_p t (last_on M s t ws sM cM) (λ e. p_not_last lists kept s t ws v whole peeled free p on_p leads_p (sym e))
+      next_after-on lists kept s t ws v whole peeled removable p on_p leads_p t (last_on M s t ws sM cM) (λ e. p_not_last lists kept s t ws v whole peeled removable p on_p leads_p (sym e))
       ∙ next-last M s t ws sM cM
 
   cycle_after : IsOuterCycle M' s t after
@@ -197,7 +197,7 @@ module _ (lists : Lists) (kept : ℕ → Bool) (s t : ℕ) (ws : List ℕ) (v : 
       let was = old x y d in
       let np : x ≢ p = λ e. was.2 (sym o.1 ∙ (ap step e ∙ leads_p)) in
       let c = after_on x (inl (o.0, was.1)) in
-      n (c, entry x c ∙ (next_after-on lists kept s t ws v whole peeled free p on_p leads_p x o.0 np ∙ o.1))
+      n (c, entry x c ∙ (next_after-on lists kept s t ws v whole peeled removable p on_p leads_p x o.0 np ∙ o.1))
 
   -- and its face has not v
   inner_without : (x y : ℕ) → HasDart M' x y → ¬ IsOuterDart after x y → follows M y x ≢ v
@@ -210,10 +210,10 @@ module _ (lists : Lists) (kept : ℕ → Bool) (s t : ℕ) (ws : List ℕ) (v : 
       let d_x : HasDart M v x = subst (λ w. HasDart M w x) e dart in
       let to_y : follows M x v ≡ y = ap (follows M x) (sym e) ∙ f.round in
       elim (cases_eq x (step v)) [
-        | inl q ↦ out (subst (Contains ws) (sym q) (next-on M s t ws sM cM v free.on), ap step q ∙ (sym (cM.turns v free.on) ∙ (ap (λ w. follows M w v) (sym q) ∙ to_y)))
+        | inl q ↦ out (subst (Contains ws) (sym q) (next-on M s t ws sM cM v removable.on), ap step q ∙ (sym (cM.turns v removable.on) ∙ (ap (λ w. follows M w v) (sym q) ∙ to_y)))
         | inr ne ↦
             let c = after_on x (inr d_x) in
-            n (c, entry x c ∙ (next_after-turned lists kept s t ws v whole peeled free x d_x ne ∙ to_y))
+            n (c, entry x c ∙ (next_after-turned lists kept s t ws v whole peeled removable x d_x ne ∙ to_y))
       ]
 
   face_after : (x y : ℕ) → HasDart M' x y → ¬ IsOuterDart after x y → IsFaceOfThree M' x y (follows M y x)

@@ -9,14 +9,14 @@ use Rattle.map_theory.proofs.EntryLemmas.{Contains-here, AllPairs-left, AllPairs
 use Rattle.map_theory.proofs.DartLemmas.{HasDart-follows}
 use Rattle.plane_laws.proofs.KeptEdges.{all_or_some}
 use Rattle.plane_peeling.specs.Restricted.{restricted, IsFaceOfThree}
-use Rattle.plane_peeling.specs.NearTriangulations.{IsOuterCycle, IsFree, IsFreeStretch}
+use Rattle.plane_peeling.specs.NearTriangulations.{IsOuterCycle, IsRemovable, IsRemovableStretch}
 use Rattle.plane_peeling.specs.Peeled.{IsPeeled}
-use Rattle.plane_peeling.specs.TwoGone.{HasNoSeparatingTriangle, IsOpenOutside, IsFreeOfTwo, SomeFreeOfTwo}
+use Rattle.plane_peeling.specs.TwoGone.{HasNoSeparatingTriangle, IsOpenOutside, IsRemovableOfTwo, SomeRemovableOfTwo}
 use Rattle.plane_peeling.proofs.Rings.{Leads, Leads-part, Leads-join, entries_closed}
 use Rattle.plane_peeling.proofs.Ways.{place, place_first, place_last, place_next, place_apart, place_in}
 use Rattle.plane_peeling.proofs.RestrictedMaps.{restricted-old}
 use Rattle.plane_peeling.proofs.OuterCycles.{cases_outer, IsFaceOfThree-turned, next-on, next-last, round}
-use Rattle.plane_peeling.proofs.FreeVertices.{some_free_stretch}
+use Rattle.plane_peeling.proofs.RemovableVertices.{some_removable_stretch}
 
 module _ (lists : Lists) (kept : ℕ → Bool) (s t : ℕ) (ws : List ℕ) (whole : IsSimpleMap lists) (none : HasNoSeparatingTriangle lists) (peeled : IsPeeled lists kept s t ws) (outside : IsOpenOutside lists kept t ws) where
   abbrev M : Lists
@@ -34,7 +34,7 @@ module _ (lists : Lists) (kept : ℕ → Bool) (s t : ℕ) (ws : List ℕ) (whol
   on_kept : (x : ℕ) → Contains ws x → kept x ≡ true
   on_kept x c = (restricted-old lists kept x (step x) (cM.darts x c)).1
 
-  module _ (front : List ℕ) (u : ℕ) (between : List ℕ) (w : ℕ) (back : List ℕ) (is : IsFreeStretch M s t ws front u between w back) where
+  module _ (front : List ℕ) (u : ℕ) (between : List ℕ) (w : ℕ) (back : List ℕ) (is : IsRemovableStretch M s t ws front u between w back) where
     abbrev row : List ℕ
     row = u ∷ between ++ w ∷ []
 
@@ -66,8 +66,8 @@ module _ (lists : Lists) (kept : ℕ → Bool) (s t : ℕ) (ws : List ℕ) (whol
     goes_on : (i : ℕ) → i < m → step (at i) ≡ at (suc i)
     goes_on = place_next step u between w way distinct
 
-    free_at : (i : ℕ) → suc i < m → IsFree M s t ws (at (suc i))
-    free_at i l = is.free (at (suc i)) (place_in step u between w way distinct i l)
+    removable_at : (i : ℕ) → suc i < m → IsRemovable M s t ws (at (suc i))
+    removable_at i l = is.removable (at (suc i)) (place_in step u between w way distinct i l)
 
     on_at : (i : ℕ) → i ≤ m → Contains ws (at i)
     on_at zero l =
@@ -76,8 +76,8 @@ module _ (lists : Lists) (kept : ℕ → Bool) (s t : ℕ) (ws : List ℕ) (whol
     on_at (suc i) l = subst (Contains ws) (goes_on i (omega arith)) (next-on M s t ws sM cM (at i) (on_at i (omega arith)))
 
     not_last : (i : ℕ) → i < m → at i ≢ t
-    not_last zero l e = let some = is.some in (free_at 0 (omega arith)).not_first (sym (goes_on 0 (omega arith)) ∙ (ap step e ∙ next-last M s t ws sM cM))
-    not_last (suc i) l e = (free_at i l).not_last e
+    not_last zero l e = let some = is.some in (removable_at 0 (omega arith)).not_first (sym (goes_on 0 (omega arith)) ∙ (ap step e ∙ next-last M s t ws sM cM))
+    not_last (suc i) l e = (removable_at i l).not_last e
 
     -- the vertex beyond the dart from place i to the next
     abbrev beyond : ℕ → ℕ
@@ -91,10 +91,10 @@ module _ (lists : Lists) (kept : ℕ → Bool) (s t : ℕ) (ws : List ℕ) (whol
     gone_at i l = subst (λ y. kept (follows lists y (at i)) ≡ false) (goes_on i l) (outside.beyond (at i) (on_at i (omega arith)))
 
     -- two vertices beyond two darts in a row
-    found : (i : ℕ) → suc i < m → beyond i ≢ beyond (suc i) → IsFreeOfTwo lists kept s t ws (at i) (at (suc i))
+    found : (i : ℕ) → suc i < m → beyond i ≢ beyond (suc i) → IsRemovableOfTwo lists kept s t ws (at i) (at (suc i))
     found i l ne =
         record {
-          free = free_at i l;
+          removable = removable_at i l;
           on = on_at i (omega arith);
           next = goes_on i (omega arith);
           two = λ e. ne (e ∙ ap (λ y. follows lists y (at (suc i))) (goes_on (suc i) l));
@@ -160,7 +160,7 @@ module _ (lists : Lists) (kept : ℕ → Bool) (s t : ℕ) (ws : List ℕ) (whol
             | inr f ↦ not_that_way f
           ]
 
-    here : (x : ℕ) × (v : ℕ) × IsFreeOfTwo lists kept s t ws x v
+    here : (x : ℕ) × (v : ℕ) × IsRemovableOfTwo lists kept s t ws x v
     here =
         elim (all_or_some (λ i. eqb (beyond i) (beyond (suc i))) (length between)) [
           | inr r ↦ (at r.0, at (suc r.0), found r.0 (let l = r.1 in omega arith) (eqb-false (beyond r.0) (beyond (suc r.0)) r.2))
@@ -168,7 +168,7 @@ module _ (lists : Lists) (kept : ℕ → Bool) (s t : ℕ) (ws : List ℕ) (whol
         ]
 
 -- THE LAW: a vertex with two neighbours taken off
-pub some_free_of_two : SomeFreeOfTwo
-some_free_of_two lists kept s t ws whole none peeled outside =
-    let found = some_free_stretch (restricted kept lists) s t ws peeled.near.simple peeled.near.plane peeled.near.cycle in
+pub some_removable_of_two : SomeRemovableOfTwo
+some_removable_of_two lists kept s t ws whole none peeled outside =
+    let found = some_removable_stretch (restricted kept lists) s t ws peeled.near.simple peeled.near.plane peeled.near.cycle in
     here lists kept s t ws whole none peeled outside found.0 found.1 found.2 found.3 found.4 found.5

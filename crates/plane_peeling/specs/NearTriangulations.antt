@@ -25,15 +25,15 @@ pub record IsNearTriangulation (lists : Lists) (s t : ℕ) (ws : List ℕ) : Typ
   pub inner : (x y : ℕ) → HasDart lists x y → ¬ IsOuterDart ws x y → IsTriangle lists (x, y)
 
 -- A vertex of the outer cycle that is not an end of the base and has no chord: of its neighbours just those before and after it are on the cycle.
-pub record IsFree (lists : Lists) (s t : ℕ) (ws : List ℕ) (v : ℕ) : Type 0 where
+pub record IsRemovable (lists : Lists) (s t : ℕ) (ws : List ℕ) (v : ℕ) : Type 0 where
   pub on : Contains ws v
   pub not_first : v ≢ s
   pub not_last : v ≢ t
   pub chordless : (u : ℕ) → HasDart lists v u → Contains ws u → (entry_after u ws ≡ v) ⊎ (entry_after v ws ≡ u)
 
 -- A stretch of the outer cycle, from u to w, whose vertices between the two have no chord; u and w are adjacent, by a chord or the base.
-pub record IsFreeStretch (lists : Lists) (s t : ℕ) (ws front : List ℕ) (u : ℕ) (between : List ℕ) (w : ℕ) (back : List ℕ) : Type 0 where
+pub record IsRemovableStretch (lists : Lists) (s t : ℕ) (ws front : List ℕ) (u : ℕ) (between : List ℕ) (w : ℕ) (back : List ℕ) : Type 0 where
   pub parts : ws ≡ front ++ (u ∷ between ++ w ∷ back)
   pub some : 0 < length between
   pub chord : HasDart lists u w
-  pub free : (v : ℕ) → Contains between v → IsFree lists s t ws v
+  pub removable : (v : ℕ) → Contains between v → IsRemovable lists s t ws v

@@ -3,7 +3,7 @@ use Rattle.std.specs.Prelude.{ℕ, ◌<◌, ◌≡◌, ◌≢◌, ◌⊎◌, Boo
 use Rattle.map_lists.specs.Lists.{Lists}
 use Rattle.map_theory.specs.Maps.{HasDart, IsSimpleMap, component_count, follows, entry_after}
 use Rattle.plane_peeling.specs.Restricted.{restricted, kept_but, IsFaceOfThree}
-use Rattle.plane_peeling.specs.NearTriangulations.{IsFree, IsNearTriangulation}
+use Rattle.plane_peeling.specs.NearTriangulations.{IsRemovable, IsNearTriangulation}
 use Rattle.plane_peeling.specs.Peeled.{IsPeeled, IsTakenOff}
 
 -- each triangle of edges is a face, one way round or the other
@@ -17,16 +17,16 @@ pub record IsOpenOutside (lists : Lists) (kept : ℕ → Bool) (t : ℕ) (ws : L
   pub company : (z : ℕ) → z < length lists → kept z ≡ false → (y : ℕ) × HasDart lists z y × (kept y ≡ false)
 
 -- A vertex without a chord beyond whose two darts of the outer cycle, that from x and the next, stand two vertices: so two of its neighbours are taken off.
-pub record IsFreeOfTwo (lists : Lists) (kept : ℕ → Bool) (s t : ℕ) (ws : List ℕ) (x v : ℕ) : Type 0 where
-  pub free : IsFree (restricted kept lists) s t ws v
+pub record IsRemovableOfTwo (lists : Lists) (kept : ℕ → Bool) (s t : ℕ) (ws : List ℕ) (x v : ℕ) : Type 0 where
+  pub removable : IsRemovable (restricted kept lists) s t ws v
   pub on : Contains ws x
   pub next : entry_after x ws ≡ v
   pub two : follows lists v x ≢ follows lists (entry_after v ws) v
 
 -- Where no triangle separates, and the outside is open, there is such a vertex.
-abbrev pub SomeFreeOfTwo : Type 0
-SomeFreeOfTwo =
-    (lists : Lists) (kept : ℕ → Bool) (s t : ℕ) (ws : List ℕ) → IsSimpleMap lists → HasNoSeparatingTriangle lists → IsPeeled lists kept s t ws → IsOpenOutside lists kept t ws → (x : ℕ) × (v : ℕ) × IsFreeOfTwo lists kept s t ws x v
+abbrev pub SomeRemovableOfTwo : Type 0
+SomeRemovableOfTwo =
+    (lists : Lists) (kept : ℕ → Bool) (s t : ℕ) (ws : List ℕ) → IsSimpleMap lists → HasNoSeparatingTriangle lists → IsPeeled lists kept s t ws → IsOpenOutside lists kept t ws → (x : ℕ) × (v : ℕ) × IsRemovableOfTwo lists kept s t ws x v
 
 -- And the outside stays open when a vertex is taken off.
 abbrev pub OpenAfter : Type 0

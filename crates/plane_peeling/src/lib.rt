@@ -2,8 +2,8 @@
 //! nothing, and speaks of all maps.
 #![tactic(auto)]
 
-ghost use Rattle.plane_peeling.specs.Laws.{ConnectedTakenOff, CycleAfter, FanCovers, FreeByCount, FreeTakenOff, NothingTakenOff, OuterCycleIsFace, SomeFree, SomeFreeStretch, ThreeLeft, WholeIsPeeled};
-ghost use Rattle.plane_peeling.specs.TwoGone.{OpenAfter, QuadrangleOpened, SomeFreeOfTwo};
+ghost use Rattle.plane_peeling.specs.Laws.{ConnectedTakenOff, CycleAfter, FanCovers, RemovableByCount, RemovableTakenOff, NothingTakenOff, OuterCycleIsFace, SomeRemovable, SomeRemovableStretch, ThreeLeft, WholeIsPeeled};
+ghost use Rattle.plane_peeling.specs.TwoGone.{OpenAfter, QuadrangleOpened, SomeRemovableOfTwo};
 
 /// The darts of an outer cycle are those of the face of its base, and no others.
 pub fn outer_cycle_is_face()
@@ -12,14 +12,14 @@ pub fn outer_cycle_is_face()
 
 /// In a map of genus zero with an outer cycle there is a vertex on it, other than the two ends of the base,
 /// that has no chord: of its neighbours just those before and after it are on the cycle.
-pub fn some_free()
-    ensures { SomeFree }
+pub fn some_removable()
+    ensures { SomeRemovable }
 {}
 
 /// There is even a stretch of such vertices, between two vertices of the cycle that are adjacent by a chord
 /// or by the base.
-pub fn some_free_stretch()
-    ensures { SomeFreeStretch }
+pub fn some_removable_stretch()
+    ensures { SomeRemovableStretch }
 {}
 
 /// A near triangulation of which nothing is taken off: its inner faces are faces of the whole map.
@@ -27,7 +27,7 @@ pub fn whole_is_peeled()
     ensures { WholeIsPeeled }
 {}
 
-/// A completed map of which nothing is taken off is a near triangulation, whose outer cycle is the face of
+/// A triangulation of which nothing is taken off is a near triangulation, whose outer cycle is the face of
 /// the base.
 pub fn nothing_taken_off()
     ensures { NothingTakenOff }
@@ -36,8 +36,8 @@ pub fn nothing_taken_off()
 /// While more than three vertices are left, a vertex of the outer cycle without a chord can be taken off:
 /// a near triangulation is left, with one vertex less, and its outer cycle has the neighbours of that
 /// vertex in its place. Each two of them that follow one another are a face of the whole map with it.
-pub fn free_taken_off()
-    ensures { FreeTakenOff }
+pub fn removable_taken_off()
+    ensures { RemovableTakenOff }
 {}
 
 /// The same where the whole map is any connected simple map: what is left is a near triangulation, and a
@@ -54,8 +54,8 @@ pub fn three_left()
 
 /// A vertex of the outer cycle that is not an end of the base has no chord exactly where just two of its
 /// neighbours in the whole map are on the cycle.
-pub fn free_by_count()
-    ensures { FreeByCount }
+pub fn removable_by_count()
+    ensures { RemovableByCount }
 {}
 
 /// After a vertex is taken off, the vertices of the outer cycle are those that were on it, but for that
@@ -73,8 +73,8 @@ pub fn fan_covers()
 /// Let no triangle of edges separate, and let what is taken off lie around what is left: a vertex taken off
 /// stands beyond each dart of the outer cycle, and has a neighbour that is taken off too. Then there is a
 /// vertex without a chord of which two neighbours are taken off.
-pub fn some_free_of_two()
-    ensures { SomeFreeOfTwo }
+pub fn some_removable_of_two()
+    ensures { SomeRemovableOfTwo }
 {}
 
 /// What is taken off still lies around what is left when one vertex more is taken off.

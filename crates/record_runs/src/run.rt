@@ -158,7 +158,7 @@ fn consume<F: Format, J: Job<F>, K: Sink>(
 }
 
 // One read, and the bytes that it gives. It answers that the run goes on, or how it has ended.
-fn turn<F: Format, J: Job<F>, S: Source, K: Sink>(
+fn read_once<F: Format, J: Job<F>, S: Source, K: Sink>(
     alloc: Global,
     run: &mut Run<F>,
     job: &mut J,
@@ -214,9 +214,9 @@ pub fn run_records<F: Format, J: Job<F>, S: Source, K: Sink>(
     };
     let mut buffer = [0u8; BUFFER];
     let mut text = Vec::new(alloc);
-    'turns: loop {
+    'reads: loop {
         let room = BUFFER.min(INPUT_LIMIT + 1 - run.taken);
-        match turn(
+        match read_once(
             alloc,
             &mut run,
             job,

@@ -10,8 +10,8 @@ use Rattle.rect_class.specs.RectMaps.{IsRectMap}
 use Rattle.rect_class.specs.Refusals.{BreaksRect}
 
 -- Lists of such a map break no condition first.
-abbrev pub RectBlocksBreakNothing : Type 0
-RectBlocksBreakNothing = (lists : Lists) (refusal : Refusal) → 0 < length lists → IsRectMap lists → ¬ BreaksRect lists refusal
+abbrev pub RectMapsBreakNothing : Type 0
+RectMapsBreakNothing = (lists : Lists) (refusal : Refusal) → 0 < length lists → IsRectMap lists → ¬ BreaksRect lists refusal
 
 -- A connected near triangulation with this quadrangle as its outer cycle, in which no triangle separates, with more than four vertices.
 pub record IsOpenQuadrangle (lists : Lists) (s d p t : ℕ) : Type 0 where
@@ -21,6 +21,6 @@ pub record IsOpenQuadrangle (lists : Lists) (s d p t : ℕ) : Type 0 where
   pub triangles : HasNoSeparatingTriangle lists
 
 -- Each map of the class is one, with the four of its frame.
-abbrev pub BlocksAreRectMaps : Type 0
-BlocksAreRectMaps =
+abbrev pub BiconnectedAreRectMaps : Type 0
+BiconnectedAreRectMaps =
     (lists : Lists) → IsRectMap lists → IsOpenQuadrangle lists 0 (top_vertex lists) (right_vertex lists) (bottom_vertex lists)

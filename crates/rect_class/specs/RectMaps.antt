@@ -5,7 +5,7 @@ use Rattle.map_theory.specs.Maps.{HasDart}
 use Rattle.map_theory.specs.Paths.{SameFace}
 use Rattle.plane_laws.specs.Laws.{IsTriangle}
 use Rattle.plane_peeling.specs.Restricted.{IsFaceOfThree}
-use Rattle.conn_parts.specs.Blocks.{IsPlaneBlock}
+use Rattle.conn_parts.specs.BiconnectedMaps.{IsBiconnectedMap}
 use Rattle.rect_check.specs.Duals.{top_vertex, right_vertex, bottom_vertex, HasFrame}
 
 -- the dart (v, u) is on the outer face, that of the dart from vertex 0 to the first entry of its list
@@ -46,9 +46,9 @@ pub record IsInner (lists : Lists) (v : ℕ) : Type 0 where
 abbrev pub HasInner : Lists → Type 0
 HasInner lists = (v : ℕ) × IsInner lists v
 
--- A map in one block, of which the outer face is a quadrangle, each other face is a triangle, no triangle separates, and some vertex is inside.
+-- A biconnected map, of which the outer face is a quadrangle, each other face is a triangle, no triangle separates, and some vertex is inside.
 pub record IsRectMap (lists : Lists) : Type 0 where
-  pub block : IsPlaneBlock 3 lists
+  pub biconnected : IsBiconnectedMap 3 lists
   pub frame : HasFrame lists
   pub faces : HasTriangles lists
   pub triangles : NoneSeparating lists

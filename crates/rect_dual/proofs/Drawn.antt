@@ -2,7 +2,7 @@
 use Rattle.std.proofs.Common.{◌≡◌, ℕ, suc, ◌+◌, ◌-◌, ◌^◌, ◌<◌, List, length, get_or, All, pos, ap, ◌∙◌, subst, arith}
 use Rattle.map_lists.specs.Lists.{Lists}
 use Rattle.pg_plane.specs.declared.figure.RectFigure.{RectFigure}
-use Rattle.plane_laws.specs.Completed.{IsCompleted}
+use Rattle.plane_laws.specs.Triangulations.{IsTriangulation}
 use Rattle.contour_runs.specs.Runs.{Step}
 use Rattle.canon_order.specs.Orders.{IsRankOf}
 use Rattle.order_drawings.specs.OrderRuns.{IsOrderRun, OrderIsRun}
@@ -35,7 +35,7 @@ module _ (lists : Lists) (s d p t : ℕ) (at ranks : List ℕ) (rows : Lists) (h
   order = h.order
 
   pub found : (steps : ℕ → Step) × IsOrderRun (closed lists s d p t) (t, s) at order.canonical.cycle steps
-  found = runs (closed lists s d p t) (t, s) at h.completed order.canonical
+  found = runs (closed lists s d p t) (t, s) at h.triangulation order.canonical
 
   abbrev n : ℕ
   n = length at - 3

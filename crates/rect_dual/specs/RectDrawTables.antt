@@ -2,7 +2,7 @@
 use Rattle.std.specs.Prelude.{ℕ, ◌+◌, ◌-◌, ◌<◌, ◌≡◌, List, ℤ, length, slice_index, pos}
 use Rattle.map_lists.specs.Lists.{Lists}
 use Rattle.map_theory.specs.Maps.{Dart}
-use Rattle.plane_laws.specs.Completed.{IsCompleted}
+use Rattle.plane_laws.specs.Triangulations.{IsTriangulation}
 use Rattle.canon_order.specs.Orders.{IsCanonicalOrder, IsRankOf}
 use Rattle.contour_runs.specs.Runs.{Step}
 use Rattle.order_drawings.specs.OrderRuns.{IsOrderRun}
@@ -33,7 +33,7 @@ pub record AreLowerRowsOf (lists : Lists) (at : List ℕ) (rows : Lists) : Type 
 -- a rectangular order of a map, its ranks, and the rows of its vertices but the last one
 pub record HasLowerRows (lists : Lists) (s d p t : ℕ) (at ranks : List ℕ) (rows : Lists) : Type 0 where
   pub class : IsRectMap lists s d p t
-  pub completed : IsCompleted (closed lists s d p t)
+  pub triangulation : IsTriangulation (closed lists s d p t)
   pub order : IsRectOrder lists s d p t at
   pub rank : IsRankOf ranks at
   pub lower : AreLowerRowsOf (closed lists s d p t) at rows

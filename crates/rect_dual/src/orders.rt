@@ -1,7 +1,7 @@
 //! A rectangular order of a map, with the rows of its run.
 ghost use Rattle.std.specs.Prelude.{◌≡◌, ◌<◌, ◌≤◌, ℕ, length, All, IfOk};
 ghost use Rattle.map_theory.specs.Maps.{Dart, follows};
-ghost use Rattle.plane_laws.specs.Completed.{IsCompleted};
+ghost use Rattle.plane_laws.specs.Triangulations.{IsTriangulation};
 ghost use Rattle.canon_order.specs.Orders.{IsCanonicalOrder, IsRankOf, vertices_of};
 ghost use Rattle.rect_orders.specs.Maps.{IsRectMap};
 ghost use Rattle.rect_dual.specs.RectDrawTables.{AreLowerRowsOf, HasLowerRows};
@@ -22,7 +22,7 @@ pub(crate) struct FramedOrder {
 // The rows of an order but the last one.
 fn lower_rows(alloc: Global, more: &Rotations, order: &Order) -> Result<Rotations, AllocError>
     requires few { length more.now < 4096 }
-    requires completed { IsCompleted more.now }
+    requires triangulation { IsTriangulation more.now }
     requires order { (base : Dart) × IsCanonicalOrder more.now base (vertices_of order.now) }
     requires rank { IsRankOf order.now.rank (vertices_of order.now) }
     requires many { 5 ≤ length (vertices_of order.now) }
@@ -47,7 +47,7 @@ pub(crate) fn framed_order(
     ensures ranks { IfOk result (λ made. All (λ k. k < length made.order.rank) made.order.rank) }
 {
     map.facts();
-    rect_orders::closed_is_completed();
+    rect_orders::closed_is_triangulation();
     order_drawings::order_tables::ranks_are_places();
     let more = closed_lists(alloc, map, frame)?;
     let order = rect_order(alloc, &more, frame)?;

@@ -1,11 +1,11 @@
--- The closed map: its new edge, what follows what, and that it is completed.
+-- The closed map: its new edge, what follows what, and that it is a triangulation.
 use Rattle.std.proofs.Common.{◌≡◌, ◌≢◌, ℕ, ◌+◌, ◌<◌, ◌≤◌, Bool, true, List, [], ◌∷◌, length, Contains, refl, sym, ap, ◌∙◌, subst, inl, inr, arith}
 use Rattle.std.specs.List.{insert}
 use Rattle.std.proofs.lemmas.Bool.{true≢false}
 use Rattle.map_lists.specs.Lists.{Lists}
 use Rattle.map_theory.specs.Maps.{list_of, place_of, HasDart, IsSimpleMap, follows, entry_after}
 use Rattle.map_theory.proofs.DartLemmas.{place_of-lt-length}
-use Rattle.plane_laws.specs.Completed.{IsCompleted}
+use Rattle.plane_laws.specs.Triangulations.{IsTriangulation}
 use Rattle.plane_laws.specs.Laws.{IsTriangle}
 use Rattle.plane_laws.proofs.Triangles.{edge_bound_met}
 use Rattle.plane_laws.specs.Chords.{IsEarCut}
@@ -216,8 +216,8 @@ module _ (lists : Lists) (s d p t : ℕ) (h : IsRectMap lists s d p t) where
         ]
       ]
 
-  pub completed : IsCompleted C
-  completed =
+  pub triangulation : IsTriangulation C
+  triangulation =
       let n = length-closed in
       let large = h.large in
       let some : 3 ≤ length C = omega arith in

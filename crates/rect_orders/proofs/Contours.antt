@@ -1,12 +1,12 @@
--- The outer cycle as marks: how it begins, that some vertex is ready, one taken off, and how it ends.
+-- The outer cycle as marks: how it begins, that some vertex is removable, one taken off, and how it ends.
 use Rattle.std.proofs.Common.{◌≡◌, ◌≢◌, ◌↔◌, ℕ, ◌+◌, ◌<◌, Bool, true, false, not, List, [], ◌∷◌, length, count_by, Contains, sym, ap, ◌∙◌, subst, inr, arith, ltb, length-set}
 use Rattle.std.proofs.lemmas.Bool.{true≢false, and_right}
 use Rattle.map_lists.specs.Lists.{Lists}
 use Rattle.map_theory.specs.Maps.{HasDart, IsSimpleMap, list_of, follows, entry_after}
 use Rattle.plane_peeling.specs.Restricted.{restricted, kept_but}
-use Rattle.plane_peeling.specs.NearTriangulations.{IsFree}
+use Rattle.plane_peeling.specs.NearTriangulations.{IsRemovable}
 use Rattle.plane_peeling.proofs.RestrictedMaps.{restricted-old}
-use Rattle.plane_peeling.proofs.FreeCounts.{free_by_count}
+use Rattle.plane_peeling.proofs.RemovableCounts.{removable_by_count}
 use Rattle.canon_order.specs.Marks.{is_set, kept_of, IsTaken}
 use Rattle.canon_order.specs.Lefts.{IsCycleAfter}
 use Rattle.canon_order.proofs.Marks.{is_set-other, kept_of-parts, kept_of-from, gone_of-false, kept_of-set, marks_after}
@@ -15,7 +15,7 @@ use Rattle.rect_orders.specs.Orders.{IsRectOrder}
 use Rattle.rect_orders.specs.Lefts.{HasTwoGone, IsRectLeft}
 use Rattle.rect_orders.proofs.Closed.{more, put, length-closed, list_elsewhere, dart_ts, dart_dp, s_not_p, d_not_p, d_not_t}
 use Rattle.rect_orders.proofs.Lefts.{IsRectLeft-begin, some_two_gone, IsRectLeft-less, IsRectLeft-three}
-use Rattle.rect_orders.specs.Contours.{IsReady, IsPrepared, IsClosedOf, IsContour}
+use Rattle.rect_orders.specs.Contours.{LooksRemovable, IsPrepared, IsClosedOf, IsContour}
 use Rattle.rect_orders.proofs.Passing.{two_pass, two_counted}
 
 module _ (map : Lists) (s d p t x : ℕ) (L : Lists) (h : IsClosedOf L map s d p t x) where
@@ -86,17 +86,17 @@ module _ (map : Lists) (s d p t x : ℕ) (L : Lists) (h : IsClosedOf L map s d p
       list_same : (v : ℕ) → is_set marked v ≡ true → v ≢ t → list_of L v ≡ list_of map v
       list_same v e n = ap (λ l. list_of l v) h.closed_is ∙ list_elsewhere map s d p t class v (not_top v e) n
 
-      -- some vertex is ready
-      pub some_ready : (v : ℕ) × IsReady t s marked near away v
-      some_ready =
+      -- some vertex is removable
+      pub some_removable : (v : ℕ) × LooksRemovable t s marked near away v
+      some_removable =
           let found = some_two_gone map s d p t class kept o.ws rest o.left in
           let v = found.0 in
-          let free = found.1 in
+          let removable = found.1 in
           let g = found.2 in
-          let on = (o.marks v).1 free.on in
+          let on = (o.marks v).1 removable.on in
           let l = (on_left v on).0 in
-          let two = (free_by_count C kept (is_set marked) s t o.ws v o.left.left.peeled o.marks free.on free.not_first free.not_last).0 free in
-          let list = list_same v on free.not_last in
+          let two = (removable_by_count C kept (is_set marked) s t o.ws v o.left.left.peeled o.marks removable.on removable.not_first removable.not_last).0 removable in
+          let list = list_same v on removable.not_last in
           let n = k.tally_gone.marks_of_all in
           let same = same_length in
           let gone_at : (u : ℕ) → HasDart map v u → kept u ≡ false → is_set gone u ≡ true = λ u a out. (let m = class.near.simple.in_range v u a in gone_of-false gone u (omega arith) out) in
@@ -105,29 +105,29 @@ module _ (map : Lists) (s d p t x : ℕ) (L : Lists) (h : IsClosedOf L map s d p
             v,
             record {
               marked_is = on;
-              not_last = free.not_last;
-              not_first = free.not_first;
+              not_last = removable.not_last;
+              not_first = removable.not_first;
               two = k.tally.counted v l ∙ (ap (λ l. count_by (is_set marked) (list_of l v)) h.closed_is ∙ two);
               two_gone = omega (arith, count, many);
             },
           )
 
-      module _ (v : ℕ) (ready : IsReady t s marked near away v) where
+      module _ (v : ℕ) (removable : LooksRemovable t s marked near away v) where
         -- and one that is may be taken off
-        ready_free : IsFree (restricted kept C) s t o.ws v
-        ready_free =
-            let on = ready.marked_is in
-            (free_by_count C kept (is_set marked) s t o.ws v o.left.left.peeled o.marks ((o.marks v).0 on) ready.not_first ready.not_last).1
-            (sym (k.tally.counted v (on_left v on).0 ∙ ap (λ l. count_by (is_set marked) (list_of l v)) h.closed_is) ∙ ready.two)
+        removable_free : IsRemovable (restricted kept C) s t o.ws v
+        removable_free =
+            let on = removable.marked_is in
+            (removable_by_count C kept (is_set marked) s t o.ws v o.left.left.peeled o.marks ((o.marks v).0 on) removable.not_first removable.not_last).1
+            (sym (k.tally.counted v (on_left v on).0 ∙ ap (λ l. count_by (is_set marked) (list_of l v)) h.closed_is) ∙ removable.two)
 
-        ready_gone : HasTwoGone map kept v
-        ready_gone =
-            let on = ready.marked_is in
+        removable_gone : HasTwoGone map kept v
+        removable_gone =
+            let on = removable.marked_is in
             let l = (on_left v on).0 in
             let same = same_length in
-            let list = list_same v on ready.not_last in
+            let list = list_same v on removable.not_last in
             let count = k.tally_gone.counted v l ∙ ap (λ us. count_by (is_set gone) us) list in
-            let many = ready.two_gone in
+            let many = removable.two_gone in
             let l' : v < length map = omega arith in
             let two = two_pass (is_set gone) (list_of map v) (class.near.simple.no_repeat v l') (omega (arith, count, many)) in
             let out : (u : ℕ) → is_set gone u ≡ true → kept u ≡ false = λ u e. and_right (ltb u (length gone)) (not (is_set gone u)) (ap not e) in
@@ -143,14 +143,14 @@ module _ (map : Lists) (s d p t x : ℕ) (L : Lists) (h : IsClosedOf L map s d p
 
         pub IsContour-taken : length rest + 3 < length L → (marked' gone' : List Bool) → IsTaken L v marked gone marked' gone' → IsContour map s d p t gone' marked' (v ∷ rest)
         IsContour-taken many marked' gone' taken =
-            let on = ready.marked_is in
+            let on = removable.marked_is in
             let left = on_left v on in
             let n = k.tally_gone.marks_of_all in
             let m = k.tally.marks_of_all in
             let count = o.left.left.count in
             let e = ap length h.closed_is in
             let l = left.0 in
-            let less = IsRectLeft-less map s d p t class kept o.ws rest o.left v ready_free ready_gone (omega arith) in
+            let less = IsRectLeft-less map s d p t class kept o.ws rest o.left v removable_free removable_gone (omega arith) in
             let g : kept_but kept v ≡ kept_of gone' = kept_of-set gone v (omega arith) ∙ sym (ap kept_of taken.gone_is) in
             record {
               ws = less.0;

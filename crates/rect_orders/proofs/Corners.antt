@@ -13,7 +13,7 @@ use Rattle.rect_runs.proofs.RectBoxesFrame.{right_stands}
 use Rattle.rect_orders.specs.Maps.{IsRectMap, closed}
 use Rattle.rect_orders.specs.Orders.{IsRectOrder}
 use Rattle.rect_orders.specs.Runs.{shortened}
-use Rattle.rect_orders.proofs.Closed.{completed, more, length-closed, list_elsewhere, face_tsd}
+use Rattle.rect_orders.proofs.Closed.{triangulation, more, length-closed, list_elsewhere, face_tsd}
 use Rattle.rect_orders.proofs.RunOfMap.{rect_order_is_run}
 use Rattle.rect_orders.proofs.Shortened.{short-old, short-last, stage-same}
 use Rattle.rect_runs.specs.Ends.{IsCorner}
@@ -124,7 +124,7 @@ module _ (lists : Lists) (s d p t : ℕ) (at : List ℕ) (steps : ℕ → Step) 
 
   module _ (x y z : ℕ) (lo : 2 ≤ y) (hi : y + 2 < length at) (x_in : x < length at) (z_in : z < length at) (dart : HasDart lists (name y) (name x)) (goes : follows lists (name y) (name x) ≡ name z) where
     dart_C : HasDart C (name x) (name y)
-    dart_C = (completed lists s d p t h).simple.both_ways (name y) (name x) ((more lists s d p t h).kept (name y) (name x) dart)
+    dart_C = (triangulation lists s d p t h).simple.both_ways (name y) (name x) ((more lists s d p t h).kept (name y) (name x) dart)
 
     goes_C : follows C (name y) (name x) ≡ name z
     goes_C = let i = inner y lo hi in ap (entry_after (name x)) (list_elsewhere lists s d p t h (name y) i.2 i.1) ∙ goes

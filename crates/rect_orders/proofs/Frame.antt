@@ -10,7 +10,7 @@ use Rattle.order_drawings.proofs.OrderRunsOrderRows.{row_of}
 use Rattle.rect_orders.specs.Maps.{IsRectMap, closed}
 use Rattle.rect_orders.specs.Orders.{IsRectOrder}
 use Rattle.rect_orders.specs.Runs.{shortened}
-use Rattle.rect_orders.proofs.Closed.{completed, s_not_d, s_not_p, s_not_t, d_not_p, d_not_t, p_not_t}
+use Rattle.rect_orders.proofs.Closed.{triangulation, s_not_d, s_not_p, s_not_t, d_not_p, d_not_t, p_not_t}
 use Rattle.rect_runs.specs.Ends.{IsEndAt, AreFrameEnds, other_end}
 use Rattle.rect_runs.specs.Rounds.{IsOnceRound}
 use Rattle.rect_runs.proofs.RectEndsEnds.{one_end, ends_agree}
@@ -77,7 +77,7 @@ module _ (lists : Lists) (s d p t : ℕ) (at ranks : List ℕ) (steps : ℕ → 
       let e : r - 2 + 2 ≡ r = omega arith in
       let hi : r - 2 + 2 + 2 < length at = omega arith in
       subst (λ w. IsOnceRound (map (end w) (list_of lists w))) (ap at' e ∙ q.1)
-      (around_at lists s d p t at ranks steps end h order rank run ends (r - 2) hi _ (row_of (closed lists s d p t) (t, s) at ranks (completed lists s d p t h) order.canonical rank steps run (r - 2) (omega arith)))
+      (around_at lists s d p t at ranks steps end h order rank run ends (r - 2) hi _ (row_of (closed lists s d p t) (t, s) at ranks (triangulation lists s d p t h) order.canonical rank steps run (r - 2) (omega arith)))
 
   -- who is not s, and so on
   off_left : (u : ℕ) → u ≢ d → u ≢ t → ¬ IsFrameEdge s d p t s u

@@ -3,7 +3,7 @@ use Rattle.std.proofs.Common.{◌≡◌, ◌≢◌, ◌⊎◌, ◌↔◌, ℕ, s
 use Rattle.std.proofs.lemmas.Bool.{cases_eq}
 use Rattle.map_lists.specs.Lists.{Lists}
 use Rattle.map_theory.specs.Maps.{Dart, HasDart, follows}
-use Rattle.plane_laws.specs.Completed.{IsCompleted}
+use Rattle.plane_laws.specs.Triangulations.{IsTriangulation}
 use Rattle.plane_peeling.specs.Restricted.{IsDartOfThree}
 use Rattle.plane_peeling.proofs.OuterCycles.{IsFaceOfThree-turned}
 use Rattle.canon_order.specs.Orders.{IsCanonicalOrder}
@@ -44,7 +44,7 @@ one_direction a b c x y ab bc ca d e =
       | inr (inr h) ↦ elim e [ inl k ↦ bc (sym k.1 ∙ h.0) | inr (inl k) ↦ ab (sym h.1 ∙ k.0) | inr (inr k) ↦ ca (sym h.0 ∙ k.1) ]
     ]
 
-module _ (lists : Lists) (base : Dart) (at : List ℕ) (completed : IsCompleted lists) (order : IsCanonicalOrder lists base at) (steps : ℕ → Step) (n : ℕ) (size : length at ≡ n + 3) (h : IsOrderRun lists base at order.cycle steps) (apart : (base.0 ≢ base.1) × (base.1 ≢ follows lists base.1 base.0) × (follows lists base.1 base.0 ≢ base.0)) where
+module _ (lists : Lists) (base : Dart) (at : List ℕ) (triangulation : IsTriangulation lists) (order : IsCanonicalOrder lists base at) (steps : ℕ → Step) (n : ℕ) (size : length at ≡ n + 3) (h : IsOrderRun lists base at order.cycle steps) (apart : (base.0 ≢ base.1) × (base.1 ≢ follows lists base.1 base.0) × (follows lists base.1 base.0 ≢ base.0)) where
   pub whole : IsRun steps (suc n)
   whole = let e : length at - 2 ≡ suc n = omega arith in subst (IsRun steps) e h.run
 
@@ -94,8 +94,8 @@ module _ (lists : Lists) (base : Dart) (at : List ℕ) (completed : IsCompleted 
   dart_made : (k place i j : ℕ) → k < suc n → IsDartOf steps k place i j → HasDart lists (name i) (name j)
   dart_made k place i j l d =
       let f = h.faces k place d.a d.b d.v (omega arith) d.face in
-      let f' = IsFaceOfThree-turned lists (name d.a) (name d.b) (name d.v) completed.simple f in
-      let f'' = IsFaceOfThree-turned lists (name d.b) (name d.v) (name d.a) completed.simple f' in
+      let f' = IsFaceOfThree-turned lists (name d.a) (name d.b) (name d.v) triangulation.simple f in
+      let f'' = IsFaceOfThree-turned lists (name d.b) (name d.v) (name d.a) triangulation.simple f' in
       elim d.dart [
         | inl e ↦ named i j d.a d.b e.0 e.1 f.dart
         | inr (inl e) ↦ named i j d.b d.v e.0 e.1 f'.dart
@@ -115,7 +115,7 @@ module _ (lists : Lists) (base : Dart) (at : List ℕ) (completed : IsCompleted 
         | inl in_base ↦
             let made =
             made_dart j i l (omega arith)
-            (h.made (name j) (name i) (completed.simple.both_ways (name i) (name j) d)
+            (h.made (name j) (name i) (triangulation.simple.both_ways (name i) (name j) d)
             (λ again. one_direction base.0 base.1 (follows lists base.1 base.0) (name i) (name j) apart.0 apart.1 apart.2 in_base again)) in
             (made.0, made.1, made.2, inr made.3)
       ])
@@ -125,7 +125,7 @@ module _ (lists : Lists) (base : Dart) (at : List ℕ) (completed : IsCompleted 
       let made = (joined_by_faces steps n i j whole less).0 joined in
       elim made.3 [
         | inl d ↦ dart_made made.0 made.1 i j made.2 d
-        | inr d ↦ completed.simple.both_ways (name j) (name i) (dart_made made.0 made.1 j i made.2 d)
+        | inr d ↦ triangulation.simple.both_ways (name j) (name i) (dart_made made.0 made.1 j i made.2 d)
       ]
 
   pub joined_closed : (i j : ℕ) → i < j → j < length at → HasDart lists (name i) (name j) ↔ AreJoined steps (suc n) i j

@@ -8,7 +8,7 @@ use Rattle.map_theory.specs.Maps.{HasDart, IsSimpleMap, follows, entry_after}
 use Rattle.map_theory.proofs.EntryLemmas.{Contains-here, Contains-there}
 use Rattle.map_theory.proofs.DartLemmas.{Contains-entry_after}
 use Rattle.plane_peeling.specs.Restricted.{restricted, kept_but, IsFaceOfThree}
-use Rattle.plane_peeling.specs.NearTriangulations.{IsOuterCycle, IsFree}
+use Rattle.plane_peeling.specs.NearTriangulations.{IsOuterCycle, IsRemovable}
 use Rattle.plane_peeling.specs.Peeled.{IsTakenOff}
 use Rattle.plane_peeling.specs.Laws.{CanBeTakenOff}
 use Rattle.plane_peeling.proofs.Rings.{each_of_three, entry_after-inside}
@@ -17,14 +17,14 @@ use Rattle.plane_peeling.proofs.OuterCycles.{IsFaceOfThree-turned, next-last}
 use Rattle.plane_peeling.proofs.Covers.{new_or_old, cycle_after}
 use Rattle.plane_peeling.proofs.Ends.{three_left}
 use Rattle.plane_peeling.proofs.OpenAfter.{open_after}
-use Rattle.plane_peeling.proofs.Steps.{free_taken_off}
-use Rattle.plane_peeling.proofs.TwoGone.{some_free_of_two}
+use Rattle.plane_peeling.proofs.Steps.{removable_taken_off}
+use Rattle.plane_peeling.proofs.TwoGone.{some_removable_of_two}
 use Rattle.canon_order.specs.Lefts.{IsCycleAfter, IsLeft}
 use Rattle.canon_order.proofs.Lefts.{IsLeft-begin, IsLeft-taken, IsLeft-three}
 use Rattle.rect_orders.specs.Maps.{IsRectMap, closed}
 use Rattle.rect_orders.specs.Orders.{HasTwoLater, IsRectOrder}
 use Rattle.rect_orders.specs.Lefts.{HasTwoGone, IsRectLeft}
-use Rattle.rect_orders.proofs.Closed.{completed, more, put, length-closed, opened, face_tsd, face_dpt, turn_p, dart_dp, d_not_p, d_not_t, p_not_t, s_not_p, s_not_d}
+use Rattle.rect_orders.proofs.Closed.{triangulation, more, put, length-closed, opened, face_tsd, face_dpt, turn_p, dart_dp, d_not_p, d_not_t, p_not_t, s_not_p, s_not_d}
 use Rattle.rect_orders.proofs.SameCycles.{same_cycle, IsOpenOutside-same}
 use Rattle.rect_orders.proofs.Transfer.{same_restricted, IsPeeled-old, IsTakenOff-old}
 
@@ -92,7 +92,7 @@ module _ (lists : Lists) (s d p t : ℕ) (h : IsRectMap lists s d p t) where
     left0 =
         let n = length-closed lists s d p t h in
         subst (λ w. IsLeft C s t kept (s ∷ w ∷ t ∷ []) []) (face_tsd lists s d p t h).second
-        (IsLeft-begin C s t kept (completed lists s d p t h) (face_tsd lists s d p t h).dart (λ v l. all v (omega arith)) (λ v k. (let l = vertices v k in omega arith)))
+        (IsLeft-begin C s t kept (triangulation lists s d p t h) (face_tsd lists s d p t h).dart (λ v l. all v (omega arith)) (λ v k. (let l = vertices v k in omega arith)))
 
     distinct0 : AllPairs ◌≢◌ three
     distinct0 = left0.peeled.near.cycle.distinct
@@ -103,7 +103,7 @@ module _ (lists : Lists) (s d p t : ℕ) (h : IsRectMap lists s d p t) where
     d_t0 : entry_after d three ≡ t
     d_t0 = entry_after-inside (s ∷ []) d t [] distinct0
 
-    free_d : IsFree (restricted kept C) s t three d
+    free_d : IsRemovable (restricted kept C) s t three d
     free_d = record {
       on = (1, omega arith, refl);
       not_first = λ e. s_not_d lists s d p t h (sym e);
@@ -117,7 +117,7 @@ module _ (lists : Lists) (s d p t : ℕ) (h : IsRectMap lists s d p t) where
     many = let n = length-closed lists s d p t h in let c = left0.count in let l = h.large in omega arith
 
     off_d : CanBeTakenOff C kept s t three d
-    off_d = free_taken_off C kept s t three d (completed lists s d p t h) left0.peeled (omega (arith, many)) free_d
+    off_d = removable_taken_off C kept s t three d (triangulation lists s d p t h) left0.peeled (omega (arith, many)) free_d
 
     module _ (front : List ℕ) (a : ℕ) (mid : List ℕ) (b : ℕ) (back : List ℕ) (off : IsTakenOff C kept s t three d front a mid b back) where
       abbrev ws1 : List ℕ
@@ -155,7 +155,7 @@ module _ (lists : Lists) (s d p t : ℕ) (h : IsRectMap lists s d p t) where
       p_t1 : next1 p ≡ t
       p_t1 = sym (with_top p on_p (p_not_t lists s d p t h)).round ∙ (face_dpt lists s d p t h).second
 
-      free_p : IsFree (restricted kept1 C) s t ws1 p
+      free_p : IsRemovable (restricted kept1 C) s t ws1 p
       free_p = record {
         on = on_p;
         not_first = λ e. s_not_p lists s d p t h (sym e);
@@ -188,10 +188,10 @@ module _ (lists : Lists) (s d p t : ℕ) (h : IsRectMap lists s d p t) where
               ]
 
       left1 : count_below kept (length C) ≡ count_below kept1 (length C) + 1 → IsLeft C s t kept1 ws1 (d ∷ [])
-      left1 less = IsLeft-taken C s t kept three [] (completed lists s d p t h) left0 d front a mid b back free_d.on off less (omega (arith, many))
+      left1 less = IsLeft-taken C s t kept three [] (triangulation lists s d p t h) left0 d front a mid b back free_d.on off less (omega (arith, many))
 
       off_p : count_below kept (length C) ≡ count_below kept1 (length C) + 1 → CanBeTakenOff C kept1 s t ws1 p
-      off_p less = free_taken_off C kept1 s t ws1 p (completed lists s d p t h) off.left (omega (arith, many)) free_p
+      off_p less = removable_taken_off C kept1 s t ws1 p (triangulation lists s d p t h) off.left (omega (arith, many)) free_p
 
       module _ (less : count_below kept (length C) ≡ count_below kept1 (length C) + 1) (front2 : List ℕ) (a2 : ℕ) (mid2 : List ℕ) (b2 : ℕ) (back2 : List ℕ) (off2 : IsTakenOff C kept1 s t ws1 p front2 a2 mid2 b2 back2) (less2 : count_below kept1 (length C) ≡ count_below kept2 (length C) + 1) where
         abbrev ws2 : List ℕ
@@ -208,7 +208,7 @@ module _ (lists : Lists) (s d p t : ℕ) (h : IsRectMap lists s d p t) where
             let peeled = IsPeeled-old lists s d p t h kept2 gone_d gone_p ws2 off2.left in
             let o = opened lists s d p t h kept all in
             record {
-              left = IsLeft-taken C s t kept1 ws1 (d ∷ []) (completed lists s d p t h) (left1 less) p front2 a2 mid2 b2 back2 on_p off2 less2 (omega (arith, many));
+              left = IsLeft-taken C s t kept1 ws1 (d ∷ []) (triangulation lists s d p t h) (left1 less) p front2 a2 mid2 b2 back2 on_p off2 less2 (omega (arith, many));
               peeled = peeled;
               outside = IsOpenOutside-same lists kept2 t ws2 o.0 (same_cycle (restricted kept2 lists) s t ws2 o.0 peeled.near.simple peeled.near.cycle o.1.near.cycle) o.2;
               gone = λ v l out.
@@ -241,23 +241,23 @@ module _ (lists : Lists) (s d p t : ℕ) (h : IsRectMap lists s d p t) where
 
   -- ---- while more is left
   module _ (kept : ℕ → Bool) (ws rest : List ℕ) (r : IsRectLeft lists s d p t kept ws rest) where
-    -- some vertex is free with two neighbours taken off
-    pub some_two_gone : (v : ℕ) × IsFree (restricted kept C) s t ws v × HasTwoGone lists kept v
+    -- some vertex is removable with two neighbours taken off
+    pub some_two_gone : (v : ℕ) × IsRemovable (restricted kept C) s t ws v × HasTwoGone lists kept v
     some_two_gone =
-        let found = some_free_of_two lists kept s t ws simple h.no_separating r.peeled r.outside in
+        let found = some_removable_of_two lists kept s t ws simple h.no_separating r.peeled r.outside in
         let x = found.0 in
         let v = found.1 in
         let f = found.2 in
         let near = r.peeled.near in
-        let x_not_t : x ≢ t = λ e. f.free.not_first (sym f.next ∙ (ap (λ z. entry_after z ws) e ∙ next-last (restricted kept lists) s t ws near.simple near.cycle)) in
+        let x_not_t : x ≢ t = λ e. f.removable.not_first (sym f.next ∙ (ap (λ z. entry_after z ws) e ∙ next-last (restricted kept lists) s t ws near.simple near.cycle)) in
         let y = follows lists v x in
         let w = entry_after v ws in
         let z = follows lists w v in
         let before : IsFaceOfThree lists x v y = subst (λ u. IsFaceOfThree lists x u (follows lists u x)) f.next (r.outside.triangles x f.on x_not_t) in
-        let behind = r.outside.triangles v f.free.on f.free.not_last in
+        let behind = r.outside.triangles v f.removable.on f.removable.not_last in
         let zv = IsFaceOfThree-turned lists w z v simple (IsFaceOfThree-turned lists v w z simple behind) in (
           v,
-          subst (λ m. IsFree m s t ws v) (sym (same_restricted lists s d p t h kept r.top)) f.free,
+          subst (λ m. IsRemovable m s t ws v) (sym (same_restricted lists s d p t h kept r.top)) f.removable,
           record {
             one = y;
             other = z;
@@ -265,12 +265,12 @@ module _ (lists : Lists) (s d p t : ℕ) (h : IsRectMap lists s d p t) where
             first = (IsFaceOfThree-turned lists x v y simple before).dart;
             second = simple.both_ways z v zv.dart;
             first_gone = subst (λ u. kept (follows lists u x) ≡ false) f.next (r.outside.beyond x f.on);
-            second_gone = r.outside.beyond v f.free.on;
+            second_gone = r.outside.beyond v f.removable.on;
           },
         )
 
     -- such a vertex is taken off
-    module _ (v : ℕ) (free : IsFree (restricted kept C) s t ws v) (g : HasTwoGone lists kept v) where
+    module _ (v : ℕ) (removable : IsRemovable (restricted kept C) s t ws v) (g : HasTwoGone lists kept v) where
       pub two_later : (i : ℕ) → i < suc (length rest) - 2 → HasTwoLater lists (v ∷ rest) i
       two_later zero l = two_later_here lists kept v rest simple r.gone g
       two_later (suc i) l = HasTwoLater-behind lists v rest i (r.later i (omega arith))
@@ -287,7 +287,7 @@ module _ (lists : Lists) (s d p t : ℕ) (h : IsRectMap lists s d p t) where
             let peeled = IsPeeled-old lists s d p t h (kept_but kept v) (but_gone d r.top) (but_gone p r.right) after off.left in
             let n = r.some in
             record {
-              left = IsLeft-taken C s t kept ws rest (completed lists s d p t h) r.left v front a mid b back free.on off less some;
+              left = IsLeft-taken C s t kept ws rest (triangulation lists s d p t h) r.left v front a mid b back removable.on off less some;
               peeled = peeled;
               outside = open_after lists kept s t ws v front a mid b back simple r.peeled r.outside (IsTakenOff-old lists s d p t h kept r.top r.right ws v front a mid b back off peeled);
               gone = λ u l out.
@@ -308,7 +308,7 @@ module _ (lists : Lists) (s d p t : ℕ) (h : IsRectMap lists s d p t) where
       -- so while more than three are left
       pub IsRectLeft-less : 3 < count_below kept (length C) → (ws' : List ℕ) × IsCycleAfter C kept v ws ws' × IsRectLeft lists s d p t (kept_but kept v) ws' (v ∷ rest) × (count_below kept (length C) ≡ count_below (kept_but kept v) (length C) + 1)
       IsRectLeft-less more =
-          let taken = free_taken_off C kept s t ws v (completed lists s d p t h) r.left.peeled more free in
+          let taken = removable_taken_off C kept s t ws v (triangulation lists s d p t h) r.left.peeled more removable in
           let fan = taken.0 in
           let less = taken.1 in (
             _,
@@ -327,17 +327,17 @@ module _ (lists : Lists) (s d p t : ℕ) (h : IsRectMap lists s d p t) where
       later_in (suc zero) l m = absurd (omega (arith, l))
       later_in (suc (suc i)) l m =
           let found = some_two_gone in
-          let free = found.1 in
+          let removable = found.1 in
           let last = three_left C kept s t ws r.left.peeled few in
           let v_x : found.0 ≡ x =
           each_of_three (λ z. z ≡ found.0 → found.0 ≡ x) s last.0 t
-          (λ e. absurd (free.not_first (sym e))) (λ e. sym e ∙ sym last.2.third) (λ e. absurd (free.not_last (sym e))) found.0 (subst (λ l. Contains l found.0) last.1 free.on) refl in
-          let here = two_later found.0 free found.2 i (omega arith) in
+          (λ e. absurd (removable.not_first (sym e))) (λ e. sym e ∙ sym last.2.third) (λ e. absurd (removable.not_last (sym e))) found.0 (subst (λ l. Contains l found.0) last.1 removable.on) refl in
+          let here = two_later found.0 removable found.2 i (omega arith) in
           HasTwoLater-behind lists s (t ∷ x ∷ rest) (suc i) (HasTwoLater-behind lists t (x ∷ rest) i (subst (λ z. HasTwoLater lists (z ∷ rest) i) v_x here))
 
       pub IsRectLeft-three : IsRectOrder lists s d p t (s ∷ t ∷ x ∷ rest)
       IsRectLeft-three = record {
-        canonical = IsLeft-three C s t kept ws rest (completed lists s d p t h) r.left few;
+        canonical = IsLeft-three C s t kept ws rest (triangulation lists s d p t h) r.left few;
         right =
             let n = r.some in
             let e : length (s ∷ t ∷ x ∷ rest) - 2 ≡ suc (suc (suc (length rest - 2))) = omega arith in

@@ -1,4 +1,4 @@
--- What is ready is on the stack, from the first vertex that is taken off to the last.
+-- What is removable is on the stack, from the first vertex that is taken off to the last.
 use Rattle.std.proofs.Common.{◌≡◌, ℕ, ◌<◌, Bool, List, [], length, get_or, Contains, All, sym, ◌∙◌, subst, inl, inr, arith}
 use Rattle.std.proofs.lemmas.Bool.{cases_lt}
 use Rattle.std.proofs.lemmas.List.{get_or_past}
@@ -10,14 +10,14 @@ use Rattle.canon_order.specs.Marks.{IsTally, IsUnmarked, IsNoted}
 use Rattle.canon_order.proofs.Marks.{IsTally-none}
 use Rattle.rect_orders.specs.Contours.{IsPrepared}
 
--- nothing is ready where none is gone
+-- nothing is removable where none is gone
 pub IsPrepared-begin : (lists : Lists) (t s : ℕ) (marked : List Bool) (near : List ℕ) (gone : List Bool) (away stack : List ℕ) → IsTally lists marked near → IsUnmarked lists gone away → stack ≡ [] → IsPrepared lists t s marked near gone away stack
 IsPrepared-begin lists t s marked near gone away stack tally none e = record {
   tally = tally;
   tally_gone = IsTally-none lists gone away none;
   vertices = subst (All (λ v. v < length lists)) (sym e) (All-nil (λ v. v < length lists));
-  stacked = λ v ready.
-      let two = ready.two_gone in
+  stacked = λ v removable.
+      let two = removable.two_gone in
       let n = none.counts_of_all in
       elim (cases_lt v (length lists)) [
         | inl l ↦ absurd (omega (arith, none.zeros v l, two))
@@ -25,20 +25,20 @@ IsPrepared-begin lists t s marked near gone away stack tally none e = record {
       ];
 }
 
--- A vertex taken off: what is noted was ready before, since the counts of those gone change at its neighbours alone, and these are on the stack.
+-- A vertex taken off: what is noted was removable before, since the counts of those gone change at its neighbours alone, and these are on the stack.
 pub IsPrepared-taken : (lists : Lists) (t s : ℕ) (marked : List Bool) (near : List ℕ) (gone : List Bool) (away stack : List ℕ) (v : ℕ) (marked' : List Bool) (near' : List ℕ) (gone' : List Bool) (away' stack' : List ℕ) → ((u : ℕ) → Contains (list_of lists v) u → Contains stack' u) → ((u : ℕ) → ¬ Contains (list_of lists v) u → get_or away' u 0 ≡ get_or away u 0) → IsTally lists gone' away' → IsNoted lists marked near stack marked' near' stack' → IsPrepared lists t s marked near gone away stack → IsPrepared lists t s marked' near' gone' away' stack'
 IsPrepared-taken lists t s marked near gone away stack v marked' near' gone' away' stack' neighbours same tally n h = record {
   tally = n.tally;
   tally_gone = tally;
   vertices = n.vertices;
-  stacked = λ u ready. elim (n.noted u) [
+  stacked = λ u removable. elim (n.noted u) [
     | inl c ↦ c
     | inr q ↦ elim (cases_Contains (list_of lists v) u) [
       | inl c ↦ neighbours u c
       | inr none ↦
           let e = same u none in
-          let two = ready.two_gone in
-          n.kept u (h.stacked u record { marked_is = q.0 ready.marked_is; not_last = ready.not_last; not_first = ready.not_first; two = sym q.1 ∙ ready.two; two_gone = omega (arith, e, two) })
+          let two = removable.two_gone in
+          n.kept u (h.stacked u record { marked_is = q.0 removable.marked_is; not_last = removable.not_last; not_first = removable.not_first; two = sym q.1 ∙ removable.two; two_gone = omega (arith, e, two) })
     ]
   ];
 }

@@ -13,7 +13,7 @@ use Rattle.rect_runs.specs.RectBoxesLaws.{AreJoined}
 use Rattle.rect_orders.specs.Maps.{IsRectMap, closed}
 use Rattle.rect_orders.specs.Orders.{IsRectOrder}
 use Rattle.rect_orders.specs.Runs.{shortened, RectOrderIsRun}
-use Rattle.rect_orders.proofs.Closed.{completed, more, length-closed, far, face_tsd, dart_pt, d_not_t, s_not_d, s_not_t}
+use Rattle.rect_orders.proofs.Closed.{triangulation, more, length-closed, far, face_tsd, dart_pt, d_not_t, s_not_d, s_not_t}
 use Rattle.rect_orders.proofs.Joined.{whole, joined_closed}
 use Rattle.rect_orders.proofs.Shortened.{HaveTwoLater-from, short_run, joined-short, right_uncovered, IsRectRun-short}
 
@@ -36,10 +36,10 @@ module _ (lists : Lists) (s d p t : ℕ) (at : List ℕ) (steps : ℕ → Step) 
       (λ q. s_not_t lists s d p t h (sym q), λ q. s_not_d lists s d p t h (q ∙ e), λ q. d_not_t lists s d p t h (sym e ∙ q))
 
   all : IsRun steps (suc n)
-  all = whole C (t, s) at (completed lists s d p t h) order.canonical steps n size run apart
+  all = whole C (t, s) at (triangulation lists s d p t h) order.canonical steps n size run apart
 
   joined : (i j : ℕ) → i < j → j < length at → HasDart C (name i) (name j) ↔ AreJoined steps (suc n) i j
-  joined = joined_closed C (t, s) at (completed lists s d p t h) order.canonical steps n size run apart
+  joined = joined_closed C (t, s) at (triangulation lists s d p t h) order.canonical steps n size run apart
 
   end : (stage_after steps (suc n)).width ≡ 3
   end = let e : length at - 2 ≡ suc n = omega arith in subst (λ k. (stage_after steps k).width ≡ 3) e run.end

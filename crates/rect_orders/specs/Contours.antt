@@ -9,19 +9,19 @@ use Rattle.rect_orders.specs.Orders.{IsRectOrder}
 use Rattle.rect_orders.specs.Lefts.{IsRectLeft}
 
 -- v is on the outer cycle and off the base, and just two of its neighbours are on the cycle, and two or more are gone
-pub record IsReady (t s : ℕ) (marked : List Bool) (near away : List ℕ) (v : ℕ) : Type 0 where
+pub record LooksRemovable (t s : ℕ) (marked : List Bool) (near away : List ℕ) (v : ℕ) : Type 0 where
   pub marked_is : is_set marked v ≡ true
   pub not_last : v ≢ t
   pub not_first : v ≢ s
   pub two : slice_index near v ≡ 2
   pub two_gone : 2 ≤ slice_index away v
 
--- the counts are right, vertices alone are on the stack, and with them all that are ready
+-- the counts are right, vertices alone are on the stack, and with them all that are removable
 pub record IsPrepared (lists : Lists) (t s : ℕ) (marked : List Bool) (near : List ℕ) (gone : List Bool) (away stack : List ℕ) : Type 0 where
   pub tally : IsTally lists marked near
   pub tally_gone : IsTally lists gone away
   pub vertices : All (λ v. v < length lists) stack
-  pub stacked : (v : ℕ) → IsReady t s marked near away v → Contains stack v
+  pub stacked : (v : ℕ) → LooksRemovable t s marked near away v → Contains stack v
 
 -- nothing is marked or gone yet, and the stack is empty
 pub record IsFresh (lists : Lists) (marked : List Bool) (near : List ℕ) (gone : List Bool) (away stack : List ℕ) : Type 0 where

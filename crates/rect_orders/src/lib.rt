@@ -7,13 +7,13 @@ pub mod rect_duals;
 pub mod rect_labellings;
 pub mod rect_order;
 
-ghost use Rattle.rect_orders.specs.Laws.{ClosedIsCompleted, SomeRectOrder};
+ghost use Rattle.rect_orders.specs.Laws.{ClosedIsTriangulation, SomeRectOrder};
 ghost use Rattle.rect_orders.specs.Runs.{RectOrderIsRun};
 
-/// A map of this class with an edge more, in its outer face between the top and the bottom, is completed; it had
+/// A map of this class with an edge more, in its outer face between the top and the bottom, is a triangulation; it had
 /// no such edge.
-pub fn closed_is_completed()
-    ensures { ClosedIsCompleted }
+pub fn closed_is_triangulation()
+    ensures { ClosedIsTriangulation }
 {}
 
 /// Each map of this class has a rectangular order.

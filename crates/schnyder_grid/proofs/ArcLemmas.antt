@@ -5,7 +5,7 @@ use Rattle.std.proofs.lemmas.List.Elements.{Contains-append_left, Contains-push,
 use Rattle.map_lists.specs.Lists.{Lists}
 use Rattle.map_theory.specs.Maps.{Dart, HasDart, place_of, entry_after}
 use Rattle.map_theory.proofs.DartLemmas.{HasDart-follows, place_of-get_or}
-use Rattle.plane_laws.specs.Completed.{IsCompleted}
+use Rattle.plane_laws.specs.Triangulations.{IsTriangulation}
 use Rattle.plane_peeling.proofs.RestrictedMaps.{restricted-old}
 use Rattle.plane_peeling.proofs.Ends.{nothing_taken_off}
 use Rattle.plane_peeling.proofs.Rings.{entry_after-inside}
@@ -49,7 +49,7 @@ module _ (wood : Parents) (e : ℕ) where
         }
       ]
 
-module _ (lists : Lists) (base : Dart) (wood : Parents) (arcs : List (List ℕ)) (completed : IsCompleted lists) (has : HasDart lists base.0 base.1) (of : IsWoodOf lists base wood) (graph : AreWoodArcs lists wood arcs) where
+module _ (lists : Lists) (base : Dart) (wood : Parents) (arcs : List (List ℕ)) (triangulation : IsTriangulation lists) (has : HasDart lists base.0 base.1) (of : IsWoodOf lists base wood) (graph : AreWoodArcs lists wood arcs) where
   abbrev n : ℕ
   n = length lists
 
@@ -97,28 +97,28 @@ module _ (lists : Lists) (base : Dart) (wood : Parents) (arcs : List (List ℕ))
   down c v i = (no_root v i, refl)
 
   one_arc : (v : ℕ) → IsInner lists base v → HasArc arcs (parent one v) v
-  one_arc v i = arc_from (parent one v) v (completed.simple.both_ways v (parent one v) (is_wood.edges one v i)) (inl (inl (down one v i)))
+  one_arc v i = arc_from (parent one v) v (triangulation.simple.both_ways v (parent one v) (is_wood.edges one v i)) (inl (inl (down one v i)))
 
   two_arc : (v : ℕ) → IsInner lists base v → HasArc arcs (parent two v) v
-  two_arc v i = arc_from (parent two v) v (completed.simple.both_ways v (parent two v) (is_wood.edges two v i)) (inl (inr (down two v i)))
+  two_arc v i = arc_from (parent two v) v (triangulation.simple.both_ways v (parent two v) (is_wood.edges two v i)) (inl (inr (down two v i)))
 
   three_arc : (v : ℕ) → IsInner lists base v → HasArc arcs v (parent three v)
   three_arc v i = arc_from v (parent three v) (is_wood.edges three v i) (inr (inl (down three v i)))
 
   first_arc : HasArc arcs base.1 base.0
-  first_arc = arc_from base.1 base.0 (completed.simple.both_ways base.0 base.1 has) (inr (inr (inl (sym root_one_is, sym root_two_is))))
+  first_arc = arc_from base.1 base.0 (triangulation.simple.both_ways base.0 base.1 has) (inr (inr (inl (sym root_one_is, sym root_two_is))))
 
   second_arc : HasArc arcs base.0 (root lists base three)
   second_arc =
       let w : ℕ = root lists base three in
-      let near = (nothing_taken_off lists (λ v. true) base.1 base.0 completed has (λ v l. refl)).near in
+      let near = (nothing_taken_off lists (λ v. true) base.1 base.0 triangulation has (λ v l. refl)).near in
       let step : entry_after w (base.1 ∷ w ∷ base.0 ∷ []) ≡ base.0 = entry_after-inside (base.1 ∷ []) w base.0 [] near.cycle.distinct in
       let d = near.cycle.darts w (1, omega arith, refl) in
       let old = (restricted-old lists (λ v. true) w base.0 (subst (HasDart _ w) step d)).0 in
-      arc_from base.0 w (completed.simple.both_ways w base.0 old) (inr (inr (inr (sym root_two_is, sym root_three_is))))
+      arc_from base.0 w (triangulation.simple.both_ways w base.0 old) (inr (inr (inr (sym root_two_is, sym root_three_is))))
 
   root_cases : (v : ℕ) → v < n → ((v ≡ base.1) ⊎ ((v ≡ base.0) ⊎ (v ≡ root lists base three))) ⊎ IsInner lists base v
-  root_cases v l = elim (root_or_inner lists base parent completed has is_wood v l) [ inl x ↦ inl (by_colour x.0 x.1) | inr i ↦ inr i ]
+  root_cases v l = elim (root_or_inner lists base parent triangulation has is_wood v l) [ inl x ↦ inl (by_colour x.0 x.1) | inr i ↦ inr i ]
     where
       by_colour : (c : Colour) → v ≡ root lists base c → (v ≡ base.1) ⊎ ((v ≡ base.0) ⊎ (v ≡ root lists base three))
       by_colour one e = inl e
@@ -130,7 +130,7 @@ module _ (lists : Lists) (base : Dart) (wood : Parents) (arcs : List (List ℕ))
   acyclic at arranged =
       let count = graph.count in
       let count' = arranged.count in
-      let in_map = completed.simple.in_range base.0 base.1 has in
+      let in_map = triangulation.simple.in_range base.0 base.1 has in
       let height : ℕ → ℕ = λ v. place_of v at in
       let before : (u v : ℕ) → IsBefore at u v → height u < height v =
       λ u v b.
@@ -141,7 +141,7 @@ module _ (lists : Lists) (base : Dart) (wood : Parents) (arcs : List (List ℕ))
       omega arith in
       record {
         base_in = let e = root_one_is in omega arith;
-        within = λ e r a. let l = completed.simple.in_range e r (arc_is e r a).0 in omega arith;
+        within = λ e r a. let l = triangulation.simple.in_range e r (arc_is e r a).0 in omega arith;
         height = height;
         rising = λ e r a nb. before e r (rises at arranged e r (arc_is e r a).0 (arc_is e r a).1);
         reached = λ r l nb. elim (root_cases r (omega arith)) [
@@ -153,16 +153,16 @@ module _ (lists : Lists) (base : Dart) (wood : Parents) (arcs : List (List ℕ))
       }
     where
       rises : (at : List ℕ) → IsArranged lists base parent at → (e r : ℕ) → HasDart lists e r → IsArc wood e r → IsBefore at e r
-      rises at arranged e r d (inl (inl h)) = subst (λ z. IsBefore at z r) h.1 (arranged.one_before r (inner r (completed.simple.in_range e r d) h.0))
-      rises at arranged e r d (inl (inr h)) = subst (λ z. IsBefore at z r) h.1 (arranged.two_before r (inner r (completed.simple.in_range e r d) h.0))
+      rises at arranged e r d (inl (inl h)) = subst (λ z. IsBefore at z r) h.1 (arranged.one_before r (inner r (triangulation.simple.in_range e r d) h.0))
+      rises at arranged e r d (inl (inr h)) = subst (λ z. IsBefore at z r) h.1 (arranged.two_before r (inner r (triangulation.simple.in_range e r d) h.0))
       rises at arranged e r d (inr (inl h)) = subst (IsBefore at e) h.1 (arranged.three_after e (inner e d.0 h.0))
       rises at arranged e r d (inr (inr (inl h))) =
           let count = arranged.count in
-          let some = completed.some in
+          let some = triangulation.some in
           (0, 1, omega arith, omega arith, arranged.first ∙ sym (h.0 ∙ root_one_is), arranged.second ∙ sym (h.1 ∙ root_two_is))
       rises at arranged e r d (inr (inr (inr h))) =
           let count = arranged.count in
-          let some = completed.some in
+          let some = triangulation.some in
           (1, n - 1, omega arith, omega arith, arranged.second ∙ sym (h.0 ∙ root_two_is), arranged.last ∙ sym (h.1 ∙ root_three_is))
 
   -- An order of the graph is such an arrangement.
@@ -180,10 +180,10 @@ module _ (lists : Lists) (base : Dart) (wood : Parents) (arcs : List (List ℕ))
     first = order.first ∙ root_one_is
 
     loop : base.0 ≢ base.1
-    loop e = completed.simple.no_loop base.0 base.1 has (sym e)
+    loop e = triangulation.simple.no_loop base.0 base.1 has (sym e)
 
     third_apart : root lists base three ≢ base.1
-    third_apart = completed.simple.no_loop base.1 (root lists base three) (HasDart-follows lists base.1 base.0 (completed.simple.both_ways base.0 base.1 has))
+    third_apart = triangulation.simple.no_loop base.1 (root lists base three) (HasDart-follows lists base.1 base.0 (triangulation.simple.both_ways base.0 base.1 has))
 
     in_at : (i : ℕ) → i < n → get_or at i 0 < n
     in_at i l = let s = size in let c = graph.count in let v = order.vertices i 0 (omega arith) in omega arith
@@ -192,7 +192,7 @@ module _ (lists : Lists) (base : Dart) (wood : Parents) (arcs : List (List ℕ))
     only_first : (u : ℕ) → IsBefore at u (get_or at 1 0) → u ≡ base.1
     only_first u b =
         let s = size in
-        let some = completed.some in
+        let some = triangulation.some in
         let lj = b.3 in
         let less = b.2 in
         let j = once b.1 1 (omega arith) (omega arith) b.5 in
@@ -201,7 +201,7 @@ module _ (lists : Lists) (base : Dart) (wood : Parents) (arcs : List (List ℕ))
 
     second : get_or at 1 0 ≡ base.0
     second =
-        let some = completed.some in
+        let some = triangulation.some in
         let x : ℕ = get_or at 1 0 in
         elim (root_cases x (in_at 1 (omega arith))) [
           | inr i ↦ absurd (two_one (is_wood.own_root two one x i (only_first (parent two x) (before (parent two x) x (two_arc x i) (i.1 one)))))
@@ -217,7 +217,7 @@ module _ (lists : Lists) (base : Dart) (wood : Parents) (arcs : List (List ℕ))
     not_last : (u v : ℕ) → IsBefore at u v → get_or at (n - 1) 0 ≢ u
     not_last u v b e =
         let s = size in
-        let some = completed.some in
+        let some = triangulation.some in
         let less = b.2 in
         let lj = b.3 in
         let i = once b.0 (n - 1) (omega arith) (omega arith) (b.4 ∙ sym e) in
@@ -225,7 +225,7 @@ module _ (lists : Lists) (base : Dart) (wood : Parents) (arcs : List (List ℕ))
 
     last : get_or at (n - 1) 0 ≡ root lists base three
     last =
-        let some = completed.some in
+        let some = triangulation.some in
         let x : ℕ = get_or at (n - 1) 0 in
         elim (root_cases x (in_at (n - 1) (omega arith))) [
           | inr i ↦ absurd (not_last x (parent three x) (before x (parent three x) (three_arc x i) (λ q. three_one (is_wood.own_root three one x i q))) refl)

@@ -1,7 +1,7 @@
 //! Drawings of woods.
 ghost use Rattle.std.specs.Prelude.{◌≡◌, ◌-◌, ℕ, pos, IfOk};
 ghost use Rattle.map_theory.specs.Maps.{Dart, HasDart, vertex_count};
-ghost use Rattle.plane_laws.specs.Completed.{IsCompleted};
+ghost use Rattle.plane_laws.specs.Triangulations.{IsTriangulation};
 ghost use Rattle.order_drawings.specs.SchnyderDrawings.{IsSchnyderDrawing};
 ghost use Rattle.wood_laws.specs.Woods.{IsInner};
 ghost use Rattle.wood_laws.specs.WoodRegionsLaws.{StandsAtCoordinates};
@@ -15,7 +15,7 @@ use pg_plane::GridFigure;
 use schnyder_wood::Wood;
 use std::alloc::Global;
 
-/// The drawing of a completed map, a simple map of genus zero with n >= 3 vertices and 3n - 6 edges, by the
+/// The drawing of a triangulation, a simple map of genus zero with n >= 3 vertices and 3n - 6 edges, by the
 /// regions of a wood of it.
 ///
 /// It is plane and keeps the rotations, in the grid n - 2 by n - 2. Each vertex but the roots has as coordinate
@@ -28,7 +28,7 @@ use std::alloc::Global;
 ///
 /// Source: Schnyder, Embedding planar graphs on the grid, 1990.
 pub fn schnyder_draw(alloc: Global, tri: &HalfMap, wood: &Wood) -> Result<GridFigure, SchnyderFault>
-    requires completed { IsCompleted tri.now.lists }
+    requires triangulation { IsTriangulation tri.now.lists }
     requires wood { (base : Dart) × HasDart tri.now.lists base.0 base.1 × IsWoodOf tri.now.lists base wood.now }
     ensures coordinates { IfOk result (λ figure. (base : Dart) (v : ℕ) → HasDart tri.now.lists base.0 base.1 → IsWoodOf tri.now.lists base wood.now → IsInner tri.now.lists base v
         → StandsAtCoordinates tri.now.lists base (parent_in wood.now) figure.points v) }

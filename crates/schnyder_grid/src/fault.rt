@@ -2,7 +2,7 @@
 
 use std::alloc::AllocError;
 
-/// Why a completed map with a wood got no drawing.
+/// Why a triangulation with a wood got no drawing.
 #[derive(Clone, Copy, PartialEq, Eq)]
 pub enum SchnyderFault {
     /// There was not enough memory.

@@ -1,4 +1,4 @@
-//! Drawings of completed maps by the regions of their woods (Schnyder, 1990), in linear time.
+//! Drawings of triangulations by the regions of their woods (Schnyder, 1990), in linear time.
 #![tactic(auto)]
 
 mod arcs;

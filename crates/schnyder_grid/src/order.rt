@@ -1,7 +1,7 @@
 //! Orders of woods.
 ghost use Rattle.std.specs.Prelude.{◌≡◌, ◌<◌, ℕ, All, reverse, IfOk};
 ghost use Rattle.map_theory.specs.Maps.{Dart, HasDart};
-ghost use Rattle.plane_laws.specs.Completed.{IsCompleted};
+ghost use Rattle.plane_laws.specs.Triangulations.{IsTriangulation};
 ghost use Rattle.canon_order.specs.Orders.{IsRankOf, vertices_of};
 ghost use Rattle.schnyder_wood.specs.Parents.{parent_in, IsWoodOf};
 ghost use Rattle.wood_laws.specs.Arranged.{IsArranged};
@@ -25,13 +25,13 @@ fn turned(alloc: Global, order: &[u32]) -> Result<Vec<u16>, AllocError>
     Ok(taken)
 }
 
-/// The vertices of a completed map in an order in which those of a wood can be put on: root one first, root two
+/// The vertices of a triangulation in an order in which those of a wood can be put on: root one first, root two
 /// second and root three last, and each other vertex behind its parents of colours one and two and before that
 /// of colour three. It is a canonical order, and the wood is its wood.
 ///
 /// It fails only for want of memory. The map and the wood stay as they are. The time is linear in the map.
 pub fn wood_order(alloc: Global, tri: &HalfMap, wood: &Wood) -> Result<Order, AllocError>
-    requires completed { IsCompleted tri.now.lists }
+    requires triangulation { IsTriangulation tri.now.lists }
     requires wood { (base : Dart) × HasDart tri.now.lists base.0 base.1 × IsWoodOf tri.now.lists base wood.now }
     ensures arranged { IfOk result (λ order. (base : Dart) → HasDart tri.now.lists base.0 base.1 → IsWoodOf tri.now.lists base wood.now → IsArranged tri.now.lists base (parent_in wood.now) (vertices_of order)) }
     ensures rank { IfOk result (λ order. IsRankOf order.rank (vertices_of order)) }

@@ -3,7 +3,7 @@ use Rattle.std.proofs.Common.{◌≡◌, ◌≢◌, ◌⊎◌, ◌+◌, ◌-◌,
 use Rattle.std.proofs.lemmas.Bool.{cases_eq}
 use Rattle.map_lists.specs.Lists.{Lists}
 use Rattle.map_theory.specs.Maps.{Dart, follows}
-use Rattle.plane_laws.specs.Completed.{IsCompleted}
+use Rattle.plane_laws.specs.Triangulations.{IsTriangulation}
 use Rattle.canon_order.specs.Orders.{IsCanonicalOrder, IsRankOf}
 use Rattle.contour_runs.specs.Runs.{Step}
 use Rattle.contour_runs.proofs.Stages.{IsCovered-own}
@@ -40,7 +40,7 @@ AreParentsAt-named steps m n firsts lasts covers ranks at ones twos threes table
   each = λ c v w l p. (named c).each v l ∙ ap (λ k. get_or at k 0) (tables.each c (get_or ranks v 0) w p);
 }
 
-module _ (lists : Lists) (base : Dart) (at ranks : List ℕ) (steps : ℕ → Step) (completed : IsCompleted lists) (order : IsCanonicalOrder lists base at) (rank : IsRankOf ranks at) (run : IsOrderRun lists base at order.cycle steps) where
+module _ (lists : Lists) (base : Dart) (at ranks : List ℕ) (steps : ℕ → Step) (triangulation : IsTriangulation lists) (order : IsCanonicalOrder lists base at) (rank : IsRankOf ranks at) (run : IsOrderRun lists base at order.cycle steps) where
   abbrev n : ℕ
   n = length at - 2
 
@@ -51,7 +51,7 @@ module _ (lists : Lists) (base : Dart) (at ranks : List ℕ) (steps : ℕ → St
   rank_of v = get_or ranks v 0
 
   size : length at ≡ n + 2
-  size = let c = order.count in let s = completed.some in omega arith
+  size = let c = order.count in let s = triangulation.some in omega arith
 
   -- one that has a parent, and the parent, are of the run
   child_small : (c : Colour) (v w : ℕ) → IsParent c steps n v w → v < length at
@@ -110,14 +110,14 @@ module _ (lists : Lists) (base : Dart) (at ranks : List ℕ) (steps : ℕ → St
     low c v l =
         let a = order.count in
         let b = rank.count in
-        let some = completed.some in
+        let some = triangulation.some in
         let small = ranks_within lists base at ranks order rank v 0 (omega arith) in
         by_case c (omega arith)
       where
         by_case : (c : Colour) → rank_of v < count_in wood → height c v < count_in wood
         by_case one h = h
         by_case two h = h
-        by_case three h = let a = order.count in let some = completed.some in omega arith
+        by_case three h = let a = order.count in let some = triangulation.some in omega arith
 
     falls_by : (c : Colour) (v u : ℕ) → rank_of u < length at → LeadsAway c (rank_of v) (rank_of u) → height c u < height c v
     falls_by one v u l h = h.one_is_earlier refl
@@ -139,7 +139,7 @@ module _ (lists : Lists) (base : Dart) (at ranks : List ℕ) (steps : ℕ → St
         let inner = inner_is v i in
         let u : ℕ = parent_in wood c v in
         let edge = is_wood.edges c v inner in
-        let l = completed.simple.in_range v u edge in
+        let l = triangulation.simple.in_range v u edge in
         let own : (d : Colour) → u ≡ root_in wood d → u ≡ root_in wood c = λ d e. e ∙ ap (root_in wood) (sym (is_wood.own_root c d v inner (e ∙ roots d))) in
         elim (cases_eq u (root_in wood c)) [
           | inl e ↦ inr e
@@ -172,7 +172,7 @@ module _ (lists : Lists) (base : Dart) (at ranks : List ℕ) (steps : ℕ → St
     made_parents = AreParentsOf-tables m ones twos threes rows tables
 
     made_wood : IsWood lists base (parent_in made)
-    made_wood = law lists base at steps (parent_in made) completed order run made_parents
+    made_wood = law lists base at steps (parent_in made) triangulation order run made_parents
 
     pub IsRooted-made : IsRooted made
     IsRooted-made = IsRooted-order few made made_count made_roots made_parents made_wood

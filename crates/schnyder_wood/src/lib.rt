@@ -1,4 +1,4 @@
-//! Schnyder's wood (1990) of a canonical order of a completed map, in linear time.
+//! Schnyder's wood (1990) of a canonical order of a triangulation, in linear time.
 #![tactic(auto)]
 
 mod colour;

@@ -1,7 +1,7 @@
 //! The wood of a canonical order.
 ghost use Rattle.std.specs.Prelude.{◌≡◌, ◌<◌, ◌+◌, ◌-◌, ℕ, length, slice_index, All, IfOk};
 ghost use Rattle.map_theory.specs.Maps.{Dart, vertex_count};
-ghost use Rattle.plane_laws.specs.Completed.{IsCompleted};
+ghost use Rattle.plane_laws.specs.Triangulations.{IsTriangulation};
 ghost use Rattle.canon_order.specs.Orders.{IsCanonicalOrder, IsRankOf, vertices_of};
 ghost use Rattle.contour_runs.specs.Runs.{Step};
 ghost use Rattle.order_drawings.specs.OrderRuns.{IsOrderRun};
@@ -65,7 +65,7 @@ fn parent_tables(alloc: Global, rows: &Rotations, order: &Order) -> Result<Table
     named_all(alloc, &firsts, &lasts, &covers, order)
 }
 
-/// Schnyder's wood of a canonical order of a completed map: a simple map of genus zero with n >= 3 vertices and
+/// Schnyder's wood of a canonical order of a triangulation: a simple map of genus zero with n >= 3 vertices and
 /// 3n - 6 edges.
 ///
 /// The roots of the colours one, two and three are the order's first, second and last vertex. The parents of
@@ -77,7 +77,7 @@ fn parent_tables(alloc: Global, rows: &Rotations, order: &Order) -> Result<Table
 ///
 /// Source: Schnyder, Embedding planar graphs on the grid, 1990.
 pub fn wood(alloc: Global, tri: &HalfMap, order: &Order) -> Result<Wood, AllocError>
-    requires completed { IsCompleted tri.now.lists }
+    requires triangulation { IsTriangulation tri.now.lists }
     requires order { (base : Dart) × IsCanonicalOrder tri.now.lists base (vertices_of order.now) }
     requires rank { IsRankOf order.now.rank (vertices_of order.now) }
     ensures root_one { IfOk result (λ wood. wood.root_one ≡ slice_index (vertices_of order.now) 0) }

@@ -8,7 +8,7 @@ use Rattle.graph_search.specs.Forests.{IsForest, IsForestOf}
 use Rattle.graph_search.specs.Lows.{IsLow, AreLows}
 use Rattle.graph_search.proofs.ForestLemmas.{IsAdjacency-simple, IsWithin-ends}
 use Rattle.graph_search.specs.Cuts.{IsCutVertex}
-use Rattle.graph_search.proofs.CutLemmas.{IsCutVertex-parted}
+use Rattle.graph_search.proofs.CutLemmas.{IsCutVertex-separated}
 use Rattle.st_orders.specs.Placing.{IsWholeForest, IsWholeSearch}
 
 pub IsWholeForest-biconnected : (lists : Lists) → IsSimpleMap lists → component_count lists ≡ 1 → ((v : ℕ) → ¬ IsCutVertex lists v) → (order number last parent low : ℕ → ℕ) → IsForest lists order number last parent → ((v : ℕ) → v < length lists → IsLow lists number last v (low v)) → (s t : ℕ) → HasDart lists s t → number s ≡ 0 → number t ≡ 1 → IsWholeForest lists order number last parent low s t
@@ -37,7 +37,7 @@ IsWholeForest-biconnected lists simple connected uncut order number last parent 
         | inl less ↦ less
         | inr high ↦
             let p = has_parent v l (omega arith) in
-            absurd (uncut (parent v) (IsCutVertex-parted lists adjacency order number last parent f low lows (parent v) p v
+            absurd (uncut (parent v) (IsCutVertex-separated lists adjacency order number last parent f low lows (parent v) p v
             (record {
               vertex = l;
               child = refl;

@@ -1,4 +1,4 @@
--- In a map in one block vertex 0 has a neighbour, and the bars of the dart to the first of them are its figure.
+-- In a biconnected map vertex 0 has a neighbour, and the bars of the dart to the first of them are its figure.
 use Rattle.std.proofs.Common.{◌≡◌, ℕ, List, [], length, Contains, true≢false, refl, sym, ap, ◌∙◌, arith, eqb, eqb-true}
 use Rattle.std.specs.Prelude.{Some, slice_index}
 use Rattle.map_lists.specs.Lists.{Lists}
@@ -6,7 +6,7 @@ use Rattle.map_theory.specs.Maps.{list_of}
 use Rattle.plane_peeling.proofs.Counted.{marks_everywhere}
 use Rattle.pg_plane.specs.declared.figure.BarFigure.{BarFigure}
 use Rattle.half_edges.specs.Map.{Map, dart_at, first_dart}
-use Rattle.conn_parts.specs.Blocks.{IsPlaneBlock}
+use Rattle.conn_parts.specs.BiconnectedMaps.{IsBiconnectedMap}
 use Rattle.visibility.specs.Bars.{AreBarsFor}
 use Rattle.visibility.specs.Figures.{IsBarFigure}
 
@@ -14,10 +14,10 @@ none_in : (us : List ℕ) (u : ℕ) → us ≡ [] → ¬ Contains us u
 none_in us u e c = let l = c.1 in let n = ap length e in omega arith
 
 -- it is not isolated
-pub some_neighbour : (lists : Lists) → IsPlaneBlock 3 lists → ¬ (list_of lists 0 ≡ [])
-some_neighbour lists block e =
-    let some = block.some in
-    true≢false (sym (marks_everywhere lists block.simple block.connected (λ u. eqb u 0) (λ x u d t. absurd (none_in (list_of lists x) u (ap (list_of lists) (eqb-true x 0 t) ∙ e) d.1)) 0 1 (omega arith) (omega arith) refl))
+pub some_neighbour : (lists : Lists) → IsBiconnectedMap 3 lists → ¬ (list_of lists 0 ≡ [])
+some_neighbour lists biconnected e =
+    let some = biconnected.some in
+    true≢false (sym (marks_everywhere lists biconnected.simple biconnected.connected (λ u. eqb u 0) (λ x u d t. absurd (none_in (list_of lists x) u (ap (list_of lists) (eqb-true x 0 t) ∙ e) d.1)) 0 1 (omega arith) (omega arith) refl))
 
 pub IsBarFigure-of : (map : Map) (d : ℕ) (fig : BarFigure) → dart_at map d ≡ Some (first_dart map.lists 0) → AreBarsFor map d fig → IsBarFigure map.lists fig
 IsBarFigure-of map d fig is bars =

@@ -8,7 +8,7 @@ use Rattle.std.proofs.lemmas.List.Quantifiers.{all_pairs_push}
 use Rattle.classes.specs.Classes.{count_below}
 use Rattle.map_lists.specs.Lists.{Lists}
 use Rattle.map_theory.specs.Maps.{Dart, HasDart}
-use Rattle.plane_laws.specs.Completed.{IsCompleted}
+use Rattle.plane_laws.specs.Triangulations.{IsTriangulation}
 use Rattle.plane_peeling.specs.Restricted.{kept_but}
 use Rattle.plane_peeling.proofs.RestrictedMaps.{kept_but-old, kept_but-new, kept_but-itself}
 use Rattle.plane_peeling.proofs.Rings.{each_of_three}
@@ -20,7 +20,7 @@ use Rattle.wood_laws.specs.Woods.{root, IsInner, IsWood}
 use Rattle.wood_laws.specs.Arranged.{IsBefore, IsArranged}
 use Rattle.wood_laws.proofs.Ways.{root_in, roots_apart}
 use Rattle.wood_laws.proofs.Peeled.{IsWoodLeft, more}
-use Rattle.wood_laws.proofs.Found.{some_ripe}
+use Rattle.wood_laws.proofs.Found.{some_removable_in_wood}
 use Rattle.wood_laws.proofs.Begin.{all, all_has, all_only, roots, whole, whole_count, none_inner, begin}
 
 -- one more in a list
@@ -34,7 +34,7 @@ IsBefore-new : (us : List ℕ) (v a : ℕ) → Contains us a → IsBefore (us ++
 IsBefore-new us v a c =
     (c.0, length us, c.1, omega (arith, length-append us (v ∷ [])), get_or_append_left us (v ∷ []) 0 c.0 c.1 ∙ (get_or_default us c.0 0 a c.1 ∙ c.2), get_or-append_seam us v [] 0)
 
-module _ (lists : Lists) (base : Dart) (parent : Colour → ℕ → ℕ) (completed : IsCompleted lists) (has : HasDart lists base.0 base.1) (wood : IsWood lists base parent) where
+module _ (lists : Lists) (base : Dart) (parent : Colour → ℕ → ℕ) (triangulation : IsTriangulation lists) (has : HasDart lists base.0 base.1) (wood : IsWood lists base parent) where
   abbrev n : ℕ
   n = length lists
 
@@ -86,13 +86,13 @@ module _ (lists : Lists) (base : Dart) (parent : Colour → ℕ → ℕ) (comple
           some = omega arith;
           each = in_us;
           only = λ u c. each_of_three (λ z. kept z ≡ true) s t x
-              (on_kept lists s t kept ws rest completed left s (subst (λ l. Contains l s) (sym last.1) (0, omega arith, refl)))
-              (on_kept lists s t kept ws rest completed left t (subst (λ l. Contains l t) (sym last.1) (2, omega arith, refl)))
-              (on_kept lists s t kept ws rest completed left x (subst (λ l. Contains l x) (sym last.1) (1, omega arith, refl))) u c;
+              (on_kept lists s t kept ws rest triangulation left s (subst (λ l. Contains l s) (sym last.1) (0, omega arith, refl)))
+              (on_kept lists s t kept ws rest triangulation left t (subst (λ l. Contains l t) (sym last.1) (2, omega arith, refl)))
+              (on_kept lists s t kept ws rest triangulation left x (subst (λ l. Contains l x) (sym last.1) (1, omega arith, refl))) u c;
           first = refl;
           second = refl;
-          one_before = λ v i k. before_one v (parent one v) (up v i k).0 (completed.simple.no_loop v (parent one v) (wood.edges one v i)) (third v i k) (λ e. one_two (wood.own_root one two v i e));
-          two_before = λ v i k. before_two v (parent two v) (up v i k).1 (completed.simple.no_loop v (parent two v) (wood.edges two v i)) (third v i k) (λ e. one_two (sym (wood.own_root two one v i e)));
+          one_before = λ v i k. before_one v (parent one v) (up v i k).0 (triangulation.simple.no_loop v (parent one v) (wood.edges one v i)) (third v i k) (λ e. one_two (wood.own_root one two v i e));
+          two_before = λ v i k. before_two v (parent two v) (up v i k).1 (triangulation.simple.no_loop v (parent two v) (wood.edges two v i)) (third v i k) (λ e. one_two (sym (wood.own_root two one v i e)));
           three_after = λ v i k k'. absurd (true≢false (sym k' ∙ off v i (on v k)));
         },
         is_x,
@@ -151,59 +151,59 @@ module _ (lists : Lists) (base : Dart) (parent : Colour → ℕ → ℕ) (comple
       let three_of = three_arranged kept ws rest state.left count (λ v i k. (state.one_left v i k, state.two_left v i k)) state.outside in
       (three_of.0, three_of.1)
   arranged_from (suc k) kept ws rest state count =
-      let found = some_ripe lists base parent completed has wood kept ws rest state in
+      let found = some_removable_in_wood lists base parent triangulation has wood kept ws rest state in
       let v : ℕ = found.0 in
-      let ripe = found.1 in
-      let next = more lists base parent completed wood kept ws rest state v ripe (omega arith) in
+      let removable_in_wood = found.1 in
+      let next = more lists base parent triangulation wood kept ws rest state v removable_in_wood (omega arith) in
       let less = next.2 in
       let rest_of = arranged_from k (kept_but kept v) next.0 (v ∷ rest) next.1 (omega arith) in (
         rest_of.0 ++ v ∷ [],
-        more_arranged kept v rest_of.0 ripe.here less
+        more_arranged kept v rest_of.0 removable_in_wood.here less
             (λ i. (
-              kept_but-new kept v (parent one v) (state.one_left v i ripe.here) (completed.simple.no_loop v (parent one v) (wood.edges one v i)),
-              kept_but-new kept v (parent two v) (state.two_left v i ripe.here) (completed.simple.no_loop v (parent two v) (wood.edges two v i)),
-              ripe.three_off,
+              kept_but-new kept v (parent one v) (state.one_left v i removable_in_wood.here) (triangulation.simple.no_loop v (parent one v) (wood.edges one v i)),
+              kept_but-new kept v (parent two v) (state.two_left v i removable_in_wood.here) (triangulation.simple.no_loop v (parent two v) (wood.edges two v i)),
+              removable_in_wood.three_off,
             )) rest_of.1,
       )
 
   abbrev every : ℕ → Bool
-  every = all lists base parent completed has wood
+  every = all lists base parent triangulation has wood
 
   every_in : (v : ℕ) → v < n → every v ≡ true
-  every_in = all_has lists base parent completed has wood
+  every_in = all_has lists base parent triangulation has wood
 
   arranged : (at : List ℕ) → AreArranged every at → get_or at (n - 1) 0 ≡ root lists base three → IsArranged lists base parent at
   arranged at h last =
-      let count = whole_count lists base parent completed has wood in
+      let count = whole_count lists base parent triangulation has wood in
       record {
         count = h.count ∙ count;
-        vertices = λ k d l. all_only lists base parent completed has wood (get_or at k d) (h.only (get_or at k d) (Contains-get_or at k d l));
+        vertices = λ k d l. all_only lists base parent triangulation has wood (get_or at k d) (h.only (get_or at k d) (Contains-get_or at k d l));
         once = h.once;
         first = h.first;
         second = h.second;
         last = last;
         one_before = λ v i. h.one_before v i (every_in v i.0);
         two_before = λ v i. h.two_before v i (every_in v i.0);
-        three_after = λ v i. h.three_after v i (every_in v i.0) (every_in (parent three v) (completed.simple.in_range v (parent three v) (wood.edges three v i)));
+        three_after = λ v i. h.three_after v i (every_in v i.0) (every_in (parent three v) (triangulation.simple.in_range v (parent three v) (wood.edges three v i)));
       }
 
   -- THE LEMMA
   pub some_arranged : (at : List ℕ) × IsArranged lists base parent at
   some_arranged =
-      let some = completed.some in
+      let some = triangulation.some in
       let w : ℕ = root lists base three in
-      let count = whole_count lists base parent completed has wood in
-      let w_in : w < n = root_in lists base parent completed has wood three in
-      let apart = roots_apart lists base parent completed has wood in
+      let count = whole_count lists base parent triangulation has wood in
+      let w_in : w < n = root_in lists base parent triangulation has wood three in
+      let apart = roots_apart lists base parent triangulation has wood in
       elim (cases_lt 3 n) [
         | inr l ↦
             let three_in : n ≡ 3 = omega arith in
-            let none = none_inner lists base parent completed has wood three_in in
-            let three_of = three_arranged every (roots lists base parent completed has wood) [] (whole lists base parent completed has wood) (count ∙ three_in) (λ v i k. absurd (none v i)) (λ v i c. absurd (none v i)) in
+            let none = none_inner lists base parent triangulation has wood three_in in
+            let three_of = three_arranged every (roots lists base parent triangulation has wood) [] (whole lists base parent triangulation has wood) (count ∙ three_in) (λ v i k. absurd (none v i)) (λ v i c. absurd (none v i)) in
             let e : n - 1 ≡ 2 = omega arith in
             (three_of.0, arranged three_of.0 three_of.1 (ap (λ k. get_or three_of.0 k 0) e ∙ three_of.2 w (every_in w w_in) (λ e. apart 0 1 0 (omega arith) (omega arith) (sym e)) (apart 1 2 0 (omega arith) (omega arith))))
         | inl l ↦
-            let start = begin lists base parent completed has wood l in
+            let start = begin lists base parent triangulation has wood l in
             let less = start.2 in
             let us = arranged_from (n - 4) (kept_but every w) start.0 (w ∷ []) start.1 (omega arith) in
             let c = us.1.count in

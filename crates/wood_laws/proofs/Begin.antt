@@ -5,13 +5,13 @@ use Rattle.classes.specs.Classes.{count_below}
 use Rattle.map_lists.specs.Lists.{Lists}
 use Rattle.map_theory.specs.Maps.{Dart, HasDart, entry_after}
 use Rattle.map_theory.proofs.EntryLemmas.{Contains-here, Contains-there}
-use Rattle.plane_laws.specs.Completed.{IsCompleted}
+use Rattle.plane_laws.specs.Triangulations.{IsTriangulation}
 use Rattle.plane_peeling.specs.Restricted.{restricted, kept_but}
-use Rattle.plane_peeling.specs.NearTriangulations.{IsFree}
+use Rattle.plane_peeling.specs.NearTriangulations.{IsRemovable}
 use Rattle.plane_peeling.proofs.Rings.{each_of_three, entry_after-inside}
 use Rattle.plane_peeling.proofs.RestrictedMaps.{restricted-old, kept_but-new, kept_but-itself}
 use Rattle.plane_peeling.proofs.Covers.{cycle_after}
-use Rattle.plane_peeling.proofs.Steps.{free_taken_off}
+use Rattle.plane_peeling.proofs.Steps.{removable_taken_off}
 use Rattle.plane_peeling.proofs.Ends.{three_left}
 use Rattle.canon_order.specs.Lefts.{IsLeft}
 use Rattle.canon_order.proofs.Lefts.{IsLeft-begin, IsLeft-taken}
@@ -21,7 +21,7 @@ use Rattle.wood_laws.proofs.Ways.{roots_apart}
 use Rattle.wood_laws.proofs.Ends.{some_end}
 use Rattle.wood_laws.proofs.Peeled.{IsWoodLeft}
 
-module _ (lists : Lists) (base : Dart) (parent : Colour → ℕ → ℕ) (completed : IsCompleted lists) (has : HasDart lists base.0 base.1) (wood : IsWood lists base parent) where
+module _ (lists : Lists) (base : Dart) (parent : Colour → ℕ → ℕ) (triangulation : IsTriangulation lists) (has : HasDart lists base.0 base.1) (wood : IsWood lists base parent) where
   abbrev n : ℕ
   n = length lists
 
@@ -47,7 +47,7 @@ module _ (lists : Lists) (base : Dart) (parent : Colour → ℕ → ℕ) (comple
   roots = root lists base one ∷ root lists base three ∷ root lists base two ∷ []
 
   pub whole : IsLeft lists s t all roots []
-  whole = IsLeft-begin lists s t all completed has all_has all_only
+  whole = IsLeft-begin lists s t all triangulation has all_has all_only
 
   pub whole_count : count_below all n ≡ n
   whole_count = let c = whole.count in omega arith
@@ -62,9 +62,9 @@ module _ (lists : Lists) (base : Dart) (parent : Colour → ℕ → ℕ) (comple
       let last = three_left lists all s t roots whole.peeled (whole_count ∙ e) in
       not_root v i (last.3 v i.0 (all_has v i.0))
 
-  free : IsFree (restricted all lists) s t roots w
-  free =
-      let apart = roots_apart lists base parent completed has wood in
+  removable : IsRemovable (restricted all lists) s t roots w
+  removable =
+      let apart = roots_apart lists base parent triangulation has wood in
       let simple = whole.peeled.near.simple in
       record {
         on = Contains-there s (w ∷ t ∷ []) w (Contains-here w (t ∷ []));
@@ -79,7 +79,7 @@ module _ (lists : Lists) (base : Dart) (parent : Colour → ℕ → ℕ) (comple
   pub begin : 3 < n → (ws : List ℕ) × IsWoodLeft lists base parent (kept_but all w) ws (w ∷ []) × (n ≡ count_below (kept_but all w) n + 1)
   begin many =
       let count = whole_count in
-      let taken = free_taken_off lists all s t roots w completed whole.peeled (omega arith) free in
+      let taken = removable_taken_off lists all s t roots w triangulation whole.peeled (omega arith) removable in
       let fan = taken.0 in
       let off = fan.5 in
       let less = taken.1 in
@@ -87,16 +87,16 @@ module _ (lists : Lists) (base : Dart) (parent : Colour → ℕ → ℕ) (comple
       let gone : kept w ≡ false = kept_but-itself all w in (
         fan.0 ++ (fan.1 ∷ fan.2 ++ fan.3 ∷ fan.4),
         record {
-          left = IsLeft-taken lists s t all roots [] completed whole w _ _ _ _ _ free.on off less (omega arith);
+          left = IsLeft-taken lists s t all roots [] triangulation whole w _ _ _ _ _ removable.on off less (omega arith);
           root_gone = gone;
-          one_left = λ v i k. kept_but-new all w (parent one v) (all_has (parent one v) (completed.simple.in_range v (parent one v) (wood.edges one v i))) (λ e. one_three (wood.own_root one three v i e));
-          two_left = λ v i k. kept_but-new all w (parent two v) (all_has (parent two v) (completed.simple.in_range v (parent two v) (wood.edges two v i))) (λ e. two_three (wood.own_root two three v i e));
+          one_left = λ v i k. kept_but-new all w (parent one v) (all_has (parent one v) (triangulation.simple.in_range v (parent one v) (wood.edges one v i))) (λ e. one_three (wood.own_root one three v i e));
+          two_left = λ v i k. kept_but-new all w (parent two v) (all_has (parent two v) (triangulation.simple.in_range v (parent two v) (wood.edges two v i))) (λ e. two_three (wood.own_root two three v i e));
           three_gone = λ v i k. absurd (true≢false (sym (kept_but-new all w v (all_has v i.0) (i.1 three)) ∙ k));
           outside = λ v i c. elim ((cycle_after lists all s t roots w fan.0 fan.1 fan.2 fan.3 fan.4 whole.peeled off v).0 c) [
             | inl old ↦ absurd (not_root v i old.0)
             | inr d ↦
-                let edge = completed.simple.both_ways w v (restricted-old lists all w v d).0 in
-                let e = some_end lists base parent completed has wood v w i edge in
+                let edge = triangulation.simple.both_ways w v (restricted-old lists all w v d).0 in
+                let e = some_end lists base parent triangulation has wood v w i edge in
                 ap kept (to_root v i e.0 e.1) ∙ gone
           ];
         },

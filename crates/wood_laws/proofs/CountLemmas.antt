@@ -7,7 +7,7 @@ use Rattle.classes.proofs.Counting.{one_if, count_below_more, count_below_none}
 use Rattle.classes.proofs.Orbits.{IsPermuting, count_below-images}
 use Rattle.map_lists.specs.Lists.{Lists}
 use Rattle.map_theory.specs.Maps.{Dart}
-use Rattle.plane_laws.specs.Completed.{IsCompleted}
+use Rattle.plane_laws.specs.Triangulations.{IsTriangulation}
 use Rattle.canon_order.specs.Orders.{IsCanonicalOrder}
 use Rattle.contour_runs.specs.Runs.{Step}
 use Rattle.contour_runs.proofs.Stages.{count-stage_after}
@@ -47,7 +47,7 @@ count_apart t p q (suc n) a b c d =
       ]
     ]
 
-module _ (lists : Lists) (base : Dart) (at : List ℕ) (steps : ℕ → Step) (parent : Colour → ℕ → ℕ) (completed : IsCompleted lists) (order : IsCanonicalOrder lists base at) (run : IsOrderRun lists base at order.cycle steps) (parents : AreParentsOf at steps parent) where
+module _ (lists : Lists) (base : Dart) (at : List ℕ) (steps : ℕ → Step) (parent : Colour → ℕ → ℕ) (triangulation : IsTriangulation lists) (order : IsCanonicalOrder lists base at) (run : IsOrderRun lists base at order.cycle steps) (parents : AreParentsOf at steps parent) where
   abbrev n : ℕ
   n = length at - 2
 
@@ -55,41 +55,41 @@ module _ (lists : Lists) (base : Dart) (at : List ℕ) (steps : ℕ → Step) (p
   name k = get_or at k 0
 
   all_named : n + 2 ≡ length lists
-  all_named = let s = size lists base at steps parent completed order run parents in let c = order.count in omega arith
+  all_named = let s = size lists base at steps parent triangulation order run parents in let c = order.count in omega arith
 
   permuting : IsPermuting name (n + 2)
-  permuting = record { within = λ i l. let m = name_in lists base at steps parent completed order run parents i l in let e = all_named in omega arith; apart = λ i j l m e. let s = size lists base at steps parent completed order run parents in once lists base at steps parent completed order run parents i j (omega arith) (omega arith) e }
+  permuting = record { within = λ i l. let m = name_in lists base at steps parent triangulation order run parents i l in let e = all_named in omega arith; apart = λ i j l m e. let s = size lists base at steps parent triangulation order run parents in once lists base at steps parent triangulation order run parents i j (omega arith) (omega arith) e }
 
   -- a path has as many vertices as steps and one more
   path_count : (d : ℕ) (c : Colour) (k : ℕ) → k < n + 2 → LeadsBy lists base (parent c) d (name k) (root lists base c) → count_below (paths steps n c k) (n + 2) ≡ suc d
   path_count zero c k l e =
-      let r = root_name lists base at steps parent completed order run parents c in
-      let s = size lists base at steps parent completed order run parents in
+      let r = root_name lists base at steps parent triangulation order run parents c in
+      let s = size lists base at steps parent triangulation order run parents in
       let t = count-stage_after steps n in
-      let same : k ≡ root_at n c = once lists base at steps parent completed order run parents k (root_at n c) (omega arith) (let a = r.0 in omega arith) (e ∙ sym r.1) in
+      let same : k ≡ root_at n c = once lists base at steps parent triangulation order run parents k (root_at n c) (omega arith) (let a = r.0 in omega arith) (e ∙ sym r.1) in
       let own = (IsSided-run steps n run.run).own_path c k (omega arith) in
       let more = count_below_more (λ i. false) (paths steps n c k) (n + 2) k l refl own (λ i m ne. elim (cases_Bool (paths steps n c k i)) [
         | inr x ↦ sym x
-        | inl x ↦ absurd (ne (root_alone steps n run.run c i (let z = some lists base at steps parent completed order run parents in omega arith) m (ap (λ k. paths steps n c k i) (sym same) ∙ x) ∙ sym same))
+        | inl x ↦ absurd (ne (root_alone steps n run.run c i (let z = some lists base at steps parent triangulation order run parents in omega arith) m (ap (λ k. paths steps n c k i) (sym same) ∙ x) ∙ sym same))
       ]) in
       omega (arith, more, count_below_none (n + 2))
   path_count (suc d) c k l (inner, leads) =
-      let i = rank_inner lists base at steps parent completed order run parents k l inner in
-      let h = parent_of lists base at steps parent completed order run parents c k i in
+      let i = rank_inner lists base at steps parent triangulation order run parents k l inner in
+      let h = parent_of lists base at steps parent triangulation order run parents c k i in
       let u = h.parent in
-      let lu = parent_small lists base at steps parent completed order run parents c k i in
+      let lu = parent_small lists base at steps parent triangulation order run parents c k i in
       let t = count-stage_after steps n in
-      let leads' = subst (λ x. LeadsBy lists base (parent c) d x (root lists base c)) (parent_name lists base at steps parent completed order run parents c k i) leads in
+      let leads' = subst (λ x. LeadsBy lists base (parent c) d x (root lists base c)) (parent_name lists base at steps parent triangulation order run parents c k i) leads in
       let before = path_count d c u lu leads' in
       let on = goes_on steps n run.run c k u h.is_parent in
       let off : paths steps n c u k ≡ false = elim (cases_Bool (paths steps n c u k)) [
         | inr x ↦ x
-        | inl x ↦ elim (parent_inside lists base at steps parent completed order run parents c k i) [
+        | inl x ↦ elim (parent_inside lists base at steps parent triangulation order run parents c k i) [
           | inl j ↦
-              let q = path_to lists base at steps parent completed order run parents c u k j l x in
-              absurd ((wood_of_order lists base at steps parent completed order run parents).away c q.0 (name k) (inner, subst (λ x. LeadsBy lists base (parent c) q.0 x (name k)) (sym (parent_name lists base at steps parent completed order run parents c k i)) q.1))
+              let q = path_to lists base at steps parent triangulation order run parents c u k j l x in
+              absurd ((wood_of_order lists base at steps parent triangulation order run parents).away c q.0 (name k) (inner, subst (λ x. LeadsBy lists base (parent c) q.0 x (name k)) (sym (parent_name lists base at steps parent triangulation order run parents c k i)) q.1))
           | inr e ↦
-              let z = root_alone steps n run.run c k (let z = some lists base at steps parent completed order run parents in omega arith) l (ap (λ u. paths steps n c u k) (sym e) ∙ x) in
+              let z = root_alone steps n run.run c k (let z = some lists base at steps parent triangulation order run parents in omega arith) l (ap (λ u. paths steps n c u k) (sym e) ∙ x) in
               absurd (root_off c z i)
         ]
       ] in
@@ -117,12 +117,12 @@ module _ (lists : Lists) (base : Dart) (at : List ℕ) (steps : ℕ → Step) (p
         let path = path_count d (previous c) v lv leads in
         let apart' =
         count_apart t (paths steps n (previous c) v) (on_side c) (n + 2)
-        (λ k l x. elim (region_side steps n run.run c v k lv (region_shade lists base at steps parent completed order run parents v inside c k l ((counted.exact (name k) (name_in lists base at steps parent completed order run parents k l)).0 x))) [
+        (λ k l x. elim (region_side steps n run.run c v k lv (region_shade lists base at steps parent triangulation order run parents v inside c k l ((counted.exact (name k) (name_in lists base at steps parent triangulation order run parents k l)).0 x))) [
           | inl y ↦ inr (eq-eqb (sides steps n v k) (number c) y)
           | inr y ↦ inl y
         ])
-        (λ k l x. (counted.exact (name k) (name_in lists base at steps parent completed order run parents k l)).1 (inl (inr (path_to lists base at steps parent completed order run parents (previous c) v k inside l x))))
-        (λ k l x. (counted.exact (name k) (name_in lists base at steps parent completed order run parents k l)).1 (inr (shade_region lists base at steps parent completed order run parents v inside c k l (side_in_region steps n run.run c v k lv l (λ z. absurd (omega arith)) (is_number c k x)))))
+        (λ k l x. (counted.exact (name k) (name_in lists base at steps parent triangulation order run parents k l)).1 (inl (inr (path_to lists base at steps parent triangulation order run parents (previous c) v k inside l x))))
+        (λ k l x. (counted.exact (name k) (name_in lists base at steps parent triangulation order run parents k l)).1 (inr (shade_region lists base at steps parent triangulation order run parents v inside c k l (side_in_region steps n run.run c v k lv l (λ z. absurd (omega arith)) (is_number c k x)))))
         (λ k l x. elim (cases_Bool (on_side c k)) [
           | inr y ↦ y
           | inl y ↦ absurd (true≢false (sym x ∙ side_off_path steps n run.run c v k lv l (is_number c k y)))

@@ -2,7 +2,7 @@
 use Rattle.std.proofs.Common.{◌≡◌, ◌≢◌, ◌⊎◌, ℕ, refl, sym, ap, ◌∙◌, subst, inl, inr}
 use Rattle.map_lists.specs.Lists.{Lists}
 use Rattle.map_theory.specs.Maps.{Dart, HasDart, follows}
-use Rattle.plane_laws.specs.Completed.{IsCompleted}
+use Rattle.plane_laws.specs.Triangulations.{IsTriangulation}
 use Rattle.wood_runs.specs.Parents.{Colour, one, two, three, End, out, into, MayFollow}
 use Rattle.wood_laws.specs.Woods.{IsInner, IsEndAt, IsWood}
 use Rattle.wood_laws.proofs.Ways.{two_ways}
@@ -19,15 +19,15 @@ same_colour three one h = absurd (h (λ e. cc))
 same_colour three two h = absurd (h (λ e. cc))
 same_colour three three h = refl
 
-module _ (lists : Lists) (base : Dart) (parent : Colour → ℕ → ℕ) (completed : IsCompleted lists) (has : HasDart lists base.0 base.1) (wood : IsWood lists base parent) where
+module _ (lists : Lists) (base : Dart) (parent : Colour → ℕ → ℕ) (triangulation : IsTriangulation lists) (has : HasDart lists base.0 base.1) (wood : IsWood lists base parent) where
   abbrev pub At : End → ℕ → ℕ → Type 0
   At e v u = IsEndAt lists base parent e v u
 
   pub one_end : (v u : ℕ) → IsInner lists base v → (e f : End) → At e v u → At f v u → e ≡ f
   one_end v u i (out c) (out d) a b = ap (λ c. out c) (same_colour c d (λ ne. wood.apart c d v ne i (a ∙ sym b)))
   one_end v u i (into c) (into d) a b = ap (λ c. into c) (same_colour c d (λ ne. wood.apart c d u ne a.0 (a.1 ∙ sym b.1)))
-  one_end v u i (out c) (into d) a b = absurd (two_ways lists base parent completed has wood c d v u i b.0 a b.1)
-  one_end v u i (into c) (out d) a b = absurd (two_ways lists base parent completed has wood d c v u i a.0 b a.1)
+  one_end v u i (out c) (into d) a b = absurd (two_ways lists base parent triangulation has wood c d v u i b.0 a b.1)
+  one_end v u i (into c) (out d) a b = absurd (two_ways lists base parent triangulation has wood d c v u i a.0 b a.1)
 
   -- each edge stands to it in some way
   pub some_end : (v u : ℕ) → IsInner lists base v → HasDart lists v u → (e : End) × At e v u

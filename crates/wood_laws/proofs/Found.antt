@@ -4,7 +4,7 @@ use Rattle.std.proofs.lemmas.Bool.{cases_Bool, true≢false}
 use Rattle.map_lists.specs.Lists.{Lists}
 use Rattle.map_theory.specs.Maps.{Dart, HasDart, IsSimpleMap, list_of, follows, entry_after}
 use Rattle.map_theory.proofs.DartLemmas.{HasDart-follows, Contains-entry_after, two_entries, entry_after-injective}
-use Rattle.plane_laws.specs.Completed.{IsCompleted}
+use Rattle.plane_laws.specs.Triangulations.{IsTriangulation}
 use Rattle.plane_peeling.specs.Restricted.{restricted}
 use Rattle.plane_peeling.specs.NearTriangulations.{IsOuterCycle, IsOuterDart}
 use Rattle.plane_peeling.proofs.RestrictedMaps.{restricted-old, restricted-new}
@@ -14,9 +14,9 @@ use Rattle.canon_order.proofs.Lefts.{on_kept}
 use Rattle.wood_runs.specs.Parents.{Colour, one, two, three, End, out, into}
 use Rattle.wood_laws.specs.Woods.{root, IsInner, IsEndAt, IsWood}
 use Rattle.wood_laws.proofs.Ends.{At, Either, one_end, some_end, after_out_three, after_into_one, after_into_two}
-use Rattle.wood_laws.proofs.Peeled.{IsWoodLeft, IsRipe}
+use Rattle.wood_laws.proofs.Peeled.{IsWoodLeft, IsRemovableInWood}
 
-module _ (lists : Lists) (base : Dart) (parent : Colour → ℕ → ℕ) (completed : IsCompleted lists) (has : HasDart lists base.0 base.1) (wood : IsWood lists base parent) (kept : ℕ → Bool) (ws rest : List ℕ) (state : IsWoodLeft lists base parent kept ws rest) where
+module _ (lists : Lists) (base : Dart) (parent : Colour → ℕ → ℕ) (triangulation : IsTriangulation lists) (has : HasDart lists base.0 base.1) (wood : IsWood lists base parent) (kept : ℕ → Bool) (ws rest : List ℕ) (state : IsWoodLeft lists base parent kept ws rest) where
   abbrev s : ℕ
   s = base.1
 
@@ -33,7 +33,7 @@ module _ (lists : Lists) (base : Dart) (parent : Colour → ℕ → ℕ) (comple
   simple = state.left.peeled.near.simple
 
   is_left : (x : ℕ) → Contains ws x → kept x ≡ true
-  is_left = on_kept lists s t kept ws rest completed state.left
+  is_left = on_kept lists s t kept ws rest triangulation state.left
 
   not_both : (u : ℕ) → kept u ≡ true → kept u ≡ false → ⊥
   not_both u a b = true≢false (sym a ∙ b)
@@ -51,7 +51,7 @@ module _ (lists : Lists) (base : Dart) (parent : Colour → ℕ → ℕ) (comple
         | inr off ↦
             let old = restricted-old lists kept x u du in
             let same = sym (state.left.peeled.inner u x (simple.both_ways x u du) off) ∙ b.2 in
-            let e : u ≡ z = entry_after-injective (list_of lists x) u z (completed.simple.no_repeat x dz.0) old.0.1 dz.1 same in
+            let e : u ≡ z = entry_after-injective (list_of lists x) u z (triangulation.simple.no_repeat x dz.0) old.0.1 dz.1 same in
             absurd (not_both u old.2 (ap kept e ∙ gone))
       ]
 
@@ -68,9 +68,9 @@ module _ (lists : Lists) (base : Dart) (parent : Colour → ℕ → ℕ) (comple
       ]
 
   -- The next on the cycle after an inner vertex is its parent of colour two, or has it as parent of colour one.
-  goes_on : (x : ℕ) → IsInner lists base x → Contains ws x → Either lists base parent completed has wood (out two) (into one) x (entry_after x ws)
+  goes_on : (x : ℕ) → IsInner lists base x → Contains ws x → Either lists base parent triangulation has wood (out two) (into one) x (entry_after x ws)
   goes_on x i on =
-      elim (entries_closed P (list_of lists x) (parent three x) (parent one x) (completed.simple.no_repeat x i.0) d3.1 (inr (d3, state.outside x i on, inl refl)) closed (wood.edges one x i).1) [
+      elim (entries_closed P (list_of lists x) (parent three x) (parent one x) (triangulation.simple.no_repeat x i.0) d3.1 (inr (d3, state.outside x i on, inl refl)) closed (wood.edges one x i).1) [
         | inl g ↦ g
         | inr h ↦ absurd (not_both (parent one x) (state.one_left x i (is_left x on)) h.1)
       ]
@@ -79,7 +79,7 @@ module _ (lists : Lists) (base : Dart) (parent : Colour → ℕ → ℕ) (comple
       d3 = wood.edges three x i
 
       E : End → End → ℕ → Type 0
-      E e f u = Either lists base parent completed has wood e f x u
+      E e f u = Either lists base parent triangulation has wood e f x u
 
       P : ℕ → Type 0
       P z = E (out two) (into one) (entry_after x ws) ⊎ (HasDart lists x z × (kept z ≡ false) × E (out three) (into one) z)
@@ -96,24 +96,24 @@ module _ (lists : Lists) (base : Dart) (parent : Colour → ℕ → ℕ) (comple
 
       closed : (z : ℕ) → P z → P (entry_after z (list_of lists x))
       closed z (inl g) = inl g
-      closed z (inr (d, gone, inl e)) = next z d gone (after_out_three lists base parent completed has wood x z i d e)
-      closed z (inr (d, gone, inr e)) = next z d gone (after_into_one lists base parent completed has wood x z i d e)
+      closed z (inr (d, gone, inl e)) = next z d gone (after_out_three lists base parent triangulation has wood x z i d e)
+      closed z (inr (d, gone, inr e)) = next z d gone (after_into_one lists base parent triangulation has wood x z i d e)
 
   -- One between its parents of colours one and two can be taken off.
   module _ (v : ℕ) (i : IsInner lists base v) (on : Contains ws v) (p : ℕ) (p_on : Contains ws p) (to : entry_after p ws ≡ v) (is_one : parent one v ≡ p) (is_two : parent two v ≡ entry_after v ws) where
-    not_before : (c : Colour) (z : ℕ) → At lists base parent completed has wood (into c) v z → ¬ IsOuterDart ws z v
+    not_before : (c : Colour) (z : ℕ) → At lists base parent triangulation has wood (into c) v z → ¬ IsOuterDart ws z v
     not_before c z a o =
         let e : z ≡ p = entry_after-injective ws z p cycle.distinct o.0 p_on (o.1 ∙ sym to) in
-        let same : out one ≡ into c = one_end lists base parent completed has wood v z i (out one) (into c) (is_one ∙ sym e) a in
+        let same : out one ≡ into c = one_end lists base parent triangulation has wood v z i (out one) (into c) (is_one ∙ sym e) a in
         different c same
       where
         different : (c : Colour) → out one ≢ into c
         different c e = cc
 
     abbrev Kept : Colour → ℕ → Type 0
-    Kept c z = HasDart lists v z × (kept z ≡ true) × At lists base parent completed has wood (into c) v z
+    Kept c z = HasDart lists v z × (kept z ≡ true) × At lists base parent triangulation has wood (into c) v z
 
-    on_from : (c : Colour) (z : ℕ) → Kept c z → At lists base parent completed has wood (into c) v (follows lists v z) → Kept c (follows lists v z)
+    on_from : (c : Colour) (z : ℕ) → Kept c z → At lists base parent triangulation has wood (into c) v (follows lists v z) → Kept c (follows lists v z)
     on_from c z h a =
         elim (cases_Bool (kept (follows lists v z))) [
           | inl k ↦ (HasDart-follows lists v z h.0, k, a)
@@ -122,7 +122,7 @@ module _ (lists : Lists) (base : Dart) (parent : Colour → ℕ → ℕ) (comple
 
     ones_on : (z : ℕ) → Kept one z → Kept one (entry_after z (list_of lists v))
     ones_on z h =
-        elim (after_into_one lists base parent completed has wood v z i h.0 h.2) [
+        elim (after_into_one lists base parent triangulation has wood v z i h.0 h.2) [
           | inr a ↦ on_from one z h a
           | inl a ↦
               let d = restricted-new lists kept v z h.0 (is_left v on) h.1 in
@@ -136,19 +136,19 @@ module _ (lists : Lists) (base : Dart) (parent : Colour → ℕ → ℕ) (comple
 
     twos_on : (z : ℕ) → Kept two z → Kept two (entry_after z (list_of lists v))
     twos_on z h =
-        elim (after_into_two lists base parent completed has wood v z i h.0 h.2) [
+        elim (after_into_two lists base parent triangulation has wood v z i h.0 h.2) [
           | inr a ↦ on_from two z h a
           | inl a ↦ absurd (not_before two z h.2 (gap_begin v z on h.0 h.1 (ap kept (sym a) ∙ state.outside v i on)))
         ]
 
     none : (c : Colour) → ((z : ℕ) → Kept c z → Kept c (entry_after z (list_of lists v))) → (u : ℕ) → IsInner lists base u → kept u ≡ true → parent c u ≢ v
     none c closed u j k e =
-        let d = completed.simple.both_ways u v (subst (HasDart lists u) e (wood.edges c u j)) in
-        let end = entries_closed (Kept c) (list_of lists v) u (parent three v) (completed.simple.no_repeat v i.0) d.1 (d, k, (j, e)) closed (wood.edges three v i).1 in
+        let d = triangulation.simple.both_ways u v (subst (HasDart lists u) e (wood.edges c u j)) in
+        let end = entries_closed (Kept c) (list_of lists v) u (parent three v) (triangulation.simple.no_repeat v i.0) d.1 (d, k, (j, e)) closed (wood.edges three v i).1 in
         not_both (parent three v) end.1 (state.outside v i on)
 
-    ripe : IsRipe lists base parent kept v
-    ripe = record {
+    removable_in_wood : IsRemovableInWood lists base parent kept v
+    removable_in_wood = record {
       inner = i;
       here = is_left v on;
       three_off = state.outside v i on;
@@ -157,8 +157,8 @@ module _ (lists : Lists) (base : Dart) (parent : Colour → ℕ → ℕ) (comple
     }
 
   -- THE LEMMA
-  pub some_ripe : (v : ℕ) × IsRipe lists base parent kept v
-  some_ripe =
+  pub some_removable_in_wood : (v : ℕ) × IsRemovableInWood lists base parent kept v
+  some_removable_in_wood =
       elim (entries_closed P ws first t cycle.distinct first_in (inr start) closed (last_on map s t ws simple cycle)) [
         | inl g ↦ g
         | inr h ↦ absurd (h.0.1 two refl)
@@ -174,7 +174,7 @@ module _ (lists : Lists) (base : Dart) (parent : Colour → ℕ → ℕ) (comple
       first_in = Contains-entry_after s ws s_in
 
       Goal : Type 0
-      Goal = (v : ℕ) × IsRipe lists base parent kept v
+      Goal = (v : ℕ) × IsRemovableInWood lists base parent kept v
 
       From : ℕ → Type 0
       From z = IsInner lists base z × Contains ws z × ((p : ℕ) × Contains ws p × (entry_after p ws ≡ z) × (parent one z ≡ p))
@@ -186,7 +186,7 @@ module _ (lists : Lists) (base : Dart) (parent : Colour → ℕ → ℕ) (comple
       old = restricted-old lists kept s first (cycle.darts s s_in)
 
       not_root : (c : Colour) → first ≢ root lists base c
-      not_root one e = completed.simple.no_loop s first old.0 e
+      not_root one e = triangulation.simple.no_loop s first old.0 e
       not_root two e =
           let l = cycle.long in
           let short = two_entries ws s t cycle.distinct s_in e (next-last map s t ws simple cycle) in
@@ -194,10 +194,10 @@ module _ (lists : Lists) (base : Dart) (parent : Colour → ℕ → ℕ) (comple
       not_root three e = not_both first old.2 (ap kept e ∙ state.root_gone)
 
       inner : IsInner lists base first
-      inner = (completed.simple.in_range s first old.0, not_root)
+      inner = (triangulation.simple.in_range s first old.0, not_root)
 
       start : From first
-      start = let e = some_end lists base parent completed has wood first s inner (completed.simple.both_ways s first old.0) in (inner, first_in, (s, s_in, refl, by_end e.0 e.1))
+      start = let e = some_end lists base parent triangulation has wood first s inner (triangulation.simple.both_ways s first old.0) in (inner, first_in, (s, s_in, refl, by_end e.0 e.1))
         where
           by_end : (e : End) → IsEndAt lists base parent e first s → parent one first ≡ s
           by_end (out c) e = subst (λ c. parent c first ≡ s) (wood.own_root c one first inner e) e
@@ -207,6 +207,6 @@ module _ (lists : Lists) (base : Dart) (parent : Colour → ℕ → ℕ) (comple
       closed z (inl g) = inl g
       closed z (inr h) =
           elim (goes_on z h.0 h.1) [
-            | inl e ↦ inl (z, ripe z h.0 h.1 h.2.0 h.2.1 h.2.2 h.2.3 e)
+            | inl e ↦ inl (z, removable_in_wood z h.0 h.1 h.2.0 h.2.1 h.2.2 h.2.3 e)
             | inr e ↦ inr (e.0, Contains-entry_after z ws h.1, (z, h.1, refl, e.1))
           ]

@@ -7,7 +7,7 @@ use Rattle.std.proofs.lemmas.List.{get_or_default}
 use Rattle.classes.specs.Classes.{count_below}
 use Rattle.map_lists.specs.Lists.{Lists}
 use Rattle.map_theory.specs.Maps.{Dart, HasDart, follows}
-use Rattle.plane_laws.specs.Completed.{IsCompleted}
+use Rattle.plane_laws.specs.Triangulations.{IsTriangulation}
 use Rattle.plane_peeling.specs.Restricted.{kept_but}
 use Rattle.plane_peeling.proofs.RestrictedMaps.{kept_but-old, kept_but-new}
 use Rattle.plane_peeling.proofs.Rings.{each_of_three}
@@ -19,10 +19,10 @@ use Rattle.canon_order.proofs.Counters.{same_place, all_of_them}
 use Rattle.wood_runs.specs.Parents.{Colour, one, two, three}
 use Rattle.wood_laws.specs.Woods.{root, IsInner, IsWood}
 use Rattle.wood_laws.specs.Arranged.{IsBefore, IsArranged}
-use Rattle.wood_laws.proofs.Peeled.{IsWoodLeft, IsRipe, more}
+use Rattle.wood_laws.proofs.Peeled.{IsWoodLeft, IsRemovableInWood, more}
 use Rattle.wood_laws.proofs.Begin.{all, all_has, all_only, roots, whole, whole_count, begin}
 
-module _ (lists : Lists) (base : Dart) (parent : Colour → ℕ → ℕ) (at : List ℕ) (completed : IsCompleted lists) (has : HasDart lists base.0 base.1) (wood : IsWood lists base parent) (a : IsArranged lists base parent at) where
+module _ (lists : Lists) (base : Dart) (parent : Colour → ℕ → ℕ) (at : List ℕ) (triangulation : IsTriangulation lists) (has : HasDart lists base.0 base.1) (wood : IsWood lists base parent) (a : IsArranged lists base parent at) where
   abbrev n : ℕ
   n = length lists
 
@@ -93,7 +93,7 @@ module _ (lists : Lists) (base : Dart) (parent : Colour → ℕ → ℕ) (at : L
       let parts : at ≡ name 0 ∷ name 1 ∷ name 2 ∷ drop 3 at = drop-cons at 0 0 (omega arith) ∙ ap (λ l. name 0 ∷ l) (drop-cons at 1 0 (omega arith) ∙ ap (λ l. name 1 ∷ l) (drop-cons at 2 0 (omega arith))) in
       let whole_is : at ≡ s ∷ t ∷ follows lists t s ∷ rest =
       parts ∙ (ap (λ z. z ∷ name 1 ∷ name 2 ∷ drop 3 at) a.first ∙ (ap (λ z. s ∷ z ∷ name 2 ∷ drop 3 at) a.second ∙ (ap (λ z. s ∷ t ∷ z ∷ drop 3 at) third ∙ ap (λ l. s ∷ t ∷ follows lists t s ∷ l) (sym h.behind)))) in
-      subst (IsCanonicalOrder lists base) (sym whole_is) (IsLeft-three lists s t kept ws rest completed left count)
+      subst (IsCanonicalOrder lists base) (sym whole_is) (IsLeft-three lists s t kept ws rest triangulation left count)
 
   -- the last that is left is the next to be taken off
   module _ (kept : ℕ → Bool) (ws rest : List ℕ) (m : ℕ) (some : 3 ≤ m) (state : IsWoodLeft lists base parent kept ws rest) (h : AreLeft kept rest (suc m)) where
@@ -126,8 +126,8 @@ module _ (lists : Lists) (base : Dart) (parent : Colour → ℕ → ℕ) (at : L
         let b = before_at (parent c u) u m (omega arith) (before u i) (sym e) in
         true≢false (sym k' ∙ behind_off u b.0 b.1 b.2 b.3)
 
-    ripe : IsRipe lists base parent kept v
-    ripe = record {
+    removable_in_wood : IsRemovableInWood lists base parent kept v
+    removable_in_wood = record {
       inner = inner;
       here = h.each m (omega arith);
       three_off =
@@ -157,29 +157,29 @@ module _ (lists : Lists) (base : Dart) (parent : Colour → ℕ → ℕ) (at : L
       let v : ℕ = name (3 + k) in
       let e : 3 + suc k ≡ suc (3 + k) = omega arith in
       let h' = subst (AreLeft kept rest) e h in
-      let next = more lists base parent completed wood kept ws rest state v (ripe kept ws rest (3 + k) (omega arith) state h') (omega arith) in
+      let next = more lists base parent triangulation wood kept ws rest state v (removable_in_wood kept ws rest (3 + k) (omega arith) state h') (omega arith) in
       let less = next.2 in
       order_from k (kept_but kept v) next.0 (v ∷ rest) next.1 (omega arith) (fewer kept ws rest (3 + k) (omega arith) state h')
 
   -- THE LEMMA
   pub arranged_is_order : IsCanonicalOrder lists base at
   arranged_is_order =
-      let some = completed.some in
+      let some = triangulation.some in
       let count = a.count in
       elim (cases_lt 3 n) [
         | inr l ↦
             let three_in : n ≡ 3 = omega arith in
-            order_of_three (all lists base parent completed has wood) (roots lists base parent completed has wood) [] (whole lists base parent completed has wood) (whole_count lists base parent completed has wood ∙ three_in) record {
+            order_of_three (all lists base parent triangulation has wood) (roots lists base parent triangulation has wood) [] (whole lists base parent triangulation has wood) (whole_count lists base parent triangulation has wood ∙ three_in) record {
               few = omega arith;
               behind = sym (drop_of_length-le at {i = 3} (omega arith));
-              only = λ u e. let p = placed u (all_only lists base parent completed has wood u e) in let m = p.1 in (p.0, omega arith, p.2);
-              each = λ i m. all_has lists base parent completed has wood (name i) (a.vertices i 0 (omega arith));
+              only = λ u e. let p = placed u (all_only lists base parent triangulation has wood u e) in let m = p.1 in (p.0, omega arith, p.2);
+              each = λ i m. all_has lists base parent triangulation has wood (name i) (a.vertices i 0 (omega arith));
             }
         | inl l ↦
-            let start = begin lists base parent completed has wood l in
+            let start = begin lists base parent triangulation has wood l in
             let less = start.2 in
             let w : ℕ = root lists base three in
-            let every : ℕ → Bool = all lists base parent completed has wood in
+            let every : ℕ → Bool = all lists base parent triangulation has wood in
             let k : 3 + (n - 4) ≡ n - 1 = omega arith in
             let past : drop (suc (n - 1)) at ≡ [] = drop_of_length-le at {i = suc (n - 1)} (omega arith) in
             order_from (n - 4) (kept_but every w) start.0 (w ∷ []) start.1 (omega arith) record {
@@ -187,10 +187,10 @@ module _ (lists : Lists) (base : Dart) (parent : Colour → ℕ → ℕ) (at : L
               behind = ap₂ (λ z y. z ∷ y) (sym a.last) (sym past) ∙ (sym (drop-cons at (n - 1) 0 (omega arith)) ∙ ap (λ k. drop k at) (sym k));
               only = λ u e.
                   let o = kept_but-old every w u e in
-                  let p = placed u (all_only lists base parent completed has wood u o.0) in
+                  let p = placed u (all_only lists base parent triangulation has wood u o.0) in
                   let m = p.1 in
                   let ne : p.0 ≢ n - 1 = λ q. o.1 (sym p.2 ∙ ap name q ∙ a.last) in
                   (p.0, omega arith, p.2);
-              each = λ i m. kept_but-new every w (name i) (all_has lists base parent completed has wood (name i) (a.vertices i 0 (omega arith))) (λ e. let z = once i (n - 1) (omega arith) (omega arith) (e ∙ sym a.last) in omega arith);
+              each = λ i m. kept_but-new every w (name i) (all_has lists base parent triangulation has wood (name i) (a.vertices i 0 (omega arith))) (λ e. let z = once i (n - 1) (omega arith) (omega arith) (e ∙ sym a.last) in omega arith);
             }
       ]

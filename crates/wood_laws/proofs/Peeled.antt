@@ -5,13 +5,13 @@ use Rattle.classes.specs.Classes.{count_below}
 use Rattle.map_lists.specs.Lists.{Lists}
 use Rattle.map_theory.specs.Maps.{Dart, HasDart, IsSimpleMap, entry_after}
 use Rattle.map_theory.proofs.DartLemmas.{Contains-entry_after, two_entries}
-use Rattle.plane_laws.specs.Completed.{IsCompleted}
+use Rattle.plane_laws.specs.Triangulations.{IsTriangulation}
 use Rattle.plane_peeling.specs.Restricted.{restricted, kept_but}
-use Rattle.plane_peeling.specs.NearTriangulations.{IsFree, IsOuterCycle}
+use Rattle.plane_peeling.specs.NearTriangulations.{IsRemovable, IsOuterCycle}
 use Rattle.plane_peeling.proofs.RestrictedMaps.{restricted-old, kept_but-old, kept_but-new, kept_but-itself}
 use Rattle.plane_peeling.proofs.OuterCycles.{entry_before}
 use Rattle.plane_peeling.proofs.Covers.{cycle_after}
-use Rattle.plane_peeling.proofs.Steps.{free_taken_off}
+use Rattle.plane_peeling.proofs.Steps.{removable_taken_off}
 use Rattle.canon_order.specs.Lefts.{IsLeft}
 use Rattle.canon_order.proofs.Lefts.{IsLeft-taken}
 use Rattle.wood_runs.specs.Parents.{Colour, one, two, three, End, out, into}
@@ -27,7 +27,7 @@ pub record IsWoodLeft (lists : Lists) (base : Dart) (parent : Colour → ℕ →
   pub outside : (v : ℕ) → IsInner lists base v → Contains ws v → kept (parent three v) ≡ false
 
 -- v is the next that can be taken off: its parent of colour three was, and so were those of which it is the parent of colour one or two
-pub record IsRipe (lists : Lists) (base : Dart) (parent : Colour → ℕ → ℕ) (kept : ℕ → Bool) (v : ℕ) : Type 0 where
+pub record IsRemovableInWood (lists : Lists) (base : Dart) (parent : Colour → ℕ → ℕ) (kept : ℕ → Bool) (v : ℕ) : Type 0 where
   pub inner : IsInner lists base v
   pub here : kept v ≡ true
   pub three_off : kept (parent three v) ≡ false
@@ -37,7 +37,7 @@ pub record IsRipe (lists : Lists) (base : Dart) (parent : Colour → ℕ → ℕ
 pub kept_but-false : (kept : ℕ → Bool) (v u : ℕ) → kept u ≡ false → kept_but kept v u ≡ false
 kept_but-false kept v u e = false_from_ne_true (kept_but kept v u) (λ t. true≢false (sym (kept_but-old kept v u t).0 ∙ e))
 
-module _ (lists : Lists) (base : Dart) (parent : Colour → ℕ → ℕ) (completed : IsCompleted lists) (wood : IsWood lists base parent) (kept : ℕ → Bool) (ws rest : List ℕ) (state : IsWoodLeft lists base parent kept ws rest) where
+module _ (lists : Lists) (base : Dart) (parent : Colour → ℕ → ℕ) (triangulation : IsTriangulation lists) (wood : IsWood lists base parent) (kept : ℕ → Bool) (ws rest : List ℕ) (state : IsWoodLeft lists base parent kept ws rest) where
   abbrev pub s : ℕ
   s = base.1
 
@@ -50,23 +50,23 @@ module _ (lists : Lists) (base : Dart) (parent : Colour → ℕ → ℕ) (comple
   abbrev not_both : (u : ℕ) → kept u ≡ true → kept u ≡ false → ⊥
   not_both u a b = true≢false (sym a ∙ b)
 
-  module _ (v : ℕ) (ripe : IsRipe lists base parent kept v) where
+  module _ (v : ℕ) (removable_in_wood : IsRemovableInWood lists base parent kept v) where
     pub on : Contains ws v
-    on = state.left.peeled.border v (parent three v) ripe.here (wood.edges three v ripe.inner) ripe.three_off
+    on = state.left.peeled.border v (parent three v) removable_in_wood.here (wood.edges three v removable_in_wood.inner) removable_in_wood.three_off
 
     -- a neighbour that is left is a parent of colour one or two, or one of which v is the parent of colour three
     way : (u : ℕ) → HasDart map v u → (u ≡ parent one v) ⊎ ((u ≡ parent two v) ⊎ (IsInner lists base u × (parent three u ≡ v)))
     way u d =
         let old = restricted-old lists kept v u d in
-        let o = wood.order v u ripe.inner old.0 in
+        let o = wood.order v u removable_in_wood.inner old.0 in
         by_end o.second o.entry old.2
       where
         by_end : (e : End) → IsEndAt lists base parent e v u → kept u ≡ true → (u ≡ parent one v) ⊎ ((u ≡ parent two v) ⊎ (IsInner lists base u × (parent three u ≡ v)))
         by_end (out one) e k = inl (sym e)
         by_end (out two) e k = inr (inl (sym e))
-        by_end (out three) e k = absurd (not_both u k (ap kept (sym e) ∙ ripe.three_off))
-        by_end (into one) e k = absurd (ripe.ones_off u e.0 k e.1)
-        by_end (into two) e k = absurd (ripe.twos_off u e.0 k e.1)
+        by_end (out three) e k = absurd (not_both u k (ap kept (sym e) ∙ removable_in_wood.three_off))
+        by_end (into one) e k = absurd (removable_in_wood.ones_off u e.0 k e.1)
+        by_end (into two) e k = absurd (removable_in_wood.twos_off u e.0 k e.1)
         by_end (into three) e k = inr (inr e)
 
     -- one on the cycle is a parent
@@ -75,7 +75,7 @@ module _ (lists : Lists) (base : Dart) (parent : Colour → ℕ → ℕ) (comple
         elim (way u d) [
           | inl e ↦ inl e
           | inr (inl e) ↦ inr e
-          | inr (inr h) ↦ absurd (not_both v ripe.here (ap kept (sym h.1) ∙ state.outside u h.0 c))
+          | inr (inr h) ↦ absurd (not_both v removable_in_wood.here (ap kept (sym h.1) ∙ state.outside u h.0 c))
         ]
 
     cycle : IsOuterCycle map s t ws
@@ -127,11 +127,11 @@ module _ (lists : Lists) (base : Dart) (parent : Colour → ℕ → ℕ) (comple
           | inr e ↦ subst (Contains ws) (sym e) q_on
         ]
 
-    pub free : IsFree map s t ws v
-    free = record {
+    pub removable : IsRemovable map s t ws v
+    removable = record {
       on = on;
-      not_first = ripe.inner.1 one;
-      not_last = ripe.inner.1 two;
+      not_first = removable_in_wood.inner.1 one;
+      not_last = removable_in_wood.inner.1 two;
       chordless = λ u d c. elim (is_neighbour u (side u d c)) [
         | inl e ↦ inl (ap (λ z. entry_after z ws) e ∙ before.2)
         | inr e ↦ inr (sym e)
@@ -141,19 +141,19 @@ module _ (lists : Lists) (base : Dart) (parent : Colour → ℕ → ℕ) (comple
     -- with v taken off too
     pub more : 3 < count_below kept (length lists) → (ws' : List ℕ) × IsWoodLeft lists base parent (kept_but kept v) ws' (v ∷ rest) × (count_below kept (length lists) ≡ count_below (kept_but kept v) (length lists) + 1)
     more many =
-        let taken = free_taken_off lists kept s t ws v completed state.left.peeled many free in
+        let taken = removable_taken_off lists kept s t ws v triangulation state.left.peeled many removable in
         let fan = taken.0 in
         let off = fan.5 in
         let less = taken.1 in
         let less_kept : ℕ → Bool = kept_but kept v in (
           fan.0 ++ (fan.1 ∷ fan.2 ++ fan.3 ∷ fan.4),
           record {
-            left = IsLeft-taken lists s t kept ws rest completed state.left v _ _ _ _ _ on off less (omega arith);
+            left = IsLeft-taken lists s t kept ws rest triangulation state.left v _ _ _ _ _ on off less (omega arith);
             root_gone = kept_but-false kept v (root lists base three) state.root_gone;
-            one_left = λ u i k. let o = kept_but-old kept v u k in kept_but-new kept v (parent one u) (state.one_left u i o.0) (ripe.ones_off u i o.0);
-            two_left = λ u i k. let o = kept_but-old kept v u k in kept_but-new kept v (parent two u) (state.two_left u i o.0) (ripe.twos_off u i o.0);
+            one_left = λ u i k. let o = kept_but-old kept v u k in kept_but-new kept v (parent one u) (state.one_left u i o.0) (removable_in_wood.ones_off u i o.0);
+            two_left = λ u i k. let o = kept_but-old kept v u k in kept_but-new kept v (parent two u) (state.two_left u i o.0) (removable_in_wood.twos_off u i o.0);
             three_gone = λ u i k. kept_but-false kept v (parent three u) (elim (cases_eq u v) [
-              | inl e ↦ ap (λ z. kept (parent three z)) e ∙ ripe.three_off
+              | inl e ↦ ap (λ z. kept (parent three z)) e ∙ removable_in_wood.three_off
               | inr ne ↦ state.three_gone u i (false_from_ne_true (kept u) (λ t. true≢false (sym (kept_but-new kept v u t ne) ∙ k)))
             ]);
             outside = λ u i c. elim ((cycle_after lists kept s t ws v fan.0 fan.1 fan.2 fan.3 fan.4 state.left.peeled off u).0 c) [

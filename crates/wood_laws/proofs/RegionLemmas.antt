@@ -5,7 +5,7 @@ use Rattle.std.proofs.lemmas.List.{get_or_default}
 use Rattle.map_lists.specs.Lists.{Lists}
 use Rattle.map_theory.specs.Maps.{Dart, HasDart, follows}
 use Rattle.map_theory.proofs.DartLemmas.{HasDart-follows}
-use Rattle.plane_laws.specs.Completed.{IsCompleted}
+use Rattle.plane_laws.specs.Triangulations.{IsTriangulation}
 use Rattle.plane_laws.proofs.Triangles.{triangles_where_met}
 use Rattle.plane_peeling.specs.Restricted.{IsFaceOfThree, IsDartOfThree}
 use Rattle.plane_peeling.proofs.OuterCycles.{IsFaceOfThree-triangle}
@@ -32,7 +32,7 @@ use Rattle.wood_laws.specs.Regions.{IsOnPath, IsPathEdge, IsBoundaryEdge, on_nex
 use Rattle.wood_laws.proofs.ColourNumbers.{flips_next, flips_previous, same_own, same_off, cases_colour, number_some, flips_outer, flips_outer_back, same_outer, same_outer_back}
 use Rattle.wood_laws.proofs.EdgeKinds.{kind_out, kind_into, outer_kind}
 
-module _ (lists : Lists) (base : Dart) (at : List ℕ) (steps : ℕ → Step) (parent : Colour → ℕ → ℕ) (completed : IsCompleted lists) (order : IsCanonicalOrder lists base at) (run : IsOrderRun lists base at order.cycle steps) (parents : AreParentsOf at steps parent) where
+module _ (lists : Lists) (base : Dart) (at : List ℕ) (steps : ℕ → Step) (parent : Colour → ℕ → ℕ) (triangulation : IsTriangulation lists) (order : IsCanonicalOrder lists base at) (run : IsOrderRun lists base at order.cycle steps) (parents : AreParentsOf at steps parent) where
   abbrev n : ℕ
   n = length at - 2
 
@@ -40,13 +40,13 @@ module _ (lists : Lists) (base : Dart) (at : List ℕ) (steps : ℕ → Step) (p
   name k = get_or at k 0
 
   size' : length at ≡ n + 2
-  size' = size lists base at steps parent completed order run parents
+  size' = size lists base at steps parent triangulation order run parents
 
   some' : 0 < n
-  some' = let e = some lists base at steps parent completed order run parents in omega arith
+  some' = let e = some lists base at steps parent triangulation order run parents in omega arith
 
   once' : (i j : ℕ) → i < n + 2 → j < n + 2 → name i ≡ name j → i ≡ j
-  once' i j l m e = let s = size' in once lists base at steps parent completed order run parents i j (omega arith) (omega arith) e
+  once' i j l m e = let s = size' in once lists base at steps parent triangulation order run parents i j (omega arith) (omega arith) e
 
   -- the rank of any vertex
   pub rank_of : (v : ℕ) → v < length lists → (k : ℕ) × (k < n + 2) × (name k ≡ v)
@@ -62,30 +62,30 @@ module _ (lists : Lists) (base : Dart) (at : List ℕ) (steps : ℕ → Step) (p
   name_in k l = let c = order.count in let s = size' in let v = order.vertices k 0 (omega arith) in omega arith
 
   inner_name : (k : ℕ) → IsInside n k → IsInner lists base (name k)
-  inner_name k i = inner_at lists base at steps parent completed order run parents k i.0 i.1
+  inner_name k i = inner_at lists base at steps parent triangulation order run parents k i.0 i.1
 
   pub rank_inner : (k : ℕ) → k < n + 2 → IsInner lists base (name k) → IsInside n k
   rank_inner k l inner =
-      let r = ranked lists base at steps parent completed order run parents (name k) inner in
+      let r = ranked lists base at steps parent triangulation order run parents (name k) inner in
       let m = r.2 in
       let e = once' k r.0 l (omega arith) (sym r.3) in
       (omega (arith, e, r.1), omega (arith, e, r.2))
 
   pub root_name : (c : Colour) → (root_at n c < n + 2) × (name (root_at n c) ≡ root lists base c)
-  root_name one = (omega arith, root_one lists base at steps parent completed order run parents)
-  root_name two = (omega arith, root_two lists base at steps parent completed order run parents)
-  root_name three = (omega arith, root_three lists base at steps parent completed order run parents)
+  root_name one = (omega arith, root_one lists base at steps parent triangulation order run parents)
+  root_name two = (omega arith, root_two lists base at steps parent triangulation order run parents)
+  root_name three = (omega arith, root_three lists base at steps parent triangulation order run parents)
 
   -- the parent of an inner rank
   pub parent_of : (c : Colour) (k : ℕ) (i : IsInside n k) → HasOneParent c steps n k
-  parent_of c k i = has_one lists base at steps parent completed order run parents c k i.0 i.1
+  parent_of c k i = has_one lists base at steps parent triangulation order run parents c k i.0 i.1
 
   pub parent_name : (c : Colour) (k : ℕ) (i : IsInside n k) → parent c (name k) ≡ name (parent_of c k i).parent
   unfolding parent_of
-  parent_name c k i = parent_is lists base at steps parent completed order run parents c k i.0 i.1
+  parent_name c k i = parent_is lists base at steps parent triangulation order run parents c k i.0 i.1
 
   pub parent_small : (c : Colour) (k : ℕ) (i : IsInside n k) → (parent_of c k i).parent < n + 2
-  parent_small c k i = let s = size' in let l = rank_small lists base at steps parent completed order run parents c k (parent_of c k i).parent (parent_of c k i).is_parent in omega arith
+  parent_small c k i = let s = size' in let l = rank_small lists base at steps parent triangulation order run parents c k (parent_of c k i).parent (parent_of c k i).is_parent in omega arith
 
   pub parent_inside : (c : Colour) (k : ℕ) (i : IsInside n k) → IsInside n (parent_of c k i).parent ⊎ ((parent_of c k i).parent ≡ root_at n c)
   parent_inside c k i =
@@ -167,10 +167,10 @@ module _ (lists : Lists) (base : Dart) (at : List ℕ) (steps : ℕ → Step) (p
       let o = (run.run 0 some').order in
       let w = (run.run 0 some').within in
       let first : (steps 0).first ≡ 0 = omega arith in
-      let f = (face_at lists base at steps parent completed order run parents 0 0 some' (omega arith) (omega arith)).dart in
-      let d : HasDart lists base.1 base.0 = subst (λ x. HasDart lists x base.0) (root_one lists base at steps parent completed order run parents) (subst (HasDart lists (name 0)) (root_two lists base at steps parent completed order run parents) f) in
-      let back = completed.simple.both_ways base.1 base.0 d in
-      IsFaceOfThree-triangle lists base.0 base.1 back (triangles_where_met lists completed.simple completed.plane completed.some completed.edges base back)
+      let f = (face_at lists base at steps parent triangulation order run parents 0 0 some' (omega arith) (omega arith)).dart in
+      let d : HasDart lists base.1 base.0 = subst (λ x. HasDart lists x base.0) (root_one lists base at steps parent triangulation order run parents) (subst (HasDart lists (name 0)) (root_two lists base at steps parent triangulation order run parents) f) in
+      let back = triangulation.simple.both_ways base.1 base.0 d in
+      IsFaceOfThree-triangle lists base.0 base.1 back (triangles_where_met lists triangulation.simple triangulation.plane triangulation.some triangulation.edges base back)
 
   -- the face of a made dart goes on with one that has the same shade
   module _ (v : ℕ) (inside : IsInside n v) where
@@ -208,7 +208,7 @@ module _ (lists : Lists) (base : Dart) (at : List ℕ) (steps : ℕ → Step) (p
           a_in = h.b_in;
           b_in = omega arith;
           a_is = h.b_is;
-          b_is = root_three lists base at steps parent completed order run parents ∙ ap₂ (follows lists) (sym (root_one lists base at steps parent completed order run parents) ∙ ap name (sym o.1) ∙ h.b_is) (sym (root_two lists base at steps parent completed order run parents) ∙ ap name (sym o.0) ∙ h.a_is);
+          b_is = root_three lists base at steps parent triangulation order run parents ∙ ap₂ (follows lists) (sym (root_one lists base at steps parent triangulation order run parents) ∙ ap name (sym o.1) ∙ h.b_is) (sym (root_two lists base at steps parent triangulation order run parents) ∙ ap name (sym o.0) ∙ h.a_is);
           shade = outer two (o.1, refl) e;
         }
         outer_on two o e = record {
@@ -217,7 +217,7 @@ module _ (lists : Lists) (base : Dart) (at : List ℕ) (steps : ℕ → Step) (p
           a_in = h.b_in;
           b_in = omega arith;
           a_is = h.b_is;
-          b_is = root_two lists base at steps parent completed order run parents ∙ sym outer_face.third ∙ ap₂ (follows lists) (sym (root_three lists base at steps parent completed order run parents) ∙ ap name (sym o.1) ∙ h.b_is) (sym (root_one lists base at steps parent completed order run parents) ∙ ap name (sym o.0) ∙ h.a_is);
+          b_is = root_two lists base at steps parent triangulation order run parents ∙ sym outer_face.third ∙ ap₂ (follows lists) (sym (root_three lists base at steps parent triangulation order run parents) ∙ ap name (sym o.1) ∙ h.b_is) (sym (root_one lists base at steps parent triangulation order run parents) ∙ ap name (sym o.0) ∙ h.a_is);
           shade = outer one (o.1, refl) e;
         }
         outer_on one o e = record {
@@ -226,7 +226,7 @@ module _ (lists : Lists) (base : Dart) (at : List ℕ) (steps : ℕ → Step) (p
           a_in = h.b_in;
           b_in = omega arith;
           a_is = h.b_is;
-          b_is = root_one lists base at steps parent completed order run parents ∙ sym outer_face.round ∙ ap₂ (follows lists) (sym (root_two lists base at steps parent completed order run parents) ∙ ap name (sym o.1) ∙ h.b_is) (sym (root_three lists base at steps parent completed order run parents) ∙ ap name (sym o.0) ∙ h.a_is);
+          b_is = root_one lists base at steps parent triangulation order run parents ∙ sym outer_face.round ∙ ap₂ (follows lists) (sym (root_two lists base at steps parent triangulation order run parents) ∙ ap name (sym o.1) ∙ h.b_is) (sym (root_three lists base at steps parent triangulation order run parents) ∙ ap name (sym o.0) ∙ h.a_is);
           shade = outer three (o.1, refl) e;
         }
 
@@ -402,7 +402,7 @@ module _ (lists : Lists) (base : Dart) (at : List ℕ) (steps : ℕ → Step) (p
       pub reaches_known : (k x y : ℕ) (odd : Bool) → ReachesBy lists base parent c (name v) k x y odd → Known x y odd
       reaches_known zero x y odd (ex, ey, e) = record {
         shade = 0;
-        named = record { a = 1; b = 0; a_in = omega arith; b_in = omega arith; a_is = root_two lists base at steps parent completed order run parents ∙ sym ex; b_is = root_one lists base at steps parent completed order run parents ∙ sym ey; shade = outer three (refl, refl) refl };
+        named = record { a = 1; b = 0; a_in = omega arith; b_in = omega arith; a_is = root_two lists base at steps parent triangulation order run parents ∙ sym ex; b_is = root_one lists base at steps parent triangulation order run parents ∙ sym ey; shade = outer three (refl, refl) refl };
         same = e ∙ sym (ne_eqb 0 (number c) (λ z. let m = number_some c in omega arith));
       }
       reaches_known (suc k) x y odd (x', y', odd', r, g) = Known-on x' y' odd' x y odd (reaches_known k x' y' odd' r) g
@@ -456,12 +456,12 @@ module _ (lists : Lists) (base : Dart) (at : List ℕ) (steps : ℕ → Step) (p
       met_base = (false, (0, (refl, refl, refl)))
 
       met_first : Met (name 0) (name (suc n))
-      met_first = subst (λ x. Met x (name (suc n))) (sym (root_one lists base at steps parent completed order run parents)) (subst (Met base.1) (sym (root_three lists base at steps parent completed order run parents)) (met_on base.0 base.1 met_base))
+      met_first = subst (λ x. Met x (name (suc n))) (sym (root_one lists base at steps parent triangulation order run parents)) (subst (Met base.1) (sym (root_three lists base at steps parent triangulation order run parents)) (met_on base.0 base.1 met_base))
 
       met_second : Met (name (suc n)) (name 1)
       met_second =
           let m = met_on base.1 (follows lists base.1 base.0) (met_on base.0 base.1 met_base) in
-          subst (λ x. Met x (name 1)) (sym (root_three lists base at steps parent completed order run parents)) (subst (Met (follows lists base.1 base.0)) (outer_face.third ∙ sym (root_two lists base at steps parent completed order run parents)) m)
+          subst (λ x. Met x (name 1)) (sym (root_three lists base at steps parent triangulation order run parents)) (subst (Met (follows lists base.1 base.0)) (outer_face.third ∙ sym (root_two lists base at steps parent triangulation order run parents)) m)
 
       met_made : (k i x y : ℕ) → k < n → IsDartOf steps k i x y → Met (name x) (name y)
       met_made =
@@ -516,7 +516,7 @@ module _ (lists : Lists) (base : Dart) (at : List ℕ) (steps : ℕ → Step) (p
           elim (cases_Bool m.0) [
             | inl e ↦ (y, d, subst (Reaches lists base parent c (name v) x y) e m.1)
             | inr e ↦
-                let back = completed.simple.both_ways x y d in
+                let back = triangulation.simple.both_ways x y d in
                 let m1 : ReachesBy lists base parent c (name v) (suc m.1.0) y x (not m.0) = (x, y, m.0, m.1.1, over refl refl b refl) in
                 let m2 : ReachesBy lists base parent c (name v) (suc (suc m.1.0)) x (follows lists x y) (not m.0) = (y, x, not m.0, m1, along refl refl refl) in
                 (follows lists x y, HasDart-follows lists x y d, subst (Reaches lists base parent c (name v) x (follows lists x y)) (ap not e) (suc (suc m.1.0), m2))
@@ -524,15 +524,15 @@ module _ (lists : Lists) (base : Dart) (at : List ℕ) (steps : ℕ → Step) (p
 
       -- a made dart is one of the map
       inner_edge : (d : Colour) (k : ℕ) (i : IsInside n k) → HasDart lists (name k) (parent d (name k))
-      inner_edge d k i = edges lists base at steps parent completed order run parents d (name k) (inner_name k i)
+      inner_edge d k i = edges lists base at steps parent triangulation order run parents d (name k) (inner_name k i)
 
       second_dart : HasDart lists base.1 (follows lists base.1 base.0)
-      second_dart = HasDart-follows lists base.1 base.0 (completed.simple.both_ways base.0 base.1 outer_face.dart)
+      second_dart = HasDart-follows lists base.1 base.0 (triangulation.simple.both_ways base.0 base.1 outer_face.dart)
 
       outer_dart : (d : Colour) → HasDart lists (root lists base (previous d)) (root lists base (next d))
       outer_dart three = outer_face.dart
       outer_dart two = second_dart
-      outer_dart one = subst (HasDart lists (follows lists base.1 base.0)) outer_face.third (HasDart-follows lists (follows lists base.1 base.0) base.1 (completed.simple.both_ways base.1 (follows lists base.1 base.0) second_dart))
+      outer_dart one = subst (HasDart lists (follows lists base.1 base.0)) outer_face.third (HasDart-follows lists (follows lists base.1 base.0) base.1 (triangulation.simple.both_ways base.1 (follows lists base.1 base.0) second_dart))
 
       end_inside : (d : Colour) (w : ℕ) → (d ≡ next c) ⊎ (d ≡ previous c) → IsOnPath lists base parent d (name v) w → IsOnInside lists base parent c (name v) w
       end_inside d w side p =
@@ -547,7 +547,7 @@ module _ (lists : Lists) (base : Dart) (at : List ℕ) (steps : ℕ → Step) (p
                 ] in
                 subst (IsOnInside lists base parent c (name v)) e.1 (edge_inside (name j) (parent d (name j)) (inner_edge d j i) b)
             | inr r ↦ subst (IsOnInside lists base parent c (name v)) e.1 (subst (IsOnInside lists base parent c (name v)) (sym (ap name r ∙ (root_name d).1)) (elim side [
-              | inl z ↦ subst (λ d. IsOnInside lists base parent c (name v) (root lists base d)) (sym z) (edge_inside (root lists base (next c)) (root lists base (previous c)) (completed.simple.both_ways (root lists base (previous c)) (root lists base (next c)) (outer_dart c)) (on_outer (inl (refl, refl))))
+              | inl z ↦ subst (λ d. IsOnInside lists base parent c (name v) (root lists base d)) (sym z) (edge_inside (root lists base (next c)) (root lists base (previous c)) (triangulation.simple.both_ways (root lists base (previous c)) (root lists base (next c)) (outer_dart c)) (on_outer (inl (refl, refl))))
               | inr z ↦ subst (λ d. IsOnInside lists base parent c (name v) (root lists base d)) (sym z) (edge_inside (root lists base (previous c)) (root lists base (next c)) (outer_dart c) (on_outer (inr (refl, refl))))
             ]))
           ]
@@ -584,8 +584,8 @@ module _ (lists : Lists) (base : Dart) (at : List ℕ) (steps : ℕ → Step) (p
               let d = q.dart in
               let t = made_face q.step q.place q.earlier d.a d.b d.v d.face in
               let one' = t.0.dart in
-              let two' = to_top lists base at steps parent completed order run parents (name d.a) (name d.b) (name d.v) t.0 in
-              let three' = from_top lists base at steps parent completed order run parents (name d.a) (name d.b) (name d.v) t.0 in
+              let two' = to_top lists base at steps parent triangulation order run parents (name d.a) (name d.b) (name d.v) t.0 in
+              let three' = from_top lists base at steps parent triangulation order run parents (name d.a) (name d.b) (name d.v) t.0 in
               let dart : HasDart lists (name w) (name y) × (y < n + 2) = elim d.dart [
                 | inl e ↦ (subst (λ x. HasDart lists x (name y)) (ap name (sym e.0)) (subst (HasDart lists (name d.a)) (ap name (sym e.1)) one'), let z = t.2 in omega (arith, e.1, z))
                 | inr (inl e) ↦ (subst (λ x. HasDart lists x (name y)) (ap name (sym e.0)) (subst (HasDart lists (name d.b)) (ap name (sym e.1)) two'), let z = t.3 in omega (arith, e.1, z))
@@ -599,8 +599,8 @@ module _ (lists : Lists) (base : Dart) (at : List ℕ) (steps : ℕ → Step) (p
   -- regions are nested
   pub nested : (c : Colour) (u v w : ℕ) → IsInner lists base u → IsInner lists base v → IsInRegion lists base parent c u v → IsInRegion lists base parent c v w → IsInRegion lists base parent c u w
   nested c u v w iu iv a b =
-      let ru = ranked lists base at steps parent completed order run parents u iu in
-      let rv = ranked lists base at steps parent completed order run parents v iv in
+      let ru = ranked lists base at steps parent triangulation order run parents u iu in
+      let rv = ranked lists base at steps parent triangulation order run parents v iv in
       let lu = ru.2 in
       let lv = rv.2 in
       let t = count-stage_after steps n in

@@ -3,7 +3,7 @@ use Rattle.std.proofs.Common.{◌≡◌, ◌≢◌, ◌⊎◌, ℕ, suc, ◌+◌
 use Rattle.map_lists.specs.Lists.{Lists}
 use Rattle.map_theory.specs.Maps.{Dart, HasDart, list_of, follows}
 use Rattle.map_theory.proofs.DartLemmas.{HasDart-follows}
-use Rattle.plane_laws.specs.Completed.{IsCompleted}
+use Rattle.plane_laws.specs.Triangulations.{IsTriangulation}
 use Rattle.plane_peeling.specs.Restricted.{IsFaceOfThree, IsDartOfThree}
 use Rattle.plane_peeling.proofs.OuterCycles.{entry_before}
 use Rattle.canon_order.specs.Orders.{IsCanonicalOrder}
@@ -58,7 +58,7 @@ second_of f e m k (inl h) = absurd (by_end f k (subst (MayFollow f) h m))
         one_two : one ≢ two
         one_two e = cc
 
-module _ (lists : Lists) (base : Dart) (parent : Colour → ℕ → ℕ) (at : List ℕ) (completed : IsCompleted lists) (has : HasDart lists base.0 base.1) (wood : IsWood lists base parent) (a : IsArranged lists base parent at) (order : IsCanonicalOrder lists base at) (steps : ℕ → Step) (run : IsOrderRun lists base at order.cycle steps) where
+module _ (lists : Lists) (base : Dart) (parent : Colour → ℕ → ℕ) (at : List ℕ) (triangulation : IsTriangulation lists) (has : HasDart lists base.0 base.1) (wood : IsWood lists base parent) (a : IsArranged lists base parent at) (order : IsCanonicalOrder lists base at) (steps : ℕ → Step) (run : IsOrderRun lists base at order.cycle steps) where
   abbrev n : ℕ
   n = length at - 2
 
@@ -72,10 +72,10 @@ module _ (lists : Lists) (base : Dart) (parent : Colour → ℕ → ℕ) (at : L
   named i = get_or at i 0
 
   size : length at ≡ n + 2
-  size = let c = a.count in let s = completed.some in omega arith
+  size = let c = a.count in let s = triangulation.some in omega arith
 
   once' : (i j : ℕ) → i < length at → j < length at → named i ≡ named j → i ≡ j
-  once' i j l m e = let c = a.count in once lists base parent at completed has wood a i j (omega arith) (omega arith) e
+  once' i j l m e = let c = a.count in once lists base parent at triangulation has wood a i j (omega arith) (omega arith) e
 
   sound : (k : ℕ) → k ≤ n → IsStage (stage k)
   sound k l = IsStage-run steps k (IsRun-less steps k n l run.run)
@@ -113,7 +113,7 @@ module _ (lists : Lists) (base : Dart) (parent : Colour → ℕ → ℕ) (at : L
     dart_right : (j : ℕ) → low ≤ j → j < high → HasDart lists v (row (suc j))
     dart_right j lo hi =
         let f = face j lo hi in
-        completed.simple.both_ways (row (suc j)) v (subst (HasDart lists (row (suc j))) f.second (HasDart-follows lists (row (suc j)) (row j) (completed.simple.both_ways (row j) (row (suc j)) f.dart)))
+        triangulation.simple.both_ways (row (suc j)) v (subst (HasDart lists (row (suc j))) f.second (HasDart-follows lists (row (suc j)) (row j) (triangulation.simple.both_ways (row j) (row (suc j)) f.dart)))
 
     dart_left : (j : ℕ) → low ≤ j → j < high → HasDart lists v (row j)
     dart_left j lo hi = subst (HasDart lists v) (face j lo hi).third (HasDart-follows lists v (row (suc j)) (dart_right j lo hi))
@@ -136,21 +136,21 @@ module _ (lists : Lists) (base : Dart) (parent : Colour → ℕ → ℕ) (at : L
     early j m (out one) h = inl refl
     early j m (out two) h = inr (inl refl)
     early j m (into three) h = inr (inr refl)
-    early j m (out three) h = let b = before_at lists base parent at completed has wood a v (parent three v) (k + 2) v_in (a.three_after v i) refl in absurd (not_later j m (b.0, b.1, b.2, b.3 ∙ h))
-    early j m (into one) h = absurd (not_later j m (before_at lists base parent at completed has wood a (parent one (row j)) (row j) (k + 2) v_in (a.one_before (row j) h.0) (sym h.1)))
-    early j m (into two) h = absurd (not_later j m (before_at lists base parent at completed has wood a (parent two (row j)) (row j) (k + 2) v_in (a.two_before (row j) h.0) (sym h.1)))
+    early j m (out three) h = let b = before_at lists base parent at triangulation has wood a v (parent three v) (k + 2) v_in (a.three_after v i) refl in absurd (not_later j m (b.0, b.1, b.2, b.3 ∙ h))
+    early j m (into one) h = absurd (not_later j m (before_at lists base parent at triangulation has wood a (parent one (row j)) (row j) (k + 2) v_in (a.one_before (row j) h.0) (sym h.1)))
+    early j m (into two) h = absurd (not_later j m (before_at lists base parent at triangulation has wood a (parent two (row j)) (row j) (k + 2) v_in (a.two_before (row j) h.0) (sym h.1)))
 
     -- and only those do
     earlier : (u : ℕ) (e : End) → IsEarly e → At' e v u → (x : ℕ) × (x < k + 2) × (named x ≡ u)
-    earlier u e (inl q) h = let b = before_to lists base parent at completed has wood a (parent one v) v (k + 2) v_in (a.one_before v i) refl in (b.0, b.1, b.2 ∙ subst (λ e. At' e v u) q h)
-    earlier u e (inr (inl q)) h = let b = before_to lists base parent at completed has wood a (parent two v) v (k + 2) v_in (a.two_before v i) refl in (b.0, b.1, b.2 ∙ subst (λ e. At' e v u) q h)
+    earlier u e (inl q) h = let b = before_to lists base parent at triangulation has wood a (parent one v) v (k + 2) v_in (a.one_before v i) refl in (b.0, b.1, b.2 ∙ subst (λ e. At' e v u) q h)
+    earlier u e (inr (inl q)) h = let b = before_to lists base parent at triangulation has wood a (parent two v) v (k + 2) v_in (a.two_before v i) refl in (b.0, b.1, b.2 ∙ subst (λ e. At' e v u) q h)
     earlier u e (inr (inr q)) h =
         let g = subst (λ e. At' e v u) q h in
-        let b = before_to lists base parent at completed has wood a u (parent three u) (k + 2) v_in (a.three_after u g.0) (sym g.1) in
+        let b = before_to lists base parent at triangulation has wood a u (parent three u) (k + 2) v_in (a.three_after u g.0) (sym g.1) in
         (b.0, b.1, b.2)
 
     -- along the row: but for its last none is the parent of colour two, and but for its first none that of colour one
-    left_end : (j : ℕ) → low ≤ j → j < high → Either lists base parent completed has wood (out one) (into three) v (row j)
+    left_end : (j : ℕ) → low ≤ j → j < high → Either lists base parent triangulation has wood (out one) (into three) v (row j)
     left_end j lo hi =
         let o = wood.order v (row (suc j)) i (dart_right j lo hi) in
         let here = subst (At' o.first v) (face j lo hi).third o.after in
@@ -159,7 +159,7 @@ module _ (lists : Lists) (base : Dart) (parent : Colour → ℕ → ℕ) (at : L
           | inr e ↦ inr (subst (λ e. At' e v (row j)) e here)
         ]
 
-    right_end : (j : ℕ) → low ≤ j → j < high → Either lists base parent completed has wood (out two) (into three) v (row (suc j))
+    right_end : (j : ℕ) → low ≤ j → j < high → Either lists base parent triangulation has wood (out two) (into three) v (row (suc j))
     right_end j lo hi =
         let o = wood.order v (row (suc j)) i (dart_right j lo hi) in
         let here = subst (At' o.first v) (face j lo hi).third o.after in
@@ -173,12 +173,12 @@ module _ (lists : Lists) (base : Dart) (parent : Colour → ℕ → ℕ) (at : L
     over j lo hi =
         let m : ℕ = j - 1 in
         let e : suc m ≡ j = omega arith in
-        let right = subst (λ j. Either lists base parent completed has wood (out two) (into three) v (row j)) e (right_end m (omega arith) (omega arith)) in
+        let right = subst (λ j. Either lists base parent triangulation has wood (out two) (into three) v (row j)) e (right_end m (omega arith) (omega arith)) in
         elim (left_end j (omega arith) hi) [
           | inr h ↦ h.1
           | inl h ↦ elim right [
             | inr g ↦ g.1
-            | inl g ↦ absurd (different (one_end lists base parent completed has wood v (row j) i (out one) (out two) h g))
+            | inl g ↦ absurd (different (one_end lists base parent triangulation has wood v (row j) i (out one) (out two) h g))
           ]
         ]
       where
@@ -199,11 +199,11 @@ module _ (lists : Lists) (base : Dart) (parent : Colour → ℕ → ℕ) (at : L
           | inl h ↦ h
           | inr h ↦
               let z : ℕ = follows lists v (row low) in
-              let early_z : (x : ℕ) × (x < k + 2) × (named x ≡ z) = elim (after_into_three lists base parent completed has wood v (row low) i d h) [
+              let early_z : (x : ℕ) × (x < k + 2) × (named x ≡ z) = elim (after_into_three lists base parent triangulation has wood v (row low) i d h) [
                 | inl g ↦ earlier z (out one) (inl refl) g
                 | inr g ↦ earlier z (into three) (inr (inr refl)) g
               ] in
-              absurd (none early_z (run.made (row low) v (completed.simple.both_ways v (row low) d) (not_base (row low))))
+              absurd (none early_z (run.made (row low) v (triangulation.simple.both_ways v (row low) d) (not_base (row low))))
         ]
       where
         none : (x : ℕ) × (x < k + 2) × (named x ≡ follows lists v (row low)) → IsMadeByStep at steps (row low) v → ⊥
@@ -248,17 +248,17 @@ module _ (lists : Lists) (base : Dart) (parent : Colour → ℕ → ℕ) (at : L
         let m : ℕ = high - 1 in
         let e : suc m ≡ high = omega arith in
         let d = subst (λ j. HasDart lists v (row j)) e (dart_right m (omega arith) (omega arith)) in
-        elim (subst (λ j. Either lists base parent completed has wood (out two) (into three) v (row j)) e (right_end m (omega arith) (omega arith))) [
+        elim (subst (λ j. Either lists base parent triangulation has wood (out two) (into three) v (row j)) e (right_end m (omega arith) (omega arith))) [
           | inl h ↦ h
           | inr h ↦
-              let b = entry_before (list_of lists v) (row high) (completed.simple.no_repeat v i.0) d.1 in
+              let b = entry_before (list_of lists v) (row high) (triangulation.simple.no_repeat v i.0) d.1 in
               let z : ℕ = b.0 in
               let dz : HasDart lists v z = (i.0, b.1) in
-              let early_z : (x : ℕ) × (x < k + 2) × (named x ≡ z) = elim (before_into_three lists base parent completed has wood v z i dz (subst (At' (into three) v) (sym b.2) h)) [
+              let early_z : (x : ℕ) × (x < k + 2) × (named x ≡ z) = elim (before_into_three lists base parent triangulation has wood v z i dz (subst (At' (into three) v) (sym b.2) h)) [
                 | inl g ↦ earlier z (out two) (inr (inl refl)) g
                 | inr g ↦ earlier z (into three) (inr (inr refl)) g
               ] in
-              absurd (none z b.2 early_z (run.made z v (completed.simple.both_ways v z dz) (not_base z)))
+              absurd (none z b.2 early_z (run.made z v (triangulation.simple.both_ways v z dz) (not_base z)))
         ]
       where
         none : (z : ℕ) → follows lists v z ≡ row high → (x : ℕ) × (x < k + 2) × (named x ≡ z) → IsMadeByStep at steps z v → ⊥
@@ -303,14 +303,14 @@ module _ (lists : Lists) (base : Dart) (parent : Colour → ℕ → ℕ) (at : L
       let s = size in
       let c = a.count in
       let e = p.vertex in
-      let inner = inner_at lists base parent at completed has wood a (p.step + 2) (omega arith) (omega arith) in
+      let inner = inner_at lists base parent at triangulation has wood a (p.step + 2) (omega arith) (omega arith) in
       ap (λ v. parent one (named v)) e ∙ (first_is p.step l inner ∙ ap named p.parent)
   parents_are two v w few p =
       let l = p.earlier in
       let s = size in
       let c = a.count in
       let e = p.vertex in
-      let inner = inner_at lists base parent at completed has wood a (p.step + 2) (omega arith) (omega arith) in
+      let inner = inner_at lists base parent at triangulation has wood a (p.step + 2) (omega arith) (omega arith) in
       ap (λ v. parent two (named v)) e ∙ (last_is p.step l inner ∙ ap named p.parent)
   parents_are three v w few p =
       let k : ℕ = p.step in
@@ -328,23 +328,23 @@ module _ (lists : Lists) (base : Dart) (parent : Colour → ℕ → ℕ) (at : L
       let not_zero : v ≢ 0 = λ e. let z = ap (stage k).place (e ∙ sym g.begin) ∙ g.own 0 (omega arith) in absurd (omega arith) in
       let not_one : v ≢ 1 = λ e. let z = ap (stage k).place (e ∙ sym (g.end end (omega arith))) ∙ g.own end (omega arith) in absurd (omega arith) in
       let small = placed k j l (omega arith) in
-      let inner = inner_at lists base parent at completed has wood a v (omega arith) (omega arith) in
+      let inner = inner_at lists base parent at triangulation has wood a v (omega arith) (omega arith) in
       let f = run.faces k j ((stage k).vertex j) ((stage k).vertex (suc j)) (k + 2) (omega arith) record { low = omega arith; high = hi; left = refl; right = refl; new = count-stage_after steps k } in
       let back = HasDart-follows lists (named ((stage k).vertex j)) (named (k + 2)) in
       let d = dart_between (named ((stage k).vertex j)) (named ((stage k).vertex (suc j))) (named (k + 2)) f in
       let edge : HasDart lists (named v) (named (k + 2)) = subst (λ v. HasDart lists (named v) (named (k + 2))) is_v d in
-      let e = some_end lists base parent completed has wood (named v) (named (k + 2)) inner edge in
+      let e = some_end lists base parent triangulation has wood (named v) (named (k + 2)) inner edge in
       by_end e.0 e.1 inner (λ i. ap (λ v. parent three (named v)) (sym is_v) ∙ over k l i j lo hi) (omega arith) (omega arith) ∙ ap named (sym p.parent)
     where
       dart_between : (x y z : ℕ) → IsFaceOfThree lists x y z → HasDart lists x z
       dart_between x y z f =
-          let second = subst (HasDart lists y) f.second (HasDart-follows lists y x (completed.simple.both_ways x y f.dart)) in
-          completed.simple.both_ways z x (subst (HasDart lists z) f.third (HasDart-follows lists z y (completed.simple.both_ways y z second)))
+          let second = subst (HasDart lists y) f.second (HasDart-follows lists y x (triangulation.simple.both_ways x y f.dart)) in
+          triangulation.simple.both_ways z x (subst (HasDart lists z) f.third (HasDart-follows lists z y (triangulation.simple.both_ways y z second)))
 
       not_before : (c : Colour) (v z : ℕ) → v < z → z < length at → IsBefore at (parent c (named v)) (named v) → parent c (named v) ≢ named z
       not_before c v z m m' b e =
           let count = a.count in
-          let t = before_to lists base parent at completed has wood a (parent c (named v)) (named v) v (omega arith) b refl in
+          let t = before_to lists base parent at triangulation has wood a (parent c (named v)) (named v) v (omega arith) b refl in
           let lt = t.1 in
           let q = once' t.0 z (omega arith) m' (t.2 ∙ e) in
           omega arith

@@ -7,7 +7,7 @@ use Rattle.map_theory.specs.Maps.{darts_before}
 use Rattle.map_theory.proofs.DartLemmas.{HasDart-follows, darts_before_none, darts_before_more, darts_before_all}
 use Rattle.map_theory.proofs.DartCounts.{sum_below, sum_below-add, sum_below-same, sum_below-zero, sum_below-count_of, dart_count-edge_count}
 use Rattle.map_theory.proofs.EntryLemmas.{count_of, count_of-cons, count_of-le-one, one-le-count_of, Contains-from_count_of, AllPairs-from_counts}
-use Rattle.plane_laws.specs.Completed.{IsCompleted}
+use Rattle.plane_laws.specs.Triangulations.{IsTriangulation}
 use Rattle.plane_peeling.proofs.Ends.{nothing_taken_off}
 use Rattle.plane_peeling.proofs.Rings.{each_of_two, each_of_three}
 use Rattle.graph_search.proofs.Sums.{sum_below-most, sum_below-less}
@@ -35,7 +35,7 @@ darts_summed lists (suc k) = let e : suc k ≡ k + 1 = omega arith in omega (ari
 swapped : (u a b c : ℕ) → count_of u (a ∷ b ∷ c ∷ []) ≡ count_of u (a ∷ c ∷ b ∷ [])
 swapped u a b c = omega (arith, count_of-cons u a (b ∷ c ∷ []), count_of-cons u a (c ∷ b ∷ []), count_of-cons u b (c ∷ []), count_of-cons u c (b ∷ []), count_of-cons u b [], count_of-cons u c [])
 
-module _ (lists : Lists) (base : Dart) (parent : Colour → ℕ → ℕ) (completed : IsCompleted lists) (has : HasDart lists base.0 base.1) (wood : IsWood lists base parent) where
+module _ (lists : Lists) (base : Dart) (parent : Colour → ℕ → ℕ) (triangulation : IsTriangulation lists) (has : HasDart lists base.0 base.1) (wood : IsWood lists base parent) where
   abbrev n : ℕ
   n = length lists
 
@@ -44,12 +44,12 @@ module _ (lists : Lists) (base : Dart) (parent : Colour → ℕ → ℕ) (comple
 
   -- the roots are three vertices
   pub root_in : (c : Colour) → r c < n
-  root_in one = completed.simple.in_range base.0 base.1 has
+  root_in one = triangulation.simple.in_range base.0 base.1 has
   root_in two = has.0
-  root_in three = completed.simple.in_range base.1 (r three) (HasDart-follows lists base.1 base.0 (completed.simple.both_ways base.0 base.1 has))
+  root_in three = triangulation.simple.in_range base.1 (r three) (HasDart-follows lists base.1 base.0 (triangulation.simple.both_ways base.0 base.1 has))
 
   pub roots_apart : AllPairs ◌≢◌ (r one ∷ r three ∷ r two ∷ [])
-  roots_apart = (nothing_taken_off lists (λ v. true) base.1 base.0 completed has (λ v l. refl)).near.cycle.distinct
+  roots_apart = (nothing_taken_off lists (λ v. true) base.1 base.0 triangulation has (λ v l. refl)).near.cycle.distinct
 
   one_three : r one ≢ r three
   one_three = roots_apart 0 1 0 (omega arith) (omega arith)
@@ -129,8 +129,8 @@ module _ (lists : Lists) (base : Dart) (parent : Colour → ℕ → ℕ) (comple
   some_way v u d =
       elim (root_or_inner v d.0) [
         | inr i ↦ (let o = wood.order v u i d in at_inner o.second o.entry i)
-        | inl x ↦ elim (root_or_inner u (completed.simple.in_range v u d)) [
-          | inr j ↦ (let o = wood.order u v j (completed.simple.both_ways v u d) in at_root o.second o.entry x.0 x.1 j)
+        | inl x ↦ elim (root_or_inner u (triangulation.simple.in_range v u d)) [
+          | inr j ↦ (let o = wood.order u v j (triangulation.simple.both_ways v u d) in at_root o.second o.entry x.0 x.1 j)
           | inl y ↦ at_roots x.0 x.1 y.0 y.1
         ]
       ]
@@ -147,7 +147,7 @@ module _ (lists : Lists) (base : Dart) (parent : Colour → ℕ → ℕ) (comple
       at_roots c s k t =
           let e = by_root-root others (three_of v) v c s in
           elim (cases_colour c k) [
-            | inl q ↦ absurd (completed.simple.no_loop v u d (t ∙ ap r q ∙ sym s))
+            | inl q ↦ absurd (triangulation.simple.no_loop v u d (t ∙ ap r q ∙ sym s))
             | inr (inl q) ↦ (let h = subst (λ l. 1 ≤ count_of u l) (sym e) (one-le-count_of u (others c) 0 0 (omega arith) (sym (t ∙ ap r q))) in omega arith)
             | inr (inr q) ↦ (let h = subst (λ l. 1 ≤ count_of u l) (sym e) (one-le-count_of u (others c) 1 0 (omega arith) (sym (t ∙ ap r q))) in omega arith)
           ]
@@ -155,14 +155,14 @@ module _ (lists : Lists) (base : Dart) (parent : Colour → ℕ → ℕ) (comple
   at_most : (v u : ℕ) → v < n → count_of u (list_of lists v) ≤ ways v u
   at_most v u l =
       elim (cases_lt 0 (count_of u (list_of lists v))) [
-        | inl some ↦ (let w = some_way v u (l, Contains-from_count_of u (list_of lists v) some) in omega (arith, w, count_of-le-one u (list_of lists v) (completed.simple.no_repeat v l)))
+        | inl some ↦ (let w = some_way v u (l, Contains-from_count_of u (list_of lists v) some) in omega (arith, w, count_of-le-one u (list_of lists v) (triangulation.simple.no_repeat v l)))
         | inr none ↦ omega arith
       ]
 
   -- there are as many ways as darts
   parent_in : (v : ℕ) → IsInner lists base v → (u : ℕ) → Contains (three_of v) u → u < n
   parent_in v i u c =
-      let small : (c : Colour) → parent c v < n = λ c. completed.simple.in_range v (parent c v) (wood.edges c v i) in
+      let small : (c : Colour) → parent c v < n = λ c. triangulation.simple.in_range v (parent c v) (wood.edges c v i) in
       each_of_three (λ z. z < n) (parent one v) (parent two v) (parent three v) (small one) (small two) (small three) u c
 
   from_in : (v : ℕ) → v < n → (u : ℕ) → Contains (from v) u → u < n
@@ -222,11 +222,11 @@ module _ (lists : Lists) (base : Dart) (parent : Colour → ℕ → ℕ) (comple
   all_darts : sum_below (λ v. sum_below (λ u. count_of u (list_of lists v)) n) n + 12 ≡ 6 * n
   all_darts =
       let rows = sum_below-same (λ v. sum_below (λ u. count_of u (list_of lists v)) n) (λ v. length (list_of lists v)) n
-      (λ v l. sum_below-count_of (list_of lists v) n (λ u c. completed.simple.in_range v u (l, c))) in
+      (λ v l. sum_below-count_of (list_of lists v) n (λ u c. triangulation.simple.in_range v u (l, c))) in
       let summed = darts_summed lists n in
       let all = darts_before_all lists n (omega arith) in
-      let even = dart_count-edge_count lists completed.simple in
-      let edges = completed.edges in
+      let even = dart_count-edge_count lists triangulation.simple in
+      let edges = triangulation.edges in
       omega (arith, rows, summed, all, even, edges)
 
   -- THE LEMMA: an edge is not the parent's edge of both of its ends
@@ -234,7 +234,7 @@ module _ (lists : Lists) (base : Dart) (parent : Colour → ℕ → ℕ) (comple
   two_ways c d v u i j e e' =
       let one_way = out_way c v u i e in
       let other_way = up_way d u v j e' in
-      let once = count_of-le-one u (list_of lists v) (completed.simple.no_repeat v i.0) in
+      let once = count_of-le-one u (list_of lists v) (triangulation.simple.no_repeat v i.0) in
       let row = sum_below-less (λ u. count_of u (list_of lists v)) (ways v) n u j.0 (λ w l. at_most v w i.0) (omega arith) in
       let all = sum_below-less (λ v. sum_below (λ u. count_of u (list_of lists v)) n) (λ v. sum_below (ways v) n) n v i.0 (λ w l. sum_below-most (λ u. count_of u (list_of lists w)) (ways w) n (λ u m. at_most w u l)) row in
       omega (arith, all, all_ways, all_darts)

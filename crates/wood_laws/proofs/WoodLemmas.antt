@@ -5,7 +5,7 @@ use Rattle.std.proofs.lemmas.List.{get_or_default}
 use Rattle.map_lists.specs.Lists.{Lists}
 use Rattle.map_theory.specs.Maps.{Dart, HasDart, follows}
 use Rattle.map_theory.proofs.DartLemmas.{HasDart-follows}
-use Rattle.plane_laws.specs.Completed.{IsCompleted}
+use Rattle.plane_laws.specs.Triangulations.{IsTriangulation}
 use Rattle.plane_peeling.specs.Restricted.{IsFaceOfThree, IsDartOfThree}
 use Rattle.canon_order.specs.Orders.{IsCanonicalOrder}
 use Rattle.canon_order.proofs.Counters.{same_place, all_of_them}
@@ -19,7 +19,7 @@ use Rattle.wood_runs.proofs.ParentLemmas.{leads_away, own_root, differ, three_pa
 use Rattle.wood_runs.proofs.Corners.{corners_ordered}
 use Rattle.wood_laws.specs.Woods.{root, IsInner, LeadsBy, IsEndAt, IsInOrder, IsWood, AreParentsOf}
 
-module _ (lists : Lists) (base : Dart) (at : List ℕ) (steps : ℕ → Step) (parent : Colour → ℕ → ℕ) (completed : IsCompleted lists) (order : IsCanonicalOrder lists base at) (run : IsOrderRun lists base at order.cycle steps) (parents : AreParentsOf at steps parent) where
+module _ (lists : Lists) (base : Dart) (at : List ℕ) (steps : ℕ → Step) (parent : Colour → ℕ → ℕ) (triangulation : IsTriangulation lists) (order : IsCanonicalOrder lists base at) (run : IsOrderRun lists base at order.cycle steps) (parents : AreParentsOf at steps parent) where
   abbrev pub n : ℕ
   n = length at - 2
 
@@ -30,10 +30,10 @@ module _ (lists : Lists) (base : Dart) (at : List ℕ) (steps : ℕ → Step) (p
   stage k = stage_after steps k
 
   pub size : length at ≡ n + 2
-  size = let c = order.count in let s = completed.some in omega arith
+  size = let c = order.count in let s = triangulation.some in omega arith
 
   pub some : 1 ≤ n
-  some = let c = order.count in let s = completed.some in omega arith
+  some = let c = order.count in let s = triangulation.some in omega arith
 
   -- the roots by their ranks
   pub root_one : name 0 ≡ base.1
@@ -104,10 +104,10 @@ module _ (lists : Lists) (base : Dart) (at : List ℕ) (steps : ℕ → Step) (p
 
   -- its darts from and to the top
   pub to_top : (a b v : ℕ) → IsFaceOfThree lists a b v → HasDart lists b v
-  to_top a b v f = subst (λ v. HasDart lists b v) f.second (HasDart-follows lists b a (completed.simple.both_ways a b f.dart))
+  to_top a b v f = subst (λ v. HasDart lists b v) f.second (HasDart-follows lists b a (triangulation.simple.both_ways a b f.dart))
 
   pub from_top : (a b v : ℕ) → IsFaceOfThree lists a b v → HasDart lists v a
-  from_top a b v f = subst (λ a. HasDart lists v a) f.third (HasDart-follows lists v b (completed.simple.both_ways b v (to_top a b v f)))
+  from_top a b v f = subst (λ a. HasDart lists v a) f.third (HasDart-follows lists v b (triangulation.simple.both_ways b v (to_top a b v f)))
 
   -- a vertex and its parent are neighbours
   pub edge : (c : Colour) (v w : ℕ) → IsParent c steps n v w → HasDart lists (name v) (name w)
@@ -122,13 +122,13 @@ module _ (lists : Lists) (base : Dart) (at : List ℕ) (steps : ℕ → Step) (p
       let i : ℕ = (steps p.step).last - 1 in
       let e : suc i ≡ (steps p.step).last = omega arith in
       let f = face_at p.step i l (omega arith) (omega arith) in
-      let d = completed.simple.both_ways (name ((stage p.step).vertex (suc i))) (name (p.step + 2)) (to_top _ _ _ f) in
+      let d = triangulation.simple.both_ways (name ((stage p.step).vertex (suc i))) (name (p.step + 2)) (to_top _ _ _ f) in
       subst (λ v. HasDart lists (name v) (name w)) (sym p.vertex) (subst (λ w. HasDart lists (name (p.step + 2)) (name w)) (ap (stage p.step).vertex e ∙ p.parent) d)
   edge three v w p =
       let l = p.earlier in
       let low = p.covered.low in
       let f = face_at p.step p.covered.place l (omega arith) p.covered.high in
-      let d = completed.simple.both_ways (name (p.step + 2)) (name ((stage p.step).vertex p.covered.place)) (from_top _ _ _ f) in
+      let d = triangulation.simple.both_ways (name (p.step + 2)) (name ((stage p.step).vertex p.covered.place)) (from_top _ _ _ f) in
       subst (λ w. HasDart lists (name v) (name w)) (sym p.parent) (subst (λ v. HasDart lists (name v) (name (p.step + 2))) p.covered.vertex d)
 
   -- ranks of parents
@@ -299,7 +299,7 @@ module _ (lists : Lists) (base : Dart) (at : List ℕ) (steps : ℕ → Step) (p
   in_order : (v u : ℕ) → IsInner lists base v → HasDart lists v u → IsInOrder lists base parent v u
   in_order v u inner d =
       let s = size in
-      let m = run.made u v (completed.simple.both_ways v u d) not_base in
+      let m = run.made u v (triangulation.simple.both_ways v u d) not_base in
       let f = run.faces m.step m.place m.a m.b m.v m.earlier m.face in
       let g = sound m.step (let e = m.earlier in omega arith) in
       let l : m.step < n = let e = m.earlier in omega arith in

@@ -1,4 +1,4 @@
--- Schnyder's regions (1990) of a completed map with a wood. Region c of an inner vertex is the one opposite the root of colour c.
+-- Schnyder's regions (1990) of a triangulation with a wood. Region c of an inner vertex is the one opposite the root of colour c.
 use Rattle.std.specs.Prelude.{ℕ, zero, suc, ◌<◌, ◌≡◌, ◌⊎◌, ◌↔◌, Bool, true, false, not, length}
 use Rattle.classes.specs.Classes.{count_below}
 use Rattle.map_lists.specs.Lists.{Lists}

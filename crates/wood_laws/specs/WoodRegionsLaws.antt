@@ -2,7 +2,7 @@
 use Rattle.std.specs.Prelude.{ℕ, suc, ◌+◌, ◌≡◌, List, length, pos, Bool}
 use Rattle.map_lists.specs.Lists.{Lists}
 use Rattle.map_theory.specs.Maps.{Dart, HasDart}
-use Rattle.plane_laws.specs.Completed.{IsCompleted}
+use Rattle.plane_laws.specs.Triangulations.{IsTriangulation}
 use Rattle.pg_plane.specs.declared.point.Point.{Point}
 use Rattle.plane_drawings.specs.Drawing.{place}
 use Rattle.canon_order.specs.Orders.{IsCanonicalOrder}
@@ -23,13 +23,13 @@ pub record IsWoodOfOrder (lists : Lists) (base : Dart) (at : List ℕ) (parent :
 -- All chains that lead to a face step over an odd number of edges of the closed path, or none does; and some chain leads to each face.
 abbrev pub InsideIsKnown : Type 0
 InsideIsKnown =
-    (lists : Lists) (base : Dart) (at : List ℕ) (parent : Colour → ℕ → ℕ) (c : Colour) (v x y : ℕ) → IsCompleted lists → IsWoodOfOrder lists base at parent → IsInner lists base v → HasDart lists x y
+    (lists : Lists) (base : Dart) (at : List ℕ) (parent : Colour → ℕ → ℕ) (c : Colour) (v x y : ℕ) → IsTriangulation lists → IsWoodOfOrder lists base at parent → IsInner lists base v → HasDart lists x y
     → (odd : Bool) × Reaches lists base parent c v x y odd × ((odd' : Bool) → Reaches lists base parent c v x y odd' → odd' ≡ odd)
 
 -- Where an inner vertex lies in a region of another, its region is part of that.
 abbrev pub RegionsNested : Type 0
 RegionsNested =
-    (lists : Lists) (base : Dart) (at : List ℕ) (parent : Colour → ℕ → ℕ) (c : Colour) (u v w : ℕ) → IsCompleted lists → IsWoodOfOrder lists base at parent → IsInner lists base u → IsInner lists base v → IsInRegion lists base parent c u v → IsInRegion lists base parent c v w → IsInRegion lists base parent c u w
+    (lists : Lists) (base : Dart) (at : List ℕ) (parent : Colour → ℕ → ℕ) (c : Colour) (u v w : ℕ) → IsTriangulation lists → IsWoodOfOrder lists base at parent → IsInner lists base u → IsInner lists base v → IsInRegion lists base parent c u v → IsInRegion lists base parent c v w → IsInRegion lists base parent c u w
 
 -- By so many vertices a region has more than the path of the colour before: the coordinate of this colour, of which the three are one less than the vertices.
 abbrev pub IsCoordinate : Lists → Dart → (Colour → ℕ → ℕ) → Colour → ℕ → ℕ → Type 0
@@ -52,4 +52,4 @@ pub record StandsAtCoordinates (lists : Lists) (base : Dart) (parent : Colour �
 
 abbrev pub DrawnAtCoordinates : Type 0
 DrawnAtCoordinates =
-    (lists : Lists) (base : Dart) (at : List ℕ) (parent : Colour → ℕ → ℕ) (points : List Point) (v : ℕ) → IsCompleted lists → (order : IsCanonicalOrder lists base at) → (drawn : AreWoodPoints lists base at order.cycle points) → AreParentsOf at drawn.steps parent → IsInner lists base v → StandsAtCoordinates lists base parent points v
+    (lists : Lists) (base : Dart) (at : List ℕ) (parent : Colour → ℕ → ℕ) (points : List Point) (v : ℕ) → IsTriangulation lists → (order : IsCanonicalOrder lists base at) → (drawn : AreWoodPoints lists base at order.cycle points) → AreParentsOf at drawn.steps parent → IsInner lists base v → StandsAtCoordinates lists base parent points v

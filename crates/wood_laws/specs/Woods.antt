@@ -1,8 +1,8 @@
--- Schnyder's woods (1990) of completed maps.
+-- Schnyder's woods (1990) of triangulations.
 use Rattle.std.specs.Prelude.{ℕ, zero, suc, ◌-◌, ◌<◌, ◌≡◌, ◌≢◌, List, length, slice_index}
 use Rattle.map_lists.specs.Lists.{Lists}
 use Rattle.map_theory.specs.Maps.{Dart, HasDart, follows}
-use Rattle.plane_laws.specs.Completed.{IsCompleted}
+use Rattle.plane_laws.specs.Triangulations.{IsTriangulation}
 use Rattle.canon_order.specs.Orders.{IsCanonicalOrder}
 use Rattle.contour_runs.specs.Runs.{Step}
 use Rattle.order_drawings.specs.OrderRuns.{IsOrderRun}
@@ -51,4 +51,4 @@ AreParentsOf at steps parent = (c : Colour) (v w : ℕ) → suc v < length at �
 -- The parents of the run of a canonical order are a wood.
 abbrev pub WoodOfOrder : Type 0
 WoodOfOrder =
-    (lists : Lists) (base : Dart) (at : List ℕ) (steps : ℕ → Step) (parent : Colour → ℕ → ℕ) → IsCompleted lists → (order : IsCanonicalOrder lists base at) → IsOrderRun lists base at order.cycle steps → AreParentsOf at steps parent → IsWood lists base parent
+    (lists : Lists) (base : Dart) (at : List ℕ) (steps : ℕ → Step) (parent : Colour → ℕ → ℕ) → IsTriangulation lists → (order : IsCanonicalOrder lists base at) → IsOrderRun lists base at order.cycle steps → AreParentsOf at steps parent → IsWood lists base parent

@@ -1,4 +1,4 @@
-//! Schnyder's wood (1990) of a canonical order of a completed map.
+//! Schnyder's wood (1990) of a canonical order of a triangulation.
 
 ghost use Rattle.wood_laws.specs.Woods.{WoodOfOrder};
 

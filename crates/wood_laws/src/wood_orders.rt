@@ -1,4 +1,4 @@
-//! Each of Schnyder's woods (1990) of a completed map is the wood of a canonical order, and so the laws of regions
+//! Each of Schnyder's woods (1990) of a triangulation is the wood of a canonical order, and so the laws of regions
 //! are laws of each wood. Each law is the contract of a function that does nothing but call those on which it
 //! stands.
 

@@ -1,4 +1,4 @@
-//! Schnyder's regions (1990) of a completed map with the wood of a canonical order. Region c of an inner vertex
+//! Schnyder's regions (1990) of a triangulation with the wood of a canonical order. Region c of an inner vertex
 //! is bounded by its paths of the two other colours and the outer edge between their roots. Each law is the
 //! contract of a function that does nothing.
 

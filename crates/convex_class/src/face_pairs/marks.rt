@@ -3,7 +3,7 @@ ghost use Rattle.std.specs.Prelude.{◌≡◌, ◌⊎◌, ◌≢◌, ◌+◌, �
 ghost use Rattle.half_edges.specs.Map.{IsHalfMap, IsLive, dart_at};
 ghost use Rattle.euler_faces.specs.FaceWalks.{IsFaceWalk, ids_of};
 ghost use Rattle.vertex_rounds.proofs.RoundLemmas.{LeavesFrom, place_at};
-ghost use Rattle.convex_peeling.specs.TightMapsLaws.{IsPlaneUncut};
+ghost use Rattle.convex_peeling.specs.PolyhedralMapsLaws.{IsPlaneUncut};
 ghost use Rattle.convex_class.specs.Passing.{AreMarksOf, IsUnused, IsMarked};
 
 use half_edges::{DartId, HalfMap, VertexId};

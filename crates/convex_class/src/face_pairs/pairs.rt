@@ -4,7 +4,7 @@ ghost use Rattle.map_theory.specs.Maps.{IsPlane};
 ghost use Rattle.half_edges.specs.Map.{IsHalfMap, IsLive, dart_at, first_dart};
 ghost use Rattle.euler_faces.specs.FaceWalks.{AreFaces};
 ghost use Rattle.graph_search.specs.Cuts.{IsCutVertex, IsSeparatingPair, IsLeastPair};
-ghost use Rattle.convex_peeling.specs.TightMapsLaws.{IsPlaneUncut};
+ghost use Rattle.convex_peeling.specs.PolyhedralMapsLaws.{IsPlaneUncut};
 ghost use Rattle.convex_class.specs.Passing.{IsUnused};
 
 use crate::face_pairs::marks::mark_walk;

@@ -3,7 +3,7 @@ ghost use Rattle.std.specs.Prelude.{◌≡◌, ◌<◌, ℕ, length, IsTrue, IfO
 ghost use Rattle.half_edges.specs.Map.{IsHalfMap};
 ghost use Rattle.euler_faces.specs.FaceWalks.{AreFaces};
 ghost use Rattle.graph_search.specs.Cuts.{IsSeparatingPair};
-ghost use Rattle.convex_peeling.specs.TightMapsLaws.{IsPlaneUncut};
+ghost use Rattle.convex_peeling.specs.PolyhedralMapsLaws.{IsPlaneUncut};
 ghost use Rattle.convex_class.specs.Clear.{IsClearVertex, IsClearFace};
 
 use crate::face_pairs::corners::is_clear_face;

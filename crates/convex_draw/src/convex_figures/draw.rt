@@ -2,13 +2,13 @@
 ghost use Rattle.std.specs.Prelude.{◌≡◌, ◌<◌, length, Some, IfOk, IfErr, OnOk};
 ghost use Rattle.half_edges.specs.Map.{IsLive, dart_at, first_dart as first_of};
 ghost use Rattle.map_theory.specs.Maps.{IsPlane};
-ghost use Rattle.convex_peeling.specs.Tight.{IsThreeConnected};
+ghost use Rattle.convex_peeling.specs.Polyhedral.{IsThreeConnected};
 ghost use Rattle.refusals.specs.Conditions.{IfRefused};
 ghost use Rattle.convex_class.specs.Convexity.{BreaksConvex};
 ghost use Rattle.convex_draw.specs.Figures.{IsConvexFigure};
 
 use crate::convex_draw;
-use convex_class::convex_blocks::convex_block;
+use convex_class::convex_maps::convex_map;
 use half_edges::{DartId, HalfMap, Rotations, VertexId};
 use pg_plane::GridFigure;
 use refusals::Unserved;
@@ -53,7 +53,7 @@ pub fn convex_figure(alloc: Global, lists: &Rotations) -> Result<GridFigure, Uns
     ensures served { OnOk result (IsThreeConnected lists.now) }
     ensures refused { IfErr result (IfRefused (BreaksConvex lists.now)) }
 {
-    let map = convex_block(alloc, lists)?;
+    let map = convex_map(alloc, lists)?;
     let figure = map_figure(alloc, &map)?;
     Ok(figure)
 }

@@ -1,7 +1,7 @@
 //! Walks that pass edges: an edge has its mark as long as it was passed an odd number of times.
 ghost use Rattle.std.specs.Prelude.{◌≡◌, ◌<◌, ℕ, Some, length};
 ghost use Rattle.map_theory.specs.Maps.{Dart, IsPlane};
-ghost use Rattle.convex_peeling.specs.Tight.{IsThreeConnected};
+ghost use Rattle.convex_peeling.specs.Polyhedral.{IsThreeConnected};
 ghost use Rattle.half_edges.specs.Map.{IsLive, dart_at, id_bound};
 ghost use Rattle.vertex_rounds.specs.Rounds.{dart_of};
 ghost use Rattle.convex_faces.specs.Directions.{root_in, IsWoodIn};

@@ -1,7 +1,7 @@
 //! The regions of a convex wood.
 ghost use Rattle.std.specs.Prelude.{◌≡◌, ◌<◌, ℕ, false, Some, length, IfOk};
 ghost use Rattle.map_theory.specs.Maps.{Dart, HasDart, IsPlane};
-ghost use Rattle.convex_peeling.specs.Tight.{IsThreeConnected};
+ghost use Rattle.convex_peeling.specs.Polyhedral.{IsThreeConnected};
 ghost use Rattle.half_edges.specs.Map.{dart_at, id_bound};
 ghost use Rattle.euler_faces.specs.Numbers.{mark_at};
 ghost use Rattle.convex_counts.specs.declared.face_woods.axis.Axis.TheVariants.{One, Two, Three};

@@ -1,7 +1,7 @@
 //! The convex wood of a map.
 ghost use Rattle.std.specs.Prelude.{◌≡◌, ◌<◌, ℕ, Some, length, IfOk};
 ghost use Rattle.map_theory.specs.Maps.{IsPlane, HasDart, follows, component_count};
-ghost use Rattle.convex_peeling.specs.Tight.{IsThreeConnected};
+ghost use Rattle.convex_peeling.specs.Polyhedral.{IsThreeConnected};
 ghost use Rattle.half_edges.specs.Map.{IsLive, dart_at, id_bound};
 ghost use Rattle.convex_faces.specs.Notes.{AreNoted};
 ghost use Rattle.convex_draw.specs.RunPoints.{AreRunPoints};

@@ -6,7 +6,7 @@ ghost use Rattle.embed_recursion.specs.Answers.{IsAnswer};
 
 use crate::contracted_lists::contracted_lists;
 use crate::contracted_maps::whole::{expanded_answer, small_answer};
-use crate::parted_lists::{contractible_edge, parting_pair, parting_vertex};
+use crate::separations::{contractible_edge, separating_pair, separating_vertex};
 use crate::side_lists::{pair_sides, vertex_sides};
 use crate::side_maps::{map_along_edge, map_at_vertex};
 use crate::small_maps::has_four;
@@ -34,14 +34,14 @@ fn map_within(
     requires count { live lists.now < count }
     ensures { IfOk result (λ answer. IsAnswer lists.now answer) }
 {
-    match parting_vertex(alloc, lists)? {
+    match separating_vertex(alloc, lists)? {
         Some(p) => {
             let (one, other) = vertex_sides(alloc, lists, p)?;
             let first = map_within(alloc, &one, count - 1)?;
             let second = map_within(alloc, &other, count - 1)?;
             map_at_vertex(alloc, lists, &one, &other, p.u, first, second)
         }
-        None => match parting_pair(alloc, lists)? {
+        None => match separating_pair(alloc, lists)? {
             Some(p) => {
                 let (one, other) = pair_sides(alloc, lists, p)?;
                 let first = map_within(alloc, &one, count - 1)?;

@@ -3,7 +3,7 @@ ghost use Rattle.std.specs.Prelude.{◌≡◌, ◌≢◌, ◌<◌, ◌↔◌, �
 ghost use Rattle.map_theory.specs.Maps.{IsSimpleMap};
 ghost use Rattle.embed_surgery.specs.Glued.{lists_by};
 ghost use Rattle.embed_theorem.specs.Sides.{IsJoinedUp};
-ghost use Rattle.embed_recursion.specs.Parting.{joined_row};
+ghost use Rattle.embed_recursion.specs.Separating.{joined_row};
 
 use map_lists::Rotations;
 use std::alloc::{AllocError, Global};

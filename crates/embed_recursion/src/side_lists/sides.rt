@@ -5,11 +5,11 @@ ghost use Rattle.classes.specs.Classes.{same_class};
 ghost use Rattle.map_theory.specs.Maps.{IsSimpleMap, component_classes};
 ghost use Rattle.conn_parts.specs.Parts.{ArePartsOf};
 ghost use Rattle.embed_contraction.specs.Linked.{without_vertices as lists_without};
-ghost use Rattle.embed_recursion.specs.Parted.{IsUncut, IsCutBy, ArePairParting};
+ghost use Rattle.embed_recursion.specs.Separations.{IsUncut, IsCutBy, ArePairSeparating};
 ghost use Rattle.embed_theorem.specs.Sides.{IsSided};
-ghost use Rattle.embed_recursion.specs.Parting.{is_beside, beside as vertices_beside, AreSplit, ArePairSides};
+ghost use Rattle.embed_recursion.specs.Separating.{is_beside, beside as vertices_beside, AreSplit, ArePairSides};
 
-use crate::parted_lists::Parting;
+use crate::separations::Separating;
 use crate::side_lists::joined::joined_up;
 use conn_parts::{Parts, list_components};
 use embed_maps::vertex_holes::{is_outside, without_vertices};
@@ -21,7 +21,7 @@ use std::alloc::{AllocError, Global};
 pub fn vertex_sides(
     alloc: Global,
     lists: &Rotations,
-    p: Parting,
+    p: Separating,
 ) -> Result<(Rotations, Rotations), AllocError>
     requires simple { IsSimpleMap lists.now }
     requires few { length lists.now < 4096 }
@@ -36,12 +36,12 @@ pub fn vertex_sides(
 pub fn pair_sides(
     alloc: Global,
     lists: &Rotations,
-    p: Parting,
+    p: Separating,
 ) -> Result<(Rotations, Rotations), AllocError>
     requires simple { IsSimpleMap lists.now }
     requires few { length lists.now < 4096 }
     requires uncut { IsUncut lists.now }
-    requires parted { ArePairParting lists.now p.u p.v p.s p.t }
+    requires separated { ArePairSeparating lists.now p.u p.v p.s p.t }
     ensures { IfOk result (λ sides. ArePairSides lists.now sides.0 sides.1 p.u p.v) }
 {
     let (inner, outer) = both_sides(alloc, lists, &[p.u, p.v], p.s)?;

@@ -4,7 +4,7 @@ ghost use Rattle.map_theory.specs.Maps.{IsSimpleMap, HasDart};
 ghost use Rattle.embed_theorem.specs.Expanded.{IsMapOf};
 ghost use Rattle.embed_theorem.specs.ListGraphs.{graph_of};
 ghost use Rattle.embed_theorem.specs.Sides.{IsSided};
-ghost use Rattle.embed_recursion.specs.Parting.{ArePairSides};
+ghost use Rattle.embed_recursion.specs.Separating.{ArePairSides};
 ghost use Rattle.embed_recursion.specs.Answers.{IsAnswer};
 
 use crate::side_maps::without::without_edge;

@@ -1,10 +1,10 @@
 //! Whether more than three vertices have edges.
 ghost use Rattle.std.specs.Prelude.{◌≡◌, ◌<◌, [], ◌∷◌, false, IsTrue, length};
 ghost use Rattle.embed_theorem.specs.Expanded.{HasFour};
-ghost use Rattle.embed_recursion.specs.Parted.{IsOff};
+ghost use Rattle.embed_recursion.specs.Separations.{IsOff};
 ghost use Rattle.embed_recursion.specs.Small.{IsSmall};
 
-use crate::parted_lists::first_off;
+use crate::separations::first_off;
 use map_lists::Rotations;
 
 /// Whether at least four vertices have edges.

@@ -2,7 +2,7 @@
 ghost use Rattle.std.specs.Prelude.{◌≡◌, ◌<◌, ◌≤◌, ◌↔◌, ℕ, IsTrue, IfOk};
 ghost use Rattle.map_theory.specs.Maps.{component_count};
 ghost use Rattle.graph_search.specs.Cuts.{IsCutVertex, IsSeparatingPair};
-ghost use Rattle.convex_peeling.specs.Tight.{IsThreeConnected};
+ghost use Rattle.convex_peeling.specs.Polyhedral.{IsThreeConnected};
 ghost use Rattle.conn_parts.specs.GraphLists.{graph_lists as lists_of_graph};
 
 use conn_parts::graph_cuts::{graph_components, graph_cut_vertex, graph_separating_pair};

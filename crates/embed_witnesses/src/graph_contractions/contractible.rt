@@ -1,6 +1,6 @@
 //! The least edge that can be contracted.
 ghost use Rattle.std.specs.Prelude.{◌≡◌, ◌<◌, ◌≤◌, ◌↔◌, ℕ, IsTrue, IfOk, MatchOption};
-ghost use Rattle.convex_peeling.specs.Tight.{IsThreeConnected};
+ghost use Rattle.convex_peeling.specs.Polyhedral.{IsThreeConnected};
 ghost use Rattle.conn_parts.specs.GraphLists.{graph_lists as lists_of_graph};
 ghost use Rattle.embed_witnesses.specs.Contractible.{IsContractibleEdge, IsLeastContractible, IsLeastAbove};
 

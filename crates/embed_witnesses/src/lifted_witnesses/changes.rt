@@ -15,14 +15,14 @@ pub(crate) struct Mending {
     pub place: usize,
 }
 
-/// K5 parted into K3,3.
+/// K5 split into K3,3.
 #[derive(Clone, Copy)]
-pub(crate) struct Parting {
-    /// The branch that is parted.
+pub(crate) struct Splitting {
+    /// The branch that is split.
     pub a: u16,
     /// The vertex that takes its place in two of the four paths.
     pub b: u16,
-    /// The five branches in another order, as digits: the one that is parted, two whose paths stay at it, and two
+    /// The five branches in another order, as digits: the one that is split, two whose paths stay at it, and two
     /// whose paths end at the other vertex.
     pub order: u32,
 }
@@ -30,5 +30,5 @@ pub(crate) struct Parting {
 #[derive(Clone, Copy)]
 pub(crate) enum Change {
     Mended(Mending),
-    Parted(Parting),
+    Split(Splitting),
 }

@@ -5,7 +5,7 @@ ghost use Rattle.kuratowski.specs.Witnesses.{IsWitness};
 ghost use Rattle.embed_witnesses.specs.ContractedEdges.{contraction};
 
 use crate::lifted_witnesses::mended::mended;
-use crate::lifted_witnesses::parted::parted;
+use crate::lifted_witnesses::split::split;
 use crate::merged_ends::on_old_numbers;
 use graph6_text::Graph;
 use kuratowski::Witness;
@@ -16,7 +16,7 @@ use std::alloc::{AllocError, Global};
 ///
 /// On its old numbers the witness takes some neighbours of the greater end for neighbours of the lesser. It
 /// is mended where one step lacks its edge, by the greater end put into it; or, with the ends exchanged, by
-/// the lesser. Else it is one of K5 with the lesser end as a branch, and parts into one of K3,3.
+/// the lesser. Else it is one of K5 with the lesser end as a branch, and splits into one of K3,3.
 pub fn lift(alloc: Global, graph: &Graph, e: Ends, small: &Witness) -> Result<Witness, AllocError>
     requires edge { has_edge graph.now e.a.0 e.b.0 ≡ true }
     requires accepted { IsWitness (contraction graph.now e.a.0 e.b.0) small.now.kind small.now.branch small.now.paths }
@@ -32,7 +32,7 @@ pub fn lift(alloc: Global, graph: &Graph, e: Ends, small: &Witness) -> Result<Wi
         Some(w) => return Ok(w),
         None => {}
     }
-    match parted(alloc, graph, &old, e)? {
+    match split(alloc, graph, &old, e)? {
         Some(w) => Ok(w),
         None => unreachable!(),
     }

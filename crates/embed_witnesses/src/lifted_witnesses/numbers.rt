@@ -3,9 +3,9 @@ ghost use Rattle.std.specs.Prelude.{◌≡◌, ◌<◌, ◌+◌, ◌-◌, ◌==�
 ghost use Rattle.kuratowski.specs.Witnesses.{branch_count as branches_of, vertex_at as vertex_of};
 ghost use Rattle.embed_contraction.specs.Traces.{path_count as paths_of};
 ghost use Rattle.embed_witnesses.specs.Merged.{exchanged_number as number_of_other};
-ghost use Rattle.embed_witnesses.specs.Changes.{step_count as steps_of, place_in as vertex_of_path, moved as moved_number, put_in as put_number, mended_count as mended_steps, longer as longer_vertex, mended_place as mended_vertex, named_branch as branch_named, first_name as name_of_first, second_name as name_of_second, path_between as path_of_two, link_between as link_of_two, link_of as link_number, linked_place as linked_vertex, ended as ended_vertex, parted_count as parted_steps, parted_place as parted_vertex, parted_branch as parted_branch_vertex, kind_in, branch_in, count_in, vertex_in};
+ghost use Rattle.embed_witnesses.specs.Changes.{step_count as steps_of, place_in as vertex_of_path, moved as moved_number, put_in as put_number, mended_count as mended_steps, longer as longer_vertex, mended_place as mended_vertex, named_branch as branch_named, first_name as name_of_first, second_name as name_of_second, path_between as path_of_two, link_between as link_of_two, link_of as link_number, linked_place as linked_vertex, ended as ended_vertex, split_count as split_steps, split_place as split_vertex, split_branch as split_branch_vertex, kind_in, branch_in, count_in, vertex_in};
 
-use crate::lifted_witnesses::changes::{Change, Mending, Parting};
+use crate::lifted_witnesses::changes::{Change, Mending, Splitting};
 use kuratowski::Kind;
 use map_lists::{PathList, VertexId, VertexList};
 
@@ -199,14 +199,14 @@ fn less(a: usize, b: usize) -> usize
     if a < b { 0 } else { a - b }
 }
 
-fn ended(t: Parting, p: usize, v: u16) -> u16
+fn ended(t: Splitting, p: usize, v: u16) -> u16
     ensures { result ≡ ended_vertex t p v }
 {
     if p % 3 == 0 && v == t.a { t.b } else { v }
 }
 
-fn parted_count(t: Parting, paths: &PathList, p: usize) -> usize
-    ensures value { result ≡ parted_steps t paths.now p }
+fn split_count(t: Splitting, paths: &PathList, p: usize) -> usize
+    ensures value { result ≡ split_steps t paths.now p }
     ensures few { result < 18446744073709551615 }
 {
     if p == 0 {
@@ -216,8 +216,8 @@ fn parted_count(t: Parting, paths: &PathList, p: usize) -> usize
     }
 }
 
-fn parted_place(t: Parting, paths: &PathList, p: usize, i: usize) -> u16
-    ensures { result ≡ parted_vertex t paths.now p i }
+fn split_place(t: Splitting, paths: &PathList, p: usize, i: usize) -> u16
+    ensures { result ≡ split_vertex t paths.now p i }
 {
     if p == 0 {
         if i == 0 { t.a } else { t.b }
@@ -238,8 +238,8 @@ fn name_of_branch(j: usize) -> usize
     }
 }
 
-fn parted_branch(t: Parting, branch: &VertexList, j: usize) -> u16
-    ensures { result ≡ parted_branch_vertex t branch.now j }
+fn split_branch(t: Splitting, branch: &VertexList, j: usize) -> u16
+    ensures { result ≡ split_branch_vertex t branch.now j }
 {
     if j == 3 {
         t.b
@@ -254,7 +254,7 @@ pub(crate) fn kind_of(change: Change, kind: Kind) -> Kind
 {
     match change {
         Change::Mended(_) => kind,
-        Change::Parted(_) => Kind::K33,
+        Change::Split(_) => Kind::K33,
     }
 }
 
@@ -264,7 +264,7 @@ pub(crate) fn branch_of(change: Change, branch: &VertexList, j: usize) -> u16
 {
     match change {
         Change::Mended(m) => moved(m, branch_at(branch, j)),
-        Change::Parted(t) => parted_branch(t, branch, j),
+        Change::Split(t) => split_branch(t, branch, j),
     }
 }
 
@@ -274,7 +274,7 @@ pub(crate) fn count_of(change: Change, paths: &PathList, p: usize) -> usize
 {
     match change {
         Change::Mended(m) => mended_count(m, paths, p),
-        Change::Parted(t) => parted_count(t, paths, p),
+        Change::Split(t) => split_count(t, paths, p),
     }
 }
 
@@ -284,6 +284,6 @@ pub(crate) fn vertex_of_change(change: Change, paths: &PathList, p: usize, i: us
 {
     match change {
         Change::Mended(m) => mended_place(m, paths, p, i),
-        Change::Parted(t) => parted_place(t, paths, p, i),
+        Change::Split(t) => split_place(t, paths, p, i),
     }
 }

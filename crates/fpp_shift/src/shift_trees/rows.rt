@@ -11,7 +11,7 @@ use half_edges::{Counts, DartId, HalfMap, VertexId};
 pub(crate) fn order_has_rows()
     ensures { OrderHasRows }
 {
-    canon_order::run_ends();
+    canon_order::row_ends();
 }
 
 // The rank of the vertex to which a dart leads.

@@ -1,7 +1,7 @@
 //! The tree of offsets of an order.
 ghost use Rattle.std.specs.Prelude.{◌≡◌, ◌≤◌, ◌+◌, ◌*◌, length, slice_index};
 ghost use Rattle.map_theory.specs.Maps.{Dart, vertex_count};
-ghost use Rattle.plane_laws.specs.Completed.{IsCompleted};
+ghost use Rattle.plane_laws.specs.Triangulations.{IsTriangulation};
 ghost use Rattle.canon_order.specs.Orders.{IsCanonicalOrder, IsRankOf, vertices_of};
 ghost use Rattle.fpp_shift.specs.Ways.{IsTree};
 ghost use Rattle.fpp_shift.specs.Trees.{IsTreeOf};
@@ -13,7 +13,7 @@ use half_edges::HalfMap;
 use pg_io::Steps;
 use std::sync::ledger::Ledger;
 
-/// Makes `tree` the tree of offsets of a canonical order of a completed map, whatever its nodes were. Its links
+/// Makes `tree` the tree of offsets of a canonical order of a triangulation, whatever its nodes were. Its links
 /// lead from the first vertex of the order to each other one, and it adds up to the points of the shift method.
 ///
 /// At most 24 uses of the tree are made for each vertex. It takes no memory and refuses nothing.
@@ -28,7 +28,7 @@ pub fn offset_tree<L: Ledger>(
     tree: &mut Offsets<L>,
     steps: &mut Steps<L>,
 )
-    requires completed { IsCompleted tri.now.lists }
+    requires triangulation { IsTriangulation tri.now.lists }
     requires order { (base : Dart) × IsCanonicalOrder tri.now.lists base (vertices_of order.now) }
     requires rank { IsRankOf order.now.rank (vertices_of order.now) }
     requires nodes { length tree.old ≡ vertex_count tri.now.lists }

@@ -2,7 +2,7 @@
 ghost use Rattle.std.specs.Prelude.{◌≡◌, ◌+◌, ◌<◌, ◌≤◌, ◌^◌, ◌==◌, ◌++◌, ℕ, List, [], ◌∷◌, length, slice_index, count_by, All, Contains, IfOk};
 ghost use Rattle.map_lists.specs.Cuts.{joined};
 ghost use Rattle.graph_search.specs.Arcs.{arcs_of, HasArc, IsAcyclic, AreLongest, IsTopological};
-ghost use Rattle.graph_search.specs.Runs.{IsRaised, IsPut, IsUsed, IsRun, IsAt, used_at, all_into};
+ghost use Rattle.graph_search.specs.Progress.{IsRaised, IsPut, IsUsed, IsProgress, IsAt, used_at, all_into};
 
 use map_lists::ItemLists;
 use std::alloc::{AllocError, Global};
@@ -84,11 +84,11 @@ fn visit(
 ) -> Result<(), AllocError>
     requires acyclic { IsAcyclic arcs.now base }
     requires e_in { e < length arcs.now }
-    requires run { (used : ℕ → ℕ) × IsRun arcs.now base used number.old waiting.old queue.old.items × (used e ≡ 0) }
+    requires run { (used : ℕ → ℕ) × IsProgress arcs.now base used number.old waiting.old queue.old.items × (used e ≡ 0) }
     requires queued { Contains queue.old.items e }
     requires room { slice_index number.old e + 1 < 2 ^ 32 }
-    ensures run { IfOk result (λ _. (used : ℕ → ℕ) → IsRun arcs.now base used number.old waiting.old queue.old.items → used e ≡ 0
-        → IsRun arcs.now base (used_at used e (length (arcs_of arcs.now e))) number.new waiting.new queue.new.items) }
+    ensures run { IfOk result (λ _. (used : ℕ → ℕ) → IsProgress arcs.now base used number.old waiting.old queue.old.items → used e ≡ 0
+        → IsProgress arcs.now base (used_at used e (length (arcs_of arcs.now e))) number.new waiting.new queue.new.items) }
     ensures low { IfOk result (λ _. (b : ℕ) → ((x : ℕ) → slice_index number.old x ≤ b) → (x : ℕ) → slice_index number.new x ≤ b + 1) }
     ensures grown { IfOk result (λ _. (rest : List ℕ) × (queue.new.items ≡ queue.old.items ++ rest)) }
 {

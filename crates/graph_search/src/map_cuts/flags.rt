@@ -1,7 +1,7 @@
 //! Which vertices are cut vertices.
 ghost use Rattle.std.specs.Prelude.{◌≡◌, ◌+◌, ◌<◌, ◌≤◌, ◌↔◌, ℕ, length, slice_index, All, IfOk, IsTrue, MatchBool};
 ghost use Rattle.graph_search.specs.Forests.{IsAdjacency};
-ghost use Rattle.graph_search.specs.Flags.{AreCutFlags, IsPartedIn, HasParted, TellParted};
+ghost use Rattle.graph_search.specs.Flags.{AreCutFlags, IsSeparatedIn, HasSeparatedChild, TellSeparated};
 
 use crate::search_forests::{low_points, search_forest};
 use map_lists::Rotations;
@@ -28,14 +28,14 @@ fn is_later(number: &[u16], v: u16, u: u16) -> bool
 }
 
 // Whether u is a child of v that v parts from other vertices.
-fn is_parted(number: &[u16], parent: &[u16], low: &[u16], v: u16, u: u16) -> bool
+fn is_separated(number: &[u16], parent: &[u16], low: &[u16], v: u16, u: u16) -> bool
     requires few { length number.now < 4096 }
     requires small { slice_index number.now v < length number.now }
     requires parents { length parent.now ≡ length number.now }
     requires lows { length low.now ≡ length number.now }
     requires v_in { v < length number.now }
     requires u_in { u < length number.now }
-    ensures { IsTrue result ↔ IsPartedIn number.now parent.now low.now v u }
+    ensures { IsTrue result ↔ IsSeparatedIn number.now parent.now low.now v u }
 {
     if parent[u as usize] != v {
         false
@@ -47,17 +47,17 @@ fn is_parted(number: &[u16], parent: &[u16], low: &[u16], v: u16, u: u16) -> boo
 }
 
 // Whether a list has such a child.
-fn has_parted(list: &[u16], number: &[u16], parent: &[u16], low: &[u16], v: u16) -> bool
+fn has_separated(list: &[u16], number: &[u16], parent: &[u16], low: &[u16], v: u16) -> bool
     requires few { length number.now < 4096 }
     requires small { slice_index number.now v < length number.now }
     requires parents { length parent.now ≡ length number.now }
     requires lows { length low.now ≡ length number.now }
     requires v_in { v < length number.now }
     requires vertices { All (λ u. u < length number.now) list.now }
-    ensures { MatchBool result (HasParted number.now parent.now low.now v list.now) (¬ HasParted number.now parent.now low.now v list.now) }
+    ensures { MatchBool result (HasSeparatedChild number.now parent.now low.now v list.now) (¬ HasSeparatedChild number.now parent.now low.now v list.now) }
 {
     for u in list {
-        if is_parted(number, parent, low, v, *u) {
+        if is_separated(number, parent, low, v, *u) {
             return true;
         }
     }
@@ -73,10 +73,10 @@ fn set_flags(lists: &Rotations, number: &[u16], parent: &[u16], low: &[u16], fla
     requires parents { length parent.now ≡ length lists.now }
     requires lows { length low.now ≡ length lists.now }
     requires flags { length flags.old ≡ length lists.now }
-    ensures { TellParted lists.now number.now parent.now low.now flags.new (length lists.now) }
+    ensures { TellSeparated lists.now number.now parent.now low.now flags.new (length lists.now) }
 {
     for v in 0..lists.len() {
-        flags[v] = has_parted(lists.list(v), number, parent, low, v as u16);
+        flags[v] = has_separated(lists.list(v), number, parent, low, v as u16);
     }
 }
 

@@ -1,6 +1,6 @@
 //! A canonical order of the completion of a record's map, or why there is none.
 ghost use Rattle.std.specs.Prelude.{◌≡◌, ◌≤◌, ◌<◌, ℕ, length, Some, None, IfOk, IfErr, IfSome, IfNone, OnOk};
-ghost use Rattle.plane_laws.specs.Completed.{IsCompleted};
+ghost use Rattle.plane_laws.specs.Triangulations.{IsTriangulation};
 ghost use Rattle.conn_parts.specs.Counted.{IsPlaneMap};
 ghost use Rattle.grid_figures.specs.DrawingOrdersBases.{LeadsToLeast};
 ghost use Rattle.grid_figures.specs.Orders.{IsDrawingOrder};
@@ -13,7 +13,7 @@ use half_edges::{DartId, HalfMap, Rotations, VertexId};
 use refusals::Unserved;
 use std::alloc::{AllocError, Global};
 
-/// A completed map with a canonical order of it.
+/// A triangulation with a canonical order of it.
 #[derive(Drop)]
 pub struct DrawingOrder {
     /// The map.
@@ -24,9 +24,9 @@ pub struct DrawingOrder {
     pub order: Order,
 }
 
-// The dart from vertex 0 of a completed map to its least neighbour.
+// The dart from vertex 0 of a triangulation to its least neighbour.
 fn least_dart(tri: &HalfMap) -> DartId
-    requires completed { IsCompleted tri.now.lists }
+    requires triangulation { IsTriangulation tri.now.lists }
     ensures { LeadsToLeast tri.now result.0 }
 {
     for u in 1..tri.n() {
@@ -37,10 +37,10 @@ fn least_dart(tri: &HalfMap) -> DartId
     unreachable!()
 }
 
-// The base for a drawing of a completed map: the dart given, or else that from vertex 0 to its least
+// The base for a drawing of a triangulation: the dart given, or else that from vertex 0 to its least
 // neighbour.
 fn base_dart(tri: &HalfMap, first: Option<DartId>) -> DartId
-    requires completed { IsCompleted tri.now.lists }
+    requires triangulation { IsTriangulation tri.now.lists }
     ensures given { IfSome first (λ d. result ≡ d) }
     ensures least { IfNone first (LeadsToLeast tri.now result.0) }
 {

@@ -1,7 +1,7 @@
 //! Drawings by Schnyder's coordinates.
 ghost use Rattle.std.specs.Prelude.{◌≡◌, ◌<◌, ◌+◌, ◌-◌, ℕ, length, All, pos, IfOk};
 ghost use Rattle.map_theory.specs.Maps.{Dart, HasDart, vertex_count};
-ghost use Rattle.plane_laws.specs.Completed.{IsCompleted};
+ghost use Rattle.plane_laws.specs.Triangulations.{IsTriangulation};
 ghost use Rattle.canon_order.specs.Orders.{IsCanonicalOrder, IsRankOf, vertices_of};
 ghost use Rattle.contour_runs.specs.Runs.{Step};
 ghost use Rattle.order_drawings.specs.Rows.{AreAllRows};
@@ -32,7 +32,7 @@ fn drawn(alloc: Global, rows: &Rotations, ranks: &Counts) -> Result<Points, Allo
     points_at(alloc, &drops, &rises, ranks)
 }
 
-/// The drawing of a completed map by Schnyder's coordinates over a canonical order of it: a simple map of
+/// The drawing of a triangulation by Schnyder's coordinates over a canonical order of it: a simple map of
 /// genus zero with n >= 3 vertices and 3n - 6 edges.
 ///
 /// It is plane and keeps the rotations, in the grid n - 2 by n - 2. The order's first vertex stands at
@@ -45,7 +45,7 @@ fn drawn(alloc: Global, rows: &Rotations, ranks: &Counts) -> Result<Points, Allo
 ///
 /// Source: Schnyder, Embedding planar graphs on the grid, 1990.
 pub fn wood_draw(alloc: Global, tri: &HalfMap, order: &Order) -> Result<GridFigure, AllocError>
-    requires completed { IsCompleted tri.now.lists }
+    requires triangulation { IsTriangulation tri.now.lists }
     requires order { (base : Dart) × IsCanonicalOrder tri.now.lists base (vertices_of order.now) }
     requires rank { IsRankOf order.now.rank (vertices_of order.now) }
     ensures points { IfOk result (λ figure. (base : Dart) (canonical : IsCanonicalOrder tri.now.lists base (vertices_of order.now))
@@ -63,7 +63,7 @@ pub fn wood_draw(alloc: Global, tri: &HalfMap, order: &Order) -> Result<GridFigu
 
 /// The same, by the lists of the map.
 pub fn list_draw(alloc: Global, lists: &Rotations, order: &Order) -> Result<GridFigure, AllocError>
-    requires completed { IsCompleted lists.now }
+    requires triangulation { IsTriangulation lists.now }
     requires few { length lists.now < 4096 }
     requires order { (base : Dart) × IsCanonicalOrder lists.now base (vertices_of order.now) }
     requires rank { IsRankOf order.now.rank (vertices_of order.now) }

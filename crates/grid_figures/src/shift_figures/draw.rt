@@ -1,7 +1,7 @@
 //! The figure of a record, or why it has none.
 ghost use Rattle.std.specs.Prelude.{◌≡◌, ◌<◌, length, Some, None, IfOk, IfErr, OnOk};
 ghost use Rattle.map_theory.specs.Maps.{Dart};
-ghost use Rattle.plane_laws.specs.Completed.{IsCompleted};
+ghost use Rattle.plane_laws.specs.Triangulations.{IsTriangulation};
 ghost use Rattle.canon_order.specs.Orders.{IsCanonicalOrder, IsRankOf, vertices_of};
 ghost use Rattle.refusals.specs.Conditions.{first_refusal, IfRefused};
 ghost use Rattle.grid_figures.specs.Forms.{IsDrawnBy};
@@ -15,9 +15,9 @@ use pg_plane::GridFigure;
 use refusals::Unserved;
 use std::alloc::{AllocError, Global};
 
-// The drawing of a completed map by a canonical order.
+// The drawing of a triangulation by a canonical order.
 fn order_figure(alloc: Global, tri: &HalfMap, order: &Order) -> Result<GridFigure, AllocError>
-    requires completed { IsCompleted tri.now.lists }
+    requires triangulation { IsTriangulation tri.now.lists }
     requires order { (base : Dart) × IsCanonicalOrder tri.now.lists base (vertices_of order.now) }
     requires rank { IsRankOf order.now.rank (vertices_of order.now) }
     ensures { IfOk result (IsDrawnBy shift_form tri.now.lists (vertices_of order.now)) }

@@ -1,7 +1,7 @@
 //! The rows of the contour over which the vertices of an order are put, by their lists.
 ghost use Rattle.std.specs.Prelude.{◌≡◌, ◌<◌, ◌≤◌, ◌+◌, ◌^◌, ◌↔◌, ℕ, List, [], length, map, slice_index, All, IsTrue, IfOk};
 ghost use Rattle.map_theory.specs.Maps.{Dart, list_of};
-ghost use Rattle.plane_laws.specs.Completed.{IsCompleted};
+ghost use Rattle.plane_laws.specs.Triangulations.{IsTriangulation};
 ghost use Rattle.canon_order.specs.Orders.{IsCanonicalOrder, IsRankOf, vertices_of};
 ghost use Rattle.order_drawings.specs.Rows.{place_before, place_after, rank_at, IsFirstPlace, IsLastPlace, IsRowIn, AreRanked, OrderRows, AreRowsOf};
 
@@ -102,7 +102,7 @@ fn fill_row(
 fn order_has_rows()
     ensures { OrderRows }
 {
-    canon_order::run_ends();
+    canon_order::row_ends();
 }
 
 // The rows in lists, from that of the third vertex of an order on.
@@ -138,14 +138,14 @@ fn listed_rows(
     Ok(rows)
 }
 
-/// The rows of the contour over which the vertices of a canonical order of a completed map are put, from that
+/// The rows of the contour over which the vertices of a canonical order of a triangulation are put, from that
 /// of its third vertex on. Each names the vertices by their ranks, from the first one under the new vertex to
 /// the last one.
 ///
 /// It fails only for want of memory. The map and the order stay as they are. The time is linear in the
 /// entries of the map.
 pub fn order_rows(alloc: Global, tri: &HalfMap, order: &Order) -> Result<Rotations, AllocError>
-    requires completed { IsCompleted tri.now.lists }
+    requires triangulation { IsTriangulation tri.now.lists }
     requires order { (base : Dart) × IsCanonicalOrder tri.now.lists base (vertices_of order.now) }
     requires rank { IsRankOf order.now.rank (vertices_of order.now) }
     ensures { IfOk result (AreRowsOf tri.now.lists (vertices_of order.now)) }
@@ -158,7 +158,7 @@ pub fn order_rows(alloc: Global, tri: &HalfMap, order: &Order) -> Result<Rotatio
 
 /// The same, by the lists of the map.
 pub fn list_rows(alloc: Global, lists: &Rotations, order: &Order) -> Result<Rotations, AllocError>
-    requires completed { IsCompleted lists.now }
+    requires triangulation { IsTriangulation lists.now }
     requires few { length lists.now < 4096 }
     requires order { (base : Dart) × IsCanonicalOrder lists.now base (vertices_of order.now) }
     requires rank { IsRankOf order.now.rank (vertices_of order.now) }

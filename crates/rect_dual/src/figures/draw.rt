@@ -10,7 +10,7 @@ ghost use Rattle.rect_dual.specs.Figures.{IsRectFigure};
 use crate::draw::rect_draw;
 use half_edges::{DartId, HalfMap, Rotations, VertexId};
 use pg_plane::RectFigure;
-use rect_class::rect_block;
+use rect_class::rect_map;
 use refusals::Unserved;
 use std::alloc::{AllocError, Global};
 
@@ -27,11 +27,11 @@ fn first_dart(map: &HalfMap) -> DartId
 }
 
 // The rectangles of a map of the class.
-fn block_rects(alloc: Global, map: &HalfMap) -> Result<RectFigure, AllocError>
+fn map_rects(alloc: Global, map: &HalfMap) -> Result<RectFigure, AllocError>
     requires class { IsRectMap map.now.lists }
     ensures { IfOk result (IsRectFigure map.now.lists) }
 {
-    rect_class::blocks_are_rect_maps();
+    rect_class::biconnected_are_rect_maps();
     rect_orders::rect_duals::dual_for_first();
     let figure = rect_draw(alloc, map, first_dart(map))?;
     Ok(figure)
@@ -56,7 +56,7 @@ pub fn rect_figure(alloc: Global, lists: &Rotations) -> Result<RectFigure, Unser
     ensures served { OnOk result (IsRectMap lists.now) }
     ensures refused { IfErr result (IfRefused (BreaksRect lists.now)) }
 {
-    let map = rect_block(alloc, lists)?;
-    let figure = block_rects(alloc, &map)?;
+    let map = rect_map(alloc, lists)?;
+    let figure = map_rects(alloc, &map)?;
     Ok(figure)
 }

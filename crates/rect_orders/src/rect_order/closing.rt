@@ -42,7 +42,7 @@ pub fn frame_of(map: &HalfMap, base: DartId) -> Frame
 }
 
 /// The lists of the closed map of one of this class, whose base dart goes from the left vertex to the top: an edge
-/// more, outside, between the top and the bottom. It is completed.
+/// more, outside, between the top and the bottom. It is a triangulation.
 ///
 /// It fails only for want of memory, and the map stays as it is.
 pub fn closed_lists(alloc: Global, map: &HalfMap, frame: Frame) -> Result<Rotations, AllocError>

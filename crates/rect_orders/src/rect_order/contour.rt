@@ -6,7 +6,7 @@
 ghost use Rattle.std.specs.Prelude.{◌≡◌, ◌<◌, ◌↔◌, ℕ, false, true, length, All, IsTrue, IfOk};
 ghost use Rattle.map_theory.specs.Maps.{IsSimpleMap};
 ghost use Rattle.canon_order.specs.Marks.{is_set, IsTally, IsTaken};
-ghost use Rattle.rect_orders.specs.Contours.{IsReady, IsPrepared};
+ghost use Rattle.rect_orders.specs.Contours.{LooksRemovable, IsPrepared};
 
 use canon_order::cycle_marks::{leave_cycle, mark};
 use half_edges::Rotations;
@@ -40,17 +40,17 @@ pub(crate) fn take_off(
 }
 
 // Whether a vertex may be taken off next.
-fn is_ready(marked: &[bool], near: &[u16], away: &[u16], t: u16, s: u16, v: u16) -> bool
+fn is_removable(marked: &[bool], near: &[u16], away: &[u16], t: u16, s: u16, v: u16) -> bool
     requires marked { v < length marked.now }
     requires near { v < length near.now }
     requires away { v < length away.now }
-    ensures { IsTrue result ↔ IsReady t s marked.now near.now away.now v }
+    ensures { IsTrue result ↔ LooksRemovable t s marked.now near.now away.now v }
 {
     marked[v as usize] && v != t && v != s && near[v as usize] == 2 && away[v as usize] >= 2
 }
 
 // A vertex that may be taken off next, where there is one.
-pub(crate) fn ready_vertex(
+pub(crate) fn removable_vertex(
     marked: &[bool],
     near: &[u16],
     gone: &[bool],
@@ -61,15 +61,15 @@ pub(crate) fn ready_vertex(
     s: u16,
 ) -> u16
     requires prepared { IsPrepared lists.now t s marked.now near.now gone.now away.now stack.old.items }
-    requires some { (v : ℕ) × IsReady t s marked.now near.now away.now v }
-    ensures ready { IsReady t s marked.now near.now away.now result }
+    requires some { (v : ℕ) × LooksRemovable t s marked.now near.now away.now v }
+    ensures removable { LooksRemovable t s marked.now near.now away.now result }
     ensures vertex { result < length lists.now }
     ensures prepared { IsPrepared lists.now t s marked.now near.now gone.now away.now stack.new.items }
 {
     let _gone = gone;
     while stack.len() > 0 {
         let v = stack[stack.len() - 1];
-        if is_ready(marked, near, away, t, s, v) {
+        if is_removable(marked, near, away, t, s, v) {
             return v;
         }
         stack.pop();

@@ -6,7 +6,7 @@ ghost use Rattle.rect_orders.specs.Orders.{IsRectOrder};
 ghost use Rattle.rect_orders.specs.Contours.{IsFresh, IsPrepared, IsClosedOf, IsClosedAt, IsContourAt, IsOrderAt};
 
 use crate::rect_order::closing::Frame;
-use crate::rect_order::contour::{ready_vertex, take_off};
+use crate::rect_order::contour::{removable_vertex, take_off};
 use canon_order::cycle_marks::mark_three;
 use canon_order::{Order, push_three, turned_order};
 use half_edges::Rotations;
@@ -59,7 +59,7 @@ fn peel(
     ensures { IfOk result (λ _. IsOrderAt lists.now frame (reverse taken.new.items)) }
 {
     for _ in 5..lists.len() {
-        let v = ready_vertex(
+        let v = removable_vertex(
             marked,
             near,
             gone,

@@ -2,11 +2,11 @@
 ghost use Rattle.std.specs.Prelude.{◌≡◌, ◌<◌, length, Some, IfOk, IfErr, OnOk};
 ghost use Rattle.half_edges.specs.Map.{IsLive, dart_at, first_dart as first_of};
 ghost use Rattle.refusals.specs.Conditions.{IfRefused};
-ghost use Rattle.conn_parts.specs.Blocks.{IsPlaneBlock, BreaksFirst};
+ghost use Rattle.conn_parts.specs.BiconnectedMaps.{IsBiconnectedMap, BreaksFirst};
 ghost use Rattle.visibility.specs.Figures.{IsBarFigure};
 
 use crate::bars;
-use conn_parts::plane_blocks::plane_block;
+use conn_parts::biconnected_maps::biconnected_map;
 use half_edges::{DartId, HalfMap, Rotations, VertexId};
 use pg_plane::BarFigure;
 use refusals::Unserved;
@@ -14,7 +14,7 @@ use std::alloc::{AllocError, Global};
 
 // The dart from vertex 0 to the first of its list.
 fn first_dart(map: &HalfMap) -> DartId
-    requires block { IsPlaneBlock 3 map.now.lists }
+    requires biconnected { IsBiconnectedMap 3 map.now.lists }
     ensures live { IsLive map.now result.0 }
     ensures first { dart_at map.now result.0 ≡ Some (first_of map.now.lists 0) }
 {
@@ -24,9 +24,9 @@ fn first_dart(map: &HalfMap) -> DartId
     }
 }
 
-// The bars of a map in one block.
-fn block_bars(alloc: Global, map: &HalfMap) -> Result<BarFigure, AllocError>
-    requires block { IsPlaneBlock 3 map.now.lists }
+// The bars of a biconnected map.
+fn map_bars(alloc: Global, map: &HalfMap) -> Result<BarFigure, AllocError>
+    requires biconnected { IsBiconnectedMap 3 map.now.lists }
     ensures { IfOk result (IsBarFigure map.now.lists) }
 {
     bars(alloc, map, first_dart(map))
@@ -47,10 +47,10 @@ pub fn bar_figure(alloc: Global, lists: &Rotations) -> Result<BarFigure, Unserve
     requires some_list { 0 < length lists.now }
     requires few_lists { length lists.now < 4096 }
     ensures figure { IfOk result (IsBarFigure lists.now) }
-    ensures served { OnOk result (IsPlaneBlock 3 lists.now) }
+    ensures served { OnOk result (IsBiconnectedMap 3 lists.now) }
     ensures refused { IfErr result (IfRefused (BreaksFirst 3 lists.now)) }
 {
-    let map = plane_block(alloc, lists, 3)?;
-    let figure = block_bars(alloc, &map)?;
+    let map = biconnected_map(alloc, lists, 3)?;
+    let figure = map_bars(alloc, &map)?;
     Ok(figure)
 }

@@ -11,8 +11,8 @@ overflow_sub-room-2 c =
     let bound = edge_bound c.args.map.lists c.n.ensures.known.simple c.requires.plane c.requires.some in
     omega (arith, c.n.ensures.count, c.m.ensures.count)
 
-pub returns-in-Ok-clause-completed : goal.returns-in-Ok-clause-completed
-returns-in-Ok-clause-completed c =
+pub returns-in-Ok-clause-triangulation : goal.returns-in-Ok-clause-triangulation
+returns-in-Ok-clause-triangulation c =
     let h = c.fill.ensures.roomy in
     record {
       simple = h.known.simple;

@@ -2,11 +2,11 @@ use Rattle.std.proofs.Common.{◌≡◌, ◌<◌, ℕ, suc, List, length, slice_
 use Rattle.std.proofs.lemmas.Result.{IfOk-weaker}
 use Rattle.convex_orders.specs.Contours.{contour_of}
 use Rattle.convex_orders.proofs.Moves.{length-contour}
-use Rattle.convex_orders.specs.Splits.{IsLoosePlace}
+use Rattle.convex_orders.specs.Splits.{IsRemovablePlace}
 use Rattle.convex_orders.proofs.choice.find.Goals as goal
 
 pub before_last-count-requires-clause-two : goal.before_last-count-requires-clause-two
-before_last-count-requires-clause-two c = let n = length-contour c.args.left.now.items c.args.right.now.items in let l = c.requires.loose.1.before in let a = c.requires.loose.1.after in omega arith
+before_last-count-requires-clause-two c = let n = length-contour c.args.left.now.items c.args.right.now.items in let l = c.requires.removable.1.before in let a = c.requires.removable.1.after in omega arith
 
 pub seek-requires-clause-behind : goal.seek-requires-clause-behind
 seek-requires-clause-behind c =
@@ -21,11 +21,11 @@ seek-requires-clause-vertices c = subst (λ (z : List ℕ). (i : ℕ) → i < le
 pub returns-then-branch-clause-found : goal.returns-then-branch-clause-found
 returns-then-branch-clause-found c = λ j e.
     let t = c.args.faces.now in
-    subst (λ (z : List ℕ). IsLoosePlace t.own t.other c.args.marks.now c.args.places.now c.args.edges.now z j) c.in_ok-move_to.ensures.same (c.in_ok-seek.ensures.found c.if-branch.true j e)
+    subst (λ (z : List ℕ). IsRemovablePlace t.own t.other c.args.marks.now c.args.places.now c.args.edges.now z j) c.in_ok-move_to.ensures.same (c.in_ok-seek.ensures.found c.if-branch.true j e)
 
 pub returns-else-branch-clause-found : goal.returns-else-branch-clause-found
 returns-else-branch-clause-found c =
     let t = c.args.faces.now in
     let ws = contour_of c.args.left.now.items c.args.right.now.items in
-    IfOk-weaker c.seek_all.result _ (λ _. (j : ℕ) → suc j ≡ length c.seek_all.new.left.items → IsLoosePlace t.own t.other c.args.marks.now c.args.places.now c.args.edges.now ws j)
-    (λ _ found j e. subst (λ (z : List ℕ). IsLoosePlace t.own t.other c.args.marks.now c.args.places.now c.args.edges.now z j) (c.in_ok-seek.ensures.same ∙ c.in_ok-move_to.ensures.same) (found j e)) c.seek_all.ensures.found
+    IfOk-weaker c.seek_all.result _ (λ _. (j : ℕ) → suc j ≡ length c.seek_all.new.left.items → IsRemovablePlace t.own t.other c.args.marks.now c.args.places.now c.args.edges.now ws j)
+    (λ _ found j e. subst (λ (z : List ℕ). IsRemovablePlace t.own t.other c.args.marks.now c.args.places.now c.args.edges.now z j) (c.in_ok-seek.ensures.same ∙ c.in_ok-move_to.ensures.same) (found j e)) c.seek_all.ensures.found

@@ -3,15 +3,15 @@ use Rattle.std.proofs.lemmas.Bool.{cases_eq, cases_lt, true≢false}
 use Rattle.map_theory.specs.Maps.{list_of}
 use Rattle.convex_orders.specs.Contours.{contour_of}
 use Rattle.convex_orders.proofs.Moves.{length-contour, contour_left}
-use Rattle.convex_orders.specs.Splits.{IsLooseRow}
+use Rattle.convex_orders.specs.Splits.{IsRemovableRow}
 use Rattle.convex_orders.proofs.SeekLemmas.{place_from, row_from}
 use Rattle.convex_orders.proofs.choice.seek.Goals as goal
 
-pub is_last_loose-requires-clause-some : goal.is_last_loose-requires-clause-some
-is_last_loose-requires-clause-some c = omega (arith, c.loop.invariant.long, c.loop-test.true, ap length c.deref.ensures.value)
+pub is_last_removable-requires-clause-some : goal.is_last_removable-requires-clause-some
+is_last_removable-requires-clause-some c = omega (arith, c.loop.invariant.long, c.loop-test.true, ap length c.deref.ensures.value)
 
-pub is_last_loose-requires-clause-vertices : goal.is_last_loose-requires-clause-vertices
-is_last_loose-requires-clause-vertices c =
+pub is_last_removable-requires-clause-vertices : goal.is_last_removable-requires-clause-vertices
+is_last_removable-requires-clause-vertices c =
     subst (λ (z : List ℕ). (i : ℕ) → i < length z → slice_index z i < length c.args.lists.now) (sym c.deref.ensures.value) (λ i l.
     let left = c.loop.left.items in
     let right = c.loop.right.items in
@@ -24,18 +24,18 @@ is_last_loose-requires-clause-vertices c =
 pub step_back-requires : goal.step_back-requires
 step_back-requires c = omega (arith, c.loop.invariant.long, c.loop-test.true)
 
-pub returns-then-is_last_loose-clause-found : goal.returns-then-is_last_loose-clause-found
-returns-then-is_last_loose-clause-found c = λ _ j e.
+pub returns-then-is_last_removable-clause-found : goal.returns-then-is_last_removable-clause-found
+returns-then-is_last_removable-clause-found c = λ _ j e.
     let t = c.args.faces.now in
     let ws = contour_of c.args.left.now.items c.args.right.now.items in
     let left = c.loop.left.items in
     let value = c.deref.ensures.value in
-    let row = (c.is_last_loose.ensures j (e ∙ sym (ap length value))).0 c.if-is_last_loose.true in
+    let row = (c.is_last_removable.ensures j (e ∙ sym (ap length value))).0 c.if-is_last_removable.true in
     place_from t.own t.other c.args.marks.now c.args.places.now c.args.edges.now ws left c.loop.right.items c.loop.invariant.same j e (omega (arith, e, c.loop.invariant.long, c.loop-test.true)) c.loop.invariant.behind
-    (subst (λ (z : List ℕ). IsLooseRow (list_of t.own (get_or z j 0)) (list_of t.other (get_or z j 0)) c.args.marks.now c.args.places.now c.args.edges.now) value row)
+    (subst (λ (z : List ℕ). IsRemovableRow (list_of t.own (get_or z j 0)) (list_of t.other (get_or z j 0)) c.args.marks.now c.args.places.now c.args.edges.now) value row)
 
-pub returns-then-is_last_loose-clause-none : goal.returns-then-is_last_loose-clause-none
-returns-then-is_last_loose-clause-none c = λ f. absurd (true≢false f)
+pub returns-then-is_last_removable-clause-none : goal.returns-then-is_last_removable-clause-none
+returns-then-is_last_removable-clause-none c = λ f. absurd (true≢false f)
 
 pub loop-preserved : goal.loop-preserved
 loop-preserved c =
@@ -55,7 +55,7 @@ loop-preserved c =
             | inr ne ↦ omega (arith, m, ne, shorter)
             | inl e ↦
                 let row = row_from t.own t.other c.args.marks.now c.args.places.now c.args.edges.now ws left c.loop.right.items inv.same j e p in
-                absurd (true≢false (sym ((c.is_last_loose.ensures j (e ∙ sym (ap length value))).1 (subst (λ (z : List ℕ). IsLooseRow (list_of t.own (get_or z j 0)) (list_of t.other (get_or z j 0)) c.args.marks.now c.args.places.now c.args.edges.now) (sym value) row)) ∙ c.if-is_last_loose.false))
+                absurd (true≢false (sym ((c.is_last_removable.ensures j (e ∙ sym (ap length value))).1 (subst (λ (z : List ℕ). IsRemovableRow (list_of t.own (get_or z j 0)) (list_of t.other (get_or z j 0)) c.args.marks.now c.args.places.now c.args.edges.now) (sym value) row)) ∙ c.if-is_last_removable.false))
           ];
     }
 

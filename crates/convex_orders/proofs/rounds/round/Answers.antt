@@ -2,7 +2,7 @@ use Rattle.std.proofs.Common.{◌<◌, ℕ, List, length, slice_index, refl, sym
 use Rattle.convex_orders.specs.Contours.{contour_of, AreEdges}
 use Rattle.convex_orders.specs.Counts.{AreCounts}
 use Rattle.convex_orders.specs.Shown.{IsChoice, SomeOff, IsOffAt}
-use Rattle.convex_orders.specs.Splits.{IsLoosePlace}
+use Rattle.convex_orders.specs.Splits.{IsRemovablePlace}
 use Rattle.convex_orders.proofs.Stretches.{some_place}
 use Rattle.convex_orders.proofs.StandLemmas.{stands_vertices, stands_edges, choice, off_by, stands_more}
 use Rattle.convex_orders.proofs.rounds.round.Goals as goal
@@ -10,8 +10,8 @@ use Rattle.convex_orders.proofs.rounds.round.Goals as goal
 pub find-requires-clause-vertices : goal.find-requires-clause-vertices
 find-requires-clause-vertices c = stands_vertices _ _ _ c.requires.known.based _ _ _ _ _ c.requires.stands.1
 
-pub find-requires-clause-loose : goal.find-requires-clause-loose
-find-requires-clause-loose c =
+pub find-requires-clause-removable : goal.find-requires-clause-removable
+find-requires-clause-removable c =
     let st = c.requires.stands.1 in
     some_place _ _ _ _ _ _ c.requires.known.based c.requires.known.numbers _ _ _ _ c.requires.counts st.alive st.w st.r (choice _ _ _ c.requires.known.based _ _ _ _ _ st c.requires.other)
 
@@ -22,7 +22,7 @@ pub take_run-first-requires-clause-place : goal.take_run-first-requires-clause-p
 take_run-first-requires-clause-place c = λ j e.
     let faces = c.args.tables.now.faces in
     let here = ap₂ contour_of c.deref.ensures.value c.deref-2.ensures.value ∙ c.in_ok-find.ensures.same in
-    subst (λ (z : List ℕ). IsLoosePlace faces.own faces.other c.args.marks.now c.args.places.now c.args.edges.now z j) (sym here) (c.in_ok-find.ensures.found j (e ∙ ap length c.deref.ensures.value))
+    subst (λ (z : List ℕ). IsRemovablePlace faces.own faces.other c.args.marks.now c.args.places.now c.args.edges.now z j) (sym here) (c.in_ok-find.ensures.found j (e ∙ ap length c.deref.ensures.value))
 
 pub take_run-first-requires-clause-counts : goal.take_run-first-requires-clause-counts
 take_run-first-requires-clause-counts c =

@@ -14,4 +14,4 @@ returns-in-Yes c =
     let dart = c.facts.ensures.is_dart c.in-Some.base.0 0 (get_or (list_of lists 0) 0 0) c.in-Some.ensures.dart in
     let base = ap (λ o. unwrap_or o (0, 0)) c.in-Some.ensures.dart in
     let faces = subst (λ (d : Dart). IsFaceVerdict lists c.args.points.now c.args.corner.x c.args.corner.y d FacesYes) base c.in-Yes.ensures in
-    c.faces_yes_for_fewer.ensures lists lists c.args.points.now c.args.corner.x c.args.corner.y (first_dart lists 0) c.facts.ensures.simple c.requires.completed (IsExtended-itself lists) dart faces
+    c.faces_yes_for_fewer.ensures lists lists c.args.points.now c.args.corner.x c.args.corner.y (first_dart lists 0) c.facts.ensures.simple c.requires.triangulation (IsExtended-itself lists) dart faces

@@ -2,4 +2,4 @@ use Rattle.canon_order.specs.Orders.{vertices_of}
 use Rattle.fpp_shift.proofs.draw.shift_draw.Goals as goal
 
 pub returns-clause-drawing : goal.returns-clause-drawing
-returns-clause-drawing c = λ base dart order. c.shift_points_draw.ensures c.args.tri.now.lists base (vertices_of c.args.order.now) c.in_ok-points.points c.requires.completed dart order (c.in_ok-points.ensures base order)
+returns-clause-drawing c = λ base dart order. c.shift_points_draw.ensures c.args.tri.now.lists base (vertices_of c.args.order.now) c.in_ok-points.points c.requires.triangulation dart order (c.in_ok-points.ensures base order)

@@ -14,7 +14,7 @@ pub returns : goal.returns
 returns g c = λ base order.
     let at = vertices_of c.args.order.now in
     let lists = c.args.tri.now.lists in
-    let run = c.order_is_run.ensures lists base at c.requires.completed order in
+    let run = c.order_is_run.ensures lists base at c.requires.triangulation order in
     let count = c.offset_tree.ensures.count ∙ ap length c.in_ok-tree.ensures ∙ length-replicate c.n.result empty_node ∙ c.n.ensures.count in
-    AreShiftPoints-tree c.offset_tree_adds_up.ensures lists base at c.offset_tree.new.tree c.in_ok-points.points c.requires.completed c.facts.ensures.few_vertices order run.0 run.1 count c.offset_tree.ensures.tree
+    AreShiftPoints-tree c.offset_tree_adds_up.ensures lists base at c.offset_tree.new.tree c.in_ok-points.points c.requires.triangulation c.facts.ensures.few_vertices order run.0 run.1 count c.offset_tree.ensures.tree
     (subst (λ (v : ℕ). ArePointsOf c.offset_tree.new.tree v c.in_ok-points.points) (sym (vertex-is c.args.order.now.at 0 c.get.result c.get.ensures)) c.in_ok-points.ensures.points)

@@ -1,6 +1,6 @@
 use Rattle.std.proofs.Common.{◌≡◌, ◌<◌, length, All, refl, sym, ap, subst, arith}
 use Rattle.map_lists.specs.Lists.{Lists}
-use Rattle.plane_laws.specs.Completed.{IsCompleted}
+use Rattle.plane_laws.specs.Triangulations.{IsTriangulation}
 use Rattle.canon_order.specs.Orders.{vertices_of}
 use Rattle.rect_orders.specs.Maps.{closed}
 use Rattle.rect_orders.proofs.Closed.{length-closed}
@@ -26,17 +26,17 @@ lower_rows-requires-clause-few c =
     let same = ap length c.in_ok-more.ensures in
     omega arith
 
-pub lower_rows-requires-clause-completed : goal.lower_rows-requires-clause-completed
-lower_rows-requires-clause-completed c =
+pub lower_rows-requires-clause-triangulation : goal.lower_rows-requires-clause-triangulation
+lower_rows-requires-clause-triangulation c =
     let f = c.args.frame in
-    subst IsCompleted (sym c.in_ok-more.ensures) (c.closed_is_completed.ensures c.args.map.now.lists f.left.0 f.top.0 f.right.0 f.bottom.0 c.requires.class).0
+    subst IsTriangulation (sym c.in_ok-more.ensures) (c.closed_is_triangulation.ensures c.args.map.now.lists f.left.0 f.top.0 f.right.0 f.bottom.0 c.requires.class).0
 
 pub returns-clause-rows : goal.returns-clause-rows
 returns-clause-rows c =
     let f = c.args.frame in
     record {
       class = c.requires.class;
-      completed = (c.closed_is_completed.ensures c.args.map.now.lists f.left.0 f.top.0 f.right.0 f.bottom.0 c.requires.class).0;
+      triangulation = (c.closed_is_triangulation.ensures c.args.map.now.lists f.left.0 f.top.0 f.right.0 f.bottom.0 c.requires.class).0;
       order = c.in_ok-order.ensures.order c.args.map.now.lists record { class = c.requires.class; closed_is = c.in_ok-more.ensures; inner_is = c.requires.inner };
       rank = c.in_ok-order.ensures.rank;
       lower = subst (λ (l : Lists). AreLowerRowsOf l (vertices_of c.in_ok-order.order) c.in_ok-rows.rows) c.in_ok-more.ensures c.in_ok-rows.ensures;

@@ -7,9 +7,9 @@ returns-clause-coordinates c = λ base v has of inner.
     let lists = c.args.tri.now.lists in
     let parent = parent_in c.args.wood.now in
     let at = vertices_of c.in_ok-order.order in
-    let completed = c.requires.completed in
+    let triangulation = c.requires.triangulation in
     let arranged = c.in_ok-order.ensures.arranged base has of in
-    let canonical = c.arranged_is_order.ensures lists base parent at completed has of.wood_is arranged in
+    let canonical = c.arranged_is_order.ensures lists base parent at triangulation has of.wood_is arranged in
     let drawn = c.in_ok-figure.ensures.points base canonical in
-    let parents = c.parents_of_arranged.ensures lists base parent at drawn.steps completed has of.wood_is arranged canonical drawn.order in
-    c.drawn_at_coordinates.ensures lists base at parent c.in_ok-figure.figure.points v completed canonical drawn parents inner
+    let parents = c.parents_of_arranged.ensures lists base parent at drawn.steps triangulation has of.wood_is arranged canonical drawn.order in
+    c.drawn_at_coordinates.ensures lists base at parent c.in_ok-figure.figure.points v triangulation canonical drawn parents inner

@@ -14,7 +14,7 @@ use Rattle.schnyder_grid.proofs.order.wood_order.Goals as goal
 
 pub wood_arcs-requires-clause-within : goal.wood_arcs-requires-clause-within
 wood_arcs-requires-clause-within c =
-    subst (λ (l : Lists). (e r : ℕ) → HasDart l e r → r < length l) (sym c.in_ok-lists.ensures) c.requires.completed.simple.in_range
+    subst (λ (l : Lists). (e r : ℕ) → HasDart l e r → r < length l) (sym c.in_ok-lists.ensures) c.requires.triangulation.simple.in_range
 
 pub topological_order-requires-clause-acyclic : goal.topological_order-requires-clause-acyclic
 topological_order-requires-clause-acyclic c =
@@ -23,8 +23,8 @@ topological_order-requires-clause-acyclic c =
     let arcs = c.in_ok-arcs.arcs in
     let given = c.requires.wood in
     let graph = subst (λ (l : Lists). AreWoodArcs l wood arcs) c.in_ok-lists.ensures c.in_ok-arcs.ensures in
-    let some = c.some_arranged.ensures lists given.0 (parent_in wood) c.requires.completed given.1 given.2.wood_is in
-    subst (IsAcyclic arcs) (sym c.root.ensures) (acyclic lists given.0 wood arcs c.requires.completed given.1 given.2 graph some.0 some.1)
+    let some = c.some_arranged.ensures lists given.0 (parent_in wood) c.requires.triangulation given.1 given.2.wood_is in
+    subst (IsAcyclic arcs) (sym c.root.ensures) (acyclic lists given.0 wood arcs c.requires.triangulation given.1 given.2 graph some.0 some.1)
 
 -- what was turned, turned again
 turned_again : (taken us vs : List ℕ) → taken ≡ us → us ≡ reverse vs → reverse taken ≡ vs
@@ -63,5 +63,5 @@ returns-clause-arranged c =
     let again = turned_again taken c.in_ok-taken.taken.items vs c.deref-2.ensures.value c.in_ok-taken.ensures in
     IfOk-weaker c.turned_order.result (λ order. vertices_of order ≡ reverse taken)
     (λ order. (base : Dart) → HasDart lists base.0 base.1 → IsWoodOf lists base wood → IsArranged lists base (parent_in wood) (vertices_of order))
-    (λ order e. λ base has of. subst (IsArranged lists base (parent_in wood)) (sym (e ∙ again)) (arranged lists base wood arcs c.requires.completed has of graph vs named))
+    (λ order e. λ base has of. subst (IsArranged lists base (parent_in wood)) (sym (e ∙ again)) (arranged lists base wood arcs c.requires.triangulation has of graph vs named))
     c.turned_order.ensures.vertices

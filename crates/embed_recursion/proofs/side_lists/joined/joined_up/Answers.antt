@@ -3,8 +3,8 @@ use Rattle.std.proofs.lemmas.Result.{IfOk-weaker}
 use Rattle.map_theory.specs.Maps.{list_of}
 use Rattle.embed_surgery.specs.Glued.{lists_by}
 use Rattle.embed_theorem.specs.Sides.{IsJoinedUp}
-use Rattle.embed_recursion.proofs.PartedLemmas.{failed}
-use Rattle.embed_recursion.specs.Parting.{joined_row}
+use Rattle.embed_recursion.proofs.SeparationLemmas.{failed}
+use Rattle.embed_recursion.specs.Separating.{joined_row}
 use Rattle.embed_recursion.proofs.JoinedUp.{joined_new}
 use Rattle.embed_recursion.proofs.side_lists.joined.joined_up.Goals as goal
 

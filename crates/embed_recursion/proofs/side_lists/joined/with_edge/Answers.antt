@@ -1,6 +1,6 @@
 use Rattle.std.proofs.Common.{◌++◌, ◌∷◌, [], List, ℕ, sym, ap, ◌∙◌, arith}
 use Rattle.std.proofs.lemmas.List.FromFn.{map-range_with_len_more}
-use Rattle.embed_recursion.specs.Parting.{joined_row}
+use Rattle.embed_recursion.specs.Separating.{joined_row}
 use Rattle.embed_recursion.proofs.side_lists.joined.with_edge.Goals as goal
 
 pub loop-w-preserved : goal.loop-w-preserved

@@ -1,6 +1,6 @@
 use Rattle.std.proofs.Common.{◌++◌, ◌∷◌, [], List, ℕ, ap, ◌∙◌}
 use Rattle.std.specs.List.{filter}
-use Rattle.embed_recursion.specs.Parting.{is_beside}
+use Rattle.embed_recursion.specs.Separating.{is_beside}
 use Rattle.embed_theorem.proofs.Graphs.{kept_more}
 use Rattle.embed_recursion.proofs.side_lists.sides.beside.Goals as goal
 

@@ -1,6 +1,6 @@
 use Rattle.std.proofs.Common.{◌≡◌}
 use Rattle.std.specs.List.{filter, range_with_len}
-use Rattle.embed_recursion.specs.Parting.{is_beside}
+use Rattle.embed_recursion.specs.Separating.{is_beside}
 use Rattle.embed_recursion.proofs.side_lists.sides.beside.Given as goal
 
 abbrev pub invariant-loop-z : goal.invariant-loop-z

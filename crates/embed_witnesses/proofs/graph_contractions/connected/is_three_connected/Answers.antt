@@ -2,7 +2,7 @@ use Rattle.std.proofs.lemmas.Bool.{false≢true}
 use Rattle.std.proofs.Common.{ℕ, IsTrue, ◌↔◌, arith}
 use Rattle.std.proofs.lemmas.Result.{IfOk-weaker}
 use Rattle.graph_search.specs.Cuts.{IsSeparatingPair}
-use Rattle.convex_peeling.specs.Tight.{IsThreeConnected}
+use Rattle.convex_peeling.specs.Polyhedral.{IsThreeConnected}
 use Rattle.conn_parts.specs.GraphLists.{graph_lists}
 use Rattle.conn_parts.proofs.GraphLemmas.{length-graph_lists, IsSimpleMap-graph_lists}
 use Rattle.embed_witnesses.proofs.graph_contractions.connected.is_three_connected.Goals as goal

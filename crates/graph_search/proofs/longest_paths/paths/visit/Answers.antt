@@ -1,8 +1,8 @@
 use Rattle.std.proofs.Common.{◌≡◌, ◌<◌, ℕ, List, length, get_or, Contains, sym, ap, ◌∙◌, subst, arith}
 use Rattle.std.proofs.lemmas.List.Elements.{Contains-get_or, Contains-append_left}
 use Rattle.graph_search.specs.Arcs.{arcs_of, HasArc}
-use Rattle.graph_search.specs.Runs.{IsUsed, IsRun, used_at}
-use Rattle.graph_search.proofs.Runs.{used_at-here, some_waits, IsRun-step, IsUsed-same, IsUsed-low, IsUsed-grown}
+use Rattle.graph_search.specs.Progress.{IsUsed, IsProgress, used_at}
+use Rattle.graph_search.proofs.Progress.{used_at-here, some_waits, IsRun-step, IsUsed-same, IsUsed-low, IsUsed-grown}
 use Rattle.graph_search.proofs.longest_paths.paths.visit.Goals as goal
 
 has_arc : (arcs : List (List ℕ)) (e k : ℕ) (items : List ℕ) → e < length arcs → items ≡ arcs_of arcs e → k < length items → HasArc arcs e (get_or items k 0)
@@ -59,4 +59,4 @@ loop-r-preserved c =
 pub returns-clause-run : goal.returns-clause-run
 returns-clause-run c =
     let all : c.loop-r.r-index ≡ length (arcs_of c.args.arcs.now c.args.e) = omega (arith, ap length c.list-r-items.ensures, c.loop-r-test.false) in
-    subst (λ k. (used : ℕ → ℕ) → IsRun c.args.arcs.now c.args.base used c.args.number.now c.args.waiting.now c.args.queue.now.items → used c.args.e ≡ 0 → IsRun c.args.arcs.now c.args.base (used_at used c.args.e k) c.loop-r.number c.loop-r.waiting c.loop-r.queue.items) all c.loop-r.invariant.run
+    subst (λ k. (used : ℕ → ℕ) → IsProgress c.args.arcs.now c.args.base used c.args.number.now c.args.waiting.now c.args.queue.now.items → used c.args.e ≡ 0 → IsProgress c.args.arcs.now c.args.base (used_at used c.args.e k) c.loop-r.number c.loop-r.waiting c.loop-r.queue.items) all c.loop-r.invariant.run

@@ -1,6 +1,6 @@
 use Rattle.std.proofs.Common.{◌≡◌, ℕ, List, length, sym, subst, arith}
-use Rattle.graph_search.specs.Runs.{IsAt}
-use Rattle.graph_search.proofs.Runs.{IsAt-none, AreLongest-from, IsTopological-from}
+use Rattle.graph_search.specs.Progress.{IsAt}
+use Rattle.graph_search.proofs.Progress.{IsAt-none, AreLongest-from, IsTopological-from}
 use Rattle.graph_search.proofs.longest_paths.paths.visit_all.Goals as goal
 
 pub returns-clause-longest : goal.returns-clause-longest

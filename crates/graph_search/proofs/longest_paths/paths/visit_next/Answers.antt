@@ -2,8 +2,8 @@ use Rattle.std.proofs.Common.{◌≡◌, ◌<◌, ℕ, List, length, get_or, ap,
 use Rattle.std.proofs.lemmas.List.{get_or_default}
 use Rattle.std.proofs.lemmas.List.Elements.{Contains-get_or}
 use Rattle.graph_search.specs.Arcs.{arcs_of}
-use Rattle.graph_search.specs.Runs.{IsRun, used_at}
-use Rattle.graph_search.proofs.Runs.{head_fresh, IsAt-more}
+use Rattle.graph_search.specs.Progress.{IsProgress, used_at}
+use Rattle.graph_search.proofs.Progress.{head_fresh, IsAt-more}
 use Rattle.graph_search.proofs.longest_paths.paths.visit_next.Goals as goal
 
 at_head : (q : List ℕ) (head e : ℕ) → head < length q → e ≡ get_or q head e → e ≡ get_or q head 0
@@ -35,7 +35,7 @@ returns-in_ok-visit c =
     let at = c.requires.at in
     let e = get_or q head 0 in
     let zero = head_fresh arcs c.args.base c.requires.acyclic head at.0 c.args.number.now c.args.waiting.now q at.1 l in
-    let run = subst (λ z. (used : ℕ → ℕ) → IsRun arcs c.args.base used c.args.number.now c.args.waiting.now q → used z ≡ 0 → IsRun arcs c.args.base (used_at used z (length (arcs_of arcs z))) c.visit.new.number c.visit.new.waiting c.visit.new.queue.items) same c.in_ok-visit.ensures.run in
+    let run = subst (λ z. (used : ℕ → ℕ) → IsProgress arcs c.args.base used c.args.number.now c.args.waiting.now q → used z ≡ 0 → IsProgress arcs c.args.base (used_at used z (length (arcs_of arcs z))) c.visit.new.number c.visit.new.waiting c.visit.new.queue.items) same c.in_ok-visit.ensures.run in
     let grown = c.in_ok-visit.ensures.grown in (
       used_at at.0 e (length (arcs_of arcs e)),
       IsAt-more arcs c.args.base c.requires.acyclic head at.0 c.args.number.now c.args.waiting.now q c.visit.new.number c.visit.new.waiting c.visit.new.queue.items at.1 l (run at.0 at.1.run zero) grown.0 grown.1

@@ -7,7 +7,7 @@ use Rattle.grid_figures.proofs.CompletionLemmas.{neighbour_in_completed}
 use Rattle.grid_figures.proofs.drawing_orders.order.least_dart.Goals as goal
 
 pub loop-u-init : goal.loop-u-init
-loop-u-init c = λ u l d. c.requires.completed.simple.no_loop 0 u d (omega arith)
+loop-u-init c = λ u l d. c.requires.triangulation.simple.no_loop 0 u d (omega arith)
 
 pub returns-in-Some : goal.returns-in-Some
 returns-in-Some c = record {
@@ -19,13 +19,13 @@ returns-in-Some c = record {
 pub loop-u-preserved : goal.loop-u-preserved
 loop-u-preserved c =
     let lists = c.args.tri.now.lists in
-    below_more (λ (u : ℕ). HasDart lists 0 u → ⊥) c.loop-u.u c.loop-u.invariant (λ d. c.in_default.ensures (c.requires.completed.simple.both_ways 0 c.loop-u.u d))
+    below_more (λ (u : ℕ). HasDart lists 0 u → ⊥) c.loop-u.u c.loop-u.invariant (λ d. c.in_default.ensures (c.requires.triangulation.simple.both_ways 0 c.loop-u.u d))
 
 pub unreachable-requires : goal.unreachable-requires
 unreachable-requires c =
     let lists = c.args.tri.now.lists in
-    let simple = c.requires.completed.simple in
-    let some = c.requires.completed.some in
-    let d = HasDart-at lists 0 0 0 (omega arith) (neighbour_in_completed lists c.requires.completed) in
+    let simple = c.requires.triangulation.simple in
+    let some = c.requires.triangulation.some in
+    let d = HasDart-at lists 0 0 0 (omega arith) (neighbour_in_completed lists c.requires.triangulation) in
     let l = simple.in_range 0 (get_or (list_of lists 0) 0 0) d in
     c.loop-u.invariant (get_or (list_of lists 0) 0 0) (omega arith) d

@@ -15,7 +15,7 @@ returns c =
     base_of_choice c.args.plane.map tri c.first_dart-first.result c.base_dart-base.result c.facts-2.ensures.is_dart c.first_dart-first.ensures.dart c.in-Ok.ensures.ids c.base_dart-base.ensures.given c.base_dart-base.ensures.least c.first_dart-first.ensures.not_isolated in
     record {
       simple = c.facts.ensures.simple;
-      completed = c.in-Ok.ensures.completed;
+      triangulation = c.in-Ok.ensures.triangulation;
       listed = c.in_ok-lists.ensures;
       extended = c.in-Ok.ensures.extended;
       to = base.to;

@@ -1,6 +1,6 @@
 use Rattle.std.proofs.Common.{length, sym, ap, subst, arith}
 use Rattle.map_lists.specs.Lists.{Lists}
-use Rattle.plane_laws.specs.Completed.{IsCompleted}
+use Rattle.plane_laws.specs.Triangulations.{IsTriangulation}
 use Rattle.canon_order.specs.Orders.{IsCanonicalOrder, vertices_of}
 use Rattle.grid_figures.specs.DrawingOrdersLaws.{IsCompletionFor}
 use Rattle.grid_figures.specs.Forms.{IsDrawnBy}
@@ -8,8 +8,8 @@ use Rattle.grid_figures.specs.SchnyderFiguresFigures.{schnyder_form}
 use Rattle.grid_figures.proofs.FigureLemmas.{figure_of_drawing}
 use Rattle.grid_figures.proofs.schnyder_figures.draw.plane_figure.Goals as goal
 
-pub order_figure-requires-clause-completed : goal.order_figure-requires-clause-completed
-order_figure-requires-clause-completed c = let h = c.in_ok-found.ensures in subst IsCompleted (sym h.listed) h.completed
+pub order_figure-requires-clause-triangulation : goal.order_figure-requires-clause-triangulation
+order_figure-requires-clause-triangulation c = let h = c.in_ok-found.ensures in subst IsTriangulation (sym h.listed) h.triangulation
 
 pub order_figure-requires-clause-few : goal.order_figure-requires-clause-few
 order_figure-requires-clause-few c =
@@ -27,5 +27,5 @@ returns c =
     let h = c.in_ok-found.ensures in
     let found = c.in_ok-found.found in
     let drawn = subst (λ (ls : Lists). IsDrawnBy schnyder_form ls (vertices_of found.order) c.in_ok-figure.figure) h.listed c.in_ok-figure.ensures in
-    let for_base : IsCompletionFor c.args.plane.map.lists found.tri.lists h.to = record { simple = h.simple; completed = h.completed; extended = h.extended; base = h.base } in
+    let for_base : IsCompletionFor c.args.plane.map.lists found.tri.lists h.to = record { simple = h.simple; triangulation = h.triangulation; extended = h.extended; base = h.base } in
     figure_of_drawing schnyder_form c.completion_draws.ensures c.args.plane.map.lists found.tri.lists h.to for_base c.in_ok-figure.figure (drawn h.to h.base.dart h.canonical)

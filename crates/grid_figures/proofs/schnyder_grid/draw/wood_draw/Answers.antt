@@ -1,13 +1,13 @@
 use Rattle.std.proofs.Common.{◌-◌, length, pos, sym, ap, ◌∙◌, subst, arith}
 use Rattle.map_lists.specs.Lists.{Lists}
 use Rattle.map_theory.specs.Maps.{Dart, HasDart, vertex_count}
-use Rattle.plane_laws.specs.Completed.{IsCompleted}
+use Rattle.plane_laws.specs.Triangulations.{IsTriangulation}
 use Rattle.canon_order.specs.Orders.{IsCanonicalOrder, vertices_of}
 use Rattle.order_drawings.specs.SchnyderDrawings.{AreWoodPoints, IsSchnyderDrawing}
 use Rattle.grid_figures.proofs.schnyder_grid.draw.wood_draw.Goals as goal
 
-pub list_draw-requires-clause-completed : goal.list_draw-requires-clause-completed
-list_draw-requires-clause-completed c = subst IsCompleted (sym c.in_ok-lists.ensures) c.requires.completed
+pub list_draw-requires-clause-triangulation : goal.list_draw-requires-clause-triangulation
+list_draw-requires-clause-triangulation c = subst IsTriangulation (sym c.in_ok-lists.ensures) c.requires.triangulation
 
 pub list_draw-requires-clause-few : goal.list_draw-requires-clause-few
 list_draw-requires-clause-few c = omega (arith, ap length c.in_ok-lists.ensures, c.facts.ensures.few_vertices)

@@ -9,5 +9,5 @@ order_figure-requires-clause-order c = let h = c.in_ok-found.ensures.order in ((
 pub returns-clause-figure : goal.returns-clause-figure
 returns-clause-figure c =
     let h = c.in_ok-found.ensures.order in
-    let for_base : IsCompletionFor c.args.lists.now c.in_ok-found.found.tri.lists h.to = record { simple = h.simple; completed = h.completed; extended = h.extended; base = h.base } in
+    let for_base : IsCompletionFor c.args.lists.now c.in_ok-found.found.tri.lists h.to = record { simple = h.simple; triangulation = h.triangulation; extended = h.extended; base = h.base } in
     figure_of_drawing shift_form c.completion_draws.ensures c.args.lists.now c.in_ok-found.found.tri.lists h.to for_base c.in_ok-figure.figure (c.in_ok-figure.ensures h.to h.base.dart h.canonical)

@@ -2,4 +2,4 @@ use Rattle.order_drawings.proofs.OrderTablesOrderRows.{order_row}
 use Rattle.order_drawings.proofs.order_tables.rows.order_has_rows.Goals as goal
 
 pub returns : goal.returns
-returns c = λ lists base at ranks completed order rank steps run k l. order_row lists base at ranks completed order rank steps run k l c.run_ends.ensures
+returns c = λ lists base at ranks triangulation order rank steps run k l. order_row lists base at ranks triangulation order rank steps run k l c.row_ends.ensures

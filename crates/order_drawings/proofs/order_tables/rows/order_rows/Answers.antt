@@ -2,13 +2,13 @@ use Rattle.std.proofs.Common.{length, ap, arith}
 use Rattle.map_lists.specs.Lists.{Lists}
 use Rattle.std.proofs.Common.{sym, subst}
 use Rattle.map_theory.specs.Maps.{Dart}
-use Rattle.plane_laws.specs.Completed.{IsCompleted}
+use Rattle.plane_laws.specs.Triangulations.{IsTriangulation}
 use Rattle.canon_order.specs.Orders.{IsCanonicalOrder, vertices_of}
 use Rattle.order_drawings.specs.Rows.{AreRowsOf}
 use Rattle.order_drawings.proofs.order_tables.rows.order_rows.Goals as goal
 
-pub list_rows-requires-clause-completed : goal.list_rows-requires-clause-completed
-list_rows-requires-clause-completed c = subst IsCompleted (sym c.in_ok-lists.ensures) c.requires.completed
+pub list_rows-requires-clause-triangulation : goal.list_rows-requires-clause-triangulation
+list_rows-requires-clause-triangulation c = subst IsTriangulation (sym c.in_ok-lists.ensures) c.requires.triangulation
 
 pub list_rows-requires-clause-few : goal.list_rows-requires-clause-few
 list_rows-requires-clause-few c = omega (arith, ap length c.in_ok-lists.ensures, c.facts.ensures.few_vertices)

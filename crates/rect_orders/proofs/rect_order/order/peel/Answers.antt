@@ -3,7 +3,7 @@ use Rattle.std.proofs.lemmas.List.{reverse-append, length-append, length-reverse
 use Rattle.std.proofs.lemmas.Result.{IfOk-weaker}
 use Rattle.rect_orders.specs.Orders.{IsRectOrder}
 use Rattle.rect_orders.specs.Contours.{IsContour, IsOrderAt}
-use Rattle.rect_orders.proofs.Contours.{simple_here, same_length, on_left, some_ready, IsContour-taken, IsContour-three}
+use Rattle.rect_orders.proofs.Contours.{simple_here, same_length, on_left, some_removable, IsContour-taken, IsContour-three}
 use Rattle.rect_orders.proofs.rect_order.order.peel.Goals as goal
 
 pub loop-init : goal.loop-init
@@ -15,13 +15,13 @@ loop-init c =
       place = let two = ap length c.requires.begun in omega arith;
     }
 
-pub ready_vertex-v-requires-clause-prepared : goal.ready_vertex-v-requires-clause-prepared
-ready_vertex-v-requires-clause-prepared c = c.loop.invariant.prepared
+pub removable_vertex-v-requires-clause-prepared : goal.removable_vertex-v-requires-clause-prepared
+removable_vertex-v-requires-clause-prepared c = c.loop.invariant.prepared
 
-pub ready_vertex-v-requires-clause-some : goal.ready_vertex-v-requires-clause-some
-ready_vertex-v-requires-clause-some c =
+pub removable_vertex-v-requires-clause-some : goal.removable_vertex-v-requires-clause-some
+removable_vertex-v-requires-clause-some c =
     let f = c.args.frame in
-    some_ready c.requires.class.0 f.left.0 f.top.0 f.right.0 f.bottom.0 f.inner.0 c.args.lists.now c.requires.class.1 c.loop.gone c.loop.marked (reverse c.loop.taken.items) (c.loop.invariant.contour c.requires.class.0 c.requires.class.1) c.loop.near c.loop.away c.loop.stack.items c.loop.invariant.prepared
+    some_removable c.requires.class.0 f.left.0 f.top.0 f.right.0 f.bottom.0 f.inner.0 c.args.lists.now c.requires.class.1 c.loop.gone c.loop.marked (reverse c.loop.taken.items) (c.loop.invariant.contour c.requires.class.0 c.requires.class.1) c.loop.near c.loop.away c.loop.stack.items c.loop.invariant.prepared
 
 pub take_off-requires-clause-simple : goal.take_off-requires-clause-simple
 take_off-requires-clause-simple c =
@@ -29,34 +29,34 @@ take_off-requires-clause-simple c =
     simple_here c.requires.class.0 f.left.0 f.top.0 f.right.0 f.bottom.0 f.inner.0 c.args.lists.now c.requires.class.1
 
 pub take_off-requires-clause-near : goal.take_off-requires-clause-near
-take_off-requires-clause-near c = c.ready_vertex-v.ensures.prepared.tally
+take_off-requires-clause-near c = c.removable_vertex-v.ensures.prepared.tally
 
 pub take_off-requires-clause-away : goal.take_off-requires-clause-away
-take_off-requires-clause-away c = c.ready_vertex-v.ensures.prepared.tally_gone
+take_off-requires-clause-away c = c.removable_vertex-v.ensures.prepared.tally_gone
 
 pub take_off-requires-clause-vertices : goal.take_off-requires-clause-vertices
-take_off-requires-clause-vertices c = c.ready_vertex-v.ensures.prepared.vertices
+take_off-requires-clause-vertices c = c.removable_vertex-v.ensures.prepared.vertices
 
 pub take_off-requires-clause-marked : goal.take_off-requires-clause-marked
-take_off-requires-clause-marked c = c.ready_vertex-v.ensures.ready.marked_is
+take_off-requires-clause-marked c = c.removable_vertex-v.ensures.removable.marked_is
 
 pub take_off-requires-clause-left : goal.take_off-requires-clause-left
 take_off-requires-clause-left c =
     let f = c.args.frame in
-    (on_left c.requires.class.0 f.left.0 f.top.0 f.right.0 f.bottom.0 f.inner.0 c.args.lists.now c.requires.class.1 c.loop.gone c.loop.marked (reverse c.loop.taken.items) (c.loop.invariant.contour c.requires.class.0 c.requires.class.1) c.ready_vertex-v.result c.ready_vertex-v.ensures.ready.marked_is).1
+    (on_left c.requires.class.0 f.left.0 f.top.0 f.right.0 f.bottom.0 f.inner.0 c.args.lists.now c.requires.class.1 c.loop.gone c.loop.marked (reverse c.loop.taken.items) (c.loop.invariant.contour c.requires.class.0 c.requires.class.1) c.removable_vertex-v.result c.removable_vertex-v.ensures.removable.marked_is).1
 
 pub loop-preserved : goal.loop-preserved
 loop-preserved c =
     let f = c.args.frame in
     let h = c.loop.invariant in
     let us = c.loop.taken.items in
-    let v = c.ready_vertex-v.result in
+    let v = c.removable_vertex-v.result in
     let items = c.in_ok-push.ensures.items in
     let len = length-reverse us in
     record {
-      prepared = c.in_ok-take_off.ensures.prepared f.bottom.0 f.left.0 c.ready_vertex-v.ensures.prepared;
+      prepared = c.in_ok-take_off.ensures.prepared f.bottom.0 f.left.0 c.removable_vertex-v.ensures.prepared;
       contour = λ map k.
-          let taken = IsContour-taken map f.left.0 f.top.0 f.right.0 f.bottom.0 f.inner.0 c.args.lists.now k c.loop.gone c.loop.marked (reverse us) (h.contour map k) c.loop.near c.loop.away c.ready_vertex-v.new.stack.items c.ready_vertex-v.ensures.prepared v c.ready_vertex-v.ensures.ready
+          let taken = IsContour-taken map f.left.0 f.top.0 f.right.0 f.bottom.0 f.inner.0 c.args.lists.now k c.loop.gone c.loop.marked (reverse us) (h.contour map k) c.loop.near c.loop.away c.removable_vertex-v.new.stack.items c.removable_vertex-v.ensures.prepared v c.removable_vertex-v.ensures.removable
           (omega (arith, c.len-end.ensures, c.loop-test.true, h.place)) c.take_off.new.marked c.take_off.new.gone c.in_ok-take_off.ensures.taken in
           subst (λ (r : List ℕ). IsContour map f.left.0 f.top.0 f.right.0 f.bottom.0 c.take_off.new.gone c.take_off.new.marked r) (sym (ap reverse items ∙ reverse-append us (v ∷ []))) taken;
       place = let more = ap length items in let push = length-append us (v ∷ []) in let place = h.place in omega arith;

@@ -1,0 +1,15 @@
+//! A record as a three-connected map of genus zero, or the first condition that it breaks: what convex
+//! drawings begin with.
+
+ghost use Rattle.convex_class.specs.Laws.{ThreeConnectedBreakNothing};
+
+mod biconnected;
+
+pub use biconnected::convex_map;
+
+/// A three-connected map of genus zero breaks no condition.
+pub fn three_connected_break_nothing()
+    ensures { ThreeConnectedBreakNothing }
+{
+    conn_parts::biconnected_maps::biconnected_break_nothing();
+}

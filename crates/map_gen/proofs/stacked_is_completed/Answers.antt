@@ -1,5 +1,0 @@
-use Rattle.map_gen.proofs.Stackings as law
-use Rattle.map_gen.proofs.stacked_is_completed.Goals as goal
-
-pub returns : goal.returns
-returns c = law.stacked_is_completed

@@ -1,5 +1,0 @@
-use Rattle.plane_peeling.proofs.TwoGone.{some_free_of_two}
-use Rattle.plane_peeling.proofs.some_free_of_two.Goals as goal
-
-pub returns : goal.returns
-returns c = some_free_of_two

@@ -1,5 +1,0 @@
-use Rattle.rect_class.proofs.RectMapLemmas.{open_quadrangle}
-use Rattle.rect_class.proofs.blocks_are_rect_maps.Goals as goal
-
-pub returns : goal.returns
-returns c = open_quadrangle

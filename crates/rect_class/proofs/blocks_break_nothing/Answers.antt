@@ -1,5 +1,0 @@
-use Rattle.rect_class.proofs.RectMapLemmas.{nothing_broken}
-use Rattle.rect_class.proofs.blocks_break_nothing.Goals as goal
-
-pub returns : goal.returns
-returns c = nothing_broken c.blocks_break_nothing.ensures

@@ -1,0 +1,95 @@
+//! A record as a map of the class.
+ghost use Rattle.std.specs.Prelude.{◌≡◌, ◌<◌, length, MatchOption, IfOk, IfErr};
+ghost use Rattle.half_edges.specs.Map.{IsHalfMap};
+ghost use Rattle.vertex_rounds.specs.Least.{IsLeastPair};
+ghost use Rattle.refusals.specs.Conditions.{IfRefused};
+ghost use Rattle.conn_parts.specs.BiconnectedMaps.{IsBiconnectedMap};
+ghost use Rattle.rect_check.specs.Duals.{HasFrame};
+ghost use Rattle.rect_check.specs.Loops.{IsFrame};
+ghost use Rattle.rect_class.specs.RectMaps.{HasLargeFace, HasTriangles, NoneSeparating, IsRectMap};
+ghost use Rattle.rect_class.specs.Refusals.{BreaksRect};
+
+use crate::faces::first_large;
+use crate::triangles::first_separating;
+use conn_parts::biconnected_maps::biconnected_map;
+use half_edges::{HalfMap, Rotations, VertexId};
+use rect_check::{OuterFour, outer_four};
+use refusals::{Refusal, Unserved};
+use std::alloc::Global;
+
+// How many vertices the outer face has.
+const OUTER_COUNT: u16 = 4;
+
+// The least dart whose face is neither the outer one nor a triangle.
+fn first_large_face(map: &HalfMap, four: OuterFour) -> Option<(VertexId, VertexId)>
+    requires known { IsHalfMap map.now }
+    requires frame { IsFrame map.now.lists four.top.0 four.right.0 four.bottom.0 }
+    ensures { MatchOption result (HasTriangles map.now.lists)
+        (λ p. IsLeastPair (HasLargeFace map.now.lists) p.0.0 p.1.0) }
+{
+    first_large(map, four)
+}
+
+// The first condition on triangles that a map breaks.
+fn first_of_triangles(map: &HalfMap) -> Option<Refusal>
+    requires known { IsHalfMap map.now }
+    requires biconnected { IsBiconnectedMap 3 map.now.lists }
+    requires frame { HasFrame map.now.lists }
+    requires faces { HasTriangles map.now.lists }
+    ensures { MatchOption result (IsRectMap map.now.lists) (BreaksRect map.now.lists) }
+{
+    if let Some((a, b, c)) = first_separating(map) {
+        return Some(Refusal::SeparatingTriangle(a, b, c));
+    }
+    if map.n() <= OUTER_COUNT {
+        Some(Refusal::NoInner)
+    } else {
+        None
+    }
+}
+
+// The first condition behind that on the outer face.
+fn first_of_faces(map: &HalfMap, four: OuterFour) -> Option<Refusal>
+    requires known { IsHalfMap map.now }
+    requires biconnected { IsBiconnectedMap 3 map.now.lists }
+    requires frame { IsFrame map.now.lists four.top.0 four.right.0 four.bottom.0 }
+    ensures { MatchOption result (IsRectMap map.now.lists) (BreaksRect map.now.lists) }
+{
+    match first_large_face(map, four) {
+        Some((v, u)) => Some(Refusal::NotTriangle(v, u)),
+        None => first_of_triangles(map),
+    }
+}
+
+// The first condition that a biconnected map breaks.
+fn first_broken(map: &HalfMap) -> Option<Refusal>
+    requires { IsBiconnectedMap 3 map.now.lists }
+    ensures { MatchOption result (IsRectMap map.now.lists) (BreaksRect map.now.lists) }
+{
+    map.facts();
+    match outer_four(map) {
+        Some(four) => first_of_faces(map, four),
+        None => Some(Refusal::OuterNotQuad),
+    }
+}
+
+/// The map of a record with these lists, which are from 1 to 4095, where it has genus zero, is connected and
+/// has no cut vertex, its outer face is a quadrangle, each other face is a triangle, each triangle of edges is
+/// a face, and some vertex is inside.
+///
+/// `Err` names the first condition that the lists break, in the order of [`Refusal`], with the least
+/// vertices. Or there was not enough memory. For each edge it goes over the shorter of two lists, and looks
+/// each common neighbour up in the shorter of two more.
+pub fn rect_map(alloc: Global, lists: &Rotations) -> Result<HalfMap, Unserved>
+    requires some_list { 0 < length lists.now }
+    requires few_lists { length lists.now < 4096 }
+    ensures lists { IfOk result (λ map. map.lists ≡ lists.now) }
+    ensures served { IfOk result (λ map. IsRectMap lists.now) }
+    ensures refused { IfErr result (IfRefused (BreaksRect lists.now)) }
+{
+    let map = biconnected_map(alloc, lists, 3)?;
+    match first_broken(&map) {
+        Some(refusal) => Err(Unserved::Refused(refusal)),
+        None => Ok(map),
+    }
+}
