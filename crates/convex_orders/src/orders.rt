@@ -36,6 +36,7 @@ fn rows_from(alloc: Global, tables: &Tables) -> Result<ConvexRows, AllocError>
     let mut marks = vec![in alloc; true; count]?;
     let mut places = vec![in alloc; 0u16; count]?;
     let mut edges = vec![in alloc; 0u16; count]?;
+    let mut hints = vec![in alloc; 0u16; tables.lists.len()]?;
     let mut left = Vec::new(alloc);
     let mut right = Vec::new(alloc);
     put_all(
@@ -46,6 +47,7 @@ fn rows_from(alloc: Global, tables: &Tables) -> Result<ConvexRows, AllocError>
         &mut right,
         &mut places,
         &mut edges,
+        &mut hints,
         tables,
     )?;
     Ok(rows)

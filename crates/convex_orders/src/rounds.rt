@@ -37,6 +37,7 @@ fn advance(
     right: &mut Vec<u16>,
     places: &mut [u16],
     edges: &mut [u16],
+    hints: &mut [u16],
     tables: &Tables,
     first: usize,
     end: usize,
@@ -53,7 +54,7 @@ fn advance(
     let lists = &tables.lists;
     let faces = &tables.faces;
     let x = take_out(rows, left, right, places, edges, lists, faces, first, end)?;
-    trace(left, lists, faces, marks, x)?;
+    trace(left, lists, faces, marks, hints, x)?;
     put_in(alloc, rows, left, places, edges, lists, faces, first)?;
     Ok(())
 }
@@ -67,6 +68,7 @@ fn round(
     right: &mut Vec<u16>,
     places: &mut [u16],
     edges: &mut [u16],
+    hints: &mut [u16],
     tables: &Tables,
 ) -> Result<(), AllocError>
     requires known { AreTables tables.now }
@@ -95,7 +97,7 @@ fn round(
         edges,
     );
     advance(
-        alloc, rows, marks, left, right, places, edges, tables, first, end,
+        alloc, rows, marks, left, right, places, edges, hints, tables, first, end,
     )?;
     Ok(())
 }
@@ -139,6 +141,7 @@ fn peel(
     right: &mut Vec<u16>,
     places: &mut [u16],
     edges: &mut [u16],
+    hints: &mut [u16],
     tables: &Tables,
 ) -> Result<(), AllocError>
     requires known { AreTables tables.now }
@@ -154,13 +157,20 @@ fn peel(
             put_last(rows, left, right, tables.tail, tables.head)?;
             return Ok(());
         }
-        round(alloc, rows, marks, left, right, places, edges, tables)?;
+        round(
+            alloc, rows, marks, left, right, places, edges, hints, tables,
+        )?;
     }
     Ok(())
 }
 
 // Goes along the contour where just the face of the base is taken off. At first all numbers are marked.
-fn first_contour(marks: &mut [bool], left: &mut Vec<u16>, tables: &Tables) -> Result<(), AllocError>
+fn first_contour(
+    marks: &mut [bool],
+    left: &mut Vec<u16>,
+    hints: &mut [u16],
+    tables: &Tables,
+) -> Result<(), AllocError>
     requires known { AreTables tables.now }
     requires marks { length marks.old ≡ tables.now.faces.count }
     requires all { (f : ℕ) → f < tables.now.faces.count → is_set marks.old f ≡ true }
@@ -172,7 +182,14 @@ fn first_contour(marks: &mut [bool], left: &mut Vec<u16>, tables: &Tables) -> Re
     let f = number_of(&tables.lists, &tables.faces, tables.tail, tables.head);
     marks[f as usize] = false;
     left.push(tables.head)?;
-    trace(left, &tables.lists, &tables.faces, marks, tables.tail)?;
+    trace(
+        left,
+        &tables.lists,
+        &tables.faces,
+        marks,
+        hints,
+        tables.tail,
+    )?;
     Ok(())
 }
 
@@ -197,6 +214,7 @@ pub(crate) fn put_all(
     right: &mut Vec<u16>,
     places: &mut [u16],
     edges: &mut [u16],
+    hints: &mut [u16],
     tables: &Tables,
 ) -> Result<(), AllocError>
     requires known { AreTables tables.now }
@@ -211,7 +229,7 @@ pub(crate) fn put_all(
     requires none { HasRows rows.old 0 }
     ensures { IfOk result (λ _. AreRowsOfRun tables.now.lists tables.now.tail tables.now.head rows.new) }
 {
-    first_contour(marks, left, tables)?;
+    first_contour(marks, left, hints, tables)?;
     raise_all(places, edges, &tables.lists, &tables.faces, left);
     clear_before_base(marks, &tables.faces.own, left);
     let r = left.len() - 1;
@@ -223,10 +241,13 @@ pub(crate) fn put_all(
         right,
         places,
         edges,
+        hints,
         tables,
         r - 2,
         r,
     )?;
-    peel(alloc, rows, marks, left, right, places, edges, tables)?;
+    peel(
+        alloc, rows, marks, left, right, places, edges, hints, tables,
+    )?;
     Ok(())
 }
