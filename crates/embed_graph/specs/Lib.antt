@@ -6,3 +6,5 @@ pub mod Marks
 pub mod Figures
 -- Which graphs are drawn.
 pub mod Laws
+-- Maps that the search found.
+pub mod Found

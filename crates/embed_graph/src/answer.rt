@@ -1,46 +1,62 @@
 //! The answer.
 ghost use Rattle.std.specs.Prelude.{◌≡◌, ◌<◌, ◌≤◌, length, IfOk, IfSome, IsTrue};
 ghost use Rattle.kuratowski.specs.Witnesses.{IsWitness};
+ghost use Rattle.conn_parts.specs.Counted.{IsPlaneMap};
 ghost use Rattle.embed_theorem.specs.Expanded.{IsMapOf};
 ghost use Rattle.embed_graph.specs.Embeddings.{IsEmbedding};
+ghost use Rattle.embed_graph.specs.Found.{IsFoundMap};
 
 use crate::contracted_embeddings::embed_by_contraction;
 use crate::graph_embeddings::Embedding;
 use crate::marks::has_edges;
-use crate::plane::is_plane_map;
+use conn_parts::{CountedMap, plane_map};
 use embed_search::{find_witness, planar_lists};
 use graph6_text::Graph;
 use kuratowski::{Witness, check_witness};
 use map_lists::Rotations;
+use refusals::Unserved;
 use std::alloc::{AllocError, Global};
 
-// Whether lists are a map of genus zero of a graph.
-fn is_map_of(alloc: Global, graph: &Graph, lists: &Rotations) -> Result<bool, AllocError>
-    requires some { 0 < graph.now.n }
-    requires vertices { length lists.now ≡ graph.now.n }
-    ensures { IfOk result (λ yes. IsTrue yes → IsMapOf lists.now graph.now) }
-{
-    let _n = graph.n();
-    if is_plane_map(alloc, lists)? {
-        has_edges(alloc, graph, lists)
-    } else {
-        Ok(false)
-    }
+/// A map of a graph as the search found it: its lists, and the map made of them.
+#[derive(Drop)]
+pub struct FoundMap {
+    /// The lists.
+    pub lists: Rotations,
+    /// The map with its components and its counts.
+    pub plane: CountedMap,
 }
 
-// The map that the search finds, if it is one.
-fn found_map(alloc: Global, graph: &Graph) -> Result<Option<Rotations>, AllocError>
-    requires { 0 < graph.now.n }
-    ensures { IfOk result (λ found. IfSome found (λ lists. IsMapOf lists graph.now)) }
+// The map with these lists, if it is one of genus zero of a graph.
+fn checked_map(
+    alloc: Global,
+    graph: &Graph,
+    lists: Rotations,
+) -> Result<Option<FoundMap>, AllocError>
+    requires some { 3 ≤ graph.now.n }
+    requires vertices { length lists ≡ graph.now.n }
+    ensures { IfOk result (λ found. IfSome found (IsFoundMap graph.now)) }
 {
-    match planar_lists(alloc, graph)? {
-        Some(lists) => {
-            if is_map_of(alloc, graph, &lists)? {
-                Ok(Some(lists))
+    let _n = graph.n();
+    match plane_map(alloc, &lists, 3) {
+        Ok(plane) => {
+            if has_edges(alloc, graph, &lists)? {
+                Ok(Some(FoundMap { lists, plane }))
             } else {
                 Ok(None)
             }
         }
+        Err(Unserved::NoMemory) => Err(AllocError),
+        Err(Unserved::Refused(_)) => Ok(None),
+    }
+}
+
+// The map that the search finds, if it is one.
+pub(crate) fn found_map(alloc: Global, graph: &Graph) -> Result<Option<FoundMap>, AllocError>
+    requires { 3 ≤ graph.now.n }
+    ensures { IfOk result (λ found. IfSome found (IsFoundMap graph.now)) }
+{
+    match planar_lists(alloc, graph)? {
+        Some(lists) => checked_map(alloc, graph, lists),
         None => Ok(None),
     }
 }
@@ -62,7 +78,7 @@ fn found_witness(alloc: Global, graph: &Graph) -> Result<Option<Witness>, AllocE
 }
 
 // A witness, where the search finds one, or the answer by contracted edges.
-fn refuted(alloc: Global, graph: &Graph) -> Result<Embedding, AllocError>
+pub(crate) fn refuted(alloc: Global, graph: &Graph) -> Result<Embedding, AllocError>
     requires { 0 < graph.now.n }
     ensures { IfOk result (IsEmbedding graph.now) }
 {
@@ -84,7 +100,7 @@ pub fn embed(alloc: Global, graph: &Graph) -> Result<Embedding, AllocError>
     ensures { IfOk result (IsEmbedding graph.now) }
 {
     match found_map(alloc, graph)? {
-        Some(lists) => Ok(Embedding::Map(lists)),
+        Some(found) => Ok(Embedding::Map(found.lists)),
         None => refuted(alloc, graph),
     }
 }

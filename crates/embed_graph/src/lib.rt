@@ -9,7 +9,6 @@ pub mod embed_figures;
 pub mod embed_laws;
 pub mod graph_embeddings;
 mod marks;
-mod plane;
 
 pub use answer::embed;
 pub use embed_witnesses::contracted_graphs::contract;

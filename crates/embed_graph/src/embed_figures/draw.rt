@@ -1,12 +1,14 @@
 //! The figure of a graph.
 ghost use Rattle.std.specs.Prelude.{◌≤◌, IfOk};
+ghost use Rattle.graph6_text.specs.Graphs.{EdgeGraph};
+ghost use Rattle.conn_parts.specs.Counted.{IsPlaneMap};
 ghost use Rattle.embed_theorem.specs.Expanded.{IsMapOf};
 ghost use Rattle.embed_graph.specs.Figures.{IsEmbedFigure};
 
-use crate::embed;
+use crate::answer::{FoundMap, found_map, refuted};
 use crate::graph_embeddings::Embedding;
 use graph6_text::Graph;
-use grid_figures::schnyder_figures::schnyder_figure;
+use grid_figures::schnyder_figures::{plane_figure, schnyder_figure};
 use kuratowski::Witness;
 use map_lists::Rotations;
 use pg_plane::GridFigure;
@@ -22,7 +24,16 @@ pub enum EmbedFigure {
     NotPlanar(Witness),
 }
 
-// The drawing of a map of a graph.
+// The drawing of a map that the search found.
+fn drawn_found(alloc: Global, found: FoundMap) -> Result<EmbedFigure, AllocError>
+    requires { IsPlaneMap 3 found.lists found.plane }
+    ensures { (graph : EdgeGraph) → IsMapOf found.lists graph → IfOk result (IsEmbedFigure graph) }
+{
+    let figure = plane_figure(alloc, found.plane)?;
+    Ok(EmbedFigure::Drawn(found.lists, figure))
+}
+
+// The drawing of another map of a graph.
 fn drawn(alloc: Global, graph: &Graph, lists: Rotations) -> Result<EmbedFigure, AllocError>
     requires some { 3 ≤ graph.now.n }
     requires map { IsMapOf lists graph.now }
@@ -44,8 +55,11 @@ pub fn embed_figure(alloc: Global, graph: &Graph) -> Result<EmbedFigure, AllocEr
     requires { 3 ≤ graph.now.n }
     ensures { IfOk result (IsEmbedFigure graph.now) }
 {
-    match embed(alloc, graph)? {
-        Embedding::Map(lists) => drawn(alloc, graph, lists),
-        Embedding::NotPlanar(witness) => Ok(EmbedFigure::NotPlanar(witness)),
+    match found_map(alloc, graph)? {
+        Some(found) => drawn_found(alloc, found),
+        None => match refuted(alloc, graph)? {
+            Embedding::Map(lists) => drawn(alloc, graph, lists),
+            Embedding::NotPlanar(witness) => Ok(EmbedFigure::NotPlanar(witness)),
+        },
     }
 }

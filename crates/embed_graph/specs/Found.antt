@@ -1,0 +1,10 @@
+-- A map of a graph as the search found it.
+use Rattle.graph6_text.specs.Graphs.{EdgeGraph}
+use Rattle.conn_parts.specs.Counted.{IsPlaneMap}
+use Rattle.embed_theorem.specs.Expanded.{IsMapOf}
+use Rattle.embed_graph.specs.declared.answer.FoundMap.{FoundMap}
+
+-- the lists are those of a map of the graph, which has at least three vertices, and the map is made of them
+pub record IsFoundMap (graph : EdgeGraph) (found : FoundMap) : Type 0 where
+  pub map : IsMapOf found.lists graph
+  pub plane : IsPlaneMap 3 found.lists found.plane
