@@ -144,28 +144,14 @@ fn draw(
     match method {
         Method::Shift => {
             let figure = shift_figure(alloc, lists)?;
-            print_grid_in(
-                alloc,
-                form,
-                number,
-                GridJob::Shift,
-                lists,
-                &figure.points,
-                out,
-            )?;
+            let points = &figure.points;
+            print_grid_in(alloc, form, number, GridJob::Shift, lists, points, out)?;
             Ok(())
         }
         Method::Schnyder => {
             let figure = schnyder_figure(alloc, lists)?;
-            print_grid_in(
-                alloc,
-                form,
-                number,
-                GridJob::Schnyder,
-                lists,
-                &figure.points,
-                out,
-            )?;
+            let points = &figure.points;
+            print_grid_in(alloc, form, number, GridJob::Schnyder, lists, points, out)?;
             Ok(())
         }
         Method::Bars => {
@@ -175,15 +161,8 @@ fn draw(
         }
         Method::Convex => {
             let figure = convex_figure(alloc, lists)?;
-            print_grid_in(
-                alloc,
-                form,
-                number,
-                GridJob::Convex,
-                lists,
-                &figure.points,
-                out,
-            )?;
+            let points = &figure.points;
+            print_grid_in(alloc, form, number, GridJob::Convex, lists, points, out)?;
             Ok(())
         }
         Method::Rect => {
