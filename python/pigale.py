@@ -466,7 +466,7 @@ def run(job, records=(), size=None, number=None):
     done = subprocess.run([program(), *words], input=_input(job, records), stdout=subprocess.PIPE, check=False)
     text = done.stdout.decode("ascii")
     whole = text if done.returncode < 2 else text[:text.rfind("\n") + 1]
-    result = Run(job, done.returncode, text, _readable(whole))
+    result = Run(job, done.returncode, text, read_blocks(whole) if done.returncode < 2 else _readable(whole))
     if done.returncode not in (0, 1):
         raise PigaleError(result)
     return result
