@@ -1,5 +1,5 @@
 #!/bin/sh
-# all.sh   every table of bench/README.md that needs no other program but valgrind and a C compiler, in one run
+# all.sh   the counts of instructions of bench/README.md, by valgrind, in one run; wants a C compiler too
 cd "$(dirname "$0")" || exit 1
 date -u +"%d %B %Y"
 for step in "slopes.py --limits" "slopes.py" "count.py" "figures.py" "figures.py --memory"; do
