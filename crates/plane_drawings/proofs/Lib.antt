@@ -17,4 +17,5 @@ mod LineLemmas
 mod StepLemmas
 mod SweepLemmas
 mod TopLemmas
+pub mod FirmLemmas
 mod Refused

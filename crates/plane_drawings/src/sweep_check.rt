@@ -1,4 +1,5 @@
-//! A sweep over the vertices of a drawing, from left to right, that says that the drawing is plane.
+//! A sweep over the vertices of a drawing, from left to right, that says that the drawing is plane, or that
+//! it is so without the edges of a few vertices.
 
 mod fresh;
 mod line;
@@ -6,4 +7,5 @@ mod order;
 mod status;
 mod sweep;
 
-pub use sweep::is_plane_by_sweep;
+pub use fresh::is_among;
+pub use sweep::{is_plane_by_sweep, loose_vertices};

@@ -80,8 +80,25 @@ fn splice(status: &mut [Line], count: usize, begin: usize, end: usize, fresh: &[
     status[begin..begin + fresh.len()].copy_from_slice(fresh);
 }
 
-// Whether each line from `begin` on before `end`, with the next one, ends in its order.
-fn all_end_apart(places: &[Point], status: &[Line], begin: usize, end: usize) -> bool
+// Writes the ends of two lines that failed a test, as far as there is room.
+fn suspect(suspects: &mut [u16], e: Line, f: Line) {
+    let ends = [e.low, e.high, f.low, f.high];
+    for k in 0..4 {
+        if k < suspects.len() {
+            suspects[k] = ends[k];
+        }
+    }
+}
+
+// Whether each line from `begin` on before `end`, with the next one, ends in its order; if not, the ends of
+// two that do not are suspects.
+fn all_end_apart(
+    places: &[Point],
+    status: &[Line],
+    begin: usize,
+    end: usize,
+    suspects: &mut [u16],
+) -> bool
     requires in_range { All IsInRange places.now }
     requires lines { All (IsLine (length places.now)) status.now }
     requires within { end ≤ length status.now }
@@ -90,20 +107,30 @@ fn all_end_apart(places: &[Point], status: &[Line], begin: usize, end: usize) ->
 {
     for k in begin..end {
         if k + 1 < status.len() && !end_apart(places, status[k], status[k + 1]) {
+            suspect(suspects, status[k], status[k + 1]);
             return false;
         }
     }
     true
 }
 
+// Writes a vertex and the ends of the line at `place`, if there is one.
+fn suspect_at(suspects: &mut [u16], status: &[Line], place: usize, v: u16) {
+    if place < status.len() {
+        suspect(suspects, Line { low: v, high: v }, status[place]);
+    }
+}
+
 // Takes the first `count` lines of the status over the vertex at place `v`, at which the lines `fresh`
-// begin: how many lines they are afterwards, or None where a test fails or there is no room.
+// begin: how many lines they are afterwards, or None where a test fails or there is no room. Where one
+// fails, the ends of the lines at fault are suspects.
 pub(crate) fn step(
     places: &[Point],
     status: &mut [Line],
     count: usize,
     v: u16,
     fresh: &[Line],
+    suspects: &mut [u16],
 ) -> Option<usize>
     requires in_range { All IsInRange places.now }
     requires vertex { v < length places.now }
@@ -124,10 +151,17 @@ pub(crate) fn step(
         return None;
     }
     if !is_below(places, &status[..count], end, v) {
+        suspect_at(suspects, &status[..count], end, v);
         return None;
     }
     splice(status, count, begin, end, fresh);
-    if all_end_apart(places, &status[..new_count], begin.saturating_sub(1), top) {
+    if all_end_apart(
+        places,
+        &status[..new_count],
+        begin.saturating_sub(1),
+        top,
+        suspects,
+    ) {
         Some(new_count)
     } else {
         None
