@@ -8,6 +8,7 @@ pub mod FaceSumLemmas
 pub mod FaceIds
 pub mod FaceLemmas
 pub mod MetLemmas
+pub mod LooseLemmas
 mod Cases
 pub mod TurnLemmas
 pub mod ValidFewer

@@ -1,14 +1,14 @@
 //! Vertices on edges, and edges that cross.
-ghost use Rattle.std.specs.Prelude.{◌≡◌, ◌+◌, ◌<◌, ◌≤◌, ◌↔◌, ℕ, List, length, slice_index, IsTrue, Some, MatchOption};
+ghost use Rattle.std.specs.Prelude.{◌≡◌, ◌+◌, ◌<◌, ◌≤◌, ◌↔◌, ℕ, List, length, slice_index, slice_index_or, true, IsTrue, Some, MatchOption};
 ghost use Rattle.map_theory.specs.Maps.{HasDart, list_of};
 ghost use Rattle.half_edges.specs.Map.{IsLive, dart_at};
 ghost use Rattle.pg_plane.specs.Range.{IsInRange};
 ghost use Rattle.plane_drawings.specs.Drawing.{place};
 ghost use Rattle.vertex_rounds.specs.Least.{IsLeast, IsLeastPair, IsLeastTriple, IsLeastFour};
 ghost use Rattle.vertex_rounds.specs.Rounds.{HasEdge, HoldsAt};
-ghost use Rattle.draw_check.specs.Faults.{LiesOnEdge, EdgesCross};
+ghost use Rattle.draw_check.specs.Faults.{LiesOnEdge};
 ghost use Rattle.draw_check.specs.Verdicts.{NoneOnEdge, NoneCross};
-ghost use Rattle.draw_check.specs.Loops.{IsDrawn, IsProbeBelow, Meets, IsMet, IsMetFrom, IsCrossed};
+ghost use Rattle.draw_check.specs.Loops.{IsDrawn, IsProbeBelow, Meets, IsMet, IsMetFrom, AreMarked};
 ghost use Rattle.vertex_rounds.specs.Rounds.{IsLeastOf};
 
 use crate::places::place_at;
@@ -26,7 +26,7 @@ pub(crate) enum Probe {
 }
 
 // Whether the edge from `a` to `b` is met.
-fn meets(points: &Points, probe: Probe, a: VertexId, b: VertexId) -> bool
+pub(crate) fn meets(points: &Points, probe: Probe, a: VertexId, b: VertexId) -> bool
     requires in_range { (v : ℕ) → v < length points.now → IsInRange (place points.now v) }
     requires probe { IsProbeBelow (length points.now) probe }
     requires a { a.0 < length points.now }
@@ -71,14 +71,42 @@ pub(crate) fn first_met(map: &HalfMap, points: &Points, probe: Probe, from: u16)
     }
 }
 
-// The least vertex that lies on an edge of which it is no end, with the first such edge.
-pub(crate) fn first_on_edge(map: &HalfMap, points: &Points) -> Option<(VertexId, Ends)>
-    requires { IsDrawn map.now points.now }
+// Whether a vertex is marked, or the marks do not reach to it.
+fn is_marked(marks: &[bool], v: VertexId) -> bool
+    ensures { result ≡ slice_index_or marks.now v.0 true }
+{
+    (v.0 as usize) >= marks.len() || marks[v.0 as usize]
+}
+
+// The first edge on which a vertex lies, of which it is no end.
+fn edge_under(map: &HalfMap, points: &Points, marks: &[bool], v: VertexId) -> Option<Ends>
+    requires drawn { IsDrawn map.now points.now }
+    requires marked { AreMarked map.now.lists points.now marks.now }
+    requires vertex { v.0 < length map.now.lists }
+    ensures { MatchOption result ((a b : ℕ) → ¬ LiesOnEdge map.now.lists points.now v.0 a b)
+        (λ e. IsLeastPair (LiesOnEdge map.now.lists points.now v.0) e.a.0 e.b.0) }
+{
+    if is_marked(marks, v) {
+        first_met(map, points, Probe::Vertex(v), 0)
+    } else {
+        None
+    }
+}
+
+// The least vertex that lies on an edge of which it is no end, with the first such edge. Such vertices are
+// marked.
+pub(crate) fn first_on_edge(
+    map: &HalfMap,
+    points: &Points,
+    marks: &[bool],
+) -> Option<(VertexId, Ends)>
+    requires drawn { IsDrawn map.now points.now }
+    requires marked { AreMarked map.now.lists points.now marks.now }
     ensures { MatchOption result (NoneOnEdge map.now.lists points.now)
         (λ p. IsLeastTriple (LiesOnEdge map.now.lists points.now) p.0.0 p.1.a.0 p.1.b.0) }
 {
     for v in 0..map.n() {
-        if let Some(edge) = first_met(map, points, Probe::Vertex(VertexId(v)), 0) {
+        if let Some(edge) = edge_under(map, points, marks, VertexId(v)) {
             return Some((VertexId(v), edge));
         }
     }

@@ -9,6 +9,7 @@ ghost use Rattle.draw_check.specs.Laws.{ValidWithFewer, YesIsValid};
 mod crossings;
 mod edges;
 mod faces;
+mod loose;
 mod outer;
 mod pairs;
 mod places;

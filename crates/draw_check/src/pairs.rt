@@ -1,21 +1,49 @@
 //! The check of a drawing.
-ghost use Rattle.std.specs.Prelude.{MatchOption, ℤ};
+ghost use Rattle.std.specs.Prelude.{IfSome, MatchOption, ℤ};
+ghost use Rattle.plane_drawings.specs.Drawing.{IsPlaneDrawing};
+ghost use Rattle.plane_drawings.specs.SweepCheckLines.{firm_lists};
 ghost use Rattle.draw_check.specs.declared.verdict.Verdict.TheVariants.{Yes};
 ghost use Rattle.draw_check.specs.Faults.{HasPlaces};
-ghost use Rattle.draw_check.specs.Loops.{IsDrawn};
+ghost use Rattle.draw_check.specs.Loops.{IsDrawn, AreMarked};
 ghost use Rattle.draw_check.specs.Verdicts.{AllInGrid, NoneShareAPlace, NoneOnEdge, NoneCross, IsVerdict};
 
 use crate::Verdict;
 use crate::crossings::first_crossing;
 use crate::edges::first_on_edge;
+use crate::loose::mark_by_loose;
 use crate::places::{corner_of, first_outside, first_shared};
 use crate::turns::first_turned;
 use half_edges::HalfMap;
 use pg_plane::{GridFigure, Point, Points};
-use plane_drawings::sweep_check::is_plane_by_sweep;
+use plane_drawings::sweep_check::loose_vertices;
+
+// The first vertex on an edge or the first two edges that cross, in this order, where no two vertices stand
+// at one place. The vertices on edges are marked; and without the edges of the loose vertices the drawing is
+// plane, where they are known.
+fn first_meeting(
+    map: &HalfMap,
+    points: &Points,
+    marks: &[bool],
+    loose: Option<&[u16]>,
+) -> Option<Verdict>
+    requires drawn { IsDrawn map.now points.now }
+    requires apart { NoneShareAPlace map.now.lists points.now }
+    requires marked { AreMarked map.now.lists points.now marks.now }
+    requires plane { IfSome loose (λ l. IsPlaneDrawing (firm_lists l.now map.now.lists) points.now) }
+    ensures { MatchOption result (NoneShareAPlace map.now.lists points.now × NoneOnEdge map.now.lists points.now × NoneCross map.now.lists points.now)
+        (λ verdict. (width height : ℤ) → AllInGrid map.now.lists points.now width height → IsVerdict map.now.lists points.now width height verdict) }
+{
+    if let Some((v, e)) = first_on_edge(map, points, marks) {
+        return Some(Verdict::OnEdge(v, e));
+    }
+    match first_crossing(map, points, loose) {
+        Some((e, f)) => Some(Verdict::Cross(e, f)),
+        None => None,
+    }
+}
 
 // The first two vertices at one place, the first vertex on an edge or the first two edges that cross, in
-// this order, by going over all pairs.
+// this order.
 fn first_pair(map: &HalfMap, points: &Points) -> Option<Verdict>
     requires { IsDrawn map.now points.now }
     ensures { MatchOption result (NoneShareAPlace map.now.lists points.now × NoneOnEdge map.now.lists points.now × NoneCross map.now.lists points.now)
@@ -24,25 +52,33 @@ fn first_pair(map: &HalfMap, points: &Points) -> Option<Verdict>
     if let Some((u, v)) = first_shared(map, points) {
         return Some(Verdict::SamePlace(u, v));
     }
-    if let Some((v, e)) = first_on_edge(map, points) {
-        return Some(Verdict::OnEdge(v, e));
-    }
-    match first_crossing(map, points) {
-        Some((e, f)) => Some(Verdict::Cross(e, f)),
-        None => None,
-    }
+    first_meeting(map, points, &[], None)
 }
 
-// The same. A sweep that finds the drawing plane spares the search.
+// The same, where without the edges of the loose vertices the drawing is plane.
+fn first_pair_by_loose(map: &HalfMap, points: &Points, loose: &[u16]) -> Option<Verdict>
+    requires drawn { IsDrawn map.now points.now }
+    requires plane { IsPlaneDrawing (firm_lists loose.now map.now.lists) points.now }
+    ensures { MatchOption result (NoneShareAPlace map.now.lists points.now × NoneOnEdge map.now.lists points.now × NoneCross map.now.lists points.now)
+        (λ verdict. (width height : ℤ) → AllInGrid map.now.lists points.now width height → IsVerdict map.now.lists points.now width height verdict) }
+{
+    let mut marks = [true; 4095];
+    mark_by_loose(map, points, loose, &mut marks);
+    first_meeting(map, points, &marks, Some(loose))
+}
+
+// The same. A sweep that finds the drawing plane, or plane without the edges of a few vertices, spares the
+// search over all pairs.
 fn first_pair_by_sweep(map: &HalfMap, points: &Points) -> Option<Verdict>
     requires { IsDrawn map.now points.now }
     ensures { MatchOption result (NoneShareAPlace map.now.lists points.now × NoneOnEdge map.now.lists points.now × NoneCross map.now.lists points.now)
         (λ verdict. (width height : ℤ) → AllInGrid map.now.lists points.now width height → IsVerdict map.now.lists points.now width height verdict) }
 {
-    if is_plane_by_sweep(map, points) {
-        None
-    } else {
-        first_pair(map, points)
+    let mut loose = [0; 8];
+    match loose_vertices(map, points, &mut loose) {
+        Some(0) => None,
+        Some(count) => first_pair_by_loose(map, points, &loose[..count]),
+        None => first_pair(map, points),
     }
 }
 
@@ -68,9 +104,10 @@ fn first_fault(map: &HalfMap, points: &Points, corner: Point) -> Option<Verdict>
 /// where all points lie in the grid, the drawing is plane and the rotations are kept.
 ///
 /// The grid goes from (0, 0) to `corner`. There is one point for each vertex, and no coordinate is beyond
-/// 2^20 in size. It takes no memory from the heap. Where a sweep finds the drawing plane, the time is
-/// m log n for n vertices and m edges, besides that in which the lines that the sweep meets are moved; else
-/// each edge is compared with each vertex and each edge after it.
+/// 2^20 in size. It takes no memory from the heap. Where a sweep finds the drawing plane, or plane without
+/// the edges of a few loose vertices, the time is m log n for n vertices and m edges, besides that in which
+/// the lines that the sweep meets are moved, and that in which the edges of the loose vertices are compared
+/// with all else; else each edge is compared with each vertex and each edge after it.
 pub fn check_points(map: &HalfMap, points: &Points, corner: Point) -> Verdict
     requires { HasPlaces map.now.lists points.now }
     ensures { IsVerdict map.now.lists points.now corner.x corner.y result }

@@ -1,7 +1,6 @@
 use Rattle.std.proofs.Common.{◌≡◌, inl, inr, subst, arith}
 use Rattle.std.proofs.lemmas.Bool.{cases_lt}
 use Rattle.draw_check.specs.Faults.{LiesOnEdge}
-use Rattle.draw_check.proofs.MetLemmas.{met_by_vertex, first_lies_on}
 use Rattle.draw_check.proofs.edges.first_on_edge.Goals as goal
 
 pub returns-in-Some : goal.returns-in-Some
@@ -10,7 +9,7 @@ returns-in-Some c =
     let count = c.n-v-end.ensures.count in
     record {
       before = λ s a b l. c.loop-v.invariant s a b l;
-      rest = first_lies_on lists c.args.points.now (record { 0 = c.loop-v.v }) (omega arith) c.in-Some.edge.a.0 c.in-Some.edge.b.0 c.in-Some.ensures;
+      rest = c.in-Some.ensures;
     }
 
 pub loop-v-preserved : goal.loop-v-preserved
@@ -20,5 +19,5 @@ loop-v-preserved c = λ s a b l on.
       | inl less ↦ c.loop-v.invariant s a b less on
       | inr more ↦
           (let same : s ≡ c.loop-v.v = omega arith in
-          c.in_default.ensures a b (met_by_vertex lists c.args.points.now (record { 0 = c.loop-v.v }) a b (subst (λ x. LiesOnEdge lists c.args.points.now x a b) same on)))
+          c.in_default.ensures a b (subst (λ x. LiesOnEdge lists c.args.points.now x a b) same on))
     ]
