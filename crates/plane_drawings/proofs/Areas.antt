@@ -8,7 +8,7 @@ use Rattle.pg_plane.proofs.Crossing.{one_crossing, one_weight, flat_last, flat_e
 use Rattle.plane_drawings.specs.PlaneSweepLines.{IsBefore}
 
 -- three vectors: each width times the area between the other two
-widths : (u p q : Point) → (((cross p q) *ℤ u.x) +ℤ (neg_ℤ (cross u q) *ℤ p.x)) +ℤ ((cross u p) *ℤ q.x) ≡ pos 0
+pub widths : (u p q : Point) → (((cross p q) *ℤ u.x) +ℤ (neg_ℤ (cross u q) *ℤ p.x)) +ℤ ((cross u p) *ℤ q.x) ≡ pos 0
 widths u p q = simp ring (omega (arith, sums))
 
 -- an area seen from another point

@@ -7,7 +7,7 @@ use Rattle.map_lists.specs.Lists.{Lists}
 use Rattle.map_theory.specs.Maps.{HasDart, IsSimpleMap}
 use Rattle.pg_plane.specs.declared.point.Point.{Point}
 use Rattle.pg_plane.specs.Geometry.{IsOnSegment, DoCross}
-use Rattle.plane_drawings.specs.Drawing.{IsPlaneDrawing}
+use Rattle.plane_drawings.specs.Drawing.{place, IsPlaneDrawing}
 use Rattle.pg_plane.proofs.Segments.{IsOnSegment-back, DoCross-first_back, DoCross-second_back}
 use Rattle.plane_drawings.specs.declared.plane_sweep.line.Line.{Line}
 use Rattle.plane_drawings.specs.PlaneSweepLines.{AreInOrder, IsLine, Cross}
@@ -26,6 +26,20 @@ swept_at n at order lines lines_in status sweep (suc i) l =
     subst (λ j. IsSwept at lines j (status j)) e
     (swept_more n at order lines lines_in i (omega arith) (status i) (status (i + 1)) (swept_at n at order lines lines_in status sweep i (omega arith)) (sweep.steps i (omega arith)))
 
+-- A point on a line of which it is no end comes between its ends.
+pub between_ends : (n : ℕ) (at : ℕ → Point) → AreInOrder n at → (e : Line) (w : ℕ) → IsLine n e → w < n → w ≢ e.low → w ≢ e.high → IsOnSegment (at w) (at e.low) (at e.high) → (e.low < w) × (w < e.high)
+between_ends n at order e w line_is w_in not_low not_high h =
+    let up = line_is.rises in
+    let within = line_is.within in
+    let line = order e.low e.high up within in
+    elim (cases_lt w e.low) [
+      | inl l ↦ absurd (early_off (at w) (at e.low) (at e.high) (order w e.low l (omega arith)) line h)
+      | inr l ↦ elim (cases_lt e.high w) [
+        | inl m ↦ absurd (late_off (at w) (at e.low) (at e.high) line (order e.high w m w_in) h)
+        | inr m ↦ (omega (arith, not_low), omega (arith, not_high))
+      ]
+    ]
+
 module _ (n : ℕ) (at : ℕ → Point) (order : AreInOrder n at) (lines : List Line) (lines_in : All (IsLine n) lines) (status : List Line) (s : IsSwept at lines n status) where
   is_line : (e : Line) → Contains lines e → IsLine n e
   is_line e has = All-contains (IsLine n) lines e lines_in has
@@ -37,18 +51,10 @@ module _ (n : ℕ) (at : ℕ → Point) (order : AreInOrder n at) (lines : List 
   -- no point stands on a line of which it is no end
   pub points_off : (e : Line) (w : ℕ) → Contains lines e → w < n → w ≢ e.low → w ≢ e.high → ¬ IsOnSegment (at w) (at e.low) (at e.high)
   points_off e w has w_in not_low not_high h =
-      let up = (is_line e has).rises in
-      let within = (is_line e has).within in
-      let line = order e.low e.high up within in
-      elim (cases_lt w e.low) [
-        | inl l ↦ early_off (at w) (at e.low) (at e.high) (order w e.low l (omega arith)) line h
-        | inr l ↦ elim (cases_lt e.high w) [
-          | inl m ↦ late_off (at w) (at e.low) (at e.high) line (order e.high w m w_in) h
-          | inr m ↦ s.off_lines e w has w_in (omega (arith, not_low)) (omega (arith, not_high)) h.on_line
-        ]
-      ]
+      let (low, high) = between_ends n at order e w (is_line e has) w_in not_low not_high h in
+      s.off_lines e w has w_in low high h.on_line
 
-module _ (lists : Lists) (points : List Point) (vertex rank : ℕ → ℕ) (lines : List Line) (status : List Line) (simple : IsSimpleMap lists) (ranked : IsRanked (length lists) points vertex rank) (lines_of : AreLinesOf lists rank lines) (s : IsSwept (point_at points vertex) lines (length lists) status) where
+module _ (lists : Lists) (points : List Point) (vertex rank : ℕ → ℕ) (lines : List Line) (simple : IsSimpleMap lists) (ranked : IsRanked (length lists) points vertex rank) (lines_of : AreLinesOf lists rank lines) where
   abbrev at : ℕ → Point
   at = point_at points vertex
 
@@ -68,31 +74,16 @@ module _ (lists : Lists) (points : List Point) (vertex rank : ℕ → ℕ) (line
         | inr l ↦ inr (lines_of.each_edge v u (simple.both_ways u v has) (omega (arith, ne)))
       ]
 
-  off_ranked : (u v w : ℕ) → HasDart lists u v → w < length lists → w ≢ u → w ≢ v → ¬ IsOnSegment (at (rank w)) (at (rank u)) (at (rank v))
-  off_ranked u v w has lw nu nv h =
+  -- what is so of a point on a line of which it is no end is so of a vertex on an edge
+  pub on_ranked : (Q : ℕ → Type 0) → ((e : Line) (w : ℕ) → Contains lines e → w < length lists → w ≢ e.low → w ≢ e.high → IsOnSegment (at w) (at e.low) (at e.high) → Q w) → (u v w : ℕ) → HasDart lists u v → w < length lists → w ≢ u → w ≢ v → IsOnSegment (place points w) (place points u) (place points v) → Q (rank w)
+  on_ranked Q by_lines u v w has lw nu nv on =
+      let h : IsOnSegment (at (rank w)) (at (rank u)) (at (rank v)) = rw (ranked.back w lw, ranked.back u has.0, ranked.back v (simple.in_range u v has)) on in
       let w_in = ranked.within w lw in
       let apart_u = ranks_apart w u lw has.0 nu in
       let apart_v = ranks_apart w v lw (simple.in_range u v has) nv in
       elim (by_line u v has) [
-        | inl l ↦ points_off (length lists) at ranked.in_order lines lines_of.each_line status s (record { low = rank u; high = rank v }) (rank w) l w_in apart_u apart_v h
-        | inr l ↦ points_off (length lists) at ranked.in_order lines lines_of.each_line status s (record { low = rank v; high = rank u }) (rank w) l w_in apart_v apart_u (IsOnSegment-back (at (rank w)) (at (rank u)) (at (rank v)) h)
-      ]
-
-  uncrossed : (e f : Line) → Contains lines e → Contains lines f → ¬ Cross at e f
-  uncrossed = lines_uncrossed (length lists) at ranked.in_order lines lines_of.each_line status s
-
-  cross_ranked : (a b c d : ℕ) → HasDart lists a b → HasDart lists c d → ¬ DoCross (at (rank a)) (at (rank b)) (at (rank c)) (at (rank d))
-  cross_ranked a b c d has has_2 h =
-      elim (by_line a b has) [
-        | inl l ↦ elim (by_line c d has_2) [
-          | inl m ↦ uncrossed (record { low = rank a; high = rank b }) (record { low = rank c; high = rank d }) l m h
-          | inr m ↦ uncrossed (record { low = rank a; high = rank b }) (record { low = rank d; high = rank c }) l m (DoCross-second_back (at (rank a)) (at (rank b)) (at (rank c)) (at (rank d)) h)
-        ]
-        | inr l ↦ (let back = DoCross-first_back (at (rank a)) (at (rank b)) (at (rank c)) (at (rank d)) h in
-            elim (by_line c d has_2) [
-              | inl m ↦ uncrossed (record { low = rank b; high = rank a }) (record { low = rank c; high = rank d }) l m back
-              | inr m ↦ uncrossed (record { low = rank b; high = rank a }) (record { low = rank d; high = rank c }) l m (DoCross-second_back (at (rank b)) (at (rank a)) (at (rank c)) (at (rank d)) back)
-            ])
+        | inl l ↦ by_lines (record { low = rank u; high = rank v }) (rank w) l w_in apart_u apart_v h
+        | inr l ↦ by_lines (record { low = rank v; high = rank u }) (rank w) l w_in apart_v apart_u (IsOnSegment-back (at (rank w)) (at (rank u)) (at (rank v)) h)
       ]
 
   places_apart : (u v : ℕ) → u < length lists → v < length lists → u ≢ v → at (rank u) ≢ at (rank v)
@@ -103,11 +94,29 @@ module _ (lists : Lists) (points : List Point) (vertex rank : ℕ → ℕ) (line
         | inr l ↦ IsBefore-apart (at (rank v)) (at (rank u)) (ranked.in_order (rank v) (rank u) (omega (arith, apart)) (ranked.within u lu)) (sym e)
       ]
 
-  -- A drawing of which the sweep is done is plane.
-  pub drawing_done : IsPlaneDrawing lists points
-  drawing_done = record {
-    apart = λ u v lu lv ne e. places_apart u v lu lv ne (rw (ranked.back u lu, ranked.back v lv) e);
-    off_edges = λ u v w has lw nu nv h. off_ranked u v w has lw nu nv (rw (ranked.back w lw, ranked.back u has.0, ranked.back v (simple.in_range u v has)) h);
-    no_crossing = λ a b c d has has_2 n1 n2 n3 n4 h.
-        cross_ranked a b c d has has_2 (rw (ranked.back a has.0, ranked.back b (simple.in_range a b has), ranked.back c has_2.0, ranked.back d (simple.in_range c d has_2)) h);
-  }
+  module _ (status : List Line) (s : IsSwept at lines (length lists) status) where
+    uncrossed : (e f : Line) → Contains lines e → Contains lines f → ¬ Cross at e f
+    uncrossed = lines_uncrossed (length lists) at ranked.in_order lines lines_of.each_line status s
+
+    cross_ranked : (a b c d : ℕ) → HasDart lists a b → HasDart lists c d → ¬ DoCross (at (rank a)) (at (rank b)) (at (rank c)) (at (rank d))
+    cross_ranked a b c d has has_2 h =
+        elim (by_line a b has) [
+          | inl l ↦ elim (by_line c d has_2) [
+            | inl m ↦ uncrossed (record { low = rank a; high = rank b }) (record { low = rank c; high = rank d }) l m h
+            | inr m ↦ uncrossed (record { low = rank a; high = rank b }) (record { low = rank d; high = rank c }) l m (DoCross-second_back (at (rank a)) (at (rank b)) (at (rank c)) (at (rank d)) h)
+          ]
+          | inr l ↦ (let back = DoCross-first_back (at (rank a)) (at (rank b)) (at (rank c)) (at (rank d)) h in
+              elim (by_line c d has_2) [
+                | inl m ↦ uncrossed (record { low = rank b; high = rank a }) (record { low = rank c; high = rank d }) l m back
+                | inr m ↦ uncrossed (record { low = rank b; high = rank a }) (record { low = rank d; high = rank c }) l m (DoCross-second_back (at (rank b)) (at (rank a)) (at (rank c)) (at (rank d)) back)
+              ])
+        ]
+
+    -- A drawing of which the sweep is done is plane.
+    pub drawing_done : IsPlaneDrawing lists points
+    drawing_done = record {
+      apart = λ u v lu lv ne e. places_apart u v lu lv ne (rw (ranked.back u lu, ranked.back v lv) e);
+      off_edges = on_ranked (λ _. ⊥) (points_off (length lists) at ranked.in_order lines lines_of.each_line status s);
+      no_crossing = λ a b c d has has_2 n1 n2 n3 n4 h.
+          cross_ranked a b c d has has_2 (rw (ranked.back a has.0, ranked.back b (simple.in_range a b has), ranked.back c has_2.0, ranked.back d (simple.in_range c d has_2)) h);
+    }

@@ -18,4 +18,5 @@ mod StepLemmas
 mod SweepLemmas
 mod TopLemmas
 pub mod FirmLemmas
+mod StarLemmas
 mod Refused

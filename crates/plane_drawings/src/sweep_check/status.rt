@@ -11,7 +11,7 @@ use crate::sweep_check::line::{end_apart, rise};
 use pg_plane::Point;
 
 // How many lines of the status the vertex is above, if it is above the lower ones and no others.
-fn count_below(places: &[Point], status: &[Line], v: u16) -> usize
+pub(crate) fn count_below(places: &[Point], status: &[Line], v: u16) -> usize
     requires in_range { All IsInRange places.now }
     requires vertex { v < length places.now }
     requires lines { All (IsLine (length places.now)) status.now }
@@ -31,7 +31,7 @@ fn count_below(places: &[Point], status: &[Line], v: u16) -> usize
 }
 
 // The end of the run of lines that end at the vertex, of those from `begin` on.
-fn run_end(status: &[Line], begin: usize, v: u16) -> usize
+pub(crate) fn run_end(status: &[Line], begin: usize, v: u16) -> usize
     requires { begin ≤ length status.now }
     ensures order { begin ≤ result }
     ensures within { result ≤ length status.now }
@@ -46,7 +46,7 @@ fn run_end(status: &[Line], begin: usize, v: u16) -> usize
 }
 
 // Whether the vertex is strictly above the last line before `begin`, if there is one.
-fn is_above(places: &[Point], status: &[Line], begin: usize, v: u16) -> bool
+pub(crate) fn is_above(places: &[Point], status: &[Line], begin: usize, v: u16) -> bool
     requires in_range { All IsInRange places.now }
     requires vertex { v < length places.now }
     requires lines { All (IsLine (length places.now)) status.now }
@@ -57,7 +57,7 @@ fn is_above(places: &[Point], status: &[Line], begin: usize, v: u16) -> bool
 }
 
 // Whether the vertex is strictly below the line at `end`, if there is one.
-fn is_below(places: &[Point], status: &[Line], end: usize, v: u16) -> bool
+pub(crate) fn is_below(places: &[Point], status: &[Line], end: usize, v: u16) -> bool
     requires in_range { All IsInRange places.now }
     requires vertex { v < length places.now }
     requires lines { All (IsLine (length places.now)) status.now }

@@ -5,5 +5,5 @@ use Rattle.plane_drawings.proofs.plane_sweep.sweep_is_plane.Goals as goal
 
 pub returns : goal.returns
 returns c = λ lists points vertex rank lines status simple ranked lines_of sweep.
-    drawing_done lists points vertex rank lines (status (length lists)) simple ranked lines_of
+    drawing_done lists points vertex rank lines simple ranked lines_of (status (length lists))
     (swept_at (length lists) (point_at points vertex) ranked.in_order lines lines_of.each_line status sweep (length lists) (omega arith))
