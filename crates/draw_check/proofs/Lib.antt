@@ -9,6 +9,7 @@ pub mod FaceIds
 pub mod FaceLemmas
 pub mod MetLemmas
 pub mod LooseLemmas
+mod SpanLemmas
 mod Cases
 pub mod TurnLemmas
 pub mod ValidFewer

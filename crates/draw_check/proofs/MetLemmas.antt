@@ -5,7 +5,8 @@ use Rattle.map_lists.specs.Lists.{Lists}
 use Rattle.map_lists.specs.declared.ids.VertexId.{VertexId}
 use Rattle.map_lists.specs.declared.items.Ends.{Ends}
 use Rattle.pg_plane.specs.declared.point.Point.{Point}
-use Rattle.vertex_rounds.specs.Least.{IsLeastPair}
+use Rattle.map_theory.specs.Maps.{HasDart}
+use Rattle.vertex_rounds.specs.Least.{IsLeast, IsLeastPair}
 use Rattle.vertex_rounds.specs.Rounds.{HasEdge}
 use Rattle.draw_check.specs.Faults.{LiesOnEdge, EdgesCross}
 use Rattle.draw_check.specs.Loops.{IsMet, IsMetFrom}
@@ -47,3 +48,8 @@ module _ (lists : Lists) (points : List Point) (a b : VertexId) (edge : HasEdge 
 -- what decides that an edge is met decides it of an edge whose lesser end is not below `from`
 pub decides_late : (lists : Lists) (points : List Point) (probe : Probe) (from a b : ℕ) (r : Bool) → from ≤ a → ((r ≡ true → IsMet lists points probe a b) × (IsMet lists points probe a b → r ≡ true)) → (r ≡ true → IsMetFrom lists points probe from a b) × (IsMetFrom lists points probe from a b → r ≡ true)
 decides_late lists points probe from a b r late is = (λ t. record { late = late; met = is.0 t }, λ m. is.1 m.met)
+
+-- the least neighbour whose edge is met, of a search among all neighbours
+pub least_met : (lists : Lists) (points : List Point) (probe : Probe) (v : ℕ) (found : Option VertexId) → MatchOption found ((u : ℕ) → HasDart lists v u → ¬ IsMet lists points probe v u) (λ (u : VertexId). IsLeast (λ x. HasDart lists v x × IsMet lists points probe v x) u.0) → MatchOption found ((u : ℕ) → ¬ IsMet lists points probe v u) (λ (u : VertexId). IsLeast (IsMet lists points probe v) u.0)
+least_met lists points probe v None h = λ u m. h u m.edge.1 m
+least_met lists points probe v (Some u) h = record { here = h.here.1; before = λ t less m. h.before t less (m.edge.1, m) }

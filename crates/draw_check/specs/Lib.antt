@@ -3,6 +3,7 @@ pub mod Faults
 pub mod Verdicts
 pub mod Laws
 pub mod Loops
+pub mod Spans
 pub mod FaceVerdicts
 pub mod Outer
 pub mod FaceLaws

@@ -13,6 +13,7 @@ mod loose;
 mod outer;
 mod pairs;
 mod places;
+mod spans;
 mod sums;
 mod turns;
 mod verdict;

@@ -5,30 +5,34 @@ ghost use Rattle.plane_drawings.specs.SweepCheckLines.{firm_lists};
 ghost use Rattle.draw_check.specs.declared.verdict.Verdict.TheVariants.{Yes};
 ghost use Rattle.draw_check.specs.Faults.{HasPlaces};
 ghost use Rattle.draw_check.specs.Loops.{IsDrawn, AreMarked};
+ghost use Rattle.draw_check.specs.Spans.{AreSpans};
 ghost use Rattle.draw_check.specs.Verdicts.{AllInGrid, NoneShareAPlace, NoneOnEdge, NoneCross, IsVerdict};
 
 use crate::Verdict;
 use crate::crossings::first_crossing;
 use crate::edges::first_on_edge;
-use crate::loose::mark_by_loose;
+use crate::loose::{mark_by_loose, mark_by_stars};
 use crate::places::{corner_of, first_outside, first_shared};
+use crate::spans::{NO_SPAN, Span, fill_spans, sure_spans};
 use crate::turns::first_turned;
 use half_edges::HalfMap;
 use pg_plane::{GridFigure, Point, Points};
 use plane_drawings::sweep_check::loose_vertices;
 
 // The first vertex on an edge or the first two edges that cross, in this order, where no two vertices stand
-// at one place. The vertices on edges are marked; and without the edges of the loose vertices the drawing is
-// plane, where they are known.
+// at one place. The vertices on edges are marked, the spans hold their stars, and without the edges of the
+// loose vertices the drawing is plane, where they are known.
 fn first_meeting(
     map: &HalfMap,
     points: &Points,
     marks: &[bool],
+    spans: &[Span],
     loose: Option<&[u16]>,
 ) -> Option<Verdict>
     requires drawn { IsDrawn map.now points.now }
     requires apart { NoneShareAPlace map.now.lists points.now }
     requires marked { AreMarked map.now.lists points.now marks.now }
+    requires spans { AreSpans map.now.lists points.now spans.now }
     requires plane { IfSome loose (λ l. IsPlaneDrawing (firm_lists l.now map.now.lists) points.now) }
     ensures { MatchOption result (NoneShareAPlace map.now.lists points.now × NoneOnEdge map.now.lists points.now × NoneCross map.now.lists points.now)
         (λ verdict. (width height : ℤ) → AllInGrid map.now.lists points.now width height → IsVerdict map.now.lists points.now width height verdict) }
@@ -36,7 +40,7 @@ fn first_meeting(
     if let Some((v, e)) = first_on_edge(map, points, marks) {
         return Some(Verdict::OnEdge(v, e));
     }
-    match first_crossing(map, points, loose) {
+    match first_crossing(map, points, spans, loose) {
         Some((e, f)) => Some(Verdict::Cross(e, f)),
         None => None,
     }
@@ -52,7 +56,12 @@ fn first_pair(map: &HalfMap, points: &Points) -> Option<Verdict>
     if let Some((u, v)) = first_shared(map, points) {
         return Some(Verdict::SamePlace(u, v));
     }
-    first_meeting(map, points, &[], None)
+    let mut marks = [false; 4095];
+    mark_by_stars(map, points, &mut marks);
+    let mut spans = [NO_SPAN; 4095];
+    fill_spans(map, points, &mut spans);
+    let sure = sure_spans(map, points, &spans);
+    first_meeting(map, points, &marks, sure, None)
 }
 
 // The same, where without the edges of the loose vertices the drawing is plane.
@@ -64,7 +73,7 @@ fn first_pair_by_loose(map: &HalfMap, points: &Points, loose: &[u16]) -> Option<
 {
     let mut marks = [true; 4095];
     mark_by_loose(map, points, loose, &mut marks);
-    first_meeting(map, points, &marks, Some(loose))
+    first_meeting(map, points, &marks, &[], Some(loose))
 }
 
 // The same. A sweep that finds the drawing plane, or plane without the edges of a few vertices, spares the
