@@ -1,6 +1,6 @@
 -- Where a drawing is plane without the edges of some loose vertices, each fault has a loose vertex.
-use Rattle.std.proofs.Common.{◌≡◌, ◌⊎◌, ◌&&◌, ℕ, ◌<◌, Bool, true, false, not, List, length, refl, sym, subst, inl, inr, arith}
-use Rattle.std.proofs.lemmas.Bool.{cases_Bool, and_from}
+use Rattle.std.proofs.Common.{◌≡◌, ◌⊎◌, ◌&&◌, ℕ, ◌<◌, Bool, true, false, not, List, length, refl, inl, inr, arith}
+use Rattle.std.proofs.lemmas.Bool.{cases_Bool}
 use Rattle.map_lists.specs.Lists.{Lists}
 use Rattle.map_lists.specs.declared.ids.VertexId.{VertexId}
 use Rattle.map_theory.specs.Maps.{HasDart, IsSimpleMap}
@@ -9,7 +9,7 @@ use Rattle.pg_plane.proofs.Segments.{IsOnSegment-back, DoCross-second_back}
 use Rattle.plane_drawings.specs.Drawing.{place, IsPlaneDrawing}
 use Rattle.plane_drawings.specs.SweepCheckLines.{is_among, is_firm, firm_lists}
 use Rattle.plane_drawings.proofs.FirmLemmas.{firm_map, length-firm}
-use Rattle.draw_check.specs.Faults.{ShareAPlace, LiesOnEdge, EdgesCross}
+use Rattle.draw_check.specs.Faults.{LiesOnEdge, EdgesCross}
 use Rattle.draw_check.specs.Verdicts.{NoneShareAPlace}
 use Rattle.draw_check.specs.Loops.{Touches}
 use Rattle.draw_check.specs.declared.edges.Probe.{Probe}

@@ -50,8 +50,8 @@ fn widened(span: Span, p: Point) -> Span {
 
 // Writes the spans of single vertices.
 fn fill_points(points: &Points, spans: &mut [Span]) {
-    for v in 0..spans.len() {
-        if v < points.len() {
+    for v in 0..points.len() {
+        if v < spans.len() {
             spans[v] = span_of(points.get(v));
         }
     }

@@ -1,5 +1,5 @@
 -- A point and the lines that begin at one point before it, bottom to top.
-use Rattle.std.proofs.Common.{◌≡◌, ◌⊎◌, ℕ, zero, suc, ◌+◌, ◌-◌, ◌<◌, ◌≤◌, List, length, get_or, ℤ, pos, neg_ℤ, ◌*ℤ◌, ◌≤ℤ◌, ◌<ℤ◌, sym, ap, subst, inl, inr, arith}
+use Rattle.std.proofs.Common.{◌≡◌, ◌⊎◌, ℕ, zero, suc, ◌+◌, ◌-◌, ◌<◌, ◌≤◌, List, length, get_or, ℤ, pos, neg_ℤ, ◌*ℤ◌, ◌≤ℤ◌, ◌<ℤ◌, sym, subst, inl, inr, arith}
 use Rattle.std.specs.List.{All, Contains}
 use Rattle.std.proofs.lemmas.Int.{ints, by_lt_z}
 use Rattle.std.proofs.lemmas.Bool.{cases_lt}
@@ -132,8 +132,8 @@ module _ (n : ℕ) (at : ℕ → Point) (order : AreInOrder n at) (lines : List 
       let P : ℕ → Type 0 = λ i. rise at (get_or lines i d) w <ℤ pos 0 in
       subst P (let next : b.end + j + 1 ≡ k = omega arith in next) (below_more (b.end + j) d (omega arith) (below_last j (b.end + j) d (omega arith) (omega arith)))
 
-  -- A point that stands between two neighbours is on none of the lines, but for those that end at it.
-  pub ends_here : (e : Line) → Contains lines e → rise at e w ≡ pos 0 → e.high ≡ w
+  -- A point that stands between two neighbours is on none of the lines, but for those that end at it or before it.
+  pub ends_here : (e : Line) → Contains lines e → rise at e w ≡ pos 0 → e.high ≤ w
   ends_here e has z =
       let (k, l, is) = at_from_Contains lines e has in
       let same : get_or lines k e ≡ e = is e in
@@ -142,7 +142,7 @@ module _ (n : ℕ) (at : ℕ → Point) (order : AreInOrder n at) (lines : List 
             (let up = subst (λ (f : Line). pos 0 <ℤ rise at f w) same (above_first (b.begin - k - 1) k e (omega arith)) in
             absurd (omega (arith, ints)))
         | inr m ↦ elim (cases_lt k b.end) [
-          | inl before ↦ subst (λ (f : Line). f.high ≡ w) same (b.here k e m before)
+          | inl before ↦ subst (λ (f : Line). f.high ≤ w) same (b.here k e m before)
           | inr behind ↦
               (let down = subst (λ (f : Line). rise at f w <ℤ pos 0) same (below_last (k - b.end) k e (omega arith) l) in
               absurd (omega (arith, ints)))

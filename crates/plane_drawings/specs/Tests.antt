@@ -24,12 +24,12 @@ pub record IsPassed (at : ℕ → Point) (i : ℕ) (fresh old new : List Line) :
 abbrev pub AreInTurn : (ℕ → Point) → List Line → Type 0
 AreInTurn at lines = (k : ℕ) (d : Line) → k + 1 < length lines → pos 0 ≤ℤ rise at (slice_index_or lines k d) (slice_index_or lines (k + 1) d).high
 
--- Point i is strictly above the line before `begin` and strictly below that at `end`; those between end at it.
+-- Point i is strictly above the line before `begin` and strictly below that at `end`; those between end at it or before it.
 pub record StandsBetween (at : ℕ → Point) (i : ℕ) (lines : List Line) : Type 0 where
   pub begin : ℕ
   pub end : ℕ
   pub within : begin ≤ length lines
-  pub here : (k : ℕ) (d : Line) → begin ≤ k → k < end → (slice_index_or lines k d).high ≡ i
+  pub here : (k : ℕ) (d : Line) → begin ≤ k → k < end → (slice_index_or lines k d).high ≤ i
   pub above : (d : Line) → 0 < begin → pos 0 <ℤ rise at (slice_index_or lines (begin - 1) d) i
   pub below : (d : Line) → end < length lines → rise at (slice_index_or lines end d) i <ℤ pos 0
 

@@ -15,7 +15,7 @@ use crate::plane_sweep::Line;
 use crate::sweep_check::fresh::{fill_fresh, sort_fresh};
 use crate::sweep_check::line::rise;
 use crate::sweep_check::order::{are_inverse, do_rise, fill_order, fill_places, fill_ranks};
-use crate::sweep_check::status::{count_below, is_above, is_below, run_end};
+use crate::sweep_check::status::{count_below, is_above, is_below};
 use crate::sweep_check::sweep::NO_LINE;
 use half_edges::{HalfMap, VertexId};
 use pg_plane::{Point, Points};
@@ -57,7 +57,30 @@ fn are_in_turn(places: &[Point], lines: &[Line]) -> bool
     true
 }
 
-// Whether a vertex stands strictly between two neighbours of the lines, but for those that end at it.
+// The end of the run of lines that end at the vertex or before it, and that it is not below, of those from
+// `begin` on.
+fn ended_run(places: &[Point], lines: &[Line], begin: usize, w: u16) -> usize
+    requires in_range { All IsInRange places.now }
+    requires vertex { w < length places.now }
+    requires lines { All (IsLine (length places.now)) lines.now }
+    requires begin { begin ≤ length lines.now }
+    ensures order { begin ≤ result }
+    ensures within { result ≤ length lines.now }
+    ensures run { (k : ℕ) (d : Line) → begin ≤ k → k < result → (slice_index_or lines.now k d).high ≤ w }
+{
+    for k in begin..lines.len() {
+        if w < lines[k].high {
+            return k;
+        }
+        if rise(places, lines[k], w) < 0 {
+            return k;
+        }
+    }
+    lines.len()
+}
+
+// Whether a vertex stands strictly between two neighbours of the lines, but for those that end at it or
+// before it.
 fn stands_between(places: &[Point], lines: &[Line], w: u16) -> bool
     requires in_range { All IsInRange places.now }
     requires vertex { w < length places.now }
@@ -65,7 +88,7 @@ fn stands_between(places: &[Point], lines: &[Line], w: u16) -> bool
     ensures { OnTrue result (StandsBetween (place places.now) w lines.now) }
 {
     let begin = count_below(places, lines, w);
-    let end = run_end(lines, begin, w);
+    let end = ended_run(places, lines, begin, w);
     if !is_above(places, lines, begin, w) {
         return false;
     }
@@ -177,6 +200,34 @@ fn mark_in<const MOST: usize>(
     true
 }
 
+// The same, with room for `MOST` vertices.
+fn mark_with<const MOST: usize>(
+    map: &HalfMap,
+    points: &Points,
+    n: usize,
+    marks: &mut [bool],
+) -> bool
+    requires known { IsHalfMap map.now }
+    requires count { length points.now ≡ length map.now.lists }
+    requires in_range { All IsInRange points.now }
+    requires n { n ≡ length map.now.lists }
+    requires most { n ≤ MOST }
+    requires room { MOST < 4096 }
+    ensures { OnTrue result (AreOnMarked map.now.lists points.now marks.new) }
+{
+    let mut order = [0; MOST];
+    let mut ranks = [0; MOST];
+    let mut places = [Point { x: 0, y: 0 }; MOST];
+    mark_in::<MOST>(
+        map,
+        points,
+        &mut order[..n],
+        &mut ranks[..n],
+        &mut places[..n],
+        marks,
+    )
+}
+
 /// Marks the vertices that may stand on an edge of which they are no end; whether they are known. It is
 /// `false` only where two vertices stand at one place, and then the marks say nothing.
 ///
@@ -190,15 +241,9 @@ pub fn mark_on_edges(map: &HalfMap, points: &Points, marks: &mut [bool]) -> bool
 {
     map.facts();
     let n = map.n() as usize;
-    let mut order = [0; 4095];
-    let mut ranks = [0; 4095];
-    let mut places = [Point { x: 0, y: 0 }; 4095];
-    mark_in::<4095>(
-        map,
-        points,
-        &mut order[..n],
-        &mut ranks[..n],
-        &mut places[..n],
-        marks,
-    )
+    if n <= 255 {
+        mark_with::<255>(map, points, n, marks)
+    } else {
+        mark_with::<4095>(map, points, n, marks)
+    }
 }

@@ -31,7 +31,7 @@ pub(crate) fn count_below(places: &[Point], status: &[Line], v: u16) -> usize
 }
 
 // The end of the run of lines that end at the vertex, of those from `begin` on.
-pub(crate) fn run_end(status: &[Line], begin: usize, v: u16) -> usize
+fn run_end(status: &[Line], begin: usize, v: u16) -> usize
     requires { begin ≤ length status.now }
     ensures order { begin ≤ result }
     ensures within { result ≤ length status.now }

@@ -1,4 +1,4 @@
-use Rattle.std.proofs.Common.{◌≡◌, ℕ, get_or, sym, subst, arith}
+use Rattle.std.proofs.Common.{ℕ, subst, arith}
 use Rattle.map_theory.specs.Maps.{HasDart}
 use Rattle.map_theory.proofs.EntryLemmas.{Contains-from_list_any}
 use Rattle.vertex_rounds.proofs.LeastLemmas.{place_in}

@@ -1,5 +1,4 @@
 use Rattle.std.proofs.Common.{◌≡◌, ℕ, List, [], take, true, false, refl, subst}
-use Rattle.map_lists.specs.declared.ids.VertexId.{VertexId}
 use Rattle.plane_drawings.specs.Drawing.{IsPlaneDrawing}
 use Rattle.plane_drawings.specs.SweepCheckLines.{firm_lists}
 use Rattle.draw_check.specs.declared.edges.Probe.{Probe}

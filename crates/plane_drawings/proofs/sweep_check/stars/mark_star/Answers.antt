@@ -1,5 +1,4 @@
-use Rattle.std.proofs.Common.{◌≡◌, ℕ, ◌<◌, true, length, get_or, pos, sym, subst, inl, inr, arith}
-use Rattle.std.specs.Bool.{OnTrue}
+use Rattle.std.proofs.Common.{◌≡◌, ℕ, true, length, get_or, pos, sym, subst, inl, inr, arith}
 use Rattle.std.proofs.lemmas.Bool.{OnTrue_at, cases_lt, cases_Bool}
 use Rattle.plane_drawings.specs.Drawing.{place}
 use Rattle.plane_drawings.specs.PlaneSweepLines.{rise}
