@@ -1,5 +1,5 @@
--- What the searches for met edges say of vertices on edges and of crossings.
-use Rattle.std.proofs.Common.{◌≡◌, ◌≤◌, Bool, true, ℕ, ◌+◌, ◌<◌, List, length, Option, Some, None, sym, inl, ⊎_elim, arith}
+-- What the searches for met edges say of crossings, and of a vertex's edges.
+use Rattle.std.proofs.Common.{ℕ, ◌+◌, List, Option, Some, None, sym, inl, ⊎_elim, arith}
 use Rattle.std.specs.Option.{MatchOption}
 use Rattle.map_lists.specs.Lists.{Lists}
 use Rattle.map_lists.specs.declared.ids.VertexId.{VertexId}
@@ -8,22 +8,11 @@ use Rattle.pg_plane.specs.declared.point.Point.{Point}
 use Rattle.map_theory.specs.Maps.{HasDart}
 use Rattle.vertex_rounds.specs.Least.{IsLeast, IsLeastPair}
 use Rattle.vertex_rounds.specs.Rounds.{HasEdge}
-use Rattle.draw_check.specs.Faults.{LiesOnEdge, EdgesCross}
+use Rattle.draw_check.specs.Faults.{EdgesCross}
 use Rattle.draw_check.specs.Loops.{IsMet, IsMetFrom}
 use Rattle.vertex_rounds.proofs.LeastLemmas.{IsLeastPair-alike}
 use Rattle.draw_check.specs.declared.edges.Probe.{Probe}
-use Rattle.draw_check.specs.declared.edges.Probe.TheVariants.{Vertex, Edge}
-
-module _ (lists : Lists) (points : List Point) (v : VertexId) where
-  pub met_by_vertex : (a b : ℕ) → LiesOnEdge lists points v.0 a b → IsMetFrom lists points (Vertex v) 0 a b
-  met_by_vertex a b h = record { late = omega arith; met = record { edge = h.edge; meets = (h.not_first, h.not_second, h.on) } }
-
-  pub lies_on : v.0 < length lists → (a b : ℕ) → IsMetFrom lists points (Vertex v) 0 a b → LiesOnEdge lists points v.0 a b
-  lies_on l a b h = record { vertex = l; edge = h.met.edge; not_first = h.met.meets.0; not_second = h.met.meets.1; on = h.met.meets.2 }
-
-  -- the first edge met by a vertex is the first that it lies on
-  pub first_lies_on : v.0 < length lists → (a b : ℕ) → IsLeastPair (IsMetFrom lists points (Vertex v) 0) a b → IsLeastPair (LiesOnEdge lists points v.0) a b
-  first_lies_on l a b h = IsLeastPair-alike (IsMetFrom lists points (Vertex v) 0) (LiesOnEdge lists points v.0) (lies_on l) met_by_vertex a b h
+use Rattle.draw_check.specs.declared.edges.Probe.TheVariants.{Edge}
 
 module _ (lists : Lists) (points : List Point) (a b : VertexId) (edge : HasEdge lists a.0 b.0) where
   met_by_edge : (c d : ℕ) → EdgesCross lists points a.0 b.0 c d → IsMetFrom lists points (Edge a b) (a.0 + 1) c d
@@ -44,10 +33,6 @@ module _ (lists : Lists) (points : List Point) (a b : VertexId) (edge : HasEdge 
   pub first_cross : (found : Option Ends) → MatchOption found ((c d : ℕ) → ¬ IsMetFrom lists points (Edge a b) (a.0 + 1) c d) (λ e. IsLeastPair (IsMetFrom lists points (Edge a b) (a.0 + 1)) e.a.0 e.b.0) → MatchOption found ((c d : ℕ) → ¬ EdgesCross lists points a.0 b.0 c d) (λ e. IsLeastPair (EdgesCross lists points a.0 b.0) e.a.0 e.b.0)
   first_cross None h = λ c d x. h c d (met_by_edge c d x)
   first_cross (Some e) h = IsLeastPair-alike (IsMetFrom lists points (Edge a b) (a.0 + 1)) (EdgesCross lists points a.0 b.0) edges_cross met_by_edge e.a.0 e.b.0 h
-
--- what decides that an edge is met decides it of an edge whose lesser end is not below `from`
-pub decides_late : (lists : Lists) (points : List Point) (probe : Probe) (from a b : ℕ) (r : Bool) → from ≤ a → ((r ≡ true → IsMet lists points probe a b) × (IsMet lists points probe a b → r ≡ true)) → (r ≡ true → IsMetFrom lists points probe from a b) × (IsMetFrom lists points probe from a b → r ≡ true)
-decides_late lists points probe from a b r late is = (λ t. record { late = late; met = is.0 t }, λ m. is.1 m.met)
 
 -- the least neighbour whose edge is met, of a search among all neighbours
 pub least_met : (lists : Lists) (points : List Point) (probe : Probe) (v : ℕ) (found : Option VertexId) → MatchOption found ((u : ℕ) → HasDart lists v u → ¬ IsMet lists points probe v u) (λ (u : VertexId). IsLeast (λ x. HasDart lists v x × IsMet lists points probe v x) u.0) → MatchOption found ((u : ℕ) → ¬ IsMet lists points probe v u) (λ (u : VertexId). IsLeast (IsMet lists points probe v) u.0)
