@@ -71,6 +71,14 @@ def wheel_with_pair(n):
     return lists
 
 
+def halved_wheel(n):
+    """A wheel with a vertex between any two of its circle, which have the first numbers: none of them is in a separating pair."""
+    half = (n - 1) // 2
+    ring = [half + i for i in range(1, half + 1)]
+    lists = [[ring[i % half], ring[i - 1]] for i in range(1, half + 1)]
+    return lists + [[i + 1, 2 * half + 1, i or half] for i in range(half)] + [ring]
+
+
 def prism(n):
     return pigale.prism(n // 2)
 
@@ -159,6 +167,7 @@ MAPS = {
     "grid with diagonals": (crossed_square, ("count", "shift", "bars", "convex")), "ladder": (ladder, ("shift", "bars", "convex")),
     "wheel": (wheel, ALL), "wheel, hub last": (wheel_last, ALL), "double wheel": (double_wheel, ALL),
     "two hubs": (two_hubs, ("count", "shift", "bars", "convex")), "wheel with a pair": (wheel_with_pair, ("count", "shift", "bars", "convex")),
+    "halved wheel": (halved_wheel, ("count", "shift", "bars", "convex")),
     "isolated": (isolated, ("count", "shift")), "tetrahedra": (tetrahedra, ("count", "shift")),
     "tiles": (tiles, ("bars", "convex", "rect")), "tiles, shuffled": (lambda n: shuffled(tiles(n)), ("bars", "rect")),
     "tall tiles": (tall_tiles, ("rect",)), "flat tiles": (flat_tiles, ("rect",)), "column": (column, ("rect", "convex")),

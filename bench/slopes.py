@@ -108,6 +108,7 @@ def limits():
     yield "convex: a double wheel of 4,095", cost("convex", one(families.double_wheel)), 30
     yield "convex: a comb of 4,095", cost("convex", one(families.comb)), 30
     yield "convex: refused for a late pair, 4,095", cost("convex", one(families.wheel_with_pair)), 60
+    yield "convex: refused for late pairs on large faces, 4,095", cost("convex", one(families.halved_wheel)), 60
     yield "rect: a column between two hubs, one last, 4,095", cost("rect", one(families.column_hub_last)), 40
     for name, graph in families.GRAPHS.items():
         yield f"embed: {name}", cost("embed", (families.graph6(graph) + "\n").encode()), 4 if "wheel" in name else 2.6

@@ -1,4 +1,4 @@
--- Two vertices on two faces that are no edge between them: the greatest of the four is not clear.
+-- Two vertices on two faces that are no edge between them: the greatest of the four tells of them.
 use Rattle.std.proofs.Common.{◌≡◌, ◌≢◌, ◌⊎◌, ℕ, ◌+◌, ◌-◌, ◌<◌, ◌≤◌, List, length, get_or, Contains, Option, Some, unwrap_or, sym, ap, ◌∙◌, subst, inl, inr, refl, arith}
 use Rattle.std.specs.Option.{option_map}
 use Rattle.std.proofs.lemmas.Bool.{cases_eq, cases_lt}
@@ -44,6 +44,10 @@ AreBad-vertices map walks u v f g h =
 pub AreBad-faces : (map : Map) (walks : List (List ℕ)) (u v f g : ℕ) → AreBad map walks u v f g → AreBad map walks u v g f
 AreBad-faces map walks u v f g h =
     record { two = h.two; faces = λ q. h.faces (sym q); a = h.c; b = h.e; c = h.a; e = h.b; u_f = h.u_g; v_f = h.v_g; u_g = h.u_f; v_g = h.v_f; no_edge = λ p q. h.no_edge_back q p; no_edge_back = λ p q. h.no_edge q p }
+
+turned : (x y u : ℕ) → (x ≡ u) ⊎ (y ≡ u) → (u ≡ x) ⊎ (u ≡ y)
+turned x y u (inl e) = inl (sym e)
+turned x y u (inr e) = inr (sym e)
 
 head_of : (x y z w : ℕ) → ◌≡◌ {A = Option Dart} (Some (x, y)) (Some (z, w)) → (x ≡ z) × (y ≡ w)
 head_of x y z w e = (ap (λ (o : Option Dart). (unwrap_or o (0, 0)).0) e, ap (λ (o : Option Dart). (unwrap_or o (0, 0)).1) e)
@@ -138,8 +142,8 @@ module _ (map : Map) (known : IsHalfMap map) (walks : List (List ℕ)) (faces : 
   neighbour : (f u v : ℕ) → StandsIn map walks f u v ⊎ StandsIn map walks f v u → HasDart lists u v
   neighbour f u v s = elim s [ inl p ↦ has_dart f u v p | inr p ↦ known.simple.both_ways v u (has_dart f v u p) ]
 
-  pub bad_vertex : (u v f g : ℕ) → IsClearVertex map walks u → AreBad map walks u v f g → length (walk_at walks f) ≤ length (list_of lists u) → length (walk_at walks g) ≤ length (list_of lists u) → ⊥
-  bad_vertex u v f g clear h short short' =
+  pub bad_vertex : (least u v f g : ℕ) → IsClearVertex map walks least u → AreBad map walks u v f g → length (walk_at walks f) ≤ length (list_of lists u) → length (walk_at walks g) ≤ length (list_of lists u) → (least ≤ u) × (least ≤ v)
+  bad_vertex least u v f g clear h short short' =
       let most = length (list_of lists u) in
       elim (cases_off most f u v h.a h.b h.two h.u_f h.v_f short) [
         | inl off ↦ elim (cases_off most g u v h.c h.e h.two h.u_g h.v_g short') [
@@ -151,8 +155,8 @@ module _ (map : Map) (known : IsHalfMap map) (walks : List (List ℕ)) (faces : 
         | inr s ↦ elim (cases_off most g u v h.c h.e h.two h.u_g h.v_g short') [
           | inl off' ↦ clear.alone h.u_g.0 v off' (neighbour f u v s)
           | inr t ↦ elim s [
-            | inl p ↦ elim t [ inl q ↦ h.faces (one_walk f g u v p q) | inr q ↦ h.no_edge p q ]
-            | inr p ↦ elim t [ inl q ↦ h.no_edge_back p q | inr q ↦ h.faces (one_walk f g v u p q) ]
+            | inl p ↦ elim t [ inl q ↦ absurd (h.faces (one_walk f g u v p q)) | inr q ↦ absurd (h.no_edge p q) ]
+            | inr p ↦ elim t [ inl q ↦ absurd (h.no_edge_back p q) | inr q ↦ absurd (h.faces (one_walk f g v u p q)) ]
           ]
         ]
       ]
@@ -191,14 +195,11 @@ module _ (map : Map) (known : IsHalfMap map) (walks : List (List ℕ)) (faces : 
     pub at : dart_at map (get_or (walk_at walks f) i 0) ≡ Some (x, y)
     pub ends : (x ≡ u) ⊎ (y ≡ u)
 
-  -- A dart of walk f whose step comes to u's dart on it: where u has few darts, a face at u is marked there, or lies across it or across the next.
-  record CornerAt (f u a g : ℕ) : Type 0 where
-    place : ℕ
-    within : place < length (walk_at walks f)
-    from_u : (y : ℕ) × (dart_at map (after_place (walk_at walks f) place) ≡ Some (u, y))
-    marked : IsOffPlace map walks f place g ⊎ ((j : ℕ) × (j < length (walk_at walks f)) × IsAcross map walks (get_or (walk_at walks f) j 0) g × Touches f u j)
+  -- where a face at u meets f: across a dart of f that begins or ends at u, or at u, where it has few darts
+  abbrev MeetsBeside : ℕ → ℕ → ℕ → Type 0
+  MeetsBeside f u g = ((i : ℕ) × (i < length (walk_at walks f)) × IsOffPlace map walks f i g u u) ⊎ ((j : ℕ) × (j < length (walk_at walks f)) × IsAcross map walks (get_or (walk_at walks f) j 0) g × Touches f u j)
 
-  corner_at : (f u a g c : ℕ) → f ≢ g → StandsIn map walks f u a → StandsIn map walks g u c → length (list_of lists u) ≤ length (walk_at walks f) → CornerAt f u a g
+  corner_at : (f u a g c : ℕ) → f ≢ g → StandsIn map walks f u a → StandsIn map walks g u c → length (list_of lists u) ≤ length (walk_at walks f) → MeetsBeside f u g
   corner_at f u a g c ne p q few =
       let walk = walk_at walks f in
       let w = faces.each f p.1.0 in
@@ -217,30 +218,31 @@ module _ (map : Map) (known : IsHalfMap map) (walks : List (List ℕ)) (faces : 
       let ends : y ≡ u = (head_of y (follows lists y x) u a (sym to ∙ is)).0 in
       let one = across_of (get_or walk i 0) x y live.1 in
       let two = across_of (after_place walk i) u a is in
-      record {
-        place = i;
-        within = before.1;
-        from_u = (a, is);
-        marked = elim (cases_eq g one.0) [
-          | inl e ↦ inr (i, before.1, subst (IsAcross map walks (get_or walk i 0)) (sym e) one.1, record { x = x; y = y; at = live.1; ends = inr ends })
-          | inr not_one ↦ elim (cases_eq g two.0) [
-            | inl e ↦ inr (k, k_in, subst (λ z. IsAcross map walks z g) before.2 (subst (IsAcross map walks (after_place walk i)) (sym e) two.1), record { x = u; y = a; at = ap (dart_at map) at_k ∙ p.2; ends = inl refl })
-            | inr not_two ↦ inl (record {
-              v = u;
-              y = a;
-              c = q.0;
-              h = c;
-              dart = is;
-              small = few;
-              corner = q.2;
-              number = q.1;
-              other = λ z. ne (sym z);
-              not_before = λ z. not_one (one.2 g z);
-              not_behind = λ z. not_two (two.2 g z);
-            })
-          ]
-        ];
-      }
+      elim (cases_eq g one.0) [
+        | inl e ↦ inr (i, before.1, subst (IsAcross map walks (get_or walk i 0)) (sym e) one.1, record { x = x; y = y; at = live.1; ends = inr ends })
+        | inr not_one ↦ elim (cases_eq g two.0) [
+          | inl e ↦ inr (k, k_in, subst (λ z. IsAcross map walks z g) before.2 (subst (IsAcross map walks (after_place walk i)) (sym e) two.1), record { x = u; y = a; at = ap (dart_at map) at_k ∙ p.2; ends = inl refl })
+          | inr not_two ↦ inl (
+            i,
+            before.1,
+            (
+              record {
+                y = a;
+                c = q.0;
+                h = c;
+                dart = is;
+                small = few;
+                corner = q.2;
+                number = q.1;
+                other = λ z. ne (sym z);
+                not_before = λ z. not_one (one.2 g z);
+                not_behind = λ z. not_two (two.2 g z);
+              },
+              refl,
+            ),
+          )
+        ]
+      ]
 
   -- one dart across which g lies is no edge of both
   touched : (u v f g j : ℕ) → f < length walks → AreBad map walks u v f g → j < length (walk_at walks f) → IsAcross map walks (get_or (walk_at walks f) j 0) g → Touches f u j → Touches f v j → ⊥
@@ -266,39 +268,28 @@ module _ (map : Map) (known : IsHalfMap map) (walks : List (List ℕ)) (faces : 
         ]
       ]
 
-  pub bad_face : (u v f g : ℕ) → IsClearFace map walks f → AreBad map walks u v f g → length (list_of lists u) ≤ length (walk_at walks f) → length (list_of lists v) ≤ length (walk_at walks f) → ⊥
-  bad_face u v f g clear h few few' =
+  pub bad_face : (least u v f g : ℕ) → IsClearFace map walks least f → AreBad map walks u v f g → length (list_of lists u) ≤ length (walk_at walks f) → length (list_of lists v) ≤ length (walk_at walks f) → least ≤ u
+  bad_face least u v f g clear h few few' =
       let p = corner_at f u h.a g h.c h.faces h.u_f h.u_g few in
       let q = corner_at f v h.b g h.e h.faces h.v_f h.v_g few' in
       let f_in = h.u_f.1.0 in
-      let l = p.within in
-      let l' = q.within in
-      elim p.marked [
-        | inl off ↦ elim q.marked [
-          | inl off' ↦ elim (cases_lt p.place q.place) [
-            | inl less ↦ clear.apart p.place q.place g less l' off off'
-            | inr le ↦ elim (cases_eq p.place q.place) [
-              | inl e ↦ h.two (head_of u p.from_u.0 v q.from_u.0 (sym p.from_u.1 ∙ (ap (λ i. dart_at map (after_place (walk_at walks f) i)) e ∙ q.from_u.1))).0
-              | inr ne ↦ clear.apart q.place p.place g (omega arith) l off' off
-            ]
-          ]
-          | inr s ↦ clear.alone p.place s.0 g l s.1 off s.2
+      elim q [
+        | inl off' ↦ elim p [
+          | inl off ↦ clear.apart g u u v v u (inr off) (inr off') (inl refl) h.two h.two
+          | inr s ↦ clear.apart g s.3.x s.3.y v v u (inl (s.0, s.1, (s.3.at, s.2))) (inr off') (turned s.3.x s.3.y u s.3.ends) h.two h.two
         ]
-        | inr s ↦ elim q.marked [
-          | inl off' ↦ clear.alone q.place s.0 g l' s.1 off' s.2
-          | inr t ↦ elim (cases_lt s.0 t.0) [
-            | inl less ↦ clear.once s.0 t.0 g less t.1 s.2 t.2
-            | inr le ↦ elim (cases_eq s.0 t.0) [
-              | inl e ↦ touched u v f g s.0 f_in h s.1 s.2 s.3 (subst (Touches f v) (sym e) t.3)
-              | inr ne ↦ clear.once t.0 s.0 g (let m = s.1 in omega arith) s.1 t.2 s.2
+        | inr t ↦
+            let begins : u ≢ t.3.x = λ e. touched u v f g t.0 f_in h t.1 t.2 (record { x = t.3.x; y = t.3.y; at = t.3.at; ends = inl (sym e) }) t.3 in
+            let ends : u ≢ t.3.y = λ e. touched u v f g t.0 f_in h t.1 t.2 (record { x = t.3.x; y = t.3.y; at = t.3.at; ends = inr (sym e) }) t.3 in
+            elim p [
+              | inl off ↦ clear.apart g u u t.3.x t.3.y u (inr off) (inl (t.0, t.1, (t.3.at, t.2))) (inl refl) begins ends
+              | inr s ↦ clear.apart g s.3.x s.3.y t.3.x t.3.y u (inl (s.0, s.1, (s.3.at, s.2))) (inl (t.0, t.1, (t.3.at, t.2))) (turned s.3.x s.3.y u s.3.ends) begins ends
             ]
-          ]
-        ]
       ]
 
-  module _ (vertices : (u : ℕ) → u < length lists → IsClearVertex map walks u) (all_faces : (f : ℕ) → f < length walks → IsClearFace map walks f) where
-    -- the greatest of two vertices and two faces
-    none_bad : (u v f g : ℕ) → AreBad map walks u v f g → ⊥
+  module _ (least : ℕ) (vertices : (u : ℕ) → u < length lists → IsClearVertex map walks least u) (all_faces : (f : ℕ) → f < length walks → IsClearFace map walks least f) where
+    -- the greatest of two vertices and two faces tells of the lesser vertex
+    none_bad : (u v f g : ℕ) → AreBad map walks u v f g → least ≤ u
     none_bad u v f g h =
         let at_u = vertices u (has_dart f u h.a h.u_f).0 in
         let at_v = vertices v (has_dart f v h.b h.v_f).0 in
@@ -312,22 +303,22 @@ module _ (map : Map) (known : IsHalfMap map) (walks : List (List ℕ)) (faces : 
         let turned = AreBad-faces map walks u v f g h in
         elim (cases_lt m k) [
           | inl u_f ↦ elim (cases_lt n k) [
-            | inl v_f ↦ bad_face u v f g at_f h (omega arith) (omega arith)
+            | inl v_f ↦ bad_face least u v f g at_f h (omega arith) (omega arith)
             | inr f_v ↦ elim (cases_lt n l) [
-              | inl v_g ↦ bad_face u v g f at_g turned (omega arith) (omega arith)
-              | inr g_v ↦ bad_vertex v u f g at_v swapped f_v g_v
+              | inl v_g ↦ bad_face least u v g f at_g turned (omega arith) (omega arith)
+              | inr g_v ↦ (bad_vertex least v u f g at_v swapped f_v g_v).1
             ]
           ]
           | inr f_u ↦ elim (cases_lt m l) [
             | inl u_g ↦ elim (cases_lt n l) [
-              | inl v_g ↦ bad_face u v g f at_g turned (omega arith) (omega arith)
-              | inr g_v ↦ bad_vertex v u f g at_v swapped (omega arith) g_v
+              | inl v_g ↦ bad_face least u v g f at_g turned (omega arith) (omega arith)
+              | inr g_v ↦ (bad_vertex least v u f g at_v swapped (omega arith) g_v).1
             ]
-            | inr g_u ↦ bad_vertex u v f g at_u h f_u g_u
+            | inr g_u ↦ (bad_vertex least u v f g at_u h f_u g_u).0
           ]
         ]
 
-    pub none_paired : IsPlaneUncut lists → (u v : ℕ) → ¬ IsSeparatingPair lists u v
-    none_paired plane u v pair =
+    pub least_paired : IsPlaneUncut lists → (u v : ℕ) → IsSeparatingPair lists u v → least ≤ u
+    least_paired plane u v pair =
         let found = bad_pair u v plane pair in
         none_bad u v found.0 found.1 found.2

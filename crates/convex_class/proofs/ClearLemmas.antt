@@ -9,9 +9,12 @@ use Rattle.half_edges.specs.Map.{Map, IsHalfMap, IsLive, dart_at}
 use Rattle.euler_faces.specs.FaceWalks.{walk_at, ids_of, AreFaces}
 use Rattle.euler_faces.proofs.NumberLemmas.{live_from}
 use Rattle.convex_class.specs.Stamps.{IsStamped, AreStamped}
-use Rattle.convex_class.specs.Clear.{IsRing, IsNumber, IsOffAt, IsOff, IsClearVertex, IsAcross, IsOffCorner, IsOffPlace, IsClearFace, after_place}
+use Rattle.convex_class.specs.declared.face_pairs.meetings.Meeting.{Meeting}
+use Rattle.convex_class.specs.Meetings.{IsMet}
+use Rattle.convex_class.specs.Clear.{IsRing, IsNumber, IsOffAt, IsOff, IsClearVertex, IsAcross, IsSide, IsCorner, IsOffPlace, MeetsAt, IsClearFace, after_place}
 use Rattle.convex_class.proofs.WalkMarks.{get_or-ids, length-ids}
 use Rattle.convex_class.proofs.StampLemmas.{IsStamped-fewer}
+use Rattle.convex_class.proofs.MeetingLemmas.{IsMet-both, IsMet-apart}
 
 -- what calls of `head` and `tail` answer
 pub head_is : (o : Option Dart) (v w z : ℕ) → o ≡ Some (v, w) → option_map (λ (e : Dart). e.1) o ≡ Some z → w ≡ z
@@ -29,9 +32,9 @@ pub each_dart : (ds : List DartId) (P : ℕ → Type 0) → ((i : ℕ) → i < l
 each_dart ds P all i l = let long = length-ids ds in subst P (get_or-ids ds i l) (all i (omega arith))
 
 -- what is marked at each place of a row is marked for each of its entries
-pub stamped_each : (x k : ℕ) (ids : List ℕ) (Z : ℕ → ℕ → Type 0) (old new : List ℕ) → k ≡ length ids → AreStamped x k (λ i. Z (get_or ids i 0)) old new → IsStamped x (λ z. (d : ℕ) × Contains ids d × Z d z) old new
-stamped_each x k ids Z old new whole s =
-    IsStamped-fewer x (λ z. (i : ℕ) × (i < k) × Z (get_or ids i 0) z) (λ z. (d : ℕ) × Contains ids d × Z d z) old new
+pub stamped_each : (x k : ℕ) (ids : List ℕ) (Z : ℕ → ℕ → Type 0) (old : List ℕ) (best : ℕ) (new : List ℕ) (result : ℕ) → k ≡ length ids → AreStamped x k (λ i. Z (get_or ids i 0)) old best new result → IsStamped x (λ z. (d : ℕ) × Contains ids d × Z d z) old best new result
+stamped_each x k ids Z old best new result whole s =
+    IsStamped-fewer x (λ z. (i : ℕ) × (i < k) × Z (get_or ids i 0) z) (λ z. (d : ℕ) × Contains ids d × Z d z) old best new result
     (λ z h. let p = place_in ids h.0 h.1 in let l = p.1 in (p.0, omega arith, subst (λ d. Z d z) (sym p.2) h.2)) s.all
 
 -- the darts of a row of u
@@ -89,29 +92,29 @@ module _ (map : Map) (known : IsHalfMap map) (walks : List (List ℕ)) (faces : 
       let off : IsOffAt map u a h.e z = subst (λ b. IsOffAt map u b h.e z) same h.off in
       (subst (λ g. length (walk_at walks g) ≤ most) e h.short, (h.e, subst (λ g. Contains (walk_at walks g) h.e) e h.on, off))
 
-  module _ (most u : ℕ) (ring mid new : List ℕ) (whole : most ≡ length (list_of map.lists u)) (r : IsRing map u ring) (heads : (z : ℕ) → HasDart map.lists u z → get_or mid z 0 ≡ u) (s : AreStamped u (length ring) (λ i. IsOff map walks most u (get_or ring i 0)) mid new) where
+  module _ (most u : ℕ) (ring mid : List ℕ) (best : ℕ) (new : List ℕ) (least : ℕ) (whole : most ≡ length (list_of map.lists u)) (r : IsRing map u ring) (heads : (z : ℕ) → HasDart map.lists u z → get_or mid z 0 ≡ u) (s : AreStamped u (length ring) (λ i. IsOff map walks most u (get_or ring i 0)) mid best new least) where
     abbrev Off : ℕ → ℕ → Type 0
     Off d z = IsOff map walks most u d z
 
     off_at : (d z : ℕ) → Off d z → (i : ℕ) × (i < length ring) × (get_or ring i 0 ≡ d) × Off (get_or ring i 0) z
     off_at d z h = let p = in_ring u h.a d ring r h.dart in (p.0, p.1, p.2, subst (λ e. Off e z) (sym p.2) h)
 
-    clear_alone : (d z : ℕ) → Off d z → ¬ HasDart map.lists u z
-    clear_alone d z h has = let p = off_at d z h in s.all.fresh z (p.0, p.1, p.3) (heads z has)
+    clear_alone : (d z : ℕ) → Off d z → HasDart map.lists u z → (least ≤ u) × (least ≤ z)
+    clear_alone d z h has = let p = off_at d z h in s.all.again z (p.0, p.1, p.3) (heads z has)
 
-    clear_apart : (d e z : ℕ) → d ≢ e → Off d z → Off e z → ⊥
+    clear_apart : (d e z : ℕ) → d ≢ e → Off d z → Off e z → (least ≤ u) × (least ≤ z)
     clear_apart d e z ne h k =
         let p = off_at d z h in
         let q = off_at e z k in
         elim (cases_lt p.0 q.0) [
           | inl less ↦ s.apart p.0 q.0 z less q.1 p.3 q.3
           | inr le ↦ elim (cases_eq p.0 q.0) [
-            | inl same ↦ ne (sym p.2 ∙ (ap (λ i. get_or ring i 0) same ∙ q.2))
+            | inl same ↦ absurd (ne (sym p.2 ∙ (ap (λ i. get_or ring i 0) same ∙ q.2)))
             | inr other ↦ s.apart q.0 p.0 z (omega arith) p.1 q.3 p.3
           ]
         ]
 
-    pub clear_vertex : IsClearVertex map walks u
+    pub clear_vertex : IsClearVertex map walks least u
     clear_vertex =
         record {
           alone = λ d z h. clear_alone d z (subst (λ n. IsOff map walks n u d z) (sym whole) h);
@@ -126,31 +129,46 @@ module _ (map : Map) (known : IsHalfMap map) (walks : List (List ℕ)) (faces : 
       one_number t z r (subst (λ e. IsNumber walks e z) same h.5) number
 
   -- the faces at the vertex of e that are not across d or e, by the row that the calls name
-  pub off_in_ring : (most f d e v x y z : ℕ) (ring : List ℕ) → option_map (λ (w : Dart). w.0) (dart_at map e) ≡ Some v → IsAcross map walks d x → IsAcross map walks e y → IsRing map v ring → IsOffCorner map walks most f d e z → (c : ℕ) × Contains ring c × IsNumber walks c z × (z ≢ f) × (z ≢ x) × (z ≢ y)
-  off_in_ring most f d e v x y z ring tail at_x at_y r h =
-      let same = tail_is (dart_at map e) h.v h.y v h.dart tail in
-      let p = in_ring v h.h h.c ring r (h.corner ∙ ap (λ w. Some (w, h.h)) same) in (
+  pub off_in_ring : (most f d e v x y z w h : ℕ) (ring : List ℕ) → option_map (λ (w : Dart). w.0) (dart_at map e) ≡ Some v → IsAcross map walks d x → IsAcross map walks e y → IsRing map v ring → IsCorner map walks most f d e z w h → (c : ℕ) × Contains ring c × IsNumber walks c z × (z ≢ f) × (z ≢ x) × (z ≢ y) × (w ≡ v) × (h ≡ v)
+  off_in_ring most f d e v x y z w t ring tail at_x at_y r (h, both) =
+      let same = tail_is (dart_at map e) w h.y v h.dart tail in
+      let p = in_ring v h.h h.c ring r (h.corner ∙ ap (λ u. Some (u, h.h)) same) in (
         h.c,
         (p.0, p.1, get_or_default ring p.0 h.c 0 p.1 ∙ p.2),
         h.number,
         h.other,
         (λ q. h.not_before (subst (IsAcross map walks d) (sym q) at_x)),
         (λ q. h.not_behind (subst (IsAcross map walks e) (sym q) at_y)),
+        same,
+        both ∙ same,
       )
 
--- the marks of a call at place i of walk f, by the numbers that the call names
-pub off_place : (map : Map) (walks : List (List ℕ)) (f i n d e : ℕ) (old new : List ℕ) → n ≡ length (walk_at walks f) → d ≡ get_or (walk_at walks f) i 0 → e ≡ after_place (walk_at walks f) i → IsStamped f (IsOffCorner map walks n f d e) old new → IsStamped f (IsOffPlace map walks f i) old new
-off_place map walks f i n d e old new long at behind s =
+-- the meetings of a call at place i of walk f, by the numbers that the call names
+pub off_place : (map : Map) (walks : List (List ℕ)) (f i n d e : ℕ) (old : List Meeting) (best : ℕ) (new : List Meeting) (result : ℕ) → n ≡ length (walk_at walks f) → d ≡ get_or (walk_at walks f) i 0 → e ≡ after_place (walk_at walks f) i → IsMet f (IsCorner map walks n f d e) old best new result → IsMet f (IsOffPlace map walks f i) old best new result
+off_place map walks f i n d e old best new result long at behind s =
     let w = walk_at walks f in
-    subst (λ x. IsStamped f (IsOffCorner map walks (length w) f (get_or w i 0) x) old new) behind
-    (subst (λ x. IsStamped f (IsOffCorner map walks (length w) f x e) old new) at
-    (subst (λ x. IsStamped f (IsOffCorner map walks x f d e) old new) long s))
+    subst (λ x. IsMet f (IsCorner map walks (length w) f (get_or w i 0) x) old best new result) behind
+    (subst (λ x. IsMet f (IsCorner map walks (length w) f x e) old best new result) at
+    (subst (λ x. IsMet f (IsCorner map walks x f d e) old best new result) long s))
 
-pub clear_face : (map : Map) (walks : List (List ℕ)) (f : ℕ) (walk old mid new : List ℕ) → walk ≡ walk_at walks f → AreStamped f (length walk) (λ i. IsAcross map walks (get_or walk i 0)) old mid → AreStamped f (length (walk_at walks f)) (IsOffPlace map walks f) mid new → IsClearFace map walks f
-clear_face map walks f walk old mid new is across s =
-    let t : AreStamped f (length (walk_at walks f)) (λ i. IsAcross map walks (get_or (walk_at walks f) i 0)) old mid = subst (λ (w : List ℕ). AreStamped f (length w) (λ i. IsAcross map walks (get_or w i 0)) old mid) is across in
+-- the sides of a walk
+abbrev Sides : Map → List (List ℕ) → List ℕ → ℕ → ℕ → ℕ → Type 0
+Sides map walks walk z x y = (i : ℕ) × (i < length walk) × IsSide map walks (get_or walk i 0) z x y
+
+pub clear_face : (map : Map) (walks : List (List ℕ)) (f : ℕ) (walk : List ℕ) (old : List Meeting) (best : ℕ) (mid : List Meeting) (middle : ℕ) (new : List Meeting) (least : ℕ) → walk ≡ walk_at walks f → IsMet f (λ z x y. (i : ℕ) × (i < length walk) × IsSide map walks (get_or walk i 0) z x y) old best mid middle → IsMet f (λ z x y. (i : ℕ) × (i < length (walk_at walks f)) × IsOffPlace map walks f i z x y) mid middle new least → IsClearFace map walks least f
+clear_face map walks f walk old best mid middle new least is across s =
+    let t = subst (λ (w : List ℕ). IsMet f (Sides map walks w) old best mid middle) is across in
+    let both = IsMet-both f old best new least (Sides map walks (walk_at walks f)) (λ z x y. (i : ℕ) × (i < length (walk_at walks f)) × IsOffPlace map walks f i z x y) mid middle t s in
+    record { apart = IsMet-apart f (MeetsAt map walks f) old best new least both }
+
+-- ---- a lesser number
+pub IsClearVertex-lower : (map : Map) (walks : List (List ℕ)) (best least u : ℕ) → least ≤ best → IsClearVertex map walks best u → IsClearVertex map walks least u
+IsClearVertex-lower map walks best least u l h =
     record {
-      once = t.apart;
-      alone = λ i j z l m off over. s.all.fresh z (i, l, off) (t.all.set z (j, m, over));
-      apart = s.apart;
+      alone = λ d z off has. let p = h.alone d z off has in let a = p.0 in let b = p.1 in (omega arith, omega arith);
+      apart = λ d e z ne off off'. let p = h.apart d e z ne off off' in let a = p.0 in let b = p.1 in (omega arith, omega arith);
     }
+
+pub IsClearFace-lower : (map : Map) (walks : List (List ℕ)) (best least f : ℕ) → least ≤ best → IsClearFace map walks best f → IsClearFace map walks least f
+IsClearFace-lower map walks best least f l h =
+    record { apart = λ z x y v w u p q on ne ne'. let a = h.apart z x y v w u p q on ne ne' in omega arith }

@@ -4,6 +4,7 @@ pub mod WalkMarks
 pub mod PairMarks
 mod FacePairsCases
 mod StampLemmas
+mod MeetingLemmas
 mod RingLemmas
 mod ClearLemmas
 mod Bad

@@ -1,5 +1,5 @@
--- Vertices and faces with which no greater pair of faces or vertices has anything in common but an edge.
-use Rattle.std.specs.Prelude.{ℕ, ◌+◌, ◌<◌, ◌≤◌, ◌≡◌, ◌≢◌, List, length, slice_index, slice_index_or, Contains, Some}
+-- Vertices and faces that are clear below a number: of two vertices on two faces, none of the four greater than they, and no edge between these, neither is less.
+use Rattle.std.specs.Prelude.{ℕ, ◌+◌, ◌<◌, ◌≤◌, ◌≡◌, ◌≢◌, ◌⊎◌, List, length, slice_index, slice_index_or, Contains, Some}
 use Rattle.map_theory.specs.Maps.{HasDart, list_of}
 use Rattle.half_edges.specs.Map.{Map, dart_at}
 use Rattle.euler_faces.specs.FaceWalks.{walk_at}
@@ -29,19 +29,22 @@ pub record IsOff (map : Map) (walks : List (List ℕ)) (most u d z : ℕ) : Type
   pub on : Contains (walk_at walks f) e
   pub off : IsOffAt map u a e z
 
--- Of the faces at u that have no more darts than u no two pass one vertex that is no neighbour of u along either, and none passes a neighbour of u so.
-pub record IsClearVertex (map : Map) (walks : List (List ℕ)) (u : ℕ) : Type 0 where
-  pub alone : (d z : ℕ) → IsOff map walks (length (list_of map.lists u)) u d z → ¬ HasDart map.lists u z
-  pub apart : (d e z : ℕ) → d ≢ e → IsOff map walks (length (list_of map.lists u)) u d z → IsOff map walks (length (list_of map.lists u)) u e z → ⊥
+-- The vertex u is clear below `least`: where two of its faces that have no more darts than u pass one vertex that is no neighbour of u along either, or one of them passes a neighbour of u so, neither this one nor u is less than that.
+pub record IsClearVertex (map : Map) (walks : List (List ℕ)) (least u : ℕ) : Type 0 where
+  pub alone : (d z : ℕ) → IsOff map walks (length (list_of map.lists u)) u d z → HasDart map.lists u z → (least ≤ u) × (least ≤ z)
+  pub apart : (d e z : ℕ) → d ≢ e → IsOff map walks (length (list_of map.lists u)) u d z → IsOff map walks (length (list_of map.lists u)) u e z → (least ≤ u) × (least ≤ z)
 
 -- ---- from a face
 -- z is the face across the dart d
 abbrev pub IsAcross : Map → List (List ℕ) → ℕ → ℕ → Type 0
 IsAcross map walks d z = (x : ℕ) × (y : ℕ) × (e : ℕ) × (dart_at map d ≡ Some (x, y)) × (dart_at map e ≡ Some (y, x)) × IsNumber walks e z
 
--- The face z is at the vertex of the dart e, which has at most so many darts; it is not f, nor across e or the dart d.
-pub record IsOffCorner (map : Map) (walks : List (List ℕ)) (most f d e z : ℕ) : Type 0 where
-  pub v : ℕ
+-- so it is, and d leads from x to y
+abbrev pub IsSide : Map → List (List ℕ) → ℕ → ℕ → ℕ → ℕ → Type 0
+IsSide map walks d z x y = (dart_at map d ≡ Some (x, y)) × IsAcross map walks d z
+
+-- The face z is at the vertex v of the dart e, which has at most so many darts; it is not f, nor across e or the dart d.
+pub record IsOffCorner (map : Map) (walks : List (List ℕ)) (most f d e z v : ℕ) : Type 0 where
   pub y : ℕ
   pub c : ℕ
   pub h : ℕ
@@ -53,16 +56,24 @@ pub record IsOffCorner (map : Map) (walks : List (List ℕ)) (most f d e z : ℕ
   pub not_before : ¬ IsAcross map walks d z
   pub not_behind : ¬ IsAcross map walks e z
 
+-- the same, with v as both ends of an edge
+abbrev pub IsCorner : Map → List (List ℕ) → ℕ → ℕ → ℕ → ℕ → ℕ → ℕ → ℕ → Type 0
+IsCorner map walks most f d e z x y = IsOffCorner map walks most f d e z x × (y ≡ x)
+
 -- where a walk goes on from place i
 abbrev pub after_place : List ℕ → ℕ → ℕ
 after_place walk i = slice_index_or walk (i + 1) (slice_index walk 0)
 
 -- the same at place i of walk f
-abbrev pub IsOffPlace : Map → List (List ℕ) → ℕ → ℕ → ℕ → Type 0
-IsOffPlace map walks f i z = IsOffCorner map walks (length (walk_at walks f)) f (slice_index (walk_at walks f) i) (after_place (walk_at walks f) i) z
+abbrev pub IsOffPlace : Map → List (List ℕ) → ℕ → ℕ → ℕ → ℕ → ℕ → Type 0
+IsOffPlace map walks f i z x y = IsCorner map walks (length (walk_at walks f)) f (slice_index (walk_at walks f) i) (after_place (walk_at walks f) i) z x y
 
--- No two darts of f have one face across, no vertex with at most as many darts as f has a face in common with another one, and none has one of those across.
-pub record IsClearFace (map : Map) (walks : List (List ℕ)) (f : ℕ) : Type 0 where
-  pub once : (i j z : ℕ) → i < j → j < length (walk_at walks f) → IsAcross map walks (slice_index (walk_at walks f) i) z → IsAcross map walks (slice_index (walk_at walks f) j) z → ⊥
-  pub alone : (i j z : ℕ) → i < length (walk_at walks f) → j < length (walk_at walks f) → IsOffPlace map walks f i z → IsAcross map walks (slice_index (walk_at walks f) j) z → ⊥
-  pub apart : (i j z : ℕ) → i < j → j < length (walk_at walks f) → IsOffPlace map walks f i z → IsOffPlace map walks f j z → ⊥
+-- The face z meets f at the edge (x, y), across a dart of f, or at the vertex x, which is then y.
+abbrev pub MeetsAt : Map → List (List ℕ) → ℕ → ℕ → ℕ → ℕ → Type 0
+MeetsAt map walks f z x y =
+    ((i : ℕ) × (i < length (walk_at walks f)) × IsSide map walks (slice_index (walk_at walks f) i) z x y) ⊎
+    ((i : ℕ) × (i < length (walk_at walks f)) × IsOffPlace map walks f i z x y)
+
+-- The face f is clear below `least`: where a face meets it twice, no vertex of the one edge that is not on the other is less than that.
+pub record IsClearFace (map : Map) (walks : List (List ℕ)) (least f : ℕ) : Type 0 where
+  pub apart : (z x y v w u : ℕ) → MeetsAt map walks f z x y → MeetsAt map walks f z v w → (u ≡ x) ⊎ (u ≡ y) → u ≢ v → u ≢ w → least ≤ u

@@ -1,6 +1,7 @@
--- Which vertices the faces of a vertex pass, and marks that tell it.
+-- Which vertices the faces of a vertex pass, where faces meet a face, and marks that tell it.
 pub mod Passing
 pub mod Stamps
+pub mod Meetings
 pub mod Clear
 -- Records as three-connected maps of genus zero.
 pub mod Convexity

@@ -1,15 +1,17 @@
 //! The least separating pair of a map of genus zero without cut vertices, by its faces.
 //!
 //! Two vertices are one where the faces of two darts of the lesser pass the greater, and not along the edge
-//! between them. That there is none is seen in linear time: of two vertices and two faces that stand on each other one
-//! has the most darts, and from there the other three are found by going over vertices and faces with no more darts.
+//! between them. The search begins at the least vertex in any pair, which is found in linear time: of two vertices and
+//! two faces that stand on each other one has the most darts, and from there the other three are found by going over
+//! vertices and faces with no more darts.
 
 mod corners;
+mod least;
 mod marks;
+mod meetings;
 mod pairs;
 mod rings;
 mod stamps;
-mod unpaired;
 mod vertices;
 
 pub use pairs::plane_separating_pair;

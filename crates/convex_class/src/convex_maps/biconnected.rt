@@ -15,8 +15,7 @@ use std::alloc::Global;
 /// zero.
 ///
 /// `Err` names the first condition that the lists break, in the order of [`Refusal`], with the least
-/// vertices. Or there was not enough memory. The memory is linear in the entries, and the time is that of
-/// `plane_separating_pair`.
+/// vertices. Or there was not enough memory. The time and the memory are linear in the entries.
 pub fn convex_map(alloc: Global, lists: &Rotations) -> Result<HalfMap, Unserved>
     requires some_list { 0 < length lists.now }
     requires few_lists { length lists.now < 4096 }

@@ -1,13 +1,12 @@
-//! Whether two vertices on a face have another face in common, from the face.
-ghost use Rattle.std.specs.Prelude.{◌≡◌, ◌≢◌, ◌<◌, ◌≤◌, ℕ, length, slice_index, Some, Contains, IsTrue, IfOk};
-ghost use Rattle.map_theory.specs.Maps.{list_of};
+//! Where a face has two places in common with another one, from the face.
+ghost use Rattle.std.specs.Prelude.{◌≡◌, ◌≢◌, ◌<◌, ◌≤◌, ℕ, length, slice_index, Some, Contains, IfOk};
 ghost use Rattle.half_edges.specs.Map.{IsHalfMap, IsLive, dart_at};
 ghost use Rattle.euler_faces.specs.FaceWalks.{AreFaces, IsFaceWalk, ids_of, walk_at};
-ghost use Rattle.convex_class.specs.Clear.{IsRing, IsNumber, IsAcross, IsOffCorner, IsOffPlace, IsClearFace, after_place};
-ghost use Rattle.convex_class.specs.Stamps.{IsStamped, AreStamped};
+ghost use Rattle.convex_class.specs.Clear.{IsRing, IsNumber, IsAcross, IsSide, IsCorner, IsOffPlace, IsClearFace, after_place};
+ghost use Rattle.convex_class.specs.Meetings.{IsHere, IsMet};
 
+use crate::face_pairs::meetings::{Meeting, meet};
 use crate::face_pairs::rings::put_ring;
-use crate::face_pairs::stamps::stamp;
 use euler_faces::Faces;
 use half_edges::{DartId, FaceId, HalfMap};
 use std::alloc::AllocError;
@@ -25,30 +24,62 @@ fn across(map: &HalfMap, faces: &Faces, d: DartId) -> u32
     faces.of_dart(twin).0
 }
 
-// Gives the faces across the darts of a walk the mark f.
-fn mark_across(map: &HalfMap, faces: &Faces, f: u32, walk: &[DartId], marks: &mut [u32]) -> bool
+// Notes that the face across a dart of face f meets f there.
+fn meet_across(
+    map: &HalfMap,
+    faces: &Faces,
+    f: u32,
+    d: DartId,
+    met: &mut [Meeting],
+    best: u16,
+) -> u16
+    requires known { IsHalfMap map.now }
+    requires faces { AreFaces map.now faces.now }
+    requires live { IsLive map.now d.0 }
+    requires met { length met.old ≡ length faces.now }
+    ensures { IsMet f (IsSide map.now faces.now d.0) met.old best met.new result }
+{
+    let z = across(map, faces, d);
+    let tail = map.tail(d);
+    let head = map.head(d);
+    let place = Meeting {
+        face: f,
+        tail: tail.0,
+        head: head.0,
+    };
+    meet(met, z, place, best)
+}
+
+// The same for all darts of its walk.
+fn meet_sides(
+    map: &HalfMap,
+    faces: &Faces,
+    f: u32,
+    walk: &[DartId],
+    met: &mut [Meeting],
+    mut best: u16,
+) -> u16
     requires known { IsHalfMap map.now }
     requires faces { AreFaces map.now faces.now }
     requires walk { IsFaceWalk map.now (ids_of walk.now) }
-    requires marks { length marks.old ≡ length faces.now }
-    ensures { IsTrue result → AreStamped f (length walk.now) (λ i. IsAcross map.now faces.now (slice_index (ids_of walk.now) i)) marks.old marks.new }
+    requires met { length met.old ≡ length faces.now }
+    ensures { IsMet f (λ z x y. (i : ℕ) × (i < length walk.now) × IsSide map.now faces.now (slice_index (ids_of walk.now) i) z x y) met.old best met.new result }
 {
     for d in walk {
-        let z = across(map, faces, *d);
-        let fresh = stamp(marks, f, z as usize);
-        if !fresh {
-            return false;
-        }
+        best = meet_across(map, faces, f, *d, met, best);
     }
-    true
+    best
 }
 
-// Gives z the mark f, where it is neither f nor x nor y.
-fn mark_number(marks: &mut [u32], f: u32, x: u32, y: u32, z: u32) -> bool
-    requires { z < length marks.old }
-    ensures { IsTrue result → IsStamped f (λ w. (w ≡ z) × (z ≢ f) × (z ≢ x) × (z ≢ y)) marks.old marks.new }
+// Notes that z meets the face of `place` there, where it is neither that one nor x nor y.
+fn meet_number(met: &mut [Meeting], place: Meeting, x: u32, y: u32, z: u32, best: u16) -> u16
+    requires { z < length met.old }
+    ensures { IsMet place.face (λ w t h. IsHere place z w t h × (z ≢ place.face) × (z ≢ x) × (z ≢ y)) met.old best met.new result }
 {
-    z == f || z == x || z == y || stamp(marks, f, z as usize)
+    if z == place.face || z == x || z == y {
+        return best;
+    }
+    meet(met, z, place, best)
 }
 
 // The number of a dart's face.
@@ -59,34 +90,32 @@ fn number_of(faces: &Faces, d: DartId) -> u32
     faces.of_dart(d).0
 }
 
-// Gives the faces of the darts of a row the mark f, but for f, x and y.
-fn mark_corner(
+// Notes that the faces of the darts of a row meet the face of `place` there, but for that one, x and y.
+fn meet_round(
     map: &HalfMap,
     faces: &Faces,
-    f: u32,
+    place: Meeting,
     x: u32,
     y: u32,
     ring: &[DartId],
-    marks: &mut [u32],
-) -> bool
+    met: &mut [Meeting],
+    mut best: u16,
+) -> u16
     requires faces { AreFaces map.now faces.now }
     requires ring { (i : ℕ) → i < length (ids_of ring.now) → IsLive map.now (slice_index (ids_of ring.now) i) }
-    requires marks { length marks.old ≡ length faces.now }
-    ensures { IsTrue result → IsStamped f (λ z. (c : ℕ) × Contains (ids_of ring.now) c × IsNumber faces.now c z × (z ≢ f) × (z ≢ x) × (z ≢ y)) marks.old marks.new }
+    requires met { length met.old ≡ length faces.now }
+    ensures { IsMet place.face (λ z t h. (c : ℕ) × Contains (ids_of ring.now) c × IsNumber faces.now c z × (z ≢ place.face) × (z ≢ x) × (z ≢ y) × (t ≡ place.tail) × (h ≡ place.head)) met.old best met.new result }
 {
     let _map = map;
     for c in ring {
         let z = number_of(faces, *c);
-        let fresh = mark_number(marks, f, x, y, z);
-        if !fresh {
-            return false;
-        }
+        best = meet_number(met, place, x, y, z, best);
     }
-    true
+    best
 }
 
 // The same for the vertex of e, with the faces across d and e, where it has at most so many darts.
-fn mark_small(
+fn meet_corner(
     map: &HalfMap,
     faces: &Faces,
     f: u32,
@@ -94,24 +123,30 @@ fn mark_small(
     e: DartId,
     most: usize,
     ring: &mut Vec<DartId>,
-    marks: &mut [u32],
-) -> Result<bool, AllocError>
+    met: &mut [Meeting],
+    best: u16,
+) -> Result<u16, AllocError>
     requires known { IsHalfMap map.now }
     requires faces { AreFaces map.now faces.now }
     requires live { IsLive map.now d.0 }
     requires live_e { IsLive map.now e.0 }
-    requires marks { length marks.old ≡ length faces.now }
-    ensures { IfOk result (λ b. IsTrue b → IsStamped f (IsOffCorner map.now faces.now most f d.0 e.0) marks.old marks.new) }
+    requires met { length met.old ≡ length faces.now }
+    ensures { IfOk result (λ least. IsMet f (IsCorner map.now faces.now most f d.0 e.0) met.old best met.new least) }
 {
     let v = map.tail(e);
     let x = across(map, faces, d);
     let y = across(map, faces, e);
     if map.degree(v) as usize > most {
-        return Ok(true);
+        return Ok(best);
     }
     put_ring(map, v, ring)?;
-    let fresh = mark_corner(map, faces, f, x, y, ring, marks);
-    Ok(fresh)
+    let place = Meeting {
+        face: f,
+        tail: v.0,
+        head: v.0,
+    };
+    let least = meet_round(map, faces, place, x, y, ring, met, best);
+    Ok(least)
 }
 
 // The dart of a walk behind place i.
@@ -127,52 +162,49 @@ fn behind(walk: &[DartId], i: usize) -> DartId
 }
 
 // The same for all vertices of a walk.
-fn mark_places(
+fn meet_corners(
     map: &HalfMap,
     faces: &Faces,
     f: u32,
     walk: &[DartId],
     ring: &mut Vec<DartId>,
-    marks: &mut [u32],
-) -> Result<bool, AllocError>
+    met: &mut [Meeting],
+    mut best: u16,
+) -> Result<u16, AllocError>
     requires known { IsHalfMap map.now }
     requires faces { AreFaces map.now faces.now }
     requires face { f < length faces.now }
     requires walk { ids_of walk.now ≡ walk_at faces.now f }
-    requires marks { length marks.old ≡ length faces.now }
-    ensures { IfOk result (λ b. IsTrue b → AreStamped f (length (walk_at faces.now f)) (IsOffPlace map.now faces.now f) marks.old marks.new) }
+    requires met { length met.old ≡ length faces.now }
+    ensures { IfOk result (λ least. IsMet f (λ z x y. (i : ℕ) × (i < length (walk_at faces.now f)) × IsOffPlace map.now faces.now f i z x y) met.old best met.new least) }
 {
     for i in 0..walk.len() {
         let d = walk[i];
         let e = behind(walk, i);
-        let fresh = mark_small(map, faces, f, d, e, walk.len(), ring, marks)?;
-        if !fresh {
-            return Ok(false);
-        }
+        best = meet_corner(map, faces, f, d, e, walk.len(), ring, met, best)?;
     }
-    Ok(true)
+    Ok(best)
 }
 
-// Whether no other face is twice across f, and the vertices on f with no more darts than f have each face at most
-// once, but across an edge of f.
-pub(crate) fn is_clear_face(
+// The least of `best` and the vertices of f at which a face meets it twice: across its darts, or at vertices with no
+// more darts than f. The vertex between two darts with one face across counts for neither.
+pub(crate) fn least_at_face(
     map: &HalfMap,
     faces: &Faces,
     f: u32,
     ring: &mut Vec<DartId>,
-    marks: &mut [u32],
-) -> Result<bool, AllocError>
+    met: &mut [Meeting],
+    best: u16,
+) -> Result<u16, AllocError>
     requires known { IsHalfMap map.now }
     requires faces { AreFaces map.now faces.now }
     requires face { f < length faces.now }
-    requires marks { length marks.old ≡ length faces.now }
-    ensures { IfOk result (λ b. IsTrue b → IsClearFace map.now faces.now f) }
+    requires met { length met.old ≡ length faces.now }
+    ensures lower { IfOk result (λ least. least ≤ best) }
+    ensures clear { IfOk result (λ least. IsClearFace map.now faces.now least f) }
 {
     let walk = faces.walk(FaceId(f));
-    let once = mark_across(map, faces, f, walk, marks);
-    if !once {
-        return Ok(false);
-    }
-    let clear = mark_places(map, faces, f, walk, ring, marks)?;
-    Ok(clear)
+    let across = meet_sides(map, faces, f, walk, met, best);
+    let least = meet_corners(map, faces, f, walk, ring, met, across)?;
+    Ok(least)
 }

@@ -7,8 +7,8 @@ ghost use Rattle.graph_search.specs.Cuts.{IsCutVertex, IsSeparatingPair, IsLeast
 ghost use Rattle.convex_peeling.specs.PolyhedralMapsLaws.{IsPlaneUncut};
 ghost use Rattle.convex_class.specs.Passing.{IsUnused};
 
+use crate::face_pairs::least::least_paired;
 use crate::face_pairs::marks::mark_walk;
-use crate::face_pairs::unpaired::is_unpaired;
 use euler_faces::{Faces, faces};
 use half_edges::{DartId, HalfMap, VertexId};
 use std::alloc::{AllocError, Global};
@@ -61,16 +61,22 @@ fn partner(map: &HalfMap, faces: &Faces, u: VertexId, marks: &mut [u16]) -> u16
     }
 }
 
-// The least separating pair, given marks that are no vertices.
-fn first_pair(map: &HalfMap, faces: &Faces, marks: &mut [u16]) -> Option<(VertexId, VertexId)>
+// The least separating pair, given marks that are no vertices, where no pair has a vertex before `from`.
+fn first_pair(
+    map: &HalfMap,
+    faces: &Faces,
+    from: u16,
+    marks: &mut [u16],
+) -> Option<(VertexId, VertexId)>
     requires known { IsHalfMap map.now }
     requires uncut { IsPlaneUncut map.now.lists }
     requires faces { AreFaces map.now faces.now }
+    requires from { (u v : ℕ) → IsSeparatingPair map.now.lists u v → from ≤ u }
     requires marks { length marks.old ≡ length map.now.lists }
     requires unused { (x : ℕ) → x < length map.now.lists → IsUnused marks.old x }
     ensures { MatchOption result ((u v : ℕ) → ¬ IsSeparatingPair map.now.lists u v) (λ p. IsLeastPair map.now.lists p.0.0 p.1.0) }
 {
-    for u in 0..map.n() {
+    for u in from..map.n() {
         let v = partner(map, faces, VertexId(u), marks);
         if v < map.n() {
             return Some((VertexId(u), VertexId(v)));
@@ -82,9 +88,9 @@ fn first_pair(map: &HalfMap, faces: &Faces, marks: &mut [u16]) -> Option<(Vertex
 /// The least separating pair of a map of genus zero without cut vertices, by its first vertex and then by
 /// its second, or None exactly where there is none.
 ///
-/// It fails only for want of memory. The memory is linear in the vertices and the darts, and so is the time where a
-/// connected map of at least four vertices has no such pair. Elsewhere the time is the sum of the lengths of faces over
-/// the darts: quadratic at most.
+/// It fails only for want of memory. The memory is linear in the vertices and the darts, and so is the time for a
+/// connected map of at least four vertices. Elsewhere the time is the sum of the lengths of faces over the darts:
+/// quadratic at most.
 pub fn plane_separating_pair(
     alloc: Global,
     map: &HalfMap,
@@ -95,10 +101,11 @@ pub fn plane_separating_pair(
 {
     map.facts();
     let faces = faces(alloc, map)?;
-    if is_unpaired(alloc, map, &faces)? {
+    let from = least_paired(alloc, map, &faces)?;
+    if from >= map.n() {
         return Ok(None);
     }
     let mut marks = vec![in alloc; map.n(); map.n() as usize]?;
-    let pair = first_pair(map, &faces, &mut marks);
+    let pair = first_pair(map, &faces, from, &mut marks);
     Ok(pair)
 }

@@ -10,6 +10,13 @@ returns-then-v-n c =
     let l = c.if-v-n.true in
     least_pair_at c.args.map.now.lists c.loop-u.u c.partner-v.result c.loop-u.invariant.none (c.partner-v.ensures.pair (omega arith)) c.partner-v.ensures.least
 
+pub loop-u-init : goal.loop-u-init
+loop-u-init c =
+    record {
+      none = λ a b l pair. let low = c.requires.from a b pair in omega arith;
+      unused = λ x later l. c.requires.unused x l;
+    }
+
 pub loop-u-preserved : goal.loop-u-preserved
 loop-u-preserved c =
     let lists = c.args.map.now.lists in

@@ -7,8 +7,8 @@ use Rattle.convex_class.proofs.ClearLemmas.{off_in_walk}
 use Rattle.convex_class.proofs.face_pairs.vertices.mark_face.Goals as goal
 
 pub returns-then-walk-most : goal.returns-then-walk-most
-returns-then-walk-most c = λ t.
-    IsStamped-none c.args.u (IsOff c.args.map.now c.args.faces.now c.args.most c.args.u c.args.d.0) c.args.marks.now
+returns-then-walk-most c =
+    IsStamped-none c.args.u (IsOff c.args.map.now c.args.faces.now c.args.most c.args.u c.args.d.0) c.args.marks.now c.args.best
     (λ z h.
     let o = off_in_walk c.args.map.now c.requires.known c.args.faces.now c.requires.faces c.args.most c.args.u c.head-a.result.0 c.args.d.0 c.of_dart.result.0 z c.head-a.ensures (c.of_dart.ensures.face, c.of_dart.ensures.stands) h in
     let short = o.0 in
@@ -18,10 +18,10 @@ returns-then-walk-most c = λ t.
     omega arith)
 
 pub returns : goal.returns
-returns c = λ t.
+returns c =
     let walk = ids_of c.walk-walk.result.now in
-    IsStamped-fewer c.args.u (λ z. (e : ℕ) × Contains walk e × IsOffAt c.args.map.now c.args.u c.head-a.result.0 e z) (IsOff c.args.map.now c.args.faces.now c.args.most c.args.u c.args.d.0) c.args.marks.now c.mark_passed.new.marks
+    IsStamped-fewer c.args.u (λ z. (e : ℕ) × Contains walk e × IsOffAt c.args.map.now c.args.u c.head-a.result.0 e z) (IsOff c.args.map.now c.args.faces.now c.args.most c.args.u c.args.d.0) c.args.marks.now c.args.best c.mark_passed.new.marks c.mark_passed.result
     (λ z h.
     let o = off_in_walk c.args.map.now c.requires.known c.args.faces.now c.requires.faces c.args.most c.args.u c.head-a.result.0 c.args.d.0 c.of_dart.result.0 z c.head-a.ensures (c.of_dart.ensures.face, c.of_dart.ensures.stands) h in
     (o.1.0, subst (λ (l : List ℕ). Contains l o.1.0) (sym c.walk-walk.ensures.walk) o.1.1, o.1.2))
-    (c.mark_passed.ensures t)
+    c.mark_passed.ensures

@@ -5,4 +5,4 @@ use Rattle.convex_class.specs.Stamps.{AreStamped}
 use Rattle.convex_class.proofs.face_pairs.vertices.mark_faces.Given as goal
 
 abbrev pub invariant-loop-d : goal.invariant-loop-d
-invariant-loop-d l = AreStamped l.u l.d-index (λ i. IsOff l.map l.faces l.most l.u (slice_index (ids_of l.ring) i)) l.fn.marks l.marks
+invariant-loop-d l = AreStamped l.u l.d-index (λ i. IsOff l.map l.faces l.most l.u (slice_index (ids_of l.ring) i)) l.fn.marks l.fn.best l.marks l.best

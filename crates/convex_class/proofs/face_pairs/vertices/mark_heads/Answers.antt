@@ -1,4 +1,4 @@
-use Rattle.std.proofs.Common.{◌≡◌, ℕ, ◌+◌, ◌<◌, length, get_or, set, subst, arith}
+use Rattle.std.proofs.Common.{◌≡◌, ◌<◌, length, get_or, arith}
 use Rattle.map_theory.specs.Maps.{list_of}
 use Rattle.convex_class.proofs.WalkMarks.{length-ids}
 use Rattle.convex_class.proofs.ClearLemmas.{head_is, ring_dart, ring_live, heads_more, heads_all}
@@ -30,8 +30,7 @@ loop-d-preserved c =
     let same = head_is _ u w z is c.head-z.ensures in
     let l = c.requires.known.simple.in_range u w (c.requires.known.is_dart _ u w is) in
     let z_in : z < length c.loop-d.marks = omega (arith, same, l, c.loop-d.auto.marks, c.requires.marks) in
-    let mark : u ≡ c.from.result = omega (arith, c.from.ensures) in
-    subst (λ y. (i : ℕ) → i < p + 1 → get_or (set c.loop-d.marks z y) (get_or us i 0) 0 ≡ u) mark (heads_more u z p us c.loop-d.marks z_in same c.loop-d.invariant)
+    heads_more u z p us c.loop-d.marks z_in same c.loop-d.invariant
 
 pub returns : goal.returns
 returns c = λ z has.

@@ -1,0 +1,37 @@
+//! Where faces meet the face of a round first, and what a later place tells.
+ghost use Rattle.std.specs.Prelude.{◌≡◌, ◌≢◌, ◌<◌, ◌≤◌, length};
+ghost use Rattle.convex_class.specs.Meetings.{IsHere, IsMet};
+
+// Where a face met another one first along that one's walk: an edge, or a vertex, which is then both of its ends.
+#[derive(Clone, Copy)]
+pub(crate) struct Meeting {
+    // the face whose walk it is
+    pub(crate) face: u32,
+    // the vertex at which the edge begins
+    pub(crate) tail: u16,
+    // and the one at which it ends
+    pub(crate) head: u16,
+}
+
+// The least of `best` and two vertices, which count where they differ.
+fn least_of_two(best: u16, x: u16, y: u16) -> u16
+    ensures lower { result ≤ best }
+    ensures two { x ≢ y → (result ≤ x) × (result ≤ y) }
+{
+    if x == y { best } else { best.min(x).min(y) }
+}
+
+// Notes that the face z meets that of `place` there. Where it met it before, the answer is the least of `best` and
+// the vertices of one of the two places that are not on the other.
+pub(crate) fn meet(met: &mut [Meeting], z: u32, place: Meeting, best: u16) -> u16
+    requires { z < length met.old }
+    ensures { IsMet place.face (IsHere place z) met.old best met.new result }
+{
+    let first = met[z as usize];
+    if first.face != place.face {
+        met[z as usize] = place;
+        return best;
+    }
+    let behind = least_of_two(best, first.head, place.tail);
+    least_of_two(behind, first.tail, place.head)
+}
