@@ -3,6 +3,7 @@ mod PairLemmas
 mod AreaLemmas
 mod EdgeLemmas
 mod SweepLemmas
+mod MeetLemmas
 mod FrameLemmas
 mod Cases
 mod Refused

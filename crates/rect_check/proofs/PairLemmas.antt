@@ -1,12 +1,16 @@
 -- Pairs of rectangles: which share a side, and which contacts are right.
-use Rattle.std.proofs.Common.{◌≡◌, ◌⊎◌, ℕ, ◌+◌, ◌<◌, inl, inr, ⊎_elim, subst, sym, arith}
+use Rattle.std.proofs.Common.{◌≡◌, ◌⊎◌, ◌↔◌, ℕ, ◌+◌, ◌<◌, length, Option, Some, None, inl, inr, ⊎_elim, subst, sym, arith}
+use Rattle.std.specs.Option.{MatchOption}
 use Rattle.std.proofs.lemmas.Bool.{cases_lt}
 use Rattle.std.proofs.lemmas.Int.{ints, by_lt_z}
 use Rattle.map_lists.specs.Lists.{Lists}
+use Rattle.map_lists.specs.declared.ids.VertexId.{VertexId}
+use Rattle.map_theory.specs.Maps.{IsSimpleMap, HasDart}
+use Rattle.vertex_rounds.specs.Least.{IsLeast}
 use Rattle.pg_plane.specs.declared.figure.RectFigure.{RectFigure}
 use Rattle.rect_check.specs.Duals.{left_of, right_of, low_of, high_of, IsBeside, IsAbove, ShareSide}
-use Rattle.rect_check.specs.Loops.{AreFitting, IsMissed}
-use Rattle.rect_check.specs.Verdicts.{HasContacts}
+use Rattle.rect_check.specs.Faults.{HasWrongContact}
+use Rattle.rect_check.specs.Loops.{IsMissed}
 
 -- what holds between u and k, and at k, holds up to k
 pub between_more : (P : ℕ → Type 0) (u k : ℕ) → ((w : ℕ) → u < w → w < k → P w) → P k → (w : ℕ) → u < w → w < k + 1 → P w
@@ -42,7 +46,14 @@ ShareSide-from_not fig u v h =
     ⊎_elim (λ s. s) (λ n. absurd (h n))
     (or_decided (or_decided (IsBeside-decided fig u v) (IsBeside-decided fig v u)) (or_decided (IsAbove-decided fig u v) (IsAbove-decided fig v u)))
 
--- where all pairs fit and no edge is missed, all contacts are right
-pub HasContacts-from_fit : (lists : Lists) (fig : RectFigure) → AreFitting lists fig → ((u v : ℕ) → ¬ IsMissed lists fig u v) → HasContacts lists fig
-HasContacts-from_fit lists fig fit none u v less l =
-    ((fit u v less l).joined, λ d. ShareSide-from_not fig u v (λ n. none u v (record { order = less; dart = d; missed = n })))
+-- where those that share a side with u are adjacent to it, the least edge from u that is missed is its least wrong contact
+pub wrong-from_missed : (lists : Lists) (fig : RectFigure) → IsSimpleMap lists → (u : ℕ) → u < length lists → ((v : ℕ) → u < v → v < length lists → ShareSide fig u v → HasDart lists u v) → (found : Option VertexId)
+    → MatchOption found ((v : ℕ) → HasDart lists u v → ¬ IsMissed lists fig u v) (λ (v : VertexId). IsLeast (λ x. HasDart lists u x × IsMissed lists fig u x) v.0)
+    → MatchOption found ((v : ℕ) → u < v → v < length lists → ShareSide fig u v ↔ HasDart lists u v) (λ (v : VertexId). IsLeast (HasWrongContact lists fig u) v.0)
+wrong-from_missed lists fig simple u lu joined None none = λ v less l. (joined v less l, λ d. ShareSide-from_not fig u v (λ n. none v d (record { order = less; dart = d; missed = n })))
+wrong-from_missed lists fig simple u lu joined (Some x) least =
+    let here = least.here.1 in
+    record {
+      here = record { order = here.order; vertex = simple.in_range u x.0 here.dart; wrong = λ eq. here.missed (eq.1 here.dart) };
+      before = λ v less wrong. wrong.wrong (joined v wrong.order wrong.vertex, λ d. ShareSide-from_not fig u v (λ n. least.before v less (d, record { order = wrong.order; dart = d; missed = n })));
+    }

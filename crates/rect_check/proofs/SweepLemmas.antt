@@ -1,5 +1,5 @@
 -- The last rectangles of rows along one axis, and what the sweeps along both show of pairs.
-use Rattle.std.proofs.Common.{◌≡◌, ◌≢◌, ◌⊎◌, ℕ, ◌+◌, ◌<◌, ◌≤◌, List, length, get_or, All, ℤ, pos, negsuc, ◌≤ℤ◌, ◌<ℤ◌, inl, inr, ⊎_elim, refl, sym, ap, subst, ◌∙◌, arith}
+use Rattle.std.proofs.Common.{◌≡◌, ◌≢◌, ◌⊎◌, ℕ, ◌+◌, ◌<◌, ◌≤◌, List, length, get_or, All, Bool, ℤ, pos, negsuc, ◌≤ℤ◌, ◌<ℤ◌, inl, inr, ⊎_elim, refl, sym, ap, subst, ◌∙◌, arith}
 use Rattle.std.specs.List.Sorted.{IsPermutation}
 use Rattle.std.proofs.lemmas.Bool.{cases_lt}
 use Rattle.std.proofs.lemmas.Int.{ints}
@@ -7,10 +7,10 @@ use Rattle.std.proofs.lemmas.List.{get_or_default}
 use Rattle.std.proofs.lemmas.List.Elements.{All-from_get_or}
 use Rattle.std.proofs.lemmas.List.Sorted.{Contains-permutation, All-permutation}
 use Rattle.map_lists.specs.Lists.{Lists}
-use Rattle.map_theory.specs.Maps.{HasDart, IsSimpleMap}
+use Rattle.map_theory.specs.Maps.{IsSimpleMap}
 use Rattle.pg_plane.specs.declared.figure.RectFigure.{RectFigure}
 use Rattle.rect_check.specs.Duals.{number_at, IsRect, ShareSide}
-use Rattle.rect_check.specs.Loops.{AreFitting, HasRow, DoesFollow, FollowsInRows, AreRanked, DoFollow, AreLast, AreSpans}
+use Rattle.rect_check.specs.Loops.{AreKept, AreJoined, AreFitting, HasRow, DoesFollow, FollowsInRows, AreRanked, DoFollow, AreLast, AreSpans}
 
 -- a number that is not below 0
 natural_is : (z : ℤ) → pos 0 ≤ℤ z → (k : ℕ) × (z ≡ pos k)
@@ -28,19 +28,51 @@ All-below n old new count old_is same =
     (All-from_get_or (λ v. v < n) old 0 (λ i l. let e = old_is i l in omega arith))
 
 -- each vertex has a place
-place_of_vertex : (n : ℕ) (old new : List ℕ) → length old ≡ n → AreVertices old → IsPermutation old new → (v : ℕ) → v < n → (i : ℕ) × (i < length new) × (get_or new i 0 ≡ v)
+pub place_of_vertex : (n : ℕ) (old new : List ℕ) → length old ≡ n → AreVertices old → IsPermutation old new → (v : ℕ) → v < n → (i : ℕ) × (i < length new) × (get_or new i 0 ≡ v)
 place_of_vertex n old new count old_is same v l =
     let within : v < length old = omega arith in
     let (i, li, e) = Contains-permutation old new v same (v, within, get_or_default old v v 0 within ∙ old_is v within) in
     (i, li, get_or_default new i 0 v li ∙ e)
 
-module _ (lists : Lists) (begin end low high : List ℤ) (spans : AreSpans (length lists) begin end) (rows : AreSpans (length lists) low high) where
+-- two that have a row in common, by their ends
+pub common : (n : ℕ) (low high : List ℤ) → AreSpans n low high → (u v : ℕ) → u < n → v < n → number_at low u <ℤ number_at high v → number_at low v <ℤ number_at high u → (y : ℕ) × HasRow low high u y × HasRow low high v y
+common n low high rows u v lu lv a b =
+    let p = natural_is (number_at low u) (rows u lu).first in
+    let q = natural_is (number_at low v) (rows v lv).first in
+    let ou = (rows u lu).order in
+    let ov = (rows v lv).order in
+    elim (cases_lt p.0 q.0) [
+      | inl less ↦ (q.0, (omega (arith, ints, p.1, less), omega (arith, ints, q.1, b)), (omega (arith, ints, q.1), omega (arith, ints, q.1, ov)))
+      | inr most ↦ (p.0, (omega (arith, ints, p.1), omega (arith, ints, p.1, ou)), (omega (arith, ints, q.1, most), omega (arith, ints, p.1, a)))
+    ]
+
+-- what is joined stays so where marks are kept
+AreJoined-kept : (lists : Lists) (old new : List Bool) → AreKept old new → (u v : ℕ) → AreJoined lists old u v → AreJoined lists new u v
+AreJoined-kept lists old new kept u v (inl d) = inl d
+AreJoined-kept lists old new kept u v (inr m) = inr (kept u m.0, kept v m.1)
+
+AreJoined-turned : (lists : Lists) (marks : List Bool) → IsSimpleMap lists → (u v : ℕ) → AreJoined lists marks u v → AreJoined lists marks v u
+AreJoined-turned lists marks simple u v (inl d) = inl (simple.both_ways u v d)
+AreJoined-turned lists marks simple u v (inr m) = inr (m.1, m.0)
+
+module _ (lists : Lists) (old new : List Bool) (kept : AreKept old new) (begin end : List ℤ) where
+  pub DoesFollow-kept : (u v : ℕ) → DoesFollow lists old begin end u v → DoesFollow lists new begin end u v
+  DoesFollow-kept u v f = record { behind = f.behind; joined = λ e. AreJoined-kept lists old new kept u v (f.joined e) }
+
+  pub DoFollow-kept : (low high : List ℤ) (order : List ℕ) (i : ℕ) → DoFollow lists old begin end low high order i → DoFollow lists new begin end low high order i
+  DoFollow-kept low high order i f j k l m y hu hv = DoesFollow-kept (get_or order j 0) (get_or order k 0) (f j k l m y hu hv)
+
+  pub AreRanked-kept : (low high : List ℤ) → AreRanked lists old begin end low high → AreRanked lists new begin end low high
+  AreRanked-kept low high ranked u v other lu lv =
+      ⊎_elim (λ f. inl (λ y hu hv. DoesFollow-kept u v (f y hu hv))) (λ f. inr (λ y hv hu. DoesFollow-kept v u (f y hv hu))) (ranked u v other lu lv)
+
+module _ (lists : Lists) (marks : List Bool) (begin end low high : List ℤ) (spans : AreSpans (length lists) begin end) (rows : AreSpans (length lists) low high) where
   abbrev at : List ℕ → ℕ → ℕ
   at order j = get_or order j 0
 
   -- one vertex more, at place i of the order
-  module _ (order : List ℕ) (i : ℕ) (last : List ℕ) (v : ℕ) (place : get_or order i 0 ≡ v) (lv : v < length lists) (all : AreLast lists begin end low high order i last) (size : length last ≡ length lists) (before : DoFollow lists begin end low high order i)
-      (first behind : ℕ) (lower : pos first ≡ number_at low v) (upper : pos behind ≡ number_at high v) (follows : (y u : ℕ) → first ≤ y → y < behind → get_or last y 0 ≡ u + 1 → DoesFollow lists begin end u v) where
+  module _ (order : List ℕ) (i : ℕ) (last : List ℕ) (v : ℕ) (place : get_or order i 0 ≡ v) (lv : v < length lists) (all : AreLast lists begin end low high order i last) (size : length last ≡ length lists) (before : DoFollow lists marks begin end low high order i)
+      (first behind : ℕ) (lower : pos first ≡ number_at low v) (upper : pos behind ≡ number_at high v) (follows : (y u : ℕ) → first ≤ y → y < behind → get_or last y 0 ≡ u + 1 → DoesFollow lists marks begin end u v) where
     -- a row of v is one of the table
     row_is : (y : ℕ) → HasRow low high v y → (first ≤ y) × (y < behind) × (y < length last)
     row_is y has =
@@ -51,23 +83,23 @@ module _ (lists : Lists) (begin end low high : List ℤ) (spans : AreSpans (leng
         (omega (arith, ints, l, lower), few, omega (arith, ints, few, upper, high, size))
 
     -- v follows each vertex before it
-    follows_one : (j : ℕ) → j < i → FollowsInRows lists begin end low high (at order j) v
+    follows_one : (j : ℕ) → j < i → FollowsInRows lists marks begin end low high (at order j) v
     follows_one j l y hu hv =
         let is = row_is y hv in
         let e = all.each j y l is.2 hu in
         let t = e.0 in
         let f = follows y t is.0 is.1 e.1 in
         let b = f.behind in
-        ⊎_elim (λ same. subst (λ z. DoesFollow lists begin end z v) (sym same) f)
+        ⊎_elim (λ same. subst (λ z. DoesFollow lists marks begin end z v) (sym same) f)
         (λ less.
         let lt : t < length lists = (let m = all.vertices y in omega (arith, m, e.1)) in
         let o = (spans t lt).order in
         record { behind = omega (arith, ints, less, o, b); joined = λ s. absurd (omega (arith, ints, less, o, b, s)) }) e.3
 
-    pub DoFollow-more : DoFollow lists begin end low high order (i + 1)
+    pub DoFollow-more : DoFollow lists marks begin end low high order (i + 1)
     DoFollow-more j k l m = elim (cases_lt k i) [
       | inl less ↦ before j k l less
-      | inr most ↦ (let here : k ≡ i = omega (arith, m, most) in subst (λ z. FollowsInRows lists begin end low high (at order j) z) (sym (ap (at order) here ∙ place)) (follows_one j (omega (arith, l, here))))
+      | inr most ↦ (let here : k ≡ i = omega (arith, m, most) in subst (λ z. FollowsInRows lists marks begin end low high (at order j) z) (sym (ap (at order) here ∙ place)) (follows_one j (omega (arith, l, here))))
     ]
 
     pub AreLast-more : (last' : List ℕ) → length last' ≡ length last → ((y : ℕ) → first ≤ y → y < behind → get_or last' y 0 ≡ v + 1) → ((y : ℕ) → (y < first) ⊎ (behind ≤ y) → get_or last' y 0 ≡ get_or last y 0) → AreLast lists begin end low high order (i + 1) last'
@@ -110,41 +142,29 @@ module _ (lists : Lists) (begin end low high : List ℤ) (spans : AreSpans (leng
     each = λ j y l. absurd (omega arith);
   }
 
-  -- two that have a row in common, by their ends
-  common : (u v : ℕ) → u < length lists → v < length lists → number_at low u <ℤ number_at high v → number_at low v <ℤ number_at high u → (y : ℕ) × HasRow low high u y × HasRow low high v y
-  common u v lu lv a b =
-      let p = natural_is (number_at low u) (rows u lu).first in
-      let q = natural_is (number_at low v) (rows v lv).first in
-      let ou = (rows u lu).order in
-      let ov = (rows v lv).order in
-      elim (cases_lt p.0 q.0) [
-        | inl less ↦ (q.0, (omega (arith, ints, p.1, less), omega (arith, ints, q.1, b)), (omega (arith, ints, q.1), omega (arith, ints, q.1, ov)))
-        | inr most ↦ (p.0, (omega (arith, ints, p.1), omega (arith, ints, p.1, ou)), (omega (arith, ints, q.1, most), omega (arith, ints, p.1, a)))
-      ]
-
-  module _ (ranked : AreRanked lists begin end low high) (u v : ℕ) (other : u ≢ v) (lu : u < length lists) (lv : v < length lists) (a : number_at low u <ℤ number_at high v) (b : number_at low v <ℤ number_at high u) where
-    either : DoesFollow lists begin end u v ⊎ DoesFollow lists begin end v u
+  module _ (ranked : AreRanked lists marks begin end low high) (u v : ℕ) (other : u ≢ v) (lu : u < length lists) (lv : v < length lists) (a : number_at low u <ℤ number_at high v) (b : number_at low v <ℤ number_at high u) where
+    either : DoesFollow lists marks begin end u v ⊎ DoesFollow lists marks begin end v u
     either =
-        let y = common u v lu lv a b in
+        let y = common (length lists) low high rows u v lu lv a b in
         ⊎_elim (λ f. inl (f y.0 y.1 y.2)) (λ f. inr (f y.0 y.2 y.1)) (ranked u v other lu lv)
 
     -- their interiors do not meet
     pub none_meet : number_at begin u <ℤ number_at end v → number_at begin v <ℤ number_at end u → ⊥
     none_meet l m = ⊎_elim (λ f. let e = f.behind in omega (arith, ints, e, m)) (λ f. let e = f.behind in omega (arith, ints, e, l)) either
 
-    -- where v begins at the end of u, they are adjacent
-    pub joined_at : number_at end u ≡ number_at begin v → HasDart lists u v
+    -- where v begins at the end of u, they are adjacent or marked
+    pub joined_at : number_at end u ≡ number_at begin v → AreJoined lists marks u v
     joined_at e = ⊎_elim (λ f. f.joined e) (λ f. let g = f.behind in let o = (spans u lu).order in let p = (spans v lv).order in absurd (omega (arith, ints, e, g, o, p))) either
 
   -- where each vertex follows those before it, of each two one follows the other
-  pub AreRanked-from_order : (old new : List ℕ) → length old ≡ length lists → AreVertices old → IsPermutation old new → DoFollow lists begin end low high new (length new) → AreRanked lists begin end low high
+  pub AreRanked-from_order : (old new : List ℕ) → length old ≡ length lists → AreVertices old → IsPermutation old new → DoFollow lists marks begin end low high new (length new) → AreRanked lists marks begin end low high
   AreRanked-from_order old new count old_is same follow u v other lu lv =
       let n = length lists in
       let (i, li, ei) = place_of_vertex n old new count old_is same u lu in
       let (j, lj, ej) = place_of_vertex n old new count old_is same v lv in
       elim (cases_lt i j) [
-        | inl before ↦ inl (subst (λ x. FollowsInRows lists begin end low high x v) ei (subst (λ y. FollowsInRows lists begin end low high (get_or new i 0) y) ej (follow i j before lj)))
-        | inr after ↦ (let before : j < i = strictly i j u v new ei ej other after in inr (subst (λ x. FollowsInRows lists begin end low high x u) ej (subst (λ y. FollowsInRows lists begin end low high (get_or new j 0) y) ei (follow j i before li))))
+        | inl before ↦ inl (subst (λ x. FollowsInRows lists marks begin end low high x v) ei (subst (λ y. FollowsInRows lists marks begin end low high (get_or new i 0) y) ej (follow i j before lj)))
+        | inr after ↦ (let before : j < i = strictly i j u v new ei ej other after in inr (subst (λ x. FollowsInRows lists marks begin end low high x u) ej (subst (λ y. FollowsInRows lists marks begin end low high (get_or new j 0) y) ei (follow j i before li))))
       ]
     where
       strictly : (i j u v : ℕ) (new : List ℕ) → get_or new i 0 ≡ u → get_or new j 0 ≡ v → u ≢ v → j ≤ i → j < i
@@ -155,9 +175,9 @@ module _ (lists : Lists) (begin end low high : List ℤ) (spans : AreSpans (leng
           ]
 
 -- where both sweeps pass, all fit
-pub AreFitting-from_ranks : (lists : Lists) (fig : RectFigure) → IsSimpleMap lists → ((v : ℕ) → v < length lists → IsRect (length lists) fig v) → AreRanked lists fig.x1 fig.x2 fig.y1 fig.y2 → AreRanked lists fig.y1 fig.y2 fig.x1 fig.x2 → AreFitting lists fig
-AreFitting-from_ranks lists fig simple rects across up u v less lv = record {
-  apart = λ m. none_meet lists fig.x1 fig.x2 fig.y1 fig.y2 wide tall across u v other lu lv m.low m.high m.left m.right;
+pub AreFitting-from_ranks : (lists : Lists) (marks : List Bool) (fig : RectFigure) → IsSimpleMap lists → ((v : ℕ) → v < length lists → IsRect (length lists) fig v) → AreRanked lists marks fig.x1 fig.x2 fig.y1 fig.y2 → AreRanked lists marks fig.y1 fig.y2 fig.x1 fig.x2 → AreFitting lists marks fig
+AreFitting-from_ranks lists marks fig simple rects across up u v less lv = record {
+  apart = λ m. none_meet lists marks fig.x1 fig.x2 fig.y1 fig.y2 wide tall across u v other lu lv m.low m.high m.left m.right;
   joined = joined;
 }
   where
@@ -173,8 +193,8 @@ AreFitting-from_ranks lists fig simple rects across up u v less lv = record {
     other : u ≢ v
     other e = omega (arith, less, e)
 
-    joined : ShareSide fig u v → HasDart lists u v
-    joined (inl (inl h)) = joined_at lists fig.x1 fig.x2 fig.y1 fig.y2 wide tall across u v other lu lv h.low h.high h.line
-    joined (inl (inr h)) = simple.both_ways v u (joined_at lists fig.x1 fig.x2 fig.y1 fig.y2 wide tall across v u (λ e. other (sym e)) lv lu h.low h.high h.line)
-    joined (inr (inl h)) = joined_at lists fig.y1 fig.y2 fig.x1 fig.x2 tall wide up u v other lu lv h.left h.right h.line
-    joined (inr (inr h)) = simple.both_ways v u (joined_at lists fig.y1 fig.y2 fig.x1 fig.x2 tall wide up v u (λ e. other (sym e)) lv lu h.left h.right h.line)
+    joined : ShareSide fig u v → AreJoined lists marks u v
+    joined (inl (inl h)) = joined_at lists marks fig.x1 fig.x2 fig.y1 fig.y2 wide tall across u v other lu lv h.low h.high h.line
+    joined (inl (inr h)) = AreJoined-turned lists marks simple v u (joined_at lists marks fig.x1 fig.x2 fig.y1 fig.y2 wide tall across v u (λ e. other (sym e)) lv lu h.low h.high h.line)
+    joined (inr (inl h)) = joined_at lists marks fig.y1 fig.y2 fig.x1 fig.x2 tall wide up u v other lu lv h.left h.right h.line
+    joined (inr (inr h)) = AreJoined-turned lists marks simple v u (joined_at lists marks fig.y1 fig.y2 fig.x1 fig.x2 tall wide up v u (λ e. other (sym e)) lv lu h.left h.right h.line)

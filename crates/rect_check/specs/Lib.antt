@@ -4,3 +4,4 @@ pub mod Faults
 pub mod Verdicts
 pub mod Laws
 pub mod Loops
+pub mod Meets

@@ -1,14 +1,26 @@
--- What the loops of the check go over: pairs that fit, the last rectangles of rows, and edges that are missed.
-use Rattle.std.specs.Prelude.{ℕ, ◌+◌, ◌<◌, ◌≤◌, ◌≡◌, ◌≢◌, ◌⊎◌, List, length, slice_index, ℤ, pos, ◌≤ℤ◌, ◌<ℤ◌}
+-- What the loops of the check go over: marks, pairs that fit, the last rectangles of rows, and edges that are missed.
+use Rattle.std.specs.Prelude.{ℕ, ◌+◌, ◌<◌, ◌≤◌, ◌≡◌, ◌≢◌, ◌⊎◌, Bool, true, false, List, length, slice_index, slice_index_or, ℤ, pos, ◌≤ℤ◌, ◌<ℤ◌}
 use Rattle.map_lists.specs.Lists.{Lists}
 use Rattle.map_theory.specs.Maps.{HasDart}
 use Rattle.pg_plane.specs.declared.figure.RectFigure.{RectFigure}
 use Rattle.rect_check.specs.Duals.{number_at, IsSpan, DoMeet, ShareSide, HasFrame, top_vertex, right_vertex, bottom_vertex}
 
--- two rectangles do not meet, and their vertices are adjacent where they share a side
-pub record DoFit (lists : Lists) (fig : RectFigure) (u v : ℕ) : Type 0 where
+-- v has a mark
+abbrev pub IsMarked : List Bool → ℕ → Type 0
+IsMarked marks v = slice_index_or marks v false ≡ true
+
+-- each mark of the old ones is one of the new ones
+abbrev pub AreKept : (old new : List Bool) → Type 0
+AreKept old new = (v : ℕ) → IsMarked old v → IsMarked new v
+
+-- u and v are adjacent, or both have a mark
+abbrev pub AreJoined : Lists → List Bool → ℕ → ℕ → Type 0
+AreJoined lists marks u v = HasDart lists u v ⊎ (IsMarked marks u × IsMarked marks v)
+
+-- two rectangles do not meet, and where they share a side their vertices are adjacent or marked
+pub record DoFit (lists : Lists) (marks : List Bool) (fig : RectFigure) (u v : ℕ) : Type 0 where
   pub apart : ¬ DoMeet fig u v
-  pub joined : ShareSide fig u v → HasDart lists u v
+  pub joined : ShareSide fig u v → AreJoined lists marks u v
 
 -- Along one of the two axes the rectangle of v goes from number v of one list to that of a second one, and across it over the rows from number v of a third to that of a fourth.
 
@@ -16,25 +28,25 @@ pub record DoFit (lists : Lists) (fig : RectFigure) (u v : ℕ) : Type 0 where
 abbrev pub HasRow : (low high : List ℤ) → ℕ → ℕ → Type 0
 HasRow low high v y = (number_at low v ≤ℤ pos y) × (pos y <ℤ number_at high v)
 
--- v begins at the end of u or behind it, and is adjacent to u where it begins there
-pub record DoesFollow (lists : Lists) (begin end : List ℤ) (u v : ℕ) : Type 0 where
+-- v begins at the end of u or behind it, and where it begins there they are adjacent or marked
+pub record DoesFollow (lists : Lists) (marks : List Bool) (begin end : List ℤ) (u v : ℕ) : Type 0 where
   pub behind : number_at end u ≤ℤ number_at begin v
-  pub joined : number_at end u ≡ number_at begin v → HasDart lists u v
+  pub joined : number_at end u ≡ number_at begin v → AreJoined lists marks u v
 
 -- v follows u if they have a row in common
-abbrev pub FollowsInRows : Lists → (begin end low high : List ℤ) → ℕ → ℕ → Type 0
-FollowsInRows lists begin end low high u v =
-    (y : ℕ) → HasRow low high u y → HasRow low high v y → DoesFollow lists begin end u v
+abbrev pub FollowsInRows : Lists → List Bool → (begin end low high : List ℤ) → ℕ → ℕ → Type 0
+FollowsInRows lists marks begin end low high u v =
+    (y : ℕ) → HasRow low high u y → HasRow low high v y → DoesFollow lists marks begin end u v
 
 -- of each two one follows the other if they have a row in common
-abbrev pub AreRanked : Lists → (begin end low high : List ℤ) → Type 0
-AreRanked lists begin end low high =
-    (u v : ℕ) → u ≢ v → u < length lists → v < length lists → (FollowsInRows lists begin end low high u v) ⊎ (FollowsInRows lists begin end low high v u)
+abbrev pub AreRanked : Lists → List Bool → (begin end low high : List ℤ) → Type 0
+AreRanked lists marks begin end low high =
+    (u v : ℕ) → u ≢ v → u < length lists → v < length lists → (FollowsInRows lists marks begin end low high u v) ⊎ (FollowsInRows lists marks begin end low high v u)
 
 -- of the first i vertices of an order, each follows those before it
-abbrev pub DoFollow : Lists → (begin end low high : List ℤ) → List ℕ → ℕ → Type 0
-DoFollow lists begin end low high order i =
-    (j k : ℕ) → j < k → k < i → FollowsInRows lists begin end low high (slice_index order j) (slice_index order k)
+abbrev pub DoFollow : Lists → List Bool → (begin end low high : List ℤ) → List ℕ → ℕ → Type 0
+DoFollow lists marks begin end low high order i =
+    (j k : ℕ) → j < k → k < i → FollowsInRows lists marks begin end low high (slice_index order j) (slice_index order k)
 
 -- Each row of a table has one more than the last vertex in it, of the first i ones of an order; or 0. In its row each of these is the last one, or ends before that begins.
 pub record AreLast (lists : Lists) (begin end low high : List ℤ) (order : List ℕ) (i : ℕ) (last : List ℕ) : Type 0 where
@@ -52,8 +64,12 @@ pub record IsMissed (lists : Lists) (fig : RectFigure) (u v : ℕ) : Type 0 wher
   pub missed : ¬ ShareSide fig u v
 
 -- each two fit
-abbrev pub AreFitting : Lists → RectFigure → Type 0
-AreFitting lists fig = (u v : ℕ) → u < v → v < length lists → DoFit lists fig u v
+abbrev pub AreFitting : Lists → List Bool → RectFigure → Type 0
+AreFitting lists marks fig = (u v : ℕ) → u < v → v < length lists → DoFit lists marks fig u v
+
+-- each two that share a side are adjacent or marked
+abbrev pub AllJoined : Lists → List Bool → RectFigure → Type 0
+AllJoined lists marks fig = (u v : ℕ) → u < v → v < length lists → ShareSide fig u v → AreJoined lists marks u v
 
 -- a length that a rectangle may have
 pub record IsLength (z : ℤ) : Type 0 where

@@ -10,6 +10,7 @@ mod areas;
 mod check;
 mod edges;
 mod frame;
+mod meets;
 mod pairs;
 mod rects;
 mod sides;

@@ -11,5 +11,6 @@ follow_all-requires-clause-vertices c =
 pub returns-clause-ranked : goal.returns-clause-ranked
 returns-clause-ranked c =
     let a = c.args in
-    OnTrue_from c.follow_all.result (AreRanked a.map.now.lists a.begin.now a.end.now a.low.now a.high.now) (λ t.
-    AreRanked-from_order a.map.now.lists a.begin.now a.end.now a.low.now a.high.now c.requires.spans c.requires.rows c.fill_vertices.new.order c.sort_vertices.new.order (omega (arith, c.fill_vertices.ensures.length, c.requires.order)) c.fill_vertices.ensures.vertices c.sort_vertices.ensures.same (OnTrue_at t c.follow_all.ensures))
+    let marks = c.follow_all.new.marks in
+    OnTrue_from c.follow_all.result (AreRanked a.map.now.lists marks a.begin.now a.end.now a.low.now a.high.now) (λ t.
+    AreRanked-from_order a.map.now.lists marks a.begin.now a.end.now a.low.now a.high.now c.requires.spans c.requires.rows c.fill_vertices.new.order c.sort_vertices.new.order (omega (arith, c.fill_vertices.ensures.length, c.requires.order)) c.fill_vertices.ensures.vertices c.sort_vertices.ensures.same (OnTrue_at t c.follow_all.ensures.follow))
