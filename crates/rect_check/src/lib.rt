@@ -19,7 +19,6 @@ mod verdict;
 
 pub use check::check_rects;
 pub use frame::{OuterFour, outer_four};
-pub use sides::are_adjacent;
 pub use verdict::RectVerdict;
 
 /// A verdict is `Yes` exactly where the figure is a rectangular dual.

@@ -1,4 +1,4 @@
-//! The search over all pairs of rectangles, for the least two with a fault.
+//! The search for the least two rectangles with a fault, over the pairs of those with a mark.
 ghost use Rattle.std.specs.Prelude.{◌≡◌, ◌<◌, ◌↔◌, ℕ, length, IsTrue, MatchOption};
 ghost use Rattle.map_theory.specs.Maps.{HasDart};
 ghost use Rattle.half_edges.specs.Map.{IsHalfMap};

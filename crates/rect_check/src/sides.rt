@@ -66,8 +66,8 @@ fn is_in_list(map: &HalfMap, u: VertexId, v: VertexId) -> bool
     }
 }
 
-/// Whether two vertices are adjacent. It goes over the shorter list.
-pub fn are_adjacent(map: &HalfMap, u: VertexId, v: VertexId) -> bool
+// Whether two vertices are adjacent. It goes over the shorter list.
+pub(crate) fn are_adjacent(map: &HalfMap, u: VertexId, v: VertexId) -> bool
     requires known { IsHalfMap map.now }
     requires u { u.0 < length map.now.lists }
     requires v { v.0 < length map.now.lists }

@@ -1,5 +1,6 @@
 -- Lemmas on maps that have a rectangular dual.
 mod HeadLemmas
+mod UpperLemmas
 mod Cases
 mod FrameDarts
 mod TriangleLemmas

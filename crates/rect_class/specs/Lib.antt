@@ -3,3 +3,4 @@ pub mod RectMaps
 pub mod Refusals
 pub mod Laws
 pub mod Loops
+pub mod Upper

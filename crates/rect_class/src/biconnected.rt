@@ -8,9 +8,11 @@ ghost use Rattle.rect_check.specs.Duals.{HasFrame};
 ghost use Rattle.rect_check.specs.Loops.{IsFrame};
 ghost use Rattle.rect_class.specs.RectMaps.{HasLargeFace, HasTriangles, NoneSeparating, IsRectMap};
 ghost use Rattle.rect_class.specs.Refusals.{BreaksRect};
+ghost use Rattle.rect_class.specs.Upper.{AreUpperRows};
 
 use crate::faces::first_large;
 use crate::triangles::first_separating;
+use crate::upper::upper_rows;
 use conn_parts::biconnected_maps::biconnected_map;
 use half_edges::{HalfMap, Rotations, VertexId};
 use rect_check::{OuterFour, outer_four};
@@ -31,14 +33,15 @@ fn first_large_face(map: &HalfMap, four: OuterFour) -> Option<(VertexId, VertexI
 }
 
 // The first condition on triangles that a map breaks.
-fn first_of_triangles(map: &HalfMap) -> Option<Refusal>
+fn first_of_triangles(map: &HalfMap, rows: &Rotations) -> Option<Refusal>
     requires known { IsHalfMap map.now }
+    requires rows { AreUpperRows map.now.lists rows.now }
     requires biconnected { IsBiconnectedMap 3 map.now.lists }
     requires frame { HasFrame map.now.lists }
     requires faces { HasTriangles map.now.lists }
     ensures { MatchOption result (IsRectMap map.now.lists) (BreaksRect map.now.lists) }
 {
-    if let Some((a, b, c)) = first_separating(map) {
+    if let Some((a, b, c)) = first_separating(map, rows) {
         return Some(Refusal::SeparatingTriangle(a, b, c));
     }
     if map.n() <= OUTER_COUNT {
@@ -49,26 +52,28 @@ fn first_of_triangles(map: &HalfMap) -> Option<Refusal>
 }
 
 // The first condition behind that on the outer face.
-fn first_of_faces(map: &HalfMap, four: OuterFour) -> Option<Refusal>
+fn first_of_faces(map: &HalfMap, rows: &Rotations, four: OuterFour) -> Option<Refusal>
     requires known { IsHalfMap map.now }
+    requires rows { AreUpperRows map.now.lists rows.now }
     requires biconnected { IsBiconnectedMap 3 map.now.lists }
     requires frame { IsFrame map.now.lists four.top.0 four.right.0 four.bottom.0 }
     ensures { MatchOption result (IsRectMap map.now.lists) (BreaksRect map.now.lists) }
 {
     match first_large_face(map, four) {
         Some((v, u)) => Some(Refusal::NotTriangle(v, u)),
-        None => first_of_triangles(map),
+        None => first_of_triangles(map, rows),
     }
 }
 
 // The first condition that a biconnected map breaks.
-fn first_broken(map: &HalfMap) -> Option<Refusal>
-    requires { IsBiconnectedMap 3 map.now.lists }
+fn first_broken(map: &HalfMap, rows: &Rotations) -> Option<Refusal>
+    requires biconnected { IsBiconnectedMap 3 map.now.lists }
+    requires rows { AreUpperRows map.now.lists rows.now }
     ensures { MatchOption result (IsRectMap map.now.lists) (BreaksRect map.now.lists) }
 {
     map.facts();
     match outer_four(map) {
-        Some(four) => first_of_faces(map, four),
+        Some(four) => first_of_faces(map, rows, four),
         None => Some(Refusal::OuterNotQuad),
     }
 }
@@ -79,7 +84,8 @@ fn first_broken(map: &HalfMap) -> Option<Refusal>
 ///
 /// `Err` names the first condition that the lists break, in the order of [`Refusal`], with the least
 /// vertices. Or there was not enough memory. For each edge it goes over the shorter of two lists, and looks
-/// each common neighbour up in the shorter of two more.
+/// each common neighbour up in a row of those neighbours of a vertex whose degree is no lower: the time is
+/// linear but for the lengths of these rows, which are short also at hubs.
 pub fn rect_map(alloc: Global, lists: &Rotations) -> Result<HalfMap, Unserved>
     requires some_list { 0 < length lists.now }
     requires few_lists { length lists.now < 4096 }
@@ -88,7 +94,9 @@ pub fn rect_map(alloc: Global, lists: &Rotations) -> Result<HalfMap, Unserved>
     ensures refused { IfErr result (IfRefused (BreaksRect lists.now)) }
 {
     let map = biconnected_map(alloc, lists, 3)?;
-    match first_broken(&map) {
+    map.facts();
+    let rows = upper_rows(alloc, lists)?;
+    match first_broken(&map, &rows) {
         Some(refusal) => Err(Unserved::Refused(refusal)),
         None => Ok(map),
     }

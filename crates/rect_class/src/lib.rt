@@ -6,6 +6,7 @@ ghost use Rattle.rect_class.specs.Laws.{RectMapsBreakNothing, BiconnectedAreRect
 mod biconnected;
 mod faces;
 mod triangles;
+mod upper;
 
 pub use biconnected::rect_map;
 

@@ -7,9 +7,10 @@ ghost use Rattle.vertex_rounds.specs.Least.{IsLeast, IsLeastTriple};
 ghost use Rattle.vertex_rounds.specs.Rounds.{HoldsAt, dart_of};
 ghost use Rattle.rect_class.specs.RectMaps.{IsSeparating, NoneSeparating};
 ghost use Rattle.rect_class.specs.Loops.{HasThird};
+ghost use Rattle.rect_class.specs.Upper.{AreUpperRows};
 
-use half_edges::{DartId, HalfMap, VertexId};
-use rect_check::are_adjacent;
+use crate::upper::are_adjacent;
+use half_edges::{DartId, HalfMap, Rotations, VertexId};
 use vertex_rounds::{first_dart, least_head};
 
 // Whether the face of the dart from `a` to `b` goes on to `c` and back.
@@ -34,8 +35,16 @@ fn is_bounding(map: &HalfMap, d: DartId, a: VertexId, b: VertexId, c: VertexId) 
 }
 
 // Whether `a`, `b` and `c` are a separating triangle.
-fn is_separating(map: &HalfMap, d: DartId, a: VertexId, b: VertexId, c: VertexId) -> bool
+fn is_separating(
+    map: &HalfMap,
+    rows: &Rotations,
+    d: DartId,
+    a: VertexId,
+    b: VertexId,
+    c: VertexId,
+) -> bool
     requires known { IsHalfMap map.now }
+    requires rows { AreUpperRows map.now.lists rows.now }
     requires dart { dart_at map.now d.0 ≡ Some (a.0, b.0) }
     requires third { c.0 < length map.now.lists }
     ensures { IsTrue result ↔ IsSeparating map.now.lists a.0 b.0 c.0 }
@@ -43,107 +52,132 @@ fn is_separating(map: &HalfMap, d: DartId, a: VertexId, b: VertexId, c: VertexId
     a.0 < b.0
         && b.0 < c.0
         && !is_bounding(map, d, a, b, c)
-        && are_adjacent(map, b, c)
-        && are_adjacent(map, a, c)
+        && are_adjacent(map, rows, b, c)
+        && are_adjacent(map, rows, a, c)
 }
 
 // Whether the head of dart `e` is the third vertex of a separating triangle with `a` and `b`.
-fn leads_to_third(map: &HalfMap, d: DartId, a: VertexId, b: VertexId, e: DartId) -> bool
+fn leads_to_third(
+    map: &HalfMap,
+    rows: &Rotations,
+    d: DartId,
+    a: VertexId,
+    b: VertexId,
+    e: DartId,
+) -> bool
     requires known { IsHalfMap map.now }
+    requires rows { AreUpperRows map.now.lists rows.now }
     requires dart { dart_at map.now d.0 ≡ Some (a.0, b.0) }
     requires live { IsLive map.now e.0 }
     ensures { IsTrue result ↔ IsSeparating map.now.lists a.0 b.0 (dart_of map.now e.0).1 }
 {
-    is_separating(map, d, a, b, map.head(e))
+    is_separating(map, rows, d, a, b, map.head(e))
 }
 
 // The least third vertex of `a` and `b`, by the list of `w`, which is one of them.
 fn least_third_at(
     map: &HalfMap,
+    rows: &Rotations,
     d: DartId,
     a: VertexId,
     b: VertexId,
     w: VertexId,
 ) -> Option<VertexId>
     requires known { IsHalfMap map.now }
+    requires rows { AreUpperRows map.now.lists rows.now }
     requires dart { dart_at map.now d.0 ≡ Some (a.0, b.0) }
     requires end { (w.0 ≡ a.0) ⊎ (w.0 ≡ b.0) }
     ensures { MatchOption result ((c : ℕ) → ¬ IsSeparating map.now.lists a.0 b.0 c)
         (λ c. IsLeast (IsSeparating map.now.lists a.0 b.0) c.0) }
 {
-    least_head(map, w, |e| leads_to_third(map, d, a, b, e))
+    least_head(map, w, |e| leads_to_third(map, rows, d, a, b, e))
 }
 
 // The least third vertex of the edge from `a` to `b`. It goes over the shorter of the two lists.
-fn least_third(map: &HalfMap, d: DartId, a: VertexId, b: VertexId) -> Option<VertexId>
+fn least_third(
+    map: &HalfMap,
+    rows: &Rotations,
+    d: DartId,
+    a: VertexId,
+    b: VertexId,
+) -> Option<VertexId>
     requires known { IsHalfMap map.now }
+    requires rows { AreUpperRows map.now.lists rows.now }
     requires dart { dart_at map.now d.0 ≡ Some (a.0, b.0) }
     ensures { MatchOption result ((c : ℕ) → ¬ IsSeparating map.now.lists a.0 b.0 c)
         (λ c. IsLeast (IsSeparating map.now.lists a.0 b.0) c.0) }
 {
     if map.degree(a) <= map.degree(b) {
-        least_third_at(map, d, a, b, a)
+        least_third_at(map, rows, d, a, b, a)
     } else {
-        least_third_at(map, d, a, b, b)
+        least_third_at(map, rows, d, a, b, b)
     }
 }
 
 // Whether the edge from `a` to `b` has a third vertex.
-fn has_third(map: &HalfMap, d: DartId, a: VertexId, b: VertexId) -> bool
+fn has_third(map: &HalfMap, rows: &Rotations, d: DartId, a: VertexId, b: VertexId) -> bool
     requires known { IsHalfMap map.now }
+    requires rows { AreUpperRows map.now.lists rows.now }
     requires dart { dart_at map.now d.0 ≡ Some (a.0, b.0) }
     ensures { IsTrue result ↔ HasThird map.now.lists a.0 b.0 }
 {
-    match least_third(map, d, a, b) {
+    match least_third(map, rows, d, a, b) {
         Some(_) => true,
         None => false,
     }
 }
 
 // Whether the edge of a dart has a third vertex, and the tail is its lesser end.
-fn is_second(map: &HalfMap, d: DartId) -> bool
+fn is_second(map: &HalfMap, rows: &Rotations, d: DartId) -> bool
     requires known { IsHalfMap map.now }
+    requires rows { AreUpperRows map.now.lists rows.now }
     requires live { IsLive map.now d.0 }
     ensures { IsTrue result ↔ HoldsAt map.now (HasThird map.now.lists) d.0 }
 {
     let a = map.tail(d);
     let b = map.head(d);
-    a.0 < b.0 && has_third(map, d, a, b)
+    a.0 < b.0 && has_third(map, rows, d, a, b)
 }
 
 // The least third vertex of `a` and `b`, which have one.
-fn third_of(map: &HalfMap, d: DartId, a: VertexId, b: VertexId) -> VertexId
+fn third_of(map: &HalfMap, rows: &Rotations, d: DartId, a: VertexId, b: VertexId) -> VertexId
     requires known { IsHalfMap map.now }
+    requires rows { AreUpperRows map.now.lists rows.now }
     requires dart { dart_at map.now d.0 ≡ Some (a.0, b.0) }
     requires third { HasThird map.now.lists a.0 b.0 }
     ensures { IsLeast (IsSeparating map.now.lists a.0 b.0) result.0 }
 {
-    match least_third(map, d, a, b) {
+    match least_third(map, rows, d, a, b) {
         Some(c) => c,
         None => a,
     }
 }
 
 // The same, where no dart is at hand.
-fn third_between(map: &HalfMap, a: VertexId, b: VertexId) -> VertexId
+fn third_between(map: &HalfMap, rows: &Rotations, a: VertexId, b: VertexId) -> VertexId
     requires known { IsHalfMap map.now }
+    requires rows { AreUpperRows map.now.lists rows.now }
     requires third { HasThird map.now.lists a.0 b.0 }
     ensures { IsLeast (IsSeparating map.now.lists a.0 b.0) result.0 }
 {
     match map.dart_of(a, b) {
-        Some(d) => third_of(map, d, a, b),
+        Some(d) => third_of(map, rows, d, a, b),
         None => a,
     }
 }
 
 // The least separating triangle.
-pub(crate) fn first_separating(map: &HalfMap) -> Option<(VertexId, VertexId, VertexId)>
-    requires { IsHalfMap map.now }
+pub(crate) fn first_separating(
+    map: &HalfMap,
+    rows: &Rotations,
+) -> Option<(VertexId, VertexId, VertexId)>
+    requires known { IsHalfMap map.now }
+    requires rows { AreUpperRows map.now.lists rows.now }
     ensures { MatchOption result (NoneSeparating map.now.lists)
         (λ t. IsLeastTriple (IsSeparating map.now.lists) t.0.0 t.1.0 t.2.0) }
 {
-    match first_dart(map, |d| is_second(map, d)) {
-        Some((a, b)) => Some((a, b, third_between(map, a, b))),
+    match first_dart(map, |d| is_second(map, rows, d)) {
+        Some((a, b)) => Some((a, b, third_between(map, rows, a, b))),
         None => None,
     }
 }

@@ -5,11 +5,11 @@ use Rattle.rect_class.proofs.triangles.first_separating.Goals as goal
 
 pub third_between-requires-clause-third : goal.third_between-requires-clause-third
 third_between-requires-clause-third c =
-    (least_pair c.args.map.now c.requires _ (HasThird c.args.map.now.lists) 0 (Some (c.in-Some.a, c.in-Some.b)) c.in-Some.ensures (λ d live late r s. search rules) (λ a b x. (omega arith, x.separating.low))).rest.here
+    (least_pair c.args.map.now c.requires.known _ (HasThird c.args.map.now.lists) 0 (Some (c.in-Some.a, c.in-Some.b)) c.in-Some.ensures (λ d live late r s. search rules) (λ a b x. (omega arith, x.separating.low))).rest.here
 
 pub returns-in-Some : goal.returns-in-Some
 returns-in-Some c =
-    let first = least_pair c.args.map.now c.requires _ (HasThird c.args.map.now.lists) 0 (Some (c.in-Some.a, c.in-Some.b)) c.in-Some.ensures (λ d live late r s. search rules) (λ a b x. (omega arith, x.separating.low)) in
+    let first = least_pair c.args.map.now c.requires.known _ (HasThird c.args.map.now.lists) 0 (Some (c.in-Some.a, c.in-Some.b)) c.in-Some.ensures (λ d live late r s. search rules) (λ a b x. (omega arith, x.separating.low)) in
     record {
       before = λ a b t less x. first.before a b less (record { third = t; separating = x });
       rest = record {
@@ -20,5 +20,5 @@ returns-in-Some c =
 
 pub returns-in-None : goal.returns-in-None
 returns-in-None c =
-    let none = least_pair c.args.map.now c.requires _ (HasThird c.args.map.now.lists) 0 None c.in-None.ensures (λ d live late r s. search rules) (λ a b x. (omega arith, x.separating.low)) in
+    let none = least_pair c.args.map.now c.requires.known _ (HasThird c.args.map.now.lists) 0 None c.in-None.ensures (λ d live late r s. search rules) (λ a b x. (omega arith, x.separating.low)) in
     λ a b t x. none a b (record { third = t; separating = x })

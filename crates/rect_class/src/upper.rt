@@ -1,0 +1,90 @@
+//! For each vertex its neighbours of no lower degree. In a plane map such a row is short, also at a hub, so that
+//! two vertices are soon seen to be adjacent or not.
+ghost use Rattle.std.specs.Prelude.{◌≡◌, ◌<◌, ◌↔◌, ◌++◌, ◌∷◌, [], List, ℕ, length, IsTrue, IfOk, OnOk, Contains, All};
+ghost use Rattle.std.specs.List.{filter};
+ghost use Rattle.map_theory.specs.Maps.{HasDart, IsSimpleMap, list_of};
+ghost use Rattle.half_edges.specs.Map.{IsHalfMap};
+ghost use Rattle.rect_class.specs.Upper.{has_degree as the_test, AreUpperRows};
+
+use half_edges::{HalfMap, Rotations, VertexId};
+use std::alloc::{AllocError, Global};
+
+// Whether a vertex has this many neighbours, or more.
+fn has_degree(lists: &Rotations, degree: usize, u: u16) -> bool
+    requires { u < length lists.now }
+    ensures { result ≡ the_test lists.now degree u }
+{
+    degree <= lists.list(usize::from(u)).len()
+}
+
+// Appends a vertex to the last row, if it has this many neighbours, or more.
+fn append_upper(
+    rows: &mut Rotations,
+    lists: &Rotations,
+    degree: usize,
+    u: u16,
+) -> Result<(), AllocError>
+    requires some_row { 0 < length rows.old }
+    requires vertex { u < length lists.now }
+    ensures { IfOk result (λ _. (before : List (List ℕ)) (last : List ℕ) → rows.old ≡ before ++ last ∷ [] → rows.new ≡ before ++ (last ++ filter (the_test lists.now degree) (u ∷ [])) ∷ []) }
+{
+    if has_degree(lists, degree, u) {
+        rows.append(u)
+    } else {
+        Ok(())
+    }
+}
+
+// Appends the row of a vertex with these neighbours.
+fn push_upper(rows: &mut Rotations, lists: &Rotations, us: &[u16]) -> Result<(), AllocError>
+    requires { All (λ u. u < length lists.now) us.now }
+    ensures { IfOk result (λ _. rows.new ≡ rows.old ++ filter (the_test lists.now (length us.now)) us.now ∷ []) }
+{
+    rows.open()?;
+    for u in us {
+        append_upper(rows, lists, us.len(), *u)?;
+    }
+    Ok(())
+}
+
+/// For each vertex of a simple map its neighbours of no lower degree. It fails only for want of memory.
+pub(crate) fn upper_rows(alloc: Global, lists: &Rotations) -> Result<Rotations, AllocError>
+    requires { IsSimpleMap lists.now }
+    ensures { IfOk result (AreUpperRows lists.now) }
+{
+    let mut rows = Rotations::with_capacity(alloc, lists.total(), lists.len())?;
+    for v in 0..lists.len() {
+        push_upper(&mut rows, lists, lists.list(v))?;
+    }
+    Ok(rows)
+}
+
+// Whether a row has a vertex.
+fn is_in_row(row: &[u16], v: u16) -> bool
+    ensures { IsTrue result ↔ Contains row.now v }
+{
+    row.contains(&v)
+}
+
+// Whether the row of `u` has `v`.
+fn has_upper(rows: &Rotations, u: VertexId, v: VertexId) -> bool
+    requires { u.0 < length rows.now }
+    ensures { IsTrue result ↔ Contains (list_of rows.now u.0) v.0 }
+{
+    is_in_row(rows.list(usize::from(u.0)), v.0)
+}
+
+/// Whether two vertices are adjacent, by the row of the one of lower degree.
+pub(crate) fn are_adjacent(map: &HalfMap, rows: &Rotations, u: VertexId, v: VertexId) -> bool
+    requires known { IsHalfMap map.now }
+    requires rows { AreUpperRows map.now.lists rows.now }
+    requires u { u.0 < length map.now.lists }
+    requires v { v.0 < length map.now.lists }
+    ensures { IsTrue result ↔ HasDart map.now.lists u.0 v.0 }
+{
+    if map.degree(u) <= map.degree(v) {
+        has_upper(rows, u, v)
+    } else {
+        has_upper(rows, v, u)
+    }
+}
