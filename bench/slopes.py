@@ -60,6 +60,26 @@ def late_crossing(figure):
     return "\n".join(lines).encode()
 
 
+def with_sides(figure, change):
+    """A figure of rectangles in which the sides of the last three, as texts, are changed."""
+    lines = figure.decode().split("\n")
+    at = [i for i, line in enumerate(lines) if re.match(r"\d+ x ", line)][-3:]
+    sides = [re.search(r" x (\S+) (\S+) y (\S+) (\S+):", lines[i]).groups() for i in at]
+    for i, new in zip(at, change(*sides)):
+        lines[i] = re.sub(r" x .*:", " x {} {} y {} {}:".format(*new), lines[i])
+    return "\n".join(lines).encode()
+
+
+def late_contact(figure):
+    """A column whose last rectangles but one are exchanged."""
+    return with_sides(figure, lambda a, b, c: (b, a, c))
+
+
+def late_overlap(figure):
+    """A column whose last rectangle is as high as the last two together."""
+    return with_sides(figure, lambda a, b, c: (a, b, c[:3] + b[3:]))
+
+
 def row(name, job, costs):
     least, said = None, []
     for value in costs:
@@ -100,7 +120,10 @@ def limits():
     """(what, million instructions, the most that it should take)"""
     one = lambda make: count.record(make(4095))
     yield "verify: bars of 4,095 vertices", cost("verify", answer("bars", one(families.stacked))), 40
-    yield "verify: a column of 4,095 rectangles", cost("verify", answer("rect", one(families.column))), 40
+    tiles = answer("rect", one(families.column))
+    yield "verify: a column of 4,095 rectangles", cost("verify", tiles), 40
+    yield "verify: a column of 4,095 rectangles with a late wrong contact", cost("verify", late_contact(tiles)), 40
+    yield "verify: a column of 4,095 rectangles with a late overlap", cost("verify", late_overlap(tiles)), 40
     drawn = answer("shift", one(families.stacked))
     yield "verify: a drawing of 4,095 vertices with one late crossing", cost("verify", late_crossing(drawn)), 300
     yield "verify: a convex double wheel of 4,095", cost("verify", answer("convex", one(families.double_wheel))), 30
