@@ -1,6 +1,6 @@
 use Rattle.std.proofs.Common.{ℕ, ◌≡◌, ◌+◌, ◌<◌, ◌≤◌, length, slice_index}
 use Rattle.rect_check.specs.Loops.{AreKept, DoesFollow}
-use Rattle.rect_check.proofs.sweep.follows_rows.Given as goal
+use Rattle.rect_check.proofs.sweep.follows_each.Given as goal
 
 abbrev pub invariant-loop-y : goal.invariant-loop-y
 invariant-loop-y l = record {

@@ -1,7 +1,7 @@
 use Rattle.std.proofs.Common.{ℕ, ◌≡◌, get_or, ap, ◌∙◌, inl, inr, arith}
 use Rattle.std.proofs.lemmas.Bool.{cases_lt, OnTrue_at}
 use Rattle.rect_check.proofs.SweepLemmas.{DoesFollow-kept}
-use Rattle.rect_check.proofs.sweep.follows_rows.Goals as goal
+use Rattle.rect_check.proofs.sweep.follows_each.Goals as goal
 
 pub loop-y-preserved : goal.loop-y-preserved
 loop-y-preserved c =
