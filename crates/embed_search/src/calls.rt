@@ -1,15 +1,13 @@
-//! The two calls.
+//! The calls.
 ghost use Rattle.std.specs.Prelude.{◌≡◌, length, IfOk, IfSome};
 
-use crate::conflicts::agrees;
-use crate::edges::{Edges, first_edges, some_edges};
-use crate::fronts::{Choice, choose};
+use crate::edges::Edges;
+use crate::kernel::Kernel;
 use crate::links::Links;
-use crate::nesting::{depth_end, sort_leaving};
-use crate::orient::orient_all;
-use crate::parts::Parts;
-use crate::placing::placed_lists;
+use crate::odd::OddRing;
+use crate::placing::{Places, lists_of};
 use crate::search::Search;
+use crate::shrink::{passes, shrink};
 use crate::signs::settle_all;
 use crate::trace::traced;
 use graph6_text::Graph;
@@ -17,50 +15,114 @@ use kuratowski::Witness;
 use map_lists::Rotations;
 use std::alloc::{AllocError, Global};
 
-// Links all edges.
-fn link_all(links: &mut Links, edges: &Edges) {
-    links.clear();
-    for edge in 0..edges.count {
-        links.put_edge(edges, edge);
-    }
+/// What the searches work in, for one graph after another.
+#[derive(Drop)]
+pub struct Tables {
+    edges: Edges,
+    links: Links,
+    search: Search,
+    places: Places,
+    ring: OddRing,
+    kernel: Kernel,
 }
 
-// The rotation lists of a graph with these edges, or none after a conflict.
-fn lists_by_sides(alloc: Global, edges: &Edges, n: u16) -> Result<Option<Rotations>, AllocError>
-    ensures { IfOk result (λ found. IfSome found (λ lists. length lists ≡ n)) }
-{
-    let mut links = Links::new(edges);
-    let mut search = Search::new();
-    link_all(&mut links, edges);
-    orient_all(&links, &mut search);
-    let end = depth_end(links.vertices);
-    sort_leaving(&links, &mut search, end);
-    if !agrees(&links, &mut search) {
-        return Ok(None);
+impl Tables {
+    /// Tables before the first graph. They take no memory of an allocator.
+    pub fn new() -> Tables {
+        Tables {
+            edges: Edges::new(),
+            links: Links::new(),
+            search: Search::new(),
+            places: Places::new(),
+            ring: OddRing::new(),
+            kernel: Kernel::new(),
+        }
     }
-    settle_all(&links, &mut search);
-    sort_leaving(&links, &mut search, end.wrapping_add(end));
-    let lists = placed_lists(alloc, &mut links, &mut search, n)?;
-    Ok(Some(lists))
+
+    // Links all edges.
+    fn link_all(&mut self) {
+        self.links.begin(&self.edges);
+        for edge in 0..self.edges.count {
+            self.links.put_edge(&self.edges, edge);
+        }
+    }
+
+    // Whether the edges are planar; else the tables show where a search of them met its conflict.
+    fn passes(&mut self) -> bool {
+        self.links.begin_chains(&self.edges);
+        for edge in 0..self.edges.count {
+            self.links.chain_edge(&self.edges, edge);
+        }
+        self.search.root = 0;
+        passes(&self.links, &mut self.search)
+    }
+
+    // Leaves edges alone that are a subdivision of K5 or K3,3, after a conflict.
+    fn shrink(&mut self) {
+        self.ring.mark_conflict(&self.links, &self.search);
+        self.kernel.load(&self.edges, &self.ring.marks);
+        self.kernel.keep_marked(&mut self.links);
+        shrink(
+            &mut self.kernel,
+            &mut self.links,
+            &mut self.search,
+            &mut self.ring,
+        );
+        self.kernel.link_paths(&mut self.links, &self.edges);
+    }
+
+    /// Rotation lists for a graph, or none where it seems to be nonplanar. It fails only for want of memory.
+    pub fn planar_lists(
+        &mut self,
+        alloc: Global,
+        graph: &Graph,
+    ) -> Result<Option<Rotations>, AllocError>
+        ensures { IfOk result (λ found. IfSome found (λ lists. length lists ≡ graph.now.n)) }
+    {
+        self.edges.read(graph);
+        if self.edges.are_many() || !self.passes() {
+            return Ok(None);
+        }
+        settle_all(&self.links, &mut self.search);
+        self.places.place_all(&self.links, &mut self.search);
+        let lists = lists_of(
+            alloc,
+            &self.links,
+            &self.search,
+            &mut self.places,
+            graph.n(),
+        )?;
+        Ok(Some(lists))
+    }
+
+    /// A witness that the graph whose lists were asked for last is nonplanar, or none where that is not seen to be. It
+    /// fails only for want of memory.
+    pub fn witness(&mut self, alloc: Global) -> Result<Option<Witness>, AllocError> {
+        if self.edges.are_of_k5() {
+            self.link_all();
+        } else if self.edges.are_many() && self.passes() {
+            return Ok(None);
+        } else {
+            self.shrink();
+        }
+        traced(alloc, &self.links)
+    }
 }
 
 /// Rotation lists for a graph, or none where it seems to be nonplanar. It fails only for want of memory.
 pub fn planar_lists(alloc: Global, graph: &Graph) -> Result<Option<Rotations>, AllocError>
     ensures { IfOk result (λ found. IfSome found (λ lists. length lists ≡ graph.now.n)) }
 {
-    let edges = some_edges(graph);
-    if edges.are_many() {
-        return Ok(None);
-    }
-    lists_by_sides(alloc, &edges, graph.n())
+    Tables::new().planar_lists(alloc, graph)
 }
 
 /// A witness that a graph is nonplanar, or none where that is not seen to be. It fails only for want of
 /// memory.
 pub fn find_witness(alloc: Global, graph: &Graph) -> Result<Option<Witness>, AllocError> {
-    let edges = first_edges(graph);
-    let mut parts = Parts::new(&edges);
-    let mut choice = Choice::new();
-    choose(&edges, &mut parts, &mut choice);
-    traced(alloc, &edges, &mut parts.links, &choice)
+    let mut tables = Tables::new();
+    tables.edges.read(graph);
+    if tables.passes() {
+        return Ok(None);
+    }
+    tables.witness(alloc)
 }

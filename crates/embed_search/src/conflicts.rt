@@ -109,6 +109,20 @@ impl Search {
         }
     }
 
+    // Notes that two return edges along a dart are on one side, if there are two.
+    #[inline(always)]
+    fn note_alike(&mut self, one: u32, other: u32, dart: u32) {
+        if one != NONE {
+            self.ties.push(one, other, dart, 0);
+        }
+    }
+
+    // Notes the return edges at which a conflict shows.
+    fn note_odd(&mut self, one: u32, meeting: u32) {
+        self.odd = one;
+        self.meeting = meeting;
+    }
+
     // One interval above another, as one.
     #[inline(always)]
     fn joined(&mut self, above: Interval, below: Interval) -> Interval {
@@ -137,9 +151,11 @@ impl Search {
                 popped.swapped()
             };
             if !pair.left.is_empty() {
+                self.note_odd(pair.left.high, NONE);
                 return None;
             }
             if self.lowpt.get(pair.right.low) > self.lowpt.get(parent) {
+                self.note_alike(right.high, pair.right.high, dart);
                 right = self.joined(right, pair.right);
             } else {
                 self.reference
@@ -154,7 +170,8 @@ impl Search {
 
     // A pair of those that return along a dart on the right, and those before it that conflict with them on
     // the left.
-    fn with_conflicts(&mut self, right: Interval, low: u32) -> Option<ConflictPair> {
+    fn with_conflicts(&mut self, right: Interval, dart: u32) -> Option<ConflictPair> {
+        let low = self.lowpt.get(dart);
         let mut pair = ConflictPair { left: EMPTY, right };
         for _ in 0..self.top {
             if !self.top_conflicts(low) {
@@ -167,8 +184,10 @@ impl Search {
                 popped
             };
             if self.conflicts(next.right, low) {
+                self.note_odd(next.left.high, pair.right.high);
                 return None;
             }
+            self.ties.push(next.left.high, pair.right.high, dart, 1);
             pair = ConflictPair {
                 left: self.joined(pair.left, next.left),
                 right: self.joined(pair.right, next.right),
@@ -179,23 +198,73 @@ impl Search {
 
     // Brings what returns along a dart together with what returned along earlier ones. It answers whether
     // that can be.
-    fn constrain(&mut self, dart: u32, parent: u32) -> bool {
-        let low = self.lowpt.get(dart);
-        match self.return_edges_of(dart, parent) {
-            Some(right) => match self.with_conflicts(right, low) {
-                Some(pair) => {
-                    if !pair.left.is_empty() || !pair.right.is_empty() {
-                        self.push_pair(pair);
-                    }
-                    true
+    #[inline(always)]
+    fn meet(&mut self, right: Interval, dart: u32) -> bool {
+        match self.with_conflicts(right, dart) {
+            Some(pair) => {
+                if !pair.left.is_empty() || !pair.right.is_empty() {
+                    self.push_pair(pair);
                 }
-                None => false,
-            },
+                true
+            }
             None => false,
         }
     }
 
-    // The same, where the dart is ended, which leaves a vertex. The first of its darts has no earlier ones.
+    // The same, where what returns along the dart is still in pairs of its own.
+    fn constrain(&mut self, dart: u32, parent: u32) -> bool {
+        match self.return_edges_of(dart, parent) {
+            Some(right) => self.meet(right, dart),
+            None => false,
+        }
+    }
+
+    // The same, of a dart that is a return edge.
+    fn constrain_edge(&mut self, dart: u32, parent: u32) -> bool {
+        if self.lowpt.get(dart) > self.lowpt.get(parent) {
+            return self.meet(
+                Interval {
+                    low: dart,
+                    high: dart,
+                },
+                dart,
+            );
+        }
+        self.reference.set(dart, self.lowpt_edge.get(parent));
+        self.meet(EMPTY, dart)
+    }
+
+    // Notes at which dart of a vertex a conflict showed, if one did.
+    #[inline(always)]
+    fn settled(&mut self, fits: bool, dart: u32, vertex: u32) -> bool {
+        if !fits {
+            self.failed = vertex;
+            self.failed_dart = dart;
+        }
+        fits
+    }
+
+    // Takes a return edge of a vertex. The first of its darts has no earlier ones.
+    #[inline(always)]
+    fn take_edge(&mut self, dart: u32, vertex: u32) -> bool {
+        let parent = self.parent.get(vertex);
+        self.lowpt_edge.set(dart, dart);
+        if self.leaving.get(vertex) == dart {
+            self.lowpt_edge.set(parent, dart);
+            self.push_pair(ConflictPair {
+                left: EMPTY,
+                right: Interval {
+                    low: dart,
+                    high: dart,
+                },
+            });
+            return true;
+        }
+        let fits = self.constrain_edge(dart, parent);
+        self.settled(fits, dart, vertex)
+    }
+
+    // The same of a dart along which the search came back.
     #[inline(always)]
     fn integrate(&mut self, dart: u32, vertex: u32) -> bool {
         if self.lowpt.get(dart) >= self.height.get(vertex) {
@@ -207,10 +276,7 @@ impl Search {
             return true;
         }
         let fits = self.constrain(dart, parent);
-        if !fits {
-            self.failed = vertex;
-        }
-        fits
+        self.settled(fits, dart, vertex)
     }
 
     // An interval without the highest darts, which lead to a vertex. Emptied, its lowest dart goes to the left
@@ -283,22 +349,12 @@ impl Search {
 // Looks at an oriented dart of a vertex. It answers the vertex to go on at, or none after a conflict.
 #[inline(always)]
 fn look(links: &Links, search: &mut Search, vertex: u32, dart: u32) -> Option<u32> {
-    search.stack_bottom.set(dart, search.top);
-    search.note_look(dart);
     let head = links.head.get(dart);
     if search.parent.get(head) == dart {
-        search.entry.set(head, search.looks);
+        search.stack_bottom.set(dart, search.top);
         return Some(head);
     }
-    search.lowpt_edge.set(dart, dart);
-    search.push_pair(ConflictPair {
-        left: EMPTY,
-        right: Interval {
-            low: dart,
-            high: dart,
-        },
-    });
-    if search.integrate(dart, vertex) {
+    if search.take_edge(dart, vertex) {
         Some(vertex)
     } else {
         None
@@ -333,7 +389,6 @@ fn step(links: &Links, search: &mut Search, vertex: u32, dart: u32) -> Option<u3
 // Goes on from a root until all that it reaches is done, or a conflict shows.
 fn agrees_from(links: &Links, search: &mut Search, root: u32) -> bool {
     search.top = 0;
-    search.entry.set(root, search.looks);
     let mut vertex = root;
     for _ in 0..steps(links.vertices, links.darts) {
         let dart = search.cursor.get(vertex);
@@ -355,11 +410,10 @@ fn reset_cursors(links: &Links, search: &mut Search) {
     }
 }
 
-/// Whether the oriented edges can be put on two sides without a conflict. Where they can't, the edges looked at
-/// since the search came to the vertex of the conflict, and those of the way there, are nonplanar.
+/// Whether the oriented edges can be put on two sides without a conflict.
 pub fn agrees(links: &Links, search: &mut Search) -> bool {
     reset_cursors(links, search);
-    search.begin_looking();
+    search.ties.count = 0;
     for root in 0..links.vertices {
         let is_root = links.first.get(root) != NONE && search.parent.get(root) == NONE;
         if is_root && !agrees_from(links, search, root) {

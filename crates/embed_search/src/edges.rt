@@ -16,11 +16,11 @@ pub struct Edges {
 }
 
 impl Edges {
-    /// No edges, on so many vertices.
+    /// No edges.
     #[inline(always)]
-    pub fn new(vertices: u32) -> Edges {
+    pub fn new() -> Edges {
         Edges {
-            vertices,
+            vertices: 0,
             count: 0,
             one: ByEdge::new(),
             other: ByEdge::new(),
@@ -32,59 +32,95 @@ impl Edges {
         most_edges(self.vertices) < self.count
     }
 
+    /// Appends an edge.
     #[inline(always)]
-    fn push(&mut self, u: u32, v: u32) {
+    pub fn push(&mut self, u: u32, v: u32) {
         self.one.set(self.count, u);
         self.other.set(self.count, v);
         self.count = plus(self.count, 1);
     }
 
-    // Appends the edges of one byte, whose first pair is `u` below `v`.
-    #[inline(always)]
-    fn push_byte(&mut self, bits: u32, u: u32, v: u32) {
-        let mut bits = bits;
-        for _ in 0..6u32 {
-            if bits == 0 {
-                return;
-            }
-            let k = minus(bits.leading_zeros(), 26);
-            let pair = self.pair_on(u, v, k);
-            self.push(pair.0, pair.1);
-            bits = bits & (31 >> (k & 7));
+    /// Takes the edges of a graph; of those that are too many for a plane map, the first ones, one too many.
+    pub fn read(&mut self, graph: &Graph) {
+        self.vertices = u32::from(graph.n());
+        self.count = 0;
+        self.push_all(graph.body());
+        if self.are_many() {
+            self.count = plus(most_edges(self.vertices), 1);
         }
+    }
+
+    /// Whether the graph is K5, if it has no loops and no parallels.
+    pub fn are_of_k5(&self) -> bool {
+        self.vertices == 5 && self.count == 10
     }
 
     // Appends all edges, by the greater end and then by the lesser, until there are too many.
     fn push_all(&mut self, bits: &[u8]) {
         let most = most_edges(self.vertices);
-        let mut pair = (0u32, 1u32);
-        let mut ahead = 0u32;
+        let mut place = Place {
+            u: 0,
+            v: 1,
+            ahead: 0,
+        };
         for byte in bits {
             if *byte > 63 {
-                pair = self.pair_on(pair.0, pair.1, ahead);
-                ahead = 0;
-                self.push_byte(u32::from(*byte - 63), pair.0, pair.1);
+                place = self.push_byte(u32::from(*byte - 63), place);
                 if self.count > most {
                     return;
                 }
             }
-            ahead = plus(ahead, 6);
+            place.ahead = plus(place.ahead, 6);
         }
     }
 
-    // The pair that stands so many places behind another.
+    // Appends the edges of one byte. It answers where the last one of them stands.
     #[inline(always)]
-    fn pair_on(&self, u: u32, v: u32, ahead: u32) -> (u32, u32) {
-        let mut u = plus(u, ahead);
-        let mut v = v;
-        for _ in 0..self.vertices {
+    fn push_byte(&mut self, bits: u32, place: Place) -> Place {
+        let mut bits = bits;
+        let mut place = place;
+        for _ in 0..6u32 {
+            if bits == 0 {
+                break;
+            }
+            let k = minus(bits.leading_zeros(), 26);
+            place = place.moved(k, self.vertices);
+            self.push(place.u, place.v);
+            bits = bits & (31 >> (k & 7));
+        }
+        place
+    }
+}
+
+// A pair of vertices among all pairs.
+#[derive(Clone, Copy)]
+struct Place {
+    // the lesser one
+    u: u32,
+    // the greater one
+    v: u32,
+    // how many pairs behind it the first pair of a byte stands, which may be less than none
+    ahead: u32,
+}
+
+impl Place {
+    // Pair number k of the byte.
+    #[inline(always)]
+    fn moved(self, k: u32, vertices: u32) -> Place {
+        let mut u = plus(self.u, plus(self.ahead, k));
+        let mut v = self.v;
+        for _ in 0..vertices {
             if u < v {
                 break;
             }
             u = minus(u, v);
             v = plus(v, 1);
         }
-        (u, v)
+        Place {
+            u,
+            v,
+            ahead: minus(0, k),
+        }
     }
 }
 
@@ -95,20 +131,4 @@ pub fn most_edges(vertices: u32) -> u32 {
     } else {
         minus(vertices.wrapping_mul(3), 6)
     }
-}
-
-/// The edges of a graph; of those that are too many for a plane map, only some, but too many.
-pub fn some_edges(graph: &Graph) -> Edges {
-    let mut edges = Edges::new(u32::from(graph.n()));
-    edges.push_all(graph.body());
-    edges
-}
-
-/// The edges of a graph; of those that are too many for a plane map, the first ones, one too many.
-pub fn first_edges(graph: &Graph) -> Edges {
-    let mut edges = some_edges(graph);
-    if edges.are_many() {
-        edges.count = plus(most_edges(edges.vertices), 1);
-    }
-    edges
 }

@@ -1,5 +1,5 @@
 //! Fast answers for bare graphs: rotation lists by the left-right planarity test (de Fraysseix, Rosenstiehl; as in
-//! Brandes, The left-right planarity test, 2009), and Kuratowski subdivisions by tests on parts.
+//! Brandes, The left-right planarity test, 2009), and Kuratowski subdivisions by what its conflicts show.
 //!
 //! Nothing is promised of an answer but that it comes: whoever calls checks it.
 #![tactic(auto)]
@@ -7,17 +7,17 @@
 mod calls;
 mod conflicts;
 mod edges;
-mod forest;
-mod fronts;
+mod kernel;
 mod links;
 mod nesting;
+mod odd;
 mod orient;
-mod parts;
 mod placing;
-mod reduce;
 mod row;
 mod search;
+mod shrink;
 mod signs;
+mod ties;
 mod trace;
 
-pub use calls::{find_witness, planar_lists};
+pub use calls::{Tables, find_witness, planar_lists};

@@ -11,7 +11,7 @@ pub struct Links {
     pub darts: u32,
     /// For each vertex the first of its darts.
     pub first: ByVertex,
-    /// For each vertex how many darts it has, which `put_last`, `put_after` and `put_before` leave as it is.
+    /// For each vertex how many darts it has.
     pub degree: ByVertex,
     /// For each dart the next in its list.
     pub next: ByDart,
@@ -22,12 +22,12 @@ pub struct Links {
 }
 
 impl Links {
-    /// Empty lists, for the vertices and edges of a graph.
+    /// Empty lists, of no vertices.
     #[inline(always)]
-    pub fn new(edges: &Edges) -> Links {
+    pub fn new() -> Links {
         Links {
-            vertices: edges.vertices,
-            darts: twice(edges.count),
+            vertices: 0,
+            darts: 0,
             first: ByVertex::new(),
             degree: ByVertex::new(),
             next: ByDart::new(),
@@ -36,8 +36,10 @@ impl Links {
         }
     }
 
-    /// Empties all lists.
-    pub fn clear(&mut self) {
+    /// Empties all lists, for the vertices and edges of a graph.
+    pub fn begin(&mut self, edges: &Edges) {
+        self.vertices = edges.vertices;
+        self.darts = twice(edges.count);
         self.first.fill(NONE);
         self.degree.fill(0);
     }
@@ -58,6 +60,30 @@ impl Links {
         self.prev.set(first, dart);
         self.first.set(vertex, dart);
         self.degree.set(vertex, plus(self.degree.get(vertex), 1));
+    }
+
+    // The same, where no one asks for what is before a dart, and how many there are.
+    #[inline(always)]
+    fn chain_first(&mut self, dart: u32, vertex: u32, head: u32) {
+        self.head.set(dart, head);
+        self.next.set(dart, self.first.get(vertex));
+        self.first.set(vertex, dart);
+    }
+
+    /// Empties all lists, which `chain_edge` is to fill: they can be gone along.
+    pub fn begin_chains(&mut self, edges: &Edges) {
+        self.vertices = edges.vertices;
+        self.darts = twice(edges.count);
+        self.first.fill(NONE);
+    }
+
+    /// Puts both darts of an edge first, in lists that can be gone along.
+    #[inline(always)]
+    pub fn chain_edge(&mut self, edges: &Edges, edge: u32) {
+        let a = edges.one.get(edge);
+        let b = edges.other.get(edge);
+        self.chain_first(twice(edge), a, b);
+        self.chain_first(twice(edge) ^ 1, b, a);
     }
 
     /// Puts both darts of an edge first.
@@ -93,27 +119,6 @@ impl Links {
         let after = self.next.get(old);
         self.join(vertex, before, dart);
         self.join(vertex, dart, after);
-    }
-
-    /// Puts a dart at the end of a list, behind the last one, or NONE where the list is empty.
-    #[inline(always)]
-    pub fn put_last(&mut self, dart: u32, last: u32, vertex: u32) {
-        self.join(vertex, last, dart);
-        self.join(vertex, dart, NONE);
-    }
-
-    /// Puts a dart behind another of its vertex.
-    pub fn put_after(&mut self, dart: u32, place: u32, vertex: u32) {
-        let after = self.next.get(place);
-        self.join(vertex, place, dart);
-        self.join(vertex, dart, after);
-    }
-
-    /// Puts a dart before another of its vertex.
-    pub fn put_before(&mut self, dart: u32, place: u32, vertex: u32) {
-        let before = self.prev.get(place);
-        self.join(vertex, before, dart);
-        self.join(vertex, dart, place);
     }
 
     /// Whether two vertices are joined, by the shorter of their lists.

@@ -91,7 +91,7 @@ fn orient_root(links: &Links, search: &mut Search, root: u32) {
 /// Orients all edges, and puts their darts into buckets by depth.
 pub fn orient_all(links: &Links, search: &mut Search) {
     search.height.fill(NONE);
-    search.bucket.fill(NONE);
+    search.parent.fill(NONE);
     let first = search.root;
     orient_root(links, search, first);
     for root in 0..links.vertices {

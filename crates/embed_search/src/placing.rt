@@ -2,132 +2,157 @@
 ghost use Rattle.std.specs.Prelude.{◌≡◌, length, IfOk};
 
 use crate::links::Links;
-use crate::row::{ByVertex, NONE};
+use crate::row::{ByArc, ByVertex, NONE, plus};
 use crate::search::{Search, steps};
 use map_lists::Rotations;
 use std::alloc::{AllocError, Global};
 
-// Puts the darts that leave a vertex into its list, which is empty.
-fn put_all_leaving(links: &mut Links, search: &Search, vertex: u32) {
-    let mut last = NONE;
-    let mut dart = search.leaving.get(vertex);
-    for _ in 0..links.darts {
-        if dart == NONE {
-            return;
+/// Where the twins of return edges stand: next to the dart along which the search came back by them.
+#[derive(Drop)]
+pub struct Places {
+    // for each vertex the one to which the search went from it
+    gone: ByVertex,
+    // for each vertex the first return edge whose twin is left of the dart to it
+    left: ByVertex,
+    // for each vertex the first one whose twin is right of that dart
+    right: ByVertex,
+    // for each return edge the next one there
+    next: ByArc,
+    // the entries of one list
+    list: ByVertex,
+    // how many there are
+    count: u32,
+}
+
+impl Places {
+    /// Nothing.
+    #[inline(always)]
+    pub fn new() -> Places {
+        Places {
+            gone: ByVertex::new(),
+            left: ByVertex::new(),
+            right: ByVertex::new(),
+            next: ByArc::new(),
+            list: ByVertex::new(),
+            count: 0,
         }
-        links.put_last(dart, last, vertex);
-        last = dart;
-        dart = search.chain.get(dart);
     }
-}
 
-// Places the twin of a dart that leads to `head`, where the search went along it or returned by it. It
-// answers the vertex to go on at.
-#[inline(always)]
-fn place_twin(
-    links: &mut Links,
-    search: &Search,
-    left: &mut ByVertex,
-    right: &mut ByVertex,
-    vertex: u32,
-    dart: u32,
-) -> u32 {
-    let head = links.head.get(dart);
-    let twin = dart ^ 1;
-    if search.parent.get(head) == dart {
-        links.put_first(twin, head, vertex);
-        left.set(vertex, dart);
-        right.set(vertex, dart);
-        return head;
+    // Places the twin of a dart that leads to `head`, where the search goes along it or returns by it. It
+    // answers the vertex to go on at.
+    #[inline(always)]
+    fn place_twin(&mut self, search: &Search, head: u32, vertex: u32, dart: u32) -> u32 {
+        if search.parent.get(head) == dart {
+            self.gone.set(vertex, head);
+            return head;
+        }
+        let beside = self.gone.get(head);
+        if search.side.get(dart) == 0 {
+            self.next.set(dart, self.right.get(beside));
+            self.right.set(beside, dart);
+        } else {
+            self.next.set(dart, self.left.get(beside));
+            self.left.set(beside, dart);
+        }
+        vertex
     }
-    if search.side.get(dart) == 0 {
-        links.put_after(twin, right.get(head), head);
-    } else {
-        links.put_before(twin, left.get(head), head);
-        left.set(head, twin);
-    }
-    vertex
-}
 
-// Goes on from a root until all that it reaches is done.
-fn place_from(
-    links: &mut Links,
-    search: &mut Search,
-    left: &mut ByVertex,
-    right: &mut ByVertex,
-    root: u32,
-) {
-    let mut vertex = root;
-    for _ in 0..steps(links.vertices, links.darts) {
-        let dart = search.cursor.get(vertex);
-        if dart == NONE {
-            let parent = search.parent.get(vertex);
-            if parent == NONE {
+    // Goes on from a root until all that it reaches is done.
+    fn place_from(&mut self, links: &Links, search: &mut Search, root: u32) {
+        let mut vertex = root;
+        for _ in 0..steps(links.vertices, links.darts) {
+            let dart = search.cursor.get(vertex);
+            if dart == NONE {
+                let parent = search.parent.get(vertex);
+                if parent == NONE {
+                    return;
+                }
+                vertex = links.tail(parent);
+            } else {
+                search.cursor.set(vertex, search.chain.get(dart));
+                vertex = self.place_twin(search, links.head.get(dart), vertex, dart);
+            }
+        }
+    }
+
+    /// Places all twins.
+    pub fn place_all(&mut self, links: &Links, search: &mut Search) {
+        self.left.fill(NONE);
+        self.right.fill(NONE);
+        for root in 0..links.vertices {
+            if search.parent.get(root) == NONE {
+                self.place_from(links, search, root);
+            }
+        }
+    }
+
+    // Appends an entry.
+    #[inline(always)]
+    fn push(&mut self, vertex: u32) {
+        self.list.set(self.count, vertex);
+        self.count = plus(self.count, 1);
+    }
+
+    // Appends the vertices from which return edges come, from a first one on.
+    #[inline(always)]
+    fn push_tails(&mut self, links: &Links, dart: u32) {
+        let mut dart = dart;
+        for _ in 0..links.darts {
+            if dart == NONE {
                 return;
             }
-            vertex = links.tail(parent);
+            self.push(links.tail(dart));
+            dart = self.next.get(dart);
+        }
+    }
+
+    // Appends a vertex to which a dart leads, and what stands next to it.
+    #[inline(always)]
+    fn push_head(&mut self, links: &Links, search: &Search, dart: u32) {
+        let head = links.head.get(dart);
+        if search.parent.get(head) == dart {
+            let left = self.left.get(head);
+            let right = self.right.get(head);
+            self.push_tails(links, left);
+            self.push(head);
+            self.push_tails(links, right);
         } else {
-            search.cursor.set(vertex, search.chain.get(dart));
-            vertex = place_twin(links, search, left, right, vertex, dart);
+            self.push(head);
+        }
+    }
+
+    // Makes the list of a vertex.
+    fn list_around(&mut self, links: &Links, search: &Search, vertex: u32) {
+        self.count = 0;
+        let parent = search.parent.get(vertex);
+        if parent != NONE {
+            self.push(links.tail(parent));
+        }
+        let mut dart = search.leaving.get(vertex);
+        for _ in 0..links.darts {
+            if dart == NONE {
+                return;
+            }
+            self.push_head(links, search, dart);
+            dart = search.chain.get(dart);
         }
     }
 }
 
-// The vertices to which the darts of a list lead, from its first on.
-fn push_heads(links: &Links, vertex: u32, list: &mut Vec<u16>) -> Result<(), AllocError> {
-    let mut dart = links.first.get(vertex);
-    for _ in 0..links.darts {
-        if dart == NONE {
-            return Ok(());
-        }
-        match list.push((links.head.get(dart) & 0xffff) as u16) {
-            Ok(()) => {}
-            Err(_) => return Err(AllocError),
-        }
-        dart = links.next.get(dart);
-    }
-    Ok(())
-}
-
-// Each vertex's list, as one of rotation lists.
-fn lists_of(alloc: Global, links: &Links, n: u16) -> Result<Rotations, AllocError>
-    ensures { IfOk result (λ lists. length lists ≡ n) }
-{
-    let mut lists = Rotations::new(alloc);
-    let mut list: Vec<u16> = Vec::new(alloc);
-    for vertex in 0..n {
-        list.clear();
-        push_heads(links, u32::from(vertex), &mut list)?;
-        lists.push(&list)?;
-    }
-    Ok(lists)
-}
-
-// Makes the list of each vertex of the darts that leave it.
-fn put_leaving_alone(links: &mut Links, search: &mut Search) {
-    links.clear();
-    for vertex in 0..links.vertices {
-        put_all_leaving(links, search, vertex);
-        search.cursor.set(vertex, search.leaving.get(vertex));
-    }
-}
-
-/// The rotation lists of a graph whose oriented darts have their sides, and are sorted by them.
-pub fn placed_lists(
+/// The rotation lists of a graph whose twins are placed.
+pub fn lists_of(
     alloc: Global,
-    links: &mut Links,
-    search: &mut Search,
+    links: &Links,
+    search: &Search,
+    places: &mut Places,
     n: u16,
 ) -> Result<Rotations, AllocError>
     ensures { IfOk result (λ lists. length lists ≡ n) }
 {
-    put_leaving_alone(links, search);
-    let mut left = ByVertex::new();
-    let mut right = ByVertex::new();
-    for root in 0..links.vertices {
-        if search.parent.get(root) == NONE {
-            place_from(links, search, &mut left, &mut right, root);
-        }
+    let mut lists = Rotations::with_capacity(alloc, links.darts as usize, usize::from(n))?;
+    for vertex in 0..n {
+        places.list_around(links, search, u32::from(vertex));
+        lists.push(places.list.first(places.count))?;
     }
-    lists_of(alloc, links, n)
+    Ok(lists)
 }

@@ -1,6 +1,7 @@
 //! Rows of numbers that are read and written at any place: of a place only the last bits count.
 //!
-//! A graph has at most 255 vertices, and of its edges at most 760 are looked at, so that all places are apart.
+//! A graph has at most 255 vertices, and of its edges at most 760 are looked at, so that all places are apart. What a
+//! row has of an earlier graph stays in it, so that no more is written than what a graph needs.
 ghost use Rattle.std.specs.Prelude.{◌<◌};
 
 /// What stands for no vertex, no dart and no edge: its cell is none that belongs to one.
@@ -44,6 +45,17 @@ impl<const N: usize> Row<N> {
         requires { 0 < N }
     {
         self.cells[place as usize % N] = (number & 0xffff) as u16;
+    }
+
+    /// The first of its numbers, so many of them, or all.
+    #[inline(always)]
+    pub fn first(&self, count: u32) -> &[u16] {
+        let count = count as usize;
+        if count < N {
+            &self.cells[..count]
+        } else {
+            &self.cells
+        }
     }
 
     /// Writes one number everywhere.

@@ -1,6 +1,4 @@
 //! Branches and paths of a subdivision.
-use crate::edges::Edges;
-use crate::fronts::Choice;
 use crate::links::Links;
 use crate::row::{ByVertex, NONE, plus};
 use kuratowski::{Kind, Witness};
@@ -10,14 +8,6 @@ use std::alloc::{AllocError, Global};
 // A vertex by its number.
 fn vertex_id(vertex: u32) -> VertexId {
     VertexId((vertex & 0xffff) as u16)
-}
-
-// Puts the chosen edges into the lists.
-fn link_chosen(edges: &Edges, links: &mut Links, choice: &Choice) {
-    links.clear();
-    for i in 0..choice.count {
-        links.put_edge(edges, choice.list.get(i));
-    }
 }
 
 // The vertices of a degree above two. It answers how many there are.
@@ -67,32 +57,49 @@ fn dart_between(links: &Links, a: u32, b: u32) -> u32 {
     NONE
 }
 
-// The path that begins with a dart.
-fn path_of(alloc: Global, links: &Links, dart: u32) -> Result<Vec<VertexId>, AllocError> {
-    let mut path: Vec<VertexId> = Vec::new(alloc);
-    match path.push(vertex_id(links.tail(dart))) {
-        Ok(()) => {}
-        Err(_) => return Err(AllocError),
+// The vertices of a path.
+#[derive(Drop)]
+struct Way {
+    cells: [VertexId; 256],
+    count: usize,
+}
+
+impl Way {
+    #[inline(always)]
+    fn push(&mut self, vertex: u32) {
+        self.cells[self.count % 256] = vertex_id(vertex);
+        self.count = self.count % 256 + 1;
     }
-    let mut dart = dart;
-    for _ in 0..links.vertices {
-        let head = links.head.get(dart);
-        match path.push(vertex_id(head)) {
-            Ok(()) => {}
-            Err(_) => return Err(AllocError),
+
+    #[inline(always)]
+    fn vertices(&self) -> &[VertexId] {
+        if self.count < 256 {
+            &self.cells[..self.count]
+        } else {
+            &self.cells
         }
-        if links.degree.get(head) != 2 {
-            break;
-        }
-        dart = dart_on(links, dart);
     }
-    Ok(path)
+
+    // The path that begins with a dart.
+    fn follow(&mut self, links: &Links, dart: u32) {
+        self.count = 0;
+        self.push(links.tail(dart));
+        let mut dart = dart;
+        for _ in 0..links.vertices {
+            let head = links.head.get(dart);
+            self.push(head);
+            if links.degree.get(head) != 2 {
+                return;
+            }
+            dart = dart_on(links, dart);
+        }
+    }
 }
 
 // Appends the path between two branches. It answers whether there is one.
 fn push_path(
-    alloc: Global,
     links: &Links,
+    way: &mut Way,
     paths: &mut PathList,
     a: u32,
     b: u32,
@@ -101,16 +108,16 @@ fn push_path(
     if dart == NONE {
         return Ok(false);
     }
-    let path = path_of(alloc, links, dart)?;
-    paths.push(&path)?;
+    way.follow(links, dart);
+    paths.push(way.vertices())?;
     Ok(true)
 }
 
 // Appends the paths between a branch and those from one place on and before another. It answers whether all
 // are there.
 fn push_paths_from(
-    alloc: Global,
     links: &Links,
+    way: &mut Way,
     paths: &mut PathList,
     branch: &ByVertex,
     i: u32,
@@ -118,7 +125,7 @@ fn push_paths_from(
     end: u32,
 ) -> Result<bool, AllocError> {
     for j in from..end {
-        if !push_path(alloc, links, paths, branch.get(i), branch.get(j))? {
+        if !push_path(links, way, paths, branch.get(i), branch.get(j))? {
             return Ok(false);
         }
     }
@@ -132,7 +139,11 @@ fn paths_of(
     branch: &ByVertex,
     kind: Kind,
 ) -> Result<Option<PathList>, AllocError> {
-    let mut paths = PathList::new(alloc);
+    let mut way = Way {
+        cells: [VertexId(0); 256],
+        count: 0,
+    };
+    let mut paths = PathList::with_capacity(alloc, plus(links.vertices, 20) as usize, 10)?;
     let (starts, end) = match kind {
         Kind::K5 => (4u32, 5u32),
         Kind::K33 => (3u32, 6u32),
@@ -142,7 +153,7 @@ fn paths_of(
             Kind::K5 => i + 1,
             Kind::K33 => 3,
         };
-        if !push_paths_from(alloc, links, &mut paths, branch, i, from, end)? {
+        if !push_paths_from(links, &mut way, &mut paths, branch, i, from, end)? {
             return Ok(None);
         }
     }
@@ -196,14 +207,8 @@ fn witness_of(
     }
 }
 
-/// The witness that the chosen edges are, or none where they are no subdivision of K5 or K3,3.
-pub fn traced(
-    alloc: Global,
-    edges: &Edges,
-    links: &mut Links,
-    choice: &Choice,
-) -> Result<Option<Witness>, AllocError> {
-    link_chosen(edges, links, choice);
+/// The witness that the linked edges are, or none where they are no subdivision of K5 or K3,3.
+pub fn traced(alloc: Global, links: &Links) -> Result<Option<Witness>, AllocError> {
     let mut branch = ByVertex::new();
     let mut sorted = ByVertex::new();
     let count = find_branches(links, &mut branch);

@@ -1,0 +1,300 @@
+//! A nonplanar part of a graph, with one edge for each of its paths.
+use crate::edges::Edges;
+use crate::links::Links;
+use crate::odd::{BEGINS_BELOW, ENDS_ABOVE, IN_PART, RETURNS};
+use crate::row::{ByDart, ByEdge, ByVertex, NONE, minus, plus, twice};
+
+/// The part, and what its reduction works in. Its vertices are numbered anew.
+#[derive(Drop)]
+pub struct Kernel {
+    /// Its edges.
+    pub edges: Edges,
+    /// For each edge whether the others are planar, as 1 or 0.
+    pub needed: ByEdge,
+    // for each edge its marks, those of all edges of its path
+    marks: ByEdge,
+    // for each edge one of those of its path
+    path: ByEdge,
+    // for each edge of the graph the next one of its path, in a ring
+    ring: ByEdge,
+    // for each edge the next one of those that have become one, in a ring
+    merged: ByEdge,
+    // for each edge whether it is left, as 0 where not
+    left: ByEdge,
+    // a stack of vertices
+    work: ByDart,
+    // how many vertices are on it
+    waiting: u32,
+    // for each vertex its new number
+    number: ByVertex,
+    // for each vertex how many edges it has
+    degree: ByVertex,
+}
+
+impl Kernel {
+    /// No part.
+    #[inline(always)]
+    pub fn new() -> Kernel {
+        Kernel {
+            edges: Edges::new(),
+            needed: ByEdge::new(),
+            marks: ByEdge::new(),
+            path: ByEdge::new(),
+            ring: ByEdge::new(),
+            merged: ByEdge::new(),
+            left: ByEdge::new(),
+            work: ByDart::new(),
+            waiting: 0,
+            number: ByVertex::new(),
+            degree: ByVertex::new(),
+        }
+    }
+
+    /// Whether the part, of vertices of degree three and more, is K5 or K3,3 if it is nonplanar.
+    pub fn is_least(&self) -> bool {
+        self.edges.count == 9 || self.edges.are_of_k5()
+    }
+
+    // How many edges become one with others, if an edge of this vertex goes.
+    #[inline(always)]
+    fn smoothed_at(&self, vertex: u32) -> u32 {
+        if self.degree.get(vertex) == 3 { 1 } else { 0 }
+    }
+
+    /// Whether the part without an edge has fewer paths than K3,3, so that it is planar.
+    pub fn leaves_few(&self, edge: u32) -> bool {
+        let one = self.smoothed_at(self.edges.one.get(edge));
+        let other = self.smoothed_at(self.edges.other.get(edge));
+        self.edges.count < plus(10, plus(one, other))
+    }
+
+    /// Makes the marked edges of a graph the part.
+    pub fn load(&mut self, edges: &Edges, marks: &ByEdge) {
+        self.edges.vertices = edges.vertices;
+        self.edges.count = 0;
+        for edge in 0..edges.count {
+            let mark = marks.get(edge);
+            if mark != 0 {
+                let place = self.edges.count;
+                self.path.set(place, edge);
+                self.needed.set(place, 0);
+                self.marks.set(place, mark);
+                self.ring.set(edge, edge);
+                self.edges.push(edges.one.get(edge), edges.other.get(edge));
+            }
+        }
+    }
+
+    /// Marks its edges.
+    pub fn mark(&mut self, marks: &ByEdge) {
+        for edge in 0..self.edges.count {
+            self.marks.set(edge, marks.get(edge));
+        }
+    }
+
+    /// Chains the edges but one. A search then goes along those first along which the last one returned, and last along
+    /// those of its tree that join two ways by which it did.
+    pub fn chain_without(&self, links: &mut Links, out: u32) {
+        links.begin_chains(&self.edges);
+        for turn in 0..3u32 {
+            for edge in 0..self.edges.count {
+                if edge != out && turn_of(self.marks.get(edge)) == turn {
+                    links.chain_edge(&self.edges, edge);
+                }
+            }
+        }
+    }
+
+    /// Links all edges of a graph that are in the paths.
+    pub fn link_paths(&self, links: &mut Links, edges: &Edges) {
+        links.begin(edges);
+        for edge in 0..self.edges.count {
+            self.link_path(links, edges, self.path.get(edge));
+        }
+    }
+
+    // Links the edges of a path.
+    fn link_path(&self, links: &mut Links, edges: &Edges, edge: u32) {
+        let mut e = edge;
+        for _ in 0..edges.count {
+            links.put_edge(edges, e);
+            e = self.ring.get(e);
+            if e == edge {
+                return;
+            }
+        }
+    }
+
+    // Links the marked edges.
+    fn link_marked(&mut self, links: &mut Links) {
+        links.begin(&self.edges);
+        for edge in 0..self.edges.count {
+            let mark = self.marks.get(edge);
+            self.left.set(edge, mark);
+            self.merged.set(edge, edge);
+            if mark != 0 {
+                links.put_edge(&self.edges, edge);
+            }
+        }
+    }
+
+    // Makes one path of those of two edges.
+    fn join_paths(&mut self, edge: u32, other: u32) {
+        let needed = self.needed.get(edge) | self.needed.get(other);
+        let mark = self.marks.get(edge) | self.marks.get(other);
+        self.needed.set(edge, needed);
+        self.marks.set(edge, mark);
+        let one = self.path.get(edge);
+        let two = self.path.get(other);
+        let after = self.ring.get(one);
+        self.ring.set(one, self.ring.get(two));
+        self.ring.set(two, after);
+    }
+
+    // Joins the paths of all edges that have become one.
+    fn join_merged(&mut self, edge: u32) {
+        let mut e = self.merged.get(edge);
+        for _ in 0..self.edges.count {
+            if e == edge {
+                return;
+            }
+            self.join_paths(edge, e);
+            e = self.merged.get(e);
+        }
+    }
+
+    // Numbers the vertices that have darts.
+    fn number_vertices(&mut self, links: &Links) {
+        let mut count = 0u32;
+        for vertex in 0..links.vertices {
+            let degree = links.degree.get(vertex);
+            self.number.set(vertex, count);
+            if degree > 0 {
+                self.degree.set(count, degree);
+                count = plus(count, 1);
+            }
+        }
+        self.edges.vertices = count;
+    }
+
+    // Joins the paths of all edges that are left.
+    fn join_all(&mut self) {
+        for edge in 0..self.edges.count {
+            if self.left.get(edge) != 0 {
+                self.join_merged(edge);
+            }
+        }
+    }
+
+    // Appends an edge as it is left.
+    fn push_left(&mut self, links: &Links, edge: u32) {
+        let place = self.edges.count;
+        self.path.set(place, self.path.get(edge));
+        self.needed.set(place, self.needed.get(edge));
+        self.marks.set(place, self.marks.get(edge));
+        let one = self.number.get(links.tail(twice(edge)));
+        let other = self.number.get(links.head.get(twice(edge)));
+        self.edges.push(one, other);
+    }
+
+    /// Keeps the marked edges alone, and makes one edge of each path.
+    pub fn keep_marked(&mut self, links: &mut Links) {
+        let count = self.edges.count;
+        self.link_marked(links);
+        self.reduce(links);
+        self.join_all();
+        self.number_vertices(links);
+        self.edges.count = 0;
+        for edge in 0..count {
+            if self.left.get(edge) != 0 {
+                self.push_left(links, edge);
+            }
+        }
+    }
+
+    // Puts a vertex on the stack, if it has one or two darts.
+    #[inline(always)]
+    fn await_few(&mut self, links: &Links, vertex: u32) {
+        let degree = links.degree.get(vertex);
+        if degree == 1 || degree == 2 {
+            self.work.set(self.waiting, vertex);
+            self.waiting = plus(self.waiting, 1);
+        }
+    }
+
+    // Drops the edge of a dart that leaves a vertex.
+    fn drop_edge(&mut self, links: &mut Links, dart: u32, vertex: u32) {
+        let head = links.head.get(dart);
+        links.take_out(dart, vertex);
+        links.take_out(dart ^ 1, head);
+        self.left.set(dart >> 1, 0);
+        self.await_few(links, head);
+    }
+
+    // Makes one edge of the two edges of a vertex, whose darts these are.
+    fn merge(&mut self, links: &mut Links, vertex: u32, one: u32, other: u32) {
+        let a = links.head.get(one);
+        let b = links.head.get(other);
+        links.head.set(one ^ 1, b);
+        links.put_for(one, other ^ 1, b);
+        links.first.set(vertex, NONE);
+        links.degree.set(vertex, 0);
+        links.head.set(one, a);
+        self.left.set(other >> 1, 0);
+        let after = self.merged.get(one >> 1);
+        self.merged.set(one >> 1, self.merged.get(other >> 1));
+        self.merged.set(other >> 1, after);
+    }
+
+    // Smooths a vertex of two darts, or drops both where their ends are joined.
+    fn smooth(&mut self, links: &mut Links, vertex: u32) {
+        let one = links.first.get(vertex);
+        let other = links.next.get(one);
+        let a = links.head.get(one);
+        let b = links.head.get(other);
+        if links.has(a, b) {
+            self.drop_edge(links, one, vertex);
+            self.drop_edge(links, other, vertex);
+        } else {
+            self.merge(links, vertex, one, other);
+        }
+    }
+
+    #[inline(always)]
+    fn reduce_at(&mut self, links: &mut Links, vertex: u32) {
+        let degree = links.degree.get(vertex);
+        if degree == 1 {
+            let dart = links.first.get(vertex);
+            self.drop_edge(links, dart, vertex);
+        } else if degree == 2 {
+            self.smooth(links, vertex);
+        }
+    }
+
+    // Prunes ends, smooths vertices of degree two, and drops parallels.
+    fn reduce(&mut self, links: &mut Links) {
+        self.waiting = 0;
+        for vertex in 0..links.vertices {
+            self.await_few(links, vertex);
+        }
+        for _ in 0..plus(links.vertices, links.darts) {
+            if self.waiting == 0 {
+                return;
+            }
+            self.waiting = minus(self.waiting, 1);
+            let vertex = self.work.get(self.waiting);
+            self.reduce_at(links, vertex);
+        }
+    }
+}
+
+// In which turn an edge with these marks is linked.
+fn turn_of(mark: u32) -> u32 {
+    if mark & RETURNS == RETURNS {
+        2
+    } else if mark == IN_PART | ENDS_ABOVE | BEGINS_BELOW {
+        0
+    } else {
+        1
+    }
+}

@@ -1,0 +1,266 @@
+//! The edges that show a conflict: return edges each tied to the next, which come back to the first one on the
+//! other side, with what ties them, and the ways along which they return.
+use crate::links::Links;
+use crate::row::{ByArc, ByDart, ByEdge, ByVertex, NONE, plus, twice};
+use crate::search::Search;
+use crate::ties::Ties;
+
+/// The mark of an edge of the part.
+pub const IN_PART: u32 = 1;
+
+/// A mark beside: a return edge ends at the upper end of this edge of the tree.
+pub const ENDS_ABOVE: u32 = 2;
+
+/// A mark beside: a return edge begins at the lower end of this edge of the tree.
+pub const BEGINS_BELOW: u32 = 4;
+
+/// The mark of a return edge of the part.
+pub const RETURNS: u32 = 9;
+
+// What stands for no side.
+const UNSEEN: u32 = 2;
+
+/// What the search among ties works in, and the edges that it marks.
+#[derive(Drop)]
+pub struct OddRing {
+    // for each return edge the first of its ends of ties; end 2k goes along tie k from its one edge, 2k + 1 from the
+    // other
+    first: ByArc,
+    // for each end of a tie the next of its edge
+    next: ByDart,
+    // for each return edge the end of a tie along which it was reached
+    way: ByArc,
+    // for each return edge whether it is on the side of the one searched from, as 0 or 1
+    side: ByArc,
+    // the return edges that were reached, in turn
+    queue: ByEdge,
+    // how many there are
+    reached: u32,
+    // above which height an edge returns that the conflict binds
+    low: u32,
+    // below which height
+    high: u32,
+    // for each vertex the least height to which the way up from it is marked, or none
+    cover: ByVertex,
+    // for each vertex what is marked of the return edges that end at it or leave it
+    ends: ByVertex,
+    /// For each edge how it is marked, or 0.
+    pub marks: ByEdge,
+}
+
+impl OddRing {
+    /// Nothing.
+    #[inline(always)]
+    pub fn new() -> OddRing {
+        OddRing {
+            first: ByArc::new(),
+            next: ByDart::new(),
+            way: ByArc::new(),
+            side: ByArc::new(),
+            queue: ByEdge::new(),
+            reached: 0,
+            low: 0,
+            high: 0,
+            cover: ByVertex::new(),
+            ends: ByVertex::new(),
+            marks: ByEdge::new(),
+        }
+    }
+
+    // Puts one end of a tie into the list of its edge.
+    #[inline(always)]
+    fn put_end(&mut self, end: u32, edge: u32) {
+        self.next.set(end, self.first.get(edge));
+        self.first.set(edge, end);
+    }
+
+    // Lists the ties of each return edge.
+    fn link_ties(&mut self, links: &Links, ties: &Ties) {
+        for edge in 0..links.darts / 2 {
+            self.first.set(twice(edge), NONE);
+            self.marks.set(edge, 0);
+        }
+        for tie in 0..ties.count {
+            self.put_end(twice(tie), ties.one.get(tie));
+            self.put_end(twice(tie) ^ 1, ties.other.get(tie));
+        }
+    }
+
+    // Which return edges the conflict binds: those along its dart, or those along earlier ones that it meets.
+    fn set_bounds(&mut self, search: &Search) {
+        let least = if search.meeting == NONE {
+            search.leaving.get(search.failed)
+        } else {
+            search.failed_dart
+        };
+        self.low = search.lowpt.get(least);
+        self.high = search.height.get(search.failed);
+    }
+
+    // Whether the conflict binds a return edge.
+    #[inline(always)]
+    fn is_bound(&self, search: &Search, edge: u32) -> bool {
+        let height = search.lowpt.get(edge);
+        self.low < height && height < self.high
+    }
+
+    // Reaches a return edge along a tie, if it was not.
+    #[inline(always)]
+    fn reach(&mut self, edge: u32, end: u32, side: u32) {
+        if self.side.get(edge) == UNSEEN {
+            self.side.set(edge, side);
+            self.way.set(edge, end);
+            self.queue.set(self.reached, edge);
+            self.reached = plus(self.reached, 1);
+        }
+    }
+
+    // Reaches all that is tied to a return edge.
+    fn reach_from(&mut self, ties: &Ties, edge: u32) {
+        let side = self.side.get(edge);
+        let mut end = self.first.get(edge);
+        for _ in 0..ties.count {
+            if end == NONE {
+                return;
+            }
+            let tie = end >> 1;
+            let next = far_edge(ties, end);
+            self.reach(next, end, side ^ ties.turn.get(tie));
+            end = self.next.get(end);
+        }
+    }
+
+    // The nearest return edge that the conflict binds and that is on the other side; or none.
+    fn nearest(&mut self, links: &Links, search: &Search, start: u32) -> u32 {
+        for edge in 0..links.darts / 2 {
+            self.side.set(twice(edge), UNSEEN);
+        }
+        self.reached = 0;
+        self.reach(start, NONE, 0);
+        for place in 0..links.darts / 2 {
+            if place >= self.reached {
+                return NONE;
+            }
+            let edge = self.queue.get(place);
+            if self.side.get(edge) == 1 && self.is_bound(search, edge) {
+                return edge;
+            }
+            self.reach_from(&search.ties, edge);
+        }
+        NONE
+    }
+
+    // Marks a return edge, and the way along which it returns.
+    fn mark(&mut self, links: &Links, search: &Search, edge: u32) {
+        let end = links.head.get(edge);
+        let height = search.height.get(end);
+        let mut vertex = links.tail(edge);
+        self.marks.set(edge >> 1, RETURNS);
+        self.ends.set(end, self.ends.get(end) | ENDS_ABOVE);
+        self.ends.set(vertex, self.ends.get(vertex) | BEGINS_BELOW);
+        for _ in 0..links.vertices {
+            if self.cover.get(vertex) <= height || vertex == end {
+                return;
+            }
+            self.cover.set(vertex, height);
+            let parent = search.parent.get(vertex);
+            self.marks.set(parent >> 1, IN_PART);
+            vertex = links.tail(parent);
+        }
+    }
+
+    // Marks at each edge of the ways what of the marked return edges is at its ends.
+    fn mark_ends(&mut self, links: &Links, search: &Search) {
+        for vertex in 0..links.vertices {
+            if self.cover.get(vertex) != NONE {
+                let parent = search.parent.get(vertex);
+                let above = self.ends.get(links.tail(parent)) & ENDS_ABOVE;
+                let below = self.ends.get(vertex) & BEGINS_BELOW;
+                self.marks.set(parent >> 1, IN_PART | above | below);
+            }
+        }
+    }
+
+    // Marks the return edge to the lowpoint of a dart.
+    fn mark_lowest(&mut self, links: &Links, search: &Search, dart: u32) {
+        self.mark(links, search, search.lowpt_edge.get(dart));
+    }
+
+    // Marks that to the lowpoint of the dart of a vertex along which an edge returns.
+    fn mark_branch(&mut self, links: &Links, search: &Search, edge: u32, vertex: u32) {
+        let mut dart = edge;
+        for _ in 0..links.vertices {
+            let tail = links.tail(dart);
+            if tail == vertex {
+                break;
+            }
+            dart = search.parent.get(tail);
+        }
+        self.mark_lowest(links, search, dart);
+    }
+
+    // Marks what makes a tie.
+    fn mark_tie(&mut self, links: &Links, search: &Search, tie: u32) {
+        let one = search.ties.one.get(tie);
+        let dart = search.ties.dart.get(tie);
+        let vertex = links.tail(dart);
+        self.mark(links, search, one);
+        self.mark(links, search, search.ties.other.get(tie));
+        if search.ties.turn.get(tie) == 0 {
+            self.mark_lowest(links, search, search.leaving.get(vertex));
+        } else {
+            self.mark_lowest(links, search, dart);
+            self.mark_branch(links, search, one, vertex);
+        }
+    }
+
+    // Marks what makes the ties along which a return edge was reached.
+    fn mark_ties(&mut self, links: &Links, search: &Search, edge: u32) {
+        let mut edge = edge;
+        for _ in 0..search.ties.count {
+            let end = self.way.get(edge);
+            if end == NONE {
+                return;
+            }
+            self.mark_tie(links, search, end >> 1);
+            edge = far_edge(&search.ties, end ^ 1);
+        }
+    }
+
+    // Marks what binds two return edges to one side.
+    fn mark_bound(&mut self, links: &Links, search: &Search, one: u32, other: u32) {
+        let vertex = search.failed;
+        if search.meeting == NONE {
+            self.mark_lowest(links, search, search.leaving.get(vertex));
+        } else {
+            self.mark(links, search, search.meeting);
+            self.mark_lowest(links, search, search.failed_dart);
+            self.mark_branch(links, search, one, vertex);
+            self.mark_branch(links, search, other, vertex);
+        }
+    }
+
+    /// Marks edges, together nonplanar, that show the conflict of a search.
+    pub fn mark_conflict(&mut self, links: &Links, search: &Search) {
+        self.link_ties(links, &search.ties);
+        self.set_bounds(search);
+        self.cover.fill(NONE);
+        self.ends.fill(0);
+        let one = self.nearest(links, search, search.odd);
+        let other = self.nearest(links, search, one);
+        self.mark(links, search, one);
+        self.mark_ties(links, search, other);
+        self.mark_bound(links, search, one, other);
+        self.mark_ends(links, search);
+    }
+}
+
+// The return edge to which an end of a tie leads.
+#[inline(always)]
+fn far_edge(ties: &Ties, end: u32) -> u32 {
+    if end & 1 == 0 {
+        ties.other.get(end >> 1)
+    } else {
+        ties.one.get(end >> 1)
+    }
+}
