@@ -6,6 +6,7 @@ use crate::kernel::Kernel;
 use crate::links::Links;
 use crate::odd::OddRing;
 use crate::placing::{Places, lists_of};
+use crate::row::NONE;
 use crate::search::Search;
 use crate::shrink::{passes, shrink};
 use crate::signs::settle_all;
@@ -37,6 +38,12 @@ impl Tables {
             ring: OddRing::new(),
             kernel: Kernel::new(),
         }
+    }
+
+    // Takes a graph.
+    fn begin(&mut self, graph: &Graph) {
+        self.edges.read(graph);
+        self.search.failed = NONE;
     }
 
     // Links all edges.
@@ -79,7 +86,7 @@ impl Tables {
     ) -> Result<Option<Rotations>, AllocError>
         ensures { IfOk result (λ found. IfSome found (λ lists. length lists ≡ graph.now.n)) }
     {
-        self.edges.read(graph);
+        self.begin(graph);
         if self.edges.are_many() || !self.passes() {
             return Ok(None);
         }
@@ -100,7 +107,7 @@ impl Tables {
     pub fn witness(&mut self, alloc: Global) -> Result<Option<Witness>, AllocError> {
         if self.edges.are_of_k5() {
             self.link_all();
-        } else if self.edges.are_many() && self.passes() {
+        } else if self.search.failed == NONE && self.passes() {
             return Ok(None);
         } else {
             self.shrink();
@@ -120,9 +127,6 @@ pub fn planar_lists(alloc: Global, graph: &Graph) -> Result<Option<Rotations>, A
 /// memory.
 pub fn find_witness(alloc: Global, graph: &Graph) -> Result<Option<Witness>, AllocError> {
     let mut tables = Tables::new();
-    tables.edges.read(graph);
-    if tables.passes() {
-        return Ok(None);
-    }
+    tables.begin(graph);
     tables.witness(alloc)
 }

@@ -124,8 +124,8 @@ impl Place {
     }
 }
 
-/// How many edges a plane map has at most.
-pub fn most_edges(vertices: u32) -> u32 {
+// How many edges a plane map has at most.
+fn most_edges(vertices: u32) -> u32 {
     if vertices < 3 {
         1
     } else {
