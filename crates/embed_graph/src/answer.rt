@@ -10,7 +10,7 @@ use crate::contracted_embeddings::embed_by_contraction;
 use crate::graph_embeddings::Embedding;
 use crate::marks::has_edges;
 use conn_parts::{CountedMap, plane_map};
-use embed_search::{find_witness, planar_lists};
+use embed_search::Tables;
 use graph6_text::Graph;
 use kuratowski::{Witness, check_witness};
 use map_lists::Rotations;
@@ -51,21 +51,29 @@ fn checked_map(
 }
 
 // The map that the search finds, if it is one.
-pub(crate) fn found_map(alloc: Global, graph: &Graph) -> Result<Option<FoundMap>, AllocError>
+pub(crate) fn found_map(
+    alloc: Global,
+    tables: &mut Tables,
+    graph: &Graph,
+) -> Result<Option<FoundMap>, AllocError>
     requires { 3 ≤ graph.now.n }
     ensures { IfOk result (λ found. IfSome found (IsFoundMap graph.now)) }
 {
-    match planar_lists(alloc, graph)? {
+    match tables.planar_lists(alloc, graph)? {
         Some(lists) => checked_map(alloc, graph, lists),
         None => Ok(None),
     }
 }
 
-// The witness that the search finds, if it is one.
-fn found_witness(alloc: Global, graph: &Graph) -> Result<Option<Witness>, AllocError>
+// The witness that the search finds where it found no map of a graph, if it is one.
+fn found_witness(
+    alloc: Global,
+    tables: &mut Tables,
+    graph: &Graph,
+) -> Result<Option<Witness>, AllocError>
     ensures { IfOk result (λ found. IfSome found (λ w. IsWitness graph.now w.kind w.branch w.paths)) }
 {
-    match find_witness(alloc, graph)? {
+    match tables.witness(alloc)? {
         Some(witness) => {
             if check_witness(graph, &witness).is_yes() {
                 Ok(Some(witness))
@@ -77,12 +85,16 @@ fn found_witness(alloc: Global, graph: &Graph) -> Result<Option<Witness>, AllocE
     }
 }
 
-// A witness, where the search finds one, or the answer by contracted edges.
-pub(crate) fn refuted(alloc: Global, graph: &Graph) -> Result<Embedding, AllocError>
+// A witness, where the search that found no map finds one, or the answer by contracted edges.
+pub(crate) fn refuted(
+    alloc: Global,
+    tables: &mut Tables,
+    graph: &Graph,
+) -> Result<Embedding, AllocError>
     requires { 0 < graph.now.n }
     ensures { IfOk result (IsEmbedding graph.now) }
 {
-    match found_witness(alloc, graph)? {
+    match found_witness(alloc, tables, graph)? {
         Some(witness) => Ok(Embedding::NotPlanar(witness)),
         // no graph is known for which this comes
         None => embed_by_contraction(alloc, graph),
@@ -99,8 +111,9 @@ pub fn embed(alloc: Global, graph: &Graph) -> Result<Embedding, AllocError>
     requires { 3 ≤ graph.now.n }
     ensures { IfOk result (IsEmbedding graph.now) }
 {
-    match found_map(alloc, graph)? {
+    let mut tables = Tables::new();
+    match found_map(alloc, &mut tables, graph)? {
         Some(found) => Ok(Embedding::Map(found.lists)),
-        None => refuted(alloc, graph),
+        None => refuted(alloc, &mut tables, graph),
     }
 }

@@ -7,6 +7,7 @@ ghost use Rattle.embed_graph.specs.Figures.{IsEmbedFigure};
 
 use crate::answer::{FoundMap, found_map, refuted};
 use crate::graph_embeddings::Embedding;
+use embed_search::Tables;
 use graph6_text::Graph;
 use grid_figures::schnyder_figures::{plane_figure, schnyder_figure};
 use kuratowski::Witness;
@@ -55,9 +56,22 @@ pub fn embed_figure(alloc: Global, graph: &Graph) -> Result<EmbedFigure, AllocEr
     requires { 3 ≤ graph.now.n }
     ensures { IfOk result (IsEmbedFigure graph.now) }
 {
-    match found_map(alloc, graph)? {
+    let mut tables = Tables::new();
+    embed_figure_in(alloc, &mut tables, graph)
+}
+
+/// The same, in tables that may have served other graphs before. What they hold says nothing of the answer.
+pub fn embed_figure_in(
+    alloc: Global,
+    tables: &mut Tables,
+    graph: &Graph,
+) -> Result<EmbedFigure, AllocError>
+    requires { 3 ≤ graph.now.n }
+    ensures { IfOk result (IsEmbedFigure graph.now) }
+{
+    match found_map(alloc, tables, graph)? {
         Some(found) => drawn_found(alloc, found),
-        None => match refuted(alloc, graph)? {
+        None => match refuted(alloc, tables, graph)? {
             Embedding::Map(lists) => drawn(alloc, graph, lists),
             Embedding::NotPlanar(witness) => Ok(EmbedFigure::NotPlanar(witness)),
         },

@@ -3,7 +3,7 @@ use Rattle.std.proofs.Common.{Option, subst}
 use Rattle.std.specs.Prelude.{IfSome}
 use Rattle.embed_graph.specs.Found.{IsFoundMap}
 use Rattle.embed_graph.specs.declared.answer.FoundMap.{FoundMap}
-use Rattle.embed_graph.proofs.embed_figures.draw.embed_figure.Goals as goal
+use Rattle.embed_graph.proofs.embed_figures.draw.embed_figure_in.Goals as goal
 
 pub returns-in-Some : goal.returns-in-Some
 returns-in-Some c =
