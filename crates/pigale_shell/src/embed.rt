@@ -9,7 +9,8 @@ ghost use Rattle.pigale_shell.specs.EmbedText.{IsDrawnText, IsRefutedText, IsGra
 use super::answer::refuse;
 use super::form::{line_in, print_grid_in, print_witness_in};
 use super::lines::{end_line, stop_line};
-use embed_graph::embed_figures::{EmbedFigure, embed_figure};
+use embed_graph::Tables;
+use embed_graph::embed_figures::{EmbedFigure, embed_figure_in};
 use figure_text::GridJob;
 use graph6_text::Graph;
 use kuratowski::Witness;
@@ -87,6 +88,7 @@ fn push_figure(
 // Appends the figure of a graph with at least three vertices, which is served.
 fn serve_graph(
     alloc: Global,
+    tables: &mut Tables,
     form: Form,
     number: u32,
     graph: &Graph,
@@ -97,7 +99,7 @@ fn serve_graph(
     ensures served { IfOk result (λ served. served ≡ true) }
     ensures err { OnErr result (out.new.items ≡ out.old.items) }
 {
-    let figure = embed_figure(alloc, graph)?;
+    let figure = embed_figure_in(alloc, tables, graph)?;
     push_figure(alloc, form, number, graph, &figure, out)?;
     Ok(true)
 }
@@ -105,6 +107,7 @@ fn serve_graph(
 // Appends the figure of a graph, or its refusal, and answers whether it was served.
 fn embed_line(
     alloc: Global,
+    tables: &mut Tables,
     form: Form,
     number: u32,
     graph: &Graph,
@@ -118,7 +121,7 @@ fn embed_line(
     if n < 3 {
         refuse(alloc, form, number, Refusal::Small(n), out)
     } else {
-        serve_graph(alloc, form, number, graph, out)
+        serve_graph(alloc, tables, form, number, graph, out)
     }
 }
 
@@ -208,11 +211,12 @@ impl Format for GraphSource {
     }
 }
 
-/// The job `embed`, in a form.
+/// The job `embed`, in a form. What its searches work in lives from graph to graph.
 #[derive(Drop)]
 pub struct EmbedJob {
     alloc: Global,
     form: Form,
+    tables: Tables,
 }
 
 impl EmbedJob {
@@ -220,7 +224,11 @@ impl EmbedJob {
     pub fn new(alloc: Global, form: Form) -> EmbedJob
         ensures { result.form ≡ form }
     {
-        EmbedJob { alloc, form }
+        EmbedJob {
+            alloc,
+            form,
+            tables: Tables::new(),
+        }
     }
 }
 
@@ -239,7 +247,7 @@ impl RecordJob<GraphSource> for EmbedJob {
         given: &Graph,
         out: &mut Vec<u8>,
     ) -> Result<bool, AllocError> {
-        embed_line(self.alloc, self.form, number, given, out)
+        embed_line(self.alloc, &mut self.tables, self.form, number, given, out)
     }
 
     fn last_line(
