@@ -1,5 +1,5 @@
 -- What the search for faulty edges says of columns and of bars in their way.
-use Rattle.std.proofs.Common.{◌≡◌, ◌<◌, Bool, true, ℕ, ℤ, Option, Some, None, refl}
+use Rattle.std.proofs.Common.{ℕ, ℤ, Option, Some, None, refl}
 use Rattle.map_theory.specs.Maps.{HasDart}
 use Rattle.std.specs.Option.{MatchOption}
 use Rattle.map_lists.specs.Lists.{Lists}
@@ -13,7 +13,7 @@ use Rattle.vertex_rounds.proofs.LeastLemmas.{IsLeastPair-alike}
 use Rattle.bar_check.specs.Bars.{column_of}
 use Rattle.bar_check.specs.Faults.{HasBadColumn, GoesThrough}
 use Rattle.bar_check.specs.Verdicts.{NoBadColumn}
-use Rattle.bar_check.specs.Loops.{IsStruckBelow, IsFaulty, IsFaultyFrom, IsFaultyEdge}
+use Rattle.bar_check.specs.Loops.{IsStruckBelow, IsFaultyFrom, IsFaultyEdge}
 use Rattle.bar_check.specs.declared.columns.Kind.{Kind}
 use Rattle.bar_check.specs.declared.columns.Kind.TheVariants.{Misplaced, Blocked}
 
@@ -43,10 +43,6 @@ module _ (lists : Lists) (fig : BarFigure) (a b : ℕ) where
   }
 
 module _ (lists : Lists) (fig : BarFigure) (kind : Kind) (a : ℕ) where
-  -- what decides the fault of an edge upwards decides it of its dart from a
-  pub faulty_from_a : (v b : ℕ) (r : Bool) → v ≡ a → a < b → ((r ≡ true → IsFaulty (length lists) fig kind a b (column_of lists fig a b)) × (IsFaulty (length lists) fig kind a b (column_of lists fig a b) → r ≡ true)) → (r ≡ true → IsFaultyFrom lists fig kind a v b) × (IsFaultyFrom lists fig kind a v b → r ≡ true)
-  faulty_from_a v b r tail less is = (λ t. (tail, less, is.0 t), λ p. is.1 p.2)
-
   -- the least head of such a dart is that of the least edge with a fault
   pub least_faulty_edge : (found : Option VertexId) → MatchOption found ((b : ℕ) → HasDart lists a b → ¬ IsFaultyFrom lists fig kind a a b) (λ (b : VertexId). IsLeast (λ x. HasDart lists a x × IsFaultyFrom lists fig kind a a x) b.0)
       → MatchOption found ((b : ℕ) → ¬ IsFaultyEdge lists fig kind a b) (λ (b : VertexId). IsLeast (IsFaultyEdge lists fig kind a) b.0)

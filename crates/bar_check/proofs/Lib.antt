@@ -7,6 +7,7 @@ mod Cases
 pub mod NumberLemmas
 pub mod NumberCounts
 mod OrderLemmas
+pub mod PassLemmas
 mod TableLemmas
 mod ClearLemmas
 mod HeightLemmas

@@ -1,21 +1,16 @@
 -- The pass that writes the columns of all edges at their darts, list by list.
-use Rattle.std.proofs.Common.{◌≡◌, ◌≢◌, ℕ, suc, ◌+◌, ◌<◌, ◌≤◌, Bool, true, false, cond, ltb, eqb, List, length, get_or, take, set, Contains, length-set, Option, Some, unwrap_or, ℤ, refl, sym, ap, ◌∙◌, subst, inl, inr, ⊎_elim, arith, eq-eqb, ne_eqb}
-use Rattle.std.proofs.Math.Seq.{take-length}
-use Rattle.std.proofs.lemmas.Bool.{cases_eq, cases_lt, cases_order, lt-ltb, le-ltb, true≢false}
-use Rattle.std.proofs.lemmas.List.{get_or-set_same, get_or-set_other}
-use Rattle.std.proofs.lemmas.List.Sums.{count_by_more_yes, count_by_more_no, sum_by-take-le}
+use Rattle.std.proofs.Common.{◌≡◌, ◌≢◌, ℕ, ◌+◌, ◌<◌, ◌≤◌, cond, List, length, get_or, set, Contains, length-set, Option, Some, unwrap_or, ℤ, sym, ap, ◌∙◌, subst, inl, inr, ⊎_elim, arith}
+use Rattle.std.proofs.lemmas.Bool.{cases_eq, cases_order, lt-ltb, le-ltb}
 use Rattle.map_lists.specs.Lists.{Lists}
 use Rattle.map_theory.specs.Maps.{Dart, HasDart, list_of, place_of}
 use Rattle.map_theory.proofs.DartLemmas.{place_of-lt-length, get_or-place_of}
-use Rattle.map_theory.proofs.DartCounts.{sum_below, count_mirrored}
-use Rattle.map_theory.proofs.EntryLemmas.{count_of, count_of-le-one}
 use Rattle.half_edges.specs.Map.{Map, IsHalfMap, IsLive, dart_at}
 use Rattle.pg_plane.specs.declared.figure.BarFigure.{BarFigure}
 use Rattle.vertex_rounds.specs.Rounds.{HasEdge, dart_of}
 use Rattle.vertex_rounds.proofs.DartIds.{dart_of-live, has_dart}
-use Rattle.bar_check.specs.Bars.{number_at, edges_until, edges_before, edge_number, column_of, column_between}
+use Rattle.bar_check.specs.Bars.{number_at, edges_before, edge_number, column_of, column_between}
 use Rattle.bar_check.specs.Tables.{IsDartOf, AreColumns, IsWritten, IsMet, AreFilled}
-use Rattle.bar_check.proofs.NumberLemmas.{above, edges_until-sum}
+use Rattle.bar_check.proofs.PassLemmas.{edge_here, number_is, AreNext-none, AreNext-next, AreNext-put, AreNext-past}
 use Rattle.bar_check.proofs.NumberCounts.{edge_number-lt}
 
 module _ (map : Map) (fig : BarFigure) (h : IsHalfMap map) where
@@ -36,32 +31,10 @@ module _ (map : Map) (fig : BarFigure) (h : IsHalfMap map) where
     at_i : get_or us i 0 ≡ a
     at_i = get_or-place_of a us 0 li
 
-    pub lesser_in : a < length lists
-    lesser_in = h.simple.in_range b a has
-
-    more_here : count_of a (take (i + 1) us) ≡ count_of a (take i us) + 1
-    more_here = count_by_more_yes (λ u. eqb u a) us i 0 li (ap (λ z. eqb z a) at_i ∙ eq-eqb a a refl)
-
-    -- a has not been met before
-    none_before : count_of a (take i us) ≡ 0
-    none_before =
-        let le = take_le us a (i + 1) in
-        omega (arith, more_here, le, count_of-le-one a us (h.simple.no_repeat b has.0))
-      where
-        take_le : (us : List ℕ) (x k : ℕ) → count_of x (take k us) ≤ count_of x us
-        take_le us x k = sum_by-take-le (λ u. cond (eqb u x) 1 0) us k
-
-    edge_here : a < b → HasEdge lists a b
-    edge_here l = (l, h.simple.both_ways b a has)
-
-    number_is : a < b → get_or next a 0 ≡ edge_number lists a b
-    number_is l =
-        let here = w.numbers a lesser_in in
-        let zero_here : cond (ltb a b) (count_of a (take i us)) 0 ≡ 0 = ap (λ t. cond t (count_of a (take i us)) 0) (lt-ltb a b l) ∙ none_before in
-        omega (arith, here, zero_here)
-
     pub number_few : a < b → get_or next a 0 < 4294967295
-    number_few l = let n = edge_number-lt lists h.simple a b (edge_here l) in omega (arith, number_is l, n, h.few_edges)
+    number_few l =
+        let n = edge_number-lt lists h.simple a b (edge_here lists h.simple b i a has.0 li at_i next w.numbers l) in
+        omega (arith, number_is lists h.simple b i a has.0 li at_i next w.numbers l, n, h.few_edges)
 
     -- where c is met next at b, it is a
     met_before : (c d : ℕ) → IsMet lists b (i + 1) c d → HasEdge lists c d → ((c ≡ a) → (d ≡ b) → ⊥) → IsMet lists b i c d
@@ -81,16 +54,7 @@ module _ (map : Map) (fig : BarFigure) (h : IsHalfMap map) where
       pub AreFilled-put : a < b → (d t : ℕ) → dart_at map d ≡ Some (b, a) → dart_at map t ≡ Some (a, b) → next' ≡ set next a (get_or next a 0 + 1) → IsWritten d t (number_at fig.column (get_or next a 0)) columns columns' → AreFilled map fig b (i + 1) next' columns'
       AreFilled-put l d t at_d at_t en put = record {
         vertices = ap length en ∙ (length-set next a (get_or next a 0 + 1) ∙ w.vertices);
-        numbers = λ c lc. ap (λ (z : List ℕ). get_or z c 0) en ∙ elim (cases_eq c a) [
-          | inl s ↦
-              let new = get_or-set_same next a (get_or next a 0 + 1) 0 (omega (arith, lesser_in, w.vertices)) in
-              let now : cond (ltb a b) (count_of a (take (i + 1) us)) 0 ≡ 1 = ap (λ t. cond t (count_of a (take (i + 1) us)) 0) (lt-ltb a b l) ∙ omega (arith, more_here, none_before) in
-              subst (λ z. get_or (set next a (get_or next a 0 + 1)) z 0 ≡ edges_before lists z + edges_until lists z b + cond (ltb z b) (count_of z (take (i + 1) us)) 0) (sym s) (omega (arith, new, number_is l, now))
-          | inr ne ↦
-              let kept = get_or-set_other next a c (get_or next a 0 + 1) 0 ne in
-              let same = count_by_more_no (λ u. eqb u c) us i 0 li (ne_eqb (get_or us i 0) c (λ s. ne (sym (sym at_i ∙ s)))) in
-              kept ∙ (w.numbers c lc ∙ ap (λ z. edges_before lists c + edges_until lists c b + cond (ltb c b) z 0) (sym same))
-        ];
+        numbers = λ c lc. ap (λ (z : List ℕ). get_or z c 0) en ∙ AreNext-put lists h.simple b i a has.0 li at_i next w.numbers w.vertices l c lc;
         known = λ c e x edge met of lx. elim (cases_eq x d) [
           | inl s ↦ (let k = here c e edge (subst (λ z. IsDartOf map z c e) s of) at_d in
               subst (λ z. number_at columns' z ≡ column_of lists fig c e) (sym s) (put.here (subst (λ z. z < length columns') s lx) ∙ value c e k))
@@ -103,7 +67,7 @@ module _ (map : Map) (fig : BarFigure) (h : IsHalfMap map) where
       }
         where
           value : (c e : ℕ) → (c ≡ a) × (e ≡ b) → number_at fig.column (get_or next a 0) ≡ column_of lists fig c e
-          value c e k = ap (λ z. number_at fig.column z) (number_is l ∙ (ap (λ z. edge_number lists z b) (sym k.0) ∙ ap (λ z. edge_number lists c z) (sym k.1)))
+          value c e k = ap (λ z. number_at fig.column z) (number_is lists h.simple b i a has.0 li at_i next w.numbers l ∙ (ap (λ z. edge_number lists z b) (sym k.0) ∙ ap (λ z. edge_number lists c z) (sym k.1)))
 
           both : (p q r s : ℕ) → (let x : Option Dart = Some (p, q) in let y : Option Dart = Some (r, s) in x ≡ y) → (p ≡ r) × (q ≡ s)
           both p q r s e = (ap (λ (o : Option Dart). (unwrap_or o (0, 0)).0) e, ap (λ (o : Option Dart). (unwrap_or o (0, 0)).1) e)
@@ -127,43 +91,19 @@ module _ (map : Map) (fig : BarFigure) (h : IsHalfMap map) where
       pub AreFilled-past : b ≤ a → AreFilled map fig b (i + 1) next columns
       AreFilled-past l = record {
         vertices = w.vertices;
-        numbers = λ c lc. elim (cases_lt c b) [
-          | inl less ↦
-              let same = count_by_more_no (λ u. eqb u c) us i 0 li (ne_eqb (get_or us i 0) c (λ s. absurd (omega (arith, less, l, at_i, s)))) in
-              w.numbers c lc ∙ ap (λ z. edges_before lists c + edges_until lists c b + cond (ltb c b) z 0) (sym same)
-          | inr most ↦ w.numbers c lc ∙ ap (λ z. edges_before lists c + edges_until lists c b + z) (off (ltb c b) (le-ltb c b most) (count_of c (take i us)) (count_of c (take (i + 1) us)))
-        ];
+        numbers = AreNext-past lists h.simple b i a has.0 li at_i next w.numbers l;
         known = λ c e x edge met of lx. w.known c e x edge (met_before c e met edge (λ sc se. absurd (omega (arith, edge.0, sc, se, l)))) of lx;
       }
-        where
-          off : (t : Bool) → t ≡ false → (x z : ℕ) → cond t x 0 ≡ cond t z 0
-          off true e x z = absurd (true≢false e)
-          off false e x z = refl
-
-  nothing : (t : Bool) → cond {A = ℕ} t 0 0 ≡ 0
-  nothing true = refl
-  nothing false = refl
 
   -- the next list
   pub AreFilled-next : (b i : ℕ) (next : List ℕ) (columns : List ℤ) → b < length lists → i ≡ length (list_of lists b) → AreFilled map fig b i next columns → AreFilled map fig (b + 1) 0 next columns
   AreFilled-next b i next columns lb whole w =
-      let us = list_of lists b in
       record {
         vertices = w.vertices;
-        numbers = λ a la.
-            let all = ap (λ k. count_of a (take k us)) whole ∙ ap (count_of a) (take-length us) in
-            let mirrored = count_mirrored lists h.simple b a lb la in
-            let old = edges_until-sum lists a b in
-            let new : edges_until lists a (b + 1) ≡ sum_below (above (list_of lists a) a) b + cond (ltb a b) (count_of b (list_of lists a)) 0 = edges_until-sum lists a (b + 1) ∙ ap (sum_below (above (list_of lists a) a)) (plus_one b) in
-            let none : (cond (ltb a (b + 1)) (count_of a (take 0 (list_of lists (b + 1)))) 0) ≡ 0 = nothing (ltb a (b + 1)) in
-            let same : cond (ltb a b) (count_of a (take i us)) 0 ≡ cond (ltb a b) (count_of b (list_of lists a)) 0 = ap (λ z. cond (ltb a b) z 0) (all ∙ mirrored) in
-            omega (arith, w.numbers a la, old, new, none, same);
+        numbers = AreNext-next lists h.simple b i next lb whole w.numbers;
         known = λ a c e edge met. w.known a c e edge (⊎_elim (λ less. met_now a c edge less) (λ same. absurd (omega (arith, same.1))) met);
       }
     where
-      plus_one : (n : ℕ) → n + 1 ≡ suc n
-      plus_one n = omega arith
-
       met_now : (a c : ℕ) → HasEdge lists a c → c < b + 1 → IsMet lists b i a c
       met_now a c edge less = elim (cases_eq c b) [
         | inr ne ↦ inl (omega (arith, less, ne))
@@ -174,7 +114,7 @@ module _ (map : Map) (fig : BarFigure) (h : IsHalfMap map) where
   pub AreFilled-none : (next : List ℕ) (columns : List ℤ) → length next ≡ length lists → ((a : ℕ) → a < length lists → get_or next a 0 ≡ edges_before lists a) → AreFilled map fig 0 0 next columns
   AreFilled-none next columns size all = record {
     vertices = size;
-    numbers = λ a l. omega (arith, all a l, edges_until-sum lists a 0, nothing (ltb a 0));
+    numbers = AreNext-none lists next all;
     known = λ a c e edge met. ⊎_elim (λ less. absurd (omega arith)) (λ same. absurd (omega (arith, same.1))) met;
   }
 
