@@ -14,7 +14,6 @@ pub mod RenamedLemmas
 mod RenamedWitnessesCases
 -- What the calls rest on.
 pub mod MergedLemmas
-pub mod ExchangedLemmas
 mod MergedEndsCases
 -- What the calls rest on.
 pub mod Lifts

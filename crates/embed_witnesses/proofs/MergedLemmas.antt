@@ -94,13 +94,6 @@ edge-merged graph a b u v lu lv ne t =
       | inr not_less ↦ has_edge-turned small u v ∙ (joined-filter graph.n test v u (omega arith) lu ∙ merged_edge-turned graph a b u v t)
     ]
 
--- no edge has one end twice
-pub merged-two : (graph : EdgeGraph) (a b u v : ℕ) → has_edge (merged graph a b) u v ≡ true → u ≢ v
-merged-two graph a b u v e q =
-    let m = merged graph a b in
-    let j = joined_is graph.n u u m.edges (AreEdges-filter graph.n (λ e. merged_edge graph a b e.0 e.1)) (omega arith) (ap (λ w. has_edge m u w) q ∙ e) in
-    omega (arith, j)
-
 -- THE LAW: it stands for the contracted graph
 pub merged_is_contracted : MergedIsContracted
 merged_is_contracted graph a b = record {

@@ -24,7 +24,7 @@ in_two a b z c = each_of_two (λ w. w ≡ z → (z ≡ a) ⊎ (z ≡ b)) a b (λ
 pub in_three : (a b c z : ℕ) → Contains (a ∷ b ∷ c ∷ []) z → (z ≡ a) ⊎ ((z ≡ b) ⊎ (z ≡ c))
 in_three a b c z h = each_of_three (λ w. w ≡ z → (z ≡ a) ⊎ ((z ≡ b) ⊎ (z ≡ c))) a b c (λ e. inl (sym e)) (λ e. inr (inl (sym e))) (λ e. inr (inr (sym e))) z h refl
 
--- parted without u and v, they are without those of the two that are vertices
+-- separated without u and v, they are without those of the two that are vertices
 split_from : (lists : Lists) → IsSimpleMap lists → component_count lists ≡ 1 → (u v s t : ℕ) → HasEdge lists s → HasEdge lists t → ¬ Contains (u ∷ v ∷ []) s → ¬ Contains (u ∷ v ∷ []) t → ¬ SameComponent (without_vertices (u ∷ v ∷ []) lists) s t → (avoided : List ℕ) → ((x : ℕ) → Contains avoided x → Contains (u ∷ v ∷ []) x) → ((x : ℕ) → x < length lists → Contains (u ∷ v ∷ []) x → Contains avoided x) → AreSeparated lists avoided s t
 split_from lists simple one u v s t hs ht os ot far avoided less more =
     let joined = (components_are_paths lists s t simple hs.1.0 ht.1.0).0 (all_together lists simple one s t hs.1.0 ht.1.0) in

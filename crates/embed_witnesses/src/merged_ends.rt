@@ -1,9 +1,7 @@
 //! Graphs in which the lesser end of an edge has the neighbours of both, and the greater none.
 
-mod exchanged;
 mod laws;
 mod old_numbers;
 
-pub use exchanged::with_ends_exchanged;
 pub use laws::merged_is_contracted;
 pub use old_numbers::on_old_numbers;
