@@ -1,11 +1,11 @@
 -- What lies on the two sides of an edge, by the signs of its differences.
-use Rattle.std.proofs.Common.{◌≡◌, ℕ, ◌+◌, ◌<◌, refl, sym, ap, ◌∙◌, inl, inr, arith}
+use Rattle.std.proofs.Common.{◌≡◌, ℕ, ◌+◌, ◌<◌, refl, inl, inr, arith}
 use Rattle.std.proofs.lemmas.Bool.{cases_lt}
 use Rattle.contour_runs.specs.Wood.{Coordinates}
 use Rattle.convex_counts.specs.Pairs.{AreOnFirst, AreOnSecond, IsFirstSecond, IsSecondThird, IsThirdFirst}
 use Rattle.convex_counts.specs.declared.face_woods.axis.Axis.{Axis}
 use Rattle.convex_counts.specs.declared.face_woods.axis.Axis.TheVariants.{One, Two, Three}
-use Rattle.convex_counts.specs.Axes.{next, previous, IsEntry, out, into, IsAhead, IsBehind}
+use Rattle.convex_counts.specs.Axes.{out, into, IsAhead, IsBehind}
 use Rattle.convex_counts.specs.Rising.{IsRising}
 
 -- what holds of none of the three axes
@@ -13,13 +13,6 @@ pub for_none : (P : Axis → Type 0) → ¬ P One → ¬ P Two → ¬ P Three �
 for_none P a b d One h = a h
 for_none P a b d Two h = b h
 for_none P a b d Three h = d h
-
--- what lies on the two sides is determined, where an edge leads along one axis at most
-pub IsEntry-alone : (Leads : Axis → ℕ → ℕ → Type 0) → ((c d : Axis) (x y : ℕ) → Leads c x y → Leads d x y → c ≡ d) → (v u : ℕ) (a b a' b' : Axis) → IsEntry Leads v u a b → IsEntry Leads v u a' b' → (a ≡ a') × (b ≡ b')
-IsEntry-alone Leads one v u a b a' b' (out c l ea eb) (out d m ea' eb') = let e = one c d v u l m in (ea ∙ ap previous e ∙ sym ea', eb ∙ ap next e ∙ sym eb')
-IsEntry-alone Leads one v u a b a' b' (out c l ea eb) (into d m none ea' eb') = absurd (none c l)
-IsEntry-alone Leads one v u a b a' b' (into c l none ea eb) (out d m ea' eb') = absurd (none d m)
-IsEntry-alone Leads one v u a b a' b' (into c l none ea eb) (into d m none' ea' eb') = let e = one c d u v l m in (ea ∙ e ∙ sym ea', eb ∙ e ∙ sym eb')
 
 module _ (at : Coordinates) where
   -- no two coordinates rise alone along one edge, and none rises both ways

@@ -209,9 +209,6 @@ module _ (name : ℕ → ℕ) (steps : ℕ → Step) (n : ℕ) (run : IsRun step
         ]
       ]
 
-  points' : Places
-  points' = shift_points steps (suc n)
-
   gap-low : (i : ℕ) → suc i ≤ s.first → IsFrom t' (shift_points steps (suc n)) (vertex_after g s i) (vertex_after g s (suc i))
   gap-low i a =
       let o = step.order in

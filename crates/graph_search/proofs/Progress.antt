@@ -29,9 +29,6 @@ used_at-twice used e j k = fun_ext (λ x. twice (eqb x e) (used x))
     twice true u = refl
     twice false u = refl
 
-used_at-none : (used : ℕ → ℕ) (e : ℕ) → used e ≡ 0 → used_at used e 0 ≡ used
-used_at-none used e z = fun_ext (λ x. elim (cases_eq x e) [ inl s ↦ rw (eq-eqb x e s) (sym (ap used s ∙ z)) | inr ne ↦ rw (ne_eqb x e ne) refl ])
-
 -- an entry of a list at a place, as one that the list has
 entry_in : (us : List ℕ) (k x : ℕ) → k < length us → get_or us k 0 ≡ x → Contains us x
 entry_in us k x l e = subst (Contains us) e (Contains-get_or us k 0 l)

@@ -1,7 +1,7 @@
 -- The first dart, vertex by vertex; and where the test decides a property, the least two numbers that have it.
-use Rattle.std.proofs.Common.{◌≡◌, ℕ, ◌+◌, ◌<◌, ◌≤◌, Bool, true, false, Option, Some, None, refl, sym, subst, inl, inr, ⊎_elim, arith}
+use Rattle.std.proofs.Common.{◌≡◌, ℕ, ◌<◌, ◌≤◌, Bool, true, false, Option, Some, None, refl, sym, subst, inl, inr, arith}
 use Rattle.std.specs.Option.{MatchOption}
-use Rattle.std.proofs.lemmas.Bool.{cases_lt, true≢false}
+use Rattle.std.proofs.lemmas.Bool.{true≢false}
 use Rattle.map_lists.specs.declared.ids.VertexId.{VertexId}
 use Rattle.map_lists.specs.declared.ids.DartId.{DartId}
 use Rattle.half_edges.specs.Map.{Map, IsHalfMap, IsLive, dart_at}
@@ -9,27 +9,12 @@ use Rattle.map_theory.specs.Maps.{Dart, HasDart}
 use Rattle.vertex_rounds.specs.Rounds.{dart_of, HoldsAt}
 use Rattle.vertex_rounds.proofs.DartIds.{dart_of-is}
 use Rattle.vertex_rounds.specs.Least.{IsLeast, IsLeastPair}
-use Rattle.vertex_rounds.specs.First.{Passes, Fails, IsFirst, IsFirstOrNone, IsLeastOrNone, FindsFirst, FindsLeast}
+use Rattle.vertex_rounds.specs.First.{Passes, Fails, IsFirstOrNone, IsLeastOrNone, FindsFirst, FindsLeast}
 
 module _ (map : Map) (says : DartId → Bool → Type 0) (from : ℕ) where
   -- none passes at a tail below v
   abbrev pub NoneBelow : ℕ → Type 0
   NoneBelow v = (w u : ℕ) → from ≤ w → w < v → Fails map says w u
-
-  pub NoneBelow-more : (v : ℕ) → NoneBelow v → ((u : ℕ) → Fails map says v u) → NoneBelow (v + 1)
-  NoneBelow-more v none here w u late l =
-      elim (cases_lt w v) [
-        | inl less ↦ none w u late less
-        | inr more ↦ (let same : v ≡ w = omega arith in subst (λ (x : ℕ). Fails map says x u) same (here u))
-      ]
-
-  -- the least head from the first tail where one passes
-  pub IsFirst-here : (v u : ℕ) → from ≤ v → NoneBelow v → (Passes map says v u × ((t : ℕ) → t < u → Fails map says v t)) → IsFirst map says from v u
-  IsFirst-here v u late none here = record {
-    late = late;
-    passes = here.0;
-    before = λ w t late' o. ⊎_elim (λ less. none w t late' less) (λ same. subst (λ (x : ℕ). Fails map says x t) (sym same.0) (here.1 t same.1)) o;
-  }
 
 -- what a test says of the dart of an id decides a property of it, of darts with a tail from `from` on
 abbrev pub Decides : Map → (DartId → Bool → Type 0) → ℕ → (ℕ → ℕ → Type 0) → Type 0

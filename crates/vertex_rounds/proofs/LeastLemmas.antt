@@ -1,11 +1,9 @@
 -- The least of the entries of a list, entry by entry.
-use Rattle.std.proofs.Common.{◌≡◌, ℕ, ◌+◌, ◌<◌, List, length, Option, Some, None, Contains, get_or, sym, ap, subst, ◌∙◌, inl, inr, arith}
+use Rattle.std.proofs.Common.{◌≡◌, ℕ, ◌+◌, ◌<◌, List, length, Contains, get_or, sym, ap, subst, ◌∙◌, inl, inr, arith}
 use Rattle.std.proofs.lemmas.Bool.{cases_lt}
-use Rattle.map_lists.specs.declared.ids.VertexId.{VertexId}
 use Rattle.map_theory.specs.Maps.{place_of}
 use Rattle.map_theory.proofs.DartLemmas.{place_of-lt-length, get_or-place_of}
 use Rattle.vertex_rounds.specs.Least.{IsLeastPair}
-use Rattle.vertex_rounds.specs.Rounds.{IsLeastOf, IsBelow}
 
 -- what holds of the entries before k, and of entry k, holds of those before k + 1
 pub entries_more : (Q : ℕ → Type 0) (us : List ℕ) (k b : ℕ) → get_or us k 0 ≡ b → ((i : ℕ) → i < k → Q (get_or us i 0)) → Q b → (i : ℕ) → i < k + 1 → Q (get_or us i 0)
@@ -14,23 +12,6 @@ entries_more Q us k b e below here i l =
       | inl less ↦ below i less
       | inr more ↦ (let same : i ≡ k = omega arith in subst Q (sym (ap (λ n. get_or us n 0) same ∙ e)) here)
     ]
-
-module _ (has lacks : ℕ → Type 0) (us : List ℕ) (k b : ℕ) (e : get_or us k 0 ≡ b) where
-  -- an entry without the property, or one that is no lesser, leaves the least as it is
-  pub IsLeastOf-same : (best : Option VertexId) → (IsBelow b best → lacks b) → IsLeastOf has lacks us k best → IsLeastOf has lacks us (k + 1) best
-  IsLeastOf-same None never h = entries_more lacks us k b e h (never tt)
-  IsLeastOf-same (Some x) never h = (h.0, entries_more (λ y. y < x.0 → lacks y) us k b e h.1 never)
-
-  -- a lesser one with the property is the least
-  pub IsLeastOf-new : (best : Option VertexId) (u : VertexId) → b ≡ u.0 → IsBelow b best → has b → IsLeastOf has lacks us k best → IsLeastOf has lacks us (k + 1) (Some u)
-  IsLeastOf-new None u same below here h = (
-    subst has same here,
-    entries_more (λ y. y < u.0 → lacks y) us k b e (λ i l _. h i l) (λ l. absurd (omega arith)),
-  )
-  IsLeastOf-new (Some x) u same below here h = (
-    subst has same here,
-    entries_more (λ y. y < u.0 → lacks y) us k b e (λ i l less. h.1 i l (omega arith)) (λ l. absurd (omega arith)),
-  )
 
 -- where an element of a list stands
 pub place_in : (us : List ℕ) (x : ℕ) → Contains us x → (i : ℕ) × (i < length us) × (get_or us i 0 ≡ x)

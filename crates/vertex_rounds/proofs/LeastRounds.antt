@@ -3,11 +3,11 @@ use Rattle.std.proofs.Common.{◌≡◌, ℕ, ◌+◌, ◌-◌, ◌<◌, Bool, L
 use Rattle.map_lists.specs.declared.ids.VertexId.{VertexId}
 use Rattle.map_lists.specs.declared.ids.DartId.{DartId}
 use Rattle.map_theory.specs.Maps.{list_of}
-use Rattle.half_edges.specs.Map.{Map, IsHalfMap, dart_at, first_dart}
+use Rattle.half_edges.specs.Map.{Map, IsHalfMap, dart_at}
 use Rattle.vertex_rounds.specs.Rounds.{IsLeastOf, IsLaterDart}
 use Rattle.vertex_rounds.specs.First.{Passes, Fails, IsLeastOrNone, FindsLeast}
 use Rattle.vertex_rounds.proofs.LeastLemmas.{place_in}
-use Rattle.vertex_rounds.proofs.RoundLemmas.{head_at, LeavesFrom, place_at, LeavesFrom-is, place_at-first, at_place, place_at-later, LeavesFrom-later}
+use Rattle.vertex_rounds.proofs.RoundLemmas.{head_at, LeavesFrom, place_at, at_place, place_at-later, LeavesFrom-later}
 
 -- the round of v stands at dart d, and `best` is the least neighbour among those before to which the dart passes
 pub record IsRound (map : Map) (says : DartId → Bool → Type 0) (v d : ℕ) (best : Option VertexId) : Type 0 where
@@ -30,13 +30,6 @@ IsBetter map says v u best new =
     (us : List ℕ) (k : ℕ) → get_or us k 0 ≡ u → IsLeastOf (Passes map says v) (Fails map says v) us k best → IsLeastOf (Passes map says v) (Fails map says v) us (k + 1) new
 
 module _ (map : Map) (says : DartId → Bool → Type 0) (v d : ℕ) where
-  -- at the first dart
-  pub IsRound-first : dart_at map d ≡ Some (first_dart map.lists v) → IsRound map says v d None
-  IsRound-first is = record {
-    dart = LeavesFrom-is map v (get_or (list_of map.lists v) 0 0) d is;
-    least = λ i l. absurd (let z = place_at-first map v d is in omega arith);
-  }
-
   module _ (h : IsHalfMap map) (best new : Option VertexId) (r : IsRound map says v d best) where
     -- at the next
     pub IsRound-later : (e : ℕ) → IsLaterDart map v (head_at map d) e → IsBetter map says v (head_at map d) best new → IsRound map says v e new

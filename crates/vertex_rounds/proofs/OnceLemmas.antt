@@ -1,14 +1,14 @@
 -- Just one dart of a vertex that passes a test, entry by entry; and where the test decides a property, just one entry that has it.
-use Rattle.std.proofs.Common.{◌≡◌, ◌≢◌, ◌⊎◌, ℕ, ◌+◌, ◌<◌, ◌≤◌, Bool, true, false, ◌||◌, MatchBool, List, length, Some, get_or, refl, sym, ap, subst, ◌∙◌, inl, inr, arith}
-use Rattle.std.proofs.lemmas.Bool.{cases_lt, cases_eq, true≢false}
+use Rattle.std.proofs.Common.{◌≡◌, ◌≢◌, ℕ, ◌+◌, ◌<◌, ◌≤◌, Bool, true, false, ◌||◌, MatchBool, List, length, Some, get_or, refl, sym, ap, subst, ◌∙◌, inl, inr, arith}
+use Rattle.std.proofs.lemmas.Bool.{cases_lt, cases_eq}
 use Rattle.map_lists.specs.declared.ids.DartId.{DartId}
-use Rattle.map_theory.specs.Maps.{HasDart, list_of, place_of, follows}
+use Rattle.map_theory.specs.Maps.{HasDart, list_of, place_of}
 use Rattle.map_theory.proofs.DartLemmas.{place_of-get_or}
-use Rattle.half_edges.specs.Map.{Map, IsHalfMap, IsLive, dart_at, first_dart}
-use Rattle.vertex_rounds.specs.Rounds.{IsOneOf, IsLaterDart, GoesOnce, HoldsAt}
+use Rattle.half_edges.specs.Map.{Map, IsHalfMap, dart_at, first_dart}
+use Rattle.vertex_rounds.specs.Rounds.{IsOneOf, IsLaterDart, GoesOnce}
 use Rattle.vertex_rounds.specs.First.{Passes, Fails, PassesOnce, IsPassedOnce, PassesOnceOfTwo, TurnsOnce}
 use Rattle.vertex_rounds.proofs.LeastLemmas.{entries_more, place_in}
-use Rattle.vertex_rounds.proofs.RoundLemmas.{head_at, LeavesFrom, place_at, at_place, place_at-first, place_at-later, head_at-is, LeavesFrom-is, LeavesFrom-later}
+use Rattle.vertex_rounds.proofs.RoundLemmas.{head_at, LeavesFrom, place_at, at_place, place_at-first, place_at-later, head_at-is, LeavesFrom-later}
 use Rattle.vertex_rounds.proofs.FirstLemmas.{Decides, passes_has, fails_lacks}
 
 module _ (has lacks : ℕ → Type 0) (us : List ℕ) (k b : ℕ) (e : get_or us k 0 ≡ b) where
@@ -83,13 +83,6 @@ module _ (map : Map) (h : IsHalfMap map) (says : DartId → Bool → Type 0) (v 
       let places : o.0 ≡ k = sym (place_of-get_or us o.0 0 (h.simple.no_repeat v lv) (omega arith)) ∙ (ap (λ x. place_of x us) same ∙ place_of-get_or us k 0 (h.simple.no_repeat v lv) l) in
       omega arith in
       inr (get_or us o.0 0, get_or us k 0, apart, o.2, subst (Passes map says v) (sym e) p)
-
-  -- at the first dart
-  pub once_first : (first : ℕ) → dart_at map first ≡ Some (first_dart map.lists v) → IsOnceRound map says v first false
-  once_first first is = record {
-    dart = LeavesFrom-is map v (get_or us 0 0) first is;
-    once = λ i l. absurd (let z = place_at-first map v first is in omega arith);
-  }
 
   module _ (d : DartId) (old : Bool) (o : IsOnceRound map says v d.0 old) (r : Bool) (s : says d r) where
     more : (new : Bool) → new ≡ (old || r) → (old ≡ true → r ≡ true → ⊥) → IsOneOf (Passes map says v) (Fails map says v) us (place_at map v d.0 + 1) new

@@ -70,10 +70,3 @@ pub head_at-result : (map : Map) (v d x : ℕ) → LeavesFrom map v d → option
 head_at-result map v d x is e =
     let t : Some (head_at map d) ≡ Some x = sym (ap (option_map (λ (e : Dart). e.1)) is) ∙ e in
     cc
-
--- and for the clockwise next dart
-pub follows-result : (map : Map) (v d e x : ℕ) → LeavesFrom map v d → dart_at map e ≡ option_map (next_dart map.lists) (dart_at map d) → option_map (λ (e : Dart). e.1) (dart_at map e) ≡ Some x → follows map.lists v (head_at map d) ≡ x
-follows-result map v d e x is step r =
-    let to : dart_at map e ≡ Some (v, follows map.lists v (head_at map d)) = step ∙ ap (option_map (next_dart map.lists)) is in
-    let t : Some (follows map.lists v (head_at map d)) ≡ Some x = sym (ap (option_map (λ (e : Dart). e.1)) to) ∙ r in
-    cc
