@@ -1,5 +1,5 @@
 -- The definitions run on a small case.
-use Rattle.std.proofs.Common.{◌≡◌, ℕ, [], ◌∷◌, refl}
+use Rattle.std.proofs.Common.{◌≡◌, [], ◌∷◌, refl}
 use Rattle.map_lists.specs.Lists.{Lists}
 use Rattle.convex_orders.specs.FaceNumbers.{entry}
 

@@ -1,9 +1,9 @@
 -- The edges along the contour whose faces a removal takes off are those from its first place to its end.
-use Rattle.std.proofs.Common.{◌≡◌, ◌≢◌, ℕ, suc, ◌+◌, ◌-◌, ◌<◌, ◌≤◌, Bool, true, false, List, length, slice_index, sym, ap, ap₂, ◌∙◌, subst, inl, inr, arith}
-use Rattle.std.proofs.lemmas.Bool.{cases_Bool, cases_eq, cases_lt, true≢false}
+use Rattle.std.proofs.Common.{◌≡◌, ℕ, suc, ◌+◌, ◌-◌, ◌<◌, ◌≤◌, Bool, true, false, List, sym, ap, ap₂, ◌∙◌, inl, inr, arith}
+use Rattle.std.proofs.lemmas.Bool.{cases_Bool, cases_eq}
 use Rattle.map_lists.specs.Lists.{Lists}
-use Rattle.map_theory.specs.Maps.{HasDart, IsSimpleMap}
-use Rattle.convex_peeling.specs.Contours.{face_of, IsContour, IsRim}
+use Rattle.map_theory.specs.Maps.{IsSimpleMap}
+use Rattle.convex_peeling.specs.Contours.{face_of, IsContour}
 use Rattle.convex_peeling.specs.Removals.{Removal, IsTakenOff}
 use Rattle.convex_peeling.proofs.Removed.{gone_within, first_lt, stays_dead, gone_from}
 use Rattle.convex_orders.specs.FaceNumbers.{entry}

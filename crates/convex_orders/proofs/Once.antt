@@ -1,15 +1,14 @@
 -- No number stands twice in a row of a polyhedral map, and counts of what is met at most once.
-use Rattle.std.proofs.Common.{◌≡◌, ◌≢◌, ℕ, zero, suc, ◌+◌, ◌<◌, ◌≤◌, Bool, true, false, eqb, ltb, eq-eqb, eqb-true, lt-ltb, ltb-true, List, length, slice_index, get_or, AllPairs, refl, sym, ap, ◌∙◌, inl, inr, arith}
+use Rattle.std.proofs.Common.{◌≡◌, ◌≢◌, ℕ, zero, suc, ◌<◌, ◌≤◌, Bool, true, false, eqb, ltb, eq-eqb, eqb-true, lt-ltb, length, slice_index, AllPairs, refl, sym, ap, ◌∙◌, inl, inr, arith}
 use Rattle.std.specs.Prelude.{if◌then◌else◌}
-use Rattle.std.proofs.lemmas.Bool.{cases_eq, cases_lt}
+use Rattle.std.proofs.lemmas.Bool.{cases_lt}
 use Rattle.std.proofs.lemmas.List.{get_or_default}
 use Rattle.classes.specs.Classes.{count_below}
 use Rattle.map_lists.specs.Lists.{Lists}
-use Rattle.map_theory.specs.Maps.{list_of, HasDart, IsSimpleMap}
+use Rattle.map_theory.specs.Maps.{list_of, IsSimpleMap}
 use Rattle.map_theory.proofs.DartCounts.{sum_below}
 use Rattle.map_theory.proofs.EntryLemmas.{count_of-le-one}
 use Rattle.convex_peeling.specs.Polyhedral.{IsPolyhedral}
-use Rattle.convex_peeling.specs.Contours.{face_of}
 use Rattle.convex_peeling.proofs.Faces.{SameFace-labels}
 use Rattle.convex_orders.specs.FaceNumbers.{entry, AreFaceNumbers}
 use Rattle.convex_orders.specs.Counts.{met_at}

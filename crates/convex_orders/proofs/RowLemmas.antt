@@ -1,5 +1,5 @@
 -- The row of a removal from the list of the contour before it and the beginning of the one after it.
-use Rattle.std.proofs.Common.{◌≡◌, ℕ, suc, ◌+◌, ◌-◌, ◌<◌, ◌≤◌, Bool, List, length, slice_index, get_or, sym, ap, ap₂, ◌∙◌, subst, arith}
+use Rattle.std.proofs.Common.{◌≡◌, ℕ, suc, ◌+◌, ◌-◌, ◌<◌, Bool, List, length, slice_index, get_or, sym, ap, ap₂, ◌∙◌, subst, arith}
 use Rattle.std.specs.Prelude.{slice_range}
 use Rattle.simple_maps.proofs.FlatLemmas.{get_or-slice_range, length-slice_range}
 use Rattle.map_lists.specs.Lists.{Lists}

@@ -1,9 +1,9 @@
 -- The rim by the rows of numbers.
-use Rattle.std.proofs.Common.{◌≡◌, ℕ, ◌<◌, Bool, List, length, slice_index, sym, ap, ◌∙◌, arith}
+use Rattle.std.proofs.Common.{ℕ, ◌<◌, Bool, List, length, slice_index, sym, ap, ◌∙◌, arith}
 use Rattle.map_lists.specs.Lists.{Lists}
-use Rattle.map_theory.specs.Maps.{list_of, HasDart, IsSimpleMap}
-use Rattle.convex_peeling.specs.Contours.{face_of, IsRim}
-use Rattle.convex_orders.specs.FaceNumbers.{entry, AreFaceNumbers}
+use Rattle.map_theory.specs.Maps.{list_of, IsSimpleMap}
+use Rattle.convex_peeling.specs.Contours.{IsRim}
+use Rattle.convex_orders.specs.FaceNumbers.{AreFaceNumbers}
 use Rattle.convex_orders.proofs.ContourCountsRows.{entry_at}
 use Rattle.convex_orders.specs.Shown.{is_set, AreMarks, IsRimIn}
 use Rattle.convex_orders.specs.Splits.{IsRimAt}

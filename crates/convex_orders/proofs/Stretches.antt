@@ -1,6 +1,5 @@
 -- Stretches by counts, and removable vertices by rows.
-use Rattle.std.proofs.Common.{◌≡◌, ◌≢◌, ◌↔◌, ℕ, suc, ◌+◌, ◌<◌, ◌≤◌, Bool, true, false, eqb, ltb, lt-ltb, ltb-true, List, length, slice_index, Contains, refl, sym, ap, ap₂, ◌∙◌, subst, inl, inr, arith}
-use Rattle.std.proofs.lemmas.Bool.{cases_eq}
+use Rattle.std.proofs.Common.{◌≡◌, ◌≢◌, ◌↔◌, ℕ, suc, ◌+◌, ◌<◌, ◌≤◌, Bool, true, eqb, ltb, lt-ltb, ltb-true, List, length, slice_index, refl, sym, ap, ap₂, ◌∙◌, subst, inl, inr, arith}
 use Rattle.classes.specs.Classes.{count_below}
 use Rattle.classes.proofs.Counting.{count_below_same}
 use Rattle.map_lists.specs.Lists.{Lists}
@@ -11,7 +10,6 @@ use Rattle.convex_peeling.proofs.PolyhedralLemmas.{three_connected_is_polyhedral
 use Rattle.convex_peeling.proofs.Neighbours.{three_neighbours}
 use Rattle.convex_peeling.specs.Contours.{face_of, Passes, IsContour, IsStretch, IsRemovable}
 use Rattle.convex_peeling.specs.FacePeelingLaws.{HasThree}
-use Rattle.convex_peeling.proofs.ChainsOff.{edge_passes}
 use Rattle.convex_peeling.proofs.Choices.{some_removable_law}
 use Rattle.convex_peeling.proofs.StretchCounts.{stretch_by_counts_law}
 use Rattle.convex_peeling.proofs.TakenOff.{base_passes, base_living}

@@ -12,7 +12,7 @@ use Rattle.convex_peeling.proofs.VertexOff.{vertex_taken_off_law}
 use Rattle.convex_laws.proofs.Grown.{IsShore-contour}
 use Rattle.convex_laws.proofs.Steps.{goer_off}
 use Rattle.convex_orders.specs.FaceNumbers.{entry, AreFaceNumbers}
-use Rattle.convex_orders.specs.Shown.{is_set, IsBased, AreMarks, IsChoice, GoesOff, GoesOffNear}
+use Rattle.convex_orders.specs.Shown.{is_set, IsBased, AreMarks, IsChoice, GoesOffNear}
 use Rattle.convex_orders.proofs.Flags.{set_less}
 use Rattle.convex_orders.specs.Counts.{AreCounts}
 use Rattle.convex_orders.proofs.ContourCountsRows.{passes-number, entry-lt}

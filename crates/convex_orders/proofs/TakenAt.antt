@@ -1,7 +1,7 @@
 -- The removal at a removable place of the list, by the three ways in which marks are taken away.
 use Rattle.std.proofs.Common.{◌≡◌, ◌≢◌, ◌↔◌, ℕ, suc, ◌-◌, ◌<◌, ◌≤◌, Bool, true, false, List, length, slice_index, set, Contains, refl, sym, ap, ap₂, ◌∙◌, subst, inl, inr, arith}
 use Rattle.map_lists.specs.Lists.{Lists}
-use Rattle.map_theory.specs.Maps.{list_of, HasDart, IsSimpleMap}
+use Rattle.map_theory.specs.Maps.{list_of, HasDart}
 use Rattle.convex_peeling.specs.Contours.{face_of, IsRemovable}
 use Rattle.convex_orders.specs.FaceNumbers.{entry, AreFaceNumbers}
 use Rattle.convex_orders.specs.Contours.{inner_number}

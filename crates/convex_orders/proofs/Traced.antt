@@ -1,13 +1,13 @@
 -- The contour as it is gone along: one place more, and that it comes to the end.
 use Rattle.std.proofs.Common.{◌≡◌, ◌≢◌, ℕ, suc, ◌+◌, ◌<◌, ◌≤◌, Bool, true, List, [], ◌∷◌, ◌++◌, length, slice_index, get_or, refl, sym, ap, ◌∙◌, subst, inl, inr, arith}
-use Rattle.std.proofs.lemmas.Bool.{cases_eq, cases_lt}
+use Rattle.std.proofs.lemmas.Bool.{cases_eq}
 use Rattle.std.proofs.lemmas.List.{length-append, get_or_append_left, get_or_push}
 use Rattle.classes.proofs.Counting.{count_below_into, count_below_all}
 use Rattle.map_lists.specs.Lists.{Lists}
 use Rattle.map_theory.specs.Maps.{IsSimpleMap}
 use Rattle.convex_peeling.specs.Contours.{IsContour}
 use Rattle.convex_orders.specs.FaceNumbers.{AreFaceNumbers}
-use Rattle.convex_orders.specs.Shown.{IsListOf, IsTrace, SomeTrace, IsRimIn}
+use Rattle.convex_orders.specs.Shown.{IsListOf, IsTrace, IsRimIn}
 use Rattle.convex_orders.proofs.Rows.{rim_from, rim_to}
 
 -- a contour has at most as many places as there are vertices

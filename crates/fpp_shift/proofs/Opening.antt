@@ -1,10 +1,10 @@
 -- A face is opened so when it is made, and stays so.
-use Rattle.std.proofs.Common.{◌≡◌, ◌⊎◌, ℕ, suc, ◌+◌, ◌-◌, ◌*◌, ◌<◌, ◌≤◌, refl, ap, ◌∙◌, subst, inl, inr, arith}
+use Rattle.std.proofs.Common.{◌≡◌, ◌⊎◌, ℕ, suc, ◌+◌, ◌-◌, ◌*◌, ◌<◌, ◌≤◌, refl, subst, inl, inr, arith}
 use Rattle.std.proofs.lemmas.Bool.{cases_lt}
 use Rattle.std.proofs.lemmas.Nat.{mul-le}
-use Rattle.contour_runs.specs.Runs.{Step, Stage, place_after, moved, after, stage_after, IsStep, IsRun, IsFaceOf}
+use Rattle.contour_runs.specs.Runs.{Step, Stage, after, stage_after, IsStep, IsRun, IsFaceOf}
 use Rattle.contour_runs.specs.Laws.{IsStage}
-use Rattle.contour_runs.proofs.Places.{moved-low, moved-between, moved-high, moved-le, place_after-older, place_after-new}
+use Rattle.contour_runs.proofs.Places.{moved-le, place_after-older}
 use Rattle.contour_runs.proofs.Upward.{upward}
 use Rattle.contour_runs.proofs.Stages.{corners_placed, IsStage-run, IsRun-less, count-stage_after}
 use Rattle.fpp_shift.specs.Shift.{shift, Places, shift_points}

@@ -1,9 +1,8 @@
 -- Answers that wrong bodies would give for a record.
-use Rattle.std.proofs.Common.{◌≡◌, ◌∙◌, ℕ, zero, suc, [], ◌∷◌, Option, Some, None, Bool, true, false, sym, ap, arith}
-use Rattle.std.specs.Prelude.{slice_index, unwrap_or, nat_lt, if◌then◌else◌}
+use Rattle.std.proofs.Common.{◌≡◌, ◌∙◌, ℕ, Option, Some, sym, ap, arith}
+use Rattle.std.specs.Prelude.{slice_index, unwrap_or}
 use Rattle.map_lists.specs.Lists.{Lists}
-use Rattle.map_theory.specs.Maps.{Dart, vertex_count, genus}
-use Rattle.simple_maps.specs.Faults.{Fault, first_fault}
+use Rattle.map_theory.specs.Maps.{Dart}
 use Rattle.half_edges.specs.Map.{Map, dart_at}
 use Rattle.canon_order.specs.Orders.{vertices_of}
 use Rattle.grid_figures.specs.DrawingOrdersBases.{LeadsToLeast}

@@ -15,7 +15,7 @@ use Rattle.canon_order.specs.Laws.{RowEnds}
 use Rattle.contour_runs.specs.Runs.{Step, Stage, stage_after}
 use Rattle.order_drawings.specs.OrderRuns.{IsOrderRun}
 use Rattle.order_drawings.proofs.OrderRunsOrderRows.{IsRowOf, row_of}
-use Rattle.order_drawings.specs.Rows.{place_before, back, IsFirstPlace, IsLastPlace, IsRowIn, IsRow, IsOrderRow}
+use Rattle.order_drawings.specs.Rows.{place_before, back, IsFirstPlace, IsLastPlace, IsRow, IsOrderRow}
 
 -- in a list without repeats, what stands before a place and after it
 entry_at_after : (us : List ℕ) (i : ℕ) → AllPairs ◌≢◌ us → i < length us → get_or us (Rattle.map_theory.proofs.DartLemmas.place_after (length us) i) 0 ≡ entry_after (get_or us i 0) us

@@ -1,7 +1,5 @@
-use Rattle.std.proofs.Common.{◌≡◌, Some, Contains, refl, sym, ap, subst, ◌∙◌, eq-eqb}
+use Rattle.std.proofs.Common.{◌≡◌, Contains, refl, sym, subst, ◌∙◌, eq-eqb}
 use Rattle.std.proofs.lemmas.Bool.{true≢false}
-use Rattle.std.specs.Option.{option_map}
-use Rattle.map_theory.specs.Maps.{Dart}
 use Rattle.map_theory.specs.Paths.{SameFace}
 use Rattle.euler_faces.specs.FaceWalks.{walk_at}
 use Rattle.vertex_rounds.specs.Rounds.{dart_of}
