@@ -66,7 +66,7 @@ module _ (lists : Lists) (simple : IsSimpleMap lists) (one : component_count lis
       let together = one_class C (IsLabels-components lists simple) (omega (arith, one)) u v (omega arith) (omega arith) in
       (components_are_paths lists u v simple u_in v_in).0 (same_class-from C u v together)
 
-  -- where all neighbours of v are avoided, it is parted from any vertex that is not
+  -- where all neighbours of v are avoided, it is separated from any vertex that is not
   separated_alone : (avoided : List ℕ) (v w : ℕ) → v < length lists → w < length lists → v ≢ w → Off avoided v → Off avoided w → ((z : ℕ) → HasDart lists v z → Contains avoided z) → AreSeparated lists avoided v w
   separated_alone avoided v w v_in w_in ne off_v off_w all =
       let joined = all_joined v w v_in w_in in

@@ -99,7 +99,7 @@ module _ (lists : Lists) (simple : IsSimpleMap lists) (plane : IsPlane lists) (u
       turned_ends : (z p q : ℕ) → (z ≡ p) ⊎ (z ≡ q) → (z ≡ q) ⊎ (z ≡ p)
       turned_ends z p q h = elim h [ inl r ↦ inr r | inr r ↦ inl r ]
 
-  -- two entries of the two parts, other than v, are parted
+  -- two entries of the two parts, other than v, are separated
   separated_by_parts : (s t : ℕ) → Contains (arc (list_of lists u) a c) s → Contains (arc (list_of lists u) c a) t → HasDart lists u s → HasDart lists u t → s ≢ v → t ≢ v → AreSeparated lists (u ∷ v ∷ []) s t
   separated_by_parts s t in_s in_t has_s has_t s_v t_v =
       let both = u ∷ v ∷ [] in
