@@ -2,9 +2,7 @@
 use Rattle.std.proofs.Common.{◌≡◌, ℕ, suc, ◌+◌, ◌-◌, ◌^◌, ◌<◌, List, length, get_or, All, pos, ap, ◌∙◌, subst, arith}
 use Rattle.map_lists.specs.Lists.{Lists}
 use Rattle.pg_plane.specs.declared.figure.RectFigure.{RectFigure}
-use Rattle.plane_laws.specs.Triangulations.{IsTriangulation}
 use Rattle.contour_runs.specs.Runs.{Step}
-use Rattle.canon_order.specs.Orders.{IsRankOf}
 use Rattle.order_drawings.specs.OrderRuns.{IsOrderRun, OrderIsRun}
 use Rattle.order_drawings.specs.Rows.{AreRows}
 use Rattle.rect_runs.specs.Labels.{IsLabelledRun}
@@ -12,7 +10,7 @@ use Rattle.rect_runs.proofs.Steps.{IsLabelledRun-less}
 use Rattle.rect_runs.specs.Boxes.{boxes}
 use Rattle.rect_runs.specs.RectBoxesLaws.{BoxesAreDual}
 use Rattle.rect_check.specs.Duals.{HasRects}
-use Rattle.rect_orders.specs.Maps.{IsRectMap, closed}
+use Rattle.rect_orders.specs.Maps.{closed}
 use Rattle.rect_orders.specs.Orders.{IsRectOrder}
 use Rattle.rect_orders.specs.Runs.{shortened, IsRunOfMap, RectOrderIsRun}
 use Rattle.rect_orders.proofs.Closed.{length-closed}

@@ -4,9 +4,6 @@ use Rattle.std.proofs.lemmas.Bool.{cases_eq}
 use Rattle.rect_dual.specs.Lines.{AreLines, AreWalked}
 
 module _ (f : ℕ → ℕ) (m q first : ℕ) (lines next : List ℕ) (h : AreLines f m q first lines next) where
-  pub AreWalked-begin : (numbers : List ℕ) → AreWalked f m q first lines next h 0 first numbers
-  AreWalked-begin numbers = record { written = λ i l o. absurd (omega (arith, l)); here = λ l. sym h.begins }
-
   pub AreWalked-more : (k r : ℕ) (numbers : List ℕ) → m ≤ length numbers → k < q → AreWalked f m q first lines next h k r numbers → AreWalked f m q first lines next h (k + 1) (get_or next r 0) (set numbers r k)
   AreWalked-more k r numbers size l w =
       let here = w.here l in

@@ -1,4 +1,4 @@
-use Rattle.std.proofs.Common.{ℕ, arith}
+use Rattle.std.proofs.Common.{arith}
 use Rattle.canon_order.specs.Orders.{vertices_of}
 use Rattle.euler_faces.proofs.NumberLemmas.{live-lt}
 use Rattle.rect_dual.specs.EdgeLabelsTables.{end_by}
