@@ -1,25 +1,12 @@
 -- Paths to the roots.
-use Rattle.std.proofs.Common.{◌≡◌, ◌≢◌, ◌+◌, ◌≤◌, ℕ, zero, suc, refl, sym, ap, ◌∙◌, subst, inl, inr, arith}
-use Rattle.wood_runs.specs.Parents.{Colour, one, two, three}
+use Rattle.std.proofs.Common.{◌≡◌, ◌≢◌, ◌+◌, ◌≤◌, ℕ, zero, suc, sym, ap, ◌∙◌, subst, inl, inr, arith}
+use Rattle.wood_runs.specs.Parents.{Colour}
 use Rattle.schnyder_wood.specs.Parents.{Parents, root_in, parent_in, IsInnerIn, IsRooted, LeadsIn, IsPathLength}
 
 -- one step more at the end
 pub LeadsIn-more : (wood : Parents) (c : Colour) (d v w : ℕ) → LeadsIn wood c d v w → IsInnerIn wood w → LeadsIn wood c (suc d) v (parent_in wood c w)
 LeadsIn-more wood c zero v w e inner = (subst (IsInnerIn wood) (sym e) inner, ap (parent_in wood c) e)
 LeadsIn-more wood c (suc d) v w l inner = (l.0, LeadsIn-more wood c d (parent_in wood c v) w l.1 inner)
-
--- the root of a colour is not inner
-not_inner : (wood : Parents) (c : Colour) (v : ℕ) → v ≡ root_in wood c → ¬ IsInnerIn wood v
-not_inner wood one v e inner = inner.1 (inl e)
-not_inner wood two v e inner = inner.1 (inr (inl e))
-not_inner wood three v e inner = inner.1 (inr (inr e))
-
--- so just one number is that of the vertices to the root
-LeadsIn-one : (wood : Parents) (c : Colour) (d e v : ℕ) → LeadsIn wood c d v (root_in wood c) → LeadsIn wood c e v (root_in wood c) → d ≡ e
-LeadsIn-one wood c zero zero v h k = refl
-LeadsIn-one wood c zero (suc e) v h k = absurd (not_inner wood c v h k.0)
-LeadsIn-one wood c (suc d) zero v h k = absurd (not_inner wood c v k h.0)
-LeadsIn-one wood c (suc d) (suc e) v h k = ap suc (LeadsIn-one wood c d e (parent_in wood c v) h.1 k.1)
 
 -- so many steps from v an inner vertex is reached, and each of them has lost height
 pub record Climbs (wood : Parents) (c : Colour) (v d w : ℕ) : Type 0 where
