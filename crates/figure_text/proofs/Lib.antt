@@ -1,4 +1,5 @@
 -- Lemmas on the text of figures.
+mod BackwardLemmas
 pub mod TextLemmas
 pub mod DecimalLemmas
 pub mod RowLemmas

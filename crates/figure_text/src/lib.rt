@@ -8,6 +8,7 @@
 //! answer at an offset.
 #![tactic(auto)]
 
+mod backward;
 pub mod decimals;
 mod fault;
 mod figure;

@@ -1,14 +1,23 @@
 //! A figure as text.
-ghost use Rattle.std.specs.Prelude.{◌≡◌, ◌+◌, ◌++◌, ◌∷◌, [], ℕ, List, length, map, flat_map, decimal, ◌<◌, OnOk, OnErr, IfOk};
+ghost use Rattle.std.specs.Prelude.{◌≡◌, ◌+◌, ◌++◌, ◌∷◌, [], ℕ, List, length, map, flat_map, decimal, ◌<◌, ◌≤◌, codes, OnOk, OnErr, IfOk};
 ghost use Rattle.std.specs.Fmt.{signed_decimal};
-ghost use Rattle.figure_text.specs.Text.{neighbours, spaced_signed, grid_line, grid_lines, bar_line, bar_lines, columns_line, rect_line, rect_lines, first_line, job_word, grid_text, bars_text, rects_text, IsText, IsWhole, HasBars, HasRects, integer_at, point_at};
+ghost use Rattle.figure_text.specs.Text.{spaced_signed, grid_line, grid_lines, bar_line, bar_lines, columns_line, rect_line, rect_lines, first_line, job_word, grid_text, bars_text, rects_text, IsText, IsWhole, HasBars, HasRects, integer_at, point_at};
 
+use crate::backward::{
+    FRONT, PART, PART_BYTES, SIGNED_BYTES, write_bar_front, write_grid_front, write_integers,
+    write_rect_front, write_vertices,
+};
 use crate::witness_print::witness_text_of;
 use crate::{Figure, GridJob};
 use itoa::Buffer;
 use map_lists::Rotations;
 use pg_plane::{BarFigure, Ints, Point, Points, RectFigure};
 use std::alloc::{AllocError, Global};
+
+// How many bytes the line of a vertex takes without its entries, and how many an entry, more or less.
+const LINE: usize = 20;
+
+const ENTRY: usize = 5;
 
 // Appends a number.
 pub(crate) fn push_number(out: &mut Vec<u8>, number: u64) -> Result<(), AllocError>
@@ -26,23 +35,6 @@ pub(crate) fn push_next(out: &mut Vec<u8>, number: u64) -> Result<(), AllocError
     push_number(out, number)
 }
 
-// Appends a space and a signed_decimal number.
-fn push_signed(out: &mut Vec<u8>, number: i32) -> Result<(), AllocError>
-    ensures { OnOk result (out.new.items ≡ out.old.items ++ 32 ∷ signed_decimal number) }
-{
-    let mut buffer = Buffer::new();
-    out.push(b' ')?;
-    out.extend_from_slice(buffer.format(number).as_bytes())
-}
-
-// Number `v` of a list of whole numbers.
-fn integer(list: &Ints, v: usize) -> i32
-    requires { v < length list.now }
-    ensures { result ≡ integer_at list.now v }
-{
-    list.get(v)
-}
-
 // Number `v` of a list of points.
 fn point(list: &Points, v: usize) -> Point
     requires { v < length list.now }
@@ -51,16 +43,37 @@ fn point(list: &Points, v: usize) -> Point
     list.get(v)
 }
 
-// Appends the neighbours of a vertex, and ends its line.
-fn push_neighbours(out: &mut Vec<u8>, list: &[u16]) -> Result<(), AllocError>
-    ensures { OnOk result (out.new.items ≡ out.old.items ++ neighbours list.now) }
+// Appends some vertices, numbered from 1 and each after a space.
+fn push_part(out: &mut Vec<u8>, list: &[u16]) -> Result<(), AllocError>
+    requires { length list.now ≤ 16 }
+    ensures { OnOk result (out.new.items ≡ out.old.items ++ flat_map (λ u. 32 ∷ decimal (u + 1)) list.now) }
 {
-    out.push(b':')?;
-    for k in 0..list.len() {
-        push_next(out, u64::from(list[k]) + 1)?;
+    let mut bytes = [b'\n'; PART_BYTES];
+    let start = write_vertices(list, &mut bytes, PART_BYTES);
+    out.extend_from_slice(&bytes[start..])
+}
+
+// The same, and ends the line.
+fn push_last(out: &mut Vec<u8>, list: &[u16]) -> Result<(), AllocError>
+    requires { length list.now ≤ 16 }
+    ensures { OnOk result (out.new.items ≡ out.old.items ++ flat_map (λ u. 32 ∷ decimal (u + 1)) list.now ++ 10 ∷ []) }
+{
+    let mut bytes = [b'\n'; PART_BYTES];
+    let start = write_vertices(list, &mut bytes, PART_BYTES - 1);
+    out.extend_from_slice(&bytes[start..])
+}
+
+// Appends the neighbours of a vertex, numbered from 1 and each after a space, and ends the line.
+fn push_neighbours(out: &mut Vec<u8>, list: &[u16]) -> Result<(), AllocError>
+    ensures { OnOk result (out.new.items ≡ out.old.items ++ flat_map (λ u. 32 ∷ decimal (u + 1)) list.now ++ 10 ∷ []) }
+{
+    let mut rest = list;
+    while rest.len() > PART {
+        let (part, behind) = rest.split_at(PART);
+        push_part(out, part)?;
+        rest = behind;
     }
-    out.push(b'\n')?;
-    Ok(())
+    push_last(out, rest)
 }
 
 // Appends the first line of a figure.
@@ -76,15 +89,22 @@ fn push_first(out: &mut Vec<u8>, k: u32, word: &[u8], n: usize) -> Result<(), Al
     Ok(())
 }
 
+// Appends the front of the line of a vertex of a straight-line drawing, up to the colon.
+fn push_grid_front(out: &mut Vec<u8>, v: usize, point: Point) -> Result<(), AllocError>
+    requires { v < usize.MAX }
+    ensures { OnOk result (out.new.items ≡ out.old.items ++ (decimal (v + 1) ++ codes " at" ++ 32 ∷ signed_decimal point.x ++ 32 ∷ signed_decimal point.y ++ 58 ∷ [])) }
+{
+    let mut bytes = [0; FRONT];
+    let start = write_grid_front(v, point, &mut bytes);
+    out.extend_from_slice(&bytes[start..])
+}
+
 // Appends the line of a vertex of a straight-line drawing.
 fn push_grid_line(out: &mut Vec<u8>, v: usize, point: Point, list: &[u16]) -> Result<(), AllocError>
     requires { v < usize.MAX }
     ensures { OnOk result (out.new.items ≡ out.old.items ++ grid_line v point list.now) }
 {
-    push_number(out, v as u64 + 1)?;
-    out.extend_from_slice(b" at")?;
-    push_signed(out, point.x)?;
-    push_signed(out, point.y)?;
+    push_grid_front(out, v, point)?;
     push_neighbours(out, list)
 }
 
@@ -97,6 +117,20 @@ fn push_grid_lines(out: &mut Vec<u8>, lists: &Rotations, points: &Points) -> Res
         push_grid_line(out, v, point(points, v), lists.list(v))?;
     }
     Ok(())
+}
+
+// Appends the front of the line of a vertex of a visibility drawing, up to the colon.
+fn push_bar_front(out: &mut Vec<u8>, v: usize, bars: &BarFigure) -> Result<(), AllocError>
+    requires max { v < usize.MAX }
+    requires y { v < length bars.now.y }
+    requires x1 { v < length bars.now.x1 }
+    requires x2 { v < length bars.now.x2 }
+    ensures { OnOk result (out.new.items ≡ out.old.items ++ (decimal (v + 1) ++ codes " y" ++ 32 ∷ signed_decimal (integer_at bars.now.y v)
+        ++ codes " x" ++ 32 ∷ signed_decimal (integer_at bars.now.x1 v) ++ 32 ∷ signed_decimal (integer_at bars.now.x2 v) ++ 58 ∷ [])) }
+{
+    let mut bytes = [0; FRONT];
+    let start = write_bar_front(v, bars, &mut bytes);
+    out.extend_from_slice(&bytes[start..])
 }
 
 // Appends the line of a vertex of a visibility drawing.
@@ -113,12 +147,7 @@ fn push_bar_line(
     ensures { OnOk result (out.new.items ≡ out.old.items
         ++ bar_line v (integer_at bars.now.y v) (integer_at bars.now.x1 v) (integer_at bars.now.x2 v) list.now) }
 {
-    push_number(out, v as u64 + 1)?;
-    out.extend_from_slice(b" y")?;
-    push_signed(out, integer(&bars.y, v))?;
-    out.extend_from_slice(b" x")?;
-    push_signed(out, integer(&bars.x1, v))?;
-    push_signed(out, integer(&bars.x2, v))?;
+    push_bar_front(out, v, bars)?;
     push_neighbours(out, list)
 }
 
@@ -133,14 +162,27 @@ fn push_bar_lines(out: &mut Vec<u8>, lists: &Rotations, bars: &BarFigure) -> Res
     Ok(())
 }
 
-// Appends signed numbers.
-fn push_integers(out: &mut Vec<u8>, list: &Ints) -> Result<(), AllocError>
+// Appends some signed numbers, each after a space.
+fn push_signed(out: &mut Vec<u8>, list: &[i32]) -> Result<(), AllocError>
+    requires { length list.now ≤ 16 }
     ensures { OnOk result (out.new.items ≡ out.old.items ++ spaced_signed list.now) }
 {
-    for k in 0..list.len() {
-        push_signed(out, integer(list, k))?;
+    let mut bytes = [0; SIGNED_BYTES];
+    let start = write_integers(list, &mut bytes);
+    out.extend_from_slice(&bytes[start..])
+}
+
+// Appends signed numbers, each after a space.
+fn push_integers(out: &mut Vec<u8>, list: &[i32]) -> Result<(), AllocError>
+    ensures { OnOk result (out.new.items ≡ out.old.items ++ spaced_signed list.now) }
+{
+    let mut rest = list;
+    while rest.len() > PART {
+        let (part, behind) = rest.split_at(PART);
+        push_signed(out, part)?;
+        rest = behind;
     }
-    Ok(())
+    push_signed(out, rest)
 }
 
 // Appends the line of the columns.
@@ -148,9 +190,24 @@ fn push_columns(out: &mut Vec<u8>, columns: &Ints) -> Result<(), AllocError>
     ensures { OnOk result (out.new.items ≡ out.old.items ++ columns_line columns.now) }
 {
     out.extend_from_slice(b"columns")?;
-    push_integers(out, columns)?;
+    push_integers(out, columns.as_slice())?;
     out.push(b'\n')?;
     Ok(())
+}
+
+// Appends the front of the line of a vertex of a rectangular dual, up to the colon.
+fn push_rect_front(out: &mut Vec<u8>, v: usize, rects: &RectFigure) -> Result<(), AllocError>
+    requires max { v < usize.MAX }
+    requires x1 { v < length rects.now.x1 }
+    requires x2 { v < length rects.now.x2 }
+    requires y1 { v < length rects.now.y1 }
+    requires y2 { v < length rects.now.y2 }
+    ensures { OnOk result (out.new.items ≡ out.old.items ++ (decimal (v + 1) ++ codes " x" ++ 32 ∷ signed_decimal (integer_at rects.now.x1 v) ++ 32 ∷ signed_decimal (integer_at rects.now.x2 v)
+        ++ codes " y" ++ 32 ∷ signed_decimal (integer_at rects.now.y1 v) ++ 32 ∷ signed_decimal (integer_at rects.now.y2 v) ++ 58 ∷ [])) }
+{
+    let mut bytes = [0; FRONT];
+    let start = write_rect_front(v, rects, &mut bytes);
+    out.extend_from_slice(&bytes[start..])
 }
 
 // Appends the line of a vertex of a rectangular dual.
@@ -168,13 +225,7 @@ fn push_rect_line(
     ensures { OnOk result (out.new.items ≡ out.old.items
         ++ rect_line v (integer_at rects.now.x1 v) (integer_at rects.now.x2 v) (integer_at rects.now.y1 v) (integer_at rects.now.y2 v) list.now) }
 {
-    push_number(out, v as u64 + 1)?;
-    out.extend_from_slice(b" x")?;
-    push_signed(out, integer(&rects.x1, v))?;
-    push_signed(out, integer(&rects.x2, v))?;
-    out.extend_from_slice(b" y")?;
-    push_signed(out, integer(&rects.y1, v))?;
-    push_signed(out, integer(&rects.y2, v))?;
+    push_rect_front(out, v, rects)?;
     push_neighbours(out, list)
 }
 
@@ -191,6 +242,12 @@ fn push_rect_lines(
         push_rect_line(out, v, rects, lists.list(v))?;
     }
     Ok(())
+}
+
+// How many bytes are asked for at first, for the text of a figure: a line for each vertex, with its entries.
+fn room_of(lists: &Rotations) -> usize {
+    let front = lists.len().saturating_mul(LINE);
+    front.saturating_add(lists.total().saturating_mul(ENTRY))
 }
 
 // The word of a method.
@@ -229,7 +286,7 @@ fn bars_of(
     requires { HasBars lists.now bars.now }
     ensures { IfOk result (λ text. text.items ≡ bars_text number lists.now bars.now) }
 {
-    let mut text = Vec::new(alloc);
+    let mut text = Vec::with_capacity(alloc, room_of(lists))?;
     push_first(&mut text, number, b"bars", lists.len())?;
     push_bar_lines(&mut text, lists, bars)?;
     push_columns(&mut text, &bars.column)?;
@@ -246,7 +303,7 @@ fn rects_of(
     requires { HasRects lists.now rects.now }
     ensures { IfOk result (λ text. text.items ≡ rects_text number lists.now rects.now) }
 {
-    let mut text = Vec::new(alloc);
+    let mut text = Vec::with_capacity(alloc, room_of(lists))?;
     push_first(&mut text, number, b"rect", lists.len())?;
     push_rect_lines(&mut text, lists, rects)?;
     Ok(text)
@@ -293,7 +350,7 @@ fn grid_of(
     requires { length points.now ≡ length lists.now }
     ensures { IfOk result (λ text. text.items ≡ grid_text number job lists.now points.now) }
 {
-    let mut text = Vec::new(alloc);
+    let mut text = Vec::with_capacity(alloc, room_of(lists))?;
     push_grid(&mut text, number, job, lists, points)?;
     Ok(text)
 }
