@@ -2,7 +2,7 @@
 # all.sh   the counts of instructions of bench/README.md, by valgrind, in one run; wants a C compiler too
 cd "$(dirname "$0")" || exit 1
 date -u +"%d %B %Y"
-for step in "slopes.py --limits" "slopes.py" "count.py" "figures.py" "figures.py --memory"; do
+for step in "slopes.py --limits" "streams.py" "slopes.py" "count.py" "figures.py" "figures.py --memory"; do
     echo
     echo "## $step"
     echo

@@ -1,0 +1,143 @@
+#!/usr/bin/env python3
+"""What each job takes on streams of records, each row beside the most that it should take: `!` where it takes more.
+
+  streams.py             all rows
+  streams.py JOB ..      the rows of these jobs; `memory` for those of memory
+
+Million instructions, counted by valgrind with the start of the program taken off, for inputs of a million bytes or of the
+number of records that is told; for `count` the ratio to the plain C program; megabytes at most for memory, of 16 MiB. Not
+part of the gate.
+"""
+import os
+import random
+import subprocess
+import sys
+
+import count
+import families
+import pigale
+import slopes
+
+MILLION = 1 << 20
+WHOLE = 15_800_000
+
+
+def million(job, data):
+    return slopes.cost(job, data) / 1e6
+
+
+def maps():
+    """The streams of maps, by a short name each."""
+    names = {
+        "triangulations of 10 to 60 vertices": "of 10 to 60",
+        "triangulations of 255 vertices": "of 255",
+        "trees and paths of 20 to 254": "trees and paths",
+        "triangulations of 6 to 12 vertices": "of 6 to 12",
+    }
+    found = {names[name]: data for name, data in count.inputs(MILLION) if name in names}
+    found["one of 4,095"] = count.record(families.shuffled(families.stacked(4095)))
+    return found
+
+
+DRAWS = {
+    "shift": {"one of 4,095": 10, "of 10 to 60": 400, "of 255": 380, "trees and paths": 650, "of 6 to 12": 480},
+    "schnyder": {"one of 4,095": 10, "of 10 to 60": 400, "of 255": 380, "trees and paths": 650, "of 6 to 12": 480},
+    "bars": {"one of 4,095": 14, "of 10 to 60": 448, "of 255": 430, "of 6 to 12": 560},
+    "convex": {"one of 4,095": 15, "of 10 to 60": 600},
+}
+
+
+def line(n, edges, source):
+    numbers = list(range(n))
+    source.shuffle(numbers)
+    return families.graph6((n, [(numbers[u], numbers[v]) for u, v in edges]))
+
+
+def planar(n, source):
+    """The edges of a triangulation, each of them there with a chance of four in five."""
+    lists = pigale.triangulation(n, source)
+    return [(v - 1, u - 1) for v, us in enumerate(lists, 1) for u in us if v < u and source.random() < 0.8]
+
+
+def random_edges(n, m, source):
+    edges = set()
+    while len(edges) < m:
+        edges.add(tuple(sorted(source.sample(range(n), 2))))
+    return sorted(edges)
+
+
+def one_more(n, source):
+    lists = pigale.triangulation(n, source)
+    edges = {(v - 1, u - 1) for v, us in enumerate(lists, 1) for u in us if v < u}
+    while True:
+        extra = tuple(sorted(source.sample(range(n), 2)))
+        if extra not in edges:
+            return sorted(edges | {extra})
+
+
+def graphs():
+    """(what, lines, the most million instructions)"""
+    source = random.Random(11)
+    kinds = (
+        ("1,000 planar graphs of 12 vertices", 1000, 12, lambda: planar(12, source), 48),
+        ("1,000 planar graphs of 62 vertices", 1000, 62, lambda: planar(62, source), 250),
+        ("200 planar graphs of 255 vertices", 200, 255, lambda: planar(255, source), 220),
+        ("1,000 random graphs of 62 vertices, none planar", 1000, 62, lambda: random_edges(62, 124, source), 150),
+        ("200 random graphs of 255 vertices, none planar", 200, 255, lambda: random_edges(255, 510, source), 90),
+        ("200 triangulations of 255 vertices with one edge more", 200, 255, lambda: one_more(255, source), 190),
+    )
+    for what, times, n, make, most in kinds:
+        yield what, "".join(line(n, make(), source) + "\n" for _ in range(times)).encode(), most
+
+
+def rows(job):
+    """(what, found, the most) of a job"""
+    if job == "count":
+        subprocess.run(["cc", "-O2", "-o", count.PLAIN, os.path.join(count.HERE, "plain_count.c")], check=True)
+        for name, data in count.inputs(MILLION):
+            path = slopes.put(data)
+            yield name + ", against plain C", count.instructions([count.PROGRAM, "count"], path) / count.instructions([count.PLAIN], path), 1.05
+    elif job in DRAWS:
+        streams = maps()
+        for name, most in DRAWS[job].items():
+            yield ("triangulations " if name.startswith("of") else "") + name, million(job, streams[name]), most
+    elif job == "rect":
+        for height, width in ((61, 67), (17, 229)):
+            yield f"a grid of {height} by {width} with diagonals", million(job, count.record(pigale.quadrangle(height, width))), 13
+    elif job == "verify":
+        drawn = slopes.answer("shift", count.record(families.shuffled(families.stacked(4095))))
+        yield "a good triangulation of 4,095 vertices", million(job, drawn), 9
+    elif job == "embed":
+        for what, lines, most in graphs():
+            yield what, million(job, lines), most
+
+
+def memory():
+    """(what, megabytes, the most)"""
+    complete = next(data for name, data in count.inputs(WHOLE) if name.startswith("one complete graph"))
+    long_line = b"figure 1 shift 3\n1 at 0 0:" + b" 2" * (WHOLE // 2) + b"\n2 at 1 0: 1\n3 at 0 1: 1\n"
+    for what, job, data, most in (
+        ("`count` of one complete graph", "count", complete, 67),
+        ("`shift` of it, refused for its genus", "shift", complete, 80),
+        ("`verify` of one line of 7.9 million numbers", "verify", long_line, 140),
+    ):
+        yield what, count.seconds([count.PROGRAM, job], slopes.put(data))[1], most
+
+
+def say(what, found, most, digits):
+    print(f"| {what} | {found:.{digits}f}{'!' if found > most else ''} | {most} |", flush=True)
+
+
+def main():
+    wanted = sys.argv[1:] or ["count", *DRAWS, "rect", "verify", "embed", "memory"]
+    print("| Input | It takes | At most |\n|---|---|---|")
+    for job in wanted:
+        if job == "memory":
+            for what, found, most in memory():
+                say(what, found, most, 0)
+        for what, found, most in rows(job):
+            say(f"`{job}`: {what}", found, most, 2 if job == "count" else 1)
+
+
+if __name__ == "__main__":
+    main()
