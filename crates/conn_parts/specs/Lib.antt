@@ -1,6 +1,7 @@
 -- Records as connected maps of genus zero without cut vertices.
 pub mod BiconnectedMaps
 pub mod Laws
+pub mod Searched
 -- Numberings of the components of maps.
 pub mod Parts
 -- Graphs as lists.

@@ -5,7 +5,7 @@ ghost use Rattle.conn_parts.specs.Laws.{BiconnectedBreakNothing};
 
 mod biconnected;
 
-pub use biconnected::biconnected_map;
+pub use biconnected::{SearchedMap, biconnected_map, searched_map};
 
 /// A biconnected map breaks no condition.
 pub fn biconnected_break_nothing()

@@ -1,27 +1,57 @@
--- Flags that tell cut vertices.
-use Rattle.std.proofs.Common.{◌≡◌, ℕ, Bool, List, length, get_or, sym, subst, arith}
+-- Children that are parted tell cut vertices, one by one and by flags.
+use Rattle.std.proofs.Common.{◌≡◌, ℕ, ◌<◌, Bool, List, [], ◌∷◌, MatchOption, Option, Some, None, length, get_or, sym, subst, inl, inr, arith}
+use Rattle.std.proofs.lemmas.Bool.{cases_lt}
 use Rattle.map_lists.specs.Lists.{Lists}
-use Rattle.map_theory.specs.Maps.{HasDart}
+use Rattle.map_theory.specs.Maps.{HasDart, list_of}
 use Rattle.graph_search.specs.Forests.{IsAdjacency, IsForestOf}
 use Rattle.graph_search.specs.Lows.{AreLows}
-use Rattle.graph_search.specs.Flags.{IsSeparatedChild, TellSeparated, AreCutFlags}
-use Rattle.graph_search.proofs.CutLemmas.{IsCutVertex-separated, not_IsCutVertex}
+use Rattle.graph_search.specs.Cuts.{IsCutVertex, IsLeastCutVertex}
+use Rattle.graph_search.specs.Flags.{IsSeparatedChild, HasSeparatedChild, TellSeparated, AreCutFlags}
+use Rattle.graph_search.proofs.WalkLemmas.{Off, linked_weaker, linked_path, path_linked_by}
+use Rattle.graph_search.proofs.CutLemmas.{off_one, IsCutVertex-separated, not_IsCutVertex}
 
--- a child is in the list, so the flags of a search tell cut vertices
-pub AreCutFlags-told : (lists : Lists) → IsAdjacency lists → (order number last parent low : List ℕ) (flags : List Bool) → IsForestOf lists order number last parent → AreLows lists number last low → length flags ≡ length lists → TellSeparated lists number parent low flags (length lists) → AreCutFlags lists flags
-AreCutFlags-told lists adjacency order number last parent low flags all lows count told =
-    let f = all.forest in
-    let n = all.numbers in
-    let sized : (m k : ℕ) (v c : ℕ) → m ≡ k → IsSeparatedChild m (λ u. get_or number u 0) (λ u. get_or parent u 0) (λ u. get_or low u 0) v c → IsSeparatedChild k (λ u. get_or number u 0) (λ u. get_or parent u 0) (λ u. get_or low u 0) v c = λ m k v c e p.
-    subst (λ x. IsSeparatedChild x (λ u. get_or number u 0) (λ u. get_or parent u 0) (λ u. get_or low u 0) v c) e p in
-    record {
-      count = count;
-      yes = λ v l e.
-          let p = told.yes v l e in
-          IsCutVertex-separated lists adjacency _ _ _ _ f (λ u. get_or low u 0) lows.at v l p.0 (sized (length number) (length lists) v p.0 n p.2);
-      no = λ v l e.
-          not_IsCutVertex lists adjacency _ _ _ _ f (λ u. get_or low u 0) lows.at v l (λ c p. told.no v l e
-          (let q = p.vertex in
-          let dart : HasDart lists v c = subst (λ x. HasDart lists x c) p.child (f.adjacent c q (let r = p.child in omega arith)) in
-          (c, dart.1, sized (length lists) (length number) v c (sym n) p)));
-    }
+-- only a vertex parts others
+pub IsCutVertex-within : (lists : Lists) → IsAdjacency lists → (v : ℕ) → IsCutVertex lists v → v < length lists
+IsCutVertex-within lists adjacency v cut =
+    elim (cases_lt v (length lists)) [
+      | inl l ↦ l
+      | inr past ↦
+          let separated = cut.2 in
+          let w = linked_path lists adjacency [] cut.0 cut.1 separated.path separated.joined in
+          let off = linked_weaker lists (Off []) (Off (v ∷ [])) (λ x l q. off_one v x (λ e. (let m = e in omega arith))) cut.0 cut.1 w in
+          let path = path_linked_by lists adjacency (v ∷ []) cut.0 cut.1 off in
+          absurd (separated.apart path.0 path.1)
+    ]
+
+module _ (lists : Lists) (adjacency : IsAdjacency lists) (order number last parent low : List ℕ) (all : IsForestOf lists order number last parent) (lows : AreLows lists number last low) where
+  sized : (m k : ℕ) (v c : ℕ) → m ≡ k → IsSeparatedChild m (λ u. get_or number u 0) (λ u. get_or parent u 0) (λ u. get_or low u 0) v c → IsSeparatedChild k (λ u. get_or number u 0) (λ u. get_or parent u 0) (λ u. get_or low u 0) v c
+  sized m k v c e p = subst (λ x. IsSeparatedChild x (λ u. get_or number u 0) (λ u. get_or parent u 0) (λ u. get_or low u 0) v c) e p
+
+  pub IsCutVertex-has : (v : ℕ) → v < length lists → HasSeparatedChild number parent low v (list_of lists v) → IsCutVertex lists v
+  IsCutVertex-has v l p = IsCutVertex-separated lists adjacency _ _ _ _ all.forest (λ u. get_or low u 0) lows.at v l p.0 (sized (length number) (length lists) v p.0 all.numbers p.2)
+
+  -- a child is in the list
+  pub not_IsCutVertex-none : (v : ℕ) → v < length lists → ¬ HasSeparatedChild number parent low v (list_of lists v) → ¬ IsCutVertex lists v
+  not_IsCutVertex-none v l none =
+      not_IsCutVertex lists adjacency _ _ _ _ all.forest (λ u. get_or low u 0) lows.at v l (λ c p. none
+      (let q = p.vertex in
+      let dart : HasDart lists v c = subst (λ x. HasDart lists x c) p.child (all.forest.adjacent c q (let r = p.child in omega arith)) in
+      (c, dart.1, sized (length lists) (length number) v c (sym all.numbers) p)))
+
+  pub AreCutFlags-told : (flags : List Bool) → length flags ≡ length lists → TellSeparated lists number parent low flags (length lists) → AreCutFlags lists flags
+  AreCutFlags-told flags count told = record {
+    count = count;
+    yes = λ v l e. IsCutVertex-has v l (told.yes v l e);
+    no = λ v l e. not_IsCutVertex-none v l (told.no v l e);
+  }
+
+  -- the first vertex with such a child is the least cut vertex
+  pub least_separating : (found : Option ℕ) → MatchOption found ((v : ℕ) → v < length lists → ¬ HasSeparatedChild number parent low v (list_of lists v)) (λ v. (v < length lists) × HasSeparatedChild number parent low v (list_of lists v) × ((u : ℕ) → u < v → ¬ HasSeparatedChild number parent low u (list_of lists u))) → MatchOption found ((v : ℕ) → ¬ IsCutVertex lists v) (λ v. IsLeastCutVertex lists v)
+  least_separating None none = λ v cut. let l = IsCutVertex-within lists adjacency v cut in not_IsCutVertex-none v l (none v l) cut
+  least_separating (Some v) first = record {
+    is_cut = IsCutVertex-has v first.0 first.1;
+    least = λ u cut. elim (cases_lt u v) [
+      | inl less ↦ absurd (not_IsCutVertex-none u (IsCutVertex-within lists adjacency u cut) (first.2 u less) cut)
+      | inr le ↦ le
+    ];
+  }

@@ -3,45 +3,13 @@ use Rattle.std.proofs.Common.{◌≡◌, ◌≢◌, ℕ, ◌+◌, ◌<◌, ◌�
 use Rattle.std.proofs.lemmas.Bool.{cases_eq, cases_lt}
 use Rattle.map_lists.specs.Lists.{Lists}
 use Rattle.graph_search.specs.Forests.{IsAdjacency}
-use Rattle.graph_search.specs.Cuts.{IsCutVertex, IsLeastCutVertex, IsSeparatingPair, IsLeastPair}
+use Rattle.graph_search.specs.Cuts.{IsSeparatingPair, IsLeastPair}
 use Rattle.graph_search.specs.Flags.{AreCutFlags}
 use Rattle.graph_search.specs.Without.{IsWithoutVertex}
-use Rattle.graph_search.proofs.WalkLemmas.{Off, linked_weaker, linked_path, path_linked_by}
-use Rattle.graph_search.proofs.CutLemmas.{off_one}
 use Rattle.graph_search.proofs.PairLemmas.{AreBoth-pair, AreBoth-turned, AreSeparated-of_rest, not_AreSeparated, both_cut}
 
 module _ (lists : Lists) (adjacency : IsAdjacency lists) where
-  -- only a vertex parts others
-  pub IsCutVertex-within : (v : ℕ) → IsCutVertex lists v → v < length lists
-  IsCutVertex-within v cut =
-      elim (cases_lt v (length lists)) [
-        | inl l ↦ l
-        | inr past ↦
-            let separated = cut.2 in
-            let w = linked_path lists adjacency [] cut.0 cut.1 separated.path separated.joined in
-            let off = linked_weaker lists (Off []) (Off (v ∷ [])) (λ x l q. off_one v x (λ e. (let m = e in omega arith))) cut.0 cut.1 w in
-            let path = path_linked_by lists adjacency (v ∷ []) cut.0 cut.1 off in
-            absurd (separated.apart path.0 path.1)
-      ]
-
   module _ (flags : List Bool) (h : AreCutFlags lists flags) where
-    pub no_cut : ((i : ℕ) → 0 ≤ i → i < length flags → get_or flags i false ≡ false) → (v : ℕ) → ¬ IsCutVertex lists v
-    no_cut none v cut =
-        let n = h.count in
-        let l = IsCutVertex-within v cut in
-        h.no v l (none v (omega arith) (omega arith)) cut
-
-    pub least_cut : (v : ℕ) → v < length flags → get_or flags v false ≡ true → ((k : ℕ) → 0 ≤ k → k < v → get_or flags k false ≡ false) → IsLeastCutVertex lists v
-    least_cut v l set before =
-        let n = h.count in
-        record {
-          is_cut = h.yes v (omega arith) set;
-          least = λ u cut. elim (cases_lt u v) [
-            | inl less ↦ absurd (h.no u (IsCutVertex-within u cut) (before u (omega arith) less) cut)
-            | inr le ↦ le
-          ];
-        }
-
     module _ (rest : Lists) (cuts : List Bool) (k : AreCutFlags rest cuts) where
       -- the partners of u, which is no cut vertex, are the cut vertices of the rest
       module _ (u : ℕ) (w : IsWithoutVertex lists rest u) (u_in : u < length lists) (other : get_or flags u false ≡ false) where

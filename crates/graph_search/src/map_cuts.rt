@@ -10,5 +10,5 @@ mod pairs;
 mod without;
 
 pub use flags::cut_flags;
-pub use least::{cut_vertex, list_cut_vertex};
+pub use least::{cut_vertex, list_cut_vertex, searched_cut_vertex};
 pub use pairs::{list_separating_pair, separating_pair};

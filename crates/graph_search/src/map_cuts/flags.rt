@@ -47,7 +47,13 @@ fn is_separated(number: &[u16], parent: &[u16], low: &[u16], v: u16, u: u16) -> 
 }
 
 // Whether a list has such a child.
-fn has_separated(list: &[u16], number: &[u16], parent: &[u16], low: &[u16], v: u16) -> bool
+pub(crate) fn has_separated(
+    list: &[u16],
+    number: &[u16],
+    parent: &[u16],
+    low: &[u16],
+    v: u16,
+) -> bool
     requires few { length number.now < 4096 }
     requires small { slice_index number.now v < length number.now }
     requires parents { length parent.now ≡ length number.now }

@@ -1,11 +1,13 @@
 //! The least cut vertex.
-ghost use Rattle.std.specs.Prelude.{◌≡◌, ◌<◌, ◌≤◌, ℕ, true, false, length, slice_index_or, MatchOption, IfOk};
-ghost use Rattle.map_theory.specs.Maps.{IsSimpleMap};
-ghost use Rattle.graph_search.specs.Forests.{IsAdjacency};
+ghost use Rattle.std.specs.Prelude.{◌≡◌, ◌<◌, ◌≤◌, ℕ, true, false, length, slice_index, slice_index_or, MatchOption, IfOk};
+ghost use Rattle.map_theory.specs.Maps.{list_of};
+ghost use Rattle.graph_search.specs.Forests.{IsAdjacency, IsForestOf};
+ghost use Rattle.graph_search.specs.Lows.{AreLows};
 ghost use Rattle.graph_search.specs.Cuts.{IsCutVertex, IsLeastCutVertex};
-ghost use Rattle.graph_search.specs.Flags.{AreCutFlags};
+ghost use Rattle.graph_search.specs.Flags.{HasSeparatedChild};
 
-use crate::map_cuts::flags::cut_flags;
+use crate::map_cuts::flags::has_separated;
+use crate::search_forests::{Forest, low_points, search_forest};
 use half_edges::HalfMap;
 use map_lists::{Rotations, VertexId};
 use std::alloc::{AllocError, Global};
@@ -23,6 +25,36 @@ pub(crate) fn first_set(flags: &[bool], from: usize) -> Option<usize>
     None
 }
 
+// The least vertex whose list has a child that it parts from other vertices.
+fn first_separating(lists: &Rotations, number: &[u16], parent: &[u16], low: &[u16]) -> Option<u16>
+    requires adjacency { IsAdjacency lists.now }
+    requires few { length lists.now < 4096 }
+    requires numbers { length number.now ≡ length lists.now }
+    requires small { (v : ℕ) → v < length lists.now → slice_index number.now v < length lists.now }
+    requires parents { length parent.now ≡ length lists.now }
+    requires lows { length low.now ≡ length lists.now }
+    ensures { MatchOption result ((v : ℕ) → v < length lists.now → ¬ HasSeparatedChild number.now parent.now low.now v (list_of lists.now v)) (λ v. (v < length lists.now) × HasSeparatedChild number.now parent.now low.now v (list_of lists.now v) × ((u : ℕ) → u < v → ¬ HasSeparatedChild number.now parent.now low.now u (list_of lists.now u))) }
+{
+    for v in 0..lists.len() {
+        if has_separated(lists.list(v), number, parent, low, v as u16) {
+            return Some(v as u16);
+        }
+    }
+    None
+}
+
+/// The least cut vertex of lists in which adjacency goes both ways, by a search of them and its low points; None
+/// exactly where there is none.
+pub fn searched_cut_vertex(lists: &Rotations, forest: &Forest, low: &[u16]) -> Option<u16>
+    requires adjacency { IsAdjacency lists.now }
+    requires few { length lists.now < 4096 }
+    requires forest { IsForestOf lists.now forest.now.order.items forest.now.number.items forest.now.last.items forest.now.parent.items }
+    requires lows { AreLows lists.now forest.now.number.items forest.now.last.items low.now }
+    ensures { MatchOption result ((v : ℕ) → ¬ IsCutVertex lists.now v) (λ v. IsLeastCutVertex lists.now v) }
+{
+    first_separating(lists, &forest.number, &forest.parent, low)
+}
+
 /// The least cut vertex of lists in which adjacency goes both ways, or None exactly where there is none, in
 /// time linear in the entries. It fails only for want of memory.
 pub fn list_cut_vertex(alloc: Global, lists: &Rotations) -> Result<Option<u16>, AllocError>
@@ -30,11 +62,9 @@ pub fn list_cut_vertex(alloc: Global, lists: &Rotations) -> Result<Option<u16>, 
     requires few { length lists.now < 4096 }
     ensures { IfOk result (λ found. MatchOption found ((v : ℕ) → ¬ IsCutVertex lists.now v) (λ v. IsLeastCutVertex lists.now v)) }
 {
-    let flags = cut_flags(alloc, lists)?;
-    match first_set(&flags, 0) {
-        Some(v) => Ok(Some(v as u16)),
-        None => Ok(None),
-    }
+    let forest = search_forest(alloc, lists)?;
+    let low = low_points(alloc, lists, &forest)?;
+    Ok(searched_cut_vertex(lists, &forest, &low))
 }
 
 /// The least cut vertex of a map, or None exactly where there is none, in linear time. It fails only for

@@ -14,4 +14,4 @@ returns c =
     let count : length flags ≡ length lists = len ∙ (c.in_ok-flags.ensures.len ∙ c.len.ensures) in
     let told = rw (c.deref.ensures.value, c.deref-2.ensures.value, c.deref-3.ensures.value) at c.set_flags.ensures in
     subst (λ (xs : List Bool). AreCutFlags lists xs) (sym (take_at flags _ c.in_ok-flags.flags.len len))
-    (AreCutFlags-told lists c.requires.adjacency f.order.items f.number.items f.last.items f.parent.items low.items flags c.in_ok-forest.ensures c.in_ok-low.ensures count told)
+    (AreCutFlags-told lists c.requires.adjacency f.order.items f.number.items f.last.items f.parent.items low.items c.in_ok-forest.ensures c.in_ok-low.ensures flags count told)
