@@ -4,5 +4,6 @@ pub mod OrderLemmas
 pub mod TableLemmas
 pub mod WholeLemmas
 pub mod FinishLemmas
+mod RankLemmas
 mod Cases
 mod Refused

@@ -1,15 +1,15 @@
 //! St-orders.
-ghost use Rattle.std.specs.Prelude.{◌≡◌, ◌<◌, ◌≤◌, ◌≢◌, ℕ, map, length, slice_index, Some, IfOk};
+ghost use Rattle.std.specs.Prelude.{◌≡◌, ◌<◌, ℕ, List, map, length, slice_index, Some, IfOk};
 ghost use Rattle.map_theory.specs.Maps.{IsSimpleMap, HasDart, component_count};
 ghost use Rattle.half_edges.specs.Map.{IsLive, dart_at};
 ghost use Rattle.graph_search.specs.Forests.{IsForestOf};
 ghost use Rattle.graph_search.specs.Lows.{AreLows};
 ghost use Rattle.graph_search.specs.Cuts.{IsCutVertex};
-ghost use Rattle.st_orders.specs.StOrders.{IsStOrderOf};
-ghost use Rattle.st_orders.specs.Placing.{ArePlaces, IsWholeSearch};
+ghost use Rattle.st_orders.specs.StOrders.{IsStOrder, IsStOrderOf};
+ghost use Rattle.st_orders.specs.Placing.{ArePlaces};
 
 use crate::places::place_all;
-use graph_search::search_forests::{low_points, search_forest_along};
+use graph_search::search_forests::{Forest, low_points, search_forest_along};
 use half_edges::{Counts, DartId, HalfMap, Rotations, VertexId, VertexList};
 use std::alloc::{AllocError, Global};
 
@@ -39,7 +39,7 @@ fn put_all(from: &[u16], at: &mut [u16])
 fn counts_of(alloc: Global, numbers: &[u16]) -> Result<Counts, AllocError>
     ensures { IfOk result (λ counts. counts ≡ numbers.now) }
 {
-    let mut counts = Counts::new(alloc);
+    let mut counts = Counts::with_capacity(alloc, numbers.len())?;
     for x in numbers {
         counts.push(u32::from(*x))?;
     }
@@ -50,25 +50,34 @@ fn counts_of(alloc: Global, numbers: &[u16]) -> Result<Counts, AllocError>
 fn vertices_of(alloc: Global, numbers: &[u16]) -> Result<VertexList, AllocError>
     ensures { IfOk result (λ vertices. map (λ v. v.0) vertices ≡ numbers.now) }
 {
-    let mut vertices = VertexList::new(alloc);
+    let mut vertices = VertexList::with_capacity(alloc, numbers.len())?;
     for x in numbers {
         vertices.push(VertexId(*x))?;
     }
     Ok(vertices)
 }
 
-// The places of an st-order for the dart from s to t.
-fn places(alloc: Global, lists: &Rotations, s: u16, t: u16) -> Result<Vec<u16>, AllocError>
+// The places of an st-order for the dart from s to t, by a search from s that sees t next.
+fn places(
+    alloc: Global,
+    lists: &Rotations,
+    forest: &Forest,
+    low: &[u16],
+    s: u16,
+    t: u16,
+) -> Result<Vec<u16>, AllocError>
     requires simple { IsSimpleMap lists.now }
     requires few { length lists.now < 4096 }
     requires connected { component_count lists.now ≡ 1 }
     requires uncut { (v : ℕ) → ¬ IsCutVertex lists.now v }
     requires dart { HasDart lists.now s t }
+    requires forest { IsForestOf lists.now forest.now.order.items forest.now.number.items forest.now.last.items forest.now.parent.items }
+    requires lows { AreLows lists.now forest.now.number.items forest.now.last.items low.now }
+    requires first { slice_index forest.now.number.items s ≡ 0 }
+    requires second { slice_index forest.now.number.items t ≡ 1 }
     ensures { IfOk result (λ from. ArePlaces lists.now s t from.items) }
 {
     let n = lists.len();
-    let forest = search_forest_along(alloc, lists, s, t)?;
-    let low = low_points(alloc, lists, &forest)?;
     let mut from = vec![in alloc; 0u16; n]?;
     let mut to = vec![in alloc; 0u16; n]?;
     let mut side = vec![in alloc; false; n]?;
@@ -79,7 +88,7 @@ fn places(alloc: Global, lists: &Rotations, s: u16, t: u16) -> Result<Vec<u16>, 
         &forest.number,
         &forest.last,
         &forest.parent,
-        &low,
+        low,
         &mut from,
         &mut to,
         &mut side,
@@ -117,8 +126,36 @@ fn list_order(alloc: Global, lists: &Rotations, s: u16, t: u16) -> Result<StOrde
     requires dart { HasDart lists.now s t }
     ensures { IfOk result (λ order. IsStOrderOf lists.now s t order) }
 {
-    let from = places(alloc, lists, s, t)?;
+    let forest = search_forest_along(alloc, lists, s, t)?;
+    let low = low_points(alloc, lists, &forest)?;
+    let from = places(alloc, lists, &forest, &low, s, t)?;
     order_of(alloc, lists, &from, s, t)
+}
+
+/// For each vertex its place, from 0, in an st-order for the dart from s to t of a connected map without cut vertices,
+/// by a search from s that sees t next, in linear time. It fails only for want of memory.
+pub fn st_ranks(
+    alloc: Global,
+    lists: &Rotations,
+    forest: &Forest,
+    low: &[u16],
+    s: u16,
+    t: u16,
+) -> Result<Counts, AllocError>
+    requires simple { IsSimpleMap lists.now }
+    requires few { length lists.now < 4096 }
+    requires connected { component_count lists.now ≡ 1 }
+    requires uncut { (v : ℕ) → ¬ IsCutVertex lists.now v }
+    requires dart { HasDart lists.now s t }
+    requires forest { IsForestOf lists.now forest.now.order.items forest.now.number.items forest.now.last.items forest.now.parent.items }
+    requires lows { AreLows lists.now forest.now.number.items forest.now.last.items low.now }
+    requires first { slice_index forest.now.number.items s ≡ 0 }
+    requires second { slice_index forest.now.number.items t ≡ 1 }
+    ensures { IfOk result (λ rank. (at : List ℕ) × IsStOrder lists.now s t at rank) }
+{
+    let from = places(alloc, lists, forest, low, s, t)?;
+    let rank = counts_of(alloc, &from)?;
+    Ok(rank)
 }
 
 /// An st-order for a dart of a connected map without cut vertices, in linear time: the dart's tail stands

@@ -6,26 +6,21 @@ use Rattle.st_orders.proofs.WholeLemmas.{IsWholeSearch-biconnected}
 use Rattle.st_orders.proofs.FinishLemmas.{ArePlaces-placed}
 use Rattle.st_orders.proofs.orders.places.Goals as goal
 
-pub search_forest_along-requires-clause-two : goal.search_forest_along-requires-clause-two
-search_forest_along-requires-clause-two c = λ e. c.requires.simple.no_loop c.args.s c.args.t c.requires.dart (sym e)
-
 pub place_all-requires-clause-whole : goal.place_all-requires-clause-whole
 place_all-requires-clause-whole c =
     let r = c.requires in
-    let f = c.in_ok-forest.forest in
-    let e = c.in_ok-forest.ensures in
-    rw (c.deref.ensures.value, c.deref-2.ensures.value, c.deref-3.ensures.value, c.deref-4.ensures.value, c.deref-5.ensures.value)
-    (IsWholeSearch-biconnected c.args.lists.now r.simple r.connected r.uncut f.order.items f.number.items f.last.items f.parent.items c.in_ok-low.low.items e.forest c.in_ok-low.ensures c.args.s c.args.t r.dart e.first e.second).0
+    let f = c.args.forest.now in
+    rw (c.deref.ensures.value, c.deref-2.ensures.value, c.deref-3.ensures.value, c.deref-4.ensures.value)
+    (IsWholeSearch-biconnected c.args.lists.now r.simple r.connected r.uncut f.order.items f.number.items f.last.items f.parent.items c.args.low.now r.forest r.lows c.args.s c.args.t r.dart r.first r.second).0
 
 pub returns : goal.returns
 returns c =
     let r = c.requires in
-    let f = c.in_ok-forest.forest in
-    let e = c.in_ok-forest.ensures in
-    let low = c.in_ok-low.low in
+    let f = c.args.forest.now in
+    let low = c.args.low.now in
     let from = c.place_all.new.from in
-    let whole = IsWholeSearch-biconnected c.args.lists.now r.simple r.connected r.uncut f.order.items f.number.items f.last.items f.parent.items low.items e.forest c.in_ok-low.ensures c.args.s c.args.t r.dart e.first e.second in
-    let placing = rw (c.deref.ensures.value, c.deref-2.ensures.value, c.deref-3.ensures.value, c.deref-4.ensures.value, c.deref-5.ensures.value) at c.place_all.ensures in
+    let whole = IsWholeSearch-biconnected c.args.lists.now r.simple r.connected r.uncut f.order.items f.number.items f.last.items f.parent.items low r.forest r.lows c.args.s c.args.t r.dart r.first r.second in
+    let placing = rw (c.deref.ensures.value, c.deref-2.ensures.value, c.deref-3.ensures.value, c.deref-4.ensures.value) at c.place_all.ensures in
     let len : length from ≡ c.in_ok-from.from.len = c.place_all.auto.from ∙ c.deref_mut.ensures.len in
     subst (λ (xs : List ℕ). ArePlaces c.args.lists.now c.args.s c.args.t xs) (sym (take_at from _ c.in_ok-from.from.len len))
-    (ArePlaces-placed c.args.lists.now (IsAdjacency-simple c.args.lists.now r.simple) f.order.items f.number.items f.last.items f.parent.items low.items from c.place_all.new.to c.place_all.new.side c.place_all.new.recent whole.0 placing c.args.s c.args.t whole.1 whole.2 r.dart)
+    (ArePlaces-placed c.args.lists.now (IsAdjacency-simple c.args.lists.now r.simple) f.order.items f.number.items f.last.items f.parent.items low from c.place_all.new.to c.place_all.new.side c.place_all.new.recent whole.0 placing c.args.s c.args.t whole.1 whole.2 r.dart)
