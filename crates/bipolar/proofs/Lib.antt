@@ -3,7 +3,8 @@ pub mod Bipolar
 pub mod Numberings
 pub mod Bars
 -- The lemmas on darts by their ids, and on rows of faces.
-mod Darts
+pub mod Darts
+mod CutRows
 mod Agree
 mod ColumnLemmas
 mod Numbered

@@ -19,6 +19,12 @@ pub record AreRightFaces (map : Map) (walks : List (List ℕ)) (rank ids row : L
   pub from : (r : ℕ) → Contains row r → (d : ℕ) × (u : ℕ) × (v : ℕ) × Contains ids d × (dart_at map d ≡ Some (u, v)) × (slice_index rank u < slice_index rank v) × InWalk map walks r v u
   pub to : (d u v : ℕ) → Contains ids d → dart_at map d ≡ Some (u, v) → slice_index rank u < slice_index rank v → (r : ℕ) × Contains row r × InWalk map walks r v u
 
+-- such a row stands behind other faces
+pub record ArePutRight (map : Map) (walks : List (List ℕ)) (rank ids old new : List ℕ) : Type 0 where
+  pub row : List ℕ
+  pub grown : new ≡ old ++ row
+  pub faces : AreRightFaces map walks rank ids row
+
 -- for each face the right faces of the upward darts of its walk
 pub record AreFaceArcs (map : Map) (walks : List (List ℕ)) (rank : List ℕ) (arcs : List (List ℕ)) : Type 0 where
   pub count : length arcs ≡ length walks
@@ -36,6 +42,13 @@ pub record IsLeftNumber (map : Map) (walks : List (List ℕ)) (rank numbers : Li
 -- a row of such numbers, for the first entries of the list of v
 pub record AreLeftNumbers (map : Map) (walks : List (List ℕ)) (rank numbers : List ℕ) (v : ℕ) (row : List ℕ) : Type 0 where
   pub entries : (i : ℕ) → i < length row → IsLeftNumber map walks rank numbers v (slice_index (list_of map.lists v) i) (slice_index row i)
+
+-- a row of so many such numbers stands behind others
+pub record ArePutNumbers (map : Map) (walks : List (List ℕ)) (rank numbers : List ℕ) (v count : ℕ) (old new : List ℕ) : Type 0 where
+  pub row : List ℕ
+  pub grown : new ≡ old ++ row
+  pub size : length row ≡ count
+  pub left : AreLeftNumbers map walks rank numbers v row
 
 -- for each vertex the numbers of its edges, in the order of its list
 pub record AreNumberRows (map : Map) (walks : List (List ℕ)) (rank numbers : List ℕ) (rows : List (List ℕ)) : Type 0 where

@@ -7,5 +7,5 @@ mod rows;
 
 pub use arcs::face_arcs;
 pub use columns::edge_columns;
-pub use numbers::{dual_numbers, dual_rows};
+pub use numbers::{dual_numbers, dual_rows, rank_rows};
 pub use rows::number_rows;

@@ -1,8 +1,8 @@
 //! The dual graph of a map with ranks.
-ghost use Rattle.std.specs.Prelude.{◌≡◌, ◌<◌, ◌^◌, ◌↔◌, ℕ, [], length, slice_index, Some, IsTrue, IfOk};
+ghost use Rattle.std.specs.Prelude.{◌≡◌, ◌<◌, ◌^◌, ◌↔◌, ℕ, length, slice_index, Some, IsTrue, IfOk};
 ghost use Rattle.half_edges.specs.Map.{IsHalfMap, IsLive, dart_at};
 ghost use Rattle.euler_faces.specs.FaceWalks.{AreFaces, walk_at, ids_of};
-ghost use Rattle.bipolar.specs.FaceArcs.{IsPutRight, AreRightFaces, AreFaceArcs};
+ghost use Rattle.bipolar.specs.FaceArcs.{IsPutRight, ArePutRight, AreFaceArcs};
 
 use euler_faces::Faces;
 use half_edges::{Counts, DartId, FaceId, HalfMap};
@@ -19,43 +19,42 @@ pub(crate) fn goes_up(map: &HalfMap, rank: &Counts, d: DartId) -> bool
     rank.get(map.tail(d).0 as usize) < rank.get(map.head(d).0 as usize)
 }
 
-// Puts the right face of an upward dart behind a row.
+// Puts the right face of an upward dart behind others.
 fn put_right(
     map: &HalfMap,
     rank: &Counts,
     faces: &Faces,
     d: DartId,
-    row: &mut Vec<u32>,
+    entries: &mut Vec<u32>,
 ) -> Result<(), AllocError>
     requires known { IsHalfMap map.now }
     requires ranks { length rank.now ≡ length map.now.lists }
     requires faces { AreFaces map.now faces.now }
     requires live { IsLive map.now d.0 }
-    ensures { IfOk result (λ _. (u v : ℕ) → dart_at map.now d.0 ≡ Some (u, v) → IsPutRight map.now faces.now rank.now u v row.old.items row.new.items) }
+    ensures { IfOk result (λ _. (u v : ℕ) → dart_at map.now d.0 ≡ Some (u, v) → IsPutRight map.now faces.now rank.now u v entries.old.items entries.new.items) }
 {
     if goes_up(map, rank, d) {
-        row.push(faces.of_dart(map.twin(d)).0)?;
+        entries.push(faces.of_dart(map.twin(d)).0)?;
     }
     Ok(())
 }
 
-// Puts the right faces of the upward darts of a walk into a row.
+// Puts the right faces of the upward darts of a walk behind others.
 fn put_walk(
     map: &HalfMap,
     rank: &Counts,
     faces: &Faces,
     f: u32,
-    row: &mut Vec<u32>,
+    entries: &mut Vec<u32>,
 ) -> Result<(), AllocError>
     requires known { IsHalfMap map.now }
     requires ranks { length rank.now ≡ length map.now.lists }
     requires faces { AreFaces map.now faces.now }
     requires face { f < length faces.now }
-    requires empty { row.old.items ≡ [] }
-    ensures { IfOk result (λ _. AreRightFaces map.now faces.now rank.now (walk_at faces.now f) row.new.items) }
+    ensures { IfOk result (λ _. ArePutRight map.now faces.now rank.now (walk_at faces.now f) entries.old.items entries.new.items) }
 {
     for d in faces.walk(FaceId(f)) {
-        put_right(map, rank, faces, *d, row)?;
+        put_right(map, rank, faces, *d, entries)?;
     }
     Ok(())
 }
@@ -73,12 +72,11 @@ pub fn face_arcs(
     ensures arcs { IfOk result (AreFaceArcs map.now faces.now rank.now) }
     ensures few { IfOk result (λ arcs. length arcs < 2 ^ 32) }
 {
-    let mut arcs = ItemLists::new(alloc);
-    let mut row = Vec::new(alloc);
+    let mut entries = Vec::with_capacity(alloc, map.m() as usize)?;
+    let mut ends = Vec::with_capacity(alloc, faces.count() as usize)?;
     for f in 0..faces.count() {
-        row.clear();
-        put_walk(map, rank, faces, f, &mut row)?;
-        arcs.push(&row)?;
+        put_walk(map, rank, faces, f, &mut entries)?;
+        ends.push(entries.len())?;
     }
-    Ok(arcs)
+    Ok(ItemLists::from_parts(entries, ends))
 }

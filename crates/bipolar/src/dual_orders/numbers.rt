@@ -39,8 +39,25 @@ fn rows_of_order(
     Ok(rows)
 }
 
-/// For each vertex the dual numbers of its edges, in the order of its list; by their clause the columns that
-/// `edge_columns` makes of them are the dual numbers. It fails only for want of memory.
+/// For each vertex the dual numbers of its edges, in the order of its list, by the ranks of an st-order; by their
+/// clause the columns that `edge_columns` makes of them are the dual numbers. It fails only for want of memory.
+pub fn rank_rows(
+    alloc: Global,
+    map: &HalfMap,
+    rank: &Counts,
+    st: DartId,
+) -> Result<ItemLists<u32>, AllocError>
+    requires live { IsLive map.now st.0 }
+    requires order { IsStOf map.now rank.now st.0 }
+    ensures { IfOk result (GiveDualNumbers map.now rank.now st.0) }
+{
+    map.facts();
+    let faces = faces(alloc, map)?;
+    let rows = rows_of_order(alloc, map, rank, &faces, st)?;
+    Ok(rows)
+}
+
+/// The same rows of an st-order. It fails only for want of memory.
 pub fn dual_rows(
     alloc: Global,
     map: &HalfMap,
@@ -53,9 +70,7 @@ pub fn dual_rows(
     requires order { (s t : ℕ) → dart_at map.now st.0 ≡ Some (s, t) → IsStOrderOf map.now.lists s t order.now }
     ensures { IfOk result (GiveDualNumbers map.now order.now.rank st.0) }
 {
-    map.facts();
-    let faces = faces(alloc, map)?;
-    let rows = rows_of_order(alloc, map, &order.rank, &faces, st)?;
+    let rows = rank_rows(alloc, map, &order.rank, st)?;
     Ok(rows)
 }
 

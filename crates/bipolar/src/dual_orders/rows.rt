@@ -1,9 +1,9 @@
 //! The numbers of left faces, round each vertex.
-ghost use Rattle.std.specs.Prelude.{◌≡◌, ◌<◌, ℕ, [], length, slice_index, Some, IfOk};
+ghost use Rattle.std.specs.Prelude.{◌≡◌, ◌<◌, ℕ, length, slice_index, Some, IfOk};
 ghost use Rattle.map_theory.specs.Maps.{list_of};
 ghost use Rattle.half_edges.specs.Map.{IsHalfMap, IsLive, dart_at, first_dart};
 ghost use Rattle.euler_faces.specs.FaceWalks.{AreFaces};
-ghost use Rattle.bipolar.specs.FaceArcs.{IsNumberOf, IsLeftNumber, AreLeftNumbers, AreNumberRows};
+ghost use Rattle.bipolar.specs.FaceArcs.{IsNumberOf, IsLeftNumber, ArePutNumbers, AreNumberRows};
 
 use crate::dual_orders::arcs::goes_up;
 use euler_faces::Faces;
@@ -38,7 +38,7 @@ fn left_number(map: &HalfMap, rank: &Counts, faces: &Faces, numbers: &[u32], d: 
     }
 }
 
-// Puts the numbers of the edges of `v` into a row; `first` is the dart to the first entry of its list.
+// Puts the numbers of the edges of `v` behind others; `first` is the dart to the first entry of its list.
 fn put_round(
     map: &HalfMap,
     rank: &Counts,
@@ -46,7 +46,7 @@ fn put_round(
     numbers: &[u32],
     v: VertexId,
     first: DartId,
-    row: &mut Vec<u32>,
+    entries: &mut Vec<u32>,
 ) -> Result<(), AllocError>
     requires known { IsHalfMap map.now }
     requires ranks { length rank.now ≡ length map.now.lists }
@@ -54,38 +54,34 @@ fn put_round(
     requires numbers { length numbers.now ≡ length faces.now }
     requires vertex { v.0 < length map.now.lists }
     requires first { dart_at map.now first.0 ≡ Some (first_dart map.now.lists v.0) }
-    requires empty { row.old.items ≡ [] }
-    ensures size { IfOk result (λ _. length row.new.items ≡ length (list_of map.now.lists v.0)) }
-    ensures row { IfOk result (λ _. AreLeftNumbers map.now faces.now rank.now numbers.now v.0 row.new.items) }
+    ensures { IfOk result (λ _. ArePutNumbers map.now faces.now rank.now numbers.now v.0 (length (list_of map.now.lists v.0)) entries.old.items entries.new.items) }
 {
     let mut d = first;
     for _ in 0..map.degree(v) {
-        row.push(left_number(map, rank, faces, numbers, d))?;
+        entries.push(left_number(map, rank, faces, numbers, d))?;
         d = map.next(d);
     }
     Ok(())
 }
 
-// Puts the numbers of the edges of `v` into a row.
+// Puts the numbers of the edges of `v` behind others.
 fn put_vertex(
     map: &HalfMap,
     rank: &Counts,
     faces: &Faces,
     numbers: &[u32],
     v: VertexId,
-    row: &mut Vec<u32>,
+    entries: &mut Vec<u32>,
 ) -> Result<(), AllocError>
     requires known { IsHalfMap map.now }
     requires ranks { length rank.now ≡ length map.now.lists }
     requires faces { AreFaces map.now faces.now }
     requires numbers { length numbers.now ≡ length faces.now }
     requires vertex { v.0 < length map.now.lists }
-    requires empty { row.old.items ≡ [] }
-    ensures size { IfOk result (λ _. length row.new.items ≡ length (list_of map.now.lists v.0)) }
-    ensures row { IfOk result (λ _. AreLeftNumbers map.now faces.now rank.now numbers.now v.0 row.new.items) }
+    ensures { IfOk result (λ _. ArePutNumbers map.now faces.now rank.now numbers.now v.0 (length (list_of map.now.lists v.0)) entries.old.items entries.new.items) }
 {
     match map.first_dart(v) {
-        Some(first) => put_round(map, rank, faces, numbers, v, first, row),
+        Some(first) => put_round(map, rank, faces, numbers, v, first, entries),
         None => Ok(()),
     }
 }
@@ -105,12 +101,11 @@ pub fn number_rows(
     requires numbers { length numbers.now ≡ length faces.now }
     ensures { IfOk result (AreNumberRows map.now faces.now rank.now numbers.now) }
 {
-    let mut rows = ItemLists::new(alloc);
-    let mut row = Vec::new(alloc);
+    let mut entries = Vec::with_capacity(alloc, 2 * map.m() as usize)?;
+    let mut ends = Vec::with_capacity(alloc, map.n() as usize)?;
     for v in 0..map.n() {
-        row.clear();
-        put_vertex(map, rank, faces, numbers, VertexId(v), &mut row)?;
-        rows.push(&row)?;
+        put_vertex(map, rank, faces, numbers, VertexId(v), &mut entries)?;
+        ends.push(entries.len())?;
     }
-    Ok(rows)
+    Ok(ItemLists::from_parts(entries, ends))
 }

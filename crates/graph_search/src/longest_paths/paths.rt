@@ -170,7 +170,7 @@ pub fn longest_paths(
     let mut waiting = vec![in alloc; 0; arcs.len()]?;
     count_arcs(&mut waiting, arcs);
     let mut number = vec![in alloc; 0; arcs.len()]?;
-    let mut queue = Vec::new(alloc);
+    let mut queue = Vec::with_capacity(alloc, arcs.len())?;
     queue.push(base)?;
     visit_all(arcs, base, &mut number, &mut waiting, &mut queue)?;
     Ok(number)
@@ -190,7 +190,7 @@ pub fn topological_order(
     let mut waiting = vec![in alloc; 0; arcs.len()]?;
     count_arcs(&mut waiting, arcs);
     let mut number = vec![in alloc; 0; arcs.len()]?;
-    let mut queue = Vec::new(alloc);
+    let mut queue = Vec::with_capacity(alloc, arcs.len())?;
     queue.push(base)?;
     visit_all(arcs, base, &mut number, &mut waiting, &mut queue)?;
     Ok(queue)

@@ -1,29 +1,27 @@
-use Rattle.std.proofs.Common.{◌≡◌, ◌++◌, ℕ, List, [], ◌∷◌, length, sym, ap, ◌∙◌, subst, inl, inr, arith}
-use Rattle.std.proofs.lemmas.Bool.{cases_lt}
-use Rattle.std.proofs.lemmas.List.{length-append, get_or_append_left, get_or_push}
-use Rattle.euler_faces.specs.FaceWalks.{walk_at}
-use Rattle.graph_search.specs.Arcs.{arcs_of}
-use Rattle.bipolar.specs.FaceArcs.{AreRightFaces}
+use Rattle.std.proofs.Common.{◌≡◌, ℕ, List, length, sym, ap, ◌∙◌, subst, arith}
+use Rattle.map_lists.proofs.CutLemmas.{length-cut}
+use Rattle.bipolar.specs.FaceArcs.{AreFaceArcs}
+use Rattle.bipolar.proofs.CutRows.{AreRowsCut-none, AreRowsCut-more}
 use Rattle.bipolar.proofs.dual_orders.arcs.face_arcs.Goals as goal
+
+pub loop-f-init : goal.loop-f-init
+loop-f-init c = AreRowsCut-none _ c.in_ok-ends.ends.items c.in_ok-entries.entries.items c.in_ok-ends.ensures.items c.in_ok-entries.ensures.items
 
 pub loop-f-preserved : goal.loop-f-preserved
 loop-f-preserved c =
-    let map = c.args.map.now in
-    let walks = c.args.faces.now in
-    let old = c.loop-f.arcs in
-    let new = c.push.new.self in
-    let row = c.deref.result.now in
-    let items = c.put_walk.new.row.items in
-    let grown : new ≡ old ++ row ∷ [] = c.in_ok-push.ensures.ok in
+    let put = c.in_ok-put_walk.ensures in
+    AreRowsCut-more _ c.loop-f.f _ c.loop-f.ends.items _ c.loop-f.entries.items c.put_walk.new.entries.items put.row c.loop-f.invariant put.grown c.in_ok-push.ensures.items (omega (arith, c.len.ensures)) put.faces
+
+pub returns-clause-arcs : goal.returns-clause-arcs
+returns-clause-arcs c =
     let h = c.loop-f.invariant in
-    record {
-      count = omega (arith, ap length grown, length-append old (row ∷ []), h.count);
-      rows = λ g l. elim (cases_lt g c.loop-f.f) [
-        | inl less ↦ subst (λ (us : List ℕ). AreRightFaces map walks c.args.rank.now (walk_at walks g) us) (sym (ap (λ (z : List (List ℕ)). arcs_of z g) grown ∙ get_or_append_left old (row ∷ []) [] g (omega (arith, less, h.count)))) (h.rows g less)
-        | inr most ↦
-            let e : g ≡ c.loop-f.f = omega (arith, most, l) in
-            let here : arcs_of new g ≡ row = ap (λ (z : List (List ℕ)). arcs_of z g) grown ∙ get_or_push old row [] g (omega (arith, e, h.count)) in
-            subst (λ (us : List ℕ). AreRightFaces map walks c.args.rank.now (walk_at walks g) us) (sym (here ∙ c.deref.ensures.value))
-            (subst (λ z. AreRightFaces map walks c.args.rank.now (walk_at walks z) items) (sym e) c.in_ok-put_walk.ensures)
-      ];
-    }
+    let all : c.loop-f.f ≡ length c.args.faces.now = omega (arith, c.loop-f-test.false, c.loop-f.auto.f-end, c.count-f-end.ensures) in
+    subst (AreFaceArcs c.args.map.now c.args.faces.now c.args.rank.now) (sym c.from_parts.ensures) (record {
+      count = length-cut 0 c.loop-f.ends.items c.loop-f.entries.items ∙ (h.number ∙ all);
+      rows = λ f l. h.each f (omega (arith, l, all));
+    })
+
+pub returns-clause-few : goal.returns-clause-few
+returns-clause-few c =
+    let h = c.loop-f.invariant in
+    omega (arith, ap (λ (ls : List (List ℕ)). length ls) c.from_parts.ensures, length-cut 0 c.loop-f.ends.items c.loop-f.entries.items, h.number, c.loop-f.auto.f-end)

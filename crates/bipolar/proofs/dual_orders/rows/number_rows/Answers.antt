@@ -1,30 +1,24 @@
-use Rattle.std.proofs.Common.{◌≡◌, ◌<◌, ◌++◌, ℕ, List, [], ◌∷◌, length, sym, ap, ◌∙◌, subst, inl, inr, arith}
-use Rattle.std.proofs.lemmas.Bool.{cases_lt}
-use Rattle.std.proofs.lemmas.List.{length-append, get_or_append_left, get_or_push}
-use Rattle.map_theory.specs.Maps.{list_of}
-use Rattle.graph_search.specs.Arcs.{arcs_of}
-use Rattle.bipolar.specs.FaceArcs.{AreLeftNumbers}
+use Rattle.std.proofs.Common.{◌≡◌, length, sym, ◌∙◌, subst, arith}
+use Rattle.map_lists.proofs.CutLemmas.{length-cut}
+use Rattle.bipolar.specs.FaceArcs.{AreNumberRows}
+use Rattle.bipolar.proofs.CutRows.{AreRowsCut-none, AreRowsCut-more}
 use Rattle.bipolar.proofs.dual_orders.rows.number_rows.Goals as goal
+
+pub loop-v-init : goal.loop-v-init
+loop-v-init c = AreRowsCut-none _ c.in_ok-ends.ends.items c.in_ok-entries.entries.items c.in_ok-ends.ensures.items c.in_ok-entries.ensures.items
 
 pub loop-v-preserved : goal.loop-v-preserved
 loop-v-preserved c =
+    let put = c.in_ok-put_vertex.ensures in
+    AreRowsCut-more _ c.loop-v.v _ c.loop-v.ends.items _ c.loop-v.entries.items c.put_vertex.new.entries.items put.row c.loop-v.invariant put.grown c.in_ok-push.ensures.items (omega (arith, c.len.ensures)) (put.size, put.left)
+
+pub returns : goal.returns
+returns c =
     let map = c.args.map.now in
-    let old = c.loop-v.rows in
-    let new = c.push.new.self in
-    let row = c.deref.result.now in
-    let grown : new ≡ old ++ row ∷ [] = c.in_ok-push.ensures.ok in
     let h = c.loop-v.invariant in
-    let v = c.loop-v.v in
-    let before : (u : ℕ) → u < v → arcs_of new u ≡ arcs_of old u = λ u l. ap (λ (z : List (List ℕ)). arcs_of z u) grown ∙ get_or_append_left old (row ∷ []) [] u (omega (arith, l, h.count)) in
-    let here : arcs_of new v ≡ c.put_vertex.new.row.items = ap (λ (z : List (List ℕ)). arcs_of z v) grown ∙ (get_or_push old row [] v h.count ∙ c.deref.ensures.value) in
-    record {
-      count = omega (arith, ap length grown, length-append old (row ∷ []), h.count);
-      sizes = λ u l. elim (cases_lt u v) [
-        | inl less ↦ ap length (before u less) ∙ h.sizes u less
-        | inr most ↦ (let e : u ≡ v = omega (arith, most, l) in subst (λ z. length (arcs_of new z) ≡ length (list_of map.lists z)) (sym e) (ap length here ∙ c.in_ok-put_vertex.ensures.size))
-      ];
-      rows = λ u l. elim (cases_lt u v) [
-        | inl less ↦ subst (AreLeftNumbers map c.args.faces.now c.args.rank.now c.args.numbers.now u) (sym (before u less)) (h.rows u less)
-        | inr most ↦ (let e : u ≡ v = omega (arith, most, l) in subst (λ z. AreLeftNumbers map c.args.faces.now c.args.rank.now c.args.numbers.now z (arcs_of new z)) (sym e) (subst (AreLeftNumbers map c.args.faces.now c.args.rank.now c.args.numbers.now v) (sym here) c.in_ok-put_vertex.ensures.row))
-      ];
-    }
+    let all : c.loop-v.v ≡ length map.lists = omega (arith, c.loop-v-test.false, c.loop-v.auto.v-end, c.n-v-end.ensures) in
+    subst (AreNumberRows map c.args.faces.now c.args.rank.now c.args.numbers.now) (sym c.from_parts.ensures) (record {
+      count = length-cut 0 c.loop-v.ends.items c.loop-v.entries.items ∙ (h.number ∙ all);
+      sizes = λ v l. (h.each v (omega (arith, l, all))).0;
+      each = λ v l. (h.each v (omega (arith, l, all))).1;
+    })

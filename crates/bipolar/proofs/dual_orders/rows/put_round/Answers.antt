@@ -1,27 +1,36 @@
-use Rattle.std.proofs.Common.{◌<◌, [], ◌∷◌, length, get_or, sym, ap, subst, arith}
-use Rattle.std.proofs.lemmas.List.{length-append}
+use Rattle.std.proofs.Common.{◌≡◌, ◌<◌, length, get_or, subst, arith}
 use Rattle.map_theory.specs.Maps.{list_of}
 use Rattle.half_edges.specs.Map.{dart_at}
-use Rattle.bipolar.specs.FaceArcs.{IsLeftNumber, AreLeftNumbers}
-use Rattle.bipolar.proofs.Darts.{AreLeftNumbers-more, next_at, next_live}
+use Rattle.bipolar.specs.FaceArcs.{ArePutNumbers}
+use Rattle.bipolar.proofs.Darts.{live_at, next_at, next_live}
+use Rattle.bipolar.proofs.CutRows.{ArePutNumbers-none, ArePutNumbers-more}
 use Rattle.bipolar.proofs.dual_orders.rows.put_round.Goals as goal
+
+pub loop-init : goal.loop-init
+loop-init c =
+    let map = c.args.map.now in
+    record {
+      live = live_at (dart_at map c.args.first.0) c.args.v.0 (get_or (list_of map.lists c.args.v.0) 0 0) c.requires.first;
+      dart = λ l. c.requires.first;
+      row = ArePutNumbers-none map c.args.faces.now c.args.rank.now c.args.numbers.now c.args.v.0 c.args.entries.now.items;
+    }
 
 pub loop-preserved : goal.loop-preserved
 loop-preserved c =
     let map = c.args.map.now in
     let v = c.args.v.0 in
     let h = c.loop.invariant in
-    let old = c.loop.row.items in
     let k = c.loop.counter in
-    let x = c.left_number.result in
-    let grown = c.in_ok-push.ensures.items in
     let in_list : k < length (list_of map.lists v) = omega (arith, c.loop-test.true, c.degree-end.ensures) in
-    let is = c.left_number.ensures v (get_or (list_of map.lists v) k 0) (h.dart in_list) in
     record {
-      count = omega (arith, ap length grown, length-append old (x ∷ []), h.count);
       live = next_live map (dart_at map c.loop.d.0) (dart_at map c.next-d.result.0) h.live c.next-d.ensures;
       dart = λ l. next_at map c.requires.known v k (dart_at map c.loop.d.0) (dart_at map c.next-d.result.0) c.requires.vertex (h.dart in_list) c.next-d.ensures l;
-      row = subst (AreLeftNumbers map c.args.faces.now c.args.rank.now c.args.numbers.now v) (sym grown)
-          (AreLeftNumbers-more map c.args.faces.now c.args.rank.now c.args.numbers.now v x old h.row
-          (subst (λ z. IsLeftNumber map c.args.faces.now c.args.rank.now c.args.numbers.now v (get_or (list_of map.lists v) z 0) x) (sym h.count) is));
+      row = ArePutNumbers-more map c.args.faces.now c.args.rank.now c.args.numbers.now v c.left_number.result k c.args.entries.now.items c.loop.entries.items _ h.row c.in_ok-push.ensures.items (c.left_number.ensures v (get_or (list_of map.lists v) k 0) (h.dart in_list));
     }
+
+pub returns : goal.returns
+returns c =
+    let map = c.args.map.now in
+    let v = c.args.v.0 in
+    let e : c.loop.counter ≡ length (list_of map.lists v) = omega (arith, c.loop-test.false, c.loop.auto.counter-end, c.degree-end.ensures) in
+    subst (λ k. ArePutNumbers map c.args.faces.now c.args.rank.now c.args.numbers.now v k c.args.entries.now.items c.loop.entries.items) e c.loop.invariant.row

@@ -1,13 +1,12 @@
 use Rattle.std.proofs.Common.{◌≡◌, ◌<◌, length, slice_index, Some}
 use Rattle.map_theory.specs.Maps.{list_of}
 use Rattle.half_edges.specs.Map.{IsLive, dart_at}
-use Rattle.bipolar.specs.FaceArcs.{AreLeftNumbers}
+use Rattle.bipolar.specs.FaceArcs.{ArePutNumbers}
 use Rattle.bipolar.proofs.dual_orders.rows.put_round.Given as goal
 
 abbrev pub invariant-loop : goal.invariant-loop
 invariant-loop l = record {
-  count : length l.row.items ≡ l.counter;
   live : IsLive l.map l.d.0;
   dart : l.counter < length (list_of l.map.lists l.fn.v.0) → dart_at l.map l.d.0 ≡ Some (l.fn.v.0, slice_index (list_of l.map.lists l.fn.v.0) l.counter);
-  row : AreLeftNumbers l.map l.faces l.rank l.numbers l.fn.v.0 l.row.items;
+  row : ArePutNumbers l.map l.faces l.rank l.numbers l.fn.v.0 l.counter l.initial.entries.items l.entries.items;
 }
