@@ -64,7 +64,7 @@ pub(crate) fn left_ends(alloc: Global, rows: &ItemLists<u32>) -> Result<Ints, Al
     requires low { (v i : ℕ) → slice_index (arcs_of rows.now v) i < 2 ^ 31 }
     ensures { IfOk result (AreEnds rows.now IsLeastOf) }
 {
-    let mut ends = Ints::new(alloc);
+    let mut ends = Ints::with_capacity(alloc, rows.len())?;
     for v in 0..rows.len() {
         ends.push(coordinate(least(rows.list(v))))?;
     }
@@ -77,7 +77,7 @@ pub(crate) fn right_ends(alloc: Global, rows: &ItemLists<u32>) -> Result<Ints, A
     requires low { (v i : ℕ) → slice_index (arcs_of rows.now v) i < 2 ^ 31 }
     ensures { IfOk result (AreEnds rows.now IsGreatestOf) }
 {
-    let mut ends = Ints::new(alloc);
+    let mut ends = Ints::with_capacity(alloc, rows.len())?;
     for v in 0..rows.len() {
         ends.push(coordinate(greatest(rows.list(v))))?;
     }
@@ -89,7 +89,7 @@ pub(crate) fn coordinates(alloc: Global, numbers: &Counts) -> Result<Ints, Alloc
     requires low { (i : ℕ) → slice_index numbers.now i < 2 ^ 31 }
     ensures { IfOk result (λ made. made ≡ map pos numbers.now) }
 {
-    let mut made = Ints::new(alloc);
+    let mut made = Ints::with_capacity(alloc, numbers.len())?;
     for i in 0..numbers.len() {
         made.push(coordinate(numbers.get(i)))?;
     }

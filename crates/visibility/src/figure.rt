@@ -8,8 +8,8 @@ ghost use Rattle.bipolar.specs.Numbered.{IsStOf, GiveDualNumbers};
 ghost use Rattle.visibility.specs.Bars.{AreBarsOf, AreBarsFor};
 
 use crate::ends::{coordinates, left_ends, right_ends};
-use bipolar::dual_orders::{dual_rows, edge_columns};
-use half_edges::{Counts, DartId, HalfMap};
+use bipolar::dual_orders::{edge_columns, rank_rows};
+use half_edges::{Counts, DartId, HalfMap, Rotations};
 use map_lists::ItemLists;
 use pg_plane::BarFigure;
 use st_orders::{StOrder, st_order};
@@ -18,6 +18,7 @@ use std::alloc::{AllocError, Global};
 // The drawing of ranks and of rows of dual numbers.
 fn bars_of_rows(
     alloc: Global,
+    lists: &Rotations,
     map: &HalfMap,
     rank: &Counts,
     rows: &ItemLists<u32>,
@@ -27,15 +28,36 @@ fn bars_of_rows(
     requires live { IsLive map.now st.0 }
     requires order { IsStOf map.now rank.now st.0 }
     requires rows { GiveDualNumbers map.now rank.now st.0 rows.now }
+    requires lists { lists.now ≡ map.now.lists }
     ensures { IfOk result (AreBarsOf map.now rank.now st.0) }
 {
-    let lists = map.rotations(alloc)?;
-    let columns = edge_columns(alloc, &lists, rows, map.m())?;
+    let columns = edge_columns(alloc, lists, rows, map.m())?;
     let y = coordinates(alloc, rank)?;
     let x1 = left_ends(alloc, rows)?;
     let x2 = right_ends(alloc, rows)?;
     let column = coordinates(alloc, &columns)?;
     Ok(BarFigure { y, x1, x2, column })
+}
+
+/// The visibility drawing of the ranks of an st-order of a connected map of genus zero with these lists: heights are
+/// ranks, columns are dual numbers, and each bar reaches from its least to its greatest column. It fails only for want
+/// of memory.
+pub fn bars_of_ranks(
+    alloc: Global,
+    lists: &Rotations,
+    map: &HalfMap,
+    rank: &Counts,
+    st: DartId,
+) -> Result<BarFigure, AllocError>
+    requires lists { lists.now ≡ map.now.lists }
+    requires live { IsLive map.now st.0 }
+    requires order { IsStOf map.now rank.now st.0 }
+    ensures { IfOk result (AreBarsOf map.now rank.now st.0) }
+{
+    map.facts();
+    let rows = rank_rows(alloc, map, rank, st)?;
+    let figure = bars_of_rows(alloc, lists, map, rank, &rows, st)?;
+    Ok(figure)
 }
 
 /// The visibility drawing of an st-order of a connected map of genus zero: heights are ranks, columns are
@@ -53,9 +75,8 @@ pub fn bars_of_order(
     requires order { (s t : ℕ) → dart_at map.now st.0 ≡ Some (s, t) → IsStOrderOf map.now.lists s t order.now }
     ensures { IfOk result (AreBarsOf map.now order.now.rank st.0) }
 {
-    map.facts();
-    let rows = dual_rows(alloc, map, order, st)?;
-    let figure = bars_of_rows(alloc, map, &order.rank, &rows, st)?;
+    let lists = map.rotations(alloc)?;
+    let figure = bars_of_ranks(alloc, &lists, map, &order.rank, st)?;
     Ok(figure)
 }
 

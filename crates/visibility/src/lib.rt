@@ -6,4 +6,4 @@ mod ends;
 mod figure;
 
 pub use bar_check::{BarVerdict, check_bars};
-pub use figure::{bars, bars_of_order};
+pub use figure::{bars, bars_of_order, bars_of_ranks};

@@ -3,13 +3,16 @@ ghost use Rattle.std.specs.Prelude.{◌≡◌, ◌<◌, length, Some, IfOk, IfEr
 ghost use Rattle.half_edges.specs.Map.{IsLive, dart_at, first_dart as first_of};
 ghost use Rattle.refusals.specs.Conditions.{IfRefused};
 ghost use Rattle.conn_parts.specs.BiconnectedMaps.{IsBiconnectedMap, BreaksFirst};
+ghost use Rattle.conn_parts.specs.Searched.{IsSearchOf};
 ghost use Rattle.visibility.specs.Figures.{IsBarFigure};
 
-use crate::bars;
-use conn_parts::biconnected_maps::biconnected_map;
+use crate::bars_of_ranks;
+use conn_parts::biconnected_maps::searched_map;
+use graph_search::search_forests::Forest;
 use half_edges::{DartId, HalfMap, Rotations, VertexId};
 use pg_plane::BarFigure;
 use refusals::Unserved;
+use st_orders::st_ranks;
 use std::alloc::{AllocError, Global};
 
 // The dart from vertex 0 to the first of its list.
@@ -24,12 +27,25 @@ fn first_dart(map: &HalfMap) -> DartId
     }
 }
 
-// The bars of a biconnected map.
-fn map_bars(alloc: Global, map: &HalfMap) -> Result<BarFigure, AllocError>
-    requires biconnected { IsBiconnectedMap 3 map.now.lists }
-    ensures { IfOk result (IsBarFigure map.now.lists) }
+// The bars of a biconnected map with these lists, by the search that found it to be one.
+fn map_bars(
+    alloc: Global,
+    lists: &Rotations,
+    map: &HalfMap,
+    forest: &Forest,
+    low: &[u16],
+) -> Result<BarFigure, AllocError>
+    requires lists { map.now.lists ≡ lists.now }
+    requires biconnected { IsBiconnectedMap 3 lists.now }
+    requires few { length lists.now < 4096 }
+    requires search { IsSearchOf lists.now forest.now.order.items forest.now.number.items forest.now.last.items forest.now.parent.items low.now }
+    ensures { IfOk result (IsBarFigure lists.now) }
 {
-    bars(alloc, map, first_dart(map))
+    let st = first_dart(map);
+    let t = lists.list(0)[0];
+    let rank = st_ranks(alloc, lists, forest, low, 0, t)?;
+    let figure = bars_of_ranks(alloc, lists, map, &rank, st)?;
+    Ok(figure)
 }
 
 /// The figure of a record with these lists, which are from 1 to 4095: each vertex as a level bar, each edge as a
@@ -50,7 +66,7 @@ pub fn bar_figure(alloc: Global, lists: &Rotations) -> Result<BarFigure, Unserve
     ensures served { OnOk result (IsBiconnectedMap 3 lists.now) }
     ensures refused { IfErr result (IfRefused (BreaksFirst 3 lists.now)) }
 {
-    let map = biconnected_map(alloc, lists, 3)?;
-    let figure = map_bars(alloc, &map)?;
+    let found = searched_map(alloc, lists, 3)?;
+    let figure = map_bars(alloc, lists, &found.map, &found.forest, &found.low)?;
     Ok(figure)
 }

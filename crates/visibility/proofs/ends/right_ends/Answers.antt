@@ -5,7 +5,7 @@ use Rattle.visibility.proofs.EndRows.{AreEndsBelow, AreEndsBelow-more}
 use Rattle.visibility.proofs.ends.right_ends.Goals as goal
 
 pub loop-v-init : goal.loop-v-init
-loop-v-init c = record { count = ap (λ (l : List ℤ). length l) c.new-ends.ensures; each = λ u l. absurd (omega arith) }
+loop-v-init c = record { count = ap (λ (l : List ℤ). length l) c.in_ok-ends.ensures; each = λ u l. absurd (omega arith) }
 
 pub loop-v-preserved : goal.loop-v-preserved
 loop-v-preserved c =

@@ -19,10 +19,10 @@ pub right_ends-requires-clause-low : goal.right_ends-requires-clause-low
 right_ends-requires-clause-low c = small_rows c.args.map.now c.requires.known c.args.rank.now c.args.st.0 c.requires.live c.requires.order c.args.rows.now c.requires.rows
 
 pub coordinates-requires-2 : goal.coordinates-requires-2
-coordinates-requires-2 c = record { low = small_columns c.args.map.now c.requires.known c.args.rank.now c.args.st.0 c.requires.live c.requires.order c.args.rows.now c.requires.rows c.in_ok-columns.columns (subst (λ (ls : List (List ℕ)). AreColumns ls c.args.rows.now c.in_ok-columns.columns) c.in_ok-lists.ensures c.in_ok-columns.ensures) }
+coordinates-requires-2 c = record { low = small_columns c.args.map.now c.requires.known c.args.rank.now c.args.st.0 c.requires.live c.requires.order c.args.rows.now c.requires.rows c.in_ok-columns.columns (subst (λ (ls : List (List ℕ)). AreColumns ls c.args.rows.now c.in_ok-columns.columns) c.requires.lists c.in_ok-columns.ensures) }
 
 pub returns : goal.returns
 returns c =
     bars_are c.args.map.now c.requires.known c.args.rank.now c.args.st.0 c.requires.live c.requires.order c.args.rows.now c.requires.rows c.in_ok-columns.columns
-    (subst (λ (ls : List (List ℕ)). AreColumns ls c.args.rows.now c.in_ok-columns.columns) c.in_ok-lists.ensures c.in_ok-columns.ensures)
+    (subst (λ (ls : List (List ℕ)). AreColumns ls c.args.rows.now c.in_ok-columns.columns) c.requires.lists c.in_ok-columns.ensures)
     _ c.in_ok-y.ensures c.in_ok-column.ensures c.in_ok-x1.ensures c.in_ok-x2.ensures
