@@ -49,7 +49,7 @@ turned : (x y u : ℕ) → (x ≡ u) ⊎ (y ≡ u) → (u ≡ x) ⊎ (u ≡ y)
 turned x y u (inl e) = inl (sym e)
 turned x y u (inr e) = inr (sym e)
 
-head_of : (x y z w : ℕ) → ◌≡◌ {A = Option Dart} (Some (x, y)) (Some (z, w)) → (x ≡ z) × (y ≡ w)
+pub head_of : (x y z w : ℕ) → ◌≡◌ {A = Option Dart} (Some (x, y)) (Some (z, w)) → (x ≡ z) × (y ≡ w)
 head_of x y z w e = (ap (λ (o : Option Dart). (unwrap_or o (0, 0)).0) e, ap (λ (o : Option Dart). (unwrap_or o (0, 0)).1) e)
 
 module _ (map : Map) (known : IsHalfMap map) (walks : List (List ℕ)) (faces : AreFaces map walks) where
@@ -60,7 +60,7 @@ module _ (map : Map) (known : IsHalfMap map) (walks : List (List ℕ)) (faces : 
   has_dart f x y p = known.is_dart p.0 x y p.2
 
   -- each dart stands in some walk
-  some_walk : (x y : ℕ) → HasDart lists x y → (f : ℕ) × StandsIn map walks f x y
+  pub some_walk : (x y : ℕ) → HasDart lists x y → (f : ℕ) × StandsIn map walks f x y
   some_walk x y has =
       let id = known.has_id x y has in
       let at = faces.all id.0 (live_from (dart_at map id.0) (x, y) id.1) in
@@ -81,7 +81,7 @@ module _ (map : Map) (known : IsHalfMap map) (walks : List (List ℕ)) (faces : 
   same_face f x y z w p q = same_class-from (face_classes lists) (dart_number lists (x, y)) (dart_number lists (z, w)) (sym (in_first f x y p) ∙ in_first f z w q)
 
   -- and the other way about
-  same_walk : (f x y z w : ℕ) → StandsIn map walks f x y → HasDart lists z w → SameFace lists (x, y) (z, w) → StandsIn map walks f z w
+  pub same_walk : (f x y z w : ℕ) → StandsIn map walks f x y → HasDart lists z w → SameFace lists (x, y) (z, w) → StandsIn map walks f z w
   same_walk f x y z w p has same =
       let id = known.has_id z w has in
       let together = in_first f x y p ∙ Together-from (face_classes lists) (dart_number lists (x, y)) (dart_number lists (z, w)) same in

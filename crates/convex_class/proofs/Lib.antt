@@ -8,6 +8,7 @@ mod MeetingLemmas
 mod RingLemmas
 mod ClearLemmas
 mod Bad
+mod ShortFaces
 mod FacePairsRefused
 -- Lemmas on records as three-connected maps.
 pub mod BiconnectedLemmas

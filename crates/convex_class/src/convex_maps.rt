@@ -5,7 +5,7 @@ ghost use Rattle.convex_class.specs.Laws.{ThreeConnectedBreakNothing};
 
 mod biconnected;
 
-pub use biconnected::convex_map;
+pub use biconnected::{ConvexMap, convex_map, convex_map_with_faces};
 
 /// A three-connected map of genus zero breaks no condition.
 pub fn three_connected_break_nothing()

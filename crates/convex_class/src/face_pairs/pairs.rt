@@ -1,8 +1,8 @@
 //! The least separating pair.
-ghost use Rattle.std.specs.Prelude.{◌≡◌, ◌≢◌, ◌<◌, ◌≤◌, ℕ, length, Some, MatchOption, IfOk};
+ghost use Rattle.std.specs.Prelude.{◌≡◌, ◌≢◌, ◌<◌, ◌≤◌, ℕ, length, Some, MatchOption, IsTrue, IfOk};
 ghost use Rattle.map_theory.specs.Maps.{IsPlane};
 ghost use Rattle.half_edges.specs.Map.{IsHalfMap, IsLive, dart_at, first_dart};
-ghost use Rattle.euler_faces.specs.FaceWalks.{AreFaces};
+ghost use Rattle.euler_faces.specs.FaceWalks.{AreFaces, walk_at};
 ghost use Rattle.graph_search.specs.Cuts.{IsCutVertex, IsSeparatingPair, IsLeastPair};
 ghost use Rattle.convex_peeling.specs.PolyhedralMapsLaws.{IsPlaneUncut};
 ghost use Rattle.convex_class.specs.Passing.{IsUnused};
@@ -10,7 +10,7 @@ ghost use Rattle.convex_class.specs.Passing.{IsUnused};
 use crate::face_pairs::least::least_paired;
 use crate::face_pairs::marks::mark_walk;
 use euler_faces::{Faces, faces};
-use half_edges::{DartId, HalfMap, VertexId};
+use half_edges::{DartId, FaceId, HalfMap, VertexId};
 use std::alloc::{AllocError, Global};
 
 // The least greater vertex with which u is a separating pair, or the number of vertices; `first` is the
@@ -85,12 +85,50 @@ fn first_pair(
     None
 }
 
+// Whether no face has more than three darts.
+fn has_short_faces(faces: &Faces) -> bool
+    ensures { IsTrue result → (f : ℕ) → f < length faces.now → length (walk_at faces.now f) ≤ 3 }
+{
+    for f in 0..faces.count() {
+        let walk = faces.walk(FaceId(f));
+        if walk.len() > 3 {
+            return false;
+        }
+    }
+    true
+}
+
 /// The least separating pair of a map of genus zero without cut vertices, by its first vertex and then by
-/// its second, or None exactly where there is none.
+/// its second, or None exactly where there is none. The faces are those of the map.
 ///
 /// It fails only for want of memory. The memory is linear in the vertices and the darts, and so is the time for a
 /// connected map of at least four vertices. Elsewhere the time is the sum of the lengths of faces over the darts:
-/// quadratic at most.
+/// quadratic at most. A map of triangles has no pair, and no search is made there.
+pub fn separating_pair_by(
+    alloc: Global,
+    map: &HalfMap,
+    faces: &Faces,
+) -> Result<Option<(VertexId, VertexId)>, AllocError>
+    requires plane { IsPlane map.now.lists }
+    requires uncut { (v : ℕ) → ¬ IsCutVertex map.now.lists v }
+    requires faces { AreFaces map.now faces.now }
+    ensures { IfOk result (λ found. MatchOption found ((u v : ℕ) → ¬ IsSeparatingPair map.now.lists u v) (λ p. IsLeastPair map.now.lists p.0.0 p.1.0)) }
+{
+    map.facts();
+    if has_short_faces(faces) {
+        return Ok(None);
+    }
+    let from = least_paired(alloc, map, faces)?;
+    if from >= map.n() {
+        return Ok(None);
+    }
+    let mut marks = vec![in alloc; map.n(); map.n() as usize]?;
+    let pair = first_pair(map, faces, from, &mut marks);
+    Ok(pair)
+}
+
+/// The least separating pair of a map of genus zero without cut vertices, as [`separating_pair_by`] finds it by the
+/// faces of the map.
 pub fn plane_separating_pair(
     alloc: Global,
     map: &HalfMap,
@@ -99,13 +137,7 @@ pub fn plane_separating_pair(
     requires uncut { (v : ℕ) → ¬ IsCutVertex map.now.lists v }
     ensures { IfOk result (λ found. MatchOption found ((u v : ℕ) → ¬ IsSeparatingPair map.now.lists u v) (λ p. IsLeastPair map.now.lists p.0.0 p.1.0)) }
 {
-    map.facts();
-    let faces = faces(alloc, map)?;
-    let from = least_paired(alloc, map, &faces)?;
-    if from >= map.n() {
-        return Ok(None);
-    }
-    let mut marks = vec![in alloc; map.n(); map.n() as usize]?;
-    let pair = first_pair(map, &faces, from, &mut marks);
+    let all = faces(alloc, map)?;
+    let pair = separating_pair_by(alloc, map, &all)?;
     Ok(pair)
 }
