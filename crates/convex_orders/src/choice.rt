@@ -7,7 +7,7 @@ ghost use Rattle.convex_orders.specs.Counts.{AreCounts};
 ghost use Rattle.convex_orders.specs.Shown.{is_set, IsBased, IsChoice, GoesOffNear, GoesOffAt};
 ghost use Rattle.convex_orders.specs.Splits.{IsOpenAt, NoneSplit, IsRemovableRow, IsRemovablePlace, IsGoneRun};
 
-use crate::contour_counts::{edge_at, move_to, step_back};
+use crate::contour_counts::{edge_near, move_to, step_back};
 use crate::face_numbers::FaceNumbers;
 use map_lists::Rotations;
 use std::alloc::AllocError;
@@ -176,29 +176,51 @@ pub(crate) fn find(
 }
 
 // Whether the edges from place i on and from the next place on have one number.
-fn same_face(lists: &Rotations, faces: &FaceNumbers, left: &[u16], right: &[u16], i: usize) -> bool
+fn same_face(
+    lists: &Rotations,
+    faces: &FaceNumbers,
+    hints: &[u16],
+    left: &[u16],
+    right: &[u16],
+    i: usize,
+) -> bool
     requires simple { IsSimpleMap lists.now }
     requires numbers { AreFaceNumbers lists.now faces.now.own faces.now.other faces.now.count }
     requires within { suc (suc i) < length left.now + length right.now }
     requires darts { AreEdges lists.now (contour_of left.now right.now) }
     ensures { IsTrue result ↔ (inner_number lists.now faces.now.own (contour_of left.now right.now) i ≡ inner_number lists.now faces.now.own (contour_of left.now right.now) (suc i)) }
 {
-    edge_at(lists, faces, left, right, i) == edge_at(lists, faces, left, right, i + 1)
+    edge_near(lists, faces, hints, left, right, i)
+        == edge_near(lists, faces, hints, left, right, i + 1)
 }
 
 // Whether the edges behind place j have one number.
-fn has_right(lists: &Rotations, faces: &FaceNumbers, left: &[u16], right: &[u16], j: usize) -> bool
+fn has_right(
+    lists: &Rotations,
+    faces: &FaceNumbers,
+    hints: &[u16],
+    left: &[u16],
+    right: &[u16],
+    j: usize,
+) -> bool
     requires simple { IsSimpleMap lists.now }
     requires numbers { AreFaceNumbers lists.now faces.now.own faces.now.other faces.now.count }
     requires within { suc j < length left.now + length right.now }
     requires darts { AreEdges lists.now (contour_of left.now right.now) }
     ensures { IsTrue result ↔ ((suc (suc j) < length left.now + length right.now) × (inner_number lists.now faces.now.own (contour_of left.now right.now) j ≡ inner_number lists.now faces.now.own (contour_of left.now right.now) (suc j))) }
 {
-    j + 2 < left.len() + right.len() && same_face(lists, faces, left, right, j)
+    j + 2 < left.len() + right.len() && same_face(lists, faces, hints, left, right, j)
 }
 
 // Whether the edges before place j have one number.
-fn has_left(lists: &Rotations, faces: &FaceNumbers, left: &[u16], right: &[u16], j: usize) -> bool
+fn has_left(
+    lists: &Rotations,
+    faces: &FaceNumbers,
+    hints: &[u16],
+    left: &[u16],
+    right: &[u16],
+    j: usize,
+) -> bool
     requires simple { IsSimpleMap lists.now }
     requires numbers { AreFaceNumbers lists.now faces.now.own faces.now.other faces.now.count }
     requires within { j < length left.now + length right.now }
@@ -206,7 +228,7 @@ fn has_left(lists: &Rotations, faces: &FaceNumbers, left: &[u16], right: &[u16],
     ensures yes { IsTrue result → (h : ℕ) × (suc (suc h) ≡ j) × (inner_number lists.now faces.now.own (contour_of left.now right.now) h ≡ inner_number lists.now faces.now.own (contour_of left.now right.now) (suc h)) }
     ensures no { (h : ℕ) → suc (suc h) ≡ j → inner_number lists.now faces.now.own (contour_of left.now right.now) h ≡ inner_number lists.now faces.now.own (contour_of left.now right.now) (suc h) → IsTrue result }
 {
-    j >= 2 && same_face(lists, faces, left, right, j - 2)
+    j >= 2 && same_face(lists, faces, hints, left, right, j - 2)
 }
 
 /// Takes the marks of the numbers of a row away.
@@ -233,6 +255,7 @@ fn take_at(
     marks: &mut [bool],
     lists: &Rotations,
     faces: &FaceNumbers,
+    hints: &[u16],
     left: &[u16],
     right: &[u16],
     tail: u16,
@@ -255,10 +278,10 @@ fn take_at(
     let _edges = edges;
     let _base = (tail, head);
     let j = left.len() - 1;
-    if has_right(lists, faces, left, right, j) {
-        clear_one(marks, edge_at(lists, faces, left, right, j));
-    } else if has_left(lists, faces, left, right, j) {
-        clear_one(marks, edge_at(lists, faces, left, right, j - 1));
+    if has_right(lists, faces, hints, left, right, j) {
+        clear_one(marks, edge_near(lists, faces, hints, left, right, j));
+    } else if has_left(lists, faces, hints, left, right, j) {
+        clear_one(marks, edge_near(lists, faces, hints, left, right, j - 1));
     } else {
         clear_row(marks, faces.own.list(left[j] as usize));
     }
@@ -269,6 +292,7 @@ fn is_kept(
     marks: &[bool],
     lists: &Rotations,
     faces: &FaceNumbers,
+    hints: &[u16],
     left: &[u16],
     right: &[u16],
     i: usize,
@@ -280,7 +304,7 @@ fn is_kept(
     requires darts { AreEdges lists.now (contour_of left.now right.now) }
     ensures { result ≡ is_set marks.now (inner_number lists.now faces.now.own (contour_of left.now right.now) i) }
 {
-    marks[edge_at(lists, faces, left, right, i) as usize]
+    marks[edge_near(lists, faces, hints, left, right, i) as usize]
 }
 
 // Where the edges without marks end, from the vertex before the place on.
@@ -288,6 +312,7 @@ fn end_of(
     marks: &[bool],
     lists: &Rotations,
     faces: &FaceNumbers,
+    hints: &[u16],
     left: &[u16],
     right: &[u16],
 ) -> usize
@@ -299,7 +324,7 @@ fn end_of(
     ensures { (first end j : ℕ) → suc j ≡ length left.now → first ≤ j → j ≤ end → IsGoneRun lists.now faces.now.own marks.now (contour_of left.now right.now) first end → result ≡ end }
 {
     for i in left.len() - 1..left.len() + right.len() - 1 {
-        if is_kept(marks, lists, faces, left, right, i) {
+        if is_kept(marks, lists, faces, hints, left, right, i) {
             return i;
         }
     }
@@ -311,6 +336,7 @@ fn first_of(
     marks: &[bool],
     lists: &Rotations,
     faces: &FaceNumbers,
+    hints: &[u16],
     left: &[u16],
     right: &[u16],
 ) -> usize
@@ -322,7 +348,7 @@ fn first_of(
     ensures { (first end j : ℕ) → suc j ≡ length left.now → first ≤ j → j ≤ end → IsGoneRun lists.now faces.now.own marks.now (contour_of left.now right.now) first end → result ≡ first }
 {
     for k in 1..left.len() {
-        if is_kept(marks, lists, faces, left, right, left.len() - 1 - k) {
+        if is_kept(marks, lists, faces, hints, left, right, left.len() - 1 - k) {
             return left.len() - k;
         }
     }
@@ -334,6 +360,7 @@ pub(crate) fn take_run(
     marks: &mut [bool],
     lists: &Rotations,
     faces: &FaceNumbers,
+    hints: &[u16],
     left: &[u16],
     right: &[u16],
     tail: u16,
@@ -352,9 +379,11 @@ pub(crate) fn take_run(
     ensures long { length marks.new ≡ length marks.old }
     ensures goes { (alive : ℕ → Bool) (w : ℕ → ℕ) (r : ℕ) → IsChoice lists.now faces.now.own marks.old tail head (contour_of left.now right.now) alive w r → GoesOffAt lists.now faces.now.own marks.new alive w r result.0 result.1 }
 {
-    take_at(marks, lists, faces, left, right, tail, head, places, edges);
+    take_at(
+        marks, lists, faces, hints, left, right, tail, head, places, edges,
+    );
     (
-        first_of(marks, lists, faces, left, right),
-        end_of(marks, lists, faces, left, right),
+        first_of(marks, lists, faces, hints, left, right),
+        end_of(marks, lists, faces, hints, left, right),
     )
 }

@@ -112,18 +112,32 @@ fn put_rows(
     Ok(())
 }
 
-/// The numbers of the faces of a map. It fails only for want of memory. The time is linear in the darts, and so
-/// is the memory.
-pub fn face_numbers(alloc: Global, map: &HalfMap) -> Result<FaceNumbers, AllocError>
+/// The numbers of the faces of a map, which are given. It fails only for want of memory. The time is linear in the
+/// darts, and so is the memory.
+pub fn numbers_of_faces(
+    alloc: Global,
+    map: &HalfMap,
+    faces: &Faces,
+) -> Result<FaceNumbers, AllocError>
+    requires faces { AreFaces map.now faces.now }
     ensures { IfOk result (λ t. AreFaceNumbers map.now.lists t.own t.other t.count) }
 {
     map.facts();
-    let all = faces(alloc, map)?;
-    let mut own = ItemLists::new(alloc);
-    let mut other = ItemLists::new(alloc);
+    let items = 2 * map.m() as usize;
+    let mut own = ItemLists::with_capacity(alloc, items, map.n() as usize)?;
+    let mut other = ItemLists::with_capacity(alloc, items, map.n() as usize)?;
     let mut row = Vec::new(alloc);
     let mut row_back = Vec::new(alloc);
-    put_rows(map, &all, &mut own, &mut other, &mut row, &mut row_back)?;
-    let count = all.count();
+    put_rows(map, faces, &mut own, &mut other, &mut row, &mut row_back)?;
+    let count = faces.count();
     Ok(FaceNumbers { own, other, count })
+}
+
+/// The numbers of the faces of a map, as [`numbers_of_faces`] gives them.
+pub fn face_numbers(alloc: Global, map: &HalfMap) -> Result<FaceNumbers, AllocError>
+    ensures { IfOk result (λ t. AreFaceNumbers map.now.lists t.own t.other t.count) }
+{
+    let all = faces(alloc, map)?;
+    let numbers = numbers_of_faces(alloc, map, &all)?;
+    Ok(numbers)
 }

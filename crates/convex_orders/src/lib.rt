@@ -13,4 +13,4 @@ mod placed;
 mod rims;
 mod rounds;
 
-pub use orders::convex_rows;
+pub use orders::{convex_rows, rows_by_faces};

@@ -2,28 +2,40 @@
 ghost use Rattle.std.specs.Prelude.{◌≡◌, ◌<◌, ℕ, [], length, Some, IfOk};
 ghost use Rattle.map_theory.specs.Maps.{IsPlane};
 ghost use Rattle.convex_peeling.specs.Polyhedral.{IsThreeConnected};
+ghost use Rattle.euler_faces.specs.FaceWalks.{AreFaces};
 ghost use Rattle.half_edges.specs.Map.{IsLive, dart_at};
 ghost use Rattle.convex_laws.specs.Removed.{AreRowsOfRun};
 ghost use Rattle.convex_orders.specs.Tables.{AreTables};
 
-use crate::face_numbers::face_numbers;
+use crate::face_numbers::numbers_of_faces;
 use crate::rounds::{Tables, put_all};
 use convex_laws::convex_rows::ConvexRows;
+use euler_faces::{Faces, faces};
 use half_edges::{DartId, HalfMap};
 use map_lists::Rotations;
 use std::alloc::{AllocError, Global};
 
-// No rows.
-fn no_rows(alloc: Global) -> ConvexRows
-    ensures rows { result.rows ≡ [] }
-    ensures cuts { result.cuts ≡ [] }
-    ensures news { result.news ≡ [] }
+// No rows, with room for those of a map with so many darts.
+fn no_rows(alloc: Global, darts: usize) -> Result<ConvexRows, AllocError>
+    ensures rows { IfOk result (λ r. r.rows ≡ []) }
+    ensures cuts { IfOk result (λ r. r.cuts ≡ []) }
+    ensures news { IfOk result (λ r. r.news ≡ []) }
 {
-    ConvexRows {
-        rows: Rotations::new(alloc),
-        cuts: Rotations::new(alloc),
-        news: Rotations::new(alloc),
-    }
+    let rows = Rotations::with_capacity(alloc, darts, darts / 2)?;
+    let cuts = Rotations::with_capacity(alloc, darts, darts / 2)?;
+    let news = Rotations::with_capacity(alloc, darts / 2, darts / 2)?;
+    Ok(ConvexRows { rows, cuts, news })
+}
+
+// Lists as they are.
+fn copied(alloc: Global, lists: &Rotations) -> Result<Rotations, AllocError>
+    ensures { IfOk result (λ copy. copy ≡ lists.now) }
+{
+    let mut entries = Vec::with_capacity(alloc, lists.total())?;
+    entries.extend_from_slice(lists.entries())?;
+    let mut ends = Vec::with_capacity(alloc, lists.len())?;
+    ends.extend_from_slice(lists.ends())?;
+    Ok(Rotations::from_parts(entries, ends))
 }
 
 // The rows of a map by its tables.
@@ -31,16 +43,17 @@ fn rows_from(alloc: Global, tables: &Tables) -> Result<ConvexRows, AllocError>
     requires known { AreTables tables.now }
     ensures { IfOk result (AreRowsOfRun tables.now.lists tables.now.tail tables.now.head) }
 {
-    let mut rows = no_rows(alloc);
+    let mut rows = no_rows(alloc, tables.lists.total())?;
     let count = tables.faces.count as usize;
     let mut marks = vec![in alloc; true; count]?;
     let mut places = vec![in alloc; 0u16; count]?;
     let mut edges = vec![in alloc; 0u16; count]?;
     let mut hints = vec![in alloc; 0u16; tables.lists.len()]?;
-    let mut left = Vec::new(alloc);
-    let mut right = Vec::new(alloc);
+    let mut left = Vec::with_capacity(alloc, tables.lists.len())?;
+    let mut right = Vec::with_capacity(alloc, tables.lists.len())?;
+    let mut cuts = Vec::with_capacity(alloc, tables.lists.len())?;
     put_all(
-        alloc,
+        &mut cuts,
         &mut rows,
         &mut marks,
         &mut left,
@@ -50,6 +63,32 @@ fn rows_from(alloc: Global, tables: &Tables) -> Result<ConvexRows, AllocError>
         &mut hints,
         tables,
     )?;
+    Ok(rows)
+}
+
+/// The rows that [`convex_rows`] gives, by the lists of the map and its faces.
+pub fn rows_by_faces(
+    alloc: Global,
+    map: &HalfMap,
+    lists: &Rotations,
+    faces: &Faces,
+    base: DartId,
+) -> Result<ConvexRows, AllocError>
+    requires plane { IsPlane map.now.lists }
+    requires three { IsThreeConnected map.now.lists }
+    requires lists { map.now.lists ≡ lists.now }
+    requires faces { AreFaces map.now faces.now }
+    requires live { IsLive map.now base.0 }
+    ensures { IfOk result (λ rows. (s d : ℕ) → dart_at map.now base.0 ≡ Some (s, d) → AreRowsOfRun map.now.lists s d rows) }
+{
+    map.facts();
+    let tables = Tables {
+        lists: copied(alloc, lists)?,
+        faces: numbers_of_faces(alloc, map, faces)?,
+        tail: map.tail(base).0,
+        head: map.head(base).0,
+    };
+    let rows = rows_from(alloc, &tables)?;
     Ok(rows)
 }
 
@@ -64,13 +103,8 @@ pub fn convex_rows(alloc: Global, map: &HalfMap, base: DartId) -> Result<ConvexR
     requires live { IsLive map.now base.0 }
     ensures { IfOk result (λ rows. (s d : ℕ) → dart_at map.now base.0 ≡ Some (s, d) → AreRowsOfRun map.now.lists s d rows) }
 {
-    map.facts();
-    let tables = Tables {
-        lists: map.rotations(alloc)?,
-        faces: face_numbers(alloc, map)?,
-        tail: map.tail(base).0,
-        head: map.head(base).0,
-    };
-    let rows = rows_from(alloc, &tables)?;
+    let lists = map.rotations(alloc)?;
+    let all = faces(alloc, map)?;
+    let rows = rows_by_faces(alloc, map, &lists, &all, base)?;
     Ok(rows)
 }

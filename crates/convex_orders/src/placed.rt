@@ -7,21 +7,22 @@ ghost use Rattle.convex_orders.specs.Contours.{contour_of, AreEdges};
 ghost use Rattle.convex_orders.specs.Counts.{met_between, edges_between, AreCounts};
 ghost use Rattle.convex_orders.specs.Cuts.{edge_number, AreCutPlaces, SomeCutPlaces, IsCutRow, IsPutIn, IsTakenOut};
 
-use crate::contour_counts::{lower_part, move_to, number_of, part, raise_part};
+use crate::contour_counts::{lower_part_near, move_to, number_near, part, raise_part_near};
 use crate::face_numbers::FaceNumbers;
 use convex_laws::convex_rows::ConvexRows;
 use map_lists::Rotations;
-use std::alloc::{AllocError, Global};
+use std::alloc::AllocError;
 
 // Whether the edges from place p on and from the next place on have one number.
-fn same_edge(lists: &Rotations, faces: &FaceNumbers, ws: &[u16], p: usize) -> bool
+fn same_edge(lists: &Rotations, faces: &FaceNumbers, hints: &[u16], ws: &[u16], p: usize) -> bool
     requires simple { IsSimpleMap lists.now }
     requires numbers { AreFaceNumbers lists.now faces.now.own faces.now.other faces.now.count }
     requires within { p + 2 < length ws.now }
     requires edges { (i : ℕ) → suc i < length ws.now → HasDart lists.now (slice_index ws.now i) (slice_index ws.now (suc i)) }
     ensures { IsTrue result ↔ (edge_number lists.now faces.now.own ws.now p ≡ edge_number lists.now faces.now.own ws.now (suc p)) }
 {
-    number_of(lists, faces, ws[p], ws[p + 1]) == number_of(lists, faces, ws[p + 1], ws[p + 2])
+    number_near(lists, faces, hints, ws[p], ws[p + 1])
+        == number_near(lists, faces, hints, ws[p + 1], ws[p + 2])
 }
 
 // Appends a number, unless the test holds.
@@ -39,6 +40,7 @@ fn put_cuts(
     row: &mut Vec<u16>,
     lists: &Rotations,
     faces: &FaceNumbers,
+    hints: &[u16],
     ws: &[u16],
     first: usize,
     last: usize,
@@ -55,7 +57,7 @@ fn put_cuts(
 {
     row.push(0)?;
     for p in first + 1..last {
-        let test = same_edge(lists, faces, ws, p - 1);
+        let test = same_edge(lists, faces, hints, ws, p - 1);
         push_unless(row, test, (p - first) as u16)?;
     }
     row.push((last - first) as u16)?;
@@ -94,12 +96,13 @@ fn push_news(rows: &mut ConvexRows, news: &[u16]) -> Result<(), AllocError>
     Ok(())
 }
 
-// Appends the cuts and the vertices from place `first` to the end of the list.
+// Appends the cuts and the vertices from place `first` to the end of the list; `cuts` is room for them.
 fn put_row(
-    alloc: Global,
+    cuts: &mut Vec<u16>,
     rows: &mut ConvexRows,
     lists: &Rotations,
     faces: &FaceNumbers,
+    hints: &[u16],
     us: &[u16],
     first: usize,
     last: usize,
@@ -113,9 +116,9 @@ fn put_row(
     requires some { SomeCutPlaces lists.now faces.now.own us.now first last }
     ensures { IfOk result (λ _. (count : ℕ) (cut : ℕ → ℕ) → AreCutPlaces lists.now faces.now.own us.now first last count cut → IsPutIn us.now first last count cut rows.old rows.new) }
 {
-    let mut cuts = Vec::new(alloc);
-    put_cuts(&mut cuts, lists, faces, us, first, last)?;
-    push_row(rows, part(us, first, last + 1), &cuts)?;
+    cuts.clear();
+    put_cuts(cuts, lists, faces, hints, us, first, last)?;
+    push_row(rows, part(us, first, last + 1), cuts)?;
     Ok(())
 }
 
@@ -129,6 +132,7 @@ pub(crate) fn take_out(
     edges: &mut [u16],
     lists: &Rotations,
     faces: &FaceNumbers,
+    hints: &[u16],
     first: usize,
     end: usize,
 ) -> Result<u16, AllocError>
@@ -145,7 +149,7 @@ pub(crate) fn take_out(
     ensures edges { IfOk result (λ _. (f : ℕ) → f < length edges.old → slice_index edges.new f + edges_between lists.now faces.now.own (contour_of left.old.items right.old.items) first end f ≡ slice_index edges.old f) }
 {
     move_to(left, right, end + 1)?;
-    lower_part(places, edges, lists, faces, left, first, end);
+    lower_part_near(places, edges, lists, faces, hints, left, first, end);
     let x = left[end];
     push_news(rows, part(left, first + 1, end))?;
     left.truncate(first + 1);
@@ -154,13 +158,14 @@ pub(crate) fn take_out(
 
 /// Counts what came behind place `first` of the list, and appends its row.
 pub(crate) fn put_in(
-    alloc: Global,
+    cuts: &mut Vec<u16>,
     rows: &mut ConvexRows,
     left: &[u16],
     places: &mut [u16],
     edges: &mut [u16],
     lists: &Rotations,
     faces: &FaceNumbers,
+    hints: &[u16],
     first: usize,
 ) -> Result<(), AllocError>
     requires simple { IsSimpleMap lists.now }
@@ -180,6 +185,6 @@ pub(crate) fn put_in(
     ensures row { IfOk result (λ _. (count : ℕ) (cut : ℕ → ℕ) → AreCutPlaces lists.now faces.now.own left.now first (length left.now - 1) count cut → IsPutIn left.now first (length left.now - 1) count cut rows.old rows.new) }
 {
     let last = left.len() - 1;
-    raise_part(places, edges, lists, faces, left, first, last);
-    put_row(alloc, rows, lists, faces, left, first, last)
+    raise_part_near(places, edges, lists, faces, hints, left, first, last);
+    put_row(cuts, rows, lists, faces, hints, left, first, last)
 }

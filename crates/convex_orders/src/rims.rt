@@ -5,6 +5,7 @@ ghost use Rattle.convex_orders.specs.FaceNumbers.{entry, AreFaceNumbers};
 ghost use Rattle.convex_orders.specs.Shown.{is_set, IsListOf, IsTrace, SomeTrace, IsRimIn};
 ghost use Rattle.convex_orders.specs.Splits.{IsRimAt};
 
+use crate::contour_counts::hint_at;
 use crate::face_numbers::FaceNumbers;
 use map_lists::Rotations;
 use std::alloc::AllocError;
@@ -51,15 +52,6 @@ fn rim_near(own: &[u32], other: &[u32], marks: &[bool], from: usize) -> usize
     match rim_from(own, other, marks, from) {
         Some(k) => k,
         None => first_rim(own, other, marks),
-    }
-}
-
-// Where the rim was last seen at a vertex, or 0.
-fn hint_at(hints: &[u16], v: usize) -> usize {
-    if v < hints.len() {
-        usize::from(hints[v])
-    } else {
-        0
     }
 }
 

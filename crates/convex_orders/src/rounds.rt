@@ -17,7 +17,7 @@ use crate::placed::{push_lists, put_in, take_out};
 use crate::rims::trace;
 use convex_laws::convex_rows::ConvexRows;
 use map_lists::{ItemLists, Rotations};
-use std::alloc::{AllocError, Global};
+use std::alloc::AllocError;
 
 /// What the removals read: the lists of a map, the numbers of its faces, and the base, by its two ends.
 #[derive(Drop)]
@@ -30,7 +30,7 @@ pub(crate) struct Tables {
 
 // Takes out what stands strictly between two places, goes along what comes there, and appends the row.
 fn advance(
-    alloc: Global,
+    cuts: &mut Vec<u16>,
     rows: &mut ConvexRows,
     marks: &[bool],
     left: &mut Vec<u16>,
@@ -53,15 +53,17 @@ fn advance(
 {
     let lists = &tables.lists;
     let faces = &tables.faces;
-    let x = take_out(rows, left, right, places, edges, lists, faces, first, end)?;
+    let x = take_out(
+        rows, left, right, places, edges, lists, faces, hints, first, end,
+    )?;
     trace(left, lists, faces, marks, hints, x)?;
-    put_in(alloc, rows, left, places, edges, lists, faces, first)?;
+    put_in(cuts, rows, left, places, edges, lists, faces, hints, first)?;
     Ok(())
 }
 
 // Takes off what goes next, and appends its row.
 fn round(
-    alloc: Global,
+    cuts: &mut Vec<u16>,
     rows: &mut ConvexRows,
     marks: &mut [bool],
     left: &mut Vec<u16>,
@@ -89,6 +91,7 @@ fn round(
         marks,
         lists,
         faces,
+        hints,
         left,
         right,
         tables.tail,
@@ -97,7 +100,7 @@ fn round(
         edges,
     );
     advance(
-        alloc, rows, marks, left, right, places, edges, hints, tables, first, end,
+        cuts, rows, marks, left, right, places, edges, hints, tables, first, end,
     )?;
     Ok(())
 }
@@ -134,7 +137,7 @@ fn put_last(
 
 // Takes one removal after another, to the last one.
 fn peel(
-    alloc: Global,
+    cuts: &mut Vec<u16>,
     rows: &mut ConvexRows,
     marks: &mut [bool],
     left: &mut Vec<u16>,
@@ -157,9 +160,7 @@ fn peel(
             put_last(rows, left, right, tables.tail, tables.head)?;
             return Ok(());
         }
-        round(
-            alloc, rows, marks, left, right, places, edges, hints, tables,
-        )?;
+        round(cuts, rows, marks, left, right, places, edges, hints, tables)?;
     }
     Ok(())
 }
@@ -207,7 +208,7 @@ fn clear_before_base(marks: &mut [bool], own: &ItemLists<u32>, ws: &[u16])
 /// Takes all removals: the face of the base, then the vertex before the base with all its faces, and then one after
 /// another. All numbers are marked at first.
 pub(crate) fn put_all(
-    alloc: Global,
+    cuts: &mut Vec<u16>,
     rows: &mut ConvexRows,
     marks: &mut [bool],
     left: &mut Vec<u16>,
@@ -234,7 +235,7 @@ pub(crate) fn put_all(
     clear_before_base(marks, &tables.faces.own, left);
     let r = left.len() - 1;
     advance(
-        alloc,
+        cuts,
         rows,
         marks,
         left,
@@ -246,8 +247,6 @@ pub(crate) fn put_all(
         r - 2,
         r,
     )?;
-    peel(
-        alloc, rows, marks, left, right, places, edges, hints, tables,
-    )?;
+    peel(cuts, rows, marks, left, right, places, edges, hints, tables)?;
     Ok(())
 }

@@ -5,7 +5,7 @@ ghost use Rattle.convex_orders.specs.FaceNumbers.{entry, IsTable, AreFaceNumbers
 ghost use Rattle.convex_orders.specs.Contours.{AreEdges, inner_number};
 ghost use Rattle.convex_orders.specs.Counts.{met_below, edges_below, met_between, edges_between, AreCounts};
 
-use crate::contour_counts::numbers::number_of;
+use crate::contour_counts::numbers::number_back;
 use crate::contour_counts::stacks::part;
 use crate::face_numbers::FaceNumbers;
 use map_lists::{ItemLists, Rotations};
@@ -57,7 +57,7 @@ fn lower_vertices(places: &mut [u16], own: &ItemLists<u32>, vs: &[u16])
 }
 
 // Adds edges.
-fn raise_edges(edges: &mut [u16], lists: &Rotations, faces: &FaceNumbers, vs: &[u16])
+fn raise_edges(edges: &mut [u16], lists: &Rotations, faces: &FaceNumbers, hints: &[u16], vs: &[u16])
     requires simple { IsSimpleMap lists.now }
     requires numbers { AreFaceNumbers lists.now faces.now.own faces.now.other faces.now.count }
     requires table { IsTable lists.now faces.now.own (length edges.old) }
@@ -67,13 +67,13 @@ fn raise_edges(edges: &mut [u16], lists: &Rotations, faces: &FaceNumbers, vs: &[
     ensures { (f : ℕ) → f < length edges.old → slice_index edges.new f ≡ slice_index edges.old f + edges_below lists.now faces.now.own vs.now (length vs.now - 1) f }
 {
     for i in 0..vs.len() - 1 {
-        let f = number_of(lists, faces, vs[i + 1], vs[i]) as usize;
+        let f = number_back(lists, faces, hints, vs[i + 1], vs[i]) as usize;
         edges[f] += 1;
     }
 }
 
 // Takes edges away.
-fn lower_edges(edges: &mut [u16], lists: &Rotations, faces: &FaceNumbers, vs: &[u16])
+fn lower_edges(edges: &mut [u16], lists: &Rotations, faces: &FaceNumbers, hints: &[u16], vs: &[u16])
     requires simple { IsSimpleMap lists.now }
     requires numbers { AreFaceNumbers lists.now faces.now.own faces.now.other faces.now.count }
     requires table { IsTable lists.now faces.now.own (length edges.old) }
@@ -83,9 +83,38 @@ fn lower_edges(edges: &mut [u16], lists: &Rotations, faces: &FaceNumbers, vs: &[
     ensures { (f : ℕ) → f < length edges.old → slice_index edges.new f + edges_below lists.now faces.now.own vs.now (length vs.now - 1) f ≡ slice_index edges.old f }
 {
     for i in 0..vs.len() - 1 {
-        let f = number_of(lists, faces, vs[i + 1], vs[i]) as usize;
+        let f = number_back(lists, faces, hints, vs[i + 1], vs[i]) as usize;
         edges[f] -= 1;
     }
+}
+
+/// Adds what comes at places of the list: the rows of the vertices strictly between, and all edges. The numbers are
+/// looked for where `hints` has the places; whatever it has, the counts are the same.
+pub fn raise_part_near(
+    places: &mut [u16],
+    edges: &mut [u16],
+    lists: &Rotations,
+    faces: &FaceNumbers,
+    hints: &[u16],
+    ws: &[u16],
+    first: usize,
+    last: usize,
+)
+    requires simple { IsSimpleMap lists.now }
+    requires numbers { AreFaceNumbers lists.now faces.now.own faces.now.other faces.now.count }
+    requires table { IsTable lists.now faces.now.own (length edges.old) }
+    requires long { length places.old ≡ length edges.old }
+    requires order { first < last }
+    requires within { last < length ws.now }
+    requires vertices { (i : ℕ) → i < length ws.now → slice_index ws.now i < length lists.now }
+    requires edges { AreEdges lists.now ws.now }
+    requires room { (f : ℕ) → f < length places.old → slice_index places.old f + met_between faces.now.own ws.now first last f < 65536 }
+    requires room_edges { (f : ℕ) → f < length edges.old → slice_index edges.old f + edges_between lists.now faces.now.own ws.now first last f < 65536 }
+    ensures places { (f : ℕ) → f < length places.old → slice_index places.new f ≡ slice_index places.old f + met_between faces.now.own ws.now first last f }
+    ensures edges { (f : ℕ) → f < length edges.old → slice_index edges.new f ≡ slice_index edges.old f + edges_between lists.now faces.now.own ws.now first last f }
+{
+    raise_vertices(places, &faces.own, part(ws, first + 1, last));
+    raise_edges(edges, lists, faces, hints, part(ws, first, last + 1));
 }
 
 /// Adds what comes at places of the list: the rows of the vertices strictly between, and all edges.
@@ -111,8 +140,36 @@ pub fn raise_part(
     ensures places { (f : ℕ) → f < length places.old → slice_index places.new f ≡ slice_index places.old f + met_between faces.now.own ws.now first last f }
     ensures edges { (f : ℕ) → f < length edges.old → slice_index edges.new f ≡ slice_index edges.old f + edges_between lists.now faces.now.own ws.now first last f }
 {
-    raise_vertices(places, &faces.own, part(ws, first + 1, last));
-    raise_edges(edges, lists, faces, part(ws, first, last + 1));
+    raise_part_near(places, edges, lists, faces, &[], ws, first, last);
+}
+
+/// Takes away what goes from places of the list: the rows of the vertices strictly between, and all edges. The numbers are
+/// looked for where `hints` has the places; whatever it has, the counts are the same.
+pub fn lower_part_near(
+    places: &mut [u16],
+    edges: &mut [u16],
+    lists: &Rotations,
+    faces: &FaceNumbers,
+    hints: &[u16],
+    ws: &[u16],
+    first: usize,
+    last: usize,
+)
+    requires simple { IsSimpleMap lists.now }
+    requires numbers { AreFaceNumbers lists.now faces.now.own faces.now.other faces.now.count }
+    requires table { IsTable lists.now faces.now.own (length edges.old) }
+    requires long { length places.old ≡ length edges.old }
+    requires order { first < last }
+    requires within { last < length ws.now }
+    requires vertices { (i : ℕ) → i < length ws.now → slice_index ws.now i < length lists.now }
+    requires edges { AreEdges lists.now ws.now }
+    requires some { (f : ℕ) → f < length places.old → met_between faces.now.own ws.now first last f ≤ slice_index places.old f }
+    requires some_edges { (f : ℕ) → f < length edges.old → edges_between lists.now faces.now.own ws.now first last f ≤ slice_index edges.old f }
+    ensures places { (f : ℕ) → f < length places.old → slice_index places.new f + met_between faces.now.own ws.now first last f ≡ slice_index places.old f }
+    ensures edges { (f : ℕ) → f < length edges.old → slice_index edges.new f + edges_between lists.now faces.now.own ws.now first last f ≡ slice_index edges.old f }
+{
+    lower_vertices(places, &faces.own, part(ws, first + 1, last));
+    lower_edges(edges, lists, faces, hints, part(ws, first, last + 1));
 }
 
 /// Takes away what goes from places of the list: the rows of the vertices strictly between, and all edges.
@@ -138,8 +195,7 @@ pub fn lower_part(
     ensures places { (f : ℕ) → f < length places.old → slice_index places.new f + met_between faces.now.own ws.now first last f ≡ slice_index places.old f }
     ensures edges { (f : ℕ) → f < length edges.old → slice_index edges.new f + edges_between lists.now faces.now.own ws.now first last f ≡ slice_index edges.old f }
 {
-    lower_vertices(places, &faces.own, part(ws, first + 1, last));
-    lower_edges(edges, lists, faces, part(ws, first, last + 1));
+    lower_part_near(places, edges, lists, faces, &[], ws, first, last);
 }
 
 /// Counts a whole contour. At first there are no counts.
@@ -164,5 +220,5 @@ pub fn raise_all(
     ensures { AreCounts lists.now faces.now.own (length edges.old) ws.now places.new edges.new }
 {
     raise_vertices(places, &faces.own, ws);
-    raise_edges(edges, lists, faces, ws);
+    raise_edges(edges, lists, faces, &[], ws);
 }

@@ -1,14 +1,8 @@
-use Rattle.std.proofs.Common.{ℕ, List, ◌<◌, ◌≡◌, length, get_or, sym, ap, ◌∙◌, subst}
-use Rattle.map_theory.specs.Maps.{list_of}
-use Rattle.convex_orders.proofs.ContourCountsRows.{entry_of_place}
+use Rattle.std.proofs.Common.{ℕ, List, ◌<◌, length, get_or, sym, ap, ◌∙◌, subst}
 use Rattle.convex_orders.proofs.contour_counts.numbers.number_in.Goals as goal
 
-pub returns : goal.returns
-returns c =
-    let lists = c.args.lists.now in
-    let x = c.args.x in
-    let k = c.place_in-k.result in
-    let e = c.list.ensures in
-    let m : k < length (list_of lists x) = subst (λ (z : List ℕ). k < length z) e c.place_in-k.ensures.within in
-    let at : get_or (list_of lists x) k 0 ≡ c.args.y = ap (λ (z : List ℕ). get_or z k 0) (sym e) ∙ c.place_in-k.ensures.here in
-    ap (λ (z : List ℕ). get_or z k 0) c.list-2.ensures ∙ entry_of_place lists c.args.table.now c.requires.simple x c.args.y k c.requires.dart m at
+pub number_at-requires-clause-within : goal.number_at-requires-clause-within
+number_at-requires-clause-within c = subst (λ (z : List ℕ). c.place_in-k.result < length z) c.list.ensures c.place_in-k.ensures.within
+
+pub number_at-requires-clause-here : goal.number_at-requires-clause-here
+number_at-requires-clause-here c = ap (λ (z : List ℕ). get_or z c.place_in-k.result 0) (sym c.list.ensures) ∙ c.place_in-k.ensures.here

@@ -3,10 +3,10 @@ use Rattle.map_theory.specs.Maps.{HasDart}
 use Rattle.convex_orders.specs.FaceNumbers.{entry}
 use Rattle.convex_orders.specs.Contours.{contour_of}
 use Rattle.convex_orders.proofs.Moves.{length-contour}
-use Rattle.convex_orders.proofs.contour_counts.stacks.edge_at.Goals as goal
+use Rattle.convex_orders.proofs.contour_counts.stacks.edge_near.Goals as goal
 
-pub number_of-requires-clause-dart : goal.number_of-requires-clause-dart
-number_of-requires-clause-dart c =
+pub number_back-requires-clause-dart : goal.number_back-requires-clause-dart
+number_back-requires-clause-dart c =
     let lists = c.args.lists.now in
     let ws = contour_of c.args.left.now c.args.right.now in
     let i = c.args.i in
@@ -19,4 +19,4 @@ returns c =
     let ws = contour_of c.args.left.now c.args.right.now in
     let i = c.args.i in
     let z : i + 1 ≡ suc i = omega arith in
-    c.number_of.ensures ∙ ap₂ (entry c.args.lists.now c.args.faces.now.own) (c.vertex_at.ensures ∙ ap (λ k. get_or ws k 0) z) c.vertex_at-2.ensures
+    c.number_back.ensures ∙ ap₂ (entry c.args.lists.now c.args.faces.now.own) (c.vertex_at.ensures ∙ ap (λ k. get_or ws k 0) z) c.vertex_at-2.ensures
