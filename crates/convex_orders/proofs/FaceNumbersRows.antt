@@ -1,5 +1,5 @@
 -- Darts by their ids, and rows of numbers as a table.
-use Rattle.std.proofs.Common.{◌≡◌, ◌≢◌, ℕ, ◌+◌, ◌<◌, List, [], ◌∷◌, ◌++◌, length, get_or, AllPairs, Option, Some, None, refl, sym, ap, ◌∙◌, subst, inl, inr, arith}
+use Rattle.std.proofs.Common.{◌≡◌, ◌≢◌, ℕ, ◌+◌, ◌<◌, List, [], ◌∷◌, ◌++◌, length, get_or, AllPairs, Option, Some, None, refl, sym, ap, ◌∙◌, subst, inl, inr, arith, append_assoc, append-nil}
 use Rattle.std.specs.Prelude.{option_map, IsSome}
 use Rattle.std.proofs.lemmas.Bool.{cases_lt, false≢true}
 use Rattle.std.proofs.lemmas.List.{get_or_default, get_or_append_left, get_or_push, length-append}
@@ -12,7 +12,7 @@ use Rattle.euler_faces.specs.FaceWalks.{walk_at, first_number, AreFaces}
 use Rattle.euler_faces.proofs.NumberLemmas.{number_at-is}
 use Rattle.euler_faces.proofs.WalkFaces.{in_class, in_walk}
 use Rattle.convex_peeling.specs.Contours.{face_of}
-use Rattle.convex_orders.specs.FaceNumbers.{entry, AreFaceNumbers, InWalk, AreOwn, AreOther}
+use Rattle.convex_orders.specs.FaceNumbers.{entry, AreFaceNumbers, InWalk, AreOwn, AreOther, IsRowPut}
 
 -- what a live id stands for
 pub live_dart : (o : Option Dart) → IsSome o → (u : ℕ) × (v : ℕ) × (o ≡ Some (u, v))
@@ -60,6 +60,20 @@ AreOther-more map walks v x row w is = record {
         subst (λ z. InWalk map walks (get_or (row ++ x ∷ []) z 0) (get_or (list_of map.lists v) z 0) v) (sym e)
         (subst (λ z. InWalk map walks z (get_or (list_of map.lists v) (length row) 0) v) (sym (get_or_push row x 0 (length row) refl)) is)
   ];
+}
+
+-- no number yet at the end of a row
+pub IsRowPut-none : (P : List ℕ → Type 0) (entries : List ℕ) → P [] → IsRowPut P 0 entries entries
+IsRowPut-none P entries none = record { row = []; grown = sym (append-nil entries); long = refl; is = none }
+
+-- and one more
+pub IsRowPut-more :
+    (P : List ℕ → Type 0) (k x : ℕ) (old mid new : List ℕ) → new ≡ mid ++ x ∷ [] → ((row : List ℕ) → length row ≡ k → P row → P (row ++ x ∷ [])) → IsRowPut P k old mid → IsRowPut P (k + 1) old new
+IsRowPut-more P k x old mid new grown more h = record {
+  row = h.row ++ x ∷ [];
+  grown = grown ∙ (ap (λ z. z ++ x ∷ []) h.grown ∙ append_assoc old h.row (x ∷ []));
+  long = omega (arith, length-append h.row (x ∷ []), h.long);
+  is = more h.row h.long h.is;
 }
 
 module _ (map : Map) (h : IsHalfMap map) (walks : List (List ℕ)) (faces : AreFaces map walks) where

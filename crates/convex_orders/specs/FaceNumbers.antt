@@ -1,5 +1,5 @@
 -- A number for each face, told for each entry of the lists: that of the face of its dart, and that of the face of the dart back.
-use Rattle.std.specs.Prelude.{ℕ, ◌<◌, ◌≡◌, ◌↔◌, List, length, slice_index, Contains, Some}
+use Rattle.std.specs.Prelude.{ℕ, ◌<◌, ◌≡◌, ◌↔◌, List, ◌++◌, length, slice_index, Contains, Some}
 use Rattle.map_lists.specs.Lists.{Lists}
 use Rattle.map_theory.specs.Maps.{list_of, HasDart, place_of}
 use Rattle.half_edges.specs.Map.{Map, dart_at}
@@ -34,3 +34,10 @@ pub record AreOwn (map : Map) (walks : List (List ℕ)) (v : ℕ) (row : List �
 -- of the darts that come to v
 pub record AreOther (map : Map) (walks : List (List ℕ)) (v : ℕ) (row : List ℕ) : Type 0 where
   pub each : (i : ℕ) → i < length row → InWalk map walks (slice_index row i) (slice_index (list_of map.lists v) i) v
+
+-- a row more at the end: so many numbers, of which P holds
+pub record IsRowPut (P : List ℕ → Type 0) (size : ℕ) (old new : List ℕ) : Type 0 where
+  pub row : List ℕ
+  pub grown : new ≡ old ++ row
+  pub long : length row ≡ size
+  pub is : P row

@@ -5,7 +5,8 @@ ghost use Rattle.std.specs.Prelude.{◌≡◌, ◌<◌, ◌^◌, ℕ, [], length
 ghost use Rattle.map_theory.specs.Maps.{list_of};
 ghost use Rattle.half_edges.specs.Map.{IsHalfMap, IsLive, dart_at, first_dart};
 ghost use Rattle.euler_faces.specs.FaceWalks.{AreFaces};
-ghost use Rattle.convex_orders.specs.FaceNumbers.{InWalk, AreOwn, AreOther, AreFaceNumbers};
+ghost use Rattle.convex_orders.specs.FaceNumbers.{InWalk, AreOwn, AreOther, AreFaceNumbers, IsRowPut};
+ghost use Rattle.map_lists.specs.Cuts.{cut, AreCuts};
 
 use euler_faces::{Faces, faces};
 use half_edges::{DartId, HalfMap, VertexId};
@@ -33,7 +34,7 @@ fn number_of(map: &HalfMap, faces: &Faces, d: DartId) -> u32
     faces.of_dart(d).0
 }
 
-// Puts the numbers of the edges of `v` into rows; `first` is the dart to the first entry of its list.
+// Appends the numbers of the edges of `v` to two rows; `first` is the dart to the first entry of its list.
 fn put_round(
     map: &HalfMap,
     faces: &Faces,
@@ -46,12 +47,8 @@ fn put_round(
     requires faces { AreFaces map.now faces.now }
     requires vertex { v.0 < length map.now.lists }
     requires first { dart_at map.now first.0 ≡ Some (first_dart map.now.lists v.0) }
-    requires own_empty { own.old.items ≡ [] }
-    requires other_empty { other.old.items ≡ [] }
-    ensures own_size { IfOk result (λ _. length own.new.items ≡ length (list_of map.now.lists v.0)) }
-    ensures own { IfOk result (λ _. AreOwn map.now faces.now v.0 own.new.items) }
-    ensures other_size { IfOk result (λ _. length other.new.items ≡ length (list_of map.now.lists v.0)) }
-    ensures other { IfOk result (λ _. AreOther map.now faces.now v.0 other.new.items) }
+    ensures own { IfOk result (λ _. IsRowPut (AreOwn map.now faces.now v.0) (length (list_of map.now.lists v.0)) own.old.items own.new.items) }
+    ensures other { IfOk result (λ _. IsRowPut (AreOther map.now faces.now v.0) (length (list_of map.now.lists v.0)) other.old.items other.new.items) }
 {
     let mut d = first;
     for _ in 0..map.degree(v) {
@@ -63,7 +60,7 @@ fn put_round(
     Ok(())
 }
 
-// Puts the numbers of the edges of `v` into rows.
+// Appends the numbers of the edges of `v` to two rows.
 fn put_vertex(
     map: &HalfMap,
     faces: &Faces,
@@ -74,12 +71,8 @@ fn put_vertex(
     requires known { IsHalfMap map.now }
     requires faces { AreFaces map.now faces.now }
     requires vertex { v.0 < length map.now.lists }
-    requires own_empty { own.old.items ≡ [] }
-    requires other_empty { other.old.items ≡ [] }
-    ensures own_size { IfOk result (λ _. length own.new.items ≡ length (list_of map.now.lists v.0)) }
-    ensures own { IfOk result (λ _. AreOwn map.now faces.now v.0 own.new.items) }
-    ensures other_size { IfOk result (λ _. length other.new.items ≡ length (list_of map.now.lists v.0)) }
-    ensures other { IfOk result (λ _. AreOther map.now faces.now v.0 other.new.items) }
+    ensures own { IfOk result (λ _. IsRowPut (AreOwn map.now faces.now v.0) (length (list_of map.now.lists v.0)) own.old.items own.new.items) }
+    ensures other { IfOk result (λ _. IsRowPut (AreOther map.now faces.now v.0) (length (list_of map.now.lists v.0)) other.old.items other.new.items) }
 {
     match map.first_dart(v) {
         Some(first) => put_round(map, faces, v, first, own, other),
@@ -87,27 +80,29 @@ fn put_vertex(
     }
 }
 
-// Puts the rows of all vertices into two tables.
+// Appends the numbers of all vertices to two rows, and where each vertex ends in them.
 fn put_rows(
     map: &HalfMap,
     faces: &Faces,
-    own: &mut ItemLists<u32>,
-    other: &mut ItemLists<u32>,
-    row: &mut Vec<u32>,
-    row_back: &mut Vec<u32>,
+    own: &mut Vec<u32>,
+    own_ends: &mut Vec<usize>,
+    other: &mut Vec<u32>,
+    other_ends: &mut Vec<usize>,
 ) -> Result<(), AllocError>
     requires known { IsHalfMap map.now }
     requires faces { AreFaces map.now faces.now }
-    requires own_empty { own.old ≡ [] }
-    requires other_empty { other.old ≡ [] }
-    ensures { IfOk result (λ _. AreFaceNumbers map.now.lists own.new other.new (length faces.now)) }
+    requires own_empty { own.old.items ≡ [] }
+    requires own_none { own_ends.old.items ≡ [] }
+    requires other_empty { other.old.items ≡ [] }
+    requires other_none { other_ends.old.items ≡ [] }
+    ensures own { IfOk result (λ _. AreCuts 0 own_ends.new.items (length own.new.items)) }
+    ensures other { IfOk result (λ _. AreCuts 0 other_ends.new.items (length other.new.items)) }
+    ensures numbers { IfOk result (λ _. AreFaceNumbers map.now.lists (cut 0 own_ends.new.items own.new.items) (cut 0 other_ends.new.items other.new.items) (length faces.now)) }
 {
     for v in 0..map.n() {
-        row.clear();
-        row_back.clear();
-        put_vertex(map, faces, VertexId(v), row, row_back)?;
-        own.push(row)?;
-        other.push(row_back)?;
+        put_vertex(map, faces, VertexId(v), own, other)?;
+        own_ends.push(own.len())?;
+        other_ends.push(other.len())?;
     }
     Ok(())
 }
@@ -124,13 +119,24 @@ pub fn numbers_of_faces(
 {
     map.facts();
     let items = 2 * map.m() as usize;
-    let mut own = ItemLists::with_capacity(alloc, items, map.n() as usize)?;
-    let mut other = ItemLists::with_capacity(alloc, items, map.n() as usize)?;
-    let mut row = Vec::new(alloc);
-    let mut row_back = Vec::new(alloc);
-    put_rows(map, faces, &mut own, &mut other, &mut row, &mut row_back)?;
+    let mut own = Vec::with_capacity(alloc, items)?;
+    let mut own_ends = Vec::with_capacity(alloc, map.n() as usize)?;
+    let mut other = Vec::with_capacity(alloc, items)?;
+    let mut other_ends = Vec::with_capacity(alloc, map.n() as usize)?;
+    put_rows(
+        map,
+        faces,
+        &mut own,
+        &mut own_ends,
+        &mut other,
+        &mut other_ends,
+    )?;
     let count = faces.count();
-    Ok(FaceNumbers { own, other, count })
+    Ok(FaceNumbers {
+        own: ItemLists::from_parts(own, own_ends),
+        other: ItemLists::from_parts(other, other_ends),
+        count,
+    })
 }
 
 /// The numbers of the faces of a map, as [`numbers_of_faces`] gives them.

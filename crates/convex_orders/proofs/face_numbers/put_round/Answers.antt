@@ -1,10 +1,21 @@
-use Rattle.std.proofs.Common.{◌<◌, [], ◌∷◌, length, get_or, sym, ap, subst, arith}
-use Rattle.std.proofs.lemmas.List.{length-append}
+use Rattle.std.proofs.Common.{◌≡◌, ◌<◌, length, get_or, sym, subst, arith}
 use Rattle.map_theory.specs.Maps.{list_of}
 use Rattle.half_edges.specs.Map.{dart_at}
-use Rattle.convex_orders.specs.FaceNumbers.{InWalk, AreOwn, AreOther}
-use Rattle.convex_orders.proofs.FaceNumbersRows.{AreOwn-more, AreOther-more, next_at, next_live, twin_at}
+use Rattle.convex_orders.specs.FaceNumbers.{InWalk, AreOwn, AreOther, IsRowPut}
+use Rattle.convex_orders.proofs.FaceNumbersRows.{AreOwn-more, AreOther-more, IsRowPut-none, IsRowPut-more, next_at, next_live, live_at, twin_at}
 use Rattle.convex_orders.proofs.face_numbers.put_round.Goals as goal
+
+pub loop-init : goal.loop-init
+loop-init c =
+    let map = c.args.map.now in
+    let walks = c.args.faces.now in
+    let v = c.args.v.0 in
+    record {
+      live = live_at (dart_at map c.args.first.0) v (get_or (list_of map.lists v) 0 0) c.requires.first;
+      dart = λ l. c.requires.first;
+      own = IsRowPut-none (AreOwn map walks v) c.args.own.now.items (record { each = λ i l. absurd (omega arith) });
+      other = IsRowPut-none (AreOther map walks v) c.args.other.now.items (record { each = λ i l. absurd (omega arith) });
+    }
 
 pub loop-preserved : goal.loop-preserved
 loop-preserved c =
@@ -12,22 +23,26 @@ loop-preserved c =
     let walks = c.args.faces.now in
     let v = c.args.v.0 in
     let h = c.loop.invariant in
-    let own = c.loop.own.items in
-    let other = c.loop.other.items in
     let k = c.loop.counter in
     let x = c.number_of.result in
     let y = c.number_of-in-loop.result in
     let u = get_or (list_of map.lists v) k 0 in
-    let grown = c.in_ok-push.ensures.items in
-    let grown' = c.in_ok-push-2.ensures.items in
     let in_list : k < length (list_of map.lists v) = omega (arith, c.loop-test.true, c.degree-end.ensures) in
     let is = c.number_of.ensures v u (h.dart in_list) in
     let is' = c.number_of-in-loop.ensures u v (twin_at (dart_at map c.loop.d.0) (dart_at map c.twin-twin.result.0) v u (h.dart in_list) c.twin-twin.ensures) in
     record {
-      own_count = omega (arith, ap length grown, length-append own (x ∷ []), h.own_count);
-      other_count = omega (arith, ap length grown', length-append other (y ∷ []), h.other_count);
       live = next_live map (dart_at map c.loop.d.0) (dart_at map c.next-d.result.0) h.live c.next-d.ensures;
       dart = λ l. next_at map c.requires.known v k (dart_at map c.loop.d.0) (dart_at map c.next-d.result.0) c.requires.vertex (h.dart in_list) c.next-d.ensures l;
-      own = subst (AreOwn map walks v) (sym grown) (AreOwn-more map walks v x own h.own (subst (λ z. InWalk map walks x v (get_or (list_of map.lists v) z 0)) (sym h.own_count) is));
-      other = subst (AreOther map walks v) (sym grown') (AreOther-more map walks v y other h.other (subst (λ z. InWalk map walks y (get_or (list_of map.lists v) z 0) v) (sym h.other_count) is'));
+      own = IsRowPut-more (AreOwn map walks v) k x _ _ _ c.in_ok-push.ensures.items (λ row long are. AreOwn-more map walks v x row are (subst (λ z. InWalk map walks x v (get_or (list_of map.lists v) z 0)) (sym long) is)) h.own;
+      other = IsRowPut-more (AreOther map walks v) k y _ _ _ c.in_ok-push-2.ensures.items (λ row long are. AreOther-more map walks v y row are (subst (λ z. InWalk map walks y (get_or (list_of map.lists v) z 0) v) (sym long) is')) h.other;
     }
+
+pub returns-clause-own : goal.returns-clause-own
+returns-clause-own c =
+    let end : c.loop.counter ≡ length (list_of c.args.map.now.lists c.args.v.0) = omega (arith, c.loop-test.false, c.loop.auto.counter-end, c.degree-end.ensures) in
+    subst (λ k. IsRowPut (AreOwn c.args.map.now c.args.faces.now c.args.v.0) k c.args.own.now.items c.loop.own.items) end c.loop.invariant.own
+
+pub returns-clause-other : goal.returns-clause-other
+returns-clause-other c =
+    let end : c.loop.counter ≡ length (list_of c.args.map.now.lists c.args.v.0) = omega (arith, c.loop-test.false, c.loop.auto.counter-end, c.degree-end.ensures) in
+    subst (λ k. IsRowPut (AreOther c.args.map.now c.args.faces.now c.args.v.0) k c.args.other.now.items c.loop.other.items) end c.loop.invariant.other

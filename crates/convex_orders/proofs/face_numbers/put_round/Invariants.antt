@@ -1,15 +1,13 @@
 use Rattle.std.proofs.Common.{◌≡◌, ◌<◌, length, slice_index, Some}
 use Rattle.map_theory.specs.Maps.{list_of}
 use Rattle.half_edges.specs.Map.{IsLive, dart_at}
-use Rattle.convex_orders.specs.FaceNumbers.{AreOwn, AreOther}
+use Rattle.convex_orders.specs.FaceNumbers.{AreOwn, AreOther, IsRowPut}
 use Rattle.convex_orders.proofs.face_numbers.put_round.Given as goal
 
 abbrev pub invariant-loop : goal.invariant-loop
 invariant-loop l = record {
-  own_count : length l.own.items ≡ l.counter;
-  other_count : length l.other.items ≡ l.counter;
   live : IsLive l.map l.d.0;
   dart : l.counter < length (list_of l.map.lists l.fn.v.0) → dart_at l.map l.d.0 ≡ Some (l.fn.v.0, slice_index (list_of l.map.lists l.fn.v.0) l.counter);
-  own : AreOwn l.map l.faces l.fn.v.0 l.own.items;
-  other : AreOther l.map l.faces l.fn.v.0 l.other.items;
+  own : IsRowPut (AreOwn l.map l.faces l.fn.v.0) l.counter l.initial.own.items l.own.items;
+  other : IsRowPut (AreOther l.map l.faces l.fn.v.0) l.counter l.initial.other.items l.other.items;
 }
