@@ -50,11 +50,14 @@ fn put_round(
     ensures own { IfOk result (λ _. IsRowPut (AreOwn map.now faces.now v.0) (length (list_of map.now.lists v.0)) own.old.items own.new.items) }
     ensures other { IfOk result (λ _. IsRowPut (AreOther map.now faces.now v.0) (length (list_of map.now.lists v.0)) other.old.items other.new.items) }
 {
+    let degree = usize::from(map.degree(v));
+    own.reserve(degree)?;
+    other.reserve(degree)?;
     let mut d = first;
-    for _ in 0..map.degree(v) {
+    for _ in 0..degree {
         let twin = map.twin(d);
-        own.push(number_of(map, faces, d))?;
-        other.push(number_of(map, faces, twin))?;
+        own.push_reserved(number_of(map, faces, d));
+        other.push_reserved(number_of(map, faces, twin));
         d = map.next(d);
     }
     Ok(())

@@ -143,8 +143,8 @@ pub fn raise_part(
     raise_part_near(places, edges, lists, faces, &[], ws, first, last);
 }
 
-/// Takes away what goes from places of the list: the rows of the vertices strictly between, and all edges. The numbers are
-/// looked for where `hints` has the places; whatever it has, the counts are the same.
+/// Takes away what goes from places of the list: the rows of the vertices strictly between, and all edges. The numbers
+/// are looked for where `hints` has the places; whatever it has, the counts are the same.
 pub fn lower_part_near(
     places: &mut [u16],
     edges: &mut [u16],

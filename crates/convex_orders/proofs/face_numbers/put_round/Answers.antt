@@ -13,8 +13,10 @@ loop-init c =
     record {
       live = live_at (dart_at map c.args.first.0) v (get_or (list_of map.lists v) 0 0) c.requires.first;
       dart = λ l. c.requires.first;
-      own = IsRowPut-none (AreOwn map walks v) c.args.own.now.items (record { each = λ i l. absurd (omega arith) });
-      other = IsRowPut-none (AreOther map walks v) c.args.other.now.items (record { each = λ i l. absurd (omega arith) });
+      own_room = omega (arith, c.degree.ensures, c.in_ok-reserve.ensures.ok);
+      other_room = omega (arith, c.degree.ensures, c.in_ok-reserve-2.ensures.ok);
+      own = IsRowPut-none (AreOwn map walks v) c.reserve.new.self.items (record { each = λ i l. absurd (omega arith) });
+      other = IsRowPut-none (AreOther map walks v) c.reserve-2.new.self.items (record { each = λ i l. absurd (omega arith) });
     }
 
 pub loop-preserved : goal.loop-preserved
@@ -27,22 +29,30 @@ loop-preserved c =
     let x = c.number_of.result in
     let y = c.number_of-in-loop.result in
     let u = get_or (list_of map.lists v) k 0 in
-    let in_list : k < length (list_of map.lists v) = omega (arith, c.loop-test.true, c.degree-end.ensures) in
+    let in_list : k < length (list_of map.lists v) = omega (arith, c.loop-test.true, c.degree.ensures) in
     let is = c.number_of.ensures v u (h.dart in_list) in
     let is' = c.number_of-in-loop.ensures u v (twin_at (dart_at map c.loop.d.0) (dart_at map c.twin-twin.result.0) v u (h.dart in_list) c.twin-twin.ensures) in
     record {
       live = next_live map (dart_at map c.loop.d.0) (dart_at map c.next-d.result.0) h.live c.next-d.ensures;
       dart = λ l. next_at map c.requires.known v k (dart_at map c.loop.d.0) (dart_at map c.next-d.result.0) c.requires.vertex (h.dart in_list) c.next-d.ensures l;
-      own = IsRowPut-more (AreOwn map walks v) k x _ _ _ c.in_ok-push.ensures.items (λ row long are. AreOwn-more map walks v x row are (subst (λ z. InWalk map walks x v (get_or (list_of map.lists v) z 0)) (sym long) is)) h.own;
-      other = IsRowPut-more (AreOther map walks v) k y _ _ _ c.in_ok-push-2.ensures.items (λ row long are. AreOther-more map walks v y row are (subst (λ z. InWalk map walks y (get_or (list_of map.lists v) z 0) v) (sym long) is')) h.other;
+      own_room = omega (arith, h.own_room, in_list, c.push_reserved.ensures.len, c.push_reserved.ensures.capacity);
+      other_room = omega (arith, h.other_room, in_list, c.push_reserved-in-loop.ensures.len, c.push_reserved-in-loop.ensures.capacity);
+      own = IsRowPut-more (AreOwn map walks v) k x _ _ _ c.push_reserved.ensures.items (λ row long are. AreOwn-more map walks v x row are (subst (λ z. InWalk map walks x v (get_or (list_of map.lists v) z 0)) (sym long) is)) h.own;
+      other = IsRowPut-more (AreOther map walks v) k y _ _ _ c.push_reserved-in-loop.ensures.items (λ row long are. AreOther-more map walks v y row are (subst (λ z. InWalk map walks y (get_or (list_of map.lists v) z 0) v) (sym long) is')) h.other;
     }
 
 pub returns-clause-own : goal.returns-clause-own
 returns-clause-own c =
-    let end : c.loop.counter ≡ length (list_of c.args.map.now.lists c.args.v.0) = omega (arith, c.loop-test.false, c.loop.auto.counter-end, c.degree-end.ensures) in
-    subst (λ k. IsRowPut (AreOwn c.args.map.now c.args.faces.now c.args.v.0) k c.args.own.now.items c.loop.own.items) end c.loop.invariant.own
+    let end : c.loop.counter ≡ length (list_of c.args.map.now.lists c.args.v.0) = omega (arith, c.loop-test.false, c.loop.auto.counter-end, c.degree.ensures) in
+    let P = AreOwn c.args.map.now c.args.faces.now c.args.v.0 in
+    let n = length (list_of c.args.map.now.lists c.args.v.0) in
+    subst (λ old. IsRowPut P n old c.loop.own.items) c.in_ok-reserve.ensures.items
+    (subst (λ k. IsRowPut P k c.reserve.new.self.items c.loop.own.items) end c.loop.invariant.own)
 
 pub returns-clause-other : goal.returns-clause-other
 returns-clause-other c =
-    let end : c.loop.counter ≡ length (list_of c.args.map.now.lists c.args.v.0) = omega (arith, c.loop-test.false, c.loop.auto.counter-end, c.degree-end.ensures) in
-    subst (λ k. IsRowPut (AreOther c.args.map.now c.args.faces.now c.args.v.0) k c.args.other.now.items c.loop.other.items) end c.loop.invariant.other
+    let end : c.loop.counter ≡ length (list_of c.args.map.now.lists c.args.v.0) = omega (arith, c.loop-test.false, c.loop.auto.counter-end, c.degree.ensures) in
+    let P = AreOther c.args.map.now c.args.faces.now c.args.v.0 in
+    let n = length (list_of c.args.map.now.lists c.args.v.0) in
+    subst (λ old. IsRowPut P n old c.loop.other.items) c.in_ok-reserve-2.ensures.items
+    (subst (λ k. IsRowPut P k c.reserve-2.new.self.items c.loop.other.items) end c.loop.invariant.other)

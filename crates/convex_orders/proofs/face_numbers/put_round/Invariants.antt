@@ -1,4 +1,5 @@
-use Rattle.std.proofs.Common.{◌≡◌, ◌<◌, length, slice_index, Some}
+use Rattle.std.proofs.Common.{◌≡◌, ◌+◌, ◌-◌, ◌<◌, ◌≤◌, length, slice_index, Some, vec_len}
+use Rattle.std.specs.Vec.{vec_capacity}
 use Rattle.map_theory.specs.Maps.{list_of}
 use Rattle.half_edges.specs.Map.{IsLive, dart_at}
 use Rattle.convex_orders.specs.FaceNumbers.{AreOwn, AreOther, IsRowPut}
@@ -8,6 +9,8 @@ abbrev pub invariant-loop : goal.invariant-loop
 invariant-loop l = record {
   live : IsLive l.map l.d.0;
   dart : l.counter < length (list_of l.map.lists l.fn.v.0) → dart_at l.map l.d.0 ≡ Some (l.fn.v.0, slice_index (list_of l.map.lists l.fn.v.0) l.counter);
+  own_room : vec_len l.own + (length (list_of l.map.lists l.fn.v.0) - l.counter) ≤ vec_capacity l.own;
+  other_room : vec_len l.other + (length (list_of l.map.lists l.fn.v.0) - l.counter) ≤ vec_capacity l.other;
   own : IsRowPut (AreOwn l.map l.faces l.fn.v.0) l.counter l.initial.own.items l.own.items;
   other : IsRowPut (AreOther l.map l.faces l.fn.v.0) l.counter l.initial.other.items l.other.items;
 }
