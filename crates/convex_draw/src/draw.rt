@@ -2,13 +2,15 @@
 ghost use Rattle.std.specs.Prelude.{◌≡◌, ◌<◌, ◌≤◌, ◌+◌, ◌-◌, ℕ, length, pos, Some, IfOk};
 ghost use Rattle.map_theory.specs.Maps.{IsPlane, vertex_count, face_count, component_count};
 ghost use Rattle.convex_peeling.specs.Polyhedral.{IsThreeConnected};
+ghost use Rattle.euler_faces.specs.FaceWalks.{AreFaces};
 ghost use Rattle.half_edges.specs.Map.{IsLive, dart_at};
 ghost use Rattle.convex_draw.specs.Grids.{IsConvexGrid};
 ghost use Rattle.convex_draw.specs.RunPoints.{AreRunPoints};
 
 use crate::convex_points::count_points;
-use convex_orders::convex_rows;
-use half_edges::{DartId, HalfMap};
+use convex_orders::rows_by_faces;
+use euler_faces::{Faces, faces};
+use half_edges::{DartId, HalfMap, Rotations};
 use pg_plane::{GridFigure, Points};
 use std::alloc::{AllocError, Global};
 
@@ -46,6 +48,28 @@ fn in_square(points: Points, side: u32) -> GridFigure
     }
 }
 
+/// The figure that [`run_figure`] gives, by the lists of the map and its faces.
+pub fn figure_by_faces(
+    alloc: Global,
+    map: &HalfMap,
+    lists: &Rotations,
+    faces: &Faces,
+    base: DartId,
+) -> Result<GridFigure, AllocError>
+    requires plane { IsPlane map.now.lists }
+    requires three { IsThreeConnected map.now.lists }
+    requires lists { map.now.lists ≡ lists.now }
+    requires faces { AreFaces map.now faces.now }
+    requires base { IsLive map.now base.0 }
+    ensures points { IfOk result (λ figure. (s d : ℕ) → dart_at map.now base.0 ≡ Some (s, d) → AreRunPoints map.now.lists s d figure.points) }
+    ensures grid { IfOk result (λ figure. (s d : ℕ) → dart_at map.now base.0 ≡ Some (s, d) → IsConvexGrid map.now.lists s d figure) }
+{
+    let rows = rows_by_faces(alloc, map, lists, faces, base)?;
+    let side = side_of(map);
+    let points = count_points(alloc, &rows, map.head(base), map.tail(base), map.n(), side)?;
+    Ok(in_square(points, side))
+}
+
 /// The figure that `convex_draw` gives, whose points are the counts of faces over a run of the map.
 ///
 /// It fails only for want of memory. The map stays as it is.
@@ -56,10 +80,10 @@ pub fn run_figure(alloc: Global, map: &HalfMap, base: DartId) -> Result<GridFigu
     ensures points { IfOk result (λ figure. (s d : ℕ) → dart_at map.now base.0 ≡ Some (s, d) → AreRunPoints map.now.lists s d figure.points) }
     ensures grid { IfOk result (λ figure. (s d : ℕ) → dart_at map.now base.0 ≡ Some (s, d) → IsConvexGrid map.now.lists s d figure) }
 {
-    let rows = convex_rows(alloc, map, base)?;
-    let side = side_of(map);
-    let points = count_points(alloc, &rows, map.head(base), map.tail(base), map.n(), side)?;
-    Ok(in_square(points, side))
+    let lists = map.rotations(alloc)?;
+    let all = faces(alloc, map)?;
+    let figure = figure_by_faces(alloc, map, &lists, &all, base)?;
+    Ok(figure)
 }
 
 /// The convex drawing of a three-connected map of genus zero over a base: a dart, which is drawn from the upper

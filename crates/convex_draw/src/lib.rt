@@ -5,4 +5,4 @@ pub mod convex_figures;
 pub mod convex_points;
 mod draw;
 
-pub use draw::{convex_draw, run_figure};
+pub use draw::{convex_draw, figure_by_faces, run_figure};

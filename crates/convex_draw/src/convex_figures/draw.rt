@@ -1,5 +1,6 @@
 //! The figure of a record, or why it has none.
 ghost use Rattle.std.specs.Prelude.{◌≡◌, ◌<◌, length, Some, IfOk, IfErr, OnOk};
+ghost use Rattle.euler_faces.specs.FaceWalks.{AreFaces};
 ghost use Rattle.half_edges.specs.Map.{IsLive, dart_at, first_dart as first_of};
 ghost use Rattle.map_theory.specs.Maps.{IsPlane};
 ghost use Rattle.convex_peeling.specs.Polyhedral.{IsThreeConnected};
@@ -7,8 +8,8 @@ ghost use Rattle.refusals.specs.Conditions.{IfRefused};
 ghost use Rattle.convex_class.specs.Convexity.{BreaksConvex};
 ghost use Rattle.convex_draw.specs.Figures.{IsConvexFigure};
 
-use crate::convex_draw;
-use convex_class::convex_maps::convex_map;
+use crate::figure_by_faces;
+use convex_class::convex_maps::{ConvexMap, convex_map_with_faces};
 use half_edges::{DartId, HalfMap, Rotations, VertexId};
 use pg_plane::GridFigure;
 use refusals::Unserved;
@@ -26,13 +27,17 @@ fn first_dart(map: &HalfMap) -> DartId
     }
 }
 
-// The figure of a three-connected map.
-fn map_figure(alloc: Global, map: &HalfMap) -> Result<GridFigure, AllocError>
-    requires plane { IsPlane map.now.lists }
-    requires three { IsThreeConnected map.now.lists }
-    ensures { IfOk result (IsConvexFigure map.now.lists) }
+// The figure of a three-connected map with these lists.
+fn map_figure(alloc: Global, found: &ConvexMap, lists: &Rotations) -> Result<GridFigure, AllocError>
+    requires plane { IsPlane found.now.map.lists }
+    requires three { IsThreeConnected found.now.map.lists }
+    requires lists { found.now.map.lists ≡ lists.now }
+    requires faces { AreFaces found.now.map found.now.faces }
+    ensures { IfOk result (IsConvexFigure found.now.map.lists) }
 {
-    convex_draw(alloc, map, first_dart(map))
+    let base = first_dart(&found.map);
+    let figure = figure_by_faces(alloc, &found.map, lists, &found.faces, base)?;
+    Ok(figure)
 }
 
 /// The figure of a record with these lists, which are from 1 to 4095: a point for each vertex, so that each edge is a
@@ -53,7 +58,7 @@ pub fn convex_figure(alloc: Global, lists: &Rotations) -> Result<GridFigure, Uns
     ensures served { OnOk result (IsThreeConnected lists.now) }
     ensures refused { IfErr result (IfRefused (BreaksConvex lists.now)) }
 {
-    let map = convex_map(alloc, lists)?;
-    let figure = map_figure(alloc, &map)?;
+    let found = convex_map_with_faces(alloc, lists)?;
+    let figure = map_figure(alloc, &found, lists)?;
     Ok(figure)
 }

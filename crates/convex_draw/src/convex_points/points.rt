@@ -26,7 +26,7 @@ fn points_of(alloc: Global, spots: &[Spot]) -> Result<Points, AllocError>
     requires small { (u : ℕ) → u < length spots.now → ((spot_of spots.now u).one < 1048576) × ((spot_of spots.now u).two < 1048576) }
     ensures { IfOk result (λ points. ArePlaced spots.now (length spots.now) points) }
 {
-    let mut points = Points::new(alloc);
+    let mut points = Points::with_capacity(alloc, spots.len())?;
     for v in 0..spots.len() {
         points.push(Point {
             x: coordinate(spots[v].one),

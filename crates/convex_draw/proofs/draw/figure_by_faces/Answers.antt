@@ -13,7 +13,7 @@ use Rattle.convex_draw.proofs.ByRows.{IsRunByRows, IsRunByRows-of}
 use Rattle.convex_draw.proofs.GridLemmas.{faces_two, side_small, IsListedRun-rows, IsConvexGrid-drawn}
 use Rattle.convex_draw.proofs.PointLemmas.{AreRunPoints-counts}
 use Rattle.convex_draw.specs.RunPoints.{AreRunPoints}
-use Rattle.convex_draw.proofs.draw.run_figure.Goals as goal
+use Rattle.convex_draw.proofs.draw.figure_by_faces.Goals as goal
 
 pub side_of-side-requires-clause-faces : goal.side_of-side-requires-clause-faces
 side_of-side-requires-clause-faces c =
