@@ -2,7 +2,6 @@
 use Rattle.std.proofs.Common.{◌≡◌, ◌≢◌, ℕ, ◌+◌, ◌<◌, cond, eqb, List, ◌∷◌, length, get_or, set, slice_get, Some, sym, ap, ap₂, ◌∙◌, subst, inl, inr, arith, get_or-set_same, get_or-set_other}
 use Rattle.std.proofs.lemmas.Bool.{cases_eq, eq-eqb}
 use Rattle.std.proofs.lemmas.Bool.Decides.{nat_tests}
-use Rattle.std.proofs.lemmas.List.{length-map, get_or-map, map-set}
 use Rattle.std.proofs.lemmas.Option.{slice_get_within, get_or_from_slice_get}
 use Rattle.classes.specs.Classes.{image}
 use Rattle.classes.proofs.Marks.{SetsMark}
@@ -12,8 +11,7 @@ use Rattle.map_lists.proofs.CutLemmas.{length-cut}
 use Rattle.map_theory.specs.Maps.{Dart, IsSimpleMap, HasDart, list_of, darts, dart_count, dart_number, place_of, twin_dart, face_images}
 use Rattle.map_theory.proofs.DartLemmas.{length-darts, IsDartNumber-darts, get_or-face_images, place_after, place_of-entry_after, place_of-lt-length, place_of_number}
 use Rattle.simple_maps.proofs.FlatLemmas.{start-is, end-is, count-is, dart-is}
-use Rattle.euler_faces.specs.Slots.{twins_of, walked, HaveTwins}
-use Rattle.euler_faces.specs.declared.slots.Slot.{Slot}
+use Rattle.euler_faces.specs.Slots.{walked, HaveTwins}
 
 -- a number written at a place marks just that place
 pub SetsMark-walked : (twins : List ℕ) (k d : ℕ) → d < length twins → SetsMark k (walked twins) (walked (set twins d 4294967295)) d
@@ -77,22 +75,7 @@ module _ (ends entries : List ℕ) (cuts : AreCuts 0 ends (length entries)) (sim
       )
 
   -- the twin that is read at a dart that was not walked over
-  pub read_twin : (slots : List Slot) (d : ℕ) → length slots ≡ length entries → d < length entries → HaveTwins (cut 0 ends entries) (twins_of slots) → (get_or slots d (record { twin = 0; tail = 0 })).twin ≢ 4294967295
-      → slice_get (darts (cut 0 ends entries)) (get_or slots d (record { twin = 0; tail = 0 })).twin ≡ Some (twin_dart (get_or (darts (cut 0 ends entries)) d (0, 0)))
-  read_twin slots d long l h new =
-      let same : get_or (twins_of slots) d 0 ≡ (get_or slots d (record { twin = 0; tail = 0 })).twin = get_or-map (λ (s : Slot). s.twin) slots d (record { twin = 0; tail = 0 }) 0 (omega arith) in
-      elim (h d (omega (arith, count-is ends entries cuts))) [
-        | inl e ↦ absurd (new (sym same ∙ e))
-        | inr found ↦ ap (λ x. slice_get (darts (cut 0 ends entries)) x) (sym same) ∙ found
-      ]
-
--- whether a dart was walked over, as it is read
-pub walked-read : (slots : List Slot) (d : ℕ) → d < length slots → walked (twins_of slots) d ≡ eqb (get_or slots d (record { twin = 0; tail = 0 })).twin 4294967295
-walked-read slots d l = ap (λ t. eqb t 4294967295) (get_or-map (λ (s : Slot). s.twin) slots d (record { twin = 0; tail = 0 }) 0 l)
-
--- the twins after a walk over one dart
-pub twins_of-walked : (slots : List Slot) (d tail : ℕ) → twins_of (set slots d (record { twin = 4294967295; tail = tail })) ≡ set (twins_of slots) d 4294967295
-twins_of-walked slots d tail = map-set (λ (s : Slot). s.twin) slots d (record { twin = 4294967295; tail = tail })
-
-pub length-twins_of : (slots : List Slot) → length (twins_of slots) ≡ length slots
-length-twins_of slots = length-map {B = ℕ} slots (λ (s : Slot). s.twin)
+  pub read_twin : (twins : List ℕ) (d : ℕ) → d < length entries → HaveTwins (cut 0 ends entries) twins → get_or twins d 0 ≢ 4294967295
+      → slice_get (darts (cut 0 ends entries)) (get_or twins d 0) ≡ Some (twin_dart (get_or (darts (cut 0 ends entries)) d (0, 0)))
+  read_twin twins d l h new =
+      elim (h d (omega (arith, count-is ends entries cuts))) [ inl e ↦ absurd (new e) | inr found ↦ found ]

@@ -10,10 +10,10 @@ use Rattle.map_lists.specs.Cuts.{cut, AreCuts}
 use Rattle.map_lists.proofs.CutLemmas.{length-cut}
 use Rattle.map_theory.specs.Maps.{Dart, darts, dart_number, list_of, HasDart, IsSimpleMap, component_classes}
 use Rattle.classes.proofs.Counting.{count_below_more}
-use Rattle.classes.proofs.Classes.{Together, Together-from, same_class-from, PairsBelow, classes-holds, classes-marked, length-classes, IsLabels-classes}
+use Rattle.classes.proofs.Classes.{Together, IsLabels, Together-from, same_class-from, PairsBelow, classes-holds, classes-marked, length-classes, IsLabels-classes}
 use Rattle.simple_maps.proofs.FlatLemmas.{entry-is, end-is}
 use Rattle.map_theory.proofs.DartLemmas.{HasDart-at, IsDartNumber-darts, length-darts, get_or-dart_number, dart_number-lt}
-use Rattle.classes.proofs.Marks.{IsCounting, IsCounting-together}
+use Rattle.classes.proofs.Marks.{IsCounting, IsCounting-together, IsCounting-old}
 use Rattle.euler_faces.specs.Numbers.{mark_at}
 use Rattle.euler_faces.specs.Search.{AllMarked, IsSearching, IsNumbered, component_number, marks_of, unmarked_below, None_open}
 
@@ -270,3 +270,9 @@ module _ (ends entries : List ℕ) (cuts : AreCuts 0 ends (length entries)) (v :
   AllMarked-from_entries marked all =
       AllMarked-from_places (cut 0 ends entries) marked v (λ k l.
       ap (mark_at marked) (entry-is ends entries cuts v k v_in l) ∙ all (get_or (0 ∷ ends) v 0 + k) (omega arith) (omega (arith, end-is ends entries cuts v v_in)))
+
+-- where all vertices are marked, their classes are all counted
+pub IsCounting-full : (k : ℕ) (labels : List ℕ) (marked : ℕ → Bool) (count i : ℕ) → IsLabels labels → IsCounting labels marked count i → i + k ≡ length labels → ((y : ℕ) → y < length labels → marked y ≡ true) → IsCounting labels marked count (length labels)
+IsCounting-full zero labels marked count i w h at all = let e : i ≡ length labels = omega arith in subst (λ n. IsCounting labels marked count n) e h
+IsCounting-full (suc k) labels marked count i w h at all =
+    IsCounting-full k labels marked count (i + 1) w (IsCounting-old labels marked count i (i + 1) w h (omega arith) (all i (omega arith)) refl) (omega arith) all

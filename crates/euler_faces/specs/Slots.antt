@@ -1,12 +1,7 @@
--- The slots of darts, as walks along faces overwrite them.
-use Rattle.std.specs.Prelude.{ℕ, ◌<◌, ◌≡◌, ◌⊎◌, ◌==◌, Bool, List, map, slice_get, slice_index, slice_index_or, Some}
+-- The twins of darts, as walks along faces overwrite them.
+use Rattle.std.specs.Prelude.{ℕ, ◌<◌, ◌≡◌, ◌⊎◌, ◌==◌, Bool, List, slice_get, slice_index, slice_index_or, Some}
 use Rattle.map_lists.specs.Lists.{Lists}
 use Rattle.map_theory.specs.Maps.{darts, twin_dart, dart_count}
-use Rattle.euler_faces.specs.declared.slots.Slot.{Slot}
-
--- the numbers of the twins
-abbrev pub twins_of : List Slot → List ℕ
-twins_of slots = map (λ s. s.twin) slots
 
 -- a dart was walked over
 abbrev pub walked : List ℕ → ℕ → Bool

@@ -113,6 +113,9 @@ pub fn number_components(
     let mut count = 0;
     let mut filled = 0;
     for v in 0..ends.len() {
+        if filled == ends.len() {
+            return count;
+        }
         if numbers[v] == UNMET {
             filled = number_component(entries, ends, v as u16, count, numbers, queue, filled);
             count += 1;

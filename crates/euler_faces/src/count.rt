@@ -1,19 +1,18 @@
 //! Counts.
-ghost use Rattle.std.specs.Prelude.{◌≡◌, ◌≤◌, ◌<◌, ◌+◌, ◌-◌, ◌*◌, ◌%◌, ℕ, length, map, false, None, OnOk, IfOk, IfErr};
+ghost use Rattle.std.specs.Prelude.{◌≡◌, ◌≤◌, ◌<◌, ◌+◌, ◌-◌, ◌*◌, ◌%◌, ℕ, length, false, None, OnOk, IfOk, IfErr};
 ghost use Rattle.map_lists.specs.Cuts.{cut, AreCuts};
-ghost use Rattle.map_theory.specs.Maps.{vertex_count, edge_count, face_count, component_count, genus_of};
+ghost use Rattle.map_theory.specs.Maps.{IsSimpleMap, darts, vertex_count, edge_count, face_count, component_count, genus_of};
 ghost use Rattle.simple_maps.specs.Faults.{first_fault};
 ghost use Rattle.simple_maps.specs.MapFault.{Names};
-ghost use Rattle.simple_maps.specs.Tables.{AreSlots};
+ghost use Rattle.simple_maps.specs.Tables.{AreTwins};
 ghost use Rattle.euler_faces.specs.Numbers.{mark_at};
 ghost use Rattle.euler_faces.specs.Search.{marks_of};
 
 use crate::components::{UNMET, number_components};
-use crate::orbits::{count_isolated, count_orbits};
-use crate::slots::Slot;
+use crate::orbits::{count_orbits, isolated_of};
 use half_edges::HalfMap;
 use map_lists::Rotations;
-use simple_maps::{MapFault, fill_slots};
+use simple_maps::{MapFault, fill_twins};
 use std::alloc::{AllocError, Global};
 
 /// How many vertices, edges, faces and components a map has, each at most 2^24.
@@ -44,18 +43,19 @@ impl EulerCount {
     }
 }
 
-// The counts of lists by the slots of their darts, with no number for any vertex and a queue with room
+// The counts of lists by the twins of their darts, with no number for any vertex and a queue with room
 // for all.
-fn count_slots(
+fn count_twins(
     entries: &[u16],
     ends: &[usize],
-    slots: &mut [Slot],
+    twins: &mut [u32],
     numbers: &mut [u16],
     queue: &mut [u16],
 ) -> EulerCount
     requires cuts { AreCuts 0 ends.now (length entries.now) }
     requires few { length ends.now < 4096 }
-    requires slots { AreSlots (cut 0 ends.now entries.now) (map (λ s. s.tail) slots.old) (map (λ s. s.twin) slots.old) }
+    requires simple { IsSimpleMap (cut 0 ends.now entries.now) }
+    requires twins { AreTwins (darts (cut 0 ends.now entries.now)) twins.old (length (darts (cut 0 ends.now entries.now))) }
     requires marks { length numbers.old ≡ length ends.now }
     requires room { length queue.old ≡ length ends.now }
     requires unset { (u : ℕ) → mark_at (marks_of numbers.old) u ≡ false }
@@ -64,9 +64,9 @@ fn count_slots(
     ensures f { result.f ≡ face_count (cut 0 ends.now entries.now) }
     ensures c { result.c ≡ component_count (cut 0 ends.now entries.now) }
 {
-    let orbits = count_orbits(entries, ends, slots);
-    let isolated = count_isolated(ends);
+    let orbits = count_orbits(entries, ends, twins);
     let c = number_components(entries, ends, numbers, queue);
+    let isolated = isolated_of(entries, ends, c);
     EulerCount {
         n: ends.len() as u32,
         m: (entries.len() / 2) as u32,
@@ -77,11 +77,12 @@ fn count_slots(
 
 /// Counts lists, one after another, and keeps its memory for the next.
 ///
-/// For each dart and each vertex of the largest lists so far it takes a few bytes, eight for a dart.
+/// For each dart and each vertex of the largest lists so far it takes a few bytes, six for a dart.
 #[derive(Drop)]
 pub struct Counter {
     alloc: Global,
-    slots: Vec<Slot>,
+    tails: Vec<u16>,
+    twins: Vec<u32>,
     threads: Vec<u32>,
     numbers: Vec<u16>,
     queue: Vec<u16>,
@@ -92,7 +93,8 @@ impl Counter {
     pub fn new(alloc: Global) -> Counter {
         Counter {
             alloc,
-            slots: Vec::new(alloc),
+            tails: Vec::new(alloc),
+            twins: Vec::new(alloc),
             threads: Vec::new(alloc),
             numbers: Vec::new(alloc),
             queue: Vec::new(alloc),
@@ -104,7 +106,7 @@ impl Counter {
         ensures marks { OnOk result (length self.new.numbers.items ≡ n) }
         ensures room { OnOk result (length self.new.queue.items ≡ n) }
         ensures unset { OnOk result ((u : ℕ) → mark_at (marks_of self.new.numbers.items) u ≡ false) }
-        ensures slots { self.new.slots ≡ self.old.slots }
+        ensures twins { self.new.twins ≡ self.old.twins }
     {
         self.numbers.clear();
         self.numbers.resize(n, UNMET)?;
@@ -125,12 +127,18 @@ impl Counter {
         ensures simple { OnOk result (first_fault lists.now ≡ None) }
         ensures fault { IfErr result (Names (first_fault lists.now)) }
     {
-        fill_slots(self.alloc, lists, &mut self.slots, &mut self.threads)?;
+        fill_twins(
+            self.alloc,
+            lists,
+            &mut self.tails,
+            &mut self.twins,
+            &mut self.threads,
+        )?;
         self.clear(lists.len())?;
-        Ok(count_slots(
+        Ok(count_twins(
             lists.entries(),
             lists.ends(),
-            &mut self.slots,
+            &mut self.twins,
             &mut self.numbers,
             &mut self.queue,
         ))
@@ -138,7 +146,7 @@ impl Counter {
 }
 
 /// The counts of lists, which are from 1 to 4095, or the first fault of the lists. The time is linear in
-/// the entries, and so is the memory: eight bytes for a dart.
+/// the entries, and so is the memory: six bytes for a dart.
 pub fn count_lists(alloc: Global, lists: &Rotations) -> Result<EulerCount, MapFault>
     requires some_list { 0 < length lists.now }
     requires few_lists { length lists.now < 4096 }

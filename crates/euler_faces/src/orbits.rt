@@ -3,47 +3,47 @@ ghost use Rattle.std.specs.Prelude.{◌≡◌, ◌+◌, ◌≤◌, ◌<◌, ◌|
 ghost use Rattle.classes.specs.Classes.{class_count, same_class};
 ghost use Rattle.classes.proofs.Marks.{KeepsMarks};
 ghost use Rattle.map_lists.specs.Cuts.{cut, AreCuts};
-ghost use Rattle.map_theory.specs.Maps.{IsSimpleMap, face_images, face_classes, isolated_count};
-ghost use Rattle.euler_faces.specs.Slots.{twins_of, walked, HaveTwins};
+ghost use Rattle.map_theory.specs.Maps.{IsSimpleMap, face_images, face_classes, component_count, isolated_count};
+ghost use Rattle.euler_faces.specs.Slots.{walked, HaveTwins};
 
-use crate::slots::{Slot, WALKED, after};
+use crate::slots::{WALKED, after};
 
 // Walks the face of the dart `start`, where the faces walked so far are walked whole.
-fn walk_face(entries: &[u16], ends: &[usize], slots: &mut [Slot], start: usize)
+fn walk_face(entries: &[u16], ends: &[usize], twins: &mut [u32], start: usize)
     requires cuts { AreCuts 0 ends.now (length entries.now) }
     requires simple { IsSimpleMap (cut 0 ends.now entries.now) }
     requires few { length entries.now < 16777216 }
-    requires slots { length slots.old ≡ length entries.now }
-    requires twins { HaveTwins (cut 0 ends.now entries.now) (twins_of slots.old) }
+    requires long { length twins.old ≡ length entries.now }
+    requires twins { HaveTwins (cut 0 ends.now entries.now) twins.old }
     requires start_in { start < length entries.now }
-    requires kept { KeepsMarks (face_images (cut 0 ends.now entries.now)) (walked (twins_of slots.old)) }
-    ensures twins { HaveTwins (cut 0 ends.now entries.now) (twins_of slots.new) }
-    ensures walked { (i : ℕ) → i < length entries.now → walked (twins_of slots.new) i
-        ≡ (walked (twins_of slots.old) i || same_class (face_classes (cut 0 ends.now entries.now)) start i) }
+    requires kept { KeepsMarks (face_images (cut 0 ends.now entries.now)) (walked twins.old) }
+    ensures twins { HaveTwins (cut 0 ends.now entries.now) twins.new }
+    ensures walked { (i : ℕ) → i < length entries.now → walked twins.new i
+        ≡ (walked twins.old i || same_class (face_classes (cut 0 ends.now entries.now)) start i) }
 {
     let mut d = start;
-    while slots[d].twin != WALKED {
-        let twin = slots[d].twin as usize;
-        slots[d].twin = WALKED;
+    while twins[d] != WALKED {
+        let twin = twins[d] as usize;
+        twins[d] = WALKED;
         d = after(ends, entries[d] as usize, twin);
     }
 }
 
 // The number of orbits of the face step, where no dart was walked over.
-pub(crate) fn count_orbits(entries: &[u16], ends: &[usize], slots: &mut [Slot]) -> u32
+pub(crate) fn count_orbits(entries: &[u16], ends: &[usize], twins: &mut [u32]) -> u32
     requires cuts { AreCuts 0 ends.now (length entries.now) }
     requires simple { IsSimpleMap (cut 0 ends.now entries.now) }
     requires few { length entries.now < 16777216 }
-    requires slots { length slots.old ≡ length entries.now }
-    requires twins { HaveTwins (cut 0 ends.now entries.now) (twins_of slots.old) }
-    requires unwalked { (i : ℕ) → i < length entries.now → walked (twins_of slots.old) i ≡ false }
+    requires long { length twins.old ≡ length entries.now }
+    requires twins { HaveTwins (cut 0 ends.now entries.now) twins.old }
+    requires unwalked { (i : ℕ) → i < length entries.now → walked twins.old i ≡ false }
     ensures count { result ≡ class_count (face_classes (cut 0 ends.now entries.now)) }
     ensures few { result ≤ length entries.now }
 {
     let mut count = 0;
     for d in 0..entries.len() {
-        if slots[d].twin != WALKED {
-            walk_face(entries, ends, slots, d);
+        if twins[d] != WALKED {
+            walk_face(entries, ends, twins, d);
             count += 1;
         }
     }
@@ -51,7 +51,7 @@ pub(crate) fn count_orbits(entries: &[u16], ends: &[usize], slots: &mut [Slot]) 
 }
 
 // The number of isolated vertices.
-pub(crate) fn count_isolated(ends: &[usize]) -> u32
+fn count_isolated(ends: &[usize]) -> u32
     requires { length ends.now < 4096 }
     ensures count { (entries : List ℕ) → AreCuts 0 ends.now (length entries) → result ≡ isolated_count (cut 0 ends.now entries) }
     ensures few { result ≤ length ends.now }
@@ -65,4 +65,20 @@ pub(crate) fn count_isolated(ends: &[usize]) -> u32
         start = ends[v];
     }
     count
+}
+
+// The number of isolated vertices of a map with so many components. Where there is one, and an edge, no list is
+// gone over.
+pub(crate) fn isolated_of(entries: &[u16], ends: &[usize], components: u16) -> u32
+    requires cuts { AreCuts 0 ends.now (length entries.now) }
+    requires simple { IsSimpleMap (cut 0 ends.now entries.now) }
+    requires few { length ends.now < 4096 }
+    requires components { components ≡ component_count (cut 0 ends.now entries.now) }
+    ensures count { result ≡ isolated_count (cut 0 ends.now entries.now) }
+    ensures few { result ≤ length ends.now }
+{
+    if components == 1 && !entries.is_empty() {
+        return 0;
+    }
+    count_isolated(ends)
 }

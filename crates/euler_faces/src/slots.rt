@@ -1,41 +1,8 @@
 //! The darts of a map by their numbers, as counts go over them.
-ghost use Rattle.std.specs.Prelude.{⊤, ◌≡◌, ◌+◌, ◌<◌, ◌==◌, if◌then◌else◌, ◌∷◌, length, slice_index, slice_index_or};
-
-use simple_maps::DartSlot;
+ghost use Rattle.std.specs.Prelude.{◌≡◌, ◌+◌, ◌<◌, ◌==◌, if◌then◌else◌, ◌∷◌, length, slice_index, slice_index_or};
 
 /// What stands in place of a twin's number once a dart was walked over.
 pub(crate) const WALKED: u32 = u32::MAX;
-
-/// A dart: the number of its twin, or `WALKED`, and its tail.
-#[derive(Clone, Copy)]
-pub(crate) struct Slot {
-    pub(crate) twin: u32,
-    pub(crate) tail: u16,
-}
-
-impl DartSlot for Slot {
-    ghost tail_of = { λ s. s.tail };
-
-    ghost twin_of = { λ s. s.twin };
-
-    ghost IsInLine = { λ _ _. ⊤ };
-
-    fn new(tail: u16, twin: u32, _place: u32) -> Slot {
-        Slot { twin, tail }
-    }
-
-    fn set_twin(&mut self, twin: u32) {
-        self.twin = twin;
-    }
-
-    fn tail(&self) -> u16 {
-        self.tail
-    }
-
-    fn twin(&self) -> u32 {
-        self.twin
-    }
-}
 
 // Where list `v` begins.
 pub(crate) fn start_of(ends: &[usize], v: usize) -> usize

@@ -40,18 +40,6 @@ impl DartSlot for DartRecord {
             live: true,
         }
     }
-
-    fn set_twin(&mut self, twin: u32) {
-        self.twin = twin;
-    }
-
-    fn tail(&self) -> u16 {
-        self.tail
-    }
-
-    fn twin(&self) -> u32 {
-        self.twin
-    }
 }
 
 // The first dart of a vertex, which says nothing where there is none, and how many it has.

@@ -20,10 +20,6 @@ module _ {P : Type 0} (IsInLine : P → ℕ → Type 0) (slots : List P) (d : �
         ];
   }
 
-  -- a slot kept in line
-  pub AreInLine-kept : (n : ℕ) → (d < n → IsInLine x d) → AreInLine IsInLine slots n → AreInLine IsInLine (set slots d x) n
-  AreInLine-kept n made h = AreInLine-set n made (λ e none other l in_slots. h.at e none l in_slots)
-
   -- a slot more in line
   pub AreInLine-more : (next : ℕ) → next ≡ d + 1 → IsInLine x d → AreInLine IsInLine slots d → AreInLine IsInLine (set slots d x) next
   AreInLine-more next step made h = AreInLine-set next (λ l. made) (λ e none other l in_slots.

@@ -81,33 +81,6 @@ AreMutual-pair entries tails tails' twins n d e h same d_in e_in ne in_list in_l
       ]
     ]
 
--- a tail written again
-pub same_tail : (tails : List ℕ) (d v i : ℕ) → get_or tails d 0 ≡ v → d < length tails → get_or (set tails d v) i 0 ≡ get_or tails i 0
-same_tail tails d v i e l =
-    elim (cases_eq i d) [
-      | inl q ↦ ap (λ y. get_or (set tails d v) y 0) q ∙ (get_or-set_same tails d v 0 l ∙ (sym e ∙ ap (λ y. get_or tails y 0) (sym q)))
-      | inr ne ↦ get_or-set_other tails d i v 0 ne
-    ]
-
--- One step along the thread of v: the dart at d, which is before v's list, and that at e in the list are written as twins.
-module _ (entries old tails twins : List ℕ) (start n v : ℕ) (same : (i : ℕ) → get_or tails i 0 ≡ get_or old i 0) (here : (i : ℕ) → start ≤ i → i < n → get_or old i 0 ≡ v) (h : AreMutual entries tails twins n) (d e tail : ℕ) (d_in : d < start) (from : start ≤ e) (e_in : e < n) (long_tails : n ≤ length tails) (long_twins : n ≤ length twins) (is : tail ≡ get_or tails d 0) (one : get_or entries e 0 ≡ tail) (other : get_or entries d 0 ≡ v) where
-  at_e : get_or tails e 0 ≡ v
-  at_e = same e ∙ here e from e_in
-
-  again : (i : ℕ) → get_or (set (set tails d tail) e v) i 0 ≡ get_or tails i 0
-  again i =
-      let ne : e ≢ d = omega arith in
-      same_tail (set tails d tail) e v i (get_or-set_other tails d e tail 0 ne ∙ at_e) (omega (arith, length-set tails d tail))
-      ∙ same_tail tails d tail i (sym is) (omega arith)
-
-  pub step-tails : (i : ℕ) → get_or (set (set tails d tail) e v) i 0 ≡ get_or old i 0
-  step-tails i = again i ∙ same i
-
-  pub step-pairs : AreMutual entries (set (set tails d tail) e v) (set (set twins d e) e d) n
-  step-pairs =
-      AreMutual-pair entries tails (set (set tails d tail) e v) twins n d e h again (omega arith) e_in (omega arith) (omega arith) (omega arith)
-      (one ∙ is) (other ∙ sym at_e)
-
 -- entries that are what a function says, and one more
 pub written_more : (xs : List ℕ) (f : ℕ → ℕ) (d x : ℕ) → d < length xs → x ≡ f d → ((i : ℕ) → i < d → get_or xs i 0 ≡ f i) → (i : ℕ) → i < d + 1 → get_or (set xs d x) i 0 ≡ f i
 written_more xs f d x l e h i m =

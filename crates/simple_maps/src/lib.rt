@@ -13,4 +13,4 @@ mod twins;
 pub use fault::MapFault;
 pub use laws::{first_fault_is_first, no_fault_is_simple};
 pub use pass::DartSlot;
-pub use slots::fill_slots;
+pub use slots::{fill_slots, fill_twins};

@@ -4,13 +4,13 @@
 //! when its own list comes up; and the newest of each head tells whether a list holds a number twice. What
 //! the threads say is tried before it is written, and where they do not lead to a twin the pass gives up:
 //! it answers that lists are a simple map, and never that they are none.
-ghost use Rattle.std.specs.Prelude.{◌≡◌, ◌+◌, ◌^◌, ◌<◌, ◌≤◌, ℕ, length, map, slice_index, All};
+ghost use Rattle.std.specs.Prelude.{◌≡◌, ◌+◌, ◌^◌, ◌<◌, ◌≤◌, ℕ, length, slice_index, All};
 ghost use Rattle.std.specs.Bool.{OnTrue};
 ghost use Rattle.map_lists.specs.Cuts.{cut, AreCuts};
 ghost use Rattle.simple_maps.specs.Tables.{AreSlots};
-ghost use Rattle.simple_maps.specs.Pass.{IsSimpleList, IsPlaced, AreMutual, AreInLine};
+ghost use Rattle.simple_maps.specs.Pass.{IsSimpleList, IsPlaced, AreMutual};
 
-/// What a table keeps of a dart: its tail, the number of its twin, and what follows from its own number.
+/// What a slot keeps of a dart: its tail, the number of its twin, and what follows from its own number.
 pub trait DartSlot: Copy {
     ghost tail_of: { Self → ℕ };
 
@@ -24,20 +24,6 @@ pub trait DartSlot: Copy {
         ensures tail { tail_of result ≡ tail }
         ensures twin { twin_of result ≡ twin }
         ensures line { IsInLine result place };
-
-    /// Gives the dart another twin.
-    fn set_twin(&mut self, twin: u32)
-        ensures tail { tail_of self.new ≡ tail_of self.old }
-        ensures twin { twin_of self.new ≡ twin }
-        ensures line { (d : ℕ) → IsInLine self.old d → IsInLine self.new d };
-
-    /// The vertex that the dart leaves.
-    fn tail(&self) -> u16
-        ensures { result ≡ tail_of self.now };
-
-    /// The number of the twin.
-    fn twin(&self) -> u32
-        ensures { result ≡ twin_of self.now };
 }
 
 // More than any dart's number: what stands in place of a twin's number, where the twin is not known.
@@ -63,39 +49,38 @@ fn are_below(entries: &[u16], n: usize) -> bool
 }
 
 // Whether all darts have a twin.
-fn are_paired<P: DartSlot>(slots: &[P]) -> bool
-    ensures { OnTrue result (All (λ t. t < 16777216) (map P.twin_of slots.now)) }
+fn are_paired(twins: &[u32]) -> bool
+    ensures { OnTrue result (All (λ t. t < 16777216) twins.now) }
 {
     let mut greatest = 0;
-    for slot in slots {
-        greatest = greatest.max(slot.twin());
+    for twin in twins {
+        greatest = greatest.max(*twin);
     }
     greatest < NO_PLACE
 }
 
 // Threads the darts of v's list, which are those from `start` on and before `end`. It answers whether the
 // list holds no number twice and not v.
-fn thread_list<P: DartSlot>(
+fn thread_list(
     entries: &[u16],
     start: usize,
     end: usize,
     v: u16,
-    slots: &mut [P],
+    tails: &mut [u16],
+    twins: &mut [u32],
     newest: &mut [u32],
 ) -> bool
     requires order { start ≤ end }
     requires within { end ≤ length entries.now }
     requires few { length entries.now < 16777216 }
-    requires slots { length slots.old ≡ length entries.now }
+    requires tails { length tails.old ≡ length entries.now }
+    requires twins { length twins.old ≡ length entries.now }
     requires v_in { v < length newest.old }
     requires numbers { All (λ u. u < length newest.old) entries.now }
     requires unset { All (λ m. 16777216 ≤ m) newest.old }
-    requires line { AreInLine P.IsInLine slots.old start }
     ensures unset { All (λ m. 16777216 ≤ m) newest.new }
-    ensures line { OnTrue result (AreInLine P.IsInLine slots.new end) }
     ensures list { OnTrue result (IsSimpleList entries.now start end v) }
-    ensures placed { OnTrue result (IsPlaced (map P.tail_of slots.old) (map P.twin_of slots.old)
-        (map P.tail_of slots.new) (map P.twin_of slots.new) start end v) }
+    ensures placed { OnTrue result (IsPlaced tails.old twins.old tails.new twins.new start end v) }
 {
     let base = FIRST_PLACE + start as u32;
     newest[v as usize] = base;
@@ -105,68 +90,70 @@ fn thread_list<P: DartSlot>(
         if older >= base {
             return false;
         }
-        slots[d] = P::new(v, older, d as u32);
+        tails[d] = v;
+        twins[d] = older;
         newest[u as usize] = FIRST_PLACE + d as u32;
     }
     true
 }
 
-// Pairs the darts of v's list with those to v in the lists before, along their thread.
-fn pair_list<P: DartSlot>(
+// Pairs the darts of v's list with those to v in the lists before, along their thread, which leads from each
+// dart to one before it.
+fn pair_list(
     entries: &[u16],
     start: usize,
     end: usize,
     v: u16,
     thread: u32,
-    slots: &mut [P],
+    tails: &[u16],
+    twins: &mut [u32],
     newest: &[u32],
 )
     requires order { start ≤ end }
     requires within { end ≤ length entries.now }
     requires few { length entries.now < 16777216 }
-    requires slots { length slots.old ≡ length entries.now }
-    requires tails { (d : ℕ) → d < start → slice_index (map P.tail_of slots.old) d < length newest.now }
-    requires here { (d : ℕ) → start ≤ d → d < end → slice_index (map P.tail_of slots.old) d ≡ v }
-    requires pairs { AreMutual entries.now (map P.tail_of slots.old) (map P.twin_of slots.old) end }
-    ensures tails { (d : ℕ) → slice_index (map P.tail_of slots.new) d ≡ slice_index (map P.tail_of slots.old) d }
-    ensures pairs { AreMutual entries.now (map P.tail_of slots.new) (map P.twin_of slots.new) end }
-    ensures line { (n : ℕ) → AreInLine P.IsInLine slots.old n → AreInLine P.IsInLine slots.new n }
+    requires tails { length tails.now ≡ length entries.now }
+    requires twins { length twins.old ≡ length entries.now }
+    requires before { (d : ℕ) → d < start → slice_index tails.now d < length newest.now }
+    requires here { (d : ℕ) → start ≤ d → d < end → slice_index tails.now d ≡ v }
+    requires pairs { AreMutual entries.now tails.now twins.old end }
+    ensures { AreMutual entries.now tails.now twins.new end }
 {
-    let mut link = thread;
-    'along: for _ in start..end {
-        let d = place_named(link);
-        if d >= start {
-            return;
-        }
-        let tail = slots[d].tail();
+    let mut bound = start;
+    let mut d = place_named(thread);
+    'along: while d < bound {
+        let tail = tails[d];
         let twin = place_named(newest[tail as usize]);
         if twin < start || twin >= end || entries[twin] != tail || entries[d] != v {
             return;
         }
-        link = slots[d].twin();
-        slots[d].set_twin(twin as u32);
-        slots[twin].set_twin(d as u32);
+        let link = twins[d];
+        twins[d] = twin as u32;
+        twins[twin] = d as u32;
+        bound = d;
+        d = place_named(link);
     }
 }
 
-// Whether lists are found to be a simple map, and then the slots of their darts. No twin is known before,
-// and no thread: each of `newest` is `NO_PLACE`.
+// Whether lists are found to be a simple map, and then the tails and the twins of their darts. No thread is
+// known before: each of `newest` is `NO_PLACE`.
 #[inline(never)]
-pub(crate) fn finds_slots<P: DartSlot>(
+pub(crate) fn finds_twins(
     entries: &[u16],
     ends: &[usize],
-    slots: &mut [P],
+    tails: &mut [u16],
+    twins: &mut [u32],
     newest: &mut [u32],
 ) -> bool
     requires some_list { 0 < length ends.now }
     requires few_lists { length ends.now < 4096 }
     requires cuts { AreCuts 0 ends.now (length entries.now) }
     requires few { length entries.now < 16777216 }
-    requires slots { length slots.old ≡ length entries.now }
+    requires tails { length tails.old ≡ length entries.now }
+    requires twins { length twins.old ≡ length entries.now }
     requires newest { length newest.old ≡ length ends.now }
     requires unset { All (λ m. 16777216 ≤ m) newest.old }
-    ensures slots { OnTrue result (AreSlots (cut 0 ends.now entries.now) (map P.tail_of slots.new) (map P.twin_of slots.new)) }
-    ensures line { OnTrue result (AreInLine P.IsInLine slots.new (length slots.new)) }
+    ensures { OnTrue result (AreSlots (cut 0 ends.now entries.now) tails.new twins.new) }
 {
     if !are_below(entries, ends.len()) {
         return false;
@@ -175,11 +162,11 @@ pub(crate) fn finds_slots<P: DartSlot>(
     for v in 0..ends.len() {
         let end = ends[v];
         let thread = newest[v];
-        if !thread_list(entries, start, end, v as u16, slots, newest) {
+        if !thread_list(entries, start, end, v as u16, tails, twins, newest) {
             return false;
         }
-        pair_list(entries, start, end, v as u16, thread, slots, newest);
+        pair_list(entries, start, end, v as u16, thread, tails, twins, newest);
         start = end;
     }
-    are_paired(slots)
+    are_paired(twins)
 }

@@ -1,5 +1,5 @@
-//! The slots of the darts of a simple map, or the first fault of lists that are none.
-ghost use Rattle.std.specs.Prelude.{◌≡◌, ◌<◌, ℕ, length, map, slice_index, slice_index_or, None, OnOk, IfOk, IfErr};
+//! The tails and the twins of the darts of a simple map, as two tables or as slots, or the first fault of lists that are none.
+ghost use Rattle.std.specs.Prelude.{◌≡◌, ◌<◌, ◌++◌, ℕ, length, map, slice_index, OnOk, IfOk, IfErr};
 ghost use Rattle.std.specs.Bool.{OnTrue};
 ghost use Rattle.simple_maps.specs.Faults.{first_fault};
 ghost use Rattle.simple_maps.specs.MapFault.{Names};
@@ -7,74 +7,109 @@ ghost use Rattle.simple_maps.specs.Tables.{AreSlots};
 ghost use Rattle.simple_maps.specs.Pass.{AreInLine};
 
 use crate::MapFault;
-use crate::pass::{DartSlot, NO_PLACE, finds_slots};
+use crate::pass::{DartSlot, NO_PLACE, finds_twins};
 use crate::simple::tables_of;
 use map_lists::Rotations;
 use std::alloc::{AllocError, Global};
 
-// The slots by one pass over the lists, which finds them or tells nothing.
-fn found_slots<P: DartSlot>(
+// The tails and the twins by one pass over the lists, which finds them or tells nothing.
+fn found_twins(
     lists: &Rotations,
-    slots: &mut Vec<P>,
+    tails: &mut Vec<u16>,
+    twins: &mut Vec<u32>,
     threads: &mut Vec<u32>,
 ) -> Result<bool, AllocError>
     requires some_list { 0 < length lists.now }
     requires few_lists { length lists.now < 4096 }
-    ensures slots { IfOk result (λ found. OnTrue found
-        (AreSlots lists.now (map P.tail_of slots.new.items) (map P.twin_of slots.new.items))) }
-    ensures line { IfOk result (λ found. OnTrue found
-        (AreInLine P.IsInLine slots.new.items (length slots.new.items))) }
+    ensures slots { IfOk result (λ found. OnTrue found (AreSlots lists.now tails.new.items twins.new.items)) }
+    ensures count { IfOk result (λ found. OnTrue found (length tails.new.items ≡ length twins.new.items)) }
 {
     let entries = lists.entries();
     if entries.len() >= NO_PLACE as usize {
         return Ok(false);
     }
-    slots.resize(entries.len(), P::new(0, 0, 0))?;
+    tails.resize(entries.len(), 0)?;
+    twins.resize(entries.len(), 0)?;
     threads.clear();
     threads.resize(lists.len(), NO_PLACE)?;
-    Ok(finds_slots(entries, lists.ends(), slots, threads))
+    Ok(finds_twins(entries, lists.ends(), tails, twins, threads))
 }
 
-// Writes the slots of darts with these ends and twins.
-fn write_slots<P: DartSlot>(ends: &[(u16, u16)], twins: &[u32], slots: &mut [P])
-    requires twins { length twins.now ≡ length ends.now }
-    requires slots { length slots.old ≡ length ends.now }
-    requires few { length ends.now < 16777216 }
-    ensures line { AreInLine P.IsInLine slots.new (length slots.new) }
-    ensures tails { (d : ℕ) → d < length ends.now
-        → slice_index (map P.tail_of slots.new) d ≡ (slice_index_or ends.now d (0, 0)).0 }
-    ensures twins { (d : ℕ) → d < length ends.now
-        → slice_index (map P.twin_of slots.new) d ≡ slice_index twins.now d }
+// Appends the tails of darts.
+fn push_tails(darts: &[(u16, u16)], tails: &mut Vec<u16>) -> Result<(), AllocError>
+    ensures { OnOk result (tails.new.items ≡ tails.old.items ++ map (λ dart. dart.0) darts.now) }
 {
-    for d in 0..ends.len() {
-        slots[d] = P::new(ends[d].0, twins[d], d as u32);
+    for dart in darts {
+        tails.push(dart.0)?;
     }
+    Ok(())
 }
 
-// The slots by the exact searches for faults, one kind after another.
-fn searched_slots<P: DartSlot>(
+// The tails and the twins by the exact searches for faults, one kind after another.
+fn searched_twins(
     alloc: Global,
     lists: &Rotations,
-    slots: &mut Vec<P>,
+    tails: &mut Vec<u16>,
+    twins: &mut Vec<u32>,
 ) -> Result<(), MapFault>
     requires some_list { 0 < length lists.now }
     requires few_lists { length lists.now < 4096 }
-    ensures slots { OnOk result (AreSlots lists.now (map P.tail_of slots.new.items) (map P.twin_of slots.new.items)) }
-    ensures line { OnOk result (AreInLine P.IsInLine slots.new.items (length slots.new.items)) }
+    ensures slots { OnOk result (AreSlots lists.now tails.new.items twins.new.items) }
+    ensures count { OnOk result (length tails.new.items ≡ length twins.new.items) }
     ensures fault { IfErr result (Names (first_fault lists.now)) }
 {
     let tables = tables_of(alloc, lists)?;
-    slots.resize(tables.ends.len(), P::new(0, 0, 0))?;
-    write_slots(&tables.ends, &tables.twins, slots);
+    tails.clear();
+    push_tails(&tables.ends, tails)?;
+    *twins = tables.twins;
     Ok(())
+}
+
+/// Makes `tails` and `twins` those of the darts of lists, which are from 1 to 4095, or answers the first
+/// fault of the lists.
+///
+/// What the vectors hold before says nothing; they are kept by a caller who has many maps, so that their
+/// memory serves for all. The time is linear in the entries. A simple map takes no other memory than that
+/// of the three: six bytes for each dart, and one number for each vertex.
+pub fn fill_twins(
+    alloc: Global,
+    lists: &Rotations,
+    tails: &mut Vec<u16>,
+    twins: &mut Vec<u32>,
+    threads: &mut Vec<u32>,
+) -> Result<(), MapFault>
+    requires some_list { 0 < length lists.now }
+    requires few_lists { length lists.now < 4096 }
+    ensures slots { OnOk result (AreSlots lists.now tails.new.items twins.new.items) }
+    ensures count { OnOk result (length tails.new.items ≡ length twins.new.items) }
+    ensures fault { IfErr result (Names (first_fault lists.now)) }
+{
+    if found_twins(lists, tails, twins, threads)? {
+        return Ok(());
+    }
+    searched_twins(alloc, lists, tails, twins)
+}
+
+// Writes the slots of darts with these tails and twins.
+fn write_slots<P: DartSlot>(tails: &[u16], twins: &[u32], slots: &mut [P])
+    requires twins { length tails.now ≡ length twins.now }
+    requires slots { length slots.old ≡ length twins.now }
+    requires few { length twins.now < 16777216 }
+    ensures line { AreInLine P.IsInLine slots.new (length slots.new) }
+    ensures tails { (d : ℕ) → d < length twins.now → slice_index (map P.tail_of slots.new) d ≡ slice_index tails.now d }
+    ensures twins { (d : ℕ) → d < length twins.now → slice_index (map P.twin_of slots.new) d ≡ slice_index twins.now d }
+{
+    for d in 0..twins.len() {
+        slots[d] = P::new(tails[d], twins[d], d as u32);
+    }
 }
 
 /// Makes `slots` those of the darts of lists, which are from 1 to 4095, or answers the first fault of the
 /// lists.
 ///
 /// What `slots` and `threads` hold before says nothing; they are kept by a caller who has many maps, so
-/// that their memory serves for all. The time is linear in the entries. A simple map takes no other
-/// memory than that of the two: one slot for each dart, and one number for each vertex.
+/// that their memory serves for all. The time is linear in the entries, and so is the memory: one slot and
+/// six bytes for each dart, and one number for each vertex.
 pub fn fill_slots<P: DartSlot>(
     alloc: Global,
     lists: &Rotations,
@@ -87,8 +122,10 @@ pub fn fill_slots<P: DartSlot>(
     ensures line { OnOk result (AreInLine P.IsInLine slots.new.items (length slots.new.items)) }
     ensures fault { IfErr result (Names (first_fault lists.now)) }
 {
-    if found_slots(lists, slots, threads)? {
-        return Ok(());
-    }
-    searched_slots(alloc, lists, slots)
+    let mut tails = Vec::new(alloc);
+    let mut twins = Vec::new(alloc);
+    fill_twins(alloc, lists, &mut tails, &mut twins, threads)?;
+    slots.resize(twins.len(), P::new(0, 0, 0))?;
+    write_slots(&tails, &twins, slots);
+    Ok(())
 }

@@ -1,4 +1,4 @@
-use Rattle.std.proofs.Common.{length, arith, refl, sym, ◌∙◌}
+use Rattle.std.proofs.Common.{◌-◌, length, arith, refl, sym, ◌∙◌}
 use Rattle.std.proofs.lemmas.Bool.{lt-ltb, false≢true}
 use Rattle.classes.specs.Classes.{label}
 use Rattle.classes.proofs.Classes.{length-classes, IsLabels-classes}
@@ -8,7 +8,7 @@ use Rattle.map_lists.proofs.CutLemmas.{length-cut}
 use Rattle.map_theory.specs.Maps.{darts, component_count, component_classes}
 use Rattle.euler_faces.specs.Numbers.{mark_at}
 use Rattle.euler_faces.specs.Search.{marks_of}
-use Rattle.euler_faces.proofs.SearchLemmas.{component_numbers, met, unmet, components-below, search-kept, unmarked_below-none}
+use Rattle.euler_faces.proofs.SearchLemmas.{component_numbers, met, unmet, components-below, search-kept, unmarked_below-none, all_marked, length-marks_of, IsCounting-full}
 use Rattle.euler_faces.proofs.components.number_components.Goals as goal
 use Rattle.euler_faces.proofs.components.number_components.Goals.{then-numbers-v, else-numbers-v}
 
@@ -68,6 +68,30 @@ returns-clause-count c =
     let long = length-cut 0 c.args.ends.now c.args.entries.now in
     let n = length-classes (length lists) (darts lists) in
     IsCounting-all (component_classes lists) (mark_at (marks_of c.loop-v.numbers)) c.loop-v.count c.loop-v.v c.loop-v.invariant.counting (omega arith)
+
+pub returns-then-filled-ends-clause-count : goal.returns-then-filled-ends-clause-count
+unfolding component_count
+returns-then-filled-ends-clause-count c =
+    let lists = cut 0 c.args.ends.now c.args.entries.now in
+    let long = length-cut 0 c.args.ends.now c.args.entries.now in
+    let h = c.loop-v.invariant in
+    let n = length-classes (length lists) (darts lists) in
+    let labels = IsLabels-classes (length lists) (darts lists) (components-below lists c.requires.simple) in
+    let same = c.if-filled-ends.true in
+    let full = IsCounting-full (length (component_classes lists) - c.loop-v.v) (component_classes lists) (mark_at (marks_of c.loop-v.numbers)) c.loop-v.count c.loop-v.v labels h.counting (omega arith)
+    (λ u l. all_marked (marks_of c.loop-v.numbers) (length c.args.ends.now) u (omega (arith, h.work)) (omega arith) (omega (arith, h.marks, length-marks_of c.loop-v.numbers))) in
+    IsCounting-all (component_classes lists) (mark_at (marks_of c.loop-v.numbers)) c.loop-v.count (length (component_classes lists)) full refl
+
+pub returns-then-filled-ends-clause-few : goal.returns-then-filled-ends-clause-few
+returns-then-filled-ends-clause-few c =
+    let le = IsCounting-le _ _ c.loop-v.count c.loop-v.v c.loop-v.invariant.counting in
+    omega arith
+
+pub returns-then-filled-ends-clause-numbers : goal.returns-then-filled-ends-clause-numbers
+returns-then-filled-ends-clause-numbers c = λ u l.
+    let h = c.loop-v.invariant in
+    let same = c.if-filled-ends.true in
+    h.numbers u l (all_marked (marks_of c.loop-v.numbers) (length c.args.ends.now) u (omega (arith, h.work)) (omega arith) (omega (arith, h.marks, length-marks_of c.loop-v.numbers)))
 
 pub returns-clause-few : goal.returns-clause-few
 returns-clause-few c =

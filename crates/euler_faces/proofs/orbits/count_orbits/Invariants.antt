@@ -2,12 +2,12 @@ use Rattle.std.proofs.Common.{◌≡◌, length}
 use Rattle.classes.proofs.Marks.{IsCounting}
 use Rattle.map_lists.specs.Cuts.{cut}
 use Rattle.map_theory.specs.Maps.{face_classes}
-use Rattle.euler_faces.specs.Slots.{twins_of, walked, HaveTwins}
+use Rattle.euler_faces.specs.Slots.{walked, HaveTwins}
 use Rattle.euler_faces.proofs.orbits.count_orbits.Given as goal
 
 abbrev pub invariant-loop-d : goal.invariant-loop-d
 invariant-loop-d l = record {
-  slots : length l.slots ≡ length l.entries;
-  twins : HaveTwins (cut 0 l.ends l.entries) (twins_of l.slots);
-  counting : IsCounting (face_classes (cut 0 l.ends l.entries)) (walked (twins_of l.slots)) l.count l.d;
+  long : length l.twins ≡ length l.entries;
+  twins : HaveTwins (cut 0 l.ends l.entries) l.twins;
+  counting : IsCounting (face_classes (cut 0 l.ends l.entries)) (walked l.twins) l.count l.d;
 }

@@ -1,5 +1,5 @@
-use Rattle.std.proofs.Common.{ℕ, ◌<◌, ◌≤◌, get_or, map}
+use Rattle.std.proofs.Common.{ℕ, ◌<◌, ◌≤◌, get_or}
 use Rattle.simple_maps.proofs.pass.are_paired.Given as goal
 
-abbrev pub invariant-loop-slot : goal.invariant-loop-slot
-invariant-loop-slot g l = (k : ℕ) → k < l.slot-index → get_or (map g.P.DartSlot.twin_of l.slots) k 0 ≤ l.greatest
+abbrev pub invariant-loop-twin : goal.invariant-loop-twin
+invariant-loop-twin l = (k : ℕ) → k < l.twin-index → get_or l.twins k 0 ≤ l.greatest

@@ -17,7 +17,7 @@ loop-d-preserved g c =
     let twins = length-map {B = ℕ} slots twin in
     record {
       count = length-set slots d x ∙ h.count;
-      tails = rw (map-set tail slots d x) (written_more (map tail slots) (λ i. (get_or c.args.ends.now i (0, 0)).0) d (tail x) (omega arith) c.new.ensures.tail h.tails);
+      tails = rw (map-set tail slots d x) (written_more (map tail slots) (λ i. get_or c.args.tails.now i 0) d (tail x) (omega arith) c.new.ensures.tail h.tails);
       twins = rw (map-set twin slots d x) (written_more (map twin slots) (λ i. get_or c.args.twins.now i 0) d (twin x) (omega arith) c.new.ensures.twin h.twins);
       line = AreInLine-more g.P.DartSlot.IsInLine slots d x (omega arith) (d + 1) refl c.new.ensures.line h.line;
     }

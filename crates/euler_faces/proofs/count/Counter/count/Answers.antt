@@ -4,45 +4,50 @@ use Rattle.map_theory.specs.Maps.{vertex_count, edge_count, face_count, componen
 use Rattle.simple_maps.proofs.FaultLemmas.{first_fault-IsSimpleMap}
 use Rattle.euler_faces.proofs.count.Counter.count.Goals as goal
 
-pub count_slots-requires-clause-cuts : goal.count_slots-requires-clause-cuts
-count_slots-requires-clause-cuts c =
+pub count_twins-requires-clause-cuts : goal.count_twins-requires-clause-cuts
+count_twins-requires-clause-cuts c =
     IsStored-cuts c.args.lists.now c.entries.result.now c.ends.result.now (record { entries_are = c.entries.ensures; ends_are = c.ends.ensures })
 
-pub count_slots-requires-clause-few : goal.count_slots-requires-clause-few
-count_slots-requires-clause-few c =
+pub count_twins-requires-clause-few : goal.count_twins-requires-clause-few
+count_twins-requires-clause-few c =
     let stored : IsStored c.args.lists.now c.entries.result.now c.ends.result.now = record { entries_are = c.entries.ensures; ends_are = c.ends.ensures } in
     omega (arith, ap length (IsStored-cut _ _ _ stored), length-cut 0 c.ends.result.now c.entries.result.now, c.requires.few_lists)
 
-pub count_slots-requires-clause-slots : goal.count_slots-requires-clause-slots
-count_slots-requires-clause-slots c =
+pub count_twins-requires-clause-twins : goal.count_twins-requires-clause-twins
+count_twins-requires-clause-twins c =
     let stored : IsStored c.args.lists.now c.entries.result.now c.ends.result.now = record { entries_are = c.entries.ensures; ends_are = c.ends.ensures } in
-    rw (IsStored-cut _ _ _ stored, c.deref_mut.ensures.value, c.in_ok-clear.ensures.slots) c.in_ok-fill_slots.ensures.slots
+    rw (IsStored-cut _ _ _ stored, c.deref_mut.ensures.value, c.in_ok-clear.ensures.twins) c.in_ok-fill_twins.ensures.slots.twins_are
 
-pub count_slots-requires-clause-marks : goal.count_slots-requires-clause-marks
-count_slots-requires-clause-marks c =
+pub count_twins-requires-clause-simple : goal.count_twins-requires-clause-simple
+count_twins-requires-clause-simple c =
+    let stored : IsStored c.args.lists.now c.entries.result.now c.ends.result.now = record { entries_are = c.entries.ensures; ends_are = c.ends.ensures } in
+    rw (IsStored-cut _ _ _ stored) c.in_ok-fill_twins.ensures.slots.simple
+
+pub count_twins-requires-clause-marks : goal.count_twins-requires-clause-marks
+count_twins-requires-clause-marks c =
     let stored : IsStored c.args.lists.now c.entries.result.now c.ends.result.now = record { entries_are = c.entries.ensures; ends_are = c.ends.ensures } in
     omega (arith, ap length c.deref_mut-2.ensures.value, c.in_ok-clear.ensures.marks, c.len.ensures, ap length (IsStored-cut _ _ _ stored), length-cut 0 c.ends.result.now c.entries.result.now)
 
-pub count_slots-requires-clause-room : goal.count_slots-requires-clause-room
-count_slots-requires-clause-room c =
+pub count_twins-requires-clause-room : goal.count_twins-requires-clause-room
+count_twins-requires-clause-room c =
     let stored : IsStored c.args.lists.now c.entries.result.now c.ends.result.now = record { entries_are = c.entries.ensures; ends_are = c.ends.ensures } in
     omega (arith, ap length c.deref_mut-3.ensures.value, c.in_ok-clear.ensures.room, c.len.ensures, ap length (IsStored-cut _ _ _ stored), length-cut 0 c.ends.result.now c.entries.result.now)
 
 pub returns-clause-n : goal.returns-clause-n
 returns-clause-n c =
-    c.count_slots.ensures.n ∙ ap vertex_count (IsStored-cut c.args.lists.now c.entries.result.now c.ends.result.now (record { entries_are = c.entries.ensures; ends_are = c.ends.ensures }))
+    c.count_twins.ensures.n ∙ ap vertex_count (IsStored-cut c.args.lists.now c.entries.result.now c.ends.result.now (record { entries_are = c.entries.ensures; ends_are = c.ends.ensures }))
 
 pub returns-clause-m : goal.returns-clause-m
 returns-clause-m c =
-    c.count_slots.ensures.m ∙ ap edge_count (IsStored-cut c.args.lists.now c.entries.result.now c.ends.result.now (record { entries_are = c.entries.ensures; ends_are = c.ends.ensures }))
+    c.count_twins.ensures.m ∙ ap edge_count (IsStored-cut c.args.lists.now c.entries.result.now c.ends.result.now (record { entries_are = c.entries.ensures; ends_are = c.ends.ensures }))
 
 pub returns-clause-f : goal.returns-clause-f
 returns-clause-f c =
-    c.count_slots.ensures.f ∙ ap face_count (IsStored-cut c.args.lists.now c.entries.result.now c.ends.result.now (record { entries_are = c.entries.ensures; ends_are = c.ends.ensures }))
+    c.count_twins.ensures.f ∙ ap face_count (IsStored-cut c.args.lists.now c.entries.result.now c.ends.result.now (record { entries_are = c.entries.ensures; ends_are = c.ends.ensures }))
 
 pub returns-clause-c : goal.returns-clause-c
 returns-clause-c c =
-    c.count_slots.ensures.c ∙ ap component_count (IsStored-cut c.args.lists.now c.entries.result.now c.ends.result.now (record { entries_are = c.entries.ensures; ends_are = c.ends.ensures }))
+    c.count_twins.ensures.c ∙ ap component_count (IsStored-cut c.args.lists.now c.entries.result.now c.ends.result.now (record { entries_are = c.entries.ensures; ends_are = c.ends.ensures }))
 
 pub returns-clause-simple : goal.returns-clause-simple
-returns-clause-simple c = first_fault-IsSimpleMap c.args.lists.now c.in_ok-fill_slots.ensures.slots.simple
+returns-clause-simple c = first_fault-IsSimpleMap c.args.lists.now c.in_ok-fill_twins.ensures.slots.simple

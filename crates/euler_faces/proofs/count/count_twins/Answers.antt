@@ -8,46 +8,44 @@ use Rattle.map_theory.proofs.DartLemmas.{length-darts}
 use Rattle.map_theory.proofs.DartCounts.{few_darts-simple}
 use Rattle.simple_maps.proofs.FlatLemmas.{count-is}
 use Rattle.map_theory.proofs.DartPermutations.{euler_bound_map}
-use Rattle.euler_faces.specs.Slots.{twins_of}
-use Rattle.euler_faces.proofs.OrbitLemmas.{length-twins_of}
-use Rattle.euler_faces.proofs.count.count_slots.Goals as goal
+use Rattle.euler_faces.proofs.count.count_twins.Goals as goal
 
 pub count_orbits-orbits-requires-clause-few : goal.count_orbits-orbits-requires-clause-few
 count_orbits-orbits-requires-clause-few c =
     let lists = cut 0 c.args.ends.now c.args.entries.now in
-    omega (arith, length-cut 0 c.args.ends.now c.args.entries.now, few_darts-simple lists (omega (arith, c.requires.few, length-cut 0 c.args.ends.now c.args.entries.now)) c.requires.slots.simple, count-is c.args.ends.now c.args.entries.now c.requires.cuts)
+    omega (arith, length-cut 0 c.args.ends.now c.args.entries.now, few_darts-simple lists (omega (arith, c.requires.few, length-cut 0 c.args.ends.now c.args.entries.now)) c.requires.simple, count-is c.args.ends.now c.args.entries.now c.requires.cuts)
 
-pub count_orbits-orbits-requires-clause-slots : goal.count_orbits-orbits-requires-clause-slots
-count_orbits-orbits-requires-clause-slots c =
+pub count_orbits-orbits-requires-clause-long : goal.count_orbits-orbits-requires-clause-long
+count_orbits-orbits-requires-clause-long c =
     let lists = cut 0 c.args.ends.now c.args.entries.now in
-    omega (arith, length-twins_of c.args.slots.now, c.requires.slots.twins_are.count, length-darts lists, count-is c.args.ends.now c.args.entries.now c.requires.cuts)
+    omega (arith, c.requires.twins.count, length-darts lists, count-is c.args.ends.now c.args.entries.now c.requires.cuts)
 
 pub count_orbits-orbits-requires-clause-twins : goal.count_orbits-orbits-requires-clause-twins
 count_orbits-orbits-requires-clause-twins c = λ d l.
     let lists = cut 0 c.args.ends.now c.args.entries.now in
-    inr (c.requires.slots.twins_are.at d (omega (arith, l, length-darts lists)))
+    inr (c.requires.twins.at d (omega (arith, l, length-darts lists)))
 
 pub count_orbits-orbits-requires-clause-unwalked : goal.count_orbits-orbits-requires-clause-unwalked
 count_orbits-orbits-requires-clause-unwalked c = λ i l.
     let lists = cut 0 c.args.ends.now c.args.entries.now in
     let n = length-darts lists in
     let all = count-is c.args.ends.now c.args.entries.now c.requires.cuts in
-    let few = few_darts-simple lists (omega (arith, c.requires.few, length-cut 0 c.args.ends.now c.args.entries.now)) c.requires.slots.simple in
-    let found = c.requires.slots.twins_are.at i (omega arith) in
-    let within = slice_get_within (darts lists) (get_or (twins_of c.args.slots.now) i 0) _ found in
-    ne_eqb (get_or (twins_of c.args.slots.now) i 0) 4294967295 (omega arith)
+    let few = few_darts-simple lists (omega (arith, c.requires.few, length-cut 0 c.args.ends.now c.args.entries.now)) c.requires.simple in
+    let found = c.requires.twins.at i (omega arith) in
+    let within = slice_get_within (darts lists) (get_or c.args.twins.now i 0) _ found in
+    ne_eqb (get_or c.args.twins.now i 0) 4294967295 (omega arith)
 
 pub overflow_cast-result-2 : goal.overflow_cast-result-2
 overflow_cast-result-2 c =
     let lists = cut 0 c.args.ends.now c.args.entries.now in
-    let few = few_darts-simple lists (omega (arith, c.requires.few, length-cut 0 c.args.ends.now c.args.entries.now)) c.requires.slots.simple in
+    let few = few_darts-simple lists (omega (arith, c.requires.few, length-cut 0 c.args.ends.now c.args.entries.now)) c.requires.simple in
     omega (arith, count-is c.args.ends.now c.args.entries.now c.requires.cuts)
 
 pub overflow_add-result : goal.overflow_add-result
 overflow_add-result c =
     let lists = cut 0 c.args.ends.now c.args.entries.now in
-    let few = few_darts-simple lists (omega (arith, c.requires.few, length-cut 0 c.args.ends.now c.args.entries.now)) c.requires.slots.simple in
-    omega (arith, count-is c.args.ends.now c.args.entries.now c.requires.cuts, c.count_orbits-orbits.ensures.few, c.count_isolated-isolated.ensures.few, c.requires.few)
+    let few = few_darts-simple lists (omega (arith, c.requires.few, length-cut 0 c.args.ends.now c.args.entries.now)) c.requires.simple in
+    omega (arith, count-is c.args.ends.now c.args.entries.now c.requires.cuts, c.count_orbits-orbits.ensures.few, c.isolated_of-isolated.ensures.few, c.requires.few)
 
 -- the counts are within the Euler bound
 pub invariant_of-result : goal.invariant_of-result
@@ -56,11 +54,11 @@ invariant_of-result c =
     let lists = cut 0 c.args.ends.now c.args.entries.now in
     let long = length-cut 0 c.args.ends.now c.args.entries.now in
     let all = count-is c.args.ends.now c.args.entries.now c.requires.cuts in
-    let few = few_darts-simple lists (omega (arith, c.requires.few)) c.requires.slots.simple in
+    let few = few_darts-simple lists (omega (arith, c.requires.few)) c.requires.simple in
     let vertices = c.requires.few in
-    let bound = euler_bound_map lists c.requires.slots.simple in
+    let bound = euler_bound_map lists c.requires.simple in
     let orbits = c.count_orbits-orbits.ensures.count in
-    let isolated = c.count_isolated-isolated.ensures.count c.args.entries.now c.requires.cuts in
+    let isolated = c.isolated_of-isolated.ensures.count in
     let components = c.number_components-c.ensures.count in
     let few_components = c.number_components-c.ensures.few in
     let halves : edge_count lists ≡ length c.args.entries.now / 2 = ap (λ n. n / 2) all in
@@ -82,4 +80,4 @@ returns-clause-m c = ap (λ n. n / 2) (sym (count-is c.args.ends.now c.args.entr
 pub returns-clause-f : goal.returns-clause-f
 unfolding face_count
 returns-clause-f c =
-    ap₂ (λ m n. m + n) c.count_orbits-orbits.ensures.count (c.count_isolated-isolated.ensures.count c.args.entries.now c.requires.cuts)
+    ap₂ (λ m n. m + n) c.count_orbits-orbits.ensures.count (c.isolated_of-isolated.ensures.count)
