@@ -1,5 +1,5 @@
 //! The numbers of a record, one byte or two bytes each.
-ghost use Rattle.std.specs.Prelude.{◌≡◌, ◌+◌, ◌*◌, ◌<◌, ◌≤◌, List, ℕ, [], length, take, flat_map, ◌≢◌};
+ghost use Rattle.std.specs.Prelude.{◌≡◌, ◌+◌, ◌-◌, ◌*◌, ◌<◌, ◌≤◌, List, ℕ, [], length, slice_index, take, flat_map, ◌≢◌};
 ghost use Rattle.std.specs.Bool.{OnTrue, OnFalse};
 ghost use Rattle.planar_code.specs.Reading.{two_bytes};
 ghost use Rattle.planar_code.specs.Open.{Gathers};
@@ -37,7 +37,24 @@ pub fn gather_narrow(alloc: Global, gathered: &mut OpenLists, count: usize, piec
     taken
 }
 
-// The loop of `gather_narrow`.
+// The place behind the last 0, or the begin.
+fn behind_last_zero(piece: &[u8]) -> usize
+    ensures within { result ≤ length piece.now }
+    ensures zero { 0 < result → slice_index piece.now (result - 1) ≡ 0 }
+    ensures none { (i : ℕ) → result ≤ i → i < length piece.now → 0 < slice_index piece.now i }
+{
+    let mut end = piece.len();
+    while 0 < end {
+        if piece[end - 1] == 0 {
+            return end;
+        }
+        end -= 1;
+    }
+    0
+}
+
+// The loops of `gather_narrow`. As far as a 0 is still to come no number is asked whether it is the last of the
+// piece, and behind the last 0 no list is closed.
 #[inline(always)]
 fn narrow_numbers(gathered: &mut OpenLists, count: usize, piece: &[u8]) -> usize
     requires some { 0 < length piece.now }
@@ -48,12 +65,21 @@ fn narrow_numbers(gathered: &mut OpenLists, count: usize, piece: &[u8]) -> usize
     ensures within { result ≤ length piece.now }
     ensures gathers { Gathers 255 count (take result piece.now) gathered.old gathered.new }
 {
-    for k in 0..piece.len() {
-        let number = piece[k];
-        gathered.collect(u16::from(number));
-        if number == 0 && gathered.closed() == count {
-            return k + 1;
+    let end = behind_last_zero(piece);
+    let mut k = 0;
+    'lists: while k < end {
+        'list: while piece[k] != 0 {
+            gathered.collect(u16::from(piece[k]));
+            k += 1;
         }
+        gathered.collect(0);
+        k += 1;
+        if gathered.closed() == count {
+            return k;
+        }
+    }
+    for i in k..piece.len() {
+        gathered.collect(u16::from(piece[i]));
     }
     piece.len()
 }
