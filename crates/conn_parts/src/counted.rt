@@ -1,12 +1,13 @@
 //! The map of a record, made once, with what is counted of it.
-ghost use Rattle.std.specs.Prelude.{◌≡◌, ◌<◌, length, Some, None, IfOk, IfErr, OnOk};
+ghost use Rattle.std.specs.Prelude.{◌≡◌, ◌<◌, ◌≤◌, length, Some, None, IfOk, IfErr, OnOk};
+ghost use Rattle.map_theory.specs.Maps.{IsPlane, vertex_count};
 ghost use Rattle.simple_maps.specs.Faults.{first_fault};
 ghost use Rattle.simple_maps.specs.MapFault.{Names};
 ghost use Rattle.refusals.specs.Conditions.{first_refusal, IfRefused};
-ghost use Rattle.conn_parts.specs.Counted.{IsCountedMap, IsPlaneMap};
+ghost use Rattle.conn_parts.specs.Counted.{IsCountOf, IsCountedMap, IsPlaneMap};
 
 use crate::{Parts, list_components};
-use euler_faces::{EulerCount, euler_by_components};
+use euler_faces::{EulerCount, count_lists, euler_by_components};
 use half_edges::{HalfMap, Rotations};
 use refusals::{Refusal, Unserved};
 use simple_maps::{MapFault, no_fault_is_simple};
@@ -39,6 +40,39 @@ pub fn counted_map(alloc: Global, lists: &Rotations) -> Result<CountedMap, MapFa
     Ok(CountedMap { map, parts, count })
 }
 
+// Refuses lists that are a simple map by its counts: for too few vertices, or for its genus.
+fn refuse_counted(lists: &Rotations, count: EulerCount, least: u16) -> Result<(), Unserved>
+    requires few_lists { length lists.now < 4096 }
+    requires simple { first_fault lists.now ≡ None }
+    requires count { IsCountOf lists.now count }
+    ensures some { OnOk result (least ≤ vertex_count lists.now) }
+    ensures plane { OnOk result (IsPlane lists.now) }
+    ensures served { OnOk result (first_refusal least lists.now ≡ None) }
+    ensures refused { IfErr result (IfRefused (λ refusal. first_refusal least lists.now ≡ Some refusal)) }
+{
+    if count.n < least as u32 {
+        return Err(Unserved::Refused(Refusal::Small(count.n as u16)));
+    }
+    let genus = count.genus();
+    if 0 < genus {
+        return Err(Unserved::Refused(Refusal::Genus(genus)));
+    }
+    Ok(())
+}
+
+// Refuses lists of more entries than a plane map has, by counts alone: no map is made of them.
+fn refuse_dense(alloc: Global, lists: &Rotations, least: u16) -> Result<(), Unserved>
+    requires some_list { 0 < length lists.now }
+    requires few_lists { length lists.now < 4096 }
+    ensures { IfErr result (IfRefused (λ refusal. first_refusal least lists.now ≡ Some refusal)) }
+{
+    if lists.total() <= 6 * lists.len() {
+        return Ok(());
+    }
+    let count = count_lists(alloc, lists)?;
+    refuse_counted(lists, count, least)
+}
+
 /// The map of a record with these lists, which are from 1 to 4095, where it has genus zero and at least `least`
 /// vertices, with its components and its counts.
 ///
@@ -52,14 +86,8 @@ pub fn plane_map(alloc: Global, lists: &Rotations, least: u16) -> Result<Counted
     ensures served { OnOk result (first_refusal least lists.now ≡ None) }
     ensures refused { IfErr result (IfRefused (λ refusal. first_refusal least lists.now ≡ Some refusal)) }
 {
+    refuse_dense(alloc, lists, least)?;
     let counted = counted_map(alloc, lists)?;
-    let count = counted.count;
-    if count.n < least as u32 {
-        return Err(Unserved::Refused(Refusal::Small(count.n as u16)));
-    }
-    let genus = count.genus();
-    if 0 < genus {
-        return Err(Unserved::Refused(Refusal::Genus(genus)));
-    }
+    refuse_counted(lists, counted.count, least)?;
     Ok(counted)
 }
