@@ -42,7 +42,8 @@ impl Model for HalfMap {
 impl HalfMap {
     /// The map with these lists, which are from 1 to 4095, or the first fault of the lists.
     ///
-    /// Its `spare` is 0. The time is linear in the entries, and so is the memory: 16 bytes for a dart.
+    /// Its `spare` is 0. The time is linear in the entries, and so is the memory: 16 bytes for a dart, and six
+    /// more while it is made.
     pub fn from_rotations(alloc: Global, lists: &Rotations) -> Result<HalfMap, MapFault>
         requires some_list { 0 < length lists.now }
         requires few_lists { length lists.now < 4096 }

@@ -1,4 +1,4 @@
-//! The tails and the twins of the darts of a simple map, as two tables or as slots, or the first fault of lists that are none.
+//! The tails and twins of the darts of a simple map, as tables or as slots, or the first fault of other lists.
 ghost use Rattle.std.specs.Prelude.{◌≡◌, ◌<◌, ◌++◌, ℕ, length, map, slice_index, OnOk, IfOk, IfErr};
 ghost use Rattle.std.specs.Bool.{OnTrue};
 ghost use Rattle.simple_maps.specs.Faults.{first_fault};
