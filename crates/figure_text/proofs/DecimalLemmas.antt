@@ -1,5 +1,7 @@
 -- Numbers that are cut while their digits are read.
-use Rattle.std.proofs.Common.{◌≡◌, ◌≢◌, ◌++◌, ℕ, suc, ◌+◌, ◌-◌, ◌*◌, ◌<◌, ◌≤◌, Bool, true, false, List, [], ◌∷◌, length, take, drop, length-drop, get_or, refl, sym, ap, ◌∙◌, arith, add-one, drop-cons}
+use Rattle.std.proofs.Common.{◌≡◌, ◌≢◌, ◌++◌, ℕ, suc, ◌+◌, ◌-◌, ◌*◌, ◌^◌, lit≤, ◌<◌, ◌≤◌, Bool, true, false, List, [], ◌∷◌, length, take, drop, length-drop, get_or, refl, sym, ap, ◌∙◌, arith, add-one, drop-cons}
+use Rattle.std.proofs.Math.Nat.{pow-le-pow_right}
+use Rattle.std.proofs.lemmas.Bool.Decides.{nat_tests}
 use Rattle.std.proofs.lemmas.List.{take_more, get_or-drop}
 use Rattle.std.specs.Prelude.{min, Option, Some, None, option_map}
 use Rattle.figure_text.specs.Words.{is_digit, decimal_from, one_more}
@@ -62,23 +64,6 @@ decimal-append (b ∷ xs) ys n m is = by_digit (is_digit b) refl (decimal-append
     by_digit true e rest = rw e (rest (rw e at is))
     by_digit false e rest = let none : None ≡ Some m = rw e at is in cc
 
-pub cut_from-snoc : (most : ℕ) (xs : List ℕ) (b v next : ℕ) → cut_from most 0 xs ≡ Some v → one_more most v b ≡ Some next → cut_from most 0 (xs ++ b ∷ []) ≡ Some next
-cut_from-snoc most xs b v next is more = by_value (decimal_from 0 xs) refl is
-  where
-    by_value : (o : Option ℕ) → decimal_from 0 xs ≡ o → option_map (min most) o ≡ Some v → cut_from most 0 (xs ++ b ∷ []) ≡ Some next
-    by_value None e none = cc
-    by_value (Some m) e some =
-        let same : min most m ≡ v = cc in
-        let near : next ≤ most = one_more-le most v b next more in
-        ap (λ (o : Option ℕ). option_map (min most) o) (decimal-append xs (b ∷ []) 0 m e)
-        ∙ cut_from-cut most (b ∷ []) m v (omega arith)
-        ∙ sym (digit-more most (is_digit b) v b next [] refl more)
-        ∙ ap (λ (k : ℕ). Some k) (omega arith)
-
--- a digit is no space
-pub one_more-digit : (most : ℕ) (v b next : ℕ) → one_more most v b ≡ Some next → b ≢ 32
-one_more-digit most v b next is same = let none : None ≡ Some next = rw same at is in absurd (cc)
-
 -- one byte more of a line
 pub take-one_more : (line : List ℕ) (at k b : ℕ) → at ≤ k → k < length line → get_or line k 0 ≡ b → take (k + 1 - at) (drop at line) ≡ take (k - at) (drop at line) ++ b ∷ []
 take-one_more line at k b order within is =
@@ -87,6 +72,25 @@ take-one_more line at k b order within is =
     ap (λ (j : ℕ). take j (drop at line)) count
     ∙ take_more (drop at line) (k - at) 0 (omega (arith, length-drop at line)) ∙ ap (λ (c : ℕ). take (k - at) (drop at line) ++ c ∷ []) here
 
-pub digits-more : (most : ℕ) (line : List ℕ) (at k v b next : ℕ) → at ≤ k → k < length line → get_or line k 0 ≡ b → cut_from most 0 (take (k - at) (drop at line)) ≡ Some v → one_more most v b ≡ Some next → cut_from most 0 (take (k + 1 - at) (drop at line)) ≡ Some next
-digits-more most line at k v b next order within is so_far more =
-    ap (cut_from most 0) (take-one_more line at k b order within is) ∙ cut_from-snoc most (take (k - at) (drop at line)) b v next so_far more
+-- eight digits give a number below `far`, and one digit more of fewer than eight
+pub below-pow : (j v : ℕ) → j ≤ 8 → v < 10 ^ j → v < 100000000
+below-pow j v few near = let most : 10 ^ j ≤ 10 ^ 8 = pow-le-pow_right {n = 10} (lit≤ tt) {i = j} {j = 8} few in omega (arith, most)
+
+pub few-digits : (j v : ℕ) → j < 8 → v < 10 ^ j → v < 10000000
+few-digits j v few near = let most : 10 ^ j ≤ 10 ^ 7 = pow-le-pow_right {n = 10} (lit≤ tt) {i = j} {j = 7} (omega arith) in omega (arith, most)
+
+pub digit-near : (j v b : ℕ) → is_digit b ≡ true → v < 10 ^ j → 10 * v + (b - 48) < 10 ^ (j + 1)
+digit-near j v b digit near =
+    let low : b < 58 = grind (arith, nat_tests) in
+    rw (add-one) (omega arith)
+
+pub cut-same : (most : ℕ) (v : ℕ) (bytes : List ℕ) → v ≤ most → decimal_from 0 bytes ≡ Some v → cut_from most 0 bytes ≡ Some v
+cut-same most v bytes near is = rw is (ap (λ (k : ℕ). Some k) (omega arith))
+
+pub digits-more : (line : List ℕ) (at k v b : ℕ) → at ≤ k → k < length line → get_or line k 0 ≡ b → decimal_from 0 (take (k - at) (drop at line)) ≡ Some v → is_digit b ≡ true → decimal_from 0 (take (k + 1 - at) (drop at line)) ≡ Some (10 * v + (b - 48))
+digits-more line at k v b order within is so_far digit =
+    ap (decimal_from 0) (take-one_more line at k b order within is) ∙ decimal-append (take (k - at) (drop at line)) (b ∷ []) 0 v so_far ∙ rw digit refl
+
+-- a digit is no space
+pub digit-no_space : (b : ℕ) → is_digit b ≡ true → b ≢ 32
+digit-no_space b digit = grind (arith, nat_tests)

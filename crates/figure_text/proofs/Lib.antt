@@ -8,6 +8,7 @@ pub mod WordLemmas
 pub mod UptoLemmas
 pub mod RoundLemmas
 pub mod BarLemmas
+mod PlainLemmas
 pub mod RectLemmas
 pub mod WitnessLemmas
 pub mod LawLemmas

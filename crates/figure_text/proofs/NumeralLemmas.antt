@@ -197,6 +197,12 @@ low-first : (ds : List ℕ) (b : ℕ) → 0 < length ds → get_or ds 0 0 < 75 �
 low-first [] b some less = absurd (omega arith)
 low-first (d ∷ ds) b some less = less
 
+-- digits
+pub word_of-digits : (ds : List ℕ) (v : ℕ) → canonical ds ≡ true → option_map (min far) (decimal_from 0 ds) ≡ Some v → word_of ds ≡ Number (record { negative = false; size = v })
+word_of-digits ds v good is =
+    let first = digit-range (get_or ds 0 0) (first-of-digits ds v (canonical-some ds good) is) in
+    no-name ds (omega (arith, first.1)) ∙ ap (λ (s : Option Signed). numeral_word s (closing_of ds)) (digits-signed ds v good is)
+
 -- digits before a colon
 pub word_of-digits_closing : (ds : List ℕ) (v : ℕ) → canonical ds ≡ true → option_map (min far) (decimal_from 0 ds) ≡ Some v → word_of (ds ++ 58 ∷ []) ≡ Closing (record { negative = false; size = v })
 word_of-digits_closing ds v good is =

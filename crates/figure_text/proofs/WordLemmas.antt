@@ -7,7 +7,7 @@ use Rattle.std.specs.Prelude.{All, if◌then◌else◌}
 use Rattle.std.proofs.lemmas.List.Splits.{slice_split_none, slice_split_at}
 use Rattle.std.proofs.lemmas.List.Elements.{All-nil, All-cons, All-append, All-weaker, All-head, All-tail}
 use Rattle.figure_text.specs.declared.words.Word.{Word}
-use Rattle.figure_text.specs.Words.{word_of, words_of, parts_of}
+use Rattle.figure_text.specs.Words.{word_of, words_of, words_left, parts_of}
 use Rattle.figure_text.specs.Reading.{IsPlain}
 use Rattle.figure_text.proofs.NumeralLemmas.{Dark}
 
@@ -54,10 +54,6 @@ Inline-spaced text P darken (x ∷ xs) all word dark =
 pub IsPlain-inline : (text : List ℕ) → Inline text → IsPlain text
 IsPlain-inline text inline = All-weaker (λ b. 32 ≤ b) (λ b. b ≢ 10) (λ b h. omega arith) text inline
 
--- the words from a place on
-abbrev pub words_left : List ℕ → ℕ → List Word
-words_left line at = if nat_lt (length line) at then [] else words_of (drop at line)
-
 -- the word that begins there ends before the next space, or at the end
 front-split : (rest : List ℕ) (len : ℕ) → len ≤ length rest → ((k : ℕ) → k < len → get_or rest k 0 ≢ 32) → All (λ b. (b == 32) ≡ false) (take len rest)
 front-split rest zero within dark = All-nil (λ b. (b == 32) ≡ false)
@@ -92,9 +88,9 @@ left-drop line at k within =
     by_end n long true e = let here : nat_lt n k ≡ true = grind (arith, nat_tests) in rw (e, here) refl
     by_end n long false e = let here : nat_lt n k ≡ false = grind (arith, nat_tests) in rw (e, here) (ap words_of (drop-drop k at line))
 
--- one word more
-pub words-more : (line : List ℕ) (found : List Word) (at end : ℕ) → at ≤ length line → at ≤ end → end ≤ length line → ((k : ℕ) → at ≤ k → k < end → get_or line k 0 ≢ 32) → (end < length line → get_or line end 0 ≡ 32) → found ++ words_left line at ≡ words_of line → (found ++ word_of (take (end - at) (drop at line)) ∷ []) ++ words_left line (end + 1) ≡ words_of line
-words-more line found at end start order within before ends so_far =
+-- one word less
+pub words-next : (line : List ℕ) (at end : ℕ) → at ≤ length line → at ≤ end → end ≤ length line → ((k : ℕ) → at ≤ k → k < end → get_or line k 0 ≢ 32) → (end < length line → get_or line end 0 ≡ 32) → words_left line at ≡ word_of (take (end - at) (drop at line)) ∷ words_left line (end + 1)
+words-next line at end start order within before ends =
     let len : ℕ = end - at in
     let long : length (drop at line) ≡ length line - at = length-drop at line in
     let open_left : nat_lt (length line) at ≡ false = grind (arith, nat_tests) in
@@ -102,8 +98,21 @@ words-more line found at end start order within before ends so_far =
     (λ k h. subst (λ (b : ℕ). b ≢ 32) (sym (get_or-drop at line k 0)) (before (at + k) (omega arith) (omega arith)))
     (λ h. get_or-drop at line len 0 ∙ ap (λ (k : ℕ). get_or line k 0) (omega arith) ∙ ends (omega arith)) in
     let next : at + (len + 1) ≡ end + 1 = omega arith in
-    append_assoc found (word_of (take len (drop at line)) ∷ []) (words_left line (end + 1))
-    ∙ ap (λ (k : ℕ). found ++ word_of (take len (drop at line)) ∷ words_left line k) (sym next)
-    ∙ ap (λ (ws : List Word). found ++ word_of (take len (drop at line)) ∷ ws) (sym (left-drop line at (len + 1) start))
-    ∙ ap (λ (ws : List Word). found ++ ws) (sym front)
-    ∙ (rw open_left at so_far)
+    rw open_left (front
+    ∙ ap (λ (ws : List Word). word_of (take len (drop at line)) ∷ ws) (left-drop line at (len + 1) start)
+    ∙ ap (λ (k : ℕ). word_of (take len (drop at line)) ∷ words_left line k) next)
+
+-- one word more
+pub words-more : (line : List ℕ) (found : List Word) (at end : ℕ) → at ≤ length line → at ≤ end → end ≤ length line → ((k : ℕ) → at ≤ k → k < end → get_or line k 0 ≢ 32) → (end < length line → get_or line end 0 ≡ 32) → found ++ words_left line at ≡ words_of line → (found ++ word_of (take (end - at) (drop at line)) ∷ []) ++ words_left line (end + 1) ≡ words_of line
+words-more line found at end start order within before ends so_far =
+    let word = word_of (take (end - at) (drop at line)) in
+    append_assoc found (word ∷ []) (words_left line (end + 1))
+    ∙ ap (λ (ws : List Word). found ++ ws) (sym (words-next line at end start order within before ends))
+    ∙ so_far
+
+-- words that are more than there are bytes, or all of them
+pub words-whole : (line : List ℕ) (found : List Word) (at : ℕ) → found ++ words_left line at ≡ words_of line → (at ≤ length line → length found ≡ length line + 2) → length found ≤ at → found ≡ words_of line
+words-whole line found at parts many few = elim (cases_lt (length line) at) [
+  | inl past ↦ let none : nat_lt (length line) at ≡ true = grind (arith, nat_tests) in sym (append-nil found) ∙ (rw none at parts)
+  | inr within ↦ let long = many (omega arith) in absurd (omega (arith, long))
+]

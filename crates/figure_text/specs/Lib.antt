@@ -2,6 +2,7 @@
 pub mod Text
 pub mod Words
 pub mod Lines
+pub mod Plain
 pub mod Reading
 pub mod Drafts
 pub mod Front

@@ -1,5 +1,5 @@
 -- The words of a line, and the numbers among them.
-use Rattle.std.specs.Prelude.{ℕ, ◌+◌, ◌-◌, ◌*◌, Bool, true, false, not, ◌&&◌, ◌==◌, nat_lt, min, if◌then◌else◌, List, [], ◌∷◌, length, take, map, slice_index, slice_index_or, codes, bytes_eq, Option, Some, None, option_map}
+use Rattle.std.specs.Prelude.{ℕ, ◌+◌, ◌-◌, ◌*◌, Bool, true, false, not, ◌&&◌, ◌==◌, nat_lt, min, if◌then◌else◌, List, [], ◌∷◌, length, take, drop, map, slice_index, slice_index_or, codes, bytes_eq, Option, Some, None, option_map}
 use Rattle.std.specs.List.{slice_split}
 use Rattle.figure_text.specs.declared.words.Signed.{Signed}
 use Rattle.figure_text.specs.declared.words.Word.{Word}
@@ -93,3 +93,7 @@ words_of line = map word_of (parts_of line)
 -- word number i
 abbrev pub word_at : List Word → ℕ → Word
 word_at words i = slice_index_or words i Other
+
+-- the words from a place on
+abbrev pub words_left : List ℕ → ℕ → List Word
+words_left line at = if nat_lt (length line) at then [] else words_of (drop at line)

@@ -9,8 +9,8 @@ fn nearer(most: u64, value: u64) -> u64
     if value < most { value } else { most }
 }
 
-// Whether a byte is from 0 to 9.
-fn is_digit_byte(byte: u8) -> bool
+/// Whether a byte is from 0 to 9.
+pub fn is_digit_byte(byte: u8) -> bool
     ensures { result ≡ is_digit byte }
 {
     b'0' <= byte && byte <= b'9'

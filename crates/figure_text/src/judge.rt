@@ -1,6 +1,7 @@
 //! Which shape a line has, and whether its numbers are within their ranges.
 ghost use Rattle.std.specs.Prelude.{◌≡◌, ◌↔◌, ◌<◌, ◌≤◌, ◌-◌, length, drop, map, slice_index_or, IsTrue, IfOk, All, option_map};
 ghost use Rattle.std.specs.Prelude.{if◌then◌else◌};
+ghost use Rattle.std.specs.Bool.{OnTrue};
 ghost use Rattle.figure_text.specs.Reading.{Judges, IsRow, RowInRange};
 ghost use Rattle.kuratowski.specs.Witnesses.{branch_count, pairs_of};
 ghost use Rattle.figure_text.specs.Words.{word_at};
@@ -183,6 +184,16 @@ fn is_grid_in_range(words: &[Word]) -> bool
     ensures { IsTrue result ↔ GridInRange words.now }
 {
     is_inside(word(words, 2)) && is_inside(word(words, 3)) && are_vertices(words, 4)
+}
+
+/// Whether words are the front of such a line, with coordinates.
+pub fn is_grid_front(words: &[Word], place: usize) -> bool
+    ensures { OnTrue result ((length words.now ≡ 4) × IsGridHead place words.now × IsInside (word_at words.now 2) × IsInside (word_at words.now 3)) }
+{
+    words.len() == 4
+        && is_grid_head(words, place)
+        && is_inside(word(words, 2))
+        && is_inside(word(words, 3))
 }
 
 // Whether a line begins as one of a visibility drawing.

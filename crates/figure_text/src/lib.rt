@@ -16,6 +16,7 @@ mod front;
 mod judge;
 pub mod laws;
 mod lines;
+mod plain;
 mod print;
 mod read;
 mod rows;

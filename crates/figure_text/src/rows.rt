@@ -1,12 +1,14 @@
 //! The lines of a figure's vertices, one by one.
-ghost use Rattle.std.specs.Prelude.{◌≡◌, ◌++◌, [], ◌∷◌, map, All, OnOk, IfSome};
+ghost use Rattle.std.specs.Prelude.{◌≡◌, ◌++◌, [], ◌∷◌, false, map, All, OnOk, IfOk, IfSome};
+ghost use Rattle.std.specs.Bool.{OnTrue};
 ghost use Rattle.figure_text.specs.Words.{words_of};
-ghost use Rattle.figure_text.specs.Lines.{vertex_of, signed_value, integer_of, IsVertex, GridInRange, BarsInRange, RectsInRange, WitnessInRange};
+ghost use Rattle.figure_text.specs.Lines.{vertex_of, signed_value, integer_of, IsVertex, IsGridLine, GridInRange, BarsInRange, RectsInRange, WitnessInRange};
 ghost use Rattle.figure_text.specs.Reading.{Judges, IsRow, RowInRange, point_of, vertices_from};
 ghost use Rattle.figure_text.specs.Drafts.{integer_in, with_row};
 
-use crate::judge::{Judged, Kind, MOST, behind, judged_row, size_of, word};
-use crate::words::{Signed, Word, fill_words};
+use crate::judge::{Judged, Kind, MOST, behind, is_grid_front, judged_row, size_of, word};
+use crate::plain::push_plain;
+use crate::words::{Signed, Word, fill_front, fill_words};
 use map_lists::Rotations;
 use pg_plane::{Ints, Point, Points};
 use std::alloc::{AllocError, Global};
@@ -75,16 +77,23 @@ fn integer_at(words: &[Word], i: usize) -> i32
     integer(word(words, i))
 }
 
+// The point that the line of a vertex gives.
+fn point(words: &[Word]) -> Point
+    ensures { result ≡ point_of words.now }
+{
+    Point {
+        x: integer_at(words, 2),
+        y: integer_at(words, 3),
+    }
+}
+
 // Appends what the line of a vertex of a straight-line drawing gives.
 fn push_grid(words: &[Word], draft: &mut Draft) -> Result<(), AllocError>
     requires { GridInRange words.now }
     ensures { OnOk result (draft.new ≡ record draft.old { lists = draft.old.lists ++ vertices_from 4 words.now ∷ []; points = draft.old.points ++ point_of words.now ∷ [] }) }
 {
     push_vertices(behind(words, 4), &mut draft.lists)?;
-    draft.points.push(Point {
-        x: integer_at(words, 2),
-        y: integer_at(words, 3),
-    })?;
+    draft.points.push(point(words))?;
     Ok(())
 }
 
@@ -135,10 +144,49 @@ fn push_row(kind: Kind, words: &[Word], draft: &mut Draft) -> Result<(), AllocEr
     }
 }
 
-/// Judges the line of a vertex, which is given without the byte 10 that closes it, and appends what a good
-/// one gives. Without memory there is no answer. The vector is for the words of the line, and keeps its memory for
-/// those of the next.
-pub fn row_of(
+// Appends what the line of a vertex of a straight-line drawing gives, and says whether it is found good: its neighbours
+// are written plainly, and are not kept as words. Where it is not, the draft is as it was.
+fn quick_grid(
+    found: &mut Vec<Word>,
+    place: usize,
+    line: &[u8],
+    draft: &mut Draft,
+) -> Result<bool, AllocError>
+    ensures good { IfOk result (λ good. OnTrue good (IsGridLine place (words_of line.now) × GridInRange (words_of line.now)
+        × (draft.new ≡ record draft.old { lists = draft.old.lists ++ vertices_from 4 (words_of line.now) ∷ []; points = draft.old.points ++ point_of (words_of line.now) ∷ [] }))) }
+    ensures bad { IfOk result (λ good. good ≡ false → draft.new ≡ draft.old) }
+{
+    let at = fill_front(line, 4, found)?;
+    if !is_grid_front(found, place) {
+        return Ok(false);
+    }
+    if !push_plain(line, at, &mut draft.lists)? {
+        return Ok(false);
+    }
+    draft.points.push(point(found))?;
+    Ok(true)
+}
+
+// The same of any line of a vertex, where there is a quick way.
+fn quick_row(
+    found: &mut Vec<Word>,
+    kind: Kind,
+    place: usize,
+    line: &[u8],
+    draft: &mut Draft,
+) -> Result<bool, AllocError>
+    ensures good { IfOk result (λ good. OnTrue good (IsRow kind place (words_of line.now) × RowInRange kind (words_of line.now)
+        × (draft.new ≡ with_row kind draft.old (words_of line.now)))) }
+    ensures bad { IfOk result (λ good. good ≡ false → draft.new ≡ draft.old) }
+{
+    match kind {
+        Kind::Grid(_) => quick_grid(found, place, line, draft),
+        _ => Ok(false),
+    }
+}
+
+// Judges the line of a vertex by its words, and appends what a good one gives.
+fn exact_row(
     found: &mut Vec<Word>,
     kind: Kind,
     place: usize,
@@ -157,6 +205,26 @@ pub fn row_of(
             Judged::Bad => Some(Judged::Bad),
             Judged::Limit => Some(Judged::Limit),
         },
+        Err(_) => None,
+    }
+}
+
+/// Judges the line of a vertex, which is given without the byte 10 that closes it, and appends what a good
+/// one gives. Without memory there is no answer. The vector is for words of the line, and keeps its memory for
+/// those of the next.
+pub fn row_of(
+    found: &mut Vec<Word>,
+    kind: Kind,
+    place: usize,
+    line: &[u8],
+    draft: &mut Draft,
+) -> Option<Judged>
+    ensures { IfSome result (λ judged. Judges (IsRow kind place (words_of line.now)) (RowInRange kind (words_of line.now)) judged
+        × (judged ≡ Judged.Good → draft.new ≡ with_row kind draft.old (words_of line.now))) }
+{
+    match quick_row(found, kind, place, line, draft) {
+        Ok(true) => Some(Judged::Good),
+        Ok(false) => exact_row(found, kind, place, line, draft),
         Err(_) => None,
     }
 }

@@ -1,9 +1,10 @@
 //! The words of a line.
-ghost use Rattle.std.specs.Prelude.{◌≡◌, ◌↔◌, ◌<◌, ◌≤◌, ◌-◌, ◌+◌, take, drop, Some, length, min, option_map, bytes_eq, map, ◌==◌, ◌&&◌, ◌≢◌, ℕ, nat_lt, slice_index, IsTrue, IfOk, OnOk, All};
+ghost use Rattle.std.specs.Prelude.{◌≡◌, ◌↔◌, ◌<◌, ◌≤◌, ◌-◌, ◌+◌, ◌*◌, ◌++◌, true, take, drop, Some, length, min, option_map, bytes_eq, map, ◌==◌, ◌&&◌, ◌≢◌, ℕ, nat_lt, slice_index, IsTrue, IfOk, IfSome, OnOk, All};
 ghost use Rattle.std.specs.List.{slice_split};
-ghost use Rattle.figure_text.specs.Words.{far, decimal_from, number_of, signed_of, plus, minus, word_of as word_meant, words_of, numeral_word, closing_of};
+ghost use Rattle.figure_text.specs.Plain.{IsPlainAt};
+ghost use Rattle.figure_text.specs.Words.{far, is_digit, words_left, decimal_from, number_of, signed_of, plus, minus, word_of as word_meant, words_of, numeral_word, closing_of};
 
-use crate::decimals::{decimal_number, is_canonical, with_digit};
+use crate::decimals::{decimal_number, is_canonical, is_digit_byte};
 use std::alloc::{AllocError, Global};
 
 /// A whole number by its sign and its size. A size beyond all ranges stands as `FAR`.
@@ -212,16 +213,28 @@ fn word_end(line: &[u8], at: usize) -> usize
     line.len()
 }
 
-// Digits of a line.
+/// How many digits give a number below `FAR`, whichever they are.
+const MOST_DIGITS: usize = 8;
+
+/// Digits of a line.
 #[derive(Clone, Copy, PartialEq, Eq)]
-struct Digits {
-    // the least of `FAR` and the number that they give
-    value: u32,
-    // the place behind them
-    end: usize,
+pub struct Digits {
+    /// The number that they give.
+    pub value: u32,
+    /// The place behind them.
+    pub end: usize,
 }
 
-// The digits that stand from `at` on.
+// A number with a digit more.
+fn more_digits(value: u32, byte: u8) -> u32
+    requires few { value < 10000000 }
+    requires digit { is_digit byte ≡ true }
+    ensures { result ≡ 10 * value + (byte - 48) }
+{
+    10 * value + u32::from(byte - b'0')
+}
+
+// The digits that stand from `at` on, or the first eight of them.
 fn digits_from(line: &[u8], at: usize) -> Digits
     requires { at ≤ length line.now }
     ensures order { at ≤ result.end }
@@ -229,22 +242,15 @@ fn digits_from(line: &[u8], at: usize) -> Digits
     ensures before { (k : ℕ) → at ≤ k → k < result.end → slice_index line.now k ≢ 32 }
     ensures value { option_map (min far) (decimal_from 0 (take (result.end - at) (drop at line.now))) ≡ Some result.value }
 {
+    let most = line.len().min(at + MOST_DIGITS);
     let mut value = 0;
-    for k in at..line.len() {
-        match with_digit(FAR, value, line[k]) {
-            Some(more) => value = more,
-            None => {
-                return Digits {
-                    value: value as u32,
-                    end: k,
-                };
-            }
+    for k in at..most {
+        if !is_digit_byte(line[k]) {
+            return Digits { value, end: k };
         }
+        value = more_digits(value, line[k]);
     }
-    Digits {
-        value: value as u32,
-        end: line.len(),
-    }
+    Digits { value, end: most }
 }
 
 // Whether a word may end here.
@@ -308,18 +314,48 @@ fn next_word(line: &[u8], at: usize) -> Next
     }
 }
 
-/// Fills a vector with the words of a line, which stand between its spaces. What it held before is gone, and its
-/// memory is kept.
-pub fn fill_words(line: &[u8], found: &mut Vec<Word>) -> Result<(), AllocError>
-    ensures { OnOk result (found.new.items ≡ words_of line.now) }
+/// The number that begins at `at`, where it has no minus and at most eight digits.
+#[inline(always)]
+pub fn plain_at(line: &[u8], at: usize) -> Option<Digits>
+    ensures { IfSome result (IsPlainAt line.now at) }
+{
+    if line.len() < at {
+        return None;
+    }
+    let digits = digits_from(line, at);
+    if is_canonical(&line[at..digits.end]) {
+        if ends_at(line, digits.end) {
+            return Some(digits);
+        }
+    }
+    None
+}
+
+/// Fills a vector with the first words of a line, which stand between its spaces: as many as are asked for, or as there
+/// are. It answers from where on the others stand. What the vector held before is gone, and its memory is kept.
+pub fn fill_front(line: &[u8], most: usize, found: &mut Vec<Word>) -> Result<usize, AllocError>
+    ensures words { IfOk result (λ at. found.new.items ++ words_left line.now at ≡ words_of line.now) }
+    ensures many { IfOk result (λ at. at ≤ length line.now → length found.new.items ≡ most) }
+    ensures few { IfOk result (λ at. length found.new.items ≤ at) }
 {
     found.clear();
     let mut at = 0;
     while at <= line.len() {
+        if found.len() == most {
+            return Ok(at);
+        }
         let next = next_word(line, at);
         found.push(next.word)?;
         at = next.end + 1;
     }
+    Ok(at)
+}
+
+/// Fills a vector with the words of a line. What it held before is gone, and its memory is kept.
+pub fn fill_words(line: &[u8], found: &mut Vec<Word>) -> Result<(), AllocError>
+    ensures { OnOk result (found.new.items ≡ words_of line.now) }
+{
+    let _end = fill_front(line, line.len() + 2, found)?;
     Ok(())
 }
 

@@ -1,0 +1,57 @@
+//! Numbers at the end of a line that are written plainly: taken one by one, and not kept as words.
+ghost use Rattle.std.specs.Prelude.{◌≡◌, ◌++◌, ◌∷◌, ◌-◌, ◌≤◌, [], false, map, All, IfOk, IfSome};
+ghost use Rattle.std.specs.Bool.{OnTrue};
+ghost use Rattle.figure_text.specs.Words.{words_left};
+ghost use Rattle.figure_text.specs.Lines.{vertex_of};
+ghost use Rattle.figure_text.specs.Plain.{IsVertexAt, IsNeighbour};
+
+use crate::words::{Digits, plain_at};
+use map_lists::Rotations;
+use std::alloc::AllocError;
+
+// The number of a vertex that begins at `at`, where it is written plainly.
+#[inline(always)]
+fn vertex_at(line: &[u8], at: usize) -> Option<Digits>
+    ensures { IfSome result (IsVertexAt line.now at) }
+{
+    match plain_at(line, at) {
+        Some(digits) => {
+            if 1 <= digits.value && digits.value <= 65535 {
+                Some(digits)
+            } else {
+                None
+            }
+        }
+        None => None,
+    }
+}
+
+// The vertex with a number, from 0.
+fn vertex(number: u32) -> u16
+    requires least { 1 ≤ number }
+    requires most { number ≤ 65535 }
+    ensures { result ≡ number - 1 }
+{
+    (number - 1) as u16
+}
+
+/// Appends the list of the vertices that stand from a place on, and says whether all words there are their numbers,
+/// plainly written. Where they are not, the lists are as they were.
+pub fn push_plain(line: &[u8], start: usize, lists: &mut Rotations) -> Result<bool, AllocError>
+    ensures good { IfOk result (λ good. OnTrue good (All (λ w. IsNeighbour w) (words_left line.now start)
+        × (lists.new ≡ lists.old ++ map vertex_of (words_left line.now start) ∷ []))) }
+    ensures bad { IfOk result (λ good. good ≡ false → lists.new ≡ lists.old) }
+{
+    let before = lists.len();
+    lists.open()?;
+    let mut at = start;
+    while let Some(digits) = vertex_at(line, at) {
+        lists.append(vertex(digits.value))?;
+        at = digits.end + 1;
+    }
+    if line.len() < at {
+        return Ok(true);
+    }
+    lists.truncate(before);
+    Ok(false)
+}
