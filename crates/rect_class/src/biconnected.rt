@@ -33,15 +33,16 @@ fn first_large_face(map: &HalfMap, four: OuterFour) -> Option<(VertexId, VertexI
 }
 
 // The first condition on triangles that a map breaks.
-fn first_of_triangles(map: &HalfMap, rows: &Rotations) -> Option<Refusal>
+fn first_of_triangles(map: &HalfMap, rows: &Rotations, lists: &Rotations) -> Option<Refusal>
     requires known { IsHalfMap map.now }
+    requires lists { lists.now ≡ map.now.lists }
     requires rows { AreUpperRows map.now.lists rows.now }
     requires biconnected { IsBiconnectedMap 3 map.now.lists }
     requires frame { HasFrame map.now.lists }
     requires faces { HasTriangles map.now.lists }
     ensures { MatchOption result (IsRectMap map.now.lists) (BreaksRect map.now.lists) }
 {
-    if let Some((a, b, c)) = first_separating(map, rows) {
+    if let Some((a, b, c)) = first_separating(map, rows, lists) {
         return Some(Refusal::SeparatingTriangle(a, b, c));
     }
     if map.n() <= OUTER_COUNT {
@@ -52,8 +53,14 @@ fn first_of_triangles(map: &HalfMap, rows: &Rotations) -> Option<Refusal>
 }
 
 // The first condition behind that on the outer face.
-fn first_of_faces(map: &HalfMap, rows: &Rotations, four: OuterFour) -> Option<Refusal>
+fn first_of_faces(
+    map: &HalfMap,
+    rows: &Rotations,
+    lists: &Rotations,
+    four: OuterFour,
+) -> Option<Refusal>
     requires known { IsHalfMap map.now }
+    requires lists { lists.now ≡ map.now.lists }
     requires rows { AreUpperRows map.now.lists rows.now }
     requires biconnected { IsBiconnectedMap 3 map.now.lists }
     requires frame { IsFrame map.now.lists four.top.0 four.right.0 four.bottom.0 }
@@ -61,19 +68,20 @@ fn first_of_faces(map: &HalfMap, rows: &Rotations, four: OuterFour) -> Option<Re
 {
     match first_large_face(map, four) {
         Some((v, u)) => Some(Refusal::NotTriangle(v, u)),
-        None => first_of_triangles(map, rows),
+        None => first_of_triangles(map, rows, lists),
     }
 }
 
 // The first condition that a biconnected map breaks.
-fn first_broken(map: &HalfMap, rows: &Rotations) -> Option<Refusal>
+fn first_broken(map: &HalfMap, rows: &Rotations, lists: &Rotations) -> Option<Refusal>
+    requires lists { lists.now ≡ map.now.lists }
     requires biconnected { IsBiconnectedMap 3 map.now.lists }
     requires rows { AreUpperRows map.now.lists rows.now }
     ensures { MatchOption result (IsRectMap map.now.lists) (BreaksRect map.now.lists) }
 {
     map.facts();
     match outer_four(map) {
-        Some(four) => first_of_faces(map, rows, four),
+        Some(four) => first_of_faces(map, rows, lists, four),
         None => Some(Refusal::OuterNotQuad),
     }
 }
@@ -96,7 +104,7 @@ pub fn rect_map(alloc: Global, lists: &Rotations) -> Result<HalfMap, Unserved>
     let map = biconnected_map(alloc, lists, 3)?;
     map.facts();
     let rows = upper_rows(alloc, lists)?;
-    match first_broken(&map, &rows) {
+    match first_broken(&map, &rows, lists) {
         Some(refusal) => Err(Unserved::Refused(refusal)),
         None => Ok(map),
     }

@@ -1,6 +1,7 @@
 //! Triangles of edges that are no faces.
-ghost use Rattle.std.specs.Prelude.{◌≡◌, ◌⊎◌, ◌+◌, ◌<◌, ◌↔◌, ℕ, List, length, slice_index, IsTrue, Some, MatchOption};
-ghost use Rattle.map_theory.specs.Maps.{HasDart};
+ghost use Rattle.std.specs.Prelude.{◌≡◌, ◌⊎◌, ◌+◌, ◌<◌, ◌↔◌, ℕ, List, false, length, slice_index, IsTrue, Some, MatchOption};
+ghost use Rattle.std.specs.Bool.{OnTrue};
+ghost use Rattle.map_theory.specs.Maps.{HasDart, list_of};
 ghost use Rattle.plane_peeling.specs.Restricted.{IsFaceOfThree};
 ghost use Rattle.half_edges.specs.Map.{IsHalfMap, IsLive, dart_at};
 ghost use Rattle.vertex_rounds.specs.Least.{IsLeast, IsLeastTriple};
@@ -54,6 +55,25 @@ fn is_separating(
         && !is_bounding(map, d, a, b, c)
         && are_adjacent(map, rows, b, c)
         && are_adjacent(map, rows, a, c)
+}
+
+// The same, where most vertices fail by their numbers alone.
+#[inline(always)]
+fn is_third(
+    map: &HalfMap,
+    rows: &Rotations,
+    d: DartId,
+    a: VertexId,
+    b: VertexId,
+    c: VertexId,
+) -> bool
+    requires known { IsHalfMap map.now }
+    requires rows { AreUpperRows map.now.lists rows.now }
+    requires dart { dart_at map.now d.0 ≡ Some (a.0, b.0) }
+    requires third { c.0 < length map.now.lists }
+    ensures { IsTrue result ↔ IsSeparating map.now.lists a.0 b.0 c.0 }
+{
+    b.0 < c.0 && is_separating(map, rows, d, a, b, c)
 }
 
 // Whether the head of dart `e` is the third vertex of a separating triangle with `a` and `b`.
@@ -114,29 +134,70 @@ fn least_third(
     }
 }
 
-// Whether the edge from `a` to `b` has a third vertex.
-fn has_third(map: &HalfMap, rows: &Rotations, d: DartId, a: VertexId, b: VertexId) -> bool
+// The shorter one of two lists.
+fn shorter(lists: &Rotations, a: VertexId, b: VertexId) -> &[u16]
+    requires a { a.0 < length lists.now }
+    requires b { b.0 < length lists.now }
+    ensures { (result.now ≡ list_of lists.now a.0) ⊎ (result.now ≡ list_of lists.now b.0) }
+{
+    let us = lists.list(usize::from(a.0));
+    let vs = lists.list(usize::from(b.0));
+    if us.len() <= vs.len() { us } else { vs }
+}
+
+// Whether a list has a third vertex of the edge from `a` to `b`.
+fn has_third_in(
+    map: &HalfMap,
+    rows: &Rotations,
+    d: DartId,
+    a: VertexId,
+    b: VertexId,
+    us: &[u16],
+) -> bool
     requires known { IsHalfMap map.now }
     requires rows { AreUpperRows map.now.lists rows.now }
     requires dart { dart_at map.now d.0 ≡ Some (a.0, b.0) }
+    requires vertices { (k : ℕ) → k < length us.now → slice_index us.now k < length map.now.lists }
+    ensures some { OnTrue result (HasThird map.now.lists a.0 b.0) }
+    ensures none { result ≡ false → (k : ℕ) → k < length us.now → ¬ IsSeparating map.now.lists a.0 b.0 (slice_index us.now k) }
+{
+    for u in us {
+        if is_third(map, rows, d, a, b, VertexId(*u)) {
+            return true;
+        }
+    }
+    false
+}
+
+// Whether the edge from `a` to `b` has a third vertex. It goes over the shorter of the two lists.
+fn has_third(
+    map: &HalfMap,
+    rows: &Rotations,
+    lists: &Rotations,
+    d: DartId,
+    a: VertexId,
+    b: VertexId,
+) -> bool
+    requires known { IsHalfMap map.now }
+    requires rows { AreUpperRows map.now.lists rows.now }
+    requires lists { lists.now ≡ map.now.lists }
+    requires dart { dart_at map.now d.0 ≡ Some (a.0, b.0) }
     ensures { IsTrue result ↔ HasThird map.now.lists a.0 b.0 }
 {
-    match least_third(map, rows, d, a, b) {
-        Some(_) => true,
-        None => false,
-    }
+    has_third_in(map, rows, d, a, b, shorter(lists, a, b))
 }
 
 // Whether the edge of a dart has a third vertex, and the tail is its lesser end.
-fn is_second(map: &HalfMap, rows: &Rotations, d: DartId) -> bool
+fn is_second(map: &HalfMap, rows: &Rotations, lists: &Rotations, d: DartId) -> bool
     requires known { IsHalfMap map.now }
     requires rows { AreUpperRows map.now.lists rows.now }
+    requires lists { lists.now ≡ map.now.lists }
     requires live { IsLive map.now d.0 }
     ensures { IsTrue result ↔ HoldsAt map.now (HasThird map.now.lists) d.0 }
 {
     let a = map.tail(d);
     let b = map.head(d);
-    a.0 < b.0 && has_third(map, rows, d, a, b)
+    a.0 < b.0 && has_third(map, rows, lists, d, a, b)
 }
 
 // The least third vertex of `a` and `b`, which have one.
@@ -170,13 +231,15 @@ fn third_between(map: &HalfMap, rows: &Rotations, a: VertexId, b: VertexId) -> V
 pub(crate) fn first_separating(
     map: &HalfMap,
     rows: &Rotations,
+    lists: &Rotations,
 ) -> Option<(VertexId, VertexId, VertexId)>
     requires known { IsHalfMap map.now }
     requires rows { AreUpperRows map.now.lists rows.now }
+    requires lists { lists.now ≡ map.now.lists }
     ensures { MatchOption result (NoneSeparating map.now.lists)
         (λ t. IsLeastTriple (IsSeparating map.now.lists) t.0.0 t.1.0 t.2.0) }
 {
-    match first_dart(map, |d| is_second(map, rows, d)) {
+    match first_dart(map, |d| is_second(map, rows, lists, d)) {
         Some((a, b)) => Some((a, b, third_between(map, rows, a, b))),
         None => None,
     }
