@@ -20,7 +20,7 @@ pub fn with_edge_after(
 ) -> Result<Rotations, AllocError>
     ensures { IfOk result (λ new. new ≡ lists_with_edge lists.now u a v c) }
 {
-    let mut new = Rotations::new(alloc);
+    let mut new = Rotations::with_capacity(alloc, lists.total(), lists.len())?;
     for w in 0..lists.len() {
         push_row(alloc, &mut new, lists.list(w), w, u, a, v, c)?;
     }

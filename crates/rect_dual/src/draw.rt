@@ -4,4 +4,4 @@
 mod draw;
 mod tables;
 
-pub use draw::rect_draw;
+pub use draw::{rect_draw, rect_draw_by_lists};

@@ -3,13 +3,13 @@ ghost use Rattle.std.specs.Prelude.{◌≡◌, ◌<◌, ◌≤◌, ℕ, length, 
 ghost use Rattle.map_theory.specs.Maps.{Dart, follows};
 ghost use Rattle.plane_laws.specs.Triangulations.{IsTriangulation};
 ghost use Rattle.canon_order.specs.Orders.{IsCanonicalOrder, IsRankOf, vertices_of};
-ghost use Rattle.rect_orders.specs.Maps.{IsRectMap};
+ghost use Rattle.rect_orders.specs.Maps.{IsRectMap, closed};
 ghost use Rattle.rect_dual.specs.RectDrawTables.{AreLowerRowsOf, HasLowerRows};
 
 use canon_order::Order;
 use half_edges::{HalfMap, Rotations};
 use order_drawings::order_tables::list_rows;
-use rect_orders::rect_order::{Frame, closed_lists, rect_order};
+use rect_orders::rect_order::{Frame, rect_order, with_closing_edge};
 use std::alloc::{AllocError, Global};
 
 // An order, and the rows of its vertices but the last one.
@@ -34,13 +34,29 @@ fn lower_rows(alloc: Global, more: &Rotations, order: &Order) -> Result<Rotation
     Ok(rows)
 }
 
+// The lists of the closed map of one with these lists.
+fn closed_of(
+    alloc: Global,
+    map: &HalfMap,
+    lists: &Rotations,
+    frame: Frame,
+) -> Result<Rotations, AllocError>
+    requires lists { lists.now ≡ map.now.lists }
+    ensures { IfOk result (λ more. more ≡ closed map.now.lists frame.left.0 frame.top.0 frame.right.0 frame.bottom.0) }
+{
+    map.facts();
+    with_closing_edge(alloc, lists, frame)
+}
+
 // A rectangular order of a map with this frame, and its rows: those of the map with an edge more, between the top and
 // the bottom.
 pub(crate) fn framed_order(
     alloc: Global,
     map: &HalfMap,
+    lists: &Rotations,
     frame: Frame,
 ) -> Result<FramedOrder, AllocError>
+    requires lists { lists.now ≡ map.now.lists }
     requires class { IsRectMap map.now.lists frame.left.0 frame.top.0 frame.right.0 frame.bottom.0 }
     requires inner { frame.inner.0 ≡ follows map.now.lists frame.bottom.0 frame.left.0 }
     ensures rows { IfOk result (λ made. HasLowerRows map.now.lists frame.left.0 frame.top.0 frame.right.0 frame.bottom.0 (vertices_of made.order) made.order.rank made.rows) }
@@ -49,7 +65,7 @@ pub(crate) fn framed_order(
     map.facts();
     rect_orders::closed_is_triangulation();
     order_drawings::order_tables::ranks_are_places();
-    let more = closed_lists(alloc, map, frame)?;
+    let more = closed_of(alloc, map, lists, frame)?;
     let order = rect_order(alloc, &more, frame)?;
     let rows = lower_rows(alloc, &more, &order)?;
     Ok(FramedOrder { order, rows })

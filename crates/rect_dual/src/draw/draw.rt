@@ -9,7 +9,7 @@ ghost use Rattle.rect_dual.specs.RectDrawTables.{AreAtRanks};
 
 use crate::draw::tables::{BoxTables, box_tables};
 use crate::orders::framed_order;
-use half_edges::{Counts, DartId, HalfMap};
+use half_edges::{Counts, DartId, HalfMap, Rotations};
 use pg_plane::{Ints, RectFigure};
 use rect_orders::rect_order::{Frame, frame_of};
 use std::alloc::{AllocError, Global};
@@ -58,8 +58,14 @@ fn figure_at(alloc: Global, tables: &BoxTables, ranks: &Counts) -> Result<RectFi
     Ok(RectFigure { x1, x2, y1, y2 })
 }
 
-// The dual of a map with this frame.
-fn framed(alloc: Global, map: &HalfMap, frame: Frame) -> Result<RectFigure, AllocError>
+// The dual of a map with these lists and this frame.
+fn framed(
+    alloc: Global,
+    map: &HalfMap,
+    lists: &Rotations,
+    frame: Frame,
+) -> Result<RectFigure, AllocError>
+    requires lists { lists.now ≡ map.now.lists }
     requires class { IsRectMap map.now.lists frame.left.0 frame.top.0 frame.right.0 frame.bottom.0 }
     requires inner { frame.inner.0 ≡ follows map.now.lists frame.bottom.0 frame.left.0 }
     ensures rects { IfOk result (HasRects map.now.lists) }
@@ -70,7 +76,7 @@ fn framed(alloc: Global, map: &HalfMap, frame: Frame) -> Result<RectFigure, Allo
     order_drawings::order_runs::order_is_run();
     rect_runs::rect_boxes::boxes_are_dual();
     rect_orders::rect_duals::boxes_are_dual_of_map();
-    let made = framed_order(alloc, map, frame)?;
+    let made = framed_order(alloc, map, lists, frame)?;
     let tables = box_tables(alloc, &made.rows)?;
     let figure = figure_at(alloc, &tables, &made.order.rank)?;
     Ok(figure)
@@ -91,5 +97,22 @@ pub fn rect_draw(alloc: Global, map: &HalfMap, base: DartId) -> Result<RectFigur
     ensures rects { IfOk result (HasRects map.now.lists) }
     ensures dual { IfOk result (λ figure. (s d p t : ℕ) → dart_at map.now base.0 ≡ Some (s, d) → IsRectMap map.now.lists s d p t → IsDualFor map.now.lists s d p t figure) }
 {
-    framed(alloc, map, frame_of(map, base))
+    let lists = map.rotations(alloc)?;
+    rect_draw_by_lists(alloc, map, &lists, base)
+}
+
+/// The same dual, where the lists of the map are at hand.
+pub fn rect_draw_by_lists(
+    alloc: Global,
+    map: &HalfMap,
+    lists: &Rotations,
+    base: DartId,
+) -> Result<RectFigure, AllocError>
+    requires lists { lists.now ≡ map.now.lists }
+    requires live { IsLive map.now base.0 }
+    requires class { (s : ℕ) × (d : ℕ) × (p : ℕ) × (t : ℕ) × (dart_at map.now base.0 ≡ Some (s, d)) × IsRectMap map.now.lists s d p t }
+    ensures rects { IfOk result (HasRects map.now.lists) }
+    ensures dual { IfOk result (λ figure. (s d p t : ℕ) → dart_at map.now base.0 ≡ Some (s, d) → IsRectMap map.now.lists s d p t → IsDualFor map.now.lists s d p t figure) }
+{
+    framed(alloc, map, lists, frame_of(map, base))
 }

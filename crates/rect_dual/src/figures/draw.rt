@@ -7,7 +7,7 @@ ghost use Rattle.rect_class.specs.RectMaps.{IsRectMap};
 ghost use Rattle.rect_class.specs.Refusals.{BreaksRect};
 ghost use Rattle.rect_dual.specs.Figures.{IsRectFigure};
 
-use crate::draw::rect_draw;
+use crate::draw::rect_draw_by_lists;
 use half_edges::{DartId, HalfMap, Rotations, VertexId};
 use pg_plane::RectFigure;
 use rect_class::rect_map;
@@ -26,14 +26,15 @@ fn first_dart(map: &HalfMap) -> DartId
     }
 }
 
-// The rectangles of a map of the class.
-fn map_rects(alloc: Global, map: &HalfMap) -> Result<RectFigure, AllocError>
+// The rectangles of a map of the class, with these lists.
+fn map_rects(alloc: Global, map: &HalfMap, lists: &Rotations) -> Result<RectFigure, AllocError>
+    requires lists { lists.now ≡ map.now.lists }
     requires class { IsRectMap map.now.lists }
     ensures { IfOk result (IsRectFigure map.now.lists) }
 {
     rect_class::biconnected_are_rect_maps();
     rect_orders::rect_duals::dual_for_first();
-    let figure = rect_draw(alloc, map, first_dart(map))?;
+    let figure = rect_draw_by_lists(alloc, map, lists, first_dart(map))?;
     Ok(figure)
 }
 
@@ -57,6 +58,6 @@ pub fn rect_figure(alloc: Global, lists: &Rotations) -> Result<RectFigure, Unser
     ensures refused { IfErr result (IfRefused (BreaksRect lists.now)) }
 {
     let map = rect_map(alloc, lists)?;
-    let figure = map_rects(alloc, &map)?;
+    let figure = map_rects(alloc, &map, lists)?;
     Ok(figure)
 }

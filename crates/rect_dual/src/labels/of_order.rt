@@ -25,7 +25,8 @@ fn framed(alloc: Global, map: &HalfMap, frame: Frame) -> Result<Labelling, Alloc
     rect_orders::rect_order_is_run();
     order_drawings::order_runs::order_is_run();
     rect_orders::rect_labellings::labels_of_order();
-    let made = framed_order(alloc, map, frame)?;
+    let lists = map.rotations(alloc)?;
+    let made = framed_order(alloc, map, &lists, frame)?;
     let turns = row_turns(alloc, &made.rows)?;
     let tables = run_tables(alloc, &made.rows, &turns)?;
     let labels = dart_labels(alloc, map, &frame, &made.order.rank, &tables)?;

@@ -49,9 +49,20 @@ pub fn closed_lists(alloc: Global, map: &HalfMap, frame: Frame) -> Result<Rotati
     ensures { IfOk result (λ more. more ≡ closed map.now.lists frame.left.0 frame.top.0 frame.right.0 frame.bottom.0) }
 {
     let lists = map.rotations(alloc)?;
+    with_closing_edge(alloc, &lists, frame)
+}
+
+/// The same lists, by those of the map.
+pub fn with_closing_edge(
+    alloc: Global,
+    lists: &Rotations,
+    frame: Frame,
+) -> Result<Rotations, AllocError>
+    ensures { IfOk result (λ more. more ≡ closed lists.now frame.left.0 frame.top.0 frame.right.0 frame.bottom.0) }
+{
     with_edge_after(
         alloc,
-        &lists,
+        lists,
         frame.top.0,
         frame.left.0,
         frame.bottom.0,

@@ -4,7 +4,7 @@ use Rattle.map_theory.specs.Maps.{follows}
 use Rattle.rect_orders.specs.Maps.{IsRectMap}
 use Rattle.rect_orders.specs.Figures.{IsDualFor}
 use Rattle.rect_dual.proofs.Drawn.{by_names}
-use Rattle.rect_dual.proofs.draw.draw.rect_draw.Goals as goal
+use Rattle.rect_dual.proofs.draw.draw.rect_draw_by_lists.Goals as goal
 
 pub framed-requires-clause-class : goal.framed-requires-clause-class
 framed-requires-clause-class c =
