@@ -1,16 +1,18 @@
 -- Words that are taken one by one, and lines whose neighbours are taken so.
-use Rattle.std.proofs.Common.{◌≡◌, ℕ, ◌<◌, List, [], ◌∷◌, ◌++◌, length, drop, map, refl, sym, ap, ap₂, ◌∙◌, subst, arith, append_assoc, append-nil}
+use Rattle.std.proofs.Common.{false, nat_lt, ◌≡◌, ℕ, ◌<◌, List, [], ◌∷◌, ◌++◌, length, drop, map, refl, sym, ap, ap₂, ◌∙◌, subst, arith, append_assoc, append-nil}
 use Rattle.std.proofs.lemmas.List.{map-append}
 use Rattle.std.proofs.lemmas.List.Elements.{All-nil, All-push, All-weaker}
 use Rattle.std.proofs.Math.ListN.{get_or-append}
 use Rattle.std.proofs.Math.Seq.{drop-append_seam}
 use Rattle.std.specs.Prelude.{All, IsTrue}
 use Rattle.figure_text.specs.declared.words.Word.{Word}
-use Rattle.figure_text.specs.declared.words.Word.TheVariants.{Other}
-use Rattle.figure_text.specs.Words.{word_at}
-use Rattle.figure_text.specs.Lines.{is_natural, is_number, is_closing, size, integer_of, vertex_of, IsInside, IsVertex, IsGridHead, IsGridLine, GridInRange}
+use Rattle.figure_text.specs.declared.words.Word.TheVariants.{Named, Other}
+use Rattle.figure_text.specs.declared.words.Name.TheVariants.{Columns}
+use Rattle.std.proofs.lemmas.Bool.Decides.{nat_tests}
+use Rattle.figure_text.specs.Words.{word_at, words_left, words_of}
+use Rattle.figure_text.specs.Lines.{is_natural, is_number, is_closing, size, integer_of, vertex_of, IsInside, IsVertex, IsGridHead, IsGridLine, GridInRange, IsColumnsLine, ColumnsInRange}
 use Rattle.figure_text.specs.Reading.{point_of, vertices_from}
-use Rattle.figure_text.specs.Plain.{IsNeighbour}
+use Rattle.figure_text.specs.Plain.{IsNeighbour, IsCoordinateWord}
 
 -- words of all that were there, what was made of them, and those that are left
 pub record Taken {A : Type 0} (P : Word → Type 0) (value : Word → A) (all left : List Word) (made : List A) : Type 0 where
@@ -80,3 +82,14 @@ grid-point found left words parts long =
 
 pub grid-list : (found left words : List Word) → found ++ left ≡ words → length found ≡ 4 → map vertex_of left ≡ vertices_from 4 words
 grid-list found left words parts long = ap (map vertex_of) (front-rest found left words 4 parts long)
+
+-- the line of the columns, of which the numbers behind its first word are good
+pub columns-front : (line : List ℕ) (word : Word) (left : List Word) → words_left line 0 ≡ word ∷ left → words_of line ≡ word ∷ left
+columns-front line word left is = let here : nat_lt (length line) 0 ≡ false = grind (arith, nat_tests) in rw here at is
+
+pub columns-line : (words left : List Word) (word : Word) → words ≡ word ∷ left → word ≡ Named Columns → All (λ w. IsCoordinateWord w) left → IsColumnsLine words
+columns-line words left word is named all =
+    subst IsColumnsLine (sym is) (record { word = named; numbers = All-weaker (λ w. IsCoordinateWord w) (λ w. IsTrue (is_number w)) (λ w h. h.0) left all })
+
+pub columns-range : (words left : List Word) (word : Word) → words ≡ word ∷ left → All (λ w. IsCoordinateWord w) left → ColumnsInRange words
+columns-range words left word is all = subst ColumnsInRange (sym is) (All-weaker (λ w. IsCoordinateWord w) (λ w. IsInside w) (λ w h. h.1) left all)

@@ -4,7 +4,7 @@ use Rattle.figure_text.specs.declared.words.Digits.{Digits}
 use Rattle.figure_text.specs.declared.words.Word.{Word}
 use Rattle.figure_text.specs.declared.words.Word.TheVariants.{Number}
 use Rattle.figure_text.specs.Words.{words_left}
-use Rattle.figure_text.specs.Lines.{is_natural, IsVertex}
+use Rattle.figure_text.specs.Lines.{is_natural, is_number, IsInside, IsVertex}
 
 -- the words from a place on begin with this number
 pub record IsPlainAt (line : List ℕ) (at : ℕ) (digits : Digits) : Type 0 where
@@ -21,3 +21,12 @@ pub record IsVertexAt (line : List ℕ) (at : ℕ) (digits : Digits) : Type 0 wh
 -- a word that is the number of a vertex
 abbrev pub IsNeighbour : Word → Type 0
 IsNeighbour word = IsTrue (is_natural word) × IsVertex word
+
+-- the same, and it is a coordinate
+pub record IsCoordinateAt (line : List ℕ) (at : ℕ) (digits : Digits) : Type 0 where
+  pub plain : IsPlainAt line at digits
+  pub most : digits.value ≤ 1048576
+
+-- a word that is a number within the range of coordinates
+abbrev pub IsCoordinateWord : Word → Type 0
+IsCoordinateWord word = IsTrue (is_number word) × IsInside word

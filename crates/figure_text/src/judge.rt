@@ -90,8 +90,8 @@ fn is_closing_word(word: Word) -> bool
     }
 }
 
-// Whether a word is this one.
-fn is_name(word: Word, name: Name) -> bool
+/// Whether a word is this one.
+pub fn is_name(word: Word, name: Name) -> bool
     ensures { IsTrue result ↔ (word ≡ Word.Named name) }
 {
     match word {

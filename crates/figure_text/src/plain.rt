@@ -1,12 +1,13 @@
 //! Numbers at the end of a line that are written plainly: taken one by one, and not kept as words.
-ghost use Rattle.std.specs.Prelude.{◌≡◌, ◌++◌, ◌∷◌, ◌-◌, ◌≤◌, [], false, map, All, IfOk, IfSome};
+ghost use Rattle.std.specs.Prelude.{◌≡◌, pos, ◌++◌, ◌∷◌, ◌-◌, ◌≤◌, [], false, map, All, IfOk, IfSome};
 ghost use Rattle.std.specs.Bool.{OnTrue};
 ghost use Rattle.figure_text.specs.Words.{words_left};
-ghost use Rattle.figure_text.specs.Lines.{vertex_of};
-ghost use Rattle.figure_text.specs.Plain.{IsVertexAt, IsNeighbour};
+ghost use Rattle.figure_text.specs.Lines.{vertex_of, integer_of};
+ghost use Rattle.figure_text.specs.Plain.{IsVertexAt, IsNeighbour, IsCoordinateAt, IsCoordinateWord};
 
 use crate::words::{Digits, plain_at};
 use map_lists::Rotations;
+use pg_plane::Ints;
 use std::alloc::AllocError;
 
 // The number of a vertex that begins at `at`, where it is written plainly.
@@ -54,4 +55,42 @@ pub fn push_plain(line: &[u8], start: usize, lists: &mut Rotations) -> Result<bo
     }
     lists.truncate(before);
     Ok(false)
+}
+
+// The coordinate that begins at `at`, where it is written plainly.
+#[inline(always)]
+fn coordinate_at(line: &[u8], at: usize) -> Option<Digits>
+    ensures { IfSome result (IsCoordinateAt line.now at) }
+{
+    match plain_at(line, at) {
+        Some(digits) => {
+            if digits.value <= 1_048_576 {
+                Some(digits)
+            } else {
+                None
+            }
+        }
+        None => None,
+    }
+}
+
+// A number as a coordinate.
+fn coordinate(number: u32) -> i32
+    requires { number ≤ 1048576 }
+    ensures { result ≡ pos number }
+{
+    number as i32
+}
+
+/// Appends the numbers that stand from a place on, and says whether all words there are coordinates, plainly written.
+pub fn push_coordinates(line: &[u8], start: usize, list: &mut Ints) -> Result<bool, AllocError>
+    ensures { IfOk result (λ good. OnTrue good (All (λ w. IsCoordinateWord w) (words_left line.now start)
+        × (list.new ≡ list.old ++ map integer_of (words_left line.now start)))) }
+{
+    let mut at = start;
+    while let Some(digits) = coordinate_at(line, at) {
+        list.push(coordinate(digits.value))?;
+        at = digits.end + 1;
+    }
+    Ok(line.len() < at)
 }

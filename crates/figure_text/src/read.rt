@@ -1,13 +1,14 @@
 //! What may stand at an offset of a text, and the ends of figures: the line of the columns, and what drafts give.
-ghost use Rattle.std.specs.Prelude.{◌≡◌, ◌++◌, ◌∷◌, ◌<◌, [], length, drop, map, slice_index_or, IfOk, OnOk};
+ghost use Rattle.std.specs.Prelude.{◌≡◌, ◌++◌, ◌∷◌, ◌<◌, [], length, drop, map, slice_index_or, IfOk, IfSome, OnOk};
 ghost use Rattle.figure_text.specs.Words.{words_of};
-ghost use Rattle.figure_text.specs.Lines.{integer_of};
-ghost use Rattle.figure_text.specs.Figures.{ids, witness_of, JudgesColumns};
+ghost use Rattle.figure_text.specs.Lines.{integer_of, IsColumnsLine, ColumnsInRange};
+ghost use Rattle.figure_text.specs.Figures.{ids, witness_of, columns_of, JudgesColumns};
 
 use crate::Figure;
-use crate::judge::{Judged, behind, judged_columns};
+use crate::judge::{Judged, behind, is_name, judged_columns};
+use crate::plain::push_coordinates;
 use crate::rows::{Draft, integer};
-use crate::words::{Word, words};
+use crate::words::{Name, Word, next_word, words};
 use kuratowski::{Kind as Subdivided, Witness};
 use map_lists::{PathList, Rotations, VertexId, VertexList};
 use pg_plane::{Ints, RectFigure};
@@ -48,8 +49,34 @@ fn integers(alloc: Global, words: &[Word]) -> Result<Ints, AllocError>
     Ok(list)
 }
 
+// The numbers of the line of the columns, where they are plainly written: they are not kept as words.
+fn plain_columns(alloc: Global, line: &[u8]) -> Result<Option<Ints>, AllocError>
+    ensures { IfOk result (λ found. IfSome found (λ list. IsColumnsLine (words_of line.now) × ColumnsInRange (words_of line.now) × (list ≡ columns_of (words_of line.now)))) }
+{
+    let front = next_word(line, 0);
+    if !is_name(front.word, Name::Columns) {
+        return Ok(None);
+    }
+    let mut list = Ints::new(alloc);
+    if !push_coordinates(line, front.end + 1, &mut list)? {
+        return Ok(None);
+    }
+    Ok(Some(list))
+}
+
 /// What the line of the columns is, which is given without the byte 10 that closes it.
 pub fn columns_line(alloc: Global, line: &[u8]) -> Columns
+    ensures { JudgesColumns (words_of line.now) result }
+{
+    match plain_columns(alloc, line) {
+        Ok(Some(list)) => Columns::Good(list),
+        Ok(None) => exact_columns(alloc, line),
+        Err(_) => Columns::NoMemory,
+    }
+}
+
+// The same by all words of the line.
+fn exact_columns(alloc: Global, line: &[u8]) -> Columns
     ensures { JudgesColumns (words_of line.now) result }
 {
     match words(alloc, line) {

@@ -268,17 +268,17 @@ fn closes_at(line: &[u8], end: usize) -> bool
     end < line.len() && line[end] == b':' && ends_at(line, end + 1)
 }
 
-// A word of a line.
+/// A word of a line.
 #[derive(Clone, Copy, PartialEq, Eq)]
-struct Next {
-    // what it is
-    word: Word,
-    // the place behind it
-    end: usize,
+pub struct Next {
+    /// What it is.
+    pub word: Word,
+    /// The place behind it.
+    pub end: usize,
 }
 
-// The word that begins at `at`.
-fn next_word(line: &[u8], at: usize) -> Next
+/// The word that begins at `at`.
+pub fn next_word(line: &[u8], at: usize) -> Next
     requires { at ≤ length line.now }
     ensures order { at ≤ result.end }
     ensures within { result.end ≤ length line.now }
