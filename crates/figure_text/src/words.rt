@@ -278,6 +278,7 @@ pub struct Next {
 }
 
 /// The word that begins at `at`.
+#[inline(always)]
 pub fn next_word(line: &[u8], at: usize) -> Next
     requires { at ≤ length line.now }
     ensures order { at ≤ result.end }
