@@ -6,12 +6,12 @@ use std::test::Fail;
 #[test]
 fn items_come_back_by_value(rt: HostRuntime) -> Result<(), Fail> {
     let mut counts = Counts::new(rt.alloc());
-    assert_eq!(rt; counts.len(), 0);
+    assert!(rt; counts.len() == 0);
     counts.push(7)?;
-    assert_eq!(rt; (counts.len(), counts.get(0)), (1, 7));
+    assert!(rt; counts.len() == 1 && counts.get(0) == 7);
     let mut vertices = VertexList::new(rt.alloc());
     vertices.push(VertexId(3))?;
-    assert_eq!(rt; (vertices.len(), vertices.get(0).0), (1, 3));
+    assert!(rt; vertices.len() == 1 && vertices.get(0).0 == 3);
     let edge = Ends {
         a: VertexId(3),
         b: VertexId(4),
@@ -30,7 +30,7 @@ fn points_and_whole_numbers_come_back(rt: HostRuntime) -> Result<(), Fail> {
     assert!(rt; points.len() == 1 && points.get(0) == point);
     let mut numbers = Ints::new(rt.alloc());
     numbers.push(-7)?;
-    assert_eq!(rt; (numbers.len(), numbers.get(0)), (1, -7));
+    assert!(rt; numbers.len() == 1 && numbers.get(0) == -7);
     Ok(())
 }
 
@@ -39,7 +39,7 @@ fn lists_come_back_whole(rt: HostRuntime) -> Result<(), Fail> {
     let mut paths = PathList::new(rt.alloc());
     paths.push(&[])?;
     paths.push(&[VertexId(1), VertexId(0)])?;
-    assert_eq!(rt; (paths.len(), paths.total()), (2, 2));
+    assert!(rt; paths.len() == 2 && paths.total() == 2);
     assert!(rt; paths.list(1) == [VertexId(1), VertexId(0)].as_slice());
     Ok(())
 }
@@ -52,14 +52,14 @@ fn lists_grow_by_entries(rt: HostRuntime) -> Result<(), Fail> {
     lists.append(1)?;
     lists.append(2)?;
     lists.open()?;
-    assert_eq!(rt; lists.entries(), [4, 1, 2].as_slice());
-    assert_eq!(rt; lists.ends(), [1, 3, 3].as_slice());
+    assert!(rt; lists.entries() == [4, 1, 2].as_slice());
+    assert!(rt; lists.ends() == [1, 3, 3].as_slice());
     lists.truncate(2);
     lists.append(5)?;
-    assert_eq!(rt; lists.list(1), [1, 2, 5].as_slice());
+    assert!(rt; lists.list(1) == [1, 2, 5].as_slice());
     let (entries, ends) = lists.into_parts();
-    assert_eq!(rt; entries.as_slice(), [4, 1, 2, 5].as_slice());
-    assert_eq!(rt; ends.as_slice(), [1, 4].as_slice());
+    assert!(rt; entries.as_slice() == [4, 1, 2, 5].as_slice());
+    assert!(rt; ends.as_slice() == [1, 4].as_slice());
     Ok(())
 }
 
@@ -68,8 +68,8 @@ fn parts_make_lists(rt: HostRuntime) -> Result<(), Fail> {
     let entries = vec![in rt.alloc(); 4, 1, 2]?;
     let ends = vec![in rt.alloc(); 1, 3]?;
     let mut lists = Rotations::from_parts(entries, ends);
-    assert_eq!(rt; (lists.len(), lists.total()), (2, 3));
+    assert!(rt; lists.len() == 2 && lists.total() == 3);
     lists.clear();
-    assert_eq!(rt; (lists.len(), lists.total()), (0, 0));
+    assert!(rt; lists.len() == 0 && lists.total() == 0);
     Ok(())
 }

@@ -11,27 +11,27 @@ fn source_in_memory(rt: HostRuntime) -> Result<(), Fail> {
     let failing = [2].to_vec(rt.alloc())?;
     let mut source = MemSource::new(b"abcde".to_vec(rt.alloc())?, 3, failing);
     let mut buf = *b"....";
-    assert_eq!(rt; source.read(&mut buf), Ok(3));
-    assert_eq!(rt; &buf, b"abc.");
-    assert_eq!(rt; source.read(&mut buf), Err(ReadFailed));
-    assert_eq!(rt; (&buf, source.at, source.faults), (b"abc.", 3, 1));
-    assert_eq!(rt; source.read(&mut buf), Ok(2));
-    assert_eq!(rt; &buf, b"dec.");
-    assert_eq!(rt; source.read(&mut buf), Ok(0));
-    assert_eq!(rt; (source.faults, source.calls), (1, 4));
+    assert!(rt; source.read(&mut buf) == Ok(3));
+    assert!(rt; &buf == b"abc.");
+    assert!(rt; source.read(&mut buf) == Err(ReadFailed));
+    assert!(rt; &buf == b"abc." && source.at == 3 && source.faults == 1);
+    assert!(rt; source.read(&mut buf) == Ok(2));
+    assert!(rt; &buf == b"dec.");
+    assert!(rt; source.read(&mut buf) == Ok(0));
+    assert!(rt; source.faults == 1 && source.calls == 4);
     Ok(())
 }
 
 #[test]
 fn sink_in_memory(rt: HostRuntime) -> Result<(), Fail> {
     let mut sink = MemSink::with_room(rt.alloc(), 5, 2, &[3])?;
-    assert_eq!(rt; sink.write(b"abc"), Ok(2));
-    assert_eq!(rt; put_all(&mut sink, b"cd"), Ok(()));
-    assert_eq!(rt; sink.write(b"e"), Err(WriteFailed));
-    assert_eq!(rt; sink.written.as_slice(), b"abcd".as_slice());
-    assert_eq!(rt; put_all(&mut sink, b"ef"), Err(WriteFailed));
-    assert_eq!(rt; sink.written.as_slice(), b"abcde".as_slice());
-    assert_eq!(rt; (sink.faults, sink.calls), (2, 5));
+    assert!(rt; sink.write(b"abc") == Ok(2));
+    assert!(rt; put_all(&mut sink, b"cd") == Ok(()));
+    assert!(rt; sink.write(b"e") == Err(WriteFailed));
+    assert!(rt; sink.written.as_slice() == b"abcd".as_slice());
+    assert!(rt; put_all(&mut sink, b"ef") == Err(WriteFailed));
+    assert!(rt; sink.written.as_slice() == b"abcde".as_slice());
+    assert!(rt; sink.faults == 2 && sink.calls == 5);
     Ok(())
 }
 
@@ -39,14 +39,14 @@ fn sink_in_memory(rt: HostRuntime) -> Result<(), Fail> {
 fn sure_ones(rt: HostRuntime) -> Result<(), Fail> {
     let mut source = SureSource::new(b"abc".to_vec(rt.alloc())?, 2);
     let mut buf = *b"....";
-    assert_eq!(rt; source.read(&mut buf), Ok(2));
-    assert_eq!(rt; source.read(&mut buf[2..]), Ok(1));
-    assert_eq!(rt; &buf, b"abc.");
-    assert_eq!(rt; source.read(&mut buf), Ok(0));
+    assert!(rt; source.read(&mut buf) == Ok(2));
+    assert!(rt; source.read(&mut buf[2..]) == Ok(1));
+    assert!(rt; &buf == b"abc.");
+    assert!(rt; source.read(&mut buf) == Ok(0));
     let mut sink = SureSink::new();
-    assert_eq!(rt; sink.write(b"ab"), Ok(2));
-    assert_eq!(rt; put_all(&mut sink, b"cde"), Ok(()));
-    assert_eq!(rt; sink.total, 5);
+    assert!(rt; sink.write(b"ab") == Ok(2));
+    assert!(rt; put_all(&mut sink, b"cde") == Ok(()));
+    assert!(rt; sink.total == 5);
     Ok(())
 }
 
@@ -68,12 +68,12 @@ impl io::Read for SecondFails {
 fn reader_of_std(rt: HostRuntime) {
     let mut source = ReadAdapter::new(SecondFails(0));
     let mut buf = *b"....";
-    assert_eq!(rt; source.read(&mut buf), Ok(3));
-    assert_eq!(rt; &buf, b"abc.");
-    assert_eq!(rt; source.read(&mut buf), Err(ReadFailed));
-    assert_eq!(rt; source.faults, 1);
-    assert_eq!(rt; source.read(&mut buf[..1]), Ok(1));
-    assert_eq!(rt; source.faults, 1);
+    assert!(rt; source.read(&mut buf) == Ok(3));
+    assert!(rt; &buf == b"abc.");
+    assert!(rt; source.read(&mut buf) == Err(ReadFailed));
+    assert!(rt; source.faults == 1);
+    assert!(rt; source.read(&mut buf[..1]) == Ok(1));
+    assert!(rt; source.faults == 1);
 }
 
 // A writer that takes bytes until it holds three, and can be flushed twice.
@@ -105,12 +105,12 @@ fn writer_of_std(rt: HostRuntime) {
         held: 0,
         flushes: 0,
     });
-    assert_eq!(rt; sink.write(b"ab"), Ok(2));
-    assert_eq!(rt; sink.inner.flushes, 1);
-    assert_eq!(rt; sink.write(b"cd"), Ok(1));
-    assert_eq!(rt; sink.write(b"d"), Err(WriteFailed));
-    assert_eq!(rt; (sink.inner.flushes, sink.faults), (2, 1));
+    assert!(rt; sink.write(b"ab") == Ok(2));
+    assert!(rt; sink.inner.flushes == 1);
+    assert!(rt; sink.write(b"cd") == Ok(1));
+    assert!(rt; sink.write(b"d") == Err(WriteFailed));
+    assert!(rt; sink.inner.flushes == 2 && sink.faults == 1);
     sink.inner.held = 0;
-    assert_eq!(rt; sink.write(b"d"), Err(WriteFailed));
-    assert_eq!(rt; (sink.inner.flushes, sink.faults), (3, 2));
+    assert!(rt; sink.write(b"d") == Err(WriteFailed));
+    assert!(rt; sink.inner.flushes == 3 && sink.faults == 2);
 }
