@@ -39,13 +39,13 @@ fn is_triangle(map: &HalfMap, d: DartId) -> bool
     fourth.0 == d.0
 }
 
-// Whether a dart is off the outer face, and its face is no triangle.
+// Whether the face of a dart is no triangle, and the dart is off the outer face: nearly every face is a triangle.
 fn is_large(map: &HalfMap, four: OuterFour, d: DartId) -> bool
     requires known { IsHalfMap map.now }
     requires live { IsLive map.now d.0 }
     ensures { IsTrue result ↔ HoldsAt map.now (IsLargeDart map.now.lists four.top.0 four.right.0 four.bottom.0) d.0 }
 {
-    !is_frame_dart(four, map.tail(d), map.head(d)) && !is_triangle(map, d)
+    !is_triangle(map, d) && !is_frame_dart(four, map.tail(d), map.head(d))
 }
 
 // The least dart off the outer face whose face is no triangle.
