@@ -1,7 +1,7 @@
 -- What the loops go over: darts off the frame whose face is no triangle, and edges of separating triangles.
 use Rattle.std.specs.Prelude.{ℕ, ◌≡◌, ◌⊎◌}
 use Rattle.map_lists.specs.Lists.{Lists}
-use Rattle.map_theory.specs.Maps.{HasDart}
+use Rattle.map_theory.specs.Maps.{HasDart, follows}
 use Rattle.plane_laws.specs.Laws.{IsTriangle}
 use Rattle.rect_class.specs.RectMaps.{IsSeparating}
 
@@ -23,3 +23,8 @@ pub record IsLargeDart (lists : Lists) (d p q v u : ℕ) : Type 0 where
 pub record HasThird (lists : Lists) (a b : ℕ) : Type 0 where
   pub third : ℕ
   pub separating : IsSeparating lists a b third
+
+-- the faces of the darts (a, b) and (b, a) go on to these two
+pub record AreSides (lists : Lists) (a b left right : ℕ) : Type 0 where
+  pub on_left : follows lists b a ≡ left
+  pub on_right : follows lists a b ≡ right

@@ -7,7 +7,7 @@ ghost use Rattle.half_edges.specs.Map.{IsHalfMap, IsLive, dart_at};
 ghost use Rattle.vertex_rounds.specs.Least.{IsLeast, IsLeastTriple};
 ghost use Rattle.vertex_rounds.specs.Rounds.{HoldsAt, dart_of};
 ghost use Rattle.rect_class.specs.RectMaps.{IsSeparating, NoneSeparating};
-ghost use Rattle.rect_class.specs.Loops.{HasThird};
+ghost use Rattle.rect_class.specs.Loops.{HasThird, AreSides};
 ghost use Rattle.rect_class.specs.Upper.{AreUpperRows};
 
 use crate::upper::are_adjacent;
@@ -26,13 +26,41 @@ fn is_face(map: &HalfMap, d: DartId, a: VertexId, b: VertexId, c: VertexId) -> b
     map.head(second).0 == c.0 && map.head(third).0 == a.0 && map.head(fourth).0 == b.0
 }
 
-// Whether the edge from `a` to `b` bounds a face with `c`, on the one side or on the other.
-fn is_bounding(map: &HalfMap, d: DartId, a: VertexId, b: VertexId, c: VertexId) -> bool
+// The vertices to which the faces of an edge go on, on its left and on its right: no others bound a face with it.
+#[derive(Clone, Copy)]
+struct Sides {
+    left: VertexId,
+    right: VertexId,
+}
+
+// The sides of the edge from `a` to `b`.
+fn sides_of(map: &HalfMap, d: DartId, a: VertexId, b: VertexId) -> Sides
     requires known { IsHalfMap map.now }
     requires dart { dart_at map.now d.0 ≡ Some (a.0, b.0) }
+    ensures { AreSides map.now.lists a.0 b.0 result.left.0 result.right.0 }
+{
+    Sides {
+        left: map.head(map.face_step(d)),
+        right: map.head(map.next(d)),
+    }
+}
+
+// Whether the edge from `a` to `b` bounds a face with `c`, on the one side or on the other.
+fn is_bounding(
+    map: &HalfMap,
+    d: DartId,
+    a: VertexId,
+    b: VertexId,
+    sides: Sides,
+    c: VertexId,
+) -> bool
+    requires known { IsHalfMap map.now }
+    requires dart { dart_at map.now d.0 ≡ Some (a.0, b.0) }
+    requires sides { AreSides map.now.lists a.0 b.0 sides.left.0 sides.right.0 }
     ensures { IsTrue result ↔ (IsFaceOfThree map.now.lists a.0 b.0 c.0 ⊎ IsFaceOfThree map.now.lists b.0 a.0 c.0) }
 {
-    is_face(map, d, a, b, c) || is_face(map, map.twin(d), b, a, c)
+    (sides.left.0 == c.0 && is_face(map, d, a, b, c))
+        || (sides.right.0 == c.0 && is_face(map, map.twin(d), b, a, c))
 }
 
 // Whether `a`, `b` and `c` are a separating triangle.
@@ -42,17 +70,19 @@ fn is_separating(
     d: DartId,
     a: VertexId,
     b: VertexId,
+    sides: Sides,
     c: VertexId,
 ) -> bool
     requires known { IsHalfMap map.now }
     requires rows { AreUpperRows map.now.lists rows.now }
     requires dart { dart_at map.now d.0 ≡ Some (a.0, b.0) }
+    requires sides { AreSides map.now.lists a.0 b.0 sides.left.0 sides.right.0 }
     requires third { c.0 < length map.now.lists }
     ensures { IsTrue result ↔ IsSeparating map.now.lists a.0 b.0 c.0 }
 {
     a.0 < b.0
         && b.0 < c.0
-        && !is_bounding(map, d, a, b, c)
+        && !is_bounding(map, d, a, b, sides, c)
         && are_adjacent(map, rows, b, c)
         && are_adjacent(map, rows, a, c)
 }
@@ -65,15 +95,17 @@ fn is_third(
     d: DartId,
     a: VertexId,
     b: VertexId,
+    sides: Sides,
     c: VertexId,
 ) -> bool
     requires known { IsHalfMap map.now }
     requires rows { AreUpperRows map.now.lists rows.now }
     requires dart { dart_at map.now d.0 ≡ Some (a.0, b.0) }
+    requires sides { AreSides map.now.lists a.0 b.0 sides.left.0 sides.right.0 }
     requires third { c.0 < length map.now.lists }
     ensures { IsTrue result ↔ IsSeparating map.now.lists a.0 b.0 c.0 }
 {
-    b.0 < c.0 && is_separating(map, rows, d, a, b, c)
+    b.0 < c.0 && is_separating(map, rows, d, a, b, sides, c)
 }
 
 // Whether the head of dart `e` is the third vertex of a separating triangle with `a` and `b`.
@@ -91,7 +123,7 @@ fn leads_to_third(
     requires live { IsLive map.now e.0 }
     ensures { IsTrue result ↔ IsSeparating map.now.lists a.0 b.0 (dart_of map.now e.0).1 }
 {
-    is_separating(map, rows, d, a, b, map.head(e))
+    is_separating(map, rows, d, a, b, sides_of(map, d, a, b), map.head(e))
 }
 
 // The least third vertex of `a` and `b`, by the list of `w`, which is one of them.
@@ -161,8 +193,9 @@ fn has_third_in(
     ensures some { OnTrue result (HasThird map.now.lists a.0 b.0) }
     ensures none { result ≡ false → (k : ℕ) → k < length us.now → ¬ IsSeparating map.now.lists a.0 b.0 (slice_index us.now k) }
 {
+    let sides = sides_of(map, d, a, b);
     for u in us {
-        if is_third(map, rows, d, a, b, VertexId(*u)) {
+        if is_third(map, rows, d, a, b, sides, VertexId(*u)) {
             return true;
         }
     }
