@@ -1,6 +1,6 @@
 //! For each vertex its neighbours of no lower degree. In a plane map such a row is short, also at a hub, so that
 //! two vertices are soon seen to be adjacent or not.
-ghost use Rattle.std.specs.Prelude.{◌≡◌, ◌<◌, ◌↔◌, ◌++◌, ◌∷◌, [], List, ℕ, length, IsTrue, IfOk, OnOk, Contains, All};
+ghost use Rattle.std.specs.Prelude.{◌≡◌, ◌<◌, ◌↔◌, ◌++◌, ◌∷◌, [], length, IsTrue, IfOk, Contains, All};
 ghost use Rattle.std.specs.List.{filter};
 ghost use Rattle.map_theory.specs.Maps.{HasDart, IsSimpleMap, list_of};
 ghost use Rattle.half_edges.specs.Map.{IsHalfMap};
@@ -17,32 +17,29 @@ fn has_degree(lists: &Rotations, degree: usize, u: u16) -> bool
     degree <= lists.list(usize::from(u)).len()
 }
 
-// Appends a vertex to the last row, if it has this many neighbours, or more.
-fn append_upper(
-    rows: &mut Rotations,
+// Puts a vertex behind others, if it has this many neighbours, or more.
+fn put_vertex(
+    entries: &mut Vec<u16>,
     lists: &Rotations,
     degree: usize,
     u: u16,
 ) -> Result<(), AllocError>
-    requires some_row { 0 < length rows.old }
-    requires vertex { u < length lists.now }
-    ensures { IfOk result (λ _. (before : List (List ℕ)) (last : List ℕ) → rows.old ≡ before ++ last ∷ [] → rows.new ≡ before ++ (last ++ filter (the_test lists.now degree) (u ∷ [])) ∷ []) }
+    requires { u < length lists.now }
+    ensures { IfOk result (λ _. entries.new.items ≡ entries.old.items ++ filter (the_test lists.now degree) (u ∷ [])) }
 {
     if has_degree(lists, degree, u) {
-        rows.append(u)
-    } else {
-        Ok(())
+        entries.push(u)?;
     }
+    Ok(())
 }
 
-// Appends the row of a vertex with these neighbours.
-fn push_upper(rows: &mut Rotations, lists: &Rotations, us: &[u16]) -> Result<(), AllocError>
+// Puts the row of a vertex with these neighbours behind others.
+fn put_row(entries: &mut Vec<u16>, lists: &Rotations, us: &[u16]) -> Result<(), AllocError>
     requires { All (λ u. u < length lists.now) us.now }
-    ensures { IfOk result (λ _. rows.new ≡ rows.old ++ filter (the_test lists.now (length us.now)) us.now ∷ []) }
+    ensures { IfOk result (λ _. entries.new.items ≡ entries.old.items ++ filter (the_test lists.now (length us.now)) us.now) }
 {
-    rows.open()?;
     for u in us {
-        append_upper(rows, lists, us.len(), *u)?;
+        put_vertex(entries, lists, us.len(), *u)?;
     }
     Ok(())
 }
@@ -52,11 +49,13 @@ pub(crate) fn upper_rows(alloc: Global, lists: &Rotations) -> Result<Rotations, 
     requires { IsSimpleMap lists.now }
     ensures { IfOk result (AreUpperRows lists.now) }
 {
-    let mut rows = Rotations::with_capacity(alloc, lists.total(), lists.len())?;
+    let mut entries = Vec::with_capacity(alloc, lists.total())?;
+    let mut ends = Vec::with_capacity(alloc, lists.len())?;
     for v in 0..lists.len() {
-        push_upper(&mut rows, lists, lists.list(v))?;
+        put_row(&mut entries, lists, lists.list(v))?;
+        ends.push(entries.len())?;
     }
-    Ok(rows)
+    Ok(Rotations::from_parts(entries, ends))
 }
 
 // Whether a row has a vertex.
