@@ -20,7 +20,6 @@ pub mod RectNumbersRows
 -- Lemmas on boxes in tables.
 pub mod RectDrawSides
 pub mod RectDrawRows
-pub mod Ranks
 pub mod Drawn
 mod RectDrawRefused
 -- Lemmas on the figures of records.

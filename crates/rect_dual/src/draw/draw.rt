@@ -28,11 +28,11 @@ fn numbers_at(alloc: Global, numbers: &[u32], ranks: &Counts) -> Result<Ints, Al
     requires small { (k : ℕ) → k < length numbers.now → slice_index numbers.now k < 2 ^ 20 }
     ensures { IfOk result (AreAtRanks numbers.now ranks.now) }
 {
-    let mut made = Ints::new(alloc);
+    let mut made = vec![in alloc; 0; ranks.len()]?;
     for v in 0..ranks.len() {
-        made.push(coordinate(numbers[ranks.get(v) as usize]))?;
+        made[v] = coordinate(numbers[ranks.get(v) as usize]);
     }
-    Ok(made)
+    Ok(Ints::from_vec(made))
 }
 
 // Each box at its vertex.
