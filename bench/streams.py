@@ -102,7 +102,7 @@ def rows(job):
         for name, most in DRAWS[job].items():
             yield ("triangulations " if name.startswith("of") else "") + name, million(job, streams[name]), most
     elif job == "rect":
-        for height, width in ((61, 67), (17, 229)):
+        for height, width in ((63, 63), (17, 229)):
             yield f"a grid of {height} by {width} with diagonals", million(job, count.record(pigale.quadrangle(height, width))), 13
     elif job == "verify":
         drawn = slopes.answer("shift", count.record(families.shuffled(families.stacked(4095))))
