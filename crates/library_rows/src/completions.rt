@@ -1,9 +1,8 @@
 //! Maps that are completed to triangles, and what stays of their lists.
-use crate::lists::{lists_of, put_lists};
-use crate::orders::order_of;
-use crate::refusal::Refusal;
-use crate::text::part;
-use half_edges::Rotations;
+use crate::lists::put_lists;
+use crate::refusal::tell_no_memory;
+use crate::text::{put, put_one};
+use half_edges::{HalfMap, Rotations};
 use std::alloc::Global;
 
 // Whether the entries of `old` stand in `new` in the same order.
@@ -27,14 +26,23 @@ fn are_kept(old: &Rotations, new: &Rotations) -> bool {
     true
 }
 
+// The size of a triangulation, and whether the old lists are in the new ones.
+fn put_size(old: &Rotations, new: &Rotations, tri: &HalfMap, out: &mut String) {
+    put_one("n", u64::from(tri.n()), out);
+    put_one(" m", u64::from(tri.m()), out);
+    put(if are_kept(old, new) { " kept" } else { " lost" }, out);
+}
+
 /// The lists of a triangulation; or its size, and whether the old lists are in the new ones.
-pub fn answer(alloc: Global, call: &str, args: &[&str], out: &mut String) -> Result<(), Refusal> {
-    let old = lists_of(alloc, part(args, 0))?;
-    let found = order_of(alloc, part(args, 0))?;
-    let new = found.tri.rotations(alloc)?;
-    if call == "lists" {
-        return Ok(put_lists(&new, out)?);
+pub fn answer(alloc: Global, call: &str, old: &Rotations, tri: &HalfMap, out: &mut String) {
+    match tri.rotations(alloc) {
+        Ok(new) => {
+            if call == "lists" {
+                put_lists(&new, out);
+            } else {
+                put_size(old, &new, tri, out);
+            }
+        }
+        Err(_) => tell_no_memory(out),
     }
-    let kept = if are_kept(&old, &new) { "kept" } else { "lost" };
-    Ok(write!(out, "n {} m {} {kept}", found.tri.n(), found.tri.m())?)
 }

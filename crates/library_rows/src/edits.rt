@@ -1,14 +1,14 @@
 //! Edges that come and go.
-ghost use Rattle.std.specs.Prelude.{◌≡◌, ◌<◌, Some, IfSome};
+ghost use Rattle.std.specs.Prelude.{◌≡◌, ◌<◌, Some, IfSome, length};
 ghost use Rattle.map_theory.specs.Maps.{vertex_count};
 ghost use Rattle.half_edges.specs.Edges.{IsCorner, corner_place};
 
 use crate::lists::put_lists;
-use crate::maps::{dart_between, map_of, put_dart};
-use crate::refusal::Refusal;
-use crate::text::{number, part};
-use half_edges::{Corner, DartId, HalfMap, VertexId};
-use std::alloc::{AllocError, Global};
+use crate::maps::{dart_between, put_dart};
+use crate::refusal::tell_no_memory;
+use crate::text::{halves, number, pair, put, put_number, put_numbers, put_one};
+use half_edges::{Corner, DartId, HalfMap, Rotations, VertexId};
+use std::alloc::Global;
 
 // The corner at a vertex behind an entry of its list, or at an isolated one.
 fn corner_at(map: &HalfMap, v: u16, entry: Option<u16>) -> Option<Corner>
@@ -56,38 +56,52 @@ fn place_of(text: &str) -> (u16, Option<u16>) {
     }
 }
 
+// Puts in the edge between two places, if it can be.
+fn join_places(map: &mut HalfMap, places: &str) -> Option<DartId> {
+    let (first, second) = halves(places);
+    join(map, place_of(first), place_of(second))
+}
+
 // Puts in an edge.
-fn add(map: &mut HalfMap, words: &[&str], out: &mut String) -> Result<(), AllocError> {
-    match join(map, place_of(part(words, 1)), place_of(part(words, 2))) {
-        Some(d) => put_dart(map, d, out),
-        None => out.push_str("refused"),
+fn add(map: &mut HalfMap, places: &str, out: &mut String) {
+    match join_places(map, places) {
+        Some(d) => put_dart("", map, d, out),
+        None => put("refused", out),
     }
 }
 
 // Takes out an edge, and tells its ends.
-fn remove(map: &mut HalfMap, words: &[&str], out: &mut String) -> Result<(), AllocError> {
-    match dart_between(map, number(part(words, 1)), number(part(words, 2))) {
+fn remove(map: &mut HalfMap, (u, v): (u16, u16), out: &mut String) {
+    match dart_between(map, u, v) {
         Some(d) if map.is_live(d) => {
-            let ends = map.remove_edge(d);
-            write!(out, "{} {}", ends.a.0, ends.b.0)
+            let removed = map.remove_edge(d);
+            put_numbers(&[removed.a.0, removed.b.0], out);
         }
-        _ => out.push_str("refused"),
+        _ => put("refused", out),
     }
 }
 
-// Puts an edge in and takes it out again, a thousand times.
-fn turn(map: &mut HalfMap, words: &[&str], out: &mut String) -> Result<(), AllocError> {
-    let mut count: u32 = 0;
+// Puts an edge in and takes it out again, if it can be.
+fn turn(map: &mut HalfMap, places: &str) -> bool {
+    match join_places(map, places) {
+        Some(d) if map.is_live(d) => {
+            map.remove_edge(d);
+            true
+        }
+        _ => false,
+    }
+}
+
+// The same a thousand times.
+fn turns(map: &mut HalfMap, places: &str, out: &mut String) {
+    let mut count: u64 = 0;
     for _ in 0..1000 {
-        match join(map, place_of(part(words, 1)), place_of(part(words, 2))) {
-            Some(d) if map.is_live(d) => {
-                map.remove_edge(d);
-                count = count.wrapping_add(1);
-            }
-            _ => {}
+        if turn(map, places) {
+            count = count.wrapping_add(1);
         }
     }
-    write!(out, "{count} turns")
+    put_number(count, out);
+    put(" turns", out);
 }
 
 // The entry of vertex 0's list behind which the next one comes.
@@ -102,58 +116,78 @@ fn first_entry(map: &HalfMap) -> Option<u16> {
 }
 
 // Puts an edge in from vertex 0 to each other vertex, which is isolated.
-fn spokes(map: &mut HalfMap, out: &mut String) -> Result<(), AllocError> {
-    let mut count: u32 = 0;
+fn spokes(map: &mut HalfMap, out: &mut String) {
+    let mut count: u64 = 0;
     for v in 1..map.n() {
         let behind = first_entry(map);
         if join(map, (0, behind), (v, None)).is_some() {
             count = count.wrapping_add(1);
         }
     }
-    write!(out, "{count} spokes")
+    put_number(count, out);
+    put(" spokes", out);
 }
 
 // Makes room for edges.
-fn reserve(map: &mut HalfMap, words: &[&str], out: &mut String) -> Result<(), AllocError> {
-    map.reserve_edges(u32::from(number(part(words, 1))))?;
-    out.push_str("room")
-}
-
-// One edit of a map, and what it leaves.
-fn edit(alloc: Global, map: &mut HalfMap, text: &str, out: &mut String) -> Result<(), AllocError> {
-    let words: Vec<&str> = text.split(' ').collect(alloc)?;
-    match part(&words, 0) {
-        "reserve" => reserve(map, &words, out)?,
-        "add" => add(map, &words, out)?,
-        "remove" => remove(map, &words, out)?,
-        "turn" => turn(map, &words, out)?,
-        "spokes" => spokes(map, out)?,
-        _ => out.push_str("no such edit")?,
+fn reserve(map: &mut HalfMap, count: u16, out: &mut String) {
+    match map.reserve_edges(u32::from(count)) {
+        Ok(()) => put("room", out),
+        Err(_) => tell_no_memory(out),
     }
-    write!(out, " (m {} spare {}), ", map.m(), map.spare())
 }
 
-// The lists of a map; of a large one their size, and the first and the last.
-fn put_left(alloc: Global, map: &HalfMap, out: &mut String) -> Result<(), AllocError> {
-    let lists = map.rotations(alloc)?;
+// One edit of a map.
+fn edit(map: &mut HalfMap, (word, rest): (&str, &str), out: &mut String) {
+    match word {
+        "reserve" => reserve(map, number(rest), out),
+        "add" => add(map, rest, out),
+        "remove" => remove(map, pair(rest), out),
+        "turn" => turns(map, rest, out),
+        _ => spokes(map, out),
+    }
+}
+
+// The size of lists, and the first and the last of them.
+fn put_ends(lists: &Rotations, n: usize, out: &mut String)
+    requires some { 0 < n }
+    requires all { n ≡ length lists.now }
+{
+    put_number(lists.total() as u64, out);
+    put_one(" entries,", lists.list(0).len() as u64, out);
+    put_one(" of vertex 0 and", lists.list(n - 1).len() as u64, out);
+    put(" of the last", out);
+}
+
+// Lists, or of large ones their size, and the first and the last.
+fn put_some(lists: &Rotations, out: &mut String) {
     let n = lists.len();
-    if n == 0 || n < 20 {
-        return put_lists(&lists, out);
+    if n < 20 {
+        put_lists(lists, out);
+    } else {
+        put_ends(lists, n, out);
     }
-    let first = lists.list(0).len();
-    write!(
-        out,
-        "{} entries, {first} of vertex 0 and {} of the last",
-        lists.total(),
-        lists.list(n - 1).len()
-    )
+}
+
+// The lists of a map.
+fn put_left(alloc: Global, map: &HalfMap, out: &mut String) {
+    match map.rotations(alloc) {
+        Ok(lists) => put_some(&lists, out),
+        Err(_) => tell_no_memory(out),
+    }
+}
+
+// What room an edit leaves.
+fn put_room(map: &HalfMap, out: &mut String) {
+    put_one(" (m", u64::from(map.m()), out);
+    put_one(" spare", u64::from(map.spare()), out);
+    put("), ", out);
 }
 
 /// The edits of a map, and its lists after them.
-pub fn answer(alloc: Global, args: &[&str], out: &mut String) -> Result<(), Refusal> {
-    let mut map = map_of(alloc, part(args, 0))?;
-    for text in part(args, 1).split(';') {
-        edit(alloc, &mut map, text, out)?;
+pub fn answer(alloc: Global, map: &mut HalfMap, edits: &str, out: &mut String) {
+    for text in edits.split(';') {
+        edit(map, halves(text), out);
+        put_room(map, out);
     }
-    Ok(put_left(alloc, &map, out)?)
+    put_left(alloc, map, out);
 }

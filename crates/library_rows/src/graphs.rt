@@ -1,10 +1,14 @@
 //! Bare graphs: lines, edges, cuts and contracted edges.
-ghost use Rattle.std.specs.Prelude.{◌≡◌, ◌<◌, IfOk, IfSome, true};
+ghost use Rattle.std.specs.Prelude.{◌≡◌, ◌<◌, ◌≤◌, IfSome, true};
 ghost use Rattle.graph6_text.specs.Graphs.{has_edge};
+ghost use Rattle.conn_parts.specs.GraphLists.{graph_lists as lists_of_graph};
+ghost use Rattle.convex_peeling.specs.Polyhedral.{IsThreeConnected};
 
 use crate::cuts::{put_pair, put_vertex};
-use crate::refusal::Refusal;
-use crate::text::{pair, part, put_flag};
+use crate::refusal::{tell_line_fault, tell_no_memory};
+use crate::text::{pair, part, put, put_flag, put_letter, put_number, put_numbers};
+use crate::{searches, witnesses};
+use conn_parts::Parts;
 use conn_parts::graph_cuts::{graph_components, graph_cut_vertex, graph_separating_pair};
 use embed_witnesses::contracted_graphs::contract;
 use embed_witnesses::graph_contractions::{contractible_edge, is_three_connected};
@@ -12,63 +16,35 @@ use graph6_text::{Graph, after_graph_header, read_line, write_line};
 use map_lists::{Ends, VertexId};
 use std::alloc::{AllocError, Global};
 
-/// The graph of a line.
-pub fn graph_of(alloc: Global, text: &str) -> Result<Graph, Refusal> {
-    Ok(read_line(alloc, text.as_bytes())?)
-}
-
-/// The graph of a line, which has a vertex.
-pub fn some_graph(alloc: Global, text: &str) -> Result<Graph, Refusal>
-    ensures { IfOk result (λ graph. 0 < graph.n) }
-{
-    let graph = graph_of(alloc, text)?;
-    if graph.n() == 0 {
-        return Err(Refusal::Row("vertex"));
-    }
-    Ok(graph)
-}
-
 /// The bytes of a text, with 10 for each `;`.
-pub fn lines_of(alloc: Global, text: &str) -> Result<Vec<u8>, AllocError> {
+pub fn lines_of(alloc: Global, text: &str) -> Vec<u8> {
     let mut bytes = Vec::new(alloc);
     for byte in text.as_bytes() {
-        bytes.push(if *byte == b';' { 10 } else { *byte })?;
+        let _ = bytes.push(if *byte == b';' { 10 } else { *byte });
     }
-    Ok(bytes)
+    bytes
 }
 
-/// Bytes as a text, with `;` for the end of a line.
-pub fn put_bytes(bytes: &[u8], out: &mut String) -> Result<(), AllocError> {
+/// Writes bytes as a text, with `;` for the end of a line.
+pub fn put_bytes(bytes: &[u8], out: &mut String) {
     for byte in bytes {
-        out.push(if *byte == 10 { ';' } else { char::from(*byte) })?;
+        put_letter(if *byte == 10 { ';' } else { char::from(*byte) }, out);
     }
-    Ok(())
 }
 
 // The line of a graph.
-fn put_line(alloc: Global, graph: &Graph, out: &mut String) -> Result<(), AllocError> {
+fn put_line(alloc: Global, graph: &Graph, out: &mut String) {
     let mut bytes = Vec::new(alloc);
-    write_line(graph, &mut bytes)?;
-    put_bytes(&bytes, out)
+    let _ = write_line(graph, &mut bytes);
+    put_bytes(&bytes, out);
 }
 
-// A line that is read and written.
-fn line(alloc: Global, args: &[&str], out: &mut String) -> Result<(), Refusal> {
-    let graph = graph_of(alloc, part(args, 0))?;
-    Ok(put_line(alloc, &graph, out)?)
-}
-
-// Whether two vertices are an edge.
-fn has(alloc: Global, args: &[&str], out: &mut String) -> Result<(), Refusal> {
-    let graph = graph_of(alloc, part(args, 0))?;
-    let (u, v) = pair(part(args, 1));
-    Ok(put_flag(graph.has(VertexId(u), VertexId(v)), out)?)
-}
-
-// The length of a header.
-fn header(alloc: Global, args: &[&str], out: &mut String) -> Result<(), Refusal> {
-    let bytes = lines_of(alloc, part(args, 0))?;
-    Ok(write!(out, "{}", after_graph_header(&bytes))?)
+// The line of a graph that a call gives.
+fn put_graph(alloc: Global, graph: Result<Graph, AllocError>, out: &mut String) {
+    match graph {
+        Ok(graph) => put_line(alloc, &graph, out),
+        Err(_) => tell_no_memory(out),
+    }
 }
 
 /// The edge between two vertices, if it is one of a graph.
@@ -87,41 +63,67 @@ pub fn edge_of(graph: &Graph, text: &str) -> Option<Ends>
 }
 
 // The graph with an edge contracted.
-fn contracted(alloc: Global, args: &[&str], out: &mut String) -> Result<(), Refusal> {
-    let graph = graph_of(alloc, part(args, 0))?;
-    match edge_of(&graph, part(args, 1)) {
-        Some(e) => Ok(put_line(alloc, &contract(alloc, &graph, e)?, out)?),
-        None => Err(Refusal::Row("edge")),
+fn contracted(alloc: Global, graph: &Graph, text: &str, out: &mut String) {
+    match edge_of(graph, text) {
+        Some(e) => put_graph(alloc, contract(alloc, graph, e), out),
+        None => {}
     }
+}
+
+// Whether two vertices are an edge.
+fn has(graph: &Graph, (u, v): (u16, u16), out: &mut String) {
+    put_flag(graph.has(VertexId(u), VertexId(v)), out);
 }
 
 // Whether a graph has more than three vertices and no two of them cut it.
-fn three(alloc: Global, args: &[&str], out: &mut String) -> Result<(), Refusal> {
-    let graph = some_graph(alloc, part(args, 0))?;
-    Ok(put_flag(is_three_connected(alloc, &graph)?, out)?)
+fn three(alloc: Global, graph: &Graph, out: &mut String)
+    requires { 0 < graph.now.n }
+{
+    match is_three_connected(alloc, graph) {
+        Ok(three) => put_flag(three, out),
+        Err(_) => tell_no_memory(out),
+    }
 }
 
 // The least edge that can be contracted.
-fn contractible(alloc: Global, args: &[&str], out: &mut String) -> Result<(), Refusal> {
-    let graph = some_graph(alloc, part(args, 0))?;
-    if graph.n() < 5 || !is_three_connected(alloc, &graph)? {
-        return Err(Refusal::Row("such edge"));
+fn put_contractible(alloc: Global, graph: &Graph, out: &mut String)
+    requires five { 5 ≤ graph.now.n }
+    requires three { IsThreeConnected (lists_of_graph graph.now) }
+{
+    match contractible_edge(alloc, graph) {
+        Ok(e) => put_numbers(&[e.a.0, e.b.0], out),
+        Err(_) => tell_no_memory(out),
     }
-    let e = contractible_edge(alloc, &graph)?;
-    Ok(write!(out, "{} {}", e.a.0, e.b.0)?)
+}
+
+// The same, if the graph is three-connected and has five vertices.
+fn contractible(alloc: Global, graph: &Graph, out: &mut String) -> Result<(), AllocError>
+    requires { 0 < graph.now.n }
+{
+    let three = is_three_connected(alloc, graph)?;
+    if three && graph.n() >= 5 {
+        put_contractible(alloc, graph, out);
+    }
+    Ok(())
+}
+
+// The number of components that a call gives.
+fn put_components(found: Result<Parts, AllocError>, out: &mut String) {
+    match found {
+        Ok(parts) => put_number(u64::from(parts.count()), out),
+        Err(_) => tell_no_memory(out),
+    }
 }
 
 // The number of components, the least cut vertex and the least separating pair.
-fn cuts(alloc: Global, args: &[&str], out: &mut String) -> Result<(), Refusal> {
-    let graph = some_graph(alloc, part(args, 0))?;
-    write!(
-        out,
-        "{} components, ",
-        graph_components(alloc, &graph)?.count()
-    )?;
-    put_vertex(graph_cut_vertex(alloc, &graph)?, out)?;
-    out.push_str(", ")?;
-    Ok(put_pair(graph_separating_pair(alloc, &graph)?, out)?)
+fn cuts(alloc: Global, graph: &Graph, out: &mut String)
+    requires { 0 < graph.now.n }
+{
+    put_components(graph_components(alloc, graph), out);
+    put(" components, ", out);
+    put_vertex(graph_cut_vertex(alloc, graph), out);
+    put(", ", out);
+    put_pair(graph_separating_pair(alloc, graph), out);
 }
 
 // The graph of four vertices with the edges of a cycle.
@@ -143,18 +145,64 @@ fn two_edges(alloc: Global) -> Result<Graph, AllocError> {
     Graph::of_edges(alloc, 4, &edges)
 }
 
-/// The answer to a row on graphs.
-pub fn answer(alloc: Global, call: &str, args: &[&str], out: &mut String) -> Result<(), Refusal> {
+// The answer to a row on a graph that has a vertex.
+fn of_some(alloc: Global, call: &str, graph: &Graph, out: &mut String)
+    requires { 0 < graph.now.n }
+{
     match call {
-        "line" => line(alloc, args, out),
-        "has" => has(alloc, args, out),
-        "header" => header(alloc, args, out),
-        "cycle" => Ok(put_line(alloc, &cycle(alloc)?, out)?),
-        "two edges" => Ok(put_line(alloc, &two_edges(alloc)?, out)?),
-        "cuts" => cuts(alloc, args, out),
-        "contracted" => contracted(alloc, args, out),
-        "three-connected" => three(alloc, args, out),
-        "contractible" => contractible(alloc, args, out),
-        _ => Err(Refusal::Row("such call")),
+        "three-connected" => three(alloc, graph, out),
+        "contractible" => {
+            let _ = contractible(alloc, graph, out);
+        }
+        _ => cuts(alloc, graph, out),
+    }
+}
+
+// The answer to a row on a graph.
+fn of_graph(alloc: Global, call: &str, graph: &Graph, text: &str, out: &mut String) {
+    match call {
+        "line" => put_line(alloc, graph, out),
+        "has" => has(graph, pair(text), out),
+        "contracted" => contracted(alloc, graph, text, out),
+        _ if 0 < graph.n() => of_some(alloc, call, graph, out),
+        _ => {}
+    }
+}
+
+// The answer to a row on the graph of a line.
+fn of_line(
+    alloc: Global,
+    (family, call): (&str, &str),
+    graph: &Graph,
+    args: &[&str],
+    out: &mut String,
+) {
+    match family {
+        "graph" => of_graph(alloc, call, graph, part(args, 1), out),
+        "witness" => witnesses::answer(alloc, call, graph, args, out),
+        _ => searches::of_graph(alloc, call, graph, out),
+    }
+}
+
+/// The same, where the line may be none.
+pub fn over_line(alloc: Global, kind: (&str, &str), args: &[&str], out: &mut String) {
+    match read_line(alloc, part(args, 0).as_bytes()) {
+        Ok(graph) => of_line(alloc, kind, &graph, args, out),
+        Err(fault) => tell_line_fault(fault, out),
+    }
+}
+
+// The length of a header.
+fn put_header(alloc: Global, text: &str, out: &mut String) {
+    put_number(after_graph_header(&lines_of(alloc, text)) as u64, out);
+}
+
+/// The answer to a row on graphs.
+pub fn answer(alloc: Global, call: &str, args: &[&str], out: &mut String) {
+    match call {
+        "header" => put_header(alloc, part(args, 0), out),
+        "cycle" => put_graph(alloc, cycle(alloc), out),
+        "two edges" => put_graph(alloc, two_edges(alloc), out),
+        _ => over_line(alloc, ("graph", call), args, out),
     }
 }

@@ -1,129 +1,147 @@
 //! Lists as texts, and families of maps.
-ghost use Rattle.std.specs.Prelude.{◌<◌, length, IfOk};
+ghost use Rattle.std.specs.Prelude.{◌<◌, length, IfSome};
 
-use crate::refusal::Refusal;
-use crate::text::{number, numbers, part, put_numbers};
-use half_edges::Rotations;
+use crate::text::{halves, numbers, pair, put_gap, put_letter, put_number, put_numbers};
+use half_edges::{Counts, Rotations, VertexList};
 use map_gen::stacked;
-use std::alloc::{AllocError, Global};
+use std::alloc::Global;
 
 // Vertices with no edges.
-fn alone(alloc: Global, n: u16) -> Result<Rotations, AllocError> {
-    let mut lists = Rotations::new(alloc);
+fn alone(n: u16, lists: &mut Rotations) {
     for _ in 0..n {
-        lists.open()?;
+        let _ = lists.open();
     }
-    Ok(lists)
 }
 
 // A path along the numbers.
-fn path(alloc: Global, n: u16) -> Result<Rotations, AllocError> {
-    let mut lists = Rotations::new(alloc);
+fn path(n: u16, lists: &mut Rotations) {
     for v in 0..n {
-        if v == 0 && n > 1 {
-            lists.push(&[1])?;
-        } else if v == 0 {
-            lists.open()?;
-        } else if v + 1 == n {
-            lists.push(&[v - 1])?;
+        let (before, after) = (v.wrapping_sub(1), v.wrapping_add(1));
+        let _ = if 0 < v && after < n {
+            lists.push(&[before, after])
+        } else if 0 < v {
+            lists.push(&[before])
+        } else if after < n {
+            lists.push(&[after])
         } else {
-            lists.push(&[v - 1, v + 1])?;
-        }
+            lists.open()
+        };
     }
-    Ok(lists)
+}
+
+// The numbers before and after one on a rim of those from a first one up to n.
+fn beside(first: u16, n: u16, v: u16) -> (u16, u16) {
+    let before = if v == first { n } else { v };
+    let after = v.wrapping_add(1);
+    (
+        before.wrapping_sub(1),
+        if after == n { first } else { after },
+    )
 }
 
 // A cycle along the numbers.
-fn cycle(alloc: Global, n: u16) -> Result<Rotations, AllocError> {
-    let mut lists = Rotations::new(alloc);
+fn cycle(n: u16, lists: &mut Rotations) {
     for v in 0..n {
-        let before = if v == 0 { n - 1 } else { v - 1 };
-        let after = if v + 1 == n { 0 } else { v + 1 };
-        lists.push(&[after, before])?;
+        let (before, after) = beside(0, n, v);
+        let _ = lists.push(&[after, before]);
     }
-    Ok(lists)
 }
 
-// A star whose middle is vertex 0, or a wheel where it has a rim.
-fn star(alloc: Global, n: u16, rim: bool) -> Result<Rotations, AllocError> {
+// The numbers from 1 up to n.
+fn middle(alloc: Global, n: u16) -> Vec<u16> {
     let mut middle = Vec::new(alloc);
     for v in 1..n {
-        middle.push(v)?;
+        let _ = middle.push(v);
     }
-    let mut lists = Rotations::new(alloc);
-    lists.push(&middle)?;
+    middle
+}
+
+// The vertices of a star around its middle, of which each has so many of its neighbours: 1, or 3 on the rim of a wheel.
+fn around(n: u16, most: usize, lists: &mut Rotations)
+    requires { most < 4 }
+{
     for v in 1..n {
-        let before = if v == 1 { n - 1 } else { v - 1 };
-        let after = if v + 1 == n { 1 } else { v + 1 };
-        if rim {
-            lists.push(&[0, before, after])?;
-        } else {
-            lists.push(&[0])?;
-        }
+        let (before, after) = beside(1, n, v);
+        let _ = lists.push(&[0, before, after][..most]);
     }
-    Ok(lists)
+}
+
+// A star whose middle is vertex 0, or a wheel.
+fn star(alloc: Global, n: u16, most: usize, lists: &mut Rotations)
+    requires { most < 4 }
+{
+    let _ = lists.push(&middle(alloc, n));
+    around(n, most, lists);
 }
 
 // Vertices that are put into faces of a triangle, one after another, by a number.
-fn stack(alloc: Global, n: u16, number: u16) -> Result<Rotations, Refusal> {
-    if n < 3 || 4095 < n {
-        return Err(Refusal::Row("size"));
-    }
-    Ok(stacked(alloc, n, u32::from(number))?)
-}
-
-// The lists of a family.
-fn made(alloc: Global, words: &[&str]) -> Result<Rotations, Refusal> {
-    let n = number(part(words, 1));
-    match part(words, 0) {
-        "alone" => Ok(alone(alloc, n)?),
-        "path" => Ok(path(alloc, n)?),
-        "cycle" => Ok(cycle(alloc, n)?),
-        "star" => Ok(star(alloc, n, false)?),
-        "wheel" => Ok(star(alloc, n, true)?),
-        "stacked" => stack(alloc, n, number(part(words, 2))),
-        _ => Err(Refusal::Row("such family")),
+fn stack(alloc: Global, n: u16, number: u16, lists: &mut Rotations) {
+    if 3 <= n && n <= 4095 {
+        match stacked(alloc, n, u32::from(number)) {
+            Ok(made) => *lists = made,
+            Err(_) => {}
+        }
     }
 }
 
 // The lists between the semicolons.
-fn written(alloc: Global, text: &str) -> Result<Rotations, AllocError> {
-    let mut lists = Rotations::new(alloc);
+fn written(alloc: Global, text: &str, lists: &mut Rotations) {
     for list in text.split(';') {
-        lists.push(&numbers(alloc, list)?)?;
+        let _ = lists.push(&numbers(alloc, list));
     }
-    Ok(lists)
 }
 
 // The lists that a text gives.
-fn given(alloc: Global, text: &str) -> Result<Rotations, Refusal> {
-    if text.starts_with(|c: char| c.is_ascii_alphabetic()) {
-        let words: Vec<&str> = text.split(' ').collect(alloc)?;
-        made(alloc, &words)
-    } else {
-        Ok(written(alloc, text)?)
+fn fill(alloc: Global, text: &str, lists: &mut Rotations) {
+    let (family, size) = halves(text);
+    let (n, number) = pair(size);
+    match family {
+        "alone" => alone(n, lists),
+        "path" => path(n, lists),
+        "cycle" => cycle(n, lists),
+        "star" => star(alloc, n, 1, lists),
+        "wheel" => star(alloc, n, 3, lists),
+        "stacked" => stack(alloc, n, number, lists),
+        _ => written(alloc, text, lists),
     }
 }
 
 /// The lists that a text gives, from 1 to 4095.
-pub fn lists_of(alloc: Global, text: &str) -> Result<Rotations, Refusal>
-    ensures some { IfOk result (λ lists. 0 < length lists) }
-    ensures few { IfOk result (λ lists. length lists < 4096) }
+pub fn lists_of(alloc: Global, text: &str) -> Option<Rotations>
+    ensures some { IfSome result (λ lists. 0 < length lists) }
+    ensures few { IfSome result (λ lists. length lists < 4096) }
 {
-    let lists = given(alloc, text)?;
+    let mut lists = Rotations::new(alloc);
+    fill(alloc, text, &mut lists);
     if lists.len() == 0 || 4095 < lists.len() {
-        return Err(Refusal::Row("lists"));
+        None
+    } else {
+        Some(lists)
     }
-    Ok(lists)
 }
 
-/// Lists as a text.
-pub fn put_lists(lists: &Rotations, out: &mut String) -> Result<(), AllocError> {
+/// Writes lists as a text.
+pub fn put_lists(lists: &Rotations, out: &mut String) {
     for v in 0..lists.len() {
         if 0 < v {
-            out.push(';')?;
+            put_letter(';', out);
         }
-        put_numbers(lists.list(v), out)?;
+        put_numbers(lists.list(v), out);
     }
-    Ok(())
+}
+
+/// Writes the first vertices, at most so many, with spaces between them.
+pub fn put_vertices(list: &VertexList, most: usize, out: &mut String) {
+    for i in 0..list.len().min(most) {
+        put_gap(i, out);
+        put_number(u64::from(list.get(i).0), out);
+    }
+}
+
+/// Writes numbers with spaces between them.
+pub fn put_counts(list: &Counts, out: &mut String) {
+    for i in 0..list.len() {
+        put_gap(i, out);
+        put_number(u64::from(list.get(i)), out);
+    }
 }

@@ -4,6 +4,12 @@
 //!
 //! Vertices are numbered from 0. A map is written as its lists with `;` between them, as `1 2;2 0;0 1`, or as the
 //! name of a family and a number of vertices, as `wheel 300`.
+//!
+//! What there is no memory for is left out of an answer, and so is all of a row that asks for nothing: the line then
+//! differs from what is wanted.
+//!
+//! A check of these functions costs most where owned values stand beside one another and where a `?` ends one early.
+//! So each owned value is made in one function, which lends it to the next, and writing is a call that cannot fail.
 #![tactic(auto)]
 
 mod bars;
@@ -25,6 +31,7 @@ mod rows;
 mod searches;
 mod text;
 mod texts;
+mod trees;
 mod verdicts;
 mod witnesses;
 mod woods;
@@ -34,7 +41,7 @@ use std::io::{self, Write};
 fn main(rt: HostRuntime) -> io::Result<()> {
     let mut out = rt.stdout();
     for line in rt.lines(rt.alloc()) {
-        let told = rows::answer(rt.alloc(), line?.as_str())?;
+        let told = rows::answer(rt.alloc(), line?.as_str());
         out.write_all(told.as_bytes())?;
     }
     out.flush()

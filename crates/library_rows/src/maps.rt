@@ -2,17 +2,11 @@
 ghost use Rattle.std.specs.Prelude.{◌≡◌, IsTrue, IfSome, Contains, Some, true};
 ghost use Rattle.half_edges.specs.Map.{IsLive, dart_at};
 
-use crate::lists::{lists_of, put_lists};
-use crate::refusal::Refusal;
-use crate::text::{number, pair, part, put_flag};
-use half_edges::{DartId, HalfMap, VertexId};
+use crate::lists::put_lists;
+use crate::refusal::tell_no_memory;
+use crate::text::{number, pair, part, put, put_flag, put_number, put_one};
+use half_edges::{DartId, HalfMap, Rotations, VertexId};
 use std::alloc::{AllocError, Global};
-
-/// The map of the lists of a text.
-pub fn map_of(alloc: Global, text: &str) -> Result<HalfMap, Refusal> {
-    let lists = lists_of(alloc, text)?;
-    Ok(HalfMap::from_rotations(alloc, &lists)?)
-}
 
 /// The dart of a map from one vertex to another.
 pub fn dart_between(map: &HalfMap, u: u16, v: u16) -> Option<DartId>
@@ -25,85 +19,78 @@ pub fn dart_between(map: &HalfMap, u: u16, v: u16) -> Option<DartId>
     }
 }
 
-/// A map by its numbers of vertices and edges, its spare room, and its lists.
-pub fn put_map(alloc: Global, map: &HalfMap, out: &mut String) -> Result<(), AllocError> {
-    write!(
-        out,
-        "n {} m {} spare {} lists ",
-        map.n(),
-        map.m(),
-        map.spare()
-    )?;
-    put_lists(&map.rotations(alloc)?, out)
+// Lists that a call gives.
+fn put_given(lists: Result<Rotations, AllocError>, out: &mut String) {
+    match lists {
+        Ok(lists) => put_lists(&lists, out),
+        Err(_) => tell_no_memory(out),
+    }
 }
 
-/// A dart by its ends.
-pub fn put_dart(map: &HalfMap, d: DartId, out: &mut String) -> Result<(), AllocError> {
+// A map by its numbers of vertices and edges, its spare room, and its lists.
+fn put_map(alloc: Global, map: &HalfMap, out: &mut String) {
+    put_one("n", u64::from(map.n()), out);
+    put_one(" m", u64::from(map.m()), out);
+    put_one(" spare", u64::from(map.spare()), out);
+    put(" lists ", out);
+    put_given(map.rotations(alloc), out);
+}
+
+// A map that a call gives.
+fn put_made(alloc: Global, made: Result<HalfMap, AllocError>, out: &mut String) {
+    match made {
+        Ok(map) => put_map(alloc, &map, out),
+        Err(_) => tell_no_memory(out),
+    }
+}
+
+/// A dart by its ends, behind a text.
+pub fn put_dart(text: &str, map: &HalfMap, d: DartId, out: &mut String) {
+    put(text, out);
     if map.is_live(d) {
-        write!(out, "{} {}", map.tail(d).0, map.head(d).0)
+        put_number(u64::from(map.tail(d).0), out);
+        put_one("", u64::from(map.head(d).0), out);
     } else {
-        out.push_str("none")
+        put("none", out);
     }
 }
 
 // The steps from a dart.
-fn put_steps(map: &HalfMap, d: DartId, out: &mut String) -> Result<(), AllocError>
+fn put_steps(map: &HalfMap, d: DartId, out: &mut String)
     requires { IsLive map.now d.0 }
 {
-    put_dart(map, d, out)?;
-    out.push_str(", twin ")?;
-    put_dart(map, map.twin(d), out)?;
-    out.push_str(", next ")?;
-    put_dart(map, map.next(d), out)?;
-    out.push_str(", prev ")?;
-    put_dart(map, map.prev(d), out)?;
-    out.push_str(", along the face ")?;
-    put_dart(map, map.face_step(d), out)
+    put_dart("", map, d, out);
+    put_dart(", twin ", map, map.twin(d), out);
+    put_dart(", next ", map, map.next(d), out);
+    put_dart(", prev ", map, map.prev(d), out);
+    put_dart(", along the face ", map, map.face_step(d), out);
 }
 
-// The dart between two vertices, and the steps from it.
-fn dart(alloc: Global, args: &[&str], out: &mut String) -> Result<(), Refusal> {
-    let map = map_of(alloc, part(args, 0))?;
-    let (u, v) = pair(part(args, 1));
-    match dart_between(&map, u, v) {
-        Some(d) if map.is_live(d) => Ok(put_steps(&map, d, out)?),
-        _ => Ok(out.push_str("none")?),
+// The dart between two vertices, if there is one, and the steps from it.
+fn put_between(map: &HalfMap, (u, v): (u16, u16), out: &mut String) {
+    match dart_between(map, u, v) {
+        Some(d) if map.is_live(d) => put_steps(map, d, out),
+        _ => put("none", out),
     }
 }
 
 // The first dart of a vertex.
-fn first(alloc: Global, args: &[&str], out: &mut String) -> Result<(), Refusal> {
-    let map = map_of(alloc, part(args, 0))?;
-    let v = number(part(args, 1));
-    if v >= map.n() {
-        return Err(Refusal::Row("vertex"));
+fn put_first(map: &HalfMap, v: u16, out: &mut String) {
+    if v < map.n() {
+        match map.first_dart(VertexId(v)) {
+            Some(d) => put_dart("", map, d, out),
+            None => put("none", out),
+        }
     }
-    match map.first_dart(VertexId(v)) {
-        Some(d) => Ok(put_dart(&map, d, out)?),
-        None => Ok(out.push_str("none")?),
-    }
-}
-
-// Whether an id is that of a dart.
-fn live(alloc: Global, args: &[&str], out: &mut String) -> Result<(), Refusal> {
-    let map = map_of(alloc, part(args, 0))?;
-    let id = u32::from(number(part(args, 1)));
-    Ok(put_flag(map.is_live(DartId(id)), out)?)
-}
-
-// The copy of a map.
-fn copy(alloc: Global, args: &[&str], out: &mut String) -> Result<(), Refusal> {
-    let map = map_of(alloc, part(args, 0))?;
-    Ok(put_map(alloc, &map.copy(alloc)?, out)?)
 }
 
 // The flags that a text names, `yes` each or anything else.
-fn flags_of(alloc: Global, text: &str) -> Result<Vec<bool>, AllocError> {
+fn flags_of(alloc: Global, text: &str) -> Vec<bool> {
     let mut flags = Vec::new(alloc);
     for word in text.split_whitespace() {
-        flags.push(word == "yes")?;
+        let _ = flags.push(word == "yes");
     }
-    Ok(flags)
+    flags
 }
 
 // Whether some flag is set.
@@ -114,37 +101,36 @@ fn is_some_set(flags: &[bool]) -> bool
 }
 
 // The part of a map between the vertices that are kept.
-fn induced(alloc: Global, args: &[&str], out: &mut String) -> Result<(), Refusal> {
-    let map = map_of(alloc, part(args, 0))?;
-    let keep = flags_of(alloc, part(args, 1))?;
-    if keep.len() != usize::from(map.n()) || !is_some_set(&keep) {
-        return Err(Refusal::Row("flags"));
+fn put_induced(alloc: Global, map: &HalfMap, keep: &[bool], out: &mut String) {
+    if keep.len() == usize::from(map.n()) && is_some_set(keep) {
+        put_made(alloc, map.induced(alloc, keep), out);
     }
-    Ok(put_map(alloc, &map.induced(alloc, &keep)?, out)?)
-}
-
-// The map itself.
-fn whole(alloc: Global, args: &[&str], out: &mut String) -> Result<(), Refusal> {
-    let map = map_of(alloc, part(args, 0))?;
-    Ok(put_map(alloc, &map, out)?)
 }
 
 // How many lists and entries there are.
-fn size(alloc: Global, args: &[&str], out: &mut String) -> Result<(), Refusal> {
-    let lists = lists_of(alloc, part(args, 0))?;
-    Ok(write!(out, "{} lists, {} entries", lists.len(), lists.total())?)
+fn put_size(lists: &Rotations, out: &mut String) {
+    put_number(lists.len() as u64, out);
+    put_one(" lists,", lists.total() as u64, out);
+    put(" entries", out);
 }
 
 /// The answer to a row on a map.
-pub fn answer(alloc: Global, call: &str, args: &[&str], out: &mut String) -> Result<(), Refusal> {
+pub fn answer(
+    alloc: Global,
+    call: &str,
+    lists: &Rotations,
+    map: &HalfMap,
+    args: &[&str],
+    out: &mut String,
+) {
+    let text = part(args, 1);
     match call {
-        "lists" => whole(alloc, args, out),
-        "size" => size(alloc, args, out),
-        "dart" => dart(alloc, args, out),
-        "first" => first(alloc, args, out),
-        "live" => live(alloc, args, out),
-        "copy" => copy(alloc, args, out),
-        "induced" => induced(alloc, args, out),
-        _ => Err(Refusal::Row("such call")),
+        "lists" => put_map(alloc, map, out),
+        "size" => put_size(lists, out),
+        "dart" => put_between(map, pair(text), out),
+        "first" => put_first(map, number(text), out),
+        "live" => put_flag(map.is_live(DartId(u32::from(number(text)))), out),
+        "copy" => put_made(alloc, map.copy(alloc), out),
+        _ => put_induced(alloc, map, &flags_of(alloc, text), out),
     }
 }

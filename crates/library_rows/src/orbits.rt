@@ -1,107 +1,113 @@
 //! Permutations and their orbits.
-ghost use Rattle.std.specs.Prelude.{◌<◌, length, IfOk};
+ghost use Rattle.std.specs.Prelude.{◌<◌, length};
 
-use crate::refusal::Refusal;
-use crate::text::{number, pair, part, put_flag};
+use crate::refusal::tell_no_memory;
+use crate::text::{number, pair, part, put, put_flag, put_letter, put_number, put_one};
 use pg_perm::{Perm, PermFault};
 use std::alloc::{AllocError, Global};
 
-// A permutation by its length, its images and the number of its orbits.
-fn put_perm(alloc: Global, perm: &Perm, out: &mut String) -> Result<(), AllocError> {
-    write!(out, "{} numbers,", perm.len())?;
-    for i in 0..perm.len() {
-        write!(out, " {}", perm.image(i))?;
+// The number of orbits that a call gives.
+fn put_orbit_count(count: Result<u32, AllocError>, out: &mut String) {
+    match count {
+        Ok(count) => put_one(",", u64::from(count), out),
+        Err(_) => tell_no_memory(out),
     }
-    write!(out, ", {} orbits", perm.orbit_count(alloc)?)
+    put(" orbits", out);
+}
+
+// A permutation by its length, its images and the number of its orbits.
+fn put_perm(alloc: Global, perm: &Perm, out: &mut String) {
+    put_number(u64::from(perm.len()), out);
+    put(" numbers,", out);
+    for i in 0..perm.len() {
+        put_one("", u64::from(perm.image(i)), out);
+    }
+    put_orbit_count(perm.orbit_count(alloc), out);
 }
 
 // The images that a text names.
-fn images_in(alloc: Global, text: &str) -> Result<Vec<u32>, AllocError> {
+fn images_in(alloc: Global, text: &str) -> Vec<u32> {
     let mut images: Vec<u32> = Vec::new(alloc);
     for word in text.split_whitespace() {
-        images.push(u32::from(number(word)))?;
+        let _ = images.push(u32::from(number(word)));
     }
-    Ok(images)
-}
-
-// The same, if they are few.
-fn images_of(alloc: Global, text: &str) -> Result<Vec<u32>, Refusal>
-    ensures { IfOk result (λ images. length images.items < 65536) }
-{
-    let images = images_in(alloc, text)?;
-    if images.len() < 65536 {
-        Ok(images)
-    } else {
-        Err(Refusal::Row("few images"))
-    }
+    images
 }
 
 // The permutation that leaves each number where it is.
-fn identity(alloc: Global, args: &[&str], out: &mut String) -> Result<(), Refusal> {
-    let perm = Perm::identity(alloc, u32::from(number(part(args, 0))))?;
-    Ok(put_perm(alloc, &perm, out)?)
+fn identity(alloc: Global, count: u16, out: &mut String) {
+    match Perm::identity(alloc, u32::from(count)) {
+        Ok(perm) => put_perm(alloc, &perm, out),
+        Err(_) => tell_no_memory(out),
+    }
 }
 
-fn put_fault(fault: PermFault, out: &mut String) -> Result<(), AllocError> {
+fn put_fault(fault: PermFault, out: &mut String) {
     match fault {
-        PermFault::OutOfRange(i) => write!(out, "OutOfRange {i}"),
-        PermFault::Repeated(i, j) => write!(out, "Repeated {i} {j}"),
-        PermFault::NoMemory => out.push_str("NoMemory"),
+        PermFault::OutOfRange(i) => put_one("OutOfRange", u64::from(i), out),
+        PermFault::Repeated(i, j) => {
+            put_one("Repeated", u64::from(i), out);
+            put_one("", u64::from(j), out);
+        }
+        PermFault::NoMemory => tell_no_memory(out),
     }
 }
 
-// Whether pairs of numbers lie in one orbit.
-fn put_same(perm: &Perm, text: &str, out: &mut String) -> Result<(), AllocError> {
-    for pair_text in text.split(';') {
-        let (a, b) = pair(pair_text);
-        out.push(' ')?;
-        if u32::from(a) < perm.len() && u32::from(b) < perm.len() {
-            put_flag(perm.same_orbit(u32::from(a), u32::from(b)), out)?;
-        }
+// Whether two numbers lie in one orbit.
+fn put_same(perm: &Perm, (a, b): (u16, u16), out: &mut String) {
+    put_letter(' ', out);
+    if u32::from(a) < perm.len() && u32::from(b) < perm.len() {
+        put_flag(perm.same_orbit(u32::from(a), u32::from(b)), out);
     }
-    Ok(())
+}
+
+// A permutation, and whether pairs of numbers lie in one orbit.
+fn put_orbits(alloc: Global, perm: &Perm, pairs: &str, out: &mut String) {
+    put_perm(alloc, perm, out);
+    for text in pairs.split(';') {
+        put_same(perm, pair(text), out);
+    }
 }
 
 // Exchanges two images.
-fn swap(perm: &mut Perm, text: &str) {
-    let (a, b) = pair(text);
+fn swap(perm: &mut Perm, (a, b): (u16, u16)) {
     if u32::from(a) < perm.len() && u32::from(b) < perm.len() {
         perm.swap_images(u32::from(a), u32::from(b));
     }
 }
 
 // A permutation and whether pairs lie in one orbit; and the same after an exchange of two images, if one is named.
-fn put_orbits(
-    alloc: Global,
-    perm: &mut Perm,
-    args: &[&str],
-    out: &mut String,
-) -> Result<(), AllocError> {
-    put_perm(alloc, perm, out)?;
-    put_same(perm, part(args, 1), out)?;
+fn put_both(alloc: Global, perm: &mut Perm, args: &[&str], out: &mut String) {
+    put_orbits(alloc, perm, part(args, 1), out);
     if args.len() > 2 {
-        swap(perm, part(args, 2));
-        out.push_str("; ")?;
-        put_perm(alloc, perm, out)?;
-        put_same(perm, part(args, 3), out)?;
+        swap(perm, pair(part(args, 2)));
+        put("; ", out);
+        put_orbits(alloc, perm, part(args, 3), out);
     }
-    Ok(())
 }
 
-// The orbits of a permutation, or the fault of its images.
-fn orbits(alloc: Global, args: &[&str], out: &mut String) -> Result<(), Refusal> {
-    let images = images_of(alloc, part(args, 0))?;
-    match Perm::of_images(alloc, &images) {
-        Ok(mut perm) => Ok(put_orbits(alloc, &mut perm, args, out)?),
-        Err(fault) => Ok(put_fault(fault, out)?),
+// The orbits of the permutation with these images, or the fault of the images.
+fn orbits(alloc: Global, images: &[u32], args: &[&str], out: &mut String)
+    requires { length images.now < 65536 }
+{
+    match Perm::of_images(alloc, images) {
+        Ok(mut perm) => put_both(alloc, &mut perm, args, out),
+        Err(fault) => put_fault(fault, out),
+    }
+}
+
+// The same, where the images are few.
+fn few_orbits(alloc: Global, images: &[u32], args: &[&str], out: &mut String) {
+    if images.len() < 65536 {
+        orbits(alloc, images, args, out);
     }
 }
 
 /// The answer to a row on permutations.
-pub fn answer(alloc: Global, call: &str, args: &[&str], out: &mut String) -> Result<(), Refusal> {
+pub fn answer(alloc: Global, call: &str, args: &[&str], out: &mut String) {
+    let text = part(args, 0);
     match call {
-        "identity" => identity(alloc, args, out),
-        "orbits" => orbits(alloc, args, out),
-        _ => Err(Refusal::Row("such call")),
+        "identity" => identity(alloc, number(text), out),
+        _ => few_orbits(alloc, &images_in(alloc, text), args, out),
     }
 }

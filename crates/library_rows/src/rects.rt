@@ -1,37 +1,23 @@
 //! Edge labellings of maps that have rectangular duals.
-ghost use Rattle.std.specs.Prelude.{IfOk};
+ghost use Rattle.std.specs.Prelude.{◌<◌, length, IfSome};
 ghost use Rattle.rect_class.specs.RectMaps.{IsRectMap};
 
-use crate::lists::lists_of;
-use crate::refusal::Refusal;
-use crate::text::part;
-use half_edges::{HalfMap, VertexId};
+use crate::refusal::tell_no_memory;
+use crate::text::{put, put_letter, put_numbers};
+use half_edges::{HalfMap, Rotations, VertexId};
 use rect_class::rect_map;
 use rect_dual::labels::{Label, Labelling, edge_labels};
 use std::alloc::{AllocError, Global};
 
 // The map of lists, if it is of the class.
-fn block_of(alloc: Global, text: &str) -> Result<HalfMap, Refusal>
-    ensures { IfOk result (λ map. IsRectMap map.lists) }
+fn block_of(alloc: Global, lists: &Rotations) -> Option<HalfMap>
+    requires some { 0 < length lists.now }
+    requires few { length lists.now < 4096 }
+    ensures { IfSome result (λ map. IsRectMap map.lists) }
 {
-    let lists = lists_of(alloc, text)?;
-    match rect_map(alloc, &lists) {
-        Ok(map) => Ok(map),
-        Err(_) => Err(Refusal::Row("map of the class")),
-    }
-}
-
-// The labelling of a map for the dart from vertex 0 to the first of its list.
-fn labelling_of(alloc: Global, map: &HalfMap) -> Result<Labelling, Refusal>
-    requires { IsRectMap map.now.lists }
-{
-    rect_class::biconnected_are_rect_maps();
-    if map.n() == 0 {
-        return Err(Refusal::Row("vertex"));
-    }
-    match map.first_dart(VertexId(0)) {
-        Some(base) => Ok(edge_labels(alloc, map, base)?),
-        None => Err(Refusal::Row("base")),
+    match rect_map(alloc, lists) {
+        Ok(map) => Some(map),
+        Err(_) => None,
     }
 }
 
@@ -46,43 +32,75 @@ fn name_of(label: Label) -> &'static str {
 }
 
 // The label of the dart between two vertices, where there is one.
-fn label_between(map: &HalfMap, labels: &Labelling, u: u16, v: u16) -> Option<&'static str> {
+fn label_between(map: &HalfMap, labels: &Labelling, u: u16, v: u16) -> Option<Label> {
     if u >= map.n() || v >= map.n() {
         return None;
     }
     match map.dart_of(VertexId(u), VertexId(v)) {
-        Some(d) if (d.0 as usize) < labels.len() => Some(name_of(labels.of(d))),
+        Some(d) if (d.0 as usize) < labels.len() => Some(labels.of(d)),
         _ => None,
     }
 }
 
-// The labels of both darts of an edge, where there is one.
-fn put_edge(
-    map: &HalfMap,
-    labels: &Labelling,
-    u: u16,
-    v: u16,
-    out: &mut String,
-) -> Result<(), AllocError> {
-    match (
-        label_between(map, labels, u, v),
-        label_between(map, labels, v, u),
-    ) {
-        (Some(one), Some(other)) => write!(out, "{u} {v} {one} {other}; "),
-        _ => Ok(()),
+// The labels of both darts of an edge.
+fn put_labels(u: u16, v: u16, one: Label, other: Label, out: &mut String) {
+    put_numbers(&[u, v], out);
+    put_letter(' ', out);
+    put(name_of(one), out);
+    put_letter(' ', out);
+    put(name_of(other), out);
+    put("; ", out);
+}
+
+// The same, where there is one.
+fn put_edge(map: &HalfMap, labels: &Labelling, u: u16, v: u16, out: &mut String) {
+    if let Some(one) = label_between(map, labels, u, v) {
+        if let Some(other) = label_between(map, labels, v, u) {
+            put_labels(u, v, one, other, out);
+        }
     }
 }
 
-/// The labels of all edges, each at its lesser end and at its greater.
-pub fn answer(alloc: Global, args: &[&str], out: &mut String) -> Result<(), Refusal> {
-    let map = block_of(alloc, part(args, 0))?;
-    let labels = labelling_of(alloc, &map)?;
+// The labels of all edges, each at its lesser end and at its greater.
+fn put_edges(map: &HalfMap, labels: &Labelling, out: &mut String) {
     for u in 0..map.n() {
         for v in 0..map.n() {
             if u < v {
-                put_edge(&map, &labels, u, v, out)?;
+                put_edge(map, labels, u, v, out);
             }
         }
     }
-    Ok(())
+}
+
+// The same, of a labelling that a call gives.
+fn put_labelling(map: &HalfMap, found: Result<Labelling, AllocError>, out: &mut String) {
+    match found {
+        Ok(labels) => put_edges(map, &labels, out),
+        Err(_) => tell_no_memory(out),
+    }
+}
+
+// The labelling of a map for the dart from vertex 0 to the first of its list.
+fn label(alloc: Global, map: &HalfMap, out: &mut String)
+    requires { IsRectMap map.now.lists }
+{
+    rect_class::biconnected_are_rect_maps();
+    if map.n() == 0 {
+        return;
+    }
+    match map.first_dart(VertexId(0)) {
+        Some(base) => put_labelling(map, edge_labels(alloc, map, base), out),
+        None => {}
+    }
+}
+
+/// The labels of the map of lists.
+pub fn answer(alloc: Global, lists: &Rotations, out: &mut String)
+    requires some { 0 < length lists.now }
+    requires few { length lists.now < 4096 }
+{
+    match block_of(alloc, lists) {
+        Some(map) => label(alloc, &map, out),
+        None => {}
+    }
 }

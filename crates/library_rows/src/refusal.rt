@@ -1,81 +1,49 @@
-//! Why a row gets no answer.
+//! Why a call gives no answer.
+use crate::text::{put, put_one, put_with};
 use graph6_text::G6Fault;
 use half_edges::MapFault;
-use refusals::{Refusal as Condition, Unserved};
-use std::alloc::AllocError;
-
-/// Why a row gets no answer.
-#[derive(Clone, Copy)]
-pub enum Refusal {
-    /// There was not enough memory.
-    NoMemory,
-    /// The record breaks this condition.
-    Record(Condition),
-    /// The line is no graph.
-    Line(G6Fault),
-    /// The row lacks this.
-    Row(&'static str),
-}
-
-impl From<AllocError> for Refusal {
-    fn from(_refused: AllocError) -> Refusal {
-        Refusal::NoMemory
-    }
-}
-
-impl From<Unserved> for Refusal {
-    fn from(unserved: Unserved) -> Refusal {
-        match unserved {
-            Unserved::Refused(condition) => Refusal::Record(condition),
-            Unserved::NoMemory => Refusal::NoMemory,
-        }
-    }
-}
-
-impl From<MapFault> for Refusal {
-    fn from(fault: MapFault) -> Refusal {
-        Refusal::from(Unserved::from(fault))
-    }
-}
-
-impl From<G6Fault> for Refusal {
-    fn from(fault: G6Fault) -> Refusal {
-        Refusal::Line(fault)
-    }
-}
+use refusals::{Refusal, Unserved};
 
 /// Tells a condition by its name and its numbers.
-pub fn tell_condition(condition: Condition, out: &mut String) -> Result<(), AllocError> {
+fn tell_condition(condition: Refusal, out: &mut String) {
     match condition {
-        Condition::OutOfRange(v, u) => write!(out, "OutOfRange {v} {u}"),
-        Condition::Loop(v) => write!(out, "Loop {v}"),
-        Condition::Repeated(v, u) => write!(out, "Repeated {v} {u}"),
-        Condition::OneSided(v, u) => write!(out, "OneSided {v} {u}"),
-        Condition::Small(n) => write!(out, "Small {n}"),
-        Condition::Genus(genus) => write!(out, "Genus {genus}"),
-        _ => out.push_str("another"),
+        Refusal::OutOfRange(v, u) => put_with("OutOfRange", &[v, u], out),
+        Refusal::Loop(v) => put_with("Loop", &[v], out),
+        Refusal::Repeated(v, u) => put_with("Repeated", &[v, u], out),
+        Refusal::OneSided(v, u) => put_with("OneSided", &[v, u], out),
+        Refusal::Small(n) => put_with("Small", &[n], out),
+        Refusal::Genus(genus) => put_one("Genus", u64::from(genus), out),
+        _ => put("another", out),
     }
 }
 
-/// Tells a fault of a line by its name and its numbers.
-pub fn tell_line_fault(fault: G6Fault, out: &mut String) -> Result<(), AllocError> {
+/// Tells that there was not enough memory.
+pub fn tell_no_memory(out: &mut String) {
+    put("NoMemory", out);
+}
+
+/// Tells why a job does not serve a record.
+pub fn tell_unserved(unserved: Unserved, out: &mut String) {
+    match unserved {
+        Unserved::Refused(condition) => tell_condition(condition, out),
+        Unserved::NoMemory => tell_no_memory(out),
+    }
+}
+
+/// Tells why lists are no map.
+pub fn tell_fault(fault: MapFault, out: &mut String) {
+    tell_unserved(Unserved::from(fault), out);
+}
+
+/// Tells why a line is no graph.
+pub fn tell_line_fault(fault: G6Fault, out: &mut String) {
     match fault {
-        G6Fault::BadByte(i) => write!(out, "BadByte {i}"),
-        G6Fault::LongCount => out.push_str("LongCount"),
-        G6Fault::TooMany(n) => write!(out, "TooMany {n}"),
-        G6Fault::ShortLine => out.push_str("ShortLine"),
-        G6Fault::ExtraByte(i) => write!(out, "ExtraByte {i}"),
-        G6Fault::Padding(i) => write!(out, "Padding {i}"),
-        G6Fault::NoMemory => out.push_str("NoMemory"),
-    }
-}
-
-/// Tells a refusal.
-pub fn tell(refusal: Refusal, out: &mut String) -> Result<(), AllocError> {
-    match refusal {
-        Refusal::NoMemory => out.push_str("NoMemory"),
-        Refusal::Record(condition) => tell_condition(condition, out),
-        Refusal::Line(fault) => tell_line_fault(fault, out),
-        Refusal::Row(lacks) => write!(out, "no {lacks}"),
+        G6Fault::BadByte(i) => put_one("BadByte", i as u64, out),
+        G6Fault::LongCount => put("LongCount", out),
+        G6Fault::TooMany(n) => put_one("TooMany", u64::from(n), out),
+        G6Fault::ShortLine => put("ShortLine", out),
+        G6Fault::ExtraByte(i) => put_one("ExtraByte", i as u64, out),
+        G6Fault::Padding(i) => put_one("Padding", i as u64, out),
+        G6Fault::NoMemory => tell_no_memory(out),
     }
 }

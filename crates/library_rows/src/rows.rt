@@ -1,70 +1,115 @@
 //! A row and its answer.
-use crate::refusal::{Refusal, tell};
-use crate::text::{behind, part};
-use crate::{
-    bars, completions, convex, counts, cuts, edits, graphs, maps, orbits, orders, points, records,
-    rects, searches, texts, verdicts, witnesses, woods,
-};
-use std::alloc::{AllocError, Global};
+ghost use Rattle.std.specs.Prelude.{◌<◌, length};
 
-// The answer to a row of a family on drawings.
-fn drawn(
+use crate::lists::lists_of;
+use crate::refusal::tell_fault;
+use crate::text::{behind, halves, number, part, put, put_letter};
+use crate::{
+    bars, convex, counts, cuts, edits, graphs, maps, orbits, orders, points, records, rects,
+    searches, texts, verdicts,
+};
+use half_edges::{HalfMap, Rotations};
+use std::alloc::Global;
+
+// The answer to a row on lists and their map.
+fn of_map(
     alloc: Global,
-    family: &str,
-    call: &str,
+    kind: (&str, &str),
+    lists: &Rotations,
+    map: &mut HalfMap,
     args: &[&str],
     out: &mut String,
-) -> Result<(), Refusal> {
-    match family {
-        "point" => points::answer(call, args, out),
-        "draw" => orders::answer(alloc, call, args, out),
-        "wood" => woods::answer(alloc, call, args, out),
-        "check" => verdicts::answer(alloc, call, args, out),
-        "bars" => bars::answer(alloc, call, args, out),
-        "text" => texts::answer(alloc, call, args, out),
-        "convex" => convex::answer(alloc, call, args, out),
-        "labels" => rects::answer(alloc, args, out),
-        _ => Err(Refusal::Row("such kind")),
+)
+    requires some { 0 < length lists.now }
+    requires few { length lists.now < 4096 }
+{
+    let call = kind.1;
+    match kind.0 {
+        "map" => maps::answer(alloc, call, lists, map, args, out),
+        "edits" => edits::answer(alloc, map, part(args, 1), out),
+        "count" => counts::answer(alloc, call, lists, map, args, out),
+        "cut" => cuts::answer(alloc, call, map, out),
+        "bars" => bars::answer(alloc, call, lists, map, args, out),
+        _ => verdicts::answer(alloc, call, map, args, out),
+    }
+}
+
+// The same, where the lists may have no map.
+fn over_map(alloc: Global, kind: (&str, &str), lists: &Rotations, args: &[&str], out: &mut String)
+    requires some { 0 < length lists.now }
+    requires few { length lists.now < 4096 }
+{
+    match HalfMap::from_rotations(alloc, lists) {
+        Ok(mut map) => of_map(alloc, kind, lists, &mut map, args, out),
+        Err(fault) => tell_fault(fault, out),
+    }
+}
+
+// The answer to a row on lists.
+fn of_lists(alloc: Global, kind: (&str, &str), lists: &Rotations, args: &[&str], out: &mut String)
+    requires some { 0 < length lists.now }
+    requires few { length lists.now < 4096 }
+{
+    match kind.0 {
+        "draw" | "complete" | "wood" => orders::answer(alloc, kind, lists, args, out),
+        "check" if kind.1 == "faces" => orders::answer(alloc, kind, lists, args, out),
+        "convex" => convex::answer(alloc, kind.1, lists, number(part(args, 1)), out),
+        "labels" => rects::answer(alloc, lists, out),
+        _ => over_map(alloc, kind, lists, args, out),
+    }
+}
+
+// The same, for the text of the lists.
+fn over_lists(alloc: Global, kind: (&str, &str), args: &[&str], out: &mut String) {
+    match lists_of(alloc, part(args, 0)) {
+        Some(lists) => of_lists(alloc, kind, &lists, args, out),
+        None => {}
     }
 }
 
 // The answer to a row of a kind, which is a family and a call of it.
-fn answered(alloc: Global, kind: &str, args: &[&str], out: &mut String) -> Result<(), Refusal> {
-    let (family, call) = kind.split_once(' ').unwrap_or((kind, ""));
-    match family {
-        "map" => maps::answer(alloc, call, args, out),
-        "edits" => edits::answer(alloc, args, out),
-        "count" => counts::answer(alloc, call, args, out),
-        "complete" => completions::answer(alloc, call, args, out),
-        "cut" => cuts::answer(alloc, call, args, out),
-        "record" => records::answer(alloc, call, args, out),
-        "perm" => orbits::answer(alloc, call, args, out),
-        "graph" => graphs::answer(alloc, call, args, out),
-        "witness" => witnesses::answer(alloc, call, args, out),
-        "search" => searches::answer(alloc, call, args, out),
-        _ => drawn(alloc, family, call, args, out),
+fn answered(alloc: Global, kind: (&str, &str), args: &[&str], out: &mut String) {
+    match kind.0 {
+        "point" => points::answer(kind.1, args, out),
+        "perm" => orbits::answer(alloc, kind.1, args, out),
+        "record" => records::answer(alloc, kind.1, args, out),
+        "text" => texts::answer(alloc, kind.1, args, out),
+        "search" => searches::answer(alloc, kind.1, args, out),
+        "graph" => graphs::answer(alloc, kind.1, args, out),
+        "witness" => graphs::over_line(alloc, kind, args, out),
+        _ => over_lists(alloc, kind, args, out),
     }
 }
 
 // What a row shows, and its answer.
-fn put_row(alloc: Global, parts: &[&str], out: &mut String) -> Result<(), AllocError> {
-    out.push_str(part(parts, 0))?;
-    out.push_str(": ")?;
-    if let Err(refusal) = answered(alloc, part(parts, 1), behind(parts, 2), out) {
-        tell(refusal, out)?;
+fn put_row(alloc: Global, parts: &[&str], out: &mut String) {
+    put(part(parts, 0), out);
+    put(": ", out);
+    answered(alloc, halves(part(parts, 1)), behind(parts, 2), out);
+}
+
+// The texts between the `/` of a row.
+fn parts_of<'a>(alloc: Global, row: &'a str) -> Vec<&'a str> {
+    let mut parts = Vec::new(alloc);
+    for part in row.split('/') {
+        let _ = parts.push(part);
     }
-    Ok(())
+    parts
+}
+
+// The line that stands for a row in the answers, up to its end.
+fn put_line(alloc: Global, row: &str, out: &mut String) {
+    if row.is_empty() || row.starts_with('#') {
+        put(row, out);
+    } else {
+        put_row(alloc, &parts_of(alloc, row), out);
+    }
 }
 
 /// The line that stands for a row in the answers.
-pub fn answer(alloc: Global, row: &str) -> Result<String, AllocError> {
+pub fn answer(alloc: Global, row: &str) -> String {
     let mut out = String::new(alloc);
-    if row.is_empty() || row.starts_with('#') {
-        out.push_str(row)?;
-    } else {
-        let parts: Vec<&str> = row.split('/').collect(alloc)?;
-        put_row(alloc, &parts, &mut out)?;
-    }
-    out.push('\n')?;
-    Ok(out)
+    put_line(alloc, row, &mut out);
+    put_letter('\n', &mut out);
+    out
 }

@@ -1,9 +1,8 @@
 //! Graphs that are drawn or refuted, by the fast searches and by contracted edges: single ones, and all of a size.
 ghost use Rattle.std.specs.Prelude.{◌≤◌};
 
-use crate::graphs::graph_of;
-use crate::refusal::Refusal;
-use crate::text::{number, part};
+use crate::graphs::over_line;
+use crate::text::{number, part, put, put_one};
 use crate::witnesses::name_of;
 use embed_graph::contracted_embeddings::embed_by_contraction;
 use embed_graph::embed;
@@ -12,8 +11,11 @@ use embed_search::{find_witness, planar_lists};
 use euler_faces::count_lists;
 use graph6_text::{Graph, read_line};
 use half_edges::{Rotations, VertexId};
-use kuratowski::{Kind, WitnessVerdict, check_witness};
+use kuratowski::{Witness, WitnessVerdict, check_witness};
 use std::alloc::{AllocError, Global};
+
+// What stands where there is no answer, or a wrong one.
+const WRONG: &str = "wrong";
 
 // How many pairs of vertices are edges.
 fn edges_of(graph: &Graph) -> u32 {
@@ -28,16 +30,21 @@ fn edges_of(graph: &Graph) -> u32 {
     m
 }
 
+// Whether each entry of a vertex's list is an edge.
+fn is_list(graph: &Graph, v: u16, list: &[u16]) -> bool {
+    for u in list {
+        if !graph.has(VertexId(v), VertexId(*u)) {
+            return false;
+        }
+    }
+    true
+}
+
 // Whether each entry of the lists is an edge.
 fn are_edges(graph: &Graph, lists: &Rotations) -> bool {
     for v in 0..graph.n() {
-        if usize::from(v) >= lists.len() {
+        if usize::from(v) >= lists.len() || !is_list(graph, v, lists.list(usize::from(v))) {
             return false;
-        }
-        for u in lists.list(usize::from(v)) {
-            if !graph.has(VertexId(v), VertexId(*u)) {
-                return false;
-            }
         }
     }
     true
@@ -54,59 +61,73 @@ fn is_drawn(alloc: Global, graph: &Graph, lists: &Rotations) -> bool {
     }
 }
 
+// The kind of a witness, if the check takes it.
+fn checked(graph: &Graph, witness: &Witness) -> &'static str {
+    match check_witness(graph, witness) {
+        WitnessVerdict::Yes => name_of(witness.kind),
+        _ => WRONG,
+    }
+}
+
 // The kind of the witness that the search finds, if the check takes it.
-fn witnessed(alloc: Global, graph: &Graph) -> Result<&'static str, AllocError> {
-    match find_witness(alloc, graph)? {
-        Some(witness) if check_witness(graph, &witness) == WitnessVerdict::Yes => {
-            Ok(name_of(witness.kind))
-        }
-        _ => Ok("wrong"),
+fn witnessed(alloc: Global, graph: &Graph) -> &'static str {
+    match find_witness(alloc, graph) {
+        Ok(Some(witness)) => checked(graph, &witness),
+        _ => WRONG,
     }
 }
 
 // What the searches find: a map, a subdivision of one kind or the other, or something wrong.
-fn searched(alloc: Global, graph: &Graph) -> Result<&'static str, AllocError> {
-    match planar_lists(alloc, graph)? {
-        Some(lists) => Ok(if is_drawn(alloc, graph, &lists) {
-            "map"
-        } else {
-            "wrong"
-        }),
-        None => witnessed(alloc, graph),
+fn searched(alloc: Global, graph: &Graph) -> &'static str {
+    match planar_lists(alloc, graph) {
+        Ok(Some(lists)) => {
+            if is_drawn(alloc, graph, &lists) {
+                "map"
+            } else {
+                WRONG
+            }
+        }
+        Ok(None) => witnessed(alloc, graph),
+        Err(_) => WRONG,
     }
 }
 
 // What an answer has.
-fn word_of(answer: Embedding) -> &'static str {
+fn word_of(answer: Result<Embedding, AllocError>) -> &'static str {
     match answer {
-        Embedding::Map(_) => "map",
-        Embedding::NotPlanar(witness) => name_of(witness.kind),
+        Ok(Embedding::Map(_)) => "map",
+        Ok(Embedding::NotPlanar(witness)) => name_of(witness.kind),
+        Err(_) => WRONG,
     }
 }
 
 // The answers by the searches and by contracted edges.
-fn both_ways(alloc: Global, graph: &Graph) -> Result<(&'static str, &'static str), AllocError>
+fn both_ways(alloc: Global, graph: &Graph) -> (&'static str, &'static str)
     requires { 3 ≤ graph.now.n }
 {
-    let quick = word_of(embed(alloc, graph)?);
-    let slow = word_of(embed_by_contraction(alloc, graph)?);
-    Ok((quick, slow))
-}
-
-// What the searches find for a graph.
-fn search(alloc: Global, args: &[&str], out: &mut String) -> Result<(), Refusal> {
-    let graph = graph_of(alloc, part(args, 0))?;
-    Ok(out.push_str(searched(alloc, &graph)?)?)
+    (
+        word_of(embed(alloc, graph)),
+        word_of(embed_by_contraction(alloc, graph)),
+    )
 }
 
 // The answers by both ways.
-fn both(alloc: Global, args: &[&str], out: &mut String) -> Result<(), Refusal> {
-    let graph = graph_of(alloc, part(args, 0))?;
-    if graph.n() < 3 {
-        return Err(Refusal::Row("third vertex"));
+fn put_both(alloc: Global, graph: &Graph, out: &mut String)
+    requires { 3 ≤ graph.now.n }
+{
+    let (quick, slow) = both_ways(alloc, graph);
+    put(quick, out);
+    put(", by contracted edges ", out);
+    put(slow, out);
+}
+
+/// What the searches find for a graph, or the answers by both ways.
+pub fn of_graph(alloc: Global, call: &str, graph: &Graph, out: &mut String) {
+    if call == "graph" {
+        put(searched(alloc, graph), out);
+    } else if graph.n() >= 3 {
+        put_both(alloc, graph, out);
     }
-    let (quick, slow) = both_ways(alloc, &graph)?;
-    Ok(write!(out, "{quick}, by contracted edges {slow}")?)
 }
 
 // How many graphs have a map, how many a witness, and of how many something is wrong.
@@ -118,17 +139,9 @@ struct Tally {
 }
 
 impl Tally {
-    fn new() -> Tally {
-        Tally {
-            planar: 0,
-            other: 0,
-            wrong: 0,
-        }
-    }
-
     // Counts a graph by what was found for it, twice.
-    fn add(&mut self, found: &str, again: &str) {
-        if (found == "map") != (again == "map") || found == "wrong" || again == "wrong" {
+    fn add(&mut self, (found, again): (&str, &str)) {
+        if (found == "map") != (again == "map") || found == WRONG || again == WRONG {
             self.wrong = self.wrong.wrapping_add(1);
         } else if found == "map" {
             self.planar = self.planar.wrapping_add(1);
@@ -137,26 +150,58 @@ impl Tally {
         }
     }
 
-    fn put(&self, out: &mut String) -> Result<(), AllocError> {
-        write!(
-            out,
-            "planar {} other {} wrong {}",
-            self.planar, self.other, self.wrong
-        )
+    // Counts a graph, by the searches alone or by both ways.
+    fn add_graph(&mut self, alloc: Global, graph: &Graph, slow: bool) {
+        if slow && graph.n() >= 3 {
+            self.add(both_ways(alloc, graph));
+        } else {
+            let found = searched(alloc, graph);
+            self.add((found, found));
+        }
     }
-}
 
-// Counts the graph of a line, by the searches alone or by both ways.
-fn count_line(alloc: Global, line: &[u8], slow: bool, told: &mut Tally) -> Result<(), Refusal> {
-    let graph = read_line(alloc, line)?;
-    if slow && graph.n() >= 3 {
-        let (found, again) = both_ways(alloc, &graph)?;
-        told.add(found, again);
-    } else {
-        let found = searched(alloc, &graph)?;
-        told.add(found, found);
+    // The same for the graph of a line.
+    fn add_line(&mut self, alloc: Global, line: &[u8], slow: bool) {
+        match read_line(alloc, line) {
+            Ok(graph) => self.add_graph(alloc, &graph, slow),
+            Err(_) => self.add((WRONG, WRONG)),
+        }
     }
-    Ok(())
+
+    // Counts the graphs whose lines begin with a byte and have so many bits behind it, and so many bytes in all.
+    fn add_lines(&mut self, alloc: Global, first: u8, bits: u32, length: usize, slow: bool)
+        requires bits { bits ≤ 15 }
+        requires length { length ≤ 4 }
+    {
+        for code in 0..1u32 << bits {
+            let line = line_of(first, code << (18 - bits));
+            self.add_line(alloc, &line[..length], slow);
+        }
+    }
+
+    // Counts all graphs of so many vertices, from three to six.
+    fn add_all(&mut self, alloc: Global, n: u16, slow: bool) {
+        match n {
+            3 => self.add_lines(alloc, b'B', 3, 2, slow),
+            4 => self.add_lines(alloc, b'C', 6, 2, slow),
+            5 => self.add_lines(alloc, b'D', 10, 3, slow),
+            6 => self.add_lines(alloc, b'E', 15, 4, slow),
+            _ => {}
+        }
+    }
+
+    // Counts the graphs of some lines, by both ways.
+    fn add_each(&mut self, alloc: Global, text: &str) {
+        for line in text.split(' ') {
+            self.add_line(alloc, line.as_bytes(), true);
+        }
+    }
+
+    fn put(&self, out: &mut String) {
+        put_one("planar", u64::from(self.planar), out);
+        put_one(" other", u64::from(self.other), out);
+        put_one(" wrong", u64::from(self.wrong), out);
+    }
 }
 
 // Six bits of a number as a byte of a line.
@@ -164,54 +209,30 @@ fn byte_of(bits: u32, shift: u32) -> u8 {
     ((bits >> (shift & 31)) & 63) as u8 + 63
 }
 
-// Counts the graphs whose lines begin with a byte and have so many bits behind it, and so many bytes in all.
-fn tally_lines(
-    alloc: Global,
-    first: u8,
-    bits: u32,
-    length: usize,
-    slow: bool,
-) -> Result<Tally, Refusal>
-    requires bits { bits ≤ 15 }
-    requires length { length ≤ 4 }
-{
-    let mut told = Tally::new();
-    for code in 0..1u32 << bits {
-        let all = code << (18 - bits);
-        let line = [first, byte_of(all, 12), byte_of(all, 6), byte_of(all, 0)];
-        count_line(alloc, &line[..length], slow, &mut told)?;
-    }
-    Ok(told)
+// A line that begins with a byte, and has three times six bits behind it.
+fn line_of(first: u8, bits: u32) -> [u8; 4] {
+    [first, byte_of(bits, 12), byte_of(bits, 6), byte_of(bits, 0)]
 }
 
-// Counts all graphs of so many vertices, from three to six.
-fn tally_all(alloc: Global, n: u16, slow: bool) -> Result<Tally, Refusal> {
-    match n {
-        3 => tally_lines(alloc, b'B', 3, 2, slow),
-        4 => tally_lines(alloc, b'C', 6, 2, slow),
-        5 => tally_lines(alloc, b'D', 10, 3, slow),
-        6 => tally_lines(alloc, b'E', 15, 4, slow),
-        _ => Err(Refusal::Row("such size")),
+// Counts the graphs of a row.
+fn count_graphs(alloc: Global, call: &str, text: &str, out: &mut String) {
+    let mut told = Tally {
+        planar: 0,
+        other: 0,
+        wrong: 0,
+    };
+    match call {
+        "all" => told.add_all(alloc, number(text), false),
+        "all both" => told.add_all(alloc, number(text), true),
+        _ => told.add_each(alloc, text),
     }
-}
-
-// Counts the graphs of some lines.
-fn tally_each(alloc: Global, text: &str, slow: bool) -> Result<Tally, Refusal> {
-    let mut told = Tally::new();
-    for line in text.split(' ') {
-        count_line(alloc, line.as_bytes(), slow, &mut told)?;
-    }
-    Ok(told)
+    told.put(out);
 }
 
 /// The answer to a row on searches.
-pub fn answer(alloc: Global, call: &str, args: &[&str], out: &mut String) -> Result<(), Refusal> {
+pub fn answer(alloc: Global, call: &str, args: &[&str], out: &mut String) {
     match call {
-        "graph" => search(alloc, args, out),
-        "both" => both(alloc, args, out),
-        "all" => Ok(tally_all(alloc, number(part(args, 0)), false)?.put(out)?),
-        "all both" => Ok(tally_all(alloc, number(part(args, 0)), true)?.put(out)?),
-        "each both" => Ok(tally_each(alloc, part(args, 0), true)?.put(out)?),
-        _ => Err(Refusal::Row("such call")),
+        "graph" | "both" => over_line(alloc, ("search", call), args, out),
+        _ => count_graphs(alloc, call, part(args, 0), out),
     }
 }

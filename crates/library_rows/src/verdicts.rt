@@ -1,121 +1,145 @@
 //! Verdicts on drawings.
-ghost use Rattle.std.specs.Prelude.{IfOk};
+ghost use Rattle.std.specs.Prelude.{IfSome, All};
 ghost use Rattle.draw_check.specs.Faults.{HasPlaces};
+ghost use Rattle.half_edges.specs.Map.{IsLive};
+ghost use Rattle.pg_plane.specs.Range.{IsInRange};
+ghost use Rattle.plane_laws.specs.Triangulations.{IsTriangulation};
 
-use crate::maps::{dart_between, map_of};
-use crate::orders::order_of;
+use crate::maps::dart_between;
 use crate::points::{are_in_range, integer, points_of};
-use crate::refusal::Refusal;
-use crate::text::{pair, part, put_flag};
+use crate::refusal::tell_no_memory;
+use crate::text::{halves, pair, part, put, put_flag, put_with};
 use draw_check::{FaceVerdict, OuterVerdict, Verdict, check, check_by_faces, check_outer};
-use half_edges::{Ends, HalfMap};
+use half_edges::{DartId, HalfMap};
 use pg_plane::GridFigure;
 use plane_drawings::sweep_check::is_plane_by_sweep;
 use std::alloc::{AllocError, Global};
 
 // A figure of a map, with a place for each vertex.
-fn figure_of(alloc: Global, map: &HalfMap, places: &str, grid: &str) -> Result<GridFigure, Refusal>
-    ensures { IfOk result (λ figure. HasPlaces map.now.lists figure.points) }
+fn figure_of(alloc: Global, map: &HalfMap, places: &str, grid: &str) -> Option<GridFigure>
+    ensures places { IfSome result (λ figure. HasPlaces map.now.lists figure.points) }
+    ensures range { IfSome result (λ figure. All IsInRange figure.points) }
 {
-    let points = points_of(alloc, places)?;
-    let (width, height) = grid.split_once(' ').unwrap_or((grid, ""));
+    let points = points_of(alloc, places);
+    let (width, height) = halves(grid);
     if points.len() != usize::from(map.n()) || !are_in_range(&points) {
-        return Err(Refusal::Row("point for each vertex"));
+        return None;
     }
-    Ok(GridFigure {
+    Some(GridFigure {
         points,
         width: integer(width),
         height: integer(height),
     })
 }
 
-// An edge by its ends.
-fn put_edge(e: Ends, out: &mut String) -> Result<(), AllocError> {
-    write!(out, " {} {}", e.a.0, e.b.0)
+fn put_verdict(verdict: Verdict, out: &mut String) {
+    match verdict {
+        Verdict::OutOfGrid(v) => put_with("OutOfGrid", &[v.0], out),
+        Verdict::SamePlace(v, u) => put_with("SamePlace", &[v.0, u.0], out),
+        Verdict::OnEdge(v, e) => put_with("OnEdge", &[v.0, e.a.0, e.b.0], out),
+        Verdict::Cross(e, f) => put_with("Cross", &[e.a.0, e.b.0, f.a.0, f.b.0], out),
+        Verdict::Turned(v) => put_with("Turned", &[v.0], out),
+        Verdict::Yes => put("Yes", out),
+    }
 }
 
-fn put_verdict(verdict: Verdict, out: &mut String) -> Result<(), AllocError> {
+fn put_face_verdict(verdict: FaceVerdict, out: &mut String) {
     match verdict {
-        Verdict::OutOfGrid(v) => write!(out, "OutOfGrid {}", v.0),
-        Verdict::SamePlace(v, u) => write!(out, "SamePlace {} {}", v.0, u.0),
-        Verdict::OnEdge(v, e) => {
-            write!(out, "OnEdge {}", v.0)?;
-            put_edge(e, out)
-        }
-        Verdict::Cross(e, f) => {
-            out.push_str("Cross")?;
-            put_edge(e, out)?;
-            put_edge(f, out)
-        }
-        Verdict::Turned(v) => write!(out, "Turned {}", v.0),
-        Verdict::Yes => out.push_str("Yes"),
+        FaceVerdict::OutOfGrid(v) => put_with("OutOfGrid", &[v.0], out),
+        FaceVerdict::Wrong(u, v, w) => put_with("Wrong", &[u.0, v.0, w.0], out),
+        FaceVerdict::Yes => put("Yes", out),
+    }
+}
+
+fn put_outer_verdict(verdict: Result<OuterVerdict, AllocError>, out: &mut String) {
+    match verdict {
+        Ok(OuterVerdict::Inside(u, v)) => put_with("Inside", &[u.0, v.0], out),
+        Ok(OuterVerdict::Yes) => put("Yes", out),
+        Err(_) => tell_no_memory(out),
+    }
+}
+
+// The dart between two vertices, if it is one of a map.
+fn base_of(map: &HalfMap, u: u16, v: u16) -> Option<DartId>
+    ensures { IfSome result (λ d. IsLive map.now d.0) }
+{
+    match dart_between(map, u, v) {
+        Some(base) if map.is_live(base) => Some(base),
+        _ => None,
+    }
+}
+
+// The verdict by the faces of a triangulation, with a dart as its base.
+fn by_faces(alloc: Global, tri: &HalfMap, base: DartId, args: &[&str], out: &mut String)
+    requires triangulation { IsTriangulation tri.now.lists }
+    requires base { IsLive tri.now base.0 }
+{
+    match figure_of(alloc, tri, part(args, 1), part(args, 2)) {
+        Some(figure) => put_face_verdict(check_by_faces(tri, base, &figure), out),
+        None => {}
+    }
+}
+
+/// The verdict by the faces of a triangulation, with the dart from vertex 0 to vertex 1 as its base.
+pub fn faces(alloc: Global, tri: &HalfMap, args: &[&str], out: &mut String)
+    requires triangulation { IsTriangulation tri.now.lists }
+{
+    match base_of(tri, 0, 1) {
+        Some(base) => by_faces(alloc, tri, base, args, out),
+        None => {}
     }
 }
 
 // The verdict on a drawing.
-fn grid(alloc: Global, args: &[&str], out: &mut String) -> Result<(), Refusal> {
-    let map = map_of(alloc, part(args, 0))?;
-    let figure = figure_of(alloc, &map, part(args, 1), part(args, 2))?;
-    Ok(put_verdict(check(&map, &figure), out)?)
-}
-
-fn put_face_verdict(verdict: FaceVerdict, out: &mut String) -> Result<(), AllocError> {
-    match verdict {
-        FaceVerdict::OutOfGrid(v) => write!(out, "OutOfGrid {}", v.0),
-        FaceVerdict::Wrong(u, v, w) => write!(out, "Wrong {} {} {}", u.0, v.0, w.0),
-        FaceVerdict::Yes => out.push_str("Yes"),
-    }
-}
-
-// The verdict by the faces of a triangulation, with the dart from vertex 0 to vertex 1 as its base.
-fn faces(alloc: Global, args: &[&str], out: &mut String) -> Result<(), Refusal> {
-    let set = order_of(alloc, part(args, 0))?;
-    let figure = figure_of(alloc, &set.tri, part(args, 1), part(args, 2))?;
-    match dart_between(&set.tri, 0, 1) {
-        Some(base) if set.tri.is_live(base) => {
-            Ok(put_face_verdict(check_by_faces(&set.tri, base, &figure), out)?)
-        }
-        _ => Err(Refusal::Row("base")),
-    }
-}
-
-fn put_outer_verdict(verdict: OuterVerdict, out: &mut String) -> Result<(), AllocError> {
-    match verdict {
-        OuterVerdict::Inside(u, v) => write!(out, "Inside {} {}", u.0, v.0),
-        OuterVerdict::Yes => out.push_str("Yes"),
-    }
+fn grid(map: &HalfMap, figure: &GridFigure, out: &mut String)
+    requires { HasPlaces map.now.lists figure.now.points }
+{
+    put_verdict(check(map, figure), out);
 }
 
 // The verdict on the face left of a dart.
-fn outer(alloc: Global, args: &[&str], out: &mut String) -> Result<(), Refusal> {
-    let map = map_of(alloc, part(args, 0))?;
-    let figure = figure_of(alloc, &map, part(args, 1), "")?;
-    let (u, v) = pair(part(args, 2));
-    match dart_between(&map, u, v) {
-        Some(base) if map.is_live(base) => {
-            Ok(put_outer_verdict(check_outer(alloc, &map, base, &figure)?, out)?)
-        }
-        _ => Err(Refusal::Row("base")),
+fn outer(alloc: Global, map: &HalfMap, figure: &GridFigure, ends: &str, out: &mut String)
+    requires { HasPlaces map.now.lists figure.now.points }
+{
+    let (u, v) = pair(ends);
+    match base_of(map, u, v) {
+        Some(base) => put_outer_verdict(check_outer(alloc, map, base, figure), out),
+        None => {}
     }
 }
 
 // Whether the sweep finds a drawing plane.
-fn sweep(alloc: Global, args: &[&str], out: &mut String) -> Result<(), Refusal> {
-    let map = map_of(alloc, part(args, 0))?;
-    let points = points_of(alloc, part(args, 1))?;
-    if points.len() != usize::from(map.n()) || !are_in_range(&points) {
-        return Err(Refusal::Row("point for each vertex"));
-    }
-    Ok(put_flag(is_plane_by_sweep(&map, &points), out)?)
+fn sweep(map: &HalfMap, figure: &GridFigure, out: &mut String)
+    requires places { HasPlaces map.now.lists figure.now.points }
+    requires range { All IsInRange figure.now.points }
+{
+    put_flag(is_plane_by_sweep(map, &figure.points), out);
 }
 
-/// The answer to a row on verdicts.
-pub fn answer(alloc: Global, call: &str, args: &[&str], out: &mut String) -> Result<(), Refusal> {
+// The answer to a row on a drawing of a map.
+fn of_figure(
+    alloc: Global,
+    call: &str,
+    map: &HalfMap,
+    figure: &GridFigure,
+    text: &str,
+    out: &mut String,
+)
+    requires places { HasPlaces map.now.lists figure.now.points }
+    requires range { All IsInRange figure.now.points }
+{
     match call {
-        "grid" => grid(alloc, args, out),
-        "faces" => faces(alloc, args, out),
-        "outer" => outer(alloc, args, out),
-        "sweep" => sweep(alloc, args, out),
-        _ => Err(Refusal::Row("such call")),
+        "grid" => grid(map, figure, out),
+        "outer" => outer(alloc, map, figure, text, out),
+        _ => sweep(map, figure, out),
+    }
+}
+
+/// The answer to a row on a drawing, with its grid or the dart left of which its outer face is.
+pub fn answer(alloc: Global, call: &str, map: &HalfMap, args: &[&str], out: &mut String) {
+    let text = part(args, 2);
+    match figure_of(alloc, map, part(args, 1), text) {
+        Some(figure) => of_figure(alloc, call, map, &figure, text, out),
+        None => {}
     }
 }

@@ -2,9 +2,9 @@
 ghost use Rattle.std.specs.Prelude.{◌≡◌, true};
 ghost use Rattle.graph6_text.specs.Graphs.{has_edge};
 
-use crate::graphs::{edge_of, graph_of};
-use crate::refusal::Refusal;
-use crate::text::{number, numbers, part};
+use crate::graphs::edge_of;
+use crate::refusal::tell_no_memory;
+use crate::text::{number, part, put, put_one};
 use embed_witnesses::contracted_graphs::contract;
 use embed_witnesses::lifted_witnesses::lift;
 use graph6_text::Graph;
@@ -25,54 +25,60 @@ fn kind_of(text: &str) -> Kind {
     if text == "K5" { Kind::K5 } else { Kind::K33 }
 }
 
-// The first vertices, so many.
-fn first_vertices(alloc: Global, count: u16) -> Result<VertexList, AllocError> {
+// The first vertices, as many as the branches of a kind.
+fn branches_of(alloc: Global, kind: Kind) -> VertexList {
     let mut vertices = VertexList::new(alloc);
+    let count = if kind == Kind::K5 { 5 } else { 6 };
     for v in 0..count {
-        vertices.push(VertexId(v))?;
+        let _ = vertices.push(VertexId(v));
     }
-    Ok(vertices)
+    vertices
 }
 
 // The vertices that a text names.
-fn path_of(alloc: Global, text: &str) -> Result<Vec<VertexId>, AllocError> {
+fn path_of(alloc: Global, text: &str) -> Vec<VertexId> {
     let mut path = Vec::new(alloc);
-    for v in numbers(alloc, text)?.iter() {
-        path.push(VertexId(*v))?;
+    for word in text.split_whitespace() {
+        let _ = path.push(VertexId(number(word)));
     }
-    Ok(path)
+    path
+}
+
+// The paths between the semicolons.
+fn paths_of(alloc: Global, text: &str) -> PathList {
+    let mut paths = PathList::new(alloc);
+    for path in text.split(';') {
+        let _ = paths.push(&path_of(alloc, path));
+    }
+    paths
 }
 
 /// The witness of a kind, whose branches are the first vertices, with these paths.
-pub fn witness_of(alloc: Global, name: &str, text: &str) -> Result<Witness, AllocError> {
+pub fn witness_of(alloc: Global, name: &str, text: &str) -> Witness {
     let kind = kind_of(name);
-    let branch = first_vertices(alloc, if kind == Kind::K5 { 5 } else { 6 })?;
-    let mut paths = PathList::new(alloc);
-    for path in text.split(';') {
-        paths.push(&path_of(alloc, path)?)?;
-    }
-    Ok(Witness {
+    Witness {
         kind,
-        branch,
-        paths,
-    })
-}
-
-fn put_verdict(verdict: WitnessVerdict, out: &mut String) -> Result<(), AllocError> {
-    match verdict {
-        WitnessVerdict::BadShape => out.push_str("BadShape"),
-        WitnessVerdict::BadBranch(i) => write!(out, "BadBranch {i}"),
-        WitnessVerdict::NotEdge(p, i) => write!(out, "NotEdge {p} {i}"),
-        WitnessVerdict::Shared(p, q, v) => write!(out, "Shared {p} {q} {}", v.0),
-        WitnessVerdict::Yes => out.push_str("Yes"),
+        branch: branches_of(alloc, kind),
+        paths: paths_of(alloc, text),
     }
 }
 
-// The verdict on a witness for the graph of a line.
-fn check(alloc: Global, args: &[&str], out: &mut String) -> Result<(), Refusal> {
-    let graph = graph_of(alloc, part(args, 0))?;
-    let witness = witness_of(alloc, part(args, 1), part(args, 2))?;
-    Ok(put_verdict(check_witness(&graph, &witness), out)?)
+// The verdict on a witness.
+fn put_verdict(graph: &Graph, witness: &Witness, out: &mut String) {
+    match check_witness(graph, witness) {
+        WitnessVerdict::BadShape => put("BadShape", out),
+        WitnessVerdict::BadBranch(i) => put_one("BadBranch", i as u64, out),
+        WitnessVerdict::NotEdge(p, i) => {
+            put_one("NotEdge", p as u64, out);
+            put_one("", i as u64, out);
+        }
+        WitnessVerdict::Shared(p, q, v) => {
+            put_one("Shared", p as u64, out);
+            put_one("", q as u64, out);
+            put_one("", u64::from(v.0), out);
+        }
+        WitnessVerdict::Yes => put("Yes", out),
+    }
 }
 
 // The witness for a graph that comes of one for the graph with an edge contracted, if it is one.
@@ -92,34 +98,42 @@ fn lifted(
 }
 
 // The kind, the number of paths and of their vertices, of a witness, and what the check says of it.
-fn put_witness(graph: &Graph, witness: &Witness, out: &mut String) -> Result<(), AllocError> {
-    let (paths, vertices) = (witness.paths.len(), witness.paths.total());
-    write!(
-        out,
-        "{}, {paths} paths of {vertices} vertices, ",
-        name_of(witness.kind)
-    )?;
-    put_verdict(check_witness(graph, witness), out)
+fn put_witness(graph: &Graph, witness: &Witness, out: &mut String) {
+    put(name_of(witness.kind), out);
+    put_one(",", witness.paths.len() as u64, out);
+    put_one(" paths of", witness.paths.total() as u64, out);
+    put(" vertices, ", out);
+    put_verdict(graph, witness, out);
 }
 
 // A witness of the graph with an edge contracted, lifted.
-fn lift_row(alloc: Global, args: &[&str], out: &mut String) -> Result<(), Refusal> {
-    let graph = graph_of(alloc, part(args, 0))?;
-    let witness = witness_of(alloc, part(args, 2), part(args, 3))?;
-    match edge_of(&graph, part(args, 1)) {
-        Some(e) => match lifted(alloc, &graph, e, &witness)? {
-            Some(new) => Ok(put_witness(&graph, &new, out)?),
-            None => Err(Refusal::Row("witness")),
-        },
-        None => Err(Refusal::Row("edge")),
+fn put_lifted(graph: &Graph, found: Result<Option<Witness>, AllocError>, out: &mut String) {
+    match found {
+        Ok(Some(new)) => put_witness(graph, &new, out),
+        Ok(None) => {}
+        Err(_) => tell_no_memory(out),
+    }
+}
+
+// A witness of the graph with an edge contracted, lifted, if that is an edge.
+fn lift_over(alloc: Global, graph: &Graph, ends: &str, witness: &Witness, out: &mut String) {
+    match edge_of(graph, ends) {
+        Some(e) => put_lifted(graph, lifted(alloc, graph, e, witness), out),
+        None => {}
     }
 }
 
 /// The answer to a row on witnesses.
-pub fn answer(alloc: Global, call: &str, args: &[&str], out: &mut String) -> Result<(), Refusal> {
+pub fn answer(alloc: Global, call: &str, graph: &Graph, args: &[&str], out: &mut String) {
+    let (first, second) = (part(args, 1), part(args, 2));
     match call {
-        "check" => check(alloc, args, out),
-        "lift" => lift_row(alloc, args, out),
-        _ => Err(Refusal::Row("such call")),
+        "check" => put_verdict(graph, &witness_of(alloc, first, second), out),
+        _ => lift_over(
+            alloc,
+            graph,
+            first,
+            &witness_of(alloc, second, part(args, 3)),
+            out,
+        ),
     }
 }

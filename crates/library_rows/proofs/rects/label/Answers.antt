@@ -1,6 +1,6 @@
 use Rattle.rect_check.specs.Duals.{top_vertex, right_vertex, bottom_vertex}
 use Rattle.rect_orders.specs.Maps.{IsRectMap}
-use Rattle.library_rows.proofs.rects.labelling_of.Goals as goal
+use Rattle.library_rows.proofs.rects.label.Goals as goal
 
 pub edge_labels-requires-clause-class : goal.edge_labels-requires-clause-class
 edge_labels-requires-clause-class c =
