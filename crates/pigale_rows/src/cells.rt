@@ -1,6 +1,6 @@
 //! Grids of cells within a quadrangle.
 use map_lists::Rotations;
-use std::alloc::{AllocError, Global};
+use std::alloc::Global;
 
 /// The number of the cell in column i and row j, behind the four vertices outside.
 fn cell(columns: u16, i: u16, j: u16) -> u16 {
@@ -33,67 +33,61 @@ fn around(columns: u16, rows: u16, i: u16, j: u16) -> [u16; 6] {
     ]
 }
 
-/// Those of six numbers that stand for something.
-fn some_of(alloc: Global, numbers: [u16; 6]) -> Result<Vec<u16>, AllocError> {
+/// Appends a list of those of six numbers that stand for something.
+fn push_some(alloc: Global, lists: &mut Rotations, numbers: [u16; 6]) {
     let mut list = Vec::new(alloc);
     for number in numbers {
         if number != NONE {
-            list.push(number)?;
+            let _ = list.push(number);
         }
     }
-    Ok(list)
+    let _ = lists.push(&list);
 }
 
-/// So many numbers, each one step behind the one before it, between two others.
-fn side(
+/// Appends a list of so many numbers, each one step behind the one before it, between two others.
+fn push_side(
     alloc: Global,
-    ends: (u16, u16),
+    lists: &mut Rotations,
+    ends: [u16; 2],
     first: u16,
     step: u16,
     count: u16,
-) -> Result<Vec<u16>, AllocError> {
+) {
     let mut list = Vec::new(alloc);
-    list.push(ends.0)?;
+    let _ = list.push(ends[0]);
     let mut number = first;
     for _ in 0..count {
-        list.push(number)?;
+        let _ = list.push(number);
         number = number.wrapping_add(step);
     }
-    list.push(ends.1)?;
-    Ok(list)
+    let _ = list.push(ends[1]);
+    let _ = lists.push(&list);
 }
 
-/// Appends the lists of the cells.
-fn push_cells(
-    alloc: Global,
-    lists: &mut Rotations,
-    columns: u16,
-    rows: u16,
-) -> Result<(), AllocError> {
+/// Appends the lists of the vertices outside: that of each is one side between its neighbours.
+fn push_sides(alloc: Global, lists: &mut Rotations, columns: u16, rows: u16) {
+    let (last, top) = (columns.wrapping_sub(1), rows.wrapping_sub(1));
+    let (down, left) = (columns.wrapping_neg(), 1u16.wrapping_neg());
+    push_side(alloc, lists, [1, 3], cell(columns, 0, top), down, rows);
+    push_side(
+        alloc,
+        lists,
+        [2, 0],
+        cell(columns, last, top),
+        left,
+        columns,
+    );
+    push_side(alloc, lists, [3, 1], cell(columns, last, 0), columns, rows);
+    push_side(alloc, lists, [0, 2], cell(columns, 0, 0), 1, columns);
+}
+
+/// Appends the lists of a grid of cells with diagonals, within a quadrangle of which each vertex is joined to one side:
+/// the left one, the upper, the right and the lower.
+pub fn push_grid(alloc: Global, lists: &mut Rotations, columns: u16, rows: u16) {
+    push_sides(alloc, lists, columns, rows);
     for j in 0..rows {
         for i in 0..columns {
-            lists.push(&some_of(alloc, around(columns, rows, i, j))?)?;
+            push_some(alloc, lists, around(columns, rows, i, j));
         }
     }
-    Ok(())
-}
-
-/// A grid of cells with diagonals, within a quadrangle of which each vertex is joined to one side: the left one, the
-/// upper, the right and the lower.
-pub fn grid(alloc: Global, columns: u16, rows: u16) -> Result<Rotations, AllocError> {
-    let (last, top) = (columns.wrapping_sub(1), rows.wrapping_sub(1));
-    let (up, right) = (columns, 1u16);
-    let (down, left) = (up.wrapping_neg(), right.wrapping_neg());
-    let sides = [
-        ((1, 3), cell(columns, 0, top), down, rows),
-        ((2, 0), cell(columns, last, top), left, columns),
-        ((3, 1), cell(columns, last, 0), up, rows),
-        ((0, 2), cell(columns, 0, 0), right, columns),
-    ];
-    let mut lists = Rotations::new(alloc);
-    for (ends, first, step, count) in sides {
-        lists.push(&side(alloc, ends, first, step, count)?)?;
-    }
-    push_cells(alloc, &mut lists, columns, rows)?;
-    Ok(lists)
 }

@@ -1,7 +1,8 @@
 //! Maps of some families, of any size.
+use crate::cells::push_grid;
 use map_gen::stacked;
 use map_lists::Rotations;
-use std::alloc::{AllocError, Global};
+use std::alloc::Global;
 
 /// The number after i, round the first k.
 fn after(i: u16, k: u16) -> u16 {
@@ -14,36 +15,54 @@ fn before(i: u16, k: u16) -> u16 {
     if i > 0 { i - 1 } else { k.wrapping_sub(1) }
 }
 
-/// A rim of k vertices, outside, and a hub.
-pub fn wheel(alloc: Global, k: u16) -> Result<Rotations, AllocError> {
-    let mut lists = Rotations::new(alloc);
-    let mut rim = Vec::new(alloc);
+/// The first k numbers.
+fn first(alloc: Global, k: u16) -> Vec<u16> {
+    let mut numbers = Vec::new(alloc);
     for i in 0..k {
-        lists.push(&[after(i, k), k, before(i, k)])?;
-        rim.push(i)?;
+        let _ = numbers.push(i);
     }
-    lists.push(&rim)?;
-    Ok(lists)
+    numbers
 }
 
-/// A ring of k vertices, outside, and one inside, joined one by one.
-pub fn prism(alloc: Global, k: u16) -> Result<Rotations, AllocError> {
-    let mut lists = Rotations::new(alloc);
+/// Appends the lists of a rim of k vertices, outside, and a hub.
+fn push_wheel(alloc: Global, lists: &mut Rotations, k: u16) {
     for i in 0..k {
-        lists.push(&[after(i, k), k.wrapping_add(i), before(i, k)])?;
+        let _ = lists.push(&[after(i, k), k, before(i, k)]);
+    }
+    let _ = lists.push(&first(alloc, k));
+}
+
+/// Appends the lists of a ring of k vertices, outside, and one inside, joined one by one.
+fn push_prism(lists: &mut Rotations, k: u16) {
+    for i in 0..k {
+        let _ = lists.push(&[after(i, k), k.wrapping_add(i), before(i, k)]);
     }
     for i in 0..k {
         let next = k.wrapping_add(after(i, k));
-        lists.push(&[i, next, k.wrapping_add(before(i, k))])?;
+        let _ = lists.push(&[i, next, k.wrapping_add(before(i, k))]);
     }
-    Ok(lists)
 }
 
-/// The map of n vertices that the generator makes from a number; it makes none of fewer than three, nor of more
-/// than 4095.
-pub fn stacked_map(alloc: Global, n: u16, number: u16) -> Result<Option<Rotations>, AllocError> {
-    if n < 3 || 4095 < n {
-        return Ok(None);
+/// Puts the map of n vertices that the generator makes from a number in place of lists; it makes none of fewer than
+/// three, nor of more than 4095.
+fn put_stacked(alloc: Global, lists: &mut Rotations, n: u16, number: u16) {
+    if 3 <= n && n <= 4095 {
+        match stacked(alloc, n, u32::from(number)) {
+            Ok(made) => *lists = made,
+            Err(_) => {}
+        }
     }
-    Ok(Some(stacked(alloc, n, u32::from(number))?))
+}
+
+/// The map of a family and its size; no lists where there is none.
+pub fn map_of(alloc: Global, family: &str, size: u16, number: u16) -> Rotations {
+    let mut lists = Rotations::new(alloc);
+    match family {
+        "wheel" => push_wheel(alloc, &mut lists, size),
+        "prism" => push_prism(&mut lists, size),
+        "grid" => push_grid(alloc, &mut lists, size, number),
+        "stacked" => put_stacked(alloc, &mut lists, size, number),
+        _ => {}
+    }
+    lists
 }

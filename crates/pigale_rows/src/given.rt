@@ -1,7 +1,7 @@
 //! What a run is given.
 ghost use Rattle.std.specs.Prelude.{◌<◌};
 
-use std::alloc::{AllocError, Global};
+use std::alloc::Global;
 
 /// How many bytes a call moves at most, and the numbers of the calls that fail, counted from 1.
 #[derive(Drop)]
@@ -21,13 +21,14 @@ impl Cut {
     }
 }
 
-/// An input, how it comes and how the text goes, and the beginnings of the lines that are shown of a drawing.
+/// An input, how it comes and how the text goes, and the beginnings of the lines that are shown of a drawing, each
+/// behind a line end.
 #[derive(Drop)]
 pub struct Given {
     pub input: Vec<u8>,
     pub reads: Cut,
     pub writes: Cut,
-    pub shown: Vec<String>,
+    pub shown: String,
 }
 
 impl Given {
@@ -37,21 +38,21 @@ impl Given {
             input: Vec::new(alloc),
             reads: Cut::none(alloc),
             writes: Cut::none(alloc),
-            shown: Vec::new(alloc),
+            shown: String::new(alloc),
         }
     }
 
     /// Does what a line says of it; answers whether there is such a line.
-    pub fn take(&mut self, alloc: Global, word: &str, rest: &str) -> Result<bool, AllocError> {
+    pub fn take(&mut self, word: &str, rest: &str) -> bool {
         match word {
             "read" => self.reads.most = size_of(rest),
-            "fail-reads" => self.reads.failing = numbers(alloc, rest)?,
+            "fail-reads" => put_numbers(rest, &mut self.reads.failing),
             "write" => self.writes.most = size_of(rest),
-            "fail-writes" => self.writes.failing = numbers(alloc, rest)?,
-            "show" => self.shown.push(String::from_str(alloc, rest)?)?,
-            _ => return Ok(false),
+            "fail-writes" => put_numbers(rest, &mut self.writes.failing),
+            "show" => put_line(rest, &mut self.shown),
+            _ => return false,
         }
-        Ok(true)
+        true
     }
 }
 
@@ -65,13 +66,18 @@ fn size_of(text: &str) -> usize
     }
 }
 
-/// The numbers between the spaces; what is no number is passed over.
-fn numbers(alloc: Global, text: &str) -> Result<Vec<u64>, AllocError> {
-    let mut found = Vec::new(alloc);
+/// Puts the numbers between the spaces in place of some; what is no number is passed over.
+fn put_numbers(text: &str, found: &mut Vec<u64>) {
+    found.clear();
     for word in text.split_whitespace() {
         if let Ok(number) = word.parse::<u64>() {
-            found.push(number)?;
+            let _ = found.push(number);
         }
     }
-    Ok(found)
+}
+
+/// Appends a line end and a text.
+fn put_line(text: &str, lines: &mut String) {
+    let _ = lines.push('\n');
+    let _ = lines.push_str(text);
 }

@@ -1,46 +1,54 @@
 //! Drawings of which no text is stored: what `verify` says of them, and the sums over their points.
 use crate::given::Given;
-use crate::runs::{run, run_over, tell_status, tell_text};
-use std::alloc::{AllocError, Global};
+use crate::runs::{Ran, put, run, run_over, tell_run, tell_status};
+use std::alloc::Global;
 
 /// The words of a job without options.
-fn job(alloc: Global, name: &str) -> Result<Vec<String>, AllocError> {
+fn job(alloc: Global, name: &str) -> Vec<String> {
     let mut words = Vec::new(alloc);
-    words.push(String::from_str(alloc, name)?)?;
-    Ok(words)
+    if let Ok(word) = String::from_str(alloc, name) {
+        let _ = words.push(word);
+    }
+    words
 }
 
-/// Whether a line of a drawing is told: one that is no part of a figure, or that begins as it is asked for.
-fn is_told(line: &str, shown: &[String]) -> bool {
-    if line.starts_with("refused ") || line.starts_with("end ") || line.starts_with("stop ") {
-        return true;
-    }
-    for beginning in shown {
-        if line.starts_with(beginning.as_str()) {
+/// Whether a line begins with one of some beginnings, each behind a line end.
+fn begins(line: &str, beginnings: &str) -> bool {
+    for beginning in beginnings.lines() {
+        if !beginning.is_empty() && line.starts_with(beginning) {
             return true;
         }
     }
     false
 }
 
+/// Whether a line of a drawing is told: one that is no part of a figure, or that begins as it is asked for.
+fn is_told(line: &str, shown: &str) -> bool {
+    begins(line, "refused \nend \nstop ") || begins(line, shown)
+}
+
+/// Appends a line.
+fn tell_whole(line: &str, told: &mut Vec<u8>) {
+    put(line.as_bytes(), told);
+    put(b"\n", told);
+}
+
 /// Appends the first three words of a line.
-fn tell_three(told: &mut Vec<u8>, line: &str) -> Result<(), AllocError> {
+fn tell_three(line: &str, told: &mut Vec<u8>) {
     for word in line.split(' ').take(3) {
-        told.extend_from_slice(word.as_bytes())?;
-        told.push(b' ')?;
+        put(word.as_bytes(), told);
+        put(b" ", told);
     }
-    told.extend_from_slice(b"..\n")
+    put(b"..\n", told);
 }
 
 /// Appends a line of a drawing where it is told; of the first line of any other figure its first three words.
-fn tell_line(told: &mut Vec<u8>, line: &str, shown: &[String]) -> Result<(), AllocError> {
+fn tell_line(line: &str, shown: &str, told: &mut Vec<u8>) {
     if is_told(line, shown) {
-        told.extend_from_slice(line.as_bytes())?;
-        told.push(b'\n')?;
+        tell_whole(line, told);
     } else if line.starts_with("figure ") {
-        tell_three(told, line)?;
+        tell_three(line, told);
     }
-    Ok(())
 }
 
 /// The text of some bytes; none where they are not UTF-8.
@@ -52,23 +60,27 @@ fn text_of(bytes: &[u8]) -> &str {
 }
 
 /// Appends the lines of a drawing that are told.
-fn tell_lines(told: &mut Vec<u8>, drawn: &[u8], shown: &[String]) -> Result<(), AllocError> {
+fn tell_lines(drawn: &[u8], shown: &str, told: &mut Vec<u8>) {
     for line in text_of(drawn).lines() {
-        tell_line(told, line, shown)?;
+        tell_line(line, shown, told);
     }
-    Ok(())
 }
 
-/// What words draw of what is given, by the lines that are told; and then what `verify` writes for it.
-pub fn judged(alloc: Global, words: &[String], given: &Given) -> Result<Vec<u8>, AllocError> {
-    let drawn = run(alloc, words, given)?;
-    let mut told = Vec::new(alloc);
-    tell_lines(&mut told, &drawn.text, &given.shown)?;
-    tell_status(alloc, &mut told, &drawn)?;
-    let verdicts = run_over(alloc, &job(alloc, "verify")?, drawn.text)?;
-    tell_text(&mut told, &verdicts.text)?;
-    tell_status(alloc, &mut told, &verdicts)?;
-    Ok(told)
+/// Appends what `verify` writes for a drawing.
+fn verify(alloc: Global, drawn: &[u8], told: &mut Vec<u8>) {
+    tell_run(alloc, &run_over(alloc, &job(alloc, "verify"), drawn), told);
+}
+
+/// Appends a drawing by the lines that are told; and then what `verify` writes for it.
+fn judge_drawn(alloc: Global, drawn: &Ran, shown: &str, told: &mut Vec<u8>) {
+    tell_lines(&drawn.text, shown, told);
+    tell_status(alloc, drawn, told);
+    verify(alloc, &drawn.text, told);
+}
+
+/// The same for what words draw of what is given.
+pub fn judge(alloc: Global, words: &[String], given: &Given, told: &mut Vec<u8>) {
+    judge_drawn(alloc, &run(alloc, words, given), given.shown.as_str(), told);
 }
 
 /// The point of a line that gives the place of a vertex.
@@ -94,33 +106,43 @@ fn sums_of(drawn: &[u8]) -> (i64, i64) {
     (sum_x, sum_y)
 }
 
-/// Appends a text in which the line that tells some sums says so in words.
-fn tell_sums(
-    alloc: Global,
-    told: &mut Vec<u8>,
-    text: &[u8],
-    sums: (i64, i64),
-) -> Result<(), AllocError> {
-    let (x, y) = sums;
-    let wanted = format!(in alloc; "verdict 1 yes sum {x} {y}")?;
+/// Appends a text in which the line that is wanted says so in words.
+fn tell_wanted(text: &[u8], wanted: &str, told: &mut Vec<u8>) {
     for line in text_of(text).lines() {
-        let line = if line == wanted.as_str() {
-            "verdict 1 yes sum of the points"
-        } else {
-            line
-        };
-        told.extend_from_slice(line.as_bytes())?;
-        told.push(b'\n')?;
+        let said = line == wanted;
+        tell_whole(
+            if said {
+                "verdict 1 yes sum of the points"
+            } else {
+                line
+            },
+            told,
+        );
     }
-    Ok(())
 }
 
-/// What words write, where the line with the sums over what `shift` draws of what is given says so in words.
-pub fn summed(alloc: Global, words: &[String], given: &Given) -> Result<Vec<u8>, AllocError> {
-    let drawn = run(alloc, &job(alloc, "shift")?, given)?;
-    let ran = run(alloc, words, given)?;
-    let mut told = Vec::new(alloc);
-    tell_sums(alloc, &mut told, &ran.text, sums_of(&drawn.text))?;
-    tell_status(alloc, &mut told, &ran)?;
-    Ok(told)
+/// Appends a text in which the line that tells some sums says so in words.
+fn tell_sums(alloc: Global, text: &[u8], sums: (i64, i64), told: &mut Vec<u8>) {
+    let (x, y) = sums;
+    match format!(in alloc; "verdict 1 yes sum {x} {y}") {
+        Ok(wanted) => tell_wanted(text, wanted.as_str(), told),
+        Err(_) => {}
+    }
+}
+
+/// Appends what a run wrote, where the line with some sums says so in words.
+fn tell_summed(alloc: Global, ran: &Ran, sums: (i64, i64), told: &mut Vec<u8>) {
+    tell_sums(alloc, &ran.text, sums, told);
+    tell_status(alloc, ran, told);
+}
+
+/// The sums over what `shift` draws of what is given.
+fn shift_sums(alloc: Global, given: &Given) -> (i64, i64) {
+    sums_of(&run(alloc, &job(alloc, "shift"), given).text)
+}
+
+/// Appends what words write, where the line with the sums over what `shift` draws of what is given says so in words.
+pub fn sum(alloc: Global, words: &[String], given: &Given, told: &mut Vec<u8>) {
+    let sums = shift_sums(alloc, given);
+    tell_summed(alloc, &run(alloc, words, given), sums, told);
 }

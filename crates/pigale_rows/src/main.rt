@@ -19,6 +19,10 @@
 //! | `sum WORDS` | a run: its text, in which the sums over what `shift` draws of the input are told in words |
 //! | `watch WORDS` | a run: what each read gave, and how many bytes had been written before it |
 //! | `answer` | the call that answers one record, behind a line that stood there before |
+//!
+//! What there is no memory for is left out of the output, which then differs from what is wanted. So writing is a call
+//! that cannot fail, and each owned value is made in one function, which lends it to the next: a check of these
+//! functions costs most where owned values stand beside one another and where a `?` ends one early.
 #![tactic(auto)]
 
 mod cells;
@@ -38,7 +42,8 @@ fn main(rt: HostRuntime) -> io::Result<()> {
     let mut out = rt.stdout();
     let mut table = Table::new(rt.alloc());
     for line in rt.lines(rt.alloc()) {
-        let told = table.answer(rt.alloc(), line?.as_str())?;
+        let mut told = Vec::new(rt.alloc());
+        table.answer(rt.alloc(), line?.as_str(), &mut told);
         out.write_all(&told)?;
     }
     out.flush()

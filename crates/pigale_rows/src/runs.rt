@@ -1,10 +1,10 @@
 //! One run over a source and a sink in memory.
 use crate::given::{Cut, Given};
-use crate::graphs::first_record;
 use map_lists::Rotations;
-use pg_io::{MemSink, MemSource};
+use pg_io::{MemSink, MemSource, Sink, Source};
 use pigale_shell::{Job, answer_record, pigale};
-use std::alloc::{AllocError, Global};
+use planar_code::{Step, next_record};
+use std::alloc::Global;
 
 /// What a run wrote, the number of its status, and how often it read.
 #[derive(Drop)]
@@ -17,84 +17,126 @@ pub struct Ran {
 /// How many bytes a sink has room for.
 const ROOM: usize = 1 << 20;
 
-/// Runs words over a source, into a sink that takes and fails as a cut says.
-fn run_into(
+/// Appends bytes.
+pub fn put(bytes: &[u8], told: &mut Vec<u8>) {
+    let _ = told.extend_from_slice(bytes);
+}
+
+/// Appends a number.
+pub fn put_number(alloc: Global, number: u64, told: &mut Vec<u8>) {
+    match format!(in alloc; "{number}") {
+        Ok(text) => put(text.as_bytes(), told),
+        Err(_) => {}
+    }
+}
+
+/// A copy of some bytes.
+fn copy_of(alloc: Global, bytes: &[u8]) -> Vec<u8> {
+    let mut copy = Vec::new(alloc);
+    put(bytes, &mut copy);
+    copy
+}
+
+/// A copy of some numbers.
+fn numbers_of(alloc: Global, numbers: &[u64]) -> Vec<u64> {
+    let mut copy = Vec::new(alloc);
+    let _ = copy.extend_from_slice(numbers);
+    copy
+}
+
+/// The number of the status of a run of words over a source, into a sink.
+pub fn status_of<S: Source, K: Sink>(
     alloc: Global,
     words: &[String],
-    source: &mut MemSource,
-    writes: &Cut,
-) -> Result<Ran, AllocError> {
-    let mut sink = MemSink::with_room(alloc, ROOM, writes.most, &writes.failing)?;
-    let status = pigale(alloc, words, source, &mut sink);
-    Ok(Ran {
-        text: sink.written.clone()?,
-        status: status.number(),
+    source: &mut S,
+    sink: &mut K,
+) -> u8 {
+    pigale(alloc, words, source, sink).number()
+}
+
+/// Runs words over a source, into a sink.
+fn run_into(alloc: Global, words: &[String], source: &mut MemSource, sink: &mut MemSink) -> Ran {
+    let status = status_of(alloc, words, source, sink);
+    Ran {
+        text: copy_of(alloc, &sink.written),
+        status,
         reads: source.calls,
-    })
+    }
+}
+
+/// The same into a sink that takes and fails as a cut says; nothing is written where there is no memory for it.
+fn run_through(alloc: Global, words: &[String], source: &mut MemSource, writes: &Cut) -> Ran {
+    match MemSink::with_room(alloc, ROOM, writes.most, &writes.failing) {
+        Ok(mut sink) => run_into(alloc, words, source, &mut sink),
+        Err(_) => Ran {
+            text: Vec::new(alloc),
+            status: u8::MAX,
+            reads: 0,
+        },
+    }
 }
 
 /// A source of the input that is given, which gives and fails as it is told.
-pub fn source_of(given: &Given) -> Result<MemSource, AllocError> {
-    let failing = given.reads.failing.clone()?;
-    Ok(MemSource::new(given.input.clone()?, given.reads.most, failing))
+pub fn source_of(alloc: Global, given: &Given) -> MemSource {
+    let failing = numbers_of(alloc, &given.reads.failing);
+    MemSource::new(copy_of(alloc, &given.input), given.reads.most, failing)
 }
 
 /// Runs words over what is given.
-pub fn run(alloc: Global, words: &[String], given: &Given) -> Result<Ran, AllocError> {
-    run_into(alloc, words, &mut source_of(given)?, &given.writes)
+pub fn run(alloc: Global, words: &[String], given: &Given) -> Ran {
+    run_through(alloc, words, &mut source_of(alloc, given), &given.writes)
 }
 
 /// Runs words over an input that comes at once.
-pub fn run_over(alloc: Global, words: &[String], input: Vec<u8>) -> Result<Ran, AllocError> {
-    let mut source = MemSource::new(input, usize::MAX, Vec::new(alloc));
-    run_into(alloc, words, &mut source, &Cut::none(alloc))
+pub fn run_over(alloc: Global, words: &[String], input: &[u8]) -> Ran {
+    let mut source = MemSource::new(copy_of(alloc, input), usize::MAX, Vec::new(alloc));
+    run_through(alloc, words, &mut source, &Cut::none(alloc))
 }
 
 /// Appends a text. Where its last line is open, a `\` stands behind it.
-pub fn tell_text(told: &mut Vec<u8>, text: &[u8]) -> Result<(), AllocError> {
-    told.extend_from_slice(text)?;
+pub fn tell_text(text: &[u8], told: &mut Vec<u8>) {
+    put(text, told);
     match text.last() {
-        None | Some(b'\n') => Ok(()),
-        Some(_) => told.extend_from_slice(b"\\\n"),
+        None | Some(b'\n') => {}
+        Some(_) => put(b"\\\n", told),
     }
 }
 
 /// Appends the status of a run, and whether it read at all.
-pub fn tell_status(alloc: Global, told: &mut Vec<u8>, ran: &Ran) -> Result<(), AllocError> {
-    let status = ran.status;
-    let line = if ran.reads == 0 {
-        format!(in alloc; "status {status}, nothing read\n")?
-    } else {
-        format!(in alloc; "status {status}\n")?
-    };
-    told.extend_from_slice(line.as_bytes())
+pub fn tell_status(alloc: Global, ran: &Ran, told: &mut Vec<u8>) {
+    put(b"status ", told);
+    put_number(alloc, u64::from(ran.status), told);
+    put(
+        if ran.reads == 0 {
+            b", nothing read\n"
+        } else {
+            b"\n"
+        },
+        told,
+    );
 }
 
-/// What a run of words wrote, and its status.
-pub fn told(alloc: Global, words: &[String], given: &Given) -> Result<Vec<u8>, AllocError> {
-    let ran = run(alloc, words, given)?;
-    let mut told = Vec::new(alloc);
-    tell_text(&mut told, &ran.text)?;
-    tell_status(alloc, &mut told, &ran)?;
-    Ok(told)
+/// Appends what a run wrote, and its status.
+pub fn tell_run(alloc: Global, ran: &Ran, told: &mut Vec<u8>) {
+    tell_text(&ran.text, told);
+    tell_status(alloc, ran, told);
 }
 
 /// What `count` answers for the lists of one record, behind a line that stood there before.
-fn answer_lists(alloc: Global, lists: &Rotations) -> Result<Vec<u8>, AllocError> {
-    let mut told = Vec::from_slice(alloc, b"before\n")?;
-    if 0 < lists.len()
-        && lists.len() < 4096
-        && answer_record(alloc, Job::Count, 1, lists, &mut told)?
-    {
-        told.extend_from_slice(b"served\n")?;
+fn answer_lists(alloc: Global, lists: &Rotations, told: &mut Vec<u8>) {
+    put(b"before\n", told);
+    if 0 < lists.len() && lists.len() < 4096 {
+        match answer_record(alloc, Job::Count, 1, lists, told) {
+            Ok(true) => put(b"served\n", told),
+            _ => {}
+        }
     }
-    Ok(told)
 }
 
 /// The same for the record that is given.
-pub fn answered(alloc: Global, given: &Given) -> Result<Vec<u8>, AllocError> {
-    match first_record(alloc, &given.input)? {
-        Some(lists) => answer_lists(alloc, &lists),
-        None => Vec::from_slice(alloc, b"no record\n"),
+pub fn answer(alloc: Global, given: &Given, told: &mut Vec<u8>) {
+    match next_record(alloc, &given.input, 0) {
+        Ok(Step::Lists(lists, _)) => answer_lists(alloc, &lists, told),
+        _ => put(b"no record\n", told),
     }
 }

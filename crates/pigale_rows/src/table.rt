@@ -1,10 +1,10 @@
 //! The lines of the table.
 use crate::given::Given;
-use crate::judged::{judged, summed};
-use crate::pieces::put;
-use crate::runs::{answered, told};
-use crate::watched::watched;
-use std::alloc::{AllocError, Global};
+use crate::judged::{judge, sum};
+use crate::pieces::{halves, put};
+use crate::runs::{self, run, tell_run};
+use crate::watched::watch;
+use std::alloc::Global;
 
 /// An input with a name.
 #[derive(Drop)]
@@ -30,63 +30,60 @@ impl Table {
     }
 
     /// Gives a name to the input, which is then empty.
-    fn name(&mut self, alloc: Global, name: &str) -> Result<(), AllocError> {
-        let name = String::from_str(alloc, name)?;
-        let bytes = std::mem::replace(&mut self.given.input, Vec::new(alloc));
-        self.named.push(Named { name, bytes })?;
-        Ok(())
+    fn name(&mut self, alloc: Global, name: &str) {
+        if let Ok(name) = String::from_str(alloc, name) {
+            let bytes = std::mem::replace(&mut self.given.input, Vec::new(alloc));
+            let _ = self.named.push(Named { name, bytes });
+        }
     }
 
     /// Does what a line says that gives something; answers whether there is such a line.
-    fn take(&mut self, alloc: Global, word: &str, rest: &str) -> Result<bool, AllocError> {
+    fn take(&mut self, alloc: Global, word: &str, rest: &str) -> bool {
         match word {
             "name" => {
-                self.name(alloc, rest)?;
-                Ok(true)
+                self.name(alloc, rest);
+                true
             }
             "copy" => copy(&self.named, &mut self.given.input, rest),
-            _ => self.given_or_put(alloc, word, rest),
+            _ => self.given.take(word, rest) || put(alloc, &mut self.given.input, word, rest),
         }
     }
 
-    /// The same for the lines that no name has to do with.
-    fn given_or_put(&mut self, alloc: Global, word: &str, rest: &str) -> Result<bool, AllocError> {
-        if self.given.take(alloc, word, rest)? {
-            Ok(true)
-        } else {
-            put(alloc, &mut self.given.input, word, rest)
-        }
-    }
-
-    /// What a line that gives something adds to the output: nothing, unless there is no such line.
-    fn set(&mut self, alloc: Global, word: &str, rest: &str) -> Result<Vec<u8>, AllocError> {
-        if self.take(alloc, word, rest)? {
-            Ok(Vec::new(alloc))
-        } else {
-            Vec::from_slice(alloc, b"no such line\n")
+    /// The same, and says so where there is no such line.
+    fn set(&mut self, alloc: Global, word: &str, rest: &str, told: &mut Vec<u8>) {
+        if !self.take(alloc, word, rest) {
+            runs::put(b"no such line\n", told);
         }
     }
 
     /// A heading, which forgets what was given.
-    fn begin(&mut self, alloc: Global, line: &str) -> Result<Vec<u8>, AllocError> {
+    fn begin(&mut self, alloc: Global, line: &str, told: &mut Vec<u8>) {
         self.given = Given::new(alloc);
-        let mut told = Vec::from_slice(alloc, line.as_bytes())?;
-        told.push(b'\n')?;
-        Ok(told)
+        runs::put(line.as_bytes(), told);
+        runs::put(b"\n", told);
     }
 
     /// What a line adds to the output.
-    pub fn answer(&mut self, alloc: Global, line: &str) -> Result<Vec<u8>, AllocError> {
-        let (word, rest) = line.split_once(' ').unwrap_or((line, ""));
+    pub fn answer(&mut self, alloc: Global, line: &str, told: &mut Vec<u8>) {
+        let (word, rest) = halves(line, "");
         match word {
-            "#" => self.begin(alloc, line),
-            "run" => told(alloc, &words_of(alloc, rest)?, &self.given),
-            "judge" => judged(alloc, &words_of(alloc, rest)?, &self.given),
-            "sum" => summed(alloc, &words_of(alloc, rest)?, &self.given),
-            "watch" => watched(alloc, &words_of(alloc, rest)?, &self.given),
-            "answer" => answered(alloc, &self.given),
-            _ => self.set(alloc, word, rest),
+            "#" => self.begin(alloc, line, told),
+            "run" | "judge" | "sum" | "watch" => {
+                run_words(alloc, word, &words_of(alloc, rest), &self.given, told);
+            }
+            "answer" => runs::answer(alloc, &self.given, told),
+            _ => self.set(alloc, word, rest, told),
         }
+    }
+}
+
+/// A run of words over what is given.
+fn run_words(alloc: Global, how: &str, words: &[String], given: &Given, told: &mut Vec<u8>) {
+    match how {
+        "run" => tell_run(alloc, &run(alloc, words, given), told),
+        "judge" => judge(alloc, words, given, told),
+        "sum" => sum(alloc, words, given, told),
+        _ => watch(alloc, words, given, told),
     }
 }
 
@@ -100,36 +97,40 @@ fn bytes_named<'a>(named: &'a [Named], name: &str) -> Option<&'a [u8]> {
     None
 }
 
+/// Appends so many of the first bytes of some.
+fn put_first(input: &mut Vec<u8>, bytes: &[u8], count: &str) {
+    let count = count.parse::<usize>().unwrap_or(bytes.len());
+    let _ = input.extend_from_slice(&bytes[..count.min(bytes.len())]);
+}
+
 /// Appends an input by its name, or so many of its first bytes; answers whether there is one.
-fn copy(named: &[Named], input: &mut Vec<u8>, rest: &str) -> Result<bool, AllocError> {
-    let (name, count) = rest.split_once(' ').unwrap_or((rest, ""));
-    let Some(bytes) = bytes_named(named, name) else {
-        return Ok(false);
-    };
-    let count = count
-        .parse::<usize>()
-        .unwrap_or(bytes.len())
-        .min(bytes.len());
-    input.extend_from_slice(&bytes[..count])?;
-    Ok(true)
+fn copy(named: &[Named], input: &mut Vec<u8>, rest: &str) -> bool {
+    let (name, count) = halves(rest, "");
+    match bytes_named(named, name) {
+        Some(bytes) => {
+            put_first(input, bytes, count);
+            true
+        }
+        None => false,
+    }
 }
 
 /// A word, in which `_` stands for a space; `''` is the empty one.
-fn word_of(alloc: Global, word: &str) -> Result<String, AllocError> {
+fn word_of(alloc: Global, word: &str) -> String {
     let mut made = String::new(alloc);
     if word != "''" {
         for letter in word.chars() {
-            made.push(if letter == '_' { ' ' } else { letter })?;
+            let _ = made.push(if letter == '_' { ' ' } else { letter });
         }
     }
-    Ok(made)
+    made
 }
 
 /// The words between the spaces.
-fn words_of(alloc: Global, text: &str) -> Result<Vec<String>, AllocError> {
+fn words_of(alloc: Global, text: &str) -> Vec<String> {
     let mut words = Vec::new(alloc);
     for word in text.split_whitespace() {
-        words.push(word_of(alloc, word)?)?;
+        let _ = words.push(word_of(alloc, word));
     }
-    Ok(words)
+    words
 }

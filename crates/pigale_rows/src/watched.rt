@@ -2,10 +2,9 @@
 ghost use Rattle.std.specs.Prelude.{None};
 
 use crate::given::Given;
-use crate::runs::source_of;
+use crate::runs::{put, put_number, source_of, status_of};
 use pg_io::{MemSource, ReadFailed, Sink, Source, WriteFailed};
-use pigale_shell::pigale;
-use std::alloc::{AllocError, Global};
+use std::alloc::Global;
 use std::cell::Cell;
 
 /// What one read gave, and how many bytes had been written before it.
@@ -54,30 +53,32 @@ impl Sink for Counting<'_> {
     }
 }
 
-/// What was seen, a line for each read.
-fn tell(alloc: Global, seen: &[Seen]) -> Result<String, AllocError> {
-    let mut told = String::new(alloc);
-    for each in seen {
-        let (given, written) = (each.given, each.written);
-        let line = format!(in alloc; "read {given} with {written} written\n")?;
-        told.push_str(line.as_str())?;
-    }
-    Ok(told)
+/// Appends a name and a number, and how many bytes had been written.
+fn tell_one(alloc: Global, name: &[u8], number: u64, written: u64, told: &mut Vec<u8>) {
+    put(name, told);
+    put_number(alloc, number, told);
+    put(b" with ", told);
+    put_number(alloc, written, told);
+    put(b" written\n", told);
 }
 
-/// What is seen of a run of words, how many bytes it wrote, and its status.
-pub fn watched(alloc: Global, words: &[String], given: &Given) -> Result<Vec<u8>, AllocError> {
+/// Appends what was seen, a line for each read.
+fn tell_seen(alloc: Global, seen: &[Seen], told: &mut Vec<u8>) {
+    for each in seen {
+        tell_one(alloc, b"read ", each.given as u64, each.written, told);
+    }
+}
+
+/// Appends what is seen of a run of words, how many bytes it wrote, and its status.
+pub fn watch(alloc: Global, words: &[String], given: &Given, told: &mut Vec<u8>) {
     let written = Cell::new(0);
     let mut source = Watching {
-        source: source_of(given)?,
+        source: source_of(alloc, given),
         written: &written,
         seen: Vec::new(alloc),
     };
     let mut sink = Counting { written: &written };
-    let status = pigale(alloc, words, &mut source, &mut sink).number();
-    let mut told = tell(alloc, &source.seen)?;
-    let total = written.get();
-    let last = format!(in alloc; "status {status} with {total} written\n")?;
-    told.push_str(last.as_str())?;
-    Ok(told.into_bytes())
+    let status = status_of(alloc, words, &mut source, &mut sink);
+    tell_seen(alloc, &source.seen, told);
+    tell_one(alloc, b"status ", u64::from(status), written.get(), told);
 }
