@@ -63,6 +63,30 @@ fn is_bounding(
         || (sides.right.0 == c.0 && is_face(map, map.twin(d), b, a, c))
 }
 
+// Whether `a`, `b` and `c`, which rise, are a separating triangle.
+fn is_separating_rising(
+    map: &HalfMap,
+    rows: &Rotations,
+    d: DartId,
+    a: VertexId,
+    b: VertexId,
+    sides: Sides,
+    c: VertexId,
+) -> bool
+    requires known { IsHalfMap map.now }
+    requires rows { AreUpperRows map.now.lists rows.now }
+    requires dart { dart_at map.now d.0 ≡ Some (a.0, b.0) }
+    requires sides { AreSides map.now.lists a.0 b.0 sides.left.0 sides.right.0 }
+    requires third { c.0 < length map.now.lists }
+    requires rising { a.0 < b.0 }
+    requires rising_on { b.0 < c.0 }
+    ensures { IsTrue result ↔ IsSeparating map.now.lists a.0 b.0 c.0 }
+{
+    !is_bounding(map, d, a, b, sides, c)
+        && are_adjacent(map, rows, b, c)
+        && are_adjacent(map, rows, a, c)
+}
+
 // Whether `a`, `b` and `c` are a separating triangle.
 fn is_separating(
     map: &HalfMap,
@@ -80,14 +104,10 @@ fn is_separating(
     requires third { c.0 < length map.now.lists }
     ensures { IsTrue result ↔ IsSeparating map.now.lists a.0 b.0 c.0 }
 {
-    a.0 < b.0
-        && b.0 < c.0
-        && !is_bounding(map, d, a, b, sides, c)
-        && are_adjacent(map, rows, b, c)
-        && are_adjacent(map, rows, a, c)
+    a.0 < b.0 && b.0 < c.0 && is_separating_rising(map, rows, d, a, b, sides, c)
 }
 
-// The same, where most vertices fail by their numbers alone.
+// The same of an edge that rises, where most vertices fail by their numbers alone.
 #[inline(always)]
 fn is_third(
     map: &HalfMap,
@@ -103,9 +123,10 @@ fn is_third(
     requires dart { dart_at map.now d.0 ≡ Some (a.0, b.0) }
     requires sides { AreSides map.now.lists a.0 b.0 sides.left.0 sides.right.0 }
     requires third { c.0 < length map.now.lists }
+    requires rising { a.0 < b.0 }
     ensures { IsTrue result ↔ IsSeparating map.now.lists a.0 b.0 c.0 }
 {
-    b.0 < c.0 && is_separating(map, rows, d, a, b, sides, c)
+    b.0 < c.0 && is_separating_rising(map, rows, d, a, b, sides, c)
 }
 
 // Whether the head of dart `e` is the third vertex of a separating triangle with `a` and `b`.
@@ -166,15 +187,18 @@ fn least_third(
     }
 }
 
-// The shorter one of two lists.
-fn shorter(lists: &Rotations, a: VertexId, b: VertexId) -> &[u16]
+// The shorter one of the lists of two vertices of a map with these lists.
+fn shorter<'a>(map: &HalfMap, lists: &'a Rotations, a: VertexId, b: VertexId) -> &'a [u16]
+    requires lists { lists.now ≡ map.now.lists }
     requires a { a.0 < length lists.now }
     requires b { b.0 < length lists.now }
     ensures { (result.now ≡ list_of lists.now a.0) ⊎ (result.now ≡ list_of lists.now b.0) }
 {
-    let us = lists.list(usize::from(a.0));
-    let vs = lists.list(usize::from(b.0));
-    if us.len() <= vs.len() { us } else { vs }
+    if map.degree(a) <= map.degree(b) {
+        lists.list(usize::from(a.0))
+    } else {
+        lists.list(usize::from(b.0))
+    }
 }
 
 // Whether a list has a third vertex of the edge from `a` to `b`.
@@ -189,6 +213,7 @@ fn has_third_in(
     requires known { IsHalfMap map.now }
     requires rows { AreUpperRows map.now.lists rows.now }
     requires dart { dart_at map.now d.0 ≡ Some (a.0, b.0) }
+    requires rising { a.0 < b.0 }
     requires vertices { (k : ℕ) → k < length us.now → slice_index us.now k < length map.now.lists }
     ensures some { OnTrue result (HasThird map.now.lists a.0 b.0) }
     ensures none { result ≡ false → (k : ℕ) → k < length us.now → ¬ IsSeparating map.now.lists a.0 b.0 (slice_index us.now k) }
@@ -215,9 +240,10 @@ fn has_third(
     requires rows { AreUpperRows map.now.lists rows.now }
     requires lists { lists.now ≡ map.now.lists }
     requires dart { dart_at map.now d.0 ≡ Some (a.0, b.0) }
+    requires rising { a.0 < b.0 }
     ensures { IsTrue result ↔ HasThird map.now.lists a.0 b.0 }
 {
-    has_third_in(map, rows, d, a, b, shorter(lists, a, b))
+    has_third_in(map, rows, d, a, b, shorter(map, lists, a, b))
 }
 
 // Whether the edge of a dart has a third vertex, and the tail is its lesser end.
