@@ -1,6 +1,6 @@
 -- Numbers that join the lists of a record one by one.
 use Rattle.std.proofs.Common.{◌≡◌, ℕ, zero, suc, ◌+◌, ◌*◌, ◌<◌, ◌≤◌, List, [], ◌∷◌, ◌++◌, length, get_or, take, flat_map, refl, sym, ap, subst, ◌∙◌, arith, append_assoc}
-use Rattle.std.proofs.lemmas.List.{append-nil, length-append, take_more}
+use Rattle.std.proofs.lemmas.List.{append-nil, length-append, length-take-le, take_more}
 use Rattle.std.proofs.lemmas.Grind.{flat_map-append}
 use Rattle.planar_code.specs.Reading.{two_bytes}
 use Rattle.planar_code.specs.Open.{Open, numbers_of, Collects, IsOpen, Gathers}
@@ -62,15 +62,20 @@ take-pair piece k within =
     ∙ ap (λ (x : List ℕ). x ++ get_or piece (k + 1) 0 ∷ []) (take_more piece k 0 (omega arith))
     ∙ append_assoc (take k piece) (get_or piece k 0 ∷ []) (get_or piece (k + 1) 0 ∷ [])
 
-pub wide-gathers : (count k number high low : ℕ) (piece : List ℕ) (old mid new : Open) → k + 1 < length piece → high ≡ get_or piece k 0 → low ≡ get_or piece (k + 1) 0 → low < 256 → number ≡ 256 * high + low → number < 65536 → length mid.lists < count → GathersWide count (take k piece) old mid → Collects number mid.lists mid.last new.lists new.last → mid.room ≤ new.room + 1 → new.most ≡ mid.most → GathersWide count (take (k + 2) piece) old new
-wide-gathers count k number high low piece old mid new within at at' small is_number fits some is collects room most = (
-  is.0 ++ number ∷ [],
-  flat_map-append two_bytes is.0 (number ∷ [])
-      ∙ ap (λ (x : List ℕ). x ++ two_bytes number) is.1
-      ∙ ap (λ (x : List ℕ). take k piece ++ x) (ap two_bytes is_number ∙ pair_of high low small ∙ ap (λ (x : ℕ). x ∷ low ∷ []) at ∙ ap (λ (x : ℕ). get_or piece k 0 ∷ x ∷ []) at')
-      ∙ sym (take-pair piece k within),
-  gathers-more 65535 count number is.0 old mid new (omega arith) some is.2 collects room most,
-)
+-- the pairs of a wide record so far, and one more
+pub wide-gathers : (count k number : ℕ) (piece : List ℕ) (old mid new : Open) → ((i : ℕ) → get_or piece i 0 < 256) → 2 * k + 1 < length piece → number ≡ 256 * get_or piece (2 * k) 0 + get_or piece (2 * k + 1) 0 → length mid.lists < count → GathersWide count (take (2 * k) piece) old mid → Collects number mid.lists mid.last new.lists new.last → mid.room ≤ new.room + 1 → new.most ≡ mid.most → GathersWide count (take (2 * (k + 1)) piece) old new
+wide-gathers count k number piece old mid new bytes within is_number some is collects room most =
+    let high = get_or piece (2 * k) 0 in
+    let low = get_or piece (2 * k + 1) 0 in
+    let next : 2 * k + 2 ≡ 2 * (k + 1) = omega arith in (
+      is.0 ++ number ∷ [],
+      flat_map-append two_bytes is.0 (number ∷ [])
+          ∙ ap (λ (x : List ℕ). x ++ two_bytes number) is.1
+          ∙ ap (λ (x : List ℕ). take (2 * k) piece ++ x) (ap two_bytes is_number ∙ pair_of high low (bytes (2 * k + 1)))
+          ∙ sym (take-pair piece (2 * k) within)
+          ∙ ap (λ (n : ℕ). take n piece) next,
+      gathers-more 65535 count number is.0 old mid new (omega (arith, is_number, bytes (2 * k), bytes (2 * k + 1))) some is.2 collects room most,
+    )
 
 -- two bytes for each number
 pairs-length : (numbers : List ℕ) → length (flat_map two_bytes numbers) ≡ 2 * length numbers
@@ -82,3 +87,8 @@ pub wide-room : (count : ℕ) (bytes : List ℕ) (old new : Open) → GathersWid
 wide-room count bytes old new is =
     let r = is.2.room in
     omega (arith, pairs-length is.0, ap length is.1)
+
+-- there is room for a pair to come
+pub wide-some_room : (count k : ℕ) (piece : List ℕ) (old new : Open) → length piece ≤ old.room → 2 * k < length piece → GathersWide count (take (2 * k) piece) old new → 0 < new.room
+wide-some_room count k piece old new room within is =
+    omega (arith, wide-room count (take (2 * k) piece) old new is, length-take-le (2 * k) piece (omega arith))

@@ -102,7 +102,31 @@ pub fn gather_wide(alloc: Global, gathered: &mut OpenLists, count: usize, piece:
     taken
 }
 
-// The loop of `gather_wide`.
+// The number of the pair of bytes at `pair`.
+fn pair_at(piece: &[u8], pair: usize) -> u16
+    requires { 2 * pair + 1 < length piece.now }
+    ensures { result ≡ 256 * slice_index piece.now (2 * pair) + slice_index piece.now (2 * pair + 1) }
+{
+    number_of(piece[2 * pair], piece[2 * pair + 1])
+}
+
+// How many pairs of bytes there are up to the last number 0, or none.
+fn pairs_to_last_zero(piece: &[u8]) -> usize
+    ensures within { 2 * result ≤ length piece.now }
+    ensures zero { 0 < result → 256 * slice_index piece.now (2 * (result - 1)) + slice_index piece.now (2 * (result - 1) + 1) ≡ 0 }
+    ensures none { (i : ℕ) → result ≤ i → 2 * i + 1 < length piece.now → 0 < 256 * slice_index piece.now (2 * i) + slice_index piece.now (2 * i + 1) }
+{
+    let mut pairs = piece.len() / 2;
+    while 0 < pairs {
+        if pair_at(piece, pairs - 1) == 0 {
+            return pairs;
+        }
+        pairs -= 1;
+    }
+    0
+}
+
+// The loops of `gather_wide`, as those of `narrow_numbers`.
 #[inline(always)]
 fn wide_numbers(gathered: &mut OpenLists, count: usize, piece: &[u8]) -> usize
     requires some { 1 < length piece.now }
@@ -115,12 +139,23 @@ fn wide_numbers(gathered: &mut OpenLists, count: usize, piece: &[u8]) -> usize
         × Gathers 65535 count numbers gathered.old gathered.new }
 {
     let pairs = piece.len() / 2;
-    for k in 0..pairs {
-        let number = number_of(piece[2 * k], piece[2 * k + 1]);
-        gathered.collect(number);
-        if number == 0 && gathered.closed() == count {
-            return 2 * k + 2;
+    let end = pairs_to_last_zero(piece);
+    let mut k = 0;
+    'lists: while k < end {
+        let mut number = pair_at(piece, k);
+        'list: while number != 0 {
+            gathered.collect(number);
+            k += 1;
+            number = pair_at(piece, k);
         }
+        gathered.collect(0);
+        k += 1;
+        if gathered.closed() == count {
+            return 2 * k;
+        }
+    }
+    for i in k..pairs {
+        gathered.collect(pair_at(piece, i));
     }
     2 * pairs
 }
