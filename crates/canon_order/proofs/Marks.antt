@@ -1,13 +1,13 @@
 -- Marks that are set and taken away, the counts of marked neighbours, and what a mark puts on the stack.
-use Rattle.std.proofs.Common.{◌≡◌, ◌≢◌, ◌⊎◌, ◌↔◌, ◌&&◌, ℕ, ◌+◌, ◌-◌, ◌<◌, ◌≤◌, Bool, true, false, not, cond, eqb, List, [], ◌∷◌, ◌++◌, length, get_or, take, set, count_by, Contains, All, refl, sym, ap, ap₂, ◌∙◌, subst, inl, inr, arith, ltb, lt-ltb, ltb-true, eq-eqb, ne_eqb, length-set, get_or-set_same, get_or-set_other}
+use Rattle.std.proofs.Common.{◌≡◌, ◌≢◌, ◌⊎◌, ◌↔◌, ◌&&◌, ℕ, ◌+◌, ◌-◌, ◌<◌, ◌≤◌, Bool, true, false, not, cond, eqb, List, [], ◌∷◌, ◌++◌, length, get_or, take, set, count_by, filter, Contains, All, refl, sym, ap, ap₂, ◌∙◌, subst, inl, inr, arith, ltb, lt-ltb, ltb-true, eq-eqb, ne_eqb, length-set, get_or-set_same, get_or-set_other}
 use Rattle.std.proofs.lemmas.Bool.{cases_eq, cases_lt, cases_Bool, true≢false, false≢true, and_parts, and_from, and_right, not-true}
 use Rattle.std.proofs.lemmas.List.{get_or_past, get_or_default, take_more, length-take-le, get_or-take}
 use Rattle.std.proofs.lemmas.List.Sums.{sum_by-cons, count_by-le-length}
-use Rattle.std.proofs.lemmas.List.Elements.{All-append, All-cons, All-nil, Contains-append_left, Contains-append_right, Contains-append_cases, Contains-get_or}
+use Rattle.std.proofs.lemmas.List.Elements.{All-append, All-cons, All-filter, All-nil, Contains-append_left, Contains-append_right, Contains-append_cases, Contains-get_or}
 use Rattle.map_lists.specs.Lists.{Lists}
 use Rattle.map_theory.specs.Maps.{IsSimpleMap, list_of}
 use Rattle.map_theory.proofs.DartCounts.{length-le-below}
-use Rattle.map_theory.proofs.EntryLemmas.{count_of, count_of-le-one, Contains-from_count_of, Contains-counted, Contains-here}
+use Rattle.map_theory.proofs.EntryLemmas.{count_of, count_of-le-one, Contains-from_count_of, Contains-counted, Contains-here, Contains-filter}
 use Rattle.plane_peeling.specs.Restricted.{kept_but}
 use Rattle.plane_peeling.proofs.RestrictedMaps.{cases_Contains, restricted-old, restricted-new, kept_but-itself}
 use Rattle.plane_peeling.proofs.Rings.{each_of_one, each_of_three}
@@ -137,41 +137,40 @@ module _ (lists : Lists) (simple : IsSimpleMap lists) where
       ]
 
 -- one mark
-pub IsNoted-marked : (lists : Lists) (simple : IsSimpleMap lists) (marked : List Bool) (near stack : List ℕ) (v : ℕ) (marked' : List Bool) (near' stack' : List ℕ) → v < length lists → All (λ u. u < length lists) stack → marked' ≡ set marked v true → stack' ≡ stack ++ v ∷ [] ++ list_of lists v → IsTally lists marked' near' → ((u : ℕ) → ¬ Contains (list_of lists v) u → get_or near' u 0 ≡ get_or near u 0) → IsNoted lists marked near stack marked' near' stack'
+pub IsNoted-marked : (lists : Lists) (simple : IsSimpleMap lists) (marked : List Bool) (near stack : List ℕ) (v : ℕ) (marked' : List Bool) (near' stack' : List ℕ) → v < length lists → All (λ u. u < length lists) stack → marked' ≡ set marked v true → stack' ≡ stack ++ v ∷ [] ++ filter (is_set marked') (list_of lists v) → IsTally lists marked' near' → ((u : ℕ) → ¬ Contains (list_of lists v) u → get_or near' u 0 ≡ get_or near u 0) → IsNoted lists marked near stack marked' near' stack'
 IsNoted-marked lists simple marked near stack v marked' near' stack' l vertices e e' tally elsewhere =
-    let us = list_of lists v in
+    let us = filter (is_set marked') (list_of lists v) in
     let P : ℕ → Type 0 = λ u. u < length lists in
     record {
       tally = tally;
-      vertices = subst (All P) (sym e') (All-append P (stack ++ v ∷ []) us (All-append P stack (v ∷ []) vertices (All-cons P v [] l (All-nil P))) (list_within lists simple v l));
+      vertices = subst (All P) (sym e') (All-append P (stack ++ v ∷ []) us (All-append P stack (v ∷ []) vertices (All-cons P v [] l (All-nil P))) (All-filter (is_set marked') P (list_of lists v) (list_within lists simple v l)));
       kept = λ u c. subst (λ (s : List ℕ). Contains s u) (sym e') (Contains-append_left (stack ++ v ∷ []) us u (Contains-append_left stack (v ∷ []) u c));
-      noted = λ u. elim (cases_Contains stack' u) [
+      noted = λ u on. elim (cases_Contains stack' u) [
         | inl c ↦ inl c
         | inr none ↦
             let out : ¬ Contains (stack ++ v ∷ [] ++ us) u = λ c. none (subst (λ (s : List ℕ). Contains s u) (sym e') c) in
             let ne : u ≢ v = λ q. out (Contains-append_left (stack ++ v ∷ []) us u (Contains-append_right stack (v ∷ []) u (subst (λ z. Contains (v ∷ []) z) (sym q) (Contains-here v [])))) in
-            inr ((λ on. sym (ap (λ m. is_set m u) e ∙ is_set-other marked v u true ne) ∙ on), elsewhere u (λ c. out (Contains-append_right (stack ++ v ∷ []) us u c)))
+            inr (sym (ap (λ m. is_set m u) e ∙ is_set-other marked v u true ne) ∙ on, elsewhere u (λ c. out (Contains-append_right (stack ++ v ∷ []) us u (Contains-filter (is_set marked') (list_of lists v) u c on))))
       ];
     }
 
 -- one mark less
-pub IsNoted-unmarked : (lists : Lists) (simple : IsSimpleMap lists) (marked : List Bool) (near stack : List ℕ) (v : ℕ) (marked' : List Bool) (near' stack' : List ℕ) → v < length lists → length marked ≡ length lists → All (λ u. u < length lists) stack → marked' ≡ set marked v false → stack' ≡ stack ++ list_of lists v → IsTally lists marked' near' → ((u : ℕ) → ¬ Contains (list_of lists v) u → get_or near' u 0 ≡ get_or near u 0) → IsNoted lists marked near stack marked' near' stack'
+pub IsNoted-unmarked : (lists : Lists) (simple : IsSimpleMap lists) (marked : List Bool) (near stack : List ℕ) (v : ℕ) (marked' : List Bool) (near' stack' : List ℕ) → v < length lists → length marked ≡ length lists → All (λ u. u < length lists) stack → marked' ≡ set marked v false → stack' ≡ stack ++ filter (is_set marked') (list_of lists v) → IsTally lists marked' near' → ((u : ℕ) → ¬ Contains (list_of lists v) u → get_or near' u 0 ≡ get_or near u 0) → IsNoted lists marked near stack marked' near' stack'
 IsNoted-unmarked lists simple marked near stack v marked' near' stack' l m vertices e e' tally elsewhere =
-    let us = list_of lists v in
+    let us = filter (is_set marked') (list_of lists v) in
     let P : ℕ → Type 0 = λ u. u < length lists in
     record {
       tally = tally;
-      vertices = subst (All P) (sym e') (All-append P stack us vertices (list_within lists simple v l));
+      vertices = subst (All P) (sym e') (All-append P stack us vertices (All-filter (is_set marked') P (list_of lists v) (list_within lists simple v l)));
       kept = λ u c. subst (λ (s : List ℕ). Contains s u) (sym e') (Contains-append_left stack us u c);
-      noted = λ u. elim (cases_Contains stack' u) [
+      noted = λ u on. elim (cases_Contains stack' u) [
         | inl c ↦ inl c
         | inr none ↦
+            let on' : is_set (set marked v false) u ≡ true = sym (ap (λ m. is_set m u) e) ∙ on in
+            let ne : u ≢ v = λ z. true≢false (sym on' ∙ (ap (is_set (set marked v false)) z ∙ is_set-here marked v false (omega arith))) in
             inr (
-              (λ on.
-                  let on' : is_set (set marked v false) u ≡ true = sym (ap (λ m. is_set m u) e) ∙ on in
-                  let ne : u ≢ v = λ z. true≢false (sym on' ∙ (ap (is_set (set marked v false)) z ∙ is_set-here marked v false (omega arith))) in
-                  sym (is_set-other marked v u false ne) ∙ on'),
-              elsewhere u (λ c. none (subst (λ (s : List ℕ). Contains s u) (sym e') (Contains-append_right stack us u c))),
+              sym (is_set-other marked v u false ne) ∙ on',
+              elsewhere u (λ c. none (subst (λ (s : List ℕ). Contains s u) (sym e') (Contains-append_right stack us u (Contains-filter (is_set marked') (list_of lists v) u c on)))),
             )
       ];
     }
@@ -182,9 +181,9 @@ IsNoted-chained lists m0 n0 s0 m1 n1 s1 m2 n2 s2 one two = record {
   tally = two.tally;
   vertices = two.vertices;
   kept = λ u c. two.kept u (one.kept u c);
-  noted = λ u. elim (two.noted u) [
+  noted = λ u on. elim (two.noted u on) [
     | inl c ↦ inl c
-    | inr e ↦ elim (one.noted u) [ inl c ↦ inl (two.kept u c) | inr e' ↦ inr ((λ on. e'.0 (e.0 on)), e.1 ∙ e'.1) ]
+    | inr e ↦ elim (one.noted u e.0) [ inl c ↦ inl (two.kept u c) | inr e' ↦ inr (e'.0, e.1 ∙ e'.1) ]
   ];
 }
 

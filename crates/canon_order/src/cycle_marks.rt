@@ -2,9 +2,9 @@
 //! cycle of what is left of a map, while vertices are taken off it one by one.
 //!
 //! `marked` says of each vertex whether it is on that cycle, `gone` whether it was taken off, and `near` counts its
-//! neighbours that are marked. Whatever is newly marked or has another count is put on `stack`.
+//! neighbours that are marked. What is marked newly, or is marked and has another count, is put on `stack`.
 
-ghost use Rattle.std.specs.Prelude.{◌≡◌, ◌≢◌, ◌<◌, ◌⊎◌, ◌↔◌, ℕ, false, true, [], ◌∷◌, ◌++◌, length, slice_index, slice_set, Contains, All, IfOk};
+ghost use Rattle.std.specs.Prelude.{◌≡◌, ◌≢◌, ◌<◌, ◌⊎◌, ◌↔◌, ℕ, false, true, [], ◌∷◌, ◌++◌, length, slice_index, slice_set, filter, Contains, All, IfOk};
 ghost use Rattle.map_theory.specs.Maps.{IsSimpleMap, list_of};
 ghost use Rattle.canon_order.specs.Marks.{is_set, IsTally, IsUnmarked, IsNoted};
 
@@ -68,22 +68,29 @@ pub fn mark_three(
     mark(marks, counts, lists, third);
 }
 
-// Puts vertices on the stack.
-fn put_all(stack: &mut Vec<u16>, others: &[u16]) -> Result<(), AllocError>
-    ensures { IfOk result (λ _. stack.new.items ≡ stack.old.items ++ others.now) }
+// Puts those vertices that are marked on the stack.
+fn put_marked(stack: &mut Vec<u16>, marked: &[bool], others: &[u16]) -> Result<(), AllocError>
+    requires { All (λ u. u < length marked.now) others.now }
+    ensures { IfOk result (λ _. stack.new.items ≡ stack.old.items ++ filter (is_set marked.now) others.now) }
 {
-    stack.extend_from_slice(others)
+    for u in others {
+        if marked[*u as usize] {
+            stack.push(*u)?;
+        }
+    }
+    Ok(())
 }
 
-// Puts a vertex on the stack, and others.
-fn put_on(stack: &mut Vec<u16>, v: u16, others: &[u16]) -> Result<(), AllocError>
-    ensures { IfOk result (λ _. stack.new.items ≡ stack.old.items ++ v ∷ [] ++ others.now) }
+// Puts a vertex on the stack, and those others that are marked.
+fn put_on(stack: &mut Vec<u16>, marked: &[bool], v: u16, others: &[u16]) -> Result<(), AllocError>
+    requires { All (λ u. u < length marked.now) others.now }
+    ensures { IfOk result (λ _. stack.new.items ≡ stack.old.items ++ v ∷ [] ++ filter (is_set marked.now) others.now) }
 {
     stack.push(v)?;
-    put_all(stack, others)
+    put_marked(stack, marked, others)
 }
 
-// Marks a vertex that is not marked, and puts it and its neighbours on the stack.
+// Marks a vertex that is not marked, and puts it and its marked neighbours on the stack.
 fn mark_new(
     marked: &mut [bool],
     near: &mut [u16],
@@ -101,10 +108,10 @@ fn mark_new(
     ensures marks { marked.new ≡ slice_set marked.old v true }
 {
     mark(marked, near, lists, v);
-    put_on(stack, v, lists.list(v as usize))
+    put_on(stack, marked, v, lists.list(v as usize))
 }
 
-// Takes the mark of a vertex away, and puts its neighbours on the stack.
+// Takes the mark of a vertex away, and puts its marked neighbours on the stack.
 fn unmark_old(
     marked: &mut [bool],
     near: &mut [u16],
@@ -118,11 +125,11 @@ fn unmark_old(
     requires vertices { All (λ u. u < length lists.now) stack.old.items }
     requires marked { is_set marked.old v ≡ true }
     ensures noted { IfOk result (λ _. IsNoted lists.now marked.old near.old stack.old.items marked.new near.new stack.new.items) }
-    ensures neighbours { IfOk result (λ _. (u : ℕ) → Contains (list_of lists.now v) u → Contains stack.new.items u) }
+    ensures neighbours { IfOk result (λ _. (u : ℕ) → Contains (list_of lists.now v) u → is_set marked.new u ≡ true → Contains stack.new.items u) }
     ensures marks { marked.new ≡ slice_set marked.old v false }
 {
     unmark(marked, near, lists, v);
-    put_all(stack, lists.list(v as usize))
+    put_marked(stack, marked, lists.list(v as usize))
 }
 
 // Marks a vertex, if it is left and not marked.
@@ -191,7 +198,7 @@ pub fn leave_cycle(
     requires vertices { All (λ u. u < length lists.now) stack.old.items }
     requires marked { is_set marked.old v ≡ true }
     ensures noted { IfOk result (λ _. IsNoted lists.now marked.old near.old stack.old.items marked.new near.new stack.new.items) }
-    ensures neighbours { IfOk result (λ _. (u : ℕ) → Contains (list_of lists.now v) u → Contains stack.new.items u) }
+    ensures neighbours { IfOk result (λ _. (u : ℕ) → Contains (list_of lists.now v) u → is_set marked.new u ≡ true → Contains stack.new.items u) }
     ensures marks { IfOk result (λ _. (u : ℕ) → (is_set marked.new u ≡ true) ↔ ((is_set (slice_set marked.old v false) u ≡ true) ⊎ (Contains (list_of lists.now v) u × (is_set gone.now u ≡ false)))) }
 {
     unmark_old(marked, near, stack, lists, v)?;
