@@ -12,6 +12,26 @@ use crate::simple::tables_of;
 use map_lists::Rotations;
 use std::alloc::{AllocError, Global};
 
+// Whether a list is found that has as many entries as there are lists, which no simple map has. Whatever this answers,
+// the searches tell the fault: it saves tables for such lists, and passes over lists as short as those of a plane map
+// without a look.
+fn has_long_list(lists: &Rotations) -> bool
+    requires { length lists.now < 4096 }
+{
+    let count = lists.len();
+    if lists.total() <= 6 * count {
+        return false;
+    }
+    let mut start = 0;
+    for end in lists.ends() {
+        if end.wrapping_sub(start) >= count {
+            return true;
+        }
+        start = *end;
+    }
+    false
+}
+
 // The tails and the twins by one pass over the lists, which finds them or tells nothing.
 fn found_twins(
     lists: &Rotations,
@@ -25,7 +45,7 @@ fn found_twins(
     ensures count { IfOk result (λ found. OnTrue found (length tails.new.items ≡ length twins.new.items)) }
 {
     let entries = lists.entries();
-    if entries.len() >= NO_PLACE as usize {
+    if entries.len() >= NO_PLACE as usize || has_long_list(lists) {
         return Ok(false);
     }
     tails.resize(entries.len(), 0)?;
