@@ -7,7 +7,7 @@ ghost use Rattle.convex_orders.specs.Counts.{AreCounts};
 ghost use Rattle.convex_orders.specs.Shown.{is_set, IsBased, IsChoice, GoesOffNear, GoesOffAt};
 ghost use Rattle.convex_orders.specs.Splits.{IsOpenAt, NoneSplit, IsRemovableRow, IsRemovablePlace, IsGoneRun};
 
-use crate::contour_counts::{edge_near, move_to, step_back};
+use crate::contour_counts::{edge_at, move_to, step_back};
 use crate::face_numbers::FaceNumbers;
 use map_lists::Rotations;
 use std::alloc::AllocError;
@@ -190,8 +190,7 @@ fn same_face(
     requires darts { AreEdges lists.now (contour_of left.now right.now) }
     ensures { IsTrue result ↔ (inner_number lists.now faces.now.own (contour_of left.now right.now) i ≡ inner_number lists.now faces.now.own (contour_of left.now right.now) (suc i)) }
 {
-    edge_near(lists, faces, hints, left, right, i)
-        == edge_near(lists, faces, hints, left, right, i + 1)
+    edge_at(lists, faces, hints, left, right, i) == edge_at(lists, faces, hints, left, right, i + 1)
 }
 
 // Whether the edges behind place j have one number.
@@ -279,9 +278,9 @@ fn take_at(
     let _base = (tail, head);
     let j = left.len() - 1;
     if has_right(lists, faces, hints, left, right, j) {
-        clear_one(marks, edge_near(lists, faces, hints, left, right, j));
+        clear_one(marks, edge_at(lists, faces, hints, left, right, j));
     } else if has_left(lists, faces, hints, left, right, j) {
-        clear_one(marks, edge_near(lists, faces, hints, left, right, j - 1));
+        clear_one(marks, edge_at(lists, faces, hints, left, right, j - 1));
     } else {
         clear_row(marks, faces.own.list(left[j] as usize));
     }
@@ -304,7 +303,7 @@ fn is_kept(
     requires darts { AreEdges lists.now (contour_of left.now right.now) }
     ensures { result ≡ is_set marks.now (inner_number lists.now faces.now.own (contour_of left.now right.now) i) }
 {
-    marks[edge_near(lists, faces, hints, left, right, i) as usize]
+    marks[edge_at(lists, faces, hints, left, right, i) as usize]
 }
 
 // Where the edges without marks end, from the vertex before the place on.

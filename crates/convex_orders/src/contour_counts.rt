@@ -8,7 +8,7 @@ mod counts;
 mod numbers;
 mod stacks;
 
-pub use counts::{lower_part, lower_part_near, raise_all, raise_part, raise_part_near};
+pub use counts::{lower_part, raise_all, raise_part};
 pub(crate) use numbers::hint_at;
 pub use numbers::{number_back, number_near, number_of};
-pub use stacks::{edge_at, edge_near, move_to, part, step_back, vertex_at};
+pub use stacks::{edge_at, move_to, part, step_back, vertex_at};

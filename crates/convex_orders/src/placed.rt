@@ -7,7 +7,7 @@ ghost use Rattle.convex_orders.specs.Contours.{contour_of, AreEdges};
 ghost use Rattle.convex_orders.specs.Counts.{met_between, edges_between, AreCounts};
 ghost use Rattle.convex_orders.specs.Cuts.{edge_number, AreCutPlaces, SomeCutPlaces, IsCutRow, IsPutIn, IsTakenOut};
 
-use crate::contour_counts::{lower_part_near, move_to, number_near, part, raise_part_near};
+use crate::contour_counts::{lower_part, move_to, number_near, part, raise_part};
 use crate::face_numbers::FaceNumbers;
 use convex_laws::convex_rows::ConvexRows;
 use map_lists::Rotations;
@@ -149,7 +149,7 @@ pub(crate) fn take_out(
     ensures edges { IfOk result (λ _. (f : ℕ) → f < length edges.old → slice_index edges.new f + edges_between lists.now faces.now.own (contour_of left.old.items right.old.items) first end f ≡ slice_index edges.old f) }
 {
     move_to(left, right, end + 1)?;
-    lower_part_near(places, edges, lists, faces, hints, left, first, end);
+    lower_part(places, edges, lists, faces, hints, left, first, end);
     let x = left[end];
     push_news(rows, part(left, first + 1, end))?;
     left.truncate(first + 1);
@@ -185,6 +185,6 @@ pub(crate) fn put_in(
     ensures row { IfOk result (λ _. (count : ℕ) (cut : ℕ → ℕ) → AreCutPlaces lists.now faces.now.own left.now first (length left.now - 1) count cut → IsPutIn left.now first (length left.now - 1) count cut rows.old rows.new) }
 {
     let last = left.len() - 1;
-    raise_part_near(places, edges, lists, faces, hints, left, first, last);
+    raise_part(places, edges, lists, faces, hints, left, first, last);
     put_row(cuts, rows, lists, faces, hints, left, first, last)
 }

@@ -90,7 +90,7 @@ fn lower_edges(edges: &mut [u16], lists: &Rotations, faces: &FaceNumbers, hints:
 
 /// Adds what comes at places of the list: the rows of the vertices strictly between, and all edges. The numbers are
 /// looked for where `hints` has the places; whatever it has, the counts are the same.
-pub fn raise_part_near(
+pub fn raise_part(
     places: &mut [u16],
     edges: &mut [u16],
     lists: &Rotations,
@@ -117,35 +117,9 @@ pub fn raise_part_near(
     raise_edges(edges, lists, faces, hints, part(ws, first, last + 1));
 }
 
-/// Adds what comes at places of the list: the rows of the vertices strictly between, and all edges.
-pub fn raise_part(
-    places: &mut [u16],
-    edges: &mut [u16],
-    lists: &Rotations,
-    faces: &FaceNumbers,
-    ws: &[u16],
-    first: usize,
-    last: usize,
-)
-    requires simple { IsSimpleMap lists.now }
-    requires numbers { AreFaceNumbers lists.now faces.now.own faces.now.other faces.now.count }
-    requires table { IsTable lists.now faces.now.own (length edges.old) }
-    requires long { length places.old ≡ length edges.old }
-    requires order { first < last }
-    requires within { last < length ws.now }
-    requires vertices { (i : ℕ) → i < length ws.now → slice_index ws.now i < length lists.now }
-    requires edges { AreEdges lists.now ws.now }
-    requires room { (f : ℕ) → f < length places.old → slice_index places.old f + met_between faces.now.own ws.now first last f < 65536 }
-    requires room_edges { (f : ℕ) → f < length edges.old → slice_index edges.old f + edges_between lists.now faces.now.own ws.now first last f < 65536 }
-    ensures places { (f : ℕ) → f < length places.old → slice_index places.new f ≡ slice_index places.old f + met_between faces.now.own ws.now first last f }
-    ensures edges { (f : ℕ) → f < length edges.old → slice_index edges.new f ≡ slice_index edges.old f + edges_between lists.now faces.now.own ws.now first last f }
-{
-    raise_part_near(places, edges, lists, faces, &[], ws, first, last);
-}
-
 /// Takes away what goes from places of the list: the rows of the vertices strictly between, and all edges. The numbers
 /// are looked for where `hints` has the places; whatever it has, the counts are the same.
-pub fn lower_part_near(
+pub fn lower_part(
     places: &mut [u16],
     edges: &mut [u16],
     lists: &Rotations,
@@ -170,32 +144,6 @@ pub fn lower_part_near(
 {
     lower_vertices(places, &faces.own, part(ws, first + 1, last));
     lower_edges(edges, lists, faces, hints, part(ws, first, last + 1));
-}
-
-/// Takes away what goes from places of the list: the rows of the vertices strictly between, and all edges.
-pub fn lower_part(
-    places: &mut [u16],
-    edges: &mut [u16],
-    lists: &Rotations,
-    faces: &FaceNumbers,
-    ws: &[u16],
-    first: usize,
-    last: usize,
-)
-    requires simple { IsSimpleMap lists.now }
-    requires numbers { AreFaceNumbers lists.now faces.now.own faces.now.other faces.now.count }
-    requires table { IsTable lists.now faces.now.own (length edges.old) }
-    requires long { length places.old ≡ length edges.old }
-    requires order { first < last }
-    requires within { last < length ws.now }
-    requires vertices { (i : ℕ) → i < length ws.now → slice_index ws.now i < length lists.now }
-    requires edges { AreEdges lists.now ws.now }
-    requires some { (f : ℕ) → f < length places.old → met_between faces.now.own ws.now first last f ≤ slice_index places.old f }
-    requires some_edges { (f : ℕ) → f < length edges.old → edges_between lists.now faces.now.own ws.now first last f ≤ slice_index edges.old f }
-    ensures places { (f : ℕ) → f < length places.old → slice_index places.new f + met_between faces.now.own ws.now first last f ≡ slice_index places.old f }
-    ensures edges { (f : ℕ) → f < length edges.old → slice_index edges.new f + edges_between lists.now faces.now.own ws.now first last f ≡ slice_index edges.old f }
-{
-    lower_part_near(places, edges, lists, faces, &[], ws, first, last);
 }
 
 /// Counts a whole contour. At first there are no counts.

@@ -23,7 +23,7 @@ pub fn vertex_at(left: &[u16], right: &[u16], i: usize) -> u16
 
 /// The number of the face inside of the edge from place i to the next, which is looked for where `hints` has the place
 /// of the later vertex in the list of the other; whatever it has, the answer is the same.
-pub fn edge_near(
+pub fn edge_at(
     lists: &Rotations,
     faces: &FaceNumbers,
     hints: &[u16],
@@ -44,17 +44,6 @@ pub fn edge_near(
         vertex_at(left, right, i + 1),
         vertex_at(left, right, i),
     )
-}
-
-/// The number of the face inside of the edge from place i to the next.
-pub fn edge_at(lists: &Rotations, faces: &FaceNumbers, left: &[u16], right: &[u16], i: usize) -> u32
-    requires simple { IsSimpleMap lists.now }
-    requires numbers { AreFaceNumbers lists.now faces.now.own faces.now.other faces.now.count }
-    requires within { suc i < length left.now + length right.now }
-    requires edges { AreEdges lists.now (contour_of left.now right.now) }
-    ensures { result ≡ inner_number lists.now faces.now.own (contour_of left.now right.now) i }
-{
-    edge_near(lists, faces, &[], left, right, i)
 }
 
 /// Takes the last vertex of the one stack to the other.

@@ -26,7 +26,7 @@ clear_one-requires c =
     let place = c.requires.place j e in
     let has = c.requires.darts j place.before in
     let l = entry-lt c.args.lists.now c.args.faces.now.own c.args.faces.now.count c.requires.numbers.own_table (get_or ws (suc j) 0) (get_or ws j 0) has in
-    omega (arith, l, c.edge_near.ensures, c.requires.marks)
+    omega (arith, l, c.edge_at.ensures, c.requires.marks)
 
 pub clear_one-requires-then-has_left : goal.clear_one-requires-then-has_left
 clear_one-requires-then-has_left c =
@@ -38,7 +38,7 @@ clear_one-requires-then-has_left c =
     let k : ℕ = j - 1 in
     let has = c.requires.darts k (omega (arith, place.before, place.after)) in
     let l = entry-lt c.args.lists.now c.args.faces.now.own c.args.faces.now.count c.requires.numbers.own_table (get_or ws (suc k) 0) (get_or ws k 0) has in
-    omega (arith, l, c.edge_near-then-has_left.ensures, c.requires.marks)
+    omega (arith, l, c.edge_at-then-has_left.ensures, c.requires.marks)
 
 pub list-requires : goal.list-requires
 list-requires c =
@@ -70,7 +70,7 @@ returns-then-has_right-clause-goes c = λ alive w r j e choice.
     let z : length c.args.left.now - 1 ≡ j = omega arith in
     let right = subst (λ k. (suc (suc k) < length c.args.left.now + length c.args.right.now) × (inner_number c.args.lists.now t.own ws k ≡ inner_number c.args.lists.now t.own ws (suc k))) z (c.has_right.ensures.0 c.if-has_right.true) in
     goes_right c.args.lists.now t.own t.other t.count c.args.tail c.args.head c.requires.based c.requires.numbers c.args.marks.now c.clear_one.new.marks ws c.args.places.now c.args.edges.now c.requires.counts c.requires.marks j (c.requires.place j e) alive w r choice
-    (length c.args.left.now + length c.args.right.now) (sym n) right c.edge_near.result (c.edge_near.ensures ∙ ap (inner_number c.args.lists.now t.own ws) z) c.clear_one.ensures
+    (length c.args.left.now + length c.args.right.now) (sym n) right c.edge_at.result (c.edge_at.ensures ∙ ap (inner_number c.args.lists.now t.own ws) z) c.clear_one.ensures
 
 pub returns-then-has_left-clause-goes : goal.returns-then-has_left-clause-goes
 returns-then-has_left-clause-goes c = λ alive w r j e choice.
@@ -79,7 +79,7 @@ returns-then-has_left-clause-goes c = λ alive w r j e choice.
     let z : length c.args.left.now - 1 ≡ j = omega arith in
     let left = c.has_left.ensures.yes c.if-has_left.true in
     goes_left c.args.lists.now t.own t.other t.count c.args.tail c.args.head c.requires.based c.requires.numbers c.args.marks.now c.clear_one-then-has_left.new.marks ws c.args.places.now c.args.edges.now c.requires.counts c.requires.marks j (c.requires.place j e) alive w r choice
-    left.0 (left.1 ∙ z) left.2 c.edge_near-then-has_left.result (c.edge_near-then-has_left.ensures ∙ ap (λ k. inner_number c.args.lists.now t.own ws (k - 1)) z) c.clear_one-then-has_left.ensures
+    left.0 (left.1 ∙ z) left.2 c.edge_at-then-has_left.result (c.edge_at-then-has_left.ensures ∙ ap (λ k. inner_number c.args.lists.now t.own ws (k - 1)) z) c.clear_one-then-has_left.ensures
 
 pub returns-else-has_left-clause-goes : goal.returns-else-has_left-clause-goes
 returns-else-has_left-clause-goes c = λ alive w r j e choice.

@@ -3,7 +3,7 @@ use Rattle.map_theory.specs.Maps.{HasDart}
 use Rattle.convex_orders.specs.FaceNumbers.{entry}
 use Rattle.convex_orders.specs.Contours.{contour_of}
 use Rattle.convex_orders.proofs.Moves.{length-contour}
-use Rattle.convex_orders.proofs.contour_counts.stacks.edge_near.Goals as goal
+use Rattle.convex_orders.proofs.contour_counts.stacks.edge_at.Goals as goal
 
 pub number_back-requires-clause-dart : goal.number_back-requires-clause-dart
 number_back-requires-clause-dart c =

@@ -3,7 +3,7 @@ use Rattle.simple_maps.proofs.FlatLemmas.{length-slice_range}
 use Rattle.convex_orders.specs.Contours.{AreEdges}
 use Rattle.convex_orders.specs.Counts.{met_below, edges_below}
 use Rattle.convex_orders.proofs.CountLemmas.{met_part, edges_part, part_vertices, part_edges, rows_below}
-use Rattle.convex_orders.proofs.contour_counts.counts.lower_part_near.Goals as goal
+use Rattle.convex_orders.proofs.contour_counts.counts.lower_part.Goals as goal
 
 pub lower_vertices-requires-clause-vertices : goal.lower_vertices-requires-clause-vertices
 lower_vertices-requires-clause-vertices c = subst (λ (z : List ℕ). (i : ℕ) → i < length z → slice_index z i < length c.args.faces.now.own) (sym c.part.ensures) (part_vertices c.args.ws.now c.args.first c.args.last (length c.args.faces.now.own) c.requires.order c.requires.within (λ i l. omega (arith, c.requires.vertices i l, c.requires.table.rows)))
