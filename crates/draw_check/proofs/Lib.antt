@@ -10,6 +10,7 @@ pub mod FaceLemmas
 pub mod MetLemmas
 pub mod LooseLemmas
 mod SpanLemmas
+mod StarLemmas
 mod Cases
 pub mod TurnLemmas
 pub mod ValidFewer

@@ -1,19 +1,17 @@
--- Segments that lie on two sides of a line of the grid do not cross.
-use Rattle.std.proofs.Common.{◌≡◌, ◌⊎◌, ℕ, Bool, true, false, List, ℤ, neg_ℤ, ◌≤ℤ◌, sym, subst, inl, inr, arith}
-use Rattle.std.specs.Bool.{OnTrue}
+-- Segments that lie on two sides of a line do not cross: one between a point and a box, and one apart from both.
+use Rattle.std.proofs.Common.{◌≡◌, ◌⊎◌, Bool, true, false, cond, ℤ, pos, neg_ℤ, ◌-ℤ◌, ◌*ℤ◌, ◌≤ℤ◌, ◌<ℤ◌, sym, subst, inl, inr, arith}
+use Rattle.std.specs.Int.{int_min, int_max}
 use Rattle.std.proofs.lemmas.Int.{ints, by_lt_z}
 use Rattle.pg_plane.specs.declared.point.Point.{Point}
 use Rattle.pg_plane.specs.Geometry.{area, AreOpposite, DoCross}
-use Rattle.pg_plane.proofs.Ring.{ring, sums}
+use Rattle.pg_plane.specs.Range.{IsWithin}
+use Rattle.pg_plane.proofs.Ring.{ring, sums, product_signs}
+use Rattle.pg_plane.proofs.Identities.{area_turned}
+use Rattle.pg_plane.proofs.Crossing.{area_back}
 use Rattle.pg_plane.proofs.Segments.{DoCross-first_back, DoCross-second_back, DoCross-exchanged}
 use Rattle.plane_drawings.proofs.Areas.{disjoint}
-use Rattle.map_lists.specs.declared.ids.VertexId.{VertexId}
-use Rattle.plane_drawings.specs.Drawing.{place}
-use Rattle.draw_check.specs.Loops.{Meets}
-use Rattle.draw_check.specs.declared.edges.Probe.{Probe}
-use Rattle.draw_check.specs.declared.edges.Probe.TheVariants.{Edge}
 use Rattle.draw_check.specs.declared.spans.Span.{Span}
-use Rattle.draw_check.specs.Spans.{IsIn, IsApart, span_at, HoldsEdge}
+use Rattle.draw_check.specs.Spans.{IsIn, IsApart, IsLeftOf, MissesStar}
 
 or_less : (s t : ℤ) → (s ≤ℤ t) ⊎ (t ≤ℤ s)
 or_less s t = by_lt_z s t (λ h. inl (omega (arith, ints))) (λ h. inr h)
@@ -73,12 +71,71 @@ apart_uncrossed span a b c d apart p q h =
       ]
     ]
 
--- An edge apart from the span of a vertex meets no edge that the span holds.
-pub star_apart : (points : List Point) (spans : List Span) (probe : Probe) (s t : VertexId) (v : ℕ) (span : Span) (p q : Point) (b : Bool) → probe ≡ Edge s t → span ≡ span_at spans v → p ≡ place points s.0 → q ≡ place points t.0 → OnTrue b (IsApart span p q) → OnTrue b ((u : ℕ) → HoldsEdge points spans v u → ¬ Meets points probe v u)
-star_apart points spans probe s t v span p q true is span_is p_is q_is apart = λ u held.
-    let here = subst (λ (box : Span). IsApart box p q) span_is apart in
-    let first = subst (λ (a : Point). IsApart (span_at spans v) a q) p_is here in
-    let both = subst (λ (a : Point). IsApart (span_at spans v) (place points s.0) a) q_is first in
-    let uncrossed : ¬ Meets points (Edge s t) v u = λ m. apart_uncrossed (span_at spans v) (place points s.0) (place points t.0) (place points v) (place points u) both held.first held.second m.4 in
-    subst (λ (probe : Probe). ¬ Meets points probe v u) (sym is) uncrossed
-star_apart points spans probe s t v span p q false is span_is p_is q_is apart = apart
+within_either : (c : Bool) (n a b : ℤ) → IsWithin n a → IsWithin n b → IsWithin n (cond c a b)
+within_either true n a b x y = x
+within_either false n a b x y = y
+
+-- the lesser and the greater of two numbers within a range
+pub within-min : (n a b : ℤ) → IsWithin n a → IsWithin n b → IsWithin n (int_min a b)
+within-min n a b x y = within_either _ n b a y x
+
+pub within-max : (n a b : ℤ) → IsWithin n a → IsWithin n b → IsWithin n (int_max a b)
+within-max n a b x y = within_either _ n a b x y
+
+-- a box without points
+pub empty_missed : (span : Span) (r p q : Point) → span.right <ℤ span.left → MissesStar span r p q
+empty_missed span r p q none u inside h = let left = inside.left in let right = inside.right in omega (arith, ints)
+
+-- how an area changes with its last point
+area_from : (p q k u : Point) → area p q u -ℤ area p q k ≡ ((q.x -ℤ p.x) *ℤ (u.y -ℤ k.y)) -ℤ ((u.x -ℤ k.x) *ℤ (q.y -ℤ p.y))
+area_from p q k u = simp ring (omega (arith, sums))
+
+grows : (d e f g : ℤ) → pos 0 ≤ℤ (d *ℤ e) → (f *ℤ g) ≤ℤ pos 0 → pos 0 ≤ℤ ((d *ℤ e) -ℤ (f *ℤ g))
+grows d e f g up down = omega (arith, ints)
+
+grown : (a b c : ℤ) → b -ℤ a ≡ c → pos 0 ≤ℤ c → a ≤ℤ b
+grown a b c e h = omega (arith, ints, e)
+
+-- a point that is higher where the way leads to the right, or lower where it leads back, and more to the left where it leads up, or more to the right where it leads down, is no less to the left of the way
+pub area-le : (p q k u : Point) → ((p.x ≤ℤ q.x) × (k.y ≤ℤ u.y)) ⊎ ((q.x ≤ℤ p.x) × (u.y ≤ℤ k.y)) → ((p.y ≤ℤ q.y) × (u.x ≤ℤ k.x)) ⊎ ((q.y ≤ℤ p.y) × (k.x ≤ℤ u.x)) → area p q k ≤ℤ area p q u
+area-le p q k u over beside =
+    grown (area p q k) (area p q u) (((q.x -ℤ p.x) *ℤ (u.y -ℤ k.y)) -ℤ ((u.x -ℤ k.x) *ℤ (q.y -ℤ p.y))) (area_from p q k u)
+    (grows (q.x -ℤ p.x) (u.y -ℤ k.y) (u.x -ℤ k.x) (q.y -ℤ p.y)
+    (elim over [
+      | inl h ↦ (let a = h.0 in let b = h.1 in (product_signs (q.x -ℤ p.x) (u.y -ℤ k.y)).both_up (omega (arith, ints)) (omega (arith, ints)))
+      | inr h ↦ (let a = h.0 in let b = h.1 in (product_signs (q.x -ℤ p.x) (u.y -ℤ k.y)).both_down (omega (arith, ints)) (omega (arith, ints)))
+    ])
+    (elim beside [
+      | inl h ↦ (let a = h.0 in let b = h.1 in (product_signs (u.x -ℤ k.x) (q.y -ℤ p.y)).down_up (omega (arith, ints)) (omega (arith, ints)))
+      | inr h ↦ (let a = h.0 in let b = h.1 in (product_signs (u.x -ℤ k.x) (q.y -ℤ p.y)).up_down (omega (arith, ints)) (omega (arith, ints)))
+    ]))
+
+not_opposite_up : (s t : ℤ) → pos 0 ≤ℤ s → pos 0 ≤ℤ t → ¬ AreOpposite s t
+not_opposite_up s t a b (inl h) = let k = h.0 in omega (arith, ints)
+not_opposite_up s t a b (inr h) = let k = h.1 in omega (arith, ints)
+
+not_opposite_down : (s t : ℤ) → s ≤ℤ pos 0 → t ≤ℤ pos 0 → ¬ AreOpposite s t
+not_opposite_down s t a b (inl h) = let k = h.1 in omega (arith, ints)
+not_opposite_down s t a b (inr h) = let k = h.0 in omega (arith, ints)
+
+-- Neither the box nor the point is to the right of the segment's line.
+pub past_missed : (span : Span) (r p q : Point) → pos 0 ≤ℤ area p q r → IsLeftOf span p q → MissesStar span r p q
+past_missed span r p q point box u inside h = not_opposite_up (area p q r) (area p q u) point (box u inside) h.ends_of_second
+
+-- Seen from r both ends are to the left of the box.
+pub left_missed : (span : Span) (r p q : Point) → IsLeftOf span p r → IsLeftOf span q r → MissesStar span r p q
+left_missed span r p q first second u inside h =
+    not_opposite_up (area r u p) (area r u q) (subst (λ a. pos 0 ≤ℤ a) (sym (area_turned p r u)) (first u inside)) (subst (λ a. pos 0 ≤ℤ a) (sym (area_turned q r u)) (second u inside)) h.ends_of_first
+
+-- no more to the left seen from the other end
+turned_down : (r p u : Point) → pos 0 ≤ℤ area r p u → area r u p ≤ℤ pos 0
+turned_down r p u h = let back = area_back p r u in let turn = area_turned p r u in omega (arith, ints, back, turn)
+
+-- Seen from r both ends are to the right of the box.
+pub right_missed : (span : Span) (r p q : Point) → IsLeftOf span r p → IsLeftOf span r q → MissesStar span r p q
+right_missed span r p q first second u inside h =
+    not_opposite_down (area r u p) (area r u q) (turned_down r p u (first u inside)) (turned_down r q u (second u inside)) h.ends_of_first
+
+-- the segment the other way round
+pub missed_back : (span : Span) (r p q : Point) → MissesStar span r q p → MissesStar span r p q
+missed_back span r p q missed u inside h = missed u inside (DoCross-first_back p q r u h)

@@ -4,6 +4,7 @@ pub mod Verdicts
 pub mod Laws
 pub mod Loops
 pub mod Spans
+pub mod Stars
 pub mod FaceVerdicts
 pub mod Outer
 pub mod FaceLaws

@@ -1,9 +1,8 @@
--- Boxes of points, and the spans of stars: for each vertex a box that holds it and its greater neighbours.
-use Rattle.std.specs.Prelude.{ℕ, ◌<◌, ◌⊎◌, List, length, slice_index_or, pos, ◌≤ℤ◌, ◌<ℤ◌}
-use Rattle.map_lists.specs.Lists.{Lists}
+-- Boxes of points, and segments that miss those between a point and a box.
+use Rattle.std.specs.Prelude.{◌⊎◌, pos, ◌≤ℤ◌, ◌<ℤ◌}
 use Rattle.pg_plane.specs.declared.point.Point.{Point}
-use Rattle.plane_drawings.specs.Drawing.{place}
-use Rattle.vertex_rounds.specs.Rounds.{HasEdge}
+use Rattle.pg_plane.specs.Geometry.{area, DoCross}
+use Rattle.pg_plane.specs.Range.{IsWithin}
 use Rattle.draw_check.specs.declared.spans.Span.{Span}
 
 -- a point lies in a box
@@ -13,26 +12,22 @@ pub record IsIn (span : Span) (p : Point) : Type 0 where
   pub bottom : span.bottom ≤ℤ p.y
   pub top : p.y ≤ℤ span.top
 
+-- the sides of a box are within the range of coordinates
+pub record IsBoxInRange (span : Span) : Type 0 where
+  pub left : IsWithin (pos 1048576) span.left
+  pub right : IsWithin (pos 1048576) span.right
+  pub bottom : IsWithin (pos 1048576) span.bottom
+  pub top : IsWithin (pos 1048576) span.top
+
 -- two points lie on one side of a box
 abbrev pub IsApart : Span → Point → Point → Type 0
 IsApart span p q =
     ((p.x <ℤ span.left) × (q.x <ℤ span.left)) ⊎ (((span.right <ℤ p.x) × (span.right <ℤ q.x)) ⊎ (((p.y <ℤ span.bottom) × (q.y <ℤ span.bottom)) ⊎ ((span.top <ℤ p.y) × (span.top <ℤ q.y))))
 
--- the span of a vertex
-abbrev pub span_at : List Span → ℕ → Span
-span_at spans v = slice_index_or spans v (record { left = pos 0; right = pos 0; bottom = pos 0; top = pos 0 })
+-- no point of a box is to the right of the way from p to q
+abbrev pub IsLeftOf : Span → Point → Point → Type 0
+IsLeftOf span p q = (u : Point) → IsIn span u → pos 0 ≤ℤ area p q u
 
--- both ends of the edge from a to b lie in the span of a
-pub record HoldsEdge (points : List Point) (spans : List Span) (a b : ℕ) : Type 0 where
-  pub first : IsIn (span_at spans a) (place points a)
-  pub second : IsIn (span_at spans a) (place points b)
-
--- the edge from a to b leaves the span of a
-pub record LeavesSpan (lists : Lists) (points : List Point) (spans : List Span) (a b : ℕ) : Type 0 where
-  pub edge : HasEdge lists a b
-  pub within : a < length spans
-  pub out : ¬ HoldsEdge points spans a b
-
--- no edge leaves the span of its lesser end, as far as the spans reach
-abbrev pub AreSpans : Lists → List Point → List Span → Type 0
-AreSpans lists points spans = (a b : ℕ) → ¬ LeavesSpan lists points spans a b
+-- the segment from p to q crosses none from r into a box
+abbrev pub MissesStar : Span → Point → Point → Point → Type 0
+MissesStar span r p q = (u : Point) → IsIn span u → ¬ DoCross p q r u

@@ -5,100 +5,99 @@ ghost use Rattle.half_edges.specs.Map.{IsLive, dart_at};
 ghost use Rattle.plane_drawings.specs.Drawing.{IsPlaneDrawing};
 ghost use Rattle.plane_drawings.specs.SweepCheckLines.{firm_lists};
 ghost use Rattle.vertex_rounds.specs.Least.{IsLeast, IsLeastPair, IsLeastTriple, IsLeastFour};
-ghost use Rattle.vertex_rounds.specs.Rounds.{HasEdge, HoldsAt};
+ghost use Rattle.vertex_rounds.specs.Rounds.{HasEdge, HoldsAt, IsLeastOf};
 ghost use Rattle.draw_check.specs.Faults.{EdgesCross};
 ghost use Rattle.draw_check.specs.Verdicts.{NoneCross};
 ghost use Rattle.draw_check.specs.Loops.{IsDrawn, IsCrossed};
-ghost use Rattle.draw_check.specs.Spans.{AreSpans};
-ghost use Rattle.vertex_rounds.specs.Rounds.{IsLeastOf};
 
 use crate::edges::{Probe, first_met};
 use crate::loose::may_be_crossed;
-use crate::spans::Span;
+use crate::stars::first_crossed;
 use half_edges::{DartId, Ends, HalfMap, VertexId};
 use pg_plane::Points;
 use vertex_rounds::first_dart;
 
-// The first later edge that crosses the edge from `a` to `b`. Without the edges of the loose vertices the
-// drawing is plane, where they are known.
-fn crossing_of(
-    map: &HalfMap,
-    points: &Points,
-    spans: &[Span],
-    loose: Option<&[u16]>,
-    a: VertexId,
-    b: VertexId,
-) -> Option<Ends>
+// The first later edge that crosses the edge from `a` to `b`.
+fn crossing_of(map: &HalfMap, points: &Points, a: VertexId, b: VertexId) -> Option<Ends>
     requires drawn { IsDrawn map.now points.now }
-    requires spans { AreSpans map.now.lists points.now spans.now }
-    requires plane { IfSome loose (λ l. IsPlaneDrawing (firm_lists l.now map.now.lists) points.now) }
     requires edge { HasEdge map.now.lists a.0 b.0 }
     ensures { MatchOption result ((c d : ℕ) → ¬ EdgesCross map.now.lists points.now a.0 b.0 c d)
         (λ e. IsLeastPair (EdgesCross map.now.lists points.now a.0 b.0) e.a.0 e.b.0) }
 {
-    if may_be_crossed(map, points, loose, a, b) {
-        first_met(map, points, spans, Probe::Edge(a, b), a.0 + 1)
-    } else {
-        None
-    }
+    first_met(map, points, Probe::Edge(a, b), a.0 + 1)
 }
 
-// Whether a later edge crosses the edge from `a` to `b`.
-fn is_crossed(
-    map: &HalfMap,
-    points: &Points,
-    spans: &[Span],
-    loose: Option<&[u16]>,
-    a: VertexId,
-    b: VertexId,
-) -> bool
+// Whether a later edge crosses the edge from `a` to `b`. Without the edges of the loose vertices the drawing
+// is plane.
+fn is_crossed(map: &HalfMap, points: &Points, loose: &[u16], a: VertexId, b: VertexId) -> bool
     requires drawn { IsDrawn map.now points.now }
-    requires spans { AreSpans map.now.lists points.now spans.now }
-    requires plane { IfSome loose (λ l. IsPlaneDrawing (firm_lists l.now map.now.lists) points.now) }
+    requires plane { IsPlaneDrawing (firm_lists loose.now map.now.lists) points.now }
     requires edge { HasEdge map.now.lists a.0 b.0 }
     ensures { IsTrue result ↔ IsCrossed map.now.lists points.now a.0 b.0 }
 {
-    match crossing_of(map, points, spans, loose, a, b) {
+    if !may_be_crossed(map, points, loose, a, b) {
+        return false;
+    }
+    match crossing_of(map, points, a, b) {
         Some(_) => true,
         None => false,
     }
 }
 
 // Whether a later edge crosses that of a dart, of which the tail is the lesser end.
-fn is_dart_crossed(
-    map: &HalfMap,
-    points: &Points,
-    spans: &[Span],
-    loose: Option<&[u16]>,
-    d: DartId,
-) -> bool
+fn is_dart_crossed(map: &HalfMap, points: &Points, loose: &[u16], d: DartId) -> bool
     requires drawn { IsDrawn map.now points.now }
-    requires spans { AreSpans map.now.lists points.now spans.now }
-    requires plane { IfSome loose (λ l. IsPlaneDrawing (firm_lists l.now map.now.lists) points.now) }
+    requires plane { IsPlaneDrawing (firm_lists loose.now map.now.lists) points.now }
     requires live { IsLive map.now d.0 }
     ensures { IsTrue result ↔ HoldsAt map.now (IsCrossed map.now.lists points.now) d.0 }
 {
     let a = map.tail(d);
     let b = map.head(d);
-    a.0 < b.0 && is_crossed(map, points, spans, loose, a, b)
+    a.0 < b.0 && is_crossed(map, points, loose, a, b)
+}
+
+// The first edge that a later one crosses, where without the edges of the loose vertices the drawing is
+// plane.
+fn first_crossed_by_loose(map: &HalfMap, points: &Points, loose: &[u16]) -> Option<Ends>
+    requires drawn { IsDrawn map.now points.now }
+    requires plane { IsPlaneDrawing (firm_lists loose.now map.now.lists) points.now }
+    ensures { MatchOption result ((a b : ℕ) → ¬ IsCrossed map.now.lists points.now a b)
+        (λ e. IsLeastPair (IsCrossed map.now.lists points.now) e.a.0 e.b.0) }
+{
+    match first_dart(map, |d| is_dart_crossed(map, points, loose, d)) {
+        Some((a, b)) => Some(Ends { a, b }),
+        None => None,
+    }
+}
+
+// The first edge that a later one crosses. Without the edges of the loose vertices the drawing is plane,
+// where they are known; else it is found star by star.
+fn first_crossed_edge(map: &HalfMap, points: &Points, loose: Option<&[u16]>) -> Option<Ends>
+    requires drawn { IsDrawn map.now points.now }
+    requires plane { IfSome loose (λ l. IsPlaneDrawing (firm_lists l.now map.now.lists) points.now) }
+    ensures { MatchOption result ((a b : ℕ) → ¬ IsCrossed map.now.lists points.now a b)
+        (λ e. IsLeastPair (IsCrossed map.now.lists points.now) e.a.0 e.b.0) }
+{
+    match loose {
+        Some(loose) => first_crossed_by_loose(map, points, loose),
+        None => first_crossed(map, points),
+    }
 }
 
 // The first two edges that cross and have no end in common.
 pub(crate) fn first_crossing(
     map: &HalfMap,
     points: &Points,
-    spans: &[Span],
     loose: Option<&[u16]>,
 ) -> Option<(Ends, Ends)>
     requires drawn { IsDrawn map.now points.now }
-    requires spans { AreSpans map.now.lists points.now spans.now }
     requires plane { IfSome loose (λ l. IsPlaneDrawing (firm_lists l.now map.now.lists) points.now) }
     ensures { MatchOption result (NoneCross map.now.lists points.now)
         (λ p. IsLeastFour (EdgesCross map.now.lists points.now) p.0.a.0 p.0.b.0 p.1.a.0 p.1.b.0) }
 {
-    match first_dart(map, |d| is_dart_crossed(map, points, spans, loose, d)) {
-        Some((a, b)) => match crossing_of(map, points, spans, loose, a, b) {
-            Some(later) => Some((Ends { a, b }, later)),
+    match first_crossed_edge(map, points, loose) {
+        Some(first) => match crossing_of(map, points, first.a, first.b) {
+            Some(later) => Some((first, later)),
             None => None,
         },
         None => None,

@@ -9,11 +9,9 @@ ghost use Rattle.vertex_rounds.specs.Rounds.{HasEdge, HoldsAt};
 ghost use Rattle.draw_check.specs.Faults.{LiesOnEdge};
 ghost use Rattle.draw_check.specs.Verdicts.{NoneOnEdge, NoneCross};
 ghost use Rattle.draw_check.specs.Loops.{IsDrawn, IsProbeBelow, Meets, IsMet, IsMetFrom, AreMarked};
-ghost use Rattle.draw_check.specs.Spans.{AreSpans};
 ghost use Rattle.vertex_rounds.specs.Rounds.{IsLeastOf};
 
 use crate::places::place_at;
-use crate::spans::{Span, is_star_apart};
 use half_edges::{DartId, Ends, HalfMap, VertexId};
 use pg_plane::{Points, crosses, on_segment};
 use vertex_rounds::least_head;
@@ -61,44 +59,26 @@ fn is_met(map: &HalfMap, points: &Points, probe: Probe, d: DartId) -> bool
 }
 
 // The least greater neighbour of `v` to which the edge is met.
-fn met_from(
-    map: &HalfMap,
-    points: &Points,
-    spans: &[Span],
-    probe: Probe,
-    v: VertexId,
-) -> Option<VertexId>
+fn met_from(map: &HalfMap, points: &Points, probe: Probe, v: VertexId) -> Option<VertexId>
     requires drawn { IsDrawn map.now points.now }
-    requires spans { AreSpans map.now.lists points.now spans.now }
     requires probe { IsProbeBelow (length map.now.lists) probe }
     requires vertex { v.0 < length map.now.lists }
     ensures { MatchOption result ((u : ℕ) → ¬ IsMet map.now.lists points.now probe v.0 u)
         (λ u. IsLeast (IsMet map.now.lists points.now probe v.0) u.0) }
 {
-    if is_star_apart(points, spans, probe, v) {
-        None
-    } else {
-        least_head(map, v, |d| is_met(map, points, probe, d))
-    }
+    least_head(map, v, |d| is_met(map, points, probe, d))
 }
 
 // The first edge that is met, of those whose lesser end is at least `from`.
-pub(crate) fn first_met(
-    map: &HalfMap,
-    points: &Points,
-    spans: &[Span],
-    probe: Probe,
-    from: u16,
-) -> Option<Ends>
+pub(crate) fn first_met(map: &HalfMap, points: &Points, probe: Probe, from: u16) -> Option<Ends>
     requires drawn { IsDrawn map.now points.now }
-    requires spans { AreSpans map.now.lists points.now spans.now }
     requires probe { IsProbeBelow (length map.now.lists) probe }
     ensures { MatchOption result ((a b : ℕ) → ¬ IsMetFrom map.now.lists points.now probe from a b)
         (λ e. IsLeastPair (IsMetFrom map.now.lists points.now probe from) e.a.0 e.b.0) }
 {
     for v in from..map.n() {
         let a = VertexId(v);
-        if let Some(b) = met_from(map, points, spans, probe, a) {
+        if let Some(b) = met_from(map, points, probe, a) {
             return Some(Ends { a, b });
         }
     }
@@ -121,7 +101,7 @@ fn edge_under(map: &HalfMap, points: &Points, marks: &[bool], v: VertexId) -> Op
         (λ e. IsLeastPair (LiesOnEdge map.now.lists points.now v.0) e.a.0 e.b.0) }
 {
     if is_marked(marks, v) {
-        first_met(map, points, &[], Probe::Vertex(v), 0)
+        first_met(map, points, Probe::Vertex(v), 0)
     } else {
         None
     }

@@ -14,6 +14,7 @@ mod outer;
 mod pairs;
 mod places;
 mod spans;
+mod stars;
 mod sums;
 mod turns;
 mod verdict;

@@ -1,6 +1,6 @@
 //! Where faults may be: at the edges of a few loose vertices, where a drawing is plane without these edges,
 //! and at the vertices that are found star by star.
-ghost use Rattle.std.specs.Prelude.{◌≡◌, ◌<◌, ◌≤◌, ◌↔◌, ℕ, List, length, slice_index_or, true, false, IsTrue, IfSome};
+ghost use Rattle.std.specs.Prelude.{◌≡◌, ◌<◌, ◌≤◌, ◌↔◌, ℕ, List, length, slice_index_or, true, false, IsTrue};
 ghost use Rattle.map_theory.specs.Maps.{HasDart};
 ghost use Rattle.half_edges.specs.Map.{IsLive};
 ghost use Rattle.plane_drawings.specs.Drawing.{IsPlaneDrawing};
@@ -56,7 +56,7 @@ fn is_met_by_loose(map: &HalfMap, points: &Points, loose: &[u16], probe: Probe) 
 }
 
 // Whether a later edge may cross that from `a` to `b`: one of the two has a loose end then.
-fn may_be_crossed_by(
+pub(crate) fn may_be_crossed(
     map: &HalfMap,
     points: &Points,
     loose: &[u16],
@@ -75,25 +75,6 @@ fn may_be_crossed_by(
         return true;
     }
     is_met_by_loose(map, points, loose, Probe::Edge(a, b))
-}
-
-// The same, where loose vertices are known; else any edge may.
-pub(crate) fn may_be_crossed(
-    map: &HalfMap,
-    points: &Points,
-    loose: Option<&[u16]>,
-    a: VertexId,
-    b: VertexId,
-) -> bool
-    requires drawn { IsDrawn map.now points.now }
-    requires plane { IfSome loose (λ l. IsPlaneDrawing (firm_lists l.now map.now.lists) points.now) }
-    requires edge { HasEdge map.now.lists a.0 b.0 }
-    ensures { result ≡ false → (c d : ℕ) → ¬ EdgesCross map.now.lists points.now a.0 b.0 c d }
-{
-    match loose {
-        Some(loose) => may_be_crossed_by(map, points, loose, a, b),
-        None => true,
-    }
 }
 
 // Marks the vertices that may lie on an edge: those on an edge of a loose vertex.

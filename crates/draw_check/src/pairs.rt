@@ -5,7 +5,6 @@ ghost use Rattle.plane_drawings.specs.SweepCheckLines.{firm_lists};
 ghost use Rattle.draw_check.specs.declared.verdict.Verdict.TheVariants.{Yes};
 ghost use Rattle.draw_check.specs.Faults.{HasPlaces};
 ghost use Rattle.draw_check.specs.Loops.{IsDrawn, AreMarked};
-ghost use Rattle.draw_check.specs.Spans.{AreSpans};
 ghost use Rattle.draw_check.specs.Verdicts.{AllInGrid, NoneShareAPlace, NoneOnEdge, NoneCross, IsVerdict};
 
 use crate::Verdict;
@@ -13,26 +12,23 @@ use crate::crossings::first_crossing;
 use crate::edges::first_on_edge;
 use crate::loose::{mark_by_loose, mark_by_stars};
 use crate::places::{corner_of, first_outside, first_shared};
-use crate::spans::{NO_SPAN, Span, fill_spans, sure_spans};
 use crate::turns::first_turned;
 use half_edges::HalfMap;
 use pg_plane::{GridFigure, Point, Points};
 use plane_drawings::sweep_check::loose_vertices;
 
 // The first vertex on an edge or the first two edges that cross, in this order, where no two vertices stand
-// at one place. The vertices on edges are marked, the spans hold their stars, and without the edges of the
-// loose vertices the drawing is plane, where they are known.
+// at one place. The vertices on edges are marked, and without the edges of the loose vertices the drawing is
+// plane, where they are known.
 fn first_meeting(
     map: &HalfMap,
     points: &Points,
     marks: &[bool],
-    spans: &[Span],
     loose: Option<&[u16]>,
 ) -> Option<Verdict>
     requires drawn { IsDrawn map.now points.now }
     requires apart { NoneShareAPlace map.now.lists points.now }
     requires marked { AreMarked map.now.lists points.now marks.now }
-    requires spans { AreSpans map.now.lists points.now spans.now }
     requires plane { IfSome loose (λ l. IsPlaneDrawing (firm_lists l.now map.now.lists) points.now) }
     ensures { MatchOption result (NoneShareAPlace map.now.lists points.now × NoneOnEdge map.now.lists points.now × NoneCross map.now.lists points.now)
         (λ verdict. (width height : ℤ) → AllInGrid map.now.lists points.now width height → IsVerdict map.now.lists points.now width height verdict) }
@@ -40,7 +36,7 @@ fn first_meeting(
     if let Some((v, e)) = first_on_edge(map, points, marks) {
         return Some(Verdict::OnEdge(v, e));
     }
-    match first_crossing(map, points, spans, loose) {
+    match first_crossing(map, points, loose) {
         Some((e, f)) => Some(Verdict::Cross(e, f)),
         None => None,
     }
@@ -58,10 +54,7 @@ fn first_pair(map: &HalfMap, points: &Points) -> Option<Verdict>
     }
     let mut marks = [false; 4095];
     mark_by_stars(map, points, &mut marks);
-    let mut spans = [NO_SPAN; 4095];
-    fill_spans(map, points, &mut spans);
-    let sure = sure_spans(map, points, &spans);
-    first_meeting(map, points, &marks, sure, None)
+    first_meeting(map, points, &marks, None)
 }
 
 // The same, where without the edges of the loose vertices the drawing is plane.
@@ -73,7 +66,7 @@ fn first_pair_by_loose(map: &HalfMap, points: &Points, loose: &[u16]) -> Option<
 {
     let mut marks = [true; 4095];
     mark_by_loose(map, points, loose, &mut marks);
-    first_meeting(map, points, &marks, &[], Some(loose))
+    first_meeting(map, points, &marks, Some(loose))
 }
 
 // The same. A sweep that finds the drawing plane, or plane without the edges of a few vertices, spares the
@@ -116,7 +109,9 @@ fn first_fault(map: &HalfMap, points: &Points, corner: Point) -> Option<Verdict>
 /// 2^20 in size. It takes no memory from the heap. Where a sweep finds the drawing plane, or plane without
 /// the edges of a few loose vertices, the time is m log n for n vertices and m edges, besides that in which
 /// the lines that the sweep meets are moved, and that in which the edges of the loose vertices are compared
-/// with all else; else each edge is compared with each vertex and each edge after it.
+/// with all else. Else each vertex is compared with its neighbours in each star, and each edge before the
+/// first that a later one crosses with each star after it: with the box of its heads, then with those of 64
+/// heads each, and then with the edges of which no line parts it.
 pub fn check_points(map: &HalfMap, points: &Points, corner: Point) -> Verdict
     requires { HasPlaces map.now.lists points.now }
     ensures { IsVerdict map.now.lists points.now corner.x corner.y result }

@@ -1,18 +1,13 @@
-//! The spans of stars: for each vertex a box that holds it and its greater neighbours.
-ghost use Rattle.std.specs.Prelude.{◌≡◌, ◌<◌, ◌↔◌, ◌<ℤ◌, ◌≤ℤ◌, ℕ, length, IsTrue};
+//! Boxes, and lines that part a segment from those between a point and a box.
+ghost use Rattle.std.specs.Prelude.{◌≡◌, ◌⊎◌, ◌↔◌, ◌<ℤ◌, ◌≤ℤ◌, pos, IsTrue};
 ghost use Rattle.std.specs.Bool.{OnTrue};
-ghost use Rattle.half_edges.specs.Map.{IsLive};
-ghost use Rattle.vertex_rounds.specs.Rounds.{HoldsAt};
-ghost use Rattle.draw_check.specs.Loops.{IsDrawn, IsProbeBelow, Meets};
-ghost use Rattle.draw_check.specs.Spans.{IsIn, IsApart, span_at, HoldsEdge, LeavesSpan, AreSpans};
+ghost use Rattle.pg_plane.specs.Geometry.{area};
+ghost use Rattle.pg_plane.specs.Range.{IsInRange, IsWithin};
+ghost use Rattle.draw_check.specs.Spans.{IsIn, IsBoxInRange, IsApart, IsLeftOf, MissesStar};
 
-use crate::edges::Probe;
-use crate::places::place_at;
-use half_edges::{DartId, HalfMap, VertexId};
-use pg_plane::{Point, Points};
-use vertex_rounds::first_dart;
+use pg_plane::{Point, area2};
 
-// A box of points.
+// A box of points. It has none where its right side is to the left of its left one.
 #[derive(Clone, Copy)]
 pub(crate) struct Span {
     pub(crate) left: i32,
@@ -21,25 +16,25 @@ pub(crate) struct Span {
     pub(crate) top: i32,
 }
 
+// The greatest coordinate.
+const GREATEST: i32 = 1_048_576;
+
+// A box without points.
 pub(crate) const NO_SPAN: Span = Span {
-    left: 0,
-    right: 0,
-    bottom: 0,
-    top: 0,
+    left: GREATEST,
+    right: -GREATEST,
+    bottom: GREATEST,
+    top: -GREATEST,
 };
 
-// The span of one point.
-fn span_of(p: Point) -> Span {
-    Span {
-        left: p.x,
-        right: p.x,
-        bottom: p.y,
-        top: p.y,
-    }
-}
-
-// The span with one point more.
-fn widened(span: Span, p: Point) -> Span {
+// The box with one point more.
+pub(crate) fn widened(span: Span, p: Point) -> Span
+    requires span { IsBoxInRange span }
+    requires p { IsInRange p }
+    ensures range { IsBoxInRange result }
+    ensures point { IsIn result p }
+    ensures more { (u : Point) → IsIn span u → IsIn result u }
+{
     Span {
         left: span.left.min(p.x),
         right: span.right.max(p.x),
@@ -48,109 +43,11 @@ fn widened(span: Span, p: Point) -> Span {
     }
 }
 
-// Writes the spans of single vertices.
-fn fill_points(points: &Points, spans: &mut [Span]) {
-    for v in 0..points.len() {
-        if v < spans.len() {
-            spans[v] = span_of(points.get(v));
-        }
-    }
-}
-
-// Widens the span of a vertex by the place of another.
-fn widen(points: &Points, spans: &mut [Span], a: usize, b: usize) {
-    if a < spans.len() && b < points.len() {
-        spans[a] = widened(spans[a], points.get(b));
-    }
-}
-
-// Writes the spans of the stars. What it writes is tested before it is used.
-pub(crate) fn fill_spans(map: &HalfMap, points: &Points, spans: &mut [Span]) {
-    fill_points(points, spans);
-    let half = u64::from(map.m()) + u64::from(map.spare());
-    for d in 0..2 * half {
-        let dart = DartId(d as u32);
-        if map.is_live(dart) {
-            let (a, b) = (map.tail(dart), map.head(dart));
-            if a.0 < b.0 {
-                widen(points, spans, a.0 as usize, b.0 as usize);
-            }
-        }
-    }
-}
-
-// Whether a point is neither to the left nor to the right of a box.
-fn is_in_width(span: Span, p: Point) -> bool
-    ensures { IsTrue result ↔ ((span.left ≤ℤ p.x) × (p.x ≤ℤ span.right)) }
+// Whether a box has no points.
+fn is_empty(span: Span) -> bool
+    ensures { IsTrue result ↔ (span.right <ℤ span.left) }
 {
-    span.left <= p.x && p.x <= span.right
-}
-
-// Whether a point is neither below nor above a box.
-fn is_in_height(span: Span, p: Point) -> bool
-    ensures { IsTrue result ↔ ((span.bottom ≤ℤ p.y) × (p.y ≤ℤ span.top)) }
-{
-    span.bottom <= p.y && p.y <= span.top
-}
-
-// Whether a point lies in a box.
-fn is_in(span: Span, p: Point) -> bool
-    ensures { IsTrue result ↔ IsIn span p }
-{
-    is_in_width(span, p) && is_in_height(span, p)
-}
-
-// The span of a vertex.
-fn span_at(spans: &[Span], v: VertexId) -> Span
-    requires { v.0 < length spans.now }
-    ensures { result ≡ span_at spans.now v.0 }
-{
-    spans[v.0 as usize]
-}
-
-// Whether both ends of an edge lie in the span of its lesser end.
-fn holds_edge(points: &Points, spans: &[Span], a: VertexId, b: VertexId) -> bool
-    requires within { a.0 < length spans.now }
-    requires a { a.0 < length points.now }
-    requires b { b.0 < length points.now }
-    ensures { IsTrue result ↔ HoldsEdge points.now spans.now a.0 b.0 }
-{
-    let span = span_at(spans, a);
-    is_in(span, place_at(points, a)) && is_in(span, place_at(points, b))
-}
-
-// Whether the edge of a dart, of which the tail is the lesser end, leaves the span of the tail.
-fn leaves_span(map: &HalfMap, points: &Points, spans: &[Span], d: DartId) -> bool
-    requires drawn { IsDrawn map.now points.now }
-    requires live { IsLive map.now d.0 }
-    ensures { IsTrue result ↔ HoldsAt map.now (LeavesSpan map.now.lists points.now spans.now) d.0 }
-{
-    let a = map.tail(d);
-    let b = map.head(d);
-    a.0 < b.0 && (a.0 as usize) < spans.len() && !holds_edge(points, spans, a, b)
-}
-
-// Whether the spans hold their stars, as far as they reach.
-fn are_spans(map: &HalfMap, points: &Points, spans: &[Span]) -> bool
-    requires { IsDrawn map.now points.now }
-    ensures { OnTrue result (AreSpans map.now.lists points.now spans.now) }
-{
-    match first_dart(map, |d| leaves_span(map, points, spans, d)) {
-        Some(_) => false,
-        None => true,
-    }
-}
-
-// The spans, if they hold their stars; else none.
-pub(crate) fn sure_spans<'a>(map: &HalfMap, points: &Points, spans: &'a [Span]) -> &'a [Span]
-    requires { IsDrawn map.now points.now }
-    ensures { AreSpans map.now.lists points.now result.now }
-{
-    if are_spans(map, points, spans) {
-        spans
-    } else {
-        &[]
-    }
+    span.right < span.left
 }
 
 // Whether two points are to the left of a box.
@@ -200,23 +97,108 @@ fn is_apart(span: Span, p: Point, q: Point) -> bool
     false
 }
 
-// Whether the edges from a vertex to its greater neighbours are surely not met: an edge is apart from their
-// span.
-pub(crate) fn is_star_apart(points: &Points, spans: &[Span], probe: Probe, v: VertexId) -> bool
-    requires probe { IsProbeBelow (length points.now) probe }
-    ensures within { OnTrue result (v.0 < length spans.now) }
-    ensures apart { OnTrue result ((u : ℕ) → HoldsEdge points.now spans.now v.0 u → ¬ Meets points.now probe v.0 u) }
+// The side of a box that is farther to the right of the way from `p` to `q`, of the left one and the right one.
+fn far_side(span: Span, p: Point, q: Point) -> i32
+    requires { IsBoxInRange span }
+    ensures range { IsWithin (pos 1048576) result }
+    ensures far { (u : Point) → IsIn span u → ((p.y ≤ℤ q.y) × (u.x ≤ℤ result)) ⊎ ((q.y ≤ℤ p.y) × (result ≤ℤ u.x)) }
 {
-    if (v.0 as usize) >= spans.len() {
-        return false;
+    if p.y <= q.y { span.right } else { span.left }
+}
+
+// The same of the bottom and the top.
+fn far_level(span: Span, p: Point, q: Point) -> i32
+    requires { IsBoxInRange span }
+    ensures range { IsWithin (pos 1048576) result }
+    ensures far { (u : Point) → IsIn span u → ((p.x ≤ℤ q.x) × (result ≤ℤ u.y)) ⊎ ((q.x ≤ℤ p.x) × (u.y ≤ℤ result)) }
+{
+    if p.x <= q.x { span.bottom } else { span.top }
+}
+
+// The corner of a box that is farthest to the right of the way from `p` to `q`.
+fn far_corner(span: Span, p: Point, q: Point) -> Point
+    requires { IsBoxInRange span }
+    ensures range { IsInRange result }
+    ensures least { (u : Point) → IsIn span u → area p q result ≤ℤ area p q u }
+{
+    Point {
+        x: far_side(span, p, q),
+        y: far_level(span, p, q),
     }
-    match probe {
-        Probe::Vertex(_) => false,
-        Probe::Edge(s, t) => {
-            let span = span_at(spans, v);
-            let p = place_at(points, s);
-            let q = place_at(points, t);
-            is_apart(span, p, q)
-        }
+}
+
+// Whether a number is not negative.
+fn is_not_negative(z: i64) -> bool
+    ensures { IsTrue result ↔ (pos 0 ≤ℤ z) }
+{
+    0 <= z
+}
+
+// Whether no point of a box is to the right of the way from `p` to `q`.
+fn is_left_of(span: Span, p: Point, q: Point) -> bool
+    requires span { IsBoxInRange span }
+    requires p { IsInRange p }
+    requires q { IsInRange q }
+    ensures { OnTrue result (IsLeftOf span p q) }
+{
+    is_not_negative(area2(p, q, far_corner(span, p, q)))
+}
+
+// Whether neither the box nor `r` is to the right of the way from `p` to `q`.
+fn is_past(span: Span, r: Point, p: Point, q: Point) -> bool
+    requires span { IsBoxInRange span }
+    requires r { IsInRange r }
+    requires p { IsInRange p }
+    requires q { IsInRange q }
+    ensures { OnTrue result (MissesStar span r p q) }
+{
+    is_not_negative(area2(p, q, r)) && is_left_of(span, p, q)
+}
+
+// Whether seen from `r` both points are to the right of the box.
+fn are_to_right(span: Span, r: Point, p: Point, q: Point) -> bool
+    requires span { IsBoxInRange span }
+    requires r { IsInRange r }
+    requires p { IsInRange p }
+    requires q { IsInRange q }
+    ensures { OnTrue result (MissesStar span r p q) }
+{
+    is_left_of(span, r, p) && is_left_of(span, r, q)
+}
+
+// Whether seen from `r` both points are to the left of the box.
+fn are_to_left(span: Span, r: Point, p: Point, q: Point) -> bool
+    requires span { IsBoxInRange span }
+    requires r { IsInRange r }
+    requires p { IsInRange p }
+    requires q { IsInRange q }
+    ensures { OnTrue result (MissesStar span r p q) }
+{
+    is_left_of(span, p, r) && is_left_of(span, q, r)
+}
+
+// Whether a line surely parts the segment from `p` to `q` from the segments from `r` into a box.
+pub(crate) fn misses_star(span: Span, r: Point, p: Point, q: Point) -> bool
+    requires span { IsBoxInRange span }
+    requires r { IsInRange r }
+    requires p { IsInRange p }
+    requires q { IsInRange q }
+    ensures { OnTrue result (MissesStar span r p q) }
+{
+    if is_empty(span) {
+        return true;
     }
+    if is_apart(widened(span, r), p, q) {
+        return true;
+    }
+    if is_past(span, r, p, q) {
+        return true;
+    }
+    if is_past(span, r, q, p) {
+        return true;
+    }
+    if are_to_right(span, r, p, q) {
+        return true;
+    }
+    are_to_left(span, r, p, q)
 }

@@ -7,5 +7,5 @@ first_met-requires-clause-probe c =
     let greater = c.requires.drawn.known.simple.in_range c.args.a.0 c.args.b.0 edge.1 in
     (edge.1.0, greater)
 
-pub returns-then-may_be_crossed : goal.returns-then-may_be_crossed
-returns-then-may_be_crossed c = first_cross c.args.map.now.lists c.args.points.now c.args.a c.args.b c.requires.edge c.first_met.result c.first_met.ensures
+pub returns : goal.returns
+returns c = first_cross c.args.map.now.lists c.args.points.now c.args.a c.args.b c.requires.edge c.first_met.result c.first_met.ensures

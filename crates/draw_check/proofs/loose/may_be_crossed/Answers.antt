@@ -1,6 +1,6 @@
 use Rattle.std.proofs.Common.{sym, ◌∙◌}
 use Rattle.draw_check.proofs.LooseLemmas.{uncrossed_but_loose}
-use Rattle.draw_check.proofs.loose.may_be_crossed_by.Goals as goal
+use Rattle.draw_check.proofs.loose.may_be_crossed.Goals as goal
 
 pub is_met_by_loose-requires-clause-probe : goal.is_met_by_loose-requires-clause-probe
 is_met_by_loose-requires-clause-probe c =

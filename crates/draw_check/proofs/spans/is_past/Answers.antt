@@ -1,0 +1,14 @@
+use Rattle.std.proofs.Common.{pos, ◌≤ℤ◌, arith}
+use Rattle.std.proofs.lemmas.Bool.{OnTrue_at, OnTrue_from}
+use Rattle.std.proofs.lemmas.Int.{ints}
+use Rattle.pg_plane.specs.Geometry.{area}
+use Rattle.draw_check.specs.Spans.{MissesStar}
+use Rattle.draw_check.proofs.SpanLemmas.{past_missed}
+use Rattle.draw_check.proofs.spans.is_past.Goals as goal
+
+pub returns-then-is_not_negative : goal.returns-then-is_not_negative
+returns-then-is_not_negative c =
+    let up = c.is_not_negative.ensures.0 c.if-is_not_negative.true in
+    let value = c.area2.ensures in
+    let point : pos 0 ≤ℤ area c.args.p c.args.q c.args.r = omega (arith, ints) in
+    OnTrue_from c.is_left_of.result (MissesStar c.args.span c.args.r c.args.p c.args.q) (λ t. past_missed c.args.span c.args.r c.args.p c.args.q point (OnTrue_at t c.is_left_of.ensures))
