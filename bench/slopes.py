@@ -10,6 +10,7 @@ Counted by valgrind, with the start of the program taken off; glibc's copying by
 counts it by bytes. Not part of the gate.
 """
 import os
+import random
 import re
 import subprocess
 import sys
@@ -116,6 +117,27 @@ def hostile(strip, side):
     return (f"figure 1 shift {n}\n" + "\n".join(lines) + "\n").encode()
 
 
+def gaps(columns, rows, side):
+    """One figure: a grid with diagonals in the gap of each fan of a drawn complete bipartite graph, lists out of order."""
+    inner, n = columns * rows, columns * rows + 2 * side
+    lists = [[] for _ in range(inner)]
+    for i in range(columns):
+        for j in range(rows):
+            for u, v in ((i + 1, j), (i, j + 1), (i + 1, j + 1)):
+                if u < columns and v < rows:
+                    lists[i * rows + j].append(u * rows + v + 1)
+                    lists[u * rows + v].append(i * rows + j + 1)
+    left, right = range(inner + 1, inner + side + 1), range(inner + side + 1, n + 1)
+    lists += [list(right) for _ in left] + [list(left) for _ in right]
+    source = random.Random(1)
+    for neighbours in lists:
+        source.shuffle(neighbours)
+    places = [(2700 + i, 1400 + j) for i in range(columns) for j in range(rows)] + [(0, 1000 + j) for j in range(side)]
+    places += [(3000, j if j < side // 2 else n - 2 - side + j) for j in range(side)]
+    lines = [f"{v} at {x} {y}: {' '.join(map(str, us))}" for v, ((x, y), us) in enumerate(zip(places, lists), 1)]
+    return (f"figure 1 shift {n}\n" + "\n".join(lines) + "\n").encode()
+
+
 def limits():
     """(what, million instructions, the most that it should take)"""
     one = lambda make: count.record(make(4095))
@@ -151,6 +173,7 @@ def main():
             print(f"| {what} | {found / 1e6:.1f}{'!' if found > most * 1e6 else ''} | {most} |", flush=True)
         print("\n| Input | Seconds | At most |\n|---|---|---|")
         for what, found, most in (("verify: 14.5 MB, a strip of 1,500 vertices and K(1200,1200)", timed("verify", hostile(1500, 1200)), 15),
+                                  ("verify: 14.5 MB, a grid of 1,560 vertices in the gaps of K(1200,1200)", timed("verify", gaps(13, 120, 1200)), 15),
                                   ("embed: 4 million lines of K5", timed("embed", b"D~{\n" * (1 << 22)), 12)):
             print(f"| {what} | {found:.1f}{'!' if found > most else ''} | {most} |", flush=True)
     else:
