@@ -11,6 +11,7 @@ pub mod MetLemmas
 pub mod LooseLemmas
 mod SpanLemmas
 mod StarLemmas
+mod LooseStarLemmas
 mod Cases
 pub mod TurnLemmas
 pub mod ValidFewer

@@ -1,6 +1,6 @@
 -- Where a drawing is plane without the edges of some loose vertices, each fault has a loose vertex.
-use Rattle.std.proofs.Common.{◌≡◌, ◌⊎◌, ◌&&◌, ℕ, ◌<◌, Bool, true, false, not, List, length, refl, inl, inr, arith}
-use Rattle.std.proofs.lemmas.Bool.{cases_Bool}
+use Rattle.std.proofs.Common.{◌≡◌, ◌⊎◌, ◌&&◌, ℕ, ◌<◌, Bool, true, false, not, List, length, slice_index_or, refl, sym, ◌∙◌, inl, inr, arith}
+use Rattle.std.proofs.lemmas.Bool.{cases_Bool, true≢false}
 use Rattle.map_lists.specs.Lists.{Lists}
 use Rattle.map_lists.specs.declared.ids.VertexId.{VertexId}
 use Rattle.map_theory.specs.Maps.{HasDart, IsSimpleMap}
@@ -12,6 +12,7 @@ use Rattle.plane_drawings.proofs.FirmLemmas.{firm_map, length-firm}
 use Rattle.draw_check.specs.Faults.{LiesOnEdge, EdgesCross}
 use Rattle.draw_check.specs.Verdicts.{NoneShareAPlace}
 use Rattle.draw_check.specs.Loops.{Touches}
+use Rattle.draw_check.specs.LooseStars.{IsOn, NotesVertices}
 use Rattle.draw_check.specs.declared.edges.Probe.{Probe}
 use Rattle.draw_check.specs.declared.edges.Probe.TheVariants.{Vertex, Edge}
 
@@ -66,3 +67,11 @@ module _ (lists : Lists) (points : List Point) (loose : List ℕ) (simple : IsSi
               (record { meets = (n.2, n.3, n.0, n.1, DoCross-second_back (place points a.0) (place points b.0) (place points c) (place points d) x.cross) })
         ]
       ]
+
+  -- a vertex on an edge is marked where those on edges of loose vertices are
+  pub on_if_noted : (marks : List Bool) → ((h : ℕ) → is_among loose h ≡ true → NotesVertices lists points h marks) → (v a b : ℕ) → LiesOnEdge lists points v a b → IsOn marks v
+  on_if_noted marks noted v a b on = elim (cases_Bool (slice_index_or marks v true)) [
+    | inl t ↦ t
+    | inr f ↦
+        absurd (off_but_loose (record { 0 = v }) a b (λ h u among has touches. true≢false (sym (noted h among (record { 0 = v }) u on.vertex has touches.meets) ∙ f)) on)
+  ]

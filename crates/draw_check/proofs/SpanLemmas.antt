@@ -3,7 +3,7 @@ use Rattle.std.proofs.Common.{◌≡◌, ◌⊎◌, Bool, true, false, cond, ℤ
 use Rattle.std.specs.Int.{int_min, int_max}
 use Rattle.std.proofs.lemmas.Int.{ints, by_lt_z}
 use Rattle.pg_plane.specs.declared.point.Point.{Point}
-use Rattle.pg_plane.specs.Geometry.{area, AreOpposite, DoCross}
+use Rattle.pg_plane.specs.Geometry.{area, AreOpposite, IsBetween, DoCross}
 use Rattle.pg_plane.specs.Range.{IsWithin}
 use Rattle.pg_plane.proofs.Ring.{ring, sums, product_signs}
 use Rattle.pg_plane.proofs.Identities.{area_turned}
@@ -12,6 +12,7 @@ use Rattle.pg_plane.proofs.Segments.{DoCross-first_back, DoCross-second_back, Do
 use Rattle.plane_drawings.proofs.Areas.{disjoint}
 use Rattle.draw_check.specs.declared.spans.Span.{Span}
 use Rattle.draw_check.specs.Spans.{IsIn, IsApart, IsLeftOf, MissesStar}
+use Rattle.draw_check.specs.LooseStars.{MissesFan}
 
 or_less : (s t : ℤ) → (s ≤ℤ t) ⊎ (t ≤ℤ s)
 or_less s t = by_lt_z s t (λ h. inl (omega (arith, ints))) (λ h. inr h)
@@ -139,3 +140,24 @@ right_missed span r p q first second u inside h =
 -- the segment the other way round
 pub missed_back : (span : Span) (r p q : Point) → MissesStar span r q p → MissesStar span r p q
 missed_back span r p q missed u inside h = missed u inside (DoCross-first_back p q r u h)
+
+-- what lies between two numbers is within what holds both
+between_bounds : (l h a b p : ℤ) → l ≤ℤ a → a ≤ℤ h → l ≤ℤ b → b ≤ℤ h → IsBetween a b p → (l ≤ℤ p) × (p ≤ℤ h)
+between_bounds l h a b p la ah lb bh (inl (x, y)) = (omega (arith, ints), omega (arith, ints))
+between_bounds l h a b p la ah lb bh (inr (x, y)) = (omega (arith, ints), omega (arith, ints))
+
+-- A point out of a box is on no segment in it.
+pub out_missed : (span wide : Span) (r p : Point) → IsIn wide r → ((u : Point) → IsIn span u → IsIn wide u) → ¬ IsIn wide p → MissesFan span r p
+out_missed span wide r p here more out u inside on =
+    let at = more u inside in
+    let x = between_bounds wide.left wide.right r.x u.x p.x here.left here.right at.left at.right on.between_x in
+    let y = between_bounds wide.bottom wide.top r.y u.y p.y here.bottom here.top at.bottom at.top on.between_y in
+    out (record { left = x.0; right = x.1; bottom = y.0; top = y.1 })
+
+-- Seen from r the point is to the right of the box.
+pub right_off : (span : Span) (r p : Point) → ((u : Point) → IsIn span u → pos 0 <ℤ area r p u) → MissesFan span r p
+right_off span r p box u inside on = let up = box u inside in let line = on.on_line in let back = area_back p r u in let turn = area_turned p r u in omega (arith, ints, back, turn)
+
+-- Seen from r the point is to the left of the box.
+pub left_off : (span : Span) (r p : Point) → ((u : Point) → IsIn span u → pos 0 <ℤ area p r u) → MissesFan span r p
+left_off span r p box u inside on = let up = box u inside in let line = on.on_line in let turn = area_turned p r u in omega (arith, ints, turn)

@@ -1,10 +1,10 @@
 -- The heads of a star and their boxes, what a star says of the edges before it, and the first edge that stars cross.
-use Rattle.std.proofs.Common.{◌≡◌, ◌⊎◌, ℕ, ◌+◌, ◌<◌, ◌≤◌, Bool, true, false, cond, nat_lt, List, [], ◌∷◌, ◌++◌, length, take, drop, get_or, All, Contains, Option, Some, None, refl, sym, ap, ◌∙◌, subst, inl, inr, arith, ltb-true, lt-ltb, set, pos, get_or-set_same, get_or-set_other}
+use Rattle.std.proofs.Common.{◌≡◌, ◌⊎◌, ℕ, ◌+◌, ◌<◌, ◌≤◌, Bool, true, false, cond, nat_le, List, [], ◌∷◌, ◌++◌, length, take, drop, get_or, All, Contains, Option, Some, None, refl, sym, ap, ◌∙◌, subst, inl, inr, arith, set, pos, get_or-set_same, get_or-set_other}
 use Rattle.std.specs.Bool.{OnTrue, OnFalse}
 use Rattle.std.specs.List.{filter}
 use Rattle.std.specs.List.Sorted.{IsPermutation}
 use Rattle.std.specs.Option.{MatchOption, option_map}
-use Rattle.std.proofs.lemmas.Bool.{cases_lt, cases_eq, true≢false}
+use Rattle.std.proofs.lemmas.Bool.{cases_lt, cases_eq, true≢false, leb-true, le-leb}
 use Rattle.std.proofs.lemmas.List.{take_at, take_more, length-take-le}
 use Rattle.std.proofs.lemmas.List.Sorted.{Contains-permutation, IsPermutation-sym, length_permutation}
 use Rattle.std.proofs.lemmas.List.Elements.{filter-append, Contains-get_or}
@@ -37,23 +37,23 @@ next-is map d e v k known vertex l is step =
     step ∙ ap (option_map (next_dart map.lists)) is ∙ ap (λ (u : ℕ). Some (v, u)) (entry_after-next (list_of map.lists v) k (known.simple.no_repeat v vertex) l)
 
 -- one neighbour more, which is x
-pub heads-more : (v : ℕ) (us : List ℕ) (k x : ℕ) (old new : List ℕ) → k < length us → get_or us k 0 ≡ x → old ≡ filter (nat_lt v) (take k us) → new ≡ old ++ cond (nat_lt v x) (x ∷ []) [] → new ≡ filter (nat_lt v) (take (k + 1) us)
-heads-more v us k x old new l x_is was now =
-    now ∙ ap (λ (xs : List ℕ). xs ++ cond (nat_lt v x) (x ∷ []) []) was ∙ ap (λ (u : ℕ). filter (nat_lt v) (take k us) ++ cond (nat_lt v u) (u ∷ []) []) (sym x_is)
-    ∙ sym (filter-append (nat_lt v) (take k us) (get_or us k 0 ∷ [])) ∙ ap (filter (nat_lt v)) (sym (take_more us k 0 l))
+pub heads-more : (from : ℕ) (us : List ℕ) (k x : ℕ) (old new : List ℕ) → k < length us → get_or us k 0 ≡ x → old ≡ filter (nat_le from) (take k us) → new ≡ old ++ cond (nat_le from x) (x ∷ []) [] → new ≡ filter (nat_le from) (take (k + 1) us)
+heads-more from us k x old new l x_is was now =
+    now ∙ ap (λ (xs : List ℕ). xs ++ cond (nat_le from x) (x ∷ []) []) was ∙ ap (λ (u : ℕ). filter (nat_le from) (take k us) ++ cond (nat_le from u) (u ∷ []) []) (sym x_is)
+    ∙ sym (filter-append (nat_le from) (take k us) (get_or us k 0 ∷ [])) ∙ ap (filter (nat_le from)) (sym (take_more us k 0 l))
 
--- the greater neighbours are the heads
-pub heads_from : (lists : Lists) (v : ℕ) (heads : List ℕ) → v < length lists → heads ≡ filter (nat_lt v) (list_of lists v) → AreHeads lists v heads
-heads_from lists v heads l e u = (
+-- the neighbours from a number on are the heads
+pub heads_from : (lists : Lists) (v from : ℕ) (heads : List ℕ) → v < length lists → heads ≡ filter (nat_le from) (list_of lists v) → AreHeads lists v from heads
+heads_from lists v from heads l e u = (
   (λ among.
-      let parts = Contains-from_filter (nat_lt v) (list_of lists v) u (subst (λ (us : List ℕ). Contains us u) e among) in
-      (ltb-true v u parts.1, (l, parts.0))),
-  λ edge. subst (λ (us : List ℕ). Contains us u) (sym e) (Contains-filter (nat_lt v) (list_of lists v) u edge.1.1 (lt-ltb v u edge.0)),
+      let parts = Contains-from_filter (nat_le from) (list_of lists v) u (subst (λ (us : List ℕ). Contains us u) e among) in
+      (leb-true from u parts.1, (l, parts.0))),
+  λ edge. subst (λ (us : List ℕ). Contains us u) (sym e) (Contains-filter (nat_le from) (list_of lists v) u edge.1.1 (le-leb from u edge.0)),
 )
 
 -- in another order they are the same
-pub heads_sorted : (lists : Lists) (v : ℕ) (old new : List ℕ) → IsPermutation old new → AreHeads lists v old → AreHeads lists v new
-heads_sorted lists v old new p h u = (
+pub heads_sorted : (lists : Lists) (v from : ℕ) (old new : List ℕ) → IsPermutation old new → AreHeads lists v from old → AreHeads lists v from new
+heads_sorted lists v from old new p h u = (
   (λ among. (h u).0 (Contains-permutation new old u (IsPermutation-sym old new p) among)),
   λ edge. Contains-permutation old new u p ((h u).1 edge),
 )
@@ -63,9 +63,10 @@ pub front_sorted : (xs ys : List ℕ) (n : ℕ) → n ≤ length xs → IsPermut
 front_sorted xs ys n l p = take_at ys (drop n xs) n (length_permutation (take n xs) ys p ∙ length-take-le n xs l)
 
 -- no heads, no star
-pub no_star : (lists : Lists) (points : List Point) (v : ℕ) → AreHeads lists v [] → (a b : ℕ) → ¬ IsCrossedFrom lists points v a b
+pub no_star : (lists : Lists) (points : List Point) (v : ℕ) → AreHeads lists v (v + 1) [] → (a b : ℕ) → ¬ IsCrossedFrom lists points v a b
 no_star lists points v h a b x =
-    let none = (h x.head).1 x.second in
+    let less = x.second.0 in
+    let none = (h x.head).1 (omega arith, x.second.1) in
     let l = none.1 in
     absurd (omega arith)
 
@@ -79,23 +80,26 @@ runs-more runs k x P l here before j less =
     ]
 
 -- heads are vertices
-pub heads_below : (lists : Lists) (v : ℕ) (heads : List ℕ) → IsSimpleMap lists → AreHeads lists v heads → All (λ u. u < length lists) heads
-heads_below lists v heads simple h = λ k d m. simple.in_range v (get_or heads k d) ((h (get_or heads k d)).0 (Contains-get_or heads k d m)).1
+pub heads_below : (lists : Lists) (v from : ℕ) (heads : List ℕ) → IsSimpleMap lists → AreHeads lists v from heads → All (λ u. u < length lists) heads
+heads_below lists v from heads simple h = λ k d m. simple.in_range v (get_or heads k d) ((h (get_or heads k d)).0 (Contains-get_or heads k d m)).1
 
 -- What a star says of an edge is whether one of the star crosses it.
-pub crossed_from : (lists : Lists) (points : List Point) (v a b : VertexId) (heads : List ℕ) (whole : Span) (runs : List Span) (r : Bool) → IsStar lists points v.0 heads whole runs → HasEdge lists a.0 b.0
+pub crossed_from : (lists : Lists) (points : List Point) (v a b : VertexId) (heads : List ℕ) (whole : Span) (runs : List Span) (r : Bool) → IsStar lists points v.0 (v.0 + 1) heads whole runs → HasEdge lists a.0 b.0
     → OnTrue r ((i : ℕ) × (i < length heads) × Meets points (Edge a b) v.0 (get_or heads i 0)) → OnFalse r ((i : ℕ) → i < length heads → ¬ Meets points (Edge a b) v.0 (get_or heads i 0))
     → (r ≡ true → IsCrossedFrom lists points v.0 a.0 b.0) × (IsCrossedFrom lists points v.0 a.0 b.0 → r ≡ true)
 crossed_from lists points v a b heads whole runs true star edge (i, m, meets) none =
     let u = get_or heads i 0 in
-    let second = (star.heads_are u).0 (Contains-get_or heads i 0 m) in (
+    let has = (star.heads_are u).0 (Contains-get_or heads i 0 m) in
+    let late = has.0 in
+    let second : HasEdge lists v.0 u = (omega arith, has.1) in (
       (λ _. record { edge = edge; head = u; second = second; apart = (meets.0, meets.1, meets.2, meets.3); cross = meets.4 }),
       λ _. refl,
     )
 crossed_from lists points v a b heads whole runs false star edge some none = (
   (λ f. absurd (true≢false (sym f))),
   λ x.
-      let at = place_in heads x.head ((star.heads_are x.head).1 x.second) in
+      let less = x.second.0 in
+      let at = place_in heads x.head ((star.heads_are x.head).1 (omega arith, x.second.1)) in
       absurd (none at.0 at.1 (subst (λ u. Meets points (Edge a b) v.0 u) (sym at.2) (x.apart.0, x.apart.1, x.apart.2, x.apart.3, x.cross))),
 )
 

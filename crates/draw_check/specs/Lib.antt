@@ -5,6 +5,7 @@ pub mod Laws
 pub mod Loops
 pub mod Spans
 pub mod Stars
+pub mod LooseStars
 pub mod FaceVerdicts
 pub mod Outer
 pub mod FaceLaws

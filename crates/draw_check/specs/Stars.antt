@@ -1,7 +1,8 @@
--- The stars of vertices: the edges to the greater neighbours, their heads, with boxes of runs of heads; and the first edge that stars cross.
+-- The stars of vertices: the edges to the greater neighbours, or to all, their heads, with boxes of runs of heads; and the first edge that stars cross.
 use Rattle.std.specs.Prelude.{ℕ, ◌+◌, ◌*◌, ◌<◌, ◌≤◌, ◌≡◌, ◌≢◌, ◌⊎◌, ◌↔◌, List, length, slice_index, slice_index_or, Contains, All, Option, Some, None, MatchOption, pos}
 use Rattle.map_lists.specs.Lists.{Lists}
 use Rattle.map_lists.specs.declared.items.Ends.{Ends}
+use Rattle.map_theory.specs.Maps.{HasDart}
 use Rattle.pg_plane.specs.declared.point.Point.{Point}
 use Rattle.pg_plane.specs.Geometry.{DoCross}
 use Rattle.plane_drawings.specs.Drawing.{place}
@@ -25,13 +26,13 @@ pub record AreRuns (points : List Point) (heads : List ℕ) (runs : List Span) :
   pub in_range : (k : ℕ) → k < length runs → IsBoxInRange (run_at runs k)
   pub held : (k i : ℕ) → k < length runs → 64 * k ≤ i → i < 64 * (k + 1) → i < length heads → IsIn (run_at runs k) (place points (slice_index heads i))
 
--- the heads of v are its greater neighbours, in any order
-abbrev pub AreHeads : Lists → ℕ → List ℕ → Type 0
-AreHeads lists v heads = (u : ℕ) → Contains heads u ↔ HasEdge lists v u
+-- the heads of v are its neighbours from `from` on, in any order
+abbrev pub AreHeads : Lists → ℕ → ℕ → List ℕ → Type 0
+AreHeads lists v from heads = (u : ℕ) → Contains heads u ↔ ((from ≤ u) × HasDart lists v u)
 
 -- the heads of v, a box of all and boxes of the runs
-pub record IsStar (lists : Lists) (points : List Point) (v : ℕ) (heads : List ℕ) (whole : Span) (runs : List Span) : Type 0 where
-  pub heads_are : AreHeads lists v heads
+pub record IsStar (lists : Lists) (points : List Point) (v from : ℕ) (heads : List ℕ) (whole : Span) (runs : List Span) : Type 0 where
+  pub heads_are : AreHeads lists v from heads
   pub below : All (λ u. u < length points) heads
   pub whole_in : IsBoxInRange whole
   pub whole_holds : HoldsHeads points heads whole 0 (length heads)

@@ -10,6 +10,7 @@ mod crossings;
 mod edges;
 mod faces;
 mod loose;
+mod loose_stars;
 mod outer;
 mod pairs;
 mod places;

@@ -77,18 +77,6 @@ pub(crate) fn may_be_crossed(
     is_met_by_loose(map, points, loose, Probe::Edge(a, b))
 }
 
-// Marks the vertices that may lie on an edge: those on an edge of a loose vertex.
-pub(crate) fn mark_by_loose(map: &HalfMap, points: &Points, loose: &[u16], marks: &mut [bool])
-    requires drawn { IsDrawn map.now points.now }
-    requires plane { IsPlaneDrawing (firm_lists loose.now map.now.lists) points.now }
-    requires room { length map.now.lists ≤ length marks.old }
-    ensures { AreMarked map.now.lists points.now marks.new }
-{
-    for v in 0..map.n() {
-        marks[v as usize] = is_met_by_loose(map, points, loose, Probe::Vertex(VertexId(v)));
-    }
-}
-
 // Marks all vertices.
 fn mark_all(marks: &mut [bool])
     ensures { (v : ℕ) → slice_index_or marks.new v true ≡ true }

@@ -10,7 +10,8 @@ ghost use Rattle.draw_check.specs.Verdicts.{AllInGrid, NoneShareAPlace, NoneOnEd
 use crate::Verdict;
 use crate::crossings::first_crossing;
 use crate::edges::first_on_edge;
-use crate::loose::{mark_by_loose, mark_by_stars};
+use crate::loose::mark_by_stars;
+use crate::loose_stars::mark_by_loose;
 use crate::places::{corner_of, first_outside, first_shared};
 use crate::turns::first_turned;
 use half_edges::HalfMap;
@@ -64,7 +65,7 @@ fn first_pair_by_loose(map: &HalfMap, points: &Points, loose: &[u16]) -> Option<
     ensures { MatchOption result (NoneShareAPlace map.now.lists points.now × NoneOnEdge map.now.lists points.now × NoneCross map.now.lists points.now)
         (λ verdict. (width height : ℤ) → AllInGrid map.now.lists points.now width height → IsVerdict map.now.lists points.now width height verdict) }
 {
-    let mut marks = [true; 4095];
+    let mut marks = [false; 4095];
     mark_by_loose(map, points, loose, &mut marks);
     first_meeting(map, points, &marks, Some(loose))
 }

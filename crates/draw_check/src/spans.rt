@@ -4,6 +4,7 @@ ghost use Rattle.std.specs.Bool.{OnTrue};
 ghost use Rattle.pg_plane.specs.Geometry.{area};
 ghost use Rattle.pg_plane.specs.Range.{IsInRange, IsWithin};
 ghost use Rattle.draw_check.specs.Spans.{IsIn, IsBoxInRange, IsApart, IsLeftOf, MissesStar};
+ghost use Rattle.draw_check.specs.LooseStars.{MissesFan};
 
 use pg_plane::{Point, area2};
 
@@ -201,4 +202,58 @@ pub(crate) fn misses_star(span: Span, r: Point, p: Point, q: Point) -> bool
         return true;
     }
     are_to_left(span, r, p, q)
+}
+
+// Whether a point is neither to the left nor to the right of a box.
+fn is_in_width(span: Span, p: Point) -> bool
+    ensures { IsTrue result ↔ ((span.left ≤ℤ p.x) × (p.x ≤ℤ span.right)) }
+{
+    span.left <= p.x && p.x <= span.right
+}
+
+// Whether a point is neither below nor above a box.
+fn is_in_height(span: Span, p: Point) -> bool
+    ensures { IsTrue result ↔ ((span.bottom ≤ℤ p.y) × (p.y ≤ℤ span.top)) }
+{
+    span.bottom <= p.y && p.y <= span.top
+}
+
+// Whether a point lies in a box.
+fn is_in(span: Span, p: Point) -> bool
+    ensures { IsTrue result ↔ IsIn span p }
+{
+    is_in_width(span, p) && is_in_height(span, p)
+}
+
+// Whether a number is positive.
+fn is_positive(z: i64) -> bool
+    ensures { IsTrue result ↔ (pos 0 <ℤ z) }
+{
+    0 < z
+}
+
+// Whether all points of a box are to the left of the way from `p` to `q`.
+fn is_strictly_left_of(span: Span, p: Point, q: Point) -> bool
+    requires span { IsBoxInRange span }
+    requires p { IsInRange p }
+    requires q { IsInRange q }
+    ensures { OnTrue result ((u : Point) → IsIn span u → pos 0 <ℤ area p q u) }
+{
+    is_positive(area2(p, q, far_corner(span, p, q)))
+}
+
+// Whether a point surely lies on no segment from `r` into a box.
+pub(crate) fn misses_fan(span: Span, r: Point, p: Point) -> bool
+    requires span { IsBoxInRange span }
+    requires r { IsInRange r }
+    requires p { IsInRange p }
+    ensures { OnTrue result (MissesFan span r p) }
+{
+    if !is_in(widened(span, r), p) {
+        return true;
+    }
+    if is_strictly_left_of(span, r, p) {
+        return true;
+    }
+    is_strictly_left_of(span, p, r)
 }
