@@ -2,7 +2,7 @@
 use Rattle.std.proofs.Common.{◌≡◌, ◌≢◌, ◌||◌, ℕ, zero, suc, ◌+◌, ◌-◌, ◌<◌, ◌≤◌, Bool, true, false, eqb, List, [], ◌∷◌, ◌++◌, length, get_or, set, get_or-set_same, get_or-set_other, option_map, refl, sym, ap, ◌∙◌, subst, inl, inr, arith}
 use Rattle.std.specs.Prelude.{All, Contains}
 use Rattle.std.proofs.lemmas.Bool.{cases_eq, cases_lt, eq-eqb, ne_eqb, or_cases, or_right, ltb-true, ltb-false, true≢false}
-use Rattle.std.proofs.lemmas.List.{length_push, get_or_push, get_or_past, get_or_default, get_or_append_left, get_or-map, length-map, map-append}
+use Rattle.std.proofs.lemmas.List.{length_push, get_or_push, get_or_past, get_or_default, get_or_append_left, get_or-map, length-map}
 use Rattle.std.proofs.lemmas.List.Elements.{Contains-get_or}
 use Rattle.classes.specs.Classes.{image, label, orbits, same_class}
 use Rattle.map_theory.specs.Maps.{dart_count, face_images, face_step, face_classes}
@@ -12,12 +12,10 @@ use Rattle.map_theory.proofs.DartLemmas.{length-face_images, IsPermutationOfBelo
 use Rattle.classes.proofs.Marks.{KeepsMarks, SetsMark, IsCounting}
 use Rattle.classes.proofs.Walks.{walk, visited, visited_at, visited-walk, walk_apart, walk-together, visited_is_orbit}
 use Rattle.half_edges.specs.Map.{Map, IsHalfMap, IsLive, dart_at}
-use Rattle.map_lists.specs.Cuts.{cut}
 use Rattle.map_lists.specs.declared.ids.DartId.{DartId}
-use Rattle.map_lists.proofs.CutLemmas.{pushed, IsStored-cuts, IsStored-cut}
 use Rattle.euler_faces.specs.Numbers.{number_at, id_of}
-use Rattle.euler_faces.specs.FaceWalks.{ids_of, walks_of, walk_at, first_number, AreFaces}
-use Rattle.euler_faces.specs.FaceSearch.{IsWholeWalk, AreWalksBelow, IsWalkPut, AreCutBelow}
+use Rattle.euler_faces.specs.FaceWalks.{ids_of, walk_at, first_number, AreFaces}
+use Rattle.euler_faces.specs.FaceSearch.{IsWholeWalk, AreWalksBelow}
 use Rattle.euler_faces.proofs.NumberLemmas.{some_of, number_at-is, id_of-number, number_at-lt, face_step-number}
 
 -- ---- entries of a list, and what stands behind it
@@ -332,39 +330,6 @@ AreWalksBelow-all map h walks n w e =
     label_in : (f d : ℕ) → f < length walks → Contains (walk_at walks f) d → label (face_classes map.lists) (number_at map d) ≡ first_number map (walk_at walks f)
     label_in f d l c =
         ap (λ z. label (face_classes map.lists) (number_at map z)) (sym (get_or_default (walk_at walks f) c.0 0 d c.1 ∙ c.2)) ∙ (w.each f l).labels c.0 c.1
-
--- ---- walks one behind another
--- no dart has been met
-pub IsWalking-none : (map : Map) (marked : ℕ → Bool) (start : ℕ) → IsLive map start → IsWalking map marked marked [] start start
-IsWalking-none map marked start live = record {
-  begins = refl;
-  live = λ i l. live;
-  at = λ i l. ap (walk (step map) (number_at map start)) (let e : 0 ≡ i = omega (arith, l) in e);
-  steps = λ i l. absurd (omega (arith, l));
-  away = λ i pos l. absurd (omega (arith, l));
-  marks = λ j l. or_false (marked j);
-}
-
--- the ids of one dart more
-pub ids_of-push : (ds : List DartId) (d : DartId) → ids_of (ds ++ d ∷ []) ≡ ids_of ds ++ d.0 ∷ []
-ids_of-push ds d = map-append (λ (d : DartId). d.0) ds (d ∷ [])
-
--- the walk of the next face is put behind those before
-pub AreCutBelow-new : (map : Map) (end : ℕ) (ends new_ends : List ℕ) (darts new_darts : List DartId) (n m : ℕ) → AreCutBelow map ends darts n → IsWalkPut map n darts new_darts → new_ends ≡ ends ++ end ∷ [] → end ≡ length new_darts → m ≡ n + 1 → AreCutBelow map new_ends new_darts m
-AreCutBelow-new map end ends new_ends darts new_darts n m w put added total s =
-    let stored = pushed ends new_ends darts new_darts put.walk w.cuts put.grown added total in
-    let now : walks_of (cut 0 new_ends new_darts) ≡ walks_of (cut 0 ends darts) ++ ids_of put.walk ∷ [] =
-    ap walks_of (IsStored-cut _ _ _ stored) ∙ map-append ids_of (cut 0 ends darts) (put.walk ∷ []) in
-    record {
-      cuts = IsStored-cuts _ _ _ stored;
-      walks = subst (λ walks. AreWalksBelow map walks m) (sym now) (AreWalksBelow-new map (walks_of (cut 0 ends darts)) (ids_of put.walk) n m w.walks put.whole s);
-    }
-
-pub length-walks_of : (walks : List (List DartId)) → length (walks_of walks) ≡ length walks
-length-walks_of walks = length-map walks ids_of
-
-pub walk_at-walks_of : (walks : List (List DartId)) (f : ℕ) → f < length walks → walk_at (walks_of walks) f ≡ ids_of (get_or walks f [])
-walk_at-walks_of walks f l = get_or-map ids_of walks f [] [] l
 
 -- ---- numbers of faces
 -- the numbers of ids, one by one

@@ -1,12 +1,10 @@
 -- The walks of the faces met so far, where the darts are gone over by their numbers.
-use Rattle.std.specs.Prelude.{ℕ, ◌<◌, ◌≡◌, ◌++◌, List, length, slice_index}
+use Rattle.std.specs.Prelude.{ℕ, ◌<◌, ◌≡◌, List, length, slice_index}
 use Rattle.classes.specs.Classes.{label}
 use Rattle.map_theory.specs.Maps.{dart_count, face_classes}
 use Rattle.half_edges.specs.Map.{Map}
 use Rattle.euler_faces.specs.Numbers.{number_at}
-use Rattle.map_lists.specs.Cuts.{cut, AreCuts}
-use Rattle.map_lists.specs.declared.ids.DartId.{DartId}
-use Rattle.euler_faces.specs.FaceWalks.{ids_of, walks_of, walk_at, first_number, IsFaceWalk}
+use Rattle.euler_faces.specs.FaceWalks.{walk_at, first_number, IsFaceWalk}
 
 -- The walk along the whole face whose least dart has the number `first`.
 pub record IsWholeWalk (map : Map) (ids : List ℕ) (first : ℕ) : Type 0 where
@@ -21,14 +19,3 @@ pub record AreWalksBelow (map : Map) (walks : List (List ℕ)) (n : ℕ) : Type 
   pub below : (f : ℕ) → f < length walks → first_number map (walk_at walks f) < n
   pub rising : (f g : ℕ) → f < g → g < length walks → first_number map (walk_at walks f) < first_number map (walk_at walks g)
   pub found : (j : ℕ) → j < n → label (face_classes map.lists) j ≡ j → (f : ℕ) × (f < length walks) × (first_number map (walk_at walks f) ≡ j)
-
--- Such a walk stands behind other darts.
-pub record IsWalkPut (map : Map) (first : ℕ) (old new : List DartId) : Type 0 where
-  pub walk : List DartId
-  pub grown : new ≡ old ++ walk
-  pub whole : IsWholeWalk map (ids_of walk) first
-
--- The walks met so far, one after another.
-pub record AreCutBelow (map : Map) (ends : List ℕ) (darts : List DartId) (n : ℕ) : Type 0 where
-  pub cuts : AreCuts 0 ends (length darts)
-  pub walks : AreWalksBelow map (walks_of (cut 0 ends darts)) n

@@ -9,10 +9,6 @@ use Rattle.euler_faces.specs.Numbers.{number_at}
 abbrev pub ids_of : List DartId → List ℕ
 ids_of ds = map (λ d. d.0) ds
 
--- the same of walks
-abbrev pub walks_of : List (List DartId) → List (List ℕ)
-walks_of walks = map ids_of walks
-
 -- the walk of face f
 abbrev pub walk_at : List (List ℕ) → ℕ → List ℕ
 walk_at walks f = slice_index_or walks f []

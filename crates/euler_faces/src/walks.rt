@@ -1,10 +1,53 @@
 //! Walks along faces.
-ghost use Rattle.std.specs.Prelude.{◌≡◌, ◌<◌, ℕ, length, All, Contains};
+ghost use Rattle.std.specs.Prelude.{◌≡◌, ◌<◌, ℕ, [], ◌∷◌, ◌++◌, length, All, Contains, OnOk};
 ghost use Rattle.euler_faces.specs.FaceWalks.{ids_of, walk_at};
 
 use half_edges::{DartId, FaceId};
-use map_lists::ItemLists;
+use smallvec::SmallVec;
+use std::alloc::{AllocError, Global};
 use std::marker::Model;
+
+// Darts in the order of a walk, at most four with no memory of their own. Contracts see the numbers of
+// their ids.
+#[derive(Drop)]
+pub(crate) struct Walk {
+    darts: SmallVec<DartId, 4>,
+}
+
+impl Model for Walk {
+    ghost use Rattle.std.specs.Prelude.{ℕ, List};
+    ghost use Rattle.euler_faces.specs.FaceWalks.{ids_of};
+
+    ghost Value = { List ℕ };
+
+    ghost view = { λ w. ids_of w.darts.items };
+}
+
+impl Walk {
+    // No darts. It takes no memory.
+    pub(crate) fn new(alloc: Global) -> Walk
+        ensures { result ≡ [] }
+    {
+        Walk {
+            darts: SmallVec::new(alloc),
+        }
+    }
+
+    // Appends a dart.
+    pub(crate) fn push(&mut self, d: DartId) -> Result<(), AllocError>
+        ensures { OnOk result (self.new ≡ self.old ++ d.0 ∷ []) }
+    {
+        self.darts.push(d)?;
+        Ok(())
+    }
+
+    // The darts.
+    pub(crate) fn as_slice(&self) -> &[DartId]
+        ensures { ids_of result.now ≡ self.now }
+    {
+        self.darts.as_slice()
+    }
+}
 
 /// The faces of a map: the orbits of the face step, each as a walk along it.
 ///
@@ -13,20 +56,20 @@ use std::marker::Model;
 /// as they were.
 #[derive(Drop)]
 pub struct Faces {
-    pub(crate) walks: ItemLists<DartId>,
+    pub(crate) walks: Vec<Walk>,
     // for each id of a dart the number of its face
     pub(crate) of: Vec<u32>,
 }
 
 impl Model for Faces {
     ghost use Rattle.std.specs.Prelude.{ℕ, List};
-    ghost use Rattle.euler_faces.specs.FaceWalks.{AreNumbered, walks_of};
+    ghost use Rattle.euler_faces.specs.FaceWalks.{AreNumbered};
 
     ghost Value = { List (List ℕ) };
 
-    ghost view = { λ faces. walks_of faces.walks };
+    ghost view = { λ faces. faces.walks.items };
 
-    ghost invariant = { λ faces. AreNumbered (walks_of faces.walks) faces.of.items };
+    ghost invariant = { λ faces. AreNumbered faces.walks.items faces.of.items };
 }
 
 impl Faces {
@@ -52,6 +95,6 @@ impl Faces {
         ensures walk { ids_of result.now ≡ walk_at self.now f.0 }
         ensures stands { All (λ d. Contains (walk_at self.now f.0) d.0) result.now }
     {
-        self.walks.list(f.0 as usize)
+        self.walks[f.0 as usize].as_slice()
     }
 }

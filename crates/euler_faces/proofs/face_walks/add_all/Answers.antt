@@ -1,4 +1,4 @@
-use Rattle.std.proofs.Common.{refl, arith}
+use Rattle.std.proofs.Common.{arith}
 use Rattle.classes.specs.Classes.{orbits}
 use Rattle.map_theory.specs.Maps.{face_images, face_classes}
 use Rattle.map_theory.proofs.DartLemmas.{length-face_images, darts_before_none, darts_before_all}
@@ -15,15 +15,15 @@ loop-v-init c =
     record {
       known = c.requires.known;
       marks = c.requires.marks;
-      counting = rw (c.requires.no_ends, darts_before_none map.lists) (IsCounting-none (face_classes map.lists) (mark_of map c.args.marked.now) (λ i l. c.requires.unset (id_of map i)));
-      walks = rw (c.requires.no_ends, c.requires.no_darts, darts_before_none map.lists) (record { cuts = refl; walks = AreWalksBelow-none map });
+      counting = rw (c.requires.none, darts_before_none map.lists) (IsCounting-none (face_classes map.lists) (mark_of map c.args.marked.now) (λ i l. c.requires.unset (id_of map i)));
+      walks = rw (c.requires.none, darts_before_none map.lists) (AreWalksBelow-none map);
     }
 
 pub returns-clause-faces : goal.returns-clause-faces
 returns-clause-faces c =
     let map = c.args.map.now in
     let h = c.loop-v.invariant in
-    AreWalksBelow-all map h.known _ _ h.walks.walks (darts_before_all map.lists c.loop-v.v (omega arith))
+    AreWalksBelow-all map h.known _ _ h.walks (darts_before_all map.lists c.loop-v.v (omega arith))
 
 pub returns-clause-count : goal.returns-clause-count
 returns-clause-count c =

@@ -1,41 +1,33 @@
-use Rattle.std.proofs.Common.{length-set, ◌∙◌, ◌++◌, List, [], ◌∷◌, true, set, subst, sym, ap, arith}
-use Rattle.std.proofs.lemmas.List.{append_assoc, append-nil}
-use Rattle.map_lists.specs.declared.ids.DartId.{DartId}
+use Rattle.std.proofs.Common.{length-set, ◌∙◌, true, set, subst, sym, arith}
 use Rattle.euler_faces.specs.Numbers.{number_at, mark_of}
 use Rattle.euler_faces.proofs.NumberLemmas.{number_at-lt, live-lt, SetsMark-set, mark_of-number, face_step-live}
 use Rattle.classes.proofs.Marks.{unmarked_below-set}
-use Rattle.euler_faces.proofs.FaceWalkLemmas.{IsWalking, IsWalking-none, ids_of-push, live_now, IsWalking-more, IsWalking-marks, IsWalking-all}
+use Rattle.euler_faces.proofs.FaceWalkLemmas.{IsWalking, live_now, IsWalking-more, IsWalking-marks, IsWalking-all}
 use Rattle.euler_faces.proofs.face_walks.walk_face.Goals as goal
-
-pub loop-marked-init : goal.loop-marked-init
-loop-marked-init c = record {
-  marks = c.requires.marks;
-  walking = ([], sym (append-nil c.args.darts.now.items), IsWalking-none c.args.map.now (mark_of c.args.map.now c.args.marked.now) c.args.start.0 c.requires.live);
-}
 
 pub bounds-marked-d : goal.bounds-marked-d
 bounds-marked-d c =
     let map = c.args.map.now in
     let h = c.loop-marked.invariant in
-    let l = live-lt map c.requires.known c.loop-marked.d.0 (live_now map c.requires.known _ _ _ _ _ h.walking.2) in
+    let l = live-lt map c.requires.known c.loop-marked.d.0 (live_now map c.requires.known _ _ _ _ _ h.walking) in
     omega arith
 
 pub bounds-marked-d-in-loop-marked : goal.bounds-marked-d-in-loop-marked
 bounds-marked-d-in-loop-marked c =
     let map = c.args.map.now in
     let h = c.loop-marked.invariant in
-    let l = live-lt map c.requires.known c.loop-marked.d.0 (live_now map c.requires.known _ _ _ _ _ h.walking.2) in
+    let l = live-lt map c.requires.known c.loop-marked.d.0 (live_now map c.requires.known _ _ _ _ _ h.walking) in
     omega arith
 
 pub face_step-d-requires : goal.face_step-d-requires
-face_step-d-requires c = live_now c.args.map.now c.requires.known _ _ _ _ _ c.loop-marked.invariant.walking.2
+face_step-d-requires c = live_now c.args.map.now c.requires.known _ _ _ _ _ c.loop-marked.invariant.walking
 
 pub loop-marked-smaller : goal.loop-marked-smaller
 loop-marked-smaller c =
     let map = c.args.map.now in
     let h = c.loop-marked.invariant in
     let d = c.loop-marked.d.0 in
-    let live = live_now map c.requires.known _ _ _ _ _ h.walking.2 in
+    let live = live_now map c.requires.known _ _ _ _ _ h.walking in
     let l = live-lt map c.requires.known d live in
     unmarked_below-set _ _ _ (number_at map d)
     (SetsMark-set map c.requires.known c.loop-marked.marked d live (omega arith))
@@ -47,20 +39,17 @@ loop-marked-preserved c =
     let map = c.args.map.now in
     let h = c.loop-marked.invariant in
     let d = c.loop-marked.d.0 in
-    let live = live_now map c.requires.known _ _ _ _ _ h.walking.2 in
+    let live = live_now map c.requires.known _ _ _ _ _ h.walking in
     let l = live-lt map c.requires.known d live in
     record {
       marks = length-set c.loop-marked.marked d true ∙ h.marks;
-      walking = (
-        h.walking.0 ++ c.loop-marked.d ∷ [],
-        c.in_ok-push.ensures.items ∙ (ap (λ (ds : List DartId). ds ++ c.loop-marked.d ∷ []) h.walking.1 ∙ append_assoc c.args.darts.now.items h.walking.0 (c.loop-marked.d ∷ [])),
-        subst (λ ids. IsWalking map (mark_of map c.args.marked.now) (mark_of map (set c.loop-marked.marked d true)) ids c.args.start.0 c.face_step-d.result.0) (sym (ids_of-push h.walking.0 c.loop-marked.d))
-            (IsWalking-more map c.requires.known _ _ _ _ _ h.walking.2 (mark_of map (set c.loop-marked.marked d true)) c.face_step-d.result.0
-            (mark_of-number map c.requires.known c.loop-marked.marked d live ∙ c.loop-marked-test.true)
-            (SetsMark-set map c.requires.known c.loop-marked.marked d live (omega arith))
-            (face_step-live map c.requires.known d c.face_step-d.result.0 live c.face_step-d.ensures)
-            c.face_step-d.ensures),
-      );
+      walking =
+          subst (λ ids. IsWalking map (mark_of map c.args.marked.now) (mark_of map (set c.loop-marked.marked d true)) ids c.args.start.0 c.face_step-d.result.0) (sym c.in_ok-push.ensures)
+          (IsWalking-more map c.requires.known _ _ _ _ _ h.walking (mark_of map (set c.loop-marked.marked d true)) c.face_step-d.result.0
+          (mark_of-number map c.requires.known c.loop-marked.marked d live ∙ c.loop-marked-test.true)
+          (SetsMark-set map c.requires.known c.loop-marked.marked d live (omega arith))
+          (face_step-live map c.requires.known d c.face_step-d.result.0 live c.face_step-d.ensures)
+          c.face_step-d.ensures);
     }
 
 pub returns-clause-marked : goal.returns-clause-marked
@@ -68,8 +57,8 @@ returns-clause-marked c =
     let map = c.args.map.now in
     let h = c.loop-marked.invariant in
     let d = c.loop-marked.d.0 in
-    let live = live_now map c.requires.known _ _ _ _ _ h.walking.2 in
-    IsWalking-marks map c.requires.known _ _ _ _ _ h.walking.2 c.requires.kept
+    let live = live_now map c.requires.known _ _ _ _ _ h.walking in
+    IsWalking-marks map c.requires.known _ _ _ _ _ h.walking c.requires.kept
     (mark_of-number map c.requires.known c.args.marked.now c.args.start.0 c.requires.live ∙ c.requires.unmarked)
     (mark_of-number map c.requires.known c.loop-marked.marked d live ∙ c.loop-marked-test.false)
 
@@ -78,13 +67,8 @@ returns-clause-walk c =
     let map = c.args.map.now in
     let h = c.loop-marked.invariant in
     let d = c.loop-marked.d.0 in
-    let live = live_now map c.requires.known _ _ _ _ _ h.walking.2 in
-    record {
-      walk = h.walking.0;
-      grown = h.walking.1;
-      whole =
-          IsWalking-all map c.requires.known _ _ _ _ _ h.walking.2 c.requires.kept
-          (mark_of-number map c.requires.known c.args.marked.now c.args.start.0 c.requires.live ∙ c.requires.unmarked)
-          (mark_of-number map c.requires.known c.loop-marked.marked d live ∙ c.loop-marked-test.false)
-          c.requires.least;
-    }
+    let live = live_now map c.requires.known _ _ _ _ _ h.walking in
+    IsWalking-all map c.requires.known _ _ _ _ _ h.walking c.requires.kept
+    (mark_of-number map c.requires.known c.args.marked.now c.args.start.0 c.requires.live ∙ c.requires.unmarked)
+    (mark_of-number map c.requires.known c.loop-marked.marked d live ∙ c.loop-marked-test.false)
+    c.requires.least

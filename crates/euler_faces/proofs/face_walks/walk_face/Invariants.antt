@@ -1,9 +1,7 @@
-use Rattle.std.proofs.Common.{◌≡◌, ◌++◌, List, length}
-use Rattle.map_lists.specs.declared.ids.DartId.{DartId}
+use Rattle.std.proofs.Common.{◌≡◌, length}
 use Rattle.map_theory.specs.Maps.{dart_count}
 use Rattle.half_edges.specs.Map.{id_bound}
 use Rattle.euler_faces.specs.Numbers.{mark_of}
-use Rattle.euler_faces.specs.FaceWalks.{ids_of}
 use Rattle.classes.proofs.Marks.{unmarked_below}
 use Rattle.euler_faces.proofs.FaceWalkLemmas.{IsWalking}
 use Rattle.euler_faces.proofs.face_walks.walk_face.Given as goal
@@ -11,7 +9,7 @@ use Rattle.euler_faces.proofs.face_walks.walk_face.Given as goal
 abbrev pub invariant-loop-marked : goal.invariant-loop-marked
 invariant-loop-marked l = record {
   marks : length l.marked ≡ id_bound l.map;
-  walking : (walk : List DartId) × (l.darts.items ≡ l.initial.darts.items ++ walk) × IsWalking l.map (mark_of l.map l.initial.marked) (mark_of l.map l.marked) (ids_of walk) l.fn.start.0 l.d.0;
+  walking : IsWalking l.map (mark_of l.map l.initial.marked) (mark_of l.map l.marked) l.walk l.fn.start.0 l.d.0;
 }
 
 abbrev pub decreases-loop-marked : goal.decreases-loop-marked
