@@ -1,11 +1,10 @@
 -- The least inner vertex with a property, found place by place; the shared vertices of one path.
-use Rattle.std.proofs.Common.{◌≡◌, ◌⊎◌, ◌↔◌, IsTrue, ℕ, ◌+◌, ◌-◌, ◌<◌, nat_lt, if◌then◌else◌, Bool, true, false, List, length, Option, Some, None, refl, sym, ap, ◌∙◌, subst, inl, inr, arith}
-use Rattle.std.proofs.lemmas.Bool.{cases_lt, cases_eq, cond-true, cond-false, true≢false}
-use Rattle.std.proofs.lemmas.Bool.Decides.{nat_tests}
+use Rattle.std.proofs.Common.{◌≡◌, ◌⊎◌, ℕ, ◌+◌, ◌-◌, ◌<◌, List, length, Option, Some, None, refl, sym, ap, ◌∙◌, subst, inl, inr, arith}
+use Rattle.std.proofs.lemmas.Bool.{cases_eq}
 use Rattle.map_lists.specs.declared.ids.VertexId.{VertexId}
 use Rattle.kuratowski.specs.Witnesses.{vertex_at, path_at}
 use Rattle.kuratowski.specs.Faults.{Stands, StandsTwice, IsInner, IsShared}
-use Rattle.kuratowski.specs.Inner.{StandsWithin, IsLeastInner, lesser}
+use Rattle.kuratowski.specs.Inner.{StandsWithin, IsLeastInner, IsBelow}
 use Rattle.kuratowski.specs.Verdicts.{IsLeastPair}
 
 module _ (path : List VertexId) (P : ℕ → Type 0) where
@@ -23,27 +22,15 @@ module _ (path : List VertexId) (P : ℕ → Type 0) where
   least-skip i None h not = λ v s p. elim (within_more i v s) [ inl t ↦ h v t p | inr e ↦ not (subst P (sym e) p) ]
   least-skip i (Some u) h not = (wider i u h.0, h.1, λ v s p. elim (within_more i v s) [ inl t ↦ h.2 v t p | inr e ↦ absurd (not (subst P (sym e) p)) ])
 
-  pub least-take : (i : ℕ) (least : Option ℕ) → 0 < i → IsLeastInner path P i least → P (vertex_at path i) → IsLeastInner path P (i + 1) (lesser least (vertex_at path i))
-  least-take i None l h p = (
-    (i, l, omega arith, refl),
-    p,
-    λ v s q. elim (within_more i v s) [ inl t ↦ absurd (h v t q) | inr e ↦ omega (arith, e) ],
-  )
-  least-take i (Some u) l h p = elim (cases_lt u (vertex_at path i)) [
-    | inl m ↦
-        let t : nat_lt u (vertex_at path i) ≡ true = grind (arith, nat_tests) in
-        let same = cond-true (nat_lt u (vertex_at path i)) u (vertex_at path i) t in
-        subst (λ x. IsLeastInner path P (i + 1) (Some x)) (sym same) (wider i u h.0, h.1, λ v s q. elim (within_more i v s) [ inl k ↦ h.2 v k q | inr e ↦ omega (arith, e, m) ])
-    | inr m ↦
-        let t : nat_lt u (vertex_at path i) ≡ false = grind (arith, nat_tests) in
-        let same = cond-false (nat_lt u (vertex_at path i)) u (vertex_at path i) t in
-        subst (λ x. IsLeastInner path P (i + 1) (Some x)) (sym same) ((i, l, omega arith, refl), p, λ v s q. elim (within_more i v s) [ inl k ↦ omega (arith, h.2 v k q, m) | inr e ↦ omega (arith, e) ])
-  ]
+  -- a vertex with the property below the least so far is the least
+  pub least-take : (i : ℕ) (least : Option ℕ) → 0 < i → IsLeastInner path P i least → IsBelow (vertex_at path i) least → P (vertex_at path i) → IsLeastInner path P (i + 1) (Some (vertex_at path i))
+  least-take i None l h below p = ((i, l, omega arith, refl), p, λ v s q. elim (within_more i v s) [ inl t ↦ absurd (h v t q) | inr e ↦ omega (arith, e) ])
+  least-take i (Some u) l h below p = ((i, l, omega arith, refl), p, λ v s q. elim (within_more i v s) [ inl t ↦ omega (arith, h.2 v t q, below) | inr e ↦ omega (arith, e) ])
 
-  -- a place is looked at
-  pub least-step : (i : ℕ) (least : Option ℕ) (passed : Bool) → 0 < i → IsLeastInner path P i least → IsTrue passed ↔ P (vertex_at path i) → IsLeastInner path P (i + 1) (if passed then lesser least (vertex_at path i) else least)
-  least-step i least true l h t = least-take i least l h (t.0 refl)
-  least-step i least false l h t = least-skip i least h (λ p. true≢false (sym (t.1 p)))
+  -- one that is not below the least so far changes nothing
+  pub least-pass : (i : ℕ) (least : Option ℕ) → IsLeastInner path P i least → ¬ IsBelow (vertex_at path i) least → IsLeastInner path P (i + 1) least
+  least-pass i None h not = absurd (not tt)
+  least-pass i (Some u) h not = (wider i u h.0, h.1, λ v s p. elim (within_more i v s) [ inl t ↦ h.2 v t p | inr e ↦ omega (arith, e, not) ])
 
 -- an inner vertex stands within the last place, and the other way
 within_inner : (path : List VertexId) (v : ℕ) → IsInner path v → StandsWithin path (length path - 1) v

@@ -1,5 +1,5 @@
 -- The least inner vertex of a path with a property.
-use Rattle.std.specs.Prelude.{ℕ, ◌<◌, ◌≤◌, ◌≡◌, nat_lt, if◌then◌else◌, List, Option, Some, None}
+use Rattle.std.specs.Prelude.{ℕ, ◌<◌, ◌≤◌, ◌≡◌, List, Option, Some, None, ⊤}
 use Rattle.map_lists.specs.declared.ids.VertexId.{VertexId}
 use Rattle.kuratowski.specs.Witnesses.{vertex_at}
 
@@ -13,7 +13,7 @@ IsLeastInner path P end None = (v : ℕ) → StandsWithin path end v → ¬ P v
 IsLeastInner path P end (Some least) =
     StandsWithin path end least × P least × ((v : ℕ) → StandsWithin path end v → P v → least ≤ v)
 
--- the lesser of a number and another, if there is another
-abbrev pub lesser : Option ℕ → ℕ → Option ℕ
-lesser None v = Some v
-lesser (Some u) v = Some (if nat_lt u v then u else v)
+-- v is below the least so far, if there is one
+abbrev pub IsBelow : ℕ → Option ℕ → Type 0
+IsBelow v None = ⊤
+IsBelow v (Some least) = v < least

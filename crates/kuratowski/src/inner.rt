@@ -1,9 +1,9 @@
 //! Whether inner vertices stand at one place of one path, and are no branches.
-ghost use Rattle.std.specs.Prelude.{◌≡◌, ◌≢◌, ◌+◌, ◌-◌, ◌<◌, ◌≤◌, ◌↔◌, ◌⊎◌, ℕ, suc, length, if◌then◌else◌, Option, IsTrue, MatchOption};
+ghost use Rattle.std.specs.Prelude.{◌≡◌, ◌≢◌, ◌+◌, ◌-◌, ◌<◌, ◌≤◌, ◌↔◌, ◌⊎◌, ℕ, suc, length, Option, IsTrue, MatchOption};
 ghost use Rattle.kuratowski.specs.Witnesses.{vertex_at as vertex_of, path_at, IsInnerPlace};
 ghost use Rattle.kuratowski.specs.Faults.{Stands, StandsTwice, IsInner, IsShared};
 ghost use Rattle.kuratowski.specs.Verdicts.{IsLeast, IsLeastPair, IsLeastTriple};
-ghost use Rattle.kuratowski.specs.Inner.{IsLeastInner, lesser as lesser_of};
+ghost use Rattle.kuratowski.specs.Inner.{IsLeastInner, IsBelow};
 
 use crate::branches::stands;
 use map_lists::{PathList, VertexId, VertexList};
@@ -75,7 +75,9 @@ fn wrong_inner(branch: &VertexList, path: &[VertexId]) -> Option<u16>
 {
     let mut least = None;
     for i in 1..path.len() - 1 {
-        least = least_if(is_wrong(branch, path, i), least, path[i].0);
+        if is_below(path[i].0, least) && is_wrong(branch, path, i) {
+            least = Some(path[i].0);
+        }
     }
     least
 }
@@ -88,7 +90,9 @@ fn common_inner(path: &[VertexId], other: &[VertexId]) -> Option<u16>
 {
     let mut least = None;
     for i in 1..path.len() - 1 {
-        least = least_if(is_inner(other, path[i].0), least, path[i].0);
+        if is_below(path[i].0, least) && is_inner(other, path[i].0) {
+            least = Some(path[i].0);
+        }
     }
     least
 }
@@ -101,20 +105,14 @@ fn is_wrong(branch: &VertexList, path: &[VertexId], i: usize) -> bool
     stands(branch, path[i].0) || stands_elsewhere(path, i)
 }
 
-// The lesser of a number and another where a test has passed, and else the other.
-fn least_if(passed: bool, least: Option<u16>, vertex: u16) -> Option<u16>
-    ensures { result ≡ (if passed then lesser_of least vertex else least) }
-{
-    if passed { lesser(least, vertex) } else { least }
-}
-
-// The lesser of a number and another, if there is another.
-fn lesser(least: Option<u16>, vertex: u16) -> Option<u16>
-    ensures { result ≡ lesser_of least vertex }
+// Tells whether `vertex` is below the least so far, or there is none yet: no other one can become the least, and
+// so a path is gone through at most once for each number that a vertex can have.
+fn is_below(vertex: u16, least: Option<u16>) -> bool
+    ensures { IsTrue result ↔ IsBelow vertex least }
 {
     match least {
-        Some(other) if other < vertex => Some(other),
-        _ => Some(vertex),
+        Some(other) => vertex < other,
+        None => true,
     }
 }
 
