@@ -1,8 +1,8 @@
 #!/usr/bin/env python3
-"""The tests of pigale.py: `python3 python/test_pigale.py` from anywhere.
+"""The tests of the package pigale: `python3 python/test_pigale.py` from anywhere.
 
 Its last lines say what was left out and how many tests passed and failed. Without networkx or Sage the tests that want
-them are left out. The program is found as pigale.py finds it.
+them are left out. The program is found as the package finds it.
 """
 import itertools
 import json
@@ -286,8 +286,8 @@ class Drawings(unittest.TestCase):
     def test_many_drawings_take_several_runs(self):
         crossed = [*SIDES, ("a", "c"), ("b", "d")]
         drawings = [(SQUARE, SIDES if k % 3 else crossed) for k in range(10)]
-        with unittest.mock.patch.object(pigale, "MOST_BYTES", 400):
-            with unittest.mock.patch.object(pigale, "run", wraps=pigale.run) as runs:
+        with unittest.mock.patch.object(pigale.checks, "MOST_BYTES", 400):
+            with unittest.mock.patch.object(pigale.checks, "run", wraps=pigale.run) as runs:
                 answers = pigale.check_all(drawings)
         self.assertEqual([bool(answer) for answer in answers], [k % 3 > 0 for k in range(10)])
         self.assertGreater(runs.call_count, 1)
@@ -426,7 +426,7 @@ class Pictures(unittest.TestCase):
 
     def test_neighbours_have_other_tints(self):
         for lists in (pigale.quadrangle(6, 9), pigale.stacked(200, 3)):
-            tints = pigale._tints(lists)
+            tints = pigale.pictures._tints(lists)
             self.assertTrue(all(tints[u - 1] != tints[v - 1] for u, v in pigale.edges_of(lists)))
 
     def test_pages(self):

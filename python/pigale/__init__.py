@@ -1,0 +1,37 @@
+"""Maps, figures and verdicts of the program pigale, from Python.
+
+Nothing in this package is proved. The program is: its README says what of it. Each count, drawing, witness and
+verdict that a function here answers was written by the program; what stands here makes its input, reads its output
+and shows it. So a fault in this package can hand the program another map or drawing than yours, or read its answer
+wrongly, but it never makes up an answer.
+
+A map is a list of lists: entry v - 1 holds the neighbours of vertex v in clockwise order, and vertices are numbered
+from 1. A graph is a pair (n, edges), with pairs of numbers from 1 to n as edges. Names of your own stand in `check`
+and in the functions for networkx and Sage alone.
+
+The program is found by the environment variable PIGALE, else beside this package, else as it is built in this
+repository, else under release/, else on the path. The package needs Python 3.8 or later and nothing else; networkx and
+Sage are imported where a function is called that speaks of them.
+
+Its modules: `formats` (planar_code, graph6 and the program's text), `runs` (of the program), `maps`, `makers`, `checks`, `graphs`
+(networkx and Sage), `pictures` and `cli` (the commands). All that they offer is here by one name.
+"""
+from .checks import HEIGHT, WIDTH, Checked, check, check_all, read_drawing, scaled
+from .formats import (FIGURES, GRID_JOBS, HEADER, MOST_BYTES, MOST_VERTICES, PLANAR_JOBS, BarFigure, Count, End,
+                      GridFigure, RectFigure, Refused, Stop, Verdict, WitnessFigure, read_blocks, read_figures,
+                      read_graph6, read_planar_code, write_graph6, write_planar_code)
+from .graphs import from_networkx, graph_of_networkx, to_networkx, to_sage
+from .makers import (complete, cycle, grid, path, prism, quadrangle, renumbered, stacked, tree, triangulation, wheel)
+from .maps import dual, edges_of, faces_of, outside, rotations_of, without_edge, witness_graph
+from .pictures import page, picture
+from .runs import PigaleError, Run, draw, embed, program, run
+
+__all__ = [
+    "BarFigure", "Checked", "Count", "End", "FIGURES", "GRID_JOBS", "GridFigure", "HEADER", "HEIGHT", "MOST_BYTES",
+    "MOST_VERTICES", "PLANAR_JOBS", "PigaleError", "RectFigure", "Refused", "Run", "Stop", "Verdict", "WIDTH",
+    "WitnessFigure", "check", "check_all", "complete", "cycle", "draw", "dual", "edges_of", "embed", "faces_of",
+    "from_networkx", "graph_of_networkx", "grid", "outside", "page", "path", "picture", "prism", "program", "quadrangle",
+    "read_blocks", "read_drawing", "read_figures", "read_graph6", "read_planar_code", "renumbered", "rotations_of", "run",
+    "scaled", "stacked", "to_networkx", "to_sage", "tree", "triangulation", "wheel", "without_edge", "witness_graph",
+    "write_graph6", "write_planar_code",
+]

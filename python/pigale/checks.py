@@ -1,0 +1,207 @@
+"""Has a straight-line drawing of any kind judged by the program, and reads drawings from files."""
+import functools
+import json
+import math
+import re
+from collections.abc import Mapping
+from dataclasses import dataclass
+from typing import Any, Tuple
+
+from .formats import MOST_BYTES, MOST_VERTICES, GridFigure, join_words
+from .maps import rotations_of
+from .runs import run
+
+WIDTH, HEIGHT = 2 * MOST_VERTICES - 4, MOST_VERTICES - 3  # of a drawing that `check` can have judged
+
+
+@dataclass(frozen=True)
+class Checked:
+    """What the program says of a drawing: `name` is "yes" or the fault, `vertices` has its vertices by your names.
+
+    It is true where the name is "yes".
+    """
+    name: str
+    vertices: Tuple[Any, ...] = ()
+
+    def __bool__(self):
+        return self.name == "yes"
+
+    def __str__(self):
+        return join_words(self.name, *self.vertices)
+
+
+def check(places, edges, rotations=None):
+    """Whether a straight-line drawing is plane, judged by the program, as a `Checked`.
+
+    `places` gives each vertex its point: a mapping from names to (x, y), or a list, whose vertices are then called 0,
+    1, .. `edges` has pairs of names. Coordinates are whole numbers, of any sign (a float such as 3.0 is one); for
+    others use `scaled` first. After what both axes' steps have in common is divided out, the drawing may be 8186 by
+    4092, or 4092 by 8186, with up to 4094 vertices. Whether y grows upwards or downwards changes no answer, unless
+    `rotations` are given.
+
+    The answer is "yes" where no two vertices stand at one place, none stands on an edge of which it is no end, and no
+    two edges cross. Else it is the first of these faults, with vertices by your names, least in the order of
+    `places`: SamePlace u v; OnEdge v a b; Cross a b c d. Before them stand Loop v and Repeated v u, where `edges` has
+    such. Which face is outside is not asked.
+
+    `rotations`, where given, is a mapping from each name to its neighbours in clockwise order, with y upwards. The
+    drawing is then asked to keep them: the answer may be Turned v. They have to name just the edges (OneSided v u is
+    answered where only one end names the other; ValueError is raised where they differ from `edges` otherwise).
+
+    Raises ValueError where a coordinate is not whole, an edge or a rotation names no vertex, or there are too many
+    vertices or too large a grid.
+    """
+    return check_all([(places, edges, rotations)])[0]
+
+
+def check_all(drawings):
+    """As `check`, for a list of drawings, (places, edges) or (places, edges, rotations), in as few runs as may be."""
+    prepared = [_prepared(*drawing) for drawing in drawings]
+    texts = _joined([f"{figure}\n" for figure, _ in prepared])
+    answers = [answer for text in texts for answer in run("verify", text).answers]
+    return [_checked(answer, names) for answer, (_, names) in zip(answers, prepared)]
+
+
+def _joined(texts):
+    """The texts one after another, in as few as a run can read each."""
+    joined, size = [[]], 0
+    for text in texts:
+        if size + len(text) > MOST_BYTES:
+            joined.append([])
+            size = 0
+        joined[-1].append(text)
+        size += len(text)
+    return ["".join(part) for part in joined]
+
+
+def _checked(answer, names):
+    return Checked(answer.name, tuple(names[v - 1] for v in answer.numbers))
+
+
+def _prepared(places, edges, rotations=None):
+    """The drawing as a figure of `shift` with vertices of degree zero above it, and the names of its vertices.
+
+    These make the map disconnected, so that the outer face is not asked, and they widen the grid, which is 2N - 4 by
+    N - 2 for N vertices.
+    """
+    places = dict(places if isinstance(places, Mapping) else enumerate(places))
+    names = list(places)
+    number = {name: v for v, name in enumerate(names, 1)}
+    points = _fitted([tuple(_whole(x, name) for x in places[name]) for name in names])
+    pairs = [tuple(_number(number, name) for name in edge) for edge in edges]
+    if rotations is None:
+        lists = rotations_of(points, pairs)
+    else:
+        lists = [[_number(number, u) for u in rotations.get(name, ())] for name in names]
+        if {frozenset(pair) for pair in pairs} != {frozenset((v, u)) for v, us in enumerate(lists, 1) for u in us}:
+            raise ValueError("the rotations have other edges than the drawing")
+    width = max((x for x, _ in points), default=0)
+    height = max((y for _, y in points), default=0)
+    count = max(len(points) + 1, _vertices_for(width, height))
+    if count > MOST_VERTICES:
+        raise ValueError(f"{len(points)} vertices on a grid of {width} by {height}: at most {MOST_VERTICES - 1} "
+                         f"vertices within {WIDTH} by {HEIGHT} can be judged")
+    above = [(k, count - 2) for k in range(count - len(points))]
+    return GridFigure(1, "shift", points + above, lists + [[] for _ in above]), names
+
+
+def _whole(number, name):
+    try:
+        whole = int(number)
+    except (TypeError, ValueError, OverflowError):
+        whole = None
+    if whole is None or whole != number:
+        raise ValueError(f"vertex {name} has the coordinate {number}, which is not whole (scaled makes it so)")
+    return whole
+
+
+def _number(number, name):
+    if name not in number:
+        raise ValueError(f"an edge or a rotation names {name}, which has no place")
+    return number[name]
+
+
+def _fitted(points):
+    """The points from (0, 0) on, each axis in its greatest common step, and turned by a quarter where that fits better."""
+    if not points:
+        return []
+    axes = []
+    for values in zip(*points):
+        least = min(values)
+        steps = [value - least for value in values]
+        unit = functools.reduce(math.gcd, steps) or 1
+        axes.append([step // unit for step in steps])
+    xs, ys = axes
+    if _vertices_for(max(ys), max(xs)) < _vertices_for(max(xs), max(ys)):
+        xs, ys = ys, [max(xs) - x for x in xs]
+    return list(zip(xs, ys))
+
+
+def _vertices_for(width, height):
+    """The least N for which a grid of 2N - 4 by N - 2 has room for a drawing and a row above it."""
+    return max((width + 5) // 2, height + 3)
+
+
+def scaled(places, width=WIDTH, height=HEIGHT):
+    """The places scaled to whole numbers from 0 to `width` and 0 to `height`, as a dictionary.
+
+    Each axis is stretched by itself so that the places fill it, and rounded to the nearest whole number. Stretching
+    changes no verdict, rounding may: a place moves by up to half a step, which is half of the drawing's width or
+    height divided by `width` or `height`. So a verdict on these places is one on the rounded drawing. Vertices closer
+    than a step may fall on one place; edges that cross by less may no longer, and others may begin to. Raises
+    ValueError where a coordinate is not finite.
+    """
+    places = dict(places if isinstance(places, Mapping) else enumerate(places))
+    if not all(math.isfinite(value) for place in places.values() for value in place):
+        raise ValueError("a coordinate is not finite")
+    axes = []
+    for values, most in zip(zip(*places.values()), (width, height)):
+        least, span = min(values), max(values) - min(values)
+        axes.append([round((value - least) / span * most) if span else 0 for value in values])
+    return dict(zip(places, zip(*axes)))
+
+
+# Files of drawings
+
+def read_drawing(name, text):
+    """The drawing in a file's text, as (places, edges): GraphML where its name ends in .graphml, else JSON.
+
+    JSON is an object with `nodes`, each with `id`, `x` and `y`, and `edges` or `links`, each with `source` and
+    `target`. In GraphML the nodes have data by the names x and y. Raises ValueError where something of this is wanting,
+    or there is no node.
+    """
+    places, edges = (_graphml_drawing if name.endswith(".graphml") else _json_drawing)(text)
+    if not places:
+        raise ValueError("the drawing has no nodes")
+    return places, edges
+
+
+def _json_drawing(text):
+    try:
+        data = json.loads(text)
+        places = {node["id"]: (node["x"] + 0, node["y"] + 0) for node in data["nodes"]}
+        links = data["edges"] if "edges" in data else data["links"]
+        return places, [(link["source"], link["target"]) for link in links]
+    except (KeyError, TypeError) as fault:
+        raise ValueError(f"the JSON is no drawing with nodes (id, x, y) and edges (source, target): {fault}") from fault
+
+
+def _graphml_drawing(text):
+    from xml.etree import ElementTree
+    space = "{http://graphml.graphdrawing.org/xmlns}"
+    try:
+        root = ElementTree.fromstring(text)
+    except ElementTree.ParseError as fault:
+        raise ValueError(f"the GraphML is no XML: {fault}") from fault
+    names = {key.get("id"): key.get("attr.name") for key in root.iter(f"{space}key")}
+    places = {}
+    for node in root.iter(f"{space}node"):
+        data = {names.get(entry.get("key")): entry.text for entry in node.findall(f"{space}data")}
+        if "x" not in data or "y" not in data:
+            raise ValueError(f"node {node.get('id')} has no x or no y")
+        places[node.get("id")] = (_read_number(data["x"]), _read_number(data["y"]))
+    return places, [(edge.get("source"), edge.get("target")) for edge in root.iter(f"{space}edge")]
+
+
+def _read_number(text):
+    return int(text) if re.fullmatch(r" *[+-]?[0-9]+ *", text or "") else float(text or "")
