@@ -4,15 +4,20 @@
 Its last lines say what was left out and how many tests passed and failed. Without networkx or Sage the tests that want
 them are left out. The program is found as the package finds it.
 """
+import importlib.util
 import itertools
 import json
+import math
 import os
 import random
+import shutil
+import struct
 import subprocess
 import sys
 import tempfile
 import unittest
 import unittest.mock
+import zlib
 from xml.etree import ElementTree
 
 HERE = os.path.dirname(os.path.abspath(__file__))
@@ -408,6 +413,30 @@ class Sage(unittest.TestCase):
             self.assertEqual(graph.get_embedding(), dict(enumerate(lists, 1)))
 
 
+def colours(image):
+    """The colours of an image, a PNG of eight bits a part without a palette, each as its bytes."""
+    with open(image, "rb") as file:
+        data = file.read()
+    width, height, _, kind = struct.unpack(">IIBB", data[16:26])
+    at, parts = 8, []
+    while at < len(data):
+        (size,) = struct.unpack(">I", data[at:at + 4])
+        parts += [data[at + 8:at + 8 + size]] * (data[at + 4:at + 8] == b"IDAT")
+        at += size + 12
+    rows, depth, found = zlib.decompress(b"".join(parts)), {2: 3, 6: 4}[kind], set()
+    above = bytearray(width * depth)
+    for y in range(height):
+        start = y * (width * depth + 1)
+        row = bytearray(rows[start + 1:start + 1 + width * depth])
+        for k, value in enumerate(row):
+            left, up, corner = (row[k - depth], above[k], above[k - depth]) if k >= depth else (0, above[k], 0)
+            near = sorted((left, up, corner), key=lambda other: abs(left + up - corner - other))[0]
+            row[k] = (value + (0, left, up, (left + up) // 2, near)[rows[start]]) % 256
+        found.update(bytes(row[k:k + depth]) for k in range(0, len(row), depth))
+        above = row
+    return found
+
+
 class Pictures(unittest.TestCase):
     def figures(self):
         names = [name for name in examples(".txt") if name != "commands.txt"]
@@ -424,9 +453,77 @@ class Pictures(unittest.TestCase):
                 self.assertEqual(sum(1 for _ in root.iter(f"{space}line")), len(pigale.edges_of(figure.lists)))
             self.assertFalse(list(ElementTree.fromstring(pigale.picture(figure, labels=False)).iter(f"{space}text")))
 
+    def test_colours_are_plain(self):
+        for figure in self.figures():
+            text = pigale.picture(figure, style="equilateral,faces")
+            for word in ("var(", "<style", "dominant-baseline"):
+                self.assertNotIn(word, text)
+
+    def test_the_gallery_is_drawn_anew_and_has_its_colours(self):
+        docs = os.path.join(HERE, "..", "docs")
+        spec = importlib.util.spec_from_file_location("draw", os.path.join(docs, "gallery", "draw.py"))
+        draw = importlib.util.module_from_spec(spec)
+        spec.loader.exec_module(draw)
+        found = dict(draw.files())
+        with tempfile.TemporaryDirectory() as folder:
+            for path, data in found.items():
+                with open(os.path.join(docs, path), "rb") as file:
+                    self.assertEqual(file.read(), data, f"{path}: docs/gallery/draw.py makes it anew")
+                if path.endswith(".svg"):
+                    ElementTree.fromstring(data)
+                    self.assertNotIn(b"var(", data)
+                if path.endswith(".svg") and shutil.which("rsvg-convert"):
+                    image = os.path.join(folder, "image.png")
+                    subprocess.run(["rsvg-convert", "-w", "150", "-o", image, os.path.join(docs, path)], check=True)
+                    bright = [colour for colour in colours(image) if max(colour[:3]) - min(colour[:3]) > 60]
+                    self.assertGreater(len(bright), 2, path)
+        self.assertEqual({path for path in found if path.endswith(".svg")},
+                         {f"gallery/{name}" for name in os.listdir(os.path.join(docs, "gallery")) if name.endswith(".svg")})
+
+    def test_the_triangle_is_equilateral(self):
+        for job in ("shift", "schnyder", "convex"):
+            for lists in (pigale.cycle(3), pigale.stacked(4, 1), pigale.prism(3), pigale.dual(pigale.stacked(9, 2)), pigale.stacked(30, 3)):
+                (figure,) = pigale.draw([lists], job)
+                if isinstance(figure, pigale.Refused):
+                    continue
+                dots = [(float(dot.get("cx")), float(dot.get("cy"))) for dot in self.parts(figure, "circle", style="equilateral")]
+                corners = [dots[v] for v in (min(range(len(dots)), key=lambda v: dots[v][0]), max(range(len(dots)), key=lambda v: dots[v][0]),
+                                             min(range(len(dots)), key=lambda v: dots[v][1]))]
+                if job == "convex" or len(pigale.edges_of(lists)) == 3 * len(lists) - 6:
+                    sides = [math.dist(one, other) for one, other in itertools.combinations(corners, 2)]
+                    self.assertLess(max(sides) - min(sides), 1, (job, lists))
+
+    def parts(self, figure, name, **look):
+        return list(ElementTree.fromstring(pigale.picture(figure, **look)).iter("{http://www.w3.org/2000/svg}" + name))
+
+    def test_inner_faces_are_filled_by_their_lengths(self):
+        for job, lists in (("convex", pigale.prism(5)), ("shift", pigale.grid(3, 4)), ("schnyder", [*pigale.cycle(4), [6], [5]]),
+                           ("schnyder", pigale.tree(9, random.Random(1)))):
+            (figure,) = pigale.draw([lists], job)
+            colours = sorted(face.get("fill") for face in self.parts(figure, "polygon", style=["faces"]))
+            inner = [face for face in pigale.faces_of(lists)[1:] if len(lists) < 6 or lists[5] != [5]] or [[1, 2, 3, 4]] * (lists[-1] == [5])
+            self.assertEqual(colours, sorted(pigale.pictures.STYLE["light"][f"face-{len(face)}"] for face in inner))
+            self.assertFalse(self.parts(figure, "polygon"))
+
+    def test_sizes_grow_with_the_picture(self):
+        (figure,) = pigale.draw([pigale.stacked(40, 1)])
+        (small,), (large,) = ({dot.get("r") for dot in self.parts(figure, "circle", side=side)} for side in (300, 3000))
+        self.assertAlmostEqual(10 * float(small), float(large), delta=0.11)
+        self.assertEqual(ElementTree.fromstring(pigale.picture(figure, side=3000)).get("width"), "3000")
+
+    def test_what_has_no_picture(self):
+        refused, figure = pigale.draw([[[2], []], pigale.prism(3)], "convex")
+        with self.assertRaisesRegex(ValueError, "refused 1 4 OneSided"):
+            pigale.picture(refused)
+        with self.assertRaisesRegex(ValueError, "equilateral and faces"):
+            pigale.picture(figure, style="poster")
+        for side in (0, -1, float("nan"), 10 ** 9):
+            with self.assertRaisesRegex(ValueError, "side"):
+                pigale.picture(figure, side=side)
+
     def test_neighbours_have_other_tints(self):
         for lists in (pigale.quadrangle(6, 9), pigale.stacked(200, 3)):
-            tints = pigale.pictures._tints(lists)
+            tints = pigale.pictures.tints_of(lists)
             self.assertTrue(all(tints[u - 1] != tints[v - 1] for u, v in pigale.edges_of(lists)))
 
     def test_pages(self):
@@ -436,6 +533,24 @@ class Pictures(unittest.TestCase):
         self.assertIn("2 records, 1 refused", page)
         self.assertNotIn("<script", page)
         self.assertIn("count 1 n 6", pigale.page(pigale.run("count", [pigale.prism(3)])))
+        self.assertIn("var(--face-4)", pigale.page(pigale.run("convex", [pigale.prism(3)]), style="faces"))
+        with self.assertRaisesRegex(ValueError, "no style"):
+            pigale.page(pigale.run("convex", [pigale.cycle(4)]), style="x")
+
+    def test_pages_of_many_records(self):
+        maps = [pigale.prism(3), pigale.cycle(4)] * 10
+        result = pigale.run("convex", maps)
+        texts = list(pigale.pages(result, cards=4))
+        self.assertEqual([text.count("<svg") for text in texts], [4, 4, 2])
+        self.assertEqual([text.count("<details>") for text in texts], [1, 1, 1])
+        self.assertIn("<summary>4 refused: 4 SeparatingPair</summary>", texts[0])
+        self.assertIn('<a href="page-3.html">3</a>', texts[1])
+        self.assertEqual(list(pigale.pages(result)), [pigale.page(result)])
+        self.assertEqual(len(list(pigale.pages(pigale.run("convex", [pigale.cycle(4)] * 7000)))), 3)
+        self.assertEqual(len(list(pigale.pages(pigale.run("convex", [])))), 1)
+        figures = [pigale.GridFigure(k, "shift", [(0, 0), (k % 3, 0)], [[], []]) for k in range(1, 8)]
+        texts = list(pigale.pages(pigale.run("verify", figures), figures, cards=3))
+        self.assertIn("7: shift, 2 vertices, 0 edges: OutOfGrid", texts[-1])
 
     def test_pages_of_wrong_figures(self):
         text = content("witnesses.txt").decode().replace("path 1 2\n", "path 6 2\n") + "figure 1 shift 2\n1 at 0 0: 3\n2 at 1 0:\n"
@@ -486,13 +601,19 @@ class Commands(unittest.TestCase):
     def test_stacked(self):
         status, out, _ = command("stacked", "9", "5")
         self.assertEqual((status, pigale.read_planar_code(out)), (0, [pigale.stacked(9, 5)]))
-        self.assertEqual(command("stacked", "9")[0], 3)
+        self.assertEqual(command("stacked", "9")[0], 2)
 
     def test_picture(self):
         status, out, _ = command("picture", data=content("platonic-shift.txt"))
         figure = pigale.read_figures(content("platonic-shift.txt"))[0]
         self.assertEqual((status, out.decode()), (0, pigale.picture(figure)))
         self.assertEqual(command("picture", data=content("house-verify.txt"))[0], 3)
+        figure = pigale.read_figures(content("platonic-shift.txt"))[2]
+        words = ["--figure", "3", "--style", "equilateral,faces", "--side", "500", "--no-numbers"]
+        self.assertEqual(command("picture", *words, data=content("platonic-shift.txt"))[1].decode(),
+                         pigale.picture(figure, 500, False, "equilateral,faces"))
+        for words in (["--figure", "4"], ["--style", "round"], ["--side", "0"]):
+            self.assertEqual(command("picture", *words, data=content("platonic-shift.txt"))[:2], (3, b""))
 
     def test_page(self):
         status, out, _ = command("page", "shift", data=content("platonic.plc"))
@@ -502,11 +623,21 @@ class Commands(unittest.TestCase):
         status, out, said = command("page", "shift", data=content("platonic.plc")[:-1])
         self.assertEqual((status, out.count(b"<svg"), "EndInRecord 119" in said), (3, 2, True))
         self.assertEqual(command("page", "nothing")[0], 3)
+        with tempfile.TemporaryDirectory() as folder:
+            data = pigale.write_planar_code([pigale.prism(3)] * 301)
+            status, out, said = command("page", "convex", "--to", folder, data=data)
+            self.assertEqual((status, out, sorted(os.listdir(folder))), (0, b"", ["index.html", "page-2.html"]))
+            self.assertIn("2 pages", said)
 
     def test_other_words(self):
         for words in ((), ("help",)):
             status, out, said = command(*words)
             self.assertEqual((status, out, "recode" in said), (2, b"", True))
+        for words in (["picture", "--side", "x"], ["page"], ["stacked", "x", "1"], ["page", "shift", "more"]):
+            self.assertEqual(command(*words)[:2], (2, b""))
+        status, out, _ = command("--help")
+        self.assertEqual((status, b"picture" in out), (0, True))
+        self.assertEqual(command("--version"), (0, f"pigale {pigale.__version__}\n".encode(), ""))
 
 
 def main():

@@ -3,8 +3,7 @@
 
   python3 docs/gallery/draw.py
 
-Each picture is the figure that the command under it writes, with numbers at its vertices. The program is found as
-python/pigale.py finds it.
+Each picture is the figure that its command writes, shown by the package pigale, which also finds the program.
 """
 import os
 import random
@@ -21,7 +20,7 @@ PETERSEN = "IheA@GUAo"
 
 HEAD = """# Gallery
 
-Twelve figures, each with the command that makes it, run from the top of the repository. The last part of a command, `picture`, turns the text of a figure into a picture with numbers at the vertices; the program's own pictures, by `--form svg`, have none. `docs/gallery/draw.py` makes the maps, the pictures and this page. That a figure is what its job promises is proved; that a picture shows the figure is not.
+Twelve figures, each with the command that makes it, run from the top of the repository. The last part of a command, `picture`, turns the text of a figure into a picture with numbers at the vertices; the program's own pictures, by `--form svg`, have none. `--style equilateral` gives the triangle of a drawing three like sides, by an affine map, which keeps edges straight, faces convex and crossings away. `--style faces` fills each face by its length. `docs/gallery/draw.py` makes the maps, the pictures and this page. That a figure is what its job promises is proved; that a picture shows the figure is not.
 """
 
 
@@ -88,52 +87,58 @@ MAPS = {
     "goldner-harary": goldner_harary,
 }
 
-# The picture's name, its job, its input without the ending, the heading and the alternative text.
+BOTH, TRIANGLE = "equilateral,faces", "equilateral"
+
+# The picture's name, its job, its input without the ending, its style, the heading and the alternative text.
 PICTURES = [
-    ("tutte-convex", "convex", "tutte", "Tutte's graph with convex faces",
-     "Tutte's graph of 46 vertices drawn with straight edges: in a right triangle three like parts stand at the corners"),
-    ("tutte-bars", "bars", "tutte", "Tutte's graph as bars that see each other",
+    ("tutte-convex", "convex", "tutte", BOTH, "Tutte's graph with convex faces",
+     "Tutte's graph of 46 vertices drawn with straight edges: three like parts stand at the corners of a triangle, round a "
+     "face of nine"),
+    ("tutte-bars", "bars", "tutte", "", "Tutte's graph as bars that see each other",
      "Tutte's graph as 46 level bars at heights of their own, joined by upright lines"),
-    ("dodecahedron-convex", "convex", "dodecahedron", "The dodecahedron with convex faces",
-     "The dodecahedron in a right triangle: eleven pentagons without a bend inwards"),
-    ("buckminster-convex", "convex", "buckminster", "A fullerene of 60 vertices with convex faces",
-     "The truncated icosahedron in a right triangle, with hexagons and pentagons without a bend inwards"),
-    ("rectangles-rect", "rect", "rectangles", "Sixty vertices as rectangles",
-     "A rectangle tiled by sixty numbered rectangles in six tints"),
-    ("goldner-harary-schnyder", "schnyder", "goldner-harary", "The graph of Goldner and Harary by Schnyder's method",
-     "A triangulation of eleven vertices with straight edges on a grid of nine by nine"),
-    ("icosahedron-schnyder", "schnyder", "icosahedron", "The icosahedron by Schnyder's method",
-     "The icosahedron with straight edges on a grid of ten by ten"),
-    ("grid-bars", "bars", "grid", "A grid graph as bars",
+    ("dodecahedron-convex", "convex", "dodecahedron", BOTH, "The dodecahedron with convex faces",
+     "The dodecahedron in a triangle: eleven pentagons without a bend inwards"),
+    ("buckminster-convex", "convex", "buckminster", BOTH, "A fullerene of 60 vertices with convex faces",
+     "The truncated icosahedron in a triangle: blue hexagons and red pentagons without a bend inwards"),
+    ("rectangles-rect", "rect", "rectangles", "", "Sixty vertices as rectangles",
+     "A rectangle tiled by sixty numbered rectangles in four tints"),
+    ("goldner-harary-schnyder", "schnyder", "goldner-harary", TRIANGLE, "The graph of Goldner and Harary by Schnyder's method",
+     "A triangulation of eleven vertices with straight edges on a grid of nine by nine, made equilateral"),
+    ("icosahedron-schnyder", "schnyder", "icosahedron", TRIANGLE, "The icosahedron by Schnyder's method",
+     "The icosahedron with straight edges on a grid of ten by ten, made equilateral"),
+    ("grid-bars", "bars", "grid", "", "A grid graph as bars",
      "The grid of six by six vertices as 36 level bars, joined by upright lines"),
-    ("icosahedron-bars", "bars", "icosahedron", "The icosahedron as bars",
+    ("icosahedron-bars", "bars", "icosahedron", "", "The icosahedron as bars",
      "The icosahedron as twelve level bars, joined by upright lines"),
-    ("stacked-30-shift", "shift", "stacked-30", "A triangulation of thirty vertices by the shift method",
-     "Thirty dots with straight edges in a triangle twice as wide as high"),
-    ("stacked-255-schnyder", "schnyder", "stacked-255", "A triangulation of 255 vertices by Schnyder's method",
+    ("stacked-30-shift", "shift", "stacked-30", TRIANGLE, "A triangulation of thirty vertices by the shift method",
+     "Thirty dots with straight edges in a triangle with three like sides"),
+    ("stacked-255-schnyder", "schnyder", "stacked-255", TRIANGLE, "A triangulation of 255 vertices by Schnyder's method",
      "255 small dots and 759 thin straight edges in a triangle, with numbers where there is room"),
-    ("petersen-witness", "embed", "petersen", "Why Petersen's graph has no drawing without crossings",
+    ("petersen-witness", "embed", "petersen", "", "Why Petersen's graph has no drawing without crossings",
      "A subdivision of K3,3 in Petersen's graph: three red and three green vertices, with nine paths between them"),
 ]
 
 
-def main():
-    for name, make in MAPS.items():
-        with open(os.path.join(HERE, f"{name}.plc"), "wb") as file:
-            file.write(pigale.write_planar_code([make()]))
-    with open(os.path.join(HERE, "petersen.g6"), "w", encoding="ascii") as file:
-        print(PETERSEN, file=file)
+def files():
+    """Each file of the gallery, as its path from docs/ on and its bytes."""
+    inputs = {f"{name}.plc": pigale.write_planar_code([make()]) for name, make in MAPS.items()}
+    inputs["petersen.g6"] = f"{PETERSEN}\n".encode("ascii")
+    yield from ((f"gallery/{name}", data) for name, data in inputs.items())
     sections = []
-    for name, job, source, heading, text in PICTURES:
-        source = f"docs/gallery/{source}.{'g6' if job == 'embed' else 'plc'}"
-        with open(os.path.join(HERE, "..", "..", source), "rb") as file:
-            (figure,) = pigale.run(job, file.read()).answers
-        with open(os.path.join(HERE, f"{name}.svg"), "w", encoding="ascii") as file:
-            file.write(pigale.picture(figure))
-        command = f"./pigale {job} < {source} | python3 python/pigale.py picture > {name}.svg"
+    for name, job, source, style, heading, text in PICTURES:
+        source = f"{source}.{'g6' if job == 'embed' else 'plc'}"
+        (figure,) = pigale.run(job, inputs[source]).answers
+        yield f"gallery/{name}.svg", pigale.picture(figure, style=style).encode("ascii")
+        option = style and f" --style {style}"
+        command = f"./pigale {job} < docs/gallery/{source} | python3 python/pigale.py picture{option} > {name}.svg"
         sections.append(f"\n## {heading}\n\n    {command}\n\n![{text}](gallery/{name}.svg)\n")
-    with open(os.path.join(HERE, "..", "gallery.md"), "w", encoding="utf-8") as file:
-        file.write(HEAD + "".join(sections))
+    yield "gallery.md", (HEAD + "".join(sections)).encode("utf-8")
+
+
+def main():
+    for path, data in files():
+        with open(os.path.join(HERE, "..", path), "wb") as file:
+            file.write(data)
 
 
 if __name__ == "__main__":

@@ -1,80 +1,121 @@
-"""The commands of `python3 -m pigale` and `python3 python/pigale.py`.
-
-  pigale.py recode < MAPS           planar_code of any byte order, with or without a header, as the program reads it
-  pigale.py check [--scale] FILE    the verdict on a drawing: JSON (nodes with id, x and y, and edges with source and
-                                    target) or, where FILE ends in .graphml, GraphML with x and y
-  pigale.py stacked S N             planar_code of the map that `pigale gen --size S --number N` makes
-  pigale.py picture < TEXT          the first figure of a text of figures, as one SVG document
-  pigale.py page JOB < INPUT        the answers of a job as one HTML page with pictures
-"""
+"""The commands of `python3 -m pigale` and `python3 python/pigale.py`."""
+import argparse
+import os
 import sys
+from typing import Callable, List, Optional, Sequence
 
+from . import __version__
 from .checks import check, read_drawing, scaled
-from .formats import read_figures, read_planar_code, write_planar_code
+from .formats import Figure, read_figures, read_planar_code, write_planar_code
 from .makers import stacked
-from .pictures import page, picture
+from .pages import page, page_name, pages
+from .pictures import STYLES, picture
 from .runs import PigaleError, run
 
+Arguments = argparse.Namespace
 
-def main(words):
-    """Runs a command of the list above; returns its status."""
-    commands = {"recode": _recode, "check": _check_file, "stacked": _stacked, "picture": _picture, "page": _page}
+
+def main(words: Optional[Sequence[str]] = None) -> int:
+    """Runs a command; returns its status: 0, 1 after a no or a refusal, 2 for wrong words, 3 where something failed."""
+    parser = _parser()
     try:
-        if words and words[0] in commands:
-            return commands[words[0]](words[1:])
-        print(__doc__.split("\n\n", 1)[1], end="", file=sys.stderr)
+        arguments = parser.parse_args(words)
+    except SystemExit as end:
+        return int(end.code or 0)
+    if arguments.command is None:
+        parser.print_help(sys.stderr)
         return 2
+    command: Callable[[Arguments], int] = arguments.command
+    try:
+        return command(arguments)
     except (ValueError, OSError, PigaleError) as fault:
-        print(f"pigale.py: {fault}", file=sys.stderr)
+        print(f"pigale: {fault}", file=sys.stderr)
         return 3
 
 
-def _recode(words):
-    _wants(words, 0)
+def _parser() -> argparse.ArgumentParser:
+    parser = argparse.ArgumentParser(
+        prog="pigale", description="Maps, figures and pictures of the program pigale.",
+        epilog="Each command has a --help of its own. Statuses: 0, 1 after a no or a refusal, 2 for wrong words, 3 for what failed.")
+    parser.add_argument("--version", action="version", version=f"pigale {__version__}")
+    parser.set_defaults(command=None)
+    commands = parser.add_subparsers(metavar="COMMAND")
+
+    def add(name: str, command: Callable[[Arguments], int], says: str) -> argparse.ArgumentParser:
+        found = commands.add_parser(name, help=says, description=f"{says[0].upper()}{says[1:]}.")
+        found.set_defaults(command=command)
+        return found
+
+    add("recode", _recode, "reads planar_code of any byte order, with or without a header, and writes it as the program reads it")
+    checked = add("check", _check_file, "prints the verdict on the drawing in a file of JSON or GraphML")
+    checked.add_argument("--scale", action="store_true", help="round the places to whole numbers first")
+    checked.add_argument("file", metavar="FILE", help="JSON with nodes (id, x, y) and edges (source, target), or GraphML (.graphml)")
+    made = add("stacked", _stacked, "writes planar_code of the map that `pigale gen --size S --number N` makes")
+    made.add_argument("size", metavar="S", type=int)
+    made.add_argument("number", metavar="N", type=int)
+    shown = add("picture", _picture, "reads a text of figures and writes a picture of one of them as SVG")
+    shown.add_argument("--figure", metavar="K", type=int, default=1, help="the K-th figure of the text; by default the first")
+    _add_look(shown)
+    paged = add("page", _page, "runs a job on its input and writes its answers as an HTML page with pictures")
+    paged.add_argument("job", metavar="JOB", help="as of the program: shift, convex, embed, verify and so on")
+    paged.add_argument("--to", metavar="FOLDER", help="write pages of some hundred pictures each into this folder, from index.html on")
+    _add_look(paged)
+    return parser
+
+
+def _add_look(parser: argparse.ArgumentParser) -> None:
+    parser.add_argument("--side", metavar="N", type=float, help="the longer side of a picture, in pixels")
+    parser.add_argument("--no-numbers", action="store_true", help="leave the numbers of vertices out")
+    parser.add_argument("--style", metavar="WORDS", default="", help=f"joined by commas: {' and '.join(STYLES)}")
+
+
+def _recode(_: Arguments) -> int:
     sys.stdout.buffer.write(write_planar_code(read_planar_code(sys.stdin.buffer)))
     return 0
 
 
-def _check_file(words):
-    scale = words[:1] == ["--scale"]
-    (name,) = _wants(words[scale:], 1)
-    with open(name, encoding="utf-8") as file:
-        places, edges = read_drawing(name, file.read())
-    answer = check(scaled(places) if scale else places, edges)
+def _check_file(arguments: Arguments) -> int:
+    with open(arguments.file, encoding="utf-8") as file:
+        places, edges = read_drawing(arguments.file, file.read())
+    answer = check(scaled(places) if arguments.scale else places, edges)
     print(answer)
     return 0 if answer else 1
 
 
-def _stacked(words):
-    size, number = _wants(words, 2)
-    sys.stdout.buffer.write(write_planar_code([stacked(int(size), int(number))]))
+def _stacked(arguments: Arguments) -> int:
+    sys.stdout.buffer.write(write_planar_code([stacked(arguments.size, arguments.number)]))
     return 0
 
 
-def _picture(words):
-    _wants(words, 0)
+def _picture(arguments: Arguments) -> int:
     figures = read_figures(sys.stdin.buffer.read())
-    if not figures:
-        raise ValueError("the text has no figure")
-    print(picture(figures[0]), end="")
+    if not 1 <= arguments.figure <= len(figures):
+        raise ValueError("the text has no figure" if not figures else
+                         f"the text has {len(figures)} figures, and none with the place {arguments.figure}")
+    print(picture(figures[arguments.figure - 1], arguments.side, not arguments.no_numbers, arguments.style), end="")
     return 0
 
 
-def _page(words):
-    (job,) = _wants(words, 1)
+def _page(arguments: Arguments) -> int:
     data = sys.stdin.buffer.read()
     try:
-        result = run(job, data)
+        result = run(arguments.job, data)
     except PigaleError as fault:
         if fault.run.status == 2:
             raise
-        print(f"pigale.py: {fault}", file=sys.stderr)
+        print(f"pigale: {fault}", file=sys.stderr)
         result = fault.run
-    print(page(result, read_figures(data)[:len(result.answers)] if job == "verify" else ()), end="")
+    figures: List[Figure] = read_figures(data)[:len(result.answers)] if arguments.job == "verify" else []
+    look = (figures, arguments.side, not arguments.no_numbers, arguments.style)
+    if arguments.to is None:
+        if len(result.answers) > 1000:
+            print(f"pigale: a page of {len(result.answers)} answers is slow to open; with --to FOLDER it becomes several",
+                  file=sys.stderr)
+        print(page(result, *look), end="")
+    else:
+        os.makedirs(arguments.to, exist_ok=True)
+        for k, text in enumerate(pages(result, *look)):
+            with open(os.path.join(arguments.to, page_name(k)), "w", encoding="utf-8") as file:
+                file.write(text)
+        print(f"pigale: {k + 1} page{'s' * (k > 0)}, of which the first is {os.path.join(arguments.to, page_name(0))}", file=sys.stderr)
     return 0 if result.status < 2 else 3
-
-
-def _wants(words, count):
-    if len(words) != count:
-        raise ValueError(f"the command wants {count} words behind it, and has {len(words)}")
-    return words

@@ -1,7 +1,7 @@
 """planar_code, graph6 and the text that the program writes: reads and writes them."""
 import re
 from dataclasses import dataclass
-from typing import Any, List, Tuple
+from typing import Any, List, Tuple, Union
 
 HEADER = b">>planar_code<<"
 MOST_BYTES = 1 << 24  # of an input that the program reads
@@ -12,6 +12,7 @@ GRID_JOBS = ("shift", "schnyder", "convex")
 
 Lists = List[List[int]]
 Place = Tuple[int, int]
+Edge = Tuple[int, int]
 
 
 # planar_code
@@ -276,6 +277,9 @@ class WitnessFigure:
 
 
 FIGURES = (GridFigure, BarFigure, RectFigure, WitnessFigure)
+Figure = Union[GridFigure, BarFigure, RectFigure, WitnessFigure]
+Answer = Union[Count, Refused, Verdict, Figure]
+Block = Union[Answer, End, Stop]
 
 
 def join_words(*words):

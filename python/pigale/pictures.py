@@ -1,181 +1,425 @@
-"""Pictures of figures as SVG, and pages with pictures."""
-import html
+"""Pictures of figures as SVG.
+
+style.json has their colours and sizes. A picture by itself has plain colours, which every viewer knows; a page of
+pictures (`pages`) has variables, so that it is light or dark as its reader wants.
+"""
+import json
 import math
+import os
+from dataclasses import dataclass
+from typing import Any, Callable, Dict, FrozenSet, Iterable, List, Optional, Sequence, Set, Tuple, Union
 
-from .formats import FIGURES, End, Stop, join_words, read_graph6
-from .maps import edges_of, witness_graph
+from .formats import (FIGURES, BarFigure, Edge, Figure, GridFigure, Lists, RectFigure, WitnessFigure, join_words,
+                      read_graph6)
+from .maps import edges_of, faces_of, witness_graph
+
+Dot = Tuple[float, float]
+Box = Tuple[float, float, float, float]
+Sketch = Tuple[int, int, str]  # the width and the height of a picture, and what is in it
+Style = Union[str, Iterable[str]]
+
+with open(os.path.join(os.path.dirname(os.path.abspath(__file__)), "style.json"), encoding="ascii") as _file:
+    STYLE: Dict[str, Any] = json.load(_file)
+STYLES = ("equilateral", "faces")
+UNIT = 400  # the sizes of style.json are for a picture whose longer side is this
+DIGIT = 0.6  # the width of a digit, in its height
 
 
-STYLE = """line{stroke:var(--line,#222);stroke-linecap:round}
-.dot{fill:var(--dot,#1f5fa8);stroke:none}
-.thin{stroke:var(--thin,#bbb)}
-.bar{fill:var(--dot,#1f5fa8)}
-.rect{stroke:var(--line,#222)}
-.tint0{fill:var(--tint0,#f3d9c6)}.tint1{fill:var(--tint1,#cfe0f1)}.tint2{fill:var(--tint2,#d6ead0)}
-.tint3{fill:var(--tint3,#f1e7b9)}.tint4{fill:var(--tint4,#e3d5ee)}.tint5{fill:var(--tint5,#dcdcdc)}
-.even{fill:var(--even,#c0392b)}.odd{fill:var(--odd,#1e8449)}
-text{font-family:Helvetica,Arial,sans-serif;fill:var(--text,#111);text-anchor:middle;dominant-baseline:central}
-.halo{stroke:var(--ground,#fff);stroke-width:3;stroke-linejoin:round;paint-order:stroke}
-.onbar{fill:var(--onbar,#fff)}"""
-MARGIN = 26
+@dataclass(frozen=True)
+class Look:
+    """How a picture is to look: its longer side, whether it has numbers, its styles, and how it names its colours."""
+    side: float
+    labels: bool
+    styles: FrozenSet[str]
+    paint: Callable[..., str]
+
+    @property
+    def scale(self) -> float:
+        """What a length of style.json is multiplied by."""
+        return self.side / UNIT
+
+    @property
+    def margin(self) -> float:
+        """The room between a drawing and the border of its picture."""
+        return float(STYLE["margin"]) * self.scale
+
+    def size(self, name: str, count: int) -> float:
+        """The radius of a "dot", the width of a "line" or the height of a "number" in a picture of `count` vertices."""
+        size = STYLE["sizes"][name]
+        return float(min(size["most"], size["root"] / math.sqrt(max(count, 1)))) * self.scale
 
 
-def picture(figure, side=None, labels=True):
+def picture(figure: Figure, side: Optional[float] = None, labels: bool = True, style: Style = ()) -> str:
     """A figure as one SVG document on a white ground, as text.
 
-    `side` is the length of the longer side in pixels, by default 300 to 1100 by the number of vertices; `labels` says
-    whether vertices carry their numbers. Lines and dots have one size on the screen, whatever the grid is. Where there
-    is no room for a number, it is left out; each vertex has a title with its number and its neighbours. A witness has
-    its branch vertices in two rows (K3,3) or on a circle (K5), and the other edges of its graph thin: it is no drawing
-    without crossings. Raises ValueError where the figure names a vertex that it does not have.
+    `side` is the length of the longer side in pixels, by default 400 to 1000 by the number of vertices; of bars it is
+    the width. Dots, lines and numbers grow with it. `labels` says whether vertices carry their numbers: within the
+    dots where all have room there, and else beside them. Where there is no room for a number, it is left out; each
+    vertex has a title with its number and its neighbours.
+
+    `style` has words, as a list or joined by commas. "equilateral" maps the triangle of a drawing by `shift`,
+    `schnyder` or `convex` to one with three like sides. The map is affine, so edges stay straight, and no crossing and
+    no bend of a face comes or goes. "faces" fills the inner faces of these drawings by their lengths. Bars,
+    rectangles and witnesses are drawn the same with and without.
+
+    A witness has its branch vertices in two rows (K3,3) or on a circle (K5), and the other edges of its graph thin: it
+    is no drawing without crossings. Raises ValueError where the figure names a vertex that it does not have, where it
+    is no figure (a refusal, say), and where a word of the style is none.
     """
-    width, height, body = _sketch(figure, side, labels)
+    width, height, body = sketch(figure, side, labels, style, plain)
     return (f'<svg xmlns="http://www.w3.org/2000/svg" viewBox="0 0 {width} {height}" width="{width}" '
-            f'height="{height}">\n<style>{STYLE}</style>\n<rect width="100%" height="100%" fill="#fff"/>\n{body}</svg>\n')
+            f'height="{height}">\n<rect width="{width}" height="{height}" {plain(fill="ground")}/>\n{body}</svg>\n')
 
 
-def _sketch(figure, side, labels):
-    """The width and the height of a picture in pixels, and what is in it."""
-    count = len(figure.lists) if figure.job != "witness" else read_graph6(figure.graph6)[0]
-    side = side or min(1100, (300 + 6 * max(0, count - 12)) * (3 if figure.job == "shift" else 2) // 2)
-    sketch = {"bars": _bar_sketch, "rect": _rect_sketch, "witness": _witness_sketch}.get(figure.job, _grid_sketch)
+def plain(**paints: str) -> str:
+    """Attributes with the light colours of these names, as fill="#ffffff" for `fill="ground"`."""
+    return " ".join(f'{attribute}="{STYLE["light"][name]}"' for attribute, name in paints.items())
+
+
+def variable(**paints: str) -> str:
+    """An attribute that takes these colours from the variables of a page."""
+    return f'style="{";".join(f"{attribute}:var(--{name})" for attribute, name in paints.items())}"'
+
+
+def styles_of(style: Style) -> FrozenSet[str]:
+    """The words of a style. Raises ValueError where one is none."""
+    words = [word for word in (style.split(",") if isinstance(style, str) else style) if word]
+    for word in words:
+        if word not in STYLES:
+            raise ValueError(f"{word} is no style: there are {' and '.join(STYLES)}")
+    return frozenset(words)
+
+
+def sketch(figure: Figure, side: Optional[float], labels: bool, style: Style, paint: Callable[..., str]) -> Sketch:
+    """The width and the height of a picture in pixels, and what is in it. Raises ValueError as `picture` does."""
+    if not isinstance(figure, FIGURES):
+        raise ValueError(f"there is a picture of a figure, and not of {type(figure).__name__}: {str(figure)[:80]}")
+    if side is not None and not 1 <= side <= 100000:
+        raise ValueError(f"the longer side of a picture is from 1 to 100000 pixels, not {side}")
     try:
-        return sketch(figure, side, labels)
+        count = read_graph6(figure.graph6)[0] if isinstance(figure, WitnessFigure) else len(figure.lists)
+        look = Look(side or default_side(count), labels, styles_of(style), paint)
+        if isinstance(figure, BarFigure):
+            return _bar_sketch(figure, look)
+        if isinstance(figure, RectFigure):
+            return _rect_sketch(figure, look)
+        if isinstance(figure, WitnessFigure):
+            return _witness_sketch(figure, look)
+        return _grid_sketch(figure, look)
     except (IndexError, KeyError) as fault:
         raise ValueError(f"figure {figure.number} names a vertex that it does not have") from fault
 
 
-def _size_of(count):
-    """For a picture of that many vertices: the radius of a dot, the width of a line, the height of a number."""
-    return (4.5, 1.4, 13) if count <= 30 else (3.2, 1, 10) if count <= 100 else (2, 0.6, 8)
+def default_side(count: int) -> float:
+    """The longer side of a picture of `count` vertices, where none is asked for."""
+    side = STYLE["side"]
+    return float(min(side["most"], side["least"] + side["each"] * max(0, count - side["from"])))
 
 
-def _grid_sketch(figure, side, labels):
-    dots, box = _placed(figure.places, side)
-    radius, line, text = _size_of(len(dots))
-    body = [_svg_line(dots[v - 1], dots[u - 1], line) for v, u in edges_of(figure.lists)]
-    return (*box, _svg(body + _svg_dots(dots, figure.lists, radius, text, labels)))
+# Straight-line drawings
+
+def _grid_sketch(figure: GridFigure, look: Look) -> Sketch:
+    places: Sequence[Dot] = figure.places
+    if "equilateral" in look.styles:
+        places = _equilateral(figure)
+    dots, box = _placed(places, look)
+    edges = edges_of(figure.lists)
+    body = _faces(figure, dots, look) if "faces" in look.styles else []
+    body += _lines([(dots[v - 1], dots[u - 1]) for v, u in edges], look.size("line", len(dots)), "line", look)
+    return (*box, _joined(body + _dots(dots, figure.lists, edges, look)))
 
 
-def _placed(places, side):
+def _equilateral(figure: GridFigure) -> List[Dot]:
+    """The places by the affine map that makes the triangle of the job's grid one with three like sides.
+
+    Its corners, from the lower left one on, are (0, 0), (2n - 4, 0) and (n - 2, n - 2) of `shift`, (1, 0), (n - 2, 1)
+    and (0, n - 2) of `schnyder`, and (0, 0), (w, 0) and (0, w) of `convex`, where w does not matter.
+    """
+    if figure.job == "shift":
+        return [(x, y * math.sqrt(3)) for x, y in figure.places]
+    most = len(figure.places) - 2
+    if figure.job == "convex" or most < 1:
+        parts: Sequence[Dot] = figure.places
+    else:
+        parts = [((x - 1) * most + y, (most - 1) * y - (x - 1)) for x, y in figure.places]
+    return [(across + up / 2, up * math.sqrt(3) / 2) for across, up in parts]
+
+
+def _placed(places: Sequence[Dot], look: Look) -> Tuple[List[Dot], Tuple[int, int]]:
     """The places in pixels, with y downwards, and the width and height of the picture."""
     left, top = min(x for x, _ in places), max(y for _, y in places)
     width, height = max(x for x, _ in places) - left, top - min(y for _, y in places)
-    unit = (side - 2 * MARGIN) / max(width, height, 1)
-    dots = [(MARGIN + unit * (x - left), MARGIN + unit * (top - y)) for x, y in places]
-    return dots, (round(unit * width) + 2 * MARGIN, round(unit * height) + 2 * MARGIN)
+    margin = look.margin
+    unit = (look.side - 2 * margin) / max(width, height, 1)
+    dots = [(margin + unit * (x - left), margin + unit * (top - y)) for x, y in places]
+    return dots, (_whole(unit * width + 2 * margin), _whole(unit * height + 2 * margin))
 
 
-def _svg(lines):
+def _faces(figure: GridFigure, dots: List[Dot], look: Look) -> List[str]:
+    """The inner faces, filled by their lengths; where one stands within another, it comes after it.
+
+    A face's walk is counterclockwise, and so has its area above zero, where the face is not the outer one of its part.
+    Lists that are no map have no faces.
+    """
+    try:
+        faces = faces_of(figure.lists)
+    except KeyError:
+        faces = []
+    found = []
+    for face in faces:
+        corners = [figure.places[v - 1] for v in face]
+        area = sum(x1 * y2 - x2 * y1 for (x1, y1), (x2, y2) in zip(corners, corners[1:] + corners[:1]))
+        if area > 0:
+            found.append((area, face))
+    body = []
+    for _, face in sorted(found, key=lambda pair: -pair[0]):
+        points = " ".join(f"{_n(x)},{_n(y)}" for x, y in (dots[v - 1] for v in face))
+        colour = f"face-{len(face)}" if len(face) <= 10 else "face-more"
+        title = f"<title>face of {len(face)}: {join_words(*face)}</title>"
+        body.append(f'<polygon points="{points}" {look.paint(fill=colour)}>{title}</polygon>')
+    return body
+
+
+# Parts of pictures
+
+def _joined(lines: List[str]) -> str:
     return "".join(line + "\n" for line in lines)
 
 
-def _n(number):
-    """A number of pixels, to a tenth."""
-    return f"{round(number, 1):g}"
+def _whole(length: float) -> int:
+    return max(1, round(length))
 
 
-def _svg_line(one, other, width, style=""):
-    (x1, y1), (x2, y2) = one, other
-    return f'<line{style} x1="{_n(x1)}" y1="{_n(y1)}" x2="{_n(x2)}" y2="{_n(y2)}" stroke-width="{width}"/>'
+def _n(number: float) -> str:
+    """A number of pixels, to a hundredth where it is small and to a tenth elsewhere."""
+    return f"{round(number, 2 if abs(number) < 10 else 1):g}"
 
 
-def _svg_text(x, y, size, text, style):
-    return f'<text class="{style}" x="{_n(x)}" y="{_n(y)}" font-size="{_n(size)}">{text}</text>'
+def _lines(ends: Iterable[Tuple[Dot, Dot]], width: float, colour: str, look: Look) -> List[str]:
+    """Straight lines of one width and colour."""
+    lines = [f'<line x1="{_n(x1)}" y1="{_n(y1)}" x2="{_n(x2)}" y2="{_n(y2)}"/>' for (x1, y1), (x2, y2) in ends]
+    if not lines:
+        return []
+    return [f'<g {look.paint(stroke=colour)} stroke-width="{_n(width)}" stroke-linecap="round">', *lines, "</g>"]
 
 
-def _title(v, us):
+def _texts(numbers: List[Tuple[int, Dot, float]], colour: str, look: Look, halo: bool = False) -> List[str]:
+    """Numbers, each about its place and with its height, and where asked for with a halo beneath them all."""
+    if not numbers:
+        return []
+    font = f'font-family="{STYLE["font"]}" text-anchor="middle"'
+    lines = [f'<text x="{_n(x)}" y="{_n(y)}" dy="0.35em" font-size="{_n(size)}">{v}</text>' for v, (x, y), size in numbers]
+    beneath: List[str] = []
+    if halo:
+        width = 0.28 * max(size for _, _, size in numbers)
+        paints = look.paint(fill="ground", stroke="ground")
+        beneath = [f'<g {paints} stroke-width="{_n(width)}" stroke-linejoin="round" {font} aria-hidden="true">', *lines, "</g>"]
+    return [*beneath, f"<g {look.paint(fill=colour)} {font}>", *lines, "</g>"]
+
+
+def _title(v: int, us: List[int]) -> str:
     return f"<title>{join_words(f'{v}:', *us)}</title>"
 
 
-def _svg_dots(dots, lists, radius, size, labels, styles=None):
-    """Dots with titles, and behind them the numbers that have room."""
-    lines = [f'<circle class="dot {styles[v] if styles else ""}" cx="{_n(x)}" cy="{_n(y)}" r="{_n(radius)}">'
-             f'{_title(v + 1, lists[v])}</circle>'.replace('dot "', 'dot"') for v, (x, y) in enumerate(dots)]
-    if labels:
-        found = _label_places(dots, lists, radius, size)
-        lines += [_svg_text(*place, size, v, "halo") for v, place in found]
-    return lines
+def _dots(dots: List[Dot], lists: Lists, edges: List[Edge], look: Look, colours: Optional[List[str]] = None) -> List[str]:
+    """Dots with titles, and their numbers: within all dots where each has room, and else beside those that have room."""
+    count = len(dots)
+    size, within = look.size("number", count), None
+    if look.labels and count < 100:
+        within = _size_within(dots, edges, size, look)
+    radius = within * _ROUND if within else _radius(dots, edges, look)
+    paints = [look.paint(fill=colour, stroke="ground") for colour in colours or ["dot"] * count]
+    rim = f'stroke-width="{_n(0.3 * look.size("line", count) + 0.25 * look.scale)}"'
+    body, last = [], ""
+    for v, (x, y) in enumerate(dots):
+        if paints[v] != last:
+            body += ["</g>"] * bool(last) + [f"<g {paints[v]} {rim}>"]
+            last = paints[v]
+        body.append(f'<circle cx="{_n(x)}" cy="{_n(y)}" r="{_n(radius)}">{_title(v + 1, lists[v])}</circle>')
+    body += ["</g>"] * bool(last)
+    if within:
+        return body + _texts([(v, dot, within) for v, dot in enumerate(dots, 1)], "on-dot", look)
+    if look.labels:
+        return body + _texts([(v, at, size) for v, at in _label_places(dots, edges, radius, size)], "number", look, halo=True)
+    return body
 
 
-def _label_places(dots, lists, radius, size):
-    """The numbers of vertices that have room beside their dots, each with its middle.
+_ROUND = 0.8  # the radius of a dot with a number within, in the height of the number
+_LEAST_WITHIN = 7.6  # the height of a number within a dot, at least, in a picture whose longer side is UNIT
 
-    Of eight directions round a dot those that are farthest from its edges are tried first; a number is left out where
-    it would cover a dot or a number each time. Of more than 100 vertices only those have numbers that stand apart.
-    """
-    taken, cell = {}, 24
-    apart = radius + (5 if len(dots) > 100 else 0)
 
-    def cells(box):
-        xs, ys = (range(int(box[k] // cell), int(box[k + 2] // cell) + 1) for k in (0, 1))
+def _rooms(dots: List[Dot], edges: List[Edge]) -> Tuple[float, float]:
+    """The least distance of two dots, and that of a dot and a line which does not end there."""
+    apart = min((math.dist(one, other) for k, one in enumerate(dots) for other in dots[:k]), default=math.inf)
+    aside = math.inf
+    for a, b in edges:
+        (x1, y1), (x2, y2) = dots[a - 1], dots[b - 1]
+        dx, dy = x2 - x1, y2 - y1
+        square = dx * dx + dy * dy
+        if not square:
+            continue
+        for v, (x, y) in enumerate(dots, 1):
+            if v not in (a, b):
+                part = min(1.0, max(0.0, ((x - x1) * dx + (y - y1) * dy) / square))
+                aside = min(aside, math.hypot(x - x1 - part * dx, y - y1 - part * dy))
+    return apart, aside
+
+
+def _size_within(dots: List[Dot], edges: List[Edge], size: float, look: Look) -> Optional[float]:
+    """The height of numbers within the dots, or nothing where these would touch each other or a line."""
+    apart, aside = _rooms(dots, edges)
+    room = min(apart / 2 - 0.8 * look.scale, aside - 1.6 * look.scale)
+    found = min(size, room / _ROUND)
+    return found if found >= _LEAST_WITHIN * look.scale else None
+
+
+def _radius(dots: List[Dot], edges: List[Edge], look: Look) -> float:
+    """The radius of dots by their count, less where lines pass close by, but so that they are still seen."""
+    radius = look.size("dot", len(dots))
+    if len(dots) > 100:
+        return radius
+    apart, aside = _rooms(dots, edges)
+    return max(0.6 * radius, min(radius, 0.45 * apart, 0.8 * aside))
+
+
+class _Cells:
+    """Boxes and lines by the cells of a square lattice, so that those near a box are found at once."""
+
+    def __init__(self, cell: float) -> None:
+        self.cell = cell
+        self.boxes: Dict[Tuple[int, int], List[Tuple[Box, int]]] = {}
+        self.lines: Dict[Tuple[int, int], List[int]] = {}
+
+    def of(self, box: Box) -> List[Tuple[int, int]]:
+        """The cells that a box meets."""
+        xs, ys = (range(math.floor(box[k] / self.cell), math.floor(box[k + 2] / self.cell) + 1) for k in (0, 1))
         return [(i, j) for i in xs for j in ys]
 
-    def put(box, v):
-        for key in cells(box):
-            taken.setdefault(key, []).append((box, v))
+    def put(self, box: Box, v: int) -> None:
+        """Puts a box that belongs to vertex v."""
+        for key in self.of(box):
+            self.boxes.setdefault(key, []).append((box, v))
 
-    def is_free(box, v):
+    def put_line(self, k: int, one: Dot, other: Dot) -> None:
+        """Puts line k, column by column of the cells."""
+        (x1, y1), (x2, y2) = sorted((one, other))
+        for i in range(math.floor(x1 / self.cell), math.floor(x2 / self.cell) + 1):
+            left, right = max(x1, i * self.cell), min(x2, (i + 1) * self.cell)
+            ys = sorted((y1, y2) if x1 == x2 else (y1 + (x - x1) * (y2 - y1) / (x2 - x1) for x in (left, right)))
+            for j in range(math.floor(ys[0] / self.cell), math.floor(ys[1] / self.cell) + 1):
+                self.lines.setdefault((i, j), []).append(k)
+
+    def is_free(self, box: Box, v: int) -> bool:
+        """Whether no box of another vertex meets this one."""
         return not any(box[0] < other[2] and other[0] < box[2] and box[1] < other[3] and other[1] < box[3]
-                       for key in cells(box) for other, u in taken.get(key, ()) if u != v)
+                       for key in self.of(box) for other, u in self.boxes.get(key, ()) if u != v)
 
+    def lines_near(self, box: Box) -> Set[int]:
+        """The lines that meet a cell of the box."""
+        return {k for key in self.of(box) for k in self.lines.get(key, ())}
+
+
+def _crosses(box: Box, one: Dot, other: Dot) -> bool:
+    """Whether a line has a point in a box."""
+    least, most = 0.0, 1.0
+    for k in (0, 1):
+        start, step = one[k], other[k] - one[k]
+        if step == 0:
+            if not box[k] <= start <= box[k + 2]:
+                return False
+            continue
+        near, far = sorted(((box[k] - start) / step, (box[k + 2] - start) / step))
+        least, most = max(least, near), min(most, far)
+    return least <= most
+
+
+def _label_places(dots: List[Dot], edges: List[Edge], radius: float, size: float) -> List[Tuple[int, Dot]]:
+    """The numbers of vertices that have room beside their dots, each with its middle.
+
+    Of sixteen directions round a dot those that cover fewest lines come first, and of these the ones farthest from the
+    dot's own lines; a number is left out where it would cover a dot or a number each time. Of more than 100 vertices
+    only those have numbers that stand apart.
+    """
+    cells = _Cells(2 * size)
+    apart = radius + (0.6 * size if len(dots) > 100 else 0.06 * size)
+    around: List[List[float]] = [[] for _ in dots]
+    for k, (a, b) in enumerate(edges):
+        one, other = dots[a - 1], dots[b - 1]
+        cells.put_line(k, one, other)
+        turn = math.atan2(other[1] - one[1], other[0] - one[0])
+        around[a - 1].append(turn)
+        around[b - 1].append(turn + math.pi)
     for v, (x, y) in enumerate(dots, 1):
-        put((x - apart, y - apart, x + apart, y + apart), v)
+        cells.put((x - apart, y - apart, x + apart, y + apart), v)
     found = []
     for v, (x, y) in enumerate(dots, 1):
-        half = 0.3 * size * len(str(v)) + 0.5
-        to = [math.atan2(dots[u - 1][1] - y, dots[u - 1][0] - x) for u in lists[v - 1]]
-        turns = sorted((k * math.pi / 4 for k in range(8)),
-                       key=lambda turn: -min((abs(math.remainder(turn - other, 2 * math.pi)) for other in to), default=4))
-        for turn in turns:
-            at = (x + math.cos(turn) * (radius + half + 1), y + math.sin(turn) * (radius + size / 2 + 1))
-            box = (at[0] - half, at[1] - size / 2, at[0] + half, at[1] + size / 2)
-            if is_free(box, v):
-                put(box, v)
-                found.append((v, at))
-                break
+        half = DIGIT / 2 * size * len(str(v)) + 0.06 * size
+        choices = []
+        for k in range(16):
+            turn = k * math.pi / 8
+            at = (x + math.cos(turn) * (radius + half + 0.1 * size), y + math.sin(turn) * (radius + 0.48 * size))
+            box = (at[0] - half, at[1] - 0.42 * size, at[0] + half, at[1] + 0.42 * size)
+            if cells.is_free(box, v):
+                covered = sum(_crosses(box, dots[edges[e][0] - 1], dots[edges[e][1] - 1]) for e in cells.lines_near(box))
+                aside = min((abs(math.remainder(turn - other, 2 * math.pi)) for other in around[v - 1]), default=4)
+                choices.append((covered, -aside, at, box))
+        if choices:
+            _, _, at, box = min(choices)
+            cells.put(box, v)
+            found.append((v, at))
     return found
 
 
-def _bar_sketch(figure, side, labels):
+# Bars and rectangles
+
+def _bar_sketch(figure: BarFigure, look: Look) -> Sketch:
     """Bars and columns, each axis with a unit of its own, so that bars keep apart."""
     count, columns = len(figure.heights), max([b for _, b in figure.spans] + figure.columns + [1])
-    room = max(side, min(1100, 14 * count)) - 2 * MARGIN
-    across, upwards = min(36, room / columns), min(30, room / max(count - 1, 1))
-    thick, line = min(16, 0.62 * upwards), _size_of(count)[1]
+    scale, margin = look.scale, look.margin
+    across = min(40 * scale, (look.side - 2 * margin) / columns)
+    upwards = min(30 * scale, max(13 * scale if count <= 64 else 0, 1.6 * look.side / max(count - 1, 1) if count > 64 else 0,
+                                  (look.side - 2 * margin) / max(count - 1, 1)))
+    thick, line = min(17 * scale, 0.7 * upwards), look.size("line", count)
     top = max(figure.heights)
 
-    def spot(x, y):
-        return MARGIN + across * x, MARGIN + upwards * (top - y)
+    def spot(x: float, y: float) -> Dot:
+        return margin + across * x, margin + upwards * (top - y)
 
-    body = [_svg_line(spot(x, figure.heights[v - 1]), spot(x, figure.heights[u - 1]), line)
-            for x, (v, u) in zip(figure.columns, edges_of(figure.lists))]
+    body = _lines([(spot(x, figure.heights[v - 1]), spot(x, figure.heights[u - 1]))
+                   for x, (v, u) in zip(figure.columns, edges_of(figure.lists))], line, "line", look)
+    body.append(f'<g {look.paint(fill="dot")}>')
+    numbers = []
     for v, (y, (a, b)) in enumerate(zip(figure.heights, figure.spans), 1):
         (x1, middle), (x2, _) = spot(a, y), spot(b, y)
-        x1, x2 = x1 - 0.34 * across, x2 + 0.34 * across
-        body.append(f'<rect class="bar" x="{_n(x1)}" y="{_n(middle - thick / 2)}" width="{_n(x2 - x1)}" '
-                    f'height="{_n(thick)}" rx="{_n(thick / 6)}">{_title(v, figure.lists[v - 1])}</rect>')
-        size = min(0.8 * thick, (x2 - x1) / (0.65 * len(str(v))))
-        if labels and size >= 5.5:
-            body.append(_svg_text((x1 + x2) / 2, middle, size, v, "onbar"))
-    return round(across * columns + 2 * MARGIN), round(upwards * (count - 1) + 2 * MARGIN), _svg(body)
+        x1, x2 = x1 - 0.36 * across, x2 + 0.36 * across
+        body.append(f'<rect x="{_n(x1)}" y="{_n(middle - thick / 2)}" width="{_n(x2 - x1)}" height="{_n(thick)}" '
+                    f'rx="{_n(min(thick, x2 - x1) / 5)}">{_title(v, figure.lists[v - 1])}</rect>')
+        numbers.append((v, ((x1 + x2) / 2, middle), min(13 * scale, 0.92 * thick, (x2 - x1) / (DIGIT * len(str(v)) + 0.15))))
+    body.append("</g>")
+    body += _texts(_legible(numbers, look), "on-dot", look)
+    return _whole(across * columns + 2 * margin), _whole(upwards * (count - 1) + 2 * margin), _joined(body)
 
 
-def _rect_sketch(figure, side, labels):
-    corners = [(x, y) for a, b, c, d in figure.boxes for x, y in ((a, c), (b, d))]
-    dots, box = _placed(corners, side)
-    line, body = _size_of(len(figure.boxes))[1], []
-    for v, tint in enumerate(_tints(figure.lists), 1):
+def _legible(numbers: List[Tuple[int, Dot, float]], look: Look) -> List[Tuple[int, Dot, float]]:
+    """The numbers that are high enough to be read, where numbers are asked for."""
+    return [number for number in numbers if look.labels and number[2] >= 4 * look.scale]
+
+
+def _rect_sketch(figure: RectFigure, look: Look) -> Sketch:
+    dots, box = _placed([(x, y) for a, b, c, d in figure.boxes for x, y in ((a, c), (b, d))], look)
+    width = look.size("line", len(figure.boxes))
+    body, numbers = [f'<g {look.paint(stroke="line")} stroke-width="{_n(width)}" stroke-linejoin="round">'], []
+    for v, tint in enumerate(tints_of(figure.lists), 1):
         (x1, y2), (x2, y1) = dots[2 * v - 2], dots[2 * v - 1]
-        body.append(f'<rect class="rect tint{tint}" x="{_n(x1)}" y="{_n(y1)}" width="{_n(x2 - x1)}" '
-                    f'height="{_n(y2 - y1)}" stroke-width="{line}">{_title(v, figure.lists[v - 1])}</rect>')
-        size = min(13, 0.8 * (y2 - y1), (x2 - x1) / (0.62 * len(str(v)) + 0.3))
-        if labels and size >= 5.5:
-            body.append(_svg_text((x1 + x2) / 2, (y1 + y2) / 2, size, v, "number"))
-    return (*box, _svg(body))
+        body.append(f'<rect x="{_n(x1)}" y="{_n(y1)}" width="{_n(x2 - x1)}" height="{_n(y2 - y1)}" '
+                    f'{look.paint(fill=f"tint-{tint}")}>{_title(v, figure.lists[v - 1])}</rect>')
+        size = min(13 * look.scale, 0.8 * (y2 - y1), (x2 - x1) / (DIGIT * len(str(v)) + 0.3))
+        numbers.append((v, ((x1 + x2) / 2, (y1 + y2) / 2), size))
+    body.append("</g>")
+    return (*box, _joined(body + _texts(_legible(numbers, look), "number", look)))
 
 
-def _tints(lists):
+def tints_of(lists: Lists) -> List[int]:
     """One of six tints for each vertex, other than its neighbours': in a plane map, by least degrees from the end."""
     left, order = {v: set(us) for v, us in enumerate(lists, 1)}, []
     while left:
@@ -184,38 +428,41 @@ def _tints(lists):
         for u in left.pop(v):
             if u in left:
                 left[u].discard(v)
-    tints = {}
+    tints: Dict[int, int] = {}
     for v in reversed(order):
         beside = {tints.get(u) for u in lists[v - 1]}
         tints[v] = next((tint for tint in range(6) if tint not in beside), 0)
     return [tints[v] for v in range(1, len(lists) + 1)]
 
 
-def _witness_sketch(figure, side, labels):
+# Witnesses
+
+def _witness_sketch(figure: WitnessFigure, look: Look) -> Sketch:
     """Branch vertices in two rows or on a circle, paths straight between them, and the other edges thin."""
     count, edges = read_graph6(figure.graph6)
     places = _witness_places(figure, count)
-    dots, box = _placed([places[v] for v in range(1, count + 1)], side)
-    own = set(witness_graph(figure)[1])
-    radius, line, text = _size_of(count)
-    body = [_svg_line(dots[u - 1], dots[v - 1], line, ' class="thin"') for u, v in edges if (u, v) not in own]
-    body += [_svg_line(dots[u - 1], dots[v - 1], 1.6 * line) for u, v in sorted(own)]
-    lists = [[] for _ in range(count)]
+    dots, box = _placed([places[v] for v in range(1, count + 1)], look)
+    own = witness_graph(figure)[1]
+    rest = sorted(set(edges) - set(own))
+    line = look.size("line", count)
+    body = _lines([(dots[u - 1], dots[v - 1]) for u, v in rest], line, "thin", look)
+    body += _lines([(dots[u - 1], dots[v - 1]) for u, v in own], 1.6 * line, "line", look)
+    lists: Lists = [[] for _ in range(count)]
     for u, v in edges:
         lists[u - 1].append(v)
         lists[v - 1].append(u)
     half = figure.branches[:3] if figure.kind == "K33" else figure.branches
-    styles = ["even" if v in half else "odd" if v in figure.branches else "" for v in range(1, count + 1)]
-    return (*box, _svg(body + _svg_dots(dots, lists, radius, text, labels, styles)))
+    colours = ["even" if v in half else "odd" if v in figure.branches else "dot" for v in range(1, count + 1)]
+    return (*box, _joined(body + _dots(dots, lists, edges, look, colours)))
 
 
-def _witness_places(figure, count):
+def _witness_places(figure: WitnessFigure, count: int) -> Dict[int, Dot]:
     """A place for each vertex of a witness's graph; those that it does not pass stand in a row below.
 
     Between two rows inner vertices stand at heights of their own, since paths meet half-way.
     """
     if figure.kind == "K33":
-        corners = [(600 * k, y) for y in (800, 0) for k in range(3)]
+        corners: List[Dot] = [(600 * k, y) for y in (800, 0) for k in range(3)]
     else:
         turns = [math.pi / 2 - 2 * math.pi * k / 5 for k in range(5)]
         corners = [(600 + 600 * math.cos(turn), 600 * math.sin(turn)) for turn in turns]
@@ -232,85 +479,3 @@ def _witness_places(figure, count):
     for k, v in enumerate(rest):
         places[v] = (1200 * (k + 1) / (len(rest) + 1), low - 200 - 40 * (k % 2))
     return places
-
-
-# Pages
-
-PAGE = """<!DOCTYPE html>
-<html lang="en">
-<head>
-<meta charset="utf-8">
-<meta name="viewport" content="width=device-width, initial-scale=1">
-<meta name="color-scheme" content="light dark">
-<title>{title}</title>
-<style>
-:root{{--ground:#fff;--page:#f4f5f7;--text:#1b1f24;--soft:#5b6470;--edge:#d5d9df;--line:#2a2f36;--dot:#1f5fa8;
---thin:#c4c9d1;--onbar:#fff;--warn:#a4351f}}
-@media (prefers-color-scheme:dark){{:root{{--ground:#1a1d22;--page:#121418;--text:#e4e7eb;--soft:#9aa4b1;--edge:#343a43;
---line:#aab3bf;--dot:#6cb0f5;--thin:#4a525d;--onbar:#10151b;--warn:#ff9b85;--tint0:#5b3f2c;--tint1:#2b4560;--tint2:#33502b;
---tint3:#57501f;--tint4:#49365a;--tint5:#434343;--even:#ff7b6b;--odd:#63c98a}}}}
-body{{margin:0;padding:1.5rem;background:var(--page);color:var(--text);font:15px/1.45 Helvetica,Arial,sans-serif}}
-h1{{font-size:1.3rem;margin:0 0 .2rem}}
-p{{margin:0 0 1rem;color:var(--soft)}}
-code{{font-family:monospace;color:var(--text)}}
-main{{display:flex;flex-wrap:wrap;gap:1rem;align-items:flex-start}}
-figure{{margin:0;padding:.6rem;background:var(--ground);border:1px solid var(--edge);border-radius:6px;max-width:100%;
-box-sizing:border-box}}
-figure>div{{overflow:auto}}
-svg{{display:block}}
-figcaption{{padding-top:.4rem;color:var(--soft);font-size:.87rem}}
-.refused figcaption{{padding:0;color:var(--warn)}}
-{style}
-</style>
-</head>
-<body>
-<h1>{title}</h1>
-<p>{made}</p>
-<main>
-{cards}</main>
-</body>
-</html>
-"""
-
-
-def page(result, figures=()):
-    """A run as one HTML page, as text, that needs nothing from elsewhere.
-
-    `result` is a `Run`. Each figure has its picture and a caption, each refusal is a caption, and a count line too. For
-    `verify` give the `figures` of its input: each is shown with its verdict, without a picture where it names a vertex
-    that it does not have. The page is light or dark as its reader's browser asks.
-    """
-    cards = []
-    for k, answer in enumerate(result.answers):
-        if isinstance(answer, FIGURES):
-            cards.append(_card(_caption(answer), answer))
-        elif k < len(figures):
-            cards.append(_card(f"{_caption(figures[k])}: {join_words(answer.name, *answer.numbers)}", figures[k]))
-        else:
-            cards.append(_card(str(answer)))
-    last = result.blocks[-1] if result.blocks else None
-    if isinstance(last, End):
-        done = f"{last.records} record{'' if last.records == 1 else 's'}, {last.refused} refused"
-    else:
-        done = f"it ended with status {result.status}{f' ({last})' if isinstance(last, Stop) else ''}"
-    made = f"A run of <code>pigale {result.job}</code>, shown by <code>python/pigale.py</code>: {html.escape(done)}."
-    return PAGE.format(title=f"pigale {result.job}", made=made, style=STYLE, cards="".join(cards))
-
-
-def _caption(figure):
-    if figure.job == "witness":
-        kind = {"K5": "K5", "K33": "K3,3"}[figure.kind]
-        return f"{figure.number}: a subdivision of {kind} in {figure.graph6}"
-    return f"{figure.number}: {figure.job}, {len(figure.lists)} vertices, {len(edges_of(figure.lists))} edges"
-
-
-def _card(caption, figure=None):
-    words = html.escape(caption)
-    try:
-        width, height, body = _sketch(figure, None, True) if figure else (0, 0, "")
-    except ValueError:
-        body = ""
-    if not body:
-        return f'<figure class="refused"><figcaption>{words}</figcaption></figure>\n'
-    return (f'<figure><div><svg viewBox="0 0 {width} {height}" width="{width}" height="{height}" role="img" '
-            f'aria-label="{words}">\n{body}</svg></div><figcaption>{words}</figcaption></figure>\n')
