@@ -9,6 +9,7 @@ import itertools
 import json
 import math
 import os
+import platform
 import random
 import shutil
 import struct
@@ -17,6 +18,7 @@ import sys
 import tempfile
 import unittest
 import unittest.mock
+import venv
 import zlib
 from xml.etree import ElementTree
 
@@ -437,6 +439,118 @@ def colours(image):
     return found
 
 
+class Slips(unittest.TestCase):
+    """What is often given in place of what is wanted, and what is said then."""
+
+    def says(self, words, call, *values):
+        with self.assertRaisesRegex(ValueError, words):
+            call(*values)
+
+    def test_places_that_are_no_pairs(self):
+        for place in ((1,), (1, 2, 3), 5, None):
+            self.says("vertex a has the place", pigale.check, {"a": place}, [])
+            self.says("vertex a has the place", pigale.scaled, {"a": place})
+
+    def test_edges_with_more_than_their_ends(self):
+        for edge in (("a", "b", {}), ("a", "b", 0), ("a", "b", 0, {})):
+            self.says("without data and keys", pigale.check, SQUARE, [edge])
+        self.says("without data and keys", pigale.write_graph6, (3, [(1, 2, {})]))
+        for edge in (("a",), "a", 7):
+            self.says("an edge is a pair", pigale.check, SQUARE, [edge])
+
+    def test_one_map_or_graph_or_figure_where_a_list_is(self):
+        lists = pigale.prism(3)
+        for call in (pigale.draw, pigale.write_planar_code, lambda maps: pigale.run("count", maps)):
+            self.says("give a list of maps", call, lists)
+            self.says("map 2 is no list", call, [lists, 7])
+        self.says("give a list of graphs", pigale.embed, (3, [(1, 2)]))
+        self.says("graph 1: a graph is", pigale.embed, [lists])
+        figure = pigale.draw([lists])[0]
+        self.says("give a list of figures", pigale.run, "verify", figure)
+        self.says("entry 2 is no figure", pigale.run, "verify", [figure, lists])
+        self.says("entry 1 is no figure to verify, but Refused", pigale.run, "verify", pigale.draw([[[2], []]]))
+
+    def test_lines_with_a_header_or_a_line_end(self):
+        for line, words in ((">>graph6<<C~", "header"), ("C~\n", "line end"), ("C~\r", "line end")):
+            self.says(words, pigale.read_graph6, line)
+            self.says(f"graph 1: .*{words}", pigale.embed, [line])
+
+    def test_too_many_vertices(self):
+        self.says("map 2 has 4096 vertices", pigale.draw, [pigale.path(3), pigale.path(4096)])
+        self.says("graph 1 has 256 vertices", pigale.embed, [(256, [])])
+        self.assertEqual(pigale.draw([pigale.path(4095)], "shift")[0].number, 1)
+
+    def test_graphs_of_networkx(self):
+        class Graph:
+            nodes = edges = ()
+
+            def __iter__(self):
+                return iter((1, 2))
+
+        self.says("has no rotations", pigale.from_networkx, Graph())
+        self.says("graph_of_networkx", pigale.embed, Graph())
+        self.says("graph_of_networkx", pigale.embed, [Graph()])
+        for maps in (Graph(), [Graph()]):
+            self.says("from_networkx", pigale.draw, maps)
+        if networkx:
+            self.says("check_planarity", pigale.from_networkx, networkx.cycle_graph(4))
+            self.says("a Graph of networkx", pigale.draw, [networkx.cycle_graph(4)])
+            twice = networkx.MultiGraph([(0, 1), (0, 1), (1, 2)])
+            self.assertEqual(pigale.graph_of_networkx(twice)[0], (3, [(1, 2), (2, 3)]))
+            self.says("without data and keys", pigale.check, [(0, 0), (1, 0), (2, 0)], twice.edges)
+
+
+class Package(unittest.TestCase):
+    TOP = os.path.join(HERE, "..")
+
+    def text(self, *path):
+        with open(os.path.join(self.TOP, *path), encoding="utf-8") as file:
+            return file.read()
+
+    def test_one_version(self):
+        for found in (self.text("CITATION.cff").split("\nversion: ")[1].split("\n")[0],
+                      self.text("pyproject.toml").split('\nversion = "')[1].split('"')[0],
+                      self.text("release", "MANIFEST").split("version ")[1].split("\n")[0]):
+            self.assertEqual(found, pigale.__version__)
+
+    def test_all_names(self):
+        self.assertEqual(sorted(pigale.__all__), pigale.__all__)
+        for name in pigale.__all__:
+            self.assertTrue(hasattr(pigale, name), name)
+
+    @unittest.skipUnless(shutil.which("mypy"), "mypy is not there")
+    def test_types(self):
+        done = subprocess.run(["mypy", "--strict", "--no-incremental", os.path.join(HERE, "pigale")], cwd=self.TOP,
+                              stdout=subprocess.PIPE, check=False)
+        self.assertEqual(done.returncode, 0, done.stdout.decode())
+
+    def test_wheels(self):
+        with tempfile.TemporaryDirectory() as folder:
+            maker = os.path.join(self.TOP, "tools", "make_wheel.py")
+            done = subprocess.run([sys.executable, maker, folder], stdout=subprocess.PIPE, check=True)
+            wheels = done.stdout.decode().split()
+            own = [wheel for wheel in wheels if wheel.endswith(f"_{platform.machine()}.whl")]
+            self.assertTrue(wheels)
+            if not own or platform.system() != "Linux":
+                self.skipTest("there is no released program for this machine")
+            place = os.path.join(folder, "venv")
+            try:
+                venv.create(place, with_pip=True)
+            except (subprocess.CalledProcessError, OSError):
+                self.skipTest("venv makes no environment with pip here")
+            python = os.path.join(place, "bin", "python")
+            subprocess.run([python, "-m", "pip", "install", "--no-index", "-q", "--disable-pip-version-check", own[0]], check=True)
+            rows = ["import pigale", "figure = pigale.draw([pigale.prism(3)], 'convex')[0]", "print(pigale.program())",
+                    "print(pigale.picture(figure, style='faces').count('<polygon'))", "print(pigale.__version__)"]
+            names = {name: value for name, value in os.environ.items() if name not in ("PIGALE", "PYTHONPATH")}
+            done = subprocess.run([python, "-c", "\n".join(rows)], cwd=folder, env=names, stdout=subprocess.PIPE, check=True)
+            program, faces, version = done.stdout.decode().split()
+            self.assertTrue(program.startswith(os.path.realpath(place)) or program.startswith(place), program)
+            self.assertEqual((faces, version), ("4", pigale.__version__))
+            done = subprocess.run([python, "-m", "pigale", "stacked", "3", "1"], cwd=folder, env=names, stdout=subprocess.PIPE, check=True)
+            self.assertEqual(pigale.read_planar_code(done.stdout), [pigale.stacked(3, 1)])
+
+
 class Pictures(unittest.TestCase):
     def figures(self):
         names = [name for name in examples(".txt") if name != "commands.txt"]
@@ -452,6 +566,11 @@ class Pictures(unittest.TestCase):
             if figure.job in pigale.GRID_JOBS:
                 self.assertEqual(sum(1 for _ in root.iter(f"{space}line")), len(pigale.edges_of(figure.lists)))
             self.assertFalse(list(ElementTree.fromstring(pigale.picture(figure, labels=False)).iter(f"{space}text")))
+
+    def test_notebooks_show_figures(self):
+        for figure in self.figures():
+            self.assertEqual(figure._repr_svg_(), pigale.picture(figure))
+        self.assertIsNone(pigale.GridFigure(1, "shift", [(0, 0)], [[2]])._repr_svg_())
 
     def test_colours_are_plain(self):
         for figure in self.figures():
@@ -551,6 +670,8 @@ class Pictures(unittest.TestCase):
         figures = [pigale.GridFigure(k, "shift", [(0, 0), (k % 3, 0)], [[], []]) for k in range(1, 8)]
         texts = list(pigale.pages(pigale.run("verify", figures), figures, cards=3))
         self.assertIn("7: shift, 2 vertices, 0 edges: OutOfGrid", texts[-1])
+        looped = [pigale.GridFigure(1, "shift", [(0, 0), (1, 1), (2, 0)], [[1], [], []])]
+        self.assertIn("3 vertices, 0 edges: Loop 1", pigale.page(pigale.run("verify", looped), looped))
 
     def test_pages_of_wrong_figures(self):
         text = content("witnesses.txt").decode().replace("path 1 2\n", "path 6 2\n") + "figure 1 shift 2\n1 at 0 0: 3\n2 at 1 0:\n"
@@ -640,15 +761,29 @@ class Commands(unittest.TestCase):
         self.assertEqual(command("--version"), (0, f"pigale {pigale.__version__}\n".encode(), ""))
 
 
+class Result(unittest.TextTestResult):
+    """What became of the tests, with a count of those that passed."""
+    passed = 0
+
+    def addSuccess(self, test):
+        super().addSuccess(test)
+        self.passed += 1
+
+
 def main():
     suite = unittest.defaultTestLoader.loadTestsFromModule(sys.modules["__main__"])
-    result = unittest.TextTestRunner(stream=sys.stdout, verbosity=0).run(suite)
-    left_out = sorted({f"{type(test).__name__} (all its tests): {cause}" for test, cause in result.skipped})
-    for line in left_out:
+    result = unittest.TextTestRunner(stream=sys.stdout, verbosity=0, resultclass=Result).run(suite)
+    for line in sorted({f"{left_out(test)}: {cause}" for test, cause in result.skipped}):
         print(f"left out: {line}")
     failed = len(result.failures) + len(result.errors)
-    print(f"{result.testsRun - failed - len(result.skipped)} passed, {failed} failed")
+    print(f"{result.passed} passed, {failed} failed")
     return 1 if failed else 0
+
+
+def left_out(test):
+    """How a test that was left out is called: all those of a class by its name."""
+    name = type(test).__name__
+    return f"{name} (all its tests)" if getattr(type(test), "__unittest_skip__", False) else f"{name}.{test._testMethodName}"
 
 
 if __name__ == "__main__":

@@ -31,10 +31,10 @@ from .runs import PigaleError, Run, draw, embed, program, run
 
 __all__ = [
     "BarFigure", "Checked", "Count", "End", "FIGURES", "GRID_JOBS", "GridFigure", "HEADER", "HEIGHT", "MOST_BYTES",
-    "MOST_VERTICES", "PLANAR_JOBS", "PigaleError", "RectFigure", "Refused", "Run", "STYLES", "Stop", "Verdict", "WIDTH",
-    "WitnessFigure", "check", "check_all", "complete", "cycle", "draw", "dual", "edges_of", "embed", "faces_of",
-    "from_networkx", "graph_of_networkx", "grid", "outside", "page", "pages", "path", "picture", "prism", "program", "quadrangle",
-    "read_blocks", "read_drawing", "read_figures", "read_graph6", "read_planar_code", "renumbered", "rotations_of", "run",
-    "scaled", "stacked", "to_networkx", "to_sage", "tree", "triangulation", "wheel", "without_edge", "witness_graph",
-    "write_graph6", "write_planar_code",
+    "MOST_VERTICES", "PLANAR_JOBS", "PigaleError", "RectFigure", "Refused", "Run", "STYLES", "Stop", "Verdict",
+    "WIDTH", "WitnessFigure", "check", "check_all", "complete", "cycle", "draw", "dual", "edges_of", "embed",
+    "faces_of", "from_networkx", "graph_of_networkx", "grid", "outside", "page", "pages", "path", "picture", "prism",
+    "program", "quadrangle", "read_blocks", "read_drawing", "read_figures", "read_graph6", "read_planar_code",
+    "renumbered", "rotations_of", "run", "scaled", "stacked", "to_networkx", "to_sage", "tree", "triangulation",
+    "wheel", "without_edge", "witness_graph", "write_graph6", "write_planar_code",
 ]

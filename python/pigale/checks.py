@@ -3,13 +3,16 @@ import functools
 import json
 import math
 import re
-from collections.abc import Mapping
 from dataclasses import dataclass
-from typing import Any, Tuple
+from typing import Any, Dict, Iterable, List, Mapping, Optional, Sequence, Tuple, Union
 
-from .formats import MOST_BYTES, MOST_VERTICES, GridFigure, join_words
+from .formats import MOST_BYTES, MOST_VERTICES, Edge, GridFigure, Lists, Place, Refused, Verdict, join_words, pair_of
 from .maps import rotations_of
 from .runs import run
+
+Places = Union[Mapping[Any, Sequence[float]], Sequence[Sequence[float]]]
+Rotations = Mapping[Any, Iterable[Any]]
+Drawing = Tuple[Dict[Any, Tuple[float, float]], List[Tuple[Any, Any]]]
 
 WIDTH, HEIGHT = 2 * MOST_VERTICES - 4, MOST_VERTICES - 3  # of a drawing that `check` can have judged
 
@@ -23,14 +26,14 @@ class Checked:
     name: str
     vertices: Tuple[Any, ...] = ()
 
-    def __bool__(self):
+    def __bool__(self) -> bool:
         return self.name == "yes"
 
-    def __str__(self):
+    def __str__(self) -> str:
         return join_words(self.name, *self.vertices)
 
 
-def check(places, edges, rotations=None):
+def check(places: Places, edges: Iterable[Sequence[Any]], rotations: Optional[Rotations] = None) -> Checked:
     """Whether a straight-line drawing is plane, judged by the program, as a `Checked`.
 
     `places` gives each vertex its point: a mapping from names to (x, y), or a list, whose vertices are then called 0,
@@ -54,17 +57,18 @@ def check(places, edges, rotations=None):
     return check_all([(places, edges, rotations)])[0]
 
 
-def check_all(drawings):
+def check_all(drawings: Iterable[Sequence[Any]]) -> List[Checked]:
     """As `check`, for a list of drawings, (places, edges) or (places, edges, rotations), in as few runs as may be."""
     prepared = [_prepared(*drawing) for drawing in drawings]
     texts = _joined([f"{figure}\n" for figure, _ in prepared])
     answers = [answer for text in texts for answer in run("verify", text).answers]
-    return [_checked(answer, names) for answer, (_, names) in zip(answers, prepared)]
+    return [_checked(answer, names) for answer, (_, names) in zip(answers, prepared) if isinstance(answer, (Refused, Verdict))]
 
 
-def _joined(texts):
+def _joined(texts: Iterable[str]) -> List[str]:
     """The texts one after another, in as few as a run can read each."""
-    joined, size = [[]], 0
+    joined: List[List[str]] = [[]]
+    size = 0
     for text in texts:
         if size + len(text) > MOST_BYTES:
             joined.append([])
@@ -74,21 +78,22 @@ def _joined(texts):
     return ["".join(part) for part in joined]
 
 
-def _checked(answer, names):
+def _checked(answer: Union[Refused, Verdict], names: List[Any]) -> Checked:
     return Checked(answer.name, tuple(names[v - 1] for v in answer.numbers))
 
 
-def _prepared(places, edges, rotations=None):
+def _prepared(places: Places, edges: Iterable[Sequence[Any]],
+              rotations: Optional[Rotations] = None) -> Tuple[GridFigure, List[Any]]:
     """The drawing as a figure of `shift` with vertices of degree zero above it, and the names of its vertices.
 
     These make the map disconnected, so that the outer face is not asked, and they widen the grid, which is 2N - 4 by
     N - 2 for N vertices.
     """
-    places = dict(places if isinstance(places, Mapping) else enumerate(places))
-    names = list(places)
+    named = _named(places)
+    names = list(named)
     number = {name: v for v, name in enumerate(names, 1)}
-    points = _fitted([tuple(_whole(x, name) for x in places[name]) for name in names])
-    pairs = [tuple(_number(number, name) for name in edge) for edge in edges]
+    points = _fitted([(_whole(x, name), _whole(y, name)) for name, (x, y) in named.items()])
+    pairs = [(_number(number, u), _number(number, v)) for u, v in map(pair_of, edges)]
     if rotations is None:
         lists = rotations_of(points, pairs)
     else:
@@ -105,7 +110,19 @@ def _prepared(places, edges, rotations=None):
     return GridFigure(1, "shift", points + above, lists + [[] for _ in above]), names
 
 
-def _whole(number, name):
+def _named(places: Places) -> Dict[Any, Tuple[float, float]]:
+    """The places by their names. Raises ValueError where one is no pair."""
+    named: Dict[Any, Any] = dict(places if isinstance(places, Mapping) else enumerate(places))
+    for name, place in named.items():
+        try:
+            x, y = place
+        except (TypeError, ValueError) as fault:
+            raise ValueError(f"vertex {name} has the place {place}, which is no pair (x, y)") from fault
+        named[name] = (x, y)
+    return named
+
+
+def _whole(number: float, name: object) -> int:
     try:
         whole = int(number)
     except (TypeError, ValueError, OverflowError):
@@ -115,13 +132,13 @@ def _whole(number, name):
     return whole
 
 
-def _number(number, name):
+def _number(number: Mapping[Any, int], name: Any) -> int:
     if name not in number:
         raise ValueError(f"an edge or a rotation names {name}, which has no place")
     return number[name]
 
 
-def _fitted(points):
+def _fitted(points: List[Place]) -> List[Place]:
     """The points from (0, 0) on, each axis in its greatest common step, and turned by a quarter where that fits better."""
     if not points:
         return []
@@ -137,12 +154,12 @@ def _fitted(points):
     return list(zip(xs, ys))
 
 
-def _vertices_for(width, height):
+def _vertices_for(width: int, height: int) -> int:
     """The least N for which a grid of 2N - 4 by N - 2 has room for a drawing and a row above it."""
     return max((width + 5) // 2, height + 3)
 
 
-def scaled(places, width=WIDTH, height=HEIGHT):
+def scaled(places: Places, width: int = WIDTH, height: int = HEIGHT) -> Dict[Any, Place]:
     """The places scaled to whole numbers from 0 to `width` and 0 to `height`, as a dictionary.
 
     Each axis is stretched by itself so that the places fill it, and rounded to the nearest whole number. Stretching
@@ -151,19 +168,19 @@ def scaled(places, width=WIDTH, height=HEIGHT):
     than a step may fall on one place; edges that cross by less may no longer, and others may begin to. Raises
     ValueError where a coordinate is not finite.
     """
-    places = dict(places if isinstance(places, Mapping) else enumerate(places))
-    if not all(math.isfinite(value) for place in places.values() for value in place):
+    named = _named(places)
+    if not all(math.isfinite(value) for place in named.values() for value in place):
         raise ValueError("a coordinate is not finite")
     axes = []
-    for values, most in zip(zip(*places.values()), (width, height)):
+    for values, most in zip(zip(*named.values()), (width, height)):
         least, span = min(values), max(values) - min(values)
         axes.append([round((value - least) / span * most) if span else 0 for value in values])
-    return dict(zip(places, zip(*axes)))
+    return dict(zip(named, zip(*axes)))
 
 
 # Files of drawings
 
-def read_drawing(name, text):
+def read_drawing(name: str, text: str) -> Drawing:
     """The drawing in a file's text, as (places, edges): GraphML where its name ends in .graphml, else JSON.
 
     JSON is an object with `nodes`, each with `id`, `x` and `y`, and `edges` or `links`, each with `source` and
@@ -176,7 +193,7 @@ def read_drawing(name, text):
     return places, edges
 
 
-def _json_drawing(text):
+def _json_drawing(text: str) -> Drawing:
     try:
         data = json.loads(text)
         places = {node["id"]: (node["x"] + 0, node["y"] + 0) for node in data["nodes"]}
@@ -186,7 +203,7 @@ def _json_drawing(text):
         raise ValueError(f"the JSON is no drawing with nodes (id, x, y) and edges (source, target): {fault}") from fault
 
 
-def _graphml_drawing(text):
+def _graphml_drawing(text: str) -> Drawing:
     from xml.etree import ElementTree
     space = "{http://graphml.graphdrawing.org/xmlns}"
     try:
@@ -203,5 +220,6 @@ def _graphml_drawing(text):
     return places, [(edge.get("source"), edge.get("target")) for edge in root.iter(f"{space}edge")]
 
 
-def _read_number(text):
-    return int(text) if re.fullmatch(r" *[+-]?[0-9]+ *", text or "") else float(text or "")
+def _read_number(text: Optional[str]) -> float:
+    text = text or ""
+    return int(text) if re.fullmatch(r" *[+-]?[0-9]+ *", text) else float(text)

@@ -1,7 +1,7 @@
 """planar_code, graph6 and the text that the program writes: reads and writes them."""
 import re
 from dataclasses import dataclass
-from typing import Any, List, Tuple, Union
+from typing import IO, Any, Iterable, List, Literal, Optional, Sequence, Tuple, Union, cast
 
 HEADER = b">>planar_code<<"
 MOST_BYTES = 1 << 24  # of an input that the program reads
@@ -11,13 +11,15 @@ PLANAR_JOBS = ("count", "shift", "schnyder", "bars", "convex", "rect")
 GRID_JOBS = ("shift", "schnyder", "convex")
 
 Lists = List[List[int]]
+Map = Sequence[Sequence[int]]
 Place = Tuple[int, int]
 Edge = Tuple[int, int]
+Graph = Tuple[int, Iterable[Edge]]
 
 
 # planar_code
 
-def read_planar_code(data, order=None):
+def read_planar_code(data: Union[bytes, IO[bytes]], order: Optional[str] = None) -> List[Lists]:
     """The maps of planar_code, as a list of maps.
 
     `data` is bytes, or a binary file that is read to its end. A header may stand first, with or without a byte order
@@ -30,7 +32,7 @@ def read_planar_code(data, order=None):
     """
     data = data if isinstance(data, bytes) else data.read()
     at, order = _after_header(data, order)
-    maps = []
+    maps: List[Lists] = []
     while at < len(data):
         if data[at]:
             found = _narrow_lists(data, at + 1, data[at])
@@ -45,7 +47,7 @@ def read_planar_code(data, order=None):
     return maps
 
 
-def _after_header(data, order):
+def _after_header(data: bytes, order: Optional[str]) -> Tuple[int, Optional[str]]:
     found = re.match(rb">>([a-z0-9_]+) *(le|be)? *<<", data[:40])
     if not found:
         return 0, order
@@ -54,7 +56,7 @@ def _after_header(data, order):
     return found.end(), (found.group(2) or b"").decode() or order
 
 
-def _narrow_lists(data, at, count):
+def _narrow_lists(data: bytes, at: int, count: int) -> Optional[Tuple[Lists, int]]:
     lists = []
     for _ in range(count):
         end = data.find(0, at)
@@ -65,13 +67,14 @@ def _narrow_lists(data, at, count):
     return lists, at
 
 
-def _wide_lists(data, at, order):
-    def number():
+def _wide_lists(data: bytes, at: int, order: Literal["little", "big"]) -> Optional[Tuple[Lists, int]]:
+    def number() -> Optional[int]:
         nonlocal at
         at += 2
         return int.from_bytes(data[at - 2:at], order) if at <= len(data) else None
 
-    count, lists = number(), []
+    lists: Lists = []
+    count = number()
     for _ in range(count or 0):
         lists.append([])
         u = number()
@@ -83,17 +86,37 @@ def _wide_lists(data, at, order):
     return None if count is None else (lists, at)
 
 
-def write_planar_code(maps, header=True):
+def write_planar_code(maps: Iterable[Map], header: bool = True) -> bytes:
     """The maps as bytes of planar_code, as the program reads it.
 
     Maps of up to 255 vertices are narrow records, larger ones wide with the greater byte first. Raises ValueError
-    where a map has no vertices or more than 65535, or where a neighbour has no place in the record: it is below 1, or
-    above 255 in a narrow one and 65535 in a wide one. The program itself reads up to 4095 vertices.
+    where a map has no vertices or more than 65535, where a neighbour has no place in the record (it is below 1, or above
+    255 in a narrow one and 65535 in a wide one), and where something else than a list of maps is given. The program
+    itself reads up to 4095 vertices.
     """
-    return (HEADER if header else b"") + b"".join(_record(lists) for lists in maps)
+    return (HEADER if header else b"") + b"".join(_record(lists) for lists in as_maps(maps))
 
 
-def _record(lists):
+def as_maps(maps: Iterable[Map]) -> List[Map]:
+    """The maps as a list. Raises ValueError, with what may have been meant, where they are no maps."""
+    _no_networkx(maps, "from_networkx(embedding)[0] is a map, and [it] a list of one")
+    found = list(maps)
+    for k, lists in enumerate(found, 1):
+        _no_networkx(lists, "from_networkx(embedding)[0] is a map of a PlanarEmbedding")
+        if not isinstance(lists, (list, tuple)) or not all(isinstance(us, (list, tuple)) for us in lists):
+            is_map = isinstance(lists, (list, tuple)) and all(isinstance(u, int) for u in lists)
+            hint = ": give a list of maps, as [lists] for one" if is_map else ""
+            raise ValueError(f"map {k} is no list with a list of neighbours for each vertex{hint}")
+    return found
+
+
+def _no_networkx(value: object, hint: str) -> None:
+    """Raises ValueError where the value is a graph of networkx."""
+    if hasattr(value, "nodes") and hasattr(value, "edges"):
+        raise ValueError(f"this is a {type(value).__name__} of networkx: {hint}")
+
+
+def _record(lists: Map) -> bytes:
     narrow = len(lists) < 256
     most = 255 if narrow else 65535
     if not 1 <= len(lists) <= 65535:
@@ -109,11 +132,13 @@ def _record(lists):
 
 # graph6
 
-def read_graph6(line):
+def read_graph6(line: str) -> Tuple[int, List[Edge]]:
     """The graph of one line of graph6, as (n, edges).
 
-    `line` is text without its line end. Raises ValueError where it is none, or has more than 258047 vertices.
+    `line` is text without its line end and without a header. Raises ValueError where it is none, or has more than
+    258047 vertices.
     """
+    check_line(line)
     values = [ord(c) - 63 for c in line]
     if not values or not all(0 <= value < 64 for value in values):
         raise ValueError("no line of graph6: a byte is not from 63 to 126, or there is none")
@@ -130,23 +155,45 @@ def read_graph6(line):
     return n, [pair for pair, bit in zip(pairs, bits) if bit]
 
 
-def write_graph6(graph):
+def check_line(line: str) -> None:
+    """Raises ValueError where a line of graph6 has a header or a line end, which are none of the line's own."""
+    if line.startswith(">>"):
+        raise ValueError(f"the line begins by a header: give what stands behind {line[:line.find('<<') + 2] or '>>'}")
+    if line[-1:] in ("\n", "\r"):
+        raise ValueError("the line has its line end: give line.strip()")
+
+
+def write_graph6(graph: Graph) -> str:
     """The graph (n, edges) as one line of graph6, without its line end.
 
     Raises ValueError where n is above 258047, or an edge is no pair of two numbers from 1 to n.
     """
-    n, edges = graph
+    _no_networkx(graph, "graph_of_networkx(graph)[0] is it as (n, edges)")
+    try:
+        n, edges = graph
+        edges = list(edges)
+    except (TypeError, ValueError) as fault:
+        raise ValueError(f"a graph is (n, edges) or a line of graph6, and not {str(graph)[:60]}") from fault
     if not 0 <= n <= 258047:
         raise ValueError(f"a line of graph6 has up to 258047 vertices here, not {n}")
     bits = bytearray((n * (n - 1) // 2 + 5) // 6 * 6)
-    for u, v in edges:
-        u, v = sorted((u, v))
+    for edge in edges:
+        u, v = sorted(pair_of(edge))
         if not 1 <= u < v <= n:
             raise ValueError(f"{u} {v} is no edge of a graph of {n} vertices")
         bits[(v - 1) * (v - 2) // 2 + u - 1] = 1
     count = [n] if n < 63 else [63, n >> 12, n >> 6 & 63, n & 63]
     groups = [int("".join(map(str, bits[k:k + 6])), 2) for k in range(0, len(bits), 6)]
     return "".join(chr(value + 63) for value in count + groups)
+
+
+def pair_of(edge: Sequence[Any]) -> Tuple[Any, Any]:
+    """The ends of an edge. Raises ValueError where it is no pair, as those of networkx with keys or data."""
+    if not isinstance(edge, (list, tuple)) or len(edge) != 2:
+        more = isinstance(edge, (list, tuple)) and len(edge) > 2
+        hint = ": give graph.edges() without data and keys" if more else ""
+        raise ValueError(f"an edge is a pair of vertices, and not {str(edge)[:60]}{hint}")
+    return edge[0], edge[1]
 
 
 # What the program writes
@@ -161,7 +208,7 @@ class Count:
     c: int
     genus: int
 
-    def __str__(self):
+    def __str__(self) -> str:
         return f"count {self.number} n {self.n} m {self.m} f {self.f} c {self.c} genus {self.genus}"
 
 
@@ -173,7 +220,7 @@ class Refused:
     name: str
     numbers: Tuple[int, ...]
 
-    def __str__(self):
+    def __str__(self) -> str:
         return join_words("refused", self.number, self.condition, self.name, *self.numbers)
 
 
@@ -184,7 +231,7 @@ class Verdict:
     name: str
     numbers: Tuple[int, ...]
 
-    def __str__(self):
+    def __str__(self) -> str:
         return join_words("verdict", self.number, self.name, *self.numbers)
 
 
@@ -194,7 +241,7 @@ class End:
     records: int
     refused: int
 
-    def __str__(self):
+    def __str__(self) -> str:
         return f"end records {self.records} refused {self.refused}"
 
 
@@ -204,12 +251,24 @@ class Stop:
     name: str
     numbers: Tuple[int, ...]
 
-    def __str__(self):
+    def __str__(self) -> str:
         return join_words("stop", self.name, *self.numbers)
 
 
+class _Shown:
+    """What a notebook shows as its picture."""
+
+    def _repr_svg_(self) -> Optional[str]:
+        """The picture of the figure, or nothing where it names a vertex that it does not have."""
+        from .pictures import picture  # which reads this module
+        try:
+            return picture(cast(Figure, self))
+        except ValueError:
+            return None
+
+
 @dataclass
-class GridFigure:
+class GridFigure(_Shown):
     """A straight-line drawing by `job` ("shift", "schnyder" or "convex").
 
     `places` has (x, y) for each vertex, `lists` its neighbours clockwise.
@@ -219,13 +278,13 @@ class GridFigure:
     places: List[Place]
     lists: Lists
 
-    def __str__(self):
+    def __str__(self) -> str:
         lines = [join_words(f"{v} at {x} {y}:", *us) for v, ((x, y), us) in enumerate(zip(self.places, self.lists), 1)]
         return "\n".join([f"figure {self.number} {self.job} {len(self.lists)}", *lines])
 
 
 @dataclass
-class BarFigure:
+class BarFigure(_Shown):
     """Bars that see each other.
 
     Vertex v has its bar at `heights[v - 1]`, from and to the places `spans[v - 1]`; `columns` has the place of each
@@ -238,28 +297,28 @@ class BarFigure:
     columns: List[int]
     job = "bars"
 
-    def __str__(self):
+    def __str__(self) -> str:
         rows = enumerate(zip(self.heights, self.spans, self.lists), 1)
         lines = [join_words(f"{v} y {y} x {a} {b}:", *us) for v, (y, (a, b), us) in rows]
         return "\n".join([f"figure {self.number} bars {len(self.lists)}", *lines, join_words("columns", *self.columns)])
 
 
 @dataclass
-class RectFigure:
+class RectFigure(_Shown):
     """A tiling: the rectangle of vertex v reaches from a to b and from c up to d, for (a, b, c, d) in `boxes`."""
     number: int
     boxes: List[Tuple[int, int, int, int]]
     lists: Lists
     job = "rect"
 
-    def __str__(self):
+    def __str__(self) -> str:
         rows = enumerate(zip(self.boxes, self.lists), 1)
         lines = [join_words(f"{v} x {a} {b} y {c} {d}:", *us) for v, ((a, b, c, d), us) in rows]
         return "\n".join([f"figure {self.number} rect {len(self.lists)}", *lines])
 
 
 @dataclass
-class WitnessFigure:
+class WitnessFigure(_Shown):
     """A subdivision of K5 or K3,3 (`kind` is "K5" or "K33") in the graph of a line of graph6.
 
     `branches` has its five or six branch vertices, `paths` its ten or nine paths, each with its vertices.
@@ -271,7 +330,7 @@ class WitnessFigure:
     paths: List[List[int]]
     job = "witness"
 
-    def __str__(self):
+    def __str__(self) -> str:
         lines = [join_words("branch", *self.branches), *(join_words("path", *path) for path in self.paths)]
         return "\n".join([f"figure {self.number} witness {self.kind} {self.graph6}", *lines])
 
@@ -280,13 +339,15 @@ FIGURES = (GridFigure, BarFigure, RectFigure, WitnessFigure)
 Figure = Union[GridFigure, BarFigure, RectFigure, WitnessFigure]
 Answer = Union[Count, Refused, Verdict, Figure]
 Block = Union[Answer, End, Stop]
+Text = Union[str, bytes]
 
 
-def join_words(*words):
+def join_words(*words: object) -> str:
+    """The words with a space between each two."""
     return " ".join(map(str, words))
 
 
-def read_blocks(text):
+def read_blocks(text: Text) -> List[Block]:
     """All that a run wrote, in order: `Count`, `Refused`, `Verdict`, `End`, `Stop` and figures.
 
     `text` is text or bytes. Each prints itself as the program does, so the lines are those of the text again. Raises
@@ -295,21 +356,23 @@ def read_blocks(text):
     return _blocks(text, ())
 
 
-def read_figures(text):
+def read_figures(text: Text) -> List[Figure]:
     """The figures of a text, as a list.
 
     `text` is text or bytes. Lines between figures that begin with `count`, `refused`, `verdict`, `end` or `stop` are
     passed over, as `verify` does. Raises ValueError, with the number of the line, where another line is no figure's.
     """
-    return _blocks(text, ("count", "refused", "verdict", "end", "stop"))
+    found = _blocks(text, ("count", "refused", "verdict", "end", "stop"))
+    return [block for block in found if isinstance(block, FIGURES)]
 
 
-def _blocks(text, passed_over):
+def _blocks(text: Text, passed_over: Tuple[str, ...]) -> List[Block]:
     """The blocks of a text, but for those that begin with a word that is passed over."""
     lines = _text(text).split("\n")
     if lines[-1]:
         raise ValueError(f"line {len(lines)} is not closed")
-    blocks, at = [], 0
+    blocks: List[Block] = []
+    at = 0
     while at < len(lines) - 1:
         if lines[at].split(" ")[0] in passed_over:
             at += 1
@@ -323,11 +386,11 @@ def _blocks(text, passed_over):
     return blocks
 
 
-def _text(text):
+def _text(text: Text) -> str:
     return text.decode("ascii", "surrogateescape") if isinstance(text, bytes) else text
 
 
-def _block(lines, at):
+def _block(lines: List[str], at: int) -> Tuple[Block, int]:
     """The block that begins at line `at`, and the line behind it."""
     words = lines[at].split(" ")
     if words[0] == "figure":
@@ -346,11 +409,11 @@ def _block(lines, at):
     raise ValueError(words[0])
 
 
-def _numbers(words):
+def _numbers(words: Iterable[str]) -> Tuple[int, ...]:
     return tuple(int(word) for word in words)
 
 
-def _figure(words, lines, at):
+def _figure(words: List[str], lines: List[str], at: int) -> Tuple[Figure, int]:
     number, job = int(words[1]), words[2]
     if job == "witness":
         end = at + {"K5": 12, "K33": 11}[words[3]]
@@ -358,13 +421,13 @@ def _figure(words, lines, at):
         return WitnessFigure(number, words[3], words[4], branches, paths), end
     end = at + 1 + int(words[3])
     rows = [line.split(":") for line in lines[at + 1:end]]
-    heads = [head.split(" ") for head, _ in rows]
+    heads: List[List[Any]] = [head.split(" ") for head, _ in rows]
     lists = [list(_numbers(rest.split())) for _, rest in rows]
     if job in GRID_JOBS:
         return GridFigure(number, job, [(int(x), int(y)) for _, _, x, y in heads], lists), end
     if job == "rect":
-        return RectFigure(number, [_numbers((a, b, c, d)) for _, _, a, b, _, c, d in heads], lists), end
+        return RectFigure(number, [(int(a), int(b), int(c), int(d)) for _, _, a, b, _, c, d in heads], lists), end
     if job == "bars" and lines[end].startswith("columns"):
-        heights, spans = [int(head[2]) for head in heads], [_numbers(head[4:6]) for head in heads]
+        heights, spans = [int(head[2]) for head in heads], [(int(head[4]), int(head[5])) for head in heads]
         return BarFigure(number, heights, spans, lists, list(_numbers(lines[end].split(" ")[1:]))), end + 1
     raise ValueError(job)

@@ -1,35 +1,46 @@
 """Maps and graphs of networkx and Sage, which are imported where a function is called that speaks of them."""
+import importlib
+from typing import Any, Hashable, List, Optional, Sequence, Tuple
+
+from .formats import Edge, Lists, Map, Place
 from .maps import edges_of
 
 
-def from_networkx(embedding):
-    """The map of a `networkx.PlanarEmbedding`, and the names of its vertices: (lists, names), `names[v - 1]` for v."""
+def from_networkx(embedding: Any) -> Tuple[Lists, List[Hashable]]:
+    """The map of a `networkx.PlanarEmbedding`, and the names of its vertices: (lists, names), `names[v - 1]` for v.
+
+    Raises ValueError where it is a graph without rotations.
+    """
+    if not hasattr(embedding, "neighbors_cw_order"):
+        raise ValueError(f"a {type(embedding).__name__} has no rotations: networkx.check_planarity(graph)[1] is a "
+                         "PlanarEmbedding, and embed draws graph_of_networkx(graph)[0]")
     names = list(embedding)
     number = {name: v for v, name in enumerate(names, 1)}
     return [[number[u] for u in embedding.neighbors_cw_order(name)] for name in names], names
 
 
-def to_networkx(lists, names=None):
+def to_networkx(lists: Map, names: Optional[Sequence[Hashable]] = None) -> Any:
     """A map as a `networkx.PlanarEmbedding`; vertices have the numbers from 1, or `names[v - 1]` for v."""
-    from networkx import PlanarEmbedding
-    names = names or range(1, len(lists) + 1)
-    embedding = PlanarEmbedding()
-    embedding.add_nodes_from(names)
-    embedding.set_data({name: [names[u - 1] for u in us] for name, us in zip(names, lists)})
+    known: Sequence[Hashable] = names or range(1, len(lists) + 1)
+    embedding = importlib.import_module("networkx").PlanarEmbedding()
+    embedding.add_nodes_from(known)
+    embedding.set_data({name: [known[u - 1] for u in us] for name, us in zip(known, lists)})
     return embedding
 
 
-def graph_of_networkx(graph):
-    """An undirected networkx graph as (n, edges), and the names of its vertices: ((n, edges), names)."""
+def graph_of_networkx(graph: Any) -> Tuple[Tuple[int, List[Edge]], List[Hashable]]:
+    """An undirected networkx graph as (n, edges), and the names of its vertices: ((n, edges), names).
+
+    Edges between the same two vertices of a multigraph become one.
+    """
     names = list(graph)
     number = {name: v for v, name in enumerate(names, 1)}
-    return (len(names), [(number[u], number[v]) for u, v in graph.edges]), names
+    return (len(names), list(dict.fromkeys((number[u], number[v]) for u, v in graph.edges()))), names
 
 
-def to_sage(lists, places=None):
+def to_sage(lists: Map, places: Optional[Sequence[Place]] = None) -> Any:
     """A map as a Sage `Graph` with its embedding, and with positions where `places` has one for each vertex."""
-    from sage.all import Graph
-    graph = Graph([range(1, len(lists) + 1), edges_of(lists)], format="vertices_and_edges")
+    graph = importlib.import_module("sage.all").Graph([range(1, len(lists) + 1), edges_of(lists)], format="vertices_and_edges")
     graph.set_embedding({v: list(us) for v, us in enumerate(lists, 1)})
     if places:
         graph.set_pos(dict(enumerate(places, 1)))

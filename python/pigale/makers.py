@@ -1,9 +1,12 @@
 """Makes maps: stacked triangulations, trees, wheels, grids and others."""
-from .formats import Lists
+from random import Random
+from typing import Callable, Optional, Tuple
+
+from .formats import Lists, Map
 from .maps import rotations_of
 
 
-def stacked(size, number):
+def stacked(size: int, number: int) -> Lists:
     """The triangulation of `size` vertices that `pigale gen --size SIZE --number NUMBER` makes.
 
     `size` is from 3 on, and `number` from 0 to 4294967295; else ValueError is raised.
@@ -11,7 +14,7 @@ def stacked(size, number):
     if size < 3 or not 0 <= number < 1 << 32:
         raise ValueError(f"size is from 3 on and number from 0 to 4294967295, not {size} and {number}")
 
-    def choose(count):
+    def choose(count: int) -> int:
         nonlocal number
         number = (number * 1103515245 + 12345) % (1 << 32)
         return number // 65536 % count
@@ -19,7 +22,7 @@ def stacked(size, number):
     return _stack(size, choose)
 
 
-def _stack(size, choose):
+def _stack(size: int, choose: Callable[[int], int]) -> Lists:
     """A triangle, and each further vertex in the face that `choose` takes of as many as it is told."""
     lists = [[2, 3], [3, 1], [1, 2]]
     faces = [(1, 3, 2)]
@@ -34,14 +37,14 @@ def _stack(size, choose):
     return lists
 
 
-def triangulation(n, source):
+def triangulation(n: int, source: Random) -> Lists:
     """A triangulation of n vertices, from 3 on: each goes into a face chosen by `source`, a `random.Random`."""
     return _stack(n, source.randrange)
 
 
-def tree(n, source):
+def tree(n: int, source: Random) -> Lists:
     """A tree of n vertices: each is joined to an earlier one, at a place in its list that `source` chooses too."""
-    lists = [[] for _ in range(n)]
+    lists: Lists = [[] for _ in range(n)]
     for v in range(1, n):
         u = source.randrange(v)
         lists[u].insert(source.randrange(len(lists[u]) + 1), v + 1)
@@ -49,34 +52,34 @@ def tree(n, source):
     return lists
 
 
-def path(n):
+def path(n: int) -> Lists:
     """A path of n vertices."""
     return [[u for u in (v - 1, v + 1) if 1 <= u <= n] for v in range(1, n + 1)]
 
 
-def cycle(n):
+def cycle(n: int) -> Lists:
     """A cycle of n vertices, from 3 on."""
     return [[v % n + 1, (v - 2) % n + 1] for v in range(1, n + 1)]
 
 
-def complete(n):
+def complete(n: int) -> Lists:
     """The complete graph with rising lists: a map of genus zero for up to three vertices, and of a higher one beyond."""
     return [[u for u in range(1, n + 1) if u != v] for v in range(1, n + 1)]
 
 
-def wheel(n):
+def wheel(n: int) -> Lists:
     """A wheel of n vertices, from 4 on: a circle, and vertex n in the middle of it."""
     rim = n - 1
     return [[v % rim + 1, n, (v - 2) % rim + 1] for v in range(1, n)] + [list(range(1, n))]
 
 
-def prism(k):
+def prism(k: int) -> Lists:
     """Two circles of k vertices, from 3 on, one within the other, and an edge between each two at one angle."""
     outer = [[v % k + 1, k + v, (v - 2) % k + 1] for v in range(1, k + 1)]
     return outer + [[k + (v - 2) % k + 1, v, k + v % k + 1] for v in range(1, k + 1)]
 
 
-def grid(rows, columns):
+def grid(rows: int, columns: int) -> Lists:
     """A grid of unit squares with `rows` times `columns` vertices, numbered along the rows from the lowest."""
     points = [(x, y) for y in range(rows) for x in range(columns)]
     across = [(v, v + 1) for v in range(1, len(points) + 1) if v % columns]
@@ -84,7 +87,7 @@ def grid(rows, columns):
     return rotations_of(points, across + upwards)
 
 
-def quadrangle(rows, columns, is_rising=lambda i, j: False):
+def quadrangle(rows: int, columns: int, is_rising: Callable[[int, int], bool] = lambda i, j: False) -> Lists:
     """A map that `rect` draws: `rows` times `columns` vertices as a grid with a diagonal in each cell, within four more.
 
     Vertex 1 is the left one of these four, and the upper one, which is 2, is the first of its list. The others are
@@ -93,17 +96,17 @@ def quadrangle(rows, columns, is_rising=lambda i, j: False):
     """
     left, top, right, bottom = 1, 2, 3, 4
 
-    def inner(i, j):
+    def inner(i: int, j: int) -> int:
         return 5 + i * columns + j
 
-    def beside(i, j):
+    def beside(i: int, j: int) -> int:
         if 0 <= i < rows and 0 <= j < columns:
             return inner(i, j)
         if 0 <= i < rows:
             return left if j < 0 else right
         return top if i < 0 else bottom
 
-    def across(i, j, k, l):
+    def across(i: int, j: int, k: int, l: int) -> Optional[int]:
         """The end (k, l) of the diagonal from (i, j), or nothing where the cell has the other one or is none."""
         cell = min(i, k), min(j, l)
         is_cell = 0 <= cell[0] < rows - 1 and 0 <= cell[1] < columns - 1
@@ -121,7 +124,7 @@ def quadrangle(rows, columns, is_rising=lambda i, j: False):
     return lists
 
 
-def renumbered(lists, source):
+def renumbered(lists: Map, source: Random) -> Lists:
     """The map with its vertices numbered anew by `source`, a `random.Random`."""
     number = list(range(1, len(lists) + 1))
     source.shuffle(number)

@@ -1,47 +1,50 @@
 """The edges and faces of a map, and maps made from others."""
 import functools
+from typing import Dict, List, Sequence, Set, Tuple
 
-from .formats import read_graph6
+from .formats import Edge, Lists, Map, Place, WitnessFigure, read_graph6
 
 
-def rotations_of(points, edges):
+def rotations_of(points: Sequence[Place], edges: Sequence[Edge]) -> Lists:
     """The lists of the map that a drawing shows: the neighbours of each vertex, clockwise from west.
 
     `points` has a pair of whole numbers for each vertex, y upwards; `edges` has pairs of numbers from 1. Neighbours in
     one direction stand in the order of `edges`.
     """
-    lists = [[] for _ in points]
+    lists: Lists = [[] for _ in points]
     for u, v in edges:
         lists[u - 1].append(v)
         lists[v - 1].append(u)
+    by_turn = functools.cmp_to_key(_clockwise)
     for (x, y), us in zip(points, lists):
-        def direction(u, x=x, y=y):
-            return points[u - 1][0] - x, points[u - 1][1] - y
-        us.sort(key=functools.cmp_to_key(lambda u, v: _clockwise(direction(u), direction(v))))
+        towards = {u: (points[u - 1][0] - x, points[u - 1][1] - y) for u in us}
+        us.sort(key=lambda u: by_turn(towards[u]))
     return lists
 
 
-def _clockwise(one, other):
+def _clockwise(one: Place, other: Place) -> int:
     """Below 0 where the first direction comes before the second, clockwise from west."""
     halves = [0 if y > 0 or y == 0 and x < 0 else 1 for x, y in (one, other)]
     return halves[0] - halves[1] or one[0] * other[1] - other[0] * one[1]
 
 
-def edges_of(lists):
+def edges_of(lists: Map) -> List[Edge]:
     """The edges of a map, as pairs (v, u) with v below u, in the order of v and then u."""
     return sorted((v, u) for v, us in enumerate(lists, 1) for u in us if v < u)
 
 
-def faces_of(lists):
+def faces_of(lists: Map) -> Lists:
     """The faces of a map that have edges, each as the list of its vertices with the face on the left.
 
     The lists have to be a simple map. The first face is that of the dart from vertex 1 to the first of its list, which
     the drawings of connected maps have outside.
     """
     following = {(u, v): (v, us[(k + 1) % len(us)]) for v, us in enumerate(lists, 1) for k, u in enumerate(us)}
-    seen, faces = set(), []
+    seen: Set[Edge] = set()
+    faces: Lists = []
     for first in ((v, u) for v, us in enumerate(lists, 1) for u in us):
-        dart, face = first, []
+        dart = first
+        face: List[int] = []
         while dart not in seen:
             seen.add(dart)
             face.append(dart[0])
@@ -51,7 +54,7 @@ def faces_of(lists):
     return faces
 
 
-def dual(lists):
+def dual(lists: Map) -> Lists:
     """The dual of a three-connected map of genus zero: a vertex for each face, in the order of `faces_of`.
 
     Other maps may have a dual with loops or edges between the same two, which the program refuses.
@@ -62,7 +65,7 @@ def dual(lists):
     return [[left[face[(k + 1) % len(face)], v] for k, v in enumerate(face)][::-1] for face in faces]
 
 
-def outside(lists, v, u):
+def outside(lists: Map, v: int, u: int) -> Lists:
     """The map with the face of the dart from v to its neighbour u outside, as the drawing jobs take it.
 
     Vertices v and 1 exchange their numbers, and the list of vertex 1 then begins with the neighbour that was u.
@@ -73,7 +76,7 @@ def outside(lists, v, u):
     return [out[0][first:] + out[0][:first], *out[1:]]
 
 
-def without_edge(lists, v, u):
+def without_edge(lists: Map, v: int, u: int) -> Lists:
     """The map without the edge from v to u; its faces at both sides become one.
 
     Where u was the first of v's list, that face is the one on the left of the dart from v to what is first then. So of a
@@ -83,7 +86,7 @@ def without_edge(lists, v, u):
     return [[x for x in us if {w, x} != {v, u}] for w, us in enumerate(lists, 1)]
 
 
-def witness_graph(witness):
+def witness_graph(witness: WitnessFigure) -> Tuple[int, List[Edge]]:
     """The graph of a witness, as (n, edges): the vertices of its graph, and the edges of its paths alone."""
     n, _ = read_graph6(witness.graph6)
-    return n, sorted({tuple(sorted(pair)) for path in witness.paths for pair in zip(path, path[1:])})
+    return n, sorted({(min(pair), max(pair)) for path in witness.paths for pair in zip(path, path[1:])})

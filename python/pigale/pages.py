@@ -68,7 +68,7 @@ def pages(result: Run, figures: Sequence[Figure] = (), side: Optional[float] = N
     They name each other as links: the first is called index.html, and the others page-2.html, page-3.html and so on.
     """
     answers = result.answers
-    cuts = _cuts(answers, cards)
+    cuts = _cuts([not _is_folded(answer, figures) for answer in answers], cards)
     for k, (start, end) in enumerate(zip(cuts, cuts[1:])):
         yield _page(result, answers[start:end], start, figures, side, labels, style, _nav(k, len(cuts) - 1))
 
@@ -78,16 +78,20 @@ def page_name(k: int) -> str:
     return f"page-{k + 1}.html" if k else "index.html"
 
 
-def _cuts(answers: Sequence[Answer], cards: int) -> List[int]:
+def _is_folded(answer: Answer, figures: Sequence[Figure]) -> bool:
+    """Whether an answer is a refusal that has no figure to be shown with."""
+    return isinstance(answer, Refused) and not figures
+
+
+def _cuts(has_card: Sequence[bool], cards: int) -> List[int]:
     """Where each page begins in the answers, and where the last one ends."""
     cuts, shown = [0], 0
-    for k, answer in enumerate(answers):
-        is_card = not isinstance(answer, Refused)
+    for k, is_card in enumerate(has_card):
         if shown + is_card > cards or k - cuts[-1] >= MOST_ANSWERS:
             cuts.append(k)
             shown = 0
         shown += is_card
-    return [*cuts, len(answers)]
+    return [*cuts, len(has_card)]
 
 
 def _nav(k: int, count: int) -> str:
@@ -102,15 +106,15 @@ def _page(result: Run, answers: Sequence[Answer], start: int, figures: Sequence[
           labels: bool, style: Style, nav: str) -> str:
     """A page of the answers from the one at `start` on."""
     style = styles_of(style)
-    refused = [answer for answer in answers if isinstance(answer, Refused)]
+    refused = [answer for answer in answers if isinstance(answer, Refused) and _is_folded(answer, figures)]
     cards = []
     for k, answer in enumerate(answers, start):
         if isinstance(answer, FIGURES):
             cards.append(_card(_caption(answer), answer, side, labels, style))
-        elif isinstance(answer, Verdict) and k < len(figures):
+        elif isinstance(answer, (Refused, Verdict)) and k < len(figures):
             caption = f"{_caption(figures[k])}: {join_words(answer.name, *answer.numbers)}"
             cards.append(_card(caption, figures[k], side, labels, style, "" if answer.name == "yes" else "fault"))
-        elif not isinstance(answer, Refused):
+        elif not _is_folded(answer, figures):
             cards.append(_card(str(answer), None, side, labels, style))
     colours = {tone: ";".join(f"--{name}:{colour}" for name, colour in STYLE[tone].items()) for tone in ("light", "dark")}
     return PAGE.format(title=f"pigale {result.job}", made=_made(result), nav=nav, refusals=_refusals(refused),

@@ -4,15 +4,20 @@ import platform
 import shutil
 import subprocess
 from dataclasses import dataclass
-from typing import Any, List
+from typing import Iterable, List, Optional, Union, cast
 
-from .formats import PLANAR_JOBS, End, Stop, read_blocks, write_graph6, write_planar_code
+from .formats import (FIGURES, MOST_VERTICES, PLANAR_JOBS, Answer, Block, End, Figure, Graph, GridFigure, Map, Refused, Stop,
+                      WitnessFigure, as_maps, check_line, read_blocks, write_graph6, write_planar_code)
+
+MOST_EMBEDDED = 255  # vertices of a graph that `embed` reads
+
+Records = Union[str, bytes, Iterable[Map], Iterable[Union[str, Graph]], Iterable[Figure]]
 
 
 class PigaleError(Exception):
     """The program ended with a status above 1. `run` is what it wrote until then, as a `Run`."""
 
-    def __init__(self, run):
+    def __init__(self, run: "Run") -> None:
         self.run = run
         last = str(run.blocks[-1]) if run.blocks else "nothing written"
         hint = HINTS.get(run.status, "")
@@ -34,15 +39,15 @@ class Run:
     job: str
     status: int
     text: str
-    blocks: List[Any]
+    blocks: List[Block]
 
     @property
-    def answers(self):
+    def answers(self) -> List[Answer]:
         """The blocks but the last line: of a run that ended well, one for each record, and two for `gen`."""
         return [block for block in self.blocks if not isinstance(block, (End, Stop))]
 
 
-def program():
+def program() -> str:
     """The path of the program. Raises FileNotFoundError where there is none (the package's text says where it looks)."""
     here = os.path.dirname(os.path.realpath(__file__))
     top = os.path.join(here, "..", "..")
@@ -58,7 +63,7 @@ def program():
     return found
 
 
-def run(job, records=(), size=None, number=None):
+def run(job: str, records: Records = (), size: Optional[int] = None, number: Optional[int] = None) -> Run:
     """The program's answers to records, as a `Run`.
 
     `records` is what the job reads: maps for `count`, `shift`, `schnyder`, `bars`, `convex` and `rect`; graphs (n,
@@ -66,6 +71,7 @@ def run(job, records=(), size=None, number=None):
     and `number` from 0 to 4294967295. Bytes and text are handed on as they are. An input may have 16 MiB.
 
     Raises PigaleError where the status is 2 or more: bad words, a bad place in the input, a fault, want of memory.
+    Raises ValueError where a record is none of the job's, as one map in place of a list, or has too many vertices.
     """
     words = [job]
     for name, value in (("--size", size), ("--number", number)):
@@ -79,7 +85,7 @@ def run(job, records=(), size=None, number=None):
     return result
 
 
-def _readable(text):
+def _readable(text: str) -> List[Block]:
     """The blocks of a text, which may end inside a figure where the run broke off."""
     try:
         return read_blocks(text)
@@ -88,33 +94,65 @@ def _readable(text):
         return read_blocks(text[:cut])
 
 
-def _input(job, records):
+def _input(job: str, records: Records) -> bytes:
     if isinstance(records, bytes):
         return records
     if isinstance(records, str):
         return records.encode("ascii", "surrogateescape")
     if job == "embed":
-        lines = (graph if isinstance(graph, str) else write_graph6(graph) for graph in records)
-        return "".join(f"{line}\n" for line in lines).encode("ascii")
+        return "".join(f"{line}\n" for line in _lines(cast(Iterable[Union[str, Graph]], records))).encode("ascii")
     if job == "verify":
-        return "".join(f"{figure}\n" for figure in records).encode("ascii", "surrogateescape")
-    return write_planar_code(records)
+        return "".join(f"{figure}\n" for figure in _figures(cast(Iterable[Figure], records))).encode("ascii", "surrogateescape")
+    maps = as_maps(cast(Iterable[Map], records))
+    for k, lists in enumerate(maps, 1):
+        if len(lists) > MOST_VERTICES:
+            raise ValueError(f"map {k} has {len(lists)} vertices: the program reads up to {MOST_VERTICES}")
+    return write_planar_code(maps)
 
 
-def draw(maps, job="schnyder"):
+def _lines(graphs: Iterable[Union[str, Graph]]) -> Iterable[str]:
+    """Graphs as lines of graph6. Raises ValueError where one is none, or has more vertices than `embed` reads."""
+    if hasattr(graphs, "nodes"):
+        raise ValueError("this is a graph of networkx: graph_of_networkx(graph)[0] is it as (n, edges), and [it] a list of one")
+    if isinstance(graphs, tuple) and len(graphs) == 2 and isinstance(graphs[0], int):
+        raise ValueError("this is one graph: give a list of graphs, as [graph] for one")
+    for k, graph in enumerate(graphs, 1):
+        try:
+            if isinstance(graph, str):
+                check_line(graph)
+                yield graph
+                continue
+            line = write_graph6(graph)
+        except ValueError as fault:
+            raise ValueError(f"graph {k}: {fault}") from fault
+        if graph[0] > MOST_EMBEDDED:
+            raise ValueError(f"graph {k} has {graph[0]} vertices: embed reads up to {MOST_EMBEDDED}")
+        yield line
+
+
+def _figures(figures: Iterable[Figure]) -> Iterable[Figure]:
+    if isinstance(figures, FIGURES):
+        raise ValueError("this is one figure: give a list of figures, as [figure] for one")
+    for k, figure in enumerate(figures, 1):
+        if not isinstance(figure, FIGURES):
+            raise ValueError(f"entry {k} is no figure to verify, but {type(figure).__name__}: {str(figure)[:60]}")
+        yield figure
+
+
+def draw(maps: Union[bytes, Iterable[Map]], job: str = "schnyder") -> List[Union[Figure, Refused]]:
     """A figure for each map, in order, by "shift", "schnyder", "bars", "convex" or "rect".
 
     A map that the job does not draw has a `Refused` in its place. Raises ValueError for another job, and as `run`.
     """
     if job not in PLANAR_JOBS[1:]:
         raise ValueError(f"{job} is no job that draws maps")
-    return run(job, maps).answers
+    return cast(List[Union[Figure, Refused]], run(job, maps).answers)
 
 
-def embed(graphs):
+def embed(graphs: Union[str, bytes, Iterable[Union[str, Graph]]]) -> List[Union[GridFigure, WitnessFigure, Refused]]:
     """For each graph a `GridFigure` of a map of it, or a `WitnessFigure` that tells why there is none of genus zero.
 
     A graph is (n, edges) or a line of graph6, with up to 255 vertices; one of fewer than three has a `Refused` in its
     place. Raises as `run` does.
     """
-    return run("embed", graphs).answers
+    return cast(List[Union[GridFigure, WitnessFigure, Refused]], run("embed", graphs).answers)
