@@ -402,18 +402,19 @@ def _bar_sketch(figure: BarFigure, look: Look) -> Sketch:
 
 def _legible(numbers: List[Tuple[int, Dot, float]], look: Look) -> List[Tuple[int, Dot, float]]:
     """The numbers that are high enough to be read, where numbers are asked for."""
-    return [number for number in numbers if look.labels and number[2] >= 4 * look.scale]
+    return [number for number in numbers if look.labels and number[2] >= 2.4 * look.scale]
 
 
 def _rect_sketch(figure: RectFigure, look: Look) -> Sketch:
     dots, box = _placed([(x, y) for a, b, c, d in figure.boxes for x, y in ((a, c), (b, d))], look)
     width = look.size("line", len(figure.boxes))
+    most = min(13 * look.scale, max(6 * look.scale, 1.6 * look.size("number", len(figure.boxes))))
     body, numbers = [f'<g {look.paint(stroke="line")} stroke-width="{_n(width)}" stroke-linejoin="round">'], []
     for v, tint in enumerate(tints_of(figure.lists), 1):
         (x1, y2), (x2, y1) = dots[2 * v - 2], dots[2 * v - 1]
         body.append(f'<rect x="{_n(x1)}" y="{_n(y1)}" width="{_n(x2 - x1)}" height="{_n(y2 - y1)}" '
                     f'{look.paint(fill=f"tint-{tint}")}>{_title(v, figure.lists[v - 1])}</rect>')
-        size = min(13 * look.scale, 0.8 * (y2 - y1), (x2 - x1) / (DIGIT * len(str(v)) + 0.3))
+        size = min(most, 0.8 * (y2 - y1), (x2 - x1) / (DIGIT * len(str(v)) + 0.3))
         numbers.append((v, ((x1 + x2) / 2, (y1 + y2) / 2), size))
     body.append("</g>")
     return (*box, _joined(body + _texts(_legible(numbers, look), "number", look)))
