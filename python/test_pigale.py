@@ -453,8 +453,9 @@ class Slips(unittest.TestCase):
 
     def test_edges_with_more_than_their_ends(self):
         for edge in (("a", "b", {}), ("a", "b", 0), ("a", "b", 0, {})):
-            self.says("without data and keys", pigale.check, SQUARE, [edge])
-        self.says("without data and keys", pigale.write_graph6, (3, [(1, 2, {})]))
+            self.says("without data, keys and labels", pigale.check, SQUARE, [edge])
+        self.says("without data, keys and labels", pigale.write_graph6, (3, [(1, 2, {})]))
+        self.assertTrue(pigale.check([(0, 0), (1, 0)], [range(2)]))
         for edge in (("a",), "a", 7):
             self.says("an edge is a pair", pigale.check, SQUARE, [edge])
 
@@ -478,6 +479,8 @@ class Slips(unittest.TestCase):
     def test_too_many_vertices(self):
         self.says("map 2 has 4096 vertices", pigale.draw, [pigale.path(3), pigale.path(4096)])
         self.says("graph 1 has 256 vertices", pigale.embed, [(256, [])])
+        self.says("graph 2: the line has a graph of 256 vertices", pigale.embed, ["C~", pigale.write_graph6((256, []))])
+        self.assertEqual(pigale.embed([pigale.write_graph6((255, []))])[0].number, 1)
         self.assertEqual(pigale.draw([pigale.path(4095)], "shift")[0].number, 1)
 
     def test_graphs_of_networkx(self):
@@ -497,7 +500,7 @@ class Slips(unittest.TestCase):
             self.says("a Graph of networkx", pigale.draw, [networkx.cycle_graph(4)])
             twice = networkx.MultiGraph([(0, 1), (0, 1), (1, 2)])
             self.assertEqual(pigale.graph_of_networkx(twice)[0], (3, [(1, 2), (2, 3)]))
-            self.says("without data and keys", pigale.check, [(0, 0), (1, 0), (2, 0)], twice.edges)
+            self.says("without data, keys and labels", pigale.check, [(0, 0), (1, 0), (2, 0)], twice.edges)
 
 
 class Package(unittest.TestCase):

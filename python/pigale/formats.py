@@ -1,5 +1,6 @@
 """planar_code, graph6 and the text that the program writes: reads and writes them."""
 import re
+from collections.abc import Sequence as SequenceType
 from dataclasses import dataclass
 from typing import IO, Any, Iterable, List, Literal, Optional, Sequence, Tuple, Union, cast
 
@@ -103,11 +104,15 @@ def as_maps(maps: Iterable[Map]) -> List[Map]:
     found = list(maps)
     for k, lists in enumerate(found, 1):
         _no_networkx(lists, "from_networkx(embedding)[0] is a map of a PlanarEmbedding")
-        if not isinstance(lists, (list, tuple)) or not all(isinstance(us, (list, tuple)) for us in lists):
-            is_map = isinstance(lists, (list, tuple)) and all(isinstance(u, int) for u in lists)
+        if not _is_list(lists) or not all(_is_list(us) for us in lists):
+            is_map = _is_list(lists) and all(isinstance(u, int) for u in lists)
             hint = ": give a list of maps, as [lists] for one" if is_map else ""
             raise ValueError(f"map {k} is no list with a list of neighbours for each vertex{hint}")
     return found
+
+
+def _is_list(value: object) -> bool:
+    return isinstance(value, SequenceType) and not isinstance(value, (str, bytes))
 
 
 def _no_networkx(value: object, hint: str) -> None:
@@ -155,12 +160,19 @@ def read_graph6(line: str) -> Tuple[int, List[Edge]]:
     return n, [pair for pair, bit in zip(pairs, bits) if bit]
 
 
-def check_line(line: str) -> None:
-    """Raises ValueError where a line of graph6 has a header or a line end, which are none of the line's own."""
+def check_line(line: str, most: int = 258047) -> None:
+    """Raises ValueError where a line of graph6 has a header or a line end, which are none of the line's own.
+
+    It does so too where the line says that its graph has more than `most` vertices.
+    """
     if line.startswith(">>"):
         raise ValueError(f"the line begins by a header: give what stands behind {line[:line.find('<<') + 2] or '>>'}")
     if line[-1:] in ("\n", "\r"):
         raise ValueError("the line has its line end: give line.strip()")
+    if re.match("~[?-}]..", line):
+        count = sum((ord(c) - 63) << k for c, k in zip(line[1:4], (12, 6, 0)))
+        if count > most:
+            raise ValueError(f"the line has a graph of {count} vertices: at most {most} are read")
 
 
 def write_graph6(graph: Graph) -> str:
@@ -189,11 +201,13 @@ def write_graph6(graph: Graph) -> str:
 
 def pair_of(edge: Sequence[Any]) -> Tuple[Any, Any]:
     """The ends of an edge. Raises ValueError where it is no pair, as those of networkx with keys or data."""
-    if not isinstance(edge, (list, tuple)) or len(edge) != 2:
-        more = isinstance(edge, (list, tuple)) and len(edge) > 2
-        hint = ": give graph.edges() without data and keys" if more else ""
-        raise ValueError(f"an edge is a pair of vertices, and not {str(edge)[:60]}{hint}")
-    return edge[0], edge[1]
+    try:
+        u, v = edge
+    except (TypeError, ValueError) as fault:
+        more = isinstance(edge, tuple) and len(edge) > 2
+        hint = ": give the graph's edges without data, keys and labels" if more else ""
+        raise ValueError(f"an edge is a pair of vertices, and not {str(edge)[:60]}{hint}") from fault
+    return u, v
 
 
 # What the program writes

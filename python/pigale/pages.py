@@ -70,7 +70,7 @@ def pages(result: Run, figures: Sequence[Figure] = (), side: Optional[float] = N
     answers = result.answers
     cuts = _cuts([not _is_folded(answer, figures) for answer in answers], cards)
     for k, (start, end) in enumerate(zip(cuts, cuts[1:])):
-        yield _page(result, answers[start:end], start, figures, side, labels, style, _nav(k, len(cuts) - 1))
+        yield _page(result, answers[start:end], start, figures, side, labels, style, _nav(k, cuts))
 
 
 def page_name(k: int) -> str:
@@ -94,12 +94,14 @@ def _cuts(has_card: Sequence[bool], cards: int) -> List[int]:
     return [*cuts, len(has_card)]
 
 
-def _nav(k: int, count: int) -> str:
+def _nav(k: int, cuts: Sequence[int]) -> str:
+    """The links on page k of those that begin at these places in the answers."""
+    count = len(cuts) - 1
     if count < 2:
         return ""
     shown = sorted({0, count - 1, *range(max(0, k - 4), min(count, k + 5))})
     links = [f"<b>{i + 1}</b>" if i == k else f'<a href="{page_name(i)}">{i + 1}</a>' for i in shown]
-    return f"<nav>Page {' '.join(links)} of {count}</nav>\n"
+    return f"<nav>Page {' '.join(links)} of {count}: answers {cuts[k] + 1:,} to {cuts[k + 1]:,}</nav>\n"
 
 
 def _page(result: Run, answers: Sequence[Answer], start: int, figures: Sequence[Figure], side: Optional[float],

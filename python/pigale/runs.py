@@ -119,7 +119,7 @@ def _lines(graphs: Iterable[Union[str, Graph]]) -> Iterable[str]:
     for k, graph in enumerate(graphs, 1):
         try:
             if isinstance(graph, str):
-                check_line(graph)
+                check_line(graph, MOST_EMBEDDED)
                 yield graph
                 continue
             line = write_graph6(graph)
