@@ -145,7 +145,8 @@ def _caption(figure: Figure) -> str:
     if isinstance(figure, WitnessFigure):
         kind = {"K5": "K5", "K33": "K3,3"}[figure.kind]
         return f"{figure.number}: a subdivision of {kind} in {figure.graph6}"
-    return f"{figure.number}: {figure.job}, {len(figure.lists)} vertices, {len(edges_of(figure.lists))} edges"
+    vertices, edges = len(figure.lists), len(edges_of(figure.lists))
+    return f"{figure.number}: {figure.job}, {vertices} {'vertex' if vertices == 1 else 'vertices'}, {edges} edge{'s' * (edges != 1)}"
 
 
 def _card(caption: str, figure: Optional[Figure], side: Optional[float], labels: bool, style: Style, kind: str = "") -> str:

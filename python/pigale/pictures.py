@@ -454,7 +454,7 @@ def _witness_sketch(figure: WitnessFigure, look: Look) -> Sketch:
         lists[v - 1].append(u)
     half = figure.branches[:3] if figure.kind == "K33" else figure.branches
     colours = ["even" if v in half else "odd" if v in figure.branches else "dot" for v in range(1, count + 1)]
-    return (*box, _joined(body + _dots(dots, lists, edges, look, colours)))
+    return (*box, _joined(body + _dots(dots, lists, own, look, colours)))
 
 
 def _witness_places(figure: WitnessFigure, count: int) -> Dict[int, Dot]:
