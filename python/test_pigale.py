@@ -511,10 +511,9 @@ class Package(unittest.TestCase):
             return file.read()
 
     def test_one_version(self):
-        for found in (self.text("CITATION.cff").split("\nversion: ")[1].split("\n")[0],
-                      self.text("pyproject.toml").split('\nversion = "')[1].split('"')[0],
-                      self.text("release", "MANIFEST").split("version ")[1].split("\n")[0]):
-            self.assertEqual(found, pigale.__version__)
+        for line, path in ((f"version: {pigale.__version__}", ["CITATION.cff"]), (f'version = "{pigale.__version__}"', ["pyproject.toml"]),
+                           (f"version {pigale.__version__}", ["release", "MANIFEST"])):
+            self.assertIn(line, self.text(*path).split("\n"), path)
 
     def test_all_names(self):
         self.assertEqual(sorted(pigale.__all__), pigale.__all__)
