@@ -63,7 +63,8 @@ fn is_seen(fig: &BarFigure, tops: &[u16], h: u16, x: i32, u: VertexId) -> bool
     height < i32::from(h) && is_at_top(tops, x, height)
 }
 
-// Marks a dart of the vertex at height `h`, where its edge leads down and no bar is in its way.
+// Marks a dart of the vertex at height `h`, where its edge leads down and no bar is in its way. A dart beyond the
+// tables gets no mark, so its column is not looked for.
 fn mark_if_seen(
     map: &HalfMap,
     fig: &BarFigure,
@@ -82,6 +83,9 @@ fn mark_if_seen(
     requires clear { AreClear map.now fig.now clear.old }
     ensures { AreClear map.now fig.now clear.new }
 {
+    if (d.0 as usize) >= clear.len() || (d.0 as usize) >= columns.len() {
+        return;
+    }
     let x = column_at(map, fig, columns, d);
     if is_seen(fig, tops, h, x, map.head(d)) {
         mark(clear, d);
