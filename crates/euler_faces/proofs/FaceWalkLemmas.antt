@@ -6,17 +6,19 @@ use Rattle.std.proofs.lemmas.List.{length_push, get_or_push, get_or_past, get_or
 use Rattle.std.proofs.lemmas.List.Elements.{Contains-get_or}
 use Rattle.classes.specs.Classes.{image, label, orbits, same_class}
 use Rattle.map_theory.specs.Maps.{dart_count, face_images, face_step, face_classes}
-use Rattle.classes.proofs.Classes.{Together, same_class-from}
+use Rattle.classes.proofs.Classes.{IsLabels, Together, same_class-from}
 use Rattle.classes.proofs.Orbits.{length-orbits, IsLabels-orbits, IsPermuting-image, orbits-closed_marks}
 use Rattle.map_theory.proofs.DartLemmas.{length-face_images, IsPermutationOfBelow-face_images}
-use Rattle.classes.proofs.Marks.{KeepsMarks, SetsMark, IsCounting}
+use Rattle.classes.proofs.Marks.{KeepsMarks, SetsMark, IsCounting, IsCounting-none, IsCounting-new, IsCounting-old, IsCounting-le, KeepsMarks-counting}
 use Rattle.classes.proofs.Walks.{walk, visited, visited_at, visited-walk, walk_apart, walk-together, visited_is_orbit}
-use Rattle.half_edges.specs.Map.{Map, IsHalfMap, IsLive, dart_at}
+use Rattle.half_edges.specs.Map.{Map, IsHalfMap, IsLive, dart_at, id_bound}
 use Rattle.map_lists.specs.declared.ids.DartId.{DartId}
-use Rattle.euler_faces.specs.Numbers.{number_at, id_of}
+use Rattle.euler_faces.specs.Numbers.{number_at, id_of, mark_at, mark_of}
+use Rattle.euler_faces.specs.Search.{IsNumberedBy}
 use Rattle.euler_faces.specs.FaceWalks.{ids_of, walk_at, first_number, AreFaces}
-use Rattle.euler_faces.specs.FaceSearch.{IsWholeWalk, AreWalksBelow}
-use Rattle.euler_faces.proofs.NumberLemmas.{some_of, number_at-is, id_of-number, number_at-lt, face_step-number}
+use Rattle.euler_faces.specs.FaceSearch.{IsWholeWalk, AreWalksBelow, AreWalked, no_face, with_face}
+use Rattle.euler_faces.proofs.NumberLemmas.{some_of, number_at-is, id_of-number, number_at-lt, face_step-number, live-lt, mark_of-number, few_darts}
+use Rattle.euler_faces.proofs.SearchLemmas.{met as has_number}
 
 -- ---- entries of a list, and what stands behind it
 -- with one entry more, behind which y stands, the entries are as before
@@ -331,6 +333,80 @@ AreWalksBelow-all map h walks n w e =
     label_in f d l c =
         ap (λ z. label (face_classes map.lists) (number_at map z)) (sym (get_or_default (walk_at walks f) c.0 0 d c.1 ∙ c.2)) ∙ (w.each f l).labels c.0 c.1
 
+-- ---- faces by their numbers
+module _ (map : Map) (h : IsHalfMap map) where
+  -- no dart has a face yet
+  pub AreWalked-none : (of : List ℕ) → length of ≡ id_bound map → ((i : ℕ) → mark_at (with_face of) i ≡ false) → AreWalked map [] of 0
+  AreWalked-none of size off = record {
+    size = size;
+    counting = IsCounting-none (face_classes map.lists) (mark_of map (with_face of)) (λ i l. off (id_of map i));
+    walked = AreWalksBelow-none map;
+    placed = λ f i l m. absurd (omega arith);
+  }
+
+  module _ (walks : List (List ℕ)) (of : List ℕ) (d : ℕ) (live : IsLive map d) (w : AreWalked map walks of (number_at map d)) where
+    labels_long : number_at map d < length (face_classes map.lists)
+    labels_long =
+        let n = length-face_images map.lists in
+        let o = length-orbits (face_images map.lists) in
+        omega (arith, number_at-lt map h d live)
+
+    are_labels : IsLabels (face_classes map.lists)
+    are_labels = IsLabels-orbits (face_images map.lists) (IsPermutationOfBelow-face_images map.lists h.simple).within
+
+    seen : mark_of map (with_face of) (number_at map d) ≡ mark_at (with_face of) d
+    seen = mark_of-number map h (with_face of) d live
+
+    -- fewer faces than stand for none
+    pub few_walked : length walks < no_face
+    few_walked = omega (arith, IsCounting-le _ _ _ _ w.counting, number_at-lt map h d live, few_darts map h)
+
+    -- the darts with a face are those of whole faces
+    pub keeps_walked : KeepsMarks (face_images map.lists) (mark_of map (with_face of))
+    keeps_walked = KeepsMarks-counting (face_images map.lists) (mark_of map (with_face of)) (length walks) (number_at map d) (IsPermutationOfBelow-face_images map.lists h.simple) w.counting
+
+    -- a dart without a face is the least of its own
+    pub least_walked : mark_at (with_face of) d ≡ false → label (face_classes map.lists) (number_at map d) ≡ number_at map d
+    least_walked off =
+        least_where_unmarked map h (mark_of map (with_face of)) (length walks) (number_at map d) (number_at-lt map h d live) w.counting (seen ∙ off)
+
+    -- a dart that has a face changes nothing
+    pub AreWalked-old : mark_at (with_face of) d ≡ true → AreWalked map walks of (number_at map d + 1)
+    AreWalked-old on = record {
+      size = w.size;
+      counting = IsCounting-old (face_classes map.lists) (mark_of map (with_face of)) (length walks) (number_at map d) _ are_labels w.counting labels_long (seen ∙ on) refl;
+      walked = AreWalksBelow-old map walks (number_at map d) _ w.walked (other_where_marked map h (mark_of map (with_face of)) (length walks) (number_at map d) (number_at-lt map h d live) w.counting (seen ∙ on)) refl;
+      placed = w.placed;
+    }
+
+    -- a face is walked
+    pub AreWalked-new : (walk of' : List ℕ) → mark_at (with_face of) d ≡ false → length of' ≡ length of → ((i : ℕ) → i < dart_count map.lists → mark_of map (with_face of') i ≡ (mark_of map (with_face of) i || same_class (face_classes map.lists) (number_at map d) i)) → IsWholeWalk map walk (number_at map d) → IsNumberedBy no_face of of' (length walks) → ((i : ℕ) → i < length walk → get_or of' (get_or walk i 0) 0 ≡ length walks) → AreWalked map (walks ++ walk ∷ []) of' (number_at map d + 1)
+    AreWalked-new walk of' off size marks whole numbered here =
+        let long = length_push walks walk in
+        let n = length-face_images map.lists in
+        let o = length-orbits (face_images map.lists) in
+        let counting : IsCounting (face_classes map.lists) (mark_of map (with_face of')) (length walks + 1) (number_at map d + 1) =
+        IsCounting-new (face_classes map.lists) (mark_of map (with_face of)) (mark_of map (with_face of')) (length walks) (number_at map d) _ are_labels w.counting labels_long (seen ∙ off) (λ y m. marks y (omega arith)) refl in
+        record {
+          size = size ∙ w.size;
+          counting = rw long counting;
+          walked = AreWalksBelow-new map walks walk (number_at map d) _ w.walked whole refl;
+          placed = λ f i l m. elim (cases_lt f (length walks)) [
+            | inl k ↦
+                let same : walk_at walks f ≡ walk_at (walks ++ walk ∷ []) f = sym (get_or_append_left walks (walk ∷ []) [] f k) in
+                let i_in : i < length (walk_at walks f) = omega (arith, m, ap (λ (ids : List ℕ). length ids) same) in
+                let e = get_or (walk_at walks f) i 0 in
+                let old : get_or of e 0 ≡ f = w.placed f i k i_in in
+                let on : mark_at (with_face of) e ≡ true =
+                has_number no_face of e (omega (arith, w.size, live-lt map h e ((w.walked.each f k).is_walk.live i i_in))) (λ q. absurd (omega (arith, q, old, k, few_walked))) in
+                ap (λ (ids : List ℕ). get_or of' (get_or ids i 0) 0) (sym same) ∙ (numbered.stays e on ∙ old)
+            | inr k ↦
+                let last : f ≡ length walks = omega arith in
+                let same : walk ≡ walk_at (walks ++ walk ∷ []) f = sym (get_or_push walks walk [] f (sym last)) in
+                ap (λ (ids : List ℕ). get_or of' (get_or ids i 0) 0) (sym same) ∙ (here i (omega (arith, m, ap (λ (ids : List ℕ). length ids) same)) ∙ sym last)
+          ];
+        }
+
 -- ---- numbers of faces
 -- the numbers of ids, one by one
 pub get_or-ids_of : (ds : List DartId) (i : ℕ) → i < length ds → get_or (ids_of ds) i 0 ≡ (get_or ds i (record { 0 = 0 })).0
@@ -345,19 +421,14 @@ stands walks f ds e k d l =
     let at = Contains-get_or (ids_of ds) k 0 (omega (arith, length-ids_of ds)) in
     subst (λ ids. Contains ids (get_or ds k d).0) e (subst (Contains (ids_of ds)) (get_or-map (λ (x : DartId). x.0) ds k d 0 l) at)
 
--- the number f written at one entry more
-pub here_more : (of ids : List ℕ) (k f x : ℕ) → x < length of → get_or ids k 0 ≡ x → ((i : ℕ) → i < k → get_or of (get_or ids i 0) 0 ≡ f) → (i : ℕ) → i < k + 1 → get_or (set of x f) (get_or ids i 0) 0 ≡ f
-here_more of ids k f x l e h i m =
-    elim (cases_eq (get_or ids i 0) x) [
-      | inl q ↦ ap (λ y. get_or (set of x f) y 0) q ∙ get_or-set_same of x f 0 l
+-- the number f is written at one dart more, and stands at each dart of the walk
+pub here_more : (of : List ℕ) (ids : List ℕ) (f d : ℕ) → d < length of → ((i : ℕ) → i < length ids → get_or of (get_or ids i 0) 0 ≡ f) → (i : ℕ) → i < length (ids ++ d ∷ []) → get_or (set of d f) (get_or (ids ++ d ∷ []) i 0) 0 ≡ f
+here_more of ids f d l h i m =
+    elim (cases_eq (get_or (ids ++ d ∷ []) i 0) d) [
+      | inl q ↦ ap (λ y. get_or (set of d f) y 0) q ∙ get_or-set_same of d f 0 l
       | inr ne ↦
-          get_or-set_other of x (get_or ids i 0) f 0 ne ∙ elim (cases_lt i k) [
-            | inl m' ↦ h i m'
-            | inr m' ↦ absurd (let q : i ≡ k = omega arith in ne (ap (λ j. get_or ids j 0) q ∙ e))
+          get_or-set_other of d (get_or (ids ++ d ∷ []) i 0) f 0 ne ∙ elim (cases_lt i (length ids)) [
+            | inl k ↦ ap (λ y. get_or of y 0) (get_or_append_left ids (d ∷ []) 0 i k) ∙ h i k
+            | inr k ↦ absurd (let q : i ≡ length ids = omega (arith, length_push ids d) in ne (get_or_push ids d 0 i (sym q)))
           ]
     ]
-
--- changes nothing at what is no entry
-pub elsewhere_more : (of old ids : List ℕ) (k f x : ℕ) → k < length ids → get_or ids k 0 ≡ x → (y : ℕ) → ¬ Contains ids y → get_or of y 0 ≡ get_or old y 0 → get_or (set of x f) y 0 ≡ get_or old y 0
-elsewhere_more of old ids k f x l e y off h =
-    get_or-set_other of x y f 0 (λ q. off (subst (Contains ids) (e ∙ sym q) (Contains-get_or ids k 0 l))) ∙ h

@@ -2,7 +2,7 @@
 use Rattle.std.proofs.Common.{◌≡◌, ◌≢◌, ◌||◌, ℕ, zero, suc, ◌+◌, ◌-◌, ◌<◌, ◌≤◌, Bool, true, false, not, List, [], ◌∷◌, ◌++◌, length, set, get_or, refl, sym, ap, ◌∙◌, subst, inl, inr, arith, get_or-set_same, get_or-set_other, take, replicate, ◌==◌}
 use Rattle.std.proofs.lemmas.List.{get_or_default, get_or-map, map-set, length-map}
 use Rattle.std.proofs.Math.Seq.{take-nil}
-use Rattle.std.proofs.lemmas.Bool.{cases_Bool, cases_eq, or_left, or_right, false≢true, false_from_ne_true, ne_eqb, ltb-false}
+use Rattle.std.proofs.lemmas.Bool.{cases_Bool, cases_eq, eq-eqb, or_left, or_right, false≢true, false_from_ne_true, ne_eqb, ltb-false}
 use Rattle.std.specs.List.{All}
 use Rattle.classes.specs.Classes.{count_below, label, same_class}
 use Rattle.map_lists.specs.Lists.{Lists}
@@ -15,7 +15,7 @@ use Rattle.simple_maps.proofs.FlatLemmas.{entry-is, end-is}
 use Rattle.map_theory.proofs.DartLemmas.{HasDart-at, IsDartNumber-darts, length-darts, get_or-dart_number, dart_number-lt}
 use Rattle.classes.proofs.Marks.{IsCounting, IsCounting-together, IsCounting-old}
 use Rattle.euler_faces.specs.Numbers.{mark_at}
-use Rattle.euler_faces.specs.Search.{AllMarked, IsSearching, IsNumbered, component_number, marks_of, unmarked_below, None_open}
+use Rattle.euler_faces.specs.Search.{AllMarked, IsSearching, IsNumbered, IsNumberedBy, component_number, marks_by, marks_of, unmarked_below, None_open}
 
 -- a mark set leaves one fewer to set
 pub unmarked_below-set : (marked : List Bool) (w n : ℕ) → w < n → w < length marked → mark_at marked w ≡ false → unmarked_below marked n ≡ unmarked_below (set marked w true) n + 1
@@ -72,52 +72,52 @@ set-keeps marked w x l on =
     ]
 
 -- a number given is a mark set
-pub marks-set : (numbers : List ℕ) (w number : ℕ) → number < 65535 → marks_of (set numbers w number) ≡ set (marks_of numbers) w true
-marks-set numbers w number few =
-    map-set (λ x. not (x == 65535)) numbers w number
-    ∙ ap (λ b. set (marks_of numbers) w (not b)) (ne_eqb number 65535 (omega arith))
+pub marks-set : (none : ℕ) (numbers : List ℕ) (w number : ℕ) → number < none → marks_by none (set numbers w number) ≡ set (marks_by none numbers) w true
+marks-set none numbers w number few =
+    map-set (λ x. not (x == none)) numbers w number
+    ∙ ap (λ b. set (marks_by none numbers) w (not b)) (ne_eqb number none (omega arith))
 
-pub length-marks_of : (numbers : List ℕ) → length (marks_of numbers) ≡ length numbers
-length-marks_of numbers = length-map numbers (λ x. not (x == 65535))
+pub length-marks_of : (none : ℕ) (numbers : List ℕ) → length (marks_by none numbers) ≡ length numbers
+length-marks_of none numbers = length-map numbers (λ x. not (x == none))
 
--- a vertex has 65535 for its number where it has none
-pub unmet : (numbers : List ℕ) (w : ℕ) → w < length numbers → get_or numbers w 0 ≡ 65535 → mark_at (marks_of numbers) w ≡ false
-unmet numbers w l e = get_or-map (λ x. not (x == 65535)) numbers w 0 false l ∙ ap (λ x. not (x == 65535)) e
+-- a vertex has none for its number where it has none
+pub unmet : (none : ℕ) (numbers : List ℕ) (w : ℕ) → w < length numbers → get_or numbers w 0 ≡ none → mark_at (marks_by none numbers) w ≡ false
+unmet none numbers w l e = get_or-map (λ x. not (x == none)) numbers w 0 false l ∙ ap not (eq-eqb (get_or numbers w 0) none e)
 
-pub met : (numbers : List ℕ) (w : ℕ) → w < length numbers → get_or numbers w 0 ≢ 65535 → mark_at (marks_of numbers) w ≡ true
-met numbers w l ne = get_or-map (λ x. not (x == 65535)) numbers w 0 false l ∙ ap not (ne_eqb (get_or numbers w 0) 65535 ne)
+pub met : (none : ℕ) (numbers : List ℕ) (w : ℕ) → w < length numbers → get_or numbers w 0 ≢ none → mark_at (marks_by none numbers) w ≡ true
+met none numbers w l ne = get_or-map (λ x. not (x == none)) numbers w 0 false l ∙ ap not (ne_eqb (get_or numbers w 0) none ne)
 
 -- where no vertex has a number none is marked
-unset : (n u : ℕ) → mark_at (marks_of (replicate n 65535)) u ≡ false
-unset zero u = refl
-unset (suc n) zero = refl
-unset (suc n) (suc u) = unset n u
+pub unset : (none n u : ℕ) → mark_at (marks_by none (replicate n none)) u ≡ false
+unset none zero u = refl
+unset none (suc n) zero = ap not (eq-eqb none none refl)
+unset none (suc n) (suc u) = unset none n u
 
-pub unset_after : (old items : List ℕ) (n k u : ℕ) → old ≡ [] → items ≡ take n old ++ replicate k 65535 → mark_at (marks_of items) u ≡ false
-unset_after old items n k u none e = rw (e, none, take-nil) (unset k u)
+pub unset_after : (none : ℕ) (old items : List ℕ) (n k u : ℕ) → old ≡ [] → items ≡ take n old ++ replicate k none → mark_at (marks_by none items) u ≡ false
+unset_after none old items n k u empty e = rw (e, empty, take-nil) (unset none k u)
 
 -- one vertex gets the number
-pub IsNumbered-set : (numbers : List ℕ) (w number : ℕ) → number < 65535 → w < length numbers → mark_at (marks_of numbers) w ≡ false → IsNumbered numbers (set numbers w number) number
-IsNumbered-set numbers w number few l off =
-    let e = marks-set numbers w number few in
+pub IsNumbered-set : (none : ℕ) (numbers : List ℕ) (w number : ℕ) → number < none → w < length numbers → mark_at (marks_by none numbers) w ≡ false → IsNumberedBy none numbers (set numbers w number) number
+IsNumbered-set none numbers w number few l off =
+    let e = marks-set none numbers w number few in
     record {
-      marked = λ u t. rw e (set-keeps (marks_of numbers) w u (omega (arith, length-marks_of numbers)) t);
+      marked = λ u t. rw e (set-keeps (marks_by none numbers) w u (omega (arith, length-marks_of none numbers)) t);
       stays = λ u t. elim (cases_eq u w) [
-        | inl q ↦ absurd (false≢true (sym off ∙ (ap (mark_at (marks_of numbers)) (sym q) ∙ t)))
+        | inl q ↦ absurd (false≢true (sym off ∙ (ap (mark_at (marks_by none numbers)) (sym q) ∙ t)))
         | inr ne ↦ get_or-set_other numbers w u number 0 ne
       ];
       here = λ u f t. elim (cases_eq u w) [
         | inl q ↦ ap (λ i. get_or (set numbers w number) i 0) q ∙ get_or-set_same numbers w number 0 l
-        | inr ne ↦ absurd (false≢true (sym f ∙ (sym (get_or-set_other (marks_of numbers) w u true false ne) ∙ rw e at t)))
+        | inr ne ↦ absurd (false≢true (sym f ∙ (sym (get_or-set_other (marks_by none numbers) w u true false ne) ∙ rw e at t)))
       ];
     }
 
 -- and more get it
-pub IsNumbered-chained : (one two three : List ℕ) (number : ℕ) → IsNumbered one two number → IsNumbered two three number → IsNumbered one three number
-IsNumbered-chained one two three number h h' = record {
+pub IsNumbered-chained : (none : ℕ) (one two three : List ℕ) (number : ℕ) → IsNumberedBy none one two number → IsNumberedBy none two three number → IsNumberedBy none one three number
+IsNumbered-chained none one two three number h h' = record {
   marked = λ u t. h'.marked u (h.marked u t);
   stays = λ u t. h'.stays u (h.marked u t) ∙ h.stays u t;
-  here = λ u f t. elim (cases_Bool (mark_at (marks_of two) u)) [
+  here = λ u f t. elim (cases_Bool (mark_at (marks_by none two) u)) [
     | inl on ↦ h'.stays u on ∙ h.here u f on
     | inr off ↦ h'.here u off t
   ];

@@ -29,15 +29,22 @@ unmarked_below marked n = count_below (λ u. not (mark_at marked u)) n
 abbrev pub None_open : ℕ → Type 0
 None_open u = ⊥
 
--- which vertices have a number: 65535 stands where one has none
-abbrev pub marks_of : List ℕ → List Bool
-marks_of numbers = map (λ x. not (x == 65535)) numbers
+-- which entries have a number, where `none` stands at one that has none
+abbrev pub marks_by : ℕ → List ℕ → List Bool
+marks_by none numbers = map (λ x. not (x == none)) numbers
 
--- some vertices more have this number, and all others are as they were
-pub record IsNumbered (old new : List ℕ) (number : ℕ) : Type 0 where
-  pub marked : (u : ℕ) → mark_at (marks_of old) u ≡ true → mark_at (marks_of new) u ≡ true
-  pub stays : (u : ℕ) → mark_at (marks_of old) u ≡ true → slice_index new u ≡ slice_index old u
-  pub here : (u : ℕ) → mark_at (marks_of old) u ≡ false → mark_at (marks_of new) u ≡ true → slice_index new u ≡ number
+-- some entries more have this number, and all others are as they were
+pub record IsNumberedBy (none : ℕ) (old new : List ℕ) (number : ℕ) : Type 0 where
+  pub marked : (u : ℕ) → mark_at (marks_by none old) u ≡ true → mark_at (marks_by none new) u ≡ true
+  pub stays : (u : ℕ) → mark_at (marks_by none old) u ≡ true → slice_index new u ≡ slice_index old u
+  pub here : (u : ℕ) → mark_at (marks_by none old) u ≡ false → mark_at (marks_by none new) u ≡ true → slice_index new u ≡ number
+
+-- of the numbers of vertices 65535 is none
+abbrev pub marks_of : List ℕ → List Bool
+marks_of numbers = marks_by 65535 numbers
+
+abbrev pub IsNumbered : List ℕ → List ℕ → ℕ → Type 0
+IsNumbered old new number = IsNumberedBy 65535 old new number
 
 -- the number of v's component: how many components have a lesser least vertex
 abbrev pub component_number : Lists → ℕ → ℕ

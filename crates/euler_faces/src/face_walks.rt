@@ -1,66 +1,71 @@
 //! The faces of a map, each as a walk along the face step.
-ghost use Rattle.std.specs.Prelude.{◌≡◌, ◌<◌, ◌≤◌, ◌+◌, ◌*◌, ◌^◌, ◌||◌, ℕ, List, [], length, false, Some, IfOk, OnOk, slice_index, Contains};
-ghost use Rattle.classes.specs.Classes.{class_count, label, orbits, same_class};
-ghost use Rattle.map_theory.specs.Maps.{edge_count, dart_count, darts_before, face_images, list_of, face_classes};
-ghost use Rattle.classes.proofs.Marks.{IsCounting, KeepsMarks};
+ghost use Rattle.std.specs.Prelude.{◌≡◌, ◌<◌, ◌+◌, ◌||◌, ℕ, [], length, false, Some, IfOk, OnOk, slice_index};
+ghost use Rattle.classes.specs.Classes.{class_count, label, same_class};
+ghost use Rattle.map_theory.specs.Maps.{dart_count, darts_before, face_images, list_of, face_classes};
+ghost use Rattle.classes.proofs.Marks.{KeepsMarks};
 ghost use Rattle.half_edges.specs.Map.{IsHalfMap, IsLive, dart_at, id_bound};
 ghost use Rattle.euler_faces.specs.Numbers.{number_at, mark_at, mark_of};
-ghost use Rattle.euler_faces.specs.FaceWalks.{AreFaces, AreNumbered, walk_at, ids_of};
-ghost use Rattle.euler_faces.specs.FaceSearch.{IsWholeWalk, AreWalksBelow};
+ghost use Rattle.euler_faces.specs.Search.{IsNumberedBy};
+ghost use Rattle.euler_faces.specs.FaceWalks.{AreFaces, AreNumbered};
+ghost use Rattle.euler_faces.specs.FaceSearch.{IsWholeWalk, AreWalked, no_face, with_face};
 
 use crate::walks::{Faces, Walk};
 use half_edges::{DartId, HalfMap, VertexId};
 use std::alloc::{AllocError, Global};
 
-// The walk along the face of `start`, whose darts it marks; `start` is the face's least dart, and the
-// faces marked so far are marked whole.
+// What stands in place of the face of a dart that was not met yet.
+const NO_FACE: u32 = u32::MAX;
+
+// Returns the walk along the face of `start`, and writes the number `f` at its darts; `start` is the face's least
+// dart, and the faces met so far have their numbers at all their darts.
 fn walk_face(
     alloc: Global,
     map: &HalfMap,
-    marked: &mut [bool],
+    of: &mut [u32],
     start: DartId,
+    f: u32,
 ) -> Result<Walk, AllocError>
     requires known { IsHalfMap map.now }
     requires live { IsLive map.now start.0 }
-    requires marks { length marked.old ≡ id_bound map.now }
-    requires kept { KeepsMarks (face_images map.now.lists) (mark_of map.now marked.old) }
-    requires unmarked { mark_at marked.old start.0 ≡ false }
+    requires size { length of.old ≡ id_bound map.now }
+    requires number { f < no_face }
+    requires kept { KeepsMarks (face_images map.now.lists) (mark_of map.now (with_face of.old)) }
+    requires unmarked { mark_at (with_face of.old) start.0 ≡ false }
     requires least { label (face_classes map.now.lists) (number_at map.now start.0) ≡ number_at map.now start.0 }
-    ensures marked { OnOk result ((i : ℕ) → i < dart_count map.now.lists → mark_of map.now marked.new i
-        ≡ (mark_of map.now marked.old i || same_class (face_classes map.now.lists) (number_at map.now start.0) i)) }
+    ensures marked { OnOk result ((i : ℕ) → i < dart_count map.now.lists → mark_of map.now (with_face of.new) i
+        ≡ (mark_of map.now (with_face of.old) i || same_class (face_classes map.now.lists) (number_at map.now start.0) i)) }
     ensures walk { IfOk result (λ walk. IsWholeWalk map.now walk (number_at map.now start.0)) }
+    ensures numbered { OnOk result (IsNumberedBy no_face of.old of.new f) }
+    ensures here { IfOk result (λ walk. (i : ℕ) → i < length walk → slice_index of.new (slice_index walk i) ≡ f) }
 {
     let mut walk = Walk::new(alloc);
     let mut d = start;
-    while !marked[d.0 as usize] {
-        marked[d.0 as usize] = true;
+    while of[d.0 as usize] == NO_FACE {
+        of[d.0 as usize] = f;
         walk.push(d)?;
         d = map.face_step(d);
     }
     Ok(walk)
 }
 
-// Walks the face of a dart where the dart is the least of its face: where it is not marked, and the
-// faces of the darts before are.
+// Walks the face of a dart where the dart is the least of its face: where it has no face yet, and those of the
+// darts before have.
 fn add_dart(
     alloc: Global,
     map: &HalfMap,
-    marked: &mut [bool],
+    of: &mut [u32],
     d: DartId,
     walks: &mut Vec<Walk>,
 ) -> Result<(), AllocError>
     requires known { IsHalfMap map.now }
     requires live { IsLive map.now d.0 }
-    requires marks { length marked.old ≡ id_bound map.now }
-    requires counting { IsCounting (face_classes map.now.lists) (mark_of map.now marked.old) (length walks.old.items) (number_at map.now d.0) }
-    requires walks { AreWalksBelow map.now walks.old.items (number_at map.now d.0) }
-    ensures counting { OnOk result (IsCounting (face_classes map.now.lists) (mark_of map.now marked.new) (length walks.new.items) (number_at map.now d.0 + 1)) }
-    ensures walks { OnOk result (AreWalksBelow map.now walks.new.items (number_at map.now d.0 + 1)) }
+    requires walking { AreWalked map.now walks.old.items of.old (number_at map.now d.0) }
+    ensures { OnOk result (AreWalked map.now walks.new.items of.new (number_at map.now d.0 + 1)) }
 {
-    if marked[d.0 as usize] {
+    if of[d.0 as usize] != NO_FACE {
         return Ok(());
     }
-    let walk = walk_face(alloc, map, marked, d)?;
+    let walk = walk_face(alloc, map, of, d, walks.len() as u32)?;
     walks.push(walk)?;
     Ok(())
 }
@@ -69,22 +74,19 @@ fn add_dart(
 fn add_round(
     alloc: Global,
     map: &HalfMap,
-    marked: &mut [bool],
+    of: &mut [u32],
     v: VertexId,
     first: DartId,
     walks: &mut Vec<Walk>,
 ) -> Result<(), AllocError>
     requires known { IsHalfMap map.now }
     requires first { dart_at map.now first.0 ≡ Some (v.0, slice_index (list_of map.now.lists v.0) 0) }
-    requires marks { length marked.old ≡ id_bound map.now }
-    requires counting { IsCounting (face_classes map.now.lists) (mark_of map.now marked.old) (length walks.old.items) (darts_before map.now.lists v.0) }
-    requires walks { AreWalksBelow map.now walks.old.items (darts_before map.now.lists v.0) }
-    ensures counting { OnOk result (IsCounting (face_classes map.now.lists) (mark_of map.now marked.new) (length walks.new.items) (darts_before map.now.lists (v.0 + 1))) }
-    ensures walks { OnOk result (AreWalksBelow map.now walks.new.items (darts_before map.now.lists (v.0 + 1))) }
+    requires walking { AreWalked map.now walks.old.items of.old (darts_before map.now.lists v.0) }
+    ensures { OnOk result (AreWalked map.now walks.new.items of.new (darts_before map.now.lists (v.0 + 1))) }
 {
     let mut d = first;
     'round: loop {
-        add_dart(alloc, map, marked, d, walks)?;
+        add_dart(alloc, map, of, d, walks)?;
         d = map.next(d);
         if d.0 == first.0 {
             return Ok(());
@@ -96,66 +98,40 @@ fn add_round(
 fn add_vertex(
     alloc: Global,
     map: &HalfMap,
-    marked: &mut [bool],
+    of: &mut [u32],
     v: VertexId,
     walks: &mut Vec<Walk>,
 ) -> Result<(), AllocError>
     requires known { IsHalfMap map.now }
     requires v_in { v.0 < length map.now.lists }
-    requires marks { length marked.old ≡ id_bound map.now }
-    requires counting { IsCounting (face_classes map.now.lists) (mark_of map.now marked.old) (length walks.old.items) (darts_before map.now.lists v.0) }
-    requires walks { AreWalksBelow map.now walks.old.items (darts_before map.now.lists v.0) }
-    ensures counting { OnOk result (IsCounting (face_classes map.now.lists) (mark_of map.now marked.new) (length walks.new.items) (darts_before map.now.lists (v.0 + 1))) }
-    ensures walks { OnOk result (AreWalksBelow map.now walks.new.items (darts_before map.now.lists (v.0 + 1))) }
+    requires walking { AreWalked map.now walks.old.items of.old (darts_before map.now.lists v.0) }
+    ensures { OnOk result (AreWalked map.now walks.new.items of.new (darts_before map.now.lists (v.0 + 1))) }
 {
     match map.first_dart(v) {
-        Some(first) => add_round(alloc, map, marked, v, first, walks),
+        Some(first) => add_round(alloc, map, of, v, first, walks),
         None => Ok(()),
     }
 }
 
-// Walks all faces, given one unset mark for each id and no walks.
+// Walks all faces, given an entry for each id of which none has a face, and no walks.
 fn add_all(
     alloc: Global,
     map: &HalfMap,
-    marked: &mut [bool],
+    of: &mut [u32],
     walks: &mut Vec<Walk>,
 ) -> Result<(), AllocError>
     requires known { IsHalfMap map.now }
-    requires marks { length marked.old ≡ id_bound map.now }
-    requires unset { (i : ℕ) → mark_at marked.old i ≡ false }
+    requires size { length of.old ≡ id_bound map.now }
+    requires unset { (i : ℕ) → mark_at (with_face of.old) i ≡ false }
     requires none { walks.old.items ≡ [] }
     ensures faces { OnOk result (AreFaces map.now walks.new.items) }
     ensures count { OnOk result (length walks.new.items ≡ class_count (face_classes map.now.lists)) }
-    ensures few { OnOk result (length walks.new.items < 2 ^ 32) }
+    ensures numbered { OnOk result (AreNumbered walks.new.items of.new) }
 {
     for v in 0..map.n() {
-        add_vertex(alloc, map, marked, VertexId(v), walks)?;
+        add_vertex(alloc, map, of, VertexId(v), walks)?;
     }
     Ok(())
-}
-
-// Writes a face's number at each dart of its walk.
-fn number_walk(of: &mut [u32], walk: &[DartId], f: u32)
-    requires within { (i : ℕ) → i < length walk.now → slice_index (ids_of walk.now) i < length of.old }
-    ensures here { (i : ℕ) → i < length walk.now → slice_index of.new (slice_index (ids_of walk.now) i) ≡ f }
-    ensures elsewhere { (x : ℕ) → ¬ Contains (ids_of walk.now) x → slice_index of.new x ≡ slice_index of.old x }
-{
-    for d in walk {
-        of[d.0 as usize] = f;
-    }
-}
-
-// Writes for each dart of a walk the place of the walk.
-fn number_walks(of: &mut [u32], walks: &[Walk])
-    requires few { length walks.now < 2 ^ 32 }
-    requires within { (f i : ℕ) → f < length walks.now → i < length (walk_at walks.now f) → slice_index (walk_at walks.now f) i < length of.old }
-    requires apart { (f g d : ℕ) → f < length walks.now → g < length walks.now → Contains (walk_at walks.now f) d → Contains (walk_at walks.now g) d → f ≡ g }
-    ensures { AreNumbered walks.now of.new }
-{
-    for f in 0..walks.len() {
-        number_walk(of, walks[f].as_slice(), f as u32);
-    }
 }
 
 /// The faces of a map. It fails only for want of memory. The time is linear in the darts, and so is the
@@ -168,10 +144,10 @@ pub fn faces(alloc: Global, map: &HalfMap) -> Result<Faces, AllocError>
     ensures count { IfOk result (λ faces. length faces ≡ class_count (face_classes map.now.lists)) }
 {
     let ids = 2 * (map.m() as usize + map.spare() as usize);
-    let mut marked = vec![in alloc; false; ids]?;
-    let mut walks = Vec::new(alloc);
-    add_all(alloc, map, &mut marked, &mut walks)?;
-    let mut of = vec![in alloc; 0; ids]?;
-    number_walks(&mut of, &walks);
+    let mut of = vec![in alloc; NO_FACE; ids]?;
+    // a connected map of genus zero has just so many faces
+    let faces = (map.m() as usize + 2).saturating_sub(map.n() as usize);
+    let mut walks = Vec::with_capacity(alloc, faces)?;
+    add_all(alloc, map, &mut of, &mut walks)?;
     Ok(Faces { walks, of })
 }

@@ -7,7 +7,7 @@ use Rattle.euler_faces.proofs.components.number_component.Goals as goal
 
 pub bounds-queue-filled : goal.bounds-queue-filled
 bounds-queue-filled c =
-    let long-marks = length-marks_of c.args.numbers.now in
+    let long-marks = length-marks_of 65535 c.args.numbers.now in
     let fewer = unmarked_below-set (marks_of c.args.numbers.now) c.args.start (length c.args.ends.now) c.requires.start_in (omega (arith, c.requires.marks, c.requires.start_in)) c.requires.unmarked in
     omega (arith, c.requires.work, c.requires.room)
 
@@ -19,9 +19,9 @@ loop-next-init c =
     let long = length-cut 0 ends entries in
     let l = c.requires.start_in in
     let marks = c.requires.marks in
-    let long-marks = length-marks_of c.args.numbers.now in
+    let long-marks = length-marks_of 65535 c.args.numbers.now in
     let in_marks : c.args.start < length (marks_of c.args.numbers.now) = omega arith in
-    let e = marks-set c.args.numbers.now c.args.start c.args.number c.requires.is_number in
+    let e = marks-set 65535 c.args.numbers.now c.args.start c.args.number c.requires.is_number in
     let fewer = unmarked_below-set (marks_of c.args.numbers.now) c.args.start (length ends) l in_marks c.requires.unmarked in
     record {
       marks = length-set c.args.numbers.now c.args.start c.args.number ∙ marks;
@@ -32,7 +32,7 @@ loop-next-init c =
       search = rw e (search-push lists (marks_of c.args.numbers.now) (marks_of c.args.numbers.now) c.args.queue.now c.args.filled c.args.filled c.args.start None_open c.args.start _
           (search-start lists (marks_of c.args.numbers.now) c.args.queue.now c.args.filled c.args.start (λ u m t. c.requires.kept u (omega (arith, m)) t))
           (omega arith) (omega (arith, c.requires.work, c.requires.room)) refl (omega arith) in_marks refl);
-      numbered = IsNumbered-set c.args.numbers.now c.args.start c.args.number c.requires.is_number (omega arith) c.requires.unmarked;
+      numbered = IsNumbered-set 65535 c.args.numbers.now c.args.start c.args.number c.requires.is_number (omega arith) c.requires.unmarked;
     }
 
 pub returns-then-filled-ends-clause-marked : goal.returns-then-filled-ends-clause-marked
@@ -43,7 +43,7 @@ returns-then-filled-ends-clause-marked c = λ i l.
     let h = c.loop-next.invariant in
     let same = c.if-filled-ends.true in
     search-full lists (marks_of c.args.numbers.now) (marks_of c.loop-next.numbers) c.loop-next.queue c.loop-next.next c.loop-next.filled c.args.start None_open h.search
-    (λ u m. all_marked (marks_of c.loop-next.numbers) (length ends) u (omega (arith, h.work)) (omega arith) (omega (arith, h.marks, length-marks_of c.loop-next.numbers))) i (omega arith)
+    (λ u m. all_marked (marks_of c.loop-next.numbers) (length ends) u (omega (arith, h.work)) (omega arith) (omega (arith, h.marks, length-marks_of 65535 c.loop-next.numbers))) i (omega arith)
 
 pub push_neighbours-filled-requires-clause-v_in : goal.push_neighbours-filled-requires-clause-v_in
 push_neighbours-filled-requires-clause-v_in c =
@@ -63,7 +63,7 @@ loop-next-preserved c =
       work = c.push_neighbours-filled.ensures.work;
       order = omega (arith, c.push_neighbours-filled.ensures.grows, c.loop-next-test.true);
       begun = c.push_neighbours-filled.ensures.numbered.marked c.args.start h.begun;
-      numbered = IsNumbered-chained _ _ _ _ h.numbered c.push_neighbours-filled.ensures.numbered;
+      numbered = IsNumbered-chained 65535 _ _ _ _ h.numbered c.push_neighbours-filled.ensures.numbered;
       search = c.push_neighbours-filled.ensures.search (marks_of c.args.numbers.now) (c.loop-next.next + 1) c.args.start (omega (arith, c.loop-next-test.true)) top.1
           (search-pop lists (marks_of c.args.numbers.now) (marks_of c.loop-next.numbers) c.loop-next.queue c.loop-next.next c.loop-next.filled c.args.start (c.loop-next.next + 1) refl h.search);
     }

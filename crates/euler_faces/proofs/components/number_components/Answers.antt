@@ -43,7 +43,7 @@ loop-v-preserved c =
     let labels = IsLabels-classes (length lists) (darts lists) (components-below lists c.requires.simple) in
     elim c.if-numbers-v.branch [
       | then-numbers-v w ↦
-          let off = unmet c.loop-v.numbers c.loop-v.v (omega arith) w.if-numbers-v.true in
+          let off = unmet 65535 c.loop-v.numbers c.loop-v.v (omega arith) w.if-numbers-v.true in
           record {
             marks = rw w.numbers-is (w.number_component-filled.auto.numbers ∙ h.marks);
             room = rw w.queue-is (w.number_component-filled.auto.queue ∙ h.room);
@@ -56,7 +56,7 @@ loop-v-preserved c =
         marks = rw w.numbers-is h.marks;
         room = rw w.queue-is h.room;
         work = rw (w.numbers-is, w.filled-is) h.work;
-        counting = rw (w.numbers-is, w.count-is) (IsCounting-old (component_classes lists) (mark_at (marks_of c.loop-v.numbers)) c.loop-v.count c.loop-v.v _ labels h.counting (omega arith) (met c.loop-v.numbers c.loop-v.v (omega arith) w.if-numbers-v.false) refl);
+        counting = rw (w.numbers-is, w.count-is) (IsCounting-old (component_classes lists) (mark_at (marks_of c.loop-v.numbers)) c.loop-v.count c.loop-v.v _ labels h.counting (omega arith) (met 65535 c.loop-v.numbers c.loop-v.v (omega arith) w.if-numbers-v.false) refl);
         numbers = rw w.numbers-is h.numbers;
       }
     ]
@@ -79,7 +79,7 @@ returns-then-filled-ends-clause-count c =
     let labels = IsLabels-classes (length lists) (darts lists) (components-below lists c.requires.simple) in
     let same = c.if-filled-ends.true in
     let full = IsCounting-full (length (component_classes lists) - c.loop-v.v) (component_classes lists) (mark_at (marks_of c.loop-v.numbers)) c.loop-v.count c.loop-v.v labels h.counting (omega arith)
-    (λ u l. all_marked (marks_of c.loop-v.numbers) (length c.args.ends.now) u (omega (arith, h.work)) (omega arith) (omega (arith, h.marks, length-marks_of c.loop-v.numbers))) in
+    (λ u l. all_marked (marks_of c.loop-v.numbers) (length c.args.ends.now) u (omega (arith, h.work)) (omega arith) (omega (arith, h.marks, length-marks_of 65535 c.loop-v.numbers))) in
     IsCounting-all (component_classes lists) (mark_at (marks_of c.loop-v.numbers)) c.loop-v.count (length (component_classes lists)) full refl
 
 pub returns-then-filled-ends-clause-few : goal.returns-then-filled-ends-clause-few
@@ -91,7 +91,7 @@ pub returns-then-filled-ends-clause-numbers : goal.returns-then-filled-ends-clau
 returns-then-filled-ends-clause-numbers c = λ u l.
     let h = c.loop-v.invariant in
     let same = c.if-filled-ends.true in
-    h.numbers u l (all_marked (marks_of c.loop-v.numbers) (length c.args.ends.now) u (omega (arith, h.work)) (omega arith) (omega (arith, h.marks, length-marks_of c.loop-v.numbers)))
+    h.numbers u l (all_marked (marks_of c.loop-v.numbers) (length c.args.ends.now) u (omega (arith, h.work)) (omega arith) (omega (arith, h.marks, length-marks_of 65535 c.loop-v.numbers)))
 
 pub returns-clause-few : goal.returns-clause-few
 returns-clause-few c =

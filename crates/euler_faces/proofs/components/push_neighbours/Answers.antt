@@ -29,8 +29,8 @@ bounds-queue-filled c =
     let h = c.loop-i.invariant in
     let w_in = c.requires.simple.in_range c.args.v _ dart in
     let long = length-cut 0 c.args.ends.now c.args.entries.now in
-    let marks = length-marks_of c.loop-i.numbers in
-    let off = unmet c.loop-i.numbers (get_or c.args.entries.now c.loop-i.i 0) (omega (arith, h.marks)) c.if-numbers-w.true in
+    let marks = length-marks_of 65535 c.loop-i.numbers in
+    let off = unmet 65535 c.loop-i.numbers (get_or c.args.entries.now c.loop-i.i 0) (omega (arith, h.marks)) c.if-numbers-w.true in
     let fewer = unmarked_below-set (marks_of c.loop-i.numbers) (get_or c.args.entries.now c.loop-i.i 0) (length c.args.ends.now) (omega arith) (omega (arith, h.marks)) off in
     omega (arith, h.work, h.room)
 
@@ -46,19 +46,19 @@ loop-i-preserved c =
     let w_in = c.requires.simple.in_range c.args.v x dart in
     let long = length-cut 0 ends entries in
     let marks = h.marks in
-    let long-marks = length-marks_of c.loop-i.numbers in
+    let long-marks = length-marks_of 65535 c.loop-i.numbers in
     let in_marks : x < length (marks_of c.loop-i.numbers) = omega arith in
     elim c.if-numbers-w.branch [
       | then-numbers-w w ↦
-          (let off = unmet c.loop-i.numbers x (omega arith) w.if-numbers-w.true in
-          let e = marks-set c.loop-i.numbers x c.args.number c.requires.is_number in
+          (let off = unmet 65535 c.loop-i.numbers x (omega arith) w.if-numbers-w.true in
+          let e = marks-set 65535 c.loop-i.numbers x c.args.number c.requires.is_number in
           let fewer = unmarked_below-set (marks_of c.loop-i.numbers) x (length ends) (omega arith) in_marks off in
           rw (w.numbers-is, w.queue-is, w.filled-is) (record {
             marks = length-set c.loop-i.numbers x c.args.number ∙ h.marks;
             room = length-set c.loop-i.queue c.loop-i.filled x ∙ h.room;
             work = rw e (omega (arith, h.work));
             grows = omega (arith, h.grows);
-            numbered = IsNumbered-chained _ _ _ _ h.numbered (IsNumbered-set c.loop-i.numbers x c.args.number c.requires.is_number (omega arith) off);
+            numbered = IsNumbered-chained 65535 _ _ _ _ h.numbered (IsNumbered-set 65535 c.loop-i.numbers x c.args.number c.requires.is_number (omega arith) off);
             done = rw e (λ k a b. elim (cases_eq k i) [
               | inl q ↦ ap (λ j. mark_at (set (marks_of c.loop-i.numbers) x true) (get_or entries j 0)) q ∙ set-here (marks_of c.loop-i.numbers) x in_marks
               | inr ne ↦ set-keeps (marks_of c.loop-i.numbers) x (get_or entries k 0) in_marks (h.done k a (omega arith))
@@ -75,7 +75,7 @@ loop-i-preserved c =
             grows = h.grows;
             numbered = h.numbered;
             done = λ k a b. elim (cases_eq k i) [
-              | inl e ↦ ap (λ j. mark_at (marks_of c.loop-i.numbers) (get_or entries j 0)) e ∙ met c.loop-i.numbers x (omega arith) w.if-numbers-w.false
+              | inl e ↦ ap (λ j. mark_at (marks_of c.loop-i.numbers) (get_or entries j 0)) e ∙ met 65535 c.loop-i.numbers x (omega arith) w.if-numbers-w.false
               | inr ne ↦ h.done k a (omega arith)
             ];
             search = h.search;

@@ -1,16 +1,20 @@
-use Rattle.std.proofs.Common.{◌≡◌, length}
+use Rattle.std.proofs.Common.{◌≡◌, ℕ, ◌<◌, length, get_or}
 use Rattle.map_theory.specs.Maps.{dart_count}
 use Rattle.half_edges.specs.Map.{id_bound}
 use Rattle.euler_faces.specs.Numbers.{mark_of}
+use Rattle.euler_faces.specs.Search.{IsNumberedBy}
+use Rattle.euler_faces.specs.FaceSearch.{no_face, with_face}
 use Rattle.classes.proofs.Marks.{unmarked_below}
 use Rattle.euler_faces.proofs.FaceWalkLemmas.{IsWalking}
 use Rattle.euler_faces.proofs.face_walks.walk_face.Given as goal
 
-abbrev pub invariant-loop-marked : goal.invariant-loop-marked
-invariant-loop-marked l = record {
-  marks : length l.marked ≡ id_bound l.map;
-  walking : IsWalking l.map (mark_of l.map l.initial.marked) (mark_of l.map l.marked) l.walk l.fn.start.0 l.d.0;
+abbrev pub invariant-loop-of : goal.invariant-loop-of
+invariant-loop-of l = record {
+  size : length l.of ≡ id_bound l.map;
+  walking : IsWalking l.map (mark_of l.map (with_face l.initial.of)) (mark_of l.map (with_face l.of)) l.walk l.fn.start.0 l.d.0;
+  numbered : IsNumberedBy no_face l.initial.of l.of l.fn.f;
+  here : (i : ℕ) → i < length l.walk → get_or l.of (get_or l.walk i 0) 0 ≡ l.fn.f;
 }
 
-abbrev pub decreases-loop-marked : goal.decreases-loop-marked
-decreases-loop-marked l = unmarked_below (mark_of l.map l.marked) (dart_count l.map.lists)
+abbrev pub decreases-loop-of : goal.decreases-loop-of
+decreases-loop-of l = unmarked_below (mark_of l.map (with_face l.of)) (dart_count l.map.lists)
