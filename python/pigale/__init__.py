@@ -13,8 +13,9 @@ The program is found by the environment variable PIGALE, else beside this packag
 repository, else under release/, else on the path. The package needs Python 3.8 or later and nothing else; networkx and
 Sage are imported where a function is called that speaks of them.
 
-Its modules: `formats` (planar_code, graph6 and the program's text), `runs` (of the program), `maps`, `makers`, `checks`, `graphs`
-(networkx and Sage), `pictures`, `pages` and `cli` (the commands). All that they offer is here by one name.
+Its modules: `formats` (planar_code, graph6 and the program's text), `runs` (of the program), `parts` and `parallel`
+(inputs of any size), `maps`, `makers`, `checks`, `graphs` (networkx and Sage), `pictures`, `pages` and `cli` (the
+commands). All that they offer is here by one name.
 """
 __version__ = "1.0.0"
 
@@ -26,15 +27,16 @@ from .graphs import from_networkx, graph_of_networkx, to_networkx, to_sage
 from .makers import (complete, cycle, grid, path, prism, quadrangle, renumbered, stacked, tree, triangulation, wheel)
 from .maps import dual, edges_of, faces_of, outside, rotations_of, without_edge, witness_graph
 from .pages import page, pages
+from .parallel import Progress, run_all, stream
 from .pictures import STYLES, picture
 from .runs import PigaleError, Run, draw, embed, program, run
 
 __all__ = [
     "BarFigure", "Checked", "Count", "End", "FIGURES", "GRID_JOBS", "GridFigure", "HEADER", "HEIGHT", "MOST_BYTES",
-    "MOST_VERTICES", "PLANAR_JOBS", "PigaleError", "RectFigure", "Refused", "Run", "STYLES", "Stop", "Verdict",
+    "MOST_VERTICES", "PLANAR_JOBS", "PigaleError", "Progress", "RectFigure", "Refused", "Run", "STYLES", "Stop", "Verdict",
     "WIDTH", "WitnessFigure", "check", "check_all", "complete", "cycle", "draw", "dual", "edges_of", "embed",
     "faces_of", "from_networkx", "graph_of_networkx", "grid", "outside", "page", "pages", "path", "picture", "prism",
     "program", "quadrangle", "read_blocks", "read_drawing", "read_figures", "read_graph6", "read_planar_code",
-    "renumbered", "rotations_of", "run", "scaled", "stacked", "to_networkx", "to_sage", "tree", "triangulation",
-    "wheel", "without_edge", "witness_graph", "write_graph6", "write_planar_code",
+    "renumbered", "rotations_of", "run", "run_all", "scaled", "stacked", "stream", "to_networkx", "to_sage", "tree",
+    "triangulation", "wheel", "without_edge", "witness_graph", "write_graph6", "write_planar_code",
 ]

@@ -2,6 +2,8 @@
 import argparse
 import os
 import sys
+import time
+import zlib
 from typing import Callable, List, Optional, Sequence
 
 from . import __version__
@@ -9,8 +11,10 @@ from .checks import check, read_drawing, scaled
 from .formats import Figure, read_figures, read_planar_code, write_planar_code
 from .makers import stacked
 from .pages import page, page_name, pages
+from .parallel import Progress, run_all
+from .parts import unpacked
 from .pictures import STYLES, picture
-from .runs import PigaleError, run
+from .runs import HINTS, READING_JOBS, PigaleError, run
 
 Arguments = argparse.Namespace
 
@@ -46,7 +50,11 @@ def _parser() -> argparse.ArgumentParser:
         found.set_defaults(command=command)
         return found
 
-    add("recode", _recode, "reads planar_code of any byte order, with or without a header, and writes it as the program reads it")
+    whole = add("all", _all, "runs a job on an input of any size, also of gzip or of files that were joined, over all processors")
+    whole.add_argument("job", metavar="JOB", choices=READING_JOBS, help=f"as of the program: {', '.join(READING_JOBS)}")
+    whole.add_argument("--form", choices=("text", "svg"), help="of figures, as of the program")
+    whole.add_argument("-j", metavar="N", type=_positive, help="as many programs side by side; by default as there are processors")
+    add("recode", _recode, "reads planar_code of any byte order, also of gzip or of joined files, and writes it as the program reads it")
     checked = add("check", _check_file, "prints the verdict on the drawing in a file of JSON or GraphML")
     checked.add_argument("--scale", action="store_true", help="round the places to whole numbers first")
     checked.add_argument("file", metavar="FILE", help="JSON with nodes (id, x, y) and edges (source, target), or GraphML (.graphml)")
@@ -69,8 +77,53 @@ def _add_look(parser: argparse.ArgumentParser) -> None:
     parser.add_argument("--style", metavar="WORDS", default="", help=f"joined by commas: {' and '.join(STYLES)}")
 
 
+def _positive(text: str) -> int:
+    if not text.isdecimal() or int(text) < 1:
+        raise argparse.ArgumentTypeError(f"{text} is no number of programs")
+    return int(text)
+
+
+def _all(arguments: Arguments) -> int:
+    words = [arguments.job] + (["--form", arguments.form] if arguments.form else [])
+    meter = _Meter() if sys.stderr.isatty() else None
+    try:
+        status = run_all(words, sys.stdin.buffer, sys.stdout.buffer, arguments.j, meter.tell if meter else None)
+        sys.stdout.buffer.flush()
+    except BrokenPipeError:
+        # what is still in the buffer has nowhere to go
+        os.dup2(os.open(os.devnull, os.O_WRONLY), sys.stdout.fileno())
+        status = 5
+    if meter:
+        meter.end()
+    if status > 1:
+        print(f"pigale: {HINTS.get(status, 'a program was ended from outside')}", file=sys.stderr)
+    return status
+
+
+class _Meter:
+    """Says on a terminal how far a run is, five times a second."""
+
+    def __init__(self) -> None:
+        self.begun = self.told = time.monotonic()
+        self.line = ""
+
+    def tell(self, progress: Progress) -> None:
+        now = time.monotonic()
+        self.line = f"{progress.answered:,} records answered, {progress.read / 1e6:,.1f} MB read, {now - self.begun:.1f} s"
+        if now - self.told > 0.2:
+            self.told = now
+            print(f"\r{self.line}", end="", file=sys.stderr, flush=True)
+
+    def end(self) -> None:
+        print(f"\r{self.line}", file=sys.stderr)
+
+
 def _recode(_: Arguments) -> int:
-    sys.stdout.buffer.write(write_planar_code(read_planar_code(sys.stdin.buffer)))
+    try:
+        data = unpacked(sys.stdin.buffer)(-1)
+    except (EOFError, zlib.error) as fault:
+        raise ValueError(f"the data packed by gzip are not whole: {fault}") from fault
+    sys.stdout.buffer.write(write_planar_code(read_planar_code(data)))
     return 0
 
 

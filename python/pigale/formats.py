@@ -24,21 +24,27 @@ def read_planar_code(data: Union[bytes, IO[bytes]], order: Optional[str] = None)
     """The maps of planar_code, as a list of maps.
 
     `data` is bytes, or a binary file that is read to its end. A header may stand first, with or without a byte order
-    (`>>planar_code<<`, `>>planar_code le<<`, `>>planar_code be<<`). Maps of up to 255 vertices are narrow or wide
-    records, larger ones wide: a byte 0, and then two bytes a number. These have the byte order of the header, or else
-    `order`, which is "be" (the greater byte first, as nauty and the program write) or "le"; without both it is "be".
+    (`>>planar_code<<`, `>>planar_code le<<`, `>>planar_code be<<`), and where files were joined also behind a record. Maps
+    of up to 255 vertices are narrow or wide records, larger ones wide: a byte 0, and then two bytes a number. These have
+    the byte order of the header before them, or else `order`, which is "be" (the greater byte first, as nauty and the
+    program write) or "le"; without both it is "be".
 
     Raises ValueError where the header is of another format, where a record has no vertices, or where the data end
     inside a record. Whether the lists make a map is not looked at: the program says that.
     """
     data = data if isinstance(data, bytes) else data.read()
-    at, order = _after_header(data, order)
+    at, header_order = 0, ""
     maps: List[Lists] = []
     while at < len(data):
+        if data.startswith(b">>", at):
+            behind, its_order = _after_header(data, at)
+            if behind > at:
+                at, header_order = behind, its_order
+                continue
         if data[at]:
             found = _narrow_lists(data, at + 1, data[at])
         else:
-            found = _wide_lists(data, at + 1, "little" if order == "le" else "big")
+            found = _wide_lists(data, at + 1, "little" if (header_order or order) == "le" else "big")
         if found is None:
             raise ValueError(f"the data end inside record {len(maps) + 1}, which begins at byte {at}")
         lists, at = found
@@ -48,13 +54,14 @@ def read_planar_code(data: Union[bytes, IO[bytes]], order: Optional[str] = None)
     return maps
 
 
-def _after_header(data: bytes, order: Optional[str]) -> Tuple[int, Optional[str]]:
-    found = re.match(rb">>([a-z0-9_]+) *(le|be)? *<<", data[:40])
+def _after_header(data: bytes, at: int) -> Tuple[int, str]:
+    """The place behind a header and the byte order that it names, if one stands at a place."""
+    found = re.match(rb">>([a-z0-9_]+) *(le|be)? *<<", data[at:at + 40])
     if not found:
-        return 0, order
+        return at, ""
     if found.group(1) != b"planar_code":
         raise ValueError(f"the header is that of {found.group(1).decode()}, and not of planar_code")
-    return found.end(), (found.group(2) or b"").decode() or order
+    return at + found.end(), (found.group(2) or b"").decode()
 
 
 def _narrow_lists(data: bytes, at: int, count: int) -> Optional[Tuple[Lists, int]]:

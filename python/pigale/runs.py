@@ -1,14 +1,16 @@
 """Runs the program: its answers to maps, graphs and figures."""
+import io
 import os
 import platform
 import shutil
 import subprocess
 from dataclasses import dataclass
-from typing import Iterable, List, Optional, Union, cast
+from typing import Iterable, List, Optional, Sequence, Tuple, Union, cast
 
-from .formats import (FIGURES, MOST_VERTICES, PLANAR_JOBS, Answer, Block, End, Figure, Graph, GridFigure, Map, Refused, Stop,
+from .formats import (FIGURES, MOST_BYTES, MOST_VERTICES, PLANAR_JOBS, Answer, Block, End, Figure, Graph, GridFigure, Map, Refused, Stop,
                       WitnessFigure, as_maps, check_line, read_blocks, write_graph6, write_planar_code)
 
+READING_JOBS = (*PLANAR_JOBS, "embed", "verify")
 MOST_EMBEDDED = 255  # vertices of a graph that `embed` reads
 
 Records = Union[str, bytes, Iterable[Map], Iterable[Union[str, Graph]], Iterable[Figure]]
@@ -63,12 +65,16 @@ def program() -> str:
     return found
 
 
-def run(job: str, records: Records = (), size: Optional[int] = None, number: Optional[int] = None) -> Run:
+def run(job: str, records: Records = (), size: Optional[int] = None, number: Optional[int] = None,
+        processes: Optional[int] = None) -> Run:
     """The program's answers to records, as a `Run`.
 
     `records` is what the job reads: maps for `count`, `shift`, `schnyder`, `bars`, `convex` and `rect`; graphs (n,
     edges) or lines of graph6 for `embed`; figures for `verify`; nothing for `gen`, which wants `size` from 3 to 4095
-    and `number` from 0 to 4294967295. Bytes and text are handed on as they are. An input may have 16 MiB.
+    and `number` from 0 to 4294967295. Bytes and text are handed on as they are.
+
+    An input of more than 16 MiB is answered by as many programs side by side as there are processors, and any input by so
+    many as `processes` says; the answers are those of one run. `stream` gives them one by one.
 
     Raises PigaleError where the status is 2 or more: bad words, a bad place in the input, a fault, want of memory.
     Raises ValueError where a record is none of the job's, as one map in place of a list, or has too many vertices.
@@ -76,17 +82,26 @@ def run(job: str, records: Records = (), size: Optional[int] = None, number: Opt
     words = [job]
     for name, value in (("--size", size), ("--number", number)):
         words += [] if value is None else [name, str(value)]
-    done = subprocess.run([program(), *words], input=_input(job, records), stdout=subprocess.PIPE, check=False)
-    text = done.stdout.decode("ascii")
-    whole = text if done.returncode < 2 else text[:text.rfind("\n") + 1]
-    result = Run(job, done.returncode, text, read_blocks(whole) if done.returncode < 2 else _readable(whole))
-    if done.returncode not in (0, 1):
+    status, text = _answered(words, encoded(job, records), processes)
+    result = Run(job, status, text, read_blocks(text) if status < 2 else readable(text))
+    if status not in (0, 1):
         raise PigaleError(result)
     return result
 
 
-def _readable(text: str) -> List[Block]:
-    """The blocks of a text, which may end inside a figure where the run broke off."""
+def _answered(words: Sequence[str], data: bytes, processes: Optional[int]) -> Tuple[int, str]:
+    """The status and the text of a run, or of as many side by side as there have to be."""
+    if words[0] in READING_JOBS and (processes or len(data) > MOST_BYTES):
+        from .parallel import run_all
+        sink = io.BytesIO()
+        return run_all(words, io.BytesIO(data), sink, processes), sink.getvalue().decode("ascii")
+    done = subprocess.run([program(), *words], input=data, stdout=subprocess.PIPE, check=False)
+    return done.returncode, done.stdout.decode("ascii")
+
+
+def readable(text: str) -> List[Block]:
+    """The blocks of a text, which may end inside a line or a figure where the run broke off."""
+    text = text[:text.rfind("\n") + 1]
     try:
         return read_blocks(text)
     except ValueError:
@@ -94,29 +109,30 @@ def _readable(text: str) -> List[Block]:
         return read_blocks(text[:cut])
 
 
-def _input(job: str, records: Records) -> bytes:
+def encoded(job: str, records: Records, first: int = 1, header: bool = True) -> bytes:
+    """Records as bytes that the job reads. Raises ValueError where one is none, by its number from `first` on."""
     if isinstance(records, bytes):
         return records
     if isinstance(records, str):
         return records.encode("ascii", "surrogateescape")
     if job == "embed":
-        return "".join(f"{line}\n" for line in _lines(cast(Iterable[Union[str, Graph]], records))).encode("ascii")
+        return "".join(f"{line}\n" for line in _lines(cast(Iterable[Union[str, Graph]], records), first)).encode("ascii")
     if job == "verify":
-        return "".join(f"{figure}\n" for figure in _figures(cast(Iterable[Figure], records))).encode("ascii", "surrogateescape")
+        return "".join(f"{figure}\n" for figure in _figures(cast(Iterable[Figure], records), first)).encode("ascii", "surrogateescape")
     maps = as_maps(cast(Iterable[Map], records))
-    for k, lists in enumerate(maps, 1):
+    for k, lists in enumerate(maps, first):
         if len(lists) > MOST_VERTICES:
             raise ValueError(f"map {k} has {len(lists)} vertices: the program reads up to {MOST_VERTICES}")
-    return write_planar_code(maps)
+    return write_planar_code(maps, header)
 
 
-def _lines(graphs: Iterable[Union[str, Graph]]) -> Iterable[str]:
+def _lines(graphs: Iterable[Union[str, Graph]], first: int) -> Iterable[str]:
     """Graphs as lines of graph6. Raises ValueError where one is none, or has more vertices than `embed` reads."""
     if hasattr(graphs, "nodes"):
         raise ValueError("this is a graph of networkx: graph_of_networkx(graph)[0] is it as (n, edges), and [it] a list of one")
     if isinstance(graphs, tuple) and len(graphs) == 2 and isinstance(graphs[0], int):
         raise ValueError("this is one graph: give a list of graphs, as [graph] for one")
-    for k, graph in enumerate(graphs, 1):
+    for k, graph in enumerate(graphs, first):
         try:
             if isinstance(graph, str):
                 check_line(graph, MOST_EMBEDDED)
@@ -130,29 +146,32 @@ def _lines(graphs: Iterable[Union[str, Graph]]) -> Iterable[str]:
         yield line
 
 
-def _figures(figures: Iterable[Figure]) -> Iterable[Figure]:
+def _figures(figures: Iterable[Figure], first: int) -> Iterable[Figure]:
     if isinstance(figures, FIGURES):
         raise ValueError("this is one figure: give a list of figures, as [figure] for one")
-    for k, figure in enumerate(figures, 1):
+    for k, figure in enumerate(figures, first):
         if not isinstance(figure, FIGURES):
             raise ValueError(f"entry {k} is no figure to verify, but {type(figure).__name__}: {str(figure)[:60]}")
         yield figure
 
 
-def draw(maps: Union[bytes, Iterable[Map]], job: str = "schnyder") -> List[Union[Figure, Refused]]:
+def draw(maps: Union[bytes, Iterable[Map]], job: str = "schnyder",
+         processes: Optional[int] = None) -> List[Union[Figure, Refused]]:
     """A figure for each map, in order, by "shift", "schnyder", "bars", "convex" or "rect".
 
-    A map that the job does not draw has a `Refused` in its place. Raises ValueError for another job, and as `run`.
+    A map that the job does not draw has a `Refused` in its place. `processes` is as in `run`. Raises ValueError for another
+    job, and as `run`.
     """
     if job not in PLANAR_JOBS[1:]:
         raise ValueError(f"{job} is no job that draws maps")
-    return cast(List[Union[Figure, Refused]], run(job, maps).answers)
+    return cast(List[Union[Figure, Refused]], run(job, maps, processes=processes).answers)
 
 
-def embed(graphs: Union[str, bytes, Iterable[Union[str, Graph]]]) -> List[Union[GridFigure, WitnessFigure, Refused]]:
+def embed(graphs: Union[str, bytes, Iterable[Union[str, Graph]]],
+          processes: Optional[int] = None) -> List[Union[GridFigure, WitnessFigure, Refused]]:
     """For each graph a `GridFigure` of a map of it, or a `WitnessFigure` that tells why there is none of genus zero.
 
     A graph is (n, edges) or a line of graph6, with up to 255 vertices; one of fewer than three has a `Refused` in its
-    place. Raises as `run` does.
+    place. `processes` is as in `run`. Raises as `run` does.
     """
-    return cast(List[Union[GridFigure, WitnessFigure, Refused]], run("embed", graphs).answers)
+    return cast(List[Union[GridFigure, WitnessFigure, Refused]], run("embed", graphs, processes=processes).answers)

@@ -1,0 +1,222 @@
+"""Answers inputs of any size, by as many programs side by side as there are processors.
+
+An input is cut at its records (`parts`), and each part is a run of its own. The answers come in order, with the numbers
+that they have in the whole, and the last line has the sums: the text is the one that a single run would write if it read
+inputs of any size. Only a record that is larger by itself than an input may be ends it with `stop TooLong`.
+"""
+from __future__ import annotations
+
+import io
+import os
+import re
+import subprocess
+import tempfile
+import zlib
+from collections import deque
+from concurrent.futures import Future, ThreadPoolExecutor
+from typing import IO, Any, BinaryIO, Callable, Deque, Iterable, Iterator, Optional, Sequence, Set, Tuple, Union, cast
+
+from .formats import Answer, End, Stop, read_blocks
+from .parts import Part, Read, Size, joined, parts_of, unpacked
+from .runs import READING_JOBS, PigaleError, Records, Run, encoded, program, readable
+
+NUMBERED = (b"figure ", b"count ", b"verdict ", b"refused ", b"<!-- refused ")
+LAST = re.compile(rb"(<!-- )?(?:end records (\d+) refused (\d+)|stop (\w+)(?: (\d+))?)( -->)?\n")
+LEAST_PART, MOST_PART, MOST_COUNTED = 1 << 14, 1 << 18, 1 << 20
+
+Written = Tuple[int, "IO[bytes]"]
+
+
+class Progress:
+    """How far a run over all processors has come: the bytes that were read and the records that were answered."""
+
+    def __init__(self) -> None:
+        self.read = 0
+        self.answered = 0
+
+
+def run_all(words: Sequence[str], source: BinaryIO, sink: BinaryIO, processes: Optional[int] = None,
+            tell: Optional[Callable[[Progress], None]] = None) -> int:
+    """Answers an input of any size; returns the worst status of its runs.
+
+    `words` are a job that reads and its options. `source` is a binary file of what the job reads: packed by gzip or not,
+    one file or several that were joined. The text goes to `sink`. As many programs run side by side as `processes` says,
+    or else as there are processors. `tell` is called each time that answers were written.
+
+    Where a read fails, the text ends behind the answers to the records before that, and the status is 4. Raises OSError
+    where `sink` cannot be written, and ValueError where the words name no job that reads.
+    """
+    over = _Over(words, processes, source)
+    for text in over.texts():
+        sink.write(text)
+        if tell:
+            tell(over.progress)
+    return over.status
+
+
+def stream(job: str, records: Union[Records, BinaryIO], processes: Optional[int] = None) -> Iterator[Answer]:
+    """Yields the answers of a job to records of any number, in order, as `run` has them.
+
+    `records` is as in `run`, or a binary file as in `run_all`, or any iterable, which is taken only so far as answers
+    are due: memory does not grow with the number of records. Raises ValueError where the job reads nothing, and
+    PigaleError as `run` does, behind the answers before that; its `run` has then the last line alone.
+    """
+    if isinstance(records, (bytes, str)):
+        records = io.BytesIO(encoded(job, records))
+    over = _Over([job], processes, records)
+    for text in over.texts():
+        blocks = readable(text.decode("ascii"))
+        yield from (block for block in blocks if not isinstance(block, (End, Stop)))
+    if over.status > 1:
+        last = over.last_line.decode("ascii")
+        raise PigaleError(Run(job, over.status, last, read_blocks(last)))
+
+
+class _Source:
+    """Reads bytes until they end or a read fails, and keeps which of the two it was."""
+
+    def __init__(self, source: BinaryIO, progress: Progress):
+        self.source, self.progress = source, progress
+        self.fault: Optional[Exception] = None
+        self.unpacked: Optional[Read] = None
+
+    def read(self, size: int) -> bytes:
+        try:
+            self.unpacked = self.unpacked or unpacked(self.source)
+            found = self.unpacked(size)
+        except (OSError, EOFError, zlib.error) as fault:
+            self.fault = fault
+            return b""
+        self.progress.read += len(found)
+        return found
+
+
+class _Over:
+    """A run over all processors. `status` and `last_line` are known once its texts have come."""
+
+    def __init__(self, words: Sequence[str], processes: Optional[int], given: Union[BinaryIO, Iterable[Any]]):
+        job = next((word for word in words if word in READING_JOBS), None)
+        if job is None:
+            raise ValueError(f"no job that reads is among the words: {' '.join(words)}")
+        self.words, self.program = [program(), *words], program()
+        self.count = processes or _processors()
+        self.progress = Progress()
+        size = _size(job, self.count)
+        self.source: Optional[_Source] = None
+        if hasattr(given, "read"):
+            self.source = _Source(cast(BinaryIO, given), self.progress)
+            self.parts = parts_of(job, self.source.read, size)
+        else:
+            self.parts = joined(job, (encoded(job, [record], k, False) for k, record in enumerate(given, 1)), size)
+        self.status = self.refused = 0
+        self.last_line, self.frame = b"", (b"", b"")
+        self.running: Set["subprocess.Popen[bytes]"] = set()
+
+    def texts(self) -> Iterator[bytes]:
+        """Yields the text of each part, as it is in the whole, and last the last line."""
+        runs: Deque[Tuple[Part, "Future[Written]"]] = deque()
+        with ThreadPoolExecutor(self.count) as pool:
+            try:
+                for part in self.parts:
+                    runs.append((part, pool.submit(self._answer, part)))
+                    if len(runs) > 3 * self.count:
+                        yield self._first_text(runs)
+                        if self.last_line or self.status > 1:
+                            break
+                while runs and not self.last_line and self.status < 2:
+                    yield self._first_text(runs)
+            finally:
+                for _, run in runs:
+                    run.cancel()
+                for running in list(self.running):
+                    running.kill()
+        if self.last_line:
+            yield self.last_line
+        elif self.status < 2 and self.source and self.source.fault:
+            self.status = 4
+        elif self.status < 2:
+            self._end(b"end records %d refused %d" % (self.progress.answered, self.refused))
+            yield self.last_line
+
+    def _answer(self, part: Part) -> Written:
+        """Runs the program on a part; returns its status, and the file of its text."""
+        out = tempfile.TemporaryFile()
+        with tempfile.TemporaryFile() as given:
+            given.write(part.data)
+            given.seek(0)
+            with subprocess.Popen(self.words, stdin=given, stdout=out) as running:
+                self.running.add(running)
+                status = running.wait()
+                self.running.discard(running)
+        return status if status >= 0 else 128 - status, out
+
+    def _first_text(self, runs: Deque[Tuple[Part, "Future[Written]"]]) -> bytes:
+        """The text of the first of some runs, without its last line, which is taken into the sums."""
+        part, run = runs.popleft()
+        status, out = run.result()
+        with out:
+            out.seek(0)
+            text = out.read()
+        at = text.rfind(b"\n", 0, -1) + 1
+        last = LAST.fullmatch(text, at)
+        self.progress.answered = part.first + part.records
+        if last is None:
+            self.status = status
+            return _renumbered(text, part.first)
+        self.frame = last[1] or b"", last[6] or b""
+        if last[2]:
+            if int(last[2]) != part.records:
+                raise AssertionError(f"a part of {part.records} records was read as one of {int(last[2])}")
+            self.refused += int(last[3])
+            self.status = max(self.status, status)
+        elif runs or not (self.source and self.source.fault):
+            # of what could not be read to its end the ending says nothing
+            self.status = status
+            self._end(_stop_line(part, last[4], last[5], runs[0][0] if runs else None))
+        return _renumbered(text[:at], part.first)
+
+    def _end(self, line: bytes) -> None:
+        self.last_line = self.frame[0] + line + self.frame[1] + b"\n"
+
+
+def _stop_line(part: Part, name: bytes, number: Optional[bytes], after: Optional[Part]) -> bytes:
+    """The line of a bad place in a part, by its number in the whole; `after` is the next part, if there is one."""
+    if number is None:
+        return b"stop " + name
+    if name == b"EndInFigure" and after is not None and b"\n" in after.data:
+        # the next line stands within the figure, and is none of it
+        return b"stop BadLine %d" % (after.place + 1)
+    return b"stop %s %d" % (name, part.place_of(int(number)))
+
+
+def _renumbered(text: bytes, by: int) -> bytes:
+    """The text with each record's number raised."""
+    if not by:
+        return text
+    text = b"\n" + text
+    for word in NUMBERED:
+        first, *others = text.split(b"\n" + word)
+        if others:
+            pieces = [first]
+            for piece in others:
+                number, _, rest = piece.partition(b" ")
+                pieces.append(b"%d %s" % (int(number) + by, rest))
+            text = (b"\n" + word).join(pieces)
+    return text[1:]
+
+
+def _processors() -> int:
+    return len(os.sched_getaffinity(0)) if hasattr(os, "sched_getaffinity") else os.cpu_count() or 1
+
+
+def _size(job: str, count: int) -> Size:
+    """The sizes of parts: small at first, so that a short input is shared out too."""
+    made = 0
+    most = MOST_COUNTED if job == "count" else MOST_PART
+
+    def size() -> int:
+        nonlocal made
+        made += 1
+        return min(most, LEAST_PART << min(20, made // count))
+
+    return size

@@ -1,0 +1,255 @@
+#!/usr/bin/env python3
+"""The tests of inputs of any size: `python3 python/test_parallel.py` from anywhere.
+
+What `all` writes is compared with what one run of the program writes, on inputs of below 16 MiB that are cut into many
+parts. The program is found as the package finds it.
+"""
+import gzip
+import io
+import itertools
+import os
+import subprocess
+import sys
+import tempfile
+import unittest
+import unittest.mock
+
+HERE = os.path.dirname(os.path.abspath(__file__))
+EXAMPLES = os.path.join(HERE, "..", "examples")
+sys.path.insert(0, HERE)
+import pigale  # noqa: E402
+
+SMALL = {"LEAST_PART": 16, "MOST_PART": 200, "MOST_COUNTED": 300}
+FIGURE = b"figure 1 shift 3\n1 at 2 0: 2 3\n2 at 0 0: 3 1\n3 at 1 1: 1 2\n"
+
+
+def content(name):
+    with open(os.path.join(EXAMPLES, name), "rb") as file:
+        return file.read()
+
+
+def one_run(words, data):
+    done = subprocess.run([pigale.program(), *words], input=data, stdout=subprocess.PIPE, check=False)
+    return done.returncode, done.stdout
+
+
+def in_parts(words, data, processes=2):
+    """The status and the text of a run over all processors, in parts of some ten to hundred bytes."""
+    sink = io.BytesIO()
+    with unittest.mock.patch.multiple(pigale.parallel, **SMALL):
+        status = pigale.run_all(words, io.BytesIO(data), sink, processes)
+    return status, sink.getvalue()
+
+
+def wide(lists):
+    numbers = [len(lists)] + [u for us in lists for u in [*us, 0]]
+    return b"\0" + b"".join(u.to_bytes(2, "big") for u in numbers)
+
+
+def planar_code():
+    """Records of one number of vertices, of several, and wide ones among them."""
+    one_size = pigale.write_planar_code([pigale.stacked(12, k) for k in range(40)])
+    mixed = pigale.write_planar_code([pigale.stacked(n, n) for n in range(3, 40)] + [pigale.cycle(62), [[2], []], [[]]])
+    with_wide = pigale.HEADER + b"".join(wide(pigale.wheel(n)) for n in range(3, 12)) + wide(pigale.cycle(300)) + mixed[15:]
+    return [one_size, one_size[15:], mixed, with_wide, pigale.HEADER, b""]
+
+
+class Parts(unittest.TestCase):
+    def assert_same(self, words, data):
+        self.assertEqual(in_parts(words, data), one_run(words, data), f"{words} on {data[:60]!r}.. of {len(data)} bytes")
+
+    def test_maps(self):
+        for data in planar_code():
+            for job in pigale.PLANAR_JOBS:
+                self.assert_same([job], data)
+            self.assert_same(["shift", "--form", "svg"], data)
+
+    def test_maps_that_end_badly(self):
+        for data in planar_code()[:4]:
+            middle = len(data) // 2
+            for cut in (1, 14, 15, 16, 17, 18, middle, middle + 7, len(data) - 1):
+                self.assert_same(["count"], data[:cut])
+            for count in (0, 4096, 65535):
+                self.assert_same(["bars"], data + b"\0" + count.to_bytes(2, "big") + data)
+            self.assert_same(["shift", "--form=svg"], data + b"\0\0\0")
+            self.assert_same(["count"], data + b"\0\0")
+            self.assert_same(["count"], data[:middle] + bytes(range(256)) + data[middle:])
+            self.assert_same(["count"], b">>planar_code le<<" + data)
+
+    def test_graphs(self):
+        lines = [pigale.write_graph6((n, itertools.combinations(range(1, n + 1), 2))) for n in range(0, 12)] * 8
+        text = "".join(f"{line}\n" for line in lines).encode()
+        for header in (b"", b">>graph6<<", b">>graph6<<\n"):
+            for end in (b"", b"D~{", b"\n", b"D~\n", b"D~{\r\n", b"\xff\n", b">>graph5<<\n", b"?\n" * 50 + b"D~|\n" + text,
+                        pigale.write_graph6((300, [])).encode() + b"\n" + text):
+                self.assert_same(["embed"], header + text + end)
+        self.assert_same(["embed", "--form", "svg"], text)
+        for text in (b">>graph6<<", b">>graph6<<\n\n", b">>graph6<<>>graph6<<\nD~{\n", b"\n", b""):
+            self.assert_same(["embed"], text)
+
+    def test_figures(self):
+        figures = [figure for name in ("platonic-shift.txt", "platonic-bars.txt", "graphs-embed.txt", "quadrangles-rect.txt")
+                   for figure in pigale.read_figures(content(name))]
+        text = "".join(f"{figure}\n" for figure in figures).encode() + b"count me\nverdict 7\n" + FIGURE * 30
+        lines = text.split(b"\n")
+        self.assert_same(["verify"], text)
+        self.assert_same(["verify"], b"end of notes\n" * 100 + text)
+        for end in (b"figure", b"figure 1 shift 3", b"figure 1 shift 3\n", b"x\n", b"stop", b"figure 1 shift 4096\n", b"\n"):
+            self.assert_same(["verify"], text + end)
+            self.assert_same(["verify"], text + end + FIGURE * 20)
+        for at in (0, 1, 7, 40, len(lines) - 50, len(lines) - 2):
+            self.assert_same(["verify"], b"\n".join(lines[:at] + lines[at + 1:]))
+            self.assert_same(["verify"], b"\n".join(lines[:at] + [b"count 1"] + lines[at:]))
+            self.assert_same(["verify"], b"\n".join(lines[:at]))
+
+    def test_figures_that_end_where_a_part_does(self):
+        short = FIGURE.replace(b"shift 3", b"shift 4")
+        for data in (short + FIGURE, FIGURE + short + FIGURE * 30, short + b"figure 2 sh", short + b"end\n", short):
+            self.assert_same(["verify"], data)
+
+
+class Joined(unittest.TestCase):
+    def test_maps(self):
+        one, other = planar_code()[0], planar_code()[2]
+        maps = pigale.read_planar_code(one) + pigale.read_planar_code(other)
+        wanted = one_run(["count"], pigale.write_planar_code(maps))
+        self.assertEqual(in_parts(["count"], one + other), wanted)
+        self.assertEqual(in_parts(["count"], gzip.compress(one) + gzip.compress(other)), wanted)
+        self.assertEqual(in_parts(["count"], pigale.HEADER * 3 + one + pigale.HEADER + other + pigale.HEADER), wanted)
+        self.assertEqual(pigale.read_planar_code(one + other), maps)
+        # a bad place is told by its number in the whole, all headers counted
+        whole = one + other + other[:-1]
+        last = len(one + other) + len(other) - 2
+        self.assertEqual(in_parts(["count"], whole)[1].split(b"\n")[-2], f"stop EndInRecord {last}".encode())
+
+    def test_graphs(self):
+        text = content("graphs.g6")
+        wanted = one_run(["embed"], text + text.replace(b">>graph6<<\n", b"").replace(b">>graph6<<", b""))
+        self.assertEqual(in_parts(["embed"], text + text), wanted)
+        self.assertEqual(in_parts(["embed"], text + gzip.decompress(gzip.compress(text))), wanted)
+
+    def test_byte_orders(self):
+        edge = [[2], [1]]
+        little = b">>planar_code le<<\0" + bytes([2, 0, 2, 0, 0, 0, 1, 0, 0, 0])
+        great = b">>planar_code<<\0" + bytes([0, 2, 0, 2, 0, 0, 0, 1, 0, 0])
+        self.assertEqual(pigale.read_planar_code(little + great + little), [edge] * 3)
+        done = subprocess.run([sys.executable, os.path.join(HERE, "pigale.py"), "recode"], stdout=subprocess.PIPE, check=False,
+                              input=gzip.compress(little + great) + gzip.compress(little))
+        self.assertEqual((done.returncode, done.stdout), (0, pigale.write_planar_code([edge] * 3)))
+
+
+class Faults(unittest.TestCase):
+    def test_gzip_that_is_cut_off(self):
+        data = planar_code()[0]
+        packed = gzip.compress(data)
+        for cut in (4, 30, len(packed) // 2, len(packed) - 4):
+            status, text = in_parts(["count"], packed[:cut])
+            lines = text.split(b"\n")
+            self.assertEqual(status, 4)
+            self.assertFalse([line for line in lines if line.startswith((b"end", b"stop"))])
+            self.assertEqual(one_run(["count"], data)[1][:len(text)], text)
+        self.assertEqual(in_parts(["verify"], gzip.compress(FIGURE * 3)[:-8])[0], 4)
+
+    def test_a_record_larger_than_an_input(self):
+        data = planar_code()[0]
+        for words, front, large in ((["count"], data, b"\x01" + b"\x02" * (1 << 24) + b"\0"), (["embed"], b"D~{\n", b"~" * (1 << 24) + b"\n"),
+                                    (["verify"], FIGURE, b"figure 1 shift 3\n1 at 2 0:" + b" 1" * (1 << 23) + b"\n")):
+            sink = io.BytesIO()
+            self.assertEqual(pigale.run_all(words, io.BytesIO(front + large + front), sink), 3)
+            self.assertEqual(sink.getvalue().split(b"\n")[-2], b"stop TooLong")
+
+    def test_words(self):
+        with self.assertRaises(ValueError):
+            pigale.run_all(["gen"], io.BytesIO(), io.BytesIO())
+        self.assertEqual(in_parts(["count", "--form=svg"], planar_code()[0]), (2, b"stop BadWords\n"))
+
+    def test_a_program_that_dies(self):
+        with tempfile.TemporaryDirectory() as folder:
+            path = os.path.join(folder, "pigale")
+            for body, wanted in (("echo count 1 n; exit 6", (6, b"count 1 n\n")), ("kill -9 $$", (137, b"")), ("exit 5", (5, b""))):
+                with open(path, "w", encoding="ascii") as file:
+                    file.write(f"#!/bin/sh\n{body}\n")
+                os.chmod(path, 0o755)
+                with unittest.mock.patch.dict(os.environ, PIGALE=path):
+                    self.assertEqual(in_parts(["count"], planar_code()[0]), wanted)
+
+    def test_a_closed_pipe(self):
+        command = f"'{sys.executable}' '{HERE}/pigale.py' all count | head -1"
+        with tempfile.TemporaryFile() as file:
+            file.write(pigale.write_planar_code([pigale.cycle(3)]) + pigale.write_planar_code([pigale.cycle(3)] * 200000, False))
+            file.seek(0)
+            done = subprocess.run(["bash", "-c", command + "; exit ${PIPESTATUS[0]}"], stdin=file, stdout=subprocess.PIPE,
+                                  stderr=subprocess.PIPE, check=False)
+        self.assertEqual((done.returncode, done.stdout), (5, b"count 1 n 3 m 3 f 2 c 1 genus 0\n"))
+        self.assertNotIn(b"Traceback", done.stderr)
+
+
+class Module(unittest.TestCase):
+    def test_run_draw_and_embed(self):
+        maps = [pigale.stacked(9, k) for k in range(60)] + [pigale.cycle(4)]
+        lines = ["D~{", "C~", "?"] * 20
+        for processes in (1, 3):
+            with unittest.mock.patch.multiple(pigale.parallel, **SMALL):
+                self.assertEqual(pigale.run("convex", maps, processes=processes), pigale.run("convex", maps))
+                self.assertEqual(pigale.draw(maps, "bars", processes=processes), pigale.draw(maps, "bars"))
+                self.assertEqual(pigale.embed(lines, processes=processes), pigale.embed(lines))
+                with self.assertRaisesRegex(pigale.PigaleError, "EndInRecord") as caught:
+                    pigale.run("count", pigale.write_planar_code(maps)[:-1], processes=processes)
+                self.assertEqual(len(caught.exception.run.answers), 60)
+
+    def test_more_than_an_input(self):
+        lines = pigale.write_graph6((255, [])) + "\n"
+        count = pigale.MOST_BYTES // len(lines) + 2
+        with unittest.mock.patch.object(pigale.runs, "read_blocks", lambda text: [text[text.rindex("\nend") + 1:]]):
+            self.assertEqual(pigale.run("embed", lines * count).blocks, [f"end records {count} refused 0\n"])
+
+    def test_stream(self):
+        endless = (pigale.stacked(5 + k % 7, k) for k in itertools.count())
+        taken = list(itertools.islice(pigale.stream("schnyder", endless, 2), 3000))
+        self.assertEqual([figure.number for figure in taken], list(range(1, 3001)))
+        self.assertEqual(taken[100:110], [pigale.GridFigure(k + 1, *[(f.job, f.places, f.lists) for f in
+                                          pigale.draw([pigale.stacked(5 + k % 7, k)])][0]) for k in range(100, 110)])
+        self.assertEqual(list(pigale.stream("embed", ["D~{", "C~"])), pigale.embed(["D~{", "C~"]))
+        self.assertEqual(list(pigale.stream("verify", io.BytesIO(FIGURE * 2))), [pigale.Verdict(k, "yes", ()) for k in (1, 2)])
+        self.assertEqual(list(pigale.stream("count", [])), [])
+        answers = pigale.stream("count", pigale.write_planar_code([pigale.cycle(3)])[:-1])
+        with self.assertRaisesRegex(pigale.PigaleError, "EndInRecord 15"):
+            next(answers)
+        with self.assertRaisesRegex(ValueError, "map 3"):
+            list(pigale.stream("count", [[[]], [[]], [[]] * 5000]))
+
+
+class Large(unittest.TestCase):
+    def test_48_megabytes(self):
+        """The answers to 48 MB are those to its parts, and memory stays bounded."""
+        maps = pigale.write_planar_code([pigale.stacked(12, k) for k in range(2000)] + [[[2], []]], header=False)
+        times = (48 << 20) // len(maps) + 1
+        with tempfile.TemporaryFile() as given, tempfile.TemporaryFile() as out:
+            given.write(pigale.HEADER)
+            for _ in range(times):
+                given.write(maps)
+            given.seek(0)
+            running = subprocess.Popen([sys.executable, os.path.join(HERE, "pigale.py"), "all", "count"], stdin=given, stdout=out)
+            _, status, used = os.wait4(running.pid, 0)
+            running.returncode = os.waitstatus_to_exitcode(status) if hasattr(os, "waitstatus_to_exitcode") else status >> 8
+            self.assertEqual(running.returncode, 1)
+            self.assertLess(used.ru_maxrss, 200 << 10)
+            out.seek(0)
+            lines = out.read().split(b"\n")
+        self.assertEqual(lines[-2:], [f"end records {2001 * times} refused {times}".encode(), b""])
+        wanted = one_run(["count"], pigale.HEADER + maps)[1].split(b"\n")[:2001]
+        for k in (0, 1, times // 2, times - 1):
+            words = [line.split(b" ", 2) for line in wanted]
+            self.assertEqual(lines[2001 * k:2001 * (k + 1)], [b"%s %d %s" % (w, int(n) + 2001 * k, rest) for w, n, rest in words])
+
+
+def main():
+    suite = unittest.defaultTestLoader.loadTestsFromModule(sys.modules["__main__"])
+    result = unittest.TextTestRunner(stream=sys.stdout, verbosity=0).run(suite)
+    failed = len(result.failures) + len(result.errors)
+    print(f"{result.testsRun - failed} passed, {failed} failed")
+    return 1 if failed else 0
+
+
+if __name__ == "__main__":
+    sys.exit(main())
