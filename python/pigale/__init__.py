@@ -30,10 +30,11 @@ from .pages import page, pages
 from .parallel import Progress, run_all, stream
 from .pictures import STYLES, picture
 from .runs import PigaleError, Run, draw, embed, program, run
+from .session import Session
 
 __all__ = [
     "BarFigure", "Checked", "Count", "End", "FIGURES", "GRID_JOBS", "GridFigure", "HEADER", "HEIGHT", "MOST_BYTES",
-    "MOST_VERTICES", "PLANAR_JOBS", "PigaleError", "Progress", "RectFigure", "Refused", "Run", "STYLES", "Stop", "Verdict",
+    "MOST_VERTICES", "PLANAR_JOBS", "PigaleError", "Progress", "RectFigure", "Refused", "Run", "STYLES", "Session", "Stop", "Verdict",
     "WIDTH", "WitnessFigure", "check", "check_all", "complete", "cycle", "draw", "dual", "edges_of", "embed",
     "faces_of", "from_networkx", "graph_of_networkx", "grid", "outside", "page", "pages", "path", "picture", "prism",
     "program", "quadrangle", "read_blocks", "read_drawing", "read_figures", "read_graph6", "read_planar_code",
