@@ -14,6 +14,7 @@ import tempfile
 import zlib
 from collections import deque
 from concurrent.futures import Future, ThreadPoolExecutor
+from contextlib import suppress
 from typing import IO, Any, BinaryIO, Callable, Deque, Iterable, Iterator, Optional, Sequence, Set, Tuple, Union, cast
 
 from .formats import Answer, End, Stop, read_blocks
@@ -129,7 +130,8 @@ class _Over:
                 for _, run in runs:
                     run.cancel()
                 for running in list(self.running):
-                    running.kill()
+                    with suppress(ProcessLookupError):
+                        running.kill()
         if self.last_line:
             yield self.last_line
         elif self.status < 2 and self.source and self.source.fault:
