@@ -1,16 +1,16 @@
 -- Figures that no canonical order gives: plane, in the grid, with the rotations kept and the corners in place, but not by the method.
-use Rattle.std.proofs.Common.{◌≡◌, ◌≢◌, ◌∙◌, ℕ, zero, suc, ◌-◌, ◌<◌, List, [], ◌∷◌, length, refl, ap, ap₂, subst, pos, ℤ, arith}
+use Rattle.std.proofs.Common.{◌≡◌, ◌≢◌, ◌∙◌, ℕ, zero, suc, ◌-◌, ◌<◌, ◌≤◌, List, [], ◌∷◌, length, refl, ap, ap₂, subst, pos, ℤ, arith}
 use Rattle.std.proofs.lemmas.Bool.Decides.{nat_tests}
 use Rattle.std.proofs.lemmas.Int.{ints}
 use Rattle.std.specs.Prelude.{slice_index}
 use Rattle.map_lists.specs.Lists.{Lists}
 use Rattle.pg_plane.specs.declared.point.Point.{Point}
 use Rattle.plane_drawings.specs.Drawing.{place}
-use Rattle.contour_runs.specs.Runs.{Step, stage_after, IsRun, vertex_after, place_after}
+use Rattle.contour_runs.specs.Runs.{Step, Stage, stage_after, IsRun, vertex_after, place_after}
 use Rattle.contour_runs.specs.Wood.{wood_points, one_after, two_after, one_gain, two_gain, drawn_one, drawn_two}
 use Rattle.contour_runs.specs.Wood.{point_of as wood_point}
 use Rattle.order_drawings.specs.SchnyderDrawings.{AreWoodPoints}
-use Rattle.fpp_shift.specs.Shift.{shift_points, point_of, x_after, y_after, shift}
+use Rattle.fpp_shift.specs.Shift.{Places, shift_points, point_of, x_after, y_after, shift}
 use Rattle.fpp_shift.specs.ShiftDrawings.{AreShiftPoints}
 use Rattle.grid_figures.specs.Forms.{point_at, IsByMethod}
 use Rattle.grid_figures.specs.ShiftFiguresFigures.{shift_form, IsShiftFigure}
@@ -102,3 +102,8 @@ by_wood_of_no_order width height f =
     let high : (i j : ℕ) → j ≢ 1 → point_at i j ≢ p = λ i j ne e. let y : pos j ≡ pos 1 = ap (λ (q : Point). q.y) e in ne (omega (arith, ints)) in
     let w = between_by_wood ring (point_at 0 2 ∷ point_at 2 1 ∷ point_at 1 0 ∷ point_at 0 1 ∷ []) refl f.method in
     none_stands p (point_at 0 2) (point_at 2 1) (point_at 1 0) (point_at 0 1) (off 0 2 (omega arith), off 2 1 (omega arith), high 1 0 (omega arith), off 0 1 (omega arith)) w.0 w.1 w.2
+
+-- the contour moves, and what hangs under it stays
+hanging_vertex_stays : (g : Stage) (s : Step) (at : Places) (v : ℕ) → v < g.count → s.first < s.last → s.last ≤ g.place v → x_after g s at v ≡ at.x v → ⊥
+unfolding x_after shift
+hanging_vertex_stays g s at v placed order behind stays = grind (arith, nat_tests)
