@@ -20,4 +20,7 @@ IsConvexFigure-of lists figure h = record {
   valid = h.valid;
   convex = h.convex;
   placed = record { first = h.first; second = h.second; third = h.third };
+  root = h.root;
+  out = h.out;
+  regions = h.regions;
 }

@@ -1,8 +1,9 @@
 -- Figures that wrong bodies of the drawing would give: the clause refuses them.
-use Rattle.std.proofs.Common.{◌≡◌, ◌≢◌, ◌∙◌, ℕ, ◌+◌, ◌*◌, ◌-◌, ◌<◌, ◌≤◌, List, length, sym, ap, pos, arith}
+use Rattle.std.proofs.Common.{◌≡◌, ◌≢◌, ◌∙◌, ℕ, ◌+◌, ◌*◌, ◌-◌, ◌<◌, ◌≤◌, List, [], ◌∷◌, length, sym, ap, pos, ℤ, arith}
 use Rattle.std.proofs.lemmas.Int.{ints}
 use Rattle.map_lists.specs.Lists.{Lists}
-use Rattle.map_theory.specs.Maps.{Dart, IsPlane, face_count}
+use Rattle.map_theory.specs.Maps.{Dart, HasDart, IsPlane, face_count}
+use Rattle.map_theory.proofs.DartLemmas.{HasDart-at}
 use Rattle.pg_plane.specs.declared.point.Point.{Point}
 use Rattle.pg_plane.specs.declared.figure.GridFigure.{GridFigure}
 use Rattle.plane_drawings.specs.Drawing.{place}
@@ -11,8 +12,10 @@ use Rattle.convex_counts.specs.declared.face_woods.axis.Axis.{Axis}
 use Rattle.convex_counts.specs.declared.face_woods.axis.Axis.TheVariants.{One, Two}
 use Rattle.convex_laws.specs.ConvexDrawings.{grid_point}
 use Rattle.convex_laws.specs.RegionDrawings.{IsRegionDrawing}
+use Rattle.convex_laws.specs.Signs.{IsRisingBy}
 use Rattle.convex_laws.proofs.OneRegion.{regions_are_one}
 use Rattle.convex_draw.specs.Grids.{IsConvexGrid}
+use Rattle.convex_draw.specs.Figures.{IsConvexFigure}
 
 -- the base is turned round: its tail stands at the lower right corner
 base_turned_round : (lists : Lists) (s d : ℕ) (figure : GridFigure) → 2 ≤ face_count lists → place figure.points s ≡ grid_point (face_count lists - 1) 0 → ¬ IsConvexGrid lists s d figure
@@ -51,3 +54,19 @@ module _ (lists : Lists) (base : Dart) (root : Axis → ℕ) (out : Axis → ℕ
   stands_elsewhere i j k m ne e f h =
       let x : pos k ≡ pos i = sym (ap (λ (p : Point). p.x) f) ∙ (same_x h ∙ ap (λ (p : Point). p.x) e) in
       ne (omega (arith, ints))
+
+-- two darts from one vertex lead along one axis, along which a convex wood has one
+two_along_one_axis :
+    (lists : Lists) (figure : GridFigure) (c : Axis) (v u w : ℕ) → u ≢ w → HasDart lists v u → HasDart lists v w → IsRisingBy c (place figure.points v) (place figure.points u) → IsRisingBy c (place figure.points v) (place figure.points w)
+    → ¬ IsConvexFigure lists figure
+two_along_one_axis lists figure c v u w ne a b p q f = ne (sym (f.regions.rising c v u a p).is ∙ (f.regions.rising c v w b q).is)
+
+-- the wheel of four spokes, with its rim outside
+abbrev wheel : Lists
+wheel = (1 ∷ 4 ∷ 3 ∷ []) ∷ (2 ∷ 4 ∷ 0 ∷ []) ∷ (3 ∷ 4 ∷ 1 ∷ []) ∷ (0 ∷ 4 ∷ 2 ∷ []) ∷ (0 ∷ 1 ∷ 2 ∷ 3 ∷ []) ∷ []
+
+-- it is convex, plane and in the grid, with its rotations and its corners, but no convex wood has these counts
+convex_by_no_wood : (width height : ℤ) → ¬ IsConvexFigure wheel (record { points = grid_point 0 4 ∷ grid_point 4 0 ∷ grid_point 2 0 ∷ grid_point 0 0 ∷ grid_point 1 1 ∷ []; width = width; height = height })
+convex_by_no_wood width height =
+    let figure : GridFigure = record { points = grid_point 0 4 ∷ grid_point 4 0 ∷ grid_point 2 0 ∷ grid_point 0 0 ∷ grid_point 1 1 ∷ []; width = width; height = height } in
+    two_along_one_axis wheel figure One 4 1 2 (omega arith) (HasDart-at wheel 4 1 0 (omega arith) (omega arith)) (HasDart-at wheel 4 2 0 (omega arith) (omega arith)) (omega (arith, ints), omega (arith, ints), omega (arith, ints)) (omega (arith, ints), omega (arith, ints), omega (arith, ints))

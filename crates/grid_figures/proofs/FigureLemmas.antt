@@ -8,14 +8,14 @@ use Rattle.plane_laws.specs.Triangulations.{IsTriangulation}
 use Rattle.plane_drawings.specs.Drawing.{place}
 use Rattle.canon_order.specs.Orders.{IsCanonicalOrder}
 use Rattle.canon_order.specs.Laws.{SomeOrder}
-use Rattle.order_drawings.specs.SchnyderDrawings.{IsSchnyderDrawing, SomeWoodPoints, WoodPointsDraw}
-use Rattle.fpp_shift.specs.ShiftDrawings.{IsShiftDrawing, SomeShiftPoints, ShiftPointsDraw}
+use Rattle.order_drawings.specs.SchnyderDrawings.{AreWoodPoints, IsSchnyderDrawing, SomeWoodPoints, WoodPointsDraw}
+use Rattle.fpp_shift.specs.ShiftDrawings.{AreShiftPoints, IsShiftDrawing, SomeShiftPoints, ShiftPointsDraw}
 use Rattle.grid_figures.specs.DrawingOrdersLaws.{IsCompletionFor, CompletionDraws, SomeCompletion}
 use Rattle.grid_figures.specs.Forms.{Form, IsPlaced, IsFigure, IsDrawnFor, SomeFigure}
 use Rattle.grid_figures.specs.ShiftFiguresFigures.{shift_form}
 use Rattle.grid_figures.specs.SchnyderFiguresFigures.{schnyder_form}
 
-module _ (form : Form) (draws : CompletionDraws) (lists more : Lists) (to : ℕ) (h : IsCompletionFor lists more to) (figure : GridFigure) (d : IsDrawnFor form more to figure) where
+module _ (form : Form) (draws : CompletionDraws) (lists more : Lists) (to : ℕ) (h : IsCompletionFor lists more to) (at : List ℕ) (order : IsCanonicalOrder more (0, to) at) (figure : GridFigure) (d : IsDrawnFor form more to at order.cycle figure) where
   same : length more ≡ length lists
   same = h.extended.vertices
 
@@ -41,10 +41,11 @@ module _ (form : Form) (draws : CompletionDraws) (lists more : Lists) (to : ℕ)
         valid = good.0;
         outer = good.1;
         placed = placed;
+        method = record { more = more; to = to; completion = h; at = at; order = order; by_order = d.by_order };
       }
 
 -- so each map that can be completed has a figure, where triangulations are drawn
-pub some_figure : (form : Form) → CompletionDraws → SomeCompletion → SomeOrder → ((more : Lists) (to : ℕ) (at : List ℕ) → IsTriangulation more → HasDart more 0 to → IsCanonicalOrder more (0, to) at → (figure : GridFigure) × IsDrawnFor form more to figure) → SomeFigure form
+pub some_figure : (form : Form) → CompletionDraws → SomeCompletion → SomeOrder → ((more : Lists) (to : ℕ) (at : List ℕ) → IsTriangulation more → HasDart more 0 to → (order : IsCanonicalOrder more (0, to) at) → (figure : GridFigure) × IsDrawnFor form more to at order.cycle figure) → SomeFigure form
 some_figure form draws completion orders drawn lists simple plane some =
     let found = completion lists simple plane some in
     let more = found.0 in
@@ -52,12 +53,14 @@ some_figure form draws completion orders drawn lists simple plane some =
     let h = found.1.1 in
     let order = orders more (0, to) h.triangulation h.base.dart in
     let figure = drawn more to order.0 h.triangulation h.base.dart order.1 in
-    (figure.0, figure_of_drawing form draws lists more to h figure.0 figure.1)
+    (figure.0, figure_of_drawing form draws lists more to h order.0 order.1 figure.0 figure.1)
 
 -- what the shift method draws
-pub drawn_by_shift : (lists : Lists) (to : ℕ) (figure : GridFigure) → length figure.points ≡ length lists → IsShiftDrawing lists (0, to) figure.points → figure.width ≡ pos (2 * length lists - 4) → figure.height ≡ pos (length lists - 2) → IsDrawnFor shift_form lists to figure
-drawn_by_shift lists to figure count d width height = record {
-  count = count;
+pub drawn_by_shift :
+    (lists : Lists) (to : ℕ) (at : List ℕ) (cycle : ℕ → List ℕ) (figure : GridFigure) → AreShiftPoints lists (0, to) at cycle figure.points → IsShiftDrawing lists (0, to) figure.points → figure.width ≡ pos (2 * length lists - 4) → figure.height ≡ pos (length lists - 2)
+    → IsDrawnFor shift_form lists to at cycle figure
+drawn_by_shift lists to at cycle figure points d width height = record {
+  count = points.count;
   width = width;
   height = height;
   drawing = record {
@@ -69,12 +72,15 @@ drawn_by_shift lists to figure count d width height = record {
   tail = d.second;
   head = d.first;
   third = d.top;
+  by_order = points;
 }
 
 -- what is drawn by Schnyder's coordinates
-pub drawn_by_wood : (lists : Lists) (to : ℕ) (figure : GridFigure) → length figure.points ≡ length lists → IsSchnyderDrawing lists (0, to) figure.points → figure.width ≡ pos (length lists - 2) → figure.height ≡ pos (length lists - 2) → IsDrawnFor schnyder_form lists to figure
-drawn_by_wood lists to figure count d width height = record {
-  count = count;
+pub drawn_by_wood :
+    (lists : Lists) (to : ℕ) (at : List ℕ) (cycle : ℕ → List ℕ) (figure : GridFigure) → AreWoodPoints lists (0, to) at cycle figure.points → IsSchnyderDrawing lists (0, to) figure.points → figure.width ≡ pos (length lists - 2) → figure.height ≡ pos (length lists - 2)
+    → IsDrawnFor schnyder_form lists to at cycle figure
+drawn_by_wood lists to at cycle figure points d width height = record {
+  count = points.count;
   width = width;
   height = height;
   drawing = record {
@@ -86,17 +92,22 @@ drawn_by_wood lists to figure count d width height = record {
   tail = d.root_two;
   head = d.root_one;
   third = d.root_three;
+  by_order = points;
 }
 
 -- so a triangulation has a figure of each method
-pub some_drawn_by_shift : SomeShiftPoints → ShiftPointsDraw → (more : Lists) (to : ℕ) (at : List ℕ) → IsTriangulation more → HasDart more 0 to → IsCanonicalOrder more (0, to) at → (figure : GridFigure) × IsDrawnFor shift_form more to figure
+pub some_drawn_by_shift :
+    SomeShiftPoints → ShiftPointsDraw → (more : Lists) (to : ℕ) (at : List ℕ) → IsTriangulation more → HasDart more 0 to → (order : IsCanonicalOrder more (0, to) at)
+    → (figure : GridFigure) × IsDrawnFor shift_form more to at order.cycle figure
 some_drawn_by_shift some_points draw more to at triangulation dart order =
     let points = some_points more (0, to) at triangulation order in
     let figure : GridFigure = record { points = points.0; width = pos (2 * length more - 4); height = pos (length more - 2) } in
-    (figure, drawn_by_shift more to figure points.1.count (draw more (0, to) at points.0 triangulation dart order points.1) refl refl)
+    (figure, drawn_by_shift more to at order.cycle figure points.1 (draw more (0, to) at points.0 triangulation dart order points.1) refl refl)
 
-pub some_drawn_by_wood : SomeWoodPoints → WoodPointsDraw → (more : Lists) (to : ℕ) (at : List ℕ) → IsTriangulation more → HasDart more 0 to → IsCanonicalOrder more (0, to) at → (figure : GridFigure) × IsDrawnFor schnyder_form more to figure
+pub some_drawn_by_wood :
+    SomeWoodPoints → WoodPointsDraw → (more : Lists) (to : ℕ) (at : List ℕ) → IsTriangulation more → HasDart more 0 to → (order : IsCanonicalOrder more (0, to) at)
+    → (figure : GridFigure) × IsDrawnFor schnyder_form more to at order.cycle figure
 some_drawn_by_wood some_points draw more to at triangulation dart order =
     let points = some_points more (0, to) at triangulation order in
     let figure : GridFigure = record { points = points.0; width = pos (length more - 2); height = pos (length more - 2) } in
-    (figure, drawn_by_wood more to figure points.1.count (draw more (0, to) at points.0 triangulation dart order points.1) refl refl)
+    (figure, drawn_by_wood more to at order.cycle figure points.1 (draw more (0, to) at points.0 triangulation dart order points.1) refl refl)

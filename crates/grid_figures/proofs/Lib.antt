@@ -4,6 +4,7 @@ mod DrawingOrdersRefused
 -- Lemmas for figures.
 pub mod FigureLemmas
 mod FigureCases
+mod FiguresRefused
 -- Lemmas on drawings by Schnyder's coordinates.
 mod Passes
 mod Puts

@@ -1,5 +1,5 @@
 -- Which lists have a drawing, and what a drawing of a completion is of the map.
-use Rattle.std.specs.Prelude.{ℕ, ◌<◌, ◌≤◌, ◌≡◌, ◌↔◌, List, length, None, ℤ}
+use Rattle.std.specs.Prelude.{ℕ, ◌≤◌, List, ℤ}
 use Rattle.map_lists.specs.Lists.{Lists}
 use Rattle.map_theory.specs.Maps.{IsSimpleMap, IsPlane, vertex_count}
 use Rattle.plane_laws.specs.Triangulations.{IsTriangulation}

@@ -15,6 +15,7 @@ use Rattle.rect_orders.specs.Orders.{IsRectOrder}
 use Rattle.rect_orders.specs.Runs.{shortened, IsRunOfMap, RectOrderIsRun}
 use Rattle.rect_orders.proofs.Closed.{length-closed}
 use Rattle.rect_orders.specs.Figures.{AreBoxesAt, IsDualFor, BoxesAreDualOfMap}
+use Rattle.rect_orders.specs.Labellings.{IsByLabelling, BoxesByLabelling}
 use Rattle.rect_dual.specs.RectDrawTables.{AreBoxTables, AreAtRanks, HasLowerRows}
 
 -- a fact about four vertices, by other names of them
@@ -125,3 +126,6 @@ module _ (lists : Lists) (s d p t : ℕ) (at ranks : List ℕ) (rows : Lists) (h
 
       pub drawn_dual : BoxesAreDualOfMap → IsDualFor lists s d p t fig
       drawn_dual law = law lists s d p t at ranks steps fig order h.class h.rank of_map boxes_at
+
+      pub drawn_by_labels : BoxesByLabelling → IsByLabelling lists s d p t fig
+      drawn_by_labels law = law lists s d p t at ranks found.0 fig h.class order h.rank found.1 boxes_at

@@ -23,4 +23,5 @@ pub mod Corners
 pub mod Cyclic
 pub mod Around
 pub mod Frame
+pub mod ByLabels
 pub mod RectLabellingsCases

@@ -2,6 +2,7 @@
 use Rattle.std.specs.Prelude.{ℕ, ◌-◌, ◌<◌, ◌≡◌, ◌≢◌, ◌⊎◌, List, map, length, slice_index}
 use Rattle.map_lists.specs.Lists.{Lists}
 use Rattle.map_theory.specs.Maps.{HasDart, list_of}
+use Rattle.pg_plane.specs.declared.figure.RectFigure.{RectFigure}
 use Rattle.contour_runs.specs.Runs.{Step}
 use Rattle.rect_runs.specs.Corners.{End, run_in, rise_out, run_out, rise_in}
 use Rattle.order_drawings.specs.OrderRuns.{IsOrderRun}
@@ -11,6 +12,9 @@ use Rattle.rect_orders.specs.Runs.{shortened}
 use Rattle.canon_order.specs.Orders.{IsRankOf}
 use Rattle.rect_runs.specs.Ends.{IsEndAt, other_end}
 use Rattle.rect_runs.specs.Rounds.{IsOnceRound}
+use Rattle.rect_runs.specs.Boxes.{boxes}
+use Rattle.rect_check.specs.Duals.{left_of, right_of, low_of, high_of}
+use Rattle.rect_orders.specs.Figures.{AreBoxesAt}
 
 -- v comes after u along the outer face
 abbrev pub IsSide : ℕ → ℕ → ℕ → ℕ → ℕ → ℕ → Type 0
@@ -39,3 +43,16 @@ abbrev pub LabelsOfOrder : Type 0
 LabelsOfOrder =
     (lists : Lists) (s d p t : ℕ) (at ranks : List ℕ) (steps : ℕ → Step) (end : ℕ → ℕ → End) → IsRectMap lists s d p t → (order : IsRectOrder lists s d p t at) → IsRankOf ranks at → IsOrderRun (closed lists s d p t) (t, s) at order.canonical.cycle steps
     → AreEndsOf lists s d p t at steps end → IsEdgeLabelling lists s d p t end
+
+-- The rectangles come of an edge labelling: along each run the one ends on the right where the other begins, and along each rise the one ends above where the other begins.
+pub record IsByLabelling (lists : Lists) (s d p t : ℕ) (fig : RectFigure) : Type 0 where
+  pub end : ℕ → ℕ → End
+  pub labelling : IsEdgeLabelling lists s d p t end
+  pub runs : (u v : ℕ) → HasDart lists u v → ¬ IsFrameEdge s d p t u v → end u v ≡ run_out → right_of fig u ≡ left_of fig v
+  pub rises : (u v : ℕ) → HasDart lists u v → ¬ IsFrameEdge s d p t u v → end u v ≡ rise_out → high_of fig u ≡ low_of fig v
+
+-- The boxes of a rectangular order come of one.
+abbrev pub BoxesByLabelling : Type 0
+BoxesByLabelling =
+    (lists : Lists) (s d p t : ℕ) (at ranks : List ℕ) (steps : ℕ → Step) (fig : RectFigure) → IsRectMap lists s d p t → (order : IsRectOrder lists s d p t at) → IsRankOf ranks at → IsOrderRun (closed lists s d p t) (t, s) at order.canonical.cycle steps
+    → AreBoxesAt (boxes (shortened steps (length at - 3)) (length at - 3)) lists ranks fig → IsByLabelling lists s d p t fig

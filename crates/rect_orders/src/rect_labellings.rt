@@ -1,10 +1,16 @@
-//! Edge labellings of maps whose outer face goes along four vertices (Kant, He 1997), from rectangular orders. The law is
+//! Edge labellings of maps whose outer face goes along four vertices (Kant, He 1997), from rectangular orders. Each law is
 //! the contract of a function that does nothing.
 
-ghost use Rattle.rect_orders.specs.Labellings.{LabelsOfOrder};
+ghost use Rattle.rect_orders.specs.Labellings.{LabelsOfOrder, BoxesByLabelling};
 
 /// Where each edge off the frame stands at its ends as in the run of a rectangular order, the map has an edge
 /// labelling.
 pub fn labels_of_order()
     ensures { LabelsOfOrder }
+{}
+
+/// The boxes of a rectangular order come of an edge labelling: along each run the right side of the one is the left
+/// side of the other, and along each rise the upper side of the one is the lower side of the other.
+pub fn boxes_by_labelling()
+    ensures { BoxesByLabelling }
 {}

@@ -1,15 +1,18 @@
 -- The boxes of a run with the last vertex on top.
 use Rattle.std.proofs.Common.{◌≡◌, ◌↔◌, ℕ, zero, suc, ◌+◌, ◌*◌, ◌-◌, ◌<◌, ◌≤◌, refl, sym, ap, ap₂, subst, ◌∙◌, inl, inr, arith}
 use Rattle.std.proofs.Math.Nat.{mul-suc}
-use Rattle.std.proofs.lemmas.Bool.{cases_eq, cases_lt}
+use Rattle.std.proofs.lemmas.Bool.{cases_eq, cases_lt, true≢false}
 use Rattle.contour_runs.specs.Runs.{Step, Stage, stage_after}
-use Rattle.contour_runs.proofs.Stages.{IsStage-run, count-stage_after}
+use Rattle.contour_runs.proofs.Stages.{IsStage-run, IsRun-less, count-stage_after}
 use Rattle.rect_runs.specs.Labels.{labels, IsLabelledRun}
 use Rattle.rect_runs.specs.Numbers.{Numbers, numbers, turn_of}
 use Rattle.rect_runs.specs.Laws.{IsPut}
-use Rattle.rect_runs.proofs.Steps.{numbers_fit, steps_fit, bounded, with_new-older, with_new-new}
+use Rattle.rect_runs.proofs.Steps.{numbers_fit, steps_fit, bounded, turn-step, with_new-older, with_new-new}
 use Rattle.rect_runs.specs.Boxes.{Boxes, lower_boxes, boxes, grid_width, ceiling, grid_height, IsRectRun}
 use Rattle.rect_runs.specs.Later.{StandsOver}
+use Rattle.rect_runs.specs.Corners.{run_in, rise_out, run_out, rise_in}
+use Rattle.rect_runs.specs.Ends.{IsEndAt, EdgesMeet}
+use Rattle.rect_runs.proofs.RectEndsFrame.{older-left, older-below, new-left, new-below}
 use Rattle.rect_runs.specs.RectBoxesLaws.{AreJoined, IsBeside, IsAbove, ShareSide, area_of, AreFilling, IsFramed, IsRunDual}
 use Rattle.rect_runs.proofs.Sides.{right_is, right_within, right_free, high_is, high_within, high_free, high_first}
 use Rattle.rect_runs.proofs.RectBoxesEnds.{last_rise, zeros, labelled-less, closed, grid_bounded}
@@ -159,6 +162,75 @@ module _ (steps : ℕ → Step) (n : ℕ) (h : IsRectRun steps n) where
       let within = (laid.within u older).0 in
       let upper = high_end p.place (omega arith) in
       inr (inl record { line = omega (arith, ap lower.high p.vertex); first = omega arith; second = omega arith })
+
+  -- a vertex over which one of the steps puts another is one of the first
+  under_is_older : (k u v : ℕ) → k < suc n → StandsOver steps k u v → u < n + 2
+  under_is_older k u v l p =
+      let run = IsRun-less steps k (suc n) (omega arith) h.labelled.run in
+      let w = (h.labelled.run k l).within in
+      let hi = p.high in
+      let count = count-stage_after steps k in
+      let placed = (IsStage-run steps k run).placed p.place (omega arith) in
+      let e = p.vertex in
+      omega arith
+
+  -- the last vertex is put over the first one alone with the edge between as a run
+  turns_at_first : (u v : ℕ) (p : StandsOver steps n u v) → p.place ≤ turn_of steps n → (u ≡ 0) × (v ≡ n + 2)
+  turns_at_first u v p l =
+      let t = turn-step steps n (suc n) h.labelled (omega arith) in
+      let first = h.top_first in
+      let last = h.top_last in
+      let order = (h.labelled.run n (omega arith)).order in
+      let none : turn_of steps n ≡ 0 = elim (cases_lt 0 (turn_of steps n)) [
+        | inl more ↦ absurd (true≢false (sym (closed steps n h 0 (omega arith)) ∙ t.rises 0 (omega arith) more))
+        | inr less ↦ omega arith
+      ] in
+      let here : p.place ≡ 0 = omega arith in
+      let stage = IsStage-run steps n labelled.run in
+      (sym p.vertex ∙ (ap g.vertex here ∙ stage.begin), p.new)
+
+  run_meets : (u v : ℕ) → ¬ ((u ≡ 0) × (v ≡ n + 2)) → IsEndAt steps (suc n) u v run_out → all.right u ≡ all.left v
+  run_meets u v off (inr x) = absurd (elim (cases_lt (turn_of steps x.step) x.over.place) [
+    | inl m ↦ (let e : run_out ≡ rise_in = x.end_is ∙ new-below (turn_of steps x.step) x.over.place m in cc)
+    | inr m ↦ (let e : run_out ≡ run_in = x.end_is ∙ new-left (turn_of steps x.step) x.over.place m in cc)
+  ])
+  run_meets u v off (inl x) = elim (cases_lt (turn_of steps x.step) x.over.place) [
+    | inl m ↦ absurd (let e : run_out ≡ rise_out = x.end_is ∙ older-below (turn_of steps x.step) x.over.place m in cc)
+    | inr m ↦ elim (cases_eq x.step n) [
+      | inl e ↦ absurd (let over = subst (λ k. (p : StandsOver steps k u v) × (p.place ≤ turn_of steps k)) e (x.over, m) in off (turns_at_first u v over.0 over.1))
+      | inr ne ↦
+          let b = x.before in
+          let new = x.over.new in
+          (same_box u (under_is_older x.step u v b x.over)).right
+          ∙ (ap lower.right (sym x.over.vertex)
+          ∙ (laid.right_is x.step x.over.place (omega arith) x.over.low m
+          ∙ (ap lower.left (sym new) ∙ sym (same_box v (omega arith)).left)))
+    ]
+  ]
+
+  rise_meets : (u v : ℕ) → IsEndAt steps (suc n) u v rise_out → all.high u ≡ all.low v
+  rise_meets u v (inr x) = absurd (elim (cases_lt (turn_of steps x.step) x.over.place) [
+    | inl m ↦ (let e : rise_out ≡ rise_in = x.end_is ∙ new-below (turn_of steps x.step) x.over.place m in cc)
+    | inr m ↦ (let e : rise_out ≡ run_in = x.end_is ∙ new-left (turn_of steps x.step) x.over.place m in cc)
+  ])
+  rise_meets u v (inl x) = elim (cases_lt (turn_of steps x.step) x.over.place) [
+    | inr m ↦ absurd (let e : rise_out ≡ run_out = x.end_is ∙ older-left (turn_of steps x.step) x.over.place m in cc)
+    | inl m ↦ elim (cases_eq x.step n) [
+      | inl e ↦
+          let over = subst (λ k. StandsOver steps k u v) e x.over in
+          let last = h.top_last in
+          let hi = over.high in
+          (same_box u (under_is_older n u v (omega arith) over)).high
+          ∙ (ap lower.high (sym over.vertex) ∙ (high_end over.place (omega arith) ∙ sym (top_box v over.new).low))
+      | inr ne ↦
+          let b = x.before in
+          let new = x.over.new in
+          (same_box u (under_is_older x.step u v b x.over)).high
+          ∙ (ap lower.high (sym x.over.vertex)
+          ∙ (laid.high_is x.step x.over.place (omega arith) m x.over.high
+          ∙ (ap lower.low (sym new) ∙ sym (same_box v (omega arith)).low)))
+    ]
+  ]
 
   top_above : (u v : ℕ) → u < n + 2 → v ≡ n + 2 → lower.high u ≡ top → StandsOver steps n u v
   top_above u v older z e =
@@ -331,3 +403,6 @@ module _ (steps : ℕ → Step) (n : ℕ) (h : IsRectRun steps n) where
 
 pub boxes_are_dual : (steps : ℕ → Step) (n : ℕ) → IsRectRun steps n → IsRunDual steps n (boxes steps n) (grid_width steps n) (grid_height steps n)
 boxes_are_dual steps n h = record { filling = filling steps n h; bounded = grid_bounded steps n h; contacts = contacts_joined steps n h; frame = framed steps n h }
+
+pub edges_meet : EdgesMeet
+edges_meet steps n u v h off = (run_meets steps n h u v off, rise_meets steps n h u v)

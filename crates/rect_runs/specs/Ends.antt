@@ -5,7 +5,7 @@ use Rattle.rect_runs.specs.Labels.{IsLabelledRun}
 use Rattle.rect_runs.specs.Numbers.{turn_of}
 use Rattle.rect_runs.specs.Corners.{End, run_in, rise_out, run_out, rise_in, Follows, at_older, at_new}
 use Rattle.rect_runs.specs.Later.{StandsOver}
-use Rattle.rect_runs.specs.Boxes.{IsRectRun}
+use Rattle.rect_runs.specs.Boxes.{boxes, IsRectRun}
 
 -- One of the first n steps puts v over u, and the edge between the two stands at u as e.
 pub record IsEarlierEnd (steps : ℕ → Step) (n u v : ℕ) (e : End) : Type 0 where
@@ -61,3 +61,9 @@ pub record AreFrameEnds (steps : ℕ → Step) (n : ℕ) : Type 0 where
 
 abbrev pub FrameEnds : Type 0
 FrameEnds = (steps : ℕ → Step) (n : ℕ) → IsRectRun steps n → AreFrameEnds steps n
+
+-- Along a run the one box ends on the right where the other begins, and along a rise it ends above where the other begins; but for the edge from the first vertex to the last one, which is one of the frame.
+abbrev pub EdgesMeet : Type 0
+EdgesMeet =
+    (steps : ℕ → Step) (n u v : ℕ) → IsRectRun steps n → ¬ ((u ≡ 0) × (v ≡ n + 2))
+    → (IsEndAt steps (suc n) u v run_out → (boxes steps n).right u ≡ (boxes steps n).left v) × (IsEndAt steps (suc n) u v rise_out → (boxes steps n).high u ≡ (boxes steps n).low v)

@@ -1,2 +1,4 @@
 -- The order of a wood as a graph.
 pub mod Arcs
+-- Figures of records by the regions of a wood.
+pub mod FigureRegions

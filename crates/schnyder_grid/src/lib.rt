@@ -4,8 +4,10 @@
 mod arcs;
 mod draw;
 mod fault;
+mod laws;
 mod order;
 
 pub use draw::schnyder_draw;
 pub use fault::SchnyderFault;
+pub use laws::figures_by_regions;
 pub use order::wood_order;

@@ -5,6 +5,7 @@ ghost use Rattle.half_edges.specs.Map.{IsLive, dart_at};
 ghost use Rattle.rect_check.specs.Duals.{HasRects};
 ghost use Rattle.rect_orders.specs.Maps.{IsRectMap};
 ghost use Rattle.rect_orders.specs.Figures.{IsDualFor};
+ghost use Rattle.rect_orders.specs.Labellings.{IsByLabelling};
 ghost use Rattle.rect_dual.specs.RectDrawTables.{AreAtRanks};
 
 use crate::draw::tables::{BoxTables, box_tables};
@@ -70,12 +71,14 @@ fn framed(
     requires inner { frame.inner.0 ≡ follows map.now.lists frame.bottom.0 frame.left.0 }
     ensures rects { IfOk result (HasRects map.now.lists) }
     ensures dual { IfOk result (IsDualFor map.now.lists frame.left.0 frame.top.0 frame.right.0 frame.bottom.0) }
+    ensures labelling { IfOk result (IsByLabelling map.now.lists frame.left.0 frame.top.0 frame.right.0 frame.bottom.0) }
 {
     map.facts();
     rect_orders::rect_order_is_run();
     order_drawings::order_runs::order_is_run();
     rect_runs::rect_boxes::boxes_are_dual();
     rect_orders::rect_duals::boxes_are_dual_of_map();
+    rect_orders::rect_labellings::boxes_by_labelling();
     let made = framed_order(alloc, map, lists, frame)?;
     let tables = box_tables(alloc, &made.rows)?;
     let figure = figure_at(alloc, &tables, &made.order.rank)?;
@@ -85,7 +88,8 @@ fn framed(
 /// A rectangular dual of a map of the class of the job `rect`, whose outer face is that of the base dart: a
 /// rectangle for each vertex, which together fill one of at most n - 2 by n - 2, and of which two share a side of
 /// positive length just where their vertices are adjacent. The outer face is walked by the left, the upper, the
-/// right and the lower rectangle, of which the base dart leaves the first.
+/// right and the lower rectangle, of which the base dart leaves the first. Each edge off that face is a run or a rise of
+/// an edge labelling: along a run the one rectangle ends on the right where the other begins, along a rise above.
 ///
 /// It fails only for want of memory, and the map stays as it is.
 ///
@@ -96,6 +100,7 @@ pub fn rect_draw(alloc: Global, map: &HalfMap, base: DartId) -> Result<RectFigur
     requires class { (s : ℕ) × (d : ℕ) × (p : ℕ) × (t : ℕ) × (dart_at map.now base.0 ≡ Some (s, d)) × IsRectMap map.now.lists s d p t }
     ensures rects { IfOk result (HasRects map.now.lists) }
     ensures dual { IfOk result (λ figure. (s d p t : ℕ) → dart_at map.now base.0 ≡ Some (s, d) → IsRectMap map.now.lists s d p t → IsDualFor map.now.lists s d p t figure) }
+    ensures labelling { IfOk result (λ figure. (s d p t : ℕ) → dart_at map.now base.0 ≡ Some (s, d) → IsRectMap map.now.lists s d p t → IsByLabelling map.now.lists s d p t figure) }
 {
     let lists = map.rotations(alloc)?;
     rect_draw_by_lists(alloc, map, &lists, base)
@@ -113,6 +118,7 @@ pub fn rect_draw_by_lists(
     requires class { (s : ℕ) × (d : ℕ) × (p : ℕ) × (t : ℕ) × (dart_at map.now base.0 ≡ Some (s, d)) × IsRectMap map.now.lists s d p t }
     ensures rects { IfOk result (HasRects map.now.lists) }
     ensures dual { IfOk result (λ figure. (s d p t : ℕ) → dart_at map.now base.0 ≡ Some (s, d) → IsRectMap map.now.lists s d p t → IsDualFor map.now.lists s d p t figure) }
+    ensures labelling { IfOk result (λ figure. (s d p t : ℕ) → dart_at map.now base.0 ≡ Some (s, d) → IsRectMap map.now.lists s d p t → IsByLabelling map.now.lists s d p t figure) }
 {
     framed(alloc, map, lists, frame_of(map, base))
 }

@@ -1,6 +1,7 @@
+use Rattle.canon_order.specs.Orders.{vertices_of}
 use Rattle.grid_figures.proofs.FigureLemmas.{drawn_by_wood}
 use Rattle.grid_figures.proofs.schnyder_figures.draw.order_figure.Goals as goal
 
 pub returns : goal.returns
 returns c = λ to dart canonical.
-    drawn_by_wood c.args.lists.now to c.in_ok-figure.figure (c.in_ok-figure.ensures.points (0, to) canonical).count (c.in_ok-figure.ensures.drawing (0, to) dart canonical) c.in_ok-figure.ensures.width c.in_ok-figure.ensures.height
+    drawn_by_wood c.args.lists.now to (vertices_of c.args.order.now) canonical.cycle c.in_ok-figure.figure (c.in_ok-figure.ensures.points (0, to) canonical) (c.in_ok-figure.ensures.drawing (0, to) dart canonical) c.in_ok-figure.ensures.width c.in_ok-figure.ensures.height

@@ -28,4 +28,4 @@ returns c =
     let found = c.in_ok-found.found in
     let drawn = subst (λ (ls : Lists). IsDrawnBy schnyder_form ls (vertices_of found.order) c.in_ok-figure.figure) h.listed c.in_ok-figure.ensures in
     let for_base : IsCompletionFor c.args.plane.map.lists found.tri.lists h.to = record { simple = h.simple; triangulation = h.triangulation; extended = h.extended; base = h.base } in
-    figure_of_drawing schnyder_form c.completion_draws.ensures c.args.plane.map.lists found.tri.lists h.to for_base c.in_ok-figure.figure (drawn h.to h.base.dart h.canonical)
+    figure_of_drawing schnyder_form c.completion_draws.ensures c.args.plane.map.lists found.tri.lists h.to for_base (vertices_of found.order) h.canonical c.in_ok-figure.figure (drawn h.to h.base.dart h.canonical)

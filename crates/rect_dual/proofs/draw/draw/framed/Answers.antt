@@ -1,6 +1,6 @@
 use Rattle.std.proofs.Common.{length}
 use Rattle.canon_order.specs.Orders.{vertices_of}
-use Rattle.rect_dual.proofs.Drawn.{rows_are, labelled, steps, AreSmall, tables_small, drawn_dual}
+use Rattle.rect_dual.proofs.Drawn.{rows_are, labelled, steps, AreSmall, tables_small, drawn_dual, drawn_by_labels}
 use Rattle.rect_dual.proofs.draw.draw.framed.Goals as goal
 use Rattle.rect_dual.proofs.draw.draw.framed.Goals.{In_ok-tables}
 
@@ -29,3 +29,9 @@ returns-clause-dual c =
     let e = c.in_ok-figure.ensures in
     drawn_dual c.args.map.now.lists c.args.frame.left.0 c.args.frame.top.0 c.args.frame.right.0 c.args.frame.bottom.0 (vertices_of c.in_ok-made.made.order) c.in_ok-made.made.order.rank c.in_ok-made.made.rows c.in_ok-made.ensures.rows c.order_is_run.ensures c.rect_order_is_run.ensures c.in_ok-tables.tables.left.items c.in_ok-tables.tables.right.items c.in_ok-tables.tables.low.items c.in_ok-tables.tables.high.items
     (c.in_ok-tables.ensures.boxes (steps c.args.map.now.lists c.args.frame.left.0 c.args.frame.top.0 c.args.frame.right.0 c.args.frame.bottom.0 (vertices_of c.in_ok-made.made.order) c.in_ok-made.made.order.rank c.in_ok-made.made.rows c.in_ok-made.ensures.rows c.order_is_run.ensures) (rows_are c.args.map.now.lists c.args.frame.left.0 c.args.frame.top.0 c.args.frame.right.0 c.args.frame.bottom.0 (vertices_of c.in_ok-made.made.order) c.in_ok-made.made.order.rank c.in_ok-made.made.rows c.in_ok-made.ensures.rows c.order_is_run.ensures) (labelled c.args.map.now.lists c.args.frame.left.0 c.args.frame.top.0 c.args.frame.right.0 c.args.frame.bottom.0 (vertices_of c.in_ok-made.made.order) c.in_ok-made.made.order.rank c.in_ok-made.made.rows c.in_ok-made.ensures.rows c.order_is_run.ensures c.rect_order_is_run.ensures)) c.in_ok-made.ensures.ranks c.in_ok-figure.figure e.x1 e.x2 e.y1 e.y2 c.boxes_are_dual_of_map.ensures
+
+pub returns-clause-labelling : goal.returns-clause-labelling
+returns-clause-labelling c =
+    let e = c.in_ok-figure.ensures in
+    drawn_by_labels c.args.map.now.lists c.args.frame.left.0 c.args.frame.top.0 c.args.frame.right.0 c.args.frame.bottom.0 (vertices_of c.in_ok-made.made.order) c.in_ok-made.made.order.rank c.in_ok-made.made.rows c.in_ok-made.ensures.rows c.order_is_run.ensures c.rect_order_is_run.ensures c.in_ok-tables.tables.left.items c.in_ok-tables.tables.right.items c.in_ok-tables.tables.low.items c.in_ok-tables.tables.high.items
+    (c.in_ok-tables.ensures.boxes (steps c.args.map.now.lists c.args.frame.left.0 c.args.frame.top.0 c.args.frame.right.0 c.args.frame.bottom.0 (vertices_of c.in_ok-made.made.order) c.in_ok-made.made.order.rank c.in_ok-made.made.rows c.in_ok-made.ensures.rows c.order_is_run.ensures) (rows_are c.args.map.now.lists c.args.frame.left.0 c.args.frame.top.0 c.args.frame.right.0 c.args.frame.bottom.0 (vertices_of c.in_ok-made.made.order) c.in_ok-made.made.order.rank c.in_ok-made.made.rows c.in_ok-made.ensures.rows c.order_is_run.ensures) (labelled c.args.map.now.lists c.args.frame.left.0 c.args.frame.top.0 c.args.frame.right.0 c.args.frame.bottom.0 (vertices_of c.in_ok-made.made.order) c.in_ok-made.made.order.rank c.in_ok-made.made.rows c.in_ok-made.ensures.rows c.order_is_run.ensures c.rect_order_is_run.ensures)) c.in_ok-made.ensures.ranks c.in_ok-figure.figure e.x1 e.x2 e.y1 e.y2 c.boxes_by_labelling.ensures

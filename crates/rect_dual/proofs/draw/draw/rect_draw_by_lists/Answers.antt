@@ -3,6 +3,7 @@ use Rattle.std.proofs.lemmas.Result.{IfOk-weaker}
 use Rattle.map_theory.specs.Maps.{follows}
 use Rattle.rect_orders.specs.Maps.{IsRectMap}
 use Rattle.rect_orders.specs.Figures.{IsDualFor}
+use Rattle.rect_orders.specs.Labellings.{IsByLabelling}
 use Rattle.rect_dual.proofs.Drawn.{by_names}
 use Rattle.rect_dual.proofs.draw.draw.rect_draw_by_lists.Goals as goal
 
@@ -28,3 +29,12 @@ returns-clause-dual c =
     let f = c.frame_of.ensures s d p t at class in
     by_names (λ s d p t. IsDualFor c.args.map.now.lists s d p t fig) frame.left.0 s frame.top.0 d frame.right.0 p frame.bottom.0 t f.left_is f.top_is f.right_is f.bottom_is dual)
     c.framed.ensures.dual
+
+pub returns-clause-labelling : goal.returns-clause-labelling
+returns-clause-labelling c =
+    let frame = c.frame_of.result in
+    IfOk-weaker c.framed.result _ _
+    (λ fig labelling s d p t at class.
+    let f = c.frame_of.ensures s d p t at class in
+    by_names (λ s d p t. IsByLabelling c.args.map.now.lists s d p t fig) frame.left.0 s frame.top.0 d frame.right.0 p frame.bottom.0 t f.left_is f.top_is f.right_is f.bottom_is labelling)
+    c.framed.ensures.labelling
