@@ -14,4 +14,4 @@ mod rings;
 mod stamps;
 mod vertices;
 
-pub use pairs::{plane_separating_pair, separating_pair_by};
+pub use pairs::separating_pair_by;

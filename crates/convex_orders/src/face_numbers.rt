@@ -8,7 +8,7 @@ ghost use Rattle.euler_faces.specs.FaceWalks.{AreFaces};
 ghost use Rattle.convex_orders.specs.FaceNumbers.{InWalk, AreOwn, AreOther, AreFaceNumbers, IsRowPut};
 ghost use Rattle.map_lists.specs.Cuts.{cut, AreCuts};
 
-use euler_faces::{Faces, faces};
+use euler_faces::Faces;
 use half_edges::{DartId, HalfMap, VertexId};
 use map_lists::ItemLists;
 use std::alloc::{AllocError, Global};
@@ -140,13 +140,4 @@ pub fn numbers_of_faces(
         other: ItemLists::from_parts(other, other_ends),
         count,
     })
-}
-
-/// The numbers of the faces of a map, as [`numbers_of_faces`] gives them.
-pub fn face_numbers(alloc: Global, map: &HalfMap) -> Result<FaceNumbers, AllocError>
-    ensures { IfOk result (λ t. AreFaceNumbers map.now.lists t.own t.other t.count) }
-{
-    let all = faces(alloc, map)?;
-    let numbers = numbers_of_faces(alloc, map, &all)?;
-    Ok(numbers)
 }

@@ -13,4 +13,4 @@ mod placed;
 mod rims;
 mod rounds;
 
-pub use orders::{convex_rows, rows_by_faces};
+pub use orders::rows_by_faces;

@@ -10,7 +10,7 @@ ghost use Rattle.convex_orders.specs.Tables.{AreTables};
 use crate::face_numbers::numbers_of_faces;
 use crate::rounds::{Tables, put_all};
 use convex_laws::convex_rows::ConvexRows;
-use euler_faces::{Faces, faces};
+use euler_faces::Faces;
 use half_edges::{DartId, HalfMap};
 use map_lists::Rotations;
 use std::alloc::{AllocError, Global};
@@ -66,7 +66,11 @@ fn rows_from(alloc: Global, tables: &Tables) -> Result<ConvexRows, AllocError>
     Ok(rows)
 }
 
-/// The rows that [`convex_rows`] gives, by the lists of the map and its faces.
+/// Returns the rows of a run of a three-connected map of genus zero from the dart `base`, from s to d, by the map's
+/// `lists` and its `faces`. It fails only for want of memory, and the map stays as it is.
+///
+/// The run makes all faces but that of the base. Its first two ranks stand for d and s, and the last one for the
+/// vertex before the base on the base's face.
 pub fn rows_by_faces(
     alloc: Global,
     map: &HalfMap,
@@ -89,22 +93,5 @@ pub fn rows_by_faces(
         head: map.head(base).0,
     };
     let rows = rows_from(alloc, &tables)?;
-    Ok(rows)
-}
-
-/// The rows of a run of a three-connected map of genus zero from a dart, the base, from s to d. It fails only for
-/// want of memory, and the map stays as it is.
-///
-/// The run makes all faces but that of the base. Its first two ranks stand for d and s, and the last one for the
-/// vertex before the base on the base's face.
-pub fn convex_rows(alloc: Global, map: &HalfMap, base: DartId) -> Result<ConvexRows, AllocError>
-    requires plane { IsPlane map.now.lists }
-    requires three { IsThreeConnected map.now.lists }
-    requires live { IsLive map.now base.0 }
-    ensures { IfOk result (λ rows. (s d : ℕ) → dart_at map.now base.0 ≡ Some (s, d) → AreRowsOfRun map.now.lists s d rows) }
-{
-    let lists = map.rotations(alloc)?;
-    let all = faces(alloc, map)?;
-    let rows = rows_by_faces(alloc, map, &lists, &all, base)?;
     Ok(rows)
 }

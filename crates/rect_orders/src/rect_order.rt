@@ -4,5 +4,5 @@ mod closing;
 mod contour;
 mod order;
 
-pub use closing::{Frame, closed_lists, frame_of, with_closing_edge};
+pub use closing::{Frame, frame_of, with_closing_edge};
 pub use order::rect_order;

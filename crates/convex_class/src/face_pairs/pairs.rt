@@ -9,7 +9,7 @@ ghost use Rattle.convex_class.specs.Passing.{IsUnused};
 
 use crate::face_pairs::least::least_paired;
 use crate::face_pairs::marks::mark_walk;
-use euler_faces::{Faces, faces};
+use euler_faces::Faces;
 use half_edges::{DartId, FaceId, HalfMap, VertexId};
 use std::alloc::{AllocError, Global};
 
@@ -124,20 +124,5 @@ pub fn separating_pair_by(
     }
     let mut marks = vec![in alloc; map.n(); map.n() as usize]?;
     let pair = first_pair(map, faces, from, &mut marks);
-    Ok(pair)
-}
-
-/// The least separating pair of a map of genus zero without cut vertices, as [`separating_pair_by`] finds it by the
-/// faces of the map.
-pub fn plane_separating_pair(
-    alloc: Global,
-    map: &HalfMap,
-) -> Result<Option<(VertexId, VertexId)>, AllocError>
-    requires plane { IsPlane map.now.lists }
-    requires uncut { (v : ℕ) → ¬ IsCutVertex map.now.lists v }
-    ensures { IfOk result (λ found. MatchOption found ((u v : ℕ) → ¬ IsSeparatingPair map.now.lists u v) (λ p. IsLeastPair map.now.lists p.0.0 p.1.0)) }
-{
-    let all = faces(alloc, map)?;
-    let pair = separating_pair_by(alloc, map, &all)?;
     Ok(pair)
 }

@@ -50,17 +50,9 @@ fn drawn(alloc: Global, graph: &Graph, lists: Rotations) -> Result<EmbedFigure, 
     }
 }
 
-/// A map of a graph with at least three vertices and the map's drawing in the grid n - 2 by n - 2, or a witness that there
-/// is none. It fails only for want of memory.
-pub fn embed_figure(alloc: Global, graph: &Graph) -> Result<EmbedFigure, AllocError>
-    requires { 3 ≤ graph.now.n }
-    ensures { IfOk result (IsEmbedFigure graph.now) }
-{
-    let mut tables = Tables::new();
-    embed_figure_in(alloc, &mut tables, graph)
-}
-
-/// The same, in tables that may have served other graphs before. What they hold says nothing of the answer.
+/// Returns a map of a graph with at least three vertices and the map's drawing in the grid n - 2 by n - 2, or a witness
+/// that there is none. `tables` may have served other graphs before; what they hold says nothing of the answer. It fails
+/// only for want of memory.
 pub fn embed_figure_in(
     alloc: Global,
     tables: &mut Tables,

@@ -41,18 +41,9 @@ pub fn frame_of(map: &HalfMap, base: DartId) -> Frame
     }
 }
 
-/// The lists of the closed map of one of this class, whose base dart goes from the left vertex to the top: an edge
-/// more, outside, between the top and the bottom. It is a triangulation.
-///
-/// It fails only for want of memory, and the map stays as it is.
-pub fn closed_lists(alloc: Global, map: &HalfMap, frame: Frame) -> Result<Rotations, AllocError>
-    ensures { IfOk result (λ more. more ≡ closed map.now.lists frame.left.0 frame.top.0 frame.right.0 frame.bottom.0) }
-{
-    let lists = map.rotations(alloc)?;
-    with_closing_edge(alloc, &lists, frame)
-}
-
-/// The same lists, by those of the map.
+/// Returns the lists of the closed map of one of this class, of which `lists` are the lists and `frame` has the outer
+/// vertices: an edge more, outside, between the top and the bottom. It is a triangulation. It fails only for want of
+/// memory.
 pub fn with_closing_edge(
     alloc: Global,
     lists: &Rotations,

@@ -1,0 +1,185 @@
+//! Woods of triangulations, the regions of their vertices, and the drawing that stands on them.
+ghost use Rattle.std.specs.Prelude.{◌<◌, IfOk};
+ghost use Rattle.map_theory.specs.Maps.{Dart, HasDart};
+ghost use Rattle.plane_laws.specs.Triangulations.{IsTriangulation};
+ghost use Rattle.canon_order.specs.Orders.{IsCanonicalOrder, IsRankOf, vertices_of};
+ghost use Rattle.schnyder_wood.specs.Parents.{count_in, IsInnerIn, IsWoodOf};
+
+use canon_order::Order;
+use half_edges::{HalfMap, VertexId};
+use pg_plane::{GridFigure, Points};
+use row_texts::points::put_points;
+use row_texts::refusal::tell_no_memory;
+use row_texts::text::{put, put_number, put_one};
+use schnyder_grid::schnyder_draw;
+use schnyder_wood::schnyder_regions::region_count;
+use schnyder_wood::{Colour, Wood, path_len, wood};
+use std::alloc::{AllocError, Global};
+
+const COLOURS: [Colour; 3] = [Colour::One, Colour::Two, Colour::Three];
+
+// The wood of an order.
+fn wood_of(alloc: Global, tri: &HalfMap, order: &Order) -> Result<Wood, AllocError>
+    requires triangulation { IsTriangulation tri.now.lists }
+    requires order { (base : Dart) × IsCanonicalOrder tri.now.lists base (vertices_of order.now) }
+    requires based { (base : Dart) × HasDart tri.now.lists base.0 base.1 × IsCanonicalOrder tri.now.lists base (vertices_of order.now) }
+    requires rank { IsRankOf order.now.rank (vertices_of order.now) }
+    ensures { IfOk result (λ found. (base : Dart) × HasDart tri.now.lists base.0 base.1 × IsWoodOf tri.now.lists base found) }
+{
+    let found = wood(alloc, tri, order)?;
+    Ok(found)
+}
+
+// The parent of a vertex in a colour, and the length of its path.
+fn put_parent(found: &Wood, colour: Colour, v: VertexId, out: &mut String)
+    requires { v.0 < count_in found.now }
+{
+    match found.parent(colour, v) {
+        Some(u) => {
+            put_number(u64::from(u.0), out);
+            put_one(" at", u64::from(path_len(found, v, colour)), out);
+            put(", ", out);
+        }
+        None => put("root, ", out),
+    }
+}
+
+// The parents of a vertex, and the roots of the wood.
+fn put_parents(found: &Wood, v: VertexId, out: &mut String)
+    requires { v.0 < count_in found.now }
+{
+    for colour in COLOURS {
+        put_parent(found, colour, v, out);
+    }
+    put("roots", out);
+    for colour in COLOURS {
+        put_one("", u64::from(found.root(colour).0), out);
+    }
+}
+
+// The counts of the three regions of an inner vertex.
+fn regions(alloc: Global, tri: &HalfMap, found: &Wood, v: VertexId) -> Result<[u32; 3], AllocError>
+    requires inner { IsInnerIn found.now v.0 }
+    requires wood { (base : Dart) × HasDart tri.now.lists base.0 base.1 × IsWoodOf tri.now.lists base found.now }
+{
+    let one = region_count(alloc, tri, found, v, Colour::One)?;
+    let two = region_count(alloc, tri, found, v, Colour::Two)?;
+    let three = region_count(alloc, tri, found, v, Colour::Three)?;
+    Ok([one, two, three])
+}
+
+// The regions of a vertex, if it is an inner one.
+fn put_regions(alloc: Global, tri: &HalfMap, found: &Wood, v: VertexId, out: &mut String)
+    requires vertex { v.0 < count_in found.now }
+    requires wood { (base : Dart) × HasDart tri.now.lists base.0 base.1 × IsWoodOf tri.now.lists base found.now }
+{
+    if found.parent(Colour::One, v).is_some() {
+        match regions(alloc, tri, found, v) {
+            Ok(counts) => {
+                put_number(u64::from(counts[0]), out);
+                put_one("", u64::from(counts[1]), out);
+                put_one("", u64::from(counts[2]), out);
+            }
+            Err(_) => tell_no_memory(out),
+        }
+    }
+}
+
+// Whether a vertex stands at two coordinates.
+fn is_at(points: &Points, v: VertexId, x: u32, y: u32) -> bool {
+    if usize::from(v.0) >= points.len() {
+        return false;
+    }
+    let point = points.get(usize::from(v.0));
+    i64::from(point.x) == i64::from(x) && i64::from(point.y) == i64::from(y)
+}
+
+// Whether an inner vertex stands at its coordinates: by how many vertices a region has more than the path of the
+// colour before.
+fn stands(alloc: Global, tri: &HalfMap, found: &Wood, v: VertexId, points: &Points) -> bool
+    requires inner { IsInnerIn found.now v.0 }
+    requires wood { (base : Dart) × HasDart tri.now.lists base.0 base.1 × IsWoodOf tri.now.lists base found.now }
+{
+    match regions(alloc, tri, found, v) {
+        Ok(counts) => {
+            let x = counts[0].wrapping_sub(path_len(found, v, Colour::Three));
+            let y = counts[1].wrapping_sub(path_len(found, v, Colour::One));
+            is_at(points, v, x, y)
+        }
+        Err(_) => false,
+    }
+}
+
+// How many inner vertices stand at their coordinates.
+fn standing(alloc: Global, tri: &HalfMap, found: &Wood, points: &Points) -> u64
+    requires { (base : Dart) × HasDart tri.now.lists base.0 base.1 × IsWoodOf tri.now.lists base found.now }
+{
+    let mut count: u64 = 0;
+    for v in 0..found.n() {
+        if found.parent(Colour::One, VertexId(v)).is_some()
+            && stands(alloc, tri, found, VertexId(v), points)
+        {
+            count = count.wrapping_add(1);
+        }
+    }
+    count
+}
+
+// The first points of a drawing, and how many inner vertices stand where the regions say.
+fn put_drawn(
+    alloc: Global,
+    tri: &HalfMap,
+    found: &Wood,
+    figure: &GridFigure,
+    most: u16,
+    out: &mut String,
+)
+    requires { (base : Dart) × HasDart tri.now.lists base.0 base.1 × IsWoodOf tri.now.lists base found.now }
+{
+    put_points(&figure.points, usize::from(most), out);
+    put_one(",", standing(alloc, tri, found, &figure.points), out);
+    put(" by regions", out);
+}
+
+// The drawing by a wood.
+fn drawing(alloc: Global, tri: &HalfMap, found: &Wood, most: u16, out: &mut String)
+    requires triangulation { IsTriangulation tri.now.lists }
+    requires wood { (base : Dart) × HasDart tri.now.lists base.0 base.1 × IsWoodOf tri.now.lists base found.now }
+{
+    match schnyder_draw(alloc, tri, found) {
+        Ok(figure) => put_drawn(alloc, tri, found, &figure, most, out),
+        Err(_) => tell_no_memory(out),
+    }
+}
+
+// The answer to a row on a wood, with a number: that of a vertex, or how many points are told.
+fn of_wood(alloc: Global, call: &str, tri: &HalfMap, found: &Wood, number: u16, out: &mut String)
+    requires triangulation { IsTriangulation tri.now.lists }
+    requires wood { (base : Dart) × HasDart tri.now.lists base.0 base.1 × IsWoodOf tri.now.lists base found.now }
+{
+    match call {
+        "parents" if number < found.n() => put_parents(found, VertexId(number), out),
+        "region" if number < found.n() => put_regions(alloc, tri, found, VertexId(number), out),
+        _ => drawing(alloc, tri, found, number, out),
+    }
+}
+
+/// The answer to a row on the wood of an order.
+pub fn answer(
+    alloc: Global,
+    call: &str,
+    tri: &HalfMap,
+    order: &Order,
+    number: u16,
+    out: &mut String,
+)
+    requires triangulation { IsTriangulation tri.now.lists }
+    requires order { (base : Dart) × IsCanonicalOrder tri.now.lists base (vertices_of order.now) }
+    requires based { (base : Dart) × HasDart tri.now.lists base.0 base.1 × IsCanonicalOrder tri.now.lists base (vertices_of order.now) }
+    requires rank { IsRankOf order.now.rank (vertices_of order.now) }
+{
+    match wood_of(alloc, tri, order) {
+        Ok(found) => of_wood(alloc, call, tri, &found, number, out),
+        Err(_) => tell_no_memory(out),
+    }
+}
