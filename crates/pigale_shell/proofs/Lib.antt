@@ -3,5 +3,6 @@ mod AnswerLemmas
 mod PlanarLemmas
 mod OutcomeLemmas
 mod MadeLemmas
+mod OneTextLemmas
 mod Cases
 mod Refused

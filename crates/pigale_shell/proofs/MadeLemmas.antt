@@ -7,11 +7,11 @@ use Rattle.std.proofs.lemmas.Option.{slice_get_within, get_or_from_slice_get}
 use Rattle.pg_plane.specs.declared.point.Point.{Point}
 use Rattle.map_gen.specs.Stacked.{stacked}
 use Rattle.map_lists.specs.Lists.{Lists}
-use Rattle.pg_io.specs.Io.{GrowsByPrefix, HasRisen}
+use Rattle.pg_io.specs.Io.{Grows, GrowsByPrefix, HasRisen}
 use Rattle.pg_io.proofs.Growth.{GrowsByPrefix-none}
 use Rattle.record_runs.specs.Texts.{AreBlocks}
 use Rattle.record_runs.specs.Outcome.{ports, Outcome}
-use Rattle.record_runs.specs.declared.run.RunEnd.TheVariants.{WriteFault, NoMemory}
+use Rattle.record_runs.specs.declared.run.RunEnd.TheVariants.{Done, WriteFault, NoMemory}
 use Rattle.planar_code.specs.Reading.{well}
 use Rattle.pigale_shell.specs.Text.{last_line}
 use Rattle.pigale_shell.specs.Made.{total, IsMadeBlock, made, made_answers}
@@ -33,6 +33,23 @@ block-alone : (lists : Lists) (block : List ℕ) → IsMadeBlock 1 lists block �
 block-alone lists block is = (block, [], is, refl, sym (append-nil block))
 
 module _ (size number reads : ℕ) {written written' : Option (List ℕ)} {writes writes' : ℕ} where
+  -- the whole text was written
+  pub made-whole : (block bytes : List ℕ) → IsMadeBlock 1 (stacked size number) block → bytes ≡ block ++ last_line 1 0 well → Grows written written' bytes → writes' ≡ writes → Outcome (made size number) made_answers (ports (Some []) reads written writes) (ports (Some []) reads written' writes') Done
+  made-whole block bytes is text grows kept = (
+    (refl, kept),
+    λ input told. (
+      refl,
+      record {
+        records = stacked size number ∷ [];
+        blocks = block;
+        reading = refl;
+        answers = block-alone (stacked size number) block is;
+        counted = (true, 0, refl, refl, refl);
+        grows = subst (Grows written written') text grows;
+      },
+    ),
+  )
+
   -- some first bytes of the text were written
   pub made-cut : (block bytes : List ℕ) → IsMadeBlock 1 (stacked size number) block → bytes ≡ block ++ last_line 1 0 well → GrowsByPrefix written written' bytes → HasRisen writes writes' → Outcome (made size number) made_answers (ports (Some []) reads written writes) (ports (Some []) reads written' writes') WriteFault
   made-cut block bytes is text grows risen = (

@@ -12,6 +12,7 @@ use Rattle.line_inputs.specs.declared.graph_lines.ending.Ending.TheVariants.{Wel
 use Rattle.figure_text.specs.Text.{witness_text}
 use Rattle.figure_text.specs.declared.figure.GridJob.TheVariants.{Schnyder}
 use Rattle.svg_out.specs.Svg.{IsWitnessSvg}
+use Rattle.refusals.specs.declared.refusal.Refusal.{Refusal}
 use Rattle.refusals.specs.declared.refusal.Refusal.TheVariants.{Small}
 use Rattle.embed_graph.specs.Figures.{IsDrawnMap}
 use Rattle.pigale_shell.specs.Text.{word_and_number, line, end_line}
@@ -42,9 +43,13 @@ pub record IsRefutedText (form : Form) (k : ℕ) (graph : EdgeGraph) (text : Lis
 abbrev pub IsGraphText : Form → ℕ → EdgeGraph → List ℕ → Type 0
 IsGraphText form k graph text = IsDrawnText form k graph text ⊎ IsRefutedText form k graph text
 
+-- the graph has fewer than three vertices, and the condition says how many
+abbrev pub IsTooSmall : EdgeGraph → Refusal → Type 0
+IsTooSmall graph refusal = (refusal ≡ Small graph.n) × (graph.n < 3)
+
 -- the text is the answer of `embed` to graph k, which is refused where it has fewer than three vertices
 abbrev pub IsEmbedBlock : Form → ℕ → EdgeGraph → List ℕ → Type 0
-IsEmbedBlock form k graph text = IsJobBlock (3 ≤ graph.n) (IsGraphText form k graph) (λ refusal. (refusal ≡ Small graph.n) × (graph.n < 3)) form k text
+IsEmbedBlock form k graph text = IsJobBlock (3 ≤ graph.n) (IsGraphText form k graph) (IsTooSmall graph) form k text
 
 -- the last line, by the ending of the input
 unfoldable pub embed_last_line : ℕ → ℕ → Ending → List ℕ

@@ -11,3 +11,5 @@ pub mod JobInput
 pub mod Outcome
 pub mod Text
 pub mod EmbedText
+-- What words and input decide of the text.
+pub mod OneText

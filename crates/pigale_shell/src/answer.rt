@@ -50,7 +50,7 @@ pub fn answer_record(
 }
 
 // A law: no lists are both served and refused.
-fn served_breaks_nothing()
+pub(crate) fn served_breaks_nothing()
     ensures { ServedBreaksNothing }
 {
     conn_parts::biconnected_maps::biconnected_break_nothing();

@@ -5,6 +5,7 @@ mod answer;
 mod embed;
 mod form;
 mod kinds;
+mod laws;
 mod lines;
 mod made;
 mod planar;
@@ -13,5 +14,6 @@ mod top;
 mod verify;
 
 pub use answer::answer_record;
+pub use laws::{one_graph_refusal_line, one_refusal_line, one_text};
 pub use pigale_words::{Form, Job, Status, WordFault, count_words, job_words, words_to_job};
 pub use top::pigale;

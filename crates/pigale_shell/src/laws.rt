@@ -1,0 +1,26 @@
+//! What the words and the input decide of the text that a run writes.
+ghost use Rattle.pigale_shell.specs.OneText.{OneText, OneRefusalLine, OneGraphRefusalLine};
+
+use super::answer::served_breaks_nothing;
+
+/// A run of `count` or `verify` that reads its input to the end writes one text: it is a function of the input.
+pub fn one_text()
+    ensures { OneText }
+{
+    verdict_laws::one_figure_verdict();
+}
+
+/// A map that is refused is refused by one line: it is a function of the job, the record and its number.
+pub fn one_refusal_line()
+    ensures { OneRefusalLine }
+{
+    verdict_laws::one_break();
+    verdict_laws::one_convex_break();
+    verdict_laws::one_rect_break();
+    served_breaks_nothing();
+}
+
+/// A graph that `embed` refuses is refused by one line.
+pub fn one_graph_refusal_line()
+    ensures { OneGraphRefusalLine }
+{}

@@ -1,0 +1,33 @@
+//! Embeddings of graphs, or witnesses that there are none.
+ghost use Rattle.std.specs.Prelude.{◌<◌, ◌≤◌, IfOk};
+ghost use Rattle.embed_graph.specs.Embeddings.{IsEmbedding};
+ghost use Rattle.embed_graph.specs.Figures.{IsEmbedFigure};
+
+use embed_graph::Embedding;
+use embed_graph::embed_figures::EmbedFigure;
+use graph6_text::Graph;
+use std::alloc::{AllocError, Global};
+
+/// Returns a map of genus zero with the edges of `graph`, or a subdivision of K5 or K3,3.
+pub fn embed(alloc: Global, graph: &Graph) -> Result<Embedding, AllocError>
+    requires { 3 ≤ graph.now.n }
+    ensures { IfOk result (IsEmbedding graph.now) }
+{
+    embed_graph::embed(alloc, graph)
+}
+
+/// Returns a map of genus zero with the edges of `graph`, or a subdivision of K5 or K3,3, by contracting edges.
+pub fn embed_by_contraction(alloc: Global, graph: &Graph) -> Result<Embedding, AllocError>
+    requires { 0 < graph.now.n }
+    ensures { IfOk result (IsEmbedding graph.now) }
+{
+    embed_graph::contracted_embeddings::embed_by_contraction(alloc, graph)
+}
+
+/// Returns a drawn map of genus zero with the edges of `graph`, or a subdivision of K5 or K3,3.
+pub fn embed_figure(alloc: Global, graph: &Graph) -> Result<EmbedFigure, AllocError>
+    requires { 3 ≤ graph.now.n }
+    ensures { IfOk result (IsEmbedFigure graph.now) }
+{
+    embed_graph::embed_figures::embed_figure(alloc, graph)
+}
