@@ -11,11 +11,8 @@ use Rattle.map_theory.proofs.DartCounts.{sum_below, count_mirrored}
 use Rattle.map_theory.proofs.EntryLemmas.{count_of, count_of-le-one}
 use Rattle.vertex_rounds.specs.Rounds.{HasEdge}
 use Rattle.bar_check.specs.Bars.{edges_until, edges_before, edge_number}
+use Rattle.bar_check.specs.Tables.{AreNext}
 use Rattle.bar_check.proofs.NumberLemmas.{above, edges_until-sum}
-
--- The lists before that of b have been gone over, and the first i entries of that of b: `next` says for each vertex the number of its next edge upwards.
-abbrev pub AreNext : Lists → ℕ → ℕ → List ℕ → Type 0
-AreNext lists b i next = (a : ℕ) → a < length lists → get_or next a 0 ≡ edges_before lists a + edges_until lists a b + cond (ltb a b) (count_of a (take i (list_of lists b))) 0
 
 nothing : (t : Bool) → cond {A = ℕ} t 0 0 ≡ 0
 nothing true = refl

@@ -1,10 +1,13 @@
 -- Tables by the ids of darts, of the column of each edge and of whether it is clear; and the highest bars that a sweep from below has met.
-use Rattle.std.specs.Prelude.{ℕ, ◌+◌, ◌<◌, ◌≡◌, ◌≢◌, ◌⊎◌, ◌==◌, nat_lt, if◌then◌else◌, Bool, true, false, List, length, take, slice_index, slice_index_or, count_by, Some, ℤ, pos, ◌+ℤ◌, ◌≤ℤ◌, ◌<ℤ◌}
+use Rattle.std.specs.Prelude.{ℕ, ◌+◌, ◌<◌, ◌≤◌, Option, MatchOption, ◌≡◌, ◌≢◌, ◌⊎◌, ◌==◌, nat_lt, if◌then◌else◌, Bool, true, false, List, length, take, slice_index, slice_index_or, count_by, Some, ℤ, pos, ◌+ℤ◌, ◌≤ℤ◌, ◌<ℤ◌}
 use Rattle.map_lists.specs.Lists.{Lists}
+use Rattle.map_lists.specs.declared.items.Ends.{Ends}
 use Rattle.map_theory.specs.Maps.{list_of, place_of}
 use Rattle.half_edges.specs.Map.{Map, IsLive, dart_at}
 use Rattle.pg_plane.specs.declared.figure.BarFigure.{BarFigure}
 use Rattle.vertex_rounds.specs.Rounds.{HasEdge, dart_of}
+use Rattle.vertex_rounds.specs.Least.{IsLeastPair}
+use Rattle.bar_check.specs.Faults.{HasBadColumn}
 use Rattle.bar_check.specs.Bars.{number_at, edges_until, edges_before, column_of, column_between, Holds, IsStruck}
 
 -- e is the id of one of the two darts of the edge from a to c
@@ -27,10 +30,29 @@ abbrev pub IsMet : Lists → ℕ → ℕ → ℕ → ℕ → Type 0
 IsMet lists b i a c = (c < b) ⊎ ((c ≡ b) × (place_of a (list_of lists b) < i))
 
 -- The lists before that of b have been gone over, and the first i entries of that of b: `next` says for each vertex the number of its next edge upwards.
+abbrev pub AreNext : Lists → ℕ → ℕ → List ℕ → Type 0
+AreNext lists b i next =
+    (a : ℕ) → a < length lists → slice_index next a ≡ edges_before lists a + edges_until lists a b + (if nat_lt a b then count_by (λ u. u == a) (take i (list_of lists b)) else 0)
+
+-- so far, and the columns of the edges that were met are written
 pub record AreFilled (map : Map) (fig : BarFigure) (b i : ℕ) (next : List ℕ) (columns : List ℤ) : Type 0 where
   pub vertices : length next ≡ length map.lists
-  pub numbers : (a : ℕ) → a < length map.lists → slice_index next a ≡ edges_before map.lists a + edges_until map.lists a b + (if nat_lt a b then count_by (λ u. u == a) (take i (list_of map.lists b)) else 0)
+  pub numbers : AreNext map.lists b i next
   pub known : (a c e : ℕ) → HasEdge map.lists a c → IsMet map.lists b i a c → IsDartOf map e a c → e < length columns → number_at columns e ≡ column_of map.lists fig a c
+
+-- an edge that was met has a bad column
+pub record IsMetBad (lists : Lists) (fig : BarFigure) (width : ℤ) (b i a c : ℕ) : Type 0 where
+  pub bad : HasBadColumn lists fig width a c
+  pub met : IsMet lists b i a c
+
+-- the first such edge, if there is one
+abbrev pub IsFirstMetBad : Lists → BarFigure → ℤ → ℕ → ℕ → Option Ends → Type 0
+IsFirstMetBad lists fig width b i found =
+    MatchOption found ((a c : ℕ) → ¬ IsMetBad lists fig width b i a c) (λ e. IsLeastPair (IsMetBad lists fig width b i) e.a.0 e.b.0)
+
+-- an edge was found, and its lesser end is not above a
+abbrev pub IsUpTo : Option Ends → ℕ → Type 0
+IsUpTo found a = MatchOption found ⊥ (λ e. e.a.0 ≤ a)
 
 -- where a dart is marked, no bar is in the way of its edge
 pub record AreClear (map : Map) (fig : BarFigure) (clear : List Bool) : Type 0 where

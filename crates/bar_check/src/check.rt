@@ -4,11 +4,11 @@ ghost use Rattle.half_edges.specs.Map.{IsHalfMap};
 ghost use Rattle.map_theory.specs.Maps.{edge_count};
 ghost use Rattle.bar_check.specs.Bars.{HasBars, IsValidBars};
 ghost use Rattle.bar_check.specs.Verdicts.{HasShape, HasHeights, AreBars, NoBadColumn, NoneThrough, NoneOverlap, KeepsTurns, IsBarVerdict};
-ghost use Rattle.bar_check.specs.Tables.{AreColumns, AreClear};
+ghost use Rattle.bar_check.specs.Tables.{AreColumns};
 
 use crate::BarVerdict;
 use crate::clear::fill_clear;
-use crate::columns::{first_bad_column, first_through};
+use crate::columns::first_through;
 use crate::heights::{first_bad_bar, first_bad_height};
 use crate::table::fill_columns;
 use crate::turns::first_turned;
@@ -33,32 +33,6 @@ fn first_of_bars(map: &HalfMap, fig: &BarFigure, width: i32) -> Option<BarVerdic
     }
 }
 
-// The first fault of an edge.
-fn first_of_edges(
-    map: &HalfMap,
-    fig: &BarFigure,
-    width: i32,
-    columns: &[i32],
-    clear: &[bool],
-) -> Option<BarVerdict>
-    requires known { IsHalfMap map.now }
-    requires table { AreColumns map.now fig.now columns.now }
-    requires clear { AreClear map.now fig.now clear.now }
-    requires shape { HasShape map.now.lists fig.now }
-    requires heights { HasHeights map.now.lists fig.now }
-    requires bars { AreBars map.now.lists fig.now width }
-    ensures { MatchOption result (NoBadColumn map.now.lists fig.now width × NoneThrough map.now.lists fig.now)
-        (IsBarVerdict map.now.lists fig.now width) }
-{
-    if let Some(e) = first_bad_column(map, fig, width, columns, clear) {
-        return Some(BarVerdict::BadColumn(e));
-    }
-    match first_through(map, fig, columns, clear) {
-        Some((e, v)) => Some(BarVerdict::Through(e, v)),
-        None => None,
-    }
-}
-
 // The first fault of a list.
 fn first_of_turns(map: &HalfMap, fig: &BarFigure, width: i32, columns: &[i32]) -> BarVerdict
     requires known { IsHalfMap map.now }
@@ -73,6 +47,33 @@ fn first_of_turns(map: &HalfMap, fig: &BarFigure, width: i32, columns: &[i32]) -
     match first_turned(map, fig, columns) {
         Some(v) => BarVerdict::Turned(v),
         None => BarVerdict::Yes,
+    }
+}
+
+// The first fault of an edge with a bar in its way or of a list, with room for the vertices in the order of
+// their heights, for the highest bars of columns, and for a mark at each dart.
+fn first_behind_columns(
+    map: &HalfMap,
+    fig: &BarFigure,
+    width: i32,
+    columns: &[i32],
+    order: &mut [u16],
+    tops: &mut [u16],
+    clear: &mut [bool],
+) -> BarVerdict
+    requires known { IsHalfMap map.now }
+    requires table { AreColumns map.now fig.now columns.now }
+    requires shape { HasShape map.now.lists fig.now }
+    requires heights { HasHeights map.now.lists fig.now }
+    requires bars { AreBars map.now.lists fig.now width }
+    requires columns { NoBadColumn map.now.lists fig.now width }
+    requires order { length order.old ≡ length map.now.lists }
+    ensures { IsBarVerdict map.now.lists fig.now width result }
+{
+    fill_clear(map, fig, columns, order, tops, clear);
+    match first_through(map, fig, columns, clear) {
+        Some((e, v)) => BarVerdict::Through(e, v),
+        None => first_of_turns(map, fig, width, columns),
     }
 }
 
@@ -96,11 +97,9 @@ fn first_behind_in(
     requires order { length order.old ≡ length map.now.lists }
     ensures { IsBarVerdict map.now.lists fig.now width result }
 {
-    fill_columns(map, fig, next, columns);
-    fill_clear(map, fig, columns, order, tops, clear);
-    match first_of_edges(map, fig, width, columns, clear) {
-        Some(verdict) => verdict,
-        None => first_of_turns(map, fig, width, columns),
+    match fill_columns(map, fig, width, next, columns) {
+        Some(e) => BarVerdict::BadColumn(e),
+        None => first_behind_columns(map, fig, width, columns, order, tops, clear),
     }
 }
 
@@ -159,9 +158,9 @@ fn first_behind_bars(map: &HalfMap, fig: &BarFigure, width: i32) -> BarVerdict
 /// The first fault of a visibility drawing in the order of the variants of `BarVerdict`, with the least ids,
 /// or `Yes` exactly where it is one of the map within this width.
 ///
-/// `fig` has a bar for each vertex. It takes no memory from the heap, and at most 200 KB of the stack. Where
-/// the edges are no more than those of a plane map, the time is that of reading the map, besides that in
-/// which a sweep fills the columns of each bar; else each edge is compared with each vertex.
+/// `fig` has a bar for each vertex. It takes no memory from the heap, and at most 200 KB of the stack. The time
+/// is that of reading the map, besides that in which a sweep fills the columns of each bar; an edge that the
+/// sweep does not pass is compared with each vertex.
 pub fn check_bars(map: &HalfMap, fig: &BarFigure, width: i32) -> BarVerdict
     requires { HasBars map.now.lists fig.now }
     ensures { IsBarVerdict map.now.lists fig.now width result }

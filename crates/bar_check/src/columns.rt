@@ -1,46 +1,21 @@
-//! Columns that stand wrong, and bars in their way.
-ghost use Rattle.std.specs.Prelude.{◌≡◌, ◌+◌, ◌*◌, ◌<◌, ◌≤◌, ◌↔◌, ℕ, List, length, slice_index, IsTrue, Some, MatchOption};
+//! Bars in the way of edges.
+ghost use Rattle.std.specs.Prelude.{◌≡◌, ◌*◌, ◌<◌, ◌≤◌, ◌↔◌, ℕ, length, IsTrue, Some, MatchOption};
 ghost use Rattle.half_edges.specs.Map.{IsHalfMap, IsLive, dart_at};
-ghost use Rattle.pg_plane.specs.declared.figure.BarFigure.{BarFigure as Bars};
 ghost use Rattle.vertex_rounds.specs.Least.{IsLeast, IsLeastPair, IsLeastTriple};
 ghost use Rattle.vertex_rounds.specs.Rounds.{HasEdge, HoldsAt};
-ghost use Rattle.bar_check.specs.Bars.{number_at, edges_before, column_of as the_column, Holds, IsColumn, IsBetween, IsStruck};
-ghost use Rattle.bar_check.specs.declared.columns.Kind.TheVariants.{Blocked};
-ghost use Rattle.bar_check.specs.Faults.{HasBadColumn, GoesThrough};
-ghost use Rattle.bar_check.specs.Verdicts.{NoBadColumn, NoneThrough};
-ghost use Rattle.bar_check.specs.Loops.{IsStruckBelow, IsFaulty, IsFaultyFrom, IsFaultyEdge};
+ghost use Rattle.bar_check.specs.Bars.{number_at, edges_before, IsBetween, IsStruck};
+ghost use Rattle.bar_check.specs.Faults.{GoesThrough};
+ghost use Rattle.bar_check.specs.Verdicts.{NoneThrough};
+ghost use Rattle.bar_check.specs.Loops.{IsStruckBelow, IsBlocked, IsBlockedFrom, IsBlockedEdge};
 ghost use Rattle.bar_check.specs.Tables.{AreColumns, AreClear};
 
 use crate::clear::is_clear;
 use crate::edges::{column_of, edges_with};
-use crate::heights::number;
+use crate::heights::{holds, number};
 use crate::table::column_upwards;
 use half_edges::{DartId, Ends, HalfMap, VertexId};
 use pg_plane::BarFigure;
 use vertex_rounds::least_head;
-
-// A kind of fault of an edge.
-#[derive(Clone, Copy)]
-pub(crate) enum Kind {
-    // Its column leaves this width or the bar of an end.
-    Misplaced(i32),
-    // A bar is in its way.
-    Blocked,
-}
-
-// Whether the bar of `v` holds column `x`.
-fn holds(fig: &BarFigure, v: VertexId, x: i32) -> bool
-    ensures { IsTrue result ↔ Holds fig.now v.0 x }
-{
-    number(&fig.x1, v.0 as usize) <= x && x <= number(&fig.x2, v.0 as usize)
-}
-
-// Whether column `x` lies within the width and within the bars of `a` and `b`.
-fn is_column(fig: &BarFigure, width: i32, a: VertexId, b: VertexId, x: i32) -> bool
-    ensures { IsTrue result ↔ IsColumn fig.now width a.0 b.0 x }
-{
-    0 <= x && x <= width && holds(fig, a, x) && holds(fig, b, x)
-}
 
 // Whether `v` stands strictly between the heights of `a` and `b`.
 fn is_between(fig: &BarFigure, a: VertexId, b: VertexId, v: VertexId) -> bool
@@ -82,35 +57,11 @@ fn is_blocked(fig: &BarFigure, n: u16, a: VertexId, b: VertexId, x: i32) -> bool
     }
 }
 
-// Whether the edge from `a` to `b`, in column `x`, has a fault of this kind.
-fn has_fault(fig: &BarFigure, n: u16, kind: Kind, a: VertexId, b: VertexId, x: i32) -> bool
-    ensures { IsTrue result ↔ IsFaulty n fig.now kind a.0 b.0 x }
-{
-    match kind {
-        Kind::Misplaced(width) => !is_column(fig, width, a, b, x),
-        Kind::Blocked => is_blocked(fig, n, a, b, x),
-    }
-}
-
-// Whether the edge of a dart is known to have no fault of this kind.
-fn is_passed(map: &HalfMap, clear: &[bool], kind: Kind, d: DartId) -> bool
-    requires known { IsHalfMap map.now }
-    requires live { IsLive map.now d.0 }
-    ensures { (fig : Bars) (a b : ℕ) → AreClear map.now fig clear.now → dart_at map.now d.0 ≡ Some (a, b) → HasEdge map.now.lists a b
-        → IsTrue result → ¬ IsFaulty (length map.now.lists) fig kind a b (the_column map.now.lists fig a b) }
-{
-    match kind {
-        Kind::Misplaced(_) => false,
-        Kind::Blocked => is_clear(map, clear, d),
-    }
-}
-
-// Whether the edge of a dart from `a` to `b` has a fault of this kind; `before` edges have their lesser end
+// Whether a bar is in the way of the edge of a dart from `a` to `b`; `before` edges have their lesser end
 // below `a`.
-fn is_faulty(
+fn is_blocked_at(
     map: &HalfMap,
     fig: &BarFigure,
-    kind: Kind,
     columns: &[i32],
     clear: &[bool],
     before: u32,
@@ -125,21 +76,20 @@ fn is_faulty(
     requires few { before ≤ 65535 * a.0 }
     requires dart { dart_at map.now d.0 ≡ Some (a.0, b.0) }
     requires order { a.0 < b.0 }
-    ensures { IsTrue result ↔ IsFaulty (length map.now.lists) fig.now kind a.0 b.0 (the_column map.now.lists fig.now a.0 b.0) }
+    ensures { IsTrue result ↔ IsBlocked map.now.lists fig.now a.0 b.0 }
 {
-    if is_passed(map, clear, kind, d) {
+    if is_clear(map, clear, d) {
         return false;
     }
     let x = column_upwards(map, fig, columns, before, a, b, d);
-    has_fault(fig, map.n(), kind, a, b, x)
+    is_blocked(fig, map.n(), a, b, x)
 }
 
-// Whether the dart leads from `a` to a greater vertex, and the edge has a fault of this kind; `before` edges
+// Whether the dart leads from `a` to a greater vertex, and a bar is in the way of the edge; `before` edges
 // have their lesser end below `a`.
-fn leads_to_faulty(
+fn leads_to_blocked(
     map: &HalfMap,
     fig: &BarFigure,
-    kind: Kind,
     columns: &[i32],
     clear: &[bool],
     before: u32,
@@ -152,17 +102,16 @@ fn leads_to_faulty(
     requires before { before ≡ edges_before map.now.lists a.0 }
     requires few { before ≤ 65535 * a.0 }
     requires live { IsLive map.now d.0 }
-    ensures { IsTrue result ↔ HoldsAt map.now (IsFaultyFrom map.now.lists fig.now kind a.0) d.0 }
+    ensures { IsTrue result ↔ HoldsAt map.now (IsBlockedFrom map.now.lists fig.now a.0) d.0 }
 {
     let b = map.head(d);
-    map.tail(d).0 == a.0 && a.0 < b.0 && is_faulty(map, fig, kind, columns, clear, before, a, b, d)
+    map.tail(d).0 == a.0 && a.0 < b.0 && is_blocked_at(map, fig, columns, clear, before, a, b, d)
 }
 
-// The least neighbour to which an edge from `a`, which is its lesser end, has a fault of this kind.
-fn least_faulty(
+// The least neighbour to which an edge from `a`, which is its lesser end, is blocked.
+fn least_blocked(
     map: &HalfMap,
     fig: &BarFigure,
-    kind: Kind,
     columns: &[i32],
     clear: &[bool],
     before: u32,
@@ -174,55 +123,32 @@ fn least_faulty(
     requires clear { AreClear map.now fig.now clear.now }
     requires before { before ≡ edges_before map.now.lists a.0 }
     requires few { before ≤ 65535 * a.0 }
-    ensures { MatchOption result ((b : ℕ) → ¬ IsFaultyEdge map.now.lists fig.now kind a.0 b)
-        (λ b. IsLeast (IsFaultyEdge map.now.lists fig.now kind a.0) b.0) }
+    ensures { MatchOption result ((b : ℕ) → ¬ IsBlockedEdge map.now.lists fig.now a.0 b)
+        (λ b. IsLeast (IsBlockedEdge map.now.lists fig.now a.0) b.0) }
 {
     least_head(
         map,
         a,
-        |d| leads_to_faulty(map, fig, kind, columns, clear, before, a, d),
+        |d| leads_to_blocked(map, fig, columns, clear, before, a, d),
     )
 }
 
-// The first edge with a fault of this kind.
-fn first_faulty(
-    map: &HalfMap,
-    fig: &BarFigure,
-    kind: Kind,
-    columns: &[i32],
-    clear: &[bool],
-) -> Option<Ends>
+// The first edge with a bar in its way.
+fn first_blocked(map: &HalfMap, fig: &BarFigure, columns: &[i32], clear: &[bool]) -> Option<Ends>
     requires known { IsHalfMap map.now }
     requires columns { AreColumns map.now fig.now columns.now }
     requires clear { AreClear map.now fig.now clear.now }
-    ensures { MatchOption result ((a b : ℕ) → ¬ IsFaultyEdge map.now.lists fig.now kind a b)
-        (λ e. IsLeastPair (IsFaultyEdge map.now.lists fig.now kind) e.a.0 e.b.0) }
+    ensures { MatchOption result ((a b : ℕ) → ¬ IsBlockedEdge map.now.lists fig.now a b)
+        (λ e. IsLeastPair (IsBlockedEdge map.now.lists fig.now) e.a.0 e.b.0) }
 {
     let mut before = 0;
     for a in 0..map.n() {
-        if let Some(b) = least_faulty(map, fig, kind, columns, clear, before, VertexId(a)) {
+        if let Some(b) = least_blocked(map, fig, columns, clear, before, VertexId(a)) {
             return Some(Ends { a: VertexId(a), b });
         }
         before = edges_with(map, VertexId(a), before);
     }
     None
-}
-
-// The first edge whose column leaves the width or the bar of an end.
-pub(crate) fn first_bad_column(
-    map: &HalfMap,
-    fig: &BarFigure,
-    width: i32,
-    columns: &[i32],
-    clear: &[bool],
-) -> Option<Ends>
-    requires known { IsHalfMap map.now }
-    requires columns { AreColumns map.now fig.now columns.now }
-    requires clear { AreClear map.now fig.now clear.now }
-    ensures { MatchOption result (NoBadColumn map.now.lists fig.now width)
-        (λ e. IsLeastPair (HasBadColumn map.now.lists fig.now width) e.a.0 e.b.0) }
-{
-    first_faulty(map, fig, Kind::Misplaced(width), columns, clear)
 }
 
 // The least vertex whose bar is in the way of an edge.
@@ -248,7 +174,7 @@ pub(crate) fn first_through(
     ensures { MatchOption result (NoneThrough map.now.lists fig.now)
         (λ p. IsLeastTriple (GoesThrough map.now.lists fig.now) p.0.a.0 p.0.b.0 p.1.0) }
 {
-    match first_faulty(map, fig, Kind::Blocked, columns, clear) {
+    match first_blocked(map, fig, columns, clear) {
         Some(e) => with_struck(map, fig, e),
         None => None,
     }
@@ -257,7 +183,7 @@ pub(crate) fn first_through(
 // The first edge that is blocked, with the least vertex whose bar is in its way.
 fn with_struck(map: &HalfMap, fig: &BarFigure, e: Ends) -> Option<(Ends, VertexId)>
     requires known { IsHalfMap map.now }
-    requires first { IsLeastPair (IsFaultyEdge map.now.lists fig.now Blocked) e.a.0 e.b.0 }
+    requires first { IsLeastPair (IsBlockedEdge map.now.lists fig.now) e.a.0 e.b.0 }
     ensures { MatchOption result (NoneThrough map.now.lists fig.now)
         (λ p. IsLeastTriple (GoesThrough map.now.lists fig.now) p.0.a.0 p.0.b.0 p.1.0) }
 {

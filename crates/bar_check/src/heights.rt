@@ -1,7 +1,7 @@
-//! Heights and bars, vertex by vertex.
+//! Heights and bars, vertex by vertex, and the columns that bars hold.
 ghost use Rattle.std.specs.Prelude.{◌≡◌, ◌≢◌, ◌<◌, ◌≤◌, ◌↔◌, ℕ, true, false, length, slice_index_or, pos, IsTrue, MatchOption};
 ghost use Rattle.vertex_rounds.specs.Least.{IsLeast};
-ghost use Rattle.bar_check.specs.Bars.{number_at, IsBar};
+ghost use Rattle.bar_check.specs.Bars.{number_at, Holds, IsBar, IsColumn};
 ghost use Rattle.bar_check.specs.Faults.{HasBadHeight, HasBadBar};
 ghost use Rattle.bar_check.specs.Verdicts.{HasHeights, AreBars};
 ghost use Rattle.bar_check.specs.Tables.{IsFree};
@@ -100,4 +100,18 @@ pub(crate) fn first_bad_bar(map: &HalfMap, fig: &BarFigure, width: i32) -> Optio
         }
     }
     None
+}
+
+// Whether the bar of `v` holds column `x`.
+pub(crate) fn holds(fig: &BarFigure, v: VertexId, x: i32) -> bool
+    ensures { IsTrue result ↔ Holds fig.now v.0 x }
+{
+    number(&fig.x1, v.0 as usize) <= x && x <= number(&fig.x2, v.0 as usize)
+}
+
+// Whether column `x` lies within the width and within the bars of `a` and `b`.
+pub(crate) fn is_column(fig: &BarFigure, width: i32, a: VertexId, b: VertexId, x: i32) -> bool
+    ensures { IsTrue result ↔ IsColumn fig.now width a.0 b.0 x }
+{
+    0 <= x && x <= width && holds(fig, a, x) && holds(fig, b, x)
 }

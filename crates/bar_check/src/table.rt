@@ -1,14 +1,17 @@
-//! The column of each edge, at the ids of its darts.
-ghost use Rattle.std.specs.Prelude.{◌≡◌, ◌≢◌, ◌+◌, ◌*◌, ◌<◌, ◌≤◌, ℕ, length, slice_index, slice_set, Some};
+//! The column of each edge, at the ids of its darts, and the first that stands wrong.
+ghost use Rattle.std.specs.Prelude.{◌≡◌, ◌≢◌, ◌⊎◌, ◌+◌, ◌*◌, ◌<◌, ◌≤◌, ◌↔◌, ℕ, length, slice_index, slice_set, Some, IsTrue, MatchOption};
 ghost use Rattle.map_theory.specs.Maps.{list_of, place_of};
 ghost use Rattle.half_edges.specs.Map.{IsHalfMap, IsLive, dart_at, first_dart};
+ghost use Rattle.vertex_rounds.specs.Least.{IsLeastPair};
 ghost use Rattle.vertex_rounds.specs.Rounds.{dart_of};
-ghost use Rattle.bar_check.specs.Bars.{number_at, edges_before, column_of as the_column, column_between as the_column_between};
-ghost use Rattle.bar_check.specs.Tables.{AreColumns, AreFilled, IsWritten};
+ghost use Rattle.bar_check.specs.Bars.{number_at, edges_before, IsColumn, column_of as the_column, column_between as the_column_between};
+ghost use Rattle.bar_check.specs.Faults.{HasBadColumn};
+ghost use Rattle.bar_check.specs.Verdicts.{NoBadColumn};
+ghost use Rattle.bar_check.specs.Tables.{AreColumns, AreFilled, AreNext, IsFirstMetBad, IsUpTo, IsWritten};
 
 use crate::edges::{column_between, column_from, edges_with};
-use crate::heights::number;
-use half_edges::{DartId, HalfMap, VertexId};
+use crate::heights::{is_column, number};
+use half_edges::{DartId, Ends, HalfMap, VertexId};
 use pg_plane::BarFigure;
 use vertex_rounds::later_dart;
 
@@ -71,40 +74,117 @@ fn put_edge(
     }
 }
 
-// Writes the columns of the edges of `b` to lesser vertices, from dart `first` on.
+// Whether an edge was found, whose lesser end is not above `a`.
+fn is_up_to(found: Option<Ends>, a: VertexId) -> bool
+    ensures { IsTrue result ↔ IsUpTo found a.0 }
+{
+    match found {
+        Some(e) => e.a.0 <= a.0,
+        None => false,
+    }
+}
+
+// Whether the edge that was found comes before the one from `a` to `b`, or that one has no bad column, by the
+// number of the next edge upwards of `a`.
+fn is_passed(
+    fig: &BarFigure,
+    width: i32,
+    next: &[u32],
+    found: Option<Ends>,
+    a: VertexId,
+    b: VertexId,
+) -> bool
+    requires vertex { a.0 < length next.now }
+    ensures { IsTrue result ↔ (IsUpTo found a.0 ⊎ IsColumn fig.now width a.0 b.0 (number_at fig.now.column (slice_index next.now a.0))) }
+{
+    let edge = next[a.0 as usize] as usize;
+    is_up_to(found, a) || is_column(fig, width, a, b, number(&fig.column, edge))
+}
+
+// The first edge with a bad column of those met and that of a dart from `b`, which is met next; `found` is
+// the first of those met.
+fn with_next(
+    map: &HalfMap,
+    fig: &BarFigure,
+    width: i32,
+    next: &[u32],
+    found: Option<Ends>,
+    b: VertexId,
+    d: DartId,
+) -> Option<Ends>
+    requires known { IsHalfMap map.now }
+    requires live { IsLive map.now d.0 }
+    requires tail { (dart_of map.now d.0).0 ≡ b.0 }
+    requires vertices { length next.now ≡ length map.now.lists }
+    requires numbers { AreNext map.now.lists b.0 (place_of (dart_of map.now d.0).1 (list_of map.now.lists b.0)) next.now }
+    requires found { IsFirstMetBad map.now.lists fig.now width b.0 (place_of (dart_of map.now d.0).1 (list_of map.now.lists b.0)) found }
+    ensures { IsFirstMetBad map.now.lists fig.now width b.0 (place_of (dart_of map.now d.0).1 (list_of map.now.lists b.0) + 1) result }
+{
+    let a = map.head(d);
+    if a.0 < b.0 {
+        if is_passed(fig, width, next, found, a, b) {
+            found
+        } else {
+            Some(Ends { a, b })
+        }
+    } else {
+        found
+    }
+}
+
+// Writes the columns of the edges of `b` to lesser vertices, from dart `first` on, and tells the first edge
+// with a bad column; `found` is the first of those of lesser vertices.
 fn put_round(
     map: &HalfMap,
     fig: &BarFigure,
+    width: i32,
     next: &mut [u32],
     columns: &mut [i32],
+    found: Option<Ends>,
     b: VertexId,
     first: DartId,
-)
+) -> Option<Ends>
     requires known { IsHalfMap map.now }
     requires vertex { b.0 < length map.now.lists }
     requires first { dart_at map.now first.0 ≡ Some (first_dart map.now.lists b.0) }
     requires filled { AreFilled map.now fig.now b.0 0 next.old columns.old }
-    ensures { AreFilled map.now fig.now (b.0 + 1) 0 next.new columns.new }
+    requires found { IsFirstMetBad map.now.lists fig.now width b.0 0 found }
+    ensures filled { AreFilled map.now fig.now (b.0 + 1) 0 next.new columns.new }
+    ensures found { IsFirstMetBad map.now.lists fig.now width (b.0 + 1) 0 result }
 {
+    let mut bad = found;
     let mut d = first;
     'round: loop {
+        bad = with_next(map, fig, width, next, bad, b, d);
         put_edge(map, fig, next, columns, b, d);
         match later_dart(map, d) {
             Some(later) => d = later,
-            None => return,
+            None => return bad,
         }
     }
 }
 
-// Writes the columns of the edges of `b` to lesser vertices.
-fn put_list(map: &HalfMap, fig: &BarFigure, next: &mut [u32], columns: &mut [i32], b: VertexId)
+// Writes the columns of the edges of `b` to lesser vertices, and tells the first edge with a bad column;
+// `found` is the first of those of lesser vertices.
+fn put_list(
+    map: &HalfMap,
+    fig: &BarFigure,
+    width: i32,
+    next: &mut [u32],
+    columns: &mut [i32],
+    found: Option<Ends>,
+    b: VertexId,
+) -> Option<Ends>
     requires known { IsHalfMap map.now }
     requires vertex { b.0 < length map.now.lists }
     requires filled { AreFilled map.now fig.now b.0 0 next.old columns.old }
-    ensures { AreFilled map.now fig.now (b.0 + 1) 0 next.new columns.new }
+    requires found { IsFirstMetBad map.now.lists fig.now width b.0 0 found }
+    ensures filled { AreFilled map.now fig.now (b.0 + 1) 0 next.new columns.new }
+    ensures found { IsFirstMetBad map.now.lists fig.now width (b.0 + 1) 0 result }
 {
-    if let Some(first) = map.first_dart(b) {
-        put_round(map, fig, next, columns, b, first);
+    match map.first_dart(b) {
+        Some(first) => put_round(map, fig, width, next, columns, found, b, first),
+        None => found,
     }
 }
 
@@ -122,17 +202,28 @@ fn fill_next(map: &HalfMap, next: &mut [u32])
     }
 }
 
-// Writes the columns of all edges, with room for a number at each vertex.
-pub(crate) fn fill_columns(map: &HalfMap, fig: &BarFigure, next: &mut [u32], columns: &mut [i32])
+// Writes the columns of all edges, with room for a number at each vertex, and tells the first edge whose
+// column leaves the width or the bar of an end.
+pub(crate) fn fill_columns(
+    map: &HalfMap,
+    fig: &BarFigure,
+    width: i32,
+    next: &mut [u32],
+    columns: &mut [i32],
+) -> Option<Ends>
     requires known { IsHalfMap map.now }
     requires vertices { length next.old ≡ length map.now.lists }
     ensures size { length columns.new ≡ length columns.old }
     ensures columns { AreColumns map.now fig.now columns.new }
+    ensures bad { MatchOption result (NoBadColumn map.now.lists fig.now width)
+        (λ e. IsLeastPair (HasBadColumn map.now.lists fig.now width) e.a.0 e.b.0) }
 {
     fill_next(map, next);
+    let mut bad = None;
     for b in 0..map.n() {
-        put_list(map, fig, next, columns, VertexId(b));
+        bad = put_list(map, fig, width, next, columns, bad, VertexId(b));
     }
+    bad
 }
 
 // The column of the edge of a dart from `a` to `b`, its greater end, where `before` edges have their lesser

@@ -20,11 +20,11 @@ HoldsHeads points heads span begin end = (i : ℕ) → begin ≤ i → i < end �
 abbrev pub run_at : List Span → ℕ → Span
 run_at runs k = slice_index_or runs k (record { left = pos 0; right = pos 0; bottom = pos 0; top = pos 0 })
 
--- each run of 64 heads has a box within the range of coordinates
+-- each run of 16 heads has a box within the range of coordinates
 pub record AreRuns (points : List Point) (heads : List ℕ) (runs : List Span) : Type 0 where
-  pub enough : length heads ≤ 64 * length runs
+  pub enough : length heads ≤ 16 * length runs
   pub in_range : (k : ℕ) → k < length runs → IsBoxInRange (run_at runs k)
-  pub held : (k i : ℕ) → k < length runs → 64 * k ≤ i → i < 64 * (k + 1) → i < length heads → IsIn (run_at runs k) (place points (slice_index heads i))
+  pub held : (k i : ℕ) → k < length runs → 16 * k ≤ i → i < 16 * (k + 1) → i < length heads → IsIn (run_at runs k) (place points (slice_index heads i))
 
 -- the heads of v are its neighbours from `from` on, in any order
 abbrev pub AreHeads : Lists → ℕ → ℕ → List ℕ → Type 0
@@ -36,7 +36,7 @@ pub record IsStar (lists : Lists) (points : List Point) (v from : ℕ) (heads : 
   pub below : All (λ u. u < length points) heads
   pub whole_in : IsBoxInRange whole
   pub whole_holds : HoldsHeads points heads whole 0 (length heads)
-  pub few : length runs ≤ 64
+  pub few : length runs ≤ 256
   pub runs_are : AreRuns points heads runs
 
 -- an edge of v's star crosses the edge from a to b

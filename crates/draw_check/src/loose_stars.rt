@@ -56,7 +56,7 @@ fn is_on_run(
 fn is_on_star(points: &Points, heads: &[u16], runs: &[Span], v: VertexId, w: VertexId) -> bool
     requires in_range { (v : ℕ) → v < length points.now → IsInRange (place points.now v) }
     requires heads { All (λ u. u < length points.now) heads.now }
-    requires few { length runs.now ≤ 64 }
+    requires few { length runs.now ≤ 256 }
     requires runs { AreRuns points.now heads.now runs.now }
     requires v { v.0 < length points.now }
     requires w { w.0 < length points.now }
@@ -101,8 +101,8 @@ fn mark_on_star(
     requires drawn { IsDrawn map.now points.now }
     requires vertex { v.0 < length map.now.lists }
     requires heads { AreHeads map.now.lists v.0 0 heads.now }
-    requires few { length runs.old ≤ 64 }
-    requires enough { length heads.now ≤ 64 * length runs.old }
+    requires few { length runs.old ≤ 256 }
+    requires enough { length heads.now ≤ 16 * length runs.old }
     requires room { length points.now ≤ length marks.old }
     ensures met { NotesVertices map.now.lists points.now v.0 marks.new }
     ensures kept { Keeps marks.old marks.new }
@@ -124,7 +124,7 @@ fn mark_on(
 )
     requires drawn { IsDrawn map.now points.now }
     requires heads { length heads.old ≡ 4095 }
-    requires runs { length runs.old ≡ 64 }
+    requires runs { length runs.old ≡ 256 }
     requires room { length points.now ≤ length marks.old }
     ensures met { NotesVertices map.now.lists points.now v.0 marks.new }
     ensures kept { Keeps marks.old marks.new }
@@ -154,7 +154,7 @@ pub(crate) fn mark_by_loose(map: &HalfMap, points: &Points, loose: &[u16], marks
     ensures { AreMarked map.now.lists points.now marks.new }
 {
     let mut heads = [0; 4095];
-    let mut runs = [NO_SPAN; 64];
+    let mut runs = [NO_SPAN; 256];
     for i in 0..loose.len() {
         mark_on(
             map,

@@ -5,6 +5,7 @@ pub mod DecimalLemmas
 pub mod RowLemmas
 pub mod NumeralLemmas
 pub mod WordLemmas
+mod OtherLemmas
 pub mod UptoLemmas
 pub mod RoundLemmas
 pub mod BarLemmas

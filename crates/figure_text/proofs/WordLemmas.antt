@@ -1,5 +1,5 @@
 -- The words of printed lines.
-use Rattle.std.proofs.Common.{◌≡◌, ◌≢◌, ◌==◌, nat_lt, ℕ, zero, suc, ◌+◌, ◌-◌, ◌<◌, ◌≤◌, Bool, true, false, List, [], ◌∷◌, ◌++◌, length, take, drop, get_or, map, flat_map, refl, sym, ap, ◌∙◌, subst, arith, append_assoc, append-nil, length-drop, drop-cons, add-one, inl, inr, lit≤}
+use Rattle.std.proofs.Common.{◌≡◌, ◌≢◌, ◌==◌, nat_lt, ℕ, zero, suc, ◌+◌, ◌-◌, ◌<◌, ◌≤◌, Bool, true, false, List, [], ◌∷◌, ◌++◌, length, take, drop, get_or, map, flat_map, refl, sym, ap, ◌∙◌, subst, arith, append_assoc, append-nil, length-append, length-drop, drop-cons, add-one, inl, inr, lit≤}
 use Rattle.std.proofs.lemmas.Bool.{cases_lt}
 use Rattle.std.proofs.lemmas.List.{take-append-drop, take_all, drop-drop, get_or-drop}
 use Rattle.std.proofs.lemmas.Bool.Decides.{nat_tests}
@@ -7,7 +7,8 @@ use Rattle.std.specs.Prelude.{All, if◌then◌else◌}
 use Rattle.std.proofs.lemmas.List.Splits.{slice_split_none, slice_split_at}
 use Rattle.std.proofs.lemmas.List.Elements.{All-nil, All-cons, All-append, All-weaker, All-head, All-tail}
 use Rattle.figure_text.specs.declared.words.Word.{Word}
-use Rattle.figure_text.specs.Words.{word_of, words_of, words_left, parts_of}
+use Rattle.figure_text.specs.declared.words.Word.TheVariants.{Other}
+use Rattle.figure_text.specs.Words.{word_of, words_of, words_left, parts_of, HasOther}
 use Rattle.figure_text.specs.Reading.{IsPlain}
 use Rattle.figure_text.proofs.NumeralLemmas.{Dark}
 
@@ -110,9 +111,20 @@ words-more line found at end start order within before ends so_far =
     ∙ ap (λ (ws : List Word). found ++ ws) (sym (words-next line at end start order within before ends))
     ∙ so_far
 
--- words that are more than there are bytes, or all of them
-pub words-whole : (line : List ℕ) (found : List Word) (at : ℕ) → found ++ words_left line at ≡ words_of line → (at ≤ length line → length found ≡ length line + 2) → length found ≤ at → found ≡ words_of line
-words-whole line found at parts many few = elim (cases_lt (length line) at) [
+-- the first words are all where they are fewer than were asked for, and else there are more
+pub words-few : (line : List ℕ) (found : List Word) (at most : ℕ) → found ++ words_left line at ≡ words_of line → (at ≤ length line → length found ≡ most) → length found < most → found ≡ words_of line
+words-few line found at most parts many few = elim (cases_lt (length line) at) [
   | inl past ↦ let none : nat_lt (length line) at ≡ true = grind (arith, nat_tests) in sym (append-nil found) ∙ (rw none at parts)
-  | inr within ↦ let long = many (omega arith) in absurd (omega (arith, long))
+  | inr within ↦ let long = many (omega arith) in absurd (omega (arith, long, few))
 ]
+
+pub words-more_than : (line : List ℕ) (found : List Word) (at k : ℕ) → found ++ words_left line at ≡ words_of line → k < length found → k < length (words_of line)
+words-more_than line found at k parts more = let n = length-append found (words_left line at) in let e = ap length parts in omega (arith, n, e, more)
+
+-- a word that is next and neither a number nor a word of figures
+pub words-other : (line : List ℕ) (found : List Word) (at end : ℕ) → at ≤ length line → at ≤ end → end ≤ length line → ((k : ℕ) → at ≤ k → k < end → get_or line k 0 ≢ 32) → (end < length line → get_or line end 0 ≡ 32) → found ++ words_left line at ≡ words_of line → word_of (take (end - at) (drop at line)) ≡ Other → HasOther (words_of line)
+words-other line found at end start order within before ends so_far other = record {
+  front = found;
+  rest = words_left line (end + 1);
+  is = sym so_far ∙ ap (λ (ws : List Word). found ++ ws) (words-next line at end start order within before ends ∙ ap (λ (w : Word). w ∷ words_left line (end + 1)) other);
+}

@@ -1,5 +1,5 @@
 -- The words of a line, and the numbers among them.
-use Rattle.std.specs.Prelude.{ℕ, ◌+◌, ◌-◌, ◌*◌, Bool, true, false, not, ◌&&◌, ◌==◌, nat_lt, min, if◌then◌else◌, List, [], ◌∷◌, length, take, drop, map, slice_index, slice_index_or, codes, bytes_eq, Option, Some, None, option_map}
+use Rattle.std.specs.Prelude.{ℕ, ◌+◌, ◌-◌, ◌*◌, Bool, true, false, not, ◌&&◌, ◌==◌, nat_lt, min, if◌then◌else◌, List, [], ◌∷◌, ◌++◌, ◌≡◌, length, take, drop, map, slice_index, slice_index_or, codes, bytes_eq, Option, Some, None, option_map}
 use Rattle.std.specs.List.{slice_split}
 use Rattle.figure_text.specs.declared.words.Signed.{Signed}
 use Rattle.figure_text.specs.declared.words.Word.{Word}
@@ -93,6 +93,12 @@ words_of line = map word_of (parts_of line)
 -- word number i
 abbrev pub word_at : List Word → ℕ → Word
 word_at words i = slice_index_or words i Other
+
+-- a word is neither a number nor a word of figures
+pub record HasOther (words : List Word) : Type 0 where
+  pub front : List Word
+  pub rest : List Word
+  pub is : words ≡ front ++ Other ∷ rest
 
 -- the words from a place on
 abbrev pub words_left : List ℕ → ℕ → List Word

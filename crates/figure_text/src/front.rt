@@ -12,7 +12,7 @@ use crate::judge::{
     worth,
 };
 use crate::lines::is_note;
-use crate::words::{Word, words};
+use crate::words::{Word, fill_front};
 use graph6_text::{G6Fault, Graph, lines_are_graphs, read_line};
 use std::alloc::{AllocError, Global};
 
@@ -112,19 +112,38 @@ fn front_of(kind: Kind, words: &[Word], tail: Judged) -> Front
     }
 }
 
-/// What a line is, which is given without the byte 10 that closes it.
+// The most words that the first line of a figure has.
+const MOST_WORDS: usize = 5;
+
+// The words of a line, where they are no more than a first line has.
+fn few_words(alloc: Global, line: &[u8]) -> Result<Option<Vec<Word>>, AllocError>
+    ensures { IfOk result (λ found. MatchOption found (5 < length (words_of line.now)) (λ v. v.items ≡ words_of line.now)) }
+{
+    let mut found = Vec::new(alloc);
+    let _end = fill_front(line, MOST_WORDS + 1, &mut found)?;
+    if found.len() > MOST_WORDS {
+        Ok(None)
+    } else {
+        Ok(Some(found))
+    }
+}
+
+/// What a line is, which is given without the byte 10 that closes it. Of a long line no more words are kept than
+/// tell that it is no first line.
 pub fn front_line(alloc: Global, line: &[u8]) -> Result<Front, AllocError>
     ensures { IfOk result (IsFront line.now) }
 {
     if is_note(line) {
         return Ok(Front::Note);
     }
-    let found = words(alloc, line)?;
-    match job_kind(&found) {
-        Some(kind) => {
-            let tail = tail_worth(alloc, kind, line, &found)?;
-            Ok(front_of(kind, &found, tail))
-        }
+    match few_words(alloc, line)? {
+        Some(found) => match job_kind(&found) {
+            Some(kind) => {
+                let tail = tail_worth(alloc, kind, line, &found)?;
+                Ok(front_of(kind, &found, tail))
+            }
+            None => Ok(Front::Bad),
+        },
         None => Ok(Front::Bad),
     }
 }

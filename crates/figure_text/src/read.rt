@@ -8,7 +8,7 @@ use crate::Figure;
 use crate::judge::{Judged, behind, is_name, judged_columns};
 use crate::plain::push_coordinates;
 use crate::rows::{Draft, integer};
-use crate::words::{Name, Word, next_word, words};
+use crate::words::{Name, Word, known_words, next_word};
 use kuratowski::{Kind as Subdivided, Witness};
 use map_lists::{PathList, Rotations, VertexId, VertexList};
 use pg_plane::{Ints, RectFigure};
@@ -79,8 +79,9 @@ pub fn columns_line(alloc: Global, line: &[u8]) -> Columns
 fn exact_columns(alloc: Global, line: &[u8]) -> Columns
     ensures { JudgesColumns (words_of line.now) result }
 {
-    match words(alloc, line) {
-        Ok(found) => match judged_columns(&found) {
+    match known_words(alloc, line) {
+        Ok(None) => Columns::Bad,
+        Ok(Some(found)) => match judged_columns(&found) {
             Judged::Good => match integers(alloc, behind(&found, 1)) {
                 Ok(list) => Columns::Good(list),
                 Err(_) => Columns::NoMemory,

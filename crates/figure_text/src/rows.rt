@@ -8,7 +8,7 @@ ghost use Rattle.figure_text.specs.Drafts.{integer_in, with_row};
 
 use crate::judge::{Judged, Kind, MOST, behind, is_grid_front, judged_row, size_of, word};
 use crate::plain::push_plain;
-use crate::words::{Signed, Word, fill_front, fill_words};
+use crate::words::{Signed, Word, fill_front, fill_known};
 use map_lists::Rotations;
 use pg_plane::{Ints, Point, Points};
 use std::alloc::{AllocError, Global};
@@ -196,8 +196,9 @@ fn exact_row(
     ensures { IfSome result (λ judged. Judges (IsRow kind place (words_of line.now)) (RowInRange kind (words_of line.now)) judged
         × (judged ≡ Judged.Good → draft.new ≡ with_row kind draft.old (words_of line.now))) }
 {
-    match fill_words(line, found) {
-        Ok(()) => match judged_row(kind, place, found) {
+    match fill_known(line, found) {
+        Ok(false) => Some(Judged::Bad),
+        Ok(true) => match judged_row(kind, place, found) {
             Judged::Good => match push_row(kind, found, draft) {
                 Ok(()) => Some(Judged::Good),
                 Err(_) => None,

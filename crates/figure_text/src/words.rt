@@ -1,8 +1,9 @@
 //! The words of a line.
-ghost use Rattle.std.specs.Prelude.{◌≡◌, ◌↔◌, ◌<◌, ◌≤◌, ◌-◌, ◌+◌, ◌*◌, ◌++◌, true, take, drop, Some, length, min, option_map, bytes_eq, map, ◌==◌, ◌&&◌, ◌≢◌, ℕ, nat_lt, slice_index, IsTrue, IfOk, IfSome, OnOk, All};
+ghost use Rattle.std.specs.Prelude.{◌≡◌, ◌↔◌, ◌<◌, ◌≤◌, ◌-◌, ◌+◌, ◌*◌, ◌++◌, true, take, drop, Some, length, min, option_map, bytes_eq, map, ◌==◌, ◌&&◌, ◌≢◌, ℕ, nat_lt, slice_index, IsTrue, IfOk, IfSome, MatchOption, All};
+ghost use Rattle.std.specs.Bool.{OnTrue, OnFalse};
 ghost use Rattle.std.specs.List.{slice_split};
 ghost use Rattle.figure_text.specs.Plain.{IsPlainAt};
-ghost use Rattle.figure_text.specs.Words.{far, is_digit, words_left, decimal_from, number_of, signed_of, plus, minus, word_of as word_meant, words_of, numeral_word, closing_of};
+ghost use Rattle.figure_text.specs.Words.{far, is_digit, words_left, decimal_from, number_of, signed_of, plus, minus, word_of as word_meant, words_of, numeral_word, closing_of, HasOther};
 
 use crate::decimals::{decimal_number, is_canonical, is_digit_byte};
 use std::alloc::{AllocError, Global};
@@ -352,19 +353,43 @@ pub fn fill_front(line: &[u8], most: usize, found: &mut Vec<Word>) -> Result<usi
     Ok(at)
 }
 
-/// Fills a vector with the words of a line. What it held before is gone, and its memory is kept.
-pub fn fill_words(line: &[u8], found: &mut Vec<Word>) -> Result<(), AllocError>
-    ensures { OnOk result (found.new.items ≡ words_of line.now) }
+// Whether a word is neither a number nor a word of figures.
+fn is_other(word: Word) -> bool
+    ensures { IsTrue result ↔ (word ≡ Word.Other) }
 {
-    let _end = fill_front(line, line.len() + 2, found)?;
-    Ok(())
+    match word {
+        Word::Other => true,
+        _ => false,
+    }
 }
 
-/// The words of a line.
-pub fn words(alloc: Global, line: &[u8]) -> Result<Vec<Word>, AllocError>
-    ensures { IfOk result (λ v. v.items ≡ words_of line.now) }
+/// Fills a vector with the words of a line, as far as each is a number or a word of figures, and says whether they are
+/// all. What it held before is gone, and its memory is kept.
+pub fn fill_known(line: &[u8], found: &mut Vec<Word>) -> Result<bool, AllocError>
+    ensures known { IfOk result (λ known. OnTrue known (found.new.items ≡ words_of line.now)) }
+    ensures other { IfOk result (λ known. OnFalse known (HasOther (words_of line.now))) }
+{
+    found.clear();
+    let mut at = 0;
+    while at <= line.len() {
+        let next = next_word(line, at);
+        if is_other(next.word) {
+            return Ok(false);
+        }
+        found.push(next.word)?;
+        at = next.end + 1;
+    }
+    Ok(true)
+}
+
+/// The words of a line, where each is a number or a word of figures.
+pub fn known_words(alloc: Global, line: &[u8]) -> Result<Option<Vec<Word>>, AllocError>
+    ensures { IfOk result (λ found. MatchOption found (HasOther (words_of line.now)) (λ v. v.items ≡ words_of line.now)) }
 {
     let mut found = Vec::new(alloc);
-    fill_words(line, &mut found)?;
-    Ok(found)
+    if fill_known(line, &mut found)? {
+        Ok(Some(found))
+    } else {
+        Ok(None)
+    }
 }

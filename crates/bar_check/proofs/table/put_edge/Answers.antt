@@ -18,7 +18,7 @@ put_next-requires-clause-few c =
     let same = head_is map d c.head-a.result.0 c.requires.live c.head-a.ensures in
     let has = subst (λ (z : ℕ). HasDart map.lists z a) c.requires.tail (has_dart map c.requires.known d c.requires.live) in
     subst (λ (z : ℕ). get_or c.args.next.now z 0 < 4294967295) same
-    (number_few map c.args.fig.now c.requires.known b a c.args.next.now c.args.columns.now has c.requires.filled (subst (λ (z : ℕ). z < b) (sym same) c.if-a-b.true))
+    (number_few map c.args.fig.now c.requires.known b a has c.args.next.now c.args.columns.now c.requires.filled (subst (λ (z : ℕ). z < b) (sym same) c.if-a-b.true))
 
 pub returns-then-a-b : goal.returns-then-a-b
 returns-then-a-b c =
@@ -31,7 +31,7 @@ returns-then-a-b c =
     let has = subst (λ (z : ℕ). HasDart map.lists z a) c.requires.tail (has_dart map c.requires.known d c.requires.live) in
     let at : dart_at map d ≡ Some (b, a) = dart_of-live map d c.requires.live ∙ ap (λ (z : ℕ). Some (z, a)) c.requires.tail in
     let at_twin : dart_at map c.twin.result.0 ≡ Some (a, b) = c.twin.ensures ∙ ap (option_map twin_dart) at in
-    AreFilled-put map c.args.fig.now c.requires.known b a next c.args.columns.now has c.requires.filled c.put_next.new.next c.put_next.new.columns (subst (λ (z : ℕ). z < b) same c.if-a-b.true) d c.twin.result.0 at at_twin
+    AreFilled-put map c.args.fig.now c.requires.known b a has next c.args.columns.now c.requires.filled c.put_next.new.next c.put_next.new.columns (subst (λ (z : ℕ). z < b) same c.if-a-b.true) d c.twin.result.0 at at_twin
     (subst (λ (z : ℕ). c.put_next.new.next ≡ set next z (get_or next z 0 + 1)) same c.put_next.ensures.next)
     (subst (λ (z : ℕ). IsWritten d c.twin.result.0 (number_at c.args.fig.now.column (get_or next z 0)) c.args.columns.now c.put_next.new.columns) same c.put_next.ensures.columns)
 
@@ -43,4 +43,4 @@ returns-else-a-b c =
     let a = (dart_of map d).1 in
     let same = sym (head_is map d c.head-a.result.0 c.requires.live c.head-a.ensures) in
     let has = subst (λ (z : ℕ). HasDart map.lists z a) c.requires.tail (has_dart map c.requires.known d c.requires.live) in
-    AreFilled-past map c.args.fig.now c.requires.known b a c.args.next.now c.args.columns.now has c.requires.filled c.args.next.now c.args.columns.now (subst (λ (z : ℕ). b ≤ z) same c.if-a-b.false)
+    AreFilled-past map c.args.fig.now c.requires.known b a has c.args.next.now c.args.columns.now c.requires.filled c.args.next.now c.args.columns.now (subst (λ (z : ℕ). b ≤ z) same c.if-a-b.false)

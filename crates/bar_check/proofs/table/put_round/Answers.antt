@@ -1,17 +1,20 @@
-use Rattle.std.proofs.Common.{ℕ, ◌+◌, sym, subst, arith}
+use Rattle.std.proofs.Common.{ℕ, ◌+◌, sym, subst, arith, rules, w32, FitsSigned}
+use Rattle.std.proofs.lemmas.Int.{to_z-of_z}
 use Rattle.vertex_rounds.proofs.RoundLemmas.{head_at, place_at, at_place, place_at-first, place_at-later, LeavesFrom-is, LeavesFrom-later}
-use Rattle.bar_check.specs.Tables.{AreFilled}
-use Rattle.bar_check.proofs.TableLemmas.{AreFilled-next}
+use Rattle.bar_check.specs.Tables.{AreFilled, IsFirstMetBad}
+use Rattle.bar_check.proofs.TableLemmas.{AreFilled-next, first-next}
 use Rattle.bar_check.proofs.table.put_round.Goals as goal
 
 pub round-init : goal.round-init
 round-init c =
     let map = c.args.map.now in
     let b = c.args.b.0 in
-    record {
+    let f : FitsSigned w32 c.args.width = search rules in
+    rw (to_z-of_z w32 c.args.width f) (record {
       dart = LeavesFrom-is map b _ c.args.first.0 c.requires.first;
       filled = subst (λ (k : ℕ). AreFilled map c.args.fig.now b k c.args.next.now c.args.columns.now) (sym (place_at-first map b c.args.first.0 c.requires.first)) c.requires.filled;
-    }
+      found = subst (λ (k : ℕ). IsFirstMetBad map.lists c.args.fig.now c.args.width b k c.args.found) (sym (place_at-first map b c.args.first.0 c.requires.first)) c.requires.found;
+    })
 
 pub round-smaller : goal.round-smaller
 round-smaller c =
@@ -28,14 +31,24 @@ round-preserved c =
     let b = c.args.b.0 in
     let d = c.round.d.0 in
     let later = c.in-Some.ensures b (head_at map d) c.round.invariant.dart in
-    record {
+    let f : FitsSigned w32 c.args.width = search rules in
+    rw (to_z-of_z w32 c.args.width f) (record {
       dart = LeavesFrom-later map b d c.in-Some.later.0 later;
       filled = subst (λ (k : ℕ). AreFilled map c.args.fig.now b k c.put_edge.new.next c.put_edge.new.columns) (sym (place_at-later map b d c.in-Some.later.0 later)) c.put_edge.ensures;
-    }
+      found = subst (λ (k : ℕ). IsFirstMetBad map.lists c.args.fig.now c.args.width b k c.with_next-bad.result) (sym (place_at-later map b d c.in-Some.later.0 later)) (simp to_z-of_z at c.with_next-bad.ensures);
+    })
 
-pub returns-in-None : goal.returns-in-None
-returns-in-None c =
+pub returns-in-None-clause-filled : goal.returns-in-None-clause-filled
+returns-in-None-clause-filled c =
     let map = c.args.map.now in
     let b = c.args.b.0 in
     let d = c.round.d.0 in
     AreFilled-next map c.args.fig.now c.requires.known b (place_at map b d + 1) c.put_edge.new.next c.put_edge.new.columns c.requires.vertex (c.in-None.ensures b (head_at map d) c.round.invariant.dart) c.put_edge.ensures
+
+pub returns-in-None-clause-found : goal.returns-in-None-clause-found
+returns-in-None-clause-found c =
+    let map = c.args.map.now in
+    let b = c.args.b.0 in
+    let d = c.round.d.0 in
+    let f : FitsSigned w32 c.args.width = search rules in
+    first-next map c.args.fig.now c.requires.known c.args.width b (place_at map b d + 1) (c.in-None.ensures b (head_at map d) c.round.invariant.dart) c.with_next-bad.result (simp to_z-of_z at c.with_next-bad.ensures)

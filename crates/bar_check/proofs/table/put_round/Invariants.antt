@@ -1,13 +1,14 @@
 use Rattle.std.proofs.Common.{◌-◌, length}
 use Rattle.map_theory.specs.Maps.{list_of}
 use Rattle.vertex_rounds.proofs.RoundLemmas.{LeavesFrom, place_at}
-use Rattle.bar_check.specs.Tables.{AreFilled}
+use Rattle.bar_check.specs.Tables.{AreFilled, IsFirstMetBad}
 use Rattle.bar_check.proofs.table.put_round.Given as goal
 
 abbrev pub invariant-round : goal.invariant-round
 invariant-round l = record {
   dart : LeavesFrom l.map l.fn.b.0 l.d.0;
   filled : AreFilled l.map l.fig l.fn.b.0 (place_at l.map l.fn.b.0 l.d.0) l.next l.columns;
+  found : IsFirstMetBad l.map.lists l.fig l.width l.fn.b.0 (place_at l.map l.fn.b.0 l.d.0) l.bad;
 }
 
 abbrev pub decreases-round : goal.decreases-round

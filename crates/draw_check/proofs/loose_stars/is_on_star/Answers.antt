@@ -4,7 +4,7 @@ use Rattle.draw_check.proofs.loose_stars.is_on_star.Goals as goal
 
 pub loop-k-preserved : goal.loop-k-preserved
 loop-k-preserved c = λ i less within met.
-    elim (cases_lt i (64 * c.loop-k.k)) [
+    elim (cases_lt i (16 * c.loop-k.k)) [
       | inl before ↦ c.loop-k.invariant i before within met
       | inr late ↦ OnFalse_at c.if-is_on_run.false c.is_on_run.ensures i late (c.run_end.ensures.reaches i less within) met
     ]
