@@ -1,6 +1,6 @@
 use Rattle.std.proofs.Common.{arith, slice_index}
 use Rattle.canon_order.proofs.Counters.{counted_before}
-use Rattle.canon_order.proofs.lists.lower.Goals as goal
+use Rattle.canon_order.proofs.lists.lower_noting.Goals as goal
 
 pub overflow_sub-counts : goal.overflow_sub-counts
 overflow_sub-counts c =
@@ -9,5 +9,5 @@ overflow_sub-counts c =
     let l = c.requires.within c.loop-u.u-index 0 c.loop-u-test.true in
     let some = c.requires.some u l in
     let same = c.loop-u.auto.counts in
-    let now = c.loop-u.invariant u (omega arith) in
+    let now = c.loop-u.invariant.counts u (omega arith) in
     omega (arith, more, some, now)
