@@ -46,6 +46,9 @@ pub fn triangulate_parts(map: HalfMap, parts: &Parts) -> Result<HalfMap, (HalfMa
 {
     let mut map = map;
     let room = 3 * map.n() as u32 - 6 - map.m();
+    if room == 0 {
+        return Ok(map);
+    }
     match map.reserve_edges(room) {
         Ok(()) => {
             join_parts(&mut map, parts);

@@ -1,5 +1,6 @@
 -- Marks that are set and taken away, the counts of marked neighbours, and what a mark puts on the stack.
 use Rattle.std.proofs.Common.{◌≡◌, ◌≢◌, ◌⊎◌, ◌↔◌, ◌&&◌, ℕ, ◌+◌, ◌-◌, ◌<◌, ◌≤◌, Bool, true, false, not, cond, eqb, List, [], ◌∷◌, ◌++◌, length, get_or, take, set, count_by, filter, Contains, All, refl, sym, ap, ap₂, ◌∙◌, subst, inl, inr, arith, ltb, lt-ltb, ltb-true, eq-eqb, ne_eqb, length-set, get_or-set_same, get_or-set_other}
+use Rattle.std.proofs.Common.{Result, Ok, Err, IfOk}
 use Rattle.std.proofs.lemmas.Bool.{cases_eq, cases_lt, cases_Bool, true≢false, false≢true, and_parts, and_from, and_right, not-true}
 use Rattle.std.proofs.lemmas.List.{get_or_past, get_or_default, take_more, length-take-le, get_or-take}
 use Rattle.std.proofs.lemmas.List.Sums.{sum_by-cons, count_by-le-length}
@@ -13,6 +14,11 @@ use Rattle.plane_peeling.proofs.RestrictedMaps.{cases_Contains, restricted-old, 
 use Rattle.plane_peeling.proofs.Rings.{each_of_one, each_of_three}
 use Rattle.canon_order.specs.Marks.{is_set, kept_of, IsTally, IsUnmarked, IsNoted, IsTaken}
 use Rattle.canon_order.specs.Lefts.{IsCycleAfter}
+
+-- two facts on a success make a third
+pub IfOk-of_two : {T E : Type 0} (r : Result T E) (P Q R : T → Type 0) → ((x : T) → P x → Q x → R x) → IfOk r P → IfOk r Q → IfOk r R
+IfOk-of_two (Ok x) P Q R f p q = f x p q
+IfOk-of_two (Err e) P Q R f p q = tt
 
 -- a test that passes at one number more counts that number too
 count_by-more : (p q : ℕ → Bool) (v : ℕ) → p v ≡ false → q v ≡ true → ((u : ℕ) → u ≢ v → q u ≡ p u) → (us : List ℕ) → count_by q us ≡ count_by p us + count_of v us

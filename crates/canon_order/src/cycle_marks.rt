@@ -8,7 +8,7 @@ ghost use Rattle.std.specs.Prelude.{◌≡◌, ◌≢◌, ◌<◌, ◌⊎◌, �
 ghost use Rattle.map_theory.specs.Maps.{IsSimpleMap, list_of};
 ghost use Rattle.canon_order.specs.Marks.{is_set, IsTally, IsUnmarked, IsNoted};
 
-use crate::lists::{lower, raise};
+use crate::lists::{lower_noting, raise, raise_noting};
 use half_edges::Rotations;
 use std::alloc::AllocError;
 
@@ -25,21 +25,6 @@ pub fn mark(marks: &mut [bool], counts: &mut [u16], lists: &Rotations, v: u16)
 {
     marks[v as usize] = true;
     raise(counts, lists.list(v as usize));
-}
-
-/// Takes the mark of a vertex away: its neighbours have one marked neighbour less, and all others as many as
-/// before.
-pub fn unmark(marks: &mut [bool], counts: &mut [u16], lists: &Rotations, v: u16)
-    requires simple { IsSimpleMap lists.now }
-    requires vertex { v < length lists.now }
-    requires tally { IsTally lists.now marks.old counts.old }
-    requires marked { is_set marks.old v ≡ true }
-    ensures tally { IsTally lists.now marks.new counts.new }
-    ensures marks { marks.new ≡ slice_set marks.old v false }
-    ensures elsewhere { (u : ℕ) → ¬ Contains (list_of lists.now v) u → slice_index counts.new u ≡ slice_index counts.old u }
-{
-    marks[v as usize] = false;
-    lower(counts, lists.list(v as usize));
 }
 
 /// Marks three vertices, where none is marked.
@@ -68,28 +53,6 @@ pub fn mark_three(
     mark(marks, counts, lists, third);
 }
 
-// Puts those vertices that are marked on the stack.
-fn put_marked(stack: &mut Vec<u16>, marked: &[bool], others: &[u16]) -> Result<(), AllocError>
-    requires { All (λ u. u < length marked.now) others.now }
-    ensures { IfOk result (λ _. stack.new.items ≡ stack.old.items ++ filter (is_set marked.now) others.now) }
-{
-    for u in others {
-        if marked[*u as usize] {
-            stack.push(*u)?;
-        }
-    }
-    Ok(())
-}
-
-// Puts a vertex on the stack, and those others that are marked.
-fn put_on(stack: &mut Vec<u16>, marked: &[bool], v: u16, others: &[u16]) -> Result<(), AllocError>
-    requires { All (λ u. u < length marked.now) others.now }
-    ensures { IfOk result (λ _. stack.new.items ≡ stack.old.items ++ v ∷ [] ++ filter (is_set marked.now) others.now) }
-{
-    stack.push(v)?;
-    put_marked(stack, marked, others)
-}
-
 // Marks a vertex that is not marked, and puts it and its marked neighbours on the stack.
 fn mark_new(
     marked: &mut [bool],
@@ -107,8 +70,9 @@ fn mark_new(
     ensures noted { IfOk result (λ _. IsNoted lists.now marked.old near.old stack.old.items marked.new near.new stack.new.items) }
     ensures marks { marked.new ≡ slice_set marked.old v true }
 {
-    mark(marked, near, lists, v);
-    put_on(stack, marked, v, lists.list(v as usize))
+    marked[v as usize] = true;
+    stack.push(v)?;
+    raise_noting(near, stack, marked, lists.list(v as usize))
 }
 
 // Takes the mark of a vertex away, and puts its marked neighbours on the stack.
@@ -128,8 +92,8 @@ fn unmark_old(
     ensures neighbours { IfOk result (λ _. (u : ℕ) → Contains (list_of lists.now v) u → is_set marked.new u ≡ true → Contains stack.new.items u) }
     ensures marks { marked.new ≡ slice_set marked.old v false }
 {
-    unmark(marked, near, lists, v);
-    put_marked(stack, marked, lists.list(v as usize))
+    marked[v as usize] = false;
+    lower_noting(near, stack, marked, lists.list(v as usize))
 }
 
 // Marks a vertex, if it is left and not marked.

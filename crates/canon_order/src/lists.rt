@@ -1,5 +1,6 @@
 //! Counters of entries, and lists made of vectors.
-ghost use Rattle.std.specs.Prelude.{◌≡◌, ◌+◌, ◌<◌, ◌≤◌, ◌==◌, ℕ, [], ◌∷◌, ◌++◌, map, reverse, length, slice_index, count_by, All, AllPairs, ◌≢◌, IfOk};
+ghost use Rattle.std.specs.Prelude.{◌≡◌, ◌+◌, ◌<◌, ◌≤◌, ◌==◌, ℕ, [], ◌∷◌, ◌++◌, map, reverse, filter, length, slice_index, count_by, All, AllPairs, ◌≢◌, IfOk};
+ghost use Rattle.canon_order.specs.Marks.{is_set};
 ghost use Rattle.canon_order.specs.Orders.{IsRankOf};
 
 use half_edges::{Counts, VertexId, VertexList};
@@ -16,15 +17,48 @@ pub(crate) fn raise(counts: &mut [u16], entries: &[u16])
     }
 }
 
-// Takes one away for each entry of a list.
-pub(crate) fn lower(counts: &mut [u16], entries: &[u16])
+// Adds one for each entry of a list, and puts those entries that are marked on a stack.
+pub(crate) fn raise_noting(
+    counts: &mut [u16],
+    stack: &mut Vec<u16>,
+    marked: &[bool],
+    entries: &[u16],
+) -> Result<(), AllocError>
     requires within { All (λ u. u < length counts.old) entries.now }
+    requires marks { All (λ u. u < length marked.now) entries.now }
+    requires room { (w : ℕ) → slice_index counts.old w + count_by (λ u. u == w) entries.now < 65536 }
+    ensures counts { IfOk result (λ _. (w : ℕ) → w < length counts.old → slice_index counts.new w ≡ slice_index counts.old w + count_by (λ u. u == w) entries.now) }
+    ensures stack { IfOk result (λ _. stack.new.items ≡ stack.old.items ++ filter (is_set marked.now) entries.now) }
+{
+    for u in entries {
+        counts[*u as usize] += 1;
+        if marked[*u as usize] {
+            stack.push(*u)?;
+        }
+    }
+    Ok(())
+}
+
+// Takes one away for each entry of a list, and puts those entries that are marked on a stack.
+pub(crate) fn lower_noting(
+    counts: &mut [u16],
+    stack: &mut Vec<u16>,
+    marked: &[bool],
+    entries: &[u16],
+) -> Result<(), AllocError>
+    requires within { All (λ u. u < length counts.old) entries.now }
+    requires marks { All (λ u. u < length marked.now) entries.now }
     requires some { (w : ℕ) → w < length counts.old → count_by (λ u. u == w) entries.now ≤ slice_index counts.old w }
-    ensures { (w : ℕ) → w < length counts.old → slice_index counts.new w + count_by (λ u. u == w) entries.now ≡ slice_index counts.old w }
+    ensures counts { IfOk result (λ _. (w : ℕ) → w < length counts.old → slice_index counts.new w + count_by (λ u. u == w) entries.now ≡ slice_index counts.old w) }
+    ensures stack { IfOk result (λ _. stack.new.items ≡ stack.old.items ++ filter (is_set marked.now) entries.now) }
 {
     for u in entries {
         counts[*u as usize] -= 1;
+        if marked[*u as usize] {
+            stack.push(*u)?;
+        }
     }
+    Ok(())
 }
 
 // The vertices of these numbers, from the last to the first.

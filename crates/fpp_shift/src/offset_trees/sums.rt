@@ -29,11 +29,11 @@ fn vertex_at(met: &Vec<u16>, i: usize) -> u16
     met[i]
 }
 
-// The root alone, as the first that is met.
-fn root_alone(alloc: Global, root: VertexId) -> Result<Vec<u16>, AllocError>
+// The root alone, as the first that is met, with room for so many vertices.
+fn root_alone(alloc: Global, root: VertexId, room: u16) -> Result<Vec<u16>, AllocError>
     ensures { IfOk result (λ met. met.items ≡ root.0 ∷ []) }
 {
-    let mut met = Vec::new(alloc);
+    let mut met = Vec::with_capacity(alloc, room as usize)?;
     met.push(root.0)?;
     Ok(met)
 }
@@ -153,7 +153,7 @@ fn points_at<L: Ledger>(
     ensures steps { steps.new ≤ steps.old + length tree.now }
     ensures never_falls { steps.old ≤ steps.new }
 {
-    let mut points = Points::new(alloc);
+    let mut points = Points::with_capacity(alloc, tree.len() as usize)?;
     for v in 0..tree.len() {
         let y = tree.get(VertexId(v), steps).y;
         points.push(Point {
@@ -178,7 +178,7 @@ fn points_of<L: Ledger>(
     ensures steps { steps.new ≤ steps.old + 8 * length tree.now }
     ensures never_falls { steps.old ≤ steps.new }
 {
-    let mut met = root_alone(alloc, root)?;
+    let mut met = root_alone(alloc, root, tree.len())?;
     put_first(tree, root, sums, steps);
     follow_all(tree, &mut met, sums, steps)?;
     let points = points_at(alloc, tree, sums, steps)?;
