@@ -1,0 +1,163 @@
+"""Builds of the proved program for each system that it is released for.
+
+The gate keeps on the machine what it proved. A copy of the program's crates takes these libraries over in a minute, and
+`rattle build` proves and compiles the crate on top once for each target. What no gate proved is proved here, which
+takes long."""
+import os
+import re
+import shutil
+import subprocess
+import tempfile
+
+ROOT = os.path.dirname(os.path.dirname(os.path.realpath(__file__)))
+TOOLS = f"{ROOT}/tools"
+ARM = "aarch64-linux-gnu"
+WEB = ("--enable-memory64", "--enable-bulk-memory", "--enable-mutable-globals", "--enable-sign-ext")
+EXPORTS = ("pigale_run", "memory_for", "memory_back")
+
+
+class Failed(Exception):
+    """Says which step of a build failed, and what it said."""
+
+
+def kit():
+    """Returns the folder of the kit, in which `rt` stands below bin/."""
+    return os.path.dirname(os.path.dirname(os.path.realpath(shutil.which("rt"))))
+
+
+def call(*words, cwd=None):
+    """Runs a command, and returns what it wrote; raises Failed where it failed."""
+    how = {"stdin": subprocess.DEVNULL, "stdout": subprocess.PIPE, "stderr": subprocess.STDOUT}
+    ran = subprocess.run(words, cwd=cwd, text=True, errors="replace", check=False, **how)
+    if ran.returncode:
+        last = "\n".join(ran.stdout.strip().split("\n")[-20:])
+        raise Failed(f"{' '.join(words)[:300]} ended with status {ran.returncode}:\n{last}")
+    return ran.stdout
+
+
+def listed():
+    """Returns the lines of crates.txt by crate: the line, and the names behind its colon."""
+    found = {}
+    with open(f"{ROOT}/crates.txt", encoding="utf-8") as file:
+        for line in file:
+            head, colon, tail = line.split("#")[0].partition(":")
+            if colon:
+                found[head.split()[0]] = (line, tail.split())
+    return found
+
+
+def below(lines, names):
+    """Returns the crates at or below those with these names, each behind those that it names."""
+    found = []
+    for name in names:
+        if name in lines and name not in found:
+            found += [it for it in below(lines, lines[name][1]) if it not in found] + [name]
+    return found
+
+
+class Copy:
+    """A folder with the crates at and below some, as the gate proves them, for a `with`."""
+
+    def __init__(self, tops):
+        self.lines = listed()
+        self.names = below(self.lines, tops)
+        self.folder = tempfile.mkdtemp(prefix="pigale-build-")
+        with open(f"{self.folder}/crates.txt", "w", encoding="utf-8") as file:
+            file.writelines(self.lines[name][0] for name in self.names)
+        shutil.copy(f"{ROOT}/HANDLES", self.folder)
+        for name in self.names:
+            shutil.copytree(f"{ROOT}/crates/{name}", f"{self.folder}/crates/{name}",
+                            ignore=lambda folder, _: {"out", "must-fail"} if os.path.basename(folder) == name else ())
+
+    def __enter__(self):
+        try:
+            self.said = call("rt", "ci", cwd=self.folder)
+        except BaseException:
+            self.__exit__()
+            raise
+        return self
+
+    def __exit__(self, *_):
+        shutil.rmtree(self.folder, ignore_errors=True)
+
+    def build(self, name, to, *more, toolchain=None):
+        """Builds the object or the archive of a crate, and returns the last line of its proof."""
+        words = [f"{kit()}/bin/rattle", "build", "--crate-name", name, *more]
+        crate = f"{self.folder}/crates/{name}"
+        words += [next(it for it in ("src/main.rt", "src/lib.rt") if os.path.exists(f"{crate}/{it}"))]
+        for it in ("std", *self.lines[name][1]):
+            words += ["--extern", f"{it}={self.library(it)}"]
+        words += ["-L", f"dependency={kit()}/rlibs"]
+        for it in below(self.lines, self.lines[name][1]):
+            words += ["-L", f"dependency={os.path.dirname(self.library(it))}"]
+        words += ["--antt-project", f"{kit()}/rattle/logic/antt-project.json", "--logic-built", f"{kit()}/logic_built"]
+        words += ["--links", f"{name}=", "--backend", "llvm", "--toolchain", toolchain or f"{kit()}/toolchain", "-o", to]
+        said = call(*words, cwd=crate)
+        proved = re.findall(r"^logic=proved .*$", said, re.M)
+        if not proved:
+            raise Failed(f"no line of {name} says that it is proved:\n{said[-2000:]}")
+        return proved[-1]
+
+    def library(self, name):
+        """Returns the folder of a proved library, of these crates or of the kit."""
+        own = f"{self.folder}/crates/{name}/out/rlib/{name}.rlib"
+        return own if name in self.names else f"{kit()}/rlibs/{name}.rlib"
+
+
+def gate_program(copy):
+    """Returns the program as the gate built it, for this machine and its own C library."""
+    return f"{copy.folder}/crates/pigale/out/pigale"
+
+
+def static_program(copy, to):
+    """Links the program for x86-64 with all that it needs, and returns its target and the last line of its proof."""
+    with tempfile.TemporaryDirectory() as room:
+        target = "x86_64-unknown-linux-gnu"
+        verdict = copy.build("pigale", f"{room}/pigale.o", "--target", target)
+        parts = [f"{room}/pigale.o", f"{kit()}/c/libos_c.a", f"{kit()}/c/liblibc_c.a"]
+        call(f"{kit()}/bin/rattle-link", "--target", target, "--toolchain", f"{kit()}/toolchain", "-o", f"{room}/pigale", *parts)
+        with open(f"{room}/pigale", "rb") as one, open(gate_program(copy), "rb") as other:
+            if one.read() != other.read():
+                raise Failed("a second build of the program gave other bytes than the gate's")
+        call("gcc", "-static-pie", "-Wl,--gc-sections", "-s", "-o", to, *parts)
+    return target, verdict
+
+
+def arm_program(copy, to):
+    """Links the program for arm64 with all that it needs, and returns its target and the last line of its proof."""
+    with tempfile.TemporaryDirectory() as room:
+        target = "aarch64-unknown-linux-gnu"
+        verdict = copy.build("pigale", f"{room}/pigale.o", "--target", target)
+        call(f"{ARM}-gcc", "-O2", "-static", "-Wl,--gc-sections", "-s", "-o", to, f"{room}/pigale.o", f"{TOOLS}/arm64.c")
+    return target, verdict
+
+
+def module(copy, to):
+    """Makes the WebAssembly module of the C library, and returns its target and the last line of its proof."""
+    with tempfile.TemporaryDirectory() as room:
+        verdict = copy.build("pigale_c", f"{room}/library.a", "--crate-type", "staticlib", toolchain=keeping(room))
+        clang, wasm = f"{kit()}/toolchain/bin/clang", "--target=wasm64-unknown-unknown"
+        call(clang, wasm, "-O2", "-w", "-c", "-x", "ir", f"{room}/module.bc", "-o", f"{room}/module.o")
+        call(clang, wasm, "-O2", "-Wall", "-mbulk-memory", "-fno-builtin", "-c", f"{ROOT}/web/src/memory.c", "-o", f"{room}/memory.o")
+        call(f"{kit()}/toolchain/bin/ld.lld", "-flavor", "wasm", "-mwasm64", "--no-entry", "--gc-sections", "--stack-first",
+             "-z", "stack-size=8388608", *[f"--export={it}" for it in EXPORTS], f"{room}/module.o", f"{room}/memory.o", "-o", f"{room}/wide.wasm")
+        # 64-bit memories are of late browsers only: addresses are made of 32 bits
+        call("wasm-opt", "--memory64-lowering", *WEB, "-O1", "--strip-debug", "--strip-producers", f"{room}/wide.wasm", "-o", to)
+    return "wasm32", verdict
+
+
+def keeping(room):
+    """Returns a toolchain that is the kit's and keeps in `room` the module that its clang is given."""
+    to = f"{room}/toolchain"
+    os.makedirs(f"{to}/bin")
+    os.symlink(f"{kit()}/toolchain/lib", f"{to}/lib")
+    for it in os.listdir(f"{kit()}/toolchain/bin"):
+        os.symlink(f"{kit()}/toolchain/bin/{it}", f"{to}/bin/{it}")
+    os.remove(f"{to}/bin/clang")
+    with open(f"{to}/bin/clang", "w", encoding="utf-8") as file:
+        file.write(f"""#!/bin/bash
+for it in "$@"; do case $it in *.bc) cp "$it" '{room}/module.bc' ;; esac; done
+exec -a "$0" '{kit()}/toolchain/bin/clang' "$@"
+""")
+    os.chmod(f"{to}/bin/clang", 0o755)
+    return to
