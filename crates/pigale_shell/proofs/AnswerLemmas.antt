@@ -1,12 +1,10 @@
 -- No lists are both served and refused.
-use Rattle.std.proofs.Common.{◌≡◌, ◌↔◌, ◌∙◌, ℕ, ◌<◌, length, Bool, false, IsTrue, true≢false, sym}
+use Rattle.std.proofs.Common.{◌≡◌, ◌↔◌, ◌∙◌, ◌<◌, length, Bool, false, IsTrue, true≢false, sym}
 use Rattle.map_lists.specs.Lists.{Lists}
 use Rattle.refusals.specs.declared.refusal.Refusal.{Refusal}
 use Rattle.conn_parts.specs.Laws.{BiconnectedBreakNothing}
 use Rattle.convex_class.specs.Laws.{ThreeConnectedBreakNothing}
 use Rattle.rect_class.specs.Laws.{RectMapsBreakNothing}
-use Rattle.simple_maps.specs.Faults.{first_fault}
-use Rattle.pigale_words.specs.declared.form.Form.{Form}
 use Rattle.pigale_shell.specs.declared.kinds.Method.TheVariants.{Shift, Schnyder, Bars, Convex, Rect}
 use Rattle.pigale_shell.specs.declared.kinds.MapJob.{MapJob}
 use Rattle.pigale_shell.specs.declared.kinds.MapJob.TheVariants.{Count, Draw}

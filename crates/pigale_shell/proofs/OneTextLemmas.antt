@@ -1,13 +1,9 @@
 -- The text of a run that draws nothing is one, and so is each line that refuses a record.
-use Rattle.std.proofs.Common.{◌≡◌, ◌⊎◌, ◌↔◌, ◌<◌, ◌≤◌, ◌+◌, ◌++◌, ℕ, inl, inr, refl, sym, ap, ap₂, subst, ◌∙◌, Bool, true, false, if◌then◌else◌, IsTrue, List, [], ◌∷◌, length, Option, Some, None, arith}
+use Rattle.std.proofs.Common.{◌≡◌, ◌↔◌, ◌<◌, ◌+◌, ◌++◌, ℕ, inl, inr, refl, sym, ap, ap₂, subst, ◌∙◌, Bool, true, false, if◌then◌else◌, IsTrue, List, [], ◌∷◌, length, Some, arith}
 use Rattle.std.specs.Prelude.{unwrap_or}
 use Rattle.map_lists.specs.Lists.{Lists}
-use Rattle.graph6_text.specs.Graphs.{EdgeGraph}
 use Rattle.pg_io.specs.Io.{Grows}
 use Rattle.record_runs.specs.Texts.{Answers, AreBlocks, Refuses}
-use Rattle.simple_maps.specs.Faults.{first_fault}
-use Rattle.simple_maps.specs.declared.fault.MapFault.{MapFault}
-use Rattle.refusals.specs.Conditions.{fault_refusal, unserved_for}
 use Rattle.refusals.specs.declared.refusal.Refusal.{Refusal}
 use Rattle.refusals.specs.declared.refusal.Unserved.{Unserved}
 use Rattle.refusals.specs.declared.refusal.Unserved.TheVariants.{Refused as UnservedFor, NoMemory}
@@ -15,17 +11,14 @@ use Rattle.figure_text.specs.declared.figure.Figure.{Figure}
 use Rattle.figure_verdicts.specs.declared.verdict.FigureVerdict.{FigureVerdict}
 use Rattle.figure_verdicts.specs.declared.verdict.FigureVerdict.TheVariants.{Refused, Drawing, Inside, Convex, Bars, Rects, Witness, Yes}
 use Rattle.verdict_laws.specs.Laws.{OneFigureVerdict, OneBreak, OneConvexBreak, OneRectBreak}
-use Rattle.pigale_words.specs.declared.form.Form.{Form}
-use Rattle.pigale_shell.specs.Text.{refusal_line, count_line}
-use Rattle.pigale_shell.specs.Blocks.{IsRefused}
+use Rattle.pigale_shell.specs.Text.{refusal_line}
 use Rattle.pigale_shell.specs.Forms.{line_in}
 use Rattle.pigale_shell.specs.Kinds.{form_of}
-use Rattle.pigale_shell.specs.Answer.{Serves, Breaks, IsText, IsMapBlock, ServedBreaksNothing}
-use Rattle.pigale_shell.specs.EmbedText.{IsTooSmall, IsEmbedBlock}
-use Rattle.pigale_shell.specs.Verify.{WritesFault, WritesVerdict, IsVerifyBlock}
-use Rattle.pigale_shell.specs.JobInput.{RecordOf, EndingOf, reads_of, answers_of}
+use Rattle.pigale_shell.specs.Answer.{Serves, Breaks, IsMapBlock, ServedBreaksNothing}
+use Rattle.pigale_shell.specs.Verify.{WritesVerdict, IsVerifyBlock}
+use Rattle.pigale_shell.specs.JobInput.{RecordOf, EndingOf, answers_of}
 use Rattle.pigale_shell.specs.Outcome.{Writes}
-use Rattle.pigale_shell.specs.OneText.{DrawsNothing, OneText, OneRefusalLine, OneGraphRefusalLine}
+use Rattle.pigale_shell.specs.OneText.{OneText, OneRefusalLine, OneGraphRefusalLine}
 use Rattle.pigale_shell.specs.declared.kinds.Method.TheVariants as method
 use Rattle.pigale_shell.specs.declared.kinds.MapJob.{MapJob}
 use Rattle.pigale_shell.specs.declared.kinds.MapJob.TheVariants.{Count, Draw}

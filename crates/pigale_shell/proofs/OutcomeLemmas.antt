@@ -1,5 +1,5 @@
 -- How a run of the top call ends.
-use Rattle.std.proofs.Common.{◌≡◌, ℕ, List, [], refl, sym, ap, subst, ◌∙◌, inl, arith, Option, Some, None}
+use Rattle.std.proofs.Common.{◌≡◌, ℕ, List, [], refl, sym, ap, ◌∙◌, inl, arith, Option, Some, None}
 use Rattle.planar_code.specs.Reading.{Ending as SpokenEnding, well, end_in_record, bad_count, too_long}
 use Rattle.planar_code.specs.State.{at_front}
 use Rattle.planar_code.proofs.ProgressLemmas.{Progress-start, Progress-begins}

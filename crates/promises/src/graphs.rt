@@ -3,8 +3,8 @@ ghost use Rattle.std.specs.Prelude.{◌<◌, ◌≤◌, IfOk};
 ghost use Rattle.embed_graph.specs.Embeddings.{IsEmbedding};
 ghost use Rattle.embed_graph.specs.Figures.{IsEmbedFigure};
 
-use embed_graph::Embedding;
 use embed_graph::embed_figures::EmbedFigure;
+use embed_graph::{Embedding, Tables};
 use graph6_text::Graph;
 use std::alloc::{AllocError, Global};
 
@@ -24,10 +24,14 @@ pub fn embed_by_contraction(alloc: Global, graph: &Graph) -> Result<Embedding, A
     embed_graph::contracted_embeddings::embed_by_contraction(alloc, graph)
 }
 
-/// Returns a drawn map of genus zero with the edges of `graph`, or a subdivision of K5 or K3,3.
-pub fn embed_figure(alloc: Global, graph: &Graph) -> Result<EmbedFigure, AllocError>
+/// Returns a drawn map of genus zero with the edges of `graph`, or a subdivision of K5 or K3,3, whatever `tables` hold.
+pub fn embed_figure_in(
+    alloc: Global,
+    tables: &mut Tables,
+    graph: &Graph,
+) -> Result<EmbedFigure, AllocError>
     requires { 3 ≤ graph.now.n }
     ensures { IfOk result (IsEmbedFigure graph.now) }
 {
-    embed_graph::embed_figures::embed_figure(alloc, graph)
+    embed_graph::embed_figures::embed_figure_in(alloc, tables, graph)
 }

@@ -2,10 +2,12 @@
 ghost use Rattle.std.specs.Prelude.{◌≡◌, ◌<◌, IfOk, length, slice_index, ℕ, MatchOption};
 ghost use Rattle.conn_parts.specs.GraphLists.{graph_lists as lists_of_graph};
 ghost use Rattle.conn_parts.specs.Parts.{ArePartsOf};
+ghost use Rattle.euler_faces.specs.FaceWalks.{AreFaces};
 ghost use Rattle.graph_search.specs.Cuts.{IsCutVertex, IsLeastCutVertex, IsSeparatingPair, IsLeastPair};
 ghost use Rattle.map_theory.specs.Maps.{IsPlane};
 
 use conn_parts::Parts;
+use euler_faces::Faces;
 use graph6_text::Graph;
 use half_edges::HalfMap;
 use map_lists::VertexId;
@@ -50,16 +52,18 @@ pub fn separating_pair(
     conn_parts::separating_pair(alloc, map)
 }
 
-/// Returns the least separating pair of a biconnected `map` of genus zero, or None where it has none.
-pub fn plane_separating_pair(
+/// Returns the least separating pair of `map`, without cut vertex and of genus zero, by its `faces`, or None where it has none.
+pub fn separating_pair_by(
     alloc: Global,
     map: &HalfMap,
+    faces: &Faces,
 ) -> Result<Option<(VertexId, VertexId)>, AllocError>
     requires plane { IsPlane map.now.lists }
     requires uncut { (v : ℕ) → ¬ IsCutVertex map.now.lists v }
+    requires faces { AreFaces map.now faces.now }
     ensures { IfOk result (λ found. MatchOption found ((u v : ℕ) → ¬ IsSeparatingPair map.now.lists u v) (λ p. IsLeastPair map.now.lists p.0.0 p.1.0)) }
 {
-    convex_class::face_pairs::plane_separating_pair(alloc, map)
+    convex_class::face_pairs::separating_pair_by(alloc, map, faces)
 }
 
 /// Returns the components of `graph`.

@@ -1,5 +1,5 @@
 -- The ends of edges in the run of a rectangular order, as a function of their vertices, and the boxes that meet along them.
-use Rattle.std.proofs.Common.{◌≡◌, ◌≢◌, ◌⊎◌, ℕ, suc, ◌+◌, ◌-◌, ◌<◌, ◌≤◌, List, length, get_or, pos, refl, sym, ap, ap₂, subst, ◌∙◌, inl, inr, nat_lt, if◌then◌else◌, ltb, arith}
+use Rattle.std.proofs.Common.{◌≡◌, ℕ, suc, ◌+◌, ◌-◌, ◌<◌, ◌≤◌, List, length, get_or, pos, sym, ap, ap₂, subst, ◌∙◌, inl, inr, nat_lt, if◌then◌else◌, ltb, arith}
 use Rattle.std.proofs.lemmas.Bool.{cases_order, cond-true, cond-false, lt-ltb, le-ltb}
 use Rattle.map_lists.specs.Lists.{Lists}
 use Rattle.map_theory.specs.Maps.{HasDart}
@@ -19,7 +19,7 @@ use Rattle.rect_orders.specs.Maps.{IsRectMap, closed}
 use Rattle.rect_orders.specs.Orders.{IsRectOrder}
 use Rattle.rect_orders.specs.Runs.{shortened, IsRunOfMap}
 use Rattle.rect_orders.specs.Figures.{AreBoxesAt}
-use Rattle.rect_orders.specs.Labellings.{IsFrameEdge, AreEndsOf, IsByLabelling, BoxesByLabelling}
+use Rattle.rect_orders.specs.Labellings.{IsFrameEdge, AreEndsOf, BoxesByLabelling}
 use Rattle.rect_orders.proofs.Closed.{length-closed}
 use Rattle.rect_orders.proofs.RunOfMap.{rect_order_is_run}
 use Rattle.rect_orders.proofs.Around.{size, top, at_rank}
