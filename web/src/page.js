@@ -163,7 +163,8 @@ async function take(bytes, name) {
   page.input = { bytes, name, notes: [] };
   $("format").value = "";
   $("run").hidden = false;
-  if (matchMedia("(max-width: 48rem)").matches) $("run").scrollIntoView();
+  // What is answered comes below: it is to be seen.
+  if ($("run").getBoundingClientRect().bottom > 0.7 * innerHeight) $("run").scrollIntoView();
   if (bytes[0] === 0x1f && bytes[1] === 0x8b)
     try {
       page.input.bytes = await unpacked(bytes);
