@@ -1,4 +1,4 @@
-"""A page in headless Chromium, driven by its debugging pipe: scripts run in it, keys are typed, and what is seen is kept."""
+"""Drives a page in headless Chromium by its debugging pipe: runs scripts, presses keys, and keeps what is seen."""
 import base64
 import fcntl
 import json
@@ -12,12 +12,12 @@ SECONDS = 300  # for which an answer is waited for
 
 
 def found():
-    """The browser's path, or None where there is none."""
+    """Returns the browser's path, or None where there is none."""
     return shutil.which("chromium") or shutil.which("chromium-browser") or shutil.which("google-chrome")
 
 
 class Page:
-    """A page of a browser of its own, for a `with`."""
+    """Opens a page in a browser of its own, for a `with`."""
 
     def __init__(self, address, width=1280, height=900, is_dark=False, scale=1, is_mobile=False):
         self.folder = tempfile.mkdtemp(prefix="pigale-page-")
@@ -64,7 +64,7 @@ class Page:
         shutil.rmtree(self.folder, ignore_errors=True)
 
     def ask(self, method, **given):
-        """What the browser answers to a command; events that come meanwhile are kept."""
+        """Returns what the browser answers to a command, and keeps the events that come meanwhile."""
         self.number += 1
         asked = {"id": self.number, "method": method, "params": given}
         if self.session:
@@ -91,7 +91,7 @@ class Page:
         return json.loads(said)
 
     def run(self, script):
-        """The value of a script in the page, which may be a promise."""
+        """Returns the value of a script in the page, which may be a promise."""
         said = self.ask("Runtime.evaluate", expression=script, awaitPromise=True, returnByValue=True)
         if "exceptionDetails" in said:
             fault = said["exceptionDetails"]

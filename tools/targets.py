@@ -56,7 +56,7 @@ def below(lines, names):
 
 
 class Copy:
-    """A folder with the crates at and below some, as the gate proves them, for a `with`."""
+    """Has the crates at and below some, as the gate proves them, in a folder of its own, for a `with`."""
 
     def __init__(self, tops):
         self.lines = listed()

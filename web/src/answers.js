@@ -1,6 +1,6 @@
 // The program's text: its blocks, the numbers of records in it, and what its refusals and verdicts say in words.
 
-// Counts of a text's answers: how many `records` it answers, how many are `refused`, and how it ends.
+// Counts a text's answers: how many `records` it answers, how many are `refused`, and how it stops, if it does.
 function tally(text) {
   const lines = text.trimEnd();
   const last = lines.slice(lines.lastIndexOf("\n") + 1).split(" ");

@@ -225,6 +225,12 @@ function madeMap(size, number) {
     faces[i] = [a, b, k];
     faces.push([b, c, k], [c, a, k]);
   }
+  return codeOf(lists);
+}
+
+// Returns planar_code of the lists of a map.
+function codeOf(lists) {
+  const size = lists.length;
   const numbers = size > 255 ? (list) => [...list.flatMap((u) => [u >> 8, u & 255]), 0, 0] : (list) => [...list, 0];
   const count = size > 255 ? [0, size >> 8, size & 255] : [size];
   return joined([PLANAR_HEADER, Uint8Array.from(count), ...lists.map((list) => Uint8Array.from(numbers(list)))]);

@@ -30,7 +30,7 @@ function element(tag, text = "", more = {}) {
   return Object.assign(document.createElement(tag), { textContent: text, ...more });
 }
 
-// The worker with the program, which is made anew after a stop.
+// Runs the program in a worker, which is made anew after a stop.
 class Machine {
   constructor(module) {
     this.module = module;
@@ -83,7 +83,7 @@ function fromBase64(text) {
   return Uint8Array.from(atob(text.trim()), (it) => it.charCodeAt(0));
 }
 
-// What one run over an input has answered so far.
+// Holds what a run over an input has answered so far.
 class Answers {
   constructor(kind, jobs, input, shift) {
     Object.assign(this, { kind, jobs, input, shift, parts: [], records: 0, done: 0, stop: null, isWhole: false });
@@ -163,7 +163,8 @@ async function take(bytes, name) {
   page.input = { bytes, name, notes: [] };
   $("format").value = "";
   $("run").hidden = false;
-  if (matchMedia("(max-width: 48rem)").matches) $("run").scrollIntoView();
+  // What is answered comes below: it is to be seen.
+  if ($("run").getBoundingClientRect().bottom > 0.7 * innerHeight) $("run").scrollIntoView();
   if (bytes[0] === 0x1f && bytes[1] === 0x8b)
     try {
       page.input.bytes = await unpacked(bytes);
@@ -355,7 +356,7 @@ function showRecords() {
   $("records").replaceChildren(...list.slice(page.from, to).map((number) => shownRecord(number, noun)));
 }
 
-// Pictures are made when they come near the screen.
+// Makes pictures when they come near the screen.
 const watcher = new IntersectionObserver(
   (seen) => {
     for (const { isIntersecting, target } of seen)
@@ -446,6 +447,10 @@ function card(figure, number) {
     element("button", "Copy text", { type: "button", onclick: ({ target }) => copy(figure.lines.join("\n") + "\n", target) }),
     element("button", "Save SVG", { type: "button", onclick: () => saveSvg(figure, number) }),
   );
+  if (page.answers.kind === "graphs" && figure.lists) {
+    const name = `The map of graph ${(number + 1).toLocaleString("en")}`;
+    acts.append(element("button", "Draw in all ways", { type: "button", onclick: () => take(codeOf(figure.lists), name) }));
+  }
   foot.append(acts);
   box.append(shot, foot);
   return box;
