@@ -1,0 +1,6 @@
+-- Lemmas on maps and points as arrays, on outcomes, and on runs.
+mod ArrayLemmas
+mod FailureLemmas
+mod JudgedLemmas
+mod RunLemmas
+mod WordLemmas

@@ -1,0 +1,124 @@
+//! Maps and points from arrays.
+ghost use Rattle.std.specs.Prelude.{◌≡◌, ◌<◌, ◌↔◌, length, pos, IsTrue, IfOk, IfErr};
+ghost use Rattle.map_lists.specs.Cuts.{AreCuts};
+ghost use Rattle.pg_plane.specs.Range.{IsInRange, IsWithin};
+ghost use Rattle.pigale_c.specs.Arrays.{lists_in, points_in, IsGivenMap, AllInRange, ArePlaces};
+ghost use Rattle.pigale_c.specs.Failures.{IsBadOnly};
+
+use crate::outcome::Failure;
+use map_lists::Rotations;
+use pg_plane::{Point, Points};
+use std::alloc::{AllocError, Global};
+
+// Returns whether the ends do not fall and go to `total`.
+fn are_cuts(ends: &[usize], total: usize) -> bool
+    ensures { IsTrue result ↔ AreCuts 0 ends.now total }
+{
+    let mut from = 0;
+    for end in ends {
+        if *end < from {
+            return false;
+        }
+        from = *end;
+    }
+    from == total
+}
+
+// Returns whether two arrays are those of a map.
+fn is_given_map(ends: &[usize], neighbours: &[u16]) -> bool
+    ensures { IsTrue result ↔ IsGivenMap ends.now neighbours.now }
+{
+    !ends.is_empty() && ends.len() < 4096 && are_cuts(ends, neighbours.len())
+}
+
+/// Returns the rotation lists of two arrays.
+pub(crate) fn lists_of(
+    alloc: Global,
+    ends: &[usize],
+    neighbours: &[u16],
+) -> Result<Rotations, Failure>
+    ensures lists { IfOk result (λ lists. lists ≡ lists_in ends.now neighbours.now) }
+    ensures given { IfOk result (λ lists. IsGivenMap ends.now neighbours.now) }
+    ensures count { IfOk result (λ lists. length lists ≡ length ends.now) }
+    ensures some_list { IfOk result (λ lists. 0 < length lists) }
+    ensures few_lists { IfOk result (λ lists. length lists < 4096) }
+    ensures failed { IfErr result (IsBadOnly (IsGivenMap ends.now neighbours.now)) }
+{
+    if !is_given_map(ends, neighbours) {
+        return Err(Failure::BadArgument);
+    }
+    let entries = neighbours.to_vec(alloc)?;
+    let pieces = ends.to_vec(alloc)?;
+    let lists = Rotations::from_parts(entries, pieces);
+    Ok(lists)
+}
+
+// Returns whether a coordinate is from -2^20 to 2^20.
+fn is_coordinate(z: i32) -> bool
+    ensures { IsTrue result ↔ IsWithin (pos 1048576) z }
+{
+    -1048576 <= z && z <= 1048576
+}
+
+// Returns whether both coordinates of a point are in range.
+fn is_in_range(p: Point) -> bool
+    ensures { IsTrue result ↔ IsInRange p }
+{
+    is_coordinate(p.x) && is_coordinate(p.y)
+}
+
+// Returns the points with these coordinates.
+fn made_points(alloc: Global, x: &[i32], y: &[i32]) -> Result<Points, AllocError>
+    requires { length x.now ≡ length y.now }
+    ensures { IfOk result (λ points. points ≡ points_in x.now y.now) }
+{
+    let mut points = Points::with_capacity(alloc, x.len())?;
+    for k in 0..x.len() {
+        points.push(Point { x: x[k], y: y[k] })?;
+    }
+    Ok(points)
+}
+
+// Returns whether all points are in range.
+fn are_in_range(points: &[Point]) -> bool
+    ensures { IsTrue result ↔ AllInRange points.now }
+{
+    for point in points {
+        if !is_in_range(*point) {
+            return false;
+        }
+    }
+    true
+}
+
+/// Returns the points of `n` vertices by two arrays.
+pub(crate) fn points_of(alloc: Global, n: usize, x: &[i32], y: &[i32]) -> Result<Points, Failure>
+    ensures points { IfOk result (λ points. points ≡ points_in x.now y.now) }
+    ensures given { IfOk result (λ points. ArePlaces n x.now y.now) }
+    ensures count { IfOk result (λ points. length points ≡ n) }
+    ensures in_range { IfOk result AllInRange }
+    ensures failed { IfErr result (IsBadOnly (ArePlaces n x.now y.now)) }
+{
+    if x.len() != n || y.len() != n {
+        return Err(Failure::BadArgument);
+    }
+    let points = made_points(alloc, x, y)?;
+    if are_in_range(points.as_slice()) {
+        Ok(points)
+    } else {
+        Err(Failure::BadArgument)
+    }
+}
+
+/// Writes points into two arrays of coordinates.
+pub(crate) fn put_points(points: &[Point], x: &mut [i32], y: &mut [i32])
+    requires x { length x.old ≡ length points.now }
+    requires y { length y.old ≡ length points.now }
+    ensures { points_in x.new y.new ≡ points.now }
+{
+    for k in 0..points.len() {
+        let point = points[k];
+        x[k] = point.x;
+        y[k] = point.y;
+    }
+}

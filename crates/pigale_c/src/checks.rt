@@ -1,0 +1,168 @@
+//! Drawings of maps, judged.
+ghost use Rattle.std.specs.Prelude.{◌≡◌, Some, None, IfOk, IfErr};
+ghost use Rattle.simple_maps.specs.Faults.{first_fault};
+ghost use Rattle.refusals.specs.Conditions.{fault_refusal};
+ghost use Rattle.draw_check.specs.Faults.{HasPlaces};
+ghost use Rattle.draw_check.specs.Verdicts.{IsVerdict};
+ghost use Rattle.pigale_c.specs.Arrays.{lists_in, points_in, IsGivenDrawing};
+ghost use Rattle.pigale_c.specs.Judged.{IsBendVerdict, IsJudged, IsShaped, IsJudgedConvex};
+ghost use Rattle.pigale_c.specs.Failures.{Fails};
+ghost use Rattle.pigale_c.specs.Numbers.{Reports};
+
+use crate::arrays::{lists_of, points_of};
+use crate::outcome::{Failure, Numbers, Outcome, report};
+use convex_check::{ConvexVerdict, check_convex_points};
+use draw_check::{Verdict, check_points};
+use half_edges::{HalfMap, VertexId};
+use pg_plane::{Point, Points};
+use std::alloc::{AllocError, Global};
+
+// A map, and a place for each vertex.
+#[derive(Drop)]
+struct Drawing {
+    map: HalfMap,
+    points: Points,
+}
+
+// Returns the map and the places of arrays.
+fn drawing_of(
+    alloc: Global,
+    ends: &[usize],
+    neighbours: &[u16],
+    x: &[i32],
+    y: &[i32],
+) -> Result<Drawing, Failure>
+    ensures map { IfOk result (λ drawing. drawing.map.lists ≡ lists_in ends.now neighbours.now) }
+    ensures points { IfOk result (λ drawing. drawing.points ≡ points_in x.now y.now) }
+    ensures places { IfOk result (λ drawing. HasPlaces drawing.map.lists drawing.points) }
+    ensures simple { IfOk result (λ drawing. first_fault (lists_in ends.now neighbours.now) ≡ None) }
+    ensures given { IfOk result (λ drawing. IsGivenDrawing ends.now neighbours.now x.now y.now) }
+    ensures failed { IfErr result (Fails (IsGivenDrawing ends.now neighbours.now x.now y.now)
+        (λ refusal. fault_refusal (lists_in ends.now neighbours.now) ≡ Some refusal)) }
+{
+    let lists = lists_of(alloc, ends, neighbours)?;
+    let points = points_of(alloc, ends.len(), x, y)?;
+    let map = HalfMap::from_rotations(alloc, &lists)?;
+    Ok(Drawing { map, points })
+}
+
+// Returns the verdict on the drawing of arrays.
+fn judged(
+    alloc: Global,
+    ends: &[usize],
+    neighbours: &[u16],
+    x: &[i32],
+    y: &[i32],
+    corner: Point,
+) -> Result<Verdict, Failure>
+    ensures verdict { IfOk result (λ verdict. IsGivenDrawing ends.now neighbours.now x.now y.now
+        × (first_fault (lists_in ends.now neighbours.now) ≡ None)
+        × IsVerdict (lists_in ends.now neighbours.now) (points_in x.now y.now) corner.x corner.y verdict) }
+    ensures failed { IfErr result (Fails (IsGivenDrawing ends.now neighbours.now x.now y.now)
+        (λ refusal. fault_refusal (lists_in ends.now neighbours.now) ≡ Some refusal)) }
+{
+    let drawing = drawing_of(alloc, ends, neighbours, x, y)?;
+    Ok(check_points(&drawing.map, &drawing.points, corner))
+}
+
+/// Judges a straight-line drawing of a map in the grid from (0, 0) to (`width`, `height`).
+#[unsafe(no_mangle)]
+pub extern "C" fn pigale_check(
+    alloc: Global,
+    ends: &[usize],
+    neighbours: &[u16],
+    x: &[i32],
+    y: &[i32],
+    width: i32,
+    height: i32,
+    found: &mut Numbers,
+) -> u8
+    ensures { Reports (IsJudged ends.now neighbours.now x.now y.now width height) result found.new }
+{
+    let corner = Point {
+        x: width,
+        y: height,
+    };
+    match judged(alloc, ends, neighbours, x, y, corner) {
+        Ok(verdict) => report(Outcome::Drawing(verdict), found),
+        Err(failure) => report(Outcome::Failed(failure), found),
+    }
+}
+
+// Returns the verdict on the bends of a drawing, over the first dart of vertex 0.
+fn bends(alloc: Global, map: &HalfMap, points: &Points) -> Result<ConvexVerdict, AllocError>
+    requires { HasPlaces map.now.lists points.now }
+    ensures { IfOk result (IsBendVerdict map.now.lists points.now) }
+{
+    map.facts();
+    match map.first_dart(VertexId(0)) {
+        Some(base) => {
+            let verdict = check_convex_points(alloc, map, base, points)?;
+            Ok(verdict)
+        }
+        None => Ok(ConvexVerdict::OuterBent),
+    }
+}
+
+// Returns the first fault of a drawing that is to be convex, or the verdict on its bends where it has none.
+fn shaped(
+    alloc: Global,
+    map: &HalfMap,
+    points: &Points,
+    corner: Point,
+) -> Result<Outcome, AllocError>
+    requires { HasPlaces map.now.lists points.now }
+    ensures { IfOk result (IsShaped map.now.lists points.now corner.x corner.y) }
+{
+    match check_points(map, points, corner) {
+        Verdict::Yes => {
+            let verdict = bends(alloc, map, points)?;
+            Ok(Outcome::Convex(verdict))
+        }
+        verdict => Ok(Outcome::Drawing(verdict)),
+    }
+}
+
+// Returns the outcome of the drawing of arrays that is to be convex.
+fn judged_convex(
+    alloc: Global,
+    ends: &[usize],
+    neighbours: &[u16],
+    x: &[i32],
+    y: &[i32],
+    corner: Point,
+) -> Result<Outcome, Failure>
+    ensures given { IfOk result (λ outcome. IsGivenDrawing ends.now neighbours.now x.now y.now) }
+    ensures simple { IfOk result (λ outcome. first_fault (lists_in ends.now neighbours.now) ≡ None) }
+    ensures outcome { IfOk result (IsShaped (lists_in ends.now neighbours.now) (points_in x.now y.now) corner.x corner.y) }
+    ensures failed { IfErr result (Fails (IsGivenDrawing ends.now neighbours.now x.now y.now)
+        (λ refusal. fault_refusal (lists_in ends.now neighbours.now) ≡ Some refusal)) }
+{
+    let drawing = drawing_of(alloc, ends, neighbours, x, y)?;
+    let outcome = shaped(alloc, &drawing.map, &drawing.points, corner)?;
+    Ok(outcome)
+}
+
+/// Judges a straight-line drawing of a map that is to have convex faces, in the grid from (0, 0) to (`width`, `height`).
+#[unsafe(no_mangle)]
+pub extern "C" fn pigale_check_convex(
+    alloc: Global,
+    ends: &[usize],
+    neighbours: &[u16],
+    x: &[i32],
+    y: &[i32],
+    width: i32,
+    height: i32,
+    found: &mut Numbers,
+) -> u8
+    ensures { Reports (IsJudgedConvex ends.now neighbours.now x.now y.now width height) result found.new }
+{
+    let corner = Point {
+        x: width,
+        y: height,
+    };
+    match judged_convex(alloc, ends, neighbours, x, y, corner) {
+        Ok(outcome) => report(outcome, found),
+        Err(failure) => report(Outcome::Failed(failure), found),
+    }
+}
