@@ -17,6 +17,7 @@ mod row;
 mod search;
 mod shrink;
 mod signs;
+mod small;
 mod ties;
 mod trace;
 

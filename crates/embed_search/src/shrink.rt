@@ -7,6 +7,7 @@ use crate::odd::OddRing;
 use crate::orient::orient_all;
 use crate::row::{NONE, minus, plus};
 use crate::search::Search;
+use crate::small::are_few_and_planar_without;
 
 // How many tests there are at most.
 const MOST_TESTS: u32 = 1024;
@@ -40,6 +41,11 @@ fn fails_without(
     kernel.mark(&ring.marks);
     kernel.keep_marked(links);
     true
+}
+
+// Whether the part without an edge is seen to be planar without a test.
+fn is_planar_without(kernel: &Kernel, out: u32) -> bool {
+    kernel.leaves_few(out) || are_few_and_planar_without(&kernel.edges, out)
 }
 
 // The first edge that is not known to be needed; or none.
@@ -81,7 +87,7 @@ pub fn shrink(kernel: &mut Kernel, links: &mut Links, search: &mut Search, ring:
         if out == NONE {
             return;
         }
-        if kernel.leaves_few(out) || !fails_without(kernel, links, search, ring, out) {
+        if is_planar_without(kernel, out) || !fails_without(kernel, links, search, ring, out) {
             kernel.needed.set(out, 1);
         }
     }

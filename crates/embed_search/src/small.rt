@@ -1,0 +1,99 @@
+//! Whether a graph of at most six vertices is planar, by what its neighbours are.
+//!
+//! A subdivision of K3,3 in it is a K3,3, and one of K5 is a K5 in which at most one edge is subdivided.
+use crate::edges::Edges;
+use crate::row::minus;
+
+// The greatest number of vertices.
+const MOST_VERTICES: u32 = 6;
+
+// For each vertex its bit, of which there are two more than are used.
+const BITS: [u32; 8] = [1, 2, 4, 8, 16, 32, 64, 128];
+
+// The bits of all vertices.
+const ALL: u32 = 63;
+
+// The bits of three vertices, of which vertex 0 is one.
+const SIDES: [u32; 10] = [7, 11, 19, 35, 13, 21, 37, 25, 41, 49];
+
+// The bit of a vertex.
+fn bit(vertex: u32) -> u32 {
+    BITS[vertex as usize % 8]
+}
+
+// The bits of the neighbours of each vertex, without an edge.
+fn neighbours_without(edges: &Edges, out: u32) -> [u32; 8] {
+    let mut near = [0; 8];
+    for edge in 0..edges.count {
+        if edge != out {
+            let (one, other) = (edges.one.get(edge), edges.other.get(edge));
+            near[one as usize % 8] |= bit(other);
+            near[other as usize % 8] |= bit(one);
+        }
+    }
+    near
+}
+
+// Whether each vertex of a side has all those of the other side as neighbours.
+fn is_joined(near: &[u32; 8], side: u32) -> bool {
+    let rest = ALL ^ side;
+    for vertex in 0..MOST_VERTICES {
+        if side & bit(vertex) != 0 && near[vertex as usize % 8] & rest != rest {
+            return false;
+        }
+    }
+    true
+}
+
+// Whether there is a K3,3.
+fn has_k33(near: &[u32; 8]) -> bool {
+    for place in 0..SIDES.len() {
+        if is_joined(near, SIDES[place]) {
+            return true;
+        }
+    }
+    false
+}
+
+// The bits of the vertices that are no neighbours of some other one, of these vertices.
+fn lacking(near: &[u32; 8], vertices: u32) -> u32 {
+    let mut found = 0;
+    for vertex in 0..MOST_VERTICES {
+        let own = bit(vertex);
+        if vertices & own != 0 {
+            found |= vertices & !near[vertex as usize % 8] & !own;
+        }
+    }
+    found
+}
+
+// Whether at most two bits are set.
+fn are_two_at_most(bits: u32) -> bool {
+    let without_one = bits & minus(bits, 1);
+    without_one & minus(without_one, 1) == 0
+}
+
+// Whether the vertices but one are a K5, or lack one edge of it that a path through that one is in place of.
+fn has_k5_beside(near: &[u32; 8], vertex: u32) -> bool {
+    let lack = lacking(near, ALL ^ bit(vertex));
+    are_two_at_most(lack) && lack & near[vertex as usize % 8] == lack
+}
+
+// Whether there is a K5, or one with one edge subdivided.
+fn has_k5(near: &[u32; 8]) -> bool {
+    for vertex in 0..MOST_VERTICES {
+        if has_k5_beside(near, vertex) {
+            return true;
+        }
+    }
+    false
+}
+
+/// Whether edges without one of them are those of a planar graph of at most six vertices.
+pub fn are_few_and_planar_without(edges: &Edges, out: u32) -> bool {
+    if edges.vertices > MOST_VERTICES {
+        return false;
+    }
+    let near = neighbours_without(edges, out);
+    !has_k33(&near) && !has_k5(&near)
+}
