@@ -107,7 +107,7 @@ def seconds(command, data):
         taken, memory, status = done.stdout.split()
         times.append(float(taken))
         most = max(most, float(memory))
-        if status not in ("0", "1"):
+        if status not in ("0", "1", "3"):
             sys.exit(f"{command[0]} ended with {status}")
     return min(times), most
 

@@ -138,6 +138,35 @@ def gaps(columns, rows, side):
     return (f"figure 1 shift {n}\n" + "\n".join(lines) + "\n").encode()
 
 
+def one_column(side):
+    """A complete bipartite graph as bars one above the other, with all its edges in one column."""
+    lists = [range(side + 1, 2 * side + 1)] * side + [range(1, side + 1)] * side
+    lines = [f"{v} y {v - 1} x 0 0: {' '.join(map(str, us))}" for v, us in enumerate(lists, 1)]
+    return (f"figure 1 bars {2 * side}\n" + "\n".join(lines) + "\ncolumns" + " 0" * side ** 2 + "\n").encode()
+
+
+def fans(columns, rows, hubs, heads, low):
+    """A grid with diagonals in the gap between the heads of some hubs, which have their heads in common."""
+    inner = columns * rows
+    n = inner + hubs + heads
+    cell = {(i, j): i * rows + j for i in range(columns) for j in range(rows)}
+    lists = [[] for _ in range(n)]
+    for (i, j), v in cell.items():
+        for beside in ((i + 1, j), (i, j + 1), (i + 1, j + 1)):
+            if beside in cell:
+                lists[v].append(cell[beside] + 1)
+                lists[cell[beside]].append(v + 1)
+    for v in range(inner, inner + hubs):
+        lists[v] = list(range(inner + hubs + 1, n + 1))
+    for v in range(inner + hubs, n):
+        lists[v] = list(range(inner + 1, inner + hubs + 1))
+    middle, behind = (n - 2 - hubs) // 2, n - 1 - heads
+    places = [(2700 + i, low + j) for i, j in cell]
+    places += [(0, middle + j) for j in range(hubs)] + [(3000, j if j < heads // 2 else behind + j) for j in range(heads)]
+    lines = [f"{v} at {x} {y}: {' '.join(map(str, us))}" for v, ((x, y), us) in enumerate(zip(places, lists), 1)]
+    return (f"figure 1 shift {n}\n" + "\n".join(lines) + "\n").encode()
+
+
 def limits():
     """(what, million instructions, the most that it should take)"""
     one = lambda make: count.record(make(4095))
@@ -148,6 +177,8 @@ def limits():
     yield "verify: a column of 4,095 rectangles with a late overlap", cost("verify", late_overlap(tiles)), 40
     drawn = answer("shift", one(families.stacked))
     yield "verify: a drawing of 4,095 vertices with one late crossing", cost("verify", late_crossing(drawn)), 300
+    yield "verify: K(300,300) as bars with its edges in one column", cost("verify", one_column(300)), 200
+    yield "verify: a grid of 3,172 vertices between the heads of 850 hubs with 64 each", cost("verify", fans(13, 244, 850, 64, 700)), 9500
     yield "verify: a convex double wheel of 4,095", cost("verify", answer("convex", one(families.double_wheel))), 30
     yield "convex: a wheel of 4,095, hub last", cost("convex", one(families.wheel_last)), 30
     yield "convex: a double wheel of 4,095", cost("convex", one(families.double_wheel)), 30

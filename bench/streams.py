@@ -110,6 +110,7 @@ def rows(job):
     elif job == "embed":
         for what, lines, most in graphs():
             yield what, million(job, lines), most
+        yield "10,000 lines of one graph of six vertices and twelve edges, not planar", million(job, b"EF~w\n" * 10_000), 350
 
 
 def memory():
@@ -118,11 +119,14 @@ def memory():
     numbers = b" 2" * (WHOLE // 2)
     long_line = b"figure 1 shift 3\n1 at 0 0:" + numbers + b"\n2 at 1 0: 1\n3 at 0 1: 1\n"
     long_bar = b"figure 1 bars 3\n1 y 0 x 0 1:" + numbers + b"\n2 y 1 x 0 1: 1\n3 y 2 x 0 1: 2\ncolumns 0 0\n"
+    spaces = b" " * WHOLE
     for what, job, data, most in (
         ("`count` of one complete graph", "count", complete, 67),
         ("`shift` of it, refused for its genus", "shift", complete, 80),
         ("`verify` of one line of 7.9 million neighbours, of a straight-line drawing", "verify", long_line, 140),
         ("`verify` of one line of 7.9 million neighbours, of a bar", "verify", long_bar, 140),
+        ("`verify` of one line of spaces", "verify", b"figure 1 shift 3" + spaces + b"\n", 40),
+        ("`verify` of one line of spaces, of a bar", "verify", b"figure 1 bars 3\n" + spaces + b"\n", 40),
     ):
         yield what, count.seconds([count.PROGRAM, job], slopes.put(data))[1], most
 
