@@ -41,8 +41,10 @@ class Page:
         self.session = self.ask("Target.attachToTarget", targetId=target["targetId"], flatten=True)["sessionId"]
         for it in ("Page", "Runtime", "Network", "Log"):
             self.ask(f"{it}.enable")
-        self.ask("Emulation.setDeviceMetricsOverride", width=width, height=height, deviceScaleFactor=scale, mobile=is_mobile)
-        self.ask("Emulation.setEmulatedMedia", features=[{"name": "prefers-color-scheme", "value": "dark" if is_dark else "light"}])
+        self.ask("Emulation.setDeviceMetricsOverride", width=width, height=height, deviceScaleFactor=scale,
+                 mobile=is_mobile)
+        scheme = {"name": "prefers-color-scheme", "value": "dark" if is_dark else "light"}
+        self.ask("Emulation.setEmulatedMedia", features=[scheme])
         self.ask("Page.navigate", url=address)
 
     def __enter__(self):
@@ -115,8 +117,8 @@ class Page:
 
     def press(self, key, code=None, text=""):
         """Presses a key, and lets it go."""
-        given = {"key": key, "code": code or key, "windowsVirtualKeyCode": {"Tab": 9, "Enter": 13, " ": 32, "Escape": 27,
-                 "ArrowRight": 39, "ArrowLeft": 37}.get(key, ord(key[0].upper()))}
+        numbers = {"Tab": 9, "Enter": 13, " ": 32, "Escape": 27, "ArrowRight": 39, "ArrowLeft": 37}
+        given = {"key": key, "code": code or key, "windowsVirtualKeyCode": numbers.get(key, ord(key[0].upper()))}
         if key == "Enter":
             text = "\r"
         self.ask("Input.dispatchKeyEvent", type="keyDown", text=text or (key if len(key) == 1 else ""), **given)

@@ -115,7 +115,8 @@ def static_program(copy, to):
         target = "x86_64-unknown-linux-gnu"
         verdict = copy.build("pigale", f"{room}/pigale.o", "--target", target)
         parts = [f"{room}/pigale.o", f"{kit()}/c/libos_c.a", f"{kit()}/c/liblibc_c.a"]
-        call(f"{kit()}/bin/rattle-link", "--target", target, "--toolchain", f"{kit()}/toolchain", "-o", f"{room}/pigale", *parts)
+        call(f"{kit()}/bin/rattle-link", "--target", target, "--toolchain", f"{kit()}/toolchain",
+             "-o", f"{room}/pigale", *parts)
         with open(f"{room}/pigale", "rb") as one, open(gate_program(copy), "rb") as other:
             if one.read() != other.read():
                 raise Failed("a second build of the program gave other bytes than the gate's")
@@ -135,14 +136,18 @@ def arm_program(copy, to):
 def module(copy, to):
     """Makes the WebAssembly module of the C library, and returns its target and the last line of its proof."""
     with tempfile.TemporaryDirectory() as room:
-        verdict = copy.build("pigale_c", f"{room}/library.a", "--crate-type", "staticlib", toolchain=keeping(room))
+        verdict = copy.build("pigale_c", f"{room}/library.a", "--crate-type", "staticlib", "--jobs", "2",
+                             toolchain=keeping(room))
         clang, wasm = f"{kit()}/toolchain/bin/clang", "--target=wasm64-unknown-unknown"
         call(clang, wasm, "-O2", "-w", "-c", "-x", "ir", f"{room}/module.bc", "-o", f"{room}/module.o")
-        call(clang, wasm, "-O2", "-Wall", "-mbulk-memory", "-fno-builtin", "-c", f"{ROOT}/web/src/memory.c", "-o", f"{room}/memory.o")
-        call(f"{kit()}/toolchain/bin/ld.lld", "-flavor", "wasm", "-mwasm64", "--no-entry", "--gc-sections", "--stack-first",
-             "-z", "stack-size=8388608", *[f"--export={it}" for it in EXPORTS], f"{room}/module.o", f"{room}/memory.o", "-o", f"{room}/wide.wasm")
+        call(clang, wasm, "-O2", "-Wall", "-mbulk-memory", "-fno-builtin", "-c", f"{ROOT}/web/src/memory.c",
+             "-o", f"{room}/memory.o")
+        call(f"{kit()}/toolchain/bin/ld.lld", "-flavor", "wasm", "-mwasm64", "--no-entry", "--gc-sections",
+             "--stack-first", "-z", "stack-size=8388608", *[f"--export={it}" for it in EXPORTS],
+             f"{room}/module.o", f"{room}/memory.o", "-o", f"{room}/wide.wasm")
         # 64-bit memories are of late browsers only: addresses are made of 32 bits
-        call("wasm-opt", "--memory64-lowering", *WEB, "-O1", "--strip-debug", "--strip-producers", f"{room}/wide.wasm", "-o", to)
+        call("wasm-opt", "--memory64-lowering", *WEB, "-O1", "--strip-debug", "--strip-producers",
+             f"{room}/wide.wasm", "-o", to)
     return "wasm32", verdict
 
 
