@@ -7,6 +7,7 @@
 
 pub mod bar_drawings;
 pub mod checks;
+pub mod contractions;
 pub mod convex_drawings;
 pub mod faces;
 pub mod formats;
@@ -17,7 +18,10 @@ pub mod maps;
 pub mod orders;
 pub mod parts;
 pub mod permutations;
+pub mod record_classes;
 pub mod rectangles;
 pub mod schnyder_drawings;
 pub mod shift_drawings;
 pub mod texts;
+pub mod witness_texts;
+pub mod writes;

@@ -5,7 +5,7 @@ ghost use Rattle.contour_runs.specs.Runs.{Step};
 ghost use Rattle.grid_figures.specs.SchnyderFiguresFigures.{IsSchnyderFigure};
 ghost use Rattle.map_theory.specs.Maps.{Dart, vertex_count, HasDart};
 ghost use Rattle.order_drawings.specs.OrderRuns.{IsOrderRun};
-ghost use Rattle.order_drawings.specs.SchnyderDrawings.{IsSchnyderDrawing};
+ghost use Rattle.order_drawings.specs.SchnyderDrawings.{AreWoodPoints, IsSchnyderDrawing};
 ghost use Rattle.plane_laws.specs.Triangulations.{IsTriangulation};
 ghost use Rattle.refusals.specs.Conditions.{first_refusal, IfRefused};
 ghost use Rattle.schnyder_wood.specs.Parents.{parent_in, IsWoodOf, count_in, kind, root_in, IsRoot, IsInnerIn, IsPathLength};
@@ -82,6 +82,21 @@ pub fn region_count(
     ensures { IfOk result (λ k. (base : Dart) → IsWoodOf tri.now.lists base wood.now → IsRegionCount tri.now.lists base (parent_in wood.now) (kind colour) v.0 k) }
 {
     schnyder_wood::region_count(alloc, tri, wood, v, colour)
+}
+
+/// Draws `tri` by Schnyder's coordinates over `order`.
+pub fn wood_draw(alloc: Global, tri: &HalfMap, order: &Order) -> Result<GridFigure, AllocError>
+    requires triangulation { IsTriangulation tri.now.lists }
+    requires order { (base : Dart) × IsCanonicalOrder tri.now.lists base (vertices_of order.now) }
+    requires rank { IsRankOf order.now.rank (vertices_of order.now) }
+    ensures points { IfOk result (λ figure. (base : Dart) (canonical : IsCanonicalOrder tri.now.lists base (vertices_of order.now))
+        → AreWoodPoints tri.now.lists base (vertices_of order.now) canonical.cycle figure.points) }
+    ensures drawing { IfOk result (λ figure. (base : Dart) → HasDart tri.now.lists base.0 base.1 → IsCanonicalOrder tri.now.lists base (vertices_of order.now)
+        → IsSchnyderDrawing tri.now.lists base figure.points) }
+    ensures width { IfOk result (λ figure. figure.width ≡ pos (vertex_count tri.now.lists - 2)) }
+    ensures height { IfOk result (λ figure. figure.height ≡ pos (vertex_count tri.now.lists - 2)) }
+{
+    grid_figures::schnyder_grid::wood_draw(alloc, tri, order)
 }
 
 /// Returns an order of the vertices as `wood` has them.
