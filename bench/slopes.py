@@ -21,7 +21,6 @@ import families
 import pigale
 
 SIZES = (60, 255, 1000, 4095)
-os.environ["GLIBC_TUNABLES"] = "glibc.cpu.x86_rep_stosb_threshold=2000000000:glibc.cpu.x86_rep_movsb_threshold=2000000000"
 
 
 def put(data):
