@@ -13,7 +13,10 @@ The program is found by the environment variable PIGALE, else beside this packag
 repository, else under release/, else on the path. The package needs Python 3.8 or later and nothing else; networkx and
 Sage are imported where a function is called that speaks of them.
 
-Its modules: `formats` (planar_code, graph6 and the program's text), `runs` (of the program), `parts` and `parallel`
+Where PIGALE_LIBRARY names the library libpigale, or PIGALE names no program and tools/library has made the library in this
+repository, `run` and what stands on it ask that, within this process, in place of the program; the answers are the same.
+
+Its modules: `formats` (planar_code, graph6 and the program's text), `runs` (of the program), `library` (the same within this process), `parts` and `parallel`
 (inputs of any size), `maps`, `makers`, `checks`, `graphs` (networkx and Sage), `pictures`, `pages` and `cli` (the
 commands). All that they offer is here by one name.
 """

@@ -9,6 +9,7 @@ from typing import Iterable, List, Optional, Sequence, Tuple, Union, cast
 
 from .formats import (FIGURES, MOST_BYTES, MOST_VERTICES, PLANAR_JOBS, Answer, Block, End, Figure, Graph, GridFigure, Map, Refused, Stop,
                       WitnessFigure, as_maps, check_line, read_blocks, write_graph6, write_planar_code)
+from .library import answered, library
 
 READING_JOBS = (*PLANAR_JOBS, "embed", "verify")
 MOST_EMBEDDED = 255  # vertices of a graph that `embed` reads
@@ -95,6 +96,9 @@ def _answered(words: Sequence[str], data: bytes, processes: Optional[int]) -> Tu
         from .parallel import run_all
         sink = io.BytesIO()
         return run_all(words, io.BytesIO(data), sink, processes), sink.getvalue().decode("ascii")
+    within = library()
+    if within:
+        return answered(within, words, data)
     done = subprocess.run([program(), *words], input=data, stdout=subprocess.PIPE, check=False)
     return done.returncode, done.stdout.decode("ascii")
 

@@ -2,5 +2,6 @@
 mod ArrayLemmas
 mod FailureLemmas
 mod JudgedLemmas
+mod Refused
 mod RunLemmas
 mod WordLemmas

@@ -1,0 +1,26 @@
+-- Wrong bodies that the clauses exclude.
+use Rattle.std.proofs.Common.{◌≡◌, ℕ, List, [], ◌∷◌, ℤ, pos, refl, ap, sym, ◌∙◌, arith, lit<, lit≤}
+use Rattle.pg_plane.specs.declared.point.Point.{Point}
+use Rattle.plane_drawings.specs.Drawing.{place}
+use Rattle.draw_check.specs.declared.verdict.Verdict.TheVariants.{Yes}
+use Rattle.pigale_c.specs.Counted.{IsCounted}
+use Rattle.pigale_c.specs.Drawn.{IsSchnyderDrawn}
+use Rattle.pigale_c.specs.Judged.{IsJudged}
+use Rattle.pigale_c.specs.declared.counts.Counts.{Counts}
+use Rattle.pigale_c.specs.declared.outcome.Outcome.TheVariants.{Served, Drawing}
+
+-- a check that answers yes without looking: two vertices of an edge stand at one point
+check_says_yes : (width height : ℤ) → ¬ IsJudged (1 ∷ 2 ∷ []) (1 ∷ 0 ∷ []) (pos 0 ∷ pos 0 ∷ []) (pos 0 ∷ pos 0 ∷ []) width height (Drawing Yes)
+check_says_yes width height judged = judged.2.1 0 1 (record { order = lit< tt; vertex = lit< tt; same = refl })
+
+-- a drawing of a triangle that writes y for x: vertex 0 stands at (0, 1)
+draws_y_for_x : (xs ys xs' ys' : List ℤ) (y : ℤ) → ¬ IsSchnyderDrawn (2 ∷ 4 ∷ 6 ∷ []) (1 ∷ 2 ∷ 2 ∷ 0 ∷ 0 ∷ 1 ∷ []) xs ys (pos 1 ∷ xs') (y ∷ ys') Served
+draws_y_for_x xs ys xs' ys' y drawn =
+    let first = ap (λ (ps : List Point). (place ps 0).x) drawn.4 in
+    let corner = ap (λ (p : Point). p.x) drawn.3.placed.tail in
+    let same : pos 1 ≡ pos 0 = first ∙ corner in
+    cc
+
+-- the count of another map: a triangle has three vertices
+counts_another : (old new : Counts) → new.n ≡ 2 → ¬ IsCounted (2 ∷ 4 ∷ 6 ∷ []) (1 ∷ 2 ∷ 2 ∷ 0 ∷ 0 ∷ 1 ∷ []) old new Served
+counts_another old new two counted = let n = ap (λ (c : Counts). c.n) counted.2 in omega (arith, two, n)

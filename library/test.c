@@ -1,0 +1,343 @@
+/* A test of the library: what it answers to the records of a planar_code, as the program's text.
+ *
+ *   test JOB < RECORDS                 the text of the job: count, shift, schnyder, convex, bars or rect
+ *   test verify VERDICTS < RECORDS     figures of all jobs, some with a number changed; into VERDICTS their verdicts
+ *   test run WORDS < INPUT             pigale_run
+ *   test random CALLS                  calls with random arrays: nothing is to fail but by its status */
+#include "pigale.h"
+
+#include <inttypes.h>
+#include <stdio.h>
+#include <stdlib.h>
+#include <string.h>
+
+static const char *const refusals[] = {"", "OutOfRange", "Loop", "Repeated", "OneSided", "Small", "Genus", "NotConnected",
+    "CutVertex", "SeparatingPair", "OuterNotQuad", "NotTriangle", "SeparatingTriangle", "NoInner"};
+static const int numbers_of_refusal[] = {0, 2, 1, 2, 2, 1, 1, 0, 1, 2, 0, 2, 3, 0};
+
+typedef struct {
+    const char *name;
+    int numbers;
+} fault;
+
+static fault fault_of(pigale_status status)
+{
+    switch (status) {
+    case PIGALE_OK: return (fault){"yes", 0};
+    case PIGALE_OUT_OF_GRID: return (fault){"OutOfGrid", 1};
+    case PIGALE_SAME_PLACE: return (fault){"SamePlace", 2};
+    case PIGALE_ON_EDGE: return (fault){"OnEdge", 3};
+    case PIGALE_CROSS: return (fault){"Cross", 4};
+    case PIGALE_TURNED: case PIGALE_BARS_TURNED: return (fault){"Turned", 1};
+    case PIGALE_BENT: return (fault){"Bent", 3};
+    case PIGALE_OUTER_BENT: return (fault){"OuterBent", 0};
+    case PIGALE_BAD_SHAPE: return (fault){"BadShape", 0};
+    case PIGALE_BAD_HEIGHT: return (fault){"BadHeight", 1};
+    case PIGALE_BAD_BAR: return (fault){"BadBar", 1};
+    case PIGALE_BAD_COLUMN: return (fault){"BadColumn", 2};
+    case PIGALE_THROUGH: return (fault){"Through", 3};
+    case PIGALE_BAD_RECT: return (fault){"BadRect", 1};
+    case PIGALE_MEET: return (fault){"Meet", 2};
+    case PIGALE_GAP: return (fault){"Gap", 0};
+    case PIGALE_CONTACT: return (fault){"Contact", 2};
+    case PIGALE_NO_FRAME: return (fault){"NoFrame", 0};
+    case PIGALE_FRAME: return (fault){"Frame", 1};
+    default: return (fault){"?", 0};
+    }
+}
+
+/* A record: the arrays of its map, each of exactly as much memory as it has. */
+typedef struct {
+    size_t n, k;
+    size_t *ends;
+    uint16_t *neighbours;
+} map;
+
+static void *room(size_t size) { void *at = malloc(size ? size : 1); if (!at) abort(); return at; }
+
+static uint64_t state = 1;
+
+static uint32_t any(uint32_t below)
+{
+    state = state * 6364136223846793005u + 1442695040888963407u;
+    return (uint32_t)((state >> 33) % below);
+}
+
+static int read_map(map *m)
+{
+    int c = getchar(), wide = 0;
+    if (c == EOF) return 0;
+    if (c == 0) { wide = 1; c = getchar(); c = c * 256 + getchar(); }
+    m->n = (size_t)c;
+    m->k = 0;
+    m->ends = room(m->n * sizeof *m->ends);
+    size_t most = 16;
+    uint16_t *all = room(most * sizeof *all);
+    for (size_t v = 0; v < m->n; v++) {
+        for (;;) {
+            int u = getchar();
+            if (wide) u = u * 256 + getchar();
+            if (u == 0) break;
+            if (m->k == most) { all = realloc(all, (most *= 2) * sizeof *all); if (!all) abort(); }
+            all[m->k++] = (uint16_t)(u - 1);
+        }
+        m->ends[v] = m->k;
+    }
+    m->neighbours = room(m->k * sizeof *all);
+    memcpy(m->neighbours, all, m->k * sizeof *all);
+    free(all);
+    return 1;
+}
+
+static void put_list(FILE *out, const map *m, size_t v)
+{
+    fputc(':', out);
+    for (size_t i = v ? m->ends[v - 1] : 0; i < m->ends[v]; i++) fprintf(out, " %d", m->neighbours[i] + 1);
+    fputc('\n', out);
+}
+
+static void put_numbers(FILE *out, pigale_numbers found, int count, int from)
+{
+    uint32_t all[] = {found.first, found.second, found.third, found.fourth};
+    for (int i = 0; i < count; i++) fprintf(out, " %" PRIu32, all[i] + (uint32_t)from);
+}
+
+static void put_refusal(FILE *out, size_t number, pigale_status status, pigale_numbers found)
+{
+    if (status < 1 || status > 13) { fprintf(stderr, "test: status %d\n", status); exit(1); }
+    fprintf(out, "refused %zu %d %s", number, status, refusals[status]);
+    put_numbers(out, found, numbers_of_refusal[status], status == PIGALE_SMALL || status == PIGALE_GENUS ? 0 : 1);
+    fputc('\n', out);
+}
+
+static void put_verdict(FILE *out, size_t number, pigale_status status, pigale_numbers found)
+{
+    fault f = fault_of(status);
+    fprintf(out, "verdict %zu %s", number, f.name);
+    put_numbers(out, found, f.numbers, 1);
+    fputc('\n', out);
+}
+
+/* What a job draws: four rows of numbers at most. */
+typedef struct {
+    size_t n, columns;
+    int32_t *row[4];
+} figure;
+
+static figure figure_for(const map *m, size_t last)
+{
+    figure f = {m->n, last, {0, 0, 0, 0}};
+    for (int i = 0; i < 4; i++) f.row[i] = room((i == 3 ? last : m->n) * sizeof(int32_t));
+    return f;
+}
+
+static void drop(figure f) { for (int i = 0; i < 4; i++) free(f.row[i]); }
+
+static pigale_status draw(const char *job, const map *m, figure f, pigale_numbers *found)
+{
+    if (!strcmp(job, "shift")) return pigale_shift(m->ends, m->n, m->neighbours, m->k, f.row[0], m->n, f.row[1], m->n, found);
+    if (!strcmp(job, "schnyder"))
+        return pigale_schnyder(m->ends, m->n, m->neighbours, m->k, f.row[0], m->n, f.row[1], m->n, found);
+    if (!strcmp(job, "convex")) return pigale_convex(m->ends, m->n, m->neighbours, m->k, f.row[0], m->n, f.row[1], m->n, found);
+    if (!strcmp(job, "bars"))
+        return pigale_bars(m->ends, m->n, m->neighbours, m->k, f.row[0], m->n, f.row[1], m->n, f.row[2], m->n, f.row[3],
+            f.columns, found);
+    return pigale_rect(m->ends, m->n, m->neighbours, m->k, f.row[0], m->n, f.row[1], m->n, f.row[2], m->n, f.row[3], m->n,
+        found);
+}
+
+static size_t last_row(const char *job, const map *m) { return !strcmp(job, "bars") ? m->k / 2 : m->n; }
+
+static void put_figure(FILE *out, size_t number, const char *job, const map *m, figure f)
+{
+    fprintf(out, "figure %zu %s %zu\n", number, job, m->n);
+    for (size_t v = 0; v < m->n; v++) {
+        fprintf(out, "%zu ", v + 1);
+        if (!strcmp(job, "bars"))
+            fprintf(out, "y %" PRId32 " x %" PRId32 " %" PRId32, f.row[0][v], f.row[1][v], f.row[2][v]);
+        else if (!strcmp(job, "rect"))
+            fprintf(out, "x %" PRId32 " %" PRId32 " y %" PRId32 " %" PRId32, f.row[0][v], f.row[1][v], f.row[2][v], f.row[3][v]);
+        else
+            fprintf(out, "at %" PRId32 " %" PRId32, f.row[0][v], f.row[1][v]);
+        put_list(out, m, v);
+    }
+    if (!strcmp(job, "bars")) {
+        fprintf(out, "columns");
+        for (size_t i = 0; i < f.columns; i++) fprintf(out, " %" PRId32, f.row[3][i]);
+        fputc('\n', out);
+    }
+}
+
+static int say_job(const char *job)
+{
+    map m;
+    size_t records = 0, refused = 0;
+    while (read_map(&m)) {
+        pigale_numbers found;
+        pigale_status status;
+        records++;
+        if (!strcmp(job, "count")) {
+            pigale_counts all;
+            status = pigale_count(m.ends, m.n, m.neighbours, m.k, &all, &found);
+            if (!status)
+                printf("count %zu n %" PRIu32 " m %" PRIu32 " f %" PRIu32 " c %" PRIu32 " genus %" PRIu32 "\n", records, all.n,
+                    all.m, all.f, all.c, all.genus);
+        } else {
+            figure f = figure_for(&m, last_row(job, &m));
+            status = draw(job, &m, f, &found);
+            if (!status) put_figure(stdout, records, job, &m, f);
+            drop(f);
+        }
+        if (status) { refused++; put_refusal(stdout, records, status, found); }
+        free(m.ends), free(m.neighbours);
+    }
+    printf("end records %zu refused %zu\n", records, refused);
+    return 0;
+}
+
+static pigale_status judge(const char *job, const map *m, figure f, int32_t faces, pigale_numbers *found)
+{
+    int32_t n = (int32_t)m->n;
+    if (!strcmp(job, "shift"))
+        return pigale_check(m->ends, m->n, m->neighbours, m->k, f.row[0], m->n, f.row[1], m->n, 2 * n - 4, n - 2, found);
+    if (!strcmp(job, "schnyder"))
+        return pigale_check(m->ends, m->n, m->neighbours, m->k, f.row[0], m->n, f.row[1], m->n, n - 2, n - 2, found);
+    if (!strcmp(job, "convex"))
+        return pigale_check_convex(m->ends, m->n, m->neighbours, m->k, f.row[0], m->n, f.row[1], m->n, faces - 1, faces - 1,
+            found);
+    if (!strcmp(job, "bars"))
+        return pigale_check_bars(m->ends, m->n, m->neighbours, m->k, f.row[0], m->n, f.row[1], m->n, f.row[2], m->n, f.row[3],
+            f.columns, faces - 1, found);
+    return pigale_check_rects(m->ends, m->n, m->neighbours, m->k, f.row[0], m->n, f.row[1], m->n, f.row[2], m->n, f.row[3],
+        m->n, found);
+}
+
+static int say_verdicts(const char *path)
+{
+    static const char *const jobs[] = {"shift", "schnyder", "convex", "bars", "rect"};
+    FILE *verdicts = fopen(path, "w");
+    map m;
+    size_t figures = 0;
+    if (!verdicts) return 1;
+    while (read_map(&m)) {
+        pigale_numbers found;
+        pigale_counts all;
+        if (!pigale_count(m.ends, m.n, m.neighbours, m.k, &all, &found))
+            for (int j = 0; j < 5; j++) {
+                figure f = figure_for(&m, last_row(jobs[j], &m));
+                if (!draw(jobs[j], &m, f, &found)) {
+                    int rows = j < 3 ? 2 : 4;
+                    if (any(4)) {
+                        int i = (int)any((uint32_t)rows);
+                        size_t size = i == 3 && j == 3 ? f.columns : m.n;
+                        f.row[i][any((uint32_t)size)] += (int32_t)any(5) - 2;
+                    }
+                    put_figure(stdout, ++figures, jobs[j], &m, f);
+                    put_verdict(verdicts, figures, judge(jobs[j], &m, f, (int32_t)all.f, &found), found);
+                }
+                drop(f);
+            }
+        free(m.ends), free(m.neighbours);
+    }
+    return fclose(verdicts);
+}
+
+static int run(const char *words)
+{
+    size_t most = 1 << 16, count = 0, length = 0, capacity = 64;
+    uint8_t *input = room(most);
+    for (int c; (c = getchar()) != EOF; input[count++] = (uint8_t)c)
+        if (count == most) { input = realloc(input, most *= 2); if (!input) abort(); }
+    uint8_t *text = room(capacity);
+    pigale_status status = pigale_run((const uint8_t *)words, strlen(words), input, count, text, capacity, &length);
+    if (length > capacity) {
+        free(text);
+        text = room(capacity = length);
+        status = pigale_run((const uint8_t *)words, strlen(words), input, count, text, capacity, &length);
+    }
+    fwrite(text, 1, length, stdout);
+    free(input), free(text);
+    return status;
+}
+
+static int32_t *numbers(size_t count)
+{
+    int32_t *at = room(count * sizeof *at);
+    int32_t reach = any(4) ? 9 : 2000000000;
+    for (size_t i = 0; i < count; i++) at[i] = (int32_t)any((uint32_t)reach) - (any(8) ? 0 : reach / 2);
+    return at;
+}
+
+static int call_at_random(long calls)
+{
+    long by_status[256] = {0};
+    for (long c = 0; c < calls; c++) {
+        map m;
+        m.n = any(9), m.k = any(30);
+        m.ends = room(m.n * sizeof *m.ends), m.neighbours = room(m.k * sizeof *m.neighbours);
+        size_t at = 0;
+        int fair = (int)any(3);
+        for (size_t v = 0; v < m.n; v++) {
+            at += any(5);
+            if (fair && at > m.k) at = m.k;
+            m.ends[v] = fair ? (v + 1 == m.n ? m.k : at) : any(2) ? any(40) : SIZE_MAX - any(3);
+        }
+        for (size_t i = 0; i < m.k; i++) m.neighbours[i] = (uint16_t)(any(9) ? any((uint32_t)m.n + 1) : any(65536));
+        size_t size[4];
+        int32_t *row[4];
+        for (int i = 0; i < 4; i++) size[i] = any(3) ? (i == 3 && any(2) ? m.k / 2 : m.n) : any(12), row[i] = numbers(size[i]);
+        pigale_numbers found = {9, 9, 9, 9};
+        pigale_counts all;
+        size_t length;
+        uint8_t text[40], words[8], status = 0;
+        int32_t width = (int32_t)any(20) - 3, height = (int32_t)any(20) - 3;
+        switch (any(11)) {
+        case 0: status = pigale_count(m.ends, m.n, m.neighbours, m.k, &all, &found); break;
+        case 1: status = pigale_shift(m.ends, m.n, m.neighbours, m.k, row[0], size[0], row[1], size[1], &found); break;
+        case 2: status = pigale_schnyder(m.ends, m.n, m.neighbours, m.k, row[0], size[0], row[1], size[1], &found); break;
+        case 3: status = pigale_convex(m.ends, m.n, m.neighbours, m.k, row[0], size[0], row[1], size[1], &found); break;
+        case 4:
+            status = pigale_bars(m.ends, m.n, m.neighbours, m.k, row[0], size[0], row[1], size[1], row[2], size[2], row[3],
+                size[3], &found);
+            break;
+        case 5:
+            status = pigale_rect(m.ends, m.n, m.neighbours, m.k, row[0], size[0], row[1], size[1], row[2], size[2], row[3],
+                size[3], &found);
+            break;
+        case 6:
+            status = pigale_check(m.ends, m.n, m.neighbours, m.k, row[0], size[0], row[1], size[1], width, height, &found);
+            break;
+        case 7:
+            status = pigale_check_convex(m.ends, m.n, m.neighbours, m.k, row[0], size[0], row[1], size[1], width, height,
+                &found);
+            break;
+        case 8:
+            status = pigale_check_bars(m.ends, m.n, m.neighbours, m.k, row[0], size[0], row[1], size[1], row[2], size[2],
+                row[3], size[3], width, &found);
+            break;
+        case 9:
+            status = pigale_check_rects(m.ends, m.n, m.neighbours, m.k, row[0], size[0], row[1], size[1], row[2], size[2],
+                row[3], size[3], &found);
+            break;
+        default:
+            for (size_t i = 0; i < sizeof words; i++) words[i] = any(2) ? (uint8_t)any(256) : (uint8_t)"count "[any(6)];
+            status = any(3) ? pigale_run((const uint8_t *)"count", 5, (const uint8_t *)m.neighbours, m.k, text, any(40), &length)
+                            : pigale_run(words, any(8), (const uint8_t *)m.neighbours, m.k, text, any(40), &length);
+        }
+        by_status[status]++;
+        for (int i = 0; i < 4; i++) free(row[i]);
+        free(m.ends), free(m.neighbours);
+    }
+    for (int s = 0; s < 256; s++)
+        if (by_status[s]) printf("status %d: %ld\n", s, by_status[s]);
+    return 0;
+}
+
+int main(int count, char **words)
+{
+    if (count == 2) return say_job(words[1]);
+    if (count == 3 && !strcmp(words[1], "verify")) return say_verdicts(words[2]);
+    if (count == 3 && !strcmp(words[1], "run")) return run(words[2]);
+    if (count == 3 && !strcmp(words[1], "random")) return call_at_random(atol(words[2]));
+    return 2;
+}

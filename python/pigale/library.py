@@ -1,0 +1,46 @@
+"""Runs the program within this process, by the library libpigale, where that is there."""
+import ctypes
+import functools
+import os
+from typing import Optional, Sequence, Tuple
+
+
+@functools.lru_cache(maxsize=None)
+def _loaded(path: str) -> ctypes.CDLL:
+    """The library at a path, with the types of the call that is used here."""
+    library = ctypes.CDLL(path)
+    size = ctypes.c_size_t
+    library.pigale_run.argtypes = [ctypes.c_char_p, size, ctypes.c_char_p, size, ctypes.c_void_p, size, ctypes.POINTER(size)]
+    library.pigale_run.restype = ctypes.c_uint8
+    return library
+
+
+def library() -> Optional[str]:
+    """The path of the library, or None where the program is to be run.
+
+    The environment variable PIGALE_LIBRARY names it. Where that is not set, and PIGALE names no program either, it is the
+    one that tools/library made in this repository.
+    """
+    named = os.environ.get("PIGALE_LIBRARY")
+    if named is not None:
+        return named or None
+    if os.environ.get("PIGALE"):
+        return None
+    top = os.path.join(os.path.dirname(os.path.realpath(__file__)), "..", "..")
+    made = os.path.abspath(os.path.join(top, "out", "library", "libpigale.so"))
+    return made if os.path.exists(made) else None
+
+
+def answered(path: str, words: Sequence[str], data: bytes, capacity: Optional[int] = None) -> Tuple[int, str]:
+    """The status and the text of a run of the program's words over an input, by the library at a path.
+
+    `capacity` is the room for the text at first; where the text is longer the run is made once more.
+    """
+    call, command, length = _loaded(path).pigale_run, " ".join(words).encode(), ctypes.c_size_t()
+    room = capacity or 65536 + 32 * len(data)
+    while True:
+        text = ctypes.create_string_buffer(room)
+        status = call(command, len(command), data, len(data), text, room, ctypes.byref(length))
+        if length.value <= room:
+            return status, text.raw[:length.value].decode("ascii")
+        room = length.value
