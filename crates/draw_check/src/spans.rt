@@ -192,16 +192,16 @@ pub(crate) fn misses_star(span: Span, r: Point, p: Point, q: Point) -> bool
     if is_apart(widened(span, r), p, q) {
         return true;
     }
-    if is_past(span, r, p, q) {
-        return true;
-    }
-    if is_past(span, r, q, p) {
-        return true;
-    }
     if are_to_right(span, r, p, q) {
         return true;
     }
-    are_to_left(span, r, p, q)
+    if are_to_left(span, r, p, q) {
+        return true;
+    }
+    if is_past(span, r, p, q) {
+        return true;
+    }
+    is_past(span, r, q, p)
 }
 
 // Whether a point is neither to the left nor to the right of a box.
