@@ -134,3 +134,8 @@ some_completion lists completion simple plane some =
     let more = completion lists simple plane some in
     let base = base_in lists more.0 simple more.1 more.2 in
     (more.0, (base.0, record { simple = simple; triangulation = more.1; extended = more.2; base = base.1 }))
+
+-- the lists made for a completion, or else the record's own, are those of the completion
+pub listed_in : (own lists result more : Lists) (made : Option Lists) → own ≡ lists → MatchOption made (result ≡ own) (λ ls. result ≡ ls) → MatchOption made (lists ≡ more) (λ ls. ls ≡ more) → result ≡ more
+listed_in own lists result more None same given h = given ∙ (same ∙ h)
+listed_in own lists result more (Some ls) same given h = given ∙ h

@@ -1,5 +1,5 @@
 -- A record as a triangulation with a canonical order.
-use Rattle.std.specs.Prelude.{ℕ, ◌<◌, ◌≡◌, [], length, slice_index}
+use Rattle.std.specs.Prelude.{ℕ, ◌<◌, ◌≡◌, [], length, slice_index, MatchOption}
 use Rattle.map_lists.specs.Lists.{Lists}
 use Rattle.map_theory.specs.Maps.{HasDart, IsSimpleMap, list_of}
 use Rattle.plane_laws.specs.Triangulations.{IsTriangulation}
@@ -17,7 +17,7 @@ pub record IsBaseTo (lists more : Lists) (to : ℕ) : Type 0 where
 pub record IsDrawingOrder (lists : Lists) (found : DrawingOrder) : Type 0 where
   pub simple : IsSimpleMap lists
   pub triangulation : IsTriangulation found.tri.lists
-  pub listed : found.lists ≡ found.tri.lists
+  pub listed : MatchOption found.made (lists ≡ found.tri.lists) (λ made. made ≡ found.tri.lists)
   pub extended : IsExtended lists found.tri.lists
   pub to : ℕ
   pub base : IsBaseTo lists found.tri.lists to

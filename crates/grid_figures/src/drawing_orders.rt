@@ -5,6 +5,7 @@ ghost use Rattle.grid_figures.specs.DrawingOrdersLaws.{CompletionDraws, SomeComp
 
 mod order;
 
+pub(crate) use order::made_or;
 pub use order::{DrawingOrder, drawing_order, plane_order};
 
 /// A plane drawing of a completion of a map in a grid is a valid drawing of the map, with its outer face.

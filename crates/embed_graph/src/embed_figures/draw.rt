@@ -30,7 +30,7 @@ fn drawn_found(alloc: Global, found: FoundMap) -> Result<EmbedFigure, AllocError
     requires { IsPlaneMap 3 found.lists found.plane }
     ensures { (graph : EdgeGraph) → IsMapOf found.lists graph → IfOk result (IsEmbedFigure graph) }
 {
-    let figure = plane_figure(alloc, found.plane)?;
+    let figure = plane_figure(alloc, found.plane, &found.lists)?;
     Ok(EmbedFigure::Drawn(found.lists, figure))
 }
 

@@ -1,6 +1,8 @@
 //! A canonical order of the completion of a record's map, or why there is none.
-ghost use Rattle.std.specs.Prelude.{◌≡◌, ◌≤◌, ◌<◌, ℕ, length, Some, None, IfOk, IfErr, IfSome, IfNone, OnOk};
+ghost use Rattle.std.specs.Prelude.{◌≡◌, ◌≤◌, ◌<◌, ℕ, length, Some, None, IfOk, IfErr, IfSome, IfNone, MatchOption, OnOk};
 ghost use Rattle.plane_laws.specs.Triangulations.{IsTriangulation};
+ghost use Rattle.plane_laws.specs.MapEditsCompleted.{IsExtended};
+ghost use Rattle.half_edges.specs.Map.{dart_at};
 ghost use Rattle.conn_parts.specs.Counted.{IsPlaneMap};
 ghost use Rattle.grid_figures.specs.DrawingOrdersBases.{LeadsToLeast};
 ghost use Rattle.grid_figures.specs.Orders.{IsDrawingOrder};
@@ -18,8 +20,8 @@ use std::alloc::{AllocError, Global};
 pub struct DrawingOrder {
     /// The map.
     pub tri: HalfMap,
-    /// Its lists.
-    pub lists: Rotations,
+    /// Its lists, where they are not those of the record.
+    pub made: Option<Rotations>,
     /// The order of its vertices.
     pub order: Order,
 }
@@ -50,23 +52,73 @@ fn base_dart(tri: &HalfMap, first: Option<DartId>) -> DartId
     }
 }
 
-/// The completion of a map of genus zero with at least three vertices, and an order of it, as `drawing_order` has them. It
-/// fails only for want of memory.
-pub fn plane_order(alloc: Global, plane: CountedMap) -> Result<DrawingOrder, AllocError>
+// A map with edges put in until it is a triangulation.
+#[derive(Drop)]
+struct Completion {
+    // the triangulation
+    tri: HalfMap,
+    // its lists, where an edge was put in
+    made: Option<Rotations>,
+}
+
+// The completion of a map of genus zero with at least three vertices: the map itself, where it has 3n - 6 edges.
+fn complete_map(alloc: Global, plane: CountedMap) -> Result<Completion, AllocError>
     requires { IsPlaneMap 3 plane.map.lists plane }
+    ensures triangulation { IfOk result (λ done. IsTriangulation done.tri.lists) }
+    ensures extended { IfOk result (λ done. IsExtended plane.map.lists done.tri.lists) }
+    ensures ids { IfOk result (λ done. (d v u : ℕ) → dart_at plane.map d ≡ Some (v, u) → dart_at done.tri d ≡ Some (v, u)) }
+    ensures lists { IfOk result (λ done. MatchOption done.made (plane.map.lists ≡ done.tri.lists) (λ made. made ≡ done.tri.lists)) }
+{
+    if plane.map.m() == 3 * plane.map.n() as u32 - 6 {
+        return Ok(Completion {
+            tri: plane.map,
+            made: None,
+        });
+    }
+    match triangulate_parts(plane.map, &plane.parts) {
+        Ok(tri) => {
+            let lists = tri.rotations(alloc)?;
+            Ok(Completion {
+                tri,
+                made: Some(lists),
+            })
+        }
+        Err((_, e)) => Err(e),
+    }
+}
+
+// The lists that were made for a completion, or else those of the record.
+pub(crate) fn made_or<'a>(made: &'a Option<Rotations>, own: &'a Rotations) -> &'a Rotations
+    ensures { MatchOption made.now (result.now ≡ own.now) (λ lists. result.now ≡ lists) }
+{
+    match made {
+        Some(lists) => lists,
+        None => own,
+    }
+}
+
+/// The completion of a map of genus zero with these lists and at least three vertices, and an order of it, as
+/// `drawing_order` has them. It fails only for want of memory.
+pub fn plane_order(
+    alloc: Global,
+    plane: CountedMap,
+    lists: &Rotations,
+) -> Result<DrawingOrder, AllocError>
+    requires plane { IsPlaneMap 3 plane.map.lists plane }
+    requires lists { lists.now ≡ plane.map.lists }
     ensures { IfOk result (IsDrawingOrder plane.map.lists) }
 {
     plane.map.facts();
     let first = plane.map.first_dart(VertexId(0));
-    let tri = match triangulate_parts(plane.map, &plane.parts) {
-        Ok(tri) => tri,
-        Err((_, e)) => return Err(e),
-    };
-    tri.facts();
-    let base = base_dart(&tri, first);
-    let lists = tri.rotations(alloc)?;
-    let order = list_order(alloc, &tri, &lists, base)?;
-    Ok(DrawingOrder { tri, lists, order })
+    let done = complete_map(alloc, plane)?;
+    done.tri.facts();
+    let base = base_dart(&done.tri, first);
+    let order = list_order(alloc, &done.tri, made_or(&done.made, lists), base)?;
+    Ok(DrawingOrder {
+        tri: done.tri,
+        made: done.made,
+        order,
+    })
 }
 
 /// The completion of the map of a record with these lists, which are from 1 to 4095, and a canonical order of
@@ -84,6 +136,6 @@ pub fn drawing_order(alloc: Global, lists: &Rotations) -> Result<DrawingOrder, U
     ensures refused { IfErr result (IfRefused (λ refusal. first_refusal 3 lists.now ≡ Some refusal)) }
 {
     let plane = plane_map(alloc, lists, 3)?;
-    let found = plane_order(alloc, plane)?;
+    let found = plane_order(alloc, plane, lists)?;
     Ok(found)
 }

@@ -8,7 +8,7 @@ ghost use Rattle.refusals.specs.Conditions.{first_refusal, IfRefused};
 ghost use Rattle.grid_figures.specs.Forms.{IsDrawnBy};
 ghost use Rattle.grid_figures.specs.SchnyderFiguresFigures.{schnyder_form, IsSchnyderFigure};
 
-use crate::drawing_orders::plane_order;
+use crate::drawing_orders::{made_or, plane_order};
 use crate::schnyder_grid::list_draw;
 use canon_order::Order;
 use conn_parts::{CountedMap, plane_map};
@@ -29,16 +29,21 @@ fn order_figure(alloc: Global, lists: &Rotations, order: &Order) -> Result<GridF
     Ok(figure)
 }
 
-/// The same figure as `schnyder_figure` has, of a map that is counted, has genus zero and at least three vertices. It fails
-/// only for want of memory.
-pub fn plane_figure(alloc: Global, plane: CountedMap) -> Result<GridFigure, AllocError>
-    requires { IsPlaneMap 3 plane.map.lists plane }
+/// The same figure as `schnyder_figure` has, of a map with these lists that is counted, has genus zero and at least three
+/// vertices. It fails only for want of memory.
+pub fn plane_figure(
+    alloc: Global,
+    plane: CountedMap,
+    lists: &Rotations,
+) -> Result<GridFigure, AllocError>
+    requires plane { IsPlaneMap 3 plane.map.lists plane }
+    requires lists { lists.now ≡ plane.map.lists }
     ensures { IfOk result (IsSchnyderFigure plane.map.lists) }
 {
     crate::drawing_orders::completion_draws();
     plane.map.facts();
-    let found = plane_order(alloc, plane)?;
-    let figure = order_figure(alloc, &found.lists, &found.order)?;
+    let found = plane_order(alloc, plane, lists)?;
+    let figure = order_figure(alloc, made_or(&found.made, lists), &found.order)?;
     Ok(figure)
 }
 
@@ -62,6 +67,6 @@ pub fn schnyder_figure(alloc: Global, lists: &Rotations) -> Result<GridFigure, U
     ensures refused { IfErr result (IfRefused (λ refusal. first_refusal 3 lists.now ≡ Some refusal)) }
 {
     let plane = plane_map(alloc, lists, 3)?;
-    let figure = plane_figure(alloc, plane)?;
+    let figure = plane_figure(alloc, plane, lists)?;
     Ok(figure)
 }

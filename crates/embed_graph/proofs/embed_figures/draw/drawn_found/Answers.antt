@@ -5,9 +5,12 @@ use Rattle.conn_parts.specs.Counted.{IsPlaneMap}
 use Rattle.grid_figures.specs.SchnyderFiguresFigures.{IsSchnyderFigure}
 use Rattle.embed_graph.proofs.embed_figures.draw.drawn_found.Goals as goal
 
-pub plane_figure-requires : goal.plane_figure-requires
-plane_figure-requires c =
+pub plane_figure-requires-clause-plane : goal.plane_figure-requires-clause-plane
+plane_figure-requires-clause-plane c =
     subst (λ (ls : Lists). IsPlaneMap 3 ls c.args.found.plane) (sym c.requires.counted.lists_are) c.requires
+
+pub plane_figure-requires-clause-lists : goal.plane_figure-requires-clause-lists
+plane_figure-requires-clause-lists c = sym c.requires.counted.lists_are
 
 pub returns : goal.returns
 returns c = λ graph map.

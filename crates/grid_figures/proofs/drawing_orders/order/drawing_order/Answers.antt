@@ -5,8 +5,11 @@ use Rattle.conn_parts.specs.Counted.{IsPlaneMap}
 use Rattle.grid_figures.specs.Orders.{IsDrawingOrder}
 use Rattle.grid_figures.proofs.drawing_orders.order.drawing_order.Goals as goal
 
-pub plane_order-requires : goal.plane_order-requires
-plane_order-requires c =
+pub plane_order-requires-clause-lists : goal.plane_order-requires-clause-lists
+plane_order-requires-clause-lists c = sym c.in_ok-plane.ensures.plane.counted.lists_are
+
+pub plane_order-requires-clause-plane : goal.plane_order-requires-clause-plane
+plane_order-requires-clause-plane c =
     let plane = c.in_ok-plane.ensures.plane in
     subst (λ (ls : Lists). IsPlaneMap 3 ls c.in_ok-plane.plane) (sym plane.counted.lists_are) plane
 
