@@ -110,7 +110,7 @@ def rows(job):
     elif job == "embed":
         for what, lines, most in graphs():
             yield what, million(job, lines), most
-        yield "10,000 lines of one graph of six vertices and twelve edges, not planar", million(job, b"EF~w\n" * 10_000), 350
+        yield "10,000 lines of one graph of six vertices and twelve edges, not planar", million(job, b"EF~w\n" * 10_000), 280
 
 
 def memory():
