@@ -9,6 +9,9 @@ use itoa::Buffer;
 use refusals::Refusal;
 use std::alloc::{AllocError, Global};
 
+// How many bytes a line of six words and six numbers takes at most.
+const LINE: usize = 96;
+
 /// How the bytes of an input end.
 #[derive(Clone, Copy, PartialEq, Eq)]
 pub enum Ending {
@@ -36,7 +39,8 @@ pub fn count_line(alloc: Global, number: u32, count: &EulerCount) -> Result<Vec<
     ensures { IfOk result (λ line. line.items ≡ counts_line number count.now.n count.now.m count.now.f count.now.c
         (genus_of count.now.n count.now.m count.now.f count.now.c)) }
 {
-    let mut line = Vec::from_slice(alloc, b"count")?;
+    let mut line = Vec::with_capacity(alloc, LINE)?;
+    line.extend_from_slice(b"count")?;
     push_number(&mut line, u64::from(number))?;
     line.extend_from_slice(b" n")?;
     push_number(&mut line, u64::from(count.n))?;
@@ -112,7 +116,8 @@ fn push_refusal(out: &mut Vec<u8>, refusal: Refusal) -> Result<(), AllocError>
 pub fn refusal_line(alloc: Global, number: u32, refusal: Refusal) -> Result<Vec<u8>, AllocError>
     ensures { IfOk result (λ line. line.items ≡ refusal_line_of number refusal) }
 {
-    let mut line = Vec::from_slice(alloc, b"refused")?;
+    let mut line = Vec::with_capacity(alloc, LINE)?;
+    line.extend_from_slice(b"refused")?;
     push_number(&mut line, u64::from(number))?;
     line.push(b' ')?;
     push_refusal(&mut line, refusal)?;
