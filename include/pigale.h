@@ -74,7 +74,11 @@ enum {
     PIGALE_GAP = 66,                /* the rectangles do not fill the one that they span */
     PIGALE_CONTACT = 67,            /* `first` and `second` share a side, and no edge joins them, or the other way round */
     PIGALE_NO_FRAME = 68,           /* the outer face is no quadrangle */
-    PIGALE_FRAME = 69               /* the rectangle of `first`, of the outer face, is not at its end */
+    PIGALE_FRAME = 69,              /* the rectangle of `first`, of the outer face, is not at its end */
+
+    /* Graphs without a plane map. */
+    PIGALE_K5 = 80,                 /* the graph has a subdivision of K5 */
+    PIGALE_K33 = 81                 /* the graph has a subdivision of K3,3 */
 };
 
 /* The numbers beside a status. */
@@ -86,6 +90,11 @@ typedef struct {
 typedef struct {
     uint32_t n, m, f, c, genus;
 } pigale_counts;
+
+/* An edge of a graph, by its lesser end and then its greater; vertices are numbered from 0. */
+typedef struct {
+    uint16_t a, b;
+} pigale_edge;
 
 /* Counts a simple map of any genus. Else the status is from 1 to 4. */
 pigale_status pigale_count(const size_t *ends, size_t vertex_count, const uint16_t *neighbours, size_t neighbour_count,
@@ -121,6 +130,23 @@ pigale_status pigale_bars(const size_t *ends, size_t vertex_count, const uint16_
 pigale_status pigale_rect(const size_t *ends, size_t vertex_count, const uint16_t *neighbours, size_t neighbour_count,
                           int32_t *x1, size_t x1_count, int32_t *x2, size_t x2_count,
                           int32_t *y1, size_t y1_count, int32_t *y2, size_t y2_count, pigale_numbers *found);
+
+/* Finds a plane map of a graph and draws it by Schnyder's method in the grid from (0, 0) to (n - 2, n - 2), or finds a
+ * Kuratowski witness that it has none. The graph has `vertex_count` vertices, n of them, from 3 to 255, and `edge_count`
+ * edges, m of them. They come by the lesser end and then by the greater, each once; else PIGALE_BAD_ARGUMENT is the answer.
+ * x and y have n entries each.
+ *
+ * PIGALE_OK: `ends` and `neighbours` have a map of genus zero with exactly these edges, as above, and x and y its drawing.
+ * PIGALE_K5 or PIGALE_K33: they have the paths of a subdivision in the graph, in place of lists. Path i ends before entry
+ * ends[i] of `neighbours`, and stands there with both its ends. The ten paths of K5 join the branches 0-1, 0-2, 0-3, 0-4,
+ * 1-2, 1-3, 1-4, 2-3, 2-4 and 3-4; the nine of K3,3 join 0-3, 0-4, 0-5, 1-3, 1-4, 1-5, 2-3, 2-4 and 2-5. Each path goes
+ * along edges from the one branch to the other, and two share no vertex within. x and y are left as they were.
+ *
+ * `ends` and `neighbours` get as many entries as they have room for. Room for n entries, and at least ten, and for 2m is
+ * enough. Else the status is PIGALE_SMALL. */
+pigale_status pigale_embed(uint16_t vertex_count, const pigale_edge *edges, size_t edge_count, size_t *ends,
+                           size_t end_count, uint16_t *neighbours, size_t neighbour_count, int32_t *x, size_t x_count,
+                           int32_t *y, size_t y_count, pigale_numbers *found);
 
 /* Judges a straight-line drawing in the grid from (0, 0) to (width, height): PIGALE_OK exactly where it is plane, keeps
  * the rotations and stays in the grid; else its first fault, by the least number from 32 to 36, and of that fault the one

@@ -1,6 +1,7 @@
 /* A test of the library: what it answers to the records of a planar_code, as the program's text.
  *
  *   test JOB < RECORDS                 the text of the job: count, shift, schnyder, convex, bars or rect
+ *   test embed < LINES                 the text of the job embed, for lines of graph6
  *   test verify VERDICTS < RECORDS     figures of all jobs, some with a number changed; into VERDICTS their verdicts
  *   test run WORDS < INPUT             pigale_run
  *   test random CALLS                  calls with random arrays: nothing is to fail but by its status */
@@ -195,6 +196,54 @@ static int say_job(const char *job)
     return 0;
 }
 
+/* The ends of the paths that begin or end at the branches of a kind: a path, and whether its last vertex is meant. */
+static const int places_of_branch[2][6][2] = {{{0, 0}, {0, 1}, {1, 1}, {2, 1}, {3, 1}, {0, 0}},
+    {{0, 0}, {3, 0}, {6, 0}, {0, 1}, {1, 1}, {2, 1}}};
+
+static void put_witness(size_t number, const map *m, int is_k33, const char *line)
+{
+    printf("figure %zu witness %s %sbranch", number, is_k33 ? "K33" : "K5", line);
+    for (int i = 0; i < 5 + is_k33; i++) {
+        size_t path = (size_t)places_of_branch[is_k33][i][0], end = m->ends[path], start = path ? m->ends[path - 1] : 0;
+        printf(" %d", m->neighbours[places_of_branch[is_k33][i][1] ? end - 1 : start] + 1);
+    }
+    putchar('\n');
+    for (size_t p = 0; p < (is_k33 ? 9 : 10); p++) {
+        printf("path");
+        for (size_t i = p ? m->ends[p - 1] : 0; i < m->ends[p]; i++) printf(" %d", m->neighbours[i] + 1);
+        putchar('\n');
+    }
+}
+
+static int say_embeddings(void)
+{
+    static char line[6000];
+    size_t records = 0, refused = 0;
+    while (fgets(line, sizeof line, stdin)) {
+        uint16_t n = (uint16_t)(line[0] - 63);
+        size_t count = 0;
+        pigale_edge *edges = room((size_t)n * n * sizeof *edges);
+        for (uint16_t a = 0; a < n; a++)
+            for (uint16_t b = (uint16_t)(a + 1); b < n; b++) {
+                int at = b * (b - 1) / 2 + a;
+                if ((line[1 + at / 6] - 63) >> (5 - at % 6) & 1) edges[count++] = (pigale_edge){a, b};
+            }
+        map m = {n, 2 * count, 0, 0};
+        size_t ends = n < 10 ? 10 : n;
+        m.ends = room(ends * sizeof *m.ends), m.neighbours = room(m.k * sizeof *m.neighbours);
+        figure f = figure_for(&m, n);
+        pigale_numbers found;
+        pigale_status status = pigale_embed(n, edges, count, m.ends, ends, m.neighbours, m.k, f.row[0], n, f.row[1], n, &found);
+        records++;
+        if (!status) put_figure(stdout, records, "schnyder", &m, f);
+        else if (status == PIGALE_K5 || status == PIGALE_K33) put_witness(records, &m, status == PIGALE_K33, line);
+        else refused++, put_refusal(stdout, records, status, found);
+        drop(f), free(edges), free(m.ends), free(m.neighbours);
+    }
+    printf("end records %zu refused %zu\n", records, refused);
+    return 0;
+}
+
 static pigale_status judge(const char *job, const map *m, figure f, int32_t faces, pigale_numbers *found)
 {
     int32_t n = (int32_t)m->n;
@@ -291,7 +340,13 @@ static int call_at_random(long calls)
         size_t length;
         uint8_t text[40], words[8], status = 0;
         int32_t width = (int32_t)any(20) - 3, height = (int32_t)any(20) - 3;
-        switch (any(11)) {
+        pigale_edge *edges = room(m.n * m.n * sizeof *edges);
+        size_t count = 0;
+        for (size_t a = 0; a < m.n; a++)
+            for (size_t b = a + 1; b < m.n; b++)
+                if (any(2)) edges[count++] = (pigale_edge){(uint16_t)a, (uint16_t)b};
+        if (count && !any(3)) edges[any((uint32_t)count)].b = (uint16_t)any(12);
+        switch (any(12)) {
         case 0: status = pigale_count(m.ends, m.n, m.neighbours, m.k, &all, &found); break;
         case 1: status = pigale_shift(m.ends, m.n, m.neighbours, m.k, row[0], size[0], row[1], size[1], &found); break;
         case 2: status = pigale_schnyder(m.ends, m.n, m.neighbours, m.k, row[0], size[0], row[1], size[1], &found); break;
@@ -319,12 +374,17 @@ static int call_at_random(long calls)
             status = pigale_check_rects(m.ends, m.n, m.neighbours, m.k, row[0], size[0], row[1], size[1], row[2], size[2],
                 row[3], size[3], &found);
             break;
+        case 10:
+            status = pigale_embed(any(9) ? (uint16_t)m.n : (uint16_t)any(65536), edges, count, m.ends, m.n, m.neighbours, m.k,
+                row[0], size[0], row[1], size[1], &found);
+            break;
         default:
             for (size_t i = 0; i < sizeof words; i++) words[i] = any(2) ? (uint8_t)any(256) : (uint8_t)"count "[any(6)];
             status = any(3) ? pigale_run((const uint8_t *)"count", 5, (const uint8_t *)m.neighbours, m.k, text, any(40), &length)
                             : pigale_run(words, any(8), (const uint8_t *)m.neighbours, m.k, text, any(40), &length);
         }
         by_status[status]++;
+        free(edges);
         for (int i = 0; i < 4; i++) free(row[i]);
         free(m.ends), free(m.neighbours);
     }
@@ -335,6 +395,7 @@ static int call_at_random(long calls)
 
 int main(int count, char **words)
 {
+    if (count == 2 && !strcmp(words[1], "embed")) return say_embeddings();
     if (count == 2) return say_job(words[1]);
     if (count == 3 && !strcmp(words[1], "verify")) return say_verdicts(words[2]);
     if (count == 3 && !strcmp(words[1], "run")) return run(words[2]);

@@ -1,13 +1,17 @@
 -- Wrong bodies that the clauses exclude.
-use Rattle.std.proofs.Common.{◌≡◌, ℕ, List, [], ◌∷◌, ℤ, pos, refl, ap, sym, ◌∙◌, arith, lit<, lit≤}
+use Rattle.std.proofs.Common.{◌≡◌, ℕ, List, [], ◌∷◌, ℤ, pos, refl, ap, ◌∙◌, arith, lit<}
 use Rattle.pg_plane.specs.declared.point.Point.{Point}
 use Rattle.plane_drawings.specs.Drawing.{place}
 use Rattle.draw_check.specs.declared.verdict.Verdict.TheVariants.{Yes}
 use Rattle.pigale_c.specs.Counted.{IsCounted}
 use Rattle.pigale_c.specs.Drawn.{IsSchnyderDrawn}
 use Rattle.pigale_c.specs.Judged.{IsJudged}
+use Rattle.pigale_c.specs.Embedded.{IsEmbedded}
+use Rattle.refusals.specs.declared.refusal.Refusal.TheVariants.{Small}
 use Rattle.pigale_c.specs.declared.counts.Counts.{Counts}
-use Rattle.pigale_c.specs.declared.outcome.Outcome.TheVariants.{Served, Drawing}
+use Rattle.pigale_c.specs.declared.edges.EdgeEnds.{EdgeEnds}
+use Rattle.pigale_c.specs.declared.outcome.Failure.TheVariants.{Refused}
+use Rattle.pigale_c.specs.declared.outcome.Outcome.TheVariants.{Served, Failed, Drawing}
 
 -- a check that answers yes without looking: two vertices of an edge stand at one point
 check_says_yes : (width height : ℤ) → ¬ IsJudged (1 ∷ 2 ∷ []) (1 ∷ 0 ∷ []) (pos 0 ∷ pos 0 ∷ []) (pos 0 ∷ pos 0 ∷ []) width height (Drawing Yes)
@@ -24,3 +28,15 @@ draws_y_for_x xs ys xs' ys' y drawn =
 -- the count of another map: a triangle has three vertices
 counts_another : (old new : Counts) → new.n ≡ 2 → ¬ IsCounted (2 ∷ 4 ∷ 6 ∷ []) (1 ∷ 2 ∷ 2 ∷ 0 ∷ 0 ∷ 1 ∷ []) old new Served
 counts_another old new two counted = let n = ap (λ (c : Counts). c.n) counted.2 in omega (arith, two, n)
+
+-- a drawing of a graph that writes y for x: vertex 0 of three stands at (0, 1)
+embeds_y_for_x : (edges : List EdgeEnds) (ends neighbours ends' neighbours' : List ℕ) (xs ys xs' ys' : List ℤ) (y : ℤ) → ¬ IsEmbedded 3 edges ends neighbours xs ys ends' neighbours' (pos 1 ∷ xs') (y ∷ ys') Served
+embeds_y_for_x edges ends neighbours ends' neighbours' xs ys xs' ys' y drawn =
+    let first = ap (λ (ps : List Point). (place ps 0).x) drawn.2.points_are in
+    let corner = ap (λ (p : Point). p.x) drawn.2.drawn.valid.placed.tail in
+    let same : pos 1 ≡ pos 0 = first ∙ corner in
+    cc
+
+-- a graph of three vertices that is refused as small
+refuses_three : (edges : List EdgeEnds) (ends neighbours ends' neighbours' : List ℕ) (xs ys xs' ys' : List ℤ) → ¬ IsEmbedded 3 edges ends neighbours xs ys ends' neighbours' xs' ys' (Failed (Refused (Small 3)))
+refuses_three edges ends neighbours ends' neighbours' xs ys xs' ys' failed = let few = failed.0.1.0 in omega (arith, few)

@@ -9,3 +9,4 @@ pub mod BarArrays
 pub mod RectArrays
 pub mod Words
 pub mod Run
+pub mod Embedded

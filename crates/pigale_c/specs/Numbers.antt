@@ -10,10 +10,12 @@ use Rattle.bar_check.specs.declared.verdict.BarVerdict.{BarVerdict}
 use Rattle.bar_check.specs.declared.verdict.BarVerdict.TheVariants.{BadShape, BadHeight, BadBar, BadColumn, Through, Overlap, Turned as TurnedBars, Yes as NoBarFault}
 use Rattle.rect_check.specs.declared.verdict.RectVerdict.{RectVerdict}
 use Rattle.rect_check.specs.declared.verdict.RectVerdict.TheVariants.{BadRect, Meet, Gap, Contact, NoFrame, Frame, Yes as NoRectFault}
+use Rattle.kuratowski.specs.declared.witness.Kind.{Kind}
+use Rattle.kuratowski.specs.declared.witness.Kind.TheVariants.{K5, K33}
 use Rattle.pigale_c.specs.declared.outcome.Failure.{Failure}
 use Rattle.pigale_c.specs.declared.outcome.Failure.TheVariants.{Refused, NoMemory, BadArgument}
 use Rattle.pigale_c.specs.declared.outcome.Outcome.{Outcome}
-use Rattle.pigale_c.specs.declared.outcome.Outcome.TheVariants.{Served, Failed, Drawing, Convex, Bars, Rects}
+use Rattle.pigale_c.specs.declared.outcome.Outcome.TheVariants.{Served, Failed, Drawing, Convex, Bars, Rects, NotPlanar}
 use Rattle.pigale_c.specs.declared.outcome.Numbers.{Numbers}
 
 -- four numbers, and fewer: those that are missing are 0
@@ -131,6 +133,11 @@ rects_numbers_of NoFrame = none
 rects_numbers_of (Frame v) = one v.0
 rects_numbers_of NoRectFault = none
 
+-- a kind of witness
+abbrev pub kind_status_of : Kind → ℕ
+kind_status_of K5 = 80
+kind_status_of K33 = 81
+
 -- a failure
 abbrev pub failure_status_of : Failure → ℕ
 failure_status_of (Refused refusal) = refusal_status_of refusal
@@ -150,6 +157,7 @@ status_of (Drawing verdict) = drawing_status_of verdict
 status_of (Convex verdict) = convex_status_of verdict
 status_of (Bars verdict) = bars_status_of verdict
 status_of (Rects verdict) = rects_status_of verdict
+status_of (NotPlanar kind) = kind_status_of kind
 
 abbrev pub numbers_of : Outcome → Numbers
 numbers_of Served = none
@@ -158,6 +166,7 @@ numbers_of (Drawing verdict) = drawing_numbers_of verdict
 numbers_of (Convex verdict) = convex_numbers_of verdict
 numbers_of (Bars verdict) = bars_numbers_of verdict
 numbers_of (Rects verdict) = rects_numbers_of verdict
+numbers_of (NotPlanar kind) = none
 
 -- a status and numbers are those of an outcome that is right
 pub record Reports (IsRight : Outcome → Type 0) (status : ℕ) (numbers : Numbers) : Type 0 where

@@ -5,6 +5,8 @@ mod arrays;
 pub mod bars;
 pub mod checks;
 pub mod counts;
+pub mod edges;
+pub mod embeds;
 pub mod grids;
 pub mod outcome;
 pub mod ports;

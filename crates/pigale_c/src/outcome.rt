@@ -1,11 +1,12 @@
 //! How a call ends, as the number of a status and up to four numbers beside it.
 ghost use Rattle.std.specs.Prelude.{◌≡◌};
-ghost use Rattle.pigale_c.specs.Numbers.{bars_numbers_of, bars_status_of, convex_numbers_of, convex_status_of, drawing_numbers_of, drawing_status_of, failure_numbers_of, failure_status_of, numbers_of, rects_numbers_of, rects_status_of, refusal_numbers_of, refusal_status_of, status_of};
+ghost use Rattle.pigale_c.specs.Numbers.{bars_numbers_of, bars_status_of, convex_numbers_of, convex_status_of, drawing_numbers_of, drawing_status_of, failure_numbers_of, failure_status_of, kind_status_of, numbers_of, rects_numbers_of, rects_status_of, refusal_numbers_of, refusal_status_of, status_of};
 
 use bar_check::BarVerdict;
 use convex_check::ConvexVerdict;
 use draw_check::Verdict;
 use half_edges::MapFault;
+use kuratowski::Kind;
 use map_lists::{Ends, VertexId};
 use rect_check::RectVerdict;
 use refusals::{Refusal, Unserved};
@@ -74,6 +75,8 @@ pub enum Outcome {
     Bars(BarVerdict),
     /// Rectangles were judged.
     Rects(RectVerdict),
+    /// A graph has no plane map, by a subdivision of this kind.
+    NotPlanar(Kind),
 }
 
 /// The numbers beside a status: vertices from 0, or a count. Those that a status does not have are 0.
@@ -284,6 +287,16 @@ fn rects_numbers(verdict: RectVerdict) -> Numbers
     }
 }
 
+// Returns the number of a kind of witness.
+fn kind_status(kind: Kind) -> u8
+    ensures { result ≡ kind_status_of kind }
+{
+    match kind {
+        Kind::K5 => 80,
+        Kind::K33 => 81,
+    }
+}
+
 // Returns the number of a failure.
 fn failure_status(failure: Failure) -> u8
     ensures { result ≡ failure_status_of failure }
@@ -316,6 +329,7 @@ fn status_number(outcome: Outcome) -> u8
         Outcome::Convex(verdict) => convex_status(verdict),
         Outcome::Bars(verdict) => bars_status(verdict),
         Outcome::Rects(verdict) => rects_status(verdict),
+        Outcome::NotPlanar(kind) => kind_status(kind),
     }
 }
 
@@ -330,6 +344,7 @@ fn numbers_beside(outcome: Outcome) -> Numbers
         Outcome::Convex(verdict) => convex_numbers(verdict),
         Outcome::Bars(verdict) => bars_numbers(verdict),
         Outcome::Rects(verdict) => rects_numbers(verdict),
+        Outcome::NotPlanar(_) => four(0, 0, 0, 0),
     }
 }
 

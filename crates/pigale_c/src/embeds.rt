@@ -1,0 +1,94 @@
+//! Maps and drawings of graphs, or witnesses that there are none, in arrays.
+ghost use Rattle.std.specs.Prelude.{◌≡◌, ◌≤◌, ◌++◌, length, take, drop, map, IfOk, IfErr};
+ghost use Rattle.embed_graph.specs.Figures.{IsEmbedFigure};
+ghost use Rattle.pigale_c.specs.Embedded.{graph_in, number, IsGivenGraph, IsSmall, IsEmbedded};
+ghost use Rattle.pigale_c.specs.Failures.{Fails};
+ghost use Rattle.pigale_c.specs.Numbers.{Reports};
+
+use crate::arrays::put_points;
+use crate::edges::{EdgeEnds, graph_of};
+use crate::outcome::{Failure, Numbers, Outcome, report};
+use embed_graph::Tables;
+use embed_graph::embed_figures::{EmbedFigure, embed_figure_in};
+use map_lists::VertexId;
+use refusals::Refusal;
+use std::alloc::{AllocError, Global};
+
+// Returns what a graph is answered by, where there is room for two coordinates of each vertex.
+fn figure_of(
+    alloc: Global,
+    n: u16,
+    edges: &[EdgeEnds],
+    x: &[i32],
+    y: &[i32],
+) -> Result<EmbedFigure, Failure>
+    ensures given { IfOk result (λ figure. IsGivenGraph n edges.now x.now y.now) }
+    ensures enough { IfOk result (λ figure. 3 ≤ n) }
+    ensures figure { IfOk result (IsEmbedFigure (graph_in n edges.now)) }
+    ensures failed { IfErr result (Fails (IsGivenGraph n edges.now x.now y.now) (IsSmall n)) }
+{
+    if x.len() != usize::from(n) || y.len() != usize::from(n) {
+        return Err(Failure::BadArgument);
+    }
+    let graph = graph_of(alloc, n, edges)?;
+    if n < 3 {
+        return Err(Failure::Refused(Refusal::Small(n)));
+    }
+    let mut tables = Tables::new();
+    let figure = embed_figure_in(alloc, &mut tables, &graph)?;
+    Ok(figure)
+}
+
+// Returns the numbers of vertices.
+fn numbers_of_vertices(alloc: Global, vertices: &[VertexId]) -> Result<Vec<u16>, AllocError>
+    ensures { IfOk result (λ numbers. numbers.items ≡ map number vertices.now) }
+{
+    let mut numbers = Vec::with_capacity(alloc, vertices.len())?;
+    for v in vertices {
+        numbers.push(v.0)?;
+    }
+    Ok(numbers)
+}
+
+// Writes over the front of an array, as much as there is room for.
+fn put_front<T: Copy>(from: &[T], to: &mut [T])
+    ensures { to.new ≡ take (length to.old) from.now ++ drop (length from.now) to.old }
+{
+    let count = to.len().min(from.len());
+    to[..count].copy_from_slice(&from[..count]);
+}
+
+/// Writes a plane map of a graph and its drawing in the grid n - 2 by n - 2, or the paths of a Kuratowski witness.
+#[unsafe(no_mangle)]
+pub extern "C" fn pigale_embed(
+    alloc: Global,
+    n: u16,
+    edges: &[EdgeEnds],
+    ends: &mut [usize],
+    neighbours: &mut [u16],
+    x: &mut [i32],
+    y: &mut [i32],
+    found: &mut Numbers,
+) -> u8
+    ensures { Reports (IsEmbedded n edges.now ends.old neighbours.old x.old y.old ends.new neighbours.new x.new y.new) result found.new }
+{
+    match figure_of(alloc, n, edges, x, y) {
+        Ok(EmbedFigure::Drawn(lists, figure)) => {
+            put_front(lists.ends(), ends);
+            put_front(lists.entries(), neighbours);
+            put_points(figure.points.as_slice(), x, y);
+            report(Outcome::Served, found)
+        }
+        Ok(EmbedFigure::NotPlanar(witness)) => {
+            match numbers_of_vertices(alloc, witness.paths.entries()) {
+                Ok(vertices) => {
+                    put_front(witness.paths.ends(), ends);
+                    put_front(&vertices, neighbours);
+                    report(Outcome::NotPlanar(witness.kind), found)
+                }
+                Err(AllocError) => report(Outcome::Failed(Failure::NoMemory), found),
+            }
+        }
+        Err(failure) => report(Outcome::Failed(failure), found),
+    }
+}
