@@ -131,7 +131,7 @@ fn put_compared(
     }
 }
 
-// The same, in the drawing over the base of the wood.
+// Compares regions and coordinates in the drawing over the base of the wood.
 fn compared(alloc: Global, map: &HalfMap, wood: &ConvexWood, base: DartId, out: &mut String)
     requires plane { IsPlane map.now.lists }
     requires three { IsThreeConnected map.now.lists }
@@ -209,7 +209,7 @@ fn of_wood(
     }
 }
 
-// The same, over a base.
+// Answers a row on the wood over a base.
 fn over_wood(alloc: Global, call: &str, map: &HalfMap, base: DartId, v: u16, out: &mut String)
     requires plane { IsPlane map.now.lists }
     requires three { IsThreeConnected map.now.lists }

@@ -51,7 +51,7 @@ fn put_front(figure: &GridFigure, most: u16, out: &mut String) {
     put_points(&figure.points, usize::from(most), out);
 }
 
-// The same for the figure of a record, where it has one.
+// Writes the front of the figure of a record, or why it has none.
 fn put_served(figure: Result<GridFigure, Unserved>, most: u16, out: &mut String) {
     match figure {
         Ok(figure) => put_front(&figure, most, out),
@@ -153,7 +153,7 @@ fn of_found(
     }
 }
 
-// The same, where the lists may have none.
+// Like [`of_found`], where the lists may have no order.
 fn over_order(alloc: Global, kind: (&str, &str), lists: &Rotations, args: &[&str], out: &mut String)
     requires some { 0 < length lists.now }
     requires few { length lists.now < 4096 }

@@ -55,7 +55,7 @@ fn put_labels(u: u16, v: u16, one: Label, other: Label, out: &mut String) {
     put("; ", out);
 }
 
-// The same, where there is one.
+// Writes the labels of the edge from `u` to `v`, where there is one.
 fn put_edge(map: &HalfMap, labels: &Labelling, u: u16, v: u16, out: &mut String) {
     if let Some(one) = label_between(map, labels, u, v) {
         if let Some(other) = label_between(map, labels, v, u) {
@@ -75,7 +75,7 @@ fn put_edges(map: &HalfMap, labels: &Labelling, out: &mut String) {
     }
 }
 
-// The same, of a labelling that a call gives.
+// Writes the labels of all edges by a labelling that a call gives.
 fn put_labelling(map: &HalfMap, found: Result<Labelling, AllocError>, out: &mut String) {
     match found {
         Ok(labels) => put_edges(map, &labels, out),

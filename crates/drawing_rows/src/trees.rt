@@ -46,7 +46,7 @@ fn put_back<L: Ledger>(tree: &mut Offsets<L>, v: u16, steps: &mut Steps<L>, out:
     put_node(tree.get(VertexId(v), steps), out);
 }
 
-// The same in a tree of so many nodes.
+// Puts a node at `v` and takes it from there, in a tree of `n` nodes.
 fn node_of<L: Ledger>(alloc: Global, n: u16, v: u16, steps: &mut Steps<L>, out: &mut String)
     requires { v < n }
 {
@@ -83,7 +83,7 @@ fn put_sums<L: Ledger>(
     put_points(points, usize::MAX, out);
 }
 
-// The same for the tree of a triangulation, in a tree of empty nodes.
+// Fills a tree of empty nodes by a triangulation, and writes its points.
 fn put_summed<L: Ledger>(
     alloc: Global,
     nodes: bool,
@@ -106,7 +106,7 @@ fn put_summed<L: Ledger>(
     }
 }
 
-// The same in a tree of its own.
+// Writes the points of a triangulation, in a tree of its own.
 fn sums<L: Ledger>(
     alloc: Global,
     nodes: bool,

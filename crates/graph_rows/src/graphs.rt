@@ -80,7 +80,7 @@ fn put_contractible(alloc: Global, graph: &Graph, out: &mut String)
     }
 }
 
-// The same, if the graph is three-connected and has five vertices.
+// Writes the least edge that can be contracted, if the graph is three-connected and has five vertices.
 fn contractible(alloc: Global, graph: &Graph, out: &mut String) -> Result<(), AllocError>
     requires { 0 < graph.now.n }
 {
@@ -168,7 +168,7 @@ fn of_line(
     }
 }
 
-/// The same, where the line may be none.
+/// Like [`of_line`], where the line may be no graph.
 pub fn over_line(alloc: Global, kind: (&str, &str), args: &[&str], out: &mut String) {
     match read_line(alloc, part(args, 0).as_bytes()) {
         Ok(graph) => of_line(alloc, kind, &graph, args, out),

@@ -160,7 +160,7 @@ impl Tally {
         }
     }
 
-    // The same for the graph of a line.
+    // Counts the graph of a line.
     fn add_line(&mut self, alloc: Global, line: &[u8], slow: bool) {
         match read_line(alloc, line) {
             Ok(graph) => self.add_graph(alloc, &graph, slow),

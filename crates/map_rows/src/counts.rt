@@ -41,7 +41,7 @@ fn put_walks(map: &HalfMap, found: &Faces, out: &mut String) {
     }
 }
 
-// The same, for what the call gives.
+// Writes the walks that the call gives, or that there was not enough memory.
 fn put_faces(map: &HalfMap, found: Result<Faces, AllocError>, out: &mut String) {
     match found {
         Ok(found) => put_walks(map, &found, out),

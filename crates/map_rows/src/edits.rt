@@ -92,7 +92,7 @@ fn turn(map: &mut HalfMap, places: &str) -> bool {
     }
 }
 
-// The same a thousand times.
+// Does a thousand turns, and writes how many there were.
 fn turns(map: &mut HalfMap, places: &str, out: &mut String) {
     let mut count: u64 = 0;
     for _ in 0..1000 {

@@ -96,7 +96,7 @@ fn orbits(alloc: Global, images: &[u32], args: &[&str], out: &mut String)
     }
 }
 
-// The same, where the images are few.
+// Writes the orbits of a permutation whose images are few.
 fn few_orbits(alloc: Global, images: &[u32], args: &[&str], out: &mut String) {
     if images.len() < 65536 {
         orbits(alloc, images, args, out);

@@ -78,7 +78,7 @@ fn judge_drawn(alloc: Global, drawn: &Ran, shown: &str, told: &mut Vec<u8>) {
     verify(alloc, &drawn.text, told);
 }
 
-/// The same for what words draw of what is given.
+/// Draws what is given by the words, and appends the drawing and what `verify` writes for it.
 pub fn judge(alloc: Global, words: &[String], given: &Given, told: &mut Vec<u8>) {
     judge_drawn(alloc, &run(alloc, words, given), given.shown.as_str(), told);
 }

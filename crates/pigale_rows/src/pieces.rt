@@ -105,7 +105,7 @@ fn put_map(alloc: Global, input: &mut Vec<u8>, wide: bool, family: &str, rest: &
     }
 }
 
-/// The same for a map that a line names.
+/// Appends the record of a map that a line names; answers whether there is one.
 fn put_named_map(alloc: Global, input: &mut Vec<u8>, word: &str, rest: &str) -> bool {
     if word == "wide" {
         let (family, rest) = halves(rest, "");

@@ -64,7 +64,7 @@ fn run_into(alloc: Global, words: &[String], source: &mut MemSource, sink: &mut 
     }
 }
 
-/// The same into a sink that takes and fails as a cut says; nothing is written where there is no memory for it.
+/// Runs words into a sink that takes and fails as a cut says; nothing is written where there is no memory for it.
 fn run_through(alloc: Global, words: &[String], source: &mut MemSource, writes: &Cut) -> Ran {
     match MemSink::with_room(alloc, ROOM, writes.most, &writes.failing) {
         Ok(mut sink) => run_into(alloc, words, source, &mut sink),
@@ -133,7 +133,7 @@ fn answer_lists(alloc: Global, lists: &Rotations, told: &mut Vec<u8>) {
     }
 }
 
-/// The same for the record that is given.
+/// Appends what `count` answers for the lists of the record that is given.
 pub fn answer(alloc: Global, given: &Given, told: &mut Vec<u8>) {
     match next_record(alloc, &given.input, 0) {
         Ok(Step::Lists(lists, _)) => answer_lists(alloc, &lists, told),

@@ -49,7 +49,7 @@ impl Table {
         }
     }
 
-    /// The same, and says so where there is no such line.
+    /// Does what a line says that gives something, and says so where there is no such line.
     fn set(&mut self, alloc: Global, word: &str, rest: &str, told: &mut Vec<u8>) {
         if !self.take(alloc, word, rest) {
             runs::put(b"no such line\n", told);

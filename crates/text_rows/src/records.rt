@@ -116,7 +116,7 @@ fn put_taken(
     Ok(())
 }
 
-// The same for pieces of each of these sizes.
+// Feeds the bytes in pieces of each of these sizes.
 fn put_by_sizes(alloc: Global, sizes: &[u16], bytes: &[u8], out: &mut String)
     requires { length bytes.now < 1000 }
 {
@@ -238,7 +238,7 @@ fn read_back(
     }
 }
 
-// The same for the record of lists, written behind the bytes of a text and before those of another.
+// Writes the record of `lists` between the bytes of two texts, and reads it back.
 fn write_and_read(alloc: Global, lists: &Rotations, args: &[&str], out: &mut String)
     requires some { 0 < length lists.now }
     requires few { length lists.now < 4096 }

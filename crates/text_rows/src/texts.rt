@@ -123,7 +123,7 @@ fn put_item(found: &Result<Item, TextFault>, out: &mut String) {
     }
 }
 
-// The same for a text that is read.
+// Reads a text, and writes what stands at its front.
 fn read(alloc: Global, bytes: &[u8], out: &mut String) {
     put_item(&read_figure(alloc, bytes, 0, 1), out);
 }
