@@ -1,8 +1,9 @@
 """Builds of the proved program for each system that it is released for.
 
-The gate keeps on the machine what it proved. A copy of the program's crates takes these libraries over in a minute, and
-`rattle build` proves and compiles the crate on top once for each target. What no gate proved is proved here, which
-takes long."""
+A copy of the program's crates takes over the libraries that the gate proved, and `rattle build` proves and compiles the
+crate on top once for each target. A kit that keeps on the machine what passed hands them over itself, in a minute, and
+proves what no gate did, which takes long. Of another kit the libraries are those that the gate left in out/; it fails
+where one is missing, or older than a source."""
 import os
 import re
 import shutil
@@ -35,6 +36,11 @@ def call(*words, cwd=None):
     return ran.stdout
 
 
+def keeps():
+    """Says whether the kit's gate keeps on the machine what it proved, and proves only what changed."""
+    return "--anew" in call("rt", "help")
+
+
 def listed():
     """Returns the lines of crates.txt by crate: the line, and the names behind its colon."""
     found = {}
@@ -55,6 +61,12 @@ def below(lines, names):
     return found
 
 
+def newest(folders):
+    """Returns the time at which the newest file below some folders was written."""
+    files = (f"{at}/{name}" for folder in folders for at, _, names in os.walk(folder) for name in names)
+    return max(map(os.path.getmtime, files), default=0)
+
+
 class Copy:
     """Has the crates at and below some, as the gate proves them, in a folder of its own, for a `with`."""
 
@@ -71,11 +83,27 @@ class Copy:
 
     def __enter__(self):
         try:
-            self.said = call("rt", "ci", cwd=self.folder)
+            if keeps():
+                call("rt", "ci", cwd=self.folder)
+            else:
+                self.take_over()
         except BaseException:
             self.__exit__()
             raise
         return self
+
+    def take_over(self):
+        """Copies what the gate left in out/ of each crate: the libraries, and the programs."""
+        for name in self.names:
+            sources = newest(f"{ROOT}/crates/{name}/{part}" for part in ("src", "specs", "proofs"))
+            library, program = (f"crates/{name}/out/{it}" for it in (f"rlib/{name}.rlib", name))
+            if os.path.isdir(f"{ROOT}/{library}") and newest([f"{ROOT}/{library}"]) > sources:
+                shutil.copytree(f"{ROOT}/{library}", f"{self.folder}/{library}")
+            elif os.path.isfile(f"{ROOT}/{program}") and os.path.getmtime(f"{ROOT}/{program}") > sources:
+                os.makedirs(os.path.dirname(f"{self.folder}/{program}"))
+                shutil.copy(f"{ROOT}/{program}", f"{self.folder}/{program}")
+            elif name != "pigale_c":
+                raise Failed(f"out/ of {name} has nothing newer than its sources: run the gate first")
 
     def __exit__(self, *_):
         shutil.rmtree(self.folder, ignore_errors=True)
