@@ -1,0 +1,8 @@
+-- What the laws rest on.
+pub mod Turns
+pub mod WayLemmas
+pub mod WayFaces
+pub mod ThreeWays
+pub mod Lines
+pub mod Forks
+mod Cases

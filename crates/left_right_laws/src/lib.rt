@@ -1,0 +1,25 @@
+//! What the left-right planarity test rests on: ways in a map of genus zero, and the sides on which edges
+//! return at the forks of a rooted forest. Each law is the contract of a function that does nothing, and
+//! speaks of all maps.
+#![tactic(auto)]
+
+ghost use Rattle.left_right_laws.specs.Forests.{ForkOrder, PlaneIsLeftRight};
+ghost use Rattle.left_right_laws.specs.Ways.{ThreeWays};
+
+/// Three ways between two vertices of a map of genus zero, which meet nowhere else, leave the one in an
+/// order exactly where they reach the other in the opposite order.
+pub fn three_ways()
+    ensures { ThreeWays }
+{}
+
+/// At a fork of a map of genus zero the order of its two edges tells on which side of the line up from it
+/// the edges end that return by them.
+pub fn fork_order()
+    ensures { ForkOrder }
+{}
+
+/// A graph that has a map of genus zero has, with each rooted forest, a partition of its returning edges
+/// into left and right.
+pub fn plane_is_left_right()
+    ensures { PlaneIsLeftRight }
+{}
