@@ -5,4 +5,6 @@ pub mod WayFaces
 pub mod ThreeWays
 pub mod Lines
 pub mod Forks
+pub mod Nested
+pub mod Tours
 mod Cases

@@ -4,6 +4,7 @@
 #![tactic(auto)]
 
 ghost use Rattle.left_right_laws.specs.Forests.{ForkOrder, PlaneIsLeftRight};
+ghost use Rattle.left_right_laws.specs.Tours.{NestedIsPlane};
 ghost use Rattle.left_right_laws.specs.Ways.{ThreeWays};
 
 /// Three ways between two vertices of a map of genus zero, which meet nowhere else, leave the one in an
@@ -22,4 +23,10 @@ pub fn fork_order()
 /// into left and right.
 pub fn plane_is_left_right()
     ensures { PlaneIsLeftRight }
+{}
+
+/// A connected map has genus zero where it has a tour along a spanning tree in which all other edges are
+/// nested.
+pub fn nested_is_plane()
+    ensures { NestedIsPlane }
 {}
