@@ -7,4 +7,6 @@ pub mod Lines
 pub mod Forks
 pub mod Nested
 pub mod Tours
+pub mod Crossings
 mod Cases
+mod Refused

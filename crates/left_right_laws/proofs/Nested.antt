@@ -5,13 +5,16 @@ use Rattle.std.proofs.lemmas.Bool.{cases_Bool, cases_lt, cases_eq, cond-true, co
 use Rattle.classes.specs.Classes.{count_below}
 use Rattle.classes.proofs.Counting.{count_below_not, count_below_split, count_below_into}
 
+-- no two pairs stand in turn
+abbrev pub ArePairsNested : ℕ → (ℕ → Bool) → (ℕ → ℕ) → Type 0
+ArePairsNested n single partner = (p q : ℕ) → p < n → q < n → single p ≡ false → single q ≡ false → p < q → q < partner p → ¬ (partner p < partner q)
+
 -- Each place below n is single, or has a partner there, whose partner it is.
 pub record IsPaired (n : ℕ) (single : ℕ → Bool) (partner : ℕ → ℕ) : Type 0 where
   pub within : (p : ℕ) → p < n → single p ≡ false → partner p < n
   pub both : (p : ℕ) → p < n → single p ≡ false → single (partner p) ≡ false
   pub back : (p : ℕ) → p < n → single p ≡ false → partner (partner p) ≡ p
   pub other : (p : ℕ) → p < n → single p ≡ false → partner p ≢ p
-  pub nested : (p q : ℕ) → p < n → q < n → single p ≡ false → single q ≡ false → p < q → q < partner p → ¬ (partner p < partner q)
 
 module _ (n : ℕ) (single : ℕ → Bool) (partner : ℕ → ℕ) (pairs : IsPaired n single partner) where
   -- the pair of l ends no earlier than g
@@ -79,8 +82,8 @@ module _ (n : ℕ) (single : ℕ → Bool) (partner : ℕ → ℕ) (pairs : IsPa
       ((λ a. omega (arith, a, ne)), (λ a. omega arith))))
 
   -- behind a pair it is as before it
-  pub mark_over : (p : ℕ) → p < n → single p ≡ false → p < partner p → mark (suc (partner p)) ≡ mark p
-  mark_over p m e first =
+  pub mark_over : ArePairsNested n single partner → (p : ℕ) → p < n → single p ≡ false → p < partner p → mark (suc (partner p)) ≡ mark p
+  mark_over nested p m e first =
       let q = partner p in
       let lq = pairs.within p m e in
       let back = pairs.back p m e in
@@ -91,7 +94,7 @@ module _ (n : ℕ) (single : ℕ → Bool) (partner : ℕ → ℕ) (pairs : IsPa
           | inl w ↦ (let w' = ap partner w in omega arith)
           | inr w ↦ elim (cases_eq i q) [
             | inl z ↦ (let z' = ap partner z in omega arith)
-            | inr z ↦ elim (cases_lt (partner i) (suc q)) [ inl t ↦ t | inr t ↦ absurd (pairs.nested p i m (omega arith) e s (omega arith) (omega arith) (omega arith)) ]
+            | inr z ↦ elim (cases_lt (partner i) (suc q)) [ inl t ↦ t | inr t ↦ absurd (nested p i m (omega arith) e s (omega arith) (omega arith) (omega arith)) ]
           ]
         ])
       ])
@@ -104,7 +107,7 @@ module _ (n : ℕ) (single : ℕ → Bool) (partner : ℕ → ℕ) (pairs : IsPa
             | inl w ↦ (let w' = ap partner w in absurd (omega arith))
             | inr w ↦ elim (cases_eq (partner i) q) [
               | inl z ↦ (let z' = ap partner z in absurd (omega arith))
-              | inr z ↦ absurd (pairs.nested i p li m s e l (omega arith) (omega arith))
+              | inr z ↦ absurd (nested i p li m s e l (omega arith) (omega arith))
             ]
           ]
         ]),
@@ -115,8 +118,8 @@ module _ (n : ℕ) (single : ℕ → Bool) (partner : ℕ → ℕ) (pairs : IsPa
   pub mark_begin : (q : ℕ) → q < n → single q ≡ false → q < partner q → mark (suc q) ≡ suc q
   mark_begin q m e first = innermost_here q (suc q) (reaches_so q (suc q) e first)
 
-  pub mark_end : (q : ℕ) → q < n → single q ≡ false → q < partner q → mark (partner q) ≡ suc q
-  mark_end q m e first =
+  pub mark_end : ArePairsNested n single partner → (q : ℕ) → q < n → single q ≡ false → q < partner q → mark (partner q) ≡ suc q
+  mark_end nested q m e first =
       let p = partner q in
       let lp = pairs.within q m e in
       innermost_below (suc q) p p first (λ i a b.
@@ -130,7 +133,7 @@ module _ (n : ℕ) (single : ℕ → Bool) (partner : ℕ → ℕ) (pairs : IsPa
               | inl t ↦ t
               | inr t ↦ elim (cases_eq (partner i) p) [
                 | inl w ↦ (let w' = ap partner w in absurd (omega arith))
-                | inr w ↦ absurd (pairs.nested q i m li e s a b (omega arith))
+                | inr w ↦ absurd (nested q i m li e s a b (omega arith))
               ]
             ])
       ])
@@ -177,6 +180,24 @@ module _ (n : ℕ) (single : ℕ → Bool) (partner : ℕ → ℕ) (pairs : IsPa
       let back = pairs.back p m e in
       (pairs.within p m e, ap₂ (λ b c. b && not c) (lt-ltb (partner p) (partner (partner p)) (omega arith)) (pairs.both p m e)))
       (λ p q m m' t t' same. sym (pairs.back p m (ends_so p t).1) ∙ (ap partner same ∙ pairs.back q m' (ends_so q t').1))
+
+  as_many' : count_below begins n ≤ count_below ends n
+  as_many' =
+      count_below_into partner begins ends n n
+      (λ p m t.
+      let so = begins_so p t in
+      let e = so.1 in
+      let high = so.0 in
+      let back = pairs.back p m e in
+      (pairs.within p m e, ap₂ (λ b c. not b && not c) (le-ltb (partner p) (partner (partner p)) (omega arith)) (pairs.both p m e)))
+      (λ p q m m' t t' same. sym (pairs.back p m (begins_so p t).1) ∙ (ap partner same ∙ pairs.back q m' (begins_so q t').1))
+
+  pub pair_count-le : count_below single n + (count_below begins n + count_below begins n) ≤ n
+  pair_count-le =
+      let a = count_below_not single n in
+      let b = count_below_split (λ p. not (single p)) (λ p. ltb p (partner p)) n in
+      let c = as_many' in
+      omega arith
 
   pub pair_count : n ≤ count_below single n + (count_below begins n + count_below begins n)
   pair_count =

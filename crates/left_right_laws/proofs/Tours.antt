@@ -7,10 +7,10 @@ use Rattle.map_theory.specs.Maps.{Dart, twin_dart, HasDart, IsSimpleMap, IsPlane
 use Rattle.map_theory.proofs.DartPermutations.{two_m}
 use Rattle.embed_surgery.specs.Marks.{KeepsFaces, HasMarks}
 use Rattle.embed_surgery.proofs.Marks.{genus_by_marks}
-use Rattle.left_right_laws.specs.Tours.{tour_step, IsTour, IsChord, AreNested, NestedIsPlane}
-use Rattle.left_right_laws.proofs.Nested.{IsPaired, mark, mark_single, mark_over, mark_begin, mark_end, mark_last, mark_first, pair_count, marked, marked_count, marked-mark}
+use Rattle.left_right_laws.specs.Tours.{tour_step, IsTour, IsChord, AreNested}
+use Rattle.left_right_laws.proofs.Nested.{IsPaired, ArePairsNested, mark, mark_single, mark_over, mark_begin, mark_end, mark_last, mark_first, pair_count, marked, marked_count, marked-mark}
 
-module _ (lists : Lists) (along : ℕ → ℕ → Bool) (at : ℕ → Dart) (place : Dart → ℕ) (simple : IsSimpleMap lists) (turned : (v u : ℕ) → along v u ≡ along u v) (tour : IsTour lists along at place) (nested : AreNested lists along place) where
+module _ (lists : Lists) (along : ℕ → ℕ → Bool) (at : ℕ → Dart) (place : Dart → ℕ) (simple : IsSimpleMap lists) (turned : (v u : ℕ) → along v u ≡ along u v) (tour : IsTour lists along at place) where
   abbrev n : ℕ
   n = dart_count lists
 
@@ -22,19 +22,19 @@ module _ (lists : Lists) (along : ℕ → ℕ → Bool) (at : ℕ → Dart) (pla
   abbrev pub partner : ℕ → ℕ
   partner p = place (twin_dart (at p))
 
-  has : (p : ℕ) → p < n → HasDart lists (at p).0 (at p).1
+  pub has : (p : ℕ) → p < n → HasDart lists (at p).0 (at p).1
   has p m = tour.darts p m
 
-  has_twin : (p : ℕ) → p < n → HasDart lists (at p).1 (at p).0
+  pub has_twin : (p : ℕ) → p < n → HasDart lists (at p).1 (at p).0
   has_twin p m = simple.both_ways (at p).0 (at p).1 (has p m)
 
-  partner_in : (p : ℕ) → p < n → partner p < n
+  pub partner_in : (p : ℕ) → p < n → partner p < n
   partner_in p m = tour.places (at p).1 (at p).0 (has_twin p m)
 
-  at_partner : (p : ℕ) → p < n → at (partner p) ≡ twin_dart (at p)
+  pub at_partner : (p : ℕ) → p < n → at (partner p) ≡ twin_dart (at p)
   at_partner p m = tour.there (at p).1 (at p).0 (has_twin p m)
 
-  partner_back : (p : ℕ) → p < n → partner (partner p) ≡ p
+  pub partner_back : (p : ℕ) → p < n → partner (partner p) ≡ p
   partner_back p m = ap (λ d. place (twin_dart d)) (at_partner p m) ∙ tour.back p m
 
   chord : (p : ℕ) → p < n → single p ≡ false → IsChord lists along (at p)
@@ -47,11 +47,13 @@ module _ (lists : Lists) (along : ℕ → ℕ → Bool) (at : ℕ → Dart) (pla
         both = λ p m e. ap (λ d. along d.0 d.1) (at_partner p m) ∙ (turned (at p).1 (at p).0 ∙ e);
         back = λ p m e. partner_back p m;
         other = λ p m e same. simple.no_loop (at p).0 (at p).1 (has p m) (ap (λ d. d.0) (sym (at_partner p m) ∙ ap at same));
-        nested = λ p q mp mq ep eq first next last.
-            let bp = tour.back p mp in
-            let bq = tour.back q mq in
-            nested (at p) (at q) (chord p mp ep) (chord q mq eq) (omega arith) (omega arith) last;
       }
+
+  pub pairs_nested : AreNested lists along place → ArePairsNested n single partner
+  pairs_nested nested p q mp mq ep eq first next last =
+      let bp = tour.back p mp in
+      let bq = tour.back q mq in
+      nested (at p) (at q) (chord p mp ep) (chord q mq eq) (omega arith) (omega arith) last
 
   -- the mark of a dart: the innermost chord round the corner before it
   abbrev M : ℕ → ℕ
@@ -71,10 +73,10 @@ module _ (lists : Lists) (along : ℕ → ℕ → Bool) (at : ℕ → Dart) (pla
       ]
 
   -- behind the partner of a chord's place the mark is that of the place
-  mark_chord : (p : ℕ) → p < n → single p ≡ false → M (suc (partner p)) ≡ M p
-  mark_chord p m e =
+  mark_chord : AreNested lists along place → (p : ℕ) → p < n → single p ≡ false → M (suc (partner p)) ≡ M p
+  mark_chord nested p m e =
       elim (cases_lt p (partner p)) [
-        | inl first ↦ mark_over n single partner paired p m e first
+        | inl first ↦ mark_over n single partner paired (pairs_nested nested) p m e first
         | inr last ↦
             let q = partner p in
             let lq = partner_in p m in
@@ -82,11 +84,11 @@ module _ (lists : Lists) (along : ℕ → ℕ → Bool) (at : ℕ → Dart) (pla
             let eq = paired.both p m e in
             let ne = paired.other p m e in
             let first : q < partner q = omega arith in
-            mark_begin n single partner paired q lq eq first ∙ (sym (mark_end n single partner paired q lq eq first) ∙ ap M back)
+            mark_begin n single partner paired q lq eq first ∙ (sym (mark_end n single partner paired (pairs_nested nested) q lq eq first) ∙ ap M back)
       ]
 
-  keeps_at : (p : ℕ) → p < n → mark_of (face_step lists (at p)) ≡ M p
-  keeps_at p m =
+  keeps_at : AreNested lists along place → (p : ℕ) → p < n → mark_of (face_step lists (at p)) ≡ M p
+  keeps_at nested p m =
       let d = at p in
       elim (cases_Bool (single p)) [
         | inl e ↦
@@ -97,13 +99,13 @@ module _ (lists : Lists) (along : ℕ → ℕ → Bool) (at : ℕ → Dart) (pla
             let c = twin_dart d in
             let off : along c.0 c.1 ≡ false = turned c.0 c.1 ∙ e in
             let step : tour_step along lists c ≡ face_step lists d = cond-false {A = Dart} (along c.0 c.1) (face_step lists c) (c.0, follows lists c.0 c.1) off in
-            ap mark_of (sym step) ∙ (ap (λ c. mark_of (tour_step along lists c)) (sym (at_partner p m)) ∙ (mark_next q (partner_in p m) ∙ mark_chord p m e))
+            ap mark_of (sym step) ∙ (ap (λ c. mark_of (tour_step along lists c)) (sym (at_partner p m)) ∙ (mark_next q (partner_in p m) ∙ mark_chord nested p m e))
       ]
 
-  keeps : KeepsFaces lists mark_of
-  keeps u v h =
+  keeps : AreNested lists along place → KeepsFaces lists mark_of
+  keeps nested u v h =
       let p = place (u, v) in
-      ap (λ d. mark_of (face_step lists d)) (sym (tour.there u v h)) ∙ keeps_at p (tour.places u v h)
+      ap (λ d. mark_of (face_step lists d)) (sym (tour.there u v h)) ∙ keeps_at nested p (tour.places u v h)
 
   abbrev test : ℕ → Bool
   test = marked n single partner paired
@@ -116,13 +118,9 @@ module _ (lists : Lists) (along : ℕ → ℕ → Bool) (at : ℕ → Dart) (pla
         marked = λ j m t. ap M (tour.back j m) ∙ marked-mark n single partner paired j m t;
       }
 
-  pub plane : 0 < n → component_count lists ≡ 1 → count_below single n + 2 ≡ 2 * vertex_count lists → IsPlane lists
-  plane some one tree =
+  pub plane : AreNested lists along place → 0 < n → component_count lists ≡ 1 → count_below single n + 2 ≡ 2 * vertex_count lists → IsPlane lists
+  plane nested some one tree =
       let pairs = pair_count n single partner paired in
       let faces = marked_count n single partner paired some in
       let m = two_m lists simple in
-      genus_by_marks lists mark_of n test simple keeps marks (omega arith)
-
--- THE LAW: nested chords
-pub nested_is_plane : NestedIsPlane
-nested_is_plane lists along at place simple some one turned tour tree nested = plane lists along at place simple turned tour nested some one tree
+      genus_by_marks lists mark_of n test simple (keeps nested) marks (omega arith)

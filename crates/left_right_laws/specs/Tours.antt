@@ -1,5 +1,5 @@
 -- Tours of a map along some of its edges, and chords that are nested in one.
-use Rattle.std.specs.Prelude.{ℕ, suc, ◌+◌, ◌*◌, ◌<◌, ◌≡◌, Bool, false, if◌then◌else◌}
+use Rattle.std.specs.Prelude.{ℕ, suc, ◌+◌, ◌*◌, ◌<◌, ◌≡◌, ◌↔◌, Bool, false, if◌then◌else◌}
 use Rattle.classes.specs.Classes.{count_below}
 use Rattle.map_lists.specs.Lists.{Lists}
 use Rattle.map_theory.specs.Maps.{Dart, twin_dart, HasDart, IsSimpleMap, IsPlane, follows, face_step, dart_count, vertex_count, component_count}
@@ -26,7 +26,7 @@ abbrev pub AreNested : Lists → (ℕ → ℕ → Bool) → (Dart → ℕ) → T
 AreNested lists along place =
     (d e : Dart) → IsChord lists along d → IsChord lists along e → place d < place e → place e < place (twin_dart d) → ¬ (place (twin_dart d) < place (twin_dart e))
 
--- A connected map has genus zero where it has a tour along n - 1 edges, which are a spanning tree, in which all other edges are nested.
-abbrev pub NestedIsPlane : Type 0
-NestedIsPlane =
-    (lists : Lists) (along : ℕ → ℕ → Bool) (at : ℕ → Dart) (place : Dart → ℕ) → IsSimpleMap lists → 0 < dart_count lists → component_count lists ≡ 1 → ((v u : ℕ) → along v u ≡ along u v) → IsTour lists along at place → count_below (λ p. along (at p).0 (at p).1) (dart_count lists) + 2 ≡ 2 * vertex_count lists → AreNested lists along place → IsPlane lists
+-- A connected map with a tour along n - 1 edges, which are a spanning tree, has genus zero exactly where all other edges are nested in it.
+abbrev pub PlaneByNesting : Type 0
+PlaneByNesting =
+    (lists : Lists) (along : ℕ → ℕ → Bool) (at : ℕ → Dart) (place : Dart → ℕ) → IsSimpleMap lists → 0 < dart_count lists → component_count lists ≡ 1 → ((v u : ℕ) → along v u ≡ along u v) → IsTour lists along at place → count_below (λ p. along (at p).0 (at p).1) (dart_count lists) + 2 ≡ 2 * vertex_count lists → IsPlane lists ↔ AreNested lists along place

@@ -4,7 +4,7 @@
 #![tactic(auto)]
 
 ghost use Rattle.left_right_laws.specs.Forests.{ForkOrder, PlaneIsLeftRight};
-ghost use Rattle.left_right_laws.specs.Tours.{NestedIsPlane};
+ghost use Rattle.left_right_laws.specs.Tours.{PlaneByNesting};
 ghost use Rattle.left_right_laws.specs.Ways.{ThreeWays};
 
 /// Three ways between two vertices of a map of genus zero, which meet nowhere else, leave the one in an
@@ -25,8 +25,8 @@ pub fn plane_is_left_right()
     ensures { PlaneIsLeftRight }
 {}
 
-/// A connected map has genus zero where it has a tour along a spanning tree in which all other edges are
-/// nested.
-pub fn nested_is_plane()
-    ensures { NestedIsPlane }
+/// A connected map with a tour along a spanning tree has genus zero exactly where all other edges are
+/// nested in it.
+pub fn plane_by_nesting()
+    ensures { PlaneByNesting }
 {}
