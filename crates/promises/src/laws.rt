@@ -14,6 +14,9 @@ ghost use Rattle.figure_verdicts.specs.Laws.{YesIsValidFigure};
 ghost use Rattle.graph6_text.specs.Laws.{OneGraph, OneLine};
 ghost use Rattle.grid_figures.specs.SchnyderFiguresLaws.{SomeSchnyderFigure};
 ghost use Rattle.grid_figures.specs.ShiftFiguresLaws.{SomeShiftFigure};
+ghost use Rattle.left_right_laws.specs.Forests.{ForkOrder, PlaneIsLeftRight};
+ghost use Rattle.left_right_laws.specs.Tours.{PlaneByNesting};
+ghost use Rattle.left_right_laws.specs.Ways.{ThreeWays};
 ghost use Rattle.map_theory.specs.Bound.{EulerBound};
 ghost use Rattle.pg_perm.specs.Law.{OneSwap};
 ghost use Rattle.pigale_words.specs.Spelling.{JobWords};
@@ -58,6 +61,38 @@ pub fn faces_merged()
     ensures { FacesMerged }
 {
     plane_laws::faces_merged();
+}
+
+/// Three ways between two vertices of a map of genus zero leave the one in the order opposite to that in which
+/// they reach the other.
+pub fn three_ways()
+    ensures { ThreeWays }
+{
+    left_right_laws::three_ways();
+}
+
+/// A connected map with a tour along a spanning tree has genus zero exactly where all other edges are nested in
+/// it.
+pub fn plane_by_nesting()
+    ensures { PlaneByNesting }
+{
+    left_right_laws::plane_by_nesting();
+}
+
+/// At a fork of a map of genus zero the order of its two edges tells on which side the edges end that return
+/// by them.
+pub fn fork_order()
+    ensures { ForkOrder }
+{
+    left_right_laws::fork_order();
+}
+
+/// A graph that has a map of genus zero has, with each rooted forest, a partition of its returning edges into
+/// left and right.
+pub fn plane_is_left_right()
+    ensures { PlaneIsLeftRight }
+{
+    left_right_laws::plane_is_left_right();
 }
 
 /// In every simple map n + f is at most 2c + m, by an even difference.
