@@ -1,11 +1,15 @@
 -- Statements that are wrong, though near those of the laws.
-use Rattle.std.proofs.Common.{◌≡◌, ◌≢◌, ℕ, ◌<◌, Bool, List, [], ◌∷◌, length, get_or, Contains, refl, sym, ◌∙◌, inl, inr, arith}
+use Rattle.std.proofs.Common.{◌≡◌, ◌≢◌, ℕ, zero, suc, ◌+◌, ◌*◌, ◌<◌, Bool, not, eqb, ltb, List, [], ◌∷◌, length, get_or, Contains, refl, sym, ap, ◌∙◌, subst, inl, inr, arith}
+use Rattle.std.specs.Prelude.{◌&&◌, ◌||◌}
+use Rattle.std.proofs.Math.Bool.{or_comm}
+use Rattle.classes.specs.Classes.{count_below, merge}
 use Rattle.map_lists.specs.Lists.{Lists}
-use Rattle.map_theory.specs.Maps.{IsSimpleMap, IsPlane, list_of, place_of}
+use Rattle.map_theory.specs.Maps.{Dart, HasDart, IsSimpleMap, IsPlane, list_of, place_of, entry_after, dart_count, vertex_count, face_count, component_count}
 use Rattle.map_theory.proofs.DartLemmas.{Contains-from_place_of, place_of-lt-length}
 use Rattle.simple_maps.specs.Faults.{first_fault}
 use Rattle.simple_maps.proofs.FaultLemmas.{IsSimpleMap-from_first_fault}
 use Rattle.left_right_laws.specs.Ways.{IsInTurn, first_on, last_on, AreThreeWays}
+use Rattle.left_right_laws.specs.Tours.{tour_step, IsTour}
 use Rattle.left_right_laws.specs.Forests.{IsReturn, IsLeftRight}
 use Rattle.left_right_laws.proofs.Turns.{turn_not_both}
 use Rattle.left_right_laws.proofs.ThreeWays.{three_ways}
@@ -46,6 +50,83 @@ any_genus : ((lists : Lists) (x y : ℕ) (us vs ws : List ℕ) → IsSimpleMap l
 any_genus wrong =
     let turn : IsInTurn (2 ∷ 3 ∷ 4 ∷ []) 2 3 4 = inl (omega arith, omega arith) in
     turn_not_both (2 ∷ 3 ∷ 4 ∷ []) 2 3 4 turn (wrong twisted 0 1 (2 ∷ []) (3 ∷ []) (4 ∷ []) simple three turn)
+
+-- K2,3 of genus one, with the tour along all its edges but those from 1 to 3 and 4, which cross in it
+abbrev chord : ℕ → ℕ → Bool
+chord v u = eqb v 1 && ltb 2 u
+
+abbrev along : ℕ → ℕ → Bool
+along v u = not (chord v u || chord u v)
+
+abbrev at : ℕ → Dart
+at p = get_or ((0, 2) ∷ (2, 1) ∷ (1, 3) ∷ (1, 4) ∷ (1, 2) ∷ (2, 0) ∷ (0, 3) ∷ (3, 1) ∷ (3, 0) ∷ (0, 4) ∷ (4, 1) ∷ (4, 0) ∷ []) p (0, 0)
+
+abbrev place : Dart → ℕ
+place d = get_or (get_or ((0 ∷ 0 ∷ 0 ∷ 6 ∷ 9 ∷ []) ∷ (0 ∷ 0 ∷ 4 ∷ 2 ∷ 3 ∷ []) ∷ (5 ∷ 1 ∷ []) ∷ (8 ∷ 7 ∷ []) ∷ (11 ∷ 10 ∷ []) ∷ []) d.0 []) d.1 0
+
+one_of_three : (P : ℕ → Type 0) (a b c x : ℕ) → Contains (a ∷ b ∷ c ∷ []) x → P a → P b → P c → P x
+one_of_three P a b c x (zero, l, e) p q r = subst P e p
+one_of_three P a b c x (suc zero, l, e) p q r = subst P e q
+one_of_three P a b c x (suc (suc zero), l, e) p q r = subst P e r
+one_of_three P a b c x (suc (suc (suc k)), l, e) p q r = absurd (omega arith)
+
+one_of_two : (P : ℕ → Type 0) (a b x : ℕ) → Contains (a ∷ b ∷ []) x → P a → P b → P x
+one_of_two P a b x (zero, l, e) p q = subst P e p
+one_of_two P a b x (suc zero, l, e) p q = subst P e q
+one_of_two P a b x (suc (suc k), l, e) p q = absurd (omega arith)
+
+each_dart : (P : ℕ → ℕ → Type 0) → P 0 2 → P 0 3 → P 0 4 → P 1 2 → P 1 3 → P 1 4 → P 2 0 → P 2 1 → P 3 0 → P 3 1 → P 4 0 → P 4 1 → (x y : ℕ) → HasDart twisted x y → P x y
+each_dart P a b c d e f g h i j k l zero y has = one_of_three (P 0) 2 3 4 y has.1 a b c
+each_dart P a b c d e f g h i j k l (suc zero) y has = one_of_three (P 1) 2 3 4 y has.1 d e f
+each_dart P a b c d e f g h i j k l (suc (suc zero)) y has = one_of_two (P 2) 0 1 y has.1 g h
+each_dart P a b c d e f g h i j k l (suc (suc (suc zero))) y has = one_of_two (P 3) 0 1 y has.1 i j
+each_dart P a b c d e f g h i j k l (suc (suc (suc (suc zero)))) y has = one_of_two (P 4) 0 1 y has.1 k l
+each_dart P a b c d e f g h i j k l (suc (suc (suc (suc (suc x))))) y has = let m = has.0 in absurd (omega arith)
+
+each_place : (P : ℕ → Type 0) → P 0 → P 1 → P 2 → P 3 → P 4 → P 5 → P 6 → P 7 → P 8 → P 9 → P 10 → P 11 → (p : ℕ) → p < 12 → P p
+each_place P a b c d e f g h i j k l zero m = a
+each_place P a b c d e f g h i j k l (suc zero) m = b
+each_place P a b c d e f g h i j k l (suc (suc zero)) m = c
+each_place P a b c d e f g h i j k l (suc (suc (suc zero))) m = d
+each_place P a b c d e f g h i j k l (suc (suc (suc (suc zero)))) m = e
+each_place P a b c d e f g h i j k l (suc (suc (suc (suc (suc zero))))) m = f
+each_place P a b c d e f g h i j k l (suc (suc (suc (suc (suc (suc zero)))))) m = g
+each_place P a b c d e f g h i j k l (suc (suc (suc (suc (suc (suc (suc zero))))))) m = h
+each_place P a b c d e f g h i j k l (suc (suc (suc (suc (suc (suc (suc (suc zero)))))))) m = i
+each_place P a b c d e f g h i j k l (suc (suc (suc (suc (suc (suc (suc (suc (suc zero))))))))) m = j
+each_place P a b c d e f g h i j k l (suc (suc (suc (suc (suc (suc (suc (suc (suc (suc zero)))))))))) m = k
+each_place P a b c d e f g h i j k l (suc (suc (suc (suc (suc (suc (suc (suc (suc (suc (suc zero))))))))))) m = l
+each_place P a b c d e f g h i j k l (suc (suc (suc (suc (suc (suc (suc (suc (suc (suc (suc (suc p)))))))))))) m = absurd (omega arith)
+
+twisted_dart : (v u : ℕ) → v < 5 → place_of u (list_of twisted v) < length (list_of twisted v) → HasDart twisted v u
+twisted_dart v u l m = (l, has (list_of twisted v) u m)
+
+tour : IsTour twisted along at place
+unfolding entry_after
+tour =
+    record {
+      darts = each_place (λ p. HasDart twisted (at p).0 (at p).1)
+          (twisted_dart 0 2 (omega arith) (omega arith)) (twisted_dart 2 1 (omega arith) (omega arith)) (twisted_dart 1 3 (omega arith) (omega arith)) (twisted_dart 1 4 (omega arith) (omega arith)) (twisted_dart 1 2 (omega arith) (omega arith)) (twisted_dart 2 0 (omega arith) (omega arith))
+          (twisted_dart 0 3 (omega arith) (omega arith)) (twisted_dart 3 1 (omega arith) (omega arith)) (twisted_dart 3 0 (omega arith) (omega arith)) (twisted_dart 0 4 (omega arith) (omega arith)) (twisted_dart 4 1 (omega arith) (omega arith)) (twisted_dart 4 0 (omega arith) (omega arith));
+      places = each_dart (λ v u. place (v, u) < 12) (omega arith) (omega arith) (omega arith) (omega arith) (omega arith) (omega arith) (omega arith) (omega arith) (omega arith) (omega arith) (omega arith) (omega arith);
+      there = each_dart (λ v u. at (place (v, u)) ≡ (v, u)) refl refl refl refl refl refl refl refl refl refl refl refl;
+      back = each_place (λ p. place (at p) ≡ p) refl refl refl refl refl refl refl refl refl refl refl refl;
+      next = λ p l. each_place (λ p. suc p < 12 → tour_step along twisted (at p) ≡ at (suc p)) (λ _. refl) (λ _. refl) (λ _. refl) (λ _. refl) (λ _. refl) (λ _. refl) (λ _. refl) (λ _. refl) (λ _. refl) (λ _. refl) (λ _. refl) (λ m. absurd (omega arith)) p (omega arith) l;
+      round = λ p e. let last : p ≡ 11 = omega arith in ap (λ p. tour_step along twisted (at p)) last;
+    }
+
+one_part : component_count twisted ≡ 1
+unfolding component_count merge
+one_part = refl
+
+not_plane : ¬ IsPlane twisted
+unfolding entry_after merge face_count component_count
+not_plane e = omega (arith, e)
+
+-- the law of tours for chords that may cross
+crossing_chords : ((lists : Lists) (along : ℕ → ℕ → Bool) (at : ℕ → Dart) (place : Dart → ℕ) → IsSimpleMap lists → 0 < dart_count lists → component_count lists ≡ 1 → ((v u : ℕ) → along v u ≡ along u v) → IsTour lists along at place → count_below (λ p. along (at p).0 (at p).1) (dart_count lists) + 2 ≡ 2 * vertex_count lists → IsPlane lists) → ⊥
+crossing_chords wrong =
+    not_plane (wrong twisted along at place simple (omega arith) one_part (λ v u. ap not (or_comm (chord v u) (chord u v))) tour refl)
 
 -- K5 without the edge between 3 and 4, with both under 2: the vertices above are 0 and 1
 abbrev parent : ℕ → ℕ

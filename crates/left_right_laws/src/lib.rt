@@ -1,6 +1,6 @@
-//! What the left-right planarity test rests on: ways in a map of genus zero, and the sides on which edges
-//! return at the forks of a rooted forest. Each law is the contract of a function that does nothing, and
-//! speaks of all maps.
+//! What the left-right planarity test rests on: ways in a map of genus zero, tours along a spanning tree, and
+//! the sides on which edges return at the forks of a rooted forest. Each law is the contract of a function
+//! that does nothing, and speaks of all maps.
 #![tactic(auto)]
 
 ghost use Rattle.left_right_laws.specs.Forests.{ForkOrder, PlaneIsLeftRight};
