@@ -36,23 +36,28 @@ drafted Rects lines =
     }
 drafted (Witness kind) lines = record { lists = of_lines (vertices_from 1) lines; points = []; y = []; x1 = []; x2 = []; y2 = [] }
 
--- one line more, by its words
-abbrev pub with_row : Kind → Draft → List Word → Draft
-with_row (Grid job) draft words =
-    record draft { lists = draft.lists ++ vertices_from 4 words ∷ []; points = draft.points ++ point_of words ∷ [] }
-with_row Bars draft words =
+-- how many words stand before the vertices of a line
+abbrev pub front_length : Kind → ℕ
+front_length (Grid job) = 4
+front_length Bars = 6
+front_length Rects = 7
+front_length (Witness kind) = 1
+
+-- the numbers before the vertices of one line more, by its words
+abbrev pub with_numbers : Kind → Draft → List Word → Draft
+with_numbers (Grid job) draft words = record draft { points = draft.points ++ point_of words ∷ [] }
+with_numbers Bars draft words =
+    record draft { y = draft.y ++ integer_in 2 words ∷ []; x1 = draft.x1 ++ integer_in 4 words ∷ []; x2 = draft.x2 ++ integer_in 5 words ∷ [] }
+with_numbers Rects draft words =
     record draft {
-      lists = draft.lists ++ vertices_from 6 words ∷ [];
-      y = draft.y ++ integer_in 2 words ∷ [];
-      x1 = draft.x1 ++ integer_in 4 words ∷ [];
-      x2 = draft.x2 ++ integer_in 5 words ∷ [];
-    }
-with_row Rects draft words =
-    record draft {
-      lists = draft.lists ++ vertices_from 7 words ∷ [];
       y = draft.y ++ integer_in 5 words ∷ [];
       x1 = draft.x1 ++ integer_in 2 words ∷ [];
       x2 = draft.x2 ++ integer_in 3 words ∷ [];
       y2 = draft.y2 ++ integer_in 6 words ∷ [];
     }
-with_row (Witness kind) draft words = record draft { lists = draft.lists ++ vertices_from 1 words ∷ [] }
+with_numbers (Witness kind) draft words = draft
+
+-- one line more, by its words
+abbrev pub with_row : Kind → Draft → List Word → Draft
+with_row kind draft words =
+    record (with_numbers kind draft words) { lists = draft.lists ++ vertices_from (front_length kind) words ∷ [] }

@@ -2,13 +2,21 @@
 use Rattle.std.specs.Prelude.{ℕ, false, ◌+◌, ◌≡◌, ◌≤◌, IsTrue, List, ◌∷◌, length}
 use Rattle.figure_text.specs.declared.words.Digits.{Digits}
 use Rattle.figure_text.specs.declared.words.Word.{Word}
-use Rattle.figure_text.specs.declared.words.Word.TheVariants.{Number}
-use Rattle.figure_text.specs.Words.{words_left}
+use Rattle.figure_text.specs.declared.words.Word.TheVariants.{Number, Closing, Named}
+use Rattle.figure_text.specs.declared.words.Name.TheVariants.{At}
+use Rattle.figure_text.specs.declared.plain.GridFront.{GridFront}
+use Rattle.figure_text.specs.Words.{words_left, words_of}
 use Rattle.figure_text.specs.Lines.{is_natural, is_number, IsInside, IsVertex}
 
 -- the words from a place on begin with this number
 pub record IsPlainAt (line : List ℕ) (at : ℕ) (digits : Digits) : Type 0 where
   pub words : words_left line at ≡ Number (record { negative = false; size = digits.value }) ∷ words_left line (digits.end + 1)
+  pub order : at ≤ digits.end
+  pub within : digits.end ≤ length line
+
+-- the words from a place on begin with this number before a colon
+pub record IsClosingAt (line : List ℕ) (at : ℕ) (digits : Digits) : Type 0 where
+  pub words : words_left line at ≡ Closing (record { negative = false; size = digits.value }) ∷ words_left line (digits.end + 1)
   pub order : at ≤ digits.end
   pub within : digits.end ≤ length line
 
@@ -30,3 +38,15 @@ pub record IsCoordinateAt (line : List ℕ) (at : ℕ) (digits : Digits) : Type 
 -- a word that is a number within the range of coordinates
 abbrev pub IsCoordinateWord : Word → Type 0
 IsCoordinateWord word = IsTrue (is_number word) × IsInside word
+
+-- the words from a place on begin with these coordinates
+pub record AreCoordinatesAt (line : List ℕ) (at : ℕ) (front : GridFront) : Type 0 where
+  pub words : words_left line at ≡ Number (record { negative = false; size = front.x }) ∷ Closing (record { negative = false; size = front.y }) ∷ words_left line front.end
+  pub x : front.x ≤ 1048576
+  pub y : front.y ≤ 1048576
+
+-- The line of a vertex of a straight-line drawing begins with its place and these coordinates.
+pub record IsGridFront (line : List ℕ) (place : ℕ) (front : GridFront) : Type 0 where
+  pub words : words_of line ≡ Number (record { negative = false; size = place }) ∷ Named At ∷ Number (record { negative = false; size = front.x }) ∷ Closing (record { negative = false; size = front.y }) ∷ words_left line front.end
+  pub x : front.x ≤ 1048576
+  pub y : front.y ≤ 1048576

@@ -5,6 +5,7 @@ ghost use Rattle.std.specs.Bool.{OnTrue};
 ghost use Rattle.figure_text.specs.Reading.{Judges, IsRow, RowInRange};
 ghost use Rattle.kuratowski.specs.Witnesses.{branch_count, pairs_of};
 ghost use Rattle.figure_text.specs.Words.{word_at};
+ghost use Rattle.figure_text.specs.Drafts.{front_length as front_words};
 ghost use Rattle.figure_text.specs.Lines.{size, is_natural, is_number, is_closing, kind_of, subdivided_of, rows_due, row_name, is_row_length, IsInside, IsVertex, IsPlaced, IsWitnessRow, WitnessInRange, IsGridHead, IsGridLine, GridInRange, IsBarHead, IsBarLine, BarsInRange, IsRectHead, IsRectLine, RectsInRange, IsColumnsLine, ColumnsInRange};
 
 use crate::GridJob;
@@ -186,14 +187,11 @@ fn is_grid_in_range(words: &[Word]) -> bool
     is_inside(word(words, 2)) && is_inside(word(words, 3)) && are_vertices(words, 4)
 }
 
-/// Whether words are the front of such a line, with coordinates.
-pub fn is_grid_front(words: &[Word], place: usize) -> bool
-    ensures { OnTrue result ((length words.now ≡ 4) × IsGridHead place words.now × IsInside (word_at words.now 2) × IsInside (word_at words.now 3)) }
+// Whether words have the shape and the ranges of what stands before the neighbours of such a line.
+fn is_grid_front(words: &[Word], place: usize) -> bool
+    ensures { OnTrue result (IsGridHead place words.now × IsInside (word_at words.now 2) × IsInside (word_at words.now 3)) }
 {
-    words.len() == 4
-        && is_grid_head(words, place)
-        && is_inside(word(words, 2))
-        && is_inside(word(words, 3))
+    is_grid_head(words, place) && is_inside(word(words, 2)) && is_inside(word(words, 3))
 }
 
 // Whether a line begins as one of a visibility drawing.
@@ -387,6 +385,39 @@ pub fn judged_row(kind: Kind, place: usize, words: &[Word]) -> Judged
         Kind::Rects => worth(is_rect_line(words, place), is_rect_in_range(words)),
         Kind::Witness(kind) => worth(is_witness_row(kind, words, place), are_vertices(words, 1)),
     }
+}
+
+/// Returns how many words stand before the vertices of a line.
+pub fn front_length(kind: Kind) -> usize
+    ensures { result ≡ front_words kind }
+{
+    match kind {
+        Kind::Grid(_) => 4,
+        Kind::Bars => 6,
+        Kind::Rects => 7,
+        Kind::Witness(_) => 1,
+    }
+}
+
+// Whether words have the shape and the ranges of the front of a line.
+#[inline(always)]
+fn is_good_front(kind: Kind, place: usize, words: &[Word]) -> bool
+    ensures { IsTrue result → length words.now ≡ front_words kind → IsRow kind place words.now × RowInRange kind words.now }
+{
+    match kind {
+        Kind::Grid(_) => is_grid_front(words, place),
+        Kind::Bars => is_bar_line(words, place) && is_bar_in_range(words),
+        Kind::Rects => is_rect_line(words, place) && is_rect_in_range(words),
+        Kind::Witness(_) => false,
+    }
+}
+
+/// Whether words are all that stands before the vertices of the line of a vertex, in their shape and ranges.
+#[inline(always)]
+pub fn is_front(kind: Kind, place: usize, words: &[Word]) -> bool
+    ensures { OnTrue result ((length words.now ≡ front_words kind) × IsRow kind place words.now × RowInRange kind words.now) }
+{
+    words.len() == front_length(kind) && is_good_front(kind, place, words)
 }
 
 /// What the line of the columns is worth.

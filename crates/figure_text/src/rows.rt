@@ -1,13 +1,14 @@
 //! The lines of a figure's vertices, one by one.
-ghost use Rattle.std.specs.Prelude.{◌≡◌, ◌++◌, [], ◌∷◌, false, map, All, OnOk, IfOk, IfSome};
+ghost use Rattle.std.specs.Prelude.{◌≡◌, ◌≤◌, ◌++◌, [], ◌∷◌, pos, false, map, All, OnOk, IfOk, IfSome};
 ghost use Rattle.std.specs.Bool.{OnTrue};
-ghost use Rattle.figure_text.specs.Words.{words_of};
-ghost use Rattle.figure_text.specs.Lines.{vertex_of, signed_value, integer_of, IsVertex, IsGridLine, GridInRange, BarsInRange, RectsInRange, WitnessInRange};
-ghost use Rattle.figure_text.specs.Reading.{Judges, IsRow, RowInRange, point_of, vertices_from};
-ghost use Rattle.figure_text.specs.Drafts.{integer_in, with_row};
+ghost use Rattle.figure_text.specs.Words.{words_of, words_left};
+ghost use Rattle.figure_text.specs.Plain.{IsNeighbour};
+ghost use Rattle.figure_text.specs.Lines.{vertex_of, signed_value, integer_of, IsVertex};
+ghost use Rattle.figure_text.specs.Reading.{Judges, IsRow, RowInRange, point_of};
+ghost use Rattle.figure_text.specs.Drafts.{integer_in, with_numbers, with_row};
 
-use crate::judge::{Judged, Kind, MOST, behind, is_grid_front, judged_row, size_of, word};
-use crate::plain::push_plain;
+use crate::judge::{Judged, Kind, MOST, behind, front_length, is_front, judged_row, size_of, word};
+use crate::plain::{GridFront, front_point, grid_front, push_plain};
 use crate::words::{Signed, Word, fill_front, fill_known};
 use map_lists::Rotations;
 use pg_plane::{Ints, Point, Points};
@@ -87,87 +88,81 @@ fn point(words: &[Word]) -> Point
     }
 }
 
-// Appends what the line of a vertex of a straight-line drawing gives.
-fn push_grid(words: &[Word], draft: &mut Draft) -> Result<(), AllocError>
-    requires { GridInRange words.now }
-    ensures { OnOk result (draft.new ≡ record draft.old { lists = draft.old.lists ++ vertices_from 4 words.now ∷ []; points = draft.old.points ++ point_of words.now ∷ [] }) }
+// Appends the numbers that stand before the vertices of a line.
+#[inline(always)]
+fn push_numbers(kind: Kind, words: &[Word], draft: &mut Draft) -> Result<(), AllocError>
+    ensures { OnOk result (draft.new ≡ with_numbers kind draft.old words.now) }
 {
-    push_vertices(behind(words, 4), &mut draft.lists)?;
-    draft.points.push(point(words))?;
+    match kind {
+        Kind::Grid(_) => draft.points.push(point(words))?,
+        Kind::Bars => {
+            draft.y.push(integer_at(words, 2))?;
+            draft.x1.push(integer_at(words, 4))?;
+            draft.x2.push(integer_at(words, 5))?;
+        }
+        Kind::Rects => {
+            draft.x1.push(integer_at(words, 2))?;
+            draft.x2.push(integer_at(words, 3))?;
+            draft.y.push(integer_at(words, 5))?;
+            draft.y2.push(integer_at(words, 6))?;
+        }
+        Kind::Witness(_) => {}
+    }
     Ok(())
 }
 
-// Appends what the line of a vertex of a visibility drawing gives.
-fn push_bars(words: &[Word], draft: &mut Draft) -> Result<(), AllocError>
-    requires { BarsInRange words.now }
-    ensures { OnOk result (draft.new ≡ record draft.old { lists = draft.old.lists ++ vertices_from 6 words.now ∷ []; y = draft.old.y ++ integer_in 2 words.now ∷ []; x1 = draft.old.x1 ++ integer_in 4 words.now ∷ []; x2 = draft.old.x2 ++ integer_in 5 words.now ∷ [] }) }
-{
-    push_vertices(behind(words, 6), &mut draft.lists)?;
-    draft.y.push(integer_at(words, 2))?;
-    draft.x1.push(integer_at(words, 4))?;
-    draft.x2.push(integer_at(words, 5))?;
-    Ok(())
-}
-
-// Appends what the line of a vertex of a rectangular dual gives.
-fn push_rects(words: &[Word], draft: &mut Draft) -> Result<(), AllocError>
-    requires { RectsInRange words.now }
-    ensures { OnOk result (draft.new ≡ record draft.old { lists = draft.old.lists ++ vertices_from 7 words.now ∷ []; y = draft.old.y ++ integer_in 5 words.now ∷ []; x1 = draft.old.x1 ++ integer_in 2 words.now ∷ []; x2 = draft.old.x2 ++ integer_in 3 words.now ∷ []; y2 = draft.old.y2 ++ integer_in 6 words.now ∷ [] }) }
-{
-    push_vertices(behind(words, 7), &mut draft.lists)?;
-    draft.x1.push(integer_at(words, 2))?;
-    draft.x2.push(integer_at(words, 3))?;
-    draft.y.push(integer_at(words, 5))?;
-    draft.y2.push(integer_at(words, 6))?;
-    Ok(())
-}
-
-// Appends what a line of branches or of a path gives.
-fn push_list(words: &[Word], draft: &mut Draft) -> Result<(), AllocError>
-    requires { WitnessInRange words.now }
-    ensures { OnOk result (draft.new ≡ record draft.old { lists = draft.old.lists ++ vertices_from 1 words.now ∷ [] }) }
-{
-    push_vertices(behind(words, 1), &mut draft.lists)?;
-    Ok(())
-}
-
-// Appends what the line of a vertex gives.
+// Appends what the words of a line give.
 fn push_row(kind: Kind, words: &[Word], draft: &mut Draft) -> Result<(), AllocError>
     requires { RowInRange kind words.now }
     ensures { OnOk result (draft.new ≡ with_row kind draft.old words.now) }
 {
-    match kind {
-        Kind::Grid(_) => push_grid(words, draft),
-        Kind::Bars => push_bars(words, draft),
-        Kind::Rects => push_rects(words, draft),
-        Kind::Witness(_) => push_list(words, draft),
-    }
+    push_vertices(behind(words, front_length(kind)), &mut draft.lists)?;
+    push_numbers(kind, words, draft)
 }
 
-// Appends what the line of a vertex of a straight-line drawing gives, and says whether it is found good: its neighbours
+// Appends what the line of a vertex of a straight-line drawing gives, by its front, and says whether its neighbours are
+// written plainly. Where they are not, the draft is as it was.
+#[inline(always)]
+fn push_grid(front: GridFront, line: &[u8], draft: &mut Draft) -> Result<bool, AllocError>
+    requires x { front.x ≤ 1048576 }
+    requires y { front.y ≤ 1048576 }
+    ensures good { IfOk result (λ good. OnTrue good (All (λ w. IsNeighbour w) (words_left line.now front.end)
+        × (draft.new ≡ record draft.old { lists = draft.old.lists ++ map vertex_of (words_left line.now front.end) ∷ []; points = draft.old.points ++ record { x = pos front.x; y = pos front.y } ∷ [] }))) }
+    ensures bad { IfOk result (λ good. good ≡ false → draft.new ≡ draft.old) }
+{
+    if !push_plain(line, front.end, &mut draft.lists)? {
+        return Ok(false);
+    }
+    draft.points.push(front_point(front))?;
+    Ok(true)
+}
+
+// Appends what the line of a vertex gives, by the words of its front, and says whether it is found good: its neighbours
 // are written plainly, and are not kept as words. Where it is not, the draft is as it was.
-fn quick_grid(
+fn push_by_words(
     found: &mut Vec<Word>,
+    kind: Kind,
     place: usize,
     line: &[u8],
     draft: &mut Draft,
 ) -> Result<bool, AllocError>
-    ensures good { IfOk result (λ good. OnTrue good (IsGridLine place (words_of line.now) × GridInRange (words_of line.now)
-        × (draft.new ≡ record draft.old { lists = draft.old.lists ++ vertices_from 4 (words_of line.now) ∷ []; points = draft.old.points ++ point_of (words_of line.now) ∷ [] }))) }
+    ensures good { IfOk result (λ good. OnTrue good (IsRow kind place (words_of line.now) × RowInRange kind (words_of line.now)
+        × (draft.new ≡ with_row kind draft.old (words_of line.now)))) }
     ensures bad { IfOk result (λ good. good ≡ false → draft.new ≡ draft.old) }
 {
-    let at = fill_front(line, 4, found)?;
-    if !is_grid_front(found, place) {
+    let at = fill_front(line, front_length(kind), found)?;
+    if !is_front(kind, place, found) {
         return Ok(false);
     }
     if !push_plain(line, at, &mut draft.lists)? {
         return Ok(false);
     }
-    draft.points.push(point(found))?;
+    push_numbers(kind, found, draft)?;
     Ok(true)
 }
 
-// The same of any line of a vertex, where there is a quick way.
+// Appends what the line of a vertex gives, like `push_by_words`, and reads no words where all its numbers are written
+// plainly.
 fn quick_row(
     found: &mut Vec<Word>,
     kind: Kind,
@@ -180,8 +175,14 @@ fn quick_row(
     ensures bad { IfOk result (λ good. good ≡ false → draft.new ≡ draft.old) }
 {
     match kind {
-        Kind::Grid(_) => quick_grid(found, place, line, draft),
-        _ => Ok(false),
+        Kind::Grid(_) => match grid_front(line, place) {
+            Some(front) => {
+                let good = push_grid(front, line, draft)?;
+                Ok(good)
+            }
+            None => push_by_words(found, kind, place, line, draft),
+        },
+        _ => push_by_words(found, kind, place, line, draft),
     }
 }
 

@@ -1,8 +1,8 @@
 //! The words of a line.
-ghost use Rattle.std.specs.Prelude.{◌≡◌, ◌↔◌, ◌<◌, ◌≤◌, ◌-◌, ◌+◌, ◌*◌, ◌++◌, true, take, drop, Some, length, min, option_map, bytes_eq, map, ◌==◌, ◌&&◌, ◌≢◌, ℕ, nat_lt, slice_index, IsTrue, IfOk, IfSome, MatchOption, All};
+ghost use Rattle.std.specs.Prelude.{◌≡◌, ◌↔◌, ◌<◌, ◌≤◌, ◌-◌, ◌+◌, ◌*◌, ◌++◌, ◌∷◌, true, take, drop, Some, length, min, option_map, bytes_eq, map, ◌==◌, ◌&&◌, ◌≢◌, ℕ, nat_lt, slice_index, IsTrue, IfOk, IfSome, MatchOption, All};
 ghost use Rattle.std.specs.Bool.{OnTrue, OnFalse};
 ghost use Rattle.std.specs.List.{slice_split};
-ghost use Rattle.figure_text.specs.Plain.{IsPlainAt};
+ghost use Rattle.figure_text.specs.Plain.{IsPlainAt, IsClosingAt};
 ghost use Rattle.figure_text.specs.Words.{far, is_digit, words_left, decimal_from, number_of, signed_of, plus, minus, word_of as word_meant, words_of, numeral_word, closing_of, HasOther};
 
 use crate::decimals::{decimal_number, is_canonical, is_digit_byte};
@@ -187,14 +187,26 @@ fn is_low(word: &[u8]) -> bool
     }
 }
 
-// What a word is.
-fn word_of(word: &[u8]) -> Word
+// What a word is that may be any.
+fn other_word(word: &[u8]) -> Word
     ensures { result ≡ word_meant word.now }
 {
     if is_low(word) {
         numeral(word)
     } else {
         named(word)
+    }
+}
+
+// What a word is. The words within the lines of vertices are told first.
+fn word_of(word: &[u8]) -> Word
+    ensures { result ≡ word_meant word.now }
+{
+    match word {
+        [b'x'] => Word::Named(Name::X),
+        [b'y'] => Word::Named(Name::Y),
+        [b'a', b't'] => Word::Named(Name::At),
+        _ => other_word(word),
     }
 }
 
@@ -331,6 +343,36 @@ pub fn plain_at(line: &[u8], at: usize) -> Option<Digits>
         }
     }
     None
+}
+
+/// Returns the number before a colon that begins at `at`, where it has no minus and at most eight digits; its `end` is the
+/// place after the colon.
+#[inline(always)]
+pub fn closing_at(line: &[u8], at: usize) -> Option<Digits>
+    ensures { IfSome result (IsClosingAt line.now at) }
+{
+    if line.len() < at {
+        return None;
+    }
+    let digits = digits_from(line, at);
+    if is_canonical(&line[at..digits.end]) {
+        if closes_at(line, digits.end) {
+            return Some(Digits {
+                value: digits.value,
+                end: digits.end + 1,
+            });
+        }
+    }
+    None
+}
+
+/// Says whether the word `at` begins at a place of the line, with a space after it.
+#[inline(always)]
+pub fn is_word_at(line: &[u8], at: usize) -> bool
+    requires { at ≤ length line.now }
+    ensures { IsTrue result → words_left line.now at ≡ Word.Named Name.At ∷ words_left line.now (at + 3) }
+{
+    at + 2 < line.len() && line[at] == b'a' && line[at + 1] == b't' && line[at + 2] == b' '
 }
 
 /// Fills a vector with the first words of a line, which stand between its spaces: as many as are asked for, or as there
