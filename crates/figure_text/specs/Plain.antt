@@ -3,8 +3,9 @@ use Rattle.std.specs.Prelude.{ℕ, false, ◌+◌, ◌≡◌, ◌≤◌, IsTrue,
 use Rattle.figure_text.specs.declared.words.Digits.{Digits}
 use Rattle.figure_text.specs.declared.words.Word.{Word}
 use Rattle.figure_text.specs.declared.words.Word.TheVariants.{Number, Closing, Named}
-use Rattle.figure_text.specs.declared.words.Name.TheVariants.{At}
+use Rattle.figure_text.specs.declared.words.Name.TheVariants.{At, X, Y}
 use Rattle.figure_text.specs.declared.plain.GridFront.{GridFront}
+use Rattle.figure_text.specs.declared.plain.BarFront.{BarFront}
 use Rattle.figure_text.specs.Words.{words_left, words_of}
 use Rattle.figure_text.specs.Lines.{is_natural, is_number, IsInside, IsVertex}
 
@@ -50,3 +51,17 @@ pub record IsGridFront (line : List ℕ) (place : ℕ) (front : GridFront) : Typ
   pub words : words_of line ≡ Number (record { negative = false; size = place }) ∷ Named At ∷ Number (record { negative = false; size = front.x }) ∷ Closing (record { negative = false; size = front.y }) ∷ words_left line front.end
   pub x : front.x ≤ 1048576
   pub y : front.y ≤ 1048576
+
+-- the words from a place on begin with this height, and with these ends after the letter x
+pub record IsHighBarAt (line : List ℕ) (at : ℕ) (front : BarFront) : Type 0 where
+  pub words : words_left line at ≡ Number (record { negative = false; size = front.y }) ∷ Named X ∷ Number (record { negative = false; size = front.x1 }) ∷ Closing (record { negative = false; size = front.x2 }) ∷ words_left line front.end
+  pub y : front.y ≤ 1048576
+  pub x1 : front.x1 ≤ 1048576
+  pub x2 : front.x2 ≤ 1048576
+
+-- The line of a vertex of a visibility drawing begins with its place, this height and these ends.
+pub record IsBarFront (line : List ℕ) (place : ℕ) (front : BarFront) : Type 0 where
+  pub words : words_of line ≡ Number (record { negative = false; size = place }) ∷ Named Y ∷ Number (record { negative = false; size = front.y }) ∷ Named X ∷ Number (record { negative = false; size = front.x1 }) ∷ Closing (record { negative = false; size = front.x2 }) ∷ words_left line front.end
+  pub y : front.y ≤ 1048576
+  pub x1 : front.x1 ≤ 1048576
+  pub x2 : front.x2 ≤ 1048576

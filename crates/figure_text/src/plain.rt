@@ -3,9 +3,9 @@ ghost use Rattle.std.specs.Prelude.{◌≡◌, pos, ◌++◌, ◌∷◌, ◌-◌
 ghost use Rattle.std.specs.Bool.{OnTrue};
 ghost use Rattle.figure_text.specs.Words.{words_left};
 ghost use Rattle.figure_text.specs.Lines.{vertex_of, integer_of};
-ghost use Rattle.figure_text.specs.Plain.{IsVertexAt, IsNeighbour, IsCoordinateAt, IsCoordinateWord, IsClosingAt, AreCoordinatesAt, IsGridFront};
+ghost use Rattle.figure_text.specs.Plain.{IsVertexAt, IsNeighbour, IsCoordinateAt, IsCoordinateWord, IsClosingAt, AreCoordinatesAt, IsGridFront, IsHighBarAt, IsBarFront};
 
-use crate::words::{Digits, closing_at, is_word_at, plain_at};
+use crate::words::{Digits, closing_at, is_letter_at, is_word_at, plain_at};
 use map_lists::Rotations;
 use pg_plane::{Ints, Point};
 use std::alloc::AllocError;
@@ -74,8 +74,8 @@ fn coordinate_at(line: &[u8], at: usize) -> Option<Digits>
     }
 }
 
-// A number as a coordinate.
-fn coordinate(number: u32) -> i32
+/// Converts a number into a coordinate.
+pub fn coordinate(number: u32) -> i32
     requires { number ≤ 1048576 }
     ensures { result ≡ pos number }
 {
@@ -169,5 +169,71 @@ pub fn front_point(front: GridFront) -> Point
     Point {
         x: coordinate(front.x),
         y: coordinate(front.y),
+    }
+}
+
+/// What stands before the neighbours in the line of a vertex of a visibility drawing.
+#[derive(Clone, Copy, PartialEq, Eq)]
+pub struct BarFront {
+    /// The height of the bar.
+    pub y: u32,
+    /// Its left end.
+    pub x1: u32,
+    /// Its right end.
+    pub x2: u32,
+    /// The place of the first neighbour.
+    pub end: usize,
+}
+
+// Returns the bar of this height whose ends stand from `at` on, after the letter x.
+#[inline(always)]
+fn bar_at(line: &[u8], at: usize, y: u32) -> Option<BarFront>
+    ensures { IfSome result (λ front. (front.y ≡ y) × AreCoordinatesAt line.now at (record { x = front.x1; y = front.x2; end = front.end })) }
+{
+    match coordinates_at(line, at) {
+        Some(ends) => Some(BarFront {
+            y,
+            x1: ends.x,
+            x2: ends.y,
+            end: ends.end,
+        }),
+        None => None,
+    }
+}
+
+// Returns the bar of which the height stands at `at`, after the letter y.
+#[inline(always)]
+fn high_bar_at(line: &[u8], at: usize) -> Option<BarFront>
+    ensures { IfSome result (IsHighBarAt line.now at) }
+{
+    match coordinate_at(line, at) {
+        Some(y) => {
+            if y.end < line.len() {
+                if is_letter_at(line, y.end + 1, b'x') {
+                    return bar_at(line, y.end + 3, y.value);
+                }
+            }
+            None
+        }
+        None => None,
+    }
+}
+
+/// Returns what stands before the neighbours in the line of the vertex `place` of a visibility drawing, where its
+/// numbers are written plainly.
+#[inline(always)]
+pub fn bar_front(line: &[u8], place: usize) -> Option<BarFront>
+    ensures { IfSome result (IsBarFront line.now place) }
+{
+    match plain_at(line, 0) {
+        Some(number) => {
+            if number.value as usize == place && number.end < line.len() {
+                if is_letter_at(line, number.end + 1, b'y') {
+                    return high_bar_at(line, number.end + 3);
+                }
+            }
+            None
+        }
+        None => None,
     }
 }

@@ -8,7 +8,9 @@ ghost use Rattle.figure_text.specs.Reading.{Judges, IsRow, RowInRange, point_of}
 ghost use Rattle.figure_text.specs.Drafts.{integer_in, with_numbers, with_row};
 
 use crate::judge::{Judged, Kind, MOST, behind, front_length, is_front, judged_row, size_of, word};
-use crate::plain::{GridFront, front_point, grid_front, push_plain};
+use crate::plain::{
+    BarFront, GridFront, bar_front, coordinate, front_point, grid_front, push_plain,
+};
 use crate::words::{Signed, Word, fill_front, fill_known};
 use map_lists::Rotations;
 use pg_plane::{Ints, Point, Points};
@@ -137,6 +139,25 @@ fn push_grid(front: GridFront, line: &[u8], draft: &mut Draft) -> Result<bool, A
     Ok(true)
 }
 
+// Appends what the line of a vertex of a visibility drawing gives, as `push_grid` does.
+#[inline(always)]
+fn push_bar(front: BarFront, line: &[u8], draft: &mut Draft) -> Result<bool, AllocError>
+    requires y { front.y ≤ 1048576 }
+    requires x1 { front.x1 ≤ 1048576 }
+    requires x2 { front.x2 ≤ 1048576 }
+    ensures good { IfOk result (λ good. OnTrue good (All (λ w. IsNeighbour w) (words_left line.now front.end)
+        × (draft.new ≡ record draft.old { lists = draft.old.lists ++ map vertex_of (words_left line.now front.end) ∷ []; y = draft.old.y ++ pos front.y ∷ []; x1 = draft.old.x1 ++ pos front.x1 ∷ []; x2 = draft.old.x2 ++ pos front.x2 ∷ [] }))) }
+    ensures bad { IfOk result (λ good. good ≡ false → draft.new ≡ draft.old) }
+{
+    if !push_plain(line, front.end, &mut draft.lists)? {
+        return Ok(false);
+    }
+    draft.y.push(coordinate(front.y))?;
+    draft.x1.push(coordinate(front.x1))?;
+    draft.x2.push(coordinate(front.x2))?;
+    Ok(true)
+}
+
 // Appends what the line of a vertex gives, by the words of its front, and says whether it is found good: its neighbours
 // are written plainly, and are not kept as words. Where it is not, the draft is as it was.
 fn push_by_words(
@@ -178,6 +199,13 @@ fn quick_row(
         Kind::Grid(_) => match grid_front(line, place) {
             Some(front) => {
                 let good = push_grid(front, line, draft)?;
+                Ok(good)
+            }
+            None => push_by_words(found, kind, place, line, draft),
+        },
+        Kind::Bars => match bar_front(line, place) {
+            Some(front) => {
+                let good = push_bar(front, line, draft)?;
                 Ok(good)
             }
             None => push_by_words(found, kind, place, line, draft),

@@ -1,5 +1,5 @@
 //! The words of a line.
-ghost use Rattle.std.specs.Prelude.{◌≡◌, ◌↔◌, ◌<◌, ◌≤◌, ◌-◌, ◌+◌, ◌*◌, ◌++◌, ◌∷◌, true, take, drop, Some, length, min, option_map, bytes_eq, map, ◌==◌, ◌&&◌, ◌≢◌, ℕ, nat_lt, slice_index, IsTrue, IfOk, IfSome, MatchOption, All};
+ghost use Rattle.std.specs.Prelude.{◌≡◌, ◌↔◌, ◌<◌, ◌≤◌, ◌-◌, ◌+◌, ◌*◌, ◌++◌, [], ◌∷◌, true, take, drop, Some, length, min, option_map, bytes_eq, map, ◌==◌, ◌&&◌, ◌≢◌, ℕ, nat_lt, slice_index, IsTrue, IfOk, IfSome, MatchOption, All};
 ghost use Rattle.std.specs.Bool.{OnTrue, OnFalse};
 ghost use Rattle.std.specs.List.{slice_split};
 ghost use Rattle.figure_text.specs.Plain.{IsPlainAt, IsClosingAt};
@@ -373,6 +373,16 @@ pub fn is_word_at(line: &[u8], at: usize) -> bool
     ensures { IsTrue result → words_left line.now at ≡ Word.Named Name.At ∷ words_left line.now (at + 3) }
 {
     at + 2 < line.len() && line[at] == b'a' && line[at + 1] == b't' && line[at + 2] == b' '
+}
+
+/// Says whether a letter stands alone at a place of the line, with a space after it.
+#[inline(always)]
+pub fn is_letter_at(line: &[u8], at: usize, letter: u8) -> bool
+    requires place { at ≤ length line.now }
+    requires letter { letter ≢ 32 }
+    ensures { IsTrue result → words_left line.now at ≡ word_meant (letter ∷ []) ∷ words_left line.now (at + 2) }
+{
+    at + 1 < line.len() && line[at] == letter && line[at + 1] == b' '
 }
 
 /// Fills a vector with the first words of a line, which stand between its spaces: as many as are asked for, or as there

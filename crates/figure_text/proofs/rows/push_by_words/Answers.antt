@@ -1,11 +1,11 @@
 -- The front of the line by its words, and its neighbours one by one.
-use Rattle.std.proofs.Common.{◌≡◌, ◌++◌, ◌∷◌, [], ℕ, List, length, sym, ap, ap₂, ◌∙◌, subst}
+use Rattle.std.proofs.Common.{◌≡◌, ◌++◌, ◌∷◌, [], ℕ, List, sym, ap, ◌∙◌}
 use Rattle.std.proofs.lemmas.Bool.{OnTrue_at}
 use Rattle.figure_text.specs.declared.words.Word.{Word}
 use Rattle.figure_text.specs.declared.rows.Draft.{Draft}
 use Rattle.figure_text.specs.Words.{words_of, words_left}
-use Rattle.figure_text.specs.Reading.{IsRow, RowInRange, vertices_from}
-use Rattle.figure_text.specs.Drafts.{front_length, with_numbers, with_row}
+use Rattle.figure_text.specs.Reading.{vertices_from}
+use Rattle.figure_text.specs.Drafts.{front_length, with_numbers}
 use Rattle.figure_text.proofs.PlainLemmas.{front-line, front-range, front-numbers, front-list, numbers-lists}
 use Rattle.figure_text.proofs.rows.push_by_words.Goals as goal
 
