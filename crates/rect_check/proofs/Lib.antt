@@ -2,6 +2,7 @@
 mod PairLemmas
 mod AreaLemmas
 mod EdgeLemmas
+mod RunLemmas
 mod SweepLemmas
 mod MeetLemmas
 mod FrameLemmas

@@ -1,5 +1,5 @@
 -- The last rectangles of rows along one axis, and what the sweeps along both show of pairs.
-use Rattle.std.proofs.Common.{◌≡◌, ◌≢◌, ◌⊎◌, ℕ, ◌+◌, ◌<◌, ◌≤◌, List, length, get_or, All, Bool, ℤ, pos, negsuc, ◌≤ℤ◌, ◌<ℤ◌, inl, inr, ⊎_elim, refl, sym, ap, subst, ◌∙◌, arith}
+use Rattle.std.proofs.Common.{◌≡◌, ◌≢◌, ◌⊎◌, ℕ, ◌+◌, ◌<◌, ◌≤◌, List, length, get_or, set, All, Bool, ℤ, pos, negsuc, ◌≤ℤ◌, ◌<ℤ◌, inl, inr, ⊎_elim, refl, sym, ap, subst, ◌∙◌, arith}
 use Rattle.std.specs.List.Sorted.{IsPermutation}
 use Rattle.std.proofs.lemmas.Bool.{cases_lt}
 use Rattle.std.proofs.lemmas.Int.{ints}
@@ -10,7 +10,8 @@ use Rattle.map_lists.specs.Lists.{Lists}
 use Rattle.map_theory.specs.Maps.{IsSimpleMap}
 use Rattle.pg_plane.specs.declared.figure.RectFigure.{RectFigure}
 use Rattle.rect_check.specs.Duals.{number_at, IsRect, ShareSide}
-use Rattle.rect_check.specs.Loops.{AreKept, AreJoined, AreFitting, HasRow, DoesFollow, FollowsInRows, AreRanked, DoFollow, AreLast, AreSpans}
+use Rattle.rect_check.specs.Loops.{AreKept, AreJoined, AreFitting, HasRow, DoesFollow, FollowsInRows, AreRanked, DoFollow, HaveLast, AreRuns, IsFilled, IsRunPut, AreTaken, AreLast, AreSpans}
+use Rattle.rect_check.proofs.RunLemmas.{filled, filled_is, AreRuns-closed, AreRuns-none, entry_here, AreRuns-taken}
 
 -- a number that is not below 0
 natural_is : (z : ℤ) → pos 0 ≤ℤ z → (k : ℕ) × (z ≡ pos k)
@@ -66,33 +67,62 @@ module _ (lists : Lists) (old new : List Bool) (kept : AreKept old new) (begin e
   AreRanked-kept low high ranked u v other lu lv =
       ⊎_elim (λ f. inl (λ y hu hv. DoesFollow-kept u v (f y hu hv))) (λ f. inr (λ y hv hu. DoesFollow-kept v u (f y hv hu))) (ranked u v other lu lv)
 
+-- the entry of a row is one of the table
+pub row-le : (n : ℕ) (last until : List ℕ) (row : ℕ → ℕ) → AreRuns last until row 0 0 → ((y : ℕ) → get_or last y 0 ≤ n) → (y : ℕ) → y < length until → row y ≤ n
+row-le n last until row runs vertices y l =
+    let r = runs.each y l (inr (omega arith)) in
+    let v = vertices r.0 in
+    omega (arith, v, r.3)
+
+-- the walk over the runs that v follows, from row low on
+module _ (lists : Lists) (begin end : List ℤ) (last : List ℕ) (row : ℕ → ℕ) (low high v : ℕ) where
+  -- before the first of them
+  pub AreTaken-none : (marks : List Bool) (until : List ℕ) (entry : ℕ) → low ≤ high → AreRuns last until row low low → AreTaken lists marks begin end last until row low high v low entry
+  AreTaken-none marks until entry order runs = record {
+    runs = runs;
+    follow = λ y u l m. absurd (omega (arith, l, m));
+    rest = λ y l m. absurd (omega (arith, order, l, m));
+  }
+
+  -- one run more
+  pub AreTaken-more : (old new : List Bool) → AreKept old new → (until : List ℕ) (at before : ℕ) → low ≤ at → at < get_or until at 0 → ((u : ℕ) → get_or last at 0 ≡ u + 1 → DoesFollow lists new begin end u v) → at < high
+      → AreTaken lists old begin end last until row low high v at before → AreTaken lists new begin end last (set until at 0) row low high v (get_or until at 0) (get_or last at 0)
+  AreTaken-more old new kept until at before from begins follows order t = record {
+    runs = AreRuns-taken last until row low at from t.runs begins;
+    follow = λ y u l m e. elim (cases_lt y at) [
+      | inl less ↦ DoesFollow-kept lists old new kept begin end u v (t.follow y u l less e)
+      | inr most ↦ follows u (entry_here last until row low at from t.runs begins y most m ∙ e)
+    ];
+    rest = λ y l m. sym (entry_here last until row low at from t.runs begins y (omega (arith, l, order)) m);
+  }
+
 module _ (lists : Lists) (marks : List Bool) (begin end low high : List ℤ) (spans : AreSpans (length lists) begin end) (rows : AreSpans (length lists) low high) where
   abbrev at : List ℕ → ℕ → ℕ
   at order j = get_or order j 0
 
   -- one vertex more, at place i of the order
-  module _ (order : List ℕ) (i : ℕ) (last : List ℕ) (v : ℕ) (place : get_or order i 0 ≡ v) (lv : v < length lists) (all : AreLast lists begin end low high order i last) (size : length last ≡ length lists) (before : DoFollow lists marks begin end low high order i)
-      (first behind : ℕ) (lower : pos first ≡ number_at low v) (upper : pos behind ≡ number_at high v) (follows : (y u : ℕ) → first ≤ y → y < behind → get_or last y 0 ≡ u + 1 → DoesFollow lists marks begin end u v) where
+  module _ (order : List ℕ) (i : ℕ) (row : ℕ → ℕ) (v : ℕ) (place : get_or order i 0 ≡ v) (lv : v < length lists) (few : (y : ℕ) → y < length lists → row y ≤ length lists) (all : HaveLast begin end low high order i row) (before : DoFollow lists marks begin end low high order i)
+      (first behind : ℕ) (lower : pos first ≡ number_at low v) (upper : pos behind ≡ number_at high v) (follows : (y u : ℕ) → first ≤ y → y < behind → row y ≡ u + 1 → DoesFollow lists marks begin end u v) where
     -- a row of v is one of the table
-    row_is : (y : ℕ) → HasRow low high v y → (first ≤ y) × (y < behind) × (y < length last)
+    row_is : (y : ℕ) → HasRow low high v y → (first ≤ y) × (y < behind) × (y < length lists)
     row_is y has =
         let l = has.0 in
         let m = has.1 in
         let high = (rows v lv).last in
-        let few : y < behind = omega (arith, ints, m, upper) in
-        (omega (arith, ints, l, lower), few, omega (arith, ints, few, upper, high, size))
+        let under : y < behind = omega (arith, ints, m, upper) in
+        (omega (arith, ints, l, lower), under, omega (arith, ints, under, upper, high))
 
     -- v follows each vertex before it
     follows_one : (j : ℕ) → j < i → FollowsInRows lists marks begin end low high (at order j) v
     follows_one j l y hu hv =
         let is = row_is y hv in
-        let e = all.each j y l is.2 hu in
+        let e = all j y l hu in
         let t = e.0 in
         let f = follows y t is.0 is.1 e.1 in
         let b = f.behind in
         ⊎_elim (λ same. subst (λ z. DoesFollow lists marks begin end z v) (sym same) f)
         (λ less.
-        let lt : t < length lists = (let m = all.vertices y in omega (arith, m, e.1)) in
+        let lt : t < length lists = (let m = few y is.2 in omega (arith, m, e.1)) in
         let o = (spans t lt).order in
         record { behind = omega (arith, ints, less, o, b); joined = λ s. absurd (omega (arith, ints, less, o, b, s)) }) e.3
 
@@ -102,44 +132,47 @@ module _ (lists : Lists) (marks : List Bool) (begin end low high : List ℤ) (sp
       | inr most ↦ (let here : k ≡ i = omega (arith, m, most) in subst (λ z. FollowsInRows lists marks begin end low high (at order j) z) (sym (ap (at order) here ∙ place)) (follows_one j (omega (arith, l, here))))
     ]
 
-    pub AreLast-more : (last' : List ℕ) → length last' ≡ length last → ((y : ℕ) → first ≤ y → y < behind → get_or last' y 0 ≡ v + 1) → ((y : ℕ) → (y < first) ⊎ (behind ≤ y) → get_or last' y 0 ≡ get_or last y 0) → AreLast lists begin end low high order (i + 1) last'
-    AreLast-more last' kept inside outside = record {
-      vertices = λ y. elim (cases_lt y first) [
-        | inl less ↦ few y (outside y (inl less))
-        | inr from ↦ elim (cases_lt y behind) [
-          | inl to ↦ omega (arith, inside y from to, lv)
-          | inr past ↦ few y (outside y (inr past))
-        ]
-      ];
-      each = λ j y l ly has. elim (cases_lt y first) [
-        | inl less ↦ old j y l ly has (outside y (inl less)) (λ hv. let f = (row_is y hv).0 in omega (arith, less, f))
-        | inr from ↦ elim (cases_lt y behind) [
-          | inr past ↦ old j y l ly has (outside y (inr past)) (λ hv. let f = (row_is y hv).1 in omega (arith, past, f))
-          | inl to ↦ (let hv : HasRow low high v y = (omega (arith, ints, lower, from), omega (arith, ints, upper, to)) in (v, inside y from to, hv, ended j l y has hv))
-        ]
-      ];
-    }
+    pub HaveLast-more : (row' : ℕ → ℕ) → IsFilled row row' first behind (v + 1) → HaveLast begin end low high order (i + 1) row'
+    HaveLast-more row' filled j y l has = elim (cases_lt y first) [
+      | inl less ↦ old (filled.outside y (inl less)) (λ hv. let f = (row_is y hv).0 in omega (arith, less, f))
+      | inr from ↦ elim (cases_lt y behind) [
+        | inl to ↦ (let hv : HasRow low high v y = (omega (arith, ints, lower, from), omega (arith, ints, upper, to)) in (v, filled.inside y from to, hv, ended hv))
+        | inr past ↦ old (filled.outside y (inr past)) (λ hv. let f = (row_is y hv).1 in omega (arith, past, f))
+      ]
+    ]
       where
-        few : (y : ℕ) → get_or last' y 0 ≡ get_or last y 0 → get_or last' y 0 ≤ length lists
-        few y e = let m = all.vertices y in omega (arith, m, e)
-
-        old : (j y : ℕ) → j < i + 1 → y < length last' → HasRow low high (at order j) y → get_or last' y 0 ≡ get_or last y 0 → ¬ HasRow low high v y → (t : ℕ) × (get_or last' y 0 ≡ t + 1) × HasRow low high t y × (((at order j) ≡ t) ⊎ (number_at end (at order j) ≤ℤ number_at begin t))
-        old j y l ly has e no_row = elim (cases_lt j i) [
-          | inl less ↦ (let x = all.each j y less (omega (arith, ly, kept)) has in (x.0, e ∙ x.1, x.2, x.3))
+        old : row' y ≡ row y → ¬ HasRow low high v y → (t : ℕ) × (row' y ≡ t + 1) × HasRow low high t y × (((at order j) ≡ t) ⊎ (number_at end (at order j) ≤ℤ number_at begin t))
+        old e no_row = elim (cases_lt j i) [
+          | inl less ↦ (let x = all j y less has in (x.0, e ∙ x.1, x.2, x.3))
           | inr most ↦ (let here : j ≡ i = omega (arith, l, most) in absurd (no_row (subst (λ z. HasRow low high z y) (ap (at order) here ∙ place) has)))
         ]
 
-        ended : (j : ℕ) → j < i + 1 → (y : ℕ) → HasRow low high (at order j) y → HasRow low high v y → ((at order j) ≡ v) ⊎ (number_at end (at order j) ≤ℤ number_at begin v)
-        ended j l y has hv = elim (cases_lt j i) [
+        ended : HasRow low high v y → ((at order j) ≡ v) ⊎ (number_at end (at order j) ≤ℤ number_at begin v)
+        ended hv = elim (cases_lt j i) [
           | inl less ↦ inr (follows_one j less y has hv).behind
           | inr most ↦ (let here : j ≡ i = omega (arith, l, most) in inl (ap (at order) here ∙ place))
         ]
 
+    -- the runs, with one of v in place of those that it follows
+    pub AreLast-put : (last last₁ last₂ until until₀ until₁ until₂ : List ℕ) (reached rest : ℕ) → ((y : ℕ) → get_or last₂ y 0 ≤ length lists) → behind ≤ reached → AreTaken lists marks begin end last until₀ row first behind v reached rest
+        → IsRunPut last last₁ until₀ until₁ first behind (v + 1) → IsRunPut last₁ last₂ until₁ until₂ behind reached rest → AreLast lists begin end low high order (i + 1) last₂ until₂
+    AreLast-put last last₁ last₂ until until₀ until₁ until₂ reached rest vertices order₁ taken put put₂ =
+        let is = filled_is row first behind (v + 1) in
+        record {
+          vertices = vertices;
+          row = filled row first behind (v + 1);
+          runs = AreRuns-closed last₂ until₂ (filled row first behind (v + 1)) reached (put₂ (filled row first behind (v + 1)) (filled row first behind (v + 1)) reached (omega arith) (put row (filled row first behind (v + 1)) reached order₁ taken.runs is)
+              (record { inside = λ y l m. is.outside y (inr l) ∙ taken.rest y l m; outside = λ y _. refl }));
+          each = HaveLast-more (filled row first behind (v + 1)) is;
+        }
+
   -- before all vertices
-  pub AreLast-none : (order last : List ℕ) → ((y : ℕ) → get_or last y 0 ≡ 0) → AreLast lists begin end low high order 0 last
-  AreLast-none order last none = record {
-    vertices = λ y. omega (arith, none y);
-    each = λ j y l. absurd (omega arith);
+  pub AreLast-none : (order last last' until until' : List ℕ) (n : ℕ) → length until ≡ n → ((y : ℕ) → get_or until y 0 ≡ 0) → ((y : ℕ) → get_or last' y 0 ≤ length lists) → IsRunPut last last' until until' 0 n 0 → AreLast lists begin end low high order 0 last' until'
+  AreLast-none order last last' until until' n size none vertices put = record {
+    vertices = vertices;
+    row = λ y. 0;
+    runs = AreRuns-closed last' until' (λ y. 0) n (put (λ y. 0) (λ y. 0) n (omega arith) (AreRuns-none last until (λ y. 0) n size none) (record { inside = λ y _ _. refl; outside = λ y _. refl }));
+    each = λ j y l. absurd (omega (arith, l));
   }
 
   module _ (ranked : AreRanked lists marks begin end low high) (u v : ℕ) (other : u ≢ v) (lu : u < length lists) (lv : v < length lists) (a : number_at low u <ℤ number_at high v) (b : number_at low v <ℤ number_at high u) where

@@ -48,10 +48,48 @@ abbrev pub DoFollow : Lists → List Bool → (begin end low high : List ℤ) �
 DoFollow lists marks begin end low high order i =
     (j k : ℕ) → j < k → k < i → FollowsInRows lists marks begin end low high (slice_index order j) (slice_index order k)
 
--- Each row of a table has one more than the last vertex in it, of the first i ones of an order; or 0. In its row each of these is the last one, or ends before that begins.
-pub record AreLast (lists : Lists) (begin end low high : List ℤ) (order : List ℕ) (i : ℕ) (last : List ℕ) : Type 0 where
+-- in its row each of the first i vertices of an order is the one that the row's entry is one more than, or ends before that begins
+abbrev pub HaveLast : (begin end low high : List ℤ) → List ℕ → ℕ → (ℕ → ℕ) → Type 0
+HaveLast begin end low high order i row =
+    (j y : ℕ) → j < i → HasRow low high (slice_index order j) y → (t : ℕ) × (row y ≡ t + 1) × HasRow low high t y × (((slice_index order j) ≡ t) ⊎ (number_at end (slice_index order j) ≤ℤ number_at begin t))
+
+-- The rows lie in runs, each with one entry. At the row where a run begins, one list has its entry, and another the row where it ends; at other rows that list has 0. No run has a row from p on before q.
+pub record AreRuns (last until : List ℕ) (row : ℕ → ℕ) (p q : ℕ) : Type 0 where
+  pub within : (s : ℕ) → slice_index until s ≤ length until
+  pub each : (y : ℕ) → y < length until → (y < p) ⊎ (q ≤ y) → (s : ℕ) × (s ≤ y) × (y < slice_index until s) × (slice_index last s ≡ row y)
+  pub apart : (s z : ℕ) → s < z → z < slice_index until s → slice_index until z ≡ 0
+  pub none : (z : ℕ) → p ≤ z → z < q → slice_index until z ≡ 0
+  pub before : (s : ℕ) → s < p → slice_index until s ≤ p
+
+-- the rows from low on before high have got an entry
+pub record IsFilled (old new : ℕ → ℕ) (low high entry : ℕ) : Type 0 where
+  pub inside : (y : ℕ) → low ≤ y → y < high → new y ≡ entry
+  pub outside : (y : ℕ) → (y < low) ⊎ (high ≤ y) → new y ≡ old y
+
+-- runs put into rows without any from low on before high, of all up to a row behind these
+abbrev pub IsRunPut : (last last' until until' : List ℕ) → (low high entry : ℕ) → Type 0
+IsRunPut last last' until until' low high entry =
+    (row new : ℕ → ℕ) (top : ℕ) → high ≤ top → AreRuns last until row low top → IsFilled row new low high entry → AreRuns last' until' new high top
+
+-- the runs from row low on up to another row are taken away; v follows the last vertices in them, and from row high on they have this entry
+pub record AreTaken (lists : Lists) (marks : List Bool) (begin end : List ℤ) (last until : List ℕ) (row : ℕ → ℕ) (low high v reached entry : ℕ) : Type 0 where
+  pub runs : AreRuns last until row low reached
+  pub follow : (y u : ℕ) → low ≤ y → y < reached → row y ≡ u + 1 → DoesFollow lists marks begin end u v
+  pub rest : (y : ℕ) → high ≤ y → y < reached → row y ≡ entry
+
+-- what was taken away reaches up to a row that is not before high
+pub record HasReached (lists : Lists) (marks : List Bool) (begin end : List ℤ) (last until until' : List ℕ) (low high v reached entry : ℕ) : Type 0 where
+  pub order : high ≤ reached
+  pub within : reached ≤ length until'
+  pub vertex : entry ≤ length lists
+  pub taken : (row : ℕ → ℕ) → AreRuns last until row low low → AreTaken lists marks begin end last until' row low high v reached entry
+
+-- each run of rows has the last of the first i vertices of an order in it, or none
+pub record AreLast (lists : Lists) (begin end low high : List ℤ) (order : List ℕ) (i : ℕ) (last until : List ℕ) : Type 0 where
   pub vertices : (y : ℕ) → slice_index last y ≤ length lists
-  pub each : (j y : ℕ) → j < i → y < length last → HasRow low high (slice_index order j) y → (t : ℕ) × (slice_index last y ≡ t + 1) × HasRow low high t y × (((slice_index order j) ≡ t) ⊎ (number_at end (slice_index order j) ≤ℤ number_at begin t))
+  pub row : ℕ → ℕ
+  pub runs : AreRuns last until row 0 0
+  pub each : HaveLast begin end low high order i row
 
 -- what goes from number v of one list to that of another is not empty, and lies from 0 to n - 2
 abbrev pub AreSpans : ℕ → (first last : List ℤ) → Type 0

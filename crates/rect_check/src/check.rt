@@ -116,11 +116,12 @@ fn first_behind_rects(map: &HalfMap, fig: &RectFigure) -> RectVerdict
 /// The first fault of a rectangular dual in the order of the variants of `RectVerdict`, with the least ids,
 /// or `Yes` exactly where it is one of the map.
 ///
-/// `fig` has a rectangle for each vertex. It takes no memory from the heap, and at most 25 KB of the stack. A
-/// sweep along each of the two axes compares each rectangle with the last ones in its rows, looks each contact
-/// up in the shorter of two lists, and marks the two of one that is no edge; where rectangles meet, two passes
-/// over the rows mark those that do. The time is the sum of all widths and heights, besides that of sorting: for
-/// the least fault only a marked rectangle is compared with all others.
+/// `fig` has a rectangle for each vertex. It takes no memory from the heap, and at most 30 KB of the stack. A
+/// sweep along each of the two axes keeps which rectangle each run of rows has last. It compares each new one with
+/// those of its runs, looks each contact up in the shorter of two lists, and marks the two of one that is no edge.
+/// Where rectangles meet, two passes over the rows mark those that do. The time of a valid figure is linear in the
+/// vertices and the darts, besides that of sorting; else the sum of all heights comes to it, and for the least
+/// fault only a marked rectangle is compared with all others.
 pub fn check_rects(map: &HalfMap, fig: &RectFigure) -> RectVerdict
     requires { HasRects map.now.lists fig.now }
     ensures { IsRectVerdict map.now.lists fig.now result }

@@ -1,22 +1,42 @@
-use Rattle.std.proofs.Common.{get_or, refl, rules}
-use Rattle.std.proofs.lemmas.Bool.{OnTrue_at}
-use Rattle.rect_check.proofs.SweepLemmas.{AreLast-more, DoFollow-more, DoFollow-kept}
+use Rattle.std.proofs.Common.{ℕ, ◌<◌, ◌≤◌, length, get_or, refl, arith, rules}
+use Rattle.rect_check.specs.Loops.{HasReached}
+use Rattle.rect_check.proofs.RunLemmas.{AreRuns-opened}
+use Rattle.rect_check.proofs.SweepLemmas.{AreLast-put, DoFollow-more, DoFollow-kept, row-le}
 use Rattle.rect_check.proofs.sweep.follows_last.Goals as goal
 
-pub returns-clause-last : goal.returns-clause-last
-returns-clause-last c =
+pub returns-in-Some-clause-last : goal.returns-in-Some-clause-last
+returns-in-Some-clause-last c =
     let a = c.args in
     let r = c.requires in
-    let f = c.follows_rows in
+    let f = c.follows_runs in
+    let last = r.last in
+    let n = length a.map.now.lists in
+    let v = get_or a.order.now a.i 0 in
+    let first = c.natural-first.result in
+    let reached : HasReached a.map.now.lists f.new.marks a.begin.now a.end.now a.last.now a.until.now f.new.until first c.natural-behind.result v c.in-Some.reached c.in-Some.rest = rw (c.in-Some.reached-is, c.in-Some.rest-is) at c.in-Some.ensures.follow in
+    let taken = reached.taken last.row (AreRuns-opened a.last.now a.until.now last.row last.runs first (c.if-not-begins_run.ensures refl)) in
     let before = DoFollow-kept a.map.now.lists a.marks.now f.new.marks f.ensures.kept a.begin.now a.end.now a.low.now a.high.now a.order.now a.i r.before in
-    AreLast-more a.map.now.lists f.new.marks a.begin.now a.end.now a.low.now a.high.now r.spans r.rows a.order.now a.i a.last.now (get_or a.order.now a.i 0) refl (r.vertices a.i 0 r.place) r.last r.size before c.natural-first.result c.natural-behind.result (search rules) (search rules)
-    (OnTrue_at c.if-not-follows_rows.false f.ensures.follow) c.fill_rows.new.last c.fill_rows.ensures.size c.fill_rows.ensures.inside c.fill_rows.ensures.outside
+    let lv = r.vertices a.i 0 r.place in
+    let few : (y : ℕ) → y < n → last.row y ≤ n = λ y l. row-le n a.last.now a.until.now last.row last.runs last.vertices y (omega (arith, l, r.runs)) in
+    let up = reached.order in
+    AreLast-put a.map.now.lists f.new.marks a.begin.now a.end.now a.low.now a.high.now r.spans r.rows a.order.now a.i last.row v refl lv few last.each before first c.natural-behind.result (search rules) (search rules) (λ y u l m e. taken.follow y u l (omega (arith, m, up)) e)
+    a.last.now c.put_run.new.last c.put_run-in-Some.new.last a.until.now f.new.until c.put_run.new.until c.put_run-in-Some.new.until c.in-Some.reached c.in-Some.rest
+    (λ y. c.put_run-in-Some.ensures.entries n y reached.vertex (c.put_run.ensures.entries n y (omega (arith, lv)) (last.vertices y)))
+    up taken c.put_run.ensures.put c.put_run-in-Some.ensures.put
 
-pub returns-clause-follow : goal.returns-clause-follow
-returns-clause-follow c =
+pub returns-in-Some-clause-follow : goal.returns-in-Some-clause-follow
+returns-in-Some-clause-follow c =
     let a = c.args in
     let r = c.requires in
-    let f = c.follows_rows in
+    let f = c.follows_runs in
+    let last = r.last in
+    let n = length a.map.now.lists in
+    let v = get_or a.order.now a.i 0 in
+    let first = c.natural-first.result in
+    let reached : HasReached a.map.now.lists f.new.marks a.begin.now a.end.now a.last.now a.until.now f.new.until first c.natural-behind.result v c.in-Some.reached c.in-Some.rest = rw (c.in-Some.reached-is, c.in-Some.rest-is) at c.in-Some.ensures.follow in
+    let taken = reached.taken last.row (AreRuns-opened a.last.now a.until.now last.row last.runs first (c.if-not-begins_run.ensures refl)) in
     let before = DoFollow-kept a.map.now.lists a.marks.now f.new.marks f.ensures.kept a.begin.now a.end.now a.low.now a.high.now a.order.now a.i r.before in
-    DoFollow-more a.map.now.lists f.new.marks a.begin.now a.end.now a.low.now a.high.now r.spans r.rows a.order.now a.i a.last.now (get_or a.order.now a.i 0) refl (r.vertices a.i 0 r.place) r.last r.size before c.natural-first.result c.natural-behind.result (search rules) (search rules)
-    (OnTrue_at c.if-not-follows_rows.false f.ensures.follow)
+    let lv = r.vertices a.i 0 r.place in
+    let few : (y : ℕ) → y < n → last.row y ≤ n = λ y l. row-le n a.last.now a.until.now last.row last.runs last.vertices y (omega (arith, l, r.runs)) in
+    let up = reached.order in
+    DoFollow-more a.map.now.lists f.new.marks a.begin.now a.end.now a.low.now a.high.now r.spans r.rows a.order.now a.i last.row v refl lv few last.each before first c.natural-behind.result (search rules) (search rules) (λ y u l m e. taken.follow y u l (omega (arith, m, up)) e)
