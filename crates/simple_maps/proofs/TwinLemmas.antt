@@ -1,5 +1,5 @@
 -- The numbers of twins, as they are found list by list.
-use Rattle.std.proofs.Common.{ℕ, ◌+◌, ◌<◌, ◌≤◌, ◌≡◌, ◌==◌, not, List, [], ◌∷◌, ◌++◌, length, get_or, slice_get, take, Option, Some, None, refl, sym, ap, ◌∙◌, subst, inl, inr, arith}
+use Rattle.std.proofs.Common.{ℕ, ◌+◌, ◌<◌, ◌≤◌, ◌≡◌, ◌==◌, not, List, [], ◌∷◌, ◌++◌, length, get_or, slice_get, take, Contains, Option, Some, None, refl, sym, ap, ◌∙◌, subst, inl, inr, arith}
 use Rattle.std.specs.List.{list_any}
 use Rattle.std.proofs.lemmas.List.{length_push, get_or_append_left, get_or_push, take_all}
 use Rattle.std.proofs.lemmas.Option.{none-some, slice_get-get_or, slice_get_within, get_or_from_slice_get}
@@ -11,6 +11,10 @@ use Rattle.map_theory.proofs.DartLemmas.{length-darts, darts_before_none, darts_
 use Rattle.simple_maps.proofs.FaultLemmas.{least_where_more_yes, least_where_more_no}
 use Rattle.map_theory.proofs.EntryLemmas.{list_any-from_Contains, Contains-from_list_any}
 use Rattle.simple_maps.specs.Tables.{AreTwins}
+
+-- what is found at a place of a list stands in it
+pub Contains-from_slice_get : (us : List ℕ) (place v : ℕ) → slice_get us place ≡ Some v → Contains us v
+Contains-from_slice_get us place v found = (place, slice_get_within us place v found, get_or_from_slice_get us place v v found)
 
 -- what stands among the ends is a dart
 pub HasDart-from_slice_get : (lists : Lists) (ends : List Dart) (d v u : ℕ) → ends ≡ darts lists → slice_get ends d ≡ Some (v, u) → HasDart lists v u

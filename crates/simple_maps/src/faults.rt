@@ -43,7 +43,7 @@ pub(crate) fn first_out_of_range(lists: &Rotations) -> Option<(u16, u16)>
 }
 
 // Whether a list holds a number.
-fn holds(list: &[u16], u: u16) -> bool
+pub(crate) fn holds(list: &[u16], u: u16) -> bool
     ensures { result ≡ list_any (λ w. w == u) list.now }
 {
     list.contains(&u)

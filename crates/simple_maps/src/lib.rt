@@ -4,6 +4,7 @@
 mod fault;
 mod faults;
 mod laws;
+mod one_sided;
 mod pass;
 mod simple;
 mod slots;

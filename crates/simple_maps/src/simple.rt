@@ -6,6 +6,7 @@ ghost use Rattle.simple_maps.specs.Tables.{AreTables};
 
 use crate::MapFault;
 use crate::faults::{first_loop, first_out_of_range, first_repeated};
+use crate::one_sided::first_one_sided;
 use crate::tables::{darts_of, starts_of};
 use crate::twins::twins_of;
 use map_lists::Rotations;
@@ -38,6 +39,9 @@ pub(crate) fn tables_of(alloc: Global, lists: &Rotations) -> Result<Tables, MapF
     }
     if let Some((v, u)) = first_repeated(alloc, lists)? {
         return Err(MapFault::Repeated(v, u));
+    }
+    if let Some((v, u)) = first_one_sided(alloc, lists)? {
+        return Err(MapFault::OneSided(v, u));
     }
     let starts = starts_of(alloc, lists)?;
     let ends = darts_of(alloc, lists, starts[lists.len()] as usize)?;

@@ -78,8 +78,9 @@ fn searched_twins(
     ensures count { OnOk result (length tails.new.items ≡ length twins.new.items) }
     ensures fault { IfErr result (Names (first_fault lists.now)) }
 {
+    *tails = Vec::new(alloc);
+    *twins = Vec::new(alloc);
     let tables = tables_of(alloc, lists)?;
-    tails.clear();
     push_tails(&tables.ends, tails)?;
     *twins = tables.twins;
     Ok(())

@@ -1,5 +1,5 @@
 //! The tables of a map: where each vertex's darts begin, what each dart's ends are, and its twin.
-ghost use Rattle.std.specs.Prelude.{◌≡◌, ◌+◌, ◌^◌, ◌<◌, ◌++◌, ◌↔◌, ℕ, [], length, slice_get, Some, None, IsTrue, IfOk, OnOk, IfSome, IfNone, MatchOption, Contains};
+ghost use Rattle.std.specs.Prelude.{◌≡◌, ◌+◌, ◌^◌, ◌<◌, ◌++◌, ℕ, [], length, IfOk, OnOk, IfSome, IfNone, MatchOption, Contains};
 ghost use Rattle.map_theory.specs.Maps.{HasDart, list_of, darts, darts_from, darts_before, dart_count, dart_number, place_of};
 ghost use Rattle.simple_maps.specs.Tables.{StartsTo};
 
@@ -73,15 +73,5 @@ pub(crate) fn find_dart(lists: &Rotations, starts: &[u32], v: u16, u: u16) -> Op
     match place_in(lists.list(v as usize), u) {
         Some(k) => Some(starts[v as usize] + k as u32),
         None => None,
-    }
-}
-
-// Whether the dart of this number is that from `v` to `u`.
-pub(crate) fn is_dart_at(darts: &[(u16, u16)], d: u32, v: u16, u: u16) -> bool
-    ensures { IsTrue result ↔ (slice_get darts.now d ≡ Some (v, u)) }
-{
-    match darts.get(d as usize) {
-        Some((tail, head)) => *tail == v && *head == u,
-        None => false,
     }
 }

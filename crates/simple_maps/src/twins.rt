@@ -1,8 +1,4 @@
-//! The twins of darts, in time linear in the darts.
-//!
-//! The darts are threaded by their heads, so that those that lead to a vertex are at hand when its own
-//! list is gone over. What the threads give is a hint only: it is tried before it is taken, and where it
-//! fails the other list is searched. So no answer rests on the threads.
+//! The twins of darts, each found in its head's list.
 ghost use Rattle.std.specs.Prelude.{◌≡◌, ◌+◌, ◌^◌, ◌<◌, length, slice_get, Some, None, IfOk, IfErr, OnOk, MatchOption};
 ghost use Rattle.map_theory.specs.Maps.{HasDart, list_of, darts, darts_before, dart_count};
 ghost use Rattle.simple_maps.specs.Faults.{first_fault, first_from, least_out_of_range, own_number, least_repeated, least_one_sided};
@@ -11,70 +7,12 @@ ghost use Rattle.simple_maps.specs.Tables.{StartsTo, AreTwins};
 
 use crate::MapFault;
 use crate::faults::lesser;
-use crate::tables::{find_dart, is_dart_at};
+use crate::tables::find_dart;
 use map_lists::Rotations;
 use std::alloc::{AllocError, Global};
 
-// A number that is no dart's.
-const NO_DART: u32 = u32::MAX;
-
-// For each vertex the last dart that leads to it, and for each dart the one before it with the same head.
-#[derive(Drop)]
-struct Threads {
-    newest: Vec<u32>,
-    older: Vec<u32>,
-}
-
-// The number at a place, or `NO_DART` past the end.
-fn dart_or_none(numbers: &[u32], place: usize) -> u32 {
-    match numbers.get(place) {
-        Some(d) => *d,
-        None => NO_DART,
-    }
-}
-
-impl Threads {
-    // The darts of `n` vertices, threaded.
-    fn new(alloc: Global, ends: &[(u16, u16)], n: usize) -> Result<Threads, AllocError>
-        requires { length ends.now < 2 ^ 24 }
-    {
-        let mut newest = vec![in alloc; NO_DART; n]?;
-        let mut older = Vec::with_capacity(alloc, ends.len())?;
-        for (d, (_, head)) in ends.iter().enumerate() {
-            let head = *head as usize;
-            older.push(dart_or_none(&newest, head))?;
-            if head < newest.len() {
-                newest[head] = d as u32;
-            }
-        }
-        Ok(Threads { newest, older })
-    }
-
-    // Notes each dart that leads to `v` as the hint of its tail.
-    fn note(&self, ends: &[(u16, u16)], v: usize, hints: &mut [u32]) {
-        let mut d = dart_or_none(&self.newest, v);
-        for _ in 0..ends.len() {
-            let Some((tail, _)) = ends.get(d as usize) else {
-                return;
-            };
-            let tail = *tail as usize;
-            if tail < hints.len() {
-                hints[tail] = d;
-            }
-            d = dart_or_none(&self.older, d as usize);
-        }
-    }
-}
-
-// The number of the dart from `v` to `u`, which may be the hint.
-fn dart_by_hint(
-    lists: &Rotations,
-    starts: &[u32],
-    ends: &[(u16, u16)],
-    hint: u32,
-    v: u16,
-    u: u16,
-) -> Option<u32>
+// The number of the dart from `v` to `u`.
+fn dart_from(lists: &Rotations, starts: &[u32], ends: &[(u16, u16)], v: u16, u: u16) -> Option<u32>
     requires v_in { v < length lists.now }
     requires few_darts { dart_count lists.now < 2 ^ 24 }
     requires starts { StartsTo lists.now starts.now (length lists.now) }
@@ -82,9 +20,6 @@ fn dart_by_hint(
     ensures { MatchOption result (¬ HasDart lists.now v u)
         (λ d. HasDart lists.now v u × (slice_get ends.now d ≡ Some (v, u))) }
 {
-    if is_dart_at(ends, hint, v, u) {
-        return Some(hint);
-    }
     find_dart(lists, starts, v, u)
 }
 
@@ -93,7 +28,6 @@ fn push_twins(
     lists: &Rotations,
     starts: &[u32],
     ends: &[(u16, u16)],
-    hints: &[u32],
     v: u16,
     twins: &mut Vec<u32>,
 ) -> Result<Option<u16>, AllocError>
@@ -110,8 +44,7 @@ fn push_twins(
     let list = lists.list(v as usize);
     let mut least = None;
     for u in list {
-        let hint = dart_or_none(hints, *u as usize);
-        match dart_by_hint(lists, starts, ends, hint, *u, v) {
+        match dart_from(lists, starts, ends, *u, v) {
             Some(d) => twins.push(d)?,
             None => least = lesser(least, *u),
         }
@@ -137,12 +70,9 @@ pub(crate) fn twins_of(
     ensures both_ways { OnOk result (first_from (least_one_sided lists.now) 0 lists.now ≡ None) }
     ensures fault { IfErr result (Names (first_fault lists.now)) }
 {
-    let threads = Threads::new(alloc, ends, lists.len())?;
-    let mut hints = vec![in alloc; NO_DART; lists.len()]?;
     let mut twins = Vec::with_capacity(alloc, ends.len())?;
     for v in 0..lists.len() {
-        threads.note(ends, v, &mut hints);
-        if let Some(u) = push_twins(lists, starts, ends, &hints, v as u16, &mut twins)? {
+        if let Some(u) = push_twins(lists, starts, ends, v as u16, &mut twins)? {
             return Err(MapFault::OneSided(v as u16, u));
         }
     }

@@ -2,7 +2,7 @@ use Rattle.std.proofs.Common.{◌<◌, length, sym, ◌∙◌, subst}
 use Rattle.map_theory.specs.Maps.{dart_count, IsSimpleMap}
 use Rattle.map_theory.proofs.DartCounts.{few_darts}
 use Rattle.simple_maps.specs.Tables.{AreTables, AreTwins}
-use Rattle.simple_maps.proofs.FaultLemmas.{HasNoFault, first_fault_out_of_range, first_fault_loop, first_fault_repeated, first_fault_none, in_range_from_none, no_repeat_from_none, IsSimpleMap-from_HasNoFault}
+use Rattle.simple_maps.proofs.FaultLemmas.{HasNoFault, first_fault_out_of_range, first_fault_loop, first_fault_repeated, first_fault_one_sided, first_fault_none, in_range_from_none, no_repeat_from_none, IsSimpleMap-from_HasNoFault}
 use Rattle.simple_maps.proofs.simple.tables_of.Goals as goal
 use Rattle.simple_maps.proofs.simple.tables_of.Goals.{In_default-2, In_ok-twins}
 
@@ -48,6 +48,10 @@ returns-in-Some-first_loop-clause-fault c =
 pub returns-in-Some-2-clause-fault : goal.returns-in-Some-2-clause-fault
 returns-in-Some-2-clause-fault c =
     first_fault_repeated c.args.lists.now c.in-Some-2.v c.in-Some-2.u (sym c.first_out_of_range.ensures ∙ c.in_default.is) c.in_default-first_loop.ensures (sym c.in_ok-v.ensures ∙ c.in-Some-2.is)
+
+pub returns-in-Some-3-clause-fault : goal.returns-in-Some-3-clause-fault
+returns-in-Some-3-clause-fault c =
+    first_fault_one_sided c.args.lists.now c.in-Some-3.v c.in-Some-3.u (sym c.first_out_of_range.ensures ∙ c.in_default.is) c.in_default-first_loop.ensures (sym c.in_ok-v.ensures ∙ c.in_default-2.is) (sym c.in_ok-v-2.ensures ∙ c.in-Some-3.is)
 
 pub starts_of-requires-clause-few_darts : goal.starts_of-requires-clause-few_darts
 starts_of-requires-clause-few_darts c = darts_are_few ((goal.at.starts_of-requires-clause-few_darts c).In_default-2)

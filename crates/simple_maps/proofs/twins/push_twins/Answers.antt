@@ -4,8 +4,8 @@ use Rattle.simple_maps.proofs.TwinLemmas.{HasTwins-none, HasTwins-push, HasTwins
 use Rattle.simple_maps.proofs.twins.push_twins.Goals as goal
 use Rattle.simple_maps.proofs.twins.push_twins.Goals.{in-Some+in_ok-push-in-Some, in-None}
 
-pub dart_by_hint-requires-clause-v_in : goal.dart_by_hint-requires-clause-v_in
-dart_by_hint-requires-clause-v_in c =
+pub dart_from-requires-clause-v_in : goal.dart_from-requires-clause-v_in
+dart_from-requires-clause-v_in c =
     entries_within c.args.lists.now c.args.v c.list-list.result.now (length c.args.lists.now) c.requires.in_range c.requires.v_in c.list-list.ensures refl
     c.loop-u.u-index 0 c.loop-u-test.true
 
@@ -17,7 +17,7 @@ loop-u-preserved c =
     let lists = c.args.lists.now in
     let us = c.list-list.result.now in
     let i = c.loop-u.u-index in
-    elim c.match-dart_by_hint.branch [
+    elim c.match-dart_from.branch [
       | in-Some+in_ok-push-in-Some w ↦
           rw (w.least-is, w.twins-is, w.in_ok-push-in-Some.ensures.items)
           (HasTwins-push lists c.args.ends.now c.args.v us i c.loop-u.least c.loop-u.twins.items c.requires.ends c.requires.v_in c.list-list.ensures c.loop-u-test.true c.loop-u.invariant

@@ -7,9 +7,6 @@ use Rattle.simple_maps.specs.Tables.{AreTwins}
 use Rattle.simple_maps.proofs.TwinLemmas.{AreTwins-none}
 use Rattle.simple_maps.proofs.twins.twins_of.Goals as goal
 
-pub new-requires : goal.new-requires
-new-requires c = omega (arith, ap length c.requires.ends, length-darts c.args.lists.now, c.requires.few_darts)
-
 pub loop-v-init : goal.loop-v-init
 loop-v-init c = record {
   none = λ v l. absurd (omega (arith, l));

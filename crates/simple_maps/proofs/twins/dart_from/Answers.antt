@@ -1,13 +1,8 @@
 use Rattle.std.proofs.Common.{◌≡◌, Some, None, Option, slice_get, MatchOption, ap, ◌∙◌, ℕ, List}
 use Rattle.map_lists.specs.Lists.{Lists}
 use Rattle.map_theory.specs.Maps.{Dart, HasDart, darts, dart_number}
-use Rattle.simple_maps.proofs.TwinLemmas.{HasDart-from_slice_get, slice_get-dart_number}
-use Rattle.simple_maps.proofs.twins.dart_by_hint.Goals as goal
-
-pub returns-then-is_dart_at : goal.returns-then-is_dart_at
-returns-then-is_dart_at c =
-    let found = c.is_dart_at.ensures.0 c.if-is_dart_at.true in
-    (HasDart-from_slice_get c.args.lists.now c.args.ends.now c.args.hint c.args.v c.args.u c.requires.ends found, found)
+use Rattle.simple_maps.proofs.TwinLemmas.{slice_get-dart_number}
+use Rattle.simple_maps.proofs.twins.dart_from.Goals as goal
 
 -- what is found by number stands there
 found_there : (lists : Lists) (ends : List Dart) (v u : ℕ) (o : Option ℕ) → ends ≡ darts lists
