@@ -8,6 +8,10 @@ use Rattle.plane_drawings.specs.Drawing.{place}
 use Rattle.plane_drawings.specs.declared.plane_sweep.line.Line.{Line}
 use Rattle.plane_drawings.specs.PlaneSweepLines.{rise, Ends}
 
+-- the lines before the gap of a status, and those behind it
+abbrev pub around : ℕ → ℕ → List Line → List Line
+around begin end status = take begin status ++ drop end status
+
 -- The status `old` becomes `new` at i, where the lines `fresh` begin: of its lines those from `begin` on before `end` end there, i is strictly between their neighbours, and neighbours round the new lines end in their order.
 pub record IsPassed (at : ℕ → Point) (i : ℕ) (fresh old new : List Line) : Type 0 where
   pub begin : ℕ

@@ -4,24 +4,48 @@ ghost use Rattle.std.specs.Bool.{OnTrue};
 ghost use Rattle.pg_plane.specs.Range.{IsInRange};
 ghost use Rattle.plane_drawings.specs.Drawing.{place};
 ghost use Rattle.plane_drawings.specs.PlaneSweepLines.{IsLine, rise, Ends};
-ghost use Rattle.plane_drawings.specs.Tests.{IsPassed};
+ghost use Rattle.plane_drawings.specs.Tests.{around, IsPassed};
 
 use crate::plane_sweep::Line;
 use crate::sweep_check::line::{end_apart, rise};
 use pg_plane::Point;
 
-// How many lines of the status the vertex is above, if it is above the lower ones and no others.
-pub(crate) fn count_below(places: &[Point], status: &[Line], v: u16) -> usize
+// Where the lines of a status are: those before `begin`, and those from `end` on. Between is room.
+#[derive(Clone, Copy)]
+pub(crate) struct Gap {
+    pub(crate) begin: usize,
+    pub(crate) end: usize,
+}
+
+// Whether the vertex is above line number `k`, of some lines and those behind them.
+fn is_above_at(places: &[Point], lower: &[Line], upper: &[Line], k: usize, v: u16) -> bool
     requires in_range { All IsInRange places.now }
     requires vertex { v < length places.now }
-    requires lines { All (IsLine (length places.now)) status.now }
-    ensures { result ≤ length status.now }
+    requires lower { All (IsLine (length places.now)) lower.now }
+    requires upper { All (IsLine (length places.now)) upper.now }
+    requires within { k < length lower.now + length upper.now }
+{
+    if k < lower.len() {
+        0 < rise(places, lower[k], v)
+    } else {
+        0 < rise(places, upper[k - lower.len()], v)
+    }
+}
+
+// How many lines the vertex is above, if it is above the lower ones and no others: of some lines and those
+// behind them.
+pub(crate) fn count_below(places: &[Point], lower: &[Line], upper: &[Line], v: u16) -> usize
+    requires in_range { All IsInRange places.now }
+    requires vertex { v < length places.now }
+    requires lower { All (IsLine (length places.now)) lower.now }
+    requires upper { All (IsLine (length places.now)) upper.now }
+    ensures { result ≤ length lower.now + length upper.now }
 {
     let mut begin = 0;
-    let mut end = status.len();
+    let mut end = lower.len() + upper.len();
     while begin < end {
         let middle = begin + (end - begin) / 2;
-        if 0 < rise(places, status[middle], v) {
+        if is_above_at(places, lower, upper, middle, v) {
             begin = middle + 1;
         } else {
             end = middle;
@@ -67,17 +91,24 @@ pub(crate) fn is_below(places: &[Point], status: &[Line], end: usize, v: u16) ->
     end == status.len() || rise(places, status[end], v) < 0
 }
 
-// Puts `fresh` in place of the lines from `begin` on before `end`, of the first `count` lines.
-fn splice(status: &mut [Line], count: usize, begin: usize, end: usize, fresh: &[Line])
-    requires order { begin ≤ end }
-    requires count { end ≤ count }
-    requires within { count ≤ length status.old }
-    requires room { begin + length fresh.now + (count - end) ≤ length status.old }
-    ensures { take (begin + length fresh.now + (count - end)) status.new
-        ≡ take begin (take count status.old) ++ (fresh.now ++ drop end (take count status.old)) }
+// Moves the gap behind the first `place` lines; where it ends then.
+fn move_gap(status: &mut [Line], gap: Gap, place: usize) -> usize
+    requires order { gap.begin ≤ gap.end }
+    requires within { gap.end ≤ length status.old }
+    requires place { place ≤ gap.begin + (length status.old - gap.end) }
+    ensures order { place ≤ result }
+    ensures within { result ≤ length status.new }
+    ensures lines { around place result status.new ≡ around gap.begin gap.end status.old }
 {
-    status.copy_within(end..count, begin + fresh.len());
-    status[begin..begin + fresh.len()].copy_from_slice(fresh);
+    if place <= gap.begin {
+        let end = gap.end - (gap.begin - place);
+        status.copy_within(place..gap.begin, end);
+        end
+    } else {
+        let end = gap.end + (place - gap.begin);
+        status.copy_within(gap.end..end, gap.begin);
+        end
+    }
 }
 
 // Writes the ends of two lines that failed a test, as far as there is room.
@@ -114,56 +145,105 @@ fn all_end_apart(
     true
 }
 
-// Writes a vertex and the ends of the line at `place`, if there is one.
-fn suspect_at(suspects: &mut [u16], status: &[Line], place: usize, v: u16) {
-    if place < status.len() {
-        suspect(suspects, Line { low: v, high: v }, status[place]);
+// Whether the last of some lines and the first of those behind them end in their order; if not, their ends
+// are suspects.
+fn is_seam_apart(places: &[Point], lower: &[Line], upper: &[Line], suspects: &mut [u16]) -> bool
+    requires in_range { All IsInRange places.now }
+    requires lower { All (IsLine (length places.now)) lower.now }
+    requires upper { All (IsLine (length places.now)) upper.now }
+    ensures { OnTrue result ((d : Line) → 0 < length lower.now → 0 < length upper.now
+        → Ends (place places.now) (slice_index_or lower.now (length lower.now - 1) d) (slice_index_or upper.now 0 d)) }
+{
+    if lower.is_empty() || upper.is_empty() {
+        return true;
+    }
+    let e = lower[lower.len() - 1];
+    let f = upper[0];
+    if end_apart(places, e, f) {
+        return true;
+    }
+    suspect(suspects, e, f);
+    false
+}
+
+// Writes a vertex and the ends of the first of some lines, if there is one.
+fn suspect_first(suspects: &mut [u16], lines: &[Line], v: u16) {
+    if 0 < lines.len() {
+        suspect(suspects, Line { low: v, high: v }, lines[0]);
     }
 }
 
-// Takes the first `count` lines of the status over the vertex at place `v`, at which the lines `fresh`
-// begin: how many lines they are afterwards, or None where a test fails or there is no room. Where one
-// fails, the ends of the lines at fault are suspects.
-pub(crate) fn step(
+// Takes the lines round a gap over the vertex at place `v`, at which the lines `fresh` begin, where the gap
+// is behind the lines that the vertex is above: the gap afterwards, or None where a test fails or there is
+// no room. Where one fails, the ends of the lines at fault are suspects.
+fn pass(
     places: &[Point],
     status: &mut [Line],
-    count: usize,
+    gap: Gap,
     v: u16,
     fresh: &[Line],
     suspects: &mut [u16],
-) -> Option<usize>
+) -> Option<Gap>
     requires in_range { All IsInRange places.now }
     requires vertex { v < length places.now }
-    requires count { count ≤ length status.old }
-    requires lines { All (IsLine (length places.now)) (take count status.old) }
+    requires order { gap.begin ≤ gap.end }
+    requires within { gap.end ≤ length status.old }
+    requires lines { All (IsLine (length places.now)) (around gap.begin gap.end status.old) }
     requires fresh { All (IsLine (length places.now)) fresh.now }
-    ensures count { IfSome result (λ c. c ≤ length status.new) }
-    ensures passed { IfSome result (λ c. IsPassed (place places.now) v fresh.now (take count status.old) (take c status.new)) }
+    ensures order { IfSome result (λ g. (g.begin ≤ g.end) × (g.end ≤ length status.new)) }
+    ensures passed { IfSome result (λ g. IsPassed (place places.now) v fresh.now (around gap.begin gap.end status.old) (around g.begin g.end status.new)) }
 {
-    let begin = count_below(places, &status[..count], v);
-    let end = run_end(&status[..count], begin, v);
-    let top = begin + fresh.len();
-    let new_count = top + (count - end);
-    if status.len() < new_count {
+    let lines = &status[..];
+    let end = gap.end + run_end(&lines[gap.end..], 0, v);
+    let begin = gap.begin + fresh.len();
+    if end < begin {
         return None;
     }
-    if !is_above(places, &status[..count], begin, v) {
+    if !is_above(places, &lines[..gap.begin], gap.begin, v) {
         return None;
     }
-    if !is_below(places, &status[..count], end, v) {
-        suspect_at(suspects, &status[..count], end, v);
+    if !is_below(places, &lines[end..], 0, v) {
+        suspect_first(suspects, &lines[end..], v);
         return None;
     }
-    splice(status, count, begin, end, fresh);
-    if all_end_apart(
+    status[gap.begin..begin].copy_from_slice(fresh);
+    let lines = &status[..];
+    if !all_end_apart(
         places,
-        &status[..new_count],
-        begin.saturating_sub(1),
-        top,
+        &lines[..begin],
+        gap.begin.saturating_sub(1),
+        begin,
         suspects,
     ) {
-        Some(new_count)
+        return None;
+    }
+    if is_seam_apart(places, &lines[..begin], &lines[end..], suspects) {
+        Some(Gap { begin, end })
     } else {
         None
     }
+}
+
+// The same, wherever the gap is.
+pub(crate) fn step(
+    places: &[Point],
+    status: &mut [Line],
+    gap: Gap,
+    v: u16,
+    fresh: &[Line],
+    suspects: &mut [u16],
+) -> Option<Gap>
+    requires in_range { All IsInRange places.now }
+    requires vertex { v < length places.now }
+    requires order { gap.begin ≤ gap.end }
+    requires within { gap.end ≤ length status.old }
+    requires lines { All (IsLine (length places.now)) (around gap.begin gap.end status.old) }
+    requires fresh { All (IsLine (length places.now)) fresh.now }
+    ensures order { IfSome result (λ g. (g.begin ≤ g.end) × (g.end ≤ length status.new)) }
+    ensures passed { IfSome result (λ g. IsPassed (place places.now) v fresh.now (around gap.begin gap.end status.old) (around g.begin g.end status.new)) }
+{
+    let lines = &status[..];
+    let begin = count_below(places, &lines[..gap.begin], &lines[gap.end..], v);
+    let end = move_gap(status, gap, begin);
+    pass(places, status, Gap { begin, end }, v, fresh, suspects)
 }
