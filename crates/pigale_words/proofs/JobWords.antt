@@ -1,19 +1,21 @@
 -- Which words are those of a job.
 use Rattle.std.proofs.lemmas.Option.{none-some}
-use Rattle.std.proofs.Common.{eqb-true, ◌+◌, ◌*◌, ◌-◌, ◌≡◌, ◌∙◌, ◌⊎◌, ◌&&◌, ◌||◌, not, ℕ, Bool, Option, Some, None, List, [], ◌∷◌, true, false, true≢false, refl, ap, sym, subst, inl, inr, is_some, codes}
-use Rattle.std.specs.Prelude.{unwrap_or, option_and_then, bytes_eq, if◌then◌else◌, ◌==◌}
+use Rattle.std.proofs.Common.{eqb-true, ◌+◌, ◌*◌, ◌-◌, ◌≡◌, ◌∙◌, ◌⊎◌, ◌&&◌, ◌||◌, not, ℕ, Bool, Option, Some, None, List, [], ◌∷◌, true, false, true≢false, refl, ap, ap₂, cond, sym, subst, inl, inr, is_some, codes}
+use Rattle.std.specs.Prelude.{unwrap_or, option_and_then, option_map, count_by, bytes_eq, if◌then◌else◌, ◌==◌}
+use Rattle.std.specs.List.{list_all}
+use Rattle.std.specs.Map.{lookup}
 use Rattle.std.proofs.lemmas.Slice.Eq.{bytes_eq-Decides}
 use Rattle.clap.specs.Walk.{Text, plain_word}
-use Rattle.pigale_words.specs.Words.{Given, given_in, has_option, form_given, drawing_named, number_given, gen_of, gen_given, job_given, job_named, job_of, CountWords, has_number, form_of, IsCountWords}
-use Rattle.pigale_words.specs.Spelling.{NamesForm, NamesNumbers, IsNamed, JobWords, Spell, Spell.nothing, Spell.hyphens, Spell.behind, Spell.job_word}
+use Rattle.pigale_words.specs.Words.{Given, given_in, has_option, Takes, Takes.no_option, Takes.a_form, Takes.two_numbers, jobs, taken_by, job_with, number_given, gen_of, job_given, job_named, job_of, CountWords, has_number, form_of, IsCountWords}
+use Rattle.pigale_words.specs.Spelling.{NamesForm, NamesNumbers, Fits, IsNamed, JobWords, Spell, Spell.nothing, Spell.hyphens, Spell.behind, Spell.job_word}
 use Rattle.pigale_words.specs.Numbers.{number_in, within}
 use Rattle.figure_text.specs.Words.{canonical, decimal_from, is_digit}
 use Rattle.pigale_words.specs.declared.job.Job.{Job}
-use Rattle.pigale_words.specs.declared.job.Job.TheVariants.{Count, Shift, Schnyder, Bars, Convex, Rect, Gen, Verify, Embed}
+use Rattle.pigale_words.specs.declared.job.Job.TheVariants.{Count, Gen}
 use Rattle.pigale_words.specs.declared.form.Form.{Form}
 use Rattle.pigale_words.specs.declared.form.Form.TheVariants as forms
 use Rattle.pigale_words.proofs.WordRows.{Which, Which.the_job, Which.the_form, Which.the_size, Which.the_number, put, get, Held_text.no_text}
-use Rattle.pigale_words.proofs.WordSteps.{is_job, here}
+use Rattle.pigale_words.proofs.WordSteps.{is_job}
 use Rattle.pigale_words.proofs.SpellLemmas.{Adds, Found, found_by, Plain, plain_first, AllPlain, ends_by, ends_of, given_of}
 
 -- ---- what is given, and the options
@@ -65,6 +67,14 @@ or_left false b e = (refl, e)
 
 not_given : (k : Which) (g : Given) → IsGiven k g → is_some (get k g) ≡ false → ⊥
 not_given k g e f = true≢false (sym e ∙ f)
+
+pub and_left : (a b : Bool) → (a && b) ≡ true → a ≡ true
+and_left true b e = refl
+and_left false b e = e
+
+pub and_right : (a b : Bool) → (a && b) ≡ true → b ≡ true
+and_right true b e = e
+and_right false b e = absurd (true≢false (sym e))
 
 -- no option is given
 no_options : (options : List (Text × Text)) (g end : Given) → Adds options g end → has_option end ≡ false → options ≡ []
@@ -138,61 +148,72 @@ both_numbers (o ∷ u ∷ w ∷ os) word end size number (the_number, _, _, _, (
 
 -- ---- the job of what is given
 
-module _ (word : Text) (options : List (Text × Text)) (j : Job) where
-  pick : (w : Text) (x : Job) (other : Option Job) → (word ≡ w → IsNamed x word options) → (other ≡ Some j → IsNamed j word options)
-      → (if bytes_eq word w then Some x else other) ≡ Some j → IsNamed j word options
-  pick w x other here there e = go (bytes_eq word w) refl e
-    where
-      go : (b : Bool) → bytes_eq word w ≡ b → (if b then Some x else other) ≡ Some j → IsNamed j word options
-      go true is same = subst (λ y. IsNamed y word options) (ap (λ o. unwrap_or o x) same) (here ((bytes_eq-Decides word w).0 is))
-      go false is same = there same
+-- the options of a job that takes such
+with_fits : (takes : Takes) (word : Text) (options : List (Text × Text)) (j : Job) (end : Given) → Adds options (put the_job word no_words) end → job_with end takes ≡ Some j → Fits takes j options
+with_fits (no_option job) word options j end adds e = go (has_option end) refl e
+  where
+    go : (b : Bool) → has_option end ≡ b → (if b then None else Some job) ≡ Some j → Fits (no_option job) j options
+    go true has same = absurd (none-some _ same)
+    go false none same = (sym (ap (λ o. unwrap_or o job) same), no_options options (put the_job word no_words) end adds none)
+with_fits (a_form job) word options j end adds e = go (has_number end) (form_of end.form) refl refl e
+  where
+    go : (b : Bool) (o : Option Form) → has_number end ≡ b → form_of end.form ≡ o → option_map job (if b then None else o) ≡ Some j → Fits (a_form job) j options
+    go true o none is same = absurd (none-some _ same)
+    go false None none is same = absurd (none-some _ same)
+    go false (Some form) none is same = (form, sym (ap (λ o. unwrap_or o (job form)) same), one_form options word end form adds none is)
+with_fits two_numbers word options j end adds e = go (is_some end.form) (number_given 3 4095 end.size) (number_given 0 4294967295 end.number) refl refl refl e
+  where
+    go : (b : Bool) (s n : Option ℕ) → is_some end.form ≡ b → number_given 3 4095 end.size ≡ s → number_given 0 4294967295 end.number ≡ n → (if b then None else gen_of s n) ≡ Some j → Fits two_numbers j options
+    go true s n f es en same = absurd (none-some _ same)
+    go false None n f es en same = absurd (none-some _ same)
+    go false (Some s) None f es en same = absurd (none-some _ same)
+    go false (Some s) (Some n) f es en same = (s, n, sym (ap (λ o. unwrap_or o (Gen s n)) same), both_numbers options word end s n adds f es en)
 
-  pick_alone : (w : Text) (has : Bool) (x : Job) (other : Option Job) → (word ≡ w → has ≡ false → IsNamed x word options) → (other ≡ Some j → IsNamed j word options)
-      → (if bytes_eq word w && not has then Some x else other) ≡ Some j → IsNamed j word options
-  pick_alone w has x other here there e = go (bytes_eq word w) has refl refl e
-    where
-      go : (b h : Bool) → bytes_eq word w ≡ b → has ≡ h → (if b && not h then Some x else other) ≡ Some j → IsNamed j word options
-      go true false is lacks same = subst (λ y. IsNamed y word options) (ap (λ o. unwrap_or o x) same) (here ((bytes_eq-Decides word w).0 is) lacks)
-      go true true is lacks same = there same
-      go false h is lacks same = there same
+named_given : (word : Text) (options : List (Text × Text)) (j : Job) (end : Given) → Adds options (put the_job word no_words) end → job_named end word ≡ Some j → IsNamed j word options
+named_given word options j end adds e = go (taken_by word) refl e
+  where
+    go : (found : Option Takes) → taken_by word ≡ found → option_and_then (job_with end) found ≡ Some j → IsNamed j word options
+    go None is same = absurd (none-some _ same)
+    go (Some takes) is same = (takes, is, with_fits takes word options j end adds same)
 
-  drawn : (form : Form) → NamesForm form options → drawing_named word form ≡ Some j → IsNamed j word options
-  drawn form names e =
-      pick (codes "shift") (Shift form) _ (λ is. (is, names))
-      (pick (codes "schnyder") (Schnyder form) _ (λ is. (is, names))
-      (pick (codes "bars") (Bars form) _ (λ is. (is, names))
-      (pick (codes "convex") (Convex form) _ (λ is. (is, names))
-      (pick (codes "rect") (Rect form) _ (λ is. (is, names))
-      (pick (codes "embed") (Embed form) _ (λ is. (is, names)) (λ none. absurd (none-some _ none))))))) e
+-- ---- the words of the table
 
-  module _ (end : Given) (adds : Adds options (put the_job word no_words) end) where
-    drawn_given : option_and_then (drawing_named word) (form_given end) ≡ Some j → IsNamed j word options
-    drawn_given e = go (has_number end) (form_of end.form) refl refl e
-      where
-        go : (b : Bool) (o : Option Form) → has_number end ≡ b → form_of end.form ≡ o → option_and_then (drawing_named word) (if b then None else o) ≡ Some j → IsNamed j word options
-        go true o none is same = absurd (none-some _ same)
-        go false None none is same = absurd (none-some _ same)
-        go false (Some form) none is same = drawn form (one_form options word end form adds none is) same
+-- what all rows have has the one that a look-up finds
+pub found_is : (test : Text × Takes → Bool) (word : Text) (takes : Takes) (rows : List (Text × Takes)) → list_all test rows ≡ true → lookup (bytes_eq word) rows ≡ Some takes → test (word, takes) ≡ true
+found_is test word takes [] all e = absurd (none-some _ e)
+found_is test word takes (row ∷ rows) all e = go (bytes_eq word row.0) (test row) refl refl all e (λ more same. found_is test word takes rows more same)
+  where
+    go : (b t : Bool) → bytes_eq word row.0 ≡ b → test row ≡ t → (t && list_all test rows) ≡ true → cond b (Some row.1) (lookup (bytes_eq word) rows) ≡ Some takes
+        → (list_all test rows ≡ true → lookup (bytes_eq word) rows ≡ Some takes → test (word, takes) ≡ true) → test (word, takes) ≡ true
+    go b false is passes all same later = absurd (true≢false (sym all))
+    go true true is passes all same later = ap₂ (λ w t. test (w, t)) ((bytes_eq-Decides word row.0).0 is) (sym (ap (λ o. unwrap_or o takes) same)) ∙ passes
+    go false true is passes all same later = later all same
 
-    made_given : word ≡ codes "gen" → gen_given end ≡ Some j → IsNamed j word options
-    made_given named e = go (is_some end.form) (number_given 3 4095 end.size) (number_given 0 4294967295 end.number) refl refl refl e
-      where
-        go : (b : Bool) (s n : Option ℕ) → is_some end.form ≡ b → number_given 3 4095 end.size ≡ s → number_given 0 4294967295 end.number ≡ n → (if b then None else gen_of s n) ≡ Some j → IsNamed j word options
-        go true s n f es en same = absurd (none-some _ same)
-        go false None n f es en same = absurd (none-some _ same)
-        go false (Some s) None f es en same = absurd (none-some _ same)
-        go false (Some s) (Some n) f es en same =
-            subst (λ y. IsNamed y word options) (ap (λ o. unwrap_or o (Gen s n)) same) (named, both_numbers options word end s n adds f es en)
+pub not_true : (b : Bool) → not b ≡ true → b ≡ false
+not_true false e = refl
+not_true true e = absurd (true≢false (sym e))
 
-    named_given : job_named end word ≡ Some j → IsNamed j word options
-    named_given e =
-        pick_alone (codes "count") (has_option end) Count _ (λ is none. (is, no_options options (put the_job word no_words) end adds none))
-        (λ f. makes (bytes_eq word (codes "gen")) refl f) e
-      where
-        makes : (b : Bool) → bytes_eq word (codes "gen") ≡ b
-            → (if b then gen_given end else if bytes_eq word (codes "verify") && not (has_option end) then Some Verify else option_and_then (drawing_named word) (form_given end)) ≡ Some j → IsNamed j word options
-        makes true is same = made_given ((bytes_eq-Decides word (codes "gen")).0 is) same
-        makes false is same = pick_alone (codes "verify") (has_option end) Verify _ (λ v none. (v, no_options options (put the_job word no_words) end adds none)) drawn_given same
+-- The words of the jobs differ.
+words_differ : list_all (λ (row : Text × Takes). count_by (λ (other : Text × Takes). bytes_eq row.0 other.0) jobs == 1) jobs ≡ true
+words_differ = refl
+
+-- no word of the table begins as an option does
+abbrev begins_plain : Text → Bool
+begins_plain [] = false
+begins_plain (b ∷ rest) = not (b == 45)
+
+plain_by : (word : Text) → begins_plain word ≡ true → Plain word
+plain_by [] e = absurd (true≢false (sym e))
+plain_by (b ∷ rest) e = plain_first b rest (not_true (b == 45) e)
+
+word_plain : (word : Text) (takes : Takes) → taken_by word ≡ Some takes → Plain word
+word_plain word takes is = plain_by word (found_is (λ row. begins_plain row.0) word takes jobs refl is)
+
+-- such a job is in the table only without options, behind such a word
+abbrev pub only : (Job → Bool) → (Text → Bool) → Text × Takes → Bool
+only test named (word, no_option job) = not (test job) || named word
+only test named (word, a_form job) = not (test (job forms.Text)) && not (test (job forms.Svg))
+only test named (word, two_numbers) = true
 
 -- ---- what the options of a job give
 
@@ -212,48 +233,31 @@ number_plain least most (b ∷ rest) n e = go (canonical (b ∷ rest)) (is_digit
 abbrev pub Gives : Text → List (Text × Text) → Job → Type 0
 Gives word options j = (end : Given) × Adds options (put the_job word no_words) end × (job_given end ≡ Some j) × Plain word × AllPlain options
 
-alone_gives : (w word : Text) (options : List (Text × Text)) (j : Job) → word ≡ w → options ≡ [] → job_given (put the_job w no_words) ≡ Some j → Plain w → Gives word options j
-alone_gives w word options j is none e plain_word =
-    subst (λ v. Gives v options j) (sym is) (subst (λ os. Gives w os j) (sym none) (put the_job w no_words, refl, e, plain_word, tt))
+-- what is given makes the job of a word, where it is what that takes
+gives_by : (word : Text) (takes : Takes) (options : List (Text × Text)) (j : Job) (end : Given) → taken_by word ≡ Some takes → Adds options (put the_job word no_words) end → job_with end takes ≡ Some j → AllPlain options → Gives word options j
+gives_by word takes options j end is adds makes plains = (
+  end,
+  adds,
+  ap (option_and_then (job_named end)) (job_stays options (put the_job word no_words) end adds) ∙ (ap (option_and_then (job_with end)) is ∙ makes),
+  word_plain word takes is,
+  plains,
+)
 
-form_gives : (w word : Text) (options : List (Text × Text)) (j : Form → Job) (form : Form) → word ≡ w → NamesForm form options → job_given (put the_job w no_words) ≡ Some (j forms.Text)
-    → job_given (put the_form (codes "text") (put the_job w no_words)) ≡ Some (j forms.Text) → job_given (put the_form (codes "svg") (put the_job w no_words)) ≡ Some (j forms.Svg) → Plain w → Gives word options (j form)
-form_gives w word options j forms.Text is (inl none) alone text svg plain_word = alone_gives w word options (j forms.Text) is none alone plain_word
-form_gives w word options j forms.Text is (inr one) alone text svg plain_word =
-    subst (λ v. Gives v options (j forms.Text)) (sym is) (subst (λ os. Gives w os (j forms.Text)) (sym one)
-    (put the_form (codes "text") (put the_job w no_words), (the_form, refl, refl, refl, refl), text, plain_word, ((refl, refl, refl), tt)))
-form_gives w word options j forms.Svg is one alone text svg plain_word =
-    subst (λ v. Gives v options (j forms.Svg)) (sym is) (subst (λ os. Gives w os (j forms.Svg)) (sym one)
-    (put the_form (codes "svg") (put the_job w no_words), (the_form, refl, refl, refl, refl), svg, plain_word, ((refl, refl, refl), tt)))
-
-numbers_give : (word : Text) (options : List (Text × Text)) (size number : ℕ) → word ≡ codes "gen" → NamesNumbers size number options → Gives word options (Gen size number)
-numbers_give word options size number is (s, n, size_is, number_is, inl order) =
-    subst (λ v. Gives v options (Gen size number)) (sym is) (subst (λ os. Gives (codes "gen") os (Gen size number)) (sym order) (
-      put the_number n (put the_size s (put the_job (codes "gen") no_words)),
-      (the_size, refl, refl, refl, (the_number, refl, refl, refl, refl)),
-      (λ i. gen_of (size_is i) (number_is i)),
-      (refl, refl, refl),
-      (number_plain 3 4095 s size size_is, (number_plain 0 4294967295 n number number_is, tt)),
-    ))
-numbers_give word options size number is (s, n, size_is, number_is, inr order) =
-    subst (λ v. Gives v options (Gen size number)) (sym is) (subst (λ os. Gives (codes "gen") os (Gen size number)) (sym order) (
-      put the_size s (put the_number n (put the_job (codes "gen") no_words)),
-      (the_number, refl, refl, refl, (the_size, refl, refl, refl, refl)),
-      (λ i. gen_of (size_is i) (number_is i)),
-      (refl, refl, refl),
-      (number_plain 0 4294967295 n number number_is, (number_plain 3 4095 s size size_is, tt)),
-    ))
-
-named_gives : (j : Job) (word : Text) (options : List (Text × Text)) → IsNamed j word options → Gives word options j
-named_gives Count word options (is, none) = alone_gives (codes "count") word options Count is none refl (refl, refl, refl)
-named_gives (Shift form) word options (is, names) = form_gives (codes "shift") word options Shift form is names refl refl refl (refl, refl, refl)
-named_gives (Schnyder form) word options (is, names) = form_gives (codes "schnyder") word options Schnyder form is names refl refl refl (refl, refl, refl)
-named_gives (Bars form) word options (is, names) = form_gives (codes "bars") word options Bars form is names refl refl refl (refl, refl, refl)
-named_gives (Convex form) word options (is, names) = form_gives (codes "convex") word options Convex form is names refl refl refl (refl, refl, refl)
-named_gives (Rect form) word options (is, names) = form_gives (codes "rect") word options Rect form is names refl refl refl (refl, refl, refl)
-named_gives (Gen size number) word options (is, names) = numbers_give word options size number is names
-named_gives Verify word options (is, none) = alone_gives (codes "verify") word options Verify is none refl (refl, refl, refl)
-named_gives (Embed form) word options (is, names) = form_gives (codes "embed") word options Embed form is names refl refl refl (refl, refl, refl)
+options_give : (takes : Takes) (word : Text) (options : List (Text × Text)) (j : Job) → taken_by word ≡ Some takes → Fits takes j options → Gives word options j
+options_give (no_option job) word options j is (same, none) =
+    rw same (rw none (gives_by word (no_option job) [] job (put the_job word no_words) is refl refl tt))
+options_give (a_form job) word options j is (forms.Text, same, inl none) =
+    rw same (rw none (gives_by word (a_form job) [] (job forms.Text) (put the_job word no_words) is refl refl tt))
+options_give (a_form job) word options j is (forms.Text, same, inr one) =
+    rw same (rw one (gives_by word (a_form job) ((codes "form", codes "text") ∷ []) (job forms.Text) (put the_form (codes "text") (put the_job word no_words)) is (the_form, refl, refl, refl, refl) refl ((refl, refl, refl), tt)))
+options_give (a_form job) word options j is (forms.Svg, same, one) =
+    rw same (rw one (gives_by word (a_form job) ((codes "form", codes "svg") ∷ []) (job forms.Svg) (put the_form (codes "svg") (put the_job word no_words)) is (the_form, refl, refl, refl, refl) refl ((refl, refl, refl), tt)))
+options_give two_numbers word options j is (size, number, same, (s, n, size_is, number_is, inl order)) =
+    rw same (rw order (gives_by word two_numbers ((codes "size", s) ∷ (codes "number", n) ∷ []) (Gen size number) (put the_number n (put the_size s (put the_job word no_words))) is (the_size, refl, refl, refl, (the_number, refl, refl, refl, refl))
+    (λ i. gen_of (size_is i) (number_is i)) (number_plain 3 4095 s size size_is, (number_plain 0 4294967295 n number number_is, tt))))
+options_give two_numbers word options j is (size, number, same, (s, n, size_is, number_is, inr order)) =
+    rw same (rw order (gives_by word two_numbers ((codes "number", n) ∷ (codes "size", s) ∷ []) (Gen size number) (put the_size s (put the_number n (put the_job word no_words))) is (the_number, refl, refl, refl, (the_size, refl, refl, refl, refl))
+    (λ i. gen_of (size_is i) (number_is i)) (number_plain 0 4294967295 n number number_is, (number_plain 3 4095 s size size_is, tt))))
 
 -- ---- the law
 
@@ -272,7 +276,7 @@ spelled_by words j e =
 
 job_by : (words : List Text) (j : Job) → Spelled words j → job_of words ≡ Some j
 job_by words j (word, options, spell, named) =
-    let (end, adds, is, plain_word, plains) = named_gives j word options named in
+    let (end, adds, is, plain_word, plains) = options_give named.0 word options j named.1 named.2 in
     ap (option_and_then job_given) (given_of words end (ends_by spell [] no_text false end tt tt tt (refl, plain_word) plains adds)) ∙ is
 
 pub job_words-law : JobWords
@@ -292,15 +296,29 @@ job_alone (job_word {word = word} spell) = go (no_job_alone spell)
     go (inl e) = inl (ap (λ ws. word ∷ ws) e)
     go (inr e) = inr (inr (ap (λ ws. word ∷ ws) e))
 
+abbrev is_count : Job → Bool
+is_count Count = true
+is_count job = false
+
+count_named : (word : Text) (options : List (Text × Text)) → IsNamed Count word options → (word ≡ codes "count") × (options ≡ [])
+count_named word options (takes, is, fits) = go takes fits (found_is (only is_count (λ w. bytes_eq w (codes "count"))) word takes jobs refl is)
+  where
+    go : (takes : Takes) → Fits takes Count options → only is_count (λ w. bytes_eq w (codes "count")) (word, takes) ≡ true → (word ≡ codes "count") × (options ≡ [])
+    go (no_option job) (same, none) one = ((bytes_eq-Decides word (codes "count")).0 (subst (λ j. (not (is_count j) || bytes_eq word (codes "count")) ≡ true) (sym same) one), none)
+    go (a_form job) (forms.Text, same, names) one = absurd (let lacks = not_true _ (and_left _ _ one) in true≢false (ap is_count same ∙ lacks))
+    go (a_form job) (forms.Svg, same, names) one = absurd (let lacks = not_true _ (and_right _ _ one) in true≢false (ap is_count same ∙ lacks))
+    go two_numbers (size, number, same, names) one = absurd (true≢false (ap is_count same))
+
 pub count_words-law : CountWords
 count_words-law words = (there, back)
   where
     there : job_of words ≡ Some Count → IsCountWords words
     there e =
-        let (word, options, spell, (is, none)) = spelled_by words Count e in
+        let (word, options, spell, named) = spelled_by words Count e in
+        let (is, none) = count_named word options named in
         subst (λ w. (words ≡ w ∷ []) ⊎ ((words ≡ codes "--" ∷ w ∷ []) ⊎ (words ≡ w ∷ codes "--" ∷ []))) is (job_alone (subst (λ os. Spell words (Some word) os) none spell))
 
     back : IsCountWords words → job_of words ≡ Some Count
-    back (inl e) = job_by words Count (codes "count", [], subst (λ ws. Spell ws (Some (codes "count")) []) (sym e) (job_word nothing), (refl, refl))
-    back (inr (inl e)) = job_by words Count (codes "count", [], subst (λ ws. Spell ws (Some (codes "count")) []) (sym e) behind, (refl, refl))
-    back (inr (inr e)) = job_by words Count (codes "count", [], subst (λ ws. Spell ws (Some (codes "count")) []) (sym e) (job_word hyphens), (refl, refl))
+    back (inl e) = job_by words Count (codes "count", [], subst (λ ws. Spell ws (Some (codes "count")) []) (sym e) (job_word nothing), (no_option Count, refl, (refl, refl)))
+    back (inr (inl e)) = job_by words Count (codes "count", [], subst (λ ws. Spell ws (Some (codes "count")) []) (sym e) behind, (no_option Count, refl, (refl, refl)))
+    back (inr (inr e)) = job_by words Count (codes "count", [], subst (λ ws. Spell ws (Some (codes "count")) []) (sym e) (job_word hyphens), (no_option Count, refl, (refl, refl)))

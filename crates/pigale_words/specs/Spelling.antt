@@ -2,11 +2,11 @@
 use Rattle.std.specs.Prelude.{◌≡◌, ◌⊎◌, ◌↔◌, ℕ, List, [], ◌∷◌, ◌++◌, Option, Some, None, codes}
 use Rattle.clap.specs.Walk.{Text}
 use Rattle.pigale_words.specs.Numbers.{number_in}
-use Rattle.pigale_words.specs.Words.{job_of}
+use Rattle.pigale_words.specs.Words.{Takes, Takes.no_option, Takes.a_form, Takes.two_numbers, taken_by, job_of}
 use Rattle.pigale_words.specs.declared.form.Form.{Form}
 use Rattle.pigale_words.specs.declared.form.Form.TheVariants as forms
 use Rattle.pigale_words.specs.declared.job.Job.{Job}
-use Rattle.pigale_words.specs.declared.job.Job.TheVariants.{Count, Shift, Schnyder, Bars, Convex, Rect, Gen, Verify, Embed}
+use Rattle.pigale_words.specs.declared.job.Job.TheVariants.{Gen}
 
 -- The words spell the word of a job, or of none, and options with their texts, in their order. An option is the two words `--name text`, or the one word
 -- `--name=text`. `--` may stand once; behind it is no option, and so nothing but the word of the job where that has not come before.
@@ -31,17 +31,15 @@ NamesNumbers size number options =
     (s n : Text) × (number_in 3 4095 s ≡ Some size) × (number_in 0 4294967295 n ≡ Some number)
     × ((options ≡ (codes "size", s) ∷ (codes "number", n) ∷ []) ⊎ (options ≡ (codes "number", n) ∷ (codes "size", s) ∷ []))
 
--- the word and the options are those of the job
+-- the options are those of a job that takes such
+abbrev pub Fits : Takes → Job → List (Text × Text) → Type 0
+Fits (no_option named) job options = (job ≡ named) × (options ≡ [])
+Fits (a_form named) job options = (form : Form) × (job ≡ named form) × NamesForm form options
+Fits two_numbers job options = (size number : ℕ) × (job ≡ Gen size number) × NamesNumbers size number options
+
+-- the word is one of the table, and the options are those of the job
 abbrev pub IsNamed : Job → Text → List (Text × Text) → Type 0
-IsNamed Count word options = (word ≡ codes "count") × (options ≡ [])
-IsNamed (Shift form) word options = (word ≡ codes "shift") × NamesForm form options
-IsNamed (Schnyder form) word options = (word ≡ codes "schnyder") × NamesForm form options
-IsNamed (Bars form) word options = (word ≡ codes "bars") × NamesForm form options
-IsNamed (Convex form) word options = (word ≡ codes "convex") × NamesForm form options
-IsNamed (Rect form) word options = (word ≡ codes "rect") × NamesForm form options
-IsNamed (Gen size number) word options = (word ≡ codes "gen") × NamesNumbers size number options
-IsNamed Verify word options = (word ≡ codes "verify") × (options ≡ [])
-IsNamed (Embed form) word options = (word ≡ codes "embed") × NamesForm form options
+IsNamed job word options = (takes : Takes) × (taken_by word ≡ Some takes) × Fits takes job options
 
 -- the words of each job are those that spell its word and its options, and no others
 abbrev pub JobWords : Type 0

@@ -1,5 +1,6 @@
 -- Which words are those of a job.
-use Rattle.std.specs.Prelude.{◌≡◌, ◌⊎◌, ◌↔◌, ◌&&◌, ◌||◌, not, ℕ, Bool, true, List, [], ◌∷◌, Option, Some, None, is_some, option_and_then, if◌then◌else◌, codes, bytes_eq}
+use Rattle.std.specs.Prelude.{◌≡◌, ◌⊎◌, ◌↔◌, ◌||◌, ℕ, Bool, true, List, [], ◌∷◌, Option, Some, None, is_some, option_and_then, option_map, if◌then◌else◌, codes, bytes_eq}
+use Rattle.std.specs.Map.{lookup}
 use Rattle.clap.specs.Walk.{Row, Rule, Text, first_of}
 use Rattle.clap.specs.Simple.{App, Shape, matches_of, new_app, new_rule, on_top, with_rule}
 use Rattle.clap.specs.Kinds.{Kinds}
@@ -64,11 +65,6 @@ form_of (Some name) = if bytes_eq name (codes "text") then Some forms.Text else 
 abbrev pub form_given : Given → Option Form
 form_given g = if has_number g then None else form_of g.form
 
--- the job that draws with this word, in a form
-abbrev pub drawing_named : Text → Form → Option Job
-drawing_named word form =
-    if bytes_eq word (codes "shift") then Some (Shift form) else if bytes_eq word (codes "schnyder") then Some (Schnyder form) else if bytes_eq word (codes "bars") then Some (Bars form) else if bytes_eq word (codes "convex") then Some (Convex form) else if bytes_eq word (codes "rect") then Some (Rect form) else if bytes_eq word (codes "embed") then Some (Embed form) else None
-
 -- the number from `least` to `most` that an option gives
 abbrev pub number_given : ℕ → ℕ → Option Text → Option ℕ
 number_given least most given = option_and_then (number_in least most) given
@@ -83,10 +79,39 @@ gen_of (Some size) (Some number) = Some (Gen size number)
 abbrev pub gen_given : Given → Option Job
 gen_given g = if is_some g.form then None else gen_of (number_given 3 4095 g.size) (number_given 0 4294967295 g.number)
 
--- the job of a word with the options beside it: `count` and `verify` take none, `gen` wants two of them, and a job that draws takes the form
+-- what a job takes beside its word: no option; the form at most; or a size and a number, of which it makes a map
+pub data Takes : Type 0 where
+  no_option : Job → Takes
+  a_form : (Form → Job) → Takes
+  two_numbers : Takes
+
+-- the jobs: the word of each, and what it takes
+abbrev pub jobs : List (Text × Takes)
+jobs =
+    (codes "count", no_option Count)
+    ∷ (codes "shift", a_form Shift)
+    ∷ (codes "schnyder", a_form Schnyder)
+    ∷ (codes "bars", a_form Bars)
+    ∷ (codes "convex", a_form Convex)
+    ∷ (codes "rect", a_form Rect)
+    ∷ (codes "embed", a_form Embed)
+    ∷ (codes "verify", no_option Verify)
+    ∷ (codes "gen", two_numbers)
+    ∷ []
+
+-- what the job with a word takes; None where there is no such job
+abbrev pub taken_by : Text → Option Takes
+taken_by word = lookup (bytes_eq word) jobs
+
+-- the job, where the options given are those that it takes
+abbrev pub job_with : Given → Takes → Option Job
+job_with g (no_option job) = if has_option g then None else Some job
+job_with g (a_form job) = option_map job (form_given g)
+job_with g two_numbers = gen_given g
+
+-- the job of a word with the options beside it
 abbrev pub job_named : Given → Text → Option Job
-job_named g word =
-    if bytes_eq word (codes "count") && not (has_option g) then Some Count else if bytes_eq word (codes "gen") then gen_given g else if bytes_eq word (codes "verify") && not (has_option g) then Some Verify else option_and_then (drawing_named word) (form_given g)
+job_named g word = option_and_then (job_with g) (taken_by word)
 
 abbrev pub job_given : Given → Option Job
 job_given g = option_and_then (job_named g) g.job

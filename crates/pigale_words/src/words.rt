@@ -4,7 +4,7 @@ ghost use Rattle.clap.specs.Matches.{found_of};
 ghost use Rattle.clap.specs.Values.{kind_of};
 ghost use Rattle.clap.specs.Walk.{first_of, rows_of};
 ghost use Rattle.clap.specs.Simple.{app_of};
-ghost use Rattle.pigale_words.specs.Words.{command as the_command, given, given_in, has_option as gives_option, has_number as gives_number, form_of as form_by, form_given as form_from, drawing_named, number_given as number_by, gen_of, gen_given as gen_by, job_given as job_by};
+ghost use Rattle.pigale_words.specs.Words.{command as the_command, given, given_in, has_option as gives_option, has_number as gives_number, form_of as form_by, form_given as form_from, number_given as number_by, gen_of, gen_given as gen_by, Takes, job_with as job_by_options, job_named as job_by_word, job_given as job_by};
 ghost use Rattle.pigale_words.specs.Words.{job_of, CountWords};
 ghost use Rattle.pigale_words.specs.Spelling.{JobWords};
 ghost use Rattle.pigale_words.specs.Status.{RefusesWords};
@@ -125,27 +125,6 @@ fn form_given(matches: &ArgMatches) -> Option<Form>
     }
 }
 
-// The job that draws with this word, in a form.
-fn drawing_job(word: &str, form: Form) -> Option<Job>
-    ensures { result ≡ drawing_named word.now form }
-{
-    if word == "shift" {
-        Some(Job::Shift(form))
-    } else if word == "schnyder" {
-        Some(Job::Schnyder(form))
-    } else if word == "bars" {
-        Some(Job::Bars(form))
-    } else if word == "convex" {
-        Some(Job::Convex(form))
-    } else if word == "rect" {
-        Some(Job::Rect(form))
-    } else if word == "embed" {
-        Some(Job::Embed(form))
-    } else {
-        None
-    }
-}
-
 // The number from `least` to `most` that an option gives.
 fn number_given(matches: &ArgMatches, id: &str, least: u32, most: u32) -> Option<u32>
     ensures { result ≡ number_by least most (first_of id.now (rows_of (found_of matches.now))) }
@@ -182,25 +161,38 @@ fn gen_given(matches: &ArgMatches) -> Option<Job>
     gen_job(size, number)
 }
 
+// A job that takes no option, where there is none.
+fn bare_job(matches: &ArgMatches, job: Job) -> Option<Job>
+    ensures { result ≡ job_by_options (given_in (rows_of (found_of matches.now))) (Takes.no_option job) }
+{
+    if has_option(matches) { None } else { Some(job) }
+}
+
+// The job with this word, where the options are those that it takes: a row for each job.
+fn job_named(matches: &ArgMatches, word: &str) -> Option<Job>
+    ensures { result ≡ job_by_word (given_in (rows_of (found_of matches.now))) word.now }
+{
+    let form = form_given(matches);
+    match word {
+        "count" => bare_job(matches, Job::Count),
+        "shift" => form.map(Job::Shift),
+        "schnyder" => form.map(Job::Schnyder),
+        "bars" => form.map(Job::Bars),
+        "convex" => form.map(Job::Convex),
+        "rect" => form.map(Job::Rect),
+        "embed" => form.map(Job::Embed),
+        "verify" => bare_job(matches, Job::Verify),
+        "gen" => gen_given(matches),
+        _ => None,
+    }
+}
+
 // The job that the words ask for: none where there is no such job, or an option that it does not have.
 fn job_given(matches: &ArgMatches) -> Option<Job>
     ensures { result ≡ job_by (given_in (rows_of (found_of matches.now))) }
 {
     match text_of(matches, "job") {
-        Some(word) => {
-            if word == "count" && !has_option(matches) {
-                Some(Job::Count)
-            } else if word == "gen" {
-                gen_given(matches)
-            } else if word == "verify" && !has_option(matches) {
-                Some(Job::Verify)
-            } else {
-                match form_given(matches) {
-                    Some(form) => drawing_job(word, form),
-                    None => None,
-                }
-            }
-        }
+        Some(word) => job_named(matches, word),
         None => None,
     }
 }
@@ -208,14 +200,11 @@ fn job_given(matches: &ArgMatches) -> Option<Job>
 /// The job of the words after the program's name.
 ///
 /// clap reads them as a command with one positional, the job's word, and the options `--form`, `--size`
-/// and `--number`, each with one text, which may follow as the next word or behind a `=`. `count` is the
-/// job `Count` and has none of these options; `shift`, `schnyder`, `bars`, `convex`, `rect` and `embed` are the jobs
-/// `Shift`, `Schnyder`, `Bars`, `Convex`, `Rect` and `Embed` and have the first, of which the text is `text` or `svg`;
-/// `gen` is the job `Gen` and has the other two,
-/// which it wants: a size from 3 to 4095 and a number from 0 to 4294967295, both in decimal; `verify` is
-/// the job `Verify` and has none. `BadWords` comes exactly where the words are those of no
-/// job: where clap refuses them, where there is no such job, and where an option is there that the job
-/// does not have.
+/// and `--number`, each with one text, which may follow as the next word or behind a `=`. The word is the job's
+/// name in lower case. A job that draws what it reads has the first option, of which the text is `text` or `svg`.
+/// `gen` has the other two, which it wants: a size from 3 to 4095 and a number from 0 to 4294967295, both in
+/// decimal. The others have none. `BadWords` comes exactly where the words are those of no job: where clap refuses
+/// them, where there is no such job, and where an option is there that the job does not have.
 pub fn words_to_job(alloc: Global, words: &[String]) -> Result<Job, WordFault>
     ensures job { MatchResult result
         (λ job. job_of (map string_bytes words.now) ≡ Some job)
