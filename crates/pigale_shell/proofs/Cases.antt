@@ -19,7 +19,8 @@ use Rattle.line_inputs.specs.declared.graph_lines.ending.Ending.TheVariants.{Lim
 use Rattle.pigale_shell.specs.EmbedText.{IsEmbedBlock, embed_last_line}
 use Rattle.pigale_shell.specs.Text.{counts_line, refusal_line, end_line}
 use Rattle.pigale_shell.specs.Answer.{IsMapBlock}
-use Rattle.pigale_shell.specs.declared.kinds.MapJob.TheVariants as maps
+use Rattle.pigale_shell.specs.Kinds.{says_of}
+use Rattle.pigale_shell.specs.declared.map_jobs.MapJob.TheVariants as maps
 use Rattle.refusals.specs.declared.refusal.Refusal.TheVariants.{OutOfRange, Loop, Repeated, OneSided, Small}
 
 -- lists with vertices numbered from 1, as they are printed
@@ -28,23 +29,23 @@ from_one lists = map (map (λ u. u - 1)) lists
 
 -- the blocks of `count` for lists whose vertices are numbered from 1
 
-octahedron_block : IsMapBlock maps.Count 1 (from_one ((2 ∷ 3 ∷ 4 ∷ 5 ∷ []) ∷ (1 ∷ 5 ∷ 6 ∷ 3 ∷ []) ∷ (1 ∷ 2 ∷ 6 ∷ 4 ∷ []) ∷ (1 ∷ 3 ∷ 6 ∷ 5 ∷ []) ∷ (1 ∷ 4 ∷ 6 ∷ 2 ∷ []) ∷ (2 ∷ 5 ∷ 4 ∷ 3 ∷ []) ∷ [])) (codes "count 1 n 6 m 12 f 8 c 1 genus 0" ++ 10 ∷ [])
+octahedron_block : IsMapBlock (says_of maps.Count) forms.Text 1 (from_one ((2 ∷ 3 ∷ 4 ∷ 5 ∷ []) ∷ (1 ∷ 5 ∷ 6 ∷ 3 ∷ []) ∷ (1 ∷ 2 ∷ 6 ∷ 4 ∷ []) ∷ (1 ∷ 3 ∷ 6 ∷ 5 ∷ []) ∷ (1 ∷ 4 ∷ 6 ∷ 2 ∷ []) ∷ (2 ∷ 5 ∷ 4 ∷ 3 ∷ []) ∷ [])) (codes "count 1 n 6 m 12 f 8 c 1 genus 0" ++ 10 ∷ [])
 unfolding entry_after merge face_count component_count first_fault counts_line digits
 octahedron_block = inl (refl, refl)
 
-one_sided_block : IsMapBlock maps.Count 1 (from_one ((2 ∷ []) ∷ [] ∷ [])) (codes "refused 1 4 OneSided 1 2" ++ 10 ∷ [])
+one_sided_block : IsMapBlock (says_of maps.Count) forms.Text 1 (from_one ((2 ∷ []) ∷ [] ∷ [])) (codes "refused 1 4 OneSided 1 2" ++ 10 ∷ [])
 unfolding first_fault refusal_line digits
 one_sided_block = inr (OneSided 0 1, refl, refl)
 
-loop_block : IsMapBlock maps.Count 1 (from_one ((1 ∷ 2 ∷ 2 ∷ []) ∷ (1 ∷ []) ∷ [])) (codes "refused 1 2 Loop 1" ++ 10 ∷ [])
+loop_block : IsMapBlock (says_of maps.Count) forms.Text 1 (from_one ((1 ∷ 2 ∷ 2 ∷ []) ∷ (1 ∷ []) ∷ [])) (codes "refused 1 2 Loop 1" ++ 10 ∷ [])
 unfolding first_fault refusal_line digits
 loop_block = inr (Loop 0, refl, refl)
 
-repeated_block : IsMapBlock maps.Count 1 (from_one ((2 ∷ 2 ∷ []) ∷ (1 ∷ []) ∷ [])) (codes "refused 1 3 Repeated 1 2" ++ 10 ∷ [])
+repeated_block : IsMapBlock (says_of maps.Count) forms.Text 1 (from_one ((2 ∷ 2 ∷ []) ∷ (1 ∷ []) ∷ [])) (codes "refused 1 3 Repeated 1 2" ++ 10 ∷ [])
 unfolding first_fault refusal_line digits
 repeated_block = inr (Repeated 0 1, refl, refl)
 
-out_of_range_block : IsMapBlock maps.Count 1 (from_one ((3 ∷ []) ∷ (2 ∷ []) ∷ [])) (codes "refused 1 1 OutOfRange 1 3" ++ 10 ∷ [])
+out_of_range_block : IsMapBlock (says_of maps.Count) forms.Text 1 (from_one ((3 ∷ []) ∷ (2 ∷ []) ∷ [])) (codes "refused 1 1 OutOfRange 1 3" ++ 10 ∷ [])
 unfolding first_fault refusal_line digits
 out_of_range_block = inr (OutOfRange 0 2, refl, refl)
 

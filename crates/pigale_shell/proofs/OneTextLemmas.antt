@@ -1,5 +1,5 @@
 -- The text of a run that draws nothing is one, and so is each line that refuses a record.
-use Rattle.std.proofs.Common.{◌≡◌, ◌↔◌, ◌<◌, ◌+◌, ◌++◌, ℕ, inl, inr, refl, sym, ap, ap₂, subst, ◌∙◌, Bool, true, false, if◌then◌else◌, IsTrue, List, [], ◌∷◌, length, Some, arith}
+use Rattle.std.proofs.Common.{◌≡◌, ◌↔◌, ◌+◌, ◌++◌, ℕ, inl, inr, refl, sym, ap, ap₂, subst, ◌∙◌, Bool, true, false, if◌then◌else◌, IsTrue, List, [], ◌∷◌, length, Some, arith}
 use Rattle.std.specs.Prelude.{unwrap_or}
 use Rattle.map_lists.specs.Lists.{Lists}
 use Rattle.pg_io.specs.Io.{Grows}
@@ -10,20 +10,21 @@ use Rattle.refusals.specs.declared.refusal.Unserved.TheVariants.{Refused as Unse
 use Rattle.figure_text.specs.declared.figure.Figure.{Figure}
 use Rattle.figure_verdicts.specs.declared.verdict.FigureVerdict.{FigureVerdict}
 use Rattle.figure_verdicts.specs.declared.verdict.FigureVerdict.TheVariants.{Refused, Drawing, Inside, Convex, Bars, Rects, Witness, Yes}
-use Rattle.verdict_laws.specs.Laws.{OneFigureVerdict, OneBreak, OneConvexBreak, OneRectBreak}
+use Rattle.verdict_laws.specs.Laws.{OneFigureVerdict}
+use Rattle.pigale_words.specs.declared.form.Form.{Form}
+use Rattle.pigale_shell.specs.Blocks.{IsLawful}
 use Rattle.pigale_shell.specs.Text.{refusal_line}
 use Rattle.pigale_shell.specs.Forms.{line_in}
-use Rattle.pigale_shell.specs.Kinds.{form_of}
-use Rattle.pigale_shell.specs.Answer.{Serves, Breaks, IsMapBlock, ServedBreaksNothing}
+use Rattle.pigale_shell.specs.Kinds.{says_of}
+use Rattle.pigale_shell.specs.Answer.{IsMapBlock}
 use Rattle.pigale_shell.specs.Verify.{WritesVerdict, IsVerifyBlock}
 use Rattle.pigale_shell.specs.JobInput.{RecordOf, EndingOf, answers_of}
 use Rattle.pigale_shell.specs.Outcome.{Writes}
 use Rattle.pigale_shell.specs.OneText.{OneText, OneRefusalLine, OneGraphRefusalLine}
-use Rattle.pigale_shell.specs.declared.kinds.Method.TheVariants as method
-use Rattle.pigale_shell.specs.declared.kinds.MapJob.{MapJob}
-use Rattle.pigale_shell.specs.declared.kinds.MapJob.TheVariants.{Count, Draw}
+use Rattle.pigale_shell.specs.declared.map_jobs.MapJob.{MapJob}
+use Rattle.pigale_shell.specs.declared.map_jobs.MapJob.TheVariants.{Count}
 use Rattle.pigale_shell.specs.declared.kinds.JobKind.{JobKind}
-use Rattle.pigale_shell.specs.declared.kinds.JobKind.TheVariants.{Maps, Graphs, Figures, Made}
+use Rattle.pigale_shell.specs.declared.kinds.JobKind.TheVariants.{Maps, Figures}
 use Rattle.pigale_shell.proofs.OutcomeLemmas.{one_ending, one_records}
 
 -- blocks one by one, and how many are refused
@@ -71,11 +72,11 @@ module _ (job : JobKind) (one_block : (k : ℕ) (r : RecordOf job) (t t' : List 
       ∙ sym (grown before text' (text_of g.blocks g.records refused' ending') g.grows))))
 
 -- the block of `count`
-count_block : (k : ℕ) (lists : Lists) (t t' : List ℕ) → IsMapBlock Count k lists t → IsMapBlock Count k lists t' → t ≡ t'
-count_block k lists t t' (inl h) (inl g) = h.1 ∙ sym g.1
-count_block k lists t t' (inl h) (inr g) = absurd (let served = h.0 in let breaks = g.1 in cc)
-count_block k lists t t' (inr h) (inl g) = absurd (let served = g.0 in let breaks = h.1 in cc)
-count_block k lists t t' (inr h) (inr g) = h.2 ∙ (ap (λ refusal. refusal_line k refusal) (ap (λ o. unwrap_or o h.0) (sym h.1 ∙ g.1)) ∙ sym g.2)
+count_block : (form : Form) (k : ℕ) (lists : Lists) (t t' : List ℕ) → IsMapBlock (says_of Count) form k lists t → IsMapBlock (says_of Count) form k lists t' → t ≡ t'
+count_block form k lists t t' (inl h) (inl g) = h.1 ∙ sym g.1
+count_block form k lists t t' (inl h) (inr g) = absurd (let served = h.0 in let breaks = g.1 in cc)
+count_block form k lists t t' (inr h) (inl g) = absurd (let served = g.0 in let breaks = h.1 in cc)
+count_block form k lists t t' (inr h) (inr g) = h.2 ∙ (ap (λ refusal. line_in form (refusal_line k refusal)) (ap (λ o. unwrap_or o h.0) (sym h.1 ∙ g.1)) ∙ sym g.2)
 
 -- the block of `verify`
 named : Unserved → Refusal → Refusal
@@ -97,26 +98,14 @@ verify_block : OneFigureVerdict → (k : ℕ) (figure : Figure) (t t' : List ℕ
 verify_block one k figure t t' h g = verdict_text k g.0 t t' (subst (λ v. WritesVerdict k v t) (one figure h.0 g.0 h.1 g.1) h.2) g.2
 
 pub one_text : OneFigureVerdict → OneText
-one_text one (Maps Count) input before text text' ending ending' refused refused' draws h g = writes_once (Maps Count) count_block (λ r b b' s s'. served_once (Serves Count r) b b' s s') input before text text' ending ending' refused refused' h g
-one_text one (Maps (Draw method form)) input before text text' ending ending' refused refused' draws h g = absurd draws
-one_text one (Graphs form) input before text text' ending ending' refused refused' draws h g = absurd draws
+one_text one (Maps Count form) input before text text' ending ending' refused refused' draws h g = writes_once (Maps Count form) (count_block form) (λ r b b' s s'. served_once ((says_of Count).Serves r) b b' s s') input before text text' ending ending' refused refused' h g
 one_text one Figures input before text text' ending ending' refused refused' draws h g = writes_once Figures (verify_block one) (λ r b b' s s'. served_once _ b b' s s') input before text text' ending ending' refused refused' h g
-one_text one (Made size number) input before text text' ending ending' refused refused' draws h g = absurd draws
+one_text one job input before text text' ending ending' refused refused' draws h g = absurd draws
 
--- a map breaks one condition first
-module _ (blocks : OneBreak) (convex : OneConvexBreak) (rect : OneRectBreak) where
-  one_break : (job : MapJob) (lists : Lists) (refusal refusal' : Refusal) → 0 < length lists → Breaks job lists refusal → Breaks job lists refusal' → refusal ≡ refusal'
-  one_break Count lists refusal refusal' some h g = ap (λ o. unwrap_or o refusal) (sym h ∙ g)
-  one_break (Draw method.Shift form) lists refusal refusal' some h g = ap (λ o. unwrap_or o refusal) (sym h ∙ g)
-  one_break (Draw method.Schnyder form) lists refusal refusal' some h g = ap (λ o. unwrap_or o refusal) (sym h ∙ g)
-  one_break (Draw method.Bars form) lists refusal refusal' some h g = blocks 3 lists refusal refusal' h g
-  one_break (Draw method.Convex form) lists refusal refusal' some h g = convex lists some refusal refusal' h g
-  one_break (Draw method.Rect form) lists refusal refusal' some h g = rect lists some refusal refusal' h g
-
-  pub one_refusal_line : ServedBreaksNothing → OneRefusalLine
-  one_refusal_line nothing job k lists line text some refused (inl h) = absurd (nothing job lists refused.0 some h.0 refused.1)
-  one_refusal_line nothing job k lists line text some refused (inr h) =
-      h.2 ∙ (ap (λ refusal. line_in (form_of job) (refusal_line k refusal)) (one_break job lists h.0 refused.0 some h.1 refused.1) ∙ sym refused.2)
+pub one_refusal_line : ((job : MapJob) → IsLawful (says_of job)) → OneRefusalLine
+one_refusal_line lawful job form k lists line text some refused (inl h) = absurd ((lawful job).breaks_nothing lists refused.0 some h.0 refused.1)
+one_refusal_line lawful job form k lists line text some refused (inr h) =
+    h.2 ∙ (ap (λ refusal. line_in form (refusal_line k refusal)) ((lawful job).one_break lists some h.0 refused.0 h.1 refused.1) ∙ sym refused.2)
 
 pub one_graph_refusal_line : OneGraphRefusalLine
 one_graph_refusal_line form k graph line text refused (inl h) = absurd (omega (arith, h.0, refused.1.1))

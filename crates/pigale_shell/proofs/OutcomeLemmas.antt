@@ -40,21 +40,21 @@ told-ending_of TooLong = refl
 
 -- each input of a job is read in one way
 pub one_ending : (job : JobKind) (input : List ℕ) (records records' : List (RecordOf job)) (ending ending' : EndingOf job) → (reads_of job).IsReading input records ending → (reads_of job).IsReading input records' ending' → ending ≡ ending'
-one_ending (Maps job) input records records' ending ending' reading reading' =
+one_ending (Maps job form) input records records' ending ending' reading reading' =
     sym (told-ending_of ending) ∙ ap told (reading-unique input records records' (ending_of ending) (ending_of ending') reading reading').1 ∙ told-ending_of ending'
 one_ending (Graphs form) input records records' ending ending' reading reading' = (graphs-unique input records records' ending ending' reading reading').1
 one_ending Figures input records records' ending ending' reading reading' = (figures-unique input records records' ending ending' reading reading').1
 one_ending (Made size number) input records records' ending ending' reading reading' = refl
 
 pub one_records : (job : JobKind) (input : List ℕ) (records records' : List (RecordOf job)) (ending ending' : EndingOf job) → (reads_of job).IsReading input records ending → (reads_of job).IsReading input records' ending' → records ≡ records'
-one_records (Maps job) input records records' ending ending' reading reading' = (reading-unique input records records' (ending_of ending) (ending_of ending') reading reading').0
+one_records (Maps job form) input records records' ending ending' reading reading' = (reading-unique input records records' (ending_of ending) (ending_of ending') reading reading').0
 one_records (Graphs form) input records records' ending ending' reading reading' = (graphs-unique input records records' ending ending' reading reading').0
 one_records Figures input records records' ending ending' reading reading' = (figures-unique input records records' ending ending' reading reading').0
 one_records (Made size number) input records records' ending ending' reading reading' = reading ∙ sym reading'
 
 -- each input begins with no records
 begins_none : (job : JobKind) (input : List ℕ) → (reads_of job).BeginsWith input []
-begins_none (Maps job) input = Progress-begins [] [] at_front input Progress-start (omega arith)
+begins_none (Maps job form) input = Progress-begins [] [] at_front input Progress-start (omega arith)
 begins_none (Graphs form) input = begins-no-graphs input
 begins_none Figures input = begins-none input
 begins_none (Made size number) input = inl refl

@@ -10,7 +10,8 @@ use Rattle.figure_verdicts.specs.declared.verdict.FigureVerdict.{FigureVerdict}
 use Rattle.figure_verdicts.specs.declared.verdict.FigureVerdict.TheVariants.{Refused, Drawing, Inside, Convex, Bars, Rects, Witness as WitnessFault, Yes}
 use Rattle.line_inputs.specs.declared.graph_lines.ending.Ending.TheVariants as graph
 use Rattle.pigale_words.specs.declared.form.Form.{Form}
-use Rattle.pigale_shell.specs.declared.kinds.MapJob.TheVariants.{Count}
+use Rattle.pigale_words.specs.declared.form.Form.TheVariants.{Text}
+use Rattle.pigale_shell.specs.declared.map_jobs.MapJob.TheVariants.{Count}
 use Rattle.pigale_shell.specs.declared.kinds.JobKind.TheVariants.{Maps, Graphs}
 use Rattle.pigale_words.specs.declared.job.Status.TheVariants.{Done, BadInput, ReadFault, WriteFault}
 use Rattle.pigale_shell.specs.declared.lines.Ending.{Ending}
@@ -32,13 +33,13 @@ two_vertices_are_drawn : (form : Form) (edges : List Edge) → (embed_answers fo
 two_vertices_are_drawn form edges s = omega (arith, s.0 refl)
 
 -- an input that ended well, and neither read nor write failed
-always_bad_input : MayEnd (Maps Count) Well BadInput → ⊥
+always_bad_input : MayEnd (Maps Count Text) Well BadInput → ⊥
 always_bad_input e = e
 
-always_read_fault : (ending : Ending) → MayEnd (Maps Count) ending ReadFault → ⊥
+always_read_fault : (ending : Ending) → MayEnd (Maps Count Text) ending ReadFault → ⊥
 always_read_fault ending e = e
 
-always_write_fault : (ending : Ending) → MayEnd (Maps Count) ending WriteFault → ⊥
+always_write_fault : (ending : Ending) → MayEnd (Maps Count Text) ending WriteFault → ⊥
 always_write_fault ending e = e
 
 -- the verdict of a first figure, which is a witness, under the number of the second

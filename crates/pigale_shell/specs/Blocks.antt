@@ -1,5 +1,6 @@
 -- The block of a record: what it is where the record is served, and the line that names the first condition that it breaks.
-use Rattle.std.specs.Prelude.{ℕ, ◌≡◌, ◌⊎◌, List, ◌++◌}
+use Rattle.std.specs.Prelude.{ℕ, ◌<◌, ◌≡◌, ◌⊎◌, List, ◌++◌, length}
+use Rattle.map_lists.specs.Lists.{Lists}
 use Rattle.refusals.specs.declared.refusal.Refusal.{Refusal}
 use Rattle.pigale_words.specs.declared.form.Form.{Form}
 use Rattle.pigale_shell.specs.Text.{refusal_line}
@@ -20,3 +21,14 @@ IsJobBlock Served IsText Breaks form k text = (Served × IsText text) ⊎ IsRefu
 -- the bytes have grown by such a text
 abbrev pub Appends : (List ℕ → Type 0) → List ℕ → List ℕ → Type 0
 Appends IsText old new = (text : List ℕ) × IsText text × (new ≡ old ++ text)
+
+-- What a job over maps says: the lists that it serves, the first condition that others break, and the texts that it writes of record k, in a form.
+pub record Says : Type 1 where
+  pub Serves : Lists → Type 0
+  pub Breaks : Lists → Refusal → Type 0
+  pub IsText : Form → ℕ → Lists → List ℕ → Type 0
+
+-- No lists are both served and refused, and lists break one condition first.
+pub record IsLawful (says : Says) : Type 0 where
+  pub breaks_nothing : (lists : Lists) (refusal : Refusal) → 0 < length lists → says.Serves lists → ¬ says.Breaks lists refusal
+  pub one_break : (lists : Lists) → 0 < length lists → (refusal refusal' : Refusal) → says.Breaks lists refusal → says.Breaks lists refusal' → refusal ≡ refusal'

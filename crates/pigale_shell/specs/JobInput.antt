@@ -9,6 +9,7 @@ use Rattle.graph6_text.specs.Graphs.{EdgeGraph}
 use Rattle.line_inputs.specs.declared.graph_lines.ending.Ending.{Ending as GraphEnding}
 use Rattle.line_inputs.specs.GraphLinesFormat.{graph_lines}
 use Rattle.pigale_shell.specs.Answer.{planar_answers}
+use Rattle.pigale_shell.specs.Kinds.{says_of}
 use Rattle.pigale_shell.specs.PlanarCode.{planar_code}
 use Rattle.pigale_shell.specs.EmbedText.{embed_answers}
 use Rattle.pigale_shell.specs.Made.{made, made_answers}
@@ -28,28 +29,28 @@ left_of job left = if reads_input job then left else Some []
 
 -- a record of its input
 abbrev pub RecordOf : JobKind → Type 0
-RecordOf (Maps job) = Lists
+RecordOf (Maps job form) = Lists
 RecordOf (Graphs form) = EdgeGraph
 RecordOf Figures = Figure
 RecordOf (Made size number) = Lists
 
 -- how its input ends
 abbrev pub EndingOf : JobKind → Type 0
-EndingOf (Maps job) = Ending
+EndingOf (Maps job form) = Ending
 EndingOf (Graphs form) = GraphEnding
 EndingOf Figures = FigureEnding
 EndingOf (Made size number) = Unit {0}
 
 -- how its input is read
 abbrev pub reads_of : (job : JobKind) → Reads (RecordOf job) (EndingOf job)
-reads_of (Maps job) = planar_code
+reads_of (Maps job form) = planar_code
 reads_of (Graphs form) = graph_lines
 reads_of Figures = figures
 reads_of (Made size number) = made size number
 
 -- its answers, and the last line
 abbrev pub answers_of : (job : JobKind) → Answers (RecordOf job) (EndingOf job)
-answers_of (Maps job) = planar_answers job
+answers_of (Maps job form) = planar_answers (says_of job) form
 answers_of (Graphs form) = embed_answers form
 answers_of Figures = verify_answers
 answers_of (Made size number) = made_answers

@@ -3,24 +3,22 @@ use Rattle.std.specs.Prelude.{ℕ, ◌<◌, ◌≡◌, List, length, Some}
 use Rattle.map_lists.specs.Lists.{Lists}
 use Rattle.graph6_text.specs.Graphs.{EdgeGraph}
 use Rattle.pigale_words.specs.declared.form.Form.{Form}
-use Rattle.pigale_shell.specs.Answer.{Breaks, IsMapBlock}
+use Rattle.pigale_shell.specs.Answer.{IsMapBlock}
 use Rattle.pigale_shell.specs.Blocks.{IsRefused}
 use Rattle.pigale_shell.specs.EmbedText.{IsTooSmall, IsEmbedBlock}
 use Rattle.pigale_shell.specs.JobInput.{EndingOf}
-use Rattle.pigale_shell.specs.Kinds.{form_of}
+use Rattle.pigale_shell.specs.Kinds.{says_of}
 use Rattle.pigale_shell.specs.Outcome.{Writes}
-use Rattle.pigale_shell.specs.declared.kinds.MapJob.{MapJob}
-use Rattle.pigale_shell.specs.declared.kinds.MapJob.TheVariants.{Count, Draw}
+use Rattle.pigale_shell.specs.declared.map_jobs.MapJob.{MapJob}
+use Rattle.pigale_shell.specs.declared.map_jobs.MapJob.TheVariants.{Count}
 use Rattle.pigale_shell.specs.declared.kinds.JobKind.{JobKind}
-use Rattle.pigale_shell.specs.declared.kinds.JobKind.TheVariants.{Maps, Graphs, Figures, Made}
+use Rattle.pigale_shell.specs.declared.kinds.JobKind.TheVariants.{Maps, Figures}
 
 -- it draws nothing: it counts, or it judges what others drew
 abbrev pub DrawsNothing : JobKind → Type 0
-DrawsNothing (Maps Count) = Unit {0}
-DrawsNothing (Maps (Draw method form)) = ⊥
-DrawsNothing (Graphs form) = ⊥
+DrawsNothing (Maps Count form) = Unit {0}
 DrawsNothing Figures = Unit {0}
-DrawsNothing (Made size number) = ⊥
+DrawsNothing job = ⊥
 
 -- Two whole texts of such a job over one input are one, behind what was written before.
 abbrev pub OneText : Type 0
@@ -29,7 +27,7 @@ OneText =
 
 -- A map that breaks a condition has one block in each job: the line that refuses it.
 abbrev pub OneRefusalLine : Type 0
-OneRefusalLine = (job : MapJob) (k : ℕ) (lists : Lists) (line text : List ℕ) → 0 < length lists → IsRefused (Breaks job lists) (form_of job) k line → IsMapBlock job k lists text → text ≡ line
+OneRefusalLine = (job : MapJob) (form : Form) (k : ℕ) (lists : Lists) (line text : List ℕ) → 0 < length lists → IsRefused ((says_of job).Breaks lists) form k line → IsMapBlock (says_of job) form k lists text → text ≡ line
 
 -- So has a graph that is too small.
 abbrev pub OneGraphRefusalLine : Type 0

@@ -1,7 +1,7 @@
 //! What the words and the input decide of the text that a run writes.
 ghost use Rattle.pigale_shell.specs.OneText.{OneText, OneRefusalLine, OneGraphRefusalLine};
 
-use super::answer::served_breaks_nothing;
+use super::map_jobs::map_jobs_are_lawful;
 
 /// A run of `count` or `verify` that reads its input to the end writes one text: it is a function of the input.
 pub fn one_text()
@@ -14,10 +14,7 @@ pub fn one_text()
 pub fn one_refusal_line()
     ensures { OneRefusalLine }
 {
-    verdict_laws::one_break();
-    verdict_laws::one_convex_break();
-    verdict_laws::one_rect_break();
-    served_breaks_nothing();
+    map_jobs_are_lawful();
 }
 
 /// A graph that `embed` refuses is refused by one line.

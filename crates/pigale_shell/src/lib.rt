@@ -8,6 +8,8 @@ mod kinds;
 mod laws;
 mod lines;
 mod made;
+mod map_jobs;
+mod method;
 mod planar;
 mod run;
 mod top;

@@ -1,14 +1,20 @@
 //! planar_code, and the jobs over it, for the loop of runs.
-ghost use Rattle.std.specs.Prelude.{◌≡◌, true};
+ghost use Rattle.std.specs.Prelude.{◌≡◌, ◌+◌, true};
+ghost use Rattle.pg_io.specs.Io.{TakesAtMost};
+ghost use Rattle.record_runs.specs.Texts.{input_limit};
+ghost use Rattle.record_runs.specs.Outcome.{ports, Outcome as RunOutcome};
+ghost use Rattle.pigale_shell.specs.Answer.{planar_answers};
+ghost use Rattle.pigale_shell.specs.PlanarCode.{planar_code};
 
 use super::answer::answer_with;
 use super::form::line_in;
-use super::kinds::MapJob;
 use super::lines::{Ending, last_line};
-use euler_faces::Counter;
+use super::method::Method;
 use map_lists::Rotations;
+use pg_io::{Sink, Source};
+use pigale_words::Form;
 use planar_code::{RecordReader, Taken as Found};
-use record_runs::{Format, Job as RecordJob, Taken};
+use record_runs::{Format, Job as RecordJob, RunEnd, Taken, run_records};
 use std::alloc::{AllocError, Global};
 
 /// A reader of planar_code.
@@ -92,36 +98,35 @@ impl Format for PlanarReader {
     }
 }
 
-/// A job over planar_code.
+/// A job over planar_code, in a form. What it keeps lives from record to record.
 #[derive(Drop)]
-pub struct PlanarJob {
+pub struct PlanarJob<M> {
     alloc: Global,
-    job: MapJob,
-    // keeps its memory from record to record
-    counter: Counter,
+    form: Form,
+    method: M,
 }
 
-impl PlanarJob {
+impl<M: Method> PlanarJob<M> {
     /// A job before the first record. It takes no memory.
-    pub fn new(alloc: Global, job: MapJob) -> PlanarJob
-        ensures { result.job ≡ job }
+    pub fn new(alloc: Global, form: Form) -> PlanarJob<M>
+        ensures { result.form ≡ form }
     {
         PlanarJob {
             alloc,
-            job,
-            counter: Counter::new(alloc),
+            form,
+            method: M::new(alloc),
         }
     }
 }
 
-impl RecordJob<PlanarReader> for PlanarJob {
+impl<M: Method> RecordJob<PlanarReader> for PlanarJob<M> {
     ghost use Rattle.pigale_shell.specs.Answer.{planar_answers};
 
-    type Kind = MapJob;
+    type Kind = Form;
 
-    ghost kind = { λ planar. planar.job };
+    ghost kind = { λ planar. planar.form };
 
-    ghost answers = { planar_answers };
+    ghost answers = { λ form. planar_answers M.says form };
 
     fn answer(
         &mut self,
@@ -129,7 +134,7 @@ impl RecordJob<PlanarReader> for PlanarJob {
         given: &Rotations,
         out: &mut Vec<u8>,
     ) -> Result<bool, AllocError> {
-        answer_with(self.alloc, &mut self.counter, self.job, number, given, out)
+        answer_with(self.alloc, &mut self.method, self.form, number, given, out)
     }
 
     fn last_line(
@@ -140,6 +145,22 @@ impl RecordJob<PlanarReader> for PlanarJob {
         end: &Ending,
     ) -> Result<Vec<u8>, AllocError> {
         let line = last_line(alloc, records, refused, *end)?;
-        line_in(alloc, self.job.form(), line)
+        line_in(alloc, self.form, line)
     }
+}
+
+/// Runs a job over planar_code, in a form.
+pub(crate) fn run_planar<M: Method, S: Source, K: Sink>(
+    alloc: Global,
+    form: Form,
+    src: &mut S,
+    out: &mut K,
+) -> RunEnd
+    ensures outcome { RunOutcome planar_code (planar_answers M.says form)
+        (ports (S.left src.old) (S.faults src.old) (K.written out.old) (K.faults out.old))
+        (ports (S.left src.new) (S.faults src.new) (K.written out.new) (K.faults out.new)) result }
+    ensures limit { TakesAtMost (input_limit + 1) (S.left src.old) (S.left src.new) }
+{
+    let mut planar = PlanarJob::<M>::new(alloc, form);
+    run_records(alloc, PlanarReader::new(alloc), &mut planar, src, out)
 }

@@ -3,8 +3,6 @@ ghost use Rattle.std.specs.Prelude.{◌≡◌, ◌⊎◌, ◌+◌, IsFalse};
 ghost use Rattle.pg_io.specs.Io.{TakesAtMost};
 ghost use Rattle.record_runs.specs.Texts.{input_limit};
 ghost use Rattle.record_runs.specs.Outcome.{ports, Outcome as RunOutcome};
-ghost use Rattle.pigale_shell.specs.Answer.{planar_answers};
-ghost use Rattle.pigale_shell.specs.PlanarCode.{planar_code};
 ghost use Rattle.line_inputs.specs.FigureLinesFormat.{figures};
 ghost use Rattle.pigale_shell.specs.Verify.{verify_answers};
 ghost use Rattle.line_inputs.specs.GraphLinesFormat.{graph_lines};
@@ -14,9 +12,9 @@ ghost use Rattle.pigale_shell.specs.Kinds.{IsSized};
 ghost use Rattle.pigale_shell.specs.Outcome.{Outcome, status_of};
 
 use super::embed::{EmbedJob, GraphSource};
-use super::kinds::{JobKind, MapJob};
+use super::kinds::JobKind;
 use super::made::run_made;
-use super::planar::{PlanarJob, PlanarReader};
+use super::map_jobs::run_maps;
 use super::verify::{FigureSource, VerifyJob};
 use pg_io::{Sink, Source};
 use pigale_words::{Form, Status};
@@ -35,17 +33,6 @@ fn status(end: RunEnd) -> Status
         RunEnd::WriteFault => Status::WriteFault,
         RunEnd::NoMemory => Status::NoMemory,
     }
-}
-
-// Runs a job over planar_code.
-fn run_planar<S: Source, K: Sink>(alloc: Global, job: MapJob, src: &mut S, out: &mut K) -> RunEnd
-    ensures outcome { RunOutcome planar_code (planar_answers job)
-        (ports (S.left src.old) (S.faults src.old) (K.written out.old) (K.faults out.old))
-        (ports (S.left src.new) (S.faults src.new) (K.written out.new) (K.faults out.new)) result }
-    ensures limit { TakesAtMost (input_limit + 1) (S.left src.old) (S.left src.new) }
-{
-    let mut planar = PlanarJob::new(alloc, job);
-    run_records(alloc, PlanarReader::new(alloc), &mut planar, src, out)
 }
 
 // Runs the job `verify`.
@@ -82,7 +69,7 @@ pub fn run_job<S: Source, K: Sink>(alloc: Global, job: JobKind, src: &mut S, out
     ensures limit { TakesAtMost (input_limit + 1) (S.left src.old) (S.left src.new) }
 {
     match job {
-        JobKind::Maps(job) => status(run_planar(alloc, job, src, out)),
+        JobKind::Maps(job, form) => status(run_maps(alloc, job, form, src, out)),
         JobKind::Graphs(form) => status(run_embed(alloc, form, src, out)),
         JobKind::Figures => status(run_verify(alloc, src, out)),
         JobKind::Made(size, number) => status(run_made(alloc, size, number, out)),

@@ -1,9 +1,8 @@
 use Rattle.std.proofs.lemmas.Result.{IfOk-weaker}
-use Rattle.pigale_shell.specs.Answer.{Breaks}
 use Rattle.pigale_shell.proofs.AnswerLemmas.{unserved}
 use Rattle.pigale_shell.proofs.answer.answer_with.Goals as goal
 
 pub returns-in-Err-Refused-clause-served : goal.returns-in-Err-Refused-clause-served
-returns-in-Err-Refused-clause-served c =
-    let breaks : Breaks c.args.job c.args.lists.now c.in-Err-Refused.refusal = rw c.in-Err-Refused.field-0-is at c.in-Err-Refused.ensures.refused in
-    IfOk-weaker c.refuse.result _ _ (λ served is. unserved c.served_breaks_nothing.ensures c.args.job c.args.lists.now c.in-Err-Refused.refusal served c.requires.some_list breaks is) c.refuse.ensures.refused
+returns-in-Err-Refused-clause-served g c =
+    let breaks = rw c.in-Err-Refused.field-0-is at c.in-Err-Refused.ensures.refused in
+    IfOk-weaker c.refuse.result _ _ (λ served is. unserved g.M.Method.says c.lawful.ensures c.args.lists.now c.in-Err-Refused.refusal served c.requires.some_list breaks is) c.refuse.ensures.refused

@@ -1,5 +1,5 @@
 use Rattle.planar_code.proofs.ProgressLemmas.{Progress-start}
-use Rattle.pigale_shell.proofs.run.run_planar.Goals as goal
+use Rattle.pigale_shell.proofs.planar.run_planar.Goals as goal
 
 pub run_records-requires : goal.run_records-requires
 run_records-requires g c = rw c.new.ensures Progress-start

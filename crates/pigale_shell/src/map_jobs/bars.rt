@@ -1,0 +1,49 @@
+//! The job `bars`.
+use crate::form::print_bars_in;
+use crate::method::Method;
+use half_edges::Rotations;
+use pg_plane::BarFigure;
+use pigale_words::Form;
+use refusals::Unserved;
+use std::alloc::{AllocError, Global};
+use visibility::bar_figures::bar_figure;
+
+/// Draws by bars that see each other.
+#[derive(Drop)]
+pub struct Bars;
+
+impl Method for Bars {
+    ghost use Rattle.visibility.specs.Figures.{IsBarFigure};
+    ghost use Rattle.pigale_shell.specs.Kinds.{says_of};
+    ghost use Rattle.pigale_shell.specs.declared.map_jobs.MapJob.TheVariants as job;
+
+    type Figure = BarFigure;
+
+    ghost says = { says_of job.Bars };
+
+    ghost IsFigure = { IsBarFigure };
+
+    fn new(_alloc: Global) -> Bars {
+        Bars
+    }
+
+    fn figure(&mut self, alloc: Global, lists: &Rotations) -> Result<BarFigure, Unserved> {
+        bar_figure(alloc, lists)
+    }
+
+    fn print(
+        alloc: Global,
+        form: Form,
+        number: u32,
+        lists: &Rotations,
+        figure: &BarFigure,
+        out: &mut Vec<u8>,
+    ) -> Result<(), AllocError> {
+        print_bars_in(alloc, form, number, lists, figure, out)
+    }
+
+    fn lawful() {
+        conn_parts::biconnected_maps::biconnected_break_nothing();
+        verdict_laws::one_break();
+    }
+}

@@ -1,0 +1,52 @@
+//! The job `convex`.
+use crate::form::print_grid_in;
+use crate::method::Method;
+use convex_draw::convex_figures::convex_figure;
+use figure_text::GridJob;
+use half_edges::Rotations;
+use pg_plane::GridFigure;
+use pigale_words::Form;
+use refusals::Unserved;
+use std::alloc::{AllocError, Global};
+
+/// Draws with convex faces.
+#[derive(Drop)]
+pub struct Convex;
+
+impl Method for Convex {
+    ghost use Rattle.convex_draw.specs.Figures.{IsConvexFigure};
+    ghost use Rattle.pigale_shell.specs.Kinds.{says_of};
+    ghost use Rattle.pigale_shell.specs.declared.map_jobs.MapJob.TheVariants as job;
+
+    type Figure = GridFigure;
+
+    ghost says = { says_of job.Convex };
+
+    ghost IsFigure = { IsConvexFigure };
+
+    fn new(_alloc: Global) -> Convex {
+        Convex
+    }
+
+    fn figure(&mut self, alloc: Global, lists: &Rotations) -> Result<GridFigure, Unserved> {
+        let figure = convex_figure(alloc, lists)?;
+        Ok(figure)
+    }
+
+    fn print(
+        alloc: Global,
+        form: Form,
+        number: u32,
+        lists: &Rotations,
+        figure: &GridFigure,
+        out: &mut Vec<u8>,
+    ) -> Result<(), AllocError> {
+        let points = &figure.points;
+        print_grid_in(alloc, form, number, GridJob::Convex, lists, points, out)
+    }
+
+    fn lawful() {
+        convex_class::convex_maps::three_connected_break_nothing();
+        verdict_laws::one_convex_break();
+    }
+}

@@ -1,0 +1,53 @@
+//! The job `count`.
+use crate::lines::count_line;
+use crate::method::Method;
+use euler_faces::{Counter, EulerCount};
+use half_edges::Rotations;
+use pigale_words::Form;
+use refusals::Unserved;
+use std::alloc::{AllocError, Global};
+
+/// Counts vertices, edges, faces and components.
+#[derive(Drop)]
+pub struct Count {
+    counter: Counter,
+}
+
+impl Method for Count {
+    ghost use Rattle.std.specs.Prelude.{◌≡◌};
+    ghost use Rattle.map_theory.specs.Maps.{vertex_count, edge_count, face_count, component_count};
+    ghost use Rattle.pigale_shell.specs.Kinds.{says_of};
+    ghost use Rattle.pigale_shell.specs.declared.map_jobs.MapJob.TheVariants as job;
+
+    type Figure = EulerCount;
+
+    ghost says = { says_of job.Count };
+
+    ghost IsFigure = { λ lists count. (count.n ≡ vertex_count lists) × (count.m ≡ edge_count lists)
+        × (count.f ≡ face_count lists) × (count.c ≡ component_count lists) };
+
+    fn new(alloc: Global) -> Count {
+        Count {
+            counter: Counter::new(alloc),
+        }
+    }
+
+    fn figure(&mut self, _alloc: Global, lists: &Rotations) -> Result<EulerCount, Unserved> {
+        let count = self.counter.count(lists)?;
+        Ok(count)
+    }
+
+    fn print(
+        alloc: Global,
+        _form: Form,
+        number: u32,
+        _lists: &Rotations,
+        figure: &EulerCount,
+        out: &mut Vec<u8>,
+    ) -> Result<(), AllocError> {
+        let line = count_line(alloc, number, figure)?;
+        out.extend_from_slice(&line)
+    }
+
+    fn lawful() {}
+}

@@ -1,0 +1,49 @@
+//! The job `rect`.
+use crate::form::print_rects_in;
+use crate::method::Method;
+use half_edges::Rotations;
+use pg_plane::RectFigure;
+use pigale_words::Form;
+use rect_dual::figures::rect_figure;
+use refusals::Unserved;
+use std::alloc::{AllocError, Global};
+
+/// Draws a rectangle for each vertex.
+#[derive(Drop)]
+pub struct Rect;
+
+impl Method for Rect {
+    ghost use Rattle.rect_dual.specs.Figures.{IsRectFigure};
+    ghost use Rattle.pigale_shell.specs.Kinds.{says_of};
+    ghost use Rattle.pigale_shell.specs.declared.map_jobs.MapJob.TheVariants as job;
+
+    type Figure = RectFigure;
+
+    ghost says = { says_of job.Rect };
+
+    ghost IsFigure = { IsRectFigure };
+
+    fn new(_alloc: Global) -> Rect {
+        Rect
+    }
+
+    fn figure(&mut self, alloc: Global, lists: &Rotations) -> Result<RectFigure, Unserved> {
+        rect_figure(alloc, lists)
+    }
+
+    fn print(
+        alloc: Global,
+        form: Form,
+        number: u32,
+        lists: &Rotations,
+        figure: &RectFigure,
+        out: &mut Vec<u8>,
+    ) -> Result<(), AllocError> {
+        print_rects_in(alloc, form, number, lists, figure, out)
+    }
+
+    fn lawful() {
+        rect_class::biconnected_break_nothing();
+        verdict_laws::one_rect_break();
+    }
+}

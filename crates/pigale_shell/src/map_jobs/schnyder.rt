@@ -1,0 +1,49 @@
+//! The job `schnyder`.
+use crate::form::print_grid_in;
+use crate::method::Method;
+use figure_text::GridJob;
+use grid_figures::schnyder_figures::schnyder_figure;
+use half_edges::Rotations;
+use pg_plane::GridFigure;
+use pigale_words::Form;
+use refusals::Unserved;
+use std::alloc::{AllocError, Global};
+
+/// Draws by Schnyder's coordinates.
+#[derive(Drop)]
+pub struct Schnyder;
+
+impl Method for Schnyder {
+    ghost use Rattle.grid_figures.specs.SchnyderFiguresFigures.{IsSchnyderFigure};
+    ghost use Rattle.pigale_shell.specs.Kinds.{says_of};
+    ghost use Rattle.pigale_shell.specs.declared.map_jobs.MapJob.TheVariants as job;
+
+    type Figure = GridFigure;
+
+    ghost says = { says_of job.Schnyder };
+
+    ghost IsFigure = { IsSchnyderFigure };
+
+    fn new(_alloc: Global) -> Schnyder {
+        Schnyder
+    }
+
+    fn figure(&mut self, alloc: Global, lists: &Rotations) -> Result<GridFigure, Unserved> {
+        schnyder_figure(alloc, lists)
+    }
+
+    fn print(
+        alloc: Global,
+        form: Form,
+        number: u32,
+        lists: &Rotations,
+        figure: &GridFigure,
+        out: &mut Vec<u8>,
+    ) -> Result<(), AllocError> {
+        refusals::no_refusal_is_plane();
+        let points = &figure.points;
+        print_grid_in(alloc, form, number, GridJob::Schnyder, lists, points, out)
+    }
+
+    fn lawful() {}
+}

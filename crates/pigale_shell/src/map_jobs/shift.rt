@@ -1,0 +1,49 @@
+//! The job `shift`.
+use crate::form::print_grid_in;
+use crate::method::Method;
+use figure_text::GridJob;
+use grid_figures::shift_figures::shift_figure;
+use half_edges::Rotations;
+use pg_plane::GridFigure;
+use pigale_words::Form;
+use refusals::Unserved;
+use std::alloc::{AllocError, Global};
+
+/// Draws by the shift method.
+#[derive(Drop)]
+pub struct Shift;
+
+impl Method for Shift {
+    ghost use Rattle.grid_figures.specs.ShiftFiguresFigures.{IsShiftFigure};
+    ghost use Rattle.pigale_shell.specs.Kinds.{says_of};
+    ghost use Rattle.pigale_shell.specs.declared.map_jobs.MapJob.TheVariants as job;
+
+    type Figure = GridFigure;
+
+    ghost says = { says_of job.Shift };
+
+    ghost IsFigure = { IsShiftFigure };
+
+    fn new(_alloc: Global) -> Shift {
+        Shift
+    }
+
+    fn figure(&mut self, alloc: Global, lists: &Rotations) -> Result<GridFigure, Unserved> {
+        shift_figure(alloc, lists)
+    }
+
+    fn print(
+        alloc: Global,
+        form: Form,
+        number: u32,
+        lists: &Rotations,
+        figure: &GridFigure,
+        out: &mut Vec<u8>,
+    ) -> Result<(), AllocError> {
+        refusals::no_refusal_is_plane();
+        let points = &figure.points;
+        print_grid_in(alloc, form, number, GridJob::Shift, lists, points, out)
+    }
+
+    fn lawful() {}
+}

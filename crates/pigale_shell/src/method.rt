@@ -1,0 +1,52 @@
+//! How a job answers a map, whatever the job is.
+ghost use Rattle.std.specs.Prelude.{◌≡◌, ◌<◌, length, IfOk, IfErr, OnOk, OnErr};
+ghost use Rattle.map_lists.specs.Lists.{Lists};
+ghost use Rattle.refusals.specs.Conditions.{IfRefused};
+ghost use Rattle.pigale_shell.specs.Blocks.{Appends, Says, IsLawful};
+
+use half_edges::Rotations;
+use pigale_words::Form;
+use refusals::Unserved;
+use std::alloc::{AllocError, Global};
+
+/// A job over maps: what it finds of a map, and how it writes that. It may keep memory of its own from map to map.
+pub trait Method: Drop {
+    /// What it finds of a map: a figure, or counts.
+    type Figure: Drop;
+
+    /// The maps that it serves, the first condition that others break, and what it writes.
+    ghost says: { Says };
+
+    /// What is found of lists.
+    ghost IsFigure: { Lists → Self.Figure → Type 0 };
+
+    /// The job before the first map. It takes no memory.
+    fn new(alloc: Global) -> Self;
+
+    /// What it finds of lists, or the first condition that they break.
+    fn figure(&mut self, alloc: Global, lists: &Rotations) -> Result<Self::Figure, Unserved>
+        requires some_list { 0 < length lists.now }
+        requires few_lists { length lists.now < 4096 }
+        ensures figure { IfOk result (IsFigure lists.now) }
+        ensures served { OnOk result (says.Serves lists.now) }
+        ensures refused { IfErr result (IfRefused (says.Breaks lists.now)) };
+
+    /// Appends, in a form, what was found of lists that it serves. After want of memory the bytes are as they were.
+    fn print(
+        alloc: Global,
+        form: Form,
+        number: u32,
+        lists: &Rotations,
+        figure: &Self::Figure,
+        out: &mut Vec<u8>,
+    ) -> Result<(), AllocError>
+        requires some_list { 0 < length lists.now }
+        requires served { says.Serves lists.now }
+        requires figure { IsFigure lists.now figure.now }
+        ensures text { OnOk result (Appends (says.IsText form number lists.now) out.old.items out.new.items) }
+        ensures err { OnErr result (out.new.items ≡ out.old.items) };
+
+    /// A law: no map is both served and refused, and each breaks one condition first.
+    fn lawful()
+        ensures { IsLawful (says) };
+}
