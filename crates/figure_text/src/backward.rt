@@ -1,10 +1,11 @@
 //! Words and numbers written into a row of bytes from its end to its front.
-ghost use Rattle.std.specs.Prelude.{◌≡◌, ◌+◌, ◌*◌, ◌<◌, ◌≤◌, ◌∷◌, ◌++◌, [], length, drop, flat_map, codes, decimal};
+ghost use Rattle.std.specs.Prelude.{◌≡◌, ◌+◌, ◌*◌, ◌<◌, ◌≤◌, ◌∷◌, ◌++◌, [], length, drop, flat_map, sum_by, codes, decimal};
 ghost use Rattle.std.specs.Fmt.{signed_decimal};
-ghost use Rattle.figure_text.specs.Text.{spaced_signed, integer_at};
+ghost use Rattle.figure_text.specs.Text.{spaced_signed, integer_at, point_at, first_line, grid_line, grid_lines};
 
 use itoa::write_digits;
-use pg_plane::{BarFigure, Ints, Point, RectFigure};
+use map_lists::Rotations;
+use pg_plane::{BarFigure, Ints, Point, Points, RectFigure};
 
 // How many bytes the front of a line takes at most: five numbers and two words.
 pub(crate) const FRONT: usize = 80;
@@ -65,19 +66,21 @@ fn write_signed(number: i32, bytes: &mut [u8], end: usize) -> usize
 // Writes what stands before the coordinates of a vertex: its number and a word.
 fn write_number(number: u64, bytes: &mut [u8], end: usize) -> usize
     requires { (20 ≤ end) × (end ≤ length bytes.old) }
-    ensures within { result ≤ end }
+    ensures within { (result ≤ end) × (end ≤ result + 20) }
     ensures written { drop result bytes.new ≡ decimal number ++ drop end bytes.old }
 {
     write_digits(number, bytes, end)
 }
 
-// Writes the front of the line of a vertex of a straight-line drawing, up to the colon, and returns where it starts.
-pub(crate) fn write_grid_front(v: usize, point: Point, bytes: &mut [u8; FRONT]) -> usize
-    requires { v < usize.MAX }
-    ensures within { result ≤ 80 }
-    ensures written { drop result bytes.new ≡ decimal (v + 1) ++ codes " at" ++ 32 ∷ signed_decimal point.x ++ 32 ∷ signed_decimal point.y ++ 58 ∷ [] }
+// Writes the front of the line of a vertex of a straight-line drawing, up to the colon, before `end`, and returns where
+// it starts.
+fn write_grid_front(v: usize, point: Point, bytes: &mut [u8], end: usize) -> usize
+    requires max { v < usize.MAX }
+    requires room { (48 ≤ end) × (end ≤ length bytes.old) }
+    ensures within { (result ≤ end) × (end ≤ result + 48) }
+    ensures written { drop result bytes.new ≡ decimal (v + 1) ++ codes " at" ++ 32 ∷ signed_decimal point.x ++ 32 ∷ signed_decimal point.y ++ 58 ∷ drop end bytes.old }
 {
-    let colon = write_byte(b':', bytes, FRONT);
+    let colon = write_byte(b':', bytes, end);
     let y = write_signed(point.y, bytes, colon);
     let x = write_signed(point.x, bytes, y);
     let t = write_byte(b't', bytes, x);
@@ -141,10 +144,10 @@ pub(crate) fn write_rect_front(v: usize, rects: &RectFigure, bytes: &mut [u8; FR
 }
 
 // Writes vertices, numbered from 1 and each after a space, before `end`, and returns where they start.
-pub(crate) fn write_vertices(list: &[u16], bytes: &mut [u8; PART_BYTES], end: usize) -> usize
+pub(crate) fn write_vertices(list: &[u16], bytes: &mut [u8], end: usize) -> usize
     requires room { 6 * length list.now ≤ end }
-    requires end { end ≤ 97 }
-    ensures within { result ≤ end }
+    requires end { end ≤ length bytes.old }
+    ensures within { (result ≤ end) × (end ≤ result + 6 * length list.now) }
     ensures written { drop result bytes.new ≡ flat_map (λ u. 32 ∷ decimal (u + 1)) list.now ++ drop end bytes.old }
 {
     let mut start = end;
@@ -153,6 +156,71 @@ pub(crate) fn write_vertices(list: &[u16], bytes: &mut [u8; PART_BYTES], end: us
         start = write_next(u64::from(u) + 1, bytes, start);
     }
     start
+}
+
+// Writes the line of a vertex of a straight-line drawing before `end`, and returns where it starts.
+fn write_grid_line(v: usize, point: Point, list: &[u16], bytes: &mut [u8], end: usize) -> usize
+    requires max { v < usize.MAX }
+    requires room { 6 * length list.now + 49 ≤ end }
+    requires end { end ≤ length bytes.old }
+    ensures within { (result ≤ end) × (end ≤ result + (6 * length list.now + 49)) }
+    ensures written { drop result bytes.new ≡ grid_line v point list.now ++ drop end bytes.old }
+{
+    let newline = write_byte(b'\n', bytes, end);
+    let colon = write_vertices(list, bytes, newline);
+    write_grid_front(v, point, bytes, colon)
+}
+
+// Number `v` of a list of points.
+fn point(list: &Points, v: usize) -> Point
+    requires { v < length list.now }
+    ensures { result ≡ point_at list.now v }
+{
+    list.get(v)
+}
+
+// Writes the lines of the vertices of a straight-line drawing at the end, and returns where they start: there is
+// still room for a first line.
+pub(crate) fn write_grid_lines(lists: &Rotations, points: &Points, bytes: &mut [u8]) -> usize
+    requires points { length points.now ≡ length lists.now }
+    requires room { 60 + 6 * sum_by length lists.now + 49 * length lists.now ≤ length bytes.old }
+    ensures within { (60 ≤ result) × (result ≤ length bytes.new) }
+    ensures written { drop result bytes.new ≡ grid_lines points.now lists.now (length lists.now) }
+{
+    let mut start = bytes.len();
+    for k in 0..lists.len() {
+        let v = lists.len() - 1 - k;
+        start = write_grid_line(v, point(points, v), lists.list(v), bytes, start);
+    }
+    start
+}
+
+// Writes a text before `end`, and returns where it starts.
+fn write_text(text: &[u8], bytes: &mut [u8], end: usize) -> usize
+    requires { (length text.now ≤ end) × (end ≤ length bytes.old) }
+    ensures start { result + length text.now ≡ end }
+    ensures written { drop result bytes.new ≡ text.now ++ drop end bytes.old }
+{
+    let mut start = end;
+    for k in 0..text.len() {
+        start = write_byte(text[text.len() - 1 - k], bytes, start);
+    }
+    start
+}
+
+// Writes the first line of a figure before `end`, and returns where it starts.
+pub(crate) fn write_first(k: u32, word: &[u8], n: usize, bytes: &mut [u8], end: usize) -> usize
+    requires word { length word.now ≤ 8 }
+    requires room { (60 ≤ end) × (end ≤ length bytes.old) }
+    ensures within { result ≤ length bytes.new }
+    ensures written { drop result bytes.new ≡ first_line k word.now n ++ drop end bytes.old }
+{
+    let newline = write_byte(b'\n', bytes, end);
+    let count = write_next(n as u64, bytes, newline);
+    let name = write_text(word, bytes, count);
+    let space = write_byte(b' ', bytes, name);
+    let number = write_next(u64::from(k), bytes, space);
+    write_text(b"figure", bytes, number)
 }
 
 // Writes signed numbers, each after a space, and returns where they start.

@@ -1,17 +1,17 @@
 //! A figure as text.
-ghost use Rattle.std.specs.Prelude.{◌≡◌, ◌+◌, ◌++◌, ◌∷◌, [], ℕ, List, length, map, flat_map, decimal, ◌<◌, ◌≤◌, codes, OnOk, OnErr, IfOk};
+ghost use Rattle.std.specs.Prelude.{◌≡◌, ◌+◌, ◌++◌, ◌∷◌, [], ℕ, List, ◌*◌, length, map, flat_map, drop, sum_by, decimal, ◌<◌, ◌≤◌, codes, OnOk, OnErr, IfOk};
 ghost use Rattle.std.specs.Fmt.{signed_decimal};
-ghost use Rattle.figure_text.specs.Text.{spaced_signed, grid_line, grid_lines, bar_line, bar_lines, columns_line, rect_line, rect_lines, first_line, job_word, grid_text, bars_text, rects_text, IsText, IsWhole, HasBars, HasRects, integer_at, point_at};
+ghost use Rattle.figure_text.specs.Text.{spaced_signed, bar_line, bar_lines, columns_line, rect_line, rect_lines, first_line, job_word, grid_text, bars_text, rects_text, IsText, IsWhole, HasBars, HasRects, integer_at};
 
 use crate::backward::{
-    FRONT, PART, PART_BYTES, SIGNED_BYTES, write_bar_front, write_grid_front, write_integers,
-    write_rect_front, write_vertices,
+    FRONT, PART, PART_BYTES, SIGNED_BYTES, write_bar_front, write_first, write_grid_lines,
+    write_integers, write_rect_front, write_vertices,
 };
 use crate::witness_print::witness_text_of;
 use crate::{Figure, GridJob};
 use itoa::Buffer;
 use map_lists::Rotations;
-use pg_plane::{BarFigure, Ints, Point, Points, RectFigure};
+use pg_plane::{BarFigure, Ints, Points, RectFigure};
 use std::alloc::{AllocError, Global};
 
 // How many bytes the line of a vertex takes without its entries, and how many an entry, more or less.
@@ -33,14 +33,6 @@ pub(crate) fn push_next(out: &mut Vec<u8>, number: u64) -> Result<(), AllocError
 {
     out.push(b' ')?;
     push_number(out, number)
-}
-
-// Number `v` of a list of points.
-fn point(list: &Points, v: usize) -> Point
-    requires { v < length list.now }
-    ensures { result ≡ point_at list.now v }
-{
-    list.get(v)
 }
 
 // Appends some vertices, numbered from 1 and each after a space.
@@ -86,36 +78,6 @@ fn push_first(out: &mut Vec<u8>, k: u32, word: &[u8], n: usize) -> Result<(), Al
     out.extend_from_slice(word)?;
     push_next(out, n as u64)?;
     out.push(b'\n')?;
-    Ok(())
-}
-
-// Appends the front of the line of a vertex of a straight-line drawing, up to the colon.
-fn push_grid_front(out: &mut Vec<u8>, v: usize, point: Point) -> Result<(), AllocError>
-    requires { v < usize.MAX }
-    ensures { OnOk result (out.new.items ≡ out.old.items ++ (decimal (v + 1) ++ codes " at" ++ 32 ∷ signed_decimal point.x ++ 32 ∷ signed_decimal point.y ++ 58 ∷ [])) }
-{
-    let mut bytes = [0; FRONT];
-    let start = write_grid_front(v, point, &mut bytes);
-    out.extend_from_slice(&bytes[start..])
-}
-
-// Appends the line of a vertex of a straight-line drawing.
-fn push_grid_line(out: &mut Vec<u8>, v: usize, point: Point, list: &[u16]) -> Result<(), AllocError>
-    requires { v < usize.MAX }
-    ensures { OnOk result (out.new.items ≡ out.old.items ++ grid_line v point list.now) }
-{
-    push_grid_front(out, v, point)?;
-    push_neighbours(out, list)
-}
-
-// Appends the lines of the vertices of a straight-line drawing.
-fn push_grid_lines(out: &mut Vec<u8>, lists: &Rotations, points: &Points) -> Result<(), AllocError>
-    requires { length points.now ≡ length lists.now }
-    ensures { OnOk result (out.new.items ≡ out.old.items ++ grid_lines points.now lists.now (length lists.now)) }
-{
-    for v in 0..lists.len() {
-        push_grid_line(out, v, point(points, v), lists.list(v))?;
-    }
     Ok(())
 }
 
@@ -252,7 +214,8 @@ fn room_of(lists: &Rotations) -> usize {
 
 // The word of a method.
 fn word_of(job: GridJob) -> &'static [u8]
-    ensures { result.now ≡ job_word job }
+    ensures word { result.now ≡ job_word job }
+    ensures short { length result.now ≤ 8 }
 {
     match job {
         GridJob::Shift => b"shift",
@@ -261,19 +224,34 @@ fn word_of(job: GridJob) -> &'static [u8]
     }
 }
 
-// Appends the text of a straight-line drawing, or a part of it.
-fn push_grid(
-    out: &mut Vec<u8>,
+// How many bytes the text of a straight-line drawing takes at most.
+fn grid_room(lists: &Rotations) -> Result<usize, AllocError>
+    ensures { IfOk result (λ room. room ≡ 60 + 6 * sum_by length lists.now + 49 * length lists.now) }
+{
+    let entries = lists.total().saturating_mul(6);
+    let fronts = lists.len().saturating_mul(49);
+    let room = entries.saturating_add(fronts).saturating_add(60);
+    if room == usize::MAX {
+        return Err(AllocError);
+    }
+    Ok(room)
+}
+
+// Writes the text of a straight-line drawing at the end, and returns where it starts.
+fn write_grid(
     number: u32,
     job: GridJob,
     lists: &Rotations,
     points: &Points,
-) -> Result<(), AllocError>
-    requires { length points.now ≡ length lists.now }
-    ensures { OnOk result (out.new.items ≡ out.old.items ++ grid_text number job lists.now points.now) }
+    bytes: &mut [u8],
+) -> usize
+    requires points { length points.now ≡ length lists.now }
+    requires room { 60 + 6 * sum_by length lists.now + 49 * length lists.now ≤ length bytes.old }
+    ensures within { result ≤ length bytes.new }
+    ensures written { drop result bytes.new ≡ grid_text number job lists.now points.now }
 {
-    push_first(out, number, word_of(job), lists.len())?;
-    push_grid_lines(out, lists, points)
+    let lines = write_grid_lines(lists, points, bytes);
+    write_first(number, word_of(job), lists.len(), bytes, lines)
 }
 
 // The text of a visibility drawing.
@@ -350,8 +328,8 @@ fn grid_of(
     requires { length points.now ≡ length lists.now }
     ensures { IfOk result (λ text. text.items ≡ grid_text number job lists.now points.now) }
 {
-    let mut text = Vec::with_capacity(alloc, room_of(lists))?;
-    push_grid(&mut text, number, job, lists, points)?;
+    let mut text = Vec::new(alloc);
+    print_grid(alloc, number, job, lists, points, &mut text)?;
     Ok(text)
 }
 
@@ -369,8 +347,9 @@ pub fn print_grid(
     ensures ok { OnOk result (out.new.items ≡ out.old.items ++ grid_text number job lists.now points.now) }
     ensures err { OnErr result (out.new.items ≡ out.old.items) }
 {
-    let text = grid_of(alloc, number, job, lists, points)?;
-    out.extend_from_slice(&text)
+    let mut bytes = vec![in alloc; 0; grid_room(lists)?]?;
+    let start = write_grid(number, job, lists, points, &mut bytes);
+    out.extend_from_slice(&bytes[start..])
 }
 
 /// Appends the text of a visibility drawing with this number, of lists and a bar for each of them. After want of
