@@ -19,12 +19,12 @@ pub record IsAbove (parent depth : ℕ → ℕ) (u v : ℕ) : Type 0 where
   pub depths : depth u ≤ depth v
   pub line : up parent (depth v - depth u) v ≡ u
 
--- The vertex after v on the way down from v to t, and from there over the edge to w.
+-- e is the vertex after v on the way from v down to t, and then over an edge to w
 abbrev pub IsBranch : (ℕ → ℕ) → (ℕ → ℕ) → ℕ → ℕ → ℕ → ℕ → Type 0
 IsBranch parent depth v e t w =
     ((t ≡ v) × (e ≡ w)) ⊎ ((t ≢ v) × (e ≡ up parent (depth t - depth v - 1) t))
 
--- the edge from t to w returns from v, where v has the edge to e: t is v or under it, and w is a proper ancestor of v; from v on the way to t, and then to w, begins with e, which is not v's parent
+-- the edge from t to w returns from v by v's edge to e: t is v or under it, w is a proper ancestor of v, and the way from v down to t and then to w begins with e, which is not v's parent
 pub record IsReturn (adjacent : ℕ → ℕ → Type 0) (parent depth : ℕ → ℕ) (v e t w : ℕ) : Type 0 where
   pub edge : adjacent t w
   pub higher : depth w < depth v

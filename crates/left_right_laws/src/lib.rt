@@ -1,20 +1,19 @@
-//! What the left-right planarity test rests on: ways in a map of genus zero, tours along a spanning tree, and
-//! the sides on which edges return at the forks of a rooted forest. Each law is the contract of a function
-//! that does nothing, and speaks of all maps.
+//! What the left-right planarity test rests on: ways in maps of genus zero, tours along trees, and sides of
+//! edges at forks. Each law is the contract of a function that does nothing, and speaks of all maps.
 #![tactic(auto)]
 
 ghost use Rattle.left_right_laws.specs.Forests.{ForkOrder, PlaneIsLeftRight};
 ghost use Rattle.left_right_laws.specs.Tours.{PlaneByNesting};
 ghost use Rattle.left_right_laws.specs.Ways.{ThreeWays};
 
-/// Three ways between two vertices of a map of genus zero, which meet nowhere else, leave the one in an
-/// order exactly where they reach the other in the opposite order.
+/// Three ways that join two vertices of a map of genus zero, and meet nowhere else, have opposite orders at
+/// the two.
 pub fn three_ways()
     ensures { ThreeWays }
 {}
 
-/// At a fork of a map of genus zero the order of its two edges tells on which side of the line up from it
-/// the edges end that return by them.
+/// At a fork of a map of genus zero, the order of its two edges tells on which side those that return by them
+/// end.
 pub fn fork_order()
     ensures { ForkOrder }
 {}

@@ -63,8 +63,7 @@ pub fn faces_merged()
     plane_laws::faces_merged();
 }
 
-/// Three ways between two vertices of a map of genus zero leave the one in the order opposite to that in which
-/// they reach the other.
+/// Three ways that join two vertices of a map of genus zero, and meet nowhere else, have opposite orders at the two.
 pub fn three_ways()
     ensures { ThreeWays }
 {
@@ -79,8 +78,7 @@ pub fn plane_by_nesting()
     left_right_laws::plane_by_nesting();
 }
 
-/// At a fork of a map of genus zero the order of its two edges tells on which side the edges end that return
-/// by them.
+/// At a fork of a map of genus zero, the order of its two edges tells on which side those that return by them end.
 pub fn fork_order()
     ensures { ForkOrder }
 {
