@@ -9,3 +9,4 @@ pub mod Counters
 pub mod Marks
 mod Contours
 mod Refused
+mod EntryLemmas

@@ -1,5 +1,6 @@
 //! Counters of entries, and lists made of vectors.
-ghost use Rattle.std.specs.Prelude.{◌≡◌, ◌+◌, ◌<◌, ◌≤◌, ◌==◌, ℕ, [], ◌∷◌, ◌++◌, map, reverse, filter, length, slice_index, count_by, All, AllPairs, ◌≢◌, IfOk};
+ghost use Rattle.std.specs.Prelude.{◌≡◌, ◌+◌, ◌<◌, ◌≤◌, ◌==◌, ℕ, [], ◌∷◌, ◌++◌, map, reverse, filter, length, slice_index, count_by, All, AllPairs, Contains, ◌≢◌, IfOk};
+ghost use Rattle.map_theory.specs.Maps.{entry_after};
 ghost use Rattle.canon_order.specs.Marks.{is_set};
 ghost use Rattle.canon_order.specs.Orders.{IsRankOf};
 
@@ -59,6 +60,20 @@ pub(crate) fn lower_noting(
         }
     }
     Ok(())
+}
+
+// The entry after one, cyclically, in a list without repeats.
+pub(crate) fn entry_behind(list: &[u16], u: u16) -> u16
+    requires distinct { AllPairs ◌≢◌ list.now }
+    requires some { Contains list.now u }
+    ensures { result ≡ entry_after u list.now }
+{
+    for i in 1..list.len() {
+        if list[i - 1] == u {
+            return list[i];
+        }
+    }
+    list[0]
 }
 
 // The vertices of these numbers, from the last to the first.

@@ -8,7 +8,7 @@ ghost use Rattle.canon_order.specs.Orders.{IsCanonicalOrder, IsRankOf, vertices_
 
 use crate::contour::{mark_base, removable_vertex, take_off};
 use crate::fault::OrderFault;
-use crate::lists::{push_three, turned_ranks, turned_vertices};
+use crate::lists::{entry_behind, push_three, turned_ranks, turned_vertices};
 use half_edges::{Counts, DartId, HalfMap, Rotations, VertexList};
 use std::alloc::{AllocError, Global};
 
@@ -149,6 +149,21 @@ pub fn list_order(
     let s = tri.head(base).0;
     let third = tri.head(tri.face_step(base)).0;
     let under = tri.head(tri.face_step(tri.twin(base))).0;
+    let taken = taken_off(alloc, lists, t, s, third, under)?;
+    let order = turned_order(alloc, &taken)?;
+    Ok(order)
+}
+
+/// The same, by the lists of a triangulation alone: n is at most 4095, and the base goes from `t` to `s`.
+pub fn base_order(alloc: Global, lists: &Rotations, t: u16, s: u16) -> Result<Order, AllocError>
+    requires triangulation { IsTriangulation lists.now }
+    requires few { length lists.now < 4096 }
+    requires base { HasDart lists.now t s }
+    ensures order { IfOk result (λ order. IsCanonicalOrder lists.now (t, s) (vertices_of order)) }
+    ensures rank { IfOk result (λ order. IsRankOf order.rank (vertices_of order)) }
+{
+    let third = entry_behind(lists.list(s as usize), t);
+    let under = entry_behind(lists.list(t as usize), s);
     let taken = taken_off(alloc, lists, t, s, third, under)?;
     let order = turned_order(alloc, &taken)?;
     Ok(order)

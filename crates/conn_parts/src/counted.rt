@@ -1,13 +1,13 @@
 //! The map of a record, made once, with what is counted of it.
 ghost use Rattle.std.specs.Prelude.{◌≡◌, ◌<◌, ◌≤◌, length, Some, None, IfOk, IfErr, OnOk};
-ghost use Rattle.map_theory.specs.Maps.{IsPlane, vertex_count};
+ghost use Rattle.map_theory.specs.Maps.{IsSimpleMap, IsPlane, vertex_count};
 ghost use Rattle.simple_maps.specs.Faults.{first_fault};
 ghost use Rattle.simple_maps.specs.MapFault.{Names};
 ghost use Rattle.refusals.specs.Conditions.{first_refusal, IfRefused};
 ghost use Rattle.conn_parts.specs.Counted.{IsCountOf, IsCountedMap, IsPlaneMap};
 
 use crate::{Parts, list_components};
-use euler_faces::{EulerCount, count_lists, euler_by_components};
+use euler_faces::{Counter, EulerCount, count_lists, euler_by_components};
 use half_edges::{HalfMap, Rotations};
 use refusals::{Refusal, Unserved};
 use simple_maps::{MapFault, no_fault_is_simple};
@@ -58,6 +58,30 @@ fn refuse_counted(lists: &Rotations, count: EulerCount, least: u16) -> Result<()
         return Err(Unserved::Refused(Refusal::Genus(genus)));
     }
     Ok(())
+}
+
+/// The counts of a record with these lists, which are from 1 to 4095, where it is a map of genus zero with at least
+/// `least` vertices, by a counter that may have counted other records before. No map is made of the lists.
+///
+/// `Err` is as for `plane_map`. The time is linear in the entries.
+pub fn plane_count(
+    counter: &mut Counter,
+    lists: &Rotations,
+    least: u16,
+) -> Result<EulerCount, Unserved>
+    requires some_list { 0 < length lists.now }
+    requires few_lists { length lists.now < 4096 }
+    ensures simple { OnOk result (IsSimpleMap lists.now) }
+    ensures some { OnOk result (least ≤ vertex_count lists.now) }
+    ensures plane { OnOk result (IsPlane lists.now) }
+    ensures count { IfOk result (IsCountOf lists.now) }
+    ensures served { OnOk result (first_refusal least lists.now ≡ None) }
+    ensures refused { IfErr result (IfRefused (λ refusal. first_refusal least lists.now ≡ Some refusal)) }
+{
+    no_fault_is_simple();
+    let count = counter.count(lists)?;
+    refuse_counted(lists, count, least)?;
+    Ok(count)
 }
 
 // Refuses lists of more entries than a plane map has, by counts alone: no map is made of them.

@@ -1,12 +1,14 @@
 -- The ends of rows, by darts.
-use Rattle.std.proofs.Common.{◌≡◌, ℕ, ◌+◌, ◌<◌, ◌≤◌, ◌⊎◌, List, length, get_or, Option, Some, option_map, unwrap_or, sym, ap, ◌∙◌, subst, inl, inr, arith, Contains}
+use Rattle.std.proofs.Common.{◌≡◌, ℕ, ◌+◌, ◌<◌, ◌≤◌, ◌⊎◌, List, length, get_or, Option, Some, option_map, unwrap_or, sym, ap, ◌∙◌, subst, inl, inr, arith, AllPairs, ◌≢◌, Contains}
+use Rattle.std.proofs.lemmas.List.Elements.{Contains-get_or}
 use Rattle.std.proofs.lemmas.List.{get_or_default}
-use Rattle.map_theory.specs.Maps.{Dart, HasDart, list_of, follows}
+use Rattle.map_lists.specs.Lists.{Lists}
+use Rattle.map_theory.specs.Maps.{Dart, HasDart, IsSimpleMap, list_of, follows, entry_after}
 use Rattle.map_theory.proofs.DartLemmas.{entry_after-injective}
 use Rattle.half_edges.specs.Map.{Map, IsHalfMap, IsLive, dart_at, next_dart}
 use Rattle.half_edges.proofs.ArenaLemmas.{entry_after-next}
 use Rattle.euler_faces.proofs.NumberLemmas.{some_of}
-use Rattle.fpp_shift.specs.ShiftTreesRows.{BeginsRow, EndsRow}
+use Rattle.fpp_shift.specs.ShiftTreesRows.{IsListOf, BeginsRow, EndsRow}
 
 -- what a call of `head` answers for the dart to u
 pub head-is : (map : Map) (d v u r : ℕ) → dart_at map d ≡ Some (v, u) → option_map (λ (e : Dart). e.1) (dart_at map d) ≡ Some r → u ≡ r
@@ -36,9 +38,9 @@ pub next-is : (map : Map) (d e v k : ℕ) → IsHalfMap map → v < length map.l
 next-is map d e v k known vertex l is step =
     step ∙ ap (option_map (next_dart map.lists)) is ∙ ap (λ (u : ℕ). Some (v, u)) (entry_after-next (list_of map.lists v) k (known.simple.no_repeat v vertex) l)
 
-module _ (map : Map) (known : IsHalfMap map) (ranks : List ℕ) (k v u r b : ℕ) (dart : HasDart map.lists v u) (rank : r ≡ get_or ranks u 0) where
+module _ (lists : Lists) (simple : IsSimpleMap lists) (ranks : List ℕ) (k v u r b : ℕ) (dart : HasDart lists v u) (rank : r ≡ get_or ranks u 0) where
   -- where a row begins, by the ranks of a neighbour and the next
-  pub BeginsRow-iff : b ≡ get_or ranks (follows map.lists v u) 0 → (((r < k) × ((r ≡ 0) ⊎ (k ≤ b))) → BeginsRow map.lists ranks k v u) × (BeginsRow map.lists ranks k v u → ((r < k) × ((r ≡ 0) ⊎ (k ≤ b))))
+  pub BeginsRow-iff : b ≡ get_or ranks (follows lists v u) 0 → (((r < k) × ((r ≡ 0) ⊎ (k ≤ b))) → BeginsRow lists ranks k v u) × (BeginsRow lists ranks k v u → ((r < k) × ((r ≡ 0) ⊎ (k ≤ b))))
   BeginsRow-iff next = (
     λ t. record {
       dart = dart;
@@ -49,7 +51,7 @@ module _ (map : Map) (known : IsHalfMap map) (ranks : List ℕ) (k v u r b : ℕ
   )
 
   -- where a row ends, by the ranks of a neighbour and the one before it, w
-  pub EndsRow-iff : (w : ℕ) → HasDart map.lists v w → follows map.lists v w ≡ u → b ≡ get_or ranks w 0 → (((r < k) × ((r ≡ 1) ⊎ (k ≤ b))) → EndsRow map.lists ranks k v u) × (EndsRow map.lists ranks k v u → ((r < k) × ((r ≡ 1) ⊎ (k ≤ b))))
+  pub EndsRow-iff : (w : ℕ) → HasDart lists v w → follows lists v w ≡ u → b ≡ get_or ranks w 0 → (((r < k) × ((r ≡ 1) ⊎ (k ≤ b))) → EndsRow lists ranks k v u) × (EndsRow lists ranks k v u → ((r < k) × ((r ≡ 1) ⊎ (k ≤ b))))
   EndsRow-iff w has turns before = (
     λ t. record {
       dart = dart;
@@ -57,12 +59,37 @@ module _ (map : Map) (known : IsHalfMap map) (ranks : List ℕ) (k v u r b : ℕ
       ends = elim t.1 [
         | inl z ↦ inl (sym rank ∙ z)
         | inr h ↦ inr (λ x on f.
-            let same = entry_after-injective (list_of map.lists v) x w (known.simple.no_repeat v dart.0) on.1 has.1 (f ∙ sym turns) in
+            let same = entry_after-injective (list_of lists v) x w (simple.no_repeat v dart.0) on.1 has.1 (f ∙ sym turns) in
             omega (arith, ap (λ u. get_or ranks u 0) same))
       ];
     },
     λ s. let e = s.earlier in (omega arith, elim s.ends [ inl z ↦ inl (rank ∙ z) | inr h ↦ inr (let l = h w has turns in omega arith) ]),
   )
+
+-- where a row begins and ends, by the entries of a list one after another
+module _ (lists : Lists) (v : ℕ) (list ranks : List ℕ) (is : IsListOf lists v list) (k i r b : ℕ) (l : i + 1 < length list) where
+  dart_at_place : (j : ℕ) → j < length list → HasDart lists v (get_or list j 0)
+  dart_at_place j m = (is.vertex, subst (λ us. Contains us (get_or list j 0)) is.list_is (Contains-get_or list j 0 m))
+
+  turns : follows lists v (get_or list i 0) ≡ get_or list (i + 1) 0
+  turns =
+      let distinct = subst (λ us. AllPairs ◌≢◌ us) (sym is.list_is) (is.simple.no_repeat v is.vertex) in
+      ap (entry_after (get_or list i 0)) (sym is.list_is) ∙ entry_after-next list i distinct l
+
+  pub BeginsRow-place : r ≡ get_or ranks (get_or list i 0) 0 → b ≡ get_or ranks (get_or list (i + 1) 0) 0 → (((r < k) × ((r ≡ 0) ⊎ (k ≤ b))) → BeginsRow lists ranks k v (get_or list i 0)) × (BeginsRow lists ranks k v (get_or list i 0) → ((r < k) × ((r ≡ 0) ⊎ (k ≤ b))))
+  BeginsRow-place rank next = BeginsRow-iff lists is.simple ranks k v (get_or list i 0) r b (dart_at_place i (omega arith)) rank (next ∙ ap (λ u. get_or ranks u 0) (sym turns))
+
+  pub EndsRow-place : r ≡ get_or ranks (get_or list (i + 1) 0) 0 → b ≡ get_or ranks (get_or list i 0) 0 → (((r < k) × ((r ≡ 1) ⊎ (k ≤ b))) → EndsRow lists ranks k v (get_or list (i + 1) 0)) × (EndsRow lists ranks k v (get_or list (i + 1) 0) → ((r < k) × ((r ≡ 1) ⊎ (k ≤ b))))
+  EndsRow-place rank before = EndsRow-iff lists is.simple ranks k v (get_or list (i + 1) 0) r b (dart_at_place (i + 1) l) rank (get_or list i 0) (dart_at_place i (omega arith)) turns before
+
+-- what stands in a list, and at no place passed, stands at the one place left
+pub left-place : (P : ℕ → Type 0) (us : List ℕ) (n u : ℕ) → Contains us u → P u → n < length us → ((j : ℕ) → j < length us → (j ≡ n) ⊎ ¬ P (get_or us j 0)) → P (get_or us n 0)
+left-place P us n u on p l none =
+    let e = get_or_default us on.0 0 u on.1 ∙ on.2 in
+    elim (none on.0 on.1) [
+      | inl same ↦ subst P (sym e ∙ ap (λ j. get_or us j 0) same) p
+      | inr none_here ↦ absurd (none_here (subst P (sym e) p))
+    ]
 
 -- a search of a list comes to what stands in it
 pub not-none : (P : ℕ → Type 0) (us : List ℕ) (n u : ℕ) → length us ≤ n → Contains us u → P u → ((j : ℕ) → j < n → ¬ P (get_or us j 0)) → ⊥

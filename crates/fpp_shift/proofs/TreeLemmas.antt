@@ -1,10 +1,11 @@
 -- The tree of an order, as it grows.
-use Rattle.std.proofs.Common.{◌≡◌, ◌+◌, ◌-◌, ◌*◌, ◌<◌, ◌≤◌, ℕ, suc, List, length, map, get_or, slice_get, Some, sym, ap, ◌∙◌, subst, arith}
+use Rattle.std.proofs.Common.{◌≡◌, ◌≢◌, All, Contains, ◌+◌, ◌-◌, ◌*◌, ◌<◌, ◌≤◌, ℕ, suc, List, length, map, get_or, slice_get, Some, sym, ap, ◌∙◌, subst, arith}
 use Rattle.std.proofs.lemmas.List.{get_or-map}
 use Rattle.std.proofs.lemmas.Option.{get_or_from_slice_get, slice_get_within}
 use Rattle.map_lists.specs.Lists.{Lists}
 use Rattle.map_lists.specs.declared.ids.VertexId.{VertexId}
-use Rattle.map_theory.specs.Maps.{Dart}
+use Rattle.std.proofs.lemmas.List.Elements.{Contains-get_or}
+use Rattle.map_theory.specs.Maps.{Dart, list_of}
 use Rattle.plane_laws.specs.Triangulations.{IsTriangulation}
 use Rattle.canon_order.specs.Orders.{IsCanonicalOrder, IsRankOf}
 use Rattle.canon_order.proofs.Counters.{same_place}
@@ -16,7 +17,7 @@ use Rattle.fpp_shift.specs.declared.offset_trees.nodes.Node.{Node}
 use Rattle.fpp_shift.specs.Grown.{links_of, IsGrown, IsOffsetTree}
 use Rattle.fpp_shift.specs.Next.{IsNextStep}
 use Rattle.fpp_shift.specs.OffsetTreesLaws.{GrownIsOffsetTree}
-use Rattle.fpp_shift.specs.ShiftTreesRows.{BeginsRow, EndsRow, OrderHasRows}
+use Rattle.fpp_shift.specs.ShiftTreesRows.{IsListOf, BeginsRow, EndsRow, OrderHasRows}
 use Rattle.fpp_shift.specs.Trees.{IsTreeOf}
 
 -- the nodes are the tree of the first k vertices of an order
@@ -82,3 +83,30 @@ uses-all law lists base at order steps run old new k e some uses =
     let u = uses base order steps run (length at - 2) (omega arith) in
     let f = law steps (length at - 2) run.run in
     omega (arith, run.end)
+
+-- the list of a vertex of the map is such a list, its entries have ranks, and some stand in it
+pub listed-at :
+    (lists : Lists) (base : Dart) (at ranks list : List ℕ) → IsTriangulation lists → IsCanonicalOrder lists base at → IsRankOf ranks at → (k v : ℕ) → k < length at → get_or at k 0 ≡ v → list ≡ list_of lists v
+    → IsListOf lists v list × All (λ u. u < length ranks) list
+listed-at lists base at ranks list triangulation order rank k v l e is =
+    let count = order.count in
+    let ranked = rank.count in
+    let within = order.vertices k 0 l in
+    let v_in : v < length lists = omega (arith, e) in (
+      record { simple = triangulation.simple; vertex = v_in; list_is = is },
+      λ i d m.
+          let on = subst (λ (us : List ℕ). Contains us (get_or list i d)) is (Contains-get_or list i d m) in
+          let u_in = triangulation.simple.in_range v (get_or list i d) (v_in, on) in
+          omega arith,
+    )
+
+pub some-in : (us : List ℕ) (u : ℕ) → Contains us u → 0 < length us
+some-in us u on = let l = on.1 in omega arith
+
+-- the first two vertices of an order are two
+pub two_first : (lists : Lists) (base : Dart) (at : List ℕ) → IsTriangulation lists → IsCanonicalOrder lists base at → (s t : ℕ) → get_or at 0 0 ≡ s → get_or at 1 0 ≡ t → s ≢ t
+two_first lists base at triangulation order s t first second e =
+    let count = order.count in
+    let some = triangulation.some in
+    let same = same_place at 0 1 order.built.once (omega arith) (omega arith) (first ∙ e ∙ sym second) in
+    omega arith

@@ -1,11 +1,17 @@
 -- Where the row of the contour begins and ends over which a vertex of an order is put.
 use Rattle.std.specs.Prelude.{ℕ, ◌+◌, ◌<◌, ◌≤◌, ◌≡◌, ◌⊎◌, List, length, slice_index}
 use Rattle.map_lists.specs.Lists.{Lists}
-use Rattle.map_theory.specs.Maps.{Dart, HasDart, follows}
+use Rattle.map_theory.specs.Maps.{Dart, HasDart, IsSimpleMap, list_of, follows}
 use Rattle.plane_laws.specs.Triangulations.{IsTriangulation}
 use Rattle.canon_order.specs.Orders.{IsCanonicalOrder, IsRankOf}
 use Rattle.order_drawings.specs.OrderRuns.{IsOrderRun}
 use Rattle.contour_runs.specs.Runs.{Step, stage_after}
+
+-- the list is that of the vertex v of a simple map
+pub record IsListOf (lists : Lists) (v : ℕ) (list : List ℕ) : Type 0 where
+  pub simple : IsSimpleMap lists
+  pub vertex : v < length lists
+  pub list_is : list ≡ list_of lists v
 
 -- The row of the vertex v, of rank k, begins at its neighbour u: u is of a lower rank, and it is the first vertex of all or the neighbour after it is of a higher one.
 pub record BeginsRow (lists : Lists) (ranks : List ℕ) (k v u : ℕ) : Type 0 where

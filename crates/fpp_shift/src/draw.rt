@@ -1,5 +1,5 @@
 //! Drawings by the shift method.
-ghost use Rattle.std.specs.Prelude.{◌≡◌, ◌<◌, ◌-◌, ◌*◌, pos, IfOk};
+ghost use Rattle.std.specs.Prelude.{◌≡◌, ◌<◌, ◌-◌, ◌*◌, length, pos, IfOk};
 ghost use Rattle.map_theory.specs.Maps.{Dart, HasDart, vertex_count};
 ghost use Rattle.plane_laws.specs.Triangulations.{IsTriangulation};
 ghost use Rattle.canon_order.specs.Orders.{IsCanonicalOrder, IsRankOf, vertices_of};
@@ -7,9 +7,9 @@ ghost use Rattle.fpp_shift.specs.ShiftDrawings.{AreShiftPoints, IsShiftDrawing};
 
 use crate::fault::ShiftFault;
 use crate::offset_trees::{Offsets, sum_offsets};
-use crate::shift_trees::offset_tree;
+use crate::shift_trees::{list_tree, offset_tree};
 use canon_order::Order;
-use half_edges::HalfMap;
+use half_edges::{HalfMap, Rotations};
 use pg_io::Steps;
 use pg_plane::{GridFigure, Points};
 use std::alloc::{AllocError, Global};
@@ -73,5 +73,54 @@ pub fn shift_draw(alloc: Global, tri: &HalfMap, order: &Order) -> Result<GridFig
         points,
         width: (2 * n - 4) as i32,
         height: (n - 2) as i32,
+    })
+}
+
+// The shift points of an order, by the lists of the map and its tree of offsets, whose uses a new ledger counts.
+fn list_points<L: Ledger>(
+    alloc: Global,
+    lists: &Rotations,
+    order: &Order,
+    blank: Blank,
+) -> Result<Points, AllocError>
+    requires name { blank.name ≡ L.name }
+    requires parts { blank.parts ≡ L.parts }
+    requires some { 0 < blank.parts }
+    requires triangulation { IsTriangulation lists.now }
+    requires few { length lists.now < 4096 }
+    requires order { (base : Dart) × IsCanonicalOrder lists.now base (vertices_of order.now) }
+    requires rank { IsRankOf order.now.rank (vertices_of order.now) }
+    ensures { IfOk result (λ points. (base : Dart) (canonical : IsCanonicalOrder lists.now base (vertices_of order.now))
+        → AreShiftPoints lists.now base (vertices_of order.now) canonical.cycle points) }
+{
+    order_drawings::order_runs::order_is_run();
+    crate::shift_trees::offset_tree_adds_up();
+    let mut steps: Steps<L> = Steps::new(blank);
+    let mut tree: Offsets<L> = Offsets::new(alloc, lists.len() as u16)?;
+    list_tree(lists, order, &mut tree, &mut steps);
+    let points = sum_offsets(alloc, &tree, order.at.get(0), &mut steps)?;
+    Ok(points)
+}
+
+/// The same, by the lists of the map, which are at most 4095.
+pub fn list_draw(alloc: Global, lists: &Rotations, order: &Order) -> Result<GridFigure, AllocError>
+    requires triangulation { IsTriangulation lists.now }
+    requires few { length lists.now < 4096 }
+    requires order { (base : Dart) × IsCanonicalOrder lists.now base (vertices_of order.now) }
+    requires rank { IsRankOf order.now.rank (vertices_of order.now) }
+    ensures points { IfOk result (λ figure. (base : Dart) (canonical : IsCanonicalOrder lists.now base (vertices_of order.now))
+        → AreShiftPoints lists.now base (vertices_of order.now) canonical.cycle figure.points) }
+    ensures drawing { IfOk result (λ figure. (base : Dart) → HasDart lists.now base.0 base.1 → IsCanonicalOrder lists.now base (vertices_of order.now)
+        → IsShiftDrawing lists.now base figure.points) }
+    ensures width { IfOk result (λ figure. figure.width ≡ pos (2 * vertex_count lists.now - 4)) }
+    ensures height { IfOk result (λ figure. figure.height ≡ pos (vertex_count lists.now - 2)) }
+{
+    crate::shift_drawings::shift_points_draw();
+    let count = lists.len();
+    let points = list_points::<Brand>(alloc, lists, order, Blank::new(1))?;
+    Ok(GridFigure {
+        points,
+        width: (2 * count - 4) as i32,
+        height: (count - 2) as i32,
     })
 }

@@ -3,9 +3,11 @@
 
 ghost use Rattle.fpp_shift.specs.ShiftTreesLaws.{OffsetTreeAddsUp};
 
+mod listed;
 mod rows;
 mod tree;
 
+pub(crate) use listed::list_tree;
 pub use tree::offset_tree;
 
 /// The tree of offsets of an order has its links as a tree has, and the points to which it adds up are the shift

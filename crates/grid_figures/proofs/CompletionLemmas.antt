@@ -9,6 +9,7 @@ use Rattle.map_theory.proofs.DartLemmas.{HasDart-at}
 use Rattle.map_theory.proofs.EntryLemmas.{Contains-from_list_any, list_any-from_Contains}
 use Rattle.plane_laws.specs.Triangulations.{IsTriangulation}
 use Rattle.plane_laws.proofs.EdgeBound.{met_connected}
+use Rattle.plane_laws.proofs.Extended.{IsExtended-itself}
 use Rattle.plane_laws.specs.MapEditsCompleted.{IsExtended, Completion}
 use Rattle.plane_peeling.proofs.Counted.{marks_everywhere}
 use Rattle.map_lists.specs.declared.ids.DartId.{DartId}
@@ -139,3 +140,19 @@ some_completion lists completion simple plane some =
 pub listed_in : (own lists result more : Lists) (made : Option Lists) → own ≡ lists → MatchOption made (result ≡ own) (λ ls. result ≡ ls) → MatchOption made (lists ≡ more) (λ ls. ls ≡ more) → result ≡ more
 listed_in own lists result more None same given h = given ∙ (same ∙ h)
 listed_in own lists result more (Some ls) same given h = given ∙ h
+
+-- a triangulation is its own completion, for the base to the first neighbour of vertex 0
+pub full_completion : (lists : Lists) → IsTriangulation lists → IsCompletionFor lists lists (get_or (list_of lists 0) 0 0)
+full_completion lists c =
+    let some = neighbour_in_completed lists c in
+    let count = c.some in
+    record {
+      simple = c.simple;
+      triangulation = c;
+      extended = IsExtended-itself lists;
+      base = record {
+        dart = HasDart-at lists 0 0 0 (omega arith) some;
+        first = λ l. refl;
+        least = λ e. let none = ap length e in absurd (omega arith);
+      };
+    }

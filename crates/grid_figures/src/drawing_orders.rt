@@ -3,8 +3,10 @@
 
 ghost use Rattle.grid_figures.specs.DrawingOrdersLaws.{CompletionDraws, SomeCompletion};
 
+mod full;
 mod order;
 
+pub(crate) use full::{full_order, is_triangulated};
 pub(crate) use order::made_or;
 pub use order::{DrawingOrder, drawing_order, plane_order};
 

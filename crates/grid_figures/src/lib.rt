@@ -1,7 +1,10 @@
 //! The figures of the jobs shift and schnyder: the triangulation, its order, the drawing, and its place in the record.
 #![tactic(auto)]
 
+mod drawer;
 pub mod drawing_orders;
 pub mod schnyder_figures;
 pub mod schnyder_grid;
 pub mod shift_figures;
+
+pub use drawer::Drawer;

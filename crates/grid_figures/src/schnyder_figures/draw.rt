@@ -8,10 +8,11 @@ ghost use Rattle.refusals.specs.Conditions.{first_refusal, IfRefused};
 ghost use Rattle.grid_figures.specs.Forms.{IsDrawnBy};
 ghost use Rattle.grid_figures.specs.SchnyderFiguresFigures.{schnyder_form, IsSchnyderFigure};
 
-use crate::drawing_orders::{made_or, plane_order};
+use crate::drawing_orders::{full_order, is_triangulated, made_or, plane_order};
 use crate::schnyder_grid::list_draw;
 use canon_order::Order;
 use conn_parts::{CountedMap, plane_map};
+use euler_faces::Counter;
 use half_edges::Rotations;
 use pg_plane::GridFigure;
 use refusals::Unserved;
@@ -47,6 +48,50 @@ pub fn plane_figure(
     Ok(figure)
 }
 
+// The figure of a record that is a triangulation.
+fn full_figure(alloc: Global, lists: &Rotations) -> Result<GridFigure, AllocError>
+    requires triangulation { IsTriangulation lists.now }
+    requires few { length lists.now < 4096 }
+    ensures { IfOk result (IsSchnyderFigure lists.now) }
+{
+    crate::drawing_orders::completion_draws();
+    let order = full_order(alloc, lists)?;
+    let figure = order_figure(alloc, lists, &order)?;
+    Ok(figure)
+}
+
+// The figure of a record, by a completion of its map.
+fn map_figure(alloc: Global, lists: &Rotations) -> Result<GridFigure, Unserved>
+    requires some_list { 0 < length lists.now }
+    requires few_lists { length lists.now < 4096 }
+    ensures figure { IfOk result (IsSchnyderFigure lists.now) }
+    ensures served { OnOk result (first_refusal 3 lists.now ≡ None) }
+    ensures refused { IfErr result (IfRefused (λ refusal. first_refusal 3 lists.now ≡ Some refusal)) }
+{
+    let plane = plane_map(alloc, lists, 3)?;
+    let figure = plane_figure(alloc, plane, lists)?;
+    Ok(figure)
+}
+
+// The figure of a record, with a counter that may have counted other records before.
+pub(crate) fn counted_figure(
+    alloc: Global,
+    counter: &mut Counter,
+    lists: &Rotations,
+) -> Result<GridFigure, Unserved>
+    requires some_list { 0 < length lists.now }
+    requires few_lists { length lists.now < 4096 }
+    ensures figure { IfOk result (IsSchnyderFigure lists.now) }
+    ensures served { OnOk result (first_refusal 3 lists.now ≡ None) }
+    ensures refused { IfErr result (IfRefused (λ refusal. first_refusal 3 lists.now ≡ Some refusal)) }
+{
+    if is_triangulated(counter, lists)? {
+        let figure = full_figure(alloc, lists)?;
+        return Ok(figure);
+    }
+    map_figure(alloc, lists)
+}
+
 /// The figure of a record with these lists, which are from 1 to 4095: a plane drawing of its map that keeps
 /// the rotations, in the grid n - 2 by n - 2.
 ///
@@ -66,7 +111,6 @@ pub fn schnyder_figure(alloc: Global, lists: &Rotations) -> Result<GridFigure, U
     ensures served { OnOk result (first_refusal 3 lists.now ≡ None) }
     ensures refused { IfErr result (IfRefused (λ refusal. first_refusal 3 lists.now ≡ Some refusal)) }
 {
-    let plane = plane_map(alloc, lists, 3)?;
-    let figure = plane_figure(alloc, plane, lists)?;
-    Ok(figure)
+    let mut counter = Counter::new(alloc);
+    counted_figure(alloc, &mut counter, lists)
 }

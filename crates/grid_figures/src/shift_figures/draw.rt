@@ -7,25 +7,70 @@ ghost use Rattle.refusals.specs.Conditions.{first_refusal, IfRefused};
 ghost use Rattle.grid_figures.specs.Forms.{IsDrawnBy};
 ghost use Rattle.grid_figures.specs.ShiftFiguresFigures.{shift_form, IsShiftFigure};
 
-use crate::drawing_orders::drawing_order;
+use crate::drawing_orders::{drawing_order, full_order, is_triangulated, made_or};
 use canon_order::Order;
-use fpp_shift::shift_draw;
-use half_edges::{HalfMap, Rotations};
+use euler_faces::Counter;
+use fpp_shift::list_draw;
+use half_edges::Rotations;
 use pg_plane::GridFigure;
 use refusals::Unserved;
 use std::alloc::{AllocError, Global};
 
 // The drawing of a triangulation by a canonical order.
-fn order_figure(alloc: Global, tri: &HalfMap, order: &Order) -> Result<GridFigure, AllocError>
-    requires triangulation { IsTriangulation tri.now.lists }
-    requires order { (base : Dart) × IsCanonicalOrder tri.now.lists base (vertices_of order.now) }
+fn order_figure(alloc: Global, lists: &Rotations, order: &Order) -> Result<GridFigure, AllocError>
+    requires triangulation { IsTriangulation lists.now }
+    requires few { length lists.now < 4096 }
+    requires order { (base : Dart) × IsCanonicalOrder lists.now base (vertices_of order.now) }
     requires rank { IsRankOf order.now.rank (vertices_of order.now) }
-    ensures { IfOk result (IsDrawnBy shift_form tri.now.lists (vertices_of order.now)) }
+    ensures { IfOk result (IsDrawnBy shift_form lists.now (vertices_of order.now)) }
 {
-    match shift_draw(alloc, tri, order) {
-        Ok(figure) => Ok(figure),
-        Err(_) => Err(AllocError),
+    let figure = list_draw(alloc, lists, order)?;
+    Ok(figure)
+}
+
+// The figure of a record that is a triangulation.
+fn full_figure(alloc: Global, lists: &Rotations) -> Result<GridFigure, AllocError>
+    requires triangulation { IsTriangulation lists.now }
+    requires few { length lists.now < 4096 }
+    ensures { IfOk result (IsShiftFigure lists.now) }
+{
+    crate::drawing_orders::completion_draws();
+    let order = full_order(alloc, lists)?;
+    let figure = order_figure(alloc, lists, &order)?;
+    Ok(figure)
+}
+
+// The figure of a record, by a completion of its map.
+fn map_figure(alloc: Global, lists: &Rotations) -> Result<GridFigure, Unserved>
+    requires some_list { 0 < length lists.now }
+    requires few_lists { length lists.now < 4096 }
+    ensures figure { IfOk result (IsShiftFigure lists.now) }
+    ensures served { OnOk result (first_refusal 3 lists.now ≡ None) }
+    ensures refused { IfErr result (IfRefused (λ refusal. first_refusal 3 lists.now ≡ Some refusal)) }
+{
+    crate::drawing_orders::completion_draws();
+    let found = drawing_order(alloc, lists)?;
+    let figure = order_figure(alloc, made_or(&found.made, lists), &found.order)?;
+    Ok(figure)
+}
+
+// The figure of a record, with a counter that may have counted other records before.
+pub(crate) fn counted_figure(
+    alloc: Global,
+    counter: &mut Counter,
+    lists: &Rotations,
+) -> Result<GridFigure, Unserved>
+    requires some_list { 0 < length lists.now }
+    requires few_lists { length lists.now < 4096 }
+    ensures figure { IfOk result (IsShiftFigure lists.now) }
+    ensures served { OnOk result (first_refusal 3 lists.now ≡ None) }
+    ensures refused { IfErr result (IfRefused (λ refusal. first_refusal 3 lists.now ≡ Some refusal)) }
+{
+    if is_triangulated(counter, lists)? {
+        let figure = full_figure(alloc, lists)?;
+        return Ok(figure);
     }
+    map_figure(alloc, lists)
 }
 
 /// The figure of a record with these lists, which are from 1 to 4095: a plane drawing of its map that keeps
@@ -47,8 +92,6 @@ pub fn shift_figure(alloc: Global, lists: &Rotations) -> Result<GridFigure, Unse
     ensures served { OnOk result (first_refusal 3 lists.now ≡ None) }
     ensures refused { IfErr result (IfRefused (λ refusal. first_refusal 3 lists.now ≡ Some refusal)) }
 {
-    crate::drawing_orders::completion_draws();
-    let found = drawing_order(alloc, lists)?;
-    let figure = order_figure(alloc, &found.tri, &found.order)?;
-    Ok(figure)
+    let mut counter = Counter::new(alloc);
+    counted_figure(alloc, &mut counter, lists)
 }

@@ -3,7 +3,7 @@ use Rattle.std.proofs.Common.{sym, subst}
 use Rattle.map_lists.specs.Lists.{Lists}
 use Rattle.conn_parts.specs.Counted.{IsPlaneMap}
 use Rattle.grid_figures.specs.SchnyderFiguresFigures.{IsSchnyderFigure}
-use Rattle.grid_figures.proofs.schnyder_figures.draw.schnyder_figure.Goals as goal
+use Rattle.grid_figures.proofs.schnyder_figures.draw.map_figure.Goals as goal
 
 pub plane_figure-requires-clause-lists : goal.plane_figure-requires-clause-lists
 plane_figure-requires-clause-lists c = sym c.in_ok-plane.ensures.plane.counted.lists_are
