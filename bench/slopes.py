@@ -177,7 +177,7 @@ def limits():
     drawn = answer("shift", one(families.stacked))
     yield "verify: a drawing of 4,095 vertices with one late crossing", cost("verify", late_crossing(drawn)), 300
     yield "verify: K(300,300) as bars with its edges in one column", cost("verify", one_column(300)), 70
-    yield "verify: a grid of 3,172 vertices between the heads of 850 hubs with 64 each", cost("verify", fans(13, 244, 850, 64, 700)), 9500
+    yield "verify: a grid of 3,172 vertices between the heads of 850 hubs with 64 each", cost("verify", fans(13, 244, 850, 64, 700)), 1500
     yield "verify: a convex double wheel of 4,095", cost("verify", answer("convex", one(families.double_wheel))), 30
     yield "convex: a wheel of 4,095, hub last", cost("convex", one(families.wheel_last)), 30
     yield "convex: a double wheel of 4,095", cost("convex", one(families.double_wheel)), 30

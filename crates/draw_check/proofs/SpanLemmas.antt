@@ -161,3 +161,54 @@ right_off span r p box u inside on = let up = box u inside in let line = on.on_l
 -- Seen from r the point is to the left of the box.
 pub left_off : (span : Span) (r p : Point) → ((u : Point) → IsIn span u → pos 0 <ℤ area p r u) → MissesFan span r p
 left_off span r p box u inside on = let up = box u inside in let line = on.on_line in let turn = area_turned p r u in omega (arith, ints, turn)
+
+-- a point in a box that reaches from one corner of another to the opposite one
+pub in_joined : (span other : Span) (low high u : Point) → low.x ≡ other.left → low.y ≡ other.bottom → high.x ≡ other.right → high.y ≡ other.top → IsIn span low → IsIn span high → IsIn other u → IsIn span u
+in_joined span other low high u left bottom right top first last inside = record {
+  left = let a = first.left in let b = inside.left in omega (arith, ints, left);
+  right = let a = last.right in let b = inside.right in omega (arith, ints, right);
+  bottom = let a = first.bottom in let b = inside.bottom in omega (arith, ints, bottom);
+  top = let a = last.top in let b = inside.top in omega (arith, ints, top);
+}
+
+-- the corners of a box
+pub record AreCorners (span : Span) (low_left low_right high_left high_right : Point) : Type 0 where
+  pub low_left_x : low_left.x ≡ span.left
+  pub low_left_y : low_left.y ≡ span.bottom
+  pub low_right_x : low_right.x ≡ span.right
+  pub low_right_y : low_right.y ≡ span.bottom
+  pub high_left_x : high_left.x ≡ span.left
+  pub high_left_y : high_left.y ≡ span.top
+  pub high_right_x : high_right.x ≡ span.right
+  pub high_right_y : high_right.y ≡ span.top
+
+-- what is not to the right of a way by four corners is not so by any point of their box
+pub corners_left : (span : Span) (a b c d : Point) (r u : Point) → AreCorners span a b c d → pos 0 ≤ℤ area r u a → pos 0 ≤ℤ area r u b → pos 0 ≤ℤ area r u c → pos 0 ≤ℤ area r u d → (p : Point) → IsIn span p → pos 0 ≤ℤ area r u p
+corners_left span a b c d r u at la lb lc ld p inside =
+    let e = inside.left in
+    let f = inside.right in
+    let g = inside.bottom in
+    let h = inside.top in
+    let after : (k : Point) → pos 0 ≤ℤ area r u k → area r u k ≤ℤ area r u p → pos 0 ≤ℤ area r u p = λ k here more. omega (arith, ints, here, more) in
+    elim (or_less r.x u.x) [
+      | inl over ↦ elim (or_less r.y u.y) [
+        | inl up ↦ after b lb (area-le r u b p (inl (over, omega (arith, ints, at.low_right_y))) (inl (up, omega (arith, ints, at.low_right_x))))
+        | inr down ↦ after a la (area-le r u a p (inl (over, omega (arith, ints, at.low_left_y))) (inr (down, omega (arith, ints, at.low_left_x))))
+      ]
+      | inr back ↦ elim (or_less r.y u.y) [
+        | inl up ↦ after d ld (area-le r u d p (inr (back, omega (arith, ints, at.high_right_y))) (inl (up, omega (arith, ints, at.high_right_x))))
+        | inr down ↦ after c lc (area-le r u c p (inr (back, omega (arith, ints, at.high_left_y))) (inr (down, omega (arith, ints, at.high_left_x))))
+      ]
+    ]
+
+-- so of ways from r to points of a box
+pub ways_left : (span other : Span) (a b c d : Point) (r : Point) → AreCorners other a b c d → IsLeftOf span r a → IsLeftOf span r b → IsLeftOf span r c → IsLeftOf span r d → (p : Point) → IsIn other p → IsLeftOf span r p
+ways_left span other a b c d r at la lb lc ld p inside u held =
+    let turn : (k : Point) → pos 0 ≤ℤ area r k u → pos 0 ≤ℤ area u r k = λ k h. subst (λ z. pos 0 ≤ℤ z) (area_turned u r k) h in
+    subst (λ z. pos 0 ≤ℤ z) (sym (area_turned u r p)) (corners_left other a b c d u r at (turn a (la u held)) (turn b (lb u held)) (turn c (lc u held)) (turn d (ld u held)) p inside)
+
+-- and of ways to r
+pub ways_left_back : (span other : Span) (a b c d : Point) (r : Point) → AreCorners other a b c d → IsLeftOf span a r → IsLeftOf span b r → IsLeftOf span c r → IsLeftOf span d r → (p : Point) → IsIn other p → IsLeftOf span p r
+ways_left_back span other a b c d r at la lb lc ld p inside u held =
+    let turn : (k : Point) → pos 0 ≤ℤ area k r u → pos 0 ≤ℤ area r u k = λ k h. subst (λ z. pos 0 ≤ℤ z) (sym (area_turned k r u)) h in
+    subst (λ z. pos 0 ≤ℤ z) (area_turned p r u) (corners_left other a b c d r u at (turn a (la u held)) (turn b (lb u held)) (turn c (lc u held)) (turn d (ld u held)) p inside)

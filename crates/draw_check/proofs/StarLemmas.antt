@@ -16,12 +16,15 @@ use Rattle.map_theory.proofs.EntryLemmas.{Contains-filter, Contains-from_filter}
 use Rattle.half_edges.specs.Map.{Map, IsHalfMap, dart_at, next_dart}
 use Rattle.half_edges.proofs.ArenaLemmas.{entry_after-next}
 use Rattle.pg_plane.specs.declared.point.Point.{Point}
+use Rattle.pg_plane.specs.Geometry.{DoCross}
+use Rattle.plane_drawings.specs.Drawing.{place}
 use Rattle.vertex_rounds.specs.Least.{IsLeast, IsLeastPair}
 use Rattle.vertex_rounds.specs.Rounds.{HasEdge, ComesBefore}
 use Rattle.vertex_rounds.proofs.LeastLemmas.{place_in, IsLeastPair-alike}
 use Rattle.draw_check.specs.Faults.{EdgesCross}
 use Rattle.draw_check.specs.Loops.{Meets, IsCrossed}
-use Rattle.draw_check.specs.Stars.{AreHeads, IsStar, IsCrossedFrom, IsCrossedBelow, IsBestBelow, IsEarlierOf, limit_of, run_at}
+use Rattle.draw_check.specs.Spans.{IsIn}
+use Rattle.draw_check.specs.Stars.{AreHeads, Reaches, IsStar, IsCrossedFrom, IsCrossedBelow, IsBestBelow, IsEarlierOf, limit_of, run_at}
 use Rattle.draw_check.specs.declared.edges.Probe.TheVariants.{Edge}
 use Rattle.draw_check.specs.declared.spans.Span.{Span}
 
@@ -201,3 +204,24 @@ module _ (lists : Lists) (points : List Point) where
   best_done None simple h = λ a b x. h a b (record { vertex = x.first; below = x.cross.second.1.0; head = x.second; cross = x.cross })
   best_done (Some e) simple h =
       IsLeastPair-alike (IsCrossedBelow lists points (length lists)) (IsCrossed lists points) (λ a b x. record { first = x.vertex; second = x.head; cross = x.cross }) (λ a b x. record { vertex = x.first; below = x.cross.second.1.0; head = x.second; cross = x.cross }) e.a.0 e.b.0 h
+
+-- a box of the heads and of the vertex has what its edges reach
+pub reaches_from : (lists : Lists) (points : List Point) (v : ℕ) (heads : List ℕ) (span wide : Span) → AreHeads lists v (v + 1) heads → ((i : ℕ) → i < length heads → IsIn span (place points (get_or heads i 0))) → IsIn wide (place points v) → ((u : Point) → IsIn span u → IsIn wide u) → Reaches lists points wide v
+reaches_from lists points v heads span wide are held vertex more = record {
+  vertex = vertex;
+  heads = λ u edge.
+      let less = edge.0 in
+      let at = place_in heads u ((are u).1 (omega arith, edge.1)) in
+      subst (λ w. IsIn wide (place points w)) at.2 (more (place points (get_or heads at.0 0)) (held at.0 at.1));
+}
+
+-- in a wider box
+pub reaches_more : (lists : Lists) (points : List Point) (span wide : Span) (v : ℕ) → ((u : Point) → IsIn span u → IsIn wide u) → Reaches lists points span v → Reaches lists points wide v
+reaches_more lists points span wide v more h = record { vertex = more (place points v) h.vertex; heads = λ u edge. more (place points u) (h.heads u edge) }
+
+-- a star that misses a block crosses no edge of it
+pub block_uncrossed : (lists : Lists) (points : List Point) (v : ℕ) (heads : List ℕ) (block : Span) → AreHeads lists v (v + 1) heads → ((i : ℕ) (p q : Point) → i < length heads → IsIn block p → IsIn block q → ¬ DoCross p q (place points v) (place points (get_or heads i 0))) → (a b : ℕ) → Reaches lists points block a → ¬ IsCrossedFrom lists points v a b
+block_uncrossed lists points v heads block are misses a b reach x =
+    let less = x.second.0 in
+    let at = place_in heads x.head ((are x.head).1 (omega arith, x.second.1)) in
+    misses at.0 (place points a) (place points b) at.1 reach.vertex (reach.heads b x.edge) (subst (λ w. DoCross (place points a) (place points b) (place points v) (place points w)) (sym at.2) x.cross)

@@ -26,6 +26,16 @@ pub record AreRuns (points : List Point) (heads : List ℕ) (runs : List Span) :
   pub in_range : (k : ℕ) → k < length runs → IsBoxInRange (run_at runs k)
   pub held : (k i : ℕ) → k < length runs → 16 * k ≤ i → i < 16 * (k + 1) → i < length heads → IsIn (run_at runs k) (place points (slice_index heads i))
 
+-- a vertex and its greater neighbours lie in a box
+pub record Reaches (lists : Lists) (points : List Point) (span : Span) (v : ℕ) : Type 0 where
+  pub vertex : IsIn span (place points v)
+  pub heads : (u : ℕ) → HasEdge lists v u → IsIn span (place points u)
+
+-- each block of 16 vertices has a box of what their edges reach
+pub record AreBlocks (lists : Lists) (points : List Point) (blocks : List Span) : Type 0 where
+  pub in_range : (k : ℕ) → k < length blocks → IsBoxInRange (run_at blocks k)
+  pub reach : (k v : ℕ) → k < length blocks → 16 * k ≤ v → v < 16 * (k + 1) → v < length lists → Reaches lists points (run_at blocks k) v
+
 -- the heads of v are its neighbours from `from` on, in any order
 abbrev pub AreHeads : Lists → ℕ → ℕ → List ℕ → Type 0
 AreHeads lists v from heads = (u : ℕ) → Contains heads u ↔ ((from ≤ u) × HasDart lists v u)

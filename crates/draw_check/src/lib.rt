@@ -6,6 +6,7 @@
 ghost use Rattle.draw_check.specs.FaceLaws.{FacesYesForFewer, FacesYesIsYes};
 ghost use Rattle.draw_check.specs.Laws.{ValidWithFewer, YesIsValid};
 
+mod blocks;
 mod crossings;
 mod edges;
 mod faces;

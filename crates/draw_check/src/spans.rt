@@ -257,3 +257,140 @@ pub(crate) fn misses_fan(span: Span, r: Point, p: Point) -> bool
     }
     is_strictly_left_of(span, p, r)
 }
+
+// The left end of the bottom of a box.
+fn low_left(span: Span) -> Point
+    requires { IsBoxInRange span }
+    ensures x { result.x ≡ span.left }
+    ensures y { result.y ≡ span.bottom }
+    ensures range { IsInRange result }
+{
+    Point {
+        x: span.left,
+        y: span.bottom,
+    }
+}
+
+// The right end of the bottom of a box.
+fn low_right(span: Span) -> Point
+    requires { IsBoxInRange span }
+    ensures x { result.x ≡ span.right }
+    ensures y { result.y ≡ span.bottom }
+    ensures range { IsInRange result }
+{
+    Point {
+        x: span.right,
+        y: span.bottom,
+    }
+}
+
+// The left end of the top of a box.
+fn high_left(span: Span) -> Point
+    requires { IsBoxInRange span }
+    ensures x { result.x ≡ span.left }
+    ensures y { result.y ≡ span.top }
+    ensures range { IsInRange result }
+{
+    Point {
+        x: span.left,
+        y: span.top,
+    }
+}
+
+// The right end of the top of a box.
+fn high_right(span: Span) -> Point
+    requires { IsBoxInRange span }
+    ensures x { result.x ≡ span.right }
+    ensures y { result.y ≡ span.top }
+    ensures range { IsInRange result }
+{
+    Point {
+        x: span.right,
+        y: span.top,
+    }
+}
+
+// A box of two boxes.
+pub(crate) fn joined(span: Span, other: Span) -> Span
+    requires span { IsBoxInRange span }
+    requires other { IsBoxInRange other }
+    ensures range { IsBoxInRange result }
+    ensures first { (u : Point) → IsIn span u → IsIn result u }
+    ensures second { (u : Point) → IsIn other u → IsIn result u }
+{
+    let wide = widened(span, low_left(other));
+    widened(wide, high_right(other))
+}
+
+// Whether a box lies on one side of another.
+fn are_boxes_apart(span: Span, other: Span) -> bool
+    ensures { OnTrue result ((p q : Point) → IsIn other p → IsIn other q → IsApart span p q) }
+{
+    if other.right < span.left {
+        return true;
+    }
+    if span.right < other.left {
+        return true;
+    }
+    if other.top < span.bottom {
+        return true;
+    }
+    if span.top < other.bottom {
+        return true;
+    }
+    false
+}
+
+// Whether no point of a box is to the right of a way from `r` to a point of another.
+fn is_left_of_ways(span: Span, r: Point, other: Span) -> bool
+    requires span { IsBoxInRange span }
+    requires r { IsInRange r }
+    requires other { IsBoxInRange other }
+    ensures { OnTrue result ((p : Point) → IsIn other p → IsLeftOf span r p) }
+{
+    if !is_left_of(span, r, low_left(other)) {
+        return false;
+    }
+    if !is_left_of(span, r, low_right(other)) {
+        return false;
+    }
+    if !is_left_of(span, r, high_left(other)) {
+        return false;
+    }
+    is_left_of(span, r, high_right(other))
+}
+
+// Whether no point of a box is to the right of a way from a point of another to `r`.
+fn is_left_of_ways_back(span: Span, r: Point, other: Span) -> bool
+    requires span { IsBoxInRange span }
+    requires r { IsInRange r }
+    requires other { IsBoxInRange other }
+    ensures { OnTrue result ((p : Point) → IsIn other p → IsLeftOf span p r) }
+{
+    if !is_left_of(span, low_left(other), r) {
+        return false;
+    }
+    if !is_left_of(span, low_right(other), r) {
+        return false;
+    }
+    if !is_left_of(span, high_left(other), r) {
+        return false;
+    }
+    is_left_of(span, high_right(other), r)
+}
+
+// Whether surely no segment in a box crosses one from `r` into another.
+pub(crate) fn misses_block(span: Span, r: Point, block: Span) -> bool
+    requires span { IsBoxInRange span }
+    requires r { IsInRange r }
+    requires block { IsBoxInRange block }
+    ensures { OnTrue result ((p q : Point) → IsIn block p → IsIn block q → MissesStar span r p q) }
+{
+    if are_boxes_apart(widened(span, r), block) {
+        return true;
+    }
+    if is_left_of_ways(span, r, block) {
+        return true;
+    }
+    is_left_of_ways_back(span, r, block)
+}

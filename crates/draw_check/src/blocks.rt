@@ -1,0 +1,85 @@
+//! Blocks of 16 stars each, by the numbers of their vertices: a box of all that their edges reach, by which a star is
+//! compared with a whole block.
+ghost use Rattle.std.specs.Prelude.{◌≡◌, ◌+◌, ◌*◌, ◌<◌, ◌≤◌, ℕ, length, take, slice_index, All};
+ghost use Rattle.std.specs.Bool.{OnTrue};
+ghost use Rattle.map_theory.specs.Maps.{list_of};
+ghost use Rattle.pg_plane.specs.declared.point.Point.{Point};
+ghost use Rattle.pg_plane.specs.Geometry.{DoCross};
+ghost use Rattle.pg_plane.specs.Range.{IsInRange};
+ghost use Rattle.plane_drawings.specs.Drawing.{place};
+ghost use Rattle.vertex_rounds.specs.Rounds.{HasEdge};
+ghost use Rattle.draw_check.specs.Loops.{IsDrawn};
+ghost use Rattle.draw_check.specs.Spans.{IsIn, IsBoxInRange};
+ghost use Rattle.draw_check.specs.Stars.{AreRuns, Reaches, AreBlocks};
+
+use crate::places::place_at;
+use crate::spans::{NO_SPAN, Span, joined, misses_block, widened};
+use crate::stars::{run_end, run_of, star_heads};
+use half_edges::{HalfMap, VertexId};
+use pg_plane::Points;
+
+// A box of a vertex and its greater neighbours; `heads` is room.
+fn reach_of(map: &HalfMap, points: &Points, heads: &mut [u16], v: VertexId) -> Span
+    requires drawn { IsDrawn map.now points.now }
+    requires vertex { v.0 < length map.now.lists }
+    requires room { length heads.old ≡ 4095 }
+    ensures range { IsBoxInRange result }
+    ensures reach { Reaches map.now.lists points.now result v.0 }
+{
+    let count = star_heads(map, points, v, v.0 + 1, heads);
+    let span = run_of(points, &heads[..count], 0, count);
+    widened(span, place_at(points, v))
+}
+
+// A box of what the edges of a block reach.
+fn block_of(map: &HalfMap, points: &Points, heads: &mut [u16], begin: u16, end: u16) -> Span
+    requires drawn { IsDrawn map.now points.now }
+    requires end { end ≤ length map.now.lists }
+    requires room { length heads.old ≡ 4095 }
+    ensures range { IsBoxInRange result }
+    ensures reach { (v : ℕ) → begin ≤ v → v < end → Reaches map.now.lists points.now result v }
+{
+    let mut span = NO_SPAN;
+    for v in begin..end {
+        span = joined(span, reach_of(map, points, heads, VertexId(v)));
+    }
+    span
+}
+
+// Writes the boxes of the blocks; `heads` is room.
+pub(crate) fn fill_blocks(map: &HalfMap, points: &Points, heads: &mut [u16], blocks: &mut [Span])
+    requires drawn { IsDrawn map.now points.now }
+    requires room { length heads.old ≡ 4095 }
+    requires few { length blocks.old ≤ 256 }
+    ensures { AreBlocks map.now.lists points.now blocks.new }
+{
+    let n = map.n() as usize;
+    for k in 0..blocks.len() {
+        blocks[k] = block_of(map, points, heads, (16 * k) as u16, run_end(k, n) as u16);
+    }
+}
+
+// Whether surely no edge of a star crosses a segment in the box of a block.
+pub(crate) fn misses_runs(
+    points: &Points,
+    heads: &[u16],
+    runs: &[Span],
+    v: VertexId,
+    block: Span,
+) -> bool
+    requires in_range { (v : ℕ) → v < length points.now → IsInRange (place points.now v) }
+    requires few { length runs.now ≤ 256 }
+    requires runs { AreRuns points.now heads.now runs.now }
+    requires v { v.0 < length points.now }
+    requires block { IsBoxInRange block }
+    ensures { OnTrue result ((i : ℕ) (p q : Point) → i < length heads.now → IsIn block p → IsIn block q
+        → ¬ DoCross p q (place points.now v.0) (place points.now (slice_index heads.now i))) }
+{
+    let r = place_at(points, v);
+    for k in 0..runs.len() {
+        if !misses_block(runs[k], r, block) {
+            return false;
+        }
+    }
+    true
+}
