@@ -10,7 +10,7 @@ use Rattle.map_lists.specs.Lists.{Lists}
 use Rattle.map_theory.specs.Maps.{IsSimpleMap}
 use Rattle.pg_plane.specs.declared.figure.RectFigure.{RectFigure}
 use Rattle.rect_check.specs.Duals.{number_at, IsRect, ShareSide}
-use Rattle.rect_check.specs.Loops.{AreKept, AreJoined, AreFitting, HasRow, DoesFollow, FollowsInRows, AreRanked, DoFollow, HaveLast, AreRuns, IsFilled, IsRunPut, AreTaken, AreLast, AreSpans}
+use Rattle.rect_check.specs.Loops.{AreKept, AreJoined, AreFitting, HasRow, DoesFollow, FollowsInRows, AreRanked, DoFollow, HaveLast, AreRuns, IsFilled, IsRunPut, AreTaken, AreLast, HasEachVertex, AreSpans}
 use Rattle.rect_check.proofs.RunLemmas.{filled, filled_is, AreRuns-closed, AreRuns-none, entry_here, AreRuns-taken}
 
 -- a number that is not below 0
@@ -190,14 +190,13 @@ module _ (lists : Lists) (marks : List Bool) (begin end low high : List ℤ) (sp
     joined_at e = ⊎_elim (λ f. f.joined e) (λ f. let g = f.behind in let o = (spans u lu).order in let p = (spans v lv).order in absurd (omega (arith, ints, e, g, o, p))) either
 
   -- where each vertex follows those before it, of each two one follows the other
-  pub AreRanked-from_order : (old new : List ℕ) → length old ≡ length lists → AreVertices old → IsPermutation old new → DoFollow lists marks begin end low high new (length new) → AreRanked lists marks begin end low high
-  AreRanked-from_order old new count old_is same follow u v other lu lv =
-      let n = length lists in
-      let (i, li, ei) = place_of_vertex n old new count old_is same u lu in
-      let (j, lj, ej) = place_of_vertex n old new count old_is same v lv in
+  pub AreRanked-from_order : (order : List ℕ) → HasEachVertex (length lists) order → DoFollow lists marks begin end low high order (length order) → AreRanked lists marks begin end low high
+  AreRanked-from_order order vertices follow u v other lu lv =
+      let (i, li, ei) = vertices.each u lu in
+      let (j, lj, ej) = vertices.each v lv in
       elim (cases_lt i j) [
-        | inl before ↦ inl (subst (λ x. FollowsInRows lists marks begin end low high x v) ei (subst (λ y. FollowsInRows lists marks begin end low high (get_or new i 0) y) ej (follow i j before lj)))
-        | inr after ↦ (let before : j < i = strictly i j u v new ei ej other after in inr (subst (λ x. FollowsInRows lists marks begin end low high x u) ej (subst (λ y. FollowsInRows lists marks begin end low high (get_or new j 0) y) ei (follow j i before li))))
+        | inl before ↦ inl (subst (λ x. FollowsInRows lists marks begin end low high x v) ei (subst (λ y. FollowsInRows lists marks begin end low high (get_or order i 0) y) ej (follow i j before lj)))
+        | inr after ↦ (let before : j < i = strictly i j u v order ei ej other after in inr (subst (λ x. FollowsInRows lists marks begin end low high x u) ej (subst (λ y. FollowsInRows lists marks begin end low high (get_or order j 0) y) ei (follow j i before li))))
       ]
     where
       strictly : (i j u v : ℕ) (new : List ℕ) → get_or new i 0 ≡ u → get_or new j 0 ≡ v → u ≢ v → j ≤ i → j < i

@@ -48,6 +48,11 @@ abbrev pub DoFollow : Lists → List Bool → (begin end low high : List ℤ) �
 DoFollow lists marks begin end low high order i =
     (j k : ℕ) → j < k → k < i → FollowsInRows lists marks begin end low high (slice_index order j) (slice_index order k)
 
+-- an order of numbers below n has each of them
+pub record HasEachVertex (n : ℕ) (order : List ℕ) : Type 0 where
+  pub below : (i : ℕ) → i < length order → slice_index order i < n
+  pub each : (v : ℕ) → v < n → (i : ℕ) × (i < length order) × (slice_index order i ≡ v)
+
 -- in its row each of the first i vertices of an order is the one that the row's entry is one more than, or ends before that begins
 abbrev pub HaveLast : (begin end low high : List ℤ) → List ℕ → ℕ → (ℕ → ℕ) → Type 0
 HaveLast begin end low high order i row =

@@ -120,8 +120,8 @@ fn first_behind_rects(map: &HalfMap, fig: &RectFigure) -> RectVerdict
 /// sweep along each of the two axes keeps which rectangle each run of rows has last. It compares each new one with
 /// those of its runs, looks each contact up in the shorter of two lists, and marks the two of one that is no edge.
 /// Where rectangles meet, two passes over the rows mark those that do. The time of a valid figure is linear in the
-/// vertices and the darts, besides that of sorting; else the sum of all heights comes to it, and for the least
-/// fault only a marked rectangle is compared with all others.
+/// vertices and the darts; else the sum of all heights comes to it, and for the least fault only a marked rectangle
+/// is compared with all others.
 pub fn check_rects(map: &HalfMap, fig: &RectFigure) -> RectVerdict
     requires { HasRects map.now.lists fig.now }
     ensures { IsRectVerdict map.now.lists fig.now result }
