@@ -11,6 +11,7 @@ mod check;
 mod edges;
 mod frame;
 mod meets;
+mod order;
 mod pairs;
 mod rects;
 mod sides;

@@ -9,9 +9,10 @@ ghost use Rattle.rect_check.specs.Verdicts.{AreRects, NoneMeet};
 ghost use Rattle.rect_check.specs.Loops.{IsMarked, AreKept, HasRow};
 ghost use Rattle.rect_check.specs.Meets.{near_at, far_at, DoReach, LaterAreMarked, MeetsAreMarked};
 
+use crate::order::{fill_vertices, sort_vertices};
 use crate::pairs::first_marked_meet;
 use crate::rects::number;
-use crate::sweep::{fill_rows, fill_vertices, natural, sort_vertices};
+use crate::sweep::{fill_rows, natural};
 use half_edges::{HalfMap, VertexId};
 use pg_plane::RectFigure;
 
