@@ -5,11 +5,13 @@
   streams.py JOB ..      the rows of these jobs; `memory` for those of memory
 
 Million instructions, counted by valgrind with the start of the program taken off, for inputs of a million bytes or of the
-number of records that is told; for `count` the ratio to the plain C program; megabytes at most for memory, of 16 MiB. Not
-part of the gate.
+number of records that is told; for `count`, and for `shift` where it says so, the ratio to a C program (plain_count.c,
+lean_shift.c); megabytes at most for memory, of 16 MiB. The maps of eight vertices are made by nauty, and left out where
+it is not installed. Not part of the gate.
 """
 import os
 import random
+import shutil
 import subprocess
 import sys
 
@@ -22,8 +24,20 @@ MILLION = 1 << 20
 WHOLE = 15_800_000
 
 
+LEAN = os.path.join(count.OUT, "lean_shift")
+EIGHT = "all connected plane maps of 8 vertices"
+
+
 def million(job, data):
     return slopes.cost(job, data) / 1e6
+
+
+def maps_of_eight():
+    """All connected plane maps of eight vertices."""
+    if not shutil.which("nauty-geng"):
+        return {}
+    made = subprocess.run("nauty-geng -c -q 8 | nauty-planarg -p -q", shell=True, stdout=subprocess.PIPE, check=True)
+    return {EIGHT: made.stdout}
 
 
 def maps():
@@ -36,14 +50,14 @@ def maps():
     }
     found = {names[name]: data for name, data in count.inputs(MILLION) if name in names}
     found["one of 4,095"] = count.record(families.shuffled(families.stacked(4095)))
-    return found
+    return {**found, **maps_of_eight()}
 
 
 DRAWS = {
-    "shift": {"one of 4,095": 10, "of 10 to 60": 400, "of 255": 380, "trees and paths": 650, "of 6 to 12": 480},
-    "schnyder": {"one of 4,095": 10, "of 10 to 60": 400, "of 255": 380, "trees and paths": 650, "of 6 to 12": 480},
-    "bars": {"one of 4,095": 14, "of 10 to 60": 448, "of 255": 430, "of 6 to 12": 560},
-    "convex": {"one of 4,095": 15, "of 10 to 60": 600},
+    "shift": {"one of 4,095": 4.6, "of 10 to 60": 165, "of 255": 160, "trees and paths": 380, "of 6 to 12": 180, EIGHT: 52},
+    "schnyder": {"one of 4,095": 5, "of 10 to 60": 175, "of 255": 170, "trees and paths": 420, "of 6 to 12": 200, EIGHT: 57},
+    "bars": {"one of 4,095": 6, "of 10 to 60": 225, "of 255": 215, "of 6 to 12": 240, EIGHT: 50},
+    "convex": {"one of 4,095": 9.5, "of 10 to 60": 350},
 }
 
 
@@ -79,9 +93,9 @@ def graphs():
     """(what, lines, the most million instructions)"""
     source = random.Random(11)
     kinds = (
-        ("1,000 planar graphs of 12 vertices", 1000, 12, lambda: planar(12, source), 48),
-        ("1,000 planar graphs of 62 vertices", 1000, 62, lambda: planar(62, source), 250),
-        ("200 planar graphs of 255 vertices", 200, 255, lambda: planar(255, source), 220),
+        ("1,000 planar graphs of 12 vertices", 1000, 12, lambda: planar(12, source), 21),
+        ("1,000 planar graphs of 62 vertices", 1000, 62, lambda: planar(62, source), 145),
+        ("200 planar graphs of 255 vertices", 200, 255, lambda: planar(255, source), 135),
         ("1,000 random graphs of 62 vertices, none planar", 1000, 62, lambda: random_edges(62, 124, source), 150),
         ("200 random graphs of 255 vertices, none planar", 200, 255, lambda: random_edges(255, 510, source), 90),
         ("200 triangulations of 255 vertices with one edge more", 200, 255, lambda: one_more(255, source), 190),
@@ -90,23 +104,37 @@ def graphs():
         yield what, "".join(line(n, make(), source) + "\n" for _ in range(times)).encode(), most
 
 
+def beside_lean(streams):
+    """`shift` of triangulations beside the lean C program."""
+    subprocess.run(["cc", "-O2", "-o", LEAN, os.path.join(count.HERE, "lean_shift.c")], check=True)
+    for name in ("of 10 to 60", "of 255", "of 6 to 12"):
+        path = slopes.put(streams[name])
+        ratio = count.instructions([count.PROGRAM, "shift"], path) / count.instructions([LEAN], path)
+        yield f"triangulations {name}, against lean C", ratio, 1.1
+
+
 def rows(job):
     """(what, found, the most) of a job"""
     if job == "count":
         subprocess.run(["cc", "-O2", "-o", count.PLAIN, os.path.join(count.HERE, "plain_count.c")], check=True)
         for name, data in count.inputs(MILLION):
             path = slopes.put(data)
-            yield name + ", against plain C", count.instructions([count.PROGRAM, "count"], path) / count.instructions([count.PLAIN], path), 1.05
+            yield name + ", against plain C", count.instructions([count.PROGRAM, "count"], path) / count.instructions([count.PLAIN], path), 1.0
+        for name, data in maps_of_eight().items():
+            yield name, million(job, data), 20
     elif job in DRAWS:
         streams = maps()
         for name, most in DRAWS[job].items():
-            yield ("triangulations " if name.startswith("of") else "") + name, million(job, streams[name]), most
+            if name in streams:
+                yield ("triangulations " if name.startswith("of") else "") + name, million(job, streams[name]), most
+        if job == "shift":
+            yield from beside_lean(streams)
     elif job == "rect":
         for height, width in ((63, 63), (17, 229)):
-            yield f"a grid of {height} by {width} with diagonals", million(job, count.record(pigale.quadrangle(height, width))), 13
+            yield f"a grid of {height} by {width} with diagonals", million(job, count.record(pigale.quadrangle(height, width))), 8.5
     elif job == "verify":
         drawn = slopes.answer("shift", count.record(families.shuffled(families.stacked(4095))))
-        yield "a good triangulation of 4,095 vertices", million(job, drawn), 9
+        yield "a good triangulation of 4,095 vertices", million(job, drawn), 4.8
     elif job == "embed":
         for what, lines, most in graphs():
             yield what, million(job, lines), most
@@ -143,7 +171,7 @@ def main():
             for what, found, most in memory():
                 say(what, found, most, 0)
         for what, found, most in rows(job):
-            say(f"`{job}`: {what}", found, most, 2 if job == "count" else 1)
+            say(f"`{job}`: {what}", found, most, 2 if what.endswith(" C") else 1)
 
 
 if __name__ == "__main__":
