@@ -87,7 +87,7 @@ fn stands_between(places: &[Point], lines: &[Line], w: u16) -> bool
     requires lines { All (IsLine (length places.now)) lines.now }
     ensures { OnTrue result (StandsBetween (place places.now) w lines.now) }
 {
-    let begin = count_below(places, lines, &[], w);
+    let begin = count_below(places, lines, w);
     let end = ended_run(places, lines, begin, w);
     if !is_above(places, lines, begin, w) {
         return false;

@@ -17,6 +17,26 @@ pub(crate) struct Gap {
     pub(crate) end: usize,
 }
 
+// How many of some lines the vertex is above, if it is above the lower ones and no others.
+pub(crate) fn count_below(places: &[Point], lines: &[Line], v: u16) -> usize
+    requires in_range { All IsInRange places.now }
+    requires vertex { v < length places.now }
+    requires lines { All (IsLine (length places.now)) lines.now }
+    ensures { result ≤ length lines.now }
+{
+    let mut begin = 0;
+    let mut end = lines.len();
+    while begin < end {
+        let middle = begin + (end - begin) / 2;
+        if 0 < rise(places, lines[middle], v) {
+            begin = middle + 1;
+        } else {
+            end = middle;
+        }
+    }
+    begin
+}
+
 // Whether the vertex is above line number `k`, of some lines and those behind them.
 fn is_above_at(places: &[Point], lower: &[Line], upper: &[Line], k: usize, v: u16) -> bool
     requires in_range { All IsInRange places.now }
@@ -32,9 +52,8 @@ fn is_above_at(places: &[Point], lower: &[Line], upper: &[Line], k: usize, v: u1
     }
 }
 
-// How many lines the vertex is above, if it is above the lower ones and no others: of some lines and those
-// behind them.
-pub(crate) fn count_below(places: &[Point], lower: &[Line], upper: &[Line], v: u16) -> usize
+// How many lines round a gap the vertex is above, if it is above the lower ones and no others.
+fn count_around(places: &[Point], lower: &[Line], upper: &[Line], v: u16) -> usize
     requires in_range { All IsInRange places.now }
     requires vertex { v < length places.now }
     requires lower { All (IsLine (length places.now)) lower.now }
@@ -243,7 +262,7 @@ pub(crate) fn step(
     ensures passed { IfSome result (λ g. IsPassed (place places.now) v fresh.now (around gap.begin gap.end status.old) (around g.begin g.end status.new)) }
 {
     let lines = &status[..];
-    let begin = count_below(places, &lines[..gap.begin], &lines[gap.end..], v);
+    let begin = count_around(places, &lines[..gap.begin], &lines[gap.end..], v);
     let end = move_gap(status, gap, begin);
     pass(places, status, Gap { begin, end }, v, fresh, suspects)
 }
