@@ -144,12 +144,14 @@ def rows(job):
 def memory():
     """(what, megabytes, the most)"""
     complete = next(data for name, data in count.inputs(WHOLE) if name.startswith("one complete graph"))
+    cut_short = complete[:-4] + complete[-2:]
     numbers = b" 2" * (WHOLE // 2)
     long_line = b"figure 1 shift 3\n1 at 0 0:" + numbers + b"\n2 at 1 0: 1\n3 at 0 1: 1\n"
     long_bar = b"figure 1 bars 3\n1 y 0 x 0 1:" + numbers + b"\n2 y 1 x 0 1: 1\n3 y 2 x 0 1: 2\ncolumns 0 0\n"
     spaces = b" " * WHOLE
     for what, job, data, most in (
         ("`count` of one complete graph", "count", complete, 67),
+        ("`count` of it, its last list cut short", "count", cut_short, 67),
         ("`shift` of it, refused for its genus", "shift", complete, 80),
         ("`verify` of one line of 7.9 million neighbours, of a straight-line drawing", "verify", long_line, 140),
         ("`verify` of one line of 7.9 million neighbours, of a bar", "verify", long_bar, 140),
