@@ -1,88 +1,15 @@
 /* What `pigale shift` does with triangulations, as lean as C is likely to be: well-formed planar_code on standard input,
    figures on standard output, with the same tests of a map. It stops with status 3 at any other record. The floor beside
    which bench/streams.py sets `shift`; the points may be others, and `pigale verify` judges them. */
-#include <stdio.h>
-#include <stdlib.h>
-#include <string.h>
+#include "lean.h"
 
-enum { MOST = 4096, DARTS = 6 * MOST, ROOM = 1 << 24, NUMBERS = 1 << 14, OUT = 1 << 21 };
 enum { NONE, MARKED, GONE };
 
-static unsigned char input[ROOM + 1], text[OUT], state[MOST], seen[DARTS];
-static unsigned short head[DARTS], tail[DARTS], near[MOST], queue[MOST], stack[8 * DARTS];
+static unsigned char state[MOST], seen[DARTS];
+static unsigned short near[MOST], queue[MOST], stack[8 * DARTS];
 static unsigned short at[MOST], rank[MOST], left[MOST], right[MOST], next_on[MOST], cover[MOST];
-static unsigned twin[DARTS], start[MOST + 1], dart_to[MOST * MOST];
 static int apart[MOST], height[MOST];
-static unsigned long long decimal[NUMBERS];
-static unsigned char digits[NUMBERS];
-static size_t written, top;
-
-static void fail(void) { exit(3); }
-
-/* Writes the digits of a number, and says how many they are. */
-static unsigned spell(unsigned k, unsigned char *to) {
-    unsigned char back[12];
-    unsigned count = 0;
-    do back[count++] = '0' + k % 10;
-    while (k /= 10);
-    for (unsigned i = 0; i < count; i++) to[i] = back[count - 1 - i];
-    return count;
-}
-
-/* The text of each number in one word, behind a space, and how long it is. */
-static void make_decimals(void) {
-    for (unsigned k = 0; k < NUMBERS; k++) {
-        unsigned char word[8] = " ";
-        digits[k] = 1 + spell(k, word + 1);
-        memcpy(&decimal[k], word, 8);
-    }
-}
-
-static void put(unsigned k) { written += spell(k, text + written); }
-
-static void put_after_space(unsigned k) {
-    memcpy(text + written, &decimal[k], 8);
-    written += digits[k];
-}
-
-static void put_text(const char *word, unsigned length) {
-    memcpy(text + written, word, length);
-    written += length;
-}
-
-static size_t read_lists(size_t place, unsigned n, int wide) {
-    unsigned darts = 0;
-    for (unsigned v = 0; v < n; v++) {
-        start[v] = darts;
-        for (;;) {
-            unsigned u = input[place++];
-            if (wide) u = u << 8 | input[place++];
-            if (u == 0) break;
-            if (u > n || u - 1 == v || darts == 6 * n) fail();
-            tail[darts] = v;
-            head[darts++] = u - 1;
-        }
-    }
-    start[n] = darts;
-    if (n < 3 || darts != 6 * n - 12) fail();
-    return place;
-}
-
-/* A dart that stands twice is overwritten in the table, and one without a twin meets what another record left there. */
-static void find_twins(unsigned n) {
-    unsigned darts = start[n];
-    for (unsigned d = 0; d < darts; d++) dart_to[tail[d] * n + head[d]] = d;
-    for (unsigned d = 0; d < darts; d++) {
-        unsigned t = dart_to[head[d] * n + tail[d]];
-        if (t >= darts || tail[t] != head[d] || head[t] != tail[d] || dart_to[tail[d] * n + head[d]] != d) fail();
-        twin[d] = t;
-    }
-}
-
-static unsigned turned(unsigned d) {
-    unsigned v = tail[d];
-    return d + 1 == start[v + 1] ? start[v] : d + 1;
-}
+static size_t top;
 
 static unsigned count_faces(unsigned n) {
     unsigned faces = 0;
@@ -192,48 +119,18 @@ static void shift(unsigned n) {
     for (unsigned v = n - 2; v >= 2; v--) apart[v] += apart[cover[v]] - height[cover[v]];
 }
 
-static void print(unsigned record, unsigned n) {
-    put_text("figure ", 7);
-    put(record);
-    put_text(" shift", 6);
-    put_after_space(n);
-    text[written++] = '\n';
+static void draw(unsigned record, unsigned n) {
+    if (n < 3 || start[n] != 6 * n - 12 || n + count_faces(n) != start[n] / 2 + 2 || !is_connected(n)) fail();
+    order(n);
+    shift(n);
+    put_first(record, " shift", 6, n);
     for (unsigned v = 0; v < n; v++) {
-        memcpy(text + written, (char *)&decimal[v + 1] + 1, 7);
-        written += digits[v + 1] - 1;
+        put_vertex(v);
         put_text(" at", 3);
         put_after_space(apart[rank[v]]);
         put_after_space(height[rank[v]]);
-        text[written++] = ':';
-        for (unsigned d = start[v]; d < start[v + 1]; d++) put_after_space(head[d] + 1);
-        text[written++] = '\n';
-    }
-    if (written > OUT / 2) {
-        fwrite(text, 1, written, stdout);
-        written = 0;
+        put_neighbours(v);
     }
 }
 
-int main(void) {
-    size_t length = fread(input, 1, ROOM, stdin), place = 0;
-    unsigned records = 0;
-    if (length >= 15 && memcmp(input, ">>planar_code<<", 15) == 0) place = 15;
-    make_decimals();
-    while (place < length) {
-        unsigned n = input[place++];
-        int wide = n == 0;
-        if (wide) {
-            n = input[place] << 8 | input[place + 1];
-            place += 2;
-        }
-        place = read_lists(place, n, wide);
-        find_twins(n);
-        if (n + count_faces(n) != start[n] / 2 + 2 || !is_connected(n)) fail();
-        order(n);
-        shift(n);
-        print(++records, n);
-    }
-    fwrite(text, 1, written, stdout);
-    printf("end records %u refused 0\n", records);
-    return 0;
-}
+int main(void) { return each_record(draw); }

@@ -5,8 +5,8 @@
   streams.py JOB ..      the rows of these jobs; `memory` for those of memory
 
 Million instructions, counted by valgrind with the start of the program taken off, for inputs of a million bytes or of the
-number of records that is told; for `count`, and for `shift` where it says so, the ratio to a C program (plain_count.c,
-lean_shift.c); megabytes at most for memory, of 16 MiB. The maps of eight vertices are made by nauty, and left out where
+number of records that is told; for `count`, and for `shift` and `bars` where it says so, the ratio to a C program
+(plain_count.c, lean_shift.c, lean_bars.c); megabytes at most for memory, of 16 MiB. The maps of eight vertices are made by nauty, and left out where
 it is not installed. Not part of the gate.
 """
 import os
@@ -24,7 +24,6 @@ MILLION = 1 << 20
 WHOLE = 15_800_000
 
 
-LEAN = os.path.join(count.OUT, "lean_shift")
 EIGHT = "all connected plane maps of 8 vertices"
 
 
@@ -104,12 +103,13 @@ def graphs():
         yield what, "".join(line(n, make(), source) + "\n" for _ in range(times)).encode(), most
 
 
-def beside_lean(streams):
-    """`shift` of triangulations beside the lean C program."""
-    subprocess.run(["cc", "-O2", "-o", LEAN, os.path.join(count.HERE, "lean_shift.c")], check=True)
+def beside_lean(job, streams):
+    """A job that draws, of triangulations, beside a lean C program."""
+    lean = os.path.join(count.OUT, "lean_" + job)
+    subprocess.run(["cc", "-O2", "-o", lean, os.path.join(count.HERE, f"lean_{job}.c")], check=True)
     for name in ("of 10 to 60", "of 255", "of 6 to 12"):
         path = slopes.put(streams[name])
-        ratio = count.instructions([count.PROGRAM, "shift"], path) / count.instructions([LEAN], path)
+        ratio = count.instructions([count.PROGRAM, job], path) / count.instructions([lean], path)
         yield f"triangulations {name}, against lean C", ratio, 1.1
 
 
@@ -127,8 +127,8 @@ def rows(job):
         for name, most in DRAWS[job].items():
             if name in streams:
                 yield ("triangulations " if name.startswith("of") else "") + name, million(job, streams[name]), most
-        if job == "shift":
-            yield from beside_lean(streams)
+        if job in ("shift", "bars"):
+            yield from beside_lean(job, streams)
     elif job == "rect":
         for height, width in ((63, 63), (17, 229)):
             yield f"a grid of {height} by {width} with diagonals", million(job, count.record(pigale.quadrangle(height, width))), 8.5
