@@ -154,7 +154,8 @@ pub fn list_order(
     Ok(order)
 }
 
-/// The same, by the lists of a triangulation alone: n is at most 4095, and the base goes from `t` to `s`.
+/// Orders a triangulation as `canon_order` does, by its lists alone, which are at most 4095. The base
+/// goes from `t` to `s`.
 pub fn base_order(alloc: Global, lists: &Rotations, t: u16, s: u16) -> Result<Order, AllocError>
     requires triangulation { IsTriangulation lists.now }
     requires few { length lists.now < 4096 }

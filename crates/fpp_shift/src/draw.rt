@@ -102,7 +102,7 @@ fn list_points<L: Ledger>(
     Ok(points)
 }
 
-/// The same, by the lists of the map, which are at most 4095.
+/// Draws a triangulation as `shift_draw` does, by its lists, which are at most 4095.
 pub fn list_draw(alloc: Global, lists: &Rotations, order: &Order) -> Result<GridFigure, AllocError>
     requires triangulation { IsTriangulation lists.now }
     requires few { length lists.now < 4096 }
