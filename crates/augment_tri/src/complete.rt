@@ -33,7 +33,7 @@ pub fn triangulate(alloc: Global, map: HalfMap) -> Result<HalfMap, (HalfMap, All
     }
 }
 
-/// The same, of a map whose components are known.
+/// Like [`triangulate`], but takes the components of `map` as `parts` instead of finding them.
 pub fn triangulate_parts(map: HalfMap, parts: &Parts) -> Result<HalfMap, (HalfMap, AllocError)>
     requires plane { IsPlane map.lists }
     requires some { 3 ≤ vertex_count map.lists }

@@ -103,7 +103,7 @@ fn first_behind_in(
     }
 }
 
-// The same, with room for `MOST` vertices, `COLUMNS` columns and `DARTS` darts.
+// Finds the first fault of an edge or of a list, in tables of `MOST` vertices, `COLUMNS` columns and `DARTS` darts.
 fn first_behind_of<const MOST: usize, const COLUMNS: usize, const DARTS: usize>(
     map: &HalfMap,
     fig: &BarFigure,

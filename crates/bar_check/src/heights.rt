@@ -50,7 +50,7 @@ fn first_bad_height_in(map: &HalfMap, fig: &BarFigure, seen: &mut [bool]) -> Opt
     None
 }
 
-// The same, with room for `MOST` vertices.
+// Finds the least vertex with a wrong height, with a mark for each of `MOST` heights.
 fn first_bad_height_of<const MOST: usize>(
     map: &HalfMap,
     fig: &BarFigure,

@@ -26,7 +26,7 @@ fn put(columns: &mut [i32], d: DartId, x: i32)
     }
 }
 
-// The same at both darts of an edge.
+// Writes a column at both darts of an edge, where the table reaches so far.
 fn put_both(columns: &mut [i32], d: DartId, twin: DartId, x: i32)
     ensures { IsWritten d.0 twin.0 x columns.old columns.new }
 {
@@ -53,7 +53,7 @@ fn put_next(
     put_both(columns, d, twin, number(&fig.column, edge as usize));
 }
 
-// The same for a dart from `b`, where its edge leads down to a lesser vertex.
+// Writes the column of the next edge upwards of a lesser vertex, where the dart `d` from `b` leads down to it.
 fn put_edge(
     map: &HalfMap,
     fig: &BarFigure,

@@ -131,7 +131,7 @@ pub fn canon_order(alloc: Global, tri: &HalfMap, base: DartId) -> Result<Order, 
     Ok(order)
 }
 
-/// The same, where the lists of the map are at hand.
+/// Like [`canon_order`], but takes the lists of the map instead of reading them out.
 pub fn list_order(
     alloc: Global,
     tri: &HalfMap,

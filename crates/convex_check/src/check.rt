@@ -42,7 +42,7 @@ pub fn check_convex_points(
     }
 }
 
-/// The same of a figure, of which the grid is not looked at.
+/// Like [`check_convex_points`], but takes a figure, whose grid it ignores.
 pub fn check_convex(
     alloc: Global,
     map: &HalfMap,

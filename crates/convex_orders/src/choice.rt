@@ -118,7 +118,7 @@ fn before_last(left: usize, right: usize) -> usize
     if right == 0 { left - 1 } else { left }
 }
 
-// The same from the end of the contour on, where some vertex may go.
+// Seeks from the end of the contour on, where some vertex may go.
 fn seek_all(
     left: &mut Vec<u16>,
     right: &mut Vec<u16>,

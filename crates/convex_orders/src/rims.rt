@@ -26,7 +26,7 @@ fn first_rim(own: &[u32], other: &[u32], marks: &[bool]) -> usize
     0
 }
 
-// The same from one place on, if it is there.
+// Returns the first such place from `from` on, if there is one.
 fn rim_from(own: &[u32], other: &[u32], marks: &[bool], from: usize) -> Option<usize>
     requires long { length other.now ≡ length own.now }
     requires own_in { (k : ℕ) → k < length own.now → slice_index own.now k < length marks.now }

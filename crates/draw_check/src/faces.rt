@@ -147,7 +147,7 @@ pub fn check_points_by_faces(
     }
 }
 
-/// The same of a figure: its points, in its grid.
+/// Like [`check_points_by_faces`], but takes a figure: its points, in its grid.
 pub fn check_by_faces(tri: &HalfMap, base: DartId, fig: &GridFigure) -> FaceVerdict
     requires triangulation { IsTriangulation tri.now.lists }
     requires base { IsLive tri.now base.0 }

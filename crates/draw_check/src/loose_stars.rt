@@ -52,7 +52,7 @@ fn is_on_run(
     false
 }
 
-// The same of all heads.
+// Says whether a vertex lies on an edge to one of all heads of a star.
 fn is_on_star(points: &Points, heads: &[u16], runs: &[Span], v: VertexId, w: VertexId) -> bool
     requires in_range { (v : ℕ) → v < length points.now → IsInRange (place points.now v) }
     requires heads { All (λ u. u < length points.now) heads.now }

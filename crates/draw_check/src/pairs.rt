@@ -58,7 +58,7 @@ fn first_pair(map: &HalfMap, points: &Points) -> Option<Verdict>
     first_meeting(map, points, &marks, None)
 }
 
-// The same, where without the edges of the loose vertices the drawing is plane.
+// Finds the first such pair, where without the edges of the excluded vertices the drawing is plane.
 fn first_pair_by_loose(map: &HalfMap, points: &Points, loose: &[u16]) -> Option<Verdict>
     requires drawn { IsDrawn map.now points.now }
     requires plane { IsPlaneDrawing (firm_lists loose.now map.now.lists) points.now }
@@ -70,8 +70,8 @@ fn first_pair_by_loose(map: &HalfMap, points: &Points, loose: &[u16]) -> Option<
     first_meeting(map, points, &marks, Some(loose))
 }
 
-// The same. A sweep that finds the drawing plane, or plane without the edges of a few vertices, spares the
-// search over all pairs.
+// Finds the first such pair. A sweep that finds the drawing plane, or plane without the edges of a few vertices, spares
+// the search over all pairs.
 fn first_pair_by_sweep(map: &HalfMap, points: &Points) -> Option<Verdict>
     requires { IsDrawn map.now points.now }
     ensures { MatchOption result (NoneShareAPlace map.now.lists points.now × NoneOnEdge map.now.lists points.now × NoneCross map.now.lists points.now)
@@ -125,7 +125,7 @@ pub fn check_points(map: &HalfMap, points: &Points, corner: Point) -> Verdict
     }
 }
 
-/// The same of a figure: its points, in its grid.
+/// Like [`check_points`], but takes a figure: its points, in its grid.
 pub fn check(map: &HalfMap, fig: &GridFigure) -> Verdict
     requires { HasPlaces map.now.lists fig.now.points }
     ensures { IsVerdict map.now.lists fig.now.points fig.now.width fig.now.height result }

@@ -107,7 +107,7 @@ fn far_side(span: Span, p: Point, q: Point) -> i32
     if p.y <= q.y { span.right } else { span.left }
 }
 
-// The same of the bottom and the top.
+// Returns the bottom or the top of a box, whichever is farther to the right of the way from `p` to `q`.
 fn far_level(span: Span, p: Point, q: Point) -> i32
     requires { IsBoxInRange span }
     ensures range { IsWithin (pos 1048576) result }

@@ -10,7 +10,7 @@ pub fn lifted_witness()
     ensures { LiftedWitness }
 {}
 
-/// The same where the greater end of the edge leaves and later numbers fall by one.
+/// Lifts a witness where the greater end of the edge leaves and later numbers fall by one.
 pub fn lifted_contraction()
     ensures { LiftedContraction }
 {}

@@ -211,7 +211,7 @@ impl Search {
         }
     }
 
-    // The same, where what returns along the dart is still in pairs of its own.
+    // Adds the constraints of a dart whose return edges are still in pairs of their own.
     fn constrain(&mut self, dart: u32, parent: u32) -> bool {
         match self.return_edges_of(dart, parent) {
             Some(right) => self.meet(right, dart),
@@ -219,7 +219,7 @@ impl Search {
         }
     }
 
-    // The same, of a dart that is a return edge.
+    // Adds the constraints of a dart that is a return edge.
     fn constrain_edge(&mut self, dart: u32, parent: u32) -> bool {
         if self.lowpt.get(dart) > self.lowpt.get(parent) {
             return self.meet(
@@ -264,7 +264,7 @@ impl Search {
         self.settled(fits, dart, vertex)
     }
 
-    // The same of a dart along which the search came back.
+    // Integrates the return edges of a dart along which the search came back.
     #[inline(always)]
     fn integrate(&mut self, dart: u32, vertex: u32) -> bool {
         if self.lowpt.get(dart) >= self.height.get(vertex) {

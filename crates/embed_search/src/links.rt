@@ -62,7 +62,7 @@ impl Links {
         self.degree.set(vertex, plus(self.degree.get(vertex), 1));
     }
 
-    // The same, where no one asks for what is before a dart, and how many there are.
+    // Puts a dart first into the list of `vertex`, without what stands before a dart and without a count.
     #[inline(always)]
     fn chain_first(&mut self, dart: u32, vertex: u32, head: u32) {
         self.head.set(dart, head);

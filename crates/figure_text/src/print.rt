@@ -45,7 +45,7 @@ fn push_part(out: &mut Vec<u8>, list: &[u16]) -> Result<(), AllocError>
     out.extend_from_slice(&bytes[start..])
 }
 
-// The same, and ends the line.
+// Appends some vertices, numbered from 1 and each after a space, and ends the line.
 fn push_last(out: &mut Vec<u8>, list: &[u16]) -> Result<(), AllocError>
     requires { length list.now ≤ 16 }
     ensures { OnOk result (out.new.items ≡ out.old.items ++ flat_map (λ u. 32 ∷ decimal (u + 1)) list.now ++ 10 ∷ []) }

@@ -75,7 +75,7 @@ pub fn columns_line(alloc: Global, line: &[u8]) -> Columns
     }
 }
 
-// The same by all words of the line.
+// Judges the line of the columns by all its words.
 fn exact_columns(alloc: Global, line: &[u8]) -> Columns
     ensures { JudgesColumns (words_of line.now) result }
 {

@@ -85,7 +85,7 @@ impl Graph {
         }
     }
 
-    // The same, for a lesser and a greater vertex.
+    // Says whether an edge joins a lesser and a greater vertex.
     fn has_pair(&self, u: u16, v: u16) -> bool
         requires { u ≤ v }
         ensures { result ≡ has_edge self.now u v }
@@ -93,7 +93,7 @@ impl Graph {
         u < v && v < self.vertices && self.has_bit(u, v)
     }
 
-    // The same, where both are vertices.
+    // Says whether an edge joins two numbers that are vertices, the lesser first.
     fn has_bit(&self, u: u16, v: u16) -> bool
         requires order { u < v }
         requires vertex { v < self.now.n }

@@ -39,7 +39,7 @@ pub fn shared(branch: &VertexList, paths: &PathList) -> Option<SharedVertex>
     None
 }
 
-// The same for one path.
+// Returns the first other path or itself, and the least vertex, that is wrong for path number `p`.
 fn shared_by(branch: &VertexList, paths: &PathList, p: usize) -> Option<(usize, u16)>
     requires path { p < length paths.now }
     requires long { (p : ℕ) → p < length paths.now → 2 ≤ length (path_at paths.now p) }
@@ -51,7 +51,7 @@ fn shared_by(branch: &VertexList, paths: &PathList, p: usize) -> Option<(usize, 
     }
 }
 
-// The same with a later path, where the path is right by itself.
+// Returns the first later path and the least vertex that it shares with path number `p`, which is right by itself.
 fn shared_with_later(branch: &VertexList, paths: &PathList, p: usize) -> Option<(usize, u16)>
     requires path { p < length paths.now }
     requires long { (p : ℕ) → p < length paths.now → 2 ≤ length (path_at paths.now p) }

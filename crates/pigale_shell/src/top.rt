@@ -57,7 +57,7 @@ pub fn pigale<S: Source, K: Sink>(
         × WhereTold (left_of job (S.left src.old)) (λ input. (left_of job (S.left src.new) ≡ Some [])
         × Writes job input (reads_of job).well 0 (K.written out.old) (K.written out.new)) }
 
-    // The same, and the last line says that some record was refused.
+    // At the end of the input, and the last line says how many records were refused.
     ensures some_refused { result ≡ Status.SomeRefused → (job : JobKind) × (kind_named (map string_bytes words.now) ≡ Some job)
         × WhereTold (left_of job (S.left src.old)) (λ input. (left_of job (S.left src.new) ≡ Some [])
         × (refused : ℕ) × (0 < refused) × Writes job input (reads_of job).well refused (K.written out.old) (K.written out.new)) }

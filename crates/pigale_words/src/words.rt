@@ -149,7 +149,7 @@ fn gen_job(size: Option<u32>, number: Option<u32>) -> Option<Job>
     }
 }
 
-// The same, by the texts of its options.
+// Returns the job that makes a map, by the texts of its options.
 fn gen_given(matches: &ArgMatches) -> Option<Job>
     ensures { result ≡ gen_by (given_in (rows_of (found_of matches.now))) }
 {

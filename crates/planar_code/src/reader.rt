@@ -39,7 +39,7 @@ pub enum Taken {
     Bad(usize, usize),
 }
 
-/// The same behind bytes of the piece that passed.
+/// Moves what a piece made of the bytes pending by the `passed` bytes before it.
 fn shift(passed: usize, taken: Taken) -> Taken
     requires { passed + looked_at taken ≤ usize.MAX }
     ensures { result ≡ shifted passed taken }

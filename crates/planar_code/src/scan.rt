@@ -172,7 +172,7 @@ fn advance(
     }
 }
 
-/// The same behind bytes of the piece that passed.
+/// Moves what was scanned by the `passed` bytes before it.
 fn shift(passed: usize, scanned: Scanned) -> Scanned
     requires { passed + seen_of scanned ≤ usize.MAX }
     ensures { result ≡ shifted passed scanned }

@@ -40,8 +40,8 @@ pub fn removable_taken_off()
     ensures { RemovableTakenOff }
 {}
 
-/// The same where the whole map is any connected simple map: what is left is a near triangulation, and a
-/// vertex of its outer cycle without a chord can be taken off.
+/// Where the whole map is any connected simple map, a vertex of the outer cycle without a chord can be taken off, and a
+/// near triangulation is left.
 pub fn connected_taken_off()
     ensures { ConnectedTakenOff }
 {}

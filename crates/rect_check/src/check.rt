@@ -50,7 +50,7 @@ fn first_of_pairs_in(map: &HalfMap, fig: &RectFigure, marks: &mut [bool]) -> Opt
     }
 }
 
-// The same, with room for `MOST` vertices.
+// Finds the first fault of two rectangles, or of their areas, with room for `MOST` marks.
 fn first_of_pairs_of<const MOST: usize>(
     map: &HalfMap,
     fig: &RectFigure,

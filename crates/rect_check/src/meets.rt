@@ -211,7 +211,7 @@ fn first_meet_in(
     first_marked_meet(map, fig, marks)
 }
 
-// The same, with room for `MOST` vertices.
+// Finds the least two rectangles that meet, with room for `MOST` vertices.
 fn first_meet_of<const MOST: usize>(
     map: &HalfMap,
     fig: &RectFigure,

@@ -29,7 +29,7 @@ fn first_meet_with(map: &HalfMap, fig: &RectFigure, u: VertexId) -> Option<Verte
     None
 }
 
-// The same, where a vertex has a mark whose rectangle meets that of a greater one.
+// Returns the least such vertex, where a vertex has a mark if its rectangle meets that of a greater one.
 fn first_meet_at(map: &HalfMap, fig: &RectFigure, marks: &[bool], u: VertexId) -> Option<VertexId>
     requires known { IsHalfMap map.now }
     requires vertex { u.0 < length map.now.lists }
@@ -95,7 +95,7 @@ fn first_wrong_with(map: &HalfMap, fig: &RectFigure, u: VertexId) -> Option<Vert
     None
 }
 
-// The same, where a vertex without a mark is adjacent to those that share a side with it.
+// Returns the least such vertex, where a vertex without a mark is adjacent to those that share a side with it.
 fn first_wrong_at(map: &HalfMap, fig: &RectFigure, marks: &[bool], u: VertexId) -> Option<VertexId>
     requires known { IsHalfMap map.now }
     requires vertex { u.0 < length map.now.lists }

@@ -107,7 +107,8 @@ fn is_separating(
     a.0 < b.0 && b.0 < c.0 && is_separating_rising(map, rows, d, a, b, sides, c)
 }
 
-// The same of an edge that rises, where most vertices fail by their numbers alone.
+// Says whether `c` is the third vertex of a separating triangle over an edge that rises; most vertices fail by their
+// numbers alone.
 #[inline(always)]
 fn is_third(
     map: &HalfMap,
@@ -273,7 +274,7 @@ fn third_of(map: &HalfMap, rows: &Rotations, d: DartId, a: VertexId, b: VertexId
     }
 }
 
-// The same, where no dart is at hand.
+// Returns the least third vertex of `a` and `b`, which have one, where no dart is at hand.
 fn third_between(map: &HalfMap, rows: &Rotations, a: VertexId, b: VertexId) -> VertexId
     requires known { IsHalfMap map.now }
     requires rows { AreUpperRows map.now.lists rows.now }

@@ -126,7 +126,8 @@ pub fn put_left(
     link(before, last, z, first);
 }
 
-/// The same for lower sides, where `at` stands at the turn: it goes along the contour from there on.
+/// Puts `z` on over a row of the contour as `put_left` does: its lower side gets a line. `at` stands at the turn, and
+/// it goes along the contour from there on.
 pub fn put_low(
     lines: &mut [u16],
     next: &mut [u16],

@@ -67,7 +67,7 @@ fn step_left(
     put_left(lines, next, before, leads, first, at, last, run, z)
 }
 
-// The same of its lower side.
+// Puts a vertex on over a row with its turn at place `c`: the line of its lower side.
 fn step_low(
     lines: &mut [u16],
     next: &mut [u16],
@@ -208,7 +208,7 @@ fn numbers_of_left(
     line_numbers(alloc, lines, next, 0, count)
 }
 
-// The same of the lower sides.
+// Returns the numbers of the lines of the lower sides.
 fn numbers_of_low(
     alloc: Global,
     lines: &mut [u16],

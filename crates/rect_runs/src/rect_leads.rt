@@ -33,7 +33,7 @@ pub fn new_left()
     ensures { NewLeft }
 {}
 
-/// The same of lower sides, at a turn at a run.
+/// Gives the number of a new line of lower sides, at a turn at a run.
 pub fn lower_room()
     ensures { LowerRoom }
 {}

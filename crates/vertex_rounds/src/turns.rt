@@ -36,7 +36,7 @@ fn passes_once<F: Fn(DartId) -> bool>(map: &HalfMap, test: &F, v: VertexId, firs
     }
 }
 
-// The same where there are two darts at least.
+// Says whether just one dart from `v` passes, where there are two darts at least.
 fn turns_round<F: Fn(DartId) -> bool>(map: &HalfMap, test: &F, v: VertexId, first: DartId) -> bool
     requires known { IsHalfMap map.now }
     requires first { dart_at map.now first.0 ≡ Some (dart_of_first map.now.lists v.0) }

@@ -84,7 +84,7 @@ pub(crate) fn right_ends(alloc: Global, rows: &ItemLists<u32>) -> Result<Ints, A
     Ok(ends)
 }
 
-// The same numbers as coordinates.
+// Converts the numbers into coordinates.
 pub(crate) fn coordinates(alloc: Global, numbers: &Counts) -> Result<Ints, AllocError>
     requires low { (i : ℕ) → slice_index numbers.now i < 2 ^ 31 }
     ensures { IfOk result (λ made. made ≡ map pos numbers.now) }

@@ -57,7 +57,7 @@ pub fn rank_rows(
     Ok(rows)
 }
 
-/// The same rows of an st-order. It fails only for want of memory.
+/// Like [`rank_rows`], but takes an st-order instead of its ranks. It fails only when out of memory.
 pub fn dual_rows(
     alloc: Global,
     map: &HalfMap,

@@ -69,7 +69,7 @@ pub fn searched_map(alloc: Global, lists: &Rotations, least: u16) -> Result<Sear
     }
 }
 
-/// The same map, without the search.
+/// Like [`searched_map`], but returns the map without the search.
 pub fn biconnected_map(alloc: Global, lists: &Rotations, least: u16) -> Result<HalfMap, Unserved>
     requires some_list { 0 < length lists.now }
     requires few_lists { length lists.now < 4096 }

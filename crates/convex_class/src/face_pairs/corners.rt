@@ -50,7 +50,7 @@ fn meet_across(
     meet(met, z, place, best)
 }
 
-// The same for all darts of its walk.
+// Notes all faces that meet face `f` along a dart of its walk.
 fn meet_sides(
     map: &HalfMap,
     faces: &Faces,
@@ -114,7 +114,8 @@ fn meet_round(
     best
 }
 
-// The same for the vertex of e, with the faces across d and e, where it has at most so many darts.
+// Notes the faces that meet face `f` at the tail of `e` alone, of a vertex with at most `most` darts; the faces across
+// `d` and `e` are noted already.
 fn meet_corner(
     map: &HalfMap,
     faces: &Faces,
@@ -161,7 +162,7 @@ fn behind(walk: &[DartId], i: usize) -> DartId
     }
 }
 
-// The same for all vertices of a walk.
+// Notes the faces that meet face `f` at a vertex of its walk alone.
 fn meet_corners(
     map: &HalfMap,
     faces: &Faces,

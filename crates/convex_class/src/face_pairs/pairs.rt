@@ -43,7 +43,8 @@ fn partner_in_round(
     }
 }
 
-// The same, where the vertex has any neighbours.
+// Returns the least greater vertex with which `u` is a separating pair, or the number of vertices; `u` may have no
+// neighbours.
 fn partner(map: &HalfMap, faces: &Faces, u: VertexId, marks: &mut [u16]) -> u16
     requires known { IsHalfMap map.now }
     requires uncut { IsPlaneUncut map.now.lists }

@@ -24,7 +24,7 @@ fn mark_vertex(marks: &mut [u16], u: u16, a: u16, z: u16, h: u16, best: u16) -> 
     stamp(marks, u, z, best)
 }
 
-// The same for the tail of a dart.
+// Gives the tail of a dart the mark `u`, as `mark_vertex` does.
 fn mark_dart(map: &HalfMap, u: u16, a: u16, d: DartId, marks: &mut [u16], best: u16) -> u16
     requires known { IsHalfMap map.now }
     requires live { IsLive map.now d.0 }
@@ -34,7 +34,7 @@ fn mark_dart(map: &HalfMap, u: u16, a: u16, d: DartId, marks: &mut [u16], best: 
     mark_vertex(marks, u, a, map.tail(d).0, map.head(d).0, best)
 }
 
-// The same for all darts of a walk.
+// Gives the tails of the darts of a walk the mark `u`.
 fn mark_passed(
     map: &HalfMap,
     walk: &[DartId],
@@ -54,7 +54,7 @@ fn mark_passed(
     best
 }
 
-// The same along the face of a dart from u, where it has at most so many darts.
+// Gives the vertices of the face of a dart from `u` the mark `u`, where the face has at most `most` darts.
 fn mark_face(
     map: &HalfMap,
     faces: &Faces,
@@ -78,7 +78,7 @@ fn mark_face(
     mark_passed(map, walk, u, a, marks, best)
 }
 
-// The same along the faces of all darts from u.
+// Gives the vertices of the faces of all darts from `u` the mark `u`, where a face has at most `most` darts.
 fn mark_faces(
     map: &HalfMap,
     faces: &Faces,
@@ -136,7 +136,7 @@ fn least_in_round(
     mark_faces(map, faces, u, ring, most, marks, best)
 }
 
-// The same, with room for the darts from u.
+// Like `least_in_round`, with `ring` as room for the darts from `u`.
 pub(crate) fn least_at_vertex(
     map: &HalfMap,
     faces: &Faces,

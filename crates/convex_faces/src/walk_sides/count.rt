@@ -40,7 +40,7 @@ fn counted(map: &HalfMap, faces: &Faces, met: &[bool], outer: FaceId) -> u32
     count
 }
 
-// The same, given no marks of the search.
+// Counts such faces, with `met` as room for the marks of the search.
 fn count_with(
     alloc: Global,
     map: &HalfMap,

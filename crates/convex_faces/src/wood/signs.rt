@@ -25,7 +25,7 @@ fn x_stays(p: Point, q: Point) -> bool
     p.x <= q.x
 }
 
-// The same of y.
+// Says whether y rises from `p` to `q`.
 fn y_rises(p: Point, q: Point) -> bool
     ensures { IsTrue result ↔ (p.y <ℤ q.y) }
 {
@@ -38,7 +38,7 @@ fn y_stays(p: Point, q: Point) -> bool
     p.y <= q.y
 }
 
-// The same of their sum.
+// Says whether the sum of x and y rises from `p` to `q`.
 fn sum_rises(p: Point, q: Point) -> bool
     ensures { IsTrue result ↔ ((p.x +ℤ p.y) <ℤ (q.x +ℤ q.y)) }
 {

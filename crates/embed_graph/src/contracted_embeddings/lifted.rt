@@ -23,7 +23,7 @@ pub fn contracted_witness(alloc: Global, graph: &Graph) -> Result<Witness, Alloc
     witness_within(alloc, graph, n + 1)
 }
 
-// The same for a graph with fewer than `count` vertices.
+// Returns a Kuratowski witness of a graph that has one and fewer than `count` vertices.
 fn witness_within(alloc: Global, graph: &Graph, count: u16) -> Result<Witness, AllocError>
     requires some { HasWitness graph.now }
     requires count { graph.now.n < count }

@@ -23,7 +23,7 @@ pub fn map_of_lists(alloc: Global, lists: &Rotations) -> Result<Option<Rotations
     map_within(alloc, lists, lists.len() + 1)
 }
 
-// The same, where fewer than `count` vertices have edges.
+// Returns the map or None, where fewer than `count` vertices have edges.
 fn map_within(
     alloc: Global,
     lists: &Rotations,

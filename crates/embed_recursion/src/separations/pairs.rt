@@ -27,7 +27,7 @@ pub fn separated_pair(
     Ok(pair_apart(lists, vs, &parts))
 }
 
-// The same, by the components without `vs`.
+// Returns two separated vertices or None, by the components without `vs`.
 fn pair_apart(lists: &Rotations, vs: &[u16], parts: &Parts) -> Option<(u16, u16)>
     requires few { length lists.now < 4096 }
     requires parts { ArePartsOf (lists_without vs.now lists.now) parts.now }

@@ -57,7 +57,7 @@ pub fn separating_pair(alloc: Global, lists: &Rotations) -> Result<Option<Separa
     Ok(None)
 }
 
-// The same with `u` and a greater vertex.
+// Returns a separating pair of `u` and a greater vertex, or None.
 fn separating_from(
     alloc: Global,
     lists: &Rotations,

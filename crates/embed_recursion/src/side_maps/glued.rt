@@ -42,7 +42,8 @@ pub fn map_at_vertex(
     }
 }
 
-/// The same, from those for its two sides with the edge of `u` and `v`. It fails only for want of memory.
+/// Returns the answer for lists, from those for its two sides with the edge of `u` and `v`. It fails only when out of
+/// memory.
 pub fn map_along_edge(
     alloc: Global,
     lists: &Rotations,

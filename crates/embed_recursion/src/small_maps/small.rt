@@ -19,7 +19,7 @@ pub fn has_four(lists: &Rotations) -> bool
     }
 }
 
-// The same, where `x` has one.
+// Says whether four vertices have edges, of which `x` is one.
 fn has_four_from(lists: &Rotations, x: u16) -> bool
     requires few { length lists.now < 4096 }
     requires first { IsOff lists.now [] x }
@@ -32,7 +32,7 @@ fn has_four_from(lists: &Rotations, x: u16) -> bool
     }
 }
 
-// The same, where `x` and `y` have.
+// Says whether four vertices have edges, of which `x` and `y` are two.
 fn has_four_with(lists: &Rotations, x: u16, y: u16) -> bool
     requires few { length lists.now < 4096 }
     requires first { IsOff lists.now [] x }
@@ -46,7 +46,7 @@ fn has_four_with(lists: &Rotations, x: u16, y: u16) -> bool
     }
 }
 
-// The same, where `x`, `y` and `w` have.
+// Says whether a fourth vertex has an edge, besides `x`, `y` and `w`.
 fn is_fourth(lists: &Rotations, x: u16, y: u16, w: u16) -> bool
     requires few { length lists.now < 4096 }
     requires first { IsOff lists.now [] x }

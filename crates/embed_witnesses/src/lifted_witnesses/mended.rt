@@ -31,7 +31,7 @@ pub(crate) fn mended(
     Ok(None)
 }
 
-// The same for the steps of one path.
+// Returns the witness with an end of the edge put into a step of path number `path`, where it is one of the graph then.
 fn mended_path(
     alloc: Global,
     graph: &Graph,

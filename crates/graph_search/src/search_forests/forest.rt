@@ -122,7 +122,7 @@ fn search(
     search_all(lists, order, number, last, parent, cursor, 0);
 }
 
-// The same, with s for the first vertex and its neighbour t for the second.
+// Searches lists from `s`, which sees its neighbour `t` next; no vertex was seen before.
 fn search_along(
     lists: &Rotations,
     order: &mut [u16],
@@ -193,7 +193,7 @@ pub fn search_forest(alloc: Global, lists: &Rotations) -> Result<Forest, AllocEr
     })
 }
 
-/// The same, where the search begins at s and sees its neighbour t next.
+/// Like [`search_forest`], but begins at `s`, which sees its neighbour `t` next.
 pub fn search_forest_along(
     alloc: Global,
     lists: &Rotations,

@@ -30,8 +30,8 @@ fn order_figure(alloc: Global, lists: &Rotations, order: &Order) -> Result<GridF
     Ok(figure)
 }
 
-/// The same figure as `schnyder_figure` has, of a map with these lists that is counted, has genus zero and at least three
-/// vertices. It fails only for want of memory.
+/// Like [`schnyder_figure`], but takes a map with these lists that is counted, has genus zero and at least three
+/// vertices. It fails only when out of memory.
 pub fn plane_figure(
     alloc: Global,
     plane: CountedMap,

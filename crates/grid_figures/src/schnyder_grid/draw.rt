@@ -61,7 +61,7 @@ pub fn wood_draw(alloc: Global, tri: &HalfMap, order: &Order) -> Result<GridFigu
     Ok(figure)
 }
 
-/// The same, by the lists of the map.
+/// Like [`wood_draw`], but takes the lists of the map.
 pub fn list_draw(alloc: Global, lists: &Rotations, order: &Order) -> Result<GridFigure, AllocError>
     requires triangulation { IsTriangulation lists.now }
     requires few { length lists.now < 4096 }

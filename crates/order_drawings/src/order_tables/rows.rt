@@ -156,7 +156,7 @@ pub fn order_rows(alloc: Global, tri: &HalfMap, order: &Order) -> Result<Rotatio
     Ok(rows)
 }
 
-/// The same, by the lists of the map.
+/// Like [`order_rows`], but takes the lists of the map.
 pub fn list_rows(alloc: Global, lists: &Rotations, order: &Order) -> Result<Rotations, AllocError>
     requires triangulation { IsTriangulation lists.now }
     requires few { length lists.now < 4096 }

@@ -200,7 +200,8 @@ fn mark_in<const MOST: usize>(
     true
 }
 
-// The same, with room for `MOST` vertices.
+// Marks the vertices that may stand on edges, with room for `MOST` vertices; returns whether the order passed its
+// tests.
 fn mark_with<const MOST: usize>(
     map: &HalfMap,
     points: &Points,

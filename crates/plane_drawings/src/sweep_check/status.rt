@@ -243,7 +243,7 @@ fn pass(
     }
 }
 
-// The same, wherever the gap is.
+// Takes the lines round a gap over the vertex as `pass` does, wherever the gap is.
 pub(crate) fn step(
     places: &[Point],
     status: &mut [Line],

@@ -106,7 +106,7 @@ pub fn rect_draw(alloc: Global, map: &HalfMap, base: DartId) -> Result<RectFigur
     rect_draw_by_lists(alloc, map, &lists, base)
 }
 
-/// The same dual, where the lists of the map are at hand.
+/// Like [`rect_draw`], but takes the lists of the map as well.
 pub fn rect_draw_by_lists(
     alloc: Global,
     map: &HalfMap,
