@@ -38,7 +38,9 @@ def call(*words, cwd=None):
 
 def keeps():
     """Says whether the kit's gate keeps on the machine what it proved, and proves only what changed."""
-    return "--anew" in subprocess.run(["rt", "help"], stdin=subprocess.DEVNULL, capture_output=True, text=True, check=False).stdout
+    # rt help ends with a status of its own
+    said = subprocess.run(["rt", "help"], stdin=subprocess.DEVNULL, capture_output=True, text=True, check=False)
+    return "--anew" in said.stdout
 
 
 def listed():
