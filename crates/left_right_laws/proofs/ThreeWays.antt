@@ -155,9 +155,6 @@ module _ (lists : Lists) (simple : IsSimpleMap lists) (plane : IsPlane lists) (x
   keep_there : (v z : ℕ) → Taken v z → keep v z ≡ true
   keep_there v z s = or_left (on_one v z) (on_one z v) (taken_true v z s)
 
-  keep_back : (v z : ℕ) → Taken v z → keep z v ≡ true
-  keep_back v z s = or_right (on_one z v) (on_one v z) (taken_true v z s)
-
   dart_there : (v z : ℕ) → Taken v z → HasDart lists v z → HasDart map v z
   dart_there v z s has = (kept.darts v z).1 (has, keep_there v z s)
 

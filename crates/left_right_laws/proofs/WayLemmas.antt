@@ -54,15 +54,6 @@ Steps-head x (u ∷ us) y v z s =
       | inr h ↦ elim (Steps-head u us y v z h) [ inl e ↦ inl e | inr c ↦ inr (Contains-there u us z c) ]
     ]
 
--- the first and the last step
-pub Steps-first : (x : ℕ) (us : List ℕ) (y : ℕ) → Steps x us y x (first_on us y)
-Steps-first x [] y = (refl, refl)
-Steps-first x (u ∷ us) y = inl (refl, refl)
-
-pub Steps-last : (x : ℕ) (us : List ℕ) (y : ℕ) → Steps x us y (last_on x us) y
-Steps-last x [] y = (refl, refl)
-Steps-last x (u ∷ us) y = inr (Steps-last u us y)
-
 -- A way without repeats: its start, its end and the vertices between are different.
 pub record IsClear (x : ℕ) (us : List ℕ) (y : ℕ) : Type 0 where
   pub ends : x ≢ y
