@@ -13,13 +13,13 @@ two zero l = inl refl
 two (suc zero) l = inr refl
 two (suc (suc i)) l = absurd (omega (arith, l))
 
-pub IsLeftState-begin : (steps : ℕ → Step) (n : ℕ) (lines next before : List ℕ) (leads : List Bool) → 2 ≤ length lines → 2 ≤ length before → All (λ l. l ≡ 0) lines → All (λ l. l ≡ 0) before → is_marked leads 0 ≡ true → is_marked leads 1 ≡ false → IsLeftState steps n 0 lines next before leads
-IsLeftState-begin steps n lines next before leads many many' lines_are before_are first second = record {
+pub IsLeftState-begin : (steps : ℕ → Step) (n : ℕ) (lines next before : List ℕ) (leads : List Bool) → get_or lines 0 0 ≡ 0 → get_or lines 1 0 ≡ 0 → 2 ≤ length before → All (λ l. l ≡ 0) before → is_marked leads 0 ≡ true → is_marked leads 1 ≡ false → IsLeftState steps n 0 lines next before leads
+IsLeftState-begin steps n lines next before leads one other many before_are first second = record {
   lines_are = record {
     at = λ i. 0;
     some = omega arith;
     begins = refl;
-    line_is = λ v l. lines_are v 0 (omega arith);
+    line_is = λ v l. elim (two v l) [ inl e ↦ ap (λ u. get_or lines u 0) e ∙ one | inr e ↦ ap (λ u. get_or lines u 0) e ∙ other ];
     number_lt = λ v l. omega arith;
     within = λ i l. omega arith;
     own = λ i l. omega arith;

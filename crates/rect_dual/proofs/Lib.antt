@@ -13,10 +13,11 @@ pub mod Ways
 pub mod Links
 pub mod Left
 pub mod Low
-mod LeadLinesRefused
+mod SideLinesRefused
 -- Lemmas on the lines of a run.
 pub mod Begin
 pub mod RectNumbersRows
+pub mod SideLemmas
 -- Lemmas on boxes in tables.
 pub mod RectDrawSides
 pub mod RectDrawRows

@@ -7,7 +7,7 @@ use Rattle.contour_runs.specs.Runs.{Step, Stage, stage_after}
 use Rattle.rect_runs.specs.Numbers.{with_new, numbers, turn_of}
 use Rattle.rect_runs.proofs.Steps.{with_new-older, with_new-new, counted}
 use Rattle.rect_runs.specs.Boxes.{stands_between, side_after, rights, highs, grid_width, ceiling, grid_height, lower_boxes, boxes}
-use Rattle.rect_dual.specs.RectNumbersTables.{AreNumbers}
+use Rattle.rect_dual.specs.SidesOfBoxes.{AreNumbers}
 use Rattle.rect_dual.specs.Sides.{AreSides}
 use Rattle.rect_dual.specs.RectDrawTables.{AreBoxTables}
 

@@ -7,8 +7,8 @@ pub mod Lines
 -- Lines of vertices that are put over a contour.
 pub mod Ways
 pub mod States
--- The left and the lower sides of boxes, as code fills them.
-pub mod RectNumbersTables
+-- The left and the lower sides of boxes, by one name each.
+pub mod SidesOfBoxes
 -- Boxes in tables, and by the ranks of vertices.
 pub mod RectDrawTables
 -- The figures of records by rectangular duals.

@@ -4,12 +4,12 @@
 pub mod draw;
 pub mod figures;
 pub mod labels;
-pub mod lead_lines;
 pub mod line_lists;
 mod orders;
-pub mod rect_numbers;
 pub mod rect_sides;
 pub mod rect_turns;
+pub mod side;
+mod side_lines;
 
 pub use draw::{rect_draw, rect_draw_by_lists};
 pub use labels::{Label, Labelling, edge_labels};

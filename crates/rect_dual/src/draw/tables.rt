@@ -9,9 +9,9 @@ ghost use Rattle.rect_dual.specs.Turns.{AreTurns};
 ghost use Rattle.rect_dual.specs.Sides.{AreSides};
 ghost use Rattle.rect_dual.specs.RectDrawTables.{AreBoxTables};
 
-use crate::rect_numbers::{RowNumbers, row_numbers};
 use crate::rect_sides::fill_sides;
 use crate::rect_turns::{RowTurns, row_turns};
+use crate::side_lines::{RowNumbers, row_numbers};
 use map_lists::Rotations;
 use std::alloc::{AllocError, Global};
 

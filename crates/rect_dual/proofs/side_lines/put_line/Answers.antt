@@ -1,5 +1,5 @@
 use Rattle.std.proofs.Common.{◌<◌, arith}
-use Rattle.rect_dual.proofs.lead_lines.put_line.Goals as goal
+use Rattle.rect_dual.proofs.side_lines.put_line.Goals as goal
 
 pub returns-then-own-clause-own : goal.returns-then-own-clause-own
 returns-then-own-clause-own c = λ e f q first h way m start leads end few older.

@@ -1,7 +1,7 @@
 use Rattle.std.proofs.Common.{◌≡◌, ◌<◌, ℕ, true, length}
 use Rattle.rect_dual.specs.Ways.{is_marked, IsWay}
 use Rattle.rect_dual.proofs.Ways.{IsOnWay}
-use Rattle.rect_dual.proofs.lead_lines.leading.Given as goal
+use Rattle.rect_dual.proofs.side_lines.leading.Given as goal
 
 abbrev pub invariant-loop-step : goal.invariant-loop-step
 invariant-loop-step l = record {

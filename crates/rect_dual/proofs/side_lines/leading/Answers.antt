@@ -1,6 +1,6 @@
 use Rattle.std.proofs.Common.{arith}
 use Rattle.rect_dual.proofs.Ways.{IsOnWay-begin, IsFirstAlong-from, IsOnWay-more}
-use Rattle.rect_dual.proofs.lead_lines.leading.Goals as goal
+use Rattle.rect_dual.proofs.side_lines.leading.Goals as goal
 
 pub loop-step-init : goal.loop-step-init
 loop-step-init c = record {
