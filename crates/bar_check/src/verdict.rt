@@ -1,4 +1,4 @@
-//! What the check answers.
+//! Verdicts on a drawing by bars.
 
 use half_edges::{Ends, VertexId};
 

@@ -1,4 +1,4 @@
-//! What the check answers.
+//! Verdicts on the faces of a drawing.
 
 use half_edges::VertexId;
 

@@ -19,7 +19,7 @@ use convex_laws::convex_rows::ConvexRows;
 use map_lists::{ItemLists, Rotations};
 use std::alloc::AllocError;
 
-/// What the removals read: the lists of a map, the numbers of its faces, and the base, by its two ends.
+/// The tables that removals read: the lists of a map, the numbers of its faces, and the base, by its two ends.
 #[derive(Drop)]
 pub(crate) struct Tables {
     pub(crate) lists: Rotations,

@@ -1,4 +1,4 @@
-//! What is answered to a figure.
+//! Verdicts on figures of all kinds.
 
 use bar_check::BarVerdict;
 use convex_check::ConvexVerdict;

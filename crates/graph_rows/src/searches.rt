@@ -14,7 +14,7 @@ use kuratowski::{Witness, WitnessVerdict, check_witness};
 use row_texts::text::{number, part, put, put_one};
 use std::alloc::{AllocError, Global};
 
-// What stands where there is no answer, or a wrong one.
+// The text where there is no answer, or a wrong one.
 const WRONG: &str = "wrong";
 
 // How many pairs of vertices are edges.
@@ -77,7 +77,7 @@ fn witnessed(alloc: Global, graph: &Graph) -> &'static str {
     }
 }
 
-// What the searches find: a map, a subdivision of one kind or the other, or something wrong.
+// Names the find of the searches: a map, a subdivision of one kind or the other, or something wrong.
 fn searched(alloc: Global, graph: &Graph) -> &'static str {
     match planar_lists(alloc, graph) {
         Ok(Some(lists)) => {
@@ -92,7 +92,7 @@ fn searched(alloc: Global, graph: &Graph) -> &'static str {
     }
 }
 
-// What an answer has.
+// Names the kind of an answer.
 fn word_of(answer: Result<Embedding, AllocError>) -> &'static str {
     match answer {
         Ok(Embedding::Map(_)) => "map",
@@ -121,7 +121,7 @@ fn put_both(alloc: Global, graph: &Graph, out: &mut String)
     put(slow, out);
 }
 
-/// What the searches find for a graph, or the answers by both ways.
+/// Appends the find of the searches for `graph`, or the answers by both ways.
 pub fn of_graph(alloc: Global, call: &str, graph: &Graph, out: &mut String) {
     if call == "graph" {
         put(searched(alloc, graph), out);

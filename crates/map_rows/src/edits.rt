@@ -176,7 +176,7 @@ fn put_left(alloc: Global, map: &HalfMap, out: &mut String) {
     }
 }
 
-// What room an edit leaves.
+// Appends how much room an edit leaves.
 fn put_room(map: &HalfMap, out: &mut String) {
     put_one(" (m", u64::from(map.m()), out);
     put_one(" spare", u64::from(map.spare()), out);

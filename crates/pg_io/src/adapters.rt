@@ -26,7 +26,7 @@ impl<R> ReadAdapter<R> {
     }
 }
 
-// What the answer of a reader says: it is passed on, or it is a fault, which is counted.
+// Passes on the answer of a reader, or counts it where it is a fault.
 fn judge_read(answer: io::Result<usize>, faults: &mut u64) -> Result<usize, ReadFailed>
     ensures passed_on { MatchResult answer (λ k. result ≡ Ok k) (λ _. IsErr result) }
     ensures counted { faults.new ≡ (if is_err answer then raised faults.old else faults.old) }

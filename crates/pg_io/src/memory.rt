@@ -56,7 +56,7 @@ impl Source for MemSource {
     fn read(&mut self, buf: &mut [u8]) -> Result<usize, ReadFailed>
         requires { 0 < length buf.old }
 
-        // What every source promises.
+        // The clauses of every source.
         ensures within { IfOk result (λ k. k ≤ length buf.old) }
         ensures given { IfOk result
             (λ k. Gives (Some (drop self.old.at self.old.bytes.items)) (Some (drop self.new.at self.new.bytes.items)) k buf.old buf.new) }
@@ -170,7 +170,7 @@ impl Sink for MemSink {
     fn write(&mut self, piece: &[u8]) -> Result<usize, WriteFailed>
         requires { 0 < length piece.now }
 
-        // What every sink promises.
+        // The clauses of every sink.
         ensures within { IfOk result (λ k. (0 < k) × (k ≤ length piece.now)) }
         ensures appended { IfOk result
             (λ k. Grows (Some self.old.written.items) (Some self.new.written.items) (take k piece.now)) }

@@ -39,7 +39,7 @@ impl Source for SureSource {
     fn read(&mut self, buf: &mut [u8]) -> Result<usize, ReadFailed>
         requires { 0 < length buf.old }
 
-        // What every source promises.
+        // The clauses of every source.
         ensures within { IfOk result (λ k. k ≤ length buf.old) }
         ensures given { IfOk result
             (λ k. Gives (Some (drop self.old.at self.old.bytes.items)) (Some (drop self.new.at self.new.bytes.items)) k buf.old buf.new) }

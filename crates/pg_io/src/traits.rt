@@ -1,4 +1,4 @@
-//! What gives bytes, and what takes them.
+//! Sources of bytes, and sinks.
 ghost use Rattle.std.specs.Prelude.{ℕ, ◌<◌, ◌≤◌, ◌≡◌, ◌↔◌, List, [], length, take, Option, IfOk, OnOk, OnErr};
 ghost use Rattle.pg_io.specs.Io.{WhereTold, Gives, Grows, HasRisen};
 

@@ -1,4 +1,4 @@
-//! What the program decides at its edges: which words it was given, and with which number it ends.
+//! The edges of the program: the words that it was given, and the number with which it ends.
 ghost use Rattle.std.specs.Prelude.{◌≡◌, [], drop, IfOk, OnErr, IfErr, IsErr, MatchResult};
 ghost use Rattle.std.specs.Vec.Iter.{into_iter_items};
 ghost use Rattle.std.specs.IoError.{error_kind};

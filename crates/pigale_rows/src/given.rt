@@ -1,4 +1,4 @@
-//! What a run is given.
+//! Sources and sinks that a run is given.
 ghost use Rattle.std.specs.Prelude.{◌<◌};
 
 use std::alloc::Global;

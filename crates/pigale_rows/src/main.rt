@@ -20,9 +20,9 @@
 //! | `watch WORDS` | a run: what each read gave, and how many bytes had been written before it |
 //! | `answer` | the call that answers one record, behind a line that stood there before |
 //!
-//! What there is no memory for is left out of the output, which then differs from what is wanted. So writing is a call
-//! that cannot fail, and each owned value is made in one function, which lends it to the next: a check of these
-//! functions costs most where owned values stand beside one another and where a `?` ends one early.
+//! Where memory runs out, text is left out of the output, which then differs from what is wanted. So writing is a call
+//! that cannot fail. Each owned value is made in one function, which lends it to the next: proving is slowest where
+//! a function owns several values or returns early by `?`.
 #![tactic(auto)]
 
 mod cells;

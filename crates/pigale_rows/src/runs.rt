@@ -6,7 +6,7 @@ use pigale_shell::{Job, answer_record, pigale};
 use planar_code::{Step, next_record};
 use std::alloc::Global;
 
-/// What a run wrote, the number of its status, and how often it read.
+/// The result of a run: the bytes written, the number of its status, and how often it read.
 #[derive(Drop)]
 pub struct Ran {
     pub text: Vec<u8>,
@@ -122,7 +122,7 @@ pub fn tell_run(alloc: Global, ran: &Ran, told: &mut Vec<u8>) {
     tell_status(alloc, ran, told);
 }
 
-/// What `count` answers for the lists of one record, behind a line that stood there before.
+/// Appends the answer of `count` to the lists of one record, behind a line that stood there before.
 fn answer_lists(alloc: Global, lists: &Rotations, told: &mut Vec<u8>) {
     put(b"before\n", told);
     if 0 < lists.len() && lists.len() < 4096 {

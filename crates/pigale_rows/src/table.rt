@@ -13,7 +13,7 @@ struct Named {
     bytes: Vec<u8>,
 }
 
-/// What the lines so far have given.
+/// The rows that the lines so far have given.
 #[derive(Drop)]
 pub struct Table {
     named: Vec<Named>,
@@ -63,7 +63,7 @@ impl Table {
         runs::put(b"\n", told);
     }
 
-    /// What a line adds to the output.
+    /// Appends the answer to a line to the output.
     pub fn answer(&mut self, alloc: Global, line: &str, told: &mut Vec<u8>) {
         let (word, rest) = halves(line, "");
         match word {

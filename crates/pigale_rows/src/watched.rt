@@ -7,7 +7,7 @@ use pg_io::{MemSource, ReadFailed, Sink, Source, WriteFailed};
 use std::alloc::Global;
 use std::cell::Cell;
 
-/// What one read gave, and how many bytes had been written before it.
+/// The bytes that one read gave, and how many had been written before it.
 #[derive(Clone, Copy)]
 struct Seen {
     given: usize,

@@ -4,7 +4,7 @@ ghost use Rattle.pigale_words.specs.Status.{status_number};
 
 use super::form::Form;
 
-/// What a run does with each record of its input.
+/// The job of a run: how each record of its input is answered.
 #[derive(Clone, Copy, PartialEq, Eq)]
 pub enum Job {
     /// Counts the vertices, edges, faces and components of each map, and gives its genus.

@@ -4,7 +4,7 @@ ghost use Rattle.pigale_words.specs.Numbers.{number_in as number_by};
 
 use figure_text::decimals::{decimal_number, is_canonical};
 
-// What numbers beyond all ranges are taken for.
+// The number that stands for all that are beyond every range.
 const BEYOND: u64 = 4294967296;
 
 /// The number from `least` to `most` that a text spells in decimal: digits alone, which begin with 0 only

@@ -34,7 +34,7 @@ fn command<'a>(alloc: Global) -> Result<Command<'a>, AllocError>
         .arg(number)
 }
 
-// What clap refuses words for.
+// Converts an error of clap into the fault of the words.
 fn fault_of(error: &Error) -> WordFault
     ensures { result ≡ WordFault.BadWords → kind_of error.now ≢ ErrorKind.OutOfMemory }
 {
@@ -45,7 +45,7 @@ fn fault_of(error: &Error) -> WordFault
     }
 }
 
-// What the words give.
+// Reads the words by one clap command.
 fn matches_of<'a>(alloc: Global, words: &'a [String]) -> Result<ArgMatches<'a>, WordFault>
     ensures { MatchResult result
         (λ matches. given (map string_bytes words.entry.now) ≡ Some (given_in (rows_of (found_of matches))))

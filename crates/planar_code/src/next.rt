@@ -8,7 +8,7 @@ use crate::scan::{Scanned, Scanner};
 use map_lists::Rotations;
 use std::alloc::Global;
 
-/// What stands at an offset.
+/// The item at an offset of the input.
 #[derive(Drop)]
 pub enum Step {
     /// A record with these lists, numbered from 0, and the offset after it.

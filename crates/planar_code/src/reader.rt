@@ -13,7 +13,7 @@ use map_lists::Rotations;
 use std::alloc::{AllocError, Global};
 use std::marker::Model;
 
-/// What a byte made of the bytes pending.
+/// The outcome of one more byte for the bytes pending.
 #[derive(Drop)]
 pub enum Fed {
     /// They are three bytes, the first 0 and the others no number from 1 to 4095. The number is the
@@ -25,7 +25,7 @@ pub enum Fed {
     More,
 }
 
-/// What a piece of bytes made of the bytes pending.
+/// The outcome of a piece of bytes for the bytes pending.
 #[derive(Clone, Copy, PartialEq, Eq)]
 pub enum Taken {
     /// All bytes of the piece joined them, and no record ended.
@@ -86,7 +86,7 @@ fn ends_header(in_header: bool, length: usize) -> bool
     in_header && length == HEADER.len()
 }
 
-/// What the scanner made of a piece, as the reader answers it, and the place behind it.
+/// Converts the scanner's outcome for a piece into the reader's, and moves the place behind the piece.
 fn answer(place: &mut Place, scanned: Scanned) -> Taken
     requires some { HasByte scanned }
     requires fits { place.old.start + place.old.pending_len + seen_of scanned ≤ usize.MAX }

@@ -15,7 +15,7 @@ use std::alloc::{AllocError, Global};
 use std::marker::Model;
 use std::mem;
 
-/// What a piece of bytes makes of those before it, and how many of it were looked at.
+/// The outcome of a piece of bytes for those before it, with the number of its bytes that were looked at.
 #[derive(Clone, Copy)]
 pub enum Scanned {
     /// So many join them, and they are no record and no bad count.

@@ -6,7 +6,7 @@ ghost use Rattle.record_runs.specs.Run.{Moves, TakesPiece};
 
 use std::alloc::AllocError;
 
-/// What a piece of bytes made of the record that has begun.
+/// The outcome of a piece of bytes for the record that has begun.
 #[derive(Drop)]
 pub enum Taken<End> {
     /// The whole piece was consumed, and no record ended in it.
@@ -27,7 +27,7 @@ pub trait Format: Drop {
     /// How an input ends.
     type End: Drop;
 
-    /// What a reading of an input is.
+    /// How an input is read: its records and its ending.
     ghost reads: { Reads Self.Record Self.End };
 
     /// The bytes consumed so far hold these records, and what is pending.
@@ -42,7 +42,7 @@ pub trait Format: Drop {
     /// How the bytes consumed end if no more come.
     ghost ending: { Self → Self.End };
 
-    /// What holds of each record that is read.
+    /// A fact that holds of each record that is read.
     ghost IsGiven: { Self.Record → Type 0 };
 
     /// Consumes the piece, which is not empty and within the limit, to the end of a record or to its own.

@@ -1,4 +1,4 @@
-//! What is done with a record.
+//! Jobs: how a record is answered.
 ghost use Rattle.std.specs.Prelude.{◌≡◌, ◌<◌, ◌≤◌, ◌++◌, List, ℕ, IfOk, OnOk, OnErr};
 ghost use Rattle.record_runs.specs.Texts.{Answers, input_limit};
 
@@ -12,7 +12,7 @@ pub trait Job<F: Format> {
 
     ghost kind: { Self → Self.Kind };
 
-    /// What a job of this kind writes.
+    /// The texts that a job of this kind writes.
     ghost answers: { Self.Kind → Answers F.Record F.End };
 
     /// Appends the block of record `number`, and answers whether the record was served. After want of

@@ -32,7 +32,7 @@ pub enum RunEnd {
 /// Where a run stands between two pieces.
 #[derive(Drop)]
 pub struct Run<F> {
-    /// What has come of the next record.
+    /// The state of the record that is being read.
     pub reader: F,
     /// How many records have been answered.
     pub records: u32,

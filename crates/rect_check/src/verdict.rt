@@ -1,4 +1,4 @@
-//! What the check answers.
+//! Verdicts on a drawing by rectangles.
 
 use half_edges::VertexId;
 

@@ -8,7 +8,7 @@ pub trait Answers {
     fn answer(alloc: Global, kind: (&str, &str), args: &[&str], out: &mut String);
 }
 
-// What a row shows, and its answer.
+// Appends the heading of a row, and its answer.
 fn put_row<A: Answers>(alloc: Global, parts: &[&str], out: &mut String) {
     put(part(parts, 0), out);
     put(": ", out);

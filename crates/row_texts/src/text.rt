@@ -15,7 +15,7 @@ pub fn behind<'a, 'b>(parts: &'b [&'a str], count: usize) -> &'b [&'a str] {
     }
 }
 
-/// What stands before the first space of a text, and what behind it.
+/// Splits a text at its first space.
 pub fn halves(text: &str) -> (&str, &str) {
     text.split_once(' ').unwrap_or((text, ""))
 }

@@ -1,4 +1,4 @@
-//! What stands before what as a wood has it.
+//! The order of vertices that a Schnyder wood gives: which one stands before which.
 ghost use Rattle.std.specs.Prelude.{◌≡◌, ◌<◌, ◌↔◌, ℕ, [], length, All, IsTrue, IfOk};
 ghost use Rattle.map_theory.specs.Maps.{HasDart};
 ghost use Rattle.schnyder_wood.specs.Parents.{kind, count_in};

@@ -57,7 +57,7 @@ fn put_record(lists: &Rotations, out: &mut String) {
     put_letter(']', out);
 }
 
-// What each byte makes of those before: a dot where it joins them, the lists of a record, or `bad` and where.
+// Appends the outcome of each byte: a dot where it joins those before, the lists of a record, or `bad` and where.
 fn put_fed(alloc: Global, bytes: &[u8], out: &mut String) -> Result<(), AllocError>
     requires { length bytes.now < 1000 }
 {
@@ -139,7 +139,7 @@ fn put_few(alloc: Global, sizes: &[u16], bytes: &[u8], out: &mut String) {
     }
 }
 
-// What stands at an offset.
+// Appends the item at an offset, or the fault there.
 fn put_step(found: &Result<Step, CodeFault>, out: &mut String) {
     match found {
         Ok(Step::Lists(lists, end)) => {

@@ -110,7 +110,7 @@ fn put_place(name: &str, next: usize, line: u32, out: &mut String) {
     put_one(" at", next as u64, out);
 }
 
-// What stands at the front of a text.
+// Appends the item at the front of a text, or the fault there.
 fn put_item(found: &Result<Item, TextFault>, out: &mut String) {
     match found {
         Ok(Item::Drawn(_, next, line)) => put_place("figure", *next, *line, out),

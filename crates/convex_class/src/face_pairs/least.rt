@@ -13,7 +13,7 @@ use euler_faces::Faces;
 use half_edges::{DartId, HalfMap, VertexId};
 use std::alloc::{AllocError, Global};
 
-// What all vertices tell.
+// Returns the least answer over all vertices.
 fn least_at_vertices(
     map: &HalfMap,
     faces: &Faces,

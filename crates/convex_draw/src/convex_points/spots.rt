@@ -12,7 +12,7 @@ ghost use Rattle.convex_draw.specs.Runs.{IsCountRun};
 
 use convex_laws::convex_rows::ConvexRows;
 
-/// What is kept of a vertex: two differences, and the vertex from which they are.
+/// The position of a vertex relative to another: two differences, and the vertex from which they are.
 #[derive(Clone, Copy)]
 pub(crate) struct Spot {
     pub(crate) one: u32,
@@ -32,7 +32,7 @@ fn total_fall(spots: &[Spot], row: &[u16]) -> u32
     fall
 }
 
-// What is kept of a covered vertex that counts so many of the new faces as two.
+// Returns the spot of a covered vertex, for which `gain` of the `faces` new faces count as two.
 fn settle_as(faces: u16, gain: u16, fall: u32, rise: u32, p: u16, z: u16, q: u16) -> Spot
     requires gain { gain ≤ faces }
     requires small { (fall < 1048576) × (rise < 1048576) }

@@ -27,7 +27,7 @@ fn is_at(us: &[u16], k: usize, y: u16) -> bool
     k < us.len() && us[k] == y
 }
 
-// What a table has at the dart from x to y, which is at place k of the list of x.
+// Returns the entry of `table` for the dart from `x` to `y`, which is at place `k` of the list of `x`.
 fn number_at(lists: &Rotations, table: &ItemLists<u32>, x: u16, y: u16, k: usize) -> u32
     requires simple { IsSimpleMap lists.now }
     requires table { (count : ℕ) × IsTable lists.now table.now count }
@@ -41,7 +41,7 @@ fn number_at(lists: &Rotations, table: &ItemLists<u32>, x: u16, y: u16, k: usize
     table.list(x as usize)[k]
 }
 
-// What a table has at the dart from x to y.
+// Returns the entry of `table` for the dart from `x` to `y`.
 fn number_in(lists: &Rotations, table: &ItemLists<u32>, x: u16, y: u16) -> u32
     requires simple { IsSimpleMap lists.now }
     requires table { (count : ℕ) × IsTable lists.now table.now count }
@@ -67,7 +67,7 @@ pub fn number_of(lists: &Rotations, faces: &FaceNumbers, x: u16, y: u16) -> u32
     }
 }
 
-/// What `hints` has for a vertex, or 0 where it has nothing.
+/// Returns the hint for vertex `v`, or 0 where `hints` has none.
 pub(crate) fn hint_at(hints: &[u16], v: usize) -> usize {
     if v < hints.len() {
         usize::from(hints[v])
