@@ -10,8 +10,9 @@ pub mod FaceLemmas
 pub mod MetLemmas
 pub mod LooseLemmas
 mod SpanLemmas
+mod RunLemmas
 mod StarLemmas
-mod LooseStarLemmas
+mod OnEdgeLemmas
 mod Cases
 pub mod TurnLemmas
 pub mod ValidFewer

@@ -1,6 +1,6 @@
 -- Where a drawing is plane without the edges of some loose vertices, each fault has a loose vertex.
-use Rattle.std.proofs.Common.{◌≡◌, ◌⊎◌, ◌&&◌, ℕ, ◌<◌, Bool, true, false, not, List, length, slice_index_or, refl, sym, ◌∙◌, inl, inr, arith}
-use Rattle.std.proofs.lemmas.Bool.{cases_Bool, true≢false}
+use Rattle.std.proofs.Common.{◌≡◌, ◌⊎◌, ◌&&◌, ℕ, ◌<◌, Bool, true, false, not, List, length, refl, sym, subst, inl, inr, arith}
+use Rattle.std.proofs.lemmas.Bool.{cases_Bool, cases_lt}
 use Rattle.map_lists.specs.Lists.{Lists}
 use Rattle.map_lists.specs.declared.ids.VertexId.{VertexId}
 use Rattle.map_theory.specs.Maps.{HasDart, IsSimpleMap}
@@ -11,8 +11,9 @@ use Rattle.plane_drawings.specs.SweepCheckLines.{is_among, is_firm, firm_lists}
 use Rattle.plane_drawings.proofs.FirmLemmas.{firm_map, length-firm}
 use Rattle.draw_check.specs.Faults.{LiesOnEdge, EdgesCross}
 use Rattle.draw_check.specs.Verdicts.{NoneShareAPlace}
-use Rattle.draw_check.specs.Loops.{Touches}
-use Rattle.draw_check.specs.LooseStars.{IsOn, NotesVertices}
+use Rattle.draw_check.specs.Loops.{Meets, Touches}
+use Rattle.draw_check.specs.OnEdges.{BoundsStar, BoundsCrowd}
+use Rattle.vertex_rounds.proofs.LeastLemmas.{place_in}
 use Rattle.draw_check.specs.declared.edges.Probe.{Probe}
 use Rattle.draw_check.specs.declared.edges.Probe.TheVariants.{Vertex, Edge}
 
@@ -68,10 +69,14 @@ module _ (lists : Lists) (points : List Point) (loose : List ℕ) (simple : IsSi
         ]
       ]
 
-  -- a vertex on an edge is marked where those on edges of loose vertices are
-  pub on_if_noted : (marks : List Bool) → ((h : ℕ) → is_among loose h ≡ true → NotesVertices lists points h marks) → (v a b : ℕ) → LiesOnEdge lists points v a b → IsOn marks v
-  on_if_noted marks noted v a b on = elim (cases_Bool (slice_index_or marks v true)) [
-    | inl t ↦ t
-    | inr f ↦
-        absurd (off_but_loose (record { 0 = v }) a b (λ h u among has touches. true≢false (sym (noted h among (record { 0 = v }) u on.vertex has touches.meets) ∙ f)) on)
+  -- where the stars of the loose vertices are bounded, all edges are
+  pub bounded_by_loose : (crowd : List ℕ) (best : ℕ) → ((h : ℕ) → is_among loose h ≡ true → BoundsStar lists points crowd h 0 best) → BoundsCrowd lists points crowd best
+  bounded_by_loose crowd best bounds w a b among on = elim (cases_lt w best) [
+    | inr more ↦ more
+    | inl less ↦
+        absurd (off_but_loose (record { 0 = w }) a b (λ h u t has touches.
+        let at = place_in crowd w among in
+        let met = subst (λ x. Meets points (Vertex (record { 0 = x })) h u) (sym at.2) touches.meets in
+        let bound = bounds h t u (omega arith) has at.0 at.1 met in
+        omega (arith, at.2)) on)
   ]

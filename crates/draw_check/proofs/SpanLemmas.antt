@@ -1,18 +1,17 @@
--- Segments that lie on two sides of a line do not cross: one between a point and a box, and one apart from both.
+-- Segments that lie on two sides of a line do not cross: one between a point and a box, and one apart from both; and points beside them.
 use Rattle.std.proofs.Common.{◌≡◌, ◌⊎◌, Bool, true, false, cond, ℤ, pos, neg_ℤ, ◌-ℤ◌, ◌*ℤ◌, ◌≤ℤ◌, ◌<ℤ◌, sym, subst, inl, inr, arith}
 use Rattle.std.specs.Int.{int_min, int_max}
 use Rattle.std.proofs.lemmas.Int.{ints, by_lt_z}
 use Rattle.pg_plane.specs.declared.point.Point.{Point}
-use Rattle.pg_plane.specs.Geometry.{area, AreOpposite, IsBetween, DoCross}
+use Rattle.pg_plane.specs.Geometry.{area, AreOpposite, IsBetween, IsOnSegment, DoCross}
 use Rattle.pg_plane.specs.Range.{IsWithin}
 use Rattle.pg_plane.proofs.Ring.{ring, sums, product_signs}
 use Rattle.pg_plane.proofs.Identities.{area_turned}
 use Rattle.pg_plane.proofs.Crossing.{area_back}
-use Rattle.pg_plane.proofs.Segments.{DoCross-first_back, DoCross-second_back, DoCross-exchanged}
+use Rattle.pg_plane.proofs.Segments.{IsOnSegment-back, DoCross-first_back, DoCross-second_back, DoCross-exchanged}
 use Rattle.plane_drawings.proofs.Areas.{disjoint}
 use Rattle.draw_check.specs.declared.spans.Span.{Span}
-use Rattle.draw_check.specs.Spans.{IsIn, IsApart, IsLeftOf, MissesStar}
-use Rattle.draw_check.specs.LooseStars.{MissesFan}
+use Rattle.draw_check.specs.Spans.{IsIn, IsApart, IsLeftOf, IsStrictlyLeftOf, MissesStar, MissesFan}
 
 or_less : (s t : ℤ) → (s ≤ℤ t) ⊎ (t ≤ℤ s)
 or_less s t = by_lt_z s t (λ h. inl (omega (arith, ints))) (λ h. inr h)
@@ -146,14 +145,6 @@ between_bounds : (l h a b p : ℤ) → l ≤ℤ a → a ≤ℤ h → l ≤ℤ b 
 between_bounds l h a b p la ah lb bh (inl (x, y)) = (omega (arith, ints), omega (arith, ints))
 between_bounds l h a b p la ah lb bh (inr (x, y)) = (omega (arith, ints), omega (arith, ints))
 
--- A point out of a box is on no segment in it.
-pub out_missed : (span wide : Span) (r p : Point) → IsIn wide r → ((u : Point) → IsIn span u → IsIn wide u) → ¬ IsIn wide p → MissesFan span r p
-out_missed span wide r p here more out u inside on =
-    let at = more u inside in
-    let x = between_bounds wide.left wide.right r.x u.x p.x here.left here.right at.left at.right on.between_x in
-    let y = between_bounds wide.bottom wide.top r.y u.y p.y here.bottom here.top at.bottom at.top on.between_y in
-    out (record { left = x.0; right = x.1; bottom = y.0; top = y.1 })
-
 -- Seen from r the point is to the right of the box.
 pub right_off : (span : Span) (r p : Point) → ((u : Point) → IsIn span u → pos 0 <ℤ area r p u) → MissesFan span r p
 right_off span r p box u inside on = let up = box u inside in let line = on.on_line in let back = area_back p r u in let turn = area_turned p r u in omega (arith, ints, back, turn)
@@ -182,14 +173,14 @@ pub record AreCorners (span : Span) (low_left low_right high_left high_right : P
   pub high_right_x : high_right.x ≡ span.right
   pub high_right_y : high_right.y ≡ span.top
 
--- what is not to the right of a way by four corners is not so by any point of their box
-pub corners_left : (span : Span) (a b c d : Point) (r u : Point) → AreCorners span a b c d → pos 0 ≤ℤ area r u a → pos 0 ≤ℤ area r u b → pos 0 ≤ℤ area r u c → pos 0 ≤ℤ area r u d → (p : Point) → IsIn span p → pos 0 ≤ℤ area r u p
+-- what is to the left of a way by four corners is so by any point of their box
+pub corners_left : (span : Span) (a b c d : Point) (r u : Point) → AreCorners span a b c d → pos 0 <ℤ area r u a → pos 0 <ℤ area r u b → pos 0 <ℤ area r u c → pos 0 <ℤ area r u d → (p : Point) → IsIn span p → pos 0 <ℤ area r u p
 corners_left span a b c d r u at la lb lc ld p inside =
     let e = inside.left in
     let f = inside.right in
     let g = inside.bottom in
     let h = inside.top in
-    let after : (k : Point) → pos 0 ≤ℤ area r u k → area r u k ≤ℤ area r u p → pos 0 ≤ℤ area r u p = λ k here more. omega (arith, ints, here, more) in
+    let after : (k : Point) → pos 0 <ℤ area r u k → area r u k ≤ℤ area r u p → pos 0 <ℤ area r u p = λ k here more. omega (arith, ints, here, more) in
     elim (or_less r.x u.x) [
       | inl over ↦ elim (or_less r.y u.y) [
         | inl up ↦ after b lb (area-le r u b p (inl (over, omega (arith, ints, at.low_right_y))) (inl (up, omega (arith, ints, at.low_right_x))))
@@ -202,13 +193,67 @@ corners_left span a b c d r u at la lb lc ld p inside =
     ]
 
 -- so of ways from r to points of a box
-pub ways_left : (span other : Span) (a b c d : Point) (r : Point) → AreCorners other a b c d → IsLeftOf span r a → IsLeftOf span r b → IsLeftOf span r c → IsLeftOf span r d → (p : Point) → IsIn other p → IsLeftOf span r p
+pub ways_left : (span other : Span) (a b c d : Point) (r : Point) → AreCorners other a b c d → IsStrictlyLeftOf span r a → IsStrictlyLeftOf span r b → IsStrictlyLeftOf span r c → IsStrictlyLeftOf span r d → (p : Point) → IsIn other p → IsStrictlyLeftOf span r p
 ways_left span other a b c d r at la lb lc ld p inside u held =
-    let turn : (k : Point) → pos 0 ≤ℤ area r k u → pos 0 ≤ℤ area u r k = λ k h. subst (λ z. pos 0 ≤ℤ z) (area_turned u r k) h in
-    subst (λ z. pos 0 ≤ℤ z) (sym (area_turned u r p)) (corners_left other a b c d u r at (turn a (la u held)) (turn b (lb u held)) (turn c (lc u held)) (turn d (ld u held)) p inside)
+    let turn : (k : Point) → pos 0 <ℤ area r k u → pos 0 <ℤ area u r k = λ k h. subst (λ z. pos 0 <ℤ z) (area_turned u r k) h in
+    subst (λ z. pos 0 <ℤ z) (sym (area_turned u r p)) (corners_left other a b c d u r at (turn a (la u held)) (turn b (lb u held)) (turn c (lc u held)) (turn d (ld u held)) p inside)
 
 -- and of ways to r
-pub ways_left_back : (span other : Span) (a b c d : Point) (r : Point) → AreCorners other a b c d → IsLeftOf span a r → IsLeftOf span b r → IsLeftOf span c r → IsLeftOf span d r → (p : Point) → IsIn other p → IsLeftOf span p r
+pub ways_left_back : (span other : Span) (a b c d : Point) (r : Point) → AreCorners other a b c d → IsStrictlyLeftOf span a r → IsStrictlyLeftOf span b r → IsStrictlyLeftOf span c r → IsStrictlyLeftOf span d r → (p : Point) → IsIn other p → IsStrictlyLeftOf span p r
 ways_left_back span other a b c d r at la lb lc ld p inside u held =
-    let turn : (k : Point) → pos 0 ≤ℤ area k r u → pos 0 ≤ℤ area r u k = λ k h. subst (λ z. pos 0 ≤ℤ z) (sym (area_turned k r u)) h in
-    subst (λ z. pos 0 ≤ℤ z) (area_turned p r u) (corners_left other a b c d r u at (turn a (la u held)) (turn b (lb u held)) (turn c (lc u held)) (turn d (ld u held)) p inside)
+    let turn : (k : Point) → pos 0 <ℤ area k r u → pos 0 <ℤ area r u k = λ k h. subst (λ z. pos 0 <ℤ z) (sym (area_turned k r u)) h in
+    subst (λ z. pos 0 <ℤ z) (area_turned p r u) (corners_left other a b c d r u at (turn a (la u held)) (turn b (lb u held)) (turn c (lc u held)) (turn d (ld u held)) p inside)
+
+-- what is to the left of a way is not to its right
+pub not_right : (span : Span) (p q : Point) → IsStrictlyLeftOf span p q → IsLeftOf span p q
+not_right span p q left u inside = let h = left u inside in omega (arith, ints)
+
+-- a point on one side of a box that holds both ends is on no segment between them
+apart_off : (s t v l h : ℤ) → l ≤ℤ s → s ≤ℤ h → l ≤ℤ t → t ≤ℤ h → IsBetween s t v → (v <ℤ l) ⊎ (h <ℤ v) → ⊥
+apart_off s t v l h ls sh lt th between out =
+    let b = between_bounds l h s t v ls sh lt th between in
+    let low = b.0 in
+    let high = b.1 in
+    elim out [ inl x ↦ omega (arith, ints) | inr x ↦ omega (arith, ints) ]
+
+-- a point on one side of a box is on no segment in it
+pub apart_missed : (span : Span) (r u p : Point) → IsIn span r → IsIn span u → IsApart span p p → ¬ IsOnSegment p r u
+apart_missed span r u p here there apart on = elim apart [
+  | inl (x, y) ↦ apart_off r.x u.x p.x span.left span.right here.left here.right there.left there.right on.between_x (inl x)
+  | inr other ↦ elim other [
+    | inl (x, y) ↦ apart_off r.x u.x p.x span.left span.right here.left here.right there.left there.right on.between_x (inr x)
+    | inr other ↦ elim other [
+      | inl (x, y) ↦ apart_off r.y u.y p.y span.bottom span.top here.bottom here.top there.bottom there.top on.between_y (inl x)
+      | inr (x, y) ↦ apart_off r.y u.y p.y span.bottom span.top here.bottom here.top there.bottom there.top on.between_y (inr x)
+    ]
+  ]
+]
+
+-- between two numbers on one side of a third there are none on the other
+between_off : (s t v l : ℤ) → (s <ℤ l) × (t <ℤ l) → IsBetween s t v → l ≤ℤ v → ⊥
+between_off s t v l (a, b) (inl (x, y)) h = omega (arith, ints)
+between_off s t v l (a, b) (inr (x, y)) h = omega (arith, ints)
+
+between_off_above : (s t v h : ℤ) → (h <ℤ s) × (h <ℤ t) → IsBetween s t v → v ≤ℤ h → ⊥
+between_off_above s t v h (a, b) (inl (x, y)) l = omega (arith, ints)
+between_off_above s t v h (a, b) (inr (x, y)) l = omega (arith, ints)
+
+-- no point of a box is on a segment on one side of it
+pub apart_segment : (span : Span) (p q u : Point) → IsApart span p q → IsIn span u → ¬ IsOnSegment u p q
+apart_segment span p q u apart inside on = elim apart [
+  | inl left ↦ between_off p.x q.x u.x span.left left on.between_x inside.left
+  | inr other ↦ elim other [
+    | inl right ↦ between_off_above p.x q.x u.x span.right right on.between_x inside.right
+    | inr other ↦ elim other [
+      | inl low ↦ between_off p.y q.y u.y span.bottom low on.between_y inside.bottom
+      | inr high ↦ between_off_above p.y q.y u.y span.top high on.between_y inside.top
+    ]
+  ]
+]
+
+-- no point to the left of a way is on it, in either direction
+pub left_segment : (span : Span) (p q u : Point) → IsStrictlyLeftOf span p q → IsIn span u → ¬ IsOnSegment u p q
+left_segment span p q u left inside on = let up = left u inside in let line = on.on_line in omega (arith, ints)
+
+pub right_segment : (span : Span) (p q u : Point) → IsStrictlyLeftOf span q p → IsIn span u → ¬ IsOnSegment u p q
+right_segment span p q u left inside on = left_segment span q p u left inside (IsOnSegment-back u p q on)

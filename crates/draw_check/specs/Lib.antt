@@ -5,7 +5,7 @@ pub mod Laws
 pub mod Loops
 pub mod Spans
 pub mod Stars
-pub mod LooseStars
+pub mod OnEdges
 pub mod FaceVerdicts
 pub mod Outer
 pub mod FaceLaws

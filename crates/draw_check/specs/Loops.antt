@@ -1,11 +1,11 @@
 -- What the loops of a check go over: edges that something meets, entries of lists, and breaks.
-use Rattle.std.specs.Prelude.{ℕ, ◌<◌, ◌≤◌, ◌≡◌, ◌≢◌, Bool, true, List, slice_index_or}
+use Rattle.std.specs.Prelude.{ℕ, ◌<◌, ◌≤◌, ◌≢◌, List}
 use Rattle.map_lists.specs.Lists.{Lists}
 use Rattle.half_edges.specs.Map.{Map, IsHalfMap}
 use Rattle.pg_plane.specs.declared.point.Point.{Point}
 use Rattle.pg_plane.specs.Geometry.{IsOnSegment, DoCross}
 use Rattle.plane_drawings.specs.Drawing.{place, IsBreak}
-use Rattle.draw_check.specs.Faults.{HasPlaces, LiesOnEdge, EdgesCross}
+use Rattle.draw_check.specs.Faults.{HasPlaces, EdgesCross}
 use Rattle.vertex_rounds.specs.Rounds.{HasEdge}
 use Rattle.draw_check.specs.declared.edges.Probe.{Probe}
 use Rattle.draw_check.specs.declared.edges.Probe.TheVariants.{Vertex, Edge}
@@ -49,7 +49,3 @@ pub record IsCrossed (lists : Lists) (points : List Point) (a b : ℕ) : Type 0 
 -- the directions round v break behind u
 pub record Breaks (lists : Lists) (points : List Point) (v u : ℕ) : Type 0 where
   pub break : IsBreak lists points v u
-
--- the vertices that lie on edges are marked, as far as the marks reach
-abbrev pub AreMarked : Lists → List Point → List Bool → Type 0
-AreMarked lists points marks = (v a b : ℕ) → LiesOnEdge lists points v a b → slice_index_or marks v true ≡ true

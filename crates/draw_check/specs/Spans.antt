@@ -1,7 +1,7 @@
 -- Boxes of points, and segments that miss those between a point and a box.
 use Rattle.std.specs.Prelude.{◌⊎◌, pos, ◌≤ℤ◌, ◌<ℤ◌}
 use Rattle.pg_plane.specs.declared.point.Point.{Point}
-use Rattle.pg_plane.specs.Geometry.{area, DoCross}
+use Rattle.pg_plane.specs.Geometry.{area, IsOnSegment, DoCross}
 use Rattle.pg_plane.specs.Range.{IsWithin}
 use Rattle.draw_check.specs.declared.spans.Span.{Span}
 
@@ -28,6 +28,14 @@ IsApart span p q =
 abbrev pub IsLeftOf : Span → Point → Point → Type 0
 IsLeftOf span p q = (u : Point) → IsIn span u → pos 0 ≤ℤ area p q u
 
+-- all points of a box are to the left of the way from p to q
+abbrev pub IsStrictlyLeftOf : Span → Point → Point → Type 0
+IsStrictlyLeftOf span p q = (u : Point) → IsIn span u → pos 0 <ℤ area p q u
+
 -- the segment from p to q crosses none from r into a box
 abbrev pub MissesStar : Span → Point → Point → Point → Type 0
 MissesStar span r p q = (u : Point) → IsIn span u → ¬ DoCross p q r u
+
+-- a point lies on no segment from r into a box
+abbrev pub MissesFan : Span → Point → Point → Type 0
+MissesFan span r p = (u : Point) → IsIn span u → ¬ IsOnSegment p r u

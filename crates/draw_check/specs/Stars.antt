@@ -1,16 +1,16 @@
--- The stars of vertices: the edges to the greater neighbours, or to all, their heads, with boxes of runs of heads; and the first edge that stars cross.
-use Rattle.std.specs.Prelude.{ℕ, ◌+◌, ◌*◌, ◌<◌, ◌≤◌, ◌≡◌, ◌≢◌, ◌⊎◌, ◌↔◌, List, length, slice_index, slice_index_or, Contains, All, Option, Some, None, MatchOption, pos}
+-- The stars of vertices: the edges to the greater neighbours, or to all, their heads; boxes of runs of vertices; and the first edge that stars cross.
+use Rattle.std.specs.Prelude.{ℕ, ◌+◌, ◌*◌, ◌<◌, ◌≤◌, ◌≡◌, ◌⊎◌, ◌↔◌, List, length, slice_index, slice_index_or, Contains, Option, Some, None, IfSome, ⊤, pos}
 use Rattle.map_lists.specs.Lists.{Lists}
 use Rattle.map_lists.specs.declared.items.Ends.{Ends}
 use Rattle.map_theory.specs.Maps.{HasDart}
 use Rattle.pg_plane.specs.declared.point.Point.{Point}
-use Rattle.pg_plane.specs.Geometry.{DoCross}
 use Rattle.plane_drawings.specs.Drawing.{place}
-use Rattle.vertex_rounds.specs.Least.{IsLeastPair}
 use Rattle.vertex_rounds.specs.Rounds.{HasEdge, ComesBefore}
 use Rattle.draw_check.specs.Faults.{EdgesCross}
+use Rattle.draw_check.specs.Loops.{Meets, IsCrossed}
 use Rattle.draw_check.specs.Spans.{IsIn, IsBoxInRange}
 use Rattle.draw_check.specs.declared.spans.Span.{Span}
+use Rattle.draw_check.specs.declared.edges.Probe.TheVariants.{Edge}
 
 -- a box holds the heads from place `begin` on and before place `end`
 abbrev pub HoldsHeads : List Point → List ℕ → Span → ℕ → ℕ → Type 0
@@ -40,42 +40,30 @@ pub record AreBlocks (lists : Lists) (points : List Point) (blocks : List Span) 
 abbrev pub AreHeads : Lists → ℕ → ℕ → List ℕ → Type 0
 AreHeads lists v from heads = (u : ℕ) → Contains heads u ↔ ((from ≤ u) × HasDart lists v u)
 
--- the heads of v, a box of all and boxes of the runs
-pub record IsStar (lists : Lists) (points : List Point) (v from : ℕ) (heads : List ℕ) (whole : Span) (runs : List Span) : Type 0 where
-  pub heads_are : AreHeads lists v from heads
-  pub below : All (λ u. u < length points) heads
-  pub whole_in : IsBoxInRange whole
-  pub whole_holds : HoldsHeads points heads whole 0 (length heads)
-  pub few : length runs ≤ 256
-  pub runs_are : AreRuns points heads runs
+-- an edge comes before the best one so far, if there is one
+abbrev pub IsAhead : Option Ends → ℕ → ℕ → Type 0
+IsAhead None a b = ⊤
+IsAhead (Some e) a b = ComesBefore a b e.a.0 e.b.0
 
--- an edge of v's star crosses the edge from a to b
-pub record IsCrossedFrom (lists : Lists) (points : List Point) (v a b : ℕ) : Type 0 where
+-- the edge from a to b comes before the best one so far, and crosses one from v to one of some heads
+pub record IsCrossedBy (lists : Lists) (points : List Point) (v : ℕ) (heads : List ℕ) (best : Option Ends) (a b : ℕ) : Type 0 where
   pub edge : HasEdge lists a b
-  pub head : ℕ
-  pub second : HasEdge lists v head
-  pub apart : (v ≢ a) × (v ≢ b) × (head ≢ a) × (head ≢ b)
-  pub cross : DoCross (place points a) (place points b) (place points v) (place points head)
+  pub ahead : IsAhead best a b
+  pub place : ℕ
+  pub within : place < length heads
+  pub meets : Meets points (Edge (record { 0 = a }) (record { 0 = b })) v (slice_index heads place)
 
--- a later edge of a star of a vertex below v crosses the edge from a to b
-pub record IsCrossedBelow (lists : Lists) (points : List Point) (v a b : ℕ) : Type 0 where
-  pub vertex : ℕ
-  pub below : vertex < v
-  pub head : ℕ
-  pub cross : EdgesCross lists points a b vertex head
+-- an edge belongs to the star of a vertex below v, or leads from v to one of the first k of some heads
+abbrev pub IsDone : ℕ → List ℕ → ℕ → ℕ → ℕ → Type 0
+IsDone v heads k c d = (c < v) ⊎ ((c ≡ v) × (i : ℕ) × (i < k) × (i < length heads) × (slice_index heads i ≡ d))
 
--- the first such edge, or that there is none
-abbrev pub IsBestBelow : Lists → List Point → ℕ → Option Ends → Type 0
-IsBestBelow lists points v best =
-    MatchOption best ((a b : ℕ) → ¬ IsCrossedBelow lists points v a b) (λ e. IsLeastPair (IsCrossedBelow lists points v) e.a.0 e.b.0)
+-- A later edge crosses the best one so far, if there is one; and of the edges that were done none crosses one that comes before.
+pub record IsBest (lists : Lists) (points : List Point) (v : ℕ) (heads : List ℕ) (k : ℕ) (best : Option Ends) : Type 0 where
+  pub crossed : IfSome best (λ e. IsCrossed lists points e.a.0 e.b.0)
+  pub none : (a b c d : ℕ) → IsAhead best a b → IsDone v heads k c d → ¬ EdgesCross lists points a b c d
 
--- an edge is the earlier one of two, where there is a first one
-abbrev pub IsEarlierOf : Option Ends → Ends → Ends → Type 0
-IsEarlierOf None found earlier = earlier ≡ found
-IsEarlierOf (Some e) found earlier =
-    (ComesBefore e.a.0 e.b.0 found.a.0 found.b.0 × (earlier ≡ e)) ⊎ ((¬ ComesBefore e.a.0 e.b.0 found.a.0 found.b.0) × (earlier ≡ found))
-
--- where the lesser end of an edge that comes before the best one is below, or that of one that v's star may cross
-abbrev pub limit_of : Option Ends → ℕ → ℕ
-limit_of None v = v
-limit_of (Some e) v = e.a.0 + 1
+-- The best one is no later than it was, a later edge crosses it, and none from v to some heads crosses one that comes before.
+pub record IsLowered (lists : Lists) (points : List Point) (v : ℕ) (heads : List ℕ) (old new : Option Ends) : Type 0 where
+  pub crossed : IfSome old (λ e. IsCrossed lists points e.a.0 e.b.0) → IfSome new (λ e. IsCrossed lists points e.a.0 e.b.0)
+  pub ahead : (a b : ℕ) → IsAhead new a b → IsAhead old a b
+  pub none : (a b i : ℕ) → IsAhead new a b → i < length heads → ¬ EdgesCross lists points a b v (slice_index heads i)

@@ -1,10 +1,7 @@
 //! Blocks of 16 stars each, by the numbers of their vertices: a box of all that their edges reach, by which a star is
 //! compared with a whole block.
 ghost use Rattle.std.specs.Prelude.{◌≡◌, ◌+◌, ◌*◌, ◌<◌, ◌≤◌, ℕ, length, take, slice_index, All};
-ghost use Rattle.std.specs.Bool.{OnTrue};
 ghost use Rattle.map_theory.specs.Maps.{list_of};
-ghost use Rattle.pg_plane.specs.declared.point.Point.{Point};
-ghost use Rattle.pg_plane.specs.Geometry.{DoCross};
 ghost use Rattle.pg_plane.specs.Range.{IsInRange};
 ghost use Rattle.plane_drawings.specs.Drawing.{place};
 ghost use Rattle.vertex_rounds.specs.Rounds.{HasEdge};
@@ -12,9 +9,9 @@ ghost use Rattle.draw_check.specs.Loops.{IsDrawn};
 ghost use Rattle.draw_check.specs.Spans.{IsIn, IsBoxInRange};
 ghost use Rattle.draw_check.specs.Stars.{AreRuns, Reaches, AreBlocks};
 
+use crate::heads::{run_begin, run_of, star_heads};
 use crate::places::place_at;
-use crate::spans::{NO_SPAN, Span, joined, misses_block, widened};
-use crate::stars::{run_end, run_of, star_heads};
+use crate::spans::{NO_SPAN, Span, joined, widened};
 use half_edges::{HalfMap, VertexId};
 use pg_plane::Points;
 
@@ -55,31 +52,12 @@ pub(crate) fn fill_blocks(map: &HalfMap, points: &Points, heads: &mut [u16], blo
 {
     let n = map.n() as usize;
     for k in 0..blocks.len() {
-        blocks[k] = block_of(map, points, heads, (16 * k) as u16, run_end(k, n) as u16);
+        blocks[k] = block_of(
+            map,
+            points,
+            heads,
+            (16 * k) as u16,
+            run_begin(k + 1, n) as u16,
+        );
     }
-}
-
-// Whether surely no edge of a star crosses a segment in the box of a block.
-pub(crate) fn misses_runs(
-    points: &Points,
-    heads: &[u16],
-    runs: &[Span],
-    v: VertexId,
-    block: Span,
-) -> bool
-    requires in_range { (v : ℕ) → v < length points.now → IsInRange (place points.now v) }
-    requires few { length runs.now ≤ 256 }
-    requires runs { AreRuns points.now heads.now runs.now }
-    requires v { v.0 < length points.now }
-    requires block { IsBoxInRange block }
-    ensures { OnTrue result ((i : ℕ) (p q : Point) → i < length heads.now → IsIn block p → IsIn block q
-        → ¬ DoCross p q (place points.now v.0) (place points.now (slice_index heads.now i))) }
-{
-    let r = place_at(points, v);
-    for k in 0..runs.len() {
-        if !misses_block(runs[k], r, block) {
-            return false;
-        }
-    }
-    true
 }

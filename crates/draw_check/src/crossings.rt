@@ -70,8 +70,20 @@ fn first_crossed_by_loose(map: &HalfMap, points: &Points, loose: &[u16]) -> Opti
     }
 }
 
+// Whether some loose vertices have few edges, so that it is quick to compare each edge with all of these.
+fn have_few_edges(map: &HalfMap, loose: &[u16]) -> bool {
+    let mut count: u16 = 0;
+    for i in 0..loose.len() {
+        let v = VertexId(loose[i]);
+        if v.0 < map.n() {
+            count = count.saturating_add(map.degree(v));
+        }
+    }
+    count <= 256
+}
+
 // The first edge that a later one crosses. Without the edges of the loose vertices the drawing is plane,
-// where they are known; else it is found star by star.
+// where they are known; where they are not, or have many edges, it is found star by star.
 fn first_crossed_edge(map: &HalfMap, points: &Points, loose: Option<&[u16]>) -> Option<Ends>
     requires drawn { IsDrawn map.now points.now }
     requires plane { IfSome loose (λ l. IsPlaneDrawing (firm_lists l.now map.now.lists) points.now) }
@@ -79,8 +91,8 @@ fn first_crossed_edge(map: &HalfMap, points: &Points, loose: Option<&[u16]>) -> 
         (λ e. IsLeastPair (IsCrossed map.now.lists points.now) e.a.0 e.b.0) }
 {
     match loose {
-        Some(loose) => first_crossed_by_loose(map, points, loose),
-        None => first_crossed(map, points),
+        Some(loose) if have_few_edges(map, loose) => first_crossed_by_loose(map, points, loose),
+        _ => first_crossed(map, points),
     }
 }
 

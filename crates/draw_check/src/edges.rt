@@ -8,7 +8,8 @@ ghost use Rattle.vertex_rounds.specs.Least.{IsLeast, IsLeastPair, IsLeastTriple,
 ghost use Rattle.vertex_rounds.specs.Rounds.{HasEdge, HoldsAt};
 ghost use Rattle.draw_check.specs.Faults.{LiesOnEdge};
 ghost use Rattle.draw_check.specs.Verdicts.{NoneOnEdge, NoneCross};
-ghost use Rattle.draw_check.specs.Loops.{IsDrawn, IsProbeBelow, Meets, IsMet, IsMetFrom, AreMarked};
+ghost use Rattle.draw_check.specs.Loops.{IsDrawn, IsProbeBelow, Meets, IsMet, IsMetFrom};
+ghost use Rattle.draw_check.specs.OnEdges.{BoundsAll};
 ghost use Rattle.vertex_rounds.specs.Rounds.{IsLeastOf};
 
 use crate::places::place_at;
@@ -85,42 +86,25 @@ pub(crate) fn first_met(map: &HalfMap, points: &Points, probe: Probe, from: u16)
     None
 }
 
-// Whether a vertex is marked, or the marks do not reach to it.
-fn is_marked(marks: &[bool], v: VertexId) -> bool
-    ensures { result ≡ slice_index_or marks.now v.0 true }
-{
-    (v.0 as usize) >= marks.len() || marks[v.0 as usize]
-}
-
 // The first edge on which a vertex lies, of which it is no end.
-fn edge_under(map: &HalfMap, points: &Points, marks: &[bool], v: VertexId) -> Option<Ends>
+fn edge_under(map: &HalfMap, points: &Points, v: VertexId) -> Option<Ends>
     requires drawn { IsDrawn map.now points.now }
-    requires marked { AreMarked map.now.lists points.now marks.now }
     requires vertex { v.0 < length map.now.lists }
     ensures { MatchOption result ((a b : ℕ) → ¬ LiesOnEdge map.now.lists points.now v.0 a b)
         (λ e. IsLeastPair (LiesOnEdge map.now.lists points.now v.0) e.a.0 e.b.0) }
 {
-    if is_marked(marks, v) {
-        first_met(map, points, Probe::Vertex(v), 0)
-    } else {
-        None
-    }
+    first_met(map, points, Probe::Vertex(v), 0)
 }
 
-// The least vertex that lies on an edge of which it is no end, with the first such edge. Such vertices are
-// marked.
-pub(crate) fn first_on_edge(
-    map: &HalfMap,
-    points: &Points,
-    marks: &[bool],
-) -> Option<(VertexId, Ends)>
+// The least vertex that lies on an edge of which it is no end, with the first such edge. None below `from` does.
+pub(crate) fn first_on_edge(map: &HalfMap, points: &Points, from: u16) -> Option<(VertexId, Ends)>
     requires drawn { IsDrawn map.now points.now }
-    requires marked { AreMarked map.now.lists points.now marks.now }
+    requires none { BoundsAll map.now.lists points.now from }
     ensures { MatchOption result (NoneOnEdge map.now.lists points.now)
         (λ p. IsLeastTriple (LiesOnEdge map.now.lists points.now) p.0.0 p.1.a.0 p.1.b.0) }
 {
-    for v in 0..map.n() {
-        if let Some(edge) = edge_under(map, points, marks, VertexId(v)) {
+    for v in from..map.n() {
+        if let Some(edge) = edge_under(map, points, VertexId(v)) {
             return Some((VertexId(v), edge));
         }
     }

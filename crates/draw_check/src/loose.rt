@@ -1,18 +1,17 @@
-//! Where faults may be: at the edges of a few loose vertices, where a drawing is plane without these edges,
-//! and at the vertices that are found star by star.
-ghost use Rattle.std.specs.Prelude.{◌≡◌, ◌<◌, ◌≤◌, ◌↔◌, ℕ, List, length, slice_index_or, true, false, IsTrue};
+//! Where crossings may be: at the edges of a few loose vertices, where a drawing is plane without these edges.
+ghost use Rattle.std.specs.Prelude.{◌≡◌, ◌<◌, ◌≤◌, ◌↔◌, ℕ, List, length, true, false, IsTrue};
 ghost use Rattle.map_theory.specs.Maps.{HasDart};
 ghost use Rattle.half_edges.specs.Map.{IsLive};
 ghost use Rattle.plane_drawings.specs.Drawing.{IsPlaneDrawing};
 ghost use Rattle.plane_drawings.specs.SweepCheckLines.{is_among, firm_lists};
 ghost use Rattle.vertex_rounds.specs.Rounds.{HasEdge, HoldsAt};
 ghost use Rattle.draw_check.specs.Faults.{EdgesCross};
-ghost use Rattle.draw_check.specs.Loops.{IsDrawn, IsProbeBelow, Meets, Touches, AreMarked};
+ghost use Rattle.draw_check.specs.Loops.{IsDrawn, IsProbeBelow, Meets, Touches};
 
 use crate::edges::{Probe, meets};
 use half_edges::{DartId, HalfMap, VertexId};
 use pg_plane::Points;
-use plane_drawings::sweep_check::{is_among, mark_on_edges};
+use plane_drawings::sweep_check::is_among;
 use vertex_rounds::least_head;
 
 // Whether the edge of a dart is met.
@@ -75,23 +74,4 @@ pub(crate) fn may_be_crossed(
         return true;
     }
     is_met_by_loose(map, points, loose, Probe::Edge(a, b))
-}
-
-// Marks all vertices.
-fn mark_all(marks: &mut [bool])
-    ensures { (v : ℕ) → slice_index_or marks.new v true ≡ true }
-{
-    for v in 0..marks.len() {
-        marks[v] = true;
-    }
-}
-
-// Marks the vertices that may lie on an edge, star by star.
-pub(crate) fn mark_by_stars(map: &HalfMap, points: &Points, marks: &mut [bool])
-    requires { IsDrawn map.now points.now }
-    ensures { AreMarked map.now.lists points.now marks.new }
-{
-    if !mark_on_edges(map, points, marks) {
-        mark_all(marks);
-    }
 }

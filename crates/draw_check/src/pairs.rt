@@ -4,14 +4,13 @@ ghost use Rattle.plane_drawings.specs.Drawing.{IsPlaneDrawing};
 ghost use Rattle.plane_drawings.specs.SweepCheckLines.{firm_lists};
 ghost use Rattle.draw_check.specs.declared.verdict.Verdict.TheVariants.{Yes};
 ghost use Rattle.draw_check.specs.Faults.{HasPlaces};
-ghost use Rattle.draw_check.specs.Loops.{IsDrawn, AreMarked};
+ghost use Rattle.draw_check.specs.Loops.{IsDrawn};
 ghost use Rattle.draw_check.specs.Verdicts.{AllInGrid, NoneShareAPlace, NoneOnEdge, NoneCross, IsVerdict};
 
 use crate::Verdict;
 use crate::crossings::first_crossing;
 use crate::edges::first_on_edge;
-use crate::loose::mark_by_stars;
-use crate::loose_stars::mark_by_loose;
+use crate::on_edges::first_on_edges;
 use crate::places::{corner_of, first_outside, first_shared};
 use crate::turns::first_turned;
 use half_edges::HalfMap;
@@ -19,22 +18,16 @@ use pg_plane::{GridFigure, Point, Points};
 use plane_drawings::sweep_check::loose_vertices;
 
 // The first vertex on an edge or the first two edges that cross, in this order, where no two vertices stand
-// at one place. The vertices on edges are marked, and without the edges of the loose vertices the drawing is
-// plane, where they are known.
-fn first_meeting(
-    map: &HalfMap,
-    points: &Points,
-    marks: &[bool],
-    loose: Option<&[u16]>,
-) -> Option<Verdict>
+// at one place. Without the edges of the loose vertices the drawing is plane, where they are known.
+fn first_meeting(map: &HalfMap, points: &Points, loose: Option<&[u16]>) -> Option<Verdict>
     requires drawn { IsDrawn map.now points.now }
     requires apart { NoneShareAPlace map.now.lists points.now }
-    requires marked { AreMarked map.now.lists points.now marks.now }
     requires plane { IfSome loose (λ l. IsPlaneDrawing (firm_lists l.now map.now.lists) points.now) }
     ensures { MatchOption result (NoneShareAPlace map.now.lists points.now × NoneOnEdge map.now.lists points.now × NoneCross map.now.lists points.now)
         (λ verdict. (width height : ℤ) → AllInGrid map.now.lists points.now width height → IsVerdict map.now.lists points.now width height verdict) }
 {
-    if let Some((v, e)) = first_on_edge(map, points, marks) {
+    let from = first_on_edges(map, points, loose);
+    if let Some((v, e)) = first_on_edge(map, points, from) {
         return Some(Verdict::OnEdge(v, e));
     }
     match first_crossing(map, points, loose) {
@@ -53,9 +46,7 @@ fn first_pair(map: &HalfMap, points: &Points) -> Option<Verdict>
     if let Some((u, v)) = first_shared(map, points) {
         return Some(Verdict::SamePlace(u, v));
     }
-    let mut marks = [false; 4095];
-    mark_by_stars(map, points, &mut marks);
-    first_meeting(map, points, &marks, None)
+    first_meeting(map, points, None)
 }
 
 // Finds the first such pair, where without the edges of the excluded vertices the drawing is plane.
@@ -65,9 +56,7 @@ fn first_pair_by_loose(map: &HalfMap, points: &Points, loose: &[u16]) -> Option<
     ensures { MatchOption result (NoneShareAPlace map.now.lists points.now × NoneOnEdge map.now.lists points.now × NoneCross map.now.lists points.now)
         (λ verdict. (width height : ℤ) → AllInGrid map.now.lists points.now width height → IsVerdict map.now.lists points.now width height verdict) }
 {
-    let mut marks = [false; 4095];
-    mark_by_loose(map, points, loose, &mut marks);
-    first_meeting(map, points, &marks, Some(loose))
+    first_meeting(map, points, Some(loose))
 }
 
 // Finds the first such pair. A sweep that finds the drawing plane, or plane without the edges of a few vertices, spares

@@ -1,10 +1,9 @@
 //! Boxes, and lines that part a segment from those between a point and a box.
 ghost use Rattle.std.specs.Prelude.{◌≡◌, ◌⊎◌, ◌↔◌, ◌<ℤ◌, ◌≤ℤ◌, pos, IsTrue};
 ghost use Rattle.std.specs.Bool.{OnTrue};
-ghost use Rattle.pg_plane.specs.Geometry.{area};
+ghost use Rattle.pg_plane.specs.Geometry.{area, IsOnSegment};
 ghost use Rattle.pg_plane.specs.Range.{IsInRange, IsWithin};
-ghost use Rattle.draw_check.specs.Spans.{IsIn, IsBoxInRange, IsApart, IsLeftOf, MissesStar};
-ghost use Rattle.draw_check.specs.LooseStars.{MissesFan};
+ghost use Rattle.draw_check.specs.Spans.{IsIn, IsBoxInRange, IsApart, IsLeftOf, IsStrictlyLeftOf, MissesStar, MissesFan};
 
 use pg_plane::{Point, area2};
 
@@ -204,27 +203,6 @@ pub(crate) fn misses_star(span: Span, r: Point, p: Point, q: Point) -> bool
     is_past(span, r, q, p)
 }
 
-// Whether a point is neither to the left nor to the right of a box.
-fn is_in_width(span: Span, p: Point) -> bool
-    ensures { IsTrue result ↔ ((span.left ≤ℤ p.x) × (p.x ≤ℤ span.right)) }
-{
-    span.left <= p.x && p.x <= span.right
-}
-
-// Whether a point is neither below nor above a box.
-fn is_in_height(span: Span, p: Point) -> bool
-    ensures { IsTrue result ↔ ((span.bottom ≤ℤ p.y) × (p.y ≤ℤ span.top)) }
-{
-    span.bottom <= p.y && p.y <= span.top
-}
-
-// Whether a point lies in a box.
-fn is_in(span: Span, p: Point) -> bool
-    ensures { IsTrue result ↔ IsIn span p }
-{
-    is_in_width(span, p) && is_in_height(span, p)
-}
-
 // Whether a number is positive.
 fn is_positive(z: i64) -> bool
     ensures { IsTrue result ↔ (pos 0 <ℤ z) }
@@ -237,25 +215,25 @@ fn is_strictly_left_of(span: Span, p: Point, q: Point) -> bool
     requires span { IsBoxInRange span }
     requires p { IsInRange p }
     requires q { IsInRange q }
-    ensures { OnTrue result ((u : Point) → IsIn span u → pos 0 <ℤ area p q u) }
+    ensures { OnTrue result (IsStrictlyLeftOf span p q) }
 {
     is_positive(area2(p, q, far_corner(span, p, q)))
 }
 
-// Whether a point surely lies on no segment from `r` into a box.
-pub(crate) fn misses_fan(span: Span, r: Point, p: Point) -> bool
+// Whether surely no point of a box lies on the segment from `p` to `q`.
+pub(crate) fn misses_segment(span: Span, p: Point, q: Point) -> bool
     requires span { IsBoxInRange span }
-    requires r { IsInRange r }
     requires p { IsInRange p }
-    ensures { OnTrue result (MissesFan span r p) }
+    requires q { IsInRange q }
+    ensures { OnTrue result ((u : Point) → IsIn span u → ¬ IsOnSegment u p q) }
 {
-    if !is_in(widened(span, r), p) {
+    if is_apart(span, p, q) {
         return true;
     }
-    if is_strictly_left_of(span, r, p) {
+    if is_strictly_left_of(span, p, q) {
         return true;
     }
-    is_strictly_left_of(span, p, r)
+    is_strictly_left_of(span, q, p)
 }
 
 // The left end of the bottom of a box.
@@ -341,50 +319,51 @@ fn are_boxes_apart(span: Span, other: Span) -> bool
     false
 }
 
-// Whether no point of a box is to the right of a way from `r` to a point of another.
+// Whether all points of a box are to the left of the ways from `r` to the points of another.
 fn is_left_of_ways(span: Span, r: Point, other: Span) -> bool
     requires span { IsBoxInRange span }
     requires r { IsInRange r }
     requires other { IsBoxInRange other }
-    ensures { OnTrue result ((p : Point) → IsIn other p → IsLeftOf span r p) }
+    ensures { OnTrue result ((p : Point) → IsIn other p → IsStrictlyLeftOf span r p) }
 {
-    if !is_left_of(span, r, low_left(other)) {
+    if !is_strictly_left_of(span, r, low_left(other)) {
         return false;
     }
-    if !is_left_of(span, r, low_right(other)) {
+    if !is_strictly_left_of(span, r, low_right(other)) {
         return false;
     }
-    if !is_left_of(span, r, high_left(other)) {
+    if !is_strictly_left_of(span, r, high_left(other)) {
         return false;
     }
-    is_left_of(span, r, high_right(other))
+    is_strictly_left_of(span, r, high_right(other))
 }
 
-// Whether no point of a box is to the right of a way from a point of another to `r`.
+// Whether all points of a box are to the left of the ways from the points of another to `r`.
 fn is_left_of_ways_back(span: Span, r: Point, other: Span) -> bool
     requires span { IsBoxInRange span }
     requires r { IsInRange r }
     requires other { IsBoxInRange other }
-    ensures { OnTrue result ((p : Point) → IsIn other p → IsLeftOf span p r) }
+    ensures { OnTrue result ((p : Point) → IsIn other p → IsStrictlyLeftOf span p r) }
 {
-    if !is_left_of(span, low_left(other), r) {
+    if !is_strictly_left_of(span, low_left(other), r) {
         return false;
     }
-    if !is_left_of(span, low_right(other), r) {
+    if !is_strictly_left_of(span, low_right(other), r) {
         return false;
     }
-    if !is_left_of(span, high_left(other), r) {
+    if !is_strictly_left_of(span, high_left(other), r) {
         return false;
     }
-    is_left_of(span, high_right(other), r)
+    is_strictly_left_of(span, high_right(other), r)
 }
 
-// Whether surely no segment in a box crosses one from `r` into another.
+// Whether surely no segment in a box crosses one from `r` into another, and no point of it lies on such a one.
 pub(crate) fn misses_block(span: Span, r: Point, block: Span) -> bool
     requires span { IsBoxInRange span }
     requires r { IsInRange r }
     requires block { IsBoxInRange block }
-    ensures { OnTrue result ((p q : Point) → IsIn block p → IsIn block q → MissesStar span r p q) }
+    ensures star { OnTrue result ((p q : Point) → IsIn block p → IsIn block q → MissesStar span r p q) }
+    ensures fan { OnTrue result ((p : Point) → IsIn block p → MissesFan span r p) }
 {
     if are_boxes_apart(widened(span, r), block) {
         return true;

@@ -18,5 +18,4 @@ mod StepLemmas
 mod SweepLemmas
 mod TopLemmas
 pub mod FirmLemmas
-mod StarLemmas
 mod Refused

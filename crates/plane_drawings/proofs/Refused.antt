@@ -1,5 +1,5 @@
 -- Steps of the sweep that wrong bodies would let through.
-use Rattle.std.proofs.Common.{◌≡◌, ◌<◌, ◌≤◌, ◌-◌, ℕ, zero, suc, true, false, List, [], ◌∷◌, ◌++◌, length, take, drop, pos, ◌<ℤ◌, refl, ap, inl, inr, ⊎_elim, arith}
+use Rattle.std.proofs.Common.{◌≡◌, ◌<◌, ◌≤◌, ◌-◌, ℕ, zero, suc, List, [], ◌∷◌, ◌++◌, length, take, drop, pos, ◌<ℤ◌, refl, ap, inl, inr, ⊎_elim, arith}
 use Rattle.std.specs.Prelude.{slice_index_or}
 use Rattle.std.proofs.lemmas.Int.{ints}
 use Rattle.pg_plane.specs.declared.point.Point.{Point}
@@ -7,8 +7,7 @@ use Rattle.plane_drawings.specs.Drawing.{IsPlaneDrawing}
 use Rattle.plane_drawings.specs.declared.plane_sweep.line.Line.{Line}
 use Rattle.plane_drawings.specs.PlaneSweepLines.{rise}
 use Rattle.plane_drawings.specs.SweepCheckLines.{firm_lists}
-use Rattle.plane_drawings.specs.Tests.{IsPassed, AreOnMarked}
-use Rattle.pg_plane.specs.Geometry.{IsOnSegment}
+use Rattle.plane_drawings.specs.Tests.{IsPassed}
 
 abbrev point : ℕ → ℕ → Point
 point x y = record { x = pos x; y = pos y }
@@ -45,17 +44,6 @@ edge_left_out d =
       ends_of_second = inr (omega (arith, ints), omega (arith, ints));
       ends_of_first = inl (omega (arith, ints), omega (arith, ints));
     })
-
--- a vertex on an edge is not marked
-vertex_on_edge_unmarked : AreOnMarked ((2 ∷ []) ∷ [] ∷ (0 ∷ []) ∷ []) (point 0 0 ∷ point 1 0 ∷ point 2 0 ∷ []) (false ∷ false ∷ false ∷ []) → ⊥
-vertex_on_edge_unmarked marked =
-    let on : IsOnSegment (point 1 0) (point 0 0) (point 2 0) = record {
-      on_line = omega (arith, ints);
-      between_x = inl (omega (arith, ints), omega (arith, ints));
-      between_y = inl (omega (arith, ints), omega (arith, ints));
-    } in
-    let h : false ≡ true = marked 0 2 1 (omega arith, (0, omega arith, refl)) (omega arith) (λ e. omega (arith, e)) (λ e. omega (arith, e)) on in
-    absurd cc
 
 -- no vertex is called loose, where two edges cross
 crossing_called_plane : IsPlaneDrawing (firm_lists [] ((1 ∷ []) ∷ (0 ∷ []) ∷ (3 ∷ []) ∷ (2 ∷ []) ∷ [])) (point 0 0 ∷ point 2 2 ∷ point 0 2 ∷ point 2 0 ∷ []) → ⊥

@@ -4,10 +4,8 @@
 mod fresh;
 mod line;
 mod order;
-mod stars;
 mod status;
 mod sweep;
 
 pub use fresh::is_among;
-pub use stars::mark_on_edges;
 pub use sweep::{is_plane_by_sweep, loose_vertices};

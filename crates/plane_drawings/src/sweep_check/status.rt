@@ -17,26 +17,6 @@ pub(crate) struct Gap {
     pub(crate) end: usize,
 }
 
-// How many of some lines the vertex is above, if it is above the lower ones and no others.
-pub(crate) fn count_below(places: &[Point], lines: &[Line], v: u16) -> usize
-    requires in_range { All IsInRange places.now }
-    requires vertex { v < length places.now }
-    requires lines { All (IsLine (length places.now)) lines.now }
-    ensures { result ≤ length lines.now }
-{
-    let mut begin = 0;
-    let mut end = lines.len();
-    while begin < end {
-        let middle = begin + (end - begin) / 2;
-        if 0 < rise(places, lines[middle], v) {
-            begin = middle + 1;
-        } else {
-            end = middle;
-        }
-    }
-    begin
-}
-
 // Whether the vertex is above line number `k`, of some lines and those behind them.
 fn is_above_at(places: &[Point], lower: &[Line], upper: &[Line], k: usize, v: u16) -> bool
     requires in_range { All IsInRange places.now }
@@ -89,7 +69,7 @@ fn run_end(status: &[Line], begin: usize, v: u16) -> usize
 }
 
 // Whether the vertex is strictly above the last line before `begin`, if there is one.
-pub(crate) fn is_above(places: &[Point], status: &[Line], begin: usize, v: u16) -> bool
+fn is_above(places: &[Point], status: &[Line], begin: usize, v: u16) -> bool
     requires in_range { All IsInRange places.now }
     requires vertex { v < length places.now }
     requires lines { All (IsLine (length places.now)) status.now }
@@ -100,7 +80,7 @@ pub(crate) fn is_above(places: &[Point], status: &[Line], begin: usize, v: u16) 
 }
 
 // Whether the vertex is strictly below the line at `end`, if there is one.
-pub(crate) fn is_below(places: &[Point], status: &[Line], end: usize, v: u16) -> bool
+fn is_below(places: &[Point], status: &[Line], end: usize, v: u16) -> bool
     requires in_range { All IsInRange places.now }
     requires vertex { v < length places.now }
     requires lines { All (IsLine (length places.now)) status.now }

@@ -1,8 +1,7 @@
 use Rattle.std.proofs.Common.{◌+◌, take, subst, arith}
 use Rattle.std.proofs.lemmas.List.{length-take-le}
 use Rattle.draw_check.specs.Spans.{IsIn}
-use Rattle.draw_check.proofs.LooseStarLemmas.{few_neighbours}
-use Rattle.draw_check.proofs.StarLemmas.{heads_below, reaches_from}
+use Rattle.draw_check.proofs.StarLemmas.{few_neighbours, heads_below, reaches_from}
 use Rattle.draw_check.proofs.blocks.reach_of.Goals as goal
 
 pub star_heads-count-requires-clause-room : goal.star_heads-count-requires-clause-room
