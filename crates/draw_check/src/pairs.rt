@@ -99,10 +99,9 @@ fn first_fault(map: &HalfMap, points: &Points, corner: Point) -> Option<Verdict>
 /// 2^20 in size. It takes no memory from the heap. Where a sweep finds the drawing plane, or plane without
 /// the edges of a few loose vertices, the time is m log n for n vertices and m edges, besides that in which
 /// the lines that the sweep meets are moved, and that in which the edges of the loose vertices are compared
-/// with all else. Else each vertex is compared with its neighbours in each star, and the edges before the
-/// first that a later one crosses with each star after them. A box of what the edges of 16 vertices reach is
-/// compared with the boxes of 16 heads each; then each edge with the box of all heads, with those of 16, and
-/// with the edges of which no line parts it.
+/// with all else. Else runs of 16 edges from one vertex are compared with boxes of 16 vertices, and where those
+/// meet, each edge with each vertex; and the edges before the first that a later one crosses are compared with
+/// runs after them, first by a box of what the edges of 16 vertices reach, then one by one.
 pub fn check_points(map: &HalfMap, points: &Points, corner: Point) -> Verdict
     requires { HasPlaces map.now.lists points.now }
     ensures { IsVerdict map.now.lists points.now corner.x corner.y result }
