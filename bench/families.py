@@ -103,6 +103,23 @@ def ladder(n):
     return pigale.grid(2, n // 2)
 
 
+def stairs(n):
+    """A strip of triangles between two hubs: the dual of steps that are cut off a rectangle from two sides in turn."""
+    step = [[v + 2, v + 1, v - 1, v - 2] for v in range(5, n + 1)]
+    lists = [[u for u in us if 5 <= u <= n] for us in step]
+    for v, us in enumerate(lists, 5):
+        if v % 2 == 0:
+            us.insert(0, 2)
+        else:
+            us[:] = [u for u in (v + 1, v + 2) if u <= n] + [3] + [u for u in (v - 2, v - 1) if 5 <= u]
+    lists[0] += [4, 1]
+    lists[1].append(1)
+    lists[-1].insert(1 - n % 2, 2 + 1 - n % 2)
+    even, odd = [v for v in range(6, n + 1, 2)], [v for v in range(5, n + 1, 2)]
+    last = [n] if n % 2 else []
+    return [[2, 6, 5, 4], [3, *last, *even[::-1], 1], [2, 4, *odd] + ([] if n % 2 else [n]), [1, 5, 3], *lists]
+
+
 def isolated(n):
     return [[] for _ in range(n)]
 
@@ -164,7 +181,8 @@ MAPS = {
     "stacked": (stacked, ALL), "stacked, shuffled": (lambda n: shuffled(stacked(n)), ALL),
     "tree": (tree, ("count", "shift")), "star": (star, ("count", "shift")), "star, hub last": (star_last, ("count", "shift")),
     "cycle": (pigale.cycle, ("count", "shift", "bars")), "prism": (prism, ALL), "grid": (square, ("count", "shift", "bars")),
-    "grid with diagonals": (crossed_square, ("count", "shift", "bars", "convex")), "ladder": (ladder, ("shift", "bars", "convex")),
+    "grid with diagonals": (crossed_square, ("count", "shift", "bars", "convex")), "stairs": (stairs, ("count", "shift", "bars", "convex")),
+    "ladder": (ladder, ("shift", "bars", "convex")),
     "wheel": (wheel, ALL), "wheel, hub last": (wheel_last, ALL), "double wheel": (double_wheel, ALL),
     "two hubs": (two_hubs, ("count", "shift", "bars", "convex")), "wheel with a pair": (wheel_with_pair, ("count", "shift", "bars", "convex")),
     "halved wheel": (halved_wheel, ("count", "shift", "bars", "convex")),

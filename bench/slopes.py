@@ -14,7 +14,6 @@ import random
 import re
 import subprocess
 import sys
-import time
 
 import count
 import families
@@ -58,6 +57,36 @@ def late_crossing(figure):
     for i, place in zip(at, reversed(places)):
         lines[i] = re.sub(r" at \S+ \S+:", f" at {place}:", lines[i])
     return "\n".join(lines).encode()
+
+
+def late_move(figure):
+    """A straight-line figure with its last vertex moved a little, to a place that is free."""
+    lines = figure.decode().split("\n")
+    at = [i for i, line in enumerate(lines) if re.match(r"\d+ at ", line)]
+    places = [tuple(map(int, re.search(r" at (\S+) (\S+):", lines[i]).groups())) for i in at]
+    width, height = (max(place[i] for place in places) for i in (0, 1))
+    (x, y), taken = places[-1], set(places)
+    ways = ((x + i, y + j) for d in range(3, 200) for i, j in ((d, 1), (-d, 1), (1, d), (1, -d)))
+    free = next((x, y) for x, y in ways if 0 <= x <= width and 0 <= y <= height and (x, y) not in taken)
+    lines[at[-1]] = re.sub(r" at \S+ \S+:", " at {} {}:".format(*free), lines[at[-1]])
+    return "\n".join(lines).encode()
+
+
+def points(n, number):
+    """A triangulation with its vertices at random places of the grid, no two at one."""
+    source = random.Random(number)
+    lists = pigale.triangulation(n, source)
+    places = [(place % (2 * n - 3), place // (2 * n - 3)) for place in source.sample(range((2 * n - 3) * (n - 1)), n)]
+    lines = [f"{v} at {x} {y}: {' '.join(map(str, us))}" for v, ((x, y), us) in enumerate(zip(places, lists), 1)]
+    return (f"figure 1 shift {n}\n" + "\n".join(lines) + "\n").encode()
+
+
+def long_path(length):
+    """A subdivision of K5 in a graph of nine vertices, whose first path goes to and fro along so many entries."""
+    first = "path 1 " + "6 7 " * (length // 4) + "8 9 " * (length // 4) + "2"
+    rest = [f"path {a} {b}" for a in range(1, 6) for b in range(a + 1, 6)][1:]
+    graph = families.graph6((9, [(a, b) for b in range(9) for a in range(b)]))
+    return "\n".join([f"figure 1 witness K5 {graph}", "branch 1 2 3 4 5", first, *rest, ""]).encode()
 
 
 def with_sides(figure, change):
@@ -177,7 +206,15 @@ def limits():
     drawn = answer("shift", one(families.stacked))
     yield "verify: a drawing of 4,095 vertices with one late crossing", cost("verify", late_crossing(drawn)), 300
     yield "verify: K(300,300) as bars with its edges in one column", cost("verify", one_column(300)), 70
-    yield "verify: a grid of 3,172 vertices between the heads of 850 hubs with 64 each", cost("verify", fans(13, 244, 850, 64, 700)), 1500
+    yield "verify: a grid of 3,172 vertices between the heads of 850 hubs with 64 each", cost("verify", fans(13, 244, 850, 64, 700)), 800
+    yield "verify: a grid of 2,002 vertices between the heads of eight hubs with 2,000 each", cost("verify", fans(13, 154, 8, 2000, 1300)), 300
+    yield "verify: a strip of 1,500 vertices, and K(400,400) behind it", cost("verify", hostile(1500, 400)), 1500
+    yield "verify: a grid of 1,560 vertices in the gaps of K(400,400)", cost("verify", gaps(13, 120, 400)), 6000
+    yield "verify: 4,095 points at random", cost("verify", points(4095, 1)), 250
+    squares = count.record(families.shuffled(families.crossed_square(4095)))
+    yield "verify: a grid with diagonals, its last two vertices exchanged", cost("verify", late_crossing(answer("shift", squares))), 100
+    yield "verify: stairs, drawn by schnyder, the last vertex moved", cost("verify", late_move(answer("schnyder", one(families.stairs)))), 100
+    yield "verify: a subdivision with a path of 262,000 entries", cost("verify", long_path(262000)), 70
     yield "verify: a convex double wheel of 4,095", cost("verify", answer("convex", one(families.double_wheel))), 30
     yield "convex: a wheel of 4,095, hub last", cost("convex", one(families.wheel_last)), 30
     yield "convex: a double wheel of 4,095", cost("convex", one(families.double_wheel)), 30
@@ -187,13 +224,10 @@ def limits():
     yield "rect: a column between two hubs, one last, 4,095", cost("rect", one(families.column_hub_last)), 40
     for name, graph in families.GRAPHS.items():
         yield f"embed: {name}", cost("embed", (families.graph6(graph) + "\n").encode()), 4 if "wheel" in name else 2.6
-
-
-def timed(job, data):
-    begun = time.perf_counter()
-    with open(put(data), "rb") as text:
-        subprocess.run([count.PROGRAM, job], stdin=text, stdout=subprocess.DEVNULL, check=False)
-    return time.perf_counter() - begun
+    yield "embed: 10,000 lines of a graph of six vertices with twelve edges", cost("embed", b"EF~w\n" * 10_000), 280
+    yield "embed: 10,000 lines of K5", cost("embed", b"D~{\n" * 10_000), 110
+    for job in ("shift", "schnyder"):
+        yield f"{job}: 10,000 records of three vertices without edges", cost(job, b"\3\0\0\0" * 10_000), 42
 
 
 def main():
@@ -201,11 +235,6 @@ def main():
         print("| Input | Million instructions | At most |\n|---|---|---|")
         for what, found, most in limits():
             print(f"| {what} | {found / 1e6:.1f}{'!' if found > most * 1e6 else ''} | {most} |", flush=True)
-        print("\n| Input | Seconds | At most |\n|---|---|---|")
-        for what, found, most in (("verify: 14.5 MB, a strip of 1,500 vertices and K(1200,1200)", timed("verify", hostile(1500, 1200)), 15),
-                                  ("verify: 14.5 MB, a grid of 1,560 vertices in the gaps of K(1200,1200)", timed("verify", gaps(13, 120, 1200)), 15),
-                                  ("embed: 4 million lines of K5", timed("embed", b"D~{\n" * (1 << 22)), 12)):
-            print(f"| {what} | {found:.1f}{'!' if found > most else ''} | {most} |", flush=True)
     else:
         slopes(sys.argv[1:])
 
