@@ -82,10 +82,6 @@ within-min n a b x y = within_either _ n b a y x
 pub within-max : (n a b : ℤ) → IsWithin n a → IsWithin n b → IsWithin n (int_max a b)
 within-max n a b x y = within_either _ n a b x y
 
--- a box without points
-pub empty_missed : (span : Span) (r p q : Point) → span.right <ℤ span.left → MissesStar span r p q
-empty_missed span r p q none u inside h = let left = inside.left in let right = inside.right in omega (arith, ints)
-
 -- how an area changes with its last point
 area_from : (p q k u : Point) → area p q u -ℤ area p q k ≡ ((q.x -ℤ p.x) *ℤ (u.y -ℤ k.y)) -ℤ ((u.x -ℤ k.x) *ℤ (q.y -ℤ p.y))
 area_from p q k u = simp ring (omega (arith, sums))

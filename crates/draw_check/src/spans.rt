@@ -1,5 +1,5 @@
 //! Boxes, and lines that part a segment from those between a point and a box.
-ghost use Rattle.std.specs.Prelude.{◌≡◌, ◌⊎◌, ◌↔◌, ◌<ℤ◌, ◌≤ℤ◌, pos, IsTrue};
+ghost use Rattle.std.specs.Prelude.{◌≡◌, if◌then◌else◌, ◌⊎◌, ◌↔◌, ◌<ℤ◌, ◌≤ℤ◌, pos, IsTrue};
 ghost use Rattle.std.specs.Bool.{OnTrue};
 ghost use Rattle.pg_plane.specs.Geometry.{area, IsOnSegment};
 ghost use Rattle.pg_plane.specs.Range.{IsInRange, IsWithin};
@@ -43,55 +43,34 @@ pub(crate) fn widened(span: Span, p: Point) -> Span
     }
 }
 
-// Whether a box has no points.
-fn is_empty(span: Span) -> bool
-    ensures { IsTrue result ↔ (span.right <ℤ span.left) }
+// Whether two numbers are less than a third.
+fn are_less(s: i32, t: i32, bound: i32) -> bool
+    ensures { IsTrue result ↔ ((s <ℤ bound) × (t <ℤ bound)) }
 {
-    span.right < span.left
+    s < bound && t < bound
 }
 
-// Whether two points are to the left of a box.
-fn are_left(span: Span, p: Point, q: Point) -> bool
-    ensures { IsTrue result ↔ ((p.x <ℤ span.left) × (q.x <ℤ span.left)) }
+// Whether two numbers are greater than a third.
+fn are_greater(s: i32, t: i32, bound: i32) -> bool
+    ensures { IsTrue result ↔ ((bound <ℤ s) × (bound <ℤ t)) }
 {
-    p.x < span.left && q.x < span.left
-}
-
-// Whether two points are to the right of a box.
-fn are_right(span: Span, p: Point, q: Point) -> bool
-    ensures { IsTrue result ↔ ((span.right <ℤ p.x) × (span.right <ℤ q.x)) }
-{
-    span.right < p.x && span.right < q.x
-}
-
-// Whether two points are below a box.
-fn are_below(span: Span, p: Point, q: Point) -> bool
-    ensures { IsTrue result ↔ ((p.y <ℤ span.bottom) × (q.y <ℤ span.bottom)) }
-{
-    p.y < span.bottom && q.y < span.bottom
-}
-
-// Whether two points are above a box.
-fn are_above(span: Span, p: Point, q: Point) -> bool
-    ensures { IsTrue result ↔ ((span.top <ℤ p.y) × (span.top <ℤ q.y)) }
-{
-    span.top < p.y && span.top < q.y
+    bound < s && bound < t
 }
 
 // Whether two points lie on one side of a box.
 fn is_apart(span: Span, p: Point, q: Point) -> bool
     ensures { OnTrue result (IsApart span p q) }
 {
-    if are_left(span, p, q) {
+    if are_less(p.x, q.x, span.left) {
         return true;
     }
-    if are_right(span, p, q) {
+    if are_greater(p.x, q.x, span.right) {
         return true;
     }
-    if are_below(span, p, q) {
+    if are_less(p.y, q.y, span.bottom) {
         return true;
     }
-    if are_above(span, p, q) {
+    if are_greater(p.y, q.y, span.top) {
         return true;
     }
     false
@@ -185,9 +164,6 @@ pub(crate) fn misses_star(span: Span, r: Point, p: Point, q: Point) -> bool
     requires q { IsInRange q }
     ensures { OnTrue result (MissesStar span r p q) }
 {
-    if is_empty(span) {
-        return true;
-    }
     if is_apart(widened(span, r), p, q) {
         return true;
     }
@@ -236,55 +212,16 @@ pub(crate) fn misses_segment(span: Span, p: Point, q: Point) -> bool
     is_strictly_left_of(span, q, p)
 }
 
-// The left end of the bottom of a box.
-fn low_left(span: Span) -> Point
+// A corner of a box: on its left or its right side, at its bottom or its top.
+fn corner(span: Span, right: bool, top: bool) -> Point
     requires { IsBoxInRange span }
-    ensures x { result.x ≡ span.left }
-    ensures y { result.y ≡ span.bottom }
+    ensures x { result.x ≡ (if right then span.right else span.left) }
+    ensures y { result.y ≡ (if top then span.top else span.bottom) }
     ensures range { IsInRange result }
 {
     Point {
-        x: span.left,
-        y: span.bottom,
-    }
-}
-
-// The right end of the bottom of a box.
-fn low_right(span: Span) -> Point
-    requires { IsBoxInRange span }
-    ensures x { result.x ≡ span.right }
-    ensures y { result.y ≡ span.bottom }
-    ensures range { IsInRange result }
-{
-    Point {
-        x: span.right,
-        y: span.bottom,
-    }
-}
-
-// The left end of the top of a box.
-fn high_left(span: Span) -> Point
-    requires { IsBoxInRange span }
-    ensures x { result.x ≡ span.left }
-    ensures y { result.y ≡ span.top }
-    ensures range { IsInRange result }
-{
-    Point {
-        x: span.left,
-        y: span.top,
-    }
-}
-
-// The right end of the top of a box.
-fn high_right(span: Span) -> Point
-    requires { IsBoxInRange span }
-    ensures x { result.x ≡ span.right }
-    ensures y { result.y ≡ span.top }
-    ensures range { IsInRange result }
-{
-    Point {
-        x: span.right,
-        y: span.top,
+        x: if right { span.right } else { span.left },
+        y: if top { span.top } else { span.bottom },
     }
 }
 
@@ -296,8 +233,8 @@ pub(crate) fn joined(span: Span, other: Span) -> Span
     ensures first { (u : Point) → IsIn span u → IsIn result u }
     ensures second { (u : Point) → IsIn other u → IsIn result u }
 {
-    let wide = widened(span, low_left(other));
-    widened(wide, high_right(other))
+    let wide = widened(span, corner(other, false, false));
+    widened(wide, corner(other, true, true))
 }
 
 // Whether a box lies on one side of another.
@@ -326,16 +263,16 @@ fn is_left_of_ways(span: Span, r: Point, other: Span) -> bool
     requires other { IsBoxInRange other }
     ensures { OnTrue result ((p : Point) → IsIn other p → IsStrictlyLeftOf span r p) }
 {
-    if !is_strictly_left_of(span, r, low_left(other)) {
+    if !is_strictly_left_of(span, r, corner(other, false, false)) {
         return false;
     }
-    if !is_strictly_left_of(span, r, low_right(other)) {
+    if !is_strictly_left_of(span, r, corner(other, true, false)) {
         return false;
     }
-    if !is_strictly_left_of(span, r, high_left(other)) {
+    if !is_strictly_left_of(span, r, corner(other, false, true)) {
         return false;
     }
-    is_strictly_left_of(span, r, high_right(other))
+    is_strictly_left_of(span, r, corner(other, true, true))
 }
 
 // Whether all points of a box are to the left of the ways from the points of another to `r`.
@@ -345,16 +282,16 @@ fn is_left_of_ways_back(span: Span, r: Point, other: Span) -> bool
     requires other { IsBoxInRange other }
     ensures { OnTrue result ((p : Point) → IsIn other p → IsStrictlyLeftOf span p r) }
 {
-    if !is_strictly_left_of(span, low_left(other), r) {
+    if !is_strictly_left_of(span, corner(other, false, false), r) {
         return false;
     }
-    if !is_strictly_left_of(span, low_right(other), r) {
+    if !is_strictly_left_of(span, corner(other, true, false), r) {
         return false;
     }
-    if !is_strictly_left_of(span, high_left(other), r) {
+    if !is_strictly_left_of(span, corner(other, false, true), r) {
         return false;
     }
-    is_strictly_left_of(span, high_right(other), r)
+    is_strictly_left_of(span, corner(other, true, true), r)
 }
 
 // Whether surely no segment in a box crosses one from `r` into another, and no point of it lies on such a one.

@@ -1,11 +1,29 @@
-use Rattle.std.proofs.Common.{inl, inr}
+use Rattle.std.proofs.Common.{FitsSigned, w32, to_z-of_z, inl, inr, rules}
 use Rattle.draw_check.proofs.spans.is_apart.Goals as goal
 
-pub returns-then-are_right : goal.returns-then-are_right
-returns-then-are_right c = let h = c.are_right.ensures.0 c.if-are_right.true in inr (inl h)
+pub returns-then-are_greater : goal.returns-then-are_greater
+returns-then-are_greater c =
+    let p : FitsSigned w32 c.args.p.x = search rules in
+    let q : FitsSigned w32 c.args.q.x = search rules in
+    let bound : FitsSigned w32 c.args.span.right = search rules in
+    let h = c.are_greater.ensures.0 c.if-are_greater.true in
+    let there = simp to_z-of_z at h in
+    inr (inl there)
 
-pub returns-then-are_below : goal.returns-then-are_below
-returns-then-are_below c = let h = c.are_below.ensures.0 c.if-are_below.true in inr (inr (inl h))
+pub returns-then-are_less-2 : goal.returns-then-are_less-2
+returns-then-are_less-2 c =
+    let p : FitsSigned w32 c.args.p.y = search rules in
+    let q : FitsSigned w32 c.args.q.y = search rules in
+    let bound : FitsSigned w32 c.args.span.bottom = search rules in
+    let h = c.are_less-2.ensures.0 c.if-are_less-2.true in
+    let there = simp to_z-of_z at h in
+    inr (inr (inl there))
 
-pub returns-then-are_above : goal.returns-then-are_above
-returns-then-are_above c = let h = c.are_above.ensures.0 c.if-are_above.true in inr (inr (inr h))
+pub returns-then-are_greater-2 : goal.returns-then-are_greater-2
+returns-then-are_greater-2 c =
+    let p : FitsSigned w32 c.args.p.y = search rules in
+    let q : FitsSigned w32 c.args.q.y = search rules in
+    let bound : FitsSigned w32 c.args.span.top = search rules in
+    let h = c.are_greater-2.ensures.0 c.if-are_greater-2.true in
+    let there = simp to_z-of_z at h in
+    inr (inr (inr there))

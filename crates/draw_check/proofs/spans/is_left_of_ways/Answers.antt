@@ -10,15 +10,15 @@ returns c =
     let other = c.args.other in
     let r = c.args.r in
     OnTrue_from c.is_strictly_left_of-4.result ((p : Point) → IsIn other p → IsStrictlyLeftOf span r p) (λ t.
-    ways_left span other c.low_left.result c.low_right.result c.high_left.result c.high_right.result r
+    ways_left span other c.corner.result c.corner-2.result c.corner-3.result c.corner-4.result r
     (record {
-      low_left_x = c.low_left.ensures.x;
-      low_left_y = c.low_left.ensures.y;
-      low_right_x = c.low_right.ensures.x;
-      low_right_y = c.low_right.ensures.y;
-      high_left_x = c.high_left.ensures.x;
-      high_left_y = c.high_left.ensures.y;
-      high_right_x = c.high_right.ensures.x;
-      high_right_y = c.high_right.ensures.y;
+      low_left_x = c.corner.ensures.x;
+      low_left_y = c.corner.ensures.y;
+      low_right_x = c.corner-2.ensures.x;
+      low_right_y = c.corner-2.ensures.y;
+      high_left_x = c.corner-3.ensures.x;
+      high_left_y = c.corner-3.ensures.y;
+      high_right_x = c.corner-4.ensures.x;
+      high_right_y = c.corner-4.ensures.y;
     })
     c.if-not-is_strictly_left_of.ensures c.if-not-is_strictly_left_of-2.ensures c.if-not-is_strictly_left_of-3.ensures (OnTrue_at t c.is_strictly_left_of-4.ensures))

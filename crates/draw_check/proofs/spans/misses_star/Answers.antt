@@ -1,10 +1,7 @@
 use Rattle.std.proofs.lemmas.Bool.{OnTrue_at, OnTrue_from}
 use Rattle.draw_check.specs.Spans.{MissesStar}
-use Rattle.draw_check.proofs.SpanLemmas.{apart_uncrossed, empty_missed, missed_back}
+use Rattle.draw_check.proofs.SpanLemmas.{apart_uncrossed, missed_back}
 use Rattle.draw_check.proofs.spans.misses_star.Goals as goal
-
-pub returns-then-is_empty : goal.returns-then-is_empty
-returns-then-is_empty c = empty_missed c.args.span c.args.r c.args.p c.args.q (c.is_empty.ensures.0 c.if-is_empty.true)
 
 pub returns-then-is_apart : goal.returns-then-is_apart
 returns-then-is_apart c = λ u inside.
