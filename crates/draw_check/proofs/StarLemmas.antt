@@ -144,21 +144,7 @@ module _ (lists : Lists) (points : List Point) where
               ];
         }
 
-  -- no edge was done
-  pub best_at_first : IsBest lists points 0 [] 0 None
-  best_at_first = record {
-    crossed = tt;
-    none = λ a b c d ahead done x. elim done [ inl l ↦ absurd (omega arith) | inr (same, i, l, m, is) ↦ absurd (omega arith) ];
-  }
-
   module _ (v : ℕ) (heads : List ℕ) where
-    -- none of a star was
-    pub best_begun : (best : Option Ends) → IsBest lists points v [] 0 best → IsBest lists points v heads 0 best
-    best_begun best h = record {
-      crossed = h.crossed;
-      none = λ a b c d ahead done x. elim done [ inl l ↦ h.none a b c d ahead (inl l) x | inr (same, i, l, m, is) ↦ absurd (omega arith) ];
-    }
-
     -- a run of a star more
     pub best_more : (old new : Option Ends) (k e : ℕ) → k ≤ e → e ≤ length heads → IsBest lists points v heads k old → IsLowered lists points v (run heads k e) old new → IsBest lists points v heads e new
     best_more old new k e order within h low = record {

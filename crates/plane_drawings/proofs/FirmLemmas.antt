@@ -2,7 +2,6 @@
 use Rattle.std.proofs.Common.{◌≡◌, ◌↔◌, ◌&&◌, ℕ, ◌<◌, Bool, true, false, not, List, [], length, get_or, refl, sym, ap, subst, ◌∙◌}
 use Rattle.std.specs.List.{filter, All, Contains}
 use Rattle.std.specs.List.Sorted.{IsPermutation}
-use Rattle.std.proofs.lemmas.List.Elements.{Contains-get_or}
 use Rattle.map_lists.specs.Lists.{Lists}
 use Rattle.map_theory.specs.Maps.{IsSimpleMap, list_of}
 use Rattle.plane_laws.specs.Kept.{IsKeptMap}
@@ -65,14 +64,3 @@ module _ (lists : Lists) (loose order ranks : List ℕ) (simple : IsSimpleMap li
     firm_plane law rises status sweep =
         plane_from_sweep firm points places order ranks (count ∙ same_long) (order_long ∙ same_long) (ranks_long ∙ same_long) inverse placed law firm_simple rises status
         (subst (λ n. IsSweep (place places) (lines_of ranks firm) n status) same_long sweep)
-
--- the same with no loose vertex
-module _ (lists : Lists) (order ranks : List ℕ) (simple : IsSimpleMap lists) (order_long : length order ≡ length lists) (ranks_long : length ranks ≡ length lists) (inverse : AreInverse order ranks) (i : ℕ) (l : i < length lists) (front es : List Line) (is : front ≡ lines_from ranks (get_or order i 0) (filter (is_firm [] (get_or order i 0)) (list_of lists (get_or order i 0)))) (p : IsPermutation front es) where
-  pub star_whole : (e : Line) → Contains es e ↔ (Contains (lines_of ranks lists) e × (e.low ≡ i))
-  star_whole = subst (λ lists. (e : Line) → Contains es e ↔ (Contains (lines_of ranks lists) e × (e.low ≡ i))) (firm_none lists) (firm_whole lists [] order ranks simple order_long ranks_long inverse i l front es is p)
-
-  pub star_lines : All (IsLine (length lists)) es
-  star_lines = firm_lines lists [] order ranks simple order_long ranks_long inverse i l front es is p
-
-  pub star_low : All (λ e. e.low ≡ i) es
-  star_low k d h = ((star_whole (get_or es k d)).0 (Contains-get_or es k d h)).1
