@@ -49,16 +49,6 @@ fn first_pair(map: &HalfMap, points: &Points) -> Option<Verdict>
     first_meeting(map, points, None)
 }
 
-// Finds the first such pair, where without the edges of the excluded vertices the drawing is plane.
-fn first_pair_by_loose(map: &HalfMap, points: &Points, loose: &[u16]) -> Option<Verdict>
-    requires drawn { IsDrawn map.now points.now }
-    requires plane { IsPlaneDrawing (firm_lists loose.now map.now.lists) points.now }
-    ensures { MatchOption result (NoneShareAPlace map.now.lists points.now × NoneOnEdge map.now.lists points.now × NoneCross map.now.lists points.now)
-        (λ verdict. (width height : ℤ) → AllInGrid map.now.lists points.now width height → IsVerdict map.now.lists points.now width height verdict) }
-{
-    first_meeting(map, points, Some(loose))
-}
-
 // Finds the first such pair. A sweep that finds the drawing plane, or plane without the edges of a few vertices, spares
 // the search over all pairs.
 fn first_pair_by_sweep(map: &HalfMap, points: &Points) -> Option<Verdict>
@@ -69,7 +59,7 @@ fn first_pair_by_sweep(map: &HalfMap, points: &Points) -> Option<Verdict>
     let mut loose = [0; 8];
     match loose_vertices(map, points, &mut loose) {
         Some(0) => None,
-        Some(count) => first_pair_by_loose(map, points, &loose[..count]),
+        Some(count) => first_meeting(map, points, Some(&loose[..count])),
         None => first_pair(map, points),
     }
 }

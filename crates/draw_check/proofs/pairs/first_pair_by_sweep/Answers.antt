@@ -5,6 +5,9 @@ use Rattle.draw_check.specs.declared.edges.Probe.{Probe}
 use Rattle.draw_check.proofs.LooseLemmas.{IsClear, apart_but_loose, off_but_loose, uncrossed_but_loose}
 use Rattle.draw_check.proofs.pairs.first_pair_by_sweep.Goals as goal
 
+pub first_meeting-requires-clause-apart : goal.first_meeting-requires-clause-apart
+first_meeting-requires-clause-apart c = apart_but_loose c.args.map.now.lists c.args.points.now (take c.in-Some.count c.loose_vertices.new.loose) c.requires.known.simple c.in-Some.ensures.plane
+
 pub returns-in-Some-eq0 : goal.returns-in-Some-eq0
 returns-in-Some-eq0 c =
     let lists = c.args.map.now.lists in
