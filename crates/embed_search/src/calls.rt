@@ -1,5 +1,6 @@
 //! The calls.
-ghost use Rattle.std.specs.Prelude.{◌≡◌, length, IfOk, IfSome};
+ghost use Rattle.std.specs.Prelude.{◌≡◌, length, IfOk, MatchOption};
+ghost use Rattle.left_right_check.specs.Ties.{HasNoMap};
 
 use crate::edges::Edges;
 use crate::kernel::Kernel;
@@ -8,6 +9,7 @@ use crate::odd::OddRing;
 use crate::placing::{Places, lists_of};
 use crate::row::NONE;
 use crate::search::Search;
+use crate::shown::Forest;
 use crate::shrink::{passes, shrink};
 use crate::signs::settle_all;
 use crate::trace::traced;
@@ -20,11 +22,12 @@ use std::alloc::{AllocError, Global};
 #[derive(Drop)]
 pub struct Tables {
     edges: Edges,
-    links: Links,
-    search: Search,
+    pub(crate) links: Links,
+    pub(crate) search: Search,
     places: Places,
-    ring: OddRing,
+    pub(crate) ring: OddRing,
     kernel: Kernel,
+    pub(crate) forest: Forest,
 }
 
 impl Tables {
@@ -37,6 +40,7 @@ impl Tables {
             places: Places::new(),
             ring: OddRing::new(),
             kernel: Kernel::new(),
+            forest: Forest::new(),
         }
     }
 
@@ -61,7 +65,11 @@ impl Tables {
             self.links.chain_edge(&self.edges, edge);
         }
         self.search.root = 0;
-        passes(&self.links, &mut self.search)
+        if passes(&self.links, &mut self.search) {
+            return true;
+        }
+        self.ring.find(&self.links, &self.search);
+        false
     }
 
     // Leaves edges alone that are a subdivision of K5 or K3,3, after a conflict.
@@ -78,16 +86,17 @@ impl Tables {
         self.kernel.link_paths(&mut self.links, &self.edges);
     }
 
-    /// Rotation lists for a graph, or none where it seems to be nonplanar. It fails only for want of memory.
+    /// Rotation lists for a graph, or none where it has no map of genus zero. Lists are not checked: a graph without a map
+    /// may have some too, though no such graph is known. It fails only for want of memory.
     pub fn planar_lists(
         &mut self,
         alloc: Global,
         graph: &Graph,
     ) -> Result<Option<Rotations>, AllocError>
-        ensures { IfOk result (λ found. IfSome found (λ lists. length lists ≡ graph.now.n)) }
+        ensures { IfOk result (λ found. MatchOption found (HasNoMap graph.now) (λ lists. length lists ≡ graph.now.n)) }
     {
         self.begin(graph);
-        if self.edges.are_many() || !self.passes() {
+        if !self.passes() && self.is_shown(graph) {
             return Ok(None);
         }
         settle_all(&self.links, &mut self.search);
@@ -116,9 +125,10 @@ impl Tables {
     }
 }
 
-/// Rotation lists for a graph, or none where it seems to be nonplanar. It fails only for want of memory.
+/// Rotation lists for a graph, or none where it has no map of genus zero. Lists are not checked: a graph without a map
+/// may have some too, though no such graph is known. It fails only for want of memory.
 pub fn planar_lists(alloc: Global, graph: &Graph) -> Result<Option<Rotations>, AllocError>
-    ensures { IfOk result (λ found. IfSome found (λ lists. length lists ≡ graph.now.n)) }
+    ensures { IfOk result (λ found. MatchOption found (HasNoMap graph.now) (λ lists. length lists ≡ graph.now.n)) }
 {
     Tables::new().planar_lists(alloc, graph)
 }

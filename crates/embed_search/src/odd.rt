@@ -28,8 +28,8 @@ pub struct OddRing {
     first: ByArc,
     // for each end of a tie the next of its edge
     next: ByDart,
-    // for each return edge the end of a tie along which it was reached
-    way: ByArc,
+    /// For each return edge the end of a tie along which it was reached.
+    pub way: ByArc,
     // for each return edge whether it is on the side of the one searched from, as 0 or 1
     side: ByArc,
     // the return edges that were reached, in turn
@@ -46,6 +46,10 @@ pub struct OddRing {
     ends: ByVertex,
     /// For each edge how it is marked, or 0.
     pub marks: ByEdge,
+    /// The return edge at which the ring begins.
+    pub one: u32,
+    /// The one at which it ends, on the other side.
+    pub other: u32,
 }
 
 impl OddRing {
@@ -64,6 +68,8 @@ impl OddRing {
             cover: ByVertex::new(),
             ends: ByVertex::new(),
             marks: ByEdge::new(),
+            one: NONE,
+            other: NONE,
         }
     }
 
@@ -188,15 +194,7 @@ impl OddRing {
 
     // Marks that to the lowpoint of the dart of a vertex along which an edge returns.
     fn mark_branch(&mut self, links: &Links, search: &Search, edge: u32, vertex: u32) {
-        let mut dart = edge;
-        for _ in 0..links.vertices {
-            let tail = links.tail(dart);
-            if tail == vertex {
-                break;
-            }
-            dart = search.parent.get(tail);
-        }
-        self.mark_lowest(links, search, dart);
+        self.mark_lowest(links, search, branch_of(links, search, edge, vertex));
     }
 
     // Marks what makes a tie.
@@ -223,7 +221,7 @@ impl OddRing {
                 return;
             }
             self.mark_tie(links, search, end >> 1);
-            edge = far_edge(&search.ties, end ^ 1);
+            edge = near_edge(&search.ties, end);
         }
     }
 
@@ -240,19 +238,44 @@ impl OddRing {
         }
     }
 
-    /// Marks edges, together nonplanar, that show the conflict of a search.
-    pub fn mark_conflict(&mut self, links: &Links, search: &Search) {
+    /// Finds the return edges that show the conflict of a search: a ring of ties from one to another on its other side,
+    /// which the conflict binds to one side.
+    pub fn find(&mut self, links: &Links, search: &Search) {
         self.link_ties(links, &search.ties);
         self.set_bounds(search);
+        self.one = self.nearest(links, search, search.odd);
+        self.other = self.nearest(links, search, self.one);
+    }
+
+    /// Marks edges, together nonplanar, that show the conflict for which the ring was found.
+    pub fn mark_conflict(&mut self, links: &Links, search: &Search) {
         self.cover.fill(NONE);
         self.ends.fill(0);
-        let one = self.nearest(links, search, search.odd);
-        let other = self.nearest(links, search, one);
+        let (one, other) = (self.one, self.other);
         self.mark(links, search, one);
         self.mark_ties(links, search, other);
         self.mark_bound(links, search, one, other);
         self.mark_ends(links, search);
     }
+}
+
+/// The dart of a vertex along which an edge returns.
+pub fn branch_of(links: &Links, search: &Search, edge: u32, vertex: u32) -> u32 {
+    let mut dart = edge;
+    for _ in 0..links.vertices {
+        let tail = links.tail(dart);
+        if tail == vertex {
+            break;
+        }
+        dart = search.parent.get(tail);
+    }
+    dart
+}
+
+/// The return edge from which an end of a tie leads.
+#[inline(always)]
+pub fn near_edge(ties: &Ties, end: u32) -> u32 {
+    far_edge(ties, end ^ 1)
 }
 
 // The return edge to which an end of a tie leads.

@@ -37,6 +37,7 @@ fn fails_without(
     if passes(links, search) {
         return false;
     }
+    ring.find(links, search);
     ring.mark_conflict(links, search);
     kernel.mark(&ring.marks);
     kernel.keep_marked(links);

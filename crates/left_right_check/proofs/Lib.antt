@@ -1,0 +1,3 @@
+-- What the check rests on.
+pub mod TieLemmas
+mod Refused
