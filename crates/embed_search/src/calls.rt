@@ -15,6 +15,7 @@ use crate::signs::settle_all;
 use crate::trace::traced;
 use graph6_text::Graph;
 use kuratowski::Witness;
+use left_right_check::is_k5;
 use map_lists::Rotations;
 use std::alloc::{AllocError, Global};
 
@@ -96,6 +97,9 @@ impl Tables {
         ensures { IfOk result (λ found. MatchOption found (HasNoMap graph.now) (λ lists. length lists ≡ graph.now.n)) }
     {
         self.begin(graph);
+        if is_k5(graph) {
+            return Ok(None);
+        }
         if !self.passes() && self.is_shown(graph) {
             return Ok(None);
         }

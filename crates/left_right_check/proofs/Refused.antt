@@ -1,5 +1,5 @@
 -- What wrong bodies would give.
-use Rattle.std.proofs.Common.{◌≡◌, [], ◌∷◌, refl, arith}
+use Rattle.std.proofs.Common.{[], ◌∷◌, refl, arith}
 use Rattle.classes.specs.Classes.{merge}
 use Rattle.map_lists.specs.Lists.{Lists}
 use Rattle.map_theory.specs.Maps.{IsSimpleMap, IsPlane, entry_after, face_count, component_count}

@@ -2,8 +2,10 @@
 //! forks, of which two would have to be both on one side and on different sides.
 #![tactic(auto)]
 
+mod five;
 mod forests;
 mod ties;
 
+pub use five::is_k5;
 pub use forests::{ReturnEdge, is_forest};
 pub use ties::{Fork, Pair, are_alike, are_opposite};
