@@ -1,7 +1,7 @@
 use Rattle.std.proofs.Common.{sym, subst, refl, nat_eq}
 use Rattle.left_right_check.specs.Ties.{AreTied}
 use Rattle.left_right_check.proofs.TieLemmas.{AreTied-more}
-use Rattle.embed_search.proofs.calls.Tables.start_of_ring.Goals as goal
+use Rattle.left_right_test.proofs.test.LeftRightTest.start_of_ring.Goals as goal
 
 pub loop-preserved : goal.loop-preserved
 loop-preserved c =

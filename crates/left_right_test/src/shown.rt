@@ -3,11 +3,11 @@
 ghost use Rattle.std.specs.Prelude.{◌≡◌, true, false, IfSome, IsTrue};
 ghost use Rattle.left_right_check.specs.Ties.{IsForestOf, AreTied, HasNoMap, turned};
 
-use crate::calls::Tables;
 use crate::links::Links;
-use crate::odd::{branch_of, near_edge};
+use crate::ring::{branch_of, near_edge};
 use crate::row::{ByVertex, NONE};
 use crate::search::Search;
+use crate::test::LeftRightTest;
 use graph6_text::Graph;
 use left_right_check::{Fork, Pair, ReturnEdge, are_alike, are_opposite, is_forest};
 
@@ -79,7 +79,7 @@ fn flipped(turn: bool, side: bool) -> bool
     if turn { !side } else { side }
 }
 
-impl Tables {
+impl LeftRightTest {
     // Whether two edges that return by the first of two darts of a vertex are on one side, since they end below the
     // lowpoint of the second.
     fn alike(

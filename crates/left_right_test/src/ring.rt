@@ -1,26 +1,13 @@
-//! The edges that show a conflict: return edges each tied to the next, which come back to the first one on the
-//! other side, with what ties them, and the ways along which they return.
+//! The return edges that show a conflict: each tied to the next, which come back to the first one on the other side.
 use crate::links::Links;
-use crate::row::{ByArc, ByDart, ByEdge, ByVertex, NONE, plus, twice};
+use crate::row::{ByArc, ByDart, ByEdge, NONE, plus, twice};
 use crate::search::Search;
 use crate::ties::Ties;
-
-/// The mark of an edge of the part.
-pub const IN_PART: u32 = 1;
-
-/// A mark beside: a return edge ends at the upper end of this edge of the tree.
-pub const ENDS_ABOVE: u32 = 2;
-
-/// A mark beside: a return edge begins at the lower end of this edge of the tree.
-pub const BEGINS_BELOW: u32 = 4;
-
-/// The mark of a return edge of the part.
-pub const RETURNS: u32 = 9;
 
 // What stands for no side.
 const UNSEEN: u32 = 2;
 
-/// What the search among ties works in, and the edges that it marks.
+/// What the search among ties works in, and what it found.
 #[derive(Drop)]
 pub struct OddRing {
     // for each return edge the first of its ends of ties; end 2k goes along tie k from its one edge, 2k + 1 from the
@@ -40,12 +27,6 @@ pub struct OddRing {
     low: u32,
     // below which height
     high: u32,
-    // for each vertex the least height to which the way up from it is marked, or none
-    cover: ByVertex,
-    // for each vertex what is marked of the return edges that end at it or leave it
-    ends: ByVertex,
-    /// For each edge how it is marked, or 0.
-    pub marks: ByEdge,
     /// The return edge at which the ring begins.
     pub one: u32,
     /// The one at which it ends, on the other side.
@@ -65,9 +46,6 @@ impl OddRing {
             reached: 0,
             low: 0,
             high: 0,
-            cover: ByVertex::new(),
-            ends: ByVertex::new(),
-            marks: ByEdge::new(),
             one: NONE,
             other: NONE,
         }
@@ -84,7 +62,6 @@ impl OddRing {
     fn link_ties(&mut self, links: &Links, ties: &Ties) {
         for edge in 0..links.darts / 2 {
             self.first.set(twice(edge), NONE);
-            self.marks.set(edge, 0);
         }
         for tie in 0..ties.count {
             self.put_end(twice(tie), ties.one.get(tie));
@@ -156,88 +133,6 @@ impl OddRing {
         NONE
     }
 
-    // Marks a return edge, and the way along which it returns.
-    fn mark(&mut self, links: &Links, search: &Search, edge: u32) {
-        let end = links.head.get(edge);
-        let height = search.height.get(end);
-        let mut vertex = links.tail(edge);
-        self.marks.set(edge >> 1, RETURNS);
-        self.ends.set(end, self.ends.get(end) | ENDS_ABOVE);
-        self.ends.set(vertex, self.ends.get(vertex) | BEGINS_BELOW);
-        for _ in 0..links.vertices {
-            if self.cover.get(vertex) <= height || vertex == end {
-                return;
-            }
-            self.cover.set(vertex, height);
-            let parent = search.parent.get(vertex);
-            self.marks.set(parent >> 1, IN_PART);
-            vertex = links.tail(parent);
-        }
-    }
-
-    // Marks at each edge of the ways what of the marked return edges is at its ends.
-    fn mark_ends(&mut self, links: &Links, search: &Search) {
-        for vertex in 0..links.vertices {
-            if self.cover.get(vertex) != NONE {
-                let parent = search.parent.get(vertex);
-                let above = self.ends.get(links.tail(parent)) & ENDS_ABOVE;
-                let below = self.ends.get(vertex) & BEGINS_BELOW;
-                self.marks.set(parent >> 1, IN_PART | above | below);
-            }
-        }
-    }
-
-    // Marks the return edge to the lowpoint of a dart.
-    fn mark_lowest(&mut self, links: &Links, search: &Search, dart: u32) {
-        self.mark(links, search, search.lowpt_edge.get(dart));
-    }
-
-    // Marks that to the lowpoint of the dart of a vertex along which an edge returns.
-    fn mark_branch(&mut self, links: &Links, search: &Search, edge: u32, vertex: u32) {
-        self.mark_lowest(links, search, branch_of(links, search, edge, vertex));
-    }
-
-    // Marks what makes a tie.
-    fn mark_tie(&mut self, links: &Links, search: &Search, tie: u32) {
-        let one = search.ties.one.get(tie);
-        let dart = search.ties.dart.get(tie);
-        let vertex = links.tail(dart);
-        self.mark(links, search, one);
-        self.mark(links, search, search.ties.other.get(tie));
-        if search.ties.turn.get(tie) == 0 {
-            self.mark_lowest(links, search, search.leaving.get(vertex));
-        } else {
-            self.mark_lowest(links, search, dart);
-            self.mark_branch(links, search, one, vertex);
-        }
-    }
-
-    // Marks what makes the ties along which a return edge was reached.
-    fn mark_ties(&mut self, links: &Links, search: &Search, edge: u32) {
-        let mut edge = edge;
-        for _ in 0..search.ties.count {
-            let end = self.way.get(edge);
-            if end == NONE {
-                return;
-            }
-            self.mark_tie(links, search, end >> 1);
-            edge = near_edge(&search.ties, end);
-        }
-    }
-
-    // Marks what binds two return edges to one side.
-    fn mark_bound(&mut self, links: &Links, search: &Search, one: u32, other: u32) {
-        let vertex = search.failed;
-        if search.meeting == NONE {
-            self.mark_lowest(links, search, search.leaving.get(vertex));
-        } else {
-            self.mark(links, search, search.meeting);
-            self.mark_lowest(links, search, search.failed_dart);
-            self.mark_branch(links, search, one, vertex);
-            self.mark_branch(links, search, other, vertex);
-        }
-    }
-
     /// Finds the return edges that show the conflict of a search: a ring of ties from one to another on its other side,
     /// which the conflict binds to one side.
     pub fn find(&mut self, links: &Links, search: &Search) {
@@ -245,17 +140,6 @@ impl OddRing {
         self.set_bounds(search);
         self.one = self.nearest(links, search, search.odd);
         self.other = self.nearest(links, search, self.one);
-    }
-
-    /// Marks edges, together nonplanar, that show the conflict for which the ring was found.
-    pub fn mark_conflict(&mut self, links: &Links, search: &Search) {
-        self.cover.fill(NONE);
-        self.ends.fill(0);
-        let (one, other) = (self.one, self.other);
-        self.mark(links, search, one);
-        self.mark_ties(links, search, other);
-        self.mark_bound(links, search, one, other);
-        self.mark_ends(links, search);
     }
 }
 
