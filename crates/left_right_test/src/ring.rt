@@ -58,11 +58,13 @@ impl OddRing {
         self.first.set(edge, end);
     }
 
-    // Lists the ties of each return edge.
+    // Lists the ties of each return edge, none of which is reached.
     fn link_ties(&mut self, links: &Links, ties: &Ties) {
         for edge in 0..links.darts / 2 {
             self.first.set(twice(edge), NONE);
+            self.side.set(twice(edge), UNSEEN);
         }
+        self.reached = 0;
         for tie in 0..ties.count {
             self.put_end(twice(tie), ties.one.get(tie));
             self.put_end(twice(tie) ^ 1, ties.other.get(tie));
@@ -113,12 +115,16 @@ impl OddRing {
         }
     }
 
-    // The nearest return edge that the conflict binds and that is on the other side; or none.
-    fn nearest(&mut self, links: &Links, search: &Search, start: u32) -> u32 {
-        for edge in 0..links.darts / 2 {
-            self.side.set(twice(edge), UNSEEN);
+    // Forgets which return edges were reached.
+    fn forget_reached(&mut self) {
+        for place in 0..self.reached {
+            self.side.set(self.queue.get(place), UNSEEN);
         }
         self.reached = 0;
+    }
+
+    // The nearest return edge that the conflict binds and that is on the other side; or none.
+    fn nearest(&mut self, links: &Links, search: &Search, start: u32) -> u32 {
         self.reach(start, NONE, 0);
         for place in 0..links.darts / 2 {
             if place >= self.reached {
@@ -139,6 +145,7 @@ impl OddRing {
         self.link_ties(links, &search.ties);
         self.set_bounds(search);
         self.one = self.nearest(links, search, search.odd);
+        self.forget_reached();
         self.other = self.nearest(links, search, self.one);
     }
 }
