@@ -19,7 +19,8 @@ ends graph u v is h = elim (cases_lt u v) [
       (omega (arith, c.2), λ e. let m = c.1 in omega (arith, e, m))
 ]
 
-proper : (graph : EdgeGraph) → IsGraph graph → 3 ≤ graph.n → IsProper graph
+-- a graph is one of the theorem's
+pub proper : (graph : EdgeGraph) → IsGraph graph → 3 ≤ graph.n → IsProper graph
 proper graph is some = record { some = omega arith; within = λ u v h. (ends graph u v is h).0; two = λ u v h. (ends graph u v is h).1 }
 
 pub some_figure : MapOrWitness → SomeSchnyderFigure → SomeEmbedFigure

@@ -1,15 +1,21 @@
 -- When a graph has a witness, and when one stays.
-use Rattle.std.proofs.Common.{◌≡◌, ◌<◌, ℕ, Bool, true, false, refl, sym, subst, inl, inr}
-use Rattle.std.specs.Prelude.{Result, Ok, Option, Some, None, IfOk, MatchOption, IsTrue, ◌↔◌}
+use Rattle.std.proofs.Common.{◌≡◌, ◌<◌, ◌≤◌, ℕ, Bool, true, false, refl, sym, subst, inl, inr}
+use Rattle.std.specs.Prelude.{Result, Ok, Option, Some, None, IfOk, IfSome, MatchOption, IsTrue, ◌↔◌}
 use Rattle.std.proofs.lemmas.Bool.{true≢false}
 use Rattle.map_lists.specs.Lists.{Lists}
 use Rattle.graph6_text.specs.Graphs.{EdgeGraph, IsGraph}
 use Rattle.embed_contraction.specs.Traces.{HasWitness}
 use Rattle.embed_theorem.specs.Expanded.{IsMapOf}
 use Rattle.embed_theorem.proofs.Refuted.{witnesses_refute}
+use Rattle.embed_theorem.proofs.Induction.{map_or_witness}
 use Rattle.embed_witnesses.proofs.ContractedLemmas.{edge_within}
 use Rattle.embed_witnesses.specs.Kept.{HasPlain, IsKept}
 use Rattle.embed_witnesses.proofs.Kept.{plain_or_kept}
+use Rattle.embed_graph.specs.Found.{IsTested}
+use Rattle.embed_graph.specs.declared.answer.FoundMap.{FoundMap}
+use Rattle.embed_graph.specs.declared.answer.Tested.{Tested}
+use Rattle.embed_graph.specs.declared.answer.Tested.TheVariants.{Map, NoMap}
+use Rattle.embed_graph.proofs.Figured.{proper}
 
 -- a map and a witness are not both there
 map_refutes : (graph : EdgeGraph) (map : Lists) → IsMapOf map graph → ¬ HasWitness graph
@@ -28,6 +34,23 @@ told_by_map graph answer map result h e r = subst (Tells graph) (sym r) ((λ t. 
 
 pub told_by_none : {E : Type 0} (graph : EdgeGraph) (answer : Option Lists) (result : Result Bool E) → IsAnswer graph answer → answer ≡ None → result ≡ Ok true → Tells graph result
 told_by_none graph answer result h e r = subst (Tells graph) (sym r) ((λ t. subst (IsAnswer graph) e h), λ w. refl)
+
+-- a graph that has no map has a witness
+pub witness_where_none : (graph : EdgeGraph) → IsGraph graph → 3 ≤ graph.n → ((lists : Lists) → ¬ IsMapOf lists graph) → HasWitness graph
+witness_where_none graph known some none = elim (map_or_witness graph (proper graph known some)) [ inl w ↦ w | inr m ↦ absurd (none m.0 m.1) ]
+
+-- whether it has one, if that is told
+abbrev MayTell : {E : Type 0} → EdgeGraph → Result (Option Bool) E → Type 0
+MayTell graph result = IfOk result (λ told. IfSome told (λ yes. IsTrue yes ↔ HasWitness graph))
+
+pub told_by_test : {E : Type 0} (graph : EdgeGraph) (answer : Tested) (found : FoundMap) (result : Result (Option Bool) E) → IsTested graph answer → answer ≡ Map found → result ≡ Ok (Some false) → MayTell graph result
+told_by_test graph answer found result h e r = subst (MayTell graph) (sym r) ((λ t. absurd (true≢false (sym t))), λ w. absurd (map_refutes graph found.lists (subst (IsTested graph) e h).map w))
+
+pub told_by_refusal : {E : Type 0} (graph : EdgeGraph) (answer : Tested) (result : Result (Option Bool) E) → IsGraph graph → 3 ≤ graph.n → IsTested graph answer → answer ≡ NoMap → result ≡ Ok (Some true) → MayTell graph result
+told_by_refusal graph answer result known some h e r = subst (MayTell graph) (sym r) ((λ t. witness_where_none graph known some (subst (IsTested graph) e h)), λ w. refl)
+
+pub told_by_nothing : {E : Type 0} (graph : EdgeGraph) (result : Result (Option Bool) E) → result ≡ Ok None → MayTell graph result
+told_by_nothing graph result r = subst (MayTell graph) (sym r) tt
 
 -- the ends of an edge that keeps a witness are vertices
 pub kept_within : (graph : EdgeGraph) (a b : ℕ) → IsGraph graph → IsKept graph a b → (a < graph.n) × (b < graph.n)

@@ -1,12 +1,13 @@
 //! The answer.
 ghost use Rattle.std.specs.Prelude.{◌≡◌, ◌<◌, ◌≤◌, length, IfOk, IfSome, IsTrue};
+ghost use Rattle.map_lists.specs.Lists.{Lists};
 ghost use Rattle.kuratowski.specs.Witnesses.{IsWitness};
 ghost use Rattle.conn_parts.specs.Counted.{IsPlaneMap};
 ghost use Rattle.embed_theorem.specs.Expanded.{IsMapOf};
 ghost use Rattle.embed_graph.specs.Embeddings.{IsEmbedding};
-ghost use Rattle.embed_graph.specs.Found.{IsFoundMap};
+ghost use Rattle.embed_graph.specs.Found.{IsFoundMap, IsTested};
 
-use crate::contracted_embeddings::embed_by_contraction;
+use crate::contracted_embeddings::{contracted_witness, embed_by_contraction};
 use crate::graph_embeddings::Embedding;
 use crate::marks::has_edges;
 use conn_parts::{CountedMap, plane_map};
@@ -50,18 +51,32 @@ fn checked_map(
     }
 }
 
-// The map that the search finds, if it is one.
-pub(crate) fn found_map(
+/// What the left-right test tells of a graph.
+#[derive(Drop)]
+pub enum Tested {
+    /// A map of it.
+    Map(FoundMap),
+    /// It has no map of genus zero.
+    NoMap,
+    /// Nothing that is known to be right. No graph is known for which this comes.
+    Unsettled,
+}
+
+// What the test tells of a graph, its lists checked.
+pub(crate) fn test_graph(
     alloc: Global,
     tables: &mut Tables,
     graph: &Graph,
-) -> Result<Option<FoundMap>, AllocError>
+) -> Result<Tested, AllocError>
     requires { 3 ≤ graph.now.n }
-    ensures { IfOk result (λ found. IfSome found (IsFoundMap graph.now)) }
+    ensures { IfOk result (IsTested graph.now) }
 {
     match tables.planar_lists(alloc, graph)? {
-        Some(lists) => checked_map(alloc, graph, lists),
-        None => Ok(None),
+        Some(lists) => match checked_map(alloc, graph, lists)? {
+            Some(found) => Ok(Tested::Map(found)),
+            None => Ok(Tested::Unsettled),
+        },
+        None => Ok(Tested::NoMap),
     }
 }
 
@@ -85,8 +100,26 @@ fn found_witness(
     }
 }
 
-// A witness, where the search that found no map finds one, or the answer by contracted edges.
+// A witness of a graph that the test refused: the one that its search finds, or one by contracted edges.
 pub(crate) fn refuted(
+    alloc: Global,
+    tables: &mut Tables,
+    graph: &Graph,
+) -> Result<Witness, AllocError>
+    requires some { 3 ≤ graph.now.n }
+    requires none { (lists : Lists) → ¬ IsMapOf lists graph.now }
+    ensures { IfOk result (λ w. IsWitness graph.now w.kind w.branch w.paths) }
+{
+    let _n = graph.n();
+    match found_witness(alloc, tables, graph)? {
+        Some(witness) => Ok(witness),
+        // no graph is known for which this comes
+        None => contracted_witness(alloc, graph),
+    }
+}
+
+// The answer for a graph of which the test told nothing: a witness, where its search finds one, or by contracted edges.
+pub(crate) fn settled(
     alloc: Global,
     tables: &mut Tables,
     graph: &Graph,
@@ -96,7 +129,6 @@ pub(crate) fn refuted(
 {
     match found_witness(alloc, tables, graph)? {
         Some(witness) => Ok(Embedding::NotPlanar(witness)),
-        // no graph is known for which this comes
         None => embed_by_contraction(alloc, graph),
     }
 }
@@ -104,16 +136,21 @@ pub(crate) fn refuted(
 /// A simple map of genus zero with exactly the edges of a graph with at least three vertices, or a witness that there is
 /// none. It fails only for want of memory.
 ///
-/// The map is that of the left-right test; a witness is one of the first 3n - 5 edges of the graph's line, where it has
-/// more. Both are checked. The searches are not proved to find what there is: where neither answer is accepted, the
-/// answer is that of `embed_by_contraction`, and no graph is known for which it is.
+/// The map is that of the left-right test, whose lists are checked, and whose no is right. A witness is one of the first
+/// 3n - 5 edges of the graph's line, where it has more; where the search for it finds none that is accepted, edges are
+/// contracted as long as the test refuses the graph. The test is not proved to find each map: where its lists are not
+/// accepted, the answer is that of `embed_by_contraction`. No graph is known for which either comes.
 pub fn embed(alloc: Global, graph: &Graph) -> Result<Embedding, AllocError>
     requires { 3 ≤ graph.now.n }
     ensures { IfOk result (IsEmbedding graph.now) }
 {
     let mut tables = Tables::new();
-    match found_map(alloc, &mut tables, graph)? {
-        Some(found) => Ok(Embedding::Map(found.lists)),
-        None => refuted(alloc, &mut tables, graph),
+    match test_graph(alloc, &mut tables, graph)? {
+        Tested::Map(found) => Ok(Embedding::Map(found.lists)),
+        Tested::NoMap => {
+            let witness = refuted(alloc, &mut tables, graph)?;
+            Ok(Embedding::NotPlanar(witness))
+        }
+        Tested::Unsettled => settled(alloc, &mut tables, graph),
     }
 }

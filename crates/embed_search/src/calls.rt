@@ -1,18 +1,15 @@
 //! The calls.
-ghost use Rattle.std.specs.Prelude.{◌≡◌, length, IfOk, IfSome};
+ghost use Rattle.std.specs.Prelude.{◌≡◌, length, IfOk, MatchOption};
+ghost use Rattle.map_lists.specs.Lists.{Lists};
+ghost use Rattle.embed_theorem.specs.Expanded.{IsMapOf};
 
-use crate::edges::Edges;
 use crate::kernel::Kernel;
-use crate::links::Links;
-use crate::odd::OddRing;
-use crate::placing::{Places, lists_of};
-use crate::row::NONE;
-use crate::search::Search;
-use crate::shrink::{passes, shrink};
-use crate::signs::settle_all;
+use crate::marks::ConflictMarks;
+use crate::shrink::shrink;
 use crate::trace::traced;
 use graph6_text::Graph;
 use kuratowski::Witness;
+use left_right_test::{Edges, LeftRightTest};
 use map_lists::Rotations;
 use std::alloc::{AllocError, Global};
 
@@ -20,10 +17,8 @@ use std::alloc::{AllocError, Global};
 #[derive(Drop)]
 pub struct Tables {
     edges: Edges,
-    links: Links,
-    search: Search,
-    places: Places,
-    ring: OddRing,
+    test: LeftRightTest,
+    marks: ConflictMarks,
     kernel: Kernel,
 }
 
@@ -32,10 +27,8 @@ impl Tables {
     pub fn new() -> Tables {
         Tables {
             edges: Edges::new(),
-            links: Links::new(),
-            search: Search::new(),
-            places: Places::new(),
-            ring: OddRing::new(),
+            test: LeftRightTest::new(),
+            marks: ConflictMarks::new(),
             kernel: Kernel::new(),
         }
     }
@@ -43,62 +36,32 @@ impl Tables {
     // Takes a graph.
     fn begin(&mut self, graph: &Graph) {
         self.edges.read(graph);
-        self.search.failed = NONE;
-    }
-
-    // Links all edges.
-    fn link_all(&mut self) {
-        self.links.begin(&self.edges);
-        for edge in 0..self.edges.count {
-            self.links.put_edge(&self.edges, edge);
-        }
-    }
-
-    // Whether the edges are planar; else the tables show where a search of them met its conflict.
-    fn passes(&mut self) -> bool {
-        self.links.begin_chains(&self.edges);
-        for edge in 0..self.edges.count {
-            self.links.chain_edge(&self.edges, edge);
-        }
-        self.search.root = 0;
-        passes(&self.links, &mut self.search)
+        self.test.begin();
     }
 
     // Leaves edges alone that are a subdivision of K5 or K3,3, after a conflict.
     fn shrink(&mut self) {
-        self.ring.mark_conflict(&self.links, &self.search);
-        self.kernel.load(&self.edges, &self.ring.marks);
-        self.kernel.keep_marked(&mut self.links);
-        shrink(
-            &mut self.kernel,
-            &mut self.links,
-            &mut self.search,
-            &mut self.ring,
-        );
-        self.kernel.link_paths(&mut self.links, &self.edges);
+        self.marks.mark_conflict(&self.test);
+        self.kernel.load(&self.edges, &self.marks.marks);
+        self.kernel.keep_marked(&mut self.test.links);
+        shrink(&mut self.kernel, &mut self.test, &mut self.marks);
+        self.kernel.link_paths(&mut self.test.links, &self.edges);
     }
 
-    /// Rotation lists for a graph, or none where it seems to be nonplanar. It fails only for want of memory.
+    /// Rotation lists for a graph, or none where it has no map of genus zero. Lists are not checked: a graph without a map
+    /// may have some too, though no such graph is known. It fails only for want of memory.
     pub fn planar_lists(
         &mut self,
         alloc: Global,
         graph: &Graph,
     ) -> Result<Option<Rotations>, AllocError>
-        ensures { IfOk result (λ found. IfSome found (λ lists. length lists ≡ graph.now.n)) }
+        ensures { IfOk result (λ found. MatchOption found ((lists : Lists) → ¬ IsMapOf lists graph.now) (λ lists. length lists ≡ graph.now.n)) }
     {
         self.begin(graph);
-        if self.edges.are_many() || !self.passes() {
+        if self.test.refuses(&self.edges, graph) {
             return Ok(None);
         }
-        settle_all(&self.links, &mut self.search);
-        self.places.place_all(&self.links, &mut self.search);
-        let lists = lists_of(
-            alloc,
-            &self.links,
-            &self.search,
-            &mut self.places,
-            graph.n(),
-        )?;
+        let lists = self.test.lists(alloc, graph.n())?;
         Ok(Some(lists))
     }
 
@@ -106,19 +69,20 @@ impl Tables {
     /// fails only for want of memory.
     pub fn witness(&mut self, alloc: Global) -> Result<Option<Witness>, AllocError> {
         if self.edges.are_of_k5() {
-            self.link_all();
-        } else if self.search.failed == NONE && self.passes() {
+            self.test.links.put_all(&self.edges);
+        } else if !self.test.has_failed() && self.test.passes_all(&self.edges) {
             return Ok(None);
         } else {
             self.shrink();
         }
-        traced(alloc, &self.links)
+        traced(alloc, &self.test.links)
     }
 }
 
-/// Rotation lists for a graph, or none where it seems to be nonplanar. It fails only for want of memory.
+/// Rotation lists for a graph, or none where it has no map of genus zero. Lists are not checked: a graph without a map
+/// may have some too, though no such graph is known. It fails only for want of memory.
 pub fn planar_lists(alloc: Global, graph: &Graph) -> Result<Option<Rotations>, AllocError>
-    ensures { IfOk result (λ found. IfSome found (λ lists. length lists ≡ graph.now.n)) }
+    ensures { IfOk result (λ found. MatchOption found ((lists : Lists) → ¬ IsMapOf lists graph.now) (λ lists. length lists ≡ graph.now.n)) }
 {
     Tables::new().planar_lists(alloc, graph)
 }

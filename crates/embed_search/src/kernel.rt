@@ -1,8 +1,6 @@
 //! A nonplanar part of a graph, with one edge for each of its paths.
-use crate::edges::Edges;
-use crate::links::Links;
-use crate::odd::{BEGINS_BELOW, ENDS_ABOVE, IN_PART, RETURNS};
-use crate::row::{ByDart, ByEdge, ByVertex, NONE, minus, plus, twice};
+use crate::marks::{BEGINS_BELOW, ENDS_ABOVE, IN_PART, RETURNS};
+use left_right_test::{ByDart, ByEdge, ByVertex, Edges, Links, NONE, minus, plus, twice};
 
 /// The part, and what its reduction works in. Its vertices are numbered anew.
 #[derive(Drop)]

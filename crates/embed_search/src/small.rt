@@ -1,8 +1,7 @@
 //! Whether a graph of at most six vertices is planar, by what its neighbours are.
 //!
 //! A subdivision of K3,3 in it is a K3,3, and one of K5 is a K5 in which at most one edge is subdivided.
-use crate::edges::Edges;
-use crate::row::minus;
+use left_right_test::{Edges, minus};
 
 // The greatest number of vertices.
 const MOST_VERTICES: u32 = 6;

@@ -1,7 +1,6 @@
 //! Branches and paths of a subdivision.
-use crate::links::Links;
-use crate::row::{ByVertex, NONE, plus};
 use kuratowski::{Kind, Witness};
+use left_right_test::{ByVertex, Links, NONE, plus};
 use map_lists::{PathList, VertexId, VertexList};
 use std::alloc::{AllocError, Global};
 

@@ -1,11 +1,14 @@
 //! Embeddings of graphs, or witnesses that there are none.
-ghost use Rattle.std.specs.Prelude.{◌<◌, ◌≤◌, IfOk};
+ghost use Rattle.std.specs.Prelude.{◌<◌, ◌≤◌, ◌≡◌, length, IfOk, MatchOption};
+ghost use Rattle.map_lists.specs.Lists.{Lists};
+ghost use Rattle.embed_theorem.specs.Expanded.{IsMapOf};
 ghost use Rattle.embed_graph.specs.Embeddings.{IsEmbedding};
 ghost use Rattle.embed_graph.specs.Figures.{IsEmbedFigure};
 
 use embed_graph::embed_figures::EmbedFigure;
 use embed_graph::{Embedding, Tables};
 use graph6_text::Graph;
+use map_lists::Rotations;
 use std::alloc::{AllocError, Global};
 
 /// Returns a map of genus zero with the edges of `graph`, or a subdivision of K5 or K3,3.
@@ -14,6 +17,13 @@ pub fn embed(alloc: Global, graph: &Graph) -> Result<Embedding, AllocError>
     ensures { IfOk result (IsEmbedding graph.now) }
 {
     embed_graph::embed(alloc, graph)
+}
+
+/// Returns rotation lists for `graph`, as the left-right test finds them, or none where it has no map of genus zero.
+pub fn planar_lists(alloc: Global, graph: &Graph) -> Result<Option<Rotations>, AllocError>
+    ensures { IfOk result (λ found. MatchOption found ((lists : Lists) → ¬ IsMapOf lists graph.now) (λ lists. length lists ≡ graph.now.n)) }
+{
+    embed_search::planar_lists(alloc, graph)
 }
 
 /// Returns a map of genus zero with the edges of `graph`, or a subdivision of K5 or K3,3, by contracting edges.

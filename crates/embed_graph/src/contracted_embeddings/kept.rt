@@ -1,23 +1,53 @@
 //! Edges that can be contracted so that a witness stays.
-ghost use Rattle.std.specs.Prelude.{◌≡◌, ◌<◌, ◌↔◌, ℕ, true, IsTrue, IfOk, MatchOption};
+ghost use Rattle.std.specs.Prelude.{◌≡◌, ◌<◌, ◌≤◌, ◌↔◌, ℕ, true, IsTrue, IfOk, IfSome, MatchOption};
 ghost use Rattle.graph6_text.specs.Graphs.{has_edge};
 ghost use Rattle.embed_contraction.specs.Traces.{HasWitness};
 ghost use Rattle.embed_witnesses.specs.Kept.{IsKept};
 
+use crate::answer::{Tested, test_graph};
 use embed_recursion::graph_maps::map_of_graph;
+use embed_search::Tables;
 use embed_witnesses::contracted_graphs::contract;
 use graph6_text::Graph;
 use map_lists::{Ends, VertexId};
 use std::alloc::{AllocError, Global};
 
-// Whether a graph has a witness: it has one exactly where it has no map.
-fn has_witness(alloc: Global, graph: &Graph) -> Result<bool, AllocError>
+// Whether a graph has a witness, as the left-right test tells it; or nothing.
+fn has_witness_by_test(alloc: Global, graph: &Graph) -> Result<Option<bool>, AllocError>
+    requires { 3 ≤ graph.now.n }
+    ensures { IfOk result (λ told. IfSome told (λ yes. IsTrue yes ↔ HasWitness graph.now)) }
+{
+    let _n = graph.n();
+    let mut tables = Tables::new();
+    match test_graph(alloc, &mut tables, graph)? {
+        Tested::Map(_) => Ok(Some(false)),
+        Tested::NoMap => Ok(Some(true)),
+        Tested::Unsettled => Ok(None),
+    }
+}
+
+// Whether a graph has a witness, by recursion: it has one exactly where it has no map.
+fn has_witness_by_maps(alloc: Global, graph: &Graph) -> Result<bool, AllocError>
     requires { 0 < graph.now.n }
     ensures { IfOk result (λ yes. IsTrue yes ↔ HasWitness graph.now) }
 {
     match map_of_graph(alloc, graph)? {
         Some(_) => Ok(false),
         None => Ok(true),
+    }
+}
+
+// Whether a graph has a witness.
+fn has_witness(alloc: Global, graph: &Graph) -> Result<bool, AllocError>
+    requires { 0 < graph.now.n }
+    ensures { IfOk result (λ yes. IsTrue yes ↔ HasWitness graph.now) }
+{
+    if graph.n() < 3 {
+        return has_witness_by_maps(alloc, graph);
+    }
+    match has_witness_by_test(alloc, graph)? {
+        Some(yes) => Ok(yes),
+        None => has_witness_by_maps(alloc, graph),
     }
 }
 

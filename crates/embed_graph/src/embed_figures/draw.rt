@@ -5,7 +5,7 @@ ghost use Rattle.conn_parts.specs.Counted.{IsPlaneMap};
 ghost use Rattle.embed_theorem.specs.Expanded.{IsMapOf};
 ghost use Rattle.embed_graph.specs.Figures.{IsEmbedFigure};
 
-use crate::answer::{FoundMap, found_map, refuted};
+use crate::answer::{FoundMap, Tested, refuted, settled, test_graph};
 use crate::graph_embeddings::Embedding;
 use embed_search::Tables;
 use graph6_text::Graph;
@@ -61,9 +61,13 @@ pub fn embed_figure_in(
     requires { 3 ≤ graph.now.n }
     ensures { IfOk result (IsEmbedFigure graph.now) }
 {
-    match found_map(alloc, tables, graph)? {
-        Some(found) => drawn_found(alloc, found),
-        None => match refuted(alloc, tables, graph)? {
+    match test_graph(alloc, tables, graph)? {
+        Tested::Map(found) => drawn_found(alloc, found),
+        Tested::NoMap => {
+            let witness = refuted(alloc, tables, graph)?;
+            Ok(EmbedFigure::NotPlanar(witness))
+        }
+        Tested::Unsettled => match settled(alloc, tables, graph)? {
             Embedding::Map(lists) => drawn(alloc, graph, lists),
             Embedding::NotPlanar(witness) => Ok(EmbedFigure::NotPlanar(witness)),
         },

@@ -1,6 +1,6 @@
 use Rattle.embed_graph.proofs.Stays.{told_by_map, told_by_none}
-use Rattle.embed_graph.proofs.contracted_embeddings.kept.has_witness.Goals as goal
-use Rattle.embed_graph.proofs.contracted_embeddings.kept.has_witness.Goals.{in-Some, in-None}
+use Rattle.embed_graph.proofs.contracted_embeddings.kept.has_witness_by_maps.Goals as goal
+use Rattle.embed_graph.proofs.contracted_embeddings.kept.has_witness_by_maps.Goals.{in-Some, in-None}
 
 pub returns : goal.returns
 returns c =

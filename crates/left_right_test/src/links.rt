@@ -95,6 +95,14 @@ impl Links {
         self.put_first(twice(edge) ^ 1, b, a);
     }
 
+    /// Links all edges.
+    pub fn put_all(&mut self, edges: &Edges) {
+        self.begin(edges);
+        for edge in 0..edges.count {
+            self.put_edge(edges, edge);
+        }
+    }
+
     // Joins two places of a vertex's list. NONE is the place before the first, and that behind the last.
     fn join(&mut self, vertex: u32, before: u32, after: u32) {
         if before == NONE {

@@ -1,0 +1,2 @@
+-- Sides that edges have in each partition into left and right.
+pub mod Ties

@@ -1,0 +1,22 @@
+//! The complete graph on five vertices, which needs no search.
+ghost use Rattle.std.specs.Prelude.{IsTrue};
+ghost use Rattle.left_right_check.specs.Ties.{HasNoMap};
+
+use graph6_text::Graph;
+
+// The bits of ten edges, six a byte, in the bytes of a line.
+const ALL: [u8; 2] = [126, 123];
+
+/// Whether a graph is the complete graph on five vertices.
+pub fn is_k5(graph: &Graph) -> bool
+    ensures { IsTrue result → HasNoMap graph.now }
+{
+    if graph.n() != 5 {
+        return false;
+    }
+    let bits = graph.body();
+    if bits.len() != 2 || bits[0] != ALL[0] {
+        return false;
+    }
+    bits[1] == ALL[1]
+}

@@ -1,0 +1,102 @@
+//! Rooted forests of a graph, as tables of parents and depths by vertex, and edges that return.
+ghost use Rattle.std.specs.Prelude.{◌≡◌, ◌<◌, slice_index, IsTrue};
+ghost use Rattle.left_right_laws.specs.Forests.{up, IsAbove, IsBranch};
+ghost use Rattle.left_right_check.specs.Ties.{IsPlaced, IsForestOf, ReturnsBy};
+
+use graph6_text::Graph;
+use map_lists::VertexId;
+
+/// An edge that returns: from a vertex to an ancestor of it.
+#[derive(Clone, Copy)]
+pub struct ReturnEdge {
+    /// The lower end.
+    pub from: u16,
+    /// The upper end, which is nearer to the root.
+    pub to: u16,
+}
+
+// The entry of a list at a place; 0 behind its end.
+pub(crate) fn entry(list: &[u16], place: u16) -> u16
+    ensures { result ≡ slice_index list.now place }
+{
+    let place = usize::from(place);
+    if place < list.len() { list[place] } else { 0 }
+}
+
+// Where so many steps to the parent lead.
+fn after_steps(parents: &[u16], vertex: u16, steps: u16) -> u16
+    ensures { result ≡ up (slice_index parents.now) steps vertex }
+{
+    let mut v = vertex;
+    for _ in 0..steps {
+        v = entry(parents, v);
+    }
+    v
+}
+
+// Whether a vertex is a root, or is below its parent, to which an edge joins it.
+fn is_placed(graph: &Graph, parents: &[u16], depths: &[u16], v: u16) -> bool
+    ensures { IsTrue result → IsPlaced graph.now parents.now depths.now v }
+{
+    let depth = entry(depths, v);
+    let parent = entry(parents, v);
+    depth == 0 || (graph.has(VertexId(v), VertexId(parent)) && depth - 1 == entry(depths, parent))
+}
+
+/// Whether tables of parents and depths, by vertex, are those of a rooted forest of a graph.
+#[tactic(auto, using(crate::proofs::TieLemmas::forest_by_places, crate::proofs::TieLemmas::placed_past))]
+pub fn is_forest(graph: &Graph, parents: &[u16], depths: &[u16]) -> bool
+    ensures { IsTrue result → IsForestOf graph.now parents.now depths.now }
+{
+    if depths.len() != usize::from(graph.n()) {
+        return false;
+    }
+    for v in 0..graph.n() {
+        if !is_placed(graph, parents, depths, v) {
+            return false;
+        }
+    }
+    true
+}
+
+// Whether a vertex of a depth is a proper ancestor, and the way up from `v` leads to it.
+fn is_higher(parents: &[u16], depths: &[u16], v: u16, ancestor: u16) -> bool
+    ensures { IsTrue result → (slice_index depths.now ancestor < slice_index depths.now v) × IsAbove (slice_index parents.now) (slice_index depths.now) ancestor v }
+{
+    let low = entry(depths, v);
+    let high = entry(depths, ancestor);
+    high < low && after_steps(parents, v, low - high) == ancestor
+}
+
+// Whether the way from a vertex down to an edge's lower end, and then along the edge, begins with the edge to `end`.
+#[tactic(auto, using(crate::proofs::TieLemmas::branch_at))]
+fn begins_with(parents: &[u16], depths: &[u16], vertex: u16, end: u16, edge: ReturnEdge) -> bool
+    ensures { IsTrue result → IsAbove (slice_index parents.now) (slice_index depths.now) vertex edge.from × IsBranch (slice_index parents.now) (slice_index depths.now) vertex end edge.from edge.to }
+{
+    if edge.from == vertex {
+        return edge.to == end;
+    }
+    let low = entry(depths, edge.from);
+    let high = entry(depths, vertex);
+    if low <= high || entry(parents, end) != vertex {
+        return false;
+    }
+    after_steps(parents, edge.from, low - high - 1) == end
+}
+
+/// Whether an edge returns from a vertex by its edge to `end`.
+pub(crate) fn returns_by(
+    graph: &Graph,
+    parents: &[u16],
+    depths: &[u16],
+    vertex: u16,
+    end: u16,
+    edge: ReturnEdge,
+) -> bool
+    ensures { IsTrue result → ReturnsBy graph.now parents.now depths.now vertex end edge.from edge.to }
+{
+    graph.has(VertexId(edge.from), VertexId(edge.to))
+        && is_higher(parents, depths, vertex, edge.to)
+        && entry(parents, vertex) != end
+        && begins_with(parents, depths, vertex, end, edge)
+}

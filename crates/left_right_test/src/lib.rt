@@ -1,0 +1,27 @@
+//! The left-right planarity test (de Fraysseix, Rosenstiehl; as in Brandes, The left-right planarity test, 2009), with
+//! rotation lists where it passes, and the check of what shows its conflict where it does not.
+//!
+//! That a graph is nonplanar is told only where what shows it passed the check. Of lists nothing is promised but that
+//! they come: whoever calls checks them.
+#![tactic(auto)]
+
+mod conflicts;
+mod edges;
+mod links;
+mod nesting;
+mod orient;
+mod placing;
+mod ring;
+mod row;
+mod search;
+mod shown;
+mod signs;
+mod test;
+mod ties;
+
+pub use edges::Edges;
+pub use links::Links;
+pub use ring::{OddRing, branch_of, near_edge};
+pub use row::{ByDart, ByEdge, ByVertex, NONE, minus, plus, twice};
+pub use search::Search;
+pub use test::LeftRightTest;

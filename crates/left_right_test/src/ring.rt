@@ -1,0 +1,180 @@
+//! The return edges that show a conflict: each tied to the next, which come back to the first one on the other side.
+use crate::links::Links;
+use crate::row::{ByArc, ByDart, ByEdge, NONE, plus, twice};
+use crate::search::Search;
+use crate::ties::Ties;
+
+// What stands for no side.
+const UNSEEN: u32 = 2;
+
+/// What the search among ties works in, and what it found.
+#[derive(Drop)]
+pub struct OddRing {
+    // for each return edge the first of its ends of ties; end 2k goes along tie k from its one edge, 2k + 1 from the
+    // other
+    first: ByArc,
+    // for each end of a tie the next of its edge
+    next: ByDart,
+    /// For each return edge the end of a tie along which it was reached.
+    pub way: ByArc,
+    // for each return edge whether it is on the side of the one searched from, as 0 or 1
+    side: ByArc,
+    // the return edges that were reached, in turn
+    queue: ByEdge,
+    // how many there are
+    reached: u32,
+    // above which height an edge returns that the conflict binds
+    low: u32,
+    // below which height
+    high: u32,
+    /// The return edge at which the ring begins.
+    pub one: u32,
+    /// The one at which it ends, on the other side.
+    pub other: u32,
+}
+
+impl OddRing {
+    /// Nothing.
+    #[inline(always)]
+    pub fn new() -> OddRing {
+        OddRing {
+            first: ByArc::new(),
+            next: ByDart::new(),
+            way: ByArc::new(),
+            side: ByArc::new(),
+            queue: ByEdge::new(),
+            reached: 0,
+            low: 0,
+            high: 0,
+            one: NONE,
+            other: NONE,
+        }
+    }
+
+    // Puts one end of a tie into the list of its edge.
+    #[inline(always)]
+    fn put_end(&mut self, end: u32, edge: u32) {
+        self.next.set(end, self.first.get(edge));
+        self.first.set(edge, end);
+    }
+
+    // Lists the ties of each return edge, none of which is reached.
+    fn link_ties(&mut self, links: &Links, ties: &Ties) {
+        for edge in 0..links.darts / 2 {
+            self.first.set(twice(edge), NONE);
+            self.side.set(twice(edge), UNSEEN);
+        }
+        self.reached = 0;
+        for tie in 0..ties.count {
+            self.put_end(twice(tie), ties.one.get(tie));
+            self.put_end(twice(tie) ^ 1, ties.other.get(tie));
+        }
+    }
+
+    // Which return edges the conflict binds: those along its dart, or those along earlier ones that it meets.
+    fn set_bounds(&mut self, search: &Search) {
+        let least = if search.meeting == NONE {
+            search.leaving.get(search.failed)
+        } else {
+            search.failed_dart
+        };
+        self.low = search.lowpt.get(least);
+        self.high = search.height.get(search.failed);
+    }
+
+    // Whether the conflict binds a return edge.
+    #[inline(always)]
+    fn is_bound(&self, search: &Search, edge: u32) -> bool {
+        let height = search.lowpt.get(edge);
+        self.low < height && height < self.high
+    }
+
+    // Reaches a return edge along a tie, if it was not.
+    #[inline(always)]
+    fn reach(&mut self, edge: u32, end: u32, side: u32) {
+        if self.side.get(edge) == UNSEEN {
+            self.side.set(edge, side);
+            self.way.set(edge, end);
+            self.queue.set(self.reached, edge);
+            self.reached = plus(self.reached, 1);
+        }
+    }
+
+    // Reaches all that is tied to a return edge.
+    fn reach_from(&mut self, ties: &Ties, edge: u32) {
+        let side = self.side.get(edge);
+        let mut end = self.first.get(edge);
+        for _ in 0..ties.count {
+            if end == NONE {
+                return;
+            }
+            let tie = end >> 1;
+            let next = far_edge(ties, end);
+            self.reach(next, end, side ^ ties.turn.get(tie));
+            end = self.next.get(end);
+        }
+    }
+
+    // Forgets which return edges were reached.
+    fn forget_reached(&mut self) {
+        for place in 0..self.reached {
+            self.side.set(self.queue.get(place), UNSEEN);
+        }
+        self.reached = 0;
+    }
+
+    // The nearest return edge that the conflict binds and that is on the other side; or none.
+    fn nearest(&mut self, links: &Links, search: &Search, start: u32) -> u32 {
+        self.reach(start, NONE, 0);
+        for place in 0..links.darts / 2 {
+            if place >= self.reached {
+                return NONE;
+            }
+            let edge = self.queue.get(place);
+            if self.side.get(edge) == 1 && self.is_bound(search, edge) {
+                return edge;
+            }
+            self.reach_from(&search.ties, edge);
+        }
+        NONE
+    }
+
+    /// Finds the return edges that show the conflict of a search: a ring of ties from one to another on its other side,
+    /// which the conflict binds to one side.
+    pub fn find(&mut self, links: &Links, search: &Search) {
+        self.link_ties(links, &search.ties);
+        self.set_bounds(search);
+        self.one = self.nearest(links, search, search.odd);
+        self.forget_reached();
+        self.other = self.nearest(links, search, self.one);
+    }
+}
+
+/// The dart of a vertex along which an edge returns.
+pub fn branch_of(links: &Links, search: &Search, edge: u32, vertex: u32) -> u32 {
+    let mut dart = edge;
+    for _ in 0..links.vertices {
+        let tail = links.tail(dart);
+        if tail == vertex {
+            break;
+        }
+        dart = search.parent.get(tail);
+    }
+    dart
+}
+
+/// The return edge from which an end of a tie leads.
+#[inline(always)]
+pub fn near_edge(ties: &Ties, end: u32) -> u32 {
+    far_edge(ties, end ^ 1)
+}
+
+// The return edge to which an end of a tie leads.
+#[inline(always)]
+fn far_edge(ties: &Ties, end: u32) -> u32 {
+    if end & 1 == 0 {
+        ties.other.get(end >> 1)
+    } else {
+        ties.one.get(end >> 1)
+    }
+}

@@ -1,0 +1,96 @@
+//! The test.
+ghost use Rattle.std.specs.Prelude.{◌≡◌, length, IfOk, IsTrue};
+ghost use Rattle.left_right_check.specs.Ties.{HasNoMap};
+
+use crate::conflicts::agrees;
+use crate::edges::Edges;
+use crate::links::Links;
+use crate::nesting::sort_leaving;
+use crate::orient::orient_all;
+use crate::placing::{Places, lists_of};
+use crate::ring::OddRing;
+use crate::row::NONE;
+use crate::search::Search;
+use crate::shown::Forest;
+use crate::signs::settle_all;
+use graph6_text::Graph;
+use left_right_check::is_k5;
+use map_lists::Rotations;
+use std::alloc::{AllocError, Global};
+
+/// What the test works in, for one graph after another.
+#[derive(Drop)]
+pub struct LeftRightTest {
+    /// The edges of which it asks whether they are planar.
+    pub links: Links,
+    /// What its searches know.
+    pub search: Search,
+    /// What shows its conflict, if it met one.
+    pub ring: OddRing,
+    places: Places,
+    pub(crate) forest: Forest,
+}
+
+impl LeftRightTest {
+    /// Tables before the first graph. They take no memory of an allocator.
+    #[inline(always)]
+    pub fn new() -> LeftRightTest {
+        LeftRightTest {
+            links: Links::new(),
+            search: Search::new(),
+            ring: OddRing::new(),
+            places: Places::new(),
+            forest: Forest::new(),
+        }
+    }
+
+    /// Forgets the conflict of an earlier graph.
+    pub fn begin(&mut self) {
+        self.search.failed = NONE;
+    }
+
+    /// Whether the test met a conflict since it began.
+    pub fn has_failed(&self) -> bool {
+        self.search.failed != NONE
+    }
+
+    /// Chains all edges, and tests them from the first vertex on.
+    pub fn passes_all(&mut self, edges: &Edges) -> bool {
+        self.links.begin_chains(edges);
+        for edge in 0..edges.count {
+            self.links.chain_edge(edges, edge);
+        }
+        self.search.root = 0;
+        self.passes()
+    }
+
+    /// Whether the chained edges are planar; else it shows where it met its conflict.
+    pub fn passes(&mut self) -> bool {
+        orient_all(&self.links, &mut self.search);
+        sort_leaving(&self.links, &mut self.search);
+        if agrees(&self.links, &mut self.search) {
+            return true;
+        }
+        self.ring.find(&self.links, &self.search);
+        false
+    }
+
+    /// Whether it refuses a graph, whose edges these are; else `lists` answers lists, which may be those of no map.
+    pub fn refuses(&mut self, edges: &Edges, graph: &Graph) -> bool
+        ensures { IsTrue result → HasNoMap graph.now }
+    {
+        if is_k5(graph) {
+            return true;
+        }
+        !self.passes_all(edges) && self.is_shown(graph)
+    }
+
+    /// The rotation lists of edges that pass, on `n` vertices. It fails only for want of memory.
+    pub fn lists(&mut self, alloc: Global, n: u16) -> Result<Rotations, AllocError>
+        ensures { IfOk result (λ lists. length lists ≡ n) }
+    {
+        settle_all(&self.links, &mut self.search);
+        self.places.place_all(&self.links, &mut self.search);
+        lists_of(alloc, &self.links, &self.search, &mut self.places, n)
+    }
+}
