@@ -1,6 +1,7 @@
 //! A map of a graph, or a Kuratowski witness that there is none.
 //!
-//! A fast search is made for each, and its answer is checked; where none is accepted, the recursion of the theorem answers.
+//! A fast search is made for each, and its answer is checked. After a proved no, a witness is found by contracted edges,
+//! of which the test tells which to take. The recursion of the theorem answers only where no answer is accepted.
 #![tactic(auto)]
 
 mod answer;
