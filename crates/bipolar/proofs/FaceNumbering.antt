@@ -341,9 +341,13 @@ module _ (entries ends twins : List ℕ) (t : AreDarts entries ends twins) where
                 let h = (w.rows e (omega (arith, has.0, long))).from x.0 x.1 in
                 let i_in : h.0 < length entries = omega (arith, h.1, all_darts) in
                 let dart : Dart = dart_of lists h.0 in
-                let twin = twin_number h.0 i_in in
-                (dart.0, dart.1, (has_dart h.0 i_in, h.4), ap (λ z. get_or of z 0) (number_is h.0 i_in) ∙ h.3,
-                  ap (λ z. get_or of z 0) (twin ∙ h.5) ∙ x.2);
+                let twin = twin_number h.0 i_in in (
+                  dart.0,
+                  dart.1,
+                  (has_dart h.0 i_in, h.4),
+                  ap (λ z. get_or of z 0) (number_is h.0 i_in) ∙ h.3,
+                  ap (λ z. get_or of z 0) (twin ∙ h.5) ∙ x.2,
+                );
             to = λ u v up.
                 let i = dart_number lists (u, v) in
                 let i_in : i < dart_count lists = dart_number-lt lists u v up.0 in

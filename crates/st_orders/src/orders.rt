@@ -184,6 +184,31 @@ fn list_order(alloc: Global, lists: &Rotations, s: u16, t: u16) -> Result<StOrde
     order_of(alloc, lists, &ranges.from, s, t)
 }
 
+/// Like [`places_again`], but returns the places alone, in memory of their own.
+pub fn st_ranks(
+    alloc: Global,
+    lists: &Rotations,
+    forest: &Forest,
+    low: &[u16],
+    s: u16,
+    t: u16,
+) -> Result<Counts, AllocError>
+    requires simple { IsSimpleMap lists.now }
+    requires few { length lists.now < 4096 }
+    requires connected { component_count lists.now ≡ 1 }
+    requires uncut { (v : ℕ) → ¬ IsCutVertex lists.now v }
+    requires dart { HasDart lists.now s t }
+    requires forest { IsForestOf lists.now forest.now.order.items forest.now.number.items forest.now.last.items forest.now.parent.items }
+    requires lows { AreLows lists.now forest.now.number.items forest.now.last.items low.now }
+    requires first { slice_index forest.now.number.items s ≡ 0 }
+    requires second { slice_index forest.now.number.items t ≡ 1 }
+    ensures { IfOk result (λ rank. (at : List ℕ) × IsStOrder lists.now s t at rank) }
+{
+    let ranges = places_again(Ranges::new(alloc), lists, forest, low, s, t)?;
+    let rank = counts_of(alloc, &ranges.from)?;
+    Ok(rank)
+}
+
 /// An st-order for a dart of a connected map without cut vertices, in linear time: the dart's tail stands
 /// first, its head last, and each other vertex has an earlier and a later neighbour. It fails only for want
 /// of memory.

@@ -12,8 +12,7 @@ use graph_search::search_forests::Forest;
 use half_edges::{DartId, HalfMap, Rotations, VertexId};
 use pg_plane::BarFigure;
 use refusals::Unserved;
-use st_orders::places_again;
-use st_orders::Ranges;
+use st_orders::st_ranks;
 use std::alloc::{AllocError, Global};
 
 // The dart from vertex 0 to the first of its list.
@@ -26,14 +25,6 @@ fn first_dart(map: &HalfMap) -> DartId
         Some(d) => d,
         None => unreachable!(),
     }
-}
-
-fn rank_of(alloc: Global, from: &[u16]) -> Result<half_edges::Counts, AllocError> {
-    let mut counts = half_edges::Counts::with_capacity(alloc, from.len())?;
-    for x in from {
-        counts.push(u32::from(*x))?;
-    }
-    Ok(counts)
 }
 
 // The bars of a biconnected map with these lists, by the search that found it to be one.
@@ -52,8 +43,7 @@ fn map_bars(
 {
     let st = first_dart(map);
     let t = lists.list(0)[0];
-    let ranges = places_again(Ranges::new(alloc), lists, forest, low, 0, t)?;
-    let rank = rank_of(alloc, &ranges.from)?;
+    let rank = st_ranks(alloc, lists, forest, low, 0, t)?;
     let figure = bars_of_ranks(alloc, lists, map, &rank, st)?;
     Ok(figure)
 }
