@@ -12,13 +12,14 @@ use crate::bar_figures::draw::bar_figure;
 use crate::ends::{coordinate, coordinates_of};
 use crate::spans::{SpanTables, spans_again};
 use bipolar::dual_orders::{FaceTables, number_faces};
-use euler_faces::{UNMET, number_components};
+use conn_parts::plane_count;
+use euler_faces::{Counter, UNMET, number_components};
 use graph_search::longest_paths::{PathTables, longest_paths_again};
-use graph_search::map_cuts::is_uncut;
+use graph_search::map_cuts::{is_uncut, list_cut_vertex};
 use graph_search::search_forests::{Forest, low_points_again, search_again};
-use half_edges::Rotations;
+use half_edges::{Rotations, VertexId};
 use pg_plane::{BarFigure, Ints};
-use refusals::Unserved;
+use refusals::{Refusal, Unserved};
 use simple_maps::fill_twins;
 use st_orders::{Ranges, places_again};
 use std::alloc::{AllocError, Global};
@@ -263,6 +264,7 @@ pub struct BarDrawer {
     twins: Vec<u32>,
     threads: Vec<u32>,
     tables: Tables,
+    counter: Counter,
 }
 
 impl BarDrawer {
@@ -274,7 +276,36 @@ impl BarDrawer {
             twins: Vec::new(alloc),
             threads: Vec::new(alloc),
             tables: Tables::new(alloc),
+            counter: Counter::new(alloc),
         }
+    }
+
+    // The first condition that a record breaks, if it breaks one.
+    fn refuse(&mut self, lists: &Rotations) -> Result<(), Unserved>
+        requires some_list { 0 < length lists.now }
+        requires few_lists { length lists.now < 4096 }
+        ensures refused { IfErr result (IfRefused (BreaksFirst 3 lists.now)) }
+    {
+        let count = plane_count(&mut self.counter, lists, 3)?;
+        if count.c != 1 {
+            return Err(Unserved::Refused(Refusal::NotConnected));
+        }
+        match list_cut_vertex(self.alloc, lists)? {
+            Some(v) => Err(Unserved::Refused(Refusal::CutVertex(VertexId(v)))),
+            None => Ok(()),
+        }
+    }
+
+    // The figure of a record by the exact search for the first condition that it breaks.
+    fn exact_figure(&mut self, lists: &Rotations) -> Result<BarFigure, Unserved>
+        requires some_list { 0 < length lists.now }
+        requires few_lists { length lists.now < 4096 }
+        ensures figure { IfOk result (IsBarFigure lists.now) }
+        ensures served { OnOk result (IsBiconnectedMap 3 lists.now) }
+        ensures refused { IfErr result (IfRefused (BreaksFirst 3 lists.now)) }
+    {
+        self.refuse(lists)?;
+        bar_figure(self.alloc, lists)
     }
 
     /// The figure of a record, as `bar_figure` has it. After `NoMemory` the drawer serves as before.
@@ -297,7 +328,7 @@ impl BarDrawer {
         self.tables = tables;
         match found {
             Some(figure) => Ok(figure),
-            None => bar_figure(self.alloc, lists),
+            None => self.exact_figure(lists),
         }
     }
 }
