@@ -256,7 +256,7 @@ fn drawn(
 
 /// Draws records, one after another, and keeps its tables for the next.
 ///
-/// They take some 80 bytes for each dart of the largest record so far.
+/// They take some forty bytes for each dart of the largest record so far.
 #[derive(Drop)]
 pub struct BarDrawer {
     alloc: Global,
