@@ -6,6 +6,9 @@ pub mod Bars
 pub mod Darts
 mod CutRows
 mod Agree
-mod ColumnLemmas
+pub mod ColumnLemmas
 mod Numbered
+mod FaceNumbering
+-- The rows that longest paths between faces give.
+pub mod FaceAgree
 mod Refused

@@ -6,3 +6,5 @@ pub mod Laws
 pub mod FaceArcs
 pub mod Columns
 pub mod Numbered
+-- Its faces by the numbers of its darts.
+pub mod FaceNumbers

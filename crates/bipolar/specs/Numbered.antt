@@ -1,5 +1,6 @@
 -- Rows that give the dual numbers of an st-order.
 use Rattle.std.specs.Prelude.{ℕ, ◌<◌, ◌≡◌, List, Some, slice_index}
+use Rattle.map_lists.specs.Lists.{Lists}
 use Rattle.map_theory.specs.Maps.{HasDart, IsPlane, component_count, face_count}
 use Rattle.half_edges.specs.Map.{Map, dart_at}
 use Rattle.graph_search.specs.Arcs.{arcs_of}
@@ -19,3 +20,10 @@ pub record GiveDualNumbers (map : Map) (rank : List ℕ) (st : ℕ) (rows : List
   pub both : (u v : ℕ) → HasDart map.lists u v → in_row map.lists rows u v ≡ in_row map.lists rows v u
   pub low : (v i : ℕ) → slice_index (arcs_of rows v) i < face_count map.lists
   pub duals : (columns : List ℕ) → AreColumns map.lists rows columns → (s t : ℕ) → dart_at map st ≡ Some (s, t) → AreDualNumbers map.lists rank s t columns
+
+-- the same by lists alone, for the dart (s, t)
+pub record GiveDuals (lists : Lists) (rank : List ℕ) (s t : ℕ) (rows : Lists) : Type 0 where
+  pub sizes : AreRows lists rows
+  pub both : (u v : ℕ) → HasDart lists u v → in_row lists rows u v ≡ in_row lists rows v u
+  pub low : (v i : ℕ) → slice_index (arcs_of rows v) i < face_count lists
+  pub duals : (columns : List ℕ) → AreColumns lists rows columns → AreDualNumbers lists rank s t columns

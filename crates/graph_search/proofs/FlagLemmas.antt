@@ -6,7 +6,7 @@ use Rattle.map_theory.specs.Maps.{HasDart, list_of}
 use Rattle.graph_search.specs.Forests.{IsAdjacency, IsForestOf}
 use Rattle.graph_search.specs.Lows.{AreLows}
 use Rattle.graph_search.specs.Cuts.{IsCutVertex, IsLeastCutVertex}
-use Rattle.graph_search.specs.Flags.{IsSeparatedChild, HasSeparatedChild, TellSeparated, AreCutFlags}
+use Rattle.graph_search.specs.Flags.{IsSeparatedChild, IsSeparatedIn, HasSeparatedChild, TellSeparated, AreCutFlags}
 use Rattle.graph_search.proofs.WalkLemmas.{Off, linked_weaker, linked_path, path_linked_by}
 use Rattle.graph_search.proofs.CutLemmas.{off_one, IsCutVertex-separated, not_IsCutVertex}
 
@@ -55,3 +55,10 @@ module _ (lists : Lists) (adjacency : IsAdjacency lists) (order number last pare
       | inr le ↦ le
     ];
   }
+
+  -- where no child is parted, no vertex is a cut vertex
+  pub none_separating : ((v u : ℕ) → v < length number → ¬ IsSeparatedIn number parent low v u) → (v : ℕ) → ¬ IsCutVertex lists v
+  none_separating none v cut =
+      let l = IsCutVertex-within lists adjacency v cut in
+      let in_numbers : v < length number = omega (arith, l, all.numbers) in
+      not_IsCutVertex-none v l (λ h. none v h.0 in_numbers h.2) cut

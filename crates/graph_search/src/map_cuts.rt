@@ -9,6 +9,6 @@ mod least;
 mod pairs;
 mod without;
 
-pub use flags::cut_flags;
+pub use flags::{cut_flags, is_uncut};
 pub use least::{cut_vertex, list_cut_vertex, searched_cut_vertex};
 pub use pairs::{list_separating_pair, separating_pair};

@@ -6,5 +6,5 @@ mod forest;
 mod lows;
 mod steps;
 
-pub use forest::{Forest, search_forest, search_forest_along};
-pub use lows::low_points;
+pub use forest::{Forest, search_again, search_forest, search_forest_along};
+pub use lows::{low_points, low_points_again};

@@ -13,6 +13,7 @@ use map_lists::{DartId, Rotations};
 use pg_plane::BarFigure;
 use refusals::Unserved;
 use std::alloc::{AllocError, Global};
+use visibility::bar_figures::BarDrawer;
 
 /// Draws a biconnected `map` of genus zero by the st-order for `st`.
 pub fn bars(alloc: Global, map: &HalfMap, st: DartId) -> Result<BarFigure, AllocError>
@@ -34,4 +35,15 @@ pub fn bar_figure(alloc: Global, lists: &Rotations) -> Result<BarFigure, Unserve
     ensures refused { IfErr result (IfRefused (BreaksFirst 3 lists.now)) }
 {
     visibility::bar_figures::bar_figure(alloc, lists)
+}
+
+/// Draws the map of `lists` by a `drawer` that may have drawn others, or names the first condition that it breaks.
+pub fn next_bar_figure(drawer: &mut BarDrawer, lists: &Rotations) -> Result<BarFigure, Unserved>
+    requires some_list { 0 < length lists.now }
+    requires few_lists { length lists.now < 4096 }
+    ensures figure { IfOk result (IsBarFigure lists.now) }
+    ensures served { OnOk result (IsBiconnectedMap 3 lists.now) }
+    ensures refused { IfErr result (IfRefused (BreaksFirst 3 lists.now)) }
+{
+    drawer.figure(lists)
 }

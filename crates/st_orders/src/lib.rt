@@ -8,4 +8,4 @@
 mod orders;
 mod places;
 
-pub use orders::{StOrder, st_order, st_ranks};
+pub use orders::{Ranges, StOrder, places_again, st_order, st_ranks};

@@ -57,15 +57,61 @@ fn vertices_of(alloc: Global, numbers: &[u16]) -> Result<VertexList, AllocError>
     Ok(vertices)
 }
 
-// The places of an st-order for the dart from s to t, by a search from s that sees t next.
-fn places(
-    alloc: Global,
+/// The ranges from which vertices take their places, which keep their memory from one map to the next.
+#[derive(Drop)]
+pub struct Ranges {
+    /// For each vertex where its range begins: in the end its place in an st-order, from 0.
+    pub from: Vec<u16>,
+    // for each vertex where its range ends
+    to: Vec<u16>,
+    // for each vertex whether it took its range from below its parent's
+    side: Vec<bool>,
+    // for each vertex the side of its last child
+    recent: Vec<bool>,
+}
+
+impl Ranges {
+    /// Ranges of no map. They take no memory.
+    pub fn new(alloc: Global) -> Ranges {
+        Ranges {
+            from: Vec::new(alloc),
+            to: Vec::new(alloc),
+            side: Vec::new(alloc),
+            recent: Vec::new(alloc),
+        }
+    }
+}
+
+// A table with 0 at each of `n` places, in the memory of another.
+fn zeros(table: Vec<u16>, n: usize) -> Result<Vec<u16>, AllocError>
+    ensures { IfOk result (λ made. length made.items ≡ n) }
+{
+    let mut table = table;
+    table.clear();
+    table.resize(n, 0)?;
+    Ok(table)
+}
+
+// A table with `false` at each of `n` places, in the memory of another.
+fn unset(table: Vec<bool>, n: usize) -> Result<Vec<bool>, AllocError>
+    ensures { IfOk result (λ made. length made.items ≡ n) }
+{
+    let mut table = table;
+    table.clear();
+    table.resize(n, false)?;
+    Ok(table)
+}
+
+/// The places of an st-order for the dart from s to t of a connected map without cut vertices, by a search from s
+/// that sees t next, in the memory of other ranges. It fails only for want of memory. The time is linear.
+pub fn places_again(
+    ranges: Ranges,
     lists: &Rotations,
     forest: &Forest,
     low: &[u16],
     s: u16,
     t: u16,
-) -> Result<Vec<u16>, AllocError>
+) -> Result<Ranges, AllocError>
     requires simple { IsSimpleMap lists.now }
     requires few { length lists.now < 4096 }
     requires connected { component_count lists.now ≡ 1 }
@@ -75,13 +121,14 @@ fn places(
     requires lows { AreLows lists.now forest.now.number.items forest.now.last.items low.now }
     requires first { slice_index forest.now.number.items s ≡ 0 }
     requires second { slice_index forest.now.number.items t ≡ 1 }
-    ensures { IfOk result (λ from. ArePlaces lists.now s t from.items) }
+    ensures places { IfOk result (λ made. ArePlaces lists.now s t made.from.items) }
+    ensures order { IfOk result (λ made. (at : List ℕ) × IsStOrder lists.now s t at made.from.items) }
 {
     let n = lists.len();
-    let mut from = vec![in alloc; 0u16; n]?;
-    let mut to = vec![in alloc; 0u16; n]?;
-    let mut side = vec![in alloc; false; n]?;
-    let mut recent = vec![in alloc; false; n]?;
+    let mut from = zeros(ranges.from, n)?;
+    let mut to = zeros(ranges.to, n)?;
+    let mut side = unset(ranges.side, n)?;
+    let mut recent = unset(ranges.recent, n)?;
     place_all(
         lists,
         &forest.order,
@@ -94,7 +141,12 @@ fn places(
         &mut side,
         &mut recent,
     );
-    Ok(from)
+    Ok(Ranges {
+        from,
+        to,
+        side,
+        recent,
+    })
 }
 
 // The order with these places.
@@ -128,12 +180,11 @@ fn list_order(alloc: Global, lists: &Rotations, s: u16, t: u16) -> Result<StOrde
 {
     let forest = search_forest_along(alloc, lists, s, t)?;
     let low = low_points(alloc, lists, &forest)?;
-    let from = places(alloc, lists, &forest, &low, s, t)?;
-    order_of(alloc, lists, &from, s, t)
+    let ranges = places_again(Ranges::new(alloc), lists, &forest, &low, s, t)?;
+    order_of(alloc, lists, &ranges.from, s, t)
 }
 
-/// For each vertex its place, from 0, in an st-order for the dart from s to t of a connected map without cut vertices,
-/// by a search from s that sees t next, in linear time. It fails only for want of memory.
+/// Like [`places_again`], but returns the places alone, in memory of their own.
 pub fn st_ranks(
     alloc: Global,
     lists: &Rotations,
@@ -153,8 +204,8 @@ pub fn st_ranks(
     requires second { slice_index forest.now.number.items t ≡ 1 }
     ensures { IfOk result (λ rank. (at : List ℕ) × IsStOrder lists.now s t at rank) }
 {
-    let from = places(alloc, lists, forest, low, s, t)?;
-    let rank = counts_of(alloc, &from)?;
+    let ranges = places_again(Ranges::new(alloc), lists, forest, low, s, t)?;
+    let rank = counts_of(alloc, &ranges.from)?;
     Ok(rank)
 }
 

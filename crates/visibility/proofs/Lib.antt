@@ -1,6 +1,9 @@
 -- The lemmas on ends, and on the figure.
 mod EndRows
+mod SpanLemmas
 mod Drawn
+mod ListDrawn
+mod DrawerLemmas
 mod Refused
 -- Lemmas on the figures of records by bars.
 pub mod FirstDart

@@ -1,7 +1,10 @@
 -- The figure of a record by bars: valid, and the one of an st-order and its dual numbers.
-use Rattle.std.specs.Prelude.{ℕ, ◌-◌, List, slice_index, pos}
+use Rattle.std.specs.Prelude.{ℕ, ◌-◌, ◌≡◌, List, slice_index, pos}
 use Rattle.map_lists.specs.Lists.{Lists}
-use Rattle.map_theory.specs.Maps.{list_of, face_count}
+use Rattle.map_theory.specs.Maps.{list_of, face_count, component_count}
+use Rattle.graph_search.specs.Forests.{IsForestOf}
+use Rattle.graph_search.specs.Lows.{AreLows}
+use Rattle.graph_search.specs.Cuts.{IsCutVertex}
 use Rattle.pg_plane.specs.declared.figure.BarFigure.{BarFigure}
 use Rattle.bar_check.specs.Bars.{HasBars, IsValidBars}
 use Rattle.st_orders.specs.StOrders.{IsStOrder}
@@ -22,3 +25,12 @@ pub record IsBarFigure (lists : Lists) (fig : BarFigure) : Type 0 where
   pub bars : HasBars lists fig
   pub valid : IsValidBars lists fig (pos (face_count lists - 1))
   pub placed : IsStDrawing lists 0 (slice_index (list_of lists 0) 0) fig
+
+-- a search from vertex 0 that sees t next, of a connected map without cut vertices, with its low points
+pub record IsUncutSearch (lists : Lists) (t : ℕ) (order number last parent low : List ℕ) : Type 0 where
+  pub connected : component_count lists ≡ 1
+  pub uncut : (v : ℕ) → ¬ IsCutVertex lists v
+  pub forest : IsForestOf lists order number last parent
+  pub lows : AreLows lists number last low
+  pub first : slice_index number 0 ≡ 0
+  pub second : slice_index number t ≡ 1

@@ -3,3 +3,5 @@ pub mod Ends
 pub mod Bars
 -- The figures of records by bars.
 pub mod Figures
+-- The pass from numbers of faces to columns and ends.
+pub mod Spans

@@ -2,5 +2,7 @@
 //! the first condition of the job that the record breaks.
 
 mod draw;
+mod drawer;
 
 pub use draw::bar_figure;
+pub use drawer::BarDrawer;

@@ -9,7 +9,7 @@ use pg_plane::Ints;
 use std::alloc::{AllocError, Global};
 
 // A number as a coordinate.
-fn coordinate(number: u32) -> i32
+pub(crate) fn coordinate(number: u32) -> i32
     requires { number < 2 ^ 31 }
     ensures { result ≡ pos number }
 {
@@ -17,16 +17,17 @@ fn coordinate(number: u32) -> i32
 }
 
 // The lesser of two.
-fn lesser(a: u32, b: u32) -> u32
+pub(crate) fn lesser(a: u32, b: u32) -> u32
     ensures below { result ≤ a }
     ensures below_other { result ≤ b }
+    ensures fits { b < 2 ^ 32 }
     ensures one { (result ≡ a) ⊎ (result ≡ b) }
 {
     if a < b { a } else { b }
 }
 
 // The greater of two.
-fn greater(a: u32, b: u32) -> u32
+pub(crate) fn greater(a: u32, b: u32) -> u32
     ensures above { a ≤ result }
     ensures above_other { b ≤ result }
     ensures one { (result ≡ a) ⊎ (result ≡ b) }
@@ -92,6 +93,18 @@ pub(crate) fn coordinates(alloc: Global, numbers: &Counts) -> Result<Ints, Alloc
     let mut made = Ints::with_capacity(alloc, numbers.len())?;
     for i in 0..numbers.len() {
         made.push(coordinate(numbers.get(i)))?;
+    }
+    Ok(made)
+}
+
+// Converts a table of numbers into coordinates.
+pub(crate) fn coordinates_of(alloc: Global, numbers: &[u32]) -> Result<Ints, AllocError>
+    requires low { (i : ℕ) → slice_index numbers.now i < 2 ^ 31 }
+    ensures { IfOk result (λ made. made ≡ map pos numbers.now) }
+{
+    let mut made = Ints::with_capacity(alloc, numbers.len())?;
+    for i in 0..numbers.len() {
+        made.push(coordinate(numbers[i]))?;
     }
     Ok(made)
 }

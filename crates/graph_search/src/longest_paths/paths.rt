@@ -1,5 +1,5 @@
 //! Longest paths, by a queue of the vertices into which no arc is left.
-ghost use Rattle.std.specs.Prelude.{◌≡◌, ◌+◌, ◌<◌, ◌≤◌, ◌^◌, ◌==◌, ◌++◌, ℕ, List, [], ◌∷◌, length, slice_index, count_by, All, Contains, IfOk};
+ghost use Rattle.std.specs.Prelude.{◌≡◌, ◌+◌, ◌<◌, ◌≤◌, ◌^◌, ◌==◌, ◌++◌, ℕ, List, [], ◌∷◌, length, slice_index, replicate, count_by, All, Contains, IfOk};
 ghost use Rattle.map_lists.specs.Cuts.{joined};
 ghost use Rattle.graph_search.specs.Arcs.{arcs_of, HasArc, IsAcyclic, AreLongest, IsTopological};
 ghost use Rattle.graph_search.specs.Progress.{IsRaised, IsPut, IsUsed, IsProgress, IsAt, used_at, all_into};
@@ -155,9 +155,78 @@ fn count_arcs(counts: &mut [usize], arcs: &ItemLists<u32>)
     }
 }
 
+/// The tables of a search for longest paths, which keep their memory from one graph to the next.
+#[derive(Drop)]
+pub struct PathTables {
+    /// For each vertex the length of the longest path to it.
+    pub number: Vec<u32>,
+    // for each vertex how many arcs to it are not used yet
+    waiting: Vec<usize>,
+    // the vertices to which no arc is left
+    queue: Vec<u32>,
+}
+
+impl PathTables {
+    /// Tables of no graph. They take no memory.
+    pub fn new(alloc: Global) -> PathTables {
+        PathTables {
+            number: Vec::new(alloc),
+            waiting: Vec::new(alloc),
+            queue: Vec::new(alloc),
+        }
+    }
+}
+
+// A table with 0 at each of `n` places, in the memory of another.
+fn zeros(table: Vec<u32>, n: usize) -> Result<Vec<u32>, AllocError>
+    ensures { IfOk result (λ made. made.items ≡ replicate n 0) }
+{
+    let mut table = table;
+    table.clear();
+    table.resize(n, 0)?;
+    Ok(table)
+}
+
+// How many arcs lead to each vertex, in the memory of another table.
+fn arcs_into(table: Vec<usize>, arcs: &ItemLists<u32>) -> Result<Vec<usize>, AllocError>
+    requires within { (e r : ℕ) → HasArc arcs.now e r → r < length arcs.now }
+    ensures count { IfOk result (λ made. length made.items ≡ length arcs.now) }
+    ensures each { IfOk result (λ made. (r : ℕ) → r < length arcs.now → slice_index made.items r ≡ all_into arcs.now r) }
+{
+    let mut table = table;
+    table.clear();
+    table.resize(arcs.len(), 0)?;
+    count_arcs(&mut table, arcs);
+    Ok(table)
+}
+
 /// For each vertex the length of the longest path from the base to it, without the arcs that lead to the
-/// base. It fails only for want of memory. The time is linear in the vertices and arcs, and so is the
-/// memory.
+/// base, in the memory of other tables. It fails only for want of memory. The time is linear in the vertices and
+/// arcs, and so is the memory.
+pub fn longest_paths_again(
+    tables: PathTables,
+    arcs: &ItemLists<u32>,
+    base: u32,
+) -> Result<PathTables, AllocError>
+    requires acyclic { IsAcyclic arcs.now base }
+    requires few { length arcs.now < 2 ^ 32 }
+    ensures longest { IfOk result (λ made. AreLongest arcs.now base made.number.items) }
+    ensures order { IfOk result (λ made. IsTopological arcs.now base made.queue.items) }
+{
+    let mut waiting = arcs_into(tables.waiting, arcs)?;
+    let mut number = zeros(tables.number, arcs.len())?;
+    let mut queue = tables.queue;
+    queue.clear();
+    queue.push(base)?;
+    visit_all(arcs, base, &mut number, &mut waiting, &mut queue)?;
+    Ok(PathTables {
+        number,
+        waiting,
+        queue,
+    })
+}
+
+/// Like [`longest_paths_again`], in memory of its own.
 pub fn longest_paths(
     alloc: Global,
     arcs: &ItemLists<u32>,
@@ -167,13 +236,8 @@ pub fn longest_paths(
     requires few { length arcs.now < 2 ^ 32 }
     ensures { IfOk result (λ number. AreLongest arcs.now base number.items) }
 {
-    let mut waiting = vec![in alloc; 0; arcs.len()]?;
-    count_arcs(&mut waiting, arcs);
-    let mut number = vec![in alloc; 0; arcs.len()]?;
-    let mut queue = Vec::with_capacity(alloc, arcs.len())?;
-    queue.push(base)?;
-    visit_all(arcs, base, &mut number, &mut waiting, &mut queue)?;
-    Ok(number)
+    let made = longest_paths_again(PathTables::new(alloc), arcs, base)?;
+    Ok(made.number)
 }
 
 /// All vertices in an order in which each but the base stands behind those from which arcs lead to it. The base is
@@ -187,11 +251,6 @@ pub fn topological_order(
     requires few { length arcs.now < 2 ^ 32 }
     ensures { IfOk result (λ order. IsTopological arcs.now base order.items) }
 {
-    let mut waiting = vec![in alloc; 0; arcs.len()]?;
-    count_arcs(&mut waiting, arcs);
-    let mut number = vec![in alloc; 0; arcs.len()]?;
-    let mut queue = Vec::with_capacity(alloc, arcs.len())?;
-    queue.push(base)?;
-    visit_all(arcs, base, &mut number, &mut waiting, &mut queue)?;
-    Ok(queue)
+    let made = longest_paths_again(PathTables::new(alloc), arcs, base)?;
+    Ok(made.queue)
 }

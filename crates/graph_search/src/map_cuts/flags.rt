@@ -1,9 +1,11 @@
 //! Which vertices are cut vertices.
 ghost use Rattle.std.specs.Prelude.{◌≡◌, ◌+◌, ◌<◌, ◌≤◌, ◌↔◌, ℕ, length, slice_index, All, IfOk, IsTrue, MatchBool};
-ghost use Rattle.graph_search.specs.Forests.{IsAdjacency};
+ghost use Rattle.graph_search.specs.Cuts.{IsCutVertex};
+ghost use Rattle.graph_search.specs.Forests.{IsAdjacency, IsForestOf};
+ghost use Rattle.graph_search.specs.Lows.{AreLows};
 ghost use Rattle.graph_search.specs.Flags.{AreCutFlags, IsSeparatedIn, HasSeparatedChild, TellSeparated};
 
-use crate::search_forests::{low_points, search_forest};
+use crate::search_forests::{Forest, low_points, search_forest};
 use map_lists::Rotations;
 use std::alloc::{AllocError, Global};
 
@@ -68,6 +70,35 @@ pub(crate) fn has_separated(
         }
     }
     false
+}
+
+/// Whether no vertex of lists in which adjacency goes both ways is a cut vertex, by a search of them and its low
+/// points. It looks once at each vertex.
+pub fn is_uncut(lists: &Rotations, forest: &Forest, low: &[u16]) -> bool
+    requires adjacency { IsAdjacency lists.now }
+    requires few { length lists.now < 4096 }
+    requires forest { IsForestOf lists.now forest.now.order.items forest.now.number.items forest.now.last.items forest.now.parent.items }
+    requires lows { AreLows lists.now forest.now.number.items forest.now.last.items low.now }
+    ensures { IsTrue result → (v : ℕ) → ¬ IsCutVertex lists.now v }
+{
+    no_child_apart(&forest.number, &forest.parent, low)
+}
+
+// Whether no vertex is a child that its parent parts from others.
+fn no_child_apart(number: &[u16], parent: &[u16], low: &[u16]) -> bool
+    requires few { length number.now < 4096 }
+    requires small { (v : ℕ) → v < length number.now → slice_index number.now v < length number.now }
+    requires parents { length parent.now ≡ length number.now }
+    requires lows { length low.now ≡ length number.now }
+    ensures { IsTrue result → (v u : ℕ) → v < length number.now → ¬ IsSeparatedIn number.now parent.now low.now v u }
+{
+    for u in 0..number.len() {
+        let v = parent[u];
+        if (v as usize) < number.len() && is_separated(number, parent, low, v, u as u16) {
+            return false;
+        }
+    }
+    true
 }
 
 // Sets the flag of each vertex whose list has one.

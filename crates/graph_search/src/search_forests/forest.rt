@@ -193,6 +193,79 @@ pub fn search_forest(alloc: Global, lists: &Rotations) -> Result<Forest, AllocEr
     })
 }
 
+impl Forest {
+    /// A forest of no lists. It takes no memory.
+    pub fn new(alloc: Global) -> Forest {
+        Forest {
+            order: Vec::new(alloc),
+            number: Vec::new(alloc),
+            last: Vec::new(alloc),
+            parent: Vec::new(alloc),
+        }
+    }
+}
+
+// A table with `value` at each of `n` places, in the memory of another.
+pub(crate) fn filled(table: Vec<u16>, value: u16, n: usize) -> Result<Vec<u16>, AllocError>
+    ensures { IfOk result (λ made. made.items ≡ replicate n value) }
+{
+    let mut table = table;
+    table.clear();
+    table.resize(n, value)?;
+    Ok(table)
+}
+
+// A table with 0 at each of `n` places, in the memory of another.
+fn unread(table: Vec<usize>, n: usize) -> Result<Vec<usize>, AllocError>
+    ensures { IfOk result (λ made. made.items ≡ replicate n 0) }
+{
+    let mut table = table;
+    table.clear();
+    table.resize(n, 0)?;
+    Ok(table)
+}
+
+/// Like [`search_forest_along`], in the memory of an earlier forest and of its cursors. It returns both.
+pub fn search_again(
+    forest: Forest,
+    cursor: Vec<usize>,
+    lists: &Rotations,
+    s: u16,
+    t: u16,
+) -> Result<(Forest, Vec<usize>), AllocError>
+    requires adjacency { IsAdjacency lists.now }
+    requires few { length lists.now < 4096 }
+    requires dart { HasDart lists.now s t }
+    requires two { s ≢ t }
+    ensures forest { IfOk result (λ f. IsForestOf lists.now f.0.order.items f.0.number.items f.0.last.items f.0.parent.items) }
+    ensures first { IfOk result (λ f. slice_index f.0.number.items s ≡ 0) }
+    ensures second { IfOk result (λ f. slice_index f.0.number.items t ≡ 1) }
+{
+    let n = lists.len();
+    let mut order = filled(forest.order, 0, n)?;
+    let mut number = filled(forest.number, n as u16, n)?;
+    let mut last = filled(forest.last, 0, n)?;
+    let mut parent = filled(forest.parent, 0, n)?;
+    let mut cursor = unread(cursor, n)?;
+    search_along(
+        lists,
+        &mut order,
+        &mut number,
+        &mut last,
+        &mut parent,
+        &mut cursor,
+        s,
+        t,
+    );
+    let forest = Forest {
+        order,
+        number,
+        last,
+        parent,
+    };
+    Ok((forest, cursor))
+}
+
 /// Like [`search_forest`], but begins at `s`, which sees its neighbour `t` next.
 pub fn search_forest_along(
     alloc: Global,
@@ -208,26 +281,6 @@ pub fn search_forest_along(
     ensures first { IfOk result (λ f. slice_index f.number.items s ≡ 0) }
     ensures second { IfOk result (λ f. slice_index f.number.items t ≡ 1) }
 {
-    let n = lists.len();
-    let mut order = vec![in alloc; 0u16; n]?;
-    let mut number = vec![in alloc; n as u16; n]?;
-    let mut last = vec![in alloc; 0u16; n]?;
-    let mut parent = vec![in alloc; 0u16; n]?;
-    let mut cursor = vec![in alloc; 0usize; n]?;
-    search_along(
-        lists,
-        &mut order,
-        &mut number,
-        &mut last,
-        &mut parent,
-        &mut cursor,
-        s,
-        t,
-    );
-    Ok(Forest {
-        order,
-        number,
-        last,
-        parent,
-    })
+    let made = search_again(Forest::new(alloc), Vec::new(alloc), lists, s, t)?;
+    Ok(made.0)
 }

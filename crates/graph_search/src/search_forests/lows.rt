@@ -4,7 +4,7 @@ ghost use Rattle.map_theory.specs.Maps.{list_of};
 ghost use Rattle.graph_search.specs.Forests.{IsAdjacency, IsForestOf};
 ghost use Rattle.graph_search.specs.Lows.{AreLows, IsLow, IsLeastAlong, low_along};
 
-use crate::search_forests::forest::Forest;
+use crate::search_forests::forest::{Forest, filled};
 use map_lists::Rotations;
 use std::alloc::{AllocError, Global};
 
@@ -66,14 +66,18 @@ fn fill_lows(
     }
 }
 
-/// The low points of a search's vertices. It fails only for want of memory.
-pub fn low_points(alloc: Global, lists: &Rotations, forest: &Forest) -> Result<Vec<u16>, AllocError>
+/// Like [`low_points`], in the memory of other low points.
+pub fn low_points_again(
+    low: Vec<u16>,
+    lists: &Rotations,
+    forest: &Forest,
+) -> Result<Vec<u16>, AllocError>
     requires few { length lists.now < 4096 }
     requires adjacency { IsAdjacency lists.now }
     requires forest { IsForestOf lists.now forest.now.order.items forest.now.number.items forest.now.last.items forest.now.parent.items }
     ensures { IfOk result (λ low. AreLows lists.now forest.now.number.items forest.now.last.items low.items) }
 {
-    let mut low = vec![in alloc; 0u16; lists.len()]?;
+    let mut low = filled(low, 0, lists.len())?;
     fill_lows(
         lists,
         &forest.order,
@@ -82,5 +86,16 @@ pub fn low_points(alloc: Global, lists: &Rotations, forest: &Forest) -> Result<V
         &forest.parent,
         &mut low,
     );
+    Ok(low)
+}
+
+/// The low points of a search's vertices. It fails only for want of memory.
+pub fn low_points(alloc: Global, lists: &Rotations, forest: &Forest) -> Result<Vec<u16>, AllocError>
+    requires few { length lists.now < 4096 }
+    requires adjacency { IsAdjacency lists.now }
+    requires forest { IsForestOf lists.now forest.now.order.items forest.now.number.items forest.now.last.items forest.now.parent.items }
+    ensures { IfOk result (λ low. AreLows lists.now forest.now.number.items forest.now.last.items low.items) }
+{
+    let low = low_points_again(Vec::new(alloc), lists, forest)?;
     Ok(low)
 }

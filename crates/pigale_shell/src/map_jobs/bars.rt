@@ -6,11 +6,13 @@ use pg_plane::BarFigure;
 use pigale_words::Form;
 use refusals::Unserved;
 use std::alloc::{AllocError, Global};
-use visibility::bar_figures::bar_figure;
+use visibility::bar_figures::BarDrawer;
 
 /// Draws by bars that see each other.
 #[derive(Drop)]
-pub struct Bars;
+pub struct Bars {
+    drawer: BarDrawer,
+}
 
 impl Method for Bars {
     ghost use Rattle.visibility.specs.Figures.{IsBarFigure};
@@ -23,12 +25,14 @@ impl Method for Bars {
 
     ghost IsFigure = { IsBarFigure };
 
-    fn new(_alloc: Global) -> Bars {
-        Bars
+    fn new(alloc: Global) -> Bars {
+        Bars {
+            drawer: BarDrawer::new(alloc),
+        }
     }
 
-    fn figure(&mut self, alloc: Global, lists: &Rotations) -> Result<BarFigure, Unserved> {
-        bar_figure(alloc, lists)
+    fn figure(&mut self, _alloc: Global, lists: &Rotations) -> Result<BarFigure, Unserved> {
+        self.drawer.figure(lists)
     }
 
     fn print(

@@ -4,7 +4,8 @@ use Rattle.graph_search.proofs.ForestLemmas.{IsAdjacency-simple}
 use Rattle.st_orders.specs.Placing.{ArePlaces}
 use Rattle.st_orders.proofs.WholeLemmas.{IsWholeSearch-biconnected}
 use Rattle.st_orders.proofs.FinishLemmas.{ArePlaces-placed}
-use Rattle.st_orders.proofs.orders.places.Goals as goal
+use Rattle.st_orders.proofs.RankLemmas.{IsStOrder-places}
+use Rattle.st_orders.proofs.orders.places_again.Goals as goal
 
 pub place_all-requires-clause-whole : goal.place_all-requires-clause-whole
 place_all-requires-clause-whole c =
@@ -13,8 +14,8 @@ place_all-requires-clause-whole c =
     rw (c.deref.ensures.value, c.deref-2.ensures.value, c.deref-3.ensures.value, c.deref-4.ensures.value)
     (IsWholeSearch-biconnected c.args.lists.now r.simple r.connected r.uncut f.order.items f.number.items f.last.items f.parent.items c.args.low.now r.forest r.lows c.args.s c.args.t r.dart r.first r.second).0
 
-pub returns : goal.returns
-returns c =
+pub returns-clause-places : goal.returns-clause-places
+returns-clause-places c =
     let r = c.requires in
     let f = c.args.forest.now in
     let low = c.args.low.now in
@@ -24,3 +25,6 @@ returns c =
     let len : length from ≡ c.in_ok-from.from.len = c.place_all.auto.from ∙ c.deref_mut.ensures.len in
     subst (λ (xs : List ℕ). ArePlaces c.args.lists.now c.args.s c.args.t xs) (sym (take_at from _ c.in_ok-from.from.len len))
     (ArePlaces-placed c.args.lists.now (IsAdjacency-simple c.args.lists.now r.simple) f.order.items f.number.items f.last.items f.parent.items low from c.place_all.new.to c.place_all.new.side c.place_all.new.recent whole.0 placing c.args.s c.args.t whole.1 whole.2 r.dart)
+
+pub returns-clause-order : goal.returns-clause-order
+returns-clause-order c = IsStOrder-places c.args.lists.now c.args.s c.args.t _ (returns-clause-places c)

@@ -1,0 +1,206 @@
+//! The faces of a map, numbered by walks over the numbers of its darts, with the arcs between them.
+ghost use Rattle.std.specs.Prelude.{◌≡◌, ◌<◌, ◌+◌, ◌==◌, ◌||◌, if◌then◌else◌, ◌∷◌, ◌^◌, ℕ, [], false, length, map, slice_index, slice_index_or, OnOk, IfOk};
+ghost use Rattle.classes.specs.Classes.{same_class};
+ghost use Rattle.classes.proofs.Marks.{KeepsMarks};
+ghost use Rattle.map_lists.specs.Cuts.{cut};
+ghost use Rattle.map_theory.specs.Maps.{face_images, face_classes};
+ghost use Rattle.euler_faces.specs.Numbers.{mark_at};
+ghost use Rattle.euler_faces.specs.Search.{IsNumberedBy};
+ghost use Rattle.euler_faces.specs.FaceSearch.{no_face, with_face};
+ghost use Rattle.bipolar.specs.FaceNumbers.{AreDarts, AreFaceNumbers, AreFaceArcs, IsPutUp, ArePutTwins, AreNumberedBelow};
+
+use map_lists::ItemLists;
+use std::alloc::{AllocError, Global};
+
+// What stands in place of the face of a dart that was not met yet.
+const NO_FACE: u32 = u32::MAX;
+
+// Where list `v` begins.
+fn start_of(ends: &[usize], v: usize) -> usize
+    requires { v < length ends.now }
+    ensures { result ≡ slice_index_or (0 ∷ ends.now) v 0 }
+{
+    if v == 0 { 0 } else { ends[v - 1] }
+}
+
+// The number of the dart after number `d` in list `v`, cyclically.
+fn after(ends: &[usize], v: usize, d: usize) -> usize
+    requires v_in { v < length ends.now }
+    requires fits { d < 4294967295 }
+    ensures { result ≡ (if d + 1 == slice_index ends.now v then slice_index_or (0 ∷ ends.now) v 0 else d + 1) }
+{
+    if d + 1 == ends[v] {
+        start_of(ends, v)
+    } else {
+        d + 1
+    }
+}
+
+// Puts the twin of an upward dart behind others.
+fn put_upward(
+    rank: &[u16],
+    tail: u16,
+    head: u16,
+    twin: u32,
+    arcs: &mut Vec<u32>,
+) -> Result<(), AllocError>
+    requires tail { tail < length rank.now }
+    requires head { head < length rank.now }
+    ensures { OnOk result (IsPutUp rank.now tail head twin arcs.old.items arcs.new.items) }
+{
+    if rank[tail as usize] < rank[head as usize] {
+        arcs.push(twin)?;
+    }
+    Ok(())
+}
+
+// Writes the number `f` at the darts of the face of `start`, and puts the twins of its upward darts behind others.
+fn walk_face(
+    entries: &[u16],
+    ends: &[usize],
+    twins: &[u32],
+    rank: &[u16],
+    of: &mut [u32],
+    arcs: &mut Vec<u32>,
+    start: usize,
+    f: u32,
+) -> Result<(), AllocError>
+    requires darts { AreDarts entries.now ends.now twins.now }
+    requires ranks { length rank.now ≡ length ends.now }
+    requires size { length of.old ≡ length entries.now }
+    requires start_in { start < length entries.now }
+    requires number { f < no_face }
+    requires kept { KeepsMarks (face_images (cut 0 ends.now entries.now)) (mark_at (with_face of.old)) }
+    ensures marked { OnOk result ((i : ℕ) → i < length entries.now → mark_at (with_face of.new) i
+        ≡ (mark_at (with_face of.old) i || same_class (face_classes (cut 0 ends.now entries.now)) start i)) }
+    ensures numbered { OnOk result (IsNumberedBy no_face of.old of.new f) }
+    ensures put { OnOk result (ArePutTwins (cut 0 ends.now entries.now) rank.now twins.now of.old of.new arcs.old.items arcs.new.items) }
+{
+    let mut d = start;
+    while of[d] == NO_FACE {
+        of[d] = f;
+        let twin = twins[d];
+        let head = entries[d];
+        put_upward(rank, entries[twin as usize], head, twin, arcs)?;
+        d = after(ends, head as usize, twin as usize);
+    }
+    Ok(())
+}
+
+// Numbers the face of the dart with number `d`, where it is the least of its face: where it has no face yet, and
+// those of the darts before have.
+fn number_dart(
+    entries: &[u16],
+    ends: &[usize],
+    twins: &[u32],
+    rank: &[u16],
+    of: &mut [u32],
+    arcs: &mut Vec<u32>,
+    arc_ends: &mut Vec<usize>,
+    d: usize,
+) -> Result<(), AllocError>
+    requires darts { AreDarts entries.now ends.now twins.now }
+    requires ranks { length rank.now ≡ length ends.now }
+    requires d_in { d < length entries.now }
+    requires below { AreNumberedBelow (cut 0 ends.now entries.now) rank.now twins.now of.old arcs.old.items arc_ends.old.items d }
+    ensures { OnOk result (AreNumberedBelow (cut 0 ends.now entries.now) rank.now twins.now of.new arcs.new.items arc_ends.new.items (d + 1)) }
+{
+    if of[d] != NO_FACE {
+        return Ok(());
+    }
+    let f = arc_ends.len() as u32;
+    walk_face(entries, ends, twins, rank, of, arcs, d, f)?;
+    arc_ends.push(arcs.len())?;
+    Ok(())
+}
+
+// Numbers all faces, and puts the twins of the upward darts of each behind those of the ones before.
+fn number_all(
+    entries: &[u16],
+    ends: &[usize],
+    twins: &[u32],
+    rank: &[u16],
+    of: &mut [u32],
+    arcs: &mut Vec<u32>,
+    arc_ends: &mut Vec<usize>,
+) -> Result<(), AllocError>
+    requires darts { AreDarts entries.now ends.now twins.now }
+    requires ranks { length rank.now ≡ length ends.now }
+    requires size { length of.old ≡ length entries.now }
+    requires unset { (i : ℕ) → mark_at (with_face of.old) i ≡ false }
+    requires no_arcs { arcs.old.items ≡ [] }
+    requires no_ends { arc_ends.old.items ≡ [] }
+    ensures { OnOk result (AreNumberedBelow (cut 0 ends.now entries.now) rank.now twins.now of.new arcs.new.items arc_ends.new.items (length entries.now)) }
+{
+    for d in 0..entries.len() {
+        number_dart(entries, ends, twins, rank, of, arcs, arc_ends, d)?;
+    }
+    Ok(())
+}
+
+// Puts the face of each dart in its place.
+fn lead_to_faces(arcs: &mut [u32], of: &[u32])
+    requires within { (i : ℕ) → i < length arcs.old → slice_index arcs.old i < length of.now }
+    ensures { arcs.new ≡ map (λ d. slice_index of.now d) arcs.old }
+{
+    for i in 0..arcs.len() {
+        arcs[i] = of[arcs[i] as usize];
+    }
+}
+
+/// The faces of a map with ranks. The tables keep their memory from one map to the next.
+#[derive(Drop)]
+pub struct FaceTables {
+    /// For each dart, by its number, the number of its face.
+    pub of: Vec<u32>,
+    /// For each face the faces on the right of the upward edges on its left.
+    pub arcs: ItemLists<u32>,
+}
+
+impl FaceTables {
+    /// Tables of no map. They take no memory.
+    pub fn new(alloc: Global) -> FaceTables {
+        FaceTables {
+            of: Vec::new(alloc),
+            arcs: ItemLists::new(alloc),
+        }
+    }
+}
+
+/// Numbers the faces of a map, given by its lists one behind another and by the twins of its darts, and leads from
+/// each to those on the right of its upward edges. It goes on in the memory of other tables, and fails only for want
+/// of memory. The time is linear in the darts.
+pub fn number_faces(
+    tables: FaceTables,
+    entries: &[u16],
+    ends: &[usize],
+    twins: &[u32],
+    rank: &[u16],
+) -> Result<FaceTables, AllocError>
+    requires darts { AreDarts entries.now ends.now twins.now }
+    requires ranks { length rank.now ≡ length ends.now }
+    ensures numbers { IfOk result (λ made. AreFaceNumbers (cut 0 ends.now entries.now) made.of.items (length made.arcs)) }
+    ensures arcs { IfOk result (λ made. AreFaceArcs (cut 0 ends.now entries.now) rank.now made.of.items (length made.arcs) made.arcs) }
+    ensures few { IfOk result (λ made. length made.arcs < 2 ^ 32) }
+{
+    let mut of = tables.of;
+    of.clear();
+    of.resize(entries.len(), NO_FACE)?;
+    let (mut arcs, mut arc_ends) = tables.arcs.into_parts();
+    arcs.clear();
+    arc_ends.clear();
+    number_all(
+        entries,
+        ends,
+        twins,
+        rank,
+        &mut of,
+        &mut arcs,
+        &mut arc_ends,
+    )?;
+    lead_to_faces(&mut arcs, &of);
+    Ok(FaceTables {
+        of,
+        arcs: ItemLists::from_parts(arcs, arc_ends),
+    })
+}

@@ -1,0 +1,102 @@
+use Rattle.std.proofs.Common.{◌≡◌, ℕ, ◌+◌, ◌<◌, List, length, get_or, cond, ltb, set, refl, sym, ap, ◌∙◌, subst, arith}
+use Rattle.map_theory.specs.Maps.{list_of}
+use Rattle.map_theory.proofs.DartCounts.{few_darts-simple}
+use Rattle.graph_search.specs.Arcs.{arcs_of}
+use Rattle.bipolar.specs.FaceNumbers.{left_rows}
+use Rattle.bipolar.proofs.ColumnLemmas.{place_in, IsFilled-more}
+use Rattle.bipolar.proofs.FaceAgree.{length-left_row}
+use Rattle.visibility.proofs.SpanLemmas.{IsSpan-more, IsLeastOf-span, IsGreatestOf-span, entry_in, entry_twin_in, entry_head, entry_is}
+use Rattle.visibility.proofs.spans.put_row.Goals as goal
+
+pub overflow_add-first : goal.overflow_add-first
+overflow_add-first c =
+    let lists = c.args.lists.now in
+    let s = c.requires.sides in
+    let li : c.loop-i.i < length (list_of lists c.args.b) = omega (arith, c.loop-i-test.true, ap (λ (us : List ℕ). length us) c.list-list.ensures) in
+    omega (arith, entry_in lists c.args.rank.now c.args.of.now c.args.twins.now c.args.numbers.now s c.args.b c.loop-i.i c.requires.vertex li, c.requires.first, few_darts-simple lists s.few s.simple)
+
+pub bounds-rank-a : goal.bounds-rank-a
+bounds-rank-a c =
+    let lists = c.args.lists.now in
+    let s = c.requires.sides in
+    let li : c.loop-i.i < length (list_of lists c.args.b) = omega (arith, c.loop-i-test.true, ap (λ (us : List ℕ). length us) c.list-list.ensures) in
+    omega (arith, entry_head lists c.args.rank.now c.args.of.now c.args.twins.now c.args.numbers.now s c.args.b c.loop-i.i c.requires.vertex li, s.ranks, ap (λ (us : List ℕ). get_or us c.loop-i.i 0) c.list-list.ensures)
+
+pub left_number-x-requires-clause-dart : goal.left_number-x-requires-clause-dart
+left_number-x-requires-clause-dart c =
+    let lists = c.args.lists.now in
+    let s = c.requires.sides in
+    let li : c.loop-i.i < length (list_of lists c.args.b) = omega (arith, c.loop-i-test.true, ap (λ (us : List ℕ). length us) c.list-list.ensures) in
+    omega (arith, entry_in lists c.args.rank.now c.args.of.now c.args.twins.now c.args.numbers.now s c.args.b c.loop-i.i c.requires.vertex li, c.requires.first, s.faces)
+
+pub left_number-x-requires-clause-twin_in : goal.left_number-x-requires-clause-twin_in
+left_number-x-requires-clause-twin_in c =
+    let lists = c.args.lists.now in
+    let s = c.requires.sides in
+    let li : c.loop-i.i < length (list_of lists c.args.b) = omega (arith, c.loop-i-test.true, ap (λ (us : List ℕ). length us) c.list-list.ensures) in
+    omega (arith, entry_in lists c.args.rank.now c.args.of.now c.args.twins.now c.args.numbers.now s c.args.b c.loop-i.i c.requires.vertex li, c.requires.first, s.twin_count)
+
+pub left_number-x-requires-clause-twin : goal.left_number-x-requires-clause-twin
+left_number-x-requires-clause-twin c =
+    let lists = c.args.lists.now in
+    let s = c.requires.sides in
+    let li : c.loop-i.i < length (list_of lists c.args.b) = omega (arith, c.loop-i-test.true, ap (λ (us : List ℕ). length us) c.list-list.ensures) in
+    omega (arith, entry_twin_in lists c.args.rank.now c.args.of.now c.args.twins.now c.args.numbers.now s c.args.b c.loop-i.i c.requires.vertex li, ap (λ k. get_or c.args.twins.now (k + c.loop-i.i) 0) c.requires.first, s.faces)
+
+pub put_if-requires-clause-vertex : goal.put_if-requires-clause-vertex
+put_if-requires-clause-vertex c =
+    let lists = c.args.lists.now in
+    let s = c.requires.sides in
+    let li : c.loop-i.i < length (list_of lists c.args.b) = omega (arith, c.loop-i-test.true, ap (λ (us : List ℕ). length us) c.list-list.ensures) in
+    omega (arith, entry_head lists c.args.rank.now c.args.of.now c.args.twins.now c.args.numbers.now s c.args.b c.loop-i.i c.requires.vertex li, c.loop-i.invariant.filled.vertices, ap (λ (us : List ℕ). get_or us c.loop-i.i 0) c.list-list.ensures)
+
+pub put_if-requires-clause-place : goal.put_if-requires-clause-place
+put_if-requires-clause-place c = λ l.
+    let lists = c.args.lists.now in
+    let s = c.requires.sides in
+    let rows = left_rows lists c.args.rank.now c.args.of.now c.args.numbers.now in
+    let i = c.loop-i.i in
+    let li : i < length (list_of lists c.args.b) = omega (arith, c.loop-i-test.true, ap (λ (us : List ℕ). length us) c.list-list.ensures) in
+    let same : get_or c.list-list.result.now i 0 ≡ get_or (list_of lists c.args.b) i 0 = ap (λ (us : List ℕ). get_or us i 0) c.list-list.ensures in
+    omega (arith, place_in lists rows s.simple c.args.b i c.loop-i.starts c.loop-i.columns c.requires.vertex li c.loop-i.invariant.filled (omega (arith, l, same)), ap (λ z. get_or c.loop-i.starts z 0) same)
+
+pub loop-i-preserved : goal.loop-i-preserved
+loop-i-preserved c =
+    let lists = c.args.lists.now in
+    let s = c.requires.sides in
+    let rank = c.args.rank.now in
+    let of = c.args.of.now in
+    let twins = c.args.twins.now in
+    let numbers = c.args.numbers.now in
+    let rows = left_rows lists rank of numbers in
+    let b = c.args.b in
+    let i = c.loop-i.i in
+    let h = c.loop-i.invariant in
+    let list = c.list-list.result.now in
+    let x = c.left_number-x.result in
+    let li : i < length (list_of lists b) = omega (arith, c.loop-i-test.true, ap (λ (us : List ℕ). length us) c.list-list.ensures) in
+    let told = subst (λ k. x ≡ get_or numbers (cond (ltb (get_or rank b 0) (get_or rank (get_or list i 0) 0)) (get_or of (k + i) 0) (get_or of (get_or twins (k + i) 0) 0)) 0) c.requires.first c.left_number-x.ensures in
+    let is : get_or (arcs_of rows b) i 0 ≡ x = entry_is lists rank of twins numbers s b i c.requires.vertex li (get_or rank b 0) (get_or rank (get_or list i 0) 0) x refl (ap (λ (us : List ℕ). get_or rank (get_or us i 0) 0) c.list-list.ensures) told in
+    record {
+      filled = IsFilled-more lists rows s.simple b i c.loop-i.starts c.loop-i.columns c.requires.vertex li h.filled list (arcs_of rows b) c.put_if.new.starts c.put_if.new.columns c.list-list.ensures refl
+          (subst (λ z. c.put_if.new.columns ≡ cond (ltb (get_or list i 0) b) (set c.loop-i.columns (get_or c.loop-i.starts (get_or list i 0) 0) z) c.loop-i.columns) (sym is) c.put_if.ensures.columns) c.put_if.ensures.starts;
+      span = IsSpan-more (arcs_of rows b) i c.loop-i.least c.loop-i.greatest x c.lesser-least.result c.greater-greatest.result h.span is c.lesser-least.ensures.fits c.lesser-least.ensures.below c.lesser-least.ensures.below_other c.lesser-least.ensures.one c.greater-greatest.ensures.above c.greater-greatest.ensures.above_other c.greater-greatest.ensures.one;
+    }
+
+pub returns-clause-least : goal.returns-clause-least
+returns-clause-least c =
+    let lists = c.args.lists.now in
+    let s = c.requires.sides in
+    let row = arcs_of (left_rows lists c.args.rank.now c.args.of.now c.args.numbers.now) c.args.b in
+    let long = length-left_row lists c.args.rank.now c.args.of.now c.args.numbers.now c.args.b in
+    let e : c.loop-i.i ≡ length row = omega (arith, c.loop-i-test.false, c.loop-i.auto.i-end, ap (λ (us : List ℕ). length us) c.list-list.ensures, long) in
+    IsLeastOf-span row c.loop-i.i c.loop-i.least c.loop-i.greatest e (omega (arith, long, s.some c.args.b c.requires.vertex)) c.loop-i.invariant.span
+
+pub returns-clause-greatest : goal.returns-clause-greatest
+returns-clause-greatest c =
+    let lists = c.args.lists.now in
+    let s = c.requires.sides in
+    let row = arcs_of (left_rows lists c.args.rank.now c.args.of.now c.args.numbers.now) c.args.b in
+    let long = length-left_row lists c.args.rank.now c.args.of.now c.args.numbers.now c.args.b in
+    let e : c.loop-i.i ≡ length row = omega (arith, c.loop-i-test.false, c.loop-i.auto.i-end, ap (λ (us : List ℕ). length us) c.list-list.ensures, long) in
+    IsGreatestOf-span row c.loop-i.i c.loop-i.least c.loop-i.greatest e (omega (arith, long, s.some c.args.b c.requires.vertex)) c.loop-i.invariant.span
