@@ -1,13 +1,14 @@
--- A list from its end: one entry more, and the text of it before the texts of those behind. The fronts of lines, put together from their ends.
-use Rattle.std.proofs.Common.{◌≡◌, ℕ, ◌+◌, ◌-◌, ◌<◌, List, [], ◌∷◌, ◌++◌, length, take, drop, flat_map, get_or, refl, subst, arith, rules, append_assoc}
+-- A list from its end: one entry more, and the text of it before the texts of those behind.
+use Rattle.std.proofs.Common.{◌≡◌, ℕ, ◌+◌, ◌*◌, ◌-◌, ◌<◌, List, [], ◌∷◌, ◌++◌, length, take, drop, flat_map, get_or, refl, subst, arith, rules, ap, ◌∙◌, add-one, append_assoc, ℤ}
+use Rattle.std.proofs.Math.Nat.{mul-suc}
 use Rattle.std.specs.Prelude.{codes}
 use Rattle.std.specs.List.{sum_by}
 use Rattle.std.proofs.lemmas.List.{drop_more}
 use Rattle.std.proofs.lemmas.List.Sums.{sum_by_more}
 use Rattle.map_lists.specs.Lists.{Lists}
-use Rattle.pg_plane.specs.declared.point.Point.{Point}
-use Rattle.figure_text.specs.Text.{grid_line, grid_lines, point_at}
-use Rattle.figure_text.proofs.TextLemmas.{grid_lines-more}
+use Rattle.figure_text.specs.declared.piece.Piece.{Piece}
+use Rattle.figure_text.specs.Text.{joined, vertex_line, vertex_lines, fronts_room}
+use Rattle.figure_text.proofs.TextLemmas.{vertex_lines-more}
 
 module _ {X : Type 0} (xs : List X) (k : ℕ) (d : X) (less : k < length xs) where
   drop_back : drop (length xs - (k + 1)) xs ≡ get_or xs (length xs - 1 - k) d ∷ drop (length xs - k) xs
@@ -26,21 +27,21 @@ module _ {X : Type 0} (xs : List X) (k : ℕ) (d : X) (less : k < length xs) whe
   entry_back bytes behind is = rw drop_back is
 
 -- the line before those that are written
-pub grid_lines_back :
-    (points : List Point) (lists : Lists) (k : ℕ) (line rest whole : List ℕ) → k < length lists
-    → line ≡ grid_line (length lists - 1 - k) (point_at points (length lists - 1 - k)) (get_or lists (length lists - 1 - k) []) ++ rest
-    → grid_lines points lists (length lists - k) ++ rest ≡ whole → grid_lines points lists (length lists - (k + 1)) ++ line ≡ whole
-grid_lines_back points lists k line rest whole less is before =
+pub lines_back :
+    (pieces : List Piece) (numbers : ℕ → List ℤ) (lists : Lists) (k : ℕ) (line rest whole : List ℕ) → k < length lists
+    → line ≡ vertex_line pieces (length lists - 1 - k) (numbers (length lists - 1 - k)) (get_or lists (length lists - 1 - k) []) ++ rest
+    → vertex_lines pieces numbers lists (length lists - k) ++ rest ≡ whole → vertex_lines pieces numbers lists (length lists - (k + 1)) ++ line ≡ whole
+lines_back pieces numbers lists k line rest whole less is before =
     let here : length lists - (k + 1) ≡ length lists - 1 - k = omega arith in
     let behind : length lists - k ≡ length lists - 1 - k + 1 = omega arith in
-    rw (here, is, ← append_assoc, ← grid_lines-more points lists (length lists - 1 - k), ← behind) before
+    rw (here, is, ← append_assoc, ← vertex_lines-more pieces numbers lists (length lists - 1 - k), ← behind) before
 
 -- no line is left before them
-pub grid_lines_whole : (points : List Point) (lists : Lists) (k : ℕ) (rest whole : List ℕ) → k ≡ length lists → grid_lines points lists (length lists - k) ++ rest ≡ whole → rest ≡ whole
-unfolding grid_lines
-grid_lines_whole points lists k rest whole all before =
+pub lines_whole : (pieces : List Piece) (numbers : ℕ → List ℤ) (lists : Lists) (k : ℕ) (rest whole : List ℕ) → k ≡ length lists → vertex_lines pieces numbers lists (length lists - k) ++ rest ≡ whole → rest ≡ whole
+unfolding vertex_lines
+lines_whole pieces numbers lists k rest whole all before =
     let none : length lists - k ≡ 0 = omega arith in
-    subst (λ m. grid_lines points lists m ++ rest ≡ whole) none before
+    subst (λ m. vertex_lines pieces numbers lists m ++ rest ≡ whole) none before
 
 -- the room for the lines before those that are written, and for one of them
 pub room_back : (lists : Lists) (k : ℕ) → k < length lists
@@ -50,8 +51,16 @@ room_back lists k less =
     let behind : length lists - k ≡ length lists - 1 - k + 1 = omega arith in
     rw (here, behind) (sum_by_more length lists (length lists - 1 - k) [] (omega arith))
 
-pub bar_front : (v y a b : List ℕ) → v ++ 32 ∷ 121 ∷ 32 ∷ (y ++ 32 ∷ 120 ∷ 32 ∷ (a ++ 32 ∷ (b ++ 58 ∷ []))) ≡ v ++ codes " y" ++ 32 ∷ y ++ codes " x" ++ 32 ∷ a ++ 32 ∷ b ++ 58 ∷ []
-bar_front v y a b = search (rules, append_assoc)
+-- the same of the fronts
+pub fronts_back : (longest n k : ℕ) → k < n → fronts_room longest (n - k) ≡ fronts_room longest (n - (k + 1)) + (longest + 1)
+unfolding fronts_room
+fronts_back longest n k less =
+    let behind : n - k ≡ n - (k + 1) + 1 = omega arith in
+    ap (λ (m : ℕ). (longest + 1) * m) (behind ∙ add-one (n - (k + 1))) ∙ mul-suc (longest + 1) (n - (k + 1))
 
-pub rect_front : (v a b c d : List ℕ) → v ++ 32 ∷ 120 ∷ 32 ∷ (a ++ 32 ∷ (b ++ 32 ∷ 121 ∷ 32 ∷ (c ++ 32 ∷ (d ++ 58 ∷ [])))) ≡ v ++ codes " x" ++ 32 ∷ a ++ 32 ∷ b ++ codes " y" ++ 32 ∷ c ++ 32 ∷ d ++ 58 ∷ []
-rect_front v a b c d = search (rules, append_assoc)
+-- the fronts of lines, put together from their ends
+pub bar_words : (v y a b rest : List ℕ) → v ++ 32 ∷ 121 ∷ 32 ∷ (y ++ 32 ∷ 120 ∷ 32 ∷ (a ++ 32 ∷ (b ++ 58 ∷ rest))) ≡ joined (v ∷ codes "y" ∷ y ∷ codes "x" ∷ a ∷ (b ++ 58 ∷ []) ∷ []) ++ rest
+bar_words v y a b rest = search (rules, append_assoc)
+
+pub rect_words : (v a b c d rest : List ℕ) → v ++ 32 ∷ 120 ∷ 32 ∷ (a ++ 32 ∷ (b ++ 32 ∷ 121 ∷ 32 ∷ (c ++ 32 ∷ (d ++ 58 ∷ rest)))) ≡ joined (v ∷ codes "x" ∷ a ∷ b ∷ codes "y" ∷ c ∷ (d ++ 58 ∷ []) ∷ []) ++ rest
+rect_words v a b c d rest = search (rules, append_assoc)

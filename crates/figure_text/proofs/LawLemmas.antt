@@ -15,6 +15,7 @@ use Rattle.figure_text.specs.declared.figure.Figure.TheVariants.{Grid as GridFig
 use Rattle.figure_text.specs.declared.words.Word.{Word}
 use Rattle.figure_text.specs.declared.words.Word.TheVariants.{Number, Named}
 use Rattle.figure_text.specs.declared.words.Name.TheVariants.{Figure}
+use Rattle.figure_text.specs.declared.words.Name.TheVariants as name
 use Rattle.figure_text.specs.declared.judge.Kind.{Kind}
 use Rattle.figure_text.specs.declared.judge.Kind.TheVariants.{Grid, Bars, Rects, Witness}
 use Rattle.figure_text.specs.declared.read.Item.TheVariants.{Drawn}
@@ -23,18 +24,18 @@ use Rattle.graph6_text.specs.Lines.{IsLine as IsGraphLine}
 use Rattle.graph6_text.proofs.LineLemmas.{lines_are_graphs}
 use Rattle.kuratowski.specs.Witnesses.{pairs_of}
 use Rattle.figure_text.specs.Lines.{size, is_natural, kind_by, kind_of, rows_due, IsTail, TailInRange}
-use Rattle.figure_text.specs.Reading.{closed, IsPlain, is_note, Rows, point_of, vertices_from}
+use Rattle.figure_text.specs.Reading.{IsPlain, is_note, Rows, point_of, vertices_from, of_lines}
 use Rattle.figure_text.specs.Drafts.{integer_in}
-use Rattle.figure_text.specs.Text.{texts, first_line, job_word, grid_line, grid_lines, bar_line, bar_lines, columns_line, rect_line, rect_lines, HasBars, HasRects, point_at, integer_at}
+use Rattle.figure_text.specs.Pieces.{pieces, front_length, grid_front, bar_front, rect_front, is_long}
+use Rattle.figure_text.specs.Text.{texts, front_words, first_line, job_word, vertex_line, vertex_lines, grid_numbers, bar_numbers, rect_numbers, columns_line, HasBars, HasRects, point_at, integer_at}
 use Rattle.figure_text.specs.Figures.{IsHead, IsBody, StandsAt, lines_due}
 use Rattle.figure_text.specs.Laws.{sign_of, IsCoordinate, AreLists, PrintedIsRead}
 use Rattle.figure_text.proofs.NumeralLemmas.{Dark, decimal-dark, word_of-decimal}
 use Rattle.figure_text.proofs.WordLemmas.{words_of-last, words_of-next, Inline-next, Inline-dark, IsPlain-inline}
 use Rattle.figure_text.proofs.UptoLemmas.{lines_upto, length-lines_upto, closed-lines_upto, Rows-lines_upto, of_lines-upto}
-use Rattle.figure_text.proofs.RoundLemmas.{grid_text, grid_line-text, IsFine, grid-plain, grid-good, grid-list, grid-point}
+use Rattle.figure_text.proofs.RoundLemmas.{neighbour_words, read_words, line_text, vertex_line-text, IsFilled, vertex-plain, vertex-words, vertex-good, vertex-list, value-again, name-dark}
 use Rattle.figure_text.proofs.WitnessLemmas.{witness_head, witness_body, witness_first_line-text, graph-dark, witness-plain, witness-parts, witness-part, witness-tail, witness-graph, kind-again, witness-body}
-use Rattle.figure_text.proofs.RectLemmas.{rect_text, rect_line-text, IsFineRect, rect-plain, rect-good, rect-list, rect-left, rect-right, rect-low, rect-high}
-use Rattle.figure_text.proofs.BarLemmas.{bar_text, bar_line-text, IsFineBar, bar-plain, bar-good, bar-list, bar-height, bar-begin, bar-end, columns_text, columns_line-text, columns-plain, columns-shape, columns-range, columns-again}
+use Rattle.figure_text.proofs.ColumnLemmas.{columns_text, columns_line-text, columns-plain, columns-shape, columns-range, columns-again}
 
 -- the first line of a figure, without the byte that closes it
 abbrev first_text : ℕ → List ℕ → ℕ → List ℕ
@@ -51,12 +52,9 @@ record IsFirst (k n : ℕ) : Type 0 where
   least : 1 ≤ n
   most : n ≤ 4095
 
-figure-dark : Dark (codes "figure")
-figure-dark = All-from_recursion (λ b. 33 ≤ b) (codes "figure") (lit≤ tt, (lit≤ tt, (lit≤ tt, (lit≤ tt, (lit≤ tt, (lit≤ tt, tt))))))
-
 first-words : (k : ℕ) (word : List ℕ) (n : ℕ) → IsFirst k n → Dark word → words_of (first_text k word n) ≡ Named Figure ∷ Number (sign_of (pos k)) ∷ word_of word ∷ Number (sign_of (pos n)) ∷ []
 first-words k word n fine dark =
-    words_of-next (codes "figure") (decimal k ++ 32 ∷ (word ++ 32 ∷ decimal n)) figure-dark
+    words_of-next (codes "figure") (decimal k ++ 32 ∷ (word ++ 32 ∷ decimal n)) (name-dark name.Figure)
     ∙ ap (λ (ws : List Word). Named Figure ∷ ws)
     (words_of-next (decimal k) (word ++ 32 ∷ decimal n) (decimal-dark k (omega (arith, fine.number_most)))
     ∙ ap₂ (λ (w : Word) (ws : List Word). w ∷ ws) (word_of-decimal k (omega (arith, fine.number_most)))
@@ -68,7 +66,7 @@ first-words k word n fine dark =
 first-plain : (k : ℕ) (word : List ℕ) (n : ℕ) → IsFirst k n → Dark word → IsPlain (first_text k word n)
 first-plain k word n fine dark =
     IsPlain-inline (first_text k word n)
-    (Inline-next (codes "figure") (decimal k ++ 32 ∷ (word ++ 32 ∷ decimal n)) figure-dark
+    (Inline-next (codes "figure") (decimal k ++ 32 ∷ (word ++ 32 ∷ decimal n)) (name-dark name.Figure)
     (Inline-next (decimal k) (word ++ 32 ∷ decimal n) (decimal-dark k (omega (arith, fine.number_most)))
     (Inline-next word (decimal n) dark (Inline-dark (decimal n) (decimal-dark n (omega (arith, fine.most)))))))
 
@@ -136,72 +134,91 @@ texts-same : (f g : ℕ → List ℕ) → ((v : ℕ) → f v ≡ g v) → (n : �
 texts-same f g same zero = refl
 texts-same f g same (suc n) = ap₂ (λ (x : List ℕ) (y : List ℕ). x ++ y) (texts-same f g same n) (same n)
 
-list-small : (lists : Lists) (v : ℕ) → v < length lists → AreLists lists → All (λ u. u < 65535) (get_or lists v [])
-list-small lists v within are = All-get_or (λ us. All (λ u. u < 65535) us) lists v [] within are.neighbours
+-- the lines of vertices, with their numbers in range
+module _ (kind : Kind) (numbers : ℕ → List ℤ) (lists : Lists) (are : AreLists lists) (long : (place len : ℕ) → IsTrue (is_long kind place len)) (fine : (v : ℕ) → v < length lists → All IsCoordinate (numbers v)) (some : (v : ℕ) → 0 < length (front_words (pieces kind) v (numbers v))) (filled : (v : ℕ) → IsFilled (pieces kind) (numbers v)) where
+  abbrev line : ℕ → List ℕ
+  line v = line_text (pieces kind) v (numbers v) (get_or lists v [])
+
+  abbrev lines : List (List ℕ)
+  lines = lines_upto line (length lists)
+
+  small : (v : ℕ) → v < length lists → All (λ u. u < 65535) (get_or lists v [])
+  small v within = All-get_or (λ us. All (λ u. u < 65535) us) lists v [] within are.neighbours
+
+  words : (v : ℕ) → v < length lists → words_of (line v) ≡ read_words (pieces kind) v (numbers v) ++ neighbour_words (get_or lists v [])
+  words v h = vertex-words kind v (numbers v) (get_or lists v []) (omega (arith, are.most, h)) (fine v h) (small v h) (some v) (filled v)
+
+  vertex-rows : (rest : List ℕ) → Rows kind (vertex_lines (pieces kind) numbers lists (length lists) ++ rest) lines rest
+  unfolding vertex_lines
+  vertex-rows rest =
+      subst (λ (x : List ℕ). Rows kind (x ++ rest) lines rest)
+      (closed-lines_upto line (length lists) ∙ texts-same (λ v. line v ++ 10 ∷ []) (λ v. vertex_line (pieces kind) v (numbers v) (get_or lists v [])) (λ v. sym (vertex_line-text (pieces kind) v (numbers v) (get_or lists v []))) (length lists))
+      (Rows-lines_upto kind line (length lists) rest
+      (λ v h. vertex-plain kind v (numbers v) (get_or lists v []) (omega (arith, are.most, h)) (fine v h) (small v h) (some v) (filled v))
+      (λ v h. vertex-good kind v (numbers v) (get_or lists v []) (omega (arith, are.most, h)) (fine v h) (small v h) (some v) (filled v) (λ len. long (v + 1) len)))
+
+  lists-again : of_lines (vertices_from (front_length kind)) lines ≡ lists
+  lists-again =
+      of_lines-upto (vertices_from (front_length kind)) line lists [] (length lists) (omega arith) (λ v h. vertex-list kind v (numbers v) (get_or lists v []) (omega (arith, are.most, h)) (fine v h) (small v h) (some v) (filled v)) ∙ take-length lists
+
+  numbers-again : {A : Type 0} (value : List Word → A) (xs : List A) (d : A) → length xs ≡ length lists → ((v : ℕ) → v < length lists → value (read_words (pieces kind) v (numbers v) ++ neighbour_words (get_or lists v [])) ≡ get_or xs v d) → of_lines value lines ≡ xs
+  numbers-again value xs d whole each =
+      of_lines-upto value line xs d (length lists) (omega (arith, whole)) (λ v h. ap value (words v (omega (arith, whole, h))) ∙ each v (omega (arith, whole, h))) ∙ ap (λ (k : ℕ). take k xs) (sym whole) ∙ take-length xs
+
+-- an entry of numbers in range
+entry : (zs : List ℤ) (v n : ℕ) → length zs ≡ n → v < n → All IsCoordinate zs → IsCoordinate (integer_at zs v)
+entry zs v n whole h all = All-get_or IsCoordinate zs v (pos 0) (omega (arith, whole, h)) all
 
 -- a straight-line drawing
-grid-body : (job : GridJob) (lists : Lists) (points : List Point) (rest : List ℕ) → length points ≡ length lists → AreLists lists → All (λ p. IsCoordinate p.x × IsCoordinate p.y) points → (head : List ℕ) → IsBody (Grid job) (length lists) head (grid_lines points lists (length lists) ++ rest) rest (GridFigure job lists points)
-unfolding grid_lines
+grid-body : (job : GridJob) (lists : Lists) (points : List Point) (rest : List ℕ) → length points ≡ length lists → AreLists lists → All (λ p. IsCoordinate p.x × IsCoordinate p.y) points → (head : List ℕ) → IsBody (Grid job) (length lists) head (vertex_lines grid_front (grid_numbers points) lists (length lists) ++ rest) rest (GridFigure job lists points)
 grid-body job lists points rest whole are inside head =
-    let line : ℕ → List ℕ = λ v. grid_text v (point_at points v) (get_or lists v []) in
-    let fine : (v : ℕ) → v < length lists → IsFine v (point_at points v) (get_or lists v []) =
-    λ v h. let p = All-get_or (λ p. IsCoordinate p.x × IsCoordinate p.y) points v (record { x = pos 0; y = pos 0 }) (omega arith) inside in
-    record { place = omega (arith, are.most); x = p.0; y = p.1; small = list-small lists v h are } in
-    let same : closed (lines_upto line (length lists)) ≡ texts (λ v. grid_line v (point_at points v) (get_or lists v [])) (length lists) =
-    closed-lines_upto line (length lists) ∙ texts-same (λ v. line v ++ 10 ∷ []) (λ v. grid_line v (point_at points v) (get_or lists v [])) (λ v. sym (grid_line-text v (point_at points v) (get_or lists v []))) (length lists) in (
-      lines_upto line (length lists),
-      subst (λ (x : List ℕ). Rows (Grid job) (x ++ rest) (lines_upto line (length lists)) rest) same
-          (Rows-lines_upto (Grid job) line (length lists) rest
-          (λ v h. grid-plain v (point_at points v) (get_or lists v []) (fine v h))
-          (λ v h. grid-good job v (point_at points v) (get_or lists v []) (fine v h))),
-      length-lines_upto line (length lists),
+    let at : (v : ℕ) → v < length lists → IsCoordinate (point_at points v).x × IsCoordinate (point_at points v).y =
+    λ v h. All-get_or (λ p. IsCoordinate p.x × IsCoordinate p.y) points v (record { x = pos 0; y = pos 0 }) (omega arith) inside in
+    let fine : (v : ℕ) → v < length lists → All IsCoordinate (grid_numbers points v) = λ v h. All-from_recursion IsCoordinate (grid_numbers points v) ((at v h).0, ((at v h).1, tt)) in
+    let some : (v : ℕ) → 0 < length (front_words grid_front v (grid_numbers points v)) = λ v. lit≤ tt in
+    let long : (place len : ℕ) → IsTrue (is_long (Grid job) place len) = λ place len. refl in (
+      lines (Grid job) (grid_numbers points) lists are long fine some (λ v. tt),
+      vertex-rows (Grid job) (grid_numbers points) lists are long fine some (λ v. tt) rest,
+      length-lines_upto (line (Grid job) (grid_numbers points) lists are long fine some (λ v. tt)) (length lists),
       ap₂ (λ (ls : Lists) (ps : List Point). GridFigure job ls ps)
-          (sym (of_lines-upto (vertices_from 4) line lists [] (length lists) (omega arith) (λ v h. grid-list v (point_at points v) (get_or lists v []) (fine v h)) ∙ take-length lists))
-          (sym (of_lines-upto point_of line points (record { x = pos 0; y = pos 0 }) (length lists) (omega arith) (λ v h. grid-point v (point_at points v) (get_or lists v []) (fine v (omega arith))) ∙ ap (λ (k : ℕ). take k points) (sym whole) ∙ take-length points)),
+          (sym (lists-again (Grid job) (grid_numbers points) lists are long fine some (λ v. tt)))
+          (sym (numbers-again (Grid job) (grid_numbers points) lists are long fine some (λ v. tt) point_of points (record { x = pos 0; y = pos 0 }) whole
+          (λ v h. ap₂ (λ (x : ℤ) (y : ℤ). point x y) (value-again (point_at points v).x (at v h).0) (value-again (point_at points v).y (at v h).1)))),
     )
+  where
+    point : ℤ → ℤ → Point
+    point x y = record { x = x; y = y }
 
 -- a visibility drawing
 figure-same : {lists lists' : Lists} {y y' x1 x1' x2 x2' column column' : List ℤ} → lists' ≡ lists → y' ≡ y → x1' ≡ x1 → x2' ≡ x2 → column' ≡ column → BarsFigure lists (record { y = y; x1 = x1; x2 = x2; column = column }) ≡ BarsFigure lists' (record { y = y'; x1 = x1'; x2 = x2'; column = column' })
 figure-same is is_y is_a is_b is_c = cc
 
-column-take : {A : Type 0} (xs : List A) (n : ℕ) → length xs ≡ n → take n xs ≡ xs
-column-take xs n e = ap (λ (k : ℕ). take k xs) (sym e) ∙ take-length xs
-
-bars-body : (lists : Lists) (bars : BarFigure) (rest : List ℕ) → HasBars lists bars → AreLists lists → All IsCoordinate bars.y → All IsCoordinate bars.x1 → All IsCoordinate bars.x2 → All IsCoordinate bars.column → (head : List ℕ) → IsBody Bars (length lists) head ((bar_lines bars lists (length lists) ++ columns_line bars.column) ++ rest) rest (BarsFigure lists bars)
-unfolding bar_lines
+bars-body : (lists : Lists) (bars : BarFigure) (rest : List ℕ) → HasBars lists bars → AreLists lists → All IsCoordinate bars.y → All IsCoordinate bars.x1 → All IsCoordinate bars.x2 → All IsCoordinate bars.column → (head : List ℕ) → IsBody Bars (length lists) head ((vertex_lines bar_front (bar_numbers bars) lists (length lists) ++ columns_line bars.column) ++ rest) rest (BarsFigure lists bars)
 bars-body lists bars rest whole are in_y in_a in_b in_column head =
-    let line : ℕ → List ℕ = λ v. bar_text v (integer_at bars.y v) (integer_at bars.x1 v) (integer_at bars.x2 v) (get_or lists v []) in
-    let closed_line : ℕ → List ℕ = λ v. bar_line v (integer_at bars.y v) (integer_at bars.x1 v) (integer_at bars.x2 v) (get_or lists v []) in
-    let fine : (v : ℕ) → v < length lists → IsFineBar v (integer_at bars.y v) (integer_at bars.x1 v) (integer_at bars.x2 v) (get_or lists v []) =
-    λ v h. record {
-      place = omega (arith, are.most);
-      in_y = All-get_or IsCoordinate bars.y v (pos 0) (omega (arith, whole.y)) in_y;
-      in_a = All-get_or IsCoordinate bars.x1 v (pos 0) (omega (arith, whole.x1)) in_a;
-      in_b = All-get_or IsCoordinate bars.x2 v (pos 0) (omega (arith, whole.x2)) in_b;
-      small = list-small lists v h are;
-    } in
-    let same : closed (lines_upto line (length lists)) ≡ texts closed_line (length lists) =
-    closed-lines_upto line (length lists) ∙ texts-same (λ v. line v ++ 10 ∷ []) closed_line (λ v. sym (bar_line-text v (integer_at bars.y v) (integer_at bars.x1 v) (integer_at bars.x2 v) (get_or lists v []))) (length lists) in
-    let parts : closed (lines_upto line (length lists)) ++ (columns_text bars.column ++ 10 ∷ rest) ≡ (texts closed_line (length lists) ++ columns_line bars.column) ++ rest =
-    ap (λ (x : List ℕ). x ++ (columns_text bars.column ++ 10 ∷ rest)) same
-    ∙ sym (ap (λ (x : List ℕ). (texts closed_line (length lists) ++ x) ++ rest) (columns_line-text bars.column)
-    ∙ append_assoc (texts closed_line (length lists)) (columns_text bars.column ++ 10 ∷ []) rest
-    ∙ ap (λ (x : List ℕ). texts closed_line (length lists) ++ x) (append_assoc (columns_text bars.column) (10 ∷ []) rest)) in (
-      lines_upto line (length lists),
+    let y : (v : ℕ) → v < length lists → IsCoordinate (integer_at bars.y v) = λ v h. entry bars.y v (length lists) whole.y h in_y in
+    let a : (v : ℕ) → v < length lists → IsCoordinate (integer_at bars.x1 v) = λ v h. entry bars.x1 v (length lists) whole.x1 h in_a in
+    let b : (v : ℕ) → v < length lists → IsCoordinate (integer_at bars.x2 v) = λ v h. entry bars.x2 v (length lists) whole.x2 h in_b in
+    let fine : (v : ℕ) → v < length lists → All IsCoordinate (bar_numbers bars v) = λ v h. All-from_recursion IsCoordinate (bar_numbers bars v) (y v h, (a v h, (b v h, tt))) in
+    let some : (v : ℕ) → 0 < length (front_words bar_front v (bar_numbers bars v)) = λ v. lit≤ tt in
+    let long : (place len : ℕ) → IsTrue (is_long Bars place len) = λ place len. refl in
+    let text : List ℕ = vertex_lines bar_front (bar_numbers bars) lists (length lists) in
+    let parts : text ++ (columns_text bars.column ++ 10 ∷ rest) ≡ (text ++ columns_line bars.column) ++ rest =
+    sym (ap (λ (x : List ℕ). (text ++ x) ++ rest) (columns_line-text bars.column)
+    ∙ append_assoc text (columns_text bars.column ++ 10 ∷ []) rest
+    ∙ ap (λ (x : List ℕ). text ++ x) (append_assoc (columns_text bars.column) (10 ∷ []) rest)) in (
+      lines Bars (bar_numbers bars) lists are long fine some (λ v. tt),
       columns_text bars.column,
-      subst (λ (x : List ℕ). Rows Bars x (lines_upto line (length lists)) (columns_text bars.column ++ 10 ∷ rest)) parts
-          (Rows-lines_upto Bars line (length lists) (columns_text bars.column ++ 10 ∷ rest)
-          (λ v h. bar-plain v (integer_at bars.y v) (integer_at bars.x1 v) (integer_at bars.x2 v) (get_or lists v []) (fine v h))
-          (λ v h. bar-good v (integer_at bars.y v) (integer_at bars.x1 v) (integer_at bars.x2 v) (get_or lists v []) (fine v h))),
-      length-lines_upto line (length lists),
+      subst (λ (x : List ℕ). Rows Bars x (lines Bars (bar_numbers bars) lists are long fine some (λ v. tt)) (columns_text bars.column ++ 10 ∷ rest)) parts
+          (vertex-rows Bars (bar_numbers bars) lists are long fine some (λ v. tt) (columns_text bars.column ++ 10 ∷ rest)),
+      length-lines_upto (line Bars (bar_numbers bars) lists are long fine some (λ v. tt)) (length lists),
       columns-plain bars.column in_column,
       columns-shape bars.column in_column,
       columns-range bars.column in_column,
       figure-same
-          (of_lines-upto (vertices_from 6) line lists [] (length lists) (omega arith) (λ v h. bar-list v (integer_at bars.y v) (integer_at bars.x1 v) (integer_at bars.x2 v) (get_or lists v []) (fine v h)) ∙ take-length lists)
-          (of_lines-upto (integer_in 2) line bars.y (pos 0) (length lists) (omega (arith, whole.y)) (λ v h. bar-height v (integer_at bars.y v) (integer_at bars.x1 v) (integer_at bars.x2 v) (get_or lists v []) (fine v (omega (arith, whole.y)))) ∙ column-take bars.y (length lists) whole.y)
-          (of_lines-upto (integer_in 4) line bars.x1 (pos 0) (length lists) (omega (arith, whole.x1)) (λ v h. bar-begin v (integer_at bars.y v) (integer_at bars.x1 v) (integer_at bars.x2 v) (get_or lists v []) (fine v (omega (arith, whole.x1)))) ∙ column-take bars.x1 (length lists) whole.x1)
-          (of_lines-upto (integer_in 5) line bars.x2 (pos 0) (length lists) (omega (arith, whole.x2)) (λ v h. bar-end v (integer_at bars.y v) (integer_at bars.x1 v) (integer_at bars.x2 v) (get_or lists v []) (fine v (omega (arith, whole.x2)))) ∙ column-take bars.x2 (length lists) whole.x2)
+          (lists-again Bars (bar_numbers bars) lists are long fine some (λ v. tt))
+          (numbers-again Bars (bar_numbers bars) lists are long fine some (λ v. tt) (integer_in 2) bars.y (pos 0) whole.y (λ v h. value-again (integer_at bars.y v) (y v h)))
+          (numbers-again Bars (bar_numbers bars) lists are long fine some (λ v. tt) (integer_in 4) bars.x1 (pos 0) whole.x1 (λ v h. value-again (integer_at bars.x1 v) (a v h)))
+          (numbers-again Bars (bar_numbers bars) lists are long fine some (λ v. tt) (integer_in 5) bars.x2 (pos 0) whole.x2 (λ v h. value-again (integer_at bars.x2 v) (b v h)))
           (columns-again bars.column in_column),
     )
 
@@ -209,56 +226,30 @@ bars-body lists bars rest whole are in_y in_a in_b in_column head =
 rects-same : {lists lists' : Lists} {a a' b b' c c' d d' : List ℤ} → lists' ≡ lists → a' ≡ a → b' ≡ b → c' ≡ c → d' ≡ d → RectsFigure lists (record { x1 = a; x2 = b; y1 = c; y2 = d }) ≡ RectsFigure lists' (record { x1 = a'; x2 = b'; y1 = c'; y2 = d' })
 rects-same is is_a is_b is_c is_d = cc
 
-rects-body : (lists : Lists) (rects : RectFigure) (rest : List ℕ) → HasRects lists rects → AreLists lists → All IsCoordinate rects.x1 → All IsCoordinate rects.x2 → All IsCoordinate rects.y1 → All IsCoordinate rects.y2 → (head : List ℕ) → IsBody Rects (length lists) head (rect_lines rects lists (length lists) ++ rest) rest (RectsFigure lists rects)
-unfolding rect_lines
+rects-body : (lists : Lists) (rects : RectFigure) (rest : List ℕ) → HasRects lists rects → AreLists lists → All IsCoordinate rects.x1 → All IsCoordinate rects.x2 → All IsCoordinate rects.y1 → All IsCoordinate rects.y2 → (head : List ℕ) → IsBody Rects (length lists) head (vertex_lines rect_front (rect_numbers rects) lists (length lists) ++ rest) rest (RectsFigure lists rects)
 rects-body lists rects rest whole are in_a in_b in_c in_d head =
-    let line : ℕ → List ℕ = λ v. rect_text v (integer_at rects.x1 v) (integer_at rects.x2 v) (integer_at rects.y1 v) (integer_at rects.y2 v) (get_or lists v []) in
-    let closed_line : ℕ → List ℕ = λ v. rect_line v (integer_at rects.x1 v) (integer_at rects.x2 v) (integer_at rects.y1 v) (integer_at rects.y2 v) (get_or lists v []) in
-    let fine : (v : ℕ) → v < length lists → IsFineRect v (integer_at rects.x1 v) (integer_at rects.x2 v) (integer_at rects.y1 v) (integer_at rects.y2 v) (get_or lists v []) =
-    λ v h. record {
-      place = omega (arith, are.most);
-      in_a = All-get_or IsCoordinate rects.x1 v (pos 0) (omega (arith, whole.x1)) in_a;
-      in_b = All-get_or IsCoordinate rects.x2 v (pos 0) (omega (arith, whole.x2)) in_b;
-      in_c = All-get_or IsCoordinate rects.y1 v (pos 0) (omega (arith, whole.y1)) in_c;
-      in_d = All-get_or IsCoordinate rects.y2 v (pos 0) (omega (arith, whole.y2)) in_d;
-      small = list-small lists v h are;
-    } in
-    let same : closed (lines_upto line (length lists)) ≡ texts closed_line (length lists) =
-    closed-lines_upto line (length lists) ∙ texts-same (λ v. line v ++ 10 ∷ []) closed_line (λ v. sym (rect_line-text v (integer_at rects.x1 v) (integer_at rects.x2 v) (integer_at rects.y1 v) (integer_at rects.y2 v) (get_or lists v []))) (length lists) in (
-      lines_upto line (length lists),
-      subst (λ (x : List ℕ). Rows Rects (x ++ rest) (lines_upto line (length lists)) rest) same
-          (Rows-lines_upto Rects line (length lists) rest
-          (λ v h. rect-plain v (integer_at rects.x1 v) (integer_at rects.x2 v) (integer_at rects.y1 v) (integer_at rects.y2 v) (get_or lists v []) (fine v h))
-          (λ v h. rect-good v (integer_at rects.x1 v) (integer_at rects.x2 v) (integer_at rects.y1 v) (integer_at rects.y2 v) (get_or lists v []) (fine v h))),
-      length-lines_upto line (length lists),
+    let a : (v : ℕ) → v < length lists → IsCoordinate (integer_at rects.x1 v) = λ v h. entry rects.x1 v (length lists) whole.x1 h in_a in
+    let b : (v : ℕ) → v < length lists → IsCoordinate (integer_at rects.x2 v) = λ v h. entry rects.x2 v (length lists) whole.x2 h in_b in
+    let c : (v : ℕ) → v < length lists → IsCoordinate (integer_at rects.y1 v) = λ v h. entry rects.y1 v (length lists) whole.y1 h in_c in
+    let d : (v : ℕ) → v < length lists → IsCoordinate (integer_at rects.y2 v) = λ v h. entry rects.y2 v (length lists) whole.y2 h in_d in
+    let fine : (v : ℕ) → v < length lists → All IsCoordinate (rect_numbers rects v) = λ v h. All-from_recursion IsCoordinate (rect_numbers rects v) (a v h, (b v h, (c v h, (d v h, tt)))) in
+    let some : (v : ℕ) → 0 < length (front_words rect_front v (rect_numbers rects v)) = λ v. lit≤ tt in
+    let long : (place len : ℕ) → IsTrue (is_long Rects place len) = λ place len. refl in (
+      lines Rects (rect_numbers rects) lists are long fine some (λ v. tt),
+      vertex-rows Rects (rect_numbers rects) lists are long fine some (λ v. tt) rest,
+      length-lines_upto (line Rects (rect_numbers rects) lists are long fine some (λ v. tt)) (length lists),
       rects-same
-          (of_lines-upto (vertices_from 7) line lists [] (length lists) (omega arith) (λ v h. rect-list v (integer_at rects.x1 v) (integer_at rects.x2 v) (integer_at rects.y1 v) (integer_at rects.y2 v) (get_or lists v []) (fine v h)) ∙ take-length lists)
-          (of_lines-upto (integer_in 2) line rects.x1 (pos 0) (length lists) (omega (arith, whole.x1)) (λ v h. rect-left v (integer_at rects.x1 v) (integer_at rects.x2 v) (integer_at rects.y1 v) (integer_at rects.y2 v) (get_or lists v []) (fine v (omega (arith, whole.x1)))) ∙ column-take rects.x1 (length lists) whole.x1)
-          (of_lines-upto (integer_in 3) line rects.x2 (pos 0) (length lists) (omega (arith, whole.x2)) (λ v h. rect-right v (integer_at rects.x1 v) (integer_at rects.x2 v) (integer_at rects.y1 v) (integer_at rects.y2 v) (get_or lists v []) (fine v (omega (arith, whole.x2)))) ∙ column-take rects.x2 (length lists) whole.x2)
-          (of_lines-upto (integer_in 5) line rects.y1 (pos 0) (length lists) (omega (arith, whole.y1)) (λ v h. rect-low v (integer_at rects.x1 v) (integer_at rects.x2 v) (integer_at rects.y1 v) (integer_at rects.y2 v) (get_or lists v []) (fine v (omega (arith, whole.y1)))) ∙ column-take rects.y1 (length lists) whole.y1)
-          (of_lines-upto (integer_in 6) line rects.y2 (pos 0) (length lists) (omega (arith, whole.y2)) (λ v h. rect-high v (integer_at rects.x1 v) (integer_at rects.x2 v) (integer_at rects.y1 v) (integer_at rects.y2 v) (get_or lists v []) (fine v (omega (arith, whole.y2)))) ∙ column-take rects.y2 (length lists) whole.y2),
+          (lists-again Rects (rect_numbers rects) lists are long fine some (λ v. tt))
+          (numbers-again Rects (rect_numbers rects) lists are long fine some (λ v. tt) (integer_in 2) rects.x1 (pos 0) whole.x1 (λ v h. value-again (integer_at rects.x1 v) (a v h)))
+          (numbers-again Rects (rect_numbers rects) lists are long fine some (λ v. tt) (integer_in 3) rects.x2 (pos 0) whole.x2 (λ v h. value-again (integer_at rects.x2 v) (b v h)))
+          (numbers-again Rects (rect_numbers rects) lists are long fine some (λ v. tt) (integer_in 5) rects.y1 (pos 0) whole.y1 (λ v h. value-again (integer_at rects.y1 v) (c v h)))
+          (numbers-again Rects (rect_numbers rects) lists are long fine some (λ v. tt) (integer_in 6) rects.y2 (pos 0) whole.y2 (λ v h. value-again (integer_at rects.y2 v) (d v h))),
     )
 
-shift-dark : Dark (codes "shift")
-shift-dark = All-from_recursion (λ b. 33 ≤ b) (codes "shift") (lit≤ tt, (lit≤ tt, (lit≤ tt, (lit≤ tt, (lit≤ tt, tt)))))
-
-schnyder-dark : Dark (codes "schnyder")
-schnyder-dark =
-    All-from_recursion (λ b. 33 ≤ b) (codes "schnyder") (lit≤ tt, (lit≤ tt, (lit≤ tt, (lit≤ tt, (lit≤ tt, (lit≤ tt, (lit≤ tt, (lit≤ tt, tt))))))))
-
-convex-dark : Dark (codes "convex")
-convex-dark = All-from_recursion (λ b. 33 ≤ b) (codes "convex") (lit≤ tt, (lit≤ tt, (lit≤ tt, (lit≤ tt, (lit≤ tt, (lit≤ tt, tt))))))
-
-rect-dark : Dark (codes "rect")
-rect-dark = All-from_recursion (λ b. 33 ≤ b) (codes "rect") (lit≤ tt, (lit≤ tt, (lit≤ tt, (lit≤ tt, tt))))
-
-bars-dark : Dark (codes "bars")
-bars-dark = All-from_recursion (λ b. 33 ≤ b) (codes "bars") (lit≤ tt, (lit≤ tt, (lit≤ tt, (lit≤ tt, tt))))
-
 job-dark : (job : GridJob) → Dark (job_word job)
-job-dark ByShift = shift-dark
-job-dark BySchnyder = schnyder-dark
-job-dark ByConvex = convex-dark
+job-dark ByShift = name-dark name.Shift
+job-dark BySchnyder = name-dark name.Schnyder
+job-dark ByConvex = name-dark name.Convex
 
 job-kind : (job : GridJob) (next : Word) → kind_by (word_of (job_word job)) next ≡ Some (Grid job)
 job-kind ByShift next = refl
@@ -267,16 +258,16 @@ job-kind ByConvex next = refl
 
 pub printed-read : PrintedIsRead
 printed-read k (GridFigure job lists points) text least most whole (are, inside) is bytes at rest within here line =
-    stands-counted (Grid job) k (job_word job) (length lists) (GridFigure job lists points) (grid_lines points lists (length lists))
+    stands-counted (Grid job) k (job_word job) (length lists) (GridFigure job lists points) (vertex_lines grid_front (grid_numbers points) lists (length lists))
     (record { number_least = least; number_most = most; least = are.some; most = are.most }) (job-dark job) (grid-counted job) (job-kind job) bytes at rest line (line + (length lists + 1)) within text is here (omega arith)
     (grid-body job lists points rest whole are inside (first_text k (job_word job) (length lists)))
 printed-read k (BarsFigure lists bars) text least most whole (are, in_y, in_a, in_b, in_column) is bytes at rest within here line =
-    stands-counted Bars k (codes "bars") (length lists) (BarsFigure lists bars) (bar_lines bars lists (length lists) ++ columns_line bars.column)
-    (record { number_least = least; number_most = most; least = are.some; most = are.most }) bars-dark bars-counted (λ next. refl) bytes at rest line (line + (length lists + 2)) within text is here (omega arith)
+    stands-counted Bars k (codes "bars") (length lists) (BarsFigure lists bars) (vertex_lines bar_front (bar_numbers bars) lists (length lists) ++ columns_line bars.column)
+    (record { number_least = least; number_most = most; least = are.some; most = are.most }) (name-dark name.Bars) bars-counted (λ next. refl) bytes at rest line (line + (length lists + 2)) within text is here (omega arith)
     (bars-body lists bars rest whole are in_y in_a in_b in_column (first_text k (codes "bars") (length lists)))
 printed-read k (RectsFigure lists rects) text least most whole (are, in_a, in_b, in_c, in_d) is bytes at rest within here line =
-    stands-counted Rects k (codes "rect") (length lists) (RectsFigure lists rects) (rect_lines rects lists (length lists))
-    (record { number_least = least; number_most = most; least = are.some; most = are.most }) rect-dark rects-counted (λ next. refl) bytes at rest line (line + (length lists + 1)) within text is here (omega arith)
+    stands-counted Rects k (codes "rect") (length lists) (RectsFigure lists rects) (vertex_lines rect_front (rect_numbers rects) lists (length lists))
+    (record { number_least = least; number_most = most; least = are.some; most = are.most }) (name-dark name.Rect) rects-counted (λ next. refl) bytes at rest line (line + (length lists + 1)) within text is here (omega arith)
     (rects-body lists rects rest whole are in_a in_b in_c in_d (first_text k (codes "rect") (length lists)))
 printed-read k (WitnessFigure graph witness) text least most whole (branches, paths) (row, is_row, is) bytes at rest within here line =
     let same : text ≡ (witness_head k witness.kind row ++ 10 ∷ []) ++ witness_body witness = is ∙ ap (λ (x : List ℕ). x ++ witness_body witness) (witness_first_line-text k witness.kind row) in

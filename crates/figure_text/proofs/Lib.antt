@@ -8,9 +8,9 @@ pub mod WordLemmas
 mod OtherLemmas
 pub mod UptoLemmas
 pub mod RoundLemmas
-pub mod BarLemmas
+pub mod ColumnLemmas
 mod PlainLemmas
-pub mod RectLemmas
+mod FrontLemmas
 pub mod WitnessLemmas
 pub mod LawLemmas
 mod Cases

@@ -5,6 +5,8 @@ use Rattle.std.proofs.lemmas.Bool.{cases_lt, true≢false}
 use Rattle.std.proofs.lemmas.List.{get_or-drop}
 use Rattle.std.proofs.lemmas.List.Elements.{All-get_or}
 use Rattle.std.specs.Prelude.{All, IsTrue}
+use Rattle.figure_text.specs.declared.piece.Piece.{Piece}
+use Rattle.figure_text.specs.declared.piece.Piece.TheVariants.{Place, Literal, Row, Value, Last}
 use Rattle.figure_text.specs.declared.words.Name.{Name}
 use Rattle.figure_text.specs.declared.words.Word.{Word}
 use Rattle.figure_text.specs.declared.words.Word.TheVariants.{Number, Closing, Named, Other}
@@ -14,6 +16,7 @@ use Rattle.figure_text.specs.declared.judge.Kind.{Kind}
 use Rattle.figure_text.specs.declared.judge.Kind.TheVariants.{Grid, Bars, Rects, Witness}
 use Rattle.figure_text.specs.Words.{word_at, words_of, HasOther}
 use Rattle.figure_text.specs.Lines.{is_natural, is_number, is_closing, row_name, kind_of, IsTail, IsFirstLine, IsColumnsLine}
+use Rattle.figure_text.specs.Pieces.{pieces, front_length, Fits}
 use Rattle.figure_text.specs.Reading.{IsRow}
 
 is_good : Judged → Bool
@@ -59,15 +62,19 @@ module _ (words : List Word) (has : HasOther words) where
         absurd (true≢false (sym here ∙ (ap test same ∙ fails)))
   ]
 
+  -- and at no word of the front of a line
+  off : (place : ℕ) (p : Piece) (k : ℕ) → Fits place p (word_at words k) → at ≢ k
+  off place Place k fits = away is_natural refl k fits.0
+  off place (Literal name) k fits = named k name fits
+  off place Row k fits = named k (row_name place) fits
+  off place Value k fits = away is_number refl k fits
+  off place Last k fits = away is_closing refl k fits
+
   -- so the line is none of a vertex, of branches or of a path, and none of columns
   pub other-row : (kind : Kind) (place : ℕ) → ¬ IsRow kind place words
-  other-row (Grid job) place row =
-      omega (arith, before is_natural refl 4 row.neighbours, away is_natural refl 0 row.head.placed.natural, named 1 _ row.head.at, away is_number refl 2 row.head.x, away is_closing refl 3 row.head.y)
-  other-row Bars place row =
-      omega (arith, before is_natural refl 6 row.neighbours, away is_natural refl 0 row.head.placed.natural, named 1 _ row.head.y_word, away is_number refl 2 row.head.y, named 3 _ row.head.x_word, away is_number refl 4 row.head.a, away is_closing refl 5 row.head.b)
-  other-row Rects place row =
-      omega (arith, before is_natural refl 7 row.neighbours, away is_natural refl 0 row.head.placed.natural, named 1 _ row.head.x_word, away is_number refl 2 row.head.a, away is_number refl 3 row.head.b, named 4 _ row.head.y_word, away is_number refl 5 row.head.c, away is_closing refl 6 row.head.d)
-  other-row (Witness kind) place row = omega (arith, before is_natural refl 1 row.numbers, named 0 (row_name place) row.word)
+  other-row kind place row =
+      let front : at < front_length kind = before is_natural refl (front_length kind) row.vertices in
+      off place (get_or (pieces kind) at Row) at (row.front at front) refl
 
   pub other-columns : ¬ IsColumnsLine words
   other-columns row = omega (arith, before is_number refl 1 row.numbers, named 0 _ row.word)

@@ -1,25 +1,24 @@
--- What is printed is read as it was.
-use Rattle.std.proofs.Common.{◌≡◌, ℕ, suc, ◌+◌, ◌-◌, ◌<◌, ◌≤◌, ℤ, pos, negsuc, neg_ℤ, List, [], ◌∷◌, ◌++◌, map, flat_map, refl, sym, ap, ap₂, ◌∙◌, subst, arith, append_assoc, lit≤}
-use Rattle.std.specs.Prelude.{min, codes, decimal, All, IsTrue}
+-- What is printed of a vertex is read as it was: its front by the pieces of its kind, and its neighbours.
+use Rattle.std.proofs.Common.{◌≡◌, ◌≢◌, ℕ, zero, suc, ◌+◌, ◌-◌, ◌<◌, ◌≤◌, ℤ, pos, negsuc, neg_ℤ, List, [], ◌∷◌, ◌++◌, length, map, drop, refl, sym, ap, ap₂, ◌∙◌, subst, arith, lit≤, length-append}
+use Rattle.std.specs.Prelude.{codes, decimal, min, All, IsTrue}
 use Rattle.std.specs.Fmt.{signed_decimal}
-use Rattle.std.proofs.lemmas.List.Elements.{All-head, All-tail, All-map, All-weaker, All-from_recursion}
-use Rattle.pg_plane.specs.declared.point.Point.{Point}
-use Rattle.figure_text.specs.declared.figure.GridJob.{GridJob}
+use Rattle.std.proofs.lemmas.List.{map-append}
+use Rattle.std.proofs.lemmas.List.Elements.{All-nil, All-cons, All-append, All-map, All-weaker, All-head, All-tail, All-from_recursion}
+use Rattle.figure_text.specs.declared.judge.Kind.{Kind}
+use Rattle.figure_text.specs.declared.piece.Piece.{Piece}
+use Rattle.figure_text.specs.declared.piece.Piece.TheVariants.{Place, Literal, Row, Value, Last}
+use Rattle.figure_text.specs.declared.words.Name.{Name}
+use Rattle.figure_text.specs.declared.words.Name.TheVariants as name
 use Rattle.figure_text.specs.declared.words.Word.{Word}
 use Rattle.figure_text.specs.declared.words.Word.TheVariants.{Number, Closing, Named}
-use Rattle.figure_text.specs.declared.words.Name.TheVariants.{At}
-use Rattle.figure_text.specs.declared.judge.Kind.TheVariants.{Grid}
 use Rattle.figure_text.specs.Words.{word_of, words_of}
-use Rattle.figure_text.specs.Lines.{is_natural, IsVertex, IsGridLine, GridInRange, vertex_of, signed_value}
-use Rattle.figure_text.specs.Reading.{IsPlain, IsGoodRow, point_of, vertices_from}
-use Rattle.figure_text.specs.Text.{grid_line}
+use Rattle.figure_text.specs.Lines.{is_natural, row_name, vertex_of, signed_value, IsVertex}
+use Rattle.figure_text.specs.Pieces.{pieces, front_length, Fits, IsWithin, Along, is_long}
+use Rattle.figure_text.specs.Reading.{IsPlain, IsGoodRow, vertices_from}
+use Rattle.figure_text.specs.Text.{joined, name_text, front_words, vertex_line}
 use Rattle.figure_text.specs.Laws.{sign_of, IsCoordinate}
-use Rattle.figure_text.proofs.NumeralLemmas.{Dark, decimal-dark, signed-dark, word_of-signed, word_of-decimal, word_of-closing, colon-dark}
-use Rattle.figure_text.proofs.WordLemmas.{words_of-next, words_of-spaced, Inline-next, Inline-spaced, IsPlain-inline}
-
--- neighbours, each after a space
-abbrev pub after_spaces : List ℕ → List ℕ
-after_spaces us = flat_map (λ u. 32 ∷ decimal (u + 1)) us
+use Rattle.figure_text.proofs.NumeralLemmas.{Dark, decimal-dark, signed-dark, colon-dark, word_of-signed, word_of-decimal, word_of-closing}
+use Rattle.figure_text.proofs.WordLemmas.{words_of-spaced, Inline-spaced, IsPlain-inline}
 
 -- neighbours as words
 abbrev pub neighbour_words : List ℕ → List Word
@@ -53,65 +52,185 @@ pub value-again : (z : ℤ) → IsCoordinate z → signed_value (sign_of z) ≡ 
 value-again (pos n) small = let same : min 1048576 n ≡ n = omega arith in ap pos same
 value-again (negsuc n) small = let same : min 1048576 (suc n) ≡ suc n = omega arith in ap (λ (k : ℕ). neg_ℤ (pos k)) same
 
-at-dark : Dark (codes "at")
-at-dark = All-from_recursion (λ b. 33 ≤ b) (codes "at") (lit≤ tt, (lit≤ tt, tt))
+-- as they are printed
+numerals-words : (us : List ℕ) → map word_of (map (λ u. decimal (u + 1)) us) ≡ neighbour_words us
+numerals-words [] = refl
+numerals-words (u ∷ us) = ap (λ (ws : List Word). word_of (decimal (u + 1)) ∷ ws) (numerals-words us)
 
--- the line of a vertex of a straight-line drawing, without the byte that closes it
-abbrev pub grid_text : ℕ → Point → List ℕ → List ℕ
-grid_text v p us = decimal (v + 1) ++ 32 ∷ (codes "at" ++ 32 ∷ (signed_decimal p.x ++ 32 ∷ ((signed_decimal p.y ++ 58 ∷ []) ++ after_spaces us)))
+-- words of figures
+pub name-dark : (name : Name) → Dark (name_text name)
+name-dark name.Figure = All-from_recursion (λ b. 33 ≤ b) (codes "figure") (lit≤ tt, (lit≤ tt, (lit≤ tt, (lit≤ tt, (lit≤ tt, (lit≤ tt, tt))))))
+name-dark name.Shift = All-from_recursion (λ b. 33 ≤ b) (codes "shift") (lit≤ tt, (lit≤ tt, (lit≤ tt, (lit≤ tt, (lit≤ tt, tt)))))
+name-dark name.Schnyder = All-from_recursion (λ b. 33 ≤ b) (codes "schnyder") (lit≤ tt, (lit≤ tt, (lit≤ tt, (lit≤ tt, (lit≤ tt, (lit≤ tt, (lit≤ tt, (lit≤ tt, tt))))))))
+name-dark name.Convex = All-from_recursion (λ b. 33 ≤ b) (codes "convex") (lit≤ tt, (lit≤ tt, (lit≤ tt, (lit≤ tt, (lit≤ tt, (lit≤ tt, tt))))))
+name-dark name.Bars = All-from_recursion (λ b. 33 ≤ b) (codes "bars") (lit≤ tt, (lit≤ tt, (lit≤ tt, (lit≤ tt, tt))))
+name-dark name.Rect = All-from_recursion (λ b. 33 ≤ b) (codes "rect") (lit≤ tt, (lit≤ tt, (lit≤ tt, (lit≤ tt, tt))))
+name-dark name.At = All-from_recursion (λ b. 33 ≤ b) (codes "at") (lit≤ tt, (lit≤ tt, tt))
+name-dark name.Y = All-from_recursion (λ b. 33 ≤ b) (codes "y") (lit≤ tt, tt)
+name-dark name.X = All-from_recursion (λ b. 33 ≤ b) (codes "x") (lit≤ tt, tt)
+name-dark name.Columns = All-from_recursion (λ b. 33 ≤ b) (codes "columns") (lit≤ tt, (lit≤ tt, (lit≤ tt, (lit≤ tt, (lit≤ tt, (lit≤ tt, (lit≤ tt, tt)))))))
+name-dark name.Witness = All-from_recursion (λ b. 33 ≤ b) (codes "witness") (lit≤ tt, (lit≤ tt, (lit≤ tt, (lit≤ tt, (lit≤ tt, (lit≤ tt, (lit≤ tt, tt)))))))
+name-dark name.K5 = All-from_recursion (λ b. 33 ≤ b) (codes "K5") (lit≤ tt, (lit≤ tt, tt))
+name-dark name.K33 = All-from_recursion (λ b. 33 ≤ b) (codes "K33") (lit≤ tt, (lit≤ tt, (lit≤ tt, tt)))
+name-dark name.Branch = All-from_recursion (λ b. 33 ≤ b) (codes "branch") (lit≤ tt, (lit≤ tt, (lit≤ tt, (lit≤ tt, (lit≤ tt, (lit≤ tt, tt))))))
+name-dark name.Path = All-from_recursion (λ b. 33 ≤ b) (codes "path") (lit≤ tt, (lit≤ tt, (lit≤ tt, (lit≤ tt, tt))))
 
-pub grid_line-text : (v : ℕ) (p : Point) (us : List ℕ) → grid_line v p us ≡ grid_text v p us ++ 10 ∷ []
-unfolding grid_line
-grid_line-text v p us = simp append_assoc
+name-read : (name : Name) → word_of (name_text name) ≡ Named name
+name-read name.Figure = refl
+name-read name.Shift = refl
+name-read name.Schnyder = refl
+name-read name.Convex = refl
+name-read name.Bars = refl
+name-read name.Rect = refl
+name-read name.At = refl
+name-read name.Y = refl
+name-read name.X = refl
+name-read name.Columns = refl
+name-read name.Witness = refl
+name-read name.K5 = refl
+name-read name.K33 = refl
+name-read name.Branch = refl
+name-read name.Path = refl
+
+-- words with spaces between them
+pub joined-words : (ws : List (List ℕ)) → 0 < length ws → All Dark ws → words_of (joined ws) ≡ map word_of ws
+joined-words [] some all = absurd (omega arith)
+joined-words (w ∷ ws) some all = words_of-spaced (λ x. x) Dark (λ x h. h) ws (All-tail Dark w ws all) w (All-head Dark w ws all)
+
+pub joined-plain : (ws : List (List ℕ)) → All Dark ws → IsPlain (joined ws)
+joined-plain [] all = All-nil (λ b. b ≢ 10)
+joined-plain (w ∷ ws) all = IsPlain-inline (joined (w ∷ ws)) (Inline-spaced (λ x. x) Dark (λ x h. h) ws (All-tail Dark w ws all) w (All-head Dark w ws all))
+
+-- the words that a front is read as
+abbrev pub read_words : List Piece → ℕ → List ℤ → List Word
+read_words [] v zs = []
+read_words (Place ∷ ps) v zs = Number (sign_of (pos (v + 1))) ∷ read_words ps v zs
+read_words (Literal name ∷ ps) v zs = Named name ∷ read_words ps v zs
+read_words (Row ∷ ps) v zs = Named (row_name (v + 1)) ∷ read_words ps v zs
+read_words (Value ∷ ps) v [] = []
+read_words (Value ∷ ps) v (z ∷ zs) = Number (sign_of z) ∷ read_words ps v zs
+read_words (Last ∷ ps) v [] = []
+read_words (Last ∷ ps) v (z ∷ zs) = Closing (sign_of z) ∷ read_words ps v zs
+
+both : {v v' : Word} {ws ws' : List Word} → v ≡ v' → ws ≡ ws' → v ∷ ws ≡ v' ∷ ws'
+both first others = ap₂ (λ (v : Word) (ws : List Word). v ∷ ws) first others
+
+front-read : (ps : List Piece) (v : ℕ) (zs : List ℤ) → v < 4095 → All IsCoordinate zs → map word_of (front_words ps v zs) ≡ read_words ps v zs
+front-read [] v zs place fine = refl
+front-read (Place ∷ ps) v zs place fine = both (word_of-decimal (v + 1) (omega arith)) (front-read ps v zs place fine)
+front-read (Literal name ∷ ps) v zs place fine = both (name-read name) (front-read ps v zs place fine)
+front-read (Row ∷ ps) v zs place fine = both (name-read (row_name (v + 1))) (front-read ps v zs place fine)
+front-read (Value ∷ ps) v [] place fine = refl
+front-read (Value ∷ ps) v (z ∷ zs) place fine =
+    let here = All-head IsCoordinate z zs fine in both (word_of-signed z (omega (arith, here))) (front-read ps v zs place (All-tail IsCoordinate z zs fine))
+front-read (Last ∷ ps) v [] place fine = refl
+front-read (Last ∷ ps) v (z ∷ zs) place fine =
+    let here = All-head IsCoordinate z zs fine in both (word_of-closing z (omega (arith, here))) (front-read ps v zs place (All-tail IsCoordinate z zs fine))
+
+front-dark : (ps : List Piece) (v : ℕ) (zs : List ℤ) → v < 4095 → All IsCoordinate zs → All Dark (front_words ps v zs)
+front-dark [] v zs place fine = All-nil Dark
+front-dark (Place ∷ ps) v zs place fine = All-cons Dark (decimal (v + 1)) (front_words ps v zs) (decimal-dark (v + 1) (omega arith)) (front-dark ps v zs place fine)
+front-dark (Literal name ∷ ps) v zs place fine = All-cons Dark (name_text name) (front_words ps v zs) (name-dark name) (front-dark ps v zs place fine)
+front-dark (Row ∷ ps) v zs place fine = All-cons Dark (name_text (row_name (v + 1))) (front_words ps v zs) (name-dark (row_name (v + 1))) (front-dark ps v zs place fine)
+front-dark (Value ∷ ps) v [] place fine = All-nil Dark
+front-dark (Value ∷ ps) v (z ∷ zs) place fine =
+    let here = All-head IsCoordinate z zs fine in All-cons Dark (signed_decimal z) (front_words ps v zs) (signed-dark z (omega (arith, here))) (front-dark ps v zs place (All-tail IsCoordinate z zs fine))
+front-dark (Last ∷ ps) v [] place fine = All-nil Dark
+front-dark (Last ∷ ps) v (z ∷ zs) place fine =
+    let here = All-head IsCoordinate z zs fine in All-cons Dark (signed_decimal z ++ 58 ∷ []) (front_words ps v zs) (colon-dark z (omega (arith, here))) (front-dark ps v zs place (All-tail IsCoordinate z zs fine))
+
+-- words stand so to pieces, one by one
+pub along-none : (Stands : Piece → Word → Type 0) (ws : List Word) → Along Stands [] ws
+along-none Stands ws = λ i h. absurd (omega arith)
+
+pub along-next : (Stands : Piece → Word → Type 0) (p : Piece) (w : Word) (ps : List Piece) (ws : List Word) → Stands p w → Along Stands ps ws → Along Stands (p ∷ ps) (w ∷ ws)
+along-next Stands p w ps ws here rest zero h = here
+along-next Stands p w ps ws here rest (suc i) h = rest i (omega arith)
+
+-- there is a number for each piece that holds one
+abbrev pub IsFilled : List Piece → List ℤ → Type 0
+IsFilled [] zs = Unit {0}
+IsFilled (Place ∷ ps) zs = IsFilled ps zs
+IsFilled (Literal name ∷ ps) zs = IsFilled ps zs
+IsFilled (Row ∷ ps) zs = IsFilled ps zs
+IsFilled (Value ∷ ps) [] = ⊥
+IsFilled (Value ∷ ps) (z ∷ zs) = IsFilled ps zs
+IsFilled (Last ∷ ps) [] = ⊥
+IsFilled (Last ∷ ps) (z ∷ zs) = IsFilled ps zs
+
+-- then the words that are read have the shapes and the ranges of the pieces
+fits-read : (ps : List Piece) (v : ℕ) (zs : List ℤ) (ws : List Word) → IsFilled ps zs → Along (Fits (v + 1)) ps (read_words ps v zs ++ ws)
+fits-read [] v zs ws filled = along-none (Fits (v + 1)) ws
+fits-read (Place ∷ ps) v zs ws filled = along-next (Fits (v + 1)) Place (Number (sign_of (pos (v + 1)))) _ _ (refl, refl) (fits-read ps v zs ws filled)
+fits-read (Literal name ∷ ps) v zs ws filled = along-next (Fits (v + 1)) (Literal name) (Named name) _ _ refl (fits-read ps v zs ws filled)
+fits-read (Row ∷ ps) v zs ws filled = along-next (Fits (v + 1)) Row (Named (row_name (v + 1))) _ _ refl (fits-read ps v zs ws filled)
+fits-read (Value ∷ ps) v [] ws filled = absurd filled
+fits-read (Value ∷ ps) v (z ∷ zs) ws filled = along-next (Fits (v + 1)) Value (Number (sign_of z)) _ _ refl (fits-read ps v zs ws filled)
+fits-read (Last ∷ ps) v [] ws filled = absurd filled
+fits-read (Last ∷ ps) v (z ∷ zs) ws filled = along-next (Fits (v + 1)) Last (Closing (sign_of z)) _ _ refl (fits-read ps v zs ws filled)
+
+within-read : (ps : List Piece) (v : ℕ) (zs : List ℤ) (ws : List Word) → All IsCoordinate zs → IsFilled ps zs → Along IsWithin ps (read_words ps v zs ++ ws)
+within-read [] v zs ws fine filled = along-none IsWithin ws
+within-read (Place ∷ ps) v zs ws fine filled = along-next IsWithin Place (Number (sign_of (pos (v + 1)))) _ _ tt (within-read ps v zs ws fine filled)
+within-read (Literal name ∷ ps) v zs ws fine filled = along-next IsWithin (Literal name) (Named name) _ _ tt (within-read ps v zs ws fine filled)
+within-read (Row ∷ ps) v zs ws fine filled = along-next IsWithin Row (Named (row_name (v + 1))) _ _ tt (within-read ps v zs ws fine filled)
+within-read (Value ∷ ps) v [] ws fine filled = absurd filled
+within-read (Value ∷ ps) v (z ∷ zs) ws fine filled =
+    along-next IsWithin Value (Number (sign_of z)) _ _ (All-head IsCoordinate z zs fine) (within-read ps v zs ws (All-tail IsCoordinate z zs fine) filled)
+within-read (Last ∷ ps) v [] ws fine filled = absurd filled
+within-read (Last ∷ ps) v (z ∷ zs) ws fine filled =
+    along-next IsWithin Last (Closing (sign_of z)) _ _ (All-head IsCoordinate z zs fine) (within-read ps v zs ws (All-tail IsCoordinate z zs fine) filled)
+
+behind-read : (ps : List Piece) (v : ℕ) (zs : List ℤ) (ws : List Word) → IsFilled ps zs → drop (length ps) (read_words ps v zs ++ ws) ≡ ws
+behind-read [] v zs ws filled = refl
+behind-read (Place ∷ ps) v zs ws filled = behind-read ps v zs ws filled
+behind-read (Literal name ∷ ps) v zs ws filled = behind-read ps v zs ws filled
+behind-read (Row ∷ ps) v zs ws filled = behind-read ps v zs ws filled
+behind-read (Value ∷ ps) v [] ws filled = absurd filled
+behind-read (Value ∷ ps) v (z ∷ zs) ws filled = behind-read ps v zs ws filled
+behind-read (Last ∷ ps) v [] ws filled = absurd filled
+behind-read (Last ∷ ps) v (z ∷ zs) ws filled = behind-read ps v zs ws filled
+
+-- the line of a vertex, without the byte that closes it
+abbrev pub line_text : List Piece → ℕ → List ℤ → List ℕ → List ℕ
+line_text ps v zs us = joined (front_words ps v zs ++ map (λ u. decimal (u + 1)) us)
+
+pub vertex_line-text : (ps : List Piece) (v : ℕ) (zs : List ℤ) (us : List ℕ) → vertex_line ps v zs us ≡ line_text ps v zs us ++ 10 ∷ []
+unfolding vertex_line
+vertex_line-text ps v zs us = refl
 
 -- such a line with its numbers in range
-pub record IsFine (v : ℕ) (p : Point) (us : List ℕ) : Type 0 where
-  pub place : v < 4095
-  pub x : IsCoordinate p.x
-  pub y : IsCoordinate p.y
-  pub small : All (λ u. u < 65535) us
+module _ (kind : Kind) (v : ℕ) (zs : List ℤ) (us : List ℕ) (place : v < 4095) (fine : All IsCoordinate zs) (small : All (λ u. u < 65535) us) (some : 0 < length (front_words (pieces kind) v zs)) (filled : IsFilled (pieces kind) zs) where
+  numerals-dark : All Dark (map (λ u. decimal (u + 1)) us)
+  numerals-dark = All-map Dark (λ u. decimal (u + 1)) us (All-weaker (λ u. u < 65535) (λ u. Dark (decimal (u + 1))) neighbour-dark us small)
 
-grid-words : (v : ℕ) (p : Point) (us : List ℕ) → IsFine v p us → words_of (grid_text v p us) ≡ Number (sign_of (pos (v + 1))) ∷ Named At ∷ Number (sign_of p.x) ∷ Closing (sign_of p.y) ∷ neighbour_words us
-grid-words v p us fine =
-    let tail = (signed_decimal p.y ++ 58 ∷ []) ++ after_spaces us in
-    words_of-next (decimal (v + 1)) (codes "at" ++ 32 ∷ (signed_decimal p.x ++ 32 ∷ tail)) (decimal-dark (v + 1) (omega (arith, fine.place)))
-    ∙ ap₂ (λ (w : Word) (ws : List Word). w ∷ ws) (word_of-decimal (v + 1) (omega (arith, fine.place)))
-    (words_of-next (codes "at") (signed_decimal p.x ++ 32 ∷ tail) at-dark
-    ∙ ap (λ (ws : List Word). Named At ∷ ws)
-    (words_of-next (signed_decimal p.x) tail (signed-dark p.x (omega (arith, fine.x)))
-    ∙ ap₂ (λ (w : Word) (ws : List Word). w ∷ ws) (word_of-signed p.x (omega (arith, fine.x)))
-    (words_of-spaced (λ u. decimal (u + 1)) (λ u. u < 65535) neighbour-dark us fine.small (signed_decimal p.y ++ 58 ∷ []) (colon-dark p.y (omega (arith, fine.y)))
-    ∙ ap (λ (w : Word). w ∷ neighbour_words us) (word_of-closing p.y (omega (arith, fine.y))))))
+  all-dark : All Dark (front_words (pieces kind) v zs ++ map (λ u. decimal (u + 1)) us)
+  all-dark = All-append Dark (front_words (pieces kind) v zs) (map (λ u. decimal (u + 1)) us) (front-dark (pieces kind) v zs place fine) numerals-dark
 
-pub grid-plain : (v : ℕ) (p : Point) (us : List ℕ) → IsFine v p us → IsPlain (grid_text v p us)
-grid-plain v p us fine =
-    let tail = (signed_decimal p.y ++ 58 ∷ []) ++ after_spaces us in
-    IsPlain-inline (grid_text v p us)
-    (Inline-next (decimal (v + 1)) (codes "at" ++ 32 ∷ (signed_decimal p.x ++ 32 ∷ tail)) (decimal-dark (v + 1) (omega (arith, fine.place)))
-    (Inline-next (codes "at") (signed_decimal p.x ++ 32 ∷ tail) at-dark
-    (Inline-next (signed_decimal p.x) tail (signed-dark p.x (omega (arith, fine.x)))
-    (Inline-spaced (λ u. decimal (u + 1)) (λ u. u < 65535) neighbour-dark us fine.small (signed_decimal p.y ++ 58 ∷ []) (colon-dark p.y (omega (arith, fine.y)))))))
+  pub vertex-plain : IsPlain (line_text (pieces kind) v zs us)
+  vertex-plain = joined-plain (front_words (pieces kind) v zs ++ map (λ u. decimal (u + 1)) us) all-dark
 
-grid-shape : (v : ℕ) (x y : ℤ) (ws : List Word) → All (λ w. IsTrue (is_natural w)) ws → IsGridLine (v + 1) (Number (sign_of (pos (v + 1))) ∷ Named At ∷ Number (sign_of x) ∷ Closing (sign_of y) ∷ ws)
-grid-shape v x y ws natural =
-    record { head = record { placed = record { natural = refl; here = refl }; at = refl; x = refl; y = refl }; neighbours = natural }
+  pub vertex-words : words_of (line_text (pieces kind) v zs us) ≡ read_words (pieces kind) v zs ++ neighbour_words us
+  vertex-words =
+      joined-words (front_words (pieces kind) v zs ++ map (λ u. decimal (u + 1)) us) (let l = length-append (front_words (pieces kind) v zs) (map (λ u. decimal (u + 1)) us) in omega (arith, l, some)) all-dark
+      ∙ map-append word_of (front_words (pieces kind) v zs) (map (λ u. decimal (u + 1)) us)
+      ∙ ap₂ (λ (x : List Word) (y : List Word). x ++ y) (front-read (pieces kind) v zs place fine) (numerals-words us)
 
-grid-range : (v : ℕ) (x y : ℤ) (ws : List Word) → IsCoordinate x → IsCoordinate y → All (λ w. IsVertex w) ws → GridInRange (Number (sign_of (pos (v + 1))) ∷ Named At ∷ Number (sign_of x) ∷ Closing (sign_of y) ∷ ws)
-grid-range v x y ws in_x in_y vertices = record { x = in_x; y = in_y; neighbours = vertices }
+  pub vertex-good : ((len : ℕ) → IsTrue (is_long kind (v + 1) len)) → IsGoodRow kind (v + 1) (line_text (pieces kind) v zs us)
+  vertex-good long = (
+    record {
+      front = subst (λ (ws : List Word). Along (Fits (v + 1)) (pieces kind) ws) (sym vertex-words) (fits-read (pieces kind) v zs (neighbour_words us) filled);
+      long = long (length (words_of (line_text (pieces kind) v zs us)));
+      vertices = subst (All (λ w. IsTrue (is_natural w))) (sym behind) (neighbours-natural us small);
+    },
+    record {
+      front = subst (λ (ws : List Word). Along IsWithin (pieces kind) ws) (sym vertex-words) (within-read (pieces kind) v zs (neighbour_words us) fine filled);
+      vertices = subst (All (λ w. IsVertex w)) (sym behind) (neighbours-vertices us small);
+    },
+  )
+    where
+      behind : drop (front_length kind) (words_of (line_text (pieces kind) v zs us)) ≡ neighbour_words us
+      behind = ap (drop (front_length kind)) vertex-words ∙ behind-read (pieces kind) v zs (neighbour_words us) filled
 
-pub grid-good : (job : GridJob) (v : ℕ) (p : Point) (us : List ℕ) → IsFine v p us → IsGoodRow (Grid job) (v + 1) (grid_text v p us)
-grid-good job v p us fine =
-    let words = sym (grid-words v p us fine) in (
-      subst (λ (ws : List Word). IsGridLine (v + 1) ws) words (grid-shape v p.x p.y (neighbour_words us) (neighbours-natural us fine.small)),
-      subst (λ (ws : List Word). GridInRange ws) words (grid-range v p.x p.y (neighbour_words us) fine.x fine.y (neighbours-vertices us fine.small)),
-    )
-
-pub grid-list : (v : ℕ) (p : Point) (us : List ℕ) → IsFine v p us → vertices_from 4 (words_of (grid_text v p us)) ≡ us
-grid-list v p us fine = ap (vertices_from 4) (grid-words v p us fine) ∙ neighbours-again us fine.small
-
-pub grid-point : (v : ℕ) (p : Point) (us : List ℕ) → IsFine v p us → point_of (words_of (grid_text v p us)) ≡ p
-grid-point v p us fine =
-    ap point_of (grid-words v p us fine) ∙ ap₂ (λ (x : ℤ) (y : ℤ). point x y) (value-again p.x fine.x) (value-again p.y fine.y)
-  where
-    point : ℤ → ℤ → Point
-    point x y = record { x = x; y = y }
+  pub vertex-list : vertices_from (front_length kind) (words_of (line_text (pieces kind) v zs us)) ≡ us
+  vertex-list = ap (vertices_from (front_length kind)) vertex-words ∙ ap (map vertex_of) (behind-read (pieces kind) v zs (neighbour_words us) filled) ∙ neighbours-again us small

@@ -16,10 +16,13 @@ use Rattle.kuratowski.specs.declared.witness.Witness.{Witness as AWitness}
 use Rattle.kuratowski.specs.Witnesses.{branch_count, pairs_of}
 use Rattle.figure_text.specs.declared.figure.Figure.TheVariants.{Witness as WitnessFigure}
 use Rattle.figure_text.specs.declared.words.Word.{Word}
+use Rattle.figure_text.specs.declared.words.Name.TheVariants as name
 use Rattle.figure_text.specs.declared.judge.Kind.TheVariants.{Witness}
 use Rattle.figure_text.specs.Words.{word_of, words_of, parts_of, part_at}
-use Rattle.figure_text.specs.Lines.{is_natural, IsVertex, vertex_of, kind_of, IsWitnessRow, WitnessInRange, is_graph_shaped, IsTail, TailInRange}
-use Rattle.figure_text.specs.Reading.{IsPlain, IsGoodRow, Rows, vertices_from, of_lines}
+use Rattle.figure_text.specs.Lines.{is_natural, IsVertex, vertex_of, kind_of, is_graph_shaped, IsTail, TailInRange}
+use Rattle.figure_text.specs.declared.piece.Piece.TheVariants.{Row}
+use Rattle.figure_text.specs.Pieces.{Fits, IsWithin}
+use Rattle.figure_text.specs.Reading.{IsPlain, IsRow, RowInRange, IsGoodRow, Rows, vertices_from, of_lines}
 use Rattle.figure_text.specs.Figures.{ids, witness_of, IsBody}
 use Rattle.figure_text.specs.Front.{IsGraphOf}
 use Rattle.figure_text.specs.Text.{texts, kind_word, witness_first_line, spaced_ids, branch_line, path_line, path_lines, HasPaths}
@@ -27,7 +30,7 @@ use Rattle.figure_text.specs.Laws.{AreNumbered}
 use Rattle.figure_text.proofs.NumeralLemmas.{Dark, decimal-dark}
 use Rattle.figure_text.proofs.WordLemmas.{parts_of-last, parts_of-next, words_of-spaced, Inline-dark, Inline-next, Inline-spaced, IsPlain-inline}
 use Rattle.figure_text.proofs.UptoLemmas.{lines_upto, length-lines_upto, closed-lines_upto, Rows-lines_upto, of_lines-upto}
-use Rattle.figure_text.proofs.RoundLemmas.{neighbour-dark, neighbour-word}
+use Rattle.figure_text.proofs.RoundLemmas.{neighbour-dark, neighbour-word, name-dark, along-none, along-next}
 
 -- the first line, without the byte that closes it
 abbrev pub witness_head : ℕ → Subdivided → List ℕ → List ℕ
@@ -37,21 +40,9 @@ pub witness_first_line-text : (k : ℕ) (kind : Subdivided) (line : List ℕ) �
 unfolding witness_first_line
 witness_first_line-text k kind line = simp append_assoc
 
-figure-dark : Dark (codes "figure")
-figure-dark = All-from_recursion (λ b. 33 ≤ b) (codes "figure") (lit≤ tt, (lit≤ tt, (lit≤ tt, (lit≤ tt, (lit≤ tt, (lit≤ tt, tt))))))
-
-witness-dark : Dark (codes "witness")
-witness-dark = All-from_recursion (λ b. 33 ≤ b) (codes "witness") (lit≤ tt, (lit≤ tt, (lit≤ tt, (lit≤ tt, (lit≤ tt, (lit≤ tt, (lit≤ tt, tt)))))))
-
 kind-dark : (kind : Subdivided) → Dark (kind_word kind)
-kind-dark FiveJoined = All-from_recursion (λ b. 33 ≤ b) (codes "K5") (lit≤ tt, (lit≤ tt, tt))
-kind-dark ThreeByThree = All-from_recursion (λ b. 33 ≤ b) (codes "K33") (lit≤ tt, (lit≤ tt, (lit≤ tt, tt)))
-
-branch-dark : Dark (codes "branch")
-branch-dark = All-from_recursion (λ b. 33 ≤ b) (codes "branch") (lit≤ tt, (lit≤ tt, (lit≤ tt, (lit≤ tt, (lit≤ tt, (lit≤ tt, tt))))))
-
-path-dark : Dark (codes "path")
-path-dark = All-from_recursion (λ b. 33 ≤ b) (codes "path") (lit≤ tt, (lit≤ tt, (lit≤ tt, (lit≤ tt, tt))))
+kind-dark FiveJoined = name-dark name.K5
+kind-dark ThreeByThree = name-dark name.K33
 
 -- the line of a graph has no space
 count-dark : (n : ℕ) → Dark (count_form n)
@@ -69,20 +60,20 @@ graph-dark line graph is =
 
 pub witness-parts : (k : ℕ) (kind : Subdivided) (line : List ℕ) → k ≤ 16777216 → Dark line → parts_of (witness_head k kind line) ≡ codes "figure" ∷ decimal k ∷ codes "witness" ∷ kind_word kind ∷ line ∷ []
 witness-parts k kind line most dark =
-    parts_of-next (codes "figure") (decimal k ++ 32 ∷ (codes "witness" ++ 32 ∷ (kind_word kind ++ 32 ∷ line))) figure-dark
+    parts_of-next (codes "figure") (decimal k ++ 32 ∷ (codes "witness" ++ 32 ∷ (kind_word kind ++ 32 ∷ line))) (name-dark name.Figure)
     ∙ ap (λ (ps : List (List ℕ)). codes "figure" ∷ ps)
     (parts_of-next (decimal k) (codes "witness" ++ 32 ∷ (kind_word kind ++ 32 ∷ line)) (decimal-dark k (omega arith))
     ∙ ap (λ (ps : List (List ℕ)). decimal k ∷ ps)
-    (parts_of-next (codes "witness") (kind_word kind ++ 32 ∷ line) witness-dark
+    (parts_of-next (codes "witness") (kind_word kind ++ 32 ∷ line) (name-dark name.Witness)
     ∙ ap (λ (ps : List (List ℕ)). codes "witness" ∷ ps)
     (parts_of-next (kind_word kind) line (kind-dark kind) ∙ ap (λ (ps : List (List ℕ)). kind_word kind ∷ ps) (parts_of-last line dark))))
 
 pub witness-plain : (k : ℕ) (kind : Subdivided) (line : List ℕ) → k ≤ 16777216 → Dark line → IsPlain (witness_head k kind line)
 witness-plain k kind line most dark =
     IsPlain-inline (witness_head k kind line)
-    (Inline-next (codes "figure") (decimal k ++ 32 ∷ (codes "witness" ++ 32 ∷ (kind_word kind ++ 32 ∷ line))) figure-dark
+    (Inline-next (codes "figure") (decimal k ++ 32 ∷ (codes "witness" ++ 32 ∷ (kind_word kind ++ 32 ∷ line))) (name-dark name.Figure)
     (Inline-next (decimal k) (codes "witness" ++ 32 ∷ (kind_word kind ++ 32 ∷ line)) (decimal-dark k (omega arith))
-    (Inline-next (codes "witness") (kind_word kind ++ 32 ∷ line) witness-dark
+    (Inline-next (codes "witness") (kind_word kind ++ 32 ∷ line) (name-dark name.Witness)
     (Inline-next (kind_word kind) line (kind-dark kind) (Inline-dark line dark)))))
 
 pub witness-part : (k : ℕ) (kind : Subdivided) (line : List ℕ) → k ≤ 16777216 → Dark line → part_at (witness_head k kind line) 4 ≡ line
@@ -148,9 +139,9 @@ row_text branch paths (suc p) = codes "path" ++ spaced_ids (get_or paths p [])
 -- so many vertices may stand in a line at this place
 branch-good : (kind : Subdivided) (branch : List VertexId) → length branch ≡ branch_count kind → AreNumbered branch → IsGoodRow (Witness kind) 1 (codes "branch" ++ spaced_ids branch)
 branch-good kind branch count small =
-    let words = sym (row-words (codes "branch") branch branch-dark small) in (
-      subst (λ (ws : List Word). IsWitnessRow kind 1 ws) words (record { word = refl; long = by_length (length (id_words branch)) (length-map branch (λ (u : VertexId). word_of (decimal (u.0 + 1))) ∙ count); numbers = ids-natural branch small }),
-      subst (λ (ws : List Word). WitnessInRange ws) words (ids-vertices branch small),
+    let words = sym (row-words (codes "branch") branch (name-dark name.Branch) small) in (
+      subst (λ (ws : List Word). IsRow (Witness kind) 1 ws) words (record { front = along-next (Fits 1) Row (word_of (codes "branch")) [] (id_words branch) refl (along-none (Fits 1) (id_words branch)); long = by_length (length (id_words branch)) (length-map branch (λ (u : VertexId). word_of (decimal (u.0 + 1))) ∙ count); vertices = ids-natural branch small }),
+      subst (λ (ws : List Word). RowInRange (Witness kind) ws) words (record { front = along-next IsWithin Row (word_of (codes "branch")) [] (id_words branch) tt (along-none IsWithin (id_words branch)); vertices = ids-vertices branch small }),
     )
   where
     by_length : (n : ℕ) → n ≡ branch_count kind → IsTrue (suc n == branch_count kind + 1)
@@ -158,10 +149,10 @@ branch-good kind branch count small =
 
 path-good : (kind : Subdivided) (p : ℕ) (path : List VertexId) → 0 < length path → AreNumbered path → IsGoodRow (Witness kind) (suc p + 1) (codes "path" ++ spaced_ids path)
 path-good kind p path some small =
-    let words = sym (row-words (codes "path") path path-dark small) in
+    let words = sym (row-words (codes "path") path (name-dark name.Path) small) in
     let later : (suc p + 1 == 1) ≡ false = grind (arith, nat_tests) in (
-      subst (λ (ws : List Word). IsWitnessRow kind (suc p + 1) ws) words (record { word = rw later refl; long = rw later (by_length (length (id_words path)) (rw (length-map path (λ (u : VertexId). word_of (decimal (u.0 + 1)))) some)); numbers = ids-natural path small }),
-      subst (λ (ws : List Word). WitnessInRange ws) words (ids-vertices path small),
+      subst (λ (ws : List Word). IsRow (Witness kind) (suc p + 1) ws) words (record { front = along-next (Fits (suc p + 1)) Row (word_of (codes "path")) [] (id_words path) (rw later refl) (along-none (Fits (suc p + 1)) (id_words path)); long = rw later (by_length (length (id_words path)) (rw (length-map path (λ (u : VertexId). word_of (decimal (u.0 + 1)))) some)); vertices = ids-natural path small }),
+      subst (λ (ws : List Word). RowInRange (Witness kind) ws) words (record { front = along-next IsWithin Row (word_of (codes "path")) [] (id_words path) tt (along-none IsWithin (id_words path)); vertices = ids-vertices path small }),
     )
   where
     by_length : (n : ℕ) → 0 < n → IsTrue (nat_lt 1 (suc n))
@@ -181,11 +172,11 @@ rows-text branch paths n = texts-first (λ v. row_text branch paths v ++ 10 ∷ 
 
 -- the lists that the lines give
 row-list : (branch : List VertexId) (paths : List (List VertexId)) → AreNumbered branch → All AreNumbered paths → (v : ℕ) → v < length (numbers branch ∷ map numbers paths) → vertices_from 1 (words_of (row_text branch paths v)) ≡ get_or (numbers branch ∷ map numbers paths) v []
-row-list branch paths small all zero within = ap (vertices_from 1) (row-words (codes "branch") branch branch-dark small) ∙ ids-again branch small
+row-list branch paths small all zero within = ap (vertices_from 1) (row-words (codes "branch") branch (name-dark name.Branch) small) ∙ ids-again branch small
 row-list branch paths small all (suc p) within =
     let here : p < length paths = omega (arith, length-map paths numbers) in
     let fine : AreNumbered (get_or paths p []) = All-get_or AreNumbered paths p [] here all in
-    ap (vertices_from 1) (row-words (codes "path") (get_or paths p []) path-dark fine) ∙ ids-again (get_or paths p []) fine ∙ sym (get_or-map p paths)
+    ap (vertices_from 1) (row-words (codes "path") (get_or paths p []) (name-dark name.Path) fine) ∙ ids-again (get_or paths p []) fine ∙ sym (get_or-map p paths)
   where
     get_or-map : (i : ℕ) (xs : List (List VertexId)) → get_or (map numbers xs) i [] ≡ numbers (get_or xs i [])
     get_or-map i [] = refl
@@ -217,8 +208,8 @@ witness-body graph witness rest head whole small all of =
     )
   where
     plain : (v : ℕ) → v < suc (length witness.paths) → IsPlain (row_text witness.branch witness.paths v)
-    plain zero h = row-plain (codes "branch") witness.branch branch-dark small
-    plain (suc p) h = row-plain (codes "path") (get_or witness.paths p []) path-dark (All-get_or AreNumbered witness.paths p [] (omega arith) all)
+    plain zero h = row-plain (codes "branch") witness.branch (name-dark name.Branch) small
+    plain (suc p) h = row-plain (codes "path") (get_or witness.paths p []) (name-dark name.Path) (All-get_or AreNumbered witness.paths p [] (omega arith) all)
 
     good : (v : ℕ) → v < suc (length witness.paths) → IsGoodRow (Witness witness.kind) (v + 1) (row_text witness.branch witness.paths v)
     good zero h = branch-good witness.kind witness.branch whole.branches small

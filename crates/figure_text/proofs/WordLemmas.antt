@@ -1,5 +1,5 @@
 -- The words of printed lines.
-use Rattle.std.proofs.Common.{◌≡◌, ◌≢◌, ◌==◌, nat_lt, ℕ, zero, suc, ◌+◌, ◌-◌, ◌<◌, ◌≤◌, Bool, true, false, List, [], ◌∷◌, ◌++◌, length, take, drop, get_or, map, flat_map, refl, sym, ap, ◌∙◌, subst, arith, append_assoc, append-nil, length-append, length-drop, drop-cons, add-one, inl, inr, lit≤}
+use Rattle.std.proofs.Common.{◌≡◌, ◌≢◌, ◌==◌, nat_lt, ℕ, zero, suc, ◌+◌, ◌-◌, ◌<◌, ◌≤◌, Bool, true, false, List, [], ◌∷◌, ◌++◌, length, take, drop, get_or, map, flat_map, refl, sym, ap, ◌∙◌, subst, arith, append_assoc, append-nil, length-drop, drop-cons, add-one, inl, inr, lit≤}
 use Rattle.std.proofs.lemmas.Bool.{cases_lt}
 use Rattle.std.proofs.lemmas.List.{take-append-drop, take_all, drop-drop, get_or-drop}
 use Rattle.std.proofs.lemmas.Bool.Decides.{nat_tests}
@@ -110,16 +110,6 @@ words-more line found at end start order within before ends so_far =
     append_assoc found (word ∷ []) (words_left line (end + 1))
     ∙ ap (λ (ws : List Word). found ++ ws) (sym (words-next line at end start order within before ends))
     ∙ so_far
-
--- the first words are all where they are fewer than were asked for, and else there are more
-pub words-few : (line : List ℕ) (found : List Word) (at most : ℕ) → found ++ words_left line at ≡ words_of line → (at ≤ length line → length found ≡ most) → length found < most → found ≡ words_of line
-words-few line found at most parts many few = elim (cases_lt (length line) at) [
-  | inl past ↦ let none : nat_lt (length line) at ≡ true = grind (arith, nat_tests) in sym (append-nil found) ∙ (rw none at parts)
-  | inr within ↦ let long = many (omega arith) in absurd (omega (arith, long, few))
-]
-
-pub words-more_than : (line : List ℕ) (found : List Word) (at k : ℕ) → found ++ words_left line at ≡ words_of line → k < length found → k < length (words_of line)
-words-more_than line found at k parts more = let n = length-append found (words_left line at) in let e = ap length parts in omega (arith, n, e, more)
 
 -- a word that is next and neither a number nor a word of figures
 pub words-other : (line : List ℕ) (found : List Word) (at end : ℕ) → at ≤ length line → at ≤ end → end ≤ length line → ((k : ℕ) → at ≤ k → k < end → get_or line k 0 ≢ 32) → (end < length line → get_or line end 0 ≡ 32) → found ++ words_left line at ≡ words_of line → word_of (take (end - at) (drop at line)) ≡ Other → HasOther (words_of line)

@@ -6,6 +6,7 @@ use Rattle.figure_text.specs.declared.rows.Draft.{Draft}
 use Rattle.figure_text.specs.declared.words.Word.{Word}
 use Rattle.figure_text.specs.Words.{word_at}
 use Rattle.figure_text.specs.Lines.{integer_of}
+use Rattle.figure_text.specs.Pieces.{front_length}
 use Rattle.figure_text.specs.Reading.{point_of, vertices_from, of_lines}
 
 -- word number n, as a whole number
@@ -36,28 +37,21 @@ drafted Rects lines =
     }
 drafted (Witness kind) lines = record { lists = of_lines (vertices_from 1) lines; points = []; y = []; x1 = []; x2 = []; y2 = [] }
 
--- how many words stand before the vertices of a line
-abbrev pub front_length : Kind → ℕ
-front_length (Grid job) = 4
-front_length Bars = 6
-front_length Rects = 7
-front_length (Witness kind) = 1
-
--- the numbers before the vertices of one line more, by its words
-abbrev pub with_numbers : Kind → Draft → List Word → Draft
-with_numbers (Grid job) draft words = record draft { points = draft.points ++ point_of words ∷ [] }
-with_numbers Bars draft words =
-    record draft { y = draft.y ++ integer_in 2 words ∷ []; x1 = draft.x1 ++ integer_in 4 words ∷ []; x2 = draft.x2 ++ integer_in 5 words ∷ [] }
-with_numbers Rects draft words =
+-- the numbers before the vertices of one line more, by the place of each among the words
+abbrev pub with_values : Kind → Draft → (ℕ → ℤ) → Draft
+with_values (Grid job) draft value = record draft { points = draft.points ++ record { x = value 2; y = value 3 } ∷ [] }
+with_values Bars draft value =
+    record draft { y = draft.y ++ value 2 ∷ []; x1 = draft.x1 ++ value 4 ∷ []; x2 = draft.x2 ++ value 5 ∷ [] }
+with_values Rects draft value =
     record draft {
-      y = draft.y ++ integer_in 5 words ∷ [];
-      x1 = draft.x1 ++ integer_in 2 words ∷ [];
-      x2 = draft.x2 ++ integer_in 3 words ∷ [];
-      y2 = draft.y2 ++ integer_in 6 words ∷ [];
+      y = draft.y ++ value 5 ∷ [];
+      x1 = draft.x1 ++ value 2 ∷ [];
+      x2 = draft.x2 ++ value 3 ∷ [];
+      y2 = draft.y2 ++ value 6 ∷ [];
     }
-with_numbers (Witness kind) draft words = draft
+with_values (Witness kind) draft value = draft
 
 -- one line more, by its words
 abbrev pub with_row : Kind → Draft → List Word → Draft
 with_row kind draft words =
-    record (with_numbers kind draft words) { lists = draft.lists ++ vertices_from (front_length kind) words ∷ [] }
+    record (with_values kind draft (λ i. integer_in i words)) { lists = draft.lists ++ vertices_from (front_length kind) words ∷ [] }

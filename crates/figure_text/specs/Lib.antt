@@ -1,7 +1,8 @@
 -- The text of figures.
-pub mod Text
 pub mod Words
 pub mod Lines
+pub mod Pieces
+pub mod Text
 pub mod Plain
 pub mod Reading
 pub mod Drafts

@@ -5,7 +5,7 @@ use Rattle.figure_text.specs.declared.words.Signed.{Signed}
 use Rattle.figure_text.specs.declared.words.Word.{Word}
 use Rattle.figure_text.specs.declared.words.Word.TheVariants.{Number, Closing, Named, Other}
 use Rattle.figure_text.specs.declared.words.Name.{Name}
-use Rattle.figure_text.specs.declared.words.Name.TheVariants.{Figure, Shift, Schnyder, Convex, Bars, Rect, At, Y, X, Columns, Witness, K5, K33, Branch, Path}
+use Rattle.figure_text.specs.declared.words.Name.TheVariants.{Figure, Shift, Schnyder, Convex, Bars, Rect, Columns, Witness, K5, K33, Branch, Path}
 use Rattle.figure_text.specs.declared.judge.Kind.{Kind}
 use Rattle.figure_text.specs.declared.judge.Kind.TheVariants.{Grid, Bars as BarKind, Rects as RectKind, Witness as WitnessKind}
 use Rattle.graph6_text.specs.Faults.{line_fault}
@@ -51,70 +51,6 @@ IsInside word = size word ≤ 1048576
 abbrev pub IsVertex : Word → Type 0
 IsVertex word = (1 ≤ size word) × (size word ≤ 65535)
 
--- a line begins with the number of its place
-pub record IsPlaced (words : List Word) (place : ℕ) : Type 0 where
-  pub natural : IsTrue (is_natural (word_at words 0))
-  pub here : size (word_at words 0) ≡ place
-
--- `V at X Y:`
-pub record IsGridHead (place : ℕ) (words : List Word) : Type 0 where
-  pub placed : IsPlaced words place
-  pub at : word_at words 1 ≡ Named At
-  pub x : IsTrue (is_number (word_at words 2))
-  pub y : IsTrue (is_closing (word_at words 3))
-
--- the same and neighbours
-pub record IsGridLine (place : ℕ) (words : List Word) : Type 0 where
-  pub head : IsGridHead place words
-  pub neighbours : All (λ w. IsTrue (is_natural w)) (drop 4 words)
-
-pub record GridInRange (words : List Word) : Type 0 where
-  pub x : IsInside (word_at words 2)
-  pub y : IsInside (word_at words 3)
-  pub neighbours : All (λ w. IsVertex w) (drop 4 words)
-
--- `V y Y x A B:`
-pub record IsBarHead (place : ℕ) (words : List Word) : Type 0 where
-  pub placed : IsPlaced words place
-  pub y_word : word_at words 1 ≡ Named Y
-  pub y : IsTrue (is_number (word_at words 2))
-  pub x_word : word_at words 3 ≡ Named X
-  pub a : IsTrue (is_number (word_at words 4))
-  pub b : IsTrue (is_closing (word_at words 5))
-
--- the same and neighbours
-pub record IsBarLine (place : ℕ) (words : List Word) : Type 0 where
-  pub head : IsBarHead place words
-  pub neighbours : All (λ w. IsTrue (is_natural w)) (drop 6 words)
-
-pub record BarsInRange (words : List Word) : Type 0 where
-  pub y : IsInside (word_at words 2)
-  pub a : IsInside (word_at words 4)
-  pub b : IsInside (word_at words 5)
-  pub neighbours : All (λ w. IsVertex w) (drop 6 words)
-
--- `V x A B y C D:`
-pub record IsRectHead (place : ℕ) (words : List Word) : Type 0 where
-  pub placed : IsPlaced words place
-  pub x_word : word_at words 1 ≡ Named X
-  pub a : IsTrue (is_number (word_at words 2))
-  pub b : IsTrue (is_number (word_at words 3))
-  pub y_word : word_at words 4 ≡ Named Y
-  pub c : IsTrue (is_number (word_at words 5))
-  pub d : IsTrue (is_closing (word_at words 6))
-
--- the same and neighbours
-pub record IsRectLine (place : ℕ) (words : List Word) : Type 0 where
-  pub head : IsRectHead place words
-  pub neighbours : All (λ w. IsTrue (is_natural w)) (drop 7 words)
-
-pub record RectsInRange (words : List Word) : Type 0 where
-  pub a : IsInside (word_at words 2)
-  pub b : IsInside (word_at words 3)
-  pub c : IsInside (word_at words 5)
-  pub d : IsInside (word_at words 6)
-  pub neighbours : All (λ w. IsVertex w) (drop 7 words)
-
 -- `columns` and numbers
 pub record IsColumnsLine (words : List Word) : Type 0 where
   pub word : word_at words 0 ≡ Named Columns
@@ -154,14 +90,6 @@ row_name place = if place == 1 then Branch else Path
 
 abbrev pub is_row_length : Subdivided → ℕ → ℕ → Bool
 is_row_length kind place len = if place == 1 then len == branch_count kind + 1 else nat_lt 1 len
-
-pub record IsWitnessRow (kind : Subdivided) (place : ℕ) (words : List Word) : Type 0 where
-  pub word : word_at words 0 ≡ Named (row_name place)
-  pub long : IsTrue (is_row_length kind place (length words))
-  pub numbers : All (λ w. IsTrue (is_natural w)) (drop 1 words)
-
-abbrev pub WitnessInRange : List Word → Type 0
-WitnessInRange words = All (λ w. IsVertex w) (drop 1 words)
 
 -- a word is the line of a graph, though perhaps of one with too many vertices
 abbrev pub is_graph_shaped : Option G6Fault → Bool

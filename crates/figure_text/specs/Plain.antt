@@ -1,13 +1,15 @@
 -- Numbers at the end of a line that are written plainly, and what is taken of them.
-use Rattle.std.specs.Prelude.{ℕ, false, ◌+◌, ◌≡◌, ◌≤◌, IsTrue, List, ◌∷◌, length}
+use Rattle.std.specs.Prelude.{ℕ, ℤ, false, ◌+◌, ◌<◌, ◌≡◌, ◌≤◌, IsTrue, List, ◌∷◌, ◌++◌, length, slice_index, slice_index_or}
 use Rattle.figure_text.specs.declared.words.Digits.{Digits}
 use Rattle.figure_text.specs.declared.words.Word.{Word}
-use Rattle.figure_text.specs.declared.words.Word.TheVariants.{Number, Closing, Named}
-use Rattle.figure_text.specs.declared.words.Name.TheVariants.{At, X, Y}
-use Rattle.figure_text.specs.declared.plain.GridFront.{GridFront}
-use Rattle.figure_text.specs.declared.plain.BarFront.{BarFront}
-use Rattle.figure_text.specs.Words.{words_left, words_of}
-use Rattle.figure_text.specs.Lines.{is_natural, is_number, IsInside, IsVertex}
+use Rattle.figure_text.specs.declared.words.Word.TheVariants.{Number, Closing}
+use Rattle.figure_text.specs.declared.words.Next.{Next}
+use Rattle.figure_text.specs.declared.piece.Piece.{Piece}
+use Rattle.figure_text.specs.declared.piece.Piece.TheVariants.{Place, Literal, Row, Value, Last}
+use Rattle.figure_text.specs.declared.line_front.LineFront.{LineFront}
+use Rattle.figure_text.specs.Words.{word_at, words_left, words_of}
+use Rattle.figure_text.specs.Lines.{size, is_natural, is_number, integer_of, signed_value, IsInside, IsVertex}
+use Rattle.figure_text.specs.Pieces.{Fits, IsWithin, Along}
 
 -- the words from a place on begin with this number
 pub record IsPlainAt (line : List ℕ) (at : ℕ) (digits : Digits) : Type 0 where
@@ -40,28 +42,40 @@ pub record IsCoordinateAt (line : List ℕ) (at : ℕ) (digits : Digits) : Type 
 abbrev pub IsCoordinateWord : Word → Type 0
 IsCoordinateWord word = IsTrue (is_number word) × IsInside word
 
--- the words from a place on begin with these coordinates
-pub record AreCoordinatesAt (line : List ℕ) (at : ℕ) (front : GridFront) : Type 0 where
-  pub words : words_left line at ≡ Number (record { negative = false; size = front.x }) ∷ Closing (record { negative = false; size = front.y }) ∷ words_left line front.end
-  pub x : front.x ≤ 1048576
-  pub y : front.y ≤ 1048576
+-- a number without a minus, as a whole number
+abbrev pub plain_value : ℕ → ℤ
+plain_value n = signed_value (record { negative = false; size = n })
 
--- The line of a vertex of a straight-line drawing begins with its place and these coordinates.
-pub record IsGridFront (line : List ℕ) (place : ℕ) (front : GridFront) : Type 0 where
-  pub words : words_of line ≡ Number (record { negative = false; size = place }) ∷ Named At ∷ Number (record { negative = false; size = front.x }) ∷ Closing (record { negative = false; size = front.y }) ∷ words_left line front.end
-  pub x : front.x ≤ 1048576
-  pub y : front.y ≤ 1048576
+-- a piece holds a number of the vertex
+abbrev pub IsHeld : Piece → Type 0
+IsHeld Place = ⊥
+IsHeld (Literal name) = ⊥
+IsHeld Row = ⊥
+IsHeld Value = Unit {0}
+IsHeld Last = Unit {0}
 
--- the words from a place on begin with this height, and with these ends after the letter x
-pub record IsHighBarAt (line : List ℕ) (at : ℕ) (front : BarFront) : Type 0 where
-  pub words : words_left line at ≡ Number (record { negative = false; size = front.y }) ∷ Named X ∷ Number (record { negative = false; size = front.x1 }) ∷ Closing (record { negative = false; size = front.x2 }) ∷ words_left line front.end
-  pub y : front.y ≤ 1048576
-  pub x1 : front.x1 ≤ 1048576
-  pub x2 : front.x2 ≤ 1048576
+-- a word that is plainly written has this size, where a piece holds a number
+abbrev pub IsSize : Piece → Word → ℕ → Type 0
+IsSize Place word n = Unit {0}
+IsSize (Literal name) word n = Unit {0}
+IsSize Row word n = Unit {0}
+IsSize Value word n = integer_of word ≡ plain_value n
+IsSize Last word n = integer_of word ≡ plain_value n
 
--- The line of a vertex of a visibility drawing begins with its place, this height and these ends.
-pub record IsBarFront (line : List ℕ) (place : ℕ) (front : BarFront) : Type 0 where
-  pub words : words_of line ≡ Number (record { negative = false; size = place }) ∷ Named Y ∷ Number (record { negative = false; size = front.y }) ∷ Named X ∷ Number (record { negative = false; size = front.x1 }) ∷ Closing (record { negative = false; size = front.x2 }) ∷ words_left line front.end
-  pub y : front.y ≤ 1048576
-  pub x1 : front.x1 ≤ 1048576
-  pub x2 : front.x2 ≤ 1048576
+-- the words from a place on begin with this one, which is a good piece of a front
+pub record IsPieceAt (piece : Piece) (place : ℕ) (line : List ℕ) (at : ℕ) (next : Next) : Type 0 where
+  pub words : words_left line at ≡ next.word ∷ words_left line (next.end + 1)
+  pub near : next.end ≤ length line + 2
+  pub fits : Fits place piece next.word
+  pub within : IsWithin piece next.word
+  pub size : IsSize piece next.word (size next.word)
+
+-- The first words of a line are good pieces, one by one, with these numbers; the others stand from a place on.
+pub record IsFrontOf (pieces : List Piece) (place : ℕ) (line : List ℕ) (front : LineFront) : Type 0 where
+  pub words : List Word
+  pub parts : words ++ words_left line front.end ≡ words_of line
+  pub long : length words ≡ length pieces
+  pub fits : Along (Fits place) pieces words
+  pub within : Along IsWithin pieces words
+  pub room : length front.numbers ≡ 7
+  pub sizes : (i : ℕ) → i < length pieces → IsSize (slice_index_or pieces i Row) (word_at words i) (slice_index front.numbers i)

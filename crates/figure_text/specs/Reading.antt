@@ -1,15 +1,15 @@
 -- The reading of the text of figures: closed lines one after another, each with the shape that is due.
-use Rattle.std.specs.Prelude.{ℕ, ◌+◌, ◌<◌, ◌≡◌, ◌≢◌, Bool, ◌||◌, bytes_eq, List, [], ◌∷◌, ◌++◌, length, take, drop, map, flat_map, slice_index_or, All, codes}
+use Rattle.std.specs.Prelude.{ℕ, ◌+◌, ◌<◌, ◌≡◌, ◌≢◌, Bool, ◌||◌, IsTrue, bytes_eq, List, [], ◌∷◌, ◌++◌, length, take, drop, map, flat_map, slice_index_or, All, codes}
 use Rattle.pg_plane.specs.declared.point.Point.{Point}
 use Rattle.figure_text.specs.declared.words.Word.{Word}
 use Rattle.figure_text.specs.declared.judge.Kind.{Kind}
-use Rattle.figure_text.specs.declared.judge.Kind.TheVariants.{Grid, Bars, Rects, Witness}
 use Rattle.figure_text.specs.declared.judge.Judged.{Judged}
 use Rattle.figure_text.specs.declared.judge.Judged.TheVariants.{Bad, Limit as BeyondLimit, Good}
 use Rattle.figure_text.specs.declared.fault.TextFault.{TextFault}
 use Rattle.figure_text.specs.declared.fault.TextFault.TheVariants.{BadLine, EndInFigure, Limit, NoMemory}
 use Rattle.figure_text.specs.Words.{words_of, word_at}
-use Rattle.figure_text.specs.Lines.{vertex_of, integer_of, IsGridLine, GridInRange, IsBarLine, BarsInRange, IsRectLine, RectsInRange, IsWitnessRow, WitnessInRange}
+use Rattle.figure_text.specs.Lines.{is_natural, vertex_of, integer_of, IsVertex}
+use Rattle.figure_text.specs.Pieces.{pieces, front_length, Fits, IsWithin, Along, is_long}
 
 -- a line without the byte 10 that closes it
 abbrev pub IsPlain : List ℕ → Type 0
@@ -30,18 +30,16 @@ Judges shape range Bad = ¬ shape
 Judges shape range BeyondLimit = shape × ¬ range
 Judges shape range Good = shape × range
 
--- the shape and the ranges of the line of a vertex, or of one of a witness
-abbrev pub IsRow : Kind → ℕ → List Word → Type 0
-IsRow (Grid job) place words = IsGridLine place words
-IsRow Bars place words = IsBarLine place words
-IsRow Rects place words = IsRectLine place words
-IsRow (Witness kind) place words = IsWitnessRow kind place words
+-- the shape of the line of a vertex, or of one of a witness
+pub record IsRow (kind : Kind) (place : ℕ) (words : List Word) : Type 0 where
+  pub front : Along (Fits place) (pieces kind) words
+  pub long : IsTrue (is_long kind place (length words))
+  pub vertices : All (λ w. IsTrue (is_natural w)) (drop (front_length kind) words)
 
-abbrev pub RowInRange : Kind → List Word → Type 0
-RowInRange (Grid job) words = GridInRange words
-RowInRange Bars words = BarsInRange words
-RowInRange Rects words = RectsInRange words
-RowInRange (Witness kind) words = WitnessInRange words
+-- and the ranges of its numbers
+pub record RowInRange (kind : Kind) (words : List Word) : Type 0 where
+  pub front : Along IsWithin (pieces kind) words
+  pub vertices : All (λ w. IsVertex w) (drop (front_length kind) words)
 
 -- the text begins with the words and a space
 abbrev pub begins : List ℕ → List ℕ → Bool

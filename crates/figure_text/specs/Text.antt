@@ -1,5 +1,5 @@
 -- The text of figures: lines of words and numbers, each closed by byte 10.
-use Rattle.std.specs.Prelude.{ℕ, zero, suc, ℤ, pos, ◌+◌, ◌<◌, ◌≡◌, All, List, [], ◌∷◌, ◌++◌, length, flat_map, slice_index_or, codes, decimal}
+use Rattle.std.specs.Prelude.{ℕ, zero, suc, ℤ, pos, ◌+◌, ◌*◌, ◌<◌, ◌≡◌, All, List, [], ◌∷◌, ◌++◌, length, map, flat_map, slice_index_or, codes, decimal}
 use Rattle.std.specs.Fmt.{signed_decimal}
 use Rattle.map_lists.specs.Lists.{Lists}
 use Rattle.map_lists.specs.declared.ids.VertexId.{VertexId}
@@ -11,6 +11,12 @@ use Rattle.kuratowski.specs.Witnesses.{branch_count, pairs_of}
 use Rattle.pg_plane.specs.declared.point.Point.{Point}
 use Rattle.pg_plane.specs.declared.figure.BarFigure.{BarFigure}
 use Rattle.pg_plane.specs.declared.figure.RectFigure.{RectFigure}
+use Rattle.figure_text.specs.declared.piece.Piece.{Piece}
+use Rattle.figure_text.specs.declared.piece.Piece.TheVariants.{Place, Literal, Row, Value, Last}
+use Rattle.figure_text.specs.declared.words.Name.{Name}
+use Rattle.figure_text.specs.declared.words.Name.TheVariants as name
+use Rattle.figure_text.specs.Lines.{row_name}
+use Rattle.figure_text.specs.Pieces.{grid_front, bar_front, rect_front}
 use Rattle.figure_text.specs.declared.figure.GridJob.{GridJob}
 use Rattle.figure_text.specs.declared.figure.GridJob.TheVariants.{Shift, Schnyder, Convex}
 use Rattle.figure_text.specs.declared.figure.Figure.{Figure}
@@ -20,9 +26,39 @@ use Rattle.figure_text.specs.declared.figure.Figure.TheVariants.{Grid, Bars, Rec
 abbrev pub spaced_signed : List ℤ → List ℕ
 spaced_signed zs = flat_map (λ z. 32 ∷ signed_decimal z) zs
 
--- what ends the line of a vertex: its neighbours, numbered from 1
-abbrev pub neighbours : List ℕ → List ℕ
-neighbours us = 58 ∷ flat_map (λ u. 32 ∷ decimal (u + 1)) us ++ 10 ∷ []
+-- words, with a space between each two
+abbrev pub joined : List (List ℕ) → List ℕ
+joined [] = []
+joined (word ∷ words) = word ++ flat_map (λ w. 32 ∷ w) words
+
+-- the text of a word of figures
+abbrev pub name_text : Name → List ℕ
+name_text name.Figure = codes "figure"
+name_text name.Shift = codes "shift"
+name_text name.Schnyder = codes "schnyder"
+name_text name.Convex = codes "convex"
+name_text name.Bars = codes "bars"
+name_text name.Rect = codes "rect"
+name_text name.At = codes "at"
+name_text name.Y = codes "y"
+name_text name.X = codes "x"
+name_text name.Columns = codes "columns"
+name_text name.Witness = codes "witness"
+name_text name.K5 = codes "K5"
+name_text name.K33 = codes "K33"
+name_text name.Branch = codes "branch"
+name_text name.Path = codes "path"
+
+-- the words before the neighbours of vertex v, which is numbered from 0 and has these numbers
+abbrev pub front_words : List Piece → ℕ → List ℤ → List (List ℕ)
+front_words [] v zs = []
+front_words (Place ∷ pieces) v zs = decimal (v + 1) ∷ front_words pieces v zs
+front_words (Literal name ∷ pieces) v zs = name_text name ∷ front_words pieces v zs
+front_words (Row ∷ pieces) v zs = name_text (row_name (v + 1)) ∷ front_words pieces v zs
+front_words (Value ∷ pieces) v [] = []
+front_words (Value ∷ pieces) v (z ∷ zs) = signed_decimal z ∷ front_words pieces v zs
+front_words (Last ∷ pieces) v [] = []
+front_words (Last ∷ pieces) v (z ∷ zs) = (signed_decimal z ++ 58 ∷ []) ∷ front_words pieces v zs
 
 -- number v of a list of points, and of a list of whole numbers
 abbrev pub point_at : List Point → ℕ → Point
@@ -46,51 +82,40 @@ job_word Convex = codes "convex"
 unfoldable pub first_line : ℕ → List ℕ → ℕ → List ℕ
 first_line k word n = codes "figure" ++ 32 ∷ decimal k ++ 32 ∷ word ++ 32 ∷ decimal n ++ 10 ∷ []
 
--- the line of vertex v of a straight-line drawing, where vertices are numbered from 0
-unfoldable pub grid_line : ℕ → Point → List ℕ → List ℕ
-grid_line v point us =
-    decimal (v + 1) ++ codes " at" ++ 32 ∷ signed_decimal point.x ++ 32 ∷ signed_decimal point.y ++ neighbours us
-
--- the line of vertex v of a visibility drawing, with its bar from a to b at height y
-unfoldable pub bar_line : ℕ → ℤ → ℤ → ℤ → List ℕ → List ℕ
-bar_line v y a b us =
-    decimal (v + 1) ++ codes " y" ++ 32 ∷ signed_decimal y ++ codes " x" ++ 32 ∷ signed_decimal a ++ 32 ∷ signed_decimal b ++ neighbours us
-
--- the line of vertex v of a rectangular dual, with its rectangle from a to b and from c up to d
-unfoldable pub rect_line : ℕ → ℤ → ℤ → ℤ → ℤ → List ℕ → List ℕ
-rect_line v a b c d us =
-    decimal (v + 1) ++ codes " x" ++ 32 ∷ signed_decimal a ++ 32 ∷ signed_decimal b ++ codes " y" ++ 32 ∷ signed_decimal c ++ 32 ∷ signed_decimal d ++ neighbours us
+-- the line of vertex v, with its numbers and its neighbours, which are printed from 1
+unfoldable pub vertex_line : List Piece → ℕ → List ℤ → List ℕ → List ℕ
+vertex_line pieces v zs us = joined (front_words pieces v zs ++ map (λ u. decimal (u + 1)) us) ++ 10 ∷ []
 
 -- the line of the columns of the edges
 unfoldable pub columns_line : List ℤ → List ℕ
 columns_line columns = codes "columns" ++ spaced_signed columns ++ 10 ∷ []
 
--- the lines of the vertices of a straight-line drawing
-unfoldable pub grid_lines : List Point → Lists → ℕ → List ℕ
-grid_lines points lists n = texts (λ v. grid_line v (point_at points v) (slice_index_or lists v [])) n
+-- the lines of the first n vertices, with the numbers and the neighbours of each
+unfoldable pub vertex_lines : List Piece → (ℕ → List ℤ) → Lists → ℕ → List ℕ
+vertex_lines pieces numbers lists n = texts (λ v. vertex_line pieces v (numbers v) (slice_index_or lists v [])) n
 
--- the lines of the vertices of a visibility drawing
-unfoldable pub bar_lines : BarFigure → Lists → ℕ → List ℕ
-bar_lines bars lists n =
-    texts (λ v. bar_line v (integer_at bars.y v) (integer_at bars.x1 v) (integer_at bars.x2 v) (slice_index_or lists v [])) n
+-- the numbers of vertex v: of its point, of its bar with its height first, and of its rectangle from left to right and up
+abbrev pub grid_numbers : List Point → ℕ → List ℤ
+grid_numbers points v = (point_at points v).x ∷ (point_at points v).y ∷ []
 
--- the lines of the vertices of a rectangular dual
-unfoldable pub rect_lines : RectFigure → Lists → ℕ → List ℕ
-rect_lines rects lists n =
-    texts (λ v. rect_line v (integer_at rects.x1 v) (integer_at rects.x2 v) (integer_at rects.y1 v) (integer_at rects.y2 v) (slice_index_or lists v [])) n
+abbrev pub bar_numbers : BarFigure → ℕ → List ℤ
+bar_numbers bars v = integer_at bars.y v ∷ integer_at bars.x1 v ∷ integer_at bars.x2 v ∷ []
+
+abbrev pub rect_numbers : RectFigure → ℕ → List ℤ
+rect_numbers rects v = integer_at rects.x1 v ∷ integer_at rects.x2 v ∷ integer_at rects.y1 v ∷ integer_at rects.y2 v ∷ []
 
 -- the text of a straight-line drawing with the number k
 abbrev pub grid_text : ℕ → GridJob → Lists → List Point → List ℕ
-grid_text k job lists points = first_line k (job_word job) (length lists) ++ grid_lines points lists (length lists)
+grid_text k job lists points = first_line k (job_word job) (length lists) ++ vertex_lines grid_front (grid_numbers points) lists (length lists)
 
 -- the text of a visibility drawing with the number k
 abbrev pub bars_text : ℕ → Lists → BarFigure → List ℕ
 bars_text k lists bars =
-    first_line k (codes "bars") (length lists) ++ (bar_lines bars lists (length lists) ++ columns_line bars.column)
+    first_line k (codes "bars") (length lists) ++ (vertex_lines bar_front (bar_numbers bars) lists (length lists) ++ columns_line bars.column)
 
 -- the text of a rectangular dual with the number k
 abbrev pub rects_text : ℕ → Lists → RectFigure → List ℕ
-rects_text k lists rects = first_line k (codes "rect") (length lists) ++ rect_lines rects lists (length lists)
+rects_text k lists rects = first_line k (codes "rect") (length lists) ++ vertex_lines rect_front (rect_numbers rects) lists (length lists)
 
 -- the word of the graph that a witness subdivides
 abbrev pub kind_word : Subdivided → List ℕ
@@ -100,10 +125,6 @@ kind_word K33 = codes "K33"
 -- the first line of the witness with the number k, by the line of its graph
 unfoldable pub witness_first_line : ℕ → Subdivided → List ℕ → List ℕ
 witness_first_line k kind line = codes "figure" ++ 32 ∷ decimal k ++ codes " witness" ++ 32 ∷ kind_word kind ++ 32 ∷ line ++ 10 ∷ []
-
--- number k of a list of vertices
-abbrev pub id_at : List VertexId → ℕ → VertexId
-id_at us k = slice_index_or us k (record { 0 = 0 })
 
 -- vertices, each after a space and numbered from 1
 abbrev pub spaced_ids : List VertexId → List ℕ
@@ -157,3 +178,7 @@ IsWhole (Grid job lists points) = length points ≡ length lists
 IsWhole (Bars lists bars) = HasBars lists bars
 IsWhole (Rects lists rects) = HasRects lists rects
 IsWhole (WitnessFigure graph witness) = HasPaths witness
+
+-- how many bytes the fronts of n lines take at most, each with the byte that closes its line, where one front takes so many
+unfoldable pub fronts_room : ℕ → ℕ → ℕ
+fronts_room longest n = (longest + 1) * n

@@ -84,10 +84,8 @@ fn tail_worth(alloc: Global, kind: Kind, line: &[u8], words: &[Word]) -> Result<
     ensures { IfOk result (Judges (IsTail (Some kind) line.now) (TailInRange (Some kind) line.now)) }
 {
     match kind {
-        Kind::Grid(_) => Ok(worth(is_counted(words), is_count_in_range(words))),
-        Kind::Bars => Ok(worth(is_counted(words), is_count_in_range(words))),
-        Kind::Rects => Ok(worth(is_counted(words), is_count_in_range(words))),
         Kind::Witness(_) => witness_tail(alloc, line, words),
+        _ => Ok(worth(is_counted(words), is_count_in_range(words))),
     }
 }
 

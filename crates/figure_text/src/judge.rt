@@ -1,14 +1,14 @@
 //! Which shape a line has, and whether its numbers are within their ranges.
-ghost use Rattle.std.specs.Prelude.{◌≡◌, ◌↔◌, ◌<◌, ◌≤◌, ◌-◌, length, drop, map, slice_index_or, IsTrue, IfOk, All, option_map};
+ghost use Rattle.std.specs.Prelude.{ℕ, false, ◌≡◌, ◌↔◌, ◌<◌, ◌≤◌, ◌-◌, length, drop, map, slice_index_or, IsTrue, IfOk, All, option_map};
 ghost use Rattle.std.specs.Prelude.{if◌then◌else◌};
-ghost use Rattle.std.specs.Bool.{OnTrue};
 ghost use Rattle.figure_text.specs.Reading.{Judges, IsRow, RowInRange};
 ghost use Rattle.kuratowski.specs.Witnesses.{branch_count, pairs_of};
 ghost use Rattle.figure_text.specs.Words.{word_at};
-ghost use Rattle.figure_text.specs.Drafts.{front_length as front_words};
-ghost use Rattle.figure_text.specs.Lines.{size, is_natural, is_number, is_closing, kind_of, subdivided_of, rows_due, row_name, is_row_length, IsInside, IsVertex, IsPlaced, IsWitnessRow, WitnessInRange, IsGridHead, IsGridLine, GridInRange, IsBarHead, IsBarLine, BarsInRange, IsRectHead, IsRectLine, RectsInRange, IsColumnsLine, ColumnsInRange};
+ghost use Rattle.figure_text.specs.Pieces.{is_long as is_long_enough};
+ghost use Rattle.figure_text.specs.Lines.{size, is_natural, is_number, is_closing, kind_of, subdivided_of, rows_due, row_name, IsInside, IsVertex, IsColumnsLine, ColumnsInRange};
 
 use crate::GridJob;
+use crate::piece::{are_fitting, are_within, pieces};
 use crate::words::{Name, Word};
 use kuratowski::Kind as Subdivided;
 
@@ -40,6 +40,7 @@ pub enum Judged {
 pub const MOST: u32 = 1_048_576;
 
 // Word number `i`, or `Other` behind the last.
+#[inline(always)]
 pub fn word(words: &[Word], i: usize) -> Word
     ensures { result ≡ word_at words.now i }
 {
@@ -51,6 +52,7 @@ pub fn word(words: &[Word], i: usize) -> Word
 }
 
 // The size of the number that a word is, and 0 for any other word.
+#[inline(always)]
 pub fn size_of(word: Word) -> u32
     ensures { result ≡ size word }
 {
@@ -62,7 +64,7 @@ pub fn size_of(word: Word) -> u32
 }
 
 // Whether a word is a number without a minus.
-fn is_natural_word(word: Word) -> bool
+pub fn is_natural_word(word: Word) -> bool
     ensures { result ≡ is_natural word }
 {
     match word {
@@ -72,7 +74,7 @@ fn is_natural_word(word: Word) -> bool
 }
 
 // Whether a word is a number.
-fn is_number_word(word: Word) -> bool
+pub fn is_number_word(word: Word) -> bool
     ensures { result ≡ is_number word }
 {
     match word {
@@ -82,7 +84,7 @@ fn is_number_word(word: Word) -> bool
 }
 
 // Whether a word is a number before a colon.
-fn is_closing_word(word: Word) -> bool
+pub fn is_closing_word(word: Word) -> bool
     ensures { result ≡ is_closing word }
 {
     match word {
@@ -129,7 +131,7 @@ fn are_numbers(words: &[Word], from: usize) -> bool
 }
 
 // Whether a number is a coordinate.
-fn is_inside(word: Word) -> bool
+pub fn is_inside(word: Word) -> bool
     ensures { IsTrue result ↔ IsInside word }
 {
     size_of(word) <= MOST
@@ -154,104 +156,6 @@ fn are_vertices(words: &[Word], from: usize) -> bool
     ensures { IsTrue result ↔ All (λ w. IsVertex w) (drop from words.now) }
 {
     behind(words, from).iter().all(|word| is_vertex(*word))
-}
-
-// Whether a line begins with the number of its place.
-fn is_placed(words: &[Word], place: usize) -> bool
-    ensures { IsTrue result ↔ IsPlaced words.now place }
-{
-    is_natural_word(word(words, 0)) && size_of(word(words, 0)) as usize == place
-}
-
-// Whether a line begins as one of a straight-line drawing.
-fn is_grid_head(words: &[Word], place: usize) -> bool
-    ensures { IsTrue result ↔ IsGridHead place words.now }
-{
-    is_placed(words, place)
-        && is_name(word(words, 1), Name::At)
-        && is_number_word(word(words, 2))
-        && is_closing_word(word(words, 3))
-}
-
-// Whether a line has the shape of one of a straight-line drawing.
-fn is_grid_line(words: &[Word], place: usize) -> bool
-    ensures { IsTrue result ↔ IsGridLine place words.now }
-{
-    is_grid_head(words, place) && are_naturals(words, 4)
-}
-
-// Whether the numbers of such a line are within their ranges.
-fn is_grid_in_range(words: &[Word]) -> bool
-    ensures { IsTrue result ↔ GridInRange words.now }
-{
-    is_inside(word(words, 2)) && is_inside(word(words, 3)) && are_vertices(words, 4)
-}
-
-// Whether words have the shape and the ranges of what stands before the neighbours of such a line.
-fn is_grid_front(words: &[Word], place: usize) -> bool
-    ensures { OnTrue result (IsGridHead place words.now × IsInside (word_at words.now 2) × IsInside (word_at words.now 3)) }
-{
-    is_grid_head(words, place) && is_inside(word(words, 2)) && is_inside(word(words, 3))
-}
-
-// Whether a line begins as one of a visibility drawing.
-fn is_bar_head(words: &[Word], place: usize) -> bool
-    ensures { IsTrue result ↔ IsBarHead place words.now }
-{
-    is_placed(words, place)
-        && is_name(word(words, 1), Name::Y)
-        && is_number_word(word(words, 2))
-        && is_name(word(words, 3), Name::X)
-        && is_number_word(word(words, 4))
-        && is_closing_word(word(words, 5))
-}
-
-// Whether a line has the shape of one of a visibility drawing.
-fn is_bar_line(words: &[Word], place: usize) -> bool
-    ensures { IsTrue result ↔ IsBarLine place words.now }
-{
-    is_bar_head(words, place) && are_naturals(words, 6)
-}
-
-// Whether the numbers of such a line are within their ranges.
-fn is_bar_in_range(words: &[Word]) -> bool
-    ensures { IsTrue result ↔ BarsInRange words.now }
-{
-    is_inside(word(words, 2))
-        && is_inside(word(words, 4))
-        && is_inside(word(words, 5))
-        && are_vertices(words, 6)
-}
-
-// Whether a line begins as one of a rectangular dual.
-fn is_rect_head(words: &[Word], place: usize) -> bool
-    ensures { IsTrue result ↔ IsRectHead place words.now }
-{
-    is_placed(words, place)
-        && is_name(word(words, 1), Name::X)
-        && is_number_word(word(words, 2))
-        && is_number_word(word(words, 3))
-        && is_name(word(words, 4), Name::Y)
-        && is_number_word(word(words, 5))
-        && is_closing_word(word(words, 6))
-}
-
-// Whether a line has the shape of one of a rectangular dual.
-fn is_rect_line(words: &[Word], place: usize) -> bool
-    ensures { IsTrue result ↔ IsRectLine place words.now }
-{
-    is_rect_head(words, place) && are_naturals(words, 7)
-}
-
-// Whether the numbers of such a line are within their ranges.
-fn is_rect_in_range(words: &[Word]) -> bool
-    ensures { IsTrue result ↔ RectsInRange words.now }
-{
-    is_inside(word(words, 2))
-        && is_inside(word(words, 3))
-        && is_inside(word(words, 5))
-        && is_inside(word(words, 6))
-        && are_vertices(words, 7)
 }
 
 // Whether a line has the shape of that of the columns.
@@ -302,38 +206,58 @@ pub fn row_count(kind: Kind, words: &[Word]) -> usize
     ensures { result ≡ rows_due kind words.now }
 {
     match kind {
-        Kind::Grid(_) => size_of(word(words, 3)) as usize,
-        Kind::Bars => size_of(word(words, 3)) as usize,
-        Kind::Rects => size_of(word(words, 3)) as usize,
         Kind::Witness(kind) => kind.path_count() + 1,
+        _ => size_of(word(words, 3)) as usize,
     }
 }
 
 // The word that the line at this place of a witness begins with.
-fn row_word(place: usize) -> Name
+pub fn row_word(place: usize) -> Name
     ensures { result ≡ row_name place }
 {
     if place == 1 { Name::Branch } else { Name::Path }
 }
 
-// Whether the line at this place of a witness may have so many words.
-fn is_long_row(kind: Subdivided, place: usize, len: usize) -> bool
-    ensures { result ≡ is_row_length kind place len }
+/// Says whether a kind is that of a witness.
+pub fn is_witness(kind: Kind) -> bool
+    ensures { (place len : ℕ) → result ≡ false → IsTrue (is_long_enough kind place len) }
 {
-    if place == 1 {
-        len == kind.branch_count() + 1
-    } else {
-        1 < len
+    match kind {
+        Kind::Witness(_) => true,
+        _ => false,
     }
 }
 
-// Whether a line has the shape of the one at this place of a witness.
-fn is_witness_row(kind: Subdivided, words: &[Word], place: usize) -> bool
-    ensures { IsTrue result ↔ IsWitnessRow kind place words.now }
+// Whether the line at this place may have so many words.
+fn is_long(kind: Kind, place: usize, len: usize) -> bool
+    ensures { result ≡ is_long_enough kind place len }
 {
-    is_name(word(words, 0), row_word(place))
-        && is_long_row(kind, place, words.len())
-        && are_naturals(words, 1)
+    match kind {
+        Kind::Witness(kind) => {
+            if place == 1 {
+                len == kind.branch_count() + 1
+            } else {
+                1 < len
+            }
+        }
+        _ => true,
+    }
+}
+
+// Whether a line has the shape that is due at this place.
+fn is_row(kind: Kind, place: usize, words: &[Word]) -> bool
+    ensures { IsTrue result ↔ IsRow kind place words.now }
+{
+    are_fitting(pieces(kind), place, words)
+        && is_long(kind, place, words.len())
+        && are_naturals(words, pieces(kind).len())
+}
+
+// Whether the numbers of such a line are within their ranges.
+fn is_row_in_range(kind: Kind, words: &[Word]) -> bool
+    ensures { IsTrue result ↔ RowInRange kind words.now }
+{
+    are_within(pieces(kind), words) && are_vertices(words, pieces(kind).len())
 }
 
 // Whether a figure's first line begins as one.
@@ -379,45 +303,7 @@ pub fn worth(shape: bool, range: bool) -> Judged
 pub fn judged_row(kind: Kind, place: usize, words: &[Word]) -> Judged
     ensures { Judges (IsRow kind place words.now) (RowInRange kind words.now) result }
 {
-    match kind {
-        Kind::Grid(_) => worth(is_grid_line(words, place), is_grid_in_range(words)),
-        Kind::Bars => worth(is_bar_line(words, place), is_bar_in_range(words)),
-        Kind::Rects => worth(is_rect_line(words, place), is_rect_in_range(words)),
-        Kind::Witness(kind) => worth(is_witness_row(kind, words, place), are_vertices(words, 1)),
-    }
-}
-
-/// Returns how many words stand before the vertices of a line.
-pub fn front_length(kind: Kind) -> usize
-    ensures { result ≡ front_words kind }
-{
-    match kind {
-        Kind::Grid(_) => 4,
-        Kind::Bars => 6,
-        Kind::Rects => 7,
-        Kind::Witness(_) => 1,
-    }
-}
-
-// Whether words have the shape and the ranges of the front of a line.
-#[inline(always)]
-fn is_good_front(kind: Kind, place: usize, words: &[Word]) -> bool
-    ensures { IsTrue result → length words.now ≡ front_words kind → IsRow kind place words.now × RowInRange kind words.now }
-{
-    match kind {
-        Kind::Grid(_) => is_grid_front(words, place),
-        Kind::Bars => is_bar_line(words, place) && is_bar_in_range(words),
-        Kind::Rects => is_rect_line(words, place) && is_rect_in_range(words),
-        Kind::Witness(_) => false,
-    }
-}
-
-/// Whether words are all that stands before the vertices of the line of a vertex, in their shape and ranges.
-#[inline(always)]
-pub fn is_front(kind: Kind, place: usize, words: &[Word]) -> bool
-    ensures { OnTrue result ((length words.now ≡ front_words kind) × IsRow kind place words.now × RowInRange kind words.now) }
-{
-    words.len() == front_length(kind) && is_good_front(kind, place, words)
+    worth(is_row(kind, place, words), is_row_in_range(kind, words))
 }
 
 /// What the line of the columns is worth.

@@ -15,11 +15,14 @@ mod figure;
 mod front;
 mod judge;
 pub mod laws;
+mod line_front;
 mod lines;
+mod piece;
 mod plain;
 mod print;
 mod read;
 mod rows;
+mod vertex_print;
 mod witness_print;
 mod words;
 

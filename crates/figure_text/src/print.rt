@@ -1,23 +1,15 @@
 //! A figure as text.
-ghost use Rattle.std.specs.Prelude.{◌≡◌, ◌+◌, ◌++◌, ◌∷◌, [], ℕ, List, ◌*◌, length, map, flat_map, drop, sum_by, decimal, ◌<◌, ◌≤◌, codes, OnOk, OnErr, IfOk};
-ghost use Rattle.std.specs.Fmt.{signed_decimal};
-ghost use Rattle.figure_text.specs.Text.{spaced_signed, bar_line, bar_lines, columns_line, rect_line, rect_lines, first_line, job_word, grid_text, bars_text, rects_text, IsText, IsWhole, HasBars, HasRects, integer_at};
+ghost use Rattle.std.specs.Prelude.{◌≡◌, ◌+◌, ◌++◌, ◌∷◌, ℕ, List, ◌*◌, length, drop, sum_by, decimal, ◌<◌, ◌≤◌, OnOk, OnErr, IfOk};
+ghost use Rattle.figure_text.specs.Text.{spaced_signed, columns_line, first_line, vertex_lines, fronts_room, job_word, grid_text, bars_text, rects_text, IsText, IsWhole, HasBars, HasRects};
 
-use crate::backward::{
-    FRONT, PART, PART_BYTES, SIGNED_BYTES, write_bar_front, write_first, write_grid_lines,
-    write_integers, write_rect_front, write_vertices,
-};
-use crate::witness_print::witness_text_of;
+use crate::backward::{PART, SIGNED_BYTES, write_first, write_integers};
+use crate::vertex_print::{Numbered, write_lines};
+use crate::witness_print::print_witness;
 use crate::{Figure, GridJob};
 use itoa::Buffer;
 use map_lists::Rotations;
 use pg_plane::{BarFigure, Ints, Points, RectFigure};
 use std::alloc::{AllocError, Global};
-
-// How many bytes the line of a vertex takes without its entries, and how many an entry, more or less.
-const LINE: usize = 20;
-
-const ENTRY: usize = 5;
 
 // Appends a number.
 pub(crate) fn push_number(out: &mut Vec<u8>, number: u64) -> Result<(), AllocError>
@@ -33,95 +25,6 @@ pub(crate) fn push_next(out: &mut Vec<u8>, number: u64) -> Result<(), AllocError
 {
     out.push(b' ')?;
     push_number(out, number)
-}
-
-// Appends some vertices, numbered from 1 and each after a space.
-fn push_part(out: &mut Vec<u8>, list: &[u16]) -> Result<(), AllocError>
-    requires { length list.now ≤ 16 }
-    ensures { OnOk result (out.new.items ≡ out.old.items ++ flat_map (λ u. 32 ∷ decimal (u + 1)) list.now) }
-{
-    let mut bytes = [b'\n'; PART_BYTES];
-    let start = write_vertices(list, &mut bytes, PART_BYTES);
-    out.extend_from_slice(&bytes[start..])
-}
-
-// Appends some vertices, numbered from 1 and each after a space, and ends the line.
-fn push_last(out: &mut Vec<u8>, list: &[u16]) -> Result<(), AllocError>
-    requires { length list.now ≤ 16 }
-    ensures { OnOk result (out.new.items ≡ out.old.items ++ flat_map (λ u. 32 ∷ decimal (u + 1)) list.now ++ 10 ∷ []) }
-{
-    let mut bytes = [b'\n'; PART_BYTES];
-    let start = write_vertices(list, &mut bytes, PART_BYTES - 1);
-    out.extend_from_slice(&bytes[start..])
-}
-
-// Appends the neighbours of a vertex, numbered from 1 and each after a space, and ends the line.
-fn push_neighbours(out: &mut Vec<u8>, list: &[u16]) -> Result<(), AllocError>
-    ensures { OnOk result (out.new.items ≡ out.old.items ++ flat_map (λ u. 32 ∷ decimal (u + 1)) list.now ++ 10 ∷ []) }
-{
-    let mut rest = list;
-    while rest.len() > PART {
-        let (part, behind) = rest.split_at(PART);
-        push_part(out, part)?;
-        rest = behind;
-    }
-    push_last(out, rest)
-}
-
-// Appends the first line of a figure.
-fn push_first(out: &mut Vec<u8>, k: u32, word: &[u8], n: usize) -> Result<(), AllocError>
-    ensures { OnOk result (out.new.items ≡ out.old.items ++ first_line k word.now n) }
-{
-    out.extend_from_slice(b"figure")?;
-    push_next(out, u64::from(k))?;
-    out.push(b' ')?;
-    out.extend_from_slice(word)?;
-    push_next(out, n as u64)?;
-    out.push(b'\n')?;
-    Ok(())
-}
-
-// Appends the front of the line of a vertex of a visibility drawing, up to the colon.
-fn push_bar_front(out: &mut Vec<u8>, v: usize, bars: &BarFigure) -> Result<(), AllocError>
-    requires max { v < usize.MAX }
-    requires y { v < length bars.now.y }
-    requires x1 { v < length bars.now.x1 }
-    requires x2 { v < length bars.now.x2 }
-    ensures { OnOk result (out.new.items ≡ out.old.items ++ (decimal (v + 1) ++ codes " y" ++ 32 ∷ signed_decimal (integer_at bars.now.y v)
-        ++ codes " x" ++ 32 ∷ signed_decimal (integer_at bars.now.x1 v) ++ 32 ∷ signed_decimal (integer_at bars.now.x2 v) ++ 58 ∷ [])) }
-{
-    let mut bytes = [0; FRONT];
-    let start = write_bar_front(v, bars, &mut bytes);
-    out.extend_from_slice(&bytes[start..])
-}
-
-// Appends the line of a vertex of a visibility drawing.
-fn push_bar_line(
-    out: &mut Vec<u8>,
-    v: usize,
-    bars: &BarFigure,
-    list: &[u16],
-) -> Result<(), AllocError>
-    requires max { v < usize.MAX }
-    requires y { v < length bars.now.y }
-    requires x1 { v < length bars.now.x1 }
-    requires x2 { v < length bars.now.x2 }
-    ensures { OnOk result (out.new.items ≡ out.old.items
-        ++ bar_line v (integer_at bars.now.y v) (integer_at bars.now.x1 v) (integer_at bars.now.x2 v) list.now) }
-{
-    push_bar_front(out, v, bars)?;
-    push_neighbours(out, list)
-}
-
-// Appends the lines of the vertices of a visibility drawing.
-fn push_bar_lines(out: &mut Vec<u8>, lists: &Rotations, bars: &BarFigure) -> Result<(), AllocError>
-    requires { HasBars lists.now bars.now }
-    ensures { OnOk result (out.new.items ≡ out.old.items ++ bar_lines bars.now lists.now (length lists.now)) }
-{
-    for v in 0..lists.len() {
-        push_bar_line(out, v, bars, lists.list(v))?;
-    }
-    Ok(())
 }
 
 // Appends some signed numbers, each after a space.
@@ -157,61 +60,6 @@ fn push_columns(out: &mut Vec<u8>, columns: &Ints) -> Result<(), AllocError>
     Ok(())
 }
 
-// Appends the front of the line of a vertex of a rectangular dual, up to the colon.
-fn push_rect_front(out: &mut Vec<u8>, v: usize, rects: &RectFigure) -> Result<(), AllocError>
-    requires max { v < usize.MAX }
-    requires x1 { v < length rects.now.x1 }
-    requires x2 { v < length rects.now.x2 }
-    requires y1 { v < length rects.now.y1 }
-    requires y2 { v < length rects.now.y2 }
-    ensures { OnOk result (out.new.items ≡ out.old.items ++ (decimal (v + 1) ++ codes " x" ++ 32 ∷ signed_decimal (integer_at rects.now.x1 v) ++ 32 ∷ signed_decimal (integer_at rects.now.x2 v)
-        ++ codes " y" ++ 32 ∷ signed_decimal (integer_at rects.now.y1 v) ++ 32 ∷ signed_decimal (integer_at rects.now.y2 v) ++ 58 ∷ [])) }
-{
-    let mut bytes = [0; FRONT];
-    let start = write_rect_front(v, rects, &mut bytes);
-    out.extend_from_slice(&bytes[start..])
-}
-
-// Appends the line of a vertex of a rectangular dual.
-fn push_rect_line(
-    out: &mut Vec<u8>,
-    v: usize,
-    rects: &RectFigure,
-    list: &[u16],
-) -> Result<(), AllocError>
-    requires max { v < usize.MAX }
-    requires x1 { v < length rects.now.x1 }
-    requires x2 { v < length rects.now.x2 }
-    requires y1 { v < length rects.now.y1 }
-    requires y2 { v < length rects.now.y2 }
-    ensures { OnOk result (out.new.items ≡ out.old.items
-        ++ rect_line v (integer_at rects.now.x1 v) (integer_at rects.now.x2 v) (integer_at rects.now.y1 v) (integer_at rects.now.y2 v) list.now) }
-{
-    push_rect_front(out, v, rects)?;
-    push_neighbours(out, list)
-}
-
-// Appends the lines of the vertices of a rectangular dual.
-fn push_rect_lines(
-    out: &mut Vec<u8>,
-    lists: &Rotations,
-    rects: &RectFigure,
-) -> Result<(), AllocError>
-    requires { HasRects lists.now rects.now }
-    ensures { OnOk result (out.new.items ≡ out.old.items ++ rect_lines rects.now lists.now (length lists.now)) }
-{
-    for v in 0..lists.len() {
-        push_rect_line(out, v, rects, lists.list(v))?;
-    }
-    Ok(())
-}
-
-// How many bytes are asked for at first, for the text of a figure: a line for each vertex, with its entries.
-fn room_of(lists: &Rotations) -> usize {
-    let front = lists.len().saturating_mul(LINE);
-    front.saturating_add(lists.total().saturating_mul(ENTRY))
-}
-
 // The word of a method.
 fn word_of(job: GridJob) -> &'static [u8]
     ensures word { result.now ≡ job_word job }
@@ -224,12 +72,12 @@ fn word_of(job: GridJob) -> &'static [u8]
     }
 }
 
-// How many bytes the text of a straight-line drawing takes at most.
-fn grid_room(lists: &Rotations) -> Result<usize, AllocError>
-    ensures { IfOk result (λ room. room ≡ 60 + 6 * sum_by length lists.now + 49 * length lists.now) }
+// How many bytes the first line and the lines of the vertices take at most.
+fn room_of<R: Numbered>(lists: &Rotations) -> Result<usize, AllocError>
+    ensures { IfOk result (λ room. room ≡ 60 + 6 * sum_by length lists.now + fronts_room R.longest (length lists.now)) }
 {
     let entries = lists.total().saturating_mul(6);
-    let fronts = lists.len().saturating_mul(49);
+    let fronts = lists.len().saturating_mul(R::longest() + 1);
     let room = entries.saturating_add(fronts).saturating_add(60);
     if room == usize::MAX {
         return Err(AllocError);
@@ -237,67 +85,41 @@ fn grid_room(lists: &Rotations) -> Result<usize, AllocError>
     Ok(room)
 }
 
-// Writes the text of a straight-line drawing at the end, and returns where it starts.
-fn write_grid(
+// Writes the first line and the lines of the vertices at the end, and returns where they start.
+fn write_figure<R: Numbered>(
     number: u32,
-    job: GridJob,
+    word: &[u8],
     lists: &Rotations,
-    points: &Points,
+    figure: &R,
     bytes: &mut [u8],
 ) -> usize
-    requires points { length points.now ≡ length lists.now }
-    requires room { 60 + 6 * sum_by length lists.now + 49 * length lists.now ≤ length bytes.old }
+    requires word { length word.now ≤ 8 }
+    requires has { (v : ℕ) → v < length lists.now → R.Has figure.now v }
+    requires room { 60 + 6 * sum_by length lists.now + fronts_room R.longest (length lists.now) ≤ length bytes.old }
     ensures within { result ≤ length bytes.new }
-    ensures written { drop result bytes.new ≡ grid_text number job lists.now points.now }
+    ensures written { drop result bytes.new ≡ first_line number word.now (length lists.now) ++ vertex_lines R.pieces (R.numbers figure.now) lists.now (length lists.now) }
 {
-    let lines = write_grid_lines(lists, points, bytes);
-    write_first(number, word_of(job), lists.len(), bytes, lines)
+    let lines = write_lines(figure, lists, bytes);
+    write_first(number, word, lists.len(), bytes, lines)
 }
 
-// The text of a visibility drawing.
-fn bars_of(
+// Appends the first line and the lines of the vertices.
+fn push_lines<R: Numbered>(
     alloc: Global,
     number: u32,
+    word: &[u8],
     lists: &Rotations,
-    bars: &BarFigure,
-) -> Result<Vec<u8>, AllocError>
-    requires { HasBars lists.now bars.now }
-    ensures { IfOk result (λ text. text.items ≡ bars_text number lists.now bars.now) }
+    figure: &R,
+    out: &mut Vec<u8>,
+) -> Result<(), AllocError>
+    requires word { length word.now ≤ 8 }
+    requires has { (v : ℕ) → v < length lists.now → R.Has figure.now v }
+    ensures ok { OnOk result (out.new.items ≡ out.old.items ++ (first_line number word.now (length lists.now) ++ vertex_lines R.pieces (R.numbers figure.now) lists.now (length lists.now))) }
+    ensures err { OnErr result (out.new.items ≡ out.old.items) }
 {
-    let mut text = Vec::with_capacity(alloc, room_of(lists))?;
-    push_first(&mut text, number, b"bars", lists.len())?;
-    push_bar_lines(&mut text, lists, bars)?;
-    push_columns(&mut text, &bars.column)?;
-    Ok(text)
-}
-
-// The text of a rectangular dual.
-fn rects_of(
-    alloc: Global,
-    number: u32,
-    lists: &Rotations,
-    rects: &RectFigure,
-) -> Result<Vec<u8>, AllocError>
-    requires { HasRects lists.now rects.now }
-    ensures { IfOk result (λ text. text.items ≡ rects_text number lists.now rects.now) }
-{
-    let mut text = Vec::with_capacity(alloc, room_of(lists))?;
-    push_first(&mut text, number, b"rect", lists.len())?;
-    push_rect_lines(&mut text, lists, rects)?;
-    Ok(text)
-}
-
-// The text of a figure.
-fn text_of(alloc: Global, number: u32, fig: &Figure) -> Result<Vec<u8>, AllocError>
-    requires { IsWhole fig.now }
-    ensures { IfOk result (λ text. IsText number fig.now text.items) }
-{
-    match fig {
-        Figure::Grid { job, lists, points } => grid_of(alloc, number, *job, lists, points),
-        Figure::Bars { lists, bars } => bars_of(alloc, number, lists, bars),
-        Figure::Rects { lists, rects } => rects_of(alloc, number, lists, rects),
-        Figure::Witness { graph, witness } => witness_text_of(alloc, number, graph, witness),
-    }
+    let mut bytes = vec![in alloc; 0; room_of::<R>(lists)?]?;
+    let start = write_figure(number, word, lists, figure, &mut bytes);
+    out.extend_from_slice(&bytes[start..])
 }
 
 /// Appends the text of a figure with this number. Each list of the drawing has an entry for each vertex, but
@@ -313,24 +135,12 @@ pub fn print_figure(
     ensures ok { OnOk result ((text : List ℕ) × IsText number fig.now text × (out.new.items ≡ out.old.items ++ text)) }
     ensures err { OnErr result (out.new.items ≡ out.old.items) }
 {
-    let text = text_of(alloc, number, fig)?;
-    out.extend_from_slice(&text)
-}
-
-// The text of a straight-line drawing.
-fn grid_of(
-    alloc: Global,
-    number: u32,
-    job: GridJob,
-    lists: &Rotations,
-    points: &Points,
-) -> Result<Vec<u8>, AllocError>
-    requires { length points.now ≡ length lists.now }
-    ensures { IfOk result (λ text. text.items ≡ grid_text number job lists.now points.now) }
-{
-    let mut text = Vec::new(alloc);
-    print_grid(alloc, number, job, lists, points, &mut text)?;
-    Ok(text)
+    match fig {
+        Figure::Grid { job, lists, points } => print_grid(alloc, number, *job, lists, points, out),
+        Figure::Bars { lists, bars } => print_bars(alloc, number, lists, bars, out),
+        Figure::Rects { lists, rects } => print_rects(alloc, number, lists, rects, out),
+        Figure::Witness { graph, witness } => print_witness(alloc, number, graph, witness, out),
+    }
 }
 
 /// Appends the text of a straight-line drawing with this number, of lists and a point for each of them. After
@@ -347,9 +157,23 @@ pub fn print_grid(
     ensures ok { OnOk result (out.new.items ≡ out.old.items ++ grid_text number job lists.now points.now) }
     ensures err { OnErr result (out.new.items ≡ out.old.items) }
 {
-    let mut bytes = vec![in alloc; 0; grid_room(lists)?]?;
-    let start = write_grid(number, job, lists, points, &mut bytes);
-    out.extend_from_slice(&bytes[start..])
+    push_lines(alloc, number, word_of(job), lists, points, out)
+}
+
+// The text of a visibility drawing.
+fn bars_of(
+    alloc: Global,
+    number: u32,
+    lists: &Rotations,
+    bars: &BarFigure,
+) -> Result<Vec<u8>, AllocError>
+    requires { HasBars lists.now bars.now }
+    ensures { IfOk result (λ text. text.items ≡ bars_text number lists.now bars.now) }
+{
+    let mut text = Vec::new(alloc);
+    push_lines(alloc, number, b"bars", lists, bars, &mut text)?;
+    push_columns(&mut text, &bars.column)?;
+    Ok(text)
 }
 
 /// Appends the text of a visibility drawing with this number, of lists and a bar for each of them. After want of
@@ -382,6 +206,5 @@ pub fn print_rects(
     ensures ok { OnOk result (out.new.items ≡ out.old.items ++ rects_text number lists.now rects.now) }
     ensures err { OnErr result (out.new.items ≡ out.old.items) }
 {
-    let text = rects_of(alloc, number, lists, rects)?;
-    out.extend_from_slice(&text)
+    push_lines(alloc, number, b"rect", lists, rects, out)
 }

@@ -1,16 +1,15 @@
 //! The lines of a figure's vertices, one by one.
-ghost use Rattle.std.specs.Prelude.{◌≡◌, ◌≤◌, ◌++◌, [], ◌∷◌, pos, false, map, All, OnOk, IfOk, IfSome};
+ghost use Rattle.std.specs.Prelude.{◌≡◌, ◌<◌, ◌≤◌, ◌++◌, [], ◌∷◌, ℕ, ℤ, false, map, All, OnOk, IfOk, IfSome};
 ghost use Rattle.std.specs.Bool.{OnTrue};
-ghost use Rattle.figure_text.specs.Words.{words_of, words_left};
-ghost use Rattle.figure_text.specs.Plain.{IsNeighbour};
+ghost use Rattle.figure_text.specs.Words.{words_of};
 ghost use Rattle.figure_text.specs.Lines.{vertex_of, signed_value, integer_of, IsVertex};
-ghost use Rattle.figure_text.specs.Reading.{Judges, IsRow, RowInRange, point_of};
-ghost use Rattle.figure_text.specs.Drafts.{integer_in, with_numbers, with_row};
+ghost use Rattle.figure_text.specs.Reading.{Judges, IsRow, RowInRange};
+ghost use Rattle.figure_text.specs.Drafts.{with_values, with_row};
 
-use crate::judge::{Judged, Kind, MOST, behind, front_length, is_front, judged_row, size_of, word};
-use crate::plain::{
-    BarFront, GridFront, bar_front, coordinate, front_point, grid_front, push_plain,
-};
+use crate::judge::{Judged, Kind, MOST, behind, is_witness, judged_row, size_of, word};
+use crate::line_front::{LineFront, read_front};
+use crate::piece::{is_front, pieces};
+use crate::plain::push_plain;
 use crate::words::{Signed, Word, fill_front, fill_known};
 use map_lists::Rotations;
 use pg_plane::{Ints, Point, Points};
@@ -50,8 +49,9 @@ fn push_vertices(words: &[Word], lists: &mut Rotations) -> Result<(), AllocError
     Ok(())
 }
 
-// The number of this sign and size.
-fn signed_number(z: Signed) -> i32
+/// The number of this sign and size.
+#[inline(always)]
+pub fn signed_number(z: Signed) -> i32
     ensures { result ≡ signed_value z }
 {
     let size = if z.size < MOST { z.size } else { MOST };
@@ -63,6 +63,7 @@ fn signed_number(z: Signed) -> i32
 }
 
 /// A number, and 0 for any other word.
+#[inline(always)]
 pub fn integer(word: Word) -> i32
     ensures { result ≡ integer_of word }
 {
@@ -73,93 +74,93 @@ pub fn integer(word: Word) -> i32
     }
 }
 
-// Word number `i`, as a whole number.
-fn integer_at(words: &[Word], i: usize) -> i32
-    ensures { result ≡ integer_in i words.now }
-{
-    integer(word(words, i))
+/// The numbers of a line, each at the place of its word.
+trait Values {
+    /// The number at the place of a word.
+    ghost value: { Self → ℕ → ℤ };
+
+    /// There is a number at the place of a word.
+    ghost Has: { Self → ℕ → Type 0 };
+
+    /// Returns the number at the place of word `i`.
+    fn value_at(&self, i: usize) -> i32
+        requires { Has self.now i }
+        ensures { result ≡ value self.now i };
 }
 
-// The point that the line of a vertex gives.
-fn point(words: &[Word]) -> Point
-    ensures { result ≡ point_of words.now }
-{
-    Point {
-        x: integer_at(words, 2),
-        y: integer_at(words, 3),
+impl Values for Vec<Word> {
+    ghost use Rattle.figure_text.specs.Drafts.{integer_in};
+
+    ghost value = { λ words i. integer_in i words.items };
+
+    ghost Has = { λ words i. Unit {0} };
+
+    fn value_at(&self, i: usize) -> i32 {
+        integer(word(self, i))
+    }
+}
+
+impl Values for LineFront {
+    ghost use Rattle.std.specs.Prelude.{◌<◌, length, slice_index};
+    ghost use Rattle.figure_text.specs.Plain.{plain_value};
+
+    ghost value = { λ front i. plain_value (slice_index front.numbers i) };
+
+    ghost Has = { λ front i. i < length front.numbers };
+
+    #[inline(always)]
+    fn value_at(&self, i: usize) -> i32 {
+        self.number(i)
     }
 }
 
 // Appends the numbers that stand before the vertices of a line.
 #[inline(always)]
-fn push_numbers(kind: Kind, words: &[Word], draft: &mut Draft) -> Result<(), AllocError>
-    ensures { OnOk result (draft.new ≡ with_numbers kind draft.old words.now) }
+fn push_values<V: Values>(kind: Kind, values: &V, draft: &mut Draft) -> Result<(), AllocError>
+    requires { (i : ℕ) → i < 7 → V.Has values.now i }
+    ensures { OnOk result (draft.new ≡ with_values kind draft.old (V.value values.now)) }
 {
     match kind {
-        Kind::Grid(_) => draft.points.push(point(words))?,
+        Kind::Grid(_) => draft.points.push(point(values))?,
         Kind::Bars => {
-            draft.y.push(integer_at(words, 2))?;
-            draft.x1.push(integer_at(words, 4))?;
-            draft.x2.push(integer_at(words, 5))?;
+            draft.y.push(values.value_at(2))?;
+            draft.x1.push(values.value_at(4))?;
+            draft.x2.push(values.value_at(5))?;
         }
         Kind::Rects => {
-            draft.x1.push(integer_at(words, 2))?;
-            draft.x2.push(integer_at(words, 3))?;
-            draft.y.push(integer_at(words, 5))?;
-            draft.y2.push(integer_at(words, 6))?;
+            draft.x1.push(values.value_at(2))?;
+            draft.x2.push(values.value_at(3))?;
+            draft.y.push(values.value_at(5))?;
+            draft.y2.push(values.value_at(6))?;
         }
         Kind::Witness(_) => {}
     }
     Ok(())
 }
 
+// The point that the line of a vertex gives.
+#[inline(always)]
+fn point<V: Values>(values: &V) -> Point
+    requires { V.Has values.now 2 × V.Has values.now 3 }
+    ensures { result ≡ record { x = V.value values.now 2; y = V.value values.now 3 } }
+{
+    Point {
+        x: values.value_at(2),
+        y: values.value_at(3),
+    }
+}
+
 // Appends what the words of a line give.
-fn push_row(kind: Kind, words: &[Word], draft: &mut Draft) -> Result<(), AllocError>
-    requires { RowInRange kind words.now }
-    ensures { OnOk result (draft.new ≡ with_row kind draft.old words.now) }
+fn push_row(kind: Kind, words: &Vec<Word>, draft: &mut Draft) -> Result<(), AllocError>
+    requires { RowInRange kind words.now.items }
+    ensures { OnOk result (draft.new ≡ with_row kind draft.old words.now.items) }
 {
-    push_vertices(behind(words, front_length(kind)), &mut draft.lists)?;
-    push_numbers(kind, words, draft)
+    push_vertices(behind(words, pieces(kind).len()), &mut draft.lists)?;
+    push_values(kind, words, draft)
 }
 
-// Appends what the line of a vertex of a straight-line drawing gives, by its front, and says whether its neighbours are
-// written plainly. Where they are not, the draft is as it was.
-#[inline(always)]
-fn push_grid(front: GridFront, line: &[u8], draft: &mut Draft) -> Result<bool, AllocError>
-    requires x { front.x ≤ 1048576 }
-    requires y { front.y ≤ 1048576 }
-    ensures good { IfOk result (λ good. OnTrue good (All (λ w. IsNeighbour w) (words_left line.now front.end)
-        × (draft.new ≡ record draft.old { lists = draft.old.lists ++ map vertex_of (words_left line.now front.end) ∷ []; points = draft.old.points ++ record { x = pos front.x; y = pos front.y } ∷ [] }))) }
-    ensures bad { IfOk result (λ good. good ≡ false → draft.new ≡ draft.old) }
-{
-    if !push_plain(line, front.end, &mut draft.lists)? {
-        return Ok(false);
-    }
-    draft.points.push(front_point(front))?;
-    Ok(true)
-}
-
-// Appends what the line of a vertex of a visibility drawing gives, as `push_grid` does.
-#[inline(always)]
-fn push_bar(front: BarFront, line: &[u8], draft: &mut Draft) -> Result<bool, AllocError>
-    requires y { front.y ≤ 1048576 }
-    requires x1 { front.x1 ≤ 1048576 }
-    requires x2 { front.x2 ≤ 1048576 }
-    ensures good { IfOk result (λ good. OnTrue good (All (λ w. IsNeighbour w) (words_left line.now front.end)
-        × (draft.new ≡ record draft.old { lists = draft.old.lists ++ map vertex_of (words_left line.now front.end) ∷ []; y = draft.old.y ++ pos front.y ∷ []; x1 = draft.old.x1 ++ pos front.x1 ∷ []; x2 = draft.old.x2 ++ pos front.x2 ∷ [] }))) }
-    ensures bad { IfOk result (λ good. good ≡ false → draft.new ≡ draft.old) }
-{
-    if !push_plain(line, front.end, &mut draft.lists)? {
-        return Ok(false);
-    }
-    draft.y.push(coordinate(front.y))?;
-    draft.x1.push(coordinate(front.x1))?;
-    draft.x2.push(coordinate(front.x2))?;
-    Ok(true)
-}
-
-// Appends what the line of a vertex gives, by the words of its front, and says whether it is found good: its neighbours
-// are written plainly, and are not kept as words. Where it is not, the draft is as it was.
+// Appends what the line of a vertex gives, by the words of its front, and says whether it is found good: its neighbours are
+// written plainly, and are not kept as words. Where it is not, the draft is as it was.
 fn push_by_words(
     found: &mut Vec<Word>,
     kind: Kind,
@@ -171,19 +172,19 @@ fn push_by_words(
         × (draft.new ≡ with_row kind draft.old (words_of line.now)))) }
     ensures bad { IfOk result (λ good. good ≡ false → draft.new ≡ draft.old) }
 {
-    let at = fill_front(line, front_length(kind), found)?;
-    if !is_front(kind, place, found) {
+    let pieces = pieces(kind);
+    let at = fill_front(line, pieces.len(), found)?;
+    if is_witness(kind) || !is_front(pieces, place, found) {
         return Ok(false);
     }
     if !push_plain(line, at, &mut draft.lists)? {
         return Ok(false);
     }
-    push_numbers(kind, found, draft)?;
+    push_values(kind, found, draft)?;
     Ok(true)
 }
 
-// Appends what the line of a vertex gives, like `push_by_words`, and reads no words where all its numbers are written
-// plainly.
+// Appends what the line of a vertex gives, like `push_by_words`, and keeps no words where its numbers are written plainly.
 fn quick_row(
     found: &mut Vec<Word>,
     kind: Kind,
@@ -195,23 +196,15 @@ fn quick_row(
         × (draft.new ≡ with_row kind draft.old (words_of line.now)))) }
     ensures bad { IfOk result (λ good. good ≡ false → draft.new ≡ draft.old) }
 {
-    match kind {
-        Kind::Grid(_) => match grid_front(line, place) {
-            Some(front) => {
-                let good = push_grid(front, line, draft)?;
-                Ok(good)
-            }
-            None => push_by_words(found, kind, place, line, draft),
-        },
-        Kind::Bars => match bar_front(line, place) {
-            Some(front) => {
-                let good = push_bar(front, line, draft)?;
-                Ok(good)
-            }
-            None => push_by_words(found, kind, place, line, draft),
-        },
-        _ => push_by_words(found, kind, place, line, draft),
+    let mut front = LineFront::new();
+    if is_witness(kind) || !read_front(kind, &mut front, place, line) {
+        return push_by_words(found, kind, place, line, draft);
     }
+    if !push_plain(line, front.end, &mut draft.lists)? {
+        return Ok(false);
+    }
+    push_values(kind, &front, draft)?;
+    Ok(true)
 }
 
 // Judges the line of a vertex by its words, and appends what a good one gives.

@@ -1,12 +1,12 @@
 //! A witness as text.
 ghost use Rattle.std.specs.Prelude.{◌≡◌, ◌+◌, ◌++◌, ◌∷◌, List, ℕ, length, take, flat_map, decimal, ◌<◌, OnOk, OnErr, IfOk};
 ghost use Rattle.graph6_text.specs.Lines.{IsLine as IsGraphLine};
-ghost use Rattle.figure_text.specs.Text.{kind_word, witness_first_line, id_at, spaced_ids, branch_line, path_line, path_lines, witness_text};
+ghost use Rattle.figure_text.specs.Text.{kind_word, witness_first_line, spaced_ids, branch_line, path_line, path_lines, witness_text};
 
 use crate::print::push_next;
 use graph6_text::{Graph, write_line};
 use kuratowski::{Kind, Witness};
-use map_lists::{PathList, VertexId, VertexList};
+use map_lists::{PathList, VertexId};
 use std::alloc::{AllocError, Global};
 
 // The word of a kind.
@@ -33,36 +33,18 @@ fn push_first(out: &mut Vec<u8>, number: u32, kind: Kind, line: &[u8]) -> Result
     Ok(())
 }
 
-// Number `k` of a list of vertices.
-fn id(list: &VertexList, k: usize) -> VertexId
-    requires { k < length list.now }
-    ensures { result ≡ id_at list.now k }
-{
-    list.get(k)
-}
-
 // Appends vertices.
-fn push_ids(out: &mut Vec<u8>, list: &VertexList) -> Result<(), AllocError>
-    ensures { OnOk result (out.new.items ≡ out.old.items ++ spaced_ids list.now) }
+fn push_ids(out: &mut Vec<u8>, ids: &[VertexId]) -> Result<(), AllocError>
+    ensures { OnOk result (out.new.items ≡ out.old.items ++ spaced_ids ids.now) }
 {
-    for k in 0..list.len() {
-        push_next(out, u64::from(id(list, k).0) + 1)?;
-    }
-    Ok(())
-}
-
-// Appends the vertices of a path.
-fn push_path_ids(out: &mut Vec<u8>, path: &[VertexId]) -> Result<(), AllocError>
-    ensures { OnOk result (out.new.items ≡ out.old.items ++ spaced_ids path.now) }
-{
-    for k in 0..path.len() {
-        push_next(out, u64::from(path[k].0) + 1)?;
+    for k in 0..ids.len() {
+        push_next(out, u64::from(ids[k].0) + 1)?;
     }
     Ok(())
 }
 
 // Appends the line of the branches.
-fn push_branches(out: &mut Vec<u8>, list: &VertexList) -> Result<(), AllocError>
+fn push_branches(out: &mut Vec<u8>, list: &[VertexId]) -> Result<(), AllocError>
     ensures { OnOk result (out.new.items ≡ out.old.items ++ branch_line list.now) }
 {
     out.extend_from_slice(b"branch")?;
@@ -76,7 +58,7 @@ fn push_path(out: &mut Vec<u8>, path: &[VertexId]) -> Result<(), AllocError>
     ensures { OnOk result (out.new.items ≡ out.old.items ++ path_line path.now) }
 {
     out.extend_from_slice(b"path")?;
-    push_path_ids(out, path)?;
+    push_ids(out, path)?;
     out.push(b'\n')?;
     Ok(())
 }
@@ -102,13 +84,13 @@ fn text_by_line(
 {
     let mut text = Vec::new(alloc);
     push_first(&mut text, number, witness.kind, line)?;
-    push_branches(&mut text, &witness.branch)?;
+    push_branches(&mut text, witness.branch.as_slice())?;
     push_paths(&mut text, &witness.paths)?;
     Ok(text)
 }
 
-/// The text of a witness.
-pub(crate) fn witness_text_of(
+// The text of a witness.
+fn witness_text_of(
     alloc: Global,
     number: u32,
     graph: &Graph,

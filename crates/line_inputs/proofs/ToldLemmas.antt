@@ -1,5 +1,5 @@
 -- Of each line it can be told whether it has the shape that is due, and whether its numbers are within their ranges.
-use Rattle.std.proofs.Common.{◌≡◌, ℕ, ◌≤◌, List, [], ◌∷◌, length, drop, get_or, refl, sym, ap, ◌∙◌, arith, Bool, true, false, inl, inr}
+use Rattle.std.proofs.Common.{◌≡◌, ℕ, zero, suc, ◌<◌, ◌≤◌, List, [], ◌∷◌, length, drop, get_or, below_more, refl, sym, ap, ◌∙◌, arith, Bool, true, false, inl, inr}
 use Rattle.std.proofs.lemmas.Bool.{cases_lt, cases_eq}
 use Rattle.std.proofs.lemmas.List.Elements.{All-nil, All-cons, All-head, All-tail}
 use Rattle.std.specs.Prelude.{◌⊎◌, All, IsTrue, Option, Some, None}
@@ -7,12 +7,16 @@ use Rattle.graph6_text.specs.Faults.{line_fault}
 use Rattle.graph6_text.specs.declared.line.G6Fault.{G6Fault}
 use Rattle.figure_text.specs.declared.judge.Kind.{Kind}
 use Rattle.figure_text.specs.declared.judge.Kind.TheVariants.{Grid, Bars, Rects, Witness}
+use Rattle.figure_text.specs.declared.piece.Piece.{Piece}
+use Rattle.figure_text.specs.declared.piece.Piece.TheVariants.{Place, Literal, Value, Last}
+use Rattle.figure_text.specs.declared.piece.Piece.TheVariants as piece
 use Rattle.figure_text.specs.declared.words.Word.{Word}
 use Rattle.figure_text.specs.declared.words.Word.TheVariants.{Number, Closing, Named, Other}
 use Rattle.figure_text.specs.declared.words.Name.{Name}
 use Rattle.figure_text.specs.declared.words.Name.TheVariants as name
 use Rattle.figure_text.specs.Words.{words_of, word_at, part_at}
-use Rattle.figure_text.specs.Lines.{size, is_natural, is_number, is_closing, is_graph_shaped, kind_of, row_name, is_row_length, IsTail, TailInRange, IsInside, IsVertex, IsPlaced, IsFirstLine, FirstInRange, IsGridHead, IsBarHead, IsRectHead, IsColumnsLine, ColumnsInRange}
+use Rattle.figure_text.specs.Lines.{size, is_natural, is_number, is_closing, is_graph_shaped, kind_of, row_name, IsTail, TailInRange, IsInside, IsVertex, IsFirstLine, FirstInRange, IsColumnsLine, ColumnsInRange}
+use Rattle.figure_text.specs.Pieces.{pieces, front_length, Fits, IsWithin, is_long}
 use Rattle.figure_text.specs.Reading.{IsRow, RowInRange}
 
 -- it can be told whether this holds
@@ -102,46 +106,36 @@ told-naturals = told-all (λ w. IsTrue (is_natural w)) (λ w. told-true (is_natu
 told-vertices : (words : List Word) → Told (All (λ w. IsVertex w) words)
 told-vertices = told-all (λ w. IsVertex w) told-vertex
 
-told-placed : (words : List Word) (place : ℕ) → Told (IsPlaced words place)
-told-placed words place = told-by (λ p. record { natural = p.0; here = p.1 }) (λ r. (r.natural, r.here)) (told-both (told-true (is_natural (word_at words 0))) (told-equal (size (word_at words 0)) place))
+-- of each place before one
+told-below : (P : ℕ → Type 0) → ((i : ℕ) → Told (P i)) → (n : ℕ) → Told ((i : ℕ) → i < n → P i)
+told-below P told zero = inl (λ i h. absurd (omega arith))
+told-below P told (suc n) = told-by (λ p. λ i h. below_more P n p.0 p.1 i (omega arith)) (λ all. (λ i h. all i (omega arith), all n (omega arith))) (told-both (told-below P told n) (told n))
 
-told-grid_head : (place : ℕ) (words : List Word) → Told (IsGridHead place words)
-told-grid_head place words =
-    told-by (λ p. record { placed = p.0; at = p.1.0; x = p.1.1.0; y = p.1.1.1 }) (λ r. (r.placed, (r.at, (r.x, r.y))))
-    (told-both (told-placed words place) (told-both (told-named (word_at words 1) name.At) (told-both (told-true (is_number (word_at words 2))) (told-true (is_closing (word_at words 3))))))
+told-fits : (place : ℕ) (p : Piece) (w : Word) → Told (Fits place p w)
+told-fits place Place w = told-both (told-true (is_natural w)) (told-equal (size w) place)
+told-fits place (Literal name) w = told-named w name
+told-fits place piece.Row w = told-named w (row_name place)
+told-fits place Value w = told-true (is_number w)
+told-fits place Last w = told-true (is_closing w)
 
-told-bar_head : (place : ℕ) (words : List Word) → Told (IsBarHead place words)
-told-bar_head place words =
-    told-by (λ p. record { placed = p.0; y_word = p.1.0; y = p.1.1.0; x_word = p.1.1.1.0; a = p.1.1.1.1.0; b = p.1.1.1.1.1 }) (λ r. (r.placed, (r.y_word, (r.y, (r.x_word, (r.a, r.b))))))
-    (told-both (told-placed words place) (told-both (told-named (word_at words 1) name.Y) (told-both (told-true (is_number (word_at words 2)))
-    (told-both (told-named (word_at words 3) name.X) (told-both (told-true (is_number (word_at words 4))) (told-true (is_closing (word_at words 5))))))))
-
-told-rect_head : (place : ℕ) (words : List Word) → Told (IsRectHead place words)
-told-rect_head place words =
-    told-by (λ p. record { placed = p.0; x_word = p.1.0; a = p.1.1.0; b = p.1.1.1.0; y_word = p.1.1.1.1.0; c = p.1.1.1.1.1.0; d = p.1.1.1.1.1.1 }) (λ r. (r.placed, (r.x_word, (r.a, (r.b, (r.y_word, (r.c, r.d)))))))
-    (told-both (told-placed words place) (told-both (told-named (word_at words 1) name.X) (told-both (told-true (is_number (word_at words 2))) (told-both (told-true (is_number (word_at words 3)))
-    (told-both (told-named (word_at words 4) name.Y) (told-both (told-true (is_number (word_at words 5))) (told-true (is_closing (word_at words 6)))))))))
+told-within : (p : Piece) (w : Word) → Told (IsWithin p w)
+told-within Place w = inl tt
+told-within (Literal name) w = inl tt
+told-within piece.Row w = inl tt
+told-within Value w = told-inside w
+told-within Last w = told-inside w
 
 -- the line of a vertex
 pub told-row : (kind : Kind) (place : ℕ) (words : List Word) → Told (IsRow kind place words)
-told-row (Grid job) place words = told-by (λ p. record { head = p.0; neighbours = p.1 }) (λ r. (r.head, r.neighbours)) (told-both (told-grid_head place words) (told-naturals (drop 4 words)))
-told-row Bars place words = told-by (λ p. record { head = p.0; neighbours = p.1 }) (λ r. (r.head, r.neighbours)) (told-both (told-bar_head place words) (told-naturals (drop 6 words)))
-told-row Rects place words = told-by (λ p. record { head = p.0; neighbours = p.1 }) (λ r. (r.head, r.neighbours)) (told-both (told-rect_head place words) (told-naturals (drop 7 words)))
-told-row (Witness kind) place words =
-    told-by (λ p. record { word = p.0; long = p.1.0; numbers = p.1.1 }) (λ r. (r.word, (r.long, r.numbers)))
-    (told-both (told-named (word_at words 0) (row_name place)) (told-both (told-true (is_row_length kind place (length words))) (told-naturals (drop 1 words))))
+told-row kind place words =
+    told-by (λ p. record { front = p.0; long = p.1.0; vertices = p.1.1 }) (λ r. (r.front, (r.long, r.vertices)))
+    (told-both (told-below _ (λ i. told-fits place (get_or (pieces kind) i piece.Row) (word_at words i)) (front_length kind))
+    (told-both (told-true (is_long kind place (length words))) (told-naturals (drop (front_length kind) words))))
 
 pub told-row_range : (kind : Kind) (words : List Word) → Told (RowInRange kind words)
-told-row_range (Grid job) words =
-    told-by (λ p. record { x = p.0; y = p.1.0; neighbours = p.1.1 }) (λ r. (r.x, (r.y, r.neighbours)))
-    (told-both (told-inside (word_at words 2)) (told-both (told-inside (word_at words 3)) (told-vertices (drop 4 words))))
-told-row_range Bars words =
-    told-by (λ p. record { y = p.0; a = p.1.0; b = p.1.1.0; neighbours = p.1.1.1 }) (λ r. (r.y, (r.a, (r.b, r.neighbours))))
-    (told-both (told-inside (word_at words 2)) (told-both (told-inside (word_at words 4)) (told-both (told-inside (word_at words 5)) (told-vertices (drop 6 words)))))
-told-row_range Rects words =
-    told-by (λ p. record { a = p.0; b = p.1.0; c = p.1.1.0; d = p.1.1.1.0; neighbours = p.1.1.1.1 }) (λ r. (r.a, (r.b, (r.c, (r.d, r.neighbours)))))
-    (told-both (told-inside (word_at words 2)) (told-both (told-inside (word_at words 3)) (told-both (told-inside (word_at words 5)) (told-both (told-inside (word_at words 6)) (told-vertices (drop 7 words))))))
-told-row_range (Witness kind) words = told-vertices (drop 1 words)
+told-row_range kind words =
+    told-by (λ p. record { front = p.0; vertices = p.1 }) (λ r. (r.front, r.vertices))
+    (told-both (told-below _ (λ i. told-within (get_or (pieces kind) i piece.Row) (word_at words i)) (front_length kind)) (told-vertices (drop (front_length kind) words)))
 
 -- that of the columns
 pub told-columns : (words : List Word) → Told (IsColumnsLine words)

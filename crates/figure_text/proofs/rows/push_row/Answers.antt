@@ -1,6 +1,5 @@
 -- What a line in its ranges has behind its front are vertices.
-use Rattle.figure_text.proofs.PlainLemmas.{row-vertices}
 use Rattle.figure_text.proofs.rows.push_row.Goals as goal
 
 pub push_vertices-requires : goal.push_vertices-requires
-push_vertices-requires c = rw (c.behind.ensures, c.front_length.ensures) (row-vertices c.args.kind c.args.words.now c.requires)
+push_vertices-requires c = rw (c.behind.ensures, c.pieces.ensures.pieces, c.deref.ensures.value) c.requires.vertices

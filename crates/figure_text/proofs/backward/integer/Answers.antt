@@ -1,6 +1,0 @@
-use Rattle.std.proofs.Common.{rules}
-use Rattle.std.proofs.lemmas.Option.{get_or_from_slice_get}
-use Rattle.figure_text.proofs.backward.integer.Goals as goal
-
-pub returns : goal.returns
-returns c = search (rules, get_or_from_slice_get)

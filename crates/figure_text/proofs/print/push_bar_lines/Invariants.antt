@@ -1,7 +1,0 @@
--- The lines before that of vertex v are written.
-use Rattle.std.proofs.Common.{◌≡◌, ◌++◌}
-use Rattle.figure_text.specs.Text.{bar_lines}
-use Rattle.figure_text.proofs.print.push_bar_lines.Given as goal
-
-abbrev pub invariant-loop-v : goal.invariant-loop-v
-invariant-loop-v l = l.out.items ≡ l.fn.out.items ++ bar_lines l.bars l.lists l.v

@@ -1,0 +1,6 @@
+use Rattle.std.proofs.Common.{rules}
+use Rattle.std.proofs.lemmas.Option.{get_or_from_slice_get}
+use Rattle.figure_text.proofs.vertex_print.point.Goals as goal
+
+pub returns : goal.returns
+returns c = search (rules, get_or_from_slice_get)

@@ -1,0 +1,220 @@
+//! The fronts of lines of vertices whose numbers are written plainly, read piece by piece: no word of them is kept.
+ghost use Rattle.std.specs.Prelude.{◌≡◌, ◌+◌, ◌≤◌, ◌<◌, ◌++◌, ◌∷◌, [], List, ℕ, length, slice_index, IsTrue, IfSome};
+ghost use Rattle.figure_text.specs.Pieces.{pieces as the_pieces, grid_front as grid_pieces, bar_front as bar_pieces};
+ghost use Rattle.figure_text.specs.Plain.{IsPieceAt, IsFrontOf, plain_value};
+
+use crate::judge::{Kind, size_of};
+use crate::piece::{Piece, pieces};
+use crate::plain::coordinate_at;
+use crate::rows::signed_number;
+use crate::words::{Name, Next, Signed, Word, closing_at, is_letter_at, is_word_at, plain_at};
+
+/// The most words that a front has.
+const MOST: usize = 7;
+
+/// The front of a line, or some first pieces of it.
+#[derive(Clone, Copy, PartialEq, Eq)]
+pub struct LineFront {
+    /// The size of each number, at the place of its word.
+    pub numbers: [u32; MOST],
+    /// The place behind them.
+    pub end: usize,
+}
+
+// Returns a number of a vertex that begins at `at`, where it is written plainly.
+#[inline(always)]
+fn value_at(line: &[u8], at: usize) -> Option<Next>
+    ensures { (place : ℕ) → IfSome result (IsPieceAt Piece.Value place line.now at) }
+{
+    match coordinate_at(line, at) {
+        Some(digits) => Some(Next {
+            word: Word::Number(Signed {
+                negative: false,
+                size: digits.value,
+            }),
+            end: digits.end,
+        }),
+        None => None,
+    }
+}
+
+// Returns the last number of a vertex, which begins at `at`, where it is written plainly.
+#[inline(always)]
+fn last_at(line: &[u8], at: usize) -> Option<Next>
+    ensures { (place : ℕ) → IfSome result (IsPieceAt Piece.Last place line.now at) }
+{
+    match closing_at(line, at) {
+        Some(digits) => {
+            if digits.value <= 1_048_576 {
+                Some(Next {
+                    word: Word::Closing(Signed {
+                        negative: false,
+                        size: digits.value,
+                    }),
+                    end: digits.end,
+                })
+            } else {
+                None
+            }
+        }
+        None => None,
+    }
+}
+
+// Returns the number of the vertex `place`, where it begins at `at`.
+#[inline(always)]
+fn place_at(line: &[u8], at: usize, place: usize) -> Option<Next>
+    ensures { IfSome result (IsPieceAt Piece.Place place line.now at) }
+{
+    match plain_at(line, at) {
+        Some(digits) => {
+            if digits.value as usize == place {
+                Some(Next {
+                    word: Word::Number(Signed {
+                        negative: false,
+                        size: digits.value,
+                    }),
+                    end: digits.end,
+                })
+            } else {
+                None
+            }
+        }
+        None => None,
+    }
+}
+
+// Returns a word with this end, where it is there.
+#[inline(always)]
+fn word_if(is_there: bool, name: Name, end: usize) -> Option<Next>
+    ensures { IfSome result (λ next. IsTrue is_there × (next.word ≡ Word.Named name) × (next.end ≡ end)) }
+{
+    if is_there {
+        Some(Next {
+            word: Word::Named(name),
+            end,
+        })
+    } else {
+        None
+    }
+}
+
+// Returns one of the words within the lines of vertices, where it begins at `at` and a space follows.
+#[inline(always)]
+fn literal_at(line: &[u8], at: usize, name: Name) -> Option<Next>
+    ensures { (place : ℕ) → IfSome result (IsPieceAt (Piece.Literal name) place line.now at) }
+{
+    if line.len() < at {
+        return None;
+    }
+    match name {
+        Name::At => word_if(is_word_at(line, at), Name::At, at + 2),
+        Name::Y => word_if(is_letter_at(line, at, b'y'), Name::Y, at + 1),
+        Name::X => word_if(is_letter_at(line, at, b'x'), Name::X, at + 1),
+        _ => None,
+    }
+}
+
+// Returns a piece that begins at `at`, where it is one that is told at sight.
+#[inline(always)]
+fn plain_piece(piece: Piece, place: usize, line: &[u8], at: usize) -> Option<Next>
+    ensures { IfSome result (IsPieceAt piece place line.now at) }
+{
+    match piece {
+        Piece::Place => place_at(line, at, place),
+        Piece::Literal(name) => literal_at(line, at, name),
+        Piece::Value => value_at(line, at),
+        Piece::Last => last_at(line, at),
+        Piece::Row => None,
+    }
+}
+
+// Reads piece `k` of a front, behind those before it, and says whether it is there.
+#[inline(always)]
+fn with_piece(front: &mut LineFront, k: usize, piece: Piece, place: usize, line: &[u8]) -> bool
+    requires { k < 7 }
+    ensures { (pieces : List Piece) → length pieces ≡ k → IsFrontOf pieces place line.now front.old → IsTrue result → IsFrontOf (pieces ++ piece ∷ []) place line.now front.new }
+{
+    match plain_piece(piece, place, line, front.end) {
+        Some(next) => {
+            front.numbers[k] = size_of(next.word);
+            front.end = next.end + 1;
+            true
+        }
+        None => false,
+    }
+}
+
+impl LineFront {
+    /// Makes a front with no piece.
+    #[inline(always)]
+    pub fn new() -> LineFront
+        ensures { (place : ℕ) (line : List ℕ) → IsFrontOf [] place line result }
+    {
+        LineFront {
+            numbers: [0; MOST],
+            end: 0,
+        }
+    }
+
+    /// Returns the number at the place of word `i`.
+    #[inline(always)]
+    pub fn number(&self, i: usize) -> i32
+        requires { i < length self.now.numbers }
+        ensures { result ≡ plain_value (slice_index self.now.numbers i) }
+    {
+        signed_number(Signed {
+            negative: false,
+            size: self.numbers[i],
+        })
+    }
+}
+
+// Reads what stands before the neighbours of vertex `place`, piece by piece, and says whether its words are good.
+fn any_front(pieces: &[Piece], front: &mut LineFront, place: usize, line: &[u8]) -> bool
+    requires { length pieces.now ≤ 7 }
+    ensures { IsFrontOf [] place line.now front.old → IsTrue result → IsFrontOf pieces.now place line.now front.new }
+{
+    for k in 0..pieces.len() {
+        if !with_piece(front, k, pieces[k], place, line) {
+            return false;
+        }
+    }
+    true
+}
+
+// Reads the front of a line of a straight-line drawing like `any_front`, with no loop, which takes fewer instructions.
+#[inline(always)]
+fn grid_front(front: &mut LineFront, place: usize, line: &[u8]) -> bool
+    ensures { IsFrontOf [] place line.now front.old → IsTrue result → IsFrontOf grid_pieces place line.now front.new }
+{
+    with_piece(front, 0, Piece::Place, place, line)
+        && with_piece(front, 1, Piece::Literal(Name::At), place, line)
+        && with_piece(front, 2, Piece::Value, place, line)
+        && with_piece(front, 3, Piece::Last, place, line)
+}
+
+// Reads the front of a line of a visibility drawing so.
+#[inline(always)]
+fn bar_front(front: &mut LineFront, place: usize, line: &[u8]) -> bool
+    ensures { IsFrontOf [] place line.now front.old → IsTrue result → IsFrontOf bar_pieces place line.now front.new }
+{
+    with_piece(front, 0, Piece::Place, place, line)
+        && with_piece(front, 1, Piece::Literal(Name::Y), place, line)
+        && with_piece(front, 2, Piece::Value, place, line)
+        && with_piece(front, 3, Piece::Literal(Name::X), place, line)
+        && with_piece(front, 4, Piece::Value, place, line)
+        && with_piece(front, 5, Piece::Last, place, line)
+}
+
+/// Reads what stands before the neighbours of vertex `place`, and says whether its words are good.
+#[inline(always)]
+pub fn read_front(kind: Kind, front: &mut LineFront, place: usize, line: &[u8]) -> bool
+    ensures { IsFrontOf [] place line.now front.old → IsTrue result → IsFrontOf (the_pieces kind) place line.now front.new }
+{
+    match kind {
+        Kind::Grid(_) => grid_front(front, place, line),
+        Kind::Bars => bar_front(front, place, line),
+        _ => any_front(pieces(kind), front, place, line),
+    }
+}

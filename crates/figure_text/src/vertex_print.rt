@@ -1,0 +1,177 @@
+//! The lines of the vertices of a figure as text, written from the last to the first.
+ghost use Rattle.std.specs.Prelude.{◌≡◌, ◌+◌, ◌*◌, ◌<◌, ◌≤◌, ◌++◌, List, ℕ, ℤ, length, drop, sum_by};
+ghost use Rattle.figure_text.specs.declared.piece.Piece.{Piece};
+ghost use Rattle.figure_text.specs.Text.{integer_at, point_at, joined, front_words, vertex_line, vertex_lines, fronts_room};
+
+use crate::backward::{write_byte, write_letter, write_number, write_signed, write_vertices};
+use map_lists::Rotations;
+use pg_plane::{BarFigure, Ints, Point, Points, RectFigure};
+
+/// A figure in which each vertex has numbers, which stand on its line.
+pub trait Numbered {
+    /// The pieces before the neighbours.
+    ghost pieces: { List Piece };
+
+    /// The numbers of a vertex.
+    ghost numbers: { Self → ℕ → List ℤ };
+
+    /// It has numbers for this vertex.
+    ghost Has: { Self → ℕ → Type 0 };
+
+    /// How many bytes stand before the neighbours at most.
+    ghost longest: { ℕ };
+
+    /// Returns how many bytes stand before the neighbours at most.
+    fn longest() -> usize
+        ensures is { result ≡ longest }
+        ensures few { result ≤ 80 };
+
+    /// Writes what stands before the neighbours of vertex `v` before `end`, and returns where it starts.
+    fn write_front(&self, v: usize, bytes: &mut [u8], end: usize) -> usize
+        requires max { v < usize.MAX }
+        requires has { Has self.now v }
+        requires room { (longest ≤ end) × (end ≤ length bytes.old) }
+        ensures some { 0 < length (front_words (pieces) v (numbers self.now v)) }
+        ensures within { (result ≤ end) × (end ≤ result + longest) }
+        ensures written { drop result bytes.new ≡ joined (front_words (pieces) v (numbers self.now v)) ++ drop end bytes.old };
+}
+
+// Number `v` of a list of points.
+fn point(list: &Points, v: usize) -> Point
+    requires { v < length list.now }
+    ensures { result ≡ point_at list.now v }
+{
+    list.get(v)
+}
+
+// Number `v` of a list of whole numbers.
+fn integer(list: &Ints, v: usize) -> i32
+    requires { v < length list.now }
+    ensures { result ≡ integer_at list.now v }
+{
+    list.get(v)
+}
+
+impl Numbered for Points {
+    ghost use Rattle.figure_text.specs.Pieces.{grid_front};
+    ghost use Rattle.figure_text.specs.Text.{grid_numbers};
+
+    ghost pieces = { grid_front };
+
+    ghost numbers = { grid_numbers };
+
+    ghost Has = { λ points v. v < length points };
+
+    ghost longest = { 48 };
+
+    fn longest() -> usize {
+        48
+    }
+
+    fn write_front(&self, v: usize, bytes: &mut [u8], end: usize) -> usize {
+        let point = point(self, v);
+        let colon = write_byte(b':', bytes, end);
+        let y = write_signed(point.y, bytes, colon);
+        let x = write_signed(point.x, bytes, y);
+        let t = write_byte(b't', bytes, x);
+        let at = write_letter(b'a', bytes, t);
+        write_number(v as u64 + 1, bytes, at)
+    }
+}
+
+impl Numbered for BarFigure {
+    ghost use Rattle.figure_text.specs.Pieces.{bar_front};
+    ghost use Rattle.figure_text.specs.Text.{bar_numbers};
+
+    ghost pieces = { bar_front };
+
+    ghost numbers = { bar_numbers };
+
+    ghost Has = { λ bars v. (v < length bars.y) × (v < length bars.x1) × (v < length bars.x2) };
+
+    ghost longest = { 61 };
+
+    fn longest() -> usize {
+        61
+    }
+
+    fn write_front(&self, v: usize, bytes: &mut [u8], end: usize) -> usize {
+        let y = integer(&self.y, v);
+        let a = integer(&self.x1, v);
+        let b = integer(&self.x2, v);
+        let colon = write_byte(b':', bytes, end);
+        let second = write_signed(b, bytes, colon);
+        let first = write_signed(a, bytes, second);
+        let x = write_letter(b'x', bytes, first);
+        let height = write_signed(y, bytes, x);
+        let word = write_letter(b'y', bytes, height);
+        write_number(v as u64 + 1, bytes, word)
+    }
+}
+
+impl Numbered for RectFigure {
+    ghost use Rattle.figure_text.specs.Pieces.{rect_front};
+    ghost use Rattle.figure_text.specs.Text.{rect_numbers};
+
+    ghost pieces = { rect_front };
+
+    ghost numbers = { rect_numbers };
+
+    ghost Has = { λ rects v. (v < length rects.x1) × (v < length rects.x2) × (v < length rects.y1) × (v < length rects.y2) };
+
+    ghost longest = { 73 };
+
+    fn longest() -> usize {
+        73
+    }
+
+    fn write_front(&self, v: usize, bytes: &mut [u8], end: usize) -> usize {
+        let a = integer(&self.x1, v);
+        let b = integer(&self.x2, v);
+        let c = integer(&self.y1, v);
+        let d = integer(&self.y2, v);
+        let colon = write_byte(b':', bytes, end);
+        let top = write_signed(d, bytes, colon);
+        let bottom = write_signed(c, bytes, top);
+        let y = write_letter(b'y', bytes, bottom);
+        let right = write_signed(b, bytes, y);
+        let left = write_signed(a, bytes, right);
+        let x = write_letter(b'x', bytes, left);
+        write_number(v as u64 + 1, bytes, x)
+    }
+}
+
+// Writes the line of a vertex before `end`, and returns where it starts.
+fn write_line<R: Numbered>(
+    figure: &R,
+    v: usize,
+    list: &[u16],
+    bytes: &mut [u8],
+    end: usize,
+) -> usize
+    requires max { v < usize.MAX }
+    requires has { R.Has figure.now v }
+    requires room { 6 * length list.now + 1 + R.longest ≤ end }
+    requires end { end ≤ length bytes.old }
+    ensures within { (result ≤ end) × (end ≤ result + (6 * length list.now + 1 + R.longest)) }
+    ensures written { drop result bytes.new ≡ vertex_line R.pieces v (R.numbers figure.now v) list.now ++ drop end bytes.old }
+{
+    let newline = write_byte(b'\n', bytes, end);
+    let front = write_vertices(list, bytes, newline);
+    figure.write_front(v, bytes, front)
+}
+
+/// Writes the lines of the vertices at the end, and returns where they start: there is still room for a first line.
+pub fn write_lines<R: Numbered>(figure: &R, lists: &Rotations, bytes: &mut [u8]) -> usize
+    requires has { (v : ℕ) → v < length lists.now → R.Has figure.now v }
+    requires room { 60 + 6 * sum_by length lists.now + fronts_room R.longest (length lists.now) ≤ length bytes.old }
+    ensures within { (60 ≤ result) × (result ≤ length bytes.new) }
+    ensures written { drop result bytes.new ≡ vertex_lines R.pieces (R.numbers figure.now) lists.now (length lists.now) }
+{
+    let mut start = bytes.len();
+    for k in 0..lists.len() {
+        let v = lists.len() - 1 - k;
+        start = write_line(figure, v, lists.list(v), bytes, start);
+    }
+    start
+}
