@@ -9,7 +9,7 @@ use Rattle.euler_faces.specs.Search.{marks_of}
 use Rattle.euler_faces.proofs.SearchLemmas.{unset_after}
 use Rattle.conn_parts.specs.Parts.{ArePartsOf}
 use Rattle.conn_parts.proofs.PartLemmas.{ArePartsOf-numbers}
-use Rattle.conn_parts.proofs.parts.list_components.Goals as goal
+use Rattle.conn_parts.proofs.parts.numbered_parts.Goals as goal
 
 pub number_components-count-requires-clause-cuts : goal.number_components-count-requires-clause-cuts
 number_components-count-requires-clause-cuts c =
@@ -35,7 +35,7 @@ number_components-count-requires-clause-room c =
     omega (arith, c.deref_mut-2.ensures.len, c.in_ok-resize-2.ensures.len, c.len-2.ensures, ap length (IsStored-cut _ _ _ stored), length-cut 0 c.ends.result.now c.entries.result.now)
 
 pub number_components-count-requires-clause-unset : goal.number_components-count-requires-clause-unset
-number_components-count-requires-clause-unset c = λ u. subst (λ ns. mark_at (marks_of ns) u ≡ false) (sym c.deref_mut.ensures.value) (unset_after 65535 _ _ _ _ u c.new-numbers.ensures.items c.in_ok-resize.ensures.items)
+number_components-count-requires-clause-unset c = λ u. subst (λ ns. mark_at (marks_of ns) u ≡ false) (sym c.deref_mut.ensures.value) (unset_after 65535 _ _ _ _ u c.clear.ensures.items c.in_ok-resize.ensures.items)
 
 -- all items of a vector were written
 all_written : (count len : ℕ) (lists : Lists) (new rest : List ℕ) → length new ≡ len → ArePartsOf lists (record { count = count; numbers = new }) → ArePartsOf lists (record { count = count; numbers = take len (new ++ rest) })

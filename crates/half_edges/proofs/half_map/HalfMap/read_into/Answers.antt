@@ -3,7 +3,7 @@ use Rattle.std.proofs.lemmas.List.{take_all}
 use Rattle.map_lists.proofs.CutLemmas.{IsStored-cut, IsStored-cuts}
 use Rattle.half_edges.specs.Arena.{vertex_at, arena_lists}
 use Rattle.half_edges.proofs.ArenaLemmas.{IsStored-walk, walkable_here, walkable_read}
-use Rattle.half_edges.proofs.half_map.HalfMap.rotations.Goals as goal
+use Rattle.half_edges.proofs.half_map.HalfMap.read_into.Goals as goal
 
 pub push_heads-requires : goal.push_heads-requires
 push_heads-requires c =
