@@ -2,7 +2,7 @@ use Rattle.std.proofs.Common.{arith}
 use Rattle.std.proofs.lemmas.List.{get_or-map, length-map}
 use Rattle.canon_order.specs.Orders.{vertices_of}
 use Rattle.order_drawings.proofs.OrderLemmas.{ranks_small, entries_within, list_some, AreAllRows-order}
-use Rattle.order_drawings.proofs.order_tables.rows.list_rows.Goals as goal
+use Rattle.order_drawings.proofs.order_tables.rows.rows_into.Goals as goal
 
 pub listed_rows-requires-clause-at : goal.listed_rows-requires-clause-at
 listed_rows-requires-clause-at c = λ k d l.
