@@ -1,16 +1,16 @@
 use Rattle.std.proofs.Common.{length}
 use Rattle.canon_order.specs.Orders.{vertices_of}
 use Rattle.grid_figures.proofs.DrawLemmas.{AreWoodPoints-order}
-use Rattle.grid_figures.proofs.schnyder_grid.draw.list_draw.Goals as goal
+use Rattle.grid_figures.proofs.schnyder_grid.draw.WoodDrawer.list_draw.Goals as goal
 
-pub drawn-requires-clause-ranks : goal.drawn-requires-clause-ranks
-drawn-requires-clause-ranks c =
+pub points-requires-clause-ranks : goal.points-requires-clause-ranks
+points-requires-clause-ranks c =
     let base = c.requires.order.0 in
     let order = c.requires.order.1 in
     c.ranks_are_places.ensures c.args.lists.now base (vertices_of c.args.order.now) c.args.order.now.rank order c.requires.rank
 
-pub drawn-requires-clause-run : goal.drawn-requires-clause-run
-drawn-requires-clause-run c =
+pub points-requires-clause-run : goal.points-requires-clause-run
+points-requires-clause-run c =
     let base = c.requires.order.0 in
     let order = c.requires.order.1 in
     let run = c.order_is_run.ensures c.args.lists.now base (vertices_of c.args.order.now) c.requires.triangulation order in

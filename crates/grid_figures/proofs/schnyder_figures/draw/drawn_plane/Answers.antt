@@ -7,7 +7,7 @@ use Rattle.grid_figures.specs.Forms.{IsDrawnBy}
 use Rattle.grid_figures.specs.SchnyderFiguresFigures.{schnyder_form}
 use Rattle.grid_figures.proofs.CompletionLemmas.{listed_in}
 use Rattle.grid_figures.proofs.FigureLemmas.{figure_of_drawing}
-use Rattle.grid_figures.proofs.schnyder_figures.draw.plane_figure.Goals as goal
+use Rattle.grid_figures.proofs.schnyder_figures.draw.drawn_plane.Goals as goal
 
 pub order_figure-requires-clause-triangulation : goal.order_figure-requires-clause-triangulation
 order_figure-requires-clause-triangulation c = let h = c.in_ok-found.ensures in subst IsTriangulation (sym (listed_in c.args.lists.now c.args.plane.map.lists _ _ c.in_ok-found.found.made c.requires.lists c.made_or.ensures h.listed)) h.triangulation

@@ -1,6 +1,6 @@
 use Rattle.std.proofs.Common.{refl}
 use Rattle.grid_figures.proofs.CompletionLemmas.{base_of_choice, listed_in}
-use Rattle.grid_figures.proofs.drawing_orders.order.plane_order.Goals as goal
+use Rattle.grid_figures.proofs.drawing_orders.order.ordered_plane.Goals as goal
 
 pub list_order-requires-clause-lists : goal.list_order-requires-clause-lists
 list_order-requires-clause-lists c =
