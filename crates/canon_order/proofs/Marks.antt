@@ -1,14 +1,14 @@
 -- Marks that are set and taken away, the counts of marked neighbours, and what a mark puts on the stack.
-use Rattle.std.proofs.Common.{◌≡◌, ◌≢◌, ◌⊎◌, ◌↔◌, ◌&&◌, ℕ, ◌+◌, ◌-◌, ◌<◌, ◌≤◌, Bool, true, false, not, cond, eqb, List, [], ◌∷◌, ◌++◌, length, get_or, take, set, count_by, filter, Contains, All, refl, sym, ap, ap₂, ◌∙◌, subst, inl, inr, arith, ltb, lt-ltb, ltb-true, eq-eqb, ne_eqb, length-set, get_or-set_same, get_or-set_other}
+use Rattle.std.proofs.Common.{◌≡◌, ◌≢◌, ◌⊎◌, ◌↔◌, ◌&&◌, ℕ, ◌+◌, ◌-◌, ◌<◌, ◌≤◌, Bool, true, false, not, cond, eqb, List, [], ◌∷◌, length, get_or, take, set, count_by, Contains, All, refl, sym, ap, ap₂, ◌∙◌, subst, inl, inr, arith, ltb, lt-ltb, ltb-true, eq-eqb, ne_eqb, length-set, get_or-set_same, get_or-set_other}
 use Rattle.std.proofs.Common.{Result, Ok, Err, IfOk}
 use Rattle.std.proofs.lemmas.Bool.{cases_eq, cases_lt, cases_Bool, true≢false, false≢true, and_parts, and_from, and_right, not-true}
 use Rattle.std.proofs.lemmas.List.{get_or_past, get_or_default, take_more, length-take-le, get_or-take}
 use Rattle.std.proofs.lemmas.List.Sums.{sum_by-cons, count_by-le-length}
-use Rattle.std.proofs.lemmas.List.Elements.{All-append, All-cons, All-filter, All-nil, Contains-append_left, Contains-append_right, Contains-append_cases, Contains-get_or}
+use Rattle.std.proofs.lemmas.List.Elements.{Contains-append_left, Contains-append_right, Contains-append_cases, Contains-get_or}
 use Rattle.map_lists.specs.Lists.{Lists}
 use Rattle.map_theory.specs.Maps.{IsSimpleMap, list_of}
 use Rattle.map_theory.proofs.DartCounts.{length-le-below}
-use Rattle.map_theory.proofs.EntryLemmas.{count_of, count_of-le-one, Contains-from_count_of, Contains-counted, Contains-here, Contains-filter}
+use Rattle.map_theory.proofs.EntryLemmas.{count_of, count_of-le-one, Contains-from_count_of, Contains-counted, Contains-here}
 use Rattle.plane_peeling.specs.Restricted.{kept_but}
 use Rattle.plane_peeling.proofs.RestrictedMaps.{cases_Contains, restricted-old, restricted-new, kept_but-itself}
 use Rattle.plane_peeling.proofs.Rings.{each_of_one, each_of_three}

@@ -1,7 +1,7 @@
 use Rattle.std.proofs.Common.{◌≡◌, ◌+◌, ◌<◌, ℕ, List, true, length, get_or, set, All, Contains, refl, subst, sym, ◌∙◌, arith, length-set}
 use Rattle.map_theory.specs.Maps.{list_of}
 use Rattle.map_theory.proofs.EntryLemmas.{count_of}
-use Rattle.canon_order.specs.Marks.{is_set, IsNoted}
+use Rattle.canon_order.specs.Marks.{IsNoted}
 use Rattle.canon_order.proofs.Marks.{is_set-here, list_within, room, IsTally-marked, elsewhere-marked, IsNoted-marked, IfOk-of_noted}
 use Rattle.canon_order.proofs.cycle_marks.mark_new.Goals as goal
 
