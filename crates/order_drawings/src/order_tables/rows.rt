@@ -105,6 +105,18 @@ fn order_has_rows()
     canon_order::row_ends();
 }
 
+// No lists, with room for so many items in so many lists, in the memory of `spent`.
+fn emptied(spent: Rotations, items: usize, lists: usize) -> Result<Rotations, AllocError>
+    ensures { IfOk result (λ rows. rows ≡ []) }
+{
+    let (mut entries, mut ends) = spent.into_parts();
+    entries.clear();
+    entries.reserve(items)?;
+    ends.clear();
+    ends.reserve(lists)?;
+    Ok(Rotations::from_parts(entries, ends))
+}
+
 // The rows in lists, from that of the third vertex of an order on, in the memory of `spent`. Each is made in `row`.
 fn listed_rows(
     spent: Rotations,
@@ -122,8 +134,7 @@ fn listed_rows(
     ensures count { IfOk result (λ rows. length rows + 2 ≡ length at.now) }
     ensures rows { IfOk result (λ rows. AreRanked lists.now (map (λ v. v.0) at.now) ranks.now rows) }
 {
-    let mut rows = spent;
-    rows.clear();
+    let mut rows = emptied(spent, lists.total() / 2, at.len())?;
     for k in 2..at.len() {
         let list = lists.list(at.get(k).0 as usize);
         row.clear();
@@ -165,9 +176,8 @@ pub fn list_rows(alloc: Global, lists: &Rotations, order: &Order) -> Result<Rota
     requires rank { IsRankOf order.now.rank (vertices_of order.now) }
     ensures { IfOk result (AreRowsOf lists.now (vertices_of order.now)) }
 {
-    let spent = Rotations::with_capacity(alloc, lists.total() / 2, order.at.len())?;
     let mut row = Vec::new(alloc);
-    let rows = rows_into(spent, &mut row, lists, order)?;
+    let rows = rows_into(Rotations::new(alloc), &mut row, lists, order)?;
     Ok(rows)
 }
 
