@@ -1,7 +1,6 @@
 //! Faces filled with triangles.
-ghost use Rattle.std.specs.Prelude.{◌≡◌, ℕ, Some};
-ghost use Rattle.map_theory.specs.Maps.{HasDart, component_count};
-ghost use Rattle.plane_laws.specs.Laws.{IsTriangle};
+ghost use Rattle.std.specs.Prelude.{◌≡◌, ◌+◌, ◌*◌, ℕ, Some};
+ghost use Rattle.map_theory.specs.Maps.{component_count, edge_count, vertex_count};
 ghost use Rattle.half_edges.specs.Map.{Map, IsLive, dart_at};
 ghost use Rattle.augment_tri.specs.Growing.{IsCovered, IsFilled, IsGrown, IsRoomy};
 
@@ -25,17 +24,21 @@ fn fill_face(map: &mut HalfMap, d: DartId)
     }
 }
 
-// Fills all faces of a connected map.
+// Fills all faces of a connected map, until it has as many edges as a triangulation.
 pub(crate) fn fill(map: &mut HalfMap)
     requires roomy { IsRoomy map.old }
     requires one { component_count map.old.lists ≡ 1 }
     ensures roomy { IsRoomy map.new }
     ensures one { component_count map.new.lists ≡ 1 }
     ensures grown { IsGrown map.old map.new }
-    ensures triangles { (v u : ℕ) → HasDart map.new.lists v u → IsTriangle map.new.lists (v, u) }
+    ensures edges { edge_count map.new.lists + 6 ≡ 3 * vertex_count map.new.lists }
 {
     let bound = 2 * (map.m() + map.spare());
+    let most = 3 * map.n() as u32 - 6;
     for d in 0..bound {
+        if map.m() == most {
+            return;
+        }
         if map.is_live(DartId(d)) {
             fill_face(map, DartId(d));
         }

@@ -27,7 +27,7 @@ pub IsPrepared-noted : (lists : Lists) (t s : ℕ) (marked : List Bool) (near st
 IsPrepared-noted lists t s marked near stack marked' near' stack' n h = record {
   tally = n.tally;
   vertices = n.vertices;
-  stacked = λ u removable. elim (n.noted u removable.marked) [
+  stacked = λ u removable. elim (n.noted u removable.marked removable.two) [
     | inl c ↦ c
     | inr q ↦ n.kept u (h.stacked u record { marked = q.0; not_last = removable.not_last; not_first = removable.not_first; two = sym q.1 ∙ removable.two })
   ];

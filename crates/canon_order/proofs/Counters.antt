@@ -1,8 +1,8 @@
 -- Counters that go over the entries of a list, and ranks.
-use Rattle.std.proofs.Common.{◌≡◌, ◌≢◌, ℕ, ◌+◌, ◌-◌, ◌<◌, ◌≤◌, ◌==◌, Bool, true, not, cond, eqb, List, length, get_or, take, count_by, AllPairs, All, Contains, refl, sym, ap, ◌∙◌, subst, inl, inr, arith, eq-eqb, ne_eqb, reverse}
+use Rattle.std.proofs.Common.{◌≡◌, ◌≢◌, ℕ, ◌+◌, ◌-◌, ◌<◌, ◌≤◌, ◌==◌, Bool, true, not, cond, eqb, List, length, get_or, set, take, count_by, AllPairs, All, Contains, refl, sym, ap, ◌∙◌, subst, inl, inr, arith, eq-eqb, ne_eqb, reverse, length-set, get_or-set_same, get_or-set_other}
 use Rattle.std.proofs.lemmas.List.{get_or-reverse, length-reverse, get_or_default}
-use Rattle.std.proofs.lemmas.List.Sums.{count_by_more_yes, sum_by-take-le}
-use Rattle.std.proofs.lemmas.Bool.{cases_lt}
+use Rattle.std.proofs.lemmas.List.Sums.{count_by_more_yes, count_by_more_no, sum_by-take-le}
+use Rattle.std.proofs.lemmas.Bool.{cases_eq, cases_lt}
 use Rattle.classes.proofs.Counting.{count_below_all, count_below_into, count_below_more}
 use Rattle.plane_peeling.proofs.RestrictedMaps.{cases_Contains}
 use Rattle.canon_order.specs.Orders.{IsRankOf}
@@ -14,6 +14,38 @@ counted_before us i l =
     let more = count_by_more_yes p us i 0 l (eq-eqb (get_or us i 0) (get_or us i 0) refl) in
     let le = sum_by-take-le (λ u. cond (p u) 1 0) us (i + 1) in
     omega (arith, more, le)
+
+-- one more entry counted, down or up
+module _ (us near initial : List ℕ) (i : ℕ) (l : i < length us) where
+  abbrev here : ℕ
+  here = get_or us i 0
+
+  abbrev before : ℕ → ℕ
+  before w = count_by (λ u. u == w) (take i us)
+
+  here_more : count_by (λ u. u == here) (take (i + 1) us) ≡ before here + 1
+  here_more = count_by_more_yes (λ u. eqb u here) us i 0 l (eq-eqb here here refl)
+
+  other_same : (w : ℕ) → w ≢ here → count_by (λ u. u == w) (take (i + 1) us) ≡ before w
+  other_same w ne = count_by_more_no (λ u. eqb u w) us i 0 l (ne_eqb here w (λ e. ne (sym e)))
+
+  pub counted_down : here < length near → 1 ≤ get_or near here 0 → ((w : ℕ) → w < length near → get_or near w 0 + before w ≡ get_or initial w 0) → (w : ℕ) → w < length (set near here (get_or near here 0 - 1)) → get_or (set near here (get_or near here 0 - 1)) w 0 + count_by (λ u. u == w) (take (i + 1) us) ≡ get_or initial w 0
+  counted_down m some h w k =
+      let n = get_or near here 0 - 1 in
+      let long = length-set near here n in
+      elim (cases_eq w here) [
+        | inl e ↦ rw e (let now = get_or-set_same near here n 0 m in let old = h here m in omega (arith, here_more))
+        | inr ne ↦ (let now = get_or-set_other near here w n 0 ne in let old = h w (omega arith) in let same = other_same w ne in omega arith)
+      ]
+
+  pub counted_up : here < length near → ((w : ℕ) → w < length near → get_or near w 0 ≡ get_or initial w 0 + before w) → (w : ℕ) → w < length (set near here (get_or near here 0 + 1)) → get_or (set near here (get_or near here 0 + 1)) w 0 ≡ get_or initial w 0 + count_by (λ u. u == w) (take (i + 1) us)
+  counted_up m h w k =
+      let n = get_or near here 0 + 1 in
+      let long = length-set near here n in
+      elim (cases_eq w here) [
+        | inl e ↦ rw e (let now = get_or-set_same near here n 0 m in let old = h here m in omega (arith, here_more))
+        | inr ne ↦ (let now = get_or-set_other near here w n 0 ne in let old = h w (omega arith) in let same = other_same w ne in omega arith)
+      ]
 
 -- where two places of a list without repeats have one entry they are one
 pub same_place : (us : List ℕ) (i j : ℕ) → AllPairs ◌≢◌ us → i < length us → j < length us → get_or us i 0 ≡ get_or us j 0 → i ≡ j

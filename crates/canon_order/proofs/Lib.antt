@@ -10,3 +10,4 @@ pub mod Marks
 mod Contours
 mod Refused
 mod EntryLemmas
+pub mod Filled

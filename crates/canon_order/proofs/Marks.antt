@@ -1,24 +1,24 @@
 -- Marks that are set and taken away, the counts of marked neighbours, and what a mark puts on the stack.
-use Rattle.std.proofs.Common.{◌≡◌, ◌≢◌, ◌⊎◌, ◌↔◌, ◌&&◌, ℕ, ◌+◌, ◌-◌, ◌<◌, ◌≤◌, Bool, true, false, not, cond, eqb, List, [], ◌∷◌, ◌++◌, length, get_or, take, set, count_by, filter, Contains, All, refl, sym, ap, ap₂, ◌∙◌, subst, inl, inr, arith, ltb, lt-ltb, ltb-true, eq-eqb, ne_eqb, length-set, get_or-set_same, get_or-set_other}
+use Rattle.std.proofs.Common.{◌≡◌, ◌≢◌, ◌⊎◌, ◌↔◌, ◌&&◌, ℕ, ◌+◌, ◌-◌, ◌<◌, ◌≤◌, Bool, true, false, not, cond, eqb, List, [], ◌∷◌, length, get_or, take, set, count_by, Contains, All, refl, sym, ap, ap₂, ◌∙◌, subst, inl, inr, arith, ltb, lt-ltb, ltb-true, eq-eqb, ne_eqb, length-set, get_or-set_same, get_or-set_other}
 use Rattle.std.proofs.Common.{Result, Ok, Err, IfOk}
 use Rattle.std.proofs.lemmas.Bool.{cases_eq, cases_lt, cases_Bool, true≢false, false≢true, and_parts, and_from, and_right, not-true}
 use Rattle.std.proofs.lemmas.List.{get_or_past, get_or_default, take_more, length-take-le, get_or-take}
 use Rattle.std.proofs.lemmas.List.Sums.{sum_by-cons, count_by-le-length}
-use Rattle.std.proofs.lemmas.List.Elements.{All-append, All-cons, All-filter, All-nil, Contains-append_left, Contains-append_right, Contains-append_cases, Contains-get_or}
+use Rattle.std.proofs.lemmas.List.Elements.{Contains-append_left, Contains-append_right, Contains-append_cases, Contains-get_or}
 use Rattle.map_lists.specs.Lists.{Lists}
 use Rattle.map_theory.specs.Maps.{IsSimpleMap, list_of}
 use Rattle.map_theory.proofs.DartCounts.{length-le-below}
-use Rattle.map_theory.proofs.EntryLemmas.{count_of, count_of-le-one, Contains-from_count_of, Contains-counted, Contains-here, Contains-filter}
+use Rattle.map_theory.proofs.EntryLemmas.{count_of, count_of-le-one, Contains-from_count_of, Contains-counted, Contains-here}
 use Rattle.plane_peeling.specs.Restricted.{kept_but}
 use Rattle.plane_peeling.proofs.RestrictedMaps.{cases_Contains, restricted-old, restricted-new, kept_but-itself}
 use Rattle.plane_peeling.proofs.Rings.{each_of_one, each_of_three}
 use Rattle.canon_order.specs.Marks.{is_set, kept_of, IsTally, IsUnmarked, IsNoted, IsTaken}
 use Rattle.canon_order.specs.Lefts.{IsCycleAfter}
 
--- two facts on a success make a third
-pub IfOk-of_two : {T E : Type 0} (r : Result T E) (P Q R : T → Type 0) → ((x : T) → P x → Q x → R x) → IfOk r P → IfOk r Q → IfOk r R
-IfOk-of_two (Ok x) P Q R f p q = f x p q
-IfOk-of_two (Err e) P Q R f p q = tt
+-- four facts on a success make a fifth
+pub IfOk-of_noted : {T E : Type 0} (r : Result T E) (P Q R S U : T → Type 0) → ((x : T) → P x → Q x → R x → S x → U x) → IfOk r P → IfOk r Q → IfOk r R → IfOk r S → IfOk r U
+IfOk-of_noted (Ok x) P Q R S U f p q r s = f x p q r s
+IfOk-of_noted (Err e) P Q R S U f p q r s = tt
 
 -- a test that passes at one number more counts that number too
 count_by-more : (p q : ℕ → Bool) (v : ℕ) → p v ≡ false → q v ≡ true → ((u : ℕ) → u ≢ v → q u ≡ p u) → (us : List ℕ) → count_by q us ≡ count_by p us + count_of v us
@@ -143,43 +143,34 @@ module _ (lists : Lists) (simple : IsSimpleMap lists) where
       ]
 
 -- one mark
-pub IsNoted-marked : (lists : Lists) (simple : IsSimpleMap lists) (marked : List Bool) (near stack : List ℕ) (v : ℕ) (marked' : List Bool) (near' stack' : List ℕ) → v < length lists → All (λ u. u < length lists) stack → marked' ≡ set marked v true → stack' ≡ stack ++ v ∷ [] ++ filter (is_set marked') (list_of lists v) → IsTally lists marked' near' → ((u : ℕ) → ¬ Contains (list_of lists v) u → get_or near' u 0 ≡ get_or near u 0) → IsNoted lists marked near stack marked' near' stack'
-IsNoted-marked lists simple marked near stack v marked' near' stack' l vertices e e' tally elsewhere =
-    let us = filter (is_set marked') (list_of lists v) in
-    let P : ℕ → Type 0 = λ u. u < length lists in
-    record {
-      tally = tally;
-      vertices = subst (All P) (sym e') (All-append P (stack ++ v ∷ []) us (All-append P stack (v ∷ []) vertices (All-cons P v [] l (All-nil P))) (All-filter (is_set marked') P (list_of lists v) (list_within lists simple v l)));
-      kept = λ u c. subst (λ (s : List ℕ). Contains s u) (sym e') (Contains-append_left (stack ++ v ∷ []) us u (Contains-append_left stack (v ∷ []) u c));
-      noted = λ u on. elim (cases_Contains stack' u) [
-        | inl c ↦ inl c
-        | inr none ↦
-            let out : ¬ Contains (stack ++ v ∷ [] ++ us) u = λ c. none (subst (λ (s : List ℕ). Contains s u) (sym e') c) in
-            let ne : u ≢ v = λ q. out (Contains-append_left (stack ++ v ∷ []) us u (Contains-append_right stack (v ∷ []) u (subst (λ z. Contains (v ∷ []) z) (sym q) (Contains-here v [])))) in
-            inr (sym (ap (λ m. is_set m u) e ∙ is_set-other marked v u true ne) ∙ on, elsewhere u (λ c. out (Contains-append_right (stack ++ v ∷ []) us u (Contains-filter (is_set marked') (list_of lists v) u c on))))
-      ];
-    }
+pub IsNoted-marked : (lists : Lists) (marked : List Bool) (near stack : List ℕ) (v : ℕ) (marked' : List Bool) (near' stack' : List ℕ) → marked' ≡ set marked v true → IsTally lists marked' near' → ((u : ℕ) → ¬ Contains (list_of lists v) u → get_or near' u 0 ≡ get_or near u 0) → All (λ u. u < length lists) stack' → ((u : ℕ) → Contains stack u → Contains stack' u) → (get_or near' v 0 ≡ 2 → Contains stack' v) → ((u : ℕ) → Contains (list_of lists v) u → is_set marked' u ≡ true → get_or near' u 0 ≡ 2 → Contains stack' u) → IsNoted lists marked near stack marked' near' stack'
+IsNoted-marked lists marked near stack v marked' near' stack' e tally elsewhere vertices kept own neighbours = record {
+  tally = tally;
+  vertices = vertices;
+  kept = kept;
+  noted = λ u on two. elim (cases_eq u v) [
+    | inl q ↦ inl (subst (Contains stack') (sym q) (own (subst (λ z. get_or near' z 0 ≡ 2) q two)))
+    | inr ne ↦ elim (cases_Contains (list_of lists v) u) [
+      | inl c ↦ inl (neighbours u c on two)
+      | inr none ↦ inr (sym (ap (λ m. is_set m u) e ∙ is_set-other marked v u true ne) ∙ on, elsewhere u none)
+    ]
+  ];
+}
 
 -- one mark less
-pub IsNoted-unmarked : (lists : Lists) (simple : IsSimpleMap lists) (marked : List Bool) (near stack : List ℕ) (v : ℕ) (marked' : List Bool) (near' stack' : List ℕ) → v < length lists → length marked ≡ length lists → All (λ u. u < length lists) stack → marked' ≡ set marked v false → stack' ≡ stack ++ filter (is_set marked') (list_of lists v) → IsTally lists marked' near' → ((u : ℕ) → ¬ Contains (list_of lists v) u → get_or near' u 0 ≡ get_or near u 0) → IsNoted lists marked near stack marked' near' stack'
-IsNoted-unmarked lists simple marked near stack v marked' near' stack' l m vertices e e' tally elsewhere =
-    let us = filter (is_set marked') (list_of lists v) in
-    let P : ℕ → Type 0 = λ u. u < length lists in
-    record {
-      tally = tally;
-      vertices = subst (All P) (sym e') (All-append P stack us vertices (All-filter (is_set marked') P (list_of lists v) (list_within lists simple v l)));
-      kept = λ u c. subst (λ (s : List ℕ). Contains s u) (sym e') (Contains-append_left stack us u c);
-      noted = λ u on. elim (cases_Contains stack' u) [
-        | inl c ↦ inl c
-        | inr none ↦
-            let on' : is_set (set marked v false) u ≡ true = sym (ap (λ m. is_set m u) e) ∙ on in
-            let ne : u ≢ v = λ z. true≢false (sym on' ∙ (ap (is_set (set marked v false)) z ∙ is_set-here marked v false (omega arith))) in
-            inr (
-              sym (is_set-other marked v u false ne) ∙ on',
-              elsewhere u (λ c. none (subst (λ (s : List ℕ). Contains s u) (sym e') (Contains-append_right stack us u (Contains-filter (is_set marked') (list_of lists v) u c on)))),
-            )
-      ];
-    }
+pub IsNoted-unmarked : (lists : Lists) (marked : List Bool) (near stack : List ℕ) (v : ℕ) (marked' : List Bool) (near' stack' : List ℕ) → v < length marked → marked' ≡ set marked v false → IsTally lists marked' near' → ((u : ℕ) → ¬ Contains (list_of lists v) u → get_or near' u 0 ≡ get_or near u 0) → All (λ u. u < length lists) stack' → ((u : ℕ) → Contains stack u → Contains stack' u) → ((u : ℕ) → Contains (list_of lists v) u → is_set marked' u ≡ true → get_or near' u 0 ≡ 2 → Contains stack' u) → IsNoted lists marked near stack marked' near' stack'
+IsNoted-unmarked lists marked near stack v marked' near' stack' l e tally elsewhere vertices kept neighbours = record {
+  tally = tally;
+  vertices = vertices;
+  kept = kept;
+  noted = λ u on two. elim (cases_Contains (list_of lists v) u) [
+    | inl c ↦ inl (neighbours u c on two)
+    | inr none ↦
+        let on' : is_set (set marked v false) u ≡ true = sym (ap (λ m. is_set m u) e) ∙ on in
+        let ne : u ≢ v = λ z. true≢false (sym on' ∙ (ap (is_set (set marked v false)) z ∙ is_set-here marked v false l)) in
+        inr (sym (is_set-other marked v u false ne) ∙ on', elsewhere u none)
+  ];
+}
 
 -- one after another
 pub IsNoted-chained : (lists : Lists) (m0 : List Bool) (n0 s0 : List ℕ) (m1 : List Bool) (n1 s1 : List ℕ) (m2 : List Bool) (n2 s2 : List ℕ) → IsNoted lists m0 n0 s0 m1 n1 s1 → IsNoted lists m1 n1 s1 m2 n2 s2 → IsNoted lists m0 n0 s0 m2 n2 s2
@@ -187,11 +178,23 @@ IsNoted-chained lists m0 n0 s0 m1 n1 s1 m2 n2 s2 one two = record {
   tally = two.tally;
   vertices = two.vertices;
   kept = λ u c. two.kept u (one.kept u c);
-  noted = λ u on. elim (two.noted u on) [
+  noted = λ u on counts. elim (two.noted u on counts) [
     | inl c ↦ inl c
-    | inr e ↦ elim (one.noted u e.0) [ inl c ↦ inl (two.kept u c) | inr e' ↦ inr (e'.0, e.1 ∙ e'.1) ]
+    | inr e ↦ elim (one.noted u e.0 (sym e.1 ∙ counts)) [ inl c ↦ inl (two.kept u c) | inr e' ↦ inr (e'.0, e.1 ∙ e'.1) ]
   ];
 }
+
+-- one more entry counted and noted
+pub noted-more : (marked : List Bool) (us near near' stack stack' : List ℕ) (i : ℕ) → i < length us → ((w : ℕ) → w ≢ get_or us i 0 → get_or near' w 0 ≡ get_or near w 0) → ((w : ℕ) → Contains stack w → Contains stack' w) → (is_set marked (get_or us i 0) ≡ true → get_or near' (get_or us i 0) 0 ≡ 2 → Contains stack' (get_or us i 0)) → ((w : ℕ) → Contains (take i us) w → is_set marked w ≡ true → get_or near w 0 ≡ 2 → Contains stack w) → (w : ℕ) → Contains (take (i + 1) us) w → is_set marked w ≡ true → get_or near' w 0 ≡ 2 → Contains stack' w
+noted-more marked us near near' stack stack' i l other kept own before w c on two =
+    let x = get_or us i 0 in
+    elim (cases_eq w x) [
+      | inl q ↦ subst (Contains stack') (sym q) (own (subst (λ z. is_set marked z ≡ true) q on) (subst (λ z. get_or near' z 0 ≡ 2) q two))
+      | inr ne ↦ elim (Contains-append_cases (take i us) (x ∷ []) w (subst (λ (vs : List ℕ). Contains vs w) (take_more us i 0 l) c)) [
+        | inl c' ↦ kept w (before w c' on (sym (other w ne) ∙ two))
+        | inr c' ↦ absurd (ne (each_of_one (λ z. z ≡ x) x refl w c'))
+      ]
+    ]
 
 -- one more of a list marked, if it passes
 pub marks-more : (p0 p1 p2 passes : ℕ → Type 0) (us : List ℕ) (i : ℕ) → i < length us → ((u : ℕ) → p1 u ↔ (p0 u ⊎ (Contains (take i us) u × passes u))) → ((u : ℕ) → p2 u ↔ (p1 u ⊎ ((u ≡ get_or us i 0) × passes u))) → (u : ℕ) → p2 u ↔ (p0 u ⊎ (Contains (take (i + 1) us) u × passes u))

@@ -24,12 +24,12 @@ pub record IsUnmarked (lists : Lists) (marks : List Bool) (counts : List ℕ) : 
   pub none : (v : ℕ) → is_set marks v ≡ false
   pub zeros : (v : ℕ) → v < length lists → slice_index counts v ≡ 0
 
--- The counts are right, and whatever is marked newly, or has another count than before, is on the stack, with all that was.
+-- The counts are right, and whatever is marked with a count of two, and was not, is on the stack, with all that was.
 pub record IsNoted (lists : Lists) (marked : List Bool) (near stack : List ℕ) (marked' : List Bool) (near' stack' : List ℕ) : Type 0 where
   pub tally : IsTally lists marked' near'
   pub vertices : All (λ v. v < length lists) stack'
   pub kept : (u : ℕ) → Contains stack u → Contains stack' u
-  pub noted : (u : ℕ) → is_set marked' u ≡ true → Contains stack' u ⊎ ((is_set marked u ≡ true) × (slice_index near' u ≡ slice_index near u))
+  pub noted : (u : ℕ) → is_set marked' u ≡ true → slice_index near' u ≡ 2 → Contains stack' u ⊎ ((is_set marked u ≡ true) × (slice_index near' u ≡ slice_index near u))
 
 -- v is taken off: it is gone and not marked, and its neighbours that are left are marked
 pub record IsTaken (lists : Lists) (v : ℕ) (marked gone marked' gone' : List Bool) : Type 0 where

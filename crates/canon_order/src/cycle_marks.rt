@@ -2,13 +2,13 @@
 //! cycle of what is left of a map, while vertices are taken off it one by one.
 //!
 //! `marked` says of each vertex whether it is on that cycle, `gone` whether it was taken off, and `near` counts its
-//! neighbours that are marked. What is marked newly, or is marked and has another count, is put on `stack`.
+//! neighbours that are marked. What is marked and comes to have two marked neighbours is put on `stack`.
 
 ghost use Rattle.std.specs.Prelude.{◌≡◌, ◌≢◌, ◌<◌, ◌⊎◌, ◌↔◌, ℕ, false, true, [], ◌∷◌, ◌++◌, length, slice_index, slice_set, filter, Contains, All, IfOk};
 ghost use Rattle.map_theory.specs.Maps.{IsSimpleMap, list_of};
 ghost use Rattle.canon_order.specs.Marks.{is_set, IsTally, IsUnmarked, IsNoted};
 
-use crate::lists::{lower_noting, raise, raise_noting};
+use crate::lists::{lower_noting, note, raise, raise_noting};
 use half_edges::Rotations;
 use std::alloc::AllocError;
 
@@ -53,7 +53,7 @@ pub fn mark_three(
     mark(marks, counts, lists, third);
 }
 
-// Marks a vertex that is not marked, and puts it and its marked neighbours on the stack.
+// Marks a vertex that is not marked, and notes it and its marked neighbours.
 fn mark_new(
     marked: &mut [bool],
     near: &mut [u16],
@@ -71,11 +71,11 @@ fn mark_new(
     ensures marks { marked.new ≡ slice_set marked.old v true }
 {
     marked[v as usize] = true;
-    stack.push(v)?;
+    note(near, stack, marked, v)?;
     raise_noting(near, stack, marked, lists.list(v as usize))
 }
 
-// Takes the mark of a vertex away, and puts its marked neighbours on the stack.
+// Takes the mark of a vertex away, and notes its marked neighbours.
 fn unmark_old(
     marked: &mut [bool],
     near: &mut [u16],
@@ -89,7 +89,7 @@ fn unmark_old(
     requires vertices { All (λ u. u < length lists.now) stack.old.items }
     requires marked { is_set marked.old v ≡ true }
     ensures noted { IfOk result (λ _. IsNoted lists.now marked.old near.old stack.old.items marked.new near.new stack.new.items) }
-    ensures neighbours { IfOk result (λ _. (u : ℕ) → Contains (list_of lists.now v) u → is_set marked.new u ≡ true → Contains stack.new.items u) }
+    ensures neighbours { IfOk result (λ _. (u : ℕ) → Contains (list_of lists.now v) u → is_set marked.new u ≡ true → slice_index near.new u ≡ 2 → Contains stack.new.items u) }
     ensures marks { marked.new ≡ slice_set marked.old v false }
 {
     marked[v as usize] = false;
@@ -162,7 +162,7 @@ pub fn leave_cycle(
     requires vertices { All (λ u. u < length lists.now) stack.old.items }
     requires marked { is_set marked.old v ≡ true }
     ensures noted { IfOk result (λ _. IsNoted lists.now marked.old near.old stack.old.items marked.new near.new stack.new.items) }
-    ensures neighbours { IfOk result (λ _. (u : ℕ) → Contains (list_of lists.now v) u → is_set marked.new u ≡ true → Contains stack.new.items u) }
+    ensures neighbours { IfOk result (λ _. (u : ℕ) → Contains (list_of lists.now v) u → is_set marked.new u ≡ true → slice_index near.new u ≡ 2 → Contains stack.new.items u) }
     ensures marks { IfOk result (λ _. (u : ℕ) → (is_set marked.new u ≡ true) ↔ ((is_set (slice_set marked.old v false) u ≡ true) ⊎ (Contains (list_of lists.now v) u × (is_set gone.now u ≡ false)))) }
 {
     unmark_old(marked, near, stack, lists, v)?;

@@ -12,7 +12,7 @@ mod order;
 
 pub use fault::OrderFault;
 pub use lists::push_three;
-pub use order::{Order, base_order, canon_order, list_order, turned_order};
+pub use order::{Order, Peeler, base_order, canon_order, list_order, turned_order};
 
 /// Each triangulation has a canonical order for each base dart.
 pub fn some_order()

@@ -1,5 +1,5 @@
 //! Counters of entries, and lists made of vectors.
-ghost use Rattle.std.specs.Prelude.{◌≡◌, ◌+◌, ◌<◌, ◌≤◌, ◌==◌, ℕ, [], ◌∷◌, ◌++◌, map, reverse, filter, length, slice_index, count_by, All, AllPairs, Contains, ◌≢◌, IfOk};
+ghost use Rattle.std.specs.Prelude.{◌≡◌, ◌+◌, ◌<◌, ◌≤◌, ◌==◌, ◌↔◌, ℕ, true, [], ◌∷◌, ◌++◌, map, reverse, length, slice_index, count_by, All, AllPairs, Contains, ◌≢◌, IsTrue, IfOk};
 ghost use Rattle.map_theory.specs.Maps.{entry_after};
 ghost use Rattle.canon_order.specs.Marks.{is_set};
 ghost use Rattle.canon_order.specs.Orders.{IsRankOf};
@@ -18,7 +18,36 @@ pub(crate) fn raise(counts: &mut [u16], entries: &[u16])
     }
 }
 
-// Adds one for each entry of a list, and puts those entries that are marked on a stack.
+// Whether a vertex is marked and counts two.
+fn counts_two(counts: &[u16], marked: &[bool], u: u16) -> bool
+    requires counts { u < length counts.now }
+    requires marks { u < length marked.now }
+    ensures { IsTrue result ↔ ((is_set marked.now u ≡ true) × (slice_index counts.now u ≡ 2)) }
+{
+    counts[u as usize] == 2 && marked[u as usize]
+}
+
+// Puts a vertex on a stack, if it is marked and counts two.
+pub(crate) fn note(
+    counts: &[u16],
+    stack: &mut Vec<u16>,
+    marked: &[bool],
+    u: u16,
+) -> Result<(), AllocError>
+    requires counts { u < length counts.now }
+    requires marks { u < length marked.now }
+    ensures kept { IfOk result (λ _. (w : ℕ) → Contains stack.old.items w → Contains stack.new.items w) }
+    ensures vertices { IfOk result (λ _. (n : ℕ) → u < n → All (λ w. w < n) stack.old.items → All (λ w. w < n) stack.new.items) }
+    ensures noted { IfOk result (λ _. is_set marked.now u ≡ true → slice_index counts.now u ≡ 2 → Contains stack.new.items u) }
+{
+    if counts_two(counts, marked, u) {
+        stack.push(u)?;
+        return Ok(());
+    }
+    Ok(())
+}
+
+// Adds one for each entry of a list, and puts those entries on a stack that are marked and count two then.
 pub(crate) fn raise_noting(
     counts: &mut [u16],
     stack: &mut Vec<u16>,
@@ -29,18 +58,19 @@ pub(crate) fn raise_noting(
     requires marks { All (λ u. u < length marked.now) entries.now }
     requires room { (w : ℕ) → slice_index counts.old w + count_by (λ u. u == w) entries.now < 65536 }
     ensures counts { IfOk result (λ _. (w : ℕ) → w < length counts.old → slice_index counts.new w ≡ slice_index counts.old w + count_by (λ u. u == w) entries.now) }
-    ensures stack { IfOk result (λ _. stack.new.items ≡ stack.old.items ++ filter (is_set marked.now) entries.now) }
+    ensures kept { IfOk result (λ _. (w : ℕ) → Contains stack.old.items w → Contains stack.new.items w) }
+    ensures vertices { IfOk result (λ _. (n : ℕ) → All (λ w. w < n) entries.now → All (λ w. w < n) stack.old.items → All (λ w. w < n) stack.new.items) }
+    ensures noted { IfOk result (λ _. (w : ℕ) → Contains entries.now w → is_set marked.now w ≡ true → slice_index counts.new w ≡ 2 → Contains stack.new.items w) }
 {
     for u in entries {
-        counts[*u as usize] += 1;
-        if marked[*u as usize] {
-            stack.push(*u)?;
-        }
+        let w = *u;
+        counts[w as usize] += 1;
+        note(counts, stack, marked, w)?;
     }
     Ok(())
 }
 
-// Takes one away for each entry of a list, and puts those entries that are marked on a stack.
+// Takes one away for each entry of a list, and puts those entries on a stack that are marked and count two then.
 pub(crate) fn lower_noting(
     counts: &mut [u16],
     stack: &mut Vec<u16>,
@@ -51,13 +81,14 @@ pub(crate) fn lower_noting(
     requires marks { All (λ u. u < length marked.now) entries.now }
     requires some { (w : ℕ) → w < length counts.old → count_by (λ u. u == w) entries.now ≤ slice_index counts.old w }
     ensures counts { IfOk result (λ _. (w : ℕ) → w < length counts.old → slice_index counts.new w + count_by (λ u. u == w) entries.now ≡ slice_index counts.old w) }
-    ensures stack { IfOk result (λ _. stack.new.items ≡ stack.old.items ++ filter (is_set marked.now) entries.now) }
+    ensures kept { IfOk result (λ _. (w : ℕ) → Contains stack.old.items w → Contains stack.new.items w) }
+    ensures vertices { IfOk result (λ _. (n : ℕ) → All (λ w. w < n) entries.now → All (λ w. w < n) stack.old.items → All (λ w. w < n) stack.new.items) }
+    ensures noted { IfOk result (λ _. (w : ℕ) → Contains entries.now w → is_set marked.now w ≡ true → slice_index counts.new w ≡ 2 → Contains stack.new.items w) }
 {
     for u in entries {
-        counts[*u as usize] -= 1;
-        if marked[*u as usize] {
-            stack.push(*u)?;
-        }
+        let w = *u;
+        counts[w as usize] -= 1;
+        note(counts, stack, marked, w)?;
     }
     Ok(())
 }

@@ -1,5 +1,5 @@
 //! Canonical orders.
-ghost use Rattle.std.specs.Prelude.{◌≡◌, ◌≢◌, ◌<◌, ℕ, false, true, [], ◌∷◌, ◌++◌, reverse, length, slice_index, All, AllPairs, Some, IfOk};
+ghost use Rattle.std.specs.Prelude.{◌≡◌, ◌≢◌, ◌<◌, ℕ, false, true, [], ◌∷◌, ◌++◌, reverse, length, slice_index, All, AllPairs, Some, replicate, OnOk, IfOk};
 ghost use Rattle.map_theory.specs.Maps.{HasDart, follows};
 ghost use Rattle.plane_laws.specs.Triangulations.{IsTriangulation};
 ghost use Rattle.half_edges.specs.Map.{IsLive, dart_at};
@@ -56,43 +56,6 @@ fn peel(
     push_three(taken, under, t, s)
 }
 
-// The vertices from the last one of an order to the first.
-fn taken_off(
-    alloc: Global,
-    lists: &Rotations,
-    t: u16,
-    s: u16,
-    third: u16,
-    under: u16,
-) -> Result<Vec<u16>, AllocError>
-    requires triangulation { IsTriangulation lists.now }
-    requires few { length lists.now < 4096 }
-    requires base { HasDart lists.now t s }
-    requires third { third ≡ follows lists.now s t }
-    requires under { under ≡ follows lists.now t s }
-    ensures { IfOk result (λ taken. IsCanonicalOrder lists.now (t, s) (reverse taken.items)) }
-{
-    let n = lists.len();
-    let mut marked = vec![in alloc; false; n]?;
-    let mut near = vec![in alloc; 0; n]?;
-    let mut gone = vec![in alloc; false; n]?;
-    let mut stack = Vec::with_capacity(alloc, lists.total())?;
-    let mut taken = Vec::with_capacity(alloc, n)?;
-    peel(
-        &mut marked,
-        &mut near,
-        &mut gone,
-        &mut stack,
-        &mut taken,
-        lists,
-        t,
-        s,
-        third,
-        under,
-    )?;
-    Ok(taken)
-}
-
 /// The order of these vertices, which are given from the last one to the first. It fails only for want of memory.
 pub fn turned_order(alloc: Global, taken: &[u16]) -> Result<Order, AllocError>
     requires few { length taken.now < 4096 }
@@ -104,6 +67,148 @@ pub fn turned_order(alloc: Global, taken: &[u16]) -> Result<Order, AllocError>
     let at = turned_vertices(alloc, taken)?;
     let rank = turned_ranks(alloc, taken)?;
     Ok(Order { at, rank })
+}
+
+/// Orders triangulations, one after another, and keeps its memory for the next: a few bytes for each vertex and each
+/// entry of the largest one so far.
+#[derive(Drop)]
+pub struct Peeler {
+    marked: Vec<bool>,
+    near: Vec<u16>,
+    gone: Vec<bool>,
+    stack: Vec<u16>,
+    taken: Vec<u16>,
+}
+
+impl Peeler {
+    /// A peeler that has ordered nothing yet. It takes no memory.
+    pub fn new(alloc: Global) -> Peeler {
+        Peeler {
+            marked: Vec::new(alloc),
+            near: Vec::new(alloc),
+            gone: Vec::new(alloc),
+            stack: Vec::new(alloc),
+            taken: Vec::new(alloc),
+        }
+    }
+
+    // All `n` vertices left and none marked, none taken off, and nothing on the stack.
+    fn clear(&mut self, n: usize, entries: usize) -> Result<(), AllocError>
+        ensures marked { OnOk result (self.new.marked.items ≡ replicate n false) }
+        ensures near { OnOk result (self.new.near.items ≡ replicate n 0) }
+        ensures gone { OnOk result (self.new.gone.items ≡ replicate n false) }
+        ensures stack { OnOk result (self.new.stack.items ≡ []) }
+        ensures taken { OnOk result (self.new.taken.items ≡ []) }
+    {
+        self.marked.clear();
+        self.marked.resize(n, false)?;
+        self.near.clear();
+        self.near.resize(n, 0)?;
+        self.gone.clear();
+        self.gone.resize(n, false)?;
+        self.stack.clear();
+        self.stack.reserve(entries)?;
+        self.taken.clear();
+        self.taken.reserve(n)?;
+        Ok(())
+    }
+
+    // Takes the vertices off, from the last one of an order to the first.
+    fn take(
+        &mut self,
+        lists: &Rotations,
+        t: u16,
+        s: u16,
+        third: u16,
+        under: u16,
+    ) -> Result<(), AllocError>
+        requires triangulation { IsTriangulation lists.now }
+        requires few { length lists.now < 4096 }
+        requires base { HasDart lists.now t s }
+        requires third { third ≡ follows lists.now s t }
+        requires under { under ≡ follows lists.now t s }
+        ensures { IfOk result (λ _. IsCanonicalOrder lists.now (t, s) (reverse self.new.taken.items)) }
+    {
+        self.clear(lists.len(), lists.total())?;
+        peel(
+            &mut self.marked,
+            &mut self.near,
+            &mut self.gone,
+            &mut self.stack,
+            &mut self.taken,
+            lists,
+            t,
+            s,
+            third,
+            under,
+        )
+    }
+
+    // The order of a triangulation for the base from `t` to `s`, whose faces have these third vertices.
+    fn order(
+        &mut self,
+        alloc: Global,
+        lists: &Rotations,
+        t: u16,
+        s: u16,
+        third: u16,
+        under: u16,
+    ) -> Result<Order, AllocError>
+        requires triangulation { IsTriangulation lists.now }
+        requires few { length lists.now < 4096 }
+        requires base { HasDart lists.now t s }
+        requires third { third ≡ follows lists.now s t }
+        requires under { under ≡ follows lists.now t s }
+        ensures order { IfOk result (λ order. IsCanonicalOrder lists.now (t, s) (vertices_of order)) }
+        ensures rank { IfOk result (λ order. IsRankOf order.rank (vertices_of order)) }
+    {
+        self.take(lists, t, s, third, under)?;
+        let order = turned_order(alloc, &self.taken)?;
+        Ok(order)
+    }
+
+    /// Orders as [`list_order`] does.
+    pub fn list_order(
+        &mut self,
+        alloc: Global,
+        tri: &HalfMap,
+        lists: &Rotations,
+        base: DartId,
+    ) -> Result<Order, AllocError>
+        requires triangulation { IsTriangulation tri.now.lists }
+        requires lists { lists.now ≡ tri.now.lists }
+        requires live { IsLive tri.now base.0 }
+        ensures order { IfOk result (λ order. (t s : ℕ) → dart_at tri.now base.0 ≡ Some (t, s) → IsCanonicalOrder tri.now.lists (t, s) (vertices_of order)) }
+        ensures rank { IfOk result (λ order. IsRankOf order.rank (vertices_of order)) }
+    {
+        tri.facts();
+        let t = tri.tail(base).0;
+        let s = tri.head(base).0;
+        let third = tri.head(tri.face_step(base)).0;
+        let under = tri.head(tri.face_step(tri.twin(base))).0;
+        let order = self.order(alloc, lists, t, s, third, under)?;
+        Ok(order)
+    }
+
+    /// Orders as [`base_order`] does.
+    pub fn base_order(
+        &mut self,
+        alloc: Global,
+        lists: &Rotations,
+        t: u16,
+        s: u16,
+    ) -> Result<Order, AllocError>
+        requires triangulation { IsTriangulation lists.now }
+        requires few { length lists.now < 4096 }
+        requires base { HasDart lists.now t s }
+        ensures order { IfOk result (λ order. IsCanonicalOrder lists.now (t, s) (vertices_of order)) }
+        ensures rank { IfOk result (λ order. IsRankOf order.rank (vertices_of order)) }
+    {
+        let third = entry_behind(lists.list(s as usize), t);
+        let under = entry_behind(lists.list(t as usize), s);
+        let order = self.order(alloc, lists, t, s, third, under)?;
+        Ok(order)
+    }
 }
 
 /// A canonical order of a triangulation, a simple map of genus zero with n >= 3 and m = 3n - 6, for a base
@@ -144,13 +249,8 @@ pub fn list_order(
     ensures order { IfOk result (λ order. (t s : ℕ) → dart_at tri.now base.0 ≡ Some (t, s) → IsCanonicalOrder tri.now.lists (t, s) (vertices_of order)) }
     ensures rank { IfOk result (λ order. IsRankOf order.rank (vertices_of order)) }
 {
-    tri.facts();
-    let t = tri.tail(base).0;
-    let s = tri.head(base).0;
-    let third = tri.head(tri.face_step(base)).0;
-    let under = tri.head(tri.face_step(tri.twin(base))).0;
-    let taken = taken_off(alloc, lists, t, s, third, under)?;
-    let order = turned_order(alloc, &taken)?;
+    let mut peeler = Peeler::new(alloc);
+    let order = peeler.list_order(alloc, tri, lists, base)?;
     Ok(order)
 }
 
@@ -163,9 +263,7 @@ pub fn base_order(alloc: Global, lists: &Rotations, t: u16, s: u16) -> Result<Or
     ensures order { IfOk result (λ order. IsCanonicalOrder lists.now (t, s) (vertices_of order)) }
     ensures rank { IfOk result (λ order. IsRankOf order.rank (vertices_of order)) }
 {
-    let third = entry_behind(lists.list(s as usize), t);
-    let under = entry_behind(lists.list(t as usize), s);
-    let taken = taken_off(alloc, lists, t, s, third, under)?;
-    let order = turned_order(alloc, &taken)?;
+    let mut peeler = Peeler::new(alloc);
+    let order = peeler.base_order(alloc, lists, t, s)?;
     Ok(order)
 }

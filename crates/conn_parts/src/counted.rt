@@ -6,12 +6,14 @@ ghost use Rattle.simple_maps.specs.MapFault.{Names};
 ghost use Rattle.refusals.specs.Conditions.{first_refusal, IfRefused};
 ghost use Rattle.conn_parts.specs.Counted.{IsCountOf, IsCountedMap, IsPlaneMap};
 
-use crate::{Parts, list_components};
+use crate::Parts;
+use crate::parts::numbered_parts;
 use euler_faces::{Counter, EulerCount, count_lists, euler_by_components};
-use half_edges::{HalfMap, Rotations};
+use half_edges::{HalfMap, MapMaker, Rotations};
 use refusals::{Refusal, Unserved};
 use simple_maps::{MapFault, no_fault_is_simple};
 use std::alloc::Global;
+use std::mem;
 
 /// A map with its components and its counts. An edit of the map leaves both as they were.
 #[derive(Drop)]
@@ -33,11 +35,70 @@ pub fn counted_map(alloc: Global, lists: &Rotations) -> Result<CountedMap, MapFa
     ensures simple { OnOk result (first_fault lists.now ≡ None) }
     ensures fault { IfErr result (Names (first_fault lists.now)) }
 {
-    let map = HalfMap::from_rotations(alloc, lists)?;
-    no_fault_is_simple();
-    let parts = list_components(alloc, lists)?;
-    let count = euler_by_components(alloc, &map, parts.count())?;
-    Ok(CountedMap { map, parts, count })
+    let mut maker = CountedMaker::new(alloc);
+    maker.counted_map(lists)
+}
+
+/// Makes maps with their counts, one after another, in the memory of those that are done with.
+#[derive(Drop)]
+pub struct CountedMaker {
+    alloc: Global,
+    maps: MapMaker,
+    parts: Parts,
+    queue: Vec<u16>,
+}
+
+impl CountedMaker {
+    /// A maker that has made nothing yet. It takes no memory.
+    pub fn new(alloc: Global) -> CountedMaker {
+        CountedMaker {
+            alloc,
+            maps: MapMaker::new(alloc),
+            parts: Parts::new(alloc),
+            queue: Vec::new(alloc),
+        }
+    }
+
+    /// The map with these lists, its components and its counts, as `counted_map` has them. After `NoMemory` the maker
+    /// serves as before.
+    pub fn counted_map(&mut self, lists: &Rotations) -> Result<CountedMap, MapFault>
+        requires some_list { 0 < length lists.now }
+        requires few_lists { length lists.now < 4096 }
+        ensures counted { IfOk result (IsCountedMap lists.now) }
+        ensures simple { OnOk result (first_fault lists.now ≡ None) }
+        ensures fault { IfErr result (Names (first_fault lists.now)) }
+    {
+        let map = self.maps.from_rotations(lists)?;
+        no_fault_is_simple();
+        let spent = mem::replace(&mut self.parts, Parts::new(self.alloc));
+        let parts = numbered_parts(lists, spent, &mut self.queue)?;
+        let count = euler_by_components(self.alloc, &map, parts.count())?;
+        Ok(CountedMap { map, parts, count })
+    }
+
+    /// The map of a record, as `plane_map` has it. After `NoMemory` the maker serves as before.
+    pub fn plane_map(&mut self, lists: &Rotations, least: u16) -> Result<CountedMap, Unserved>
+        requires some_list { 0 < length lists.now }
+        requires few_lists { length lists.now < 4096 }
+        ensures plane { IfOk result (IsPlaneMap least lists.now) }
+        ensures served { OnOk result (first_refusal least lists.now ≡ None) }
+        ensures refused { IfErr result (IfRefused (λ refusal. first_refusal least lists.now ≡ Some refusal)) }
+    {
+        refuse_dense(self.alloc, lists, least)?;
+        let counted = self.counted_map(lists)?;
+        refuse_counted(lists, counted.count, least)?;
+        Ok(counted)
+    }
+
+    /// Keeps the memory of a map that is done with.
+    pub fn keep_map(&mut self, map: HalfMap) {
+        self.maps.keep(map);
+    }
+
+    /// Keeps the memory of components that are done with.
+    pub fn keep_parts(&mut self, parts: Parts) {
+        self.parts = parts;
+    }
 }
 
 // Refuses lists that are a simple map by its counts: for too few vertices, or for its genus.
@@ -110,8 +171,6 @@ pub fn plane_map(alloc: Global, lists: &Rotations, least: u16) -> Result<Counted
     ensures served { OnOk result (first_refusal least lists.now ≡ None) }
     ensures refused { IfErr result (IfRefused (λ refusal. first_refusal least lists.now ≡ Some refusal)) }
 {
-    refuse_dense(alloc, lists, least)?;
-    let counted = counted_map(alloc, lists)?;
-    refuse_counted(lists, counted.count, least)?;
-    Ok(counted)
+    let mut maker = CountedMaker::new(alloc);
+    maker.plane_map(lists, least)
 }

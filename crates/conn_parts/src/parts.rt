@@ -28,6 +28,14 @@ impl Model for Parts {
 }
 
 impl Parts {
+    // The components of no vertices. It takes no memory.
+    pub(crate) fn new(alloc: Global) -> Parts {
+        Parts {
+            count: 0,
+            numbers: Vec::new(alloc),
+        }
+    }
+
     /// The number of components.
     pub fn count(&self) -> u16
         ensures { result ≡ self.now.count }
@@ -60,10 +68,25 @@ pub fn list_components(alloc: Global, lists: &Rotations) -> Result<Parts, AllocE
     requires few { length lists.now < 4096 }
     ensures { IfOk result (ArePartsOf lists.now) }
 {
-    let mut numbers = Vec::new(alloc);
-    numbers.resize(lists.len(), UNMET)?;
     let mut queue = Vec::new(alloc);
+    let parts = numbered_parts(lists, Parts::new(alloc), &mut queue)?;
+    Ok(parts)
+}
+
+// The components of lists, as `list_components` has them, in the memory of others that are done with.
+pub(crate) fn numbered_parts(
+    lists: &Rotations,
+    spent: Parts,
+    queue: &mut Vec<u16>,
+) -> Result<Parts, AllocError>
+    requires simple { IsSimpleMap lists.now }
+    requires few { length lists.now < 4096 }
+    ensures { IfOk result (ArePartsOf lists.now) }
+{
+    let mut numbers = spent.numbers;
+    numbers.clear();
+    numbers.resize(lists.len(), UNMET)?;
     queue.resize(lists.len(), 0)?;
-    let count = number_components(lists.entries(), lists.ends(), &mut numbers, &mut queue);
+    let count = number_components(lists.entries(), lists.ends(), &mut numbers, queue);
     Ok(Parts { count, numbers })
 }

@@ -6,41 +6,16 @@ ghost use Rattle.canon_order.specs.Orders.{IsCanonicalOrder, IsRankOf, vertices_
 ghost use Rattle.fpp_shift.specs.ShiftDrawings.{AreShiftPoints, IsShiftDrawing};
 
 use crate::fault::ShiftFault;
-use crate::offset_trees::{Offsets, sum_offsets};
-use crate::shift_trees::{list_tree, offset_tree};
+use crate::offset_trees::{Node, Offsets, SumMemory};
+use crate::shift_trees::list_tree;
 use canon_order::Order;
 use half_edges::{HalfMap, Rotations};
 use pg_io::Steps;
 use pg_plane::{GridFigure, Points};
 use std::alloc::{AllocError, Global};
 use std::marker::Brand;
+use std::mem;
 use std::sync::ledger::{Blank, Ledger};
-
-// The shift points of an order, by its tree of offsets, whose uses a new ledger counts.
-fn tree_points<L: Ledger>(
-    alloc: Global,
-    tri: &HalfMap,
-    order: &Order,
-    blank: Blank,
-) -> Result<Points, AllocError>
-    requires name { blank.name ≡ L.name }
-    requires parts { blank.parts ≡ L.parts }
-    requires some { 0 < blank.parts }
-    requires triangulation { IsTriangulation tri.now.lists }
-    requires order { (base : Dart) × IsCanonicalOrder tri.now.lists base (vertices_of order.now) }
-    requires rank { IsRankOf order.now.rank (vertices_of order.now) }
-    ensures { IfOk result (λ points. (base : Dart) (canonical : IsCanonicalOrder tri.now.lists base (vertices_of order.now))
-        → AreShiftPoints tri.now.lists base (vertices_of order.now) canonical.cycle points) }
-{
-    tri.facts();
-    order_drawings::order_runs::order_is_run();
-    crate::shift_trees::offset_tree_adds_up();
-    let mut steps: Steps<L> = Steps::new(blank);
-    let mut tree: Offsets<L> = Offsets::new(alloc, tri.n())?;
-    offset_tree(tri, order, &mut tree, &mut steps);
-    let points = sum_offsets(alloc, &tree, order.at.get(0), &mut steps)?;
-    Ok(points)
-}
 
 /// The drawing of a triangulation by the shift method, for a canonical order of it: a simple map of genus
 /// zero with n >= 3 vertices and 3n - 6 edges.
@@ -50,7 +25,7 @@ fn tree_points<L: Ledger>(
 /// drawn clockwise.
 ///
 /// It fails only for want of memory. The map and the order stay as they are. The time is linear in the
-/// vertices: [`offset_tree`] makes the tree of offsets of the order, and [`sum_offsets`] adds it up.
+/// vertices: a tree of offsets is made of the order, and added up.
 ///
 /// Source: de Fraysseix, Pach, Pollack, How to draw a planar graph on a grid, 1990; the offsets: Chrobak,
 /// Payne, A linear-time algorithm for drawing a planar graph on a grid, 1995.
@@ -66,40 +41,97 @@ pub fn shift_draw(alloc: Global, tri: &HalfMap, order: &Order) -> Result<GridFig
     ensures height { IfOk result (λ figure. figure.height ≡ pos (vertex_count tri.now.lists - 2)) }
 {
     tri.facts();
-    crate::shift_drawings::shift_points_draw();
-    let n = tri.n() as usize;
-    let points = tree_points::<Brand>(alloc, tri, order, Blank::new(1))?;
-    Ok(GridFigure {
-        points,
-        width: (2 * n - 4) as i32,
-        height: (n - 2) as i32,
-    })
+    let lists = tri.rotations(alloc)?;
+    let figure = list_draw(alloc, &lists, order)?;
+    Ok(figure)
 }
 
-// The shift points of an order, by the lists of the map and its tree of offsets, whose uses a new ledger counts.
-fn list_points<L: Ledger>(
+/// Draws by the shift method, one triangulation after another, and keeps its memory for the next: some bytes for each
+/// vertex of the largest one so far.
+#[derive(Drop)]
+pub struct Shifter {
     alloc: Global,
-    lists: &Rotations,
-    order: &Order,
-    blank: Blank,
-) -> Result<Points, AllocError>
-    requires name { blank.name ≡ L.name }
-    requires parts { blank.parts ≡ L.parts }
-    requires some { 0 < blank.parts }
-    requires triangulation { IsTriangulation lists.now }
-    requires few { length lists.now < 4096 }
-    requires order { (base : Dart) × IsCanonicalOrder lists.now base (vertices_of order.now) }
-    requires rank { IsRankOf order.now.rank (vertices_of order.now) }
-    ensures { IfOk result (λ points. (base : Dart) (canonical : IsCanonicalOrder lists.now base (vertices_of order.now))
-        → AreShiftPoints lists.now base (vertices_of order.now) canonical.cycle points) }
-{
-    order_drawings::order_runs::order_is_run();
-    crate::shift_trees::offset_tree_adds_up();
-    let mut steps: Steps<L> = Steps::new(blank);
-    let mut tree: Offsets<L> = Offsets::new(alloc, lists.len() as u16)?;
-    list_tree(lists, order, &mut tree, &mut steps);
-    let points = sum_offsets(alloc, &tree, order.at.get(0), &mut steps)?;
-    Ok(points)
+    nodes: Vec<Node>,
+    sums: SumMemory,
+}
+
+impl Shifter {
+    /// A shifter that has drawn nothing yet. It takes no memory.
+    pub fn new(alloc: Global) -> Shifter {
+        Shifter {
+            alloc,
+            nodes: Vec::new(alloc),
+            sums: SumMemory::new(alloc),
+        }
+    }
+
+    // A tree of `n` nodes, whatever they are, in the memory kept.
+    fn tree<L: Ledger>(&mut self, n: usize) -> Result<Offsets<L>, AllocError>
+        requires { n < 65536 }
+        ensures { IfOk result (λ tree. length tree ≡ n) }
+    {
+        let node = Node {
+            x: 0,
+            y: 0,
+            left: None,
+            right: None,
+        };
+        self.nodes.resize(n, node)?;
+        let nodes = mem::replace(&mut self.nodes, Vec::new(self.alloc));
+        Ok(Offsets::from_nodes(nodes))
+    }
+
+    // The shift points of an order, by the lists of the map and its tree of offsets, whose uses a new ledger counts.
+    fn points<L: Ledger>(
+        &mut self,
+        lists: &Rotations,
+        order: &Order,
+        blank: Blank,
+    ) -> Result<Points, AllocError>
+        requires name { blank.name ≡ L.name }
+        requires parts { blank.parts ≡ L.parts }
+        requires some { 0 < blank.parts }
+        requires triangulation { IsTriangulation lists.now }
+        requires few { length lists.now < 4096 }
+        requires order { (base : Dart) × IsCanonicalOrder lists.now base (vertices_of order.now) }
+        requires rank { IsRankOf order.now.rank (vertices_of order.now) }
+        ensures { IfOk result (λ points. (base : Dart) (canonical : IsCanonicalOrder lists.now base (vertices_of order.now))
+            → AreShiftPoints lists.now base (vertices_of order.now) canonical.cycle points) }
+    {
+        order_drawings::order_runs::order_is_run();
+        crate::shift_trees::offset_tree_adds_up();
+        let mut steps: Steps<L> = Steps::new(blank);
+        let mut tree: Offsets<L> = self.tree(lists.len())?;
+        list_tree(lists, order, &mut tree, &mut steps);
+        let points = self
+            .sums
+            .sum_offsets(self.alloc, &tree, order.at.get(0), &mut steps)?;
+        self.nodes = tree.into_nodes();
+        Ok(points)
+    }
+
+    /// Draws as [`list_draw`] does. After want of memory the shifter serves as before.
+    pub fn list_draw(&mut self, lists: &Rotations, order: &Order) -> Result<GridFigure, AllocError>
+        requires triangulation { IsTriangulation lists.now }
+        requires few { length lists.now < 4096 }
+        requires order { (base : Dart) × IsCanonicalOrder lists.now base (vertices_of order.now) }
+        requires rank { IsRankOf order.now.rank (vertices_of order.now) }
+        ensures points { IfOk result (λ figure. (base : Dart) (canonical : IsCanonicalOrder lists.now base (vertices_of order.now))
+            → AreShiftPoints lists.now base (vertices_of order.now) canonical.cycle figure.points) }
+        ensures drawing { IfOk result (λ figure. (base : Dart) → HasDart lists.now base.0 base.1 → IsCanonicalOrder lists.now base (vertices_of order.now)
+            → IsShiftDrawing lists.now base figure.points) }
+        ensures width { IfOk result (λ figure. figure.width ≡ pos (2 * vertex_count lists.now - 4)) }
+        ensures height { IfOk result (λ figure. figure.height ≡ pos (vertex_count lists.now - 2)) }
+    {
+        crate::shift_drawings::shift_points_draw();
+        let count = lists.len();
+        let points = self.points::<Brand>(lists, order, Blank::new(1))?;
+        Ok(GridFigure {
+            points,
+            width: (2 * count - 4) as i32,
+            height: (count - 2) as i32,
+        })
+    }
 }
 
 /// Draws a triangulation as `shift_draw` does, by its lists, which are at most 4095.
@@ -115,12 +147,7 @@ pub fn list_draw(alloc: Global, lists: &Rotations, order: &Order) -> Result<Grid
     ensures width { IfOk result (λ figure. figure.width ≡ pos (2 * vertex_count lists.now - 4)) }
     ensures height { IfOk result (λ figure. figure.height ≡ pos (vertex_count lists.now - 2)) }
 {
-    crate::shift_drawings::shift_points_draw();
-    let count = lists.len();
-    let points = list_points::<Brand>(alloc, lists, order, Blank::new(1))?;
-    Ok(GridFigure {
-        points,
-        width: (2 * count - 4) as i32,
-        height: (count - 2) as i32,
-    })
+    let mut shifter = Shifter::new(alloc);
+    let figure = shifter.list_draw(lists, order)?;
+    Ok(figure)
 }

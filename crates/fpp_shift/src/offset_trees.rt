@@ -10,6 +10,7 @@ mod writes;
 
 pub use grow::{begin_tree, put_over};
 pub use nodes::{Node, Offsets};
+pub(crate) use sums::SumMemory;
 pub use sums::sum_offsets;
 
 /// Two nodes of which the first leads to the second are the tree of a run of no steps.

@@ -4,26 +4,31 @@ ghost use Rattle.refusals.specs.Conditions.{first_refusal, IfRefused};
 ghost use Rattle.grid_figures.specs.ShiftFiguresFigures.{IsShiftFigure};
 ghost use Rattle.grid_figures.specs.SchnyderFiguresFigures.{IsSchnyderFigure};
 
+use crate::drawing_orders::Tools;
+use crate::schnyder_grid::WoodDrawer;
 use crate::{schnyder_figures, shift_figures};
-use euler_faces::Counter;
+use fpp_shift::Shifter;
 use half_edges::Rotations;
 use pg_plane::GridFigure;
 use refusals::Unserved;
 use std::alloc::Global;
 
-/// Draws records, one after another, and keeps memory for the next: that of its counts.
+/// Draws records, one after another, and keeps its memory for the next: that of counts, maps, orders and tables, as much
+/// as the largest record so far took.
 #[derive(Drop)]
 pub struct Drawer {
-    alloc: Global,
-    counter: Counter,
+    tools: Tools,
+    shifter: Shifter,
+    woods: WoodDrawer,
 }
 
 impl Drawer {
     /// A drawer that has drawn nothing yet. It takes no memory.
     pub fn new(alloc: Global) -> Drawer {
         Drawer {
-            alloc,
-            counter: Counter::new(alloc),
+            tools: Tools::new(alloc),
+            shifter: Shifter::new(alloc),
+            woods: WoodDrawer::new(alloc),
         }
     }
 
@@ -36,7 +41,7 @@ impl Drawer {
         ensures served { OnOk result (first_refusal 3 lists.now ≡ None) }
         ensures refused { IfErr result (IfRefused (λ refusal. first_refusal 3 lists.now ≡ Some refusal)) }
     {
-        shift_figures::counted_figure(self.alloc, &mut self.counter, lists)
+        shift_figures::drawn_record(&mut self.tools, &mut self.shifter, lists)
     }
 
     /// The figure of a record by Schnyder's coordinates, as `schnyder_figure` has it. After `NoMemory` the drawer
@@ -48,6 +53,6 @@ impl Drawer {
         ensures served { OnOk result (first_refusal 3 lists.now ≡ None) }
         ensures refused { IfErr result (IfRefused (λ refusal. first_refusal 3 lists.now ≡ Some refusal)) }
     {
-        schnyder_figures::counted_figure(self.alloc, &mut self.counter, lists)
+        schnyder_figures::drawn_record(&mut self.tools, &mut self.woods, lists)
     }
 }

@@ -5,7 +5,7 @@ ghost use Rattle.grid_figures.specs.ShiftFiguresLaws.{SomeShiftFigure};
 
 mod draw;
 
-pub(crate) use draw::counted_figure;
+pub(crate) use draw::drawn_record;
 pub use draw::shift_figure;
 
 /// Each simple map of genus zero with at least three vertices has a figure.

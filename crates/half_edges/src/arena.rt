@@ -10,7 +10,7 @@ ghost use Rattle.simple_maps.specs.Pass.{AreInLine};
 
 use map_lists::Rotations;
 use simple_maps::DartSlot;
-use std::alloc::{AllocError, Global};
+use std::alloc::AllocError;
 
 // The record of a dart: its twin, the next and the previous dart round its tail, and its tail. A record
 // that is free is not live: its twin is free too, its `next` is a dart of the free edge behind it, and
@@ -59,10 +59,11 @@ pub(crate) fn push_heads(
     requires { IsWalkable darts.now first degree }
     ensures { OnOk result (entries.new.items ≡ entries.old.items ++ walk darts.now first degree) }
 {
+    entries.reserve(degree as usize)?;
     let mut d = first;
     for k in 0..degree {
         let record = darts[d as usize];
-        entries.push(darts[record.twin as usize].tail)?;
+        entries.push_reserved(darts[record.twin as usize].tail);
         d = record.next;
     }
     Ok(())
@@ -100,21 +101,22 @@ fn close_round(darts: &mut [DartRecord], start: u32, end: u32)
 }
 
 // Closes the rounds of all vertices, where the darts of each vertex end at the place that `ends` says,
-// and makes the records of the vertices.
+// and makes `vertices` the records of the vertices.
 fn close_rounds(
-    alloc: Global,
     ends: &[usize],
     darts: &mut [DartRecord],
-) -> Result<Vec<VertexRecord>, AllocError>
+    vertices: &mut Vec<VertexRecord>,
+) -> Result<(), AllocError>
     requires cuts { AreCuts 0 ends.now (length darts.old) }
     requires few { length darts.old < 16777216 }
     requires line { (d : ℕ) → d < length darts.old → IsInLine (record_at darts.old d) d }
     requires few_vertices { length ends.now < 4096 }
     requires short { (v : ℕ) → v < length ends.now → slice_index ends.now v - slice_index_or (0 ∷ ends.now) v 0 < 65536 }
     ensures rounds { OnOk result (AreRounds ends.now darts.old darts.new (length ends.now)) }
-    ensures vertices { IfOk result (λ vertices. AreRoundVertices ends.now vertices.items (length ends.now)) }
+    ensures vertices { OnOk result (AreRoundVertices ends.now vertices.new.items (length ends.now)) }
 {
-    let mut vertices = Vec::with_capacity(alloc, ends.len())?;
+    vertices.clear();
+    vertices.reserve(ends.len())?;
     let mut start = 0;
     for v in 0..ends.len() {
         let end = ends[v];
@@ -125,23 +127,23 @@ fn close_rounds(
         })?;
         start = end;
     }
-    Ok(vertices)
+    Ok(())
 }
 
-// Links the darts of lists, whose tails and twins are known and which stand in line, and makes the
+// Links the darts of lists, whose tails and twins are known and which stand in line, and makes `vertices` the
 // records of the vertices.
 pub(crate) fn link_darts(
-    alloc: Global,
     lists: &Rotations,
     darts: &mut Vec<DartRecord>,
-) -> Result<Vec<VertexRecord>, AllocError>
+    vertices: &mut Vec<VertexRecord>,
+) -> Result<(), AllocError>
     requires few_lists { length lists.now < 4096 }
     requires slots { AreSlots lists.now (map (λ r. r.tail) darts.old.items) (map (λ r. r.twin) darts.old.items) }
     requires line { AreInLine IsInLine darts.old.items (length darts.old.items) }
-    ensures { IfOk result (λ vertices. AreLinked lists.now darts.new.items vertices.items) }
+    ensures { OnOk result (AreLinked lists.now darts.new.items vertices.new.items) }
 {
-    let vertices = close_rounds(alloc, lists.ends(), darts)?;
-    Ok(vertices)
+    close_rounds(lists.ends(), darts, vertices)?;
+    Ok(())
 }
 
 // Puts a dart from `tail` between two, which are itself where it is the only one.

@@ -174,11 +174,7 @@ fn put(darts: &mut [DartRecord], vertices: &mut [VertexRecord], d: u32, corner: 
         Corner::After(e) => {
             let before = darts[e.0 as usize];
             splice(darts, d, e.0, before.next, before.tail);
-            let vertex = vertices[before.tail as usize];
-            vertices[before.tail as usize] = VertexRecord {
-                first: vertex.first,
-                degree: vertex.degree + 1,
-            };
+            vertices[before.tail as usize].degree += 1;
         }
         Corner::Only(v) => {
             splice(darts, d, d, d, v.0);

@@ -10,6 +10,7 @@ use map_lists::{DartId, Rotations, VertexId};
 use simple_maps::{MapFault, fill_slots};
 use std::alloc::{AllocError, Global};
 use std::marker::Model;
+use std::mem;
 
 /// A simple map as half-edges.
 ///
@@ -39,6 +40,69 @@ impl Model for HalfMap {
     ghost invariant = { λ m. IsArena (arena_lists m.darts.items m.vertices.items) m.darts.items m.vertices.items m.edges m.free m.spare };
 }
 
+/// Makes maps, one after another, in the memory of maps that are done with.
+#[derive(Drop)]
+pub struct MapMaker {
+    alloc: Global,
+    tails: Vec<u16>,
+    twins: Vec<u32>,
+    threads: Vec<u32>,
+    darts: Vec<DartRecord>,
+    vertices: Vec<VertexRecord>,
+}
+
+impl MapMaker {
+    /// A maker that has made nothing yet. It takes no memory.
+    pub fn new(alloc: Global) -> MapMaker {
+        MapMaker {
+            alloc,
+            tails: Vec::new(alloc),
+            twins: Vec::new(alloc),
+            threads: Vec::new(alloc),
+            darts: Vec::new(alloc),
+            vertices: Vec::new(alloc),
+        }
+    }
+
+    /// The map with these lists, or their first fault, as `HalfMap::from_rotations` has it. After `NoMemory` the maker
+    /// serves as before.
+    pub fn from_rotations(&mut self, lists: &Rotations) -> Result<HalfMap, MapFault>
+        requires some_list { 0 < length lists.now }
+        requires few_lists { length lists.now < 4096 }
+        ensures lists { IfOk result (λ map. map.lists ≡ lists.now) }
+        ensures spare { IfOk result (λ map. map.spare ≡ 0) }
+        ensures simple { IfOk result (λ map. first_fault lists.now ≡ None) }
+        ensures fault { IfErr result (Names (first_fault lists.now)) }
+        ensures known { IfOk result IsHalfMap }
+    {
+        fill_slots(
+            self.alloc,
+            lists,
+            &mut self.tails,
+            &mut self.twins,
+            &mut self.threads,
+            &mut self.darts,
+        )?;
+        link_darts(lists, &mut self.darts, &mut self.vertices)?;
+        let edges = (self.darts.len() / 2) as u32;
+        let darts = mem::replace(&mut self.darts, Vec::new(self.alloc));
+        let vertices = mem::replace(&mut self.vertices, Vec::new(self.alloc));
+        Ok(HalfMap {
+            darts,
+            vertices,
+            edges,
+            free: 0,
+            spare: 0,
+        })
+    }
+
+    /// Keeps the memory of a map that is done with.
+    pub fn keep(&mut self, map: HalfMap) {
+        self.darts = map.darts;
+        self.vertices = map.vertices;
+    }
+}
+
 impl HalfMap {
     /// The map with these lists, which are from 1 to 4095, or the first fault of the lists.
     ///
@@ -53,18 +117,8 @@ impl HalfMap {
         ensures fault { IfErr result (Names (first_fault lists.now)) }
         ensures known { IfOk result IsHalfMap }
     {
-        let mut darts = Vec::new(alloc);
-        let mut threads = Vec::new(alloc);
-        fill_slots(alloc, lists, &mut darts, &mut threads)?;
-        let vertices = link_darts(alloc, lists, &mut darts)?;
-        let edges = (darts.len() / 2) as u32;
-        Ok(HalfMap {
-            darts,
-            vertices,
-            edges,
-            free: 0,
-            spare: 0,
-        })
+        let mut maker = MapMaker::new(alloc);
+        maker.from_rotations(lists)
     }
 
     /// Does nothing. By its contract a proof learns what holds of every half-edge map.
@@ -196,8 +250,19 @@ impl HalfMap {
     pub fn rotations(&self, alloc: Global) -> Result<Rotations, AllocError>
         ensures { IfOk result (λ lists. lists ≡ self.now.lists) }
     {
-        let mut entries = Vec::with_capacity(alloc, 2 * self.edges as usize)?;
-        let mut ends = Vec::with_capacity(alloc, self.vertices.len())?;
+        let lists = self.read_into(Rotations::new(alloc))?;
+        Ok(lists)
+    }
+
+    /// The lists, as `rotations` has them, in the memory of others that are done with.
+    pub fn read_into(&self, spent: Rotations) -> Result<Rotations, AllocError>
+        ensures { IfOk result (λ lists. lists ≡ self.now.lists) }
+    {
+        let (mut entries, mut ends) = spent.into_parts();
+        entries.clear();
+        entries.reserve(2 * self.edges as usize)?;
+        ends.clear();
+        ends.reserve(self.vertices.len())?;
         for vertex in &self.vertices {
             push_heads(&mut entries, &self.darts, vertex.first, vertex.degree)?;
             ends.push(entries.len())?;

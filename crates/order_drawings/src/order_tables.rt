@@ -7,7 +7,7 @@ mod points;
 mod rows;
 
 pub use points::points_at;
-pub use rows::{list_rows, order_rows};
+pub use rows::{list_rows, order_rows, rows_into};
 
 /// The ranks of an order are places of it.
 pub fn ranks_are_places()

@@ -8,7 +8,7 @@ ghost use Rattle.map_theory.specs.Maps.{vertex_count, edge_count, twin_dart, fac
 ghost use Rattle.simple_maps.specs.Faults.{first_fault};
 ghost use Rattle.simple_maps.specs.MapFault.{Names};
 
-use half_edges::{Corner, HalfMap, MapFault};
+use half_edges::{Corner, HalfMap, MapFault, MapMaker};
 use map_lists::{DartId, Ends, Rotations, VertexId};
 use std::alloc::{AllocError, Global};
 
@@ -203,4 +203,24 @@ pub fn remove_edge(map: &mut HalfMap, d: DartId) -> Ends
     ensures known { IsHalfMap map.new }
 {
     map.remove_edge(d)
+}
+
+/// Makes the map of `lists` in the memory of `maker`, or names their first fault.
+pub fn made_from_rotations(maker: &mut MapMaker, lists: &Rotations) -> Result<HalfMap, MapFault>
+    requires some_list { 0 < length lists.now }
+    requires few_lists { length lists.now < 4096 }
+    ensures lists { IfOk result (λ map. map.lists ≡ lists.now) }
+    ensures spare { IfOk result (λ map. map.spare ≡ 0) }
+    ensures simple { IfOk result (λ map. first_fault lists.now ≡ None) }
+    ensures fault { IfErr result (Names (first_fault lists.now)) }
+    ensures known { IfOk result IsHalfMap }
+{
+    maker.from_rotations(lists)
+}
+
+/// Returns the lists of `map`, in the memory of `spent`.
+pub fn read_into(map: &HalfMap, spent: Rotations) -> Result<Rotations, AllocError>
+    ensures { IfOk result (λ lists. lists ≡ map.now.lists) }
+{
+    map.read_into(spent)
 }

@@ -6,14 +6,14 @@ ghost use Rattle.graph_search.specs.Cuts.{IsCutVertex};
 ghost use Rattle.half_edges.specs.Map.{IsHalfMap, dart_at, IsLive};
 ghost use Rattle.map_gen.specs.Stacked.{stacked as stacked_lists};
 ghost use Rattle.map_lists.specs.Lists.{Lists};
-ghost use Rattle.map_theory.specs.Maps.{IsPlane, vertex_count, component_count};
+ghost use Rattle.map_theory.specs.Maps.{HasDart, IsPlane, vertex_count, component_count};
 ghost use Rattle.plane_laws.specs.MapEditsCompleted.{IsExtended};
 ghost use Rattle.plane_laws.specs.Triangulations.{IsTriangulation};
 ghost use Rattle.rect_orders.specs.Contours.{IsClosedOf};
 ghost use Rattle.rect_orders.specs.Orders.{IsRectOrder};
 ghost use Rattle.st_orders.specs.StOrders.{IsStOrderOf};
 
-use canon_order::{Order, OrderFault};
+use canon_order::{Order, OrderFault, Peeler};
 use half_edges::HalfMap;
 use map_lists::{Counts, DartId, Rotations};
 use rect_orders::rect_order::Frame;
@@ -87,4 +87,65 @@ pub fn stacked(alloc: Global, n: u16, number: u32) -> Result<Rotations, AllocErr
     ensures { IfOk result (λ lists. lists ≡ stacked_lists n number) }
 {
     map_gen::stacked(alloc, n, number)
+}
+
+/// Returns a canonical order of the triangulation with these `lists`, for the base from `t` to `s`.
+pub fn base_order(alloc: Global, lists: &Rotations, t: u16, s: u16) -> Result<Order, AllocError>
+    requires triangulation { IsTriangulation lists.now }
+    requires few { length lists.now < 4096 }
+    requires base { HasDart lists.now t s }
+    ensures order { IfOk result (λ order. IsCanonicalOrder lists.now (t, s) (vertices_of order)) }
+    ensures rank { IfOk result (λ order. IsRankOf order.rank (vertices_of order)) }
+{
+    canon_order::base_order(alloc, lists, t, s)
+}
+
+/// Returns a canonical order of `tri` for `base`, by the lists of `tri`.
+pub fn list_order(
+    alloc: Global,
+    tri: &HalfMap,
+    lists: &Rotations,
+    base: DartId,
+) -> Result<Order, AllocError>
+    requires triangulation { IsTriangulation tri.now.lists }
+    requires lists { lists.now ≡ tri.now.lists }
+    requires live { IsLive tri.now base.0 }
+    ensures order { IfOk result (λ order. (t s : ℕ) → dart_at tri.now base.0 ≡ Some (t, s) → IsCanonicalOrder tri.now.lists (t, s) (vertices_of order)) }
+    ensures rank { IfOk result (λ order. IsRankOf order.rank (vertices_of order)) }
+{
+    canon_order::list_order(alloc, tri, lists, base)
+}
+
+/// Returns a canonical order of the triangulation with these `lists`, in the memory of `peeler`.
+pub fn peeled_base_order(
+    peeler: &mut Peeler,
+    alloc: Global,
+    lists: &Rotations,
+    t: u16,
+    s: u16,
+) -> Result<Order, AllocError>
+    requires triangulation { IsTriangulation lists.now }
+    requires few { length lists.now < 4096 }
+    requires base { HasDart lists.now t s }
+    ensures order { IfOk result (λ order. IsCanonicalOrder lists.now (t, s) (vertices_of order)) }
+    ensures rank { IfOk result (λ order. IsRankOf order.rank (vertices_of order)) }
+{
+    peeler.base_order(alloc, lists, t, s)
+}
+
+/// Returns a canonical order of `tri` for `base`, by its lists and in the memory of `peeler`.
+pub fn peeled_list_order(
+    peeler: &mut Peeler,
+    alloc: Global,
+    tri: &HalfMap,
+    lists: &Rotations,
+    base: DartId,
+) -> Result<Order, AllocError>
+    requires triangulation { IsTriangulation tri.now.lists }
+    requires lists { lists.now ≡ tri.now.lists }
+    requires live { IsLive tri.now base.0 }
+    ensures order { IfOk result (λ order. (t s : ℕ) → dart_at tri.now base.0 ≡ Some (t, s) → IsCanonicalOrder tri.now.lists (t, s) (vertices_of order)) }
+    ensures rank { IfOk result (λ order. IsRankOf order.rank (vertices_of order)) }
+{
+    peeler.list_order(alloc, tri, lists, base)
 }

@@ -1,15 +1,15 @@
 //! Records as maps of a class, or the first condition that they break.
-ghost use Rattle.std.specs.Prelude.{◌≡◌, ◌<◌, ◌-◌, length, None, OnOk, IfOk, IfErr, Some};
+ghost use Rattle.std.specs.Prelude.{◌≡◌, ◌<◌, ◌≤◌, ◌-◌, length, None, OnOk, IfOk, IfErr, Some};
 ghost use Rattle.conn_parts.specs.BiconnectedMaps.{IsBiconnectedMap, BreaksFirst};
-ghost use Rattle.conn_parts.specs.Counted.{IsCountedMap, IsPlaneMap};
+ghost use Rattle.conn_parts.specs.Counted.{IsCountOf, IsCountedMap, IsPlaneMap};
 ghost use Rattle.grid_figures.specs.Orders.{IsDrawingOrder};
-ghost use Rattle.map_theory.specs.Maps.{vertex_count, edge_count, face_count, component_count};
+ghost use Rattle.map_theory.specs.Maps.{IsPlane, IsSimpleMap, vertex_count, edge_count, face_count, component_count};
 ghost use Rattle.refusals.specs.Conditions.{first_refusal, IfRefused};
 ghost use Rattle.simple_maps.specs.Faults.{first_fault};
 ghost use Rattle.simple_maps.specs.MapFault.{Names};
 
-use conn_parts::CountedMap;
-use euler_faces::EulerCount;
+use conn_parts::{CountedMaker, CountedMap};
+use euler_faces::{Counter, EulerCount};
 use grid_figures::drawing_orders::DrawingOrder;
 use half_edges::{HalfMap, MapFault};
 use map_lists::Rotations;
@@ -72,4 +72,48 @@ pub fn drawing_order(alloc: Global, lists: &Rotations) -> Result<DrawingOrder, U
     ensures refused { IfErr result (IfRefused (λ refusal. first_refusal 3 lists.now ≡ Some refusal)) }
 {
     grid_figures::drawing_orders::drawing_order(alloc, lists)
+}
+
+/// Counts the map of genus zero of `lists` with `least` vertices or more, or names the first condition that they break.
+pub fn plane_count(
+    counter: &mut Counter,
+    lists: &Rotations,
+    least: u16,
+) -> Result<EulerCount, Unserved>
+    requires some_list { 0 < length lists.now }
+    requires few_lists { length lists.now < 4096 }
+    ensures simple { OnOk result (IsSimpleMap lists.now) }
+    ensures some { OnOk result (least ≤ vertex_count lists.now) }
+    ensures plane { OnOk result (IsPlane lists.now) }
+    ensures count { IfOk result (IsCountOf lists.now) }
+    ensures served { OnOk result (first_refusal least lists.now ≡ None) }
+    ensures refused { IfErr result (IfRefused (λ refusal. first_refusal least lists.now ≡ Some refusal)) }
+{
+    conn_parts::plane_count(counter, lists, least)
+}
+
+/// Makes the map of `lists` with its counts in the memory of `maker`, or names their first fault.
+pub fn made_counted_map(maker: &mut CountedMaker, lists: &Rotations) -> Result<CountedMap, MapFault>
+    requires some_list { 0 < length lists.now }
+    requires few_lists { length lists.now < 4096 }
+    ensures counted { IfOk result (IsCountedMap lists.now) }
+    ensures simple { OnOk result (first_fault lists.now ≡ None) }
+    ensures fault { IfErr result (Names (first_fault lists.now)) }
+{
+    maker.counted_map(lists)
+}
+
+/// Makes the map of genus zero of `lists` in the memory of `maker`, or names the first condition that they break.
+pub fn made_plane_map(
+    maker: &mut CountedMaker,
+    lists: &Rotations,
+    least: u16,
+) -> Result<CountedMap, Unserved>
+    requires some_list { 0 < length lists.now }
+    requires few_lists { length lists.now < 4096 }
+    ensures plane { IfOk result (IsPlaneMap least lists.now) }
+    ensures served { OnOk result (first_refusal least lists.now ≡ None) }
+    ensures refused { IfErr result (IfRefused (λ refusal. first_refusal least lists.now ≡ Some refusal)) }
+{
+    maker.plane_map(lists, least)
 }

@@ -15,6 +15,8 @@ ghost use Rattle.wood_laws.specs.WoodRegionsLaws.{StandsAtCoordinates};
 ghost use Rattle.wood_laws.specs.Woods.{AreParentsOf, IsInner};
 
 use canon_order::Order;
+use grid_figures::Drawer;
+use grid_figures::schnyder_grid::WoodDrawer;
 use half_edges::HalfMap;
 use map_lists::{Rotations, VertexId};
 use pg_plane::GridFigure;
@@ -131,4 +133,51 @@ pub fn schnyder_figure(alloc: Global, lists: &Rotations) -> Result<GridFigure, U
     ensures refused { IfErr result (IfRefused (λ refusal. first_refusal 3 lists.now ≡ Some refusal)) }
 {
     grid_figures::schnyder_figures::schnyder_figure(alloc, lists)
+}
+
+/// Draws the triangulation with these `lists` by Schnyder's coordinates over `order`.
+pub fn list_draw(alloc: Global, lists: &Rotations, order: &Order) -> Result<GridFigure, AllocError>
+    requires triangulation { IsTriangulation lists.now }
+    requires few { length lists.now < 4096 }
+    requires order { (base : Dart) × IsCanonicalOrder lists.now base (vertices_of order.now) }
+    requires rank { IsRankOf order.now.rank (vertices_of order.now) }
+    ensures points { IfOk result (λ figure. (base : Dart) (canonical : IsCanonicalOrder lists.now base (vertices_of order.now))
+        → AreWoodPoints lists.now base (vertices_of order.now) canonical.cycle figure.points) }
+    ensures drawing { IfOk result (λ figure. (base : Dart) → HasDart lists.now base.0 base.1 → IsCanonicalOrder lists.now base (vertices_of order.now)
+        → IsSchnyderDrawing lists.now base figure.points) }
+    ensures width { IfOk result (λ figure. figure.width ≡ pos (vertex_count lists.now - 2)) }
+    ensures height { IfOk result (λ figure. figure.height ≡ pos (vertex_count lists.now - 2)) }
+{
+    grid_figures::schnyder_grid::list_draw(alloc, lists, order)
+}
+
+/// Draws the triangulation with these `lists` over `order`, in the memory of `woods`.
+pub fn wood_list_draw(
+    woods: &mut WoodDrawer,
+    lists: &Rotations,
+    order: &Order,
+) -> Result<GridFigure, AllocError>
+    requires triangulation { IsTriangulation lists.now }
+    requires few { length lists.now < 4096 }
+    requires order { (base : Dart) × IsCanonicalOrder lists.now base (vertices_of order.now) }
+    requires rank { IsRankOf order.now.rank (vertices_of order.now) }
+    ensures points { IfOk result (λ figure. (base : Dart) (canonical : IsCanonicalOrder lists.now base (vertices_of order.now))
+        → AreWoodPoints lists.now base (vertices_of order.now) canonical.cycle figure.points) }
+    ensures drawing { IfOk result (λ figure. (base : Dart) → HasDart lists.now base.0 base.1 → IsCanonicalOrder lists.now base (vertices_of order.now)
+        → IsSchnyderDrawing lists.now base figure.points) }
+    ensures width { IfOk result (λ figure. figure.width ≡ pos (vertex_count lists.now - 2)) }
+    ensures height { IfOk result (λ figure. figure.height ≡ pos (vertex_count lists.now - 2)) }
+{
+    woods.list_draw(lists, order)
+}
+
+/// Draws the map of `lists` by Schnyder's coordinates, in the memory of `drawer`.
+pub fn drawn_schnyder_figure(drawer: &mut Drawer, lists: &Rotations) -> Result<GridFigure, Unserved>
+    requires some_list { 0 < length lists.now }
+    requires few_lists { length lists.now < 4096 }
+    ensures figure { IfOk result (IsSchnyderFigure lists.now) }
+    ensures served { OnOk result (first_refusal 3 lists.now ≡ None) }
+    ensures refused { IfErr result (IfRefused (λ refusal. first_refusal 3 lists.now ≡ Some refusal)) }
+{
+    drawer.schnyder_figure(lists)
 }

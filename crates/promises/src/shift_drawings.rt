@@ -12,7 +12,8 @@ ghost use Rattle.plane_laws.specs.Triangulations.{IsTriangulation};
 ghost use Rattle.refusals.specs.Conditions.{first_refusal, IfRefused};
 
 use canon_order::Order;
-use fpp_shift::{Node, Offsets, ShiftFault};
+use fpp_shift::{Node, Offsets, ShiftFault, Shifter};
+use grid_figures::Drawer;
 use half_edges::HalfMap;
 use map_lists::{Rotations, VertexId};
 use pg_io::Steps;
@@ -113,4 +114,51 @@ pub fn shift_figure(alloc: Global, lists: &Rotations) -> Result<GridFigure, Unse
     ensures refused { IfErr result (IfRefused (λ refusal. first_refusal 3 lists.now ≡ Some refusal)) }
 {
     grid_figures::shift_figures::shift_figure(alloc, lists)
+}
+
+/// Draws the triangulation with these `lists` by the shift method over `order`.
+pub fn list_draw(alloc: Global, lists: &Rotations, order: &Order) -> Result<GridFigure, AllocError>
+    requires triangulation { IsTriangulation lists.now }
+    requires few { length lists.now < 4096 }
+    requires order { (base : Dart) × IsCanonicalOrder lists.now base (vertices_of order.now) }
+    requires rank { IsRankOf order.now.rank (vertices_of order.now) }
+    ensures points { IfOk result (λ figure. (base : Dart) (canonical : IsCanonicalOrder lists.now base (vertices_of order.now))
+        → AreShiftPoints lists.now base (vertices_of order.now) canonical.cycle figure.points) }
+    ensures drawing { IfOk result (λ figure. (base : Dart) → HasDart lists.now base.0 base.1 → IsCanonicalOrder lists.now base (vertices_of order.now)
+        → IsShiftDrawing lists.now base figure.points) }
+    ensures width { IfOk result (λ figure. figure.width ≡ pos (2 * vertex_count lists.now - 4)) }
+    ensures height { IfOk result (λ figure. figure.height ≡ pos (vertex_count lists.now - 2)) }
+{
+    fpp_shift::list_draw(alloc, lists, order)
+}
+
+/// Draws the triangulation with these `lists` over `order`, in the memory of `shifter`.
+pub fn shifted_draw(
+    shifter: &mut Shifter,
+    lists: &Rotations,
+    order: &Order,
+) -> Result<GridFigure, AllocError>
+    requires triangulation { IsTriangulation lists.now }
+    requires few { length lists.now < 4096 }
+    requires order { (base : Dart) × IsCanonicalOrder lists.now base (vertices_of order.now) }
+    requires rank { IsRankOf order.now.rank (vertices_of order.now) }
+    ensures points { IfOk result (λ figure. (base : Dart) (canonical : IsCanonicalOrder lists.now base (vertices_of order.now))
+        → AreShiftPoints lists.now base (vertices_of order.now) canonical.cycle figure.points) }
+    ensures drawing { IfOk result (λ figure. (base : Dart) → HasDart lists.now base.0 base.1 → IsCanonicalOrder lists.now base (vertices_of order.now)
+        → IsShiftDrawing lists.now base figure.points) }
+    ensures width { IfOk result (λ figure. figure.width ≡ pos (2 * vertex_count lists.now - 4)) }
+    ensures height { IfOk result (λ figure. figure.height ≡ pos (vertex_count lists.now - 2)) }
+{
+    shifter.list_draw(lists, order)
+}
+
+/// Draws the map of `lists` by the shift method, in the memory of `drawer`.
+pub fn drawn_shift_figure(drawer: &mut Drawer, lists: &Rotations) -> Result<GridFigure, Unserved>
+    requires some_list { 0 < length lists.now }
+    requires few_lists { length lists.now < 4096 }
+    ensures figure { IfOk result (IsShiftFigure lists.now) }
+    ensures served { OnOk result (first_refusal 3 lists.now ≡ None) }
+    ensures refused { IfErr result (IfRefused (λ refusal. first_refusal 3 lists.now ≡ Some refusal)) }
+{
+    drawer.shift_figure(lists)
 }

@@ -26,15 +26,15 @@ IsPrepared-begin lists t s marked near gone away stack tally none e = record {
 }
 
 -- A vertex taken off: what is noted was removable before, since the counts of those gone change at its neighbours alone, and these are on the stack where they are marked.
-pub IsPrepared-taken : (lists : Lists) (t s : ℕ) (marked : List Bool) (near : List ℕ) (gone : List Bool) (away stack : List ℕ) (v : ℕ) (marked' : List Bool) (near' : List ℕ) (gone' : List Bool) (away' stack' : List ℕ) → ((u : ℕ) → Contains (list_of lists v) u → is_set marked' u ≡ true → Contains stack' u) → ((u : ℕ) → ¬ Contains (list_of lists v) u → get_or away' u 0 ≡ get_or away u 0) → IsTally lists gone' away' → IsNoted lists marked near stack marked' near' stack' → IsPrepared lists t s marked near gone away stack → IsPrepared lists t s marked' near' gone' away' stack'
+pub IsPrepared-taken : (lists : Lists) (t s : ℕ) (marked : List Bool) (near : List ℕ) (gone : List Bool) (away stack : List ℕ) (v : ℕ) (marked' : List Bool) (near' : List ℕ) (gone' : List Bool) (away' stack' : List ℕ) → ((u : ℕ) → Contains (list_of lists v) u → is_set marked' u ≡ true → get_or near' u 0 ≡ 2 → Contains stack' u) → ((u : ℕ) → ¬ Contains (list_of lists v) u → get_or away' u 0 ≡ get_or away u 0) → IsTally lists gone' away' → IsNoted lists marked near stack marked' near' stack' → IsPrepared lists t s marked near gone away stack → IsPrepared lists t s marked' near' gone' away' stack'
 IsPrepared-taken lists t s marked near gone away stack v marked' near' gone' away' stack' neighbours same tally n h = record {
   tally = n.tally;
   tally_gone = tally;
   vertices = n.vertices;
-  stacked = λ u removable. elim (n.noted u removable.marked_is) [
+  stacked = λ u removable. elim (n.noted u removable.marked_is removable.two) [
     | inl c ↦ c
     | inr q ↦ elim (cases_Contains (list_of lists v) u) [
-      | inl c ↦ neighbours u c removable.marked_is
+      | inl c ↦ neighbours u c removable.marked_is removable.two
       | inr none ↦
           let e = same u none in
           let two = removable.two_gone in

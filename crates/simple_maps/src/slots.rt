@@ -128,14 +128,16 @@ fn write_slots<P: DartSlot>(tails: &[u16], twins: &[u32], slots: &mut [P])
 /// Makes `slots` those of the darts of lists, which are from 1 to 4095, or answers the first fault of the
 /// lists.
 ///
-/// What `slots` and `threads` hold before says nothing; they are kept by a caller who has many maps, so
-/// that their memory serves for all. The time is linear in the entries, and so is the memory: one slot and
+/// What the vectors hold before says nothing; they are kept by a caller who has many maps, so that their
+/// memory serves for all. The time is linear in the entries, and so is the memory: one slot and
 /// six bytes for each dart, and one number for each vertex.
 pub fn fill_slots<P: DartSlot>(
     alloc: Global,
     lists: &Rotations,
-    slots: &mut Vec<P>,
+    tails: &mut Vec<u16>,
+    twins: &mut Vec<u32>,
     threads: &mut Vec<u32>,
+    slots: &mut Vec<P>,
 ) -> Result<(), MapFault>
     requires some_list { 0 < length lists.now }
     requires few_lists { length lists.now < 4096 }
@@ -143,10 +145,8 @@ pub fn fill_slots<P: DartSlot>(
     ensures line { OnOk result (AreInLine P.IsInLine slots.new.items (length slots.new.items)) }
     ensures fault { IfErr result (Names (first_fault lists.now)) }
 {
-    let mut tails = Vec::new(alloc);
-    let mut twins = Vec::new(alloc);
-    fill_twins(alloc, lists, &mut tails, &mut twins, threads)?;
+    fill_twins(alloc, lists, tails, twins, threads)?;
     slots.resize(twins.len(), P::new(0, 0, 0))?;
-    write_slots(&tails, &twins, slots);
+    write_slots(tails, twins, slots);
     Ok(())
 }

@@ -63,6 +63,22 @@ impl<L: Ledger> Offsets<L> {
         })
     }
 
+    // A tree of these nodes, whatever they are.
+    pub(crate) fn from_nodes(nodes: Vec<Node>) -> Offsets<L>
+        requires few { length nodes.items < 65536 }
+        ensures { result ≡ nodes.items }
+    {
+        Offsets {
+            nodes,
+            uses: PhantomData,
+        }
+    }
+
+    // The nodes, once the tree is no longer used.
+    pub(crate) fn into_nodes(self) -> Vec<Node> {
+        self.nodes
+    }
+
     /// The number of nodes. It takes no memory.
     pub fn len(&self) -> u16
         ensures { result ≡ length self.now }

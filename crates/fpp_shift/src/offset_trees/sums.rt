@@ -29,13 +29,14 @@ fn vertex_at(met: &Vec<u16>, i: usize) -> u16
     met[i]
 }
 
-// The root alone, as the first that is met, with room for so many vertices.
-fn root_alone(alloc: Global, root: VertexId, room: u16) -> Result<Vec<u16>, AllocError>
-    ensures { IfOk result (λ met. met.items ≡ root.0 ∷ []) }
+// Meets the root alone, with room for so many vertices.
+fn meet_root(met: &mut Vec<u16>, root: VertexId, room: u16) -> Result<(), AllocError>
+    ensures { OnOk result (met.new.items ≡ root.0 ∷ []) }
 {
-    let mut met = Vec::with_capacity(alloc, room as usize)?;
+    met.clear();
+    met.reserve(room as usize)?;
     met.push(root.0)?;
-    Ok(met)
+    Ok(())
 }
 
 // The sum of a vertex.
@@ -170,6 +171,7 @@ fn points_of<L: Ledger>(
     tree: &Offsets<L>,
     root: VertexId,
     sums: &mut [i32],
+    met: &mut Vec<u16>,
     steps: &mut Steps<L>,
 ) -> Result<Points, AllocError>
     requires sums { length sums.old ≡ length tree.now }
@@ -178,11 +180,46 @@ fn points_of<L: Ledger>(
     ensures steps { steps.new ≤ steps.old + 8 * length tree.now }
     ensures never_falls { steps.old ≤ steps.new }
 {
-    let mut met = root_alone(alloc, root, tree.len())?;
+    meet_root(met, root, tree.len())?;
     put_first(tree, root, sums, steps);
-    follow_all(tree, &mut met, sums, steps)?;
+    follow_all(tree, met, sums, steps)?;
     let points = points_at(alloc, tree, sums, steps)?;
     Ok(points)
+}
+
+// What sums are found with, kept from one tree to the next.
+#[derive(Drop)]
+pub(crate) struct SumMemory {
+    sums: Vec<i32>,
+    met: Vec<u16>,
+}
+
+impl SumMemory {
+    // No memory yet.
+    pub(crate) fn new(alloc: Global) -> SumMemory {
+        SumMemory {
+            sums: Vec::new(alloc),
+            met: Vec::new(alloc),
+        }
+    }
+
+    // The points to which a tree adds up, as `sum_offsets` has them.
+    pub(crate) fn sum_offsets<L: Ledger>(
+        &mut self,
+        alloc: Global,
+        tree: &Offsets<L>,
+        root: VertexId,
+        steps: &mut Steps<L>,
+    ) -> Result<Points, AllocError>
+        requires { IsTree tree.now root.0 }
+        ensures points { IfOk result (ArePointsOf tree.now root.0) }
+        ensures steps { steps.new ≤ steps.old + 8 * length tree.now }
+        ensures never_falls { steps.old ≤ steps.new }
+    {
+        self.sums.resize(tree.len() as usize, 0)?;
+        let points = points_of(alloc, tree, root, &mut self.sums, &mut self.met, steps)?;
+        Ok(points)
+    }
 }
 
 /// The points to which a tree of offsets adds up: the x of a vertex is the sum of the nodes' x on the way
@@ -203,6 +240,7 @@ pub fn sum_offsets<L: Ledger>(
     ensures steps { steps.new ≤ steps.old + 8 * length tree.now }
     ensures never_falls { steps.old ≤ steps.new }
 {
-    let mut sums = vec![in alloc; 0; tree.len() as usize]?;
-    points_of(alloc, tree, root, &mut sums, steps)
+    let mut memory = SumMemory::new(alloc);
+    let points = memory.sum_offsets(alloc, tree, root, steps)?;
+    Ok(points)
 }

@@ -6,7 +6,7 @@ ghost use Rattle.plane_laws.specs.Triangulations.{IsTriangulation};
 ghost use Rattle.canon_order.specs.Orders.{IsCanonicalOrder, IsRankOf, vertices_of};
 ghost use Rattle.refusals.specs.Conditions.{first_refusal, IfRefused};
 
-use canon_order::{Order, base_order};
+use canon_order::{Order, Peeler};
 use conn_parts::plane_count;
 use euler_faces::Counter;
 use half_edges::Rotations;
@@ -30,11 +30,15 @@ pub(crate) fn is_triangulated(counter: &mut Counter, lists: &Rotations) -> Resul
 }
 
 /// A canonical order of the triangulation with these lists, for the base from vertex 0 to the first of its list.
-pub(crate) fn full_order(alloc: Global, lists: &Rotations) -> Result<Order, AllocError>
+pub(crate) fn full_order(
+    alloc: Global,
+    peeler: &mut Peeler,
+    lists: &Rotations,
+) -> Result<Order, AllocError>
     requires triangulation { IsTriangulation lists.now }
     requires few { length lists.now < 4096 }
     ensures order { IfOk result (λ order. IsCanonicalOrder lists.now (0, slice_index (list_of lists.now 0) 0) (vertices_of order)) }
     ensures rank { IfOk result (λ order. IsRankOf order.rank (vertices_of order)) }
 {
-    base_order(alloc, lists, 0, lists.list(0)[0])
+    peeler.base_order(alloc, lists, 0, lists.list(0)[0])
 }

@@ -9,11 +9,13 @@ ghost use Rattle.grid_figures.specs.Orders.{IsDrawingOrder};
 ghost use Rattle.refusals.specs.Conditions.{first_refusal, IfRefused};
 
 use augment_tri::triangulate_parts;
-use canon_order::{Order, list_order};
-use conn_parts::{CountedMap, plane_map};
+use canon_order::{Order, Peeler};
+use conn_parts::{CountedMaker, CountedMap};
+use euler_faces::Counter;
 use half_edges::{DartId, HalfMap, Rotations, VertexId};
 use refusals::Unserved;
 use std::alloc::{AllocError, Global};
+use std::mem;
 
 /// A triangulation with a canonical order of it.
 #[derive(Drop)]
@@ -24,6 +26,42 @@ pub struct DrawingOrder {
     pub made: Option<Rotations>,
     /// The order of its vertices.
     pub order: Order,
+}
+
+// What records are ordered with, kept from one to the next: their counts, maps, lists and peels.
+#[derive(Drop)]
+pub(crate) struct Tools {
+    pub(crate) alloc: Global,
+    pub(crate) counter: Counter,
+    pub(crate) maps: CountedMaker,
+    pub(crate) lists: Rotations,
+    pub(crate) peeler: Peeler,
+}
+
+impl Tools {
+    // No memory yet.
+    pub(crate) fn new(alloc: Global) -> Tools {
+        Tools {
+            alloc,
+            counter: Counter::new(alloc),
+            maps: CountedMaker::new(alloc),
+            lists: Rotations::new(alloc),
+            peeler: Peeler::new(alloc),
+        }
+    }
+
+    // Keeps the memory of a triangulation that is drawn.
+    pub(crate) fn keep(&mut self, found: DrawingOrder) {
+        let DrawingOrder {
+            tri,
+            made,
+            order: _order,
+        } = found;
+        self.maps.keep_map(tri);
+        if let Some(lists) = made {
+            self.lists = lists;
+        }
+    }
 }
 
 // The dart from vertex 0 of a triangulation to its least neighbour.
@@ -61,8 +99,13 @@ struct Completion {
     made: Option<Rotations>,
 }
 
-// The completion of a map of genus zero with at least three vertices: the map itself, where it has 3n - 6 edges.
-fn complete_map(alloc: Global, plane: CountedMap) -> Result<Completion, AllocError>
+// The completion of a map of genus zero with at least three vertices: the map itself, where it has 3n - 6 edges. Its
+// lists stand in the memory of `spent`.
+fn complete_map(
+    maps: &mut CountedMaker,
+    spent: Rotations,
+    plane: CountedMap,
+) -> Result<Completion, AllocError>
     requires { IsPlaneMap 3 plane.map.lists plane }
     ensures triangulation { IfOk result (λ done. IsTriangulation done.tri.lists) }
     ensures extended { IfOk result (λ done. IsExtended plane.map.lists done.tri.lists) }
@@ -77,7 +120,8 @@ fn complete_map(alloc: Global, plane: CountedMap) -> Result<Completion, AllocErr
     }
     match triangulate_parts(plane.map, &plane.parts) {
         Ok(tri) => {
-            let lists = tri.rotations(alloc)?;
+            maps.keep_parts(plane.parts);
+            let lists = tri.read_into(spent)?;
             Ok(Completion {
                 tri,
                 made: Some(lists),
@@ -97,6 +141,32 @@ pub(crate) fn made_or<'a>(made: &'a Option<Rotations>, own: &'a Rotations) -> &'
     }
 }
 
+// As `plane_order`, with a peeler that may have ordered other maps before.
+pub(crate) fn ordered_plane(
+    tools: &mut Tools,
+    plane: CountedMap,
+    lists: &Rotations,
+) -> Result<DrawingOrder, AllocError>
+    requires plane { IsPlaneMap 3 plane.map.lists plane }
+    requires lists { lists.now ≡ plane.map.lists }
+    ensures { IfOk result (IsDrawingOrder plane.map.lists) }
+{
+    plane.map.facts();
+    let first = plane.map.first_dart(VertexId(0));
+    let spent = mem::replace(&mut tools.lists, Rotations::new(tools.alloc));
+    let done = complete_map(&mut tools.maps, spent, plane)?;
+    done.tri.facts();
+    let base = base_dart(&done.tri, first);
+    let order = tools
+        .peeler
+        .list_order(tools.alloc, &done.tri, made_or(&done.made, lists), base)?;
+    Ok(DrawingOrder {
+        tri: done.tri,
+        made: done.made,
+        order,
+    })
+}
+
 /// The completion of a map of genus zero with these lists and at least three vertices, and an order of it, as
 /// `drawing_order` has them. It fails only for want of memory.
 pub fn plane_order(
@@ -108,17 +178,22 @@ pub fn plane_order(
     requires lists { lists.now ≡ plane.map.lists }
     ensures { IfOk result (IsDrawingOrder plane.map.lists) }
 {
-    plane.map.facts();
-    let first = plane.map.first_dart(VertexId(0));
-    let done = complete_map(alloc, plane)?;
-    done.tri.facts();
-    let base = base_dart(&done.tri, first);
-    let order = list_order(alloc, &done.tri, made_or(&done.made, lists), base)?;
-    Ok(DrawingOrder {
-        tri: done.tri,
-        made: done.made,
-        order,
-    })
+    let mut tools = Tools::new(alloc);
+    let found = ordered_plane(&mut tools, plane, lists)?;
+    Ok(found)
+}
+
+// As `drawing_order`, with a peeler that may have ordered other maps before.
+pub(crate) fn ordered_record(tools: &mut Tools, lists: &Rotations) -> Result<DrawingOrder, Unserved>
+    requires some_list { 0 < length lists.now }
+    requires few_lists { length lists.now < 4096 }
+    ensures order { IfOk result (IsDrawingOrder lists.now) }
+    ensures served { OnOk result (first_refusal 3 lists.now ≡ None) }
+    ensures refused { IfErr result (IfRefused (λ refusal. first_refusal 3 lists.now ≡ Some refusal)) }
+{
+    let plane = tools.maps.plane_map(lists, 3)?;
+    let found = ordered_plane(tools, plane, lists)?;
+    Ok(found)
 }
 
 /// The completion of the map of a record with these lists, which are from 1 to 4095, and a canonical order of
@@ -135,7 +210,7 @@ pub fn drawing_order(alloc: Global, lists: &Rotations) -> Result<DrawingOrder, U
     ensures served { OnOk result (first_refusal 3 lists.now ≡ None) }
     ensures refused { IfErr result (IfRefused (λ refusal. first_refusal 3 lists.now ≡ Some refusal)) }
 {
-    let plane = plane_map(alloc, lists, 3)?;
-    let found = plane_order(alloc, plane, lists)?;
+    let mut tools = Tools::new(alloc);
+    let found = ordered_record(&mut tools, lists)?;
     Ok(found)
 }

@@ -8,25 +8,48 @@ ghost use Rattle.refusals.specs.Conditions.{first_refusal, IfRefused};
 ghost use Rattle.grid_figures.specs.Forms.{IsDrawnBy};
 ghost use Rattle.grid_figures.specs.SchnyderFiguresFigures.{schnyder_form, IsSchnyderFigure};
 
-use crate::drawing_orders::{full_order, is_triangulated, made_or, plane_order};
-use crate::schnyder_grid::list_draw;
+use crate::Drawer;
+use crate::drawing_orders::{Tools, full_order, is_triangulated, made_or, ordered_plane};
+use crate::schnyder_grid::WoodDrawer;
 use canon_order::Order;
-use conn_parts::{CountedMap, plane_map};
-use euler_faces::Counter;
+use conn_parts::CountedMap;
 use half_edges::Rotations;
 use pg_plane::GridFigure;
 use refusals::Unserved;
 use std::alloc::{AllocError, Global};
 
 // The drawing of a triangulation by a canonical order.
-fn order_figure(alloc: Global, lists: &Rotations, order: &Order) -> Result<GridFigure, AllocError>
+fn order_figure(
+    woods: &mut WoodDrawer,
+    lists: &Rotations,
+    order: &Order,
+) -> Result<GridFigure, AllocError>
     requires triangulation { IsTriangulation lists.now }
     requires few { length lists.now < 4096 }
     requires order { (base : Dart) × IsCanonicalOrder lists.now base (vertices_of order.now) }
     requires rank { IsRankOf order.now.rank (vertices_of order.now) }
     ensures { IfOk result (IsDrawnBy schnyder_form lists.now (vertices_of order.now)) }
 {
-    let figure = list_draw(alloc, lists, order)?;
+    let figure = woods.list_draw(lists, order)?;
+    Ok(figure)
+}
+
+// As `plane_figure`, by tables that may have served other maps before.
+fn drawn_plane(
+    tools: &mut Tools,
+    woods: &mut WoodDrawer,
+    plane: CountedMap,
+    lists: &Rotations,
+) -> Result<GridFigure, AllocError>
+    requires plane { IsPlaneMap 3 plane.map.lists plane }
+    requires lists { lists.now ≡ plane.map.lists }
+    ensures { IfOk result (IsSchnyderFigure plane.map.lists) }
+{
+    crate::drawing_orders::completion_draws();
+    plane.map.facts();
+    let found = ordered_plane(tools, plane, lists)?;
+    let figure = order_figure(woods, made_or(&found.made, lists), &found.order)?;
+    tools.keep(found);
     Ok(figure)
 }
 
@@ -41,42 +64,32 @@ pub fn plane_figure(
     requires lists { lists.now ≡ plane.map.lists }
     ensures { IfOk result (IsSchnyderFigure plane.map.lists) }
 {
-    crate::drawing_orders::completion_draws();
-    plane.map.facts();
-    let found = plane_order(alloc, plane, lists)?;
-    let figure = order_figure(alloc, made_or(&found.made, lists), &found.order)?;
+    let mut tools = Tools::new(alloc);
+    let mut woods = WoodDrawer::new(alloc);
+    let figure = drawn_plane(&mut tools, &mut woods, plane, lists)?;
     Ok(figure)
 }
 
 // The figure of a record that is a triangulation.
-fn full_figure(alloc: Global, lists: &Rotations) -> Result<GridFigure, AllocError>
+fn full_figure(
+    tools: &mut Tools,
+    woods: &mut WoodDrawer,
+    lists: &Rotations,
+) -> Result<GridFigure, AllocError>
     requires triangulation { IsTriangulation lists.now }
     requires few { length lists.now < 4096 }
     ensures { IfOk result (IsSchnyderFigure lists.now) }
 {
     crate::drawing_orders::completion_draws();
-    let order = full_order(alloc, lists)?;
-    let figure = order_figure(alloc, lists, &order)?;
+    let order = full_order(tools.alloc, &mut tools.peeler, lists)?;
+    let figure = order_figure(woods, lists, &order)?;
     Ok(figure)
 }
 
 // The figure of a record, by a completion of its map.
-fn map_figure(alloc: Global, lists: &Rotations) -> Result<GridFigure, Unserved>
-    requires some_list { 0 < length lists.now }
-    requires few_lists { length lists.now < 4096 }
-    ensures figure { IfOk result (IsSchnyderFigure lists.now) }
-    ensures served { OnOk result (first_refusal 3 lists.now ≡ None) }
-    ensures refused { IfErr result (IfRefused (λ refusal. first_refusal 3 lists.now ≡ Some refusal)) }
-{
-    let plane = plane_map(alloc, lists, 3)?;
-    let figure = plane_figure(alloc, plane, lists)?;
-    Ok(figure)
-}
-
-// The figure of a record, with a counter that may have counted other records before.
-pub(crate) fn counted_figure(
-    alloc: Global,
-    counter: &mut Counter,
+fn map_figure(
+    tools: &mut Tools,
+    woods: &mut WoodDrawer,
     lists: &Rotations,
 ) -> Result<GridFigure, Unserved>
     requires some_list { 0 < length lists.now }
@@ -85,11 +98,28 @@ pub(crate) fn counted_figure(
     ensures served { OnOk result (first_refusal 3 lists.now ≡ None) }
     ensures refused { IfErr result (IfRefused (λ refusal. first_refusal 3 lists.now ≡ Some refusal)) }
 {
-    if is_triangulated(counter, lists)? {
-        let figure = full_figure(alloc, lists)?;
+    let plane = tools.maps.plane_map(lists, 3)?;
+    let figure = drawn_plane(tools, woods, plane, lists)?;
+    Ok(figure)
+}
+
+// The figure of a record, with a counter that may have counted other records before.
+pub(crate) fn drawn_record(
+    tools: &mut Tools,
+    woods: &mut WoodDrawer,
+    lists: &Rotations,
+) -> Result<GridFigure, Unserved>
+    requires some_list { 0 < length lists.now }
+    requires few_lists { length lists.now < 4096 }
+    ensures figure { IfOk result (IsSchnyderFigure lists.now) }
+    ensures served { OnOk result (first_refusal 3 lists.now ≡ None) }
+    ensures refused { IfErr result (IfRefused (λ refusal. first_refusal 3 lists.now ≡ Some refusal)) }
+{
+    if is_triangulated(&mut tools.counter, lists)? {
+        let figure = full_figure(tools, woods, lists)?;
         return Ok(figure);
     }
-    map_figure(alloc, lists)
+    map_figure(tools, woods, lists)
 }
 
 /// The figure of a record with these lists, which are from 1 to 4095: a plane drawing of its map that keeps
@@ -111,6 +141,6 @@ pub fn schnyder_figure(alloc: Global, lists: &Rotations) -> Result<GridFigure, U
     ensures served { OnOk result (first_refusal 3 lists.now ≡ None) }
     ensures refused { IfErr result (IfRefused (λ refusal. first_refusal 3 lists.now ≡ Some refusal)) }
 {
-    let mut counter = Counter::new(alloc);
-    counted_figure(alloc, &mut counter, lists)
+    let mut drawer = Drawer::new(alloc);
+    drawer.schnyder_figure(lists)
 }

@@ -1,5 +1,5 @@
 //! Drawings by Schnyder's coordinates.
-ghost use Rattle.std.specs.Prelude.{◌≡◌, ◌<◌, ◌+◌, ◌-◌, ℕ, length, All, pos, IfOk};
+ghost use Rattle.std.specs.Prelude.{◌≡◌, ◌<◌, ◌+◌, ◌-◌, ℕ, length, replicate, slice_index, All, pos, OnOk, IfOk};
 ghost use Rattle.map_theory.specs.Maps.{Dart, HasDart, vertex_count};
 ghost use Rattle.plane_laws.specs.Triangulations.{IsTriangulation};
 ghost use Rattle.canon_order.specs.Orders.{IsCanonicalOrder, IsRankOf, vertices_of};
@@ -11,25 +11,128 @@ ghost use Rattle.grid_figures.specs.Points.{ArePoints};
 use crate::schnyder_grid::gaps::find_coordinates;
 use canon_order::Order;
 use half_edges::{Counts, HalfMap, Rotations};
-use order_drawings::order_tables::{list_rows, points_at};
+use order_drawings::order_tables::{points_at, rows_into};
 use pg_plane::{GridFigure, Points};
 use std::alloc::{AllocError, Global};
+use std::mem;
 
-// The points of a run, by its rows, for vertices of these ranks.
-fn drawn(alloc: Global, rows: &Rotations, ranks: &Counts) -> Result<Points, AllocError>
+// The points of a run, by its rows, for vertices of these ranks, where the first three tables have zeros.
+fn wood_points(
+    alloc: Global,
+    drops: &mut [u32],
+    rises: &mut [u32],
+    spans: &mut [u32],
+    covers: &mut [u16],
+    rows: &Rotations,
+    ranks: &Counts,
+) -> Result<Points, AllocError>
+    requires drops { length drops.old ≡ length ranks.now }
+    requires rises { length rises.old ≡ length ranks.now }
+    requires spans { length spans.old ≡ length ranks.now }
+    requires covers { length covers.old ≡ length ranks.now }
+    requires zeros { (u : ℕ) → (slice_index drops.old u ≡ 0) × (slice_index rises.old u ≡ 0) × (slice_index spans.old u ≡ 0) }
     requires few { length ranks.now < 4096 }
     requires rows { length rows.now + 2 ≡ length ranks.now }
     requires ranks { All (λ k. k < length ranks.now) ranks.now }
     requires run { (steps : ℕ → Step) × AreAllRows steps rows.now }
     ensures { IfOk result (λ points. (steps : ℕ → Step) → AreAllRows steps rows.now → ArePoints steps (length rows.now) ranks.now points) }
 {
-    let n = ranks.len();
-    let mut drops = vec![in alloc; 0; n]?;
-    let mut rises = vec![in alloc; 0; n]?;
-    let mut spans = vec![in alloc; 0; n]?;
-    let mut covers = vec![in alloc; 0; n]?;
-    find_coordinates(&mut drops, &mut rises, &mut spans, &mut covers, rows);
-    points_at(alloc, &drops, &rises, ranks)
+    find_coordinates(drops, rises, spans, covers, rows);
+    points_at(alloc, drops, rises, ranks)
+}
+
+/// Draws by Schnyder's coordinates, one triangulation after another, and keeps its memory for the next: some bytes for
+/// each vertex of the largest one so far.
+#[derive(Drop)]
+pub struct WoodDrawer {
+    alloc: Global,
+    drops: Vec<u32>,
+    rises: Vec<u32>,
+    spans: Vec<u32>,
+    covers: Vec<u16>,
+    rows: Rotations,
+    row: Vec<u16>,
+}
+
+impl WoodDrawer {
+    /// A drawer that has drawn nothing yet. It takes no memory.
+    pub fn new(alloc: Global) -> WoodDrawer {
+        WoodDrawer {
+            alloc,
+            drops: Vec::new(alloc),
+            rises: Vec::new(alloc),
+            spans: Vec::new(alloc),
+            covers: Vec::new(alloc),
+            rows: Rotations::new(alloc),
+            row: Vec::new(alloc),
+        }
+    }
+
+    // Zeros for `n` vertices.
+    fn clear(&mut self, n: usize) -> Result<(), AllocError>
+        ensures drops { OnOk result (self.new.drops.items ≡ replicate n 0) }
+        ensures rises { OnOk result (self.new.rises.items ≡ replicate n 0) }
+        ensures spans { OnOk result (self.new.spans.items ≡ replicate n 0) }
+        ensures covers { OnOk result (length self.new.covers.items ≡ n) }
+    {
+        self.drops.clear();
+        self.drops.resize(n, 0)?;
+        self.rises.clear();
+        self.rises.resize(n, 0)?;
+        self.spans.clear();
+        self.spans.resize(n, 0)?;
+        self.covers.resize(n, 0)?;
+        Ok(())
+    }
+
+    // The points of a run, by its rows, for vertices of these ranks.
+    fn points(&mut self, rows: &Rotations, ranks: &Counts) -> Result<Points, AllocError>
+        requires few { length ranks.now < 4096 }
+        requires rows { length rows.now + 2 ≡ length ranks.now }
+        requires ranks { All (λ k. k < length ranks.now) ranks.now }
+        requires run { (steps : ℕ → Step) × AreAllRows steps rows.now }
+        ensures { IfOk result (λ points. (steps : ℕ → Step) → AreAllRows steps rows.now → ArePoints steps (length rows.now) ranks.now points) }
+    {
+        self.clear(ranks.len())?;
+        let points = wood_points(
+            self.alloc,
+            &mut self.drops,
+            &mut self.rises,
+            &mut self.spans,
+            &mut self.covers,
+            rows,
+            ranks,
+        )?;
+        Ok(points)
+    }
+
+    /// Draws as [`list_draw`] does. After want of memory the drawer serves as before.
+    pub fn list_draw(&mut self, lists: &Rotations, order: &Order) -> Result<GridFigure, AllocError>
+        requires triangulation { IsTriangulation lists.now }
+        requires few { length lists.now < 4096 }
+        requires order { (base : Dart) × IsCanonicalOrder lists.now base (vertices_of order.now) }
+        requires rank { IsRankOf order.now.rank (vertices_of order.now) }
+        ensures points { IfOk result (λ figure. (base : Dart) (canonical : IsCanonicalOrder lists.now base (vertices_of order.now))
+            → AreWoodPoints lists.now base (vertices_of order.now) canonical.cycle figure.points) }
+        ensures drawing { IfOk result (λ figure. (base : Dart) → HasDart lists.now base.0 base.1 → IsCanonicalOrder lists.now base (vertices_of order.now)
+            → IsSchnyderDrawing lists.now base figure.points) }
+        ensures width { IfOk result (λ figure. figure.width ≡ pos (vertex_count lists.now - 2)) }
+        ensures height { IfOk result (λ figure. figure.height ≡ pos (vertex_count lists.now - 2)) }
+    {
+        order_drawings::order_tables::ranks_are_places();
+        order_drawings::order_runs::order_is_run();
+        order_drawings::schnyder_drawings::wood_points_draw();
+        let side = (lists.len() - 2) as i32;
+        let spent = mem::replace(&mut self.rows, Rotations::new(self.alloc));
+        let rows = rows_into(spent, &mut self.row, lists, order)?;
+        let points = self.points(&rows, &order.rank)?;
+        self.rows = rows;
+        Ok(GridFigure {
+            points,
+            width: side,
+            height: side,
+        })
+    }
 }
 
 /// The drawing of a triangulation by Schnyder's coordinates over a canonical order of it: a simple map of
@@ -74,15 +177,7 @@ pub fn list_draw(alloc: Global, lists: &Rotations, order: &Order) -> Result<Grid
     ensures width { IfOk result (λ figure. figure.width ≡ pos (vertex_count lists.now - 2)) }
     ensures height { IfOk result (λ figure. figure.height ≡ pos (vertex_count lists.now - 2)) }
 {
-    order_drawings::order_tables::ranks_are_places();
-    order_drawings::order_runs::order_is_run();
-    order_drawings::schnyder_drawings::wood_points_draw();
-    let side = (lists.len() - 2) as i32;
-    let rows = list_rows(alloc, lists, order)?;
-    let points = drawn(alloc, &rows, &order.rank)?;
-    Ok(GridFigure {
-        points,
-        width: side,
-        height: side,
-    })
+    let mut woods = WoodDrawer::new(alloc);
+    let figure = woods.list_draw(lists, order)?;
+    Ok(figure)
 }

@@ -7,57 +7,51 @@ ghost use Rattle.refusals.specs.Conditions.{first_refusal, IfRefused};
 ghost use Rattle.grid_figures.specs.Forms.{IsDrawnBy};
 ghost use Rattle.grid_figures.specs.ShiftFiguresFigures.{shift_form, IsShiftFigure};
 
-use crate::drawing_orders::{drawing_order, full_order, is_triangulated, made_or};
+use crate::Drawer;
+use crate::drawing_orders::{Tools, full_order, is_triangulated, made_or, ordered_record};
 use canon_order::Order;
-use euler_faces::Counter;
-use fpp_shift::list_draw;
+use fpp_shift::Shifter;
 use half_edges::Rotations;
 use pg_plane::GridFigure;
 use refusals::Unserved;
 use std::alloc::{AllocError, Global};
 
 // The drawing of a triangulation by a canonical order.
-fn order_figure(alloc: Global, lists: &Rotations, order: &Order) -> Result<GridFigure, AllocError>
+fn order_figure(
+    shifter: &mut Shifter,
+    lists: &Rotations,
+    order: &Order,
+) -> Result<GridFigure, AllocError>
     requires triangulation { IsTriangulation lists.now }
     requires few { length lists.now < 4096 }
     requires order { (base : Dart) × IsCanonicalOrder lists.now base (vertices_of order.now) }
     requires rank { IsRankOf order.now.rank (vertices_of order.now) }
     ensures { IfOk result (IsDrawnBy shift_form lists.now (vertices_of order.now)) }
 {
-    let figure = list_draw(alloc, lists, order)?;
+    let figure = shifter.list_draw(lists, order)?;
     Ok(figure)
 }
 
 // The figure of a record that is a triangulation.
-fn full_figure(alloc: Global, lists: &Rotations) -> Result<GridFigure, AllocError>
+fn full_figure(
+    tools: &mut Tools,
+    shifter: &mut Shifter,
+    lists: &Rotations,
+) -> Result<GridFigure, AllocError>
     requires triangulation { IsTriangulation lists.now }
     requires few { length lists.now < 4096 }
     ensures { IfOk result (IsShiftFigure lists.now) }
 {
     crate::drawing_orders::completion_draws();
-    let order = full_order(alloc, lists)?;
-    let figure = order_figure(alloc, lists, &order)?;
+    let order = full_order(tools.alloc, &mut tools.peeler, lists)?;
+    let figure = order_figure(shifter, lists, &order)?;
     Ok(figure)
 }
 
 // The figure of a record, by a completion of its map.
-fn map_figure(alloc: Global, lists: &Rotations) -> Result<GridFigure, Unserved>
-    requires some_list { 0 < length lists.now }
-    requires few_lists { length lists.now < 4096 }
-    ensures figure { IfOk result (IsShiftFigure lists.now) }
-    ensures served { OnOk result (first_refusal 3 lists.now ≡ None) }
-    ensures refused { IfErr result (IfRefused (λ refusal. first_refusal 3 lists.now ≡ Some refusal)) }
-{
-    crate::drawing_orders::completion_draws();
-    let found = drawing_order(alloc, lists)?;
-    let figure = order_figure(alloc, made_or(&found.made, lists), &found.order)?;
-    Ok(figure)
-}
-
-// The figure of a record, with a counter that may have counted other records before.
-pub(crate) fn counted_figure(
-    alloc: Global,
-    counter: &mut Counter,
+fn map_figure(
+    tools: &mut Tools,
+    shifter: &mut Shifter,
     lists: &Rotations,
 ) -> Result<GridFigure, Unserved>
     requires some_list { 0 < length lists.now }
@@ -66,11 +60,30 @@ pub(crate) fn counted_figure(
     ensures served { OnOk result (first_refusal 3 lists.now ≡ None) }
     ensures refused { IfErr result (IfRefused (λ refusal. first_refusal 3 lists.now ≡ Some refusal)) }
 {
-    if is_triangulated(counter, lists)? {
-        let figure = full_figure(alloc, lists)?;
+    crate::drawing_orders::completion_draws();
+    let found = ordered_record(tools, lists)?;
+    let figure = order_figure(shifter, made_or(&found.made, lists), &found.order)?;
+    tools.keep(found);
+    Ok(figure)
+}
+
+// The figure of a record, with a counter that may have counted other records before.
+pub(crate) fn drawn_record(
+    tools: &mut Tools,
+    shifter: &mut Shifter,
+    lists: &Rotations,
+) -> Result<GridFigure, Unserved>
+    requires some_list { 0 < length lists.now }
+    requires few_lists { length lists.now < 4096 }
+    ensures figure { IfOk result (IsShiftFigure lists.now) }
+    ensures served { OnOk result (first_refusal 3 lists.now ≡ None) }
+    ensures refused { IfErr result (IfRefused (λ refusal. first_refusal 3 lists.now ≡ Some refusal)) }
+{
+    if is_triangulated(&mut tools.counter, lists)? {
+        let figure = full_figure(tools, shifter, lists)?;
         return Ok(figure);
     }
-    map_figure(alloc, lists)
+    map_figure(tools, shifter, lists)
 }
 
 /// The figure of a record with these lists, which are from 1 to 4095: a plane drawing of its map that keeps
@@ -92,6 +105,6 @@ pub fn shift_figure(alloc: Global, lists: &Rotations) -> Result<GridFigure, Unse
     ensures served { OnOk result (first_refusal 3 lists.now ≡ None) }
     ensures refused { IfErr result (IfRefused (λ refusal. first_refusal 3 lists.now ≡ Some refusal)) }
 {
-    let mut counter = Counter::new(alloc);
-    counted_figure(alloc, &mut counter, lists)
+    let mut drawer = Drawer::new(alloc);
+    drawer.shift_figure(lists)
 }

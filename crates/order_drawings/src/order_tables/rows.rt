@@ -105,9 +105,22 @@ fn order_has_rows()
     canon_order::row_ends();
 }
 
-// The rows in lists, from that of the third vertex of an order on.
+// No lists, with room for so many items in so many lists, in the memory of `spent`.
+fn emptied(spent: Rotations, items: usize, lists: usize) -> Result<Rotations, AllocError>
+    ensures { IfOk result (λ rows. rows ≡ []) }
+{
+    let (mut entries, mut ends) = spent.into_parts();
+    entries.clear();
+    entries.reserve(items)?;
+    ends.clear();
+    ends.reserve(lists)?;
+    Ok(Rotations::from_parts(entries, ends))
+}
+
+// The rows in lists, from that of the third vertex of an order on, in the memory of `spent`. Each is made in `row`.
 fn listed_rows(
-    alloc: Global,
+    spent: Rotations,
+    row: &mut Vec<u16>,
     lists: &Rotations,
     at: &VertexList,
     ranks: &Counts,
@@ -121,19 +134,18 @@ fn listed_rows(
     ensures count { IfOk result (λ rows. length rows + 2 ≡ length at.now) }
     ensures rows { IfOk result (λ rows. AreRanked lists.now (map (λ v. v.0) at.now) ranks.now rows) }
 {
-    let mut rows = Rotations::with_capacity(alloc, lists.total() / 2, at.len())?;
-    let mut row = Vec::new(alloc);
+    let mut rows = emptied(spent, lists.total() / 2, at.len())?;
     for k in 2..at.len() {
         let list = lists.list(at.get(k).0 as usize);
         row.clear();
         fill_row(
-            &mut row,
+            row,
             list,
             ranks,
             k as u32,
             first_place(list, ranks, k as u32),
         )?;
-        rows.push(&row)?;
+        rows.push(row)?;
     }
     Ok(rows)
 }
@@ -164,8 +176,26 @@ pub fn list_rows(alloc: Global, lists: &Rotations, order: &Order) -> Result<Rota
     requires rank { IsRankOf order.now.rank (vertices_of order.now) }
     ensures { IfOk result (AreRowsOf lists.now (vertices_of order.now)) }
 {
+    let mut row = Vec::new(alloc);
+    let rows = rows_into(Rotations::new(alloc), &mut row, lists, order)?;
+    Ok(rows)
+}
+
+/// Like [`list_rows`], but makes the rows in the memory of `spent`, and each in `row` first.
+pub fn rows_into(
+    spent: Rotations,
+    row: &mut Vec<u16>,
+    lists: &Rotations,
+    order: &Order,
+) -> Result<Rotations, AllocError>
+    requires triangulation { IsTriangulation lists.now }
+    requires few { length lists.now < 4096 }
+    requires order { (base : Dart) × IsCanonicalOrder lists.now base (vertices_of order.now) }
+    requires rank { IsRankOf order.now.rank (vertices_of order.now) }
+    ensures { IfOk result (AreRowsOf lists.now (vertices_of order.now)) }
+{
     order_has_rows();
     crate::order_runs::order_is_run();
-    let rows = listed_rows(alloc, lists, &order.at, &order.rank)?;
+    let rows = listed_rows(spent, row, lists, &order.at, &order.rank)?;
     Ok(rows)
 }

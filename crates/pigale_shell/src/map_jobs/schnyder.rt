@@ -2,7 +2,7 @@
 use crate::form::print_grid_in;
 use crate::method::Method;
 use figure_text::GridJob;
-use grid_figures::schnyder_figures::schnyder_figure;
+use grid_figures::Drawer;
 use half_edges::Rotations;
 use pg_plane::GridFigure;
 use pigale_words::Form;
@@ -11,7 +11,9 @@ use std::alloc::{AllocError, Global};
 
 /// Draws by Schnyder's coordinates.
 #[derive(Drop)]
-pub struct Schnyder;
+pub struct Schnyder {
+    drawer: Drawer,
+}
 
 impl Method for Schnyder {
     ghost use Rattle.grid_figures.specs.SchnyderFiguresFigures.{IsSchnyderFigure};
@@ -24,12 +26,14 @@ impl Method for Schnyder {
 
     ghost IsFigure = { IsSchnyderFigure };
 
-    fn new(_alloc: Global) -> Schnyder {
-        Schnyder
+    fn new(alloc: Global) -> Schnyder {
+        Schnyder {
+            drawer: Drawer::new(alloc),
+        }
     }
 
-    fn figure(&mut self, alloc: Global, lists: &Rotations) -> Result<GridFigure, Unserved> {
-        schnyder_figure(alloc, lists)
+    fn figure(&mut self, _alloc: Global, lists: &Rotations) -> Result<GridFigure, Unserved> {
+        self.drawer.schnyder_figure(lists)
     }
 
     fn print(

@@ -2,7 +2,7 @@
 use crate::form::print_grid_in;
 use crate::method::Method;
 use figure_text::GridJob;
-use grid_figures::shift_figures::shift_figure;
+use grid_figures::Drawer;
 use half_edges::Rotations;
 use pg_plane::GridFigure;
 use pigale_words::Form;
@@ -11,7 +11,9 @@ use std::alloc::{AllocError, Global};
 
 /// Draws by the shift method.
 #[derive(Drop)]
-pub struct Shift;
+pub struct Shift {
+    drawer: Drawer,
+}
 
 impl Method for Shift {
     ghost use Rattle.grid_figures.specs.ShiftFiguresFigures.{IsShiftFigure};
@@ -24,12 +26,14 @@ impl Method for Shift {
 
     ghost IsFigure = { IsShiftFigure };
 
-    fn new(_alloc: Global) -> Shift {
-        Shift
+    fn new(alloc: Global) -> Shift {
+        Shift {
+            drawer: Drawer::new(alloc),
+        }
     }
 
-    fn figure(&mut self, alloc: Global, lists: &Rotations) -> Result<GridFigure, Unserved> {
-        shift_figure(alloc, lists)
+    fn figure(&mut self, _alloc: Global, lists: &Rotations) -> Result<GridFigure, Unserved> {
+        self.drawer.shift_figure(lists)
     }
 
     fn print(

@@ -3,7 +3,6 @@ use Rattle.map_lists.specs.Lists.{Lists}
 use Rattle.plane_laws.specs.MapEditsCompleted.{IsExtended}
 use Rattle.plane_laws.proofs.Extended.{IsExtended-itself}
 use Rattle.plane_laws.proofs.EdgeBound.{edge_bound}
-use Rattle.plane_laws.proofs.Triangles.{edge_bound_met}
 use Rattle.augment_tri.proofs.Growth.{IsGrown-chained}
 use Rattle.augment_tri.proofs.complete.triangulate_parts.Goals as goal
 
@@ -19,7 +18,7 @@ returns-in-Ok-clause-triangulation c =
       simple = h.known.simple;
       plane = h.plane;
       some = h.some;
-      edges = (edge_bound_met c.fill.new.map.lists h.known.simple h.plane h.some).1 (c.fill.ensures.one, c.fill.ensures.triangles);
+      edges = c.fill.ensures.edges;
     }
 
 pub returns-in-Ok-clause-extended : goal.returns-in-Ok-clause-extended

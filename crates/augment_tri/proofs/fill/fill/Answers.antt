@@ -1,5 +1,6 @@
 use Rattle.std.proofs.Common.{◌+◌, sym, ◌∙◌, arith}
 use Rattle.std.proofs.lemmas.Bool.{false≢true}
+use Rattle.plane_laws.proofs.Triangles.{edge_bound_met}
 use Rattle.augment_tri.proofs.EarCover.{filled_first, covered_first, filled_skip, filled_grown, filled_last}
 use Rattle.augment_tri.proofs.Growth.{IsGrown-itself, IsGrown-chained}
 use Rattle.augment_tri.proofs.NearEars.{live_dart}
@@ -36,9 +37,16 @@ loop-d-preserved c =
           })
     ]
 
-pub returns-clause-triangles : goal.returns-clause-triangles
-returns-clause-triangles c =
+pub returns-clause-edges : goal.returns-clause-edges
+returns-clause-edges c =
     let h = c.loop-d.invariant in
     let total = h.grown.total in
     let last = c.loop-d-test.false in
-    filled_last c.loop-d.map c.loop-d.d h.roomy.known (omega (arith, c.m.ensures.count, c.spare.ensures)) h.filled
+    let triangles = filled_last c.loop-d.map c.loop-d.d h.roomy.known (omega (arith, c.m.ensures.count, c.spare.ensures)) h.filled in
+    (edge_bound_met c.loop-d.map.lists h.roomy.known.simple h.roomy.plane h.roomy.some).1 (h.one, triangles)
+
+pub returns-then-m-most-clause-edges : goal.returns-then-m-most-clause-edges
+returns-then-m-most-clause-edges c =
+    let h = c.loop-d.invariant in
+    let some = c.requires.roomy.some in
+    omega (arith, h.grown.extended.vertices, c.n.ensures.count, c.m-in-loop-d.ensures.count, c.if-m-most.true)

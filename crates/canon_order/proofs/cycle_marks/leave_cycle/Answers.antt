@@ -1,4 +1,4 @@
-use Rattle.std.proofs.Common.{◌≡◌, ◌⊎◌, ◌↔◌, ◌<◌, ℕ, List, Bool, true, false, length, All, Contains, subst, sym, inl, inr}
+use Rattle.std.proofs.Common.{◌≡◌, ◌⊎◌, ◌↔◌, ◌<◌, ℕ, List, Bool, true, false, length, get_or, All, Contains, subst, sym, ◌∙◌, inl, inr}
 use Rattle.std.proofs.lemmas.Result.{IfOk-weaker}
 use Rattle.map_theory.specs.Maps.{list_of}
 use Rattle.canon_order.specs.Marks.{is_set, IsNoted}
@@ -20,8 +20,8 @@ pub returns-clause-neighbours : goal.returns-clause-neighbours
 returns-clause-neighbours c =
     let lists = c.args.lists.now in
     IfOk-weaker c.mark_all.result (λ _. IsNoted lists c.unmark_old.new.marked c.unmark_old.new.near c.unmark_old.new.stack.items c.mark_all.new.marked c.mark_all.new.near c.mark_all.new.stack.items)
-    (λ _. (u : ℕ) → Contains (list_of lists c.args.v) u → is_set c.mark_all.new.marked u ≡ true → Contains c.mark_all.new.stack.items u)
-    (λ _ h u near on. elim (h.noted u on) [ inl c' ↦ c' | inr e ↦ h.kept u (c.in_ok-unmark_old.ensures.neighbours u near e.0) ]) c.mark_all.ensures.noted
+    (λ _. (u : ℕ) → Contains (list_of lists c.args.v) u → is_set c.mark_all.new.marked u ≡ true → get_or c.mark_all.new.near u 0 ≡ 2 → Contains c.mark_all.new.stack.items u)
+    (λ _ h u near on two. elim (h.noted u on two) [ inl c' ↦ c' | inr e ↦ h.kept u (c.in_ok-unmark_old.ensures.neighbours u near e.0 (sym e.1 ∙ two)) ]) c.mark_all.ensures.noted
 
 pub returns-clause-marks : goal.returns-clause-marks
 returns-clause-marks c =

@@ -1,8 +1,8 @@
-use Rattle.std.proofs.Common.{◌≡◌, ◌+◌, ◌++◌, ◌<◌, ℕ, List, true, filter, length, get_or, set, All, refl, subst, sym, ap, ◌∙◌, arith, length-set}
+use Rattle.std.proofs.Common.{◌≡◌, ◌+◌, ◌<◌, ℕ, List, true, length, get_or, set, All, Contains, refl, subst, sym, ◌∙◌, arith, length-set}
 use Rattle.map_theory.specs.Maps.{list_of}
 use Rattle.map_theory.proofs.EntryLemmas.{count_of}
-use Rattle.canon_order.specs.Marks.{is_set, IsNoted}
-use Rattle.canon_order.proofs.Marks.{list_within, room, IsTally-marked, elsewhere-marked, IsNoted-marked, IfOk-of_two}
+use Rattle.canon_order.specs.Marks.{IsNoted}
+use Rattle.canon_order.proofs.Marks.{is_set-here, list_within, room, IsTally-marked, elsewhere-marked, IsNoted-marked, IfOk-of_noted}
 use Rattle.canon_order.proofs.cycle_marks.mark_new.Goals as goal
 
 pub raise_noting-requires-clause-within : goal.raise_noting-requires-clause-within
@@ -25,17 +25,21 @@ pub returns-clause-noted : goal.returns-clause-noted
 returns-clause-noted c =
     let lists = c.args.lists.now in
     let v = c.args.v in
-    let stack = c.args.stack.now.items in
-    let marks = set c.args.marked.now v true in
     let near = c.raise_noting.new.counts in
+    let stack = c.raise_noting.new.stack.items in
+    let within = list_within lists c.requires.simple v c.requires.vertex in
     let more = λ (vs : List ℕ). (w : ℕ) → w < length c.args.near.now → get_or near w 0 ≡ get_or c.args.near.now w 0 + count_of w vs in
-    let put = λ (vs : List ℕ). c.raise_noting.new.stack.items ≡ c.push.new.self.items ++ filter (is_set marks) vs in
-    IfOk-of_two c.raise_noting.result (λ _. more c.list.result.now) (λ _. put c.list.result.now) (λ _. IsNoted lists c.args.marked.now c.args.near.now stack marks near c.raise_noting.new.stack.items)
-    (λ _ counts e.
+    let old = c.in_ok-note.ensures.vertices (length lists) c.requires.vertex c.requires.vertices in
+    IfOk-of_noted c.raise_noting.result (λ _. more c.list.result.now) _ _ _ (λ _. IsNoted lists c.args.marked.now c.args.near.now c.args.stack.now.items (set c.args.marked.now v true) near stack)
+    (λ _ counts kept vertices noted.
     let counts' = subst more c.list.ensures counts in
-    let us = filter (is_set marks) (list_of lists v) in
-    IsNoted-marked lists c.requires.simple c.args.marked.now c.args.near.now stack v marks near c.raise_noting.new.stack.items c.requires.vertex c.requires.vertices refl
-    (subst put c.list.ensures e ∙ ap (λ s. s ++ us) c.in_ok-push.ensures.items)
+    let elsewhere = elsewhere-marked lists c.requires.simple c.args.marked.now c.args.near.now v c.requires.vertex c.requires.tally near c.raise_noting.auto.counts counts' in
+    let own : ¬ Contains (list_of lists v) v = λ has. c.requires.simple.no_loop v v (c.requires.vertex, has) refl in
+    IsNoted-marked lists c.args.marked.now c.args.near.now c.args.stack.now.items v _ near stack refl
     (IsTally-marked lists c.requires.simple c.args.marked.now c.args.near.now v c.requires.vertex c.requires.tally near c.raise_noting.auto.counts c.requires.unmarked counts')
-    (elsewhere-marked lists c.requires.simple c.args.marked.now c.args.near.now v c.requires.vertex c.requires.tally near c.raise_noting.auto.counts counts'))
-    c.raise_noting.ensures.counts c.raise_noting.ensures.stack
+    elsewhere
+    (vertices (length lists) (subst (λ (us : List ℕ). All (λ u. u < length lists) us) (sym c.list.ensures) within) old)
+    (λ u has. kept u (c.in_ok-note.ensures.kept u has))
+    (λ two. kept v (c.in_ok-note.ensures.noted (is_set-here c.args.marked.now v true (let m = c.requires.tally.marks_of_all in let l = c.requires.vertex in omega arith)) (sym (elsewhere v own) ∙ two)))
+    (λ u has on two. noted u (subst (λ (us : List ℕ). Contains us u) (sym c.list.ensures) has) on two))
+    c.raise_noting.ensures.counts c.raise_noting.ensures.kept c.raise_noting.ensures.vertices c.raise_noting.ensures.noted

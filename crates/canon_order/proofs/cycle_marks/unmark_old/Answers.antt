@@ -1,10 +1,9 @@
-use Rattle.std.proofs.Common.{◌≡◌, ◌+◌, ◌++◌, ◌<◌, ◌≤◌, ℕ, List, true, false, filter, length, get_or, set, All, Contains, refl, subst, sym, ap, ◌∙◌, arith, length-set}
+use Rattle.std.proofs.Common.{◌≡◌, ◌+◌, ◌<◌, ◌≤◌, ℕ, List, true, false, length, get_or, set, All, Contains, refl, subst, sym, arith, length-set}
 use Rattle.std.proofs.lemmas.Result.{IfOk-weaker}
-use Rattle.std.proofs.lemmas.List.Elements.{Contains-append_right}
 use Rattle.map_theory.specs.Maps.{list_of}
-use Rattle.map_theory.proofs.EntryLemmas.{count_of, Contains-filter}
+use Rattle.map_theory.proofs.EntryLemmas.{count_of}
 use Rattle.canon_order.specs.Marks.{is_set, IsNoted}
-use Rattle.canon_order.proofs.Marks.{list_within, some, IsTally-unmarked, elsewhere-unmarked, IsNoted-unmarked, IfOk-of_two}
+use Rattle.canon_order.proofs.Marks.{list_within, some, IsTally-unmarked, elsewhere-unmarked, IsNoted-unmarked, IfOk-of_noted}
 use Rattle.canon_order.proofs.cycle_marks.unmark_old.Goals as goal
 
 pub lower_noting-requires-clause-within : goal.lower_noting-requires-clause-within
@@ -27,24 +26,24 @@ pub returns-clause-noted : goal.returns-clause-noted
 returns-clause-noted c =
     let lists = c.args.lists.now in
     let v = c.args.v in
-    let stack = c.args.stack.now.items in
-    let marks = set c.args.marked.now v false in
     let near = c.lower_noting.new.counts in
+    let stack = c.lower_noting.new.stack.items in
+    let within = list_within lists c.requires.simple v c.requires.vertex in
     let less = λ (vs : List ℕ). (w : ℕ) → w < length c.args.near.now → get_or near w 0 + count_of w vs ≡ get_or c.args.near.now w 0 in
-    let put = λ (vs : List ℕ). c.lower_noting.new.stack.items ≡ stack ++ filter (is_set marks) vs in
-    IfOk-of_two c.lower_noting.result (λ _. less c.list.result.now) (λ _. put c.list.result.now) (λ _. IsNoted lists c.args.marked.now c.args.near.now stack marks near c.lower_noting.new.stack.items)
-    (λ _ counts e.
+    IfOk-of_noted c.lower_noting.result (λ _. less c.list.result.now) _ _ _ (λ _. IsNoted lists c.args.marked.now c.args.near.now c.args.stack.now.items (set c.args.marked.now v false) near stack)
+    (λ _ counts kept vertices noted.
     let counts' = subst less c.list.ensures counts in
-    IsNoted-unmarked lists c.requires.simple c.args.marked.now c.args.near.now stack v marks near c.lower_noting.new.stack.items c.requires.vertex c.requires.tally.marks_of_all c.requires.vertices refl
-    (subst put c.list.ensures e)
+    IsNoted-unmarked lists c.args.marked.now c.args.near.now c.args.stack.now.items v _ near stack (let m = c.requires.tally.marks_of_all in let l = c.requires.vertex in omega arith) refl
     (IsTally-unmarked lists c.requires.simple c.args.marked.now c.args.near.now v c.requires.vertex c.requires.tally near c.lower_noting.auto.counts c.requires.marked counts')
-    (elsewhere-unmarked lists c.requires.simple c.args.marked.now c.args.near.now v c.requires.vertex c.requires.tally near c.lower_noting.auto.counts counts'))
-    c.lower_noting.ensures.counts c.lower_noting.ensures.stack
+    (elsewhere-unmarked lists c.requires.simple c.args.marked.now c.args.near.now v c.requires.vertex c.requires.tally near c.lower_noting.auto.counts counts')
+    (vertices (length lists) (subst (λ (us : List ℕ). All (λ u. u < length lists) us) (sym c.list.ensures) within) c.requires.vertices)
+    kept
+    (λ u has on two. noted u (subst (λ (us : List ℕ). Contains us u) (sym c.list.ensures) has) on two))
+    c.lower_noting.ensures.counts c.lower_noting.ensures.kept c.lower_noting.ensures.vertices c.lower_noting.ensures.noted
 
 pub returns-clause-neighbours : goal.returns-clause-neighbours
 returns-clause-neighbours c =
-    let stack = c.args.stack.now.items in
     let marked = is_set (set c.args.marked.now c.args.v false) in
-    let us = list_of c.args.lists.now c.args.v in
-    IfOk-weaker c.lower_noting.result (λ _. c.lower_noting.new.stack.items ≡ stack ++ filter marked c.list.result.now) (λ _. (u : ℕ) → Contains us u → marked u ≡ true → Contains c.lower_noting.new.stack.items u)
-    (λ _ e u near on. subst (λ (s : List ℕ). Contains s u) (sym (e ∙ ap (λ vs. stack ++ filter marked vs) c.list.ensures)) (Contains-append_right stack (filter marked us) u (Contains-filter marked us u near on))) c.lower_noting.ensures.stack
+    let noted = λ (us : List ℕ). (u : ℕ) → Contains us u → marked u ≡ true → get_or c.lower_noting.new.counts u 0 ≡ 2 → Contains c.lower_noting.new.stack.items u in
+    IfOk-weaker c.lower_noting.result (λ _. noted c.list.result.now) (λ _. noted (list_of c.args.lists.now c.args.v))
+    (λ _ h. subst noted c.list.ensures h) c.lower_noting.ensures.noted

@@ -32,8 +32,8 @@ returns c =
     let new = c.close_rounds.new.darts in
     let long : length new ≡ c.args.darts.now.len = c.close_rounds.auto.darts ∙ c.deref_mut.ensures.len in
     let rounds : AreRounds (ends_from 0 c.args.lists.now) c.args.darts.now.items new (length (ends_from 0 c.args.lists.now)) =
-    subst (λ es. AreRounds es c.args.darts.now.items new (length es)) c.ends.ensures (subst (λ old. AreRounds c.ends.result.now old new (length c.ends.result.now)) c.deref_mut.ensures.value c.in_ok-vertices.ensures.rounds) in
-    let vertices : AreRoundVertices (ends_from 0 c.args.lists.now) c.in_ok-vertices.vertices.items (length (ends_from 0 c.args.lists.now)) =
-    subst (λ es. AreRoundVertices es c.in_ok-vertices.vertices.items (length es)) c.ends.ensures c.in_ok-vertices.ensures.vertices in
+    subst (λ es. AreRounds es c.args.darts.now.items new (length es)) c.ends.ensures (subst (λ old. AreRounds c.ends.result.now old new (length c.ends.result.now)) c.deref_mut.ensures.value c.in_ok-close_rounds.ensures.rounds) in
+    let vertices : AreRoundVertices (ends_from 0 c.args.lists.now) c.close_rounds.new.vertices.items (length (ends_from 0 c.args.lists.now)) =
+    subst (λ es. AreRoundVertices es c.close_rounds.new.vertices.items (length es)) c.ends.ensures c.in_ok-close_rounds.ensures.vertices in
     rw (take_at new (drop (length new) c.args.darts.now.items) c.args.darts.now.len long)
-    (AreLinked-rounds c.args.lists.now c.requires.few_lists c.args.darts.now.items c.requires.slots new c.in_ok-vertices.vertices.items rounds vertices)
+    (AreLinked-rounds c.args.lists.now c.requires.few_lists c.args.darts.now.items c.requires.slots new c.close_rounds.new.vertices.items rounds vertices)

@@ -1,4 +1,4 @@
-use Rattle.std.proofs.Common.{◌≡◌, ◌++◌}
+use Rattle.std.proofs.Common.{◌≡◌, ◌+◌, ◌-◌, ◌≤◌, ◌++◌, vec_len, vec_capacity}
 use Rattle.half_edges.specs.Arena.{steps, walk}
 use Rattle.half_edges.proofs.arena.push_heads.Given as goal
 
@@ -6,4 +6,5 @@ abbrev pub invariant-loop-k : goal.invariant-loop-k
 invariant-loop-k l = record {
   at : l.d ≡ steps l.darts l.first l.k;
   met : l.entries.items ≡ l.initial.entries.items ++ walk l.darts l.first l.k;
+  room : vec_len l.entries + (l.degree - l.k) ≤ vec_capacity l.entries;
 }

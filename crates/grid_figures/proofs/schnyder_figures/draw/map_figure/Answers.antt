@@ -5,11 +5,11 @@ use Rattle.conn_parts.specs.Counted.{IsPlaneMap}
 use Rattle.grid_figures.specs.SchnyderFiguresFigures.{IsSchnyderFigure}
 use Rattle.grid_figures.proofs.schnyder_figures.draw.map_figure.Goals as goal
 
-pub plane_figure-requires-clause-lists : goal.plane_figure-requires-clause-lists
-plane_figure-requires-clause-lists c = sym c.in_ok-plane.ensures.plane.counted.lists_are
+pub drawn_plane-requires-clause-lists : goal.drawn_plane-requires-clause-lists
+drawn_plane-requires-clause-lists c = sym c.in_ok-plane.ensures.plane.counted.lists_are
 
-pub plane_figure-requires-clause-plane : goal.plane_figure-requires-clause-plane
-plane_figure-requires-clause-plane c =
+pub drawn_plane-requires-clause-plane : goal.drawn_plane-requires-clause-plane
+drawn_plane-requires-clause-plane c =
     let plane = c.in_ok-plane.ensures.plane in
     subst (λ (ls : Lists). IsPlaneMap 3 ls c.in_ok-plane.plane) (sym plane.counted.lists_are) plane
 

@@ -1,0 +1,34 @@
+use Rattle.std.proofs.Common.{◌<◌, length, ap, ◌∙◌, arith}
+use Rattle.std.proofs.lemmas.List.{take_all}
+use Rattle.map_lists.proofs.CutLemmas.{IsStored-cut, IsStored-cuts}
+use Rattle.half_edges.specs.Arena.{vertex_at, arena_lists}
+use Rattle.half_edges.proofs.ArenaLemmas.{IsStored-walk, walkable_here, walkable_read}
+use Rattle.half_edges.proofs.half_map.HalfMap.read_into.Goals as goal
+
+pub push_heads-requires : goal.push_heads-requires
+push_heads-requires c =
+    let v = c.loop-vertex.vertex-index in
+    let vertices = c.self.inside.vertices.items in
+    let l : v < length vertices = omega (arith, c.loop-vertex-test.true, c.deref-vertex-items.ensures.len, ap length c.deref-vertex-items.ensures.value) in
+    walkable_read c.self.inside.darts.items _ (vertex_at vertices v) _ c.deref.ensures.value
+    (ap (λ vs. vertex_at vs v) c.deref-vertex-items.ensures.value)
+    (walkable_here _ _ _ _ _ c.self.invariant v l)
+
+pub loop-vertex-preserved : goal.loop-vertex-preserved
+loop-vertex-preserved c =
+    let v = c.loop-vertex.vertex-index in
+    let vertices = c.self.inside.vertices.items in
+    let same = c.deref-vertex-items.ensures.value in
+    let l : v < length vertices = omega (arith, c.loop-vertex-test.true, c.deref-vertex-items.ensures.len, ap length same) in
+    IsStored-walk c.self.inside.darts.items _ vertices _ v _ _ _ _ _ c.deref.ensures.value same l c.loop-vertex.invariant
+    c.in_ok-push_heads.ensures c.in_ok-push.ensures.items (omega (arith, c.len-in-loop-vertex.ensures, c.push_heads.new.entries.ok.0))
+
+pub from_parts-requires : goal.from_parts-requires
+from_parts-requires c = IsStored-cuts _ _ _ c.loop-vertex.invariant
+
+pub returns : goal.returns
+returns c =
+    let vertices = c.self.inside.vertices.items in
+    c.from_parts.ensures ∙ IsStored-cut _ _ _ c.loop-vertex.invariant
+    ∙ ap (λ vs. arena_lists c.self.inside.darts.items vs) (take_all c.loop-vertex.vertex-index vertices (omega (arith, c.loop-vertex-test.false, c.deref-vertex-items.ensures.len, ap length c.deref-vertex-items.ensures.value)))
+    ∙ ap (λ m. m.lists) c.self.view_is
