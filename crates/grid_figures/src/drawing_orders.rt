@@ -8,7 +8,7 @@ mod order;
 
 pub(crate) use full::{full_order, is_triangulated};
 pub(crate) use order::{Tools, made_or, ordered_plane, ordered_record};
-pub use order::{DrawingOrder, drawing_order, plane_order};
+pub use order::{DrawingOrder, drawing_order};
 
 /// A plane drawing of a completion of a map in a grid is a valid drawing of the map, with its outer face.
 pub fn completion_draws()

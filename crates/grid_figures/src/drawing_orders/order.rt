@@ -141,7 +141,8 @@ pub(crate) fn made_or<'a>(made: &'a Option<Rotations>, own: &'a Rotations) -> &'
     }
 }
 
-// As `plane_order`, with a peeler that may have ordered other maps before.
+// Completes a map of genus zero with these `lists` and at least three vertices, and orders it, by `tools` that may have
+// served other maps before.
 pub(crate) fn ordered_plane(
     tools: &mut Tools,
     plane: CountedMap,
@@ -167,23 +168,7 @@ pub(crate) fn ordered_plane(
     })
 }
 
-/// The completion of a map of genus zero with these lists and at least three vertices, and an order of it, as
-/// `drawing_order` has them. It fails only for want of memory.
-pub fn plane_order(
-    alloc: Global,
-    plane: CountedMap,
-    lists: &Rotations,
-) -> Result<DrawingOrder, AllocError>
-    requires plane { IsPlaneMap 3 plane.map.lists plane }
-    requires lists { lists.now ≡ plane.map.lists }
-    ensures { IfOk result (IsDrawingOrder plane.map.lists) }
-{
-    let mut tools = Tools::new(alloc);
-    let found = ordered_plane(&mut tools, plane, lists)?;
-    Ok(found)
-}
-
-// As `drawing_order`, with a peeler that may have ordered other maps before.
+// Like [`drawing_order`], but by `tools` that may have served other maps before.
 pub(crate) fn ordered_record(tools: &mut Tools, lists: &Rotations) -> Result<DrawingOrder, Unserved>
     requires some_list { 0 < length lists.now }
     requires few_lists { length lists.now < 4096 }
