@@ -77,7 +77,7 @@ def run(job: str, records: Records = (), size: Optional[int] = None, number: Opt
     An input of more than 16 MiB is answered by as many programs side by side as there are processors, and any input by so
     many as `processes` says; the answers are those of one run. `stream` gives them one by one.
 
-    Raises PigaleError where the status is 2 or more: bad words, a bad place in the input, a fault, want of memory.
+    Raises PigaleError where the status is 2 or more: bad words, a bad place in the input, a fault, out of memory.
     Raises ValueError where a record is none of the job's, as one map in place of a list, or has too many vertices.
     """
     words = [job]

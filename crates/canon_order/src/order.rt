@@ -56,7 +56,7 @@ fn peel(
     push_three(taken, under, t, s)
 }
 
-/// The order of these vertices, which are given from the last one to the first. It fails only for want of memory.
+/// The order of these vertices, which are given from the last one to the first. It fails only when out of memory.
 pub fn turned_order(alloc: Global, taken: &[u16]) -> Result<Order, AllocError>
     requires few { length taken.now < 4096 }
     requires within { All (λ v. v < length taken.now) taken.now }
@@ -220,7 +220,7 @@ impl Peeler {
 /// goes from s to t, and each two of them that follow one another are a face of the whole map with it.
 /// These faces are all but that of the base. `rank` has the place of each vertex in `at`.
 ///
-/// It fails only for want of memory. The map stays as it is. The time is linear in the vertices: they are
+/// It fails only when out of memory. The map stays as it is. The time is linear in the vertices: they are
 /// taken off from the last one on, each goes onto the outer cycle and off it once, and its neighbours
 /// count how many of theirs are there; one with just two may be taken off.
 ///

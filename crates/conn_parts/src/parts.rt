@@ -52,7 +52,7 @@ impl Parts {
     }
 }
 
-/// The components of a map, in time linear in its darts. It fails only for want of memory.
+/// The components of a map, in time linear in its darts. It fails only when out of memory.
 pub fn components(alloc: Global, map: &HalfMap) -> Result<Parts, AllocError>
     ensures { IfOk result (ArePartsOf map.now.lists) }
 {
@@ -62,7 +62,7 @@ pub fn components(alloc: Global, map: &HalfMap) -> Result<Parts, AllocError>
 }
 
 /// The components of lists that are a simple map of at most 4095 vertices, in time linear in the entries. It
-/// fails only for want of memory.
+/// fails only when out of memory.
 pub fn list_components(alloc: Global, lists: &Rotations) -> Result<Parts, AllocError>
     requires simple { IsSimpleMap lists.now }
     requires few { length lists.now < 4096 }

@@ -18,7 +18,7 @@ use std::alloc::{AllocError, Global};
 /// whose sides all its vertices lie; or `Yes`.
 ///
 /// `base` is live, there is one point for each vertex, and no coordinate is beyond 2^20 in size; whether the drawing is
-/// plane is not looked at. It fails only for want of memory. The time and the memory
+/// plane is not looked at. It fails only when out of memory. The time and the memory
 /// are linear in the vertices and the darts.
 pub fn check_convex_points(
     alloc: Global,

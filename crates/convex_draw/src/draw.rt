@@ -72,7 +72,7 @@ pub fn figure_by_faces(
 
 /// The figure that `convex_draw` gives, whose points are the counts of faces over a run of the map.
 ///
-/// It fails only for want of memory. The map stays as it is.
+/// It fails only when out of memory. The map stays as it is.
 pub fn run_figure(alloc: Global, map: &HalfMap, base: DartId) -> Result<GridFigure, AllocError>
     requires plane { IsPlane map.now.lists }
     requires three { IsThreeConnected map.now.lists }
@@ -90,7 +90,7 @@ pub fn run_figure(alloc: Global, map: &HalfMap, base: DartId) -> Result<GridFigu
 /// left corner of the grid to the lower right one, and whose face is the outer one. The grid is f - 1 by f - 1, for
 /// f faces. No inner face bends inwards, and the outer one is a triangle with flat angles.
 ///
-/// It fails only for want of memory. The map stays as it is.
+/// It fails only when out of memory. The map stays as it is.
 ///
 /// Source: Felsner, Convex drawings of planar graphs and the order dimension of 3-polytopes, 2001.
 pub fn convex_draw(alloc: Global, map: &HalfMap, base: DartId) -> Result<GridFigure, AllocError>

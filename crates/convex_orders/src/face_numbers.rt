@@ -110,7 +110,7 @@ fn put_rows(
     Ok(())
 }
 
-/// The numbers of the faces of a map, which are given. It fails only for want of memory. The time is linear in the
+/// The numbers of the faces of a map, which are given. It fails only when out of memory. The time is linear in the
 /// darts, and so is the memory.
 pub fn numbers_of_faces(
     alloc: Global,

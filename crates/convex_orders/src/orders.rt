@@ -67,7 +67,7 @@ fn rows_from(alloc: Global, tables: &Tables) -> Result<ConvexRows, AllocError>
 }
 
 /// Returns the rows of a run of a three-connected map of genus zero from the dart `base`, from s to d, by the map's
-/// `lists` and its `faces`. It fails only for want of memory, and the map stays as it is.
+/// `lists` and its `faces`. It fails only when out of memory, and the map stays as it is.
 ///
 /// The run makes all faces but that of the base. Its first two ranks stand for d and s, and the last one for the
 /// vertex before the base on the base's face.

@@ -75,7 +75,7 @@ pub fn check_outer_connected(
 ///
 /// Twice the area of a face is the sum of a.x * b.y - b.x * a.y over its darts from a to b, in 128 bits.
 /// `base` is live, `fig` has one point for each vertex, and no coordinate is beyond 2^20 in size; its grid is
-/// not looked at. It fails only for want of memory. The time and the memory are linear in the vertices and the darts.
+/// not looked at. It fails only when out of memory. The time and the memory are linear in the vertices and the darts.
 pub fn check_outer(
     alloc: Global,
     map: &HalfMap,

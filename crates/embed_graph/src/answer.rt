@@ -134,7 +134,7 @@ pub(crate) fn settled(
 }
 
 /// A simple map of genus zero with exactly the edges of a graph with at least three vertices, or a witness that there is
-/// none. It fails only for want of memory.
+/// none. It fails only when out of memory.
 ///
 /// The map is that of the left-right test, whose lists are checked, and whose no is right. A witness is one of the first
 /// 3n - 5 edges of the graph's line, where it has more; where the search for it finds none that is accepted, edges are

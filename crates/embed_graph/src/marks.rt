@@ -63,7 +63,7 @@ fn are_equal(one: &[u8], other: &[u8]) -> bool
     one == other
 }
 
-/// Whether a simple map has just the edges of a graph. It fails only for want of memory.
+/// Whether a simple map has just the edges of a graph. It fails only when out of memory.
 pub fn has_edges(alloc: Global, graph: &Graph, lists: &Rotations) -> Result<bool, AllocError>
     requires simple { IsSimpleMap lists.now }
     requires vertices { length lists.now ≡ graph.now.n }

@@ -49,7 +49,7 @@ impl Tables {
     }
 
     /// Rotation lists for a graph, or none where it has no map of genus zero. Lists are not checked: a graph without a map
-    /// may have some too, though no such graph is known. It fails only for want of memory.
+    /// may have some too, though no such graph is known. It fails only when out of memory.
     pub fn planar_lists(
         &mut self,
         alloc: Global,
@@ -66,7 +66,7 @@ impl Tables {
     }
 
     /// A witness that the graph whose lists were asked for last is nonplanar, or none where that is not seen to be. It
-    /// fails only for want of memory.
+    /// fails only when out of memory.
     pub fn witness(&mut self, alloc: Global) -> Result<Option<Witness>, AllocError> {
         if self.edges.are_of_k5() {
             self.test.links.put_all(&self.edges);
@@ -80,14 +80,14 @@ impl Tables {
 }
 
 /// Rotation lists for a graph, or none where it has no map of genus zero. Lists are not checked: a graph without a map
-/// may have some too, though no such graph is known. It fails only for want of memory.
+/// may have some too, though no such graph is known. It fails only when out of memory.
 pub fn planar_lists(alloc: Global, graph: &Graph) -> Result<Option<Rotations>, AllocError>
     ensures { IfOk result (λ found. MatchOption found ((lists : Lists) → ¬ IsMapOf lists graph.now) (λ lists. length lists ≡ graph.now.n)) }
 {
     Tables::new().planar_lists(alloc, graph)
 }
 
-/// A witness that a graph is nonplanar, or none where that is not seen to be. It fails only for want of
+/// A witness that a graph is nonplanar, or none where that is not seen to be. It fails only when out of
 /// memory.
 pub fn find_witness(alloc: Global, graph: &Graph) -> Result<Option<Witness>, AllocError> {
     let mut tables = Tables::new();

@@ -125,7 +125,7 @@ fn search<F: Fn(DartId) -> bool>(
 /// a dart where a chain comes to the face on its left over an even number of edges that count, and one behind that
 /// where a chain comes there over an odd number.
 ///
-/// It fails only for want of memory. The time is linear in the map.
+/// It fails only when out of memory. The time is linear in the map.
 pub fn mark_reached<F: Fn(DartId) -> bool>(
     alloc: Global,
     map: &HalfMap,

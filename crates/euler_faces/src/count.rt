@@ -161,7 +161,7 @@ pub fn count_lists(alloc: Global, lists: &Rotations) -> Result<EulerCount, MapFa
     counter.count(lists)
 }
 
-/// The counts of a map, in time linear in its darts. It fails only for want of memory.
+/// The counts of a map, in time linear in its darts. It fails only when out of memory.
 pub fn euler(alloc: Global, map: &HalfMap) -> Result<EulerCount, AllocError>
     ensures n { IfOk result (λ count. count.n ≡ vertex_count map.now.lists) }
     ensures m { IfOk result (λ count. count.m ≡ edge_count map.now.lists) }

@@ -134,7 +134,7 @@ fn add_all(
     Ok(())
 }
 
-/// The faces of a map. It fails only for want of memory. The time is linear in the darts, and so is the
+/// The faces of a map. It fails only when out of memory. The time is linear in the darts, and so is the
 /// memory.
 ///
 /// Each walk begins at its first dart in the order of the lists, and the walks stand in the order of those

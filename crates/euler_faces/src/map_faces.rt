@@ -105,7 +105,7 @@ fn count_isolated(map: &HalfMap) -> u32
 }
 
 /// The counts of a map, of which the components are counted already, in time linear in its darts. It takes a byte for
-/// each dart, and fails only for want of memory.
+/// each dart, and fails only when out of memory.
 pub fn euler_by_components(
     alloc: Global,
     map: &HalfMap,

@@ -46,7 +46,7 @@ rows-fail-unique : (kind : Kind) (n : ℕ) (text : List ℕ) (first : ℕ) (faul
 rows-fail-unique kind n text first fault fault' memory memory' fails fails' =
     Stops-unique kind n text first fault fault' (Stops-from_fail kind n text first fault memory fails) (Stops-from_fail kind n text first fault' memory' fails')
 
--- an answer that is not for want of memory
+-- an answer other than out of memory
 abbrev IsTold : Result Item TextFault → Type 0
 IsTold r = r ≢ Err NoMemory
 

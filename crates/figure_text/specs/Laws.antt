@@ -59,7 +59,7 @@ abbrev pub IsAnswer : List ℕ → ℕ → ℕ → Result Item TextFault → Typ
 IsAnswer bytes at line (Ok item) = StandsAt bytes at line item
 IsAnswer bytes at line (Err fault) = FailsAt bytes at line fault
 
--- But for want of memory there is one answer at an offset.
+-- But when out of memory there is one answer at an offset.
 abbrev pub OneAnswer : Type 0
 OneAnswer =
     (bytes : List ℕ) (at line : ℕ) → at ≤ length bytes → (r s : Result Item TextFault) → IsAnswer bytes at line r → IsAnswer bytes at line s

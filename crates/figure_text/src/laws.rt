@@ -9,7 +9,7 @@ pub fn printed_is_read()
     ensures { PrintedIsRead }
 {}
 
-/// But for want of memory there is one answer at an offset of a text: two items, two faults, or an item and a
+/// But when out of memory there is one answer at an offset of a text: two items, two faults, or an item and a
 /// fault that both hold there are the same. So what `print_figure` appended is read as that figure, and as
 /// nothing else.
 pub fn one_answer()

@@ -124,7 +124,7 @@ fn push_lines<R: Numbered>(
 
 /// Appends the text of a figure with this number. Each list of the drawing has an entry for each vertex, but
 /// for the columns of bars, of which there may be any number. A witness has as many branches and paths as its kind
-/// has, and no path is empty. After want of memory the bytes are as they were.
+/// has, and no path is empty. When memory runs out the bytes are as they were.
 pub fn print_figure(
     alloc: Global,
     number: u32,
@@ -143,8 +143,8 @@ pub fn print_figure(
     }
 }
 
-/// Appends the text of a straight-line drawing with this number, of lists and a point for each of them. After
-/// want of memory the bytes are as they were.
+/// Appends the text of a straight-line drawing with this number, of lists and a point for each of them. When
+/// memory runs out the bytes are as they were.
 pub fn print_grid(
     alloc: Global,
     number: u32,

@@ -34,7 +34,7 @@ pub enum Columns {
     Bad,
     /// With a number outside its range.
     Limit,
-    /// Unknown for want of memory.
+    /// Unknown when out of memory.
     NoMemory,
 }
 

@@ -104,7 +104,7 @@ fn witness_text_of(
     text_by_line(alloc, number, &line, witness)
 }
 
-/// Appends the text of a witness with this number, and with the line of its graph. After want of memory the bytes are
+/// Appends the text of a witness with this number, and with the line of its graph. When memory runs out the bytes are
 /// as they were.
 pub fn print_witness(
     alloc: Global,

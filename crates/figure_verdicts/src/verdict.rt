@@ -10,7 +10,7 @@ use rect_check::RectVerdict;
 /// The verdict on a figure.
 #[derive(Clone, Copy, PartialEq, Eq)]
 pub enum FigureVerdict {
-    /// Its lists are no simple map, and this is their first fault, which is not want of memory.
+    /// Its lists are no simple map, and this is their first fault, which is not out of memory.
     Refused(MapFault),
     /// The straight-line drawing has this fault first, which is not `Yes`.
     Drawing(Verdict),

@@ -24,7 +24,7 @@ use std::sync::ledger::{Blank, Ledger};
 /// (0, 0), its second at (2n - 4, 0) and its last at (n - 2, n - 2); of all faces that of the base alone is
 /// drawn clockwise.
 ///
-/// It fails only for want of memory. The map and the order stay as they are. The time is linear in the
+/// It fails only when out of memory. The map and the order stay as they are. The time is linear in the
 /// vertices: a tree of offsets is made of the order, and added up.
 ///
 /// Source: de Fraysseix, Pach, Pollack, How to draw a planar graph on a grid, 1990; the offsets: Chrobak,
@@ -110,7 +110,7 @@ impl Shifter {
         Ok(points)
     }
 
-    /// Draws as [`list_draw`] does. After want of memory the shifter serves as before.
+    /// Draws as [`list_draw`] does. When memory runs out the shifter serves as before.
     pub fn list_draw(&mut self, lists: &Rotations, order: &Order) -> Result<GridFigure, AllocError>
         requires triangulation { IsTriangulation lists.now }
         requires few { length lists.now < 4096 }

@@ -51,7 +51,7 @@ fault_from bytes None = rest_fault bytes (line_start bytes)
 abbrev pub line_fault : List ℕ → Option G6Fault
 line_fault bytes = fault_from bytes (position is_bad_byte bytes)
 
--- an answer names the first fault; want of memory is named where there is none
+-- an answer names the first fault; out of memory is named where there is none
 abbrev pub NamesFault : List ℕ → G6Fault → Type 0
 NamesFault bytes NoMemory = line_fault bytes ≡ None
 NamesFault bytes fault = line_fault bytes ≡ Some fault

@@ -22,7 +22,7 @@ pub enum Corner {
 
 impl HalfMap {
     /// Makes room for edges, so that `spare` is the greater of `k`, which is at most 2^23, and its old value.
-    /// After an error, which comes only for want of memory, nothing has changed.
+    /// After an error, which comes only when out of memory, nothing has changed.
     pub fn reserve_edges(&mut self, k: u32) -> Result<(), AllocError>
         requires few { k ≤ 8388608 }
         ensures spare { OnOk result (self.new.spare ≡ max k self.old.spare) }

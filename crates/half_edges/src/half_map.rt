@@ -246,7 +246,7 @@ impl HalfMap {
         }
     }
 
-    /// The lists, each from the vertex's first dart. It fails only for want of memory.
+    /// The lists, each from the vertex's first dart. It fails only when out of memory.
     pub fn rotations(&self, alloc: Global) -> Result<Rotations, AllocError>
         ensures { IfOk result (λ lists. lists ≡ self.now.lists) }
     {

@@ -8,8 +8,8 @@ use crate::{HalfMap, MapFault, Rotations};
 use std::alloc::{AllocError, Global};
 
 impl HalfMap {
-    /// The map with these lists, which are at most 4095 and a simple map. Its `spare` is 0. It fails only for
-    /// want of memory.
+    /// The map with these lists, which are at most 4095 and a simple map. Its `spare` is 0. It fails only when
+    /// out of memory.
     pub fn from_simple(alloc: Global, lists: &Rotations) -> Result<HalfMap, AllocError>
         requires simple { IsSimpleMap lists.now }
         requires few { length lists.now < 4096 }
@@ -26,7 +26,7 @@ impl HalfMap {
         }
     }
 
-    /// A map with the same lists. Its `spare` is 0, and its ids may be others. It fails only for want of
+    /// A map with the same lists. Its `spare` is 0, and its ids may be others. It fails only when out of
     /// memory.
     pub fn copy(&self, alloc: Global) -> Result<HalfMap, AllocError>
         ensures lists { IfOk result (λ map. map.lists ≡ self.now.lists) }
@@ -41,7 +41,7 @@ impl HalfMap {
     /// The part of the map between the vertices whose flag in `keep` is set: they are numbered anew in
     /// rising order, and each list is restricted to them. `keep` has `n` flags, at least one of them set.
     ///
-    /// Its `spare` is 0, and its ids may be others. It fails only for want of memory.
+    /// Its `spare` is 0, and its ids may be others. It fails only when out of memory.
     pub fn induced(&self, alloc: Global, keep: &[bool]) -> Result<HalfMap, AllocError>
         requires flags { length keep.now ≡ vertex_count self.now.lists }
         requires some { Contains keep.now true }

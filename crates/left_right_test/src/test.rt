@@ -85,7 +85,7 @@ impl LeftRightTest {
         !self.passes_all(edges) && self.is_shown(graph)
     }
 
-    /// The rotation lists of edges that pass, on `n` vertices. It fails only for want of memory.
+    /// The rotation lists of edges that pass, on `n` vertices. It fails only when out of memory.
     pub fn lists(&mut self, alloc: Global, n: u16) -> Result<Rotations, AllocError>
         ensures { IfOk result (λ lists. length lists ≡ n) }
     {

@@ -17,7 +17,7 @@ use Rattle.line_inputs.specs.declared.figure_lines.ending.Ending.TheVariants.{We
 use Rattle.line_inputs.proofs.ItemLemmas.{drawn-within, note-within}
 use Rattle.line_inputs.proofs.FigureLinesReadLemmas.{open-bad}
 
--- an answer that is not for want of memory
+-- an answer other than out of memory
 abbrev IsTold : Result Item TextFault → Type 0
 IsTold r = r ≢ Err fault.NoMemory
 

@@ -9,7 +9,7 @@ use map_lists::Rotations;
 use std::alloc::{AllocError, Global};
 
 /// The lists with an edge between two vertices more: `v` stands directly after `a` in the list of `u`, and `u`
-/// directly after `c` in that of `v`; at the end, where the list has no such entry. It fails only for want of memory.
+/// directly after `c` in that of `v`; at the end, where the list has no such entry. It fails only when out of memory.
 pub fn with_edge_after(
     alloc: Global,
     lists: &Rotations,

@@ -115,7 +115,7 @@ fn inner_face(map: &HalfMap) -> FaceDarts
 /// behind c in the list of a, behind a in that of b, and behind b in that of c. The face from a to b to k
 /// comes in the place of the old one, and those from b to c to k and from c to a to k come last.
 ///
-/// It fails only for want of memory. The time is linear in `n`.
+/// It fails only when out of memory. The time is linear in `n`.
 pub fn stacked(alloc: Global, n: u16, number: u32) -> Result<Rotations, AllocError>
     requires some { 3 ≤ n }
     requires few { n < 4096 }

@@ -124,7 +124,7 @@ pub struct MemSink {
 
 impl MemSink {
     /// A sink with nothing written and both counts 0, and memory for `room` bytes. `most` must be at
-    /// least 1. `failing` is copied. It fails only for want of memory.
+    /// least 1. `failing` is copied. It fails only when out of memory.
     pub fn with_room(
         alloc: Global,
         room: usize,

@@ -4,7 +4,7 @@ ghost use Rattle.pg_perm.specs.declared.fault.PermFault.TheVariants.{NoMemory};
 
 use std::alloc::AllocError;
 
-/// Why a list is not the images of a permutation, or want of memory. The first kind that applies is named.
+/// Why a list is not the images of a permutation, or out of memory. The first kind that applies is named.
 #[derive(Clone, Copy, PartialEq, Eq)]
 pub enum PermFault {
     /// The least number whose image is not below the length.

@@ -33,7 +33,7 @@ fn after_first(alloc: Global, mut all: Args) -> Result<Vec<String>, AllocError>
 }
 
 /// The words after the program's name, by what the system reports of its arguments: none where one of
-/// them is not UTF-8, since the words are then bad. It fails only for want of memory.
+/// them is not UTF-8, since the words are then bad. It fails only when out of memory.
 pub fn words_of(alloc: Global, args: io::Result<Args>) -> Result<Vec<String>, AllocError>
     ensures words { IfOk result (λ words. MatchResult args
         (λ all. words.items ≡ drop 1 (into_iter_items all)) (λ _. words.items ≡ [])) }

@@ -10,7 +10,7 @@ abbrev pub failure_for : Unserved → Failure
 failure_for (unserved.Refused refusal) = Refused refusal
 failure_for unserved.NoMemory = NoMemory
 
--- The failure of a call on arguments that are as it takes them is a condition that the record breaks, or want of memory, which says nothing; only that of others is `BadArgument`.
+-- The failure of a call on arguments that are as it takes them is a condition that the record breaks, or out of memory, which says nothing; only that of others is `BadArgument`.
 abbrev pub Fails : Type 0 → (Refusal → Type 0) → Failure → Type 0
 Fails Given Breaks (Refused refusal) = Given × Breaks refusal
 Fails Given Breaks NoMemory = Unit {0}

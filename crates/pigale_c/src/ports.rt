@@ -62,7 +62,7 @@ impl Sink for TextSink {
 
     ghost faults = { λ sink. sink.faults };
 
-    /// Appends the whole piece, or fails for want of memory and counts the fault.
+    /// Appends the whole piece, or fails when out of memory and counts the fault.
     fn write(&mut self, piece: &[u8]) -> Result<usize, WriteFailed> {
         match self.text.extend_from_slice(piece) {
             Ok(()) => Ok(piece.len()),

@@ -35,7 +35,7 @@ pub(crate) fn line_in(alloc: Global, form: Form, line: Vec<u8>) -> Result<Vec<u8
     }
 }
 
-/// Appends a straight-line drawing of a simple map in this form. After want of memory the bytes are as they were.
+/// Appends a straight-line drawing of a simple map in this form. When memory runs out the bytes are as they were.
 pub(crate) fn print_grid_in(
     alloc: Global,
     form: Form,
@@ -56,7 +56,7 @@ pub(crate) fn print_grid_in(
     }
 }
 
-/// Appends a visibility drawing of a simple map in this form. After want of memory the bytes are as they were.
+/// Appends a visibility drawing of a simple map in this form. When memory runs out the bytes are as they were.
 pub(crate) fn print_bars_in(
     alloc: Global,
     form: Form,
@@ -76,7 +76,7 @@ pub(crate) fn print_bars_in(
     }
 }
 
-/// Appends a rectangular dual in this form. After want of memory the bytes are as they were.
+/// Appends a rectangular dual in this form. When memory runs out the bytes are as they were.
 pub(crate) fn print_rects_in(
     alloc: Global,
     form: Form,
@@ -95,7 +95,7 @@ pub(crate) fn print_rects_in(
     }
 }
 
-/// Appends a witness of a graph in this form. After want of memory the bytes are as they were.
+/// Appends a witness of a graph in this form. When memory runs out the bytes are as they were.
 pub(crate) fn print_witness_in(
     alloc: Global,
     form: Form,

@@ -31,7 +31,7 @@ pub trait Method: Drop {
         ensures served { OnOk result (says.Serves lists.now) }
         ensures refused { IfErr result (IfRefused (says.Breaks lists.now)) };
 
-    /// Appends, in a form, what was found of lists that it serves. After want of memory the bytes are as they were.
+    /// Appends, in a form, what was found of lists that it serves. When memory runs out the bytes are as they were.
     fn print(
         alloc: Global,
         form: Form,

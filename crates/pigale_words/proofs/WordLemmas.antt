@@ -35,7 +35,7 @@ given_by-fault [] rows e (inl memory) other = absurd (other memory)
 given_by-fault [] rows e (inr among) other = absurd among
 given_by-fault (fault ∷ faults) rows e has other = refl
 
--- words that clap refuses, but not for want of memory, give nothing
+-- words that clap refuses, but not when out of memory, give nothing
 pub given-refused : (a : App) (words : List Text) (e : Error) → a ≡ command → (is_simple_and_free a ≡ true → HasKind (fault_of a words) e) → kind_of e ≢ OutOfMemory → given words ≡ None
 unfolding given
 given-refused a words e is fails other =

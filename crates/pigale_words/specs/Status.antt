@@ -14,7 +14,7 @@ status_number ReadFault = 4
 status_number WriteFault = 5
 status_number NoMemory = 6
 
--- `BadWords` only where the words give nothing; want of memory says nothing of them
+-- `BadWords` only where the words give nothing; out of memory says nothing of them
 abbrev pub RefusesWords : {X : Type 0} → Option X → WordFault → Type 0
 RefusesWords found fault.BadWords = found ≡ None
 RefusesWords found fault.NoMemory = Unit {0}

@@ -18,7 +18,7 @@ OneReading =
 abbrev pub EachInputIsRead : Type 0
 EachInputIsRead = (input : List ℕ) → (records : List Lists) × (ending : Ending) × IsReading input records ending
 
--- A record is read wherever it stands, and whatever follows it: no other step is at its first byte, and no fault but want of memory.
+-- A record is read wherever it stands, and whatever follows it: no other step is at its first byte, and no fault but out of memory.
 abbrev pub RecordIsRead : Type 0
 RecordIsRead =
     (front bytes rest : List ℕ) (lists : Lists) → IsRecord bytes lists

@@ -11,7 +11,7 @@ abbrev pub StandsAt : List ℕ → ℕ → Step → Type 0
 StandsAt bytes at (Lists lists end) = (at < end) × (end ≤ length bytes) × IsRecord (slice_range bytes at end) lists
 StandsAt bytes at End = at ≡ length bytes
 
--- no record, for one of two causes; want of memory says nothing of the bytes
+-- no record, for one of two causes; out of memory says nothing of the bytes
 abbrev pub FailsAt : List ℕ → ℕ → CodeFault → Type 0
 FailsAt bytes at (EndInRecord start) =
     (start ≡ at) × (at < length bytes) × IsFalse (has_bad_count (drop at bytes)) × NoRecord (drop at bytes)

@@ -13,7 +13,7 @@ pub fn each_input_is_read()
 {}
 
 /// What `write_record` writes is read back by `next_record`, whatever stands before it and behind it: each
-/// record is, by no other step, and with no fault but want of memory.
+/// record is, by no other step, and with no fault but out of memory.
 pub fn record_is_read()
     ensures { RecordIsRead }
 {}

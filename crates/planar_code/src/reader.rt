@@ -234,7 +234,7 @@ impl RecordReader {
         self.scanner.lists()
     }
 
-    /// Takes bytes of a piece, to the end of a record within it or to its own end. After want of memory
+    /// Takes bytes of a piece, to the end of a record within it or to its own end. When memory runs out
     /// nothing has changed.
     pub fn take(&mut self, piece: &[u8]) -> Result<Taken, AllocError>
         requires { self.old.start + length self.old.pending + length piece.now ≤ input_limit }
@@ -245,7 +245,7 @@ impl RecordReader {
         Ok(take_piece(&mut self.scanner, &mut self.place, piece))
     }
 
-    /// Takes the next byte. After a bad count, and after want of memory, nothing has changed.
+    /// Takes the next byte. After a bad count, and when memory runs out, nothing has changed.
     pub fn feed(&mut self, byte: u8) -> Result<Fed, AllocError>
         requires { self.old.start + length self.old.pending < input_limit }
         ensures fed { IfOk result (λ fed. Feeds self.old byte fed self.new) }

@@ -44,7 +44,7 @@ fn put_row(entries: &mut Vec<u16>, lists: &Rotations, us: &[u16]) -> Result<(), 
     Ok(())
 }
 
-/// For each vertex of a simple map its neighbours of no lower degree. It fails only for want of memory.
+/// For each vertex of a simple map its neighbours of no lower degree. It fails only when out of memory.
 pub(crate) fn upper_rows(alloc: Global, lists: &Rotations) -> Result<Rotations, AllocError>
     requires { IsSimpleMap lists.now }
     ensures { IfOk result (AreUpperRows lists.now) }

@@ -64,7 +64,7 @@ fn numbers_at(alloc: Global, numbers: &[u32], lines: &[u16]) -> Result<Vec<u32>,
     Ok(made)
 }
 
-/// The number of the line of each thing, in time linear in the things and the lines. It fails only for want of
+/// The number of the line of each thing, in time linear in the things and the lines. It fails only when out of
 /// memory.
 pub fn line_numbers(
     alloc: Global,

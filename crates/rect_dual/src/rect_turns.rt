@@ -74,7 +74,7 @@ fn fill_turns(
     Ok(())
 }
 
-/// The turns of the steps of a run with these rows, in time linear in the rows. It fails only for want of memory.
+/// The turns of the steps of a run with these rows, in time linear in the rows. It fails only when out of memory.
 pub fn row_turns(alloc: Global, rows: &Rotations) -> Result<RowTurns, AllocError>
     requires run { (steps : ℕ → Step) × AreRows steps rows.now }
     requires few { length rows.now < 4096 }

@@ -33,7 +33,7 @@ fault_refusal lists = refusal_after (first_fault lists) None
 abbrev pub first_refusal : ℕ → Lists → Option Refusal
 first_refusal least lists = refusal_after (first_fault lists) (map_refusal least (vertex_count lists) (genus lists))
 
--- the answer for a fault, or for want of memory
+-- the answer for a fault, or when out of memory
 abbrev pub unserved_for : MapFault → Unserved
 unserved_for (map.OutOfRange v u) = Refused (OutOfRange v u)
 unserved_for (map.Loop v) = Refused (Loop v)
@@ -41,7 +41,7 @@ unserved_for (map.Repeated v u) = Refused (Repeated v u)
 unserved_for (map.OneSided v u) = Refused (OneSided v u)
 unserved_for map.NoMemory = NoMemory
 
--- where an answer names a condition, it is such a one; want of memory says nothing of the record
+-- where an answer names a condition, it is such a one; out of memory says nothing of the record
 abbrev pub IfRefused : (Refusal → Type 0) → Unserved → Type 0
 IfRefused Breaks (Refused refusal) = Breaks refusal
 IfRefused Breaks NoMemory = Unit {0}

@@ -23,7 +23,7 @@ use std::alloc::Global;
 /// of colours one and two are x and y. The roots stand at (n - 2, 1), (0, n - 2) and (1, 0); of all faces that of
 /// the dart from root two to root one alone is drawn clockwise.
 ///
-/// It fails only for want of memory. The map and the wood stay as they are. The time is linear in the map: no
+/// It fails only when out of memory. The map and the wood stay as they are. The time is linear in the map: no
 /// region is counted, for the wood gives a canonical order, and over this the coordinates are sums of few terms.
 ///
 /// Source: Schnyder, Embedding planar graphs on the grid, 1990.

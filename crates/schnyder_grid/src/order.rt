@@ -29,7 +29,7 @@ fn turned(alloc: Global, order: &[u32]) -> Result<Vec<u16>, AllocError>
 /// second and root three last, and each other vertex behind its parents of colours one and two and before that
 /// of colour three. It is a canonical order, and the wood is its wood.
 ///
-/// It fails only for want of memory. The map and the wood stay as they are. The time is linear in the map.
+/// It fails only when out of memory. The map and the wood stay as they are. The time is linear in the map.
 pub fn wood_order(alloc: Global, tri: &HalfMap, wood: &Wood) -> Result<Order, AllocError>
     requires triangulation { IsTriangulation tri.now.lists }
     requires wood { (base : Dart) × HasDart tri.now.lists base.0 base.1 × IsWoodOf tri.now.lists base wood.now }

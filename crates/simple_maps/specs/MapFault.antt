@@ -4,7 +4,7 @@ use Rattle.simple_maps.specs.Faults.{Fault, out_of_range, loop_at, repeated, one
 use Rattle.simple_maps.specs.declared.fault.MapFault.{MapFault}
 use Rattle.simple_maps.specs.declared.fault.MapFault.TheVariants.{OutOfRange, Loop, Repeated, OneSided, NoMemory}
 
--- the fault is that of the lists; want of memory says nothing of them
+-- the fault is that of the lists; out of memory says nothing of them
 abbrev pub Names : Option Fault → MapFault → Type 0
 Names found (OutOfRange v u) = found ≡ Some (out_of_range v u)
 Names found (Loop v) = found ≡ Some (loop_at v)

@@ -2,7 +2,7 @@
 
 use std::alloc::AllocError;
 
-/// Why lists are no simple map, with vertices numbered from 0, or want of memory.
+/// Why lists are no simple map, with vertices numbered from 0, or out of memory.
 ///
 /// The first kind that applies is named, and of it the least first and then the least second vertex.
 #[derive(Clone, Copy, PartialEq, Eq)]

@@ -103,7 +103,7 @@ fn unset(table: Vec<bool>, n: usize) -> Result<Vec<bool>, AllocError>
 }
 
 /// The places of an st-order for the dart from s to t of a connected map without cut vertices, by a search from s
-/// that sees t next, in the memory of other ranges. It fails only for want of memory. The time is linear.
+/// that sees t next, in the memory of other ranges. It fails only when out of memory. The time is linear.
 pub fn places_again(
     ranges: Ranges,
     lists: &Rotations,
@@ -210,7 +210,7 @@ pub fn st_ranks(
 }
 
 /// An st-order for a dart of a connected map without cut vertices, in linear time: the dart's tail stands
-/// first, its head last, and each other vertex has an earlier and a later neighbour. It fails only for want
+/// first, its head last, and each other vertex has an earlier and a later neighbour. It fails only when out
 /// of memory.
 pub fn st_order(alloc: Global, map: &HalfMap, st: DartId) -> Result<StOrder, AllocError>
     requires connected { component_count map.now.lists ≡ 1 }

@@ -179,8 +179,8 @@ fn bars_text(alloc: Global, lists: &Rotations, bars: &BarFigure) -> Result<Vec<u
     Ok(text)
 }
 
-/// Appends a visibility drawing of a simple map as SVG, with a bar for each vertex and a column for each edge. After
-/// want of memory the bytes are as they were.
+/// Appends a visibility drawing of a simple map as SVG, with a bar for each vertex and a column for each edge. When
+/// memory runs out the bytes are as they were.
 pub fn svg_bars(
     alloc: Global,
     lists: &Rotations,

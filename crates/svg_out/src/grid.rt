@@ -97,7 +97,7 @@ fn grid_text(alloc: Global, lists: &Rotations, points: &Points) -> Result<Vec<u8
     Ok(text)
 }
 
-/// Appends a straight-line drawing of a simple map as SVG, with a point for each vertex. After want of memory the
+/// Appends a straight-line drawing of a simple map as SVG, with a point for each vertex. When memory runs out the
 /// bytes are as they were.
 pub fn svg_grid(
     alloc: Global,

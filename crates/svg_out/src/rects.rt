@@ -75,7 +75,7 @@ fn rects_text(alloc: Global, lists: &Rotations, rects: &RectFigure) -> Result<Ve
     Ok(text)
 }
 
-/// Appends a rectangular dual as SVG, with a rectangle for each list. After want of memory the bytes are as they
+/// Appends a rectangular dual as SVG, with a rectangle for each list. When memory runs out the bytes are as they
 /// were.
 pub fn svg_rects(
     alloc: Global,

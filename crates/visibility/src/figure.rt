@@ -40,7 +40,7 @@ fn bars_of_rows(
 }
 
 /// The visibility drawing of the ranks of an st-order of a connected map of genus zero with these lists: heights are
-/// ranks, columns are dual numbers, and each bar reaches from its least to its greatest column. It fails only for want
+/// ranks, columns are dual numbers, and each bar reaches from its least to its greatest column. It fails only when out
 /// of memory.
 pub fn bars_of_ranks(
     alloc: Global,
@@ -61,7 +61,7 @@ pub fn bars_of_ranks(
 }
 
 /// The visibility drawing of an st-order of a connected map of genus zero: heights are ranks, columns are
-/// dual numbers, and each bar reaches from its least to its greatest column. It fails only for want of
+/// dual numbers, and each bar reaches from its least to its greatest column. It fails only when out of
 /// memory.
 pub fn bars_of_order(
     alloc: Global,
@@ -81,7 +81,7 @@ pub fn bars_of_order(
 }
 
 /// A visibility drawing of a connected map of genus zero without cut vertices: that of an st-order for a
-/// dart, over a width of one less than the number of faces. It fails only for want of memory.
+/// dart, over a width of one less than the number of faces. It fails only when out of memory.
 pub fn bars(alloc: Global, map: &HalfMap, st: DartId) -> Result<BarFigure, AllocError>
     requires live { IsLive map.now st.0 }
     requires plane { IsPlane map.now.lists }

@@ -59,7 +59,7 @@ fn put_walk(
     Ok(())
 }
 
-/// For each face the faces on the right of the upward edges on its left. It fails only for want of memory.
+/// For each face the faces on the right of the upward edges on its left. It fails only when out of memory.
 pub fn face_arcs(
     alloc: Global,
     map: &HalfMap,

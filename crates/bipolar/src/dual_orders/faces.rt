@@ -168,7 +168,7 @@ impl FaceTables {
 }
 
 /// Numbers the faces of a map, given by its lists one behind another and by the twins of its darts, and leads from
-/// each to those on the right of its upward edges. It goes on in the memory of other tables, and fails only for want
+/// each to those on the right of its upward edges. It goes on in the memory of other tables, and fails only when out
 /// of memory. The time is linear in the darts.
 pub fn number_faces(
     tables: FaceTables,

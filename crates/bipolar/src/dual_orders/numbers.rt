@@ -40,7 +40,7 @@ fn rows_of_order(
 }
 
 /// For each vertex the dual numbers of its edges, in the order of its list, by the ranks of an st-order; by their
-/// clause the columns that `edge_columns` makes of them are the dual numbers. It fails only for want of memory.
+/// clause the columns that `edge_columns` makes of them are the dual numbers. It fails only when out of memory.
 pub fn rank_rows(
     alloc: Global,
     map: &HalfMap,
@@ -75,7 +75,7 @@ pub fn dual_rows(
 }
 
 /// The dual numbers of an st-order of a connected map of genus zero, for each edge in the order of edges. It
-/// fails only for want of memory. The time is linear in the edges, and so is the memory.
+/// fails only when out of memory. The time is linear in the edges, and so is the memory.
 pub fn dual_numbers(
     alloc: Global,
     map: &HalfMap,

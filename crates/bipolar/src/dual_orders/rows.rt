@@ -87,7 +87,7 @@ fn put_vertex(
 }
 
 /// For each vertex the numbers of the faces on the left of its edges, in the order of its list. It fails only
-/// for want of memory.
+/// when out of memory.
 pub fn number_rows(
     alloc: Global,
     map: &HalfMap,

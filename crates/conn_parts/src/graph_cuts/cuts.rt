@@ -11,7 +11,7 @@ use graph6_text::Graph;
 use map_lists::VertexId;
 use std::alloc::{AllocError, Global};
 
-/// The components of a graph with a vertex, numbered by their least vertices. It fails only for want of
+/// The components of a graph with a vertex, numbered by their least vertices. It fails only when out of
 /// memory.
 pub fn graph_components(alloc: Global, graph: &Graph) -> Result<Parts, AllocError>
     requires { 0 < graph.now.n }
@@ -22,8 +22,8 @@ pub fn graph_components(alloc: Global, graph: &Graph) -> Result<Parts, AllocErro
     list_components(alloc, &lists)
 }
 
-/// The least cut vertex of a graph with a vertex, or None exactly where there is none. It fails only for
-/// want of memory.
+/// The least cut vertex of a graph with a vertex, or None exactly where there is none. It fails only when
+/// out of memory.
 pub fn graph_cut_vertex(alloc: Global, graph: &Graph) -> Result<Option<VertexId>, AllocError>
     requires { 0 < graph.now.n }
     ensures { IfOk result (λ found. MatchOption found ((v : ℕ) → ¬ IsCutVertex (lists_of_graph graph.now) v) (λ v. IsLeastCutVertex (lists_of_graph graph.now) v.0)) }
@@ -37,7 +37,7 @@ pub fn graph_cut_vertex(alloc: Global, graph: &Graph) -> Result<Option<VertexId>
 }
 
 /// The least separating pair of a graph with a vertex, by its first vertex and then by its second, or None
-/// exactly where there is none. It fails only for want of memory.
+/// exactly where there is none. It fails only when out of memory.
 pub fn graph_separating_pair(
     alloc: Global,
     graph: &Graph,

@@ -31,7 +31,7 @@ fn push_neighbours(lists: &mut Rotations, graph: &Graph, v: u16) -> Result<(), A
     Ok(())
 }
 
-/// For each vertex of a graph its neighbours, in rising order. It fails only for want of memory.
+/// For each vertex of a graph its neighbours, in rising order. It fails only when out of memory.
 pub fn graph_lists(alloc: Global, graph: &Graph) -> Result<Rotations, AllocError>
     ensures { IfOk result (λ lists. lists ≡ lists_of_graph graph.now) }
 {

@@ -102,7 +102,7 @@ fn has_short_faces(faces: &Faces) -> bool
 /// The least separating pair of a map of genus zero without cut vertices, by its first vertex and then by
 /// its second, or None exactly where there is none. The faces are those of the map.
 ///
-/// It fails only for want of memory. The memory is linear in the vertices and the darts, and so is the time for a
+/// It fails only when out of memory. The memory is linear in the vertices and the darts, and so is the time for a
 /// connected map of at least four vertices. Elsewhere the time is the sum of the lengths of faces over the darts:
 /// quadratic at most. A map of triangles has no pair, and no search is made there.
 pub fn separating_pair_by(

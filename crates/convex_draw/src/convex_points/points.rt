@@ -58,7 +58,7 @@ fn run_points(
 /// The points of `count` vertices by counts of faces over a run from the base d, s, which makes so many faces. The
 /// turns of its faces are read off the counts.
 ///
-/// It fails only for want of memory. The time is linear in the entries of the rows: a step gives how far what it
+/// It fails only when out of memory. The time is linear in the entries of the rows: a step gives how far what it
 /// covers stands from what takes its place, and these differences are added up in the end.
 ///
 /// Source: Felsner, Convex drawings of planar graphs and the order dimension of 3-polytopes, 2001.

@@ -70,7 +70,7 @@ fn count_with(
 ///
 /// `marked` has a mark for each id of a dart whose edge the walk passes an odd number of times.
 ///
-/// It fails only for want of memory. The map stays as it is. The time is linear in the map: a search goes over its
+/// It fails only when out of memory. The map stays as it is. The time is linear in the map: a search goes over its
 /// faces.
 pub fn inside_count(
     alloc: Global,

@@ -65,7 +65,7 @@ fn wood_by(
 /// Some figure that meets the contract of `convex_draw` for the same map and base is drawn by this wood: its coordinates
 /// are the numbers of faces in the regions of its vertices.
 ///
-/// It fails only for want of memory. The map stays as it is. The time is linear in the map: the directions are read
+/// It fails only when out of memory. The map stays as it is. The time is linear in the map: the directions are read
 /// off the counts of faces of the convex drawing, one dart after another.
 ///
 /// Source: Felsner, Convex drawings of planar graphs and the order dimension of 3-polytopes, 2001.

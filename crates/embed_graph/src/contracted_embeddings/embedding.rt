@@ -9,7 +9,7 @@ use graph6_text::Graph;
 use std::alloc::{AllocError, Global};
 
 /// A simple map of genus zero with exactly the edges of a graph, or a Kuratowski witness that there is none. It fails only
-/// for want of memory.
+/// when out of memory.
 ///
 /// It follows the proof that there always is one of the two: graphs are split at one vertex or two, and else an edge is
 /// contracted. It takes polynomial time, and is not fast.

@@ -52,7 +52,7 @@ fn drawn(alloc: Global, graph: &Graph, lists: Rotations) -> Result<EmbedFigure, 
 
 /// Returns a map of a graph with at least three vertices and the map's drawing in the grid n - 2 by n - 2, or a witness
 /// that there is none. `tables` may have served other graphs before; what they hold says nothing of the answer. It fails
-/// only for want of memory.
+/// only when out of memory.
 pub fn embed_figure_in(
     alloc: Global,
     tables: &mut Tables,

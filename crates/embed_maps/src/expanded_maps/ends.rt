@@ -10,7 +10,7 @@ use map_lists::Rotations;
 use std::alloc::{AllocError, Global};
 
 /// The lists of a map with `x` put into a ring, and `y` into the ring of `x` and what is from a place of the old one
-/// to `k` places behind it. It fails only for want of memory.
+/// to `k` places behind it. It fails only when out of memory.
 pub(crate) fn ends_put_in(
     alloc: Global,
     lists: &Rotations,

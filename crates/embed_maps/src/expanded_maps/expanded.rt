@@ -16,7 +16,7 @@ use std::alloc::{AllocError, Global};
 
 /// A map of genus zero of the graph of lists, from one of the graph with an edge contracted, in which the second end
 /// stays as an isolated vertex; or None, where the graph has a Kuratowski witness. No two vertices part the others of
-/// the graph, and the contracted edge and no other vertex do. It fails only for want of memory.
+/// the graph, and the contracted edge and no other vertex do. It fails only when out of memory.
 pub fn expanded_map(
     alloc: Global,
     lists: &Rotations,

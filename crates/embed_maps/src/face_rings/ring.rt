@@ -9,8 +9,8 @@ use embed_surgery::face_marks::face_is_ring;
 use map_lists::Rotations;
 use std::alloc::{AllocError, Global};
 
-/// The vertices of the face of a dart, in the order of the face, where it passes none twice. It fails only for
-/// want of memory.
+/// The vertices of the face of a dart, in the order of the face, where it passes none twice. It fails only when
+/// out of memory.
 pub fn face_ring(alloc: Global, lists: &Rotations, u: u16, v: u16) -> Result<Vec<u16>, AllocError>
     requires simple { IsSimpleMap lists.now }
     requires dart { HasDart lists.now u v }

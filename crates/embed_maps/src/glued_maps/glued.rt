@@ -9,7 +9,7 @@ use map_lists::{Rotations, VertexId};
 use std::alloc::{AllocError, Global};
 
 /// Two maps of genus zero on the same vertices, which have edges at one common vertex at most, as one with the
-/// edges of both. It fails only for want of memory.
+/// edges of both. It fails only when out of memory.
 pub fn glued_at_vertex(
     alloc: Global,
     one: &Rotations,
@@ -33,7 +33,7 @@ fn joined_rows(alloc: Global, one: &Rotations, other: &Rotations) -> Result<Rota
 }
 
 /// Two that have the edge of `u` and `v` in common, and edges at no common vertex but its ends, as one with
-/// the edges of both. It fails only for want of memory.
+/// the edges of both. It fails only when out of memory.
 pub fn glued_along_edge(
     alloc: Global,
     one: &Rotations,

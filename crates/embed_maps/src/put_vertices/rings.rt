@@ -12,7 +12,7 @@ use map_lists::Rotations;
 use std::alloc::{AllocError, Global};
 
 /// The lists of a map with `x` put into a ring and joined to those vertices of it that it is adjacent to in `lists`.
-/// It fails only for want of memory.
+/// It fails only when out of memory.
 pub fn put_in_ring(
     alloc: Global,
     lists: &Rotations,

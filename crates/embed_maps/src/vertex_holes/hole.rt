@@ -9,7 +9,7 @@ use map_lists::Rotations;
 use std::alloc::{AllocError, Global};
 
 /// Where a vertex that no face passes twice is taken out of a map, its neighbours stand in one face: the ring of that
-/// face, from the neighbour `p` on, if it passes no vertex twice. It fails only for want of memory.
+/// face, from the neighbour `p` on, if it passes no vertex twice. It fails only when out of memory.
 pub fn hole_ring(
     alloc: Global,
     map: &Rotations,

@@ -7,7 +7,7 @@ ghost use Rattle.embed_surgery.specs.Holes.{without_vertex as map_without};
 use map_lists::Rotations;
 use std::alloc::{AllocError, Global};
 
-/// The lists of a map without the edges of a vertex, which stays as an isolated one. It fails only for want of
+/// The lists of a map without the edges of a vertex, which stays as an isolated one. It fails only when out of
 /// memory.
 pub fn without_vertex(alloc: Global, lists: &Rotations, x: u16) -> Result<Rotations, AllocError>
     ensures { IfOk result (λ new. new ≡ map_without x lists.now) }
@@ -15,7 +15,7 @@ pub fn without_vertex(alloc: Global, lists: &Rotations, x: u16) -> Result<Rotati
     without_vertices(alloc, lists, &[x])
 }
 
-/// The lists without the edges of the vertices of `vs`, which stay as isolated ones. It fails only for want of
+/// The lists without the edges of the vertices of `vs`, which stay as isolated ones. It fails only when out of
 /// memory.
 pub fn without_vertices(
     alloc: Global,

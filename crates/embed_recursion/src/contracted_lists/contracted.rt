@@ -9,7 +9,7 @@ use map_lists::Rotations;
 use std::alloc::{AllocError, Global};
 
 /// The lists with the edge of `x` and `y` contracted: `y` has left, and stays as an isolated vertex, and `x` has
-/// the neighbours of both; the order round a vertex is that of their numbers. It fails only for want of memory.
+/// the neighbours of both; the order round a vertex is that of their numbers. It fails only when out of memory.
 pub fn contracted_lists(
     alloc: Global,
     lists: &Rotations,

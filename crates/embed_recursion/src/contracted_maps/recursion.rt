@@ -14,7 +14,7 @@ use map_lists::Rotations;
 use std::alloc::{AllocError, Global};
 
 /// A map of genus zero with just the edges of lists, of which the order is not looked at; or None where their
-/// graph has a Kuratowski witness. It fails only for want of memory, and takes polynomial time.
+/// graph has a Kuratowski witness. It fails only when out of memory, and takes polynomial time.
 pub fn map_of_lists(alloc: Global, lists: &Rotations) -> Result<Option<Rotations>, AllocError>
     requires simple { IsSimpleMap lists.now }
     requires few { length lists.now < 4096 }

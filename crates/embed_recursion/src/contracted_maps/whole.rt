@@ -12,7 +12,7 @@ use map_lists::{Rotations, VertexId};
 use std::alloc::{AllocError, Global};
 
 /// The answer for lists in which no two vertices part others, from that for the lists with an edge contracted.
-/// It fails only for want of memory.
+/// It fails only when out of memory.
 pub(crate) fn expanded_answer(
     alloc: Global,
     lists: &Rotations,
@@ -36,7 +36,7 @@ pub(crate) fn expanded_answer(
 }
 
 /// The answer for lists of which at most three vertices have edges, and in which no two vertices part others:
-/// the lists as they are. It fails only for want of memory.
+/// the lists as they are. It fails only when out of memory.
 pub(crate) fn small_answer(
     alloc: Global,
     lists: &Rotations,

@@ -9,8 +9,8 @@ use graph6_text::Graph;
 use map_lists::Rotations;
 use std::alloc::{AllocError, Global};
 
-/// A map of genus zero with exactly the edges of a graph, or none where it has a Kuratowski witness. It fails only for
-/// want of memory, and takes polynomial time.
+/// A map of genus zero with exactly the edges of a graph, or none where it has a Kuratowski witness. It fails only when
+/// out of memory, and takes polynomial time.
 pub fn map_of_graph(alloc: Global, graph: &Graph) -> Result<Option<Rotations>, AllocError>
     requires { 0 < graph.now.n }
     ensures { IfOk result (λ answer. MatchOption answer (HasWitness graph.now) (λ map. IsMapOf map graph.now)) }

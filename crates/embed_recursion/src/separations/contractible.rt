@@ -9,7 +9,7 @@ use map_lists::Rotations;
 use std::alloc::{AllocError, Global};
 
 /// An edge of lists in which no two vertices part the others, such that no third vertex parts them with its two
-/// ends; there is one by Thomassen's theorem. It fails only for want of memory.
+/// ends; there is one by Thomassen's theorem. It fails only when out of memory.
 pub fn contractible_edge(alloc: Global, lists: &Rotations) -> Result<(u16, u16), AllocError>
     requires simple { IsSimpleMap lists.now }
     requires few { length lists.now < 4096 }

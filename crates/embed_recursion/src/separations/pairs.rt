@@ -12,7 +12,7 @@ use map_lists::{Rotations, VertexId};
 use std::alloc::{AllocError, Global};
 
 /// Two vertices with edges that are not joined without the vertices of `vs`, of which they are none; or None
-/// where there are no such two. It fails only for want of memory.
+/// where there are no such two. It fails only when out of memory.
 pub fn separated_pair(
     alloc: Global,
     lists: &Rotations,

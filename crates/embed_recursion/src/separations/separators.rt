@@ -18,7 +18,7 @@ pub struct Separating {
 }
 
 /// A vertex that parts others, or the number past the last vertex where some are not joined at all; `v` is `u`
-/// again. None where all are joined without any one. It fails only for want of memory.
+/// again. None where all are joined without any one. It fails only when out of memory.
 pub fn separating_vertex(alloc: Global, lists: &Rotations) -> Result<Option<Separating>, AllocError>
     requires simple { IsSimpleMap lists.now }
     requires few { length lists.now < 4096 }
@@ -40,7 +40,7 @@ pub fn separating_vertex(alloc: Global, lists: &Rotations) -> Result<Option<Sepa
     Ok(None)
 }
 
-/// Two vertices that part others, where no single one does; or None where no two do. It fails only for want of
+/// Two vertices that part others, where no single one does; or None where no two do. It fails only when out of
 /// memory.
 pub fn separating_pair(alloc: Global, lists: &Rotations) -> Result<Option<Separating>, AllocError>
     requires simple { IsSimpleMap lists.now }

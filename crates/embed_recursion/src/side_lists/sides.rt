@@ -17,7 +17,7 @@ use map_lists::{Rotations, VertexId};
 use std::alloc::{AllocError, Global};
 
 /// The two sides of a graph that a single vertex parts, or that is not connected: they have its edges between
-/// them, meet in that vertex at most, and each lacks a vertex. It fails only for want of memory.
+/// them, meet in that vertex at most, and each lacks a vertex. It fails only when out of memory.
 pub fn vertex_sides(
     alloc: Global,
     lists: &Rotations,
@@ -32,7 +32,7 @@ pub fn vertex_sides(
 }
 
 /// The two sides of a graph that two vertices part, and no single one, each with the edge between the two. It
-/// fails only for want of memory.
+/// fails only when out of memory.
 pub fn pair_sides(
     alloc: Global,
     lists: &Rotations,

@@ -13,8 +13,8 @@ use embed_theorem::list_graphs::are_adjacent;
 use map_lists::{Rotations, VertexId};
 use std::alloc::{AllocError, Global};
 
-/// The answer for lists, from those for its two sides, which meet in the vertex `u` at most. It fails only for
-/// want of memory.
+/// The answer for lists, from those for its two sides, which meet in the vertex `u` at most. It fails only when
+/// out of memory.
 pub fn map_at_vertex(
     alloc: Global,
     lists: &Rotations,

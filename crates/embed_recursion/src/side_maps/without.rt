@@ -7,7 +7,7 @@ use half_edges::HalfMap;
 use map_lists::{Rotations, VertexId};
 use std::alloc::{AllocError, Global};
 
-/// Lists without the edge of `u` and `v`. It fails only for want of memory.
+/// Lists without the edge of `u` and `v`. It fails only when out of memory.
 pub(crate) fn without_edge(
     alloc: Global,
     lists: &Rotations,

@@ -10,7 +10,7 @@ use map_lists::{Ends, VertexId};
 use std::alloc::{AllocError, Global};
 
 /// The graph with an edge contracted: the greater end has left, later numbers have fallen by one, and the
-/// lesser end has the neighbours of both. It fails only for want of memory.
+/// lesser end has the neighbours of both. It fails only when out of memory.
 pub fn contract(alloc: Global, graph: &Graph, e: Ends) -> Result<Graph, AllocError>
     requires edge { has_edge graph.now e.a.0 e.b.0 ≡ true }
     ensures graph { IfOk result (λ small. small ≡ contraction graph.now e.a.0 e.b.0) }

@@ -10,7 +10,7 @@ use graph6_text::Graph;
 use std::alloc::{AllocError, Global};
 
 /// Whether a graph with a vertex has at least four, and is connected without cut vertices and separating
-/// pairs. It fails only for want of memory.
+/// pairs. It fails only when out of memory.
 pub fn is_three_connected(alloc: Global, graph: &Graph) -> Result<bool, AllocError>
     requires { 0 < graph.now.n }
     ensures { IfOk result (λ yes. IsTrue yes ↔ IsThreeConnected (lists_of_graph graph.now)) }

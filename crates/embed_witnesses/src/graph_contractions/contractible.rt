@@ -11,7 +11,7 @@ use map_lists::{Ends, VertexId};
 use std::alloc::{AllocError, Global};
 
 /// The least edge of a three-connected graph with at least five vertices that leaves a three-connected
-/// graph when it is contracted; there is one by Thomassen's theorem. It fails only for want of memory.
+/// graph when it is contracted; there is one by Thomassen's theorem. It fails only when out of memory.
 pub fn contractible_edge(alloc: Global, graph: &Graph) -> Result<Ends, AllocError>
     requires five { 5 ≤ graph.now.n }
     requires three { IsThreeConnected (lists_of_graph graph.now) }

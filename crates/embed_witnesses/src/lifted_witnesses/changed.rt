@@ -10,7 +10,7 @@ use kuratowski::Witness;
 use map_lists::{PathList, VertexId, VertexList};
 use std::alloc::{AllocError, Global};
 
-/// The witness changed. It fails only for want of memory.
+/// The witness changed. It fails only when out of memory.
 pub(crate) fn changed(alloc: Global, old: &Witness, change: Change) -> Result<Witness, AllocError>
     ensures { IfOk result (IsChanged change old.now) }
 {

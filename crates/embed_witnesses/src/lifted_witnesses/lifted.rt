@@ -12,7 +12,7 @@ use kuratowski::Witness;
 use map_lists::Ends;
 use std::alloc::{AllocError, Global};
 
-/// A witness of a graph, from one of the graph with an edge contracted. It fails only for want of memory.
+/// A witness of a graph, from one of the graph with an edge contracted. It fails only when out of memory.
 ///
 /// On its old numbers the witness takes some neighbours of the greater end for neighbours of the lesser. It
 /// is mended where one step lacks its edge, by the greater end put into it; or, with the ends exchanged, by

@@ -12,7 +12,7 @@ use map_lists::Ends;
 use std::alloc::{AllocError, Global};
 
 /// The witness with one of the ends of an edge put into one of its steps, or into none, where it is one of
-/// the graph then; if told so the ends are exchanged first. It fails only for want of memory.
+/// the graph then; if told so the ends are exchanged first. It fails only when out of memory.
 pub(crate) fn mended(
     alloc: Global,
     graph: &Graph,

@@ -11,7 +11,7 @@ use map_lists::Ends;
 use std::alloc::{AllocError, Global};
 
 /// The witness, if one of K5, split at one end of an edge, so that the other end takes over two of its
-/// paths, where it is one of the graph then. It fails only for want of memory.
+/// paths, where it is one of the graph then. It fails only when out of memory.
 pub(crate) fn split(
     alloc: Global,
     graph: &Graph,

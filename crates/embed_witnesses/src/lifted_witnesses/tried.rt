@@ -9,7 +9,7 @@ use graph6_text::Graph;
 use kuratowski::{Witness, check_witness};
 use std::alloc::{AllocError, Global};
 
-/// The witness changed, where it is one of the graph then. It fails only for want of memory.
+/// The witness changed, where it is one of the graph then. It fails only when out of memory.
 pub(crate) fn tried(
     alloc: Global,
     graph: &Graph,

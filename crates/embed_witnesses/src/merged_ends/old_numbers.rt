@@ -13,7 +13,7 @@ use map_lists::Ends;
 use std::alloc::{AllocError, Global};
 
 /// A witness of the graph with an edge contracted, on the numbers that its vertices had: one of the graph in
-/// which the lesser end has the neighbours of both and the greater none. It fails only for want of memory.
+/// which the lesser end has the neighbours of both and the greater none. It fails only when out of memory.
 pub fn on_old_numbers(
     alloc: Global,
     graph: &Graph,

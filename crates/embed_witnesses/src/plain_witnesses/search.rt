@@ -13,7 +13,7 @@ use map_lists::VertexId;
 use std::alloc::{AllocError, Global};
 
 /// A witness of a graph all of whose paths are single edges, or none where the graph has neither K5 nor K3,3 as a part.
-/// It fails only for want of memory.
+/// It fails only when out of memory.
 ///
 /// Branch by branch all vertices that have edges are tried, so it is quick only where few have.
 pub fn plain_witness(alloc: Global, graph: &Graph) -> Result<Option<Witness>, AllocError>

@@ -10,7 +10,7 @@ use map_lists::{PathList, VertexId, VertexList};
 use std::alloc::{AllocError, Global};
 
 /// Chosen branches with the edges between them as a witness, or none where it is not one of the graph. It fails only
-/// for want of memory.
+/// when out of memory.
 pub(crate) fn as_witness(
     alloc: Global,
     graph: &Graph,

@@ -8,7 +8,7 @@ use map_lists::{PathList, VertexId, VertexList};
 use std::alloc::{AllocError, Global};
 
 /// The witness with the entries of a table in place of its vertices; a number past the table stays. It fails
-/// only for want of memory.
+/// only when out of memory.
 pub fn renamed(alloc: Global, witness: &Witness, table: &[u16]) -> Result<Witness, AllocError>
     ensures { IfOk result (λ new. IsRenamed (named table.now) witness.now new) }
 {

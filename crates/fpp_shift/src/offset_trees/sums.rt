@@ -228,7 +228,7 @@ impl SumMemory {
 /// The links lead from the root to each vertex, and to each other vertex by just one link; each such sum is
 /// from -2^20 to 2^20. The tree is used at most 8 times as often as it has nodes.
 ///
-/// It fails only for want of memory.
+/// It fails only when out of memory.
 pub fn sum_offsets<L: Ledger>(
     alloc: Global,
     tree: &Offsets<L>,

@@ -201,7 +201,7 @@ fn arcs_into(table: Vec<usize>, arcs: &ItemLists<u32>) -> Result<Vec<usize>, All
 }
 
 /// For each vertex the length of the longest path from the base to it, without the arcs that lead to the
-/// base, in the memory of other tables. It fails only for want of memory. The time is linear in the vertices and
+/// base, in the memory of other tables. It fails only when out of memory. The time is linear in the vertices and
 /// arcs, and so is the memory.
 pub fn longest_paths_again(
     tables: PathTables,
@@ -241,7 +241,7 @@ pub fn longest_paths(
 }
 
 /// All vertices in an order in which each but the base stands behind those from which arcs lead to it. The base is
-/// the first. It fails only for want of memory. The time is linear in the vertices and arcs, and so is the memory.
+/// the first. It fails only when out of memory. The time is linear in the vertices and arcs, and so is the memory.
 pub fn topological_order(
     alloc: Global,
     arcs: &ItemLists<u32>,

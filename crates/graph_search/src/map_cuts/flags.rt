@@ -118,7 +118,7 @@ fn set_flags(lists: &Rotations, number: &[u16], parent: &[u16], low: &[u16], fla
 }
 
 /// For each vertex of lists in which adjacency goes both ways, whether it is a cut vertex, in time linear in
-/// the entries. It fails only for want of memory.
+/// the entries. It fails only when out of memory.
 pub fn cut_flags(alloc: Global, lists: &Rotations) -> Result<Vec<bool>, AllocError>
     requires adjacency { IsAdjacency lists.now }
     requires few { length lists.now < 4096 }

@@ -56,7 +56,7 @@ pub fn searched_cut_vertex(lists: &Rotations, forest: &Forest, low: &[u16]) -> O
 }
 
 /// The least cut vertex of lists in which adjacency goes both ways, or None exactly where there is none, in
-/// time linear in the entries. It fails only for want of memory.
+/// time linear in the entries. It fails only when out of memory.
 pub fn list_cut_vertex(alloc: Global, lists: &Rotations) -> Result<Option<u16>, AllocError>
     requires adjacency { IsAdjacency lists.now }
     requires few { length lists.now < 4096 }
@@ -67,8 +67,8 @@ pub fn list_cut_vertex(alloc: Global, lists: &Rotations) -> Result<Option<u16>, 
     Ok(searched_cut_vertex(lists, &forest, &low))
 }
 
-/// The least cut vertex of a map, or None exactly where there is none, in linear time. It fails only for
-/// want of memory.
+/// The least cut vertex of a map, or None exactly where there is none, in linear time. It fails only when
+/// out of memory.
 pub fn cut_vertex(alloc: Global, map: &HalfMap) -> Result<Option<VertexId>, AllocError>
     ensures { IfOk result (λ found. MatchOption found ((v : ℕ) → ¬ IsCutVertex map.now.lists v) (λ v. IsLeastCutVertex map.now.lists v.0)) }
 {

@@ -123,7 +123,7 @@ fn first_pair(
 
 /// The least separating pair of lists in which adjacency goes both ways, by its first vertex and then by its
 /// second, or None exactly where there is none. It searches the lists without each vertex in turn, and
-/// fails only for want of memory.
+/// fails only when out of memory.
 pub fn list_separating_pair(
     alloc: Global,
     lists: &Rotations,
@@ -137,7 +137,7 @@ pub fn list_separating_pair(
 }
 
 /// The least separating pair of a map, by its first vertex and then by its second, or None exactly where
-/// there is none. It fails only for want of memory.
+/// there is none. It fails only when out of memory.
 pub fn separating_pair(
     alloc: Global,
     map: &HalfMap,

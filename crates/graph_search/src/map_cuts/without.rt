@@ -37,7 +37,7 @@ fn push_without(rest: &mut Rotations, list: &[u16], v: u16, u: u16) -> Result<()
     }
 }
 
-/// Lists without a vertex, which stays, alone. It fails only for want of memory.
+/// Lists without a vertex, which stays, alone. It fails only when out of memory.
 pub(crate) fn lists_without(
     alloc: Global,
     lists: &Rotations,

@@ -165,7 +165,7 @@ fn search_along(
     search_all(lists, order, number, last, parent, cursor, count);
 }
 
-/// The forest of lists in which adjacency goes both ways. It fails only for want of memory.
+/// The forest of lists in which adjacency goes both ways. It fails only when out of memory.
 pub fn search_forest(alloc: Global, lists: &Rotations) -> Result<Forest, AllocError>
     requires adjacency { IsAdjacency lists.now }
     requires few { length lists.now < 4096 }

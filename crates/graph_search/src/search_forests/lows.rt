@@ -89,7 +89,7 @@ pub fn low_points_again(
     Ok(low)
 }
 
-/// The low points of a search's vertices. It fails only for want of memory.
+/// The low points of a search's vertices. It fails only when out of memory.
 pub fn low_points(alloc: Global, lists: &Rotations, forest: &Forest) -> Result<Vec<u16>, AllocError>
     requires few { length lists.now < 4096 }
     requires adjacency { IsAdjacency lists.now }

@@ -106,7 +106,7 @@ impl WoodDrawer {
         Ok(points)
     }
 
-    /// Draws as [`list_draw`] does. After want of memory the drawer serves as before.
+    /// Draws as [`list_draw`] does. When memory runs out the drawer serves as before.
     pub fn list_draw(&mut self, lists: &Rotations, order: &Order) -> Result<GridFigure, AllocError>
         requires triangulation { IsTriangulation lists.now }
         requires few { length lists.now < 4096 }
@@ -142,7 +142,7 @@ impl WoodDrawer {
 /// (n - 2, 1), its second at (0, n - 2) and its last at (1, 0); of all faces that of the base alone is drawn
 /// clockwise.
 ///
-/// It fails only for want of memory. The map and the order stay as they are. The time is linear in the
+/// It fails only when out of memory. The map and the order stay as they are. The time is linear in the
 /// vertices: a vertex is put over a row of the contour, which gives how far what it covers stands from it, and
 /// these differences are added up in the end.
 ///

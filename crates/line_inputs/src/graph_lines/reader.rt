@@ -86,7 +86,7 @@ impl GraphReader {
 
     /// Takes the bytes of a piece to the end of the line of a graph or to its own end.
     ///
-    /// Each line is judged as it is closed. After a bad place, and after want of memory, the reader is not to be
+    /// Each line is judged as it is closed. After a bad place, and when memory runs out, the reader is not to be
     /// asked again.
     pub fn take(&mut self, piece: &[u8]) -> Result<Taken<Ending>, AllocError>
         requires { self.old.place + length piece.now ≤ input_limit }

@@ -154,7 +154,7 @@ fn listed_rows(
 /// of its third vertex on. Each names the vertices by their ranks, from the first one under the new vertex to
 /// the last one.
 ///
-/// It fails only for want of memory. The map and the order stay as they are. The time is linear in the
+/// It fails only when out of memory. The map and the order stay as they are. The time is linear in the
 /// entries of the map.
 pub fn order_rows(alloc: Global, tri: &HalfMap, order: &Order) -> Result<Rotations, AllocError>
     requires triangulation { IsTriangulation tri.now.lists }

@@ -91,7 +91,7 @@ fn framed(
 /// right and the lower rectangle, of which the base dart leaves the first. Each edge off that face is a run or a rise of
 /// an edge labelling: along a run the one rectangle ends on the right where the other begins, along a rise above.
 ///
-/// It fails only for want of memory, and the map stays as it is.
+/// It fails only when out of memory, and the map stays as it is.
 ///
 /// Source: Kant, He, Regular edge labeling of 4-connected plane graphs and its applications in graph drawing
 /// problems, 1997.

@@ -39,7 +39,7 @@ fn framed(alloc: Global, map: &HalfMap, frame: Frame) -> Result<Labelling, Alloc
 /// is walked from the one that the base dart leaves, runs alone leave the first, rises alone enter the second, runs
 /// alone enter the third, and rises alone leave the fourth.
 ///
-/// It fails only for want of memory, and the map stays as it is. The time is linear in the map: two tables over the
+/// It fails only when out of memory, and the map stays as it is. The time is linear in the map: two tables over the
 /// vertices, from the rows and turns of a rectangular order, tell the label of each dart.
 ///
 /// Source: Kant, He, Regular edge labeling of 4-connected plane graphs and its applications in graph drawing

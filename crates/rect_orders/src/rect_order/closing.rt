@@ -42,7 +42,7 @@ pub fn frame_of(map: &HalfMap, base: DartId) -> Frame
 }
 
 /// Returns the lists of the closed map of one of this class, of which `lists` are the lists and `frame` has the outer
-/// vertices: an edge more, outside, between the top and the bottom. It is a triangulation. It fails only for want of
+/// vertices: an edge more, outside, between the top and the bottom. It is a triangulation. It fails only when out of
 /// memory.
 pub fn with_closing_edge(
     alloc: Global,

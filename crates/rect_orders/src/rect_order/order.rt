@@ -136,7 +136,7 @@ fn taken_off(alloc: Global, lists: &Rotations, frame: Frame) -> Result<Vec<u16>,
 /// left vertex is the first, the bottom the second, the right one the last but one, and the top the last. Each other
 /// vertex has two later neighbours or more. `rank` has the place of each vertex in `at`.
 ///
-/// It fails only for want of memory. The lists stay as they are. The time is linear in the vertices: they are taken
+/// It fails only when out of memory. The lists stay as they are. The time is linear in the vertices: they are taken
 /// off from the last one on, each goes onto the outer cycle and off it once, and its neighbours count how many of
 /// theirs are there and how many are gone.
 ///

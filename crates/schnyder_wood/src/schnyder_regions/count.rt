@@ -129,7 +129,7 @@ fn base_dart(map: &HalfMap, wood: &Wood) -> DartId
 /// has the vertices on these, and those on a face to which a chain of faces from the outer one, each sharing an
 /// edge with the next, comes over an odd number of these edges.
 ///
-/// It fails only for want of memory. The map and the wood stay as they are. The time is linear in the map: a
+/// It fails only when out of memory. The map and the wood stay as they are. The time is linear in the map: a
 /// search goes over its faces.
 ///
 /// Source: Schnyder, Embedding planar graphs on the grid, 1990.
