@@ -1,6 +1,7 @@
 -- Ranges in tables.
-use Rattle.std.proofs.Common.{◌≡◌, ◌≢◌, ◌⊎◌, ℕ, ◌+◌, ◌-◌, ◌<◌, ◌≤◌, Bool, false, not, List, length, get_or, set, refl, sym, ap, ◌∙◌, subst, inl, inr, arith, get_or-set_same, get_or-set_other, length-set}
+use Rattle.std.proofs.Common.{◌≡◌, ◌≢◌, ◌⊎◌, ℕ, ◌+◌, ◌-◌, ◌<◌, ◌≤◌, Bool, false, not, List, length, get_or, set, take, ◌++◌, refl, sym, ap, ◌∙◌, subst, inl, inr, arith, get_or-set_same, get_or-set_other, length-set}
 use Rattle.std.proofs.lemmas.Bool.{cases_eq, false≢true}
+use Rattle.std.proofs.lemmas.List.{get_or_default, take_at}
 use Rattle.map_lists.specs.Lists.{Lists}
 use Rattle.graph_search.proofs.ForestLemmas.{same_vertex}
 use Rattle.st_orders.specs.Placing.{IsWholeForest, IsPlacing, IsCarved, IsMarked, IsWholeSearch, AreTables, IsPlacingIn}
@@ -54,6 +55,59 @@ module _ (lists : Lists) (order number last parent low : List ℕ) (w : IsWholeS
         tables = record { froms = same_from ∙ tables.froms; tos = same_to ∙ tables.tos; sides = length-set side v b ∙ ls; recents = length-set recent p b ∙ lr };
         placing = IsPlacing-more lists _ _ _ _ _ _ _ w.whole _ _ _ _ k h.placing two few _ _ _ _ (get_or last v 0 - k) (omega arith) b refl carved (IsMarked-set side v b (omega arith)) (IsMarked-set recent p b (omega arith));
       }
+
+  module _ (k : ℕ) (h : IsPlacingIn lists order number last parent low from to side recent k) (two : 2 ≤ k) (few : k < length lists) (v p far : ℕ) (v_read : v ≡ get_or order k v) (p_read : p ≡ get_or parent v p) (far_read : far ≡ get_or order (get_or low v 0) far) where
+    -- what is read of the next vertex is there
+    pub record IsNextAt : Type 0 where
+      pub v_is : v ≡ get_or order k 0
+      pub p_is : p ≡ get_or parent (get_or order k 0) 0
+      pub far_is : far ≡ get_or order (get_or low (get_or order k 0) 0) 0
+      pub v_in : v < length lists
+      pub p_in : p < length lists
+      pub far_in : far < length lists
+      pub other : p ≢ v
+      pub ends : k < get_or last v 0
+      pub room : get_or last v 0 + get_or from p 0 < k + get_or to p 0
+
+    pub next_at : IsNextAt
+    next_at =
+        let i = next k h two few in
+        let v_is : v ≡ get_or order k 0 = v_read ∙ get_or_default order k v 0 (let o = w.orders in omega (arith, few, o)) in
+        let v_in : v < length lists = omega (arith, v_is, i.v_in) in
+        let p_is : p ≡ get_or parent (get_or order k 0) 0 = p_read ∙ (get_or_default parent v p 0 (let o = w.parents in omega (arith, v_in, o)) ∙ ap (λ u. get_or parent u 0) v_is) in
+        let low_is : get_or low v 0 ≡ get_or low (get_or order k 0) 0 = ap (λ u. get_or low u 0) v_is in
+        let far_is : far ≡ get_or order (get_or low (get_or order k 0) 0) 0 = far_read ∙ (get_or_default order (get_or low v 0) far 0 (let o = w.orders in let l = i.low_in in omega (arith, low_is, l, o)) ∙ ap (λ u. get_or order u 0) low_is) in
+        record {
+          v_is = v_is;
+          p_is = p_is;
+          far_is = far_is;
+          v_in = v_in;
+          p_in = omega (arith, p_is, i.p_in);
+          far_in = omega (arith, far_is, i.far_in);
+          other = λ e. i.other (sym p_is ∙ (e ∙ v_is));
+          ends = omega (arith, ap (λ u. get_or last u 0) v_is, i.ends);
+          room = omega (arith, ap (λ u. get_or last u 0) v_is, ap (λ u. get_or from u 0) p_is, ap (λ u. get_or to u 0) p_is, i.room);
+        }
+
+    -- one vertex more, by what was read, where the ranges were lent
+    pub IsPlacingIn-next : (r : Bool) → r ≡ get_or recent far r → (l : ℕ) → l ≡ get_or last v l → (from' to' behind behind' : List ℕ) (m m' : ℕ) → length from' ≡ length from → length to' ≡ length to → length from' ≡ m → length to' ≡ m' → IsCarved (λ x. get_or from x 0) (λ x. get_or to x 0) (λ x. get_or from' x 0) (λ x. get_or to' x 0) v p (l - k) (not r) → IsPlacingIn lists order number last parent low (take m (from' ++ behind)) (take m' (to' ++ behind')) (set side v (not r)) (set recent p (not r)) (k + 1)
+    IsPlacingIn-next r r_read l l_read from' to' behind behind' m m' same_from same_to long long' carved =
+        let i = next_at in
+        let V = get_or order k 0 in
+        let P = get_or parent V 0 in
+        let B = not (get_or recent (get_or order (get_or low V 0) 0) false) in
+        let r_is : not r ≡ B = ap not (r_read ∙ (get_or_default recent far r false (let o = h.tables.recents in let f = i.far_in in omega (arith, f, o)) ∙ ap (λ u. get_or recent u false) i.far_is)) in
+        let l_is : l ≡ get_or last V 0 = l_read ∙ (get_or_default last v l 0 (let o = w.lasts in let f = i.v_in in omega (arith, f, o)) ∙ ap (λ u. get_or last u 0) i.v_is) in
+        let at_v = subst (λ x. IsCarved (λ x. get_or from x 0) (λ x. get_or to x 0) (λ x. get_or from' x 0) (λ x. get_or to' x 0) x p (l - k) (not r)) i.v_is carved in
+        let at_p = subst (λ x. IsCarved (λ x. get_or from x 0) (λ x. get_or to x 0) (λ x. get_or from' x 0) (λ x. get_or to' x 0) V x (l - k) (not r)) i.p_is at_v in
+        let at_l = subst (λ x. IsCarved (λ x. get_or from x 0) (λ x. get_or to x 0) (λ x. get_or from' x 0) (λ x. get_or to' x 0) V P (x - k) (not r)) l_is at_p in
+        let at_r = subst (λ x. IsCarved (λ x. get_or from x 0) (λ x. get_or to x 0) (λ x. get_or from' x 0) (λ x. get_or to' x 0) V P (get_or last V 0 - k) x) r_is at_l in
+        let more = IsPlacingIn-more k h two few from' to' same_from same_to at_r in
+        let back_r = subst (λ x. IsPlacingIn lists order number last parent low from' to' (set side V x) (set recent P x) (k + 1)) (sym r_is) more in
+        let back_v = subst (λ x. IsPlacingIn lists order number last parent low from' to' (set side x (not r)) (set recent P (not r)) (k + 1)) (sym i.v_is) back_r in
+        let back_p = subst (λ x. IsPlacingIn lists order number last parent low from' to' (set side v (not r)) (set recent x (not r)) (k + 1)) (sym i.p_is) back_v in
+        subst (λ xs. IsPlacingIn lists order number last parent low xs (take m' (to' ++ behind')) (set side v (not r)) (set recent p (not r)) (k + 1)) (sym (take_at from' behind m long))
+        (subst (λ xs. IsPlacingIn lists order number last parent low from' xs (set side v (not r)) (set recent p (not r)) (k + 1)) (sym (take_at to' behind' m' long')) back_p)
 
 -- the first two
 module _ (lists : Lists) (order number last parent low : ℕ → ℕ) (s t : ℕ) (w : IsWholeForest lists order number last parent low s t) (from to : ℕ → ℕ) (side recent : ℕ → Bool) (from_s : from s ≡ 0) (to_s : to s ≡ 1) (from_t : from t ≡ 1) (to_t : to t ≡ length lists) (side_t : side t ≡ false) (recent_s : recent s ≡ false) (some : 2 ≤ length lists) where
@@ -157,3 +211,12 @@ IsPlacingIn-two lists order number last parent low from to side recent w some ta
           (get_or-set_same side t false false (omega arith))
           (get_or-set_same recent s false false (omega arith)) some;
     }
+
+-- the first two, by what was read of them
+pub IsPlacingIn-first : (lists : Lists) (order number last parent low from to : List ℕ) (side recent : List Bool) → IsWholeSearch lists order number last parent low → 2 ≤ length lists → AreTables lists from to side recent → (s t n : ℕ) → s ≡ get_or order 0 s → t ≡ get_or order 1 t → n ≡ length lists → IsPlacingIn lists order number last parent low (set (set from s 0) t 1) (set (set to s 1) t n) (set side t false) (set recent s false) 2
+IsPlacingIn-first lists order number last parent low from to side recent w some tables s t n s_read t_read n_is =
+    let o = w.orders in
+    let s_is : s ≡ get_or order 0 0 = s_read ∙ get_or_default order 0 s 0 (omega (arith, some, o)) in
+    let t_is : t ≡ get_or order 1 0 = t_read ∙ get_or_default order 1 t 0 (omega (arith, some, o)) in
+    let at = λ (x y z : ℕ). IsPlacingIn lists order number last parent low (set (set from x 0) y 1) (set (set to x 1) y z) (set side y false) (set recent x false) 2 in
+    subst (λ x. at x t n) (sym s_is) (subst (λ y. at (get_or order 0 0) y n) (sym t_is) (subst (λ z. at (get_or order 0 0) (get_or order 1 0) z) (sym n_is) (IsPlacingIn-two lists order number last parent low from to side recent w some tables)))

@@ -3,7 +3,9 @@ use Rattle.std.specs.Prelude.{ℕ, ◌+◌, ◌<◌, ◌≤◌, ◌≡◌, ◌�
 use Rattle.map_lists.specs.Lists.{Lists}
 use Rattle.graph_search.specs.Forests.{Holds, IsForest}
 use Rattle.graph_search.specs.Lows.{IsWithin, IsLow}
+use Rattle.graph_search.specs.declared.search_forests.forest.Forest.{Forest}
 use Rattle.st_orders.specs.StOrders.{IsStOrder}
+use Rattle.st_orders.specs.declared.places.Ranges.{Ranges}
 
 -- A search of a connected map without cut vertices, from s, with t next: s alone has no parent and t alone is its child, and each further vertex has a low point before its parent.
 pub record IsWholeForest (lists : Lists) (order number last parent low : ℕ → ℕ) (s t : ℕ) : Type 0 where
@@ -70,6 +72,14 @@ pub record AreTables (lists : Lists) (from to : List ℕ) (side recent : List Bo
 pub record IsPlacingIn (lists : Lists) (order number last parent low from to : List ℕ) (side recent : List Bool) (k : ℕ) : Type 0 where
   pub tables : AreTables lists from to side recent
   pub placing : IsPlacing lists (λ i. slice_index order i) (λ v. slice_index number v) (λ v. slice_index last v) (λ v. slice_index parent v) (λ v. slice_index low v) (slice_index order 1) (λ v. slice_index from v) (λ v. slice_index to v) (λ v. slice_index_or side v false) (λ v. slice_index_or recent v false) k
+
+-- such a search as code has it, with its low points
+abbrev pub IsWholeBy : Lists → Forest → (low : List ℕ) → Type 0
+IsWholeBy lists forest low = IsWholeSearch lists forest.order.items forest.number.items forest.last.items forest.parent.items low
+
+-- and the ranges of the vertices numbered below k by it
+abbrev pub ArePlacedBelow : Lists → Forest → (low : List ℕ) → Ranges → ℕ → Type 0
+ArePlacedBelow lists forest low ranges k = IsPlacingIn lists forest.order.items forest.number.items forest.last.items forest.parent.items low ranges.from.items ranges.to.items ranges.side.items ranges.recent.items k
 
 -- Different places below the number of vertices, which with the vertices at them are an st-order.
 pub record ArePlaces (lists : Lists) (s t : ℕ) (from : List ℕ) : Type 0 where

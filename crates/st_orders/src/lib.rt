@@ -8,4 +8,5 @@
 mod orders;
 mod places;
 
-pub use orders::{Ranges, StOrder, places_again, st_order, st_ranks};
+pub use orders::{StOrder, places_again, st_order, st_ranks};
+pub use places::Ranges;

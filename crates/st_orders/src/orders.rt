@@ -8,7 +8,7 @@ ghost use Rattle.graph_search.specs.Cuts.{IsCutVertex};
 ghost use Rattle.st_orders.specs.StOrders.{IsStOrder, IsStOrderOf};
 ghost use Rattle.st_orders.specs.Placing.{ArePlaces};
 
-use crate::places::place_all;
+use crate::places::Ranges;
 use graph_search::search_forests::{Forest, low_points, search_forest_along};
 use half_edges::{Counts, DartId, HalfMap, Rotations, VertexId, VertexList};
 use std::alloc::{AllocError, Global};
@@ -57,51 +57,6 @@ fn vertices_of(alloc: Global, numbers: &[u16]) -> Result<VertexList, AllocError>
     Ok(vertices)
 }
 
-/// The ranges from which vertices take their places, which keep their memory from one map to the next.
-#[derive(Drop)]
-pub struct Ranges {
-    /// For each vertex where its range begins: in the end its place in an st-order, from 0.
-    pub from: Vec<u16>,
-    // for each vertex where its range ends
-    to: Vec<u16>,
-    // for each vertex whether it took its range from below its parent's
-    side: Vec<bool>,
-    // for each vertex the side of its last child
-    recent: Vec<bool>,
-}
-
-impl Ranges {
-    /// Ranges of no map. They take no memory.
-    pub fn new(alloc: Global) -> Ranges {
-        Ranges {
-            from: Vec::new(alloc),
-            to: Vec::new(alloc),
-            side: Vec::new(alloc),
-            recent: Vec::new(alloc),
-        }
-    }
-}
-
-// A table with 0 at each of `n` places, in the memory of another.
-fn zeros(table: Vec<u16>, n: usize) -> Result<Vec<u16>, AllocError>
-    ensures { IfOk result (λ made. length made.items ≡ n) }
-{
-    let mut table = table;
-    table.clear();
-    table.resize(n, 0)?;
-    Ok(table)
-}
-
-// A table with `false` at each of `n` places, in the memory of another.
-fn unset(table: Vec<bool>, n: usize) -> Result<Vec<bool>, AllocError>
-    ensures { IfOk result (λ made. length made.items ≡ n) }
-{
-    let mut table = table;
-    table.clear();
-    table.resize(n, false)?;
-    Ok(table)
-}
-
 /// The places of an st-order for the dart from s to t of a connected map without cut vertices, by a search from s
 /// that sees t next, in the memory of other ranges. It fails only when out of memory. The time is linear.
 pub fn places_again(
@@ -124,29 +79,9 @@ pub fn places_again(
     ensures places { IfOk result (λ made. ArePlaces lists.now s t made.from.items) }
     ensures order { IfOk result (λ made. (at : List ℕ) × IsStOrder lists.now s t at made.from.items) }
 {
-    let n = lists.len();
-    let mut from = zeros(ranges.from, n)?;
-    let mut to = zeros(ranges.to, n)?;
-    let mut side = unset(ranges.side, n)?;
-    let mut recent = unset(ranges.recent, n)?;
-    place_all(
-        lists,
-        &forest.order,
-        &forest.number,
-        &forest.last,
-        &forest.parent,
-        low,
-        &mut from,
-        &mut to,
-        &mut side,
-        &mut recent,
-    );
-    Ok(Ranges {
-        from,
-        to,
-        side,
-        recent,
-    })
+    let mut made = ranges.sized(lists)?;
+    made.place_all(lists, forest, low);
+    Ok(made)
 }
 
 // The order with these places.

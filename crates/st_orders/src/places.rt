@@ -1,8 +1,24 @@
 //! The places of vertices in an st-order, by a search.
 ghost use Rattle.std.specs.Prelude.{◌≡◌, ◌+◌, ◌<◌, ◌≤◌, ◌≢◌, ℕ, true, false, length, slice_index, slice_index_or, slice_set};
-ghost use Rattle.st_orders.specs.Placing.{IsCarved, IsWholeSearch, AreTables, IsPlacingIn};
+ghost use Rattle.std.specs.Prelude.{IfOk};
+ghost use Rattle.st_orders.specs.Placing.{IsCarved, IsWholeBy, AreTables, ArePlacedBelow};
 
+use graph_search::search_forests::Forest;
 use map_lists::Rotations;
+use std::alloc::{AllocError, Global};
+
+/// The ranges from which vertices take their places, which keep their memory from one map to the next.
+#[derive(Drop)]
+pub struct Ranges {
+    /// For each vertex where its range begins: in the end its place in an st-order, from 0.
+    pub from: Vec<u16>,
+    // for each vertex where its range ends
+    to: Vec<u16>,
+    // for each vertex whether it took its range from below its parent's
+    side: Vec<bool>,
+    // for each vertex the side of its last child
+    recent: Vec<bool>,
+}
 
 // A vertex takes `size` places from below those of its parent.
 fn take_below(from: &mut [u16], to: &mut [u16], vertex: u16, parent: u16, size: u16)
@@ -50,89 +66,98 @@ fn take_places(from: &mut [u16], to: &mut [u16], vertex: u16, parent: u16, size:
     }
 }
 
-// The vertex numbered `next` gets its places, on the other side of its parent than the vertex at its low point.
-fn place_next(
-    lists: &Rotations,
-    order: &[u16],
-    number: &[u16],
-    last: &[u16],
-    parent: &[u16],
-    low: &[u16],
-    from: &mut [u16],
-    to: &mut [u16],
-    side: &mut [bool],
-    recent: &mut [bool],
-    next: u16,
-)
-    requires whole { IsWholeSearch lists.now order.now number.now last.now parent.now low.now }
-    requires placing { IsPlacingIn lists.now order.now number.now last.now parent.now low.now from.old to.old side.old recent.old next }
-    requires two { 2 ≤ next }
-    requires few { next < length lists.now }
-    ensures { IsPlacingIn lists.now order.now number.now last.now parent.now low.now from.new to.new side.new recent.new (next + 1) }
+// A table with 0 at each of `n` places, in the memory of another.
+fn zeros(table: Vec<u16>, n: usize) -> Result<Vec<u16>, AllocError>
+    ensures { IfOk result (λ made. length made.items ≡ n) }
 {
-    let vertex = order[next as usize];
-    let above = parent[vertex as usize];
-    let far = order[low[vertex as usize] as usize];
-    let below = !recent[far as usize];
-    take_places(from, to, vertex, above, last[vertex as usize] - next, below);
-    side[vertex as usize] = below;
-    recent[above as usize] = below;
+    let mut table = table;
+    table.clear();
+    table.resize(n, 0)?;
+    Ok(table)
 }
 
-// The first two vertices get their places, s the first and t all others.
-fn place_two(
-    lists: &Rotations,
-    order: &[u16],
-    number: &[u16],
-    last: &[u16],
-    parent: &[u16],
-    low: &[u16],
-    from: &mut [u16],
-    to: &mut [u16],
-    side: &mut [bool],
-    recent: &mut [bool],
-)
-    requires few { length lists.now < 4096 }
-    requires some { 2 ≤ length lists.now }
-    requires whole { IsWholeSearch lists.now order.now number.now last.now parent.now low.now }
-    requires tables { AreTables lists.now from.old to.old side.old recent.old }
-    ensures { IsPlacingIn lists.now order.now number.now last.now parent.now low.now from.new to.new side.new recent.new 2 }
+// A table with `false` at each of `n` places, in the memory of another.
+fn unset(table: Vec<bool>, n: usize) -> Result<Vec<bool>, AllocError>
+    ensures { IfOk result (λ made. length made.items ≡ n) }
 {
-    let s = order[0] as usize;
-    let t = order[1] as usize;
-    from[s] = 0;
-    to[s] = 1;
-    from[t] = 1;
-    to[t] = lists.len() as u16;
-    side[t] = false;
-    recent[s] = false;
+    let mut table = table;
+    table.clear();
+    table.resize(n, false)?;
+    Ok(table)
 }
 
-// All vertices get their places.
-pub(crate) fn place_all(
-    lists: &Rotations,
-    order: &[u16],
-    number: &[u16],
-    last: &[u16],
-    parent: &[u16],
-    low: &[u16],
-    from: &mut [u16],
-    to: &mut [u16],
-    side: &mut [bool],
-    recent: &mut [bool],
-)
-    requires few { length lists.now < 4096 }
-    requires some { 2 ≤ length lists.now }
-    requires whole { IsWholeSearch lists.now order.now number.now last.now parent.now low.now }
-    requires tables { AreTables lists.now from.old to.old side.old recent.old }
-    ensures { IsPlacingIn lists.now order.now number.now last.now parent.now low.now from.new to.new side.new recent.new (length lists.now) }
-{
-    place_two(
-        lists, order, number, last, parent, low, from, to, side, recent,
-    );
-    for k in 2..lists.len() {
-        place_next(
-            lists, order, number, last, parent, low, from, to, side, recent, k as u16,
-        );
+impl Ranges {
+    /// Ranges of no map. They take no memory.
+    pub fn new(alloc: Global) -> Ranges {
+        Ranges {
+            from: Vec::new(alloc),
+            to: Vec::new(alloc),
+            side: Vec::new(alloc),
+            recent: Vec::new(alloc),
+        }
+    }
+
+    // Makes room for the vertices of a map, in the memory of these ranges.
+    pub(crate) fn sized(self, lists: &Rotations) -> Result<Ranges, AllocError>
+        ensures { IfOk result (λ made. AreTables lists.now made.from.items made.to.items made.side.items made.recent.items) }
+    {
+        let n = lists.len();
+        Ok(Ranges {
+            from: zeros(self.from, n)?,
+            to: zeros(self.to, n)?,
+            side: unset(self.side, n)?,
+            recent: unset(self.recent, n)?,
+        })
+    }
+
+    // Gives the vertex numbered `next` its places, on the other side of its parent than the vertex at its low point.
+    fn place_next(&mut self, lists: &Rotations, forest: &Forest, low: &[u16], next: u16)
+        requires whole { IsWholeBy lists.now forest.now low.now }
+        requires placed { ArePlacedBelow lists.now forest.now low.now self.old next }
+        requires two { 2 ≤ next }
+        requires few { next < length lists.now }
+        ensures { ArePlacedBelow lists.now forest.now low.now self.new (next + 1) }
+    {
+        let vertex = forest.order[next as usize];
+        let above = forest.parent[vertex as usize];
+        let far = forest.order[low[vertex as usize] as usize];
+        let below = !self.recent[far as usize];
+        let size = forest.last[vertex as usize] - next;
+        take_places(&mut self.from, &mut self.to, vertex, above, size, below);
+        self.side[vertex as usize] = below;
+        self.recent[above as usize] = below;
+    }
+
+    // Gives the first two vertices their places, s the first and t all others.
+    fn place_two(&mut self, lists: &Rotations, forest: &Forest, low: &[u16])
+        requires few { length lists.now < 4096 }
+        requires some { 2 ≤ length lists.now }
+        requires whole { IsWholeBy lists.now forest.now low.now }
+        requires tables { AreTables lists.now self.old.from.items self.old.to.items self.old.side.items self.old.recent.items }
+        ensures { ArePlacedBelow lists.now forest.now low.now self.new 2 }
+    {
+        let _low = low;
+        let s = forest.order[0] as usize;
+        let t = forest.order[1] as usize;
+        self.from[s] = 0;
+        self.to[s] = 1;
+        self.from[t] = 1;
+        self.to[t] = lists.len() as u16;
+        self.side[t] = false;
+        self.recent[s] = false;
+    }
+
+    // Gives all vertices their places.
+    pub(crate) fn place_all(&mut self, lists: &Rotations, forest: &Forest, low: &[u16])
+        requires few { length lists.now < 4096 }
+        requires some { 2 ≤ length lists.now }
+        requires whole { IsWholeBy lists.now forest.now low.now }
+        requires tables { AreTables lists.now self.old.from.items self.old.to.items self.old.side.items self.old.recent.items }
+        ensures { ArePlacedBelow lists.now forest.now low.now self.new (length lists.now) }
+    {
+        self.place_two(lists, forest, low);
+        for k in 2..lists.len() {
+            self.place_next(lists, forest, low, k as u16);
+        }
     }
 }

@@ -1,7 +1,4 @@
-use Rattle.std.proofs.Common.{◌≡◌, ℕ, List, length, sym, ◌∙◌, subst}
-use Rattle.std.proofs.lemmas.List.{take_at}
 use Rattle.graph_search.proofs.ForestLemmas.{IsAdjacency-simple}
-use Rattle.st_orders.specs.Placing.{ArePlaces}
 use Rattle.st_orders.proofs.WholeLemmas.{IsWholeSearch-biconnected}
 use Rattle.st_orders.proofs.FinishLemmas.{ArePlaces-placed}
 use Rattle.st_orders.proofs.RankLemmas.{IsStOrder-places}
@@ -11,7 +8,6 @@ pub place_all-requires-clause-whole : goal.place_all-requires-clause-whole
 place_all-requires-clause-whole c =
     let r = c.requires in
     let f = c.args.forest.now in
-    rw (c.deref.ensures.value, c.deref-2.ensures.value, c.deref-3.ensures.value, c.deref-4.ensures.value)
     (IsWholeSearch-biconnected c.args.lists.now r.simple r.connected r.uncut f.order.items f.number.items f.last.items f.parent.items c.args.low.now r.forest r.lows c.args.s c.args.t r.dart r.first r.second).0
 
 pub returns-clause-places : goal.returns-clause-places
@@ -19,12 +15,9 @@ returns-clause-places c =
     let r = c.requires in
     let f = c.args.forest.now in
     let low = c.args.low.now in
-    let from = c.place_all.new.from in
+    let made = c.place_all.new.self in
     let whole = IsWholeSearch-biconnected c.args.lists.now r.simple r.connected r.uncut f.order.items f.number.items f.last.items f.parent.items low r.forest r.lows c.args.s c.args.t r.dart r.first r.second in
-    let placing = rw (c.deref.ensures.value, c.deref-2.ensures.value, c.deref-3.ensures.value, c.deref-4.ensures.value) at c.place_all.ensures in
-    let len : length from ≡ c.in_ok-from.from.len = c.place_all.auto.from ∙ c.deref_mut.ensures.len in
-    subst (λ (xs : List ℕ). ArePlaces c.args.lists.now c.args.s c.args.t xs) (sym (take_at from _ c.in_ok-from.from.len len))
-    (ArePlaces-placed c.args.lists.now (IsAdjacency-simple c.args.lists.now r.simple) f.order.items f.number.items f.last.items f.parent.items low from c.place_all.new.to c.place_all.new.side c.place_all.new.recent whole.0 placing c.args.s c.args.t whole.1 whole.2 r.dart)
+    ArePlaces-placed c.args.lists.now (IsAdjacency-simple c.args.lists.now r.simple) f.order.items f.number.items f.last.items f.parent.items low made.from.items made.to.items made.side.items made.recent.items whole.0 c.place_all.ensures c.args.s c.args.t whole.1 whole.2 r.dart
 
 pub returns-clause-order : goal.returns-clause-order
 returns-clause-order c = IsStOrder-places c.args.lists.now c.args.s c.args.t _ (returns-clause-places c)
