@@ -38,9 +38,9 @@ def call(*words, cwd=None):
 
 def keeps():
     """Says whether the kit's gate keeps on the machine what it proved, and proves only what changed."""
-    # rt help ends with a status of its own
+    # rt help ends with a status of its own, and some kits write it to standard error
     said = subprocess.run(["rt", "help"], stdin=subprocess.DEVNULL, capture_output=True, text=True, check=False)
-    return "--anew" in said.stdout
+    return "--anew" in said.stdout + said.stderr
 
 
 def listed():
