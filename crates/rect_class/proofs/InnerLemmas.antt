@@ -39,7 +39,7 @@ MatchOption-large lists d p q found simple f h =
     Found x y z = MatchOption found ((v u : ℕ) → ¬ IsLargeDart lists x y z v u) (λ (e : VertexId × VertexId). IsLeastPair (IsLargeDart lists x y z) e.0.0 e.1.0)
 
 -- all four of a quadrangle are vertices
-vertices_of : (lists : Lists) (s d p q : ℕ) → IsSimpleMap lists → IsQuadrangle lists s d p q → (s < length lists) × (d < length lists) × (p < length lists) × (q < length lists)
+pub vertices_of : (lists : Lists) (s d p q : ℕ) → IsSimpleMap lists → IsQuadrangle lists s d p q → (s < length lists) × (d < length lists) × (p < length lists) × (q < length lists)
 vertices_of lists s d p q simple h =
     let second = IsQuadrangle-turned lists simple s d p q h in
     let third = IsQuadrangle-turned lists simple d p q s second in

@@ -4,6 +4,7 @@ mod UpperLemmas
 mod Cases
 mod FrameDarts
 mod TriangleLemmas
+mod CornerLemmas
 mod InnerLemmas
 mod RectMapLemmas
 mod Refused

@@ -4,3 +4,4 @@ pub mod Refusals
 pub mod Laws
 pub mod Loops
 pub mod Upper
+pub mod Corners

@@ -8,8 +8,8 @@ ghost use Rattle.rect_check.specs.Duals.{HasFrame};
 ghost use Rattle.rect_check.specs.Loops.{IsFrame};
 ghost use Rattle.rect_class.specs.RectMaps.{HasLargeFace, HasTriangles, NoneSeparating, IsRectMap};
 ghost use Rattle.rect_class.specs.Refusals.{BreaksRect};
-ghost use Rattle.rect_class.specs.Upper.{AreUpperRows};
 
+use crate::corners::none_separates;
 use crate::faces::first_large;
 use crate::triangles::first_separating;
 use crate::upper::upper_rows;
@@ -17,7 +17,7 @@ use conn_parts::biconnected_maps::biconnected_map;
 use half_edges::{HalfMap, Rotations, VertexId};
 use rect_check::{OuterFour, outer_four};
 use refusals::{Refusal, Unserved};
-use std::alloc::Global;
+use std::alloc::{AllocError, Global};
 
 // How many vertices the outer face has.
 const OUTER_COUNT: u16 = 4;
@@ -32,57 +32,70 @@ fn first_large_face(map: &HalfMap, four: OuterFour) -> Option<(VertexId, VertexI
     first_large(map, four)
 }
 
-// The first condition on triangles that a map breaks.
-fn first_of_triangles(map: &HalfMap, rows: &Rotations, lists: &Rotations) -> Option<Refusal>
-    requires known { IsHalfMap map.now }
-    requires lists { lists.now ≡ map.now.lists }
-    requires rows { AreUpperRows map.now.lists rows.now }
-    requires biconnected { IsBiconnectedMap 3 map.now.lists }
-    requires frame { HasFrame map.now.lists }
-    requires faces { HasTriangles map.now.lists }
-    ensures { MatchOption result (IsRectMap map.now.lists) (BreaksRect map.now.lists) }
-{
-    if let Some((a, b, c)) = first_separating(map, rows, lists) {
-        return Some(Refusal::SeparatingTriangle(a, b, c));
-    }
-    if map.n() <= OUTER_COUNT {
-        Some(Refusal::NoInner)
-    } else {
-        None
-    }
-}
-
-// The first condition behind that on the outer face.
-fn first_of_faces(
+// Says the first condition on triangles that a map breaks.
+fn first_of_triangles(
+    alloc: Global,
     map: &HalfMap,
-    rows: &Rotations,
     lists: &Rotations,
     four: OuterFour,
-) -> Option<Refusal>
+) -> Result<Option<Refusal>, AllocError>
     requires known { IsHalfMap map.now }
     requires lists { lists.now ≡ map.now.lists }
-    requires rows { AreUpperRows map.now.lists rows.now }
     requires biconnected { IsBiconnectedMap 3 map.now.lists }
     requires frame { IsFrame map.now.lists four.top.0 four.right.0 four.bottom.0 }
-    ensures { MatchOption result (IsRectMap map.now.lists) (BreaksRect map.now.lists) }
+    requires faces { HasTriangles map.now.lists }
+    ensures { IfOk result (λ found. MatchOption found (NoneSeparating map.now.lists) (λ refusal. BreaksRect map.now.lists refusal)) }
 {
-    match first_large_face(map, four) {
-        Some((v, u)) => Some(Refusal::NotTriangle(v, u)),
-        None => first_of_triangles(map, rows, lists),
+    if none_separates(alloc, lists, four)? {
+        return Ok(None);
+    }
+    let rows = upper_rows(alloc, lists)?;
+    match first_separating(map, &rows, lists) {
+        Some((a, b, c)) => Ok(Some(Refusal::SeparatingTriangle(a, b, c))),
+        None => Ok(None),
     }
 }
 
-// The first condition that a biconnected map breaks.
-fn first_broken(map: &HalfMap, rows: &Rotations, lists: &Rotations) -> Option<Refusal>
+// Says the first condition behind that on the outer face.
+fn first_of_faces(
+    alloc: Global,
+    map: &HalfMap,
+    lists: &Rotations,
+    four: OuterFour,
+) -> Result<Option<Refusal>, AllocError>
+    requires known { IsHalfMap map.now }
     requires lists { lists.now ≡ map.now.lists }
     requires biconnected { IsBiconnectedMap 3 map.now.lists }
-    requires rows { AreUpperRows map.now.lists rows.now }
-    ensures { MatchOption result (IsRectMap map.now.lists) (BreaksRect map.now.lists) }
+    requires frame { IsFrame map.now.lists four.top.0 four.right.0 four.bottom.0 }
+    ensures { IfOk result (λ found. MatchOption found (IsRectMap map.now.lists) (BreaksRect map.now.lists)) }
+{
+    if let Some((v, u)) = first_large_face(map, four) {
+        return Ok(Some(Refusal::NotTriangle(v, u)));
+    }
+    if let Some(refusal) = first_of_triangles(alloc, map, lists, four)? {
+        return Ok(Some(refusal));
+    }
+    if map.n() <= OUTER_COUNT {
+        Ok(Some(Refusal::NoInner))
+    } else {
+        Ok(None)
+    }
+}
+
+// Says the first condition that a biconnected map breaks.
+fn first_broken(
+    alloc: Global,
+    map: &HalfMap,
+    lists: &Rotations,
+) -> Result<Option<Refusal>, AllocError>
+    requires lists { lists.now ≡ map.now.lists }
+    requires biconnected { IsBiconnectedMap 3 map.now.lists }
+    ensures { IfOk result (λ found. MatchOption found (IsRectMap map.now.lists) (BreaksRect map.now.lists)) }
 {
     map.facts();
     match outer_four(map) {
-        Some(four) => first_of_faces(map, rows, lists, four),
-        None => Some(Refusal::OuterNotQuad),
+        Some(four) => first_of_faces(alloc, map, lists, four),
+        None => Ok(Some(Refusal::OuterNotQuad)),
     }
 }
 
@@ -91,9 +104,9 @@ fn first_broken(map: &HalfMap, rows: &Rotations, lists: &Rotations) -> Option<Re
 /// a face, and some vertex is inside.
 ///
 /// `Err` names the first condition that the lists break, in the order of [`Refusal`], with the least
-/// vertices. Or there was not enough memory. For each edge it goes over the shorter of two lists, and looks
-/// each common neighbour up in a row of those neighbours of a vertex whose degree is no lower: the time is
-/// linear but for the lengths of these rows, which are short also at hubs.
+/// vertices. Or there was not enough memory. For each edge it goes over the shorter of two lists; only where a
+/// triangle may separate it looks each common neighbour up in a row of those neighbours of a vertex whose degree is no
+/// lower. The time is linear but for the lengths of these rows, which are short also at hubs.
 pub fn rect_map(alloc: Global, lists: &Rotations) -> Result<HalfMap, Unserved>
     requires some_list { 0 < length lists.now }
     requires few_lists { length lists.now < 4096 }
@@ -103,8 +116,7 @@ pub fn rect_map(alloc: Global, lists: &Rotations) -> Result<HalfMap, Unserved>
 {
     let map = biconnected_map(alloc, lists, 3)?;
     map.facts();
-    let rows = upper_rows(alloc, lists)?;
-    match first_broken(&map, &rows, lists) {
+    match first_broken(alloc, &map, lists)? {
         Some(refusal) => Err(Unserved::Refused(refusal)),
         None => Ok(map),
     }

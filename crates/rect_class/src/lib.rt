@@ -4,6 +4,7 @@
 ghost use Rattle.rect_class.specs.Laws.{RectMapsBreakNothing, BiconnectedAreRectMaps};
 
 mod biconnected;
+mod corners;
 mod faces;
 mod triangles;
 mod upper;

@@ -65,8 +65,8 @@ fn is_in_row(row: &[u16], v: u16) -> bool
     row.contains(&v)
 }
 
-// Whether the row of `u` has `v`.
-fn has_upper(rows: &Rotations, u: VertexId, v: VertexId) -> bool
+/// Says whether row `u` has `v`.
+pub(crate) fn has_upper(rows: &Rotations, u: VertexId, v: VertexId) -> bool
     requires { u.0 < length rows.now }
     ensures { IsTrue result ↔ Contains (list_of rows.now u.0) v.0 }
 {

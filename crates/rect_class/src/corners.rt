@@ -1,0 +1,172 @@
+//! That no triangle of edges separates, by the lists alone: at one end of each edge the neighbours that both ends have
+//! stand next to the other end in the list.
+ghost use Rattle.std.specs.Prelude.{◌≡◌, ◌≢◌, ◌<◌, ◌↔◌, ◌+◌, ◌⊎◌, ℕ, length, All, AllPairs, slice_index, IsTrue, IfOk};
+ghost use Rattle.std.specs.Bool.{OnTrue};
+ghost use Rattle.map_theory.specs.Maps.{HasDart, IsSimpleMap, list_of, entry_after};
+ghost use Rattle.rect_check.specs.Loops.{IsFrame};
+ghost use Rattle.rect_class.specs.RectMaps.{HasTriangles, NoneSeparating};
+ghost use Rattle.rect_class.specs.Corners.{IsSide, IsClosedOver, AreClosed, ComesBefore, HasDiagonal};
+
+use crate::upper::has_upper;
+use half_edges::{Rotations, VertexId};
+use rect_check::OuterFour;
+use std::alloc::{AllocError, Global};
+
+// Puts a stamp on each vertex of a list.
+fn stamp_all(marks: &mut Vec<u16>, us: &[u16], stamp: u16)
+    requires { All (λ u. u < length marks.old.items) us.now }
+    ensures length { length marks.new.items ≡ length marks.old.items }
+    ensures stamped { (k : ℕ) → k < length us.now → slice_index marks.new.items (slice_index us.now k) ≡ stamp }
+{
+    for u in us {
+        marks[usize::from(*u)] = stamp;
+    }
+}
+
+// Says whether each vertex of `ws` that has the stamp is `last` or `next`.
+fn are_sides(marks: &[u16], stamp: u16, ws: &[u16], last: u16, next: u16) -> bool
+    requires { All (λ w. w < length marks.now) ws.now }
+    ensures { OnTrue result ((k : ℕ) → k < length ws.now → IsSide marks.now stamp last next (slice_index ws.now k)) }
+{
+    for w in ws {
+        if marks[usize::from(*w)] == stamp && *w != last && *w != next {
+            return false;
+        }
+    }
+    true
+}
+
+// Returns the entry after the one at place `k` of a list, cyclically.
+fn entry_behind(us: &[u16], k: usize) -> u16
+    requires distinct { AllPairs ◌≢◌ us.now }
+    requires place { k < length us.now }
+    ensures { result ≡ entry_after (slice_index us.now k) us.now }
+{
+    if k + 1 < us.len() { us[k + 1] } else { us[0] }
+}
+
+// Returns the entry before the one at place `k` of a list, cyclically.
+fn entry_ahead(us: &[u16], k: usize) -> u16
+    requires distinct { AllPairs ◌≢◌ us.now }
+    requires place { k < length us.now }
+    ensures { entry_after result us.now ≡ slice_index us.now k }
+{
+    if 0 < k { us[k - 1] } else { us[us.len() - 1] }
+}
+
+// Says whether each common neighbour of `v`, whose neighbours have its stamp, and of number `k` of its list stands next
+// to that in the list.
+fn is_closed_over(lists: &Rotations, marks: &[u16], v: u16, k: usize) -> bool
+    requires simple { IsSimpleMap lists.now }
+    requires few { length lists.now < 4096 }
+    requires marks { length marks.now ≡ length lists.now }
+    requires vertex { v < length lists.now }
+    requires stamped { (j : ℕ) → j < length (list_of lists.now v) → slice_index marks.now (slice_index (list_of lists.now v) j) ≡ v + 1 }
+    requires place { k < length (list_of lists.now v) }
+    ensures { OnTrue result (IsClosedOver lists.now v (slice_index (list_of lists.now v) k)) }
+{
+    let us = lists.list(usize::from(v));
+    let (last, next) = (entry_ahead(us, k), entry_behind(us, k));
+    are_sides(marks, v + 1, lists.list(usize::from(us[k])), last, next)
+}
+
+// Says whether vertex `u` comes before `v` by its degree, or by its number where they have one degree.
+fn comes_before(degrees: &[usize], u: u16, v: u16) -> bool
+    requires u { u < length degrees.now }
+    requires v { v < length degrees.now }
+    ensures { IsTrue result ↔ ComesBefore degrees.now u v }
+{
+    let first = degrees[usize::from(u)];
+    let second = degrees[usize::from(v)];
+    first < second || (first == second && u < v)
+}
+
+// Says whether that is so of number `k` of the list of `v`, or that does not come before `v`.
+fn is_closed_before(lists: &Rotations, degrees: &[usize], marks: &[u16], v: u16, k: usize) -> bool
+    requires simple { IsSimpleMap lists.now }
+    requires few { length lists.now < 4096 }
+    requires degrees { length degrees.now ≡ length lists.now }
+    requires marks { length marks.now ≡ length lists.now }
+    requires vertex { v < length lists.now }
+    requires stamped { (j : ℕ) → j < length (list_of lists.now v) → slice_index marks.now (slice_index (list_of lists.now v) j) ≡ v + 1 }
+    requires place { k < length (list_of lists.now v) }
+    ensures { OnTrue result (ComesBefore degrees.now (slice_index (list_of lists.now v) k) v → IsClosedOver lists.now v (slice_index (list_of lists.now v) k)) }
+{
+    !comes_before(degrees, lists.list(usize::from(v))[k], v) || is_closed_over(lists, marks, v, k)
+}
+
+// Says whether each common neighbour of `v` and of one of its neighbours that come before it stands next to that.
+fn is_closed_at(lists: &Rotations, degrees: &[usize], marks: &[u16], v: u16) -> bool
+    requires simple { IsSimpleMap lists.now }
+    requires few { length lists.now < 4096 }
+    requires degrees { length degrees.now ≡ length lists.now }
+    requires marks { length marks.now ≡ length lists.now }
+    requires vertex { v < length lists.now }
+    requires stamped { (j : ℕ) → j < length (list_of lists.now v) → slice_index marks.now (slice_index (list_of lists.now v) j) ≡ v + 1 }
+    ensures { OnTrue result ((k : ℕ) → k < length (list_of lists.now v) → ComesBefore degrees.now (slice_index (list_of lists.now v) k) v
+        → IsClosedOver lists.now v (slice_index (list_of lists.now v) k)) }
+{
+    for k in 0..lists.list(usize::from(v)).len() {
+        if !is_closed_before(lists, degrees, marks, v, k) {
+            return false;
+        }
+    }
+    true
+}
+
+// Makes the list of all degrees.
+fn all_degrees(alloc: Global, lists: &Rotations) -> Result<Vec<usize>, AllocError>
+    ensures { IfOk result (λ degrees. length degrees.items ≡ length lists.now) }
+{
+    let mut degrees = vec![in alloc; 0usize; lists.len()]?;
+    for v in 0..lists.len() {
+        degrees[v] = lists.list(v).len();
+    }
+    Ok(degrees)
+}
+
+// Says whether the common neighbours of each edge stand next to one end in the list of the other.
+fn are_closed(alloc: Global, lists: &Rotations) -> Result<bool, AllocError>
+    requires simple { IsSimpleMap lists.now }
+    requires few { length lists.now < 4096 }
+    ensures { IfOk result (λ closed. OnTrue closed (AreClosed lists.now)) }
+{
+    let degrees = all_degrees(alloc, lists)?;
+    let mut marks = vec![in alloc; 0u16; lists.len()]?;
+    for v in 0..(lists.len() as u16) {
+        stamp_all(&mut marks, lists.list(usize::from(v)), v + 1);
+        if !is_closed_at(lists, &degrees, &marks, v) {
+            return Ok(false);
+        }
+    }
+    Ok(true)
+}
+
+// Says whether an edge joins two of the four vertices of the outer face across it.
+fn has_diagonal(lists: &Rotations, four: OuterFour) -> bool
+    requires first { 0 < length lists.now }
+    requires top { four.top.0 < length lists.now }
+    ensures { IsTrue result ↔ HasDiagonal lists.now 0 four.top.0 four.right.0 four.bottom.0 }
+{
+    has_upper(lists, VertexId(0), four.right) || has_upper(lists, four.top, four.bottom)
+}
+
+/// Says whether no triangle of edges separates, where the lists show that at once; `false` leaves it open.
+///
+/// For each edge it goes over the shorter of two lists, so that its time is linear. It fails only when out of memory.
+pub(crate) fn none_separates(
+    alloc: Global,
+    lists: &Rotations,
+    four: OuterFour,
+) -> Result<bool, AllocError>
+    requires simple { IsSimpleMap lists.now }
+    requires few { length lists.now < 4096 }
+    requires frame { IsFrame lists.now four.top.0 four.right.0 four.bottom.0 }
+    requires faces { HasTriangles lists.now }
+    ensures { IfOk result (λ none. OnTrue none (NoneSeparating lists.now)) }
+{
+    if has_diagonal(lists, four) {
+        return Ok(false);
+    }
+    are_closed(alloc, lists)
+}
