@@ -50,7 +50,7 @@ fn first_of_triangles(
         return Ok(None);
     }
     let rows = upper_rows(alloc, lists)?;
-    match first_separating(map, &rows, lists) {
+    match first_separating(map, &rows) {
         Some((a, b, c)) => Ok(Some(Refusal::SeparatingTriangle(a, b, c))),
         None => Ok(None),
     }

@@ -107,29 +107,6 @@ fn is_separating(
     a.0 < b.0 && b.0 < c.0 && is_separating_rising(map, rows, d, a, b, sides, c)
 }
 
-// Says whether `c` is the third vertex of a separating triangle over an edge that rises; most vertices fail by their
-// numbers alone.
-#[inline(always)]
-fn is_third(
-    map: &HalfMap,
-    rows: &Rotations,
-    d: DartId,
-    a: VertexId,
-    b: VertexId,
-    sides: Sides,
-    c: VertexId,
-) -> bool
-    requires known { IsHalfMap map.now }
-    requires rows { AreUpperRows map.now.lists rows.now }
-    requires dart { dart_at map.now d.0 ≡ Some (a.0, b.0) }
-    requires sides { AreSides map.now.lists a.0 b.0 sides.left.0 sides.right.0 }
-    requires third { c.0 < length map.now.lists }
-    requires rising { a.0 < b.0 }
-    ensures { IsTrue result ↔ IsSeparating map.now.lists a.0 b.0 c.0 }
-{
-    b.0 < c.0 && is_separating_rising(map, rows, d, a, b, sides, c)
-}
-
 // Whether the head of dart `e` is the third vertex of a separating triangle with `a` and `b`.
 fn leads_to_third(
     map: &HalfMap,
@@ -188,76 +165,16 @@ fn least_third(
     }
 }
 
-// The shorter one of the lists of two vertices of a map with these lists.
-fn shorter<'a>(map: &HalfMap, lists: &'a Rotations, a: VertexId, b: VertexId) -> &'a [u16]
-    requires lists { lists.now ≡ map.now.lists }
-    requires a { a.0 < length lists.now }
-    requires b { b.0 < length lists.now }
-    ensures { (result.now ≡ list_of lists.now a.0) ⊎ (result.now ≡ list_of lists.now b.0) }
-{
-    if map.degree(a) <= map.degree(b) {
-        lists.list(usize::from(a.0))
-    } else {
-        lists.list(usize::from(b.0))
-    }
-}
-
-// Whether a list has a third vertex of the edge from `a` to `b`.
-fn has_third_in(
-    map: &HalfMap,
-    rows: &Rotations,
-    d: DartId,
-    a: VertexId,
-    b: VertexId,
-    us: &[u16],
-) -> bool
+// Says whether the edge of a dart has a third vertex, and the tail is its lesser end.
+fn is_second(map: &HalfMap, rows: &Rotations, d: DartId) -> bool
     requires known { IsHalfMap map.now }
     requires rows { AreUpperRows map.now.lists rows.now }
-    requires dart { dart_at map.now d.0 ≡ Some (a.0, b.0) }
-    requires rising { a.0 < b.0 }
-    requires vertices { (k : ℕ) → k < length us.now → slice_index us.now k < length map.now.lists }
-    ensures some { OnTrue result (HasThird map.now.lists a.0 b.0) }
-    ensures none { result ≡ false → (k : ℕ) → k < length us.now → ¬ IsSeparating map.now.lists a.0 b.0 (slice_index us.now k) }
-{
-    let sides = sides_of(map, d, a, b);
-    for u in us {
-        if is_third(map, rows, d, a, b, sides, VertexId(*u)) {
-            return true;
-        }
-    }
-    false
-}
-
-// Whether the edge from `a` to `b` has a third vertex. It goes over the shorter of the two lists.
-fn has_third(
-    map: &HalfMap,
-    rows: &Rotations,
-    lists: &Rotations,
-    d: DartId,
-    a: VertexId,
-    b: VertexId,
-) -> bool
-    requires known { IsHalfMap map.now }
-    requires rows { AreUpperRows map.now.lists rows.now }
-    requires lists { lists.now ≡ map.now.lists }
-    requires dart { dart_at map.now d.0 ≡ Some (a.0, b.0) }
-    requires rising { a.0 < b.0 }
-    ensures { IsTrue result ↔ HasThird map.now.lists a.0 b.0 }
-{
-    has_third_in(map, rows, d, a, b, shorter(map, lists, a, b))
-}
-
-// Whether the edge of a dart has a third vertex, and the tail is its lesser end.
-fn is_second(map: &HalfMap, rows: &Rotations, lists: &Rotations, d: DartId) -> bool
-    requires known { IsHalfMap map.now }
-    requires rows { AreUpperRows map.now.lists rows.now }
-    requires lists { lists.now ≡ map.now.lists }
     requires live { IsLive map.now d.0 }
     ensures { IsTrue result ↔ HoldsAt map.now (HasThird map.now.lists) d.0 }
 {
     let a = map.tail(d);
     let b = map.head(d);
-    a.0 < b.0 && has_third(map, rows, lists, d, a, b)
+    a.0 < b.0 && least_third(map, rows, d, a, b).is_some()
 }
 
 // The least third vertex of `a` and `b`, which have one.
@@ -291,15 +208,13 @@ fn third_between(map: &HalfMap, rows: &Rotations, a: VertexId, b: VertexId) -> V
 pub(crate) fn first_separating(
     map: &HalfMap,
     rows: &Rotations,
-    lists: &Rotations,
 ) -> Option<(VertexId, VertexId, VertexId)>
     requires known { IsHalfMap map.now }
     requires rows { AreUpperRows map.now.lists rows.now }
-    requires lists { lists.now ≡ map.now.lists }
     ensures { MatchOption result (NoneSeparating map.now.lists)
         (λ t. IsLeastTriple (IsSeparating map.now.lists) t.0.0 t.1.0 t.2.0) }
 {
-    match first_dart(map, |d| is_second(map, rows, lists, d)) {
+    match first_dart(map, |d| is_second(map, rows, d)) {
         Some((a, b)) => Some((a, b, third_between(map, rows, a, b))),
         None => None,
     }
