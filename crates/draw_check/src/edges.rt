@@ -17,7 +17,7 @@ use half_edges::{DartId, Ends, HalfMap, VertexId};
 use pg_plane::{Points, crosses, on_segment};
 use vertex_rounds::least_head;
 
-// What may meet an edge.
+// Names something that may meet an edge.
 #[derive(Clone, Copy)]
 pub(crate) enum Probe {
     // A vertex, which may lie on it.

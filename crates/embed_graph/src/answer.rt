@@ -51,7 +51,7 @@ fn checked_map(
     }
 }
 
-/// What the left-right test tells of a graph.
+/// The answer of the left-right test to a graph.
 #[derive(Drop)]
 pub enum Tested {
     /// A map of it.
@@ -62,7 +62,7 @@ pub enum Tested {
     Unsettled,
 }
 
-// What the test tells of a graph, its lists checked.
+// Asks the test about a graph, and checks the lists that it answers.
 pub(crate) fn test_graph(
     alloc: Global,
     tables: &mut Tables,

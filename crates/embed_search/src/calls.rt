@@ -13,7 +13,7 @@ use left_right_test::{Edges, LeftRightTest};
 use map_lists::Rotations;
 use std::alloc::{AllocError, Global};
 
-/// What the searches work in, for one graph after another.
+/// The tables of the searches, for one graph after another.
 #[derive(Drop)]
 pub struct Tables {
     edges: Edges,

@@ -9,7 +9,7 @@ ghost use Rattle.euler_faces.specs.Search.{AllMarked, IsSearching, IsNumbered, c
 
 use crate::slots::start_of;
 
-/// What stands in place of the number of a vertex that was not met yet.
+/// Stands in place of the number of a vertex that was not met yet.
 pub const UNMET: u16 = u16::MAX;
 
 // Numbers the neighbours of `v` that have no number, and puts them behind the `filled` first entries of

@@ -13,7 +13,7 @@ use crate::walks::{Faces, Walk};
 use half_edges::{DartId, HalfMap, VertexId};
 use std::alloc::{AllocError, Global};
 
-// What stands in place of the face of a dart that was not met yet.
+// Stands in place of the face of a dart that was not met yet.
 const NO_FACE: u32 = u32::MAX;
 
 // Returns the walk along the face of `start`, and writes the number `f` at its darts; `start` is the face's least

@@ -1,7 +1,7 @@
 //! The darts of a map by their numbers, as counts go over them.
 ghost use Rattle.std.specs.Prelude.{◌≡◌, ◌+◌, ◌<◌, ◌==◌, if◌then◌else◌, ◌∷◌, length, slice_index, slice_index_or};
 
-/// What stands in place of a twin's number once a dart was walked over.
+/// Stands in place of a twin's number once a dart was walked over.
 pub(crate) const WALKED: u32 = u32::MAX;
 
 // Where list `v` begins.

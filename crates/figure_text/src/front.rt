@@ -16,7 +16,7 @@ use crate::words::{Word, fill_front};
 use graph6_text::{G6Fault, Graph, lines_are_graphs, read_line};
 use std::alloc::{AllocError, Global};
 
-/// What a closed line is that stands outside a figure.
+/// A closed line that stands outside a figure, judged.
 #[derive(Clone, Copy, PartialEq, Eq)]
 pub enum Front {
     /// A note: a line of what another job wrote.
@@ -39,7 +39,7 @@ fn part(line: &[u8], i: usize) -> &[u8]
     }
 }
 
-// What a fault of the line of a graph makes of the line that holds it. Without memory there is no answer.
+// Judges a line that holds the line of a graph with this fault. When memory ran out there is no answer.
 fn fault_worth(fault: G6Fault) -> Option<Judged>
     ensures { (line : List ℕ) → NamesFault line fault → MatchOption result (line_fault line ≡ None)
         (Judges (IsTrue (is_graph_shaped (line_fault line))) (line_fault line ≡ None)) }
@@ -51,7 +51,7 @@ fn fault_worth(fault: G6Fault) -> Option<Judged>
     }
 }
 
-// What the line of a graph is worth.
+// Judges the line of a graph.
 fn graph_worth(alloc: Global, line: &[u8]) -> Result<Judged, AllocError>
     ensures { IfOk result (Judges (IsTrue (is_graph_shaped (line_fault line.now))) (line_fault line.now ≡ None)) }
 {
@@ -65,7 +65,7 @@ fn graph_worth(alloc: Global, line: &[u8]) -> Result<Judged, AllocError>
     }
 }
 
-// What stands behind the word of the job in the first line of a witness.
+// Judges what stands behind the word of the job in the first line of a witness.
 fn witness_tail(alloc: Global, line: &[u8], words: &[Word]) -> Result<Judged, AllocError>
     requires { words.now ≡ words_of line.now }
     ensures { IfOk result (Judges ((length (words_of line.now) ≡ 5) × IsTrue (is_graph_shaped (line_fault (part_at line.now 4))))
@@ -78,7 +78,7 @@ fn witness_tail(alloc: Global, line: &[u8], words: &[Word]) -> Result<Judged, Al
     }
 }
 
-// What stands behind the word of the job in the first line of a figure.
+// Judges what stands behind the word of the job in the first line of a figure.
 fn tail_worth(alloc: Global, kind: Kind, line: &[u8], words: &[Word]) -> Result<Judged, AllocError>
     requires { words.now ≡ words_of line.now }
     ensures { IfOk result (Judges (IsTail (Some kind) line.now) (TailInRange (Some kind) line.now)) }
@@ -89,7 +89,7 @@ fn tail_worth(alloc: Global, kind: Kind, line: &[u8], words: &[Word]) -> Result<
     }
 }
 
-// What a first line is, by its head and its tail.
+// Judges a first line by its head and its tail.
 fn front_of(kind: Kind, words: &[Word], tail: Judged) -> Front
     ensures { (line : List ℕ) → words.now ≡ words_of line → kind_of words.now ≡ Some kind
         → Judges (IsTail (Some kind) line) (TailInRange (Some kind) line) tail → IsFrontBy line result }
@@ -126,7 +126,7 @@ fn few_words(alloc: Global, line: &[u8]) -> Result<Option<Vec<Word>>, AllocError
     }
 }
 
-/// What a line is, which is given without the byte 10 that closes it. Of a long line no more words are kept than
+/// Judges a line, which is given without the byte 10 that closes it. Of a long line no more words are kept than
 /// tell that it is no first line.
 pub fn front_line(alloc: Global, line: &[u8]) -> Result<Front, AllocError>
     ensures { IfOk result (IsFront line.now) }

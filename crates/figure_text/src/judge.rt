@@ -12,7 +12,7 @@ use crate::piece::{are_fitting, are_within, pieces};
 use crate::words::{Name, Word};
 use kuratowski::Kind as Subdivided;
 
-/// What a figure's first line says of the lines to come.
+/// The kind of lines that a figure's first line announces.
 #[derive(Clone, Copy, PartialEq, Eq)]
 pub enum Kind {
     /// Lines of a straight-line drawing.
@@ -25,7 +25,7 @@ pub enum Kind {
     Witness(Subdivided),
 }
 
-/// What a line is worth.
+/// The verdict on a line.
 #[derive(Clone, Copy, PartialEq, Eq)]
 pub enum Judged {
     /// It does not have the shape that is due.
@@ -288,7 +288,7 @@ pub fn is_count_in_range(words: &[Word]) -> bool
     1 <= size_of(word(words, 3)) && size_of(word(words, 3)) <= 4095
 }
 
-// What a line is worth, by its shape and its ranges.
+// Judges a line by its shape and its ranges.
 pub fn worth(shape: bool, range: bool) -> Judged
     ensures { result ≡ (if shape then (if range then Judged.Good else Judged.Limit) else Judged.Bad) }
 {
@@ -299,14 +299,14 @@ pub fn worth(shape: bool, range: bool) -> Judged
     }
 }
 
-/// What the line of a vertex is worth.
+/// Judges the line of a vertex.
 pub fn judged_row(kind: Kind, place: usize, words: &[Word]) -> Judged
     ensures { Judges (IsRow kind place words.now) (RowInRange kind words.now) result }
 {
     worth(is_row(kind, place, words), is_row_in_range(kind, words))
 }
 
-/// What the line of the columns is worth.
+/// Judges the line of the columns.
 pub fn judged_columns(words: &[Word]) -> Judged
     ensures { Judges (IsColumnsLine words.now) (ColumnsInRange words.now) result }
 {

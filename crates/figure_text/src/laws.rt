@@ -1,7 +1,7 @@
 //! Laws on figures as text, each the contract of a function that does nothing.
 ghost use Rattle.figure_text.specs.Laws.{PrintedIsRead, OneAnswer};
 
-/// What `print_figure` appends of a figure is read back as the same figure, wherever it stands and whatever
+/// The text that `print_figure` appends of a figure is read back as the same figure, wherever it stands and whatever
 /// follows: a reading may answer that figure, with the offset behind what was appended. All numbers of the
 /// figure have to be within the ranges of the text: its own from 1 to 16777216, from 1 to 4095 vertices,
 /// neighbours from 1 to 65535, and coordinates from -1048576 to 1048576.

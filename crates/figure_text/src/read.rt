@@ -14,7 +14,7 @@ use map_lists::{PathList, Rotations, VertexId, VertexList};
 use pg_plane::{Ints, RectFigure};
 use std::alloc::{AllocError, Global};
 
-/// What stands at an offset of a text.
+/// An item at an offset of a text.
 #[derive(Drop)]
 pub enum Item {
     /// A figure, with the offset and the number of the line behind it.
@@ -25,7 +25,7 @@ pub enum Item {
     End,
 }
 
-/// What the line of the columns is.
+/// A line of columns, judged.
 #[derive(Drop)]
 pub enum Columns {
     /// These numbers.
@@ -64,7 +64,7 @@ fn plain_columns(alloc: Global, line: &[u8]) -> Result<Option<Ints>, AllocError>
     Ok(Some(list))
 }
 
-/// What the line of the columns is, which is given without the byte 10 that closes it.
+/// Judges the line of the columns, which is given without the byte 10 that closes it.
 pub fn columns_line(alloc: Global, line: &[u8]) -> Columns
     ensures { JudgesColumns (words_of line.now) result }
 {

@@ -15,7 +15,7 @@ use map_lists::Rotations;
 use pg_plane::{Ints, Point, Points};
 use std::alloc::{AllocError, Global};
 
-/// What the lines of a figure's vertices have given. Of a witness it holds a list of the branches, and then one for
+/// Holds what the lines of a figure's vertices have given. Of a witness it holds a list of the branches, and then one for
 /// each path.
 #[derive(Drop)]
 pub struct Draft {

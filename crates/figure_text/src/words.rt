@@ -50,7 +50,7 @@ pub enum Word {
     Other,
 }
 
-/// What numbers beyond all ranges are taken for.
+/// Stands for all numbers beyond the ranges.
 pub const FAR: u64 = 100_000_000;
 
 // The number that a word is, if it is one.
@@ -138,7 +138,7 @@ fn is_text(word: &[u8], text: &[u8]) -> bool
     word == text
 }
 
-// What a word of letters is, or of other bytes.
+// Reads a word of letters, or of other bytes.
 fn named(bytes: &[u8]) -> Word
     ensures { result ≡ word_meant bytes.now }
 {
@@ -187,7 +187,7 @@ fn is_low(word: &[u8]) -> bool
     }
 }
 
-// What a word is that may be any.
+// Reads a word that may be any.
 fn other_word(word: &[u8]) -> Word
     ensures { result ≡ word_meant word.now }
 {
@@ -198,7 +198,7 @@ fn other_word(word: &[u8]) -> Word
     }
 }
 
-// What a word is. The words within the lines of vertices are told first.
+// Reads a word. The words within the lines of vertices are told first.
 fn word_of(word: &[u8]) -> Word
     ensures { result ≡ word_meant word.now }
 {
@@ -284,7 +284,7 @@ fn closes_at(line: &[u8], end: usize) -> bool
 /// A word of a line.
 #[derive(Clone, Copy, PartialEq, Eq)]
 pub struct Next {
-    /// What it is.
+    /// The word.
     pub word: Word,
     /// The place behind it.
     pub end: usize,

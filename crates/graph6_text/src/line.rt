@@ -84,7 +84,7 @@ fn four_byte_count(b: u8, c: u8, d: u8) -> u32
     six_bits(b) * 4096 + six_bits(c) * 64 + six_bits(d)
 }
 
-// What a byte stands for.
+// Returns the six bits that a byte stands for.
 fn six_bits(byte: u8) -> u32
     ensures { result ≡ byte - 63 }
 {
@@ -104,7 +104,7 @@ fn four_byte_start(n: u32) -> Result<(u16, usize), G6Fault>
     }
 }
 
-// What is wrong with the bytes behind the first `start`, as the bits of `n` vertices.
+// Finds what is wrong with the bytes behind the first `start`, as the bits of `n` vertices.
 fn body_fault(line: &[u8], n: u16, start: usize) -> Option<G6Fault>
     requires few { n ≤ 255 }
     requires start { start ≤ 4 }

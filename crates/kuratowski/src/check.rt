@@ -11,7 +11,7 @@ use crate::steps::missing_edge;
 use graph6_text::Graph;
 use map_lists::VertexId;
 
-/// What a witness is worth. Places and paths are counted from 1; what is named is the first of its kind.
+/// The verdict on a witness. Places and paths are counted from 1; what is named is the first of its kind.
 #[derive(Clone, Copy, PartialEq, Eq)]
 pub enum WitnessVerdict {
     /// There are not as many branches and paths as the kind has, or a path does not join its pair.

@@ -3,7 +3,7 @@ use crate::links::Links;
 use crate::row::{NONE, lesser, plus, twice};
 use crate::search::{Search, steps};
 
-// What the dart to a vertex learns of a dart that leaves it. A root has no such dart, and nothing reads what is
+// Tells the dart to a vertex of a dart that leaves it. A root has no such dart, and nothing reads what is
 // written for it.
 #[inline(always)]
 fn tell_parent(search: &mut Search, vertex: u32, low: u32, lowpt2: u32) {

@@ -4,10 +4,10 @@ use crate::row::{ByArc, ByDart, ByEdge, NONE, plus, twice};
 use crate::search::Search;
 use crate::ties::Ties;
 
-// What stands for no side.
+// Stands for no side.
 const UNSEEN: u32 = 2;
 
-/// What the search among ties works in, and what it found.
+/// The tables of the search among ties, and what it found.
 #[derive(Drop)]
 pub struct OddRing {
     // for each return edge the first of its ends of ties; end 2k goes along tie k from its one edge, 2k + 1 from the

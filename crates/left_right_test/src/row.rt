@@ -4,7 +4,7 @@
 //! row has of an earlier graph stays in it, so that no more is written than what a graph needs.
 ghost use Rattle.std.specs.Prelude.{◌<◌};
 
-/// What stands for no vertex, no dart and no edge: its cell is none that belongs to one.
+/// Stands for no vertex, no dart and no edge: its cell is none that belongs to one.
 pub const NONE: u32 = 0xffff;
 
 /// N numbers; of a place the rest by N counts.

@@ -18,14 +18,14 @@ use left_right_check::is_k5;
 use map_lists::Rotations;
 use std::alloc::{AllocError, Global};
 
-/// What the test works in, for one graph after another.
+/// The tables of the test, for one graph after another.
 #[derive(Drop)]
 pub struct LeftRightTest {
     /// The edges of which it asks whether they are planar.
     pub links: Links,
-    /// What its searches know.
+    /// The tables of its searches.
     pub search: Search,
-    /// What shows its conflict, if it met one.
+    /// The ring of ties that shows its conflict, if it met one.
     pub ring: OddRing,
     places: Places,
     pub(crate) forest: Forest,

@@ -7,7 +7,7 @@ ghost use Rattle.line_inputs.specs.Parts.{MovesPart, TakesPart};
 use record_runs::Taken;
 use std::alloc::AllocError;
 
-/// What a part of a piece made of what had come before.
+/// The outcome of a part of a piece, with what had come before.
 #[derive(Drop)]
 pub enum Part<End> {
     /// So many bytes of it were consumed, and no record ended.
@@ -25,7 +25,7 @@ pub trait Parts {
     /// How an input ends.
     type End: Drop;
 
-    /// What a reading of an input is.
+    /// The readings of an input.
     ghost reads: { Reads Self.Record Self.End };
 
     /// The bytes consumed so far hold these records, and what is pending.
@@ -37,7 +37,7 @@ pub trait Parts {
     /// The record that ended last.
     ghost lent: { Self → Self.Record };
 
-    /// What holds of each record that is read.
+    /// Holds of each record that is read.
     ghost IsGiven: { Self.Record → Type 0 };
 
     /// Takes a part to the end of the open line or to its own end.

@@ -94,7 +94,7 @@ fn flush_after<W: Write>(writer: &mut W, written: &io::Result<usize>) -> Option<
     }
 }
 
-// What the answers of a writer say, to a write and to the flush after it: the count of bytes is passed
+// Judges the answers of a writer, to a write and to the flush after it: the count of bytes is passed
 // on, or it is a fault, which is counted, where the write failed or took no byte, or the flush failed.
 fn judge_write(
     written: io::Result<usize>,

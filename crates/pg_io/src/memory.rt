@@ -74,7 +74,7 @@ impl Source for MemSource {
         ensures at { IfOk result (λ k. self.new.at ≡ self.old.at + k) }
         ensures unread { OnErr result ((self.new.at ≡ self.old.at) × (buf.new ≡ buf.old)) }
 
-        // What it counts, and what stays.
+        // It counts the call and any fault, and the rest stays.
         ensures calls { self.new.calls ≡ raised self.old.calls }
         ensures faults { self.new.faults
             ≡ (if is_err result then raised self.old.faults else self.old.faults) }
@@ -188,7 +188,7 @@ impl Sink for MemSink {
             (λ k. self.new.written.items ≡ self.old.written.items ++ take k piece.now) }
         ensures unwritten { OnErr result (self.new.written ≡ self.old.written) }
 
-        // What it counts, and what stays.
+        // It counts the call and any fault, and the rest stays.
         ensures calls { self.new.calls ≡ raised self.old.calls }
         ensures faults { self.new.faults
             ≡ (if is_err result then raised self.old.faults else self.old.faults) }

@@ -11,19 +11,19 @@ use std::alloc::{AllocError, Global};
 
 /// A job over maps: what it finds of a map, and how it writes that. It may keep memory of its own from map to map.
 pub trait Method: Drop {
-    /// What it finds of a map: a figure, or counts.
+    /// The answer to a map: a figure, or counts.
     type Figure: Drop;
 
     /// The maps that it serves, the first condition that others break, and what it writes.
     ghost says: { Says };
 
-    /// What is found of lists.
+    /// Holds of lists and the answer to them.
     ghost IsFigure: { Lists → Self.Figure → Type 0 };
 
     /// The job before the first map. It takes no memory.
     fn new(alloc: Global) -> Self;
 
-    /// What it finds of lists, or the first condition that they break.
+    /// Answers lists, or names the first condition that they break.
     fn figure(&mut self, alloc: Global, lists: &Rotations) -> Result<Self::Figure, Unserved>
         requires some_list { 0 < length lists.now }
         requires few_lists { length lists.now < 4096 }

@@ -12,7 +12,7 @@ pub fn each_input_is_read()
     ensures { EachInputIsRead }
 {}
 
-/// What `write_record` writes is read back by `next_record`, whatever stands before it and behind it: each
+/// A record that `write_record` writes is read back by `next_record`, whatever stands before it and behind it: each
 /// record is, by no other step, and with no fault but out of memory.
 pub fn record_is_read()
     ensures { RecordIsRead }

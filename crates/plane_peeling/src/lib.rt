@@ -77,7 +77,7 @@ pub fn some_removable_of_two()
     ensures { SomeRemovableOfTwo }
 {}
 
-/// What is taken off still lies around what is left when one vertex more is taken off.
+/// The vertices that are taken off still lie around those that are left when one vertex more is taken off.
 pub fn open_after()
     ensures { OpenAfter }
 {}

@@ -31,7 +31,7 @@ pub fn edges_meet()
     ensures { EdgesMeet }
 {}
 
-/// What goes on by corners, and only once from entering runs to leaving rises, comes once round.
+/// A walk that goes on by corners, and only once from entering runs to leaving rises, comes once round.
 pub fn once_round()
     ensures { OnceRound }
 {}

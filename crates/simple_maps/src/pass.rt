@@ -10,7 +10,7 @@ ghost use Rattle.map_lists.specs.Cuts.{cut, AreCuts};
 ghost use Rattle.simple_maps.specs.Tables.{AreSlots};
 ghost use Rattle.simple_maps.specs.Pass.{IsSimpleList, IsPlaced, AreMutual};
 
-/// What a slot keeps of a dart: its tail, the number of its twin, and what follows from its own number.
+/// A slot of a dart keeps its tail, the number of its twin, and what follows from its own number.
 pub trait DartSlot: Copy {
     ghost tail_of: { Self → ℕ };
 

@@ -89,7 +89,7 @@ fn searched_twins(
 /// Makes `tails` and `twins` those of the darts of lists, which are from 1 to 4095, or answers the first
 /// fault of the lists.
 ///
-/// What the vectors hold before says nothing; they are kept by a caller who has many maps, so that their
+/// The vectors may hold anything before; they are kept by a caller who has many maps, so that their
 /// memory serves for all. The time is linear in the entries. A simple map takes no other memory than that
 /// of the three: six bytes for each dart, and one number for each vertex.
 pub fn fill_twins(
@@ -128,7 +128,7 @@ fn write_slots<P: DartSlot>(tails: &[u16], twins: &[u32], slots: &mut [P])
 /// Makes `slots` those of the darts of lists, which are from 1 to 4095, or answers the first fault of the
 /// lists.
 ///
-/// What the vectors hold before says nothing; they are kept by a caller who has many maps, so that their
+/// The vectors may hold anything before; they are kept by a caller who has many maps, so that their
 /// memory serves for all. The time is linear in the entries, and so is the memory: one slot and
 /// six bytes for each dart, and one number for each vertex.
 pub fn fill_slots<P: DartSlot>(

@@ -12,7 +12,7 @@ ghost use Rattle.bipolar.specs.FaceNumbers.{AreDarts, AreFaceNumbers, AreFaceArc
 use map_lists::ItemLists;
 use std::alloc::{AllocError, Global};
 
-// What stands in place of the face of a dart that was not met yet.
+// Stands in place of the face of a dart that was not met yet.
 const NO_FACE: u32 = u32::MAX;
 
 // Where list `v` begins.

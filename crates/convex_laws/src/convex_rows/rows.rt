@@ -2,7 +2,7 @@
 
 use map_lists::Rotations;
 
-/// What each step of a run puts on, and over which vertices of the contour, the last step first.
+/// Lists what each step of a run puts on, and over which vertices of the contour, the last step first.
 #[derive(Drop)]
 pub struct ConvexRows {
     /// The vertices of the contour from the first place of the step to the last, both included.

@@ -16,7 +16,7 @@ use pg_plane::GridFigure;
 use refusals::Unserved;
 use std::alloc::{AllocError, Global};
 
-/// What a graph is answered by.
+/// The answer to a graph.
 #[derive(Drop)]
 pub enum EmbedFigure {
     /// A map of genus zero with exactly the edges of the graph, and its drawing by Schnyder's coordinates.

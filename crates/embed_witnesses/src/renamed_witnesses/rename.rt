@@ -56,7 +56,7 @@ fn push_renamed(paths: &mut PathList, path: &[VertexId], table: &[u16]) -> Resul
     Ok(())
 }
 
-// What stands for a vertex.
+// Returns the vertex that stands for `v`.
 fn name_of(table: &[u16], v: VertexId) -> VertexId
     ensures { result.0 ≡ named table.now v.0 }
 {

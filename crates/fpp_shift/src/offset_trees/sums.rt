@@ -187,7 +187,7 @@ fn points_of<L: Ledger>(
     Ok(points)
 }
 
-// What sums are found with, kept from one tree to the next.
+// The tables by which sums are found, kept from one tree to the next.
 #[derive(Drop)]
 pub(crate) struct SumMemory {
     sums: Vec<i32>,

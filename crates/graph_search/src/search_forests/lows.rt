@@ -8,7 +8,7 @@ use crate::search_forests::forest::{Forest, filled};
 use map_lists::Rotations;
 use std::alloc::{AllocError, Global};
 
-// What v has from its neighbour u.
+// Returns the low point that `v` has from its neighbour `u`.
 fn low_from(number: &[u16], parent: &[u16], low: &[u16], v: u16, u: u16) -> u16
     requires number { u < length number.now }
     requires parent { u < length parent.now }

@@ -28,7 +28,7 @@ pub struct DrawingOrder {
     pub order: Order,
 }
 
-// What records are ordered with, kept from one to the next: their counts, maps, lists and peels.
+// The tables by which records are ordered, kept from one to the next: their counts, maps, lists and peels.
 #[derive(Drop)]
 pub(crate) struct Tools {
     pub(crate) alloc: Global,

@@ -24,24 +24,24 @@ pub enum Due {
     Columns(AllBars),
 }
 
-/// What the lines of some vertices, or of branches and paths, have given.
+/// A figure of which the lines of some vertices, or of branches and paths, are there.
 #[derive(Drop)]
 pub struct SomeRows {
-    /// What the first line says.
+    /// The content of the first line.
     pub head: Head,
     /// How many such lines the figure has.
     pub n: usize,
-    /// What the lines have given.
+    /// The content of those lines.
     pub draft: HeldDraft,
     ghost few: { n < 4096 },
     ghost due: { length draft.lists < n },
     ghost drawn: { AreDrawn head draft },
 }
 
-/// What the lines of all vertices of bars have given.
+/// Bars of which the lines of all vertices are there.
 #[derive(Drop)]
 pub struct AllBars {
-    /// What the lines have given.
+    /// The content of those lines.
     pub draft: HeldDraft,
     ghost some: { 0 < length draft.lists },
     ghost few: { length draft.lists < 4096 },

@@ -8,7 +8,7 @@ use graph6_text::Graph;
 use kuratowski::Kind as Subdivided;
 use std::alloc::{AllocError, Global};
 
-/// What the first line of a figure says besides numbers.
+/// The words of the first line of a figure, without its numbers.
 #[derive(Drop)]
 pub enum Head {
     /// A straight-line drawing, made so.
@@ -35,7 +35,7 @@ impl Head {
     }
 }
 
-/// What a first line says of a figure of this kind. It is given without the byte 10 that closes it.
+/// Reads the first line of a figure of this kind. It is given without the byte 10 that closes it.
 pub fn head_of(alloc: Global, kind: Kind, line: &[u8]) -> Result<Head, AllocError>
     requires { TailInRange (Some kind) line.now }
     ensures kind { IfOk result (λ head. head_kind head ≡ kind) }

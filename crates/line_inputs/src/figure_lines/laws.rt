@@ -12,7 +12,7 @@ pub fn each_input_is_read()
     ensures { EachInputIsRead }
 {}
 
-/// What a reader has consumed is read as the figures that it has answered, and ends as the reader says.
+/// The bytes that a reader has consumed are read as the figures that it has answered, and end as the reader says.
 pub fn consumed_is_read()
     ensures { ConsumedIsRead }
 {}

@@ -11,7 +11,7 @@ use crate::whole_lines::{chosen, join};
 use figure_text::{Word, line_length};
 use std::alloc::{AllocError, Global};
 
-/// What a part of a piece made of the open line.
+/// The outcome of a part of a piece for the open line.
 #[derive(Drop)]
 pub enum Line {
     /// It is open still, and the whole part joined it.

@@ -16,7 +16,7 @@ use figure_text::{
 use pg_plane::{BarFigure, Ints};
 use std::alloc::{AllocError, Global};
 
-/// What a closed line made of what had come before it.
+/// The outcome of a closed line, with what had come before it.
 #[derive(Drop)]
 pub enum After {
     /// The figure goes on, or none has begun.
@@ -41,7 +41,7 @@ fn begun_figure(alloc: Global, head: Head, n: usize, first: u32) -> Result<Begun
     })
 }
 
-// What a line outside a figure makes, which has this number.
+// Takes a line outside a figure, which has this number.
 fn after_front(alloc: Global, line: &[u8], number: u32) -> Result<After, AllocError>
     ensures whole { IfOk result IsWhole }
     ensures makes { IsPlain line.now → IfOk result (Makes number number (line.now ++ 10 ∷ [])) }
@@ -58,7 +58,7 @@ fn after_front(alloc: Global, line: &[u8], number: u32) -> Result<After, AllocEr
     }
 }
 
-// What comes of all lines of vertices, or of branches and paths.
+// Ends a figure of which all lines of vertices, or of branches and paths, are there.
 fn all_drawn(alloc: Global, head: Head, first: u32, draft: HeldDraft) -> Result<After, AllocError>
     requires some { 0 < length draft.lists }
     requires few { length draft.lists < 4096 }
@@ -88,7 +88,7 @@ fn all_drawn(alloc: Global, head: Head, first: u32, draft: HeldDraft) -> Result<
     }
 }
 
-// What comes of some of them.
+// Goes on with a figure of which some of them are there.
 fn grown(
     alloc: Global,
     head: Head,
@@ -113,7 +113,7 @@ fn grown(
     }
 }
 
-// What the next line of vertices, or of branches and paths, makes of a figure.
+// Takes the next line of vertices, or of branches and paths, of a figure.
 fn after_row(
     alloc: Global,
     found: &mut Vec<Word>,
@@ -158,7 +158,7 @@ fn with_columns(bars: AllBars, column: Ints) -> Figure
     }
 }
 
-// What the line of the columns makes of bars.
+// Takes the line of the columns of bars.
 fn after_columns(
     alloc: Global,
     first: u32,
@@ -181,7 +181,7 @@ fn after_columns(
     }
 }
 
-// What the line that is due makes of a figure.
+// Takes the line of a figure that is due.
 fn after_due(
     alloc: Global,
     found: &mut Vec<Word>,
@@ -200,7 +200,7 @@ fn after_due(
     }
 }
 
-/// What a closed line makes of what has come before it. It has the number `number`, and is given without the
+/// Takes a closed line, with what has come before it. It has the number `number`, and is given without the
 /// byte 10 that closes it. The vector is for the words of the line, and keeps its memory for those of the next.
 pub fn after_line(
     alloc: Global,

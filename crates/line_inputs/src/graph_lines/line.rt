@@ -13,7 +13,7 @@ use figure_text::line_length;
 use graph6_text::{G6Fault, Graph, after_graph_header, read_line};
 use std::alloc::{AllocError, Global};
 
-/// What a closed line is.
+/// A closed line, judged.
 #[derive(Drop)]
 pub enum Judged {
     /// The header.
@@ -24,7 +24,7 @@ pub enum Judged {
     Bad(Ending),
 }
 
-/// What a part of a piece made of the open line.
+/// The outcome of a part of a piece for the open line.
 #[derive(Drop)]
 pub enum Line {
     /// It is open still, and the whole part joined it.
@@ -62,7 +62,7 @@ fn fault_ending(fault: G6Fault, number: u32) -> Option<Ending>
     }
 }
 
-// What a line is, which is given without the header and the byte 10 that closes it.
+// Judges a line, which is given without the header and the byte 10 that closes it.
 fn judged_graph(alloc: Global, line: &[u8], number: u32) -> Result<Judged, AllocError>
     ensures { IfOk result (IsJudged number line.now) }
 {
@@ -75,7 +75,7 @@ fn judged_graph(alloc: Global, line: &[u8], number: u32) -> Result<Judged, Alloc
     }
 }
 
-// What a closed line is, which is given without the byte 10 that closes it.
+// Judges a closed line, which is given without the byte 10 that closes it.
 fn judged_line(alloc: Global, line: &[u8], first: bool, number: u32) -> Result<Judged, AllocError>
     ensures { (consumed : List ℕ) (graphs : List EdgeGraph) → Progress consumed graphs number first line.now
         → length consumed < input_limit → IfOk result (Closes (consumed ++ 10 ∷ []) graphs number) }
