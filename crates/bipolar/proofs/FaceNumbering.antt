@@ -70,9 +70,6 @@ module _ (entries ends twins : List ℕ) (t : AreDarts entries ends twins) where
       let long = length-cut 0 ends entries in
       omega (arith, few_darts-simple lists (omega (arith, t.few, long)) t.simple, all_darts)
 
-  pub long_twins : length twins ≡ length entries
-  long_twins = omega (arith, t.are_twins.count, length-darts lists, all_darts)
-
   -- a dart leads to its entry
   pub dart_head : (d : ℕ) → d < length entries → (dart_of lists d).1 ≡ get_or entries d 0
   dart_head d l =

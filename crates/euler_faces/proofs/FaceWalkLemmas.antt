@@ -408,10 +408,6 @@ module _ (map : Map) (h : IsHalfMap map) where
         }
 
 -- ---- numbers of faces
--- the numbers of ids, one by one
-pub get_or-ids_of : (ds : List DartId) (i : ℕ) → i < length ds → get_or (ids_of ds) i 0 ≡ (get_or ds i (record { 0 = 0 })).0
-get_or-ids_of ds i l = get_or-map (λ (d : DartId). d.0) ds i (record { 0 = 0 }) 0 l
-
 pub length-ids_of : (ds : List DartId) → length (ids_of ds) ≡ length ds
 length-ids_of ds = length-map {B = ℕ} ds (λ (d : DartId). d.0)
 

@@ -76,14 +76,6 @@ row-le n last until row runs vertices y l =
 
 -- the walk over the runs that v follows, from row low on
 module _ (lists : Lists) (begin end : List ℤ) (last : List ℕ) (row : ℕ → ℕ) (low high v : ℕ) where
-  -- before the first of them
-  pub AreTaken-none : (marks : List Bool) (until : List ℕ) (entry : ℕ) → low ≤ high → AreRuns last until row low low → AreTaken lists marks begin end last until row low high v low entry
-  AreTaken-none marks until entry order runs = record {
-    runs = runs;
-    follow = λ y u l m. absurd (omega (arith, l, m));
-    rest = λ y l m. absurd (omega (arith, order, l, m));
-  }
-
   -- one run more
   pub AreTaken-more : (old new : List Bool) → AreKept old new → (until : List ℕ) (at before : ℕ) → low ≤ at → at < get_or until at 0 → ((u : ℕ) → get_or last at 0 ≡ u + 1 → DoesFollow lists new begin end u v) → at < high
       → AreTaken lists old begin end last until row low high v at before → AreTaken lists new begin end last (set until at 0) row low high v (get_or until at 0) (get_or last at 0)

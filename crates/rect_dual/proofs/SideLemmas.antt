@@ -12,7 +12,7 @@ use Rattle.rect_dual.specs.States.{IsAt, IsPutOver, IsLeftState, IsLowState}
 use Rattle.rect_dual.specs.SidesOfBoxes.{gets_line, place_in, second_line, line_count, number_of, IsSideState}
 use Rattle.rect_dual.specs.declared.side.Side.{Side}
 use Rattle.rect_dual.specs.declared.side.Side.TheVariants.{Left, Low}
-use Rattle.rect_dual.proofs.RectNumbersRows.{IsAt-row, rises_more, runs_more}
+use Rattle.rect_dual.proofs.RectNumbersRows.{IsAt-row}
 use Rattle.rect_dual.proofs.Begin.{IsLeftState-begin, IsLowState-begin}
 use Rattle.rect_dual.proofs.Left as left
 use Rattle.rect_dual.proofs.Low as low
@@ -84,11 +84,6 @@ module _ (steps : ℕ → Step) (n k : ℕ) (h : IsLabelledRun steps n) (l : k <
   IsSideState-low side e at at_is own own_is over =
       let here = subst (λ a. IsPutOver a (gets_line side run) first last z lines next links leads lines' next' links' leads') at_is (subst (λ b. IsPutOver at b first last z lines next links leads lines' next' links' leads') own_is over) in
       subst (λ s. IsPutOver (get_or row (place_in s c) 0) (gets_line s run) first last z lines next links leads lines' next' links' leads' → IsSideState s steps n k lines next links leads → IsSideState s steps n (suc k) lines' next' links' leads') (sym e) low_more here
-
--- how many lines there are after one step more
-pub line_count-suc : (side : Side) (steps : ℕ → Step) (k : ℕ) (run : Bool) (count result : ℕ) → run ≡ turns_at_run steps k → count ≡ line_count side steps k → result ≡ cond (gets_line side run) (suc count) count → result ≡ line_count side steps (suc k)
-line_count-suc Left = rises_more
-line_count-suc Low = runs_more
 
 -- the lines of the base
 pub IsSideState-begin : (side : Side) (steps : ℕ → Step) (n second : ℕ) (lines next links : List ℕ) (leads : List Bool) → second ≡ second_line side → get_or lines 0 0 ≡ 0 → get_or lines 1 0 ≡ second → 2 ≤ length next → All (λ l. l ≡ 0) next → 2 ≤ length links → All (λ l. l ≡ second) links → is_marked leads 0 ≡ true → is_marked leads 1 ≡ second == 1 → IsSideState side steps n 0 lines next links leads

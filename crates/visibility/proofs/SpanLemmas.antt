@@ -19,16 +19,6 @@ pub record IsSpan (row : List ℕ) (i least greatest : ℕ) : Type 0 where
   pub low_none : i ≡ 0 → least ≡ 4294967295
   pub high_none : i ≡ 0 → greatest ≡ 0
 
-pub IsSpan-none : (row : List ℕ) → IsSpan row 0 4294967295 0
-IsSpan-none row = record {
-  low = λ j l. absurd (omega (arith, l));
-  high = λ j l. absurd (omega (arith, l));
-  low_one = λ l. absurd (omega (arith, l));
-  high_one = λ l. absurd (omega (arith, l));
-  low_none = λ e. refl;
-  high_none = λ e. refl;
-}
-
 pub IsSpan-more : (row : List ℕ) (i least greatest x least' greatest' : ℕ) → IsSpan row i least greatest → get_or row i 0 ≡ x → x < 4294967296 → least' ≤ least → least' ≤ x → (least' ≡ least) ⊎ (least' ≡ x) → greatest ≤ greatest' → x ≤ greatest' → (greatest' ≡ greatest) ⊎ (greatest' ≡ x) → IsSpan row (i + 1) least' greatest'
 IsSpan-more row i least greatest x least' greatest' w is fits a b one c d other = record {
   low = λ j l. elim (cases_lt j i) [
