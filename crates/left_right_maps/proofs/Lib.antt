@@ -1,0 +1,3 @@
+-- What the laws rest on.
+pub mod Inserts
+pub mod Orders

@@ -1,0 +1,2 @@
+-- Orders of edges at a fork.
+pub mod Orders
