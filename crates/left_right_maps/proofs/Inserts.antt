@@ -34,6 +34,29 @@ module _ {X : Type 0} (R : X → X → Type 0) where
   pub pairs_tail : (x : X) (xs : List X) → AllPairs R (x ∷ xs) → AllPairs R xs
   pairs_tail x xs h i j d l m = h (suc i) (suc j) d (omega arith) (omega arith)
 
+  pub pairs_across : (xs ys : List X) → AllPairs R (xs ++ ys) → (x y : X) → Contains xs x → Contains ys y → R x y
+  pairs_across [] ys h x y c c' = absurd (none_in_none x c)
+  pairs_across (z ∷ xs) ys h x y c c' =
+      elim (here_or_there z x xs c) [
+        | inl e ↦ subst (λ w. R w y) e (pairs_head z (xs ++ ys) h y (Contains-append_right xs ys y c'))
+        | inr k ↦ pairs_across xs ys (pairs_tail z (xs ++ ys) h) x y k c'
+      ]
+
+  pub pairs_right : (xs ys : List X) → AllPairs R (xs ++ ys) → AllPairs R ys
+  pairs_right [] ys h = h
+  pairs_right (x ∷ xs) ys h = pairs_right xs ys (pairs_tail x (xs ++ ys) h)
+
+  pub pairs_left : (xs ys : List X) → AllPairs R (xs ++ ys) → AllPairs R xs
+  pairs_left [] ys h = pairs_none
+  pairs_left (x ∷ xs) ys h =
+      pairs_more x xs (λ y c. pairs_head x (xs ++ ys) h y (Contains-append_left xs ys y c)) (pairs_left xs ys (pairs_tail x (xs ++ ys) h))
+
+  pub pairs_joined : (xs ys : List X) → AllPairs R xs → AllPairs R ys → ((x y : X) → Contains xs x → Contains ys y → R x y) → AllPairs R (xs ++ ys)
+  pairs_joined [] ys first second between = second
+  pairs_joined (x ∷ xs) ys first second between =
+      pairs_more x (xs ++ ys) (λ y c. elim (Contains-append_cases xs ys y c) [ inl k ↦ pairs_head x xs first y k | inr k ↦ between x y (here x xs) k ])
+      (pairs_joined xs ys (pairs_tail x xs first) second (λ z y c c'. between z y (there x z xs c) c'))
+
   -- x stands behind the last that it may not stand before
   pub record Inserted (S : X → X → Type 0) (x : X) (ys : List X) : Type 0 where
     pub front : List X

@@ -1,3 +1,8 @@
 -- What the laws rest on.
 pub mod Inserts
 pub mod Orders
+pub mod Goes
+pub mod Toured
+pub mod Tour
+pub mod Uncrossed
+pub mod RootedPlane

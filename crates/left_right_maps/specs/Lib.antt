@@ -1,2 +1,4 @@
--- Orders of edges at a fork.
+-- Orders of edges at a fork, and tours of rooted maps.
 pub mod Orders
+pub mod RootedMaps
+pub mod Brackets
