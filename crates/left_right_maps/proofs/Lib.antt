@@ -6,3 +6,8 @@ pub mod Toured
 pub mod Tour
 pub mod Uncrossed
 pub mod RootedPlane
+pub mod Opens
+pub mod Ends
+pub mod Lines
+pub mod Parts
+pub mod Whole

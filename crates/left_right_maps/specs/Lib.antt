@@ -2,3 +2,4 @@
 pub mod Orders
 pub mod RootedMaps
 pub mod Brackets
+pub mod Graphs

@@ -1,8 +1,9 @@
-//! From sides to maps: what a partition into left and right of the edges that return tells of the order round
-//! each fork. Each law is the contract of a function that does nothing, and speaks of all graphs.
+//! From sides to maps: a graph whose edges that return can be parted into left and right has a map of genus
+//! zero. Each law is the contract of a function that does nothing, and speaks of all graphs.
 #![tactic(auto)]
 
 ghost use Rattle.left_right_maps.specs.Brackets.{BalancedIsPlane};
+ghost use Rattle.left_right_maps.specs.Graphs.{LeftRightIsPlane};
 ghost use Rattle.left_right_maps.specs.Orders.{ForkIsOrdered};
 ghost use Rattle.left_right_maps.specs.RootedMaps.{TreeHasTour};
 
@@ -22,4 +23,10 @@ pub fn tree_has_tour()
 /// pairs that do not cross.
 pub fn balanced_is_plane()
     ensures { BalancedIsPlane }
+{}
+
+/// A connected graph has a map of genus zero where the edges that return, by a depth-first tree, can be parted
+/// into left and right.
+pub fn left_right_is_plane()
+    ensures { LeftRightIsPlane }
 {}
