@@ -1,5 +1,5 @@
 -- An element put into a list in order, where the order need not be transitive.
-use Rattle.std.proofs.Common.{◌≡◌, ◌⊎◌, ℕ, zero, suc, ◌+◌, ◌<◌, List, [], ◌∷◌, ◌++◌, length, get_or, AllPairs, Contains, refl, sym, ap, ◌∙◌, subst, inl, inr, arith}
+use Rattle.std.proofs.Common.{◌≡◌, ◌⊎◌, ℕ, zero, suc, ◌<◌, List, [], ◌∷◌, ◌++◌, length, get_or, AllPairs, Contains, refl, sym, ap, ◌∙◌, subst, inl, inr, arith}
 use Rattle.std.proofs.lemmas.List.Elements.{Contains-get_or, Contains-append_cases, Contains-append_left, Contains-append_right}
 
 pub none_in_none : {X : Type 0} (x : X) → ¬ Contains [] x
@@ -73,31 +73,31 @@ module _ {X : Type 0} (R : X → X → Type 0) where
       let rest = inserted S x ys (pairs_tail y ys pairs) (λ z c. either z (there y z ys c)) (λ z c. so z (there y z ys c)) (λ z w c c'. over z w (there y z ys c) (there y w ys c')) in
       elim rest.last [
         | inr found ↦ (let before : R y x = over y found.0 (here y ys) (there y found.0 ys found.1.0) (pairs_head y ys pairs found.0 found.1.0) found.1.1 in
-        record {
-          front = y ∷ rest.front;
-          back = rest.back;
-          is = ap (λ zs. y ∷ zs) rest.is;
-          pairs = pairs_more y (rest.front ++ x ∷ rest.back) (before_all y ys pairs rest.front rest.back rest.is before) rest.pairs;
-          last = inr (found.0, (there y found.0 ys found.1.0, found.1.1));
-        })
+            record {
+              front = y ∷ rest.front;
+              back = rest.back;
+              is = ap (λ zs. y ∷ zs) rest.is;
+              pairs = pairs_more y (rest.front ++ x ∷ rest.back) (before_all y ys pairs rest.front rest.back rest.is before) rest.pairs;
+              last = inr (found.0, (there y found.0 ys found.1.0, found.1.1));
+            })
         | inl none ↦ (let is : ys ≡ rest.back = rest.is ∙ ap (λ zs. zs ++ rest.back) none in
-        let whole : AllPairs R (x ∷ ys) = subst (λ zs. AllPairs R (x ∷ zs)) (sym is) (subst (λ zs. AllPairs R (zs ++ x ∷ rest.back)) none rest.pairs) in
-        elim (either y (here y ys)) [
-          | inl s ↦ record {
-            front = y ∷ [];
-            back = ys;
-            is = refl;
-            pairs = pairs_more y (x ∷ ys) (λ z c. elim (here_or_there x z ys c) [ inl e ↦ subst (R y) e (so y (here y ys) s) | inr c' ↦ pairs_head y ys pairs z c' ]) whole;
-            last = inr (y, (here y ys, s));
-          }
-          | inr r ↦ record {
-            front = [];
-            back = y ∷ ys;
-            is = refl;
-            pairs = pairs_more x (y ∷ ys) (λ z c. elim (here_or_there y z ys c) [ inl e ↦ subst (R x) e r | inr c' ↦ pairs_head x ys whole z c' ]) pairs;
-            last = inl refl;
-          }
-        ])
+            let whole : AllPairs R (x ∷ ys) = subst (λ zs. AllPairs R (x ∷ zs)) (sym is) (subst (λ zs. AllPairs R (zs ++ x ∷ rest.back)) none rest.pairs) in
+            elim (either y (here y ys)) [
+              | inl s ↦ record {
+                front = y ∷ [];
+                back = ys;
+                is = refl;
+                pairs = pairs_more y (x ∷ ys) (λ z c. elim (here_or_there x z ys c) [ inl e ↦ subst (R y) e (so y (here y ys) s) | inr c' ↦ pairs_head y ys pairs z c' ]) whole;
+                last = inr (y, (here y ys, s));
+              }
+              | inr r ↦ record {
+                front = [];
+                back = y ∷ ys;
+                is = refl;
+                pairs = pairs_more x (y ∷ ys) (λ z c. elim (here_or_there y z ys c) [ inl e ↦ subst (R x) e r | inr c' ↦ pairs_head x ys whole z c' ]) pairs;
+                last = inl refl;
+              }
+            ])
       ]
     where
       before_all : (y : X) (ys : List X) → AllPairs R (y ∷ ys) → (front back : List X) → ys ≡ front ++ back → R y x → (z : X) → Contains (front ++ x ∷ back) z → R y z

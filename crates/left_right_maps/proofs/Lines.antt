@@ -1,8 +1,7 @@
 -- Lines of a depth-first tree.
-use Rattle.std.proofs.Common.{◌≡◌, ◌≢◌, ◌⊎◌, ℕ, zero, suc, ◌+◌, ◌-◌, ◌<◌, ◌≤◌, Bool, true, false, not, eqb, refl, sym, ap, ◌∙◌, subst, inl, inr, arith, eqb-true, eq-eqb, ne_eqb}
-use Rattle.std.specs.Prelude.{◌&&◌}
-use Rattle.std.proofs.lemmas.Bool.{cases_Bool, cases_lt, cases_eq, true≢false, and_parts, and_from}
-use Rattle.left_right_laws.specs.Forests.{up, IsForest, IsAbove}
+use Rattle.std.proofs.Common.{◌≡◌, ℕ, zero, suc, ◌+◌, ◌-◌, ◌<◌, ◌≤◌, true, not, eqb, refl, sym, ap, ◌∙◌, inl, inr, arith, eqb-true, eq-eqb, ne_eqb}
+use Rattle.std.proofs.lemmas.Bool.{cases_eq, true≢false, and_parts, and_from}
+use Rattle.left_right_laws.specs.Forests.{up, IsAbove}
 use Rattle.left_right_laws.proofs.Lines.{up-add}
 use Rattle.left_right_maps.specs.RootedMaps.{is_child}
 

@@ -1,11 +1,10 @@
 -- Words of which some darts wait for their twins, which close on both sides.
-use Rattle.std.proofs.Common.{◌≡◌, ◌≢◌, ◌⊎◌, ℕ, Bool, true, List, [], ◌∷◌, ◌++◌, AllPairs, Contains, refl, sym, ap, ◌∙◌, subst, inl, inr}
+use Rattle.std.proofs.Common.{◌≡◌, ℕ, Bool, true, List, [], ◌∷◌, ◌++◌, AllPairs, Contains, refl, sym, ap, ◌∙◌, subst}
 use Rattle.std.proofs.lemmas.List.{append_assoc}
-use Rattle.std.proofs.lemmas.List.Elements.{Contains-append_cases}
 use Rattle.map_theory.specs.Maps.{Dart, twin_dart}
 use Rattle.left_right_maps.specs.RootedMaps.{joined}
 use Rattle.left_right_maps.specs.Brackets.{IsBalanced, none, past, pair}
-use Rattle.left_right_maps.proofs.Inserts.{none_in_none, here, there, here_or_there, pairs_none, pairs_head, pairs_tail, pairs_joined}
+use Rattle.left_right_maps.proofs.Inserts.{here, there, pairs_none, pairs_head, pairs_tail, pairs_joined}
 use Rattle.left_right_maps.proofs.Toured.{joined_parts}
 
 -- the darts the other way, from the last to the first

@@ -1,11 +1,10 @@
 -- A fork's edges in order: put in one by one, from the one with the least end on, each behind the last that has to stand before it.
-use Rattle.std.proofs.Common.{◌≡◌, ◌≢◌, ◌⊎◌, ℕ, zero, suc, ◌+◌, ◌<◌, ◌≤◌, Bool, true, false, not, List, [], ◌∷◌, ◌++◌, AllPairs, Contains, refl, sym, ap, ◌∙◌, subst, inl, inr, arith}
-use Rattle.std.specs.Prelude.{◌↔◌}
-use Rattle.std.proofs.lemmas.Bool.{cases_Bool, cases_lt, cases_eq, true≢false}
+use Rattle.std.proofs.Common.{◌≡◌, ◌≢◌, ◌⊎◌, ℕ, ◌<◌, ◌≤◌, Bool, true, false, not, List, [], ◌∷◌, ◌++◌, AllPairs, Contains, refl, sym, ap, ◌∙◌, subst, inl, inr, arith}
+use Rattle.std.proofs.lemmas.Bool.{cases_Bool, cases_lt, true≢false}
 use Rattle.map_theory.specs.Maps.{Dart}
 use Rattle.left_right_laws.specs.Forests.{IsReturn, IsLeftRight}
 use Rattle.left_right_maps.specs.Orders.{IsEdge, MayPrecede, MayAllPrecede, ForkIsOrdered}
-use Rattle.left_right_maps.proofs.Inserts.{none_in_none, here, there, here_or_there, pairs_none, pairs_more, pairs_head, pairs_tail, Inserted, inserted, inserted_holds, inserted_here, inserted_there}
+use Rattle.left_right_maps.proofs.Inserts.{none_in_none, here, there, here_or_there, pairs_none, pairs_head, pairs_tail, Inserted, inserted, inserted_holds, inserted_here, inserted_there}
 
 module _ (depth : ℕ → ℕ) (left : ℕ → ℕ → Bool) where
   -- d may not stand before e
@@ -82,11 +81,11 @@ module _ (depth : ℕ → ℕ) (left : ℕ → ℕ → Bool) where
           met = λ d c. (x, (here x (y ∷ ds), refl));
         }
         | inr more ↦ (let m = rest.met y (here y ds) in
-        record {
-          least = rest.least;
-          below = λ d c. elim (here_or_there x d (y ∷ ds) c) [ inl same ↦ (let e = ap (λ (d : Dart). depth d.1) same in omega arith) | inr c' ↦ rest.below d c' ];
-          met = λ d c. (m.0, (there x m.0 (y ∷ ds) m.1.0, m.1.1));
-        })
+            record {
+              least = rest.least;
+              below = λ d c. elim (here_or_there x d (y ∷ ds) c) [ inl same ↦ (let e = ap (λ (d : Dart). depth d.1) same in omega arith) | inr c' ↦ rest.below d c' ];
+              met = λ d c. (m.0, (there x m.0 (y ∷ ds) m.1.0, m.1.1));
+            })
       ]
 
   module _ (returns : ℕ → List Dart) where
@@ -187,15 +186,15 @@ module _ (joined : ℕ → ℕ → Bool) (parent depth : ℕ → ℕ) (left : �
       let fork = sides v e f apart in
       elim (cases_Bool fork.0) [
         | inl t ↦ inl (λ d x c c'.
-        let tied = fork.1 d.0 d.1 x.0 x.1 (are e d ce c) (are f x cf c') in (
-          λ l. elim (cases_lt (depth d.1) (depth x.1)) [ inr fine ↦ fine | inl less ↦ absurd (true≢false (sym l ∙ (tied.1 less ∙ ap not t))) ],
-          λ r. elim (cases_lt (depth x.1) (depth d.1)) [ inr fine ↦ fine | inl less ↦ absurd (true≢false (sym (tied.0 less ∙ t) ∙ r)) ],
-        ))
+            let tied = fork.1 d.0 d.1 x.0 x.1 (are e d ce c) (are f x cf c') in (
+              λ l. elim (cases_lt (depth d.1) (depth x.1)) [ inr fine ↦ fine | inl less ↦ absurd (true≢false (sym l ∙ (tied.1 less ∙ ap not t))) ],
+              λ r. elim (cases_lt (depth x.1) (depth d.1)) [ inr fine ↦ fine | inl less ↦ absurd (true≢false (sym (tied.0 less ∙ t) ∙ r)) ],
+            ))
         | inr t ↦ inr (λ x d c' c.
-        let tied = fork.1 d.0 d.1 x.0 x.1 (are e d ce c) (are f x cf c') in (
-          λ l. elim (cases_lt (depth x.1) (depth d.1)) [ inr fine ↦ fine | inl less ↦ absurd (true≢false (sym l ∙ (tied.0 less ∙ t))) ],
-          λ r. elim (cases_lt (depth d.1) (depth x.1)) [ inr fine ↦ fine | inl less ↦ absurd (true≢false (sym (tied.1 less ∙ ap not t) ∙ r)) ],
-        ))
+            let tied = fork.1 d.0 d.1 x.0 x.1 (are e d ce c) (are f x cf c') in (
+              λ l. elim (cases_lt (depth x.1) (depth d.1)) [ inr fine ↦ fine | inl less ↦ absurd (true≢false (sym l ∙ (tied.0 less ∙ t))) ],
+              λ r. elim (cases_lt (depth d.1) (depth x.1)) [ inr fine ↦ fine | inl less ↦ absurd (true≢false (sym (tied.1 less ∙ ap not t) ∙ r)) ],
+            ))
       ]
 
 -- THE LAW: a fork is ordered

@@ -1,20 +1,19 @@
 -- What is below a vertex, made of what is below its children: the word through it, and the edges that wait in it.
-use Rattle.std.proofs.Common.{◌≡◌, ◌≢◌, ◌⊎◌, ℕ, zero, suc, ◌+◌, ◌-◌, ◌<◌, ◌≤◌, Bool, true, false, cond, not, eqb, ltb, List, [], ◌∷◌, ◌++◌, AllPairs, Contains, get_or, refl, sym, ap, ap₂, ◌∙◌, subst, inl, inr, arith, eqb-true, eq-eqb, ne_eqb}
+use Rattle.std.proofs.Common.{◌≡◌, ◌≢◌, ◌⊎◌, ℕ, ◌+◌, ◌-◌, ◌<◌, Bool, true, false, cond, not, eqb, ltb, List, [], ◌∷◌, ◌++◌, AllPairs, Contains, get_or, refl, sym, ap, ap₂, ◌∙◌, subst, inl, inr, arith, eq-eqb, ne_eqb}
 use Rattle.std.specs.Prelude.{◌&&◌, ◌||◌, ◌↔◌}
 use Rattle.std.proofs.Math.Bool.{or_comm}
 use Rattle.std.proofs.lemmas.Bool.{cases_Bool, cases_lt, cases_eq, cond-true, cond-false, true≢false, and_parts, and_from, or_cases, or_left, or_right, lt-ltb, ltb-true}
-use Rattle.std.proofs.lemmas.List.{append_assoc}
 use Rattle.std.proofs.lemmas.List.Elements.{Contains-append_cases, Contains-append_left, Contains-append_right, Contains-get_or}
-use Rattle.map_theory.specs.Maps.{Dart, twin_dart}
-use Rattle.left_right_laws.specs.Forests.{up, IsForest, IsAbove, IsReturn, IsLeftRight}
+use Rattle.map_theory.specs.Maps.{Dart}
+use Rattle.left_right_laws.specs.Forests.{up, IsAbove, IsReturn, IsLeftRight}
 use Rattle.left_right_maps.specs.Orders.{IsEdge, MayPrecede, MayAllPrecede}
 use Rattle.left_right_maps.specs.RootedMaps.{is_child, in_tree, joined, tour_at}
-use Rattle.left_right_maps.specs.Brackets.{IsBalanced, none, past, pair}
+use Rattle.left_right_maps.specs.Brackets.{none}
 use Rattle.left_right_maps.specs.Graphs.{IsDepthFirst}
-use Rattle.left_right_maps.proofs.Inserts.{none_in_none, here, there, here_or_there, pairs_none, pairs_more, pairs_head, pairs_tail, pairs_left, pairs_right, pairs_across, pairs_joined}
+use Rattle.left_right_maps.proofs.Inserts.{none_in_none, here, there, here_or_there, pairs_none, pairs_more, pairs_left, pairs_right, pairs_across, pairs_joined}
 use Rattle.left_right_maps.proofs.Orders.{fork_is_ordered}
 use Rattle.left_right_maps.proofs.Toured.{joined_holds, joined_parts}
-use Rattle.left_right_maps.proofs.Opens.{ups, IsOpen, open_block, open_joined, joined_append, joined_joined, joined_same, pairs_of_joined}
+use Rattle.left_right_maps.proofs.Opens.{ups, IsOpen, open_block, open_joined, joined_append, joined_joined, pairs_of_joined}
 use Rattle.left_right_maps.proofs.Ends.{uppers, uppers_parts, uppers_hold, uppers_distinct, joined_uppers, lefts, middle, rights, in_three, lefts_end, middle_off, rights_end, picks, picks_so, picks_hold, picks_distinct}
 use Rattle.left_right_maps.proofs.Lines.{child_is, is_child_from, above_itself, above_same, above_over, above_one, above_parent, parent_above, IsBelow, branch_below, branch_is}
 
@@ -332,13 +331,16 @@ module _ (n : ℕ) (edge : ℕ → ℕ → Bool) (parent depth : ℕ → ℕ) (r
     at_item_so w u t c =
         elim (kind w t) [
           | inr h ↦ elim (here_or_there w u [] (subst (λ z. Contains z u) (at_chord w h.0) c)) [ inl e ↦ inr (e, h.1) | inr bad ↦ absurd (none_in_none u bad) ]
-          | inl t' ↦ inl (t', elim (Contains-append_cases (uppers (L w)) (w ∷ uppers (R w)) u (subst (λ z. Contains z u) (at_child w t') c)) [
-            | inl k ↦ upper_so w t' (L w) (λ d c'. (l_in w d c', l_end w d c')) u k
-            | inr k ↦ elim (here_or_there w u (uppers (R w)) k) [
-              | inl e ↦ (subst (λ z. edge v z ≡ true) e (child_edge v w t'), subst (Above w) e (above_itself parent depth w))
-              | inr k' ↦ upper_so w t' (R w) (λ d c'. (r_in w d c', r_end w t' d c')) u k'
-            ]
-          ])
+          | inl t' ↦ inl (
+            t',
+            elim (Contains-append_cases (uppers (L w)) (w ∷ uppers (R w)) u (subst (λ z. Contains z u) (at_child w t') c)) [
+              | inl k ↦ upper_so w t' (L w) (λ d c'. (l_in w d c', l_end w d c')) u k
+              | inr k ↦ elim (here_or_there w u (uppers (R w)) k) [
+                | inl e ↦ (subst (λ z. edge v z ≡ true) e (child_edge v w t'), subst (Above w) e (above_itself parent depth w))
+                | inr k' ↦ upper_so w t' (R w) (λ d c'. (r_in w d c', r_end w t' d c')) u k'
+              ]
+            ],
+          )
         ]
 
     -- which item an entry stands at

@@ -1,13 +1,12 @@
 -- A map with a rooted spanning tree is connected, its tree has two darts for each vertex but the root, and so it has genus zero where its word is balanced.
-use Rattle.std.proofs.Common.{◌≡◌, ◌≢◌, ◌⊎◌, ℕ, zero, suc, ◌+◌, ◌*◌, ◌<◌, ◌≤◌, Bool, true, false, cond, not, eqb, List, [], ◌∷◌, length, Contains, refl, sym, ap, ap₂, ◌∙◌, subst, inl, inr, arith, eqb-true, eq-eqb, ne_eqb}
-use Rattle.std.specs.Prelude.{◌&&◌, ◌||◌}
+use Rattle.std.proofs.Common.{◌≡◌, ◌≢◌, ℕ, zero, suc, ◌+◌, ◌*◌, ◌<◌, ◌≤◌, Bool, true, false, cond, not, eqb, List, [], ◌∷◌, length, refl, sym, ap, ap₂, ◌∙◌, subst, inl, inr, arith, eqb-true, eq-eqb, ne_eqb}
+use Rattle.std.specs.Prelude.{◌&&◌}
 use Rattle.std.proofs.Math.Bool.{or_comm}
 use Rattle.std.proofs.lemmas.Bool.{cases_Bool, cases_eq, cond-true, cond-false, true≢false, and_from, or_cases}
 use Rattle.classes.specs.Classes.{count_below}
 use Rattle.classes.proofs.Counting.{count_below_into, count_below_all, count_below_but_two, one_if}
 use Rattle.map_lists.specs.Lists.{Lists}
-use Rattle.map_theory.specs.Maps.{Dart, twin_dart, HasDart, IsPlane, dart_count, component_count, component_classes, vertex_count}
-use Rattle.map_theory.specs.Paths.{JoinsAvoiding}
+use Rattle.map_theory.specs.Maps.{Dart, HasDart, IsPlane, dart_count, component_count}
 use Rattle.plane_laws.specs.Laws.{SameComponent, AreJoined}
 use Rattle.plane_laws.proofs.ComponentPaths.{JoinsAvoiding-itself, JoinsAvoiding-more, components_are_paths}
 use Rattle.plane_laws.proofs.Completions.{one_component}
@@ -17,7 +16,7 @@ use Rattle.left_right_maps.specs.RootedMaps.{is_child, in_tree, IsRootedMap, pla
 use Rattle.left_right_maps.specs.Brackets.{IsBalanced, BalancedIsPlane}
 use Rattle.left_right_maps.proofs.Inserts.{none_in_none}
 use Rattle.left_right_maps.proofs.Toured.{child_so, below_root, parent_dart, parent_in}
-use Rattle.left_right_maps.proofs.Tour.{tour, all_darts, distinct_word, long}
+use Rattle.left_right_maps.proofs.Tour.{tour, all_darts, distinct_word}
 use Rattle.left_right_maps.proofs.Uncrossed.{none_cross}
 
 module _ (lists : Lists) (parent depth : ℕ → ℕ) (root : ℕ) (entries : ℕ → List ℕ) (words : ℕ → List Dart) (m : IsRootedMap lists parent depth root entries words) (some : 0 < dart_count lists) where

@@ -1,19 +1,18 @@
 -- The word of the root holds each dart once, and so is a tour.
-use Rattle.std.proofs.Common.{◌≡◌, ◌≢◌, ◌⊎◌, ℕ, zero, suc, ◌+◌, ◌<◌, ◌≤◌, Bool, true, false, cond, not, eqb, List, [], ◌∷◌, ◌++◌, length, get_or, AllPairs, Contains, refl, sym, ap, ap₂, ◌∙◌, subst, inl, inr, arith, eqb-true, eq-eqb}
-use Rattle.std.specs.Prelude.{◌&&◌, ◌||◌}
+use Rattle.std.proofs.Common.{◌≡◌, ◌≢◌, ◌⊎◌, ℕ, zero, suc, ◌+◌, ◌<◌, ◌≤◌, Bool, true, false, eqb, List, [], ◌∷◌, ◌++◌, length, get_or, AllPairs, Contains, refl, sym, ap, ap₂, ◌∙◌, subst, inl, inr, arith, eqb-true, eq-eqb}
 use Rattle.std.proofs.Math.Bool.{or_comm}
 use Rattle.std.proofs.lemmas.Bool.{cases_Bool, cases_lt, cases_eq, cond-true, cond-false, true≢false, and_parts, and_from}
 use Rattle.std.proofs.lemmas.List.Elements.{Contains-append_cases, Contains-append_left, Contains-append_right, Contains-get_or}
 use Rattle.classes.proofs.Counting.{count_below_into, count_below_all}
 use Rattle.map_lists.specs.Lists.{Lists}
-use Rattle.map_theory.specs.Maps.{Dart, HasDart, IsSimpleMap, list_of, follows, face_step, same_dart, dart_count, dart_number}
+use Rattle.map_theory.specs.Maps.{Dart, HasDart, list_of, follows, face_step, same_dart, dart_count, dart_number}
 use Rattle.map_theory.proofs.DartLemmas.{face_step-injective, entry_after-injective, IsDartNumber-darts, dart_number-lt, dart_number-injective}
 use Rattle.map_theory.proofs.DartPermutations.{dart_of}
 use Rattle.left_right_laws.specs.Ways.{first_on}
 use Rattle.left_right_laws.specs.Tours.{tour_step, IsTour}
 use Rattle.left_right_maps.specs.RootedMaps.{is_child, in_tree, joined, tour_at, IsRootedMap, place_in, dart_at, TreeHasTour}
-use Rattle.left_right_maps.proofs.Inserts.{none_in_none, here, there, here_or_there, pairs_none, pairs_head, pairs_tail}
-use Rattle.left_right_maps.proofs.Goes.{Goes, goes_on, goes_next, goes_last, distinct_goes, goes_cycle_at, pushed_last}
+use Rattle.left_right_maps.proofs.Inserts.{none_in_none, here, there, here_or_there, pairs_none, pairs_head}
+use Rattle.left_right_maps.proofs.Goes.{Goes, goes_next, goes_last, distinct_goes, goes_cycle_at, pushed_last}
 use Rattle.left_right_maps.proofs.Toured.{joined_holds, joined_parts, bound_of, child_so, child_from, below_root, parent_dart, parent_in, entry_dart, other_entry, child_in, around_down, around_past, joined_goes, goes_each}
 
 -- ---- places of darts
@@ -221,19 +220,19 @@ module _ (lists : Lists) (parent depth : ℕ → ℕ) (root : ℕ) (entries : �
   first_once [] rest distinct low is c = let e = ap (λ (ds : List Dart). length ds) is in omega arith
   first_once (u ∷ us) rest distinct low is c =
       let not_below : (w : ℕ) → Contains (u ∷ us) w → child root w ≡ true → (Contains (words w) (root, u) ⊎ (◌≡◌ {A = Dart} (w, root) (root, u))) → ⊥ = λ w cw t h. (
-        let is = so root w t in
-        let some = is.0 in
-        elim h [
-          | inl c' ↦ (let a = (word_darts w (low w cw) (root, u) c').1 in let b = m.top in omega arith)
-          | inr e ↦ below_root lists parent depth root entries words m w some (ap (λ (d : Dart). d.0) e)
-        ]
+      let is = so root w t in
+      let some = is.0 in
+      elim h [
+        | inl c' ↦ (let a = (word_darts w (low w cw) (root, u) c').1 in let b = m.top in omega arith)
+        | inr e ↦ below_root lists parent depth root entries words m w some (ap (λ (d : Dart). d.0) e)
+      ]
       ) in
       let later : Contains (joined (around root) us) (root, u) → ⊥ = λ c'. (
-        let part = joined_parts (around root) us (root, u) c' in
-        elim (around_cases root part.0 (root, u) part.1.1) [
-          | inl e ↦ pairs_head ◌≢◌ u us distinct part.0 part.1.0 (sym (ap (λ (d : Dart). d.1) e))
-          | inr h ↦ not_below part.0 (there u part.0 us part.1.0) h.0 h.1
-        ]
+      let part = joined_parts (around root) us (root, u) c' in
+      elim (around_cases root part.0 (root, u) part.1.1) [
+        | inl e ↦ pairs_head ◌≢◌ u us distinct part.0 part.1.0 (sym (ap (λ (d : Dart). d.1) e))
+        | inr h ↦ not_below part.0 (there u part.0 us part.1.0) h.0 h.1
+      ]
       ) in
       elim (cases_Bool (child root u)) [
         | inl t ↦

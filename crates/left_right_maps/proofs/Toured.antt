@@ -1,18 +1,17 @@
 -- The word of the root, dart by dart: it goes as the tour does, and holds each dart once.
-use Rattle.std.proofs.Common.{◌≡◌, ◌≢◌, ◌⊎◌, ℕ, zero, suc, ◌+◌, ◌<◌, ◌≤◌, Bool, true, false, cond, not, eqb, List, [], ◌∷◌, ◌++◌, length, get_or, AllPairs, Contains, refl, sym, ap, ap₂, ◌∙◌, subst, inl, inr, arith, eqb-true, eq-eqb, ne_eqb, length-append}
-use Rattle.std.specs.Prelude.{◌&&◌, ◌||◌}
+use Rattle.std.proofs.Common.{◌≡◌, ◌≢◌, ℕ, zero, suc, ◌+◌, ◌<◌, ◌≤◌, Bool, true, false, not, eqb, List, [], ◌∷◌, ◌++◌, length, get_or, Contains, refl, sym, ap, ap₂, ◌∙◌, subst, inl, inr, arith, eqb-true, eq-eqb, ne_eqb, length-append}
+use Rattle.std.specs.Prelude.{◌||◌}
 use Rattle.std.proofs.Math.ListN.{get_or-append}
 use Rattle.std.proofs.lemmas.Bool.{cases_Bool, cases_lt, cases_eq, cond-true, cond-false, true≢false, and_parts, and_from, or_left, or_right}
 use Rattle.std.proofs.lemmas.List.{get_or-append-add}
-use Rattle.std.proofs.lemmas.List.Elements.{Contains-append_cases, Contains-append_left, Contains-append_right, Contains-get_or}
+use Rattle.std.proofs.lemmas.List.Elements.{Contains-append_cases, Contains-append_left, Contains-append_right}
 use Rattle.map_lists.specs.Lists.{Lists}
-use Rattle.map_theory.specs.Maps.{Dart, HasDart, IsSimpleMap, list_of, follows, face_step, entry_after}
-use Rattle.map_theory.proofs.DartLemmas.{face_step-injective, entry_after-injective}
+use Rattle.map_theory.specs.Maps.{Dart, HasDart, list_of, follows, face_step}
 use Rattle.left_right_laws.specs.Ways.{first_on}
 use Rattle.left_right_laws.specs.Tours.{tour_step}
 use Rattle.left_right_maps.specs.RootedMaps.{is_child, in_tree, joined, tour_at, IsRootedMap}
-use Rattle.left_right_maps.proofs.Inserts.{none_in_none, here, there, here_or_there, pairs_head}
-use Rattle.left_right_maps.proofs.Goes.{Goes, goes_on, goes_next, goes_last, distinct_goes, after_last, goes_round}
+use Rattle.left_right_maps.proofs.Inserts.{none_in_none, here, there, here_or_there}
+use Rattle.left_right_maps.proofs.Goes.{Goes, goes_on, after_last, goes_round}
 
 -- ---- lists one behind another
 pub joined_holds : {X : Type 0} (f : ℕ → List X) (us : List ℕ) (u : ℕ) (x : X) → Contains us u → Contains (f u) x → Contains (joined f us) x
@@ -165,19 +164,21 @@ module _ (lists : Lists) (parent depth : ℕ → ℕ) (root : ℕ) (entries : �
       subst (λ ds. Goes step (v, follows lists v p) ds (v, p)) (sym (m.through v l))
       (joined_goes v (entries v) (follows lists v p) p (subst (λ x. Goes (follows lists v) x (entries v) p) (sym first) (goes_round (list_of lists v) distinct [] (entries v) p is)) (λ u c. (
         (λ t.
-        let so = child_so v u t in
-        let lu = child_in v u l c in
-        let deep = m.deeper u lu so.0 in
-        let same = ap depth so.1 in
-        subst (λ z. Below z u) so.1 (goes_below most low k u (omega arith) lu (below_root u so.0))),
+            let so = child_so v u t in
+            let lu = child_in v u l c in
+            let deep = m.deeper u lu so.0 in
+            let same = ap depth so.1 in
+            subst (λ z. Below z u) so.1 (goes_below most low k u (omega arith) lu (below_root u so.0))),
         not_up v u l c,
       )))
 
   pub goes_each : (most : ℕ) → ((v : ℕ) → v < length lists → depth v < most) → (k v : ℕ) → most ≤ depth v + suc k → v < length lists → (u : ℕ) → Contains (entries v) u → (child v u ≡ true → Below v u) × (child u v ≡ false)
-  goes_each most low k v far l u c =
-      (λ t.
-      let so = child_so v u t in
-      let lu = child_in v u l c in
-      let deep = m.deeper u lu so.0 in
-      let same = ap depth so.1 in
-      subst (λ z. Below z u) so.1 (goes_below most low k u (omega arith) lu (below_root u so.0)), not_up v u l c)
+  goes_each most low k v far l u c = (
+    λ t.
+        let so = child_so v u t in
+        let lu = child_in v u l c in
+        let deep = m.deeper u lu so.0 in
+        let same = ap depth so.1 in
+        subst (λ z. Below z u) so.1 (goes_below most low k u (omega arith) lu (below_root u so.0)),
+    not_up v u l c,
+  )

@@ -1,5 +1,5 @@
 -- A map of genus zero of a graph with a partition into left and right: its parts, from the deepest vertices up.
-use Rattle.std.proofs.Common.{◌≡◌, ◌≢◌, ◌⊎◌, ℕ, zero, suc, ◌+◌, ◌-◌, ◌<◌, ◌≤◌, Bool, true, false, cond, eqb, List, [], ◌∷◌, ◌++◌, length, get_or, AllPairs, Contains, refl, sym, ap, ap₂, ◌∙◌, subst, inl, inr, arith, eqb-true, eq-eqb, ne_eqb, length-append}
+use Rattle.std.proofs.Common.{◌≡◌, ◌≢◌, ℕ, zero, suc, ◌+◌, ◌-◌, ◌<◌, Bool, true, cond, eqb, List, [], ◌∷◌, ◌++◌, length, get_or, AllPairs, Contains, refl, sym, ap, ◌∙◌, subst, inl, inr, arith, eq-eqb, ne_eqb, length-append}
 use Rattle.std.specs.Prelude.{◌↔◌}
 use Rattle.std.proofs.Math.ListN.{get_or-append}
 use Rattle.std.proofs.lemmas.Bool.{cases_Bool, cases_lt, cases_eq, cond-true, cond-false, true≢false}
@@ -9,7 +9,7 @@ use Rattle.map_lists.specs.Lists.{Lists}
 use Rattle.classes.specs.Classes.{merge}
 use Rattle.map_theory.specs.Maps.{Dart, HasDart, IsSimpleMap, IsPlane, list_of, dart_count, entry_after, face_count, component_count}
 use Rattle.map_theory.proofs.DartLemmas.{dart_number-lt}
-use Rattle.left_right_laws.specs.Forests.{IsForest, IsLeftRight}
+use Rattle.left_right_laws.specs.Forests.{IsLeftRight}
 use Rattle.left_right_maps.specs.Orders.{IsEdge}
 use Rattle.left_right_maps.specs.RootedMaps.{is_child, in_tree, joined, tour_at, IsRootedMap}
 use Rattle.left_right_maps.specs.Brackets.{IsBalanced}
@@ -18,7 +18,7 @@ use Rattle.left_right_maps.proofs.Inserts.{none_in_none, here, here_or_there, pa
 use Rattle.left_right_maps.proofs.Toured.{bound_of}
 use Rattle.left_right_maps.proofs.RootedPlane.{balanced_is_plane}
 use Rattle.left_right_maps.proofs.Opens.{IsOpen, joined_same}
-use Rattle.left_right_maps.proofs.Parts.{child, passed, turned, child_deep, child_edge, Returns, Part, Entries, new_entries, new_opens, new_word, word_is, part, entries}
+use Rattle.left_right_maps.proofs.Parts.{passed, turned, child_deep, child_edge, Part, Entries, new_entries, new_opens, new_word, word_is, part, entries}
 
 -- the lists of a function, one for each number below n
 rows : (ℕ → List ℕ) → ℕ → Lists
@@ -94,9 +94,9 @@ module _ (n : ℕ) (edge : ℕ → ℕ → Bool) (parent depth : ℕ → ℕ) (r
         | inr ne ↦ record { us = []; word = []; opens = []; facts = λ l e. absurd (ne e) }
         | inl e ↦
             let parts : (u : ℕ) → Child v u ≡ true → IsPart u (old.words u) (old.opens u) = λ u t. (
-              let deep = child_deep n edge parent depth root left g sides v u t in
-              let has = child_edge n edge parent depth root left g sides v u t in
-              good u (g.in_range u v (g.both_ways v u has)) (omega arith)
+            let deep = child_deep n edge parent depth root left g sides v u t in
+            let has = child_edge n edge parent depth root left g sides v u t in
+            good u (g.in_range u v (g.both_ways v u has)) (omega arith)
             ) in
             record {
               us = new_entries n edge parent depth root left g sides v old.words old.opens parts;
@@ -213,18 +213,18 @@ module _ (n : ℕ) (edge : ℕ → ℕ → Bool) (parent depth : ℕ → ℕ) (r
       elim (cases_eq v root) [
         | inl e ↦ subst (λ z. AllPairs ◌≢◌ (row z)) (sym e) (subst (AllPairs ◌≢◌) (sym row_root) (subst (λ z. AllPairs ◌≢◌ (E z)) e es.distinct))
         | inr ne ↦ subst (AllPairs ◌≢◌) (sym (row_other v ne)) (pairs_joined ◌≢◌ (E v) (parent v ∷ []) es.distinct (pairs_more ◌≢◌ (parent v) [] (λ y c. absurd (none_in_none y c)) (pairs_none ◌≢◌))
-        (λ x y c c' e.
-        let last : parent v ≡ y = elim (here_or_there (parent v) y [] c') [ inl h ↦ h | inr bad ↦ absurd (none_in_none y bad) ] in
-        (es.sound x c).1 (g.others v l ne) (e ∙ sym last)))
+            (λ x y c c' e.
+            let last : parent v ≡ y = elim (here_or_there (parent v) y [] c') [ inl h ↦ h | inr bad ↦ absurd (none_in_none y bad) ] in
+            (es.sound x c).1 (g.others v l ne) (e ∙ sym last)))
       ]
 
   edges : (v u : ℕ) → HasDart lists v u ↔ (edge v u ≡ true)
   edges v u = (
     (λ has. let l : v < n = (let a = has.0 in let b = long in omega arith) in row_so v u l (subst (λ z. Contains z u) (list_is v l) has.1)),
     (λ t.
-    let l = g.in_range v u t in
-    let b = long in
-    (omega arith, subst (λ z. Contains z u) (sym (list_is v l)) (row_all v u l t))),
+        let l = g.in_range v u t in
+        let b = long in
+        (omega arith, subst (λ z. Contains z u) (sym (list_is v l)) (row_all v u l t))),
   )
 
   below : (v : ℕ) → v < length lists → v < n

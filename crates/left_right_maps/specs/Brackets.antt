@@ -1,7 +1,7 @@
 -- Words of darts in which edges stand as pairs of brackets.
-use Rattle.std.specs.Prelude.{ℕ, ◌<◌, ◌≡◌, Bool, true, List, [], ◌∷◌, ◌++◌, length}
+use Rattle.std.specs.Prelude.{ℕ, ◌<◌, ◌≡◌, Bool, true, List, [], ◌∷◌, ◌++◌}
 use Rattle.map_lists.specs.Lists.{Lists}
-use Rattle.map_theory.specs.Maps.{Dart, twin_dart, IsPlane, dart_count}
+use Rattle.map_theory.specs.Maps.{Dart, IsPlane, dart_count}
 use Rattle.left_right_maps.specs.RootedMaps.{in_tree, IsRootedMap}
 
 -- a word in which each dart that does not pass a test is one of a pair, with its twin, and pairs do not cross

@@ -1,5 +1,5 @@
 -- Edges that return at a fork, and orders in which they do not cross.
-use Rattle.std.specs.Prelude.{ℕ, ◌<◌, ◌≤◌, ◌≡◌, ◌≢◌, ◌↔◌, Bool, true, false, List, AllPairs, Contains}
+use Rattle.std.specs.Prelude.{ℕ, ◌≤◌, ◌≡◌, ◌≢◌, ◌↔◌, Bool, true, false, List, AllPairs, Contains}
 use Rattle.map_theory.specs.Maps.{Dart}
 use Rattle.left_right_laws.specs.Forests.{IsReturn, IsLeftRight}
 
