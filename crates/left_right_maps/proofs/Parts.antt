@@ -9,7 +9,7 @@ use Rattle.left_right_laws.specs.Forests.{up, IsAbove, IsReturn, IsLeftRight}
 use Rattle.left_right_maps.specs.Orders.{IsEdge, MayPrecede, MayAllPrecede}
 use Rattle.left_right_maps.specs.RootedMaps.{is_child, in_tree, joined, tour_at}
 use Rattle.left_right_maps.specs.Brackets.{none}
-use Rattle.left_right_maps.specs.Graphs.{IsDepthFirst}
+use Rattle.left_right_maps.proofs.Trees.{IsDepthFirstTree}
 use Rattle.left_right_maps.proofs.Inserts.{none_in_none, here, there, here_or_there, pairs_none, pairs_more, pairs_left, pairs_right, pairs_across, pairs_joined}
 use Rattle.left_right_maps.proofs.Orders.{fork_is_ordered}
 use Rattle.left_right_maps.proofs.Toured.{joined_holds, joined_parts}
@@ -17,7 +17,7 @@ use Rattle.left_right_maps.proofs.Opens.{ups, IsOpen, open_block, open_joined, j
 use Rattle.left_right_maps.proofs.Ends.{uppers, uppers_parts, uppers_hold, uppers_distinct, joined_uppers, lefts, middle, rights, in_three, lefts_end, middle_off, rights_end, picks, picks_so, picks_hold, picks_distinct}
 use Rattle.left_right_maps.proofs.Lines.{child_is, is_child_from, above_itself, above_same, above_over, above_one, above_parent, parent_above, IsBelow, branch_below, branch_is}
 
-module _ (n : ℕ) (edge : ℕ → ℕ → Bool) (parent depth : ℕ → ℕ) (root : ℕ) (left : ℕ → ℕ → Bool) (g : IsDepthFirst n edge parent depth root) (sides : IsLeftRight (IsEdge edge) parent depth left) where
+module _ (n : ℕ) (edge : ℕ → ℕ → Bool) (parent depth : ℕ → ℕ) (root : ℕ) (left : ℕ → ℕ → Bool) (g : IsDepthFirstTree n edge parent depth root) (sides : IsLeftRight (IsEdge edge) parent depth left) where
   abbrev pub child : ℕ → ℕ → Bool
   child = is_child parent depth
 

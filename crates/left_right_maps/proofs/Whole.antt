@@ -13,7 +13,8 @@ use Rattle.left_right_laws.specs.Forests.{IsLeftRight}
 use Rattle.left_right_maps.specs.Orders.{IsEdge}
 use Rattle.left_right_maps.specs.RootedMaps.{is_child, in_tree, joined, tour_at, IsRootedMap}
 use Rattle.left_right_maps.specs.Brackets.{IsBalanced}
-use Rattle.left_right_maps.specs.Graphs.{IsDepthFirst, IsMapOfEdges, LeftRightIsPlane}
+use Rattle.left_right_maps.specs.Graphs.{IsMapOfEdges}
+use Rattle.left_right_maps.proofs.Trees.{IsDepthFirstTree}
 use Rattle.left_right_maps.proofs.Inserts.{none_in_none, here, here_or_there, pairs_none, pairs_more, pairs_joined}
 use Rattle.left_right_maps.proofs.Toured.{bound_of}
 use Rattle.left_right_maps.proofs.RootedPlane.{balanced_is_plane}
@@ -52,7 +53,7 @@ lone_rows : (f : ℕ → List ℕ) (k : ℕ) → k ≡ 1 → f 0 ≡ [] → rows
 unfolding rows
 lone_rows f k one none = ap (rows f) one ∙ ap (λ z. z ∷ []) none
 
-module _ (n : ℕ) (edge : ℕ → ℕ → Bool) (parent depth : ℕ → ℕ) (root : ℕ) (left : ℕ → ℕ → Bool) (g : IsDepthFirst n edge parent depth root) (sides : IsLeftRight (IsEdge edge) parent depth left) where
+module _ (n : ℕ) (edge : ℕ → ℕ → Bool) (parent depth : ℕ → ℕ) (root : ℕ) (left : ℕ → ℕ → Bool) (g : IsDepthFirstTree n edge parent depth root) (sides : IsLeftRight (IsEdge edge) parent depth left) where
   abbrev Child : ℕ → ℕ → Bool
   Child = is_child parent depth
 
@@ -291,7 +292,3 @@ module _ (n : ℕ) (edge : ℕ → ℕ → Bool) (parent depth : ℕ → ℕ) (r
 
   pub map_of_edges : (made_lists : Lists) × IsMapOfEdges n edge made_lists
   map_of_edges = (lists, record { simple = simple; plane = plane; vertices = long; edges = edges })
-
--- THE LAW: a partition into left and right makes a map of genus zero
-pub left_right_is_plane : LeftRightIsPlane
-left_right_is_plane n edge parent depth root left g sides = map_of_edges n edge parent depth root left g sides

@@ -3,7 +3,7 @@
 #![tactic(auto)]
 
 ghost use Rattle.left_right_maps.specs.Brackets.{BalancedIsPlane};
-ghost use Rattle.left_right_maps.specs.Graphs.{LeftRightIsPlane};
+ghost use Rattle.left_right_maps.specs.Graphs.{PlanarByLeftRight};
 ghost use Rattle.left_right_maps.specs.Orders.{ForkIsOrdered};
 ghost use Rattle.left_right_maps.specs.RootedMaps.{TreeHasTour};
 
@@ -25,8 +25,8 @@ pub fn balanced_is_plane()
     ensures { BalancedIsPlane }
 {}
 
-/// A connected graph has a map of genus zero where the edges that return, by a depth-first tree, can be parted
+/// A graph with a depth-first forest has a map of genus zero exactly where the edges that return can be parted
 /// into left and right.
-pub fn left_right_is_plane()
-    ensures { LeftRightIsPlane }
+pub fn planar_by_left_right()
+    ensures { PlanarByLeftRight }
 {}

@@ -18,7 +18,7 @@ ghost use Rattle.left_right_laws.specs.Forests.{ForkOrder, PlaneIsLeftRight};
 ghost use Rattle.left_right_laws.specs.Tours.{PlaneByNesting};
 ghost use Rattle.left_right_laws.specs.Ways.{ThreeWays};
 ghost use Rattle.left_right_maps.specs.Brackets.{BalancedIsPlane};
-ghost use Rattle.left_right_maps.specs.Graphs.{LeftRightIsPlane};
+ghost use Rattle.left_right_maps.specs.Graphs.{PlanarByLeftRight};
 ghost use Rattle.left_right_maps.specs.Orders.{ForkIsOrdered};
 ghost use Rattle.left_right_maps.specs.RootedMaps.{TreeHasTour};
 ghost use Rattle.map_theory.specs.Bound.{EulerBound};
@@ -121,12 +121,12 @@ pub fn balanced_is_plane()
     left_right_maps::balanced_is_plane();
 }
 
-/// A connected graph has a map of genus zero where the edges that return, by a depth-first tree, can be parted into
+/// A graph with a depth-first forest has a map of genus zero exactly where the edges that return can be parted into
 /// left and right.
-pub fn left_right_is_plane()
-    ensures { LeftRightIsPlane }
+pub fn planar_by_left_right()
+    ensures { PlanarByLeftRight }
 {
-    left_right_maps::left_right_is_plane();
+    left_right_maps::planar_by_left_right();
 }
 
 /// In every simple map n + f is at most 2c + m, by an even difference.
