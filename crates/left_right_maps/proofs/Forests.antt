@@ -1,12 +1,12 @@
 -- A graph with a forest of several trees: with edges from one root to the others it is connected, and without them its map is one of the graph.
-use Rattle.std.proofs.Common.{◌≡◌, ◌≢◌, ◌⊎◌, ℕ, zero, suc, ◌+◌, ◌-◌, ◌<◌, ◌≤◌, Bool, true, false, cond, not, eqb, ltb, length, refl, sym, ap, ap₂, ◌∙◌, subst, inl, inr, arith, eqb-true, eq-eqb}
-use Rattle.std.specs.Prelude.{◌&&◌, ◌||◌, ◌↔◌}
+use Rattle.std.proofs.Common.{◌≡◌, ◌≢◌, ◌⊎◌, ℕ, zero, suc, ◌+◌, ◌-◌, ◌<◌, ◌≤◌, Bool, true, false, cond, not, eqb, ltb, refl, sym, ap, ap₂, ◌∙◌, subst, inl, inr, arith, eqb-true, eq-eqb}
+use Rattle.std.specs.Prelude.{◌&&◌, ◌||◌}
 use Rattle.std.proofs.lemmas.Bool.{cases_Bool, cases_lt, cases_eq, cond-true, cond-false, true≢false, and_parts, and_from, or_cases, or_left, or_right, lt-ltb, ltb-true, ne_eqb}
 use Rattle.map_lists.specs.Lists.{Lists}
 use Rattle.map_theory.specs.Maps.{HasDart}
 use Rattle.plane_laws.specs.Kept.{with_kept}
 use Rattle.plane_laws.proofs.KeptEdges.{kept_edges, length-with_kept}
-use Rattle.left_right_laws.specs.Forests.{up, IsForest, IsAbove, IsBranch, IsReturn, IsLeftRight}
+use Rattle.left_right_laws.specs.Forests.{up, IsForest, IsAbove, IsReturn, IsLeftRight}
 use Rattle.left_right_laws.proofs.Forks.{plane_is_left_right}
 use Rattle.left_right_laws.proofs.Lines.{up-add}
 use Rattle.left_right_maps.specs.Orders.{IsEdge}
@@ -20,7 +20,7 @@ same_bits true c there back = sym (there refl)
 same_bits false true there back = back refl
 same_bits false false there back = refl
 
-not_so : (b : Bool) → ¬ (b ≡ true) → b ≡ false
+pub not_so : (b : Bool) → ¬ (b ≡ true) → b ≡ false
 not_so b h = elim (cases_Bool b) [ inl t ↦ absurd (h t) | inr f ↦ f ]
 
 module _ (n : ℕ) (edge : ℕ → ℕ → Bool) (parent depth : ℕ → ℕ) (some : 0 < n) (g : IsDepthFirst n edge parent depth) where
@@ -360,13 +360,15 @@ module _ (n : ℕ) (edge : ℕ → ℕ → Bool) (parent depth : ℕ → ℕ) (s
   module _ (left : ℕ → ℕ → Bool) (sides : IsLeftRight (IsEdge edge) parent depth left) where
     sides' : IsLeftRight (IsEdge edge') parent' depth' left
     sides' v e f apart =
-        let at = sides v e f apart in
-        (at.0, λ t w s z one two.
-        let one' = back v e t w one in
-        let two' = back v f s z two in
-        let same = ends_apart v e f t w s z one' two' in
-        let tied = at.1 t w s z one' two' in
-        ((λ less. tied.0 (omega arith)), (λ less. tied.1 (omega arith))))
+        let at = sides v e f apart in (
+          at.0,
+          λ t w s z one two.
+              let one' = back v e t w one in
+              let two' = back v f s z two in
+              let same = ends_apart v e f t w s z one' two' in
+              let tied = at.1 t w s z one' two' in
+              ((λ less. tied.0 (omega arith)), (λ less. tied.1 (omega arith))),
+        )
 
     symmetric : (u v : ℕ) → edge u v ≡ edge v u
     symmetric u v = same_bits (edge u v) (edge v u) (g.both_ways u v) (g.both_ways v u)
@@ -374,13 +376,15 @@ module _ (n : ℕ) (edge : ℕ → ℕ → Bool) (parent depth : ℕ → ℕ) (s
     made : (lists : Lists) × IsMapOfEdges n edge lists
     made =
         let whole = map_of_edges n edge' parent' depth' r left tree sides' in
-        let kept = kept_edges whole.0 edge symmetric whole.1.simple in
-        (with_kept edge whole.0, record {
-          simple = kept.simple;
-          plane = kept.plane whole.1.plane;
-          vertices = length-with_kept edge whole.0 ∙ whole.1.vertices;
-          edges = λ v u. ((λ has. ((kept.darts v u).0 has).1), (λ t. (kept.darts v u).1 ((whole.1.edges v u).1 (edge_old v u t), t)));
-        })
+        let kept = kept_edges whole.0 edge symmetric whole.1.simple in (
+          with_kept edge whole.0,
+          record {
+            simple = kept.simple;
+            plane = kept.plane whole.1.plane;
+            vertices = length-with_kept edge whole.0 ∙ whole.1.vertices;
+            edges = λ v u. ((λ has. ((kept.darts v u).0 has).1), (λ t. (kept.darts v u).1 ((whole.1.edges v u).1 (edge_old v u t), t)));
+          },
+        )
 
   parted : (lists : Lists) → IsMapOfEdges n edge lists → (left : ℕ → ℕ → Bool) × IsLeftRight (IsEdge edge) parent depth left
   parted lists m =

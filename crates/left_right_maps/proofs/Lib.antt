@@ -13,3 +13,4 @@ pub mod Trees
 pub mod Parts
 pub mod Whole
 pub mod Forests
+mod Refused
