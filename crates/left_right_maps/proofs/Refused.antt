@@ -1,13 +1,17 @@
 -- Statements that are wrong, though near those of the laws.
-use Rattle.std.proofs.Common.{◌≡◌, ◌≢◌, ℕ, zero, suc, ◌+◌, ◌-◌, ◌<◌, ◌≤◌, Bool, true, false, not, eqb, ltb, List, [], ◌∷◌, get_or, AllPairs, Contains, refl, sym, ap, ◌∙◌, subst, inl, inr, arith, eq-eqb, ne_eqb}
+use Rattle.std.proofs.Common.{◌≡◌, ◌≢◌, ℕ, zero, suc, ◌+◌, ◌-◌, ◌<◌, ◌≤◌, Bool, true, false, not, eqb, ltb, List, [], ◌∷◌, ◌++◌, get_or, AllPairs, Contains, refl, sym, ap, ◌∙◌, subst, inl, inr, arith, eq-eqb, ne_eqb}
 use Rattle.std.specs.Prelude.{◌&&◌, ◌↔◌}
 use Rattle.std.proofs.lemmas.Bool.{cases_lt, and_parts, and_from, ltb-true, true≢false}
 use Rattle.std.proofs.lemmas.List.{get_or_default}
 use Rattle.map_lists.specs.Lists.{Lists}
-use Rattle.map_theory.specs.Maps.{Dart, HasDart}
+use Rattle.classes.specs.Classes.{merge}
+use Rattle.map_theory.specs.Maps.{Dart, HasDart, IsSimpleMap, IsPlane, list_of, dart_count, entry_after, face_count, component_count}
+use Rattle.simple_maps.specs.Faults.{first_fault}
+use Rattle.simple_maps.proofs.FaultLemmas.{IsSimpleMap-from_first_fault}
 use Rattle.left_right_laws.specs.Forests.{IsForest, IsReturn, IsLeftRight}
 use Rattle.left_right_laws.proofs.Forks.{plane_is_left_right}
 use Rattle.left_right_maps.specs.Orders.{IsEdge, MayAllPrecede}
+use Rattle.left_right_maps.specs.RootedMaps.{is_child, joined, tour_at, IsRootedMap}
 use Rattle.left_right_maps.specs.Graphs.{IsMapOfEdges}
 use Rattle.left_right_maps.proofs.Inserts.{none_in_none, here, there, here_or_there, pairs_none, pairs_more}
 use Rattle.left_right_maps.proofs.Lines.{above_same}
@@ -178,3 +182,60 @@ any_forest : ((n : ℕ) (joined : ℕ → ℕ → Bool) (parent depth : ℕ → 
 any_forest wrong =
     let found = wrong 5 joined_five star_parent star_depth (λ t w. true) (omega arith) (λ u v t. (five_so u v t).0) five_back (λ v. not_so (joined_five v v) (λ t. (five_so v v t).1.1 refl)) star_forest (λ v e f apart. (true, λ t w s z one two. absurd (star_returns v e t w one))) in
     no_map_of_five found.0 found.1
+
+-- ---- K4 in a map of genus one, on a line from 0 to 3: the edge between 3 and 1 crosses that between 2 and 0
+abbrev crossed : Lists
+crossed = (1 ∷ 2 ∷ 3 ∷ []) ∷ (2 ∷ 3 ∷ 0 ∷ []) ∷ (3 ∷ 0 ∷ 1 ∷ []) ∷ (0 ∷ 1 ∷ 2 ∷ []) ∷ []
+
+abbrev high : ℕ → ℕ
+high v = get_or (0 ∷ 1 ∷ 2 ∷ 3 ∷ []) v 0
+
+abbrev around : ℕ → List ℕ
+around v = get_or ((1 ∷ 2 ∷ 3 ∷ []) ∷ (2 ∷ 3 ∷ []) ∷ (3 ∷ 0 ∷ []) ∷ (0 ∷ 1 ∷ []) ∷ []) v []
+
+abbrev three_word : List Dart
+three_word = (3, 0) ∷ (3, 1) ∷ []
+
+abbrev two_word : List Dart
+two_word = (2, 3) ∷ (3, 0) ∷ (3, 1) ∷ (3, 2) ∷ (2, 0) ∷ []
+
+abbrev one_word : List Dart
+one_word = (1, 2) ∷ (2, 3) ∷ (3, 0) ∷ (3, 1) ∷ (3, 2) ∷ (2, 0) ∷ (2, 1) ∷ (1, 3) ∷ []
+
+abbrev none_word : List Dart
+none_word = (0, 1) ∷ (1, 2) ∷ (2, 3) ∷ (3, 0) ∷ (3, 1) ∷ (3, 2) ∷ (2, 0) ∷ (2, 1) ∷ (1, 3) ∷ (1, 0) ∷ (0, 2) ∷ (0, 3) ∷ []
+
+abbrev through : ℕ → List Dart
+through v = get_or (none_word ∷ one_word ∷ two_word ∷ three_word ∷ []) v []
+
+each_of_four : (P : ℕ → Type 0) → P 0 → P 1 → P 2 → P 3 → (v : ℕ) → v < 4 → P v
+each_of_four P a b c d zero l = a
+each_of_four P a b c d (suc zero) l = b
+each_of_four P a b c d (suc (suc zero)) l = c
+each_of_four P a b c d (suc (suc (suc zero))) l = d
+each_of_four P a b c d (suc (suc (suc (suc v)))) l = absurd (omega arith)
+
+crossed_simple : IsSimpleMap crossed
+unfolding first_fault
+crossed_simple = IsSimpleMap-from_first_fault crossed (omega arith) refl
+
+crossed_rooted : IsRootedMap crossed before high 0 around through
+crossed_rooted =
+    record {
+      simple = crossed_simple;
+      root_in = omega arith;
+      top = refl;
+      others = each_of_four (λ v. v ≢ 0 → 0 < high v) (λ ne. absurd (ne refl)) (λ _. omega arith) (λ _. omega arith) (λ _. omega arith);
+      deeper = each_of_four (λ v. 0 < high v → high v ≡ high (before v) + 1) (λ d. absurd (omega arith)) (λ _. refl) (λ _. refl) (λ _. refl);
+      last = each_of_four (λ v. v ≢ 0 → list_of crossed v ≡ around v ++ before v ∷ []) (λ ne. absurd (ne refl)) (λ _. refl) (λ _. refl) (λ _. refl);
+      whole = refl;
+      through = each_of_four (λ v. through v ≡ joined (tour_at (is_child before high) through v) (around v)) refl refl refl refl;
+    }
+
+not_plane : ¬ IsPlane crossed
+unfolding entry_after merge face_count component_count
+not_plane e = omega (arith, e)
+
+-- the law of brackets for words of any kind
+any_word : ((lists : Lists) (parent depth : ℕ → ℕ) (root : ℕ) (entries : ℕ → List ℕ) (words : ℕ → List Dart) → IsRootedMap lists parent depth root entries words → 0 < dart_count lists → IsPlane lists) → ⊥
+any_word wrong = not_plane (wrong crossed before high 0 around through crossed_rooted (omega arith))
