@@ -19,7 +19,7 @@ use Rattle.left_right_maps.proofs.Inserts.{none_in_none, here, here_or_there, pa
 use Rattle.left_right_maps.proofs.Toured.{bound_of}
 use Rattle.left_right_maps.proofs.RootedPlane.{balanced_is_plane}
 use Rattle.left_right_maps.proofs.Opens.{IsOpen, joined_same}
-use Rattle.left_right_maps.proofs.Parts.{passed, turned, child_deep, child_edge, Part, Entries, new_entries, new_opens, new_word, word_is, part, entries}
+use Rattle.left_right_maps.proofs.Parts.{passed, turned, child_deep, child_edge, Part, Entries, new_entries, new_opens, new_word, word_is, some_order, part, entries}
 
 -- the lists of a function, one for each number below n
 rows : (ℕ → List ℕ) → ℕ → Lists
@@ -99,14 +99,15 @@ module _ (n : ℕ) (edge : ℕ → ℕ → Bool) (parent depth : ℕ → ℕ) (r
             let has = child_edge n edge parent depth root left g sides v u t in
             good u (g.in_range u v (g.both_ways v u has)) (omega arith)
             ) in
+            let order = some_order n edge parent depth root left g sides v old.words old.opens parts in
             record {
-              us = new_entries n edge parent depth root left g sides v old.words old.opens parts;
-              word = new_word n edge parent depth root left g sides v old.words old.opens parts;
-              opens = new_opens n edge parent depth root left g sides v old.words old.opens parts;
+              us = new_entries n edge parent depth root left g sides v old.words old.opens parts order;
+              word = new_word n edge parent depth root left g sides v old.words old.opens parts order;
+              opens = new_opens n edge parent depth root left g sides v old.words old.opens parts order;
               facts = λ _ _. record {
-                is_part = part n edge parent depth root left g sides v old.words old.opens parts;
-                are = entries n edge parent depth root left g sides v old.words old.opens parts;
-                through = word_is n edge parent depth root left g sides v old.words old.opens parts;
+                is_part = part n edge parent depth root left g sides v old.words old.opens parts order;
+                are = entries n edge parent depth root left g sides v old.words old.opens parts order;
+                through = word_is n edge parent depth root left g sides v old.words old.opens parts order;
               };
             }
       ]
