@@ -252,5 +252,5 @@ plane_by_nesting lists along at place simple some one turned tour tree = (
       let to_d = ap (λ c. place (twin_dart c)) there_d in
       let to_e = ap (λ c. place (twin_dart c)) there_e in
       cross lists along at place simple turned tour (place d) (place e) (tour.places d.0 d.1 chord_d.0) (tour.places e.0 e.1 chord_e.0) (ap (λ c. along c.0 c.1) there_d ∙ chord_d.1) (ap (λ c. along c.0 c.1) there_e ∙ chord_e.1) first (omega arith) (omega arith) genus one tree,
-  λ nested. plane lists along at place simple turned tour nested some one tree,
+  λ nested. plane lists along at place simple turned tour nested some one (omega (arith, tree)),
 )

@@ -1,5 +1,5 @@
 -- A connected map of which all edges but those of a tree are nested in its tour: the innermost chord round each corner tells its face.
-use Rattle.std.proofs.Common.{◌≡◌, ℕ, suc, ◌+◌, ◌*◌, ◌<◌, Bool, false, sym, ap, ◌∙◌, inl, inr, arith}
+use Rattle.std.proofs.Common.{◌≡◌, ℕ, suc, ◌+◌, ◌*◌, ◌<◌, ◌≤◌, Bool, false, sym, ap, ◌∙◌, inl, inr, arith}
 use Rattle.std.proofs.lemmas.Bool.{cases_Bool, cases_lt, cond-true, cond-false}
 use Rattle.classes.specs.Classes.{count_below}
 use Rattle.map_lists.specs.Lists.{Lists}
@@ -118,7 +118,7 @@ module _ (lists : Lists) (along : ℕ → ℕ → Bool) (at : ℕ → Dart) (pla
         marked = λ j m t. ap M (tour.back j m) ∙ marked-mark n single partner paired j m t;
       }
 
-  pub plane : AreNested lists along place → 0 < n → component_count lists ≡ 1 → count_below single n + 2 ≡ 2 * vertex_count lists → IsPlane lists
+  pub plane : AreNested lists along place → 0 < n → component_count lists ≡ 1 → count_below single n + 2 ≤ 2 * vertex_count lists → IsPlane lists
   plane nested some one tree =
       let pairs = pair_count n single partner paired in
       let faces = marked_count n single partner paired some in

@@ -17,6 +17,10 @@ ghost use Rattle.grid_figures.specs.ShiftFiguresLaws.{SomeShiftFigure};
 ghost use Rattle.left_right_laws.specs.Forests.{ForkOrder, PlaneIsLeftRight};
 ghost use Rattle.left_right_laws.specs.Tours.{PlaneByNesting};
 ghost use Rattle.left_right_laws.specs.Ways.{ThreeWays};
+ghost use Rattle.left_right_maps.specs.Brackets.{BalancedIsPlane};
+ghost use Rattle.left_right_maps.specs.Graphs.{PlanarByLeftRight};
+ghost use Rattle.left_right_maps.specs.Orders.{ForkIsOrdered};
+ghost use Rattle.left_right_maps.specs.RootedMaps.{TreeHasTour};
 ghost use Rattle.map_theory.specs.Bound.{EulerBound};
 ghost use Rattle.pg_perm.specs.Law.{OneSwap};
 ghost use Rattle.pigale_words.specs.Spelling.{JobWords};
@@ -91,6 +95,38 @@ pub fn plane_is_left_right()
     ensures { PlaneIsLeftRight }
 {
     left_right_laws::plane_is_left_right();
+}
+
+/// At each fork of a graph parted into left and right, its edges can be put in an order in which the edges that
+/// return by them may stand.
+pub fn fork_is_ordered()
+    ensures { ForkIsOrdered }
+{
+    left_right_maps::fork_is_ordered();
+}
+
+/// The darts of a map with a rooted spanning tree, written down from the root, are a tour along the tree that meets
+/// each dart once.
+pub fn tree_has_tour()
+    ensures { TreeHasTour }
+{
+    left_right_maps::tree_has_tour();
+}
+
+/// A map with a rooted spanning tree has genus zero where its other edges, in the tour along the tree, are pairs
+/// that do not cross.
+pub fn balanced_is_plane()
+    ensures { BalancedIsPlane }
+{
+    left_right_maps::balanced_is_plane();
+}
+
+/// A graph with a depth-first forest has a map of genus zero exactly where the edges that return can be parted into
+/// left and right.
+pub fn planar_by_left_right()
+    ensures { PlanarByLeftRight }
+{
+    left_right_maps::planar_by_left_right();
 }
 
 /// In every simple map n + f is at most 2c + m, by an even difference.

@@ -1,0 +1,32 @@
+//! From sides to maps: a graph whose edges that return can be parted into left and right has a map of genus
+//! zero. Each law is the contract of a function that does nothing, and speaks of all graphs.
+#![tactic(auto)]
+
+ghost use Rattle.left_right_maps.specs.Brackets.{BalancedIsPlane};
+ghost use Rattle.left_right_maps.specs.Graphs.{PlanarByLeftRight};
+ghost use Rattle.left_right_maps.specs.Orders.{ForkIsOrdered};
+ghost use Rattle.left_right_maps.specs.RootedMaps.{TreeHasTour};
+
+/// At each fork of a graph parted into left and right, its edges can be put in an order in which the edges
+/// that return by them may stand.
+pub fn fork_is_ordered()
+    ensures { ForkIsOrdered }
+{}
+
+/// The darts of a map with a rooted spanning tree, written down from the root, are a tour along the tree that
+/// meets each dart once.
+pub fn tree_has_tour()
+    ensures { TreeHasTour }
+{}
+
+/// A map with a rooted spanning tree has genus zero where its other edges, in the tour along the tree, are
+/// pairs that do not cross.
+pub fn balanced_is_plane()
+    ensures { BalancedIsPlane }
+{}
+
+/// A graph with a depth-first forest has a map of genus zero exactly where the edges that return can be parted
+/// into left and right.
+pub fn planar_by_left_right()
+    ensures { PlanarByLeftRight }
+{}
