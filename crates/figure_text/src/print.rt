@@ -60,6 +60,16 @@ fn push_columns(out: &mut Vec<u8>, columns: &Ints) -> Result<(), AllocError>
     Ok(())
 }
 
+// The line of the columns, in memory of its own.
+fn columns_text(alloc: Global, columns: &Ints) -> Result<Vec<u8>, AllocError>
+    ensures { IfOk result (λ text. text.items ≡ columns_line columns.now) }
+{
+    let room = columns.len().saturating_mul(4).saturating_add(8);
+    let mut text = Vec::with_capacity(alloc, room)?;
+    push_columns(&mut text, columns)?;
+    Ok(text)
+}
+
 // The word of a method.
 fn word_of(job: GridJob) -> &'static [u8]
     ensures word { result.now ≡ job_word job }
@@ -160,22 +170,6 @@ pub fn print_grid(
     push_lines(alloc, number, word_of(job), lists, points, out)
 }
 
-// The text of a visibility drawing.
-fn bars_of(
-    alloc: Global,
-    number: u32,
-    lists: &Rotations,
-    bars: &BarFigure,
-) -> Result<Vec<u8>, AllocError>
-    requires { HasBars lists.now bars.now }
-    ensures { IfOk result (λ text. text.items ≡ bars_text number lists.now bars.now) }
-{
-    let mut text = Vec::new(alloc);
-    push_lines(alloc, number, b"bars", lists, bars, &mut text)?;
-    push_columns(&mut text, &bars.column)?;
-    Ok(text)
-}
-
 /// Appends the text of a visibility drawing with this number, of lists and a bar for each of them. After want of
 /// memory the bytes are as they were.
 pub fn print_bars(
@@ -189,8 +183,16 @@ pub fn print_bars(
     ensures ok { OnOk result (out.new.items ≡ out.old.items ++ bars_text number lists.now bars.now) }
     ensures err { OnErr result (out.new.items ≡ out.old.items) }
 {
-    let text = bars_of(alloc, number, lists, bars)?;
-    out.extend_from_slice(&text)
+    let columns = columns_text(alloc, &bars.column)?;
+    let before = out.len();
+    push_lines(alloc, number, b"bars", lists, bars, out)?;
+    match out.extend_from_slice(&columns) {
+        Ok(()) => Ok(()),
+        Err(e) => {
+            out.truncate(before);
+            Err(e)
+        }
+    }
 }
 
 /// Appends the text of a rectangular dual with this number, of lists and a rectangle for each of them. After want
