@@ -1,8 +1,8 @@
 //! A figure as text.
 ghost use Rattle.std.specs.Prelude.{◌≡◌, ◌+◌, ◌++◌, ◌∷◌, ℕ, List, ◌*◌, length, drop, sum_by, decimal, ◌<◌, ◌≤◌, OnOk, OnErr, IfOk};
-ghost use Rattle.figure_text.specs.Text.{spaced_signed, columns_line, first_line, vertex_lines, fronts_room, job_word, grid_text, bars_text, rects_text, IsText, IsWhole, HasBars, HasRects};
+ghost use Rattle.figure_text.specs.Text.{first_line, vertex_lines, fronts_room, job_word, grid_text, bars_text, rects_text, IsText, IsWhole, HasBars, HasRects};
 
-use crate::backward::{PART, SIGNED_BYTES, write_first, write_integers};
+use crate::backward::{write_columns, write_first};
 use crate::vertex_print::{Numbered, write_lines};
 use crate::witness_print::print_witness;
 use crate::{Figure, GridJob};
@@ -25,49 +25,6 @@ pub(crate) fn push_next(out: &mut Vec<u8>, number: u64) -> Result<(), AllocError
 {
     out.push(b' ')?;
     push_number(out, number)
-}
-
-// Appends some signed numbers, each after a space.
-fn push_signed(out: &mut Vec<u8>, list: &[i32]) -> Result<(), AllocError>
-    requires { length list.now ≤ 16 }
-    ensures { OnOk result (out.new.items ≡ out.old.items ++ spaced_signed list.now) }
-{
-    let mut bytes = [0; SIGNED_BYTES];
-    let start = write_integers(list, &mut bytes);
-    out.extend_from_slice(&bytes[start..])
-}
-
-// Appends signed numbers, each after a space.
-fn push_integers(out: &mut Vec<u8>, list: &[i32]) -> Result<(), AllocError>
-    ensures { OnOk result (out.new.items ≡ out.old.items ++ spaced_signed list.now) }
-{
-    let mut rest = list;
-    while rest.len() > PART {
-        let (part, behind) = rest.split_at(PART);
-        push_signed(out, part)?;
-        rest = behind;
-    }
-    push_signed(out, rest)
-}
-
-// Appends the line of the columns.
-fn push_columns(out: &mut Vec<u8>, columns: &Ints) -> Result<(), AllocError>
-    ensures { OnOk result (out.new.items ≡ out.old.items ++ columns_line columns.now) }
-{
-    out.extend_from_slice(b"columns")?;
-    push_integers(out, columns.as_slice())?;
-    out.push(b'\n')?;
-    Ok(())
-}
-
-// The line of the columns, in memory of its own.
-fn columns_text(alloc: Global, columns: &Ints) -> Result<Vec<u8>, AllocError>
-    ensures { IfOk result (λ text. text.items ≡ columns_line columns.now) }
-{
-    let room = columns.len().saturating_mul(4).saturating_add(8);
-    let mut text = Vec::with_capacity(alloc, room)?;
-    push_columns(&mut text, columns)?;
-    Ok(text)
 }
 
 // The word of a method.
@@ -170,6 +127,30 @@ pub fn print_grid(
     push_lines(alloc, number, word_of(job), lists, points, out)
 }
 
+// How many bytes the text of a visibility drawing takes at most.
+fn bars_room(lists: &Rotations, columns: &Ints) -> Result<usize, AllocError>
+    ensures { IfOk result (λ room. room ≡ 60 + 6 * sum_by length lists.now + fronts_room 61 (length lists.now) + (12 * length columns.now + 8)) }
+{
+    let lines = room_of::<BarFigure>(lists)?;
+    let line = columns.len().saturating_mul(12).saturating_add(8);
+    let room = lines.saturating_add(line);
+    if room == usize::MAX {
+        return Err(AllocError);
+    }
+    Ok(room)
+}
+
+// Writes the text of a visibility drawing at the end, and returns where it starts.
+fn write_bars(number: u32, lists: &Rotations, bars: &BarFigure, bytes: &mut [u8]) -> usize
+    requires bars { HasBars lists.now bars.now }
+    requires room { 60 + 6 * sum_by length lists.now + fronts_room 61 (length lists.now) + (12 * length bars.now.column + 8) ≤ length bytes.old }
+    ensures within { result ≤ length bytes.new }
+    ensures written { drop result bytes.new ≡ bars_text number lists.now bars.now }
+{
+    let end = write_columns(bars.column.as_slice(), bytes);
+    write_figure(number, b"bars", lists, bars, &mut bytes[..end])
+}
+
 /// Appends the text of a visibility drawing with this number, of lists and a bar for each of them. After want of
 /// memory the bytes are as they were.
 pub fn print_bars(
@@ -183,16 +164,9 @@ pub fn print_bars(
     ensures ok { OnOk result (out.new.items ≡ out.old.items ++ bars_text number lists.now bars.now) }
     ensures err { OnErr result (out.new.items ≡ out.old.items) }
 {
-    let columns = columns_text(alloc, &bars.column)?;
-    let before = out.len();
-    push_lines(alloc, number, b"bars", lists, bars, out)?;
-    match out.extend_from_slice(&columns) {
-        Ok(()) => Ok(()),
-        Err(e) => {
-            out.truncate(before);
-            Err(e)
-        }
-    }
+    let mut bytes = vec![in alloc; 0; bars_room(lists, &bars.column)?]?;
+    let start = write_bars(number, lists, bars, &mut bytes);
+    out.extend_from_slice(&bytes[start..])
 }
 
 /// Appends the text of a rectangular dual with this number, of lists and a rectangle for each of them. After want
