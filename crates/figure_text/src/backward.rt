@@ -1,15 +1,9 @@
 //! Words and numbers written into a row of bytes from its end to its front.
 ghost use Rattle.std.specs.Prelude.{◌≡◌, ◌+◌, ◌*◌, ◌<◌, ◌≤◌, ◌∷◌, ◌++◌, length, drop, flat_map, decimal};
 ghost use Rattle.std.specs.Fmt.{signed_decimal};
-ghost use Rattle.figure_text.specs.Text.{spaced_signed, first_line};
+ghost use Rattle.figure_text.specs.Text.{spaced_signed, first_line, columns_line};
 
 use itoa::write_digits;
-
-// How many numbers of a list are written at once.
-pub(crate) const PART: usize = 16;
-
-// How many bytes these take at most.
-pub(crate) const SIGNED_BYTES: usize = 192;
 
 // Writes a byte before `end`, and returns where it stands.
 pub(crate) fn write_byte(byte: u8, bytes: &mut [u8], end: usize) -> usize
@@ -107,16 +101,29 @@ pub(crate) fn write_first(k: u32, word: &[u8], n: usize, bytes: &mut [u8], end: 
     write_text(b"figure", bytes, number)
 }
 
-// Writes signed numbers, each after a space, and returns where they start.
-pub(crate) fn write_integers(list: &[i32], bytes: &mut [u8; SIGNED_BYTES]) -> usize
-    requires { length list.now ≤ 16 }
-    ensures within { result ≤ 192 }
-    ensures written { drop result bytes.new ≡ spaced_signed list.now }
+// Writes signed numbers, each after a space, before `end`, and returns where they start.
+fn write_integers(list: &[i32], bytes: &mut [u8], end: usize) -> usize
+    requires room { 12 * length list.now ≤ end }
+    requires end { end ≤ length bytes.old }
+    ensures within { (result ≤ end) × (end ≤ result + 12 * length list.now) }
+    ensures written { drop result bytes.new ≡ spaced_signed list.now ++ drop end bytes.old }
 {
-    let mut start = SIGNED_BYTES;
+    let mut start = end;
     for k in 0..list.len() {
         let z = list[list.len() - 1 - k];
         start = write_signed(z, bytes, start);
     }
     start
+}
+
+// Writes the line of the columns at the end, and returns where it starts.
+pub(crate) fn write_columns(columns: &[i32], bytes: &mut [u8]) -> usize
+    requires { 12 * length columns.now + 8 ≤ length bytes.old }
+    ensures within { (result ≤ length bytes.new) × (length bytes.new ≤ result + (12 * length columns.now + 8)) }
+    ensures written { drop result bytes.new ≡ columns_line columns.now }
+{
+    let end = bytes.len();
+    let newline = write_byte(b'\n', bytes, end);
+    let numbers = write_integers(columns, bytes, newline);
+    write_text(b"columns", bytes, numbers)
 }

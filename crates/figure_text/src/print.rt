@@ -1,8 +1,8 @@
 //! A figure as text.
 ghost use Rattle.std.specs.Prelude.{◌≡◌, ◌+◌, ◌++◌, ◌∷◌, ℕ, List, ◌*◌, length, drop, sum_by, decimal, ◌<◌, ◌≤◌, OnOk, OnErr, IfOk};
-ghost use Rattle.figure_text.specs.Text.{spaced_signed, columns_line, first_line, vertex_lines, fronts_room, job_word, grid_text, bars_text, rects_text, IsText, IsWhole, HasBars, HasRects};
+ghost use Rattle.figure_text.specs.Text.{first_line, vertex_lines, fronts_room, job_word, grid_text, bars_text, rects_text, IsText, IsWhole, HasBars, HasRects};
 
-use crate::backward::{PART, SIGNED_BYTES, write_first, write_integers};
+use crate::backward::{write_columns, write_first};
 use crate::vertex_print::{Numbered, write_lines};
 use crate::witness_print::print_witness;
 use crate::{Figure, GridJob};
@@ -25,39 +25,6 @@ pub(crate) fn push_next(out: &mut Vec<u8>, number: u64) -> Result<(), AllocError
 {
     out.push(b' ')?;
     push_number(out, number)
-}
-
-// Appends some signed numbers, each after a space.
-fn push_signed(out: &mut Vec<u8>, list: &[i32]) -> Result<(), AllocError>
-    requires { length list.now ≤ 16 }
-    ensures { OnOk result (out.new.items ≡ out.old.items ++ spaced_signed list.now) }
-{
-    let mut bytes = [0; SIGNED_BYTES];
-    let start = write_integers(list, &mut bytes);
-    out.extend_from_slice(&bytes[start..])
-}
-
-// Appends signed numbers, each after a space.
-fn push_integers(out: &mut Vec<u8>, list: &[i32]) -> Result<(), AllocError>
-    ensures { OnOk result (out.new.items ≡ out.old.items ++ spaced_signed list.now) }
-{
-    let mut rest = list;
-    while rest.len() > PART {
-        let (part, behind) = rest.split_at(PART);
-        push_signed(out, part)?;
-        rest = behind;
-    }
-    push_signed(out, rest)
-}
-
-// Appends the line of the columns.
-fn push_columns(out: &mut Vec<u8>, columns: &Ints) -> Result<(), AllocError>
-    ensures { OnOk result (out.new.items ≡ out.old.items ++ columns_line columns.now) }
-{
-    out.extend_from_slice(b"columns")?;
-    push_integers(out, columns.as_slice())?;
-    out.push(b'\n')?;
-    Ok(())
 }
 
 // The word of a method.
@@ -160,20 +127,28 @@ pub fn print_grid(
     push_lines(alloc, number, word_of(job), lists, points, out)
 }
 
-// The text of a visibility drawing.
-fn bars_of(
-    alloc: Global,
-    number: u32,
-    lists: &Rotations,
-    bars: &BarFigure,
-) -> Result<Vec<u8>, AllocError>
-    requires { HasBars lists.now bars.now }
-    ensures { IfOk result (λ text. text.items ≡ bars_text number lists.now bars.now) }
+// How many bytes the text of a visibility drawing takes at most.
+fn bars_room(lists: &Rotations, columns: &Ints) -> Result<usize, AllocError>
+    ensures { IfOk result (λ room. room ≡ 60 + 6 * sum_by length lists.now + fronts_room 61 (length lists.now) + (12 * length columns.now + 8)) }
 {
-    let mut text = Vec::new(alloc);
-    push_lines(alloc, number, b"bars", lists, bars, &mut text)?;
-    push_columns(&mut text, &bars.column)?;
-    Ok(text)
+    let lines = room_of::<BarFigure>(lists)?;
+    let line = columns.len().saturating_mul(12).saturating_add(8);
+    let room = lines.saturating_add(line);
+    if room == usize::MAX {
+        return Err(AllocError);
+    }
+    Ok(room)
+}
+
+// Writes the text of a visibility drawing at the end, and returns where it starts.
+fn write_bars(number: u32, lists: &Rotations, bars: &BarFigure, bytes: &mut [u8]) -> usize
+    requires bars { HasBars lists.now bars.now }
+    requires room { 60 + 6 * sum_by length lists.now + fronts_room 61 (length lists.now) + (12 * length bars.now.column + 8) ≤ length bytes.old }
+    ensures within { result ≤ length bytes.new }
+    ensures written { drop result bytes.new ≡ bars_text number lists.now bars.now }
+{
+    let end = write_columns(bars.column.as_slice(), bytes);
+    write_figure(number, b"bars", lists, bars, &mut bytes[..end])
 }
 
 /// Appends the text of a visibility drawing with this number, of lists and a bar for each of them. After want of
@@ -189,8 +164,9 @@ pub fn print_bars(
     ensures ok { OnOk result (out.new.items ≡ out.old.items ++ bars_text number lists.now bars.now) }
     ensures err { OnErr result (out.new.items ≡ out.old.items) }
 {
-    let text = bars_of(alloc, number, lists, bars)?;
-    out.extend_from_slice(&text)
+    let mut bytes = vec![in alloc; 0; bars_room(lists, &bars.column)?]?;
+    let start = write_bars(number, lists, bars, &mut bytes);
+    out.extend_from_slice(&bytes[start..])
 }
 
 /// Appends the text of a rectangular dual with this number, of lists and a rectangle for each of them. After want

@@ -3,6 +3,7 @@ mod EndRows
 mod SpanLemmas
 mod Drawn
 mod ListDrawn
+mod Connected
 mod DrawerLemmas
 mod Refused
 -- Lemmas on the figures of records by bars.

@@ -1,18 +1,18 @@
 -- The figure of ranks and rows over lists alone is drawn by the dual numbers, and so valid.
-use Rattle.std.proofs.Common.{◌≡◌, ℕ, ◌+◌, ◌/◌, ◌^◌, ◌<◌, ◌≤◌, List, [], length, get_or, eqb, ℤ, pos, Some, sym, ap, ◌∙◌, subst, inl, inr, arith}
+use Rattle.std.proofs.Common.{◌≡◌, ℕ, ◌+◌, ◌/◌, ◌^◌, ◌<◌, ◌≤◌, List, length, get_or, eqb, ℤ, pos, sym, ap, ◌∙◌, subst, inl, inr, arith}
 use Rattle.std.proofs.lemmas.Int.{ints}
 use Rattle.std.proofs.lemmas.Bool.{cases_eq, cases_lt, lt-ltb, le-ltb}
-use Rattle.std.proofs.lemmas.List.{length-map, get_or_past}
+use Rattle.std.proofs.lemmas.List.{length-map}
 use Rattle.std.proofs.lemmas.List.Elements.{Contains-get_or}
 use Rattle.classes.specs.Classes.{label, class_count}
 use Rattle.classes.proofs.Counting.{count_below-le}
 use Rattle.classes.proofs.Orbits.{orbits_of, length-orbits_of}
 use Rattle.classes.proofs.Bound.{after}
 use Rattle.map_lists.specs.Lists.{Lists}
-use Rattle.map_theory.specs.Maps.{IsSimpleMap, IsPlane, HasDart, list_of, place_of, dart_count, face_count, face_classes, component_count, edge_count, vertex_count}
+use Rattle.map_theory.specs.Maps.{IsSimpleMap, IsPlane, HasDart, list_of, place_of, dart_count, face_count, face_classes, component_count}
 use Rattle.map_theory.proofs.DartLemmas.{place_of-lt-length, place_of-get_or}
 use Rattle.map_theory.proofs.DartCounts.{few_darts-simple}
-use Rattle.map_theory.proofs.DartPermutations.{rotation, twin, two_m}
+use Rattle.map_theory.proofs.DartPermutations.{rotation, twin}
 use Rattle.plane_laws.proofs.EdgeBound.{none_isolated}
 use Rattle.pg_plane.specs.declared.figure.BarFigure.{BarFigure}
 use Rattle.bar_check.specs.Bars.{column_between}
@@ -25,7 +25,6 @@ use Rattle.bipolar.proofs.Bars.{column-numbered, dual_numbers_are_bars}
 use Rattle.bipolar.specs.Columns.{AreColumns, in_row}
 use Rattle.bipolar.specs.Numbered.{GiveDuals}
 use Rattle.visibility.specs.Ends.{IsLeastOf, IsGreatestOf, AreEnds}
-use Rattle.visibility.specs.Spans.{AreSpanned}
 use Rattle.visibility.specs.Figures.{IsBarFigure, IsStDrawing}
 
 -- numbers as whole numbers; `map` is a map here

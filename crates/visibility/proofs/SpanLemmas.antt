@@ -1,13 +1,13 @@
 -- The least and the greatest of the first entries of a row.
-use Rattle.std.proofs.Common.{◌≡◌, ◌⊎◌, ℕ, ◌+◌, ◌<◌, ◌≤◌, ◌^◌, List, length, get_or, cond, ltb, sym, ap, ◌∙◌, subst, inl, inr, refl, arith}
+use Rattle.std.proofs.Common.{◌≡◌, ◌⊎◌, ℕ, ◌+◌, ◌<◌, ◌≤◌, List, length, get_or, cond, ltb, sym, ap, ◌∙◌, inl, inr, refl, arith}
 use Rattle.std.proofs.lemmas.Bool.{cases_lt, cases_eq}
 use Rattle.std.proofs.lemmas.List.Elements.{Contains-get_or}
 use Rattle.map_lists.specs.Lists.{Lists}
-use Rattle.map_theory.specs.Maps.{HasDart, list_of, place_of, darts_before, dart_count, dart_number}
+use Rattle.map_theory.specs.Maps.{HasDart, list_of, darts_before, dart_count, dart_number}
 use Rattle.map_theory.proofs.DartLemmas.{place_of-get_or, dart_number-lt}
 use Rattle.graph_search.specs.Arcs.{arcs_of}
-use Rattle.bipolar.specs.FaceNumbers.{left_at, left_rows}
-use Rattle.bipolar.proofs.FaceAgree.{left_row-at, length-left_row}
+use Rattle.bipolar.specs.FaceNumbers.{left_rows}
+use Rattle.bipolar.proofs.FaceAgree.{left_row-at}
 use Rattle.visibility.specs.Ends.{IsLeastOf, IsGreatestOf}
 use Rattle.visibility.specs.Spans.{AreSides}
 

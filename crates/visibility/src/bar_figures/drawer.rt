@@ -13,7 +13,7 @@ use crate::ends::{coordinate, coordinates_of};
 use crate::spans::{SpanTables, spans_again};
 use bipolar::dual_orders::{FaceTables, number_faces};
 use conn_parts::plane_count;
-use euler_faces::{Counter, UNMET, number_components};
+use euler_faces::Counter;
 use graph_search::longest_paths::{PathTables, longest_paths_again};
 use graph_search::map_cuts::{is_uncut, list_cut_vertex};
 use graph_search::search_forests::{Forest, low_points_again, search_again};
@@ -25,11 +25,9 @@ use st_orders::{Ranges, places_again};
 use std::alloc::{AllocError, Global};
 use std::mem;
 
-// The tables of a search, with those by which components are counted.
+// The tables of a search.
 #[derive(Drop)]
 struct SearchTables {
-    numbers: Vec<u16>,
-    queue: Vec<u16>,
     forest: Forest,
     cursor: Vec<usize>,
     low: Vec<u16>,
@@ -56,8 +54,6 @@ impl Tables {
     fn new(alloc: Global) -> Tables {
         Tables {
             search: SearchTables {
-                numbers: Vec::new(alloc),
-                queue: Vec::new(alloc),
                 forest: Forest::new(alloc),
                 cursor: Vec::new(alloc),
                 low: Vec::new(alloc),
@@ -72,23 +68,12 @@ impl Tables {
     }
 }
 
-// Whether a map is connected, in the memory of other tables.
-fn is_connected(
-    lists: &Rotations,
-    numbers: Vec<u16>,
-    queue: Vec<u16>,
-) -> Result<(bool, Vec<u16>, Vec<u16>), AllocError>
-    requires simple { IsSimpleMap lists.now }
-    requires few { length lists.now < 4096 }
-    ensures { IfOk result (λ made. IsTrue made.0 → component_count lists.now ≡ 1) }
+// Whether a search saw all vertices before it was done with vertex 0.
+fn sees_all(forest: &Forest) -> bool
+    requires some { 0 < length forest.now.last.items }
+    ensures { IsTrue result → slice_index forest.now.last.items 0 ≡ length forest.now.last.items }
 {
-    let mut numbers = numbers;
-    let mut queue = queue;
-    numbers.clear();
-    numbers.resize(lists.len(), UNMET)?;
-    queue.resize(lists.len(), 0)?;
-    let count = number_components(lists.entries(), lists.ends(), &mut numbers, &mut queue);
-    Ok((count == 1, numbers, queue))
+    forest.last[0] as usize == forest.last.len()
 }
 
 // Whether a map is connected and has no cut vertex, by a search from vertex 0 that sees `t` next, in the memory of
@@ -103,13 +88,11 @@ fn searched(
     requires dart { HasDart lists.now 0 t }
     ensures { IfOk result (λ made. IsTrue made.0 → IsUncutSearch lists.now t made.1.forest.order.items made.1.forest.number.items made.1.forest.last.items made.1.forest.parent.items made.1.low.items) }
 {
-    let (connected, numbers, queue) = is_connected(lists, tables.numbers, tables.queue)?;
     let (forest, cursor) = search_again(tables.forest, tables.cursor, lists, 0, t)?;
     let low = low_points_again(tables.low, lists, &forest)?;
+    let connected = sees_all(&forest);
     let uncut = is_uncut(lists, &forest, &low);
     let tables = SearchTables {
-        numbers,
-        queue,
         forest,
         cursor,
         low,

@@ -1,6 +1,6 @@
-use Rattle.std.proofs.Common.{◌≡◌, ℕ, ◌+◌, ◌/◌, List, length, refl, sym, ap, ◌∙◌, subst, arith}
-use Rattle.std.specs.Prelude.{Some, Option, unwrap_or}
-use Rattle.map_theory.specs.Maps.{darts, dart_count}
+use Rattle.std.proofs.Common.{◌≡◌, ℕ, ◌+◌, ◌/◌, List, length, refl, ap, ◌∙◌, subst, arith}
+use Rattle.std.specs.Prelude.{Option, unwrap_or}
+use Rattle.map_theory.specs.Maps.{dart_count}
 use Rattle.map_theory.proofs.DartLemmas.{length-darts}
 use Rattle.pg_plane.specs.declared.figure.BarFigure.{BarFigure}
 use Rattle.visibility.specs.Figures.{IsBarFigure}

@@ -1,6 +1,5 @@
-use Rattle.std.proofs.Common.{◌≡◌, ℕ, List, length, ap, subst, arith}
+use Rattle.std.proofs.Common.{length, ap, subst, arith}
 use Rattle.map_lists.specs.Lists.{Lists}
-use Rattle.map_lists.specs.Cuts.{cut}
 use Rattle.map_lists.proofs.CutLemmas.{IsStored, IsStored-cuts, IsStored-cut, length-cut}
 use Rattle.bipolar.specs.FaceNumbers.{AreFaceNumbers, AreFaceArcs}
 use Rattle.visibility.proofs.bar_figures.drawer.faces_of.Goals as goal
