@@ -141,12 +141,13 @@ fn is_low(table: &[i32], i: usize, h: u16) -> bool
     i < table.len() && table[i] <= i32::from(h)
 }
 
-// The first column from `k` on and before `end` of which an edge reaches above `h`; or `end`.
-fn low_until(ones: &[i32], h: u16, k: usize, end: usize) -> usize
-    ensures { (x : ℕ) → k ≤ x → x < result → number_at ones.now x ≤ℤ pos h }
+// The first place from `k` on and before `end` where a number of a table is above `h`; or `end`.
+fn low_until(table: &[i32], h: u16, k: usize, end: usize) -> usize
+    ensures low { (x : ℕ) → k ≤ x → x < result → number_at table.now x ≤ℤ pos h }
+    ensures few { (most : ℕ) → k ≤ most → end ≤ most → result ≤ most }
 {
     let mut at = k;
-    while at < end && is_low(ones, at, h) {
+    while at < end && is_low(table, at, h) {
         at += 1;
     }
     at
@@ -160,9 +161,9 @@ fn passed_to(ones: &[i32], blocks: &[i32], halls: &[i32], h: u16, k: usize, righ
     ensures { (x : ℕ) → k ≤ x → x < result → IsPassed h x ones.now blocks.now halls.now }
 {
     if k % 256 == 0 && is_low(halls, k / 256, h) {
-        (k / 256 + 1) * 256
+        low_until(halls, h, k / 256, right / 256 + 1) * 256
     } else if k % 16 == 0 && is_low(blocks, k / 16, h) {
-        (k / 16 + 1) * 16
+        low_until(blocks, h, k / 16, ((k / 256 + 1) * 16).min(right / 16 + 1)) * 16
     } else {
         low_until(ones, h, k, ((k / 16 + 1) * 16).min(right + 1))
     }
