@@ -10,5 +10,6 @@ mod OrderLemmas
 pub mod PassLemmas
 mod TableLemmas
 mod ClearLemmas
+mod ReachLemmas
 mod HeightLemmas
 mod Refused

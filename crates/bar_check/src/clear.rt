@@ -16,7 +16,7 @@ use pg_plane::BarFigure;
 use vertex_rounds::later_dart;
 
 // Writes the vertices in the order of their heights, as far as these are numbers of vertices.
-fn fill_order(fig: &BarFigure, order: &mut [u16])
+pub(crate) fn fill_order(fig: &BarFigure, order: &mut [u16])
     requires { length order.old < 4096 }
     ensures { length order.new ≡ length order.old }
 {
@@ -162,7 +162,7 @@ fn fill_between(tops: &mut [u16], left: usize, right: usize, top: u16)
 }
 
 // A number that is not below 0.
-fn natural(z: i32) -> usize
+pub(crate) fn natural(z: i32) -> usize
     requires { pos 0 ≤ℤ z }
     ensures value { pos result ≡ z }
     ensures few { result < 4294967296 }
@@ -185,7 +185,7 @@ fn put_bar(map: &HalfMap, fig: &BarFigure, tops: &mut [u16], h: u16, v: VertexId
 }
 
 // Whether `v` is the vertex at height `h`.
-fn stands_at(fig: &BarFigure, n: u16, h: u16, v: VertexId) -> bool
+pub(crate) fn stands_at(fig: &BarFigure, n: u16, h: u16, v: VertexId) -> bool
     ensures { OnTrue result (StandsAt n fig.now h v.0) }
 {
     v.0 < n && number(&fig.y, v.0 as usize) == i32::from(h)

@@ -10,6 +10,7 @@ mod clear;
 mod columns;
 mod edges;
 mod heights;
+mod reach;
 mod table;
 mod turns;
 mod verdict;

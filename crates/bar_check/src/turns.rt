@@ -30,10 +30,10 @@ fn is_earlier(fig: &BarFigure, v: VertexId, u: VertexId, w: VertexId, x: i32, z:
     ensures { (lists : Lists) → x ≡ the_column lists fig.now v.0 u.0 → z ≡ the_column lists fig.now v.0 w.0
         → IsTrue result ↔ IsEarlier lists fig.now v.0 u.0 w.0 }
 {
-    if is_above(fig, v, u) {
-        !is_above(fig, v, w) || x < z
+    if x < z {
+        is_above(fig, v, u)
     } else {
-        !is_above(fig, v, w) && z < x
+        !is_above(fig, v, w) && (z < x || is_above(fig, v, u))
     }
 }
 

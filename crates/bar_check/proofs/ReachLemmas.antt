@@ -1,0 +1,158 @@
+-- The quick sweep over the bars from below.
+use Rattle.std.proofs.Common.{◌≡◌, ◌⊎◌, ℕ, ◌+◌, ◌-◌, ◌*◌, ◌/◌, ◌<◌, ◌≤◌, cond, List, length, get_or, ℤ, pos, ◌≤ℤ◌, ◌<ℤ◌, sym, ap, ◌∙◌, subst, inl, inr, ⊎_elim, arith}
+use Rattle.std.proofs.lemmas.Bool.{cases_lt, cases_order, lt-ltb, le-ltb}
+use Rattle.std.proofs.lemmas.Int.{ints}
+use Rattle.std.proofs.lemmas.Nat.{div-mul-add}
+use Rattle.std.proofs.Math.Nat.{mul-div-le}
+use Rattle.map_lists.specs.Lists.{Lists}
+use Rattle.map_theory.specs.Maps.{HasDart, IsSimpleMap, list_of, place_of}
+use Rattle.map_theory.proofs.DartLemmas.{place_of-lt-length, get_or-place_of}
+use Rattle.pg_plane.specs.declared.figure.BarFigure.{BarFigure}
+use Rattle.bar_check.specs.Bars.{number_at, column_of, column_between, Holds}
+use Rattle.bar_check.specs.Verdicts.{HasHeights, NoneThrough}
+use Rattle.bar_check.specs.Tables.{DoGoRight, StandsAt}
+use Rattle.bar_check.specs.Reach.{IsRaised, IsReached, IsPassed, IsUp, IsBegun, HasReach, IsSwept}
+use Rattle.bar_check.proofs.HeightLemmas.{natural_is}
+
+-- the columns of one block
+pub same_block : (w k x : ℕ) → 0 < w → k ≤ x → x < (k / w + 1) * w → x / w ≡ k / w
+same_block w k x some from to =
+    let most = mul-div-le k w in
+    let q : ℕ = k / w in
+    let m : q * w ≤ k = omega (arith, most) in
+    let t : x < q * w + w = omega (arith, to) in
+    let is : x ≡ q * w + (x - q * w) = omega (arith, m, from) in
+    let l : x - q * w < w = omega (arith, m, from, t) in
+    ap (λ z. z / w) is ∙ div-mul-add q w (x - q * w) l
+
+-- what is passed is not reached by more
+pub low_from_passed : (y : ℤ) (h k : ℕ) (ones blocks halls : List ℤ) → IsReached y k ones blocks halls → IsPassed h k ones blocks halls → y ≤ℤ pos h
+low_from_passed y h k ones blocks halls is passed =
+    let a = is.one in
+    let b = is.block in
+    let c = is.hall in
+    ⊎_elim (λ p. omega (arith, ints, a, p)) (λ o. ⊎_elim (λ p. omega (arith, ints, b, p)) (λ p. omega (arith, ints, c, p)) o) passed
+
+module _ (lists : Lists) (fig : BarFigure) where
+  between-up : (a b : ℕ) → a < b → column_between lists fig a b ≡ column_of lists fig a b
+  between-up a b l = ap (λ t. cond t (column_of lists fig a b) (column_of lists fig b a)) (lt-ltb a b l)
+
+  between-down : (a b : ℕ) → a < b → column_between lists fig b a ≡ column_of lists fig a b
+  between-down a b l = ap (λ t. cond t (column_of lists fig b a) (column_of lists fig a b)) (le-ltb b a (omega (arith, l)))
+
+  module _ (h v : ℕ) where
+    -- what is among the first entries and the next one
+    next-is : (u b : ℕ) → HasDart lists v u → HasDart lists v b → place_of b (list_of lists v) < place_of u (list_of lists v) + 1 → (place_of b (list_of lists v) < place_of u (list_of lists v)) ⊎ (b ≡ u)
+    next-is u b du db l = elim (cases_lt (place_of b (list_of lists v)) (place_of u (list_of lists v))) [
+      | inl less ↦ inl less
+      | inr most ↦
+          let same : place_of b (list_of lists v) ≡ place_of u (list_of lists v) = omega (arith, l, most) in
+          inr (sym (get_or-place_of b (list_of lists v) 0 (place_of-lt-length b (list_of lists v) db.1)) ∙ (ap (λ i. get_or (list_of lists v) i 0) same ∙ get_or-place_of u (list_of lists v) 0 (place_of-lt-length u (list_of lists v) du.1)))
+    ]
+
+    earlier : (u a b : ℕ) → HasDart lists v u → IsBegun lists fig h v (place_of u (list_of lists v) + 1) a b → IsBegun lists fig h v (place_of u (list_of lists v)) a b ⊎ ((a ≡ v) × (b ≡ u) × (pos h ≤ℤ number_at fig.y b))
+    earlier u a b dart begun = ⊎_elim (λ p. inl (inl p))
+        (λ n. ⊎_elim (λ less. inl (inr (record { tail = n.tail; dart = n.dart; place = less; above = n.above }))) (λ same. inr (n.tail, same, n.above)) (next-is u b dart n.dart n.place)) begun
+
+    -- an edge that leads down begins nothing
+    pub HasReach-past : (u : ℕ) (ones blocks halls : List ℤ) → HasDart lists v u → number_at fig.y u <ℤ pos h → HasReach lists fig (IsBegun lists fig h v (place_of u (list_of lists v))) ones blocks halls
+        → HasReach lists fig (IsBegun lists fig h v (place_of u (list_of lists v) + 1)) ones blocks halls
+    HasReach-past u ones blocks halls dart below reach = record {
+      each = λ a b k p. ⊎_elim (λ old. reach.each a b k old)
+          (λ n. let above : pos h ≤ℤ number_at fig.y u = subst (λ (z : ℕ). pos h ≤ℤ number_at fig.y z) n.1 n.2 in absurd (omega (arith, ints, below, above))) (earlier u a b dart p);
+    }
+
+    -- one that leads up is noted
+    pub HasReach-more : (u : ℕ) (x : ℤ) (ones ones' blocks blocks' halls halls' : List ℤ) → HasDart lists v u → x ≡ column_between lists fig v u → pos 0 ≤ℤ x → ((k : ℕ) → x ≡ pos k → IsRaised k (number_at fig.y u) ones ones') → ((k : ℕ) → x ≡ pos k → IsRaised (k / 16) (number_at fig.y u) blocks blocks') → ((k : ℕ) → x ≡ pos k → IsRaised (k / 256) (number_at fig.y u) halls halls')
+        → HasReach lists fig (IsBegun lists fig h v (place_of u (list_of lists v))) ones blocks halls → HasReach lists fig (IsBegun lists fig h v (place_of u (list_of lists v) + 1)) ones' blocks' halls'
+    HasReach-more u x ones ones' blocks blocks' halls halls' dart is low one block hall reach = record {
+      each = λ a b k p c. ⊎_elim
+          (λ q.
+          let was = reach.each a b k q c in
+          record { one = more (was.one) ((one j.0 j.1).each k); block = more (was.block) ((block j.0 j.1).each (k / 16)); hall = more (was.hall) ((hall j.0 j.1).each (k / 256)) })
+          (λ n.
+          let e : x ≡ pos k = is ∙ (sym (ap (λ s. column_between lists fig s b) n.0 ∙ ap (λ t. column_between lists fig v t) n.1) ∙ c) in
+          subst (λ (z : ℕ). IsReached (number_at fig.y z) k ones' blocks' halls') (sym n.1) (record { one = (one k e).here; block = (block k e).here; hall = (hall k e).here })) (earlier u a b dart p);
+    }
+      where
+        j : (k : ℕ) × (x ≡ pos k)
+        j = natural_is x low
+
+        more : {p q r : ℤ} → p ≤ℤ q → q ≤ℤ r → p ≤ℤ r
+        more {p} {q} {r} l m = omega (arith, ints, l, m)
+
+  module _ (heights : HasHeights lists fig) (h v : ℕ) (at : StandsAt (length lists) fig h v) where
+    same_height : (u w : ℕ) → u < w → w < length lists → number_at fig.y u ≡ number_at fig.y w → ⊥
+    same_height u w l lw e = (heights w lw).new u l e
+
+    is_v : (w : ℕ) → w < length lists → number_at fig.y w ≡ pos h → w ≡ v
+    is_v w lw y = elim (cases_order w v) [
+      | inl s ↦ s
+      | inr o ↦ elim o [ inl less ↦ absurd (same_height w v less at.0 (y ∙ sym at.1)) | inr more ↦ absurd (same_height v w more lw (at.1 ∙ sym y)) ]
+    ]
+
+    -- below height h, or at v
+    below_or_at : (w : ℕ) → w < length lists → number_at fig.y w <ℤ pos (h + 1) → (number_at fig.y w <ℤ pos h) ⊎ (w ≡ v)
+    below_or_at w lw below =
+        let k = natural_is (number_at fig.y w) (heights w lw).low in
+        elim (cases_lt k.0 h) [
+          | inl less ↦ inl (let e = k.1 in omega (arith, ints, e, less))
+          | inr most ↦ inr (is_v w lw (let e = k.1 in omega (arith, ints, e, most, below)))
+        ]
+
+    -- which edges lead up from v and below
+    begun-from : (a b : ℕ) → IsUp lists fig (h + 1) a b → IsBegun lists fig h v (length (list_of lists v)) a b
+    begun-from a b is = ⊎_elim (λ less. inl (record { dart = is.dart; below = less; up = is.up }))
+        (λ same.
+        let dart : HasDart lists v b = subst (λ (z : ℕ). HasDart lists z b) same is.dart in
+        let up : number_at fig.y v <ℤ number_at fig.y b = subst (λ (z : ℕ). number_at fig.y z <ℤ number_at fig.y b) same is.up in
+        let y = at.1 in
+        inr (record { tail = same; dart = dart; place = place_of-lt-length b (list_of lists v) dart.1; above = omega (arith, ints, up, y) }))
+        (below_or_at a is.dart.0 is.below)
+
+    -- what was known when the bar of v was met is known before its edges
+    pub HasReach-first : (ones blocks halls : List ℤ) → HasReach lists fig (IsUp lists fig h) ones blocks halls → HasReach lists fig (IsBegun lists fig h v 0) ones blocks halls
+    HasReach-first ones blocks halls reach = record {
+      each = λ a b k p. ⊎_elim (λ q. reach.each a b k q) (λ n. (let l = n.place in absurd (omega (arith, l)))) p;
+    }
+
+    -- the bar of v was met
+    pub IsSwept-more : (ones ones' blocks blocks' halls halls' : List ℤ) → DoGoRight (length lists) fig → IsSwept lists fig h ones blocks halls → ((k : ℕ) → Holds fig v (pos k) → IsPassed h k ones blocks halls) → HasReach lists fig (IsBegun lists fig h v (length (list_of lists v))) ones' blocks' halls'
+        → IsSwept lists fig (h + 1) ones' blocks' halls'
+    IsSwept-more ones ones' blocks blocks' halls halls' go swept passed reach = record {
+      reach = record { each = λ a b k p. reach.each a b k (begun-from a b p) };
+      clear = λ a b w dart lw below from to. ⊎_elim (λ less. swept.clear a b w dart lw less from to)
+          (λ same holds.
+          let here : Holds fig v (column_between lists fig a b) = subst (λ (z : ℕ). Holds fig z (column_between lists fig a b)) same holds in
+          let from' : number_at fig.y a <ℤ number_at fig.y v = subst (λ (z : ℕ). number_at fig.y a <ℤ number_at fig.y z) same from in
+          let to' : number_at fig.y v <ℤ number_at fig.y b = subst (λ (z : ℕ). number_at fig.y z <ℤ number_at fig.y b) same to in
+          let y = at.1 in
+          let left = (go v at.0).0 in
+          let low = here.from in
+          let k = natural_is (column_between lists fig a b) (omega (arith, ints, left, low)) in
+          let is = swept.reach.each a b k.0 (record { dart = dart; below = omega (arith, ints, from', y); up = omega (arith, ints, from', to') }) k.1 in
+          let most = low_from_passed (number_at fig.y b) h k.0 ones blocks halls is (passed k.0 (subst (Holds fig v) k.1 here)) in
+          omega (arith, ints, most, to', y)) (below_or_at w lw below);
+    }
+
+  module _ (simple : IsSimpleMap lists) (heights : HasHeights lists fig) where
+    -- before all bars
+    pub IsSwept-none : (ones blocks halls : List ℤ) → IsSwept lists fig 0 ones blocks halls
+    IsSwept-none ones blocks halls = record {
+      reach = record { each = λ a b k p. absurd (low a p.dart.0 p.below) };
+      clear = λ a b w dart lw below. absurd (low w lw below);
+    }
+      where
+        low : (w : ℕ) → w < length lists → number_at fig.y w <ℤ pos 0 → ⊥
+        low w lw below = let l = (heights w lw).low in omega (arith, ints, l, below)
+
+    -- behind them
+    pub NoneThrough-from : (ones blocks halls : List ℤ) → IsSwept lists fig (length lists) ones blocks halls → NoneThrough lists fig
+    NoneThrough-from ones blocks halls swept = λ a b w through.
+        let l = through.edge.0 in
+        let dart = through.edge.1 in
+        let high = (heights w through.vertex).high in
+        let holds = through.struck.holds in
+        ⊎_elim
+        (λ p. swept.clear a b w dart through.vertex high p.0 p.1 (subst (Holds fig w) (sym (between-up a b l)) holds))
+        (λ p. swept.clear b a w (simple.both_ways a b dart) through.vertex high p.0 p.1 (subst (Holds fig w) (sym (between-down a b l)) holds)) through.struck.between
