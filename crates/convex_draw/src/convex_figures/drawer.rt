@@ -141,6 +141,7 @@ fn run_again(
 
 // Whether lists have as many entries as those of a triangulation with four vertices or more.
 fn is_full(lists: &Rotations) -> bool
+    requires few { length lists.now < 4096 }
     ensures some { IsTrue result → 4 ≤ length lists.now }
     ensures full { IsTrue result → sum_by length lists.now + 12 ≡ 6 * length lists.now }
 {
@@ -149,6 +150,7 @@ fn is_full(lists: &Rotations) -> bool
 
 // Whether lists are connected, and have as many faces as a triangulation.
 fn has_all(connected: bool, faces: u32, lists: &Rotations) -> bool
+    requires few { length lists.now < 4096 }
     ensures connected { IsTrue result → IsTrue connected }
     ensures faces { IsTrue result → faces + 4 ≡ 2 * length lists.now }
 {

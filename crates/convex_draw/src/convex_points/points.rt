@@ -126,7 +126,14 @@ pub fn count_points(
     ensures { IfOk result (λ points. (steps : ℕ → Step) (at : ℕ → ℕ) → IsListedRun steps at rows.now d.0 s.0 count faces
         → ArePointsOf (face_counts (well_turned steps) (length rows.now.rows)) at count points) }
 {
-    let (points, _spots) =
-        count_points_again(alloc, SpotTable::new(alloc), rows, d, s, count, faces)?;
+    let (points, _spots) = count_points_again(
+        alloc,
+        SpotTable::new(alloc),
+        rows,
+        d,
+        s,
+        count,
+        faces,
+    )?;
     Ok(points)
 }

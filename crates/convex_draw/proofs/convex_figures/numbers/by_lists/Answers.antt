@@ -11,8 +11,8 @@ from_parts-requires c =
     let lists = c.args.lists.now in
     subst (λ (z : List ℕ). AreCuts 0 z (length c.args.of.items)) (sym c.requires.own_ends) (row_cuts lists c.args.of.items c.requires.faces.size)
 
-pub from_parts-2-requires : goal.from_parts-2-requires
-from_parts-2-requires c =
+pub from_parts-requires-2 : goal.from_parts-requires-2
+from_parts-requires-2 c =
     let lists = c.args.lists.now in
     let w = c.requires.twins in
     let long : length c.args.other.items ≡ dart_count lists = ap (λ (xs : List ℕ). length xs) w.2 ∙ long_at_twins lists c.requires.simple c.args.of.items c.args.count c.requires.faces w.0 w.1 in
