@@ -18,3 +18,6 @@ mod PointLemmas
 mod Refused
 -- Lemmas on the figures of records.
 pub mod FirstDart
+mod Triangulated
+mod FlatNumbers
+mod ByLists

@@ -2,5 +2,8 @@
 //! the first condition of the job that the record breaks.
 
 mod draw;
+mod drawer;
+mod numbers;
 
 pub use draw::convex_figure;
+pub use drawer::ConvexDrawer;

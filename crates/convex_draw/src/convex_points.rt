@@ -4,4 +4,4 @@ mod down;
 mod points;
 mod spots;
 
-pub use points::count_points;
+pub use points::{SpotTable, count_points, count_points_again};

@@ -34,7 +34,7 @@ fn coordinate(number: u32) -> i32
 }
 
 // Points in a square grid.
-fn in_square(points: Points, side: u32) -> GridFigure
+pub(crate) fn in_square(points: Points, side: u32) -> GridFigure
     requires { side < 1048576 }
     ensures points { result.points ≡ points }
     ensures width { result.width ≡ pos side }

@@ -7,6 +7,7 @@ pub mod Sums
 pub mod Moves
 pub mod CountLemmas
 -- What the orders rest on.
+mod Filled
 pub mod Flags
 pub mod Rows
 pub mod Once

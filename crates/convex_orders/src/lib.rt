@@ -13,4 +13,5 @@ mod placed;
 mod rims;
 mod rounds;
 
-pub use orders::rows_by_faces;
+pub use orders::{RowTables, rows_again, rows_by_faces, tables_of};
+pub use rounds::Tables;

@@ -19,13 +19,17 @@ use convex_laws::convex_rows::ConvexRows;
 use map_lists::{ItemLists, Rotations};
 use std::alloc::AllocError;
 
-/// The tables that removals read: the lists of a map, the numbers of its faces, and the base, by its two ends.
+/// The tables that removals read.
 #[derive(Drop)]
-pub(crate) struct Tables {
-    pub(crate) lists: Rotations,
-    pub(crate) faces: FaceNumbers,
-    pub(crate) tail: u16,
-    pub(crate) head: u16,
+pub struct Tables {
+    /// The lists of a map.
+    pub lists: Rotations,
+    /// The numbers of its faces.
+    pub faces: FaceNumbers,
+    /// The vertex that the base leaves.
+    pub tail: u16,
+    /// The vertex that the base leads to.
+    pub head: u16,
 }
 
 // Takes out what stands strictly between two places, goes along what comes there, and appends the row.

@@ -10,6 +10,7 @@ ghost use Rattle.half_edges.specs.Map.{IsLive, dart_at};
 ghost use Rattle.map_theory.specs.Maps.{IsPlane, Dart};
 ghost use Rattle.refusals.specs.Conditions.{IfRefused};
 
+use convex_draw::convex_figures::ConvexDrawer;
 use convex_faces::{Axis, ConvexWood};
 use half_edges::HalfMap;
 use map_lists::{DartId, Rotations, VertexId};
@@ -100,4 +101,19 @@ pub fn convex_figure(alloc: Global, lists: &Rotations) -> Result<GridFigure, Uns
     ensures refused { IfErr result (IfRefused (BreaksConvex lists.now)) }
 {
     convex_draw::convex_figures::convex_figure(alloc, lists)
+}
+
+/// Draws the map of `lists` by a `drawer` that may have drawn others, or names the first condition that it breaks.
+pub fn next_convex_figure(
+    drawer: &mut ConvexDrawer,
+    lists: &Rotations,
+) -> Result<GridFigure, Unserved>
+    requires some_list { 0 < length lists.now }
+    requires few_lists { length lists.now < 4096 }
+    ensures figure { IfOk result (IsConvexFigure lists.now) }
+    ensures plane { OnOk result (IsPlane lists.now) }
+    ensures served { OnOk result (IsThreeConnected lists.now) }
+    ensures refused { IfErr result (IfRefused (BreaksConvex lists.now)) }
+{
+    drawer.figure(lists)
 }

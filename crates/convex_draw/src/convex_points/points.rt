@@ -55,6 +55,57 @@ fn run_points(
     points_of(alloc, spots)
 }
 
+/// What is kept of vertices while their points are found. What it holds from run to run is memory alone.
+#[derive(Drop)]
+pub struct SpotTable {
+    spots: Vec<Spot>,
+}
+
+impl SpotTable {
+    /// A table of no run. It takes no memory.
+    pub fn new(alloc: Global) -> SpotTable {
+        SpotTable {
+            spots: Vec::new(alloc),
+        }
+    }
+}
+
+// Room for so many vertices, in the memory of others.
+fn room_for(spent: Vec<Spot>, count: usize) -> Result<Vec<Spot>, AllocError>
+    ensures { IfOk result (λ made. length made.items ≡ count) }
+{
+    let mut made = spent;
+    made.resize(
+        count,
+        Spot {
+            one: 0,
+            two: 0,
+            over: 0,
+        },
+    )?;
+    Ok(made)
+}
+
+/// The points that [`count_points`] gives, with a table that may have served other runs, and comes back.
+pub fn count_points_again(
+    alloc: Global,
+    spent: SpotTable,
+    rows: &ConvexRows,
+    d: VertexId,
+    s: VertexId,
+    count: u16,
+    faces: u32,
+) -> Result<(Points, SpotTable), AllocError>
+    requires few { faces < 1048576 }
+    requires run { (steps : ℕ → Step) × (at : ℕ → ℕ) × IsListedRun steps at rows.now d.0 s.0 count faces }
+    ensures { IfOk result (λ made. (steps : ℕ → Step) (at : ℕ → ℕ) → IsListedRun steps at rows.now d.0 s.0 count faces
+        → ArePointsOf (face_counts (well_turned steps) (length rows.now.rows)) at count made.0) }
+{
+    let mut spots = room_for(spent.spots, count as usize)?;
+    let points = run_points(alloc, &mut spots, rows, d.0, s.0, faces)?;
+    Ok((points, SpotTable { spots }))
+}
+
 /// The points of `count` vertices by counts of faces over a run from the base d, s, which makes so many faces. The
 /// turns of its faces are read off the counts.
 ///
@@ -75,10 +126,14 @@ pub fn count_points(
     ensures { IfOk result (λ points. (steps : ℕ → Step) (at : ℕ → ℕ) → IsListedRun steps at rows.now d.0 s.0 count faces
         → ArePointsOf (face_counts (well_turned steps) (length rows.now.rows)) at count points) }
 {
-    let mut spots = vec![in alloc; Spot {
-        one: 0,
-        two: 0,
-        over: 0
-    }; count as usize]?;
-    run_points(alloc, &mut spots, rows, d.0, s.0, faces)
+    let (points, _spots) = count_points_again(
+        alloc,
+        SpotTable::new(alloc),
+        rows,
+        d,
+        s,
+        count,
+        faces,
+    )?;
+    Ok(points)
 }

@@ -1,7 +1,7 @@
 //! The job `convex`.
 use crate::form::print_grid_in;
 use crate::method::Method;
-use convex_draw::convex_figures::convex_figure;
+use convex_draw::convex_figures::ConvexDrawer;
 use figure_text::GridJob;
 use half_edges::Rotations;
 use pg_plane::GridFigure;
@@ -11,7 +11,9 @@ use std::alloc::{AllocError, Global};
 
 /// Draws with convex faces.
 #[derive(Drop)]
-pub struct Convex;
+pub struct Convex {
+    drawer: ConvexDrawer,
+}
 
 impl Method for Convex {
     ghost use Rattle.convex_draw.specs.Figures.{IsConvexFigure};
@@ -24,12 +26,14 @@ impl Method for Convex {
 
     ghost IsFigure = { IsConvexFigure };
 
-    fn new(_alloc: Global) -> Convex {
-        Convex
+    fn new(alloc: Global) -> Convex {
+        Convex {
+            drawer: ConvexDrawer::new(alloc),
+        }
     }
 
-    fn figure(&mut self, alloc: Global, lists: &Rotations) -> Result<GridFigure, Unserved> {
-        let figure = convex_figure(alloc, lists)?;
+    fn figure(&mut self, _alloc: Global, lists: &Rotations) -> Result<GridFigure, Unserved> {
+        let figure = self.drawer.figure(lists)?;
         Ok(figure)
     }
 

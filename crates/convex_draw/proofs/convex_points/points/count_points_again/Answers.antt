@@ -1,20 +1,20 @@
-use Rattle.std.proofs.Common.{◌≡◌, ℕ, length, IfOk, subst, arith}
+use Rattle.std.proofs.Common.{◌≡◌, ℕ, length, subst, arith}
 use Rattle.contour_runs.specs.FaceRuns.{Step}
 use Rattle.convex_counts.specs.Counts.{face_counts}
 use Rattle.convex_counts.specs.Turns.{well_turned}
 use Rattle.convex_draw.specs.Points.{IsListedRun, ArePointsOf}
-use Rattle.convex_draw.proofs.convex_points.points.count_points.Goals as goal
+use Rattle.convex_draw.proofs.convex_points.points.count_points_again.Goals as goal
 
 pub run_points-requires-clause-run : goal.run_points-requires-clause-run
 run_points-requires-clause-run c =
     let w = c.requires.run in
-    let n = c.in_ok-spots.ensures.len in
+    let n = c.in_ok-spots.ensures in
     let n' = c.deref_mut.ensures.len in
     (w.0, w.1, subst (λ m. IsListedRun w.0 w.1 c.args.rows.now c.args.d.0 c.args.s.0 m c.args.faces) (omega arith) w.2)
 
 pub returns : goal.returns
 returns c =
-    let n = c.in_ok-spots.ensures.len in
+    let n = c.in_ok-spots.ensures in
     let n' = c.deref_mut.ensures.len in
     let e : length c.deref_mut.result.now ≡ c.args.count = omega arith in
-    subst (λ m. IfOk c.run_points.result (λ points. (steps : ℕ → Step) (at : ℕ → ℕ) → IsListedRun steps at c.args.rows.now c.args.d.0 c.args.s.0 m c.args.faces → ArePointsOf (face_counts (well_turned steps) (length c.args.rows.now.rows)) at m points)) e c.run_points.ensures
+    subst (λ m. (steps : ℕ → Step) (at : ℕ → ℕ) → IsListedRun steps at c.args.rows.now c.args.d.0 c.args.s.0 m c.args.faces → ArePointsOf (face_counts (well_turned steps) (length c.args.rows.now.rows)) at m c.in_ok-points.points) e c.in_ok-points.ensures

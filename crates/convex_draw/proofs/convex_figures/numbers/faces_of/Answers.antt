@@ -1,0 +1,26 @@
+use Rattle.std.proofs.Common.{length, ap, subst, arith}
+use Rattle.map_lists.specs.Lists.{Lists}
+use Rattle.map_lists.proofs.CutLemmas.{IsStored, IsStored-cuts, IsStored-cut, length-cut}
+use Rattle.bipolar.specs.FaceNumbers.{AreFaceNumbers}
+use Rattle.convex_draw.proofs.convex_figures.numbers.faces_of.Goals as goal
+
+pub number_faces-requires-clause-darts : goal.number_faces-requires-clause-darts
+number_faces-requires-clause-darts c =
+    let stored : IsStored c.args.lists.now c.entries.result.now c.ends.result.now = record { entries_are = c.entries.ensures; ends_are = c.ends.ensures } in
+    let whole = IsStored-cut c.args.lists.now c.entries.result.now c.ends.result.now stored in
+    record {
+      cuts = IsStored-cuts _ _ _ stored;
+      few = omega (arith, ap length whole, length-cut 0 c.ends.result.now c.entries.result.now, c.requires.few);
+      simple = rw whole c.requires.simple;
+      are_twins = rw whole c.requires.twins;
+    }
+
+pub number_faces-requires-clause-ranks : goal.number_faces-requires-clause-ranks
+number_faces-requires-clause-ranks c =
+    let stored : IsStored c.args.lists.now c.entries.result.now c.ends.result.now = record { entries_are = c.entries.ensures; ends_are = c.ends.ensures } in
+    omega (arith, ap length (IsStored-cut _ _ _ stored), length-cut 0 c.ends.result.now c.entries.result.now, c.requires.ranks)
+
+pub returns-clause-numbers : goal.returns-clause-numbers
+returns-clause-numbers c =
+    let stored : IsStored c.args.lists.now c.entries.result.now c.ends.result.now = record { entries_are = c.entries.ensures; ends_are = c.ends.ensures } in
+    subst (λ (ls : Lists). AreFaceNumbers ls c.in_ok-faces.faces.of.items (length c.in_ok-faces.faces.arcs)) (IsStored-cut _ _ _ stored) c.in_ok-faces.ensures.numbers
