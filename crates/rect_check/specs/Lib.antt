@@ -5,3 +5,4 @@ pub mod Verdicts
 pub mod Laws
 pub mod Loops
 pub mod Meets
+pub mod Axes

@@ -22,31 +22,44 @@ pub record DoFit (lists : Lists) (marks : List Bool) (fig : RectFigure) (u v : �
   pub apart : ¬ DoMeet fig u v
   pub joined : ShareSide fig u v → AreJoined lists marks u v
 
--- Along one of the two axes the rectangle of v goes from number v of one list to that of a second one, and across it over the rows from number v of a third to that of a fourth.
+-- The rectangles along one of the two axes: that of v goes from its begin to its end, over the rows from its low to its high.
+pub record Sides : Type 0 where
+  pub begin : List ℤ
+  pub end : List ℤ
+  pub low : List ℤ
+  pub high : List ℤ
+
+-- along the level axis
+abbrev pub across : RectFigure → Sides
+across fig = record { begin = fig.x1; end = fig.x2; low = fig.y1; high = fig.y2 }
+
+-- along the upright one
+abbrev pub upwards : RectFigure → Sides
+upwards fig = record { begin = fig.y1; end = fig.y2; low = fig.x1; high = fig.x2 }
 
 -- row y is one of those of v
 abbrev pub HasRow : (low high : List ℤ) → ℕ → ℕ → Type 0
 HasRow low high v y = (number_at low v ≤ℤ pos y) × (pos y <ℤ number_at high v)
 
 -- v begins at the end of u or behind it, and where it begins there they are adjacent or marked
-pub record DoesFollow (lists : Lists) (marks : List Bool) (begin end : List ℤ) (u v : ℕ) : Type 0 where
-  pub behind : number_at end u ≤ℤ number_at begin v
-  pub joined : number_at end u ≡ number_at begin v → AreJoined lists marks u v
+pub record DoesFollow (lists : Lists) (marks : List Bool) (axis : Sides) (u v : ℕ) : Type 0 where
+  pub behind : number_at axis.end u ≤ℤ number_at axis.begin v
+  pub joined : number_at axis.end u ≡ number_at axis.begin v → AreJoined lists marks u v
 
 -- v follows u if they have a row in common
-abbrev pub FollowsInRows : Lists → List Bool → (begin end low high : List ℤ) → ℕ → ℕ → Type 0
-FollowsInRows lists marks begin end low high u v =
-    (y : ℕ) → HasRow low high u y → HasRow low high v y → DoesFollow lists marks begin end u v
+abbrev pub FollowsInRows : Lists → List Bool → Sides → ℕ → ℕ → Type 0
+FollowsInRows lists marks axis u v =
+    (y : ℕ) → HasRow axis.low axis.high u y → HasRow axis.low axis.high v y → DoesFollow lists marks axis u v
 
 -- of each two one follows the other if they have a row in common
-abbrev pub AreRanked : Lists → List Bool → (begin end low high : List ℤ) → Type 0
-AreRanked lists marks begin end low high =
-    (u v : ℕ) → u ≢ v → u < length lists → v < length lists → (FollowsInRows lists marks begin end low high u v) ⊎ (FollowsInRows lists marks begin end low high v u)
+abbrev pub AreRanked : Lists → List Bool → Sides → Type 0
+AreRanked lists marks axis =
+    (u v : ℕ) → u ≢ v → u < length lists → v < length lists → (FollowsInRows lists marks axis u v) ⊎ (FollowsInRows lists marks axis v u)
 
 -- of the first i vertices of an order, each follows those before it
-abbrev pub DoFollow : Lists → List Bool → (begin end low high : List ℤ) → List ℕ → ℕ → Type 0
-DoFollow lists marks begin end low high order i =
-    (j k : ℕ) → j < k → k < i → FollowsInRows lists marks begin end low high (slice_index order j) (slice_index order k)
+abbrev pub DoFollow : Lists → List Bool → Sides → List ℕ → ℕ → Type 0
+DoFollow lists marks axis order i =
+    (j k : ℕ) → j < k → k < i → FollowsInRows lists marks axis (slice_index order j) (slice_index order k)
 
 -- an order of numbers below n has each of them
 pub record HasEachVertex (n : ℕ) (order : List ℕ) : Type 0 where
@@ -54,9 +67,9 @@ pub record HasEachVertex (n : ℕ) (order : List ℕ) : Type 0 where
   pub each : (v : ℕ) → v < n → (i : ℕ) × (i < length order) × (slice_index order i ≡ v)
 
 -- in its row each of the first i vertices of an order is the one that the row's entry is one more than, or ends before that begins
-abbrev pub HaveLast : (begin end low high : List ℤ) → List ℕ → ℕ → (ℕ → ℕ) → Type 0
-HaveLast begin end low high order i row =
-    (j y : ℕ) → j < i → HasRow low high (slice_index order j) y → (t : ℕ) × (row y ≡ t + 1) × HasRow low high t y × (((slice_index order j) ≡ t) ⊎ (number_at end (slice_index order j) ≤ℤ number_at begin t))
+abbrev pub HaveLast : Sides → List ℕ → ℕ → (ℕ → ℕ) → Type 0
+HaveLast axis order i row =
+    (j y : ℕ) → j < i → HasRow axis.low axis.high (slice_index order j) y → (t : ℕ) × (row y ≡ t + 1) × HasRow axis.low axis.high t y × (((slice_index order j) ≡ t) ⊎ (number_at axis.end (slice_index order j) ≤ℤ number_at axis.begin t))
 
 -- The rows lie in runs, each with one entry. At the row where a run begins, one list has its entry, and another the row where it ends; at other rows that list has 0. No run has a row from p on before q.
 pub record AreRuns (last until : List ℕ) (row : ℕ → ℕ) (p q : ℕ) : Type 0 where
@@ -77,24 +90,24 @@ IsRunPut last last' until until' low high entry =
     (row new : ℕ → ℕ) (top : ℕ) → high ≤ top → AreRuns last until row low top → IsFilled row new low high entry → AreRuns last' until' new high top
 
 -- the runs from row low on up to another row are taken away; v follows the last vertices in them, and from row high on they have this entry
-pub record AreTaken (lists : Lists) (marks : List Bool) (begin end : List ℤ) (last until : List ℕ) (row : ℕ → ℕ) (low high v reached entry : ℕ) : Type 0 where
+pub record AreTaken (lists : Lists) (marks : List Bool) (axis : Sides) (last until : List ℕ) (row : ℕ → ℕ) (low high v reached entry : ℕ) : Type 0 where
   pub runs : AreRuns last until row low reached
-  pub follow : (y u : ℕ) → low ≤ y → y < reached → row y ≡ u + 1 → DoesFollow lists marks begin end u v
+  pub follow : (y u : ℕ) → low ≤ y → y < reached → row y ≡ u + 1 → DoesFollow lists marks axis u v
   pub rest : (y : ℕ) → high ≤ y → y < reached → row y ≡ entry
 
 -- what was taken away reaches up to a row that is not before high
-pub record HasReached (lists : Lists) (marks : List Bool) (begin end : List ℤ) (last until until' : List ℕ) (low high v reached entry : ℕ) : Type 0 where
+pub record HasReached (lists : Lists) (marks : List Bool) (axis : Sides) (last until until' : List ℕ) (low high v reached entry : ℕ) : Type 0 where
   pub order : high ≤ reached
   pub within : reached ≤ length until'
   pub vertex : entry ≤ length lists
-  pub taken : (row : ℕ → ℕ) → AreRuns last until row low low → AreTaken lists marks begin end last until' row low high v reached entry
+  pub taken : (row : ℕ → ℕ) → AreRuns last until row low low → AreTaken lists marks axis last until' row low high v reached entry
 
 -- each run of rows has the last of the first i vertices of an order in it, or none
-pub record AreLast (lists : Lists) (begin end low high : List ℤ) (order : List ℕ) (i : ℕ) (last until : List ℕ) : Type 0 where
+pub record AreLast (lists : Lists) (axis : Sides) (order : List ℕ) (i : ℕ) (last until : List ℕ) : Type 0 where
   pub vertices : (y : ℕ) → slice_index last y ≤ length lists
   pub row : ℕ → ℕ
   pub runs : AreRuns last until row 0 0
-  pub each : HaveLast begin end low high order i row
+  pub each : HaveLast axis order i row
 
 -- what goes from number v of one list to that of another is not empty, and lies from 0 to n - 2
 abbrev pub AreSpans : ℕ → (first last : List ℤ) → Type 0

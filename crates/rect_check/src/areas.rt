@@ -1,16 +1,15 @@
 //! The areas of the rectangles, and of the one that they span.
 ghost use Rattle.std.specs.Prelude.{◌≡◌, ◌+◌, ◌<◌, ◌↔◌, IsTrue, length, take, ◌≤ℤ◌, ◌-ℤ◌, ◌*ℤ◌, pos};
 ghost use Rattle.std.specs.Int.{int_max};
-ghost use Rattle.half_edges.specs.Map.{IsHalfMap};
-ghost use Rattle.rect_check.specs.Duals.{IsRect, IsSpan, area_at, area_of, greatest as the_greatest};
+ghost use Rattle.rect_check.specs.Duals.{IsSpan, area_at, area_of, greatest as the_greatest};
 ghost use Rattle.rect_check.specs.Loops.{IsLength};
-ghost use Rattle.rect_check.specs.Verdicts.{AreRects, DoFill};
+ghost use Rattle.rect_check.specs.Verdicts.{DoFill};
 
-use crate::rects::{number, number_in};
-use half_edges::{HalfMap, VertexId};
-use pg_plane::{Ints, RectFigure};
+use crate::rects::{Rects, number, number_in};
+use half_edges::VertexId;
+use pg_plane::Ints;
 
-// The product of two lengths.
+// Returns the product of two lengths.
 fn product(u: i32, v: i32) -> i64
     requires u { IsLength u }
     requires v { IsLength v }
@@ -21,7 +20,7 @@ fn product(u: i32, v: i32) -> i64
     i64::from(u) * i64::from(v)
 }
 
-// How far it is from `p` to `q`.
+// Returns how far it is from `p` to `q`.
 fn distance(n: u16, p: i32, q: i32) -> i32
     requires { IsSpan n p q }
     ensures value { result ≡ q -ℤ p }
@@ -30,39 +29,14 @@ fn distance(n: u16, p: i32, q: i32) -> i32
     q - p
 }
 
-// The area of the rectangle of a vertex.
-fn area(fig: &RectFigure, n: u16, v: VertexId) -> i64
-    requires rect { IsRect n fig.now v.0 }
-    ensures area { result ≡ area_at fig.now v.0 }
-    ensures low { pos 0 ≤ℤ result }
-    ensures high { result ≤ℤ pos 4294836225 }
-{
-    let wide = distance(n, number(&fig.x1, v), number(&fig.x2, v));
-    let tall = distance(n, number(&fig.y1, v), number(&fig.y2, v));
-    product(wide, tall)
-}
-
-// The area of all rectangles.
-fn total_area(map: &HalfMap, fig: &RectFigure) -> i64
-    requires known { IsHalfMap map.now }
-    requires rects { AreRects map.now.lists fig.now }
-    ensures { result ≡ area_of fig.now (length map.now.lists) }
-{
-    let mut total = 0;
-    for v in 0..map.n() {
-        total += area(fig, map.n(), VertexId(v));
-    }
-    total
-}
-
-// The greater of two numbers.
+// Returns the greater of two numbers.
 fn greater(u: i32, v: i32) -> i32
     ensures { result ≡ int_max u v }
 {
     u.max(v)
 }
 
-// The greatest number so far, with number `i` beside those before.
+// Returns the greatest number so far, with number `i` beside those before.
 fn greatest_with(best: i32, list: &Ints, i: usize) -> i32
     requires { i < length list.now }
     ensures { best ≡ the_greatest (take i list.now) → result ≡ the_greatest (take (i + 1) list.now) }
@@ -71,7 +45,7 @@ fn greatest_with(best: i32, list: &Ints, i: usize) -> i32
     greater(best, next)
 }
 
-// The greatest of 0 and some numbers.
+// Returns the greatest of 0 and some numbers.
 pub(crate) fn greatest(list: &Ints) -> i32
     ensures { result ≡ the_greatest list.now }
 {
@@ -82,19 +56,44 @@ pub(crate) fn greatest(list: &Ints) -> i32
     best
 }
 
-// The product of two numbers.
+// Returns the product of two numbers.
 fn wide_product(u: i32, v: i32) -> i64
     ensures { result ≡ u *ℤ v }
 {
     i64::from(u) * i64::from(v)
 }
 
-// Whether the rectangles have the area of the one that they span.
-pub(crate) fn do_fill(map: &HalfMap, fig: &RectFigure) -> bool
-    requires known { IsHalfMap map.now }
-    requires rects { AreRects map.now.lists fig.now }
-    ensures { IsTrue result ↔ DoFill map.now.lists fig.now }
-{
-    let span = wide_product(greatest(&fig.x2), greatest(&fig.y2));
-    total_area(map, fig) == span
+impl Rects<'_> {
+    // Returns the area of the rectangle of a vertex.
+    fn area(&self, v: VertexId) -> i64
+        requires vertex { v.0 < length self.now.map.now.lists }
+        ensures area { result ≡ area_at self.now.fig.now v.0 }
+        ensures low { pos 0 ≤ℤ result }
+        ensures high { result ≤ℤ pos 4294836225 }
+    {
+        let n = self.map.n();
+        let wide = distance(n, number(&self.fig.x1, v), number(&self.fig.x2, v));
+        let tall = distance(n, number(&self.fig.y1, v), number(&self.fig.y2, v));
+        product(wide, tall)
+    }
+
+    // Returns the area of all rectangles.
+    fn total_area(&self) -> i64
+        ensures { result ≡ area_of self.now.fig.now (length self.now.map.now.lists) }
+    {
+        self.map.facts();
+        let mut total = 0;
+        for v in 0..self.map.n() {
+            total += self.area(VertexId(v));
+        }
+        total
+    }
+
+    // Says whether the rectangles have the area of the one that they span.
+    pub(crate) fn do_fill(&self) -> bool
+        ensures { IsTrue result ↔ DoFill self.now.map.now.lists self.now.fig.now }
+    {
+        let span = wide_product(greatest(&self.fig.x2), greatest(&self.fig.y2));
+        self.total_area() == span
+    }
 }

@@ -9,107 +9,89 @@ ghost use Rattle.rect_check.specs.Loops.{IsFrame};
 ghost use Rattle.rect_check.specs.Verdicts.{AreRects, NoneMeet, DoFill, HasContacts, IsUnframed, IsRectVerdict};
 
 use crate::RectVerdict;
-use crate::areas::do_fill;
 use crate::frame::{first_unframed, outer_four};
-use crate::meets::first_meet;
-use crate::pairs::first_wrong;
-use crate::rects::first_bad_rect;
-use crate::sweep::are_fitting;
+use crate::rects::{Rects, first_bad_rect};
 use half_edges::{HalfMap, VertexId};
 use pg_plane::RectFigure;
 
-// The least two rectangles that meet. Where none are known to, there is no search.
-fn first_meeting(map: &HalfMap, fig: &RectFigure, fitting: bool) -> Option<(VertexId, VertexId)>
-    requires known { IsHalfMap map.now }
-    requires rects { AreRects map.now.lists fig.now }
-    requires fitting { OnTrue fitting (NoneMeet map.now.lists fig.now) }
-    ensures { MatchOption result (NoneMeet map.now.lists fig.now)
-        (λ p. IsLeastPair (RectsMeet map.now.lists fig.now) p.0.0 p.1.0) }
-{
-    if fitting { None } else { first_meet(map, fig) }
-}
-
-// The first fault of two rectangles, or of their areas, with room for a mark for each vertex.
-fn first_of_pairs_in(map: &HalfMap, fig: &RectFigure, marks: &mut [bool]) -> Option<RectVerdict>
-    requires known { IsHalfMap map.now }
-    requires rects { AreRects map.now.lists fig.now }
-    requires marks { length marks.old ≡ length map.now.lists }
-    ensures { MatchOption result (NoneMeet map.now.lists fig.now × DoFill map.now.lists fig.now × HasContacts map.now.lists fig.now)
-        (IsRectVerdict map.now.lists fig.now) }
-{
-    let fitting = are_fitting(map, fig, marks);
-    if let Some((u, v)) = first_meeting(map, fig, fitting) {
-        return Some(RectVerdict::Meet(u, v));
+impl Rects<'_> {
+    // Returns the least two rectangles that meet. Where none are known to, there is no search.
+    fn first_meeting(&self, fitting: bool) -> Option<(VertexId, VertexId)>
+        requires fitting { OnTrue fitting (NoneMeet self.now.map.now.lists self.now.fig.now) }
+        ensures { MatchOption result (NoneMeet self.now.map.now.lists self.now.fig.now)
+            (λ p. IsLeastPair (RectsMeet self.now.map.now.lists self.now.fig.now) p.0.0 p.1.0) }
+    {
+        if fitting { None } else { self.first_meet() }
     }
-    if !do_fill(map, fig) {
-        return Some(RectVerdict::Gap);
-    }
-    match first_wrong(map, fig, marks) {
-        Some((u, v)) => Some(RectVerdict::Contact(u, v)),
-        None => None,
-    }
-}
 
-// Finds the first fault of two rectangles, or of their areas, with room for `MOST` marks.
-fn first_of_pairs_of<const MOST: usize>(
-    map: &HalfMap,
-    fig: &RectFigure,
-    n: usize,
-) -> Option<RectVerdict>
-    requires known { IsHalfMap map.now }
-    requires rects { AreRects map.now.lists fig.now }
-    requires n { n ≡ length map.now.lists }
-    requires most { n ≤ MOST }
-    requires room { MOST < 4096 }
-    ensures { MatchOption result (NoneMeet map.now.lists fig.now × DoFill map.now.lists fig.now × HasContacts map.now.lists fig.now)
-        (IsRectVerdict map.now.lists fig.now) }
-{
-    let mut marks = [false; MOST];
-    first_of_pairs_in(map, fig, &mut marks[..n])
-}
-
-// The first fault of two rectangles, or of their areas.
-fn first_of_pairs(map: &HalfMap, fig: &RectFigure) -> Option<RectVerdict>
-    requires known { IsHalfMap map.now }
-    requires rects { AreRects map.now.lists fig.now }
-    ensures { MatchOption result (NoneMeet map.now.lists fig.now × DoFill map.now.lists fig.now × HasContacts map.now.lists fig.now)
-        (IsRectVerdict map.now.lists fig.now) }
-{
-    let n = map.n() as usize;
-    if n <= 255 {
-        first_of_pairs_of::<255>(map, fig, n)
-    } else {
-        first_of_pairs_of::<4095>(map, fig, n)
+    // Returns the first fault of two rectangles, or of their areas, with room for a mark for each vertex.
+    fn first_of_pairs_in(&self, marks: &mut [bool]) -> Option<RectVerdict>
+        requires marks { length marks.old ≡ length self.now.map.now.lists }
+        ensures { MatchOption result (NoneMeet self.now.map.now.lists self.now.fig.now × DoFill self.now.map.now.lists self.now.fig.now × HasContacts self.now.map.now.lists self.now.fig.now)
+            (IsRectVerdict self.now.map.now.lists self.now.fig.now) }
+    {
+        let fitting = self.are_fitting(marks);
+        if let Some((u, v)) = self.first_meeting(fitting) {
+            return Some(RectVerdict::Meet(u, v));
+        }
+        if !self.do_fill() {
+            return Some(RectVerdict::Gap);
+        }
+        match self.first_wrong(marks) {
+            Some((u, v)) => Some(RectVerdict::Contact(u, v)),
+            None => None,
+        }
     }
-}
 
-// The first fault of the frame.
-fn first_of_frame(map: &HalfMap, fig: &RectFigure) -> RectVerdict
-    requires known { IsHalfMap map.now }
-    requires rects { AreRects map.now.lists fig.now }
-    requires apart { NoneMeet map.now.lists fig.now }
-    requires fill { DoFill map.now.lists fig.now }
-    requires contacts { HasContacts map.now.lists fig.now }
-    ensures { IsRectVerdict map.now.lists fig.now result }
-{
-    match outer_four(map) {
-        Some(found) => match first_unframed(fig, found) {
-            Some(v) => RectVerdict::Frame(v),
-            None => RectVerdict::Yes,
-        },
-        None => RectVerdict::NoFrame,
+    // Returns the first fault of two rectangles, or of their areas, with room for `MOST` marks.
+    fn first_of_pairs_of<const MOST: usize>(&self, n: usize) -> Option<RectVerdict>
+        requires n { n ≡ length self.now.map.now.lists }
+        requires most { n ≤ MOST }
+        requires room { MOST < 4096 }
+        ensures { MatchOption result (NoneMeet self.now.map.now.lists self.now.fig.now × DoFill self.now.map.now.lists self.now.fig.now × HasContacts self.now.map.now.lists self.now.fig.now)
+            (IsRectVerdict self.now.map.now.lists self.now.fig.now) }
+    {
+        let mut marks = [false; MOST];
+        self.first_of_pairs_in(&mut marks[..n])
     }
-}
 
-// The first fault of pairs, areas and frame.
-fn first_behind_rects(map: &HalfMap, fig: &RectFigure) -> RectVerdict
-    requires known { IsHalfMap map.now }
-    requires rects { AreRects map.now.lists fig.now }
-    ensures { IsRectVerdict map.now.lists fig.now result }
-{
-    match first_of_pairs(map, fig) {
-        Some(verdict) => verdict,
-        None => first_of_frame(map, fig),
+    // Returns the first fault of two rectangles, or of their areas.
+    fn first_of_pairs(&self) -> Option<RectVerdict>
+        ensures { MatchOption result (NoneMeet self.now.map.now.lists self.now.fig.now × DoFill self.now.map.now.lists self.now.fig.now × HasContacts self.now.map.now.lists self.now.fig.now)
+            (IsRectVerdict self.now.map.now.lists self.now.fig.now) }
+    {
+        let n = self.map.n() as usize;
+        if n <= 255 {
+            self.first_of_pairs_of::<255>(n)
+        } else {
+            self.first_of_pairs_of::<4095>(n)
+        }
+    }
+
+    // Returns the first fault of the frame.
+    fn first_of_frame(&self) -> RectVerdict
+        requires apart { NoneMeet self.now.map.now.lists self.now.fig.now }
+        requires fill { DoFill self.now.map.now.lists self.now.fig.now }
+        requires contacts { HasContacts self.now.map.now.lists self.now.fig.now }
+        ensures { IsRectVerdict self.now.map.now.lists self.now.fig.now result }
+    {
+        match outer_four(self.map) {
+            Some(found) => match first_unframed(self.fig, found) {
+                Some(v) => RectVerdict::Frame(v),
+                None => RectVerdict::Yes,
+            },
+            None => RectVerdict::NoFrame,
+        }
+    }
+
+    // Returns the first fault of pairs, areas and frame.
+    fn first_fault(&self) -> RectVerdict
+        ensures { IsRectVerdict self.now.map.now.lists self.now.fig.now result }
+    {
+        match self.first_of_pairs() {
+            Some(verdict) => verdict,
+            None => self.first_of_frame(),
+        }
     }
 }
 
@@ -129,6 +111,6 @@ pub fn check_rects(map: &HalfMap, fig: &RectFigure) -> RectVerdict
     map.facts();
     match first_bad_rect(map, fig) {
         Some(v) => RectVerdict::BadRect(v),
-        None => first_behind_rects(map, fig),
+        None => Rects { map, fig }.first_fault(),
     }
 }

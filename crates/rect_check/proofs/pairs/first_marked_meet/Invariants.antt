@@ -1,6 +1,0 @@
-use Rattle.std.proofs.Common.{ℕ, ◌<◌}
-use Rattle.rect_check.specs.Faults.{RectsMeet}
-use Rattle.rect_check.proofs.pairs.first_marked_meet.Given as goal
-
-abbrev pub invariant-loop-u : goal.invariant-loop-u
-invariant-loop-u l = (s v : ℕ) → s < l.u → ¬ RectsMeet l.map.lists l.fig s v
