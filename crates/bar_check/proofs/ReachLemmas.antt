@@ -26,11 +26,11 @@ same_block w k x some from to =
     ap (λ z. z / w) is ∙ div-mul-add q w (x - q * w) l
 
 -- what is passed is not reached by more
-pub low_from_passed : (y : ℤ) (h k : ℕ) (ones blocks halls : List ℤ) → IsReached y k ones blocks halls → IsPassed h k ones blocks halls → y ≤ℤ pos h
-low_from_passed y h k ones blocks halls is passed =
-    let a = is.one in
+pub low_from_passed : (y : ℤ) (h k : ℕ) (peaks blocks superblocks : List ℤ) → IsReached y k peaks blocks superblocks → IsPassed h k peaks blocks superblocks → y ≤ℤ pos h
+low_from_passed y h k peaks blocks superblocks is passed =
+    let a = is.column in
     let b = is.block in
-    let c = is.hall in
+    let c = is.superblock in
     ⊎_elim (λ p. omega (arith, ints, a, p)) (λ o. ⊎_elim (λ p. omega (arith, ints, b, p)) (λ p. omega (arith, ints, c, p)) o) passed
 
 module _ (lists : Lists) (fig : BarFigure) where
@@ -55,24 +55,24 @@ module _ (lists : Lists) (fig : BarFigure) where
         (λ n. ⊎_elim (λ less. inl (inr (record { tail = n.tail; dart = n.dart; place = less; above = n.above }))) (λ same. inr (n.tail, same, n.above)) (next-is u b dart n.dart n.place)) begun
 
     -- an edge that leads down begins nothing
-    pub HasReach-past : (u : ℕ) (ones blocks halls : List ℤ) → HasDart lists v u → number_at fig.y u <ℤ pos h → HasReach lists fig (IsBegun lists fig h v (place_of u (list_of lists v))) ones blocks halls
-        → HasReach lists fig (IsBegun lists fig h v (place_of u (list_of lists v) + 1)) ones blocks halls
-    HasReach-past u ones blocks halls dart below reach = record {
+    pub HasReach-past : (u : ℕ) (peaks blocks superblocks : List ℤ) → HasDart lists v u → number_at fig.y u <ℤ pos h → HasReach lists fig (IsBegun lists fig h v (place_of u (list_of lists v))) peaks blocks superblocks
+        → HasReach lists fig (IsBegun lists fig h v (place_of u (list_of lists v) + 1)) peaks blocks superblocks
+    HasReach-past u peaks blocks superblocks dart below reach = record {
       each = λ a b k p. ⊎_elim (λ old. reach.each a b k old)
           (λ n. let above : pos h ≤ℤ number_at fig.y u = subst (λ (z : ℕ). pos h ≤ℤ number_at fig.y z) n.1 n.2 in absurd (omega (arith, ints, below, above))) (earlier u a b dart p);
     }
 
     -- one that leads up is noted
-    pub HasReach-more : (u : ℕ) (x : ℤ) (ones ones' blocks blocks' halls halls' : List ℤ) → HasDart lists v u → x ≡ column_between lists fig v u → pos 0 ≤ℤ x → ((k : ℕ) → x ≡ pos k → IsRaised k (number_at fig.y u) ones ones') → ((k : ℕ) → x ≡ pos k → IsRaised (k / 16) (number_at fig.y u) blocks blocks') → ((k : ℕ) → x ≡ pos k → IsRaised (k / 256) (number_at fig.y u) halls halls')
-        → HasReach lists fig (IsBegun lists fig h v (place_of u (list_of lists v))) ones blocks halls → HasReach lists fig (IsBegun lists fig h v (place_of u (list_of lists v) + 1)) ones' blocks' halls'
-    HasReach-more u x ones ones' blocks blocks' halls halls' dart is low one block hall reach = record {
+    pub HasReach-more : (u : ℕ) (x : ℤ) (peaks peaks' blocks blocks' superblocks superblocks' : List ℤ) → HasDart lists v u → x ≡ column_between lists fig v u → pos 0 ≤ℤ x → ((k : ℕ) → x ≡ pos k → IsRaised k (number_at fig.y u) peaks peaks') → ((k : ℕ) → x ≡ pos k → IsRaised (k / 16) (number_at fig.y u) blocks blocks') → ((k : ℕ) → x ≡ pos k → IsRaised (k / 256) (number_at fig.y u) superblocks superblocks')
+        → HasReach lists fig (IsBegun lists fig h v (place_of u (list_of lists v))) peaks blocks superblocks → HasReach lists fig (IsBegun lists fig h v (place_of u (list_of lists v) + 1)) peaks' blocks' superblocks'
+    HasReach-more u x peaks peaks' blocks blocks' superblocks superblocks' dart is low column block superblock reach = record {
       each = λ a b k p c. ⊎_elim
           (λ q.
           let was = reach.each a b k q c in
-          record { one = more (was.one) ((one j.0 j.1).each k); block = more (was.block) ((block j.0 j.1).each (k / 16)); hall = more (was.hall) ((hall j.0 j.1).each (k / 256)) })
+          record { column = more (was.column) ((column j.0 j.1).each k); block = more (was.block) ((block j.0 j.1).each (k / 16)); superblock = more (was.superblock) ((superblock j.0 j.1).each (k / 256)) })
           (λ n.
           let e : x ≡ pos k = is ∙ (sym (ap (λ s. column_between lists fig s b) n.0 ∙ ap (λ t. column_between lists fig v t) n.1) ∙ c) in
-          subst (λ (z : ℕ). IsReached (number_at fig.y z) k ones' blocks' halls') (sym n.1) (record { one = (one k e).here; block = (block k e).here; hall = (hall k e).here })) (earlier u a b dart p);
+          subst (λ (z : ℕ). IsReached (number_at fig.y z) k peaks' blocks' superblocks') (sym n.1) (record { column = (column k e).here; block = (block k e).here; superblock = (superblock k e).here })) (earlier u a b dart p);
     }
       where
         j : (k : ℕ) × (x ≡ pos k)
@@ -111,15 +111,15 @@ module _ (lists : Lists) (fig : BarFigure) where
         (below_or_at a is.dart.0 is.below)
 
     -- what was known when the bar of v was met is known before its edges
-    pub HasReach-first : (ones blocks halls : List ℤ) → HasReach lists fig (IsUp lists fig h) ones blocks halls → HasReach lists fig (IsBegun lists fig h v 0) ones blocks halls
-    HasReach-first ones blocks halls reach = record {
+    pub HasReach-first : (peaks blocks superblocks : List ℤ) → HasReach lists fig (IsUp lists fig h) peaks blocks superblocks → HasReach lists fig (IsBegun lists fig h v 0) peaks blocks superblocks
+    HasReach-first peaks blocks superblocks reach = record {
       each = λ a b k p. ⊎_elim (λ q. reach.each a b k q) (λ n. (let l = n.place in absurd (omega (arith, l)))) p;
     }
 
     -- the bar of v was met
-    pub IsSwept-more : (ones ones' blocks blocks' halls halls' : List ℤ) → DoGoRight (length lists) fig → IsSwept lists fig h ones blocks halls → ((k : ℕ) → Holds fig v (pos k) → IsPassed h k ones blocks halls) → HasReach lists fig (IsBegun lists fig h v (length (list_of lists v))) ones' blocks' halls'
-        → IsSwept lists fig (h + 1) ones' blocks' halls'
-    IsSwept-more ones ones' blocks blocks' halls halls' go swept passed reach = record {
+    pub IsSwept-more : (peaks peaks' blocks blocks' superblocks superblocks' : List ℤ) → DoGoRight (length lists) fig → IsSwept lists fig h peaks blocks superblocks → ((k : ℕ) → Holds fig v (pos k) → IsPassed h k peaks blocks superblocks) → HasReach lists fig (IsBegun lists fig h v (length (list_of lists v))) peaks' blocks' superblocks'
+        → IsSwept lists fig (h + 1) peaks' blocks' superblocks'
+    IsSwept-more peaks peaks' blocks blocks' superblocks superblocks' go swept passed reach = record {
       reach = record { each = λ a b k p. reach.each a b k (begun-from a b p) };
       clear = λ a b w dart lw below from to. ⊎_elim (λ less. swept.clear a b w dart lw less from to)
           (λ same holds.
@@ -131,14 +131,14 @@ module _ (lists : Lists) (fig : BarFigure) where
           let low = here.from in
           let k = natural_is (column_between lists fig a b) (omega (arith, ints, left, low)) in
           let is = swept.reach.each a b k.0 (record { dart = dart; below = omega (arith, ints, from', y); up = omega (arith, ints, from', to') }) k.1 in
-          let most = low_from_passed (number_at fig.y b) h k.0 ones blocks halls is (passed k.0 (subst (Holds fig v) k.1 here)) in
+          let most = low_from_passed (number_at fig.y b) h k.0 peaks blocks superblocks is (passed k.0 (subst (Holds fig v) k.1 here)) in
           omega (arith, ints, most, to', y)) (below_or_at w lw below);
     }
 
   module _ (simple : IsSimpleMap lists) (heights : HasHeights lists fig) where
     -- before all bars
-    pub IsSwept-none : (ones blocks halls : List ℤ) → IsSwept lists fig 0 ones blocks halls
-    IsSwept-none ones blocks halls = record {
+    pub IsSwept-none : (peaks blocks superblocks : List ℤ) → IsSwept lists fig 0 peaks blocks superblocks
+    IsSwept-none peaks blocks superblocks = record {
       reach = record { each = λ a b k p. absurd (low a p.dart.0 p.below) };
       clear = λ a b w dart lw below. absurd (low w lw below);
     }
@@ -147,8 +147,8 @@ module _ (lists : Lists) (fig : BarFigure) where
         low w lw below = let l = (heights w lw).low in omega (arith, ints, l, below)
 
     -- behind them
-    pub NoneThrough-from : (ones blocks halls : List ℤ) → IsSwept lists fig (length lists) ones blocks halls → NoneThrough lists fig
-    NoneThrough-from ones blocks halls swept = λ a b w through.
+    pub NoneThrough-from : (peaks blocks superblocks : List ℤ) → IsSwept lists fig (length lists) peaks blocks superblocks → NoneThrough lists fig
+    NoneThrough-from peaks blocks superblocks swept = λ a b w through.
         let l = through.edge.0 in
         let dart = through.edge.1 in
         let high = (heights w through.vertex).high in

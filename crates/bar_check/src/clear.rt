@@ -2,15 +2,14 @@
 //! highest bar so far that holds it: an edge whose column shows its lower end is clear.
 ghost use Rattle.std.specs.Prelude.{◌≡◌, ◌⊎◌, ◌+◌, ◌<◌, ◌≤◌, ◌≤ℤ◌, ◌<ℤ◌, ℕ, true, false, length, slice_index, slice_index_or, pos, Some, IsTrue};
 ghost use Rattle.std.specs.Bool.{OnTrue};
-ghost use Rattle.half_edges.specs.Map.{IsHalfMap, IsLive, dart_at, first_dart};
+ghost use Rattle.half_edges.specs.Map.{IsLive, dart_at, first_dart};
 ghost use Rattle.pg_plane.specs.declared.figure.BarFigure.{BarFigure as Bars};
 ghost use Rattle.vertex_rounds.specs.Rounds.{HasEdge, dart_of};
 ghost use Rattle.bar_check.specs.Bars.{number_at, column_of, IsStruck};
-ghost use Rattle.bar_check.specs.Verdicts.{HasHeights};
-ghost use Rattle.bar_check.specs.Tables.{AreColumns, AreClear, HasTops, IsAtTop, IsSeen, DoGoRight, StandsAt};
+ghost use Rattle.bar_check.specs.Tables.{AreClear, HasTops, IsAtTop, IsSeen, StandsAt};
 
+use crate::drawing::Drawing;
 use crate::heights::number;
-use crate::table::column_at;
 use half_edges::{DartId, HalfMap, VertexId};
 use pg_plane::BarFigure;
 use vertex_rounds::later_dart;
@@ -47,7 +46,7 @@ fn mark(clear: &mut [bool], d: DartId)
     }
 }
 
-// Whether column `x` has a mark, which is not above that of a bar of this height.
+// Says whether column `x` has a mark, which is not above that of a bar of this height.
 fn is_at_top(tops: &[u16], x: i32, height: i32) -> bool
     requires { height <ℤ pos 65536 }
     ensures { OnTrue result (IsAtTop tops.now x height) }
@@ -55,94 +54,12 @@ fn is_at_top(tops: &[u16], x: i32, height: i32) -> bool
     0 <= x && (x as usize) < tops.len() && i32::from(tops[x as usize]) <= height + 1
 }
 
-// Whether the bar of `u` is below height `h`, and the highest of those that hold column `x`.
+// Says whether the bar of `u` is below height `h`, and the highest of those that hold column `x`.
 fn is_seen(fig: &BarFigure, tops: &[u16], h: u16, x: i32, u: VertexId) -> bool
     ensures { OnTrue result (IsSeen fig.now h tops.now x u.0) }
 {
     let height = number(&fig.y, u.0 as usize);
     height < i32::from(h) && is_at_top(tops, x, height)
-}
-
-// Marks a dart of the vertex at height `h`, where its edge leads down and no bar is in its way. A dart beyond the
-// tables gets no mark, so its column is not looked for.
-fn mark_if_seen(
-    map: &HalfMap,
-    fig: &BarFigure,
-    columns: &[i32],
-    tops: &[u16],
-    clear: &mut [bool],
-    h: u16,
-    d: DartId,
-)
-    requires known { IsHalfMap map.now }
-    requires heights { HasHeights map.now.lists fig.now }
-    requires columns { AreColumns map.now fig.now columns.now }
-    requires tops { HasTops (length map.now.lists) fig.now h tops.now }
-    requires live { IsLive map.now d.0 }
-    requires height { number_at fig.now.y (dart_of map.now d.0).0 ≡ pos h }
-    requires clear { AreClear map.now fig.now clear.old }
-    ensures { AreClear map.now fig.now clear.new }
-{
-    if (d.0 as usize) >= clear.len() || (d.0 as usize) >= columns.len() {
-        return;
-    }
-    let x = column_at(map, fig, columns, d);
-    if is_seen(fig, tops, h, x, map.head(d)) {
-        mark(clear, d);
-    }
-}
-
-// Marks the clear edges that lead down from the vertex at height `h`, from dart `first` on.
-fn mark_round(
-    map: &HalfMap,
-    fig: &BarFigure,
-    columns: &[i32],
-    tops: &[u16],
-    clear: &mut [bool],
-    h: u16,
-    v: VertexId,
-    first: DartId,
-)
-    requires known { IsHalfMap map.now }
-    requires heights { HasHeights map.now.lists fig.now }
-    requires columns { AreColumns map.now fig.now columns.now }
-    requires tops { HasTops (length map.now.lists) fig.now h tops.now }
-    requires vertex { StandsAt (length map.now.lists) fig.now h v.0 }
-    requires first { dart_at map.now first.0 ≡ Some (first_dart map.now.lists v.0) }
-    requires clear { AreClear map.now fig.now clear.old }
-    ensures { AreClear map.now fig.now clear.new }
-{
-    let mut d = first;
-    'round: loop {
-        mark_if_seen(map, fig, columns, tops, clear, h, d);
-        match later_dart(map, d) {
-            Some(later) => d = later,
-            None => return,
-        }
-    }
-}
-
-// Marks the clear edges that lead down from the vertex at height `h`.
-fn mark_list(
-    map: &HalfMap,
-    fig: &BarFigure,
-    columns: &[i32],
-    tops: &[u16],
-    clear: &mut [bool],
-    h: u16,
-    v: VertexId,
-)
-    requires known { IsHalfMap map.now }
-    requires heights { HasHeights map.now.lists fig.now }
-    requires columns { AreColumns map.now fig.now columns.now }
-    requires tops { HasTops (length map.now.lists) fig.now h tops.now }
-    requires vertex { StandsAt (length map.now.lists) fig.now h v.0 }
-    requires clear { AreClear map.now fig.now clear.old }
-    ensures { AreClear map.now fig.now clear.new }
-{
-    if let Some(first) = map.first_dart(v) {
-        mark_round(map, fig, columns, tops, clear, h, v, first);
-    }
 }
 
 // Writes `top` at the columns from `left` to `right`, where the table reaches so far.
@@ -170,90 +87,118 @@ pub(crate) fn natural(z: i32) -> usize
     z as usize
 }
 
-// Makes the bar at height `h` the highest of the columns that it holds.
-fn put_bar(map: &HalfMap, fig: &BarFigure, tops: &mut [u16], h: u16, v: VertexId)
-    requires heights { HasHeights map.now.lists fig.now }
-    requires bars { DoGoRight (length map.now.lists) fig.now }
-    requires few { h < 65535 }
-    requires vertex { StandsAt (length map.now.lists) fig.now h v.0 }
-    requires tops { HasTops (length map.now.lists) fig.now h tops.old }
-    ensures { HasTops (length map.now.lists) fig.now (h + 1) tops.new }
-{
-    let left = natural(number(&fig.x1, v.0 as usize));
-    let right = natural(number(&fig.x2, v.0 as usize));
-    fill_between(tops, left, right, h + 1);
-}
-
-// Whether `v` is the vertex at height `h`.
+// Says whether `v` is the vertex at height `h`.
 pub(crate) fn stands_at(fig: &BarFigure, n: u16, h: u16, v: VertexId) -> bool
     ensures { OnTrue result (StandsAt n fig.now h v.0) }
 {
     v.0 < n && number(&fig.y, v.0 as usize) == i32::from(h)
 }
 
-// Marks edges with no bar in their way, by a sweep over the bars in this order as long as it is that of
-// their heights.
-fn sweep(
-    map: &HalfMap,
-    fig: &BarFigure,
-    columns: &[i32],
-    order: &[u16],
-    tops: &mut [u16],
-    clear: &mut [bool],
-)
-    requires known { IsHalfMap map.now }
-    requires heights { HasHeights map.now.lists fig.now }
-    requires bars { DoGoRight (length map.now.lists) fig.now }
-    requires columns { AreColumns map.now fig.now columns.now }
-    requires order { length order.now ≡ length map.now.lists }
-    requires clear { AreClear map.now fig.now clear.old }
-    ensures { AreClear map.now fig.now clear.new }
-{
-    for h in 0..map.n() {
-        let v = VertexId(order[h as usize]);
-        if !stands_at(fig, map.n(), h, v) {
-            return;
-        }
-        mark_list(map, fig, columns, tops, clear, h, v);
-        put_bar(map, fig, tops, h, v);
-    }
-}
-
-// Marks edges with no bar in their way, with room for the vertices in the order of their heights and for the
-// highest bars of columns.
-pub(crate) fn fill_clear(
-    map: &HalfMap,
-    fig: &BarFigure,
-    columns: &[i32],
-    order: &mut [u16],
-    tops: &mut [u16],
-    clear: &mut [bool],
-)
-    requires known { IsHalfMap map.now }
-    requires heights { HasHeights map.now.lists fig.now }
-    requires bars { DoGoRight (length map.now.lists) fig.now }
-    requires columns { AreColumns map.now fig.now columns.now }
-    requires order { length order.old ≡ length map.now.lists }
-    ensures { AreClear map.now fig.now clear.new }
-{
-    fill_order(fig, order);
-    clear_all(clear);
-    sweep(map, fig, columns, order, tops, clear);
-}
-
-// Whether a dart is marked.
+// Says whether a dart is marked.
 fn is_marked(clear: &[bool], d: DartId) -> bool
     ensures { IsTrue result → slice_index_or clear.now d.0 false ≡ true }
 {
     (d.0 as usize) < clear.len() && clear[d.0 as usize]
 }
 
-// Whether the edge of a dart is known to have no bar in its way.
+// Says whether the edge of a dart is known to have no bar in its way.
 pub(crate) fn is_clear(map: &HalfMap, clear: &[bool], d: DartId) -> bool
-    requires known { IsHalfMap map.now }
     requires live { IsLive map.now d.0 }
     ensures { (fig : Bars) (a b : ℕ) → AreClear map.now fig clear.now → dart_at map.now d.0 ≡ Some (a, b) → HasEdge map.now.lists a b
         → IsTrue result → (w : ℕ) → w < length map.now.lists → ¬ IsStruck fig a b (column_of map.now.lists fig a b) w }
 {
+    map.facts();
     is_marked(clear, d) || is_marked(clear, map.twin(d))
+}
+
+impl Drawing<'_> {
+    // Marks a dart of the vertex at height `h`, where its edge leads down and no bar is in its way. A dart beyond the
+    // tables gets no mark, so its column is not looked for.
+    fn mark_if_seen(&self, tops: &[u16], clear: &mut [bool], h: u16, d: DartId)
+        requires tops { HasTops (length self.now.map.now.lists) self.now.fig.now h tops.now }
+        requires live { IsLive self.now.map.now d.0 }
+        requires height { number_at self.now.fig.now.y (dart_of self.now.map.now d.0).0 ≡ pos h }
+        requires clear { AreClear self.now.map.now self.now.fig.now clear.old }
+        ensures { AreClear self.now.map.now self.now.fig.now clear.new }
+    {
+        if (d.0 as usize) >= clear.len() || (d.0 as usize) >= self.columns.len() {
+            return;
+        }
+        let x = self.column_at(d);
+        if is_seen(self.fig, tops, h, x, self.map.head(d)) {
+            mark(clear, d);
+        }
+    }
+
+    // Marks the clear edges that lead down from the vertex at height `h`, from dart `first` on.
+    fn mark_round(&self, tops: &[u16], clear: &mut [bool], h: u16, v: VertexId, first: DartId)
+        requires tops { HasTops (length self.now.map.now.lists) self.now.fig.now h tops.now }
+        requires vertex { StandsAt (length self.now.map.now.lists) self.now.fig.now h v.0 }
+        requires first { dart_at self.now.map.now first.0 ≡ Some (first_dart self.now.map.now.lists v.0) }
+        requires clear { AreClear self.now.map.now self.now.fig.now clear.old }
+        ensures { AreClear self.now.map.now self.now.fig.now clear.new }
+    {
+        self.map.facts();
+        let mut d = first;
+        'round: loop {
+            self.mark_if_seen(tops, clear, h, d);
+            match later_dart(self.map, d) {
+                Some(later) => d = later,
+                None => return,
+            }
+        }
+    }
+
+    // Marks the clear edges that lead down from the vertex at height `h`.
+    fn mark_list(&self, tops: &[u16], clear: &mut [bool], h: u16, v: VertexId)
+        requires tops { HasTops (length self.now.map.now.lists) self.now.fig.now h tops.now }
+        requires vertex { StandsAt (length self.now.map.now.lists) self.now.fig.now h v.0 }
+        requires clear { AreClear self.now.map.now self.now.fig.now clear.old }
+        ensures { AreClear self.now.map.now self.now.fig.now clear.new }
+    {
+        if let Some(first) = self.map.first_dart(v) {
+            self.mark_round(tops, clear, h, v, first);
+        }
+    }
+
+    // Makes the bar at height `h` the highest of the columns that it holds.
+    fn put_bar(&self, tops: &mut [u16], h: u16, v: VertexId)
+        requires few { h < 65535 }
+        requires vertex { StandsAt (length self.now.map.now.lists) self.now.fig.now h v.0 }
+        requires tops { HasTops (length self.now.map.now.lists) self.now.fig.now h tops.old }
+        ensures { HasTops (length self.now.map.now.lists) self.now.fig.now (h + 1) tops.new }
+    {
+        let left = natural(number(&self.fig.x1, v.0 as usize));
+        let right = natural(number(&self.fig.x2, v.0 as usize));
+        fill_between(tops, left, right, h + 1);
+    }
+
+    // Marks edges with no bar in their way, by a sweep over the bars in this order as long as it is that of
+    // their heights.
+    fn sweep(&self, order: &[u16], tops: &mut [u16], clear: &mut [bool])
+        requires order { length order.now ≡ length self.now.map.now.lists }
+        requires clear { AreClear self.now.map.now self.now.fig.now clear.old }
+        ensures { AreClear self.now.map.now self.now.fig.now clear.new }
+    {
+        for h in 0..self.map.n() {
+            let v = VertexId(order[h as usize]);
+            if !stands_at(self.fig, self.map.n(), h, v) {
+                return;
+            }
+            self.mark_list(tops, clear, h, v);
+            self.put_bar(tops, h, v);
+        }
+    }
+
+    // Marks edges with no bar in their way, with room for the vertices in the order of their heights and for the
+    // highest bars of columns.
+    pub(crate) fn fill_clear(&self, order: &mut [u16], tops: &mut [u16], clear: &mut [bool])
+        requires order { length order.old ≡ length self.now.map.now.lists }
+        ensures { AreClear self.now.map.now self.now.fig.now clear.new }
+    {
+        self.map.facts();
+        fill_order(self.fig, order);
+        clear_all(clear);
+        self.sweep(order, tops, clear);
+    }
 }

@@ -1,7 +1,7 @@
 //! The numbers of edges, by the lesser end and then by the greater.
 ghost use Rattle.std.specs.Prelude.{◌≡◌, ◌+◌, ◌*◌, ◌<◌, ◌≤◌, ◌&&◌, nat_lt, ℕ, List, length, take, count_by, slice_index, Some};
 ghost use Rattle.map_theory.specs.Maps.{list_of};
-ghost use Rattle.half_edges.specs.Map.{IsHalfMap, dart_at, first_dart};
+ghost use Rattle.half_edges.specs.Map.{dart_at, first_dart};
 ghost use Rattle.bar_check.specs.Bars.{number_at, edges_until as the_edges_until, edges_before as the_edges_before, column_of as the_column, column_between as the_column_between};
 
 use crate::heights::number;
@@ -24,15 +24,15 @@ fn counted(count: u32, v: VertexId, u: VertexId, end: u16) -> u32
     }
 }
 
-// How many entries of the list of `v` are above it and below `end`; `first` is the dart to the first of the
+// Returns how many entries of the list of `v` are above it and below `end`; `first` is the dart to the first of the
 // `degree` entries.
 fn edges_until_round(map: &HalfMap, v: VertexId, first: DartId, degree: u16, end: u16) -> u32
-    requires known { IsHalfMap map.now }
     requires first { dart_at map.now first.0 ≡ Some (first_dart map.now.lists v.0) }
     requires degree { degree ≡ length (list_of map.now.lists v.0) }
     ensures count { result ≡ the_edges_until map.now.lists v.0 end }
     ensures few { result ≤ 65535 }
 {
+    map.facts();
     let mut count = 0;
     let mut d = first;
     'round: loop {
@@ -44,9 +44,8 @@ fn edges_until_round(map: &HalfMap, v: VertexId, first: DartId, degree: u16, end
     }
 }
 
-// How many edges lead from `v` to vertices above `v` and below `end`.
+// Returns how many edges lead from `v` to vertices above `v` and below `end`.
 fn edges_until(map: &HalfMap, v: VertexId, end: u16) -> u32
-    requires known { IsHalfMap map.now }
     requires vertex { v.0 < length map.now.lists }
     ensures count { result ≡ the_edges_until map.now.lists v.0 end }
     ensures few { result ≤ 65535 }
@@ -57,9 +56,8 @@ fn edges_until(map: &HalfMap, v: VertexId, end: u16) -> u32
     }
 }
 
-// How many edges there are with their lesser end below `end`, where `before` have it below `v`.
+// Returns how many edges there are with their lesser end below `end`, where `before` have it below `v`.
 pub(crate) fn edges_with(map: &HalfMap, v: VertexId, before: u32) -> u32
-    requires known { IsHalfMap map.now }
     requires vertex { v.0 < length map.now.lists }
     requires before { before ≡ the_edges_before map.now.lists v.0 }
     requires few { before ≤ 65535 * v.0 }
@@ -69,9 +67,8 @@ pub(crate) fn edges_with(map: &HalfMap, v: VertexId, before: u32) -> u32
     before + edges_until(map, v, map.n())
 }
 
-// How many edges have their lesser end below `v`.
+// Returns how many edges have their lesser end below `v`.
 fn edges_before(map: &HalfMap, v: VertexId) -> u32
-    requires known { IsHalfMap map.now }
     requires vertex { v.0 < length map.now.lists }
     ensures count { result ≡ the_edges_before map.now.lists v.0 }
     ensures few { result ≤ 65535 * v.0 }
@@ -83,7 +80,7 @@ fn edges_before(map: &HalfMap, v: VertexId) -> u32
     count
 }
 
-// The column of the edge from `a` to `b`, its greater end, where `before` edges have their lesser end below
+// Returns the column of the edge from `a` to `b`, its greater end, where `before` edges have their lesser end below
 // `a`.
 pub(crate) fn column_from(
     map: &HalfMap,
@@ -92,7 +89,6 @@ pub(crate) fn column_from(
     a: VertexId,
     b: VertexId,
 ) -> i32
-    requires known { IsHalfMap map.now }
     requires vertex { a.0 < length map.now.lists }
     requires before { before ≡ the_edges_before map.now.lists a.0 }
     requires few { before ≤ 65535 * a.0 }
@@ -102,18 +98,16 @@ pub(crate) fn column_from(
     number(&fig.column, edge as usize)
 }
 
-// The column of the edge from `a` to `b`, its greater end.
+// Returns the column of the edge from `a` to `b`, its greater end.
 pub(crate) fn column_of(map: &HalfMap, fig: &BarFigure, a: VertexId, b: VertexId) -> i32
-    requires known { IsHalfMap map.now }
     requires vertex { a.0 < length map.now.lists }
     ensures { result ≡ the_column map.now.lists fig.now a.0 b.0 }
 {
     column_from(map, fig, edges_before(map, a), a, b)
 }
 
-// The column of the edge between `u` and `v`.
+// Returns the column of the edge between `u` and `v`.
 pub(crate) fn column_between(map: &HalfMap, fig: &BarFigure, u: VertexId, v: VertexId) -> i32
-    requires known { IsHalfMap map.now }
     requires u { u.0 < length map.now.lists }
     requires v { v.0 < length map.now.lists }
     ensures { result ≡ the_column_between map.now.lists fig.now u.0 v.0 }

@@ -8,6 +8,7 @@ ghost use Rattle.bar_check.specs.Laws.{EdgeNumbers, OnceIsInOrder, OverlapIsNeve
 mod check;
 mod clear;
 mod columns;
+mod drawing;
 mod edges;
 mod heights;
 mod reach;

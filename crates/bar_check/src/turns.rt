@@ -2,22 +2,21 @@
 ghost use Rattle.std.specs.Prelude.{◌≡◌, ◌<◌, ◌≤◌, ◌↔◌, ◌||◌, ℕ, length, IsTrue, Some, MatchBool, MatchOption};
 ghost use Rattle.map_lists.specs.Lists.{Lists};
 ghost use Rattle.map_theory.specs.Maps.{list_of};
-ghost use Rattle.half_edges.specs.Map.{IsHalfMap, IsLive};
+ghost use Rattle.half_edges.specs.Map.{IsLive};
 ghost use Rattle.vertex_rounds.specs.Least.{IsLeast};
 ghost use Rattle.vertex_rounds.specs.Rounds.{HoldsAt};
 ghost use Rattle.bar_check.specs.Loops.{Breaks};
 ghost use Rattle.bar_check.specs.Bars.{column_between as the_column, IsAbove, IsEarlier, GoesOnceRound};
 ghost use Rattle.bar_check.specs.Faults.{IsTurned};
 ghost use Rattle.bar_check.specs.Verdicts.{KeepsTurns};
-ghost use Rattle.bar_check.specs.Tables.{AreColumns};
 
+use crate::drawing::Drawing;
 use crate::heights::number;
-use crate::table::column_at;
-use half_edges::{DartId, HalfMap, VertexId};
+use half_edges::{DartId, VertexId};
 use pg_plane::BarFigure;
 use vertex_rounds::turns_once;
 
-// Whether `u` stands higher than `v`.
+// Says whether `u` stands higher than `v`.
 fn is_above(fig: &BarFigure, v: VertexId, u: VertexId) -> bool
     ensures { IsTrue result ↔ IsAbove fig.now v.0 u.0 }
 {
@@ -37,41 +36,46 @@ fn is_earlier(fig: &BarFigure, v: VertexId, u: VertexId, w: VertexId, x: i32, z:
     }
 }
 
-// Whether the edge of a dart does not come before that of the entry behind it.
-fn is_break(map: &HalfMap, fig: &BarFigure, columns: &[i32], d: DartId) -> bool
-    requires known { IsHalfMap map.now }
-    requires columns { AreColumns map.now fig.now columns.now }
-    requires live { IsLive map.now d.0 }
-    ensures { IsTrue result ↔ HoldsAt map.now (Breaks map.now.lists fig.now) d.0 }
-{
-    let next = map.next(d);
-    let x = column_at(map, fig, columns, d);
-    let z = column_at(map, fig, columns, next);
-    !is_earlier(fig, map.tail(d), map.head(d), map.head(next), x, z)
-}
-
-// Whether the list of `v` goes once round, where it has at least two entries.
-fn keeps_rotation(map: &HalfMap, fig: &BarFigure, columns: &[i32], v: VertexId) -> bool
-    requires known { IsHalfMap map.now }
-    requires columns { AreColumns map.now fig.now columns.now }
-    requires vertex { v.0 < length map.now.lists }
-    ensures { MatchBool result (2 ≤ length (list_of map.now.lists v.0) → GoesOnceRound map.now.lists fig.now v.0)
-        (IsTurned map.now.lists fig.now v.0) }
-{
-    turns_once(map, v, |d| is_break(map, fig, columns, d))
-}
-
-// The least vertex whose list is not in the order of its edges.
-pub(crate) fn first_turned(map: &HalfMap, fig: &BarFigure, columns: &[i32]) -> Option<VertexId>
-    requires known { IsHalfMap map.now }
-    requires columns { AreColumns map.now fig.now columns.now }
-    ensures { MatchOption result (KeepsTurns map.now.lists fig.now)
-        (λ v. IsLeast (IsTurned map.now.lists fig.now) v.0) }
-{
-    for v in 0..map.n() {
-        if !keeps_rotation(map, fig, columns, VertexId(v)) {
-            return Some(VertexId(v));
-        }
+impl Drawing<'_> {
+    // Says whether the edge of a dart does not come before that of the entry behind it.
+    fn is_break(&self, d: DartId) -> bool
+        requires live { IsLive self.now.map.now d.0 }
+        ensures { IsTrue result ↔ HoldsAt self.now.map.now (Breaks self.now.map.now.lists self.now.fig.now) d.0 }
+    {
+        self.map.facts();
+        let next = self.map.next(d);
+        let x = self.column_at(d);
+        let z = self.column_at(next);
+        !is_earlier(
+            self.fig,
+            self.map.tail(d),
+            self.map.head(d),
+            self.map.head(next),
+            x,
+            z,
+        )
     }
-    None
+
+    // Says whether the list of `v` goes once round, where it has at least two entries.
+    fn keeps_rotation(&self, v: VertexId) -> bool
+        requires vertex { v.0 < length self.now.map.now.lists }
+        ensures { MatchBool result (2 ≤ length (list_of self.now.map.now.lists v.0) → GoesOnceRound self.now.map.now.lists self.now.fig.now v.0)
+            (IsTurned self.now.map.now.lists self.now.fig.now v.0) }
+    {
+        self.map.facts();
+        turns_once(self.map, v, |d| self.is_break(d))
+    }
+
+    // Returns the least vertex whose list is not in the order of its edges.
+    pub(crate) fn first_turned(&self) -> Option<VertexId>
+        ensures { MatchOption result (KeepsTurns self.now.map.now.lists self.now.fig.now)
+            (λ v. IsLeast (IsTurned self.now.map.now.lists self.now.fig.now) v.0) }
+    {
+        for v in 0..self.map.n() {
+            if !self.keeps_rotation(VertexId(v)) {
+                return Some(VertexId(v));
+            }
+        }
+        None
+    }
 }

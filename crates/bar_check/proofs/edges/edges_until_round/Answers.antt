@@ -6,7 +6,7 @@ use Rattle.bar_check.proofs.edges.edges_until_round.Goals as goal
 
 pub counted-count-requires : goal.counted-count-requires
 counted-count-requires c =
-    let l = (at_place c.args.map.now c.requires.known c.args.v.0 c.round.d.0 c.round.invariant.dart).0 in
+    let l = (at_place c.args.map.now c.facts.ensures c.args.v.0 c.round.d.0 c.round.invariant.dart).0 in
     let few = c.round.invariant.few in
     let degree = c.requires.degree in
     omega arith
@@ -16,7 +16,7 @@ round-smaller c =
     let map = c.args.map.now in
     let v = c.args.v.0 in
     let d = c.round.d.0 in
-    let within = (at_place map c.requires.known v d c.round.invariant.dart).0 in
+    let within = (at_place map c.facts.ensures v d c.round.invariant.dart).0 in
     let later = place_at-later map v d c.in-Some.next.0 (c.in-Some.ensures v (head_at map d) c.round.invariant.dart) in
     omega arith
 
@@ -26,7 +26,7 @@ round-preserved c =
     let v = c.args.v.0 in
     let d = c.round.d.0 in
     let dart = c.round.invariant.dart in
-    let at = at_place map c.requires.known v d dart in
+    let at = at_place map c.facts.ensures v d dart in
     let next = c.in-Some.ensures v (head_at map d) dart in
     let place = place_at-later map v d c.in-Some.next.0 next in
     let more = c.counted-count.ensures.more (list_of map.lists v) (place_at map v d) at.0 (at.1 ∙ head_at-result map v d c.head.result.0 dart c.head.ensures) c.round.invariant.count in
@@ -44,6 +44,6 @@ returns-in-None-clause-count c =
     let v = c.args.v.0 in
     let d = c.round.d.0 in
     let dart = c.round.invariant.dart in
-    let at = at_place map c.requires.known v d dart in
+    let at = at_place map c.facts.ensures v d dart in
     let more = c.counted-count.ensures.more (list_of map.lists v) (place_at map v d) at.0 (at.1 ∙ head_at-result map v d c.head.result.0 dart c.head.ensures) c.round.invariant.count in
     edges_until-all map.lists v c.args.end (place_at map v d + 1) c.counted-count.result (c.in-None.ensures v (head_at map d) dart) more

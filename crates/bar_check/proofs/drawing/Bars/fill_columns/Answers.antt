@@ -1,0 +1,18 @@
+use Rattle.std.proofs.Common.{arith}
+use Rattle.bar_check.proofs.TableLemmas.{AreFilled-none, AreColumns-from, first-none, first-from}
+use Rattle.bar_check.proofs.drawing.Bars.fill_columns.Goals as goal
+
+pub loop-b-init : goal.loop-b-init
+loop-b-init c =
+    record {
+      filled = AreFilled-none c.args.self.now.map.now c.args.self.now.fig.now c.facts.ensures c.fill_next.new.next c.args.columns.now c.fill_next.ensures.size c.fill_next.ensures.next;
+      found = first-none c.args.self.now.map.now c.args.self.now.fig.now c.facts.ensures c.args.self.now.width;
+    }
+
+pub returns-clause-columns : goal.returns-clause-columns
+returns-clause-columns c =
+    AreColumns-from c.args.self.now.map.now c.args.self.now.fig.now c.facts.ensures c.loop-b.b c.loop-b.next c.loop-b.columns (omega (arith, c.loop-b-test.false, c.n-b-end.ensures.count)) c.loop-b.invariant.filled
+
+pub returns-clause-bad : goal.returns-clause-bad
+returns-clause-bad c =
+    first-from c.args.self.now.map.now c.args.self.now.fig.now c.facts.ensures c.args.self.now.width c.loop-b.b (omega (arith, c.loop-b-test.false, c.n-b-end.ensures.count)) c.loop-b.bad c.loop-b.invariant.found
