@@ -1,121 +1,67 @@
 //! The check of a drawing of a triangulation by its faces.
-ghost use Rattle.std.specs.Prelude.{◌≡◌, ◌⊎◌, ◌+◌, ◌<◌, ◌↔◌, ℕ, List, length, slice_index, IsTrue, Some, MatchBool, MatchOption, pos, ◌<ℤ◌};
+ghost use Rattle.std.specs.Prelude.{◌≡◌, ◌⊎◌, ◌+◌, ◌<◌, ◌↔◌, ℕ, length, IsTrue, Some, MatchBool, MatchOption, pos, ◌<ℤ◌};
 ghost use Rattle.map_theory.specs.Maps.{HasDart, follows};
 ghost use Rattle.map_theory.specs.Paths.{SameFace};
-ghost use Rattle.half_edges.specs.Map.{IsHalfMap, IsLive, dart_at, first_dart};
+ghost use Rattle.half_edges.specs.Map.{IsLive, first_dart};
 ghost use Rattle.plane_laws.specs.Triangulations.{IsTriangulation};
 ghost use Rattle.pg_plane.specs.Geometry.{area};
-ghost use Rattle.pg_plane.specs.Range.{IsInRange};
 ghost use Rattle.plane_drawings.specs.Drawing.{place};
-ghost use Rattle.vertex_rounds.specs.Least.{IsLeast, IsLeastPair, IsLeastTriple};
+ghost use Rattle.vertex_rounds.specs.Least.{IsLeastTriple};
 ghost use Rattle.draw_check.specs.Faults.{HasPlaces};
-ghost use Rattle.draw_check.specs.Loops.{IsDrawn};
-ghost use Rattle.vertex_rounds.specs.Rounds.{IsLeastOf, HoldsAt};
+ghost use Rattle.vertex_rounds.specs.Rounds.{HoldsAt};
 ghost use Rattle.draw_check.specs.FaceVerdicts.{IsDrawnWrong, IsWrongFrom, IsFaceVerdict};
 ghost use Rattle.vertex_rounds.specs.Rounds.{dart_of};
 
 use crate::FaceVerdict;
-use crate::places::{corner_of, first_outside, place_at};
+use crate::drawing::Drawing;
+use crate::places::{corner_of, place_at};
 use half_edges::{DartId, HalfMap, VertexId};
 use pg_plane::{GridFigure, Point, Points, area2};
 use vertex_rounds::first_dart;
 
-// Whether an id is one of three.
+// Says whether an id is one of three.
 fn is_one_of(d: DartId, one: DartId, two: DartId, three: DartId) -> bool
     ensures { IsTrue result ↔ ((d.0 ≡ one.0) ⊎ ((d.0 ≡ two.0) ⊎ (d.0 ≡ three.0))) }
 {
     d.0 == one.0 || d.0 == two.0 || d.0 == three.0
 }
 
-// Whether a dart lies on the face left of the base, which is a triangle.
+// Says whether a dart lies on the face left of the base, which is a triangle.
 fn is_on_base(map: &HalfMap, base: DartId, d: DartId) -> bool
-    requires known { IsHalfMap map.now }
     requires triangulation { IsTriangulation map.now.lists }
     requires base { IsLive map.now base.0 }
     requires live { IsLive map.now d.0 }
     ensures { IsTrue result ↔ SameFace map.now.lists (dart_of map.now base.0) (dart_of map.now d.0) }
 {
+    map.facts();
     let second = map.face_step(base);
     let third = map.face_step(second);
     is_one_of(d, base, second, third)
 }
 
-// Whether a number is negative, or positive where that is asked.
+// Says whether a number is negative, or positive where that is asked.
 fn has_sign(number: i64, is_negative: bool) -> bool
     ensures { IsTrue result ↔ MatchBool is_negative (number <ℤ pos 0) (pos 0 <ℤ number) }
 {
     if is_negative { number < 0 } else { 0 < number }
 }
 
-// Whether the first of three vertices is the least.
+// Says whether the first of three vertices is the least.
 fn is_least(a: VertexId, b: VertexId, c: VertexId) -> bool
     ensures { IsTrue result ↔ ((a.0 < b.0) × (a.0 < c.0)) }
 {
     a.0 < b.0 && a.0 < c.0
 }
 
-// Whether the way from `a` over `b` to `c` turns to the left, or to the right where the face is the outer
-// one.
-fn turns_well(points: &Points, is_outer: bool, a: VertexId, b: VertexId, c: VertexId) -> bool
-    requires in_range { (v : ℕ) → v < length points.now → IsInRange (place points.now v) }
-    requires a { a.0 < length points.now }
-    requires b { b.0 < length points.now }
-    requires c { c.0 < length points.now }
-    ensures { IsTrue result ↔ MatchBool is_outer (area (place points.now a.0) (place points.now b.0) (place points.now c.0) <ℤ pos 0)
-        (pos 0 <ℤ area (place points.now a.0) (place points.now b.0) (place points.now c.0)) }
-{
-    let double = area2(
-        place_at(points, a),
-        place_at(points, b),
-        place_at(points, c),
-    );
-    has_sign(double, is_outer)
-}
-
-// Whether the face of a dart is drawn wrong and the tail is its least vertex.
-fn is_wrong(map: &HalfMap, points: &Points, base: DartId, d: DartId) -> bool
-    requires drawn { IsDrawn map.now points.now }
-    requires triangulation { IsTriangulation map.now.lists }
-    requires base { IsLive map.now base.0 }
-    requires live { IsLive map.now d.0 }
-    ensures { IsTrue result ↔ HoldsAt map.now (IsWrongFrom map.now points.now base.0) d.0 }
-{
-    let a = map.tail(d);
-    let b = map.head(d);
-    let c = map.head(map.face_step(d));
-    is_least(a, b, c) && !turns_well(points, is_on_base(map, base, d), a, b, c)
-}
-
 // The vertex to which the face of the dart from `a` to `b` goes on.
 fn third_vertex(map: &HalfMap, a: VertexId, b: VertexId) -> Option<VertexId>
-    requires known { IsHalfMap map.now }
     requires a { a.0 < length map.now.lists }
     requires b { b.0 < length map.now.lists }
     ensures { MatchOption result (¬ HasDart map.now.lists a.0 b.0) (λ c. follows map.now.lists b.0 a.0 ≡ c.0) }
 {
+    map.facts();
     match map.dart_of(a, b) {
         Some(d) => Some(map.head(map.face_step(d))),
-        None => None,
-    }
-}
-
-// The least face that is drawn wrong, written from its least vertex.
-fn first_wrong(
-    map: &HalfMap,
-    points: &Points,
-    base: DartId,
-) -> Option<(VertexId, VertexId, VertexId)>
-    requires drawn { IsDrawn map.now points.now }
-    requires triangulation { IsTriangulation map.now.lists }
-    requires base { IsLive map.now base.0 }
-    ensures { MatchOption result ((a b c : ℕ) → ¬ IsDrawnWrong map.now.lists points.now (dart_of map.now base.0) a b c)
-        (λ p. IsLeastTriple (IsDrawnWrong map.now.lists points.now (dart_of map.now base.0)) p.0.0 p.1.0 p.2.0) }
-{
-    match first_dart(map, |d| is_wrong(map, points, base, d)) {
-        Some((a, b)) => match third_vertex(map, a, b) {
-            Some(c) => Some((a, b, c)),
-            None => None,
-        },
         None => None,
     }
 }
@@ -138,10 +84,11 @@ pub fn check_points_by_faces(
     ensures { IsFaceVerdict tri.now.lists points.now corner.x corner.y (dart_of tri.now base.0) result }
 {
     tri.facts();
-    if let Some(v) = first_outside(tri, points, corner) {
+    let drawing = Drawing { map: tri, points };
+    if let Some(v) = drawing.first_outside(corner) {
         return FaceVerdict::OutOfGrid(v);
     }
-    match first_wrong(tri, points, base) {
+    match drawing.first_wrong(base) {
         Some((a, b, c)) => FaceVerdict::Wrong(a, b, c),
         None => FaceVerdict::Yes,
     }
@@ -155,4 +102,54 @@ pub fn check_by_faces(tri: &HalfMap, base: DartId, fig: &GridFigure) -> FaceVerd
     ensures { IsFaceVerdict tri.now.lists fig.now.points fig.now.width fig.now.height (dart_of tri.now base.0) result }
 {
     check_points_by_faces(tri, base, &fig.points, corner_of(fig))
+}
+
+impl Drawing<'_> {
+    // Says whether the way from `a` over `b` to `c` turns to the left, or to the right where the face is the outer
+    // one.
+    fn turns_well(&self, is_outer: bool, a: VertexId, b: VertexId, c: VertexId) -> bool
+        requires a { a.0 < length self.now.points.now }
+        requires b { b.0 < length self.now.points.now }
+        requires c { c.0 < length self.now.points.now }
+        ensures { IsTrue result ↔ MatchBool is_outer (area (place self.now.points.now a.0) (place self.now.points.now b.0) (place self.now.points.now c.0) <ℤ pos 0)
+            (pos 0 <ℤ area (place self.now.points.now a.0) (place self.now.points.now b.0) (place self.now.points.now c.0)) }
+    {
+        let double = area2(
+            place_at(self.points, a),
+            place_at(self.points, b),
+            place_at(self.points, c),
+        );
+        has_sign(double, is_outer)
+    }
+
+    // Says whether the face of a dart is drawn wrong and the tail is its least vertex.
+    fn is_wrong(&self, base: DartId, d: DartId) -> bool
+        requires triangulation { IsTriangulation self.now.map.now.lists }
+        requires base { IsLive self.now.map.now base.0 }
+        requires live { IsLive self.now.map.now d.0 }
+        ensures { IsTrue result ↔ HoldsAt self.now.map.now (IsWrongFrom self.now.map.now self.now.points.now base.0) d.0 }
+    {
+        self.map.facts();
+        let a = self.map.tail(d);
+        let b = self.map.head(d);
+        let c = self.map.head(self.map.face_step(d));
+        is_least(a, b, c) && !self.turns_well(is_on_base(self.map, base, d), a, b, c)
+    }
+
+    // Returns the least face that is drawn wrong, written from its least vertex.
+    fn first_wrong(&self, base: DartId) -> Option<(VertexId, VertexId, VertexId)>
+        requires triangulation { IsTriangulation self.now.map.now.lists }
+        requires base { IsLive self.now.map.now base.0 }
+        ensures { MatchOption result ((a b c : ℕ) → ¬ IsDrawnWrong self.now.map.now.lists self.now.points.now (dart_of self.now.map.now base.0) a b c)
+            (λ p. IsLeastTriple (IsDrawnWrong self.now.map.now.lists self.now.points.now (dart_of self.now.map.now base.0)) p.0.0 p.1.0 p.2.0) }
+    {
+        self.map.facts();
+        match first_dart(self.map, |d| self.is_wrong(base, d)) {
+            Some((a, b)) => match third_vertex(self.map, a, b) {
+                Some(c) => Some((a, b, c)),
+                None => None,
+            },
+            None => None,
+        }
+    }
 }

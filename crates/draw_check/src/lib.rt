@@ -8,6 +8,7 @@ ghost use Rattle.draw_check.specs.Laws.{ValidWithFewer, YesIsValid};
 
 mod blocks;
 mod crossings;
+mod drawing;
 mod edges;
 mod faces;
 mod heads;

@@ -1,17 +1,17 @@
 //! The check that the face of a base is the outer one.
-ghost use Rattle.std.specs.Prelude.{◌≡◌, ◌+◌, ◌<◌, ◌↔◌, ℕ, List, length, slice_index, IsTrue, Some, IfOk, MatchOption};
+ghost use Rattle.std.specs.Prelude.{◌≡◌, ◌+◌, ◌<◌, ◌↔◌, ℕ, length, IsTrue, Some, IfOk, MatchOption};
 ghost use Rattle.map_theory.specs.Maps.{component_count};
-ghost use Rattle.half_edges.specs.Map.{IsHalfMap, IsLive, dart_at, first_dart};
+ghost use Rattle.half_edges.specs.Map.{IsLive, first_dart};
 ghost use Rattle.euler_faces.specs.FaceWalks.{AreFaces};
-ghost use Rattle.vertex_rounds.specs.Least.{IsLeast, IsLeastPair};
+ghost use Rattle.vertex_rounds.specs.Least.{IsLeastPair};
 ghost use Rattle.draw_check.specs.Faults.{HasPlaces};
-ghost use Rattle.vertex_rounds.specs.Rounds.{IsLeastOf, HoldsAt};
+ghost use Rattle.vertex_rounds.specs.Rounds.{HoldsAt};
 ghost use Rattle.vertex_rounds.specs.Rounds.{dart_of};
 ghost use Rattle.draw_check.specs.FaceSums.{HasLowSum};
 ghost use Rattle.draw_check.specs.Outer.{IsOuterVerdict};
 
 use crate::OuterVerdict;
-use crate::sums::face_sums;
+use crate::drawing::Drawing;
 use euler_faces::{Faces, euler, faces};
 use half_edges::{DartId, HalfMap, VertexId};
 use pg_plane::{GridFigure, Points};
@@ -20,13 +20,13 @@ use vertex_rounds::first_dart;
 
 // Whether a dart lies on another face than the base's, whose sum is not positive.
 fn has_low_sum(map: &HalfMap, faces: &Faces, sums: &[i128], base: DartId, d: DartId) -> bool
-    requires known { IsHalfMap map.now }
     requires faces { AreFaces map.now faces.now }
     requires count { length sums.now ≡ length faces.now }
     requires base { IsLive map.now base.0 }
     requires live { IsLive map.now d.0 }
     ensures { IsTrue result ↔ HoldsAt map.now (HasLowSum map.now faces.now sums.now base.0) d.0 }
 {
+    map.facts();
     let outer = faces.of_dart(base);
     let face = faces.of_dart(d);
     face.0 != outer.0 && sums[face.0 as usize] <= 0
@@ -39,13 +39,13 @@ fn first_low(
     sums: &[i128],
     base: DartId,
 ) -> Option<(VertexId, VertexId)>
-    requires known { IsHalfMap map.now }
     requires faces { AreFaces map.now faces.now }
     requires count { length sums.now ≡ length faces.now }
     requires base { IsLive map.now base.0 }
     ensures { MatchOption result ((v u : ℕ) → ¬ HasLowSum map.now faces.now sums.now base.0 v u)
         (λ p. IsLeastPair (HasLowSum map.now faces.now sums.now base.0) p.0.0 p.1.0) }
 {
+    map.facts();
     first_dart(map, |d| has_low_sum(map, faces, sums, base, d))
 }
 
@@ -63,7 +63,7 @@ pub fn check_outer_connected(
 {
     map.facts();
     let faces = faces(alloc, map)?;
-    let sums = face_sums(alloc, map, points, &faces)?;
+    let sums = Drawing { map, points }.face_sums(alloc, &faces)?;
     match first_low(map, &faces, &sums, base) {
         Some((v, u)) => Ok(OuterVerdict::Inside(v, u)),
         None => Ok(OuterVerdict::Yes),

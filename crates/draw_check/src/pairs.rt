@@ -4,83 +4,14 @@ ghost use Rattle.plane_drawings.specs.Drawing.{IsPlaneDrawing};
 ghost use Rattle.plane_drawings.specs.SweepCheckLines.{firm_lists};
 ghost use Rattle.draw_check.specs.declared.verdict.Verdict.TheVariants.{Yes};
 ghost use Rattle.draw_check.specs.Faults.{HasPlaces};
-ghost use Rattle.draw_check.specs.Loops.{IsDrawn};
 ghost use Rattle.draw_check.specs.Verdicts.{AllInGrid, NoneShareAPlace, NoneOnEdge, NoneCross, IsVerdict};
 
 use crate::Verdict;
-use crate::crossings::first_crossing;
-use crate::edges::first_on_edge;
-use crate::on_edges::first_on_edges;
-use crate::places::{corner_of, first_outside, first_shared};
-use crate::turns::first_turned;
+use crate::drawing::Drawing;
+use crate::places::corner_of;
 use half_edges::HalfMap;
 use pg_plane::{GridFigure, Point, Points};
 use plane_drawings::sweep_check::loose_vertices;
-
-// The first vertex on an edge or the first two edges that cross, in this order, where no two vertices stand
-// at one place. Without the edges of the loose vertices the drawing is plane, where they are known.
-fn first_meeting(map: &HalfMap, points: &Points, loose: Option<&[u16]>) -> Option<Verdict>
-    requires drawn { IsDrawn map.now points.now }
-    requires apart { NoneShareAPlace map.now.lists points.now }
-    requires plane { IfSome loose (λ l. IsPlaneDrawing (firm_lists l.now map.now.lists) points.now) }
-    ensures { MatchOption result (NoneShareAPlace map.now.lists points.now × NoneOnEdge map.now.lists points.now × NoneCross map.now.lists points.now)
-        (λ verdict. (width height : ℤ) → AllInGrid map.now.lists points.now width height → IsVerdict map.now.lists points.now width height verdict) }
-{
-    let from = first_on_edges(map, points, loose);
-    if let Some((v, e)) = first_on_edge(map, points, from) {
-        return Some(Verdict::OnEdge(v, e));
-    }
-    match first_crossing(map, points, loose) {
-        Some((e, f)) => Some(Verdict::Cross(e, f)),
-        None => None,
-    }
-}
-
-// The first two vertices at one place, the first vertex on an edge or the first two edges that cross, in
-// this order.
-fn first_pair(map: &HalfMap, points: &Points) -> Option<Verdict>
-    requires { IsDrawn map.now points.now }
-    ensures { MatchOption result (NoneShareAPlace map.now.lists points.now × NoneOnEdge map.now.lists points.now × NoneCross map.now.lists points.now)
-        (λ verdict. (width height : ℤ) → AllInGrid map.now.lists points.now width height → IsVerdict map.now.lists points.now width height verdict) }
-{
-    if let Some((u, v)) = first_shared(map, points) {
-        return Some(Verdict::SamePlace(u, v));
-    }
-    first_meeting(map, points, None)
-}
-
-// Finds the first such pair. A sweep that finds the drawing plane, or plane without the edges of a few vertices, spares
-// the search over all pairs.
-fn first_pair_by_sweep(map: &HalfMap, points: &Points) -> Option<Verdict>
-    requires { IsDrawn map.now points.now }
-    ensures { MatchOption result (NoneShareAPlace map.now.lists points.now × NoneOnEdge map.now.lists points.now × NoneCross map.now.lists points.now)
-        (λ verdict. (width height : ℤ) → AllInGrid map.now.lists points.now width height → IsVerdict map.now.lists points.now width height verdict) }
-{
-    let mut loose = [0; 8];
-    match loose_vertices(map, points, &mut loose) {
-        Some(0) => None,
-        Some(count) => first_meeting(map, points, Some(&loose[..count])),
-        None => first_pair(map, points),
-    }
-}
-
-// The first fault of a drawing, if it has one.
-fn first_fault(map: &HalfMap, points: &Points, corner: Point) -> Option<Verdict>
-    requires { IsDrawn map.now points.now }
-    ensures { MatchOption result (IsVerdict map.now.lists points.now corner.x corner.y Yes)
-        (IsVerdict map.now.lists points.now corner.x corner.y) }
-{
-    if let Some(v) = first_outside(map, points, corner) {
-        return Some(Verdict::OutOfGrid(v));
-    }
-    if let Some(verdict) = first_pair_by_sweep(map, points) {
-        return Some(verdict);
-    }
-    match first_turned(map, points) {
-        Some(v) => Some(Verdict::Turned(v)),
-        None => None,
-    }
-}
 
 /// The first fault of a drawing in the order of the variants of `Verdict`, with the least ids, or `Yes`
 /// where all points lie in the grid, the drawing is plane and the rotations are kept.
@@ -97,7 +28,8 @@ pub fn check_points(map: &HalfMap, points: &Points, corner: Point) -> Verdict
     ensures { IsVerdict map.now.lists points.now corner.x corner.y result }
 {
     map.facts();
-    match first_fault(map, points, corner) {
+    let drawing = Drawing { map, points };
+    match drawing.first_fault(corner) {
         Some(verdict) => verdict,
         None => Verdict::Yes,
     }
@@ -109,4 +41,68 @@ pub fn check(map: &HalfMap, fig: &GridFigure) -> Verdict
     ensures { IsVerdict map.now.lists fig.now.points fig.now.width fig.now.height result }
 {
     check_points(map, &fig.points, corner_of(fig))
+}
+
+impl Drawing<'_> {
+    // Returns the first vertex on an edge or the first two edges that cross, in this order, where no two vertices stand
+    // at one place. Without the edges of the loose vertices the drawing is plane, where they are known.
+    fn first_meeting(&self, loose: Option<&[u16]>) -> Option<Verdict>
+        requires apart { NoneShareAPlace self.now.map.now.lists self.now.points.now }
+        requires plane { IfSome loose (λ l. IsPlaneDrawing (firm_lists l.now self.now.map.now.lists) self.now.points.now) }
+        ensures { MatchOption result (NoneShareAPlace self.now.map.now.lists self.now.points.now × NoneOnEdge self.now.map.now.lists self.now.points.now × NoneCross self.now.map.now.lists self.now.points.now)
+            (λ verdict. (width height : ℤ) → AllInGrid self.now.map.now.lists self.now.points.now width height → IsVerdict self.now.map.now.lists self.now.points.now width height verdict) }
+    {
+        let from = self.first_on_edges(loose);
+        if let Some((v, e)) = self.first_on_edge(from) {
+            return Some(Verdict::OnEdge(v, e));
+        }
+        match self.first_crossing(loose) {
+            Some((e, f)) => Some(Verdict::Cross(e, f)),
+            None => None,
+        }
+    }
+
+    // Returns the first two vertices at one place, the first vertex on an edge or the first two edges that cross, in
+    // this order.
+    fn first_pair(&self) -> Option<Verdict>
+        ensures { MatchOption result (NoneShareAPlace self.now.map.now.lists self.now.points.now × NoneOnEdge self.now.map.now.lists self.now.points.now × NoneCross self.now.map.now.lists self.now.points.now)
+            (λ verdict. (width height : ℤ) → AllInGrid self.now.map.now.lists self.now.points.now width height → IsVerdict self.now.map.now.lists self.now.points.now width height verdict) }
+    {
+        if let Some((u, v)) = self.first_shared() {
+            return Some(Verdict::SamePlace(u, v));
+        }
+        self.first_meeting(None)
+    }
+
+    // Finds the first such pair. A sweep that finds the drawing plane, or plane without the edges of a few vertices, spares
+    // the search over all pairs.
+    fn first_pair_by_sweep(&self) -> Option<Verdict>
+        ensures { MatchOption result (NoneShareAPlace self.now.map.now.lists self.now.points.now × NoneOnEdge self.now.map.now.lists self.now.points.now × NoneCross self.now.map.now.lists self.now.points.now)
+            (λ verdict. (width height : ℤ) → AllInGrid self.now.map.now.lists self.now.points.now width height → IsVerdict self.now.map.now.lists self.now.points.now width height verdict) }
+    {
+        self.map.facts();
+        let mut loose = [0; 8];
+        match loose_vertices(self.map, self.points, &mut loose) {
+            Some(0) => None,
+            Some(count) => self.first_meeting(Some(&loose[..count])),
+            None => self.first_pair(),
+        }
+    }
+
+    // Returns the first fault of a drawing, if it has one.
+    fn first_fault(&self, corner: Point) -> Option<Verdict>
+        ensures { MatchOption result (IsVerdict self.now.map.now.lists self.now.points.now corner.x corner.y Yes)
+            (IsVerdict self.now.map.now.lists self.now.points.now corner.x corner.y) }
+    {
+        if let Some(v) = self.first_outside(corner) {
+            return Some(Verdict::OutOfGrid(v));
+        }
+        if let Some(verdict) = self.first_pair_by_sweep() {
+            return Some(verdict);
+        }
+        match self.first_turned() {
+            Some(v) => Some(Verdict::Turned(v)),
+            None => None,
+        }
+    }
 }

@@ -4,9 +4,9 @@ ghost use Rattle.plane_drawings.specs.Drawing.{place, IsInGrid};
 ghost use Rattle.vertex_rounds.specs.Least.{IsLeast, IsLeastPair};
 ghost use Rattle.draw_check.specs.Faults.{LeavesGrid, ShareAPlace};
 ghost use Rattle.draw_check.specs.Verdicts.{AllInGrid, NoneShareAPlace};
-ghost use Rattle.draw_check.specs.Loops.{IsDrawn};
 
-use half_edges::{HalfMap, VertexId};
+use crate::drawing::Drawing;
+use half_edges::VertexId;
 use pg_plane::{GridFigure, Point, Points};
 
 // The place of a vertex.
@@ -28,60 +28,60 @@ pub(crate) fn corner_of(fig: &GridFigure) -> Point
     }
 }
 
-// Whether a point lies in the grid.
+// Says whether a point lies in the grid.
 fn is_in_grid(p: Point, corner: Point) -> bool
     ensures { IsTrue result ↔ IsInGrid corner.x corner.y p }
 {
     0 <= p.x && p.x <= corner.x && 0 <= p.y && p.y <= corner.y
 }
 
-// The least vertex outside the grid.
-pub(crate) fn first_outside(map: &HalfMap, points: &Points, corner: Point) -> Option<VertexId>
-    requires { IsDrawn map.now points.now }
-    ensures { MatchOption result (AllInGrid map.now.lists points.now corner.x corner.y)
-        (λ v. IsLeast (LeavesGrid map.now.lists points.now corner.x corner.y) v.0) }
-{
-    for v in 0..map.n() {
-        if !is_in_grid(place_at(points, VertexId(v)), corner) {
-            return Some(VertexId(v));
-        }
-    }
-    None
-}
-
-// Whether two points are one.
+// Says whether two points are one.
 fn is_same_place(p: Point, q: Point) -> bool
     ensures { IsTrue result ↔ (p ≡ q) }
 {
     p.x == q.x && p.y == q.y
 }
 
-// The least vertex after `u` that stands where `u` does.
-fn first_shared_with(map: &HalfMap, points: &Points, u: VertexId) -> Option<VertexId>
-    requires drawn { IsDrawn map.now points.now }
-    requires vertex { u.0 < length map.now.lists }
-    ensures { MatchOption result ((v : ℕ) → ¬ ShareAPlace map.now.lists points.now u.0 v)
-        (λ v. IsLeast (ShareAPlace map.now.lists points.now u.0) v.0) }
-{
-    let p = place_at(points, u);
-    for v in u.0 + 1..map.n() {
-        if is_same_place(p, place_at(points, VertexId(v))) {
-            return Some(VertexId(v));
+impl Drawing<'_> {
+    // Returns the least vertex outside the grid.
+    pub(crate) fn first_outside(&self, corner: Point) -> Option<VertexId>
+        ensures { MatchOption result (AllInGrid self.now.map.now.lists self.now.points.now corner.x corner.y)
+            (λ v. IsLeast (LeavesGrid self.now.map.now.lists self.now.points.now corner.x corner.y) v.0) }
+    {
+        for v in 0..self.map.n() {
+            if !is_in_grid(place_at(self.points, VertexId(v)), corner) {
+                return Some(VertexId(v));
+            }
         }
+        None
     }
-    None
-}
 
-// The least two vertices that stand at one place.
-pub(crate) fn first_shared(map: &HalfMap, points: &Points) -> Option<(VertexId, VertexId)>
-    requires { IsDrawn map.now points.now }
-    ensures { MatchOption result (NoneShareAPlace map.now.lists points.now)
-        (λ p. IsLeastPair (ShareAPlace map.now.lists points.now) p.0.0 p.1.0) }
-{
-    for u in 0..map.n() {
-        if let Some(v) = first_shared_with(map, points, VertexId(u)) {
-            return Some((VertexId(u), v));
+    // Returns the least vertex after `u` that stands where `u` does.
+    fn first_shared_with(&self, u: VertexId) -> Option<VertexId>
+        requires vertex { u.0 < length self.now.map.now.lists }
+        ensures { MatchOption result ((v : ℕ) → ¬ ShareAPlace self.now.map.now.lists self.now.points.now u.0 v)
+            (λ v. IsLeast (ShareAPlace self.now.map.now.lists self.now.points.now u.0) v.0) }
+    {
+        self.map.facts();
+        let p = place_at(self.points, u);
+        for v in u.0 + 1..self.map.n() {
+            if is_same_place(p, place_at(self.points, VertexId(v))) {
+                return Some(VertexId(v));
+            }
         }
+        None
     }
-    None
+
+    // Returns the least two vertices that stand at one place.
+    pub(crate) fn first_shared(&self) -> Option<(VertexId, VertexId)>
+        ensures { MatchOption result (NoneShareAPlace self.now.map.now.lists self.now.points.now)
+            (λ p. IsLeastPair (ShareAPlace self.now.map.now.lists self.now.points.now) p.0.0 p.1.0) }
+    {
+        for u in 0..self.map.n() {
+            if let Some(v) = self.first_shared_with(VertexId(u)) {
+                return Some((VertexId(u), v));
+            }
+        }
+        None
+    }
 }

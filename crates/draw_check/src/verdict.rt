@@ -1,4 +1,4 @@
-//! What a check of a drawing answers.
+//! Verdicts on a drawing.
 
 use half_edges::{Ends, VertexId};
 

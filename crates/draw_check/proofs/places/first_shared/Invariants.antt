@@ -1,6 +1,0 @@
-use Rattle.std.proofs.Common.{ℕ, ◌<◌}
-use Rattle.draw_check.specs.Faults.{ShareAPlace}
-use Rattle.draw_check.proofs.places.first_shared.Given as goal
-
-abbrev pub invariant-loop-u : goal.invariant-loop-u
-invariant-loop-u l = (s v : ℕ) → s < l.u → ¬ ShareAPlace l.map.lists l.points s v
