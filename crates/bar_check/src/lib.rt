@@ -1,6 +1,6 @@
 //! The check of visibility drawings, in which each vertex is a level bar and each edge a column between two
-//! bars: whether heights, bars and columns are in their ranges, each column sees both its ends with no bar in
-//! its way, and each vertex has its edges in the order of its list; and where not, which fault comes first.
+//! bars. It says whether heights, bars and columns are in their ranges, each column sees both its ends with no bar
+//! in its way, and each vertex has its edges in the order of its list. Where not, it says which fault comes first.
 #![tactic(auto)]
 
 ghost use Rattle.bar_check.specs.Laws.{EdgeNumbers, OnceIsInOrder, OverlapIsNever, YesIsValid};

@@ -1,6 +1,6 @@
 //! Checks of straight-line drawings: whether all points lie in the grid, the drawing is plane, and each
-//! vertex has its neighbours in the order of its list; and where not, which fault comes first. Of a
-//! triangulation by its faces; and of a connected one whether the face of a base dart is the outer one.
+//! vertex has its neighbours in the order of its list. Where not, they say which fault comes first. Other checks
+//! go by the faces of a triangulation, and say of a connected map whether the face of a base dart is the outer one.
 #![tactic(auto)]
 
 ghost use Rattle.draw_check.specs.FaceLaws.{FacesYesForFewer, FacesYesIsYes};

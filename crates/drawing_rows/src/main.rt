@@ -5,8 +5,8 @@
 //! Vertices are numbered from 0. A map is written as its lists with `;` between them, as `1 2;2 0;0 1`, or as the
 //! name of a family and a number of vertices, as `wheel 300`.
 //!
-//! What there is no memory for is left out of an answer, and so is all of a row that asks for nothing: the line then
-//! differs from what is wanted.
+//! An answer leaves out all that there is no memory for, and a row that asks for nothing has none: the line then differs
+//! from the text that is wanted.
 //!
 //! A check of these functions costs most where owned values stand beside one another and where a `?` ends one early.
 //! So each owned value is made in one function, which lends it to the next, and writing is a call that cannot fail.

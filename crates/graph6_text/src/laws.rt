@@ -1,4 +1,4 @@
-//! What lines and graphs have to do with each other, as functions that do nothing.
+//! The laws on lines and graphs, as functions that do nothing.
 ghost use Rattle.graph6_text.specs.Laws.{LinesAreGraphs, OneGraph, OneLine};
 
 /// A line is that of one graph: what was written is read as the same graph.

@@ -1,4 +1,4 @@
-//! What a map is: simple maps, darts, faces, components, genus, and the Euler bound.
+//! Maps: simple maps, darts, faces, components, genus, and the Euler bound.
 #![tactic(auto)]
 
 pub mod euler_bound;

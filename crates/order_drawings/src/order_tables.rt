@@ -1,4 +1,4 @@
-//! What methods of drawing read from a canonical order and write by it: the rows of the contour over which its
+//! Tables that methods of drawing read from a canonical order and write by it: the rows of the contour over which its
 //! vertices are put, and the points of vertices by their places in it.
 
 ghost use Rattle.order_drawings.specs.Ranks.{RanksArePlaces};

@@ -1,6 +1,6 @@
-//! The check of rectangular duals, in which each vertex is a rectangle, and two share a side just where their
-//! vertices are adjacent: whether the rectangles fill the one that they span, without overlap, whether all
-//! contacts are edges and all edges contacts, and whether the outer face is the frame; and where not, which
+//! The check of rectangular duals, in which each vertex is a rectangle, and two share a side exactly where their
+//! vertices are adjacent. It says whether the rectangles fill the one that they span, without overlap, whether all
+//! contacts are edges and all edges contacts, and whether the outer face is the frame. Where not, it says which
 //! fault comes first.
 #![tactic(auto)]
 

@@ -1,4 +1,4 @@
-//! What a third vertex has to do with a contracted edge, as a function that does nothing.
+//! The law on a contracted edge and a third vertex, as a function that does nothing.
 ghost use Rattle.embed_witnesses.specs.Contractible.{ContractedExactly};
 
 /// Contracting an edge of a three-connected graph with at least five vertices leaves a three-connected graph

@@ -1,4 +1,4 @@
-//! What a witness is changed into.
+//! Changes of a witness.
 
 /// A vertex put into a path: one of the ends `a` and `b` of an edge.
 #[derive(Clone, Copy)]

@@ -1,4 +1,4 @@
-//! What the ends merged have to do with the edge contracted, as a function that does nothing.
+//! The law on merged ends and the contracted edge, as a function that does nothing.
 ghost use Rattle.embed_witnesses.specs.Merged.{MergedIsContracted};
 
 /// The graph with the ends of an edge merged stands for the graph with the edge contracted: each of its edges
