@@ -13,7 +13,8 @@ fn nearer(most: u64, value: u64) -> u64
 pub fn is_digit_byte(byte: u8) -> bool
     ensures { result ≡ is_digit byte }
 {
-    b'0' <= byte && byte <= b'9'
+    let code = u32::from(byte);
+    48 <= code && code <= 57
 }
 
 /// The least of `most` and a number with one digit more, or nothing where the byte is no digit.

@@ -245,7 +245,7 @@ fn more_digits(value: u32, byte: u8) -> u32
     requires digit { is_digit byte ≡ true }
     ensures { result ≡ 10 * value + (byte - 48) }
 {
-    10 * value + u32::from(byte) - 48
+    10 * value + (u32::from(byte) - 48)
 }
 
 // The digits that stand from `at` on, or the first `count` of them.
