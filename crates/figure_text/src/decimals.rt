@@ -13,8 +13,7 @@ fn nearer(most: u64, value: u64) -> u64
 pub fn is_digit_byte(byte: u8) -> bool
     ensures { result ≡ is_digit byte }
 {
-    let code = u32::from(byte);
-    48 <= code && code <= 57
+    b'0' <= byte && byte <= b'9'
 }
 
 /// The least of `most` and a number with one digit more, or nothing where the byte is no digit.

@@ -5,7 +5,7 @@ ghost use Rattle.std.specs.List.{slice_split};
 ghost use Rattle.figure_text.specs.Plain.{IsPlainAt, IsClosingAt};
 ghost use Rattle.figure_text.specs.Words.{far, is_digit, canonical, words_left, decimal_from, number_of, signed_of, plus, minus, word_of as word_meant, words_of, numeral_word, closing_of, HasOther};
 
-use crate::decimals::{decimal_number, is_canonical, is_digit_byte};
+use crate::decimals::{decimal_number, is_canonical};
 use std::alloc::{AllocError, Global};
 
 /// A whole number by its sign and its size. A size beyond all ranges stands as `FAR`.
@@ -238,14 +238,13 @@ pub struct Digits {
     pub end: usize,
 }
 
-// A number with a digit more.
+// How far a byte stands from the digit 0, or a number beyond 9 where it is no digit.
 #[inline(always)]
-fn more_digits(value: u32, byte: u8) -> u32
-    requires few { value < 10000000 }
-    requires digit { is_digit byte ≡ true }
-    ensures { result ≡ 10 * value + (byte - 48) }
+fn digit_of(byte: u8) -> u32
+    ensures is { nat_lt result 10 ≡ is_digit byte }
+    ensures value { is_digit byte ≡ true → result ≡ byte - 48 }
 {
-    10 * value + (u32::from(byte) - 48)
+    u32::from(byte).wrapping_sub(48)
 }
 
 // The digits that stand from `at` on, or the first `count` of them.
@@ -260,10 +259,11 @@ fn first_digits(line: &[u8], at: usize, count: usize) -> Digits
 {
     let mut value = 0;
     for i in 0..count {
-        if !is_digit_byte(line[at + i]) {
+        let digit = digit_of(line[at + i]);
+        if digit > 9 {
             return Digits { value, end: at + i };
         }
-        value = more_digits(value, line[at + i]);
+        value = 10 * value + digit;
     }
     Digits {
         value,
