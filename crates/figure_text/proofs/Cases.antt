@@ -6,7 +6,7 @@ use Rattle.kuratowski.specs.declared.witness.Kind.TheVariants.{K5, K33}
 use Rattle.kuratowski.specs.declared.witness.Witness.{Witness}
 use Rattle.kuratowski.specs.Witnesses.{pairs_of}
 use Rattle.figure_text.specs.Figures.{ids}
-use Rattle.figure_text.specs.Text.{witness_first_line, branch_line, path_line, path_lines, witness_text}
+use Rattle.figure_text.specs.Text.{witness_first_line, vertex_line, vertex_lines, witness_text}
 
 -- lines, each closed by byte 10
 abbrev closed : List (List ℕ) → List ℕ
@@ -29,7 +29,7 @@ five : witness_text 1 (codes "D~{") (of_edges K5 (0 ∷ 1 ∷ 2 ∷ 3 ∷ 4 ∷ 
     ∷ codes "path 3 4"
     ∷ codes "path 3 5"
     ∷ codes "path 4 5" ∷ [])
-unfolding witness_first_line branch_line path_line path_lines digits
+unfolding witness_first_line vertex_lines vertex_line digits
 five = refl
 
 three_by_three : witness_text 1 (codes "EFz_") (of_edges K33 (0 ∷ 1 ∷ 2 ∷ 3 ∷ 4 ∷ 5 ∷ [])) ≡ closed (
@@ -44,5 +44,5 @@ three_by_three : witness_text 1 (codes "EFz_") (of_edges K33 (0 ∷ 1 ∷ 2 ∷ 
     ∷ codes "path 3 4"
     ∷ codes "path 3 5"
     ∷ codes "path 3 6" ∷ [])
-unfolding witness_first_line branch_line path_line path_lines digits
+unfolding witness_first_line vertex_lines vertex_line digits
 three_by_three = refl

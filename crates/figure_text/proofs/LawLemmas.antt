@@ -3,7 +3,8 @@ use Rattle.std.proofs.Common.{◌≡◌, ℕ, zero, suc, ◌+◌, ◌-◌, ◌<�
 use Rattle.std.specs.Prelude.{codes, decimal, map, All, Option, Some, IsTrue, IsFalse}
 use Rattle.std.proofs.lemmas.List.{drop-drop}
 use Rattle.std.proofs.Math.Seq.{drop-append_seam, take-length}
-use Rattle.std.proofs.lemmas.List.Elements.{All-get_or, All-from_recursion}
+use Rattle.std.proofs.lemmas.List.Elements.{All-nil, All-get_or, All-from_recursion}
+use Rattle.std.proofs.lemmas.List.{length-map}
 use Rattle.map_lists.specs.Lists.{Lists}
 use Rattle.pg_plane.specs.declared.point.Point.{Point}
 use Rattle.pg_plane.specs.declared.figure.BarFigure.{BarFigure}
@@ -20,26 +21,31 @@ use Rattle.figure_text.specs.declared.judge.Kind.{Kind}
 use Rattle.figure_text.specs.declared.judge.Kind.TheVariants.{Grid, Bars, Rects, Witness}
 use Rattle.figure_text.specs.declared.read.Item.TheVariants.{Drawn}
 use Rattle.figure_text.specs.Words.{word_of, words_of, word_at}
+use Rattle.graph6_text.specs.Graphs.{EdgeGraph}
 use Rattle.graph6_text.specs.Lines.{IsLine as IsGraphLine}
 use Rattle.graph6_text.proofs.LineLemmas.{lines_are_graphs}
+use Rattle.kuratowski.specs.declared.witness.Witness.{Witness as AWitness}
 use Rattle.kuratowski.specs.Witnesses.{pairs_of}
+use Rattle.figure_text.specs.Front.{IsGraphOf}
 use Rattle.figure_text.specs.Lines.{size, is_natural, kind_by, kind_of, rows_due, IsTail, TailInRange}
 use Rattle.figure_text.specs.Reading.{IsPlain, is_note, Rows, point_of, vertices_from, of_lines}
 use Rattle.figure_text.specs.Drafts.{integer_in}
-use Rattle.figure_text.specs.Pieces.{pieces, front_length, grid_front, bar_front, rect_front, is_long}
-use Rattle.figure_text.specs.Text.{texts, front_words, first_line, job_word, vertex_line, vertex_lines, grid_numbers, bar_numbers, rect_numbers, columns_line, HasBars, HasRects, point_at, integer_at}
+use Rattle.figure_text.specs.Pieces.{pieces, front_length, grid_front, bar_front, rect_front, row_front}
+use Rattle.figure_text.specs.Text.{texts, joined, front_words, first_line, job_word, vertex_line, vertex_lines, grid_numbers, bar_numbers, rect_numbers, columns_line, HasBars, HasRects, HasPaths, point_at, integer_at, vertex_numbers, witness_lists, witness_lines}
 use Rattle.figure_text.specs.Figures.{IsHead, IsBody, StandsAt, lines_due}
-use Rattle.figure_text.specs.Laws.{sign_of, IsCoordinate, AreLists, PrintedIsRead}
+use Rattle.figure_text.specs.Laws.{sign_of, IsCoordinate, AreLists, AreNumbered, PrintedIsRead}
 use Rattle.figure_text.proofs.NumeralLemmas.{Dark, decimal-dark, word_of-decimal}
-use Rattle.figure_text.proofs.WordLemmas.{words_of-last, words_of-next, Inline-next, Inline-dark, IsPlain-inline}
 use Rattle.figure_text.proofs.UptoLemmas.{lines_upto, length-lines_upto, closed-lines_upto, Rows-lines_upto, of_lines-upto}
-use Rattle.figure_text.proofs.RoundLemmas.{neighbour_words, read_words, line_text, vertex_line-text, IsFilled, vertex-plain, vertex-words, vertex-good, vertex-list, value-again, name-dark}
-use Rattle.figure_text.proofs.WitnessLemmas.{witness_head, witness_body, witness_first_line-text, graph-dark, witness-plain, witness-parts, witness-part, witness-tail, witness-graph, kind-again, witness-body}
+use Rattle.figure_text.proofs.RoundLemmas.{neighbour_words, read_words, joined-words, joined-plain, line_text, vertex_line-text, IsFilled, AreLong, vertex-plain, vertex-words, vertex-good, vertex-list, value-again, name-dark}
+use Rattle.figure_text.proofs.WitnessLemmas.{witness_head, witness_first_line-text, graph-dark, witness-plain, witness-parts, witness-part, witness-tail, witness-graph, kind-again, witness-lists, witness-long, witness-same}
 use Rattle.figure_text.proofs.ColumnLemmas.{columns_text, columns_line-text, columns-plain, columns-shape, columns-range, columns-again}
 
 -- the first line of a figure, without the byte that closes it
+abbrev first_words : ℕ → List ℕ → ℕ → List (List ℕ)
+first_words k word n = codes "figure" ∷ decimal k ∷ word ∷ decimal n ∷ []
+
 abbrev first_text : ℕ → List ℕ → ℕ → List ℕ
-first_text k word n = codes "figure" ++ 32 ∷ (decimal k ++ 32 ∷ (word ++ 32 ∷ decimal n))
+first_text k word n = joined (first_words k word n)
 
 first_line-text : (k : ℕ) (word : List ℕ) (n : ℕ) → first_line k word n ≡ first_text k word n ++ 10 ∷ []
 unfolding first_line
@@ -52,23 +58,17 @@ record IsFirst (k n : ℕ) : Type 0 where
   least : 1 ≤ n
   most : n ≤ 4095
 
+first-dark : (k : ℕ) (word : List ℕ) (n : ℕ) → IsFirst k n → Dark word → All Dark (first_words k word n)
+first-dark k word n fine dark =
+    All-from_recursion Dark (first_words k word n) (name-dark name.Figure, (decimal-dark k (omega (arith, fine.number_most)), (dark, (decimal-dark n (omega (arith, fine.most)), tt))))
+
 first-words : (k : ℕ) (word : List ℕ) (n : ℕ) → IsFirst k n → Dark word → words_of (first_text k word n) ≡ Named Figure ∷ Number (sign_of (pos k)) ∷ word_of word ∷ Number (sign_of (pos n)) ∷ []
 first-words k word n fine dark =
-    words_of-next (codes "figure") (decimal k ++ 32 ∷ (word ++ 32 ∷ decimal n)) (name-dark name.Figure)
-    ∙ ap (λ (ws : List Word). Named Figure ∷ ws)
-    (words_of-next (decimal k) (word ++ 32 ∷ decimal n) (decimal-dark k (omega (arith, fine.number_most)))
-    ∙ ap₂ (λ (w : Word) (ws : List Word). w ∷ ws) (word_of-decimal k (omega (arith, fine.number_most)))
-    (words_of-next word (decimal n) dark
-    ∙ ap (λ (ws : List Word). word_of word ∷ ws)
-    (words_of-last (decimal n) (decimal-dark n (omega (arith, fine.most)))
-    ∙ ap (λ (w : Word). w ∷ []) (word_of-decimal n (omega (arith, fine.most))))))
+    joined-words (first_words k word n) (lit≤ tt) (first-dark k word n fine dark)
+    ∙ ap₂ (λ (v : Word) (w : Word). Named Figure ∷ v ∷ word_of word ∷ w ∷ []) (word_of-decimal k (omega (arith, fine.number_most))) (word_of-decimal n (omega (arith, fine.most)))
 
 first-plain : (k : ℕ) (word : List ℕ) (n : ℕ) → IsFirst k n → Dark word → IsPlain (first_text k word n)
-first-plain k word n fine dark =
-    IsPlain-inline (first_text k word n)
-    (Inline-next (codes "figure") (decimal k ++ 32 ∷ (word ++ 32 ∷ decimal n)) (name-dark name.Figure)
-    (Inline-next (decimal k) (word ++ 32 ∷ decimal n) (decimal-dark k (omega (arith, fine.number_most)))
-    (Inline-next word (decimal n) dark (Inline-dark (decimal n) (decimal-dark n (omega (arith, fine.most)))))))
+first-plain k word n fine dark = joined-plain (first_words k word n) (first-dark k word n fine dark)
 
 -- a first line by its words and what stands behind the word of its job
 pub IsHead-by : (kind : Kind) (n k : ℕ) (line : List ℕ) → 1 ≤ k → k ≤ 16777216 → word_at (words_of line) 0 ≡ Named Figure → word_at (words_of line) 1 ≡ Number (sign_of (pos k)) → kind_of (words_of line) ≡ Some kind → IsTail (Some kind) line → TailInRange (Some kind) line → rows_due kind (words_of line) ≡ n → IsHead kind n line
@@ -135,7 +135,7 @@ texts-same f g same zero = refl
 texts-same f g same (suc n) = ap₂ (λ (x : List ℕ) (y : List ℕ). x ++ y) (texts-same f g same n) (same n)
 
 -- the lines of vertices, with their numbers in range
-module _ (kind : Kind) (numbers : ℕ → List ℤ) (lists : Lists) (are : AreLists lists) (long : (place len : ℕ) → IsTrue (is_long kind place len)) (fine : (v : ℕ) → v < length lists → All IsCoordinate (numbers v)) (some : (v : ℕ) → 0 < length (front_words (pieces kind) v (numbers v))) (filled : (v : ℕ) → IsFilled (pieces kind) (numbers v)) where
+module _ (kind : Kind) (numbers : ℕ → List ℤ) (lists : Lists) (are : AreLists lists) (long : AreLong kind numbers lists) (fine : (v : ℕ) → v < length lists → All IsCoordinate (numbers v)) (some : (v : ℕ) → 0 < length (front_words (pieces kind) v (numbers v))) (filled : (v : ℕ) → IsFilled (pieces kind) (numbers v)) where
   abbrev line : ℕ → List ℕ
   line v = line_text (pieces kind) v (numbers v) (get_or lists v [])
 
@@ -155,7 +155,7 @@ module _ (kind : Kind) (numbers : ℕ → List ℤ) (lists : Lists) (are : AreLi
       (closed-lines_upto line (length lists) ∙ texts-same (λ v. line v ++ 10 ∷ []) (λ v. vertex_line (pieces kind) v (numbers v) (get_or lists v [])) (λ v. sym (vertex_line-text (pieces kind) v (numbers v) (get_or lists v []))) (length lists))
       (Rows-lines_upto kind line (length lists) rest
       (λ v h. vertex-plain kind v (numbers v) (get_or lists v []) (omega (arith, are.most, h)) (fine v h) (small v h) (some v) (filled v))
-      (λ v h. vertex-good kind v (numbers v) (get_or lists v []) (omega (arith, are.most, h)) (fine v h) (small v h) (some v) (filled v) (λ len. long (v + 1) len)))
+      (λ v h. vertex-good kind v (numbers v) (get_or lists v []) (omega (arith, are.most, h)) (fine v h) (small v h) (some v) (filled v) (long v h)))
 
   lists-again : of_lines (vertices_from (front_length kind)) lines ≡ lists
   lists-again =
@@ -176,7 +176,7 @@ grid-body job lists points rest whole are inside head =
     λ v h. All-get_or (λ p. IsCoordinate p.x × IsCoordinate p.y) points v (record { x = pos 0; y = pos 0 }) (omega arith) inside in
     let fine : (v : ℕ) → v < length lists → All IsCoordinate (grid_numbers points v) = λ v h. All-from_recursion IsCoordinate (grid_numbers points v) ((at v h).0, ((at v h).1, tt)) in
     let some : (v : ℕ) → 0 < length (front_words grid_front v (grid_numbers points v)) = λ v. lit≤ tt in
-    let long : (place len : ℕ) → IsTrue (is_long (Grid job) place len) = λ place len. refl in (
+    let long : AreLong (Grid job) (grid_numbers points) lists = λ v h. refl in (
       lines (Grid job) (grid_numbers points) lists are long fine some (λ v. tt),
       vertex-rows (Grid job) (grid_numbers points) lists are long fine some (λ v. tt) rest,
       length-lines_upto (line (Grid job) (grid_numbers points) lists are long fine some (λ v. tt)) (length lists),
@@ -200,7 +200,7 @@ bars-body lists bars rest whole are in_y in_a in_b in_column head =
     let b : (v : ℕ) → v < length lists → IsCoordinate (integer_at bars.x2 v) = λ v h. entry bars.x2 v (length lists) whole.x2 h in_b in
     let fine : (v : ℕ) → v < length lists → All IsCoordinate (bar_numbers bars v) = λ v h. All-from_recursion IsCoordinate (bar_numbers bars v) (y v h, (a v h, (b v h, tt))) in
     let some : (v : ℕ) → 0 < length (front_words bar_front v (bar_numbers bars v)) = λ v. lit≤ tt in
-    let long : (place len : ℕ) → IsTrue (is_long Bars place len) = λ place len. refl in
+    let long : AreLong Bars (bar_numbers bars) lists = λ v h. refl in
     let text : List ℕ = vertex_lines bar_front (bar_numbers bars) lists (length lists) in
     let parts : text ++ (columns_text bars.column ++ 10 ∷ rest) ≡ (text ++ columns_line bars.column) ++ rest =
     sym (ap (λ (x : List ℕ). (text ++ x) ++ rest) (columns_line-text bars.column)
@@ -234,7 +234,7 @@ rects-body lists rects rest whole are in_a in_b in_c in_d head =
     let d : (v : ℕ) → v < length lists → IsCoordinate (integer_at rects.y2 v) = λ v h. entry rects.y2 v (length lists) whole.y2 h in_d in
     let fine : (v : ℕ) → v < length lists → All IsCoordinate (rect_numbers rects v) = λ v h. All-from_recursion IsCoordinate (rect_numbers rects v) (a v h, (b v h, (c v h, (d v h, tt)))) in
     let some : (v : ℕ) → 0 < length (front_words rect_front v (rect_numbers rects v)) = λ v. lit≤ tt in
-    let long : (place len : ℕ) → IsTrue (is_long Rects place len) = λ place len. refl in (
+    let long : AreLong Rects (rect_numbers rects) lists = λ v h. refl in (
       lines Rects (rect_numbers rects) lists are long fine some (λ v. tt),
       vertex-rows Rects (rect_numbers rects) lists are long fine some (λ v. tt) rest,
       length-lines_upto (line Rects (rect_numbers rects) lists are long fine some (λ v. tt)) (length lists),
@@ -244,6 +244,25 @@ rects-body lists rects rest whole are in_a in_b in_c in_d head =
           (numbers-again Rects (rect_numbers rects) lists are long fine some (λ v. tt) (integer_in 3) rects.x2 (pos 0) whole.x2 (λ v h. value-again (integer_at rects.x2 v) (b v h)))
           (numbers-again Rects (rect_numbers rects) lists are long fine some (λ v. tt) (integer_in 5) rects.y1 (pos 0) whole.y1 (λ v h. value-again (integer_at rects.y1 v) (c v h)))
           (numbers-again Rects (rect_numbers rects) lists are long fine some (λ v. tt) (integer_in 6) rects.y2 (pos 0) whole.y2 (λ v h. value-again (integer_at rects.y2 v) (d v h))),
+    )
+
+-- a witness
+witness-body : (graph : EdgeGraph) (witness : AWitness) (rest head : List ℕ) → HasPaths witness → AreNumbered witness.branch → All AreNumbered witness.paths → IsGraphOf head graph → IsBody (Witness witness.kind) (length (pairs_of witness.kind) + 1) head (witness_lines witness (length witness.paths + 1) ++ rest) rest (WitnessFigure graph witness)
+witness-body graph witness rest head whole small all of =
+    let kind = Witness witness.kind in
+    let lists = witness_lists witness in
+    let none : ℕ → List ℤ = λ v. [] in
+    let are = witness-lists witness whole small all in
+    let long = witness-long witness whole in
+    let fine : (v : ℕ) → v < length lists → All IsCoordinate [] = λ v h. All-nil IsCoordinate in
+    let some : (v : ℕ) → 0 < length (front_words row_front v []) = λ v. lit≤ tt in
+    let count : length lists ≡ length witness.paths + 1 = omega (arith, length-map witness.paths vertex_numbers) in (
+      graph,
+      lines kind none lists are long fine some (λ v. tt),
+      of,
+      subst (λ (n : ℕ). Rows kind (witness_lines witness n ++ rest) (lines kind none lists are long fine some (λ v. tt)) rest) count (vertex-rows kind none lists are long fine some (λ v. tt) rest),
+      length-lines_upto (line kind none lists are long fine some (λ v. tt)) (length lists) ∙ omega (arith, count, whole.paths),
+      witness-same graph witness (of_lines (vertices_from 1) (lines kind none lists are long fine some (λ v. tt))) (lists-again kind none lists are long fine some (λ v. tt)),
     )
 
 job-dark : (job : GridJob) → Dark (job_word job)
@@ -270,10 +289,10 @@ printed-read k (RectsFigure lists rects) text least most whole (are, in_a, in_b,
     (record { number_least = least; number_most = most; least = are.some; most = are.most }) (name-dark name.Rect) rects-counted (λ next. refl) bytes at rest line (line + (length lists + 1)) within text is here (omega arith)
     (rects-body lists rects rest whole are in_a in_b in_c in_d (first_text k (codes "rect") (length lists)))
 printed-read k (WitnessFigure graph witness) text least most whole (branches, paths) (row, is_row, is) bytes at rest within here line =
-    let same : text ≡ (witness_head k witness.kind row ++ 10 ∷ []) ++ witness_body witness = is ∙ ap (λ (x : List ℕ). x ++ witness_body witness) (witness_first_line-text k witness.kind row) in
+    let same : text ≡ (witness_head k witness.kind row ++ 10 ∷ []) ++ witness_lines witness (length witness.paths + 1) = is ∙ ap (λ (x : List ℕ). x ++ witness_lines witness (length witness.paths + 1)) (witness_first_line-text k witness.kind row) in
     let dark = graph-dark row graph is_row in
     subst (λ (x : List ℕ). StandsAt bytes at line (Drawn (WitnessFigure graph witness) (at + length x) (line + (length witness.paths + 2)))) (sym same)
-    (stands (Witness witness.kind) (length (pairs_of witness.kind) + 1) (WitnessFigure graph witness) (witness_head k witness.kind row) (witness_body witness)
+    (stands (Witness witness.kind) (length (pairs_of witness.kind) + 1) (WitnessFigure graph witness) (witness_head k witness.kind row) (witness_lines witness (length witness.paths + 1))
     (witness-plain k witness.kind row most dark) refl
     (IsHead-by (Witness witness.kind) (length (pairs_of witness.kind) + 1) k (witness_head k witness.kind row) least most
     (ap (λ (ws : List (List ℕ)). word_at (map word_of ws) 0) (witness-parts k witness.kind row most dark))

@@ -1,5 +1,5 @@
 -- What is printed of a vertex is read as it was: its front by the pieces of its kind, and its neighbours.
-use Rattle.std.proofs.Common.{◌≡◌, ◌≢◌, ℕ, zero, suc, ◌+◌, ◌-◌, ◌<◌, ◌≤◌, ℤ, pos, negsuc, neg_ℤ, List, [], ◌∷◌, ◌++◌, length, map, drop, refl, sym, ap, ap₂, ◌∙◌, subst, arith, lit≤, length-append}
+use Rattle.std.proofs.Common.{◌≡◌, ◌≢◌, ℕ, zero, suc, ◌+◌, ◌-◌, ◌<◌, ◌≤◌, ℤ, pos, negsuc, neg_ℤ, List, [], ◌∷◌, ◌++◌, length, map, drop, refl, sym, ap, ap₂, ◌∙◌, subst, arith, lit≤, length-append, append-nil, get_or}
 use Rattle.std.specs.Prelude.{codes, decimal, min, All, IsTrue}
 use Rattle.std.specs.Fmt.{signed_decimal}
 use Rattle.std.proofs.lemmas.List.{map-append}
@@ -11,14 +11,14 @@ use Rattle.figure_text.specs.declared.words.Name.{Name}
 use Rattle.figure_text.specs.declared.words.Name.TheVariants as name
 use Rattle.figure_text.specs.declared.words.Word.{Word}
 use Rattle.figure_text.specs.declared.words.Word.TheVariants.{Number, Closing, Named}
-use Rattle.figure_text.specs.Words.{word_of, words_of}
+use Rattle.figure_text.specs.Words.{word_of, words_of, parts_of}
 use Rattle.figure_text.specs.Lines.{is_natural, row_name, vertex_of, signed_value, IsVertex}
 use Rattle.figure_text.specs.Pieces.{pieces, front_length, Fits, IsWithin, Along, is_long}
 use Rattle.figure_text.specs.Reading.{IsPlain, IsGoodRow, vertices_from}
 use Rattle.figure_text.specs.Text.{joined, name_text, front_words, vertex_line}
 use Rattle.figure_text.specs.Laws.{sign_of, IsCoordinate}
 use Rattle.figure_text.proofs.NumeralLemmas.{Dark, decimal-dark, signed-dark, colon-dark, word_of-signed, word_of-decimal, word_of-closing}
-use Rattle.figure_text.proofs.WordLemmas.{words_of-spaced, Inline-spaced, IsPlain-inline}
+use Rattle.figure_text.proofs.WordLemmas.{parts_of-last, parts_of-next, Inline-spaced, IsPlain-inline}
 
 -- neighbours as words
 abbrev pub neighbour_words : List ℕ → List Word
@@ -93,9 +93,15 @@ name-read name.Branch = refl
 name-read name.Path = refl
 
 -- words with spaces between them
+pub joined-parts : (ws : List (List ℕ)) → 0 < length ws → All Dark ws → parts_of (joined ws) ≡ ws
+joined-parts [] some all = absurd (omega arith)
+joined-parts (w ∷ []) some all = ap parts_of (append-nil w) ∙ parts_of-last w (All-head Dark w [] all)
+joined-parts (w ∷ x ∷ ws) some all =
+    parts_of-next w (joined (x ∷ ws)) (All-head Dark w (x ∷ ws) all)
+    ∙ ap (λ (ps : List (List ℕ)). w ∷ ps) (joined-parts (x ∷ ws) (omega arith) (All-tail Dark w (x ∷ ws) all))
+
 pub joined-words : (ws : List (List ℕ)) → 0 < length ws → All Dark ws → words_of (joined ws) ≡ map word_of ws
-joined-words [] some all = absurd (omega arith)
-joined-words (w ∷ ws) some all = words_of-spaced (λ x. x) Dark (λ x h. h) ws (All-tail Dark w ws all) w (All-head Dark w ws all)
+joined-words ws some all = ap (λ (ps : List (List ℕ)). map word_of ps) (joined-parts ws some all)
 
 pub joined-plain : (ws : List (List ℕ)) → All Dark ws → IsPlain (joined ws)
 joined-plain [] all = All-nil (λ b. b ≢ 10)
@@ -199,6 +205,11 @@ pub vertex_line-text : (ps : List Piece) (v : ℕ) (zs : List ℤ) (us : List �
 unfolding vertex_line
 vertex_line-text ps v zs us = refl
 
+-- each line has as many words as it may have
+abbrev pub AreLong : Kind → (ℕ → List ℤ) → List (List ℕ) → Type 0
+AreLong kind numbers lists =
+    (v : ℕ) → v < length lists → IsTrue (is_long kind (v + 1) (length (read_words (pieces kind) v (numbers v) ++ neighbour_words (get_or lists v []))))
+
 -- such a line with its numbers in range
 module _ (kind : Kind) (v : ℕ) (zs : List ℤ) (us : List ℕ) (place : v < 4095) (fine : All IsCoordinate zs) (small : All (λ u. u < 65535) us) (some : 0 < length (front_words (pieces kind) v zs)) (filled : IsFilled (pieces kind) zs) where
   numerals-dark : All Dark (map (λ u. decimal (u + 1)) us)
@@ -216,11 +227,11 @@ module _ (kind : Kind) (v : ℕ) (zs : List ℤ) (us : List ℕ) (place : v < 40
       ∙ map-append word_of (front_words (pieces kind) v zs) (map (λ u. decimal (u + 1)) us)
       ∙ ap₂ (λ (x : List Word) (y : List Word). x ++ y) (front-read (pieces kind) v zs place fine) (numerals-words us)
 
-  pub vertex-good : ((len : ℕ) → IsTrue (is_long kind (v + 1) len)) → IsGoodRow kind (v + 1) (line_text (pieces kind) v zs us)
+  pub vertex-good : IsTrue (is_long kind (v + 1) (length (read_words (pieces kind) v zs ++ neighbour_words us))) → IsGoodRow kind (v + 1) (line_text (pieces kind) v zs us)
   vertex-good long = (
     record {
       front = subst (λ (ws : List Word). Along (Fits (v + 1)) (pieces kind) ws) (sym vertex-words) (fits-read (pieces kind) v zs (neighbour_words us) filled);
-      long = long (length (words_of (line_text (pieces kind) v zs us)));
+      long = subst (λ (ws : List Word). IsTrue (is_long kind (v + 1) (length ws))) (sym vertex-words) long;
       vertices = subst (All (λ w. IsTrue (is_natural w))) (sym behind) (neighbours-natural us small);
     },
     record {

@@ -1,11 +1,14 @@
 -- Lines by their parts, and one line more.
-use Rattle.std.proofs.Common.{◌≡◌, ℕ, ℤ, ◌+◌, ◌<◌, List, [], ◌∷◌, ◌++◌, length, map, flat_map, refl, sym, ap, ◌∙◌, add-one, get_or, arith, append_assoc}
+use Rattle.std.proofs.Common.{◌≡◌, ℕ, zero, suc, ℤ, ◌+◌, ◌<◌, List, [], ◌∷◌, ◌++◌, length, map, flat_map, refl, sym, ap, ◌∙◌, add-one, get_or, arith, append_assoc}
 use Rattle.std.specs.Prelude.{decimal}
 use Rattle.std.proofs.lemmas.Grind.{flat_map-append}
 use Rattle.map_lists.specs.Lists.{Lists}
 use Rattle.map_lists.specs.declared.ids.VertexId.{VertexId}
 use Rattle.figure_text.specs.declared.piece.Piece.{Piece}
-use Rattle.figure_text.specs.Text.{joined, front_words, vertex_line, vertex_lines, path_line, path_lines}
+use Rattle.kuratowski.specs.declared.witness.Witness.{Witness}
+use Rattle.figure_text.specs.Lines.{row_name}
+use Rattle.figure_text.specs.Pieces.{row_front}
+use Rattle.figure_text.specs.Text.{joined, name_text, front_words, vertex_line, vertex_lines, vertex_numbers, witness_lists, witness_lines}
 
 pub vertex_lines-more : (pieces : List Piece) (numbers : ℕ → List ℤ) (lists : Lists) (v : ℕ) → vertex_lines pieces numbers lists (v + 1) ≡ vertex_lines pieces numbers lists v ++ vertex_line pieces v (numbers v) (get_or lists v [])
 unfolding vertex_lines
@@ -35,6 +38,26 @@ line-written pieces v zs us front behind end rest some is_front is_behind is_end
     ∙ sym (append_assoc (joined (front_words pieces v zs)) (flat_map (λ u. 32 ∷ decimal (u + 1)) us ++ 10 ∷ []) rest)
     ∙ ap (λ (x : List ℕ). x ++ rest) (sym (vertex_line-parts pieces v zs us some))
 
-pub path_lines-more : (paths : List (List VertexId)) (p : ℕ) → path_lines paths (p + 1) ≡ path_lines paths p ++ path_line (get_or paths p [])
-unfolding path_lines
-path_lines-more paths p = rw add-one refl
+-- the line of the branches or of a path, by its vertices
+numerals-of : (us : List VertexId) → flat_map (λ w. 32 ∷ w) (map (λ u. decimal (u + 1)) (vertex_numbers us)) ≡ flat_map (λ (u : VertexId). 32 ∷ decimal (u.0 + 1)) us
+numerals-of [] = refl
+numerals-of (u ∷ us) = ap (λ (x : List ℕ). (32 ∷ decimal (u.0 + 1)) ++ x) (numerals-of us)
+
+pub row_line-parts : (v : ℕ) (us : List VertexId) → vertex_line row_front v [] (vertex_numbers us) ≡ name_text (row_name (v + 1)) ++ (flat_map (λ (u : VertexId). 32 ∷ decimal (u.0 + 1)) us ++ 10 ∷ [])
+unfolding vertex_line
+row_line-parts v us =
+    ap (λ (x : List ℕ). (name_text (row_name (v + 1)) ++ x) ++ 10 ∷ []) (numerals-of us) ∙ append_assoc (name_text (row_name (v + 1))) (flat_map (λ (u : VertexId). 32 ∷ decimal (u.0 + 1)) us) (10 ∷ [])
+
+-- the list of path p
+pub path-list : (p : ℕ) (paths : List (List VertexId)) → get_or (map vertex_numbers paths) p [] ≡ vertex_numbers (get_or paths p [])
+path-list p [] = refl
+path-list zero (path ∷ paths) = refl
+path-list (suc p) (path ∷ paths) = path-list p paths
+
+pub row-list : (witness : Witness) (p : ℕ) → get_or (witness_lists witness) (p + 1) [] ≡ vertex_numbers (get_or witness.paths p [])
+row-list witness p = rw add-one (path-list p witness.paths)
+
+-- one line more
+pub witness_lines-more : (witness : Witness) (p : ℕ) → witness_lines witness (p + 1 + 1) ≡ witness_lines witness (p + 1) ++ vertex_line row_front (p + 1) [] (vertex_numbers (get_or witness.paths p []))
+witness_lines-more witness p =
+    vertex_lines-more row_front (λ v. []) (witness_lists witness) (p + 1) ∙ ap (λ (us : List ℕ). witness_lines witness (p + 1) ++ vertex_line row_front (p + 1) [] us) (row-list witness p)

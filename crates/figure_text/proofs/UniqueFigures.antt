@@ -147,41 +147,27 @@ behind-unique kind n head bytes text first (Err fault) (Err fault') memory memor
 
 -- what an answer says of a first line that begins no figure
 abbrev Unopened : List ℕ → ℕ → Result Item TextFault → Type 0
-Unopened line first (Ok item) = ⊥
-Unopened line first (Err (BadLine k)) = (¬ IsFirstLine line) × (k ≡ first)
-Unopened line first (Err (Limit k)) = IsFirstLine line × (¬ FirstInRange line) × (k ≡ first)
-Unopened line first (Err (EndInFigure k)) = ⊥
-Unopened line first (Err NoMemory) = ⊥
+Unopened line first r = ((¬ IsFirstLine line) × (r ≡ Err (BadLine first))) ⊎ (IsFirstLine line × (¬ FirstInRange line) × (r ≡ Err (Limit first)))
 
 unopened-unique : (line : List ℕ) (first : ℕ) (r s : Result Item TextFault) → Unopened line first r → Unopened line first s → r ≡ s
-unopened-unique line first (Ok item) s none answer = absurd none
-unopened-unique line first (Err (EndInFigure k)) s none answer = absurd none
-unopened-unique line first (Err NoMemory) s none answer = absurd none
-unopened-unique line first (Err (BadLine k)) (Ok item) answer none = absurd none
-unopened-unique line first (Err (BadLine k)) (Err (EndInFigure k')) answer none = absurd none
-unopened-unique line first (Err (BadLine k)) (Err NoMemory) answer none = absurd none
-unopened-unique line first (Err (BadLine k)) (Err (BadLine k')) (not, same) (not', same') = ap (λ (j : ℕ). Err (BadLine j)) (same ∙ sym same')
-unopened-unique line first (Err (BadLine k)) (Err (Limit k')) (not, same) (shaped, not', same') = absurd (not shaped)
-unopened-unique line first (Err (Limit k)) (Ok item) answer none = absurd none
-unopened-unique line first (Err (Limit k)) (Err (EndInFigure k')) answer none = absurd none
-unopened-unique line first (Err (Limit k)) (Err NoMemory) answer none = absurd none
-unopened-unique line first (Err (Limit k)) (Err (BadLine k')) (shaped, not, same) (not', same') = absurd (not' shaped)
-unopened-unique line first (Err (Limit k)) (Err (Limit k')) (shaped, not, same) (shaped', not', same') = ap (λ (j : ℕ). Err (Limit j)) (same ∙ sym same')
+unopened-unique line first r s (inl (not, is)) (inl (not', is')) = is ∙ sym is'
+unopened-unique line first r s (inl (not, is)) (inr (shaped, not', is')) = absurd (not shaped)
+unopened-unique line first r s (inr (shaped, not, is)) (inl (not', is')) = absurd (not' shaped)
+unopened-unique line first r s (inr (shaped, not, is)) (inr (shaped', not', is')) = is ∙ sym is'
 
 unopened-head : (line : List ℕ) (first : ℕ) (r : Result Item TextFault) (kind : Kind) (n : ℕ) → Unopened line first r → IsHead kind n line → ⊥
-unopened-head line first (Ok item) kind n none head = none
-unopened-head line first (Err (EndInFigure k)) kind n none head = none
-unopened-head line first (Err NoMemory) kind n none head = none
-unopened-head line first (Err (BadLine k)) kind n (not, same) head = not head.shape
-unopened-head line first (Err (Limit k)) kind n (shaped, not, same) head = not head.range
+unopened-head line first r kind n (inl (not, is)) head = not head.shape
+unopened-head line first r kind n (inr (shaped, not, is)) head = not head.range
 
 -- what an answer says where a line is closed: it is a note, or begins no figure, or begins one
-abbrev AtNote : List ℕ → List ℕ → List ℕ → ℕ → Result Item TextFault → Type 0
-AtNote bytes line rest first (Ok (Note next after)) =
-    IsTrue (is_note line) × (rest ≡ drop next bytes) × (next ≤ length bytes) × (after ≡ first + 1)
-AtNote bytes line rest first (Ok (Drawn fig next after)) = ⊥
-AtNote bytes line rest first (Ok End) = ⊥
-AtNote bytes line rest first (Err fault) = ⊥
+record AtNote (bytes line rest : List ℕ) (first : ℕ) (r : Result Item TextFault) : Type 0 where
+  next : ℕ
+  after : ℕ
+  is : r ≡ Ok (Note next after)
+  note : IsTrue (is_note line)
+  left : rest ≡ drop next bytes
+  within : next ≤ length bytes
+  counted : after ≡ first + 1
 
 abbrev Opened : List ℕ → List ℕ → List ℕ → ℕ → Result Item TextFault → Type 0
 Opened bytes line rest first r = (kind : Kind) × (n : ℕ) × IsHead kind n line × Behind kind n line bytes rest first r
@@ -189,23 +175,10 @@ Opened bytes line rest first r = (kind : Kind) × (n : ℕ) × IsHead kind n lin
 abbrev AtLine : List ℕ → List ℕ → List ℕ → ℕ → Result Item TextFault → Type 0
 AtLine bytes line rest first r = AtNote bytes line rest first r ⊎ (IsFalse (is_note line) × (Unopened line first r ⊎ Opened bytes line rest first r))
 
-note-true : (bytes line rest : List ℕ) (first : ℕ) (r : Result Item TextFault) → AtNote bytes line rest first r → IsTrue (is_note line)
-note-true bytes line rest first (Ok (Note next after)) answer = answer.0
-note-true bytes line rest first (Ok (Drawn fig next after)) none = absurd none
-note-true bytes line rest first (Ok End) none = absurd none
-note-true bytes line rest first (Err fault) none = absurd none
-
 note-unique : (bytes line rest : List ℕ) (first : ℕ) (r s : Result Item TextFault) → AtNote bytes line rest first r → AtNote bytes line rest first s → r ≡ s
-note-unique bytes line rest first (Ok (Drawn fig next after)) s none answer = absurd none
-note-unique bytes line rest first (Ok End) s none answer = absurd none
-note-unique bytes line rest first (Err fault) s none answer = absurd none
-note-unique bytes line rest first (Ok (Note next after)) (Ok (Drawn fig next' after')) answer none = absurd none
-note-unique bytes line rest first (Ok (Note next after)) (Ok End) answer none = absurd none
-note-unique bytes line rest first (Ok (Note next after)) (Err fault) answer none = absurd none
-note-unique bytes line rest first (Ok (Note next after)) (Ok (Note next' after')) (note, left, within, counted) (note', left', within', counted') =
-    let places : next ≡ next' = offset-unique bytes next next' within within' (sym left ∙ left') in
-    let numbers : after ≡ after' = counted ∙ sym counted' in
-    ap₂ (λ (x : ℕ) (y : ℕ). Ok (Note x y)) places numbers
+note-unique bytes line rest first r s h h' =
+    let places : h.next ≡ h'.next = offset-unique bytes h.next h'.next h.within h'.within (sym h.left ∙ h'.left) in
+    h.is ∙ ap₂ (λ (x : ℕ) (y : ℕ). Ok (Note x y)) places (h.counted ∙ sym h'.counted) ∙ sym h'.is
 
 not_both : (b : Bool) → IsTrue b → IsFalse b → ⊥
 not_both b is not = cc
@@ -222,8 +195,8 @@ opened-unique bytes line rest first r s told told' (kind, n, head, behind) (kind
 
 line-unique : (bytes line rest : List ℕ) (first : ℕ) (r s : Result Item TextFault) → IsTold r → IsTold s → AtLine bytes line rest first r → AtLine bytes line rest first s → r ≡ s
 line-unique bytes line rest first r s told told' (inl note) (inl note') = note-unique bytes line rest first r s note note'
-line-unique bytes line rest first r s told told' (inl note) (inr (other, answer)) = absurd (not_both (is_note line) (note-true bytes line rest first r note) other)
-line-unique bytes line rest first r s told told' (inr (other, answer)) (inl note) = absurd (not_both (is_note line) (note-true bytes line rest first s note) other)
+line-unique bytes line rest first r s told told' (inl note) (inr (other, answer)) = absurd (not_both (is_note line) note.note other)
+line-unique bytes line rest first r s told told' (inr (other, answer)) (inl note) = absurd (not_both (is_note line) note.note other)
 line-unique bytes line rest first r s told told' (inr (other, inl answer)) (inr (other', inl answer')) = unopened-unique line first r s answer answer'
 line-unique bytes line rest first r s told told' (inr (other, inl answer)) (inr (other', inr (kind, n, head, behind))) = absurd (unopened-head line first r kind n answer head)
 line-unique bytes line rest first r s told told' (inr (other, inr (kind, n, head, behind))) (inr (other', inl answer)) = absurd (unopened-head line first s kind n answer head)
@@ -246,7 +219,7 @@ end-no_line bytes line rest at end is =
 at-line : (bytes line rest : List ℕ) (at first : ℕ) (r : Result Item TextFault) → IsTold r → IsLine (drop at bytes) line rest → IsAnswer bytes at first r → AtLine bytes line rest first r
 at-line bytes line rest at first (Ok (Note next after)) told is (line', is', note, within, counted) =
     let same = IsLine-unique (drop at bytes) line' line (drop next bytes) rest is' is in
-    inl (subst (λ (x : List ℕ). IsTrue (is_note x)) same.0 note, sym same.1, within, counted)
+    inl (record { next = next; after = after; is = refl; note = subst (λ (x : List ℕ). IsTrue (is_note x)) same.0 note; left = sym same.1; within = within; counted = counted })
 at-line bytes line rest at first (Ok End) told is end = absurd (end-no_line bytes line rest at end is)
 at-line bytes line rest at first (Ok (Drawn fig next after)) told is (kind, n, text, begins, drawn) =
     begins-at bytes (drop at bytes) line rest text first kind n (Ok (Drawn fig next after)) is begins drawn
@@ -255,52 +228,36 @@ at-line bytes line rest at first (Err fault) told is (inr (kind, n, text, begins
 at-line bytes line rest at first (Err (BadLine k)) told is (inl (same, inl (plain, some))) = absurd (IsPlain-no_line (drop at bytes) line rest plain is)
 at-line bytes line rest at first (Err (BadLine k)) told is (inl (same, inr (line', left, is', other, not))) =
     let one = IsLine-unique (drop at bytes) line' line left rest is' is in
-    inr (subst (λ (x : List ℕ). IsFalse (is_note x)) one.0 other, inl (subst (λ (x : List ℕ). ¬ IsFirstLine x) one.0 not, same))
+    inr (subst (λ (x : List ℕ). IsFalse (is_note x)) one.0 other, inl (inl (subst (λ (x : List ℕ). ¬ IsFirstLine x) one.0 not, ap (λ (j : ℕ). Err (BadLine j)) same)))
 at-line bytes line rest at first (Err (Limit k)) told is (inl (same, (line', left, is', other, shaped, not))) =
     let one = IsLine-unique (drop at bytes) line' line left rest is' is in
     inr (
       subst (λ (x : List ℕ). IsFalse (is_note x)) one.0 other,
-      inl (subst (λ (x : List ℕ). IsFirstLine x) one.0 shaped, subst (λ (x : List ℕ). ¬ FirstInRange x) one.0 not, same),
+      inl (inr (subst (λ (x : List ℕ). IsFirstLine x) one.0 shaped, subst (λ (x : List ℕ). ¬ FirstInRange x) one.0 not, ap (λ (j : ℕ). Err (Limit j)) same)),
     )
 at-line bytes line rest at first (Err (EndInFigure k)) told is (inl none) = absurd none
 at-line bytes line rest at first (Err NoMemory) told is (inl memory) = absurd (told refl)
 
 -- where no line is closed
 abbrev AtPlain : List ℕ → ℕ → ℕ → Result Item TextFault → Type 0
-AtPlain bytes at first (Ok (Note next after)) = ⊥
-AtPlain bytes at first (Ok (Drawn fig next after)) = ⊥
-AtPlain bytes at first (Ok End) = at ≡ length bytes
-AtPlain bytes at first (Err (BadLine k)) = (k ≡ first) × (0 < length (drop at bytes))
-AtPlain bytes at first (Err (Limit k)) = ⊥
-AtPlain bytes at first (Err (EndInFigure k)) = ⊥
-AtPlain bytes at first (Err NoMemory) = ⊥
+AtPlain bytes at first r = ((at ≡ length bytes) × (r ≡ Ok End)) ⊎ ((0 < length (drop at bytes)) × (r ≡ Err (BadLine first)))
 
 at-plain : (bytes : List ℕ) (at first : ℕ) (r : Result Item TextFault) → IsTold r → IsPlain (drop at bytes) → IsAnswer bytes at first r → AtPlain bytes at first r
-at-plain bytes at first (Ok (Note next after)) told plain (line, is, note, within, counted) = IsPlain-no_line (drop at bytes) line (drop next bytes) plain is
-at-plain bytes at first (Ok (Drawn fig next after)) told plain (kind, n, text, begins, drawn) = IsPlain-no_line (drop at bytes) begins.line text plain begins.is
-at-plain bytes at first (Ok End) told plain end = end
+at-plain bytes at first (Ok (Note next after)) told plain (line, is, note, within, counted) = absurd (IsPlain-no_line (drop at bytes) line (drop next bytes) plain is)
+at-plain bytes at first (Ok (Drawn fig next after)) told plain (kind, n, text, begins, drawn) = absurd (IsPlain-no_line (drop at bytes) begins.line text plain begins.is)
+at-plain bytes at first (Ok End) told plain end = inl (end, refl)
 at-plain bytes at first (Err fault) told plain (inr (kind, n, text, begins, fails)) = absurd (IsPlain-no_line (drop at bytes) begins.line text plain begins.is)
-at-plain bytes at first (Err (BadLine k)) told plain (inl (same, inl (open_line, some))) = (same, some)
+at-plain bytes at first (Err (BadLine k)) told plain (inl (same, inl (open_line, some))) = inr (some, ap (λ (j : ℕ). Err (BadLine j)) same)
 at-plain bytes at first (Err (BadLine k)) told plain (inl (same, inr (line, left, is, other, not))) = absurd (IsPlain-no_line (drop at bytes) line left plain is)
-at-plain bytes at first (Err (Limit k)) told plain (inl (same, (line, left, is, other, shaped, not))) = IsPlain-no_line (drop at bytes) line left plain is
-at-plain bytes at first (Err (EndInFigure k)) told plain (inl none) = none
+at-plain bytes at first (Err (Limit k)) told plain (inl (same, (line, left, is, other, shaped, not))) = absurd (IsPlain-no_line (drop at bytes) line left plain is)
+at-plain bytes at first (Err (EndInFigure k)) told plain (inl none) = absurd none
 at-plain bytes at first (Err NoMemory) told plain (inl memory) = absurd (told refl)
 
 plain-unique : (bytes : List ℕ) (at first : ℕ) (r s : Result Item TextFault) → AtPlain bytes at first r → AtPlain bytes at first s → r ≡ s
-plain-unique bytes at first (Ok (Note next after)) s none answer = absurd none
-plain-unique bytes at first (Ok (Drawn fig next after)) s none answer = absurd none
-plain-unique bytes at first (Err (Limit k)) s none answer = absurd none
-plain-unique bytes at first (Err (EndInFigure k)) s none answer = absurd none
-plain-unique bytes at first (Err NoMemory) s none answer = absurd none
-plain-unique bytes at first r (Ok (Note next after)) answer none = absurd none
-plain-unique bytes at first r (Ok (Drawn fig next after)) answer none = absurd none
-plain-unique bytes at first r (Err (Limit k)) answer none = absurd none
-plain-unique bytes at first r (Err (EndInFigure k)) answer none = absurd none
-plain-unique bytes at first r (Err NoMemory) answer none = absurd none
-plain-unique bytes at first (Ok End) (Ok End) end end' = refl
-plain-unique bytes at first (Ok End) (Err (BadLine k)) end (same, some) = absurd (omega (arith, end, some, length-drop at bytes))
-plain-unique bytes at first (Err (BadLine k)) (Ok End) (same, some) end = absurd (omega (arith, end, some, length-drop at bytes))
-plain-unique bytes at first (Err (BadLine k)) (Err (BadLine k')) (same, some) (same', some') = ap (λ (j : ℕ). Err (BadLine j)) (same ∙ sym same')
+plain-unique bytes at first r s (inl (end, is)) (inl (end', is')) = is ∙ sym is'
+plain-unique bytes at first r s (inl (end, is)) (inr (some, is')) = absurd (omega (arith, end, some, length-drop at bytes))
+plain-unique bytes at first r s (inr (some, is)) (inl (end, is')) = absurd (omega (arith, end, some, length-drop at bytes))
+plain-unique bytes at first r s (inr (some, is)) (inr (some', is')) = is ∙ sym is'
 
 -- a text has a closed line at its front, or none
 pub line-or-plain : (text : List ℕ) → IsPlain text ⊎ ((line : List ℕ) × (rest : List ℕ) × IsLine text line rest)

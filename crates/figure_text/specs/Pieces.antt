@@ -20,12 +20,16 @@ bar_front = Place ∷ Literal Y ∷ Value ∷ Literal X ∷ Value ∷ Last ∷ [
 abbrev pub rect_front : List Piece
 rect_front = Place ∷ Literal X ∷ Value ∷ Value ∷ Literal Y ∷ Value ∷ Last ∷ []
 
--- the words before the vertices of a line: `branch` or `path` in those of a witness
+-- `branch` or `path`, in the lines of a witness
+abbrev pub row_front : List Piece
+row_front = Row ∷ []
+
+-- the words before the vertices of a line
 abbrev pub pieces : Kind → List Piece
 pieces (Grid job) = grid_front
 pieces Bars = bar_front
 pieces Rects = rect_front
-pieces (Witness kind) = Row ∷ []
+pieces (Witness kind) = row_front
 
 -- how many they are
 abbrev pub front_length : Kind → ℕ

@@ -16,7 +16,7 @@ use Rattle.figure_text.specs.declared.piece.Piece.TheVariants.{Place, Literal, R
 use Rattle.figure_text.specs.declared.words.Name.{Name}
 use Rattle.figure_text.specs.declared.words.Name.TheVariants as name
 use Rattle.figure_text.specs.Lines.{row_name}
-use Rattle.figure_text.specs.Pieces.{grid_front, bar_front, rect_front}
+use Rattle.figure_text.specs.Pieces.{grid_front, bar_front, rect_front, row_front}
 use Rattle.figure_text.specs.declared.figure.GridJob.{GridJob}
 use Rattle.figure_text.specs.declared.figure.GridJob.TheVariants.{Shift, Schnyder, Convex}
 use Rattle.figure_text.specs.declared.figure.Figure.{Figure}
@@ -126,25 +126,20 @@ kind_word K33 = codes "K33"
 unfoldable pub witness_first_line : ℕ → Subdivided → List ℕ → List ℕ
 witness_first_line k kind line = codes "figure" ++ 32 ∷ decimal k ++ codes " witness" ++ 32 ∷ kind_word kind ++ 32 ∷ line ++ 10 ∷ []
 
--- vertices, each after a space and numbered from 1
-abbrev pub spaced_ids : List VertexId → List ℕ
-spaced_ids us = flat_map (λ (u : VertexId). 32 ∷ decimal (u.0 + 1)) us
+-- the vertices of the branches by their numbers, and then those of each path
+abbrev pub vertex_numbers : List VertexId → List ℕ
+vertex_numbers us = map (λ (u : VertexId). u.0) us
 
--- the lines of the branches and of a path
-unfoldable pub branch_line : List VertexId → List ℕ
-branch_line branch = codes "branch" ++ spaced_ids branch ++ 10 ∷ []
+abbrev pub witness_lists : Witness → Lists
+witness_lists witness = vertex_numbers witness.branch ∷ map vertex_numbers witness.paths
 
-unfoldable pub path_line : List VertexId → List ℕ
-path_line path = codes "path" ++ spaced_ids path ++ 10 ∷ []
-
--- the lines of n paths
-unfoldable pub path_lines : List (List VertexId) → ℕ → List ℕ
-path_lines paths n = texts (λ p. path_line (slice_index_or paths p [])) n
+-- the lines of the branches and of the paths, which hold no numbers but these
+abbrev pub witness_lines : Witness → ℕ → List ℕ
+witness_lines witness n = vertex_lines row_front (λ v. []) (witness_lists witness) n
 
 -- the text of a witness with the number k, by the line of its graph
 abbrev pub witness_text : ℕ → List ℕ → Witness → List ℕ
-witness_text k line witness =
-    witness_first_line k witness.kind line ++ (branch_line witness.branch ++ path_lines witness.paths (length witness.paths))
+witness_text k line witness = witness_first_line k witness.kind line ++ witness_lines witness (length witness.paths + 1)
 
 -- the text of a figure with the number k
 abbrev pub IsText : ℕ → Figure → List ℕ → Type 0

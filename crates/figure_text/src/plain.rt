@@ -10,11 +10,15 @@ use map_lists::Rotations;
 use pg_plane::Ints;
 use std::alloc::AllocError;
 
-// The number of a vertex that begins at `at`, where it is written plainly.
+// The number of a vertex that begins at `at`, where it is written plainly. That it does not begin with 0 is tested first,
+// so that it needs no other test for that.
 #[inline(always)]
 fn vertex_at(line: &[u8], at: usize) -> Option<Digits>
     ensures { IfSome result (IsVertexAt line.now at) }
 {
+    if line.len() <= at || line[at] == b'0' {
+        return None;
+    }
     match plain_at(line, at) {
         Some(digits) => {
             if 1 <= digits.value && digits.value <= 65535 {

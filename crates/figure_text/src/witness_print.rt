@@ -1,12 +1,14 @@
 //! A witness as text.
-ghost use Rattle.std.specs.Prelude.{◌≡◌, ◌+◌, ◌++◌, ◌∷◌, List, ℕ, length, take, flat_map, decimal, ◌<◌, OnOk, OnErr, IfOk};
+ghost use Rattle.std.specs.Prelude.{◌≡◌, ◌+◌, ◌++◌, ◌∷◌, [], List, ℕ, length, take, flat_map, decimal, ◌<◌, OnOk, OnErr, IfOk};
 ghost use Rattle.graph6_text.specs.Lines.{IsLine as IsGraphLine};
-ghost use Rattle.figure_text.specs.Text.{kind_word, witness_first_line, spaced_ids, branch_line, path_line, path_lines, witness_text};
+ghost use Rattle.figure_text.specs.Lines.{row_name};
+ghost use Rattle.figure_text.specs.Pieces.{row_front};
+ghost use Rattle.figure_text.specs.Text.{name_text, kind_word, witness_first_line, vertex_line, vertex_numbers, witness_lines, witness_text};
 
 use crate::print::push_next;
 use graph6_text::{Graph, write_line};
 use kuratowski::{Kind, Witness};
-use map_lists::{PathList, VertexId};
+use map_lists::VertexId;
 use std::alloc::{AllocError, Global};
 
 // The word of a kind.
@@ -33,9 +35,16 @@ fn push_first(out: &mut Vec<u8>, number: u32, kind: Kind, line: &[u8]) -> Result
     Ok(())
 }
 
+// The word with which line `v` behind the first begins, from 0.
+fn row_text(v: usize) -> &'static [u8]
+    ensures { result.now ≡ name_text (row_name (v + 1)) }
+{
+    if v == 0 { b"branch" } else { b"path" }
+}
+
 // Appends vertices.
 fn push_ids(out: &mut Vec<u8>, ids: &[VertexId]) -> Result<(), AllocError>
-    ensures { OnOk result (out.new.items ≡ out.old.items ++ spaced_ids ids.now) }
+    ensures { OnOk result (out.new.items ≡ out.old.items ++ flat_map (λ (u : VertexId). 32 ∷ decimal (u.0 + 1)) ids.now) }
 {
     for k in 0..ids.len() {
         push_next(out, u64::from(ids[k].0) + 1)?;
@@ -43,32 +52,23 @@ fn push_ids(out: &mut Vec<u8>, ids: &[VertexId]) -> Result<(), AllocError>
     Ok(())
 }
 
-// Appends the line of the branches.
-fn push_branches(out: &mut Vec<u8>, list: &[VertexId]) -> Result<(), AllocError>
-    ensures { OnOk result (out.new.items ≡ out.old.items ++ branch_line list.now) }
+// Appends line `v` behind the first, from 0, with these vertices.
+fn push_row(out: &mut Vec<u8>, v: usize, ids: &[VertexId]) -> Result<(), AllocError>
+    ensures { OnOk result (out.new.items ≡ out.old.items ++ vertex_line row_front v [] (vertex_numbers ids.now)) }
 {
-    out.extend_from_slice(b"branch")?;
-    push_ids(out, list)?;
+    out.extend_from_slice(row_text(v))?;
+    push_ids(out, ids)?;
     out.push(b'\n')?;
     Ok(())
 }
 
-// Appends the line of a path.
-fn push_path(out: &mut Vec<u8>, path: &[VertexId]) -> Result<(), AllocError>
-    ensures { OnOk result (out.new.items ≡ out.old.items ++ path_line path.now) }
+// Appends the lines of the branches and of the paths.
+fn push_rows(out: &mut Vec<u8>, witness: &Witness) -> Result<(), AllocError>
+    ensures { OnOk result (out.new.items ≡ out.old.items ++ witness_lines witness.now (length witness.now.paths + 1)) }
 {
-    out.extend_from_slice(b"path")?;
-    push_ids(out, path)?;
-    out.push(b'\n')?;
-    Ok(())
-}
-
-// Appends the lines of the paths.
-fn push_paths(out: &mut Vec<u8>, paths: &PathList) -> Result<(), AllocError>
-    ensures { OnOk result (out.new.items ≡ out.old.items ++ path_lines paths.now (length paths.now)) }
-{
-    for p in 0..paths.len() {
-        push_path(out, paths.list(p))?;
+    push_row(out, 0, witness.branch.as_slice())?;
+    for p in 0..witness.paths.len() {
+        push_row(out, p + 1, witness.paths.list(p))?;
     }
     Ok(())
 }
@@ -84,8 +84,7 @@ fn text_by_line(
 {
     let mut text = Vec::new(alloc);
     push_first(&mut text, number, witness.kind, line)?;
-    push_branches(&mut text, witness.branch.as_slice())?;
-    push_paths(&mut text, &witness.paths)?;
+    push_rows(&mut text, witness)?;
     Ok(text)
 }
 

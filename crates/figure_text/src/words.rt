@@ -3,9 +3,9 @@ ghost use Rattle.std.specs.Prelude.{◌≡◌, ◌↔◌, ◌<◌, ◌≤◌, �
 ghost use Rattle.std.specs.Bool.{OnTrue, OnFalse};
 ghost use Rattle.std.specs.List.{slice_split};
 ghost use Rattle.figure_text.specs.Plain.{IsPlainAt, IsClosingAt};
-ghost use Rattle.figure_text.specs.Words.{far, is_digit, words_left, decimal_from, number_of, signed_of, plus, minus, word_of as word_meant, words_of, numeral_word, closing_of, HasOther};
+ghost use Rattle.figure_text.specs.Words.{far, is_digit, canonical, words_left, decimal_from, number_of, signed_of, plus, minus, word_of as word_meant, words_of, numeral_word, closing_of, HasOther};
 
-use crate::decimals::{decimal_number, is_canonical, is_digit_byte};
+use crate::decimals::{decimal_number, is_canonical};
 use std::alloc::{AllocError, Global};
 
 /// A whole number by its sign and its size. A size beyond all ranges stands as `FAR`.
@@ -226,8 +226,8 @@ fn word_end(line: &[u8], at: usize) -> usize
     line.len()
 }
 
-/// How many digits give a number below `FAR`, whichever they are.
-const MOST_DIGITS: usize = 8;
+/// How many digits of a number are read at once.
+const MOST_DIGITS: usize = 6;
 
 /// Digits of a line.
 #[derive(Clone, Copy, PartialEq, Eq)]
@@ -238,16 +238,41 @@ pub struct Digits {
     pub end: usize,
 }
 
-// A number with a digit more.
-fn more_digits(value: u32, byte: u8) -> u32
-    requires few { value < 10000000 }
-    requires digit { is_digit byte ≡ true }
-    ensures { result ≡ 10 * value + (byte - 48) }
+// How far a byte stands from the digit 0, or a number beyond 9 where it is no digit.
+#[inline(always)]
+fn digit_of(byte: u8) -> u32
+    ensures is { nat_lt result 10 ≡ is_digit byte }
+    ensures value { is_digit byte ≡ true → result ≡ byte - 48 }
 {
-    10 * value + u32::from(byte - b'0')
+    u32::from(byte).wrapping_sub(48)
 }
 
-// The digits that stand from `at` on, or the first eight of them.
+// The digits that stand from `at` on, or the first `count` of them.
+#[inline(always)]
+fn first_digits(line: &[u8], at: usize, count: usize) -> Digits
+    requires few { count ≤ 6 }
+    requires within { at + count ≤ length line.now }
+    ensures order { at ≤ result.end }
+    ensures within { result.end ≤ length line.now }
+    ensures before { (k : ℕ) → at ≤ k → k < result.end → slice_index line.now k ≢ 32 }
+    ensures value { option_map (min far) (decimal_from 0 (take (result.end - at) (drop at line.now))) ≡ Some result.value }
+{
+    let mut value = 0;
+    for i in 0..count {
+        let digit = digit_of(line[at + i]);
+        if digit > 9 {
+            return Digits { value, end: at + i };
+        }
+        value = 10 * value + digit;
+    }
+    Digits {
+        value,
+        end: at + count,
+    }
+}
+
+// The digits that stand from `at` on, or the first six of them. Where six bytes are left, the loop is one of six rounds.
+#[inline(always)]
 fn digits_from(line: &[u8], at: usize) -> Digits
     requires { at ≤ length line.now }
     ensures order { at ≤ result.end }
@@ -255,15 +280,22 @@ fn digits_from(line: &[u8], at: usize) -> Digits
     ensures before { (k : ℕ) → at ≤ k → k < result.end → slice_index line.now k ≢ 32 }
     ensures value { option_map (min far) (decimal_from 0 (take (result.end - at) (drop at line.now))) ≡ Some result.value }
 {
-    let most = line.len().min(at + MOST_DIGITS);
-    let mut value = 0;
-    for k in at..most {
-        if !is_digit_byte(line[k]) {
-            return Digits { value, end: k };
-        }
-        value = more_digits(value, line[k]);
+    let left = line.len() - at;
+    if left < MOST_DIGITS {
+        first_digits(line, at, left)
+    } else {
+        first_digits(line, at, MOST_DIGITS)
     }
-    Digits { value, end: most }
+}
+
+// Whether digits that stand from `at` on and before `end` are those of a number.
+#[inline(always)]
+fn is_canonical_at(line: &[u8], at: usize, end: usize) -> bool
+    requires order { at ≤ end }
+    requires within { end ≤ length line.now }
+    ensures { result ≡ canonical (take (end - at) (drop at line.now)) }
+{
+    at < end && (line[at] != b'0' || end == at + 1)
 }
 
 // Whether a word may end here.
@@ -301,7 +333,7 @@ pub fn next_word(line: &[u8], at: usize) -> Next
     ensures word { result.word ≡ word_meant (take (result.end - at) (drop at line.now)) }
 {
     let digits = digits_from(line, at);
-    if is_canonical(&line[at..digits.end]) {
+    if is_canonical_at(line, at, digits.end) {
         if ends_at(line, digits.end) {
             return Next {
                 word: Word::Number(Signed {
@@ -328,7 +360,7 @@ pub fn next_word(line: &[u8], at: usize) -> Next
     }
 }
 
-/// The number that begins at `at`, where it has no minus and at most eight digits.
+/// The number that begins at `at`, where it has no minus and at most six digits.
 #[inline(always)]
 pub fn plain_at(line: &[u8], at: usize) -> Option<Digits>
     ensures { IfSome result (IsPlainAt line.now at) }
@@ -337,7 +369,7 @@ pub fn plain_at(line: &[u8], at: usize) -> Option<Digits>
         return None;
     }
     let digits = digits_from(line, at);
-    if is_canonical(&line[at..digits.end]) {
+    if is_canonical_at(line, at, digits.end) {
         if ends_at(line, digits.end) {
             return Some(digits);
         }
@@ -345,7 +377,7 @@ pub fn plain_at(line: &[u8], at: usize) -> Option<Digits>
     None
 }
 
-/// Returns the number before a colon that begins at `at`, where it has no minus and at most eight digits; its `end` is the
+/// Returns the number before a colon that begins at `at`, where it has no minus and at most six digits; its `end` is the
 /// place after the colon.
 #[inline(always)]
 pub fn closing_at(line: &[u8], at: usize) -> Option<Digits>
@@ -355,7 +387,7 @@ pub fn closing_at(line: &[u8], at: usize) -> Option<Digits>
         return None;
     }
     let digits = digits_from(line, at);
-    if is_canonical(&line[at..digits.end]) {
+    if is_canonical_at(line, at, digits.end) {
         if closes_at(line, digits.end) {
             return Some(Digits {
                 value: digits.value,

@@ -23,7 +23,7 @@ IsPlain-front bytes n within none =
     All-from_get_or (λ b. b ≢ 10) (take n bytes) 0 (λ k h. let lt : k < n = omega arith in rw (get_or-take n bytes k 0 lt) (none k lt))
 
 due-more : (due : Due) (first number : ℕ) (text pending more : List ℕ) → IsDue due first number text pending → IsDue due first number (text ++ more) (pending ++ more)
-due-more (Row rows) first number text pending more b = IsBegun-more rows.head rows.n first number rows.draft text pending more b
+due-more (Row rows) first number text pending more b = IsBegun-more rows.held.head rows.held.n first number rows.held.draft text pending more b
 due-more (Columns bars) first number text pending more b = IsBegun-more Bars (length bars.draft.lists) first number bars.draft text pending more b
 
 pub open-more : (begun : Option Begun) (first number : ℕ) (text text' pending more : List ℕ) → text' ≡ text ++ more → IsOpen begun first number text pending → IsOpen begun first number text' (pending ++ more)

@@ -28,7 +28,7 @@ open-bad bytes at line plain some = inl (refl, inl (plain, some))
 -- a figure that has begun ends in its lines
 due-ends : (bytes : List ℕ) (at first line : ℕ) (pending : List ℕ) (due : Due) → IsPlain pending → IsDue due first line (drop at bytes) pending → IsAnswer bytes at first (Err (fault.EndInFigure first))
 due-ends bytes at first line pending (Row rows) plain b =
-    inr (head_kind rows.head, rows.n, b.body, b.begins, row-body (head_kind rows.head) rows.n b.body first (fault.EndInFigure first) (b.lines, pending, record { rows = b.rows; few = let l = lists-lines b in let d = rows.due in omega arith }, plain, refl))
+    inr (head_kind rows.held.head, rows.held.n, b.body, b.begins, row-body (head_kind rows.held.head) rows.held.n b.body first (fault.EndInFigure first) (b.lines, pending, record { rows = b.rows; few = let l = lists-lines b in let d = rows.due in omega arith }, plain, refl))
 due-ends bytes at first line pending (Columns bars) plain b = inr (Bars, length bars.draft.lists, b.body, b.begins, inr (b.lines, pending, b.rows, sym (lists-lines b), plain, refl))
 
 pub begun-ends : (bytes : List ℕ) (at first line : ℕ) (pending : List ℕ) (begun : Begun) → IsPlain pending → IsOpen (Some begun) first line (drop at bytes) pending → IsAnswer bytes at first (Err (fault.EndInFigure begun.first))

@@ -50,7 +50,7 @@ AreDrawn-none head = record {
 
 -- a figure that begins with n vertices to come
 abbrev fresh : (head : Head) (n first : ℕ) → 0 < n → n < 4096 → Begun
-fresh head n first some few = record { first = first; due = Row (record { head = head; n = n; draft = no_lines; few = few; due = some; drawn = AreDrawn-none head }) }
+fresh head n first some few = record { first = first; due = Row (record { held = record { head = head; n = n; draft = no_lines }; few = few; due = some; drawn = AreDrawn-none head }) }
 
 -- what a first line says
 head-said : (kind : Kind) (line : List ℕ) → TailInRange (Some kind) line → (head : Head) × (head_kind head ≡ kind) × HasGraph head line
@@ -80,7 +80,7 @@ all-drawn (WitnessHead kind graph) first draft some few drawn = (Whole (WitnessF
 some-grown : (head : Head) (n first : ℕ) (draft : Draft) → 0 < n → n < 4096 → length draft.lists ≤ n → AreDrawn head draft → (after : After) × IsGrown head n first draft after
 some-grown head n first draft some few within drawn =
     elim (cases_lt (length draft.lists) n) [
-      | inl due ↦ (Goes (Some (record { first = first; due = Row (record { head = head; n = n; draft = draft; few = few; due = due; drawn = drawn }) })), (refl, (due, refl, refl, refl)))
+      | inl due ↦ (Goes (Some (record { first = first; due = Row (record { held = record { head = head; n = n; draft = draft }; few = few; due = due; drawn = drawn }) })), (refl, (due, refl, refl, refl)))
       | inr all ↦ (
           let count : length draft.lists ≡ n = omega arith in
           subst (λ (k : ℕ). (after : After) × IsGrown head k first draft after) count (all-drawn head first draft (omega arith) (omega arith) drawn)
@@ -121,24 +121,24 @@ module _ (number : ℕ) (line : List ℕ) (plain : IsPlain line) where
   module _ (text : List ℕ) (first : ℕ) where
     -- where a vertex is due
     row-makes : (rows : SomeRows) → IsDue (Row rows) first number text line → Closed first text
-    row-makes rows b = by_shape (told-row (head_kind rows.head) (length rows.draft.lists + 1) (words_of line))
+    row-makes rows b = by_shape (told-row (head_kind rows.held.head) (length rows.held.draft.lists + 1) (words_of line))
       where
-        good : IsGoodRow (head_kind rows.head) (length rows.draft.lists + 1) line → Closed first text
+        good : IsGoodRow (head_kind rows.held.head) (length rows.held.draft.lists + 1) line → Closed first text
         good is =
-            let draft : Draft = with_row (head_kind rows.head) rows.draft (words_of line) in
-            let long = lists-with_row (head_kind rows.head) rows.draft (words_of line) in
+            let draft : Draft = with_row (head_kind rows.held.head) rows.held.draft (words_of line) in
+            let long = lists-with_row (head_kind rows.held.head) rows.held.draft (words_of line) in
             let due = rows.due in
-            let within : length draft.lists ≤ rows.n = omega arith in
-            let grown = some-grown rows.head rows.n first draft (omega arith) rows.few within (AreDrawn-more rows.head rows.draft (words_of line) rows.drawn) in
-            (grown.0, makes-grown text first number line plain rows.head rows.n rows.draft b is draft refl within first refl grown.0 grown.1)
+            let within : length draft.lists ≤ rows.held.n = omega arith in
+            let grown = some-grown rows.held.head rows.held.n first draft (omega arith) rows.few within (AreDrawn-more rows.held.head rows.held.draft (words_of line) rows.drawn) in
+            (grown.0, makes-grown text first number line plain rows.held.head rows.held.n rows.held.draft b is draft refl within first refl grown.0 grown.1)
 
-        by_range : IsRow (head_kind rows.head) (length rows.draft.lists + 1) (words_of line) → Told (RowInRange (head_kind rows.head) (words_of line)) → Closed first text
+        by_range : IsRow (head_kind rows.held.head) (length rows.held.draft.lists + 1) (words_of line) → Told (RowInRange (head_kind rows.held.head) (words_of line)) → Closed first text
         by_range shaped (inl range) = good (shaped, range)
-        by_range shaped (inr not) = (Bad (Limit number), makes-far_row text first number line plain rows.head rows.n rows.draft b rows.due shaped not)
+        by_range shaped (inr not) = (Bad (Limit number), makes-far_row text first number line plain rows.held.head rows.held.n rows.held.draft b rows.due shaped not)
 
-        by_shape : Told (IsRow (head_kind rows.head) (length rows.draft.lists + 1) (words_of line)) → Closed first text
-        by_shape (inl shaped) = by_range shaped (told-row_range (head_kind rows.head) (words_of line))
-        by_shape (inr not) = (Bad (BadLine number), makes-bad_row text first number line plain rows.head rows.n rows.draft b rows.due not)
+        by_shape : Told (IsRow (head_kind rows.held.head) (length rows.held.draft.lists + 1) (words_of line)) → Closed first text
+        by_shape (inl shaped) = by_range shaped (told-row_range (head_kind rows.held.head) (words_of line))
+        by_shape (inr not) = (Bad (BadLine number), makes-bad_row text first number line plain rows.held.head rows.held.n rows.held.draft b rows.due not)
 
     -- where the columns are due
     columns-make : (bars : AllBars) → IsDue (Columns bars) first number text line → Closed first text

@@ -37,7 +37,7 @@ pub record IsBegun (head : Head) (n first line : ℕ) (draft : Draft) (text rest
 
 -- a figure has begun, and this line of it is due
 abbrev pub IsDue : Due → ℕ → ℕ → List ℕ → List ℕ → Type 0
-IsDue (Row rows) first line text pending = IsBegun rows.head rows.n first line rows.draft text pending
+IsDue (Row rows) first line text pending = IsBegun rows.held.head rows.held.n first line rows.held.draft text pending
 IsDue (Columns bars) first line text pending = IsBegun Bars (length bars.draft.lists) first line bars.draft text pending
 
 -- What stands behind the items: a line alone, or a figure that has begun.

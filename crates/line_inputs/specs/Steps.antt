@@ -17,12 +17,12 @@ no_lines = record { lists = []; points = []; y = []; x1 = []; x2 = []; y2 = [] }
 
 -- the first line behind that of a figure is due
 abbrev pub IsFresh : Head → ℕ → Due → Type 0
-IsFresh head n (Row rows) = (rows.head ≡ head) × (rows.n ≡ n) × (rows.draft ≡ no_lines)
+IsFresh head n (Row rows) = (rows.held.head ≡ head) × (rows.held.n ≡ n) × (rows.held.draft ≡ no_lines)
 IsFresh head n (Columns bars) = ⊥
 
 -- which line is due behind those that gave a draft
 abbrev pub GoesOn : Head → ℕ → Draft → Due → Type 0
-GoesOn head n draft (Row rows) = (length draft.lists < n) × (rows.head ≡ head) × (rows.n ≡ n) × (rows.draft ≡ draft)
+GoesOn head n draft (Row rows) = (length draft.lists < n) × (rows.held.head ≡ head) × (rows.held.n ≡ n) × (rows.held.draft ≡ draft)
 GoesOn head n draft (Columns bars) = (n ≤ length draft.lists) × (head ≡ Bars) × (bars.draft ≡ draft)
 
 -- a straight-line drawing or a rectangular dual is whole with the line of its last vertex, and a witness with that of its last path

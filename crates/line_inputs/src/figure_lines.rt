@@ -13,6 +13,7 @@ pub mod laws;
 mod part;
 mod read;
 mod reader;
+mod rows;
 mod step;
 
 pub use ending::Ending;

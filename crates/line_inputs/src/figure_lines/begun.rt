@@ -3,8 +3,9 @@ ghost use Rattle.std.specs.Prelude.{◌<◌, length};
 ghost use Rattle.line_inputs.specs.declared.figure_lines.head.Head.TheVariants.{Bars as BarsHead};
 ghost use Rattle.line_inputs.specs.Given.{AreDrawn};
 
-use crate::figure_lines::head::Head;
-use crate::figure_lines::held::HeldDraft;
+use crate::figure_lines::held::Held;
+use crate::figure_lines::rows::Rows;
+use figure_text::Draft;
 
 /// A figure of which the first line has come, and not the last.
 #[derive(Drop)]
@@ -27,22 +28,18 @@ pub enum Due {
 /// A figure of which the lines of some vertices, or of branches and paths, are there.
 #[derive(Drop)]
 pub struct SomeRows {
-    /// The content of the first line.
-    pub head: Head,
-    /// How many such lines the figure has.
-    pub n: usize,
-    /// The content of those lines.
-    pub draft: HeldDraft,
-    ghost few: { n < 4096 },
-    ghost due: { length draft.lists < n },
-    ghost drawn: { AreDrawn head draft },
+    /// The content of those lines and of the first.
+    pub held: Held<Rows>,
+    ghost few: { held.n < 4096 },
+    ghost due: { length held.draft.lists < held.n },
+    ghost drawn: { AreDrawn held.head held.draft },
 }
 
 /// Bars of which the lines of all vertices are there.
 #[derive(Drop)]
 pub struct AllBars {
     /// The content of those lines.
-    pub draft: HeldDraft,
+    pub draft: Held<Draft>,
     ghost some: { 0 < length draft.lists },
     ghost few: { length draft.lists < 4096 },
     ghost drawn: { AreDrawn BarsHead draft },

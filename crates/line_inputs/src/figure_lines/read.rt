@@ -56,7 +56,7 @@ pub fn read_figure(alloc: Global, bytes: &[u8], at: usize, line: u32) -> Result<
             Ok(After::Goes(Some(figure))) => begun = Some(figure),
             Ok(After::Goes(None)) => return Ok(Item::Note(behind, number + 1)),
             Ok(After::Whole(held)) => {
-                return Ok(Item::Drawn(held.into_figure(), behind, number + 1));
+                return Ok(Item::Drawn(held.into_inner(), behind, number + 1));
             }
             Ok(After::Bad(ending)) => return Err(fault_of(ending)),
             Err(_) => return Err(TextFault::NoMemory),

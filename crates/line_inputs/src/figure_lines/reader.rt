@@ -149,7 +149,7 @@ impl Parts for FigureReader {
                         Ok(Part::Goes(k))
                     }
                     After::Whole(held) => {
-                        self.figure = held.into_figure();
+                        self.figure = held.into_inner();
                         Ok(Part::Ended(k))
                     }
                     After::Bad(ending) => Ok(Part::Bad(ending)),

@@ -8,7 +8,8 @@ ghost use Rattle.line_inputs.specs.FigureLinesProgress.{IsDue, IsOpen, Makes, Is
 use crate::figure_lines::begun::{AllBars, Begun, Due, SomeRows};
 use crate::figure_lines::ending::Ending;
 use crate::figure_lines::head::{Head, head_of};
-use crate::figure_lines::held::{HeldDraft, HeldFigure};
+use crate::figure_lines::held::Held;
+use crate::figure_lines::rows::Rows;
 use figure_text::{
     Columns, Draft, Figure, Front, Judged, Word, columns_line, draft_rects, draft_witness,
     front_line,
@@ -22,7 +23,7 @@ pub enum After {
     /// The figure goes on, or none has begun.
     Goes(Option<Begun>),
     /// The figure is whole.
-    Whole(HeldFigure),
+    Whole(Held<Figure>),
     /// The input ends badly with the line.
     Bad(Ending),
 }
@@ -34,10 +35,10 @@ fn begun_figure(alloc: Global, head: Head, n: usize, first: u32) -> Result<Begun
     ensures first { IfOk result (λ begun. begun.first ≡ first) }
     ensures due { IfOk result (λ begun. IsFresh head n begun.due) }
 {
-    let draft = HeldDraft::new(alloc)?;
+    let held = Held::new(alloc, Rows::new(alloc, head, n))?;
     Ok(Begun {
         first,
-        due: Due::Row(SomeRows { head, n, draft }),
+        due: Due::Row(SomeRows { held }),
     })
 }
 
@@ -59,57 +60,55 @@ fn after_front(alloc: Global, line: &[u8], number: u32) -> Result<After, AllocEr
 }
 
 // Ends a figure of which all lines of vertices, or of branches and paths, are there.
-fn all_drawn(alloc: Global, head: Head, first: u32, draft: HeldDraft) -> Result<After, AllocError>
-    requires some { 0 < length draft.lists }
-    requires few { length draft.lists < 4096 }
-    requires drawn { AreDrawn head draft }
+fn all_drawn(alloc: Global, first: u32, rows: Rows) -> Result<After, AllocError>
+    requires some { 0 < length rows.draft.lists }
+    requires few { length rows.draft.lists < 4096 }
+    requires drawn { AreDrawn rows.head rows.draft }
     ensures whole { IfOk result IsWhole }
-    ensures grown { IfOk result (IsGrown head (length draft.lists) first draft) }
+    ensures grown { IfOk result (IsGrown rows.head (length rows.draft.lists) first rows.draft) }
 {
+    let Rows { head, draft, .. } = rows;
     match head {
         Head::Grid(job) => {
-            let Draft { lists, points, .. } = draft.into_draft();
-            let held = HeldFigure::new(alloc, Figure::Grid { job, lists, points })?;
+            let Draft { lists, points, .. } = draft;
+            let held = Held::new(alloc, Figure::Grid { job, lists, points })?;
             Ok(After::Whole(held))
         }
-        Head::Bars => Ok(After::Goes(Some(Begun {
-            first,
-            due: Due::Columns(AllBars { draft }),
-        }))),
+        Head::Bars => {
+            let draft = Held::new(alloc, draft)?;
+            Ok(After::Goes(Some(Begun {
+                first,
+                due: Due::Columns(AllBars { draft }),
+            })))
+        }
         Head::Rects => {
-            let held = HeldFigure::new(alloc, draft_rects(draft.into_draft()))?;
+            let held = Held::new(alloc, draft_rects(draft))?;
             Ok(After::Whole(held))
         }
         Head::Witness(kind, graph) => {
-            let witness = draft_witness(alloc, kind, draft.draft())?;
-            let held = HeldFigure::new(alloc, Figure::Witness { graph, witness })?;
+            let witness = draft_witness(alloc, kind, &draft)?;
+            let held = Held::new(alloc, Figure::Witness { graph, witness })?;
             Ok(After::Whole(held))
         }
     }
 }
 
 // Goes on with a figure of which some of them are there.
-fn grown(
-    alloc: Global,
-    head: Head,
-    n: usize,
-    first: u32,
-    draft: HeldDraft,
-) -> Result<After, AllocError>
-    requires some { 0 < n }
-    requires few { n < 4096 }
-    requires within { length draft.lists ≤ n }
-    requires drawn { AreDrawn head draft }
+fn grown(alloc: Global, first: u32, held: Held<Rows>) -> Result<After, AllocError>
+    requires some { 0 < held.n }
+    requires few { held.n < 4096 }
+    requires within { length held.draft.lists ≤ held.n }
+    requires drawn { AreDrawn held.head held.draft }
     ensures whole { IfOk result IsWhole }
-    ensures grown { IfOk result (IsGrown head n first draft) }
+    ensures grown { IfOk result (IsGrown held.head held.n first held.draft) }
 {
-    if draft.len() < n {
+    if held.is_due() {
         Ok(After::Goes(Some(Begun {
             first,
-            due: Due::Row(SomeRows { head, n, draft }),
+            due: Due::Row(SomeRows { held }),
         })))
     } else {
-        all_drawn(alloc, head, first, draft)
+        all_drawn(alloc, first, held.into_inner())
     }
 }
 
@@ -126,11 +125,10 @@ fn after_row(
     ensures makes { (text : List ℕ) (start : ℕ) → IsPlain line.now → first ≡ start → IsDue (Due.Row rows) start number text line.now
         → IfOk result (Makes start number (text ++ 10 ∷ [])) }
 {
-    let SomeRows { head, n, mut draft } = rows;
-    let place = draft.len() + 1;
-    match draft.row(found, head.kind(), place, line) {
+    let SomeRows { mut held } = rows;
+    match held.row(found, line) {
         Some(Judged::Good) => {
-            let after = grown(alloc, head, n, first, draft)?;
+            let after = grown(alloc, first, held)?;
             Ok(after)
         }
         Some(Judged::Bad) => Ok(After::Bad(Ending::BadLine(number))),
@@ -151,7 +149,7 @@ fn with_columns(bars: AllBars, column: Ints) -> Figure
         x1,
         x2,
         ..
-    } = draft.into_draft();
+    } = draft.into_inner();
     Figure::Bars {
         lists,
         bars: BarFigure { y, x1, x2, column },
@@ -172,7 +170,7 @@ fn after_columns(
 {
     match columns_line(alloc, line) {
         Columns::Good(column) => {
-            let held = HeldFigure::new(alloc, with_columns(bars, column))?;
+            let held = Held::new(alloc, with_columns(bars, column))?;
             Ok(After::Whole(held))
         }
         Columns::Bad => Ok(After::Bad(Ending::BadLine(number))),

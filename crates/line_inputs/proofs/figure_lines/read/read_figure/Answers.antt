@@ -29,7 +29,7 @@ returns-in-Ok-Whole c =
     let line = c.in-Some.ensures in
     let stands = line-open c.args.bytes.now c.in-Some.text.now c.args.at c.args.line l.next l.number c.in-Some.behind l.begun c.requires.within l.invariant.within line.1 read line.0 in
     let makes = rw c.in-Ok-Whole.field-0-is at (c.in-Ok-Whole.ensures.makes (read.text ++ c.in-Some.text.now) c.args.line line.0.plain stands) in
-    rw c.into_figure.ensures (answers-drawn c.args.bytes.now c.in-Some.text.now c.args.at c.args.line l.next l.number c.in-Some.behind l.begun c.requires.within l.invariant.within line.1 read line.0 c.in-Ok-Whole.held makes)
+    rw c.into_inner.ensures (answers-drawn c.args.bytes.now c.in-Some.text.now c.args.at c.args.line l.next l.number c.in-Some.behind l.begun c.requires.within l.invariant.within line.1 read line.0 c.in-Ok-Whole.held makes)
 
 pub fault_of-requires : goal.fault_of-requires
 fault_of-requires c =

@@ -1,7 +1,0 @@
--- The lines before that of path p are written.
-use Rattle.std.proofs.Common.{◌≡◌, ◌++◌}
-use Rattle.figure_text.specs.Text.{path_lines}
-use Rattle.figure_text.proofs.witness_print.push_paths.Given as goal
-
-abbrev pub invariant-loop-p : goal.invariant-loop-p
-invariant-loop-p l = l.out.items ≡ l.fn.out.items ++ path_lines l.paths l.p

@@ -1,0 +1,78 @@
+//! The lines of vertices, or of branches and paths, of a figure, as they come.
+ghost use Rattle.std.specs.Prelude.{◌≡◌, ◌+◌, ◌<◌, length, IfSome, nat_lt};
+ghost use Rattle.figure_text.specs.Words.{words_of};
+ghost use Rattle.figure_text.specs.Drafts.{with_row};
+ghost use Rattle.figure_text.specs.Reading.{Judges, IsRow, RowInRange};
+ghost use Rattle.line_inputs.specs.Heads.{head_kind};
+ghost use Rattle.line_inputs.specs.Steps.{no_lines};
+
+use crate::figure_lines::head::Head;
+use crate::figure_lines::held::Held;
+use figure_text::{Draft, Judged, Word, row_of};
+use map_lists::Rotations;
+use pg_plane::{Ints, Points};
+use std::alloc::Global;
+
+/// A figure of which some lines of vertices, or of branches and paths, have come.
+#[derive(Drop)]
+pub struct Rows {
+    /// The content of the first line.
+    pub head: Head,
+    /// How many such lines the figure has.
+    pub n: usize,
+    /// The content of those lines.
+    pub draft: Draft,
+}
+
+impl Rows {
+    /// A figure of which the first line alone has come.
+    pub fn new(alloc: Global, head: Head, n: usize) -> Rows
+        ensures { result ≡ record { head = head; n = n; draft = no_lines } }
+    {
+        Rows {
+            head,
+            n,
+            draft: Draft {
+                lists: Rotations::new(alloc),
+                points: Points::new(alloc),
+                y: Ints::new(alloc),
+                x1: Ints::new(alloc),
+                x2: Ints::new(alloc),
+                y2: Ints::new(alloc),
+            },
+        }
+    }
+
+    // Judges the line that is due, and keeps what a good one gives.
+    fn row(&mut self, found: &mut Vec<Word>, line: &[u8]) -> Option<Judged>
+        requires { length self.old.draft.lists < self.old.n }
+        ensures judged { IfSome result (λ judged. Judges (IsRow (head_kind self.old.head) (length self.old.draft.lists + 1) (words_of line.now))
+            (RowInRange (head_kind self.old.head) (words_of line.now)) judged
+            × (judged ≡ Judged.Good → self.new.draft ≡ with_row (head_kind self.old.head) self.old.draft (words_of line.now))) }
+        ensures same { (self.new.head ≡ self.old.head) × (self.new.n ≡ self.old.n) }
+    {
+        let kind = self.head.kind();
+        let place = self.draft.lists.len() + 1;
+        row_of(found, kind, place, line, &mut self.draft)
+    }
+}
+
+impl Held<Rows> {
+    /// Judges the line that is due, and keeps what a good one gives.
+    pub fn row(&mut self, found: &mut Vec<Word>, line: &[u8]) -> Option<Judged>
+        requires { length self.old.draft.lists < self.old.n }
+        ensures judged { IfSome result (λ judged. Judges (IsRow (head_kind self.old.head) (length self.old.draft.lists + 1) (words_of line.now))
+            (RowInRange (head_kind self.old.head) (words_of line.now)) judged
+            × (judged ≡ Judged.Good → self.new.draft ≡ with_row (head_kind self.old.head) self.old.draft (words_of line.now))) }
+        ensures same { (self.new.head ≡ self.old.head) × (self.new.n ≡ self.old.n) }
+    {
+        self.inside.row(found, line)
+    }
+
+    /// Says whether a line more is due.
+    pub fn is_due(&self) -> bool
+        ensures { result ≡ nat_lt (length self.now.draft.lists) self.now.n }
+    {
+        self.inside.draft.lists.len() < self.inside.n
+    }
+}
