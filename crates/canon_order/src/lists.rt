@@ -5,7 +5,7 @@ ghost use Rattle.canon_order.specs.Marks.{is_set};
 ghost use Rattle.canon_order.specs.Orders.{IsRankOf};
 
 use half_edges::{Counts, VertexId, VertexList};
-use std::alloc::{AllocError, Global};
+use std::alloc::AllocError;
 
 // Adds one for each entry of a list.
 pub(crate) fn raise(counts: &mut [u16], entries: &[u16])
@@ -107,11 +107,11 @@ pub(crate) fn entry_behind(list: &[u16], u: u16) -> u16
     list[0]
 }
 
-// The vertices of these numbers, from the last to the first.
-pub(crate) fn turned_vertices(alloc: Global, taken: &[u16]) -> Result<VertexList, AllocError>
+// The vertices of these numbers, from the last to the first, in the memory of `spent`.
+pub(crate) fn turned_vertices(spent: VertexList, taken: &[u16]) -> Result<VertexList, AllocError>
     ensures { IfOk result (λ at. map (λ v. v.0) at ≡ reverse taken.now) }
 {
-    let mut at = VertexList::with_capacity(alloc, taken.len())?;
+    let mut at = spent.emptied(taken.len())?;
     for v in taken.iter().rev() {
         at.push(VertexId(*v))?;
     }
@@ -131,14 +131,23 @@ fn write_ranks(ranks: &mut [u32], taken: &[u16])
     }
 }
 
-// For each number its place, counted from the last.
-pub(crate) fn turned_ranks(alloc: Global, taken: &[u16]) -> Result<Counts, AllocError>
+// A table of `n` numbers, whatever they are, in the memory of another.
+fn resized(table: Vec<u32>, n: usize) -> Result<Vec<u32>, AllocError>
+    ensures { IfOk result (λ made. length made.items ≡ n) }
+{
+    let mut table = table;
+    table.resize(n, 0)?;
+    Ok(table)
+}
+
+// For each number its place, counted from the last, in the memory of `spent`.
+pub(crate) fn turned_ranks(spent: Counts, taken: &[u16]) -> Result<Counts, AllocError>
     requires few { length taken.now < 4096 }
     requires within { All (λ v. v < length taken.now) taken.now }
     requires distinct { AllPairs ◌≢◌ taken.now }
     ensures { IfOk result (λ rank. IsRankOf rank (reverse taken.now)) }
 {
-    let mut ranks = vec![in alloc; 0; taken.len()]?;
+    let mut ranks = resized(spent.into_vec(), taken.len())?;
     write_ranks(&mut ranks, taken);
     Ok(Counts::from_vec(ranks))
 }

@@ -11,6 +11,7 @@ use crate::fault::OrderFault;
 use crate::lists::{entry_behind, push_three, turned_ranks, turned_vertices};
 use half_edges::{Counts, DartId, HalfMap, Rotations, VertexList};
 use std::alloc::{AllocError, Global};
+use std::mem;
 
 /// An order of a map's vertices, and its inverse.
 #[derive(Drop)]
@@ -19,6 +20,16 @@ pub struct Order {
     pub at: VertexList,
     /// For each vertex, by its number, its place in `at`, from 0.
     pub rank: Counts,
+}
+
+impl Order {
+    // The order of no vertices. It takes no memory.
+    fn new(alloc: Global) -> Order {
+        Order {
+            at: VertexList::new(alloc),
+            rank: Counts::new(alloc),
+        }
+    }
 }
 
 // Takes vertices off until three are left, and those too: from the last one of an order to the first. At
@@ -64,8 +75,20 @@ pub fn turned_order(alloc: Global, taken: &[u16]) -> Result<Order, AllocError>
     ensures vertices { IfOk result (λ order. vertices_of order ≡ reverse taken.now) }
     ensures rank { IfOk result (λ order. IsRankOf order.rank (reverse taken.now)) }
 {
-    let at = turned_vertices(alloc, taken)?;
-    let rank = turned_ranks(alloc, taken)?;
+    let order = turned_into(Order::new(alloc), taken)?;
+    Ok(order)
+}
+
+// The order of these vertices, as `turned_order` has it, in the memory of another.
+fn turned_into(spent: Order, taken: &[u16]) -> Result<Order, AllocError>
+    requires few { length taken.now < 4096 }
+    requires within { All (λ v. v < length taken.now) taken.now }
+    requires distinct { AllPairs ◌≢◌ taken.now }
+    ensures vertices { IfOk result (λ order. vertices_of order ≡ reverse taken.now) }
+    ensures rank { IfOk result (λ order. IsRankOf order.rank (reverse taken.now)) }
+{
+    let at = turned_vertices(spent.at, taken)?;
+    let rank = turned_ranks(spent.rank, taken)?;
     Ok(Order { at, rank })
 }
 
@@ -78,6 +101,7 @@ pub struct Peeler {
     gone: Vec<bool>,
     stack: Vec<u16>,
     taken: Vec<u16>,
+    spent: Order,
 }
 
 impl Peeler {
@@ -89,6 +113,7 @@ impl Peeler {
             gone: Vec::new(alloc),
             stack: Vec::new(alloc),
             taken: Vec::new(alloc),
+            spent: Order::new(alloc),
         }
     }
 
@@ -163,8 +188,14 @@ impl Peeler {
         ensures rank { IfOk result (λ order. IsRankOf order.rank (vertices_of order)) }
     {
         self.take(lists, t, s, third, under)?;
-        let order = turned_order(alloc, &self.taken)?;
+        let spent = mem::replace(&mut self.spent, Order::new(alloc));
+        let order = turned_into(spent, &self.taken)?;
         Ok(order)
+    }
+
+    /// Keeps the memory of an order that is done with.
+    pub fn keep(&mut self, order: Order) {
+        self.spent = order;
     }
 
     /// Orders as [`list_order`] does.

@@ -16,3 +16,4 @@ pub mod LawLemmas
 mod Cases
 pub mod UniqueRows
 pub mod UniqueFigures
+mod NumeralTexts

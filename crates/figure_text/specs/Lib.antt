@@ -9,3 +9,4 @@ pub mod Drafts
 pub mod Front
 pub mod Figures
 pub mod Laws
+pub mod Numerals

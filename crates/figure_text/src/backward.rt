@@ -3,7 +3,7 @@ ghost use Rattle.std.specs.Prelude.{◌≡◌, ◌+◌, ◌*◌, ◌<◌, ◌≤
 ghost use Rattle.std.specs.Fmt.{signed_decimal};
 ghost use Rattle.figure_text.specs.Text.{spaced_signed, first_line, columns_line};
 
-use itoa::write_digits;
+use crate::numerals::Numerals;
 
 // Writes a byte before `end`, and returns where it stands.
 pub(crate) fn write_byte(byte: u8, bytes: &mut [u8], end: usize) -> usize
@@ -26,22 +26,22 @@ pub(crate) fn write_letter(letter: u8, bytes: &mut [u8], end: usize) -> usize
 }
 
 // Writes a space and a number before `end`, and returns where they start.
-fn write_next(number: u64, bytes: &mut [u8], end: usize) -> usize
-    requires { (length (decimal number) < end) × (end ≤ length bytes.old) }
+fn write_next(numerals: &Numerals, number: u64, bytes: &mut [u8], end: usize) -> usize
+    requires { (length (decimal number) < end) × (4 ≤ end) × (end ≤ length bytes.old) }
     ensures start { result + 1 + length (decimal number) ≡ end }
     ensures written { drop result bytes.new ≡ 32 ∷ decimal number ++ drop end bytes.old }
 {
-    let start = write_digits(number, bytes, end);
+    let start = numerals.write(number, bytes, end);
     write_byte(b' ', bytes, start)
 }
 
 // Writes a space and a signed number before `end`, and returns where they start.
-pub(crate) fn write_signed(number: i32, bytes: &mut [u8], end: usize) -> usize
+pub(crate) fn write_signed(numerals: &Numerals, number: i32, bytes: &mut [u8], end: usize) -> usize
     requires { (12 ≤ end) × (end ≤ length bytes.old) }
     ensures within { (result < end) × (end ≤ result + 12) }
     ensures written { drop result bytes.new ≡ 32 ∷ signed_decimal number ++ drop end bytes.old }
 {
-    let start = write_digits(u64::from(number.unsigned_abs()), bytes, end);
+    let start = numerals.write(u64::from(number.unsigned_abs()), bytes, end);
     if number >= 0 {
         return write_byte(b' ', bytes, start);
     }
@@ -50,16 +50,21 @@ pub(crate) fn write_signed(number: i32, bytes: &mut [u8], end: usize) -> usize
 }
 
 // Writes what stands before the coordinates of a vertex: its number and a word.
-pub(crate) fn write_number(number: u64, bytes: &mut [u8], end: usize) -> usize
+pub(crate) fn write_number(numerals: &Numerals, number: u64, bytes: &mut [u8], end: usize) -> usize
     requires { (20 ≤ end) × (end ≤ length bytes.old) }
     ensures within { (result ≤ end) × (end ≤ result + 20) }
     ensures written { drop result bytes.new ≡ decimal number ++ drop end bytes.old }
 {
-    write_digits(number, bytes, end)
+    numerals.write(number, bytes, end)
 }
 
 // Writes vertices, numbered from 1 and each after a space, before `end`, and returns where they start.
-pub(crate) fn write_vertices(list: &[u16], bytes: &mut [u8], end: usize) -> usize
+pub(crate) fn write_vertices(
+    numerals: &Numerals,
+    list: &[u16],
+    bytes: &mut [u8],
+    end: usize,
+) -> usize
     requires room { 6 * length list.now ≤ end }
     requires end { end ≤ length bytes.old }
     ensures within { (result ≤ end) × (end ≤ result + 6 * length list.now) }
@@ -68,7 +73,7 @@ pub(crate) fn write_vertices(list: &[u16], bytes: &mut [u8], end: usize) -> usiz
     let mut start = end;
     for k in 0..list.len() {
         let u = list[list.len() - 1 - k];
-        start = write_next(u64::from(u) + 1, bytes, start);
+        start = write_next(numerals, u64::from(u) + 1, bytes, start);
     }
     start
 }
@@ -87,22 +92,29 @@ fn write_text(text: &[u8], bytes: &mut [u8], end: usize) -> usize
 }
 
 // Writes the first line of a figure before `end`, and returns where it starts.
-pub(crate) fn write_first(k: u32, word: &[u8], n: usize, bytes: &mut [u8], end: usize) -> usize
+pub(crate) fn write_first(
+    numerals: &Numerals,
+    k: u32,
+    word: &[u8],
+    n: usize,
+    bytes: &mut [u8],
+    end: usize,
+) -> usize
     requires word { length word.now ≤ 8 }
     requires room { (60 ≤ end) × (end ≤ length bytes.old) }
     ensures within { result ≤ length bytes.new }
     ensures written { drop result bytes.new ≡ first_line k word.now n ++ drop end bytes.old }
 {
     let newline = write_byte(b'\n', bytes, end);
-    let count = write_next(n as u64, bytes, newline);
+    let count = write_next(numerals, n as u64, bytes, newline);
     let name = write_text(word, bytes, count);
     let space = write_byte(b' ', bytes, name);
-    let number = write_next(u64::from(k), bytes, space);
+    let number = write_next(numerals, u64::from(k), bytes, space);
     write_text(b"figure", bytes, number)
 }
 
 // Writes signed numbers, each after a space, before `end`, and returns where they start.
-fn write_integers(list: &[i32], bytes: &mut [u8], end: usize) -> usize
+fn write_integers(numerals: &Numerals, list: &[i32], bytes: &mut [u8], end: usize) -> usize
     requires room { 12 * length list.now ≤ end }
     requires end { end ≤ length bytes.old }
     ensures within { (result ≤ end) × (end ≤ result + 12 * length list.now) }
@@ -111,19 +123,19 @@ fn write_integers(list: &[i32], bytes: &mut [u8], end: usize) -> usize
     let mut start = end;
     for k in 0..list.len() {
         let z = list[list.len() - 1 - k];
-        start = write_signed(z, bytes, start);
+        start = write_signed(numerals, z, bytes, start);
     }
     start
 }
 
 // Writes the line of the columns at the end, and returns where it starts.
-pub(crate) fn write_columns(columns: &[i32], bytes: &mut [u8]) -> usize
+pub(crate) fn write_columns(numerals: &Numerals, columns: &[i32], bytes: &mut [u8]) -> usize
     requires { 12 * length columns.now + 8 ≤ length bytes.old }
     ensures within { (result ≤ length bytes.new) × (length bytes.new ≤ result + (12 * length columns.now + 8)) }
     ensures written { drop result bytes.new ≡ columns_line columns.now }
 {
     let end = bytes.len();
     let newline = write_byte(b'\n', bytes, end);
-    let numbers = write_integers(columns, bytes, newline);
+    let numbers = write_integers(numerals, columns, bytes, newline);
     write_text(b"columns", bytes, numbers)
 }

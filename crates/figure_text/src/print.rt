@@ -3,6 +3,7 @@ ghost use Rattle.std.specs.Prelude.{◌≡◌, ◌+◌, ◌++◌, ◌∷◌, ℕ
 ghost use Rattle.figure_text.specs.Text.{first_line, vertex_lines, fronts_room, job_word, grid_text, bars_text, rects_text, IsText, IsWhole, HasBars, HasRects};
 
 use crate::backward::{write_columns, write_first};
+use crate::numerals::Numerals;
 use crate::vertex_print::{Numbered, write_lines};
 use crate::witness_print::print_witness;
 use crate::{Figure, GridJob};
@@ -54,6 +55,7 @@ fn room_of<R: Numbered>(lists: &Rotations) -> Result<usize, AllocError>
 
 // Writes the first line and the lines of the vertices at the end, and returns where they start.
 fn write_figure<R: Numbered>(
+    numerals: &Numerals,
     number: u32,
     word: &[u8],
     lists: &Rotations,
@@ -66,27 +68,8 @@ fn write_figure<R: Numbered>(
     ensures within { result ≤ length bytes.new }
     ensures written { drop result bytes.new ≡ first_line number word.now (length lists.now) ++ vertex_lines R.pieces (R.numbers figure.now) lists.now (length lists.now) }
 {
-    let lines = write_lines(figure, lists, bytes);
-    write_first(number, word, lists.len(), bytes, lines)
-}
-
-// Appends the first line and the lines of the vertices.
-fn push_lines<R: Numbered>(
-    alloc: Global,
-    number: u32,
-    word: &[u8],
-    lists: &Rotations,
-    figure: &R,
-    out: &mut Vec<u8>,
-) -> Result<(), AllocError>
-    requires word { length word.now ≤ 8 }
-    requires has { (v : ℕ) → v < length lists.now → R.Has figure.now v }
-    ensures ok { OnOk result (out.new.items ≡ out.old.items ++ (first_line number word.now (length lists.now) ++ vertex_lines R.pieces (R.numbers figure.now) lists.now (length lists.now))) }
-    ensures err { OnErr result (out.new.items ≡ out.old.items) }
-{
-    let mut bytes = vec![in alloc; 0; room_of::<R>(lists)?]?;
-    let start = write_figure(number, word, lists, figure, &mut bytes);
-    out.extend_from_slice(&bytes[start..])
+    let lines = write_lines(numerals, figure, lists, bytes);
+    write_first(numerals, number, word, lists.len(), bytes, lines)
 }
 
 /// Appends the text of a figure with this number. Each list of the drawing has an entry for each vertex, but
@@ -124,7 +107,42 @@ pub fn print_grid(
     ensures ok { OnOk result (out.new.items ≡ out.old.items ++ grid_text number job lists.now points.now) }
     ensures err { OnErr result (out.new.items ≡ out.old.items) }
 {
-    push_lines(alloc, number, word_of(job), lists, points, out)
+    let mut printer = Printer::new(alloc);
+    printer.print_grid(number, job, lists, points, out)
+}
+
+/// Appends the text of a visibility drawing with this number, of lists and a bar for each of them. After want of
+/// memory the bytes are as they were.
+pub fn print_bars(
+    alloc: Global,
+    number: u32,
+    lists: &Rotations,
+    bars: &BarFigure,
+    out: &mut Vec<u8>,
+) -> Result<(), AllocError>
+    requires { HasBars lists.now bars.now }
+    ensures ok { OnOk result (out.new.items ≡ out.old.items ++ bars_text number lists.now bars.now) }
+    ensures err { OnErr result (out.new.items ≡ out.old.items) }
+{
+    let mut printer = Printer::new(alloc);
+    printer.print_bars(number, lists, bars, out)
+}
+
+/// Appends the text of a rectangular dual with this number, of lists and a rectangle for each of them. After want
+/// of memory the bytes are as they were.
+pub fn print_rects(
+    alloc: Global,
+    number: u32,
+    lists: &Rotations,
+    rects: &RectFigure,
+    out: &mut Vec<u8>,
+) -> Result<(), AllocError>
+    requires { HasRects lists.now rects.now }
+    ensures ok { OnOk result (out.new.items ≡ out.old.items ++ rects_text number lists.now rects.now) }
+    ensures err { OnErr result (out.new.items ≡ out.old.items) }
+{
+    let mut printer = Printer::new(alloc);
+    printer.print_rects(number, lists, rects, out)
 }
 
 // How many bytes the text of a visibility drawing takes at most.
@@ -141,46 +159,115 @@ fn bars_room(lists: &Rotations, columns: &Ints) -> Result<usize, AllocError>
 }
 
 // Writes the text of a visibility drawing at the end, and returns where it starts.
-fn write_bars(number: u32, lists: &Rotations, bars: &BarFigure, bytes: &mut [u8]) -> usize
+fn write_bars(
+    numerals: &Numerals,
+    number: u32,
+    lists: &Rotations,
+    bars: &BarFigure,
+    bytes: &mut [u8],
+) -> usize
     requires bars { HasBars lists.now bars.now }
     requires room { 60 + 6 * sum_by length lists.now + fronts_room 61 (length lists.now) + (12 * length bars.now.column + 8) ≤ length bytes.old }
     ensures within { result ≤ length bytes.new }
     ensures written { drop result bytes.new ≡ bars_text number lists.now bars.now }
 {
-    let end = write_columns(bars.column.as_slice(), bytes);
-    write_figure(number, b"bars", lists, bars, &mut bytes[..end])
+    let end = write_columns(numerals, bars.column.as_slice(), bytes);
+    write_figure(numerals, number, b"bars", lists, bars, &mut bytes[..end])
 }
 
-/// Appends the text of a visibility drawing with this number, of lists and a bar for each of them. After want of
-/// memory the bytes are as they were.
-pub fn print_bars(
-    alloc: Global,
-    number: u32,
-    lists: &Rotations,
-    bars: &BarFigure,
-    out: &mut Vec<u8>,
-) -> Result<(), AllocError>
-    requires { HasBars lists.now bars.now }
-    ensures ok { OnOk result (out.new.items ≡ out.old.items ++ bars_text number lists.now bars.now) }
-    ensures err { OnErr result (out.new.items ≡ out.old.items) }
-{
-    let mut bytes = vec![in alloc; 0; bars_room(lists, &bars.column)?]?;
-    let start = write_bars(number, lists, bars, &mut bytes);
-    out.extend_from_slice(&bytes[start..])
+/// Prints figures, one after another, and keeps its memory for the next: that of the longest text so far, and the texts of
+/// numbers.
+#[derive(Drop)]
+pub struct Printer {
+    numerals: Numerals,
+    bytes: Vec<u8>,
 }
 
-/// Appends the text of a rectangular dual with this number, of lists and a rectangle for each of them. After want
-/// of memory the bytes are as they were.
-pub fn print_rects(
-    alloc: Global,
-    number: u32,
-    lists: &Rotations,
-    rects: &RectFigure,
-    out: &mut Vec<u8>,
-) -> Result<(), AllocError>
-    requires { HasRects lists.now rects.now }
-    ensures ok { OnOk result (out.new.items ≡ out.old.items ++ rects_text number lists.now rects.now) }
-    ensures err { OnErr result (out.new.items ≡ out.old.items) }
-{
-    push_lines(alloc, number, b"rect", lists, rects, out)
+impl Printer {
+    /// A printer that has printed nothing yet. It takes no memory.
+    pub fn new(alloc: Global) -> Printer {
+        Printer {
+            numerals: Numerals::new(alloc),
+            bytes: Vec::new(alloc),
+        }
+    }
+
+    // Makes room for a text of `room` bytes, and keeps the texts of most numbers of a drawing of `n` vertices.
+    fn prepare(&mut self, n: usize, room: usize) -> Result<(), AllocError>
+        ensures { OnOk result (room ≤ length self.new.bytes.items) }
+    {
+        self.numerals
+            .keep(n.saturating_add(1).saturating_add(n.min(512)))?;
+        if self.bytes.len() < room {
+            self.bytes.resize(room, 0)?;
+        }
+        Ok(())
+    }
+
+    // Appends the first line and the lines of the vertices.
+    fn print_lines<R: Numbered>(
+        &mut self,
+        number: u32,
+        word: &[u8],
+        lists: &Rotations,
+        figure: &R,
+        out: &mut Vec<u8>,
+    ) -> Result<(), AllocError>
+        requires word { length word.now ≤ 8 }
+        requires has { (v : ℕ) → v < length lists.now → R.Has figure.now v }
+        ensures ok { OnOk result (out.new.items ≡ out.old.items ++ (first_line number word.now (length lists.now) ++ vertex_lines R.pieces (R.numbers figure.now) lists.now (length lists.now))) }
+        ensures err { OnErr result (out.new.items ≡ out.old.items) }
+    {
+        self.prepare(lists.len(), room_of::<R>(lists)?)?;
+        let start = write_figure(&self.numerals, number, word, lists, figure, &mut self.bytes);
+        out.extend_from_slice(&self.bytes[start..])
+    }
+
+    /// Appends the text of a straight-line drawing, as `print_grid` does.
+    pub fn print_grid(
+        &mut self,
+        number: u32,
+        job: GridJob,
+        lists: &Rotations,
+        points: &Points,
+        out: &mut Vec<u8>,
+    ) -> Result<(), AllocError>
+        requires { length points.now ≡ length lists.now }
+        ensures ok { OnOk result (out.new.items ≡ out.old.items ++ grid_text number job lists.now points.now) }
+        ensures err { OnErr result (out.new.items ≡ out.old.items) }
+    {
+        self.print_lines(number, word_of(job), lists, points, out)
+    }
+
+    /// Appends the text of a visibility drawing, as `print_bars` does.
+    pub fn print_bars(
+        &mut self,
+        number: u32,
+        lists: &Rotations,
+        bars: &BarFigure,
+        out: &mut Vec<u8>,
+    ) -> Result<(), AllocError>
+        requires { HasBars lists.now bars.now }
+        ensures ok { OnOk result (out.new.items ≡ out.old.items ++ bars_text number lists.now bars.now) }
+        ensures err { OnErr result (out.new.items ≡ out.old.items) }
+    {
+        self.prepare(lists.len(), bars_room(lists, &bars.column)?)?;
+        let start = write_bars(&self.numerals, number, lists, bars, &mut self.bytes);
+        out.extend_from_slice(&self.bytes[start..])
+    }
+
+    /// Appends the text of a rectangular dual, as `print_rects` does.
+    pub fn print_rects(
+        &mut self,
+        number: u32,
+        lists: &Rotations,
+        rects: &RectFigure,
+        out: &mut Vec<u8>,
+    ) -> Result<(), AllocError>
+        requires { HasRects lists.now rects.now }
+        ensures ok { OnOk result (out.new.items ≡ out.old.items ++ rects_text number lists.now rects.now) }
+        ensures err { OnErr result (out.new.items ≡ out.old.items) }
+    {
+        self.print_lines(number, b"rect", lists, rects, out)
+    }
 }

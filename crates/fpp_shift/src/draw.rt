@@ -110,6 +110,11 @@ impl Shifter {
         Ok(points)
     }
 
+    /// Keeps the memory of a figure that is done with.
+    pub fn keep(&mut self, figure: GridFigure) {
+        self.sums.keep(figure.points);
+    }
+
     /// Draws as [`list_draw`] does. When memory runs out the shifter serves as before.
     pub fn list_draw(&mut self, lists: &Rotations, order: &Order) -> Result<GridFigure, AllocError>
         requires triangulation { IsTriangulation lists.now }

@@ -1,5 +1,6 @@
 //! Figures of records, one after another, by a drawer that keeps memory from one to the next.
 ghost use Rattle.std.specs.Prelude.{◌≡◌, ◌<◌, length, Some, None, IfOk, IfErr, OnOk};
+ghost use Rattle.conn_parts.specs.Counted.{IsPlaneMap};
 ghost use Rattle.refusals.specs.Conditions.{first_refusal, IfRefused};
 ghost use Rattle.grid_figures.specs.ShiftFiguresFigures.{IsShiftFigure};
 ghost use Rattle.grid_figures.specs.SchnyderFiguresFigures.{IsSchnyderFigure};
@@ -7,11 +8,12 @@ ghost use Rattle.grid_figures.specs.SchnyderFiguresFigures.{IsSchnyderFigure};
 use crate::drawing_orders::Tools;
 use crate::schnyder_grid::WoodDrawer;
 use crate::{schnyder_figures, shift_figures};
+use conn_parts::CountedMap;
 use fpp_shift::Shifter;
 use half_edges::Rotations;
 use pg_plane::GridFigure;
 use refusals::Unserved;
-use std::alloc::Global;
+use std::alloc::{AllocError, Global};
 
 /// Draws records, one after another, and keeps its memory for the next: that of counts, maps, orders and tables, as much
 /// as the largest record so far took.
@@ -44,6 +46,11 @@ impl Drawer {
         shift_figures::drawn_record(&mut self.tools, &mut self.shifter, lists)
     }
 
+    /// Keeps the memory of a figure by the shift method that is done with.
+    pub fn keep_shift(&mut self, figure: GridFigure) {
+        self.shifter.keep(figure);
+    }
+
     /// The figure of a record by Schnyder's coordinates, as `schnyder_figure` has it. After `NoMemory` the drawer
     /// serves as before.
     pub fn schnyder_figure(&mut self, lists: &Rotations) -> Result<GridFigure, Unserved>
@@ -54,5 +61,24 @@ impl Drawer {
         ensures refused { IfErr result (IfRefused (λ refusal. first_refusal 3 lists.now ≡ Some refusal)) }
     {
         schnyder_figures::drawn_record(&mut self.tools, &mut self.woods, lists)
+    }
+
+    /// The figure of a map that is counted, as `plane_figure` has it. When memory runs out the drawer serves as before.
+    pub fn schnyder_plane(
+        &mut self,
+        plane: CountedMap,
+        lists: &Rotations,
+    ) -> Result<GridFigure, AllocError>
+        requires plane { IsPlaneMap 3 plane.map.lists plane }
+        requires lists { lists.now ≡ plane.map.lists }
+        ensures { IfOk result (IsSchnyderFigure plane.map.lists) }
+    {
+        let figure = schnyder_figures::drawn_plane(&mut self.tools, &mut self.woods, plane, lists)?;
+        Ok(figure)
+    }
+
+    /// Keeps the memory of a figure by Schnyder's coordinates that is done with.
+    pub fn keep_schnyder(&mut self, figure: GridFigure) {
+        self.woods.keep(figure);
     }
 }

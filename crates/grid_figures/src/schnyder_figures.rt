@@ -5,7 +5,7 @@ ghost use Rattle.grid_figures.specs.SchnyderFiguresLaws.{SomeSchnyderFigure};
 
 mod draw;
 
-pub(crate) use draw::drawn_record;
+pub(crate) use draw::{drawn_plane, drawn_record};
 pub use draw::{plane_figure, schnyder_figure};
 
 /// Each simple map of genus zero with at least three vertices has a figure.

@@ -66,6 +66,23 @@ impl<T: Copy> ItemList<T> {
         ItemList { items }
     }
 
+    /// The items as a vector, in the memory of the list.
+    pub fn into_vec(self) -> Vec<T>
+        ensures { result.items ≡ self }
+    {
+        self.items
+    }
+
+    /// No items, with room for `capacity` of them, in the memory of the list.
+    pub fn emptied(self, capacity: usize) -> Result<Self, AllocError>
+        ensures { IfOk result (λ list. list ≡ []) }
+    {
+        let mut items = self.items;
+        items.clear();
+        items.reserve(capacity)?;
+        Ok(ItemList { items })
+    }
+
     /// Appends an item. After an error nothing has changed.
     pub fn push(&mut self, item: T) -> Result<(), AllocError>
         ensures ok { OnOk result (self.new ≡ self.old ++ item ∷ []) }

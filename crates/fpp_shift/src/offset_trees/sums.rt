@@ -11,6 +11,7 @@ use map_lists::VertexId;
 use pg_io::Steps;
 use pg_plane::{Point, Points};
 use std::alloc::{AllocError, Global};
+use std::mem;
 use std::sync::ledger::Ledger;
 
 // A sum with one offset more.
@@ -140,9 +141,9 @@ fn follow_all<L: Ledger>(
     Ok(())
 }
 
-// The point of each vertex, by its sum and its node.
+// The point of each vertex, by its sum and its node, in the memory of `spent`.
 fn points_at<L: Ledger>(
-    alloc: Global,
+    spent: Points,
     tree: &Offsets<L>,
     sums: &[i32],
     steps: &mut Steps<L>,
@@ -154,7 +155,7 @@ fn points_at<L: Ledger>(
     ensures steps { steps.new ≤ steps.old + length tree.now }
     ensures never_falls { steps.old ≤ steps.new }
 {
-    let mut points = Points::with_capacity(alloc, tree.len() as usize)?;
+    let mut points = spent.emptied(tree.len() as usize)?;
     for v in 0..tree.len() {
         let y = tree.get(VertexId(v), steps).y;
         points.push(Point {
@@ -165,9 +166,9 @@ fn points_at<L: Ledger>(
     Ok(points)
 }
 
-// The points of a tree, where the sums are still to be found.
+// The points of a tree, where the sums are still to be found, in the memory of `spent`.
 fn points_of<L: Ledger>(
-    alloc: Global,
+    spent: Points,
     tree: &Offsets<L>,
     root: VertexId,
     sums: &mut [i32],
@@ -183,7 +184,7 @@ fn points_of<L: Ledger>(
     meet_root(met, root, tree.len())?;
     put_first(tree, root, sums, steps);
     follow_all(tree, met, sums, steps)?;
-    let points = points_at(alloc, tree, sums, steps)?;
+    let points = points_at(spent, tree, sums, steps)?;
     Ok(points)
 }
 
@@ -192,6 +193,7 @@ fn points_of<L: Ledger>(
 pub(crate) struct SumMemory {
     sums: Vec<i32>,
     met: Vec<u16>,
+    spent: Points,
 }
 
 impl SumMemory {
@@ -200,6 +202,7 @@ impl SumMemory {
         SumMemory {
             sums: Vec::new(alloc),
             met: Vec::new(alloc),
+            spent: Points::new(alloc),
         }
     }
 
@@ -217,8 +220,14 @@ impl SumMemory {
         ensures never_falls { steps.old ≤ steps.new }
     {
         self.sums.resize(tree.len() as usize, 0)?;
-        let points = points_of(alloc, tree, root, &mut self.sums, &mut self.met, steps)?;
+        let spent = mem::replace(&mut self.spent, Points::new(alloc));
+        let points = points_of(spent, tree, root, &mut self.sums, &mut self.met, steps)?;
         Ok(points)
+    }
+
+    // Keeps the memory of points that are done with.
+    pub(crate) fn keep(&mut self, points: Points) {
+        self.spent = points;
     }
 }
 

@@ -52,12 +52,9 @@ impl Tools {
 
     // Keeps the memory of a triangulation that is drawn.
     pub(crate) fn keep(&mut self, found: DrawingOrder) {
-        let DrawingOrder {
-            tri,
-            made,
-            order: _order,
-        } = found;
+        let DrawingOrder { tri, made, order } = found;
         self.maps.keep_map(tri);
+        self.peeler.keep(order);
         if let Some(lists) = made {
             self.lists = lists;
         }

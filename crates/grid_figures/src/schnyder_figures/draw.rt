@@ -35,7 +35,7 @@ fn order_figure(
 }
 
 // As `plane_figure`, by tables that may have served other maps before.
-fn drawn_plane(
+pub(crate) fn drawn_plane(
     tools: &mut Tools,
     woods: &mut WoodDrawer,
     plane: CountedMap,
@@ -64,9 +64,8 @@ pub fn plane_figure(
     requires lists { lists.now ≡ plane.map.lists }
     ensures { IfOk result (IsSchnyderFigure plane.map.lists) }
 {
-    let mut tools = Tools::new(alloc);
-    let mut woods = WoodDrawer::new(alloc);
-    let figure = drawn_plane(&mut tools, &mut woods, plane, lists)?;
+    let mut drawer = Drawer::new(alloc);
+    let figure = drawer.schnyder_plane(plane, lists)?;
     Ok(figure)
 }
 
@@ -83,6 +82,7 @@ fn full_figure(
     crate::drawing_orders::completion_draws();
     let order = full_order(tools.alloc, &mut tools.peeler, lists)?;
     let figure = order_figure(woods, lists, &order)?;
+    tools.peeler.keep(order);
     Ok(figure)
 }
 

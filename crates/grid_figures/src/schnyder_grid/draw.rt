@@ -16,9 +16,10 @@ use pg_plane::{GridFigure, Points};
 use std::alloc::{AllocError, Global};
 use std::mem;
 
-// The points of a run, by its rows, for vertices of these ranks, where the first three tables have zeros.
+// The points of a run, by its rows, for vertices of these ranks, where the first three tables have zeros. They stand in
+// the memory of `spent`.
 fn wood_points(
-    alloc: Global,
+    spent: Points,
     drops: &mut [u32],
     rises: &mut [u32],
     spans: &mut [u32],
@@ -38,7 +39,7 @@ fn wood_points(
     ensures { IfOk result (λ points. (steps : ℕ → Step) → AreAllRows steps rows.now → ArePoints steps (length rows.now) ranks.now points) }
 {
     find_coordinates(drops, rises, spans, covers, rows);
-    points_at(alloc, drops, rises, ranks)
+    points_at(spent, drops, rises, ranks)
 }
 
 /// Draws by Schnyder's coordinates, one triangulation after another, and keeps its memory for the next: some bytes for
@@ -52,6 +53,7 @@ pub struct WoodDrawer {
     covers: Vec<u16>,
     rows: Rotations,
     row: Vec<u16>,
+    spent: Points,
 }
 
 impl WoodDrawer {
@@ -65,6 +67,7 @@ impl WoodDrawer {
             covers: Vec::new(alloc),
             rows: Rotations::new(alloc),
             row: Vec::new(alloc),
+            spent: Points::new(alloc),
         }
     }
 
@@ -94,8 +97,9 @@ impl WoodDrawer {
         ensures { IfOk result (λ points. (steps : ℕ → Step) → AreAllRows steps rows.now → ArePoints steps (length rows.now) ranks.now points) }
     {
         self.clear(ranks.len())?;
+        let spent = mem::replace(&mut self.spent, Points::new(self.alloc));
         let points = wood_points(
-            self.alloc,
+            spent,
             &mut self.drops,
             &mut self.rises,
             &mut self.spans,
@@ -104,6 +108,11 @@ impl WoodDrawer {
             ranks,
         )?;
         Ok(points)
+    }
+
+    /// Keeps the memory of a figure that is done with.
+    pub fn keep(&mut self, figure: GridFigure) {
+        self.spent = figure.points;
     }
 
     /// Draws as [`list_draw`] does. When memory runs out the drawer serves as before.

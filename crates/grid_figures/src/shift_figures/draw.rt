@@ -45,6 +45,7 @@ fn full_figure(
     crate::drawing_orders::completion_draws();
     let order = full_order(tools.alloc, &mut tools.peeler, lists)?;
     let figure = order_figure(shifter, lists, &order)?;
+    tools.peeler.keep(order);
     Ok(figure)
 }
 

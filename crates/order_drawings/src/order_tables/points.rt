@@ -4,7 +4,7 @@ ghost use Rattle.order_drawings.specs.Points.{ArePointsAt};
 
 use half_edges::Counts;
 use pg_plane::{Point, Points};
-use std::alloc::{AllocError, Global};
+use std::alloc::AllocError;
 
 // A number as a coordinate.
 fn coordinate(number: u32) -> i32
@@ -27,9 +27,9 @@ fn point_at(xs: &[u32], ys: &[u32], k: usize) -> Point
     }
 }
 
-/// The points of vertices, by their ranks: each stands at the two numbers at its rank.
+/// The points of vertices, by their ranks, in the memory of `spent`: each stands at the two numbers at its rank.
 pub fn points_at(
-    alloc: Global,
+    spent: Points,
     xs: &[u32],
     ys: &[u32],
     ranks: &Counts,
@@ -39,7 +39,7 @@ pub fn points_at(
     requires small { (k : ℕ) → k < length xs.now → (slice_index xs.now k < 2 ^ 20) × (slice_index ys.now k < 2 ^ 20) }
     ensures { IfOk result (λ points. ArePointsAt xs.now ys.now ranks.now points) }
 {
-    let mut points = Points::with_capacity(alloc, ranks.len())?;
+    let mut points = spent.emptied(ranks.len())?;
     for k in ranks.as_slice() {
         points.push(point_at(xs, ys, *k as usize))?;
     }

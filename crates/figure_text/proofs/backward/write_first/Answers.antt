@@ -4,7 +4,7 @@ use Rattle.figure_text.specs.Text.{first_line}
 use Rattle.figure_text.proofs.backward.write_first.Goals as goal
 
 pub write_next-count-requires : goal.write_next-count-requires
-write_next-count-requires c = (omega (arith, length-decimal-le 20 c.args.n (omega arith) (omega arith) c.ranges.n.fits), omega arith)
+write_next-count-requires c = (omega (arith, length-decimal-le 20 c.args.n (omega arith) (omega arith) c.ranges.n.fits), omega arith, omega arith)
 
 pub write_text-name-requires : goal.write_text-name-requires
 write_text-name-requires c = (omega (arith, length-decimal-le 20 c.args.n (omega arith) (omega arith) c.ranges.n.fits), omega arith)
@@ -16,7 +16,7 @@ pub write_next-number-requires : goal.write_next-number-requires
 write_next-number-requires c =
     let count = length-decimal-le 20 c.args.n (omega arith) (omega arith) c.ranges.n.fits in
     let number = length-decimal-le 10 c.from.result (omega arith) (omega arith) (omega arith) in
-    (omega (arith, count, number), omega arith)
+    (omega (arith, count, number), omega (arith, count), omega arith)
 
 pub write_text-requires : goal.write_text-requires
 write_text-requires c =

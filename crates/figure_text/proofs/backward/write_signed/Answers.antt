@@ -3,8 +3,8 @@ use Rattle.std.proofs.lemmas.Fmt.{length-decimal-le}
 use Rattle.itoa.proofs.Decimal.{minus_first}
 use Rattle.figure_text.proofs.backward.write_signed.Goals as goal
 
-pub write_digits-start-requires : goal.write_digits-start-requires
-write_digits-start-requires c = (omega (arith, length-decimal-le 10 c.from.result (omega arith) (omega arith) (omega arith)), omega arith)
+pub write-start-requires : goal.write-start-requires
+write-start-requires c = (omega (arith, length-decimal-le 10 c.from.result (omega arith) (omega arith) (omega arith)), omega arith, omega arith)
 
 pub write_byte-requires : goal.write_byte-requires
 write_byte-requires c = (omega (arith, length-decimal-le 10 c.from.result (omega arith) (omega arith) (omega arith)), omega arith)
@@ -28,4 +28,4 @@ returns-clause-within c =
 pub returns-clause-written : goal.returns-clause-written
 returns-clause-written c =
     let back = to_z-of_z c.ranges.number in
-    rw (c.write_byte-2.ensures.written, c.write_byte-sign.ensures.written, c.write_digits-start.ensures.written, c.from.ensures, c.unsigned_abs.ensures.value, back, ← minus_first c.args.number (rw back at c.if-number-ge0.false)) refl
+    rw (c.write_byte-2.ensures.written, c.write_byte-sign.ensures.written, c.write-start.ensures.written, c.from.ensures, c.unsigned_abs.ensures.value, back, ← minus_first c.args.number (rw back at c.if-number-ge0.false)) refl

@@ -10,7 +10,7 @@ loop-k-init c = (omega arith, omega arith, omega arith, rw (drop_all (length c.a
 pub write_next-start-requires : goal.write_next-start-requires
 write_next-start-requires c =
     let long = length-decimal-le 5 (c.from.result + 1) (omega arith) (omega arith) (omega arith) in
-    (omega (arith, long), omega arith)
+    (omega (arith, long), omega arith, omega arith)
 
 pub loop-k-preserved : goal.loop-k-preserved
 loop-k-preserved c =
