@@ -11,8 +11,9 @@ use Rattle.left_right_laws.proofs.Forks.{plane_is_left_right}
 use Rattle.left_right_laws.proofs.Lines.{up-add}
 use Rattle.left_right_maps.specs.Orders.{IsEdge}
 use Rattle.left_right_maps.specs.Graphs.{IsDepthFirst, IsMapOfEdges, PlanarByLeftRight}
-use Rattle.left_right_maps.proofs.Trees.{IsDepthFirstTree}
-use Rattle.left_right_maps.proofs.Lines.{up_last, above_same, up_depth}
+use Rattle.left_right_maps.specs.Trees.{IsDepthFirstTree}
+use Rattle.left_right_maps.specs.RootedMaps.{is_child, in_tree}
+use Rattle.left_right_maps.proofs.Lines.{child_is, is_child_from, up_last, above_same, up_depth}
 use Rattle.left_right_maps.proofs.Whole.{map_of_edges}
 
 same_bits : (b c : Bool) → (b ≡ true → c ≡ true) → (c ≡ true → b ≡ true) → b ≡ c
@@ -23,7 +24,15 @@ same_bits false false there back = refl
 pub not_so : (b : Bool) → ¬ (b ≡ true) → b ≡ false
 not_so b h = elim (cases_Bool b) [ inl t ↦ absurd (h t) | inr f ↦ f ]
 
-module _ (n : ℕ) (edge : ℕ → ℕ → Bool) (parent depth : ℕ → ℕ) (some : 0 < n) (g : IsDepthFirst n edge parent depth) where
+-- the root above a vertex
+root_above : (n : ℕ) (edge : ℕ → ℕ → Bool) (parent depth : ℕ → ℕ) → IsDepthFirst n edge parent depth → (k v : ℕ) → depth v ≡ k → v < n → (r : ℕ) × ((r < n) × (depth r ≡ 0))
+root_above n edge parent depth g zero v e l = (v, (l, e))
+root_above n edge parent depth g (suc k) v e l =
+    let some : 0 < depth v = omega arith in
+    let d = g.forest.deeper v some in
+    root_above n edge parent depth g k (parent v) (omega arith) (g.in_range (parent v) v (g.both_ways v (parent v) (g.forest.edges v some)))
+
+module _ (n : ℕ) (edge : ℕ → ℕ → Bool) (parent depth : ℕ → ℕ) (r : ℕ) (r_in : r < n) (r_depth : depth r ≡ 0) (g : IsDepthFirst n edge parent depth) where
   abbrev deeper : (v : ℕ) → 0 < depth v → depth v ≡ depth (parent v) + 1
   deeper = g.forest.deeper
 
@@ -31,7 +40,7 @@ module _ (n : ℕ) (edge : ℕ → ℕ → Bool) (parent depth : ℕ → ℕ) (s
   Above = IsAbove parent depth
 
   -- the root of v's tree
-  abbrev top : ℕ → ℕ
+  abbrev pub top : ℕ → ℕ
   top v = up parent (depth v) v
 
   top_depth : (v : ℕ) → depth (top v) ≡ 0
@@ -61,25 +70,14 @@ module _ (n : ℕ) (edge : ℕ → ℕ → Bool) (parent depth : ℕ → ℕ) (s
       let k : depth v ≡ suc (depth (parent v)) = omega arith in
       sym (ap (λ k. up parent k v) k)
 
-  r : ℕ
-  r = top 0
-
-  r_in : r < n
-  unfolding r
-  r_in = up_in (depth 0) 0 some (omega arith)
-
-  r_depth : depth r ≡ 0
-  unfolding r
-  r_depth = top_depth 0
-
   -- v is in another tree; and is its root
-  abbrev other : ℕ → Bool
+  abbrev pub other : ℕ → Bool
   other v = ltb v n && not (eqb (top v) r)
 
-  abbrev lone : ℕ → Bool
+  abbrev pub lone : ℕ → Bool
   lone v = eqb (depth v) 0 && other v
 
-  other_so : (v : ℕ) → other v ≡ true → (v < n) × (top v ≢ r)
+  pub other_so : (v : ℕ) → other v ≡ true → (v < n) × (top v ≢ r)
   other_so v t =
       let both = and_parts (ltb v n) (not (eqb (top v) r)) t in
       (ltb-true v n both.0, λ e. true≢false (sym both.1 ∙ ap not (eq-eqb (top v) r e)))
@@ -87,27 +85,39 @@ module _ (n : ℕ) (edge : ℕ → ℕ → Bool) (parent depth : ℕ → ℕ) (s
   other_same : (u v : ℕ) → u < n → v < n → top u ≡ top v → other u ≡ other v
   other_same u v lu lv e = ap₂ (λ b c. b && not (eqb c r)) (lt-ltb u n lu ∙ sym (lt-ltb v n lv)) e
 
-  other_r : other r ≡ false
+  pub other_r : other r ≡ false
   other_r = not_so (other r) (λ t. (other_so r t).1 (top_root r r_depth))
 
-  lone_so : (v : ℕ) → lone v ≡ true → (depth v ≡ 0) × (other v ≡ true)
+  pub lone_so : (v : ℕ) → lone v ≡ true → (depth v ≡ 0) × (other v ≡ true)
   lone_so v t = let both = and_parts (eqb (depth v) 0) (other v) t in (eqb-true (depth v) 0 both.0, both.1)
 
   lone_from : (v : ℕ) → depth v ≡ 0 → other v ≡ true → lone v ≡ true
   lone_from v e t = and_from (eqb (depth v) 0) (other v) (eq-eqb (depth v) 0 e) t
 
   -- the tree of them all
-  depth' : ℕ → ℕ
+  pub depth' : ℕ → ℕ
   depth' v = depth v + cond (other v) 1 0
 
-  parent' : ℕ → ℕ
+  pub parent' : ℕ → ℕ
   parent' v = cond (lone v) r (parent v)
 
-  abbrev new : ℕ → ℕ → Bool
+  abbrev pub new : ℕ → ℕ → Bool
   new u v = eqb u r && lone v
 
-  edge' : ℕ → ℕ → Bool
+  pub edge' : ℕ → ℕ → Bool
   edge' u v = edge u v || (new u v || new v u)
+
+  pub depth_is : (v : ℕ) → depth' v ≡ depth v + cond (other v) 1 0
+  unfolding depth'
+  depth_is v = refl
+
+  pub parent_is : (v : ℕ) → parent' v ≡ cond (lone v) r (parent v)
+  unfolding parent'
+  parent_is v = refl
+
+  pub edge_is : (u v : ℕ) → edge' u v ≡ (edge u v || (new u v || new v u))
+  unfolding edge'
+  edge_is u v = refl
 
   depth_on : (v : ℕ) → other v ≡ true → depth' v ≡ depth v + 1
   unfolding depth'
@@ -132,14 +142,14 @@ module _ (n : ℕ) (edge : ℕ → ℕ → Bool) (parent depth : ℕ → ℕ) (s
   depth_r : depth' r ≡ 0
   depth_r = depth_off r other_r ∙ r_depth
 
-  parent_lone : (v : ℕ) → lone v ≡ true → parent' v ≡ r
+  pub parent_lone : (v : ℕ) → lone v ≡ true → parent' v ≡ r
   unfolding parent'
   parent_lone v t = cond-true {A = ℕ} (lone v) r (parent v) t
 
   not_lone : (v : ℕ) → 0 < depth v → lone v ≡ false
   not_lone v deep = not_so (lone v) (λ t. let e = (lone_so v t).0 in omega arith)
 
-  parent_same : (v : ℕ) → 0 < depth v → parent' v ≡ parent v
+  pub parent_same : (v : ℕ) → 0 < depth v → parent' v ≡ parent v
   unfolding parent'
   parent_same v deep = cond-false {A = ℕ} (lone v) r (parent v) (not_lone v deep)
 
@@ -176,7 +186,7 @@ module _ (n : ℕ) (edge : ℕ → ℕ → Bool) (parent depth : ℕ → ℕ) (s
   lone_in v t = (other_so v (lone_so v t).1).0
 
   -- a vertex below the root is one of the graph, and the root of a tree or below its parent
-  below_so : (v : ℕ) → 0 < depth' v → (lone v ≡ true) ⊎ (0 < depth v)
+  pub below_so : (v : ℕ) → 0 < depth' v → (lone v ≡ true) ⊎ (0 < depth v)
   below_so v deep =
       elim (cases_eq (depth v) 0) [
         | inr ne ↦ inr (omega (arith, ne))
@@ -225,7 +235,7 @@ module _ (n : ℕ) (edge : ℕ → ℕ → Bool) (parent depth : ℕ → ℕ) (s
       let k : depth' v - depth' r ≡ 1 = omega arith in
       record { depths = omega arith; line = ap (λ k. up parent' k v) k ∙ parent_lone v t }
 
-  tree : IsDepthFirstTree n edge' parent' depth' r
+  pub tree : IsDepthFirstTree n edge' parent' depth' r
   tree =
       record {
         root_in = r_in;
@@ -258,6 +268,33 @@ module _ (n : ℕ) (edge : ℕ → ℕ → Bool) (parent depth : ℕ → ℕ) (s
           | inr h ↦ elim h [ inl k ↦ inl (subst (λ z. Above' z v) (sym k.0) (above_r v k.1)) | inr k ↦ inr (subst (λ z. Above' z u) (sym k.0) (above_r u k.1)) ]
         ];
       }
+
+  lone_child : (v : ℕ) → lone v ≡ true → is_child parent' depth' r v ≡ true
+  lone_child v t =
+      let so = lone_so v t in
+      let a = depth_on v so.1 in
+      is_child_from parent' depth' r v (omega arith) (parent_lone v t)
+
+  -- each edge is one of the graph or of the tree
+  pub edge_by_tree : (u v : ℕ) → edge' u v ≡ (edge u v || in_tree parent' depth' u v)
+  edge_by_tree u v =
+      let down = is_child parent' depth' u v in
+      let back = is_child parent' depth' v u in
+      same_bits (edge' u v) (edge u v || (down || back))
+      (λ t. elim (edge_cases u v t) [
+        | inl h ↦ or_left (edge u v) (down || back) h
+        | inr h ↦ or_right (edge u v) (down || back) (elim h [
+          | inl k ↦ or_left down back (subst (λ z. is_child parent' depth' z v ≡ true) (sym k.0) (lone_child v k.1))
+          | inr k ↦ or_right down back (subst (λ z. is_child parent' depth' z u ≡ true) (sym k.0) (lone_child u k.1))
+        ])
+      ])
+      (λ t. elim (or_cases (edge u v) (down || back) t) [
+        | inl h ↦ edge_old u v h
+        | inr h ↦ elim (or_cases down back h) [
+          | inl k ↦ (let is = child_is parent' depth' u v k in tree.both_ways v u (subst (λ z. edge' v z ≡ true) is.1 (grown.edges v is.0)))
+          | inr k ↦ (let is = child_is parent' depth' v u k in subst (λ z. edge' u z ≡ true) is.1 (grown.edges u is.0))
+        ]
+      ])
 
   -- ---- what returns there returns here
   above_old : (u v : ℕ) → Above' u v → depth' v - depth' u ≤ depth v → Above u v × (depth v ≡ depth u + (depth' v - depth' u))
@@ -358,7 +395,7 @@ module _ (n : ℕ) (edge : ℕ → ℕ → Bool) (parent depth : ℕ → ℕ) (s
       depth_apart w z (g.in_range w t (g.both_ways t w a.edge)) (g.in_range z s (g.both_ways s z b.edge)) (top_above w v a.above ∙ sym (top_above z v b.above))
 
   module _ (left : ℕ → ℕ → Bool) (sides : IsLeftRight (IsEdge edge) parent depth left) where
-    sides' : IsLeftRight (IsEdge edge') parent' depth' left
+    pub sides' : IsLeftRight (IsEdge edge') parent' depth' left
     sides' v e f apart =
         let at = sides v e f apart in (
           at.0,
@@ -370,23 +407,26 @@ module _ (n : ℕ) (edge : ℕ → ℕ → Bool) (parent depth : ℕ → ℕ) (s
               ((λ less. tied.0 (omega arith)), (λ less. tied.1 (omega arith))),
         )
 
-    symmetric : (u v : ℕ) → edge u v ≡ edge v u
-    symmetric u v = same_bits (edge u v) (edge v u) (g.both_ways u v) (g.both_ways v u)
+  symmetric : (u v : ℕ) → edge u v ≡ edge v u
+  symmetric u v = same_bits (edge u v) (edge v u) (g.both_ways u v) (g.both_ways v u)
 
-    made : (lists : Lists) × IsMapOfEdges n edge lists
-    made =
-        let whole = map_of_edges n edge' parent' depth' r left tree sides' in
-        let kept = kept_edges whole.0 edge symmetric whole.1.simple in (
-          with_kept edge whole.0,
-          record {
-            simple = kept.simple;
-            plane = kept.plane whole.1.plane;
-            vertices = length-with_kept edge whole.0 ∙ whole.1.vertices;
-            edges = λ v u. ((λ has. ((kept.darts v u).0 has).1), (λ t. (kept.darts v u).1 ((whole.1.edges v u).1 (edge_old v u t), t)));
-          },
-        )
+  -- without the edges between trees
+  pub kept_map : (whole : Lists) → IsMapOfEdges n edge' whole → IsMapOfEdges n edge (with_kept edge whole)
+  kept_map whole m =
+      let kept = kept_edges whole edge symmetric m.simple in
+      record {
+        simple = kept.simple;
+        plane = kept.plane m.plane;
+        vertices = length-with_kept edge whole ∙ m.vertices;
+        edges = λ v u. ((λ has. ((kept.darts v u).0 has).1), (λ t. (kept.darts v u).1 ((m.edges v u).1 (edge_old v u t), t)));
+      }
 
-  parted : (lists : Lists) → IsMapOfEdges n edge lists → (left : ℕ → ℕ → Bool) × IsLeftRight (IsEdge edge) parent depth left
+  made : (left : ℕ → ℕ → Bool) → IsLeftRight (IsEdge edge) parent depth left → (lists : Lists) × IsMapOfEdges n edge lists
+  made left sides =
+      let whole = map_of_edges n edge' parent' depth' r left tree (sides' left sides) in
+      (with_kept edge whole.0, kept_map whole.0 whole.1)
+
+  pub parted : (lists : Lists) → IsMapOfEdges n edge lists → (left : ℕ → ℕ → Bool) × IsLeftRight (IsEdge edge) parent depth left
   parted lists m =
       let forest : IsForest (HasDart lists) parent depth = record { edges = λ v deep. (m.edges v (parent v)).1 (g.forest.edges v deep); deeper = deeper } in
       let found = plane_is_left_right lists parent depth m.simple m.plane forest in
@@ -396,4 +436,5 @@ module _ (n : ℕ) (edge : ℕ → ℕ → Bool) (parent depth : ℕ → ℕ) (s
 -- THE LAW: genus zero by a partition into left and right
 pub planar_by_left_right : PlanarByLeftRight
 planar_by_left_right n edge parent depth some g =
-    ((λ m. parted n edge parent depth some g m.0 m.1), (λ l. made n edge parent depth some g l.0 l.1))
+    let r = root_above n edge parent depth g (depth 0) 0 refl some in
+    ((λ m. parted n edge parent depth r.0 r.1.0 r.1.1 g m.0 m.1), (λ l. made n edge parent depth r.0 r.1.0 r.1.1 g l.0 l.1))

@@ -9,7 +9,6 @@ pub mod RootedPlane
 pub mod Opens
 pub mod Ends
 pub mod Lines
-pub mod Trees
 pub mod Parts
 pub mod Whole
 pub mod Forests

@@ -9,7 +9,7 @@ use Rattle.left_right_laws.specs.Forests.{up, IsAbove, IsReturn, IsLeftRight}
 use Rattle.left_right_maps.specs.Orders.{IsEdge, MayPrecede, MayAllPrecede}
 use Rattle.left_right_maps.specs.RootedMaps.{is_child, in_tree, joined, tour_at}
 use Rattle.left_right_maps.specs.Brackets.{none}
-use Rattle.left_right_maps.proofs.Trees.{IsDepthFirstTree}
+use Rattle.left_right_maps.specs.Trees.{IsDepthFirstTree}
 use Rattle.left_right_maps.proofs.Inserts.{none_in_none, here, there, here_or_there, pairs_none, pairs_more, pairs_left, pairs_right, pairs_across, pairs_joined}
 use Rattle.left_right_maps.proofs.Orders.{fork_is_ordered}
 use Rattle.left_right_maps.proofs.Toured.{joined_holds, joined_parts}
@@ -65,13 +65,13 @@ module _ (n : ℕ) (edge : ℕ → ℕ → Bool) (parent depth : ℕ → ℕ) (r
     pub distinct : AllPairs ◌≢◌ us
 
   module _ (v : ℕ) (words opens : ℕ → List Dart) (parts : (u : ℕ) → child v u ≡ true → Part u (words u) (opens u)) where
-    abbrev L : ℕ → List Dart
+    abbrev pub L : ℕ → List Dart
     L u = lefts depth left v (opens u)
 
-    abbrev M : ℕ → List Dart
+    abbrev pub M : ℕ → List Dart
     M u = middle depth left v (opens u)
 
-    abbrev R : ℕ → List Dart
+    abbrev pub R : ℕ → List Dart
     R u = rights depth left v (opens u)
 
     three : (u : ℕ) → opens u ≡ L u ++ (M u ++ R u)
@@ -104,13 +104,13 @@ module _ (n : ℕ) (edge : ℕ → ℕ → Bool) (parent depth : ℕ → ℕ) (r
         elim (ends u t d (m_in u d c)) [ inl e ↦ absurd (middle_off depth left v (opens u) d c e) | inr less ↦ less ]
 
     -- ---- the edges of the fork
-    abbrev chord_test : ℕ → Bool
+    abbrev pub chord_test : ℕ → Bool
     chord_test u = edge v u && (ltb (depth u) (depth v) && not (eqb u (parent v)))
 
-    abbrev item : ℕ → Bool
+    abbrev pub item : ℕ → Bool
     item u = child v u || chord_test u
 
-    abbrev items : List ℕ
+    abbrev pub items : List ℕ
     items = picks item n
 
     record Chord (u : ℕ) : Type 0 where
@@ -145,7 +145,7 @@ module _ (n : ℕ) (edge : ℕ → ℕ → Bool) (parent depth : ℕ → ℕ) (r
         picks_hold item n u (g.in_range u v (g.both_ways v u has)) t
 
     -- what returns by each
-    abbrev returns : ℕ → List Dart
+    abbrev pub returns : ℕ → List Dart
     returns u = cond (child v u) (M u) ((v, u) ∷ [])
 
     returns_child : (u : ℕ) → child v u ≡ true → returns u ≡ M u
@@ -157,7 +157,7 @@ module _ (n : ℕ) (edge : ℕ → ℕ → Bool) (parent depth : ℕ → ℕ) (r
     abbrev ReturnsBy : ℕ → Dart → Type 0
     ReturnsBy u d = IsReturn (IsEdge edge) parent depth v u d.0 d.1
 
-    is_return : (u : ℕ) (d : Dart) → item u ≡ true → Contains (returns u) d → ReturnsBy u d
+    pub is_return : (u : ℕ) (d : Dart) → item u ≡ true → Contains (returns u) d → ReturnsBy u d
     is_return u d t c =
         elim (kind u t) [
           | inl t' ↦
@@ -212,7 +212,7 @@ module _ (n : ℕ) (edge : ℕ → ℕ → Bool) (parent depth : ℕ → ℕ) (r
       apart i j d l m = (sorted.1.1 i j d l m).0
 
       -- ---- what is made
-      abbrev at_item : ℕ → List ℕ
+      abbrev pub at_item : ℕ → List ℕ
       at_item u = cond (child v u) (uppers (L u) ++ u ∷ uppers (R u)) (u ∷ [])
 
       at_child : (u : ℕ) → child v u ≡ true → at_item u ≡ uppers (L u) ++ u ∷ uppers (R u)
@@ -232,6 +232,14 @@ module _ (n : ℕ) (edge : ℕ → ℕ → Bool) (parent depth : ℕ → ℕ) (r
 
       pub new_word : List Dart
       new_word = joined tour new_entries
+
+      pub entries_are : new_entries ≡ joined at_item us
+      unfolding new_entries
+      entries_are = refl
+
+      pub opens_are : new_opens ≡ joined returns us
+      unfolding new_opens
+      opens_are = refl
 
       pub word_is : new_word ≡ joined (tour_at child words v) new_entries
       unfolding new_word

@@ -14,7 +14,7 @@ use Rattle.left_right_maps.specs.Orders.{IsEdge}
 use Rattle.left_right_maps.specs.RootedMaps.{is_child, in_tree, joined, tour_at, IsRootedMap}
 use Rattle.left_right_maps.specs.Brackets.{IsBalanced}
 use Rattle.left_right_maps.specs.Graphs.{IsMapOfEdges}
-use Rattle.left_right_maps.proofs.Trees.{IsDepthFirstTree}
+use Rattle.left_right_maps.specs.Trees.{IsDepthFirstTree}
 use Rattle.left_right_maps.proofs.Inserts.{none_in_none, here, here_or_there, pairs_none, pairs_more, pairs_joined}
 use Rattle.left_right_maps.proofs.Toured.{bound_of}
 use Rattle.left_right_maps.proofs.RootedPlane.{balanced_is_plane}
@@ -53,137 +53,37 @@ lone_rows : (f : ℕ → List ℕ) (k : ℕ) → k ≡ 1 → f 0 ≡ [] → rows
 unfolding rows
 lone_rows f k one none = ap (rows f) one ∙ ap (λ z. z ∷ []) none
 
-module _ (n : ℕ) (edge : ℕ → ℕ → Bool) (parent depth : ℕ → ℕ) (root : ℕ) (left : ℕ → ℕ → Bool) (g : IsDepthFirstTree n edge parent depth root) (sides : IsLeftRight (IsEdge edge) parent depth left) where
-  abbrev Child : ℕ → ℕ → Bool
-  Child = is_child parent depth
+-- what is known of a vertex: the word through what is below it is one by its entries, in which what waits is a part
+pub record Stands (n : ℕ) (edge : ℕ → ℕ → Bool) (parent depth : ℕ → ℕ) (root : ℕ) (left : ℕ → ℕ → Bool) (g : IsDepthFirstTree n edge parent depth root) (sides : IsLeftRight (IsEdge edge) parent depth left) (E : ℕ → List ℕ) (W O : ℕ → List Dart) (v : ℕ) : Type 0 where
+  pub is_part : Part n edge parent depth root left g sides v (W v) (O v)
+  pub are : Entries n edge parent depth root left g sides v (E v)
+  pub through : W v ≡ joined (tour_at (is_child parent depth) W v) (E v)
 
+-- lists of the entries round each vertex, with its parent behind them
+module _ (n : ℕ) (edge : ℕ → ℕ → Bool) (parent depth : ℕ → ℕ) (root : ℕ) (left : ℕ → ℕ → Bool) (g : IsDepthFirstTree n edge parent depth root) (sides : IsLeftRight (IsEdge edge) parent depth left) (E : ℕ → List ℕ) (W O : ℕ → List Dart) (facts : (v : ℕ) → v < n → Stands n edge parent depth root left g sides E W O v) where
   abbrev IsPart : ℕ → List Dart → List Dart → Type 0
   IsPart v word opens = Part n edge parent depth root left g sides v word opens
 
-  abbrev AreEntries : ℕ → List ℕ → Type 0
-  AreEntries v us = Entries n edge parent depth root left g sides v us
-
-  abbrev bound : (most : ℕ) × ((v : ℕ) → v < n → depth v < most)
-  bound = bound_of depth n
-
-  abbrev N : ℕ
-  N = bound.0
-
-  record Stage : Type 0 where
-    entries_of : ℕ → List ℕ
-    words : ℕ → List Dart
-    opens : ℕ → List Dart
-
-  -- the parts of the vertices of one height
-  abbrev IsStage : ℕ → Stage → Type 0
-  IsStage k s = (v : ℕ) → v < n → depth v + k ≡ N → IsPart v (s.words v) (s.opens v)
-
-  record Facts (old : Stage) (v : ℕ) (us : List ℕ) (word opens : List Dart) : Type 0 where
-    is_part : IsPart v word opens
-    are : AreEntries v us
-    through : word ≡ joined (tour_at Child old.words v) us
-
-  record Made (k : ℕ) (old : Stage) (v : ℕ) : Type 0 where
-    us : List ℕ
-    word : List Dart
-    opens : List Dart
-    facts : v < n → depth v + suc k ≡ N → Facts old v us word opens
-
-  made : (k : ℕ) (old : Stage) → IsStage k old → (v : ℕ) → Made k old v
-  made k old good v =
-      elim (cases_eq (depth v + suc k) N) [
-        | inr ne ↦ record { us = []; word = []; opens = []; facts = λ l e. absurd (ne e) }
-        | inl e ↦
-            let parts : (u : ℕ) → Child v u ≡ true → IsPart u (old.words u) (old.opens u) = λ u t. (
-            let deep = child_deep n edge parent depth root left g sides v u t in
-            let has = child_edge n edge parent depth root left g sides v u t in
-            good u (g.in_range u v (g.both_ways v u has)) (omega arith)
-            ) in
-            let order = some_order n edge parent depth root left g sides v old.words old.opens parts in
-            record {
-              us = new_entries n edge parent depth root left g sides v old.words old.opens parts order;
-              word = new_word n edge parent depth root left g sides v old.words old.opens parts order;
-              opens = new_opens n edge parent depth root left g sides v old.words old.opens parts order;
-              facts = λ _ _. record {
-                is_part = part n edge parent depth root left g sides v old.words old.opens parts order;
-                are = entries n edge parent depth root left g sides v old.words old.opens parts order;
-                through = word_is n edge parent depth root left g sides v old.words old.opens parts order;
-              };
-            }
-      ]
-
-  next_stage : (k : ℕ) (old : Stage) → IsStage k old → Stage
-  next_stage k old good =
-      record { entries_of = λ v. (made k old good v).us; words = λ v. (made k old good v).word; opens = λ v. (made k old good v).opens }
-
-  next_facts : (k : ℕ) (old : Stage) (good : IsStage k old) (v : ℕ) → v < n → depth v + suc k ≡ N → Facts old v ((next_stage k old good).entries_of v) ((next_stage k old good).words v) ((next_stage k old good).opens v)
-  unfolding next_stage
-  next_facts k old good v l e = (made k old good v).facts l e
-
-  stage : (k : ℕ) → (s : Stage) × IsStage k s
-  stage zero = (record { entries_of = λ v. []; words = λ v. []; opens = λ v. [] }, λ v l e. absurd (let a = bound.1 v l in omega arith))
-  stage (suc k) = (next_stage k (stage k).0 (stage k).1, λ v l e. (next_facts k (stage k).0 (stage k).1 v l e).is_part)
-
-  -- ---- all vertices
-  E : ℕ → List ℕ
-  E v = (stage (N - depth v)).0.entries_of v
-
-  W : ℕ → List Dart
-  W v = (stage (N - depth v)).0.words v
-
-  O : ℕ → List Dart
-  O v = (stage (N - depth v)).0.opens v
-
-  facts_at : (v j : ℕ) → v < n → j + 1 ≡ N - depth v → Facts (stage j).0 v (E v) (W v) (O v)
-  unfolding E W O stage
-  facts_at v j l e =
-      let k : suc j ≡ N - depth v = omega arith in
-      let a = bound.1 v l in
-      subst (λ i. Facts (stage j).0 v ((stage i).0.entries_of v) ((stage i).0.words v) ((stage i).0.opens v)) k (next_facts j (stage j).0 (stage j).1 v l (omega arith))
-
-  height : (v : ℕ) → v < n → N - depth v - 1 + 1 ≡ N - depth v
-  height v l = let a = bound.1 v l in omega arith
-
-  abbrev facts : (v : ℕ) (l : v < n) → Facts (stage (N - depth v - 1)).0 v (E v) (W v) (O v)
-  facts v l = facts_at v (N - depth v - 1) l (height v l)
-
-  word_same : (u j : ℕ) → j ≡ N - depth u → (stage j).0.words u ≡ W u
-  unfolding W
-  word_same u j e = ap (λ i. (stage i).0.words u) e
-
-  through_all : (v : ℕ) → v < n → W v ≡ joined (tour_at Child W v) (E v)
-  through_all v l =
-      let j = N - depth v - 1 in
-      let old : ℕ → List Dart = (stage j).0.words in
-      (facts v l).through ∙ joined_same (tour_at Child old v) (tour_at Child W v) (E v) (λ u c.
-      elim (cases_Bool (Child v u)) [
-        | inl t ↦
-            let deep = child_deep n edge parent depth root left g sides v u t in
-            let same : old u ≡ W u = word_same u j (omega arith) in
-            ap (λ z. cond (Child v u) ((v, u) ∷ (z ++ (u, v) ∷ [])) ((v, u) ∷ [])) same
-        | inr f ↦ cond-false {A = List Dart} (Child v u) ((v, u) ∷ (old u ++ (u, v) ∷ [])) ((v, u) ∷ []) f ∙ sym (cond-false {A = List Dart} (Child v u) ((v, u) ∷ (W u ++ (u, v) ∷ [])) ((v, u) ∷ []) f)
-      ])
-
   -- ---- the lists
-  row : ℕ → List ℕ
+  pub row : ℕ → List ℕ
   row v = cond (eqb v root) (E v) (E v ++ parent v ∷ [])
 
-  row_root : row root ≡ E root
+  pub row_root : row root ≡ E root
   unfolding row
   row_root = cond-true {A = List ℕ} (eqb root root) (E root) (E root ++ parent root ∷ []) (eq-eqb root root refl)
 
-  row_other : (v : ℕ) → v ≢ root → row v ≡ E v ++ parent v ∷ []
+  pub row_other : (v : ℕ) → v ≢ root → row v ≡ E v ++ parent v ∷ []
   unfolding row
   row_other v ne = cond-false {A = List ℕ} (eqb v root) (E v) (E v ++ parent v ∷ []) (ne_eqb v root ne)
 
-  lists : Lists
+  pub lists : Lists
   lists = rows row n
 
-  long : length lists ≡ n
+  pub long : length lists ≡ n
   unfolding lists
   long = length-rows row n
 
-  list_is : (v : ℕ) → v < n → list_of lists v ≡ row v
+  pub list_is : (v : ℕ) → v < n → list_of lists v ≡ row v
   unfolding lists
   list_is v l = row_at row n v l
 
@@ -256,7 +156,7 @@ module _ (n : ℕ) (edge : ℕ → ℕ → Bool) (parent depth : ℕ → ℕ) (r
         deeper = λ v l some. g.forest.deeper v some;
         last = λ v l ne. list_is v (below v l) ∙ row_other v ne;
         whole = list_is root g.root_in ∙ row_root;
-        through = λ v l. through_all v (below v l);
+        through = λ v l. (facts v (below v l)).through;
       }
 
   -- nothing waits at the root
@@ -291,5 +191,122 @@ module _ (n : ℕ) (edge : ℕ → ℕ → Bool) (parent depth : ℕ → ℕ) (r
       is_empty [] none = refl
       is_empty (u ∷ us) none = absurd (none u (here u us))
 
+  pub is_map : IsMapOfEdges n edge lists
+  is_map = record { simple = simple; plane = plane; vertices = long; edges = edges }
+
+module _ (n : ℕ) (edge : ℕ → ℕ → Bool) (parent depth : ℕ → ℕ) (root : ℕ) (left : ℕ → ℕ → Bool) (g : IsDepthFirstTree n edge parent depth root) (sides : IsLeftRight (IsEdge edge) parent depth left) where
+  abbrev Child : ℕ → ℕ → Bool
+  Child = is_child parent depth
+
+  abbrev PartOf : ℕ → List Dart → List Dart → Type 0
+  PartOf v word opens = Part n edge parent depth root left g sides v word opens
+
+  abbrev AreEntries : ℕ → List ℕ → Type 0
+  AreEntries v us = Entries n edge parent depth root left g sides v us
+
+  abbrev bound : (most : ℕ) × ((v : ℕ) → v < n → depth v < most)
+  bound = bound_of depth n
+
+  abbrev N : ℕ
+  N = bound.0
+
+  record Stage : Type 0 where
+    entries_of : ℕ → List ℕ
+    words : ℕ → List Dart
+    opens : ℕ → List Dart
+
+  -- the parts of the vertices of one height
+  abbrev IsStage : ℕ → Stage → Type 0
+  IsStage k s = (v : ℕ) → v < n → depth v + k ≡ N → PartOf v (s.words v) (s.opens v)
+
+  record Facts (old : Stage) (v : ℕ) (us : List ℕ) (word opens : List Dart) : Type 0 where
+    is_part : PartOf v word opens
+    are : AreEntries v us
+    through : word ≡ joined (tour_at Child old.words v) us
+
+  record Made (k : ℕ) (old : Stage) (v : ℕ) : Type 0 where
+    us : List ℕ
+    word : List Dart
+    opens : List Dart
+    facts : v < n → depth v + suc k ≡ N → Facts old v us word opens
+
+  made : (k : ℕ) (old : Stage) → IsStage k old → (v : ℕ) → Made k old v
+  made k old good v =
+      elim (cases_eq (depth v + suc k) N) [
+        | inr ne ↦ record { us = []; word = []; opens = []; facts = λ l e. absurd (ne e) }
+        | inl e ↦
+            let parts : (u : ℕ) → Child v u ≡ true → PartOf u (old.words u) (old.opens u) = λ u t. (
+            let deep = child_deep n edge parent depth root left g sides v u t in
+            let has = child_edge n edge parent depth root left g sides v u t in
+            good u (g.in_range u v (g.both_ways v u has)) (omega arith)
+            ) in
+            let order = some_order n edge parent depth root left g sides v old.words old.opens parts in
+            record {
+              us = new_entries n edge parent depth root left g sides v old.words old.opens parts order;
+              word = new_word n edge parent depth root left g sides v old.words old.opens parts order;
+              opens = new_opens n edge parent depth root left g sides v old.words old.opens parts order;
+              facts = λ _ _. record {
+                is_part = part n edge parent depth root left g sides v old.words old.opens parts order;
+                are = entries n edge parent depth root left g sides v old.words old.opens parts order;
+                through = word_is n edge parent depth root left g sides v old.words old.opens parts order;
+              };
+            }
+      ]
+
+  next_stage : (k : ℕ) (old : Stage) → IsStage k old → Stage
+  next_stage k old good =
+      record { entries_of = λ v. (made k old good v).us; words = λ v. (made k old good v).word; opens = λ v. (made k old good v).opens }
+
+  next_facts : (k : ℕ) (old : Stage) (good : IsStage k old) (v : ℕ) → v < n → depth v + suc k ≡ N → Facts old v ((next_stage k old good).entries_of v) ((next_stage k old good).words v) ((next_stage k old good).opens v)
+  unfolding next_stage
+  next_facts k old good v l e = (made k old good v).facts l e
+
+  stage : (k : ℕ) → (s : Stage) × IsStage k s
+  stage zero = (record { entries_of = λ v. []; words = λ v. []; opens = λ v. [] }, λ v l e. absurd (let a = bound.1 v l in omega arith))
+  stage (suc k) = (next_stage k (stage k).0 (stage k).1, λ v l e. (next_facts k (stage k).0 (stage k).1 v l e).is_part)
+
+  -- ---- all vertices
+  E : ℕ → List ℕ
+  E v = (stage (N - depth v)).0.entries_of v
+
+  W : ℕ → List Dart
+  W v = (stage (N - depth v)).0.words v
+
+  O : ℕ → List Dart
+  O v = (stage (N - depth v)).0.opens v
+
+  facts_at : (v j : ℕ) → v < n → j + 1 ≡ N - depth v → Facts (stage j).0 v (E v) (W v) (O v)
+  unfolding E W O stage
+  facts_at v j l e =
+      let k : suc j ≡ N - depth v = omega arith in
+      let a = bound.1 v l in
+      subst (λ i. Facts (stage j).0 v ((stage i).0.entries_of v) ((stage i).0.words v) ((stage i).0.opens v)) k (next_facts j (stage j).0 (stage j).1 v l (omega arith))
+
+  height : (v : ℕ) → v < n → N - depth v - 1 + 1 ≡ N - depth v
+  height v l = let a = bound.1 v l in omega arith
+
+  abbrev facts : (v : ℕ) (l : v < n) → Facts (stage (N - depth v - 1)).0 v (E v) (W v) (O v)
+  facts v l = facts_at v (N - depth v - 1) l (height v l)
+
+  word_same : (u j : ℕ) → j ≡ N - depth u → (stage j).0.words u ≡ W u
+  unfolding W
+  word_same u j e = ap (λ i. (stage i).0.words u) e
+
+  through_all : (v : ℕ) → v < n → W v ≡ joined (tour_at Child W v) (E v)
+  through_all v l =
+      let j = N - depth v - 1 in
+      let old : ℕ → List Dart = (stage j).0.words in
+      (facts v l).through ∙ joined_same (tour_at Child old v) (tour_at Child W v) (E v) (λ u c.
+      elim (cases_Bool (Child v u)) [
+        | inl t ↦
+            let deep = child_deep n edge parent depth root left g sides v u t in
+            let same : old u ≡ W u = word_same u j (omega arith) in
+            ap (λ z. cond (Child v u) ((v, u) ∷ (z ++ (u, v) ∷ [])) ((v, u) ∷ [])) same
+        | inr f ↦ cond-false {A = List Dart} (Child v u) ((v, u) ∷ (old u ++ (u, v) ∷ [])) ((v, u) ∷ []) f ∙ sym (cond-false {A = List Dart} (Child v u) ((v, u) ∷ (W u ++ (u, v) ∷ [])) ((v, u) ∷ []) f)
+      ])
+
+  stands : (v : ℕ) → v < n → Stands n edge parent depth root left g sides E W O v
+  stands v l = record { is_part = (facts v l).is_part; are = (facts v l).are; through = through_all v l }
+
   pub map_of_edges : (made_lists : Lists) × IsMapOfEdges n edge made_lists
-  map_of_edges = (lists, record { simple = simple; plane = plane; vertices = long; edges = edges })
+  map_of_edges = (lists n edge parent depth root left g sides E W O stands, is_map n edge parent depth root left g sides E W O stands)

@@ -3,3 +3,4 @@ pub mod Orders
 pub mod RootedMaps
 pub mod Brackets
 pub mod Graphs
+pub mod Trees

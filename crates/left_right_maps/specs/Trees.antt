@@ -1,8 +1,9 @@
 -- Connected graphs with a depth-first tree.
-use Rattle.std.proofs.Common.{◌≡◌, ◌≢◌, ◌⊎◌, ℕ, ◌<◌, Bool, true, false}
+use Rattle.std.specs.Prelude.{ℕ, ◌<◌, ◌≡◌, ◌≢◌, ◌⊎◌, Bool, true, false}
 use Rattle.left_right_laws.specs.Forests.{IsForest, IsAbove}
 use Rattle.left_right_maps.specs.Orders.{IsEdge}
 
+-- A simple connected graph of n vertices with a rooted tree by depth-first search: of the two ends of each edge, one is above the other.
 pub record IsDepthFirstTree (n : ℕ) (joined : ℕ → ℕ → Bool) (parent depth : ℕ → ℕ) (root : ℕ) : Type 0 where
   pub root_in : root < n
   pub top : depth root ≡ 0

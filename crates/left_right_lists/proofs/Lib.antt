@@ -1,0 +1,11 @@
+-- Depths and trees.
+mod Searched
+mod Tabled
+mod Grown
+-- Groups of edges, and sides.
+mod GroupLemmas
+mod Collected
+mod SideLemmas
+-- Decisions.
+mod Decided
+mod Refused

@@ -1,0 +1,32 @@
+-- Tables made entry by entry.
+use Rattle.std.proofs.Common.{◌≡◌, ℕ, ◌+◌, List, [], ◌∷◌, ◌++◌, length, refl, ap, ◌∙◌, subst, inl, inr, arith, slice_index, length-append}
+use Rattle.std.proofs.Math.ListN.{get_or-append}
+use Rattle.std.proofs.lemmas.Bool.{cases_lt}
+use Rattle.std.proofs.lemmas.List.{get_or-append-add}
+use Rattle.left_right_lists.specs.Trees.{IsTabled}
+
+pub tabled_none : (f : ℕ → ℕ) → IsTabled f [] 0
+tabled_none f = record { long = refl; at = λ v l. absurd (omega (arith, l)) }
+
+pub tabled_more : (f : ℕ → ℕ) (table new : List ℕ) (n x : ℕ) → new ≡ table ++ x ∷ [] → x ≡ f n → IsTabled f table n → IsTabled f new (n + 1)
+tabled_more f table new n x is e h =
+    let long = h.long in
+    let more = length-append table (x ∷ []) in
+    let a = ap length is in
+    record {
+      long = omega arith;
+      at = λ v l. elim (cases_lt v n) [
+        | inl less ↦ ap (λ z. slice_index z v) is ∙ (get_or-append table (x ∷ []) 0 v (omega arith) ∙ h.at v less)
+        | inr late ↦
+            let at_end : v ≡ length table + 0 = omega arith in
+            let at_n : n ≡ v = omega arith in
+            ap (λ z. slice_index z v) is ∙ (ap (λ i. slice_index (table ++ x ∷ []) i) at_end ∙ (get_or-append-add table (x ∷ []) 0 0 ∙ (e ∙ ap f at_n)))
+      ];
+    }
+
+-- a table by slices is one by what they are
+pub tabled_slices : (by : List ℕ → List ℕ → ℕ → ℕ → ℕ) (table : List ℕ) (root : ℕ) {parents' parents depths' depths : List ℕ} {n' n : ℕ} → parents' ≡ parents → depths' ≡ depths → n' ≡ n → IsTabled (by parents' depths' root) table n' → IsTabled (by parents depths root) table n
+tabled_slices by table root {parents'} {parents} {depths'} {depths} {n'} {n} e e' e'' h =
+    let first : IsTabled (by parents depths' root) table n' = subst (λ ps. IsTabled (by ps depths' root) table n') e h in
+    let second : IsTabled (by parents depths root) table n' = subst (λ ds. IsTabled (by parents ds root) table n') e' first in
+    subst (IsTabled (by parents depths root) table) e'' second

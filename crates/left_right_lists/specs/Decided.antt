@@ -1,0 +1,7 @@
+-- Graphs that have a map of genus zero.
+use Rattle.map_lists.specs.Lists.{Lists}
+use Rattle.graph6_text.specs.Graphs.{EdgeGraph}
+use Rattle.embed_theorem.specs.Expanded.{IsMapOf}
+
+abbrev pub HasMap : EdgeGraph → Type 0
+HasMap graph = (lists : Lists) × IsMapOf lists graph

@@ -1,0 +1,6 @@
+-- Depths by a search, and trees.
+pub mod Depths
+pub mod Trees
+pub mod Groups
+pub mod Upward
+pub mod Decided

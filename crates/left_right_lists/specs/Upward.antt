@@ -1,0 +1,11 @@
+-- A graph's tree with the edges that lead upwards.
+use Rattle.std.specs.Prelude.{◌↔◌, Contains}
+use Rattle.map_theory.specs.Maps.{Dart}
+use Rattle.graph6_text.specs.Graphs.{EdgeGraph}
+use Rattle.left_right_lists.specs.Trees.{IsTreeOf}
+use Rattle.left_right_lists.specs.Groups.{IsRising}
+use Rattle.left_right_lists.specs.declared.returns.Upward.{Upward}
+
+pub record IsUpward (graph : EdgeGraph) (up : Upward) : Type 0 where
+  pub tree : IsTreeOf graph up.tree
+  pub darts : (d : Dart) → Contains up.darts.items d ↔ IsRising graph up.tree.parents.items up.tree.depths.items d

@@ -1,0 +1,85 @@
+//! Depths of the vertices of a depth-first forest, and ways up in it.
+ghost use Rattle.std.specs.Prelude.{◌≡◌, ◌+◌, ◌<◌, ◌≤◌, ℕ, length, slice_index, IfOk};
+ghost use Rattle.graph_search.specs.Forests.{IsForestOf};
+ghost use Rattle.left_right_laws.specs.Forests.{up};
+ghost use Rattle.left_right_lists.specs.Depths.{IsDepthBy, AreDepths};
+
+use graph_search::search_forests::Forest;
+use map_lists::Rotations;
+use std::alloc::{AllocError, Global};
+
+// The entry of a list at a place; 0 behind its end.
+pub(crate) fn entry(list: &[u16], place: u16) -> u16
+    ensures { result ≡ slice_index list.now place }
+{
+    let place = usize::from(place);
+    if place < list.len() { list[place] } else { 0 }
+}
+
+// Where so many steps to the parent lead.
+pub(crate) fn after_steps(parents: &[u16], vertex: u16, steps: u16) -> u16
+    ensures { result ≡ up (slice_index parents.now) steps vertex }
+{
+    let mut v = vertex;
+    for _ in 0..steps {
+        v = entry(parents, v);
+    }
+    v
+}
+
+// The depth of a vertex by that of its parent, or 0 where it has none.
+fn depth_from(parents: &[u16], depths: &[u16], v: u16) -> u16
+    requires { (p : ℕ) → slice_index depths.now p < 4096 }
+    ensures { IsDepthBy parents.now depths.now v result }
+{
+    let parent = entry(parents, v);
+    if usize::from(parent) < depths.len() {
+        entry(depths, parent) + 1
+    } else {
+        0
+    }
+}
+
+// Fills the depths of a search's vertices, in its order.
+fn fill_depths(
+    lists: &Rotations,
+    order: &[u16],
+    number: &[u16],
+    last: &[u16],
+    parents: &[u16],
+    depths: &mut [u16],
+)
+    requires few { length lists.now < 4096 }
+    requires forest { IsForestOf lists.now order.now number.now last.now parents.now }
+    requires long { length depths.old ≡ length lists.now }
+    requires flat { (v : ℕ) → slice_index depths.old v ≡ 0 }
+    ensures { AreDepths order.now parents.now depths.new (length lists.now) }
+{
+    let n = lists.len();
+    for k in 0..n {
+        let v = order[k];
+        depths[usize::from(v)] = depth_from(parents, depths, v);
+    }
+}
+
+// The depths of a search's vertices.
+pub(crate) fn depths_of(
+    alloc: Global,
+    lists: &Rotations,
+    forest: &Forest,
+) -> Result<Vec<u16>, AllocError>
+    requires few { length lists.now < 4096 }
+    requires forest { IsForestOf lists.now forest.now.order.items forest.now.number.items forest.now.last.items forest.now.parent.items }
+    ensures { IfOk result (λ depths. AreDepths forest.now.order.items forest.now.parent.items depths.items (length lists.now)) }
+{
+    let mut depths = vec![in alloc; 0u16; lists.len()]?;
+    fill_depths(
+        lists,
+        &forest.order,
+        &forest.number,
+        &forest.last,
+        &forest.parent,
+        &mut depths,
+    );
+    Ok(depths)
+}

@@ -1,0 +1,107 @@
+//! Groups of edges, each of which is on the side of its group or on the other one.
+ghost use Rattle.std.specs.Prelude.{◌≡◌, ◌+◌, ◌*◌, ◌<◌, ℕ, Bool, List, length, slice_index_or, IsTrue, IfOk, Contains};
+ghost use Rattle.left_right_check.specs.Ties.{turned as turn_of};
+ghost use Rattle.left_right_lists.specs.Groups.{Demand, IsPlaced, Fits, moved_group, AreMoved, AreMerged, AreMet, Meets, none_demanded, group_of, group_at, dart_place};
+
+use std::alloc::{AllocError, Global};
+
+// A side, or the other one.
+fn turned(turn: bool, side: bool) -> bool
+    ensures { result ≡ turn_of turn side }
+{
+    if turn { !side } else { side }
+}
+
+// The place of an edge in a table of groups.
+fn place(d: (u16, u16)) -> usize
+    ensures { result ≡ dart_place d }
+{
+    usize::from(d.0) * 256 + usize::from(d.1)
+}
+
+// An edge's group, if one group is put into another.
+fn moved(group: (u32, bool), into: u32, from: u32, flip: bool) -> (u32, bool)
+    ensures { result ≡ moved_group into from flip group }
+{
+    if group.0 == from {
+        (into, turned(flip, group.1))
+    } else {
+        group
+    }
+}
+
+// Puts one group into another.
+fn merge(groups: &mut [(u32, bool)], into: u32, from: u32, flip: bool)
+    ensures { AreMoved into from flip groups.old groups.new }
+{
+    for p in 0..groups.len() {
+        groups[p] = moved(groups[p], into, from, flip);
+    }
+}
+
+// The group of an edge.
+fn group(groups: &[(u32, bool)], d: (u16, u16)) -> (u32, bool)
+    requires long { length groups.now ≡ 65536 }
+    requires placed { IsPlaced d }
+    ensures { result ≡ group_of groups.now d }
+{
+    groups[place(d)]
+}
+
+// Puts two edges into one group, on one side or on different ones. It answers false where the groups are one
+// in which they are not so.
+fn tie(groups: &mut [(u32, bool)], a: (u16, u16), b: (u16, u16), turn: bool) -> bool
+    requires long { length groups.old ≡ 65536 }
+    requires one { IsPlaced a }
+    requires other { IsPlaced b }
+    ensures merged { AreMerged groups.old groups.new }
+    ensures fits { (left : ℕ → ℕ → Bool) → left a.0 a.1 ≡ turn_of turn (left b.0 b.1) → Fits left groups.old → Fits left groups.new × IsTrue result }
+    ensures met { IsTrue result → group_of groups.new a ≡ ((group_of groups.new b).0, turn_of turn (group_of groups.new b).1) }
+{
+    let one = group(groups, a);
+    let other = group(groups, b);
+    let flip = turned(turn, turned(one.1, other.1));
+    if one.0 == other.0 {
+        return !flip;
+    }
+    merge(groups, one.0, other.0, flip);
+    true
+}
+
+// The demand at a place.
+fn demand_at(demands: &[((u16, u16), bool)], i: usize) -> ((u16, u16), bool)
+    requires { i < length demands.now }
+    ensures { result ≡ slice_index_or demands.now i none_demanded }
+{
+    demands[i]
+}
+
+// Puts the edges of demands into one group. It answers false where that cannot be.
+pub(crate) fn tie_all(groups: &mut [(u32, bool)], demands: &[((u16, u16), bool)]) -> bool
+    requires long { length groups.old ≡ 65536 }
+    requires placed { (d : Demand) → Contains demands.now d → IsPlaced d.0 }
+    ensures merged { AreMerged groups.old groups.new }
+    ensures fits { (left : ℕ → ℕ → Bool) (side : Bool) → Meets left demands.now side → Fits left groups.old → Fits left groups.new × IsTrue result }
+    ensures met { IsTrue result → AreMet groups.new demands.now }
+{
+    for i in 0..demands.len() {
+        let first = demand_at(demands, 0);
+        let demand = demand_at(demands, i);
+        if !tie(groups, demand.0, first.0, turned(demand.1, first.1)) {
+            return false;
+        }
+    }
+    true
+}
+
+/// A group for each edge.
+pub(crate) fn single_groups(alloc: Global) -> Result<Vec<(u32, bool)>, AllocError>
+    ensures long { IfOk result (λ groups. length groups.items ≡ 65536) }
+    ensures fits { IfOk result (λ groups. (left : ℕ → ℕ → Bool) → Fits left groups.items) }
+{
+    let mut groups = Vec::new(alloc);
+    for p in 0..65536u32 {
+        groups.push((p, false))?;
+    }
+    Ok(groups)
+}
