@@ -244,12 +244,13 @@ impl Drawing<'_> {
         ensures { OnTrue result (NoneThrough self.now.map.now.lists self.now.fig.now) }
     {
         self.map.facts();
-        for h in 0..self.map.n() {
+        let drawing = *self;
+        for h in 0..drawing.map.n() {
             let v = VertexId(order[h as usize]);
-            if !stands_at(self.fig, self.map.n(), h, v) {
+            if !stands_at(drawing.fig, drawing.map.n(), h, v) {
                 return false;
             }
-            if !self.meets_bar(peaks, blocks, superblocks, h, v) {
+            if !drawing.meets_bar(peaks, blocks, superblocks, h, v) {
                 return false;
             }
         }
