@@ -78,7 +78,7 @@ fn fill_between(tops: &mut [u16], left: usize, right: usize, top: u16)
     }
 }
 
-// A number that is not below 0.
+// Returns a number that is not below 0.
 pub(crate) fn natural(z: i32) -> usize
     requires { pos 0 ≤ℤ z }
     ensures value { pos result ≡ z }
