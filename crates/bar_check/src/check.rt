@@ -136,8 +136,8 @@ impl Bars<'_> {
         drawing.first_fault(order, peaks, blocks, superblocks)
     }
 
-    // Finds the first fault of an edge or of a list, in tables of `MOST` vertices, `COLUMNS` columns, which are `BLOCKS`
-    // blocks of 16 and `SUPERBLOCKS` superblocks of 256, and `DARTS` darts.
+    // Finds the first fault of an edge or of a list, in tables of `MOST` vertices, `COLUMNS` columns, which are
+    // `BLOCKS` blocks of 16 and `SUPERBLOCKS` superblocks of 256, and `DARTS` darts.
     fn first_fault_of<
         const MOST: usize,
         const COLUMNS: usize,

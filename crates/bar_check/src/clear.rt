@@ -78,7 +78,7 @@ fn fill_between(tops: &mut [u16], left: usize, right: usize, top: u16)
     }
 }
 
-// A number that is not below 0.
+// Returns a number that is not below 0.
 pub(crate) fn natural(z: i32) -> usize
     requires { pos 0 ≤ℤ z }
     ensures value { pos result ≡ z }
@@ -180,13 +180,14 @@ impl Drawing<'_> {
         requires clear { AreClear self.now.map.now self.now.fig.now clear.old }
         ensures { AreClear self.now.map.now self.now.fig.now clear.new }
     {
-        for h in 0..self.map.n() {
+        let drawing = *self;
+        for h in 0..drawing.map.n() {
             let v = VertexId(order[h as usize]);
-            if !stands_at(self.fig, self.map.n(), h, v) {
+            if !stands_at(drawing.fig, drawing.map.n(), h, v) {
                 return;
             }
-            self.mark_list(tops, clear, h, v);
-            self.put_bar(tops, h, v);
+            drawing.mark_list(tops, clear, h, v);
+            drawing.put_bar(tops, h, v);
         }
     }
 

@@ -115,12 +115,13 @@ impl Drawing<'_> {
         ensures { MatchOption result ((a b : ℕ) → ¬ IsBlockedEdge self.now.map.now.lists self.now.fig.now a b)
             (λ e. IsLeastPair (IsBlockedEdge self.now.map.now.lists self.now.fig.now) e.a.0 e.b.0) }
     {
+        let drawing = *self;
         let mut before = 0;
-        for a in 0..self.map.n() {
-            if let Some(b) = self.least_blocked(clear, before, VertexId(a)) {
+        for a in 0..drawing.map.n() {
+            if let Some(b) = drawing.least_blocked(clear, before, VertexId(a)) {
                 return Some(Ends { a: VertexId(a), b });
             }
-            before = edges_with(self.map, VertexId(a), before);
+            before = edges_with(drawing.map, VertexId(a), before);
         }
         None
     }

@@ -16,7 +16,7 @@ pub(crate) fn number(list: &Ints, i: usize) -> i32
     if i < list.len() { list.get(i) } else { 0 }
 }
 
-// Whether `z` is the number of an entry that is not marked.
+// Says whether `z` is the number of an entry that is not marked.
 fn is_free(seen: &[bool], z: i32) -> bool
     ensures { IsTrue result ↔ IsFree seen.now z }
 {
@@ -33,7 +33,7 @@ fn mark(seen: &mut [bool], z: i32)
     seen[z as usize] = true;
 }
 
-// The least vertex with a wrong height, with room for a mark at each height.
+// Returns the least vertex with a wrong height, with room for a mark at each height.
 fn first_bad_height_in(map: &HalfMap, fig: &BarFigure, seen: &mut [bool]) -> Option<VertexId>
     requires size { length seen.old ≡ length map.now.lists }
     requires none { (k : ℕ) → slice_index_or seen.old k false ≡ false }
@@ -66,7 +66,7 @@ fn first_bad_height_of<const MOST: usize>(
     first_bad_height_in(map, fig, &mut seen[..n])
 }
 
-// The least vertex with a wrong height.
+// Returns the least vertex with a wrong height.
 pub(crate) fn first_bad_height(map: &HalfMap, fig: &BarFigure) -> Option<VertexId>
     ensures { MatchOption result (HasHeights map.now.lists fig.now)
         (λ v. IsLeast (HasBadHeight map.now.lists fig.now) v.0) }
@@ -80,7 +80,7 @@ pub(crate) fn first_bad_height(map: &HalfMap, fig: &BarFigure) -> Option<VertexI
     }
 }
 
-// Whether a bar goes from left to right within the width.
+// Says whether a bar goes from left to right within the width.
 fn is_bar(fig: &BarFigure, width: i32, v: VertexId) -> bool
     ensures { IsTrue result ↔ IsBar fig.now width v.0 }
 {
@@ -89,7 +89,7 @@ fn is_bar(fig: &BarFigure, width: i32, v: VertexId) -> bool
     0 <= left && left <= right && right <= width
 }
 
-// The least vertex with a wrong bar.
+// Returns the least vertex with a wrong bar.
 pub(crate) fn first_bad_bar(map: &HalfMap, fig: &BarFigure, width: i32) -> Option<VertexId>
     ensures { MatchOption result (AreBars map.now.lists fig.now width)
         (λ v. IsLeast (HasBadBar map.now.lists fig.now width) v.0) }
@@ -102,14 +102,14 @@ pub(crate) fn first_bad_bar(map: &HalfMap, fig: &BarFigure, width: i32) -> Optio
     None
 }
 
-// Whether the bar of `v` holds column `x`.
+// Says whether the bar of `v` holds column `x`.
 pub(crate) fn holds(fig: &BarFigure, v: VertexId, x: i32) -> bool
     ensures { IsTrue result ↔ Holds fig.now v.0 x }
 {
     number(&fig.x1, v.0 as usize) <= x && x <= number(&fig.x2, v.0 as usize)
 }
 
-// Whether column `x` lies within the width and within the bars of `a` and `b`.
+// Says whether column `x` lies within the width and within the bars of `a` and `b`.
 pub(crate) fn is_column(fig: &BarFigure, width: i32, a: VertexId, b: VertexId, x: i32) -> bool
     ensures { IsTrue result ↔ IsColumn fig.now width a.0 b.0 x }
 {

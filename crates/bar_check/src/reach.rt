@@ -1,6 +1,6 @@
 //! A quick sweep over the bars from below. It keeps the peak of each column: how high its edges reach that have begun.
-//! A bar is in the way of no edge where no peak of a column that it holds is above it. The peaks of blocks of 16 columns
-//! and of superblocks of 256 are kept too, so that a long bar takes few steps.
+//! A bar is in the way of no edge where no peak of a column that it holds is above it. The peaks of blocks of 16
+//! columns and of superblocks of 256 are kept too, so that a long bar takes few steps.
 ghost use Rattle.std.specs.Prelude.{◌≡◌, ◌+◌, ◌/◌, ◌<◌, ◌≤◌, ◌≤ℤ◌, ◌<ℤ◌, ◌↔◌, ℕ, length, pos, Some, IsTrue};
 ghost use Rattle.std.specs.Bool.{OnTrue};
 ghost use Rattle.map_theory.specs.Maps.{list_of, place_of};
@@ -76,8 +76,8 @@ fn low_until(table: &[i32], h: u16, k: usize, end: usize) -> usize
     at
 }
 
-// A place up to which no edge of the columns from `k` on reaches above `h`, in steps of whole blocks where these begin
-// at `k`, and else up to the end of its block of 16 at most.
+// Returns a place up to which no edge of the columns from `k` on reaches above `h`, in steps of whole blocks where
+// these begin at `k`, and else up to the end of its block of 16 at most.
 fn passed_to(
     peaks: &[i32],
     blocks: &[i32],
@@ -149,7 +149,8 @@ impl Drawing<'_> {
         raise_column(peaks, blocks, superblocks, self.column_at(d), y)
     }
 
-    // Notes the edges that lead up from `v`, at height `h`, from dart `first` on, and says whether the tables reach so far.
+    // Notes the edges that lead up from `v`, at height `h`, from dart `first` on, and says whether the tables reach so
+    // far.
     fn begin_round(
         &self,
         peaks: &mut [i32],
@@ -244,12 +245,13 @@ impl Drawing<'_> {
         ensures { OnTrue result (NoneThrough self.now.map.now.lists self.now.fig.now) }
     {
         self.map.facts();
-        for h in 0..self.map.n() {
+        let drawing = *self;
+        for h in 0..drawing.map.n() {
             let v = VertexId(order[h as usize]);
-            if !stands_at(self.fig, self.map.n(), h, v) {
+            if !stands_at(drawing.fig, drawing.map.n(), h, v) {
                 return false;
             }
-            if !self.meets_bar(peaks, blocks, superblocks, h, v) {
+            if !drawing.meets_bar(peaks, blocks, superblocks, h, v) {
                 return false;
             }
         }

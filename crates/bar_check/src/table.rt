@@ -181,8 +181,9 @@ impl Bars<'_> {
         self.map.facts();
         self.fill_next(next);
         let mut bad = None;
-        for b in 0..self.map.n() {
-            bad = self.put_list(next, columns, bad, VertexId(b));
+        let bars = *self;
+        for b in 0..bars.map.n() {
+            bad = bars.put_list(next, columns, bad, VertexId(b));
         }
         bad
     }

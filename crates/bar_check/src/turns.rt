@@ -71,8 +71,9 @@ impl Drawing<'_> {
         ensures { MatchOption result (KeepsTurns self.now.map.now.lists self.now.fig.now)
             (λ v. IsLeast (IsTurned self.now.map.now.lists self.now.fig.now) v.0) }
     {
-        for v in 0..self.map.n() {
-            if !self.keeps_rotation(VertexId(v)) {
+        let drawing = *self;
+        for v in 0..drawing.map.n() {
+            if !drawing.keeps_rotation(VertexId(v)) {
                 return Some(VertexId(v));
             }
         }

@@ -11,7 +11,7 @@ use crate::spans::{NO_SPAN, Span, joined, widened};
 use half_edges::VertexId;
 
 impl Drawing<'_> {
-    // A box of a vertex and its greater neighbours; `heads` is room.
+    // Returns a box of a vertex and its greater neighbours; `heads` is room.
     fn reach_of(&self, heads: &mut [u16], v: VertexId) -> Span
         requires vertex { v.0 < length self.now.map.now.lists }
         requires room { length heads.old ≡ 4095 }
@@ -24,7 +24,7 @@ impl Drawing<'_> {
         widened(span, place_at(self.points, v))
     }
 
-    // A box of what the edges of a block reach.
+    // Returns a box of what the edges of a block reach.
     fn block_of(&self, heads: &mut [u16], begin: u16, end: u16) -> Span
         requires end { end ≤ length self.now.map.now.lists }
         requires room { length heads.old ≡ 4095 }

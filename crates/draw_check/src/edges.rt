@@ -93,7 +93,8 @@ impl Drawing<'_> {
         self.first_met(Probe::Vertex(v), 0)
     }
 
-    // Returns the least vertex that lies on an edge of which it is no end, with the first such edge. None below `from` does.
+    // Returns the least vertex that lies on an edge of which it is no end, with the first such edge. None below `from`
+    // does.
     pub(crate) fn first_on_edge(&self, from: u16) -> Option<(VertexId, Ends)>
         requires none { BoundsAll self.now.map.now.lists self.now.points.now from }
         ensures { MatchOption result (NoneOnEdge self.now.map.now.lists self.now.points.now)

@@ -66,7 +66,7 @@ fn third_vertex(map: &HalfMap, a: VertexId, b: VertexId) -> Option<VertexId>
     }
 }
 
-/// The least vertex outside the grid, or else the least face, written from its least vertex, that is not
+/// Returns the least vertex outside the grid; or else the least face, written from its least vertex, that is not
 /// drawn counterclockwise, or not clockwise for the face left of `base`; or `Yes`.
 ///
 /// `tri` is a triangulation: of genus zero, with at least three vertices and 3n - 6 edges. `base` is live,

@@ -18,7 +18,7 @@ use pg_plane::{GridFigure, Points};
 use std::alloc::{AllocError, Global};
 use vertex_rounds::first_dart;
 
-// Whether a dart lies on another face than the base's, whose sum is not positive.
+// Says whether a dart lies on another face than the base's, whose sum is not positive.
 fn has_low_sum(map: &HalfMap, faces: &Faces, sums: &[i128], base: DartId, d: DartId) -> bool
     requires faces { AreFaces map.now faces.now }
     requires count { length sums.now ≡ length faces.now }
@@ -32,7 +32,7 @@ fn has_low_sum(map: &HalfMap, faces: &Faces, sums: &[i128], base: DartId, d: Dar
     face.0 != outer.0 && sums[face.0 as usize] <= 0
 }
 
-// The least dart on such a face.
+// Returns the least dart on such a face.
 fn first_low(
     map: &HalfMap,
     faces: &Faces,
@@ -49,7 +49,7 @@ fn first_low(
     first_dart(map, |d| has_low_sum(map, faces, sums, base, d))
 }
 
-/// The verdict of `check_outer` where the map is connected, of which it needs no count.
+/// Returns the verdict of `check_outer` where the map is connected, of which it needs no count.
 pub fn check_outer_connected(
     alloc: Global,
     map: &HalfMap,
@@ -70,8 +70,8 @@ pub fn check_outer_connected(
     }
 }
 
-/// The least dart, by its tail and then by its head, whose face is not that of `base` and has an area that
-/// is not positive, where the map is connected; and `Yes` where there is none or the map is not connected.
+/// Returns the least dart, by its tail and then by its head, whose face is not that of `base` and has an area
+/// that is not positive, where the map is connected; and `Yes` where there is none or the map is not connected.
 ///
 /// Twice the area of a face is the sum of a.x * b.y - b.x * a.y over its darts from a to b, in 128 bits.
 /// `base` is live, `fig` has one point for each vertex, and no coordinate is beyond 2^20 in size; its grid is

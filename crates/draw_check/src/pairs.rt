@@ -13,7 +13,7 @@ use half_edges::HalfMap;
 use pg_plane::{GridFigure, Point, Points};
 use plane_drawings::sweep_check::loose_vertices;
 
-/// The first fault of a drawing in the order of the variants of `Verdict`, with the least ids, or `Yes`
+/// Returns the first fault of a drawing in the order of the variants of `Verdict`, with the least ids, or `Yes`
 /// where all points lie in the grid, the drawing is plane and the rotations are kept.
 ///
 /// The grid goes from (0, 0) to `corner`. There is one point for each vertex, and no coordinate is beyond
@@ -74,8 +74,8 @@ impl Drawing<'_> {
         self.first_meeting(None)
     }
 
-    // Finds the first such pair. A sweep that finds the drawing plane, or plane without the edges of a few vertices, spares
-    // the search over all pairs.
+    // Finds the first such pair. A sweep that finds the drawing plane, or plane without the edges of a few vertices,
+    // spares the search over all pairs.
     fn first_pair_by_sweep(&self) -> Option<Verdict>
         ensures { MatchOption result (NoneShareAPlace self.now.map.now.lists self.now.points.now × NoneOnEdge self.now.map.now.lists self.now.points.now × NoneCross self.now.map.now.lists self.now.points.now)
             (λ verdict. (width height : ℤ) → AllInGrid self.now.map.now.lists self.now.points.now width height → IsVerdict self.now.map.now.lists self.now.points.now width height verdict) }

@@ -43,21 +43,21 @@ pub(crate) fn widened(span: Span, p: Point) -> Span
     }
 }
 
-// Whether two numbers are less than a third.
+// Says whether two numbers are less than a third.
 fn are_less(s: i32, t: i32, bound: i32) -> bool
     ensures { IsTrue result ↔ ((s <ℤ bound) × (t <ℤ bound)) }
 {
     s < bound && t < bound
 }
 
-// Whether two numbers are greater than a third.
+// Says whether two numbers are greater than a third.
 fn are_greater(s: i32, t: i32, bound: i32) -> bool
     ensures { IsTrue result ↔ ((bound <ℤ s) × (bound <ℤ t)) }
 {
     bound < s && bound < t
 }
 
-// Whether two points lie on one side of a box.
+// Says whether two points lie on one side of a box.
 fn is_apart(span: Span, p: Point, q: Point) -> bool
     ensures { OnTrue result (IsApart span p q) }
 {
@@ -106,14 +106,14 @@ fn far_corner(span: Span, p: Point, q: Point) -> Point
     }
 }
 
-// Whether a number is not negative.
+// Says whether a number is not negative.
 fn is_not_negative(z: i64) -> bool
     ensures { IsTrue result ↔ (pos 0 ≤ℤ z) }
 {
     0 <= z
 }
 
-// Whether no point of a box is to the right of the way from `p` to `q`.
+// Says whether no point of a box is to the right of the way from `p` to `q`.
 fn is_left_of(span: Span, p: Point, q: Point) -> bool
     requires span { IsBoxInRange span }
     requires p { IsInRange p }
@@ -123,7 +123,7 @@ fn is_left_of(span: Span, p: Point, q: Point) -> bool
     is_not_negative(area2(p, q, far_corner(span, p, q)))
 }
 
-// Whether neither the box nor `r` is to the right of the way from `p` to `q`.
+// Says whether neither the box nor `r` is to the right of the way from `p` to `q`.
 fn is_past(span: Span, r: Point, p: Point, q: Point) -> bool
     requires span { IsBoxInRange span }
     requires r { IsInRange r }
@@ -134,7 +134,7 @@ fn is_past(span: Span, r: Point, p: Point, q: Point) -> bool
     is_not_negative(area2(p, q, r)) && is_left_of(span, p, q)
 }
 
-// Whether seen from `r` both points are to the right of the box.
+// Says whether seen from `r` both points are to the right of the box.
 fn are_to_right(span: Span, r: Point, p: Point, q: Point) -> bool
     requires span { IsBoxInRange span }
     requires r { IsInRange r }
@@ -145,7 +145,7 @@ fn are_to_right(span: Span, r: Point, p: Point, q: Point) -> bool
     is_left_of(span, r, p) && is_left_of(span, r, q)
 }
 
-// Whether seen from `r` both points are to the left of the box.
+// Says whether seen from `r` both points are to the left of the box.
 fn are_to_left(span: Span, r: Point, p: Point, q: Point) -> bool
     requires span { IsBoxInRange span }
     requires r { IsInRange r }
@@ -156,7 +156,7 @@ fn are_to_left(span: Span, r: Point, p: Point, q: Point) -> bool
     is_left_of(span, p, r) && is_left_of(span, q, r)
 }
 
-// Whether a line surely parts the segment from `p` to `q` from the segments from `r` into a box.
+// Says whether a line surely parts the segment from `p` to `q` from the segments from `r` into a box.
 pub(crate) fn misses_star(span: Span, r: Point, p: Point, q: Point) -> bool
     requires span { IsBoxInRange span }
     requires r { IsInRange r }
@@ -179,14 +179,14 @@ pub(crate) fn misses_star(span: Span, r: Point, p: Point, q: Point) -> bool
     is_past(span, r, q, p)
 }
 
-// Whether a number is positive.
+// Says whether a number is positive.
 fn is_positive(z: i64) -> bool
     ensures { IsTrue result ↔ (pos 0 <ℤ z) }
 {
     0 < z
 }
 
-// Whether all points of a box are to the left of the way from `p` to `q`.
+// Says whether all points of a box are to the left of the way from `p` to `q`.
 fn is_strictly_left_of(span: Span, p: Point, q: Point) -> bool
     requires span { IsBoxInRange span }
     requires p { IsInRange p }
@@ -196,7 +196,7 @@ fn is_strictly_left_of(span: Span, p: Point, q: Point) -> bool
     is_positive(area2(p, q, far_corner(span, p, q)))
 }
 
-// Whether surely no point of a box lies on the segment from `p` to `q`.
+// Says whether surely no point of a box lies on the segment from `p` to `q`.
 pub(crate) fn misses_segment(span: Span, p: Point, q: Point) -> bool
     requires span { IsBoxInRange span }
     requires p { IsInRange p }
@@ -212,7 +212,7 @@ pub(crate) fn misses_segment(span: Span, p: Point, q: Point) -> bool
     is_strictly_left_of(span, q, p)
 }
 
-// A corner of a box: on its left or its right side, at its bottom or its top.
+// Returns a corner of a box: on its left or its right side, at its bottom or its top.
 fn corner(span: Span, right: bool, top: bool) -> Point
     requires { IsBoxInRange span }
     ensures x { result.x ≡ (if right then span.right else span.left) }
@@ -225,7 +225,7 @@ fn corner(span: Span, right: bool, top: bool) -> Point
     }
 }
 
-// A box of two boxes.
+// Returns a box of two boxes.
 pub(crate) fn joined(span: Span, other: Span) -> Span
     requires span { IsBoxInRange span }
     requires other { IsBoxInRange other }
@@ -237,7 +237,7 @@ pub(crate) fn joined(span: Span, other: Span) -> Span
     widened(wide, corner(other, true, true))
 }
 
-// Whether a box lies on one side of another.
+// Says whether a box lies on one side of another.
 fn are_boxes_apart(span: Span, other: Span) -> bool
     ensures { OnTrue result ((p q : Point) → IsIn other p → IsIn other q → IsApart span p q) }
 {
@@ -256,7 +256,7 @@ fn are_boxes_apart(span: Span, other: Span) -> bool
     false
 }
 
-// Whether all points of a box are to the left of the ways from `r` to the points of another.
+// Says whether all points of a box are to the left of the ways from `r` to the points of another.
 fn is_left_of_ways(span: Span, r: Point, other: Span) -> bool
     requires span { IsBoxInRange span }
     requires r { IsInRange r }
@@ -275,7 +275,7 @@ fn is_left_of_ways(span: Span, r: Point, other: Span) -> bool
     is_strictly_left_of(span, r, corner(other, true, true))
 }
 
-// Whether all points of a box are to the left of the ways from the points of another to `r`.
+// Says whether all points of a box are to the left of the ways from the points of another to `r`.
 fn is_left_of_ways_back(span: Span, r: Point, other: Span) -> bool
     requires span { IsBoxInRange span }
     requires r { IsInRange r }
@@ -294,7 +294,7 @@ fn is_left_of_ways_back(span: Span, r: Point, other: Span) -> bool
     is_strictly_left_of(span, corner(other, true, true), r)
 }
 
-// Whether surely no segment in a box crosses one from `r` into another, and no point of it lies on such a one.
+// Says whether surely no segment in a box crosses one from `r` into another, and no point of it lies on such a one.
 pub(crate) fn misses_block(span: Span, r: Point, block: Span) -> bool
     requires span { IsBoxInRange span }
     requires r { IsInRange r }

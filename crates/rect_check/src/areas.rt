@@ -82,9 +82,10 @@ impl Rects<'_> {
         ensures { result ≡ area_of self.now.fig.now (length self.now.map.now.lists) }
     {
         self.map.facts();
+        let rects = *self;
         let mut total = 0;
-        for v in 0..self.map.n() {
-            total += self.area(VertexId(v));
+        for v in 0..rects.map.n() {
+            total += rects.area(VertexId(v));
         }
         total
     }

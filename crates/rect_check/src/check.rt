@@ -95,7 +95,7 @@ impl Rects<'_> {
     }
 }
 
-/// The first fault of a rectangular dual in the order of the variants of `RectVerdict`, with the least ids,
+/// Returns the first fault of a rectangular dual in the order of the variants of `RectVerdict`, with the least ids,
 /// or `Yes` exactly where it is one of the map.
 ///
 /// `fig` has a rectangle for each vertex. It takes no memory from the heap, and at most 30 KB of the stack. A

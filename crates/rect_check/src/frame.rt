@@ -21,14 +21,14 @@ pub struct OuterFour {
     pub bottom: VertexId,
 }
 
-// Whether `d`, `p` and `q` are three vertices other than 0.
+// Says whether `d`, `p` and `q` are three vertices other than 0.
 fn are_four(d: VertexId, p: VertexId, q: VertexId) -> bool
     ensures { IsTrue result ↔ AreFour d.0 p.0 q.0 }
 {
     0 != d.0 && 0 != p.0 && 0 != q.0 && d.0 != p.0 && d.0 != q.0 && p.0 != q.0
 }
 
-// Whether a walk that passes 0, `d`, `p`, `q`, `s` and `e` is at 0 and `d` again, past four vertices.
+// Says whether a walk that passes 0, `d`, `p`, `q`, `s` and `e` is at 0 and `d` again, past four vertices.
 fn is_round_of_four(d: VertexId, p: VertexId, q: VertexId, s: VertexId, e: VertexId) -> bool
     ensures { IsTrue result ↔ IsRoundOfFour d.0 p.0 q.0 s.0 e.0 }
 {
@@ -55,7 +55,7 @@ fn frame_from(map: &HalfMap, first: DartId) -> Option<OuterFour>
     }
 }
 
-/// The vertices of the outer face behind vertex 0, where vertex 0 has a neighbour and the face of the dart to
+/// Returns the vertices of the outer face after vertex 0, where vertex 0 has a neighbour and the face of the dart to
 /// the first one is walked by four darts over four vertices.
 pub fn outer_four(map: &HalfMap) -> Option<OuterFour>
     ensures { MatchOption result (¬ HasFrame map.now.lists) (λ f. IsFrame map.now.lists f.top.0 f.right.0 f.bottom.0) }
@@ -67,42 +67,42 @@ pub fn outer_four(map: &HalfMap) -> Option<OuterFour>
     }
 }
 
-// Whether a rectangle reaches over the whole width.
+// Says whether a rectangle reaches over the whole width.
 fn is_wide(fig: &RectFigure, v: VertexId) -> bool
     ensures { IsTrue result ↔ IsAsWide fig.now v.0 }
 {
     number(&fig.x1, v) == 0 && number(&fig.x2, v) == greatest(&fig.x2)
 }
 
-// Whether it is at the left end.
+// Says whether it is at the left end.
 fn is_leftmost(fig: &RectFigure, v: VertexId) -> bool
     ensures { IsTrue result ↔ IsLeftmost fig.now v.0 }
 {
     number(&fig.x1, v) == 0
 }
 
-// Whether it is at the right end.
+// Says whether it is at the right end.
 fn is_rightmost(fig: &RectFigure, v: VertexId) -> bool
     ensures { IsTrue result ↔ IsRightmost fig.now v.0 }
 {
     number(&fig.x2, v) == greatest(&fig.x2)
 }
 
-// Whether it reaches along the top.
+// Says whether it reaches along the top.
 fn is_top(fig: &RectFigure, v: VertexId) -> bool
     ensures { IsTrue result ↔ IsTop fig.now v.0 }
 {
     is_wide(fig, v) && number(&fig.y2, v) == greatest(&fig.y2)
 }
 
-// Whether it reaches along the bottom.
+// Says whether it reaches along the bottom.
 fn is_bottom(fig: &RectFigure, v: VertexId) -> bool
     ensures { IsTrue result ↔ IsBottom fig.now v.0 }
 {
     is_wide(fig, v) && number(&fig.y1, v) == 0
 }
 
-// The first vertex of the frame that is not at its end.
+// Returns the first vertex of the frame that is not at its end.
 pub(crate) fn first_unframed(fig: &RectFigure, frame: OuterFour) -> Option<VertexId>
     ensures { MatchOption result (IsFramed fig.now 0 frame.top.0 frame.right.0 frame.bottom.0)
         (λ v. IsFirstUnframed fig.now 0 frame.top.0 frame.right.0 frame.bottom.0 v.0) }

@@ -160,7 +160,8 @@ impl Rects<'_> {
         self.mark_later(true, order, table, marks);
     }
 
-    // Returns the least two rectangles that meet, with room for the vertices in their order, for the rows and for marks.
+    // Returns the least two rectangles that meet, with room for the vertices in their order, for the rows and for
+    // marks.
     fn first_meet_in(
         &self,
         order: &mut [u16],

@@ -109,8 +109,9 @@ impl Rects<'_> {
         ensures { MatchOption result (HasContacts self.now.map.now.lists self.now.fig.now)
             (λ p. IsLeastPair (HasWrongContact self.now.map.now.lists self.now.fig.now) p.0.0 p.1.0) }
     {
-        for u in 0..self.map.n() {
-            if let Some(v) = self.first_wrong_at(marks, VertexId(u)) {
+        let rects = *self;
+        for u in 0..rects.map.n() {
+            if let Some(v) = rects.first_wrong_at(marks, VertexId(u)) {
                 return Some((VertexId(u), v));
             }
         }
