@@ -17,9 +17,6 @@ module _ {X : Type 0} (xs : List X) (k : ℕ) (d : X) (less : k < length xs) whe
       let behind : length xs - 1 - k + 1 ≡ length xs - k = omega arith in
       rw (here, drop_more xs (length xs - 1 - k) d (omega arith), behind) refl
 
-  pub texts_alone : (text : X → List ℕ) (bytes : List ℕ) → bytes ≡ text (get_or xs (length xs - 1 - k) d) ++ flat_map text (drop (length xs - k) xs) → bytes ≡ flat_map text (drop (length xs - (k + 1)) xs)
-  texts_alone text bytes is = rw drop_back is
-
   pub texts_back : (text : X → List ℕ) (bytes behind : List ℕ) → bytes ≡ text (get_or xs (length xs - 1 - k) d) ++ (flat_map text (drop (length xs - k) xs) ++ behind) → bytes ≡ flat_map text (drop (length xs - (k + 1)) xs) ++ behind
   texts_back text bytes behind is = rw (drop_back, append_assoc) is
 

@@ -1,11 +1,10 @@
 -- Numbers that are cut while their digits are read.
-use Rattle.std.proofs.Common.{◌≡◌, ◌≢◌, ◌==◌, ◌++◌, ℕ, zero, suc, inl, inr, ◌+◌, ◌-◌, ◌*◌, ◌^◌, lit≤, ◌<◌, ◌≤◌, Bool, true, false, List, [], ◌∷◌, length, take, drop, length-drop, get_or, refl, sym, ap, ◌∙◌, arith, add-one, drop-cons}
+use Rattle.std.proofs.Common.{◌≡◌, ◌≢◌, ◌++◌, ℕ, suc, ◌+◌, ◌-◌, ◌*◌, ◌^◌, lit≤, ◌<◌, ◌≤◌, Bool, true, false, List, [], ◌∷◌, length, take, drop, length-drop, get_or, refl, sym, ap, ◌∙◌, arith, add-one, drop-cons}
 use Rattle.std.proofs.Math.Nat.{pow-le-pow_right}
 use Rattle.std.proofs.lemmas.Bool.Decides.{nat_tests}
 use Rattle.std.proofs.lemmas.List.{take_more, get_or-drop}
-use Rattle.std.proofs.lemmas.Bool.{cases_eq}
-use Rattle.std.specs.Prelude.{min, not, if◌then◌else◌, Option, Some, None, option_map}
-use Rattle.figure_text.specs.Words.{is_digit, canonical, decimal_from, one_more}
+use Rattle.std.specs.Prelude.{min, Option, Some, None, option_map}
+use Rattle.figure_text.specs.Words.{is_digit, decimal_from, one_more}
 
 -- the number of digits, cut
 abbrev pub cut_from : ℕ → ℕ → List ℕ → Option ℕ
@@ -72,22 +71,6 @@ take-one_more line at k b order within is =
     let here : get_or (drop at line) (k - at) 0 ≡ b = get_or-drop at line (k - at) 0 ∙ ap (λ (j : ℕ). get_or line j 0) (omega arith) ∙ is in
     ap (λ (j : ℕ). take j (drop at line)) count
     ∙ take_more (drop at line) (k - at) 0 (omega (arith, length-drop at line)) ∙ ap (λ (c : ℕ). take (k - at) (drop at line) ++ c ∷ []) here
-
--- whether digits are those of a number, by the first of them and how many they are
-pub canonical-taken : (bytes : List ℕ) (n x : ℕ) → 0 < n → n ≤ length bytes → get_or bytes 0 0 ≡ x → (other : Bool) → not (x == 48) ≡ other → canonical (take n bytes) ≡ (if other then true else (n == 1))
-canonical-taken bytes zero x some within first other is = absurd (omega arith)
-canonical-taken [] (suc n) x some within first other is = absurd (omega arith)
-canonical-taken (b ∷ bytes) (suc zero) x some within first true is = refl
-canonical-taken (b ∷ bytes) (suc zero) x some within first false is = refl
-canonical-taken (b ∷ []) (suc (suc n)) x some within first other is = absurd (omega arith)
-canonical-taken (b ∷ c ∷ bytes) (suc (suc n)) x some within first true is = ap (λ (k : ℕ). not (k == 48)) first ∙ is
-canonical-taken (b ∷ c ∷ bytes) (suc (suc n)) x some within first false is = ap (λ (k : ℕ). not (k == 48)) first ∙ is ∙ sym (more n)
-  where
-    more : (n : ℕ) → (suc (suc n) == 1) ≡ false
-    more n = grind (arith, nat_tests)
-
-pub one-long : (at end : ℕ) → at < end → (end == at + 1) ≡ (end - at == 1)
-one-long at end less = elim (cases_eq end (at + 1)) [ inl e ↦ grind (arith, nat_tests) | inr not ↦ grind (arith, nat_tests) ]
 
 -- eight digits give a number below `far`, and one digit more of fewer than eight
 pub below-pow : (j v : ℕ) → j ≤ 8 → v < 10 ^ j → v < 100000000

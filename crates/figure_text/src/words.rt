@@ -3,7 +3,7 @@ ghost use Rattle.std.specs.Prelude.{◌≡◌, ◌↔◌, ◌<◌, ◌≤◌, �
 ghost use Rattle.std.specs.Bool.{OnTrue, OnFalse};
 ghost use Rattle.std.specs.List.{slice_split};
 ghost use Rattle.figure_text.specs.Plain.{IsPlainAt, IsClosingAt};
-ghost use Rattle.figure_text.specs.Words.{far, is_digit, canonical, words_left, decimal_from, number_of, signed_of, plus, minus, word_of as word_meant, words_of, numeral_word, closing_of, HasOther};
+ghost use Rattle.figure_text.specs.Words.{far, is_digit, words_left, decimal_from, number_of, signed_of, plus, minus, word_of as word_meant, words_of, numeral_word, closing_of, HasOther};
 
 use crate::decimals::{decimal_number, is_canonical};
 use std::alloc::{AllocError, Global};
@@ -288,16 +288,6 @@ fn digits_from(line: &[u8], at: usize) -> Digits
     }
 }
 
-// Whether digits that stand from `at` on and before `end` are those of a number.
-#[inline(always)]
-fn is_canonical_at(line: &[u8], at: usize, end: usize) -> bool
-    requires order { at ≤ end }
-    requires within { end ≤ length line.now }
-    ensures { result ≡ canonical (take (end - at) (drop at line.now)) }
-{
-    at < end && (line[at] != b'0' || end == at + 1)
-}
-
 // Whether a word may end here.
 fn ends_at(line: &[u8], end: usize) -> bool
     ensures { IsTrue result → end < length line.now → slice_index line.now end ≡ 32 }
@@ -333,7 +323,7 @@ pub fn next_word(line: &[u8], at: usize) -> Next
     ensures word { result.word ≡ word_meant (take (result.end - at) (drop at line.now)) }
 {
     let digits = digits_from(line, at);
-    if is_canonical_at(line, at, digits.end) {
+    if is_canonical(&line[at..digits.end]) {
         if ends_at(line, digits.end) {
             return Next {
                 word: Word::Number(Signed {
@@ -369,7 +359,7 @@ pub fn plain_at(line: &[u8], at: usize) -> Option<Digits>
         return None;
     }
     let digits = digits_from(line, at);
-    if is_canonical_at(line, at, digits.end) {
+    if is_canonical(&line[at..digits.end]) {
         if ends_at(line, digits.end) {
             return Some(digits);
         }
@@ -387,7 +377,7 @@ pub fn closing_at(line: &[u8], at: usize) -> Option<Digits>
         return None;
     }
     let digits = digits_from(line, at);
-    if is_canonical_at(line, at, digits.end) {
+    if is_canonical(&line[at..digits.end]) {
         if closes_at(line, digits.end) {
             return Some(Digits {
                 value: digits.value,

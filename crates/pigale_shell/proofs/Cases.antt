@@ -139,11 +139,11 @@ line_of_sums = refl
 
 -- the lines of `verify`
 
-line_of_verdict : verdict_line 3 (codes "OnEdge") (2 ∷ 0 ∷ 1 ∷ []) ≡ codes "verdict 3 OnEdge 3 1 2" ++ 10 ∷ []
+line_of_verdict : verdict_line 3 (codes "OnEdge", 2 ∷ 0 ∷ 1 ∷ []) ≡ codes "verdict 3 OnEdge 3 1 2" ++ 10 ∷ []
 unfolding verdict_line digits
 line_of_verdict = refl
 
-line_of_yes : verdict_line 1 (codes "yes") [] ≡ codes "verdict 1 yes" ++ 10 ∷ []
+line_of_yes : verdict_line 1 (codes "yes", []) ≡ codes "verdict 1 yes" ++ 10 ∷ []
 unfolding verdict_line digits
 line_of_yes = refl
 

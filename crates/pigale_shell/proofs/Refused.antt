@@ -43,11 +43,11 @@ always_write_fault : (ending : Ending) → MayEnd (Maps Count Text) ending Write
 always_write_fault ending e = e
 
 -- the verdict of a first figure, which is a witness, under the number of the second
-verdict_of_another_figure : (graph : EdgeGraph) (witness : Witness) → IsVerifyBlock 1 (WitnessFigure graph witness) (verdict_line 2 (codes "yes") []) → ⊥
+verdict_of_another_figure : (graph : EdgeGraph) (witness : Witness) → IsVerifyBlock 1 (WitnessFigure graph witness) (verdict_line 2 (codes "yes", [])) → ⊥
 unfolding verdict_line numbers_line digits
 verdict_of_another_figure graph witness b = none b.0 b.1 b.2
   where
-    none : (verdict : FigureVerdict) → IsFigureVerdict (WitnessFigure graph witness) verdict → WritesVerdict 1 verdict (verdict_line 2 (codes "yes") []) → ⊥
+    none : (verdict : FigureVerdict) → IsFigureVerdict (WitnessFigure graph witness) verdict → WritesVerdict 1 verdict (verdict_line 2 (codes "yes", [])) → ⊥
     none (Refused fault) v t = v
     none (Drawing drawing) v t = v
     none (Inside u w) v t = v

@@ -29,98 +29,59 @@ abbrev pub numbers : List ℕ → List ℕ
 numbers vs = flat_map (λ v. 32 ∷ decimal (v + 1)) vs
 
 -- the line of the verdict on figure k, by its name and vertices
-unfoldable pub verdict_line : ℕ → List ℕ → List ℕ → List ℕ
-verdict_line k name vs = line ((word_and_number (codes "verdict") k ++ 32 ∷ name) ++ numbers vs)
+unfoldable pub verdict_line : ℕ → List ℕ × List ℕ → List ℕ
+verdict_line k words = line ((word_and_number (codes "verdict") k ++ 32 ∷ words.0) ++ numbers words.1)
 
 -- the name of a fault of a straight-line drawing, and its vertices; of an edge the lesser end comes first
-abbrev pub verdict_name : Verdict → List ℕ
-verdict_name (OutOfGrid v) = codes "OutOfGrid"
-verdict_name (SamePlace u v) = codes "SamePlace"
-verdict_name (OnEdge v e) = codes "OnEdge"
-verdict_name (Cross e f) = codes "Cross"
-verdict_name (Turned v) = codes "Turned"
-verdict_name NoFault = codes "yes"
-
-abbrev pub verdict_vertices : Verdict → List ℕ
-verdict_vertices (OutOfGrid v) = v.0 ∷ []
-verdict_vertices (SamePlace u v) = u.0 ∷ v.0 ∷ []
-verdict_vertices (OnEdge v e) = v.0 ∷ e.a.0 ∷ e.b.0 ∷ []
-verdict_vertices (Cross e f) = e.a.0 ∷ e.b.0 ∷ f.a.0 ∷ f.b.0 ∷ []
-verdict_vertices (Turned v) = v.0 ∷ []
-verdict_vertices NoFault = []
+abbrev pub verdict_words : Verdict → List ℕ × List ℕ
+verdict_words (OutOfGrid v) = (codes "OutOfGrid", v.0 ∷ [])
+verdict_words (SamePlace u v) = (codes "SamePlace", u.0 ∷ v.0 ∷ [])
+verdict_words (OnEdge v e) = (codes "OnEdge", v.0 ∷ e.a.0 ∷ e.b.0 ∷ [])
+verdict_words (Cross e f) = (codes "Cross", e.a.0 ∷ e.b.0 ∷ f.a.0 ∷ f.b.0 ∷ [])
+verdict_words (Turned v) = (codes "Turned", v.0 ∷ [])
+verdict_words NoFault = (codes "yes", [])
 
 -- the same of bars
-abbrev pub bars_name : BarVerdict → List ℕ
-bars_name BadShape = codes "BadShape"
-bars_name (BadHeight v) = codes "BadHeight"
-bars_name (BadBar v) = codes "BadBar"
-bars_name (BadColumn e) = codes "BadColumn"
-bars_name (Through e v) = codes "Through"
-bars_name (Overlap e f) = codes "Overlap"
-bars_name (TurnedBars v) = codes "Turned"
-bars_name NoBarFault = codes "yes"
-
-abbrev pub bars_vertices : BarVerdict → List ℕ
-bars_vertices BadShape = []
-bars_vertices (BadHeight v) = v.0 ∷ []
-bars_vertices (BadBar v) = v.0 ∷ []
-bars_vertices (BadColumn e) = e.a.0 ∷ e.b.0 ∷ []
-bars_vertices (Through e v) = e.a.0 ∷ e.b.0 ∷ v.0 ∷ []
-bars_vertices (Overlap e f) = e.a.0 ∷ e.b.0 ∷ f.a.0 ∷ f.b.0 ∷ []
-bars_vertices (TurnedBars v) = v.0 ∷ []
-bars_vertices NoBarFault = []
+abbrev pub bars_words : BarVerdict → List ℕ × List ℕ
+bars_words BadShape = (codes "BadShape", [])
+bars_words (BadHeight v) = (codes "BadHeight", v.0 ∷ [])
+bars_words (BadBar v) = (codes "BadBar", v.0 ∷ [])
+bars_words (BadColumn e) = (codes "BadColumn", e.a.0 ∷ e.b.0 ∷ [])
+bars_words (Through e v) = (codes "Through", e.a.0 ∷ e.b.0 ∷ v.0 ∷ [])
+bars_words (Overlap e f) = (codes "Overlap", e.a.0 ∷ e.b.0 ∷ f.a.0 ∷ f.b.0 ∷ [])
+bars_words (TurnedBars v) = (codes "Turned", v.0 ∷ [])
+bars_words NoBarFault = (codes "yes", [])
 
 -- the same of how a drawing bends
-abbrev pub convex_name : ConvexVerdict → List ℕ
-convex_name (Bent a b c) = codes "Bent"
-convex_name OuterBent = codes "OuterBent"
-convex_name NoBend = codes "yes"
-
-abbrev pub convex_vertices : ConvexVerdict → List ℕ
-convex_vertices (Bent a b c) = a.0 ∷ b.0 ∷ c.0 ∷ []
-convex_vertices OuterBent = []
-convex_vertices NoBend = []
+abbrev pub convex_words : ConvexVerdict → List ℕ × List ℕ
+convex_words (Bent a b c) = (codes "Bent", a.0 ∷ b.0 ∷ c.0 ∷ [])
+convex_words OuterBent = (codes "OuterBent", [])
+convex_words NoBend = (codes "yes", [])
 
 -- the same of rectangles
-abbrev pub rects_name : RectVerdict → List ℕ
-rects_name (BadRect v) = codes "BadRect"
-rects_name (Meet u v) = codes "Meet"
-rects_name Gap = codes "Gap"
-rects_name (Contact u v) = codes "Contact"
-rects_name NoFrame = codes "NoFrame"
-rects_name (Frame v) = codes "Frame"
-rects_name NoRectFault = codes "yes"
-
-abbrev pub rects_vertices : RectVerdict → List ℕ
-rects_vertices (BadRect v) = v.0 ∷ []
-rects_vertices (Meet u v) = u.0 ∷ v.0 ∷ []
-rects_vertices Gap = []
-rects_vertices (Contact u v) = u.0 ∷ v.0 ∷ []
-rects_vertices NoFrame = []
-rects_vertices (Frame v) = v.0 ∷ []
-rects_vertices NoRectFault = []
+abbrev pub rects_words : RectVerdict → List ℕ × List ℕ
+rects_words (BadRect v) = (codes "BadRect", v.0 ∷ [])
+rects_words (Meet u v) = (codes "Meet", u.0 ∷ v.0 ∷ [])
+rects_words Gap = (codes "Gap", [])
+rects_words (Contact u v) = (codes "Contact", u.0 ∷ v.0 ∷ [])
+rects_words NoFrame = (codes "NoFrame", [])
+rects_words (Frame v) = (codes "Frame", v.0 ∷ [])
+rects_words NoRectFault = (codes "yes", [])
 
 -- the line of a verdict by its name and numbers, each after a space
 abbrev pub spaced : List ℕ → List ℕ
 spaced ns = flat_map (λ n. 32 ∷ decimal n) ns
 
-unfoldable pub numbers_line : ℕ → List ℕ → List ℕ → List ℕ
-numbers_line k name ns = line ((word_and_number (codes "verdict") k ++ 32 ∷ name) ++ spaced ns)
+unfoldable pub numbers_line : ℕ → List ℕ × List ℕ → List ℕ
+numbers_line k words = line ((word_and_number (codes "verdict") k ++ 32 ∷ words.0) ++ spaced words.1)
 
 -- the name of a fault of a witness, and its numbers, all from 1
-abbrev pub witness_name : WitnessVerdict → List ℕ
-witness_name NoShape = codes "BadShape"
-witness_name (BadBranch i) = codes "BadBranch"
-witness_name (NotEdge p i) = codes "NotEdge"
-witness_name (Shared p q v) = codes "Shared"
-witness_name NoWitnessFault = codes "yes"
-
-abbrev pub witness_numbers : WitnessVerdict → List ℕ
-witness_numbers NoShape = []
-witness_numbers (BadBranch i) = i ∷ []
-witness_numbers (NotEdge p i) = p ∷ i ∷ []
-witness_numbers (Shared p q v) = p ∷ q ∷ (v.0 + 1) ∷ []
-witness_numbers NoWitnessFault = []
+abbrev pub witness_words : WitnessVerdict → List ℕ × List ℕ
+witness_words NoShape = (codes "BadShape", [])
+witness_words (BadBranch i) = (codes "BadBranch", i ∷ [])
+witness_words (NotEdge p i) = (codes "NotEdge", p ∷ i ∷ [])
+witness_words (Shared p q v) = (codes "Shared", p ∷ q ∷ (v.0 + 1) ∷ [])
+witness_words NoWitnessFault = (codes "yes", [])
 
 -- the text is the line that refuses figure k for a fault of its map
 abbrev pub WritesFault : ℕ → MapFault → List ℕ → Type 0
@@ -129,13 +90,13 @@ WritesFault k fault text = (refusal : Refusal) × (unserved_for fault ≡ Unserv
 -- the text is the line of a verdict on figure k
 abbrev pub WritesVerdict : ℕ → FigureVerdict → List ℕ → Type 0
 WritesVerdict k (Refused fault) text = WritesFault k fault text
-WritesVerdict k (Drawing verdict) text = text ≡ verdict_line k (verdict_name verdict) (verdict_vertices verdict)
-WritesVerdict k (Inside v u) text = text ≡ verdict_line k (codes "Inside") (v.0 ∷ u.0 ∷ [])
-WritesVerdict k (Convex verdict) text = text ≡ verdict_line k (convex_name verdict) (convex_vertices verdict)
-WritesVerdict k (Bars verdict) text = text ≡ verdict_line k (bars_name verdict) (bars_vertices verdict)
-WritesVerdict k (Rects verdict) text = text ≡ verdict_line k (rects_name verdict) (rects_vertices verdict)
-WritesVerdict k (Witness verdict) text = text ≡ numbers_line k (witness_name verdict) (witness_numbers verdict)
-WritesVerdict k Yes text = text ≡ verdict_line k (codes "yes") []
+WritesVerdict k (Drawing verdict) text = text ≡ verdict_line k (verdict_words verdict)
+WritesVerdict k (Inside v u) text = text ≡ verdict_line k (codes "Inside", v.0 ∷ u.0 ∷ [])
+WritesVerdict k (Convex verdict) text = text ≡ verdict_line k (convex_words verdict)
+WritesVerdict k (Bars verdict) text = text ≡ verdict_line k (bars_words verdict)
+WritesVerdict k (Rects verdict) text = text ≡ verdict_line k (rects_words verdict)
+WritesVerdict k (Witness verdict) text = text ≡ numbers_line k (witness_words verdict)
+WritesVerdict k Yes text = text ≡ verdict_line k (codes "yes", [])
 
 -- what `verify` writes for figure k: the line of its verdict
 abbrev pub IsVerifyBlock : ℕ → Figure → List ℕ → Type 0

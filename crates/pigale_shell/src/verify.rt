@@ -3,7 +3,7 @@ ghost use Rattle.std.specs.Prelude.{◌≡◌, ◌↔◌, ◌++◌, ◌∷◌, �
 ghost use Rattle.line_inputs.specs.Given.{IsGiven as IsGivenFigure};
 ghost use Rattle.figure_verdicts.specs.Validity.{IsValidFigure};
 ghost use Rattle.figure_verdicts.specs.declared.verdict.FigureVerdict.TheVariants.{Yes as IsYes};
-ghost use Rattle.pigale_shell.specs.Verify.{numbers, verdict_line as verdict_line_of, verdict_name, verdict_vertices, bars_name, bars_vertices, convex_name, convex_vertices, rects_name, rects_vertices, spaced, numbers_line as numbers_line_of, witness_name, witness_numbers, WritesFault, WritesVerdict, IsVerifyBlock, verify_last_line as last_line_of};
+ghost use Rattle.pigale_shell.specs.Verify.{numbers, verdict_line as verdict_line_of, verdict_words, bars_words, convex_words, rects_words, spaced, numbers_line as numbers_line_of, witness_words, WritesFault, WritesVerdict, IsVerifyBlock, verify_last_line as last_line_of};
 
 use super::lines::{end_line, push_number, refusal_line, stop_line};
 use bar_check::BarVerdict;
@@ -46,7 +46,7 @@ fn verdict_line(
     name: &[u8],
     vertices: &[u16],
 ) -> Result<Vec<u8>, AllocError>
-    ensures { IfOk result (λ line. line.items ≡ verdict_line_of number name.now vertices.now) }
+    ensures { IfOk result (λ line. line.items ≡ verdict_line_of number (name.now, vertices.now)) }
 {
     let mut line = Vec::from_slice(alloc, b"verdict")?;
     push_number(&mut line, u64::from(number))?;
@@ -59,7 +59,7 @@ fn verdict_line(
 
 // The line of a fault of a straight-line drawing.
 fn fault_line(alloc: Global, number: u32, verdict: Verdict) -> Result<Vec<u8>, AllocError>
-    ensures { IfOk result (λ line. line.items ≡ verdict_line_of number (verdict_name verdict) (verdict_vertices verdict)) }
+    ensures { IfOk result (λ line. line.items ≡ verdict_line_of number (verdict_words verdict)) }
 {
     match verdict {
         Verdict::OutOfGrid(v) => verdict_line(alloc, number, b"OutOfGrid", &[v.0]),
@@ -78,7 +78,7 @@ fn fault_line(alloc: Global, number: u32, verdict: Verdict) -> Result<Vec<u8>, A
 
 // The line of a fault of bars.
 fn bars_line(alloc: Global, number: u32, verdict: BarVerdict) -> Result<Vec<u8>, AllocError>
-    ensures { IfOk result (λ line. line.items ≡ verdict_line_of number (bars_name verdict) (bars_vertices verdict)) }
+    ensures { IfOk result (λ line. line.items ≡ verdict_line_of number (bars_words verdict)) }
 {
     match verdict {
         BarVerdict::BadShape => verdict_line(alloc, number, b"BadShape", &[]),
@@ -99,7 +99,7 @@ fn bars_line(alloc: Global, number: u32, verdict: BarVerdict) -> Result<Vec<u8>,
 
 // The line of how a drawing that is to be convex bends.
 fn convex_line(alloc: Global, number: u32, verdict: ConvexVerdict) -> Result<Vec<u8>, AllocError>
-    ensures { IfOk result (λ line. line.items ≡ verdict_line_of number (convex_name verdict) (convex_vertices verdict)) }
+    ensures { IfOk result (λ line. line.items ≡ verdict_line_of number (convex_words verdict)) }
 {
     match verdict {
         ConvexVerdict::Bent(a, b, c) => verdict_line(alloc, number, b"Bent", &[a.0, b.0, c.0]),
@@ -110,7 +110,7 @@ fn convex_line(alloc: Global, number: u32, verdict: ConvexVerdict) -> Result<Vec
 
 // The line of a fault of rectangles.
 fn rects_line(alloc: Global, number: u32, verdict: RectVerdict) -> Result<Vec<u8>, AllocError>
-    ensures { IfOk result (λ line. line.items ≡ verdict_line_of number (rects_name verdict) (rects_vertices verdict)) }
+    ensures { IfOk result (λ line. line.items ≡ verdict_line_of number (rects_words verdict)) }
 {
     match verdict {
         RectVerdict::BadRect(v) => verdict_line(alloc, number, b"BadRect", &[v.0]),
@@ -130,7 +130,7 @@ fn numbers_line(
     name: &[u8],
     found: &[usize],
 ) -> Result<Vec<u8>, AllocError>
-    ensures { IfOk result (λ line. line.items ≡ numbers_line_of number name.now found.now) }
+    ensures { IfOk result (λ line. line.items ≡ numbers_line_of number (name.now, found.now)) }
 {
     let mut line = Vec::from_slice(alloc, b"verdict")?;
     push_number(&mut line, u64::from(number))?;
@@ -143,7 +143,7 @@ fn numbers_line(
 
 // The line of a fault of a witness.
 fn witness_line(alloc: Global, number: u32, verdict: WitnessVerdict) -> Result<Vec<u8>, AllocError>
-    ensures { IfOk result (λ line. line.items ≡ numbers_line_of number (witness_name verdict) (witness_numbers verdict)) }
+    ensures { IfOk result (λ line. line.items ≡ numbers_line_of number (witness_words verdict)) }
 {
     match verdict {
         WitnessVerdict::BadShape => numbers_line(alloc, number, b"BadShape", &[]),

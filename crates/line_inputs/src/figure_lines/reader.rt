@@ -8,6 +8,7 @@ ghost use Rattle.figure_text.specs.declared.figure.Figure.{Figure as AFigure};
 
 use crate::figure_lines::begun::Begun;
 use crate::figure_lines::ending::Ending;
+use crate::figure_lines::held::Held;
 use crate::figure_lines::part::{Line, take_line};
 use crate::figure_lines::step::After;
 use crate::parts::{Part, Parts, take_piece};
@@ -106,6 +107,13 @@ impl FigureReader {
     }
 }
 
+// Puts a figure in the place of the one before. As a function of its own, it costs no line that ends no figure.
+fn keep(figure: &mut Figure, held: Held<Figure>)
+    ensures { figure.new ≡ held }
+{
+    *figure = held.into_inner();
+}
+
 impl Parts for FigureReader {
     ghost use Rattle.line_inputs.specs.FigureLinesState.{IsAt};
     ghost use Rattle.line_inputs.specs.Given.{IsGiven};
@@ -149,7 +157,7 @@ impl Parts for FigureReader {
                         Ok(Part::Goes(k))
                     }
                     After::Whole(held) => {
-                        self.figure = held.into_inner();
+                        keep(&mut self.figure, held);
                         Ok(Part::Ended(k))
                     }
                     After::Bad(ending) => Ok(Part::Bad(ending)),

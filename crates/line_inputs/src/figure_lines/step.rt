@@ -113,6 +113,7 @@ fn grown(alloc: Global, first: u32, held: Held<Rows>) -> Result<After, AllocErro
 }
 
 // Takes the next line of vertices, or of branches and paths, of a figure.
+#[inline(always)]
 fn after_row(
     alloc: Global,
     found: &mut Vec<Word>,
@@ -180,6 +181,7 @@ fn after_columns(
 }
 
 // Takes the line of a figure that is due.
+#[inline(always)]
 fn after_due(
     alloc: Global,
     found: &mut Vec<Word>,
@@ -200,6 +202,7 @@ fn after_due(
 
 /// Takes a closed line, with what has come before it. It has the number `number`, and is given without the
 /// byte 10 that closes it. The vector is for the words of the line, and keeps its memory for those of the next.
+#[inline(always)]
 pub fn after_line(
     alloc: Global,
     found: &mut Vec<Word>,
