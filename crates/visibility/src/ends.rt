@@ -97,12 +97,12 @@ pub(crate) fn coordinates(alloc: Global, numbers: &Counts) -> Result<Ints, Alloc
     Ok(made)
 }
 
-// Converts a table of numbers into coordinates.
-pub(crate) fn coordinates_of(alloc: Global, numbers: &[u32]) -> Result<Ints, AllocError>
+// Converts a table of numbers into coordinates, in the memory of `spent`.
+pub(crate) fn coordinates_of(spent: Ints, numbers: &[u32]) -> Result<Ints, AllocError>
     requires low { (i : ℕ) → slice_index numbers.now i < 2 ^ 31 }
     ensures { IfOk result (λ made. made ≡ map pos numbers.now) }
 {
-    let mut made = Ints::with_capacity(alloc, numbers.len())?;
+    let mut made = spent.emptied(numbers.len())?;
     for i in 0..numbers.len() {
         made.push(coordinate(numbers[i]))?;
     }

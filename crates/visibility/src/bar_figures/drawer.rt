@@ -40,6 +40,9 @@ struct DualTables {
     faces: FaceTables,
     paths: PathTables,
     spans: SpanTables,
+    // memory for heights and columns
+    y: Ints,
+    column: Ints,
 }
 
 // All tables. What they hold before a record says nothing.
@@ -63,6 +66,8 @@ impl Tables {
                 faces: FaceTables::new(alloc),
                 paths: PathTables::new(alloc),
                 spans: SpanTables::new(alloc),
+                y: Ints::new(alloc),
+                column: Ints::new(alloc),
             },
         }
     }
@@ -135,11 +140,11 @@ fn first_of(numbers: &[u32]) -> u32
     numbers[0]
 }
 
-// Ranks as heights.
-fn heights(alloc: Global, rank: &[u16]) -> Result<Ints, AllocError>
+// Ranks as heights, in the memory of `spent`.
+fn heights(spent: Ints, rank: &[u16]) -> Result<Ints, AllocError>
     ensures { IfOk result (λ made. made ≡ map pos rank.now) }
 {
-    let mut made = Ints::with_capacity(alloc, rank.len())?;
+    let mut made = spent.emptied(rank.len())?;
     for i in 0..rank.len() {
         made.push(coordinate(rank[i] as u32))?;
     }
@@ -174,6 +179,8 @@ fn drawn_by_search(
             faces,
             paths: tables.paths,
             spans: tables.spans,
+            y: tables.y,
+            column: tables.column,
         };
         return Ok((None, tables));
     }
@@ -188,14 +195,16 @@ fn drawn_by_search(
         twins,
         &paths.number,
     )?;
-    let y = heights(alloc, &ranges.from)?;
-    let column = coordinates_of(alloc, &spans.columns)?;
+    let y = heights(tables.y, &ranges.from)?;
+    let column = coordinates_of(tables.column, &spans.columns)?;
     let figure = BarFigure { y, x1, x2, column };
     let tables = DualTables {
         ranges,
         faces,
         paths,
         spans,
+        y: Ints::new(alloc),
+        column: Ints::new(alloc),
     };
     Ok((Some(figure), tables))
 }
@@ -261,6 +270,15 @@ impl BarDrawer {
             tables: Tables::new(alloc),
             counter: Counter::new(alloc),
         }
+    }
+
+    /// Keeps the memory of a figure that is done with.
+    pub fn keep(&mut self, figure: BarFigure) {
+        let BarFigure { y, x1, x2, column } = figure;
+        self.tables.dual.y = y;
+        self.tables.dual.column = column;
+        self.tables.dual.spans.x1 = x1;
+        self.tables.dual.spans.x2 = x2;
     }
 
     // The first condition that a record breaks, if it breaks one.
