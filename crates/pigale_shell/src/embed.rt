@@ -7,7 +7,7 @@ ghost use Rattle.pigale_shell.specs.Blocks.{Appends};
 ghost use Rattle.pigale_shell.specs.EmbedText.{IsDrawnText, IsRefutedText, IsGraphText, IsEmbedBlock, embed_last_line as last_line_of};
 
 use super::answer::refuse;
-use super::form::{line_in, print_grid_in, print_witness_in};
+use super::form::{FormPrinter, line_in, print_witness_in};
 use super::lines::{end_line, stop_line};
 use embed_graph::Tables;
 use embed_graph::embed_figures::{EmbedFigure, embed_figure_in};
@@ -24,7 +24,7 @@ use std::alloc::{AllocError, Global};
 
 // Appends a map of a graph as it is drawn.
 fn draw_map(
-    alloc: Global,
+    printer: &mut FormPrinter,
     form: Form,
     number: u32,
     graph: &Graph,
@@ -36,15 +36,7 @@ fn draw_map(
     ensures block { OnOk result (Appends (IsDrawnText form number graph.now) out.old.items out.new.items) }
     ensures err { OnErr result (out.new.items ≡ out.old.items) }
 {
-    print_grid_in(
-        alloc,
-        form,
-        number,
-        GridJob::Schnyder,
-        lists,
-        &figure.points,
-        out,
-    )
+    printer.print_grid(form, number, GridJob::Schnyder, lists, &figure.points, out)
 }
 
 // Appends a witness of a graph.
@@ -66,6 +58,7 @@ fn draw_witness(
 // Appends the figure of a graph.
 fn push_figure(
     alloc: Global,
+    printer: &mut FormPrinter,
     form: Form,
     number: u32,
     graph: &Graph,
@@ -79,7 +72,7 @@ fn push_figure(
 {
     match figure {
         EmbedFigure::Drawn(lists, figure) => {
-            draw_map(alloc, form, number, graph, lists, figure, out)
+            draw_map(printer, form, number, graph, lists, figure, out)
         }
         EmbedFigure::NotPlanar(witness) => draw_witness(alloc, form, number, graph, witness, out),
     }
@@ -88,7 +81,7 @@ fn push_figure(
 // Appends the figure of a graph with at least three vertices, which is served.
 fn serve_graph(
     alloc: Global,
-    tables: &mut Tables,
+    tools: &mut EmbedTools,
     form: Form,
     number: u32,
     graph: &Graph,
@@ -99,15 +92,15 @@ fn serve_graph(
     ensures served { IfOk result (λ served. served ≡ true) }
     ensures err { OnErr result (out.new.items ≡ out.old.items) }
 {
-    let figure = embed_figure_in(alloc, tables, graph)?;
-    push_figure(alloc, form, number, graph, &figure, out)?;
+    let figure = embed_figure_in(alloc, &mut tools.tables, graph)?;
+    push_figure(alloc, &mut tools.printer, form, number, graph, &figure, out)?;
     Ok(true)
 }
 
 // Appends the figure of a graph, or its refusal, and answers whether it was served.
 fn embed_line(
     alloc: Global,
-    tables: &mut Tables,
+    tools: &mut EmbedTools,
     form: Form,
     number: u32,
     graph: &Graph,
@@ -121,7 +114,7 @@ fn embed_line(
     if n < 3 {
         refuse(alloc, form, number, Refusal::Small(n), out)
     } else {
-        serve_graph(alloc, tables, form, number, graph, out)
+        serve_graph(alloc, tools, form, number, graph, out)
     }
 }
 
@@ -211,12 +204,19 @@ impl Format for GraphSource {
     }
 }
 
-/// The job `embed`, in a form. What its searches work in lives from graph to graph.
+/// What graphs are embedded and printed with. It lives from graph to graph.
+#[derive(Drop)]
+struct EmbedTools {
+    tables: Tables,
+    printer: FormPrinter,
+}
+
+/// The job `embed`, in a form.
 #[derive(Drop)]
 pub struct EmbedJob {
     alloc: Global,
     form: Form,
-    tables: Tables,
+    tools: EmbedTools,
 }
 
 impl EmbedJob {
@@ -227,7 +227,10 @@ impl EmbedJob {
         EmbedJob {
             alloc,
             form,
-            tables: Tables::new(),
+            tools: EmbedTools {
+                tables: Tables::new(),
+                printer: FormPrinter::new(alloc),
+            },
         }
     }
 }
@@ -247,7 +250,7 @@ impl RecordJob<GraphSource> for EmbedJob {
         given: &Graph,
         out: &mut Vec<u8>,
     ) -> Result<bool, AllocError> {
-        embed_line(self.alloc, &mut self.tables, self.form, number, given, out)
+        embed_line(self.alloc, &mut self.tools, self.form, number, given, out)
     }
 
     fn last_line(
