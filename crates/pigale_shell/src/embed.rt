@@ -10,9 +10,10 @@ use super::answer::refuse;
 use super::form::{FormPrinter, line_in, print_witness_in};
 use super::lines::{end_line, stop_line};
 use embed_graph::Tables;
-use embed_graph::embed_figures::{EmbedFigure, embed_figure_in};
+use embed_graph::embed_figures::{EmbedFigure, embed_figure_by};
 use figure_text::GridJob;
 use graph6_text::Graph;
+use grid_figures::Drawer;
 use kuratowski::Witness;
 use line_inputs::graph_lines::{Ending, GraphReader};
 use map_lists::Rotations;
@@ -78,6 +79,13 @@ fn push_figure(
     }
 }
 
+// Keeps the memory of a drawing that is printed.
+fn keep_figure(drawer: &mut Drawer, figure: EmbedFigure) {
+    if let EmbedFigure::Drawn(_, drawing) = figure {
+        drawer.keep_schnyder(drawing);
+    }
+}
+
 // Appends the figure of a graph with at least three vertices, which is served.
 fn serve_graph(
     alloc: Global,
@@ -92,8 +100,9 @@ fn serve_graph(
     ensures served { IfOk result (λ served. served ≡ true) }
     ensures err { OnErr result (out.new.items ≡ out.old.items) }
 {
-    let figure = embed_figure_in(alloc, &mut tools.tables, graph)?;
+    let figure = embed_figure_by(alloc, &mut tools.tables, &mut tools.drawer, graph)?;
     push_figure(alloc, &mut tools.printer, form, number, graph, &figure, out)?;
+    keep_figure(&mut tools.drawer, figure);
     Ok(true)
 }
 
@@ -204,10 +213,11 @@ impl Format for GraphSource {
     }
 }
 
-/// What graphs are embedded and printed with. It lives from graph to graph.
+/// What graphs are embedded, drawn and printed with. It lives from graph to graph.
 #[derive(Drop)]
 struct EmbedTools {
     tables: Tables,
+    drawer: Drawer,
     printer: FormPrinter,
 }
 
@@ -229,6 +239,7 @@ impl EmbedJob {
             form,
             tools: EmbedTools {
                 tables: Tables::new(),
+                drawer: Drawer::new(alloc),
                 printer: FormPrinter::new(alloc),
             },
         }
