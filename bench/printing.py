@@ -13,12 +13,12 @@ import sys
 import count
 import order
 
-CALL = "        Form::Text => print_grid(alloc, number, job, lists, points, out),\n"
-TWICE = """        Form::Text => {
-            let mut scratch = Vec::new(alloc);
-            print_grid(alloc, number, job, lists, points, &mut scratch)?;
-            print_grid(alloc, number, job, lists, points, out)
-        }
+CALL = "            Form::Text => self.printer.print_grid(number, job, lists, points, out),\n"
+TWICE = """            Form::Text => {
+                let mut scratch = Vec::new(self.alloc);
+                self.printer.print_grid(number, job, lists, points, &mut scratch)?;
+                self.printer.print_grid(number, job, lists, points, out)
+            }
 """
 
 

@@ -63,7 +63,8 @@ impl Drawer {
         schnyder_figures::drawn_record(&mut self.tools, &mut self.woods, lists)
     }
 
-    /// The figure of a map that is counted, as `plane_figure` has it. When memory runs out the drawer serves as before.
+    /// The figure by Schnyder's coordinates of a map with these lists that is counted, has genus zero and at least three
+    /// vertices, as `schnyder_figure` has it. It fails only when out of memory, and the drawer then serves as before.
     pub fn schnyder_plane(
         &mut self,
         plane: CountedMap,

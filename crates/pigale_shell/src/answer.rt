@@ -82,7 +82,8 @@ fn serve<M: Method>(
     ensures err { OnErr result (out.new.items ≡ out.old.items) }
 {
     let figure = method.figure(alloc, lists)?;
-    M::print(alloc, form, number, lists, &figure, out)?;
+    method.print(form, number, lists, &figure, out)?;
+    method.keep(figure);
     Ok(())
 }
 

@@ -7,12 +7,13 @@ ghost use Rattle.pigale_shell.specs.Blocks.{Appends};
 ghost use Rattle.pigale_shell.specs.EmbedText.{IsDrawnText, IsRefutedText, IsGraphText, IsEmbedBlock, embed_last_line as last_line_of};
 
 use super::answer::refuse;
-use super::form::{line_in, print_grid_in, print_witness_in};
+use super::form::{FormPrinter, line_in, print_witness_in};
 use super::lines::{end_line, stop_line};
 use embed_graph::Tables;
-use embed_graph::embed_figures::{EmbedFigure, embed_figure_in};
+use embed_graph::embed_figures::{EmbedFigure, embed_figure_by};
 use figure_text::GridJob;
 use graph6_text::Graph;
+use grid_figures::Drawer;
 use kuratowski::Witness;
 use line_inputs::graph_lines::{Ending, GraphReader};
 use map_lists::Rotations;
@@ -24,7 +25,7 @@ use std::alloc::{AllocError, Global};
 
 // Appends a map of a graph as it is drawn.
 fn draw_map(
-    alloc: Global,
+    printer: &mut FormPrinter,
     form: Form,
     number: u32,
     graph: &Graph,
@@ -36,15 +37,7 @@ fn draw_map(
     ensures block { OnOk result (Appends (IsDrawnText form number graph.now) out.old.items out.new.items) }
     ensures err { OnErr result (out.new.items ≡ out.old.items) }
 {
-    print_grid_in(
-        alloc,
-        form,
-        number,
-        GridJob::Schnyder,
-        lists,
-        &figure.points,
-        out,
-    )
+    printer.print_grid(form, number, GridJob::Schnyder, lists, &figure.points, out)
 }
 
 // Appends a witness of a graph.
@@ -66,6 +59,7 @@ fn draw_witness(
 // Appends the figure of a graph.
 fn push_figure(
     alloc: Global,
+    printer: &mut FormPrinter,
     form: Form,
     number: u32,
     graph: &Graph,
@@ -79,16 +73,23 @@ fn push_figure(
 {
     match figure {
         EmbedFigure::Drawn(lists, figure) => {
-            draw_map(alloc, form, number, graph, lists, figure, out)
+            draw_map(printer, form, number, graph, lists, figure, out)
         }
         EmbedFigure::NotPlanar(witness) => draw_witness(alloc, form, number, graph, witness, out),
+    }
+}
+
+// Keeps the memory of a drawing that is printed.
+fn keep_figure(drawer: &mut Drawer, figure: EmbedFigure) {
+    if let EmbedFigure::Drawn(_, drawing) = figure {
+        drawer.keep_schnyder(drawing);
     }
 }
 
 // Appends the figure of a graph with at least three vertices, which is served.
 fn serve_graph(
     alloc: Global,
-    tables: &mut Tables,
+    tools: &mut EmbedTools,
     form: Form,
     number: u32,
     graph: &Graph,
@@ -99,15 +100,16 @@ fn serve_graph(
     ensures served { IfOk result (λ served. served ≡ true) }
     ensures err { OnErr result (out.new.items ≡ out.old.items) }
 {
-    let figure = embed_figure_in(alloc, tables, graph)?;
-    push_figure(alloc, form, number, graph, &figure, out)?;
+    let figure = embed_figure_by(alloc, &mut tools.tables, &mut tools.drawer, graph)?;
+    push_figure(alloc, &mut tools.printer, form, number, graph, &figure, out)?;
+    keep_figure(&mut tools.drawer, figure);
     Ok(true)
 }
 
 // Appends the figure of a graph, or its refusal, and answers whether it was served.
 fn embed_line(
     alloc: Global,
-    tables: &mut Tables,
+    tools: &mut EmbedTools,
     form: Form,
     number: u32,
     graph: &Graph,
@@ -121,7 +123,7 @@ fn embed_line(
     if n < 3 {
         refuse(alloc, form, number, Refusal::Small(n), out)
     } else {
-        serve_graph(alloc, tables, form, number, graph, out)
+        serve_graph(alloc, tools, form, number, graph, out)
     }
 }
 
@@ -211,12 +213,20 @@ impl Format for GraphSource {
     }
 }
 
-/// The job `embed`, in a form. What its searches work in lives from graph to graph.
+/// What graphs are embedded, drawn and printed with. It lives from graph to graph.
+#[derive(Drop)]
+struct EmbedTools {
+    tables: Tables,
+    drawer: Drawer,
+    printer: FormPrinter,
+}
+
+/// The job `embed`, in a form.
 #[derive(Drop)]
 pub struct EmbedJob {
     alloc: Global,
     form: Form,
-    tables: Tables,
+    tools: EmbedTools,
 }
 
 impl EmbedJob {
@@ -227,7 +237,11 @@ impl EmbedJob {
         EmbedJob {
             alloc,
             form,
-            tables: Tables::new(),
+            tools: EmbedTools {
+                tables: Tables::new(),
+                drawer: Drawer::new(alloc),
+                printer: FormPrinter::new(alloc),
+            },
         }
     }
 }
@@ -247,7 +261,7 @@ impl RecordJob<GraphSource> for EmbedJob {
         given: &Graph,
         out: &mut Vec<u8>,
     ) -> Result<bool, AllocError> {
-        embed_line(self.alloc, &mut self.tables, self.form, number, given, out)
+        embed_line(self.alloc, &mut self.tools, self.form, number, given, out)
     }
 
     fn last_line(

@@ -6,7 +6,7 @@ ghost use Rattle.pigale_shell.specs.Forms.{commented as comment_of, line_in as l
 ghost use Rattle.figure_text.specs.Text.{HasRects};
 ghost use Rattle.pigale_shell.specs.EmbedText.{WritesWitness};
 
-use figure_text::{GridJob, print_bars, print_grid, print_rects, print_witness};
+use figure_text::{GridJob, Printer, print_witness};
 use graph6_text::Graph;
 use half_edges::Rotations;
 use kuratowski::Witness;
@@ -35,66 +35,6 @@ pub(crate) fn line_in(alloc: Global, form: Form, line: Vec<u8>) -> Result<Vec<u8
     }
 }
 
-/// Appends a straight-line drawing of a simple map in this form. When memory runs out the bytes are as they were.
-pub(crate) fn print_grid_in(
-    alloc: Global,
-    form: Form,
-    number: u32,
-    job: GridJob,
-    lists: &Rotations,
-    points: &Points,
-    out: &mut Vec<u8>,
-) -> Result<(), AllocError>
-    requires simple { IsSimpleMap lists.now }
-    requires points { length points.now ≡ length lists.now }
-    ensures ok { OnOk result (out.new.items ≡ out.old.items ++ grid_in form number job lists.now points.now) }
-    ensures err { OnErr result (out.new.items ≡ out.old.items) }
-{
-    match form {
-        Form::Text => print_grid(alloc, number, job, lists, points, out),
-        Form::Svg => svg_grid(alloc, lists, points, out),
-    }
-}
-
-/// Appends a visibility drawing of a simple map in this form. When memory runs out the bytes are as they were.
-pub(crate) fn print_bars_in(
-    alloc: Global,
-    form: Form,
-    number: u32,
-    lists: &Rotations,
-    bars: &BarFigure,
-    out: &mut Vec<u8>,
-) -> Result<(), AllocError>
-    requires simple { IsSimpleMap lists.now }
-    requires columns { HasColumns lists.now bars.now }
-    ensures ok { OnOk result (out.new.items ≡ out.old.items ++ bars_in form number lists.now bars.now) }
-    ensures err { OnErr result (out.new.items ≡ out.old.items) }
-{
-    match form {
-        Form::Text => print_bars(alloc, number, lists, bars, out),
-        Form::Svg => svg_bars(alloc, lists, bars, out),
-    }
-}
-
-/// Appends a rectangular dual in this form. When memory runs out the bytes are as they were.
-pub(crate) fn print_rects_in(
-    alloc: Global,
-    form: Form,
-    number: u32,
-    lists: &Rotations,
-    rects: &RectFigure,
-    out: &mut Vec<u8>,
-) -> Result<(), AllocError>
-    requires { HasRects lists.now rects.now }
-    ensures ok { OnOk result (out.new.items ≡ out.old.items ++ rects_in form number lists.now rects.now) }
-    ensures err { OnErr result (out.new.items ≡ out.old.items) }
-{
-    match form {
-        Form::Text => print_rects(alloc, number, lists, rects, out),
-        Form::Svg => svg_rects(alloc, lists, rects, out),
-    }
-}
-
 /// Appends a witness of a graph in this form. When memory runs out the bytes are as they were.
 pub(crate) fn print_witness_in(
     alloc: Global,
@@ -111,5 +51,82 @@ pub(crate) fn print_witness_in(
     match form {
         Form::Text => print_witness(alloc, number, graph, witness, out),
         Form::Svg => svg_witness(alloc, number, graph, witness, out),
+    }
+}
+
+/// Prints drawings in forms, one after another, and keeps its memory for the next.
+#[derive(Drop)]
+pub struct FormPrinter {
+    alloc: Global,
+    printer: Printer,
+}
+
+impl FormPrinter {
+    /// A printer that has printed nothing yet. It takes no memory.
+    pub(crate) fn new(alloc: Global) -> FormPrinter {
+        FormPrinter {
+            alloc,
+            printer: Printer::new(alloc),
+        }
+    }
+
+    /// Appends a straight-line drawing of a simple map in this form. When memory runs out the bytes are as they were.
+    pub(crate) fn print_grid(
+        &mut self,
+        form: Form,
+        number: u32,
+        job: GridJob,
+        lists: &Rotations,
+        points: &Points,
+        out: &mut Vec<u8>,
+    ) -> Result<(), AllocError>
+        requires simple { IsSimpleMap lists.now }
+        requires points { length points.now ≡ length lists.now }
+        ensures ok { OnOk result (out.new.items ≡ out.old.items ++ grid_in form number job lists.now points.now) }
+        ensures err { OnErr result (out.new.items ≡ out.old.items) }
+    {
+        match form {
+            Form::Text => self.printer.print_grid(number, job, lists, points, out),
+            Form::Svg => svg_grid(self.alloc, lists, points, out),
+        }
+    }
+
+    /// Appends a visibility drawing of a simple map in this form. When memory runs out the bytes are as they were.
+    pub(crate) fn print_bars(
+        &mut self,
+        form: Form,
+        number: u32,
+        lists: &Rotations,
+        bars: &BarFigure,
+        out: &mut Vec<u8>,
+    ) -> Result<(), AllocError>
+        requires simple { IsSimpleMap lists.now }
+        requires columns { HasColumns lists.now bars.now }
+        ensures ok { OnOk result (out.new.items ≡ out.old.items ++ bars_in form number lists.now bars.now) }
+        ensures err { OnErr result (out.new.items ≡ out.old.items) }
+    {
+        match form {
+            Form::Text => self.printer.print_bars(number, lists, bars, out),
+            Form::Svg => svg_bars(self.alloc, lists, bars, out),
+        }
+    }
+
+    /// Appends a rectangular dual in this form. When memory runs out the bytes are as they were.
+    pub(crate) fn print_rects(
+        &mut self,
+        form: Form,
+        number: u32,
+        lists: &Rotations,
+        rects: &RectFigure,
+        out: &mut Vec<u8>,
+    ) -> Result<(), AllocError>
+        requires { HasRects lists.now rects.now }
+        ensures ok { OnOk result (out.new.items ≡ out.old.items ++ rects_in form number lists.now rects.now) }
+        ensures err { OnErr result (out.new.items ≡ out.old.items) }
+    {
+        match form {
+            Form::Text => self.printer.print_rects(number, lists, rects, out),
+            Form::Svg => svg_rects(self.alloc, lists, rects, out),
+        }
     }
 }

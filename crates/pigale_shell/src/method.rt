@@ -33,7 +33,7 @@ pub trait Method: Drop {
 
     /// Appends, in a form, what was found of lists that it serves. When memory runs out the bytes are as they were.
     fn print(
-        alloc: Global,
+        &mut self,
         form: Form,
         number: u32,
         lists: &Rotations,
@@ -45,6 +45,9 @@ pub trait Method: Drop {
         requires figure { IsFigure lists.now figure.now }
         ensures text { OnOk result (Appends (says.IsText form number lists.now) out.old.items out.new.items) }
         ensures err { OnErr result (out.new.items ≡ out.old.items) };
+
+    /// Keeps the memory of a figure that is printed.
+    fn keep(&mut self, figure: Self::Figure);
 
     /// A law: no map is both served and refused, and each breaks one condition first.
     fn lawful()

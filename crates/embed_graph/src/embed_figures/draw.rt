@@ -9,7 +9,7 @@ use crate::answer::{FoundMap, Tested, refuted, settled, test_graph};
 use crate::graph_embeddings::Embedding;
 use embed_search::Tables;
 use graph6_text::Graph;
-use grid_figures::schnyder_figures::{plane_figure, schnyder_figure};
+use grid_figures::Drawer;
 use kuratowski::Witness;
 use map_lists::Rotations;
 use pg_plane::GridFigure;
@@ -26,23 +26,23 @@ pub enum EmbedFigure {
 }
 
 // The drawing of a map that the search found.
-fn drawn_found(alloc: Global, found: FoundMap) -> Result<EmbedFigure, AllocError>
+fn drawn_found(drawer: &mut Drawer, found: FoundMap) -> Result<EmbedFigure, AllocError>
     requires { IsPlaneMap 3 found.lists found.plane }
     ensures { (graph : EdgeGraph) → IsMapOf found.lists graph → IfOk result (IsEmbedFigure graph) }
 {
-    let figure = plane_figure(alloc, found.plane, &found.lists)?;
+    let figure = drawer.schnyder_plane(found.plane, &found.lists)?;
     Ok(EmbedFigure::Drawn(found.lists, figure))
 }
 
 // The drawing of another map of a graph.
-fn drawn(alloc: Global, graph: &Graph, lists: Rotations) -> Result<EmbedFigure, AllocError>
+fn drawn(drawer: &mut Drawer, graph: &Graph, lists: Rotations) -> Result<EmbedFigure, AllocError>
     requires some { 3 ≤ graph.now.n }
     requires map { IsMapOf lists graph.now }
     ensures { IfOk result (IsEmbedFigure graph.now) }
 {
     refusals::no_refusal_is_plane();
     let _n = graph.n();
-    match schnyder_figure(alloc, &lists) {
+    match drawer.schnyder_figure(&lists) {
         Ok(figure) => Ok(EmbedFigure::Drawn(lists, figure)),
         Err(Unserved::NoMemory) => Err(AllocError),
         // such a map breaks no condition
@@ -61,14 +61,28 @@ pub fn embed_figure_in(
     requires { 3 ≤ graph.now.n }
     ensures { IfOk result (IsEmbedFigure graph.now) }
 {
+    let mut drawer = Drawer::new(alloc);
+    embed_figure_by(alloc, tables, &mut drawer, graph)
+}
+
+/// Like [`embed_figure_in`], but by a drawer that may have drawn other maps before.
+pub fn embed_figure_by(
+    alloc: Global,
+    tables: &mut Tables,
+    drawer: &mut Drawer,
+    graph: &Graph,
+) -> Result<EmbedFigure, AllocError>
+    requires { 3 ≤ graph.now.n }
+    ensures { IfOk result (IsEmbedFigure graph.now) }
+{
     match test_graph(alloc, tables, graph)? {
-        Tested::Map(found) => drawn_found(alloc, found),
+        Tested::Map(found) => drawn_found(drawer, found),
         Tested::NoMap => {
             let witness = refuted(alloc, tables, graph)?;
             Ok(EmbedFigure::NotPlanar(witness))
         }
         Tested::Unsettled => match settled(alloc, tables, graph)? {
-            Embedding::Map(lists) => drawn(alloc, graph, lists),
+            Embedding::Map(lists) => drawn(drawer, graph, lists),
             Embedding::NotPlanar(witness) => Ok(EmbedFigure::NotPlanar(witness)),
         },
     }

@@ -34,7 +34,8 @@ fn order_figure(
     Ok(figure)
 }
 
-// As `plane_figure`, by tables that may have served other maps before.
+// The figure of a map with these lists that is counted, has genus zero and at least three vertices, by tables that may
+// have served other maps before.
 pub(crate) fn drawn_plane(
     tools: &mut Tools,
     woods: &mut WoodDrawer,
@@ -50,22 +51,6 @@ pub(crate) fn drawn_plane(
     let found = ordered_plane(tools, plane, lists)?;
     let figure = order_figure(woods, made_or(&found.made, lists), &found.order)?;
     tools.keep(found);
-    Ok(figure)
-}
-
-/// Like [`schnyder_figure`], but takes a map with these lists that is counted, has genus zero and at least three
-/// vertices. It fails only when out of memory.
-pub fn plane_figure(
-    alloc: Global,
-    plane: CountedMap,
-    lists: &Rotations,
-) -> Result<GridFigure, AllocError>
-    requires plane { IsPlaneMap 3 plane.map.lists plane }
-    requires lists { lists.now ≡ plane.map.lists }
-    ensures { IfOk result (IsSchnyderFigure plane.map.lists) }
-{
-    let mut drawer = Drawer::new(alloc);
-    let figure = drawer.schnyder_plane(plane, lists)?;
     Ok(figure)
 }
 

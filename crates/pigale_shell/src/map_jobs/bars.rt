@@ -1,5 +1,5 @@
 //! The job `bars`.
-use crate::form::print_bars_in;
+use crate::form::FormPrinter;
 use crate::method::Method;
 use half_edges::Rotations;
 use pg_plane::BarFigure;
@@ -12,6 +12,7 @@ use visibility::bar_figures::BarDrawer;
 #[derive(Drop)]
 pub struct Bars {
     drawer: BarDrawer,
+    printer: FormPrinter,
 }
 
 impl Method for Bars {
@@ -28,6 +29,7 @@ impl Method for Bars {
     fn new(alloc: Global) -> Bars {
         Bars {
             drawer: BarDrawer::new(alloc),
+            printer: FormPrinter::new(alloc),
         }
     }
 
@@ -36,14 +38,18 @@ impl Method for Bars {
     }
 
     fn print(
-        alloc: Global,
+        &mut self,
         form: Form,
         number: u32,
         lists: &Rotations,
         figure: &BarFigure,
         out: &mut Vec<u8>,
     ) -> Result<(), AllocError> {
-        print_bars_in(alloc, form, number, lists, figure, out)
+        self.printer.print_bars(form, number, lists, figure, out)
+    }
+
+    fn keep(&mut self, figure: BarFigure) {
+        self.drawer.keep(figure);
     }
 
     fn lawful() {

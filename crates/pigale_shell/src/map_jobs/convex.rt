@@ -1,5 +1,5 @@
 //! The job `convex`.
-use crate::form::print_grid_in;
+use crate::form::FormPrinter;
 use crate::method::Method;
 use convex_draw::convex_figures::ConvexDrawer;
 use figure_text::GridJob;
@@ -13,6 +13,7 @@ use std::alloc::{AllocError, Global};
 #[derive(Drop)]
 pub struct Convex {
     drawer: ConvexDrawer,
+    printer: FormPrinter,
 }
 
 impl Method for Convex {
@@ -29,6 +30,7 @@ impl Method for Convex {
     fn new(alloc: Global) -> Convex {
         Convex {
             drawer: ConvexDrawer::new(alloc),
+            printer: FormPrinter::new(alloc),
         }
     }
 
@@ -38,7 +40,7 @@ impl Method for Convex {
     }
 
     fn print(
-        alloc: Global,
+        &mut self,
         form: Form,
         number: u32,
         lists: &Rotations,
@@ -46,8 +48,11 @@ impl Method for Convex {
         out: &mut Vec<u8>,
     ) -> Result<(), AllocError> {
         let points = &figure.points;
-        print_grid_in(alloc, form, number, GridJob::Convex, lists, points, out)
+        self.printer
+            .print_grid(form, number, GridJob::Convex, lists, points, out)
     }
+
+    fn keep(&mut self, _figure: GridFigure) {}
 
     fn lawful() {
         convex_class::convex_maps::three_connected_break_nothing();

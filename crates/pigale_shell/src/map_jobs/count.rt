@@ -10,6 +10,7 @@ use std::alloc::{AllocError, Global};
 /// Counts vertices, edges, faces and components.
 #[derive(Drop)]
 pub struct Count {
+    alloc: Global,
     counter: Counter,
 }
 
@@ -28,6 +29,7 @@ impl Method for Count {
 
     fn new(alloc: Global) -> Count {
         Count {
+            alloc,
             counter: Counter::new(alloc),
         }
     }
@@ -38,16 +40,18 @@ impl Method for Count {
     }
 
     fn print(
-        alloc: Global,
+        &mut self,
         _form: Form,
         number: u32,
         _lists: &Rotations,
         figure: &EulerCount,
         out: &mut Vec<u8>,
     ) -> Result<(), AllocError> {
-        let line = count_line(alloc, number, figure)?;
+        let line = count_line(self.alloc, number, figure)?;
         out.extend_from_slice(&line)
     }
+
+    fn keep(&mut self, _figure: EulerCount) {}
 
     fn lawful() {}
 }

@@ -1,5 +1,5 @@
 //! The job `rect`.
-use crate::form::print_rects_in;
+use crate::form::FormPrinter;
 use crate::method::Method;
 use half_edges::Rotations;
 use pg_plane::RectFigure;
@@ -10,7 +10,9 @@ use std::alloc::{AllocError, Global};
 
 /// Draws a rectangle for each vertex.
 #[derive(Drop)]
-pub struct Rect;
+pub struct Rect {
+    printer: FormPrinter,
+}
 
 impl Method for Rect {
     ghost use Rattle.rect_dual.specs.Figures.{IsRectFigure};
@@ -23,8 +25,10 @@ impl Method for Rect {
 
     ghost IsFigure = { IsRectFigure };
 
-    fn new(_alloc: Global) -> Rect {
-        Rect
+    fn new(alloc: Global) -> Rect {
+        Rect {
+            printer: FormPrinter::new(alloc),
+        }
     }
 
     fn figure(&mut self, alloc: Global, lists: &Rotations) -> Result<RectFigure, Unserved> {
@@ -32,15 +36,17 @@ impl Method for Rect {
     }
 
     fn print(
-        alloc: Global,
+        &mut self,
         form: Form,
         number: u32,
         lists: &Rotations,
         figure: &RectFigure,
         out: &mut Vec<u8>,
     ) -> Result<(), AllocError> {
-        print_rects_in(alloc, form, number, lists, figure, out)
+        self.printer.print_rects(form, number, lists, figure, out)
     }
+
+    fn keep(&mut self, _figure: RectFigure) {}
 
     fn lawful() {
         rect_class::biconnected_break_nothing();

@@ -1,5 +1,5 @@
 //! The job `shift`.
-use crate::form::print_grid_in;
+use crate::form::FormPrinter;
 use crate::method::Method;
 use figure_text::GridJob;
 use grid_figures::Drawer;
@@ -13,6 +13,7 @@ use std::alloc::{AllocError, Global};
 #[derive(Drop)]
 pub struct Shift {
     drawer: Drawer,
+    printer: FormPrinter,
 }
 
 impl Method for Shift {
@@ -29,6 +30,7 @@ impl Method for Shift {
     fn new(alloc: Global) -> Shift {
         Shift {
             drawer: Drawer::new(alloc),
+            printer: FormPrinter::new(alloc),
         }
     }
 
@@ -37,7 +39,7 @@ impl Method for Shift {
     }
 
     fn print(
-        alloc: Global,
+        &mut self,
         form: Form,
         number: u32,
         lists: &Rotations,
@@ -46,7 +48,12 @@ impl Method for Shift {
     ) -> Result<(), AllocError> {
         refusals::no_refusal_is_plane();
         let points = &figure.points;
-        print_grid_in(alloc, form, number, GridJob::Shift, lists, points, out)
+        self.printer
+            .print_grid(form, number, GridJob::Shift, lists, points, out)
+    }
+
+    fn keep(&mut self, figure: GridFigure) {
+        self.drawer.keep_shift(figure);
     }
 
     fn lawful() {}

@@ -5,12 +5,12 @@ use Rattle.conn_parts.specs.Counted.{IsPlaneMap}
 use Rattle.grid_figures.specs.SchnyderFiguresFigures.{IsSchnyderFigure}
 use Rattle.embed_graph.proofs.embed_figures.draw.drawn_found.Goals as goal
 
-pub plane_figure-requires-clause-plane : goal.plane_figure-requires-clause-plane
-plane_figure-requires-clause-plane c =
+pub schnyder_plane-requires-clause-plane : goal.schnyder_plane-requires-clause-plane
+schnyder_plane-requires-clause-plane c =
     subst (λ (ls : Lists). IsPlaneMap 3 ls c.args.found.plane) (sym c.requires.counted.lists_are) c.requires
 
-pub plane_figure-requires-clause-lists : goal.plane_figure-requires-clause-lists
-plane_figure-requires-clause-lists c = sym c.requires.counted.lists_are
+pub schnyder_plane-requires-clause-lists : goal.schnyder_plane-requires-clause-lists
+schnyder_plane-requires-clause-lists c = sym c.requires.counted.lists_are
 
 pub returns : goal.returns
 returns c = λ graph map.

@@ -1,7 +1,7 @@
 -- The map that was found is one of the graph.
 use Rattle.std.proofs.Common.{subst}
 use Rattle.embed_graph.specs.Found.{IsTested}
-use Rattle.embed_graph.proofs.embed_figures.draw.embed_figure_in.Goals as goal
+use Rattle.embed_graph.proofs.embed_figures.draw.embed_figure_by.Goals as goal
 
 pub returns-in-Map : goal.returns-in-Map
 returns-in-Map c =
