@@ -7,8 +7,7 @@ use Rattle.std.proofs.lemmas.List.Elements.{Contains-get_or}
 use Rattle.std.proofs.Math.ListN.{get_or-append}
 use Rattle.std.proofs.Math.Seq.{take-append_seam}
 use Rattle.map_theory.specs.Maps.{Dart}
-use Rattle.left_right_check.specs.Ties.{turned}
-use Rattle.left_right_lists.specs.Groups.{Group, Demand, dart_place, group_at, group_of, IsPlaced, Fits, moved_group, AreMoved, AreMerged, AreMet, Meets, none_demanded}
+use Rattle.left_right_lists.specs.Groups.{turned, Group, Demand, dart_place, group_at, group_of, IsPlaced, Fits, moved_group, AreMoved, AreMerged, AreMet, Meets, none_demanded}
 
 -- ---- sides turned
 pub turned_twice : (a b c : Bool) → turned (turned a b) c ≡ turned a (turned b c)

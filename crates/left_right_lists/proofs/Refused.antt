@@ -9,10 +9,9 @@ use Rattle.simple_maps.specs.Faults.{first_fault}
 use Rattle.simple_maps.proofs.FaultLemmas.{IsSimpleMap-from_first_fault}
 use Rattle.embed_theorem.specs.ListGraphs.{graph_of}
 use Rattle.embed_theorem.proofs.Graphs.{just_edges}
-use Rattle.left_right_check.specs.Ties.{turned}
 use Rattle.left_right_lists.specs.Decided.{HasMap}
 use Rattle.left_right_lists.specs.Depths.{IsDepthBy}
-use Rattle.left_right_lists.specs.Groups.{Group, group_of}
+use Rattle.left_right_lists.specs.Groups.{turned, Group, group_of}
 
 -- the octahedron: six vertices, and twelve edges in a map of genus zero
 abbrev octahedron : Lists

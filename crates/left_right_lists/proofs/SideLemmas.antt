@@ -5,10 +5,9 @@ use Rattle.std.proofs.lemmas.List.{get_or_past}
 use Rattle.map_theory.specs.Maps.{Dart}
 use Rattle.graph6_text.specs.Graphs.{EdgeGraph}
 use Rattle.left_right_laws.specs.Forests.{up}
-use Rattle.left_right_check.specs.Ties.{turned}
 use Rattle.left_right_maps.proofs.Lines.{above_same, IsBelow, branch_below}
 use Rattle.left_right_lists.specs.Trees.{joined, AreSides, AreOfTree}
-use Rattle.left_right_lists.specs.Groups.{Group, Demand, dart_place, group_of, side_in, IsPlaced, Fits, AreMerged, AreMet, Meets, IsDemanded, Returns, IsForkMet, AreForksMet, IsStep, IsRising, AreRising}
+use Rattle.left_right_lists.specs.Groups.{turned, Group, Demand, dart_place, group_of, side_in, IsPlaced, Fits, AreMerged, AreMet, Meets, IsDemanded, Returns, IsForkMet, AreForksMet, IsStep, IsRising, AreRising}
 use Rattle.left_right_lists.proofs.GroupLemmas.{merged_none, merged_over}
 
 module _ (graph : EdgeGraph) (root : ℕ) (order number parents depths : List ℕ) (h : AreOfTree graph root order number parents depths) where

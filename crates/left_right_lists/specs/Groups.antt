@@ -1,11 +1,14 @@
 -- Groups of edges whose sides are known of each other, as a table by edge.
-use Rattle.std.specs.Prelude.{ℕ, ◌+◌, ◌*◌, ◌<◌, ◌≡◌, ◌≢◌, Bool, true, false, not, cond, eqb, List, length, slice_index, slice_index_or, Contains, ◌⊎◌, ◌↔◌}
+use Rattle.std.specs.Prelude.{ℕ, ◌+◌, ◌*◌, ◌<◌, ◌≡◌, ◌≢◌, Bool, true, false, not, cond, if◌then◌else◌, eqb, List, length, slice_index, slice_index_or, Contains, ◌⊎◌, ◌↔◌}
 use Rattle.map_theory.specs.Maps.{Dart}
 use Rattle.graph6_text.specs.Graphs.{EdgeGraph}
 use Rattle.left_right_laws.specs.Forests.{IsReturn}
-use Rattle.left_right_check.specs.Ties.{turned}
 use Rattle.left_right_maps.specs.Orders.{IsEdge}
 use Rattle.left_right_lists.specs.Trees.{joined, AreSides}
+
+-- a side, or the other one
+abbrev pub turned : Bool → Bool → Bool
+turned turn side = if turn then not side else side
 
 -- an edge's group, and whether it is on the other side than the group
 abbrev pub Group : Type 0

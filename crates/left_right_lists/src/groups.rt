@@ -1,7 +1,6 @@
 //! Groups of edges, each of which is on the side of its group or on the other one.
 ghost use Rattle.std.specs.Prelude.{◌≡◌, ◌+◌, ◌*◌, ◌<◌, ℕ, Bool, List, length, slice_index_or, IsTrue, IfOk, Contains};
-ghost use Rattle.left_right_check.specs.Ties.{turned as turn_of};
-ghost use Rattle.left_right_lists.specs.Groups.{Demand, IsPlaced, Fits, moved_group, AreMoved, AreMerged, AreMet, Meets, none_demanded, group_of, group_at, dart_place};
+ghost use Rattle.left_right_lists.specs.Groups.{turned as turn_of, Demand, IsPlaced, Fits, moved_group, AreMoved, AreMerged, AreMet, Meets, none_demanded, group_of, group_at, dart_place};
 
 use std::alloc::{AllocError, Global};
 

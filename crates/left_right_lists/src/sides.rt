@@ -9,8 +9,18 @@ use crate::forest::entry;
 use crate::groups::{single_groups, tie_all};
 use crate::returns::{Upward, returns_by};
 use graph6_text::Graph;
-use left_right_check::Fork;
 use std::alloc::{AllocError, Global};
+
+/// Two edges of a vertex, by their other ends.
+#[derive(Clone, Copy)]
+pub(crate) struct Fork {
+    // the vertex
+    vertex: u16,
+    // the end of the one edge
+    one: u16,
+    // the end of the other
+    other: u16,
+}
 
 // Whether one of some edges ends nearer to the root than a depth.
 fn has_lower(depths: &[u16], darts: &[(u16, u16)], depth: u16) -> bool
