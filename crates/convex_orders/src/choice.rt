@@ -2,7 +2,7 @@
 ghost use Rattle.std.specs.Prelude.{◌≡◌, ◌≢◌, ◌+◌, ◌<◌, ◌≤◌, ◌⊎◌, ◌↔◌, ℕ, suc, Bool, true, false, [], ◌∷◌, ◌++◌, length, slice_index, slice_set, Contains, IsTrue, IfOk};
 ghost use Rattle.map_theory.specs.Maps.{HasDart, list_of};
 ghost use Rattle.convex_orders.specs.Contours.{vertices_of, number_at, AreWithin, HaveNumbers, AreInner};
-ghost use Rattle.convex_orders.specs.Moved.{HaveSize};
+ghost use Rattle.convex_orders.specs.Moved.{AreLong};
 ghost use Rattle.convex_orders.specs.Shown.{is_set, IsChoice, GoesOffNear, GoesOffAt};
 ghost use Rattle.convex_orders.specs.Splits.{IsOpenAt, NoneSplit, AreRowsBelow, IsRemovableRow, IsRemovablePlace, IsGoneRun};
 ghost use Rattle.convex_orders.specs.Tables.{CanGo};
@@ -44,8 +44,7 @@ fn none_split(own: &[u32], marks: &[bool], places: &[u16], edges: &[u16]) -> boo
 // Returns whether vertex `v` of a contour may go.
 fn is_removable(tables: &Tables, marks: &[bool], counts: &Counts, v: usize) -> bool
     requires vertex { v < length tables.now.lists }
-    requires marks { length marks.now ≡ tables.now.faces.count }
-    requires counts { HaveSize counts.now tables.now.faces.count }
+    requires long { AreLong tables.now.faces.count marks.now counts.now }
     ensures { IsTrue result ↔ IsRemovableRow (list_of tables.now.faces.own v) (list_of tables.now.faces.other v) marks.now counts.now.places.items counts.now.edges.items }
 {
     let own = tables.faces.own.list(v);
@@ -60,8 +59,7 @@ fn seek(
     marks: &[bool],
     counts: &Counts,
 ) -> Result<bool, AllocError>
-    requires marks { length marks.now ≡ tables.now.faces.count }
-    requires counts { HaveSize counts.now tables.now.faces.count }
+    requires long { AreLong tables.now.faces.count marks.now counts.now }
     requires some { 0 < length contour.old.left.items }
     requires behind { 0 < length contour.old.right.items }
     requires vertices { AreWithin (vertices_of contour.old) (length tables.now.lists) }
@@ -97,8 +95,7 @@ fn seek_all(
     marks: &[bool],
     counts: &Counts,
 ) -> Result<(), AllocError>
-    requires marks { length marks.now ≡ tables.now.faces.count }
-    requires counts { HaveSize counts.now tables.now.faces.count }
+    requires long { AreLong tables.now.faces.count marks.now counts.now }
     requires vertices { AreWithin (vertices_of contour.old) (length tables.now.lists) }
     requires removable { (j : ℕ) × IsRemovablePlace tables.now.faces.own tables.now.faces.other marks.now counts.now.places.items counts.now.edges.items (vertices_of contour.old) j }
     ensures same { IfOk result (λ _. vertices_of contour.new ≡ vertices_of contour.old) }
@@ -119,8 +116,7 @@ pub(crate) fn find(
     marks: &[bool],
     counts: &Counts,
 ) -> Result<(), AllocError>
-    requires marks { length marks.now ≡ tables.now.faces.count }
-    requires counts { HaveSize counts.now tables.now.faces.count }
+    requires long { AreLong tables.now.faces.count marks.now counts.now }
     requires vertices { AreWithin (vertices_of contour.old) (length tables.now.lists) }
     requires some { 0 < length contour.old.left.items }
     requires removable { (j : ℕ) × IsRemovablePlace tables.now.faces.own tables.now.faces.other marks.now counts.now.places.items counts.now.edges.items (vertices_of contour.old) j }

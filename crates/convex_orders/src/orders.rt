@@ -19,7 +19,7 @@ use half_edges::{DartId, HalfMap};
 use map_lists::Rotations;
 use std::alloc::{AllocError, Global};
 
-// Lists as they are, in the memory of others.
+// Returns lists as they are, in the memory of others.
 fn copied(spent: Rotations, lists: &Rotations) -> Result<Rotations, AllocError>
     ensures { IfOk result (λ copy. copy ≡ lists.now) }
 {
@@ -31,8 +31,8 @@ fn copied(spent: Rotations, lists: &Rotations) -> Result<Rotations, AllocError>
     Ok(Rotations::from_parts(entries, ends))
 }
 
-/// Tables of a map for the dart from `tail` to `head` as its base: its lists, in the memory of others, and the numbers
-/// of its faces.
+/// Returns tables of a map for the dart from `tail` to `head` as its base: its lists, in the memory of others, and the
+/// numbers of its faces.
 pub fn tables_of(
     spent: Rotations,
     lists: &Rotations,
@@ -59,7 +59,7 @@ pub fn tables_of(
     })
 }
 
-// No rows, in the memory of others.
+// Returns no rows, in the memory of others.
 fn no_rows(spent: ConvexRows) -> ConvexRows
     ensures rows { result.rows ≡ [] }
     ensures cuts { result.cuts ≡ [] }
@@ -74,7 +74,7 @@ fn no_rows(spent: ConvexRows) -> ConvexRows
     ConvexRows { rows, cuts, news }
 }
 
-// So many zeros, in the memory of other numbers.
+// Returns `count` zeros, in the memory of other numbers.
 fn zeros(spent: Vec<u16>, count: usize) -> Result<Vec<u16>, AllocError>
     ensures { IfOk result (λ made. made.items ≡ replicate count 0) }
 {
@@ -84,7 +84,7 @@ fn zeros(spent: Vec<u16>, count: usize) -> Result<Vec<u16>, AllocError>
     Ok(made)
 }
 
-// So many zeros for numbers of faces, in the memory of others.
+// Returns `count` zeros for numbers of faces, in the memory of others.
 fn wide_zeros(spent: Vec<u32>, count: usize) -> Result<Vec<u32>, AllocError>
     ensures { IfOk result (λ made. made.items ≡ replicate count 0) }
 {
@@ -94,7 +94,7 @@ fn wide_zeros(spent: Vec<u32>, count: usize) -> Result<Vec<u32>, AllocError>
     Ok(made)
 }
 
-// So many marks that are set, in the memory of others.
+// Returns `count` marks that are set, in the memory of others.
 fn all_set(spent: Vec<bool>, count: usize) -> Result<Vec<bool>, AllocError>
     ensures { IfOk result (λ made. made.items ≡ replicate count true) }
 {
@@ -104,7 +104,7 @@ fn all_set(spent: Vec<bool>, count: usize) -> Result<Vec<bool>, AllocError>
     Ok(made)
 }
 
-// Tables before the first removal of a run, in the memory of others.
+// Returns tables before the first removal of a run, in the memory of others.
 fn blank(spent: RowTables, tables: &Tables) -> Result<RowTables, AllocError>
     ensures { IfOk result (λ made. IsBlank tables.now made) }
 {
@@ -143,8 +143,8 @@ fn blank(spent: RowTables, tables: &Tables) -> Result<RowTables, AllocError>
     })
 }
 
-/// The rows of a run of a three-connected map of genus zero by its tables, in the memory of other rows. It fails only
-/// when out of memory.
+/// Returns the rows of a run of a three-connected map of genus zero by its tables, in the memory of other rows. It fails
+/// only when out of memory.
 ///
 /// The run makes all faces but that of the base. Its first two ranks stand for the base's head and its tail, and the
 /// last one for the vertex before the base on the base's face.
