@@ -21,12 +21,6 @@ module _ (t : Tables) (s mid : RowTables) (first end x : ℕ) (marks : List Bool
   same : s.marks.items ≡ marks
   same = sym (read ∙ ap (λ m. m.items) same_marks)
 
-  pub marks_long : length marks ≡ t.faces.count
-  marks_long = subst (λ m. length m ≡ t.faces.count) same kept.marks_long
-
-  pub rims_long : AreRims mid.rims (length t.lists)
-  rims_long = subst (λ r. AreRims r (length t.lists)) (sym same_rims) kept.rims
-
   inner : AreInner t.lists t.faces.own (vertices_of s.contour) mid.rims.inner.items
   inner = subst (λ (r : Rims). AreInner t.lists t.faces.own (vertices_of s.contour) r.inner.items) (sym same_rims) kept.inner
 

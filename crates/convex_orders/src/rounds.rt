@@ -53,7 +53,7 @@ fn clear_before_base(marks: &mut [bool], own: &ItemLists<u32>, ws: &[u16])
 }
 
 impl RowTables {
-    /// Tables of no run. They take no memory.
+    /// Returns tables of no run. They take no memory.
     pub fn new(alloc: Global) -> RowTables {
         RowTables {
             rows: ConvexRows {
