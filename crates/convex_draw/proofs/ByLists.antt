@@ -3,7 +3,7 @@ use Rattle.std.proofs.Common.{◌≡◌, ℕ, ◌+◌, ◌<◌, ◌≤◌, List,
 use Rattle.map_lists.specs.Lists.{Lists}
 use Rattle.map_theory.specs.Maps.{IsPlane, HasDart, list_of, face_count}
 use Rattle.convex_peeling.proofs.Neighbours.{three_neighbours}
-use Rattle.convex_orders.specs.declared.rounds.Tables.{Tables}
+use Rattle.convex_orders.specs.declared.tables.Tables.{Tables}
 use Rattle.std.proofs.lemmas.List.Elements.{Contains-get_or}
 use Rattle.pg_plane.specs.declared.point.Point.{Point}
 use Rattle.pg_plane.specs.declared.figure.GridFigure.{GridFigure}

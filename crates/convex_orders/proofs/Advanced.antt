@@ -1,5 +1,5 @@
 -- What a removal does to the two stacks and the counts: what is taken out, gone along and put in.
-use Rattle.std.proofs.Common.{◌≡◌, ℕ, suc, ◌+◌, ◌-◌, ◌<◌, ◌≤◌, Bool, eqb, List, [], ◌∷◌, ◌++◌, length, slice_index, refl, sym, ap, ap₂, ◌∙◌, subst, inl, inr, arith}
+use Rattle.std.proofs.Common.{◌≡◌, ◌≢◌, ℕ, suc, ◌+◌, ◌-◌, ◌<◌, ◌≤◌, Bool, eqb, List, [], ◌∷◌, ◌++◌, length, slice_index, refl, sym, ap, ap₂, ◌∙◌, subst, inl, inr, arith}
 use Rattle.std.specs.Prelude.{reverse, slice_range}
 use Rattle.std.proofs.lemmas.Bool.{cases_lt}
 use Rattle.std.proofs.lemmas.List.{get_or_append_left, get_or-append_right}
@@ -14,15 +14,21 @@ use Rattle.convex_orders.specs.FaceNumbers.{entry, AreFaceNumbers}
 use Rattle.convex_peeling.proofs.PolyhedralLemmas.{three_connected_is_polyhedral}
 use Rattle.convex_laws.specs.declared.convex_rows.rows.ConvexRows.{ConvexRows}
 use Rattle.convex_laws.specs.Removed.{IsRowMore}
-use Rattle.convex_orders.specs.Contours.{contour_of, AreEdges, inner_number}
+use Rattle.convex_orders.specs.declared.counts.Counts.{Counts}
+use Rattle.convex_orders.specs.declared.rims.Rims.{Rims}
+use Rattle.convex_orders.specs.declared.way.Way.TheVariants.{Comes, Goes}
+use Rattle.convex_orders.specs.Contours.{contour_of, AreEdges, AreInner, inner_number, number_at}
 use Rattle.convex_orders.specs.Counts.{met_at, met_below, met_between, edges_between, AreCounts}
+use Rattle.convex_orders.specs.Moved.{CanMoveAll, AreMoved}
+use Rattle.convex_orders.specs.Noted.{AreNoted}
 use Rattle.convex_orders.proofs.Moves.{length-contour}
 use Rattle.convex_orders.proofs.CountLemmas.{IsSpliced, counts_spliced, met_spliced, edges_spliced, edges_le}
 use Rattle.convex_orders.specs.Shown.{IsBased, IsListOf, IsOffAt, IsTrace, SomeTrace}
-use Rattle.convex_orders.specs.Cuts.{AreCutPlaces, SomeCutPlaces, IsCutRow, IsPutIn, IsTakenOut}
+use Rattle.convex_orders.specs.Cuts.{edge_number, AreCutPlaces, IsCutRow, IsPutIn, IsTakenOut}
 use Rattle.convex_orders.proofs.Once.{number_once}
 use Rattle.convex_orders.proofs.Traced.{contour_short}
-use Rattle.convex_orders.proofs.RowLemmas.{us_edges, us_back, us_in, cut_places, row_of}
+use Rattle.convex_orders.proofs.CutLemmas.{cuts_same}
+use Rattle.convex_orders.proofs.RowLemmas.{us_back, us_in, cut_places, row_of}
 
 module _ (lists own other : Lists) (count s d : ℕ) (based : IsBased lists s d) (n : AreFaceNumbers lists own other count) (marks : List Bool) (ws : List ℕ) (first end : ℕ) (alive : ℕ → Bool) (w : ℕ → ℕ) (r : ℕ) (o : Removal) (at : IsOffAt lists own marks s d ws first end alive w r o) where
   abbrev simple : IsSimpleMap lists
@@ -42,16 +48,6 @@ module _ (lists own other : Lists) (count s d : ℕ) (based : IsBased lists s d)
 
   pub within : end < length ws
   within = let b = at.end_is in let gone = gone_within lists alive w r o off in let long = ws_long in omega arith
-
-  pub ws_in : (i : ℕ) → i < length ws → slice_index ws i < length lists
-  ws_in i l = let long = ws_long in subst (λ v. v < length lists) (sym (at.off_by.list.each i (omega arith))) (at.off_by.contour.edge i (omega arith)).dart.0
-
-  pub ws_edges : AreEdges lists ws
-  ws_edges i l =
-      let long = ws_long in
-      let list = at.off_by.list in
-      let back = simple.both_ways (w i) (w (suc i)) (at.off_by.contour.edge i (omega arith)).dart in
-      subst (λ v. HasDart lists v (slice_index ws i)) (sym (list.each (suc i) (omega arith))) (subst (HasDart lists (w (suc i))) (sym (list.each i (omega arith))) back)
 
   module _ (left right : List ℕ) (x : ℕ) (old mid : ConvexRows) (out : IsTakenOut ws left right x first end old mid) where
     -- what is left before the place goes on to the vertex at the end
@@ -80,18 +76,15 @@ module _ (lists own other : Lists) (count s d : ℕ) (based : IsBased lists s d)
     some_trace = record { alive = o.alive; w = o.contour; r = o.places; a = first; b = o.last; trace = trace_from }
 
     -- what is gone along from there on
-    module _ (us : List ℕ) (traced : (alive : ℕ → Bool) (w : ℕ → ℕ) (r a b : ℕ) → IsTrace lists own marks left x alive w r a b → IsListOf us w b) where
+    module _ (us : List ℕ) (traced : (alive : ℕ → Bool) (w : ℕ → ℕ) (r a b : ℕ) → IsTrace lists own marks left x alive w r a b → IsListOf us w b) (rims rims' : Rims) (traces : (alive : ℕ → Bool) (w : ℕ → ℕ) (r a b : ℕ) → IsTrace lists own marks left x alive w r a b → AreNoted lists own w a b rims rims') (are : AreInner lists own ws rims.inner.items) where
       list : IsListOf us o.contour o.last
       list = traced o.alive o.contour o.places first o.last trace_from
 
-      pub put_in : (i : ℕ) → i < length us → slice_index us i < length lists
+      put_in : (i : ℕ) → i < length us → slice_index us i < length lists
       put_in = us_in lists own other count simple n marks s d ws us alive w r o at.off_by list
 
-      pub put_back : AreEdges lists us
+      put_back : AreEdges lists us
       put_back = us_back lists own other count simple n marks s d ws us alive w r o at.off_by list
-
-      pub put_edges : (i : ℕ) → suc i < length us → HasDart lists (slice_index us i) (slice_index us (suc i))
-      put_edges = us_edges lists own other count simple n marks s d ws us alive w r o at.off_by list
 
       us_long : length us ≡ suc o.last
       us_long = list.long
@@ -120,7 +113,7 @@ module _ (lists own other : Lists) (count s d : ℕ) (based : IsBased lists s d)
             ];
           }
 
-      pub spliced : IsSpliced ws (contour_of us right) first end o.last
+      spliced : IsSpliced ws (contour_of us right) first end o.last
       spliced =
           let f = at.first_is in
           let e = at.end_is in
@@ -142,10 +135,10 @@ module _ (lists own other : Lists) (count s d : ℕ) (based : IsBased lists s d)
           }
 
       -- the parts of the list before the place are those of the contour
-      pub us_at : (i : ℕ) → i < length us → slice_index (contour_of us right) i ≡ slice_index us i
+      us_at : (i : ℕ) → i < length us → slice_index (contour_of us right) i ≡ slice_index us i
       us_at i l = get_or_append_left us (reverse right) 0 i l
 
-      pub new_short : length (contour_of us right) < 4096 → (f : ℕ) → met_below own (contour_of us right) (length (contour_of us right)) f < 4096
+      new_short : length (contour_of us right) < 4096 → (f : ℕ) → met_below own (contour_of us right) (length (contour_of us right)) f < 4096
       new_short few f =
           let polyhedral = three_connected_is_polyhedral lists based.three based.plane in
           let long = new_list.long in
@@ -184,32 +177,107 @@ module _ (lists own other : Lists) (count s d : ℕ) (based : IsBased lists s d)
       new_short_all : length (contour_of us right) ≤ length lists
       new_short_all = let long = new_list.long in let short = contour_short lists o.alive o.contour o.places next in omega arith
 
-      new_cuts : AreCutPlaces lists own us first (length us - 1) o.faces o.cut
-      new_cuts = subst (λ f. AreCutPlaces lists own us f (length us - 1) o.faces o.cut) at.first_is (subst (λ l. AreCutPlaces lists own us o.first l o.faces o.cut) (sym last_is) (cut_places lists own other count simple n marks s d ws us alive w r o at.off_by list))
+      noted : AreNoted lists own o.contour first o.last rims rims'
+      noted = traces o.alive o.contour o.places first o.last trace_from
 
-      pub some_cuts : SomeCutPlaces lists own us first (length us - 1)
-      some_cuts = record { faces = o.faces; cut = o.cut; are = new_cuts }
+      -- at other places the table is as before
+      stays : (i : ℕ) → i ≤ o.places → ((j : ℕ) → first ≤ j → j < o.last → j ≢ i) → slice_index rims'.inner.items (o.contour i) ≡ slice_index rims.inner.items (o.contour i)
+      stays i l apart =
+          let inside = off.within in
+          noted.inner.elsewhere (o.contour i) (λ j m n e. apart j m n (next.distinct j i (omega arith) l e))
 
-      module _ (few : length lists < 4096) (places edges places' edges' : List ℕ) (counts : AreCounts lists own count ws places edges) (less : (f : ℕ) → f < count → slice_index places' f + met_between own ws first end f ≡ slice_index places f) (less' : (f : ℕ) → f < count → slice_index edges' f + edges_between lists own ws first end f ≡ slice_index edges f) where
-        pub room : (f : ℕ) → f < count → slice_index places' f + met_between own us first (length us - 1) f < 65536
-        room f l =
-            let short = new_short_all in
-            omega (arith, counts.places_are f l, less f l, met_same f, met_spliced lists own ws (contour_of us right) first end o.last spliced f, new_short (omega arith) f)
+      old_number : (k : ℕ) → k < r → slice_index rims.inner.items (w k) ≡ entry lists own (w (suc k)) (w k)
+      old_number k l =
+          let long = ws_long in
+          let list = at.off_by.list in
+          ap (slice_index rims.inner.items) (sym (list.each k (omega arith))) ∙ (are.numbers k (omega arith) ∙ ap₂ (entry lists own) (list.each (suc k) l) (list.each k (omega arith)))
 
-        pub room_edges : (f : ℕ) → f < count → slice_index edges' f + edges_between lists own us first (length us - 1) f < 65536
-        room_edges f l =
-            let short = new_short_all in
-            let long = ws_long in
-            let long' = new_list.long in
-            let most = edges_le lists own (contour_of us right) o.places f in
-            omega (arith, counts.edges_are f r l (sym long), less' f l, edges_same f, edges_spliced lists own ws (contour_of us right) first end o.last spliced f r o.places (sym long) (sym long'), most)
+      -- the numbers along the new contour
+      number : (i : ℕ) → i < o.places → slice_index rims'.inner.items (o.contour i) ≡ entry lists own (o.contour (suc i)) (o.contour i)
+      number i l =
+          let f = at.first_is in
+          let lt = first_lt lists alive w r o off in
+          let gone = gone_within lists alive w r o off in
+          let inside = off.within in
+          let width = off.width in
+          elim (cases_lt i first) [
+            | inl low ↦
+                let here = off.before i (omega arith) in
+                let there = off.before (suc i) (omega arith) in
+                stays i (omega arith) (λ j m n e. omega arith)
+                ∙ (ap (slice_index rims.inner.items) here ∙ (old_number i (omega arith) ∙ sym (ap₂ (entry lists own) there here)))
+            | inr most ↦ elim (cases_lt i o.last) [
+              | inl between ↦ noted.inner.here i most between
+              | inr high ↦
+                  let q : ℕ = i - o.last in
+                  let k : ℕ = o.first + o.vertices + 1 + q in
+                  let z : o.last + q ≡ i = omega arith in
+                  let z' : o.last + suc q ≡ suc i = omega arith in
+                  let y : o.first + o.vertices + 1 + suc q ≡ suc k = omega arith in
+                  let here : o.contour i ≡ w k = ap o.contour (sym z) ∙ off.behind q in
+                  let there : o.contour (suc i) ≡ w (suc k) = ap o.contour (sym z') ∙ (off.behind (suc q) ∙ ap w y) in
+                  stays i (omega arith) (λ j m n e. omega arith)
+                  ∙ (ap (slice_index rims.inner.items) here ∙ (old_number k (omega arith) ∙ sym (ap₂ (entry lists own) there here)))
+            ]
+          ]
 
-        pub new_counts : (places'' edges'' : List ℕ) → length places'' ≡ count → length edges'' ≡ count → ((f : ℕ) → f < count → slice_index places'' f ≡ slice_index places' f + met_between own us first (length us - 1) f) → ((f : ℕ) → f < count → slice_index edges'' f ≡ slice_index edges' f + edges_between lists own us first (length us - 1) f) → AreCounts lists own count (contour_of us right) places'' edges''
-        new_counts places'' edges'' l l' more more' =
-            counts_spliced lists own ws (contour_of us right) first end o.last spliced count places edges places' edges' places'' edges'' counts l l' less less' (λ f m. more f m ∙ ap (λ z. slice_index places' f + z) (met_same f)) (λ f m. more' f m ∙ ap (λ z. slice_index edges' f + z) (edges_same f))
+      pub us_inner : AreInner lists own us rims'.inner.items
+      us_inner =
+          let long = us_long in
+          let inside = off.within in
+          record {
+            long = noted.inner.long ∙ are.long;
+            vertices = put_in;
+            edges = put_back;
+            numbers = λ i l. ap (slice_index rims'.inner.items) (list.each i (omega arith)) ∙ (number i (omega arith) ∙ sym (ap₂ (entry lists own) (list.each (suc i) (omega arith)) (list.each i (omega arith))));
+          }
+
+      pub new_inner : AreInner lists own (contour_of us right) rims'.inner.items
+      new_inner =
+          let long = new_list.long in
+          record {
+            long = noted.inner.long ∙ are.long;
+            vertices = λ i l. subst (λ v. v < length lists) (sym (new_list.each i (omega arith))) (next.edge i (omega arith)).dart.0;
+            edges = λ i l.
+                let back = simple.both_ways (o.contour i) (o.contour (suc i)) (next.edge i (omega arith)).dart in
+                subst (λ v. HasDart lists v (slice_index (contour_of us right) i)) (sym (new_list.each (suc i) (omega arith))) (subst (HasDart lists (o.contour (suc i))) (sym (new_list.each i (omega arith))) back);
+            numbers = λ i l. ap (slice_index rims'.inner.items) (new_list.each i (omega arith)) ∙ (number i (omega arith) ∙ sym (ap₂ (entry lists own) (new_list.each (suc i) (omega arith)) (new_list.each i (omega arith))));
+          }
+
+      -- the numbers on the other side are those of the faces that are taken off
+      new_cuts : AreCutPlaces (number_at rims'.outer.items us) first (length us - 1) o.faces o.cut
+      new_cuts =
+          let long = us_long in
+          let inside = off.within in
+          let places = subst (λ f. AreCutPlaces (edge_number lists own us) f (length us - 1) o.faces o.cut) at.first_is (subst (λ l. AreCutPlaces (edge_number lists own us) o.first l o.faces o.cut) (sym last_is) (cut_places lists own other count simple n marks s d ws us alive w r o at.off_by list)) in
+          cuts_same (edge_number lists own us) first (length us - 1) o.faces o.cut places (number_at rims'.outer.items us)
+          (λ p l m. ap (slice_index rims'.outer.items) (list.each p (omega arith)) ∙ (noted.outer.here p l (omega arith) ∙ sym (ap₂ (entry lists own) (list.each p (omega arith)) (list.each (suc p) (omega arith)))))
+
+      module _ (few : length lists < 4096) (was now : Counts) (counts : AreCounts lists own count ws was.places.items was.edges.items) (less : AreMoved lists own count Goes ws first end was now) where
+        pub can_come : CanMoveAll lists own count Comes us first (length us - 1) now
+        can_come = record {
+          places = λ f l.
+              let short = new_short_all in
+              omega (arith, counts.places_are f l, less.places f l, met_same f, met_spliced lists own ws (contour_of us right) first end o.last spliced f, new_short (omega arith) f);
+          edges = λ f l.
+              let short = new_short_all in
+              let long = ws_long in
+              let long' = new_list.long in
+              let most = edges_le lists own (contour_of us right) o.places f in
+              omega (arith, counts.edges_are f r l (sym long), less.edges f l, edges_same f, edges_spliced lists own ws (contour_of us right) first end o.last spliced f r o.places (sym long) (sym long'), most);
+        }
+
+        pub new_counts : (new : Counts) → AreMoved lists own count Comes us first (length us - 1) now new → AreCounts lists own count (contour_of us right) new.places.items new.edges.items
+        new_counts new more =
+            counts_spliced lists own ws (contour_of us right) first end o.last spliced count was now new counts less
+            (record {
+              size = more.size;
+              places = λ f l. more.places f l ∙ ap (λ z. slice_index now.places.items f + z) (met_same f);
+              edges = λ f l. more.edges f l ∙ ap (λ z. slice_index now.edges.items f + z) (edges_same f);
+            })
 
       -- the row of the removal
-      pub row_more : (new : ConvexRows) → ((faces : ℕ) (cut : ℕ → ℕ) → AreCutPlaces lists own us first (length us - 1) faces cut → IsPutIn us first (length us - 1) faces cut mid new) → IsRowMore lists w o old new
+      pub row_more : (new : ConvexRows) → ((faces : ℕ) (cut : ℕ → ℕ) → AreCutPlaces (number_at rims'.outer.items us) first (length us - 1) faces cut → IsPutIn us first (length us - 1) faces cut mid new) → IsRowMore lists w o old new
       row_more new put =
           let p = put o.faces o.cut new_cuts in
           let f = at.first_is in

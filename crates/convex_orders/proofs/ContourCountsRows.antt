@@ -1,12 +1,11 @@
 -- Darts by the rows of their numbers.
-use Rattle.std.proofs.Common.{◌≡◌, ◌↔◌, ℕ, suc, ◌+◌, ◌<◌, List, length, slice_index, get_or, Contains, sym, ap, ◌∙◌, subst, arith}
+use Rattle.std.proofs.Common.{◌≡◌, ◌↔◌, ℕ, ◌<◌, length, slice_index, get_or, Contains, sym, ap, ◌∙◌, subst, arith}
 use Rattle.std.proofs.lemmas.List.Elements.{Contains-get_or}
 use Rattle.map_lists.specs.Lists.{Lists}
 use Rattle.map_theory.specs.Maps.{list_of, HasDart, IsSimpleMap, place_of}
 use Rattle.map_theory.proofs.DartLemmas.{HasDart-at, place_of-get_or, place_of-lt-length, get_or-place_of}
 use Rattle.convex_peeling.specs.Contours.{face_of, Passes}
 use Rattle.convex_orders.specs.FaceNumbers.{entry, IsTable, AreFaceNumbers}
-use Rattle.convex_orders.specs.Contours.{inner_number}
 
 -- the entry of a dart stands in its row
 pub entry_within : (lists table : Lists) (count : ℕ) → IsTable lists table count → (x y : ℕ) → HasDart lists x y → place_of y (list_of lists x) < length (list_of table x)
@@ -14,13 +13,6 @@ entry_within lists table count t x y has = let l = place_of-lt-length y (list_of
 
 pub entry-lt : (lists table : Lists) (count : ℕ) → IsTable lists table count → (x y : ℕ) → HasDart lists x y → entry lists table x y < count
 entry-lt lists table count t x y has = t.below x (place_of y (list_of lists x)) has.0 (entry_within lists table count t x y has)
-
--- the number of the edge from place i on, as the code reads it
-pub edge_number_in : (lists own : Lists) (count : ℕ) → IsTable lists own count → (ws : List ℕ) (i x : ℕ) → HasDart lists (get_or ws (suc i) 0) (get_or ws i 0) → x ≡ entry lists own (get_or ws (i + 1) 0) (get_or ws i 0) → (x ≡ inner_number lists own ws i) × (x < count)
-edge_number_in lists own count table ws i x has e =
-    let z : i + 1 ≡ suc i = omega arith in
-    let is = e ∙ ap (λ k. entry lists own (get_or ws k 0) (get_or ws i 0)) z in
-    (is, subst (λ n. n < count) (sym is) (entry-lt lists own count table (get_or ws (suc i) 0) (get_or ws i 0) has))
 
 pub Contains-entry : (lists table : Lists) (count : ℕ) → IsTable lists table count → (x y : ℕ) → HasDart lists x y → Contains (list_of table x) (entry lists table x y)
 Contains-entry lists table count t x y has = Contains-get_or (list_of table x) (place_of y (list_of lists x)) 0 (entry_within lists table count t x y has)

@@ -1,27 +1,30 @@
 -- Counts along lists, one vertex or edge more at a time, and after a part went and another came.
-use Rattle.std.proofs.Common.{◌≡◌, ◌≢◌, ℕ, suc, ◌+◌, ◌-◌, ◌<◌, ◌≤◌, Bool, true, false, cond, eqb, List, length, get_or, slice_index, take, set, get_or-set_same, get_or-set_other, count_by, All, refl, sym, ap, ◌∙◌, subst, inl, inr, arith, eq-eqb, ne_eqb}
-use Rattle.std.specs.Prelude.{slice_range}
+use Rattle.std.proofs.Common.{◌≡◌, ℕ, suc, ◌+◌, ◌-◌, ◌<◌, ◌≤◌, cond, eqb, List, length, get_or, slice_index, take, set, get_or-set_same, get_or-set_other, count_by, All, refl, sym, ap, ◌∙◌, subst, inl, inr, arith, eq-eqb, ne_eqb}
+use Rattle.std.specs.Prelude.{slice_range, ◌++◌}
+use Rattle.std.proofs.Math.Seq.{take-append_seam}
 use Rattle.std.proofs.lemmas.Bool.{cases_eq}
-use Rattle.std.proofs.lemmas.List.Sums.{sum_by-take-le, count_by_more_yes}
+use Rattle.std.proofs.lemmas.List.Sums.{sum_by-take-le, count_by_more_yes, count_by_more_no}
 use Rattle.std.proofs.lemmas.List.{get_or_default}
 use Rattle.simple_maps.proofs.FlatLemmas.{get_or-slice_range, length-slice_range}
 use Rattle.classes.specs.Classes.{count_below}
 use Rattle.classes.proofs.Counting.{count_below_same, count_below-le}
 use Rattle.map_lists.specs.Lists.{Lists}
-use Rattle.map_theory.specs.Maps.{list_of, HasDart}
+use Rattle.map_theory.specs.Maps.{list_of}
 use Rattle.map_theory.proofs.DartCounts.{sum_below, sum_below-same}
 use Rattle.convex_orders.specs.FaceNumbers.{entry, IsTable}
-use Rattle.convex_orders.specs.Contours.{AreEdges, inner_number}
-use Rattle.convex_orders.specs.Counts.{met_at, met_below, edges_below, met_between, edges_between, AreCounts}
+use Rattle.convex_orders.specs.declared.counts.Counts.{Counts}
+use Rattle.convex_orders.specs.declared.way.Way.{Way}
+use Rattle.convex_orders.specs.declared.way.Way.TheVariants.{Comes, Goes}
+use Rattle.convex_orders.specs.Contours.{inner_number, number_at, AreInner}
+use Rattle.convex_orders.specs.Counts.{met_at, met_below, numbered_below, edges_below, met_between, edges_between, AreCounts}
+use Rattle.convex_orders.specs.Moved.{AreMoved}
+use Rattle.convex_orders.specs.Ways.{CanMove, IsMoved}
+use Rattle.convex_orders.proofs.ContourCountsRows.{entry-lt}
 use Rattle.convex_orders.proofs.Sums.{sum_below-three, sum_below-mono, count_below-three, count_below-mono}
 
--- an entry is not among those before it as often as in the whole list
-pub counted_before : (us : List ℕ) (i : ℕ) → i < length us → count_by (λ u. eqb u (get_or us i 0)) (take i us) + 1 ≤ count_by (λ u. eqb u (get_or us i 0)) us
-counted_before us i l =
-    let p : ℕ → Bool = λ u. eqb u (get_or us i 0) in
-    let more = count_by_more_yes p us i 0 l (eq-eqb (get_or us i 0) (get_or us i 0) refl) in
-    let le = sum_by-take-le (λ u. cond (p u) 1 0) us (i + 1) in
-    omega (arith, more, le)
+-- the first entries have a number at most as often as all
+pub entries_to : (us : List ℕ) (n f : ℕ) → count_by (λ u. eqb u f) (take n us) ≤ count_by (λ u. eqb u f) us
+entries_to us n f = sum_by-take-le (λ u. cond (eqb u f) 1 0) us n
 
 -- one place more
 pub met_more : (own : Lists) (ws : List ℕ) (i f : ℕ) → met_below own ws (i + 1) f ≡ met_below own ws i f + met_at own f (slice_index ws i)
@@ -30,11 +33,11 @@ met_more own ws i f = let z : i + 1 ≡ suc i = omega arith in ap (λ n. met_bel
 pub met_within : (own : Lists) (ws : List ℕ) (i n f : ℕ) → i < n → met_below own ws i f + met_at own f (slice_index ws i) ≤ met_below own ws n f
 met_within own ws i n f l = omega (arith, met_more own ws i f, sum_below-mono (λ k. met_at own f (slice_index ws k)) (i + 1) n (omega arith))
 
-pub edges_more : (lists own : Lists) (ws : List ℕ) (i f : ℕ) → edges_below lists own ws (i + 1) f ≡ edges_below lists own ws i f + cond (eqb (inner_number lists own ws i) f) 1 0
-edges_more lists own ws i f = let z : i + 1 ≡ suc i = omega arith in ap (λ n. edges_below lists own ws n f) z
+pub numbered_more : (number : ℕ → ℕ) (i f : ℕ) → numbered_below number (i + 1) f ≡ numbered_below number i f + cond (eqb (number i) f) 1 0
+numbered_more number i f = let z : i + 1 ≡ suc i = omega arith in ap (λ n. numbered_below number n f) z
 
-pub edges_to : (lists own : Lists) (ws : List ℕ) (i n f : ℕ) → i < n → edges_below lists own ws (i + 1) f ≤ edges_below lists own ws n f
-edges_to lists own ws i n f l = count_below-mono (λ k. eqb (inner_number lists own ws k) f) (i + 1) n (omega arith)
+pub numbered_to : (number : ℕ → ℕ) (i n f : ℕ) → i < n → numbered_below number (i + 1) f ≤ numbered_below number n f
+numbered_to number i n f l = count_below-mono (λ k. eqb (number k) f) (i + 1) n (omega arith)
 
 pub edges_le : (lists own : Lists) (ws : List ℕ) (n f : ℕ) → edges_below lists own ws n f ≤ n
 edges_le lists own ws n f = count_below-le (λ k. eqb (inner_number lists own ws k) f) n
@@ -53,46 +56,54 @@ part_vertices ws first last n l m all i k =
     let at = get_or-slice_range ws (first + 1) last i (omega arith) in
     omega (arith, at, all (first + 1 + i) (omega arith))
 
-pub part_edges : (lists : Lists) (ws : List ℕ) (first last : ℕ) → first < last → last < length ws → AreEdges lists ws → AreEdges lists (slice_range ws first (last + 1))
-part_edges lists ws first last l m all i k =
+-- the part has numbers below the count too
+pub part_below : (ws inner : List ℕ) (first last count : ℕ) → first < last → last < length ws → ((i : ℕ) → suc i < length ws → number_at inner ws i < count) → (i : ℕ) → suc i < length (slice_range ws first (last + 1)) → number_at inner (slice_range ws first (last + 1)) i < count
+part_below ws inner first last count l m all i k =
     let long = length-slice_range ws first (last + 1) (omega arith) (omega arith) in
-    let z : first + suc i ≡ suc (first + i) = omega arith in
-    let one = get_or-slice_range ws first (last + 1) i (omega arith) in
-    let two = get_or-slice_range ws first (last + 1) (suc i) (omega arith) ∙ ap (λ j. get_or ws j 0) z in
-    subst (λ v. HasDart lists v (get_or (slice_range ws first (last + 1)) i 0)) (sym two) (subst (HasDart lists (get_or ws (suc (first + i)) 0)) (sym one) (all (first + i) (omega arith)))
+    subst (λ v. slice_index inner v < count) (sym (get_or-slice_range ws first (last + 1) i (omega arith))) (all (first + i) (omega arith))
 
-module _ (lists own : Lists) (vs edges first : List ℕ) (i x : ℕ) (x_is : x ≡ inner_number lists own vs i) (x_in : x < length edges) where
-  here : (f : ℕ) → f ≡ x → eqb (inner_number lists own vs i) f ≡ true
-  here f e = eq-eqb (inner_number lists own vs i) f (sym x_is ∙ sym e)
+-- a count moved on
+pub IsMoved-more : (way : Way) (old a b mid new : ℕ) → IsMoved way old a mid → IsMoved way mid b new → IsMoved way old (a + b) new
+IsMoved-more Comes old a b mid new h k = omega (arith, h, k)
+IsMoved-more Goes old a b mid new h k = omega (arith, h, k)
 
-  elsewhere : (f : ℕ) → f ≢ x → eqb (inner_number lists own vs i) f ≡ false
-  elsewhere f ne = ne_eqb (inner_number lists own vs i) f (λ e. ne (sym (x_is ∙ e)))
+pub CanMove-more : (way : Way) (old a b most mid : ℕ) → CanMove way old most → a + b ≤ most → IsMoved way old a mid → CanMove way mid b
+CanMove-more Comes old a b most mid can l h = omega (arith, can, l, h)
+CanMove-more Goes old a b most mid can l h = omega (arith, can, l, h)
 
-  -- an edge more
-  pub raised : ((f : ℕ) → f < length edges → slice_index edges f ≡ slice_index first f + edges_below lists own vs i f) → (f : ℕ) → f < length edges → slice_index (set edges x (slice_index edges x + 1)) f ≡ slice_index first f + edges_below lists own vs (i + 1) f
-  raised h f l =
-      let more = edges_more lists own vs i f in
+pub IsMoved-none : (way : Way) (old : ℕ) → IsMoved way old 0 old
+IsMoved-none Comes old = omega arith
+IsMoved-none Goes old = omega arith
+
+-- what is counted so far with x once more, and so its entry moved by one
+module _ (way : Way) (so_far with_x : ℕ → ℕ) (old mid : List ℕ) (x : ℕ) (x_in : x < length mid) (one_more : (f : ℕ) → with_x f ≡ so_far f + cond (eqb x f) 1 0) (moved : (f : ℕ) → f < length mid → IsMoved way (slice_index old f) (so_far f) (slice_index mid f)) where
+  pub can_one : (most : ℕ) → with_x x ≤ most → CanMove way (slice_index old x) most → CanMove way (slice_index mid x) 1
+  can_one most l can =
+      CanMove-more way (slice_index old x) (so_far x) 1 most (slice_index mid x) can
+      (omega (arith, l, one_more x, ap {B = ℕ} (λ b. cond b 1 0) (eq-eqb x x refl))) (moved x x_in)
+
+  pub moved_one : (y : ℕ) → IsMoved way (slice_index mid x) 1 y → (f : ℕ) → f < length mid → IsMoved way (slice_index old f) (with_x f) (slice_index (set mid x y) f)
+  moved_one y one f l =
       elim (cases_eq f x) [
         | inl e ↦
-            let at : slice_index (set edges x (slice_index edges x + 1)) f ≡ slice_index edges x + 1 = ap (λ j. slice_index (set edges x (slice_index edges x + 1)) j) e ∙ get_or-set_same edges x (slice_index edges x + 1) 0 x_in in
-            omega (arith, at, ap (λ j. slice_index edges j) e, h f l, more, ap {B = ℕ} (λ b. cond b 1 0) (here f e))
-        | inr ne ↦ omega (arith, get_or-set_other edges x f (slice_index edges x + 1) 0 ne, h f l, more, ap {B = ℕ} (λ b. cond b 1 0) (elsewhere f ne))
+            let at : slice_index (set mid x y) f ≡ y = ap (λ j. slice_index (set mid x y) j) e ∙ get_or-set_same mid x y 0 x_in in
+            let more : with_x f ≡ so_far f + 1 = omega (arith, one_more f, ap {B = ℕ} (λ b. cond b 1 0) (eq-eqb x f (sym e))) in
+            subst (IsMoved way (slice_index old f) (with_x f)) (sym at)
+            (subst (λ n. IsMoved way (slice_index old f) n y) (sym more)
+            (IsMoved-more way (slice_index old f) (so_far f) 1 (slice_index mid f) y (moved f l) (subst (λ j. IsMoved way (slice_index mid j) 1 y) (sym e) one)))
+        | inr ne ↦
+            let at : slice_index (set mid x y) f ≡ slice_index mid f = get_or-set_other mid x f y 0 ne in
+            let same : with_x f ≡ so_far f = omega (arith, one_more f, ap {B = ℕ} (λ b. cond b 1 0) (ne_eqb x f (λ e. ne (sym e)))) in
+            subst (IsMoved way (slice_index old f) (with_x f)) (sym at) (subst (λ n. IsMoved way (slice_index old f) n (slice_index mid f)) (sym same) (moved f l))
       ]
 
-  -- an edge less
-  pub lowered : 1 ≤ slice_index edges x → ((f : ℕ) → f < length edges → slice_index edges f + edges_below lists own vs i f ≡ slice_index first f) → (f : ℕ) → f < length edges → slice_index (set edges x (slice_index edges x - 1)) f + edges_below lists own vs (i + 1) f ≡ slice_index first f
-  lowered some h f l =
-      let more = edges_more lists own vs i f in
-      elim (cases_eq f x) [
-        | inl e ↦
-            let at : slice_index (set edges x (slice_index edges x - 1)) f ≡ slice_index edges x - 1 = ap (λ j. slice_index (set edges x (slice_index edges x - 1)) j) e ∙ get_or-set_same edges x (slice_index edges x - 1) 0 x_in in
-            omega (arith, at, ap (λ j. slice_index edges j) e, h f l, more, ap {B = ℕ} (λ b. cond b 1 0) (here f e))
-        | inr ne ↦ omega (arith, get_or-set_other edges x f (slice_index edges x - 1) 0 ne, h f l, more, ap {B = ℕ} (λ b. cond b 1 0) (elsewhere f ne))
-      ]
-
-  -- the edge itself is counted
-  pub counted : edges_below lists own vs i x + 1 ≡ edges_below lists own vs (i + 1) x
-  counted = omega (arith, edges_more lists own vs i x, ap {B = ℕ} (λ b. cond b 1 0) (here x refl))
+-- an entry more of a row
+pub entries_more : (us : List ℕ) (i : ℕ) → i < length us → (f : ℕ) → count_by (λ u. eqb u f) (take (i + 1) us) ≡ count_by (λ u. eqb u f) (take i us) + cond (eqb (get_or us i 0) f) 1 0
+entries_more us i l f =
+    elim (cases_eq (get_or us i 0) f) [
+      | inl e ↦ (let t = eq-eqb (get_or us i 0) f e in count_by_more_yes (λ u. eqb u f) us i 0 l t ∙ ap (λ b. count_by (λ u. eqb u f) (take i us) + cond b 1 0) (sym t))
+      | inr ne ↦ (let t = ne_eqb (get_or us i 0) f ne in count_by_more_no (λ u. eqb u f) us i 0 l t ∙ omega (arith, ap {B = ℕ} (λ b. cond b 1 0) t))
+    ]
 
 -- a part of a list
 pub met_part : (own : Lists) (ws : List ℕ) (first last f : ℕ) → first < last → last < length ws → met_below own (slice_range ws (first + 1) last) (length (slice_range ws (first + 1) last)) f ≡ met_between own ws first last f
@@ -103,18 +114,42 @@ met_part own ws first last f l m =
     ∙ sum_below-same (λ k. met_at own f (slice_index (slice_range ws (first + 1) last) k)) (λ k. met_at own f (slice_index ws (suc first + k))) (last - suc first)
     (λ k h. let y : first + 1 + k ≡ suc first + k = omega arith in ap (met_at own f) (get_or-slice_range ws (first + 1) last k (omega arith) ∙ ap (λ j. get_or ws j 0) y))
 
-pub edges_part : (lists own : Lists) (ws : List ℕ) (first last f : ℕ) → first < last → last < length ws → edges_below lists own (slice_range ws first (last + 1)) (length (slice_range ws first (last + 1)) - 1) f ≡ edges_between lists own ws first last f
-edges_part lists own ws first last f l m =
+pub edges_part : (lists own : Lists) (ws inner : List ℕ) (first last f : ℕ) → first < last → last < length ws → AreInner lists own ws inner → numbered_below (number_at inner (slice_range ws first (last + 1))) (length (slice_range ws first (last + 1)) - 1) f ≡ edges_between lists own ws first last f
+edges_part lists own ws inner first last f l m are =
     let us = slice_range ws first (last + 1) in
     let long = length-slice_range ws first (last + 1) (omega arith) (omega arith) in
     let z : length us - 1 ≡ last - first = omega arith in
-    ap (λ n. edges_below lists own us n f) z
-    ∙ count_below_same (λ k. eqb (inner_number lists own us k) f) (λ k. eqb (inner_number lists own ws (first + k)) f) (last - first)
-    (λ k h.
-    let y : first + suc k ≡ suc (first + k) = omega arith in
-    let one = get_or-slice_range ws first (last + 1) k (omega arith) in
-    let two = get_or-slice_range ws first (last + 1) (suc k) (omega arith) ∙ ap (λ j. get_or ws j 0) y in
-    ap (λ v. eqb (entry lists own v (get_or us k 0)) f) two ∙ ap (λ v. eqb (entry lists own (get_or ws (suc (first + k)) 0) v) f) one)
+    ap (λ n. numbered_below (number_at inner us) n f) z
+    ∙ count_below_same (λ k. eqb (number_at inner us k) f) (λ k. eqb (inner_number lists own ws (first + k)) f) (last - first)
+    (λ k h. ap (λ n. eqb n f) (ap (slice_index inner) (get_or-slice_range ws first (last + 1) k (omega arith)) ∙ are.numbers (first + k) (omega arith)))
+
+-- the numbers of the edges are below the count
+pub AreInner-below : (lists own : Lists) (count : ℕ) (ws inner : List ℕ) → IsTable lists own count → AreInner lists own ws inner → (i : ℕ) → suc i < length ws → number_at inner ws i < count
+AreInner-below lists own count ws inner t are i l = subst (λ n. n < count) (sym (are.numbers i l)) (entry-lt lists own count t (slice_index ws (suc i)) (slice_index ws i) (are.edges i l))
+
+-- the numbers of all edges
+pub edges_all : (lists own : Lists) (ws inner : List ℕ) (n f : ℕ) → suc n ≤ length ws → AreInner lists own ws inner → numbered_below (number_at inner ws) n f ≡ edges_below lists own ws n f
+edges_all lists own ws inner n f l are = count_below_same (λ k. eqb (number_at inner ws k) f) (λ k. eqb (inner_number lists own ws k) f) n (λ k h. ap (λ x. eqb x f) (are.numbers k (omega arith)))
+
+pub numbered_le : (number : ℕ → ℕ) (n f : ℕ) → numbered_below number n f ≤ n
+numbered_le number n f = count_below-le (λ k. eqb (number k) f) n
+
+-- a table that was lent whole
+pub lent : {A : Type 0} (n : ℕ) (new rest : List A) → n ≡ length new → take n (new ++ rest) ≡ new
+lent n new rest e = ap (λ m. take m (new ++ rest)) e ∙ take-append_seam new rest
+
+pub AreMoved-lent : (lists own : Lists) (count : ℕ) (way : Way) (ws : List ℕ) (first last : ℕ) (old new : Counts) (places edges : List ℕ) → new.places.items ≡ places → new.edges.items ≡ edges → length places ≡ count → length edges ≡ count
+    → ((f : ℕ) → f < count → IsMoved way (slice_index old.places.items f) (met_between own ws first last f) (slice_index places f))
+    → ((f : ℕ) → f < count → IsMoved way (slice_index old.edges.items f) (edges_between lists own ws first last f) (slice_index edges f))
+    → AreMoved lists own count way ws first last old new
+AreMoved-lent lists own count way ws first last old new places edges e e' l l' h h' = record {
+  size = record { places = ap length e ∙ l; edges = ap length e' ∙ l' };
+  places = λ f m. subst (λ (z : List ℕ). IsMoved way (slice_index old.places.items f) (met_between own ws first last f) (slice_index z f)) (sym e) (h f m);
+  edges = λ f m. subst (λ (z : List ℕ). IsMoved way (slice_index old.edges.items f) (edges_between lists own ws first last f) (slice_index z f)) (sym e') (h' f m);
+}
+
+pub AreCounts-lent : (lists own : Lists) (count : ℕ) (ws places edges places' edges' : List ℕ) → places' ≡ places → edges' ≡ edges → AreCounts lists own count ws places edges → AreCounts lists own count ws places' edges'
+AreCounts-lent lists own count ws places edges places' edges' e e' are = subst (λ (z : List ℕ). AreCounts lists own count ws z edges') (sym e) (subst (λ (z : List ℕ). AreCounts lists own count ws places z) (sym e') are)
 
 -- The list `us` has from place `first` to `last` what `ws` has from `first` to `end` replaced; before and behind they are alike.
 pub record IsSpliced (ws us : List ℕ) (first end last : ℕ) : Type 0 where
@@ -170,16 +205,16 @@ module _ (lists own : Lists) (ws us : List ℕ) (first end last : ℕ) (s : IsSp
       omega (arith, old, new, front, back)
 
   -- THE COUNTS after a part went and another came
-  pub counts_spliced : (count : ℕ) (places edges places' edges' places'' edges'' : List ℕ) → AreCounts lists own count ws places edges → length places'' ≡ count → length edges'' ≡ count → ((f : ℕ) → f < count → slice_index places' f + met_between own ws first end f ≡ slice_index places f) → ((f : ℕ) → f < count → slice_index edges' f + edges_between lists own ws first end f ≡ slice_index edges f) → ((f : ℕ) → f < count → slice_index places'' f ≡ slice_index places' f + met_between own us first last f) → ((f : ℕ) → f < count → slice_index edges'' f ≡ slice_index edges' f + edges_between lists own us first last f) → AreCounts lists own count us places'' edges''
-  counts_spliced count places edges places' edges' places'' edges'' are long long' less less' more more' =
+  pub counts_spliced : (count : ℕ) (old mid new : Counts) → AreCounts lists own count ws old.places.items old.edges.items → AreMoved lists own count Goes ws first end old mid → AreMoved lists own count Comes us first last mid new → AreCounts lists own count us new.places.items new.edges.items
+  counts_spliced count old mid new are less more =
       let order = s.order in
       let within = s.within in
       let width = s.width in
       record {
-        places_long = long;
-        edges_long = long';
-        places_are = λ f l. omega (arith, are.places_are f l, less f l, more f l, met_spliced f);
+        places_long = more.size.places;
+        edges_long = more.size.edges;
+        places_are = λ f l. omega (arith, are.places_are f l, less.places f l, more.places f l, met_spliced f);
         edges_are = λ f r l e.
             let q : ℕ = length ws - 1 in
-            omega (arith, are.edges_are f q l (omega arith), less' f l, more' f l, edges_spliced f q r (omega arith) e);
+            omega (arith, are.edges_are f q l (omega arith), less.edges f l, more.edges f l, edges_spliced f q r (omega arith) e);
       }

@@ -2,8 +2,7 @@
 use Rattle.std.proofs.Common.{◌≡◌, ◌≢◌, ℕ, zero, suc, ◌+◌, ◌<◌, ◌≤◌, Bool, true, false, List, [], ◌∷◌, ◌++◌, length, slice_index, get_or, if◌then◌else◌, refl, sym, ap, ◌∙◌, inl, inr, arith}
 use Rattle.std.proofs.lemmas.Bool.{cases_eq, true≢false}
 use Rattle.std.proofs.lemmas.List.{length-append, get_or_append_left, get_or_push}
-use Rattle.map_lists.specs.Lists.{Lists}
-use Rattle.convex_orders.specs.Cuts.{edge_number, AreCutPlaces, IsCutRow}
+use Rattle.convex_orders.specs.Cuts.{AreCutPlaces, IsCutRow}
 
 -- The row has the cuts before place p: those up to number `at`.
 pub record IsCutTo (row : List ℕ) (first p : ℕ) (faces : ℕ) (cut : ℕ → ℕ) : Type 0 where
@@ -14,7 +13,7 @@ pub record IsCutTo (row : List ℕ) (first p : ℕ) (faces : ℕ) (cut : ℕ →
   pub low : cut at < p
   pub high : p ≤ cut (suc at)
 
-module _ (lists own : Lists) (ws : List ℕ) (first last faces : ℕ) (cut : ℕ → ℕ) (are : AreCutPlaces lists own ws first last faces cut) where
+module _ (number : ℕ → ℕ) (first last faces : ℕ) (cut : ℕ → ℕ) (are : AreCutPlaces number first last faces cut) where
   cut_mono : (i j : ℕ) → i ≤ j → j ≤ faces → cut i ≤ cut j
   cut_mono i zero l m = let z : i ≡ 0 = omega arith in omega (arith, ap cut z)
   cut_mono i (suc j) l m =
@@ -31,7 +30,7 @@ module _ (lists own : Lists) (ws : List ℕ) (first last faces : ℕ) (cut : ℕ
         | inr ne ↦ (let a = get_or_append_left row (x ∷ []) 0 i (omega arith) in let b = each i (omega arith) in omega (arith, a, b))
       ]
 
-  pub cuts_more : (row new : List ℕ) (p q : ℕ) (test : Bool) → suc q ≡ p → p < last → (test ≡ true → edge_number lists own ws q ≡ edge_number lists own ws (suc q)) → (edge_number lists own ws q ≡ edge_number lists own ws (suc q) → test ≡ true) → (x : ℕ) → x + first ≡ p → new ≡ (if test then row else (row ++ x ∷ [])) → IsCutTo row first p faces cut → IsCutTo new first (suc p) faces cut
+  pub cuts_more : (row new : List ℕ) (p q : ℕ) (test : Bool) → suc q ≡ p → p < last → (test ≡ true → number q ≡ number (suc q)) → (number q ≡ number (suc q) → test ≡ true) → (x : ℕ) → x + first ≡ p → new ≡ (if test then row else (row ++ x ∷ [])) → IsCutTo row first p faces cut → IsCutTo new first (suc p) faces cut
   cuts_more row new p q true before less same_is same_from x x_is e c =
       let low = c.low in
       let high = c.high in
@@ -75,3 +74,26 @@ module _ (lists own : Lists) (ws : List ℕ) (first last faces : ℕ) (cut : ℕ
         long = ap length e ∙ (length-append row (x ∷ []) ∙ (let n = c.long in omega arith));
         each = λ i l. ap (λ (z : List ℕ). get_or z i 0 + first) e ∙ push_cut row x c.at c.long c.each (x_is ∙ here) i (omega arith);
       }
+
+  -- numbers that are alike have the same cuts
+  pub cuts_same : (other : ℕ → ℕ) → ((p : ℕ) → first ≤ p → p < last → other p ≡ number p) → AreCutPlaces other first last faces cut
+  cuts_same other alike = record {
+    some = are.some;
+    begin = are.begin;
+    end = are.end;
+    rises = are.rises;
+    same = λ i p l low high.
+        let begin = are.begin in
+        let end = are.end in
+        let from = cut_mono 0 i (omega arith) (omega arith) in
+        let to = cut_mono (suc i) faces l (omega arith) in
+        alike p (omega arith) (omega arith) ∙ (are.same i p l low high ∙ sym (alike (suc p) (omega arith) (omega arith)));
+    changes = λ i p l at e.
+        let begin = are.begin in
+        let end = are.end in
+        let from = cut_mono 0 i (omega arith) (omega arith) in
+        let step = are.rises i (omega arith) in
+        let next = are.rises (suc i) l in
+        let to = cut_mono (suc (suc i)) faces l (omega arith) in
+        are.changes i p l at (sym (alike p (omega arith) (omega arith)) ∙ (e ∙ alike (suc p) (omega arith) (omega arith)));
+  }

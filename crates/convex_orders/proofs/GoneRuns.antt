@@ -1,5 +1,5 @@
 -- The edges along the contour whose faces a removal takes off are those from its first place to its end.
-use Rattle.std.proofs.Common.{◌≡◌, ℕ, suc, ◌+◌, ◌-◌, ◌<◌, ◌≤◌, Bool, true, false, List, sym, ap, ap₂, ◌∙◌, inl, inr, arith}
+use Rattle.std.proofs.Common.{◌≡◌, ℕ, suc, ◌+◌, ◌-◌, ◌<◌, ◌≤◌, Bool, true, false, List, length, sym, ap, ap₂, ◌∙◌, inl, inr, arith}
 use Rattle.std.proofs.lemmas.Bool.{cases_Bool, cases_eq}
 use Rattle.map_lists.specs.Lists.{Lists}
 use Rattle.map_theory.specs.Maps.{IsSimpleMap}
@@ -7,7 +7,7 @@ use Rattle.convex_peeling.specs.Contours.{face_of, IsContour}
 use Rattle.convex_peeling.specs.Removals.{Removal, IsTakenOff}
 use Rattle.convex_peeling.proofs.Removed.{gone_within, first_lt, stays_dead, gone_from}
 use Rattle.convex_orders.specs.FaceNumbers.{entry}
-use Rattle.convex_orders.specs.Contours.{inner_number}
+use Rattle.convex_orders.specs.Contours.{number_at, AreInner}
 use Rattle.convex_orders.specs.Shown.{is_set, AreMarks, IsListOf}
 use Rattle.convex_orders.specs.Splits.{IsGoneRun}
 
@@ -56,8 +56,8 @@ module _ (lists own : Lists) (alive : ℕ → Bool) (w : ℕ → ℕ) (r : ℕ) 
         ]
   ]
 
-  pub gone_run : (marks : List Bool) (ws : List ℕ) → AreMarks lists own marks o.alive → IsListOf ws w r → IsGoneRun lists own marks ws o.first (o.first + o.vertices + 1)
-  gone_run marks ws are list =
+  pub gone_run : (marks : List Bool) (ws inner : List ℕ) → AreMarks lists own marks o.alive → IsListOf ws w r → AreInner lists own ws inner → IsGoneRun (number_at inner ws) marks (length ws) o.first (o.first + o.vertices + 1)
+  gone_run marks ws inner are list numbers =
       let gone = gone_within lists alive w r o off in
       let some = off.some_vertex in
       let long = list.long in
@@ -69,7 +69,8 @@ module _ (lists own : Lists) (alive : ℕ → Bool) (w : ℕ → ℕ) (r : ℕ) 
         high = λ l. mark (o.first + o.vertices + 1) (omega arith) ∙ stays_high (o.first + o.vertices + 1) (omega arith) (omega arith);
       }
     where
-      mark : (i : ℕ) → i < r → is_set marks (inner_number lists own ws i) ≡ o.alive (face_of lists (w (suc i)) (w i))
+      mark : (i : ℕ) → i < r → is_set marks (number_at inner ws i) ≡ o.alive (face_of lists (w (suc i)) (w i))
       mark i l =
-          let at : inner_number lists own ws i ≡ entry lists own (w (suc i)) (w i) = ap₂ (entry lists own) (list.each (suc i) l) (list.each i (omega arith)) in
+          let long = list.long in
+          let at : number_at inner ws i ≡ entry lists own (w (suc i)) (w i) = numbers.numbers i (omega arith) ∙ ap₂ (entry lists own) (list.each (suc i) l) (list.each i (omega arith)) in
           ap (is_set marks) at ∙ are (w (suc i)) (w i) (simple.both_ways (w i) (w (suc i)) (contour.edge i (omega arith)).dart)

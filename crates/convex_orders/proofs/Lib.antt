@@ -1,6 +1,7 @@
 -- Numbers of faces.
 pub mod FaceNumbersRows
 mod Cases
+pub mod Known
 -- Contours as two stacks, and counts along them.
 pub mod ContourCountsRows
 pub mod Sums
@@ -11,6 +12,7 @@ mod Filled
 pub mod Flags
 pub mod Rows
 pub mod Once
+pub mod Noting
 pub mod Traced
 pub mod RemovedFaces
 pub mod GoneRuns
@@ -24,3 +26,6 @@ pub mod Outs
 pub mod Advanced
 pub mod LastRounds
 pub mod StandLemmas
+pub mod Advancing
+pub mod Choosing
+pub mod Beginnings

@@ -42,7 +42,7 @@ module _ (lists own other : Lists) (count : ℕ) (simple : IsSimpleMap lists) (n
   same_number : (p q : ℕ) → p < o.last → q < o.last → (face_of lists (o.contour p) (o.contour (suc p)) ≡ face_of lists (o.contour q) (o.contour (suc q))) → edge_number lists own us p ≡ edge_number lists own us q
   same_number p q l m e = let within = off.within in number_at p l ∙ ((n.alike (o.contour p) (o.contour (suc p)) (o.contour q) (o.contour (suc q)) (next.edge p (omega arith)).dart (next.edge q (omega arith)).dart).1 e ∙ sym (number_at q m))
 
-  pub cut_places : AreCutPlaces lists own us o.first o.last o.faces o.cut
+  pub cut_places : AreCutPlaces (edge_number lists own us) o.first o.last o.faces o.cut
   cut_places =
       let within = off.within in
       let along = made_along lists alive w r o simple is.contour off next in

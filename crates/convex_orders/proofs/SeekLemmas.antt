@@ -19,6 +19,3 @@ module _ (own other : Lists) (marks : List Bool) (places edges ws left right : L
     before = let n = all_long in omega arith;
     removable = subst (λ v. IsRemovableRow (list_of own v) (list_of other v) marks places edges) (last_at j (omega arith)) row;
   }
-
-  pub row_from : (j : ℕ) → suc j ≡ length left → IsRemovablePlace own other marks places edges ws j → IsRemovableRow (list_of own (slice_index left j)) (list_of other (slice_index left j)) marks places edges
-  row_from j e p = subst (λ v. IsRemovableRow (list_of own v) (list_of other v) marks places edges) (sym (last_at j (omega arith))) p.removable

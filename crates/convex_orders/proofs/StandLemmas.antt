@@ -27,7 +27,8 @@ use Rattle.convex_orders.specs.FaceNumbers.{entry, AreFaceNumbers}
 use Rattle.convex_orders.specs.Shown.{is_set, IsBased, IsShown, IsListOf, IsTrace, IsOffBy, IsOffAt, SomeOff, GoesOff, IsChoice}
 use Rattle.convex_orders.specs.Standing.{Stands, HasOther, AllInner, IsLastRow}
 use Rattle.map_theory.proofs.DartCounts.{sum_below-le}
-use Rattle.convex_orders.specs.Contours.{AreEdges}
+use Rattle.convex_orders.specs.Contours.{AreEdges, AreInner}
+use Rattle.convex_orders.specs.Noted.{IsNoted}
 use Rattle.convex_orders.specs.Counts.{met_at, met_below}
 use Rattle.convex_orders.proofs.ContourCountsRows.{entry-lt}
 use Rattle.convex_orders.proofs.Once.{number_once}
@@ -343,8 +344,19 @@ module _ (lists : Lists) (s d : ℕ) (based : IsBased lists s d) where
       pub begun_in : (i : ℕ) → i < length ws → slice_index ws i < length lists
       begun_in = shown_in own marks ws x.0 x.1 x.2 shown list
 
-      pub begun_edges : AreEdges lists ws
+      begun_edges : AreEdges lists ws
       begun_edges = shown_edges own marks ws x.0 x.1 x.2 shown list
+
+      pub begun_inner : (inner inner' : List ℕ) → length inner ≡ length lists → ((alive : ℕ → Bool) (w : ℕ → ℕ) (r : ℕ) → IsFirst lists s d alive w r → IsNoted (λ i. entry lists own (w (suc i)) (w i)) w 0 r inner inner') → AreInner lists own ws inner'
+      begun_inner inner inner' long noted =
+          let is = noted x.0 x.1 x.2 x.4 in
+          let many = list.long in
+          record {
+            long = is.long ∙ long;
+            vertices = begun_in;
+            edges = begun_edges;
+            numbers = λ i l. ap (slice_index inner') (list.each i (omega arith)) ∙ (is.here i (omega arith) (omega arith) ∙ sym (ap₂ (entry lists own) (list.each (suc i) (omega arith)) (list.each i (omega arith))));
+          }
 
       pub begun_room : (f : ℕ) → met_below own ws (length ws) f ≤ length ws
       begun_room = shown_room own marks ws x.0 x.1 x.2 shown list other count n

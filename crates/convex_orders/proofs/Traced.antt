@@ -28,7 +28,7 @@ module _ (lists own other : Lists) (count : ℕ) (marks : List Bool) (simple : I
       subst (λ z. IsRimIn lists own other marks z (w (suc a))) e (rim_to lists own other count simple n marks alive t.marks_are (w a) (w (suc a)) (t.contour.edge a (omega arith)))
 
   module _ (x y : ℕ) (at : w a ≡ x) (rim : IsRimIn lists own other marks x y) where
-    next_is : w (suc a) ≡ y
+    pub next_is : w (suc a) ≡ y
     next_is =
         let order = t.order in
         let within = t.within in
@@ -54,12 +54,23 @@ module _ (lists own other : Lists) (count : ℕ) (marks : List Bool) (simple : I
         let not_end : suc a ≢ b = λ z. ne (sym next_is ∙ (ap w z ∙ t.to)) in
         record { contour = t.contour; marks_are = t.marks_are; from = traced_from items' e; order = omega arith; within = t.within; to = t.to }
 
-    pub traced_end : (items' : List ℕ) → items' ≡ items ++ y ∷ [] → y ≡ end → IsListOf items' w b
-    traced_end items' e same =
+    -- where it is the end, all is gone along
+    pub traced_stop : y ≡ end → suc a ≡ b
+    traced_stop same =
         let order = t.order in
         let within = t.within in
-        let z : suc a ≡ b = t.contour.distinct (suc a) b (omega arith) within (next_is ∙ (same ∙ sym t.to)) in
-        subst (IsListOf items' w) z (traced_from items' e)
+        t.contour.distinct (suc a) b (omega arith) within (next_is ∙ (same ∙ sym t.to))
+
+    pub traced_end : (items' : List ℕ) → items' ≡ items ++ y ∷ [] → y ≡ end → IsListOf items' w b
+    traced_end items' e same = subst (IsListOf items' w) (traced_stop same) (traced_from items' e)
+
+    -- the vertex was not met before
+    pub traced_apart : (first i : ℕ) → first ≤ i → i < a → w i ≢ x
+    traced_apart first i l m e =
+        let order = t.order in
+        let within = t.within in
+        let same = t.contour.distinct i a (omega arith) (omega arith) (e ∙ sym at) in
+        omega arith
 
   -- there is an end
   pub traced_short : a < length lists

@@ -14,16 +14,20 @@ met_at own f v = count_by (λ u. u == f) (list_of own v)
 abbrev pub met_below : Lists → List ℕ → ℕ → ℕ → ℕ
 met_below own ws n f = sum_below (λ i. met_at own f (slice_index ws i)) n
 
+-- how many of the first n numbers are f
+abbrev pub numbered_below : (ℕ → ℕ) → ℕ → ℕ → ℕ
+numbered_below number n f = count_below (λ i. number i == f) n
+
 -- how many of the first n edges along the list have the number f
 abbrev pub edges_below : Lists → Lists → List ℕ → ℕ → ℕ → ℕ
-edges_below lists own ws n f = count_below (λ i. inner_number lists own ws i == f) n
+edges_below lists own ws n f = numbered_below (inner_number lists own ws) n f
 
 -- the same for the vertices strictly between two places, and for the edges from the one to the other
 abbrev pub met_between : Lists → List ℕ → ℕ → ℕ → ℕ → ℕ
 met_between own ws first last f = sum_below (λ k. met_at own f (slice_index ws (suc first + k))) (last - suc first)
 
 abbrev pub edges_between : Lists → Lists → List ℕ → ℕ → ℕ → ℕ → ℕ
-edges_between lists own ws first last f = count_below (λ k. inner_number lists own ws (first + k) == f) (last - first)
+edges_between lists own ws first last f = numbered_below (λ k. inner_number lists own ws (first + k)) (last - first) f
 
 -- For each number below `count`: how often the rows of the vertices have it, and how many edges.
 pub record AreCounts (lists own : Lists) (count : ℕ) (ws places edges : List ℕ) : Type 0 where

@@ -9,18 +9,13 @@ abbrev pub edge_number : Lists → Lists → List ℕ → ℕ → ℕ
 edge_number lists own ws p = entry lists own (slice_index ws p) (slice_index ws (suc p))
 
 -- The cuts are places from `first` to `last`; between two of them edges have one number, and at a cut it changes.
-pub record AreCutPlaces (lists own : Lists) (ws : List ℕ) (first last : ℕ) (faces : ℕ) (cut : ℕ → ℕ) : Type 0 where
+pub record AreCutPlaces (number : ℕ → ℕ) (first last : ℕ) (faces : ℕ) (cut : ℕ → ℕ) : Type 0 where
   pub some : 0 < faces
   pub begin : cut 0 ≡ first
   pub end : cut faces ≡ last
   pub rises : (i : ℕ) → i < faces → cut i < cut (suc i)
-  pub same : (i p : ℕ) → i < faces → cut i ≤ p → suc p < cut (suc i) → edge_number lists own ws p ≡ edge_number lists own ws (suc p)
-  pub changes : (i p : ℕ) → suc i < faces → suc p ≡ cut (suc i) → edge_number lists own ws p ≢ edge_number lists own ws (suc p)
-
-pub record SomeCutPlaces (lists own : Lists) (ws : List ℕ) (first last : ℕ) : Type 0 where
-  pub faces : ℕ
-  pub cut : ℕ → ℕ
-  pub are : AreCutPlaces lists own ws first last faces cut
+  pub same : (i p : ℕ) → i < faces → cut i ≤ p → suc p < cut (suc i) → number p ≡ number (suc p)
+  pub changes : (i p : ℕ) → suc i < faces → suc p ≡ cut (suc i) → number p ≢ number (suc p)
 
 -- a row of the cuts, as places behind the first
 pub record IsCutRow (row : List ℕ) (first faces : ℕ) (cut : ℕ → ℕ) : Type 0 where

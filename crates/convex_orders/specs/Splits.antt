@@ -2,8 +2,13 @@
 use Rattle.std.specs.Prelude.{ℕ, suc, ◌+◌, ◌<◌, ◌≤◌, ◌≡◌, Bool, true, false, List, length, slice_index}
 use Rattle.map_lists.specs.Lists.{Lists}
 use Rattle.map_theory.specs.Maps.{list_of}
-use Rattle.convex_orders.specs.Contours.{inner_number}
 use Rattle.convex_orders.specs.Shown.{is_set}
+
+-- two rows of numbers below `count`, of one length
+pub record AreRowsBelow (own other : List ℕ) (count : ℕ) : Type 0 where
+  pub long : length other ≡ length own
+  pub own_in : (k : ℕ) → k < length own → slice_index own k < count
+  pub other_in : (k : ℕ) → k < length other → slice_index other k < count
 
 -- neither of two numbers in rows is marked
 pub record IsOpenAt (own other : List ℕ) (marks : List Bool) (i : ℕ) : Type 0 where
@@ -33,10 +38,10 @@ pub record IsRemovablePlace (own other : Lists) (marks : List Bool) (places edge
   pub before : suc j < length ws
   pub removable : IsRemovableRow (list_of own (slice_index ws j)) (list_of other (slice_index ws j)) marks places edges
 
--- The edges from place `first` to place `end`, and no others, have numbers that are not marked.
-pub record IsGoneRun (lists own : Lists) (marks : List Bool) (ws : List ℕ) (first end : ℕ) : Type 0 where
+-- Of so many vertices the edges from place `first` to place `end`, and no others, have numbers that are not marked.
+pub record IsGoneRun (number : ℕ → ℕ) (marks : List Bool) (many first end : ℕ) : Type 0 where
   pub order : first < end
-  pub within : end < length ws
-  pub gone : (i : ℕ) → first ≤ i → i < end → is_set marks (inner_number lists own ws i) ≡ false
-  pub low : (i : ℕ) → suc i ≡ first → is_set marks (inner_number lists own ws i) ≡ true
-  pub high : suc end < length ws → is_set marks (inner_number lists own ws end) ≡ true
+  pub within : end < many
+  pub gone : (i : ℕ) → first ≤ i → i < end → is_set marks (number i) ≡ false
+  pub low : (i : ℕ) → suc i ≡ first → is_set marks (number i) ≡ true
+  pub high : suc end < many → is_set marks (number end) ≡ true

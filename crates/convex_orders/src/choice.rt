@@ -1,22 +1,20 @@
 //! Which vertices go next, and the marks of the faces that go with them.
 ghost use Rattle.std.specs.Prelude.{◌≡◌, ◌≢◌, ◌+◌, ◌<◌, ◌≤◌, ◌⊎◌, ◌↔◌, ℕ, suc, Bool, true, false, [], ◌∷◌, ◌++◌, length, slice_index, slice_set, Contains, IsTrue, IfOk};
-ghost use Rattle.map_theory.specs.Maps.{HasDart, IsSimpleMap, list_of};
-ghost use Rattle.convex_orders.specs.FaceNumbers.{entry, IsTable, AreFaceNumbers};
-ghost use Rattle.convex_orders.specs.Contours.{contour_of, AreEdges, inner_number};
-ghost use Rattle.convex_orders.specs.Counts.{AreCounts};
-ghost use Rattle.convex_orders.specs.Shown.{is_set, IsBased, IsChoice, GoesOffNear, GoesOffAt};
-ghost use Rattle.convex_orders.specs.Splits.{IsOpenAt, NoneSplit, IsRemovableRow, IsRemovablePlace, IsGoneRun};
+ghost use Rattle.map_theory.specs.Maps.{HasDart, list_of};
+ghost use Rattle.convex_orders.specs.Contours.{vertices_of, number_at, AreWithin, HaveNumbers, AreInner};
+ghost use Rattle.convex_orders.specs.Moved.{AreLong};
+ghost use Rattle.convex_orders.specs.Shown.{is_set, IsChoice, GoesOffNear, GoesOffAt};
+ghost use Rattle.convex_orders.specs.Splits.{IsOpenAt, NoneSplit, AreRowsBelow, IsRemovableRow, IsRemovablePlace, IsGoneRun};
+ghost use Rattle.convex_orders.specs.Tables.{CanGo};
 
-use crate::contour_counts::{edge_at, move_to, step_back};
-use crate::face_numbers::FaceNumbers;
-use map_lists::Rotations;
+use crate::contour::Contour;
+use crate::counts::Counts;
+use crate::tables::Tables;
 use std::alloc::AllocError;
 
-// Whether two numbers at one place have no mark.
+// Returns whether two numbers at one place have no mark.
 fn is_open(own: &[u32], other: &[u32], marks: &[bool]) -> bool
-    requires long { length other.now ≡ length own.now }
-    requires own_in { (k : ℕ) → k < length own.now → slice_index own.now k < length marks.now }
-    requires other_in { (k : ℕ) → k < length other.now → slice_index other.now k < length marks.now }
+    requires rows { AreRowsBelow own.now other.now (length marks.now) }
     ensures { IsTrue result ↔ ((k : ℕ) × IsOpenAt own.now other.now marks.now k) }
 {
     for k in 0..own.len() {
@@ -27,7 +25,7 @@ fn is_open(own: &[u32], other: &[u32], marks: &[bool]) -> bool
     false
 }
 
-// Whether each marked number of a row is met at one vertex more than it has edges.
+// Returns whether each marked number of a row is met at one vertex more than it has edges.
 fn none_split(own: &[u32], marks: &[bool], places: &[u16], edges: &[u16]) -> bool
     requires own_in { (k : ℕ) → k < length own.now → slice_index own.now k < length marks.now }
     requires places { length places.now ≡ length marks.now }
@@ -43,72 +41,44 @@ fn none_split(own: &[u32], marks: &[bool], places: &[u16], edges: &[u16]) -> boo
     true
 }
 
-// Whether a row is that of a vertex that may go.
-fn is_removable(own: &[u32], other: &[u32], marks: &[bool], places: &[u16], edges: &[u16]) -> bool
-    requires long { length other.now ≡ length own.now }
-    requires own_in { (k : ℕ) → k < length own.now → slice_index own.now k < length marks.now }
-    requires other_in { (k : ℕ) → k < length other.now → slice_index other.now k < length marks.now }
-    requires places { length places.now ≡ length marks.now }
-    requires edges { length edges.now ≡ length marks.now }
-    ensures { IsTrue result ↔ IsRemovableRow own.now other.now marks.now places.now edges.now }
+// Returns whether vertex `v` of a contour may go.
+fn is_removable(tables: &Tables, marks: &[bool], counts: &Counts, v: usize) -> bool
+    requires vertex { v < length tables.now.lists }
+    requires long { AreLong tables.now.faces.count marks.now counts.now }
+    ensures { IsTrue result ↔ IsRemovableRow (list_of tables.now.faces.own v) (list_of tables.now.faces.other v) marks.now counts.now.places.items counts.now.edges.items }
 {
-    none_split(own, marks, places, edges) && is_open(own, other, marks)
+    let own = tables.faces.own.list(v);
+    let other = tables.faces.other.list(v);
+    none_split(own, marks, &counts.places, &counts.edges) && is_open(own, other, marks)
 }
 
-// Whether the last vertex of the list may go.
-fn is_last_removable(
-    left: &[u16],
-    lists: &Rotations,
-    faces: &FaceNumbers,
-    marks: &[bool],
-    places: &[u16],
-    edges: &[u16],
-) -> bool
-    requires numbers { AreFaceNumbers lists.now faces.now.own faces.now.other faces.now.count }
-    requires marks { length marks.now ≡ faces.now.count }
-    requires places { length places.now ≡ faces.now.count }
-    requires edges { length edges.now ≡ faces.now.count }
-    requires some { 0 < length left.now }
-    requires vertices { (i : ℕ) → i < length left.now → slice_index left.now i < length lists.now }
-    ensures { (j : ℕ) → suc j ≡ length left.now → IsTrue result ↔ IsRemovableRow (list_of faces.now.own (slice_index left.now j)) (list_of faces.now.other (slice_index left.now j)) marks.now places.now edges.now }
-{
-    let _lists = lists;
-    let v = left[left.len() - 1] as usize;
-    is_removable(faces.own.list(v), faces.other.list(v), marks, places, edges)
-}
-
-// Goes back along the contour to a vertex that may go, and says whether there is one.
+// Goes back along the contour to a vertex that may go, and returns whether there is one.
 fn seek(
-    left: &mut Vec<u16>,
-    right: &mut Vec<u16>,
-    lists: &Rotations,
-    faces: &FaceNumbers,
+    contour: &mut Contour,
+    tables: &Tables,
     marks: &[bool],
-    places: &[u16],
-    edges: &[u16],
+    counts: &Counts,
 ) -> Result<bool, AllocError>
-    requires numbers { AreFaceNumbers lists.now faces.now.own faces.now.other faces.now.count }
-    requires marks { length marks.now ≡ faces.now.count }
-    requires places { length places.now ≡ faces.now.count }
-    requires edges { length edges.now ≡ faces.now.count }
-    requires some { 0 < length left.old.items }
-    requires behind { 0 < length right.old.items }
-    requires vertices { (i : ℕ) → i < length (contour_of left.old.items right.old.items) → slice_index (contour_of left.old.items right.old.items) i < length lists.now }
-    ensures same { IfOk result (λ _. contour_of left.new.items right.new.items ≡ contour_of left.old.items right.old.items) }
-    ensures found { IfOk result (λ b. b ≡ true → (j : ℕ) → suc j ≡ length left.new.items → IsRemovablePlace faces.now.own faces.now.other marks.now places.now edges.now (contour_of left.old.items right.old.items) j) }
-    ensures none { IfOk result (λ b. b ≡ false → (j : ℕ) → IsRemovablePlace faces.now.own faces.now.other marks.now places.now edges.now (contour_of left.old.items right.old.items) j → length left.old.items ≤ j) }
-    ensures some { IfOk result (λ _. 0 < length left.new.items) }
+    requires long { AreLong tables.now.faces.count marks.now counts.now }
+    requires some { 0 < length contour.old.left.items }
+    requires behind { 0 < length contour.old.right.items }
+    requires vertices { AreWithin (vertices_of contour.old) (length tables.now.lists) }
+    ensures same { IfOk result (λ _. vertices_of contour.new ≡ vertices_of contour.old) }
+    ensures found { IfOk result (λ b. b ≡ true → (j : ℕ) → suc j ≡ length contour.new.left.items → IsRemovablePlace tables.now.faces.own tables.now.faces.other marks.now counts.now.places.items counts.now.edges.items (vertices_of contour.old) j) }
+    ensures none { IfOk result (λ b. b ≡ false → (j : ℕ) → IsRemovablePlace tables.now.faces.own tables.now.faces.other marks.now counts.now.places.items counts.now.edges.items (vertices_of contour.old) j → length contour.old.left.items ≤ j) }
+    ensures some { IfOk result (λ _. 0 < length contour.new.left.items) }
 {
-    for _ in 1..left.len() {
-        if is_last_removable(left, lists, faces, marks, places, edges) {
+    for _ in 1..contour.left.len() {
+        let v = contour.left[contour.left.len() - 1];
+        if is_removable(tables, marks, counts, v as usize) {
             return Ok(true);
         }
-        step_back(left, right)?;
+        contour.step_back()?;
     }
     Ok(false)
 }
 
-// How many vertices are before the place, where some is left behind it.
+// Returns how many vertices are before the place, where some is left behind it.
 fn before_last(left: usize, right: usize) -> usize
     requires some { 0 < left }
     requires two { 2 ≤ left + right }
@@ -120,114 +90,84 @@ fn before_last(left: usize, right: usize) -> usize
 
 // Seeks from the end of the contour on, where some vertex may go.
 fn seek_all(
-    left: &mut Vec<u16>,
-    right: &mut Vec<u16>,
-    lists: &Rotations,
-    faces: &FaceNumbers,
+    contour: &mut Contour,
+    tables: &Tables,
     marks: &[bool],
-    places: &[u16],
-    edges: &[u16],
+    counts: &Counts,
 ) -> Result<(), AllocError>
-    requires numbers { AreFaceNumbers lists.now faces.now.own faces.now.other faces.now.count }
-    requires marks { length marks.now ≡ faces.now.count }
-    requires places { length places.now ≡ faces.now.count }
-    requires edges { length edges.now ≡ faces.now.count }
-    requires vertices { (i : ℕ) → i < length (contour_of left.old.items right.old.items) → slice_index (contour_of left.old.items right.old.items) i < length lists.now }
-    requires removable { (j : ℕ) × IsRemovablePlace faces.now.own faces.now.other marks.now places.now edges.now (contour_of left.old.items right.old.items) j }
-    ensures same { IfOk result (λ _. contour_of left.new.items right.new.items ≡ contour_of left.old.items right.old.items) }
-    ensures found { IfOk result (λ _. (j : ℕ) → suc j ≡ length left.new.items → IsRemovablePlace faces.now.own faces.now.other marks.now places.now edges.now (contour_of left.old.items right.old.items) j) }
-    ensures some { IfOk result (λ _. 0 < length left.new.items) }
+    requires long { AreLong tables.now.faces.count marks.now counts.now }
+    requires vertices { AreWithin (vertices_of contour.old) (length tables.now.lists) }
+    requires removable { (j : ℕ) × IsRemovablePlace tables.now.faces.own tables.now.faces.other marks.now counts.now.places.items counts.now.edges.items (vertices_of contour.old) j }
+    ensures same { IfOk result (λ _. vertices_of contour.new ≡ vertices_of contour.old) }
+    ensures found { IfOk result (λ _. (j : ℕ) → suc j ≡ length contour.new.left.items → IsRemovablePlace tables.now.faces.own tables.now.faces.other marks.now counts.now.places.items counts.now.edges.items (vertices_of contour.old) j) }
+    ensures some { IfOk result (λ _. 0 < length contour.new.left.items) }
 {
-    let last = left.len() + right.len() - 1;
-    move_to(left, right, last)?;
-    let found = seek(left, right, lists, faces, marks, places, edges)?;
+    let last = contour.len() - 1;
+    contour.move_to(last)?;
+    let found = seek(contour, tables, marks, counts)?;
     let _found = found;
     Ok(())
 }
 
 /// Goes to a vertex that may go, where there is one: from the place back, or else from the end of the contour.
 pub(crate) fn find(
-    left: &mut Vec<u16>,
-    right: &mut Vec<u16>,
-    lists: &Rotations,
-    faces: &FaceNumbers,
+    contour: &mut Contour,
+    tables: &Tables,
     marks: &[bool],
-    places: &[u16],
-    edges: &[u16],
+    counts: &Counts,
 ) -> Result<(), AllocError>
-    requires numbers { AreFaceNumbers lists.now faces.now.own faces.now.other faces.now.count }
-    requires marks { length marks.now ≡ faces.now.count }
-    requires places { length places.now ≡ faces.now.count }
-    requires edges { length edges.now ≡ faces.now.count }
-    requires vertices { (i : ℕ) → i < length (contour_of left.old.items right.old.items) → slice_index (contour_of left.old.items right.old.items) i < length lists.now }
-    requires some { 0 < length left.old.items }
-    requires removable { (j : ℕ) × IsRemovablePlace faces.now.own faces.now.other marks.now places.now edges.now (contour_of left.old.items right.old.items) j }
-    ensures same { IfOk result (λ _. contour_of left.new.items right.new.items ≡ contour_of left.old.items right.old.items) }
-    ensures found { IfOk result (λ _. (j : ℕ) → suc j ≡ length left.new.items → IsRemovablePlace faces.now.own faces.now.other marks.now places.now edges.now (contour_of left.old.items right.old.items) j) }
-    ensures some { IfOk result (λ _. 0 < length left.new.items) }
+    requires long { AreLong tables.now.faces.count marks.now counts.now }
+    requires vertices { AreWithin (vertices_of contour.old) (length tables.now.lists) }
+    requires some { 0 < length contour.old.left.items }
+    requires removable { (j : ℕ) × IsRemovablePlace tables.now.faces.own tables.now.faces.other marks.now counts.now.places.items counts.now.edges.items (vertices_of contour.old) j }
+    ensures same { IfOk result (λ _. vertices_of contour.new ≡ vertices_of contour.old) }
+    ensures found { IfOk result (λ _. (j : ℕ) → suc j ≡ length contour.new.left.items → IsRemovablePlace tables.now.faces.own tables.now.faces.other marks.now counts.now.places.items counts.now.edges.items (vertices_of contour.old) j) }
+    ensures some { IfOk result (λ _. 0 < length contour.new.left.items) }
 {
-    let count = before_last(left.len(), right.len());
-    move_to(left, right, count)?;
-    if seek(left, right, lists, faces, marks, places, edges)? {
+    let count = before_last(contour.left.len(), contour.right.len());
+    contour.move_to(count)?;
+    if seek(contour, tables, marks, counts)? {
         Ok(())
     } else {
-        seek_all(left, right, lists, faces, marks, places, edges)
+        seek_all(contour, tables, marks, counts)
     }
 }
 
-// Whether the edges from place i on and from the next place on have one number.
-fn same_face(
-    lists: &Rotations,
-    faces: &FaceNumbers,
-    hints: &[u16],
-    left: &[u16],
-    right: &[u16],
-    i: usize,
-) -> bool
-    requires simple { IsSimpleMap lists.now }
-    requires numbers { AreFaceNumbers lists.now faces.now.own faces.now.other faces.now.count }
-    requires within { suc (suc i) < length left.now + length right.now }
-    requires darts { AreEdges lists.now (contour_of left.now right.now) }
-    ensures { IsTrue result ↔ (inner_number lists.now faces.now.own (contour_of left.now right.now) i ≡ inner_number lists.now faces.now.own (contour_of left.now right.now) (suc i)) }
+// Returns the number of the edge from place `i` on.
+fn edge_at(contour: &Contour, inner: &[u32], i: usize) -> u32
+    requires within { i < length (vertices_of contour.now) }
+    requires vertices { AreWithin (vertices_of contour.now) (length inner.now) }
+    ensures { result ≡ number_at inner.now (vertices_of contour.now) i }
 {
-    edge_at(lists, faces, hints, left, right, i) == edge_at(lists, faces, hints, left, right, i + 1)
+    inner[contour.vertex(i) as usize]
 }
 
-// Whether the edges behind place j have one number.
-fn has_right(
-    lists: &Rotations,
-    faces: &FaceNumbers,
-    hints: &[u16],
-    left: &[u16],
-    right: &[u16],
-    j: usize,
-) -> bool
-    requires simple { IsSimpleMap lists.now }
-    requires numbers { AreFaceNumbers lists.now faces.now.own faces.now.other faces.now.count }
-    requires within { suc j < length left.now + length right.now }
-    requires darts { AreEdges lists.now (contour_of left.now right.now) }
-    ensures { IsTrue result ↔ ((suc (suc j) < length left.now + length right.now) × (inner_number lists.now faces.now.own (contour_of left.now right.now) j ≡ inner_number lists.now faces.now.own (contour_of left.now right.now) (suc j))) }
+// Returns whether the edges from place `i` on and from the next place on have one number.
+fn same_face(contour: &Contour, inner: &[u32], i: usize) -> bool
+    requires within { suc (suc i) < length (vertices_of contour.now) }
+    requires vertices { AreWithin (vertices_of contour.now) (length inner.now) }
+    ensures { IsTrue result ↔ (number_at inner.now (vertices_of contour.now) i ≡ number_at inner.now (vertices_of contour.now) (suc i)) }
 {
-    j + 2 < left.len() + right.len() && same_face(lists, faces, hints, left, right, j)
+    edge_at(contour, inner, i) == edge_at(contour, inner, i + 1)
 }
 
-// Whether the edges before place j have one number.
-fn has_left(
-    lists: &Rotations,
-    faces: &FaceNumbers,
-    hints: &[u16],
-    left: &[u16],
-    right: &[u16],
-    j: usize,
-) -> bool
-    requires simple { IsSimpleMap lists.now }
-    requires numbers { AreFaceNumbers lists.now faces.now.own faces.now.other faces.now.count }
-    requires within { j < length left.now + length right.now }
-    requires darts { AreEdges lists.now (contour_of left.now right.now) }
-    ensures yes { IsTrue result → (h : ℕ) × (suc (suc h) ≡ j) × (inner_number lists.now faces.now.own (contour_of left.now right.now) h ≡ inner_number lists.now faces.now.own (contour_of left.now right.now) (suc h)) }
-    ensures no { (h : ℕ) → suc (suc h) ≡ j → inner_number lists.now faces.now.own (contour_of left.now right.now) h ≡ inner_number lists.now faces.now.own (contour_of left.now right.now) (suc h) → IsTrue result }
+// Returns whether the edges behind place `j` have one number.
+fn has_right(contour: &Contour, inner: &[u32], j: usize) -> bool
+    requires within { suc j < length (vertices_of contour.now) }
+    requires vertices { AreWithin (vertices_of contour.now) (length inner.now) }
+    ensures { IsTrue result ↔ ((suc (suc j) < length (vertices_of contour.now)) × (number_at inner.now (vertices_of contour.now) j ≡ number_at inner.now (vertices_of contour.now) (suc j))) }
 {
-    j >= 2 && same_face(lists, faces, hints, left, right, j - 2)
+    j + 2 < contour.len() && same_face(contour, inner, j)
+}
+
+// Returns whether the edges before place `j` have one number.
+fn has_left(contour: &Contour, inner: &[u32], j: usize) -> bool
+    requires within { j < length (vertices_of contour.now) }
+    requires vertices { AreWithin (vertices_of contour.now) (length inner.now) }
+    ensures yes { IsTrue result → (h : ℕ) × (suc (suc h) ≡ j) × (number_at inner.now (vertices_of contour.now) h ≡ number_at inner.now (vertices_of contour.now) (suc h)) }
+    ensures no { (h : ℕ) → suc (suc h) ≡ j → number_at inner.now (vertices_of contour.now) h ≡ number_at inner.now (vertices_of contour.now) (suc h) → IsTrue result }
+{
+    j >= 2 && same_face(contour, inner, j - 2)
 }
 
 /// Takes the marks of the numbers of a row away.
@@ -250,139 +190,76 @@ fn clear_one(marks: &mut [bool], f: u32)
 }
 
 // Takes the marks away of what goes with the vertex before the place.
-fn take_at(
-    marks: &mut [bool],
-    lists: &Rotations,
-    faces: &FaceNumbers,
-    hints: &[u16],
-    left: &[u16],
-    right: &[u16],
-    tail: u16,
-    head: u16,
-    places: &[u16],
-    edges: &[u16],
-)
-    requires based { IsBased lists.now tail head }
-    requires numbers { AreFaceNumbers lists.now faces.now.own faces.now.other faces.now.count }
-    requires marks { length marks.old ≡ faces.now.count }
-    requires some { 0 < length left.now }
-    requires place { (j : ℕ) → suc j ≡ length left.now → IsRemovablePlace faces.now.own faces.now.other marks.old places.now edges.now (contour_of left.now right.now) j }
-    requires counts { AreCounts lists.now faces.now.own faces.now.count (contour_of left.now right.now) places.now edges.now }
-    requires vertices { (i : ℕ) → i < length (contour_of left.now right.now) → slice_index (contour_of left.now right.now) i < length lists.now }
-    requires darts { AreEdges lists.now (contour_of left.now right.now) }
+fn take_at(marks: &mut [bool], tables: &Tables, contour: &Contour, inner: &[u32])
+    requires some { 0 < length contour.now.left.items }
+    requires inner { AreInner tables.now.lists tables.now.faces.own (vertices_of contour.now) inner.now }
+    requires place { (j : ℕ) → suc j ≡ length contour.now.left.items → CanGo tables.now marks.old (vertices_of contour.now) j }
     ensures long { length marks.new ≡ length marks.old }
-    ensures goes { (alive : ℕ → Bool) (w : ℕ → ℕ) (r j : ℕ) → suc j ≡ length left.now → IsChoice lists.now faces.now.own marks.old tail head (contour_of left.now right.now) alive w r → GoesOffNear lists.now faces.now.own marks.new alive w r j }
+    ensures goes { (alive : ℕ → Bool) (w : ℕ → ℕ) (r j : ℕ) → suc j ≡ length contour.now.left.items → IsChoice tables.now.lists tables.now.faces.own marks.old tables.now.tail tables.now.head (vertices_of contour.now) alive w r → GoesOffNear tables.now.lists tables.now.faces.own marks.new alive w r j }
 {
-    let _places = places;
-    let _edges = edges;
-    let _base = (tail, head);
-    let j = left.len() - 1;
-    if has_right(lists, faces, hints, left, right, j) {
-        clear_one(marks, edge_at(lists, faces, hints, left, right, j));
-    } else if has_left(lists, faces, hints, left, right, j) {
-        clear_one(marks, edge_at(lists, faces, hints, left, right, j - 1));
+    let j = contour.left.len() - 1;
+    if has_right(contour, inner, j) {
+        clear_one(marks, edge_at(contour, inner, j));
+    } else if has_left(contour, inner, j) {
+        clear_one(marks, edge_at(contour, inner, j - 1));
     } else {
-        clear_row(marks, faces.own.list(left[j] as usize));
+        clear_row(marks, tables.faces.own.list(contour.left[j] as usize));
     }
 }
 
-// Whether the edge from place i on has a number with a mark.
-fn is_kept(
-    marks: &[bool],
-    lists: &Rotations,
-    faces: &FaceNumbers,
-    hints: &[u16],
-    left: &[u16],
-    right: &[u16],
-    i: usize,
-) -> bool
-    requires simple { IsSimpleMap lists.now }
-    requires numbers { AreFaceNumbers lists.now faces.now.own faces.now.other faces.now.count }
-    requires table { IsTable lists.now faces.now.own (length marks.now) }
-    requires within { suc i < length left.now + length right.now }
-    requires darts { AreEdges lists.now (contour_of left.now right.now) }
-    ensures { result ≡ is_set marks.now (inner_number lists.now faces.now.own (contour_of left.now right.now) i) }
+// Returns whether the edge from place `i` on has a number with a mark.
+fn is_kept(marks: &[bool], contour: &Contour, inner: &[u32], i: usize) -> bool
+    requires within { suc i < length (vertices_of contour.now) }
+    requires numbers { HaveNumbers (vertices_of contour.now) inner.now (length marks.now) }
+    ensures { result ≡ is_set marks.now (number_at inner.now (vertices_of contour.now) i) }
 {
-    marks[edge_at(lists, faces, hints, left, right, i) as usize]
+    marks[edge_at(contour, inner, i) as usize]
 }
 
-// Where the edges without marks end, from the vertex before the place on.
-fn end_of(
-    marks: &[bool],
-    lists: &Rotations,
-    faces: &FaceNumbers,
-    hints: &[u16],
-    left: &[u16],
-    right: &[u16],
-) -> usize
-    requires simple { IsSimpleMap lists.now }
-    requires numbers { AreFaceNumbers lists.now faces.now.own faces.now.other faces.now.count }
-    requires table { IsTable lists.now faces.now.own (length marks.now) }
-    requires some { 0 < length left.now }
-    requires darts { AreEdges lists.now (contour_of left.now right.now) }
-    ensures { (first end j : ℕ) → suc j ≡ length left.now → first ≤ j → j ≤ end → IsGoneRun lists.now faces.now.own marks.now (contour_of left.now right.now) first end → result ≡ end }
+// Returns where the edges without marks end, from the vertex before the place on.
+fn end_of(marks: &[bool], contour: &Contour, inner: &[u32]) -> usize
+    requires some { 0 < length contour.now.left.items }
+    requires numbers { HaveNumbers (vertices_of contour.now) inner.now (length marks.now) }
+    ensures { (first end j : ℕ) → suc j ≡ length contour.now.left.items → first ≤ j → j ≤ end → IsGoneRun (number_at inner.now (vertices_of contour.now)) marks.now (length (vertices_of contour.now)) first end → result ≡ end }
 {
-    for i in left.len() - 1..left.len() + right.len() - 1 {
-        if is_kept(marks, lists, faces, hints, left, right, i) {
+    for i in contour.left.len() - 1..contour.len() - 1 {
+        if is_kept(marks, contour, inner, i) {
             return i;
         }
     }
-    left.len() + right.len() - 1
+    contour.len() - 1
 }
 
-// Where they begin, from the vertex before the place back.
-fn first_of(
-    marks: &[bool],
-    lists: &Rotations,
-    faces: &FaceNumbers,
-    hints: &[u16],
-    left: &[u16],
-    right: &[u16],
-) -> usize
-    requires simple { IsSimpleMap lists.now }
-    requires numbers { AreFaceNumbers lists.now faces.now.own faces.now.other faces.now.count }
-    requires table { IsTable lists.now faces.now.own (length marks.now) }
-    requires some { 0 < length left.now }
-    requires darts { AreEdges lists.now (contour_of left.now right.now) }
-    ensures { (first end j : ℕ) → suc j ≡ length left.now → first ≤ j → j ≤ end → IsGoneRun lists.now faces.now.own marks.now (contour_of left.now right.now) first end → result ≡ first }
+// Returns where they begin, from the vertex before the place back.
+fn first_of(marks: &[bool], contour: &Contour, inner: &[u32]) -> usize
+    requires some { 0 < length contour.now.left.items }
+    requires numbers { HaveNumbers (vertices_of contour.now) inner.now (length marks.now) }
+    ensures { (first end j : ℕ) → suc j ≡ length contour.now.left.items → first ≤ j → j ≤ end → IsGoneRun (number_at inner.now (vertices_of contour.now)) marks.now (length (vertices_of contour.now)) first end → result ≡ first }
 {
-    for k in 1..left.len() {
-        if is_kept(marks, lists, faces, hints, left, right, left.len() - 1 - k) {
-            return left.len() - k;
+    for k in 1..contour.left.len() {
+        if is_kept(marks, contour, inner, contour.left.len() - 1 - k) {
+            return contour.left.len() - k;
         }
     }
     0
 }
 
-/// Takes the marks away of what goes with the vertex before the place, and gives the places between which it stands.
+/// Takes the marks away of what goes with the vertex before the place, and returns the places between which it stands.
 pub(crate) fn take_run(
     marks: &mut [bool],
-    lists: &Rotations,
-    faces: &FaceNumbers,
-    hints: &[u16],
-    left: &[u16],
-    right: &[u16],
-    tail: u16,
-    head: u16,
-    places: &[u16],
-    edges: &[u16],
+    tables: &Tables,
+    contour: &Contour,
+    inner: &[u32],
 ) -> (usize, usize)
-    requires based { IsBased lists.now tail head }
-    requires numbers { AreFaceNumbers lists.now faces.now.own faces.now.other faces.now.count }
-    requires marks { length marks.old ≡ faces.now.count }
-    requires some { 0 < length left.now }
-    requires place { (j : ℕ) → suc j ≡ length left.now → IsRemovablePlace faces.now.own faces.now.other marks.old places.now edges.now (contour_of left.now right.now) j }
-    requires counts { AreCounts lists.now faces.now.own faces.now.count (contour_of left.now right.now) places.now edges.now }
-    requires vertices { (i : ℕ) → i < length (contour_of left.now right.now) → slice_index (contour_of left.now right.now) i < length lists.now }
-    requires darts { AreEdges lists.now (contour_of left.now right.now) }
+    requires some { 0 < length contour.now.left.items }
+    requires inner { AreInner tables.now.lists tables.now.faces.own (vertices_of contour.now) inner.now }
+    requires place { (j : ℕ) → suc j ≡ length contour.now.left.items → CanGo tables.now marks.old (vertices_of contour.now) j }
     ensures long { length marks.new ≡ length marks.old }
-    ensures goes { (alive : ℕ → Bool) (w : ℕ → ℕ) (r : ℕ) → IsChoice lists.now faces.now.own marks.old tail head (contour_of left.now right.now) alive w r → GoesOffAt lists.now faces.now.own marks.new alive w r result.0 result.1 }
+    ensures goes { (alive : ℕ → Bool) (w : ℕ → ℕ) (r : ℕ) → IsChoice tables.now.lists tables.now.faces.own marks.old tables.now.tail tables.now.head (vertices_of contour.now) alive w r → GoesOffAt tables.now.lists tables.now.faces.own marks.new alive w r result.0 result.1 }
 {
-    take_at(
-        marks, lists, faces, hints, left, right, tail, head, places, edges,
-    );
+    take_at(marks, tables, contour, inner);
     (
-        first_of(marks, lists, faces, hints, left, right),
-        end_of(marks, lists, faces, hints, left, right),
+        first_of(marks, contour, inner),
+        end_of(marks, contour, inner),
     )
 }

@@ -24,7 +24,7 @@ pub struct FaceNumbers {
     pub count: u32,
 }
 
-// The number of a dart's face.
+// Returns the number of the face of dart `d`.
 fn number_of(map: &HalfMap, faces: &Faces, d: DartId) -> u32
     requires known { IsHalfMap map.now }
     requires faces { AreFaces map.now faces.now }
@@ -110,7 +110,7 @@ fn put_rows(
     Ok(())
 }
 
-/// The numbers of the faces of a map, which are given. It fails only when out of memory. The time is linear in the
+/// Returns the numbers of the faces of a map, by its `faces`. It fails only when out of memory. The time is linear in the
 /// darts, and so is the memory.
 pub fn numbers_of_faces(
     alloc: Global,

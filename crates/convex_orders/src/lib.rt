@@ -6,12 +6,16 @@
 #![tactic(auto)]
 
 mod choice;
-pub mod contour_counts;
+mod contour;
+mod counts;
 pub mod face_numbers;
 mod orders;
 mod placed;
 mod rims;
 mod rounds;
+mod tables;
+mod way;
 
-pub use orders::{RowTables, rows_again, rows_by_faces, tables_of};
-pub use rounds::Tables;
+pub use orders::{rows_again, rows_by_faces, tables_of};
+pub use rounds::RowTables;
+pub use tables::Tables;

@@ -6,17 +6,20 @@ ghost use Rattle.euler_faces.specs.FaceWalks.{AreFaces};
 ghost use Rattle.half_edges.specs.Map.{IsLive, dart_at};
 ghost use Rattle.convex_laws.specs.Removed.{AreRowsOfRun};
 ghost use Rattle.convex_orders.specs.FaceNumbers.{AreFaceNumbers};
-ghost use Rattle.convex_orders.specs.Tables.{AreTables};
+ghost use Rattle.convex_orders.specs.Tables.{IsBlank};
 
+use crate::counts::Counts;
 use crate::face_numbers::{FaceNumbers, numbers_of_faces};
-use crate::rounds::{Tables, put_all};
+use crate::rims::Rims;
+use crate::rounds::RowTables;
+use crate::tables::Tables;
 use convex_laws::convex_rows::ConvexRows;
 use euler_faces::Faces;
 use half_edges::{DartId, HalfMap};
 use map_lists::Rotations;
 use std::alloc::{AllocError, Global};
 
-// Lists as they are, in the memory of others.
+// Returns lists as they are, in the memory of others.
 fn copied(spent: Rotations, lists: &Rotations) -> Result<Rotations, AllocError>
     ensures { IfOk result (λ copy. copy ≡ lists.now) }
 {
@@ -28,8 +31,8 @@ fn copied(spent: Rotations, lists: &Rotations) -> Result<Rotations, AllocError>
     Ok(Rotations::from_parts(entries, ends))
 }
 
-/// Tables of a map for the dart from `tail` to `head` as its base: its lists, in the memory of others, and the numbers
-/// of its faces.
+/// Returns tables of a map for the dart from `tail` to `head` as its base: its lists, in the memory of others, and the
+/// numbers of its faces.
 pub fn tables_of(
     spent: Rotations,
     lists: &Rotations,
@@ -42,7 +45,6 @@ pub fn tables_of(
     requires base { HasDart lists.now tail head }
     requires few { length lists.now < 4096 }
     requires numbers { AreFaceNumbers lists.now faces.own faces.other faces.count }
-    ensures known { IfOk result AreTables }
     ensures lists { IfOk result (λ made. made.lists ≡ lists.now) }
     ensures faces { IfOk result (λ made. made.faces ≡ faces) }
     ensures tail { IfOk result (λ made. made.tail ≡ tail) }
@@ -57,41 +59,7 @@ pub fn tables_of(
     })
 }
 
-/// The rows of a run, and the tables of the search for them. What the tables hold from run to run is memory alone.
-#[derive(Drop)]
-pub struct RowTables {
-    /// The rows.
-    pub rows: ConvexRows,
-    marks: Vec<bool>,
-    places: Vec<u16>,
-    edges: Vec<u16>,
-    hints: Vec<u16>,
-    left: Vec<u16>,
-    right: Vec<u16>,
-    cuts: Vec<u16>,
-}
-
-impl RowTables {
-    /// Tables of no run. They take no memory.
-    pub fn new(alloc: Global) -> RowTables {
-        RowTables {
-            rows: ConvexRows {
-                rows: Rotations::new(alloc),
-                cuts: Rotations::new(alloc),
-                news: Rotations::new(alloc),
-            },
-            marks: Vec::new(alloc),
-            places: Vec::new(alloc),
-            edges: Vec::new(alloc),
-            hints: Vec::new(alloc),
-            left: Vec::new(alloc),
-            right: Vec::new(alloc),
-            cuts: Vec::new(alloc),
-        }
-    }
-}
-
-// No rows, in the memory of others.
+// Returns no rows, in the memory of others.
 fn no_rows(spent: ConvexRows) -> ConvexRows
     ensures rows { result.rows ≡ [] }
     ensures cuts { result.cuts ≡ [] }
@@ -106,7 +74,7 @@ fn no_rows(spent: ConvexRows) -> ConvexRows
     ConvexRows { rows, cuts, news }
 }
 
-// So many zeros, in the memory of other numbers.
+// Returns `count` zeros, in the memory of other numbers.
 fn zeros(spent: Vec<u16>, count: usize) -> Result<Vec<u16>, AllocError>
     ensures { IfOk result (λ made. made.items ≡ replicate count 0) }
 {
@@ -116,7 +84,17 @@ fn zeros(spent: Vec<u16>, count: usize) -> Result<Vec<u16>, AllocError>
     Ok(made)
 }
 
-// So many marks that are set, in the memory of others.
+// Returns `count` zeros for numbers of faces, in the memory of others.
+fn wide_zeros(spent: Vec<u32>, count: usize) -> Result<Vec<u32>, AllocError>
+    ensures { IfOk result (λ made. made.items ≡ replicate count 0) }
+{
+    let mut made = spent;
+    made.clear();
+    made.resize(count, 0)?;
+    Ok(made)
+}
+
+// Returns `count` marks that are set, in the memory of others.
 fn all_set(spent: Vec<bool>, count: usize) -> Result<Vec<bool>, AllocError>
     ensures { IfOk result (λ made. made.items ≡ replicate count true) }
 {
@@ -126,55 +104,58 @@ fn all_set(spent: Vec<bool>, count: usize) -> Result<Vec<bool>, AllocError>
     Ok(made)
 }
 
-// No vertices, in the memory of others.
-fn none(spent: Vec<u16>) -> Vec<u16>
-    ensures { result.items ≡ [] }
+// Returns tables before the first removal of a run, in the memory of others.
+fn blank(spent: RowTables, tables: &Tables) -> Result<RowTables, AllocError>
+    ensures { IfOk result (λ made. IsBlank tables.now made) }
 {
-    let mut made = spent;
-    made.clear();
-    made
+    let n = tables.lists.len();
+    let count = tables.faces.count as usize;
+    let RowTables {
+        rows,
+        marks,
+        contour,
+        rims,
+        counts,
+        cuts,
+    } = spent;
+    let Rims {
+        hints,
+        inner,
+        outer,
+    } = rims;
+    let Counts { places, edges } = counts;
+    let mut contour = contour;
+    contour.clear();
+    Ok(RowTables {
+        rows: no_rows(rows),
+        marks: all_set(marks, count)?,
+        contour,
+        rims: Rims {
+            hints: zeros(hints, n)?,
+            inner: wide_zeros(inner, n)?,
+            outer: wide_zeros(outer, n)?,
+        },
+        counts: Counts {
+            places: zeros(places, count)?,
+            edges: zeros(edges, count)?,
+        },
+        cuts,
+    })
 }
 
-/// The rows of a run of a three-connected map of genus zero by its tables, in the memory of other rows. It fails only
-/// when out of memory.
+/// Returns the rows of a run of a three-connected map of genus zero by its tables, in the memory of other rows. It fails
+/// only when out of memory.
 ///
 /// The run makes all faces but that of the base. Its first two ranks stand for the base's head and its tail, and the
 /// last one for the vertex before the base on the base's face.
 pub fn rows_again(spent: RowTables, tables: &Tables) -> Result<RowTables, AllocError>
-    requires known { AreTables tables.now }
     ensures { IfOk result (λ made. AreRowsOfRun tables.now.lists tables.now.tail tables.now.head made.rows) }
 {
-    let count = tables.faces.count as usize;
-    let mut rows = no_rows(spent.rows);
-    let mut marks = all_set(spent.marks, count)?;
-    let mut places = zeros(spent.places, count)?;
-    let mut edges = zeros(spent.edges, count)?;
-    let mut hints = zeros(spent.hints, tables.lists.len())?;
-    let mut left = none(spent.left);
-    let mut right = none(spent.right);
-    let mut cuts = none(spent.cuts);
-    put_all(
-        &mut cuts,
-        &mut rows,
-        &mut marks,
-        &mut left,
-        &mut right,
-        &mut places,
-        &mut edges,
-        &mut hints,
-        tables,
-    )?;
-    Ok(RowTables {
-        rows,
-        marks,
-        places,
-        edges,
-        hints,
-        left,
-        right,
-        cuts,
-    })
+    let mut made = blank(spent, tables)?;
+    made.put_all(tables)?;
+    Ok(made)
 }
+
 /// Returns the rows of a run of a three-connected map of genus zero from the dart `base`, from s to d, by the map's
 /// `lists` and its `faces`. It fails only when out of memory, and the map stays as it is.
 ///

@@ -1,20 +1,28 @@
 //! The contour, traced along the darts of the rim.
-ghost use Rattle.std.specs.Prelude.{◌≡◌, ◌≢◌, ◌+◌, ◌<◌, ◌≤◌, ◌⊎◌, ◌↔◌, ℕ, Bool, true, false, [], ◌∷◌, ◌++◌, length, slice_index, All, IsTrue, IfOk, IfSome};
-ghost use Rattle.map_theory.specs.Maps.{HasDart, IsSimpleMap, list_of};
-ghost use Rattle.convex_orders.specs.FaceNumbers.{entry, AreFaceNumbers};
+ghost use Rattle.std.specs.Prelude.{◌≡◌, ◌≢◌, ◌+◌, ◌<◌, ◌≤◌, ◌⊎◌, ◌↔◌, ℕ, Bool, true, false, [], ◌∷◌, ◌++◌, length, slice_index, slice_set, All, IsTrue, IfOk, IfSome};
+ghost use Rattle.map_theory.specs.Maps.{HasDart, list_of};
+ghost use Rattle.convex_orders.specs.FaceNumbers.{entry};
 ghost use Rattle.convex_orders.specs.Shown.{is_set, IsListOf, IsTrace, SomeTrace, IsRimIn};
-ghost use Rattle.convex_orders.specs.Splits.{IsRimAt};
+ghost use Rattle.convex_orders.specs.Splits.{IsRimAt, AreRowsBelow};
+ghost use Rattle.convex_orders.specs.Noted.{AreRims, IsSeen, AreNoted};
 
-use crate::contour_counts::hint_at;
-use crate::face_numbers::FaceNumbers;
-use map_lists::Rotations;
-use std::alloc::AllocError;
+use crate::tables::Tables;
+use std::alloc::{AllocError, Global};
 
-// The first place where the one number has no mark, and the other one has.
+/// What was seen of a contour at each vertex.
+#[derive(Drop)]
+pub(crate) struct Rims {
+    /// Where the dart along the contour was in the list of the vertex; whatever this holds, all answers are the same.
+    pub(crate) hints: Vec<u16>,
+    /// The number of the face inside of the edge to the next vertex.
+    pub(crate) inner: Vec<u32>,
+    /// The number of the face outside of it.
+    pub(crate) outer: Vec<u32>,
+}
+
+// Returns the first place where the one number has no mark, and the other one has.
 fn first_rim(own: &[u32], other: &[u32], marks: &[bool]) -> usize
-    requires long { length other.now ≡ length own.now }
-    requires own_in { (k : ℕ) → k < length own.now → slice_index own.now k < length marks.now }
-    requires other_in { (k : ℕ) → k < length other.now → slice_index other.now k < length marks.now }
+    requires rows { AreRowsBelow own.now other.now (length marks.now) }
     requires some { (k : ℕ) × IsRimAt own.now other.now marks.now k }
     ensures { IsRimAt own.now other.now marks.now result }
 {
@@ -28,9 +36,7 @@ fn first_rim(own: &[u32], other: &[u32], marks: &[bool]) -> usize
 
 // Returns the first such place from `from` on, if there is one.
 fn rim_from(own: &[u32], other: &[u32], marks: &[bool], from: usize) -> Option<usize>
-    requires long { length other.now ≡ length own.now }
-    requires own_in { (k : ℕ) → k < length own.now → slice_index own.now k < length marks.now }
-    requires other_in { (k : ℕ) → k < length other.now → slice_index other.now k < length marks.now }
+    requires rows { AreRowsBelow own.now other.now (length marks.now) }
     ensures { IfSome result (λ k. IsRimAt own.now other.now marks.now k) }
 {
     for k in from..own.len() {
@@ -41,11 +47,9 @@ fn rim_from(own: &[u32], other: &[u32], marks: &[bool], from: usize) -> Option<u
     None
 }
 
-// Such a place, which is looked for from `from` on first.
+// Returns such a place, which is looked for from `from` on first.
 fn rim_near(own: &[u32], other: &[u32], marks: &[bool], from: usize) -> usize
-    requires long { length other.now ≡ length own.now }
-    requires own_in { (k : ℕ) → k < length own.now → slice_index own.now k < length marks.now }
-    requires other_in { (k : ℕ) → k < length other.now → slice_index other.now k < length marks.now }
+    requires rows { AreRowsBelow own.now other.now (length marks.now) }
     requires some { (k : ℕ) × IsRimAt own.now other.now marks.now k }
     ensures { IsRimAt own.now other.now marks.now result }
 {
@@ -55,51 +59,58 @@ fn rim_near(own: &[u32], other: &[u32], marks: &[bool], from: usize) -> usize
     }
 }
 
-// Notes where the rim is at a vertex.
-fn note(hints: &mut [u16], v: usize, k: usize) {
-    if v < hints.len() {
-        hints[v] = (k & 0xffff) as u16;
-    }
-}
-
-// The head of a dart of the rim, which is looked for where it was last seen: at a hub it goes on in one direction.
-fn next_on(lists: &Rotations, faces: &FaceNumbers, marks: &[bool], hints: &mut [u16], x: u16) -> u16
-    requires simple { IsSimpleMap lists.now }
-    requires numbers { AreFaceNumbers lists.now faces.now.own faces.now.other faces.now.count }
-    requires marks { length marks.now ≡ faces.now.count }
-    requires some { (y : ℕ) × IsRimIn lists.now faces.now.own faces.now.other marks.now x y }
-    ensures { IsRimIn lists.now faces.now.own faces.now.other marks.now x result }
-{
-    let v = x as usize;
-    let from = hint_at(hints, v);
-    let k = rim_near(faces.own.list(v), faces.other.list(v), marks, from);
-    note(hints, v, k);
-    lists.list(v)[k]
-}
-
-/// Goes along the contour from the last vertex of the list on, and appends what it meets, up to the vertex `stop`.
-/// `hints` says where the rim was last seen at each vertex; whatever it holds, the answer is the same.
-pub(crate) fn trace(
-    left: &mut Vec<u16>,
-    lists: &Rotations,
-    faces: &FaceNumbers,
-    marks: &[bool],
-    hints: &mut [u16],
-    stop: u16,
-) -> Result<(), AllocError>
-    requires simple { IsSimpleMap lists.now }
-    requires numbers { AreFaceNumbers lists.now faces.now.own faces.now.other faces.now.count }
-    requires marks { length marks.now ≡ faces.now.count }
-    requires some { SomeTrace lists.now faces.now.own marks.now left.old.items stop }
-    ensures { IfOk result (λ _. (alive : ℕ → Bool) (w : ℕ → ℕ) (r a b : ℕ) → IsTrace lists.now faces.now.own marks.now left.old.items stop alive w r a b → IsListOf left.new.items w b) }
-{
-    let mut x = left[left.len() - 1];
-    for _ in 0..lists.len() {
-        x = next_on(lists, faces, marks, hints, x);
-        left.push(x)?;
-        if x == stop {
-            return Ok(());
+impl Rims {
+    /// Returns room for no vertex. It takes no memory.
+    pub(crate) fn new(alloc: Global) -> Rims {
+        Rims {
+            hints: Vec::new(alloc),
+            inner: Vec::new(alloc),
+            outer: Vec::new(alloc),
         }
     }
-    Ok(())
+
+    // Notes the edge at place `k` of the list of a vertex, which is looked for where it was last seen: at a hub it goes
+    // on in one direction. Returns the vertex to which it leads.
+    fn see(&mut self, tables: &Tables, marks: &[bool], x: u16) -> u16
+        requires marks { length marks.now ≡ tables.now.faces.count }
+        requires size { AreRims self.old (length tables.now.lists) }
+        requires some { (y : ℕ) × IsRimIn tables.now.lists tables.now.faces.own tables.now.faces.other marks.now x y }
+        ensures rim { IsRimIn tables.now.lists tables.now.faces.own tables.now.faces.other marks.now x result }
+        ensures seen { IsSeen tables.now.lists tables.now.faces.own x result self.old self.new }
+    {
+        let v = x as usize;
+        let own = tables.faces.own.list(v);
+        let other = tables.faces.other.list(v);
+        let k = rim_near(own, other, marks, usize::from(self.hints[v]));
+        self.hints[v] = (k & 0xffff) as u16;
+        self.inner[v] = other[k];
+        self.outer[v] = own[k];
+        tables.lists.list(v)[k]
+    }
+
+    /// Goes along the contour from the last vertex of the list on, and appends what it meets, up to the vertex `stop`.
+    pub(crate) fn trace(
+        &mut self,
+        left: &mut Vec<u16>,
+        tables: &Tables,
+        marks: &[bool],
+        stop: u16,
+    ) -> Result<(), AllocError>
+        requires marks { length marks.now ≡ tables.now.faces.count }
+        requires size { AreRims self.old (length tables.now.lists) }
+        requires some { SomeTrace tables.now.lists tables.now.faces.own marks.now left.old.items stop }
+        ensures list { IfOk result (λ _. (alive : ℕ → Bool) (w : ℕ → ℕ) (r a b : ℕ) → IsTrace tables.now.lists tables.now.faces.own marks.now left.old.items stop alive w r a b → IsListOf left.new.items w b) }
+        ensures noted { IfOk result (λ _. (alive : ℕ → Bool) (w : ℕ → ℕ) (r a b : ℕ) → IsTrace tables.now.lists tables.now.faces.own marks.now left.old.items stop alive w r a b → AreNoted tables.now.lists tables.now.faces.own w a b self.old self.new) }
+        ensures size { AreRims self.new (length tables.now.lists) }
+    {
+        let mut x = left[left.len() - 1];
+        for _ in 0..tables.lists.len() {
+            x = self.see(tables, marks, x);
+            left.push(x)?;
+            if x == stop {
+                return Ok(());
+            }
+        }
+        Ok(())
+    }
 }

@@ -1,7 +1,6 @@
 use Rattle.std.proofs.Common.{◌≡◌, sym, ap, ◌∙◌, inl, inr, arith}
 use Rattle.std.proofs.lemmas.Bool.{cases_lt, true≢false}
-use Rattle.convex_orders.specs.Contours.{contour_of, inner_number}
-use Rattle.convex_orders.proofs.Moves.{length-contour}
+use Rattle.convex_orders.specs.Contours.{vertices_of, number_at}
 use Rattle.convex_orders.specs.Shown.{is_set}
 use Rattle.convex_orders.proofs.choice.end_of.Goals as goal
 
@@ -18,17 +17,14 @@ pub loop-i-preserved : goal.loop-i-preserved
 loop-i-preserved c = λ first end j e low high run.
     let i = c.loop-i.i in
     let l = c.loop-i.invariant first end j e low high run in
-    let n = length-contour c.args.left.now c.args.right.now in
     elim (cases_lt i end) [
       | inl less ↦ omega arith
       | inr most ↦
           let z : i ≡ end = omega arith in
-          absurd (true≢false (sym (ap (λ k. is_set c.args.marks.now (inner_number c.args.lists.now c.args.faces.now.own (contour_of c.args.left.now c.args.right.now) k)) z ∙ run.high (omega (arith, c.loop-i-test.true, z, n))) ∙ (sym c.is_kept.ensures ∙ c.if-is_kept.false)))
+          absurd (true≢false (sym (ap (λ k. is_set c.args.marks.now (number_at c.args.inner.now (vertices_of c.args.contour.now) k)) z ∙ run.high (omega (arith, c.loop-i-test.true, z, c.len-i-end.ensures))) ∙ (sym c.is_kept.ensures ∙ c.if-is_kept.false)))
     ]
 
 pub returns : goal.returns
 returns c = λ first end j e low high run.
     let l = c.loop-i.invariant first end j e low high run in
-    let n = length-contour c.args.left.now c.args.right.now in
-    let within = run.within in
-    omega (arith, l, n, within, c.loop-i-test.false)
+    omega (arith, l, run.within, c.loop-i-test.false, c.len.ensures)

@@ -1,4 +1,4 @@
-use Rattle.std.proofs.Common.{◌-◌, ℕ, length, sym, ◌∙◌, inl, inr, arith}
+use Rattle.std.proofs.Common.{◌-◌, ℕ, sym, ◌∙◌, inl, inr, arith}
 use Rattle.std.proofs.lemmas.Bool.{cases_lt, true≢false}
 use Rattle.convex_orders.proofs.choice.first_of.Goals as goal
 
@@ -6,20 +6,20 @@ pub returns-then-is_kept : goal.returns-then-is_kept
 returns-then-is_kept c = λ first end j e low high run.
     let k = c.loop-k.k in
     let l = c.loop-k.invariant first end j e low high run in
-    let p : ℕ = length c.args.left.now - 1 - k in
+    let p : ℕ = c.len.result - 1 - k in
     elim (cases_lt p first) [
-      | inl less ↦ omega (arith, c.loop-k-test.true)
-      | inr most ↦ absurd (true≢false (sym c.if-is_kept.true ∙ (c.is_kept.ensures ∙ run.gone p most (omega (arith, c.loop-k.auto.k)))))
+      | inl less ↦ omega (arith, l, c.loop-k-test.true, c.len.ensures)
+      | inr most ↦ absurd (true≢false (sym c.if-is_kept.true ∙ (c.is_kept.ensures ∙ run.gone p most (omega (arith, c.loop-k.auto.k, c.len.ensures)))))
     ]
 
 pub loop-k-preserved : goal.loop-k-preserved
 loop-k-preserved c = λ first end j e low high run.
     let k = c.loop-k.k in
     let l = c.loop-k.invariant first end j e low high run in
-    let p : ℕ = length c.args.left.now - 1 - k in
+    let p : ℕ = c.len.result - 1 - k in
     elim (cases_lt p first) [
-      | inl less ↦ absurd (true≢false (sym (run.low p (omega (arith, c.loop-k-test.true))) ∙ (sym c.is_kept.ensures ∙ c.if-is_kept.false)))
-      | inr most ↦ omega (arith, c.loop-k-test.true)
+      | inl less ↦ absurd (true≢false (sym (run.low p (omega (arith, l, c.loop-k-test.true, c.len.ensures))) ∙ (sym c.is_kept.ensures ∙ c.if-is_kept.false)))
+      | inr most ↦ omega (arith, l, c.loop-k-test.true, c.len.ensures)
     ]
 
 pub returns : goal.returns

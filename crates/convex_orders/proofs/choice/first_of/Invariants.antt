@@ -1,7 +1,7 @@
 use Rattle.std.proofs.Common.{ℕ, suc, ◌+◌, ◌≤◌, ◌≡◌, length}
-use Rattle.convex_orders.specs.Contours.{contour_of}
+use Rattle.convex_orders.specs.Contours.{vertices_of, number_at}
 use Rattle.convex_orders.specs.Splits.{IsGoneRun}
 use Rattle.convex_orders.proofs.choice.first_of.Given as goal
 
 abbrev pub invariant-loop-k : goal.invariant-loop-k
-invariant-loop-k l = (first end j : ℕ) → suc j ≡ length l.left → first ≤ j → j ≤ end → IsGoneRun l.lists l.faces.own l.marks (contour_of l.left l.right) first end → first + l.k ≤ length l.left
+invariant-loop-k l = (first end j : ℕ) → suc j ≡ length l.contour.left.items → first ≤ j → j ≤ end → IsGoneRun (number_at l.inner (vertices_of l.contour)) l.marks (length (vertices_of l.contour)) first end → first + l.k ≤ length l.contour.left.items

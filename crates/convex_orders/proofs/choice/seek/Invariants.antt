@@ -1,12 +1,12 @@
 use Rattle.std.proofs.Common.{ℕ, ◌<◌, ◌≡◌, ◌+◌, length}
-use Rattle.convex_orders.specs.Contours.{contour_of}
+use Rattle.convex_orders.specs.Contours.{vertices_of}
 use Rattle.convex_orders.specs.Splits.{IsRemovablePlace}
 use Rattle.convex_orders.proofs.choice.seek.Given as goal
 
 abbrev pub invariant-loop : goal.invariant-loop
 invariant-loop l = record {
-  same : contour_of l.left.items l.right.items ≡ contour_of l.initial.left.items l.initial.right.items;
-  long : length l.left.items + l.counter ≡ length l.initial.left.items + 1;
-  behind : 0 < length l.right.items;
-  none : (j : ℕ) → IsRemovablePlace l.faces.own l.faces.other l.marks l.places l.edges (contour_of l.initial.left.items l.initial.right.items) j → j < length l.initial.left.items → j < length l.left.items;
+  same : vertices_of l.contour ≡ vertices_of l.initial.contour;
+  long : length l.contour.left.items + l.counter ≡ length l.initial.contour.left.items + 1;
+  behind : 0 < length l.contour.right.items;
+  none : (j : ℕ) → IsRemovablePlace l.tables.faces.own l.tables.faces.other l.marks l.counts.places.items l.counts.edges.items (vertices_of l.initial.contour) j → j < length l.initial.contour.left.items → j < length l.contour.left.items;
 }

@@ -1,19 +1,30 @@
-use Rattle.std.proofs.Common.{◌≡◌, ◌+◌, ◌-◌, ℕ, suc, subst, arith}
+use Rattle.std.proofs.Common.{◌≡◌, ◌+◌, ◌-◌, ℕ, suc, sym, ap, ◌∙◌, eqb-true, eq-eqb, subst, arith}
+use Rattle.convex_orders.specs.Contours.{number_at}
 use Rattle.convex_orders.proofs.CutLemmas.{IsCutTo, cuts_more, cuts_last}
 use Rattle.convex_orders.proofs.placed.put_cuts.Goals as goal
 
 pub loop-p-preserved : goal.loop-p-preserved
-loop-p-preserved c = λ faces cut are.
+loop-p-preserved c =
     let p = c.loop-p.p in
     let q : ℕ = p - 1 in
     let first = c.args.first in
+    let number = number_at c.args.outer.now c.args.ws.now in
+    let before : suc q ≡ p = omega (arith, c.loop-p.auto.p) in
+    let here : c.loop-p.number ≡ number q = c.loop-p.invariant.number q before in
     let z : suc p ≡ p + 1 = omega arith in
-    subst (λ k. IsCutTo c.push_unless.new.row.items first k faces cut) z (cuts_more c.args.lists.now c.args.faces.now.own c.args.ws.now first c.args.last faces cut are c.loop-p.row.items c.push_unless.new.row.items p q c.same_edge-test.result (omega (arith, c.loop-p.auto.p)) c.loop-p-test.true
-    c.same_edge-test.ensures.0 c.same_edge-test.ensures.1 (p - first) (omega (arith, c.loop-p.auto.p)) c.in_ok-push_unless.ensures (c.loop-p.invariant faces cut are))
+    record {
+      number = λ k e. (let y : p ≡ k = omega (arith, e) in ap number y);
+      cuts = λ faces cut are.
+          subst (λ k. IsCutTo c.push_unless.new.row.items first k faces cut) z
+          (cuts_more number first c.args.last faces cut are c.loop-p.row.items c.push_unless.new.row.items p q _ before c.loop-p-test.true
+          (λ t. sym here ∙ (eqb-true _ _ t ∙ ap number (sym before)))
+          (λ e. eq-eqb _ _ (here ∙ (e ∙ ap number before)))
+          (p - first) (omega (arith, c.loop-p.auto.p)) c.in_ok-push_unless.ensures (c.loop-p.invariant.cuts faces cut are));
+    }
 
 pub returns : goal.returns
 returns c = λ faces cut are.
     let first = c.args.first in
     let last = c.args.last in
     let end : c.loop-p.p ≡ last = omega (arith, c.loop-p-test.false, c.loop-p.auto.p-end, c.requires.order) in
-    cuts_last c.args.lists.now c.args.faces.now.own c.args.ws.now first last faces cut are c.loop-p.row.items c.push-2.new.self.items (last - first) (omega (arith, c.requires.order)) c.in_ok-push-2.ensures.items (subst (λ z. IsCutTo c.loop-p.row.items first z faces cut) end (c.loop-p.invariant faces cut are))
+    cuts_last (number_at c.args.outer.now c.args.ws.now) first last faces cut are c.loop-p.row.items c.push-2.new.self.items (last - first) (omega (arith, c.requires.order)) c.in_ok-push-2.ensures.items (subst (λ z. IsCutTo c.loop-p.row.items first z faces cut) end (c.loop-p.invariant.cuts faces cut are))

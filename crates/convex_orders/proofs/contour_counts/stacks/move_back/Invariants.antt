@@ -1,9 +1,0 @@
-use Rattle.std.proofs.Common.{◌≡◌, ◌+◌, length}
-use Rattle.convex_orders.specs.Contours.{contour_of}
-use Rattle.convex_orders.proofs.contour_counts.stacks.move_back.Given as goal
-
-abbrev pub invariant-loop : goal.invariant-loop
-invariant-loop l = record {
-  same : contour_of l.left.items l.right.items ≡ contour_of l.initial.left.items l.initial.right.items;
-  long : length l.left.items + l.counter ≡ length l.initial.left.items + l.count;
-}

@@ -1,0 +1,12 @@
+use Rattle.std.proofs.Common.{ℕ, suc, ◌≡◌, ◌+◌, Bool, length, slice_index}
+use Rattle.convex_orders.specs.Noted.{AreRims, AreNoted}
+use Rattle.convex_orders.specs.Shown.{IsTrace}
+use Rattle.convex_orders.proofs.rims.Rims.trace.Given as goal
+
+abbrev pub invariant-loop : goal.invariant-loop
+invariant-loop l = record {
+  size : AreRims l.self (length l.tables.lists);
+  all : (alive : ℕ → Bool) (w : ℕ → ℕ) (r a b : ℕ) → IsTrace l.tables.lists l.tables.faces.own l.marks l.initial.left.items l.stop alive w r a b → IsTrace l.tables.lists l.tables.faces.own l.marks l.left.items l.stop alive w r (a + l.counter) b;
+  noted : (alive : ℕ → Bool) (w : ℕ → ℕ) (r a b : ℕ) → IsTrace l.tables.lists l.tables.faces.own l.marks l.initial.left.items l.stop alive w r a b → AreNoted l.tables.lists l.tables.faces.own w a (a + l.counter) l.initial.self l.self;
+  last : (k : ℕ) → suc k ≡ length l.left.items → slice_index l.left.items k ≡ l.x;
+}

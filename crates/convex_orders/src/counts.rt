@@ -1,0 +1,104 @@
+//! How often a contour meets each number of a face, as parts of it come and go.
+ghost use Rattle.std.specs.Prelude.{◌≡◌, ◌-◌, ◌<◌, ◌==◌, ℕ, suc, length, slice_index, count_by, All};
+ghost use Rattle.map_theory.specs.Maps.{list_of};
+ghost use Rattle.convex_orders.specs.Contours.{AreInner, number_at};
+ghost use Rattle.convex_orders.specs.Counts.{met_below, numbered_below, AreCounts};
+ghost use Rattle.convex_orders.specs.Moved.{HaveSize, AreNone, CanMoveAll, AreMoved};
+ghost use Rattle.convex_orders.specs.Ways.{CanMove, IsMoved};
+
+use crate::contour::part;
+use crate::tables::Tables;
+use crate::way::Way;
+use map_lists::ItemLists;
+use std::alloc::Global;
+
+/// For each number of a face how often the rows of the vertices of a contour have it, and how many of its edges.
+#[derive(Drop)]
+pub(crate) struct Counts {
+    pub(crate) places: Vec<u16>,
+    pub(crate) edges: Vec<u16>,
+}
+
+// Counts each entry of a row.
+fn move_row(counts: &mut [u16], way: Way, row: &[u32])
+    requires within { All (λ u. u < length counts.old) row.now }
+    requires can { (f : ℕ) → f < length counts.old → CanMove way (slice_index counts.old f) (count_by (λ u. u == f) row.now) }
+    ensures { (f : ℕ) → f < length counts.old → IsMoved way (slice_index counts.old f) (count_by (λ u. u == f) row.now) (slice_index counts.new f) }
+{
+    for u in row {
+        let f = *u as usize;
+        counts[f] = way.moved(counts[f]);
+    }
+}
+
+// Counts the rows of vertices.
+fn move_rows(counts: &mut [u16], way: Way, own: &ItemLists<u32>, vs: &[u16])
+    requires vertices { (i : ℕ) → i < length vs.now → slice_index vs.now i < length own.now }
+    requires below { (v : ℕ) → v < length own.now → All (λ f. f < length counts.old) (list_of own.now v) }
+    requires can { (f : ℕ) → f < length counts.old → CanMove way (slice_index counts.old f) (met_below own.now vs.now (length vs.now) f) }
+    ensures { (f : ℕ) → f < length counts.old → IsMoved way (slice_index counts.old f) (met_below own.now vs.now (length vs.now) f) (slice_index counts.new f) }
+{
+    for i in 0..vs.len() {
+        move_row(counts, way, own.list(vs[i] as usize));
+    }
+}
+
+// Counts the edges along vertices; `inner` has the number of that from each one on.
+fn move_edges(counts: &mut [u16], way: Way, inner: &[u32], vs: &[u16])
+    requires some { 0 < length vs.now }
+    requires vertices { (i : ℕ) → suc i < length vs.now → slice_index vs.now i < length inner.now }
+    requires below { (i : ℕ) → suc i < length vs.now → number_at inner.now vs.now i < length counts.old }
+    requires can { (f : ℕ) → f < length counts.old → CanMove way (slice_index counts.old f) (numbered_below (number_at inner.now vs.now) (length vs.now - 1) f) }
+    ensures { (f : ℕ) → f < length counts.old → IsMoved way (slice_index counts.old f) (numbered_below (number_at inner.now vs.now) (length vs.now - 1) f) (slice_index counts.new f) }
+{
+    for i in 0..vs.len() - 1 {
+        let f = inner[vs[i] as usize] as usize;
+        counts[f] = way.moved(counts[f]);
+    }
+}
+
+impl Counts {
+    /// Returns counts of no number. They take no memory.
+    pub(crate) fn new(alloc: Global) -> Counts {
+        Counts {
+            places: Vec::new(alloc),
+            edges: Vec::new(alloc),
+        }
+    }
+
+    /// Counts from `first` to `last` of a list: the rows of the vertices strictly between, and all edges.
+    pub(crate) fn move_part(
+        &mut self,
+        way: Way,
+        tables: &Tables,
+        inner: &[u32],
+        ws: &[u16],
+        first: usize,
+        last: usize,
+    )
+        requires size { HaveSize self.old tables.now.faces.count }
+        requires inner { AreInner tables.now.lists tables.now.faces.own ws.now inner.now }
+        requires order { first < last }
+        requires within { last < length ws.now }
+        requires can { CanMoveAll tables.now.lists tables.now.faces.own tables.now.faces.count way ws.now first last self.old }
+        ensures { AreMoved tables.now.lists tables.now.faces.own tables.now.faces.count way ws.now first last self.old self.new }
+    {
+        let own = &tables.faces.own;
+        move_rows(&mut self.places, way, own, part(ws, first + 1, last));
+        move_edges(&mut self.edges, way, inner, part(ws, first, last + 1));
+    }
+
+    /// Counts a whole contour, where there are no counts yet.
+    pub(crate) fn count_all(&mut self, tables: &Tables, inner: &[u32], ws: &[u16])
+        requires size { HaveSize self.old tables.now.faces.count }
+        requires inner { AreInner tables.now.lists tables.now.faces.own ws.now inner.now }
+        requires some { 0 < length ws.now }
+        requires few { length ws.now < 65536 }
+        requires none { AreNone self.old }
+        requires once { (f : ℕ) → met_below tables.now.faces.own ws.now (length ws.now) f < 65536 }
+        ensures { AreCounts tables.now.lists tables.now.faces.own tables.now.faces.count ws.now self.new.places.items self.new.edges.items }
+    {
+        move_rows(&mut self.places, Way::Comes, &tables.faces.own, ws);
+        move_edges(&mut self.edges, Way::Comes, inner, ws);
+    }
+}

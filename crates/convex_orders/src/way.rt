@@ -1,0 +1,24 @@
+//! Whether a part of a contour comes or goes.
+ghost use Rattle.convex_orders.specs.Ways.{CanMove, IsMoved};
+
+/// Whether a part of a contour comes or goes.
+#[derive(Copy, Clone, Drop)]
+pub(crate) enum Way {
+    /// It comes: counts rise.
+    Comes,
+    /// It goes: counts fall.
+    Goes,
+}
+
+impl Way {
+    /// Returns a count that is one more, or one less.
+    pub(crate) fn moved(self, count: u16) -> u16
+        requires { CanMove self count 1 }
+        ensures { IsMoved self count 1 result }
+    {
+        match self {
+            Way::Comes => count + 1,
+            Way::Goes => count - 1,
+        }
+    }
+}
