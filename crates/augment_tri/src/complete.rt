@@ -15,8 +15,8 @@ use std::alloc::{AllocError, Global};
 /// The map, which has genus zero and at least three vertices, with edges put in until there are 3n - 6:
 /// its components are joined, and then ears of faces that are no triangles are cut.
 ///
-/// Each old list is the new one without what is new in it, and all old darts keep their ids. For want of
-/// memory the map is handed back as it was. The time is linear in the vertices and edges: whether two
+/// Each old list is the new one without what is new in it, and all old darts keep their ids. When memory
+/// runs out the map is handed back as it was. The time is linear in the vertices and edges: whether two
 /// vertices are adjacent is looked up in the shorter one of two lists.
 pub fn triangulate(alloc: Global, map: HalfMap) -> Result<HalfMap, (HalfMap, AllocError)>
     requires plane { IsPlane map.lists }

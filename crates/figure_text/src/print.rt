@@ -111,8 +111,8 @@ pub fn print_grid(
     printer.print_grid(number, job, lists, points, out)
 }
 
-/// Appends the text of a visibility drawing with this number, of lists and a bar for each of them. After want of
-/// memory the bytes are as they were.
+/// Appends the text of a visibility drawing with this number, of lists and a bar for each of them. When memory
+/// runs out the bytes are as they were.
 pub fn print_bars(
     alloc: Global,
     number: u32,
@@ -128,8 +128,8 @@ pub fn print_bars(
     printer.print_bars(number, lists, bars, out)
 }
 
-/// Appends the text of a rectangular dual with this number, of lists and a rectangle for each of them. After want
-/// of memory the bytes are as they were.
+/// Appends the text of a rectangular dual with this number, of lists and a rectangle for each of them. When
+/// memory runs out the bytes are as they were.
 pub fn print_rects(
     alloc: Global,
     number: u32,

@@ -18,8 +18,8 @@ use refusals::{Refusal, Unserved};
 use std::alloc::{AllocError, Global};
 
 /// Appends the block of a job over planar_code for a record with these lists, which are from 1 to 4095, and
-/// answers whether the record was served. The record's `number` is from 1 to 16777216. After want
-/// of memory nothing has changed.
+/// answers whether the record was served. The record's `number` is from 1 to 16777216. When memory
+/// runs out nothing has changed.
 pub fn answer_record(
     alloc: Global,
     job: Job,

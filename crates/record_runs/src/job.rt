@@ -15,8 +15,8 @@ pub trait Job<F: Format> {
     /// The texts that a job of this kind writes.
     ghost answers: { Self.Kind → Answers F.Record F.End };
 
-    /// Appends the block of record `number`, and answers whether the record was served. After want of
-    /// memory `out` is as before.
+    /// Appends the block of record `number`, and answers whether the record was served. When memory
+    /// runs out `out` is as before.
     fn answer(
         &mut self,
         number: u32,
