@@ -1,5 +1,5 @@
 -- From the theorem on graphs and the drawings of maps.
-use Rattle.std.proofs.Common.{◌≡◌, ◌≢◌, ℕ, ◌<◌, ◌≤◌, true, ◌∙◌, inl, inr, arith}
+use Rattle.std.proofs.Common.{◌≡◌, ◌≢◌, ℕ, ◌<◌, true, ◌∙◌, inl, inr, arith}
 use Rattle.std.proofs.lemmas.Bool.{cases_lt}
 use Rattle.graph6_text.specs.Graphs.{EdgeGraph, IsGraph, has_edge}
 use Rattle.graph6_text.proofs.EdgeLemmas.{joined_is, has_edge-turned}
@@ -20,11 +20,11 @@ ends graph u v is h = elim (cases_lt u v) [
 ]
 
 -- a graph is one of the theorem's
-pub proper : (graph : EdgeGraph) → IsGraph graph → 3 ≤ graph.n → IsProper graph
-proper graph is some = record { some = omega arith; within = λ u v h. (ends graph u v is h).0; two = λ u v h. (ends graph u v is h).1 }
+pub proper : (graph : EdgeGraph) → IsGraph graph → 0 < graph.n → IsProper graph
+proper graph is some = record { some = some; within = λ u v h. (ends graph u v is h).0; two = λ u v h. (ends graph u v is h).1 }
 
 pub some_figure : MapOrWitness → SomeSchnyderFigure → SomeEmbedFigure
-some_figure either draws graph is some = elim (either graph (proper graph is some)) [
+some_figure either draws graph is some = elim (either graph (proper graph is (omega (arith, some)))) [
   | inl w ↦ (NotPlanar (record { kind = w.0; branch = w.1; paths = w.2 }), w.3)
   | inr m ↦
       let f = draws m.0 m.1.simple m.1.plane (omega (arith, some, m.1.edges.vertices)) in
@@ -33,9 +33,9 @@ some_figure either draws graph is some = elim (either graph (proper graph is som
 
 pub exactly : PlanarExactly → SomeSchnyderFigure → DrawnExactly
 exactly planar draws graph is some = (
-  λ d. (planar graph (proper graph is some)).0 (d.0, d.2.map),
+  λ d. (planar graph (proper graph is (omega (arith, some)))).0 (d.0, d.2.map),
   λ none.
-      let m = (planar graph (proper graph is some)).1 none in
+      let m = (planar graph (proper graph is (omega (arith, some)))).1 none in
       let f = draws m.0 m.1.simple m.1.plane (omega (arith, some, m.1.edges.vertices)) in
       (m.0, f.0, record { map = m.1; valid = f.1 }),
 )

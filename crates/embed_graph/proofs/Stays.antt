@@ -1,5 +1,5 @@
 -- When a graph has a witness, and when one stays.
-use Rattle.std.proofs.Common.{◌≡◌, ◌<◌, ◌≤◌, ℕ, Bool, true, false, refl, sym, subst, inl, inr}
+use Rattle.std.proofs.Common.{◌≡◌, ◌<◌, ◌≤◌, ℕ, Bool, true, false, not, refl, sym, subst, inl, inr, arith}
 use Rattle.std.specs.Prelude.{Result, Ok, Option, Some, None, IfOk, IfSome, MatchOption, IsTrue, ◌↔◌}
 use Rattle.std.proofs.lemmas.Bool.{true≢false}
 use Rattle.map_lists.specs.Lists.{Lists}
@@ -8,6 +8,7 @@ use Rattle.embed_contraction.specs.Traces.{HasWitness}
 use Rattle.embed_theorem.specs.Expanded.{IsMapOf}
 use Rattle.embed_theorem.proofs.Refuted.{witnesses_refute}
 use Rattle.embed_theorem.proofs.Induction.{map_or_witness}
+use Rattle.left_right_lists.specs.Decided.{HasMap}
 use Rattle.embed_witnesses.proofs.ContractedLemmas.{edge_within}
 use Rattle.embed_witnesses.specs.Kept.{HasPlain, IsKept}
 use Rattle.embed_witnesses.proofs.Kept.{plain_or_kept}
@@ -21,23 +22,15 @@ use Rattle.embed_graph.proofs.Figured.{proper}
 map_refutes : (graph : EdgeGraph) (map : Lists) → IsMapOf map graph → ¬ HasWitness graph
 map_refutes graph map of w = witnesses_refute graph w.0 w.1 w.2 w.3 map of.simple of.plane of.edges.all
 
--- a map of the graph, or none where it has a witness
-abbrev IsAnswer : EdgeGraph → Option Lists → Type 0
-IsAnswer graph answer = MatchOption answer (HasWitness graph) (λ map. IsMapOf map graph)
-
--- whether it has one
-abbrev Tells : {E : Type 0} → EdgeGraph → Result Bool E → Type 0
-Tells graph result = IfOk result (λ yes. IsTrue yes ↔ HasWitness graph)
-
-pub told_by_map : {E : Type 0} (graph : EdgeGraph) (answer : Option Lists) (map : Lists) (result : Result Bool E) → IsAnswer graph answer → answer ≡ Some map → result ≡ Ok false → Tells graph result
-told_by_map graph answer map result h e r = subst (Tells graph) (sym r) ((λ t. absurd (true≢false (sym t))), λ w. absurd (map_refutes graph map (subst (IsAnswer graph) e h) w))
-
-pub told_by_none : {E : Type 0} (graph : EdgeGraph) (answer : Option Lists) (result : Result Bool E) → IsAnswer graph answer → answer ≡ None → result ≡ Ok true → Tells graph result
-told_by_none graph answer result h e r = subst (Tells graph) (sym r) ((λ t. subst (IsAnswer graph) e h), λ w. refl)
+-- where it is known whether there is a map, it is known whether there is a witness
+pub told_by_sides : (graph : EdgeGraph) → IsGraph graph → 0 < graph.n → (planar : Bool) → IsTrue planar ↔ HasMap graph → IsTrue (not planar) ↔ HasWitness graph
+told_by_sides graph known some true h = ((λ t. absurd (true≢false (sym t))), λ w. (let m = h.0 refl in absurd (map_refutes graph m.0 m.1 w)))
+told_by_sides graph known some false h =
+    ((λ t. elim (map_or_witness graph (proper graph known some)) [ inl w ↦ w | inr m ↦ absurd (true≢false (sym (h.1 m))) ]), λ w. refl)
 
 -- a graph that has no map has a witness
 pub witness_where_none : (graph : EdgeGraph) → IsGraph graph → 3 ≤ graph.n → ((lists : Lists) → ¬ IsMapOf lists graph) → HasWitness graph
-witness_where_none graph known some none = elim (map_or_witness graph (proper graph known some)) [ inl w ↦ w | inr m ↦ absurd (none m.0 m.1) ]
+witness_where_none graph known some none = elim (map_or_witness graph (proper graph known (omega (arith, some)))) [ inl w ↦ w | inr m ↦ absurd (none m.0 m.1) ]
 
 -- whether it has one, if that is told
 abbrev MayTell : {E : Type 0} → EdgeGraph → Result (Option Bool) E → Type 0

@@ -5,10 +5,10 @@ ghost use Rattle.embed_contraction.specs.Traces.{HasWitness};
 ghost use Rattle.embed_witnesses.specs.Kept.{IsKept};
 
 use crate::answer::{Tested, test_graph};
-use embed_recursion::graph_maps::map_of_graph;
 use embed_search::Tables;
 use embed_witnesses::contracted_graphs::contract;
 use graph6_text::Graph;
+use left_right_lists::has_map;
 use map_lists::{Ends, VertexId};
 use std::alloc::{AllocError, Global};
 
@@ -26,15 +26,14 @@ fn has_witness_by_test(alloc: Global, graph: &Graph) -> Result<Option<bool>, All
     }
 }
 
-// Whether a graph has a witness, by recursion: it has one exactly where it has no map.
-fn has_witness_by_maps(alloc: Global, graph: &Graph) -> Result<bool, AllocError>
+// Whether a graph has a witness, by the sides of its edges: it has one exactly where it has no map.
+fn has_witness_by_sides(alloc: Global, graph: &Graph) -> Result<bool, AllocError>
     requires { 0 < graph.now.n }
     ensures { IfOk result (λ yes. IsTrue yes ↔ HasWitness graph.now) }
 {
-    match map_of_graph(alloc, graph)? {
-        Some(_) => Ok(false),
-        None => Ok(true),
-    }
+    let _n = graph.n();
+    let planar = has_map(alloc, graph)?;
+    Ok(!planar)
 }
 
 // Whether a graph has a witness.
@@ -43,11 +42,11 @@ fn has_witness(alloc: Global, graph: &Graph) -> Result<bool, AllocError>
     ensures { IfOk result (λ yes. IsTrue yes ↔ HasWitness graph.now) }
 {
     if graph.n() < 3 {
-        return has_witness_by_maps(alloc, graph);
+        return has_witness_by_sides(alloc, graph);
     }
     match has_witness_by_test(alloc, graph)? {
         Some(yes) => Ok(yes),
-        None => has_witness_by_maps(alloc, graph),
+        None => has_witness_by_sides(alloc, graph),
     }
 }
 
