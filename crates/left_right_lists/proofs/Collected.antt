@@ -12,21 +12,6 @@ use Rattle.left_right_lists.specs.Groups.{Demand, IsRising, AreRising, HasLower,
 abbrev pub IsMore : {X : Type 0} → List X → List X → X → Type 0 → Type 0
 IsMore old new d P = (x : _) → Contains new x ↔ (Contains old x ⊎ ((x ≡ d) × P))
 
-pub more_pushed : {X : Type 0} (old new : List X) (d : X) (P : Type 0) → new ≡ old ++ d ∷ [] → P → IsMore old new d P
-more_pushed old new d P is p x = (
-  (λ c. elim (Contains-append_cases old (d ∷ []) x (subst (λ z. Contains z x) is c)) [
-    | inl k ↦ inl k
-    | inr k ↦ elim (here_or_there d x [] k) [ inl e ↦ inr (sym e, p) | inr bad ↦ absurd (none_in_none x bad) ]
-  ]),
-  (λ h. subst (λ z. Contains z x) (sym is) (elim h [
-    | inl k ↦ Contains-append_left old (d ∷ []) x k
-    | inr k ↦ Contains-append_right old (d ∷ []) x (subst (Contains (d ∷ [])) (sym k.0) (here d []))
-  ])),
-)
-
-pub more_none : {X : Type 0} (old : List X) (d : X) (P : Type 0) → ¬ P → IsMore old old d P
-more_none old d P not x = ((λ c. inl c), (λ h. elim h [ inl k ↦ k | inr k ↦ absurd (not k.1) ]))
-
 -- the first i + 1 entries
 pub in_take : {X : Type 0} (xs : List X) (i : ℕ) (d z x : X) → i < length xs → d ≡ get_or xs i z → Contains (take (i + 1) xs) x ↔ (Contains (take i xs) x ⊎ (x ≡ d))
 in_take xs i d z x l is =
@@ -50,10 +35,6 @@ abbrev pub AreRisingTo : EdgeGraph → List ℕ → List ℕ → List Dart → L
 AreRisingTo graph parents depths old new v k =
     (d : Dart) → Contains new d ↔ (Contains old d ⊎ ((d.0 ≡ v) × ((d.1 < k) × IsRising graph parents depths d)))
 
-pub rising_none : (graph : EdgeGraph) (parents depths : List ℕ) (old : List Dart) (v : ℕ) → AreRisingTo graph parents depths old old v 0
-rising_none graph parents depths old v d =
-    ((λ c. inl c), (λ h. elim h [ inl k ↦ k | inr k ↦ absurd (let l = k.1.0 in omega arith) ]))
-
 pub rising_more : (graph : EdgeGraph) (parents depths : List ℕ) (old now new : List Dart) (v k : ℕ) → AreRisingTo graph parents depths old now v k → IsMore now new (v, k) (IsRising graph parents depths (v, k)) → AreRisingTo graph parents depths old new v (k + 1)
 rising_more graph parents depths old now new v k h more d = (
   (λ c. elim ((more d).0 c) [
@@ -71,10 +52,6 @@ rising_more graph parents depths old now new v k h more d = (
   ]),
 )
 
-pub all_rising_none : (graph : EdgeGraph) (parents depths : List ℕ) (none : List Dart) → none ≡ [] → AreRising graph parents depths 0 none
-all_rising_none graph parents depths none is d =
-    ((λ c. absurd (none_in_none d (subst (λ z. Contains z d) is c))), (λ h. absurd (let l = h.0 in omega arith)))
-
 pub all_rising_more : (graph : EdgeGraph) (parents depths : List ℕ) (now new : List Dart) (v : ℕ) → AreRising graph parents depths v now → AreRisingTo graph parents depths now new v graph.n → AreRising graph parents depths (v + 1) new
 all_rising_more graph parents depths now new v h more d = (
   (λ c. elim ((more d).0 c) [
@@ -90,9 +67,6 @@ all_rising_more graph parents depths now new v h more d = (
 -- ---- those that pass
 abbrev pub ArePassed : {X : Type 0} → (X → Type 0) → List X → List X → ℕ → Type 0
 ArePassed P xs out i = (x : _) → Contains out x ↔ (Contains (take i xs) x × P x)
-
-pub passed_none : {X : Type 0} (P : X → Type 0) (xs none : List X) → none ≡ [] → ArePassed P xs none 0
-passed_none P xs none is x = ((λ c. absurd (none_in_none x (subst (λ z. Contains z x) is c))), (λ h. absurd (in_take_none xs x h.0)))
 
 pub passed_more : {X : Type 0} (P : X → Type 0) (xs out new : List X) (i : ℕ) (d z : X) → i < length xs → d ≡ get_or xs i z → ArePassed P xs out i → IsMore out new d (P d) → ArePassed P xs new (i + 1)
 passed_more P xs out new i d z l is h more x = (
@@ -123,10 +97,6 @@ take_within (y ∷ xs) (suc i) x c =
 abbrev pub AreDemandedTo : List ℕ → List Dart → List Dart → Bool → List Demand → List Demand → ℕ → Type 0
 AreDemandedTo depths darts others turn old new i =
     (x : Demand) → Contains new x ↔ (Contains old x ⊎ ((x.1 ≡ turn) × (Contains (take i darts) x.0 × HasLower depths others (slice_index depths x.0.1))))
-
-pub demanded_none : (depths : List ℕ) (darts others : List Dart) (turn : Bool) (old : List Demand) → AreDemandedTo depths darts others turn old old 0
-demanded_none depths darts others turn old x =
-    ((λ c. inl c), (λ h. elim h [ inl k ↦ k | inr k ↦ absurd (in_take_none darts x.0 k.1.0) ]))
 
 pub demanded_more : (depths : List ℕ) (darts others : List Dart) (turn : Bool) (old now new : List Demand) (i : ℕ) (d z : Dart) → i < length darts → d ≡ get_or darts i z → AreDemandedTo depths darts others turn old now i → IsMore now new (d, turn) (HasLower depths others (slice_index depths d.1)) → AreDemandedTo depths darts others turn old new (i + 1)
 demanded_more depths darts others turn old now new i d z l is h more x = (

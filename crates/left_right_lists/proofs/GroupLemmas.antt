@@ -1,8 +1,8 @@
 -- Groups put into one another.
-use Rattle.std.proofs.Common.{◌≡◌, ◌≢◌, ℕ, zero, suc, ◌+◌, ◌/◌, ◌%◌, ◌<◌, ◌≤◌, Bool, true, false, not, eqb, List, [], ◌∷◌, ◌++◌, length, get_or, set, take, Contains, refl, sym, ap, ap₂, ◌∙◌, subst, inl, inr, arith, eq-eqb, ne_eqb, length-set, length-append}
+use Rattle.std.proofs.Common.{◌≡◌, ◌≢◌, ℕ, zero, suc, ◌+◌, ◌/◌, ◌%◌, ◌<◌, ◌≤◌, Bool, true, false, not, eqb, List, [], ◌∷◌, ◌++◌, length, get_or, take, Contains, refl, sym, ap, ap₂, ◌∙◌, subst, inl, inr, arith, eq-eqb, ne_eqb, length-append}
 use Rattle.std.proofs.lemmas.Bool.{cases_eq, cases_lt, cond-true, cond-false}
 use Rattle.std.proofs.lemmas.Nat.{div-mul-add, mod-mul-add}
-use Rattle.std.proofs.lemmas.List.{get_or-set_same, get_or-set_other, get_or-append-add}
+use Rattle.std.proofs.lemmas.List.{get_or-append-add}
 use Rattle.std.proofs.lemmas.List.Elements.{Contains-get_or}
 use Rattle.std.proofs.Math.ListN.{get_or-append}
 use Rattle.std.proofs.Math.Seq.{take-append_seam}
@@ -21,10 +21,6 @@ turned_swap true true c = refl
 turned_swap true false c = refl
 turned_swap false true c = refl
 turned_swap false false c = refl
-
-turned_none : (a : Bool) → turned a a ≡ false
-turned_none true = refl
-turned_none false = refl
 
 -- how the sides of two groups are to each other, by two edges of them
 pub flip_is : (k a b f g : Bool) → turned f a ≡ turned k (turned g b) → g ≡ turned (turned k (turned a b)) f
@@ -103,22 +99,6 @@ pub record AreMovedTo (into from : ℕ) (flip : Bool) (old new : List Group) (i 
 pub moved_none : (into from : ℕ) (flip : Bool) (old : List Group) → AreMovedTo into from flip old old 0
 moved_none into from flip old = record { long = refl; before = λ p l. absurd (omega (arith, l)); behind = λ p l. refl }
 
-pub moved_more : (into from : ℕ) (flip : Bool) (old new : List Group) (i : ℕ) (x : Group) → i < length new → AreMovedTo into from flip old new i → x ≡ moved_group into from flip (group_at new i) → AreMovedTo into from flip old (set new i x) (i + 1)
-moved_more into from flip old new i x l h e =
-    record {
-      long = length-set new i x ∙ h.long;
-      before = λ p m. elim (cases_eq p i) [
-        | inl same ↦ ap (λ q. group_at (set new i x) q) same ∙ (get_or-set_same new i x (0, false) l ∙ (e ∙ (ap (moved_group into from flip) (h.behind i (omega arith)) ∙ ap (λ q. moved_group into from flip (group_at old q)) (sym same))))
-        | inr ne ↦ get_or-set_other new i p x (0, false) ne ∙ h.before p (omega (arith, m, ne))
-      ];
-      behind = λ p m. get_or-set_other new i p x (0, false) (λ e'. omega (arith, e', m)) ∙ h.behind p (omega (arith, m));
-    }
-
-pub moved_all : (into from : ℕ) (flip : Bool) (old new : List Group) (i : ℕ) → length new ≤ i → AreMovedTo into from flip old new i → AreMoved into from flip old new
-moved_all into from flip old new i l h =
-    let long = h.long in
-    record { long = h.long; at = λ p m. h.before p (omega arith) }
-
 -- ---- merged
 pub merged_none : (groups : List Group) → AreMerged groups groups
 merged_none groups = record { long = refl; within = λ k. (k, (false, λ p l e. ap (λ z. (z, (group_at groups p).1)) e)) }
@@ -169,12 +149,6 @@ module _ (old new : List Group) (a b : Dart) (turn : Bool) (long : length old �
   flipped : (left : ℕ → ℕ → Bool) → left a.0 a.1 ≡ turned turn (left b.0 b.1) → (fits : Fits left old) → fits.0 two.0 ≡ turned flip (fits.0 one.0)
   flipped left tied fits =
       flip_is turn one.1 two.1 (fits.0 one.0) (fits.0 two.0) (sym (fits.1 a in_a) ∙ (tied ∙ ap (turned turn) (fits.1 b in_b)))
-
-  pub same_fits : one.0 ≡ two.0 → (left : ℕ → ℕ → Bool) → left a.0 a.1 ≡ turned turn (left b.0 b.1) → Fits left old → Fits left old × (not flip ≡ true)
-  same_fits e left tied fits = (fits, no_flip flip (fits.0 one.0) (ap fits.0 e ∙ flipped left tied fits))
-
-  pub same_met : one.0 ≡ two.0 → not flip ≡ true → one ≡ (two.0, turned turn two.1)
-  same_met e t = ap₂ (λ (k : ℕ) (s : Bool). (k, s)) e (no_flip_meets turn one.1 two.1 t)
 
   pub other_fits : AreMoved one.0 two.0 flip old new → (left : ℕ → ℕ → Bool) → left a.0 a.1 ≡ turned turn (left b.0 b.1) → Fits left old → Fits left new × (true ≡ true)
   other_fits h left tied fits = (

@@ -159,10 +159,6 @@ module _ (graph : EdgeGraph) (root : ℕ) (order number parents depths : List �
         | inr ne ↦ forks_stay old new v e long merged (met v e (omega (arith, l, ne)) in_e)
       ]
 
-  -- by an edge by which nothing returns
-  pub forks_empty : (groups : List Group) (v e : ℕ) → ((d : Dart) → ¬ R v e d) → AreForksMet graph parents depths groups v e
-  forks_empty groups v e none f l apart = (0, (false, λ x y rx ry. absurd (none x rx)))
-
   -- where all demands are met, the table parts the edges
   pub all_met : (groups : List Group) → ((v e : ℕ) → v < graph.n → e < graph.n → AreForksMet graph parents depths groups v e) → AreSides graph parents depths (side_in groups)
   all_met groups met v e f apart =

@@ -1,12 +1,9 @@
 -- Tables made entry by entry.
-use Rattle.std.proofs.Common.{◌≡◌, ℕ, ◌+◌, List, [], ◌∷◌, ◌++◌, length, refl, ap, ◌∙◌, subst, inl, inr, arith, slice_index, length-append}
+use Rattle.std.proofs.Common.{◌≡◌, ℕ, ◌+◌, List, [], ◌∷◌, ◌++◌, length, ap, ◌∙◌, subst, inl, inr, arith, slice_index, length-append}
 use Rattle.std.proofs.Math.ListN.{get_or-append}
 use Rattle.std.proofs.lemmas.Bool.{cases_lt}
 use Rattle.std.proofs.lemmas.List.{get_or-append-add}
 use Rattle.left_right_lists.specs.Trees.{IsTabled}
-
-pub tabled_none : (f : ℕ → ℕ) → IsTabled f [] 0
-tabled_none f = record { long = refl; at = λ v l. absurd (omega (arith, l)) }
 
 pub tabled_more : (f : ℕ → ℕ) (table new : List ℕ) (n x : ℕ) → new ≡ table ++ x ∷ [] → x ≡ f n → IsTabled f table n → IsTabled f new (n + 1)
 tabled_more f table new n x is e h =
