@@ -1,5 +1,5 @@
 //! Graphs that are drawn or refuted, by the fast searches and by contracted edges: single ones, and all of a size.
-ghost use Rattle.std.specs.Prelude.{◌≤◌};
+ghost use Rattle.std.specs.Prelude.{◌<◌, ◌≤◌};
 
 use crate::graphs::over_line;
 use crate::witnesses::name_of;
@@ -11,6 +11,7 @@ use euler_faces::count_lists;
 use graph6_text::{Graph, read_line};
 use half_edges::{Rotations, VertexId};
 use kuratowski::{Witness, WitnessVerdict, check_witness};
+use left_right_lists::has_map;
 use row_texts::text::{number, part, put, put_one};
 use std::alloc::{AllocError, Global};
 
@@ -101,14 +102,28 @@ fn word_of(answer: Result<Embedding, AllocError>) -> &'static str {
     }
 }
 
+// The kind of the answer by contracted edges, if the test by sides agrees.
+fn slow_word(alloc: Global, graph: &Graph) -> &'static str
+    requires { 0 < graph.now.n }
+{
+    let word = word_of(embed_by_contraction(alloc, graph));
+    match has_map(alloc, graph) {
+        Ok(planar) => {
+            if planar == (word == "map") {
+                word
+            } else {
+                WRONG
+            }
+        }
+        Err(_) => WRONG,
+    }
+}
+
 // The answers by the searches and by contracted edges.
 fn both_ways(alloc: Global, graph: &Graph) -> (&'static str, &'static str)
     requires { 3 ≤ graph.now.n }
 {
-    (
-        word_of(embed(alloc, graph)),
-        word_of(embed_by_contraction(alloc, graph)),
-    )
+    (word_of(embed(alloc, graph)), slow_word(alloc, graph))
 }
 
 // The answers by both ways.

@@ -1,7 +1,8 @@
 //! Embeddings of graphs, or witnesses that there are none.
-ghost use Rattle.std.specs.Prelude.{◌<◌, ◌≤◌, ◌≡◌, length, IfOk, MatchOption};
+ghost use Rattle.std.specs.Prelude.{◌<◌, ◌≤◌, ◌≡◌, ◌↔◌, length, IsTrue, IfOk, MatchOption};
 ghost use Rattle.map_lists.specs.Lists.{Lists};
 ghost use Rattle.embed_theorem.specs.Expanded.{IsMapOf};
+ghost use Rattle.left_right_lists.specs.Decided.{HasMap};
 ghost use Rattle.embed_graph.specs.Embeddings.{IsEmbedding};
 ghost use Rattle.embed_graph.specs.Figures.{IsEmbedFigure};
 
@@ -24,6 +25,13 @@ pub fn planar_lists(alloc: Global, graph: &Graph) -> Result<Option<Rotations>, A
     ensures { IfOk result (λ found. MatchOption found ((lists : Lists) → ¬ IsMapOf lists graph.now) (λ lists. length lists ≡ graph.now.n)) }
 {
     embed_search::planar_lists(alloc, graph)
+}
+
+/// Tells whether `graph` has a map of genus zero, by the sides that the forks of a depth-first tree demand.
+pub fn has_map(alloc: Global, graph: &Graph) -> Result<bool, AllocError>
+    ensures { IfOk result (λ yes. IsTrue yes ↔ HasMap graph.now) }
+{
+    left_right_lists::has_map(alloc, graph)
 }
 
 /// Returns a map of genus zero with the edges of `graph`, or a subdivision of K5 or K3,3, by contracting edges.
