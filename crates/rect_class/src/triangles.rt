@@ -133,17 +133,24 @@ impl Edge<'_> {
         least_head(self.near.map, w, |e| self.leads_to_third(e))
     }
 
+    // Returns the end whose list is the shorter of the two.
+    fn shorter_end(&self) -> VertexId
+        ensures { (result.0 ≡ self.now.a.0) ⊎ (result.0 ≡ self.now.b.0) }
+    {
+        self.near.map.facts();
+        if self.near.map.degree(self.a) <= self.near.map.degree(self.b) {
+            self.a
+        } else {
+            self.b
+        }
+    }
+
     // Returns the least third vertex of the edge. It goes over the shorter of the two lists.
     fn least_third(&self) -> Option<VertexId>
         ensures { MatchOption result ((c : ℕ) → ¬ IsSeparating self.now.near.map.now.lists self.now.a.0 self.now.b.0 c)
             (λ c. IsLeast (IsSeparating self.now.near.map.now.lists self.now.a.0 self.now.b.0) c.0) }
     {
-        self.near.map.facts();
-        if self.near.map.degree(self.a) <= self.near.map.degree(self.b) {
-            self.least_third_at(self.a)
-        } else {
-            self.least_third_at(self.b)
-        }
+        self.least_third_at(self.shorter_end())
     }
 
     // Returns the least third vertex of the edge, which has one.
