@@ -9,3 +9,6 @@ mod SideLemmas
 -- Decisions.
 mod Decided
 mod Refused
+-- Orders in which vertices stand.
+mod OrderLemmas
+mod PlacedLemmas
