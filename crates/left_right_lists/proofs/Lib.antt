@@ -12,3 +12,4 @@ mod Refused
 -- Orders in which vertices stand.
 mod OrderLemmas
 mod PlacedLemmas
+mod Ordered

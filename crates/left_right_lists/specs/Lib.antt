@@ -4,3 +4,4 @@ pub mod Trees
 pub mod Groups
 pub mod Upward
 pub mod Decided
+pub mod Orders

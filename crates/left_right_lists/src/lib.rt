@@ -7,6 +7,7 @@
 mod decide;
 mod forest;
 mod groups;
+mod order;
 mod returns;
 mod sides;
 mod tree;
