@@ -13,3 +13,5 @@ mod Refused
 mod OrderLemmas
 mod PlacedLemmas
 mod Ordered
+-- Runs of edges.
+mod RunLemmas

@@ -5,3 +5,4 @@ pub mod Groups
 pub mod Upward
 pub mod Decided
 pub mod Orders
+pub mod Blocks

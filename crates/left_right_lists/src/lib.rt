@@ -4,6 +4,7 @@
 //! right. All that forks demand of their sides is met in a table of groups, or there is no such partition.
 #![tactic(auto)]
 
+mod blocks;
 mod decide;
 mod forest;
 mod groups;
