@@ -15,3 +15,4 @@ mod PlacedLemmas
 mod Ordered
 -- Runs of edges.
 mod RunLemmas
+mod Forked

@@ -1,6 +1,7 @@
--- What returns from below a child of a vertex: what of it ends there, and what ends above.
-use Rattle.std.specs.Prelude.{ℕ, ◌-◌, ◌≡◌, Bool, not, cond, eqb, List, [], ◌∷◌, ◌++◌, take, drop}
+-- What stands at a vertex for each of its edges but that to its parent, and what returns by it.
+use Rattle.std.specs.Prelude.{ℕ, ◌-◌, ◌≡◌, Bool, ◌&&◌, ◌||◌, not, cond, eqb, ltb, List, [], ◌∷◌, ◌++◌, take, drop}
 use Rattle.map_theory.specs.Maps.{Dart}
+use Rattle.left_right_maps.specs.RootedMaps.{is_child}
 
 -- the first edges that pass, and the others
 abbrev pub lead : (Dart → Bool) → List Dart → List Dart
@@ -25,6 +26,19 @@ middle v ds = lead (λ d. not (eqb d.1 v)) (trail (λ d. eqb d.1 v) ds)
 
 abbrev pub rights : ℕ → List Dart → List Dart
 rights v ds = trail (λ d. not (eqb d.1 v)) (trail (λ d. eqb d.1 v) ds)
+
+-- an edge from v to u leads to a child, or returns
+abbrev pub is_item : (ℕ → ℕ → Bool) → (ℕ → ℕ) → (ℕ → ℕ) → ℕ → ℕ → Bool
+is_item edge parent depth v u =
+    is_child parent depth v u || (edge v u && (ltb (depth u) (depth v) && not (eqb u (parent v))))
+
+-- what returns by the edge from v to u, and what stands at v for it
+abbrev pub returned : (ℕ → ℕ) → (ℕ → ℕ) → (ℕ → List Dart) → ℕ → ℕ → List Dart
+returned parent depth opens v u = cond (is_child parent depth v u) (middle v (opens u)) ((v, u) ∷ [])
+
+abbrev pub block : (ℕ → ℕ) → (ℕ → ℕ) → (ℕ → List Dart) → ℕ → ℕ → List ℕ
+block parent depth opens v u =
+    cond (is_child parent depth v u) (uppers (lefts v (opens u)) ++ u ∷ uppers (rights v (opens u))) (u ∷ [])
 
 -- the run of those that pass, from a place on, ends at another
 abbrev pub IsRun : (Dart → Bool) → List Dart → ℕ → ℕ → Type 0
