@@ -1,7 +1,8 @@
 -- What stands at a vertex for each of its edges but that to its parent, and what returns by it.
-use Rattle.std.specs.Prelude.{ℕ, ◌-◌, ◌≡◌, Bool, ◌&&◌, ◌||◌, not, cond, eqb, ltb, List, [], ◌∷◌, ◌++◌, take, drop}
+use Rattle.std.specs.Prelude.{ℕ, ◌-◌, ◌<◌, ◌≡◌, Bool, ◌&&◌, ◌||◌, not, cond, eqb, ltb, List, [], ◌∷◌, ◌++◌, length, slice_index, slice_index_or, take, drop}
 use Rattle.map_theory.specs.Maps.{Dart}
 use Rattle.left_right_maps.specs.RootedMaps.{is_child}
+use Rattle.left_right_lists.specs.Orders.{returns_in}
 
 -- the first edges that pass, and the others
 abbrev pub lead : (Dart → Bool) → List Dart → List Dart
@@ -39,6 +40,15 @@ returned parent depth opens v u = cond (is_child parent depth v u) (middle v (op
 abbrev pub block : (ℕ → ℕ) → (ℕ → ℕ) → (ℕ → List Dart) → ℕ → ℕ → List ℕ
 block parent depth opens v u =
     cond (is_child parent depth v u) (uppers (lefts v (opens u)) ++ u ∷ uppers (rights v (opens u))) (u ∷ [])
+
+-- the lists of a vertex, in a table in which those of the last vertices come first
+abbrev pub opens_in : ℕ → List ℕ → List (List Dart) → ℕ → List Dart
+opens_in n number opens u = returns_in opens (n - 1 - slice_index number u)
+
+-- a table has the values of a function below n
+pub record AreValues {X : Type 0} (f : ℕ → X) (none : X) (table : List X) (n : ℕ) : Type 0 where
+  pub long : length table ≡ n
+  pub at : (u : ℕ) → u < n → slice_index_or table u none ≡ f u
 
 -- the run of those that pass, from a place on, ends at another
 abbrev pub IsRun : (Dart → Bool) → List Dart → ℕ → ℕ → Type 0

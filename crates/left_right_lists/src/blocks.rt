@@ -31,8 +31,13 @@ fn push_uppers(list: &mut Vec<u16>, ds: &[(u16, u16)]) -> Result<(), AllocError>
     Ok(())
 }
 
-// Appends what stands at a vertex for its child `u`, from below which these edges return.
-fn push_block(list: &mut Vec<u16>, ds: &[(u16, u16)], v: u16, u: u16) -> Result<(), AllocError>
+/// Appends what stands at a vertex for its child `u`, from below which these edges return.
+pub(crate) fn push_block(
+    list: &mut Vec<u16>,
+    ds: &[(u16, u16)],
+    v: u16,
+    u: u16,
+) -> Result<(), AllocError>
     ensures { IfOk result (λ _. list.new.items ≡ list.old.items ++ (uppers_of (lefts v ds.now) ++ u ∷ uppers_of (rights v ds.now))) }
 {
     let first = run_end(ds, 0, v, true);
@@ -43,8 +48,8 @@ fn push_block(list: &mut Vec<u16>, ds: &[(u16, u16)], v: u16, u: u16) -> Result<
     Ok(())
 }
 
-// Appends a list of those edges that end above a vertex, of those that return from below a child of it.
-fn push_middle(
+/// Appends a list of those edges that end above a vertex, of those that return from below a child of it.
+pub(crate) fn push_middle(
     returns: &mut ItemLists<(u16, u16)>,
     ds: &[(u16, u16)],
     v: u16,

@@ -6,6 +6,7 @@
 
 mod blocks;
 mod decide;
+mod edges;
 mod forest;
 mod groups;
 mod order;
