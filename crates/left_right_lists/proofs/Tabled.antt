@@ -1,8 +1,9 @@
 -- Tables made entry by entry.
-use Rattle.std.proofs.Common.{◌≡◌, ℕ, ◌+◌, List, [], ◌∷◌, ◌++◌, length, ap, ◌∙◌, subst, inl, inr, arith, slice_index, get_or, length-append}
+use Rattle.std.proofs.Common.{◌≡◌, ℕ, ◌+◌, ◌≤◌, List, [], ◌∷◌, ◌++◌, length, take, ap, ◌∙◌, subst, inl, inr, arith, slice_index, get_or, length-append}
 use Rattle.std.proofs.Math.ListN.{get_or-append}
 use Rattle.std.proofs.lemmas.Bool.{cases_lt}
-use Rattle.std.proofs.lemmas.List.{get_or-append-add}
+use Rattle.std.proofs.lemmas.List.{get_or-append-add, take_all}
+use Rattle.left_right_maps.specs.RootedMaps.{joined}
 use Rattle.left_right_lists.specs.Trees.{IsTabled}
 use Rattle.left_right_lists.specs.Blocks.{AreValues}
 
@@ -37,6 +38,10 @@ values_more f none table new n x is e h =
             ap (λ z. get_or z v none) is ∙ (ap (λ i. get_or (table ++ x ∷ []) i none) at_end ∙ (get_or-append-add table (x ∷ []) 0 none ∙ (e ∙ ap f at_n)))
       ];
     }
+
+-- all lists joined
+pub joined_all : {X : Type 0} (f : ℕ → List X) (us : List ℕ) (i : ℕ) (list : List X) → length us ≤ i → list ≡ joined f (take i us) → list ≡ joined f us
+joined_all f us i list l h = h ∙ ap (joined f) (take_all i us l)
 
 -- a table by slices is one by what they are
 pub tabled_slices : (by : List ℕ → List ℕ → ℕ → ℕ → ℕ) (table : List ℕ) (root : ℕ) {parents' parents depths' depths : List ℕ} {n' n : ℕ} → parents' ≡ parents → depths' ≡ depths → n' ≡ n → IsTabled (by parents' depths' root) table n' → IsTabled (by parents depths root) table n

@@ -1,6 +1,6 @@
 //! The edges of a vertex but that to its parent: what returns by each, and what stands at the vertex for it.
-ghost use Rattle.std.specs.Prelude.{◌≡◌, ◌-◌, ◌<◌, ◌&&◌, ◌++◌, ◌∷◌, [], ℕ, Bool, not, eqb, ltb, true, false, length, slice_index, IfOk, OnOk};
-ghost use Rattle.left_right_maps.specs.RootedMaps.{is_child as is_child_in};
+ghost use Rattle.std.specs.Prelude.{◌≡◌, ◌-◌, ◌<◌, ◌&&◌, ◌++◌, ◌∷◌, [], ℕ, Bool, not, eqb, ltb, true, false, length, slice_index, slice_index_or, Contains, IfOk, OnOk};
+ghost use Rattle.left_right_maps.specs.RootedMaps.{is_child as is_child_in, joined as joined_lists};
 ghost use Rattle.left_right_lists.specs.Trees.{joined as joined_in};
 ghost use Rattle.left_right_lists.specs.Orders.{returns_in};
 ghost use Rattle.left_right_lists.specs.Blocks.{AreValues, is_item as is_item_in, returned, block, opens_in};
@@ -100,23 +100,62 @@ pub(crate) fn returned_by(
     Ok(rows)
 }
 
-// Appends what stands at a vertex for an edge. What waits below its vertex is at a place of a table.
-fn push_entries(
-    list: &mut Vec<u16>,
+// What stands at a vertex for an edge. What waits below its vertex is at a place of a table.
+fn entries_at(
+    alloc: Global,
     parents: &[u16],
     depths: &[u16],
     opens: &ItemLists<(u16, u16)>,
     place: usize,
     v: u16,
     u: u16,
-) -> Result<(), AllocError>
+) -> Result<Vec<u16>, AllocError>
     requires { is_child_in (slice_index parents.now) (slice_index depths.now) v u ≡ true → place < length opens.now }
-    ensures { IfOk result (λ _. list.new.items ≡ list.old.items ++ block (slice_index parents.now) (slice_index depths.now) (λ _. returns_in opens.now place) v u) }
+    ensures { IfOk result (λ list. list.items ≡ block (slice_index parents.now) (slice_index depths.now) (λ _. returns_in opens.now place) v u) }
 {
+    let mut list = Vec::new(alloc);
     if is_child(parents, depths, v, u) {
-        push_block(list, opens.list(place), v, u)?;
+        push_block(&mut list, opens.list(place), v, u)?;
     } else {
         list.push(u)?;
     }
-    Ok(())
+    Ok(list)
+}
+
+/// Lists what stands at a vertex for each of its edges. It fails only when out of memory.
+pub(crate) fn entries_by(
+    alloc: Global,
+    parents: &[u16],
+    depths: &[u16],
+    number: &[u16],
+    opens: &ItemLists<(u16, u16)>,
+    n: u16,
+    v: u16,
+) -> Result<ItemLists<u16>, AllocError>
+    requires { (u : ℕ) → is_child_in (slice_index parents.now) (slice_index depths.now) v u ≡ true → n - 1 - slice_index number.now u < length opens.now }
+    ensures { IfOk result (λ rows. AreValues (block (slice_index parents.now) (slice_index depths.now) (opens_in n number.now opens.now) v) [] rows n) }
+{
+    let mut rows = ItemLists::new(alloc);
+    for u in 0..n {
+        let place = place_of(number, n, u);
+        let list = entries_at(alloc, parents, depths, opens, place, v, u)?;
+        rows.push(&list)?;
+    }
+    Ok(rows)
+}
+
+/// Joins lists of a table, in the order of their numbers in `us`. It fails only when out of memory.
+pub(crate) fn joined_rows<T: Copy>(
+    alloc: Global,
+    rows: &ItemLists<T>,
+    us: &[u16],
+) -> Result<Vec<T>, AllocError>
+    requires { (u : ℕ) → Contains us.now u → u < length rows.now }
+    ensures { IfOk result (λ list. list.items ≡ joined_lists (λ u. slice_index_or rows.now u []) us.now) }
+{
+    let mut list = Vec::new(alloc);
+    for u in us {
+        list.extend_from_slice(rows.list(usize::from(*u)))?;
+    }
+    Ok(list)
 }
