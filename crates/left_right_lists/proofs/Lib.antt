@@ -9,3 +9,10 @@ mod SideLemmas
 -- Decisions.
 mod Decided
 mod Refused
+-- Orders in which vertices stand.
+mod OrderLemmas
+mod PlacedLemmas
+mod Ordered
+-- Runs of edges.
+mod RunLemmas
+mod Forked

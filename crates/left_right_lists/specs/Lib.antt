@@ -4,3 +4,5 @@ pub mod Trees
 pub mod Groups
 pub mod Upward
 pub mod Decided
+pub mod Orders
+pub mod Blocks

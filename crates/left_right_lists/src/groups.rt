@@ -39,7 +39,7 @@ fn merge(groups: &mut [(u32, bool)], into: u32, from: u32, flip: bool)
 }
 
 // The group of an edge.
-fn group(groups: &[(u32, bool)], d: (u16, u16)) -> (u32, bool)
+pub(crate) fn group(groups: &[(u32, bool)], d: (u16, u16)) -> (u32, bool)
     requires long { length groups.now ≡ 65536 }
     requires placed { IsPlaced d }
     ensures { result ≡ group_of groups.now d }

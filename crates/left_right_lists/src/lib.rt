@@ -4,9 +4,12 @@
 //! right. All that forks demand of their sides is met in a table of groups, or there is no such partition.
 #![tactic(auto)]
 
+mod blocks;
 mod decide;
+mod edges;
 mod forest;
 mod groups;
+mod order;
 mod returns;
 mod sides;
 mod tree;

@@ -1,0 +1,27 @@
+-- Orders of what stands at a fork, by what returns by each.
+use Rattle.std.specs.Prelude.{ℕ, ◌≡◌, ◌≢◌, ◌↔◌, Bool, true, false, List, [], slice_index, slice_index_or, AllPairs, Contains}
+use Rattle.map_theory.specs.Maps.{Dart}
+use Rattle.left_right_maps.specs.Orders.{MayAllPrecede}
+use Rattle.left_right_lists.specs.Groups.{Group, side_in}
+
+-- what returns by each vertex's edge, in a list for each
+abbrev pub returns_in : List (List Dart) → ℕ → List Dart
+returns_in returns u = slice_index_or returns u []
+
+abbrev pub Before : List ℕ → List Group → List (List Dart) → ℕ → ℕ → Type 0
+Before depths sides returns e f =
+    MayAllPrecede (slice_index depths) (side_in sides) (returns_in returns e) (returns_in returns f)
+
+-- a vertex is one of those that are left
+abbrev pub IsFree : List Bool → ℕ → Type 0
+IsFree free u = slice_index_or free u false ≡ true
+
+-- one of those left, which may stand before all others
+pub record IsFirst (depths : List ℕ) (sides : List Group) (returns : List (List Dart)) (free : List Bool) (u : ℕ) : Type 0 where
+  pub left : IsFree free u
+  pub before : (f : ℕ) → IsFree free f → u ≢ f → Before depths sides returns u f
+
+-- those left in an order in which each may stand before all later ones
+pub record IsOrderOf (depths : List ℕ) (sides : List Group) (returns : List (List Dart)) (free : List Bool) (us : List ℕ) : Type 0 where
+  pub all : (u : ℕ) → Contains us u ↔ IsFree free u
+  pub pairs : AllPairs (λ e f. (e ≢ f) × Before depths sides returns e f) us
