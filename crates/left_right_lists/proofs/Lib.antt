@@ -16,3 +16,4 @@ mod Ordered
 -- Runs of edges.
 mod RunLemmas
 mod Forked
+mod Stepped
