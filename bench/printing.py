@@ -11,8 +11,8 @@ import subprocess
 import sys
 
 import count
-import order
 
+HERE = os.path.dirname(os.path.abspath(__file__))
 CALL = "            Form::Text => self.printer.print_grid(number, job, lists, points, out),\n"
 TWICE = """            Form::Text => {
                 let mut scratch = Vec::new(self.alloc);
@@ -25,8 +25,13 @@ TWICE = """            Form::Text => {
 def twice(folder):
     """The program that prints each figure twice, and writes it once."""
     copy = os.path.join(folder, "pigale")
-    shutil.copytree(os.path.join(order.HERE, ".."), copy, symlinks=True, ignore=shutil.ignore_patterns(".git"))
-    order.edit(os.path.join(copy, "crates", "pigale_shell", "src", "form.rt"), CALL, TWICE)
+    shutil.copytree(os.path.join(HERE, ".."), copy, symlinks=True, ignore=shutil.ignore_patterns(".git"))
+    path = os.path.join(copy, "crates", "pigale_shell", "src", "form.rt")
+    with open(path, encoding="utf-8") as file:
+        text = file.read()
+    assert text.count(CALL) == 1, path
+    with open(path, "w", encoding="utf-8") as file:
+        file.write(text.replace(CALL, TWICE))
     subprocess.run(["./pigale", "count"], cwd=copy, stdin=subprocess.DEVNULL, stdout=subprocess.DEVNULL, check=True)
     return os.path.join(copy, "crates", "pigale", "out", "pigale")
 

@@ -6,8 +6,7 @@ ghost use Rattle.vertex_rounds.specs.Rounds.{dart_of};
 ghost use Rattle.convex_check.specs.Verdicts.{IsConvexVerdict};
 
 use crate::ConvexVerdict;
-use crate::bends::first_bent;
-use crate::outer::is_outer_convex;
+use crate::drawing::Drawing;
 use euler_faces::faces;
 use half_edges::{DartId, HalfMap};
 use pg_plane::{GridFigure, Points};
@@ -32,10 +31,11 @@ pub fn check_convex_points(
 {
     map.facts();
     let faces = faces(alloc, map)?;
-    if let Some((a, b, c)) = first_bent(map, &faces, points, base) {
+    let drawing = Drawing { map, points, base };
+    if let Some((a, b, c)) = drawing.first_bent(&faces) {
         return Ok(ConvexVerdict::Bent(a, b, c));
     }
-    if is_outer_convex(alloc, map, &faces, points, base)? {
+    if drawing.is_outer_convex(alloc, &faces)? {
         Ok(ConvexVerdict::Yes)
     } else {
         Ok(ConvexVerdict::OuterBent)

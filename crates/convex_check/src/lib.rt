@@ -8,6 +8,7 @@ ghost use Rattle.convex_check.specs.Laws.{YesIsConvex};
 
 mod bends;
 mod check;
+mod drawing;
 mod outer;
 mod verdict;
 

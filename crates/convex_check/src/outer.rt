@@ -3,51 +3,42 @@ ghost use Rattle.std.specs.Prelude.{◌≡◌, ◌↔◌, ℕ, ◌<◌, length, 
 ghost use Rattle.half_edges.specs.Map.{IsLive};
 ghost use Rattle.euler_faces.specs.FaceWalks.{AreFaces, ids_of};
 ghost use Rattle.pg_plane.specs.Range.{IsInRange};
-ghost use Rattle.draw_check.specs.Loops.{IsDrawn};
 ghost use Rattle.vertex_rounds.specs.Rounds.{dart_of};
 ghost use Rattle.convex_check.specs.Convex.{HasOuterCorners};
 ghost use Rattle.convex_check.specs.Walks.{AreWalkPlaces};
 
 use crate::bends::place_at;
+use crate::drawing::Drawing;
 use crate::triangle_corners::has_corners;
 use euler_faces::Faces;
-use half_edges::{DartId, HalfMap};
-use pg_plane::{Point, Points};
+use half_edges::DartId;
+use pg_plane::Point;
 use std::alloc::{AllocError, Global};
 
-// The places of the vertices of a walk.
-fn walk_points(
-    alloc: Global,
-    map: &HalfMap,
-    points: &Points,
-    walk: &[DartId],
-) -> Result<Vec<Point>, AllocError>
-    requires drawn { IsDrawn map.now points.now }
-    requires live { All (λ d. IsLive map.now d.0) walk.now }
-    ensures { IfOk result (λ places. AreWalkPlaces map.now points.now (ids_of walk.now) places.items) }
-{
-    let mut places = Vec::new(alloc);
-    for d in walk {
-        places.push(place_at(points, map.tail(*d)))?;
+impl Drawing<'_> {
+    // The places of the vertices of a walk.
+    fn walk_points(&self, alloc: Global, walk: &[DartId]) -> Result<Vec<Point>, AllocError>
+        requires { All (λ d. IsLive self.now.map.now d.0) walk.now }
+        ensures { IfOk result (λ places. AreWalkPlaces self.now.map.now self.now.points.now (ids_of walk.now) places.items) }
+    {
+        self.map.facts();
+        let drawing = *self;
+        let mut places = Vec::new(alloc);
+        for d in walk {
+            places.push(place_at(drawing.points, drawing.map.tail(*d)))?;
+        }
+        Ok(places)
     }
-    Ok(places)
-}
 
-// Whether three vertices of the base's face have an area other than 0, and each of its vertices is on one
-// of the segments between these three.
-pub(crate) fn is_outer_convex(
-    alloc: Global,
-    map: &HalfMap,
-    faces: &Faces,
-    points: &Points,
-    base: DartId,
-) -> Result<bool, AllocError>
-    requires drawn { IsDrawn map.now points.now }
-    requires faces { AreFaces map.now faces.now }
-    requires base { IsLive map.now base.0 }
-    ensures { IfOk result (λ found. IsTrue found ↔ HasOuterCorners map.now.lists points.now (dart_of map.now base.0)) }
-{
-    let walk = faces.walk(faces.of_dart(base));
-    let places = walk_points(alloc, map, points, walk)?;
-    Ok(has_corners(&places))
+    // Whether three vertices of the base's face have an area other than 0, and each of its vertices is on one
+    // of the segments between these three.
+    pub(crate) fn is_outer_convex(&self, alloc: Global, faces: &Faces) -> Result<bool, AllocError>
+        requires faces { AreFaces self.now.map.now faces.now }
+        ensures { IfOk result (λ found. IsTrue found ↔ HasOuterCorners self.now.map.now.lists self.now.points.now (dart_of self.now.map.now self.now.base.0)) }
+    {
+        self.map.facts();
+        let walk = faces.walk(faces.of_dart(self.base));
+        let places = self.walk_points(alloc, walk)?;
+        Ok(has_corners(&places))
+    }
 }

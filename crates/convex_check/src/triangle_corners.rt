@@ -95,41 +95,48 @@ fn farthest(points: &[Point], a: Point, b: Point) -> Point
     best
 }
 
-// Whether a point lies on one of the segments between three others.
-fn is_on_triangle(p: Point, a: Point, b: Point, c: Point) -> bool
-    requires p { IsInRange p }
-    requires a { IsInRange a }
-    requires b { IsInRange b }
-    requires c { IsInRange c }
-    ensures { IsTrue result ↔ IsOnTriangle p a b c }
-{
-    on_segment(p, a, b) || on_segment(p, b, c) || on_segment(p, c, a)
+// Three points within the range of coordinates.
+#[derive(Clone, Copy)]
+struct Triangle {
+    a: Point,
+    b: Point,
+    c: Point,
+    ghost first: { IsInRange a },
+    ghost second: { IsInRange b },
+    ghost third: { IsInRange c },
 }
 
-// Whether all points do.
-fn all_on_triangle(points: &[Point], a: Point, b: Point, c: Point) -> bool
-    requires in_range { All IsInRange points.now }
-    requires a { IsInRange a }
-    requires b { IsInRange b }
-    requires c { IsInRange c }
-    ensures { IsTrue result ↔ ((p : Point) → Contains points.now p → IsOnTriangle p a b c) }
-{
-    for p in points {
-        if !is_on_triangle(*p, a, b, c) {
-            return false;
-        }
+impl Triangle {
+    // Says whether a point lies on one of the three segments between the corners.
+    fn has_on_sides(&self, p: Point) -> bool
+        requires { IsInRange p }
+        ensures { IsTrue result ↔ IsOnTriangle p self.now.a self.now.b self.now.c }
+    {
+        on_segment(p, self.a, self.b)
+            || on_segment(p, self.b, self.c)
+            || on_segment(p, self.c, self.a)
     }
-    true
-}
 
-// Whether a third point lies to the left of the way from `a` to `b`.
-fn is_left(a: Point, b: Point, c: Point) -> bool
-    requires a { IsInRange a }
-    requires b { IsInRange b }
-    requires c { IsInRange c }
-    ensures { IsTrue result ↔ (pos 0 <ℤ area a b c) }
-{
-    0 < area2(a, b, c)
+    // Says whether all points do.
+    fn has_all_on_sides(&self, points: &[Point]) -> bool
+        requires { All IsInRange points.now }
+        ensures { IsTrue result ↔ ((p : Point) → Contains points.now p → IsOnTriangle p self.now.a self.now.b self.now.c) }
+    {
+        let triangle = *self;
+        for p in points {
+            if !triangle.has_on_sides(*p) {
+                return false;
+            }
+        }
+        true
+    }
+
+    // Says whether the third corner lies to the left of the way from the first to the second.
+    fn is_left(&self) -> bool
+        ensures { IsTrue result ↔ (pos 0 <ℤ area self.now.a self.now.b self.now.c) }
+    {
+        0 < area2(self.a, self.b, self.c)
+    }
 }
 
 // Whether two of the points are corners, with a third to the left of the way from the one to the other.
@@ -141,8 +148,9 @@ fn has_third(points: &[Point], a: Point, b: Point) -> bool
     ensures no { (c : Point) → AreCorners points.now a b c → pos 0 <ℤ area a b c → result ≡ true }
 {
     let c = farthest(points, a, b);
-    if is_left(a, b, c) {
-        all_on_triangle(points, a, b, c)
+    let triangle = Triangle { a, b, c };
+    if triangle.is_left() {
+        triangle.has_all_on_sides(points)
     } else {
         false
     }

@@ -6,6 +6,7 @@ mod FacePairsCases
 mod StampLemmas
 mod MeetingLemmas
 mod RingLemmas
+mod FacesKnown
 mod ClearLemmas
 mod Bad
 mod ShortFaces

@@ -12,6 +12,7 @@ mod meetings;
 mod pairs;
 mod rings;
 mod stamps;
+mod uncut;
 mod vertices;
 
 pub use pairs::separating_pair_by;

@@ -1,6 +1,5 @@
 //! A record as a map of the class.
 ghost use Rattle.std.specs.Prelude.{◌≡◌, ◌<◌, length, MatchOption, IfOk, IfErr};
-ghost use Rattle.half_edges.specs.Map.{IsHalfMap};
 ghost use Rattle.vertex_rounds.specs.Least.{IsLeastPair};
 ghost use Rattle.refusals.specs.Conditions.{IfRefused};
 ghost use Rattle.conn_parts.specs.BiconnectedMaps.{IsBiconnectedMap};
@@ -11,8 +10,7 @@ ghost use Rattle.rect_class.specs.Refusals.{BreaksRect};
 
 use crate::corners::none_separates;
 use crate::faces::first_large;
-use crate::triangles::first_separating;
-use crate::upper::upper_rows;
+use crate::upper::{Upper, upper_rows};
 use conn_parts::biconnected_maps::biconnected_map;
 use half_edges::{HalfMap, Rotations, VertexId};
 use rect_check::{OuterFour, outer_four};
@@ -24,11 +22,11 @@ const OUTER_COUNT: u16 = 4;
 
 // The least dart whose face is neither the outer one nor a triangle.
 fn first_large_face(map: &HalfMap, four: OuterFour) -> Option<(VertexId, VertexId)>
-    requires known { IsHalfMap map.now }
-    requires frame { IsFrame map.now.lists four.top.0 four.right.0 four.bottom.0 }
+    requires { IsFrame map.now.lists four.top.0 four.right.0 four.bottom.0 }
     ensures { MatchOption result (HasTriangles map.now.lists)
         (λ p. IsLeastPair (HasLargeFace map.now.lists) p.0.0 p.1.0) }
 {
+    map.facts();
     first_large(map, four)
 }
 
@@ -39,18 +37,19 @@ fn first_of_triangles(
     lists: &Rotations,
     four: OuterFour,
 ) -> Result<Option<Refusal>, AllocError>
-    requires known { IsHalfMap map.now }
     requires lists { lists.now ≡ map.now.lists }
     requires biconnected { IsBiconnectedMap 3 map.now.lists }
     requires frame { IsFrame map.now.lists four.top.0 four.right.0 four.bottom.0 }
     requires faces { HasTriangles map.now.lists }
     ensures { IfOk result (λ found. MatchOption found (NoneSeparating map.now.lists) (λ refusal. BreaksRect map.now.lists refusal)) }
 {
+    map.facts();
     if none_separates(alloc, lists, four)? {
         return Ok(None);
     }
     let rows = upper_rows(alloc, lists)?;
-    match first_separating(map, &rows) {
+    let near = Upper { map, rows: &rows };
+    match near.first_separating() {
         Some((a, b, c)) => Ok(Some(Refusal::SeparatingTriangle(a, b, c))),
         None => Ok(None),
     }
@@ -63,12 +62,12 @@ fn first_of_faces(
     lists: &Rotations,
     four: OuterFour,
 ) -> Result<Option<Refusal>, AllocError>
-    requires known { IsHalfMap map.now }
     requires lists { lists.now ≡ map.now.lists }
     requires biconnected { IsBiconnectedMap 3 map.now.lists }
     requires frame { IsFrame map.now.lists four.top.0 four.right.0 four.bottom.0 }
     ensures { IfOk result (λ found. MatchOption found (IsRectMap map.now.lists) (BreaksRect map.now.lists)) }
 {
+    map.facts();
     if let Some((v, u)) = first_large_face(map, four) {
         return Ok(Some(Refusal::NotTriangle(v, u)));
     }

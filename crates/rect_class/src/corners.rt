@@ -54,22 +54,6 @@ fn entry_ahead(us: &[u16], k: usize) -> u16
     if 0 < k { us[k - 1] } else { us[us.len() - 1] }
 }
 
-// Says whether each common neighbour of `v`, whose neighbours have its stamp, and of number `k` of its list stands next
-// to that in the list.
-fn is_closed_over(lists: &Rotations, marks: &[u16], v: u16, k: usize) -> bool
-    requires simple { IsSimpleMap lists.now }
-    requires few { length lists.now < 4096 }
-    requires marks { length marks.now ≡ length lists.now }
-    requires vertex { v < length lists.now }
-    requires stamped { (j : ℕ) → j < length (list_of lists.now v) → slice_index marks.now (slice_index (list_of lists.now v) j) ≡ v + 1 }
-    requires place { k < length (list_of lists.now v) }
-    ensures { OnTrue result (IsClosedOver lists.now v (slice_index (list_of lists.now v) k)) }
-{
-    let us = lists.list(usize::from(v));
-    let (last, next) = (entry_ahead(us, k), entry_behind(us, k));
-    are_sides(marks, v + 1, lists.list(usize::from(us[k])), last, next)
-}
-
 // Says whether vertex `u` comes before `v` by its degree, or by its number where they have one degree.
 fn comes_before(degrees: &[usize], u: u16, v: u16) -> bool
     requires u { u < length degrees.now }
@@ -81,37 +65,66 @@ fn comes_before(degrees: &[usize], u: u16, v: u16) -> bool
     first < second || (first == second && u < v)
 }
 
-// Says whether that is so of number `k` of the list of `v`, or that does not come before `v`.
-fn is_closed_before(lists: &Rotations, degrees: &[usize], marks: &[u16], v: u16, k: usize) -> bool
-    requires simple { IsSimpleMap lists.now }
-    requires few { length lists.now < 4096 }
-    requires degrees { length degrees.now ≡ length lists.now }
-    requires marks { length marks.now ≡ length lists.now }
-    requires vertex { v < length lists.now }
-    requires stamped { (j : ℕ) → j < length (list_of lists.now v) → slice_index marks.now (slice_index (list_of lists.now v) j) ≡ v + 1 }
-    requires place { k < length (list_of lists.now v) }
-    ensures { OnTrue result (ComesBefore degrees.now (slice_index (list_of lists.now v) k) v → IsClosedOver lists.now v (slice_index (list_of lists.now v) k)) }
-{
-    !comes_before(degrees, lists.list(usize::from(v))[k], v) || is_closed_over(lists, marks, v, k)
+// A vertex whose neighbours have its stamp, with the lists, the degrees and the marks of all vertices.
+#[derive(Clone, Copy)]
+struct Star<'a> {
+    lists: &'a Rotations,
+    degrees: &'a [usize],
+    marks: &'a [u16],
+    v: u16,
+    ghost few: { length lists.now < 4096 },
+    ghost in_range: { (x u : ℕ) → HasDart lists.now x u → u < length lists.now },
+    ghost distinct: { (x : ℕ) → x < length lists.now → AllPairs ◌≢◌ (list_of lists.now x) },
+    ghost all_degrees: { length degrees.now ≡ length lists.now },
+    ghost all_marks: { length marks.now ≡ length lists.now },
+    ghost vertex: { v < length lists.now },
+    ghost stamped: { (j : ℕ) → j < length (list_of lists.now v) → slice_index marks.now (slice_index (list_of lists.now v) j) ≡ v + 1 },
 }
 
-// Says whether each common neighbour of `v` and of one of its neighbours that come before it stands next to that.
-fn is_closed_at(lists: &Rotations, degrees: &[usize], marks: &[u16], v: u16) -> bool
-    requires simple { IsSimpleMap lists.now }
-    requires few { length lists.now < 4096 }
-    requires degrees { length degrees.now ≡ length lists.now }
-    requires marks { length marks.now ≡ length lists.now }
-    requires vertex { v < length lists.now }
-    requires stamped { (j : ℕ) → j < length (list_of lists.now v) → slice_index marks.now (slice_index (list_of lists.now v) j) ≡ v + 1 }
-    ensures { OnTrue result ((k : ℕ) → k < length (list_of lists.now v) → ComesBefore degrees.now (slice_index (list_of lists.now v) k) v
-        → IsClosedOver lists.now v (slice_index (list_of lists.now v) k)) }
-{
-    for k in 0..lists.list(usize::from(v)).len() {
-        if !is_closed_before(lists, degrees, marks, v, k) {
-            return false;
-        }
+impl Star<'_> {
+    // Says whether each common neighbour of the vertex and of number `k` of its list stands next to that in the list.
+    fn is_closed_over(&self, k: usize) -> bool
+        requires { k < length (list_of self.now.lists.now self.now.v) }
+        ensures { OnTrue result (IsClosedOver self.now.lists.now self.now.v (slice_index (list_of self.now.lists.now self.now.v) k)) }
+    {
+        let us = self.lists.list(usize::from(self.v));
+        let (last, next) = (entry_ahead(us, k), entry_behind(us, k));
+        are_sides(
+            self.marks,
+            self.v + 1,
+            self.lists.list(usize::from(us[k])),
+            last,
+            next,
+        )
     }
-    true
+
+    // Says whether that is so of number `k` of its list, or that does not come before the vertex.
+    fn is_closed_before(&self, k: usize) -> bool
+        requires { k < length (list_of self.now.lists.now self.now.v) }
+        ensures { OnTrue result (ComesBefore self.now.degrees.now (slice_index (list_of self.now.lists.now self.now.v) k) self.now.v
+            → IsClosedOver self.now.lists.now self.now.v (slice_index (list_of self.now.lists.now self.now.v) k)) }
+    {
+        !comes_before(
+            self.degrees,
+            self.lists.list(usize::from(self.v))[k],
+            self.v,
+        ) || self.is_closed_over(k)
+    }
+
+    // Says whether each common neighbour of the vertex and of one of its neighbours that come before it stands next to
+    // that.
+    fn is_closed(&self) -> bool
+        ensures { OnTrue result ((k : ℕ) → k < length (list_of self.now.lists.now self.now.v) → ComesBefore self.now.degrees.now (slice_index (list_of self.now.lists.now self.now.v) k) self.now.v
+            → IsClosedOver self.now.lists.now self.now.v (slice_index (list_of self.now.lists.now self.now.v) k)) }
+    {
+        let star = *self;
+        for k in 0..star.lists.list(usize::from(star.v)).len() {
+            if !star.is_closed_before(k) {
+                return false;
+            }
+        }
+        true
+    }
 }
 
 // Makes the list of all degrees.
@@ -135,7 +148,13 @@ fn are_closed(alloc: Global, lists: &Rotations) -> Result<bool, AllocError>
     let mut marks = vec![in alloc; 0u16; lists.len()]?;
     for v in 0..(lists.len() as u16) {
         stamp_all(&mut marks, lists.list(usize::from(v)), v + 1);
-        if !is_closed_at(lists, &degrees, &marks, v) {
+        let star = Star {
+            lists,
+            degrees: &degrees,
+            marks: &marks,
+            v,
+        };
+        if !star.is_closed() {
             return Ok(false);
         }
     }

@@ -1,7 +1,7 @@
 //! Faces other than the outer one that are no triangles.
 ghost use Rattle.std.specs.Prelude.{◌≡◌, ◌+◌, ◌<◌, ◌↔◌, ℕ, List, length, slice_index, IsTrue, Some, MatchOption};
 ghost use Rattle.plane_laws.specs.Laws.{IsTriangle};
-ghost use Rattle.half_edges.specs.Map.{IsHalfMap, IsLive, dart_at, first_dart};
+ghost use Rattle.half_edges.specs.Map.{IsLive, dart_at, first_dart};
 ghost use Rattle.vertex_rounds.specs.Least.{IsLeast, IsLeastPair};
 ghost use Rattle.vertex_rounds.specs.Rounds.{HoldsAt, dart_of};
 ghost use Rattle.rect_class.specs.Loops.{IsDart as IsOneDart, IsFrameDart, IsLargeDart};
@@ -29,10 +29,10 @@ fn is_frame_dart(four: OuterFour, v: VertexId, u: VertexId) -> bool
 
 // Whether the face of a dart is a triangle.
 fn is_triangle(map: &HalfMap, d: DartId) -> bool
-    requires known { IsHalfMap map.now }
-    requires live { IsLive map.now d.0 }
+    requires { IsLive map.now d.0 }
     ensures { IsTrue result ↔ IsTriangle map.now.lists (dart_of map.now d.0) }
 {
+    map.facts();
     let second = map.face_step(d);
     let third = map.face_step(second);
     let fourth = map.face_step(third);
@@ -41,18 +41,18 @@ fn is_triangle(map: &HalfMap, d: DartId) -> bool
 
 // Whether the face of a dart is no triangle, and the dart is off the outer face: nearly every face is a triangle.
 fn is_large(map: &HalfMap, four: OuterFour, d: DartId) -> bool
-    requires known { IsHalfMap map.now }
-    requires live { IsLive map.now d.0 }
+    requires { IsLive map.now d.0 }
     ensures { IsTrue result ↔ HoldsAt map.now (IsLargeDart map.now.lists four.top.0 four.right.0 four.bottom.0) d.0 }
 {
+    map.facts();
     !is_triangle(map, d) && !is_frame_dart(four, map.tail(d), map.head(d))
 }
 
 // The least dart off the outer face whose face is no triangle.
 pub(crate) fn first_large(map: &HalfMap, four: OuterFour) -> Option<(VertexId, VertexId)>
-    requires { IsHalfMap map.now }
     ensures { MatchOption result ((v u : ℕ) → ¬ IsLargeDart map.now.lists four.top.0 four.right.0 four.bottom.0 v u)
         (λ p. IsLeastPair (IsLargeDart map.now.lists four.top.0 four.right.0 four.bottom.0) p.0.0 p.1.0) }
 {
+    map.facts();
     first_dart(map, |d| is_large(map, four, d))
 }

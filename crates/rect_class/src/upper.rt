@@ -3,7 +3,6 @@
 ghost use Rattle.std.specs.Prelude.{◌≡◌, ◌<◌, ◌↔◌, ◌++◌, ◌∷◌, [], length, IsTrue, IfOk, Contains, All};
 ghost use Rattle.std.specs.List.{filter};
 ghost use Rattle.map_theory.specs.Maps.{HasDart, IsSimpleMap, list_of};
-ghost use Rattle.half_edges.specs.Map.{IsHalfMap};
 ghost use Rattle.rect_class.specs.Upper.{has_degree as the_test, AreUpperRows};
 
 use half_edges::{HalfMap, Rotations, VertexId};
@@ -73,17 +72,26 @@ pub(crate) fn has_upper(rows: &Rotations, u: VertexId, v: VertexId) -> bool
     is_in_row(rows.list(usize::from(u.0)), v.0)
 }
 
-/// Whether two vertices are adjacent, by the row of the one of lower degree.
-pub(crate) fn are_adjacent(map: &HalfMap, rows: &Rotations, u: VertexId, v: VertexId) -> bool
-    requires known { IsHalfMap map.now }
-    requires rows { AreUpperRows map.now.lists rows.now }
-    requires u { u.0 < length map.now.lists }
-    requires v { v.0 < length map.now.lists }
-    ensures { IsTrue result ↔ HasDart map.now.lists u.0 v.0 }
-{
-    if map.degree(u) <= map.degree(v) {
-        has_upper(rows, u, v)
-    } else {
-        has_upper(rows, v, u)
+/// A map, and a row for each of its vertices with the neighbours of no lower degree.
+#[derive(Clone, Copy)]
+pub(crate) struct Upper<'a> {
+    pub(crate) map: &'a HalfMap,
+    pub(crate) rows: &'a Rotations,
+    ghost upper: { AreUpperRows map.now.lists rows.now },
+}
+
+impl Upper<'_> {
+    // Says whether two vertices are adjacent, by the row of the one of lower degree.
+    pub(crate) fn are_adjacent(&self, u: VertexId, v: VertexId) -> bool
+        requires u { u.0 < length self.now.map.now.lists }
+        requires v { v.0 < length self.now.map.now.lists }
+        ensures { IsTrue result ↔ HasDart self.now.map.now.lists u.0 v.0 }
+    {
+        self.map.facts();
+        if self.map.degree(u) <= self.map.degree(v) {
+            has_upper(self.rows, u, v)
+        } else {
+            has_upper(self.rows, v, u)
+        }
     }
 }

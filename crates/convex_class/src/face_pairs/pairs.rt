@@ -1,89 +1,74 @@
 //! The least separating pair.
 ghost use Rattle.std.specs.Prelude.{◌≡◌, ◌≢◌, ◌<◌, ◌≤◌, ℕ, length, Some, MatchOption, IsTrue, IfOk};
 ghost use Rattle.map_theory.specs.Maps.{IsPlane};
-ghost use Rattle.half_edges.specs.Map.{IsHalfMap, IsLive, dart_at, first_dart};
+ghost use Rattle.half_edges.specs.Map.{IsLive, dart_at, first_dart};
 ghost use Rattle.euler_faces.specs.FaceWalks.{AreFaces, walk_at};
 ghost use Rattle.graph_search.specs.Cuts.{IsCutVertex, IsSeparatingPair, IsLeastPair};
-ghost use Rattle.convex_peeling.specs.PolyhedralMapsLaws.{IsPlaneUncut};
 ghost use Rattle.convex_class.specs.Passing.{IsUnused};
 
-use crate::face_pairs::least::least_paired;
-use crate::face_pairs::marks::mark_walk;
+use crate::face_pairs::uncut::UncutMap;
 use euler_faces::Faces;
 use half_edges::{DartId, FaceId, HalfMap, VertexId};
 use std::alloc::{AllocError, Global};
 
-// The least greater vertex with which u is a separating pair, or the number of vertices; `first` is the
-// dart to the first entry of its list.
-fn partner_in_round(
-    map: &HalfMap,
-    faces: &Faces,
-    u: VertexId,
-    first: DartId,
-    marks: &mut [u16],
-) -> u16
-    requires known { IsHalfMap map.now }
-    requires uncut { IsPlaneUncut map.now.lists }
-    requires faces { AreFaces map.now faces.now }
-    requires first { dart_at map.now first.0 ≡ Some (first_dart map.now.lists u.0) }
-    requires marks { length marks.old ≡ length map.now.lists }
-    requires unused { IsUnused marks.old u.0 }
-    ensures pair { result < length map.now.lists → IsSeparatingPair map.now.lists u.0 result }
-    ensures least { (w : ℕ) → IsSeparatingPair map.now.lists u.0 w → result ≤ w }
-    ensures unused { (x : ℕ) → x ≢ u.0 → IsUnused marks.old x → IsUnused marks.new x }
-{
-    let mut best = map.n();
-    let mut d = first;
-    'round: loop {
-        best = mark_walk(map, faces.walk(faces.of_dart(d)), u, marks, best);
-        d = map.next(d);
-        if d.0 == first.0 {
-            return best;
+impl UncutMap<'_> {
+    // The least greater vertex with which u is a separating pair, or the number of vertices; `first` is the
+    // dart to the first entry of its list.
+    fn partner_in_round(&self, u: VertexId, first: DartId, marks: &mut [u16]) -> u16
+        requires first { dart_at self.now.map.now first.0 ≡ Some (first_dart self.now.map.now.lists u.0) }
+        requires marks { length marks.old ≡ length self.now.map.now.lists }
+        requires unused { IsUnused marks.old u.0 }
+        ensures pair { result < length self.now.map.now.lists → IsSeparatingPair self.now.map.now.lists u.0 result }
+        ensures least { (w : ℕ) → IsSeparatingPair self.now.map.now.lists u.0 w → result ≤ w }
+        ensures unused { (x : ℕ) → x ≢ u.0 → IsUnused marks.old x → IsUnused marks.new x }
+    {
+        self.facts();
+        let view = *self;
+        let mut best = view.map.n();
+        let mut d = first;
+        'round: loop {
+            let walk = view.faces.walk(view.faces.of_dart(d));
+            best = view.mark_walk(walk, u, marks, best);
+            d = view.map.next(d);
+            if d.0 == first.0 {
+                return best;
+            }
         }
     }
-}
 
-// Returns the least greater vertex with which `u` is a separating pair, or the number of vertices; `u` may have no
-// neighbours.
-fn partner(map: &HalfMap, faces: &Faces, u: VertexId, marks: &mut [u16]) -> u16
-    requires known { IsHalfMap map.now }
-    requires uncut { IsPlaneUncut map.now.lists }
-    requires faces { AreFaces map.now faces.now }
-    requires vertex { u.0 < length map.now.lists }
-    requires marks { length marks.old ≡ length map.now.lists }
-    requires unused { IsUnused marks.old u.0 }
-    ensures pair { result < length map.now.lists → IsSeparatingPair map.now.lists u.0 result }
-    ensures least { (w : ℕ) → IsSeparatingPair map.now.lists u.0 w → result ≤ w }
-    ensures unused { (x : ℕ) → x ≢ u.0 → IsUnused marks.old x → IsUnused marks.new x }
-{
-    match map.first_dart(u) {
-        Some(first) => partner_in_round(map, faces, u, first, marks),
-        None => map.n(),
-    }
-}
-
-// The least separating pair, given marks that are no vertices, where no pair has a vertex before `from`.
-fn first_pair(
-    map: &HalfMap,
-    faces: &Faces,
-    from: u16,
-    marks: &mut [u16],
-) -> Option<(VertexId, VertexId)>
-    requires known { IsHalfMap map.now }
-    requires uncut { IsPlaneUncut map.now.lists }
-    requires faces { AreFaces map.now faces.now }
-    requires from { (u v : ℕ) → IsSeparatingPair map.now.lists u v → from ≤ u }
-    requires marks { length marks.old ≡ length map.now.lists }
-    requires unused { (x : ℕ) → x < length map.now.lists → IsUnused marks.old x }
-    ensures { MatchOption result ((u v : ℕ) → ¬ IsSeparatingPair map.now.lists u v) (λ p. IsLeastPair map.now.lists p.0.0 p.1.0) }
-{
-    for u in from..map.n() {
-        let v = partner(map, faces, VertexId(u), marks);
-        if v < map.n() {
-            return Some((VertexId(u), VertexId(v)));
+    // Returns the least greater vertex with which `u` is a separating pair, or the number of vertices; `u` may have no
+    // neighbours.
+    fn partner(&self, u: VertexId, marks: &mut [u16]) -> u16
+        requires vertex { u.0 < length self.now.map.now.lists }
+        requires marks { length marks.old ≡ length self.now.map.now.lists }
+        requires unused { IsUnused marks.old u.0 }
+        ensures pair { result < length self.now.map.now.lists → IsSeparatingPair self.now.map.now.lists u.0 result }
+        ensures least { (w : ℕ) → IsSeparatingPair self.now.map.now.lists u.0 w → result ≤ w }
+        ensures unused { (x : ℕ) → x ≢ u.0 → IsUnused marks.old x → IsUnused marks.new x }
+    {
+        self.facts();
+        match self.map.first_dart(u) {
+            Some(first) => self.partner_in_round(u, first, marks),
+            None => self.map.n(),
         }
     }
-    None
+
+    // The least separating pair, given marks that are no vertices, where no pair has a vertex before `from`.
+    fn first_pair(&self, from: u16, marks: &mut [u16]) -> Option<(VertexId, VertexId)>
+        requires from { (u v : ℕ) → IsSeparatingPair self.now.map.now.lists u v → from ≤ u }
+        requires marks { length marks.old ≡ length self.now.map.now.lists }
+        requires unused { (x : ℕ) → x < length self.now.map.now.lists → IsUnused marks.old x }
+        ensures { MatchOption result ((u v : ℕ) → ¬ IsSeparatingPair self.now.map.now.lists u v) (λ p. IsLeastPair self.now.map.now.lists p.0.0 p.1.0) }
+    {
+        let view = *self;
+        for u in from..view.map.n() {
+            let v = view.partner(VertexId(u), marks);
+            if v < view.map.n() {
+                return Some((VertexId(u), VertexId(v)));
+            }
+        }
+        None
+    }
 }
 
 // Whether no face has more than three darts.
@@ -119,11 +104,12 @@ pub fn separating_pair_by(
     if has_short_faces(faces) {
         return Ok(None);
     }
-    let from = least_paired(alloc, map, faces)?;
+    let view = UncutMap { map, faces };
+    let from = view.least_paired(alloc)?;
     if from >= map.n() {
         return Ok(None);
     }
     let mut marks = vec![in alloc; map.n(); map.n() as usize]?;
-    let pair = first_pair(map, faces, from, &mut marks);
+    let pair = view.first_pair(from, &mut marks);
     Ok(pair)
 }

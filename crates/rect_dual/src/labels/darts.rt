@@ -34,92 +34,91 @@ fn is_frame_edge(frame: &Frame, u: VertexId, v: VertexId) -> bool
     is_side(frame, u, v) || is_side(frame, v, u)
 }
 
-// Whether the edge from i to the later vertex j, by their ranks, is a run.
-fn is_run_to(tables: &RunTables, i: u32, j: u32) -> bool
-    requires first { j < length tables.now.first.items }
-    requires left { i < length tables.now.left.items }
-    ensures { result ≡ is_run tables.now.first.items tables.now.left.items i j }
-{
-    tables.first[j as usize] == i || tables.left[i as usize] == j
-}
+impl RunTables {
+    // Says whether the edge from `i` to the later vertex `j`, by their ranks, is a run.
+    fn is_run_to(&self, i: u32, j: u32) -> bool
+        requires first { j < length self.now.first.items }
+        requires left { i < length self.now.left.items }
+        ensures { result ≡ is_run self.now.first.items self.now.left.items i j }
+    {
+        self.first[j as usize] == i || self.left[i as usize] == j
+    }
 
-// The label of the dart from i to j, by their ranks, where its edge is none of the outer face.
-fn inner_label(tables: &RunTables, i: u32, j: u32) -> Label
-    requires i_first { i < length tables.now.first.items }
-    requires j_first { j < length tables.now.first.items }
-    requires left { length tables.now.left.items ≡ length tables.now.first.items }
-    ensures { result ≡ label_of (end_at tables.now.first.items tables.now.left.items i j) }
-{
-    if i < j {
-        if is_run_to(tables, i, j) {
-            Label::RunOut
+    // Returns the label of the dart from `i` to `j`, by their ranks, where its edge is none of the outer face.
+    fn inner_label(&self, i: u32, j: u32) -> Label
+        requires i { i < length self.now.first.items }
+        requires j { j < length self.now.first.items }
+        ensures { result ≡ label_of (end_at self.now.first.items self.now.left.items i j) }
+    {
+        if i < j {
+            if self.is_run_to(i, j) {
+                Label::RunOut
+            } else {
+                Label::RiseOut
+            }
         } else {
-            Label::RiseOut
-        }
-    } else {
-        if is_run_to(tables, j, i) {
-            Label::RunIn
-        } else {
-            Label::RiseIn
+            if self.is_run_to(j, i) {
+                Label::RunIn
+            } else {
+                Label::RiseIn
+            }
         }
     }
 }
 
-// The label of the dart from u to v.
-fn label_between(
-    frame: &Frame,
-    ranks: &Counts,
-    tables: &RunTables,
-    u: VertexId,
-    v: VertexId,
-) -> Label
-    requires u_in { u.0 < length ranks.now }
-    requires v_in { v.0 < length ranks.now }
-    requires ranks { All (λ k. k < length tables.now.first.items) ranks.now }
-    requires left { length tables.now.left.items ≡ length tables.now.first.items }
-    ensures { IsLabelOf frame.now.left.0 frame.now.top.0 frame.now.right.0 frame.now.bottom.0 (end_by tables.now.first.items tables.now.left.items ranks.now) u.0 v.0 result }
-{
-    if is_frame_edge(frame, u, v) {
-        return Label::Frame;
-    }
-    inner_label(tables, ranks.get(u.0 as usize), ranks.get(v.0 as usize))
+// A map with the frame of its outer face, the rank of each vertex, and the tables by which runs are told from rises.
+#[derive(Clone, Copy)]
+pub(crate) struct Ranked<'a> {
+    pub(crate) map: &'a HalfMap,
+    pub(crate) frame: &'a Frame,
+    pub(crate) ranks: &'a Counts,
+    pub(crate) tables: &'a RunTables,
+    ghost count: { length ranks.now ≡ length map.now.lists },
+    ghost within: { All (λ k. k < length tables.now.first.items) ranks.now },
 }
 
-// The label of the dart with an id, or any label where there is none.
-fn dart_label(map: &HalfMap, frame: &Frame, ranks: &Counts, tables: &RunTables, d: DartId) -> Label
-    requires count { length ranks.now ≡ length map.now.lists }
-    requires ranks { All (λ k. k < length tables.now.first.items) ranks.now }
-    requires left { length tables.now.left.items ≡ length tables.now.first.items }
-    ensures { (u v : ℕ) → dart_at map.now d.0 ≡ Some (u, v) → IsLabelOf frame.now.left.0 frame.now.top.0 frame.now.right.0 frame.now.bottom.0 (end_by tables.now.first.items tables.now.left.items ranks.now) u v result }
-{
-    map.facts();
-    if !map.is_live(d) {
-        return Label::Frame;
+impl Ranked<'_> {
+    // Returns the label of the dart from `u` to `v`.
+    fn label_between(&self, u: VertexId, v: VertexId) -> Label
+        requires u_in { u.0 < length self.now.ranks.now }
+        requires v_in { v.0 < length self.now.ranks.now }
+        ensures { IsLabelOf self.now.frame.now.left.0 self.now.frame.now.top.0 self.now.frame.now.right.0 self.now.frame.now.bottom.0
+            (end_by self.now.tables.now.first.items self.now.tables.now.left.items self.now.ranks.now) u.0 v.0 result }
+    {
+        if is_frame_edge(self.frame, u, v) {
+            return Label::Frame;
+        }
+        self.tables
+            .inner_label(self.ranks.get(u.0 as usize), self.ranks.get(v.0 as usize))
     }
-    let u = map.tail(d);
-    let v = map.head(d);
-    label_between(frame, ranks, tables, u, v)
-}
 
-// The labels of all ids.
-pub(crate) fn dart_labels(
-    alloc: Global,
-    map: &HalfMap,
-    frame: &Frame,
-    ranks: &Counts,
-    tables: &RunTables,
-) -> Result<Vec<Label>, AllocError>
-    requires count { length ranks.now ≡ length map.now.lists }
-    requires ranks { All (λ k. k < length tables.now.first.items) ranks.now }
-    requires left { length tables.now.left.items ≡ length tables.now.first.items }
-    ensures count { IfOk result (λ labels. length labels.items ≡ id_bound map.now) }
-    ensures labels { IfOk result (λ labels. AreLabelsOf map.now frame.now.left.0 frame.now.top.0 frame.now.right.0 frame.now.bottom.0 (end_by tables.now.first.items tables.now.left.items ranks.now) (id_bound map.now) labels.items) }
-{
-    map.facts();
-    let ids = 2 * (map.m() + map.spare());
-    let mut labels = Vec::new(alloc);
-    for d in 0..ids {
-        labels.push(dart_label(map, frame, ranks, tables, DartId(d)))?;
+    // Returns the label of the dart with an id, or any label where there is none.
+    fn dart_label(&self, d: DartId) -> Label
+        ensures { (u v : ℕ) → dart_at self.now.map.now d.0 ≡ Some (u, v) → IsLabelOf self.now.frame.now.left.0 self.now.frame.now.top.0 self.now.frame.now.right.0 self.now.frame.now.bottom.0
+            (end_by self.now.tables.now.first.items self.now.tables.now.left.items self.now.ranks.now) u v result }
+    {
+        self.map.facts();
+        if !self.map.is_live(d) {
+            return Label::Frame;
+        }
+        let u = self.map.tail(d);
+        let v = self.map.head(d);
+        self.label_between(u, v)
     }
-    Ok(labels)
+
+    // Makes the labels of all ids.
+    pub(crate) fn dart_labels(&self, alloc: Global) -> Result<Vec<Label>, AllocError>
+        ensures count { IfOk result (λ labels. length labels.items ≡ id_bound self.now.map.now) }
+        ensures labels { IfOk result (λ labels. AreLabelsOf self.now.map.now self.now.frame.now.left.0 self.now.frame.now.top.0 self.now.frame.now.right.0 self.now.frame.now.bottom.0
+            (end_by self.now.tables.now.first.items self.now.tables.now.left.items self.now.ranks.now) (id_bound self.now.map.now) labels.items) }
+    {
+        self.map.facts();
+        let ranked = *self;
+        let ids = 2 * (ranked.map.m() + ranked.map.spare());
+        let mut labels = Vec::new(alloc);
+        for d in 0..ids {
+            labels.push(ranked.dart_label(DartId(d)))?;
+        }
+        Ok(labels)
+    }
 }

@@ -5,7 +5,7 @@ ghost use Rattle.half_edges.specs.Map.{IsLive, dart_at};
 ghost use Rattle.rect_orders.specs.Maps.{IsRectMap};
 ghost use Rattle.rect_dual.specs.Labellings.{IsLabellingIn};
 
-use crate::labels::darts::dart_labels;
+use crate::labels::darts::Ranked;
 use crate::labels::labels::Labelling;
 use crate::labels::tables::run_tables;
 use crate::orders::framed_order;
@@ -29,7 +29,13 @@ fn framed(alloc: Global, map: &HalfMap, frame: Frame) -> Result<Labelling, Alloc
     let made = framed_order(alloc, map, &lists, frame)?;
     let turns = row_turns(alloc, &made.rows)?;
     let tables = run_tables(alloc, &made.rows, &turns)?;
-    let labels = dart_labels(alloc, map, &frame, &made.order.rank, &tables)?;
+    let ranked = Ranked {
+        map,
+        frame: &frame,
+        ranks: &made.order.rank,
+        tables: &tables,
+    };
+    let labels = ranked.dart_labels(alloc)?;
     Ok(Labelling { labels })
 }
 

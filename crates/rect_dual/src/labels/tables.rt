@@ -1,5 +1,5 @@
 //! The two tables by which runs are told from rises.
-ghost use Rattle.std.specs.Prelude.{◌≡◌, ◌<◌, ◌≤◌, ◌+◌, ℕ, length, slice_index, slice_set, All, IfOk};
+ghost use Rattle.std.specs.Prelude.{◌≡◌, ◌<◌, ◌≤◌, ◌+◌, ℕ, length, slice_index, slice_set, vec_len, All, IfOk};
 ghost use Rattle.contour_runs.specs.Runs.{Step};
 ghost use Rattle.order_drawings.specs.Rows.{AreRows};
 ghost use Rattle.rect_dual.specs.Turns.{AreTurns};
@@ -15,6 +15,7 @@ use std::alloc::{AllocError, Global};
 pub(crate) struct RunTables {
     pub first: Vec<u32>,
     pub left: Vec<u32>,
+    ghost size: { vec_len left ≡ vec_len first },
 }
 
 // Writes the vertex with which the row of vertex v begins.

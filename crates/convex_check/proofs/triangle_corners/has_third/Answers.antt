@@ -10,7 +10,7 @@ returns-then-is_left-clause-no c = λ third corners left.
     let a = c.args.a in
     let b = c.args.b in
     let same : far ≡ third = third_is a b third far left (c.farthest-c.ensures.far third corners.third) (corners.all far c.farthest-c.ensures.on) in
-    c.all_on_triangle.ensures.1 (λ p on. subst (λ z. IsOnTriangle p a b z) (sym same) (corners.all p on))
+    c.has_all_on_sides.ensures.1 (λ p on. subst (λ z. IsOnTriangle p a b z) (sym same) (corners.all p on))
 
 pub returns-else-is_left-clause-no : goal.returns-else-is_left-clause-no
 returns-else-is_left-clause-no c = λ third corners left.

@@ -23,7 +23,7 @@ loop-v-preserved c =
           elim (cases_lt x v) [
             | inl m ↦ c.loop-v.invariant.1 x m
             | inr m ↦ subst (λ y. (k : ℕ) → k < length (list_of lists y) → ComesBefore degrees (get_or (list_of lists y) k 0) y → IsClosedOver lists y (get_or (list_of lists y) k 0)) (omega arith)
-                (λ k h b. c.if-not-is_closed_at.ensures k h (subst (λ (ds : List ℕ). ComesBefore ds (get_or (list_of lists v) k 0) v) (sym c.deref.ensures.value) b))
+                (λ k h b. c.if-not-is_closed.ensures k h (subst (λ (ds : List ℕ). ComesBefore ds (get_or (list_of lists v) k 0) v) (sym c.deref.ensures.value) b))
           ],
     )
 

@@ -5,5 +5,5 @@ use Rattle.rect_class.proofs.faces.first_large.Goals as goal
 
 pub returns : goal.returns
 returns c =
-    least_pair c.args.map.now c.requires _ (IsLargeDart c.args.map.now.lists c.args.four.top.0 c.args.four.right.0 c.args.four.bottom.0) 0 c.first_dart.result c.first_dart.ensures
+    least_pair c.args.map.now c.facts.ensures _ (IsLargeDart c.args.map.now.lists c.args.four.top.0 c.args.four.right.0 c.args.four.bottom.0) 0 c.first_dart.result c.first_dart.ensures
     (λ d live late r s. search rules) (λ v u x. (omega arith, x.dart))

@@ -12,14 +12,14 @@ row_turns-requires-clause-run c = (short c.args.map.now.lists c.args.frame.left.
 pub run_tables-requires-clause-run : goal.run_tables-requires-clause-run
 run_tables-requires-clause-run c = (short c.args.map.now.lists c.args.frame.left.0 c.args.frame.top.0 c.args.frame.right.0 c.args.frame.bottom.0 (vertices_of c.in_ok-made.made.order) c.in_ok-made.made.order.rank c.in_ok-made.made.rows c.in_ok-made.ensures.rows c.order_is_run.ensures c.rect_order_is_run.ensures, short_rows c.args.map.now.lists c.args.frame.left.0 c.args.frame.top.0 c.args.frame.right.0 c.args.frame.bottom.0 (vertices_of c.in_ok-made.made.order) c.in_ok-made.made.order.rank c.in_ok-made.made.rows c.in_ok-made.ensures.rows c.order_is_run.ensures c.rect_order_is_run.ensures, c.in_ok-turns.ensures (short c.args.map.now.lists c.args.frame.left.0 c.args.frame.top.0 c.args.frame.right.0 c.args.frame.bottom.0 (vertices_of c.in_ok-made.made.order) c.in_ok-made.made.order.rank c.in_ok-made.made.rows c.in_ok-made.ensures.rows c.order_is_run.ensures c.rect_order_is_run.ensures) (short_rows c.args.map.now.lists c.args.frame.left.0 c.args.frame.top.0 c.args.frame.right.0 c.args.frame.bottom.0 (vertices_of c.in_ok-made.made.order) c.in_ok-made.made.order.rank c.in_ok-made.made.rows c.in_ok-made.ensures.rows c.order_is_run.ensures c.rect_order_is_run.ensures))
 
-pub dart_labels-requires-clause-count : goal.dart_labels-requires-clause-count
-dart_labels-requires-clause-count c =
+pub invariant_of-ranked-clause-count : goal.invariant_of-ranked-clause-count
+invariant_of-ranked-clause-count c =
     let n = (size c.args.map.now.lists c.args.frame.left.0 c.args.frame.top.0 c.args.frame.right.0 c.args.frame.bottom.0 (vertices_of c.in_ok-made.made.order) c.in_ok-made.made.order.rank c.in_ok-made.made.rows c.in_ok-made.ensures.rows c.order_is_run.ensures c.rect_order_is_run.ensures).0 in
     let r = c.in_ok-made.ensures.rows.rank.count in
     omega arith
 
-pub dart_labels-requires-clause-ranks : goal.dart_labels-requires-clause-ranks
-dart_labels-requires-clause-ranks c =
+pub invariant_of-ranked-clause-within : goal.invariant_of-ranked-clause-within
+invariant_of-ranked-clause-within c =
     let r = c.in_ok-made.ensures.rows.rank.count in
     let n = c.in_ok-made.ensures.rows.lower.count in
     let m = c.in_ok-tables.ensures.first in

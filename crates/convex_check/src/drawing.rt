@@ -1,0 +1,16 @@
+//! A drawing of a map over a base dart, as its checks read it.
+ghost use Rattle.half_edges.specs.Map.{IsLive};
+ghost use Rattle.draw_check.specs.Faults.{HasPlaces};
+
+use half_edges::{DartId, HalfMap};
+use pg_plane::Points;
+
+/// A map with a base dart, and a point for each of its vertices, within the range of coordinates.
+#[derive(Clone, Copy)]
+pub(crate) struct Drawing<'a> {
+    pub(crate) map: &'a HalfMap,
+    pub(crate) points: &'a Points,
+    pub(crate) base: DartId,
+    ghost places: { HasPlaces map.now.lists points.now },
+    ghost based: { IsLive map.now base.0 },
+}

@@ -1,8 +1,0 @@
--- Each neighbour before this place that comes before the vertex has its common neighbours next to it.
-use Rattle.std.proofs.Common.{ℕ, ◌<◌, get_or}
-use Rattle.map_theory.specs.Maps.{list_of}
-use Rattle.rect_class.specs.Corners.{IsClosedOver, ComesBefore}
-use Rattle.rect_class.proofs.corners.is_closed_at.Given as goal
-
-abbrev pub invariant-loop-k : goal.invariant-loop-k
-invariant-loop-k l = (k : ℕ) → k < l.k → ComesBefore l.degrees (get_or (list_of l.lists l.v) k 0) l.v → IsClosedOver l.lists l.v (get_or (list_of l.lists l.v) k 0)
