@@ -11,7 +11,7 @@ use euler_faces::count_lists;
 use graph6_text::{Graph, read_line};
 use half_edges::{Rotations, VertexId};
 use kuratowski::{Witness, WitnessVerdict, check_witness};
-use left_right_lists::has_map;
+use left_right_lists::{has_map, map_of_graph};
 use row_texts::text::{number, part, put, put_one};
 use std::alloc::{AllocError, Global};
 
@@ -102,20 +102,33 @@ fn word_of(answer: Result<Embedding, AllocError>) -> &'static str {
     }
 }
 
-// The kind of the answer by contracted edges, if the test by sides agrees.
+// Whether the test by sides says that a graph has a map, or that it has none.
+fn is_told(alloc: Global, graph: &Graph, planar: bool) -> bool {
+    match has_map(alloc, graph) {
+        Ok(yes) => yes == planar,
+        Err(_) => false,
+    }
+}
+
+// Whether the lists made by sides are a map of a graph, or there are none.
+fn is_listed(alloc: Global, graph: &Graph, planar: bool) -> bool {
+    match map_of_graph(alloc, graph) {
+        Ok(Some(lists)) => planar && is_drawn(alloc, graph, &lists),
+        Ok(None) => !planar,
+        Err(_) => false,
+    }
+}
+
+// The kind of the answer by contracted edges, if the test and the lists by sides agree.
 fn slow_word(alloc: Global, graph: &Graph) -> &'static str
     requires { 0 < graph.now.n }
 {
     let word = word_of(embed_by_contraction(alloc, graph));
-    match has_map(alloc, graph) {
-        Ok(planar) => {
-            if planar == (word == "map") {
-                word
-            } else {
-                WRONG
-            }
-        }
-        Err(_) => WRONG,
+    let planar = word == "map";
+    if is_told(alloc, graph, planar) && is_listed(alloc, graph, planar) {
+        word
+    } else {
+        WRONG
     }
 }
 
