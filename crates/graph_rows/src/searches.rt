@@ -1,9 +1,9 @@
-//! Graphs that are drawn or refuted, by the fast searches and by contracted edges: single ones, and all of a size.
+//! Graphs that are drawn or refuted, by the fast searches and by sides of edges: single ones, and all of a size.
 ghost use Rattle.std.specs.Prelude.{◌<◌, ◌≤◌};
 
 use crate::graphs::over_line;
 use crate::witnesses::name_of;
-use embed_graph::contracted_embeddings::embed_by_contraction;
+use embed_graph::contracted_embeddings::embed_by_sides;
 use embed_graph::embed;
 use embed_graph::graph_embeddings::Embedding;
 use embed_search::{find_witness, planar_lists};
@@ -119,11 +119,11 @@ fn is_listed(alloc: Global, graph: &Graph, planar: bool) -> bool {
     }
 }
 
-// The kind of the answer by contracted edges, if the test and the lists by sides agree.
+// The kind of the answer by sides of edges, if the test and the lists by sides agree.
 fn slow_word(alloc: Global, graph: &Graph) -> &'static str
     requires { 0 < graph.now.n }
 {
-    let word = word_of(embed_by_contraction(alloc, graph));
+    let word = word_of(embed_by_sides(alloc, graph));
     let planar = word == "map";
     if is_told(alloc, graph, planar) && is_listed(alloc, graph, planar) {
         word
@@ -132,7 +132,7 @@ fn slow_word(alloc: Global, graph: &Graph) -> &'static str
     }
 }
 
-// The answers by the searches and by contracted edges.
+// The answers by the searches and by sides of edges.
 fn both_ways(alloc: Global, graph: &Graph) -> (&'static str, &'static str)
     requires { 3 ≤ graph.now.n }
 {
@@ -145,7 +145,7 @@ fn put_both(alloc: Global, graph: &Graph, out: &mut String)
 {
     let (quick, slow) = both_ways(alloc, graph);
     put(quick, out);
-    put(", by contracted edges ", out);
+    put(", by sides ", out);
     put(slow, out);
 }
 
