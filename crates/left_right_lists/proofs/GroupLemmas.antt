@@ -68,21 +68,6 @@ flip_meets false true false = refl
 flip_meets false false true = refl
 flip_meets false false false = refl
 
-no_flip : (d f : Bool) → f ≡ turned d f → not d ≡ true
-no_flip true true e = cc
-no_flip true false e = cc
-no_flip false f e = refl
-
-no_flip_meets : (k a b : Bool) → not (turned k (turned a b)) ≡ true → a ≡ turned k b
-no_flip_meets true true true e = cc
-no_flip_meets true true false e = refl
-no_flip_meets true false true e = refl
-no_flip_meets true false false e = cc
-no_flip_meets false true true e = refl
-no_flip_meets false true false e = cc
-no_flip_meets false false true e = cc
-no_flip_meets false false false e = refl
-
 -- ---- entries
 moved_from : (into from : ℕ) (flip : Bool) (g : Group) → g.0 ≡ from → moved_group into from flip g ≡ (into, turned flip g.1)
 moved_from into from flip g e = cond-true {A = Group} (eqb g.0 from) (into, turned flip g.1) g (eq-eqb g.0 from e)
