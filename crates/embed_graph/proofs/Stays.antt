@@ -29,8 +29,8 @@ told_by_sides graph known some false h =
     ((λ t. elim (map_or_witness graph (proper graph known some)) [ inl w ↦ w | inr m ↦ absurd (true≢false (sym (h.1 m))) ]), λ w. refl)
 
 -- a graph that has no map has a witness
-pub witness_where_none : (graph : EdgeGraph) → IsGraph graph → 3 ≤ graph.n → ((lists : Lists) → ¬ IsMapOf lists graph) → HasWitness graph
-witness_where_none graph known some none = elim (map_or_witness graph (proper graph known (omega (arith, some)))) [ inl w ↦ w | inr m ↦ absurd (none m.0 m.1) ]
+pub witness_where_none : (graph : EdgeGraph) → IsGraph graph → 0 < graph.n → ((lists : Lists) → ¬ IsMapOf lists graph) → HasWitness graph
+witness_where_none graph known some none = elim (map_or_witness graph (proper graph known some)) [ inl w ↦ w | inr m ↦ absurd (none m.0 m.1) ]
 
 -- whether it has one, by what the test tells
 abbrev MayTell : {E : Type 0} → EdgeGraph → Result Bool E → Type 0
@@ -40,7 +40,7 @@ pub told_by_test : {E : Type 0} (graph : EdgeGraph) (answer : Tested) (found : F
 told_by_test graph answer found result h e r = subst (MayTell graph) (sym r) ((λ t. absurd (true≢false (sym t))), λ w. absurd (map_refutes graph found.lists (subst (IsTested graph) e h).map w))
 
 pub told_by_refusal : {E : Type 0} (graph : EdgeGraph) (answer : Tested) (result : Result Bool E) → IsGraph graph → 3 ≤ graph.n → IsTested graph answer → answer ≡ NoMap → result ≡ Ok true → MayTell graph result
-told_by_refusal graph answer result known some h e r = subst (MayTell graph) (sym r) ((λ t. witness_where_none graph known some (subst (IsTested graph) e h)), λ w. refl)
+told_by_refusal graph answer result known some h e r = subst (MayTell graph) (sym r) ((λ t. witness_where_none graph known (omega (arith, some)) (subst (IsTested graph) e h)), λ w. refl)
 
 -- the ends of an edge that keeps a witness are vertices
 pub kept_within : (graph : EdgeGraph) (a b : ℕ) → IsGraph graph → IsKept graph a b → (a < graph.n) × (b < graph.n)
