@@ -1,6 +1,6 @@
 -- When a graph has a witness, and when one stays.
 use Rattle.std.proofs.Common.{◌≡◌, ◌<◌, ◌≤◌, ℕ, Bool, true, false, not, refl, sym, subst, inl, inr, arith}
-use Rattle.std.specs.Prelude.{Result, Ok, Option, Some, None, IfOk, IfSome, MatchOption, IsTrue, ◌↔◌}
+use Rattle.std.specs.Prelude.{Result, Ok, Option, None, IfOk, MatchOption, IsTrue, ◌↔◌}
 use Rattle.std.proofs.lemmas.Bool.{true≢false}
 use Rattle.map_lists.specs.Lists.{Lists}
 use Rattle.graph6_text.specs.Graphs.{EdgeGraph, IsGraph}
@@ -29,21 +29,18 @@ told_by_sides graph known some false h =
     ((λ t. elim (map_or_witness graph (proper graph known some)) [ inl w ↦ w | inr m ↦ absurd (true≢false (sym (h.1 m))) ]), λ w. refl)
 
 -- a graph that has no map has a witness
-pub witness_where_none : (graph : EdgeGraph) → IsGraph graph → 3 ≤ graph.n → ((lists : Lists) → ¬ IsMapOf lists graph) → HasWitness graph
-witness_where_none graph known some none = elim (map_or_witness graph (proper graph known (omega (arith, some)))) [ inl w ↦ w | inr m ↦ absurd (none m.0 m.1) ]
+pub witness_where_none : (graph : EdgeGraph) → IsGraph graph → 0 < graph.n → ((lists : Lists) → ¬ IsMapOf lists graph) → HasWitness graph
+witness_where_none graph known some none = elim (map_or_witness graph (proper graph known some)) [ inl w ↦ w | inr m ↦ absurd (none m.0 m.1) ]
 
--- whether it has one, if that is told
-abbrev MayTell : {E : Type 0} → EdgeGraph → Result (Option Bool) E → Type 0
-MayTell graph result = IfOk result (λ told. IfSome told (λ yes. IsTrue yes ↔ HasWitness graph))
+-- whether it has one, by what the test tells
+abbrev MayTell : {E : Type 0} → EdgeGraph → Result Bool E → Type 0
+MayTell graph result = IfOk result (λ yes. IsTrue yes ↔ HasWitness graph)
 
-pub told_by_test : {E : Type 0} (graph : EdgeGraph) (answer : Tested) (found : FoundMap) (result : Result (Option Bool) E) → IsTested graph answer → answer ≡ Map found → result ≡ Ok (Some false) → MayTell graph result
+pub told_by_test : {E : Type 0} (graph : EdgeGraph) (answer : Tested) (found : FoundMap) (result : Result Bool E) → IsTested graph answer → answer ≡ Map found → result ≡ Ok false → MayTell graph result
 told_by_test graph answer found result h e r = subst (MayTell graph) (sym r) ((λ t. absurd (true≢false (sym t))), λ w. absurd (map_refutes graph found.lists (subst (IsTested graph) e h).map w))
 
-pub told_by_refusal : {E : Type 0} (graph : EdgeGraph) (answer : Tested) (result : Result (Option Bool) E) → IsGraph graph → 3 ≤ graph.n → IsTested graph answer → answer ≡ NoMap → result ≡ Ok (Some true) → MayTell graph result
-told_by_refusal graph answer result known some h e r = subst (MayTell graph) (sym r) ((λ t. witness_where_none graph known some (subst (IsTested graph) e h)), λ w. refl)
-
-pub told_by_nothing : {E : Type 0} (graph : EdgeGraph) (result : Result (Option Bool) E) → result ≡ Ok None → MayTell graph result
-told_by_nothing graph result r = subst (MayTell graph) (sym r) tt
+pub told_by_refusal : {E : Type 0} (graph : EdgeGraph) (answer : Tested) (result : Result Bool E) → IsGraph graph → 3 ≤ graph.n → IsTested graph answer → answer ≡ NoMap → result ≡ Ok true → MayTell graph result
+told_by_refusal graph answer result known some h e r = subst (MayTell graph) (sym r) ((λ t. witness_where_none graph known (omega (arith, some)) (subst (IsTested graph) e h)), λ w. refl)
 
 -- the ends of an edge that keeps a witness are vertices
 pub kept_within : (graph : EdgeGraph) (a b : ℕ) → IsGraph graph → IsKept graph a b → (a < graph.n) × (b < graph.n)

@@ -7,13 +7,14 @@ ghost use Rattle.embed_theorem.specs.Expanded.{IsMapOf};
 ghost use Rattle.embed_graph.specs.Embeddings.{IsEmbedding};
 ghost use Rattle.embed_graph.specs.Found.{IsFoundMap, IsTested};
 
-use crate::contracted_embeddings::{contracted_witness, embed_by_contraction};
+use crate::contracted_embeddings::contracted_witness;
 use crate::graph_embeddings::Embedding;
 use crate::marks::has_edges;
 use conn_parts::{CountedMap, plane_map};
 use embed_search::Tables;
 use graph6_text::Graph;
 use kuratowski::{Witness, check_witness};
+use left_right_lists::map_of_graph;
 use map_lists::Rotations;
 use refusals::Unserved;
 use std::alloc::{AllocError, Global};
@@ -58,11 +59,39 @@ pub enum Tested {
     Map(FoundMap),
     /// It has no map of genus zero.
     NoMap,
-    /// Nothing that is known to be right. No graph is known for which this comes.
-    Unsettled,
 }
 
-// Asks the test about a graph, and checks the lists that it answers.
+// A map of a graph, of lists that are one.
+fn made_map(alloc: Global, graph: &Graph, lists: Rotations) -> Result<FoundMap, AllocError>
+    requires some { 3 ≤ graph.now.n }
+    requires map { IsMapOf lists graph.now }
+    ensures { IfOk result (IsFoundMap graph.now) }
+{
+    refusals::no_refusal_is_plane();
+    let _n = graph.n();
+    match plane_map(alloc, &lists, 3) {
+        Ok(plane) => Ok(FoundMap { lists, plane }),
+        Err(Unserved::NoMemory) => Err(AllocError),
+        // such a map breaks no condition
+        Err(Unserved::Refused(_)) => unreachable!(),
+    }
+}
+
+// The answer to a graph by the sides of its edges.
+fn test_by_sides(alloc: Global, graph: &Graph) -> Result<Tested, AllocError>
+    requires { 3 ≤ graph.now.n }
+    ensures { IfOk result (IsTested graph.now) }
+{
+    match map_of_graph(alloc, graph)? {
+        Some(lists) => {
+            let found = made_map(alloc, graph, lists)?;
+            Ok(Tested::Map(found))
+        }
+        None => Ok(Tested::NoMap),
+    }
+}
+
+// Asks the test about a graph, and checks the lists that it answers. Where they are refused, the sides of edges answer.
 pub(crate) fn test_graph(
     alloc: Global,
     tables: &mut Tables,
@@ -74,7 +103,8 @@ pub(crate) fn test_graph(
     match tables.planar_lists(alloc, graph)? {
         Some(lists) => match checked_map(alloc, graph, lists)? {
             Some(found) => Ok(Tested::Map(found)),
-            None => Ok(Tested::Unsettled),
+            // no graph is known for which this comes
+            None => test_by_sides(alloc, graph),
         },
         None => Ok(Tested::NoMap),
     }
@@ -118,28 +148,13 @@ pub(crate) fn refuted(
     }
 }
 
-// The answer for a graph of which the test told nothing: a witness, where its search finds one, or by contracted edges.
-pub(crate) fn settled(
-    alloc: Global,
-    tables: &mut Tables,
-    graph: &Graph,
-) -> Result<Embedding, AllocError>
-    requires { 0 < graph.now.n }
-    ensures { IfOk result (IsEmbedding graph.now) }
-{
-    match found_witness(alloc, tables, graph)? {
-        Some(witness) => Ok(Embedding::NotPlanar(witness)),
-        None => embed_by_contraction(alloc, graph),
-    }
-}
-
 /// A simple map of genus zero with exactly the edges of a graph with at least three vertices, or a witness that there is
 /// none. It fails only when out of memory.
 ///
 /// The map is that of the left-right test, whose lists are checked, and whose no is right. A witness is one of the first
 /// 3n - 5 edges of the graph's line, where it has more; where the search for it finds none that is accepted, edges are
 /// contracted as long as the test refuses the graph. The test is not proved to find each map: where its lists are not
-/// accepted, the answer is that of `embed_by_contraction`. No graph is known for which either comes.
+/// accepted, the answer is that of `map_of_graph`. No graph is known for which either comes.
 pub fn embed(alloc: Global, graph: &Graph) -> Result<Embedding, AllocError>
     requires { 3 ≤ graph.now.n }
     ensures { IfOk result (IsEmbedding graph.now) }
@@ -151,6 +166,5 @@ pub fn embed(alloc: Global, graph: &Graph) -> Result<Embedding, AllocError>
             let witness = refuted(alloc, &mut tables, graph)?;
             Ok(Embedding::NotPlanar(witness))
         }
-        Tested::Unsettled => settled(alloc, &mut tables, graph),
     }
 }

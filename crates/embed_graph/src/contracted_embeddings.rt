@@ -1,8 +1,8 @@
-//! Maps and witnesses of graphs by contracted edges: always one of the two.
+//! Maps of graphs by sides of edges, and witnesses by contracted edges: always one of the two.
 
 mod embedding;
 mod kept;
 mod lifted;
 
-pub use embedding::embed_by_contraction;
+pub use embedding::embed_by_sides;
 pub use lifted::contracted_witness;

@@ -1,9 +1,9 @@
-//! Graphs that are drawn or refuted, by the fast searches and by contracted edges: single ones, and all of a size.
+//! Graphs that are drawn or refuted, by the fast searches and by sides of edges: single ones, and all of a size.
 ghost use Rattle.std.specs.Prelude.{◌<◌, ◌≤◌};
 
 use crate::graphs::over_line;
 use crate::witnesses::name_of;
-use embed_graph::contracted_embeddings::embed_by_contraction;
+use embed_graph::contracted_embeddings::embed_by_sides;
 use embed_graph::embed;
 use embed_graph::graph_embeddings::Embedding;
 use embed_search::{find_witness, planar_lists};
@@ -11,7 +11,7 @@ use euler_faces::count_lists;
 use graph6_text::{Graph, read_line};
 use half_edges::{Rotations, VertexId};
 use kuratowski::{Witness, WitnessVerdict, check_witness};
-use left_right_lists::has_map;
+use left_right_lists::{has_map, map_of_graph};
 use row_texts::text::{number, part, put, put_one};
 use std::alloc::{AllocError, Global};
 
@@ -102,24 +102,37 @@ fn word_of(answer: Result<Embedding, AllocError>) -> &'static str {
     }
 }
 
-// The kind of the answer by contracted edges, if the test by sides agrees.
-fn slow_word(alloc: Global, graph: &Graph) -> &'static str
-    requires { 0 < graph.now.n }
-{
-    let word = word_of(embed_by_contraction(alloc, graph));
+// Whether the test by sides says that a graph has a map, or that it has none.
+fn is_told(alloc: Global, graph: &Graph, planar: bool) -> bool {
     match has_map(alloc, graph) {
-        Ok(planar) => {
-            if planar == (word == "map") {
-                word
-            } else {
-                WRONG
-            }
-        }
-        Err(_) => WRONG,
+        Ok(yes) => yes == planar,
+        Err(_) => false,
     }
 }
 
-// The answers by the searches and by contracted edges.
+// Whether the lists made by sides are a map of a graph, or there are none.
+fn is_listed(alloc: Global, graph: &Graph, planar: bool) -> bool {
+    match map_of_graph(alloc, graph) {
+        Ok(Some(lists)) => planar && is_drawn(alloc, graph, &lists),
+        Ok(None) => !planar,
+        Err(_) => false,
+    }
+}
+
+// The kind of the answer by sides of edges, if the test and the lists by sides agree.
+fn slow_word(alloc: Global, graph: &Graph) -> &'static str
+    requires { 0 < graph.now.n }
+{
+    let word = word_of(embed_by_sides(alloc, graph));
+    let planar = word == "map";
+    if is_told(alloc, graph, planar) && is_listed(alloc, graph, planar) {
+        word
+    } else {
+        WRONG
+    }
+}
+
+// The answers by the searches and by sides of edges.
 fn both_ways(alloc: Global, graph: &Graph) -> (&'static str, &'static str)
     requires { 3 ≤ graph.now.n }
 {
@@ -132,7 +145,7 @@ fn put_both(alloc: Global, graph: &Graph, out: &mut String)
 {
     let (quick, slow) = both_ways(alloc, graph);
     put(quick, out);
-    put(", by contracted edges ", out);
+    put(", by sides ", out);
     put(slow, out);
 }
 

@@ -27,9 +27,6 @@ in_take xs i d z x l is =
       ])),
     )
 
-pub in_take_none : {X : Type 0} (xs : List X) (x : X) → ¬ Contains (take 0 xs) x
-in_take_none xs x c = none_in_none x c
-
 -- ---- edges that lead upwards
 abbrev pub AreRisingTo : EdgeGraph → List ℕ → List ℕ → List Dart → List Dart → ℕ → ℕ → Type 0
 AreRisingTo graph parents depths old new v k =

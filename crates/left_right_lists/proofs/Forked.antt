@@ -93,7 +93,7 @@ module _ (n : ℕ) (edge : ℕ → ℕ → Bool) (parent depth : ℕ → ℕ) (r
     AreInOrder us =
         ((u : ℕ) → Contains us u ↔ IsFree free u) × AllPairs (λ e f. (e ≢ f) × MayAllPrecede depth left (returns_in rows e) (returns_in rows f)) us
 
-    pub sorted_of : (us : List ℕ) → AreInOrder us → Order
+    unfoldable pub sorted_of : (us : List ℕ) → AreInOrder us → Order
     sorted_of us h =
         let in_items : (u : ℕ) → Contains us u → Contains Items u = λ u c. (marked u).1 ((h.0 u).0 c) in (
           us,

@@ -1,5 +1,5 @@
 -- Groups put into one another.
-use Rattle.std.proofs.Common.{◌≡◌, ◌≢◌, ℕ, zero, suc, ◌+◌, ◌/◌, ◌%◌, ◌<◌, ◌≤◌, Bool, true, false, not, eqb, List, [], ◌∷◌, ◌++◌, length, get_or, take, Contains, refl, sym, ap, ap₂, ◌∙◌, subst, inl, inr, arith, eq-eqb, ne_eqb, length-append}
+use Rattle.std.proofs.Common.{◌≡◌, ◌≢◌, ℕ, zero, suc, ◌+◌, ◌/◌, ◌%◌, ◌<◌, ◌≤◌, Bool, true, false, eqb, List, [], ◌∷◌, ◌++◌, length, get_or, take, Contains, refl, sym, ap, ap₂, ◌∙◌, subst, inl, inr, arith, eq-eqb, ne_eqb, length-append}
 use Rattle.std.proofs.lemmas.Bool.{cases_eq, cases_lt, cond-true, cond-false}
 use Rattle.std.proofs.lemmas.Nat.{div-mul-add, mod-mul-add}
 use Rattle.std.proofs.lemmas.List.{get_or-append-add}
@@ -67,21 +67,6 @@ flip_meets false true true = refl
 flip_meets false true false = refl
 flip_meets false false true = refl
 flip_meets false false false = refl
-
-no_flip : (d f : Bool) → f ≡ turned d f → not d ≡ true
-no_flip true true e = cc
-no_flip true false e = cc
-no_flip false f e = refl
-
-no_flip_meets : (k a b : Bool) → not (turned k (turned a b)) ≡ true → a ≡ turned k b
-no_flip_meets true true true e = cc
-no_flip_meets true true false e = refl
-no_flip_meets true false true e = refl
-no_flip_meets true false false e = cc
-no_flip_meets false true true e = refl
-no_flip_meets false true false e = cc
-no_flip_meets false false true e = cc
-no_flip_meets false false false e = refl
 
 -- ---- entries
 moved_from : (into from : ℕ) (flip : Bool) (g : Group) → g.0 ≡ from → moved_group into from flip g ≡ (into, turned flip g.1)

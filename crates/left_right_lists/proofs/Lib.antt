@@ -17,3 +17,4 @@ mod Ordered
 mod RunLemmas
 mod Forked
 mod Stepped
+mod Filled

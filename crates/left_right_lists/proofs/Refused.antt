@@ -7,6 +7,7 @@ use Rattle.map_lists.specs.Lists.{Lists}
 use Rattle.map_theory.specs.Maps.{IsSimpleMap, IsPlane, entry_after, face_count, component_count}
 use Rattle.simple_maps.specs.Faults.{first_fault}
 use Rattle.simple_maps.proofs.FaultLemmas.{IsSimpleMap-from_first_fault}
+use Rattle.embed_theorem.specs.Expanded.{IsMapOf}
 use Rattle.embed_theorem.specs.ListGraphs.{graph_of}
 use Rattle.embed_theorem.proofs.Graphs.{just_edges}
 use Rattle.left_right_lists.specs.Decided.{HasMap}
@@ -28,6 +29,10 @@ plane = refl
 -- a test that says no to the octahedron
 octahedron_refused : ¬ (IsTrue false ↔ HasMap (graph_of octahedron))
 octahedron_refused told = true≢false (sym (told.1 (octahedron, record { simple = simple; plane = plane; edges = just_edges octahedron simple })))
+
+-- no lists for the octahedron
+no_lists_refused : ¬ ((lists : Lists) → ¬ IsMapOf lists (graph_of octahedron))
+no_lists_refused none = none octahedron (record { simple = simple; plane = plane; edges = just_edges octahedron simple })
 
 -- a table in which two edges are on one side that have to be on different ones
 one_side_refused : ¬ (group_of [] (1, 0) ≡ ((group_of [] (2, 0)).0, turned true (group_of [] (2, 0)).1))

@@ -6,3 +6,4 @@ pub mod Upward
 pub mod Decided
 pub mod Orders
 pub mod Blocks
+pub mod Placing

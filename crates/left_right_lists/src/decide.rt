@@ -1,10 +1,15 @@
-//! Whether a graph has a map of genus zero.
-ghost use Rattle.std.specs.Prelude.{◌↔◌, IsTrue, IfOk};
+//! Whether a graph has a map of genus zero, and such a map.
+ghost use Rattle.std.specs.Prelude.{◌↔◌, IsTrue, IfOk, MatchOption};
+ghost use Rattle.map_lists.specs.Lists.{Lists};
+ghost use Rattle.embed_theorem.specs.Expanded.{IsMapOf};
 ghost use Rattle.left_right_lists.specs.Decided.{HasMap};
 
+use crate::placing::all_entries;
 use crate::returns::upward_of;
+use crate::rows::rows_of;
 use crate::sides::sides_of;
 use graph6_text::Graph;
+use map_lists::Rotations;
 use std::alloc::{AllocError, Global};
 
 /// Whether a graph has a map of genus zero, by the sides that forks demand. It fails only when out of memory.
@@ -21,4 +26,22 @@ pub fn has_map(alloc: Global, graph: &Graph) -> Result<bool, AllocError>
         Some(_) => Ok(true),
         None => Ok(false),
     }
+}
+
+/// Returns lists that are a map of genus zero of a graph, or none where there is no such map. It fails only when out of
+/// memory.
+///
+/// It takes polynomial time, and is not fast.
+pub fn map_of_graph(alloc: Global, graph: &Graph) -> Result<Option<Rotations>, AllocError>
+    ensures { IfOk result (λ found. MatchOption found ((lists : Lists) → ¬ IsMapOf lists graph.now) (λ lists. IsMapOf lists graph.now)) }
+{
+    if graph.n() == 0 {
+        return Ok(None);
+    }
+    let up = upward_of(alloc, graph)?;
+    let Some(sides) = sides_of(alloc, graph, &up)? else {
+        return Ok(None);
+    };
+    let entries = all_entries(alloc, graph, &up.tree, &sides)?;
+    Ok(Some(rows_of(alloc, graph, &up.tree, &entries)?))
 }

@@ -50,8 +50,8 @@ pub(crate) fn items_at(
     Ok(marks)
 }
 
-// The place of a vertex in a table in which the last vertices come first.
-fn place_of(number: &[u16], n: u16, u: u16) -> usize
+/// Returns the place of a vertex in a table in which the last vertices come first.
+pub(crate) fn place_of(number: &[u16], n: u16, u: u16) -> usize
     ensures { result ≡ n - 1 - slice_index number.now u }
 {
     usize::from(n)

@@ -1,7 +1,8 @@
-//! A planarity test whose yes and no are both proved.
+//! A planarity test whose yes and no are both proved, and a map of each planar graph.
 //!
 //! A graph has a map of genus zero exactly where the edges that return along a depth-first tree can be parted into left and
-//! right. All that forks demand of their sides is met in a table of groups, or there is no such partition.
+//! right. All that forks demand of their sides is met in a table of groups, or there is no such partition. By these sides
+//! the vertices are placed one by one, the last of the tree's order first, and their entries are the lists of a map.
 #![tactic(auto)]
 
 mod blocks;
@@ -10,8 +11,10 @@ mod edges;
 mod forest;
 mod groups;
 mod order;
+mod placing;
 mod returns;
+mod rows;
 mod sides;
 mod tree;
 
-pub use decide::has_map;
+pub use decide::{has_map, map_of_graph};

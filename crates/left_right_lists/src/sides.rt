@@ -212,7 +212,7 @@ pub(crate) fn sides_of(
     up: &Upward,
 ) -> Result<Option<Vec<(u32, bool)>>, AllocError>
     requires { IsUpward graph.now up.now }
-    ensures { IfOk result (λ found. MatchOption found ((left : ℕ → ℕ → Bool) → ¬ AreSides graph.now up.now.tree.parents.items up.now.tree.depths.items left) (λ s. AreSides graph.now up.now.tree.parents.items up.now.tree.depths.items (side_in s.items))) }
+    ensures { IfOk result (λ found. MatchOption found ((left : ℕ → ℕ → Bool) → ¬ AreSides graph.now up.now.tree.parents.items up.now.tree.depths.items left) (λ s. (length s.items ≡ 65536) × AreSides graph.now up.now.tree.parents.items up.now.tree.depths.items (side_in s.items))) }
 {
     let mut groups = single_groups(alloc)?;
     if meet_all(alloc, graph, up, &mut groups)? {

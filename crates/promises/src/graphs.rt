@@ -34,12 +34,19 @@ pub fn has_map(alloc: Global, graph: &Graph) -> Result<bool, AllocError>
     left_right_lists::has_map(alloc, graph)
 }
 
-/// Returns a map of genus zero with the edges of `graph`, or a subdivision of K5 or K3,3, by contracting edges.
-pub fn embed_by_contraction(alloc: Global, graph: &Graph) -> Result<Embedding, AllocError>
+/// Returns a map of genus zero with the edges of `graph`, made by their sides, or none where there is no such map.
+pub fn map_of_graph(alloc: Global, graph: &Graph) -> Result<Option<Rotations>, AllocError>
+    ensures { IfOk result (λ found. MatchOption found ((lists : Lists) → ¬ IsMapOf lists graph.now) (λ lists. IsMapOf lists graph.now)) }
+{
+    left_right_lists::map_of_graph(alloc, graph)
+}
+
+/// Returns a map of genus zero with the edges of `graph`, made by their sides, or a subdivision of K5 or K3,3.
+pub fn embed_by_sides(alloc: Global, graph: &Graph) -> Result<Embedding, AllocError>
     requires { 0 < graph.now.n }
     ensures { IfOk result (IsEmbedding graph.now) }
 {
-    embed_graph::contracted_embeddings::embed_by_contraction(alloc, graph)
+    embed_graph::contracted_embeddings::embed_by_sides(alloc, graph)
 }
 
 /// Returns a drawn map of genus zero with the edges of `graph`, or a subdivision of K5 or K3,3, whatever `tables` hold.

@@ -1,26 +1,40 @@
 //! The answer.
 ghost use Rattle.std.specs.Prelude.{◌<◌, IfOk};
+ghost use Rattle.map_lists.specs.Lists.{Lists};
+ghost use Rattle.kuratowski.specs.Witnesses.{IsWitness};
+ghost use Rattle.embed_theorem.specs.Expanded.{IsMapOf};
 ghost use Rattle.embed_graph.specs.Embeddings.{IsEmbedding};
 
 use crate::contracted_embeddings::lifted::contracted_witness;
 use crate::graph_embeddings::Embedding;
-use embed_recursion::graph_maps::map_of_graph;
 use graph6_text::Graph;
+use kuratowski::Witness;
+use left_right_lists::map_of_graph;
 use std::alloc::{AllocError, Global};
 
-/// A simple map of genus zero with exactly the edges of a graph, or a Kuratowski witness that there is none. It fails only
-/// when out of memory.
+// Returns a Kuratowski witness of a graph that has no map.
+fn witness_where_none(alloc: Global, graph: &Graph) -> Result<Witness, AllocError>
+    requires some { 0 < graph.now.n }
+    requires none { (lists : Lists) → ¬ IsMapOf lists graph.now }
+    ensures { IfOk result (λ w. IsWitness graph.now w.kind w.branch w.paths) }
+{
+    let _n = graph.n();
+    contracted_witness(alloc, graph)
+}
+
+/// Returns a simple map of genus zero with exactly the edges of `graph`, or a Kuratowski witness that there is none. It
+/// fails only when out of memory.
 ///
-/// It follows the proof that there always is one of the two: graphs are split at one vertex or two, and else an edge is
-/// contracted. It takes polynomial time, and is not fast.
-pub fn embed_by_contraction(alloc: Global, graph: &Graph) -> Result<Embedding, AllocError>
+/// The map is made by the sides of edges that return along a depth-first tree, and the witness by contracted edges. No
+/// fast search is asked for the map, so it is not fast; it takes polynomial time.
+pub fn embed_by_sides(alloc: Global, graph: &Graph) -> Result<Embedding, AllocError>
     requires { 0 < graph.now.n }
     ensures { IfOk result (IsEmbedding graph.now) }
 {
     match map_of_graph(alloc, graph)? {
         Some(map) => Ok(Embedding::Map(map)),
         None => {
-            let witness = contracted_witness(alloc, graph)?;
+            let witness = witness_where_none(alloc, graph)?;
             Ok(Embedding::NotPlanar(witness))
         }
     }

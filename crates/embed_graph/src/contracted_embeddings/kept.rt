@@ -1,5 +1,5 @@
 //! Edges that can be contracted so that a witness stays.
-ghost use Rattle.std.specs.Prelude.{◌≡◌, ◌<◌, ◌≤◌, ◌↔◌, ℕ, true, IsTrue, IfOk, IfSome, MatchOption};
+ghost use Rattle.std.specs.Prelude.{◌≡◌, ◌<◌, ◌≤◌, ◌↔◌, ℕ, true, IsTrue, IfOk, MatchOption};
 ghost use Rattle.graph6_text.specs.Graphs.{has_edge};
 ghost use Rattle.embed_contraction.specs.Traces.{HasWitness};
 ghost use Rattle.embed_witnesses.specs.Kept.{IsKept};
@@ -12,17 +12,16 @@ use left_right_lists::has_map;
 use map_lists::{Ends, VertexId};
 use std::alloc::{AllocError, Global};
 
-// Whether a graph has a witness, as the left-right test tells it; or nothing.
-fn has_witness_by_test(alloc: Global, graph: &Graph) -> Result<Option<bool>, AllocError>
+// Whether a graph has a witness, as the left-right test tells it.
+fn has_witness_by_test(alloc: Global, graph: &Graph) -> Result<bool, AllocError>
     requires { 3 ≤ graph.now.n }
-    ensures { IfOk result (λ told. IfSome told (λ yes. IsTrue yes ↔ HasWitness graph.now)) }
+    ensures { IfOk result (λ yes. IsTrue yes ↔ HasWitness graph.now) }
 {
     let _n = graph.n();
     let mut tables = Tables::new();
     match test_graph(alloc, &mut tables, graph)? {
-        Tested::Map(_) => Ok(Some(false)),
-        Tested::NoMap => Ok(Some(true)),
-        Tested::Unsettled => Ok(None),
+        Tested::Map(_) => Ok(false),
+        Tested::NoMap => Ok(true),
     }
 }
 
@@ -44,10 +43,8 @@ fn has_witness(alloc: Global, graph: &Graph) -> Result<bool, AllocError>
     if graph.n() < 3 {
         return has_witness_by_sides(alloc, graph);
     }
-    match has_witness_by_test(alloc, graph)? {
-        Some(yes) => Ok(yes),
-        None => has_witness_by_sides(alloc, graph),
-    }
+    let yes = has_witness_by_test(alloc, graph)?;
+    Ok(yes)
 }
 
 // Whether a witness stays when the edge between two vertices is contracted.

@@ -5,15 +5,13 @@ ghost use Rattle.conn_parts.specs.Counted.{IsPlaneMap};
 ghost use Rattle.embed_theorem.specs.Expanded.{IsMapOf};
 ghost use Rattle.embed_graph.specs.Figures.{IsEmbedFigure};
 
-use crate::answer::{FoundMap, Tested, refuted, settled, test_graph};
-use crate::graph_embeddings::Embedding;
+use crate::answer::{FoundMap, Tested, refuted, test_graph};
 use embed_search::Tables;
 use graph6_text::Graph;
 use grid_figures::Drawer;
 use kuratowski::Witness;
 use map_lists::Rotations;
 use pg_plane::GridFigure;
-use refusals::Unserved;
 use std::alloc::{AllocError, Global};
 
 /// The answer to a graph.
@@ -32,22 +30,6 @@ fn drawn_found(drawer: &mut Drawer, found: FoundMap) -> Result<EmbedFigure, Allo
 {
     let figure = drawer.schnyder_plane(found.plane, &found.lists)?;
     Ok(EmbedFigure::Drawn(found.lists, figure))
-}
-
-// The drawing of another map of a graph.
-fn drawn(drawer: &mut Drawer, graph: &Graph, lists: Rotations) -> Result<EmbedFigure, AllocError>
-    requires some { 3 ≤ graph.now.n }
-    requires map { IsMapOf lists graph.now }
-    ensures { IfOk result (IsEmbedFigure graph.now) }
-{
-    refusals::no_refusal_is_plane();
-    let _n = graph.n();
-    match drawer.schnyder_figure(&lists) {
-        Ok(figure) => Ok(EmbedFigure::Drawn(lists, figure)),
-        Err(Unserved::NoMemory) => Err(AllocError),
-        // such a map breaks no condition
-        Err(Unserved::Refused(_)) => unreachable!(),
-    }
 }
 
 /// Returns a map of a graph with at least three vertices and the map's drawing in the grid n - 2 by n - 2, or a witness
@@ -81,9 +63,5 @@ pub fn embed_figure_by(
             let witness = refuted(alloc, tables, graph)?;
             Ok(EmbedFigure::NotPlanar(witness))
         }
-        Tested::Unsettled => match settled(alloc, tables, graph)? {
-            Embedding::Map(lists) => drawn(drawer, graph, lists),
-            Embedding::NotPlanar(witness) => Ok(EmbedFigure::NotPlanar(witness)),
-        },
     }
 }

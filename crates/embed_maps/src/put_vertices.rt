@@ -1,5 +1,0 @@
-//! Vertices put into rings of maps, as calls.
-
-mod rings;
-
-pub use rings::put_in_ring;
