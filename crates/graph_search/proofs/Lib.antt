@@ -1,4 +1,5 @@
 -- Lemmas on searches.
+pub mod Known
 pub mod StepLemmas
 pub mod TableLemmas
 pub mod ForestLemmas

@@ -96,11 +96,11 @@ pub entries_within : (lists : Lists) → IsAdjacency lists → (v : ℕ) → v <
 entries_within lists adjacency v l = λ k d m. adjacency.in_range v (get_or (list_of lists v) k d) (l, Contains-get_or (list_of lists v) k d m)
 
 -- one low point more, by falling numbers
-pub lows_more : (lists : Lists) → IsAdjacency lists → (order number last parent low : List ℕ) → IsForestOf lists order number last parent → length low ≡ length lists → (i v least : ℕ) → i < length lists → v ≡ get_or order (length number - 1 - i) 0 → ((u : ℕ) → u < length lists → length lists ≤ get_or number u 0 + i → IsLow lists (λ x. get_or number x 0) (λ x. get_or last x 0) u (get_or low u 0)) → IsLeastAlong (list_of lists v) number parent low v least → (u : ℕ) → u < length lists → length lists ≤ get_or number u 0 + (i + 1) → IsLow lists (λ x. get_or number x 0) (λ x. get_or last x 0) u (get_or (set low v least) u 0)
+pub lows_more : (lists : Lists) → IsAdjacency lists → (order number last parent low : List ℕ) → IsForestOf lists order number last parent → length low ≡ length lists → (i v least : ℕ) → i < length lists → v ≡ get_or order (length lists - 1 - i) 0 → ((u : ℕ) → u < length lists → length lists ≤ get_or number u 0 + i → IsLow lists (λ x. get_or number x 0) (λ x. get_or last x 0) u (get_or low u 0)) → IsLeastAlong (list_of lists v) number parent low v least → (u : ℕ) → u < length lists → length lists ≤ get_or number u 0 + (i + 1) → IsLow lists (λ x. get_or number x 0) (λ x. get_or last x 0) u (get_or (set low v least) u 0)
 lows_more lists adjacency order number last parent low all long i v least l is h along u m few =
     let f = all.forest in
     let n = all.numbers in
-    let k = length number - 1 - i in
+    let k = length lists - 1 - i in
     let in_k : k < length lists = omega arith in
     let v_in = f.vertex k in_k in
     let at = f.place k in_k in

@@ -7,6 +7,7 @@ use Rattle.map_lists.specs.Lists.{Lists}
 use Rattle.map_theory.specs.Maps.{HasDart}
 use Rattle.graph_search.specs.Forests.{Holds, IsForest}
 use Rattle.graph_search.specs.UnderWay.{work_left, MayHold, IsUnderWay, IsPut}
+use Rattle.graph_search.proofs.Known.{HasDart-known}
 
 -- a write to a table
 pub IsPut-set : (xs : List ℕ) (i x : ℕ) → i < length xs → IsPut (λ v. get_or xs v 0) (λ v. get_or (set xs i x) v 0) i x
@@ -84,7 +85,8 @@ module _ (lists : Lists) (order number last parent : ℕ → ℕ) (count current
           adjacent = λ v m s q. elim (cases_eq v w) [
             | inl e ↦
                 let is : parent' v ≡ current = ap parent' e ∙ p.here in
-                rw is (subst (HasDart lists current) (sym e) (dart (omega arith)))
+                let has = subst (HasDart lists current) (sym e) (dart (omega arith)) in
+                rw is (∣ has ∣₁)
             | inr ne ↦ let is = p.elsewhere v ne in rw is (h.adjacent v m (fewer v s ne) (omega arith))
           ];
           held = λ v m s q. elim (cases_eq v w) [
@@ -256,7 +258,7 @@ module _ (lists : Lists) (order number last parent : ℕ → ℕ) (count current
         ends_within = λ v m. let e = h.ends_within v m in omega arith;
         nested = λ x v m k f. h.nested x v m k f.after f.before;
         edges = λ x v has. h.edges x v has (done x has.0);
-        adjacent = λ v m p. h.adjacent v m (all v m) p;
+        adjacent = λ v m p. HasDart-known lists (parent v) v (h.adjacent v m (all v m) p);
         held = λ v m p. let f = h.held v m (all v m) p in record { after = f.after; before = f.before (done (parent v) p) };
         has_parent = λ x v m k f. h.has_parent x v m k (all v k) (may x v m f);
         nearest = λ x v m k f. h.nearest x v m k (all v k) (may x v m f);

@@ -1,11 +1,11 @@
 -- The steps of a search in tables.
-use Rattle.std.proofs.Common.{◌≡◌, ℕ, ◌+◌, ◌<◌, ◌≤◌, false, ltb, List, length, get_or, set, sym, ap, ◌∙◌, subst, inl, inr, arith, length-set}
-use Rattle.std.proofs.lemmas.Bool.{cases_eq, le-ltb}
-use Rattle.std.proofs.lemmas.List.{get_or_default}
+use Rattle.std.proofs.Common.{◌≡◌, ◌≢◌, ℕ, ◌+◌, ◌<◌, ◌≤◌, false, ltb, List, length, get_or, set, replicate, sym, ap, ◌∙◌, subst, inl, inr, arith, length-set, get_or-set_other, get_or-set_same}
+use Rattle.std.proofs.lemmas.Bool.{cases_eq, cases_lt, le-ltb}
+use Rattle.std.proofs.lemmas.List.{get_or_default, length-replicate, get_or-replicate}
 use Rattle.classes.proofs.Counting.{count_below_same, count_below_none}
 use Rattle.map_lists.specs.Lists.{Lists}
 use Rattle.map_theory.specs.Maps.{HasDart, list_of}
-use Rattle.graph_search.specs.Forests.{IsAdjacency, IsForestOf}
+use Rattle.graph_search.specs.Forests.{IsForestOf}
 use Rattle.graph_search.specs.UnderWay.{work_in, IsSearching, KeepsNumbers}
 use Rattle.graph_search.proofs.StepLemmas.{IsPut-set, IsUnderWay-room, IsUnderWay-seen, IsUnderWay-done, work_left-seen, work_left-done, IsForest-finished}
 
@@ -45,6 +45,14 @@ IsSearching-none lists order number last parent cursor orders numbers lasts pare
         seen = λ v i m l. absurd (omega (arith, unread v m));
       };
     }
+
+-- before the first step, in tables that are filled
+pub IsSearching-filled : (lists : Lists) (n : ℕ) (order number last parent cursor : List ℕ) → n ≡ length lists → order ≡ replicate n 0 → number ≡ replicate n n → last ≡ replicate n 0 → parent ≡ replicate n 0 → cursor ≡ replicate n 0 → IsSearching lists order number last parent cursor 0 n
+IsSearching-filled lists n order number last parent cursor all o u l p c =
+    let size : (xs : List ℕ) (x : ℕ) → xs ≡ replicate n x → length xs ≡ length lists = λ xs x e. ap length e ∙ (length-replicate {A = ℕ} n x ∙ all) in
+    let entry : (xs : List ℕ) (x : ℕ) → xs ≡ replicate n x → (v : ℕ) → v < length lists → get_or xs v 0 ≡ x = λ xs x e v m. ap (λ (ys : List ℕ). get_or ys v 0) e ∙ get_or-replicate {A = ℕ} n v x 0 (omega (arith, m, all)) in
+    subst (λ (x : ℕ). IsSearching lists order number last parent cursor 0 x) (sym all)
+    (IsSearching-none lists order number last parent cursor (size order 0 o) (size number n u) (size last 0 l) (size parent 0 p) (size cursor 0 c) (λ v m. entry number n u v m ∙ all) (entry last 0 l) (entry cursor 0 c))
 
 module _ (lists : Lists) (order number last parent cursor : List ℕ) (count current : ℕ) (h : IsSearching lists order number last parent cursor count current) where
   -- an unseen vertex has the number of all
@@ -87,7 +95,7 @@ module _ (lists : Lists) (order number last parent cursor : List ℕ) (count cur
       let less = work_left-seen lists _ _ _ _ count current h.state _ _ _ w l (unseen_number w l unseen) dart (IsPut-set order count w (omega arith)) (IsPut-set number w count (omega arith)) (IsPut-set parent w current (omega arith)) in
       rw (length-set, u) less
 
-  module _ (adjacency : IsAdjacency lists) (c_in : current < length lists) (all : get_or cursor current 0 ≡ length (list_of lists current)) where
+  module _ (in_range : (v u : ℕ) → HasDart lists v u → u < length lists) (c_in : current < length lists) (all : get_or cursor current 0 ≡ length (list_of lists current)) where
     -- all neighbours of the current vertex were seen
     seen_all : (v : ℕ) → HasDart lists current v → get_or number v 0 < length lists
     seen_all v has =
@@ -104,14 +112,14 @@ module _ (lists : Lists) (order number last parent cursor : List ℕ) (count cur
           lasts = length-set last current count ∙ o;
           parents = h.parents;
           cursors = h.cursors;
-          state = IsUnderWay-done lists _ _ _ _ count current h.state _ c_in seen_all adjacency.in_range (IsPut-set last current count (omega arith));
+          state = IsUnderWay-done lists _ _ _ _ count current h.state _ c_in seen_all in_range (IsPut-set last current count (omega arith));
           read = h.read;
         }
 
     pub work_in-done : work_in number (set last current count) < work_in number last
     work_in-done =
         let o = h.lasts in
-        let less = work_left-done lists _ _ _ _ count current h.state _ c_in seen_all adjacency.in_range (IsPut-set last current count (omega arith)) in
+        let less = work_left-done lists _ _ _ _ count current h.state _ c_in seen_all in_range (IsPut-set last current count (omega arith)) in
         rw h.numbers less
 
 -- where none is open and all were seen, the search is finished
@@ -161,3 +169,28 @@ pub KeepsNumbers-chained : (one two three : List ℕ) → length two ≡ length 
 KeepsNumbers-chained one two three same h k = λ v m s.
     let e = h v m s in
     k v (omega arith) (omega arith) ∙ e
+
+-- the numbers of the first two vertices, which are kept
+module _ (n s t zero_count one_count : ℕ) (blank one two now : List ℕ) (z : zero_count ≡ 0) (k : one_count ≡ zero_count + 1) (b : blank ≡ replicate n n) (o : one ≡ set blank s zero_count) (w : two ≡ set one t one_count) (s_in : s < n) (t_in : t < n) (ne : s ≢ t) (keeps : KeepsNumbers two now) where
+  size : length two ≡ n
+  size = ap length w ∙ (length-set one t one_count ∙ (ap length o ∙ (length-set blank s zero_count ∙ (ap length b ∙ length-replicate {A = ℕ} n n))))
+
+  some : 1 < n
+  some = elim (cases_lt 1 n) [ inl l ↦ l | inr m ↦ absurd (ne (omega arith)) ]
+
+  first_of_two : get_or two s 0 ≡ zero_count
+  first_of_two = ap (λ (xs : List ℕ). get_or xs s 0) w ∙ (get_or-set_other one t s one_count 0 ne ∙ (ap (λ (xs : List ℕ). get_or xs s 0) o ∙ get_or-set_same blank s zero_count 0 (omega (arith, s_in, ap length b, length-replicate {A = ℕ} n n))))
+
+  second_of_two : get_or two t 0 ≡ one_count
+  second_of_two = ap (λ (xs : List ℕ). get_or xs t 0) w ∙ get_or-set_same one t one_count 0 (omega (arith, t_in, ap length w, size, length-set one t one_count))
+
+  pub first_kept : get_or now s 0 ≡ 0
+  first_kept = keeps s (omega (arith, size)) (omega (arith, size, some, first_of_two, z)) ∙ (first_of_two ∙ z)
+
+  pub second_kept : get_or now t 0 ≡ 1
+  second_kept = keeps t (omega (arith, size)) (omega (arith, size, some, second_of_two, z, k)) ∙ (second_of_two ∙ (k ∙ omega (arith, z)))
+
+-- a second vertex is not seen when the first one is
+pub second_unseen : (n s t zero_count : ℕ) (blank one : List ℕ) → blank ≡ replicate n n → one ≡ set blank s zero_count → t < n → s ≢ t → get_or one t 0 ≡ n
+second_unseen n s t zero_count blank one b o t_in ne =
+    ap (λ (xs : List ℕ). get_or xs t 0) o ∙ (get_or-set_other blank s t zero_count 0 (λ e. ne (sym e)) ∙ (ap (λ (xs : List ℕ). get_or xs t 0) b ∙ get_or-replicate {A = ℕ} n t n 0 t_in))

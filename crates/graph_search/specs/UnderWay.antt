@@ -30,7 +30,7 @@ pub record IsUnderWay (lists : Lists) (order number last parent : ℕ → ℕ) (
   pub nested_done : (u v : ℕ) → u < length lists → v < length lists → number u < number v → number v < last u → 0 < last v
   pub nested : (u v : ℕ) → u < length lists → v < length lists → number u < number v → number v < last u → last v ≤ last u
   pub edges : (u v : ℕ) → HasDart lists u v → 0 < last u → number v < last u
-  pub adjacent : (v : ℕ) → v < length lists → number v < length lists → parent v < length lists → HasDart lists (parent v) v
+  pub adjacent : (v : ℕ) → v < length lists → number v < length lists → parent v < length lists → ∥ HasDart lists (parent v) v ∥₁
   pub held : (v : ℕ) → v < length lists → number v < length lists → parent v < length lists → MayHold number last (parent v) v
   pub has_parent : (u v : ℕ) → u < length lists → v < length lists → number v < length lists → MayHold number last u v → parent v < length lists
   pub nearest : (u v : ℕ) → u < length lists → v < length lists → number v < length lists → MayHold number last u v → number u ≤ number (parent v)

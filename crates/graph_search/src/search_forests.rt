@@ -4,7 +4,9 @@
 
 mod forest;
 mod lows;
+mod searched;
 mod steps;
 
 pub use forest::{Forest, search_again, search_forest, search_forest_along};
 pub use lows::{low_points, low_points_again};
+pub(crate) use searched::Searched;

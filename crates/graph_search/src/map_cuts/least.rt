@@ -6,8 +6,7 @@ ghost use Rattle.graph_search.specs.Lows.{AreLows};
 ghost use Rattle.graph_search.specs.Cuts.{IsCutVertex, IsLeastCutVertex};
 ghost use Rattle.graph_search.specs.Flags.{HasSeparatedChild};
 
-use crate::map_cuts::flags::has_separated;
-use crate::search_forests::{Forest, low_points, search_forest};
+use crate::search_forests::{Forest, Searched, low_points, search_forest};
 use half_edges::HalfMap;
 use map_lists::{Rotations, VertexId};
 use std::alloc::{AllocError, Global};
@@ -25,22 +24,18 @@ pub(crate) fn first_set(flags: &[bool], from: usize) -> Option<usize>
     None
 }
 
-// The least vertex whose list has a child that it parts from other vertices.
-fn first_separating(lists: &Rotations, number: &[u16], parent: &[u16], low: &[u16]) -> Option<u16>
-    requires adjacency { IsAdjacency lists.now }
-    requires few { length lists.now < 4096 }
-    requires numbers { length number.now ≡ length lists.now }
-    requires small { (v : ℕ) → v < length lists.now → slice_index number.now v < length lists.now }
-    requires parents { length parent.now ≡ length lists.now }
-    requires lows { length low.now ≡ length lists.now }
-    ensures { MatchOption result ((v : ℕ) → v < length lists.now → ¬ HasSeparatedChild number.now parent.now low.now v (list_of lists.now v)) (λ v. (v < length lists.now) × HasSeparatedChild number.now parent.now low.now v (list_of lists.now v) × ((u : ℕ) → u < v → ¬ HasSeparatedChild number.now parent.now low.now u (list_of lists.now u))) }
-{
-    for v in 0..lists.len() {
-        if has_separated(lists.list(v), number, parent, low, v as u16) {
-            return Some(v as u16);
+impl Searched<'_> {
+    // Returns the least vertex that parts a child from other vertices.
+    fn first_separating(&self) -> Option<u16>
+        ensures { MatchOption result ((v : ℕ) → v < length self.now.lists.now → ¬ HasSeparatedChild self.now.number.now self.now.parent.now self.now.low.now v (list_of self.now.lists.now v)) (λ v. (v < length self.now.lists.now) × HasSeparatedChild self.now.number.now self.now.parent.now self.now.low.now v (list_of self.now.lists.now v) × ((u : ℕ) → u < v → ¬ HasSeparatedChild self.now.number.now self.now.parent.now self.now.low.now u (list_of self.now.lists.now u))) }
+    {
+        for v in 0..self.lists.len() {
+            if self.has_separated(v as u16) {
+                return Some(v as u16);
+            }
         }
+        None
     }
-    None
 }
 
 /// The least cut vertex of lists in which adjacency goes both ways, by a search of them and its low points; None
@@ -52,7 +47,13 @@ pub fn searched_cut_vertex(lists: &Rotations, forest: &Forest, low: &[u16]) -> O
     requires lows { AreLows lists.now forest.now.number.items forest.now.last.items low.now }
     ensures { MatchOption result ((v : ℕ) → ¬ IsCutVertex lists.now v) (λ v. IsLeastCutVertex lists.now v) }
 {
-    first_separating(lists, &forest.number, &forest.parent, low)
+    let searched = Searched {
+        lists,
+        number: &forest.number,
+        parent: &forest.parent,
+        low,
+    };
+    searched.first_separating()
 }
 
 /// The least cut vertex of lists in which adjacency goes both ways, or None exactly where there is none, in

@@ -5,64 +5,62 @@ ghost use Rattle.graph_search.specs.Forests.{IsAdjacency, IsForestOf};
 ghost use Rattle.graph_search.specs.Lows.{AreLows, IsLow, IsLeastAlong, low_along};
 
 use crate::search_forests::forest::{Forest, filled};
+use crate::search_forests::searched::Searched;
 use map_lists::Rotations;
 use std::alloc::{AllocError, Global};
 
-// Returns the low point that `v` has from its neighbour `u`.
-fn low_from(number: &[u16], parent: &[u16], low: &[u16], v: u16, u: u16) -> u16
-    requires number { u < length number.now }
-    requires parent { u < length parent.now }
-    requires low { u < length low.now }
-    ensures { result ≡ low_along number.now parent.now low.now v u }
-{
-    if parent[u as usize] == v {
-        low[u as usize]
-    } else {
-        number[u as usize]
-    }
-}
-
-// The lesser of two.
+// Returns the lesser of two.
 fn lesser(one: u16, other: u16) -> u16
     ensures { result ≡ min one other }
 {
     if one < other { one } else { other }
 }
 
-// The least that v has from its neighbours.
-fn low_of(list: &[u16], number: &[u16], parent: &[u16], low: &[u16], v: u16) -> u16
-    requires few { length number.now < 4096 }
-    requires vertices { All (λ u. u < length number.now) list.now }
-    requires parents { length parent.now ≡ length number.now }
-    requires lows { length low.now ≡ length number.now }
-    ensures { IsLeastAlong list.now number.now parent.now low.now v result }
-{
-    let mut least = number.len() as u16;
-    for u in list {
-        least = lesser(least, low_from(number, parent, low, v, *u));
+impl Searched<'_> {
+    // Returns the low point that `v` has from its neighbour `u`.
+    fn low_from(&self, v: u16, u: u16) -> u16
+        requires { u < length self.now.lists.now }
+        ensures { result ≡ low_along self.now.number.now self.now.parent.now self.now.low.now v u }
+    {
+        if self.parent[u as usize] == v {
+            self.low[u as usize]
+        } else {
+            self.number[u as usize]
+        }
     }
-    least
+
+    // Returns the least that `v` has from its neighbours.
+    fn low_of(&self, v: u16) -> u16
+        requires { v < length self.now.lists.now }
+        ensures { IsLeastAlong (list_of self.now.lists.now v) self.now.number.now self.now.parent.now self.now.low.now v result }
+    {
+        let mut least = self.number.len() as u16;
+        let list = self.lists.list(v as usize);
+        for u in list {
+            least = lesser(least, self.low_from(v, *u));
+        }
+        least
+    }
 }
 
 // Fills the low points, those of the greatest numbers first.
-fn fill_lows(
-    lists: &Rotations,
-    order: &[u16],
-    number: &[u16],
-    last: &[u16],
-    parent: &[u16],
-    low: &mut [u16],
-)
+fn fill_lows(lists: &Rotations, forest: &Forest, low: &mut [u16])
     requires few { length lists.now < 4096 }
     requires in_range { IsAdjacency lists.now }
-    requires forest { IsForestOf lists.now order.now number.now last.now parent.now }
+    requires forest { IsForestOf lists.now forest.now.order.items forest.now.number.items forest.now.last.items forest.now.parent.items }
     requires lows { length low.old ≡ length lists.now }
-    ensures { AreLows lists.now number.now last.now low.new }
+    ensures { AreLows lists.now forest.now.number.items forest.now.last.items low.new }
 {
-    let n = number.len();
+    let n = lists.len();
     for i in 0..n {
-        let v = order[n - 1 - i];
-        low[v as usize] = low_of(lists.list(v as usize), number, parent, low, v);
+        let v = forest.order[n - 1 - i];
+        let searched = Searched {
+            lists,
+            number: &forest.number,
+            parent: &forest.parent,
+            low,
+        };
+        low[v as usize] = searched.low_of(v);
     }
 }
 
@@ -78,14 +76,7 @@ pub fn low_points_again(
     ensures { IfOk result (λ low. AreLows lists.now forest.now.number.items forest.now.last.items low.items) }
 {
     let mut low = filled(low, 0, lists.len())?;
-    fill_lows(
-        lists,
-        &forest.order,
-        &forest.number,
-        &forest.last,
-        &forest.parent,
-        &mut low,
-    );
+    fill_lows(lists, forest, &mut low);
     Ok(low)
 }
 

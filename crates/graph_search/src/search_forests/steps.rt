@@ -1,146 +1,234 @@
-//! The steps of a search, over tables with an entry for each vertex.
-ghost use Rattle.std.specs.Prelude.{◌≡◌, ◌+◌, ◌<◌, ◌≤◌, ◌↔◌, IsTrue, ℕ, length, slice_index, slice_set, All};
+//! A search under way, and its steps.
+ghost use Rattle.std.specs.Prelude.{◌≡◌, ◌+◌, ◌<◌, ◌≤◌, ◌↔◌, IsTrue, ℕ, length, slice_index, slice_set, replicate, IfOk};
 ghost use Rattle.map_theory.specs.Maps.{HasDart, list_of};
-ghost use Rattle.graph_search.specs.Forests.{IsAdjacency};
+ghost use Rattle.graph_search.specs.Forests.{IsForestOf};
 ghost use Rattle.graph_search.specs.UnderWay.{IsSearching, KeepsNumbers, work_in};
 
+use crate::search_forests::forest::{Forest, filled};
 use map_lists::Rotations;
+use std::alloc::AllocError;
 
-// Whether a vertex was not seen.
-fn is_unseen(number: &[u16], v: u16) -> bool
-    requires { v < length number.now }
-    ensures { IsTrue result ↔ (length number.now ≤ slice_index number.now v) }
-{
-    number[v as usize] as usize >= number.len()
-}
-
-// The first place from `from` on at which a list has a vertex that was not seen, or its length.
-fn unseen_place(list: &[u16], from: usize, number: &[u16]) -> usize
-    requires vertices { All (λ u. u < length number.now) list.now }
-    requires from { from ≤ length list.now }
-    ensures after { from ≤ result }
-    ensures within { result ≤ length list.now }
-    ensures seen { (i : ℕ) → from ≤ i → i < result → slice_index number.now (slice_index list.now i) < length number.now }
-    ensures unseen { result < length list.now → length number.now ≤ slice_index number.now (slice_index list.now result) }
-{
-    for i in from..list.len() {
-        if is_unseen(number, list[i]) {
-            return i;
-        }
-    }
-    list.len()
-}
-
-// Sees a vertex from the current one, or as a top where there is none.
-pub(crate) fn see(
-    lists: &Rotations,
-    order: &mut [u16],
-    number: &mut [u16],
-    last: &[u16],
-    parent: &mut [u16],
-    cursor: &[usize],
+/// A search of lists under way: its tables, and where it stands.
+#[derive(Drop)]
+pub(crate) struct Search<'a> {
+    lists: &'a Rotations,
+    order: Vec<u16>,
+    number: Vec<u16>,
+    last: Vec<u16>,
+    parent: Vec<u16>,
+    // for each vertex how many entries of its list were read
+    cursor: Vec<usize>,
+    // how many vertices were seen
     count: u16,
+    // the vertex whose neighbours are read, or the number of vertices where none is open
     current: u16,
-    v: u16,
-)
-    requires searching { IsSearching lists.now order.old number.old last.now parent.old cursor.now count current }
-    requires vertex { v < length lists.now }
-    requires unseen { length lists.now ≤ slice_index number.old v }
-    requires dart { current < length lists.now → HasDart lists.now current v }
-    ensures searching { IsSearching lists.now order.new number.new last.now parent.new cursor.now (count + 1) v }
-    ensures number { number.new ≡ slice_set number.old v count }
-    ensures room { count < length lists.now }
-    ensures less { work_in number.new last.now < work_in number.old last.now }
-{
-    order[count as usize] = v;
-    number[v as usize] = count;
-    parent[v as usize] = current;
+    ghost few: { length lists.now < 4096 },
+    ghost in_range: { (v u : ℕ) → HasDart lists.now v u → u < length lists.now },
+    ghost searching: { IsSearching lists.now order.items number.items last.items parent.items cursor.items count current },
 }
 
-// Ends the current vertex, whose neighbours were all seen.
-fn end(
-    lists: &Rotations,
-    order: &[u16],
-    number: &[u16],
-    last: &mut [u16],
-    parent: &[u16],
-    cursor: &[usize],
-    count: u16,
-    current: u16,
-) -> u16
-    requires adjacency { IsAdjacency lists.now }
-    requires searching { IsSearching lists.now order.now number.now last.old parent.now cursor.now count current }
-    requires vertex { current < length lists.now }
-    requires all { slice_index cursor.now current ≡ length (list_of lists.now current) }
-    ensures searching { IsSearching lists.now order.now number.now last.new parent.now cursor.now count result }
-    ensures less { work_in number.now last.new < work_in number.now last.old }
+// Returns a table with 0 at each of `n` places, in the memory of another.
+fn unread(table: Vec<usize>, n: usize) -> Result<Vec<usize>, AllocError>
+    ensures { IfOk result (λ made. made.items ≡ replicate n 0) }
 {
-    last[current as usize] = count;
-    parent[current as usize]
+    let mut table = table;
+    table.clear();
+    table.resize(n, 0)?;
+    Ok(table)
 }
 
-// The cursor of the current vertex goes on to the next neighbour that was not seen.
-fn go_on(
-    lists: &Rotations,
-    order: &[u16],
-    number: &[u16],
-    last: &[u16],
-    parent: &[u16],
-    cursor: &mut [usize],
-    count: u16,
-    current: u16,
-) -> usize
-    requires adjacency { IsAdjacency lists.now }
-    requires searching { IsSearching lists.now order.now number.now last.now parent.now cursor.old count current }
-    requires vertex { current < length lists.now }
-    ensures searching { IsSearching lists.now order.now number.now last.now parent.now cursor.new count current }
-    ensures cursor { slice_index cursor.new current ≡ result }
-    ensures within { result ≤ length (list_of lists.now current) }
-    ensures unseen { result < length (list_of lists.now current) → length lists.now ≤ slice_index number.now (slice_index (list_of lists.now current) result) }
-{
-    let list = lists.list(current as usize);
-    let place = unseen_place(list, cursor[current as usize], number);
-    cursor[current as usize] = place;
-    place
-}
-
-// One step: the next vertex is seen, or the current one is done. It answers how many were seen, and the
-// current vertex.
-pub(crate) fn step(
-    lists: &Rotations,
-    order: &mut [u16],
-    number: &mut [u16],
-    last: &mut [u16],
-    parent: &mut [u16],
-    cursor: &mut [usize],
-    count: u16,
-    current: u16,
-) -> (u16, u16)
-    requires adjacency { IsAdjacency lists.now }
-    requires few { length lists.now < 4096 }
-    requires searching { IsSearching lists.now order.old number.old last.old parent.old cursor.old count current }
-    requires vertex { current < length lists.now }
-    ensures searching { IsSearching lists.now order.new number.new last.new parent.new cursor.new result.0 result.1 }
-    ensures keeps { KeepsNumbers number.old number.new }
-    ensures less { work_in number.new last.new < work_in number.old last.old }
-{
-    let place = go_on(lists, order, number, last, parent, cursor, count, current);
-    let list = lists.list(current as usize);
-    if place < list.len() {
-        see(
+impl<'a> Search<'a> {
+    /// Begins a search in which no vertex was seen, in the memory of an earlier forest and of its cursors.
+    #[inline(always)]
+    pub(crate) fn begun(
+        lists: &'a Rotations,
+        forest: Forest,
+        cursor: Vec<usize>,
+    ) -> Result<Search<'a>, AllocError>
+        requires few { length lists.now < 4096 }
+        requires in_range { (v u : ℕ) → HasDart lists.now v u → u < length lists.now }
+        ensures lists { IfOk result (λ made. made.lists.now ≡ lists.now) }
+        ensures count { IfOk result (λ made. made.count ≡ 0) }
+        ensures current { IfOk result (λ made. made.current ≡ length lists.now) }
+        ensures number { IfOk result (λ made. made.number.items ≡ replicate (length lists.now) (length lists.now)) }
+    {
+        let n = lists.len();
+        let order = filled(forest.order, 0, n)?;
+        let number = filled(forest.number, n as u16, n)?;
+        let last = filled(forest.last, 0, n)?;
+        let parent = filled(forest.parent, 0, n)?;
+        let cursor = unread(cursor, n)?;
+        Ok(Search {
             lists,
             order,
             number,
             last,
             parent,
             cursor,
-            count,
-            current,
-            list[place],
-        );
-        (count + 1, list[place])
-    } else {
-        let next = end(lists, order, number, last, parent, cursor, count, current);
-        (count, next)
+            count: 0,
+            current: n as u16,
+        })
+    }
+
+    // Whether a vertex was not seen.
+    #[inline(always)]
+    fn is_unseen(&self, v: u16) -> bool
+        requires { v < length self.now.lists.now }
+        ensures { IsTrue result ↔ (length self.now.lists.now ≤ slice_index self.now.number.items v) }
+    {
+        self.number[v as usize] as usize >= self.lists.len()
+    }
+
+    // Whether a vertex is open.
+    #[inline(always)]
+    fn is_open(&self) -> bool
+        ensures { IsTrue result ↔ (self.now.current < length self.now.lists.now) }
+    {
+        (self.current as usize) < self.lists.len()
+    }
+
+    // Returns the first place from `from` on at which the current list has a vertex that was not seen, or its length.
+    #[inline(always)]
+    fn unseen_place(&self, from: usize) -> usize
+        requires vertex { self.now.current < length self.now.lists.now }
+        requires from { from ≤ length (list_of self.now.lists.now self.now.current) }
+        ensures after { from ≤ result }
+        ensures within { result ≤ length (list_of self.now.lists.now self.now.current) }
+        ensures seen { (i : ℕ) → from ≤ i → i < result → slice_index self.now.number.items (slice_index (list_of self.now.lists.now self.now.current) i) < length self.now.lists.now }
+        ensures unseen { result < length (list_of self.now.lists.now self.now.current) → length self.now.lists.now ≤ slice_index self.now.number.items (slice_index (list_of self.now.lists.now self.now.current) result) }
+    {
+        let list = self.lists.list(self.current as usize);
+        for i in from..list.len() {
+            if self.is_unseen(list[i]) {
+                return i;
+            }
+        }
+        list.len()
+    }
+
+    // Sees a vertex from the current one, or as a top where there is none.
+    #[inline(always)]
+    pub(crate) fn see(&mut self, v: u16)
+        requires vertex { v < length self.old.lists.now }
+        requires unseen { length self.old.lists.now ≤ slice_index self.old.number.items v }
+        requires dart { self.old.current < length self.old.lists.now → HasDart self.old.lists.now self.old.current v }
+        ensures lists { self.new.lists.now ≡ self.old.lists.now }
+        ensures number { self.new.number.items ≡ slice_set self.old.number.items v self.old.count }
+        ensures count { self.new.count ≡ self.old.count + 1 }
+        ensures current { self.new.current ≡ v }
+        ensures less { work_in self.new.number.items self.new.last.items < work_in self.old.number.items self.old.last.items }
+    {
+        self.order[self.count as usize] = v;
+        self.number[v as usize] = self.count;
+        self.parent[v as usize] = self.current;
+        self.count += 1;
+        self.current = v;
+    }
+
+    // Ends the current vertex, whose neighbours were all seen.
+    #[inline(always)]
+    fn end(&mut self)
+        requires vertex { self.old.current < length self.old.lists.now }
+        requires all { slice_index self.old.cursor.items self.old.current ≡ length (list_of self.old.lists.now self.old.current) }
+        ensures lists { self.new.lists.now ≡ self.old.lists.now }
+        ensures number { self.new.number.items ≡ self.old.number.items }
+        ensures less { work_in self.new.number.items self.new.last.items < work_in self.old.number.items self.old.last.items }
+    {
+        let v = self.current as usize;
+        self.last[v] = self.count;
+        self.current = self.parent[v];
+    }
+
+    // Moves the cursor of the current vertex to the next neighbour that was not seen, and returns it.
+    #[inline(always)]
+    fn go_on(&mut self) -> usize
+        requires { self.old.current < length self.old.lists.now }
+        ensures lists { self.new.lists.now ≡ self.old.lists.now }
+        ensures number { self.new.number.items ≡ self.old.number.items }
+        ensures last { self.new.last.items ≡ self.old.last.items }
+        ensures current { self.new.current ≡ self.old.current }
+        ensures cursor { slice_index self.new.cursor.items self.old.current ≡ result }
+        ensures within { result ≤ length (list_of self.old.lists.now self.old.current) }
+        ensures unseen { result < length (list_of self.old.lists.now self.old.current) → length self.old.lists.now ≤ slice_index self.old.number.items (slice_index (list_of self.old.lists.now self.old.current) result) }
+    {
+        let v = self.current as usize;
+        let place = self.unseen_place(self.cursor[v]);
+        self.cursor[v] = place;
+        place
+    }
+
+    // Sees the next vertex, or ends the current one.
+    #[inline(always)]
+    fn step(&mut self)
+        requires { self.old.current < length self.old.lists.now }
+        ensures lists { self.new.lists.now ≡ self.old.lists.now }
+        ensures keeps { KeepsNumbers self.old.number.items self.new.number.items }
+        ensures less { work_in self.new.number.items self.new.last.items < work_in self.old.number.items self.old.last.items }
+    {
+        let place = self.go_on();
+        let list = self.lists.list(self.current as usize);
+        if place < list.len() {
+            self.see(list[place]);
+        } else {
+            self.end();
+        }
+    }
+
+    // Goes on from the current vertex until none is open.
+    #[inline(always)]
+    fn search_on(&mut self)
+        ensures lists { self.new.lists.now ≡ self.old.lists.now }
+        ensures keeps { KeepsNumbers self.old.number.items self.new.number.items }
+        ensures none { length self.old.lists.now ≤ self.new.current }
+    {
+        while self.is_open() {
+            self.step();
+        }
+    }
+
+    // Sees a vertex as a top, where it was not seen, and goes on until none is open.
+    #[inline(always)]
+    fn search_from(&mut self, top: u16)
+        requires vertex { top < length self.old.lists.now }
+        requires none { length self.old.lists.now ≤ self.old.current }
+        ensures lists { self.new.lists.now ≡ self.old.lists.now }
+        ensures keeps { KeepsNumbers self.old.number.items self.new.number.items }
+        ensures seen { slice_index self.new.number.items top < length self.old.lists.now }
+        ensures none { length self.old.lists.now ≤ self.new.current }
+    {
+        if self.is_unseen(top) {
+            self.see(top);
+            self.search_on();
+        }
+    }
+
+    /// Goes on until all vertices were seen and none is open.
+    #[inline(always)]
+    pub(crate) fn finish(&mut self)
+        ensures lists { self.new.lists.now ≡ self.old.lists.now }
+        ensures keeps { KeepsNumbers self.old.number.items self.new.number.items }
+        ensures forest { IsForestOf self.old.lists.now self.new.order.items self.new.number.items self.new.last.items self.new.parent.items }
+    {
+        self.search_on();
+        for v in 0..self.lists.len() {
+            self.search_from(v as u16);
+        }
+    }
+
+    /// Returns the tables, and the cursors apart.
+    #[inline(always)]
+    pub(crate) fn into_tables(self) -> (Forest, Vec<usize>)
+        ensures order { result.0.order.items ≡ self.entry.order.items }
+        ensures number { result.0.number.items ≡ self.entry.number.items }
+        ensures last { result.0.last.items ≡ self.entry.last.items }
+        ensures parent { result.0.parent.items ≡ self.entry.parent.items }
+    {
+        let forest = Forest {
+            order: self.order,
+            number: self.number,
+            last: self.last,
+            parent: self.parent,
+        };
+        (forest, self.cursor)
     }
 }

@@ -1,7 +1,0 @@
-use Rattle.std.proofs.Common.{◌<◌, length, inl, inr, arith}
-use Rattle.std.proofs.lemmas.Bool.{cases_lt}
-use Rattle.graph_search.proofs.map_cuts.flags.no_child_apart.Goals as goal
-
-pub returns : goal.returns
-returns c = λ told v u l h.
-    c.loop-u.invariant v u (let n = h.vertex in omega (arith, c.loop-u-test.false, c.loop-u.auto.u-end)) l h
