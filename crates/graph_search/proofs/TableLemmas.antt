@@ -47,12 +47,12 @@ IsSearching-none lists order number last parent cursor orders numbers lasts pare
     }
 
 -- before the first step, in tables that are filled
-pub IsSearching-filled : (lists : Lists) (n : ℕ) (order number last parent cursor : List ℕ) → n ≡ length lists → order ≡ replicate n 0 → number ≡ replicate n n → last ≡ replicate n 0 → parent ≡ replicate n 0 → cursor ≡ replicate n 0 → IsSearching lists order number last parent cursor 0 n
+pub IsSearching-filled : (lists : Lists) (n : ℕ) (order number last parent cursor : List ℕ) → n ≡ length lists → length order ≡ n → number ≡ replicate n n → last ≡ replicate n 0 → length parent ≡ n → cursor ≡ replicate n 0 → IsSearching lists order number last parent cursor 0 n
 IsSearching-filled lists n order number last parent cursor all o u l p c =
     let size : (xs : List ℕ) (x : ℕ) → xs ≡ replicate n x → length xs ≡ length lists = λ xs x e. ap length e ∙ (length-replicate {A = ℕ} n x ∙ all) in
     let entry : (xs : List ℕ) (x : ℕ) → xs ≡ replicate n x → (v : ℕ) → v < length lists → get_or xs v 0 ≡ x = λ xs x e v m. ap (λ (ys : List ℕ). get_or ys v 0) e ∙ get_or-replicate {A = ℕ} n v x 0 (omega (arith, m, all)) in
     subst (λ (x : ℕ). IsSearching lists order number last parent cursor 0 x) (sym all)
-    (IsSearching-none lists order number last parent cursor (size order 0 o) (size number n u) (size last 0 l) (size parent 0 p) (size cursor 0 c) (λ v m. entry number n u v m ∙ all) (entry last 0 l) (entry cursor 0 c))
+    (IsSearching-none lists order number last parent cursor (o ∙ all) (size number n u) (size last 0 l) (p ∙ all) (size cursor 0 c) (λ v m. entry number n u v m ∙ all) (entry last 0 l) (entry cursor 0 c))
 
 module _ (lists : Lists) (order number last parent cursor : List ℕ) (count current : ℕ) (h : IsSearching lists order number last parent cursor count current) where
   -- an unseen vertex has the number of all

@@ -43,7 +43,16 @@ impl Forest {
     }
 }
 
-// A table with `value` at each of `n` places, in the memory of another.
+// Returns a table of `n` places, in the memory of another.
+pub(crate) fn sized(table: Vec<u16>, n: usize) -> Result<Vec<u16>, AllocError>
+    ensures { IfOk result (λ made. length made.items ≡ n) }
+{
+    let mut table = table;
+    table.resize(n, 0)?;
+    Ok(table)
+}
+
+// Returns a table with `value` at each of `n` places, in the memory of another.
 pub(crate) fn filled(table: Vec<u16>, value: u16, n: usize) -> Result<Vec<u16>, AllocError>
     ensures { IfOk result (λ made. made.items ≡ replicate n value) }
 {

@@ -4,7 +4,7 @@ ghost use Rattle.map_theory.specs.Maps.{list_of};
 ghost use Rattle.graph_search.specs.Forests.{IsAdjacency, IsForestOf};
 ghost use Rattle.graph_search.specs.Lows.{AreLows, IsLow, IsLeastAlong, low_along};
 
-use crate::search_forests::forest::{Forest, filled};
+use crate::search_forests::forest::{Forest, sized};
 use crate::search_forests::searched::Searched;
 use map_lists::Rotations;
 use std::alloc::{AllocError, Global};
@@ -75,7 +75,7 @@ pub fn low_points_again(
     requires forest { IsForestOf lists.now forest.now.order.items forest.now.number.items forest.now.last.items forest.now.parent.items }
     ensures { IfOk result (λ low. AreLows lists.now forest.now.number.items forest.now.last.items low.items) }
 {
-    let mut low = filled(low, 0, lists.len())?;
+    let mut low = sized(low, lists.len())?;
     fill_lows(lists, forest, &mut low);
     Ok(low)
 }

@@ -4,7 +4,7 @@ ghost use Rattle.map_theory.specs.Maps.{HasDart, list_of};
 ghost use Rattle.graph_search.specs.Forests.{IsForestOf};
 ghost use Rattle.graph_search.specs.UnderWay.{IsSearching, KeepsNumbers, work_in};
 
-use crate::search_forests::forest::{Forest, filled};
+use crate::search_forests::forest::{Forest, filled, sized};
 use map_lists::Rotations;
 use std::alloc::AllocError;
 
@@ -53,10 +53,10 @@ impl<'a> Search<'a> {
         ensures number { IfOk result (λ made. made.number.items ≡ replicate (length lists.now) (length lists.now)) }
     {
         let n = lists.len();
-        let order = filled(forest.order, 0, n)?;
+        let order = sized(forest.order, n)?;
         let number = filled(forest.number, n as u16, n)?;
         let last = filled(forest.last, 0, n)?;
-        let parent = filled(forest.parent, 0, n)?;
+        let parent = sized(forest.parent, n)?;
         let cursor = unread(cursor, n)?;
         Ok(Search {
             lists,
