@@ -1,5 +1,6 @@
 -- The lemmas on ends, and on the figure.
 mod EndRows
+mod SidesKnown
 mod SpanLemmas
 mod Drawn
 mod ListDrawn

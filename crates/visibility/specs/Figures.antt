@@ -26,11 +26,15 @@ pub record IsBarFigure (lists : Lists) (fig : BarFigure) : Type 0 where
   pub valid : IsValidBars lists fig (pos (face_count lists - 1))
   pub placed : IsStDrawing lists 0 (slice_index (list_of lists 0) 0) fig
 
--- a search from vertex 0 that sees t next, of a connected map without cut vertices, with its low points
-pub record IsUncutSearch (lists : Lists) (t : ℕ) (order number last parent low : List ℕ) : Type 0 where
-  pub connected : component_count lists ≡ 1
-  pub uncut : (v : ℕ) → ¬ IsCutVertex lists v
+-- a search from vertex 0 that sees t next, with its low points
+pub record IsSearchFrom (lists : Lists) (t : ℕ) (order number last parent low : List ℕ) : Type 0 where
   pub forest : IsForestOf lists order number last parent
   pub lows : AreLows lists number last low
   pub first : slice_index number 0 ≡ 0
   pub second : slice_index number t ≡ 1
+
+-- such a search of a connected map without cut vertices
+pub record IsUncutSearch (lists : Lists) (t : ℕ) (order number last parent low : List ℕ) : Type 0 where
+  pub connected : component_count lists ≡ 1
+  pub uncut : (v : ℕ) → ¬ IsCutVertex lists v
+  pub search : IsSearchFrom lists t order number last parent low

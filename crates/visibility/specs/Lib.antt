@@ -5,3 +5,5 @@ pub mod Bars
 pub mod Figures
 -- The pass from numbers of faces to columns and ends.
 pub mod Spans
+-- What a search of a record finds.
+pub mod Found

@@ -6,20 +6,21 @@ ghost use Rattle.refusals.specs.Conditions.{IfRefused};
 ghost use Rattle.pg_plane.specs.declared.figure.BarFigure.{BarFigure as Figure};
 ghost use Rattle.bipolar.specs.FaceNumbers.{AreFaceNumbers, AreFaceArcs};
 ghost use Rattle.conn_parts.specs.BiconnectedMaps.{IsBiconnectedMap, BreaksFirst};
-ghost use Rattle.visibility.specs.Figures.{IsBarFigure, IsUncutSearch};
+ghost use Rattle.visibility.specs.Figures.{IsBarFigure, IsSearchFrom, IsUncutSearch};
+ghost use Rattle.visibility.specs.Found.{IsFound};
 
 use crate::bar_figures::draw::bar_figure;
 use crate::ends::{coordinate, coordinates_of};
-use crate::spans::{SpanTables, spans_again};
+use crate::spans::{Sides, SpanTables, spans_again};
 use bipolar::dual_orders::{FaceTables, number_faces};
 use conn_parts::plane_count;
 use euler_faces::Counter;
 use graph_search::longest_paths::{PathTables, longest_paths_again};
-use graph_search::map_cuts::{is_uncut, list_cut_vertex};
+use graph_search::map_cuts::{is_uncut, list_cut_vertex, searched_cut_vertex};
 use graph_search::search_forests::{Forest, low_points_again, search_again};
 use half_edges::{Rotations, VertexId};
 use pg_plane::{BarFigure, Ints};
-use refusals::{Refusal, Unserved};
+use refusals::{Refusal, Unserved, no_refusal_is_plane};
 use simple_maps::fill_twins;
 use st_orders::{Ranges, places_again};
 use std::alloc::{AllocError, Global};
@@ -52,27 +53,6 @@ struct Tables {
     dual: DualTables,
 }
 
-impl Tables {
-    // Tables of no record. They take no memory.
-    fn new(alloc: Global) -> Tables {
-        Tables {
-            search: SearchTables {
-                forest: Forest::new(alloc),
-                cursor: Vec::new(alloc),
-                low: Vec::new(alloc),
-            },
-            dual: DualTables {
-                ranges: Ranges::new(alloc),
-                faces: FaceTables::new(alloc),
-                paths: PathTables::new(alloc),
-                spans: SpanTables::new(alloc),
-                y: Ints::new(alloc),
-                column: Ints::new(alloc),
-            },
-        }
-    }
-}
-
 // Whether a search saw all vertices before it was done with vertex 0.
 fn sees_all(forest: &Forest) -> bool
     requires some { 0 < length forest.now.last.items }
@@ -81,36 +61,20 @@ fn sees_all(forest: &Forest) -> bool
     forest.last[0] as usize == forest.last.len()
 }
 
-// Whether a map is connected and has no cut vertex, by a search from vertex 0 that sees `t` next, in the memory of
-// other tables.
-fn searched(
-    tables: SearchTables,
-    lists: &Rotations,
-    t: u16,
-) -> Result<(bool, SearchTables), AllocError>
+// Searches a map from vertex 0 and sees `t` next, in the memory of other tables.
+fn searched(tables: SearchTables, lists: &Rotations, t: u16) -> Result<SearchTables, AllocError>
     requires simple { IsSimpleMap lists.now }
     requires few { length lists.now < 4096 }
     requires dart { HasDart lists.now 0 t }
-    ensures { IfOk result (λ made. IsTrue made.0 → IsUncutSearch lists.now t made.1.forest.order.items made.1.forest.number.items made.1.forest.last.items made.1.forest.parent.items made.1.low.items) }
+    ensures { IfOk result (λ made. IsSearchFrom lists.now t made.forest.order.items made.forest.number.items made.forest.last.items made.forest.parent.items made.low.items) }
 {
     let (forest, cursor) = search_again(tables.forest, tables.cursor, lists, 0, t)?;
     let low = low_points_again(tables.low, lists, &forest)?;
-    let connected = sees_all(&forest);
-    let uncut = is_uncut(lists, &forest, &low);
-    let tables = SearchTables {
+    Ok(SearchTables {
         forest,
         cursor,
         low,
-    };
-    Ok((both(connected, uncut), tables))
-}
-
-// Whether both hold.
-fn both(one: bool, other: bool) -> bool
-    ensures one { IsTrue result → IsTrue one }
-    ensures other { IsTrue result → IsTrue other }
-{
-    one && other
+    })
 }
 
 // The faces of a map with ranks, in the memory of other tables.
@@ -151,99 +115,170 @@ fn heights(spent: Ints, rank: &[u16]) -> Result<Ints, AllocError>
     Ok(made)
 }
 
-// The bars of a connected map without cut vertex by a search from vertex 0 that sees `t` next, if the map has genus
-// zero. The tables come back.
-fn drawn_by_search(
-    alloc: Global,
-    lists: &Rotations,
-    twins: &[u32],
-    t: u16,
-    forest: &Forest,
-    low: &[u16],
-    tables: DualTables,
-) -> Result<(Option<BarFigure>, DualTables), AllocError>
-    requires simple { IsSimpleMap lists.now }
-    requires few { length lists.now < 4096 }
-    requires many { 3 ≤ length lists.now }
-    requires first { slice_index (list_of lists.now 0) 0 ≡ t }
-    requires dart { HasDart lists.now 0 t }
-    requires twins { AreTwins (darts lists.now) twins.now (length (darts lists.now)) }
-    requires search { IsUncutSearch lists.now t forest.now.order.items forest.now.number.items forest.now.last.items forest.now.parent.items low.now }
-    ensures { IfOk result (λ made. (figure : Figure) → made.0 ≡ Some figure → IsBiconnectedMap 3 lists.now × IsBarFigure lists.now figure) }
-{
-    let ranges = places_again(tables.ranges, lists, forest, low, 0, t)?;
-    let faces = faces_of(tables.faces, lists, twins, &ranges.from)?;
-    if lists.len() + faces.arcs.len() != twins.len() / 2 + 2 {
-        let tables = DualTables {
-            ranges,
-            faces,
-            paths: tables.paths,
-            spans: tables.spans,
-            y: tables.y,
-            column: tables.column,
-        };
-        return Ok((None, tables));
-    }
-    let base = first_of(&faces.of);
-    let paths = longest_paths_again(tables.paths, &faces.arcs, base)?;
-    let (spans, x1, x2) = spans_again(
-        alloc,
-        tables.spans,
-        lists,
-        &ranges.from,
-        &faces.of,
-        twins,
-        &paths.number,
-    )?;
-    let y = heights(tables.y, &ranges.from)?;
-    let column = coordinates_of(tables.column, &spans.columns)?;
-    let figure = BarFigure { y, x1, x2, column };
-    let tables = DualTables {
-        ranges,
-        faces,
-        paths,
-        spans,
-        y: Ints::new(alloc),
-        column: Ints::new(alloc),
-    };
-    Ok((Some(figure), tables))
+// What is found of a map by its lists, twins and search.
+enum Found {
+    // its figure
+    Drawn(BarFigure),
+    // its least cut vertex, by which it is refused
+    Cut(VertexId),
+    // nothing that is known to be its answer
+    Nothing,
 }
 
-// The bars of a map by the twins of its darts, where it is biconnected and has genus zero. The tables come back.
-fn drawn(
-    alloc: Global,
-    lists: &Rotations,
-    twins: &[u32],
-    tables: Tables,
-) -> Result<(Option<BarFigure>, Tables), AllocError>
-    requires simple { IsSimpleMap lists.now }
-    requires few { length lists.now < 4096 }
-    requires twins { AreTwins (darts lists.now) twins.now (length (darts lists.now)) }
-    ensures { IfOk result (λ made. (figure : Figure) → made.0 ≡ Some figure → IsBiconnectedMap 3 lists.now × IsBarFigure lists.now figure) }
-{
-    if lists.len() < 3 || lists.list(0).is_empty() {
-        return Ok((None, tables));
+impl DualTables {
+    // Tables of no record. They take no memory.
+    fn new(alloc: Global) -> DualTables {
+        DualTables {
+            ranges: Ranges::new(alloc),
+            faces: FaceTables::new(alloc),
+            paths: PathTables::new(alloc),
+            spans: SpanTables::new(alloc),
+            y: Ints::new(alloc),
+            column: Ints::new(alloc),
+        }
     }
-    let t = lists.list(0)[0];
-    let (uncut, search) = searched(tables.search, lists, t)?;
-    if !uncut {
-        let tables = Tables {
-            search,
-            dual: tables.dual,
+
+    // Draws a connected map without cut vertex by a search from vertex 0 that sees `t` next, if the map has genus zero.
+    fn draw(
+        &mut self,
+        alloc: Global,
+        lists: &Rotations,
+        twins: &[u32],
+        t: u16,
+        search: &SearchTables,
+    ) -> Result<Found, AllocError>
+        requires simple { IsSimpleMap lists.now }
+        requires few { length lists.now < 4096 }
+        requires many { 3 ≤ length lists.now }
+        requires first { slice_index (list_of lists.now 0) 0 ≡ t }
+        requires dart { HasDart lists.now 0 t }
+        requires twins { AreTwins (darts lists.now) twins.now (length (darts lists.now)) }
+        requires search { IsUncutSearch lists.now t search.now.forest.order.items search.now.forest.number.items search.now.forest.last.items search.now.forest.parent.items search.now.low.items }
+        ensures { IfOk result (IsFound lists.now) }
+    {
+        let ranges = mem::replace(&mut self.ranges, Ranges::new(alloc));
+        let ranges = places_again(ranges, lists, &search.forest, &search.low, 0, t)?;
+        let faces = mem::replace(&mut self.faces, FaceTables::new(alloc));
+        let faces = faces_of(faces, lists, twins, &ranges.from)?;
+        if lists.len() + faces.arcs.len() != twins.len() / 2 + 2 {
+            self.ranges = ranges;
+            self.faces = faces;
+            return Ok(Found::Nothing);
+        }
+        let base = first_of(&faces.of);
+        let paths = mem::replace(&mut self.paths, PathTables::new(alloc));
+        let paths = longest_paths_again(paths, &faces.arcs, base)?;
+        let sides = Sides {
+            lists,
+            rank: &ranges.from,
+            of: &faces.of,
+            twins,
+            numbers: &paths.number,
         };
-        return Ok((None, tables));
+        let spans = mem::replace(&mut self.spans, SpanTables::new(alloc));
+        let (spans, x1, x2) = spans_again(alloc, spans, &sides)?;
+        let y = heights(mem::replace(&mut self.y, Ints::new(alloc)), &ranges.from)?;
+        let column = mem::replace(&mut self.column, Ints::new(alloc));
+        let column = coordinates_of(column, &spans.columns)?;
+        self.ranges = ranges;
+        self.faces = faces;
+        self.paths = paths;
+        self.spans = spans;
+        Ok(Found::Drawn(BarFigure { y, x1, x2, column }))
     }
-    let (found, dual) = drawn_by_search(
-        alloc,
-        lists,
-        twins,
-        t,
-        &search.forest,
-        &search.low,
-        tables.dual,
-    )?;
-    let tables = Tables { search, dual };
-    Ok((found, tables))
+
+    // Finds the least cut vertex of a connected map by a search, if the map has genus zero.
+    fn cut(
+        &mut self,
+        alloc: Global,
+        lists: &Rotations,
+        twins: &[u32],
+        search: &SearchTables,
+    ) -> Result<Found, AllocError>
+        requires simple { IsSimpleMap lists.now }
+        requires few { length lists.now < 4096 }
+        requires many { 3 ≤ length lists.now }
+        requires connected { component_count lists.now ≡ 1 }
+        requires twins { AreTwins (darts lists.now) twins.now (length (darts lists.now)) }
+        requires search { (t : ℕ) × IsSearchFrom lists.now t search.now.forest.order.items search.now.forest.number.items search.now.forest.last.items search.now.forest.parent.items search.now.low.items }
+        ensures { IfOk result (IsFound lists.now) }
+    {
+        no_refusal_is_plane();
+        let faces = mem::replace(&mut self.faces, FaceTables::new(alloc));
+        let faces = faces_of(faces, lists, twins, &search.forest.number)?;
+        if lists.len() + faces.arcs.len() != twins.len() / 2 + 2 {
+            self.faces = faces;
+            return Ok(Found::Nothing);
+        }
+        self.faces = faces;
+        match searched_cut_vertex(lists, &search.forest, &search.low) {
+            Some(v) => Ok(Found::Cut(VertexId(v))),
+            None => Ok(Found::Nothing),
+        }
+    }
+
+    // Finds the answer to a map by a search from vertex 0 that sees `t` next, where it is connected and has genus zero.
+    fn find(
+        &mut self,
+        alloc: Global,
+        lists: &Rotations,
+        twins: &[u32],
+        t: u16,
+        search: &SearchTables,
+    ) -> Result<Found, AllocError>
+        requires simple { IsSimpleMap lists.now }
+        requires few { length lists.now < 4096 }
+        requires many { 3 ≤ length lists.now }
+        requires first { slice_index (list_of lists.now 0) 0 ≡ t }
+        requires dart { HasDart lists.now 0 t }
+        requires twins { AreTwins (darts lists.now) twins.now (length (darts lists.now)) }
+        requires search { IsSearchFrom lists.now t search.now.forest.order.items search.now.forest.number.items search.now.forest.last.items search.now.forest.parent.items search.now.low.items }
+        ensures { IfOk result (IsFound lists.now) }
+    {
+        if !sees_all(&search.forest) {
+            return Ok(Found::Nothing);
+        }
+        if is_uncut(lists, &search.forest, &search.low) {
+            return self.draw(alloc, lists, twins, t, search);
+        }
+        self.cut(alloc, lists, twins, search)
+    }
+}
+
+impl Tables {
+    // Tables of no record. They take no memory.
+    fn new(alloc: Global) -> Tables {
+        Tables {
+            search: SearchTables {
+                forest: Forest::new(alloc),
+                cursor: Vec::new(alloc),
+                low: Vec::new(alloc),
+            },
+            dual: DualTables::new(alloc),
+        }
+    }
+
+    // Finds the answer to a map by the twins of its darts, where it is connected and has genus zero.
+    fn find(&mut self, alloc: Global, lists: &Rotations, twins: &[u32]) -> Result<Found, AllocError>
+        requires simple { IsSimpleMap lists.now }
+        requires few { length lists.now < 4096 }
+        requires twins { AreTwins (darts lists.now) twins.now (length (darts lists.now)) }
+        ensures { IfOk result (IsFound lists.now) }
+    {
+        if lists.len() < 3 || lists.list(0).is_empty() {
+            return Ok(Found::Nothing);
+        }
+        let t = lists.list(0)[0];
+        let spent = SearchTables {
+            forest: mem::replace(&mut self.search.forest, Forest::new(alloc)),
+            cursor: mem::replace(&mut self.search.cursor, Vec::new(alloc)),
+            low: mem::replace(&mut self.search.low, Vec::new(alloc)),
+        };
+        let search = searched(spent, lists, t)?;
+        let found = self.dual.find(alloc, lists, twins, t, &search)?;
+        self.search = search;
+        Ok(found)
+    }
 }
 
 /// Draws records, one after another, and keeps its tables for the next.
@@ -324,12 +359,10 @@ impl BarDrawer {
             &mut self.twins,
             &mut self.threads,
         )?;
-        let tables = mem::replace(&mut self.tables, Tables::new(self.alloc));
-        let (found, tables) = drawn(self.alloc, lists, &self.twins, tables)?;
-        self.tables = tables;
-        match found {
-            Some(figure) => Ok(figure),
-            None => self.exact_figure(lists),
+        match self.tables.find(self.alloc, lists, &self.twins)? {
+            Found::Drawn(figure) => Ok(figure),
+            Found::Cut(v) => Err(Unserved::Refused(Refusal::CutVertex(v))),
+            Found::Nothing => self.exact_figure(lists),
         }
     }
 }

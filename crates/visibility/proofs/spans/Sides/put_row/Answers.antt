@@ -6,55 +6,48 @@ use Rattle.bipolar.specs.FaceNumbers.{left_rows}
 use Rattle.bipolar.proofs.ColumnLemmas.{place_in, IsFilled-more}
 use Rattle.bipolar.proofs.FaceAgree.{length-left_row}
 use Rattle.visibility.proofs.SpanLemmas.{IsSpan-more, IsLeastOf-span, IsGreatestOf-span, entry_in, entry_twin_in, entry_head, entry_is}
-use Rattle.visibility.proofs.spans.put_row.Goals as goal
+use Rattle.visibility.proofs.spans.Sides.put_row.Goals as goal
 
 pub overflow_add-first : goal.overflow_add-first
 overflow_add-first c =
-    let lists = c.args.lists.now in
-    let s = c.requires.sides in
+    let lists = c.args.self.now.lists.now in
+    let s = c.facts.ensures in
     let li : c.loop-i.i < length (list_of lists c.args.b) = omega (arith, c.loop-i-test.true, ap (λ (us : List ℕ). length us) c.list-list.ensures) in
-    omega (arith, entry_in lists c.args.rank.now c.args.of.now c.args.twins.now c.args.numbers.now s c.args.b c.loop-i.i c.requires.vertex li, c.requires.first, few_darts-simple lists s.few s.simple)
+    omega (arith, entry_in lists c.args.self.now.rank.now c.args.self.now.of.now c.args.self.now.twins.now c.args.self.now.numbers.now s c.args.b c.loop-i.i c.requires.vertex li, c.requires.first, few_darts-simple lists s.few s.simple)
 
-pub bounds-rank-a : goal.bounds-rank-a
-bounds-rank-a c =
-    let lists = c.args.lists.now in
-    let s = c.requires.sides in
+pub bounds-self-a : goal.bounds-self-a
+bounds-self-a c =
+    let lists = c.args.self.now.lists.now in
+    let s = c.facts.ensures in
     let li : c.loop-i.i < length (list_of lists c.args.b) = omega (arith, c.loop-i-test.true, ap (λ (us : List ℕ). length us) c.list-list.ensures) in
-    omega (arith, entry_head lists c.args.rank.now c.args.of.now c.args.twins.now c.args.numbers.now s c.args.b c.loop-i.i c.requires.vertex li, s.ranks, ap (λ (us : List ℕ). get_or us c.loop-i.i 0) c.list-list.ensures)
+    omega (arith, entry_head lists c.args.self.now.rank.now c.args.self.now.of.now c.args.self.now.twins.now c.args.self.now.numbers.now s c.args.b c.loop-i.i c.requires.vertex li, s.ranks, ap (λ (us : List ℕ). get_or us c.loop-i.i 0) c.list-list.ensures)
 
 pub left_number-x-requires-clause-dart : goal.left_number-x-requires-clause-dart
 left_number-x-requires-clause-dart c =
-    let lists = c.args.lists.now in
-    let s = c.requires.sides in
+    let lists = c.args.self.now.lists.now in
+    let s = c.facts.ensures in
     let li : c.loop-i.i < length (list_of lists c.args.b) = omega (arith, c.loop-i-test.true, ap (λ (us : List ℕ). length us) c.list-list.ensures) in
-    omega (arith, entry_in lists c.args.rank.now c.args.of.now c.args.twins.now c.args.numbers.now s c.args.b c.loop-i.i c.requires.vertex li, c.requires.first, s.faces)
-
-pub left_number-x-requires-clause-twin_in : goal.left_number-x-requires-clause-twin_in
-left_number-x-requires-clause-twin_in c =
-    let lists = c.args.lists.now in
-    let s = c.requires.sides in
-    let li : c.loop-i.i < length (list_of lists c.args.b) = omega (arith, c.loop-i-test.true, ap (λ (us : List ℕ). length us) c.list-list.ensures) in
-    omega (arith, entry_in lists c.args.rank.now c.args.of.now c.args.twins.now c.args.numbers.now s c.args.b c.loop-i.i c.requires.vertex li, c.requires.first, s.twin_count)
+    omega (arith, entry_in lists c.args.self.now.rank.now c.args.self.now.of.now c.args.self.now.twins.now c.args.self.now.numbers.now s c.args.b c.loop-i.i c.requires.vertex li, c.requires.first, s.faces)
 
 pub left_number-x-requires-clause-twin : goal.left_number-x-requires-clause-twin
 left_number-x-requires-clause-twin c =
-    let lists = c.args.lists.now in
-    let s = c.requires.sides in
+    let lists = c.args.self.now.lists.now in
+    let s = c.facts.ensures in
     let li : c.loop-i.i < length (list_of lists c.args.b) = omega (arith, c.loop-i-test.true, ap (λ (us : List ℕ). length us) c.list-list.ensures) in
-    omega (arith, entry_twin_in lists c.args.rank.now c.args.of.now c.args.twins.now c.args.numbers.now s c.args.b c.loop-i.i c.requires.vertex li, ap (λ k. get_or c.args.twins.now (k + c.loop-i.i) 0) c.requires.first, s.faces)
+    omega (arith, entry_twin_in lists c.args.self.now.rank.now c.args.self.now.of.now c.args.self.now.twins.now c.args.self.now.numbers.now s c.args.b c.loop-i.i c.requires.vertex li, ap (λ k. get_or c.args.self.now.twins.now (k + c.loop-i.i) 0) c.requires.first, s.faces)
 
 pub put_if-requires-clause-vertex : goal.put_if-requires-clause-vertex
 put_if-requires-clause-vertex c =
-    let lists = c.args.lists.now in
-    let s = c.requires.sides in
+    let lists = c.args.self.now.lists.now in
+    let s = c.facts.ensures in
     let li : c.loop-i.i < length (list_of lists c.args.b) = omega (arith, c.loop-i-test.true, ap (λ (us : List ℕ). length us) c.list-list.ensures) in
-    omega (arith, entry_head lists c.args.rank.now c.args.of.now c.args.twins.now c.args.numbers.now s c.args.b c.loop-i.i c.requires.vertex li, c.loop-i.invariant.filled.vertices, ap (λ (us : List ℕ). get_or us c.loop-i.i 0) c.list-list.ensures)
+    omega (arith, entry_head lists c.args.self.now.rank.now c.args.self.now.of.now c.args.self.now.twins.now c.args.self.now.numbers.now s c.args.b c.loop-i.i c.requires.vertex li, c.loop-i.invariant.filled.vertices, ap (λ (us : List ℕ). get_or us c.loop-i.i 0) c.list-list.ensures)
 
 pub put_if-requires-clause-place : goal.put_if-requires-clause-place
 put_if-requires-clause-place c = λ l.
-    let lists = c.args.lists.now in
-    let s = c.requires.sides in
-    let rows = left_rows lists c.args.rank.now c.args.of.now c.args.numbers.now in
+    let lists = c.args.self.now.lists.now in
+    let s = c.facts.ensures in
+    let rows = left_rows lists c.args.self.now.rank.now c.args.self.now.of.now c.args.self.now.numbers.now in
     let i = c.loop-i.i in
     let li : i < length (list_of lists c.args.b) = omega (arith, c.loop-i-test.true, ap (λ (us : List ℕ). length us) c.list-list.ensures) in
     let same : get_or c.list-list.result.now i 0 ≡ get_or (list_of lists c.args.b) i 0 = ap (λ (us : List ℕ). get_or us i 0) c.list-list.ensures in
@@ -62,12 +55,12 @@ put_if-requires-clause-place c = λ l.
 
 pub loop-i-preserved : goal.loop-i-preserved
 loop-i-preserved c =
-    let lists = c.args.lists.now in
-    let s = c.requires.sides in
-    let rank = c.args.rank.now in
-    let of = c.args.of.now in
-    let twins = c.args.twins.now in
-    let numbers = c.args.numbers.now in
+    let lists = c.args.self.now.lists.now in
+    let s = c.facts.ensures in
+    let rank = c.args.self.now.rank.now in
+    let of = c.args.self.now.of.now in
+    let twins = c.args.self.now.twins.now in
+    let numbers = c.args.self.now.numbers.now in
     let rows = left_rows lists rank of numbers in
     let b = c.args.b in
     let i = c.loop-i.i in
@@ -85,18 +78,18 @@ loop-i-preserved c =
 
 pub returns-clause-least : goal.returns-clause-least
 returns-clause-least c =
-    let lists = c.args.lists.now in
-    let s = c.requires.sides in
-    let row = arcs_of (left_rows lists c.args.rank.now c.args.of.now c.args.numbers.now) c.args.b in
-    let long = length-left_row lists c.args.rank.now c.args.of.now c.args.numbers.now c.args.b in
+    let lists = c.args.self.now.lists.now in
+    let s = c.facts.ensures in
+    let row = arcs_of (left_rows lists c.args.self.now.rank.now c.args.self.now.of.now c.args.self.now.numbers.now) c.args.b in
+    let long = length-left_row lists c.args.self.now.rank.now c.args.self.now.of.now c.args.self.now.numbers.now c.args.b in
     let e : c.loop-i.i ≡ length row = omega (arith, c.loop-i-test.false, c.loop-i.auto.i-end, ap (λ (us : List ℕ). length us) c.list-list.ensures, long) in
     IsLeastOf-span row c.loop-i.i c.loop-i.least c.loop-i.greatest e (omega (arith, long, s.some c.args.b c.requires.vertex)) c.loop-i.invariant.span
 
 pub returns-clause-greatest : goal.returns-clause-greatest
 returns-clause-greatest c =
-    let lists = c.args.lists.now in
-    let s = c.requires.sides in
-    let row = arcs_of (left_rows lists c.args.rank.now c.args.of.now c.args.numbers.now) c.args.b in
-    let long = length-left_row lists c.args.rank.now c.args.of.now c.args.numbers.now c.args.b in
+    let lists = c.args.self.now.lists.now in
+    let s = c.facts.ensures in
+    let row = arcs_of (left_rows lists c.args.self.now.rank.now c.args.self.now.of.now c.args.self.now.numbers.now) c.args.b in
+    let long = length-left_row lists c.args.self.now.rank.now c.args.self.now.of.now c.args.self.now.numbers.now c.args.b in
     let e : c.loop-i.i ≡ length row = omega (arith, c.loop-i-test.false, c.loop-i.auto.i-end, ap (λ (us : List ℕ). length us) c.list-list.ensures, long) in
     IsGreatestOf-span row c.loop-i.i c.loop-i.least c.loop-i.greatest e (omega (arith, long, s.some c.args.b c.requires.vertex)) c.loop-i.invariant.span

@@ -1,11 +1,10 @@
-use Rattle.std.proofs.Common.{◌≡◌, ℕ, ◌+◌, ◌/◌, List, length, refl, ap, ◌∙◌, subst, arith}
-use Rattle.std.specs.Prelude.{Option, unwrap_or}
+use Rattle.std.proofs.Common.{◌≡◌, ℕ, ◌+◌, ◌/◌, List, length, refl, ap, ◌∙◌, arith}
 use Rattle.map_theory.specs.Maps.{dart_count}
 use Rattle.map_theory.proofs.DartLemmas.{length-darts}
 use Rattle.pg_plane.specs.declared.figure.BarFigure.{BarFigure}
-use Rattle.visibility.specs.Figures.{IsBarFigure}
+use Rattle.visibility.specs.Spans.{AreSides}
 use Rattle.visibility.proofs.DrawerLemmas.{some_face, acyclic_arcs, are_sides, small, is_figure, is_biconnected}
-use Rattle.visibility.proofs.bar_figures.drawer.drawn_by_search.Goals as goal
+use Rattle.visibility.proofs.bar_figures.drawer.DualTables.draw.Goals as goal
 
 pub first_of-base-requires : goal.first_of-base-requires
 first_of-base-requires c =
@@ -16,7 +15,7 @@ first_of-base-requires c =
     let of = c.in_ok-faces.faces.of.items in
     let arcs = c.in_ok-faces.faces.arcs in
     let some = some_face lists r.few r.simple r.many r.search.connected c.args.t r.first r.dart rank order.0 order.1 of (length arcs) c.in_ok-faces.ensures.numbers in
-    omega (arith, some, ap (λ (xs : List ℕ). length xs) c.deref-2.ensures.value)
+    omega (arith, some, ap (λ (xs : List ℕ). length xs) c.deref-3.ensures.value)
 
 pub longest_paths_again-requires-clause-acyclic : goal.longest_paths_again-requires-clause-acyclic
 longest_paths_again-requires-clause-acyclic c =
@@ -26,23 +25,24 @@ longest_paths_again-requires-clause-acyclic c =
     let order = c.in_ok-ranges.ensures.order in
     let of = c.in_ok-faces.faces.of.items in
     let arcs = c.in_ok-faces.faces.arcs in
-    let lead = rw c.deref.ensures.value at c.in_ok-faces.ensures.arcs in
+    let lead = rw c.deref-2.ensures.value at c.in_ok-faces.ensures.arcs in
     let counted : length lists + length arcs ≡ dart_count lists / 2 + 2 = omega (arith, c.if-len-twins.false, c.len.ensures, c.len-2.ensures, ap (λ n. n / 2) (r.twins.count ∙ length-darts lists)) in
-    rw (c.first_of-base.ensures, c.deref-2.ensures.value) (acyclic_arcs lists r.few r.simple r.many r.search.connected c.args.t r.first r.dart rank order.0 order.1 of (length arcs) c.in_ok-faces.ensures.numbers arcs lead counted)
+    rw (c.first_of-base.ensures, c.deref-3.ensures.value) (acyclic_arcs lists r.few r.simple r.many r.search.connected c.args.t r.first r.dart rank order.0 order.1 of (length arcs) c.in_ok-faces.ensures.numbers arcs lead counted)
 
-pub spans_again-requires : goal.spans_again-requires
-spans_again-requires c =
+pub invariant_of-sides : goal.invariant_of-sides
+invariant_of-sides c =
     let lists = c.args.lists.now in
     let r = c.requires in
     let rank = c.in_ok-ranges.ranges.from.items in
     let order = c.in_ok-ranges.ensures.order in
     let of = c.in_ok-faces.faces.of.items in
     let arcs = c.in_ok-faces.faces.arcs in
-    let lead = rw c.deref.ensures.value at c.in_ok-faces.ensures.arcs in
+    let lead = rw c.deref-2.ensures.value at c.in_ok-faces.ensures.arcs in
     let counted : length lists + length arcs ≡ dart_count lists / 2 + 2 = omega (arith, c.if-len-twins.false, c.len.ensures, c.len-2.ensures, ap (λ n. n / 2) (r.twins.count ∙ length-darts lists)) in
-    let longest = rw (c.first_of-base.ensures, c.deref-2.ensures.value) at c.in_ok-paths.ensures.longest in
+    let longest = rw (c.first_of-base.ensures, c.deref-3.ensures.value) at c.in_ok-paths.ensures.longest in
     let numbers = c.in_ok-paths.paths.number.items in
-    record { sides = rw (c.deref-3.ensures.value, c.deref-4.ensures.value, c.deref-5.ensures.value) (are_sides lists r.few r.simple r.many r.search.connected c.args.t r.first r.dart rank order.0 order.1 of (length arcs) c.in_ok-faces.ensures.numbers arcs lead counted numbers longest c.args.twins.now r.twins) }
+    let known : AreSides lists c.deref-4.result.now c.deref-5.result.now c.args.twins.now c.deref-6.result.now = rw (c.deref-4.ensures.value, c.deref-5.ensures.value, c.deref-6.ensures.value) (are_sides lists r.few r.simple r.many r.search.connected c.args.t r.first r.dart rank order.0 order.1 of (length arcs) c.in_ok-faces.ensures.numbers arcs lead counted numbers longest c.args.twins.now r.twins) in
+    record { sides = ∣ known ∣₁ }
 
 pub coordinates_of-requires : goal.coordinates_of-requires
 coordinates_of-requires c =
@@ -52,29 +52,28 @@ coordinates_of-requires c =
     let order = c.in_ok-ranges.ensures.order in
     let of = c.in_ok-faces.faces.of.items in
     let arcs = c.in_ok-faces.faces.arcs in
-    let lead = rw c.deref.ensures.value at c.in_ok-faces.ensures.arcs in
+    let lead = rw c.deref-2.ensures.value at c.in_ok-faces.ensures.arcs in
     let counted : length lists + length arcs ≡ dart_count lists / 2 + 2 = omega (arith, c.if-len-twins.false, c.len.ensures, c.len-2.ensures, ap (λ n. n / 2) (r.twins.count ∙ length-darts lists)) in
-    let longest = rw (c.first_of-base.ensures, c.deref-2.ensures.value) at c.in_ok-paths.ensures.longest in
+    let longest = rw (c.first_of-base.ensures, c.deref-3.ensures.value) at c.in_ok-paths.ensures.longest in
     let numbers = c.in_ok-paths.paths.number.items in
-    let spanned = rw (c.deref-3.ensures.value, c.deref-4.ensures.value, c.deref-5.ensures.value) at c.in_ok-spans.ensures in
-    record { low = rw c.deref-7.ensures.value (small lists r.few r.simple r.many r.search.connected c.args.t r.first r.dart rank order.0 order.1 of (length arcs) c.in_ok-faces.ensures.numbers arcs lead counted numbers longest c.in_ok-spans.spans.columns.items c.in_ok-spans.x1 c.in_ok-spans.x2 spanned) }
+    let spanned = rw (c.deref-4.ensures.value, c.deref-5.ensures.value, c.deref-6.ensures.value) at c.in_ok-spans.ensures in
+    record { low = rw c.deref-8.ensures.value (small lists r.few r.simple r.many r.search.connected c.args.t r.first r.dart rank order.0 order.1 of (length arcs) c.in_ok-faces.ensures.numbers arcs lead counted numbers longest c.in_ok-spans.spans.columns.items c.in_ok-spans.x1 c.in_ok-spans.x2 spanned) }
 
 pub returns : goal.returns
-returns c = λ figure e.
+returns c =
     let lists = c.args.lists.now in
     let r = c.requires in
     let rank = c.in_ok-ranges.ranges.from.items in
     let order = c.in_ok-ranges.ensures.order in
     let of = c.in_ok-faces.faces.of.items in
     let arcs = c.in_ok-faces.faces.arcs in
-    let lead = rw c.deref.ensures.value at c.in_ok-faces.ensures.arcs in
+    let lead = rw c.deref-2.ensures.value at c.in_ok-faces.ensures.arcs in
     let counted : length lists + length arcs ≡ dart_count lists / 2 + 2 = omega (arith, c.if-len-twins.false, c.len.ensures, c.len-2.ensures, ap (λ n. n / 2) (r.twins.count ∙ length-darts lists)) in
-    let longest = rw (c.first_of-base.ensures, c.deref-2.ensures.value) at c.in_ok-paths.ensures.longest in
+    let longest = rw (c.first_of-base.ensures, c.deref-3.ensures.value) at c.in_ok-paths.ensures.longest in
     let numbers = c.in_ok-paths.paths.number.items in
-    let spanned = rw (c.deref-3.ensures.value, c.deref-4.ensures.value, c.deref-5.ensures.value) at c.in_ok-spans.ensures in
-    let made : BarFigure = record { y = c.in_ok-y.y; x1 = c.in_ok-spans.x1; x2 = c.in_ok-spans.x2; column = c.in_ok-column.column } in
-    let same : made ≡ figure = ap (λ (o : Option BarFigure). unwrap_or o made) e in (
+    let spanned = rw (c.deref-4.ensures.value, c.deref-5.ensures.value, c.deref-6.ensures.value) at c.in_ok-spans.ensures in
+    let made : BarFigure = record { y = c.in_ok-y.y; x1 = c.in_ok-spans.x1; x2 = c.in_ok-spans.x2; column = c.in_ok-column.column } in (
       is_biconnected lists r.few r.simple r.many r.search.connected c.args.t r.first r.dart rank order.0 order.1 of (length arcs) c.in_ok-faces.ensures.numbers arcs lead counted numbers longest c.in_ok-spans.spans.columns.items c.in_ok-spans.x1 c.in_ok-spans.x2 spanned r.search.uncut,
-      subst (IsBarFigure lists) same (is_figure lists r.few r.simple r.many r.search.connected c.args.t r.first r.dart rank order.0 order.1 of (length arcs) c.in_ok-faces.ensures.numbers arcs lead counted numbers longest c.in_ok-spans.spans.columns.items c.in_ok-spans.x1 c.in_ok-spans.x2 spanned made
-          (rw c.deref-6.ensures.value at c.in_ok-y.ensures) (rw c.deref-7.ensures.value at c.in_ok-column.ensures) refl refl),
+      is_figure lists r.few r.simple r.many r.search.connected c.args.t r.first r.dart rank order.0 order.1 of (length arcs) c.in_ok-faces.ensures.numbers arcs lead counted numbers longest c.in_ok-spans.spans.columns.items c.in_ok-spans.x1 c.in_ok-spans.x2 spanned made
+          (rw c.deref-7.ensures.value at c.in_ok-y.ensures) (rw c.deref-8.ensures.value at c.in_ok-column.ensures) refl refl,
     )
