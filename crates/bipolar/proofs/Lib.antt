@@ -9,6 +9,8 @@ mod Agree
 pub mod ColumnLemmas
 mod Numbered
 mod FaceNumbering
+-- What facts that are kept with maps tell.
+pub mod Known
 -- The rows that longest paths between faces give.
 pub mod FaceAgree
 mod Refused

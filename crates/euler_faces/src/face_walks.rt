@@ -3,7 +3,7 @@ ghost use Rattle.std.specs.Prelude.{◌≡◌, ◌<◌, ◌+◌, ◌||◌, ℕ, 
 ghost use Rattle.classes.specs.Classes.{class_count, label, same_class};
 ghost use Rattle.map_theory.specs.Maps.{dart_count, darts_before, face_images, list_of, face_classes};
 ghost use Rattle.classes.proofs.Marks.{KeepsMarks};
-ghost use Rattle.half_edges.specs.Map.{IsHalfMap, IsLive, dart_at, id_bound};
+ghost use Rattle.half_edges.specs.Map.{IsLive, dart_at, id_bound};
 ghost use Rattle.euler_faces.specs.Numbers.{number_at, mark_at, mark_of};
 ghost use Rattle.euler_faces.specs.Search.{IsNumberedBy};
 ghost use Rattle.euler_faces.specs.FaceWalks.{AreFaces, AreNumbered};
@@ -25,7 +25,6 @@ fn walk_face(
     start: DartId,
     f: u32,
 ) -> Result<Walk, AllocError>
-    requires known { IsHalfMap map.now }
     requires live { IsLive map.now start.0 }
     requires size { length of.old ≡ id_bound map.now }
     requires number { f < no_face }
@@ -38,6 +37,7 @@ fn walk_face(
     ensures numbered { OnOk result (IsNumberedBy no_face of.old of.new f) }
     ensures here { IfOk result (λ walk. (i : ℕ) → i < length walk → slice_index of.new (slice_index walk i) ≡ f) }
 {
+    map.facts();
     let mut walk = Walk::new(alloc);
     let mut d = start;
     while of[d.0 as usize] == NO_FACE {
@@ -57,11 +57,11 @@ fn add_dart(
     d: DartId,
     walks: &mut Vec<Walk>,
 ) -> Result<(), AllocError>
-    requires known { IsHalfMap map.now }
     requires live { IsLive map.now d.0 }
     requires walking { AreWalked map.now walks.old.items of.old (number_at map.now d.0) }
     ensures { OnOk result (AreWalked map.now walks.new.items of.new (number_at map.now d.0 + 1)) }
 {
+    map.facts();
     if of[d.0 as usize] != NO_FACE {
         return Ok(());
     }
@@ -79,11 +79,11 @@ fn add_round(
     first: DartId,
     walks: &mut Vec<Walk>,
 ) -> Result<(), AllocError>
-    requires known { IsHalfMap map.now }
     requires first { dart_at map.now first.0 ≡ Some (v.0, slice_index (list_of map.now.lists v.0) 0) }
     requires walking { AreWalked map.now walks.old.items of.old (darts_before map.now.lists v.0) }
     ensures { OnOk result (AreWalked map.now walks.new.items of.new (darts_before map.now.lists (v.0 + 1))) }
 {
+    map.facts();
     let mut d = first;
     'round: loop {
         add_dart(alloc, map, of, d, walks)?;
@@ -102,11 +102,11 @@ fn add_vertex(
     v: VertexId,
     walks: &mut Vec<Walk>,
 ) -> Result<(), AllocError>
-    requires known { IsHalfMap map.now }
     requires v_in { v.0 < length map.now.lists }
     requires walking { AreWalked map.now walks.old.items of.old (darts_before map.now.lists v.0) }
     ensures { OnOk result (AreWalked map.now walks.new.items of.new (darts_before map.now.lists (v.0 + 1))) }
 {
+    map.facts();
     match map.first_dart(v) {
         Some(first) => add_round(alloc, map, of, v, first, walks),
         None => Ok(()),
@@ -120,7 +120,6 @@ fn add_all(
     of: &mut [u32],
     walks: &mut Vec<Walk>,
 ) -> Result<(), AllocError>
-    requires known { IsHalfMap map.now }
     requires size { length of.old ≡ id_bound map.now }
     requires unset { (i : ℕ) → mark_at (with_face of.old) i ≡ false }
     requires none { walks.old.items ≡ [] }
@@ -128,6 +127,7 @@ fn add_all(
     ensures count { OnOk result (length walks.new.items ≡ class_count (face_classes map.now.lists)) }
     ensures numbered { OnOk result (AreNumbered walks.new.items of.new) }
 {
+    map.facts();
     for v in 0..map.n() {
         add_vertex(alloc, map, of, VertexId(v), walks)?;
     }

@@ -3,7 +3,7 @@ ghost use Rattle.std.specs.Prelude.{◌≡◌, ◌<◌, ◌≤◌, ◌+◌, ◌|
 ghost use Rattle.classes.specs.Classes.{class_count, same_class};
 ghost use Rattle.classes.proofs.Marks.{IsCounting, KeepsMarks};
 ghost use Rattle.map_theory.specs.Maps.{vertex_count, edge_count, face_count, component_count, dart_count, darts_before, face_images, face_classes, isolated_count};
-ghost use Rattle.half_edges.specs.Map.{IsHalfMap, IsLive, dart_at, first_dart, id_bound};
+ghost use Rattle.half_edges.specs.Map.{IsLive, dart_at, first_dart, id_bound};
 ghost use Rattle.euler_faces.specs.Numbers.{number_at, mark_at, mark_of};
 
 use crate::count::EulerCount;
@@ -12,13 +12,13 @@ use std::alloc::{AllocError, Global};
 
 // Marks the darts of the face of `start`, where the faces marked so far are marked whole.
 fn mark_face(map: &HalfMap, marked: &mut [bool], start: DartId)
-    requires known { IsHalfMap map.now }
     requires live { IsLive map.now start.0 }
     requires marks { length marked.old ≡ id_bound map.now }
     requires kept { KeepsMarks (face_images map.now.lists) (mark_of map.now marked.old) }
     ensures { (i : ℕ) → i < dart_count map.now.lists → mark_of map.now marked.new i
         ≡ (mark_of map.now marked.old i || same_class (face_classes map.now.lists) (number_at map.now start.0) i) }
 {
+    map.facts();
     let mut d = start;
     while !marked[d.0 as usize] {
         marked[d.0 as usize] = true;
@@ -29,12 +29,12 @@ fn mark_face(map: &HalfMap, marked: &mut [bool], start: DartId)
 // Counts the face of a dart where the dart is the least of its face: where it is not marked, and the
 // faces of the darts before are.
 fn count_dart(map: &HalfMap, marked: &mut [bool], d: DartId, count: u32) -> u32
-    requires known { IsHalfMap map.now }
     requires live { IsLive map.now d.0 }
     requires marks { length marked.old ≡ id_bound map.now }
     requires counting { IsCounting (face_classes map.now.lists) (mark_of map.now marked.old) count (number_at map.now d.0) }
     ensures { IsCounting (face_classes map.now.lists) (mark_of map.now marked.new) result (number_at map.now d.0 + 1) }
 {
+    map.facts();
     if marked[d.0 as usize] {
         return count;
     }
@@ -44,12 +44,12 @@ fn count_dart(map: &HalfMap, marked: &mut [bool], d: DartId, count: u32) -> u32
 
 // Counts the faces whose least dart is one of those around `v`, from its first dart on.
 fn count_round(map: &HalfMap, marked: &mut [bool], v: VertexId, first: DartId, count: u32) -> u32
-    requires known { IsHalfMap map.now }
     requires first { dart_at map.now first.0 ≡ Some (first_dart map.now.lists v.0) }
     requires marks { length marked.old ≡ id_bound map.now }
     requires counting { IsCounting (face_classes map.now.lists) (mark_of map.now marked.old) count (darts_before map.now.lists v.0) }
     ensures { IsCounting (face_classes map.now.lists) (mark_of map.now marked.new) result (darts_before map.now.lists (v.0 + 1)) }
 {
+    map.facts();
     let mut count = count;
     let mut d = first;
     'round: loop {
@@ -63,12 +63,12 @@ fn count_round(map: &HalfMap, marked: &mut [bool], v: VertexId, first: DartId, c
 
 // Counts the faces whose least dart is one of those around `v`.
 fn count_vertex(map: &HalfMap, marked: &mut [bool], v: VertexId, count: u32) -> u32
-    requires known { IsHalfMap map.now }
     requires v_in { v.0 < length map.now.lists }
     requires marks { length marked.old ≡ id_bound map.now }
     requires counting { IsCounting (face_classes map.now.lists) (mark_of map.now marked.old) count (darts_before map.now.lists v.0) }
     ensures { IsCounting (face_classes map.now.lists) (mark_of map.now marked.new) result (darts_before map.now.lists (v.0 + 1)) }
 {
+    map.facts();
     match map.first_dart(v) {
         Some(first) => count_round(map, marked, v, first, count),
         None => count,
@@ -77,12 +77,12 @@ fn count_vertex(map: &HalfMap, marked: &mut [bool], v: VertexId, count: u32) -> 
 
 // The number of orbits of the face step, given one unset mark for each id.
 fn count_marked(map: &HalfMap, marked: &mut [bool]) -> u32
-    requires known { IsHalfMap map.now }
     requires marks { length marked.old ≡ id_bound map.now }
     requires unset { (i : ℕ) → mark_at marked.old i ≡ false }
     ensures count { result ≡ class_count (face_classes map.now.lists) }
     ensures few { result ≤ dart_count map.now.lists }
 {
+    map.facts();
     let mut count = 0;
     for v in 0..map.n() {
         count = count_vertex(map, marked, VertexId(v), count);

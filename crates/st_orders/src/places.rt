@@ -20,37 +20,7 @@ pub struct Ranges {
     recent: Vec<bool>,
 }
 
-// A vertex takes `size` places from below those of its parent.
-fn take_below(from: &mut [u16], to: &mut [u16], vertex: u16, parent: u16, size: u16)
-    requires froms { length from.old ≡ length to.old }
-    requires vertex_in { vertex < length from.old }
-    requires parent_in { parent < length from.old }
-    requires other { parent ≢ vertex }
-    requires room { slice_index from.old parent + size < slice_index to.old parent }
-    ensures { IsCarved (λ x. slice_index from.old x) (λ x. slice_index to.old x) (λ x. slice_index from.new x) (λ x. slice_index to.new x) vertex parent size true }
-{
-    let start = from[parent as usize];
-    from[parent as usize] = start + size;
-    from[vertex as usize] = start;
-    to[vertex as usize] = start + size;
-}
-
-// A vertex takes `size` places from above those of its parent.
-fn take_above(from: &mut [u16], to: &mut [u16], vertex: u16, parent: u16, size: u16)
-    requires froms { length from.old ≡ length to.old }
-    requires vertex_in { vertex < length from.old }
-    requires parent_in { parent < length from.old }
-    requires other { parent ≢ vertex }
-    requires room { slice_index from.old parent + size < slice_index to.old parent }
-    ensures { IsCarved (λ x. slice_index from.old x) (λ x. slice_index to.old x) (λ x. slice_index from.new x) (λ x. slice_index to.new x) vertex parent size false }
-{
-    let end = to[parent as usize];
-    to[parent as usize] = end - size;
-    from[vertex as usize] = end - size;
-    to[vertex as usize] = end;
-}
-
-// A vertex takes `size` places of those of its parent.
+// A vertex takes `size` places of those of its parent, from below or from above.
 fn take_places(from: &mut [u16], to: &mut [u16], vertex: u16, parent: u16, size: u16, below: bool)
     requires froms { length from.old ≡ length to.old }
     requires vertex_in { vertex < length from.old }
@@ -60,28 +30,32 @@ fn take_places(from: &mut [u16], to: &mut [u16], vertex: u16, parent: u16, size:
     ensures { IsCarved (λ x. slice_index from.old x) (λ x. slice_index to.old x) (λ x. slice_index from.new x) (λ x. slice_index to.new x) vertex parent size below }
 {
     if below {
-        take_below(from, to, vertex, parent, size);
+        let start = from[parent as usize];
+        from[parent as usize] = start + size;
+        from[vertex as usize] = start;
+        to[vertex as usize] = start + size;
     } else {
-        take_above(from, to, vertex, parent, size);
+        let end = to[parent as usize];
+        to[parent as usize] = end - size;
+        from[vertex as usize] = end - size;
+        to[vertex as usize] = end;
     }
 }
 
-// A table with 0 at each of `n` places, in the memory of another.
-fn zeros(table: Vec<u16>, n: usize) -> Result<Vec<u16>, AllocError>
+// Returns a table of `n` places, in the memory of another.
+fn sized(table: Vec<u16>, n: usize) -> Result<Vec<u16>, AllocError>
     ensures { IfOk result (λ made. length made.items ≡ n) }
 {
     let mut table = table;
-    table.clear();
     table.resize(n, 0)?;
     Ok(table)
 }
 
-// A table with `false` at each of `n` places, in the memory of another.
-fn unset(table: Vec<bool>, n: usize) -> Result<Vec<bool>, AllocError>
+// Returns a table of `n` marks, in the memory of another.
+fn marks(table: Vec<bool>, n: usize) -> Result<Vec<bool>, AllocError>
     ensures { IfOk result (λ made. length made.items ≡ n) }
 {
     let mut table = table;
-    table.clear();
     table.resize(n, false)?;
     Ok(table)
 }
@@ -103,10 +77,10 @@ impl Ranges {
     {
         let n = lists.len();
         Ok(Ranges {
-            from: zeros(self.from, n)?,
-            to: zeros(self.to, n)?,
-            side: unset(self.side, n)?,
-            recent: unset(self.recent, n)?,
+            from: sized(self.from, n)?,
+            to: sized(self.to, n)?,
+            side: marks(self.side, n)?,
+            recent: marks(self.recent, n)?,
         })
     }
 

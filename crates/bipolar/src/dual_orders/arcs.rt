@@ -9,54 +9,48 @@ use half_edges::{Counts, DartId, FaceId, HalfMap};
 use map_lists::ItemLists;
 use std::alloc::{AllocError, Global};
 
-// Whether a dart goes upwards.
-pub(crate) fn goes_up(map: &HalfMap, rank: &Counts, d: DartId) -> bool
-    requires known { IsHalfMap map.now }
-    requires ranks { length rank.now ≡ length map.now.lists }
-    requires live { IsLive map.now d.0 }
-    ensures { (u v : ℕ) → dart_at map.now d.0 ≡ Some (u, v) → (IsTrue result ↔ (slice_index rank.now u < slice_index rank.now v)) }
-{
-    rank.get(map.tail(d).0 as usize) < rank.get(map.head(d).0 as usize)
+/// A map with ranks of its vertices.
+#[derive(Clone, Copy)]
+pub(crate) struct RankedMap<'a> {
+    pub(crate) map: &'a HalfMap,
+    pub(crate) rank: &'a Counts,
+    pub(crate) ghost ranks: { length rank.now ≡ length map.now.lists },
 }
 
-// Puts the right face of an upward dart behind others.
-fn put_right(
-    map: &HalfMap,
-    rank: &Counts,
-    faces: &Faces,
-    d: DartId,
-    entries: &mut Vec<u32>,
-) -> Result<(), AllocError>
-    requires known { IsHalfMap map.now }
-    requires ranks { length rank.now ≡ length map.now.lists }
-    requires faces { AreFaces map.now faces.now }
-    requires live { IsLive map.now d.0 }
-    ensures { IfOk result (λ _. (u v : ℕ) → dart_at map.now d.0 ≡ Some (u, v) → IsPutRight map.now faces.now rank.now u v entries.old.items entries.new.items) }
-{
-    if goes_up(map, rank, d) {
-        entries.push(faces.of_dart(map.twin(d)).0)?;
+impl RankedMap<'_> {
+    /// Whether a dart goes upwards.
+    pub(crate) fn goes_up(&self, d: DartId) -> bool
+        requires { IsLive self.now.map.now d.0 }
+        ensures { (u v : ℕ) → dart_at self.now.map.now d.0 ≡ Some (u, v) → (IsTrue result ↔ (slice_index self.now.rank.now u < slice_index self.now.rank.now v)) }
+    {
+        self.map.facts();
+        self.rank.get(self.map.tail(d).0 as usize) < self.rank.get(self.map.head(d).0 as usize)
     }
-    Ok(())
-}
 
-// Puts the right faces of the upward darts of a walk behind others.
-fn put_walk(
-    map: &HalfMap,
-    rank: &Counts,
-    faces: &Faces,
-    f: u32,
-    entries: &mut Vec<u32>,
-) -> Result<(), AllocError>
-    requires known { IsHalfMap map.now }
-    requires ranks { length rank.now ≡ length map.now.lists }
-    requires faces { AreFaces map.now faces.now }
-    requires face { f < length faces.now }
-    ensures { IfOk result (λ _. ArePutRight map.now faces.now rank.now (walk_at faces.now f) entries.old.items entries.new.items) }
-{
-    for d in faces.walk(FaceId(f)) {
-        put_right(map, rank, faces, *d, entries)?;
+    // Puts the right face of an upward dart behind others.
+    fn put_right(&self, faces: &Faces, d: DartId, entries: &mut Vec<u32>) -> Result<(), AllocError>
+        requires faces { AreFaces self.now.map.now faces.now }
+        requires live { IsLive self.now.map.now d.0 }
+        ensures { IfOk result (λ _. (u v : ℕ) → dart_at self.now.map.now d.0 ≡ Some (u, v) → IsPutRight self.now.map.now faces.now self.now.rank.now u v entries.old.items entries.new.items) }
+    {
+        self.map.facts();
+        if self.goes_up(d) {
+            entries.push(faces.of_dart(self.map.twin(d)).0)?;
+        }
+        Ok(())
     }
-    Ok(())
+
+    // Puts the right faces of the upward darts of a walk behind others.
+    fn put_walk(&self, faces: &Faces, f: u32, entries: &mut Vec<u32>) -> Result<(), AllocError>
+        requires faces { AreFaces self.now.map.now faces.now }
+        requires face { f < length faces.now }
+        ensures { IfOk result (λ _. ArePutRight self.now.map.now faces.now self.now.rank.now (walk_at faces.now f) entries.old.items entries.new.items) }
+    {
+        for d in faces.walk(FaceId(f)) {
+            self.put_right(faces, *d, entries)?;
+        }
+        Ok(())
+    }
 }
 
 /// For each face the faces on the right of the upward edges on its left. It fails only when out of memory.
@@ -72,10 +66,11 @@ pub fn face_arcs(
     ensures arcs { IfOk result (AreFaceArcs map.now faces.now rank.now) }
     ensures few { IfOk result (λ arcs. length arcs < 2 ^ 32) }
 {
+    let ranked = RankedMap { map, rank };
     let mut entries = Vec::with_capacity(alloc, map.m() as usize)?;
     let mut ends = Vec::with_capacity(alloc, faces.count() as usize)?;
     for f in 0..faces.count() {
-        put_walk(map, rank, faces, f, &mut entries)?;
+        ranked.put_walk(faces, f, &mut entries)?;
         ends.push(entries.len())?;
     }
     Ok(ItemLists::from_parts(entries, ends))

@@ -15,6 +15,17 @@ use std::alloc::{AllocError, Global};
 // Stands in place of the face of a dart that was not met yet.
 const NO_FACE: u32 = u32::MAX;
 
+// A map by its lists one behind another and the twins of its darts, with ranks of its vertices.
+#[derive(Clone, Copy)]
+struct RankedDarts<'a> {
+    entries: &'a [u16],
+    ends: &'a [usize],
+    twins: &'a [u32],
+    rank: &'a [u16],
+    ghost darts: { ∥ AreDarts entries.now ends.now twins.now ∥₁ },
+    ghost ranks: { length rank.now ≡ length ends.now },
+}
+
 // Where list `v` begins.
 fn start_of(ends: &[usize], v: usize) -> usize
     requires { v < length ends.now }
@@ -54,88 +65,83 @@ fn put_upward(
     Ok(())
 }
 
-// Writes the number `f` at the darts of the face of `start`, and puts the twins of its upward darts behind others.
-fn walk_face(
-    entries: &[u16],
-    ends: &[usize],
-    twins: &[u32],
-    rank: &[u16],
-    of: &mut [u32],
-    arcs: &mut Vec<u32>,
-    start: usize,
-    f: u32,
-) -> Result<(), AllocError>
-    requires darts { AreDarts entries.now ends.now twins.now }
-    requires ranks { length rank.now ≡ length ends.now }
-    requires size { length of.old ≡ length entries.now }
-    requires start_in { start < length entries.now }
-    requires number { f < no_face }
-    requires kept { KeepsMarks (face_images (cut 0 ends.now entries.now)) (mark_at (with_face of.old)) }
-    ensures marked { OnOk result ((i : ℕ) → i < length entries.now → mark_at (with_face of.new) i
-        ≡ (mark_at (with_face of.old) i || same_class (face_classes (cut 0 ends.now entries.now)) start i)) }
-    ensures numbered { OnOk result (IsNumberedBy no_face of.old of.new f) }
-    ensures put { OnOk result (ArePutTwins (cut 0 ends.now entries.now) rank.now twins.now of.old of.new arcs.old.items arcs.new.items) }
-{
-    let mut d = start;
-    while of[d] == NO_FACE {
-        of[d] = f;
-        let twin = twins[d];
-        let head = entries[d];
-        put_upward(rank, entries[twin as usize], head, twin, arcs)?;
-        d = after(ends, head as usize, twin as usize);
-    }
-    Ok(())
-}
+impl RankedDarts<'_> {
+    // Does nothing. By its contract a proof learns what holds of the darts.
+    fn facts(&self)
+        ensures { AreDarts self.now.entries.now self.now.ends.now self.now.twins.now }
+    {}
 
-// Numbers the face of the dart with number `d`, where it is the least of its face: where it has no face yet, and
-// those of the darts before have.
-fn number_dart(
-    entries: &[u16],
-    ends: &[usize],
-    twins: &[u32],
-    rank: &[u16],
-    of: &mut [u32],
-    arcs: &mut Vec<u32>,
-    arc_ends: &mut Vec<usize>,
-    d: usize,
-) -> Result<(), AllocError>
-    requires darts { AreDarts entries.now ends.now twins.now }
-    requires ranks { length rank.now ≡ length ends.now }
-    requires d_in { d < length entries.now }
-    requires below { AreNumberedBelow (cut 0 ends.now entries.now) rank.now twins.now of.old arcs.old.items arc_ends.old.items d }
-    ensures { OnOk result (AreNumberedBelow (cut 0 ends.now entries.now) rank.now twins.now of.new arcs.new.items arc_ends.new.items (d + 1)) }
-{
-    if of[d] != NO_FACE {
-        return Ok(());
+    // Writes the number `f` at the darts of the face of `start`, and puts the twins of its upward darts behind others.
+    fn walk_face(
+        &self,
+        of: &mut [u32],
+        arcs: &mut Vec<u32>,
+        start: usize,
+        f: u32,
+    ) -> Result<(), AllocError>
+        requires size { length of.old ≡ length self.now.entries.now }
+        requires start_in { start < length self.now.entries.now }
+        requires number { f < no_face }
+        requires kept { KeepsMarks (face_images (cut 0 self.now.ends.now self.now.entries.now)) (mark_at (with_face of.old)) }
+        ensures marked { OnOk result ((i : ℕ) → i < length self.now.entries.now → mark_at (with_face of.new) i
+            ≡ (mark_at (with_face of.old) i || same_class (face_classes (cut 0 self.now.ends.now self.now.entries.now)) start i)) }
+        ensures numbered { OnOk result (IsNumberedBy no_face of.old of.new f) }
+        ensures put { OnOk result (ArePutTwins (cut 0 self.now.ends.now self.now.entries.now) self.now.rank.now self.now.twins.now of.old of.new arcs.old.items arcs.new.items) }
+    {
+        self.facts();
+        let mut d = start;
+        while of[d] == NO_FACE {
+            of[d] = f;
+            let twin = self.twins[d];
+            let head = self.entries[d];
+            put_upward(self.rank, self.entries[twin as usize], head, twin, arcs)?;
+            d = after(self.ends, head as usize, twin as usize);
+        }
+        Ok(())
     }
-    let f = arc_ends.len() as u32;
-    walk_face(entries, ends, twins, rank, of, arcs, d, f)?;
-    arc_ends.push(arcs.len())?;
-    Ok(())
-}
 
-// Numbers all faces, and puts the twins of the upward darts of each behind those of the ones before.
-fn number_all(
-    entries: &[u16],
-    ends: &[usize],
-    twins: &[u32],
-    rank: &[u16],
-    of: &mut [u32],
-    arcs: &mut Vec<u32>,
-    arc_ends: &mut Vec<usize>,
-) -> Result<(), AllocError>
-    requires darts { AreDarts entries.now ends.now twins.now }
-    requires ranks { length rank.now ≡ length ends.now }
-    requires size { length of.old ≡ length entries.now }
-    requires unset { (i : ℕ) → mark_at (with_face of.old) i ≡ false }
-    requires no_arcs { arcs.old.items ≡ [] }
-    requires no_ends { arc_ends.old.items ≡ [] }
-    ensures { OnOk result (AreNumberedBelow (cut 0 ends.now entries.now) rank.now twins.now of.new arcs.new.items arc_ends.new.items (length entries.now)) }
-{
-    for d in 0..entries.len() {
-        number_dart(entries, ends, twins, rank, of, arcs, arc_ends, d)?;
+    // Numbers the face of the dart with number `d`, where it is the least of its face: where it has no face yet, and
+    // those of the darts before have.
+    fn number_dart(
+        &self,
+        of: &mut [u32],
+        arcs: &mut Vec<u32>,
+        arc_ends: &mut Vec<usize>,
+        d: usize,
+    ) -> Result<(), AllocError>
+        requires d_in { d < length self.now.entries.now }
+        requires below { AreNumberedBelow (cut 0 self.now.ends.now self.now.entries.now) self.now.rank.now self.now.twins.now of.old arcs.old.items arc_ends.old.items d }
+        ensures { OnOk result (AreNumberedBelow (cut 0 self.now.ends.now self.now.entries.now) self.now.rank.now self.now.twins.now of.new arcs.new.items arc_ends.new.items (d + 1)) }
+    {
+        self.facts();
+        if of[d] != NO_FACE {
+            return Ok(());
+        }
+        let f = arc_ends.len() as u32;
+        self.walk_face(of, arcs, d, f)?;
+        arc_ends.push(arcs.len())?;
+        Ok(())
     }
-    Ok(())
+
+    // Numbers all faces, and puts the twins of the upward darts of each behind those of the ones before.
+    fn number_all(
+        &self,
+        of: &mut [u32],
+        arcs: &mut Vec<u32>,
+        arc_ends: &mut Vec<usize>,
+    ) -> Result<(), AllocError>
+        requires size { length of.old ≡ length self.now.entries.now }
+        requires unset { (i : ℕ) → mark_at (with_face of.old) i ≡ false }
+        requires no_arcs { arcs.old.items ≡ [] }
+        requires no_ends { arc_ends.old.items ≡ [] }
+        ensures { OnOk result (AreNumberedBelow (cut 0 self.now.ends.now self.now.entries.now) self.now.rank.now self.now.twins.now of.new arcs.new.items arc_ends.new.items (length self.now.entries.now)) }
+    {
+        self.facts();
+        for d in 0..self.entries.len() {
+            self.number_dart(of, arcs, arc_ends, d)?;
+        }
+        Ok(())
+    }
 }
 
 // Puts the face of each dart in its place.
@@ -189,15 +195,13 @@ pub fn number_faces(
     let (mut arcs, mut arc_ends) = tables.arcs.into_parts();
     arcs.clear();
     arc_ends.clear();
-    number_all(
+    let darts = RankedDarts {
         entries,
         ends,
         twins,
         rank,
-        &mut of,
-        &mut arcs,
-        &mut arc_ends,
-    )?;
+    };
+    darts.number_all(&mut of, &mut arcs, &mut arc_ends)?;
     lead_to_faces(&mut arcs, &of);
     Ok(FaceTables {
         of,

@@ -5,84 +5,83 @@ ghost use Rattle.half_edges.specs.Map.{IsHalfMap, IsLive, dart_at, first_dart};
 ghost use Rattle.euler_faces.specs.FaceWalks.{AreFaces};
 ghost use Rattle.bipolar.specs.FaceArcs.{IsNumberOf, IsLeftNumber, ArePutNumbers, AreNumberRows};
 
-use crate::dual_orders::arcs::goes_up;
+use crate::dual_orders::arcs::RankedMap;
 use euler_faces::Faces;
 use half_edges::{Counts, DartId, HalfMap, VertexId};
 use map_lists::ItemLists;
 use std::alloc::{AllocError, Global};
 
-// The number of a dart's face.
-fn face_number(map: &HalfMap, faces: &Faces, numbers: &[u32], d: DartId) -> u32
-    requires known { IsHalfMap map.now }
-    requires faces { AreFaces map.now faces.now }
-    requires numbers { length numbers.now ≡ length faces.now }
-    requires live { IsLive map.now d.0 }
-    ensures { (u v : ℕ) → dart_at map.now d.0 ≡ Some (u, v) → IsNumberOf map.now faces.now numbers.now u v result }
-{
-    numbers[faces.of_dart(d).0 as usize]
+// A map with ranks of its vertices, and numbers of its faces.
+#[derive(Clone, Copy)]
+struct NumberedMap<'a> {
+    map: &'a HalfMap,
+    rank: &'a Counts,
+    faces: &'a Faces,
+    numbers: &'a [u32],
+    ghost ranks: { length rank.now ≡ length map.now.lists },
+    ghost count: { length numbers.now ≡ length faces.now },
 }
 
-// The number of the face on the left of a dart's edge.
-fn left_number(map: &HalfMap, rank: &Counts, faces: &Faces, numbers: &[u32], d: DartId) -> u32
-    requires known { IsHalfMap map.now }
-    requires ranks { length rank.now ≡ length map.now.lists }
-    requires faces { AreFaces map.now faces.now }
-    requires numbers { length numbers.now ≡ length faces.now }
-    requires live { IsLive map.now d.0 }
-    ensures { (u v : ℕ) → dart_at map.now d.0 ≡ Some (u, v) → IsLeftNumber map.now faces.now rank.now numbers.now u v result }
-{
-    if goes_up(map, rank, d) {
-        face_number(map, faces, numbers, d)
-    } else {
-        face_number(map, faces, numbers, map.twin(d))
+impl NumberedMap<'_> {
+    // Returns the number of a dart's face.
+    fn face_number(&self, d: DartId) -> u32
+        requires faces { AreFaces self.now.map.now self.now.faces.now }
+        requires live { IsLive self.now.map.now d.0 }
+        ensures { (u v : ℕ) → dart_at self.now.map.now d.0 ≡ Some (u, v) → IsNumberOf self.now.map.now self.now.faces.now self.now.numbers.now u v result }
+    {
+        self.map.facts();
+        self.numbers[self.faces.of_dart(d).0 as usize]
     }
-}
 
-// Puts the numbers of the edges of `v` behind others; `first` is the dart to the first entry of its list.
-fn put_round(
-    map: &HalfMap,
-    rank: &Counts,
-    faces: &Faces,
-    numbers: &[u32],
-    v: VertexId,
-    first: DartId,
-    entries: &mut Vec<u32>,
-) -> Result<(), AllocError>
-    requires known { IsHalfMap map.now }
-    requires ranks { length rank.now ≡ length map.now.lists }
-    requires faces { AreFaces map.now faces.now }
-    requires numbers { length numbers.now ≡ length faces.now }
-    requires vertex { v.0 < length map.now.lists }
-    requires first { dart_at map.now first.0 ≡ Some (first_dart map.now.lists v.0) }
-    ensures { IfOk result (λ _. ArePutNumbers map.now faces.now rank.now numbers.now v.0 (length (list_of map.now.lists v.0)) entries.old.items entries.new.items) }
-{
-    let mut d = first;
-    for _ in 0..map.degree(v) {
-        entries.push(left_number(map, rank, faces, numbers, d))?;
-        d = map.next(d);
+    // Returns the number of the face on the left of a dart's edge.
+    fn left_number(&self, d: DartId) -> u32
+        requires faces { AreFaces self.now.map.now self.now.faces.now }
+        requires live { IsLive self.now.map.now d.0 }
+        ensures { (u v : ℕ) → dart_at self.now.map.now d.0 ≡ Some (u, v) → IsLeftNumber self.now.map.now self.now.faces.now self.now.rank.now self.now.numbers.now u v result }
+    {
+        self.map.facts();
+        let ranked = RankedMap {
+            map: self.map,
+            rank: self.rank,
+        };
+        if ranked.goes_up(d) {
+            self.face_number(d)
+        } else {
+            self.face_number(self.map.twin(d))
+        }
     }
-    Ok(())
-}
 
-// Puts the numbers of the edges of `v` behind others.
-fn put_vertex(
-    map: &HalfMap,
-    rank: &Counts,
-    faces: &Faces,
-    numbers: &[u32],
-    v: VertexId,
-    entries: &mut Vec<u32>,
-) -> Result<(), AllocError>
-    requires known { IsHalfMap map.now }
-    requires ranks { length rank.now ≡ length map.now.lists }
-    requires faces { AreFaces map.now faces.now }
-    requires numbers { length numbers.now ≡ length faces.now }
-    requires vertex { v.0 < length map.now.lists }
-    ensures { IfOk result (λ _. ArePutNumbers map.now faces.now rank.now numbers.now v.0 (length (list_of map.now.lists v.0)) entries.old.items entries.new.items) }
-{
-    match map.first_dart(v) {
-        Some(first) => put_round(map, rank, faces, numbers, v, first, entries),
-        None => Ok(()),
+    // Puts the numbers of the edges of `v` behind others; `first` is the dart to the first entry of its list.
+    fn put_round(
+        &self,
+        v: VertexId,
+        first: DartId,
+        entries: &mut Vec<u32>,
+    ) -> Result<(), AllocError>
+        requires faces { AreFaces self.now.map.now self.now.faces.now }
+        requires vertex { v.0 < length self.now.map.now.lists }
+        requires first { dart_at self.now.map.now first.0 ≡ Some (first_dart self.now.map.now.lists v.0) }
+        ensures { IfOk result (λ _. ArePutNumbers self.now.map.now self.now.faces.now self.now.rank.now self.now.numbers.now v.0 (length (list_of self.now.map.now.lists v.0)) entries.old.items entries.new.items) }
+    {
+        self.map.facts();
+        let mut d = first;
+        for _ in 0..self.map.degree(v) {
+            entries.push(self.left_number(d))?;
+            d = self.map.next(d);
+        }
+        Ok(())
+    }
+
+    // Puts the numbers of the edges of `v` behind others.
+    fn put_vertex(&self, v: VertexId, entries: &mut Vec<u32>) -> Result<(), AllocError>
+        requires faces { AreFaces self.now.map.now self.now.faces.now }
+        requires vertex { v.0 < length self.now.map.now.lists }
+        ensures { IfOk result (λ _. ArePutNumbers self.now.map.now self.now.faces.now self.now.rank.now self.now.numbers.now v.0 (length (list_of self.now.map.now.lists v.0)) entries.old.items entries.new.items) }
+    {
+        match self.map.first_dart(v) {
+            Some(first) => self.put_round(v, first, entries),
+            None => Ok(()),
+        }
     }
 }
 
@@ -101,10 +100,16 @@ pub fn number_rows(
     requires numbers { length numbers.now ≡ length faces.now }
     ensures { IfOk result (AreNumberRows map.now faces.now rank.now numbers.now) }
 {
+    let numbered = NumberedMap {
+        map,
+        rank,
+        faces,
+        numbers,
+    };
     let mut entries = Vec::with_capacity(alloc, 2 * map.m() as usize)?;
     let mut ends = Vec::with_capacity(alloc, map.n() as usize)?;
     for v in 0..map.n() {
-        put_vertex(map, rank, faces, numbers, VertexId(v), &mut entries)?;
+        numbered.put_vertex(VertexId(v), &mut entries)?;
         ends.push(entries.len())?;
     }
     Ok(ItemLists::from_parts(entries, ends))

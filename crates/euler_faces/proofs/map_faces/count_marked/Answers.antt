@@ -11,7 +11,7 @@ pub loop-v-init : goal.loop-v-init
 loop-v-init c =
     let map = c.args.map.now in
     record {
-      known = c.requires.known;
+      known = c.facts.ensures;
       marks = c.requires.marks;
       counting = rw (darts_before_none map.lists) (IsCounting-none (face_classes map.lists) (mark_of map c.args.marked.now) (λ i l. c.requires.unset (id_of map i)));
     }

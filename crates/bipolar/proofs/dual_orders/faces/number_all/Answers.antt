@@ -1,6 +1,0 @@
-use Rattle.bipolar.proofs.FaceNumbering.{AreNumberedBelow-none}
-use Rattle.bipolar.proofs.dual_orders.faces.number_all.Goals as goal
-
-pub loop-d-init : goal.loop-d-init
-loop-d-init c =
-    AreNumberedBelow-none c.args.entries.now c.args.ends.now c.args.twins.now c.requires.darts c.args.rank.now c.args.of.now c.args.arcs.now.items c.args.arc_ends.now.items c.requires.size c.requires.unset c.requires.no_arcs c.requires.no_ends
