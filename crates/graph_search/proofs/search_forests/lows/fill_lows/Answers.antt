@@ -1,4 +1,4 @@
-use Rattle.std.proofs.Common.{◌≡◌, ◌-◌, ◌<◌, ℕ, List, length, get_or, sym, subst, ◌∙◌, ap, arith, length-set}
+use Rattle.std.proofs.Common.{◌≡◌, ◌-◌, length, get_or, ◌∙◌, ap, arith, length-set}
 use Rattle.std.proofs.lemmas.List.{get_or_default}
 use Rattle.graph_search.proofs.LowLemmas.{lows_more}
 use Rattle.graph_search.proofs.search_forests.lows.fill_lows.Goals as goal

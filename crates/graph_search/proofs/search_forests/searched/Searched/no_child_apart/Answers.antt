@@ -1,5 +1,4 @@
-use Rattle.std.proofs.Common.{◌<◌, length, inl, inr, arith}
-use Rattle.std.proofs.lemmas.Bool.{cases_lt}
+use Rattle.std.proofs.Common.{arith}
 use Rattle.graph_search.proofs.search_forests.searched.Searched.no_child_apart.Goals as goal
 
 pub returns : goal.returns
