@@ -37,7 +37,7 @@ fn are_sides(marks: &[u16], stamp: u16, ws: &[u16], last: u16, next: u16) -> boo
 }
 
 // Returns the entry after the one at place `k` of a list, cyclically.
-fn entry_behind(us: &[u16], k: usize) -> u16
+pub(crate) fn entry_behind(us: &[u16], k: usize) -> u16
     requires distinct { AllPairs ◌≢◌ us.now }
     requires place { k < length us.now }
     ensures { result ≡ entry_after (slice_index us.now k) us.now }
@@ -139,7 +139,7 @@ fn all_degrees(alloc: Global, lists: &Rotations) -> Result<Vec<usize>, AllocErro
 }
 
 // Says whether the common neighbours of each edge stand next to one end in the list of the other.
-fn are_closed(alloc: Global, lists: &Rotations) -> Result<bool, AllocError>
+pub(crate) fn are_closed(alloc: Global, lists: &Rotations) -> Result<bool, AllocError>
     requires simple { IsSimpleMap lists.now }
     requires few { length lists.now < 4096 }
     ensures { IfOk result (λ closed. OnTrue closed (AreClosed lists.now)) }
@@ -162,7 +162,7 @@ fn are_closed(alloc: Global, lists: &Rotations) -> Result<bool, AllocError>
 }
 
 // Says whether an edge joins two of the four vertices of the outer face across it.
-fn has_diagonal(lists: &Rotations, four: OuterFour) -> bool
+pub(crate) fn has_diagonal(lists: &Rotations, four: OuterFour) -> bool
     requires first { 0 < length lists.now }
     requires top { four.top.0 < length lists.now }
     ensures { IsTrue result ↔ HasDiagonal lists.now 0 four.top.0 four.right.0 four.bottom.0 }

@@ -1,0 +1,168 @@
+//! The outer faces of maps of the class that counts and corners tell: no map is made of their lists.
+ghost use Rattle.std.specs.Prelude.{◌≡◌, ◌≢◌, ◌≤◌, ◌<◌, ◌+◌, ◌*◌, ⊤, ℕ, length, slice_index, sum_by, AllPairs, Contains, IsTrue, MatchOption, IfOk};
+ghost use Rattle.map_theory.specs.Maps.{IsSimpleMap, IsPlane, HasDart, component_count, entry_after, follows, list_of};
+ghost use Rattle.rect_check.specs.Loops.{IsFrame};
+ghost use Rattle.rect_class.specs.RectMaps.{IsRectMap};
+ghost use Rattle.rect_class.specs.Corners.{IsRound};
+
+use crate::corners::{are_closed, entry_behind, has_diagonal};
+use conn_parts::plane_count;
+use euler_faces::Counter;
+use half_edges::{Rotations, VertexId};
+use rect_check::OuterFour;
+use std::alloc::{AllocError, Global};
+
+// Whether lists have as many vertices and entries as those of a map of the class.
+fn is_full(lists: &Rotations) -> bool
+    requires few { length lists.now < 4096 }
+    ensures large { IsTrue result → 5 ≤ length lists.now }
+    ensures full { IsTrue result → sum_by length lists.now + 14 ≡ 6 * length lists.now }
+{
+    lists.len() >= 5 && lists.total() == 6 * lists.len() - 14
+}
+
+// Returns the entry after `u` in a list that has it, cyclically.
+fn entry_next(us: &[u16], u: u16) -> u16
+    requires distinct { AllPairs ◌≢◌ us.now }
+    requires some { Contains us.now u }
+    ensures { result ≡ entry_after u us.now }
+{
+    for k in 0..us.len() {
+        if us[k] == u {
+            return entry_behind(us, k);
+        }
+    }
+    u
+}
+
+/// Returns the vertex to which the face of the dart from `u` to `v` goes on, by the list of `v`.
+pub fn next_on_face(lists: &Rotations, u: VertexId, v: VertexId) -> VertexId
+    requires simple { IsSimpleMap lists.now }
+    requires dart { HasDart lists.now u.0 v.0 }
+    ensures next { result.0 ≡ follows lists.now v.0 u.0 }
+    ensures dart { HasDart lists.now v.0 result.0 }
+{
+    VertexId(entry_next(lists.list(usize::from(v.0)), u.0))
+}
+
+// Says whether a walk from 0 past `four` to `s` and `e` is at 0 and the top again, past four vertices.
+fn is_round(four: OuterFour, s: VertexId, e: VertexId) -> bool
+    ensures { IsTrue result → IsRound four.top.0 four.right.0 four.bottom.0 s.0 e.0 }
+{
+    s.0 == 0 && e.0 == four.top.0 && four.right.0 != 0 && four.bottom.0 != four.top.0
+}
+
+// Returns the outer face, if the face of the dart from vertex 0 to `top` is walked by four darts over four vertices.
+fn frame_at(lists: &Rotations, top: VertexId) -> Option<OuterFour>
+    requires simple { IsSimpleMap lists.now }
+    requires dart { HasDart lists.now 0 top.0 }
+    requires first { top.0 ≡ slice_index (list_of lists.now 0) 0 }
+    ensures { MatchOption result ⊤ (λ f. IsFrame lists.now f.top.0 f.right.0 f.bottom.0) }
+{
+    let right = next_on_face(lists, VertexId(0), top);
+    let bottom = next_on_face(lists, top, right);
+    let s = next_on_face(lists, right, bottom);
+    let e = next_on_face(lists, bottom, s);
+    let four = OuterFour { top, right, bottom };
+    if is_round(four, s, e) {
+        Some(four)
+    } else {
+        None
+    }
+}
+
+// Returns the outer face, if it is walked by four darts over four vertices.
+fn outer_face(lists: &Rotations) -> Option<OuterFour>
+    requires simple { IsSimpleMap lists.now }
+    requires some { 0 < length lists.now }
+    ensures { MatchOption result ⊤ (λ f. IsFrame lists.now f.top.0 f.right.0 f.bottom.0) }
+{
+    let first = lists.list(0);
+    if first.len() == 0 {
+        return None;
+    }
+    frame_at(lists, VertexId(first[0]))
+}
+
+// Returns the outer face of a map with the counts of one of the class, where no edge joins two of it across, and the
+// corners show that no triangle separates.
+fn confirmed(
+    alloc: Global,
+    lists: &Rotations,
+    four: OuterFour,
+) -> Result<Option<OuterFour>, AllocError>
+    requires simple { IsSimpleMap lists.now }
+    requires few { length lists.now < 4096 }
+    requires plane { IsPlane lists.now }
+    requires connected { component_count lists.now ≡ 1 }
+    requires large { 5 ≤ length lists.now }
+    requires full { sum_by length lists.now + 14 ≡ 6 * length lists.now }
+    requires frame { IsFrame lists.now four.top.0 four.right.0 four.bottom.0 }
+    ensures { IfOk result (λ found. MatchOption found ⊤ (λ f. IsRectMap lists.now × IsFrame lists.now f.top.0 f.right.0 f.bottom.0)) }
+{
+    if has_diagonal(lists, four) {
+        return Ok(None);
+    }
+    let closed = are_closed(alloc, lists)?;
+    if closed {
+        return Ok(Some(four));
+    }
+    Ok(None)
+}
+
+// Returns the outer face of a map with so many components, and else the counts of one of the class.
+fn counted(alloc: Global, lists: &Rotations, parts: u32) -> Result<Option<OuterFour>, AllocError>
+    requires simple { IsSimpleMap lists.now }
+    requires few { length lists.now < 4096 }
+    requires plane { IsPlane lists.now }
+    requires parts { parts ≡ component_count lists.now }
+    requires large { 5 ≤ length lists.now }
+    requires full { sum_by length lists.now + 14 ≡ 6 * length lists.now }
+    ensures { IfOk result (λ found. MatchOption found ⊤ (λ f. IsRectMap lists.now × IsFrame lists.now f.top.0 f.right.0 f.bottom.0)) }
+{
+    if parts != 1 {
+        return Ok(None);
+    }
+    match outer_face(lists) {
+        Some(four) => confirmed(alloc, lists, four),
+        None => Ok(None),
+    }
+}
+
+/// Finds the outer faces of maps of the class, one map after another, and keeps its tables for the next.
+///
+/// They take some ten bytes for each dart of the largest map so far.
+#[derive(Drop)]
+pub struct FrameFinder {
+    alloc: Global,
+    counter: Counter,
+}
+
+impl FrameFinder {
+    /// Makes a finder that has found nothing yet. It takes no memory.
+    pub fn new(alloc: Global) -> FrameFinder {
+        FrameFinder {
+            alloc,
+            counter: Counter::new(alloc),
+        }
+    }
+
+    /// Returns the outer face of the map with these lists, which are from 1 to 4095, if counts and corners show that it
+    /// is of the class. `None` leaves it open.
+    ///
+    /// A connected map of genus zero with 3n - 7 edges, of which the outer face is a quadrangle, has no other face but
+    /// triangles. After a call that ran out of memory the finder serves as before. The time is linear in the entries.
+    pub fn frame(&mut self, lists: &Rotations) -> Result<Option<OuterFour>, AllocError>
+        requires some_list { 0 < length lists.now }
+        requires few_lists { length lists.now < 4096 }
+        ensures { IfOk result (λ found. MatchOption found ⊤ (λ f. IsRectMap lists.now × IsFrame lists.now f.top.0 f.right.0 f.bottom.0)) }
+    {
+        if !is_full(lists) {
+            return Ok(None);
+        }
+        match plane_count(&mut self.counter, lists, 3) {
+            Ok(count) => counted(self.alloc, lists, count.c),
+            Err(_) => Ok(None),
+        }
+    }
+}
