@@ -1,10 +1,9 @@
 -- Lists with the counts and the outer face of a map of the class: with one edge more they are a triangulation, so that each other face is a triangle, and no vertex cuts.
-use Rattle.std.proofs.Common.{◌≡◌, ◌≢◌, ◌⊎◌, ◌+◌, ◌*◌, ◌/◌, ℕ, ◌<◌, ◌≤◌, Bool, true, false, List, [], ◌∷◌, length, sum_by, AllPairs, Contains, refl, sym, ap, ap₂, ◌∙◌, subst, inl, inr, arith}
+use Rattle.std.proofs.Common.{◌≡◌, ◌≢◌, ◌+◌, ◌*◌, ℕ, ◌≤◌, Bool, true, [], ◌∷◌, length, sum_by, Contains, refl, sym, ap, ap₂, ◌∙◌, subst, inl, inr, arith}
 use Rattle.std.proofs.lemmas.Bool.{cases_Bool, cases_eq, eqb-true, eq-eqb, true≢false}
 use Rattle.classes.specs.Classes.{label}
 use Rattle.map_lists.specs.Lists.{Lists}
-use Rattle.map_theory.specs.Maps.{Dart, HasDart, IsSimpleMap, IsPlane, list_of, follows, face_step, face_classes, dart_number, place_of, edge_count, vertex_count, face_count, component_count}
-use Rattle.map_theory.specs.Paths.{SameFace}
+use Rattle.map_theory.specs.Maps.{Dart, HasDart, IsSimpleMap, IsPlane, list_of, follows, face_step, face_classes, dart_number, place_of, edge_count, vertex_count, component_count}
 use Rattle.map_theory.proofs.EntryLemmas.{Contains-here}
 use Rattle.map_theory.proofs.DartLemmas.{HasDart-face_step, place_of-lt-length}
 use Rattle.plane_laws.specs.Laws.{IsTriangle}

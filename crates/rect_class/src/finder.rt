@@ -1,11 +1,13 @@
 //! The outer faces of maps of the class that counts and corners tell: no map is made of their lists.
-ghost use Rattle.std.specs.Prelude.{◌≡◌, ◌≢◌, ◌≤◌, ◌<◌, ◌+◌, ◌*◌, ⊤, ℕ, length, slice_index, sum_by, AllPairs, Contains, IsTrue, MatchOption, IfOk};
-ghost use Rattle.map_theory.specs.Maps.{IsSimpleMap, IsPlane, HasDart, component_count, entry_after, follows, list_of};
+ghost use Rattle.std.specs.Prelude.{◌≡◌, ◌≤◌, ◌<◌, ◌+◌, ◌*◌, ⊤, ℕ, length, slice_index, sum_by, IsTrue, MatchOption, IfOk};
+ghost use Rattle.map_theory.specs.Maps.{IsSimpleMap, HasDart, follows, list_of};
 ghost use Rattle.rect_check.specs.Loops.{IsFrame};
 ghost use Rattle.rect_class.specs.RectMaps.{IsRectMap};
 ghost use Rattle.rect_class.specs.Corners.{IsRound};
+ghost use Rattle.rect_class.specs.Counts.{HasCounts};
 
-use crate::corners::{are_closed, entry_behind, has_diagonal};
+use crate::corners::{are_closed, has_diagonal};
+use crate::ring::Ring;
 use conn_parts::plane_count;
 use euler_faces::Counter;
 use half_edges::{Rotations, VertexId};
@@ -21,20 +23,6 @@ fn is_full(lists: &Rotations) -> bool
     lists.len() >= 5 && lists.total() == 6 * lists.len() - 14
 }
 
-// Returns the entry after `u` in a list that has it, cyclically.
-fn entry_next(us: &[u16], u: u16) -> u16
-    requires distinct { AllPairs ◌≢◌ us.now }
-    requires some { Contains us.now u }
-    ensures { result ≡ entry_after u us.now }
-{
-    for k in 0..us.len() {
-        if us[k] == u {
-            return entry_behind(us, k);
-        }
-    }
-    u
-}
-
 /// Returns the vertex to which the face of the dart from `u` to `v` goes on, by the list of `v`.
 pub fn next_on_face(lists: &Rotations, u: VertexId, v: VertexId) -> VertexId
     requires simple { IsSimpleMap lists.now }
@@ -42,7 +30,10 @@ pub fn next_on_face(lists: &Rotations, u: VertexId, v: VertexId) -> VertexId
     ensures next { result.0 ≡ follows lists.now v.0 u.0 }
     ensures dart { HasDart lists.now v.0 result.0 }
 {
-    VertexId(entry_next(lists.list(usize::from(v.0)), u.0))
+    let ring = Ring {
+        us: lists.list(usize::from(v.0)),
+    };
+    VertexId(ring.next(u.0))
 }
 
 // Says whether a walk from 0 past `four` to `s` and `e` is at 0 and the top again, past four vertices.
@@ -91,12 +82,7 @@ fn confirmed(
     lists: &Rotations,
     four: OuterFour,
 ) -> Result<Option<OuterFour>, AllocError>
-    requires simple { IsSimpleMap lists.now }
-    requires few { length lists.now < 4096 }
-    requires plane { IsPlane lists.now }
-    requires connected { component_count lists.now ≡ 1 }
-    requires large { 5 ≤ length lists.now }
-    requires full { sum_by length lists.now + 14 ≡ 6 * length lists.now }
+    requires counts { HasCounts lists.now }
     requires frame { IsFrame lists.now four.top.0 four.right.0 four.bottom.0 }
     ensures { IfOk result (λ found. MatchOption found ⊤ (λ f. IsRectMap lists.now × IsFrame lists.now f.top.0 f.right.0 f.bottom.0)) }
 {
@@ -110,19 +96,11 @@ fn confirmed(
     Ok(None)
 }
 
-// Returns the outer face of a map with so many components, and else the counts of one of the class.
-fn counted(alloc: Global, lists: &Rotations, parts: u32) -> Result<Option<OuterFour>, AllocError>
-    requires simple { IsSimpleMap lists.now }
-    requires few { length lists.now < 4096 }
-    requires plane { IsPlane lists.now }
-    requires parts { parts ≡ component_count lists.now }
-    requires large { 5 ≤ length lists.now }
-    requires full { sum_by length lists.now + 14 ≡ 6 * length lists.now }
+// Returns the outer face of a map with the counts of one of the class, where it is shown to be one.
+fn counted(alloc: Global, lists: &Rotations) -> Result<Option<OuterFour>, AllocError>
+    requires counts { HasCounts lists.now }
     ensures { IfOk result (λ found. MatchOption found ⊤ (λ f. IsRectMap lists.now × IsFrame lists.now f.top.0 f.right.0 f.bottom.0)) }
 {
-    if parts != 1 {
-        return Ok(None);
-    }
     match outer_face(lists) {
         Some(four) => confirmed(alloc, lists, four),
         None => Ok(None),
@@ -161,7 +139,12 @@ impl FrameFinder {
             return Ok(None);
         }
         match plane_count(&mut self.counter, lists, 3) {
-            Ok(count) => counted(self.alloc, lists, count.c),
+            Ok(count) => {
+                if count.c != 1 {
+                    return Ok(None);
+                }
+                counted(self.alloc, lists)
+            }
             Err(_) => Ok(None),
         }
     }

@@ -7,6 +7,7 @@ mod biconnected;
 mod corners;
 mod faces;
 mod finder;
+mod ring;
 mod triangles;
 mod upper;
 
