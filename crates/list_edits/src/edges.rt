@@ -8,6 +8,36 @@ ghost use Rattle.plane_laws.specs.WithEdge.{with_edge_after as lists_with_edge};
 use map_lists::Rotations;
 use std::alloc::{AllocError, Global};
 
+// An edge more, between `u` and `v`: at `u` it stands directly after `a`, and at `v` directly after `c`.
+#[derive(Clone, Copy)]
+struct NewEdge {
+    u: u16,
+    a: u16,
+    v: u16,
+    c: u16,
+}
+
+impl NewEdge {
+    // Appends the list `us` of vertex `w`, with the edge.
+    fn push_row(
+        &self,
+        alloc: Global,
+        new: &mut Rotations,
+        us: &[u16],
+        w: usize,
+    ) -> Result<(), AllocError>
+        ensures { OnOk result (new.new ≡ new.old ++ row_with_edge self.now.u self.now.a self.now.v self.now.c w us.now ∷ []) }
+    {
+        if w == self.v as usize {
+            push_with(alloc, new, us, self.c, self.u)
+        } else if w == self.u as usize {
+            push_with(alloc, new, us, self.a, self.v)
+        } else {
+            new.push(us)
+        }
+    }
+}
+
 /// The lists with an edge between two vertices more: `v` stands directly after `a` in the list of `u`, and `u`
 /// directly after `c` in that of `v`; at the end, where the list has no such entry. It fails only when out of memory.
 pub fn with_edge_after(
@@ -21,32 +51,11 @@ pub fn with_edge_after(
     ensures { IfOk result (λ new. new ≡ lists_with_edge lists.now u a v c) }
 {
     let mut new = Rotations::with_capacity(alloc, lists.total(), lists.len())?;
+    let edge = NewEdge { u, a, v, c };
     for w in 0..lists.len() {
-        push_row(alloc, &mut new, lists.list(w), w, u, a, v, c)?;
+        edge.push_row(alloc, &mut new, lists.list(w), w)?;
     }
     Ok(new)
-}
-
-// Appends the list of a vertex.
-fn push_row(
-    alloc: Global,
-    new: &mut Rotations,
-    us: &[u16],
-    w: usize,
-    u: u16,
-    a: u16,
-    v: u16,
-    c: u16,
-) -> Result<(), AllocError>
-    ensures { OnOk result (new.new ≡ new.old ++ row_with_edge u a v c w us.now ∷ []) }
-{
-    if w == v as usize {
-        push_with(alloc, new, us, c, u)
-    } else if w == u as usize {
-        push_with(alloc, new, us, a, v)
-    } else {
-        new.push(us)
-    }
 }
 
 // Appends a list with an entry directly after its first `a`, or at its end where it has none.

@@ -15,6 +15,7 @@ ghost use Rattle.refusals.specs.Conditions.{IfRefused};
 use half_edges::HalfMap;
 use map_lists::{DartId, Rotations};
 use pg_plane::RectFigure;
+use rect_dual::figures::RectDrawer;
 use rect_dual::{Label, Labelling};
 use refusals::Unserved;
 use std::alloc::{AllocError, Global};
@@ -75,4 +76,15 @@ pub fn rect_figure(alloc: Global, lists: &Rotations) -> Result<RectFigure, Unser
     ensures refused { IfErr result (IfRefused (BreaksRect lists.now)) }
 {
     rect_dual::figures::rect_figure(alloc, lists)
+}
+
+/// Draws the map of `lists` by a `drawer` that may have drawn others, or names the first condition that it breaks.
+pub fn next_rect_figure(drawer: &mut RectDrawer, lists: &Rotations) -> Result<RectFigure, Unserved>
+    requires some_list { 0 < length lists.now }
+    requires few_lists { length lists.now < 4096 }
+    ensures figure { IfOk result (IsRectFigure lists.now) }
+    ensures served { OnOk result (IsRectMap lists.now) }
+    ensures refused { IfErr result (IfRefused (BreaksRect lists.now)) }
+{
+    drawer.figure(lists)
 }

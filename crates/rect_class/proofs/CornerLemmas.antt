@@ -10,6 +10,7 @@ use Rattle.map_theory.proofs.DartLemmas.{place_after, entry_after-place, place_o
 use Rattle.plane_peeling.specs.Restricted.{IsFaceOfThree}
 use Rattle.plane_peeling.proofs.OuterCycles.{IsFaceOfThree-turned, IsFaceOfThree-triangle}
 use Rattle.rect_check.specs.Duals.{HasFrame, top_vertex, right_vertex, bottom_vertex}
+use Rattle.rect_check.specs.Loops.{IsFrame}
 use Rattle.rect_class.specs.RectMaps.{IsOuter, HasTriangles, NoneSeparating}
 use Rattle.rect_class.specs.Loops.{IsFrameDart}
 use Rattle.rect_class.specs.Corners.{IsSide, IsClosedOver, AreClosed, ComesBefore, HasDiagonal}
@@ -60,6 +61,12 @@ AreClosed-before lists degrees simple each v u d =
     let over : (v u : ℕ) → HasDart lists v u → ComesBefore degrees u v → IsClosedOver lists v u =
     λ v u h. All-contains (λ x. ComesBefore degrees x v → IsClosedOver lists v x) (list_of lists v) u (All-from_get_or (λ x. ComesBefore degrees x v → IsClosedOver lists v x) (list_of lists v) 0 (each v h.0)) h.1 in
     ⊎_elim (λ b. inl (over v u d b)) (λ b. inr (over u v (simple.both_ways v u d) b)) (ComesBefore-one degrees u v (simple.no_loop v u d))
+
+-- no edge joins two of a frame across it, by the numbers of the frame
+pub uncrossed_frame : (lists : Lists) (d p q : ℕ) → IsFrame lists d p q → ¬ HasDiagonal lists 0 d p q → ¬ HasDiagonal lists 0 (top_vertex lists) (right_vertex lists) (bottom_vertex lists)
+uncrossed_frame lists d p q frame none =
+    subst (λ x. ¬ HasDiagonal lists 0 x (right_vertex lists) (bottom_vertex lists)) frame.top
+    (subst (λ x. ¬ HasDiagonal lists 0 d x (bottom_vertex lists)) frame.right (subst (λ x. ¬ HasDiagonal lists 0 d p x) frame.bottom none))
 
 module _ (lists : Lists) (simple : IsSimpleMap lists) (frame : HasFrame lists) (faces : HasTriangles lists) (uncrossed : ¬ HasDiagonal lists 0 (top_vertex lists) (right_vertex lists) (bottom_vertex lists)) where
   -- a dart of the frame leads to a vertex that is not joined to the next but one

@@ -14,7 +14,7 @@ use Rattle.rect_class.specs.RectMaps.{IsOuter}
 use Rattle.rect_class.specs.Loops.{IsDart, IsFrameDart}
 
 -- four distinct numbers
-distinct_four : (a b c e : ℕ) → a ≢ b → a ≢ c → a ≢ e → b ≢ c → b ≢ e → c ≢ e → AllPairs ◌≢◌ (a ∷ b ∷ c ∷ e ∷ [])
+pub distinct_four : (a b c e : ℕ) → a ≢ b → a ≢ c → a ≢ e → b ≢ c → b ≢ e → c ≢ e → AllPairs ◌≢◌ (a ∷ b ∷ c ∷ e ∷ [])
 distinct_four a b c e ab ac ae bc be ce zero zero d l m = absurd (omega arith)
 distinct_four a b c e ab ac ae bc be ce zero (suc zero) d l m = ab
 distinct_four a b c e ab ac ae bc be ce zero (suc (suc zero)) d l m = ac

@@ -7,4 +7,5 @@ mod TriangleLemmas
 mod CornerLemmas
 mod InnerLemmas
 mod RectMapLemmas
+mod Counted
 mod Refused

@@ -1,5 +1,5 @@
 -- Triangles of edges over an edge, by the lists of its ends.
-use Rattle.std.specs.Prelude.{ℕ, ◌≡◌, ◌<◌, ◌⊎◌, List, slice_index, Contains}
+use Rattle.std.specs.Prelude.{ℕ, ◌≡◌, ◌≢◌, ◌<◌, ◌⊎◌, List, slice_index, Contains}
 use Rattle.map_lists.specs.Lists.{Lists}
 use Rattle.map_theory.specs.Maps.{HasDart, list_of, follows}
 
@@ -26,3 +26,10 @@ ComesBefore degrees u v = (slice_index degrees u < slice_index degrees v) ⊎ ((
 -- an edge joins two of four vertices across them
 abbrev pub HasDiagonal : Lists → ℕ → ℕ → ℕ → ℕ → Type 0
 HasDiagonal lists s d p q = Contains (list_of lists s) p ⊎ Contains (list_of lists d) q
+
+-- a walk from 0 past d, p and q to s and e is at 0 and d again, past four vertices
+pub record IsRound (d p q s e : ℕ) : Type 0 where
+  pub back : s ≡ 0
+  pub again : e ≡ d
+  pub across : p ≢ 0
+  pub apart : q ≢ d

@@ -5,3 +5,4 @@ pub mod Laws
 pub mod Loops
 pub mod Upper
 pub mod Corners
+pub mod Counts

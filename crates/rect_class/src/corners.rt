@@ -7,6 +7,7 @@ ghost use Rattle.rect_check.specs.Loops.{IsFrame};
 ghost use Rattle.rect_class.specs.RectMaps.{HasTriangles, NoneSeparating};
 ghost use Rattle.rect_class.specs.Corners.{IsSide, IsClosedOver, AreClosed, ComesBefore, HasDiagonal};
 
+use crate::ring::Ring;
 use crate::upper::has_upper;
 use half_edges::{Rotations, VertexId};
 use rect_check::OuterFour;
@@ -36,35 +37,6 @@ fn are_sides(marks: &[u16], stamp: u16, ws: &[u16], last: u16, next: u16) -> boo
     true
 }
 
-// Returns the entry after the one at place `k` of a list, cyclically.
-fn entry_behind(us: &[u16], k: usize) -> u16
-    requires distinct { AllPairs ◌≢◌ us.now }
-    requires place { k < length us.now }
-    ensures { result ≡ entry_after (slice_index us.now k) us.now }
-{
-    if k + 1 < us.len() { us[k + 1] } else { us[0] }
-}
-
-// Returns the entry before the one at place `k` of a list, cyclically.
-fn entry_ahead(us: &[u16], k: usize) -> u16
-    requires distinct { AllPairs ◌≢◌ us.now }
-    requires place { k < length us.now }
-    ensures { entry_after result us.now ≡ slice_index us.now k }
-{
-    if 0 < k { us[k - 1] } else { us[us.len() - 1] }
-}
-
-// Says whether vertex `u` comes before `v` by its degree, or by its number where they have one degree.
-fn comes_before(degrees: &[usize], u: u16, v: u16) -> bool
-    requires u { u < length degrees.now }
-    requires v { v < length degrees.now }
-    ensures { IsTrue result ↔ ComesBefore degrees.now u v }
-{
-    let first = degrees[usize::from(u)];
-    let second = degrees[usize::from(v)];
-    first < second || (first == second && u < v)
-}
-
 // A vertex whose neighbours have its stamp, with the lists, the degrees and the marks of all vertices.
 #[derive(Clone, Copy)]
 struct Star<'a> {
@@ -82,13 +54,24 @@ struct Star<'a> {
 }
 
 impl Star<'_> {
+    // Says whether `u` comes before the vertex by its degree, or by its number where they have one degree.
+    fn comes_after(&self, u: u16) -> bool
+        requires { u < length self.now.lists.now }
+        ensures { IsTrue result ↔ ComesBefore self.now.degrees.now u self.now.v }
+    {
+        let first = self.degrees[usize::from(u)];
+        let second = self.degrees[usize::from(self.v)];
+        first < second || (first == second && u < self.v)
+    }
+
     // Says whether each common neighbour of the vertex and of number `k` of its list stands next to that in the list.
     fn is_closed_over(&self, k: usize) -> bool
         requires { k < length (list_of self.now.lists.now self.now.v) }
         ensures { OnTrue result (IsClosedOver self.now.lists.now self.now.v (slice_index (list_of self.now.lists.now self.now.v) k)) }
     {
         let us = self.lists.list(usize::from(self.v));
-        let (last, next) = (entry_ahead(us, k), entry_behind(us, k));
+        let ring = Ring { us };
+        let (last, next) = (ring.ahead(k), ring.behind(k));
         are_sides(
             self.marks,
             self.v + 1,
@@ -104,11 +87,7 @@ impl Star<'_> {
         ensures { OnTrue result (ComesBefore self.now.degrees.now (slice_index (list_of self.now.lists.now self.now.v) k) self.now.v
             → IsClosedOver self.now.lists.now self.now.v (slice_index (list_of self.now.lists.now self.now.v) k)) }
     {
-        !comes_before(
-            self.degrees,
-            self.lists.list(usize::from(self.v))[k],
-            self.v,
-        ) || self.is_closed_over(k)
+        !self.comes_after(self.lists.list(usize::from(self.v))[k]) || self.is_closed_over(k)
     }
 
     // Says whether each common neighbour of the vertex and of one of its neighbours that come before it stands next to
@@ -139,7 +118,7 @@ fn all_degrees(alloc: Global, lists: &Rotations) -> Result<Vec<usize>, AllocErro
 }
 
 // Says whether the common neighbours of each edge stand next to one end in the list of the other.
-fn are_closed(alloc: Global, lists: &Rotations) -> Result<bool, AllocError>
+pub(crate) fn are_closed(alloc: Global, lists: &Rotations) -> Result<bool, AllocError>
     requires simple { IsSimpleMap lists.now }
     requires few { length lists.now < 4096 }
     ensures { IfOk result (λ closed. OnTrue closed (AreClosed lists.now)) }
@@ -162,7 +141,7 @@ fn are_closed(alloc: Global, lists: &Rotations) -> Result<bool, AllocError>
 }
 
 // Says whether an edge joins two of the four vertices of the outer face across it.
-fn has_diagonal(lists: &Rotations, four: OuterFour) -> bool
+pub(crate) fn has_diagonal(lists: &Rotations, four: OuterFour) -> bool
     requires first { 0 < length lists.now }
     requires top { four.top.0 < length lists.now }
     ensures { IsTrue result ↔ HasDiagonal lists.now 0 four.top.0 four.right.0 four.bottom.0 }

@@ -6,10 +6,13 @@ ghost use Rattle.rect_class.specs.Laws.{RectMapsBreakNothing, BiconnectedAreRect
 mod biconnected;
 mod corners;
 mod faces;
+mod finder;
+mod ring;
 mod triangles;
 mod upper;
 
 pub use biconnected::rect_map;
+pub use finder::{FrameFinder, next_on_face};
 
 /// A map of the class breaks no condition.
 pub fn biconnected_break_nothing()

@@ -4,4 +4,5 @@
 mod draw;
 mod tables;
 
+pub(crate) use draw::framed;
 pub use draw::{rect_draw, rect_draw_by_lists};

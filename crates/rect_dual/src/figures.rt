@@ -2,5 +2,7 @@
 //! condition of the job that the record breaks.
 
 mod draw;
+mod drawer;
 
 pub use draw::rect_figure;
+pub use drawer::RectDrawer;

@@ -34,39 +34,40 @@ fn lower_rows(alloc: Global, more: &Rotations, order: &Order) -> Result<Rotation
     Ok(rows)
 }
 
-// The lists of the closed map of one with these lists.
-fn closed_of(
-    alloc: Global,
-    map: &HalfMap,
-    lists: &Rotations,
-    frame: Frame,
-) -> Result<Rotations, AllocError>
-    requires lists { lists.now ≡ map.now.lists }
-    ensures { IfOk result (λ more. more ≡ closed map.now.lists frame.left.0 frame.top.0 frame.right.0 frame.bottom.0) }
-{
-    map.facts();
-    with_closing_edge(alloc, lists, frame)
-}
-
 // A rectangular order of a map with this frame, and its rows: those of the map with an edge more, between the top and
 // the bottom.
 pub(crate) fn framed_order(
     alloc: Global,
-    map: &HalfMap,
     lists: &Rotations,
     frame: Frame,
 ) -> Result<FramedOrder, AllocError>
-    requires lists { lists.now ≡ map.now.lists }
+    requires few { length lists.now < 4096 }
+    requires class { IsRectMap lists.now frame.left.0 frame.top.0 frame.right.0 frame.bottom.0 }
+    requires inner { frame.inner.0 ≡ follows lists.now frame.bottom.0 frame.left.0 }
+    ensures rows { IfOk result (λ made. HasLowerRows lists.now frame.left.0 frame.top.0 frame.right.0 frame.bottom.0 (vertices_of made.order) made.order.rank made.rows) }
+    ensures ranks { IfOk result (λ made. All (λ k. k < length made.order.rank) made.order.rank) }
+{
+    rect_orders::closed_is_triangulation();
+    order_drawings::order_tables::ranks_are_places();
+    let more = with_closing_edge(alloc, lists, frame)?;
+    let order = rect_order(alloc, &more, frame)?;
+    let rows = lower_rows(alloc, &more, &order)?;
+    Ok(FramedOrder { order, rows })
+}
+
+// That of a half-edge map.
+pub(crate) fn map_order(
+    alloc: Global,
+    map: &HalfMap,
+    frame: Frame,
+) -> Result<FramedOrder, AllocError>
     requires class { IsRectMap map.now.lists frame.left.0 frame.top.0 frame.right.0 frame.bottom.0 }
     requires inner { frame.inner.0 ≡ follows map.now.lists frame.bottom.0 frame.left.0 }
     ensures rows { IfOk result (λ made. HasLowerRows map.now.lists frame.left.0 frame.top.0 frame.right.0 frame.bottom.0 (vertices_of made.order) made.order.rank made.rows) }
     ensures ranks { IfOk result (λ made. All (λ k. k < length made.order.rank) made.order.rank) }
 {
     map.facts();
-    rect_orders::closed_is_triangulation();
-    order_drawings::order_tables::ranks_are_places();
-    let more = closed_of(alloc, map, lists, frame)?;
-    let order = rect_order(alloc, &more, frame)?;
-    let rows = lower_rows(alloc, &more, &order)?;
-    Ok(FramedOrder { order, rows })
+    let lists = map.rotations(alloc)?;
+    let made = framed_order(alloc, &lists, frame)?;
+    Ok(made)
 }

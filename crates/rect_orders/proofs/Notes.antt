@@ -8,7 +8,7 @@ use Rattle.map_theory.specs.Maps.{list_of}
 use Rattle.plane_peeling.proofs.RestrictedMaps.{cases_Contains}
 use Rattle.canon_order.specs.Marks.{is_set, IsTally, IsUnmarked, IsNoted}
 use Rattle.canon_order.proofs.Marks.{IsTally-none}
-use Rattle.rect_orders.specs.Contours.{IsPrepared}
+use Rattle.rect_orders.specs.Contours.{IsStacked, IsPrepared}
 
 -- nothing is removable where none is gone
 pub IsPrepared-begin : (lists : Lists) (t s : ℕ) (marked : List Bool) (near : List ℕ) (gone : List Bool) (away stack : List ℕ) → IsTally lists marked near → IsUnmarked lists gone away → stack ≡ [] → IsPrepared lists t s marked near gone away stack
@@ -41,4 +41,17 @@ IsPrepared-taken lists t s marked near gone away stack v marked' near' gone' awa
           n.kept u (h.stacked u record { marked_is = q.0; not_last = removable.not_last; not_first = removable.not_first; two = sym q.1 ∙ removable.two; two_gone = omega (arith, e, two) })
     ]
   ];
+}
+
+-- the stack by the marks alone
+pub IsStacked-prepared : (lists : Lists) (t s : ℕ) (marked : List Bool) (near : List ℕ) (gone : List Bool) (away stack : List ℕ) → IsPrepared lists t s marked near gone away stack → IsStacked t s marked near away stack
+IsStacked-prepared lists t s marked near gone away stack h = record { vertices = subst (λ n. All (λ v. v < n) stack) (sym h.tally.marks_of_all) h.vertices; stacked = h.stacked }
+
+-- with another such stack
+pub IsPrepared-stacked : (lists : Lists) (t s : ℕ) (marked : List Bool) (near : List ℕ) (gone : List Bool) (away stack stack' : List ℕ) → IsPrepared lists t s marked near gone away stack → IsStacked t s marked near away stack' → IsPrepared lists t s marked near gone away stack'
+IsPrepared-stacked lists t s marked near gone away stack stack' h new = record {
+  tally = h.tally;
+  tally_gone = h.tally_gone;
+  vertices = subst (λ n. All (λ v. v < n) stack') h.tally.marks_of_all new.vertices;
+  stacked = new.stacked;
 }

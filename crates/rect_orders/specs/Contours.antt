@@ -16,6 +16,11 @@ pub record LooksRemovable (t s : ℕ) (marked : List Bool) (near away : List ℕ
   pub two : slice_index near v ≡ 2
   pub two_gone : 2 ≤ slice_index away v
 
+-- vertices alone are on the stack, and with them all that are removable
+pub record IsStacked (t s : ℕ) (marked : List Bool) (near away stack : List ℕ) : Type 0 where
+  pub vertices : All (λ v. v < length marked) stack
+  pub stacked : (v : ℕ) → LooksRemovable t s marked near away v → Contains stack v
+
 -- the counts are right, vertices alone are on the stack, and with them all that are removable
 pub record IsPrepared (lists : Lists) (t s : ℕ) (marked : List Bool) (near : List ℕ) (gone : List Bool) (away stack : List ℕ) : Type 0 where
   pub tally : IsTally lists marked near

@@ -4,13 +4,14 @@ use crate::method::Method;
 use half_edges::Rotations;
 use pg_plane::RectFigure;
 use pigale_words::Form;
-use rect_dual::figures::rect_figure;
+use rect_dual::figures::RectDrawer;
 use refusals::Unserved;
 use std::alloc::{AllocError, Global};
 
 /// Draws a rectangle for each vertex.
 #[derive(Drop)]
 pub struct Rect {
+    drawer: RectDrawer,
     printer: FormPrinter,
 }
 
@@ -27,12 +28,13 @@ impl Method for Rect {
 
     fn new(alloc: Global) -> Rect {
         Rect {
+            drawer: RectDrawer::new(alloc),
             printer: FormPrinter::new(alloc),
         }
     }
 
-    fn figure(&mut self, alloc: Global, lists: &Rotations) -> Result<RectFigure, Unserved> {
-        rect_figure(alloc, lists)
+    fn figure(&mut self, _alloc: Global, lists: &Rotations) -> Result<RectFigure, Unserved> {
+        self.drawer.figure(lists)
     }
 
     fn print(

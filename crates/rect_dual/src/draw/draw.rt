@@ -59,27 +59,25 @@ fn figure_at(alloc: Global, tables: &BoxTables, ranks: &Counts) -> Result<RectFi
     Ok(RectFigure { x1, x2, y1, y2 })
 }
 
-// The dual of a map with these lists and this frame.
-fn framed(
+// The dual of the map with these lists and this frame.
+pub(crate) fn framed(
     alloc: Global,
-    map: &HalfMap,
     lists: &Rotations,
     frame: Frame,
 ) -> Result<RectFigure, AllocError>
-    requires lists { lists.now ≡ map.now.lists }
-    requires class { IsRectMap map.now.lists frame.left.0 frame.top.0 frame.right.0 frame.bottom.0 }
-    requires inner { frame.inner.0 ≡ follows map.now.lists frame.bottom.0 frame.left.0 }
-    ensures rects { IfOk result (HasRects map.now.lists) }
-    ensures dual { IfOk result (IsDualFor map.now.lists frame.left.0 frame.top.0 frame.right.0 frame.bottom.0) }
-    ensures labelling { IfOk result (IsByLabelling map.now.lists frame.left.0 frame.top.0 frame.right.0 frame.bottom.0) }
+    requires few { length lists.now < 4096 }
+    requires class { IsRectMap lists.now frame.left.0 frame.top.0 frame.right.0 frame.bottom.0 }
+    requires inner { frame.inner.0 ≡ follows lists.now frame.bottom.0 frame.left.0 }
+    ensures rects { IfOk result (HasRects lists.now) }
+    ensures dual { IfOk result (IsDualFor lists.now frame.left.0 frame.top.0 frame.right.0 frame.bottom.0) }
+    ensures labelling { IfOk result (IsByLabelling lists.now frame.left.0 frame.top.0 frame.right.0 frame.bottom.0) }
 {
-    map.facts();
     rect_orders::rect_order_is_run();
     order_drawings::order_runs::order_is_run();
     rect_runs::rect_boxes::boxes_are_dual();
     rect_orders::rect_duals::boxes_are_dual_of_map();
     rect_orders::rect_labellings::boxes_by_labelling();
-    let made = framed_order(alloc, map, lists, frame)?;
+    let made = framed_order(alloc, lists, frame)?;
     let tables = box_tables(alloc, &made.rows)?;
     let figure = figure_at(alloc, &tables, &made.order.rank)?;
     Ok(figure)
@@ -120,5 +118,6 @@ pub fn rect_draw_by_lists(
     ensures dual { IfOk result (λ figure. (s d p t : ℕ) → dart_at map.now base.0 ≡ Some (s, d) → IsRectMap map.now.lists s d p t → IsDualFor map.now.lists s d p t figure) }
     ensures labelling { IfOk result (λ figure. (s d p t : ℕ) → dart_at map.now base.0 ≡ Some (s, d) → IsRectMap map.now.lists s d p t → IsByLabelling map.now.lists s d p t figure) }
 {
-    framed(alloc, map, lists, frame_of(map, base))
+    map.facts();
+    framed(alloc, lists, frame_of(map, base))
 }

@@ -8,7 +8,7 @@ ghost use Rattle.rect_dual.specs.Labellings.{IsLabellingIn};
 use crate::labels::darts::Ranked;
 use crate::labels::labels::Labelling;
 use crate::labels::tables::run_tables;
-use crate::orders::framed_order;
+use crate::orders::map_order;
 use crate::rect_turns::row_turns;
 use half_edges::{DartId, HalfMap};
 use rect_orders::rect_order::{Frame, frame_of};
@@ -25,8 +25,7 @@ fn framed(alloc: Global, map: &HalfMap, frame: Frame) -> Result<Labelling, Alloc
     rect_orders::rect_order_is_run();
     order_drawings::order_runs::order_is_run();
     rect_orders::rect_labellings::labels_of_order();
-    let lists = map.rotations(alloc)?;
-    let made = framed_order(alloc, map, &lists, frame)?;
+    let made = map_order(alloc, map, frame)?;
     let turns = row_turns(alloc, &made.rows)?;
     let tables = run_tables(alloc, &made.rows, &turns)?;
     let ranked = Ranked {

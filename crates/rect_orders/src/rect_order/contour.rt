@@ -6,7 +6,7 @@
 ghost use Rattle.std.specs.Prelude.{◌≡◌, ◌<◌, ◌↔◌, ℕ, false, true, length, All, IsTrue, IfOk};
 ghost use Rattle.map_theory.specs.Maps.{IsSimpleMap};
 ghost use Rattle.canon_order.specs.Marks.{is_set, IsTally, IsTaken};
-ghost use Rattle.rect_orders.specs.Contours.{LooksRemovable, IsPrepared};
+ghost use Rattle.rect_orders.specs.Contours.{LooksRemovable, IsStacked, IsPrepared};
 
 use canon_order::cycle_marks::{leave_cycle, mark};
 use half_edges::Rotations;
@@ -39,40 +39,47 @@ pub(crate) fn take_off(
     Ok(())
 }
 
-// Whether a vertex may be taken off next.
-fn is_removable(marked: &[bool], near: &[u16], away: &[u16], t: u16, s: u16, v: u16) -> bool
-    requires marked { v < length marked.now }
-    requires near { v < length near.now }
-    requires away { v < length away.now }
-    ensures { IsTrue result ↔ LooksRemovable t s marked.now near.now away.now v }
-{
-    marked[v as usize] && v != t && v != s && near[v as usize] == 2 && away[v as usize] >= 2
+// The marks of the outer cycle and the counts of all vertices, with the two vertices that stay to the last.
+#[derive(Clone, Copy)]
+pub(crate) struct Cycle<'a> {
+    pub(crate) marked: &'a [bool],
+    pub(crate) near: &'a [u16],
+    pub(crate) away: &'a [u16],
+    pub(crate) bottom: u16,
+    pub(crate) left: u16,
+    ghost all_near: { length near.now ≡ length marked.now },
+    ghost all_away: { length away.now ≡ length marked.now },
 }
 
-// A vertex that may be taken off next, where there is one.
-pub(crate) fn removable_vertex(
-    marked: &[bool],
-    near: &[u16],
-    gone: &[bool],
-    away: &[u16],
-    stack: &mut Vec<u16>,
-    lists: &Rotations,
-    t: u16,
-    s: u16,
-) -> u16
-    requires prepared { IsPrepared lists.now t s marked.now near.now gone.now away.now stack.old.items }
-    requires some { (v : ℕ) × LooksRemovable t s marked.now near.now away.now v }
-    ensures removable { LooksRemovable t s marked.now near.now away.now result }
-    ensures vertex { result < length lists.now }
-    ensures prepared { IsPrepared lists.now t s marked.now near.now gone.now away.now stack.new.items }
-{
-    let _gone = gone;
-    while stack.len() > 0 {
-        let v = stack[stack.len() - 1];
-        if is_removable(marked, near, away, t, s, v) {
-            return v;
-        }
-        stack.pop();
+impl Cycle<'_> {
+    // Says whether a vertex may be taken off next.
+    fn is_removable(&self, v: u16) -> bool
+        requires { v < length self.now.marked.now }
+        ensures { IsTrue result ↔ LooksRemovable self.now.bottom self.now.left self.now.marked.now self.now.near.now self.now.away.now v }
+    {
+        self.marked[v as usize]
+            && v != self.bottom
+            && v != self.left
+            && self.near[v as usize] == 2
+            && self.away[v as usize] >= 2
     }
-    t
+
+    // Returns a vertex that may be taken off next, where there is one. What stands on the stack above it is taken away.
+    pub(crate) fn removable_vertex(&self, stack: &mut Vec<u16>) -> u16
+        requires stacked { IsStacked self.now.bottom self.now.left self.now.marked.now self.now.near.now self.now.away.now stack.old.items }
+        requires some { (v : ℕ) × LooksRemovable self.now.bottom self.now.left self.now.marked.now self.now.near.now self.now.away.now v }
+        ensures removable { LooksRemovable self.now.bottom self.now.left self.now.marked.now self.now.near.now self.now.away.now result }
+        ensures vertex { result < length self.now.marked.now }
+        ensures stacked { IsStacked self.now.bottom self.now.left self.now.marked.now self.now.near.now self.now.away.now stack.new.items }
+    {
+        let cycle = *self;
+        while stack.len() > 0 {
+            let v = stack[stack.len() - 1];
+            if cycle.is_removable(v) {
+                return v;
+            }
+            stack.pop();
+        }
+        cycle.bottom
+    }
 }

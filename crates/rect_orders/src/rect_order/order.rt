@@ -6,130 +6,133 @@ ghost use Rattle.rect_orders.specs.Orders.{IsRectOrder};
 ghost use Rattle.rect_orders.specs.Contours.{IsFresh, IsPrepared, IsClosedOf, IsClosedAt, IsContourAt, IsOrderAt};
 
 use crate::rect_order::closing::Frame;
-use crate::rect_order::contour::{removable_vertex, take_off};
+use crate::rect_order::contour::{Cycle, take_off};
 use canon_order::cycle_marks::mark_three;
 use canon_order::{Order, push_three, turned_order};
 use half_edges::Rotations;
 use std::alloc::{AllocError, Global};
 
-// Takes the top off, and then the right vertex.
-fn begin(
-    marked: &mut [bool],
-    near: &mut [u16],
-    gone: &mut [bool],
-    away: &mut [u16],
-    stack: &mut Vec<u16>,
-    lists: &Rotations,
+// The lists of a closed map, with the vertices of its outer face.
+#[derive(Clone, Copy)]
+struct Closed<'a> {
+    lists: &'a Rotations,
     frame: Frame,
-) -> Result<(), AllocError>
-    requires class { (map : Lists) × IsClosedAt lists.now map frame }
-    requires few { length lists.now < 4096 }
-    requires fresh { IsFresh lists.now marked.old near.old gone.old away.old stack.old.items }
-    ensures prepared { IfOk result (λ _. IsPrepared lists.now frame.bottom.0 frame.left.0 marked.new near.new gone.new away.new stack.new.items) }
-    ensures contour { IfOk result (λ _. IsContourAt lists.now frame gone.new marked.new (frame.right.0 ∷ frame.top.0 ∷ [])) }
-{
-    mark_three(
-        marked,
-        near,
-        lists,
-        frame.left.0,
-        frame.top.0,
-        frame.bottom.0,
-    );
-    take_off(marked, near, gone, away, stack, lists, frame.top.0)?;
-    take_off(marked, near, gone, away, stack, lists, frame.right.0)
+    ghost few: { length lists.now < 4096 },
 }
 
-// Takes vertices off until three are left, and those too: from the last one of an order to the first.
-fn peel(
-    marked: &mut [bool],
-    near: &mut [u16],
-    gone: &mut [bool],
-    away: &mut [u16],
-    stack: &mut Vec<u16>,
-    taken: &mut Vec<u16>,
-    lists: &Rotations,
-    frame: Frame,
-) -> Result<(), AllocError>
-    requires class { (map : Lists) × IsClosedAt lists.now map frame }
-    requires few { length lists.now < 4096 }
-    requires prepared { IsPrepared lists.now frame.bottom.0 frame.left.0 marked.old near.old gone.old away.old stack.old.items }
-    requires contour { IsContourAt lists.now frame gone.old marked.old (frame.right.0 ∷ frame.top.0 ∷ []) }
-    requires begun { taken.old.items ≡ frame.top.0 ∷ frame.right.0 ∷ [] }
-    ensures { IfOk result (λ _. IsOrderAt lists.now frame (reverse taken.new.items)) }
-{
-    for _ in 5..lists.len() {
-        let v = removable_vertex(
+impl Closed<'_> {
+    // Takes the top off, and then the right vertex.
+    fn begin(
+        &self,
+        marked: &mut [bool],
+        near: &mut [u16],
+        gone: &mut [bool],
+        away: &mut [u16],
+        stack: &mut Vec<u16>,
+    ) -> Result<(), AllocError>
+        requires class { (map : Lists) × IsClosedAt self.now.lists.now map self.now.frame }
+        requires fresh { IsFresh self.now.lists.now marked.old near.old gone.old away.old stack.old.items }
+        ensures prepared { IfOk result (λ _. IsPrepared self.now.lists.now self.now.frame.bottom.0 self.now.frame.left.0 marked.new near.new gone.new away.new stack.new.items) }
+        ensures contour { IfOk result (λ _. IsContourAt self.now.lists.now self.now.frame gone.new marked.new (self.now.frame.right.0 ∷ self.now.frame.top.0 ∷ [])) }
+    {
+        let lists = self.lists;
+        let frame = self.frame;
+        mark_three(
             marked,
             near,
-            gone,
-            away,
-            stack,
             lists,
-            frame.bottom.0,
             frame.left.0,
+            frame.top.0,
+            frame.bottom.0,
         );
-        take_off(marked, near, gone, away, stack, lists, v)?;
-        taken.push(v)?;
+        take_off(marked, near, gone, away, stack, lists, frame.top.0)?;
+        take_off(marked, near, gone, away, stack, lists, frame.right.0)
     }
-    push_three(taken, frame.inner.0, frame.bottom.0, frame.left.0)
-}
 
-// Takes all vertices off, from the last one of an order to the first.
-fn take_all(
-    marked: &mut [bool],
-    near: &mut [u16],
-    gone: &mut [bool],
-    away: &mut [u16],
-    stack: &mut Vec<u16>,
-    taken: &mut Vec<u16>,
-    lists: &Rotations,
-    frame: Frame,
-) -> Result<(), AllocError>
-    requires class { (map : Lists) × IsClosedAt lists.now map frame }
-    requires few { length lists.now < 4096 }
-    requires fresh { IsFresh lists.now marked.old near.old gone.old away.old stack.old.items }
-    requires begun { taken.old.items ≡ frame.top.0 ∷ frame.right.0 ∷ [] }
-    ensures { IfOk result (λ _. IsOrderAt lists.now frame (reverse taken.new.items)) }
-{
-    begin(marked, near, gone, away, stack, lists, frame)?;
-    peel(marked, near, gone, away, stack, taken, lists, frame)
-}
+    // Takes vertices off until three are left, and those too: from the last one of an order to the first.
+    fn peel(
+        &self,
+        marked: &mut [bool],
+        near: &mut [u16],
+        gone: &mut [bool],
+        away: &mut [u16],
+        stack: &mut Vec<u16>,
+        taken: &mut Vec<u16>,
+    ) -> Result<(), AllocError>
+        requires class { (map : Lists) × IsClosedAt self.now.lists.now map self.now.frame }
+        requires prepared { IsPrepared self.now.lists.now self.now.frame.bottom.0 self.now.frame.left.0 marked.old near.old gone.old away.old stack.old.items }
+        requires contour { IsContourAt self.now.lists.now self.now.frame gone.old marked.old (self.now.frame.right.0 ∷ self.now.frame.top.0 ∷ []) }
+        requires begun { taken.old.items ≡ self.now.frame.top.0 ∷ self.now.frame.right.0 ∷ [] }
+        ensures { IfOk result (λ _. IsOrderAt self.now.lists.now self.now.frame (reverse taken.new.items)) }
+    {
+        let lists = self.lists;
+        let frame = self.frame;
+        for _ in 5..lists.len() {
+            let cycle = Cycle {
+                marked,
+                near,
+                away,
+                bottom: frame.bottom.0,
+                left: frame.left.0,
+            };
+            let v = cycle.removable_vertex(stack);
+            take_off(marked, near, gone, away, stack, lists, v)?;
+            taken.push(v)?;
+        }
+        push_three(taken, frame.inner.0, frame.bottom.0, frame.left.0)
+    }
 
-// The first two that are taken off.
-fn first_taken(alloc: Global, frame: Frame) -> Result<Vec<u16>, AllocError>
-    ensures { IfOk result (λ taken. taken.items ≡ frame.top.0 ∷ frame.right.0 ∷ []) }
-{
-    let mut taken = Vec::new(alloc);
-    taken.push(frame.top.0)?;
-    taken.push(frame.right.0)?;
-    Ok(taken)
-}
+    // Takes all vertices off, from the last one of an order to the first.
+    fn take_all(
+        &self,
+        marked: &mut [bool],
+        near: &mut [u16],
+        gone: &mut [bool],
+        away: &mut [u16],
+        stack: &mut Vec<u16>,
+        taken: &mut Vec<u16>,
+    ) -> Result<(), AllocError>
+        requires class { (map : Lists) × IsClosedAt self.now.lists.now map self.now.frame }
+        requires fresh { IsFresh self.now.lists.now marked.old near.old gone.old away.old stack.old.items }
+        requires begun { taken.old.items ≡ self.now.frame.top.0 ∷ self.now.frame.right.0 ∷ [] }
+        ensures { IfOk result (λ _. IsOrderAt self.now.lists.now self.now.frame (reverse taken.new.items)) }
+    {
+        self.begin(marked, near, gone, away, stack)?;
+        self.peel(marked, near, gone, away, stack, taken)
+    }
 
-// The vertices from the last one of an order to the first.
-fn taken_off(alloc: Global, lists: &Rotations, frame: Frame) -> Result<Vec<u16>, AllocError>
-    requires class { (map : Lists) × IsClosedAt lists.now map frame }
-    requires few { length lists.now < 4096 }
-    ensures { IfOk result (λ taken. IsOrderAt lists.now frame (reverse taken.items)) }
-{
-    let n = lists.len();
-    let mut marked = vec![in alloc; false; n]?;
-    let mut near = vec![in alloc; 0; n]?;
-    let mut gone = vec![in alloc; false; n]?;
-    let mut away = vec![in alloc; 0; n]?;
-    let mut stack = Vec::new(alloc);
-    let mut taken = first_taken(alloc, frame)?;
-    take_all(
-        &mut marked,
-        &mut near,
-        &mut gone,
-        &mut away,
-        &mut stack,
-        &mut taken,
-        lists,
-        frame,
-    )?;
-    Ok(taken)
+    // Returns the first two that are taken off.
+    fn first_taken(&self, alloc: Global) -> Result<Vec<u16>, AllocError>
+        ensures { IfOk result (λ taken. taken.items ≡ self.now.frame.top.0 ∷ self.now.frame.right.0 ∷ []) }
+    {
+        let mut taken = Vec::new(alloc);
+        taken.push(self.frame.top.0)?;
+        taken.push(self.frame.right.0)?;
+        Ok(taken)
+    }
+
+    // Returns the vertices from the last one of an order to the first.
+    fn taken_off(&self, alloc: Global) -> Result<Vec<u16>, AllocError>
+        requires class { (map : Lists) × IsClosedAt self.now.lists.now map self.now.frame }
+        ensures { IfOk result (λ taken. IsOrderAt self.now.lists.now self.now.frame (reverse taken.items)) }
+    {
+        let n = self.lists.len();
+        let mut marked = vec![in alloc; false; n]?;
+        let mut near = vec![in alloc; 0; n]?;
+        let mut gone = vec![in alloc; false; n]?;
+        let mut away = vec![in alloc; 0; n]?;
+        let mut stack = Vec::new(alloc);
+        let mut taken = self.first_taken(alloc)?;
+        self.take_all(
+            &mut marked,
+            &mut near,
+            &mut gone,
+            &mut away,
+            &mut stack,
+            &mut taken,
+        )?;
+        Ok(taken)
+    }
 }
 
 /// A rectangular order of the map of which `more` are the lists of the closed one, with the outer face `frame`: the
@@ -148,7 +151,8 @@ pub fn rect_order(alloc: Global, more: &Rotations, frame: Frame) -> Result<Order
         → IsRectOrder map frame.left.0 frame.top.0 frame.right.0 frame.bottom.0 (vertices_of order)) }
     ensures rank { IfOk result (λ order. IsRankOf order.rank (vertices_of order)) }
 {
-    let taken = taken_off(alloc, more, frame)?;
+    let closed = Closed { lists: more, frame };
+    let taken = closed.taken_off(alloc)?;
     let order = turned_order(alloc, &taken)?;
     Ok(order)
 }

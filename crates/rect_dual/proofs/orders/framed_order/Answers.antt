@@ -10,34 +10,34 @@ use Rattle.rect_dual.proofs.orders.framed_order.Goals as goal
 pub rect_order-requires-clause-few : goal.rect_order-requires-clause-few
 rect_order-requires-clause-few c =
     let f = c.args.frame in
-    let few = c.facts.ensures.few_vertices in
-    let n = length-closed c.args.map.now.lists f.left.0 f.top.0 f.right.0 f.bottom.0 c.requires.class in
+    let few = c.requires.few in
+    let n = length-closed c.args.lists.now f.left.0 f.top.0 f.right.0 f.bottom.0 c.requires.class in
     let same = ap length c.in_ok-more.ensures in
     omega arith
 
 pub rect_order-requires-clause-class : goal.rect_order-requires-clause-class
-rect_order-requires-clause-class c = (c.args.map.now.lists, record { class = c.requires.class; closed_is = c.in_ok-more.ensures; inner_is = c.requires.inner })
+rect_order-requires-clause-class c = (c.args.lists.now, record { class = c.requires.class; closed_is = c.in_ok-more.ensures; inner_is = c.requires.inner })
 
 pub lower_rows-requires-clause-few : goal.lower_rows-requires-clause-few
 lower_rows-requires-clause-few c =
     let f = c.args.frame in
-    let few = c.facts.ensures.few_vertices in
-    let n = length-closed c.args.map.now.lists f.left.0 f.top.0 f.right.0 f.bottom.0 c.requires.class in
+    let few = c.requires.few in
+    let n = length-closed c.args.lists.now f.left.0 f.top.0 f.right.0 f.bottom.0 c.requires.class in
     let same = ap length c.in_ok-more.ensures in
     omega arith
 
 pub lower_rows-requires-clause-triangulation : goal.lower_rows-requires-clause-triangulation
 lower_rows-requires-clause-triangulation c =
     let f = c.args.frame in
-    subst IsTriangulation (sym c.in_ok-more.ensures) (c.closed_is_triangulation.ensures c.args.map.now.lists f.left.0 f.top.0 f.right.0 f.bottom.0 c.requires.class).0
+    subst IsTriangulation (sym c.in_ok-more.ensures) (c.closed_is_triangulation.ensures c.args.lists.now f.left.0 f.top.0 f.right.0 f.bottom.0 c.requires.class).0
 
 pub returns-clause-rows : goal.returns-clause-rows
 returns-clause-rows c =
     let f = c.args.frame in
     record {
       class = c.requires.class;
-      triangulation = (c.closed_is_triangulation.ensures c.args.map.now.lists f.left.0 f.top.0 f.right.0 f.bottom.0 c.requires.class).0;
-      order = c.in_ok-order.ensures.order c.args.map.now.lists record { class = c.requires.class; closed_is = c.in_ok-more.ensures; inner_is = c.requires.inner };
+      triangulation = (c.closed_is_triangulation.ensures c.args.lists.now f.left.0 f.top.0 f.right.0 f.bottom.0 c.requires.class).0;
+      order = c.in_ok-order.ensures.order c.args.lists.now record { class = c.requires.class; closed_is = c.in_ok-more.ensures; inner_is = c.requires.inner };
       rank = c.in_ok-order.ensures.rank;
       lower = subst (λ (l : Lists). AreLowerRowsOf l (vertices_of c.in_ok-order.order) c.in_ok-rows.rows) c.in_ok-more.ensures c.in_ok-rows.ensures;
     }
@@ -45,5 +45,5 @@ returns-clause-rows c =
 pub returns-clause-ranks : goal.returns-clause-ranks
 returns-clause-ranks c =
     let f = c.args.frame in
-    let order = c.in_ok-order.ensures.order c.args.map.now.lists record { class = c.requires.class; closed_is = c.in_ok-more.ensures; inner_is = c.requires.inner } in
-    c.ranks_are_places.ensures (closed c.args.map.now.lists f.left.0 f.top.0 f.right.0 f.bottom.0) (f.bottom.0, f.left.0) (vertices_of c.in_ok-order.order) c.in_ok-order.order.rank order.canonical c.in_ok-order.ensures.rank
+    let order = c.in_ok-order.ensures.order c.args.lists.now record { class = c.requires.class; closed_is = c.in_ok-more.ensures; inner_is = c.requires.inner } in
+    c.ranks_are_places.ensures (closed c.args.lists.now f.left.0 f.top.0 f.right.0 f.bottom.0) (f.bottom.0, f.left.0) (vertices_of c.in_ok-order.order) c.in_ok-order.order.rank order.canonical c.in_ok-order.ensures.rank

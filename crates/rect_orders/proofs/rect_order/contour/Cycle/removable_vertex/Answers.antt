@@ -3,7 +3,7 @@ use Rattle.std.proofs.lemmas.Bool.{false≢true}
 use Rattle.std.proofs.lemmas.List.Elements.{All-take}
 use Rattle.rect_orders.specs.Contours.{LooksRemovable}
 use Rattle.canon_order.proofs.Marks.{Contains-but_last}
-use Rattle.rect_orders.proofs.rect_order.contour.removable_vertex.Goals as goal
+use Rattle.rect_orders.proofs.rect_order.contour.Cycle.removable_vertex.Goals as goal
 
 pub loop-stack-preserved : goal.loop-stack-preserved
 loop-stack-preserved c =
@@ -13,11 +13,9 @@ loop-stack-preserved c =
     let rest : c.pop.new.self.items ≡ take (length us - 1) us = c.pop.ensures.rest ∙ ap (λ k. take (k - 1) us) n in
     let last = c.index-v.ensures ∙ ap (λ k. slice_index_or us (k - 1) c.index-v.result.now) (c.len-in-loop-stack.ensures ∙ n) in
     record {
-      tally = h.tally;
-      tally_gone = h.tally_gone;
-      vertices = subst (λ (vs : List ℕ). All (λ v. v < length c.args.lists.now) vs) (sym rest) (All-take (λ v. v < length c.args.lists.now) (length us - 1) us h.vertices);
+      vertices = subst (λ (vs : List ℕ). All (λ v. v < length c.args.self.now.marked.now) vs) (sym rest) (All-take (λ v. v < length c.args.self.now.marked.now) (length us - 1) us h.vertices);
       stacked = λ v removable.
           subst (λ (vs : List ℕ). Contains vs v) (sym rest)
           (Contains-but_last us c.index-v.result.now v last (h.stacked v removable)
-          (λ e. false≢true (sym c.if-is_removable.false ∙ c.is_removable.ensures.1 (subst (λ z. LooksRemovable c.args.t c.args.s c.args.marked.now c.args.near.now c.args.away.now z) e removable))));
+          (λ e. false≢true (sym c.if-is_removable.false ∙ c.is_removable.ensures.1 (subst (λ z. LooksRemovable c.args.self.now.bottom c.args.self.now.left c.args.self.now.marked.now c.args.self.now.near.now c.args.self.now.away.now z) e removable))));
     }

@@ -1,0 +1,151 @@
+//! The outer faces of maps of the class that counts and corners tell: no map is made of their lists.
+ghost use Rattle.std.specs.Prelude.{◌≡◌, ◌≤◌, ◌<◌, ◌+◌, ◌*◌, ⊤, ℕ, length, slice_index, sum_by, IsTrue, MatchOption, IfOk};
+ghost use Rattle.map_theory.specs.Maps.{IsSimpleMap, HasDart, follows, list_of};
+ghost use Rattle.rect_check.specs.Loops.{IsFrame};
+ghost use Rattle.rect_class.specs.RectMaps.{IsRectMap};
+ghost use Rattle.rect_class.specs.Corners.{IsRound};
+ghost use Rattle.rect_class.specs.Counts.{HasCounts};
+
+use crate::corners::{are_closed, has_diagonal};
+use crate::ring::Ring;
+use conn_parts::plane_count;
+use euler_faces::Counter;
+use half_edges::{Rotations, VertexId};
+use rect_check::OuterFour;
+use std::alloc::{AllocError, Global};
+
+// Whether lists have as many vertices and entries as those of a map of the class.
+fn is_full(lists: &Rotations) -> bool
+    requires few { length lists.now < 4096 }
+    ensures large { IsTrue result → 5 ≤ length lists.now }
+    ensures full { IsTrue result → sum_by length lists.now + 14 ≡ 6 * length lists.now }
+{
+    lists.len() >= 5 && lists.total() == 6 * lists.len() - 14
+}
+
+/// Returns the vertex to which the face of the dart from `u` to `v` goes on, by the list of `v`.
+pub fn next_on_face(lists: &Rotations, u: VertexId, v: VertexId) -> VertexId
+    requires simple { IsSimpleMap lists.now }
+    requires dart { HasDart lists.now u.0 v.0 }
+    ensures next { result.0 ≡ follows lists.now v.0 u.0 }
+    ensures dart { HasDart lists.now v.0 result.0 }
+{
+    let ring = Ring {
+        us: lists.list(usize::from(v.0)),
+    };
+    VertexId(ring.next(u.0))
+}
+
+// Says whether a walk from 0 past `four` to `s` and `e` is at 0 and the top again, past four vertices.
+fn is_round(four: OuterFour, s: VertexId, e: VertexId) -> bool
+    ensures { IsTrue result → IsRound four.top.0 four.right.0 four.bottom.0 s.0 e.0 }
+{
+    s.0 == 0 && e.0 == four.top.0 && four.right.0 != 0 && four.bottom.0 != four.top.0
+}
+
+// Returns the outer face, if the face of the dart from vertex 0 to `top` is walked by four darts over four vertices.
+fn frame_at(lists: &Rotations, top: VertexId) -> Option<OuterFour>
+    requires simple { IsSimpleMap lists.now }
+    requires dart { HasDart lists.now 0 top.0 }
+    requires first { top.0 ≡ slice_index (list_of lists.now 0) 0 }
+    ensures { MatchOption result ⊤ (λ f. IsFrame lists.now f.top.0 f.right.0 f.bottom.0) }
+{
+    let right = next_on_face(lists, VertexId(0), top);
+    let bottom = next_on_face(lists, top, right);
+    let s = next_on_face(lists, right, bottom);
+    let e = next_on_face(lists, bottom, s);
+    let four = OuterFour { top, right, bottom };
+    if is_round(four, s, e) {
+        Some(four)
+    } else {
+        None
+    }
+}
+
+// Returns the outer face, if it is walked by four darts over four vertices.
+fn outer_face(lists: &Rotations) -> Option<OuterFour>
+    requires simple { IsSimpleMap lists.now }
+    requires some { 0 < length lists.now }
+    ensures { MatchOption result ⊤ (λ f. IsFrame lists.now f.top.0 f.right.0 f.bottom.0) }
+{
+    let first = lists.list(0);
+    if first.len() == 0 {
+        return None;
+    }
+    frame_at(lists, VertexId(first[0]))
+}
+
+// Returns the outer face of a map with the counts of one of the class, where no edge joins two of it across, and the
+// corners show that no triangle separates.
+fn confirmed(
+    alloc: Global,
+    lists: &Rotations,
+    four: OuterFour,
+) -> Result<Option<OuterFour>, AllocError>
+    requires counts { HasCounts lists.now }
+    requires frame { IsFrame lists.now four.top.0 four.right.0 four.bottom.0 }
+    ensures { IfOk result (λ found. MatchOption found ⊤ (λ f. IsRectMap lists.now × IsFrame lists.now f.top.0 f.right.0 f.bottom.0)) }
+{
+    if has_diagonal(lists, four) {
+        return Ok(None);
+    }
+    let closed = are_closed(alloc, lists)?;
+    if closed {
+        return Ok(Some(four));
+    }
+    Ok(None)
+}
+
+// Returns the outer face of a map with the counts of one of the class, where it is shown to be one.
+fn counted(alloc: Global, lists: &Rotations) -> Result<Option<OuterFour>, AllocError>
+    requires counts { HasCounts lists.now }
+    ensures { IfOk result (λ found. MatchOption found ⊤ (λ f. IsRectMap lists.now × IsFrame lists.now f.top.0 f.right.0 f.bottom.0)) }
+{
+    match outer_face(lists) {
+        Some(four) => confirmed(alloc, lists, four),
+        None => Ok(None),
+    }
+}
+
+/// Finds the outer faces of maps of the class, one map after another, and keeps its tables for the next.
+///
+/// They take some ten bytes for each dart of the largest map so far.
+#[derive(Drop)]
+pub struct FrameFinder {
+    alloc: Global,
+    counter: Counter,
+}
+
+impl FrameFinder {
+    /// Makes a finder that has found nothing yet. It takes no memory.
+    pub fn new(alloc: Global) -> FrameFinder {
+        FrameFinder {
+            alloc,
+            counter: Counter::new(alloc),
+        }
+    }
+
+    /// Returns the outer face of the map with these lists, which are from 1 to 4095, if counts and corners show that it
+    /// is of the class. `None` leaves it open.
+    ///
+    /// A connected map of genus zero with 3n - 7 edges, of which the outer face is a quadrangle, has no other face but
+    /// triangles. After a call that ran out of memory the finder serves as before. The time is linear in the entries.
+    pub fn frame(&mut self, lists: &Rotations) -> Result<Option<OuterFour>, AllocError>
+        requires some_list { 0 < length lists.now }
+        requires few_lists { length lists.now < 4096 }
+        ensures { IfOk result (λ found. MatchOption found ⊤ (λ f. IsRectMap lists.now × IsFrame lists.now f.top.0 f.right.0 f.bottom.0)) }
+    {
+        if !is_full(lists) {
+            return Ok(None);
+        }
+        match plane_count(&mut self.counter, lists, 3) {
+            Ok(count) => {
+                if count.c != 1 {
+                    return Ok(None);
+                }
+                counted(self.alloc, lists)
+            }
+            Err(_) => Ok(None),
+        }
+    }
+}

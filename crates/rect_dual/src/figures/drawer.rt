@@ -1,0 +1,72 @@
+//! Figures of records, one after another, by a drawer that keeps its tables from one to the next.
+ghost use Rattle.std.specs.Prelude.{◌≡◌, ◌<◌, length, IfOk, IfErr, OnOk};
+ghost use Rattle.refusals.specs.Conditions.{IfRefused};
+ghost use Rattle.rect_check.specs.Loops.{IsFrame};
+ghost use Rattle.rect_class.specs.RectMaps.{IsRectMap};
+ghost use Rattle.rect_class.specs.Refusals.{BreaksRect};
+ghost use Rattle.rect_dual.specs.Figures.{IsRectFigure};
+
+use crate::draw::framed;
+use crate::figures::draw::rect_figure;
+use half_edges::{Rotations, VertexId};
+use pg_plane::RectFigure;
+use rect_check::OuterFour;
+use rect_class::{FrameFinder, next_on_face};
+use rect_orders::rect_order::Frame;
+use refusals::Unserved;
+use std::alloc::{AllocError, Global};
+
+// The rectangles of a map of the class with this outer face.
+fn drawn(alloc: Global, lists: &Rotations, four: OuterFour) -> Result<RectFigure, AllocError>
+    requires few { length lists.now < 4096 }
+    requires class { IsRectMap lists.now }
+    requires frame { IsFrame lists.now four.top.0 four.right.0 four.bottom.0 }
+    ensures { IfOk result (IsRectFigure lists.now) }
+{
+    rect_class::biconnected_are_rect_maps();
+    rect_orders::rect_duals::dual_for_first();
+    let inner = next_on_face(lists, VertexId(0), four.bottom);
+    let frame = Frame {
+        left: VertexId(0),
+        top: four.top,
+        right: four.right,
+        bottom: four.bottom,
+        inner,
+    };
+    let figure = framed(alloc, lists, frame)?;
+    Ok(figure)
+}
+
+/// Draws records, one after another, and keeps its tables for the next.
+#[derive(Drop)]
+pub struct RectDrawer {
+    alloc: Global,
+    finder: FrameFinder,
+}
+
+impl RectDrawer {
+    /// A drawer that has drawn nothing yet. It takes no memory.
+    pub fn new(alloc: Global) -> RectDrawer {
+        RectDrawer {
+            alloc,
+            finder: FrameFinder::new(alloc),
+        }
+    }
+
+    /// The figure of a record, as `rect_figure` has it. After `NoMemory` the drawer serves as before.
+    pub fn figure(&mut self, lists: &Rotations) -> Result<RectFigure, Unserved>
+        requires some_list { 0 < length lists.now }
+        requires few_lists { length lists.now < 4096 }
+        ensures figure { IfOk result (IsRectFigure lists.now) }
+        ensures served { OnOk result (IsRectMap lists.now) }
+        ensures refused { IfErr result (IfRefused (BreaksRect lists.now)) }
+    {
+        match self.finder.frame(lists)? {
+            Some(four) => {
+                let figure = drawn(self.alloc, lists, four)?;
+                Ok(figure)
+            }
+            None => rect_figure(self.alloc, lists),
+        }
+    }
+}
