@@ -1,11 +1,11 @@
 -- Rows read backwards in the list of a vertex.
-use Rattle.std.proofs.Common.{◌≡◌, ◌+◌, ◌<◌, ℕ, suc, List, [], ◌∷◌, ◌++◌, length, map, get_or, take, sym, ap, ap₂, ◌∙◌, subst, inl, inr, arith}
+use Rattle.std.proofs.Common.{◌≡◌, ◌+◌, ◌≤◌, ◌<◌, ◌⊎◌, ℕ, suc, List, [], ◌∷◌, ◌++◌, length, map, get_or, take, refl, sym, ap, ap₂, ◌∙◌, subst, inl, inr, arith}
 use Rattle.std.proofs.lemmas.Bool.{cases_lt}
-use Rattle.std.proofs.lemmas.List.{map-append, get_or_append_left, length-append}
+use Rattle.std.proofs.lemmas.List.{map-append, get_or_append_left, length-append, append_assoc, append-nil}
 use Rattle.std.proofs.Math.Seq.{take-length, take-suc, get_or-append_seam}
 use Rattle.map_lists.specs.Lists.{Lists}
 use Rattle.map_theory.specs.Maps.{list_of}
-use Rattle.order_drawings.specs.Rows.{back, rank_at, IsLastPlace, IsRowIn, AreRanked}
+use Rattle.order_drawings.specs.Rows.{back, rank_at, place_before, IsLastPlace, IsRowIn, IsRowPut, AreRanked}
 
 module _ (list ranks : List ℕ) (k start : ℕ) (us : List ℕ) (h : IsRowIn list ranks k start us) (j i : ℕ) (low : j < length us) (at : i ≡ back (length list) start j) where
   -- one rank more
@@ -29,6 +29,62 @@ module _ (list ranks : List ℕ) (k start : ℕ) (us : List ℕ) (h : IsRowIn li
     | inl l ↦ l
     | inr l ↦ absurd (n (subst (IsLastPlace list ranks k) (sym at) (h.last j (omega arith))))
   ]
+
+-- where a row ends, by the ranks of an entry and of the one before it
+module _ (list ranks : List ℕ) (k i rank next : ℕ) (here : rank ≡ rank_at list ranks i) where
+  pub last_by_ranks : next ≡ rank_at list ranks (place_before (length list) i) → (((rank ≡ 1) ⊎ (k ≤ next)) → IsLastPlace list ranks k i) × (IsLastPlace list ranks k i → ((rank ≡ 1) ⊎ (k ≤ next)))
+  last_by_ranks there = (
+    (λ h. elim h [ inl e ↦ inl (sym here ∙ e) | inr l ↦ inr (subst (λ b. k ≤ b) there l) ]),
+    λ h. elim h [ inl e ↦ inl (here ∙ e) | inr l ↦ inr (subst (λ b. k ≤ b) (sym there) l) ],
+  )
+
+-- the first j ranks of a row are put behind others, and the next place is i
+pub record IsPartPut (list ranks : List ℕ) (k start j i : ℕ) (old new : List ℕ) : Type 0 where
+  pub part : List ℕ
+  pub grown : new ≡ old ++ part
+  pub of : (us : List ℕ) → IsRowIn list ranks k start us → (j < length us) × (i ≡ back (length list) start j) × (part ≡ map (λ u. get_or ranks u 0) (take j us))
+
+module _ (list ranks : List ℕ) (k start : ℕ) where
+  pub IsPartPut-none : (old : List ℕ) → IsPartPut list ranks k start 0 start old old
+  IsPartPut-none old = record { part = []; grown = sym (append-nil old); of = λ us h. (h.some, refl, refl) }
+
+  module _ (j i : ℕ) (old mid new : List ℕ) (p : IsPartPut list ranks k start j i old mid) (rank : ℕ) (rank_is : rank ≡ rank_at list ranks i) (put : new ≡ mid ++ rank ∷ []) where
+    abbrev part' : List ℕ
+    part' = p.part ++ rank ∷ []
+
+    grown' : new ≡ old ++ part'
+    grown' = put ∙ (ap (λ xs. xs ++ rank ∷ []) p.grown ∙ append_assoc old p.part (rank ∷ []))
+
+    ranked : (us : List ℕ) → IsRowIn list ranks k start us → part' ≡ map (λ u. get_or ranks u 0) (take (suc j) us)
+    ranked us h =
+        let now = p.of us h in
+        ap (λ r. p.part ++ r ∷ []) rank_is ∙ ranked-more list ranks k start us h j i now.0 now.1 p.part now.2
+
+    -- the row goes on
+    pub IsPartPut-more : (place : ℕ) → place ≡ place_before (length list) i → ¬ IsLastPlace list ranks k i → IsPartPut list ranks k start (j + 1) place old new
+    IsPartPut-more place e goes_on =
+        let more : suc j ≡ j + 1 = omega arith in
+        record {
+          part = part';
+          grown = grown';
+          of = λ us h.
+              let now = p.of us h in
+              let low = not_ended list ranks k start us h j i now.0 now.1 goes_on in (
+                omega arith,
+                e ∙ (ap (place_before (length list)) now.1 ∙ ap (back (length list) start) more),
+                ranked us h ∙ ap (λ n. map (λ u. get_or ranks u 0) (take n us)) more,
+              );
+        }
+
+    -- it ends
+    pub IsRowPut-ended : IsLastPlace list ranks k i → IsRowPut list ranks k start old new
+    IsRowPut-ended last = record {
+      row = part';
+      grown = grown';
+      is = λ us h.
+          let now = p.of us h in
+          ranked us h ∙ ap (map (λ u. get_or ranks u 0)) (ended list ranks k start us h j i now.0 now.1 last);
+    }
 
 -- one row more
 pub AreRanked-more :

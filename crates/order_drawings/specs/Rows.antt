@@ -1,5 +1,5 @@
 -- The rows of the contour over which the vertices of a run are put.
-use Rattle.std.specs.Prelude.{ℕ, zero, suc, ◌+◌, ◌-◌, ◌<◌, ◌≤◌, ◌≡◌, ◌⊎◌, ◌==◌, nat_lt, if◌then◌else◌, List, length, map, slice_index}
+use Rattle.std.specs.Prelude.{ℕ, zero, suc, ◌+◌, ◌-◌, ◌<◌, ◌≤◌, ◌≡◌, ◌⊎◌, ◌==◌, nat_lt, if◌then◌else◌, List, ◌++◌, length, map, slice_index}
 use Rattle.map_lists.specs.Lists.{Lists}
 use Rattle.map_theory.specs.Maps.{Dart, list_of}
 use Rattle.plane_laws.specs.Triangulations.{IsTriangulation}
@@ -59,6 +59,12 @@ pub record IsRowIn (list ranks : List ℕ) (k start : ℕ) (us : List ℕ) : Typ
   pub only : (i : ℕ) → i < length list → IsFirstPlace list ranks k i → i ≡ start
   pub inner : (c : ℕ) → suc c < length us → ¬ IsLastPlace list ranks k (back (length list) start c)
   pub last : (c : ℕ) → suc c ≡ length us → IsLastPlace list ranks k (back (length list) start c)
+
+-- A row is put behind others: that from this place on, by ranks.
+pub record IsRowPut (list ranks : List ℕ) (k start : ℕ) (old new : List ℕ) : Type 0 where
+  pub row : List ℕ
+  pub grown : new ≡ old ++ row
+  pub is : (us : List ℕ) → IsRowIn list ranks k start us → row ≡ map (slice_index ranks) us
 
 -- the rows in the lists of a map of the first vertices from the third on, by ranks
 abbrev pub AreRanked : Lists → List ℕ → List ℕ → Lists → Type 0

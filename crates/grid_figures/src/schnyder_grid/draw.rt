@@ -52,7 +52,6 @@ pub struct WoodDrawer {
     spans: Vec<u32>,
     covers: Vec<u16>,
     rows: Rotations,
-    row: Vec<u16>,
     spent: Points,
 }
 
@@ -66,7 +65,6 @@ impl WoodDrawer {
             spans: Vec::new(alloc),
             covers: Vec::new(alloc),
             rows: Rotations::new(alloc),
-            row: Vec::new(alloc),
             spent: Points::new(alloc),
         }
     }
@@ -133,7 +131,7 @@ impl WoodDrawer {
         order_drawings::schnyder_drawings::wood_points_draw();
         let side = (lists.len() - 2) as i32;
         let spent = mem::replace(&mut self.rows, Rotations::new(self.alloc));
-        let rows = rows_into(spent, &mut self.row, lists, order)?;
+        let rows = rows_into(spent, lists, order)?;
         let points = self.points(&rows, &order.rank)?;
         self.rows = rows;
         Ok(GridFigure {

@@ -1,9 +1,9 @@
 //! The rows of the contour over which the vertices of an order are put, by their lists.
-ghost use Rattle.std.specs.Prelude.{◌≡◌, ◌<◌, ◌≤◌, ◌+◌, ◌^◌, ◌↔◌, ℕ, List, [], length, map, slice_index, All, IsTrue, IfOk};
+ghost use Rattle.std.specs.Prelude.{◌≡◌, ◌<◌, ◌≤◌, ◌+◌, ◌^◌, ◌↔◌, ◌⊎◌, ℕ, List, length, map, slice_index, All, IsTrue, IfOk};
 ghost use Rattle.map_theory.specs.Maps.{Dart, list_of};
 ghost use Rattle.plane_laws.specs.Triangulations.{IsTriangulation};
 ghost use Rattle.canon_order.specs.Orders.{IsCanonicalOrder, IsRankOf, vertices_of};
-ghost use Rattle.order_drawings.specs.Rows.{place_before, place_after, rank_at, IsFirstPlace, IsLastPlace, IsRowIn, AreRanked, OrderRows, AreRowsOf};
+ghost use Rattle.order_drawings.specs.Rows.{place_before, place_after, rank_at, IsFirstPlace, IsRowIn, IsRowPut, AreRanked, OrderRows, AreRowsOf};
 
 use canon_order::Order;
 use half_edges::{Counts, HalfMap, Rotations, VertexList};
@@ -47,15 +47,11 @@ fn is_first(list: &[u16], ranks: &Counts, k: u32, i: usize) -> bool
     rank < k && (rank == 0 || k <= next)
 }
 
-// Whether it ends there.
-fn is_last(list: &[u16], ranks: &Counts, k: u32, i: usize) -> bool
-    requires place { i < length list.now }
-    requires vertices { All (λ u. u < length ranks.now) list.now }
-    ensures { IsTrue result ↔ IsLastPlace list.now ranks.now k i }
+// Whether it ends at an entry of this rank, where `before` is that of the entry before it.
+fn is_last(rank: u32, before: u32, k: u32) -> bool
+    ensures { IsTrue result ↔ ((rank ≡ 1) ⊎ (k ≤ before)) }
 {
-    let rank = entry_rank(list, ranks, i);
-    let next = entry_rank(list, ranks, before(list.len(), i));
-    rank == 1 || k <= next
+    rank == 1 || k <= before
 }
 
 // Where it begins.
@@ -73,27 +69,30 @@ fn first_place(list: &[u16], ranks: &Counts, k: u32) -> usize
     0
 }
 
-// The ranks of a row, which goes backwards in the list of its vertex.
-fn fill_row(
-    row: &mut Vec<u16>,
+// Appends the ranks of a row, which goes backwards in the list of its vertex.
+fn put_row(
+    entries: &mut Vec<u16>,
     list: &[u16],
     ranks: &Counts,
     k: u32,
     start: usize,
 ) -> Result<(), AllocError>
-    requires empty { row.old.items ≡ [] }
     requires start { start < length list.now }
     requires vertices { All (λ u. u < length ranks.now) list.now }
     requires few { (u : ℕ) → slice_index ranks.now u < 2 ^ 16 }
-    ensures { IfOk result (λ _. (us : List ℕ) → IsRowIn list.now ranks.now k start us → row.new.items ≡ map (slice_index ranks.now) us) }
+    ensures { IfOk result (λ _. IsRowPut list.now ranks.now k start entries.old.items entries.new.items) }
 {
     let mut i = start;
+    let mut rank = entry_rank(list, ranks, start);
     for _count in 0..list.len() {
-        row.push(entry_rank(list, ranks, i) as u16)?;
-        if is_last(list, ranks, k, i) {
+        entries.push(rank as u16)?;
+        let place = before(list.len(), i);
+        let next = entry_rank(list, ranks, place);
+        if is_last(rank, next, k) {
             return Ok(());
         }
-        i = before(list.len(), i);
+        i = place;
+        rank = next;
     }
     Ok(())
 }
@@ -105,22 +104,9 @@ fn order_has_rows()
     canon_order::row_ends();
 }
 
-// No lists, with room for so many items in so many lists, in the memory of `spent`.
-fn emptied(spent: Rotations, items: usize, lists: usize) -> Result<Rotations, AllocError>
-    ensures { IfOk result (λ rows. rows ≡ []) }
-{
-    let (mut entries, mut ends) = spent.into_parts();
-    entries.clear();
-    entries.reserve(items)?;
-    ends.clear();
-    ends.reserve(lists)?;
-    Ok(Rotations::from_parts(entries, ends))
-}
-
-// The rows in lists, from that of the third vertex of an order on, in the memory of `spent`. Each is made in `row`.
+// The rows in lists, from that of the third vertex of an order on, in the memory of `spent`.
 fn listed_rows(
     spent: Rotations,
-    row: &mut Vec<u16>,
     lists: &Rotations,
     at: &VertexList,
     ranks: &Counts,
@@ -134,20 +120,18 @@ fn listed_rows(
     ensures count { IfOk result (λ rows. length rows + 2 ≡ length at.now) }
     ensures rows { IfOk result (λ rows. AreRanked lists.now (map (λ v. v.0) at.now) ranks.now rows) }
 {
-    let mut rows = emptied(spent, lists.total() / 2, at.len())?;
+    let (mut entries, mut ends) = spent.into_parts();
+    entries.clear();
+    entries.reserve(lists.total() / 2)?;
+    ends.clear();
+    ends.reserve(at.len())?;
     for k in 2..at.len() {
         let list = lists.list(at.get(k).0 as usize);
-        row.clear();
-        fill_row(
-            row,
-            list,
-            ranks,
-            k as u32,
-            first_place(list, ranks, k as u32),
-        )?;
-        rows.push(row)?;
+        let start = first_place(list, ranks, k as u32);
+        put_row(&mut entries, list, ranks, k as u32, start)?;
+        ends.push(entries.len())?;
     }
-    Ok(rows)
+    Ok(Rotations::from_parts(entries, ends))
 }
 
 /// The rows of the contour over which the vertices of a canonical order of a triangulation are put, from that
@@ -176,15 +160,13 @@ pub fn list_rows(alloc: Global, lists: &Rotations, order: &Order) -> Result<Rota
     requires rank { IsRankOf order.now.rank (vertices_of order.now) }
     ensures { IfOk result (AreRowsOf lists.now (vertices_of order.now)) }
 {
-    let mut row = Vec::new(alloc);
-    let rows = rows_into(Rotations::new(alloc), &mut row, lists, order)?;
+    let rows = rows_into(Rotations::new(alloc), lists, order)?;
     Ok(rows)
 }
 
-/// Like [`list_rows`], but makes the rows in the memory of `spent`, and each in `row` first.
+/// Like [`list_rows`], but makes the rows in the memory of `spent`.
 pub fn rows_into(
     spent: Rotations,
-    row: &mut Vec<u16>,
     lists: &Rotations,
     order: &Order,
 ) -> Result<Rotations, AllocError>
@@ -196,6 +178,6 @@ pub fn rows_into(
 {
     order_has_rows();
     crate::order_runs::order_is_run();
-    let rows = listed_rows(spent, row, lists, &order.at, &order.rank)?;
+    let rows = listed_rows(spent, lists, &order.at, &order.rank)?;
     Ok(rows)
 }
