@@ -1,6 +1,5 @@
 //! Figures of records, one after another, by a drawer that keeps memory from one to the next.
 ghost use Rattle.std.specs.Prelude.{◌≡◌, ◌<◌, length, Some, None, IfOk, IfErr, OnOk};
-ghost use Rattle.conn_parts.specs.Counted.{IsPlaneMap};
 ghost use Rattle.refusals.specs.Conditions.{first_refusal, IfRefused};
 ghost use Rattle.grid_figures.specs.ShiftFiguresFigures.{IsShiftFigure};
 ghost use Rattle.grid_figures.specs.SchnyderFiguresFigures.{IsSchnyderFigure};
@@ -8,12 +7,11 @@ ghost use Rattle.grid_figures.specs.SchnyderFiguresFigures.{IsSchnyderFigure};
 use crate::drawing_orders::Tools;
 use crate::schnyder_grid::WoodDrawer;
 use crate::{schnyder_figures, shift_figures};
-use conn_parts::CountedMap;
 use fpp_shift::Shifter;
 use half_edges::Rotations;
 use pg_plane::GridFigure;
 use refusals::Unserved;
-use std::alloc::{AllocError, Global};
+use std::alloc::Global;
 
 /// Draws records, one after another, and keeps its memory for the next: that of counts, maps, orders and tables, as much
 /// as the largest record so far took.
@@ -61,21 +59,6 @@ impl Drawer {
         ensures refused { IfErr result (IfRefused (λ refusal. first_refusal 3 lists.now ≡ Some refusal)) }
     {
         schnyder_figures::drawn_record(&mut self.tools, &mut self.woods, lists)
-    }
-
-    /// The figure by Schnyder's coordinates of a map with these lists that is counted, has genus zero and at least three
-    /// vertices, as `schnyder_figure` has it. It fails only when out of memory, and the drawer then serves as before.
-    pub fn schnyder_plane(
-        &mut self,
-        plane: CountedMap,
-        lists: &Rotations,
-    ) -> Result<GridFigure, AllocError>
-        requires plane { IsPlaneMap 3 plane.map.lists plane }
-        requires lists { lists.now ≡ plane.map.lists }
-        ensures { IfOk result (IsSchnyderFigure plane.map.lists) }
-    {
-        let figure = schnyder_figures::drawn_plane(&mut self.tools, &mut self.woods, plane, lists)?;
-        Ok(figure)
     }
 
     /// Keeps the memory of a figure by Schnyder's coordinates that is done with.

@@ -36,7 +36,7 @@ fn order_figure(
 
 // The figure of a map with these lists that is counted, has genus zero and at least three vertices, by tables that may
 // have served other maps before.
-pub(crate) fn drawn_plane(
+fn drawn_plane(
     tools: &mut Tools,
     woods: &mut WoodDrawer,
     plane: CountedMap,
