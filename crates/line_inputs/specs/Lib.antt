@@ -13,5 +13,3 @@ pub mod GraphLinesFormat
 pub mod GraphLinesProgress
 pub mod GraphLinesState
 pub mod GraphLinesLaws
--- Both part by part.
-pub mod Parts

@@ -3,7 +3,6 @@
 
 pub mod figure_lines;
 pub mod graph_lines;
-mod parts;
 mod whole_lines;
 
 pub use figure_lines::read_figure;

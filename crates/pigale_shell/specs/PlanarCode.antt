@@ -2,9 +2,8 @@
 use Rattle.std.specs.Prelude.{ℕ, ◌+◌, ◌<◌, List, [], ◌∷◌, length}
 use Rattle.map_lists.specs.Lists.{Lists}
 use Rattle.record_runs.specs.Texts.{Reads}
-use Rattle.planar_code.specs.Reading.{Ending as SpokenEnding, IsReading, BeginsWith}
+use Rattle.planar_code.specs.Reading.{IsReading, BeginsWith}
 use Rattle.planar_code.specs.State.{State}
-use Rattle.planar_code.specs.Ends.{ending_by, ending_here}
 use Rattle.pigale_shell.specs.Lines.{ending_of}
 use Rattle.pigale_shell.specs.declared.lines.Ending.{Ending}
 use Rattle.pigale_shell.specs.declared.lines.Ending.TheVariants.{Well, EndInRecord, BadCount, TooLong}
@@ -35,14 +34,6 @@ end_by (b ∷ pending) start = EndInRecord start
 
 abbrev pub end_here : State → Ending
 end_here reader = end_by reader.pending reader.start
-
--- it is the ending that the reading has
-ends_by : (P : SpokenEnding → Type 0) (pending : List ℕ) (start : ℕ) → P (ending_by pending start) → P (ending_of (end_by pending start))
-ends_by P [] start ends = ends
-ends_by P (b ∷ pending) start ends = ends
-
-pub ends_here : (P : SpokenEnding → Type 0) (reader : State) → P (ending_here reader) → P (ending_of (end_here reader))
-ends_here P reader ends = ends_by P reader.pending reader.start ends
 
 -- a record has from 1 to 4095 lists
 pub record IsGiven (lists : Lists) : Type 0 where

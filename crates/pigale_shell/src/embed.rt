@@ -19,7 +19,7 @@ use line_inputs::graph_lines::{Ending, GraphReader};
 use map_lists::Rotations;
 use pg_plane::GridFigure;
 use pigale_words::Form;
-use record_runs::{Format, Job as RecordJob, Taken};
+use record_runs::Job as RecordJob;
 use refusals::Refusal;
 use std::alloc::{AllocError, Global};
 
@@ -144,75 +144,6 @@ fn embed_last_line(
     }
 }
 
-/// A reader of graphs.
-#[derive(Drop)]
-pub struct GraphSource {
-    reader: GraphReader,
-}
-
-impl GraphSource {
-    ghost use Rattle.line_inputs.specs.GraphLinesState.{IsAt};
-
-    /// A reader before the first byte. It takes no memory.
-    pub fn new(alloc: Global) -> GraphSource
-        ensures { IsAt result.reader [] [] }
-    {
-        GraphSource {
-            reader: GraphReader::new(alloc),
-        }
-    }
-}
-
-impl Format for GraphSource {
-    ghost use Rattle.line_inputs.specs.GraphLinesState.{IsAt, ending_by};
-    ghost use Rattle.line_inputs.specs.GraphLinesFormat.{graph_lines, IsAny};
-    ghost use Rattle.line_inputs.proofs.GraphLinesReadLemmas.{IsAt-reads, IsAt-begins, reading-begins};
-
-    type Record = Graph;
-
-    type End = Ending;
-
-    ghost reads = { graph_lines };
-
-    ghost At = { λ format consumed records. IsAt format.reader consumed records };
-
-    ghost place = { λ format. format.reader.place };
-
-    ghost lent = { λ format. format.reader.graph };
-
-    ghost ending = { λ format. ending_by format.reader.first format.reader.line format.reader.pending };
-
-    ghost IsGiven = { IsAny };
-
-    ghost place_is = { λ format consumed records at. at.placed };
-
-    ghost is_read = { λ format consumed records at within. IsAt-reads format.reader consumed records at within };
-
-    ghost begins = { λ format consumed records tail at within. IsAt-begins format.reader consumed records tail at within };
-
-    ghost has = { λ input records ending reading. reading-begins input records ending reading };
-
-    fn take(&mut self, piece: &[u8]) -> Result<Taken<Ending>, AllocError> {
-        self.reader.take(piece)
-    }
-
-    fn record(&self) -> &Graph {
-        self.reader.graph()
-    }
-
-    fn end(&self) -> Ending {
-        self.reader.ending()
-    }
-
-    fn too_long(&self) -> Ending {
-        Ending::TooLong
-    }
-
-    fn is_well(end: &Ending) -> bool {
-        matches!(end, Ending::Well)
-    }
-}
-
 /// What graphs are embedded, drawn and printed with. It lives from graph to graph.
 #[derive(Drop)]
 struct EmbedTools {
@@ -246,7 +177,7 @@ impl EmbedJob {
     }
 }
 
-impl RecordJob<GraphSource> for EmbedJob {
+impl RecordJob<GraphReader> for EmbedJob {
     ghost use Rattle.pigale_shell.specs.EmbedText.{embed_answers};
 
     type Kind = Form;

@@ -38,12 +38,8 @@ impl PlanarReader {
 }
 
 impl Format for PlanarReader {
-    ghost use Rattle.planar_code.specs.Reading.{IsReading};
     ghost use Rattle.planar_code.specs.Progress.{Progress};
-    ghost use Rattle.pigale_shell.specs.Lines.{ending_of};
-    ghost use Rattle.pigale_shell.specs.PlanarCode.{planar_code, place_of, end_here, ends_here, IsGiven};
-    ghost use Rattle.planar_code.proofs.ProgressLemmas.{Progress-length, Progress-begins};
-    ghost use Rattle.planar_code.proofs.EndLemmas.{Progress-ends, reading-begins};
+    ghost use Rattle.pigale_shell.specs.PlanarCode.{planar_code, place_of, end_here, IsGiven};
 
     type Record = Rotations;
 
@@ -61,17 +57,9 @@ impl Format for PlanarReader {
 
     ghost IsGiven = { IsGiven };
 
-    ghost place_is = { λ format consumed records progress. Progress-length consumed records format.reader progress };
-
-    ghost is_read = { λ format consumed records progress within. ends_here (λ ending. IsReading consumed records ending) format.reader (Progress-ends consumed records format.reader progress within) };
-
-    ghost begins = { λ format consumed records tail progress within. Progress-begins consumed records format.reader tail progress within };
-
-    ghost has = { λ input records ending reading. reading-begins input records (ending_of ending) reading };
-
     fn take(&mut self, piece: &[u8]) -> Result<Taken<Ending>, AllocError> {
         match self.reader.take(piece)? {
-            Found::More => Ok(Taken::More),
+            Found::More => Ok(Taken::Goes(piece.len())),
             Found::Ended(k) => Ok(Taken::Ended(k)),
             Found::Bad(_, place) => Ok(Taken::Bad(Ending::BadCount(place))),
         }
@@ -96,6 +84,8 @@ impl Format for PlanarReader {
     fn is_well(end: &Ending) -> bool {
         matches!(end, Ending::Well)
     }
+
+    fn lawful() {}
 }
 
 /// A job over planar_code, in a form. What it keeps lives from record to record.

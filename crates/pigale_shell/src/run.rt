@@ -11,11 +11,13 @@ ghost use Rattle.pigale_shell.specs.JobInput.{reads_input, left_of};
 ghost use Rattle.pigale_shell.specs.Kinds.{IsSized};
 ghost use Rattle.pigale_shell.specs.Outcome.{Outcome, status_of};
 
-use super::embed::{EmbedJob, GraphSource};
+use super::embed::EmbedJob;
 use super::kinds::JobKind;
 use super::made::run_made;
 use super::map_jobs::run_maps;
-use super::verify::{FigureSource, VerifyJob};
+use super::verify::VerifyJob;
+use line_inputs::figure_lines::FigureReader;
+use line_inputs::graph_lines::GraphReader;
 use pg_io::{Sink, Source};
 use pigale_words::{Form, Status};
 use record_runs::{RunEnd, run_records};
@@ -43,7 +45,7 @@ fn run_verify<S: Source, K: Sink>(alloc: Global, src: &mut S, out: &mut K) -> Ru
     ensures limit { TakesAtMost (input_limit + 1) (S.left src.old) (S.left src.new) }
 {
     let mut job = VerifyJob::new(alloc);
-    run_records(alloc, FigureSource::new(alloc), &mut job, src, out)
+    run_records(alloc, FigureReader::new(alloc), &mut job, src, out)
 }
 
 // Runs the job `embed`.
@@ -54,7 +56,7 @@ fn run_embed<S: Source, K: Sink>(alloc: Global, form: Form, src: &mut S, out: &m
     ensures limit { TakesAtMost (input_limit + 1) (S.left src.old) (S.left src.new) }
 {
     let mut job = EmbedJob::new(alloc, form);
-    run_records(alloc, GraphSource::new(alloc), &mut job, src, out)
+    run_records(alloc, GraphReader::new(alloc), &mut job, src, out)
 }
 
 /// Runs a job over the records of a source, to the end of its input or to what stops it. A job that reads no

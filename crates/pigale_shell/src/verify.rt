@@ -14,7 +14,7 @@ use figure_verdicts::{FigureVerdict, figure_verdict};
 use half_edges::MapFault;
 use kuratowski::WitnessVerdict;
 use line_inputs::figure_lines::{Ending, FigureReader};
-use record_runs::{Format, Job as RecordJob, Taken};
+use record_runs::Job as RecordJob;
 use rect_check::RectVerdict;
 use refusals::Unserved;
 use std::alloc::{AllocError, Global};
@@ -234,76 +234,6 @@ fn verify_last_line(
     }
 }
 
-/// A reader of figures.
-#[derive(Drop)]
-pub struct FigureSource {
-    reader: FigureReader,
-}
-
-impl FigureSource {
-    ghost use Rattle.line_inputs.specs.FigureLinesState.{IsAt};
-
-    /// A reader before the first byte. It takes no memory.
-    pub fn new(alloc: Global) -> FigureSource
-        ensures { IsAt result.reader [] [] }
-    {
-        FigureSource {
-            reader: FigureReader::new(alloc),
-        }
-    }
-}
-
-impl Format for FigureSource {
-    ghost use Rattle.line_inputs.specs.FigureLinesState.{IsAt, ending_by};
-    ghost use Rattle.line_inputs.specs.Given.{IsGiven};
-    ghost use Rattle.line_inputs.specs.FigureLinesFormat.{figures};
-    ghost use Rattle.line_inputs.proofs.FigureLinesReadLemmas.{IsAt-reads, IsAt-begins, reading-begins};
-
-    type Record = Figure;
-
-    type End = Ending;
-
-    ghost reads = { figures };
-
-    ghost At = { λ format consumed records. IsAt format.reader consumed records };
-
-    ghost place = { λ format. format.reader.place };
-
-    ghost lent = { λ format. format.reader.figure };
-
-    ghost ending = { λ format. ending_by format.reader.begun format.reader.line format.reader.pending };
-
-    ghost IsGiven = { IsGiven };
-
-    ghost place_is = { λ format consumed records at. at.placed };
-
-    ghost is_read = { λ format consumed records at within. IsAt-reads format.reader consumed records at within };
-
-    ghost begins = { λ format consumed records tail at within. IsAt-begins format.reader consumed records tail at within };
-
-    ghost has = { λ input records ending reading. reading-begins input records ending reading };
-
-    fn take(&mut self, piece: &[u8]) -> Result<Taken<Ending>, AllocError> {
-        self.reader.take(piece)
-    }
-
-    fn record(&self) -> &Figure {
-        self.reader.figure()
-    }
-
-    fn end(&self) -> Ending {
-        self.reader.ending()
-    }
-
-    fn too_long(&self) -> Ending {
-        Ending::TooLong
-    }
-
-    fn is_well(end: &Ending) -> bool {
-        matches!(end, Ending::Well)
-    }
-}
-
 /// The job `verify`.
 #[derive(Drop)]
 pub struct VerifyJob {
@@ -317,7 +247,7 @@ impl VerifyJob {
     }
 }
 
-impl RecordJob<FigureSource> for VerifyJob {
+impl RecordJob<FigureReader> for VerifyJob {
     ghost use Rattle.pigale_shell.specs.Verify.{verify_answers};
 
     type Kind = ();

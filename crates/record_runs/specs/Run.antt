@@ -4,7 +4,7 @@ use Rattle.pg_io.specs.Io.{WhereTold, Takes, Grows, GrowsByPrefix, HasRisen}
 use Rattle.record_runs.specs.Texts.{Reads, Answers, AreBlocks, Refuses, input_limit}
 use Rattle.record_runs.specs.Outcome.{Ports}
 use Rattle.record_runs.specs.declared.format.Taken.{Taken}
-use Rattle.record_runs.specs.declared.format.Taken.TheVariants.{More, Ended, Bad as BadPlace}
+use Rattle.record_runs.specs.declared.format.Taken.TheVariants.{Goes, Ended, Bad as BadPlace}
 use Rattle.record_runs.specs.declared.run.Stop.{Stop}
 use Rattle.record_runs.specs.declared.run.Stop.TheVariants.{Bad, NoMemory}
 use Rattle.record_runs.specs.declared.run.RunEnd.{RunEnd}
@@ -14,14 +14,14 @@ use Rattle.record_runs.specs.declared.run.Failure.TheVariants as failure
 
 -- how far a reader moved, and that a record which ended is one that jobs may be given
 abbrev pub Moves : {Record End : Type 0} → (Record → Type 0) → ℕ → ℕ → Record → List ℕ → Taken End → Type 0
-Moves IsGiven place place' lent piece More = place' ≡ place + length piece
+Moves IsGiven place place' lent piece (Goes k) = (0 < k) × (k ≤ length piece) × (place' ≡ place + k)
 Moves IsGiven place place' lent piece (Ended k) = (0 < k) × (k ≤ length piece) × (place' ≡ place + k) × IsGiven lent
 Moves IsGiven place place' lent piece (BadPlace end) = Unit {0}
 
--- What a reader makes of a piece of bytes, after those consumed and the records in them: all of it was consumed and no
+-- What a reader makes of a piece of bytes, after those consumed and the records in them: k bytes were consumed and no
 -- record has ended; one ended after k bytes; or the input, however it goes on, ends badly in the piece.
 abbrev pub TakesPiece : {Record Ending Reader : Type 0} → Reads Record Ending → (Reader → List ℕ → List Record → Type 0) → List ℕ → List Record → Reader → Record → List ℕ → Taken Ending → Type 0
-TakesPiece format At consumed records reader' lent piece More = At reader' (consumed ++ piece) records
+TakesPiece format At consumed records reader' lent piece (Goes k) = At reader' (consumed ++ take k piece) records
 TakesPiece format At consumed records reader' lent piece (Ended k) = At reader' (consumed ++ take k piece) (records ++ lent ∷ [])
 TakesPiece format At consumed records reader' lent piece (BadPlace end) =
     format.IsBad end × ((tail : List ℕ) → format.IsReading ((consumed ++ piece) ++ tail) records end)

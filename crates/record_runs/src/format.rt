@@ -9,8 +9,8 @@ use std::alloc::AllocError;
 /// The outcome of a piece of bytes for the record that has begun.
 #[derive(Drop)]
 pub enum Taken<End> {
-    /// The whole piece was consumed, and no record ended in it.
-    More,
+    /// This many bytes of the piece were consumed, at least 1, and no record ended in them.
+    Goes(usize),
     /// A record ended with this many bytes of the piece, at least 1, and the others are not consumed.
     Ended(usize),
     /// The input ends badly within the piece.
@@ -45,7 +45,7 @@ pub trait Format: Drop {
     /// A fact that holds of each record that is read.
     ghost IsGiven: { Self.Record → Type 0 };
 
-    /// Consumes the piece, which is not empty and within the limit, to the end of a record or to its own.
+    /// Consumes some of the piece, which is not empty and within the limit: to the end of a record at most.
     fn take(&mut self, piece: &[u8]) -> Result<Taken<Self::End>, AllocError>
         requires some_bytes { 0 < length piece.now }
         requires room { place self.old + length piece.now ≤ input_limit }
@@ -73,17 +73,13 @@ pub trait Format: Drop {
         ensures well { OnTrue result (end.now ≡ reads.well) }
         ensures bad { OnFalse result (reads.IsBad end.now) };
 
-    /// The place is the number of bytes consumed.
-    ghost place_is: { (reader : Self) (consumed : List ℕ) (records : List Self.Record) → At reader consumed records → length consumed ≡ place reader };
-
-    /// The bytes consumed are read as their records and that ending.
-    ghost is_read: { (reader : Self) (consumed : List ℕ) (records : List Self.Record) → At reader consumed records →
-        length consumed ≤ input_limit → reads.IsReading consumed records (ending reader) };
-
-    /// An input begins with the records of its first bytes.
-    ghost begins: { (reader : Self) (consumed : List ℕ) (records : List Self.Record) (tail : List ℕ) → At reader consumed records →
-        length consumed ≤ input_limit → reads.BeginsWith (consumed ++ tail) records };
-
-    /// An input begins with the records that it has.
-    ghost has: { (input : List ℕ) (records : List Self.Record) (ending : Self.End) → reads.IsReading input records ending → reads.BeginsWith input records };
+    /// Says four laws: the place is the number of bytes consumed; they are read as their records and that ending; an
+    /// input begins with the records of its first bytes, and with those that it has.
+    fn lawful()
+        ensures place_is { (reader : Self) (consumed : List ℕ) (records : List Self.Record) → At reader consumed records → length consumed ≡ place reader }
+        ensures is_read { (reader : Self) (consumed : List ℕ) (records : List Self.Record) → At reader consumed records →
+            length consumed ≤ input_limit → reads.IsReading consumed records (ending reader) }
+        ensures begins { (reader : Self) (consumed : List ℕ) (records : List Self.Record) (tail : List ℕ) → At reader consumed records →
+            length consumed ≤ input_limit → reads.BeginsWith (consumed ++ tail) records }
+        ensures has { (input : List ℕ) (records : List Self.Record) (ending : Self.End) → reads.IsReading input records ending → reads.BeginsWith input records };
 }

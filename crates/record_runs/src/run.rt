@@ -108,6 +108,7 @@ fn finish<F: Format, J: Job<F>, K: Sink>(
         IsAllConsumed start.left left stands.consumed →
         Outcome F.reads (J.answers (J.kind job.now)) start (ports left faults (K.written out.new) (K.faults out.new)) result }
 {
+    F::lawful();
     let end = run.reader.end();
     match write_last(alloc, run, job, &end, out) {
         Err(failure) => failed(failure),
@@ -142,6 +143,7 @@ fn consume<F: Format, J: Job<F>, K: Sink>(
         (Outcome F.reads (J.answers (J.kind job.old)) start (ports left faults (K.written out.new) (K.faults out.new))) }
     ensures same { J.kind job.new ≡ J.kind job.old }
 {
+    F::lawful();
     text.clear();
     let went = take_piece(run, job, piece, text);
     match put_all(out, text) {
@@ -180,6 +182,7 @@ fn read_once<F: Format, J: Job<F>, S: Source, K: Sink>(
         × TakesAtMost (input_limit + 1) start.left (S.left src.new)) }
     ensures same { J.kind job.new ≡ J.kind job.old }
 {
+    F::lawful();
     match src.read(buffer) {
         Err(_) => Err(RunEnd::ReadFault),
         Ok(0) => Err(finish(alloc, run, job, out)),
@@ -206,6 +209,7 @@ pub fn run_records<F: Format, J: Job<F>, S: Source, K: Sink>(
         (ports (S.left src.new) (S.faults src.new) (K.written out.new) (K.faults out.new)) result }
     ensures limit { TakesAtMost (input_limit + 1) (S.left src.old) (S.left src.new) }
 {
+    F::lawful();
     let mut run = Run {
         reader,
         records: 0,

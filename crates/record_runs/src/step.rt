@@ -21,7 +21,7 @@ fn count_record<F: Format>(run: &mut Run<F>, served: bool)
     }
 }
 
-// Consumes a piece to the end of a record, which is answered, or to its own; and says how many bytes.
+// Consumes some of a piece, to the end of a record at most, which is answered; and says how many bytes.
 fn take_record<F: Format, J: Job<F>>(
     run: &mut Run<F>,
     job: &mut J,
@@ -40,12 +40,13 @@ fn take_record<F: Format, J: Job<F>>(
         (Stops F.reads (J.answers (J.kind job.old)) (consumed ++ piece.now) (front ++ text.new.items) run.new.records run.new.refused) }
     ensures same { J.kind job.new ≡ J.kind job.old }
 {
+    F::lawful();
     match run.reader.take(piece) {
         Err(_) => Err(Stop::NoMemory),
         Ok(Taken::Bad(end)) => Err(Stop::Bad(end)),
-        Ok(Taken::More) => {
-            run.taken += piece.len();
-            Ok(piece.len())
+        Ok(Taken::Goes(k)) => {
+            run.taken += k;
+            Ok(k)
         }
         Ok(Taken::Ended(k)) => match job.answer(run.records + 1, run.reader.record(), text) {
             Err(_) => Err(Stop::NoMemory),
@@ -103,6 +104,7 @@ pub fn take_piece<F: Format, J: Job<F>>(
         (Stops F.reads (J.answers (J.kind job.old)) (consumed ++ piece.now) (front ++ text.new.items) run.new.records run.new.refused) }
     ensures same { J.kind job.new ≡ J.kind job.old }
 {
+    F::lawful();
     let room = INPUT_LIMIT - run.taken;
     if piece.len() <= room {
         return take_within(run, job, piece, text);

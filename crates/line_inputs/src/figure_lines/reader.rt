@@ -1,21 +1,15 @@
 //! A reader of figures, piece by piece.
-ghost use Rattle.std.specs.Prelude.{◌≡◌, ◌+◌, ◌<◌, ◌≤◌, [], List, ℕ, None, length, IsTrue, ◌↔◌, IfOk};
-ghost use Rattle.record_runs.specs.Texts.{input_limit};
-ghost use Rattle.record_runs.specs.Run.{Moves, TakesPiece};
-ghost use Rattle.line_inputs.specs.Given.{IsGiven};
-ghost use Rattle.line_inputs.specs.FigureLinesFormat.{figures as the_figures};
-ghost use Rattle.figure_text.specs.declared.figure.Figure.{Figure as AFigure};
+ghost use Rattle.std.specs.Prelude.{◌≡◌, ◌+◌, ◌≤◌, []};
 
 use crate::figure_lines::begun::Begun;
 use crate::figure_lines::ending::Ending;
 use crate::figure_lines::held::Held;
 use crate::figure_lines::part::{Line, take_line};
 use crate::figure_lines::step::After;
-use crate::parts::{Part, Parts, take_piece};
 use figure_text::{Figure, GridJob, Word};
 use map_lists::Rotations;
 use pg_plane::Points;
-use record_runs::Taken;
+use record_runs::{Format, Taken};
 use std::alloc::{AllocError, Global};
 use std::marker::Model;
 
@@ -49,7 +43,7 @@ impl Model for FigureReader {
 }
 
 impl FigureReader {
-    ghost use Rattle.line_inputs.specs.FigureLinesState.{IsAt, ending_by};
+    ghost use Rattle.line_inputs.specs.FigureLinesState.{IsAt};
 
     /// A reader before the first byte. It takes no memory.
     pub fn new(alloc: Global) -> FigureReader
@@ -69,42 +63,6 @@ impl FigureReader {
             },
         }
     }
-
-    /// The figure that became whole last.
-    pub fn figure(&self) -> &Figure
-        ensures { result.now ≡ self.now.figure }
-    {
-        &self.figure
-    }
-
-    /// How the bytes consumed end if no more come.
-    pub fn ending(&self) -> Ending
-        ensures { result ≡ ending_by self.now.begun self.now.line self.now.pending }
-    {
-        match &self.begun {
-            Some(begun) => Ending::EndInFigure(begun.first),
-            None => {
-                if self.pending.is_empty() {
-                    Ending::Well
-                } else {
-                    Ending::BadLine(self.line)
-                }
-            }
-        }
-    }
-
-    /// Takes the bytes of a piece to the end of a figure or to its own end.
-    ///
-    /// Each line is judged as it is closed. After a bad place, and when memory runs out, the reader is not to be
-    /// asked again.
-    pub fn take(&mut self, piece: &[u8]) -> Result<Taken<Ending>, AllocError>
-        requires { self.old.place + length piece.now ≤ input_limit }
-        ensures moves { IfOk result (Moves IsGiven self.old.place self.new.place self.new.figure piece.now) }
-        ensures reads { (consumed : List ℕ) (figures : List AFigure) → IsAt self.old consumed figures
-            → IfOk result (TakesPiece the_figures IsAt consumed figures self.new self.new.figure piece.now) }
-    {
-        take_piece(self, piece)
-    }
 }
 
 // Puts a figure in the place of the one before. As a function of its own, it costs no line that ends no figure.
@@ -114,8 +72,8 @@ fn keep(figure: &mut Figure, held: Held<Figure>)
     *figure = held.into_inner();
 }
 
-impl Parts for FigureReader {
-    ghost use Rattle.line_inputs.specs.FigureLinesState.{IsAt};
+impl Format for FigureReader {
+    ghost use Rattle.line_inputs.specs.FigureLinesState.{IsAt, ending_by};
     ghost use Rattle.line_inputs.specs.Given.{IsGiven};
     ghost use Rattle.line_inputs.specs.FigureLinesFormat.{figures};
 
@@ -131,9 +89,11 @@ impl Parts for FigureReader {
 
     ghost lent = { λ reader. reader.figure };
 
+    ghost ending = { λ reader. ending_by reader.begun reader.line reader.pending };
+
     ghost IsGiven = { IsGiven };
 
-    fn take_part(&mut self, part: &[u8]) -> Result<Part<Ending>, AllocError> {
+    fn take(&mut self, piece: &[u8]) -> Result<Taken<Ending>, AllocError> {
         let before = self.begun.take();
         match take_line(
             self.alloc,
@@ -141,12 +101,12 @@ impl Parts for FigureReader {
             &mut self.pending,
             before,
             self.line,
-            part,
+            piece,
         )? {
             Line::Open(begun) => {
                 self.begun = begun;
-                self.place += part.len();
-                Ok(Part::Goes(part.len()))
+                self.place += piece.len();
+                Ok(Taken::Goes(piece.len()))
             }
             Line::Closed(k, after) => {
                 self.place += k;
@@ -154,15 +114,42 @@ impl Parts for FigureReader {
                 match after {
                     After::Goes(begun) => {
                         self.begun = begun;
-                        Ok(Part::Goes(k))
+                        Ok(Taken::Goes(k))
                     }
                     After::Whole(held) => {
                         keep(&mut self.figure, held);
-                        Ok(Part::Ended(k))
+                        Ok(Taken::Ended(k))
                     }
-                    After::Bad(ending) => Ok(Part::Bad(ending)),
+                    After::Bad(ending) => Ok(Taken::Bad(ending)),
                 }
             }
         }
     }
+
+    fn record(&self) -> &Figure {
+        &self.figure
+    }
+
+    fn end(&self) -> Ending {
+        match &self.begun {
+            Some(begun) => Ending::EndInFigure(begun.first),
+            None => {
+                if self.pending.is_empty() {
+                    Ending::Well
+                } else {
+                    Ending::BadLine(self.line)
+                }
+            }
+        }
+    }
+
+    fn too_long(&self) -> Ending {
+        Ending::TooLong
+    }
+
+    fn is_well(end: &Ending) -> bool {
+        matches!(end, Ending::Well)
+    }
+
+    fn lawful() {}
 }

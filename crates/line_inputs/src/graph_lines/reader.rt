@@ -1,17 +1,12 @@
 //! A reader of lines, piece by piece.
-ghost use Rattle.std.specs.Prelude.{◌≡◌, ◌+◌, ◌<◌, ◌≤◌, [], List, ℕ, length, IsTrue, ◌↔◌, IfOk};
-ghost use Rattle.record_runs.specs.Texts.{input_limit};
-ghost use Rattle.record_runs.specs.Run.{Moves, TakesPiece};
-ghost use Rattle.graph6_text.specs.Graphs.{EdgeGraph};
-ghost use Rattle.line_inputs.specs.GraphLinesFormat.{graph_lines as the_lines, IsAny};
+ghost use Rattle.std.specs.Prelude.{◌≡◌, ◌+◌, ◌≤◌, []};
 ghost use Rattle.line_inputs.specs.GraphLinesProgress.{behind_header as line_behind};
 ghost use Rattle.line_inputs.specs.GraphLinesState.{ending_of};
 
 use crate::graph_lines::ending::Ending;
 use crate::graph_lines::line::{Judged, Line, behind_header, take_line};
-use crate::parts::{Part, Parts, take_piece};
 use graph6_text::Graph;
-use record_runs::Taken;
+use record_runs::{Format, Taken};
 use std::alloc::{AllocError, Global};
 use std::marker::Model;
 
@@ -54,7 +49,7 @@ fn open_ending(first: bool, pending: &[u8], line: u32) -> Ending
 }
 
 impl GraphReader {
-    ghost use Rattle.line_inputs.specs.GraphLinesState.{IsAt, ending_by};
+    ghost use Rattle.line_inputs.specs.GraphLinesState.{IsAt};
 
     /// A reader before the first byte. It takes no memory.
     pub fn new(alloc: Global) -> GraphReader
@@ -69,37 +64,10 @@ impl GraphReader {
             graph: Graph::new(alloc),
         }
     }
-
-    /// The graph that was read last.
-    pub fn graph(&self) -> &Graph
-        ensures { result.now ≡ self.now.graph }
-    {
-        &self.graph
-    }
-
-    /// How the bytes consumed end if no more come.
-    pub fn ending(&self) -> Ending
-        ensures { result ≡ ending_by self.now.first self.now.line self.now.pending }
-    {
-        open_ending(self.first, &self.pending, self.line)
-    }
-
-    /// Takes the bytes of a piece to the end of the line of a graph or to its own end.
-    ///
-    /// Each line is judged as it is closed. After a bad place, and when memory runs out, the reader is not to be
-    /// asked again.
-    pub fn take(&mut self, piece: &[u8]) -> Result<Taken<Ending>, AllocError>
-        requires { self.old.place + length piece.now ≤ input_limit }
-        ensures moves { IfOk result (Moves IsAny self.old.place self.new.place self.new.graph piece.now) }
-        ensures reads { (consumed : List ℕ) (graphs : List EdgeGraph) → IsAt self.old consumed graphs
-            → IfOk result (TakesPiece the_lines IsAt consumed graphs self.new self.new.graph piece.now) }
-    {
-        take_piece(self, piece)
-    }
 }
 
-impl Parts for GraphReader {
-    ghost use Rattle.line_inputs.specs.GraphLinesState.{IsAt};
+impl Format for GraphReader {
+    ghost use Rattle.line_inputs.specs.GraphLinesState.{IsAt, ending_by};
     ghost use Rattle.line_inputs.specs.GraphLinesFormat.{graph_lines, IsAny};
 
     type Record = Graph;
@@ -114,27 +82,47 @@ impl Parts for GraphReader {
 
     ghost lent = { λ reader. reader.graph };
 
+    ghost ending = { λ reader. ending_by reader.first reader.line reader.pending };
+
     ghost IsGiven = { IsAny };
 
-    fn take_part(&mut self, part: &[u8]) -> Result<Part<Ending>, AllocError> {
-        match take_line(self.alloc, &mut self.pending, self.first, self.line, part)? {
+    fn take(&mut self, piece: &[u8]) -> Result<Taken<Ending>, AllocError> {
+        match take_line(self.alloc, &mut self.pending, self.first, self.line, piece)? {
             Line::Open => {
-                self.place += part.len();
-                Ok(Part::Goes(part.len()))
+                self.place += piece.len();
+                Ok(Taken::Goes(piece.len()))
             }
             Line::Closed(k, judged) => {
                 self.place += k;
                 self.first = false;
                 match judged {
-                    Judged::Header => Ok(Part::Goes(k)),
+                    Judged::Header => Ok(Taken::Goes(k)),
                     Judged::Graph(graph) => {
                         self.line += 1;
                         self.graph = graph;
-                        Ok(Part::Ended(k))
+                        Ok(Taken::Ended(k))
                     }
-                    Judged::Bad(ending) => Ok(Part::Bad(ending)),
+                    Judged::Bad(ending) => Ok(Taken::Bad(ending)),
                 }
             }
         }
     }
+
+    fn record(&self) -> &Graph {
+        &self.graph
+    }
+
+    fn end(&self) -> Ending {
+        open_ending(self.first, &self.pending, self.line)
+    }
+
+    fn too_long(&self) -> Ending {
+        Ending::TooLong
+    }
+
+    fn is_well(end: &Ending) -> bool {
+        matches!(end, Ending::Well)
+    }
+
+    fn lawful() {}
 }

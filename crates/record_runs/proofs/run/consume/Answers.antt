@@ -13,7 +13,7 @@ returns-in-Err-clause-outcome g c = λ start left faults stands.
     let at = c.take_piece-went.ensures.at stands.consumed stands.text (rw (c.clear.ensures.items, append-nil stands.text) stands.at) in
     ends-cut format.reads job stands.wrote blocks (rw c.deref.ensures.value at c.in-Err.ensures.err)
     (WhereTold-taken (λ input. IsFront format.reads job input (stands.text ++ blocks)) stands.takes
-    (went-front format.reads job format.At format.place g.met.F.Format.place_is g.met.F.Format.begins g.met.F.Format.has _ _ _ _ _ _ c.take_piece-went.result at c.take_piece-went.ensures.counted))
+    (went-front format.reads job format.At format.place c.lawful.ensures.place_is c.lawful.ensures.begins c.lawful.ensures.has _ _ _ _ _ _ c.take_piece-went.result at c.take_piece-went.ensures.counted))
 
 pub returns-in-Ok-went-clause-outcome : goal.returns-in-Ok-went-clause-outcome
 returns-in-Ok-went-clause-outcome g c = λ start left faults stands.
@@ -52,6 +52,6 @@ returns-clause-outcome g c = λ start left faults stands.
     let blocks = c.take_piece-went.new.text.items in
     let stops = rw c.in-Err-Bad.field-0-is at (c.in-Err-Bad.ensures.at stands.consumed stands.text (rw (c.clear.ensures.items, append-nil stands.text) stands.at)) in
     rw c.failed.ensures
-    (ends-failed format.reads job (Wrote-more stands.wrote (rw c.deref.ensures.value at c.in-Ok.ensures.ok) c.in-Ok.ensures.kept) _ _ _ _ _ c.in-Err-write_last.failure g.met.F.Format.has
+    (ends-failed format.reads job (Wrote-more stands.wrote (rw c.deref.ensures.value at c.in-Ok.ensures.ok) c.in-Ok.ensures.kept) _ _ _ _ _ c.in-Err-write_last.failure c.lawful.ensures.has
     (WhereTold-taken (λ input. EndsAs format.reads job input c.in-Err-Bad.end (stands.text ++ blocks) _ _) stands.takes stops.1)
     (rw c.take_piece-went.ensures.same at c.in-Err-write_last.ensures.err))

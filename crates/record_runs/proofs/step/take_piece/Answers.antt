@@ -10,7 +10,7 @@ returns-in-Ok-clause-at g c = λ consumed front is.
     let at = c.in-Ok.ensures.at consumed front is in (
       c.too_long.ensures.bad,
       at-too_long g.F.Format.reads (g.J.Job.answers (g.J.Job.kind c.args.job.now)) g.F.Format.At _ consumed c.args.piece.now n (omega arith)
-          c.too_long.ensures.reading at (g.met.F.Format.place_is _ _ at.records at.read ∙ (let counted = c.in-Ok.ensures.counted in let moved = c.in-Ok.ensures.moved in omega (arith, length-take n c.args.piece.now))),
+          c.too_long.ensures.reading at (c.lawful.ensures.place_is _ _ at.records at.read ∙ (let counted = c.in-Ok.ensures.counted in let moved = c.in-Ok.ensures.moved in omega (arith, length-take n c.args.piece.now))),
     )
 
 pub returns-in-Err-clause-at : goal.returns-in-Err-clause-at

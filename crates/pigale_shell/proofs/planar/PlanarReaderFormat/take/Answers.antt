@@ -1,4 +1,5 @@
-use Rattle.std.proofs.Common.{append_assoc, arith}
+use Rattle.std.proofs.Common.{append_assoc, arith, length}
+use Rattle.std.proofs.lemmas.List.{take_all}
 use Rattle.planar_code.proofs.ProgressLemmas.{Progress-length}
 use Rattle.planar_code.proofs.PieceLemmas.{Progress-joined, Progress-ended, Progress-bad_piece, joined-moves, ended-moves}
 use Rattle.pigale_shell.proofs.PlanarLemmas.{IsGiven-record, front-kept}
@@ -12,12 +13,12 @@ invariant_of-self c = record {
 pub returns-in-More-clause-moves : goal.returns-in-More-clause-moves
 returns-in-More-clause-moves c =
     let taken = rw c.in-More.is at c.in_ok-take.ensures.taken in
-    (joined-moves c.args.self.now.reader c.take.new.self c.args.piece.now c.args.self.now.front taken).count
+    (c.requires.some_bytes, omega arith, (joined-moves c.args.self.now.reader c.take.new.self c.args.piece.now c.args.self.now.front taken).count)
 
 pub returns-in-More-clause-reads : goal.returns-in-More-clause-reads
 returns-in-More-clause-reads c = λ consumed records progress.
     let taken = rw c.in-More.is at c.in_ok-take.ensures.taken in
-    Progress-joined consumed records c.args.self.now.reader c.take.new.self c.args.piece.now progress taken
+    rw (take_all (length c.args.piece.now) c.args.piece.now (omega arith)) (Progress-joined consumed records c.args.self.now.reader c.take.new.self c.args.piece.now progress taken)
 
 pub returns-in-Ended-clause-moves : goal.returns-in-Ended-clause-moves
 returns-in-Ended-clause-moves c =

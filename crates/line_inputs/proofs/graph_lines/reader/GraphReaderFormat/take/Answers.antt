@@ -5,11 +5,11 @@ use Rattle.line_inputs.proofs.FigureLinesPartLemmas.{part-splits}
 use Rattle.line_inputs.specs.GraphLinesProgress.{Progress}
 use Rattle.line_inputs.specs.GraphLinesReading.{IsReading}
 use Rattle.line_inputs.specs.GraphLinesState.{State}
-use Rattle.line_inputs.proofs.graph_lines.reader.GraphReaderParts.take_part.Goals as goal
+use Rattle.line_inputs.proofs.graph_lines.reader.GraphReaderFormat.take.Goals as goal
 
-pub returns-in-Bad-clause-takes : goal.returns-in-Bad-clause-takes
-returns-in-Bad-clause-takes c = λ consumed graphs at.
-    let part = c.args.part.now in
+pub returns-in-Bad-clause-reads : goal.returns-in-Bad-clause-reads
+returns-in-Bad-clause-reads c = λ consumed graphs at.
+    let part = c.args.piece.now in
     let few : length consumed + length part ≤ input_limit = let l = at.placed in let r = c.requires.room in omega arith in
     let P : State → Type 0 = λ s. Progress consumed graphs s.line s.first s.pending in
     let progress = subst P (sym c.self.view_is) at.progress in

@@ -5,12 +5,12 @@ use Rattle.record_runs.specs.Texts.{input_limit}
 use Rattle.line_inputs.specs.FigureLinesReading.{IsReading}
 use Rattle.line_inputs.specs.FigureLinesState.{State}
 use Rattle.line_inputs.proofs.FigureLinesPartLemmas.{part-splits}
-use Rattle.line_inputs.proofs.figure_lines.reader.FigureReaderParts.take_part.Goals as goal
+use Rattle.line_inputs.proofs.figure_lines.reader.FigureReaderFormat.take.Goals as goal
 
-pub returns-in-Bad-clause-takes : goal.returns-in-Bad-clause-takes
-returns-in-Bad-clause-takes c = λ consumed figures at.
+pub returns-in-Bad-clause-reads : goal.returns-in-Bad-clause-reads
+returns-in-Bad-clause-reads c = λ consumed figures at.
     let state = c.args.self.now in
-    let part = c.args.part.now in
+    let part = c.args.piece.now in
     let few : length consumed + length part ≤ input_limit = let l = at.placed in let r = c.requires.room in omega arith in
     let P : State → Type 0 = λ s. Progress consumed figures s.line s.pending s.begun in
     let here = subst P (sym c.self.view_is) at.progress in
