@@ -1,11 +1,11 @@
 -- The longest paths over the arcs between faces are the numbering of the faces, and give the dual numbers.
-use Rattle.std.proofs.Common.{◌≡◌, ◌≢◌, ℕ, zero, suc, ◌+◌, ◌<◌, ◌≤◌, cond, ltb, List, [], ◌∷◌, length, map, get_or, Contains, refl, sym, ap, ap₂, ◌∙◌, subst, inl, inr, arith}
+use Rattle.std.proofs.Common.{◌≡◌, ◌≢◌, ℕ, zero, suc, ◌+◌, ◌<◌, ◌≤◌, cond, List, [], ◌∷◌, length, map, get_or, refl, sym, ap, ◌∙◌, subst, inl, inr, arith}
 use Rattle.std.proofs.lemmas.Bool.{cases_eq, cases_lt, lt-ltb, le-ltb}
 use Rattle.std.proofs.lemmas.List.{length-map, get_or-map, get_or_past}
 use Rattle.std.proofs.lemmas.List.Elements.{Contains-get_or}
-use Rattle.classes.proofs.Classes.{Together, Together-from, same_class-from}
+use Rattle.classes.proofs.Classes.{Together-from, same_class-from}
 use Rattle.map_lists.specs.Lists.{Lists}
-use Rattle.map_theory.specs.Maps.{Dart, IsSimpleMap, HasDart, list_of, place_of, darts, dart_count, dart_number, face_classes, face_count}
+use Rattle.map_theory.specs.Maps.{Dart, IsSimpleMap, HasDart, list_of, place_of, darts, dart_count, dart_number, face_classes}
 use Rattle.map_theory.specs.Paths.{SameFace}
 use Rattle.map_theory.proofs.DartLemmas.{IsDartNumber-darts, dart_number-lt, place_of-lt-length, get_or-place_of}
 use Rattle.graph_search.specs.Arcs.{arcs_of, HasArc, IsAcyclic, AreLongest}

@@ -1,6 +1,6 @@
 -- Faces numbered by walks over the numbers of darts.
-use Rattle.std.proofs.Common.{◌≡◌, ◌≢◌, ◌⊎◌, ◌||◌, ℕ, zero, suc, ◌+◌, ◌<◌, ◌≤◌, Bool, true, false, cond, eqb, List, [], ◌∷◌, ◌++◌, length, map, get_or, set, take, drop, ◌-◌, slice_get, Contains, Some, refl, sym, ap, ap₂, ◌∙◌, subst, inl, inr, arith, get_or-set_same, get_or-set_other, length-set}
-use Rattle.std.proofs.lemmas.Bool.{cases_Bool, cases_eq, cases_lt, false≢true, or_left, ltb-true, lt-ltb}
+use Rattle.std.proofs.Common.{◌≡◌, ◌≢◌, ◌⊎◌, ◌||◌, ℕ, ◌+◌, ◌<◌, ◌≤◌, Bool, true, false, cond, eqb, List, [], ◌∷◌, ◌++◌, length, map, get_or, set, take, drop, ◌-◌, slice_get, Contains, Some, refl, sym, ap, ap₂, ◌∙◌, subst, inl, inr, arith, get_or-set_other}
+use Rattle.std.proofs.lemmas.Bool.{cases_Bool, cases_eq, cases_lt, false≢true, lt-ltb}
 use Rattle.std.proofs.lemmas.Bool.Decides.{nat_tests}
 use Rattle.std.proofs.lemmas.Option.{slice_get_within, get_or_from_slice_get}
 use Rattle.std.proofs.lemmas.List.{append_assoc, append-nil, length-append, length-map, get_or-map, get_or_append_left, get_or_push, drop-map, take-map}
@@ -8,20 +8,20 @@ use Rattle.std.proofs.lemmas.List.Elements.{All-append, All-contains_itself, Con
 use Rattle.classes.specs.Classes.{image, label, same_class}
 use Rattle.classes.proofs.Classes.{Together, Together-from, same_class-from, IsLabels}
 use Rattle.classes.proofs.Orbits.{length-orbits, IsLabels-orbits}
-use Rattle.classes.proofs.Marks.{SetsMark, IsCounting, IsCounting-none, IsCounting-new, IsCounting-old, IsCounting-all, IsCounting-le, IsCounting-together}
+use Rattle.classes.proofs.Marks.{SetsMark, IsCounting-none, IsCounting-new, IsCounting-old, IsCounting-all, IsCounting-le, IsCounting-together}
 use Rattle.map_lists.specs.Lists.{Lists}
-use Rattle.map_lists.specs.Cuts.{cut, AreCuts}
+use Rattle.map_lists.specs.Cuts.{cut}
 use Rattle.map_lists.proofs.CutLemmas.{length-cut, pushed, IsStored-cuts, IsStored-cut}
-use Rattle.map_theory.specs.Maps.{Dart, IsSimpleMap, HasDart, list_of, darts, dart_count, dart_number, place_of, twin_dart, face_images, face_classes}
+use Rattle.map_theory.specs.Maps.{Dart, HasDart, list_of, darts, dart_count, dart_number, place_of, twin_dart, face_images, face_classes}
 use Rattle.map_theory.proofs.DartLemmas.{length-darts, length-face_images, IsDartNumber-darts, get_or-face_images, place_after, place_of-entry_after, place_of-lt-length, place_of_number, dart_number-lt, get_or-dart_number, IsPermutationOfBelow-face_images}
 use Rattle.map_theory.proofs.DartCounts.{few_darts-simple}
 use Rattle.simple_maps.proofs.FlatLemmas.{start-is, end-is, count-is, dart-is}
 use Rattle.euler_faces.specs.Numbers.{mark_at}
 use Rattle.euler_faces.specs.Search.{IsNumberedBy}
 use Rattle.euler_faces.specs.FaceSearch.{no_face, with_face}
-use Rattle.euler_faces.proofs.SearchLemmas.{marks-set, length-marks_of, met, unmet, set-here, IsNumbered-set}
+use Rattle.euler_faces.proofs.SearchLemmas.{marks-set, length-marks_of, set-here}
 use Rattle.graph_search.specs.Arcs.{arcs_of}
-use Rattle.bipolar.specs.FaceNumbers.{AreDarts, dart_of, GoesUp, IsPutUp, IsNew, ArePutTwins, AreTwinsOf, AreNumberedBelow, AreFaceNumbers, AreFaceArcs}
+use Rattle.bipolar.specs.FaceNumbers.{AreDarts, dart_of, GoesUp, IsPutUp, IsNew, ArePutTwins, AreNumberedBelow, AreFaceNumbers, AreFaceArcs}
 
 -- the images of what a list contains
 Contains-map : (g : ℕ → ℕ) (xs : List ℕ) (x : ℕ) → Contains xs x → Contains (map g xs) (g x)

@@ -59,79 +59,75 @@ fn are_paired(twins: &[u32]) -> bool
     greatest < NO_PLACE
 }
 
-// Threads the darts of v's list, which are those from `start` on and before `end`. It answers whether the
-// list holds no number twice and not v.
-fn thread_list(
-    entries: &[u16],
+// The list of `v`, as a part of the entries of all lists: from `start` on and before `end`.
+#[derive(Clone, Copy)]
+struct ListPart<'a> {
+    entries: &'a [u16],
     start: usize,
     end: usize,
     v: u16,
-    tails: &mut [u16],
-    twins: &mut [u32],
-    newest: &mut [u32],
-) -> bool
-    requires order { start ≤ end }
-    requires within { end ≤ length entries.now }
-    requires few { length entries.now < 16777216 }
-    requires tails { length tails.old ≡ length entries.now }
-    requires twins { length twins.old ≡ length entries.now }
-    requires v_in { v < length newest.old }
-    requires numbers { All (λ u. u < length newest.old) entries.now }
-    requires unset { All (λ m. 16777216 ≤ m) newest.old }
-    ensures unset { All (λ m. 16777216 ≤ m) newest.new }
-    ensures list { OnTrue result (IsSimpleList entries.now start end v) }
-    ensures placed { OnTrue result (IsPlaced tails.old twins.old tails.new twins.new start end v) }
-{
-    let base = FIRST_PLACE + start as u32;
-    newest[v as usize] = base;
-    for d in start..end {
-        let u = entries[d];
-        let older = newest[u as usize];
-        if older >= base {
-            return false;
-        }
-        tails[d] = v;
-        twins[d] = older;
-        newest[u as usize] = FIRST_PLACE + d as u32;
-    }
-    true
+    ghost order: { start ≤ end },
+    ghost within: { end ≤ length entries.now },
+    ghost few: { length entries.now < 16777216 },
 }
 
-// Pairs the darts of v's list with those to v in the lists before, along their thread, which leads from each
-// dart to one before it.
-fn pair_list(
-    entries: &[u16],
-    start: usize,
-    end: usize,
-    v: u16,
-    thread: u32,
-    tails: &[u16],
-    twins: &mut [u32],
-    newest: &[u32],
-)
-    requires order { start ≤ end }
-    requires within { end ≤ length entries.now }
-    requires few { length entries.now < 16777216 }
-    requires tails { length tails.now ≡ length entries.now }
-    requires twins { length twins.old ≡ length entries.now }
-    requires before { (d : ℕ) → d < start → slice_index tails.now d < length newest.now }
-    requires here { (d : ℕ) → start ≤ d → d < end → slice_index tails.now d ≡ v }
-    requires pairs { AreMutual entries.now tails.now twins.old end }
-    ensures { AreMutual entries.now tails.now twins.new end }
-{
-    let mut bound = start;
-    let mut d = place_named(thread);
-    'along: while d < bound {
-        let tail = tails[d];
-        let twin = place_named(newest[tail as usize]);
-        if twin < start || twin >= end || entries[twin] != tail || entries[d] != v {
-            return;
+impl ListPart<'_> {
+    // Threads the darts of the list. It answers whether the list holds no number twice and not `v`.
+    #[inline(always)]
+    fn thread(&self, tails: &mut [u16], twins: &mut [u32], newest: &mut [u32]) -> bool
+        requires tails { length tails.old ≡ length self.now.entries.now }
+        requires twins { length twins.old ≡ length self.now.entries.now }
+        requires v_in { self.now.v < length newest.old }
+        requires numbers { All (λ u. u < length newest.old) self.now.entries.now }
+        requires unset { All (λ m. 16777216 ≤ m) newest.old }
+        ensures unset { All (λ m. 16777216 ≤ m) newest.new }
+        ensures list { OnTrue result (IsSimpleList self.now.entries.now self.now.start self.now.end self.now.v) }
+        ensures placed { OnTrue result (IsPlaced tails.old twins.old tails.new twins.new self.now.start self.now.end self.now.v) }
+    {
+        let base = FIRST_PLACE + self.start as u32;
+        newest[self.v as usize] = base;
+        for d in self.start..self.end {
+            let u = self.entries[d];
+            let older = newest[u as usize];
+            if older >= base {
+                return false;
+            }
+            tails[d] = self.v;
+            twins[d] = older;
+            newest[u as usize] = FIRST_PLACE + d as u32;
         }
-        let link = twins[d];
-        twins[d] = twin as u32;
-        twins[twin] = d as u32;
-        bound = d;
-        d = place_named(link);
+        true
+    }
+
+    // Pairs the darts of the list with those to `v` in the lists before, along their thread, which leads from each
+    // dart to one before it.
+    #[inline(always)]
+    fn pair(&self, thread: u32, tails: &[u16], twins: &mut [u32], newest: &[u32])
+        requires tails { length tails.now ≡ length self.now.entries.now }
+        requires twins { length twins.old ≡ length self.now.entries.now }
+        requires before { (d : ℕ) → d < self.now.start → slice_index tails.now d < length newest.now }
+        requires here { (d : ℕ) → self.now.start ≤ d → d < self.now.end → slice_index tails.now d ≡ self.now.v }
+        requires pairs { AreMutual self.now.entries.now tails.now twins.old self.now.end }
+        ensures { AreMutual self.now.entries.now tails.now twins.new self.now.end }
+    {
+        let mut bound = self.start;
+        let mut d = place_named(thread);
+        'along: while d < bound {
+            let tail = tails[d];
+            let twin = place_named(newest[tail as usize]);
+            if twin < self.start
+                || twin >= self.end
+                || self.entries[twin] != tail
+                || self.entries[d] != self.v
+            {
+                return;
+            }
+            let link = twins[d];
+            twins[d] = twin as u32;
+            twins[twin] = d as u32;
+            bound = d;
+            d = place_named(link);
+        }
     }
 }
 
@@ -162,10 +158,16 @@ pub(crate) fn finds_twins(
     for v in 0..ends.len() {
         let end = ends[v];
         let thread = newest[v];
-        if !thread_list(entries, start, end, v as u16, tails, twins, newest) {
+        let list = ListPart {
+            entries,
+            start,
+            end,
+            v: v as u16,
+        };
+        if !list.thread(tails, twins, newest) {
             return false;
         }
-        pair_list(entries, start, end, v as u16, thread, tails, twins, newest);
+        list.pair(thread, tails, twins, newest);
         start = end;
     }
     are_paired(twins)

@@ -6,39 +6,30 @@ use Rattle.simple_maps.specs.Tables.{AreSlots}
 use Rattle.simple_maps.proofs.PassedLemmas.{pairs-placed, HasPassed-more, AreSlots-passed}
 use Rattle.simple_maps.proofs.pass.finds_twins.Goals as goal
 
-pub thread_list-requires-clause-order : goal.thread_list-requires-clause-order
-thread_list-requires-clause-order c =
+pub invariant_of-list-clause-order : goal.invariant_of-list-clause-order
+invariant_of-list-clause-order c =
     let at = AreCuts-at 0 c.args.ends.now (length c.args.entries.now) c.loop-v.v c.requires.cuts c.loop-v-test.true in
     omega (arith, c.loop-v.invariant.passed.start_is)
 
-pub thread_list-requires-clause-within : goal.thread_list-requires-clause-within
-thread_list-requires-clause-within c =
+pub invariant_of-list-clause-within : goal.invariant_of-list-clause-within
+invariant_of-list-clause-within c =
     (AreCuts-at 0 c.args.ends.now (length c.args.entries.now) c.loop-v.v c.requires.cuts c.loop-v-test.true).1
 
-pub pair_list-requires-clause-order : goal.pair_list-requires-clause-order
-pair_list-requires-clause-order c =
+pub pair-requires-clause-pairs : goal.pair-requires-clause-pairs
+pair-requires-clause-pairs c =
     let at = AreCuts-at 0 c.args.ends.now (length c.args.entries.now) c.loop-v.v c.requires.cuts c.loop-v-test.true in
-    omega (arith, c.loop-v.invariant.passed.start_is)
-
-pub pair_list-requires-clause-within : goal.pair_list-requires-clause-within
-pair_list-requires-clause-within c =
-    (AreCuts-at 0 c.args.ends.now (length c.args.entries.now) c.loop-v.v c.requires.cuts c.loop-v-test.true).1
-
-pub pair_list-requires-clause-pairs : goal.pair_list-requires-clause-pairs
-pair_list-requires-clause-pairs c =
-    let at = AreCuts-at 0 c.args.ends.now (length c.args.entries.now) c.loop-v.v c.requires.cuts c.loop-v-test.true in
-    pairs-placed _ _ _ _ _ c.loop-v.start c.loop-v.v c.loop-v.invariant.passed _ _ _ (omega (arith, c.loop-v.invariant.passed.start_is)) c.if-not-thread_list.ensures.placed
+    pairs-placed _ _ _ _ _ c.loop-v.start c.loop-v.v c.loop-v.invariant.passed _ _ _ (omega (arith, c.loop-v.invariant.passed.start_is)) c.if-not-thread.ensures.placed
 
 pub loop-v-preserved : goal.loop-v-preserved
 loop-v-preserved c =
     let at = AreCuts-at 0 c.args.ends.now (length c.args.entries.now) c.loop-v.v c.requires.cuts c.loop-v-test.true in
     let h = c.loop-v.invariant in
     record {
-      tails = c.thread_list.auto.tails ∙ h.tails;
-      twins = c.pair_list.auto.twins ∙ c.thread_list.auto.twins ∙ h.twins;
-      vertices = c.thread_list.auto.newest ∙ h.vertices;
-      passed = HasPassed-more _ _ _ _ _ c.loop-v.start c.loop-v.v h.passed _ _ _ (omega (arith, h.passed.start_is)) c.if-not-thread_list.ensures.placed _ _ _ _ refl
-          c.if-not-thread_list.ensures.list (λ d. refl) c.pair_list.ensures c.thread_list.ensures.unset refl;
+      tails = c.thread.auto.tails ∙ h.tails;
+      twins = c.pair.auto.twins ∙ c.thread.auto.twins ∙ h.twins;
+      vertices = c.thread.auto.newest ∙ h.vertices;
+      passed = HasPassed-more _ _ _ _ _ c.loop-v.start c.loop-v.v h.passed _ _ _ (omega (arith, h.passed.start_is)) c.if-not-thread.ensures.placed _ _ _ _ refl
+          c.if-not-thread.ensures.list (λ d. refl) c.pair.ensures c.thread.ensures.unset refl;
     }
 
 pub returns : goal.returns

@@ -1,4 +1,4 @@
-use Rattle.std.proofs.Common.{◌≡◌, ◌++◌, length, map, take, drop, slice_index}
+use Rattle.std.proofs.Common.{◌≡◌, ◌++◌, map, take, drop, slice_index}
 use Rattle.bipolar.proofs.dual_orders.faces.lead_to_faces.Given as goal
 
 abbrev pub invariant-loop-i : goal.invariant-loop-i

@@ -1,10 +1,9 @@
-use Rattle.std.proofs.Common.{◌≡◌, ◌<◌, ◌≤◌, ℕ, List, length, get_or, map, drop, sym, ap, ◌∙◌, subst, arith}
+use Rattle.std.proofs.Common.{◌≡◌, ℕ, List, length, get_or, map, drop, ap, ◌∙◌, arith}
 use Rattle.std.proofs.lemmas.List.{take_at}
 use Rattle.map_lists.specs.Cuts.{cut}
 use Rattle.map_lists.proofs.CutLemmas.{length-cut}
 use Rattle.euler_faces.specs.FaceSearch.{no_face}
 use Rattle.euler_faces.proofs.SearchLemmas.{unset_after}
-use Rattle.bipolar.specs.FaceNumbers.{AreFaceNumbers, AreFaceArcs}
 use Rattle.bipolar.proofs.FaceNumbering.{few_faces_all, AreFaceNumbers-all, AreFaceArcs-all}
 use Rattle.bipolar.proofs.dual_orders.faces.number_faces.Goals as goal
 

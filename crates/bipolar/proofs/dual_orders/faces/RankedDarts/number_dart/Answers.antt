@@ -1,4 +1,4 @@
-use Rattle.std.proofs.Common.{◌≡◌, length, subst, refl, arith}
+use Rattle.std.proofs.Common.{◌≡◌, length, subst, arith}
 use Rattle.classes.proofs.Marks.{KeepsMarks-counting}
 use Rattle.map_lists.specs.Cuts.{cut}
 use Rattle.map_theory.specs.Maps.{face_images}

@@ -1,4 +1,4 @@
-use Rattle.std.proofs.Common.{◌≡◌, ◌<◌, false, length, set, length-set, refl, ◌∙◌, arith}
+use Rattle.std.proofs.Common.{◌<◌, length, set, length-set, refl, ◌∙◌, arith}
 use Rattle.classes.proofs.Marks.{IsMarking-none, IsMarking-more, IsMarking-all, unmarked_below-set}
 use Rattle.map_lists.specs.Cuts.{cut}
 use Rattle.map_theory.specs.Maps.{face_images}

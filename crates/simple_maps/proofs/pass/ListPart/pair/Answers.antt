@@ -1,6 +1,6 @@
 use Rattle.std.proofs.Common.{◌≢◌, set, refl, sym, ◌∙◌, arith, length-set}
 use Rattle.simple_maps.proofs.PassLemmas.{AreMutual-pair}
-use Rattle.simple_maps.proofs.pass.pair_list.Goals as goal
+use Rattle.simple_maps.proofs.pass.ListPart.pair.Goals as goal
 
 pub along-preserved : goal.along-preserved
 along-preserved c =
@@ -12,6 +12,6 @@ along-preserved c =
     record {
       count = length-set (set twins d e) e d ∙ length-set twins d e ∙ h.count;
       below = omega arith;
-      pairs = AreMutual-pair c.args.entries.now c.args.tails.now c.args.tails.now twins c.args.end d e h.pairs (λ i. refl) (omega arith) (omega arith) ne (omega arith) (omega arith)
-          c.if-entries-twin.false (c.if-entries-d.false ∙ sym (c.requires.here e c.if-twin-start.false c.if-twin-end.false));
+      pairs = AreMutual-pair c.args.self.now.entries.now c.args.tails.now c.args.tails.now twins c.args.self.now.end d e h.pairs (λ i. refl) (omega arith) (omega arith) ne (omega arith) (omega arith)
+          c.if-self-twin.false (c.if-self-d.false ∙ sym (c.requires.here e c.if-twin-self.false c.if-twin-self-2.false));
     }
