@@ -6,7 +6,7 @@ ghost use Rattle.rect_check.specs.Duals.{HasRects};
 ghost use Rattle.rect_orders.specs.Maps.{IsRectMap};
 ghost use Rattle.rect_orders.specs.Figures.{IsDualFor};
 ghost use Rattle.rect_orders.specs.Labellings.{IsByLabelling};
-ghost use Rattle.rect_dual.specs.RectDrawTables.{AreAtRanks};
+ghost use Rattle.rect_dual.specs.RectDrawTables.{AreSmall, AreAtRanks};
 
 use crate::draw::tables::{BoxTables, box_tables};
 use crate::orders::framed_order;
@@ -43,10 +43,7 @@ fn figure_at(alloc: Global, tables: &BoxTables, ranks: &Counts) -> Result<RectFi
     requires right { length tables.now.right.items ≡ length ranks.now }
     requires low { length tables.now.low.items ≡ length ranks.now }
     requires high { length tables.now.high.items ≡ length ranks.now }
-    requires left_small { (k : ℕ) → k < length ranks.now → slice_index tables.now.left.items k < 2 ^ 20 }
-    requires right_small { (k : ℕ) → k < length ranks.now → slice_index tables.now.right.items k < 2 ^ 20 }
-    requires low_small { (k : ℕ) → k < length ranks.now → slice_index tables.now.low.items k < 2 ^ 20 }
-    requires high_small { (k : ℕ) → k < length ranks.now → slice_index tables.now.high.items k < 2 ^ 20 }
+    requires small { AreSmall (length ranks.now) tables.now.left.items tables.now.right.items tables.now.low.items tables.now.high.items }
     ensures x1 { IfOk result (λ fig. AreAtRanks tables.now.left.items ranks.now fig.x1) }
     ensures x2 { IfOk result (λ fig. AreAtRanks tables.now.right.items ranks.now fig.x2) }
     ensures y1 { IfOk result (λ fig. AreAtRanks tables.now.low.items ranks.now fig.y1) }
