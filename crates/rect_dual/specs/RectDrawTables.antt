@@ -20,6 +20,13 @@ pub record AreBoxTables (b : Boxes) (m : ℕ) (left right low high : List ℕ) :
   pub low_is : (v : ℕ) → v < m → slice_index low v ≡ b.low v
   pub high_is : (v : ℕ) → v < m → slice_index high v ≡ b.high v
 
+-- four tables have m numbers each
+pub record AreSized (m : ℕ) (left right low high : List ℕ) : Type 0 where
+  pub left_count : length left ≡ m
+  pub right_count : length right ≡ m
+  pub low_count : length low ≡ m
+  pub high_count : length high ≡ m
+
 -- the first m numbers of four tables are small enough for coordinates
 pub record AreSmall (m : ℕ) (left right low high : List ℕ) : Type 0 where
   pub left_small : (k : ℕ) → k < m → slice_index left k < 2 ^ 20
