@@ -1,5 +1,5 @@
 -- The boxes of an order's run at the vertices of its map.
-use Rattle.std.proofs.Common.{◌≡◌, ℕ, suc, ◌+◌, ◌-◌, ◌^◌, ◌<◌, List, length, get_or, All, pos, ap, ◌∙◌, subst, arith}
+use Rattle.std.proofs.Common.{◌≡◌, ℕ, suc, ◌+◌, ◌-◌, ◌<◌, List, length, get_or, All, pos, ap, ◌∙◌, subst, arith}
 use Rattle.map_lists.specs.Lists.{Lists}
 use Rattle.pg_plane.specs.declared.figure.RectFigure.{RectFigure}
 use Rattle.contour_runs.specs.Runs.{Step}
@@ -16,18 +16,11 @@ use Rattle.rect_orders.specs.Runs.{shortened, IsRunOfMap, RectOrderIsRun}
 use Rattle.rect_orders.proofs.Closed.{length-closed}
 use Rattle.rect_orders.specs.Figures.{AreBoxesAt, IsDualFor, BoxesAreDualOfMap}
 use Rattle.rect_orders.specs.Labellings.{IsByLabelling, BoxesByLabelling}
-use Rattle.rect_dual.specs.RectDrawTables.{AreBoxTables, AreAtRanks, HasLowerRows}
+use Rattle.rect_dual.specs.RectDrawTables.{AreBoxTables, AreSmall, AreAtRanks, HasLowerRows}
 
 -- a fact about four vertices, by other names of them
 pub by_names : (P : ℕ → ℕ → ℕ → ℕ → Type 0) (s s' d d' p p' t t' : ℕ) → s ≡ s' → d ≡ d' → p ≡ p' → t ≡ t' → P s d p t → P s' d' p' t'
 by_names P s s' d d' p p' t t' a b c e h = subst (λ z. P s' d' p' z) e (subst (λ z. P s' d' z t) c (subst (λ z. P s' z p t) b (subst (λ z. P z d p t) a h)))
-
--- the numbers are small
-pub record AreSmall (m : ℕ) (left right low high : List ℕ) : Type 0 where
-  pub left_small : (k : ℕ) → k < m → get_or left k 0 < 2 ^ 20
-  pub right_small : (k : ℕ) → k < m → get_or right k 0 < 2 ^ 20
-  pub low_small : (k : ℕ) → k < m → get_or low k 0 < 2 ^ 20
-  pub high_small : (k : ℕ) → k < m → get_or high k 0 < 2 ^ 20
 
 module _ (lists : Lists) (s d p t : ℕ) (at ranks : List ℕ) (rows : Lists) (h : HasLowerRows lists s d p t at ranks rows) (runs : OrderIsRun) where
   abbrev order : IsRectOrder lists s d p t at

@@ -1,5 +1,5 @@
 -- The sides of boxes in tables, and figures that have them.
-use Rattle.std.specs.Prelude.{ℕ, ◌+◌, ◌-◌, ◌<◌, ◌≡◌, List, ℤ, length, slice_index, pos}
+use Rattle.std.specs.Prelude.{ℕ, ◌+◌, ◌-◌, ◌^◌, ◌<◌, ◌≡◌, List, ℤ, length, slice_index, pos}
 use Rattle.map_lists.specs.Lists.{Lists}
 use Rattle.map_theory.specs.Maps.{Dart}
 use Rattle.plane_laws.specs.Triangulations.{IsTriangulation}
@@ -19,6 +19,20 @@ pub record AreBoxTables (b : Boxes) (m : ℕ) (left right low high : List ℕ) :
   pub right_is : (v : ℕ) → v < m → slice_index right v ≡ b.right v
   pub low_is : (v : ℕ) → v < m → slice_index low v ≡ b.low v
   pub high_is : (v : ℕ) → v < m → slice_index high v ≡ b.high v
+
+-- four tables have m numbers each
+pub record AreSized (m : ℕ) (left right low high : List ℕ) : Type 0 where
+  pub left_count : length left ≡ m
+  pub right_count : length right ≡ m
+  pub low_count : length low ≡ m
+  pub high_count : length high ≡ m
+
+-- the first m numbers of four tables are small enough for coordinates
+pub record AreSmall (m : ℕ) (left right low high : List ℕ) : Type 0 where
+  pub left_small : (k : ℕ) → k < m → slice_index left k < 2 ^ 20
+  pub right_small : (k : ℕ) → k < m → slice_index right k < 2 ^ 20
+  pub low_small : (k : ℕ) → k < m → slice_index low k < 2 ^ 20
+  pub high_small : (k : ℕ) → k < m → slice_index high k < 2 ^ 20
 
 -- the numbers at the ranks of vertices
 pub record AreAtRanks (numbers ranks : List ℕ) (made : List ℤ) : Type 0 where

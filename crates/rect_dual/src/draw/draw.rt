@@ -6,7 +6,7 @@ ghost use Rattle.rect_check.specs.Duals.{HasRects};
 ghost use Rattle.rect_orders.specs.Maps.{IsRectMap};
 ghost use Rattle.rect_orders.specs.Figures.{IsDualFor};
 ghost use Rattle.rect_orders.specs.Labellings.{IsByLabelling};
-ghost use Rattle.rect_dual.specs.RectDrawTables.{AreAtRanks};
+ghost use Rattle.rect_dual.specs.RectDrawTables.{AreSized, AreSmall, AreAtRanks};
 
 use crate::draw::tables::{BoxTables, box_tables};
 use crate::orders::framed_order;
@@ -39,14 +39,8 @@ fn numbers_at(alloc: Global, numbers: &[u32], ranks: &Counts) -> Result<Ints, Al
 // Each box at its vertex.
 fn figure_at(alloc: Global, tables: &BoxTables, ranks: &Counts) -> Result<RectFigure, AllocError>
     requires ranks { All (λ k. k < length ranks.now) ranks.now }
-    requires left { length tables.now.left.items ≡ length ranks.now }
-    requires right { length tables.now.right.items ≡ length ranks.now }
-    requires low { length tables.now.low.items ≡ length ranks.now }
-    requires high { length tables.now.high.items ≡ length ranks.now }
-    requires left_small { (k : ℕ) → k < length ranks.now → slice_index tables.now.left.items k < 2 ^ 20 }
-    requires right_small { (k : ℕ) → k < length ranks.now → slice_index tables.now.right.items k < 2 ^ 20 }
-    requires low_small { (k : ℕ) → k < length ranks.now → slice_index tables.now.low.items k < 2 ^ 20 }
-    requires high_small { (k : ℕ) → k < length ranks.now → slice_index tables.now.high.items k < 2 ^ 20 }
+    requires sizes { AreSized (length ranks.now) tables.now.left.items tables.now.right.items tables.now.low.items tables.now.high.items }
+    requires small { AreSmall (length ranks.now) tables.now.left.items tables.now.right.items tables.now.low.items tables.now.high.items }
     ensures x1 { IfOk result (λ fig. AreAtRanks tables.now.left.items ranks.now fig.x1) }
     ensures x2 { IfOk result (λ fig. AreAtRanks tables.now.right.items ranks.now fig.x2) }
     ensures y1 { IfOk result (λ fig. AreAtRanks tables.now.low.items ranks.now fig.y1) }

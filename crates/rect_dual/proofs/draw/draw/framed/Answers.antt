@@ -1,6 +1,7 @@
-use Rattle.std.proofs.Common.{length}
+use Rattle.std.proofs.Common.{length, arith}
 use Rattle.canon_order.specs.Orders.{vertices_of}
-use Rattle.rect_dual.proofs.Drawn.{rows_are, labelled, steps, AreSmall, tables_small, drawn_dual, drawn_by_labels}
+use Rattle.rect_dual.specs.RectDrawTables.{AreSmall}
+use Rattle.rect_dual.proofs.Drawn.{rows_are, labelled, steps, tables_small, drawn_dual, drawn_by_labels}
 use Rattle.rect_dual.proofs.draw.draw.framed.Goals as goal
 use Rattle.rect_dual.proofs.draw.draw.framed.Goals.{In_ok-tables}
 
@@ -12,17 +13,15 @@ small c =
 pub box_tables-requires-clause-run : goal.box_tables-requires-clause-run
 box_tables-requires-clause-run c = (steps c.args.lists.now c.args.frame.left.0 c.args.frame.top.0 c.args.frame.right.0 c.args.frame.bottom.0 (vertices_of c.in_ok-made.made.order) c.in_ok-made.made.order.rank c.in_ok-made.made.rows c.in_ok-made.ensures.rows c.order_is_run.ensures, rows_are c.args.lists.now c.args.frame.left.0 c.args.frame.top.0 c.args.frame.right.0 c.args.frame.bottom.0 (vertices_of c.in_ok-made.made.order) c.in_ok-made.made.order.rank c.in_ok-made.made.rows c.in_ok-made.ensures.rows c.order_is_run.ensures)
 
-pub figure_at-requires-clause-left_small : goal.figure_at-requires-clause-left_small
-figure_at-requires-clause-left_small c = (small (goal.at.figure_at-requires-clause-left_small c).In_ok-tables).left_small
+pub figure_at-requires-clause-sizes : goal.figure_at-requires-clause-sizes
+figure_at-requires-clause-sizes c =
+    let r = c.in_ok-made.ensures.rows.rank.count in
+    let n = c.in_ok-made.ensures.rows.lower.count in
+    let e = c.in_ok-tables.ensures in
+    record { left_count = omega (arith, e.left, r, n); right_count = omega (arith, e.right, r, n); low_count = omega (arith, e.low, r, n); high_count = omega (arith, e.high, r, n) }
 
-pub figure_at-requires-clause-right_small : goal.figure_at-requires-clause-right_small
-figure_at-requires-clause-right_small c = (small (goal.at.figure_at-requires-clause-right_small c).In_ok-tables).right_small
-
-pub figure_at-requires-clause-low_small : goal.figure_at-requires-clause-low_small
-figure_at-requires-clause-low_small c = (small (goal.at.figure_at-requires-clause-low_small c).In_ok-tables).low_small
-
-pub figure_at-requires-clause-high_small : goal.figure_at-requires-clause-high_small
-figure_at-requires-clause-high_small c = (small (goal.at.figure_at-requires-clause-high_small c).In_ok-tables).high_small
+pub figure_at-requires-clause-small : goal.figure_at-requires-clause-small
+figure_at-requires-clause-small c = small (goal.at.figure_at-requires-clause-small c).In_ok-tables
 
 pub returns-clause-dual : goal.returns-clause-dual
 returns-clause-dual c =
