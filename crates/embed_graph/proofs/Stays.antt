@@ -1,6 +1,6 @@
 -- When a graph has a witness, and when one stays.
 use Rattle.std.proofs.Common.{◌≡◌, ◌<◌, ◌≤◌, ℕ, Bool, true, false, not, refl, sym, subst, inl, inr, arith}
-use Rattle.std.specs.Prelude.{Result, Ok, Option, None, IfOk, MatchOption, IsTrue, ◌↔◌}
+use Rattle.std.specs.Prelude.{Option, None, MatchOption, IsTrue, ◌↔◌}
 use Rattle.std.proofs.lemmas.Bool.{true≢false}
 use Rattle.map_lists.specs.Lists.{Lists}
 use Rattle.graph6_text.specs.Graphs.{EdgeGraph, IsGraph}
@@ -13,7 +13,6 @@ use Rattle.embed_witnesses.proofs.ContractedLemmas.{edge_within}
 use Rattle.embed_witnesses.specs.Kept.{HasPlain, IsKept}
 use Rattle.embed_witnesses.proofs.Kept.{plain_or_kept}
 use Rattle.embed_graph.specs.Found.{IsTested}
-use Rattle.embed_graph.specs.declared.answer.FoundMap.{FoundMap}
 use Rattle.embed_graph.specs.declared.answer.Tested.{Tested}
 use Rattle.embed_graph.specs.declared.answer.Tested.TheVariants.{Map, NoMap}
 use Rattle.embed_graph.proofs.Figured.{proper}
@@ -33,14 +32,11 @@ pub witness_where_none : (graph : EdgeGraph) → IsGraph graph → 0 < graph.n �
 witness_where_none graph known some none = elim (map_or_witness graph (proper graph known some)) [ inl w ↦ w | inr m ↦ absurd (none m.0 m.1) ]
 
 -- whether it has one, by what the test tells
-abbrev MayTell : {E : Type 0} → EdgeGraph → Result Bool E → Type 0
-MayTell graph result = IfOk result (λ yes. IsTrue yes ↔ HasWitness graph)
+pub told_by_test : (graph : EdgeGraph) (answer : Tested) (map : Lists) → IsTested graph answer → answer ≡ Map map → IsTrue false ↔ HasWitness graph
+told_by_test graph answer map h e = ((λ t. absurd (true≢false (sym t))), λ w. absurd (map_refutes graph map (subst (IsTested graph) e h) w))
 
-pub told_by_test : {E : Type 0} (graph : EdgeGraph) (answer : Tested) (found : FoundMap) (result : Result Bool E) → IsTested graph answer → answer ≡ Map found → result ≡ Ok false → MayTell graph result
-told_by_test graph answer found result h e r = subst (MayTell graph) (sym r) ((λ t. absurd (true≢false (sym t))), λ w. absurd (map_refutes graph found.lists (subst (IsTested graph) e h).map w))
-
-pub told_by_refusal : {E : Type 0} (graph : EdgeGraph) (answer : Tested) (result : Result Bool E) → IsGraph graph → 3 ≤ graph.n → IsTested graph answer → answer ≡ NoMap → result ≡ Ok true → MayTell graph result
-told_by_refusal graph answer result known some h e r = subst (MayTell graph) (sym r) ((λ t. witness_where_none graph known (omega (arith, some)) (subst (IsTested graph) e h)), λ w. refl)
+pub told_by_refusal : (graph : EdgeGraph) (answer : Tested) → IsGraph graph → 3 ≤ graph.n → IsTested graph answer → answer ≡ NoMap → IsTrue true ↔ HasWitness graph
+told_by_refusal graph answer known some h e = ((λ t. witness_where_none graph known (omega (arith, some)) (subst (IsTested graph) e h)), λ w. refl)
 
 -- the ends of an edge that keeps a witness are vertices
 pub kept_within : (graph : EdgeGraph) (a b : ℕ) → IsGraph graph → IsKept graph a b → (a < graph.n) × (b < graph.n)

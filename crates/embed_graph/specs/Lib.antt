@@ -6,5 +6,5 @@ pub mod Marks
 pub mod Figures
 -- Which graphs are drawn.
 pub mod Laws
--- Maps that the search found.
+-- What the left-right test answers.
 pub mod Found

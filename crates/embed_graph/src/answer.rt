@@ -2,16 +2,16 @@
 ghost use Rattle.std.specs.Prelude.{◌≡◌, ◌<◌, ◌≤◌, length, IfOk, IfSome, IsTrue};
 ghost use Rattle.map_lists.specs.Lists.{Lists};
 ghost use Rattle.kuratowski.specs.Witnesses.{IsWitness};
-ghost use Rattle.conn_parts.specs.Counted.{IsPlaneMap};
 ghost use Rattle.embed_theorem.specs.Expanded.{IsMapOf};
 ghost use Rattle.embed_graph.specs.Embeddings.{IsEmbedding};
-ghost use Rattle.embed_graph.specs.Found.{IsFoundMap, IsTested};
+ghost use Rattle.embed_graph.specs.Found.{IsTested};
 
 use crate::contracted_embeddings::contracted_witness;
 use crate::graph_embeddings::Embedding;
 use crate::marks::has_edges;
-use conn_parts::{CountedMap, plane_map};
+use conn_parts::plane_count;
 use embed_search::Tables;
+use euler_faces::Counter;
 use graph6_text::Graph;
 use kuratowski::{Witness, check_witness};
 use left_right_lists::map_of_graph;
@@ -19,30 +19,21 @@ use map_lists::Rotations;
 use refusals::Unserved;
 use std::alloc::{AllocError, Global};
 
-/// A map of a graph as the search found it: its lists, and the map made of them.
-#[derive(Drop)]
-pub struct FoundMap {
-    /// The lists.
-    pub lists: Rotations,
-    /// The map with its components and its counts.
-    pub plane: CountedMap,
-}
-
-// The map with these lists, if it is one of genus zero of a graph.
+// The lists, if they are those of a map of genus zero of a graph.
 fn checked_map(
     alloc: Global,
     graph: &Graph,
     lists: Rotations,
-) -> Result<Option<FoundMap>, AllocError>
+) -> Result<Option<Rotations>, AllocError>
     requires some { 3 ≤ graph.now.n }
     requires vertices { length lists ≡ graph.now.n }
-    ensures { IfOk result (λ found. IfSome found (IsFoundMap graph.now)) }
+    ensures { IfOk result (λ found. IfSome found (λ map. IsMapOf map graph.now)) }
 {
     let _n = graph.n();
-    match plane_map(alloc, &lists, 3) {
-        Ok(plane) => {
+    match plane_count(&mut Counter::new(alloc), &lists, 3) {
+        Ok(_) => {
             if has_edges(alloc, graph, &lists)? {
-                Ok(Some(FoundMap { lists, plane }))
+                Ok(Some(lists))
             } else {
                 Ok(None)
             }
@@ -56,25 +47,9 @@ fn checked_map(
 #[derive(Drop)]
 pub enum Tested {
     /// A map of it.
-    Map(FoundMap),
+    Map(Rotations),
     /// It has no map of genus zero.
     NoMap,
-}
-
-// A map of a graph, of lists that are one.
-fn made_map(alloc: Global, graph: &Graph, lists: Rotations) -> Result<FoundMap, AllocError>
-    requires some { 3 ≤ graph.now.n }
-    requires map { IsMapOf lists graph.now }
-    ensures { IfOk result (IsFoundMap graph.now) }
-{
-    refusals::no_refusal_is_plane();
-    let _n = graph.n();
-    match plane_map(alloc, &lists, 3) {
-        Ok(plane) => Ok(FoundMap { lists, plane }),
-        Err(Unserved::NoMemory) => Err(AllocError),
-        // such a map breaks no condition
-        Err(Unserved::Refused(_)) => unreachable!(),
-    }
 }
 
 // The answer to a graph by the sides of its edges.
@@ -83,10 +58,7 @@ fn test_by_sides(alloc: Global, graph: &Graph) -> Result<Tested, AllocError>
     ensures { IfOk result (IsTested graph.now) }
 {
     match map_of_graph(alloc, graph)? {
-        Some(lists) => {
-            let found = made_map(alloc, graph, lists)?;
-            Ok(Tested::Map(found))
-        }
+        Some(map) => Ok(Tested::Map(map)),
         None => Ok(Tested::NoMap),
     }
 }
@@ -102,7 +74,7 @@ pub(crate) fn test_graph(
 {
     match tables.planar_lists(alloc, graph)? {
         Some(lists) => match checked_map(alloc, graph, lists)? {
-            Some(found) => Ok(Tested::Map(found)),
+            Some(map) => Ok(Tested::Map(map)),
             // no graph is known for which this comes
             None => test_by_sides(alloc, graph),
         },
@@ -161,7 +133,7 @@ pub fn embed(alloc: Global, graph: &Graph) -> Result<Embedding, AllocError>
 {
     let mut tables = Tables::new();
     match test_graph(alloc, &mut tables, graph)? {
-        Tested::Map(found) => Ok(Embedding::Map(found.lists)),
+        Tested::Map(map) => Ok(Embedding::Map(map)),
         Tested::NoMap => {
             let witness = refuted(alloc, &mut tables, graph)?;
             Ok(Embedding::NotPlanar(witness))

@@ -12,6 +12,7 @@ use kuratowski::Witness;
 use left_right_test::{Edges, LeftRightTest};
 use map_lists::Rotations;
 use std::alloc::{AllocError, Global};
+use std::mem;
 
 /// The tables of the searches, for one graph after another.
 #[derive(Drop)]
@@ -20,6 +21,8 @@ pub struct Tables {
     test: LeftRightTest,
     marks: ConflictMarks,
     kernel: Kernel,
+    // lists that are done with
+    spent: Option<Rotations>,
 }
 
 impl Tables {
@@ -30,6 +33,7 @@ impl Tables {
             test: LeftRightTest::new(),
             marks: ConflictMarks::new(),
             kernel: Kernel::new(),
+            spent: None,
         }
     }
 
@@ -61,8 +65,22 @@ impl Tables {
         if self.test.refuses(&self.edges, graph) {
             return Ok(None);
         }
-        let lists = self.test.lists(alloc, graph.n())?;
+        let spent = self.take_spent(alloc);
+        let lists = self.test.lists(spent, graph.n())?;
         Ok(Some(lists))
+    }
+
+    // The memory of lists that are done with, or none where none was kept.
+    fn take_spent(&mut self, alloc: Global) -> Rotations {
+        match mem::replace(&mut self.spent, None) {
+            Some(lists) => lists,
+            None => Rotations::new(alloc),
+        }
+    }
+
+    /// Keeps the memory of lists that are done with, for those of the next graph.
+    pub fn keep_lists(&mut self, lists: Rotations) {
+        self.spent = Some(lists);
     }
 
     /// A witness that the graph whose lists were asked for last is nonplanar, or none where that is not seen to be. It

@@ -125,8 +125,8 @@ impl ConflictMarks {
         for edge in 0..links.darts / 2 {
             self.marks.set(edge, 0);
         }
-        self.cover.fill(NONE);
-        self.ends.fill(0);
+        self.cover.fill(links.vertices, NONE);
+        self.ends.fill(links.vertices, 0);
         self.mark(links, search, ring.one);
         self.mark_ties(links, search, ring);
         self.mark_bound(links, search, ring);

@@ -200,11 +200,20 @@ impl Search {
     // that can be.
     #[inline(always)]
     fn meet(&mut self, right: Interval, dart: u32) -> bool {
+        if self.top_conflicts(self.lowpt.get(dart)) {
+            return self.meet_conflicts(right, dart);
+        }
+        if !right.is_empty() {
+            self.push_pair(ConflictPair { left: EMPTY, right });
+        }
+        true
+    }
+
+    // Brings it together with the pairs that conflict with it, of which there is one.
+    fn meet_conflicts(&mut self, right: Interval, dart: u32) -> bool {
         match self.with_conflicts(right, dart) {
             Some(pair) => {
-                if !pair.left.is_empty() || !pair.right.is_empty() {
-                    self.push_pair(pair);
-                }
+                self.push_pair(pair);
                 true
             }
             None => false,
@@ -281,7 +290,6 @@ impl Search {
 
     // An interval without the highest darts, which lead to a vertex. Emptied, its lowest dart goes to the left
     // of the other interval's.
-    #[inline(always)]
     fn trimmed(&mut self, links: &Links, interval: Interval, other: u32, vertex: u32) -> Interval {
         if interval.is_empty() {
             return interval;
@@ -325,6 +333,14 @@ impl Search {
         if self.top == 0 {
             return;
         }
+        let pair = self.pair(minus(self.top, 1));
+        if leads_to(links, pair.left, vertex) || leads_to(links, pair.right, vertex) {
+            self.trim_top(links, vertex);
+        }
+    }
+
+    // Drops what returns to a vertex from the last pair.
+    fn trim_top(&mut self, links: &Links, vertex: u32) {
         let pair = self.pop_pair();
         let left = self.trimmed(links, pair.left, pair.right.low, vertex);
         let right = self.trimmed(links, pair.right, left.low, vertex);
@@ -344,6 +360,12 @@ impl Search {
             && (right == NONE || self.lowpt.get(left) > self.lowpt.get(right));
         self.reference.set(dart, if by_left { left } else { right });
     }
+}
+
+// Whether the highest dart of an interval leads to a vertex.
+#[inline(always)]
+fn leads_to(links: &Links, interval: Interval, vertex: u32) -> bool {
+    !interval.is_empty() && links.head.get(interval.high) == vertex
 }
 
 // Looks at an oriented dart of a vertex. It answers the vertex to go on at, or none after a conflict.

@@ -40,8 +40,8 @@ impl Links {
     pub fn begin(&mut self, edges: &Edges) {
         self.vertices = edges.vertices;
         self.darts = twice(edges.count);
-        self.first.fill(NONE);
-        self.degree.fill(0);
+        self.first.fill(edges.vertices, NONE);
+        self.degree.fill(edges.vertices, 0);
     }
 
     /// The vertex from which a dart leads.
@@ -74,7 +74,7 @@ impl Links {
     pub fn begin_chains(&mut self, edges: &Edges) {
         self.vertices = edges.vertices;
         self.darts = twice(edges.count);
-        self.first.fill(NONE);
+        self.first.fill(edges.vertices, NONE);
     }
 
     /// Puts both darts of an edge first, in lists that can be gone along.

@@ -31,7 +31,6 @@ fn end_dart(search: &mut Search, vertex: u32, dart: u32) {
         0
     };
     let nest = plus(twice(low), chordal);
-    search.nesting_depth.set(dart, nest);
     search.reference.set(dart, NONE);
     search.side.set(dart, 0);
     search.put_in_bucket(dart, nest);
@@ -90,8 +89,8 @@ fn orient_root(links: &Links, search: &mut Search, root: u32) {
 
 /// Orients all edges, and puts their darts into buckets by depth.
 pub fn orient_all(links: &Links, search: &mut Search) {
-    search.height.fill(NONE);
-    search.parent.fill(NONE);
+    search.height.fill(links.vertices, NONE);
+    search.parent.fill(links.vertices, NONE);
     let first = search.root;
     orient_root(links, search, first);
     for root in 0..links.vertices {

@@ -1,11 +1,12 @@
 //! The third search: it places the twins of oriented darts, which gives rotation lists.
-ghost use Rattle.std.specs.Prelude.{◌≡◌, length, IfOk};
+ghost use Rattle.std.specs.Prelude.{◌≡◌, ◌<◌, ◌≤◌, length, IfOk};
+ghost use Rattle.map_lists.specs.Cuts.{AreCuts};
 
 use crate::links::Links;
-use crate::row::{ByArc, ByVertex, NONE, plus};
+use crate::row::{ByArc, ByDart, ByVertex, NONE, plus};
 use crate::search::{Search, steps};
 use map_lists::Rotations;
-use std::alloc::{AllocError, Global};
+use std::alloc::AllocError;
 
 /// Where the twins of return edges stand: next to the dart along which the search came back by them.
 #[derive(Drop)]
@@ -18,10 +19,12 @@ pub struct Places {
     right: ByVertex,
     // for each return edge the next one there
     next: ByArc,
-    // the entries of one list
-    list: ByVertex,
+    // the entries of all lists, one list after another
+    entries: ByDart,
     // how many there are
     count: u32,
+    // for each vertex the place at which its list begins
+    start: ByVertex,
 }
 
 impl Places {
@@ -33,8 +36,9 @@ impl Places {
             left: ByVertex::new(),
             right: ByVertex::new(),
             next: ByArc::new(),
-            list: ByVertex::new(),
+            entries: ByDart::new(),
             count: 0,
+            start: ByVertex::new(),
         }
     }
 
@@ -77,8 +81,8 @@ impl Places {
 
     /// Places all twins.
     pub fn place_all(&mut self, links: &Links, search: &mut Search) {
-        self.left.fill(NONE);
-        self.right.fill(NONE);
+        self.left.fill(links.vertices, NONE);
+        self.right.fill(links.vertices, NONE);
         for root in 0..links.vertices {
             if search.parent.get(root) == NONE {
                 self.place_from(links, search, root);
@@ -89,7 +93,7 @@ impl Places {
     // Appends an entry.
     #[inline(always)]
     fn push(&mut self, vertex: u32) {
-        self.list.set(self.count, vertex);
+        self.entries.set(self.count, vertex);
         self.count = plus(self.count, 1);
     }
 
@@ -121,9 +125,10 @@ impl Places {
         }
     }
 
-    // Makes the list of a vertex.
-    fn list_around(&mut self, links: &Links, search: &Search, vertex: u32) {
-        self.count = 0;
+    // Appends the list of a vertex.
+    #[inline(always)]
+    fn push_list(&mut self, links: &Links, search: &Search, vertex: u32) {
+        self.start.set(vertex, self.count);
         let parent = search.parent.get(vertex);
         if parent != NONE {
             self.push(links.tail(parent));
@@ -137,22 +142,53 @@ impl Places {
             dart = search.chain.get(dart);
         }
     }
+
+    /// Makes all lists, of edges whose twins are placed.
+    pub fn list_all(&mut self, links: &Links, search: &Search) {
+        self.count = 0;
+        for vertex in 0..links.vertices {
+            self.push_list(links, search, vertex);
+        }
+    }
+
+    // The ends of `n` lists of `total` entries, each where the next one starts, and the last one behind all entries. A
+    // start that is out of order is moved to the end before it.
+    fn ends(&self, spent: Vec<usize>, n: u16, total: usize) -> Result<Vec<usize>, AllocError>
+        ensures cuts { IfOk result (λ ends. AreCuts 0 ends.items total) }
+        ensures count { 0 < n → IfOk result (λ ends. length ends.items ≡ n) }
+    {
+        let mut ends = spent;
+        ends.clear();
+        let mut end = 0usize;
+        for vertex in 1..n {
+            end = within(end, self.start.get(u32::from(vertex)), total);
+            ends.push(end)?;
+        }
+        ends.push(total)?;
+        Ok(ends)
+    }
+
+    /// The lists that were made, of `n` vertices, in the memory of `spent`. It fails only when out of memory.
+    pub fn lists(&self, spent: Rotations, n: u16) -> Result<Rotations, AllocError>
+        ensures { IfOk result (λ lists. length lists ≡ n) }
+    {
+        let mut lists = spent;
+        lists.clear();
+        if n == 0 {
+            return Ok(lists);
+        }
+        let (mut entries, spent_ends) = lists.into_parts();
+        entries.extend_from_slice(self.entries.first(self.count))?;
+        let ends = self.ends(spent_ends, n, entries.len())?;
+        Ok(Rotations::from_parts(entries, ends))
+    }
 }
 
-/// The rotation lists of a graph whose twins are placed.
-pub fn lists_of(
-    alloc: Global,
-    links: &Links,
-    search: &Search,
-    places: &mut Places,
-    n: u16,
-) -> Result<Rotations, AllocError>
-    ensures { IfOk result (λ lists. length lists ≡ n) }
+// The number from `least` to `most` that is nearest to `place`.
+#[inline(always)]
+fn within(least: usize, place: u32, most: usize) -> usize
+    ensures least { least ≤ most → least ≤ result }
+    ensures most { result ≤ most }
 {
-    let mut lists = Rotations::with_capacity(alloc, links.darts as usize, usize::from(n))?;
-    for vertex in 0..n {
-        places.list_around(links, search, u32::from(vertex));
-        lists.push(places.list.first(places.count))?;
-    }
-    Ok(lists)
+    (place as usize).max(least).min(most)
 }

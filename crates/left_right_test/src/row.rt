@@ -58,10 +58,25 @@ impl<const N: usize> Row<N> {
         }
     }
 
-    /// Writes one number everywhere.
-    pub fn fill(&mut self, number: u32) {
-        for cell in self.cells.iter_mut() {
+    /// Writes one number at the first places, so many of them, or all, and at that of NONE.
+    #[inline(always)]
+    pub fn fill(&mut self, count: u32, number: u32)
+        requires { 0 < N }
+    {
+        for cell in self.first_mut(count).iter_mut() {
             *cell = (number & 0xffff) as u16;
+        }
+        self.set(NONE, number);
+    }
+
+    // The first of its numbers, to be written.
+    #[inline(always)]
+    fn first_mut(&mut self, count: u32) -> &mut [u16] {
+        let count = count as usize;
+        if count < N {
+            &mut self.cells[..count]
+        } else {
+            &mut self.cells
         }
     }
 }

@@ -7,7 +7,7 @@ use crate::edges::Edges;
 use crate::links::Links;
 use crate::nesting::sort_leaving;
 use crate::orient::orient_all;
-use crate::placing::{Places, lists_of};
+use crate::placing::Places;
 use crate::ring::OddRing;
 use crate::row::NONE;
 use crate::search::Search;
@@ -16,7 +16,7 @@ use crate::signs::settle_all;
 use graph6_text::Graph;
 use left_right_check::is_k5;
 use map_lists::Rotations;
-use std::alloc::{AllocError, Global};
+use std::alloc::AllocError;
 
 /// The tables of the test, for one graph after another.
 #[derive(Drop)]
@@ -85,12 +85,13 @@ impl LeftRightTest {
         !self.passes_all(edges) && self.is_shown(graph)
     }
 
-    /// The rotation lists of edges that pass, on `n` vertices. It fails only when out of memory.
-    pub fn lists(&mut self, alloc: Global, n: u16) -> Result<Rotations, AllocError>
+    /// The rotation lists of edges that pass, on `n` vertices, in the memory of `spent`. It fails only when out of memory.
+    pub fn lists(&mut self, spent: Rotations, n: u16) -> Result<Rotations, AllocError>
         ensures { IfOk result (λ lists. length lists ≡ n) }
     {
         settle_all(&self.links, &mut self.search);
         self.places.place_all(&self.links, &mut self.search);
-        lists_of(alloc, &self.links, &self.search, &mut self.places, n)
+        self.places.list_all(&self.links, &self.search);
+        self.places.lists(spent, n)
     }
 }

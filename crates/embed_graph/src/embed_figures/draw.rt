@@ -1,17 +1,19 @@
 //! The figure of a graph.
-ghost use Rattle.std.specs.Prelude.{◌≤◌, IfOk};
-ghost use Rattle.graph6_text.specs.Graphs.{EdgeGraph};
-ghost use Rattle.conn_parts.specs.Counted.{IsPlaneMap};
+ghost use Rattle.std.specs.Prelude.{◌≡◌, ◌≤◌, length, IfOk, IfSome};
+ghost use Rattle.map_lists.specs.Lists.{Lists};
 ghost use Rattle.embed_theorem.specs.Expanded.{IsMapOf};
 ghost use Rattle.embed_graph.specs.Figures.{IsEmbedFigure};
 
-use crate::answer::{FoundMap, Tested, refuted, test_graph};
+use crate::answer::refuted;
+use crate::marks::has_edges;
 use embed_search::Tables;
 use graph6_text::Graph;
 use grid_figures::Drawer;
 use kuratowski::Witness;
+use left_right_lists::map_of_graph;
 use map_lists::Rotations;
 use pg_plane::GridFigure;
+use refusals::Unserved;
 use std::alloc::{AllocError, Global};
 
 /// The answer to a graph.
@@ -23,13 +25,76 @@ pub enum EmbedFigure {
     NotPlanar(Witness),
 }
 
-// The drawing of a map that the search found.
-fn drawn_found(drawer: &mut Drawer, found: FoundMap) -> Result<EmbedFigure, AllocError>
-    requires { IsPlaneMap 3 found.lists found.plane }
-    ensures { (graph : EdgeGraph) → IsMapOf found.lists graph → IfOk result (IsEmbedFigure graph) }
+// The drawing of lists, if they are those of a map of genus zero of a graph.
+fn drawn_lists(
+    alloc: Global,
+    drawer: &mut Drawer,
+    graph: &Graph,
+    lists: Rotations,
+) -> Result<Option<EmbedFigure>, AllocError>
+    requires some { 3 ≤ graph.now.n }
+    requires vertices { length lists ≡ graph.now.n }
+    ensures { IfOk result (λ found. IfSome found (IsEmbedFigure graph.now)) }
 {
-    let figure = drawer.schnyder_plane(found.plane, &found.lists)?;
-    Ok(EmbedFigure::Drawn(found.lists, figure))
+    refusals::no_refusal_is_plane();
+    let _n = graph.n();
+    match drawer.schnyder_figure(&lists) {
+        Ok(figure) => {
+            if has_edges(alloc, graph, &lists)? {
+                Ok(Some(EmbedFigure::Drawn(lists, figure)))
+            } else {
+                Ok(None)
+            }
+        }
+        Err(Unserved::NoMemory) => Err(AllocError),
+        Err(Unserved::Refused(_)) => Ok(None),
+    }
+}
+
+// The drawing of a map of a graph.
+fn drawn_map(drawer: &mut Drawer, graph: &Graph, map: Rotations) -> Result<EmbedFigure, AllocError>
+    requires some { 3 ≤ graph.now.n }
+    requires map { IsMapOf map graph.now }
+    ensures { IfOk result (IsEmbedFigure graph.now) }
+{
+    refusals::no_refusal_is_plane();
+    let _n = graph.n();
+    match drawer.schnyder_figure(&map) {
+        Ok(figure) => Ok(EmbedFigure::Drawn(map, figure)),
+        Err(Unserved::NoMemory) => Err(AllocError),
+        // such a map breaks no condition
+        Err(Unserved::Refused(_)) => unreachable!(),
+    }
+}
+
+// The witness against a graph that has no map.
+fn refuted_figure(
+    alloc: Global,
+    tables: &mut Tables,
+    graph: &Graph,
+) -> Result<EmbedFigure, AllocError>
+    requires some { 3 ≤ graph.now.n }
+    requires none { (lists : Lists) → ¬ IsMapOf lists graph.now }
+    ensures { IfOk result (IsEmbedFigure graph.now) }
+{
+    let witness = refuted(alloc, tables, graph)?;
+    Ok(EmbedFigure::NotPlanar(witness))
+}
+
+// The figure of a graph by the sides of its edges.
+fn figure_by_sides(
+    alloc: Global,
+    tables: &mut Tables,
+    drawer: &mut Drawer,
+    graph: &Graph,
+) -> Result<EmbedFigure, AllocError>
+    requires { 3 ≤ graph.now.n }
+    ensures { IfOk result (IsEmbedFigure graph.now) }
+{
+    match map_of_graph(alloc, graph)? {
+        Some(map) => drawn_map(drawer, graph, map),
+        None => refuted_figure(alloc, tables, graph),
+    }
 }
 
 /// Returns a map of a graph with at least three vertices and the map's drawing in the grid n - 2 by n - 2, or a witness
@@ -57,11 +122,12 @@ pub fn embed_figure_by(
     requires { 3 ≤ graph.now.n }
     ensures { IfOk result (IsEmbedFigure graph.now) }
 {
-    match test_graph(alloc, tables, graph)? {
-        Tested::Map(found) => drawn_found(drawer, found),
-        Tested::NoMap => {
-            let witness = refuted(alloc, tables, graph)?;
-            Ok(EmbedFigure::NotPlanar(witness))
-        }
+    match tables.planar_lists(alloc, graph)? {
+        Some(lists) => match drawn_lists(alloc, drawer, graph, lists)? {
+            Some(figure) => Ok(figure),
+            // no graph is known for which this comes
+            None => figure_by_sides(alloc, tables, drawer, graph),
+        },
+        None => refuted_figure(alloc, tables, graph),
     }
 }

@@ -1,0 +1,2 @@
+-- Where lists end.
+mod EndLemmas
