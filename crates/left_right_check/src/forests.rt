@@ -15,16 +15,16 @@ pub struct ReturnEdge {
     pub to: u16,
 }
 
-// The entry of a list at a place; 0 behind its end.
-pub(crate) fn entry(list: &[u16], place: u16) -> u16
+/// Returns the entry of a list at a place; 0 behind its end.
+pub fn entry(list: &[u16], place: u16) -> u16
     ensures { result ≡ slice_index list.now place }
 {
     let place = usize::from(place);
     if place < list.len() { list[place] } else { 0 }
 }
 
-// Where so many steps to the parent lead.
-fn after_steps(parents: &[u16], vertex: u16, steps: u16) -> u16
+/// Returns the vertex to which `steps` steps to the parent lead.
+pub fn after_steps(parents: &[u16], vertex: u16, steps: u16) -> u16
     ensures { result ≡ up (slice_index parents.now) steps vertex }
 {
     let mut v = vertex;

@@ -6,8 +6,7 @@ mod Grown
 mod GroupLemmas
 mod Collected
 mod SideLemmas
--- Decisions.
-mod Decided
+-- What wrong bodies would give.
 mod Refused
 -- Orders in which vertices stand.
 mod OrderLemmas

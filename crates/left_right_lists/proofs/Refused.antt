@@ -1,4 +1,4 @@
--- What wrong bodies would give.
+-- Answers that wrong bodies would give: the clauses refuse them.
 use Rattle.std.proofs.Common.{◌≡◌, false, true, [], ◌∷◌, refl, sym, ap, arith, IsTrue}
 use Rattle.std.specs.Prelude.{◌↔◌}
 use Rattle.std.proofs.lemmas.Bool.{true≢false}

@@ -12,22 +12,6 @@ use graph6_text::Graph;
 use map_lists::Rotations;
 use std::alloc::{AllocError, Global};
 
-/// Whether a graph has a map of genus zero, by the sides that forks demand. It fails only when out of memory.
-///
-/// It takes polynomial time, and is not fast.
-pub fn has_map(alloc: Global, graph: &Graph) -> Result<bool, AllocError>
-    ensures { IfOk result (λ yes. IsTrue yes ↔ HasMap graph.now) }
-{
-    if graph.n() == 0 {
-        return Ok(false);
-    }
-    let up = upward_of(alloc, graph)?;
-    match sides_of(alloc, graph, &up)? {
-        Some(_) => Ok(true),
-        None => Ok(false),
-    }
-}
-
 /// Returns lists that are a map of genus zero of a graph, or none where there is no such map. It fails only when out of
 /// memory.
 ///
@@ -44,4 +28,16 @@ pub fn map_of_graph(alloc: Global, graph: &Graph) -> Result<Option<Rotations>, A
     };
     let entries = all_entries(alloc, graph, &up.tree, &sides)?;
     Ok(Some(rows_of(alloc, graph, &up.tree, &entries)?))
+}
+
+/// Tells whether a graph has a map of genus zero, as [`map_of_graph`] finds it. It fails only when out of memory.
+///
+/// It takes polynomial time, and is not fast.
+pub fn has_map(alloc: Global, graph: &Graph) -> Result<bool, AllocError>
+    ensures { IfOk result (λ yes. IsTrue yes ↔ HasMap graph.now) }
+{
+    match map_of_graph(alloc, graph)? {
+        Some(_) => Ok(true),
+        None => Ok(false),
+    }
 }

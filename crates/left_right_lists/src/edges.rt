@@ -6,9 +6,8 @@ ghost use Rattle.left_right_lists.specs.Orders.{returns_in};
 ghost use Rattle.left_right_lists.specs.Blocks.{AreValues, is_item as is_item_in, returned, block, opens_in};
 
 use crate::blocks::{push_block, push_middle};
-use crate::forest::entry;
-use crate::returns::{are_joined, is_child};
-use graph6_text::Graph;
+use crate::returns::{Ways, is_child};
+use left_right_check::entry;
 use map_lists::ItemLists;
 use std::alloc::{AllocError, Global};
 
@@ -19,35 +18,31 @@ fn is_higher(parents: &[u16], depths: &[u16], v: u16, u: u16) -> bool
     entry(depths, u) < entry(depths, v) && u != entry(parents, v)
 }
 
-// Whether an edge from a vertex returns to a higher one.
-fn is_chord(graph: &Graph, parents: &[u16], depths: &[u16], v: u16, u: u16) -> bool
-    ensures { result ≡ (joined_in graph.now parents.now depths.now v u && (ltb (slice_index depths.now u) (slice_index depths.now v) && not (eqb u (slice_index parents.now v)))) }
-{
-    are_joined(graph, parents, depths, v, u) && is_higher(parents, depths, v, u)
-}
-
-// Whether an edge from a vertex leads to a child, or returns.
-fn is_item(graph: &Graph, parents: &[u16], depths: &[u16], v: u16, u: u16) -> bool
-    ensures { result ≡ is_item_in (joined_in graph.now parents.now depths.now) (slice_index parents.now) (slice_index depths.now) v u }
-{
-    is_child(parents, depths, v, u) || is_chord(graph, parents, depths, v, u)
-}
-
-/// Marks the vertices to which edges from a vertex lead that go to children, or return. It fails only when out of memory.
-pub(crate) fn items_at(
-    alloc: Global,
-    graph: &Graph,
-    parents: &[u16],
-    depths: &[u16],
-    v: u16,
-) -> Result<Vec<bool>, AllocError>
-    ensures { IfOk result (λ marks. AreValues (is_item_in (joined_in graph.now parents.now depths.now) (slice_index parents.now) (slice_index depths.now) v) false marks.items graph.now.n) }
-{
-    let mut marks = Vec::new(alloc);
-    for u in 0..graph.n() {
-        marks.push(is_item(graph, parents, depths, v, u))?;
+impl<'a> Ways<'a> {
+    // Whether an edge from a vertex returns to a higher one.
+    fn is_chord(&self, v: u16, u: u16) -> bool
+        ensures { result ≡ (joined_in self.now.graph.now self.now.parents.now self.now.depths.now v u && (ltb (slice_index self.now.depths.now u) (slice_index self.now.depths.now v) && not (eqb u (slice_index self.now.parents.now v)))) }
+    {
+        self.are_joined(v, u) && is_higher(self.parents, self.depths, v, u)
     }
-    Ok(marks)
+
+    // Whether an edge from a vertex leads to a child, or returns.
+    fn is_item(&self, v: u16, u: u16) -> bool
+        ensures { result ≡ is_item_in (joined_in self.now.graph.now self.now.parents.now self.now.depths.now) (slice_index self.now.parents.now) (slice_index self.now.depths.now) v u }
+    {
+        is_child(self.parents, self.depths, v, u) || self.is_chord(v, u)
+    }
+
+    /// Marks the vertices to which edges from a vertex lead that go to children, or return. It fails only when out of memory.
+    pub(crate) fn items_at(&self, alloc: Global, v: u16) -> Result<Vec<bool>, AllocError>
+        ensures { IfOk result (λ marks. AreValues (is_item_in (joined_in self.now.graph.now self.now.parents.now self.now.depths.now) (slice_index self.now.parents.now) (slice_index self.now.depths.now) v) false marks.items self.now.graph.now.n) }
+    {
+        let mut marks = Vec::new(alloc);
+        for u in 0..self.graph.n() {
+            marks.push(self.is_item(v, u))?;
+        }
+        Ok(marks)
+    }
 }
 
 /// Returns the place of a vertex in a table in which the last vertices come first.
@@ -100,7 +95,7 @@ pub(crate) fn returned_by(
     Ok(rows)
 }
 
-// What stands at a vertex for an edge. What waits below its vertex is at a place of a table.
+// Lists what stands at a vertex for an edge. Of a table, the place that is given holds what waits below its vertex.
 fn entries_at(
     alloc: Global,
     parents: &[u16],

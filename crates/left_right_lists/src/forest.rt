@@ -1,31 +1,12 @@
-//! Depths of the vertices of a depth-first forest, and ways up in it.
+//! Depths of the vertices of a depth-first forest.
 ghost use Rattle.std.specs.Prelude.{◌≡◌, ◌+◌, ◌<◌, ◌≤◌, ℕ, length, slice_index, IfOk};
 ghost use Rattle.graph_search.specs.Forests.{IsForestOf};
-ghost use Rattle.left_right_laws.specs.Forests.{up};
 ghost use Rattle.left_right_lists.specs.Depths.{IsDepthBy, AreDepths};
 
 use graph_search::search_forests::Forest;
+use left_right_check::entry;
 use map_lists::Rotations;
 use std::alloc::{AllocError, Global};
-
-// The entry of a list at a place; 0 behind its end.
-pub(crate) fn entry(list: &[u16], place: u16) -> u16
-    ensures { result ≡ slice_index list.now place }
-{
-    let place = usize::from(place);
-    if place < list.len() { list[place] } else { 0 }
-}
-
-// Where so many steps to the parent lead.
-pub(crate) fn after_steps(parents: &[u16], vertex: u16, steps: u16) -> u16
-    ensures { result ≡ up (slice_index parents.now) steps vertex }
-{
-    let mut v = vertex;
-    for _ in 0..steps {
-        v = entry(parents, v);
-    }
-    v
-}
 
 // The depth of a vertex by that of its parent, or 0 where it has none.
 fn depth_from(parents: &[u16], depths: &[u16], v: u16) -> u16

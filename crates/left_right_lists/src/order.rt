@@ -5,8 +5,8 @@ ghost use Rattle.left_right_maps.specs.Orders.{MayPrecede, MayAllPrecede};
 ghost use Rattle.left_right_lists.specs.Groups.{side_in, IsPlaced};
 ghost use Rattle.left_right_lists.specs.Orders.{returns_in, Before, IsFree, IsFirst, IsOrderOf};
 
-use crate::forest::entry;
 use crate::groups::group;
+use left_right_check::entry;
 use map_lists::ItemLists;
 use std::alloc::{AllocError, Global};
 
@@ -66,102 +66,78 @@ fn is_free(free: &[bool], u: u16) -> bool
     u < free.len() && free[u]
 }
 
-// Whether one vertex is another, or is left and may stand before it, or the other is not left.
-fn may_follow(
-    depths: &[u16],
-    sides: &[(u32, bool)],
-    returns: &ItemLists<(u16, u16)>,
-    free: &[bool],
-    u: u16,
-    f: u16,
-) -> bool
-    requires long { length sides.now ≡ 65536 }
-    requires lists { u < length returns.now }
-    requires other { f < length returns.now }
-    requires placed { (v : ℕ) (d : Dart) → Contains (returns_in returns.now v) d → IsPlaced d }
-    ensures { IsTrue result ↔ (IsFree free.now f → u ≢ f → Before depths.now sides.now returns.now u f) }
-{
-    if u == f || !is_free(free, f) {
-        return true;
-    }
-    may_all_precede(
-        depths,
-        sides,
-        returns.list(usize::from(u)),
-        returns.list(usize::from(f)),
-    )
+/// What returns by each of the edges of a vertex, with the sides on which it does: the edges are put in order by it.
+#[derive(Clone, Copy)]
+pub(crate) struct Choice<'a> {
+    pub depths: &'a [u16],
+    pub sides: &'a [(u32, bool)],
+    pub returns: &'a ItemLists<(u16, u16)>,
+    pub n: u16,
+    ghost long: { length sides.now ≡ 65536 },
+    ghost lists: { length returns.now ≡ n },
+    ghost placed: { (v : ℕ) (d : Dart) → Contains (returns_in returns.now v) d → IsPlaced d },
 }
 
-// Whether a vertex is left, and may stand before all others that are.
-fn is_first(
-    depths: &[u16],
-    sides: &[(u32, bool)],
-    returns: &ItemLists<(u16, u16)>,
-    free: &[bool],
-    n: u16,
-    u: u16,
-) -> bool
-    requires long { length sides.now ≡ 65536 }
-    requires lists { length returns.now ≡ n }
-    requires free { length free.now ≡ n }
-    requires vertex { u < n }
-    requires placed { (v : ℕ) (d : Dart) → Contains (returns_in returns.now v) d → IsPlaced d }
-    ensures { IsTrue result ↔ IsFirst depths.now sides.now returns.now free.now u }
-{
-    if !is_free(free, u) {
-        return false;
+impl<'a> Choice<'a> {
+    // Whether one vertex is another, or is left and may stand before it, or the other is not left.
+    fn may_follow(&self, free: &[bool], u: u16, f: u16) -> bool
+        requires lists { u < length self.now.returns.now }
+        requires other { f < length self.now.returns.now }
+        ensures { IsTrue result ↔ (IsFree free.now f → u ≢ f → Before self.now.depths.now self.now.sides.now self.now.returns.now u f) }
+    {
+        if u == f || !is_free(free, f) {
+            return true;
+        }
+        may_all_precede(
+            self.depths,
+            self.sides,
+            self.returns.list(usize::from(u)),
+            self.returns.list(usize::from(f)),
+        )
     }
-    for f in 0..n {
-        if !may_follow(depths, sides, returns, free, u, f) {
+
+    // Whether a vertex is left, and may stand before all others that are.
+    fn is_first(&self, free: &[bool], u: u16) -> bool
+        requires free { length free.now ≡ self.now.n }
+        requires vertex { u < self.now.n }
+        ensures { IsTrue result ↔ IsFirst self.now.depths.now self.now.sides.now self.now.returns.now free.now u }
+    {
+        if !is_free(free, u) {
             return false;
         }
-    }
-    true
-}
-
-// One of the vertices left that may stand before all others left, if there is one.
-fn first_free(
-    depths: &[u16],
-    sides: &[(u32, bool)],
-    returns: &ItemLists<(u16, u16)>,
-    free: &[bool],
-    n: u16,
-) -> Option<u16>
-    requires long { length sides.now ≡ 65536 }
-    requires lists { length returns.now ≡ n }
-    requires free { length free.now ≡ n }
-    requires placed { (v : ℕ) (d : Dart) → Contains (returns_in returns.now v) d → IsPlaced d }
-    ensures { MatchOption result ((u : ℕ) → ¬ IsFirst depths.now sides.now returns.now free.now u) (IsFirst depths.now sides.now returns.now free.now) }
-{
-    for u in 0..n {
-        if is_first(depths, sides, returns, free, n, u) {
-            return Some(u);
+        for f in 0..self.n {
+            if !self.may_follow(free, u, f) {
+                return false;
+            }
         }
+        true
     }
-    None
-}
 
-/// Returns the vertices left, in an order in which each may stand before all later ones, where there is such an order. It
-/// fails only when out of memory.
-pub(crate) fn order_of(
-    alloc: Global,
-    depths: &[u16],
-    sides: &[(u32, bool)],
-    returns: &ItemLists<(u16, u16)>,
-    free: &mut [bool],
-    n: u16,
-) -> Result<Vec<u16>, AllocError>
-    requires long { length sides.now ≡ 65536 }
-    requires lists { length returns.now ≡ n }
-    requires free { length free.old ≡ n }
-    requires placed { (v : ℕ) (d : Dart) → Contains (returns_in returns.now v) d → IsPlaced d }
-    requires order { (us : List ℕ) × IsOrderOf depths.now sides.now returns.now free.old us }
-    ensures { IfOk result (λ us. IsOrderOf depths.now sides.now returns.now free.old us.items) }
-{
-    let mut order = Vec::new(alloc);
-    while let Some(u) = first_free(depths, sides, returns, free, n) {
-        order.push(u)?;
-        free[usize::from(u)] = false;
+    // One of the vertices left that may stand before all others left, if there is one.
+    fn first_free(&self, free: &[bool]) -> Option<u16>
+        requires { length free.now ≡ self.now.n }
+        ensures { MatchOption result ((u : ℕ) → ¬ IsFirst self.now.depths.now self.now.sides.now self.now.returns.now free.now u) (IsFirst self.now.depths.now self.now.sides.now self.now.returns.now free.now) }
+    {
+        for u in 0..self.n {
+            if self.is_first(free, u) {
+                return Some(u);
+            }
+        }
+        None
     }
-    Ok(order)
+
+    /// Returns the vertices left, in an order in which each may stand before all later ones, where there is such an order. It
+    /// fails only when out of memory.
+    pub(crate) fn order_of(&self, alloc: Global, free: &mut [bool]) -> Result<Vec<u16>, AllocError>
+        requires free { length free.old ≡ self.now.n }
+        requires order { (us : List ℕ) × IsOrderOf self.now.depths.now self.now.sides.now self.now.returns.now free.old us }
+        ensures { IfOk result (λ us. IsOrderOf self.now.depths.now self.now.sides.now self.now.returns.now free.old us.items) }
+    {
+        let mut order = Vec::new(alloc);
+        while let Some(u) = self.first_free(free) {
+            order.push(u)?;
+            free[usize::from(u)] = false;
+        }
+        Ok(order)
+    }
 }

@@ -8,11 +8,12 @@ ghost use Rattle.left_right_lists.specs.Trees.{IsTreeOf, AreSides};
 ghost use Rattle.left_right_lists.specs.Groups.{side_in};
 ghost use Rattle.left_right_lists.specs.Placing.{HasChildren, IsReady, IsOrderAt, IsPlacedBy, AreRows, block_at, returned_at};
 
-use crate::edges::{entries_by, items_at, joined_rows, returned_by};
-use crate::forest::entry;
-use crate::order::order_of;
+use crate::edges::{entries_by, joined_rows, returned_by};
+use crate::order::Choice;
+use crate::returns::Ways;
 use crate::tree::Tree;
 use graph6_text::Graph;
+use left_right_check::entry;
 use map_lists::ItemLists;
 use std::alloc::{AllocError, Global};
 
@@ -29,7 +30,12 @@ fn order_at(
     ensures { IfOk result (λ us. IsOrderAt graph.now tree.now sides.now opens.now v us.items) }
 {
     let n = graph.n();
-    let mut marks = items_at(alloc, graph, &tree.parents, &tree.depths, v)?;
+    let ways = Ways {
+        graph,
+        parents: &tree.parents,
+        depths: &tree.depths,
+    };
+    let mut marks = ways.items_at(alloc, v)?;
     let rows = returned_by(
         alloc,
         &tree.parents,
@@ -39,7 +45,13 @@ fn order_at(
         n,
         v,
     )?;
-    let us = order_of(alloc, &tree.depths, sides, &rows, &mut marks, n)?;
+    let choice = Choice {
+        depths: &tree.depths,
+        sides,
+        returns: &rows,
+        n,
+    };
+    let us = choice.order_of(alloc, &mut marks)?;
     Ok(us)
 }
 
@@ -69,7 +81,7 @@ fn entries_of(
     Ok(list)
 }
 
-// What waits below a vertex, by an order of its edges.
+// Joins what waits below a vertex, by an order of its edges.
 fn waiting_of(
     alloc: Global,
     n: u16,

@@ -4,9 +4,9 @@ ghost use Rattle.graph6_text.specs.Graphs.{has_edge};
 ghost use Rattle.left_right_lists.specs.Placing.{row_at, AreRows};
 
 use crate::edges::place_of;
-use crate::forest::entry;
 use crate::tree::Tree;
 use graph6_text::Graph;
+use left_right_check::entry;
 use map_lists::{ItemLists, Rotations, VertexId};
 use std::alloc::{AllocError, Global};
 

@@ -5,10 +5,10 @@ ghost use Rattle.left_right_lists.specs.Trees.{AreSides};
 ghost use Rattle.left_right_lists.specs.Upward.{IsUpward};
 ghost use Rattle.left_right_lists.specs.Groups.{Demand, Returns, HasLower, IsDemanded, IsForkMet, AreForksMet, IsStep, side_in};
 
-use crate::forest::entry;
 use crate::groups::{single_groups, tie_all};
 use crate::returns::{Upward, returns_by};
 use graph6_text::Graph;
+use left_right_check::entry;
 use std::alloc::{AllocError, Global};
 
 /// Two edges of a vertex, by their other ends.
@@ -73,7 +73,7 @@ fn push_demands(
     Ok(())
 }
 
-// What a fork demands, at which the ones return by one edge and the others by another.
+// Lists the demands of a fork, at which the ones return by one edge and the others by another.
 fn demands_of(
     alloc: Global,
     depths: &[u16],

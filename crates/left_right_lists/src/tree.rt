@@ -3,10 +3,11 @@ ghost use Rattle.std.specs.Prelude.{◌≡◌, ◌+◌, ◌<◌, ◌==◌, ◌&&
 ghost use Rattle.left_right_laws.specs.Forests.{up};
 ghost use Rattle.left_right_lists.specs.Trees.{IsTabled, is_other as is_in_other, grown_depth as depth_in_tree, grown_parent as parent_in_tree, IsTreeOf};
 
-use crate::forest::{after_steps, depths_of, entry};
+use crate::forest::depths_of;
 use conn_parts::graph_cuts::graph_lists;
 use graph_search::search_forests::search_forest;
 use graph6_text::Graph;
+use left_right_check::{after_steps, entry};
 use std::alloc::{AllocError, Global};
 
 /// A depth-first tree of a graph, as tables. Where the graph has several parts, the root is made the parent of a vertex of

@@ -1,5 +1,5 @@
 -- Ends of lists, one more at a time.
-use Rattle.std.proofs.Common.{ℕ, ◌≤◌, ◌≡◌, List, [], ◌∷◌, ◌++◌, refl, arith}
+use Rattle.std.proofs.Common.{ℕ, ◌≤◌, List, [], ◌∷◌, ◌++◌, refl, arith}
 use Rattle.map_lists.specs.Cuts.{AreCuts}
 
 -- one list more, up to where it ends

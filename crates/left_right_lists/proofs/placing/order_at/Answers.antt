@@ -5,8 +5,8 @@ use Rattle.left_right_lists.specs.Placing.{returned_at}
 use Rattle.left_right_lists.proofs.Filled.{values_by, order_by, rows_placed}
 use Rattle.left_right_lists.proofs.placing.order_at.Goals as goal
 
-pub order_of-requires-clause-placed : goal.order_of-requires-clause-placed
-order_of-requires-clause-placed c =
+pub invariant_of-choice-clause-placed : goal.invariant_of-choice-clause-placed
+invariant_of-choice-clause-placed c =
     rows_placed (returned_at c.args.graph.now.n c.args.tree.now c.args.opens.now c.args.v) c.in_ok-rows.rows c.args.graph.now.n
     (values_by (λ n ps ds ms. returned (slice_index ps) (slice_index ds) (opens_in n ms c.args.opens.now) c.args.v) [] c.in_ok-rows.rows c.n-n.ensures.count c.deref-3.ensures.value c.deref-4.ensures.value c.deref-5.ensures.value c.in_ok-rows.ensures)
     c.requires.placed
