@@ -6,6 +6,7 @@ ghost use Rattle.grid_figures.specs.ShiftFiguresFigures.{IsShiftFigure};
 ghost use Rattle.grid_figures.specs.SchnyderFiguresFigures.{IsSchnyderFigure};
 
 use crate::drawing_orders::Tools;
+use crate::record::Record;
 use crate::schnyder_grid::WoodDrawer;
 use crate::{schnyder_figures, shift_figures};
 use conn_parts::CountedMap;
@@ -43,7 +44,7 @@ impl Drawer {
         ensures served { OnOk result (first_refusal 3 lists.now ≡ None) }
         ensures refused { IfErr result (IfRefused (λ refusal. first_refusal 3 lists.now ≡ Some refusal)) }
     {
-        shift_figures::drawn_record(&mut self.tools, &mut self.shifter, lists)
+        shift_figures::drawn_record(&mut self.tools, &mut self.shifter, &Record { lists })
     }
 
     /// Keeps the memory of a figure by the shift method that is done with.
@@ -60,7 +61,7 @@ impl Drawer {
         ensures served { OnOk result (first_refusal 3 lists.now ≡ None) }
         ensures refused { IfErr result (IfRefused (λ refusal. first_refusal 3 lists.now ≡ Some refusal)) }
     {
-        schnyder_figures::drawn_record(&mut self.tools, &mut self.woods, lists)
+        schnyder_figures::drawn_record(&mut self.tools, &mut self.woods, &Record { lists })
     }
 
     /// The figure by Schnyder's coordinates of a map with these lists that is counted, has genus zero and at least three
