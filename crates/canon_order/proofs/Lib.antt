@@ -11,3 +11,4 @@ mod Contours
 mod Refused
 mod EntryLemmas
 pub mod Filled
+mod Known

@@ -4,6 +4,7 @@
 
 ghost use Rattle.canon_order.specs.Laws.{LastCycle, RowEnds, SomeOrder};
 
+mod base;
 mod contour;
 pub mod cycle_marks;
 mod fault;

@@ -6,6 +6,7 @@ ghost use Rattle.half_edges.specs.Map.{IsLive, dart_at};
 ghost use Rattle.canon_order.specs.Marks.{is_set, IsUnmarked};
 ghost use Rattle.canon_order.specs.Orders.{IsCanonicalOrder, IsRankOf, vertices_of};
 
+use crate::base::Base;
 use crate::contour::{mark_base, removable_vertex, take_off};
 use crate::fault::OrderFault;
 use crate::lists::{entry_behind, push_three, turned_ranks, turned_vertices};
@@ -40,31 +41,23 @@ fn peel(
     gone: &mut [bool],
     stack: &mut Vec<u16>,
     taken: &mut Vec<u16>,
-    lists: &Rotations,
-    t: u16,
-    s: u16,
-    third: u16,
-    under: u16,
+    base: &Base<'_>,
 ) -> Result<(), AllocError>
-    requires triangulation { IsTriangulation lists.now }
-    requires few { length lists.now < 4096 }
-    requires base { HasDart lists.now t s }
-    requires third { third ≡ follows lists.now s t }
-    requires under { under ≡ follows lists.now t s }
-    requires unmarked { IsUnmarked lists.now marked.old near.old }
-    requires gone { length gone.old ≡ length lists.now }
+    requires unmarked { IsUnmarked base.now.lists.now marked.old near.old }
+    requires gone { length gone.old ≡ length base.now.lists.now }
     requires all_left { (u : ℕ) → is_set gone.old u ≡ false }
     requires empty { stack.old.items ≡ [] }
     requires nothing { taken.old.items ≡ [] }
-    ensures { IfOk result (λ _. IsCanonicalOrder lists.now (t, s) (reverse taken.new.items)) }
+    ensures { IfOk result (λ _. IsCanonicalOrder base.now.lists.now (base.now.t, base.now.s) (reverse taken.new.items)) }
 {
-    mark_base(marked, near, stack, lists, t, s, third)?;
-    for _ in 3..lists.len() {
-        let v = removable_vertex(marked, near, stack, lists, t, s);
-        take_off(marked, near, gone, stack, lists, v)?;
+    base.facts();
+    mark_base(marked, near, stack, base)?;
+    for _ in 3..base.lists.len() {
+        let v = removable_vertex(marked, near, stack, base);
+        take_off(marked, near, gone, stack, base, v)?;
         taken.push(v)?;
     }
-    push_three(taken, under, t, s)
+    push_three(taken, base.under, base.t, base.s)
 }
 
 /// The order of these vertices, which are given from the last one to the first. It fails only when out of memory.
@@ -139,55 +132,27 @@ impl Peeler {
     }
 
     // Takes the vertices off, from the last one of an order to the first.
-    fn take(
-        &mut self,
-        lists: &Rotations,
-        t: u16,
-        s: u16,
-        third: u16,
-        under: u16,
-    ) -> Result<(), AllocError>
-        requires triangulation { IsTriangulation lists.now }
-        requires few { length lists.now < 4096 }
-        requires base { HasDart lists.now t s }
-        requires third { third ≡ follows lists.now s t }
-        requires under { under ≡ follows lists.now t s }
-        ensures { IfOk result (λ _. IsCanonicalOrder lists.now (t, s) (reverse self.new.taken.items)) }
+    fn take(&mut self, base: &Base<'_>) -> Result<(), AllocError>
+        ensures { IfOk result (λ _. IsCanonicalOrder base.now.lists.now (base.now.t, base.now.s) (reverse self.new.taken.items)) }
     {
-        self.clear(lists.len(), lists.total())?;
+        self.clear(base.lists.len(), base.lists.total())?;
         peel(
             &mut self.marked,
             &mut self.near,
             &mut self.gone,
             &mut self.stack,
             &mut self.taken,
-            lists,
-            t,
-            s,
-            third,
-            under,
+            base,
         )
     }
 
-    // The order of a triangulation for the base from `t` to `s`, whose faces have these third vertices.
-    fn order(
-        &mut self,
-        alloc: Global,
-        lists: &Rotations,
-        t: u16,
-        s: u16,
-        third: u16,
-        under: u16,
-    ) -> Result<Order, AllocError>
-        requires triangulation { IsTriangulation lists.now }
-        requires few { length lists.now < 4096 }
-        requires base { HasDart lists.now t s }
-        requires third { third ≡ follows lists.now s t }
-        requires under { under ≡ follows lists.now t s }
-        ensures order { IfOk result (λ order. IsCanonicalOrder lists.now (t, s) (vertices_of order)) }
+    // The order of a triangulation for its base.
+    fn order(&mut self, alloc: Global, base: &Base<'_>) -> Result<Order, AllocError>
+        ensures order { IfOk result (λ order. IsCanonicalOrder base.now.lists.now (base.now.t, base.now.s) (vertices_of order)) }
         ensures rank { IfOk result (λ order. IsRankOf order.rank (vertices_of order)) }
     {
-        self.take(lists, t, s, third, under)?;
+        base.facts();
+        self.take(base)?;
         let spent = mem::replace(&mut self.spent, Order::new(alloc));
         let order = turned_into(spent, &self.taken)?;
         Ok(order)
@@ -217,7 +182,14 @@ impl Peeler {
         let s = tri.head(base).0;
         let third = tri.head(tri.face_step(base)).0;
         let under = tri.head(tri.face_step(tri.twin(base))).0;
-        let order = self.order(alloc, lists, t, s, third, under)?;
+        let based = Base {
+            lists,
+            t,
+            s,
+            third,
+            under,
+        };
+        let order = self.order(alloc, &based)?;
         Ok(order)
     }
 
@@ -237,7 +209,14 @@ impl Peeler {
     {
         let third = entry_behind(lists.list(s as usize), t);
         let under = entry_behind(lists.list(t as usize), s);
-        let order = self.order(alloc, lists, t, s, third, under)?;
+        let base = Base {
+            lists,
+            t,
+            s,
+            third,
+            under,
+        };
+        let order = self.order(alloc, &base)?;
         Ok(order)
     }
 }

@@ -22,6 +22,14 @@ pub record AreGaps (g : Stage) (at : Coordinates) (drops rises spans covers : Li
   pub under : (v : ℕ) → v < g.count → g.vertex (g.place v) ≢ v → IsUnder g at drops rises spans covers v
   pub small : (v : ℕ) → slice_index spans v < g.count
 
+-- Four tables of gaps have an entry for each of n vertices, which are few.
+pub record AreTables (n : ℕ) (drops rises spans covers : List ℕ) : Type 0 where
+  pub drops_of_all : length drops ≡ n
+  pub rises_of_all : length rises ≡ n
+  pub spans_of_all : length spans ≡ n
+  pub covers_of_all : length covers ≡ n
+  pub few : n < 4096
+
 -- A step from a stage of a run, with the row `us` over which it puts its vertex, v.
 pub record IsPut (g : Stage) (s : Step) (at : Coordinates) (us : List ℕ) (v : ℕ) : Type 0 where
   pub stage : IsStage g

@@ -5,6 +5,7 @@ ghost use Rattle.grid_figures.specs.ShiftFiguresFigures.{IsShiftFigure};
 ghost use Rattle.grid_figures.specs.SchnyderFiguresFigures.{IsSchnyderFigure};
 
 use crate::drawing_orders::Tools;
+use crate::record::Record;
 use crate::schnyder_grid::WoodDrawer;
 use crate::{schnyder_figures, shift_figures};
 use fpp_shift::Shifter;
@@ -41,7 +42,7 @@ impl Drawer {
         ensures served { OnOk result (first_refusal 3 lists.now ≡ None) }
         ensures refused { IfErr result (IfRefused (λ refusal. first_refusal 3 lists.now ≡ Some refusal)) }
     {
-        shift_figures::drawn_record(&mut self.tools, &mut self.shifter, lists)
+        shift_figures::drawn_record(&mut self.tools, &mut self.shifter, &Record { lists })
     }
 
     /// Keeps the memory of a figure by the shift method that is done with.
@@ -58,7 +59,7 @@ impl Drawer {
         ensures served { OnOk result (first_refusal 3 lists.now ≡ None) }
         ensures refused { IfErr result (IfRefused (λ refusal. first_refusal 3 lists.now ≡ Some refusal)) }
     {
-        schnyder_figures::drawn_record(&mut self.tools, &mut self.woods, lists)
+        schnyder_figures::drawn_record(&mut self.tools, &mut self.woods, &Record { lists })
     }
 
     /// Keeps the memory of a figure by Schnyder's coordinates that is done with.

@@ -3,6 +3,7 @@
 
 mod drawer;
 pub mod drawing_orders;
+mod record;
 pub mod schnyder_figures;
 pub mod schnyder_grid;
 pub mod shift_figures;

@@ -1,31 +1,29 @@
 //! A record that is a triangulation already: found by its counts, and ordered by its lists, with no map made of them.
-ghost use Rattle.std.specs.Prelude.{◌≡◌, ◌<◌, length, slice_index, Some, None, IfOk, IfErr};
+ghost use Rattle.std.specs.Prelude.{◌≡◌, slice_index, Some, None, IfOk, IfErr};
 ghost use Rattle.std.specs.Bool.{OnTrue};
 ghost use Rattle.map_theory.specs.Maps.{list_of};
 ghost use Rattle.plane_laws.specs.Triangulations.{IsTriangulation};
 ghost use Rattle.canon_order.specs.Orders.{IsCanonicalOrder, IsRankOf, vertices_of};
 ghost use Rattle.refusals.specs.Conditions.{first_refusal, IfRefused};
 
+use crate::record::Record;
 use canon_order::{Order, Peeler};
 use conn_parts::plane_count;
 use euler_faces::Counter;
-use half_edges::Rotations;
 use refusals::Unserved;
 use std::alloc::{AllocError, Global};
 
 /// Whether lists that have as many entries as a triangulation are one, or the first condition that they break. Of lists
 /// with more or fewer entries it answers no at once.
-pub(crate) fn is_triangulated(counter: &mut Counter, lists: &Rotations) -> Result<bool, Unserved>
-    requires some_list { 0 < length lists.now }
-    requires few_lists { length lists.now < 4096 }
-    ensures triangulation { IfOk result (λ found. OnTrue found (IsTriangulation lists.now)) }
-    ensures served { IfOk result (λ found. OnTrue found (first_refusal 3 lists.now ≡ None)) }
-    ensures refused { IfErr result (IfRefused (λ refusal. first_refusal 3 lists.now ≡ Some refusal)) }
+pub(crate) fn is_triangulated(counter: &mut Counter, input: &Record<'_>) -> Result<bool, Unserved>
+    ensures triangulation { IfOk result (λ found. OnTrue found (IsTriangulation input.now.lists.now)) }
+    ensures served { IfOk result (λ found. OnTrue found (first_refusal 3 input.now.lists.now ≡ None)) }
+    ensures refused { IfErr result (IfRefused (λ refusal. first_refusal 3 input.now.lists.now ≡ Some refusal)) }
 {
-    if lists.total().wrapping_add(12) != 6 * lists.len() {
+    if input.lists.total().wrapping_add(12) != 6 * input.lists.len() {
         return Ok(false);
     }
-    let count = plane_count(counter, lists, 3)?;
+    let count = plane_count(counter, input.lists, 3)?;
     Ok(count.m.wrapping_add(6) == 3 * count.n)
 }
 
@@ -33,12 +31,11 @@ pub(crate) fn is_triangulated(counter: &mut Counter, lists: &Rotations) -> Resul
 pub(crate) fn full_order(
     alloc: Global,
     peeler: &mut Peeler,
-    lists: &Rotations,
+    input: &Record<'_>,
 ) -> Result<Order, AllocError>
-    requires triangulation { IsTriangulation lists.now }
-    requires few { length lists.now < 4096 }
-    ensures order { IfOk result (λ order. IsCanonicalOrder lists.now (0, slice_index (list_of lists.now 0) 0) (vertices_of order)) }
+    requires { IsTriangulation input.now.lists.now }
+    ensures order { IfOk result (λ order. IsCanonicalOrder input.now.lists.now (0, slice_index (list_of input.now.lists.now 0) 0) (vertices_of order)) }
     ensures rank { IfOk result (λ order. IsRankOf order.rank (vertices_of order)) }
 {
-    peeler.base_order(alloc, lists, 0, lists.list(0)[0])
+    peeler.base_order(alloc, input.lists, 0, input.lists.list(0)[0])
 }

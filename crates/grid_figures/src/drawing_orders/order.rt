@@ -8,6 +8,7 @@ ghost use Rattle.grid_figures.specs.DrawingOrdersBases.{LeadsToLeast};
 ghost use Rattle.grid_figures.specs.Orders.{IsDrawingOrder};
 ghost use Rattle.refusals.specs.Conditions.{first_refusal, IfRefused};
 
+use crate::record::Record;
 use augment_tri::triangulate_parts;
 use canon_order::{Order, Peeler};
 use conn_parts::{CountedMaker, CountedMap};
@@ -166,15 +167,16 @@ pub(crate) fn ordered_plane(
 }
 
 // Like [`drawing_order`], but by `tools` that may have served other maps before.
-pub(crate) fn ordered_record(tools: &mut Tools, lists: &Rotations) -> Result<DrawingOrder, Unserved>
-    requires some_list { 0 < length lists.now }
-    requires few_lists { length lists.now < 4096 }
-    ensures order { IfOk result (IsDrawingOrder lists.now) }
-    ensures served { OnOk result (first_refusal 3 lists.now ≡ None) }
-    ensures refused { IfErr result (IfRefused (λ refusal. first_refusal 3 lists.now ≡ Some refusal)) }
+pub(crate) fn ordered_record(
+    tools: &mut Tools,
+    input: &Record<'_>,
+) -> Result<DrawingOrder, Unserved>
+    ensures order { IfOk result (IsDrawingOrder input.now.lists.now) }
+    ensures served { OnOk result (first_refusal 3 input.now.lists.now ≡ None) }
+    ensures refused { IfErr result (IfRefused (λ refusal. first_refusal 3 input.now.lists.now ≡ Some refusal)) }
 {
-    let plane = tools.maps.plane_map(lists, 3)?;
-    let found = ordered_plane(tools, plane, lists)?;
+    let plane = tools.maps.plane_map(input.lists, 3)?;
+    let found = ordered_plane(tools, plane, input.lists)?;
     Ok(found)
 }
 
@@ -193,6 +195,6 @@ pub fn drawing_order(alloc: Global, lists: &Rotations) -> Result<DrawingOrder, U
     ensures refused { IfErr result (IfRefused (λ refusal. first_refusal 3 lists.now ≡ Some refusal)) }
 {
     let mut tools = Tools::new(alloc);
-    let found = ordered_record(&mut tools, lists)?;
+    let found = ordered_record(&mut tools, &Record { lists })?;
     Ok(found)
 }

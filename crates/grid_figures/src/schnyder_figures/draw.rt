@@ -10,6 +10,7 @@ ghost use Rattle.grid_figures.specs.SchnyderFiguresFigures.{schnyder_form, IsSch
 
 use crate::Drawer;
 use crate::drawing_orders::{Tools, full_order, is_triangulated, made_or, ordered_plane};
+use crate::record::Record;
 use crate::schnyder_grid::WoodDrawer;
 use canon_order::Order;
 use conn_parts::CountedMap;
@@ -58,15 +59,14 @@ fn drawn_plane(
 fn full_figure(
     tools: &mut Tools,
     woods: &mut WoodDrawer,
-    lists: &Rotations,
+    input: &Record<'_>,
 ) -> Result<GridFigure, AllocError>
-    requires triangulation { IsTriangulation lists.now }
-    requires few { length lists.now < 4096 }
-    ensures { IfOk result (IsSchnyderFigure lists.now) }
+    requires { IsTriangulation input.now.lists.now }
+    ensures { IfOk result (IsSchnyderFigure input.now.lists.now) }
 {
     crate::drawing_orders::completion_draws();
-    let order = full_order(tools.alloc, &mut tools.peeler, lists)?;
-    let figure = order_figure(woods, lists, &order)?;
+    let order = full_order(tools.alloc, &mut tools.peeler, input)?;
+    let figure = order_figure(woods, input.lists, &order)?;
     tools.peeler.keep(order);
     Ok(figure)
 }
@@ -75,16 +75,14 @@ fn full_figure(
 fn map_figure(
     tools: &mut Tools,
     woods: &mut WoodDrawer,
-    lists: &Rotations,
+    input: &Record<'_>,
 ) -> Result<GridFigure, Unserved>
-    requires some_list { 0 < length lists.now }
-    requires few_lists { length lists.now < 4096 }
-    ensures figure { IfOk result (IsSchnyderFigure lists.now) }
-    ensures served { OnOk result (first_refusal 3 lists.now ≡ None) }
-    ensures refused { IfErr result (IfRefused (λ refusal. first_refusal 3 lists.now ≡ Some refusal)) }
+    ensures figure { IfOk result (IsSchnyderFigure input.now.lists.now) }
+    ensures served { OnOk result (first_refusal 3 input.now.lists.now ≡ None) }
+    ensures refused { IfErr result (IfRefused (λ refusal. first_refusal 3 input.now.lists.now ≡ Some refusal)) }
 {
-    let plane = tools.maps.plane_map(lists, 3)?;
-    let figure = drawn_plane(tools, woods, plane, lists)?;
+    let plane = tools.maps.plane_map(input.lists, 3)?;
+    let figure = drawn_plane(tools, woods, plane, input.lists)?;
     Ok(figure)
 }
 
@@ -92,19 +90,17 @@ fn map_figure(
 pub(crate) fn drawn_record(
     tools: &mut Tools,
     woods: &mut WoodDrawer,
-    lists: &Rotations,
+    input: &Record<'_>,
 ) -> Result<GridFigure, Unserved>
-    requires some_list { 0 < length lists.now }
-    requires few_lists { length lists.now < 4096 }
-    ensures figure { IfOk result (IsSchnyderFigure lists.now) }
-    ensures served { OnOk result (first_refusal 3 lists.now ≡ None) }
-    ensures refused { IfErr result (IfRefused (λ refusal. first_refusal 3 lists.now ≡ Some refusal)) }
+    ensures figure { IfOk result (IsSchnyderFigure input.now.lists.now) }
+    ensures served { OnOk result (first_refusal 3 input.now.lists.now ≡ None) }
+    ensures refused { IfErr result (IfRefused (λ refusal. first_refusal 3 input.now.lists.now ≡ Some refusal)) }
 {
-    if is_triangulated(&mut tools.counter, lists)? {
-        let figure = full_figure(tools, woods, lists)?;
+    if is_triangulated(&mut tools.counter, input)? {
+        let figure = full_figure(tools, woods, input)?;
         return Ok(figure);
     }
-    map_figure(tools, woods, lists)
+    map_figure(tools, woods, input)
 }
 
 /// The figure of a record with these lists, which are from 1 to 4095: a plane drawing of its map that keeps

@@ -6,6 +6,7 @@ ghost use Rattle.canon_order.specs.Orders.{IsCanonicalOrder, IsRankOf, vertices_
 ghost use Rattle.contour_runs.specs.Runs.{Step};
 ghost use Rattle.order_drawings.specs.Rows.{AreAllRows};
 ghost use Rattle.order_drawings.specs.SchnyderDrawings.{AreWoodPoints, IsSchnyderDrawing};
+ghost use Rattle.grid_figures.specs.Gaps.{AreTables};
 ghost use Rattle.grid_figures.specs.Points.{ArePoints};
 
 use crate::schnyder_grid::gaps::find_coordinates;
@@ -27,12 +28,8 @@ fn wood_points(
     rows: &Rotations,
     ranks: &Counts,
 ) -> Result<Points, AllocError>
-    requires drops { length drops.old ≡ length ranks.now }
-    requires rises { length rises.old ≡ length ranks.now }
-    requires spans { length spans.old ≡ length ranks.now }
-    requires covers { length covers.old ≡ length ranks.now }
+    requires tables { AreTables (length ranks.now) drops.old rises.old spans.old covers.old }
     requires zeros { (u : ℕ) → (slice_index drops.old u ≡ 0) × (slice_index rises.old u ≡ 0) × (slice_index spans.old u ≡ 0) }
-    requires few { length ranks.now < 4096 }
     requires rows { length rows.now + 2 ≡ length ranks.now }
     requires ranks { All (λ k. k < length ranks.now) ranks.now }
     requires run { (steps : ℕ → Step) × AreAllRows steps rows.now }

@@ -10,7 +10,7 @@ ghost use Rattle.std.specs.Prelude.{◌≡◌, ◌≢◌, ◌<◌, ◌+◌, ◌^
 ghost use Rattle.contour_runs.specs.Runs.{Step, Stage, after, stage_after};
 ghost use Rattle.contour_runs.specs.Wood.{Coordinates, coordinates_after, coordinates, drawn_one, drawn_two, wood_points};
 ghost use Rattle.order_drawings.specs.Rows.{AreRows, AreAllRows};
-ghost use Rattle.grid_figures.specs.Gaps.{AreLastGaps, AreGaps, ArePassed, AreCovered, IsPut, gap_sum};
+ghost use Rattle.grid_figures.specs.Gaps.{AreLastGaps, AreGaps, ArePassed, AreCovered, AreTables, IsPut, gap_sum};
 
 use half_edges::Rotations;
 
@@ -51,10 +51,7 @@ fn put_over(
     row: &[u16],
     v: u16,
 )
-    requires rises { length rises.old ≡ length drops.old }
-    requires spans { length spans.old ≡ length drops.old }
-    requires covers { length covers.old ≡ length drops.old }
-    requires few { length drops.old < 4096 }
+    requires tables { AreTables (length drops.old) drops.old rises.old spans.old covers.old }
     requires within { v < length drops.old }
     requires put { (g : Stage) × (s : Step) × (at : Coordinates) × IsPut g s at row.now v × AreGaps g at drops.old rises.old spans.old covers.old }
     ensures { (g : Stage) (s : Step) (at : Coordinates) → IsPut g s at row.now v → AreGaps g at drops.old rises.old spans.old covers.old
@@ -78,10 +75,7 @@ fn put_all(
     covers: &mut [u16],
     rows: &Rotations,
 )
-    requires rises { length rises.old ≡ length drops.old }
-    requires spans { length spans.old ≡ length drops.old }
-    requires covers { length covers.old ≡ length drops.old }
-    requires few { length drops.old < 4096 }
+    requires tables { AreTables (length drops.old) drops.old rises.old spans.old covers.old }
     requires rows { length rows.now + 2 ≡ length drops.old }
     requires zeros { (u : ℕ) → (slice_index drops.old u ≡ 0) × (slice_index rises.old u ≡ 0) × (slice_index spans.old u ≡ 0) }
     requires run { (steps : ℕ → Step) × AreRows steps rows.now }
@@ -138,10 +132,7 @@ pub(crate) fn find_coordinates(
     covers: &mut [u16],
     rows: &Rotations,
 )
-    requires rises { length rises.old ≡ length drops.old }
-    requires spans { length spans.old ≡ length drops.old }
-    requires covers { length covers.old ≡ length drops.old }
-    requires few { length drops.old < 4096 }
+    requires tables { AreTables (length drops.old) drops.old rises.old spans.old covers.old }
     requires rows { length rows.now + 2 ≡ length drops.old }
     requires zeros { (u : ℕ) → (slice_index drops.old u ≡ 0) × (slice_index rises.old u ≡ 0) × (slice_index spans.old u ≡ 0) }
     requires run { (steps : ℕ → Step) × AreAllRows steps rows.now }

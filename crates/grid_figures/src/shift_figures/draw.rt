@@ -9,6 +9,7 @@ ghost use Rattle.grid_figures.specs.ShiftFiguresFigures.{shift_form, IsShiftFigu
 
 use crate::Drawer;
 use crate::drawing_orders::{Tools, full_order, is_triangulated, made_or, ordered_record};
+use crate::record::Record;
 use canon_order::Order;
 use fpp_shift::Shifter;
 use half_edges::Rotations;
@@ -36,15 +37,14 @@ fn order_figure(
 fn full_figure(
     tools: &mut Tools,
     shifter: &mut Shifter,
-    lists: &Rotations,
+    input: &Record<'_>,
 ) -> Result<GridFigure, AllocError>
-    requires triangulation { IsTriangulation lists.now }
-    requires few { length lists.now < 4096 }
-    ensures { IfOk result (IsShiftFigure lists.now) }
+    requires { IsTriangulation input.now.lists.now }
+    ensures { IfOk result (IsShiftFigure input.now.lists.now) }
 {
     crate::drawing_orders::completion_draws();
-    let order = full_order(tools.alloc, &mut tools.peeler, lists)?;
-    let figure = order_figure(shifter, lists, &order)?;
+    let order = full_order(tools.alloc, &mut tools.peeler, input)?;
+    let figure = order_figure(shifter, input.lists, &order)?;
     tools.peeler.keep(order);
     Ok(figure)
 }
@@ -53,17 +53,15 @@ fn full_figure(
 fn map_figure(
     tools: &mut Tools,
     shifter: &mut Shifter,
-    lists: &Rotations,
+    input: &Record<'_>,
 ) -> Result<GridFigure, Unserved>
-    requires some_list { 0 < length lists.now }
-    requires few_lists { length lists.now < 4096 }
-    ensures figure { IfOk result (IsShiftFigure lists.now) }
-    ensures served { OnOk result (first_refusal 3 lists.now ≡ None) }
-    ensures refused { IfErr result (IfRefused (λ refusal. first_refusal 3 lists.now ≡ Some refusal)) }
+    ensures figure { IfOk result (IsShiftFigure input.now.lists.now) }
+    ensures served { OnOk result (first_refusal 3 input.now.lists.now ≡ None) }
+    ensures refused { IfErr result (IfRefused (λ refusal. first_refusal 3 input.now.lists.now ≡ Some refusal)) }
 {
     crate::drawing_orders::completion_draws();
-    let found = ordered_record(tools, lists)?;
-    let figure = order_figure(shifter, made_or(&found.made, lists), &found.order)?;
+    let found = ordered_record(tools, input)?;
+    let figure = order_figure(shifter, made_or(&found.made, input.lists), &found.order)?;
     tools.keep(found);
     Ok(figure)
 }
@@ -72,19 +70,17 @@ fn map_figure(
 pub(crate) fn drawn_record(
     tools: &mut Tools,
     shifter: &mut Shifter,
-    lists: &Rotations,
+    input: &Record<'_>,
 ) -> Result<GridFigure, Unserved>
-    requires some_list { 0 < length lists.now }
-    requires few_lists { length lists.now < 4096 }
-    ensures figure { IfOk result (IsShiftFigure lists.now) }
-    ensures served { OnOk result (first_refusal 3 lists.now ≡ None) }
-    ensures refused { IfErr result (IfRefused (λ refusal. first_refusal 3 lists.now ≡ Some refusal)) }
+    ensures figure { IfOk result (IsShiftFigure input.now.lists.now) }
+    ensures served { OnOk result (first_refusal 3 input.now.lists.now ≡ None) }
+    ensures refused { IfErr result (IfRefused (λ refusal. first_refusal 3 input.now.lists.now ≡ Some refusal)) }
 {
-    if is_triangulated(&mut tools.counter, lists)? {
-        let figure = full_figure(tools, shifter, lists)?;
+    if is_triangulated(&mut tools.counter, input)? {
+        let figure = full_figure(tools, shifter, input)?;
         return Ok(figure);
     }
-    map_figure(tools, shifter, lists)
+    map_figure(tools, shifter, input)
 }
 
 /// The figure of a record with these lists, which are from 1 to 4095: a plane drawing of its map that keeps

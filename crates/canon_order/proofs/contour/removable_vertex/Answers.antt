@@ -14,9 +14,9 @@ loop-stack-preserved c =
     let last = c.index-v.ensures ∙ ap (λ k. slice_index_or us (k - 1) c.index-v.result.now) (c.len-in-loop-stack.ensures ∙ n) in
     record {
       tally = h.tally;
-      vertices = subst (λ (vs : List ℕ). All (λ v. v < length c.args.lists.now) vs) (sym rest) (All-take (λ v. v < length c.args.lists.now) (length us - 1) us h.vertices);
+      vertices = subst (λ (vs : List ℕ). All (λ v. v < length c.args.base.now.lists.now) vs) (sym rest) (All-take (λ v. v < length c.args.base.now.lists.now) (length us - 1) us h.vertices);
       stacked = λ v removable.
           subst (λ (vs : List ℕ). Contains vs v) (sym rest)
           (Contains-but_last us c.index-v.result.now v last (h.stacked v removable)
-          (λ e. false≢true (sym c.if-is_removable.false ∙ c.is_removable.ensures.1 (subst (λ z. LooksRemovable c.args.t c.args.s c.args.marked.now c.args.near.now z) e removable))));
+          (λ e. false≢true (sym c.if-is_removable.false ∙ c.is_removable.ensures.1 (subst (λ z. LooksRemovable c.args.base.now.t c.args.base.now.s c.args.marked.now c.args.near.now z) e removable))));
     }

@@ -4,8 +4,8 @@ use Rattle.canon_order.proofs.order.peel.Given as goal
 
 abbrev pub invariant-loop : goal.invariant-loop
 invariant-loop l = record {
-  gone_count : length l.gone ≡ length l.lists;
-  prepared : IsPrepared l.lists l.t l.s l.marked l.near l.stack.items;
-  contour : IsContour l.lists l.t l.s l.gone l.marked (reverse l.taken.items);
+  gone_count : length l.gone ≡ length l.base.lists.now;
+  prepared : IsPrepared l.base.lists.now l.base.t l.base.s l.marked l.near l.stack.items;
+  contour : IsContour l.base.lists.now l.base.t l.base.s l.gone l.marked (reverse l.taken.items);
   place : length l.taken.items + 3 ≡ l.counter;
 }

@@ -11,9 +11,9 @@ pub points_at-requires-clause-small : goal.points_at-requires-clause-small
 points_at-requires-clause-small c = λ k l.
     let run = c.requires.run in
     let rows = c.requires.rows in
-    let few = c.requires.few in
+    let few = c.requires.tables.few in
     let long = c.find_coordinates.auto.drops in
-    let drops = c.requires.drops in
+    let drops = c.requires.tables.drops_of_all in
     let at = c.find_coordinates.ensures run.0 run.1 k (omega arith) in
     let small = small_points run.0 c.args.rows.now k run.1 (omega arith) (omega arith) in
     (omega (arith, at.0, small.0), omega (arith, at.1, small.1))
@@ -24,7 +24,7 @@ returns c =
     let rows = c.args.rows.now in
     let ranks = c.args.ranks.now in
     let long = c.find_coordinates.auto.drops in
-    let drops = c.requires.drops in
+    let drops = c.requires.tables.drops_of_all in
     let size : length ranks ≡ length new.drops = omega arith in
     IfOk-weaker c.points_at.result (λ points. ArePointsAt new.drops new.rises ranks points) (λ points. (steps : ℕ → Step) → AreAllRows steps rows → ArePoints steps (length rows) ranks points)
     (λ points h steps run. ArePoints-at steps (length rows) new.drops new.rises ranks points h

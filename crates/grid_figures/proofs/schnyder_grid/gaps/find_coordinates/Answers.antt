@@ -10,7 +10,7 @@ add_ones-requires-clause-last c =
     let run = c.requires.run in
     let m : ℕ = length c.args.rows.now in
     let n = c.requires.rows in
-    let covers = c.requires.covers in
+    let covers = c.requires.tables.covers_of_all in
     let same = c.put_all.auto.covers in
     (stage_after run.0 m, coordinates run.0 m, c.put_all.new.rises, AreLastGaps-run run.0 c.args.rows.now c.put_all.new.drops c.put_all.new.rises c.put_all.new.spans c.put_all.new.covers run.1 (omega arith) (c.put_all.ensures run.0 run.1.rows_are))
 
@@ -19,7 +19,7 @@ add_twos-requires-clause-last c =
     let run = c.requires.run in
     let m : ℕ = length c.args.rows.now in
     let n = c.requires.rows in
-    let covers = c.requires.covers in
+    let covers = c.requires.tables.covers_of_all in
     let same = c.put_all.auto.covers in (
       stage_after run.0 m,
       coordinates run.0 m,
@@ -32,7 +32,7 @@ pub returns : goal.returns
 returns c = λ steps h k l.
     let m : ℕ = length c.args.rows.now in
     let n = c.requires.rows in
-    let covers = c.requires.covers in
+    let covers = c.requires.tables.covers_of_all in
     let same = c.put_all.auto.covers in
     let count = count-stage_after steps m in
     let last = AreLastGaps-run steps c.args.rows.now c.put_all.new.drops c.put_all.new.rises c.put_all.new.spans c.put_all.new.covers h (omega arith) (c.put_all.ensures steps h.rows_are) in (

@@ -16,14 +16,14 @@ pub pass-span-requires-clause-room : goal.pass-span-requires-clause-room
 pass-span-requires-clause-room c =
     let w = c.requires.put in
     let small = drop_small w.0 w.1 w.2 c.args.row.now c.args.v c.args.drops.now c.args.rises.now c.args.spans.now c.args.covers.now w.3 w.4 in
-    let few = c.requires.few in
+    let few = c.requires.tables.few in
     let in_v = c.requires.within in
     omega arith
 
 pub pass-requires-clause-within : goal.pass-requires-clause-within
 pass-requires-clause-within c =
     let w = c.requires.put in
-    let same = c.requires.rises in
+    let same = c.requires.tables.rises_of_all in
     let in_v = c.requires.within in
     tail_within w.0 w.1 w.2 c.args.row.now c.args.v c.args.drops.now c.args.rises.now c.args.spans.now c.args.covers.now w.3 w.4 (length c.args.rises.now) (omega arith)
 
@@ -36,14 +36,14 @@ pub pass-requires-clause-room : goal.pass-requires-clause-room
 pass-requires-clause-room c =
     let w = c.requires.put in
     let small = rise_small w.0 w.1 w.2 c.args.row.now c.args.v c.args.drops.now c.args.rises.now c.args.spans.now c.args.covers.now w.3 w.4 in
-    let few = c.requires.few in
+    let few = c.requires.tables.few in
     let in_v = c.requires.within in
     omega arith
 
 pub cover-requires-clause-within : goal.cover-requires-clause-within
 cover-requires-clause-within c =
     let w = c.requires.put in
-    let same = c.requires.covers in
+    let same = c.requires.tables.covers_of_all in
     let in_v = c.requires.within in
     tail_within w.0 w.1 w.2 c.args.row.now c.args.v c.args.drops.now c.args.rises.now c.args.spans.now c.args.covers.now w.3 w.4 (length c.args.covers.now) (omega arith)
 
@@ -57,7 +57,7 @@ returns c = λ g s at put before.
     let same = c.pass-span.auto.gaps in
     let same' = c.pass.auto.gaps in
     let few = c.requires.within in
-    let rises = c.requires.rises in
-    let spans = c.requires.spans in
+    let rises = c.requires.tables.rises_of_all in
+    let spans = c.requires.tables.spans_of_all in
     AreGaps-put g s at c.args.row.now c.args.v c.args.drops.now c.args.rises.now c.args.spans.now c.args.covers.now put before c.pass-span.result c.pass-span.new.gaps c.pass.new.gaps c.cover.new.covers c.pass-span.ensures.far
     c.pass-span.ensures.passed c.pass.ensures.passed c.cover.ensures (omega arith) (omega arith) (omega arith)

@@ -1,0 +1,12 @@
+//! The lists of a record, as methods of drawing take them.
+ghost use Rattle.std.specs.Prelude.{◌<◌, length};
+
+use half_edges::Rotations;
+
+// Lists that are from 1 to 4095.
+#[derive(Clone, Copy)]
+pub(crate) struct Record<'a> {
+    pub(crate) lists: &'a Rotations,
+    ghost some: { 0 < length lists.now },
+    ghost few: { length lists.now < 4096 },
+}
