@@ -79,9 +79,10 @@ fn push_figure(
     }
 }
 
-// Keeps the memory of a drawing that is printed.
-fn keep_figure(drawer: &mut Drawer, figure: EmbedFigure) {
-    if let EmbedFigure::Drawn(_, drawing) = figure {
+// Keeps the memory of a map and its drawing that are printed.
+fn keep_figure(tables: &mut Tables, drawer: &mut Drawer, figure: EmbedFigure) {
+    if let EmbedFigure::Drawn(lists, drawing) = figure {
+        tables.keep_lists(lists);
         drawer.keep_schnyder(drawing);
     }
 }
@@ -102,7 +103,7 @@ fn serve_graph(
 {
     let figure = embed_figure_by(alloc, &mut tools.tables, &mut tools.drawer, graph)?;
     push_figure(alloc, &mut tools.printer, form, number, graph, &figure, out)?;
-    keep_figure(&mut tools.drawer, figure);
+    keep_figure(&mut tools.tables, &mut tools.drawer, figure);
     Ok(true)
 }
 
