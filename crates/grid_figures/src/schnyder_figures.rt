@@ -5,8 +5,8 @@ ghost use Rattle.grid_figures.specs.SchnyderFiguresLaws.{SomeSchnyderFigure};
 
 mod draw;
 
-pub use draw::schnyder_figure;
 pub(crate) use draw::drawn_record;
+pub use draw::schnyder_figure;
 
 /// Each simple map of genus zero with at least three vertices has a figure.
 pub fn some_schnyder_figure()
