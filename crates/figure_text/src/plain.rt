@@ -1,21 +1,25 @@
 //! Numbers at the end of a line that are written plainly: taken one by one, and not kept as words.
-ghost use Rattle.std.specs.Prelude.{◌≡◌, ◌+◌, List, ℕ, length, pos, ◌++◌, ◌∷◌, ◌-◌, ◌≤◌, [], false, map, All, IfOk, IfSome};
+ghost use Rattle.std.specs.Prelude.{◌≡◌, pos, ◌++◌, ◌∷◌, ◌-◌, ◌≤◌, [], false, map, All, IfOk, IfSome};
 ghost use Rattle.std.specs.Bool.{OnTrue};
 ghost use Rattle.figure_text.specs.Words.{words_left};
 ghost use Rattle.figure_text.specs.Lines.{vertex_of, integer_of};
-ghost use Rattle.figure_text.specs.Plain.{IsPlainAt, IsVertexAt, IsNeighbour, IsCoordinateAt, IsCoordinateWord};
+ghost use Rattle.figure_text.specs.Plain.{IsVertexAt, IsNeighbour, IsCoordinateAt, IsCoordinateWord};
 
-use crate::words::{Digits, plain_at, short_at};
+use crate::words::{Digits, plain_at};
 use map_lists::Rotations;
 use pg_plane::Ints;
 use std::alloc::AllocError;
 
-// A number, where it is that of a vertex.
+// The number of a vertex that begins at `at`, where it is written plainly. That it does not begin with 0 is tested first,
+// so that it needs no other test for that.
 #[inline(always)]
-fn numbered(found: Option<Digits>) -> Option<Digits>
-    ensures { (line : List ℕ) (at : ℕ) → IfSome found (IsPlainAt line at) → IfSome result (IsVertexAt line at) }
+fn vertex_at(line: &[u8], at: usize) -> Option<Digits>
+    ensures { IfSome result (IsVertexAt line.now at) }
 {
-    match found {
+    if line.len() <= at || line[at] == b'0' {
+        return None;
+    }
+    match plain_at(line, at) {
         Some(digits) => {
             if 1 <= digits.value && digits.value <= 65535 {
                 Some(digits)
@@ -25,33 +29,6 @@ fn numbered(found: Option<Digits>) -> Option<Digits>
         }
         None => None,
     }
-}
-
-// Returns the number of a vertex that begins at `at`, where it is written plainly and the line may end within six bytes. It
-// is not written out at its caller, which asks for one or two numbers of a line.
-#[inline(never)]
-fn last_vertex(line: &[u8], at: usize) -> Option<Digits>
-    ensures { IfSome result (IsVertexAt line.now at) }
-{
-    if line.len() <= at || line[at] == b'0' {
-        return None;
-    }
-    numbered(plain_at(line, at))
-}
-
-// Returns the number of a vertex that begins at `at`, where it is written plainly. That it does not begin with 0 is tested
-// first, so that it needs no other test for that.
-#[inline(always)]
-fn vertex_at(line: &[u8], at: usize) -> Option<Digits>
-    ensures { IfSome result (IsVertexAt line.now at) }
-{
-    if line.len() < 6 || line.len() - 6 < at {
-        return last_vertex(line, at);
-    }
-    if line[at] == b'0' {
-        return None;
-    }
-    numbered(short_at(line, at))
 }
 
 // The vertex with a number, from 0.

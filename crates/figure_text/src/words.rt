@@ -254,7 +254,6 @@ fn first_digits(line: &[u8], at: usize, count: usize) -> Digits
     requires within { at + count ≤ length line.now }
     ensures order { at ≤ result.end }
     ensures within { result.end ≤ length line.now }
-    ensures few { result.end ≤ at + count }
     ensures before { (k : ℕ) → at ≤ k → k < result.end → slice_index line.now k ≢ 32 }
     ensures value { option_map (min far) (decimal_from 0 (take (result.end - at) (drop at line.now))) ≡ Some result.value }
 {
@@ -362,21 +361,6 @@ pub fn plain_at(line: &[u8], at: usize) -> Option<Digits>
     let digits = digits_from(line, at);
     if is_canonical(&line[at..digits.end]) {
         if ends_at(line, digits.end) {
-            return Some(digits);
-        }
-    }
-    None
-}
-
-/// Returns the number that begins at `at`, where it has no minus, at most five digits, and a space after it.
-#[inline(always)]
-pub fn short_at(line: &[u8], at: usize) -> Option<Digits>
-    requires { at + 6 ≤ length line.now }
-    ensures { IfSome result (IsPlainAt line.now at) }
-{
-    let digits = first_digits(line, at, 5);
-    if is_canonical(&line[at..digits.end]) {
-        if line[digits.end] == b' ' {
             return Some(digits);
         }
     }
