@@ -15,7 +15,6 @@ use std::alloc::AllocError;
 /// Marks a vertex: its neighbours have one marked neighbour more, and all others as many as before.
 pub fn mark(marks: &mut [bool], counts: &mut [u16], lists: &Rotations, v: u16)
     requires simple { IsSimpleMap lists.now }
-    requires few { length lists.now < 4096 }
     requires vertex { v < length lists.now }
     requires tally { IsTally lists.now marks.old counts.old }
     requires unmarked { is_set marks.old v ≡ false }
@@ -23,6 +22,7 @@ pub fn mark(marks: &mut [bool], counts: &mut [u16], lists: &Rotations, v: u16)
     ensures marks { marks.new ≡ slice_set marks.old v true }
     ensures elsewhere { (u : ℕ) → ¬ Contains (list_of lists.now v) u → slice_index counts.new u ≡ slice_index counts.old u }
 {
+    lists.facts();
     marks[v as usize] = true;
     raise(counts, lists.list(v as usize));
 }
@@ -37,7 +37,6 @@ pub fn mark_three(
     third: u16,
 )
     requires simple { IsSimpleMap lists.now }
-    requires few { length lists.now < 4096 }
     requires first { first < length lists.now }
     requires second { second < length lists.now }
     requires third { third < length lists.now }
@@ -62,7 +61,6 @@ fn mark_new(
     v: u16,
 ) -> Result<(), AllocError>
     requires simple { IsSimpleMap lists.now }
-    requires few { length lists.now < 4096 }
     requires vertex { v < length lists.now }
     requires tally { IsTally lists.now marked.old near.old }
     requires vertices { All (λ u. u < length lists.now) stack.old.items }
@@ -70,6 +68,7 @@ fn mark_new(
     ensures noted { IfOk result (λ _. IsNoted lists.now marked.old near.old stack.old.items marked.new near.new stack.new.items) }
     ensures marks { marked.new ≡ slice_set marked.old v true }
 {
+    lists.facts();
     marked[v as usize] = true;
     note(near, stack, marked, v)?;
     raise_noting(near, stack, marked, lists.list(v as usize))
@@ -106,7 +105,6 @@ fn mark_left(
     v: u16,
 ) -> Result<(), AllocError>
     requires simple { IsSimpleMap lists.now }
-    requires few { length lists.now < 4096 }
     requires vertex { v < length lists.now }
     requires gone { length gone.now ≡ length lists.now }
     requires tally { IsTally lists.now marked.old near.old }
@@ -131,7 +129,6 @@ fn mark_all(
     entries: &[u16],
 ) -> Result<(), AllocError>
     requires simple { IsSimpleMap lists.now }
-    requires few { length lists.now < 4096 }
     requires entries { All (λ u. u < length lists.now) entries.now }
     requires gone { length gone.now ≡ length lists.now }
     requires tally { IsTally lists.now marked.old near.old }
@@ -155,7 +152,6 @@ pub fn leave_cycle(
     v: u16,
 ) -> Result<(), AllocError>
     requires simple { IsSimpleMap lists.now }
-    requires few { length lists.now < 4096 }
     requires vertex { v < length lists.now }
     requires gone { length gone.now ≡ length lists.now }
     requires tally { IsTally lists.now marked.old near.old }

@@ -202,11 +202,11 @@ impl Peeler {
         s: u16,
     ) -> Result<Order, AllocError>
         requires triangulation { IsTriangulation lists.now }
-        requires few { length lists.now < 4096 }
         requires base { HasDart lists.now t s }
         ensures order { IfOk result (λ order. IsCanonicalOrder lists.now (t, s) (vertices_of order)) }
         ensures rank { IfOk result (λ order. IsRankOf order.rank (vertices_of order)) }
     {
+        lists.facts();
         let third = entry_behind(lists.list(s as usize), t);
         let under = entry_behind(lists.list(t as usize), s);
         let base = Base {
@@ -268,7 +268,6 @@ pub fn list_order(
 /// goes from `t` to `s`.
 pub fn base_order(alloc: Global, lists: &Rotations, t: u16, s: u16) -> Result<Order, AllocError>
     requires triangulation { IsTriangulation lists.now }
-    requires few { length lists.now < 4096 }
     requires base { HasDart lists.now t s }
     ensures order { IfOk result (λ order. IsCanonicalOrder lists.now (t, s) (vertices_of order)) }
     ensures rank { IfOk result (λ order. IsRankOf order.rank (vertices_of order)) }

@@ -30,7 +30,6 @@ pub struct CountedMap {
 /// The time is linear in the entries, and so is the memory.
 pub fn counted_map(alloc: Global, lists: &Rotations) -> Result<CountedMap, MapFault>
     requires some_list { 0 < length lists.now }
-    requires few_lists { length lists.now < 4096 }
     ensures counted { IfOk result (IsCountedMap lists.now) }
     ensures simple { OnOk result (first_fault lists.now ≡ None) }
     ensures fault { IfErr result (Names (first_fault lists.now)) }
@@ -63,7 +62,6 @@ impl CountedMaker {
     /// serves as before.
     pub fn counted_map(&mut self, lists: &Rotations) -> Result<CountedMap, MapFault>
         requires some_list { 0 < length lists.now }
-        requires few_lists { length lists.now < 4096 }
         ensures counted { IfOk result (IsCountedMap lists.now) }
         ensures simple { OnOk result (first_fault lists.now ≡ None) }
         ensures fault { IfErr result (Names (first_fault lists.now)) }
@@ -79,7 +77,6 @@ impl CountedMaker {
     /// The map of a record, as `plane_map` has it. After `NoMemory` the maker serves as before.
     pub fn plane_map(&mut self, lists: &Rotations, least: u16) -> Result<CountedMap, Unserved>
         requires some_list { 0 < length lists.now }
-        requires few_lists { length lists.now < 4096 }
         ensures plane { IfOk result (IsPlaneMap least lists.now) }
         ensures served { OnOk result (first_refusal least lists.now ≡ None) }
         ensures refused { IfErr result (IfRefused (λ refusal. first_refusal least lists.now ≡ Some refusal)) }
@@ -103,7 +100,6 @@ impl CountedMaker {
 
 // Refuses lists that are a simple map by its counts: for too few vertices, or for its genus.
 fn refuse_counted(lists: &Rotations, count: EulerCount, least: u16) -> Result<(), Unserved>
-    requires few_lists { length lists.now < 4096 }
     requires simple { first_fault lists.now ≡ None }
     requires count { IsCountOf lists.now count }
     ensures some { OnOk result (least ≤ vertex_count lists.now) }
@@ -131,7 +127,6 @@ pub fn plane_count(
     least: u16,
 ) -> Result<EulerCount, Unserved>
     requires some_list { 0 < length lists.now }
-    requires few_lists { length lists.now < 4096 }
     ensures simple { OnOk result (IsSimpleMap lists.now) }
     ensures some { OnOk result (least ≤ vertex_count lists.now) }
     ensures plane { OnOk result (IsPlane lists.now) }
@@ -148,7 +143,6 @@ pub fn plane_count(
 // Refuses lists of more entries than a plane map has, by counts alone: no map is made of them.
 fn refuse_dense(alloc: Global, lists: &Rotations, least: u16) -> Result<(), Unserved>
     requires some_list { 0 < length lists.now }
-    requires few_lists { length lists.now < 4096 }
     ensures { IfErr result (IfRefused (λ refusal. first_refusal least lists.now ≡ Some refusal)) }
 {
     if lists.total() <= 6 * lists.len() {
@@ -166,7 +160,6 @@ fn refuse_dense(alloc: Global, lists: &Rotations, least: u16) -> Result<(), Unse
 /// entries.
 pub fn plane_map(alloc: Global, lists: &Rotations, least: u16) -> Result<CountedMap, Unserved>
     requires some_list { 0 < length lists.now }
-    requires few_lists { length lists.now < 4096 }
     ensures plane { IfOk result (IsPlaneMap least lists.now) }
     ensures served { OnOk result (first_refusal least lists.now ≡ None) }
     ensures refused { IfErr result (IfRefused (λ refusal. first_refusal least lists.now ≡ Some refusal)) }

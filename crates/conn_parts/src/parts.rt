@@ -65,7 +65,6 @@ pub fn components(alloc: Global, map: &HalfMap) -> Result<Parts, AllocError>
 /// fails only when out of memory.
 pub fn list_components(alloc: Global, lists: &Rotations) -> Result<Parts, AllocError>
     requires simple { IsSimpleMap lists.now }
-    requires few { length lists.now < 4096 }
     ensures { IfOk result (ArePartsOf lists.now) }
 {
     let mut queue = Vec::new(alloc);
@@ -80,7 +79,6 @@ pub(crate) fn numbered_parts(
     queue: &mut Vec<u16>,
 ) -> Result<Parts, AllocError>
     requires simple { IsSimpleMap lists.now }
-    requires few { length lists.now < 4096 }
     ensures { IfOk result (ArePartsOf lists.now) }
 {
     let mut numbers = spent.numbers;

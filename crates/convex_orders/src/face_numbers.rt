@@ -26,11 +26,11 @@ pub struct FaceNumbers {
 
 // Returns the number of the face of dart `d`.
 fn number_of(map: &HalfMap, faces: &Faces, d: DartId) -> u32
-    requires known { IsHalfMap map.now }
     requires faces { AreFaces map.now faces.now }
     requires live { IsLive map.now d.0 }
     ensures { (u v : ℕ) → dart_at map.now d.0 ≡ Some (u, v) → InWalk map.now faces.now result u v }
 {
+    map.facts();
     faces.of_dart(d).0
 }
 
@@ -43,13 +43,13 @@ fn put_round(
     own: &mut Vec<u32>,
     other: &mut Vec<u32>,
 ) -> Result<(), AllocError>
-    requires known { IsHalfMap map.now }
     requires faces { AreFaces map.now faces.now }
     requires vertex { v.0 < length map.now.lists }
     requires first { dart_at map.now first.0 ≡ Some (first_dart map.now.lists v.0) }
     ensures own { IfOk result (λ _. IsRowPut (AreOwn map.now faces.now v.0) (length (list_of map.now.lists v.0)) own.old.items own.new.items) }
     ensures other { IfOk result (λ _. IsRowPut (AreOther map.now faces.now v.0) (length (list_of map.now.lists v.0)) other.old.items other.new.items) }
 {
+    map.facts();
     let degree = usize::from(map.degree(v));
     own.reserve(degree)?;
     other.reserve(degree)?;
@@ -71,12 +71,12 @@ fn put_vertex(
     own: &mut Vec<u32>,
     other: &mut Vec<u32>,
 ) -> Result<(), AllocError>
-    requires known { IsHalfMap map.now }
     requires faces { AreFaces map.now faces.now }
     requires vertex { v.0 < length map.now.lists }
     ensures own { IfOk result (λ _. IsRowPut (AreOwn map.now faces.now v.0) (length (list_of map.now.lists v.0)) own.old.items own.new.items) }
     ensures other { IfOk result (λ _. IsRowPut (AreOther map.now faces.now v.0) (length (list_of map.now.lists v.0)) other.old.items other.new.items) }
 {
+    map.facts();
     match map.first_dart(v) {
         Some(first) => put_round(map, faces, v, first, own, other),
         None => Ok(()),
@@ -92,7 +92,6 @@ fn put_rows(
     other: &mut Vec<u32>,
     other_ends: &mut Vec<usize>,
 ) -> Result<(), AllocError>
-    requires known { IsHalfMap map.now }
     requires faces { AreFaces map.now faces.now }
     requires own_empty { own.old.items ≡ [] }
     requires own_none { own_ends.old.items ≡ [] }
@@ -102,6 +101,7 @@ fn put_rows(
     ensures other { IfOk result (λ _. AreCuts 0 other_ends.new.items (length other.new.items)) }
     ensures numbers { IfOk result (λ _. AreFaceNumbers map.now.lists (cut 0 own_ends.new.items own.new.items) (cut 0 other_ends.new.items other.new.items) (length faces.now)) }
 {
+    map.facts();
     for v in 0..map.n() {
         put_vertex(map, faces, VertexId(v), own, other)?;
         own_ends.push(own.len())?;

@@ -23,6 +23,7 @@ use std::alloc::{AllocError, Global};
 fn copied(spent: Rotations, lists: &Rotations) -> Result<Rotations, AllocError>
     ensures { IfOk result (λ copy. copy ≡ lists.now) }
 {
+    lists.facts();
     let (mut entries, mut ends) = spent.into_parts();
     entries.clear();
     entries.extend_from_slice(lists.entries())?;
@@ -43,7 +44,6 @@ pub fn tables_of(
     requires plane { IsPlane lists.now }
     requires three { IsThreeConnected lists.now }
     requires base { HasDart lists.now tail head }
-    requires few { length lists.now < 4096 }
     requires numbers { AreFaceNumbers lists.now faces.own faces.other faces.count }
     ensures lists { IfOk result (λ made. made.lists ≡ lists.now) }
     ensures faces { IfOk result (λ made. made.faces ≡ faces) }

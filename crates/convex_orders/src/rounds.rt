@@ -23,7 +23,7 @@ use crate::rims::Rims;
 use crate::tables::Tables;
 use crate::way::Way;
 use convex_laws::convex_rows::ConvexRows;
-use map_lists::{ItemLists, Rotations};
+use map_lists::ItemLists;
 use std::alloc::{AllocError, Global};
 
 /// The rows of a run, and the tables of the search for them. What the tables hold from run to run is memory alone.
@@ -57,9 +57,9 @@ impl RowTables {
     pub fn new(alloc: Global) -> RowTables {
         RowTables {
             rows: ConvexRows {
-                rows: Rotations::new(alloc),
-                cuts: Rotations::new(alloc),
-                news: Rotations::new(alloc),
+                rows: ItemLists::new(alloc),
+                cuts: ItemLists::new(alloc),
+                news: ItemLists::new(alloc),
             },
             marks: Vec::new(alloc),
             contour: Contour::new(alloc),

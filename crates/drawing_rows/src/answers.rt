@@ -19,7 +19,6 @@ fn of_map(
     out: &mut String,
 )
     requires some { 0 < length lists.now }
-    requires few { length lists.now < 4096 }
 {
     match kind.0 {
         "picture" => pictures::answer(alloc, kind.1, map, args, out),
@@ -31,7 +30,6 @@ fn of_map(
 // Like [`of_map`], where the lists may have no map.
 fn over_map(alloc: Global, kind: (&str, &str), lists: &Rotations, args: &[&str], out: &mut String)
     requires some { 0 < length lists.now }
-    requires few { length lists.now < 4096 }
 {
     match HalfMap::from_rotations(alloc, lists) {
         Ok(map) => of_map(alloc, kind, lists, &map, args, out),
@@ -42,7 +40,6 @@ fn over_map(alloc: Global, kind: (&str, &str), lists: &Rotations, args: &[&str],
 // The answer to a row on lists.
 fn of_lists(alloc: Global, kind: (&str, &str), lists: &Rotations, args: &[&str], out: &mut String)
     requires some { 0 < length lists.now }
-    requires few { length lists.now < 4096 }
 {
     match kind.0 {
         "draw" | "complete" | "wood" => orders::answer(alloc, kind, lists, args, out),

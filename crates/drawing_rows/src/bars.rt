@@ -20,7 +20,6 @@ use visibility::bars;
 // The map of lists, if it is plane, connected and without a cut vertex.
 fn block_of(alloc: Global, lists: &Rotations) -> Option<HalfMap>
     requires some { 0 < length lists.now }
-    requires few { length lists.now < 4096 }
     ensures { IfSome result (λ map. IsBiconnectedMap 3 map.lists) }
 {
     match biconnected_map(alloc, lists, 3) {
@@ -137,7 +136,6 @@ fn of_block(alloc: Global, call: &str, map: &HalfMap, most: u16, out: &mut Strin
 // The answer to a row on lists.
 fn of_lists(alloc: Global, call: &str, lists: &Rotations, most: u16, out: &mut String)
     requires some { 0 < length lists.now }
-    requires few { length lists.now < 4096 }
 {
     match block_of(alloc, lists) {
         Some(map) => of_block(alloc, call, &map, most, out),
@@ -155,7 +153,6 @@ pub fn answer(
     out: &mut String,
 )
     requires some { 0 < length lists.now }
-    requires few { length lists.now < 4096 }
 {
     if call == "check" {
         check(

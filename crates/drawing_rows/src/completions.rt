@@ -55,7 +55,6 @@ pub fn answer(alloc: Global, call: &str, old: &Rotations, tri: &HalfMap, out: &m
 // The map of lists, where it has genus zero and three vertices.
 fn plane_of(alloc: Global, lists: &Rotations) -> Option<HalfMap>
     requires some { 0 < length lists.now }
-    requires few { length lists.now < 4096 }
     ensures plane { IfSome result (λ map. IsPlane map.lists) }
     ensures some { IfSome result (λ map. 3 ≤ vertex_count map.lists) }
 {
@@ -82,7 +81,6 @@ fn put_completed(alloc: Global, map: HalfMap, out: &mut String)
 /// Writes how many vertices and edges the map of lists has once it is completed by itself.
 pub fn alone(alloc: Global, lists: &Rotations, out: &mut String)
     requires some { 0 < length lists.now }
-    requires few { length lists.now < 4096 }
 {
     match plane_of(alloc, lists) {
         Some(map) => put_completed(alloc, map, out),

@@ -19,7 +19,6 @@ use std::alloc::{AllocError, Global};
 // The map of lists, if it is three-connected and of genus zero.
 fn block_of(alloc: Global, lists: &Rotations) -> Option<HalfMap>
     requires some { 0 < length lists.now }
-    requires few { length lists.now < 4096 }
     ensures plane { IfSome result (λ map. IsPlane map.lists) }
     ensures three { IfSome result (λ map. IsThreeConnected map.lists) }
 {
@@ -248,7 +247,6 @@ fn of_block(alloc: Global, call: &str, map: &HalfMap, v: u16, out: &mut String)
 /// The answer to a row on convex drawings.
 pub fn answer(alloc: Global, call: &str, lists: &Rotations, v: u16, out: &mut String)
     requires some { 0 < length lists.now }
-    requires few { length lists.now < 4096 }
 {
     match block_of(alloc, lists) {
         Some(map) => of_block(alloc, call, &map, v, out),

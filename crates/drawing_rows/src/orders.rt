@@ -25,7 +25,6 @@ use std::alloc::Global;
 // The triangulation of lists, and a canonical order of it for a dart from vertex 0.
 fn order_of(alloc: Global, lists: &Rotations) -> Result<DrawingOrder, Unserved>
     requires some { 0 < length lists.now }
-    requires few { length lists.now < 4096 }
     ensures triangulation { IfOk result (λ found. IsTriangulation found.tri.lists) }
     ensures order { IfOk result (λ found. (base : Dart) × IsCanonicalOrder found.tri.lists base (vertices_of found.order)) }
     ensures based { IfOk result (λ found. (base : Dart) × HasDart found.tri.lists base.0 base.1 × IsCanonicalOrder found.tri.lists base (vertices_of found.order)) }
@@ -156,7 +155,6 @@ fn of_found(
 // Like [`of_found`], where the lists may have no order.
 fn over_order(alloc: Global, kind: (&str, &str), lists: &Rotations, args: &[&str], out: &mut String)
     requires some { 0 < length lists.now }
-    requires few { length lists.now < 4096 }
 {
     match order_of(alloc, lists) {
         Ok(found) => of_found(alloc, kind, lists, &found, args, out),
@@ -167,7 +165,6 @@ fn over_order(alloc: Global, kind: (&str, &str), lists: &Rotations, args: &[&str
 /// The answer to a row on orders and what stands on them.
 pub fn answer(alloc: Global, kind: (&str, &str), lists: &Rotations, args: &[&str], out: &mut String)
     requires some { 0 < length lists.now }
-    requires few { length lists.now < 4096 }
 {
     let most = number(part(args, 1));
     match kind.1 {

@@ -15,7 +15,6 @@ use std::alloc::{AllocError, Global};
 // The map of lists, if it is of the class.
 fn block_of(alloc: Global, lists: &Rotations) -> Option<HalfMap>
     requires some { 0 < length lists.now }
-    requires few { length lists.now < 4096 }
     ensures { IfSome result (λ map. IsRectMap map.lists) }
 {
     match rect_map(alloc, lists) {
@@ -130,7 +129,6 @@ fn draw(alloc: Global, map: &HalfMap, out: &mut String)
 /// The labels of the map of lists, or its rectangles.
 pub fn answer(alloc: Global, call: &str, lists: &Rotations, out: &mut String)
     requires some { 0 < length lists.now }
-    requires few { length lists.now < 4096 }
 {
     match block_of(alloc, lists) {
         Some(map) => {

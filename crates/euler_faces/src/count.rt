@@ -119,7 +119,6 @@ impl Counter {
     /// After `NoMemory` the counter serves as before. The time is linear in the entries.
     pub fn count(&mut self, lists: &Rotations) -> Result<EulerCount, MapFault>
         requires some_list { 0 < length lists.now }
-        requires few_lists { length lists.now < 4096 }
         ensures n { IfOk result (λ count. count.n ≡ vertex_count lists.now) }
         ensures m { IfOk result (λ count. count.m ≡ edge_count lists.now) }
         ensures f { IfOk result (λ count. count.f ≡ face_count lists.now) }
@@ -149,7 +148,6 @@ impl Counter {
 /// the entries, and so is the memory: six bytes for a dart.
 pub fn count_lists(alloc: Global, lists: &Rotations) -> Result<EulerCount, MapFault>
     requires some_list { 0 < length lists.now }
-    requires few_lists { length lists.now < 4096 }
     ensures n { IfOk result (λ count. count.n ≡ vertex_count lists.now) }
     ensures m { IfOk result (λ count. count.m ≡ edge_count lists.now) }
     ensures f { IfOk result (λ count. count.f ≡ face_count lists.now) }

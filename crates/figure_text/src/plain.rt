@@ -6,7 +6,7 @@ ghost use Rattle.figure_text.specs.Lines.{vertex_of, integer_of};
 ghost use Rattle.figure_text.specs.Plain.{IsVertexAt, IsNeighbour, IsCoordinateAt, IsCoordinateWord};
 
 use crate::words::{Digits, plain_at};
-use map_lists::Rotations;
+use map_lists::ItemLists;
 use pg_plane::Ints;
 use std::alloc::AllocError;
 
@@ -42,7 +42,7 @@ fn vertex(number: u32) -> u16
 
 /// Appends the list of the vertices that stand from a place on, and says whether all words there are their numbers,
 /// plainly written. Where they are not, the lists are as they were.
-pub fn push_plain(line: &[u8], start: usize, lists: &mut Rotations) -> Result<bool, AllocError>
+pub fn push_plain(line: &[u8], start: usize, lists: &mut ItemLists<u16>) -> Result<bool, AllocError>
     ensures good { IfOk result (λ good. OnTrue good (All (λ w. IsNeighbour w) (words_left line.now start)
         × (lists.new ≡ lists.old ++ map vertex_of (words_left line.now start) ∷ []))) }
     ensures bad { IfOk result (λ good. good ≡ false → lists.new ≡ lists.old) }

@@ -10,7 +10,7 @@ use crate::plain::push_coordinates;
 use crate::rows::{Draft, integer};
 use crate::words::{Name, Word, known_words, next_word};
 use kuratowski::{Kind as Subdivided, Witness};
-use map_lists::{PathList, Rotations, VertexId, VertexList};
+use map_lists::{ItemLists, PathList, Rotations, VertexId, VertexList};
 use pg_plane::{Ints, RectFigure};
 use std::alloc::{AllocError, Global};
 
@@ -95,6 +95,7 @@ fn exact_columns(alloc: Global, line: &[u8]) -> Columns
 
 /// The rectangular dual of a draft.
 pub fn draft_rects(made: Draft) -> Figure
+    requires { length made.lists < 4096 }
     ensures { result ≡ Figure.Rects made.lists (record { x1 = made.x1; x2 = made.x2; y1 = made.y; y2 = made.y2 }) }
 {
     let Draft {
@@ -106,7 +107,7 @@ pub fn draft_rects(made: Draft) -> Figure
         ..
     } = made;
     Figure::Rects {
-        lists,
+        lists: Rotations::from_lists(lists),
         rects: RectFigure { x1, x2, y1: y, y2 },
     }
 }
@@ -119,7 +120,7 @@ fn ids_of(alloc: Global, list: &[u16]) -> Result<Vec<VertexId>, AllocError>
 }
 
 // The branches, which are the first list.
-fn branch_of(alloc: Global, lists: &Rotations) -> Result<VertexList, AllocError>
+fn branch_of(alloc: Global, lists: &ItemLists<u16>) -> Result<VertexList, AllocError>
     requires { 0 < length lists.now }
     ensures { IfOk result (λ branch. branch ≡ ids (slice_index_or lists.now 0 [])) }
 {
@@ -141,7 +142,7 @@ fn push_path(alloc: Global, list: &[u16], paths: &mut PathList) -> Result<(), Al
 }
 
 // The paths, which are the other lists.
-fn paths_behind(alloc: Global, lists: &Rotations) -> Result<PathList, AllocError>
+fn paths_behind(alloc: Global, lists: &ItemLists<u16>) -> Result<PathList, AllocError>
     ensures { IfOk result (λ paths. paths ≡ map ids (drop 1 lists.now)) }
 {
     let mut paths = PathList::new(alloc);

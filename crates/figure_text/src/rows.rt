@@ -11,7 +11,7 @@ use crate::line_front::{LineFront, read_front};
 use crate::piece::{is_front, pieces};
 use crate::plain::push_plain;
 use crate::words::{Signed, Word, fill_front, fill_known};
-use map_lists::Rotations;
+use map_lists::ItemLists;
 use pg_plane::{Ints, Point, Points};
 use std::alloc::{AllocError, Global};
 
@@ -19,7 +19,7 @@ use std::alloc::{AllocError, Global};
 /// each path.
 #[derive(Drop)]
 pub struct Draft {
-    pub lists: Rotations,
+    pub lists: ItemLists<u16>,
     pub points: Points,
     /// The height of each bar, or the lower side of each rectangle.
     pub y: Ints,
@@ -38,7 +38,7 @@ fn vertex(word: Word) -> u16
 }
 
 // Appends the list of the vertices that words name.
-fn push_vertices(words: &[Word], lists: &mut Rotations) -> Result<(), AllocError>
+fn push_vertices(words: &[Word], lists: &mut ItemLists<u16>) -> Result<(), AllocError>
     requires { All (λ w. IsVertex w) words.now }
     ensures { OnOk result (lists.new ≡ lists.old ++ map vertex_of words.now ∷ []) }
 {

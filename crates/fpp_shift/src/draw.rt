@@ -92,7 +92,6 @@ impl Shifter {
         requires parts { blank.parts ≡ L.parts }
         requires some { 0 < blank.parts }
         requires triangulation { IsTriangulation lists.now }
-        requires few { length lists.now < 4096 }
         requires order { (base : Dart) × IsCanonicalOrder lists.now base (vertices_of order.now) }
         requires rank { IsRankOf order.now.rank (vertices_of order.now) }
         ensures { IfOk result (λ points. (base : Dart) (canonical : IsCanonicalOrder lists.now base (vertices_of order.now))
@@ -118,7 +117,6 @@ impl Shifter {
     /// Draws as [`list_draw`] does. When memory runs out the shifter serves as before.
     pub fn list_draw(&mut self, lists: &Rotations, order: &Order) -> Result<GridFigure, AllocError>
         requires triangulation { IsTriangulation lists.now }
-        requires few { length lists.now < 4096 }
         requires order { (base : Dart) × IsCanonicalOrder lists.now base (vertices_of order.now) }
         requires rank { IsRankOf order.now.rank (vertices_of order.now) }
         ensures points { IfOk result (λ figure. (base : Dart) (canonical : IsCanonicalOrder lists.now base (vertices_of order.now))
@@ -142,7 +140,6 @@ impl Shifter {
 /// Draws a triangulation as `shift_draw` does, by its lists, which are at most 4095.
 pub fn list_draw(alloc: Global, lists: &Rotations, order: &Order) -> Result<GridFigure, AllocError>
     requires triangulation { IsTriangulation lists.now }
-    requires few { length lists.now < 4096 }
     requires order { (base : Dart) × IsCanonicalOrder lists.now base (vertices_of order.now) }
     requires rank { IsRankOf order.now.rank (vertices_of order.now) }
     ensures points { IfOk result (λ figure. (base : Dart) (canonical : IsCanonicalOrder lists.now base (vertices_of order.now))

@@ -37,7 +37,6 @@ impl Drawer {
     /// before.
     pub fn shift_figure(&mut self, lists: &Rotations) -> Result<GridFigure, Unserved>
         requires some_list { 0 < length lists.now }
-        requires few_lists { length lists.now < 4096 }
         ensures figure { IfOk result (IsShiftFigure lists.now) }
         ensures served { OnOk result (first_refusal 3 lists.now ≡ None) }
         ensures refused { IfErr result (IfRefused (λ refusal. first_refusal 3 lists.now ≡ Some refusal)) }
@@ -54,7 +53,6 @@ impl Drawer {
     /// serves as before.
     pub fn schnyder_figure(&mut self, lists: &Rotations) -> Result<GridFigure, Unserved>
         requires some_list { 0 < length lists.now }
-        requires few_lists { length lists.now < 4096 }
         ensures figure { IfOk result (IsSchnyderFigure lists.now) }
         ensures served { OnOk result (first_refusal 3 lists.now ≡ None) }
         ensures refused { IfErr result (IfRefused (λ refusal. first_refusal 3 lists.now ≡ Some refusal)) }

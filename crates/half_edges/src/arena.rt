@@ -137,11 +137,11 @@ pub(crate) fn link_darts(
     darts: &mut Vec<DartRecord>,
     vertices: &mut Vec<VertexRecord>,
 ) -> Result<(), AllocError>
-    requires few_lists { length lists.now < 4096 }
     requires slots { AreSlots lists.now (map (λ r. r.tail) darts.old.items) (map (λ r. r.twin) darts.old.items) }
     requires line { AreInLine IsInLine darts.old.items (length darts.old.items) }
     ensures { OnOk result (AreLinked lists.now darts.new.items vertices.new.items) }
 {
+    lists.facts();
     close_rounds(lists.ends(), darts, vertices)?;
     Ok(())
 }

@@ -68,7 +68,6 @@ impl MapMaker {
     /// serves as before.
     pub fn from_rotations(&mut self, lists: &Rotations) -> Result<HalfMap, MapFault>
         requires some_list { 0 < length lists.now }
-        requires few_lists { length lists.now < 4096 }
         ensures lists { IfOk result (λ map. map.lists ≡ lists.now) }
         ensures spare { IfOk result (λ map. map.spare ≡ 0) }
         ensures simple { IfOk result (λ map. first_fault lists.now ≡ None) }
@@ -110,7 +109,6 @@ impl HalfMap {
     /// more while it is made.
     pub fn from_rotations(alloc: Global, lists: &Rotations) -> Result<HalfMap, MapFault>
         requires some_list { 0 < length lists.now }
-        requires few_lists { length lists.now < 4096 }
         ensures lists { IfOk result (λ map. map.lists ≡ lists.now) }
         ensures spare { IfOk result (λ map. map.spare ≡ 0) }
         ensures simple { IfOk result (λ map. first_fault lists.now ≡ None) }

@@ -5,6 +5,7 @@ ghost use Rattle.half_edges.specs.Map.{IsHalfMap};
 ghost use Rattle.half_edges.specs.Induced.{induced_list, induced_lists, kept_before};
 
 use crate::{HalfMap, MapFault, Rotations};
+use map_lists::ItemLists;
 use std::alloc::{AllocError, Global};
 
 impl HalfMap {
@@ -12,7 +13,6 @@ impl HalfMap {
     /// out of memory.
     pub fn from_simple(alloc: Global, lists: &Rotations) -> Result<HalfMap, AllocError>
         requires simple { IsSimpleMap lists.now }
-        requires few { length lists.now < 4096 }
         ensures lists { IfOk result (λ map. map.lists ≡ lists.now) }
         ensures spare { IfOk result (λ map. map.spare ≡ 0) }
         ensures known { IfOk result IsHalfMap }
@@ -100,16 +100,16 @@ fn induced_rotations(
     keep: &[bool],
 ) -> Result<Rotations, AllocError>
     requires simple { IsSimpleMap lists.now }
-    requires few { length lists.now < 4096 }
     requires flags { length keep.now ≡ length lists.now }
     ensures { IfOk result (λ part. part ≡ induced_lists keep.now lists.now) }
 {
+    let count = lists.len();
     let numbers = numbers_of(alloc, keep)?;
-    let mut part = Rotations::new(alloc);
-    for v in 0..lists.len() {
+    let mut part = ItemLists::new(alloc);
+    for v in 0..count {
         if keep[v] {
             part.push(&kept_entries(alloc, &numbers, keep, lists.list(v))?)?;
         }
     }
-    Ok(part)
+    Ok(Rotations::from_lists(part))
 }

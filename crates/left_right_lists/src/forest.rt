@@ -30,7 +30,6 @@ fn fill_depths(
     parents: &[u16],
     depths: &mut [u16],
 )
-    requires few { length lists.now < 4096 }
     requires forest { IsForestOf lists.now order.now number.now last.now parents.now }
     requires long { length depths.old ≡ length lists.now }
     requires flat { (v : ℕ) → slice_index depths.old v ≡ 0 }
@@ -49,7 +48,6 @@ pub(crate) fn depths_of(
     lists: &Rotations,
     forest: &Forest,
 ) -> Result<Vec<u16>, AllocError>
-    requires few { length lists.now < 4096 }
     requires forest { IsForestOf lists.now forest.now.order.items forest.now.number.items forest.now.last.items forest.now.parent.items }
     ensures { IfOk result (λ depths. AreDepths forest.now.order.items forest.now.parent.items depths.items (length lists.now)) }
 {

@@ -170,6 +170,7 @@ impl Places {
 
     /// The lists that were made, of `n` vertices, in the memory of `spent`. It fails only when out of memory.
     pub fn lists(&self, spent: Rotations, n: u16) -> Result<Rotations, AllocError>
+        requires { n < 4096 }
         ensures { IfOk result (λ lists. length lists ≡ n) }
     {
         let mut lists = spent;

@@ -1,5 +1,5 @@
 //! The test.
-ghost use Rattle.std.specs.Prelude.{◌≡◌, length, IfOk, IsTrue};
+ghost use Rattle.std.specs.Prelude.{◌≡◌, ◌<◌, length, IfOk, IsTrue};
 ghost use Rattle.left_right_check.specs.Ties.{HasNoMap};
 
 use crate::conflicts::agrees;
@@ -87,6 +87,7 @@ impl LeftRightTest {
 
     /// The rotation lists of edges that pass, on `n` vertices, in the memory of `spent`. It fails only when out of memory.
     pub fn lists(&mut self, spent: Rotations, n: u16) -> Result<Rotations, AllocError>
+        requires { n < 4096 }
         ensures { IfOk result (λ lists. length lists ≡ n) }
     {
         settle_all(&self.links, &mut self.search);

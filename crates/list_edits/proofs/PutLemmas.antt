@@ -38,7 +38,7 @@ row_is lists u a v c w l =
               ∙ sym (cond-false (eqb w u) (insert (list_of lists w) (place_of a (list_of lists w) + 1) v) (list_of lists w) (ne_eqb w u ne))
         ]
 
-length-with_edge : (lists : Lists) (u a v c : ℕ) → length (with_edge_after lists u a v c) ≡ length lists
+pub length-with_edge : (lists : Lists) (u a v c : ℕ) → length (with_edge_after lists u a v c) ≡ length lists
 length-with_edge lists u a v c =
     let us = list_of lists u in
     let vs = list_of lists v in

@@ -5,7 +5,7 @@ ghost use Rattle.map_theory.specs.Maps.{place_of as place_of_entry};
 ghost use Rattle.list_edits.specs.Rows.{row_with_edge};
 ghost use Rattle.plane_laws.specs.WithEdge.{with_edge_after as lists_with_edge};
 
-use map_lists::Rotations;
+use map_lists::{ItemLists, Rotations};
 use std::alloc::{AllocError, Global};
 
 // An edge more, between `u` and `v`: at `u` it stands directly after `a`, and at `v` directly after `c`.
@@ -22,7 +22,7 @@ impl NewEdge {
     fn push_row(
         &self,
         alloc: Global,
-        new: &mut Rotations,
+        new: &mut ItemLists<u16>,
         us: &[u16],
         w: usize,
     ) -> Result<(), AllocError>
@@ -50,18 +50,18 @@ pub fn with_edge_after(
 ) -> Result<Rotations, AllocError>
     ensures { IfOk result (λ new. new ≡ lists_with_edge lists.now u a v c) }
 {
-    let mut new = Rotations::with_capacity(alloc, lists.total(), lists.len())?;
+    let mut new = ItemLists::with_capacity(alloc, lists.total(), lists.len())?;
     let edge = NewEdge { u, a, v, c };
     for w in 0..lists.len() {
         edge.push_row(alloc, &mut new, lists.list(w), w)?;
     }
-    Ok(new)
+    Ok(Rotations::from_lists(new))
 }
 
 // Appends a list with an entry directly after its first `a`, or at its end where it has none.
 fn push_with(
     alloc: Global,
-    new: &mut Rotations,
+    new: &mut ItemLists<u16>,
     us: &[u16],
     a: u16,
     x: u16,

@@ -7,6 +7,7 @@ ghost use Rattle.map_gen.specs.Stacked.{Face, next_number as next_number_of, cho
 ghost use Rattle.map_gen.specs.Darts.{HasDarts, IsVertexPut};
 
 use half_edges::{Corner, DartId, HalfMap, Rotations, VertexId};
+use map_lists::ItemLists;
 use std::alloc::{AllocError, Global};
 
 /// A face by its three darts, in the order of its walk.
@@ -35,17 +36,18 @@ fn chosen(number: u32, faces: usize) -> usize
 
 // The triangle of the first three vertices, and all others isolated.
 fn triangle(alloc: Global, n: u16) -> Result<Rotations, AllocError>
-    requires { 3 ≤ n }
+    requires some { 3 ≤ n }
+    requires few { n < 4096 }
     ensures { IfOk result (λ lists. (number : ℕ) → lists ≡ (triangle_of n number).lists) }
 {
-    let mut lists = Rotations::new(alloc);
+    let mut lists = ItemLists::new(alloc);
     lists.push(&[1, 2])?;
     lists.push(&[2, 0])?;
     lists.push(&[0, 1])?;
     for _ in 3..n {
         lists.open()?;
     }
-    Ok(lists)
+    Ok(Rotations::from_lists(lists))
 }
 
 // Joins the isolated vertex k to the vertices of a face, and answers the three faces into which that is

@@ -9,9 +9,6 @@ use std::marker::Model;
 /// A list of paths, each a list of vertices.
 pub type PathList = ItemLists<VertexId>;
 
-/// Rotation lists: numbers from 0.
-pub type Rotations = ItemLists<u16>;
-
 /// A list of lists of items, of any lengths. Contracts see it as just that.
 ///
 /// All items stand in one vector, list after list. So lists come one by one without a vector of their

@@ -5,7 +5,9 @@
 mod ids;
 mod item_lists;
 mod items;
+mod rotations;
 
 pub use ids::{DartId, FaceId, VertexId};
-pub use item_lists::{ItemLists, PathList, Rotations};
+pub use item_lists::{ItemLists, PathList};
 pub use items::{Counts, EdgeList, Ends, ItemList, VertexList};
+pub use rotations::Rotations;

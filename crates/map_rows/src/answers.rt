@@ -19,7 +19,6 @@ fn of_map(
     out: &mut String,
 )
     requires some { 0 < length lists.now }
-    requires few { length lists.now < 4096 }
 {
     let call = kind.1;
     match kind.0 {
@@ -33,7 +32,6 @@ fn of_map(
 // Like [`of_map`], where the lists may have no map.
 fn over_map(alloc: Global, kind: (&str, &str), lists: &Rotations, args: &[&str], out: &mut String)
     requires some { 0 < length lists.now }
-    requires few { length lists.now < 4096 }
 {
     match HalfMap::from_rotations(alloc, lists) {
         Ok(mut map) => of_map(alloc, kind, lists, &mut map, args, out),

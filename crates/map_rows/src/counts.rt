@@ -87,7 +87,6 @@ fn count_all(alloc: Global, args: &[&str], out: &mut String) {
 // The counts of lists, and of their map.
 fn both(alloc: Global, lists: &Rotations, map: &HalfMap, out: &mut String)
     requires some { 0 < length lists.now }
-    requires few { length lists.now < 4096 }
 {
     put_counted(count_lists(alloc, lists), out);
     put(", of the map ", out);
@@ -128,7 +127,6 @@ pub fn answer(
     out: &mut String,
 )
     requires some { 0 < length lists.now }
-    requires few { length lists.now < 4096 }
 {
     match call {
         "faces" => put_faces(map, faces(alloc, map), out),

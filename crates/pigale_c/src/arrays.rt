@@ -41,7 +41,6 @@ pub(crate) fn lists_of(
     ensures given { IfOk result (λ lists. IsGivenMap ends.now neighbours.now) }
     ensures count { IfOk result (λ lists. length lists ≡ length ends.now) }
     ensures some_list { IfOk result (λ lists. 0 < length lists) }
-    ensures few_lists { IfOk result (λ lists. length lists < 4096) }
     ensures failed { IfErr result (IsBadOnly (IsGivenMap ends.now neighbours.now)) }
 {
     if !is_given_map(ends, neighbours) {

@@ -33,7 +33,6 @@ fn lists_with_room(
     ensures given { IfOk result (λ lists. IsGivenGrid ends.now neighbours.now x.now y.now) }
     ensures count { IfOk result (λ lists. length lists ≡ length ends.now) }
     ensures some_list { IfOk result (λ lists. 0 < length lists) }
-    ensures few_lists { IfOk result (λ lists. length lists < 4096) }
     ensures failed { IfErr result (IsBadOnly (IsGivenGrid ends.now neighbours.now x.now y.now)) }
 {
     if x.len() != ends.len() || y.len() != ends.len() {

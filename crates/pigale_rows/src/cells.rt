@@ -1,5 +1,5 @@
 //! Grids of cells within a quadrangle.
-use map_lists::Rotations;
+use map_lists::ItemLists;
 use std::alloc::Global;
 
 /// The number of the cell in column i and row j, behind the four vertices outside.
@@ -34,7 +34,7 @@ fn around(columns: u16, rows: u16, i: u16, j: u16) -> [u16; 6] {
 }
 
 /// Appends a list of those of six numbers that stand for something.
-fn push_some(alloc: Global, lists: &mut Rotations, numbers: [u16; 6]) {
+fn push_some(alloc: Global, lists: &mut ItemLists<u16>, numbers: [u16; 6]) {
     let mut list = Vec::new(alloc);
     for number in numbers {
         if number != NONE {
@@ -47,7 +47,7 @@ fn push_some(alloc: Global, lists: &mut Rotations, numbers: [u16; 6]) {
 /// Appends a list of so many numbers, each one step behind the one before it, between two others.
 fn push_side(
     alloc: Global,
-    lists: &mut Rotations,
+    lists: &mut ItemLists<u16>,
     ends: [u16; 2],
     first: u16,
     step: u16,
@@ -65,7 +65,7 @@ fn push_side(
 }
 
 /// Appends the lists of the vertices outside: that of each is one side between its neighbours.
-fn push_sides(alloc: Global, lists: &mut Rotations, columns: u16, rows: u16) {
+fn push_sides(alloc: Global, lists: &mut ItemLists<u16>, columns: u16, rows: u16) {
     let (last, top) = (columns.wrapping_sub(1), rows.wrapping_sub(1));
     let (down, left) = (columns.wrapping_neg(), 1u16.wrapping_neg());
     push_side(alloc, lists, [1, 3], cell(columns, 0, top), down, rows);
@@ -83,7 +83,7 @@ fn push_sides(alloc: Global, lists: &mut Rotations, columns: u16, rows: u16) {
 
 /// Appends the lists of a grid of cells with diagonals, within a quadrangle of which each vertex is joined to one side:
 /// the left one, the upper, the right and the lower.
-pub fn push_grid(alloc: Global, lists: &mut Rotations, columns: u16, rows: u16) {
+pub fn push_grid(alloc: Global, lists: &mut ItemLists<u16>, columns: u16, rows: u16) {
     push_sides(alloc, lists, columns, rows);
     for j in 0..rows {
         for i in 0..columns {

@@ -1,7 +1,7 @@
 //! Maps of some families, of any size.
 use crate::cells::push_grid;
 use map_gen::stacked;
-use map_lists::Rotations;
+use map_lists::{ItemLists, Rotations};
 use std::alloc::Global;
 
 /// The number after i, round the first k.
@@ -25,7 +25,7 @@ fn first(alloc: Global, k: u16) -> Vec<u16> {
 }
 
 /// Appends the lists of a rim of k vertices, outside, and a hub.
-fn push_wheel(alloc: Global, lists: &mut Rotations, k: u16) {
+fn push_wheel(alloc: Global, lists: &mut ItemLists<u16>, k: u16) {
     for i in 0..k {
         let _ = lists.push(&[after(i, k), k, before(i, k)]);
     }
@@ -33,7 +33,7 @@ fn push_wheel(alloc: Global, lists: &mut Rotations, k: u16) {
 }
 
 /// Appends the lists of a ring of k vertices, outside, and one inside, joined one by one.
-fn push_prism(lists: &mut Rotations, k: u16) {
+fn push_prism(lists: &mut ItemLists<u16>, k: u16) {
     for i in 0..k {
         let _ = lists.push(&[after(i, k), k.wrapping_add(i), before(i, k)]);
     }
@@ -43,20 +43,27 @@ fn push_prism(lists: &mut Rotations, k: u16) {
     }
 }
 
-/// Puts the map of n vertices that the generator makes from a number in place of lists; it makes none of fewer than
+/// Appends the lists of a map.
+fn push_all(made: &Rotations, lists: &mut ItemLists<u16>) {
+    for v in 0..made.len() {
+        let _ = lists.push(made.list(v));
+    }
+}
+
+/// Appends the lists of the map of n vertices that the generator makes from a number; it makes none of fewer than
 /// three, nor of more than 4095.
-fn put_stacked(alloc: Global, lists: &mut Rotations, n: u16, number: u16) {
+fn put_stacked(alloc: Global, lists: &mut ItemLists<u16>, n: u16, number: u16) {
     if 3 <= n && n <= 4095 {
         match stacked(alloc, n, u32::from(number)) {
-            Ok(made) => *lists = made,
+            Ok(made) => push_all(&made, lists),
             Err(_) => {}
         }
     }
 }
 
-/// The map of a family and its size; no lists where there is none.
+/// The map of a family and its size; no lists where there is none, or where it has more than 4095 vertices.
 pub fn map_of(alloc: Global, family: &str, size: u16, number: u16) -> Rotations {
-    let mut lists = Rotations::new(alloc);
+    let mut lists = ItemLists::new(alloc);
     match family {
         "wheel" => push_wheel(alloc, &mut lists, size),
         "prism" => push_prism(&mut lists, size),
@@ -64,5 +71,9 @@ pub fn map_of(alloc: Global, family: &str, size: u16, number: u16) -> Rotations 
         "stacked" => put_stacked(alloc, &mut lists, size, number),
         _ => {}
     }
-    lists
+    if lists.len() < 4096 {
+        Rotations::from_lists(lists)
+    } else {
+        Rotations::new(alloc)
+    }
 }

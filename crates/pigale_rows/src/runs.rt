@@ -125,7 +125,7 @@ pub fn tell_run(alloc: Global, ran: &Ran, told: &mut Vec<u8>) {
 /// Appends the answer of `count` to the lists of one record, behind a line that stood there before.
 fn answer_lists(alloc: Global, lists: &Rotations, told: &mut Vec<u8>) {
     put(b"before\n", told);
-    if 0 < lists.len() && lists.len() < 4096 {
+    if 0 < lists.len() {
         match answer_record(alloc, Job::Count, 1, lists, told) {
             Ok(true) => put(b"served\n", told),
             _ => {}

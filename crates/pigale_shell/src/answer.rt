@@ -31,7 +31,6 @@ pub fn answer_record(
     requires from_one { 0 < number }
     requires few_records { number ≤ 16777216 }
     requires some_list { 0 < length lists.now }
-    requires few_lists { length lists.now < 4096 }
     ensures block { OnOk result (Appends (IsBlock (kind_of job) number lists.now) out.old.items out.new.items) }
     ensures served { IfOk result (ServesRecord (kind_of job) lists.now) }
     ensures err { OnErr result (out.new.items ≡ out.old.items) }
@@ -52,7 +51,6 @@ pub(crate) fn answer_with<M: Method>(
     out: &mut Vec<u8>,
 ) -> Result<bool, AllocError>
     requires some_list { 0 < length lists.now }
-    requires few_lists { length lists.now < 4096 }
     ensures block { OnOk result (Appends (IsMapBlock M.says form number lists.now) out.old.items out.new.items) }
     ensures served { IfOk result (λ served. IsTrue served ↔ M.says.Serves lists.now) }
     ensures err { OnErr result (out.new.items ≡ out.old.items) }
@@ -75,7 +73,6 @@ fn serve<M: Method>(
     out: &mut Vec<u8>,
 ) -> Result<(), Unserved>
     requires some_list { 0 < length lists.now }
-    requires few_lists { length lists.now < 4096 }
     ensures served { OnOk result (M.says.Serves lists.now) }
     ensures text { OnOk result (Appends (M.says.IsText form number lists.now) out.old.items out.new.items) }
     ensures refused { IfErr result (IfRefused (M.says.Breaks lists.now)) }

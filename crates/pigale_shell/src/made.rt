@@ -73,7 +73,6 @@ fn sums_line(alloc: Global, number: u32, x: i64, y: i64) -> Result<Vec<u8>, Allo
 // The counts of a simple map.
 fn count(alloc: Global, lists: &Rotations) -> Result<EulerCount, AllocError>
     requires some_list { 0 < length lists.now }
-    requires few_lists { length lists.now < 4096 }
     requires simple { first_fault lists.now ≡ None }
     ensures n { IfOk result (λ count. count.n ≡ vertex_count lists.now) }
     ensures m { IfOk result (λ count. count.m ≡ edge_count lists.now) }
@@ -90,7 +89,6 @@ fn count(alloc: Global, lists: &Rotations) -> Result<EulerCount, AllocError>
 // The figure of lists that break no condition.
 fn figure(alloc: Global, lists: &Rotations) -> Result<GridFigure, AllocError>
     requires some_list { 0 < length lists.now }
-    requires few_lists { length lists.now < 4096 }
     requires served { first_refusal 3 lists.now ≡ None }
     ensures { IfOk result (IsShiftFigure lists.now) }
 {
@@ -104,7 +102,6 @@ fn figure(alloc: Global, lists: &Rotations) -> Result<GridFigure, AllocError>
 // The block of lists that break no condition: their count line, and the sums over their figure.
 fn block(alloc: Global, number: u32, lists: &Rotations) -> Result<Vec<u8>, AllocError>
     requires some_list { 0 < length lists.now }
-    requires few_lists { length lists.now < 4096 }
     requires served { first_refusal 3 lists.now ≡ None }
     ensures { IfOk result (λ block. IsMadeBlock number lists.now block.items) }
 {

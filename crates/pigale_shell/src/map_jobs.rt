@@ -101,7 +101,6 @@ fn answer_by<M: Method>(
     out: &mut Vec<u8>,
 ) -> Result<bool, AllocError>
     requires some_list { 0 < length lists.now }
-    requires few_lists { length lists.now < 4096 }
     ensures block { OnOk result (Appends (IsMapBlock M.says form number lists.now) out.old.items out.new.items) }
     ensures served { IfOk result (λ served. IsTrue served ↔ M.says.Serves lists.now) }
     ensures err { OnErr result (out.new.items ≡ out.old.items) }
@@ -120,7 +119,6 @@ pub(crate) fn answer_map(
     out: &mut Vec<u8>,
 ) -> Result<bool, AllocError>
     requires some_list { 0 < length lists.now }
-    requires few_lists { length lists.now < 4096 }
     ensures block { OnOk result (Appends (IsMapBlock (says_of job) form number lists.now) out.old.items out.new.items) }
     ensures served { IfOk result (λ served. IsTrue served ↔ (says_of job).Serves lists.now) }
     ensures err { OnErr result (out.new.items ≡ out.old.items) }

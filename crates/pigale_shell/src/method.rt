@@ -26,7 +26,6 @@ pub trait Method: Drop {
     /// Answers lists, or names the first condition that they break.
     fn figure(&mut self, alloc: Global, lists: &Rotations) -> Result<Self::Figure, Unserved>
         requires some_list { 0 < length lists.now }
-        requires few_lists { length lists.now < 4096 }
         ensures figure { IfOk result (IsFigure lists.now) }
         ensures served { OnOk result (says.Serves lists.now) }
         ensures refused { IfErr result (IfRefused (says.Breaks lists.now)) };

@@ -167,7 +167,8 @@ pub fn lend_whole(
     lent: &mut Rotations,
     count: usize,
 ) -> bool
-    requires { length gathered.old.lists ≡ count → gathered.old.last ≡ [] }
+    requires whole { length gathered.old.lists ≡ count → gathered.old.last ≡ [] }
+    requires few { count < 4096 }
     ensures whole { OnTrue result ((length gathered.old.lists ≡ count) × (lent.new ≡ gathered.old.lists)
         × (gathered.new.lists ≡ []) × (gathered.new.last ≡ [])) }
     ensures not { OnFalse result ((length gathered.old.lists ≢ count) × (gathered.new ≡ gathered.old) × (lent.new ≡ lent.old)) }

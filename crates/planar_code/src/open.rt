@@ -83,7 +83,8 @@ impl OpenLists {
 
     /// Gives the lists away in place of those that were lent before, whose memory is kept.
     pub fn exchange(&mut self, alloc: Global, lent: &mut Rotations)
-        requires { self.old.last ≡ [] }
+        requires whole { self.old.last ≡ [] }
+        requires few { length self.old.lists < 4096 }
         ensures lent { lent.new ≡ self.old.lists }
         ensures lists { self.new.lists ≡ [] }
         ensures last { self.new.last ≡ [] }

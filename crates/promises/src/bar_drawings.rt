@@ -29,7 +29,6 @@ pub fn bars(alloc: Global, map: &HalfMap, st: DartId) -> Result<BarFigure, Alloc
 /// Draws the map of `lists`, or names the first condition that it breaks.
 pub fn bar_figure(alloc: Global, lists: &Rotations) -> Result<BarFigure, Unserved>
     requires some_list { 0 < length lists.now }
-    requires few_lists { length lists.now < 4096 }
     ensures figure { IfOk result (IsBarFigure lists.now) }
     ensures served { OnOk result (IsBiconnectedMap 3 lists.now) }
     ensures refused { IfErr result (IfRefused (BreaksFirst 3 lists.now)) }
@@ -40,7 +39,6 @@ pub fn bar_figure(alloc: Global, lists: &Rotations) -> Result<BarFigure, Unserve
 /// Draws the map of `lists` by a `drawer` that may have drawn others, or names the first condition that it breaks.
 pub fn next_bar_figure(drawer: &mut BarDrawer, lists: &Rotations) -> Result<BarFigure, Unserved>
     requires some_list { 0 < length lists.now }
-    requires few_lists { length lists.now < 4096 }
     ensures figure { IfOk result (IsBarFigure lists.now) }
     ensures served { OnOk result (IsBiconnectedMap 3 lists.now) }
     ensures refused { IfErr result (IfRefused (BreaksFirst 3 lists.now)) }

@@ -21,7 +21,6 @@ use std::alloc::{AllocError, Global};
 /// Makes the three-connected map of genus zero with these `lists`, or names the first condition that they break.
 pub fn convex_map(alloc: Global, lists: &Rotations) -> Result<HalfMap, Unserved>
     requires some_list { 0 < length lists.now }
-    requires few_lists { length lists.now < 4096 }
     ensures lists { IfOk result (λ map. map.lists ≡ lists.now) }
     ensures plane { IfOk result (λ map. IsPlane lists.now) }
     ensures served { IfOk result (λ map. IsThreeConnected lists.now) }
@@ -94,7 +93,6 @@ pub fn face_region(
 /// Draws the map of `lists` by face counts, or names the first condition that it breaks.
 pub fn convex_figure(alloc: Global, lists: &Rotations) -> Result<GridFigure, Unserved>
     requires some_list { 0 < length lists.now }
-    requires few_lists { length lists.now < 4096 }
     ensures figure { IfOk result (IsConvexFigure lists.now) }
     ensures plane { OnOk result (IsPlane lists.now) }
     ensures served { OnOk result (IsThreeConnected lists.now) }
@@ -109,7 +107,6 @@ pub fn next_convex_figure(
     lists: &Rotations,
 ) -> Result<GridFigure, Unserved>
     requires some_list { 0 < length lists.now }
-    requires few_lists { length lists.now < 4096 }
     ensures figure { IfOk result (IsConvexFigure lists.now) }
     ensures plane { OnOk result (IsPlane lists.now) }
     ensures served { OnOk result (IsThreeConnected lists.now) }

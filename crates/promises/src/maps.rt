@@ -15,7 +15,6 @@ use std::alloc::{AllocError, Global};
 /// Makes the map with these `lists`, or names their first fault.
 pub fn from_rotations(alloc: Global, lists: &Rotations) -> Result<HalfMap, MapFault>
     requires some_list { 0 < length lists.now }
-    requires few_lists { length lists.now < 4096 }
     ensures lists { IfOk result (λ map. map.lists ≡ lists.now) }
     ensures spare { IfOk result (λ new. new.spare ≡ 0) }
     ensures simple { IfOk result (λ map. first_fault lists.now ≡ None) }
@@ -208,7 +207,6 @@ pub fn remove_edge(map: &mut HalfMap, d: DartId) -> Ends
 /// Makes the map of `lists` in the memory of `maker`, or names their first fault.
 pub fn made_from_rotations(maker: &mut MapMaker, lists: &Rotations) -> Result<HalfMap, MapFault>
     requires some_list { 0 < length lists.now }
-    requires few_lists { length lists.now < 4096 }
     ensures lists { IfOk result (λ map. map.lists ≡ lists.now) }
     ensures spare { IfOk result (λ map. map.spare ≡ 0) }
     ensures simple { IfOk result (λ map. first_fault lists.now ≡ None) }

@@ -71,7 +71,6 @@ pub fn dual_numbers(
 
 /// Returns a rectangular order of the map that `more` is with one edge more.
 pub fn rect_order(alloc: Global, more: &Rotations, frame: Frame) -> Result<Order, AllocError>
-    requires few { length more.now < 4096 }
     requires class { (map : Lists) × IsClosedOf more.now map frame.left.0 frame.top.0 frame.right.0 frame.bottom.0 frame.inner.0 }
     ensures order { IfOk result (λ order. (map : Lists) → IsClosedOf more.now map frame.left.0 frame.top.0 frame.right.0 frame.bottom.0 frame.inner.0
         → IsRectOrder map frame.left.0 frame.top.0 frame.right.0 frame.bottom.0 (vertices_of order)) }
@@ -92,7 +91,6 @@ pub fn stacked(alloc: Global, n: u16, number: u32) -> Result<Rotations, AllocErr
 /// Returns a canonical order of the triangulation with these `lists`, for the base from `t` to `s`.
 pub fn base_order(alloc: Global, lists: &Rotations, t: u16, s: u16) -> Result<Order, AllocError>
     requires triangulation { IsTriangulation lists.now }
-    requires few { length lists.now < 4096 }
     requires base { HasDart lists.now t s }
     ensures order { IfOk result (λ order. IsCanonicalOrder lists.now (t, s) (vertices_of order)) }
     ensures rank { IfOk result (λ order. IsRankOf order.rank (vertices_of order)) }
@@ -125,7 +123,6 @@ pub fn peeled_base_order(
     s: u16,
 ) -> Result<Order, AllocError>
     requires triangulation { IsTriangulation lists.now }
-    requires few { length lists.now < 4096 }
     requires base { HasDart lists.now t s }
     ensures order { IfOk result (λ order. IsCanonicalOrder lists.now (t, s) (vertices_of order)) }
     ensures rank { IfOk result (λ order. IsRankOf order.rank (vertices_of order)) }

@@ -19,7 +19,6 @@ use std::alloc::Global;
 /// Counts vertices, edges, faces and components of `lists`, or names their first fault.
 pub fn count_lists(alloc: Global, lists: &Rotations) -> Result<EulerCount, MapFault>
     requires some_list { 0 < length lists.now }
-    requires few_lists { length lists.now < 4096 }
     ensures n { IfOk result (λ count. count.n ≡ vertex_count lists.now) }
     ensures m { IfOk result (λ count. count.m ≡ edge_count lists.now) }
     ensures f { IfOk result (λ count. count.f ≡ face_count lists.now) }
@@ -33,7 +32,6 @@ pub fn count_lists(alloc: Global, lists: &Rotations) -> Result<EulerCount, MapFa
 /// Makes the map of `lists` with its counts, or names their first fault.
 pub fn counted_map(alloc: Global, lists: &Rotations) -> Result<CountedMap, MapFault>
     requires some_list { 0 < length lists.now }
-    requires few_lists { length lists.now < 4096 }
     ensures counted { IfOk result (IsCountedMap lists.now) }
     ensures simple { OnOk result (first_fault lists.now ≡ None) }
     ensures fault { IfErr result (Names (first_fault lists.now)) }
@@ -44,7 +42,6 @@ pub fn counted_map(alloc: Global, lists: &Rotations) -> Result<CountedMap, MapFa
 /// Makes the map of genus zero of `lists` with `least` vertices or more, or names the first condition that they break.
 pub fn plane_map(alloc: Global, lists: &Rotations, least: u16) -> Result<CountedMap, Unserved>
     requires some_list { 0 < length lists.now }
-    requires few_lists { length lists.now < 4096 }
     ensures plane { IfOk result (IsPlaneMap least lists.now) }
     ensures served { OnOk result (first_refusal least lists.now ≡ None) }
     ensures refused { IfErr result (IfRefused (λ refusal. first_refusal least lists.now ≡ Some refusal)) }
@@ -55,7 +52,6 @@ pub fn plane_map(alloc: Global, lists: &Rotations, least: u16) -> Result<Counted
 /// Makes the biconnected map of genus zero of `lists`, or names the first condition that they break.
 pub fn biconnected_map(alloc: Global, lists: &Rotations, least: u16) -> Result<HalfMap, Unserved>
     requires some_list { 0 < length lists.now }
-    requires few_lists { length lists.now < 4096 }
     ensures lists { IfOk result (λ map. map.lists ≡ lists.now) }
     ensures served { IfOk result (λ map. IsBiconnectedMap least lists.now) }
     ensures refused { IfErr result (IfRefused (BreaksFirst least lists.now)) }
@@ -66,7 +62,6 @@ pub fn biconnected_map(alloc: Global, lists: &Rotations, least: u16) -> Result<H
 /// Returns a completion of the map of `lists` with a canonical order, or names the first condition that they break.
 pub fn drawing_order(alloc: Global, lists: &Rotations) -> Result<DrawingOrder, Unserved>
     requires some_list { 0 < length lists.now }
-    requires few_lists { length lists.now < 4096 }
     ensures order { IfOk result (IsDrawingOrder lists.now) }
     ensures served { OnOk result (first_refusal 3 lists.now ≡ None) }
     ensures refused { IfErr result (IfRefused (λ refusal. first_refusal 3 lists.now ≡ Some refusal)) }
@@ -81,7 +76,6 @@ pub fn plane_count(
     least: u16,
 ) -> Result<EulerCount, Unserved>
     requires some_list { 0 < length lists.now }
-    requires few_lists { length lists.now < 4096 }
     ensures simple { OnOk result (IsSimpleMap lists.now) }
     ensures some { OnOk result (least ≤ vertex_count lists.now) }
     ensures plane { OnOk result (IsPlane lists.now) }
@@ -95,7 +89,6 @@ pub fn plane_count(
 /// Makes the map of `lists` with its counts in the memory of `maker`, or names their first fault.
 pub fn made_counted_map(maker: &mut CountedMaker, lists: &Rotations) -> Result<CountedMap, MapFault>
     requires some_list { 0 < length lists.now }
-    requires few_lists { length lists.now < 4096 }
     ensures counted { IfOk result (IsCountedMap lists.now) }
     ensures simple { OnOk result (first_fault lists.now ≡ None) }
     ensures fault { IfErr result (Names (first_fault lists.now)) }
@@ -110,7 +103,6 @@ pub fn made_plane_map(
     least: u16,
 ) -> Result<CountedMap, Unserved>
     requires some_list { 0 < length lists.now }
-    requires few_lists { length lists.now < 4096 }
     ensures plane { IfOk result (IsPlaneMap least lists.now) }
     ensures served { OnOk result (first_refusal least lists.now ≡ None) }
     ensures refused { IfErr result (IfRefused (λ refusal. first_refusal least lists.now ≡ Some refusal)) }

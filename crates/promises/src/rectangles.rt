@@ -23,7 +23,6 @@ use std::alloc::{AllocError, Global};
 /// Makes the map of the class with these `lists`, or names the first condition that they break.
 pub fn rect_map(alloc: Global, lists: &Rotations) -> Result<HalfMap, Unserved>
     requires some_list { 0 < length lists.now }
-    requires few_lists { length lists.now < 4096 }
     ensures lists { IfOk result (λ map. map.lists ≡ lists.now) }
     ensures served { IfOk result (λ map. IsRectMap lists.now) }
     ensures refused { IfErr result (IfRefused (BreaksRect lists.now)) }
@@ -70,7 +69,6 @@ pub fn label(labels: &Labelling, d: DartId) -> Label
 /// Draws the map of `lists` as rectangles, or names the first condition that it breaks.
 pub fn rect_figure(alloc: Global, lists: &Rotations) -> Result<RectFigure, Unserved>
     requires some_list { 0 < length lists.now }
-    requires few_lists { length lists.now < 4096 }
     ensures figure { IfOk result (IsRectFigure lists.now) }
     ensures served { OnOk result (IsRectMap lists.now) }
     ensures refused { IfErr result (IfRefused (BreaksRect lists.now)) }
@@ -81,7 +79,6 @@ pub fn rect_figure(alloc: Global, lists: &Rotations) -> Result<RectFigure, Unser
 /// Draws the map of `lists` by a `drawer` that may have drawn others, or names the first condition that it breaks.
 pub fn next_rect_figure(drawer: &mut RectDrawer, lists: &Rotations) -> Result<RectFigure, Unserved>
     requires some_list { 0 < length lists.now }
-    requires few_lists { length lists.now < 4096 }
     ensures figure { IfOk result (IsRectFigure lists.now) }
     ensures served { OnOk result (IsRectMap lists.now) }
     ensures refused { IfErr result (IfRefused (BreaksRect lists.now)) }

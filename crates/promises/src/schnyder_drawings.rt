@@ -127,7 +127,6 @@ pub fn schnyder_draw(alloc: Global, tri: &HalfMap, wood: &Wood) -> Result<GridFi
 /// Draws the map of `lists` by Schnyder's coordinates, or names the first condition that it breaks.
 pub fn schnyder_figure(alloc: Global, lists: &Rotations) -> Result<GridFigure, Unserved>
     requires some_list { 0 < length lists.now }
-    requires few_lists { length lists.now < 4096 }
     ensures figure { IfOk result (IsSchnyderFigure lists.now) }
     ensures served { OnOk result (first_refusal 3 lists.now ≡ None) }
     ensures refused { IfErr result (IfRefused (λ refusal. first_refusal 3 lists.now ≡ Some refusal)) }
@@ -138,7 +137,6 @@ pub fn schnyder_figure(alloc: Global, lists: &Rotations) -> Result<GridFigure, U
 /// Draws the triangulation with these `lists` by Schnyder's coordinates over `order`.
 pub fn list_draw(alloc: Global, lists: &Rotations, order: &Order) -> Result<GridFigure, AllocError>
     requires triangulation { IsTriangulation lists.now }
-    requires few { length lists.now < 4096 }
     requires order { (base : Dart) × IsCanonicalOrder lists.now base (vertices_of order.now) }
     requires rank { IsRankOf order.now.rank (vertices_of order.now) }
     ensures points { IfOk result (λ figure. (base : Dart) (canonical : IsCanonicalOrder lists.now base (vertices_of order.now))
@@ -158,7 +156,6 @@ pub fn wood_list_draw(
     order: &Order,
 ) -> Result<GridFigure, AllocError>
     requires triangulation { IsTriangulation lists.now }
-    requires few { length lists.now < 4096 }
     requires order { (base : Dart) × IsCanonicalOrder lists.now base (vertices_of order.now) }
     requires rank { IsRankOf order.now.rank (vertices_of order.now) }
     ensures points { IfOk result (λ figure. (base : Dart) (canonical : IsCanonicalOrder lists.now base (vertices_of order.now))
@@ -174,7 +171,6 @@ pub fn wood_list_draw(
 /// Draws the map of `lists` by Schnyder's coordinates, in the memory of `drawer`.
 pub fn drawn_schnyder_figure(drawer: &mut Drawer, lists: &Rotations) -> Result<GridFigure, Unserved>
     requires some_list { 0 < length lists.now }
-    requires few_lists { length lists.now < 4096 }
     ensures figure { IfOk result (IsSchnyderFigure lists.now) }
     ensures served { OnOk result (first_refusal 3 lists.now ≡ None) }
     ensures refused { IfErr result (IfRefused (λ refusal. first_refusal 3 lists.now ≡ Some refusal)) }

@@ -108,7 +108,6 @@ pub fn put_node<L: Ledger>(tree: &mut Offsets<L>, v: VertexId, node: Node, steps
 /// Draws the map of `lists` by the shift method, or names the first condition that it breaks.
 pub fn shift_figure(alloc: Global, lists: &Rotations) -> Result<GridFigure, Unserved>
     requires some_list { 0 < length lists.now }
-    requires few_lists { length lists.now < 4096 }
     ensures figure { IfOk result (IsShiftFigure lists.now) }
     ensures served { OnOk result (first_refusal 3 lists.now ≡ None) }
     ensures refused { IfErr result (IfRefused (λ refusal. first_refusal 3 lists.now ≡ Some refusal)) }
@@ -119,7 +118,6 @@ pub fn shift_figure(alloc: Global, lists: &Rotations) -> Result<GridFigure, Unse
 /// Draws the triangulation with these `lists` by the shift method over `order`.
 pub fn list_draw(alloc: Global, lists: &Rotations, order: &Order) -> Result<GridFigure, AllocError>
     requires triangulation { IsTriangulation lists.now }
-    requires few { length lists.now < 4096 }
     requires order { (base : Dart) × IsCanonicalOrder lists.now base (vertices_of order.now) }
     requires rank { IsRankOf order.now.rank (vertices_of order.now) }
     ensures points { IfOk result (λ figure. (base : Dart) (canonical : IsCanonicalOrder lists.now base (vertices_of order.now))
@@ -139,7 +137,6 @@ pub fn shifted_draw(
     order: &Order,
 ) -> Result<GridFigure, AllocError>
     requires triangulation { IsTriangulation lists.now }
-    requires few { length lists.now < 4096 }
     requires order { (base : Dart) × IsCanonicalOrder lists.now base (vertices_of order.now) }
     requires rank { IsRankOf order.now.rank (vertices_of order.now) }
     ensures points { IfOk result (λ figure. (base : Dart) (canonical : IsCanonicalOrder lists.now base (vertices_of order.now))
@@ -155,7 +152,6 @@ pub fn shifted_draw(
 /// Draws the map of `lists` by the shift method, in the memory of `drawer`.
 pub fn drawn_shift_figure(drawer: &mut Drawer, lists: &Rotations) -> Result<GridFigure, Unserved>
     requires some_list { 0 < length lists.now }
-    requires few_lists { length lists.now < 4096 }
     ensures figure { IfOk result (IsShiftFigure lists.now) }
     ensures served { OnOk result (first_refusal 3 lists.now ≡ None) }
     ensures refused { IfErr result (IfRefused (λ refusal. first_refusal 3 lists.now ≡ Some refusal)) }

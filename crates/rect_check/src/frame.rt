@@ -37,10 +37,10 @@ fn is_round_of_four(d: VertexId, p: VertexId, q: VertexId, s: VertexId, e: Verte
 
 // The frame, if the face of the dart `first` from vertex 0 is walked by four darts over four vertices.
 fn frame_from(map: &HalfMap, first: DartId) -> Option<OuterFour>
-    requires known { IsHalfMap map.now }
     requires first { dart_at map.now first.0 ≡ Some (first_dart map.now.lists 0) }
     ensures { MatchOption result (¬ HasFrame map.now.lists) (λ f. IsFrame map.now.lists f.top.0 f.right.0 f.bottom.0) }
 {
+    map.facts();
     let second = map.face_step(first);
     let third = map.face_step(second);
     let fourth = map.face_step(third);

@@ -108,7 +108,6 @@ fn first_broken(
 /// lower. The time is linear but for the lengths of these rows, which are short also at hubs.
 pub fn rect_map(alloc: Global, lists: &Rotations) -> Result<HalfMap, Unserved>
     requires some_list { 0 < length lists.now }
-    requires few_lists { length lists.now < 4096 }
     ensures lists { IfOk result (λ map. map.lists ≡ lists.now) }
     ensures served { IfOk result (λ map. IsRectMap lists.now) }
     ensures refused { IfErr result (IfRefused (BreaksRect lists.now)) }

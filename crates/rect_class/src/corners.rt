@@ -120,7 +120,6 @@ fn all_degrees(alloc: Global, lists: &Rotations) -> Result<Vec<usize>, AllocErro
 // Says whether the common neighbours of each edge stand next to one end in the list of the other.
 pub(crate) fn are_closed(alloc: Global, lists: &Rotations) -> Result<bool, AllocError>
     requires simple { IsSimpleMap lists.now }
-    requires few { length lists.now < 4096 }
     ensures { IfOk result (λ closed. OnTrue closed (AreClosed lists.now)) }
 {
     let degrees = all_degrees(alloc, lists)?;
@@ -158,7 +157,6 @@ pub(crate) fn none_separates(
     four: OuterFour,
 ) -> Result<bool, AllocError>
     requires simple { IsSimpleMap lists.now }
-    requires few { length lists.now < 4096 }
     requires frame { IsFrame lists.now four.top.0 four.right.0 four.bottom.0 }
     requires faces { HasTriangles lists.now }
     ensures { IfOk result (λ none. OnTrue none (NoneSeparating lists.now)) }

@@ -16,7 +16,6 @@ use std::alloc::{AllocError, Global};
 
 // Whether lists have as many vertices and entries as those of a map of the class.
 fn is_full(lists: &Rotations) -> bool
-    requires few { length lists.now < 4096 }
     ensures large { IsTrue result → 5 ≤ length lists.now }
     ensures full { IsTrue result → sum_by length lists.now + 14 ≡ 6 * length lists.now }
 {
@@ -132,7 +131,6 @@ impl FrameFinder {
     /// triangles. After a call that ran out of memory the finder serves as before. The time is linear in the entries.
     pub fn frame(&mut self, lists: &Rotations) -> Result<Option<OuterFour>, AllocError>
         requires some_list { 0 < length lists.now }
-        requires few_lists { length lists.now < 4096 }
         ensures { IfOk result (λ found. MatchOption found ⊤ (λ f. IsRectMap lists.now × IsFrame lists.now f.top.0 f.right.0 f.bottom.0)) }
     {
         if !is_full(lists) {

@@ -21,7 +21,6 @@ pub(crate) struct FramedOrder {
 
 // The rows of an order but the last one.
 fn lower_rows(alloc: Global, more: &Rotations, order: &Order) -> Result<Rotations, AllocError>
-    requires few { length more.now < 4096 }
     requires triangulation { IsTriangulation more.now }
     requires order { (base : Dart) × IsCanonicalOrder more.now base (vertices_of order.now) }
     requires rank { IsRankOf order.now.rank (vertices_of order.now) }
@@ -41,7 +40,6 @@ pub(crate) fn framed_order(
     lists: &Rotations,
     frame: Frame,
 ) -> Result<FramedOrder, AllocError>
-    requires few { length lists.now < 4096 }
     requires class { IsRectMap lists.now frame.left.0 frame.top.0 frame.right.0 frame.bottom.0 }
     requires inner { frame.inner.0 ≡ follows lists.now frame.bottom.0 frame.left.0 }
     ensures rows { IfOk result (λ made. HasLowerRows lists.now frame.left.0 frame.top.0 frame.right.0 frame.bottom.0 (vertices_of made.order) made.order.rank made.rows) }

@@ -77,7 +77,6 @@ fn fill_turns(
 /// The turns of the steps of a run with these rows, in time linear in the rows. It fails only when out of memory.
 pub fn row_turns(alloc: Global, rows: &Rotations) -> Result<RowTurns, AllocError>
     requires run { (steps : ℕ → Step) × AreRows steps rows.now }
-    requires few { length rows.now < 4096 }
     ensures { IfOk result (λ turns. (steps : ℕ → Step) → AreRows steps rows.now → AreTurns steps (length rows.now) turns.place.items turns.run.items) }
 {
     let mut runs = vec![in alloc; false; rows.len() + 2]?;

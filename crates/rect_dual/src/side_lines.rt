@@ -198,7 +198,6 @@ impl SideLines {
     // Puts a vertex on over each row of a run, and returns how many lines there are then.
     fn put_all(&mut self, rows: &Rotations, places: &[usize], at_runs: &[bool]) -> usize
         requires run { (steps : ℕ → Step) × AreRows steps rows.now × AreTurns steps (length rows.now) places.now at_runs.now }
-        requires few { length rows.now < 4096 }
         requires size { vec_len self.old.lines ≡ length rows.now + 2 }
         ensures side { self.new.side ≡ self.old.side }
         ensures size { vec_len self.new.lines ≡ vec_len self.old.lines }
@@ -226,7 +225,6 @@ pub(crate) fn side_numbers(
     turns: &RowTurns,
 ) -> Result<Vec<u32>, AllocError>
     requires run { (steps : ℕ → Step) × AreRows steps rows.now × AreTurns steps (length rows.now) turns.now.place.items turns.now.run.items }
-    requires few { length rows.now < 4096 }
     ensures count { IfOk result (λ made. length made.items ≡ length rows.now + 2) }
     ensures numbers { IfOk result (λ made. (steps : ℕ → Step) → AreRows steps rows.now → AreTurns steps (length rows.now) turns.now.place.items turns.now.run.items → IsLabelledRun steps (length rows.now)
         → (v : ℕ) → v < length rows.now + 2 → slice_index made.items v ≡ number_of side (numbers steps (length rows.now)) v) }
@@ -250,7 +248,6 @@ pub(crate) fn row_numbers(
     turns: &RowTurns,
 ) -> Result<RowNumbers, AllocError>
     requires run { (steps : ℕ → Step) × AreRows steps rows.now × AreTurns steps (length rows.now) turns.now.place.items turns.now.run.items }
-    requires few { length rows.now < 4096 }
     ensures count { IfOk result (λ numbers. length numbers.x.items ≡ length rows.now + 2) }
     ensures count_y { IfOk result (λ numbers. length numbers.y.items ≡ length rows.now + 2) }
     ensures numbers { IfOk result (λ numbers. (steps : ℕ → Step) → AreRows steps rows.now → AreTurns steps (length rows.now) turns.now.place.items turns.now.run.items → IsLabelledRun steps (length rows.now)

@@ -4,17 +4,18 @@ ghost use Rattle.std.specs.Prelude.{◌<◌, length, IfSome};
 use crate::text::{halves, numbers, pair, put_gap, put_letter, put_number, put_numbers};
 use half_edges::{Counts, Rotations, VertexList};
 use map_gen::stacked;
+use map_lists::ItemLists;
 use std::alloc::Global;
 
 // Vertices with no edges.
-fn alone(n: u16, lists: &mut Rotations) {
+fn alone(n: u16, lists: &mut ItemLists<u16>) {
     for _ in 0..n {
         let _ = lists.open();
     }
 }
 
 // A path along the numbers.
-fn path(n: u16, lists: &mut Rotations) {
+fn path(n: u16, lists: &mut ItemLists<u16>) {
     for v in 0..n {
         let (before, after) = (v.wrapping_sub(1), v.wrapping_add(1));
         let _ = if 0 < v && after < n {
@@ -40,7 +41,7 @@ fn beside(first: u16, n: u16, v: u16) -> (u16, u16) {
 }
 
 // A cycle along the numbers.
-fn cycle(n: u16, lists: &mut Rotations) {
+fn cycle(n: u16, lists: &mut ItemLists<u16>) {
     for v in 0..n {
         let (before, after) = beside(0, n, v);
         let _ = lists.push(&[after, before]);
@@ -57,7 +58,7 @@ fn middle(alloc: Global, n: u16) -> Vec<u16> {
 }
 
 // The vertices of a star around its middle, of which each has so many of its neighbours: 1, or 3 on the rim of a wheel.
-fn around(n: u16, most: usize, lists: &mut Rotations)
+fn around(n: u16, most: usize, lists: &mut ItemLists<u16>)
     requires { most < 4 }
 {
     for v in 1..n {
@@ -67,32 +68,39 @@ fn around(n: u16, most: usize, lists: &mut Rotations)
 }
 
 // A star whose middle is vertex 0, or a wheel.
-fn star(alloc: Global, n: u16, most: usize, lists: &mut Rotations)
+fn star(alloc: Global, n: u16, most: usize, lists: &mut ItemLists<u16>)
     requires { most < 4 }
 {
     let _ = lists.push(&middle(alloc, n));
     around(n, most, lists);
 }
 
+// Appends the lists of a map.
+fn put_all(made: &Rotations, lists: &mut ItemLists<u16>) {
+    for v in 0..made.len() {
+        let _ = lists.push(made.list(v));
+    }
+}
+
 // Vertices that are put into faces of a triangle, one after another, by a number.
-fn stack(alloc: Global, n: u16, number: u16, lists: &mut Rotations) {
+fn stack(alloc: Global, n: u16, number: u16, lists: &mut ItemLists<u16>) {
     if 3 <= n && n <= 4095 {
         match stacked(alloc, n, u32::from(number)) {
-            Ok(made) => *lists = made,
+            Ok(made) => put_all(&made, lists),
             Err(_) => {}
         }
     }
 }
 
 // The lists between the semicolons.
-fn written(alloc: Global, text: &str, lists: &mut Rotations) {
+fn written(alloc: Global, text: &str, lists: &mut ItemLists<u16>) {
     for list in text.split(';') {
         let _ = lists.push(&numbers(alloc, list));
     }
 }
 
 // The lists that a text gives.
-fn fill(alloc: Global, text: &str, lists: &mut Rotations) {
+fn fill(alloc: Global, text: &str, lists: &mut ItemLists<u16>) {
     let (family, size) = halves(text);
     let (n, number) = pair(size);
     match family {
@@ -108,15 +116,14 @@ fn fill(alloc: Global, text: &str, lists: &mut Rotations) {
 
 /// The lists that a text gives, from 1 to 4095.
 pub fn lists_of(alloc: Global, text: &str) -> Option<Rotations>
-    ensures some { IfSome result (λ lists. 0 < length lists) }
-    ensures few { IfSome result (λ lists. length lists < 4096) }
+    ensures { IfSome result (λ lists. 0 < length lists) }
 {
-    let mut lists = Rotations::new(alloc);
+    let mut lists = ItemLists::new(alloc);
     fill(alloc, text, &mut lists);
     if lists.len() == 0 || 4095 < lists.len() {
         None
     } else {
-        Some(lists)
+        Some(Rotations::from_lists(lists))
     }
 }
 

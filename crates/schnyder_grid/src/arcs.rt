@@ -83,7 +83,6 @@ pub(crate) fn wood_arcs(
     lists: &Rotations,
     wood: &Wood,
 ) -> Result<ItemLists<u32>, AllocError>
-    requires few { length lists.now < 4096 }
     requires count { count_in wood.now ≡ length lists.now }
     requires within { (e r : ℕ) → HasDart lists.now e r → r < length lists.now }
     ensures { IfOk result (AreWoodArcs lists.now wood.now) }

@@ -31,7 +31,6 @@ fn least_beyond(list: &[u16], n: usize) -> Option<u16>
 
 // The first vertex whose list holds a number that is no vertex, and the least such number.
 pub(crate) fn first_out_of_range(lists: &Rotations) -> Option<(u16, u16)>
-    requires { length lists.now < 4096 }
     ensures { result ≡ first_from (least_out_of_range (length lists.now)) 0 lists.now }
 {
     for v in 0..lists.len() {
@@ -51,7 +50,6 @@ pub(crate) fn holds(list: &[u16], u: u16) -> bool
 
 // The first vertex whose list holds itself.
 pub(crate) fn first_loop(lists: &Rotations) -> Option<u16>
-    requires { length lists.now < 4096 }
     ensures { MatchOption result (first_from own_number 0 lists.now ≡ None)
         (λ v. first_from own_number 0 lists.now ≡ Some (v, v)) }
 {
@@ -96,7 +94,6 @@ pub(crate) fn first_repeated(
     alloc: Global,
     lists: &Rotations,
 ) -> Result<Option<(u16, u16)>, AllocError>
-    requires few { length lists.now < 4096 }
     requires in_range { first_from (least_out_of_range (length lists.now)) 0 lists.now ≡ None }
     ensures { IfOk result (λ found. found ≡ first_from least_repeated 0 lists.now) }
 {

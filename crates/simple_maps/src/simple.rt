@@ -26,11 +26,11 @@ pub(crate) struct Tables {
 // The tables of lists, which are from 1 to 4095, or the first fault of the lists.
 pub(crate) fn tables_of(alloc: Global, lists: &Rotations) -> Result<Tables, MapFault>
     requires some_list { 0 < length lists.now }
-    requires few_lists { length lists.now < 4096 }
     ensures tables { IfOk result (λ t. AreTables lists.now t.starts.items t.ends.items t.twins.items) }
     ensures simple { OnOk result (first_fault lists.now ≡ None) }
     ensures fault { IfErr result (Names (first_fault lists.now)) }
 {
+    let count = lists.len();
     if let Some((v, u)) = first_out_of_range(lists) {
         return Err(MapFault::OutOfRange(v, u));
     }
@@ -44,7 +44,7 @@ pub(crate) fn tables_of(alloc: Global, lists: &Rotations) -> Result<Tables, MapF
         return Err(MapFault::OneSided(v, u));
     }
     let starts = starts_of(alloc, lists)?;
-    let ends = darts_of(alloc, lists, starts[lists.len()] as usize)?;
+    let ends = darts_of(alloc, lists, starts[count] as usize)?;
     let twins = twins_of(alloc, lists, &starts, &ends)?;
     Ok(Tables {
         starts,

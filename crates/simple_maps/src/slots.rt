@@ -16,7 +16,6 @@ use std::alloc::{AllocError, Global};
 // the searches tell the fault: it saves tables for such lists, and passes over lists as short as those of a plane map
 // without a look.
 fn has_long_list(lists: &Rotations) -> bool
-    requires { length lists.now < 4096 }
 {
     let count = lists.len();
     if lists.total() <= 6 * count {
@@ -40,7 +39,6 @@ fn found_twins(
     threads: &mut Vec<u32>,
 ) -> Result<bool, AllocError>
     requires some_list { 0 < length lists.now }
-    requires few_lists { length lists.now < 4096 }
     ensures slots { IfOk result (λ found. OnTrue found (AreSlots lists.now tails.new.items twins.new.items)) }
     ensures count { IfOk result (λ found. OnTrue found (length tails.new.items ≡ length twins.new.items)) }
 {
@@ -73,7 +71,6 @@ fn searched_twins(
     twins: &mut Vec<u32>,
 ) -> Result<(), MapFault>
     requires some_list { 0 < length lists.now }
-    requires few_lists { length lists.now < 4096 }
     ensures slots { OnOk result (AreSlots lists.now tails.new.items twins.new.items) }
     ensures count { OnOk result (length tails.new.items ≡ length twins.new.items) }
     ensures fault { IfErr result (Names (first_fault lists.now)) }
@@ -100,7 +97,6 @@ pub fn fill_twins(
     threads: &mut Vec<u32>,
 ) -> Result<(), MapFault>
     requires some_list { 0 < length lists.now }
-    requires few_lists { length lists.now < 4096 }
     ensures slots { OnOk result (AreSlots lists.now tails.new.items twins.new.items) }
     ensures count { OnOk result (length tails.new.items ≡ length twins.new.items) }
     ensures fault { IfErr result (Names (first_fault lists.now)) }
@@ -140,11 +136,11 @@ pub fn fill_slots<P: DartSlot>(
     slots: &mut Vec<P>,
 ) -> Result<(), MapFault>
     requires some_list { 0 < length lists.now }
-    requires few_lists { length lists.now < 4096 }
     ensures slots { OnOk result (AreSlots lists.now (map P.tail_of slots.new.items) (map P.twin_of slots.new.items)) }
     ensures line { OnOk result (AreInLine P.IsInLine slots.new.items (length slots.new.items)) }
     ensures fault { IfErr result (Names (first_fault lists.now)) }
 {
+    lists.facts();
     fill_twins(alloc, lists, tails, twins, threads)?;
     slots.resize(twins.len(), P::new(0, 0, 0))?;
     write_slots(tails, twins, slots);

@@ -9,7 +9,6 @@ use std::alloc::{AllocError, Global};
 
 // For each vertex, and for the number of vertices, how many darts the lists before it hold.
 pub(crate) fn starts_of(alloc: Global, lists: &Rotations) -> Result<Vec<u32>, AllocError>
-    requires few { length lists.now < 4096 }
     requires few_darts { dart_count lists.now < 2 ^ 24 }
     ensures { IfOk result (λ starts. StartsTo lists.now starts.items (length lists.now)) }
 {
@@ -39,7 +38,6 @@ pub(crate) fn darts_of(
     lists: &Rotations,
     count: usize,
 ) -> Result<Vec<(u16, u16)>, AllocError>
-    requires few { length lists.now < 4096 }
     ensures { IfOk result (λ all. all.items ≡ darts lists.now) }
 {
     let mut all = Vec::with_capacity(alloc, count)?;

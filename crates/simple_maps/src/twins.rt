@@ -59,7 +59,6 @@ pub(crate) fn twins_of(
     starts: &[u32],
     ends: &[(u16, u16)],
 ) -> Result<Vec<u32>, MapFault>
-    requires few { length lists.now < 4096 }
     requires few_darts { dart_count lists.now < 2 ^ 24 }
     requires in_range { first_from (least_out_of_range (length lists.now)) 0 lists.now ≡ None }
     requires no_loop { first_from own_number 0 lists.now ≡ None }

@@ -68,7 +68,6 @@ pub fn places_again(
     t: u16,
 ) -> Result<Ranges, AllocError>
     requires simple { IsSimpleMap lists.now }
-    requires few { length lists.now < 4096 }
     requires connected { component_count lists.now ≡ 1 }
     requires uncut { (v : ℕ) → ¬ IsCutVertex lists.now v }
     requires dart { HasDart lists.now s t }
@@ -92,10 +91,10 @@ fn order_of(
     s: u16,
     t: u16,
 ) -> Result<StOrder, AllocError>
-    requires few { length lists.now < 4096 }
     requires places { ArePlaces lists.now s t from.now }
     ensures { IfOk result (λ order. IsStOrderOf lists.now s t order) }
 {
+    lists.facts();
     let mut at = vec![in alloc; 0u16; from.len()]?;
     put_all(from, &mut at);
     Ok(StOrder {
@@ -107,7 +106,6 @@ fn order_of(
 // An st-order of lists for the dart from s to t.
 fn list_order(alloc: Global, lists: &Rotations, s: u16, t: u16) -> Result<StOrder, AllocError>
     requires simple { IsSimpleMap lists.now }
-    requires few { length lists.now < 4096 }
     requires connected { component_count lists.now ≡ 1 }
     requires uncut { (v : ℕ) → ¬ IsCutVertex lists.now v }
     requires dart { HasDart lists.now s t }
@@ -129,7 +127,6 @@ pub fn st_ranks(
     t: u16,
 ) -> Result<Counts, AllocError>
     requires simple { IsSimpleMap lists.now }
-    requires few { length lists.now < 4096 }
     requires connected { component_count lists.now ≡ 1 }
     requires uncut { (v : ℕ) → ¬ IsCutVertex lists.now v }
     requires dart { HasDart lists.now s t }

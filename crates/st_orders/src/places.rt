@@ -104,7 +104,6 @@ impl Ranges {
 
     // Gives the first two vertices their places, s the first and t all others.
     fn place_two(&mut self, lists: &Rotations, forest: &Forest, low: &[u16])
-        requires few { length lists.now < 4096 }
         requires some { 2 ≤ length lists.now }
         requires whole { IsWholeBy lists.now forest.now low.now }
         requires tables { AreTables lists.now self.old.from.items self.old.to.items self.old.side.items self.old.recent.items }
@@ -123,7 +122,6 @@ impl Ranges {
 
     // Gives all vertices their places.
     pub(crate) fn place_all(&mut self, lists: &Rotations, forest: &Forest, low: &[u16])
-        requires few { length lists.now < 4096 }
         requires some { 2 ≤ length lists.now }
         requires whole { IsWholeBy lists.now forest.now low.now }
         requires tables { AreTables lists.now self.old.from.items self.old.to.items self.old.side.items self.old.recent.items }

@@ -182,7 +182,6 @@ fn are_below(lists: &Rotations, limit: u16) -> bool
 // Appends the record of lists.
 fn put_written(lists: &Rotations, bytes: &mut Vec<u8>)
     requires some { 0 < length lists.now }
-    requires few { length lists.now < 4096 }
 {
     let limit = if 255 < lists.len() { 65535 } else { 255 };
     if are_below(lists, limit) {
@@ -241,7 +240,6 @@ fn read_back(
 // Writes the record of `lists` between the bytes of two texts, and reads it back.
 fn write_and_read(alloc: Global, lists: &Rotations, args: &[&str], out: &mut String)
     requires some { 0 < length lists.now }
-    requires few { length lists.now < 4096 }
 {
     let mut bytes = bytes_of(alloc, part(args, 1));
     let at = bytes.len();
@@ -256,7 +254,6 @@ fn write_and_read(alloc: Global, lists: &Rotations, args: &[&str], out: &mut Str
 // The record of lists in hexadecimal, behind the bytes of a text.
 fn write(alloc: Global, lists: &Rotations, text: &str, out: &mut String)
     requires some { 0 < length lists.now }
-    requires few { length lists.now < 4096 }
 {
     let mut bytes = bytes_of(alloc, text);
     put_written(lists, &mut bytes);

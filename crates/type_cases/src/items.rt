@@ -1,5 +1,5 @@
 //! Lists that were filled by hand.
-use map_lists::{Counts, EdgeList, Ends, PathList, Rotations, VertexId, VertexList};
+use map_lists::{Counts, EdgeList, Ends, ItemLists, PathList, Rotations, VertexId, VertexList};
 use pg_plane::{Ints, Point, Points};
 use std::test::Fail;
 
@@ -46,7 +46,7 @@ fn lists_come_back_whole(rt: HostRuntime) -> Result<(), Fail> {
 
 #[test]
 fn lists_grow_by_entries(rt: HostRuntime) -> Result<(), Fail> {
-    let mut lists = Rotations::new(rt.alloc());
+    let mut lists = ItemLists::<u16>::new(rt.alloc());
     lists.push(&[4])?;
     lists.open()?;
     lists.append(1)?;

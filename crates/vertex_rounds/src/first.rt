@@ -16,13 +16,13 @@ fn better<F: Fn(DartId) -> bool>(
     d: DartId,
     best: Option<VertexId>,
 ) -> Option<VertexId>
-    requires known { IsHalfMap map.now }
     requires live { IsLive map.now d.0 }
     requires test { (e : TheDart) → IsLive map.now e.0 → F.pre test.now e }
     ensures { (v u : ℕ) → dart_at map.now d.0 ≡ Some (v, u) → (us : List ℕ) (k : ℕ) → slice_index us k ≡ u
         → IsLeastOf (Passes map.now (F.post test.now) v) (Fails map.now (F.post test.now) v) us k best
         → IsLeastOf (Passes map.now (F.post test.now) v) (Fails map.now (F.post test.now) v) us (k + 1) result }
 {
+    map.facts();
     let u = map.head(d);
     if is_below(u, best) && test(d) {
         Some(u)
@@ -38,11 +38,11 @@ fn least_round<F: Fn(DartId) -> bool>(
     v: VertexId,
     first: DartId,
 ) -> Option<VertexId>
-    requires known { IsHalfMap map.now }
     requires first { dart_at map.now first.0 ≡ Some (dart_of_first map.now.lists v.0) }
     requires test { (e : TheDart) → IsLive map.now e.0 → F.pre test.now e }
     ensures { FindsLeast map.now (F.post test.now) v.0 result }
 {
+    map.facts();
     let mut best = None;
     let mut d = first;
     'round: loop {
@@ -56,11 +56,11 @@ fn least_round<F: Fn(DartId) -> bool>(
 
 // The least neighbour of `v` whose dart from `v` passes.
 fn least_of<F: Fn(DartId) -> bool>(map: &HalfMap, test: &F, v: VertexId) -> Option<VertexId>
-    requires known { IsHalfMap map.now }
     requires vertex { v.0 < length map.now.lists }
     requires test { (e : TheDart) → IsLive map.now e.0 → F.pre test.now e }
     ensures { FindsLeast map.now (F.post test.now) v.0 result }
 {
+    map.facts();
     match map.first_dart(v) {
         Some(first) => least_round(map, test, v, first),
         None => None,
@@ -70,11 +70,11 @@ fn least_of<F: Fn(DartId) -> bool>(map: &HalfMap, test: &F, v: VertexId) -> Opti
 /// The least neighbour of `v` whose dart from `v` passes a test; None where none passes. Only those are
 /// tried that are below the least one so far.
 pub fn least_head<F: Fn(DartId) -> bool>(map: &HalfMap, v: VertexId, test: F) -> Option<VertexId>
-    requires known { IsHalfMap map.now }
     requires vertex { v.0 < length map.now.lists }
     requires test { (e : TheDart) → IsLive map.now e.0 → F.pre test e }
     ensures { FindsLeast map.now (F.post test) v.0 result }
 {
+    map.facts();
     least_of(map, &test, v)
 }
 
@@ -87,10 +87,10 @@ pub fn first_dart_from<F: Fn(DartId) -> bool>(
     from: u16,
     test: F,
 ) -> Option<(VertexId, VertexId)>
-    requires known { IsHalfMap map.now }
     requires test { (e : TheDart) → IsLive map.now e.0 → F.pre test e }
     ensures { FindsFirst map.now (F.post test) from result }
 {
+    map.facts();
     for v in from..map.n() {
         if let Some(u) = least_of(map, &test, VertexId(v)) {
             return Some((VertexId(v), u));
@@ -101,9 +101,9 @@ pub fn first_dart_from<F: Fn(DartId) -> bool>(
 
 /// The first dart that passes a test, by its tail and then by its head; None where none passes.
 pub fn first_dart<F: Fn(DartId) -> bool>(map: &HalfMap, test: F) -> Option<(VertexId, VertexId)>
-    requires known { IsHalfMap map.now }
     requires test { (e : TheDart) → IsLive map.now e.0 → F.pre test e }
     ensures { FindsFirst map.now (F.post test) 0 result }
 {
+    map.facts();
     first_dart_from(map, 0, test)
 }

@@ -8,12 +8,12 @@ use half_edges::{DartId, HalfMap, VertexId};
 
 /// The dart from the same vertex to the next entry of its list, or None at the last entry.
 pub fn later_dart(map: &HalfMap, d: DartId) -> Option<DartId>
-    requires known { IsHalfMap map.now }
     requires live { IsLive map.now d.0 }
     ensures { (v u : ℕ) → dart_at map.now d.0 ≡ Some (v, u)
         → MatchOption result (place_of u (list_of map.now.lists v) + 1 ≡ length (list_of map.now.lists v))
         (λ e. IsLaterDart map.now v u e.0) }
 {
+    map.facts();
     let next = map.next(d);
     match map.first_dart(map.tail(d)) {
         Some(first) => { if next.0 == first.0 { None } else { Some(next) } }

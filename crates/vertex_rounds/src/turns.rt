@@ -16,11 +16,11 @@ fn either(a: bool, b: bool) -> bool
 
 // Whether just one dart from `v` passes; `first` is the dart to the first entry of its list.
 fn passes_once<F: Fn(DartId) -> bool>(map: &HalfMap, test: &F, v: VertexId, first: DartId) -> bool
-    requires known { IsHalfMap map.now }
     requires first { dart_at map.now first.0 ≡ Some (dart_of_first map.now.lists v.0) }
     requires test { (e : TheDart) → IsLive map.now e.0 → F.pre test.now e }
     ensures { IsPassedOnce map.now (F.post test.now) v.0 result }
 {
+    map.facts();
     let mut passed = false;
     let mut d = first;
     'round: loop {
@@ -38,11 +38,11 @@ fn passes_once<F: Fn(DartId) -> bool>(map: &HalfMap, test: &F, v: VertexId, firs
 
 // Says whether just one dart from `v` passes, where there are two darts at least.
 fn turns_round<F: Fn(DartId) -> bool>(map: &HalfMap, test: &F, v: VertexId, first: DartId) -> bool
-    requires known { IsHalfMap map.now }
     requires first { dart_at map.now first.0 ≡ Some (dart_of_first map.now.lists v.0) }
     requires test { (e : TheDart) → IsLive map.now e.0 → F.pre test.now e }
     ensures { TurnsOnce map.now (F.post test.now) v.0 result }
 {
+    map.facts();
     match later_dart(map, first) {
         Some(_) => passes_once(map, test, v, first),
         None => true,
@@ -54,11 +54,11 @@ fn turns_round<F: Fn(DartId) -> bool>(map: &HalfMap, test: &F, v: VertexId, firs
 /// Where the test says that an entry of the list of `v` does not come before the next one, cyclically, in
 /// some order, this is whether the list goes once round in that order.
 pub fn turns_once<F: Fn(DartId) -> bool>(map: &HalfMap, v: VertexId, test: F) -> bool
-    requires known { IsHalfMap map.now }
     requires vertex { v.0 < length map.now.lists }
     requires test { (e : TheDart) → IsLive map.now e.0 → F.pre test e }
     ensures { TurnsOnce map.now (F.post test) v.0 result }
 {
+    map.facts();
     match map.first_dart(v) {
         Some(first) => turns_round(map, &test, v, first),
         None => true,

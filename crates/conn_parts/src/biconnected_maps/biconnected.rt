@@ -28,7 +28,6 @@ pub struct SearchedMap {
 fn first_search(alloc: Global, lists: &Rotations) -> Result<Forest, AllocError>
     requires simple { IsSimpleMap lists.now }
     requires some { 0 < length lists.now }
-    requires few { length lists.now < 4096 }
     ensures forest { IfOk result (λ f. IsForestOf lists.now f.order.items f.number.items f.last.items f.parent.items) }
     ensures first { IfOk result (λ f. IsFirstSearch lists.now f.number.items) }
 {
@@ -47,7 +46,6 @@ fn first_search(alloc: Global, lists: &Rotations) -> Result<Forest, AllocError>
 /// vertices. Or there was not enough memory. The time is linear in the entries.
 pub fn searched_map(alloc: Global, lists: &Rotations, least: u16) -> Result<SearchedMap, Unserved>
     requires some_list { 0 < length lists.now }
-    requires few_lists { length lists.now < 4096 }
     ensures lists { IfOk result (λ found. found.map.lists ≡ lists.now) }
     ensures search { IfOk result (λ found. IsSearchOf lists.now found.forest.order.items found.forest.number.items found.forest.last.items found.forest.parent.items found.low.items) }
     ensures served { IfOk result (λ found. IsBiconnectedMap least lists.now) }
@@ -72,7 +70,6 @@ pub fn searched_map(alloc: Global, lists: &Rotations, least: u16) -> Result<Sear
 /// Like [`searched_map`], but returns the map without the search.
 pub fn biconnected_map(alloc: Global, lists: &Rotations, least: u16) -> Result<HalfMap, Unserved>
     requires some_list { 0 < length lists.now }
-    requires few_lists { length lists.now < 4096 }
     ensures lists { IfOk result (λ map. map.lists ≡ lists.now) }
     ensures served { IfOk result (λ map. IsBiconnectedMap least lists.now) }
     ensures refused { IfErr result (IfRefused (BreaksFirst least lists.now)) }

@@ -5,11 +5,11 @@ ghost use Rattle.graph6_text.specs.Graphs.{has_edge};
 ghost use Rattle.conn_parts.specs.GraphLists.{neighbours_below, graph_lists as lists_of_graph};
 
 use graph6_text::Graph;
-use map_lists::{Rotations, VertexId};
+use map_lists::{ItemLists, Rotations, VertexId};
 use std::alloc::{AllocError, Global};
 
 // Appends u to the last list, if an edge joins it to v.
-fn append_joined(lists: &mut Rotations, graph: &Graph, v: u16, u: u16) -> Result<(), AllocError>
+fn append_joined(lists: &mut ItemLists<u16>, graph: &Graph, v: u16, u: u16) -> Result<(), AllocError>
     requires { 0 < length lists.old }
     ensures { IfOk result (λ _. (before : List (List ℕ)) (last : List ℕ) → lists.old ≡ before ++ last ∷ [] → lists.new ≡ before ++ (last ++ filter (λ x. has_edge graph.now v x) (u ∷ [])) ∷ []) }
 {
@@ -21,7 +21,7 @@ fn append_joined(lists: &mut Rotations, graph: &Graph, v: u16, u: u16) -> Result
 }
 
 // Appends the list of v.
-fn push_neighbours(lists: &mut Rotations, graph: &Graph, v: u16) -> Result<(), AllocError>
+fn push_neighbours(lists: &mut ItemLists<u16>, graph: &Graph, v: u16) -> Result<(), AllocError>
     ensures { IfOk result (λ _. lists.new ≡ lists.old ++ neighbours_below graph.now v graph.now.n ∷ []) }
 {
     lists.open()?;
@@ -35,9 +35,9 @@ fn push_neighbours(lists: &mut Rotations, graph: &Graph, v: u16) -> Result<(), A
 pub fn graph_lists(alloc: Global, graph: &Graph) -> Result<Rotations, AllocError>
     ensures { IfOk result (λ lists. lists ≡ lists_of_graph graph.now) }
 {
-    let mut lists = Rotations::new(alloc);
+    let mut lists = ItemLists::new(alloc);
     for v in 0..graph.n() {
         push_neighbours(&mut lists, graph, v)?;
     }
-    Ok(lists)
+    Ok(Rotations::from_lists(lists))
 }

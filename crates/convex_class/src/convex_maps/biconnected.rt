@@ -29,7 +29,6 @@ pub struct ConvexMap {
 /// vertices. Or there was not enough memory. The time and the memory are linear in the entries.
 pub fn convex_map_with_faces(alloc: Global, lists: &Rotations) -> Result<ConvexMap, Unserved>
     requires some_list { 0 < length lists.now }
-    requires few_lists { length lists.now < 4096 }
     ensures lists { IfOk result (λ found. found.map.lists ≡ lists.now) }
     ensures faces { IfOk result (λ found. AreFaces found.map found.faces) }
     ensures plane { IfOk result (λ found. IsPlane lists.now) }
@@ -47,7 +46,6 @@ pub fn convex_map_with_faces(alloc: Global, lists: &Rotations) -> Result<ConvexM
 /// The map that [`convex_map_with_faces`] gives, without its faces.
 pub fn convex_map(alloc: Global, lists: &Rotations) -> Result<HalfMap, Unserved>
     requires some_list { 0 < length lists.now }
-    requires few_lists { length lists.now < 4096 }
     ensures lists { IfOk result (λ map. map.lists ≡ lists.now) }
     ensures plane { IfOk result (λ map. IsPlane lists.now) }
     ensures served { IfOk result (λ map. IsThreeConnected lists.now) }

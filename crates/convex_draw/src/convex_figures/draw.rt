@@ -52,7 +52,6 @@ fn map_figure(alloc: Global, found: &ConvexMap, lists: &Rotations) -> Result<Gri
 /// Source: Felsner, Convex drawings of planar graphs and the order dimension of 3-polytopes, 2001.
 pub fn convex_figure(alloc: Global, lists: &Rotations) -> Result<GridFigure, Unserved>
     requires some_list { 0 < length lists.now }
-    requires few_lists { length lists.now < 4096 }
     ensures figure { IfOk result (IsConvexFigure lists.now) }
     ensures plane { OnOk result (IsPlane lists.now) }
     ensures served { OnOk result (IsThreeConnected lists.now) }

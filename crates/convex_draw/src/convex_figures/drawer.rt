@@ -67,7 +67,6 @@ impl DrawTables {
 // Whether a map is connected, in the memory of other tables.
 fn is_connected(lists: &Rotations, parts: PartTables) -> Result<(bool, PartTables), AllocError>
     requires simple { IsSimpleMap lists.now }
-    requires few { length lists.now < 4096 }
     ensures { IfOk result (λ made. IsTrue made.0 → component_count lists.now ≡ 1) }
 {
     let mut numbers = parts.numbers;
@@ -89,7 +88,6 @@ fn less_one(number: u32) -> u32
 
 // How many lists there are.
 fn count_of(lists: &Rotations) -> u16
-    requires { length lists.now < 4096 }
     ensures { length lists.now ≡ result }
 {
     lists.len() as u16
@@ -106,7 +104,6 @@ fn run_again(
 ) -> Result<(GridFigure, RunTables, FaceNumbers), AllocError>
     requires plane { IsPlane lists.now }
     requires three { IsThreeConnected lists.now }
-    requires few { length lists.now < 4096 }
     requires numbers { AreFaceNumbers lists.now faces.own faces.other faces.count }
     requires count { faces.count ≡ face_count lists.now }
     requires first { slice_index (list_of lists.now 0) 0 ≡ t }
@@ -141,7 +138,6 @@ fn run_again(
 
 // Whether lists have as many entries as those of a triangulation with four vertices or more.
 fn is_full(lists: &Rotations) -> bool
-    requires few { length lists.now < 4096 }
     ensures some { IsTrue result → 4 ≤ length lists.now }
     ensures full { IsTrue result → sum_by length lists.now + 12 ≡ 6 * length lists.now }
 {
@@ -150,7 +146,6 @@ fn is_full(lists: &Rotations) -> bool
 
 // Whether lists are connected, and have as many faces as a triangulation.
 fn has_all(connected: bool, faces: u32, lists: &Rotations) -> bool
-    requires few { length lists.now < 4096 }
     ensures connected { IsTrue result → IsTrue connected }
     ensures faces { IsTrue result → faces + 4 ≡ 2 * length lists.now }
 {
@@ -167,7 +162,6 @@ fn drawn_full(
     tables: DrawTables,
 ) -> Result<(Option<GridFigure>, DrawTables), AllocError>
     requires simple { IsSimpleMap lists.now }
-    requires few { length lists.now < 4096 }
     requires twins { AreTwins (darts lists.now) twins.now (length (darts lists.now)) }
     requires some { 4 ≤ length lists.now }
     requires full { sum_by length lists.now + 12 ≡ 6 * length lists.now }
@@ -203,7 +197,6 @@ fn drawn(
     tables: DrawTables,
 ) -> Result<(Option<GridFigure>, DrawTables), AllocError>
     requires simple { IsSimpleMap lists.now }
-    requires few { length lists.now < 4096 }
     requires twins { AreTwins (darts lists.now) twins.now (length (darts lists.now)) }
     requires some { 4 ≤ length lists.now }
     requires full { sum_by length lists.now + 12 ≡ 6 * length lists.now }
@@ -244,7 +237,6 @@ impl ConvexDrawer {
     /// The figure of a record, as `convex_figure` has it. After `NoMemory` the drawer serves as before.
     pub fn figure(&mut self, lists: &Rotations) -> Result<GridFigure, Unserved>
         requires some_list { 0 < length lists.now }
-        requires few_lists { length lists.now < 4096 }
         ensures figure { IfOk result (IsConvexFigure lists.now) }
         ensures plane { OnOk result (IsPlane lists.now) }
         ensures served { OnOk result (IsThreeConnected lists.now) }

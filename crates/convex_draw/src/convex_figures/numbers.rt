@@ -44,12 +44,12 @@ fn faces_of(
     rank: &[u16],
 ) -> Result<FaceTables, AllocError>
     requires simple { IsSimpleMap lists.now }
-    requires few { length lists.now < 4096 }
     requires twins { AreTwins (darts lists.now) twins.now (length (darts lists.now)) }
     requires ranks { length rank.now ≡ length lists.now }
     ensures numbers { IfOk result (λ made. NumberFaces lists.now made.of.items (length made.arcs)) }
     ensures few { IfOk result (λ made. length made.arcs < 2 ^ 32) }
 {
+    lists.facts();
     let faces = number_faces(tables, lists.entries(), lists.ends(), twins, rank)?;
     Ok(faces)
 }
@@ -120,7 +120,6 @@ pub(crate) fn numbers_again(
     twins: &[u32],
 ) -> Result<NumberTables, AllocError>
     requires simple { IsSimpleMap lists.now }
-    requires few { length lists.now < 4096 }
     requires twins { AreTwins (darts lists.now) twins.now (length (darts lists.now)) }
     ensures numbers { IfOk result (λ made. AreFaceNumbers lists.now made.numbers.own made.numbers.other made.numbers.count) }
     ensures count { IfOk result (λ made. made.numbers.count ≡ class_count (face_classes lists.now)) }

@@ -16,23 +16,23 @@ use std::alloc::{AllocError, Global};
 
 // Whether a face other than the outer one is met with an odd number.
 fn is_inside(map: &HalfMap, faces: &Faces, met: &[bool], outer: FaceId, f: FaceId) -> bool
-    requires known { IsHalfMap map.now }
     requires faces { AreFaces map.now faces.now }
     requires room { length met.now ≡ 2 * id_bound map.now }
     requires face { f.0 < length faces.now }
     ensures { result ≡ is_counted faces.now met.now outer.0 f.0 }
 {
+    map.facts();
     let first = faces.walk(f)[0];
     f.0 != outer.0 && met[2 * (first.0 as usize) + 1]
 }
 
 // How many such faces there are.
 fn counted(map: &HalfMap, faces: &Faces, met: &[bool], outer: FaceId) -> u32
-    requires known { IsHalfMap map.now }
     requires faces { AreFaces map.now faces.now }
     requires room { length met.now ≡ 2 * id_bound map.now }
     ensures { result ≡ count_below (is_counted faces.now met.now outer.0) (length faces.now) }
 {
+    map.facts();
     let mut count = 0;
     for f in 0..faces.count() {
         count += is_inside(map, faces, met, outer, FaceId(f)) as u32;

@@ -82,7 +82,6 @@ pub(crate) fn list_tree<L: Ledger>(
     steps: &mut Steps<L>,
 )
     requires triangulation { IsTriangulation lists.now }
-    requires few { length lists.now < 4096 }
     requires order { (base : Dart) × IsCanonicalOrder lists.now base (vertices_of order.now) }
     requires rank { IsRankOf order.now.rank (vertices_of order.now) }
     requires nodes { length tree.old ≡ vertex_count lists.now }
@@ -92,6 +91,7 @@ pub(crate) fn list_tree<L: Ledger>(
     ensures steps { steps.new ≤ steps.old + 24 * vertex_count lists.now }
     ensures never_falls { steps.old ≤ steps.new }
 {
+    lists.facts();
     order_has_rows();
     order_drawings::order_runs::order_is_run();
     contour_runs::face_count();

@@ -68,11 +68,11 @@ impl Searched<'_> {
 /// points. It looks once at each vertex.
 pub fn is_uncut(lists: &Rotations, forest: &Forest, low: &[u16]) -> bool
     requires adjacency { IsAdjacency lists.now }
-    requires few { length lists.now < 4096 }
     requires forest { IsForestOf lists.now forest.now.order.items forest.now.number.items forest.now.last.items forest.now.parent.items }
     requires lows { AreLows lists.now forest.now.number.items forest.now.last.items low.now }
     ensures { IsTrue result → (v : ℕ) → ¬ IsCutVertex lists.now v }
 {
+    lists.facts();
     let searched = Searched {
         lists,
         number: &forest.number,
@@ -86,7 +86,6 @@ pub fn is_uncut(lists: &Rotations, forest: &Forest, low: &[u16]) -> bool
 /// the entries. It fails only when out of memory.
 pub fn cut_flags(alloc: Global, lists: &Rotations) -> Result<Vec<bool>, AllocError>
     requires adjacency { IsAdjacency lists.now }
-    requires few { length lists.now < 4096 }
     ensures { IfOk result (λ flags. AreCutFlags lists.now flags.items) }
 {
     let forest = search_forest(alloc, lists)?;

@@ -42,11 +42,11 @@ impl Searched<'_> {
 /// exactly where there is none.
 pub fn searched_cut_vertex(lists: &Rotations, forest: &Forest, low: &[u16]) -> Option<u16>
     requires adjacency { IsAdjacency lists.now }
-    requires few { length lists.now < 4096 }
     requires forest { IsForestOf lists.now forest.now.order.items forest.now.number.items forest.now.last.items forest.now.parent.items }
     requires lows { AreLows lists.now forest.now.number.items forest.now.last.items low.now }
     ensures { MatchOption result ((v : ℕ) → ¬ IsCutVertex lists.now v) (λ v. IsLeastCutVertex lists.now v) }
 {
+    lists.facts();
     let searched = Searched {
         lists,
         number: &forest.number,
@@ -60,7 +60,6 @@ pub fn searched_cut_vertex(lists: &Rotations, forest: &Forest, low: &[u16]) -> O
 /// time linear in the entries. It fails only when out of memory.
 pub fn list_cut_vertex(alloc: Global, lists: &Rotations) -> Result<Option<u16>, AllocError>
     requires adjacency { IsAdjacency lists.now }
-    requires few { length lists.now < 4096 }
     ensures { IfOk result (λ found. MatchOption found ((v : ℕ) → ¬ IsCutVertex lists.now v) (λ v. IsLeastCutVertex lists.now v)) }
 {
     let forest = search_forest(alloc, lists)?;

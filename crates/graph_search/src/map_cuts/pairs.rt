@@ -19,7 +19,6 @@ fn partner_of_other(
     u: u16,
 ) -> Result<Option<u16>, AllocError>
     requires adjacency { IsAdjacency lists.now }
-    requires few { length lists.now < 4096 }
     requires flags { AreCutFlags lists.now flags.now }
     requires vertex { u < length lists.now }
     requires other { slice_index_or flags.now u false ≡ false }
@@ -42,7 +41,6 @@ fn is_partner_of_cut(
     v: u16,
 ) -> Result<bool, AllocError>
     requires adjacency { IsAdjacency lists.now }
-    requires few { length lists.now < 4096 }
     requires flags { AreCutFlags lists.now flags.now }
     requires order { u < v }
     requires vertex { v < length lists.now }
@@ -67,7 +65,6 @@ fn partner_of_cut(
     u: u16,
 ) -> Result<Option<u16>, AllocError>
     requires adjacency { IsAdjacency lists.now }
-    requires few { length lists.now < 4096 }
     requires flags { AreCutFlags lists.now flags.now }
     requires vertex { u < length lists.now }
     requires cut { slice_index_or flags.now u false ≡ true }
@@ -89,7 +86,6 @@ fn partner(
     u: u16,
 ) -> Result<Option<u16>, AllocError>
     requires adjacency { IsAdjacency lists.now }
-    requires few { length lists.now < 4096 }
     requires flags { AreCutFlags lists.now flags.now }
     requires vertex { u < length lists.now }
     ensures { IfOk result (λ found. MatchOption found ((v : ℕ) → ¬ IsSeparatingPair lists.now u v) (λ v. IsSeparatingPair lists.now u v × ((w : ℕ) → IsSeparatingPair lists.now u w → v ≤ w))) }
@@ -108,7 +104,6 @@ fn first_pair(
     flags: &[bool],
 ) -> Result<Option<(u16, u16)>, AllocError>
     requires adjacency { IsAdjacency lists.now }
-    requires few { length lists.now < 4096 }
     requires flags { AreCutFlags lists.now flags.now }
     ensures { IfOk result (λ found. MatchOption found ((u v : ℕ) → ¬ IsSeparatingPair lists.now u v) (λ p. IsLeastPair lists.now p.0 p.1)) }
 {
@@ -129,7 +124,6 @@ pub fn list_separating_pair(
     lists: &Rotations,
 ) -> Result<Option<(u16, u16)>, AllocError>
     requires adjacency { IsAdjacency lists.now }
-    requires few { length lists.now < 4096 }
     ensures { IfOk result (λ found. MatchOption found ((u v : ℕ) → ¬ IsSeparatingPair lists.now u v) (λ p. IsLeastPair lists.now p.0 p.1)) }
 {
     let flags = cut_flags(alloc, lists)?;

@@ -4,11 +4,11 @@ ghost use Rattle.std.specs.List.{filter};
 ghost use Rattle.map_theory.specs.Maps.{list_of};
 ghost use Rattle.graph_search.specs.Without.{list_without, IsWithoutVertex};
 
-use map_lists::Rotations;
+use map_lists::{ItemLists, Rotations};
 use std::alloc::{AllocError, Global};
 
 // Appends an entry to the last list, unless it is u.
-fn append_other(rest: &mut Rotations, w: u16, u: u16) -> Result<(), AllocError>
+fn append_other(rest: &mut ItemLists<u16>, w: u16, u: u16) -> Result<(), AllocError>
     requires { 0 < length rest.old }
     ensures { IfOk result (λ _. (before : List (List ℕ)) (last : List ℕ) → rest.old ≡ before ++ last ∷ [] → rest.new ≡ before ++ (last ++ filter (λ x. not (x == u)) (w ∷ [])) ∷ []) }
 {
@@ -16,7 +16,7 @@ fn append_other(rest: &mut Rotations, w: u16, u: u16) -> Result<(), AllocError>
 }
 
 // Appends a list without the entries u.
-fn push_others(rest: &mut Rotations, list: &[u16], u: u16) -> Result<(), AllocError>
+fn push_others(rest: &mut ItemLists<u16>, list: &[u16], u: u16) -> Result<(), AllocError>
     ensures { IfOk result (λ _. rest.new ≡ rest.old ++ filter (λ x. not (x == u)) list.now ∷ []) }
 {
     rest.open()?;
@@ -27,7 +27,7 @@ fn push_others(rest: &mut Rotations, list: &[u16], u: u16) -> Result<(), AllocEr
 }
 
 // Appends the list of v as it is without u.
-fn push_without(rest: &mut Rotations, list: &[u16], v: u16, u: u16) -> Result<(), AllocError>
+fn push_without(rest: &mut ItemLists<u16>, list: &[u16], v: u16, u: u16) -> Result<(), AllocError>
     ensures { IfOk result (λ _. rest.new ≡ rest.old ++ list_without u v list.now ∷ []) }
 {
     if v == u {
@@ -43,12 +43,11 @@ pub(crate) fn lists_without(
     lists: &Rotations,
     u: u16,
 ) -> Result<Rotations, AllocError>
-    requires few { length lists.now < 4096 }
     ensures { IfOk result (λ rest. IsWithoutVertex lists.now rest u) }
 {
-    let mut rest = Rotations::new(alloc);
+    let mut rest = ItemLists::new(alloc);
     for v in 0..lists.len() {
         push_without(&mut rest, lists.list(v), v as u16, u)?;
     }
-    Ok(rest)
+    Ok(Rotations::from_lists(rest))
 }

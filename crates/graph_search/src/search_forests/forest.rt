@@ -23,7 +23,6 @@ pub struct Forest {
 /// The forest of lists in which adjacency goes both ways. It fails only when out of memory.
 pub fn search_forest(alloc: Global, lists: &Rotations) -> Result<Forest, AllocError>
     requires adjacency { IsAdjacency lists.now }
-    requires few { length lists.now < 4096 }
     ensures { IfOk result (λ f. IsForestOf lists.now f.order.items f.number.items f.last.items f.parent.items) }
 {
     let mut search = Search::begun(lists, Forest::new(alloc), Vec::new(alloc))?;
@@ -71,7 +70,6 @@ pub fn search_again(
     t: u16,
 ) -> Result<(Forest, Vec<usize>), AllocError>
     requires adjacency { IsAdjacency lists.now }
-    requires few { length lists.now < 4096 }
     requires dart { HasDart lists.now s t }
     requires two { s ≢ t }
     ensures forest { IfOk result (λ f. IsForestOf lists.now f.0.order.items f.0.number.items f.0.last.items f.0.parent.items) }
@@ -93,7 +91,6 @@ pub fn search_forest_along(
     t: u16,
 ) -> Result<Forest, AllocError>
     requires adjacency { IsAdjacency lists.now }
-    requires few { length lists.now < 4096 }
     requires dart { HasDart lists.now s t }
     requires two { s ≢ t }
     ensures forest { IfOk result (λ f. IsForestOf lists.now f.order.items f.number.items f.last.items f.parent.items) }

@@ -45,7 +45,6 @@ impl Searched<'_> {
 
 // Fills the low points, those of the greatest numbers first.
 fn fill_lows(lists: &Rotations, forest: &Forest, low: &mut [u16])
-    requires few { length lists.now < 4096 }
     requires in_range { IsAdjacency lists.now }
     requires forest { IsForestOf lists.now forest.now.order.items forest.now.number.items forest.now.last.items forest.now.parent.items }
     requires lows { length low.old ≡ length lists.now }
@@ -70,7 +69,6 @@ pub fn low_points_again(
     lists: &Rotations,
     forest: &Forest,
 ) -> Result<Vec<u16>, AllocError>
-    requires few { length lists.now < 4096 }
     requires adjacency { IsAdjacency lists.now }
     requires forest { IsForestOf lists.now forest.now.order.items forest.now.number.items forest.now.last.items forest.now.parent.items }
     ensures { IfOk result (λ low. AreLows lists.now forest.now.number.items forest.now.last.items low.items) }
@@ -82,7 +80,6 @@ pub fn low_points_again(
 
 /// The low points of a search's vertices. It fails only when out of memory.
 pub fn low_points(alloc: Global, lists: &Rotations, forest: &Forest) -> Result<Vec<u16>, AllocError>
-    requires few { length lists.now < 4096 }
     requires adjacency { IsAdjacency lists.now }
     requires forest { IsForestOf lists.now forest.now.order.items forest.now.number.items forest.now.last.items forest.now.parent.items }
     ensures { IfOk result (λ low. AreLows lists.now forest.now.number.items forest.now.last.items low.items) }

@@ -45,7 +45,6 @@ impl<'a> Search<'a> {
         forest: Forest,
         cursor: Vec<usize>,
     ) -> Result<Search<'a>, AllocError>
-        requires few { length lists.now < 4096 }
         requires in_range { (v u : ℕ) → HasDart lists.now v u → u < length lists.now }
         ensures lists { IfOk result (λ made. made.lists.now ≡ lists.now) }
         ensures count { IfOk result (λ made. made.count ≡ 0) }

@@ -189,7 +189,6 @@ pub(crate) fn ordered_record(
 /// memory. The time is linear in the entries.
 pub fn drawing_order(alloc: Global, lists: &Rotations) -> Result<DrawingOrder, Unserved>
     requires some_list { 0 < length lists.now }
-    requires few_lists { length lists.now < 4096 }
     ensures order { IfOk result (IsDrawingOrder lists.now) }
     ensures served { OnOk result (first_refusal 3 lists.now ≡ None) }
     ensures refused { IfErr result (IfRefused (λ refusal. first_refusal 3 lists.now ≡ Some refusal)) }

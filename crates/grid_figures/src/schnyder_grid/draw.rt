@@ -113,7 +113,6 @@ impl WoodDrawer {
     /// Draws as [`list_draw`] does. When memory runs out the drawer serves as before.
     pub fn list_draw(&mut self, lists: &Rotations, order: &Order) -> Result<GridFigure, AllocError>
         requires triangulation { IsTriangulation lists.now }
-        requires few { length lists.now < 4096 }
         requires order { (base : Dart) × IsCanonicalOrder lists.now base (vertices_of order.now) }
         requires rank { IsRankOf order.now.rank (vertices_of order.now) }
         ensures points { IfOk result (λ figure. (base : Dart) (canonical : IsCanonicalOrder lists.now base (vertices_of order.now))
@@ -171,7 +170,6 @@ pub fn wood_draw(alloc: Global, tri: &HalfMap, order: &Order) -> Result<GridFigu
 /// Like [`wood_draw`], but takes the lists of the map.
 pub fn list_draw(alloc: Global, lists: &Rotations, order: &Order) -> Result<GridFigure, AllocError>
     requires triangulation { IsTriangulation lists.now }
-    requires few { length lists.now < 4096 }
     requires order { (base : Dart) × IsCanonicalOrder lists.now base (vertices_of order.now) }
     requires rank { IsRankOf order.now.rank (vertices_of order.now) }
     ensures points { IfOk result (λ figure. (base : Dart) (canonical : IsCanonicalOrder lists.now base (vertices_of order.now))

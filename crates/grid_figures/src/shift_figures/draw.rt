@@ -24,7 +24,6 @@ fn order_figure(
     order: &Order,
 ) -> Result<GridFigure, AllocError>
     requires triangulation { IsTriangulation lists.now }
-    requires few { length lists.now < 4096 }
     requires order { (base : Dart) × IsCanonicalOrder lists.now base (vertices_of order.now) }
     requires rank { IsRankOf order.now.rank (vertices_of order.now) }
     ensures { IfOk result (IsDrawnBy shift_form lists.now (vertices_of order.now)) }
@@ -97,7 +96,6 @@ pub(crate) fn drawn_record(
 /// Source: de Fraysseix, Pach, Pollack, How to draw a planar graph on a grid, 1990.
 pub fn shift_figure(alloc: Global, lists: &Rotations) -> Result<GridFigure, Unserved>
     requires some_list { 0 < length lists.now }
-    requires few_lists { length lists.now < 4096 }
     ensures figure { IfOk result (IsShiftFigure lists.now) }
     ensures served { OnOk result (first_refusal 3 lists.now ≡ None) }
     ensures refused { IfErr result (IfRefused (λ refusal. first_refusal 3 lists.now ≡ Some refusal)) }

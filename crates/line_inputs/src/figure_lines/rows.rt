@@ -9,7 +9,7 @@ ghost use Rattle.line_inputs.specs.Steps.{no_lines};
 use crate::figure_lines::head::Head;
 use crate::figure_lines::held::Held;
 use figure_text::{Draft, Judged, Word, row_of};
-use map_lists::Rotations;
+use map_lists::ItemLists;
 use pg_plane::{Ints, Points};
 use std::alloc::Global;
 
@@ -33,7 +33,7 @@ impl Rows {
             head,
             n,
             draft: Draft {
-                lists: Rotations::new(alloc),
+                lists: ItemLists::new(alloc),
                 points: Points::new(alloc),
                 y: Ints::new(alloc),
                 x1: Ints::new(alloc),

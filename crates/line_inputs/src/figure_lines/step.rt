@@ -14,6 +14,7 @@ use figure_text::{
     Columns, Draft, Figure, Front, Judged, Word, columns_line, draft_rects, draft_witness,
     front_line,
 };
+use map_lists::Rotations;
 use pg_plane::{BarFigure, Ints};
 use std::alloc::{AllocError, Global};
 
@@ -71,6 +72,7 @@ fn all_drawn(alloc: Global, first: u32, rows: Rows) -> Result<After, AllocError>
     match head {
         Head::Grid(job) => {
             let Draft { lists, points, .. } = draft;
+            let lists = Rotations::from_lists(lists);
             let held = Held::new(alloc, Figure::Grid { job, lists, points })?;
             Ok(After::Whole(held))
         }
@@ -152,7 +154,7 @@ fn with_columns(bars: AllBars, column: Ints) -> Figure
         ..
     } = draft.into_inner();
     Figure::Bars {
-        lists,
+        lists: Rotations::from_lists(lists),
         bars: BarFigure { y, x1, x2, column },
     }
 }

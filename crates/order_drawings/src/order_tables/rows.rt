@@ -155,7 +155,6 @@ pub fn order_rows(alloc: Global, tri: &HalfMap, order: &Order) -> Result<Rotatio
 /// Like [`order_rows`], but takes the lists of the map.
 pub fn list_rows(alloc: Global, lists: &Rotations, order: &Order) -> Result<Rotations, AllocError>
     requires triangulation { IsTriangulation lists.now }
-    requires few { length lists.now < 4096 }
     requires order { (base : Dart) × IsCanonicalOrder lists.now base (vertices_of order.now) }
     requires rank { IsRankOf order.now.rank (vertices_of order.now) }
     ensures { IfOk result (AreRowsOf lists.now (vertices_of order.now)) }
@@ -171,11 +170,11 @@ pub fn rows_into(
     order: &Order,
 ) -> Result<Rotations, AllocError>
     requires triangulation { IsTriangulation lists.now }
-    requires few { length lists.now < 4096 }
     requires order { (base : Dart) × IsCanonicalOrder lists.now base (vertices_of order.now) }
     requires rank { IsRankOf order.now.rank (vertices_of order.now) }
     ensures { IfOk result (AreRowsOf lists.now (vertices_of order.now)) }
 {
+    lists.facts();
     order_has_rows();
     crate::order_runs::order_is_run();
     let rows = listed_rows(spent, lists, &order.at, &order.rank)?;

@@ -17,40 +17,13 @@ pub(crate) struct Gap {
     pub(crate) end: usize,
 }
 
-// Whether the vertex is above line number `k`, of some lines and those behind them.
-fn is_above_at(places: &[Point], lower: &[Line], upper: &[Line], k: usize, v: u16) -> bool
-    requires in_range { All IsInRange places.now }
-    requires vertex { v < length places.now }
-    requires lower { All (IsLine (length places.now)) lower.now }
-    requires upper { All (IsLine (length places.now)) upper.now }
-    requires within { k < length lower.now + length upper.now }
-{
-    if k < lower.len() {
-        0 < rise(places, lower[k], v)
-    } else {
-        0 < rise(places, upper[k - lower.len()], v)
-    }
-}
-
-// How many lines round a gap the vertex is above, if it is above the lower ones and no others.
-fn count_around(places: &[Point], lower: &[Line], upper: &[Line], v: u16) -> usize
-    requires in_range { All IsInRange places.now }
-    requires vertex { v < length places.now }
-    requires lower { All (IsLine (length places.now)) lower.now }
-    requires upper { All (IsLine (length places.now)) upper.now }
-    ensures { result ≤ length lower.now + length upper.now }
-{
-    let mut begin = 0;
-    let mut end = lower.len() + upper.len();
-    while begin < end {
-        let middle = begin + (end - begin) / 2;
-        if is_above_at(places, lower, upper, middle, v) {
-            begin = middle + 1;
-        } else {
-            end = middle;
-        }
-    }
-    begin
+// The points of the vertices in the order of a sweep, and the vertex that it is at, by its place there.
+#[derive(Clone, Copy)]
+pub(crate) struct AtVertex<'a> {
+    pub(crate) places: &'a [Point],
+    pub(crate) v: u16,
+    pub(crate) ghost in_range: { All IsInRange places.now },
+    pub(crate) ghost vertex: { v < length places.now },
 }
 
 // The end of the run of lines that end at the vertex, of those from `begin` on.
@@ -66,28 +39,6 @@ fn run_end(status: &[Line], begin: usize, v: u16) -> usize
         }
     }
     status.len()
-}
-
-// Whether the vertex is strictly above the last line before `begin`, if there is one.
-fn is_above(places: &[Point], status: &[Line], begin: usize, v: u16) -> bool
-    requires in_range { All IsInRange places.now }
-    requires vertex { v < length places.now }
-    requires lines { All (IsLine (length places.now)) status.now }
-    requires within { begin ≤ length status.now }
-    ensures { OnTrue result ((d : Line) → 0 < begin → pos 0 <ℤ rise (place places.now) (slice_index_or status.now (begin - 1) d) v) }
-{
-    begin == 0 || 0 < rise(places, status[begin - 1], v)
-}
-
-// Whether the vertex is strictly below the line at `end`, if there is one.
-fn is_below(places: &[Point], status: &[Line], end: usize, v: u16) -> bool
-    requires in_range { All IsInRange places.now }
-    requires vertex { v < length places.now }
-    requires lines { All (IsLine (length places.now)) status.now }
-    requires within { end ≤ length status.now }
-    ensures { OnTrue result ((d : Line) → end < length status.now → rise (place places.now) (slice_index_or status.now end d) v <ℤ pos 0) }
-{
-    end == status.len() || rise(places, status[end], v) < 0
 }
 
 // Moves the gap behind the first `place` lines; where it ends then.
@@ -120,51 +71,6 @@ fn suspect(suspects: &mut [u16], e: Line, f: Line) {
     }
 }
 
-// Whether each line from `begin` on before `end`, with the next one, ends in its order; if not, the ends of
-// two that do not are suspects.
-fn all_end_apart(
-    places: &[Point],
-    status: &[Line],
-    begin: usize,
-    end: usize,
-    suspects: &mut [u16],
-) -> bool
-    requires in_range { All IsInRange places.now }
-    requires lines { All (IsLine (length places.now)) status.now }
-    requires within { end ≤ length status.now }
-    ensures { OnTrue result ((k : ℕ) (d : Line) → begin ≤ k → k < end → k + 1 < length status.now
-        → Ends (place places.now) (slice_index_or status.now k d) (slice_index_or status.now (k + 1) d)) }
-{
-    for k in begin..end {
-        if k + 1 < status.len() && !end_apart(places, status[k], status[k + 1]) {
-            suspect(suspects, status[k], status[k + 1]);
-            return false;
-        }
-    }
-    true
-}
-
-// Whether the last of some lines and the first of those behind them end in their order; if not, their ends
-// are suspects.
-fn is_seam_apart(places: &[Point], lower: &[Line], upper: &[Line], suspects: &mut [u16]) -> bool
-    requires in_range { All IsInRange places.now }
-    requires lower { All (IsLine (length places.now)) lower.now }
-    requires upper { All (IsLine (length places.now)) upper.now }
-    ensures { OnTrue result ((d : Line) → 0 < length lower.now → 0 < length upper.now
-        → Ends (place places.now) (slice_index_or lower.now (length lower.now - 1) d) (slice_index_or upper.now 0 d)) }
-{
-    if lower.is_empty() || upper.is_empty() {
-        return true;
-    }
-    let e = lower[lower.len() - 1];
-    let f = upper[0];
-    if end_apart(places, e, f) {
-        return true;
-    }
-    suspect(suspects, e, f);
-    false
-}
-
 // Writes a vertex and the ends of the first of some lines, if there is one.
 fn suspect_first(suspects: &mut [u16], lines: &[Line], v: u16) {
     if 0 < lines.len() {
@@ -172,77 +78,159 @@ fn suspect_first(suspects: &mut [u16], lines: &[Line], v: u16) {
     }
 }
 
-// Takes the lines round a gap over the vertex at place `v`, at which the lines `fresh` begin, where the gap
-// is behind the lines that the vertex is above: the gap afterwards, or None where a test fails or there is
-// no room. Where one fails, the ends of the lines at fault are suspects.
-fn pass(
-    places: &[Point],
-    status: &mut [Line],
-    gap: Gap,
-    v: u16,
-    fresh: &[Line],
-    suspects: &mut [u16],
-) -> Option<Gap>
-    requires in_range { All IsInRange places.now }
-    requires vertex { v < length places.now }
-    requires order { gap.begin ≤ gap.end }
-    requires within { gap.end ≤ length status.old }
-    requires lines { All (IsLine (length places.now)) (around gap.begin gap.end status.old) }
-    requires fresh { All (IsLine (length places.now)) fresh.now }
-    ensures order { IfSome result (λ g. (g.begin ≤ g.end) × (g.end ≤ length status.new)) }
-    ensures passed { IfSome result (λ g. IsPassed (place places.now) v fresh.now (around gap.begin gap.end status.old) (around g.begin g.end status.new)) }
-{
-    let lines = &status[..];
-    let end = gap.end + run_end(&lines[gap.end..], 0, v);
-    let begin = gap.begin + fresh.len();
-    if end < begin {
-        return None;
+impl AtVertex<'_> {
+    // Whether the vertex is above line number `k`, of some lines and those behind them.
+    fn is_above_at(&self, lower: &[Line], upper: &[Line], k: usize) -> bool
+        requires lower { All (IsLine (length self.now.places.now)) lower.now }
+        requires upper { All (IsLine (length self.now.places.now)) upper.now }
+        requires within { k < length lower.now + length upper.now }
+    {
+        if k < lower.len() {
+            0 < rise(self.places, lower[k], self.v)
+        } else {
+            0 < rise(self.places, upper[k - lower.len()], self.v)
+        }
     }
-    if !is_above(places, &lines[..gap.begin], gap.begin, v) {
-        return None;
-    }
-    if !is_below(places, &lines[end..], 0, v) {
-        suspect_first(suspects, &lines[end..], v);
-        return None;
-    }
-    status[gap.begin..begin].copy_from_slice(fresh);
-    let lines = &status[..];
-    if !all_end_apart(
-        places,
-        &lines[..begin],
-        gap.begin.saturating_sub(1),
-        begin,
-        suspects,
-    ) {
-        return None;
-    }
-    if is_seam_apart(places, &lines[..begin], &lines[end..], suspects) {
-        Some(Gap { begin, end })
-    } else {
-        None
-    }
-}
 
-// Takes the lines round a gap over the vertex as `pass` does, wherever the gap is.
-pub(crate) fn step(
-    places: &[Point],
-    status: &mut [Line],
-    gap: Gap,
-    v: u16,
-    fresh: &[Line],
-    suspects: &mut [u16],
-) -> Option<Gap>
-    requires in_range { All IsInRange places.now }
-    requires vertex { v < length places.now }
-    requires order { gap.begin ≤ gap.end }
-    requires within { gap.end ≤ length status.old }
-    requires lines { All (IsLine (length places.now)) (around gap.begin gap.end status.old) }
-    requires fresh { All (IsLine (length places.now)) fresh.now }
-    ensures order { IfSome result (λ g. (g.begin ≤ g.end) × (g.end ≤ length status.new)) }
-    ensures passed { IfSome result (λ g. IsPassed (place places.now) v fresh.now (around gap.begin gap.end status.old) (around g.begin g.end status.new)) }
-{
-    let lines = &status[..];
-    let begin = count_around(places, &lines[..gap.begin], &lines[gap.end..], v);
-    let end = move_gap(status, gap, begin);
-    pass(places, status, Gap { begin, end }, v, fresh, suspects)
+    // How many lines round a gap the vertex is above, if it is above the lower ones and no others.
+    fn count_around(&self, lower: &[Line], upper: &[Line]) -> usize
+        requires lower { All (IsLine (length self.now.places.now)) lower.now }
+        requires upper { All (IsLine (length self.now.places.now)) upper.now }
+        ensures { result ≤ length lower.now + length upper.now }
+    {
+        let mut begin = 0;
+        let mut end = lower.len() + upper.len();
+        while begin < end {
+            let middle = begin + (end - begin) / 2;
+            if self.is_above_at(lower, upper, middle) {
+                begin = middle + 1;
+            } else {
+                end = middle;
+            }
+        }
+        begin
+    }
+
+    // Whether the vertex is strictly above the last line before `begin`, if there is one.
+    fn is_above(&self, status: &[Line], begin: usize) -> bool
+        requires lines { All (IsLine (length self.now.places.now)) status.now }
+        requires within { begin ≤ length status.now }
+        ensures { OnTrue result ((d : Line) → 0 < begin → pos 0 <ℤ rise (place self.now.places.now) (slice_index_or status.now (begin - 1) d) self.now.v) }
+    {
+        begin == 0 || 0 < rise(self.places, status[begin - 1], self.v)
+    }
+
+    // Whether the vertex is strictly below the line at `end`, if there is one.
+    fn is_below(&self, status: &[Line], end: usize) -> bool
+        requires lines { All (IsLine (length self.now.places.now)) status.now }
+        requires within { end ≤ length status.now }
+        ensures { OnTrue result ((d : Line) → end < length status.now → rise (place self.now.places.now) (slice_index_or status.now end d) self.now.v <ℤ pos 0) }
+    {
+        end == status.len() || rise(self.places, status[end], self.v) < 0
+    }
+
+    // Whether each line from `begin` on before `end`, with the next one, ends in its order; if not, the ends of
+    // two that do not are suspects.
+    fn all_end_apart(&self, status: &[Line], begin: usize, end: usize, suspects: &mut [u16]) -> bool
+        requires lines { All (IsLine (length self.now.places.now)) status.now }
+        requires within { end ≤ length status.now }
+        ensures { OnTrue result ((k : ℕ) (d : Line) → begin ≤ k → k < end → k + 1 < length status.now
+            → Ends (place self.now.places.now) (slice_index_or status.now k d) (slice_index_or status.now (k + 1) d)) }
+    {
+        for k in begin..end {
+            if k + 1 < status.len() && !end_apart(self.places, status[k], status[k + 1]) {
+                suspect(suspects, status[k], status[k + 1]);
+                return false;
+            }
+        }
+        true
+    }
+
+    // Whether the last of some lines and the first of those behind them end in their order; if not, their ends
+    // are suspects.
+    fn is_seam_apart(&self, lower: &[Line], upper: &[Line], suspects: &mut [u16]) -> bool
+        requires lower { All (IsLine (length self.now.places.now)) lower.now }
+        requires upper { All (IsLine (length self.now.places.now)) upper.now }
+        ensures { OnTrue result ((d : Line) → 0 < length lower.now → 0 < length upper.now
+            → Ends (place self.now.places.now) (slice_index_or lower.now (length lower.now - 1) d) (slice_index_or upper.now 0 d)) }
+    {
+        if lower.is_empty() || upper.is_empty() {
+            return true;
+        }
+        let e = lower[lower.len() - 1];
+        let f = upper[0];
+        if end_apart(self.places, e, f) {
+            return true;
+        }
+        suspect(suspects, e, f);
+        false
+    }
+
+    // Takes the lines round a gap over the vertex at place `v`, at which the lines `fresh` begin, where the gap
+    // is behind the lines that the vertex is above: the gap afterwards, or None where a test fails or there is
+    // no room. Where one fails, the ends of the lines at fault are suspects.
+    fn pass(
+        &self,
+        status: &mut [Line],
+        gap: Gap,
+        fresh: &[Line],
+        suspects: &mut [u16],
+    ) -> Option<Gap>
+        requires order { gap.begin ≤ gap.end }
+        requires within { gap.end ≤ length status.old }
+        requires lines { All (IsLine (length self.now.places.now)) (around gap.begin gap.end status.old) }
+        requires fresh { All (IsLine (length self.now.places.now)) fresh.now }
+        ensures order { IfSome result (λ g. (g.begin ≤ g.end) × (g.end ≤ length status.new)) }
+        ensures passed { IfSome result (λ g. IsPassed (place self.now.places.now) self.now.v fresh.now (around gap.begin gap.end status.old) (around g.begin g.end status.new)) }
+    {
+        let lines = &status[..];
+        let end = gap.end + run_end(&lines[gap.end..], 0, self.v);
+        let begin = gap.begin + fresh.len();
+        if end < begin {
+            return None;
+        }
+        if !self.is_above(&lines[..gap.begin], gap.begin) {
+            return None;
+        }
+        if !self.is_below(&lines[end..], 0) {
+            suspect_first(suspects, &lines[end..], self.v);
+            return None;
+        }
+        status[gap.begin..begin].copy_from_slice(fresh);
+        let lines = &status[..];
+        if !self.all_end_apart(
+            &lines[..begin],
+            gap.begin.saturating_sub(1),
+            begin,
+            suspects,
+        ) {
+            return None;
+        }
+        if self.is_seam_apart(&lines[..begin], &lines[end..], suspects) {
+            Some(Gap { begin, end })
+        } else {
+            None
+        }
+    }
+
+    // Takes the lines round a gap over the vertex as `pass` does, wherever the gap is.
+    pub(crate) fn step(
+        &self,
+        status: &mut [Line],
+        gap: Gap,
+        fresh: &[Line],
+        suspects: &mut [u16],
+    ) -> Option<Gap>
+        requires order { gap.begin ≤ gap.end }
+        requires within { gap.end ≤ length status.old }
+        requires lines { All (IsLine (length self.now.places.now)) (around gap.begin gap.end status.old) }
+        requires fresh { All (IsLine (length self.now.places.now)) fresh.now }
+        ensures order { IfSome result (λ g. (g.begin ≤ g.end) × (g.end ≤ length status.new)) }
+        ensures passed { IfSome result (λ g. IsPassed (place self.now.places.now) self.now.v fresh.now (around gap.begin gap.end status.old) (around g.begin g.end status.new)) }
+    {
+        let lines = &status[..];
+        let begin = self.count_around(&lines[..gap.begin], &lines[gap.end..]);
+        let end = move_gap(status, gap, begin);
+        self.pass(status, Gap { begin, end }, fresh, suspects)
+    }
 }

@@ -59,13 +59,13 @@ pub(crate) fn framed(
     lists: &Rotations,
     frame: Frame,
 ) -> Result<RectFigure, AllocError>
-    requires few { length lists.now < 4096 }
     requires class { IsRectMap lists.now frame.left.0 frame.top.0 frame.right.0 frame.bottom.0 }
     requires inner { frame.inner.0 ≡ follows lists.now frame.bottom.0 frame.left.0 }
     ensures rects { IfOk result (HasRects lists.now) }
     ensures dual { IfOk result (IsDualFor lists.now frame.left.0 frame.top.0 frame.right.0 frame.bottom.0) }
     ensures labelling { IfOk result (IsByLabelling lists.now frame.left.0 frame.top.0 frame.right.0 frame.bottom.0) }
 {
+    lists.facts();
     rect_orders::rect_order_is_run();
     order_drawings::order_runs::order_is_run();
     rect_runs::rect_boxes::boxes_are_dual();

@@ -61,7 +61,6 @@ fn lower_sides(
     ceiling: u32,
 ) -> Result<Sides, AllocError>
     requires run { (steps : ℕ → Step) × AreRows steps rows.now × AreTurns steps (length rows.now) turns.now.place.items turns.now.run.items }
-    requires few { length rows.now < 4096 }
     requires xs { length numbers.now.x.items ≡ length rows.now + 2 }
     requires ys { length numbers.now.y.items ≡ length rows.now + 2 }
     ensures right { IfOk result (λ sides. length sides.right.items ≡ length rows.now + 2) }
@@ -114,7 +113,6 @@ fn with_last(
 // The boxes of a run with these rows, and the one over all of them.
 pub(crate) fn box_tables(alloc: Global, rows: &Rotations) -> Result<BoxTables, AllocError>
     requires run { (steps : ℕ → Step) × AreRows steps rows.now }
-    requires few { length rows.now < 4096 }
     ensures left { IfOk result (λ tables. length tables.left.items ≡ length rows.now + 3) }
     ensures right { IfOk result (λ tables. length tables.right.items ≡ length rows.now + 3) }
     ensures low { IfOk result (λ tables. length tables.low.items ≡ length rows.now + 3) }
@@ -122,10 +120,11 @@ pub(crate) fn box_tables(alloc: Global, rows: &Rotations) -> Result<BoxTables, A
     ensures boxes { IfOk result (λ tables. (steps : ℕ → Step) → AreRows steps rows.now → IsLabelledRun steps (length rows.now)
         → AreBoxTables (boxes steps (length rows.now)) (length rows.now + 3) tables.left.items tables.right.items tables.low.items tables.high.items) }
 {
+    let count = rows.len();
     let turns = row_turns(alloc, rows)?;
     let numbers = row_numbers(alloc, rows, &turns)?;
     let runs = run_count(&turns.run);
-    let width = rows.len() as u32 + 1 - runs;
+    let width = count as u32 + 1 - runs;
     let sides = lower_sides(alloc, rows, &turns, &numbers, width, runs + 2)?;
     let tables = with_last(numbers, sides, width, runs + 2)?;
     Ok(tables)

@@ -52,7 +52,6 @@ fn map_rects(alloc: Global, map: &HalfMap, lists: &Rotations) -> Result<RectFigu
 /// problems, 1997.
 pub fn rect_figure(alloc: Global, lists: &Rotations) -> Result<RectFigure, Unserved>
     requires some_list { 0 < length lists.now }
-    requires few_lists { length lists.now < 4096 }
     ensures figure { IfOk result (IsRectFigure lists.now) }
     ensures served { OnOk result (IsRectMap lists.now) }
     ensures refused { IfErr result (IfRefused (BreaksRect lists.now)) }

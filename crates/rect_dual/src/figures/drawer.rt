@@ -18,7 +18,6 @@ use std::alloc::{AllocError, Global};
 
 // The rectangles of a map of the class with this outer face.
 fn drawn(alloc: Global, lists: &Rotations, four: OuterFour) -> Result<RectFigure, AllocError>
-    requires few { length lists.now < 4096 }
     requires class { IsRectMap lists.now }
     requires frame { IsFrame lists.now four.top.0 four.right.0 four.bottom.0 }
     ensures { IfOk result (IsRectFigure lists.now) }
@@ -56,7 +55,6 @@ impl RectDrawer {
     /// The figure of a record, as `rect_figure` has it. After `NoMemory` the drawer serves as before.
     pub fn figure(&mut self, lists: &Rotations) -> Result<RectFigure, Unserved>
         requires some_list { 0 < length lists.now }
-        requires few_lists { length lists.now < 4096 }
         ensures figure { IfOk result (IsRectFigure lists.now) }
         ensures served { OnOk result (IsRectMap lists.now) }
         ensures refused { IfErr result (IfRefused (BreaksRect lists.now)) }

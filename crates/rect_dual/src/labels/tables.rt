@@ -41,7 +41,6 @@ fn put_left(left: &mut [u32], row: &[u16], turn: usize, v: u32)
 // Both tables. At first there are zeros.
 fn fill_tables(first: &mut [u32], left: &mut [u32], rows: &Rotations, places: &[usize])
     requires run { (steps : ℕ → Step) × AreRows steps rows.now × AreTurnPlaces steps (length rows.now) places.now }
-    requires few { length rows.now < 4096 }
     requires places { length places.now ≡ length rows.now }
     requires first { length first.old ≡ length rows.now + 3 }
     requires left { length left.old ≡ length rows.now + 3 }
@@ -63,7 +62,6 @@ pub(crate) fn run_tables(
     turns: &RowTurns,
 ) -> Result<RunTables, AllocError>
     requires run { (steps : ℕ → Step) × AreRows steps rows.now × AreTurns steps (length rows.now) turns.now.place.items turns.now.run.items }
-    requires few { length rows.now < 4096 }
     ensures first { IfOk result (λ tables. length tables.first.items ≡ length rows.now + 3) }
     ensures left { IfOk result (λ tables. length tables.left.items ≡ length rows.now + 3) }
     ensures firsts { IfOk result (λ tables. AreFirsts rows.now (length rows.now) tables.first.items) }

@@ -23,7 +23,6 @@ pub(crate) fn take_off(
     v: u16,
 ) -> Result<(), AllocError>
     requires simple { IsSimpleMap lists.now }
-    requires few { length lists.now < 4096 }
     requires vertex { v < length lists.now }
     requires near { IsTally lists.now marked.old near.old }
     requires away { IsTally lists.now gone.old away.old }

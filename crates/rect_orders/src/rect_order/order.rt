@@ -145,12 +145,12 @@ impl Closed<'_> {
 ///
 /// Source: Kant, He, Regular edge labeling of 4-connected plane graphs, 1997.
 pub fn rect_order(alloc: Global, more: &Rotations, frame: Frame) -> Result<Order, AllocError>
-    requires few { length more.now < 4096 }
     requires class { (map : Lists) × IsClosedOf more.now map frame.left.0 frame.top.0 frame.right.0 frame.bottom.0 frame.inner.0 }
     ensures order { IfOk result (λ order. (map : Lists) → IsClosedOf more.now map frame.left.0 frame.top.0 frame.right.0 frame.bottom.0 frame.inner.0
         → IsRectOrder map frame.left.0 frame.top.0 frame.right.0 frame.bottom.0 (vertices_of order)) }
     ensures rank { IfOk result (λ order. IsRankOf order.rank (vertices_of order)) }
 {
+    more.facts();
     let closed = Closed { lists: more, frame };
     let taken = closed.taken_off(alloc)?;
     let order = turned_order(alloc, &taken)?;

@@ -37,7 +37,6 @@ fn map_bars(
 ) -> Result<BarFigure, AllocError>
     requires lists { map.now.lists ≡ lists.now }
     requires biconnected { IsBiconnectedMap 3 lists.now }
-    requires few { length lists.now < 4096 }
     requires search { IsSearchOf lists.now forest.now.order.items forest.now.number.items forest.now.last.items forest.now.parent.items low.now }
     ensures { IfOk result (IsBarFigure lists.now) }
 {
@@ -61,7 +60,6 @@ fn map_bars(
 /// Source: Tamassia, Tollis, A unified approach to visibility representations of planar graphs, 1986.
 pub fn bar_figure(alloc: Global, lists: &Rotations) -> Result<BarFigure, Unserved>
     requires some_list { 0 < length lists.now }
-    requires few_lists { length lists.now < 4096 }
     ensures figure { IfOk result (IsBarFigure lists.now) }
     ensures served { OnOk result (IsBiconnectedMap 3 lists.now) }
     ensures refused { IfErr result (IfRefused (BreaksFirst 3 lists.now)) }

@@ -64,7 +64,6 @@ fn sees_all(forest: &Forest) -> bool
 // Searches a map from vertex 0 and sees `t` next, in the memory of other tables.
 fn searched(tables: SearchTables, lists: &Rotations, t: u16) -> Result<SearchTables, AllocError>
     requires simple { IsSimpleMap lists.now }
-    requires few { length lists.now < 4096 }
     requires dart { HasDart lists.now 0 t }
     ensures { IfOk result (λ made. IsSearchFrom lists.now t made.forest.order.items made.forest.number.items made.forest.last.items made.forest.parent.items made.low.items) }
 {
@@ -85,13 +84,13 @@ fn faces_of(
     rank: &[u16],
 ) -> Result<FaceTables, AllocError>
     requires simple { IsSimpleMap lists.now }
-    requires few { length lists.now < 4096 }
     requires twins { AreTwins (darts lists.now) twins.now (length (darts lists.now)) }
     requires ranks { length rank.now ≡ length lists.now }
     ensures numbers { IfOk result (λ made. AreFaceNumbers lists.now made.of.items (length made.arcs)) }
     ensures arcs { IfOk result (λ made. AreFaceArcs lists.now rank.now made.of.items (length made.arcs) made.arcs) }
     ensures few { IfOk result (λ made. length made.arcs < 2 ^ 32) }
 {
+    lists.facts();
     let faces = number_faces(tables, lists.entries(), lists.ends(), twins, rank)?;
     Ok(faces)
 }
@@ -148,7 +147,6 @@ impl DualTables {
         search: &SearchTables,
     ) -> Result<Found, AllocError>
         requires simple { IsSimpleMap lists.now }
-        requires few { length lists.now < 4096 }
         requires many { 3 ≤ length lists.now }
         requires first { slice_index (list_of lists.now 0) 0 ≡ t }
         requires dart { HasDart lists.now 0 t }
@@ -196,7 +194,6 @@ impl DualTables {
         search: &SearchTables,
     ) -> Result<Found, AllocError>
         requires simple { IsSimpleMap lists.now }
-        requires few { length lists.now < 4096 }
         requires many { 3 ≤ length lists.now }
         requires connected { component_count lists.now ≡ 1 }
         requires twins { AreTwins (darts lists.now) twins.now (length (darts lists.now)) }
@@ -227,7 +224,6 @@ impl DualTables {
         search: &SearchTables,
     ) -> Result<Found, AllocError>
         requires simple { IsSimpleMap lists.now }
-        requires few { length lists.now < 4096 }
         requires many { 3 ≤ length lists.now }
         requires first { slice_index (list_of lists.now 0) 0 ≡ t }
         requires dart { HasDart lists.now 0 t }
@@ -261,7 +257,6 @@ impl Tables {
     // Finds the answer to a map by the twins of its darts, where it is connected and has genus zero.
     fn find(&mut self, alloc: Global, lists: &Rotations, twins: &[u32]) -> Result<Found, AllocError>
         requires simple { IsSimpleMap lists.now }
-        requires few { length lists.now < 4096 }
         requires twins { AreTwins (darts lists.now) twins.now (length (darts lists.now)) }
         ensures { IfOk result (IsFound lists.now) }
     {
@@ -319,7 +314,6 @@ impl BarDrawer {
     // The first condition that a record breaks, if it breaks one.
     fn refuse(&mut self, lists: &Rotations) -> Result<(), Unserved>
         requires some_list { 0 < length lists.now }
-        requires few_lists { length lists.now < 4096 }
         ensures refused { IfErr result (IfRefused (BreaksFirst 3 lists.now)) }
     {
         let count = plane_count(&mut self.counter, lists, 3)?;
@@ -335,7 +329,6 @@ impl BarDrawer {
     // The figure of a record by the exact search for the first condition that it breaks.
     fn exact_figure(&mut self, lists: &Rotations) -> Result<BarFigure, Unserved>
         requires some_list { 0 < length lists.now }
-        requires few_lists { length lists.now < 4096 }
         ensures figure { IfOk result (IsBarFigure lists.now) }
         ensures served { OnOk result (IsBiconnectedMap 3 lists.now) }
         ensures refused { IfErr result (IfRefused (BreaksFirst 3 lists.now)) }
@@ -347,7 +340,6 @@ impl BarDrawer {
     /// The figure of a record, as `bar_figure` has it. After `NoMemory` the drawer serves as before.
     pub fn figure(&mut self, lists: &Rotations) -> Result<BarFigure, Unserved>
         requires some_list { 0 < length lists.now }
-        requires few_lists { length lists.now < 4096 }
         ensures figure { IfOk result (IsBarFigure lists.now) }
         ensures served { OnOk result (IsBiconnectedMap 3 lists.now) }
         ensures refused { IfErr result (IfRefused (BreaksFirst 3 lists.now)) }

@@ -11,7 +11,7 @@ raise-requires-clause-within c =
 pub raise-requires-clause-room : goal.raise-requires-clause-room
 raise-requires-clause-room c =
     subst (λ (us : List ℕ). (w : ℕ) → get_or c.args.counts.now w 0 + count_of w us < 65536) (sym c.list.ensures)
-    (room c.args.lists.now c.requires.simple c.args.marks.now c.args.counts.now c.args.v c.requires.vertex c.requires.tally c.requires.few)
+    (room c.args.lists.now c.requires.simple c.args.marks.now c.args.counts.now c.args.v c.requires.vertex c.requires.tally c.facts.ensures)
 
 pub returns-clause-tally : goal.returns-clause-tally
 returns-clause-tally c =

@@ -19,7 +19,7 @@ raise_noting-requires-clause-marks c =
 pub raise_noting-requires-clause-room : goal.raise_noting-requires-clause-room
 raise_noting-requires-clause-room c =
     subst (λ (us : List ℕ). (w : ℕ) → get_or c.args.near.now w 0 + count_of w us < 65536) (sym c.list.ensures)
-    (room c.args.lists.now c.requires.simple c.args.marked.now c.args.near.now c.args.v c.requires.vertex c.requires.tally c.requires.few)
+    (room c.args.lists.now c.requires.simple c.args.marked.now c.args.near.now c.args.v c.requires.vertex c.requires.tally c.facts.ensures)
 
 pub returns-clause-noted : goal.returns-clause-noted
 returns-clause-noted c =

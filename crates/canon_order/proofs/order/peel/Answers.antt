@@ -34,7 +34,7 @@ loop-preserved c =
     let items = c.in_ok-push.ensures.items in
     let len = length-reverse us in
     let contour = IsContour-taken lists c.args.base.now.t c.args.base.now.s c.facts.ensures.triangulation c.loop.gone c.loop.marked (reverse us) h.contour c.loop.near h.prepared.tally v c.removable_vertex-v.ensures.removable
-    (omega (arith, c.len-end.ensures, c.loop-test.true, h.place)) h.gone_count c.take_off.new.marked c.take_off.new.gone taken in
+    (omega (arith, c.len-end.ensures.is, c.loop-test.true, h.place)) h.gone_count c.take_off.new.marked c.take_off.new.gone taken in
     record {
       gone_count = ap length taken.gone_is ∙ (length-set c.loop.gone v true ∙ h.gone_count);
       prepared = IsPrepared-noted lists c.args.base.now.t c.args.base.now.s c.loop.marked c.loop.near c.removable_vertex-v.new.stack.items c.take_off.new.marked c.take_off.new.near c.take_off.new.stack.items c.in_ok-take_off.ensures.noted c.removable_vertex-v.ensures.prepared;
@@ -49,6 +49,6 @@ returns c =
     let us = c.loop.taken.items in
     let len = length-reverse us in
     let some = c.facts.ensures.triangulation.some in
-    let done = IsContour-three lists c.args.base.now.t c.args.base.now.s c.facts.ensures.triangulation c.loop.gone c.loop.marked (reverse us) h.contour (omega (arith, c.len-end.ensures, c.loop-test.false, c.loop.auto.counter-end, h.place)) in
+    let done = IsContour-three lists c.args.base.now.t c.args.base.now.s c.facts.ensures.triangulation c.loop.gone c.loop.marked (reverse us) h.contour (omega (arith, c.len-end.ensures.is, c.loop-test.false, c.loop.auto.counter-end, h.place)) in
     IfOk-weaker c.push_three.result _ (λ _. IsCanonicalOrder lists (c.args.base.now.t, c.args.base.now.s) (reverse c.push_three.new.taken.items))
     (λ _ e. subst (λ (r : List ℕ). IsCanonicalOrder lists (c.args.base.now.t, c.args.base.now.s) r) (sym (ap reverse e ∙ (reverse-append us (c.args.base.now.under ∷ c.args.base.now.t ∷ c.args.base.now.s ∷ []) ∙ ap (λ x. c.args.base.now.s ∷ c.args.base.now.t ∷ x ∷ reverse us) c.args.base.now.right))) done) c.push_three.ensures

@@ -51,5 +51,5 @@ returns-clause-numbers c =
     let map = c.args.map.now in
     let h = c.loop-v.invariant in
     let n : c.loop-v.v ≡ length map.lists = omega (arith, c.loop-v-test.false, c.loop-v.auto.v-end, c.n-v-end.ensures.count) in
-    tables map c.requires.known c.args.faces.now c.requires.faces (cut 0 c.loop-v.own_ends.items c.loop-v.own.items) (cut 0 c.loop-v.other_ends.items c.loop-v.other.items) (h.own_count ∙ n) (h.other_count ∙ n)
+    tables map c.facts.ensures c.args.faces.now c.requires.faces (cut 0 c.loop-v.own_ends.items c.loop-v.own.items) (cut 0 c.loop-v.other_ends.items c.loop-v.other.items) (h.own_count ∙ n) (h.other_count ∙ n)
     (λ u l. h.own_sizes u (omega arith)) (λ u l. h.other_sizes u (omega arith)) (λ u l. h.own_each u (omega arith)) (λ u l. h.other_each u (omega arith))

@@ -18,7 +18,7 @@ pub write_line-start-requires : goal.write_line-start-requires
 write_line-start-requires g c =
     let more = room_back c.args.lists.now c.loop-k.k (omega arith) in
     let fronts = fronts_back g.R.Numbered.longest (length c.args.lists.now) c.loop-k.k (omega arith) in
-    let is = ap length (c.list.ensures ∙ ap (λ n. get_or c.args.lists.now (n - 1 - c.loop-k.k) []) c.len.ensures) in
+    let is = ap length (c.list.ensures ∙ ap (λ n. get_or c.args.lists.now (n - 1 - c.loop-k.k) []) c.len.ensures.is) in
     let room = c.loop-k.invariant.room in
     record {
       max = omega arith;
@@ -32,13 +32,13 @@ loop-k-preserved g c =
     let w = c.write_line-start in
     let more = room_back c.args.lists.now c.loop-k.k (omega arith) in
     let fronts = fronts_back g.R.Numbered.longest (length c.args.lists.now) c.loop-k.k (omega arith) in
-    let is = ap length (c.list.ensures ∙ ap (λ n. get_or c.args.lists.now (n - 1 - c.loop-k.k) []) c.len.ensures) in
+    let is = ap length (c.list.ensures ∙ ap (λ n. get_or c.args.lists.now (n - 1 - c.loop-k.k) []) c.len.ensures.is) in
     let room = c.loop-k.invariant.room in
     record {
       long = omega arith;
       within = omega arith;
       room = omega (arith, more, fronts, is, room);
-      written = lines_back g.R.Numbered.pieces (g.R.Numbered.numbers c.args.figure.now) c.args.lists.now c.loop-k.k (drop w.result w.new.bytes) (drop c.loop-k.start c.loop-k.bytes) _ (omega arith) (rw (w.ensures.written, c.list.ensures, c.len.ensures) refl) c.loop-k.invariant.written;
+      written = lines_back g.R.Numbered.pieces (g.R.Numbered.numbers c.args.figure.now) c.args.lists.now c.loop-k.k (drop w.result w.new.bytes) (drop c.loop-k.start c.loop-k.bytes) _ (omega arith) (rw (w.ensures.written, c.list.ensures, c.len.ensures.is) refl) c.loop-k.invariant.written;
     }
 
 pub returns-clause-written : goal.returns-clause-written

@@ -8,20 +8,20 @@ use Rattle.half_edges.proofs.arena.link_darts.Goals as goal
 
 pub close_rounds-requires-clause-cuts : goal.close_rounds-requires-clause-cuts
 close_rounds-requires-clause-cuts c =
-    rw (c.ends.ensures, c.deref_mut.ensures.value) (cuts_old c.args.lists.now c.requires.few_lists c.args.darts.now.items c.requires.slots)
+    rw (c.ends.ensures, c.deref_mut.ensures.value) (cuts_old c.args.lists.now c.facts.ensures c.args.darts.now.items c.requires.slots)
 
 pub close_rounds-requires-clause-few : goal.close_rounds-requires-clause-few
 close_rounds-requires-clause-few c =
-    rw (c.deref_mut.ensures.value) (few_old c.args.lists.now c.requires.few_lists c.args.darts.now.items c.requires.slots)
+    rw (c.deref_mut.ensures.value) (few_old c.args.lists.now c.facts.ensures c.args.darts.now.items c.requires.slots)
 
 pub close_rounds-requires-clause-few_vertices : goal.close_rounds-requires-clause-few_vertices
 close_rounds-requires-clause-few_vertices c =
-    let few = c.requires.few_lists in
+    let few = c.facts.ensures in
     rw (c.ends.ensures, count_ends c.args.lists.now few c.args.darts.now.items c.requires.slots) few
 
 pub close_rounds-requires-clause-short : goal.close_rounds-requires-clause-short
 close_rounds-requires-clause-short c =
-    rw (c.ends.ensures) (short_lists c.args.lists.now c.requires.few_lists c.args.darts.now.items c.requires.slots)
+    rw (c.ends.ensures) (short_lists c.args.lists.now c.facts.ensures c.args.darts.now.items c.requires.slots)
 
 pub close_rounds-requires-clause-line : goal.close_rounds-requires-clause-line
 close_rounds-requires-clause-line c =
@@ -36,4 +36,4 @@ returns c =
     let vertices : AreRoundVertices (ends_from 0 c.args.lists.now) c.close_rounds.new.vertices.items (length (ends_from 0 c.args.lists.now)) =
     subst (λ es. AreRoundVertices es c.close_rounds.new.vertices.items (length es)) c.ends.ensures c.in_ok-close_rounds.ensures.vertices in
     rw (take_at new (drop (length new) c.args.darts.now.items) c.args.darts.now.len long)
-    (AreLinked-rounds c.args.lists.now c.requires.few_lists c.args.darts.now.items c.requires.slots new c.close_rounds.new.vertices.items rounds vertices)
+    (AreLinked-rounds c.args.lists.now c.facts.ensures c.args.darts.now.items c.requires.slots new c.close_rounds.new.vertices.items rounds vertices)

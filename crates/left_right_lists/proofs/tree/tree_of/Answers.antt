@@ -7,14 +7,8 @@ use Rattle.left_right_lists.proofs.Tabled.{tabled_slices}
 use Rattle.left_right_lists.proofs.Grown.{of_lists}
 use Rattle.left_right_lists.proofs.tree.tree_of.Goals as goal
 
-pub search_forest-requires-clause-adjacency : goal.search_forest-requires-clause-adjacency
-search_forest-requires-clause-adjacency c = rw c.in_ok-lists.ensures (IsAdjacency-simple (graph_lists c.args.graph.now) (IsSimpleMap-graph_lists c.args.graph.now c.n-n.ensures.known c.requires))
-
-pub search_forest-requires-clause-few : goal.search_forest-requires-clause-few
-search_forest-requires-clause-few c = omega (arith, ap length c.in_ok-lists.ensures, length-graph_lists c.args.graph.now c.n-n.ensures.known, c.n-n.ensures.known.few)
-
-pub depths_of-requires-clause-few : goal.depths_of-requires-clause-few
-depths_of-requires-clause-few c = omega (arith, ap length c.in_ok-lists.ensures, length-graph_lists c.args.graph.now c.n-n.ensures.known, c.n-n.ensures.known.few)
+pub search_forest-requires : goal.search_forest-requires
+search_forest-requires c = record { adjacency = rw c.in_ok-lists.ensures (IsAdjacency-simple (graph_lists c.args.graph.now) (IsSimpleMap-graph_lists c.args.graph.now c.n-n.ensures.known c.requires)) }
 
 pub grown_depths-requires : goal.grown_depths-requires
 grown_depths-requires c = λ v.

@@ -9,14 +9,8 @@ use Rattle.map_gen.proofs.Start as start
 use Rattle.map_gen.proofs.Making.{IsMade-begin, IsMade-more, some_face, vertex_in, vertex_alone, face_darts, is_face, f}
 use Rattle.map_gen.proofs.stack.stacked.Goals as goal
 
-pub from_simple-requires-clause-simple : goal.from_simple-requires-clause-simple
-from_simple-requires-clause-simple c = subst IsSimpleMap (sym (c.in_ok-start.ensures 0)) (start.simple (c.args.n - 3))
-
-pub from_simple-requires-clause-few : goal.from_simple-requires-clause-few
-from_simple-requires-clause-few c =
-    let e = ap length (c.in_ok-start.ensures 0) in
-    let n = start.length-triangle (c.args.n - 3) in
-    omega arith
+pub from_simple-requires : goal.from_simple-requires
+from_simple-requires c = record { simple = subst IsSimpleMap (sym (c.in_ok-start.ensures 0)) (start.simple (c.args.n - 3)) }
 
 pub inner_face-requires : goal.inner_face-requires
 inner_face-requires c =

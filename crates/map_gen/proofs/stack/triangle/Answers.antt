@@ -1,6 +1,7 @@
-use Rattle.std.proofs.Common.{◌≡◌, ℕ, ◌+◌, ◌-◌, ap, ◌∙◌, arith, [], ◌∷◌, ◌++◌}
+use Rattle.std.proofs.Common.{◌≡◌, ℕ, List, length, ◌+◌, ◌-◌, ap, ◌∙◌, arith, [], ◌∷◌, ◌++◌}
 use Rattle.std.specs.Prelude.{replicate}
 use Rattle.std.proofs.lemmas.List.{replicate_more}
+use Rattle.std.proofs.Math.ListN.{length-replicate}
 use Rattle.map_lists.specs.Lists.{Lists}
 use Rattle.map_gen.proofs.stack.triangle.Goals as goal
 
@@ -28,5 +29,9 @@ loop-preserved c =
       lists = c.in_ok-open.ensures.ok ∙ (ap (λ (ls : Lists). ls ++ [] ∷ []) h.lists ∙ one_more (c.loop.counter - 3) (c.loop.counter + 1 - 3) (omega arith));
     }
 
+pub from_lists-requires : goal.from_lists-requires
+from_lists-requires c =
+    omega (arith, c.requires.few, ap length c.loop.invariant.lists, length-replicate {A = List ℕ} (c.loop.counter - 3) [])
+
 pub returns : goal.returns
-returns c = λ number. c.loop.invariant.lists ∙ ap triangle_with (omega arith)
+returns c = λ number. c.from_lists.ensures ∙ c.loop.invariant.lists ∙ ap triangle_with (omega arith)

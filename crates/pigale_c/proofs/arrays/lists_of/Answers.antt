@@ -15,10 +15,3 @@ returns-clause-some_list c =
     let given : IsGivenMap c.args.ends.now c.args.neighbours.now = search rules in
     let count : length c.from_parts-lists.result ≡ length c.args.ends.now = ap length is ∙ length-lists_in c.args.ends.now c.args.neighbours.now in
     omega arith
-
-pub returns-clause-few_lists : goal.returns-clause-few_lists
-returns-clause-few_lists c =
-    let is : c.from_parts-lists.result ≡ lists_in c.args.ends.now c.args.neighbours.now = search rules in
-    let given : IsGivenMap c.args.ends.now c.args.neighbours.now = search rules in
-    let count : length c.from_parts-lists.result ≡ length c.args.ends.now = ap length is ∙ length-lists_in c.args.ends.now c.args.neighbours.now in
-    omega arith

@@ -8,12 +8,6 @@ block-requires-clause-some_list c =
     let is = ap (length {A = _}) c.in_ok-lists.ensures in
     omega (arith, c.requires.some)
 
-pub block-requires-clause-few_lists : goal.block-requires-clause-few_lists
-block-requires-clause-few_lists c =
-    let count = (c.stacked_is_triangulation.ensures c.args.size c.args.number c.requires.some).1 in
-    let is = ap (length {A = _}) c.in_ok-lists.ensures in
-    omega (arith, c.requires.few)
-
 pub block-requires-clause-served : goal.block-requires-clause-served
 block-requires-clause-served c =
     let made = c.stacked_is_triangulation.ensures c.args.size c.args.number c.requires.some in

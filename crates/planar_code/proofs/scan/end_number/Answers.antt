@@ -5,8 +5,8 @@ use Rattle.planar_code.specs.declared.scan.Scanned.TheVariants.{More}
 use Rattle.planar_code.proofs.AdvanceLemmas.{half-gathers, half-more, half-ends, Advances-same}
 use Rattle.planar_code.proofs.scan.end_number.Goals as goal
 
-pub lend_whole-requires : goal.lend_whole-requires
-lend_whole-requires c =
+pub lend_whole-requires-clause-whole : goal.lend_whole-requires-clause-whole
+lend_whole-requires-clause-whole c =
     let low = get_or c.args.piece.now 0 0 in
     let n = c.number_of.result in
     let old = c.args.gathered.now in

@@ -8,9 +8,9 @@ use Rattle.planar_code.proofs.write.write_whole.Goals as goal
 pub returns-clause-ok : goal.returns-clause-ok
 returns-clause-ok c =
     let wide = nat_lt 255 c.len-wide.result in
-    let second = rw c.len.ensures at c.in_ok-write_number.ensures.ok in
+    let second = rw c.len.ensures.is at c.in_ok-write_number.ensures.ok in
     written-on_ok c.write_lists.result wide c.args.lists.now c.args.out.now.items c.write_first.new.out.items c.write_number.new.out.items c.write_lists.new.out.items
-    (sym (ap (λ (n : ℕ). nat_lt 255 n) c.len-wide.ensures)) c.in_ok-write_first.ensures.ok second c.write_lists.ensures.ok
+    (sym (ap (λ (n : ℕ). nat_lt 255 n) c.len-wide.ensures.is)) c.in_ok-write_first.ensures.ok second c.write_lists.ensures.ok
 
 pub returns-clause-err : goal.returns-clause-err
 returns-clause-err c =

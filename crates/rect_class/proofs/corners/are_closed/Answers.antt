@@ -10,7 +10,7 @@ pub stamp_all-requires : goal.stamp_all-requires
 stamp_all-requires c = λ j d l.
     let w = get_or c.list.result.now j d in
     let v = c.loop-v.v in
-    let below = c.requires.simple.in_range v w (omega (arith, c.loop-v-test.true, c.len-v-end.ensures), subst (λ (us : List ℕ). Contains us w) (c.list.ensures ∙ ap (list_of c.args.lists.now) c.from.ensures) (Contains-get_or {X = ℕ} c.list.result.now j d l)) in
+    let below = c.requires.simple.in_range v w (omega (arith, c.loop-v-test.true, c.len-v-end.ensures.is), subst (λ (us : List ℕ). Contains us w) (c.list.ensures ∙ ap (list_of c.args.lists.now) c.from.ensures) (Contains-get_or {X = ℕ} c.list.result.now j d l)) in
     omega (arith, below, c.loop-v.invariant.0)
 
 pub loop-v-preserved : goal.loop-v-preserved
@@ -28,4 +28,4 @@ loop-v-preserved c =
     )
 
 pub returns : goal.returns
-returns c = AreClosed-before c.args.lists.now c.in_ok-degrees.degrees.items c.requires.simple (λ x l. c.loop-v.invariant.1 x (omega (arith, l, c.loop-v-test.false, c.len-v-end.ensures)))
+returns c = AreClosed-before c.args.lists.now c.in_ok-degrees.degrees.items c.requires.simple (λ x l. c.loop-v.invariant.1 x (omega (arith, l, c.loop-v-test.false, c.len-v-end.ensures.is)))

@@ -1,30 +1,13 @@
-use Rattle.std.proofs.Common.{length, sym, ap, subst, arith}
+use Rattle.std.proofs.Common.{sym, subst}
 use Rattle.map_lists.specs.Lists.{Lists}
 use Rattle.plane_laws.specs.Triangulations.{IsTriangulation}
 use Rattle.canon_order.specs.Orders.{vertices_of}
 use Rattle.rect_orders.specs.Maps.{closed}
-use Rattle.rect_orders.proofs.Closed.{length-closed}
 use Rattle.rect_dual.specs.RectDrawTables.{AreLowerRowsOf}
 use Rattle.rect_dual.proofs.orders.framed_order.Goals as goal
 
-pub rect_order-requires-clause-few : goal.rect_order-requires-clause-few
-rect_order-requires-clause-few c =
-    let f = c.args.frame in
-    let few = c.requires.few in
-    let n = length-closed c.args.lists.now f.left.0 f.top.0 f.right.0 f.bottom.0 c.requires.class in
-    let same = ap length c.in_ok-more.ensures in
-    omega arith
-
-pub rect_order-requires-clause-class : goal.rect_order-requires-clause-class
-rect_order-requires-clause-class c = (c.args.lists.now, record { class = c.requires.class; closed_is = c.in_ok-more.ensures; inner_is = c.requires.inner })
-
-pub lower_rows-requires-clause-few : goal.lower_rows-requires-clause-few
-lower_rows-requires-clause-few c =
-    let f = c.args.frame in
-    let few = c.requires.few in
-    let n = length-closed c.args.lists.now f.left.0 f.top.0 f.right.0 f.bottom.0 c.requires.class in
-    let same = ap length c.in_ok-more.ensures in
-    omega arith
+pub rect_order-requires : goal.rect_order-requires
+rect_order-requires c = record { class = (c.args.lists.now, record { class = c.requires.class; closed_is = c.in_ok-more.ensures; inner_is = c.requires.inner }) }
 
 pub lower_rows-requires-clause-triangulation : goal.lower_rows-requires-clause-triangulation
 lower_rows-requires-clause-triangulation c =

@@ -7,4 +7,4 @@ pub returns : goal.returns
 returns c =
     let n = c.in_ok-rows.ensures.count in
     let many = c.requires.many in
-    AreLowerRowsOf-taken c.args.more.now (vertices_of c.args.order.now) c.in_ok-rows.rows c.truncate.new.self (length c.in_ok-rows.rows - 1) c.in_ok-rows.ensures many refl (c.truncate.ensures ∙ ap (λ k. take k c.in_ok-rows.rows) (ap (λ k. k - 1) c.len-lower.ensures))
+    AreLowerRowsOf-taken c.args.more.now (vertices_of c.args.order.now) c.in_ok-rows.rows c.truncate.new.self (length c.in_ok-rows.rows - 1) c.in_ok-rows.ensures many refl (c.truncate.ensures ∙ ap (λ k. take k c.in_ok-rows.rows) (ap (λ k. k - 1) c.len-lower.ensures.is))

@@ -6,9 +6,6 @@ use Rattle.rect_orders.specs.Maps.{IsRectMap}
 use Rattle.rect_dual.specs.RectDrawTables.{HasLowerRows}
 use Rattle.rect_dual.proofs.orders.map_order.Goals as goal
 
-pub framed_order-requires-clause-few : goal.framed_order-requires-clause-few
-framed_order-requires-clause-few c = let same = ap length c.in_ok-lists.ensures in let few = c.facts.ensures.few_vertices in omega arith
-
 pub framed_order-requires-clause-class : goal.framed_order-requires-clause-class
 framed_order-requires-clause-class c =
     let f = c.args.frame in

@@ -7,18 +7,18 @@ use Rattle.rect_dual.proofs.rect_sides.fill_sides.Goals as goal
 
 pub put_sides-requires-clause-turn : goal.put_sides-requires-clause-turn
 put_sides-requires-clause-turn c =
-    let l : c.loop-k.k < length c.args.rows.now = (let t = c.loop-k-test.true in let e = c.len-k-end.ensures in omega arith) in
+    let l : c.loop-k.k < length c.args.rows.now = (let t = c.loop-k-test.true in let e = c.len-k-end.ensures.is in omega arith) in
     let w = turn_within c.requires.run.0 c.args.rows.now c.requires.run.1 c.loop-k.k l (slice_index c.args.places.now c.loop-k.k) (c.requires.run.2 c.loop-k.k l) in
     subst (λ (us : List ℕ). slice_index c.args.places.now c.loop-k.k + 2 ≤ length us) (sym c.list-row.ensures) w
 
 pub put_sides-requires-clause-within : goal.put_sides-requires-clause-within
 put_sides-requires-clause-within c =
-    let l : c.loop-k.k < length c.args.rows.now = (let t = c.loop-k-test.true in let e = c.len-k-end.ensures in omega arith) in
+    let l : c.loop-k.k < length c.args.rows.now = (let t = c.loop-k-test.true in let e = c.len-k-end.ensures.is in omega arith) in
     subst (λ (us : List ℕ). All (λ u. u < length c.loop-k.right) us) (sym c.list-row.ensures) (λ i d m. let size = c.loop-k.invariant.right_size in let w = row_within c.requires.run.0 c.args.rows.now c.requires.run.1 c.loop-k.k l i d m in omega arith)
 
 pub put_sides-requires-clause-within_high : goal.put_sides-requires-clause-within_high
 put_sides-requires-clause-within_high c =
-    let l : c.loop-k.k < length c.args.rows.now = (let t = c.loop-k-test.true in let e = c.len-k-end.ensures in omega arith) in
+    let l : c.loop-k.k < length c.args.rows.now = (let t = c.loop-k-test.true in let e = c.len-k-end.ensures.is in omega arith) in
     subst (λ (us : List ℕ). All (λ u. u < length c.loop-k.high) us) (sym c.list-row.ensures) (λ i d m. let size = c.loop-k.invariant.high_size in let w = row_within c.requires.run.0 c.args.rows.now c.requires.run.1 c.loop-k.k l i d m in omega arith)
 
 pub loop-k-init : goal.loop-k-init
@@ -34,7 +34,7 @@ loop-k-preserved c =
     let rows = c.args.rows.now in
     let k : ℕ = c.loop-k.k in
     let row = list_of rows k in
-    let l : k < length rows = (let t = c.loop-k-test.true in let e = c.len-k-end.ensures in omega arith) in
+    let l : k < length rows = (let t = c.loop-k-test.true in let e = c.len-k-end.ensures.is in omega arith) in
     let turn : ℕ = slice_index c.args.places.now k in
     let x : ℕ = slice_index c.args.xs.now (k + 2) in
     let y : ℕ = slice_index c.args.ys.now (k + 2) in

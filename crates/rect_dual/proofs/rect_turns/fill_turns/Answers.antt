@@ -7,26 +7,26 @@ use Rattle.rect_dual.proofs.rect_turns.fill_turns.Goals as goal
 
 pub turn_place-c-requires-clause-some : goal.turn_place-c-requires-clause-some
 turn_place-c-requires-clause-some c =
-    let l : c.loop-k.k < length c.args.rows.now = (let t = c.loop-k-test.true in let e = c.len-k-end.ensures in omega arith) in
+    let l : c.loop-k.k < length c.args.rows.now = (let t = c.loop-k-test.true in let e = c.len-k-end.ensures.is in omega arith) in
     let long = row_long c.requires.run.0 c.args.rows.now c.requires.run.1 c.loop-k.k l in
     omega (arith, ap length c.list-row.ensures, long)
 
 pub turn_place-c-requires-clause-within : goal.turn_place-c-requires-clause-within
 turn_place-c-requires-clause-within c =
     let size = c.loop-k.invariant.size in
-    let l : c.loop-k.k < length c.args.rows.now = (let t = c.loop-k-test.true in let e = c.len-k-end.ensures in omega arith) in
+    let l : c.loop-k.k < length c.args.rows.now = (let t = c.loop-k-test.true in let e = c.len-k-end.ensures.is in omega arith) in
     subst (λ (us : List ℕ). All (λ u. u < length c.loop-k.runs) us) (sym c.list-row.ensures) (λ i d m. let w = row_within c.requires.run.0 c.args.rows.now c.requires.run.1 c.loop-k.k l i d m in omega arith)
 
 pub is_run-requires-clause-within : goal.is_run-requires-clause-within
 is_run-requires-clause-within c =
     let size = c.loop-k.invariant.size in
-    let l : c.loop-k.k < length c.args.rows.now = (let t = c.loop-k-test.true in let e = c.len-k-end.ensures in omega arith) in
+    let l : c.loop-k.k < length c.args.rows.now = (let t = c.loop-k-test.true in let e = c.len-k-end.ensures.is in omega arith) in
     subst (λ (us : List ℕ). All (λ u. u < length c.loop-k.runs) us) (sym c.list-row.ensures) (λ i d m. let w = row_within c.requires.run.0 c.args.rows.now c.requires.run.1 c.loop-k.k l i d m in omega arith)
 
 pub set_run-requires-clause-within : goal.set_run-requires-clause-within
 set_run-requires-clause-within c =
     let size = c.loop-k.invariant.size in
-    let l : c.loop-k.k < length c.args.rows.now = (let t = c.loop-k-test.true in let e = c.len-k-end.ensures in omega arith) in
+    let l : c.loop-k.k < length c.args.rows.now = (let t = c.loop-k-test.true in let e = c.len-k-end.ensures.is in omega arith) in
     subst (λ (us : List ℕ). All (λ u. u < length c.loop-k.runs) us) (sym c.list-row.ensures) (λ i d m. let w = row_within c.requires.run.0 c.args.rows.now c.requires.run.1 c.loop-k.k l i d m in omega arith)
 
 pub loop-k-init : goal.loop-k-init
@@ -43,7 +43,7 @@ loop-k-preserved c =
     let row = list_of rows k in
     let runs = c.loop-k.runs in
     let at = c.turn_place-c.result in
-    let l : k < length rows = (let t = c.loop-k-test.true in let e = c.len-k-end.ensures in omega arith) in
+    let l : k < length rows = (let t = c.loop-k-test.true in let e = c.len-k-end.ensures.is in omega arith) in
     let turn : IsTurnIn row runs at = subst (λ (us : List ℕ). IsTurnIn us runs at) c.list-row.ensures c.turn_place-c.ensures in
     let written : c.set_run.new.runs ≡ set runs (get_or row 0 0) true = c.set_run.ensures ∙ ap (λ (us : List ℕ). set runs (get_or us 0 0) true) c.list-row.ensures in
     let is : c.is_run.result ≡ is_set runs (get_or row at 0) = c.is_run.ensures ∙ ap (λ (us : List ℕ). is_set runs (get_or us at 0)) c.list-row.ensures in

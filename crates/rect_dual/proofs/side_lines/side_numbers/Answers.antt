@@ -14,7 +14,7 @@ returns-clause-numbers c =
     let done = c.put_all-count.new.self in
     let is : made.side ≡ side = c.in_ok-made.ensures.side in
     let lines = c.deref-3.ensures.value in
-    let size : length c.deref-3.result.now ≡ n + 2 = omega (arith, ap length lines, c.put_all-count.ensures.size, c.in_ok-made.ensures.size, c.len.ensures) in
+    let size : length c.deref-3.result.now ≡ n + 2 = omega (arith, ap length lines, c.put_all-count.ensures.size, c.in_ok-made.ensures.size, c.len.ensures.is) in
     IfOk-weaker c.line_numbers.result _ _
     (λ sides h steps rows turns labelled v l.
     let at = subst (λ p. AreTurns steps n p c.deref-2.result.now) (sym c.deref.ensures.value) (subst (λ p. AreTurns steps n c.args.turns.now.place.items p) (sym c.deref-2.ensures.value) turns) in

@@ -11,7 +11,7 @@ pub put_row-requires-clause-within : goal.put_row-requires-clause-within
 put_row-requires-clause-within c = λ k d l.
     let items = c.list.result.now in
     let e = c.loop-e.e in
-    let e_in : e < length c.args.lists.now = omega (arith, c.loop-e-test.true, c.len-e-end.ensures) in
+    let e_in : e < length c.args.lists.now = omega (arith, c.loop-e-test.true, c.len-e-end.ensures.is) in
     let in_list = subst (λ us. Contains us (get_or items k d)) c.list.ensures (Contains-get_or items k d l) in
     omega (arith, c.requires.within e (get_or items k d) (e_in, in_list), c.requires.count)
 

@@ -8,7 +8,7 @@ pub returns-in-Some : goal.returns-in-Some
 returns-in-Some c =
     let lists = c.args.lists.now in
     let found : least_out_of_range (length lists) c.loop-v.v (list_of lists c.loop-v.v) ≡ Some c.in-Some.u =
-    ap (λ n. least_where (leb n) (list_of lists c.loop-v.v)) (sym c.len.ensures)
+    ap (λ n. least_where (leb n) (list_of lists c.loop-v.v)) (sym c.len.ensures.is)
     ∙ ap (λ us. least_where (leb c.len.result) us) (sym c.list.ensures)
     ∙ sym c.least_beyond.ensures ∙ c.in-Some.is in
     sym (first_from_found (least_out_of_range (length lists)) lists c.loop-v.v c.in-Some.u (omega arith) c.loop-v.invariant found)

@@ -12,7 +12,7 @@ darts_are_few c =
     let lists = c.args.lists.now in
     let in_range = sym c.first_out_of_range.ensures ∙ c.in_default.is in
     let no_repeat = sym c.in_ok-v.ensures ∙ c.in_default-2.is in
-    few_darts lists c.requires.few_lists (λ v u d. in_range_from_none lists v u in_range d) (λ v l. no_repeat_from_none lists v no_repeat l)
+    few_darts lists c.len-count.ensures.few (λ v u d. in_range_from_none lists v u in_range d) (λ v l. no_repeat_from_none lists v no_repeat l)
 
 has_no_fault : (c : In_ok-twins) → HasNoFault c.args.lists.now
 has_no_fault c = record {
@@ -31,7 +31,7 @@ tables c =
     let ends = c.deref-2.ensures.value in
     record {
       simple = is_simple c;
-      few_vertices = c.requires.few_lists;
+      few_vertices = c.len-count.ensures.few;
       starts_are = c.in_ok-starts.ensures;
       ends_are = c.in_ok-ends.ensures;
       twins_are = subst (λ es. AreTwins es c.in_ok-twins.twins.items (length es)) ends c.in_ok-twins.ensures.twins;
@@ -53,8 +53,8 @@ pub returns-in-Some-3-clause-fault : goal.returns-in-Some-3-clause-fault
 returns-in-Some-3-clause-fault c =
     first_fault_one_sided c.args.lists.now c.in-Some-3.v c.in-Some-3.u (sym c.first_out_of_range.ensures ∙ c.in_default.is) c.in_default-first_loop.ensures (sym c.in_ok-v.ensures ∙ c.in_default-2.is) (sym c.in_ok-v-2.ensures ∙ c.in-Some-3.is)
 
-pub starts_of-requires-clause-few_darts : goal.starts_of-requires-clause-few_darts
-starts_of-requires-clause-few_darts c = darts_are_few ((goal.at.starts_of-requires-clause-few_darts c).In_default-2)
+pub starts_of-requires : goal.starts_of-requires
+starts_of-requires c = record { few_darts = darts_are_few ((goal.at.starts_of-requires c).In_default-2) }
 
 pub twins_of-requires-clause-few_darts : goal.twins_of-requires-clause-few_darts
 twins_of-requires-clause-few_darts c = darts_are_few ((goal.at.twins_of-requires-clause-few_darts c).In_default-2)

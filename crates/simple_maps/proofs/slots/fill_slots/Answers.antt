@@ -9,7 +9,7 @@ use Rattle.simple_maps.proofs.slots.fill_slots.Goals as goal
 pub write_slots-requires-clause-few : goal.write_slots-requires-clause-few
 write_slots-requires-clause-few g c =
     let s = c.in_ok-fill_twins.ensures.slots in
-    let few = few_darts-simple c.args.lists.now c.requires.few_lists s.simple in
+    let few = few_darts-simple c.args.lists.now c.facts.ensures s.simple in
     omega (arith, ap length c.deref-2.ensures.value, s.twins_are.count, length-darts c.args.lists.now)
 
 pub returns-clause-slots : goal.returns-clause-slots

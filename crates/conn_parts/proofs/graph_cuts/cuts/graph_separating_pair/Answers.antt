@@ -6,13 +6,8 @@ use Rattle.conn_parts.specs.GraphLists.{graph_lists}
 use Rattle.conn_parts.proofs.GraphLemmas.{length-graph_lists, IsSimpleMap-graph_lists}
 use Rattle.conn_parts.proofs.graph_cuts.cuts.graph_separating_pair.Goals as goal
 
-pub list_separating_pair-requires-clause-adjacency : goal.list_separating_pair-requires-clause-adjacency
-list_separating_pair-requires-clause-adjacency c = rw c.in_ok-lists.ensures (IsAdjacency-simple (graph_lists c.args.graph.now) (IsSimpleMap-graph_lists c.args.graph.now c.n-n.ensures.known c.requires))
-
-pub list_separating_pair-requires-clause-few : goal.list_separating_pair-requires-clause-few
-list_separating_pair-requires-clause-few c =
-    let few = c.n-n.ensures.known.few in
-    omega (arith, ap length c.in_ok-lists.ensures, length-graph_lists c.args.graph.now c.n-n.ensures.known)
+pub list_separating_pair-requires : goal.list_separating_pair-requires
+list_separating_pair-requires c = record { adjacency = rw c.in_ok-lists.ensures (IsAdjacency-simple (graph_lists c.args.graph.now) (IsSimpleMap-graph_lists c.args.graph.now c.n-n.ensures.known c.requires)) }
 
 pub returns : goal.returns
 returns c =

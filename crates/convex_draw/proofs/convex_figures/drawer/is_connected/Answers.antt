@@ -18,17 +18,17 @@ number_components-count-requires-clause-simple c =
 pub number_components-count-requires-clause-few : goal.number_components-count-requires-clause-few
 number_components-count-requires-clause-few c =
     let stored : IsStored c.args.lists.now c.entries.result.now c.ends.result.now = record { entries_are = c.entries.ensures; ends_are = c.ends.ensures } in
-    omega (arith, ap length (IsStored-cut _ _ _ stored), length-cut 0 c.ends.result.now c.entries.result.now, c.requires.few)
+    omega (arith, ap length (IsStored-cut _ _ _ stored), length-cut 0 c.ends.result.now c.entries.result.now, c.len.ensures.few)
 
 pub number_components-count-requires-clause-marks : goal.number_components-count-requires-clause-marks
 number_components-count-requires-clause-marks c =
     let stored : IsStored c.args.lists.now c.entries.result.now c.ends.result.now = record { entries_are = c.entries.ensures; ends_are = c.ends.ensures } in
-    omega (arith, c.deref_mut.ensures.len, c.in_ok-resize.ensures.len, c.len.ensures, ap length (IsStored-cut _ _ _ stored), length-cut 0 c.ends.result.now c.entries.result.now)
+    omega (arith, c.deref_mut.ensures.len, c.in_ok-resize.ensures.len, c.len.ensures.is, ap length (IsStored-cut _ _ _ stored), length-cut 0 c.ends.result.now c.entries.result.now)
 
 pub number_components-count-requires-clause-room : goal.number_components-count-requires-clause-room
 number_components-count-requires-clause-room c =
     let stored : IsStored c.args.lists.now c.entries.result.now c.ends.result.now = record { entries_are = c.entries.ensures; ends_are = c.ends.ensures } in
-    omega (arith, c.deref_mut-2.ensures.len, c.in_ok-resize-2.ensures.len, c.len-2.ensures, ap length (IsStored-cut _ _ _ stored), length-cut 0 c.ends.result.now c.entries.result.now)
+    omega (arith, c.deref_mut-2.ensures.len, c.in_ok-resize-2.ensures.len, c.len-2.ensures.is, ap length (IsStored-cut _ _ _ stored), length-cut 0 c.ends.result.now c.entries.result.now)
 
 pub number_components-count-requires-clause-unset : goal.number_components-count-requires-clause-unset
 number_components-count-requires-clause-unset c = λ u. subst (λ ns. mark_at (marks_of ns) u ≡ false) (sym c.deref_mut.ensures.value) (unset_after 65535 _ _ _ _ u c.clear.ensures.items c.in_ok-resize.ensures.items)

@@ -10,7 +10,7 @@ number_faces-requires-clause-darts c =
     let whole = IsStored-cut c.args.lists.now c.entries.result.now c.ends.result.now stored in
     record {
       cuts = IsStored-cuts _ _ _ stored;
-      few = omega (arith, ap length whole, length-cut 0 c.ends.result.now c.entries.result.now, c.requires.few);
+      few = omega (arith, ap length whole, length-cut 0 c.ends.result.now c.entries.result.now, c.facts.ensures);
       simple = rw whole c.requires.simple;
       are_twins = rw whole c.requires.twins;
     }

@@ -66,10 +66,10 @@ pub returns-clause-list : goal.returns-clause-list
 returns-clause-list c = λ alive w r a b is.
     let tr = c.loop.invariant.all alive w r a b is in
     let short = traced_short c.args.tables.now.lists c.args.tables.now.faces.own c.args.tables.now.faces.other c.args.tables.now.faces.count c.args.marks.now (based c.args.tables.now).three.simple c.args.tables.now.numbers c.loop.left.items c.args.stop alive w r (a + c.loop.counter) b tr in
-    absurd (omega (arith, short, c.loop-test.false, c.len-end.ensures))
+    absurd (omega (arith, short, c.loop-test.false, c.len-end.ensures.is))
 
 pub returns-clause-noted : goal.returns-clause-noted
 returns-clause-noted c = λ alive w r a b is.
     let tr = c.loop.invariant.all alive w r a b is in
     let short = traced_short c.args.tables.now.lists c.args.tables.now.faces.own c.args.tables.now.faces.other c.args.tables.now.faces.count c.args.marks.now (based c.args.tables.now).three.simple c.args.tables.now.numbers c.loop.left.items c.args.stop alive w r (a + c.loop.counter) b tr in
-    absurd (omega (arith, short, c.loop-test.false, c.len-end.ensures))
+    absurd (omega (arith, short, c.loop-test.false, c.len-end.ensures.is))

@@ -11,7 +11,7 @@ count_twins-requires-clause-cuts c =
 pub count_twins-requires-clause-few : goal.count_twins-requires-clause-few
 count_twins-requires-clause-few c =
     let stored : IsStored c.args.lists.now c.entries.result.now c.ends.result.now = record { entries_are = c.entries.ensures; ends_are = c.ends.ensures } in
-    omega (arith, ap length (IsStored-cut _ _ _ stored), length-cut 0 c.ends.result.now c.entries.result.now, c.requires.few_lists)
+    omega (arith, ap length (IsStored-cut _ _ _ stored), length-cut 0 c.ends.result.now c.entries.result.now, c.len.ensures.few)
 
 pub count_twins-requires-clause-twins : goal.count_twins-requires-clause-twins
 count_twins-requires-clause-twins c =
@@ -26,12 +26,12 @@ count_twins-requires-clause-simple c =
 pub count_twins-requires-clause-marks : goal.count_twins-requires-clause-marks
 count_twins-requires-clause-marks c =
     let stored : IsStored c.args.lists.now c.entries.result.now c.ends.result.now = record { entries_are = c.entries.ensures; ends_are = c.ends.ensures } in
-    omega (arith, ap length c.deref_mut-2.ensures.value, c.in_ok-clear.ensures.marks, c.len.ensures, ap length (IsStored-cut _ _ _ stored), length-cut 0 c.ends.result.now c.entries.result.now)
+    omega (arith, ap length c.deref_mut-2.ensures.value, c.in_ok-clear.ensures.marks, c.len.ensures.is, ap length (IsStored-cut _ _ _ stored), length-cut 0 c.ends.result.now c.entries.result.now)
 
 pub count_twins-requires-clause-room : goal.count_twins-requires-clause-room
 count_twins-requires-clause-room c =
     let stored : IsStored c.args.lists.now c.entries.result.now c.ends.result.now = record { entries_are = c.entries.ensures; ends_are = c.ends.ensures } in
-    omega (arith, ap length c.deref_mut-3.ensures.value, c.in_ok-clear.ensures.room, c.len.ensures, ap length (IsStored-cut _ _ _ stored), length-cut 0 c.ends.result.now c.entries.result.now)
+    omega (arith, ap length c.deref_mut-3.ensures.value, c.in_ok-clear.ensures.room, c.len.ensures.is, ap length (IsStored-cut _ _ _ stored), length-cut 0 c.ends.result.now c.entries.result.now)
 
 pub returns-clause-n : goal.returns-clause-n
 returns-clause-n c =

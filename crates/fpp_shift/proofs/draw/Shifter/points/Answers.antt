@@ -13,6 +13,6 @@ returns g c = λ base order.
     let at = vertices_of c.args.order.now in
     let lists = c.args.lists.now in
     let run = c.order_is_run.ensures lists base at c.requires.triangulation order in
-    let count = c.list_tree.ensures.count ∙ c.in_ok-tree.ensures ∙ c.len.ensures in
-    AreShiftPoints-tree c.offset_tree_adds_up.ensures lists base at c.list_tree.new.tree c.in_ok-points.points c.requires.triangulation c.requires.few order run.0 run.1 count c.list_tree.ensures.tree
+    let count = c.list_tree.ensures.count ∙ c.in_ok-tree.ensures ∙ c.len.ensures.is in
+    AreShiftPoints-tree c.offset_tree_adds_up.ensures lists base at c.list_tree.new.tree c.in_ok-points.points c.requires.triangulation c.len.ensures.few order run.0 run.1 count c.list_tree.ensures.tree
     (subst (λ (v : ℕ). ArePointsOf c.list_tree.new.tree v c.in_ok-points.points) (sym (vertex-is c.args.order.now.at 0 c.get.result c.get.ensures)) c.in_ok-points.ensures.points)

@@ -94,7 +94,7 @@ put_over-requires g c =
     let len = c.len-k-end.ensures in
     let test = c.loop-k-test.true in
     let low = c.loop-k.auto.k in
-    let few = c.requires.few in
+    let few = c.facts.ensures in
     let count = order.count in
     let v_is = vertex-is c.args.order.now.at c.loop-k.k c.get-v.result c.get-v.ensures in
     let listed = listed-at lists base at c.args.order.now.rank c.list-list.result.now c.requires.triangulation order c.requires.rank c.loop-k.k c.get-v.result.0 (omega arith) v_is c.list-list.ensures in
@@ -119,7 +119,7 @@ loop-k-preserved g c =
     let len = c.len-k-end.ensures in
     let test = c.loop-k-test.true in
     let low = c.loop-k.auto.k in
-    let few = c.requires.few in
+    let few = c.facts.ensures in
     let i : ℕ = c.loop-k.k - 2 in
     let d : i + 2 ≡ c.loop-k.k = omega arith in
     let known = c.requires.order.1.count in
@@ -182,4 +182,4 @@ returns-clause-links g c =
     let some = c.requires.triangulation.some in
     let count = order.count in
     let made = IsTreeOf-all c.grown_is_offset_tree.ensures lists at c.loop-k.tree c.loop-k.k (omega arith) (omega arith) c.loop-k.invariant.grown in
-    (AddsUp-order lists base at c.loop-k.tree c.requires.triangulation c.requires.few order run.0 run.1 (omega (arith, c.loop-k.invariant.count, c.requires.nodes)) made).tree
+    (AddsUp-order lists base at c.loop-k.tree c.requires.triangulation c.facts.ensures order run.0 run.1 (omega (arith, c.loop-k.invariant.count, c.requires.nodes)) made).tree

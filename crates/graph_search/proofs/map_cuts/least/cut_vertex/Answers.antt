@@ -4,8 +4,8 @@ use Rattle.graph_search.proofs.ForestLemmas.{IsAdjacency-simple}
 use Rattle.graph_search.specs.Cuts.{IsCutVertex}
 use Rattle.graph_search.proofs.map_cuts.least.cut_vertex.Goals as goal
 
-pub list_cut_vertex-requires-clause-adjacency : goal.list_cut_vertex-requires-clause-adjacency
-list_cut_vertex-requires-clause-adjacency c = rw c.in_ok-lists.ensures (IsAdjacency-simple c.args.map.now.lists c.facts.ensures.simple)
+pub list_cut_vertex-requires : goal.list_cut_vertex-requires
+list_cut_vertex-requires c = record { adjacency = rw c.in_ok-lists.ensures (IsAdjacency-simple c.args.map.now.lists c.facts.ensures.simple) }
 
 pub returns : goal.returns
 returns c =

@@ -4,8 +4,8 @@ use Rattle.graph_search.proofs.PairLemmas.{IsAdjacency-without}
 use Rattle.graph_search.proofs.PartnerLemmas.{cut_partners, is_partner}
 use Rattle.graph_search.proofs.map_cuts.pairs.is_partner_of_cut.Goals as goal
 
-pub cut_flags-requires-clause-adjacency : goal.cut_flags-requires-clause-adjacency
-cut_flags-requires-clause-adjacency c = IsAdjacency-without c.args.lists.now c.in_ok-rest.rest c.args.v c.in_ok-rest.ensures c.requires.adjacency
+pub cut_flags-requires : goal.cut_flags-requires
+cut_flags-requires c = record { adjacency = IsAdjacency-without c.args.lists.now c.in_ok-rest.rest c.args.v c.in_ok-rest.ensures c.requires.adjacency }
 
 pub returns-then-flags-v : goal.returns-then-flags-v
 returns-then-flags-v c =

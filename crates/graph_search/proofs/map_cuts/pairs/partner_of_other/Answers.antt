@@ -4,8 +4,8 @@ use Rattle.graph_search.proofs.PairLemmas.{IsAdjacency-without}
 use Rattle.graph_search.proofs.PartnerLemmas.{no_partner, least_partner}
 use Rattle.graph_search.proofs.map_cuts.pairs.partner_of_other.Goals as goal
 
-pub cut_flags-requires-clause-adjacency : goal.cut_flags-requires-clause-adjacency
-cut_flags-requires-clause-adjacency c = IsAdjacency-without c.args.lists.now c.in_ok-rest.rest c.args.u c.in_ok-rest.ensures c.requires.adjacency
+pub cut_flags-requires : goal.cut_flags-requires
+cut_flags-requires c = record { adjacency = IsAdjacency-without c.args.lists.now c.in_ok-rest.rest c.args.u c.in_ok-rest.ensures c.requires.adjacency }
 
 pub returns-in-Some : goal.returns-in-Some
 returns-in-Some c =

@@ -4,8 +4,8 @@ use Rattle.graph_search.proofs.ForestLemmas.{IsAdjacency-simple}
 use Rattle.graph_search.specs.Cuts.{IsSeparatingPair}
 use Rattle.graph_search.proofs.map_cuts.pairs.separating_pair.Goals as goal
 
-pub list_separating_pair-requires-clause-adjacency : goal.list_separating_pair-requires-clause-adjacency
-list_separating_pair-requires-clause-adjacency c = rw c.in_ok-lists.ensures (IsAdjacency-simple c.args.map.now.lists c.facts.ensures.simple)
+pub list_separating_pair-requires : goal.list_separating_pair-requires
+list_separating_pair-requires c = record { adjacency = rw c.in_ok-lists.ensures (IsAdjacency-simple c.args.map.now.lists c.facts.ensures.simple) }
 
 pub returns : goal.returns
 returns c =

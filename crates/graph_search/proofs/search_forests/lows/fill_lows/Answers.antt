@@ -10,7 +10,7 @@ low_of-requires c =
     let k = c.len-n.result - 1 - c.loop-i.i in
     let v = c.index-v.result.now in
     let in_k = c.loop-i-test.true in
-    let n = c.len-n.ensures in
+    let n = c.len-n.ensures.is in
     let is : v ≡ get_or order k 0 = c.index-v.ensures ∙ get_or_default order k v 0 (omega (arith, all.orders)) in
     omega (arith, is, all.forest.vertex k (omega arith))
 
@@ -21,7 +21,7 @@ loop-i-preserved c =
     let f = c.args.forest.now in
     let v = c.index-v.result.now in
     let in_k = c.loop-i-test.true in
-    let n = c.len-n.ensures in
+    let n = c.len-n.ensures.is in
     let read : v ≡ get_or f.order.items (c.len-n.result - 1 - c.loop-i.i) 0 = c.index-v.ensures ∙ get_or_default f.order.items (c.len-n.result - 1 - c.loop-i.i) v 0 (omega (arith, all.orders)) in
     let is : v ≡ get_or f.order.items (length c.args.lists.now - 1 - c.loop-i.i) 0 = read ∙ ap (λ m. get_or f.order.items (m - 1 - c.loop-i.i) 0) n in
     let along = rw (c.deref.ensures.value, c.deref-in-loop-i.ensures.value) at c.low_of.ensures in

@@ -9,9 +9,6 @@ use Rattle.grid_figures.proofs.schnyder_grid.draw.wood_draw.Goals as goal
 pub list_draw-requires-clause-triangulation : goal.list_draw-requires-clause-triangulation
 list_draw-requires-clause-triangulation c = subst IsTriangulation (sym c.in_ok-lists.ensures) c.requires.triangulation
 
-pub list_draw-requires-clause-few : goal.list_draw-requires-clause-few
-list_draw-requires-clause-few c = omega (arith, ap length c.in_ok-lists.ensures, c.facts.ensures.few_vertices)
-
 pub list_draw-requires-clause-order : goal.list_draw-requires-clause-order
 list_draw-requires-clause-order c = subst (λ (ls : Lists). (base : Dart) × IsCanonicalOrder ls base (vertices_of c.args.order.now)) (sym c.in_ok-lists.ensures) c.requires.order
 

@@ -12,12 +12,6 @@ use Rattle.grid_figures.proofs.shift_figures.draw.map_figure.Goals as goal
 pub order_figure-requires-clause-triangulation : goal.order_figure-requires-clause-triangulation
 order_figure-requires-clause-triangulation c = let h = c.in_ok-found.ensures.order in subst IsTriangulation (sym (listed_in c.args.input.now.lists.now c.args.input.now.lists.now _ _ c.in_ok-found.found.made refl c.made_or.ensures h.listed)) h.triangulation
 
-pub order_figure-requires-clause-few : goal.order_figure-requires-clause-few
-order_figure-requires-clause-few c =
-    let h = c.in_ok-found.ensures.order in
-    let same = h.extended.vertices in
-    omega (arith, ap length (listed_in c.args.input.now.lists.now c.args.input.now.lists.now _ _ c.in_ok-found.found.made refl c.made_or.ensures h.listed), c.args.input.now.few)
-
 pub order_figure-requires-clause-order : goal.order_figure-requires-clause-order
 order_figure-requires-clause-order c =
     let h = c.in_ok-found.ensures.order in

@@ -1,6 +1,6 @@
 use Rattle.std.proofs.Common.{◌<◌, length, ap, ◌∙◌, arith}
 use Rattle.std.proofs.lemmas.List.{take_all}
-use Rattle.map_lists.proofs.CutLemmas.{IsStored-cut, IsStored-cuts}
+use Rattle.map_lists.proofs.CutLemmas.{IsStored-cut, IsStored-cuts, length-cut}
 use Rattle.half_edges.specs.Arena.{vertex_at, arena_lists}
 use Rattle.half_edges.proofs.ArenaLemmas.{IsStored-walk, walkable_here, walkable_read}
 use Rattle.half_edges.proofs.half_map.HalfMap.read_into.Goals as goal
@@ -24,7 +24,15 @@ loop-vertex-preserved c =
     c.in_ok-push_heads.ensures c.in_ok-push.ensures.items (omega (arith, c.len-in-loop-vertex.ensures, c.push_heads.new.entries.ok.0))
 
 pub from_parts-requires : goal.from_parts-requires
-from_parts-requires c = IsStored-cuts _ _ _ c.loop-vertex.invariant
+from_parts-requires c =
+    let vertices = c.self.inside.vertices.items in
+    let ends = c.loop-vertex.ends.items in
+    let entries = c.loop-vertex.entries.items in
+    let all = take_all c.loop-vertex.vertex-index vertices (omega (arith, c.loop-vertex-test.false, c.deref-vertex-items.ensures.len, ap length c.deref-vertex-items.ensures.value)) in
+    record {
+      cuts = IsStored-cuts _ _ _ c.loop-vertex.invariant;
+      few = omega (arith, length-cut 0 ends entries, ap length (IsStored-cut _ _ _ c.loop-vertex.invariant ∙ ap (λ vs. arena_lists c.self.inside.darts.items vs) all), c.self.invariant.few_vertices);
+    }
 
 pub returns : goal.returns
 returns c =

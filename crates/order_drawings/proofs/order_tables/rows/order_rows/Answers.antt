@@ -10,9 +10,6 @@ use Rattle.order_drawings.proofs.order_tables.rows.order_rows.Goals as goal
 pub list_rows-requires-clause-triangulation : goal.list_rows-requires-clause-triangulation
 list_rows-requires-clause-triangulation c = subst IsTriangulation (sym c.in_ok-lists.ensures) c.requires.triangulation
 
-pub list_rows-requires-clause-few : goal.list_rows-requires-clause-few
-list_rows-requires-clause-few c = omega (arith, ap length c.in_ok-lists.ensures, c.facts.ensures.few_vertices)
-
 pub list_rows-requires-clause-order : goal.list_rows-requires-clause-order
 list_rows-requires-clause-order c = subst (λ (ls : Lists). (base : Dart) × IsCanonicalOrder ls base (vertices_of c.args.order.now)) (sym c.in_ok-lists.ensures) c.requires.order
 

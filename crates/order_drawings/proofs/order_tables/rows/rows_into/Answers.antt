@@ -24,7 +24,7 @@ listed_rows-requires-clause-vertices c =
 
 pub listed_rows-requires-clause-few : goal.listed_rows-requires-clause-few
 listed_rows-requires-clause-few c =
-    ranks_small c.args.lists.now c.requires.order.0 (vertices_of c.args.order.now) c.args.order.now.rank c.requires.triangulation c.requires.order.1 c.requires.rank c.requires.few
+    ranks_small c.args.lists.now c.requires.order.0 (vertices_of c.args.order.now) c.args.order.now.rank c.requires.triangulation c.requires.order.1 c.requires.rank c.facts.ensures
 
 pub returns : goal.returns
 returns c =

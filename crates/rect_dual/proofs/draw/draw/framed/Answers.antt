@@ -8,10 +8,10 @@ use Rattle.rect_dual.proofs.draw.draw.framed.Goals.{In_ok-tables}
 small : (c : In_ok-tables) → AreSmall (length c.in_ok-made.made.order.rank) c.in_ok-tables.tables.left.items c.in_ok-tables.tables.right.items c.in_ok-tables.tables.low.items c.in_ok-tables.tables.high.items
 small c =
     tables_small c.args.lists.now c.args.frame.left.0 c.args.frame.top.0 c.args.frame.right.0 c.args.frame.bottom.0 (vertices_of c.in_ok-made.made.order) c.in_ok-made.made.order.rank c.in_ok-made.made.rows c.in_ok-made.ensures.rows c.order_is_run.ensures c.rect_order_is_run.ensures c.in_ok-tables.tables.left.items c.in_ok-tables.tables.right.items c.in_ok-tables.tables.low.items c.in_ok-tables.tables.high.items
-    (c.in_ok-tables.ensures.boxes (steps c.args.lists.now c.args.frame.left.0 c.args.frame.top.0 c.args.frame.right.0 c.args.frame.bottom.0 (vertices_of c.in_ok-made.made.order) c.in_ok-made.made.order.rank c.in_ok-made.made.rows c.in_ok-made.ensures.rows c.order_is_run.ensures) (rows_are c.args.lists.now c.args.frame.left.0 c.args.frame.top.0 c.args.frame.right.0 c.args.frame.bottom.0 (vertices_of c.in_ok-made.made.order) c.in_ok-made.made.order.rank c.in_ok-made.made.rows c.in_ok-made.ensures.rows c.order_is_run.ensures) (labelled c.args.lists.now c.args.frame.left.0 c.args.frame.top.0 c.args.frame.right.0 c.args.frame.bottom.0 (vertices_of c.in_ok-made.made.order) c.in_ok-made.made.order.rank c.in_ok-made.made.rows c.in_ok-made.ensures.rows c.order_is_run.ensures c.rect_order_is_run.ensures)) c.boxes_are_dual.ensures c.requires.few
+    (c.in_ok-tables.ensures.boxes (steps c.args.lists.now c.args.frame.left.0 c.args.frame.top.0 c.args.frame.right.0 c.args.frame.bottom.0 (vertices_of c.in_ok-made.made.order) c.in_ok-made.made.order.rank c.in_ok-made.made.rows c.in_ok-made.ensures.rows c.order_is_run.ensures) (rows_are c.args.lists.now c.args.frame.left.0 c.args.frame.top.0 c.args.frame.right.0 c.args.frame.bottom.0 (vertices_of c.in_ok-made.made.order) c.in_ok-made.made.order.rank c.in_ok-made.made.rows c.in_ok-made.ensures.rows c.order_is_run.ensures) (labelled c.args.lists.now c.args.frame.left.0 c.args.frame.top.0 c.args.frame.right.0 c.args.frame.bottom.0 (vertices_of c.in_ok-made.made.order) c.in_ok-made.made.order.rank c.in_ok-made.made.rows c.in_ok-made.ensures.rows c.order_is_run.ensures c.rect_order_is_run.ensures)) c.boxes_are_dual.ensures c.facts.ensures
 
-pub box_tables-requires-clause-run : goal.box_tables-requires-clause-run
-box_tables-requires-clause-run c = (steps c.args.lists.now c.args.frame.left.0 c.args.frame.top.0 c.args.frame.right.0 c.args.frame.bottom.0 (vertices_of c.in_ok-made.made.order) c.in_ok-made.made.order.rank c.in_ok-made.made.rows c.in_ok-made.ensures.rows c.order_is_run.ensures, rows_are c.args.lists.now c.args.frame.left.0 c.args.frame.top.0 c.args.frame.right.0 c.args.frame.bottom.0 (vertices_of c.in_ok-made.made.order) c.in_ok-made.made.order.rank c.in_ok-made.made.rows c.in_ok-made.ensures.rows c.order_is_run.ensures)
+pub box_tables-requires : goal.box_tables-requires
+box_tables-requires c = record { run = (steps c.args.lists.now c.args.frame.left.0 c.args.frame.top.0 c.args.frame.right.0 c.args.frame.bottom.0 (vertices_of c.in_ok-made.made.order) c.in_ok-made.made.order.rank c.in_ok-made.made.rows c.in_ok-made.ensures.rows c.order_is_run.ensures, rows_are c.args.lists.now c.args.frame.left.0 c.args.frame.top.0 c.args.frame.right.0 c.args.frame.bottom.0 (vertices_of c.in_ok-made.made.order) c.in_ok-made.made.order.rank c.in_ok-made.made.rows c.in_ok-made.ensures.rows c.order_is_run.ensures) }
 
 pub figure_at-requires-clause-sizes : goal.figure_at-requires-clause-sizes
 figure_at-requires-clause-sizes c =

@@ -10,9 +10,6 @@ use Rattle.rect_orders.specs.Labellings.{IsByLabelling}
 use Rattle.rect_dual.proofs.Drawn.{by_names}
 use Rattle.rect_dual.proofs.draw.draw.rect_draw_by_lists.Goals as goal
 
-pub framed-requires-clause-few : goal.framed-requires-clause-few
-framed-requires-clause-few c = let same = ap length c.requires.lists in let few = c.facts.ensures.few_vertices in omega arith
-
 pub framed-requires-clause-class : goal.framed-requires-clause-class
 framed-requires-clause-class c =
     let (s, d, p, t, at, class) = c.requires.class in

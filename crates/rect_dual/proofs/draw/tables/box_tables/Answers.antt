@@ -7,27 +7,27 @@ use Rattle.rect_dual.proofs.draw.tables.box_tables.Goals as goal
 pub run_count-runs-requires : goal.run_count-runs-requires
 run_count-runs-requires c =
     let t = c.in_ok-turns.ensures c.requires.run.0 c.requires.run.1 in
-    record { few = omega (arith, ap length c.deref.ensures.value, t.count_runs, c.requires.few) }
+    record { few = omega (arith, ap length c.deref.ensures.value, t.count_runs, c.len-count.ensures.few) }
 
 pub overflow_sub-width : goal.overflow_sub-width
 overflow_sub-width c =
     let t = c.in_ok-turns.ensures c.requires.run.0 c.requires.run.1 in
-    omega (arith, ap length c.deref.ensures.value, t.count_runs, c.run_count-runs.ensures.bound, c.len.ensures)
+    omega (arith, ap length c.deref.ensures.value, t.count_runs, c.run_count-runs.ensures.bound, c.len-count.ensures.is)
 
 pub overflow_add-runs : goal.overflow_add-runs
 overflow_add-runs c =
     let t = c.in_ok-turns.ensures c.requires.run.0 c.requires.run.1 in
-    omega (arith, ap length c.deref.ensures.value, t.count_runs, c.run_count-runs.ensures.bound, c.requires.few)
+    omega (arith, ap length c.deref.ensures.value, t.count_runs, c.run_count-runs.ensures.bound, c.len-count.ensures.few)
 
 pub overflow_add-runs-2 : goal.overflow_add-runs-2
 overflow_add-runs-2 c =
     let t = c.in_ok-turns.ensures c.requires.run.0 c.requires.run.1 in
-    omega (arith, ap length c.deref.ensures.value, t.count_runs, c.run_count-runs.ensures.bound, c.requires.few)
+    omega (arith, ap length c.deref.ensures.value, t.count_runs, c.run_count-runs.ensures.bound, c.len-count.ensures.few)
 
 pub with_last-requires : goal.with_last-requires
 with_last-requires c =
     let t = c.in_ok-turns.ensures c.requires.run.0 c.requires.run.1 in
-    omega (arith, ap length c.deref.ensures.value, t.count_runs, c.run_count-runs.ensures.bound, c.requires.few)
+    omega (arith, ap length c.deref.ensures.value, t.count_runs, c.run_count-runs.ensures.bound, c.len-count.ensures.few)
 
 pub returns-clause-boxes : goal.returns-clause-boxes
 returns-clause-boxes c = λ steps h labelled.
@@ -43,4 +43,4 @@ returns-clause-boxes c = λ steps h labelled.
     let count : c.run_count-runs.result ≡ run_turns steps (length rows) = c.run_count-runs.ensures.count steps c.in_ok-turns.turns.place.items turns ∙ ap (run_turns steps) size in
     AreBoxTables-of steps (length rows) (c.len.result + 1 - c.run_count-runs.result) (c.run_count-runs.result + 2) c.in_ok-numbers.numbers.x.items c.in_ok-numbers.numbers.y.items c.in_ok-sides.sides.right.items c.in_ok-sides.sides.high.items
     c.in_ok-tables.tables.left.items c.in_ok-tables.tables.right.items c.in_ok-tables.tables.low.items c.in_ok-tables.tables.high.items
-    n.count n.count_y s.right s.high (ap (λ z. z + 2) count) (omega (arith, c.len.ensures, low, size)) (n.numbers steps h t labelled) (s.sides steps h t) e.left e.right e.low e.high
+    n.count n.count_y s.right s.high (ap (λ z. z + 2) count) (omega (arith, c.len-count.ensures.is, low, size)) (n.numbers steps h t labelled) (s.sides steps h t) e.left e.right e.low e.high

@@ -6,11 +6,11 @@ use Rattle.rect_dual.proofs.OfOrder.{short, short_rows, size, labelling}
 use Rattle.rect_dual.proofs.DartLemmas.{IsLabellingIn-of}
 use Rattle.rect_dual.proofs.labels.of_order.framed.Goals as goal
 
-pub row_turns-requires-clause-run : goal.row_turns-requires-clause-run
-row_turns-requires-clause-run c = (short c.args.map.now.lists c.args.frame.left.0 c.args.frame.top.0 c.args.frame.right.0 c.args.frame.bottom.0 (vertices_of c.in_ok-made.made.order) c.in_ok-made.made.order.rank c.in_ok-made.made.rows c.in_ok-made.ensures.rows c.order_is_run.ensures c.rect_order_is_run.ensures, short_rows c.args.map.now.lists c.args.frame.left.0 c.args.frame.top.0 c.args.frame.right.0 c.args.frame.bottom.0 (vertices_of c.in_ok-made.made.order) c.in_ok-made.made.order.rank c.in_ok-made.made.rows c.in_ok-made.ensures.rows c.order_is_run.ensures c.rect_order_is_run.ensures)
+pub row_turns-requires : goal.row_turns-requires
+row_turns-requires c = record { run = (short c.args.map.now.lists c.args.frame.left.0 c.args.frame.top.0 c.args.frame.right.0 c.args.frame.bottom.0 (vertices_of c.in_ok-made.made.order) c.in_ok-made.made.order.rank c.in_ok-made.made.rows c.in_ok-made.ensures.rows c.order_is_run.ensures c.rect_order_is_run.ensures, short_rows c.args.map.now.lists c.args.frame.left.0 c.args.frame.top.0 c.args.frame.right.0 c.args.frame.bottom.0 (vertices_of c.in_ok-made.made.order) c.in_ok-made.made.order.rank c.in_ok-made.made.rows c.in_ok-made.ensures.rows c.order_is_run.ensures c.rect_order_is_run.ensures) }
 
-pub run_tables-requires-clause-run : goal.run_tables-requires-clause-run
-run_tables-requires-clause-run c = (short c.args.map.now.lists c.args.frame.left.0 c.args.frame.top.0 c.args.frame.right.0 c.args.frame.bottom.0 (vertices_of c.in_ok-made.made.order) c.in_ok-made.made.order.rank c.in_ok-made.made.rows c.in_ok-made.ensures.rows c.order_is_run.ensures c.rect_order_is_run.ensures, short_rows c.args.map.now.lists c.args.frame.left.0 c.args.frame.top.0 c.args.frame.right.0 c.args.frame.bottom.0 (vertices_of c.in_ok-made.made.order) c.in_ok-made.made.order.rank c.in_ok-made.made.rows c.in_ok-made.ensures.rows c.order_is_run.ensures c.rect_order_is_run.ensures, c.in_ok-turns.ensures (short c.args.map.now.lists c.args.frame.left.0 c.args.frame.top.0 c.args.frame.right.0 c.args.frame.bottom.0 (vertices_of c.in_ok-made.made.order) c.in_ok-made.made.order.rank c.in_ok-made.made.rows c.in_ok-made.ensures.rows c.order_is_run.ensures c.rect_order_is_run.ensures) (short_rows c.args.map.now.lists c.args.frame.left.0 c.args.frame.top.0 c.args.frame.right.0 c.args.frame.bottom.0 (vertices_of c.in_ok-made.made.order) c.in_ok-made.made.order.rank c.in_ok-made.made.rows c.in_ok-made.ensures.rows c.order_is_run.ensures c.rect_order_is_run.ensures))
+pub run_tables-requires : goal.run_tables-requires
+run_tables-requires c = record { run = (short c.args.map.now.lists c.args.frame.left.0 c.args.frame.top.0 c.args.frame.right.0 c.args.frame.bottom.0 (vertices_of c.in_ok-made.made.order) c.in_ok-made.made.order.rank c.in_ok-made.made.rows c.in_ok-made.ensures.rows c.order_is_run.ensures c.rect_order_is_run.ensures, short_rows c.args.map.now.lists c.args.frame.left.0 c.args.frame.top.0 c.args.frame.right.0 c.args.frame.bottom.0 (vertices_of c.in_ok-made.made.order) c.in_ok-made.made.order.rank c.in_ok-made.made.rows c.in_ok-made.ensures.rows c.order_is_run.ensures c.rect_order_is_run.ensures, c.in_ok-turns.ensures (short c.args.map.now.lists c.args.frame.left.0 c.args.frame.top.0 c.args.frame.right.0 c.args.frame.bottom.0 (vertices_of c.in_ok-made.made.order) c.in_ok-made.made.order.rank c.in_ok-made.made.rows c.in_ok-made.ensures.rows c.order_is_run.ensures c.rect_order_is_run.ensures) (short_rows c.args.map.now.lists c.args.frame.left.0 c.args.frame.top.0 c.args.frame.right.0 c.args.frame.bottom.0 (vertices_of c.in_ok-made.made.order) c.in_ok-made.made.order.rank c.in_ok-made.made.rows c.in_ok-made.ensures.rows c.order_is_run.ensures c.rect_order_is_run.ensures)) }
 
 pub invariant_of-ranked-clause-count : goal.invariant_of-ranked-clause-count
 invariant_of-ranked-clause-count c =

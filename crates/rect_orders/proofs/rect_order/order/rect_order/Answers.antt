@@ -7,7 +7,7 @@ pub turned_order-requires-clause-few : goal.turned_order-requires-clause-few
 turned_order-requires-clause-few c =
     let frame = c.args.frame in
     let (map, k) = c.requires.class in
-    let few = c.requires.few in
+    let few = c.facts.ensures in
     let n = taken_count _ map frame.left.0 frame.top.0 frame.right.0 frame.bottom.0 frame.inner.0 k c.in_ok-taken.taken.items (c.in_ok-taken.ensures map k) in
     let same = ap length c.deref.ensures.value in
     omega arith

@@ -14,4 +14,4 @@ loop-v-preserved c = λ u l p. elim (cases_lt u c.loop-v.v) [
 ]
 
 pub returns : goal.returns
-returns c = λ v l p. c.loop-v.invariant v (omega (arith, l, c.loop-v-test.false, c.loop-v.auto.v-end, c.len-v-end.ensures)) p
+returns c = λ v l p. c.loop-v.invariant v (omega (arith, l, c.loop-v-test.false, c.loop-v.auto.v-end, c.len-v-end.ensures.is)) p

@@ -20,7 +20,7 @@ loop-v-preserved c =
         | inl e ↦ omega (arith, ap (λ x. get_or n.number.items x 0) e, new.seen, same)
         | inr ne ↦
             let old = h.seen u (omega arith) in
-            omega (arith, same, new.keeps u (omega (arith, s.searching.numbers, c.loop-v-test.true, c.loop-v.auto.v-end, c.len-v-end.ensures, ap length h.lists, ap length c.search_on.ensures.lists)) (omega (arith, s.searching.numbers)))
+            omega (arith, same, new.keeps u (omega (arith, s.searching.numbers, c.loop-v-test.true, c.loop-v.auto.v-end, c.len-v-end.ensures.is, ap length h.lists, ap length c.search_on.ensures.lists)) (omega (arith, s.searching.numbers)))
       ];
     }
 
@@ -30,4 +30,4 @@ returns-clause-forest c =
     let s = c.loop-v.self in
     subst (λ (ls : Lists). IsForestOf ls s.order.items s.number.items s.last.items s.parent.items) h.lists
     (IsForestOf-finished s.lists.now s.order.items s.number.items s.last.items s.parent.items s.cursor.items s.count (IsSearching-at_none s.lists.now s.order.items s.number.items s.last.items s.parent.items s.cursor.items s.count s.current h.none s.searching)
-    (λ v l. h.seen v (omega (arith, l, c.loop-v-test.false, c.loop-v.auto.v-end, c.len-v-end.ensures, ap length h.lists, ap length c.search_on.ensures.lists))))
+    (λ v l. h.seen v (omega (arith, l, c.loop-v-test.false, c.loop-v.auto.v-end, c.len-v-end.ensures.is, ap length h.lists, ap length c.search_on.ensures.lists))))

@@ -60,7 +60,7 @@ loop-preserved c =
       prepared = c.in_ok-take_off.ensures.prepared f.bottom.0 f.left.0 (IsPrepared-stacked c.args.self.now.lists.now c.args.self.now.frame.bottom.0 c.args.self.now.frame.left.0 c.loop.marked c.loop.near c.loop.gone c.loop.away c.loop.stack.items c.removable_vertex-v.new.stack.items c.loop.invariant.prepared c.removable_vertex-v.ensures.stacked);
       contour = λ map k.
           let taken = IsContour-taken map f.left.0 f.top.0 f.right.0 f.bottom.0 f.inner.0 c.args.self.now.lists.now k c.loop.gone c.loop.marked (reverse us) (h.contour map k) c.loop.near c.loop.away c.removable_vertex-v.new.stack.items (IsPrepared-stacked c.args.self.now.lists.now c.args.self.now.frame.bottom.0 c.args.self.now.frame.left.0 c.loop.marked c.loop.near c.loop.gone c.loop.away c.loop.stack.items c.removable_vertex-v.new.stack.items c.loop.invariant.prepared c.removable_vertex-v.ensures.stacked) v c.removable_vertex-v.ensures.removable
-          (omega (arith, c.len-end.ensures, c.loop-test.true, h.place)) c.take_off.new.marked c.take_off.new.gone c.in_ok-take_off.ensures.taken in
+          (omega (arith, c.len-end.ensures.is, c.loop-test.true, h.place)) c.take_off.new.marked c.take_off.new.gone c.in_ok-take_off.ensures.taken in
           subst (λ (r : List ℕ). IsContour map f.left.0 f.top.0 f.right.0 f.bottom.0 c.take_off.new.gone c.take_off.new.marked r) (sym (ap reverse items ∙ reverse-append us (v ∷ []))) taken;
       place = let more = ap length items in let push = length-append us (v ∷ []) in let place = h.place in omega arith;
     }
@@ -75,5 +75,5 @@ returns c =
     let large = c.requires.class.1.class.large in
     IfOk-weaker c.push_three.result _ (λ _. IsOrderAt c.args.self.now.lists.now c.args.self.now.frame (reverse c.push_three.new.taken.items))
     (λ _ e map k.
-    let done = IsContour-three map f.left.0 f.top.0 f.right.0 f.bottom.0 f.inner.0 c.args.self.now.lists.now k c.loop.gone c.loop.marked (reverse us) (h.contour map k) (omega (arith, c.len-end.ensures, c.loop-test.false, c.loop.auto.counter-end, h.place, n, large)) in
+    let done = IsContour-three map f.left.0 f.top.0 f.right.0 f.bottom.0 f.inner.0 c.args.self.now.lists.now k c.loop.gone c.loop.marked (reverse us) (h.contour map k) (omega (arith, c.len-end.ensures.is, c.loop-test.false, c.loop.auto.counter-end, h.place, n, large)) in
     subst (λ (r : List ℕ). IsRectOrder map f.left.0 f.top.0 f.right.0 f.bottom.0 r) (sym (ap reverse e ∙ reverse-append us (f.inner.0 ∷ f.bottom.0 ∷ f.left.0 ∷ []))) done) c.push_three.ensures

@@ -26,7 +26,7 @@ longest_paths_again-requires-clause-acyclic c =
     let of = c.in_ok-faces.faces.of.items in
     let arcs = c.in_ok-faces.faces.arcs in
     let lead = rw c.deref-2.ensures.value at c.in_ok-faces.ensures.arcs in
-    let counted : length lists + length arcs ≡ dart_count lists / 2 + 2 = omega (arith, c.if-len-twins.false, c.len.ensures, c.len-2.ensures, ap (λ n. n / 2) (r.twins.count ∙ length-darts lists)) in
+    let counted : length lists + length arcs ≡ dart_count lists / 2 + 2 = omega (arith, c.if-len-twins.false, c.len.ensures.is, c.len-2.ensures, ap (λ n. n / 2) (r.twins.count ∙ length-darts lists)) in
     rw (c.first_of-base.ensures, c.deref-3.ensures.value) (acyclic_arcs lists r.few r.simple r.many r.search.connected c.args.t r.first r.dart rank order.0 order.1 of (length arcs) c.in_ok-faces.ensures.numbers arcs lead counted)
 
 pub invariant_of-sides : goal.invariant_of-sides
@@ -38,7 +38,7 @@ invariant_of-sides c =
     let of = c.in_ok-faces.faces.of.items in
     let arcs = c.in_ok-faces.faces.arcs in
     let lead = rw c.deref-2.ensures.value at c.in_ok-faces.ensures.arcs in
-    let counted : length lists + length arcs ≡ dart_count lists / 2 + 2 = omega (arith, c.if-len-twins.false, c.len.ensures, c.len-2.ensures, ap (λ n. n / 2) (r.twins.count ∙ length-darts lists)) in
+    let counted : length lists + length arcs ≡ dart_count lists / 2 + 2 = omega (arith, c.if-len-twins.false, c.len.ensures.is, c.len-2.ensures, ap (λ n. n / 2) (r.twins.count ∙ length-darts lists)) in
     let longest = rw (c.first_of-base.ensures, c.deref-3.ensures.value) at c.in_ok-paths.ensures.longest in
     let numbers = c.in_ok-paths.paths.number.items in
     let known : AreSides lists c.deref-4.result.now c.deref-5.result.now c.args.twins.now c.deref-6.result.now = rw (c.deref-4.ensures.value, c.deref-5.ensures.value, c.deref-6.ensures.value) (are_sides lists r.few r.simple r.many r.search.connected c.args.t r.first r.dart rank order.0 order.1 of (length arcs) c.in_ok-faces.ensures.numbers arcs lead counted numbers longest c.args.twins.now r.twins) in
@@ -53,7 +53,7 @@ coordinates_of-requires c =
     let of = c.in_ok-faces.faces.of.items in
     let arcs = c.in_ok-faces.faces.arcs in
     let lead = rw c.deref-2.ensures.value at c.in_ok-faces.ensures.arcs in
-    let counted : length lists + length arcs ≡ dart_count lists / 2 + 2 = omega (arith, c.if-len-twins.false, c.len.ensures, c.len-2.ensures, ap (λ n. n / 2) (r.twins.count ∙ length-darts lists)) in
+    let counted : length lists + length arcs ≡ dart_count lists / 2 + 2 = omega (arith, c.if-len-twins.false, c.len.ensures.is, c.len-2.ensures, ap (λ n. n / 2) (r.twins.count ∙ length-darts lists)) in
     let longest = rw (c.first_of-base.ensures, c.deref-3.ensures.value) at c.in_ok-paths.ensures.longest in
     let numbers = c.in_ok-paths.paths.number.items in
     let spanned = rw (c.deref-4.ensures.value, c.deref-5.ensures.value, c.deref-6.ensures.value) at c.in_ok-spans.ensures in
@@ -68,7 +68,7 @@ returns c =
     let of = c.in_ok-faces.faces.of.items in
     let arcs = c.in_ok-faces.faces.arcs in
     let lead = rw c.deref-2.ensures.value at c.in_ok-faces.ensures.arcs in
-    let counted : length lists + length arcs ≡ dart_count lists / 2 + 2 = omega (arith, c.if-len-twins.false, c.len.ensures, c.len-2.ensures, ap (λ n. n / 2) (r.twins.count ∙ length-darts lists)) in
+    let counted : length lists + length arcs ≡ dart_count lists / 2 + 2 = omega (arith, c.if-len-twins.false, c.len.ensures.is, c.len-2.ensures, ap (λ n. n / 2) (r.twins.count ∙ length-darts lists)) in
     let longest = rw (c.first_of-base.ensures, c.deref-3.ensures.value) at c.in_ok-paths.ensures.longest in
     let numbers = c.in_ok-paths.paths.number.items in
     let spanned = rw (c.deref-4.ensures.value, c.deref-5.ensures.value, c.deref-6.ensures.value) at c.in_ok-spans.ensures in

@@ -3,12 +3,12 @@ use Rattle.std.proofs.lemmas.List.{get_or_default}
 use Rattle.plane_drawings.specs.Drawing.{place}
 use Rattle.plane_drawings.specs.declared.plane_sweep.line.Line.{Line}
 use Rattle.plane_drawings.specs.PlaneSweepLines.{Ends}
-use Rattle.plane_drawings.proofs.sweep_check.status.all_end_apart.Goals as goal
-use Rattle.plane_drawings.proofs.sweep_check.status.all_end_apart.Goals.{else-k-status-via-then-k-status+else-not-end_apart, else-k-status-via-else-k-status}
+use Rattle.plane_drawings.proofs.sweep_check.status.AtVertex.all_end_apart.Goals as goal
+use Rattle.plane_drawings.proofs.sweep_check.status.AtVertex.all_end_apart.Goals.{else-k-status-via-then-k-status+else-not-end_apart, else-k-status-via-else-k-status}
 
 pub loop-k-preserved : goal.loop-k-preserved
 loop-k-preserved c =
-    let at = place c.args.places.now in
+    let at = place c.args.self.now.places.now in
     let status = c.args.status.now in
     let k = c.loop-k.k in
     let none : Line = record { low = 0; high = 0 } in

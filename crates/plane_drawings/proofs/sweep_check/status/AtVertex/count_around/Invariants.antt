@@ -1,5 +1,5 @@
 use Rattle.std.proofs.Common.{◌+◌, ◌-◌, ◌≤◌, length}
-use Rattle.plane_drawings.proofs.sweep_check.status.count_around.Given as goal
+use Rattle.plane_drawings.proofs.sweep_check.status.AtVertex.count_around.Given as goal
 
 abbrev pub invariant-loop-begin : goal.invariant-loop-begin
 invariant-loop-begin l = (l.begin ≤ l.end) × (l.end ≤ length l.lower + length l.upper)

@@ -9,7 +9,7 @@ use Rattle.plane_drawings.specs.PlaneSweepLines.{IsLine}
 use Rattle.plane_drawings.proofs.ListLemmas.{filled_front, filled_back}
 use Rattle.plane_drawings.proofs.Pairs.{All-append-left, All-append-right}
 use Rattle.plane_drawings.proofs.StepLemmas.{passed_gap}
-use Rattle.plane_drawings.proofs.sweep_check.status.pass.Goals as goal
+use Rattle.plane_drawings.proofs.sweep_check.status.AtVertex.pass.Goals as goal
 
 rest : (status : List Line) (n r : ℕ) → drop r (drop n status) ≡ drop (n + r) status
 rest status n r = drop-drop r n status ∙ ap (λ (m : ℕ). drop m status) (omega arith)
@@ -17,7 +17,7 @@ rest status n r = drop-drop r n status ∙ ap (λ (m : ℕ). drop m status) (ome
 pub is_below-requires-clause-lines : goal.is_below-requires-clause-lines
 is_below-requires-clause-lines c =
     let status = c.args.status.now in
-    let P = IsLine (length c.args.places.now) in
+    let P = IsLine (length c.args.self.now.places.now) in
     let end = c.args.gap.end + c.run_end.result in
     let upper = All-append-right P (take c.args.gap.begin status) (drop c.args.gap.end status) c.requires.lines in
     All-take P (length status - end) (drop end status) (subst (All P) (rest status c.args.gap.end c.run_end.result) (All-drop P c.run_end.result (drop c.args.gap.end status) upper))
@@ -25,7 +25,7 @@ is_below-requires-clause-lines c =
 pub all_end_apart-requires-clause-lines : goal.all_end_apart-requires-clause-lines
 all_end_apart-requires-clause-lines c =
     let status = c.args.status.now in
-    let P = IsLine (length c.args.places.now) in
+    let P = IsLine (length c.args.self.now.places.now) in
     let begin = c.args.gap.begin in
     let fresh = c.args.fresh.now in
     rw (c.copy_from_slice.ensures.after)
@@ -34,7 +34,7 @@ all_end_apart-requires-clause-lines c =
 pub is_seam_apart-requires-clause-lower : goal.is_seam_apart-requires-clause-lower
 is_seam_apart-requires-clause-lower c =
     let status = c.args.status.now in
-    let P = IsLine (length c.args.places.now) in
+    let P = IsLine (length c.args.self.now.places.now) in
     let begin = c.args.gap.begin in
     let fresh = c.args.fresh.now in
     rw (c.copy_from_slice.ensures.after)
@@ -43,7 +43,7 @@ is_seam_apart-requires-clause-lower c =
 pub is_seam_apart-requires-clause-upper : goal.is_seam_apart-requires-clause-upper
 is_seam_apart-requires-clause-upper c =
     let status = c.args.status.now in
-    let P = IsLine (length c.args.places.now) in
+    let P = IsLine (length c.args.self.now.places.now) in
     let begin = c.args.gap.begin in
     let fresh = c.args.fresh.now in
     let end = c.args.gap.end + c.run_end.result in
@@ -63,6 +63,6 @@ returns-then-is_seam_apart-clause-passed c =
     let within : end ≤ length status = omega (arith, c.run_end.ensures.within, length-drop c.args.gap.end status, ap length (take_rest status c.args.gap.end)) in
     let front : take (begin + length fresh) new ≡ take begin status ++ fresh = ap (λ (us : List Line). take (begin + length fresh) (put_mid begin (begin + length fresh - begin) status us)) written ∙ filled_front status fresh begin (omega arith) in
     let back : drop end new ≡ drop end status = ap (λ (us : List Line). drop end (put_mid begin (begin + length fresh - begin) status us)) written ∙ filled_back status fresh begin end (omega arith) within in
-    passed_gap (place c.args.places.now) c.args.v status new fresh _ _ _ begin c.args.gap.end c.run_end.result (omega arith) within front back
+    passed_gap (place c.args.self.now.places.now) c.args.self.now.v status new fresh _ _ _ begin c.args.gap.end c.run_end.result (omega arith) within front back
     (take_rest status c.args.gap.end) (take_rest status end) (take_rest new end ∙ back)
     c.run_end.ensures.run c.if-not-is_above.ensures c.if-not-is_below.ensures (λ k d first. c.if-not-all_end_apart.ensures k d (omega arith)) c.if-is_seam_apart.ensures

@@ -1,0 +1,121 @@
+//! The rotation lists of a map.
+ghost use Rattle.std.specs.Prelude.{◌≡◌, ◌<◌, [], length, sum_by, take, slice_index_or};
+ghost use Rattle.map_lists.specs.Cuts.{cut, joined, AreCuts, ends_from};
+
+use crate::ItemLists;
+use std::alloc::Global;
+use std::marker::Model;
+
+/// Rotation lists: for each vertex, by its number from 0, the vertices round it. Contracts see them as
+/// that list of lists, which are at most 4095: `len` and `facts` say so. They are made as `ItemLists`, or of
+/// their two vectors.
+#[derive(Drop)]
+pub struct Rotations {
+    lists: ItemLists<u16>,
+}
+
+impl Model for Rotations {
+    ghost use Rattle.std.specs.Prelude.{ℕ, List, length, ◌<◌};
+
+    ghost Value = { List (List ℕ) };
+
+    ghost view = { λ r. r.lists };
+
+    ghost invariant = { λ r. length r.lists < 4096 };
+}
+
+impl Rotations {
+    /// No lists. It takes no memory.
+    pub fn new(alloc: Global) -> Self
+        ensures { result ≡ [] }
+    {
+        Rotations {
+            lists: ItemLists::new(alloc),
+        }
+    }
+
+    /// Lists, which are at most 4095, as those of a map, in the same memory.
+    pub fn from_lists(lists: ItemLists<u16>) -> Self
+        requires { length lists < 4096 }
+        ensures { result ≡ lists }
+    {
+        Rotations { lists }
+    }
+
+    /// The pieces of `entries` that end at the places `ends`.
+    pub fn from_parts(entries: Vec<u16>, ends: Vec<usize>) -> Self
+        requires cuts { AreCuts 0 ends.items (length entries.items) }
+        requires few { length ends.items < 4096 }
+        ensures { result ≡ cut 0 ends.items entries.items }
+    {
+        Rotations {
+            lists: ItemLists::from_parts(entries, ends),
+        }
+    }
+
+    /// All entries, list after list, and for each list the place behind its last entry.
+    pub fn into_parts(self) -> (Vec<u16>, Vec<usize>)
+        ensures entries { result.0.items ≡ joined self }
+        ensures ends { result.1.items ≡ ends_from 0 self }
+    {
+        self.lists.into_parts()
+    }
+
+    /// Takes all lists away, and keeps the memory.
+    pub fn clear(&mut self)
+        ensures { self.new ≡ [] }
+    {
+        self.lists.clear();
+    }
+
+    /// Takes away the lists from number `count` on, and keeps the memory.
+    pub fn truncate(&mut self, count: usize)
+        ensures { self.new ≡ take count self.old }
+    {
+        self.lists.truncate(count);
+    }
+
+    /// The number of lists, which is at most 4095.
+    pub fn len(&self) -> usize
+        ensures is { result ≡ length self.now }
+        ensures few { length self.now < 4096 }
+    {
+        self.lists.len()
+    }
+
+    /// Says that the lists are at most 4095, where their number is not asked for.
+    pub fn facts(&self)
+        ensures { length self.now < 4096 }
+    {
+        self.len();
+    }
+
+    /// The number of entries of all lists.
+    pub fn total(&self) -> usize
+        ensures { result ≡ sum_by length self.now }
+    {
+        self.lists.total()
+    }
+
+    /// List number `i`, from 0.
+    pub fn list(&self, i: usize) -> &[u16]
+        requires { i < length self.now }
+        ensures { result.now ≡ slice_index_or self.now i [] }
+    {
+        self.lists.list(i)
+    }
+
+    /// All entries, list after list.
+    pub fn entries(&self) -> &[u16]
+        ensures { result.now ≡ joined self.now }
+    {
+        self.lists.entries()
+    }
+
+    /// For each list the place behind its last entry, among all entries.
+    pub fn ends(&self) -> &[usize]
+        ensures { result.now ≡ ends_from 0 self.now }
+    {
+        self.lists.ends()
+    }
+}
