@@ -111,11 +111,13 @@ pub(crate) fn entry_behind(list: &[u16], u: u16) -> u16
 pub(crate) fn turned_vertices(spent: VertexList, taken: &[u16]) -> Result<VertexList, AllocError>
     ensures { IfOk result (λ at. map (λ v. v.0) at ≡ reverse taken.now) }
 {
-    let mut at = spent.emptied(taken.len())?;
+    let mut at = spent.into_vec();
+    at.clear();
+    at.reserve(taken.len())?;
     for v in taken.iter().rev() {
-        at.push(VertexId(*v))?;
+        at.push_reserved(VertexId(*v));
     }
-    Ok(at)
+    Ok(VertexList::from_vec(at))
 }
 
 // Writes each number's place, counted from the last, at the number.

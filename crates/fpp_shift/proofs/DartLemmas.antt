@@ -1,14 +1,16 @@
 -- The ends of rows, by darts.
-use Rattle.std.proofs.Common.{◌≡◌, ℕ, ◌+◌, ◌<◌, ◌≤◌, ◌⊎◌, List, length, get_or, Option, Some, option_map, unwrap_or, sym, ap, ◌∙◌, subst, inl, inr, arith, AllPairs, ◌≢◌, Contains}
+use Rattle.std.proofs.Common.{◌≡◌, ℕ, zero, suc, ◌+◌, ◌-◌, ◌<◌, ◌≤◌, ◌⊎◌, List, length, get_or, Option, Some, option_map, unwrap_or, sym, ap, ◌∙◌, subst, inl, inr, arith, AllPairs, ◌≢◌, Contains}
 use Rattle.std.proofs.lemmas.List.Elements.{Contains-get_or}
 use Rattle.std.proofs.lemmas.List.{get_or_default}
 use Rattle.map_lists.specs.Lists.{Lists}
 use Rattle.map_theory.specs.Maps.{Dart, HasDart, IsSimpleMap, list_of, follows, entry_after}
-use Rattle.map_theory.proofs.DartLemmas.{entry_after-injective}
+use Rattle.map_theory.proofs.DartLemmas.{entry_after-injective, entry_after-place, place_after, place_of-get_or}
 use Rattle.half_edges.specs.Map.{Map, IsHalfMap, IsLive, dart_at, next_dart}
 use Rattle.half_edges.proofs.ArenaLemmas.{entry_after-next}
 use Rattle.euler_faces.proofs.NumberLemmas.{some_of}
-use Rattle.fpp_shift.specs.ShiftTreesRows.{IsListOf, BeginsRow, EndsRow}
+use Rattle.fpp_shift.specs.ShiftTreesRows.{IsListOf, IsEarlier, IsLater, BeginsRow, EndsRow}
+use Rattle.std.proofs.lemmas.Bool.{cases_lt}
+use Rattle.std.proofs.lemmas.Bool.Decides.{nat_tests}
 
 -- what a call of `head` answers for the dart to u
 pub head-is : (map : Map) (d v u r : ℕ) → dart_at map d ≡ Some (v, u) → option_map (λ (e : Dart). e.1) (dart_at map d) ≡ Some r → u ≡ r
@@ -81,6 +83,102 @@ module _ (lists : Lists) (v : ℕ) (list ranks : List ℕ) (is : IsListOf lists 
 
   pub EndsRow-place : r ≡ get_or ranks (get_or list (i + 1) 0) 0 → b ≡ get_or ranks (get_or list i 0) 0 → (((r < k) × ((r ≡ 1) ⊎ (k ≤ b))) → EndsRow lists ranks k v (get_or list (i + 1) 0)) × (EndsRow lists ranks k v (get_or list (i + 1) 0) → ((r < k) × ((r ≡ 1) ⊎ (k ≤ b))))
   EndsRow-place rank before = EndsRow-iff lists is.simple ranks k v (get_or list (i + 1) 0) r b (dart_at_place (i + 1) l) rank (get_or list i 0) (dart_at_place i (omega arith)) turns before
+
+-- where a row begins and ends, by which entries of a list are earlier than k and which are later
+module _ (lists : Lists) (v : ℕ) (list ranks : List ℕ) (is : IsListOf lists v list) (k : ℕ) where
+  entry-dart : (i : ℕ) → i < length list → HasDart lists v (get_or list i 0)
+  entry-dart i l = (is.vertex, subst (λ us. Contains us (get_or list i 0)) is.list_is (Contains-get_or list i 0 l))
+
+  entries-apart : AllPairs ◌≢◌ list
+  entries-apart = subst (λ us. AllPairs ◌≢◌ us) (sym is.list_is) (is.simple.no_repeat v is.vertex)
+
+  -- the first entry comes after the last
+  last-turns : (i : ℕ) → i + 1 ≡ length list → follows lists v (get_or list i 0) ≡ get_or list 0 0
+  last-turns i l =
+      let place = place_of-get_or list i 0 entries-apart (omega arith) in
+      ap (entry_after (get_or list i 0)) (sym is.list_is)
+      ∙ entry_after-place (get_or list i 0) list 0 (omega (arith, place))
+      ∙ ap (λ p. get_or list (place_after (length list) p) 0) place
+      ∙ ap (λ p. get_or list p 0) (round (length list) i l)
+    where
+      round : (n i : ℕ) → i + 1 ≡ n → place_after n i ≡ 0
+      round n i l = grind (arith, nat_tests)
+
+  BeginsRow-at : (i : ℕ) → i < length list → IsEarlier ranks k list i → (i + 1 < length list → IsLater ranks k list (i + 1)) → (i + 1 ≡ length list → IsLater ranks k list 0) → BeginsRow lists ranks k v (get_or list i 0)
+  BeginsRow-at i l low next round = record {
+    dart = entry-dart i l;
+    earlier = low;
+    begins = inr (elim (cases_lt (i + 1) (length list)) [
+      | inl m ↦ subst (λ u. k ≤ get_or ranks u 0) (sym (turns lists v list ranks is k i 0 0 m)) (next m)
+      | inr m ↦ let e : i + 1 ≡ length list = omega arith in subst (λ u. k ≤ get_or ranks u 0) (sym (last-turns i e)) (round e)
+    ]);
+  }
+
+  BeginsRow-before : (i e : ℕ) → i + 1 ≡ e → e ≤ length list → IsEarlier ranks k list i → (e < length list → IsLater ranks k list e) → (e ≡ length list → IsLater ranks k list 0) → BeginsRow lists ranks k v (get_or list i 0)
+  BeginsRow-before i e is_next l low next round = BeginsRow-at i (omega (arith, l, is_next)) low (λ m. subst (λ e. IsLater ranks k list e) (sym is_next) (next (omega (arith, m, is_next)))) (λ m. round (omega (arith, m, is_next)))
+
+  EndsRow-at : (i j : ℕ) → i < length list → j < length list → IsEarlier ranks k list i → IsLater ranks k list j → follows lists v (get_or list j 0) ≡ get_or list i 0 → EndsRow lists ranks k v (get_or list i 0)
+  EndsRow-at i j l m low late after = record {
+    dart = entry-dart i l;
+    earlier = low;
+    ends = inr (λ w on f.
+        let same = entry_after-injective (list_of lists v) w (get_or list j 0) (is.simple.no_repeat v is.vertex) on.1 (entry-dart j m).1 (f ∙ sym after) in
+        subst (λ u. k ≤ get_or ranks u 0) (sym same) late);
+  }
+
+  EndsRow-after : (i e : ℕ) → i + 1 ≡ e → e < length list → IsLater ranks k list i → IsEarlier ranks k list e → EndsRow lists ranks k v (get_or list e 0)
+  EndsRow-after i e is_next l late low =
+      let m : i + 1 < length list = omega (arith, l, is_next) in
+      EndsRow-at e i l (omega (arith, m)) low late (turns lists v list ranks is k i 0 0 m ∙ ap (λ p. get_or list p 0) is_next)
+
+  -- an entry later than k stands first
+  pub row-within : (first end : ℕ) → 0 < first → first < length list → ((i : ℕ) → 0 ≤ i → i < first → IsLater ranks k list i) → (first < length list → IsEarlier ranks k list first) → first ≤ end → end ≤ length list → ((i : ℕ) → first ≤ i → i < end → IsEarlier ranks k list i) → (end < length list → IsLater ranks k list end) → BeginsRow lists ranks k v (get_or list (end - 1) 0) × EndsRow lists ranks k v (get_or list first 0)
+  row-within first end some l late low m n lows next =
+      let more : first < end = behind (cases_lt first end) in (
+        BeginsRow-before (end - 1) end (omega (arith, some, more)) n (lows (end - 1) (omega (arith, more)) (omega (arith, more))) next (λ e. late 0 (omega arith) some),
+        EndsRow-after (first - 1) first (omega (arith, some)) l (late (first - 1) (omega arith) (omega (arith, some))) (low l),
+      )
+    where
+      behind : (first < end) ⊎ (end ≤ first) → first < end
+      behind (inl b) = b
+      behind (inr b) =
+          let e : end ≡ first = omega (arith, b, m) in
+          let high = subst (λ i. IsLater ranks k list i) e (next (omega (arith, l, e))) in
+          let under = low l in
+          absurd (omega (arith, high, under))
+
+  pub end-behind : (end : ℕ) → (0 < length list → IsEarlier ranks k list 0) → end < length list → (end < length list → IsLater ranks k list end) → 0 < end
+  end-behind zero low l next =
+      let high = next l in
+      let under = low l in
+      absurd (omega (arith, high, under))
+  end-behind (suc i) low l next = omega arith
+
+  -- one that is earlier stands first, and one that is later behind it
+  pub row-round : (end : ℕ) → (0 < length list → IsEarlier ranks k list 0) → end < length list → ((i : ℕ) → 0 ≤ i → i < end → IsEarlier ranks k list i) → (end < length list → IsLater ranks k list end) → BeginsRow lists ranks k v (get_or list (end - 1) 0)
+  row-round end low l lows next =
+      let some = end-behind end low l next in
+      BeginsRow-before (end - 1) end (omega (arith, some)) (omega (arith, l)) (lows (end - 1) (omega arith) (omega (arith, some))) next (λ e. absurd (omega (arith, e, l)))
+
+  -- the row ends where entries are earlier again, or at the first
+  pub row-again : (end again : ℕ) → (0 < length list → IsEarlier ranks k list 0) → end < length list → (end < length list → IsLater ranks k list end) → end ≤ again → again < length list → ((i : ℕ) → end ≤ i → i < again → IsLater ranks k list i) → (again < length list → IsEarlier ranks k list again) → EndsRow lists ranks k v (get_or list again 0)
+  row-again end again low l next m n lates there =
+      let some = end-behind end low l next in
+      let more : end < again = behind (cases_lt end again) in
+      EndsRow-after (again - 1) again (omega (arith, some, m)) n (lates (again - 1) (omega (arith, more)) (omega (arith, more))) (there n)
+    where
+      behind : (end < again) ⊎ (again ≤ end) → end < again
+      behind (inl b) = b
+      behind (inr b) =
+          let e : again ≡ end = omega (arith, b, m) in
+          let under = subst (λ i. IsEarlier ranks k list i) e (there n) in
+          let high = next l in
+          absurd (omega (arith, high, under))
+
+  pub row-first : (end again : ℕ) → (0 < length list → IsEarlier ranks k list 0) → end < length list → length list ≤ again → ((i : ℕ) → end ≤ i → i < again → IsLater ranks k list i) → EndsRow lists ranks k v (get_or list 0 0)
+  row-first end again low l n lates =
+      let last : length list - 1 + 1 ≡ length list = omega (arith, l) in
+      EndsRow-at 0 (length list - 1) (omega (arith, l)) (omega (arith, l)) (low (omega (arith, l))) (lates (length list - 1) (omega (arith, l)) (omega (arith, l, n))) (last-turns (length list - 1) last)
 
 -- what stands in a list, and at no place passed, stands at the one place left
 pub left-place : (P : ℕ → Type 0) (us : List ℕ) (n u : ℕ) → Contains us u → P u → n < length us → ((j : ℕ) → j < length us → (j ≡ n) ⊎ ¬ P (get_or us j 0)) → P (get_or us n 0)

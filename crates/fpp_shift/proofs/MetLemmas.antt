@@ -1,6 +1,6 @@
 -- Ways along the links of a tree, and what is known of the vertices met.
-use Rattle.std.proofs.Common.{◌≡◌, ◌≢◌, ◌⊎◌, ℕ, ◌+◌, ◌*◌, ◌<◌, ◌≤◌, Bool, true, false, List, [], ◌∷◌, ◌++◌, length, get_or, set, length-append, get_or-set_same, get_or-set_other, Option, Some, None, option_map, ℤ, pos, ◌+ℤ◌, refl, sym, ap, subst, ◌∙◌, inl, inr, arith}
-use Rattle.std.proofs.lemmas.List.{get_or_append_left}
+use Rattle.std.proofs.Common.{◌≡◌, ◌≢◌, ◌⊎◌, ℕ, ◌+◌, ◌*◌, ◌<◌, ◌≤◌, Bool, true, false, List, [], ◌∷◌, ◌++◌, length, take, get_or, set, length-append, get_or-set_same, get_or-set_other, Option, Some, None, option_map, ℤ, pos, ◌+ℤ◌, refl, sym, ap, subst, ◌∙◌, inl, inr, arith}
+use Rattle.std.proofs.lemmas.List.{get_or_append_left, take_more_set, length-take-le}
 use Rattle.std.proofs.lemmas.Int.{ints}
 use Rattle.std.proofs.lemmas.Bool.{cases_lt}
 use Rattle.std.proofs.Math.Seq.{get_or-append_seam}
@@ -11,7 +11,7 @@ use Rattle.pg_plane.specs.Range.{IsWithin}
 use Rattle.pg_plane.specs.declared.point.Point.{Point}
 use Rattle.plane_drawings.specs.Drawing.{place}
 use Rattle.fpp_shift.specs.Ways.{IsWay, sum_x, IsTree, ArePointsOf}
-use Rattle.fpp_shift.specs.Sums.{link_of, link_number, IsMet, IsLinked, sum_at, AreMet, IsNext}
+use Rattle.fpp_shift.specs.Sums.{link_of, link_number, IsMet, IsLinked, sum_at, AreMet, IsNext, own_point, point_beside}
 
 -- a way goes on by a link
 pub way-more : (nodes : List Node) (r : ℕ) (us : List ℕ) (v u : ℕ) → IsWay nodes r us v → LeadsTo nodes v u → IsWay nodes r (us ++ u ∷ []) u
@@ -146,7 +146,7 @@ module _ (nodes : List Node) (met : List ℕ) (h v : ℕ) (link : Option ℕ) (n
   }
 
 -- the link leads nowhere
-pub AreMet-none : (nodes : List Node) (root : ℕ) (met : List ℕ) (sums : List ℤ) (h v : ℕ) → AreMet nodes root met sums h → IsNext nodes met h v None → AreMet nodes root met sums (h + 1)
+pub AreMet-none : (nodes : List Node) (root : ℕ) (met : List ℕ) (sums : List Point) (h v : ℕ) → AreMet nodes root met sums h → IsNext nodes met h v None → AreMet nodes root met sums (h + 1)
 AreMet-none nodes root met sums h v m next = record {
   apart = m.apart;
   inside = m.inside;
@@ -154,13 +154,14 @@ AreMet-none nodes root met sums h v m next = record {
   linked = λ u is. elim (m.linked u is) [ inl e ↦ inl e | inr l ↦ inr (linked-later nodes met h u l) ];
   closed = λ u l. elim (linked-cases nodes met h v None next u l) [ inl old ↦ m.closed u old | inr none ↦ absurd (none_is_some u none) ];
   added = m.added;
+  high = m.high;
 }
   where
     none_is_some : (u : ℕ) → None ≡ Some u → ⊥
     none_is_some u e = cc
 
 -- it leads to u
-module _ (nodes : List Node) (root : ℕ) (tree : IsTree nodes root) (met : List ℕ) (sums : List ℤ) (h v u : ℕ) (m : AreMet nodes root met sums h) (next : IsNext nodes met h v (Some u)) where
+module _ (nodes : List Node) (root : ℕ) (tree : IsTree nodes root) (met : List ℕ) (sums : List Point) (h v u : ℕ) (m : AreMet nodes root met sums h) (next : IsNext nodes met h v (Some u)) where
   met-v : IsMet met v
   met-v = (next.place, next.within, next.vertex)
 
@@ -197,7 +198,7 @@ module _ (nodes : List Node) (root : ℕ) (tree : IsTree nodes root) (met : List
       subst (IsWithin (pos 1048576)) (more ∙ ap (λ (z : ℤ). z +ℤ (node_at nodes u).x) (sym sum)) (tree.small (way.0 ++ u ∷ []) u (way-more nodes root way.0 v u way.1 leads))
 
   -- it is met now, at the end, with the sum of v and its own offset
-  pub AreMet-more : (sums' : List ℤ) → sum_at sums' u ≡ sum_at sums v +ℤ (node_at nodes u).x → ((w : ℕ) → w ≢ u → sum_at sums' w ≡ sum_at sums w) → AreMet nodes root (met ++ u ∷ []) sums' (h + 1)
+  pub AreMet-more : (sums' : List Point) → place sums' u ≡ point_beside (place sums v) (node_at nodes u) → ((w : ℕ) → w ≢ u → place sums' w ≡ place sums w) → AreMet nodes root (met ++ u ∷ []) sums' (h + 1)
   AreMet-more sums' here others = record {
     apart = λ i j l l' e. apart i j (cases_lt i (length met)) (cases_lt j (length met)) (omega (arith, n, l)) (omega (arith, n, l')) e;
     inside = λ w is. elim (met-cases met u w is) [ inl old ↦ m.inside w old | inr e ↦ subst (λ (z : ℕ). z < length nodes) (sym e) u-inside ];
@@ -208,8 +209,12 @@ module _ (nodes : List Node) (root : ℕ) (tree : IsTree nodes root) (met : List
     ];
     closed = λ w l. elim (linked-before w l) [ inl old ↦ met-old met u w (m.closed w old) | inr e ↦ subst (IsMet (met ++ u ∷ [])) (some_alike e) (met-new met u) ];
     added = λ us w is way. elim (met-cases met u w is) [
-      | inl old ↦ others w (λ e. fresh (subst (IsMet met) e old)) ∙ m.added us w old way
+      | inl old ↦ ap (λ (p : Point). p.x) (others w (λ e. fresh (subst (IsMet met) e old))) ∙ m.added us w old way
       | inr e ↦ subst (λ (z : ℕ). IsWay nodes root us z → sum_at sums' z ≡ sum_x nodes (root ∷ us)) (sym e) (u-added us) way
+    ];
+    high = λ w is. elim (met-cases met u w is) [
+      | inl old ↦ ap (λ (p : Point). p.y) (others w (λ e. fresh (subst (IsMet met) e old))) ∙ m.high w old
+      | inr e ↦ subst (λ (z : ℕ). (place sums' z).y ≡ (node_at nodes z).y) (sym e) (ap (λ (p : Point). p.y) here)
     ];
   }
     where
@@ -250,21 +255,21 @@ module _ (nodes : List Node) (root : ℕ) (tree : IsTree nodes root) (met : List
             let from-inside = way-inside nodes root tree root last.before last.from tree.inside last.way in
             let same : last.from ≡ v = tree.once last.from v u from-inside (m.inside v met-v) last.leads leads in
             let before : sum_at sums v ≡ sum_x nodes (root ∷ last.before) = m.added last.before v met-v (subst (IsWay nodes root last.before) same last.way) in
-            here ∙ ap (λ (z : ℤ). z +ℤ (node_at nodes u).x) before ∙ sym (sum_x-more nodes (root ∷ last.before) u) ∙ ap (λ (l : List ℕ). sum_x nodes (root ∷ l)) (sym last.parts)
+            ap (λ (p : Point). p.x) here ∙ ap (λ (z : ℤ). z +ℤ (node_at nodes u).x) before ∙ sym (sum_x-more nodes (root ∷ last.before) u) ∙ ap (λ (l : List ℕ). sum_x nodes (root ∷ l)) (sym last.parts)
       ]
 
--- the same, where the sums are set
-pub AreMet-set : (nodes : List Node) (root : ℕ) → IsTree nodes root → (met met' : List ℕ) (sums sums' : List ℤ) (h v u : ℕ) (sum : ℤ) → AreMet nodes root met sums h → IsNext nodes met h v (Some u) → length sums ≡ length nodes → met' ≡ met ++ u ∷ [] → sums' ≡ set sums u sum → sum ≡ sum_at sums v +ℤ (node_at nodes u).x → AreMet nodes root met' sums' (h + 1)
-AreMet-set nodes root tree met met' sums sums' h v u sum m next many longer put is =
-    let l = u-inside nodes root tree met sums h v u m next in
-    subst (λ (l : List ℕ). AreMet nodes root l sums' (h + 1)) (sym longer)
-    (AreMet-more nodes root tree met sums h v u m next sums' (ap (λ (l : List ℤ). sum_at l u) put ∙ get_or-set_same sums u sum (pos 0) (omega (arith, l, many)) ∙ is) (λ w other. ap (λ (l : List ℤ). sum_at l w) put ∙ get_or-set_other sums u w sum (pos 0) other))
+-- the same, where the point is set, and u is put behind the first `filled` entries of a row
+pub AreMet-set : (nodes : List Node) (root : ℕ) → IsTree nodes root → (met met' : List ℕ) (filled : ℕ) (points points' : List Point) (h v u : ℕ) (point : Point) → AreMet nodes root (take filled met) points h → IsNext nodes (take filled met) h v (Some u) → length points ≡ length nodes → filled < length met → met' ≡ set met filled u → points' ≡ set points u point → point ≡ point_beside (place points v) (node_at nodes u) → AreMet nodes root (take (filled + 1) met') points' (h + 1)
+AreMet-set nodes root tree met met' filled points points' h v u point m next many room longer put is =
+    let l = u-inside nodes root tree (take filled met) points h v u m next in
+    subst (λ (l : List ℕ). AreMet nodes root l points' (h + 1)) (sym (ap (take (filled + 1)) longer ∙ take_more_set met filled u room))
+    (AreMet-more nodes root tree (take filled met) points h v u m next points' (ap (λ (l : List Point). place l u) put ∙ get_or-set_same points u point (record { x = pos 0; y = pos 0 }) (omega (arith, l, many)) ∙ is) (λ w other. ap (λ (l : List Point). place l w) put ∙ get_or-set_other points u w point (record { x = pos 0; y = pos 0 }) other))
 
 -- ---- from the root to all
 
 -- the root alone is met
-pub AreMet-root : (nodes : List Node) (root : ℕ) → IsTree nodes root → (sums : List ℤ) → sum_at sums root ≡ (node_at nodes root).x → AreMet nodes root (root ∷ []) sums 0
-AreMet-root nodes root tree sums here = record {
+pub AreMet-root : (nodes : List Node) (root : ℕ) → IsTree nodes root → (points : List Point) → place points root ≡ own_point (node_at nodes root) → AreMet nodes root (root ∷ []) points 0
+AreMet-root nodes root tree points here = record {
   apart = λ i j l l' e. omega arith;
   inside = λ u is. subst (λ (z : ℕ). z < length nodes) (only u is) tree.inside;
   begins = (0, omega arith, refl);
@@ -273,14 +278,15 @@ AreMet-root nodes root tree sums here = record {
   added = λ us u is way.
       let none = way-root nodes root tree us (subst (IsWay nodes root us) (sym (only u is)) way) in
       let alone : sum_x nodes (root ∷ []) ≡ (node_at nodes root).x = omega (arith, ints) in
-      ap (sum_at sums) (sym (only u is)) ∙ here ∙ sym alone ∙ ap (λ (l : List ℕ). sum_x nodes (root ∷ l)) (sym none);
+      ap (sum_at points) (sym (only u is)) ∙ ap (λ (p : Point). p.x) here ∙ sym alone ∙ ap (λ (l : List ℕ). sum_x nodes (root ∷ l)) (sym none);
+  high = λ u is. subst (λ (z : ℕ). (place points z).y ≡ (node_at nodes z).y) (only u is) (ap (λ (p : Point). p.y) here);
 }
   where
     only : (u : ℕ) → IsMet (root ∷ []) u → root ≡ u
     only u is = let first : is.0 ≡ 0 = omega (arith, is.1) in sym (ap (λ (i : ℕ). get_or (root ∷ []) i 0) first) ∙ is.2
 
 -- no vertex stands at place i, so all links are gone along
-pub AreMet-beyond : (nodes : List Node) (root : ℕ) (met : List ℕ) (sums : List ℤ) (i : ℕ) → length met ≤ i → AreMet nodes root met sums (2 * i) → AreMet nodes root met sums (2 * (i + 1))
+pub AreMet-beyond : (nodes : List Node) (root : ℕ) (met : List ℕ) (sums : List Point) (i : ℕ) → length met ≤ i → AreMet nodes root met sums (2 * i) → AreMet nodes root met sums (2 * (i + 1))
 AreMet-beyond nodes root met sums i l m = record {
   apart = m.apart;
   inside = m.inside;
@@ -288,6 +294,7 @@ AreMet-beyond nodes root met sums i l m = record {
   linked = λ u is. elim (m.linked u is) [ inl e ↦ inl e | inr k ↦ inr (record { place = k.place; is_right = k.is_right; gone = (k.gone.0, omega (arith, k.gone.1)); leads = k.leads }) ];
   closed = λ u k. m.closed u (record { place = k.place; is_right = k.is_right; gone = (k.gone.0, earlier k.place k.is_right k.gone.0); leads = k.leads });
   added = m.added;
+  high = m.high;
 }
   where
     earlier : (j : ℕ) (b : Bool) → j < length met → link_number j b < 2 * i
@@ -295,15 +302,26 @@ AreMet-beyond nodes root met sums i l m = record {
     earlier j false k = omega arith
 
 -- those met are at most all vertices
-few-met : (nodes : List Node) (root : ℕ) (met : List ℕ) (sums : List ℤ) (h : ℕ) → AreMet nodes root met sums h → length met ≤ length nodes
+few-met : (nodes : List Node) (root : ℕ) (met : List ℕ) (sums : List Point) (h : ℕ) → AreMet nodes root met sums h → length met ≤ length nodes
 few-met nodes root met sums h m =
     let all = count_below_all (length met) in
     let most = count_below_all (length nodes) in
     let into = count_below_into (λ i. get_or met i 0) (λ i. true) (λ i. true) (length met) (length nodes) (λ i l _. (m.inside (get_or met i 0) (i, l, refl), refl)) (λ i j l l' _ _ e. m.apart i j l l' e) in
     omega (arith, all, most, into)
 
+-- so there is room for one that is met by a link
+pub met-room : (nodes : List Node) (root : ℕ) → IsTree nodes root → (met : List ℕ) (filled : ℕ) (points : List Point) (h v u : ℕ) → AreMet nodes root (take filled met) points h → IsNext nodes (take filled met) h v (Some u) → length points ≡ length nodes → filled ≤ length met → filled < length nodes
+met-room nodes root tree met filled points h v u m next many few =
+    let l = u-inside nodes root tree (take filled met) points h v u m next in
+    let point : Point = point_beside (place points v) (node_at nodes u) in
+    let more = AreMet-more nodes root tree (take filled met) points h v u m next (set points u point) (get_or-set_same points u point (record { x = pos 0; y = pos 0 }) (omega (arith, l, many))) (λ w other. get_or-set_other points u w point (record { x = pos 0; y = pos 0 }) other) in
+    let most = few-met nodes root (take filled met ++ u ∷ []) (set points u point) (h + 1) more in
+    let n : length (take filled met ++ u ∷ []) ≡ length (take filled met) + 1 = length-append (take filled met) (u ∷ []) in
+    let k = length-take-le filled met few in
+    omega (arith, most, n, k)
+
 -- all links are gone along, so all vertices are met
-module _ (nodes : List Node) (root : ℕ) (met : List ℕ) (sums : List ℤ) (m : AreMet nodes root met sums (2 * length nodes)) where
+module _ (nodes : List Node) (root : ℕ) (tree : IsTree nodes root) (met : List ℕ) (sums : List Point) (m : AreMet nodes root met sums (2 * length nodes)) where
   by-link : (r w : ℕ) → IsMet met r → (b : Bool) → link_of nodes b r ≡ Some w → link_number 0 b < 2 → IsMet met w
   by-link r w is b e l = m.closed w (record {
     place = is.0;
@@ -320,12 +338,12 @@ module _ (nodes : List Node) (root : ℕ) (met : List ℕ) (sums : List ℤ) (m 
   all-met r [] u is way = subst (IsMet met) way is
   all-met r (w ∷ us) u is way = all-met w us u (step-met r w is way.0) way.1
 
-  -- so the sums are the points
-  pub ArePointsOf-all : (points : List Point) → length points ≡ length nodes → ((v : ℕ) → v < length nodes → place points v ≡ record { x = sum_at sums v; y = (node_at nodes v).y }) → ArePointsOf nodes root points
-  ArePointsOf-all points count at = record {
+  -- so their points are those of the tree
+  pub ArePointsOf-all : length sums ≡ length nodes → ArePointsOf nodes root sums
+  ArePointsOf-all count = record {
     count = count;
-    across = λ us v l way. ap (λ (p : Point). p.x) (at v l) ∙ m.added us v (all-met root us v m.begins way) way;
-    high = λ v l. ap (λ (p : Point). p.y) (at v l);
+    across = λ us v l way. m.added us v (all-met root us v m.begins way) way;
+    high = λ v l. let way = tree.reached v l in m.high v (all-met root way.0 v m.begins way.1);
   }
 
 -- ---- the links of the vertex at place i

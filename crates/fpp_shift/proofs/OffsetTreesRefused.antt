@@ -3,6 +3,7 @@ use Rattle.std.proofs.Common.{◌≡◌, ◌≢◌, ◌<◌, ℕ, zero, suc, Lis
 use Rattle.std.specs.Prelude.{slice_index}
 use Rattle.std.proofs.lemmas.Int.{ints}
 use Rattle.fpp_shift.specs.declared.offset_trees.nodes.Node.{Node}
+use Rattle.pg_plane.specs.declared.point.Point.{Point}
 use Rattle.fpp_shift.specs.Nodes.{right_of}
 use Rattle.fpp_shift.specs.Sums.{AreMet}
 use Rattle.fpp_shift.specs.Next.{CoversFrom}
@@ -20,11 +21,11 @@ last_covered_leads_on : (nodes nodes' : List Node) (p before f : ℕ) (dx : ℤ)
 last_covered_leads_on nodes nodes' p before f dx first ne e l c = cc (l, (c.1 ne f e).5.here)
 
 -- the sum of vertex 1 without its own offset
-own_offset_left_out : AreMet two 0 (0 ∷ 1 ∷ []) (pos 0 ∷ pos 0 ∷ []) 2 → ⊥
+own_offset_left_out : AreMet two 0 (0 ∷ 1 ∷ []) (record { x = pos 0; y = pos 0 } ∷ record { x = pos 0; y = pos 0 } ∷ []) 2 → ⊥
 own_offset_left_out m = omega (arith, ints, m.added (1 ∷ []) 1 (1, omega arith, refl) (inr refl, refl))
 
 -- both links of vertex 0 gone along, and vertex 1 not met
-right_link_forgotten : (sums : List ℤ) → AreMet two 0 (0 ∷ []) sums 2 → ⊥
+right_link_forgotten : (sums : List Point) → AreMet two 0 (0 ∷ []) sums 2 → ⊥
 right_link_forgotten sums m =
     let met = m.closed 1 (record { place = 0; is_right = true; gone = (omega arith, omega arith); leads = refl }) in
     nowhere met.0 met.1 met.2

@@ -13,6 +13,14 @@ pub record IsListOf (lists : Lists) (v : ℕ) (list : List ℕ) : Type 0 where
   pub vertex : v < length lists
   pub list_is : list ≡ list_of lists v
 
+-- The entry at a place of a list has a rank below k.
+abbrev pub IsEarlier : List ℕ → ℕ → List ℕ → ℕ → Type 0
+IsEarlier ranks k list i = slice_index ranks (slice_index list i) < k
+
+-- It has rank k or a later one.
+abbrev pub IsLater : List ℕ → ℕ → List ℕ → ℕ → Type 0
+IsLater ranks k list i = k ≤ slice_index ranks (slice_index list i)
+
 -- The row of the vertex v, of rank k, begins at its neighbour u: u is of a lower rank, and it is the first vertex of all or the neighbour after it is of a higher one.
 pub record BeginsRow (lists : Lists) (ranks : List ℕ) (k v u : ℕ) : Type 0 where
   pub dart : HasDart lists v u

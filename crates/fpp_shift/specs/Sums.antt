@@ -1,7 +1,9 @@
 -- How far the links of a tree have been gone along.
-use Rattle.std.specs.Prelude.{ℕ, ◌+◌, ◌*◌, ◌<◌, ◌≡◌, ◌⊎◌, Bool, if◌then◌else◌, List, ◌∷◌, length, slice_index, slice_index_or, Option, Some, ℤ, pos}
+use Rattle.std.specs.Prelude.{ℕ, ◌+◌, ◌*◌, ◌<◌, ◌≡◌, ◌⊎◌, Bool, if◌then◌else◌, List, ◌∷◌, length, slice_index, Option, Some, ℤ, ◌+ℤ◌}
 use Rattle.fpp_shift.specs.declared.offset_trees.nodes.Node.{Node}
-use Rattle.fpp_shift.specs.Nodes.{left_of, right_of}
+use Rattle.fpp_shift.specs.Nodes.{node_at, left_of, right_of}
+use Rattle.pg_plane.specs.declared.point.Point.{Point}
+use Rattle.plane_drawings.specs.Drawing.{place}
 use Rattle.fpp_shift.specs.Ways.{IsWay, sum_x}
 
 -- the right link of a vertex, or its left one
@@ -27,18 +29,27 @@ pub record IsLinked (nodes : List Node) (met : List ℕ) (h u : ℕ) : Type 0 wh
   pub gone : IsGone met h place is_right
   pub leads : link_of nodes is_right (slice_index met place) ≡ Some u
 
--- the whole number of a vertex
-abbrev pub sum_at : List ℤ → ℕ → ℤ
-sum_at sums v = slice_index_or sums v (pos 0)
+-- how far to the right the point of a vertex is
+abbrev pub sum_at : List Point → ℕ → ℤ
+sum_at points v = (place points v).x
 
--- The first h links of the vertices met have been gone along. Those met are the root and the vertices to which these links lead, each once, and the sums of x on the ways to them are known.
-pub record AreMet (nodes : List Node) (root : ℕ) (met : List ℕ) (sums : List ℤ) (h : ℕ) : Type 0 where
+-- the point of a node that no other leads to
+abbrev pub own_point : Node → Point
+own_point node = record { x = node.x; y = node.y }
+
+-- the point of a node to which one at this point leads
+abbrev pub point_beside : Point → Node → Point
+point_beside from node = record { x = from.x +ℤ node.x; y = node.y }
+
+-- The first h links of the vertices met have been gone along. Those met are the root and the vertices to which these links lead, each once. Their points are known: the sums of x on the ways to them, and the heights of their nodes.
+pub record AreMet (nodes : List Node) (root : ℕ) (met : List ℕ) (points : List Point) (h : ℕ) : Type 0 where
   pub apart : (i j : ℕ) → i < length met → j < length met → slice_index met i ≡ slice_index met j → i ≡ j
   pub inside : (u : ℕ) → IsMet met u → u < length nodes
   pub begins : IsMet met root
   pub linked : (u : ℕ) → IsMet met u → (u ≡ root) ⊎ IsLinked nodes met h u
   pub closed : (u : ℕ) → IsLinked nodes met h u → IsMet met u
-  pub added : (us : List ℕ) (u : ℕ) → IsMet met u → IsWay nodes root us u → sum_at sums u ≡ sum_x nodes (root ∷ us)
+  pub added : (us : List ℕ) (u : ℕ) → IsMet met u → IsWay nodes root us u → sum_at points u ≡ sum_x nodes (root ∷ us)
+  pub high : (u : ℕ) → IsMet met u → (place points u).y ≡ (node_at nodes u).y
 
 -- v stands at the place i of those met, and this link of it is the next to be gone along
 pub record IsNext (nodes : List Node) (met : List ℕ) (h v : ℕ) (link : Option ℕ) : Type 0 where

@@ -1,12 +1,12 @@
 //! The points to which a tree of offsets adds up.
-ghost use Rattle.std.specs.Prelude.{◌≡◌, ◌<◌, ◌≤◌, ◌+◌, ◌*◌, ℕ, [], ◌∷◌, length, option_map, slice_index, slice_set, pos, ◌+ℤ◌, OnOk, IfOk};
+ghost use Rattle.std.specs.Prelude.{◌≡◌, ◌<◌, ◌≤◌, ◌+◌, ◌*◌, ℕ, length, take, option_map, slice_index, slice_set, pos, ◌+ℤ◌, IfOk};
 ghost use Rattle.pg_plane.specs.Range.{IsWithin};
 ghost use Rattle.fpp_shift.specs.Nodes.{node_at};
 ghost use Rattle.plane_drawings.specs.Drawing.{place};
 ghost use Rattle.fpp_shift.specs.Ways.{IsTree, ArePointsOf};
-ghost use Rattle.fpp_shift.specs.Sums.{AreMet, IsNext, sum_at};
+ghost use Rattle.fpp_shift.specs.Sums.{AreMet, IsNext, own_point as own, point_beside as beside};
 
-use crate::offset_trees::Offsets;
+use crate::offset_trees::{Node, Offsets};
 use map_lists::VertexId;
 use pg_io::Steps;
 use pg_plane::{Point, Points};
@@ -14,184 +14,186 @@ use std::alloc::{AllocError, Global};
 use std::mem;
 use std::sync::ledger::Ledger;
 
-// A sum with one offset more.
-fn added(sum: i32, offset: i32) -> i32
-    requires { IsWithin (pos 1048576) (sum +ℤ offset) }
-    ensures { result ≡ sum +ℤ offset }
+// The point of a vertex to which one at `from` leads: by its node so far to the right of it, and as high as the node says.
+fn point_beside(from: Point, node: Node) -> Point
+    requires { IsWithin (pos 1048576) (from.x +ℤ node.x) }
+    ensures { result ≡ beside from node }
 {
-    sum + offset
+    Point {
+        x: from.x + node.x,
+        y: node.y,
+    }
 }
 
 // The vertex at place i of those met.
-fn vertex_at(met: &Vec<u16>, i: usize) -> u16
-    requires { i < length met.now.items }
-    ensures { result ≡ slice_index met.now.items i }
+fn vertex_at(met: &[u16], i: usize) -> u16
+    requires { i < length met.now }
+    ensures { result ≡ slice_index met.now i }
 {
     met[i]
 }
 
-// Meets the root alone, with room for so many vertices.
-fn meet_root(met: &mut Vec<u16>, root: VertexId, room: u16) -> Result<(), AllocError>
-    ensures { OnOk result (met.new.items ≡ root.0 ∷ []) }
+// Sets the vertex at place i of those met.
+fn meet(met: &mut [u16], i: usize, v: u16)
+    requires { i < length met.old }
+    ensures { met.new ≡ slice_set met.old i v }
 {
-    met.clear();
-    met.reserve(room as usize)?;
-    met.push(root.0)?;
-    Ok(())
+    met[i] = v;
 }
 
-// The sum of a vertex.
-fn sum_of(sums: &[i32], v: u16) -> i32
-    requires { v < length sums.now }
-    ensures { result ≡ sum_at sums.now v }
+// The point of a vertex.
+fn point_of(points: &[Point], v: u16) -> Point
+    requires { v < length points.now }
+    ensures { result ≡ place points.now v }
 {
-    sums[v as usize]
+    points[v as usize]
 }
 
-// Sets the sum of a vertex.
-fn put_sum(sums: &mut [i32], v: u16, sum: i32)
-    requires { v < length sums.old }
-    ensures { sums.new ≡ slice_set sums.old v sum }
+// Sets the point of a vertex.
+fn put_point(points: &mut [Point], v: u16, point: Point)
+    requires { v < length points.old }
+    ensures { points.new ≡ slice_set points.old v point }
 {
-    sums[v as usize] = sum;
+    points[v as usize] = point;
 }
 
-// Sets the sum of the root, which is its own offset.
-fn put_first<L: Ledger>(tree: &Offsets<L>, root: VertexId, sums: &mut [i32], steps: &mut Steps<L>)
-    requires sums { length sums.old ≡ length tree.now }
+// The point of a vertex with this node that no other leads to.
+fn own_point(node: Node) -> Point
+    ensures { result ≡ own node }
+{
+    Point {
+        x: node.x,
+        y: node.y,
+    }
+}
+
+// Sets the point of the root, which is its own offset and height.
+fn put_first<L: Ledger>(
+    tree: &Offsets<L>,
+    root: VertexId,
+    points: &mut [Point],
+    steps: &mut Steps<L>,
+)
+    requires points { length points.old ≡ length tree.now }
     requires root { root.0 < length tree.now }
-    ensures sum { sum_at sums.new root.0 ≡ (node_at tree.now root.0).x }
+    ensures point { place points.new root.0 ≡ own (node_at tree.now root.0) }
+    ensures count { length points.new ≡ length points.old }
     ensures step { steps.new ≡ steps.old + 1 }
 {
     let node = tree.get(root, steps);
-    put_sum(sums, root.0, node.x);
+    put_point(points, root.0, own_point(node));
 }
 
-// Goes along one link of a vertex: what it leads to is met, and its sum is that of the vertex and its own offset.
+// Goes along one link of a vertex, where `filled` vertices were met: what it leads to is met too, beside the vertex. It
+// answers how many are met then.
 fn follow<L: Ledger>(
     tree: &Offsets<L>,
-    met: &mut Vec<u16>,
-    sums: &mut [i32],
+    met: &mut [u16],
+    points: &mut [Point],
+    filled: usize,
     v: u16,
     link: Option<VertexId>,
     steps: &mut Steps<L>,
-) -> Result<(), AllocError>
-    requires sums { length sums.old ≡ length tree.now }
-    requires next { (root : ℕ) × (h : ℕ) × IsTree tree.now root × AreMet tree.now root met.old.items sums.old h
-        × IsNext tree.now met.old.items h v (option_map (λ u. u.0) link) }
-    ensures met { OnOk result ((root h : ℕ) → IsTree tree.now root → AreMet tree.now root met.old.items sums.old h
-        → IsNext tree.now met.old.items h v (option_map (λ u. u.0) link) → AreMet tree.now root met.new.items sums.new (h + 1)) }
-    ensures kept { (i : ℕ) → i < length met.old.items → (i < length met.new.items) × (slice_index met.new.items i ≡ slice_index met.old.items i) }
+) -> usize
+    requires met { length met.old ≡ length tree.now }
+    requires points { length points.old ≡ length tree.now }
+    requires filled { filled ≤ length tree.now }
+    requires next { (root : ℕ) × (h : ℕ) × IsTree tree.now root × AreMet tree.now root (take filled met.old) points.old h
+        × IsNext tree.now (take filled met.old) h v (option_map (λ u. u.0) link) }
+    ensures met { (root h : ℕ) → IsTree tree.now root → AreMet tree.now root (take filled met.old) points.old h
+        → IsNext tree.now (take filled met.old) h v (option_map (λ u. u.0) link) → AreMet tree.now root (take result met.new) points.new (h + 1) }
+    ensures kept { (i : ℕ) → i < filled → slice_index met.new i ≡ slice_index met.old i }
+    ensures grows { filled ≤ result }
+    ensures within { result ≤ length tree.now }
+    ensures met_count { length met.new ≡ length met.old }
+    ensures points_count { length points.new ≡ length points.old }
     ensures steps { steps.new ≤ steps.old + 1 }
     ensures never_falls { steps.old ≤ steps.new }
 {
     match link {
         Some(u) => {
             let node = tree.get(u, steps);
-            put_sum(sums, u.0, added(sum_of(sums, v), node.x));
-            met.push(u.0)?;
-            Ok(())
+            put_point(points, u.0, point_beside(point_of(points, v), node));
+            meet(met, filled, u.0);
+            filled + 1
         }
-        None => Ok(()),
+        None => filled,
     }
 }
 
-// Goes along both links of the vertex at place i of those met, if there is one.
+// Goes along both links of the vertex at place i of those met, if there is one. It answers how many are met then.
 fn follow_both<L: Ledger>(
     tree: &Offsets<L>,
-    met: &mut Vec<u16>,
-    sums: &mut [i32],
+    met: &mut [u16],
+    points: &mut [Point],
+    filled: usize,
     i: usize,
     steps: &mut Steps<L>,
-) -> Result<(), AllocError>
-    requires sums { length sums.old ≡ length tree.now }
-    requires met { (root : ℕ) × IsTree tree.now root × AreMet tree.now root met.old.items sums.old (2 * i) }
-    ensures met { OnOk result ((root : ℕ) → IsTree tree.now root → AreMet tree.now root met.old.items sums.old (2 * i)
-        → AreMet tree.now root met.new.items sums.new (2 * (i + 1))) }
+) -> usize
+    requires met { length met.old ≡ length tree.now }
+    requires points { length points.old ≡ length tree.now }
+    requires filled { filled ≤ length tree.now }
+    requires begun { (root : ℕ) × IsTree tree.now root × AreMet tree.now root (take filled met.old) points.old (2 * i) }
+    ensures met { (root : ℕ) → IsTree tree.now root → AreMet tree.now root (take filled met.old) points.old (2 * i)
+        → AreMet tree.now root (take result met.new) points.new (2 * (i + 1)) }
+    ensures within { result ≤ length tree.now }
+    ensures met_count { length met.new ≡ length met.old }
+    ensures points_count { length points.new ≡ length points.old }
     ensures steps { steps.new ≤ steps.old + 3 }
     ensures never_falls { steps.old ≤ steps.new }
 {
-    if met.len() <= i {
-        return Ok(());
+    if filled <= i {
+        return filled;
     }
     let v = vertex_at(met, i);
     let node = tree.get(VertexId(v), steps);
-    follow(tree, met, sums, v, node.left, steps)?;
-    follow(tree, met, sums, v, node.right, steps)?;
-    Ok(())
+    let filled = follow(tree, met, points, filled, v, node.left, steps);
+    follow(tree, met, points, filled, v, node.right, steps)
 }
 
-// Goes along both links of each vertex, in the order in which they are met.
+// Goes along both links of each vertex, in the order in which they are met, where the root alone was met.
 fn follow_all<L: Ledger>(
     tree: &Offsets<L>,
-    met: &mut Vec<u16>,
-    sums: &mut [i32],
+    met: &mut [u16],
+    points: &mut [Point],
     steps: &mut Steps<L>,
-) -> Result<(), AllocError>
-    requires sums { length sums.old ≡ length tree.now }
-    requires begun { (root : ℕ) × IsTree tree.now root × AreMet tree.now root met.old.items sums.old 0 }
-    ensures met { OnOk result ((root : ℕ) → IsTree tree.now root → AreMet tree.now root met.old.items sums.old 0
-        → AreMet tree.now root met.new.items sums.new (2 * length tree.now)) }
+)
+    requires met { length met.old ≡ length tree.now }
+    requires points { length points.old ≡ length tree.now }
+    requires begun { (root : ℕ) × IsTree tree.now root × AreMet tree.now root (take 1 met.old) points.old 0 }
+    ensures points { (root : ℕ) → IsTree tree.now root → AreMet tree.now root (take 1 met.old) points.old 0 → ArePointsOf tree.now root points.new }
     ensures steps { steps.new ≤ steps.old + 3 * length tree.now }
     ensures never_falls { steps.old ≤ steps.new }
 {
+    let mut filled = 1;
     for i in 0..tree.len() {
-        follow_both(tree, met, sums, i as usize, steps)?;
+        filled = follow_both(tree, met, points, filled, i as usize, steps);
     }
-    Ok(())
 }
 
-// The point of each vertex, by its sum and its node, in the memory of `spent`.
-fn points_at<L: Ledger>(
-    spent: Points,
-    tree: &Offsets<L>,
-    sums: &[i32],
-    steps: &mut Steps<L>,
-) -> Result<Points, AllocError>
-    requires sums { length sums.now ≡ length tree.now }
-    ensures count { IfOk result (λ points. length points ≡ length tree.now) }
-    ensures points { IfOk result (λ points. (v : ℕ) → v < length tree.now
-        → place points v ≡ record { x = sum_at sums.now v; y = (node_at tree.now v).y }) }
-    ensures steps { steps.new ≤ steps.old + length tree.now }
-    ensures never_falls { steps.old ≤ steps.new }
-{
-    let mut points = spent.emptied(tree.len() as usize)?;
-    for v in 0..tree.len() {
-        let y = tree.get(VertexId(v), steps).y;
-        points.push(Point {
-            x: sums[v as usize],
-            y,
-        })?;
-    }
-    Ok(points)
-}
-
-// The points of a tree, where the sums are still to be found, in the memory of `spent`.
-fn points_of<L: Ledger>(
-    spent: Points,
+// Finds the points of a tree, by tables that may hold anything.
+fn find_points<L: Ledger>(
     tree: &Offsets<L>,
     root: VertexId,
-    sums: &mut [i32],
-    met: &mut Vec<u16>,
+    met: &mut [u16],
+    points: &mut [Point],
     steps: &mut Steps<L>,
-) -> Result<Points, AllocError>
-    requires sums { length sums.old ≡ length tree.now }
+)
+    requires met { length met.old ≡ length tree.now }
+    requires points { length points.old ≡ length tree.now }
     requires tree { IsTree tree.now root.0 }
-    ensures points { IfOk result (ArePointsOf tree.now root.0) }
+    ensures points { ArePointsOf tree.now root.0 points.new }
     ensures steps { steps.new ≤ steps.old + 8 * length tree.now }
     ensures never_falls { steps.old ≤ steps.new }
 {
-    meet_root(met, root, tree.len())?;
-    put_first(tree, root, sums, steps);
-    follow_all(tree, met, sums, steps)?;
-    let points = points_at(spent, tree, sums, steps)?;
-    Ok(points)
+    meet(met, 0, root.0);
+    put_first(tree, root, points, steps);
+    follow_all(tree, met, points, steps);
 }
 
-// The tables by which sums are found, kept from one tree to the next.
+// The tables by which points are found, kept from one tree to the next.
 #[derive(Drop)]
 pub(crate) struct SumMemory {
-    sums: Vec<i32>,
     met: Vec<u16>,
     spent: Points,
 }
@@ -200,7 +202,6 @@ impl SumMemory {
     // No memory yet.
     pub(crate) fn new(alloc: Global) -> SumMemory {
         SumMemory {
-            sums: Vec::new(alloc),
             met: Vec::new(alloc),
             spent: Points::new(alloc),
         }
@@ -219,10 +220,12 @@ impl SumMemory {
         ensures steps { steps.new ≤ steps.old + 8 * length tree.now }
         ensures never_falls { steps.old ≤ steps.new }
     {
-        self.sums.resize(tree.len() as usize, 0)?;
+        self.met.resize(tree.len() as usize, 0)?;
         let spent = mem::replace(&mut self.spent, Points::new(alloc));
-        let points = points_of(spent, tree, root, &mut self.sums, &mut self.met, steps)?;
-        Ok(points)
+        let mut points = spent.into_vec();
+        points.resize(tree.len() as usize, Point { x: 0, y: 0 })?;
+        find_points(tree, root, &mut self.met, &mut points, steps);
+        Ok(Points::from_vec(points))
     }
 
     // Keeps the memory of points that are done with.

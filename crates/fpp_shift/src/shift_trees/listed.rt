@@ -4,7 +4,7 @@ ghost use Rattle.map_lists.specs.Lists.{Lists};
 ghost use Rattle.map_theory.specs.Maps.{Dart, vertex_count};
 ghost use Rattle.plane_laws.specs.Triangulations.{IsTriangulation};
 ghost use Rattle.canon_order.specs.Orders.{IsCanonicalOrder, IsRankOf, vertices_of};
-ghost use Rattle.fpp_shift.specs.ShiftTreesRows.{IsListOf, BeginsRow, EndsRow};
+ghost use Rattle.fpp_shift.specs.ShiftTreesRows.{IsListOf, IsEarlier, IsLater, BeginsRow, EndsRow};
 ghost use Rattle.fpp_shift.specs.Ways.{IsTree};
 ghost use Rattle.fpp_shift.specs.Trees.{IsTreeOf};
 
@@ -74,6 +74,64 @@ fn end_in(list: &[u16], ranks: &Counts, k: u32) -> u16
     list[0]
 }
 
+// The first place from `from` on whose entry has rank k or a later one, or the length where there is none.
+fn first_later(list: &[u16], ranks: &Counts, k: u32, from: usize) -> usize
+    requires from { from ≤ length list.now }
+    requires vertices { All (λ u. u < length ranks.now) list.now }
+    ensures from { from ≤ result }
+    ensures within { result ≤ length list.now }
+    ensures before { (i : ℕ) → from ≤ i → i < result → IsEarlier ranks.now k list.now i }
+    ensures here { result < length list.now → IsLater ranks.now k list.now result }
+{
+    for i in from..list.len() {
+        if k <= entry_rank(list, ranks, i) {
+            return i;
+        }
+    }
+    list.len()
+}
+
+// The first place from `from` on whose entry has a rank below k, or the length where there is none.
+fn first_earlier(list: &[u16], ranks: &Counts, k: u32, from: usize) -> usize
+    requires from { from ≤ length list.now }
+    requires vertices { All (λ u. u < length ranks.now) list.now }
+    ensures from { from ≤ result }
+    ensures within { result ≤ length list.now }
+    ensures before { (i : ℕ) → from ≤ i → i < result → IsLater ranks.now k list.now i }
+    ensures here { result < length list.now → IsEarlier ranks.now k list.now result }
+{
+    for i in from..list.len() {
+        if entry_rank(list, ranks, i) < k {
+            return i;
+        }
+    }
+    list.len()
+}
+
+// The neighbours at which the row of a vertex of rank k begins and ends, by one round of its list: where those of its
+// list that are later come to an end, and begin. Where none is later, the vertex is the last one.
+fn row_in(list: &[u16], ranks: &Counts, k: u32) -> (u16, u16)
+    requires some { 0 < length list.now }
+    requires vertices { All (λ u. u < length ranks.now) list.now }
+    ensures begin { (lists : Lists) (v p : ℕ) → IsListOf lists v list.now → BeginsRow lists ranks.now k v p → BeginsRow lists ranks.now k v result.0 }
+    ensures end { (lists : Lists) (v q : ℕ) → IsListOf lists v list.now → EndsRow lists ranks.now k v q → EndsRow lists ranks.now k v result.1 }
+{
+    let first = first_earlier(list, ranks, k, 0);
+    if 0 < first && first < list.len() {
+        let end = first_later(list, ranks, k, first);
+        return (list[end - 1], list[first]);
+    }
+    let end = first_later(list, ranks, k, 0);
+    if first == 0 && end < list.len() {
+        let again = first_earlier(list, ranks, k, end);
+        if again < list.len() {
+            return (list[end - 1], list[again]);
+        }
+        return (list[end - 1], list[0]);
+    }
+    (begin_in(list, ranks, k), end_in(list, ranks, k))
+}
+
 /// Makes `tree` the tree of offsets of a canonical order of a triangulation, by its lists.
 pub(crate) fn list_tree<L: Ledger>(
     lists: &Rotations,
@@ -100,8 +158,7 @@ pub(crate) fn list_tree<L: Ledger>(
     for k in 2..order.at.len() {
         let v = order.at.get(k);
         let list = lists.list(v.0 as usize);
-        let p = begin_in(list, &order.rank, k as u32);
-        let q = end_in(list, &order.rank, k as u32);
-        put_over(tree, v, VertexId(p), VertexId(q), steps);
+        let row = row_in(list, &order.rank, k as u32);
+        put_over(tree, v, VertexId(row.0), VertexId(row.1), steps);
     }
 }

@@ -35,8 +35,8 @@ list-list-requires g c =
 pub begin_tree-requires-clause-apart : goal.begin_tree-requires-clause-apart
 begin_tree-requires-clause-apart g c = two_first c.args.lists.now c.requires.order.0 (vertices_of c.args.order.now) c.requires.triangulation c.requires.order.1 c.get.result.0 c.get-2.result.0 (vertex-is c.args.order.now.at 0 c.get.result c.get.ensures) (vertex-is c.args.order.now.at 1 c.get-2.result c.get-2.ensures)
 
-pub begin_in-p-requires-clause-some : goal.begin_in-p-requires-clause-some
-begin_in-p-requires-clause-some g c =
+pub row_in-row-requires-clause-some : goal.row_in-row-requires-clause-some
+row_in-row-requires-clause-some g c =
     let at = vertices_of c.args.order.now in
     let lists = c.args.lists.now in
     let n = length-map c.args.order.now.at (λ v. v.0) in
@@ -47,32 +47,8 @@ begin_in-p-requires-clause-some g c =
     let ends = row-at lists c.requires.order.0 at c.args.order.now.rank c.requires.triangulation c.requires.order.1 c.requires.rank c.order_is_run.ensures c.order_has_rows.ensures c.loop-k.k c.get-v.result.0 c.loop-k.auto.k (omega arith) v_is in
     some-in c.list-list.result.now ends.0.0 (subst (λ (us : List ℕ). Contains us ends.0.0) (sym c.list-list.ensures) ends.0.1.dart.1)
 
-pub begin_in-p-requires-clause-vertices : goal.begin_in-p-requires-clause-vertices
-begin_in-p-requires-clause-vertices g c =
-    let at = vertices_of c.args.order.now in
-    let lists = c.args.lists.now in
-    let n = length-map c.args.order.now.at (λ v. v.0) in
-    let len = c.len-k-end.ensures in
-    let test = c.loop-k-test.true in
-    let v_is = vertex-is c.args.order.now.at c.loop-k.k c.get-v.result c.get-v.ensures in
-    let listed = listed-at lists c.requires.order.0 at c.args.order.now.rank c.list-list.result.now c.requires.triangulation c.requires.order.1 c.requires.rank c.loop-k.k c.get-v.result.0 (omega arith) v_is c.list-list.ensures in
-    let ends = row-at lists c.requires.order.0 at c.args.order.now.rank c.requires.triangulation c.requires.order.1 c.requires.rank c.order_is_run.ensures c.order_has_rows.ensures c.loop-k.k c.get-v.result.0 c.loop-k.auto.k (omega arith) v_is in
-    listed.1
-
-pub end_in-q-requires-clause-some : goal.end_in-q-requires-clause-some
-end_in-q-requires-clause-some g c =
-    let at = vertices_of c.args.order.now in
-    let lists = c.args.lists.now in
-    let n = length-map c.args.order.now.at (λ v. v.0) in
-    let len = c.len-k-end.ensures in
-    let test = c.loop-k-test.true in
-    let v_is = vertex-is c.args.order.now.at c.loop-k.k c.get-v.result c.get-v.ensures in
-    let listed = listed-at lists c.requires.order.0 at c.args.order.now.rank c.list-list.result.now c.requires.triangulation c.requires.order.1 c.requires.rank c.loop-k.k c.get-v.result.0 (omega arith) v_is c.list-list.ensures in
-    let ends = row-at lists c.requires.order.0 at c.args.order.now.rank c.requires.triangulation c.requires.order.1 c.requires.rank c.order_is_run.ensures c.order_has_rows.ensures c.loop-k.k c.get-v.result.0 c.loop-k.auto.k (omega arith) v_is in
-    some-in c.list-list.result.now ends.0.0 (subst (λ (us : List ℕ). Contains us ends.0.0) (sym c.list-list.ensures) ends.0.1.dart.1)
-
-pub end_in-q-requires-clause-vertices : goal.end_in-q-requires-clause-vertices
-end_in-q-requires-clause-vertices g c =
+pub row_in-row-requires-clause-vertices : goal.row_in-row-requires-clause-vertices
+row_in-row-requires-clause-vertices g c =
     let at = vertices_of c.args.order.now in
     let lists = c.args.lists.now in
     let n = length-map c.args.order.now.at (λ v. v.0) in
@@ -99,15 +75,15 @@ put_over-requires g c =
     let v_is = vertex-is c.args.order.now.at c.loop-k.k c.get-v.result c.get-v.ensures in
     let listed = listed-at lists base at c.args.order.now.rank c.list-list.result.now c.requires.triangulation order c.requires.rank c.loop-k.k c.get-v.result.0 (omega arith) v_is c.list-list.ensures in
     let ends = row-at lists base at c.args.order.now.rank c.requires.triangulation order c.requires.rank c.order_is_run.ensures c.order_has_rows.ensures c.loop-k.k c.get-v.result.0 c.loop-k.auto.k (omega arith) v_is in
-    let begin = c.begin_in-p.ensures lists c.get-v.result.0 ends.0.0 listed.0 ends.0.1 in
-    let end = c.end_in-q.ensures lists c.get-v.result.0 ends.1.0 listed.0 ends.1.1 in
+    let begin = c.row_in-row.ensures.begin lists c.get-v.result.0 ends.0.0 listed.0 ends.0.1 in
+    let end = c.row_in-row.ensures.end lists c.get-v.result.0 ends.1.0 listed.0 ends.1.1 in
     record {
       next = (
         at,
         run.0,
         c.loop-k.k - 2,
         IsNextStep-order lists base at c.args.order.now.rank c.requires.triangulation order c.requires.rank run.0 run.1 c.order_has_rows.ensures (omega arith) c.loop-k.tree (omega (arith, c.loop-k.invariant.count, c.requires.nodes)) (c.loop-k.k - 2) c.loop-k.k
-            c.get-v.result.0 c.begin_in-p.result c.end_in-q.result (omega arith) (omega arith) c.loop-k.invariant.grown (vertex-is c.args.order.now.at c.loop-k.k c.get-v.result c.get-v.ensures) begin end,
+            c.get-v.result.0 c.row_in-row.result.0 c.row_in-row.result.1 (omega arith) (omega arith) c.loop-k.invariant.grown (vertex-is c.args.order.now.at c.loop-k.k c.get-v.result c.get-v.ensures) begin end,
       );
     }
 
@@ -126,13 +102,13 @@ loop-k-preserved g c =
     let v_is = vertex-is c.args.order.now.at c.loop-k.k c.get-v.result c.get-v.ensures in
     let listed = listed-at lists c.requires.order.0 at c.args.order.now.rank c.list-list.result.now c.requires.triangulation c.requires.order.1 c.requires.rank c.loop-k.k c.get-v.result.0 (omega arith) v_is c.list-list.ensures in
     let ends = row-at lists c.requires.order.0 at c.args.order.now.rank c.requires.triangulation c.requires.order.1 c.requires.rank c.order_is_run.ensures c.order_has_rows.ensures c.loop-k.k c.get-v.result.0 c.loop-k.auto.k (omega arith) v_is in
-    let begin = c.begin_in-p.ensures lists c.get-v.result.0 ends.0.0 listed.0 ends.0.1 in
-    let end = c.end_in-q.ensures lists c.get-v.result.0 ends.1.0 listed.0 ends.1.1 in
-    let next : (base : Dart) (order : IsCanonicalOrder lists base at) (steps : ℕ → Step) → IsOrderRun lists base at order.cycle steps → IsNextStep at steps i c.loop-k.tree c.get-v.result.0 c.begin_in-p.result c.end_in-q.result =
+    let begin = c.row_in-row.ensures.begin lists c.get-v.result.0 ends.0.0 listed.0 ends.0.1 in
+    let end = c.row_in-row.ensures.end lists c.get-v.result.0 ends.1.0 listed.0 ends.1.1 in
+    let next : (base : Dart) (order : IsCanonicalOrder lists base at) (steps : ℕ → Step) → IsOrderRun lists base at order.cycle steps → IsNextStep at steps i c.loop-k.tree c.get-v.result.0 c.row_in-row.result.0 c.row_in-row.result.1 =
     λ base order steps run.
     (let count = order.count in
     IsNextStep-order lists base at c.args.order.now.rank c.requires.triangulation order c.requires.rank steps run c.order_has_rows.ensures (omega arith) c.loop-k.tree (omega (arith, c.loop-k.invariant.count, c.requires.nodes)) i c.loop-k.k c.get-v.result.0
-    c.begin_in-p.result c.end_in-q.result d (omega arith) c.loop-k.invariant.grown (vertex-is c.args.order.now.at c.loop-k.k c.get-v.result c.get-v.ensures) begin end) in
+    c.row_in-row.result.0 c.row_in-row.result.1 d (omega arith) c.loop-k.invariant.grown (vertex-is c.args.order.now.at c.loop-k.k c.get-v.result c.get-v.ensures) begin end) in
     record {
       grown = λ base order steps run j e.
           let more : suc i ≡ j = omega arith in
