@@ -1,4 +1,5 @@
 -- Canonical orders, and how they are found.
+pub mod Ranks
 pub mod Orders
 pub mod Laws
 pub mod Lefts

@@ -6,7 +6,8 @@ use Rattle.map_theory.specs.Maps.{Dart, HasDart, vertex_count, follows}
 use Rattle.plane_peeling.specs.Restricted.{restricted, IsFaceOfThree, IsDartOfThree}
 use Rattle.plane_peeling.specs.NearTriangulations.{IsOuterCycle}
 use Rattle.plane_peeling.specs.Peeled.{IsFan}
-use Rattle.canon_order.specs.declared.order.Order.{Order}
+use Rattle.canon_order.specs.declared.numbered.Order.{Order}
+pub use Rattle.canon_order.specs.Ranks.{IsRankOf}
 
 -- whether v stands in a list
 abbrev pub stands_in : List ℕ → ℕ → Bool
@@ -56,12 +57,6 @@ pub record IsCanonicalOrder (lists : Lists) (base : Dart) (at : List ℕ) : Type
   pub cycle : ℕ → List ℕ
   pub built : IsBuiltUp lists base.1 base.0 at cycle
   pub faces : (x y : ℕ) → HasDart lists x y → ¬ IsDartOfThree base.0 base.1 (follows lists base.1 base.0) x y → IsMade lists at cycle x y
-
--- rank has the place of each vertex in a list
-pub record IsRankOf (rank at : List ℕ) : Type 0 where
-  pub count : length rank ≡ length at
-  pub of_place : (i : ℕ) → i < length at → slice_index rank (slice_index at i) ≡ i
-  pub of_vertex : (v : ℕ) → v < length at → slice_index at (slice_index rank v) ≡ v
 
 -- the vertices of an order, one after another, by their numbers
 abbrev pub vertices_of : Order → List ℕ

@@ -9,11 +9,13 @@ mod contour;
 pub mod cycle_marks;
 mod fault;
 mod lists;
+mod numbered;
 mod order;
 
 pub use fault::OrderFault;
 pub use lists::push_three;
-pub use order::{Order, Peeler, base_order, canon_order, list_order, turned_order};
+pub use numbered::Order;
+pub use order::{Peeler, base_order, canon_order, list_order, turned_order};
 
 /// Each triangulation has a canonical order for each base dart.
 pub fn some_order()

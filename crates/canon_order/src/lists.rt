@@ -2,7 +2,7 @@
 ghost use Rattle.std.specs.Prelude.{◌≡◌, ◌+◌, ◌<◌, ◌≤◌, ◌==◌, ◌↔◌, ℕ, true, [], ◌∷◌, ◌++◌, map, reverse, length, slice_index, count_by, All, AllPairs, Contains, ◌≢◌, IsTrue, IfOk};
 ghost use Rattle.map_theory.specs.Maps.{entry_after};
 ghost use Rattle.canon_order.specs.Marks.{is_set};
-ghost use Rattle.canon_order.specs.Orders.{IsRankOf};
+ghost use Rattle.canon_order.specs.Ranks.{IsRankOf};
 
 use half_edges::{Counts, VertexId, VertexList};
 use std::alloc::AllocError;

@@ -4,34 +4,16 @@ ghost use Rattle.map_theory.specs.Maps.{HasDart, follows};
 ghost use Rattle.plane_laws.specs.Triangulations.{IsTriangulation};
 ghost use Rattle.half_edges.specs.Map.{IsLive, dart_at};
 ghost use Rattle.canon_order.specs.Marks.{is_set, IsUnmarked};
-ghost use Rattle.canon_order.specs.Orders.{IsCanonicalOrder, IsRankOf, vertices_of};
+ghost use Rattle.canon_order.specs.Orders.{IsCanonicalOrder, vertices_of};
 
 use crate::base::Base;
 use crate::contour::{mark_base, removable_vertex, take_off};
 use crate::fault::OrderFault;
+use crate::numbered::Order;
 use crate::lists::{entry_behind, push_three, turned_ranks, turned_vertices};
 use half_edges::{Counts, DartId, HalfMap, Rotations, VertexList};
 use std::alloc::{AllocError, Global};
 use std::mem;
-
-/// An order of a map's vertices, and its inverse.
-#[derive(Drop)]
-pub struct Order {
-    /// The vertices, one after another, all of them once.
-    pub at: VertexList,
-    /// For each vertex, by its number, its place in `at`, from 0.
-    pub rank: Counts,
-}
-
-impl Order {
-    // The order of no vertices. It takes no memory.
-    fn new(alloc: Global) -> Order {
-        Order {
-            at: VertexList::new(alloc),
-            rank: Counts::new(alloc),
-        }
-    }
-}
 
 // Takes vertices off until three are left, and those too: from the last one of an order to the first. At
 // first all vertices are left, and none is marked.
@@ -66,7 +48,6 @@ pub fn turned_order(alloc: Global, taken: &[u16]) -> Result<Order, AllocError>
     requires within { All (λ v. v < length taken.now) taken.now }
     requires distinct { AllPairs ◌≢◌ taken.now }
     ensures vertices { IfOk result (λ order. vertices_of order ≡ reverse taken.now) }
-    ensures rank { IfOk result (λ order. IsRankOf order.rank (reverse taken.now)) }
 {
     let order = turned_into(Order::new(alloc), taken)?;
     Ok(order)
@@ -78,7 +59,6 @@ fn turned_into(spent: Order, taken: &[u16]) -> Result<Order, AllocError>
     requires within { All (λ v. v < length taken.now) taken.now }
     requires distinct { AllPairs ◌≢◌ taken.now }
     ensures vertices { IfOk result (λ order. vertices_of order ≡ reverse taken.now) }
-    ensures rank { IfOk result (λ order. IsRankOf order.rank (reverse taken.now)) }
 {
     let at = turned_vertices(spent.at, taken)?;
     let rank = turned_ranks(spent.rank, taken)?;
@@ -149,7 +129,6 @@ impl Peeler {
     // The order of a triangulation for its base.
     fn order(&mut self, alloc: Global, base: &Base<'_>) -> Result<Order, AllocError>
         ensures order { IfOk result (λ order. IsCanonicalOrder base.now.lists.now (base.now.t, base.now.s) (vertices_of order)) }
-        ensures rank { IfOk result (λ order. IsRankOf order.rank (vertices_of order)) }
     {
         base.facts();
         self.take(base)?;
@@ -175,7 +154,6 @@ impl Peeler {
         requires lists { lists.now ≡ tri.now.lists }
         requires live { IsLive tri.now base.0 }
         ensures order { IfOk result (λ order. (t s : ℕ) → dart_at tri.now base.0 ≡ Some (t, s) → IsCanonicalOrder tri.now.lists (t, s) (vertices_of order)) }
-        ensures rank { IfOk result (λ order. IsRankOf order.rank (vertices_of order)) }
     {
         tri.facts();
         let t = tri.tail(base).0;
@@ -204,7 +182,6 @@ impl Peeler {
         requires triangulation { IsTriangulation lists.now }
         requires base { HasDart lists.now t s }
         ensures order { IfOk result (λ order. IsCanonicalOrder lists.now (t, s) (vertices_of order)) }
-        ensures rank { IfOk result (λ order. IsRankOf order.rank (vertices_of order)) }
     {
         lists.facts();
         let third = entry_behind(lists.list(s as usize), t);
@@ -239,7 +216,6 @@ pub fn canon_order(alloc: Global, tri: &HalfMap, base: DartId) -> Result<Order, 
     requires triangulation { IsTriangulation tri.now.lists }
     requires live { IsLive tri.now base.0 }
     ensures order { IfOk result (λ order. (t s : ℕ) → dart_at tri.now base.0 ≡ Some (t, s) → IsCanonicalOrder tri.now.lists (t, s) (vertices_of order)) }
-    ensures rank { IfOk result (λ order. IsRankOf order.rank (vertices_of order)) }
 {
     let lists = tri.rotations(alloc)?;
     let order = list_order(alloc, tri, &lists, base)?;
@@ -257,7 +233,6 @@ pub fn list_order(
     requires lists { lists.now ≡ tri.now.lists }
     requires live { IsLive tri.now base.0 }
     ensures order { IfOk result (λ order. (t s : ℕ) → dart_at tri.now base.0 ≡ Some (t, s) → IsCanonicalOrder tri.now.lists (t, s) (vertices_of order)) }
-    ensures rank { IfOk result (λ order. IsRankOf order.rank (vertices_of order)) }
 {
     let mut peeler = Peeler::new(alloc);
     let order = peeler.list_order(alloc, tri, lists, base)?;
@@ -270,7 +245,6 @@ pub fn base_order(alloc: Global, lists: &Rotations, t: u16, s: u16) -> Result<Or
     requires triangulation { IsTriangulation lists.now }
     requires base { HasDart lists.now t s }
     ensures order { IfOk result (λ order. IsCanonicalOrder lists.now (t, s) (vertices_of order)) }
-    ensures rank { IfOk result (λ order. IsRankOf order.rank (vertices_of order)) }
 {
     let mut peeler = Peeler::new(alloc);
     let order = peeler.base_order(alloc, lists, t, s)?;

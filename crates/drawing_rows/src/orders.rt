@@ -3,7 +3,7 @@ ghost use Rattle.std.specs.Prelude.{◌<◌, IfOk, IfSome, length};
 ghost use Rattle.half_edges.specs.Map.{IsLive};
 ghost use Rattle.map_theory.specs.Maps.{Dart, HasDart};
 ghost use Rattle.plane_laws.specs.Triangulations.{IsTriangulation};
-ghost use Rattle.canon_order.specs.Orders.{IsCanonicalOrder, IsRankOf, vertices_of};
+ghost use Rattle.canon_order.specs.Orders.{IsCanonicalOrder, vertices_of};
 
 use crate::{completions, trees, verdicts, woods};
 use canon_order::{Order, canon_order};
@@ -28,7 +28,6 @@ fn order_of(alloc: Global, lists: &Rotations) -> Result<DrawingOrder, Unserved>
     ensures triangulation { IfOk result (λ found. IsTriangulation found.tri.lists) }
     ensures order { IfOk result (λ found. (base : Dart) × IsCanonicalOrder found.tri.lists base (vertices_of found.order)) }
     ensures based { IfOk result (λ found. (base : Dart) × HasDart found.tri.lists base.0 base.1 × IsCanonicalOrder found.tri.lists base (vertices_of found.order)) }
-    ensures rank { IfOk result (λ found. IsRankOf found.order.rank (vertices_of found.order)) }
 {
     let found = drawing_order(alloc, lists)?;
     Ok(found)
@@ -62,7 +61,6 @@ fn put_served(figure: Result<GridFigure, Unserved>, most: u16, out: &mut String)
 fn shift(alloc: Global, tri: &HalfMap, order: &Order, out: &mut String)
     requires triangulation { IsTriangulation tri.now.lists }
     requires order { (base : Dart) × IsCanonicalOrder tri.now.lists base (vertices_of order.now) }
-    requires rank { IsRankOf order.now.rank (vertices_of order.now) }
 {
     match shift_draw(alloc, tri, order) {
         Ok(figure) => put_points(&figure.points, usize::MAX, out),
@@ -74,7 +72,6 @@ fn shift(alloc: Global, tri: &HalfMap, order: &Order, out: &mut String)
 fn schnyder(alloc: Global, tri: &HalfMap, order: &Order, out: &mut String)
     requires triangulation { IsTriangulation tri.now.lists }
     requires order { (base : Dart) × IsCanonicalOrder tri.now.lists base (vertices_of order.now) }
-    requires rank { IsRankOf order.now.rank (vertices_of order.now) }
 {
     match wood_draw(alloc, tri, order) {
         Ok(figure) => put_points(&figure.points, usize::MAX, out),
@@ -118,7 +115,6 @@ fn order_for(alloc: Global, tri: &HalfMap, ends: (u16, u16), out: &mut String)
 fn of_order(alloc: Global, call: &str, tri: &HalfMap, order: &Order, out: &mut String)
     requires triangulation { IsTriangulation tri.now.lists }
     requires order { (base : Dart) × IsCanonicalOrder tri.now.lists base (vertices_of order.now) }
-    requires rank { IsRankOf order.now.rank (vertices_of order.now) }
 {
     match call {
         "order" => put_order(order, out),
@@ -140,7 +136,6 @@ fn of_found(
     requires triangulation { IsTriangulation found.now.tri.lists }
     requires order { (base : Dart) × IsCanonicalOrder found.now.tri.lists base (vertices_of found.now.order) }
     requires based { (base : Dart) × HasDart found.now.tri.lists base.0 base.1 × IsCanonicalOrder found.now.tri.lists base (vertices_of found.now.order) }
-    requires rank { IsRankOf found.now.order.rank (vertices_of found.now.order) }
 {
     let (tri, order) = (&found.tri, &found.order);
     match kind.0 {

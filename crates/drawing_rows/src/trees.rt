@@ -2,7 +2,7 @@
 ghost use Rattle.std.specs.Prelude.{◌≡◌, ◌<◌, length};
 ghost use Rattle.map_theory.specs.Maps.{Dart, vertex_count};
 ghost use Rattle.plane_laws.specs.Triangulations.{IsTriangulation};
-ghost use Rattle.canon_order.specs.Orders.{IsCanonicalOrder, IsRankOf, vertices_of};
+ghost use Rattle.canon_order.specs.Orders.{IsCanonicalOrder, vertices_of};
 
 use canon_order::Order;
 use fpp_shift::{Node, Offsets, offset_tree, sum_offsets};
@@ -95,7 +95,6 @@ fn put_summed<L: Ledger>(
 )
     requires triangulation { IsTriangulation tri.now.lists }
     requires order { (base : Dart) × IsCanonicalOrder tri.now.lists base (vertices_of order.now) }
-    requires rank { IsRankOf order.now.rank (vertices_of order.now) }
     requires nodes { length tree.old ≡ vertex_count tri.now.lists }
     requires some { 0 < length order.now.at }
 {
@@ -117,7 +116,6 @@ fn sums<L: Ledger>(
 )
     requires triangulation { IsTriangulation tri.now.lists }
     requires order { (base : Dart) × IsCanonicalOrder tri.now.lists base (vertices_of order.now) }
-    requires rank { IsRankOf order.now.rank (vertices_of order.now) }
     requires size { 0 < vertex_count tri.now.lists }
     requires first { 0 < length order.now.at }
     requires name { blank.name ≡ L.name }
@@ -135,7 +133,6 @@ fn sums<L: Ledger>(
 pub fn answer(alloc: Global, nodes: bool, tri: &HalfMap, order: &Order, out: &mut String)
     requires triangulation { IsTriangulation tri.now.lists }
     requires order { (base : Dart) × IsCanonicalOrder tri.now.lists base (vertices_of order.now) }
-    requires rank { IsRankOf order.now.rank (vertices_of order.now) }
 {
     if 0 < tri.n() && 0 < order.at.len() {
         sums::<Brand>(alloc, nodes, tri, order, Blank::new(1), out);

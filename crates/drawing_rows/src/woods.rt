@@ -2,7 +2,7 @@
 ghost use Rattle.std.specs.Prelude.{◌<◌, IfOk};
 ghost use Rattle.map_theory.specs.Maps.{Dart, HasDart};
 ghost use Rattle.plane_laws.specs.Triangulations.{IsTriangulation};
-ghost use Rattle.canon_order.specs.Orders.{IsCanonicalOrder, IsRankOf, vertices_of};
+ghost use Rattle.canon_order.specs.Orders.{IsCanonicalOrder, vertices_of};
 ghost use Rattle.schnyder_wood.specs.Parents.{count_in, IsInnerIn, IsWoodOf};
 
 use canon_order::Order;
@@ -23,7 +23,6 @@ fn wood_of(alloc: Global, tri: &HalfMap, order: &Order) -> Result<Wood, AllocErr
     requires triangulation { IsTriangulation tri.now.lists }
     requires order { (base : Dart) × IsCanonicalOrder tri.now.lists base (vertices_of order.now) }
     requires based { (base : Dart) × HasDart tri.now.lists base.0 base.1 × IsCanonicalOrder tri.now.lists base (vertices_of order.now) }
-    requires rank { IsRankOf order.now.rank (vertices_of order.now) }
     ensures { IfOk result (λ found. (base : Dart) × HasDart tri.now.lists base.0 base.1 × IsWoodOf tri.now.lists base found) }
 {
     let found = wood(alloc, tri, order)?;
@@ -176,7 +175,6 @@ pub fn answer(
     requires triangulation { IsTriangulation tri.now.lists }
     requires order { (base : Dart) × IsCanonicalOrder tri.now.lists base (vertices_of order.now) }
     requires based { (base : Dart) × HasDart tri.now.lists base.0 base.1 × IsCanonicalOrder tri.now.lists base (vertices_of order.now) }
-    requires rank { IsRankOf order.now.rank (vertices_of order.now) }
 {
     match wood_of(alloc, tri, order) {
         Ok(found) => of_wood(alloc, call, tri, &found, number, out),

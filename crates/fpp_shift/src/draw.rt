@@ -2,7 +2,7 @@
 ghost use Rattle.std.specs.Prelude.{◌≡◌, ◌<◌, ◌-◌, ◌*◌, length, pos, IfOk};
 ghost use Rattle.map_theory.specs.Maps.{Dart, HasDart, vertex_count};
 ghost use Rattle.plane_laws.specs.Triangulations.{IsTriangulation};
-ghost use Rattle.canon_order.specs.Orders.{IsCanonicalOrder, IsRankOf, vertices_of};
+ghost use Rattle.canon_order.specs.Orders.{IsCanonicalOrder, vertices_of};
 ghost use Rattle.fpp_shift.specs.ShiftDrawings.{AreShiftPoints, IsShiftDrawing};
 
 use crate::fault::ShiftFault;
@@ -32,7 +32,6 @@ use std::sync::ledger::{Blank, Ledger};
 pub fn shift_draw(alloc: Global, tri: &HalfMap, order: &Order) -> Result<GridFigure, ShiftFault>
     requires triangulation { IsTriangulation tri.now.lists }
     requires order { (base : Dart) × IsCanonicalOrder tri.now.lists base (vertices_of order.now) }
-    requires rank { IsRankOf order.now.rank (vertices_of order.now) }
     ensures points { IfOk result (λ figure. (base : Dart) (canonical : IsCanonicalOrder tri.now.lists base (vertices_of order.now))
         → AreShiftPoints tri.now.lists base (vertices_of order.now) canonical.cycle figure.points) }
     ensures drawing { IfOk result (λ figure. (base : Dart) → HasDart tri.now.lists base.0 base.1 → IsCanonicalOrder tri.now.lists base (vertices_of order.now)
@@ -93,7 +92,6 @@ impl Shifter {
         requires some { 0 < blank.parts }
         requires triangulation { IsTriangulation lists.now }
         requires order { (base : Dart) × IsCanonicalOrder lists.now base (vertices_of order.now) }
-        requires rank { IsRankOf order.now.rank (vertices_of order.now) }
         ensures { IfOk result (λ points. (base : Dart) (canonical : IsCanonicalOrder lists.now base (vertices_of order.now))
             → AreShiftPoints lists.now base (vertices_of order.now) canonical.cycle points) }
     {
@@ -118,7 +116,6 @@ impl Shifter {
     pub fn list_draw(&mut self, lists: &Rotations, order: &Order) -> Result<GridFigure, AllocError>
         requires triangulation { IsTriangulation lists.now }
         requires order { (base : Dart) × IsCanonicalOrder lists.now base (vertices_of order.now) }
-        requires rank { IsRankOf order.now.rank (vertices_of order.now) }
         ensures points { IfOk result (λ figure. (base : Dart) (canonical : IsCanonicalOrder lists.now base (vertices_of order.now))
             → AreShiftPoints lists.now base (vertices_of order.now) canonical.cycle figure.points) }
         ensures drawing { IfOk result (λ figure. (base : Dart) → HasDart lists.now base.0 base.1 → IsCanonicalOrder lists.now base (vertices_of order.now)
@@ -141,7 +138,6 @@ impl Shifter {
 pub fn list_draw(alloc: Global, lists: &Rotations, order: &Order) -> Result<GridFigure, AllocError>
     requires triangulation { IsTriangulation lists.now }
     requires order { (base : Dart) × IsCanonicalOrder lists.now base (vertices_of order.now) }
-    requires rank { IsRankOf order.now.rank (vertices_of order.now) }
     ensures points { IfOk result (λ figure. (base : Dart) (canonical : IsCanonicalOrder lists.now base (vertices_of order.now))
         → AreShiftPoints lists.now base (vertices_of order.now) canonical.cycle figure.points) }
     ensures drawing { IfOk result (λ figure. (base : Dart) → HasDart lists.now base.0 base.1 → IsCanonicalOrder lists.now base (vertices_of order.now)

@@ -58,5 +58,5 @@ pub(crate) fn rows_of(
         let kept = kept_of(alloc, graph, &row, v)?;
         lists.push(&kept)?;
     }
-    Ok(lists)
+    Ok(Rotations::from_lists(lists))
 }

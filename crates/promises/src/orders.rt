@@ -1,7 +1,7 @@
 //! Triangulations, orders and numberings.
 ghost use Rattle.std.specs.Prelude.{◌≡◌, ◌≤◌, ℕ, Some, IfOk, IfErr, ◌<◌, map, length};
 ghost use Rattle.bipolar.specs.DualNumbers.{AreDualNumbers};
-ghost use Rattle.canon_order.specs.Orders.{IsCanonicalOrder, IsRankOf, vertices_of};
+ghost use Rattle.canon_order.specs.Orders.{IsCanonicalOrder, vertices_of};
 ghost use Rattle.graph_search.specs.Cuts.{IsCutVertex};
 ghost use Rattle.half_edges.specs.Map.{IsHalfMap, dart_at, IsLive};
 ghost use Rattle.map_gen.specs.Stacked.{stacked as stacked_lists};
@@ -38,7 +38,6 @@ pub fn canon_order(alloc: Global, tri: &HalfMap, base: DartId) -> Result<Order, 
     requires triangulation { IsTriangulation tri.now.lists }
     requires live { IsLive tri.now base.0 }
     ensures order { IfOk result (λ order. (t s : ℕ) → dart_at tri.now base.0 ≡ Some (t, s) → IsCanonicalOrder tri.now.lists (t, s) (vertices_of order)) }
-    ensures rank { IfOk result (λ order. IsRankOf order.rank (vertices_of order)) }
 {
     canon_order::canon_order(alloc, tri, base)
 }
@@ -74,7 +73,6 @@ pub fn rect_order(alloc: Global, more: &Rotations, frame: Frame) -> Result<Order
     requires class { (map : Lists) × IsClosedOf more.now map frame.left.0 frame.top.0 frame.right.0 frame.bottom.0 frame.inner.0 }
     ensures order { IfOk result (λ order. (map : Lists) → IsClosedOf more.now map frame.left.0 frame.top.0 frame.right.0 frame.bottom.0 frame.inner.0
         → IsRectOrder map frame.left.0 frame.top.0 frame.right.0 frame.bottom.0 (vertices_of order)) }
-    ensures rank { IfOk result (λ order. IsRankOf order.rank (vertices_of order)) }
 {
     rect_orders::rect_order::rect_order(alloc, more, frame)
 }
@@ -93,7 +91,6 @@ pub fn base_order(alloc: Global, lists: &Rotations, t: u16, s: u16) -> Result<Or
     requires triangulation { IsTriangulation lists.now }
     requires base { HasDart lists.now t s }
     ensures order { IfOk result (λ order. IsCanonicalOrder lists.now (t, s) (vertices_of order)) }
-    ensures rank { IfOk result (λ order. IsRankOf order.rank (vertices_of order)) }
 {
     canon_order::base_order(alloc, lists, t, s)
 }
@@ -109,7 +106,6 @@ pub fn list_order(
     requires lists { lists.now ≡ tri.now.lists }
     requires live { IsLive tri.now base.0 }
     ensures order { IfOk result (λ order. (t s : ℕ) → dart_at tri.now base.0 ≡ Some (t, s) → IsCanonicalOrder tri.now.lists (t, s) (vertices_of order)) }
-    ensures rank { IfOk result (λ order. IsRankOf order.rank (vertices_of order)) }
 {
     canon_order::list_order(alloc, tri, lists, base)
 }
@@ -125,7 +121,6 @@ pub fn peeled_base_order(
     requires triangulation { IsTriangulation lists.now }
     requires base { HasDart lists.now t s }
     ensures order { IfOk result (λ order. IsCanonicalOrder lists.now (t, s) (vertices_of order)) }
-    ensures rank { IfOk result (λ order. IsRankOf order.rank (vertices_of order)) }
 {
     peeler.base_order(alloc, lists, t, s)
 }
@@ -142,7 +137,6 @@ pub fn peeled_list_order(
     requires lists { lists.now ≡ tri.now.lists }
     requires live { IsLive tri.now base.0 }
     ensures order { IfOk result (λ order. (t s : ℕ) → dart_at tri.now base.0 ≡ Some (t, s) → IsCanonicalOrder tri.now.lists (t, s) (vertices_of order)) }
-    ensures rank { IfOk result (λ order. IsRankOf order.rank (vertices_of order)) }
 {
     peeler.list_order(alloc, tri, lists, base)
 }

@@ -1,6 +1,6 @@
 //! The shift method.
 ghost use Rattle.std.specs.Prelude.{◌≡◌, ◌<◌, ◌-◌, ◌*◌, pos, IfOk, ◌≤◌, ◌+◌, length, slice_index, replicate, slice_set, Some, None, IfErr, OnOk};
-ghost use Rattle.canon_order.specs.Orders.{IsCanonicalOrder, IsRankOf, vertices_of};
+ghost use Rattle.canon_order.specs.Orders.{IsCanonicalOrder, vertices_of};
 ghost use Rattle.fpp_shift.specs.Nodes.{empty_node, node_at};
 ghost use Rattle.fpp_shift.specs.ShiftDrawings.{AreShiftPoints, IsShiftDrawing};
 ghost use Rattle.fpp_shift.specs.Trees.{IsTreeOf};
@@ -26,7 +26,6 @@ use std::sync::ledger::Ledger;
 pub fn shift_draw(alloc: Global, tri: &HalfMap, order: &Order) -> Result<GridFigure, ShiftFault>
     requires triangulation { IsTriangulation tri.now.lists }
     requires order { (base : Dart) × IsCanonicalOrder tri.now.lists base (vertices_of order.now) }
-    requires rank { IsRankOf order.now.rank (vertices_of order.now) }
     ensures points { IfOk result (λ figure. (base : Dart) (canonical : IsCanonicalOrder tri.now.lists base (vertices_of order.now))
         → AreShiftPoints tri.now.lists base (vertices_of order.now) canonical.cycle figure.points) }
     ensures drawing { IfOk result (λ figure. (base : Dart) → HasDart tri.now.lists base.0 base.1 → IsCanonicalOrder tri.now.lists base (vertices_of order.now)
@@ -46,7 +45,6 @@ pub fn offset_tree<L: Ledger>(
 )
     requires triangulation { IsTriangulation tri.now.lists }
     requires order { (base : Dart) × IsCanonicalOrder tri.now.lists base (vertices_of order.now) }
-    requires rank { IsRankOf order.now.rank (vertices_of order.now) }
     requires nodes { length tree.old ≡ vertex_count tri.now.lists }
     ensures tree { IsTreeOf tri.now.lists (vertices_of order.now) tree.new }
     ensures links { IsTree tree.new (slice_index (vertices_of order.now) 0) }
@@ -119,7 +117,6 @@ pub fn shift_figure(alloc: Global, lists: &Rotations) -> Result<GridFigure, Unse
 pub fn list_draw(alloc: Global, lists: &Rotations, order: &Order) -> Result<GridFigure, AllocError>
     requires triangulation { IsTriangulation lists.now }
     requires order { (base : Dart) × IsCanonicalOrder lists.now base (vertices_of order.now) }
-    requires rank { IsRankOf order.now.rank (vertices_of order.now) }
     ensures points { IfOk result (λ figure. (base : Dart) (canonical : IsCanonicalOrder lists.now base (vertices_of order.now))
         → AreShiftPoints lists.now base (vertices_of order.now) canonical.cycle figure.points) }
     ensures drawing { IfOk result (λ figure. (base : Dart) → HasDart lists.now base.0 base.1 → IsCanonicalOrder lists.now base (vertices_of order.now)
@@ -138,7 +135,6 @@ pub fn shifted_draw(
 ) -> Result<GridFigure, AllocError>
     requires triangulation { IsTriangulation lists.now }
     requires order { (base : Dart) × IsCanonicalOrder lists.now base (vertices_of order.now) }
-    requires rank { IsRankOf order.now.rank (vertices_of order.now) }
     ensures points { IfOk result (λ figure. (base : Dart) (canonical : IsCanonicalOrder lists.now base (vertices_of order.now))
         → AreShiftPoints lists.now base (vertices_of order.now) canonical.cycle figure.points) }
     ensures drawing { IfOk result (λ figure. (base : Dart) → HasDart lists.now base.0 base.1 → IsCanonicalOrder lists.now base (vertices_of order.now)

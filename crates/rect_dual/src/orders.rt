@@ -2,7 +2,7 @@
 ghost use Rattle.std.specs.Prelude.{◌≡◌, ◌<◌, ◌≤◌, ℕ, length, All, IfOk};
 ghost use Rattle.map_theory.specs.Maps.{Dart, follows};
 ghost use Rattle.plane_laws.specs.Triangulations.{IsTriangulation};
-ghost use Rattle.canon_order.specs.Orders.{IsCanonicalOrder, IsRankOf, vertices_of};
+ghost use Rattle.canon_order.specs.Orders.{IsCanonicalOrder, vertices_of};
 ghost use Rattle.rect_orders.specs.Maps.{IsRectMap, closed};
 ghost use Rattle.rect_dual.specs.RectDrawTables.{AreLowerRowsOf, HasLowerRows};
 
@@ -23,7 +23,6 @@ pub(crate) struct FramedOrder {
 fn lower_rows(alloc: Global, more: &Rotations, order: &Order) -> Result<Rotations, AllocError>
     requires triangulation { IsTriangulation more.now }
     requires order { (base : Dart) × IsCanonicalOrder more.now base (vertices_of order.now) }
-    requires rank { IsRankOf order.now.rank (vertices_of order.now) }
     requires many { 5 ≤ length (vertices_of order.now) }
     ensures { IfOk result (AreLowerRowsOf more.now (vertices_of order.now)) }
 {

@@ -2,7 +2,7 @@
 ghost use Rattle.std.specs.Prelude.{◌≡◌, ◌<◌, ℕ, All, reverse, IfOk};
 ghost use Rattle.map_theory.specs.Maps.{Dart, HasDart};
 ghost use Rattle.plane_laws.specs.Triangulations.{IsTriangulation};
-ghost use Rattle.canon_order.specs.Orders.{IsRankOf, vertices_of};
+ghost use Rattle.canon_order.specs.Orders.{vertices_of};
 ghost use Rattle.schnyder_wood.specs.Parents.{parent_in, IsWoodOf};
 ghost use Rattle.wood_laws.specs.Arranged.{IsArranged};
 
@@ -34,7 +34,6 @@ pub fn wood_order(alloc: Global, tri: &HalfMap, wood: &Wood) -> Result<Order, Al
     requires triangulation { IsTriangulation tri.now.lists }
     requires wood { (base : Dart) × HasDart tri.now.lists base.0 base.1 × IsWoodOf tri.now.lists base wood.now }
     ensures arranged { IfOk result (λ order. (base : Dart) → HasDart tri.now.lists base.0 base.1 → IsWoodOf tri.now.lists base wood.now → IsArranged tri.now.lists base (parent_in wood.now) (vertices_of order)) }
-    ensures rank { IfOk result (λ order. IsRankOf order.rank (vertices_of order)) }
 {
     tri.facts();
     wood_laws::wood_orders::some_arranged();

@@ -2,7 +2,7 @@
 ghost use Rattle.std.specs.Prelude.{◌≡◌, ◌<◌, ◌+◌, ◌-◌, ℕ, length, slice_index, All, IfOk};
 ghost use Rattle.map_theory.specs.Maps.{Dart, vertex_count};
 ghost use Rattle.plane_laws.specs.Triangulations.{IsTriangulation};
-ghost use Rattle.canon_order.specs.Orders.{IsCanonicalOrder, IsRankOf, vertices_of};
+ghost use Rattle.canon_order.specs.Orders.{IsCanonicalOrder, vertices_of};
 ghost use Rattle.contour_runs.specs.Runs.{Step};
 ghost use Rattle.order_drawings.specs.OrderRuns.{IsOrderRun};
 ghost use Rattle.wood_runs.specs.Parents.{Colour as TreeColour};
@@ -79,7 +79,6 @@ fn parent_tables(alloc: Global, rows: &Rotations, order: &Order) -> Result<Table
 pub fn wood(alloc: Global, tri: &HalfMap, order: &Order) -> Result<Wood, AllocError>
     requires triangulation { IsTriangulation tri.now.lists }
     requires order { (base : Dart) × IsCanonicalOrder tri.now.lists base (vertices_of order.now) }
-    requires rank { IsRankOf order.now.rank (vertices_of order.now) }
     ensures root_one { IfOk result (λ wood. wood.root_one ≡ slice_index (vertices_of order.now) 0) }
     ensures root_two { IfOk result (λ wood. wood.root_two ≡ slice_index (vertices_of order.now) 1) }
     ensures root_three { IfOk result (λ wood. wood.root_three ≡ slice_index (vertices_of order.now) (vertex_count tri.now.lists - 1)) }

@@ -3,7 +3,7 @@ ghost use Rattle.std.specs.Prelude.{◌≡◌, ◌<◌, ◌≤◌, ◌+◌, ◌*
 ghost use Rattle.map_lists.specs.Lists.{Lists};
 ghost use Rattle.map_theory.specs.Maps.{Dart, vertex_count};
 ghost use Rattle.plane_laws.specs.Triangulations.{IsTriangulation};
-ghost use Rattle.canon_order.specs.Orders.{IsCanonicalOrder, IsRankOf, vertices_of};
+ghost use Rattle.canon_order.specs.Orders.{IsCanonicalOrder, vertices_of};
 ghost use Rattle.fpp_shift.specs.ShiftTreesRows.{IsListOf, IsEarlier, IsLater, BeginsRow, EndsRow};
 ghost use Rattle.fpp_shift.specs.Ways.{IsTree};
 ghost use Rattle.fpp_shift.specs.Trees.{IsTreeOf};
@@ -141,7 +141,6 @@ pub(crate) fn list_tree<L: Ledger>(
 )
     requires triangulation { IsTriangulation lists.now }
     requires order { (base : Dart) × IsCanonicalOrder lists.now base (vertices_of order.now) }
-    requires rank { IsRankOf order.now.rank (vertices_of order.now) }
     requires nodes { length tree.old ≡ vertex_count lists.now }
     ensures tree { IsTreeOf lists.now (vertices_of order.now) tree.new }
     ensures links { IsTree tree.new (slice_index (vertices_of order.now) 0) }

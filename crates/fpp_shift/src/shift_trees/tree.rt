@@ -2,7 +2,7 @@
 ghost use Rattle.std.specs.Prelude.{◌≡◌, ◌≤◌, ◌+◌, ◌*◌, length, slice_index};
 ghost use Rattle.map_theory.specs.Maps.{Dart, vertex_count};
 ghost use Rattle.plane_laws.specs.Triangulations.{IsTriangulation};
-ghost use Rattle.canon_order.specs.Orders.{IsCanonicalOrder, IsRankOf, vertices_of};
+ghost use Rattle.canon_order.specs.Orders.{IsCanonicalOrder, vertices_of};
 ghost use Rattle.fpp_shift.specs.Ways.{IsTree};
 ghost use Rattle.fpp_shift.specs.Trees.{IsTreeOf};
 
@@ -30,7 +30,6 @@ pub fn offset_tree<L: Ledger>(
 )
     requires triangulation { IsTriangulation tri.now.lists }
     requires order { (base : Dart) × IsCanonicalOrder tri.now.lists base (vertices_of order.now) }
-    requires rank { IsRankOf order.now.rank (vertices_of order.now) }
     requires nodes { length tree.old ≡ vertex_count tri.now.lists }
     ensures tree { IsTreeOf tri.now.lists (vertices_of order.now) tree.new }
     ensures links { IsTree tree.new (slice_index (vertices_of order.now) 0) }

@@ -3,7 +3,7 @@ ghost use Rattle.std.specs.Prelude.{◌≡◌, slice_index, Some, None, IfOk, If
 ghost use Rattle.std.specs.Bool.{OnTrue};
 ghost use Rattle.map_theory.specs.Maps.{list_of};
 ghost use Rattle.plane_laws.specs.Triangulations.{IsTriangulation};
-ghost use Rattle.canon_order.specs.Orders.{IsCanonicalOrder, IsRankOf, vertices_of};
+ghost use Rattle.canon_order.specs.Orders.{IsCanonicalOrder, vertices_of};
 ghost use Rattle.refusals.specs.Conditions.{first_refusal, IfRefused};
 
 use crate::record::Record;
@@ -35,7 +35,6 @@ pub(crate) fn full_order(
 ) -> Result<Order, AllocError>
     requires { IsTriangulation input.now.lists.now }
     ensures order { IfOk result (λ order. IsCanonicalOrder input.now.lists.now (0, slice_index (list_of input.now.lists.now 0) 0) (vertices_of order)) }
-    ensures rank { IfOk result (λ order. IsRankOf order.rank (vertices_of order)) }
 {
     peeler.base_order(alloc, input.lists, 0, input.lists.list(0)[0])
 }

@@ -2,7 +2,7 @@
 ghost use Rattle.std.specs.Prelude.{◌≡◌, ◌<◌, length, Some, None, IfOk, IfErr, OnOk};
 ghost use Rattle.map_theory.specs.Maps.{Dart};
 ghost use Rattle.plane_laws.specs.Triangulations.{IsTriangulation};
-ghost use Rattle.canon_order.specs.Orders.{IsCanonicalOrder, IsRankOf, vertices_of};
+ghost use Rattle.canon_order.specs.Orders.{IsCanonicalOrder, vertices_of};
 ghost use Rattle.refusals.specs.Conditions.{first_refusal, IfRefused};
 ghost use Rattle.grid_figures.specs.Forms.{IsDrawnBy};
 ghost use Rattle.grid_figures.specs.ShiftFiguresFigures.{shift_form, IsShiftFigure};
@@ -25,7 +25,6 @@ fn order_figure(
 ) -> Result<GridFigure, AllocError>
     requires triangulation { IsTriangulation lists.now }
     requires order { (base : Dart) × IsCanonicalOrder lists.now base (vertices_of order.now) }
-    requires rank { IsRankOf order.now.rank (vertices_of order.now) }
     ensures { IfOk result (IsDrawnBy shift_form lists.now (vertices_of order.now)) }
 {
     let figure = shifter.list_draw(lists, order)?;

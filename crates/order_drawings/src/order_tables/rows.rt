@@ -2,7 +2,7 @@
 ghost use Rattle.std.specs.Prelude.{◌≡◌, ◌<◌, ◌≤◌, ◌+◌, ◌^◌, ◌↔◌, ◌⊎◌, ℕ, List, length, map, slice_index, All, IsTrue, IfOk};
 ghost use Rattle.map_theory.specs.Maps.{Dart, list_of};
 ghost use Rattle.plane_laws.specs.Triangulations.{IsTriangulation};
-ghost use Rattle.canon_order.specs.Orders.{IsCanonicalOrder, IsRankOf, vertices_of};
+ghost use Rattle.canon_order.specs.Orders.{IsCanonicalOrder, vertices_of};
 ghost use Rattle.order_drawings.specs.Rows.{place_before, place_after, rank_at, IsFirstPlace, IsRowIn, IsRowPut, AreRanked, OrderRows, AreRowsOf};
 
 use canon_order::Order;
@@ -143,7 +143,6 @@ fn listed_rows(
 pub fn order_rows(alloc: Global, tri: &HalfMap, order: &Order) -> Result<Rotations, AllocError>
     requires triangulation { IsTriangulation tri.now.lists }
     requires order { (base : Dart) × IsCanonicalOrder tri.now.lists base (vertices_of order.now) }
-    requires rank { IsRankOf order.now.rank (vertices_of order.now) }
     ensures { IfOk result (AreRowsOf tri.now.lists (vertices_of order.now)) }
 {
     tri.facts();
@@ -156,7 +155,6 @@ pub fn order_rows(alloc: Global, tri: &HalfMap, order: &Order) -> Result<Rotatio
 pub fn list_rows(alloc: Global, lists: &Rotations, order: &Order) -> Result<Rotations, AllocError>
     requires triangulation { IsTriangulation lists.now }
     requires order { (base : Dart) × IsCanonicalOrder lists.now base (vertices_of order.now) }
-    requires rank { IsRankOf order.now.rank (vertices_of order.now) }
     ensures { IfOk result (AreRowsOf lists.now (vertices_of order.now)) }
 {
     let rows = rows_into(Rotations::new(alloc), lists, order)?;
@@ -171,7 +169,6 @@ pub fn rows_into(
 ) -> Result<Rotations, AllocError>
     requires triangulation { IsTriangulation lists.now }
     requires order { (base : Dart) × IsCanonicalOrder lists.now base (vertices_of order.now) }
-    requires rank { IsRankOf order.now.rank (vertices_of order.now) }
     ensures { IfOk result (AreRowsOf lists.now (vertices_of order.now)) }
 {
     lists.facts();

@@ -1,7 +1,7 @@
 //! Rectangular orders.
 ghost use Rattle.std.specs.Prelude.{◌≡◌, ◌<◌, ℕ, [], ◌∷◌, length, reverse, IfOk};
 ghost use Rattle.map_lists.specs.Lists.{Lists};
-ghost use Rattle.canon_order.specs.Orders.{IsRankOf, vertices_of};
+ghost use Rattle.canon_order.specs.Orders.{vertices_of};
 ghost use Rattle.rect_orders.specs.Orders.{IsRectOrder};
 ghost use Rattle.rect_orders.specs.Contours.{IsFresh, IsPrepared, IsClosedOf, IsClosedAt, IsContourAt, IsOrderAt};
 
@@ -148,7 +148,6 @@ pub fn rect_order(alloc: Global, more: &Rotations, frame: Frame) -> Result<Order
     requires class { (map : Lists) × IsClosedOf more.now map frame.left.0 frame.top.0 frame.right.0 frame.bottom.0 frame.inner.0 }
     ensures order { IfOk result (λ order. (map : Lists) → IsClosedOf more.now map frame.left.0 frame.top.0 frame.right.0 frame.bottom.0 frame.inner.0
         → IsRectOrder map frame.left.0 frame.top.0 frame.right.0 frame.bottom.0 (vertices_of order)) }
-    ensures rank { IfOk result (λ order. IsRankOf order.rank (vertices_of order)) }
 {
     more.facts();
     let closed = Closed { lists: more, frame };

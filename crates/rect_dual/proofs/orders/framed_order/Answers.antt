@@ -21,7 +21,7 @@ returns-clause-rows c =
       class = c.requires.class;
       triangulation = (c.closed_is_triangulation.ensures c.args.lists.now f.left.0 f.top.0 f.right.0 f.bottom.0 c.requires.class).0;
       order = c.in_ok-order.ensures.order c.args.lists.now record { class = c.requires.class; closed_is = c.in_ok-more.ensures; inner_is = c.requires.inner };
-      rank = c.in_ok-order.ensures.rank;
+      rank = c.in_ok-order.order.ranked;
       lower = subst (λ (l : Lists). AreLowerRowsOf l (vertices_of c.in_ok-order.order) c.in_ok-rows.rows) c.in_ok-more.ensures c.in_ok-rows.ensures;
     }
 
@@ -29,4 +29,4 @@ pub returns-clause-ranks : goal.returns-clause-ranks
 returns-clause-ranks c =
     let f = c.args.frame in
     let order = c.in_ok-order.ensures.order c.args.lists.now record { class = c.requires.class; closed_is = c.in_ok-more.ensures; inner_is = c.requires.inner } in
-    c.ranks_are_places.ensures (closed c.args.lists.now f.left.0 f.top.0 f.right.0 f.bottom.0) (f.bottom.0, f.left.0) (vertices_of c.in_ok-order.order) c.in_ok-order.order.rank order.canonical c.in_ok-order.ensures.rank
+    c.ranks_are_places.ensures (closed c.args.lists.now f.left.0 f.top.0 f.right.0 f.bottom.0) (f.bottom.0, f.left.0) (vertices_of c.in_ok-order.order) c.in_ok-order.order.rank order.canonical c.in_ok-order.order.ranked

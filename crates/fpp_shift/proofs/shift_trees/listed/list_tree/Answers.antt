@@ -43,8 +43,8 @@ row_in-row-requires-clause-some g c =
     let len = c.len-k-end.ensures in
     let test = c.loop-k-test.true in
     let v_is = vertex-is c.args.order.now.at c.loop-k.k c.get-v.result c.get-v.ensures in
-    let listed = listed-at lists c.requires.order.0 at c.args.order.now.rank c.list-list.result.now c.requires.triangulation c.requires.order.1 c.requires.rank c.loop-k.k c.get-v.result.0 (omega arith) v_is c.list-list.ensures in
-    let ends = row-at lists c.requires.order.0 at c.args.order.now.rank c.requires.triangulation c.requires.order.1 c.requires.rank c.order_is_run.ensures c.order_has_rows.ensures c.loop-k.k c.get-v.result.0 c.loop-k.auto.k (omega arith) v_is in
+    let listed = listed-at lists c.requires.order.0 at c.args.order.now.rank c.list-list.result.now c.requires.triangulation c.requires.order.1 c.args.order.now.ranked c.loop-k.k c.get-v.result.0 (omega arith) v_is c.list-list.ensures in
+    let ends = row-at lists c.requires.order.0 at c.args.order.now.rank c.requires.triangulation c.requires.order.1 c.args.order.now.ranked c.order_is_run.ensures c.order_has_rows.ensures c.loop-k.k c.get-v.result.0 c.loop-k.auto.k (omega arith) v_is in
     some-in c.list-list.result.now ends.0.0 (subst (λ (us : List ℕ). Contains us ends.0.0) (sym c.list-list.ensures) ends.0.1.dart.1)
 
 pub row_in-row-requires-clause-vertices : goal.row_in-row-requires-clause-vertices
@@ -55,8 +55,8 @@ row_in-row-requires-clause-vertices g c =
     let len = c.len-k-end.ensures in
     let test = c.loop-k-test.true in
     let v_is = vertex-is c.args.order.now.at c.loop-k.k c.get-v.result c.get-v.ensures in
-    let listed = listed-at lists c.requires.order.0 at c.args.order.now.rank c.list-list.result.now c.requires.triangulation c.requires.order.1 c.requires.rank c.loop-k.k c.get-v.result.0 (omega arith) v_is c.list-list.ensures in
-    let ends = row-at lists c.requires.order.0 at c.args.order.now.rank c.requires.triangulation c.requires.order.1 c.requires.rank c.order_is_run.ensures c.order_has_rows.ensures c.loop-k.k c.get-v.result.0 c.loop-k.auto.k (omega arith) v_is in
+    let listed = listed-at lists c.requires.order.0 at c.args.order.now.rank c.list-list.result.now c.requires.triangulation c.requires.order.1 c.args.order.now.ranked c.loop-k.k c.get-v.result.0 (omega arith) v_is c.list-list.ensures in
+    let ends = row-at lists c.requires.order.0 at c.args.order.now.rank c.requires.triangulation c.requires.order.1 c.args.order.now.ranked c.order_is_run.ensures c.order_has_rows.ensures c.loop-k.k c.get-v.result.0 c.loop-k.auto.k (omega arith) v_is in
     listed.1
 
 pub put_over-requires : goal.put_over-requires
@@ -73,8 +73,8 @@ put_over-requires g c =
     let few = c.facts.ensures in
     let count = order.count in
     let v_is = vertex-is c.args.order.now.at c.loop-k.k c.get-v.result c.get-v.ensures in
-    let listed = listed-at lists base at c.args.order.now.rank c.list-list.result.now c.requires.triangulation order c.requires.rank c.loop-k.k c.get-v.result.0 (omega arith) v_is c.list-list.ensures in
-    let ends = row-at lists base at c.args.order.now.rank c.requires.triangulation order c.requires.rank c.order_is_run.ensures c.order_has_rows.ensures c.loop-k.k c.get-v.result.0 c.loop-k.auto.k (omega arith) v_is in
+    let listed = listed-at lists base at c.args.order.now.rank c.list-list.result.now c.requires.triangulation order c.args.order.now.ranked c.loop-k.k c.get-v.result.0 (omega arith) v_is c.list-list.ensures in
+    let ends = row-at lists base at c.args.order.now.rank c.requires.triangulation order c.args.order.now.ranked c.order_is_run.ensures c.order_has_rows.ensures c.loop-k.k c.get-v.result.0 c.loop-k.auto.k (omega arith) v_is in
     let begin = c.row_in-row.ensures.begin lists c.get-v.result.0 ends.0.0 listed.0 ends.0.1 in
     let end = c.row_in-row.ensures.end lists c.get-v.result.0 ends.1.0 listed.0 ends.1.1 in
     record {
@@ -82,7 +82,7 @@ put_over-requires g c =
         at,
         run.0,
         c.loop-k.k - 2,
-        IsNextStep-order lists base at c.args.order.now.rank c.requires.triangulation order c.requires.rank run.0 run.1 c.order_has_rows.ensures (omega arith) c.loop-k.tree (omega (arith, c.loop-k.invariant.count, c.requires.nodes)) (c.loop-k.k - 2) c.loop-k.k
+        IsNextStep-order lists base at c.args.order.now.rank c.requires.triangulation order c.args.order.now.ranked run.0 run.1 c.order_has_rows.ensures (omega arith) c.loop-k.tree (omega (arith, c.loop-k.invariant.count, c.requires.nodes)) (c.loop-k.k - 2) c.loop-k.k
             c.get-v.result.0 c.row_in-row.result.0 c.row_in-row.result.1 (omega arith) (omega arith) c.loop-k.invariant.grown (vertex-is c.args.order.now.at c.loop-k.k c.get-v.result c.get-v.ensures) begin end,
       );
     }
@@ -100,14 +100,14 @@ loop-k-preserved g c =
     let d : i + 2 ≡ c.loop-k.k = omega arith in
     let known = c.requires.order.1.count in
     let v_is = vertex-is c.args.order.now.at c.loop-k.k c.get-v.result c.get-v.ensures in
-    let listed = listed-at lists c.requires.order.0 at c.args.order.now.rank c.list-list.result.now c.requires.triangulation c.requires.order.1 c.requires.rank c.loop-k.k c.get-v.result.0 (omega arith) v_is c.list-list.ensures in
-    let ends = row-at lists c.requires.order.0 at c.args.order.now.rank c.requires.triangulation c.requires.order.1 c.requires.rank c.order_is_run.ensures c.order_has_rows.ensures c.loop-k.k c.get-v.result.0 c.loop-k.auto.k (omega arith) v_is in
+    let listed = listed-at lists c.requires.order.0 at c.args.order.now.rank c.list-list.result.now c.requires.triangulation c.requires.order.1 c.args.order.now.ranked c.loop-k.k c.get-v.result.0 (omega arith) v_is c.list-list.ensures in
+    let ends = row-at lists c.requires.order.0 at c.args.order.now.rank c.requires.triangulation c.requires.order.1 c.args.order.now.ranked c.order_is_run.ensures c.order_has_rows.ensures c.loop-k.k c.get-v.result.0 c.loop-k.auto.k (omega arith) v_is in
     let begin = c.row_in-row.ensures.begin lists c.get-v.result.0 ends.0.0 listed.0 ends.0.1 in
     let end = c.row_in-row.ensures.end lists c.get-v.result.0 ends.1.0 listed.0 ends.1.1 in
     let next : (base : Dart) (order : IsCanonicalOrder lists base at) (steps : ℕ → Step) → IsOrderRun lists base at order.cycle steps → IsNextStep at steps i c.loop-k.tree c.get-v.result.0 c.row_in-row.result.0 c.row_in-row.result.1 =
     λ base order steps run.
     (let count = order.count in
-    IsNextStep-order lists base at c.args.order.now.rank c.requires.triangulation order c.requires.rank steps run c.order_has_rows.ensures (omega arith) c.loop-k.tree (omega (arith, c.loop-k.invariant.count, c.requires.nodes)) i c.loop-k.k c.get-v.result.0
+    IsNextStep-order lists base at c.args.order.now.rank c.requires.triangulation order c.args.order.now.ranked steps run c.order_has_rows.ensures (omega arith) c.loop-k.tree (omega (arith, c.loop-k.invariant.count, c.requires.nodes)) i c.loop-k.k c.get-v.result.0
     c.row_in-row.result.0 c.row_in-row.result.1 d (omega arith) c.loop-k.invariant.grown (vertex-is c.args.order.now.at c.loop-k.k c.get-v.result c.get-v.ensures) begin end) in
     record {
       grown = λ base order steps run j e.

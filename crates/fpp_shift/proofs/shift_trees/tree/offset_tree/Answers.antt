@@ -38,7 +38,7 @@ row_begin-p-requires-clause-begins g c =
     let n = length-map c.args.order.now.at (λ v. v.0) in
     let len = c.len-k-end.ensures in
     let test = c.loop-k-test.true in
-    (row-at c.args.tri.now.lists c.requires.order.0 at c.args.order.now.rank c.requires.triangulation c.requires.order.1 c.requires.rank c.order_is_run.ensures c.order_has_rows.ensures c.loop-k.k c.get-v.result.0 c.loop-k.auto.k
+    (row-at c.args.tri.now.lists c.requires.order.0 at c.args.order.now.rank c.requires.triangulation c.requires.order.1 c.args.order.now.ranked c.order_is_run.ensures c.order_has_rows.ensures c.loop-k.k c.get-v.result.0 c.loop-k.auto.k
     (omega arith) (vertex-is c.args.order.now.at c.loop-k.k c.get-v.result c.get-v.ensures)).0
 
 pub row_end-q-requires-clause-ends : goal.row_end-q-requires-clause-ends
@@ -47,7 +47,7 @@ row_end-q-requires-clause-ends g c =
     let n = length-map c.args.order.now.at (λ v. v.0) in
     let len = c.len-k-end.ensures in
     let test = c.loop-k-test.true in
-    (row-at c.args.tri.now.lists c.requires.order.0 at c.args.order.now.rank c.requires.triangulation c.requires.order.1 c.requires.rank c.order_is_run.ensures c.order_has_rows.ensures c.loop-k.k c.get-v.result.0 c.loop-k.auto.k
+    (row-at c.args.tri.now.lists c.requires.order.0 at c.args.order.now.rank c.requires.triangulation c.requires.order.1 c.args.order.now.ranked c.order_is_run.ensures c.order_has_rows.ensures c.loop-k.k c.get-v.result.0 c.loop-k.auto.k
     (omega arith) (vertex-is c.args.order.now.at c.loop-k.k c.get-v.result c.get-v.ensures)).1
 
 pub put_over-requires : goal.put_over-requires
@@ -68,7 +68,7 @@ put_over-requires g c =
         at,
         run.0,
         c.loop-k.k - 2,
-        IsNextStep-order lists base at c.args.order.now.rank c.requires.triangulation order c.requires.rank run.0 run.1 c.order_has_rows.ensures (omega arith) c.loop-k.tree (omega (arith, c.loop-k.invariant.count, c.requires.nodes)) (c.loop-k.k - 2) c.loop-k.k
+        IsNextStep-order lists base at c.args.order.now.rank c.requires.triangulation order c.args.order.now.ranked run.0 run.1 c.order_has_rows.ensures (omega arith) c.loop-k.tree (omega (arith, c.loop-k.invariant.count, c.requires.nodes)) (c.loop-k.k - 2) c.loop-k.k
             c.get-v.result.0 c.row_begin-p.result.0 c.row_end-q.result.0 (omega arith) (omega arith) c.loop-k.invariant.grown (vertex-is c.args.order.now.at c.loop-k.k c.get-v.result c.get-v.ensures) c.row_begin-p.ensures c.row_end-q.ensures,
       );
     }
@@ -87,7 +87,7 @@ loop-k-preserved g c =
     let next : (base : Dart) (order : IsCanonicalOrder lists base at) (steps : ℕ → Step) → IsOrderRun lists base at order.cycle steps → IsNextStep at steps i c.loop-k.tree c.get-v.result.0 c.row_begin-p.result.0 c.row_end-q.result.0 =
     λ base order steps run.
     (let count = order.count in
-    IsNextStep-order lists base at c.args.order.now.rank c.requires.triangulation order c.requires.rank steps run c.order_has_rows.ensures (omega arith) c.loop-k.tree (omega (arith, c.loop-k.invariant.count, c.requires.nodes)) i c.loop-k.k c.get-v.result.0
+    IsNextStep-order lists base at c.args.order.now.rank c.requires.triangulation order c.args.order.now.ranked steps run c.order_has_rows.ensures (omega arith) c.loop-k.tree (omega (arith, c.loop-k.invariant.count, c.requires.nodes)) i c.loop-k.k c.get-v.result.0
     c.row_begin-p.result.0 c.row_end-q.result.0 d (omega arith) c.loop-k.invariant.grown (vertex-is c.args.order.now.at c.loop-k.k c.get-v.result c.get-v.ensures) c.row_begin-p.ensures c.row_end-q.ensures) in
     record {
       grown = λ base order steps run j e.

@@ -27,5 +27,5 @@ returns c =
       to = base.to;
       base = base.base_to;
       canonical = c.in_ok-order.ensures.order 0 base.to base.dart;
-      rank = c.in_ok-order.ensures.rank;
+      rank = c.in_ok-order.order.ranked;
     }

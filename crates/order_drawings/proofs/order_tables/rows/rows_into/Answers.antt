@@ -16,15 +16,15 @@ listed_rows-requires-clause-some c = λ k low l.
     let order = c.requires.order.1 in
     let at = vertices_of c.args.order.now in
     let run = c.order_is_run.ensures c.args.lists.now base at c.requires.triangulation order in
-    list_some c.args.lists.now base at c.args.order.now.rank c.requires.triangulation order c.requires.rank c.order_has_rows.ensures run.0 run.1 k low (omega (arith, length-map c.args.order.now.at (λ v. v.0)))
+    list_some c.args.lists.now base at c.args.order.now.rank c.requires.triangulation order c.args.order.now.ranked c.order_has_rows.ensures run.0 run.1 k low (omega (arith, length-map c.args.order.now.at (λ v. v.0)))
 
 pub listed_rows-requires-clause-vertices : goal.listed_rows-requires-clause-vertices
 listed_rows-requires-clause-vertices c =
-    entries_within c.args.lists.now c.requires.order.0 (vertices_of c.args.order.now) c.args.order.now.rank c.requires.triangulation c.requires.order.1 c.requires.rank
+    entries_within c.args.lists.now c.requires.order.0 (vertices_of c.args.order.now) c.args.order.now.rank c.requires.triangulation c.requires.order.1 c.args.order.now.ranked
 
 pub listed_rows-requires-clause-few : goal.listed_rows-requires-clause-few
 listed_rows-requires-clause-few c =
-    ranks_small c.args.lists.now c.requires.order.0 (vertices_of c.args.order.now) c.args.order.now.rank c.requires.triangulation c.requires.order.1 c.requires.rank c.facts.ensures
+    ranks_small c.args.lists.now c.requires.order.0 (vertices_of c.args.order.now) c.args.order.now.rank c.requires.triangulation c.requires.order.1 c.args.order.now.ranked c.facts.ensures
 
 pub returns : goal.returns
 returns c =
@@ -33,5 +33,5 @@ returns c =
     let same = length-map c.args.order.now.at (λ v. v.0) in
     record {
       count = omega arith;
-      of_run = λ base order steps run. AreAllRows-order c.args.lists.now base at c.args.order.now.rank c.requires.triangulation order c.requires.rank c.order_has_rows.ensures steps run c.in_ok-rows.rows (omega arith) c.in_ok-rows.ensures.rows;
+      of_run = λ base order steps run. AreAllRows-order c.args.lists.now base at c.args.order.now.rank c.requires.triangulation order c.args.order.now.ranked c.order_has_rows.ensures steps run c.in_ok-rows.rows (omega arith) c.in_ok-rows.ensures.rows;
     }
