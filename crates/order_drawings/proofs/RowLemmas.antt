@@ -1,11 +1,12 @@
 -- Rows read backwards in the list of a vertex.
-use Rattle.std.proofs.Common.{◌≡◌, ◌+◌, ◌≤◌, ◌<◌, ◌⊎◌, ℕ, suc, List, [], ◌∷◌, ◌++◌, length, map, get_or, take, refl, sym, ap, ap₂, ◌∙◌, subst, inl, inr, arith}
+use Rattle.std.proofs.Common.{◌≡◌, ◌+◌, ◌-◌, ◌≤◌, ◌<◌, ◌⊎◌, ℕ, suc, List, [], ◌∷◌, ◌++◌, length, map, get_or, take, refl, sym, ap, ap₂, ◌∙◌, subst, inl, inr, arith}
 use Rattle.std.proofs.lemmas.Bool.{cases_lt}
+use Rattle.std.proofs.lemmas.Bool.Decides.{nat_tests}
 use Rattle.std.proofs.lemmas.List.{map-append, get_or_append_left, length-append, append_assoc, append-nil}
 use Rattle.std.proofs.Math.Seq.{take-length, take-suc, get_or-append_seam}
 use Rattle.map_lists.specs.Lists.{Lists}
 use Rattle.map_theory.specs.Maps.{list_of}
-use Rattle.order_drawings.specs.Rows.{back, rank_at, place_before, IsLastPlace, IsRowIn, IsRowPut, AreRanked}
+use Rattle.order_drawings.specs.Rows.{back, rank_at, place_after, place_before, IsLastPlace, IsRowIn, IsRowPut, AreRanked}
 
 module _ (list ranks : List ℕ) (k start : ℕ) (us : List ℕ) (h : IsRowIn list ranks k start us) (j i : ℕ) (low : j < length us) (at : i ≡ back (length list) start j) where
   -- one rank more
@@ -98,3 +99,18 @@ AreRanked-more lists at ranks rows row h e = λ k start us l r. elim (cases_lt k
       let d : k ≡ length rows = omega (arith, length-append rows (row ∷ [])) in
       ap (λ k. get_or (rows ++ row ∷ []) k []) d ∙ get_or-append_seam rows row [] [] ∙ e start us (subst (λ k. IsRowIn (list_of lists (get_or at (k + 2) 0)) ranks (k + 2) start us) d r)
 ]
+
+-- ---- where a row begins
+
+-- the last entry of all, where the first is later, and those from the first earlier one on are all earlier
+pub first-round : (list ranks : List ℕ) (k first end start : ℕ) (us : List ℕ) → IsRowIn list ranks k start us → 0 < first → first < length list → ((i : ℕ) → i < first → k ≤ rank_at list ranks i) → (first < length list → rank_at list ranks first < k) → first ≤ end → end ≤ length list → ((i : ℕ) → first ≤ i → i < end → rank_at list ranks i < k) → (end < length list → k ≤ rank_at list ranks end) → (length list ≤ end) ⊎ (end ≤ first) → length list - 1 ≡ start
+first-round list ranks k first end start us row some l lates low m n lows next (inl all) =
+    row.only (length list - 1) (omega (arith, l)) (record { earlier = lows (length list - 1) (omega (arith, l)) (omega (arith, l, all)); begins = inr (subst (λ (p : ℕ). k ≤ rank_at list ranks p) (sym (round (length list) (length list - 1) (omega (arith, l)))) (lates 0 some)) })
+  where
+    round : (n i : ℕ) → i + 1 ≡ n → place_after n i ≡ 0
+    round n i e = grind (arith, nat_tests)
+first-round list ranks k first end start us row some l lates low m n lows next (inr none) =
+    let e : end ≡ first = omega (arith, none, m) in
+    let high = subst (λ (p : ℕ). k ≤ rank_at list ranks p) e (next (omega (arith, l, e))) in
+    let under = low l in
+    absurd (omega (arith, high, under))

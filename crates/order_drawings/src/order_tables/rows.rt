@@ -54,8 +54,40 @@ fn is_last(rank: u32, before: u32, k: u32) -> bool
     rank == 1 || k <= before
 }
 
-// Where it begins.
-fn first_place(list: &[u16], ranks: &Counts, k: u32) -> usize
+// The first place from `from` on whose entry has rank k or a later one, or the length where there is none.
+fn first_later(list: &[u16], ranks: &Counts, k: u32, from: usize) -> usize
+    requires from { from ≤ length list.now }
+    requires vertices { All (λ u. u < length ranks.now) list.now }
+    ensures from { from ≤ result }
+    ensures within { result ≤ length list.now }
+    ensures before { (i : ℕ) → from ≤ i → i < result → rank_at list.now ranks.now i < k }
+    ensures here { result < length list.now → k ≤ rank_at list.now ranks.now result }
+{
+    for i in from..list.len() {
+        if k <= entry_rank(list, ranks, i) {
+            return i;
+        }
+    }
+    list.len()
+}
+
+// The first place whose entry has a rank below k, or the length where there is none.
+fn first_earlier(list: &[u16], ranks: &Counts, k: u32) -> usize
+    requires vertices { All (λ u. u < length ranks.now) list.now }
+    ensures within { result ≤ length list.now }
+    ensures before { (i : ℕ) → i < result → k ≤ rank_at list.now ranks.now i }
+    ensures here { result < length list.now → rank_at list.now ranks.now result < k }
+{
+    for i in 0..list.len() {
+        if entry_rank(list, ranks, i) < k {
+            return i;
+        }
+    }
+    list.len()
+}
+
+// Where it begins, by a test of each place.
+fn tested_place(list: &[u16], ranks: &Counts, k: u32) -> usize
     requires some { 0 < length list.now }
     requires vertices { All (λ u. u < length ranks.now) list.now }
     ensures place { (start : ℕ) (us : List ℕ) → IsRowIn list.now ranks.now k start us → result ≡ start }
@@ -67,6 +99,24 @@ fn first_place(list: &[u16], ranks: &Counts, k: u32) -> usize
         }
     }
     0
+}
+
+// Where it begins: before an entry that is later, where there is one. Where none is, the vertex is the last one.
+fn first_place(list: &[u16], ranks: &Counts, k: u32) -> usize
+    requires some { 0 < length list.now }
+    requires vertices { All (λ u. u < length ranks.now) list.now }
+    ensures place { (start : ℕ) (us : List ℕ) → IsRowIn list.now ranks.now k start us → result ≡ start }
+    ensures within { result < length list.now }
+{
+    let first = first_earlier(list, ranks, k);
+    let end = first_later(list, ranks, k, first);
+    if first < end && end < list.len() {
+        return end - 1;
+    }
+    if 0 < first && first < list.len() {
+        return list.len() - 1;
+    }
+    tested_place(list, ranks, k)
 }
 
 // Appends the ranks of a row, which goes backwards in the list of its vertex.
