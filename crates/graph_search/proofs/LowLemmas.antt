@@ -1,20 +1,49 @@
--- The low point of a vertex from those of its children.
-use Rattle.std.proofs.Common.{◌≡◌, ◌≢◌, ℕ, ◌+◌, ◌-◌, ◌<◌, ◌≤◌, min, eqb, List, [], ◌∷◌, length, take, set, get_or, get_or-set_same, get_or-set_other, Contains, All, sym, ap, ◌∙◌, subst, inl, inr, arith}
-use Rattle.std.proofs.lemmas.Bool.{cases_eq, cases_lt, eq-eqb, ne_eqb, cond-true, cond-false}
-use Rattle.std.proofs.lemmas.List.{take_more}
+-- The low points of vertices, by falling numbers.
+use Rattle.std.proofs.Common.{◌≡◌, ◌≢◌, ℕ, ◌+◌, ◌-◌, ◌<◌, ◌≤◌, min, List, [], ◌∷◌, length, take, set, replicate, length-set, get_or, get_or-set_same, get_or-set_other, Contains, All, sym, ap, ◌∙◌, subst, inl, inr, arith}
+use Rattle.std.proofs.lemmas.Bool.{cases_eq, cases_lt}
+use Rattle.std.proofs.lemmas.List.{take_more, length-replicate, get_or-replicate}
 use Rattle.std.proofs.lemmas.List.Elements.{Contains-append_cases, Contains-append_left, Contains-append_right, Contains-get_or}
 use Rattle.map_theory.proofs.EntryLemmas.{Contains-here, Contains-cons_cases}
 use Rattle.map_lists.specs.Lists.{Lists}
 use Rattle.map_theory.specs.Maps.{HasDart, list_of}
-use Rattle.graph_search.specs.Forests.{IsAdjacency, Holds, IsForestOf}
-use Rattle.graph_search.specs.Lows.{IsLow, low_along, IsLeastAlong}
+use Rattle.graph_search.specs.Forests.{IsAdjacency, IsForestOf}
+use Rattle.graph_search.specs.Lows.{IsLow, Meets, IsLeastNumber, IsLowered}
 use Rattle.graph_search.proofs.ForestLemmas.{IsWithin-cases, IsWithin-itself, IsWithin-held, IsWithin-chained, child_towards}
 
-pub low_along-child : (number parent low : List ℕ) (v u : ℕ) → get_or parent u 0 ≡ v → low_along number parent low v u ≡ get_or low u 0
-low_along-child number parent low v u e = cond-true {A = ℕ} (eqb (get_or parent u 0) v) _ _ (eq-eqb (get_or parent u 0) v e)
+-- The low points of the vertices of the i greatest numbers are found. No vertex has a greater one so far than a child of these, and what it has is met.
+pub record AreLowsFrom (lists : Lists) (number last parent low : List ℕ) (i : ℕ) : Type 0 where
+  pub lows : length low ≡ length lists
+  pub done : (v : ℕ) → v < length lists → length lists ≤ get_or number v 0 + i → IsLow lists (λ u. get_or number u 0) (λ u. get_or last u 0) v (get_or low v 0)
+  pub children : (c : ℕ) → c < length lists → length lists ≤ get_or number c 0 + i → get_or parent c 0 < length lists → get_or low (get_or parent c 0) 0 ≤ get_or low c 0
+  pub met : (v : ℕ) → v < length lists → get_or low v 0 < length lists → (u : ℕ) × Meets lists (λ x. get_or number x 0) (λ x. get_or last x 0) v u × (get_or number u 0 ≡ get_or low v 0)
 
-pub low_along-other : (number parent low : List ℕ) (v u : ℕ) → get_or parent u 0 ≢ v → low_along number parent low v u ≡ get_or number u 0
-low_along-other number parent low v u ne = cond-false {A = ℕ} (eqb (get_or parent u 0) v) _ _ (ne_eqb (get_or parent u 0) v ne)
+-- the entries of a vertex's list are vertices
+pub entries_within : (lists : Lists) → IsAdjacency lists → (v : ℕ) → v < length lists → All (λ u. u < length lists) (list_of lists v)
+entries_within lists adjacency v l = λ k d m. adjacency.in_range v (get_or (list_of lists v) k d) (l, Contains-get_or (list_of lists v) k d m)
+
+-- the least with one entry more
+pub IsLeastNumber-more : (entries number : List ℕ) (start i least next : ℕ) → i < length entries → next ≡ min least (get_or number (get_or entries i 0) 0) → IsLeastNumber (take i entries) number start least → IsLeastNumber (take (i + 1) entries) number start next
+IsLeastNumber-more entries number start i least next l e h =
+    let x = get_or entries i 0 in
+    let split = take_more entries i 0 l in
+    let back : (u : ℕ) → Contains (take i entries) u → Contains (take (i + 1) entries) u = λ u has. subst (λ (xs : List ℕ). Contains xs u) (sym split) (Contains-append_left (take i entries) (x ∷ []) u has) in
+    record {
+      most = omega (arith, h.most);
+      below = λ u has.
+          elim (Contains-append_cases (take i entries) (x ∷ []) u (subst (λ (xs : List ℕ). Contains xs u) split has)) [
+            | inl old ↦ omega (arith, h.below u old)
+            | inr new ↦ elim (Contains-cons_cases x [] u new) [
+              | inl same ↦ omega (arith, ap (λ z. get_or number z 0) same)
+              | inr none ↦ absurd (let some = none.1 in omega arith)
+            ]
+          ];
+      met = elim (cases_lt least (get_or number x 0)) [
+        | inl less ↦
+            let same : least ≡ next = omega arith in
+            elim h.met [ inl old ↦ inl (sym same ∙ old) | inr old ↦ inr (old.0, back old.0 old.1, old.2 ∙ same) ]
+        | inr more ↦ inr (x, subst (λ (xs : List ℕ). Contains xs x) (sym split) (Contains-append_right (take i entries) (x ∷ []) x (Contains-here x [])), omega arith)
+      ];
+    }
 
 module _ (lists : Lists) (adjacency : IsAdjacency lists) (order number last parent : List ℕ) (all : IsForestOf lists order number last parent) where
   abbrev num : ℕ → ℕ
@@ -23,100 +52,132 @@ module _ (lists : Lists) (adjacency : IsAdjacency lists) (order number last pare
   abbrev end : ℕ → ℕ
   end v = get_or last v 0
 
-  -- the least that v has from its neighbours is its low point, where each child has its own
-  pub IsLow-from_children : (low : List ℕ) (v least : ℕ) → v < length lists → ((c : ℕ) → c < length lists → get_or parent c 0 ≡ v → IsLow lists num end c (get_or low c 0)) → IsLeastAlong (list_of lists v) number parent low v least → IsLow lists num end v least
-  IsLow-from_children low v least l known h =
+  -- before the first
+  pub AreLowsFrom-none : (low : List ℕ) → low ≡ replicate (length lists) (length lists) → AreLowsFrom lists number last parent low 0
+  AreLowsFrom-none low is =
       let f = all.forest in
-      let child_dart : (c : ℕ) → c < length lists → get_or parent c 0 ≡ v → HasDart lists v c = λ c m e. subst (λ p. HasDart lists p c) e (f.adjacent c m (omega arith)) in
-      let child_held : (c : ℕ) → c < length lists → get_or parent c 0 ≡ v → Holds num end v c = λ c m e. subst (λ p. Holds num end p c) e (f.held c m (omega arith)) in
+      let entry : (v : ℕ) → v < length lists → get_or low v 0 ≡ length lists = λ v m. ap (λ (xs : List ℕ). get_or xs v 0) is ∙ get_or-replicate {A = ℕ} (length lists) v (length lists) 0 m in
       record {
-        least = λ u meets.
-            let has = meets.dart in
-            elim (IsWithin-cases lists _ _ _ _ f v meets.w l has.0 meets.within) [
-              | inl e ↦
-                  let here : HasDart lists v u = subst (λ x. HasDart lists x u) (sym e) has in
-                  let m = adjacency.in_range v u here in
-                  let le = h.below u here.1 in
-                  elim (cases_eq (get_or parent u 0) v) [
-                    | inl child ↦
-                        let back = (known u m child).least v (record { w = u; within = IsWithin-itself lists _ _ _ _ f u m; dart = adjacency.both_ways v u here }) in
-                        let after = (child_held u m child).after in
-                        omega (arith, low_along-child number parent low v u child)
-                    | inr other ↦ omega (arith, low_along-other number parent low v u other)
-                  ]
-              | inr held ↦
-                  let c = child_towards lists _ _ _ _ f v meets.w l has.0 held in
-                  let le = h.below c.c (child_dart c.c c.vertex c.child).1 in
-                  let low_c = (known c.c c.vertex c.child).least u (record { w = meets.w; within = c.within; dart = has }) in
-                  omega (arith, low_along-child number parent low v c.c c.child)
-            ];
-        met = λ few.
-            let n = all.numbers in
-            let at = h.met (omega arith) in
-            let u = at.0 in
-            let here : HasDart lists v u = (l, at.1) in
-            let m = adjacency.in_range v u here in
-            elim (cases_eq (get_or parent u 0) v) [
-              | inl child ↦
-                  let same = low_along-child number parent low v u child in
-                  let below = (known u m child).met (omega (arith, at.2)) in
-                  let inside = IsWithin-chained lists _ _ _ _ f v u below.1.w l m (IsWithin-held lists _ _ _ _ f v u (child_held u m child)) below.1.within in
-                  (below.0, record { w = below.1.w; within = inside; dart = below.1.dart }, below.2 ∙ (sym same ∙ at.2))
-              | inr other ↦ (u, record { w = v; within = IsWithin-itself lists _ _ _ _ f v l; dart = here }, sym (low_along-other number parent low v u other) ∙ at.2)
-            ];
+        lows = ap length is ∙ length-replicate {A = ℕ} (length lists) (length lists);
+        done = λ v m few. absurd (omega (arith, f.numbered v m));
+        children = λ c m few p. absurd (omega (arith, f.numbered c m));
+        met = λ v m few. absurd (omega (arith, entry v m));
       }
 
--- the least with one entry more
-pub IsLeastAlong-more : (entries number parent low : List ℕ) (v i least along next : ℕ) → i < length entries → along ≡ low_along number parent low v (get_or entries i 0) → next ≡ min least along → IsLeastAlong (take i entries) number parent low v least → IsLeastAlong (take (i + 1) entries) number parent low v next
-IsLeastAlong-more entries number parent low v i least along next l is e h =
-    let x = get_or entries i 0 in
-    let split = take_more entries i 0 l in
-    record {
-      below = λ u has.
-          elim (Contains-append_cases (take i entries) (x ∷ []) u (subst (λ (xs : List ℕ). Contains xs u) split has)) [
-            | inl old ↦ omega (arith, h.below u old)
-            | inr new ↦ elim (Contains-cons_cases x [] u new) [
-              | inl same ↦ omega (arith, ap (low_along number parent low v) same)
-              | inr none ↦ absurd (let some = none.1 in omega arith)
+  module _ (low : List ℕ) (i v least : ℕ) (l : i < length lists) (is : v ≡ get_or order (length lists - 1 - i) 0) (h : AreLowsFrom lists number last parent low i) (along : IsLeastNumber (list_of lists v) number (get_or low v 0) least) where
+    v_in : v < length lists
+    v_in =
+        let at = all.forest.vertex (length lists - 1 - i) (omega arith) in
+        rw is at
+
+    at_v : num v ≡ length lists - 1 - i
+    at_v =
+        let at = all.forest.place (length lists - 1 - i) (omega arith) in
+        rw is at
+
+    -- what it has is met
+    least_met : least < length lists → (u : ℕ) × Meets lists num end v u × (num u ≡ least)
+    least_met few = elim along.met [
+      | inl old ↦
+          let at = h.met v v_in (omega arith) in
+          (at.0, at.1, at.2 ∙ sym old)
+      | inr new ↦ (new.0, record { w = v; within = IsWithin-itself lists _ _ _ _ all.forest v v_in; dart = (v_in, new.1) }, new.2)
+    ]
+
+    -- and it is the low point
+    least_low : IsLow lists num end v least
+    least_low =
+        let f = all.forest in
+        record {
+          least = λ u meets.
+              let has = meets.dart in
+              elim (IsWithin-cases lists _ _ _ _ f v meets.w v_in has.0 meets.within) [
+                | inl e ↦
+                    let here : HasDart lists v u = subst (λ x. HasDart lists x u) (sym e) has in
+                    along.below u here.1
+                | inr held ↦
+                    let c = child_towards lists _ _ _ _ f v meets.w v_in has.0 held in
+                    let p_in : get_or parent c.c 0 < length lists = omega (arith, c.child, v_in) in
+                    let after : num (get_or parent c.c 0) < num c.c = (f.held c.c c.vertex p_in).after in
+                    let q = ap num c.child in
+                    let few : length lists ≤ num c.c + i = omega (arith, at_v) in
+                    let low_c = (h.done c.c c.vertex few).least u (record { w = meets.w; within = c.within; dart = has }) in
+                    let e = ap (λ x. get_or low x 0) c.child in
+                    omega (arith, h.children c.c c.vertex few p_in, along.most)
+              ];
+          met = least_met;
+        }
+
+    -- the low points with one more
+    pub AreLowsFrom-more : (now : List ℕ) → IsLowered (set low v least) now (get_or parent v 0) least → AreLowsFrom lists number last parent now (i + 1)
+    AreLowsFrom-more now w =
+        let f = all.forest in
+        let p = get_or parent v 0 in
+        let n = h.lows in
+        let first : p < length lists → num p < num v = λ m. (f.held v v_in m).after in
+        let apart : v ≢ p = λ e. elim (cases_lt p (length lists)) [ inl m ↦ (let a = first m in let q = ap num e in omega arith) | inr m ↦ (let a = v_in in omega arith) ] in
+        let here : get_or now v 0 ≡ least = w.elsewhere v apart ∙ get_or-set_same low v least 0 (omega (arith, v_in)) in
+        let above : p < length lists → get_or now p 0 ≡ min (get_or low p 0) least = λ m. w.here (omega (arith, length-set low v least)) ∙ ap (λ x. min x least) (get_or-set_other low v p least 0 (λ e. apart (sym e))) in
+        let other : (u : ℕ) → u ≢ v → u ≢ p → get_or now u 0 ≡ get_or low u 0 = λ u ne ne'. w.elsewhere u ne' ∙ get_or-set_other low v u least 0 ne in
+        let not_above : (u : ℕ) → u < length lists → length lists ≤ num u + (i + 1) → u ≢ p = λ u m few e. (let a = first (omega (arith, m, e)) in let q = ap num e in omega (arith, at_v)) in
+        let earlier : (u : ℕ) → u < length lists → length lists ≤ num u + (i + 1) → u ≢ v → length lists ≤ num u + i = λ u m few ne.
+        let differ : num u ≢ num v = λ e. ne (sym (f.own u m) ∙ (ap (λ x. get_or order x 0) e ∙ f.own v v_in)) in
+        omega (arith, at_v) in
+        record {
+          lows = w.count ∙ (length-set low v least ∙ n);
+          done = λ u m few. elim (cases_eq u v) [
+            | inl e ↦ subst (λ x. IsLow lists num end x (get_or now x 0)) (sym e) (subst (IsLow lists num end v) (sym here) least_low)
+            | inr ne ↦ subst (IsLow lists num end u) (sym (other u ne (not_above u m few))) (h.done u m (earlier u m few ne))
+          ];
+          children = λ c m few q. elim (cases_eq c v) [
+            | inl e ↦
+                let e' = ap (λ x. get_or parent x 0) e in
+                let a = above (omega (arith, e')) in
+                let b = ap (λ x. get_or now x 0) e in
+                let d = ap (λ x. get_or now x 0) e' in
+                omega (arith, here)
+            | inr ne ↦
+                let old = h.children c m (earlier c m few ne) q in
+                let same = other c ne (not_above c m few) in
+                let r = get_or parent c 0 in
+                elim (cases_eq r v) [
+                  | inl e ↦
+                      let b = ap (λ x. get_or now x 0) e in
+                      let d = ap (λ x. get_or low x 0) e in
+                      omega (arith, here, along.most)
+                  | inr ne' ↦ elim (cases_eq r p) [
+                    | inl e ↦
+                        let b = ap (λ x. get_or now x 0) e in
+                        let d = ap (λ x. get_or low x 0) e in
+                        omega (arith, above (omega (arith, e)))
+                    | inr ne'' ↦ omega (arith, other r ne' ne'')
+                  ]
+                ]
+          ];
+          met = λ u m few. elim (cases_eq u v) [
+            | inl e ↦
+                let at = least_met (omega (arith, ap (λ x. get_or now x 0) e, here)) in
+                (at.0, subst (λ x. Meets lists num end x at.0) (sym e) at.1, at.2 ∙ (sym here ∙ ap (λ x. get_or now x 0) (sym e)))
+            | inr ne ↦ elim (cases_eq u p) [
+              | inr ne' ↦
+                  let same = other u ne ne' in
+                  let at = h.met u m (omega arith) in
+                  (at.0, at.1, at.2 ∙ sym same)
+              | inl e ↦
+                  let p_in : p < length lists = omega (arith, m, e) in
+                  let a = above p_in in
+                  let b = ap (λ x. get_or now x 0) e in
+                  let d = ap (λ x. get_or low x 0) e in
+                  elim (cases_lt (get_or low p 0) least) [
+                    | inl less ↦
+                        let at = h.met u m (omega arith) in
+                        (at.0, at.1, at.2 ∙ omega arith)
+                    | inr most ↦
+                        let at = least_met (omega arith) in
+                        let held = IsWithin-held lists _ _ _ _ f p v (f.held v v_in p_in) in
+                        let inside = IsWithin-chained lists _ _ _ _ f p v at.1.w p_in v_in held at.1.within in
+                        (at.0, subst (λ x. Meets lists num end x at.0) (sym e) (record { w = at.1.w; within = inside; dart = at.1.dart }), at.2 ∙ omega arith)
+                  ]
             ]
           ];
-      met = λ few. elim (cases_lt least along) [
-        | inl less ↦
-            let old = h.met (omega arith) in
-            let same : least ≡ next = omega arith in
-            (old.0, subst (λ (xs : List ℕ). Contains xs old.0) (sym split) (Contains-append_left (take i entries) (x ∷ []) old.0 old.1), old.2 ∙ same)
-        | inr more ↦
-            let same : along ≡ next = omega arith in
-            (x, subst (λ (xs : List ℕ). Contains xs x) (sym split) (Contains-append_right (take i entries) (x ∷ []) x (Contains-here x [])), sym is ∙ same)
-      ];
-    }
-
--- the entries of a vertex's list are vertices
-pub entries_within : (lists : Lists) → IsAdjacency lists → (v : ℕ) → v < length lists → All (λ u. u < length lists) (list_of lists v)
-entries_within lists adjacency v l = λ k d m. adjacency.in_range v (get_or (list_of lists v) k d) (l, Contains-get_or (list_of lists v) k d m)
-
--- one low point more, by falling numbers
-pub lows_more : (lists : Lists) → IsAdjacency lists → (order number last parent low : List ℕ) → IsForestOf lists order number last parent → length low ≡ length lists → (i v least : ℕ) → i < length lists → v ≡ get_or order (length lists - 1 - i) 0 → ((u : ℕ) → u < length lists → length lists ≤ get_or number u 0 + i → IsLow lists (λ x. get_or number x 0) (λ x. get_or last x 0) u (get_or low u 0)) → IsLeastAlong (list_of lists v) number parent low v least → (u : ℕ) → u < length lists → length lists ≤ get_or number u 0 + (i + 1) → IsLow lists (λ x. get_or number x 0) (λ x. get_or last x 0) u (get_or (set low v least) u 0)
-lows_more lists adjacency order number last parent low all long i v least l is h along u m few =
-    let f = all.forest in
-    let n = all.numbers in
-    let k = length lists - 1 - i in
-    let in_k : k < length lists = omega arith in
-    let v_in = f.vertex k in_k in
-    let at = f.place k in_k in
-    let v_low : v < length lists = rw is v_in in
-    let at_v : get_or number v 0 ≡ k = rw is at in
-    elim (cases_eq u v) [
-      | inl e ↦
-          let here = get_or-set_same low v least 0 (omega arith) in
-          let low_v = IsLow-from_children lists adjacency order number last parent all low v least v_low (λ c c_in child. h c c_in
-          (let after = (f.held c c_in (omega arith)).after in
-          let q = ap (λ x. get_or number x 0) child in
-          omega arith)) along in
-          subst (λ x. IsLow lists (λ y. get_or number y 0) (λ y. get_or last y 0) x (get_or (set low v least) x 0)) (sym e)
-          (subst (IsLow lists (λ y. get_or number y 0) (λ y. get_or last y 0) v) (sym here) low_v)
-      | inr ne ↦
-          let apart : get_or number u 0 ≢ get_or number v 0 = λ e. ne (sym (f.own u m) ∙ (ap (λ x. get_or order x 0) e ∙ f.own v v_low)) in
-          let same = get_or-set_other low v u least 0 ne in
-          subst (IsLow lists (λ y. get_or number y 0) (λ y. get_or last y 0) u) (sym same) (h u m (omega arith))
-    ]
+        }

@@ -1,5 +1,5 @@
 -- Low points of a finished search.
-use Rattle.std.specs.Prelude.{ℕ, ◌<◌, ◌≤◌, ◌≡◌, ◌==◌, if◌then◌else◌, List, length, slice_index, Contains}
+use Rattle.std.specs.Prelude.{ℕ, ◌<◌, ◌≤◌, ◌≡◌, ◌≢◌, ◌⊎◌, min, List, length, slice_index, Contains}
 use Rattle.map_lists.specs.Lists.{Lists}
 use Rattle.map_theory.specs.Maps.{HasDart}
 
@@ -24,11 +24,14 @@ pub record AreLows (lists : Lists) (number last low : List ℕ) : Type 0 where
   pub count : length low ≡ length lists
   pub at : (v : ℕ) → v < length lists → IsLow lists (λ u. slice_index number u) (λ u. slice_index last u) v (slice_index low v)
 
--- what v has from its neighbour u: the low point of a child, and the number of any other
-abbrev pub low_along : List ℕ → List ℕ → List ℕ → ℕ → ℕ → ℕ
-low_along number parent low v u = if slice_index parent u == v then slice_index low u else slice_index number u
+-- the least of a number and of those of the vertices of a list
+pub record IsLeastNumber (entries number : List ℕ) (start least : ℕ) : Type 0 where
+  pub most : least ≤ start
+  pub below : (u : ℕ) → Contains entries u → least ≤ slice_index number u
+  pub met : (least ≡ start) ⊎ ((u : ℕ) × Contains entries u × (slice_index number u ≡ least))
 
--- the least of these, where the entries are u's neighbours
-pub record IsLeastAlong (entries number parent low : List ℕ) (v least : ℕ) : Type 0 where
-  pub below : (u : ℕ) → Contains entries u → least ≤ low_along number parent low v u
-  pub met : least < length number → (u : ℕ) × Contains entries u × (low_along number parent low v u ≡ least)
+-- the entry of v lowered to `least`, where it is greater, and no other changed
+pub record IsLowered (old new : List ℕ) (v least : ℕ) : Type 0 where
+  pub count : length new ≡ length old
+  pub here : v < length old → slice_index new v ≡ min (slice_index old v) least
+  pub elsewhere : (u : ℕ) → u ≢ v → slice_index new u ≡ slice_index old u

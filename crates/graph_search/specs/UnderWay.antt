@@ -1,5 +1,5 @@
 -- A depth-first search under way. A vertex that was not seen has the number of vertices for its number, and one that is not done ends at 0.
-use Rattle.std.specs.Prelude.{ℕ, ◌+◌, ◌<◌, ◌≤◌, ◌≡◌, ◌≢◌, not, nat_lt, List, length, slice_index}
+use Rattle.std.specs.Prelude.{ℕ, ◌+◌, ◌<◌, ◌≤◌, ◌≡◌, ◌≢◌, not, nat_lt, List, length, slice_index, replicate}
 use Rattle.classes.specs.Classes.{count_below}
 use Rattle.map_lists.specs.Lists.{Lists}
 use Rattle.map_theory.specs.Maps.{HasDart, list_of}
@@ -58,6 +58,14 @@ pub record IsSearching (lists : Lists) (order number last parent cursor : List �
   pub cursors : length cursor ≡ length lists
   pub state : IsUnderWay lists (λ k. slice_index order k) (λ v. slice_index number v) (λ v. slice_index last v) (λ v. slice_index parent v) count current
   pub read : AreRead lists (λ v. slice_index number v) (λ v. slice_index cursor v)
+
+-- tables of n vertices none of which was seen
+pub record AreCleared (n : ℕ) (order number last parent cursor : List ℕ) : Type 0 where
+  pub orders : length order ≡ n
+  pub unseen : number ≡ replicate n n
+  pub open_all : last ≡ replicate n 0
+  pub parents : length parent ≡ n
+  pub unread : cursor ≡ replicate n 0
 
 -- the work left in tables
 abbrev pub work_in : List ℕ → List ℕ → ℕ

@@ -2,4 +2,4 @@
 
 mod paths;
 
-pub use paths::{PathTables, longest_paths, longest_paths_again, topological_order};
+pub use paths::{PathTables, longest_paths, topological_order};

@@ -8,5 +8,5 @@
 mod orders;
 mod places;
 
-pub use orders::{StOrder, places_again, st_order, st_ranks};
+pub use orders::{StOrder, fill_places, st_order, st_ranks};
 pub use places::Ranges;

@@ -58,15 +58,15 @@ fn vertices_of(alloc: Global, numbers: &[u16]) -> Result<VertexList, AllocError>
 }
 
 /// The places of an st-order for the dart from s to t of a connected map without cut vertices, by a search from s
-/// that sees t next, in the memory of other ranges. It fails only when out of memory. The time is linear.
-pub fn places_again(
-    ranges: Ranges,
+/// that sees t next, in the memory of `ranges`. It fails only when out of memory. The time is linear.
+pub fn fill_places(
+    ranges: &mut Ranges,
     lists: &Rotations,
     forest: &Forest,
     low: &[u16],
     s: u16,
     t: u16,
-) -> Result<Ranges, AllocError>
+) -> Result<(), AllocError>
     requires simple { IsSimpleMap lists.now }
     requires connected { component_count lists.now ≡ 1 }
     requires uncut { (v : ℕ) → ¬ IsCutVertex lists.now v }
@@ -75,12 +75,12 @@ pub fn places_again(
     requires lows { AreLows lists.now forest.now.number.items forest.now.last.items low.now }
     requires first { slice_index forest.now.number.items s ≡ 0 }
     requires second { slice_index forest.now.number.items t ≡ 1 }
-    ensures places { IfOk result (λ made. ArePlaces lists.now s t made.from.items) }
-    ensures order { IfOk result (λ made. (at : List ℕ) × IsStOrder lists.now s t at made.from.items) }
+    ensures places { IfOk result (λ _. ArePlaces lists.now s t ranges.new.from.items) }
+    ensures order { IfOk result (λ _. (at : List ℕ) × IsStOrder lists.now s t at ranges.new.from.items) }
 {
-    let mut made = ranges.sized(lists)?;
-    made.place_all(lists, forest, low);
-    Ok(made)
+    ranges.make_room(lists)?;
+    ranges.place_all(lists, forest, low);
+    Ok(())
 }
 
 // The order with these places.
@@ -113,11 +113,12 @@ fn list_order(alloc: Global, lists: &Rotations, s: u16, t: u16) -> Result<StOrde
 {
     let forest = search_forest_along(alloc, lists, s, t)?;
     let low = low_points(alloc, lists, &forest)?;
-    let ranges = places_again(Ranges::new(alloc), lists, &forest, &low, s, t)?;
+    let mut ranges = Ranges::new(alloc);
+    fill_places(&mut ranges, lists, &forest, &low, s, t)?;
     order_of(alloc, lists, &ranges.from, s, t)
 }
 
-/// Like [`places_again`], but returns the places alone, in memory of their own.
+/// Like [`fill_places`], but returns the places alone, in memory of their own.
 pub fn st_ranks(
     alloc: Global,
     lists: &Rotations,
@@ -136,7 +137,8 @@ pub fn st_ranks(
     requires second { slice_index forest.now.number.items t ≡ 1 }
     ensures { IfOk result (λ rank. (at : List ℕ) × IsStOrder lists.now s t at rank) }
 {
-    let ranges = places_again(Ranges::new(alloc), lists, forest, low, s, t)?;
+    let mut ranges = Ranges::new(alloc);
+    fill_places(&mut ranges, lists, forest, low, s, t)?;
     let rank = counts_of(alloc, &ranges.from)?;
     Ok(rank)
 }

@@ -42,22 +42,20 @@ fn take_places(from: &mut [u16], to: &mut [u16], vertex: u16, parent: u16, size:
     }
 }
 
-// Returns a table of `n` places, in the memory of another.
-fn sized(table: Vec<u16>, n: usize) -> Result<Vec<u16>, AllocError>
-    ensures { IfOk result (λ made. length made.items ≡ n) }
+// Gives a table `n` places.
+fn size(table: &mut Vec<u16>, n: usize) -> Result<(), AllocError>
+    ensures { IfOk result (λ _. length table.new.items ≡ n) }
 {
-    let mut table = table;
     table.resize(n, 0)?;
-    Ok(table)
+    Ok(())
 }
 
-// Returns a table of `n` marks, in the memory of another.
-fn marks(table: Vec<bool>, n: usize) -> Result<Vec<bool>, AllocError>
-    ensures { IfOk result (λ made. length made.items ≡ n) }
+// Gives a table of marks `n` places.
+fn size_marks(table: &mut Vec<bool>, n: usize) -> Result<(), AllocError>
+    ensures { IfOk result (λ _. length table.new.items ≡ n) }
 {
-    let mut table = table;
     table.resize(n, false)?;
-    Ok(table)
+    Ok(())
 }
 
 impl Ranges {
@@ -71,17 +69,16 @@ impl Ranges {
         }
     }
 
-    // Makes room for the vertices of a map, in the memory of these ranges.
-    pub(crate) fn sized(self, lists: &Rotations) -> Result<Ranges, AllocError>
-        ensures { IfOk result (λ made. AreTables lists.now made.from.items made.to.items made.side.items made.recent.items) }
+    // Makes room for the vertices of a map.
+    pub(crate) fn make_room(&mut self, lists: &Rotations) -> Result<(), AllocError>
+        ensures { IfOk result (λ _. AreTables lists.now self.new.from.items self.new.to.items self.new.side.items self.new.recent.items) }
     {
         let n = lists.len();
-        Ok(Ranges {
-            from: sized(self.from, n)?,
-            to: sized(self.to, n)?,
-            side: marks(self.side, n)?,
-            recent: marks(self.recent, n)?,
-        })
+        size(&mut self.from, n)?;
+        size(&mut self.to, n)?;
+        size_marks(&mut self.side, n)?;
+        size_marks(&mut self.recent, n)?;
+        Ok(())
     }
 
     // Gives the vertex numbered `next` its places, on the other side of its parent than the vertex at its low point.

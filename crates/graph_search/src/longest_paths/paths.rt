@@ -6,6 +6,7 @@ ghost use Rattle.graph_search.specs.Progress.{IsRaised, IsPut, IsUsed, IsProgres
 
 use map_lists::ItemLists;
 use std::alloc::{AllocError, Global};
+use std::mem;
 
 // Raises the number of `r` above that of `e`.
 fn raise(number: &mut [u32], e: u32, r: u32)
@@ -155,6 +156,27 @@ fn count_arcs(counts: &mut [usize], arcs: &ItemLists<u32>)
     }
 }
 
+// Fills a table with 0 at each of `n` places.
+fn zeros(table: &mut Vec<u32>, n: usize) -> Result<(), AllocError>
+    ensures { IfOk result (λ _. table.new.items ≡ replicate n 0) }
+{
+    table.clear();
+    table.resize(n, 0)?;
+    Ok(())
+}
+
+// Fills a table with how many arcs lead to each vertex.
+fn arcs_into(table: &mut Vec<usize>, arcs: &ItemLists<u32>) -> Result<(), AllocError>
+    requires within { (e r : ℕ) → HasArc arcs.now e r → r < length arcs.now }
+    ensures count { IfOk result (λ _. length table.new.items ≡ length arcs.now) }
+    ensures each { IfOk result (λ _. (r : ℕ) → r < length arcs.now → slice_index table.new.items r ≡ all_into arcs.now r) }
+{
+    table.clear();
+    table.resize(arcs.len(), 0)?;
+    count_arcs(table, arcs);
+    Ok(())
+}
+
 /// The tables of a search for longest paths, which keep their memory from one graph to the next.
 #[derive(Drop)]
 pub struct PathTables {
@@ -175,58 +197,32 @@ impl PathTables {
             queue: Vec::new(alloc),
         }
     }
+
+    /// Finds for each vertex the length of the longest path from the base to it, without the arcs that lead to the
+    /// base. It fails only when out of memory. The time is linear in the vertices and arcs, and so is the memory.
+    pub fn find(
+        &mut self,
+        alloc: Global,
+        arcs: &ItemLists<u32>,
+        base: u32,
+    ) -> Result<(), AllocError>
+        requires acyclic { IsAcyclic arcs.now base }
+        requires few { length arcs.now < 2 ^ 32 }
+        ensures longest { IfOk result (λ _. AreLongest arcs.now base self.new.number.items) }
+        ensures order { IfOk result (λ _. IsTopological arcs.now base self.new.queue.items) }
+    {
+        arcs_into(&mut self.waiting, arcs)?;
+        zeros(&mut self.number, arcs.len())?;
+        let mut queue = mem::replace(&mut self.queue, Vec::new(alloc));
+        queue.clear();
+        queue.push(base)?;
+        visit_all(arcs, base, &mut self.number, &mut self.waiting, &mut queue)?;
+        self.queue = queue;
+        Ok(())
+    }
 }
 
-// A table with 0 at each of `n` places, in the memory of another.
-fn zeros(table: Vec<u32>, n: usize) -> Result<Vec<u32>, AllocError>
-    ensures { IfOk result (λ made. made.items ≡ replicate n 0) }
-{
-    let mut table = table;
-    table.clear();
-    table.resize(n, 0)?;
-    Ok(table)
-}
-
-// How many arcs lead to each vertex, in the memory of another table.
-fn arcs_into(table: Vec<usize>, arcs: &ItemLists<u32>) -> Result<Vec<usize>, AllocError>
-    requires within { (e r : ℕ) → HasArc arcs.now e r → r < length arcs.now }
-    ensures count { IfOk result (λ made. length made.items ≡ length arcs.now) }
-    ensures each { IfOk result (λ made. (r : ℕ) → r < length arcs.now → slice_index made.items r ≡ all_into arcs.now r) }
-{
-    let mut table = table;
-    table.clear();
-    table.resize(arcs.len(), 0)?;
-    count_arcs(&mut table, arcs);
-    Ok(table)
-}
-
-/// For each vertex the length of the longest path from the base to it, without the arcs that lead to the
-/// base, in the memory of other tables. It fails only when out of memory. The time is linear in the vertices and
-/// arcs, and so is the memory.
-pub fn longest_paths_again(
-    tables: PathTables,
-    arcs: &ItemLists<u32>,
-    base: u32,
-) -> Result<PathTables, AllocError>
-    requires acyclic { IsAcyclic arcs.now base }
-    requires few { length arcs.now < 2 ^ 32 }
-    ensures longest { IfOk result (λ made. AreLongest arcs.now base made.number.items) }
-    ensures order { IfOk result (λ made. IsTopological arcs.now base made.queue.items) }
-{
-    let mut waiting = arcs_into(tables.waiting, arcs)?;
-    let mut number = zeros(tables.number, arcs.len())?;
-    let mut queue = tables.queue;
-    queue.clear();
-    queue.push(base)?;
-    visit_all(arcs, base, &mut number, &mut waiting, &mut queue)?;
-    Ok(PathTables {
-        number,
-        waiting,
-        queue,
-    })
-}
-
-/// Like [`longest_paths_again`], in memory of its own.
+/// For each vertex the length of the longest path from the base to it, as [`PathTables::find`] has it.
 pub fn longest_paths(
     alloc: Global,
     arcs: &ItemLists<u32>,
@@ -236,8 +232,9 @@ pub fn longest_paths(
     requires few { length arcs.now < 2 ^ 32 }
     ensures { IfOk result (λ number. AreLongest arcs.now base number.items) }
 {
-    let made = longest_paths_again(PathTables::new(alloc), arcs, base)?;
-    Ok(made.number)
+    let mut tables = PathTables::new(alloc);
+    tables.find(alloc, arcs, base)?;
+    Ok(tables.number)
 }
 
 /// All vertices in an order in which each but the base stands behind those from which arcs lead to it. The base is
@@ -251,6 +248,7 @@ pub fn topological_order(
     requires few { length arcs.now < 2 ^ 32 }
     ensures { IfOk result (λ order. IsTopological arcs.now base order.items) }
 {
-    let made = longest_paths_again(PathTables::new(alloc), arcs, base)?;
-    Ok(made.queue)
+    let mut tables = PathTables::new(alloc);
+    tables.find(alloc, arcs, base)?;
+    Ok(tables.queue)
 }

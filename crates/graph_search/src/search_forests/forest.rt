@@ -2,10 +2,14 @@
 ghost use Rattle.std.specs.Prelude.{◌≡◌, ◌+◌, ◌<◌, ◌≤◌, ◌≢◌, ℕ, length, slice_index, replicate, IfOk};
 ghost use Rattle.map_theory.specs.Maps.{HasDart};
 ghost use Rattle.graph_search.specs.Forests.{IsAdjacency, IsForestOf};
+ghost use Rattle.graph_search.specs.Lows.{AreLows};
+ghost use Rattle.graph_search.specs.UnderWay.{AreCleared};
 
+use crate::search_forests::lows::fill_lows;
 use crate::search_forests::steps::Search;
 use map_lists::Rotations;
 use std::alloc::{AllocError, Global};
+use std::mem;
 
 /// The forest of a finished search, as tables with an entry for each vertex.
 #[derive(Drop)]
@@ -25,7 +29,9 @@ pub fn search_forest(alloc: Global, lists: &Rotations) -> Result<Forest, AllocEr
     requires adjacency { IsAdjacency lists.now }
     ensures { IfOk result (λ f. IsForestOf lists.now f.order.items f.number.items f.last.items f.parent.items) }
 {
-    let mut search = Search::begun(lists, Forest::new(alloc), Vec::new(alloc))?;
+    let mut tables = SearchTables::new(alloc);
+    tables.clear(lists.len())?;
+    let mut search = Search::begun(lists, tables.forest, tables.cursor);
     search.finish();
     Ok(search.into_tables().0)
 }
@@ -42,45 +48,106 @@ impl Forest {
     }
 }
 
-// Returns a table of `n` places, in the memory of another.
-pub(crate) fn sized(table: Vec<u16>, n: usize) -> Result<Vec<u16>, AllocError>
-    ensures { IfOk result (λ made. length made.items ≡ n) }
+// Gives a table `n` places.
+fn size(table: &mut Vec<u16>, n: usize) -> Result<(), AllocError>
+    ensures { IfOk result (λ _. length table.new.items ≡ n) }
 {
-    let mut table = table;
     table.resize(n, 0)?;
-    Ok(table)
+    Ok(())
 }
 
-// Returns a table with `value` at each of `n` places, in the memory of another.
-pub(crate) fn filled(table: Vec<u16>, value: u16, n: usize) -> Result<Vec<u16>, AllocError>
-    ensures { IfOk result (λ made. made.items ≡ replicate n value) }
+// Fills a table with `value` at each of `n` places.
+pub(crate) fn fill(table: &mut Vec<u16>, value: u16, n: usize) -> Result<(), AllocError>
+    ensures { IfOk result (λ _. table.new.items ≡ replicate n value) }
 {
-    let mut table = table;
     table.clear();
     table.resize(n, value)?;
-    Ok(table)
+    Ok(())
 }
 
-/// Like [`search_forest_along`], in the memory of an earlier forest and of its cursors. It returns both.
-pub fn search_again(
-    forest: Forest,
-    cursor: Vec<usize>,
-    lists: &Rotations,
-    s: u16,
-    t: u16,
-) -> Result<(Forest, Vec<usize>), AllocError>
-    requires adjacency { IsAdjacency lists.now }
-    requires dart { HasDart lists.now s t }
-    requires two { s ≢ t }
-    ensures forest { IfOk result (λ f. IsForestOf lists.now f.0.order.items f.0.number.items f.0.last.items f.0.parent.items) }
-    ensures first { IfOk result (λ f. slice_index f.0.number.items s ≡ 0) }
-    ensures second { IfOk result (λ f. slice_index f.0.number.items t ≡ 1) }
+// Fills a table with 0 at each of `n` places.
+fn unread(table: &mut Vec<usize>, n: usize) -> Result<(), AllocError>
+    ensures { IfOk result (λ _. table.new.items ≡ replicate n 0) }
 {
-    let mut search = Search::begun(lists, forest, cursor)?;
-    search.see(s);
-    search.see(t);
-    search.finish();
-    Ok(search.into_tables())
+    table.clear();
+    table.resize(n, 0)?;
+    Ok(())
+}
+
+/// The tables of a search with its low points, which keep their memory from one search to the next.
+#[derive(Drop)]
+pub struct SearchTables {
+    /// The forest of the search.
+    pub forest: Forest,
+    /// For each vertex its low point.
+    pub low: Vec<u16>,
+    // for each vertex how many entries of its list were read
+    cursor: Vec<usize>,
+}
+
+impl SearchTables {
+    /// Tables of no search. They take no memory.
+    pub fn new(alloc: Global) -> SearchTables {
+        SearchTables {
+            forest: Forest::new(alloc),
+            low: Vec::new(alloc),
+            cursor: Vec::new(alloc),
+        }
+    }
+
+    // Makes the tables those of a search in which none of `n` vertices was seen.
+    fn clear(&mut self, n: usize) -> Result<(), AllocError>
+        requires { n < 4096 }
+        ensures { IfOk result (λ _. AreCleared n self.new.forest.order.items self.new.forest.number.items self.new.forest.last.items self.new.forest.parent.items self.new.cursor.items) }
+    {
+        size(&mut self.forest.order, n)?;
+        fill(&mut self.forest.number, n as u16, n)?;
+        fill(&mut self.forest.last, 0, n)?;
+        size(&mut self.forest.parent, n)?;
+        unread(&mut self.cursor, n)?;
+        Ok(())
+    }
+
+    /// Searches lists in which adjacency goes both ways, from `s`, which sees its neighbour `t` next. It fails only when
+    /// out of memory.
+    pub fn search(
+        &mut self,
+        alloc: Global,
+        lists: &Rotations,
+        s: u16,
+        t: u16,
+    ) -> Result<(), AllocError>
+        requires adjacency { IsAdjacency lists.now }
+        requires dart { HasDart lists.now s t }
+        requires two { s ≢ t }
+        ensures forest { IfOk result (λ _. IsForestOf lists.now self.new.forest.order.items self.new.forest.number.items self.new.forest.last.items self.new.forest.parent.items) }
+        ensures first { IfOk result (λ _. slice_index self.new.forest.number.items s ≡ 0) }
+        ensures second { IfOk result (λ _. slice_index self.new.forest.number.items t ≡ 1) }
+    {
+        self.clear(lists.len())?;
+        let forest = mem::replace(&mut self.forest, Forest::new(alloc));
+        let cursor = mem::replace(&mut self.cursor, Vec::new(alloc));
+        let mut search = Search::begun(lists, forest, cursor);
+        search.see(s);
+        search.see(t);
+        search.finish();
+        let (forest, cursor) = search.into_tables();
+        self.forest = forest;
+        self.cursor = cursor;
+        Ok(())
+    }
+
+    /// Finds the low points of the search.
+    pub fn find_lows(&mut self, lists: &Rotations) -> Result<(), AllocError>
+        requires adjacency { IsAdjacency lists.now }
+        requires forest { IsForestOf lists.now self.old.forest.order.items self.old.forest.number.items self.old.forest.last.items self.old.forest.parent.items }
+        ensures forest { IfOk result (λ _. self.new.forest ≡ self.old.forest) }
+        ensures lows { IfOk result (λ _. AreLows lists.now self.new.forest.number.items self.new.forest.last.items self.new.low.items) }
+    {
+        fill(&mut self.low, lists.len() as u16, lists.len())?;
+        fill_lows(lists, &self.forest, &mut self.low);
+        Ok(())
+    }
 }
 
 /// Like [`search_forest`], but begins at `s`, which sees its neighbour `t` next.
@@ -97,6 +164,7 @@ pub fn search_forest_along(
     ensures first { IfOk result (λ f. slice_index f.number.items s ≡ 0) }
     ensures second { IfOk result (λ f. slice_index f.number.items t ≡ 1) }
 {
-    let made = search_again(Forest::new(alloc), Vec::new(alloc), lists, s, t)?;
-    Ok(made.0)
+    let mut tables = SearchTables::new(alloc);
+    tables.search(alloc, lists, s, t)?;
+    Ok(tables.forest)
 }

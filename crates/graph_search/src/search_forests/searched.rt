@@ -1,4 +1,4 @@
-//! What is read of a finished search.
+//! Lends a finished search to its readers.
 ghost use Rattle.std.specs.Prelude.{◌≡◌, ◌<◌, ℕ, length, slice_index};
 ghost use Rattle.map_theory.specs.Maps.{HasDart};
 

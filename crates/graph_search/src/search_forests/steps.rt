@@ -2,11 +2,10 @@
 ghost use Rattle.std.specs.Prelude.{◌≡◌, ◌+◌, ◌<◌, ◌≤◌, ◌↔◌, IsTrue, ℕ, length, slice_index, slice_set, replicate, IfOk};
 ghost use Rattle.map_theory.specs.Maps.{HasDart, list_of};
 ghost use Rattle.graph_search.specs.Forests.{IsForestOf};
-ghost use Rattle.graph_search.specs.UnderWay.{IsSearching, KeepsNumbers, work_in};
+ghost use Rattle.graph_search.specs.UnderWay.{AreCleared, IsSearching, KeepsNumbers, work_in};
 
-use crate::search_forests::forest::{Forest, filled, sized};
+use crate::search_forests::forest::Forest;
 use map_lists::Rotations;
-use std::alloc::AllocError;
 
 /// A search of lists under way: its tables, and where it stands.
 #[derive(Drop)]
@@ -27,46 +26,27 @@ pub(crate) struct Search<'a> {
     ghost searching: { IsSearching lists.now order.items number.items last.items parent.items cursor.items count current },
 }
 
-// Returns a table with 0 at each of `n` places, in the memory of another.
-fn unread(table: Vec<usize>, n: usize) -> Result<Vec<usize>, AllocError>
-    ensures { IfOk result (λ made. made.items ≡ replicate n 0) }
-{
-    let mut table = table;
-    table.clear();
-    table.resize(n, 0)?;
-    Ok(table)
-}
-
 impl<'a> Search<'a> {
-    /// Begins a search in which no vertex was seen, in the memory of an earlier forest and of its cursors.
+    /// Begins a search in which no vertex was seen, in tables that say so.
     #[inline(always)]
-    pub(crate) fn begun(
-        lists: &'a Rotations,
-        forest: Forest,
-        cursor: Vec<usize>,
-    ) -> Result<Search<'a>, AllocError>
+    pub(crate) fn begun(lists: &'a Rotations, forest: Forest, cursor: Vec<usize>) -> Search<'a>
         requires in_range { (v u : ℕ) → HasDart lists.now v u → u < length lists.now }
-        ensures lists { IfOk result (λ made. made.lists.now ≡ lists.now) }
-        ensures count { IfOk result (λ made. made.count ≡ 0) }
-        ensures current { IfOk result (λ made. made.current ≡ length lists.now) }
-        ensures number { IfOk result (λ made. made.number.items ≡ replicate (length lists.now) (length lists.now)) }
+        requires cleared { AreCleared (length lists.now) forest.order.items forest.number.items forest.last.items forest.parent.items cursor.items }
+        ensures lists { result.lists.now ≡ lists.now }
+        ensures count { result.count ≡ 0 }
+        ensures current { result.current ≡ length lists.now }
+        ensures number { result.number.items ≡ replicate (length lists.now) (length lists.now) }
     {
-        let n = lists.len();
-        let order = sized(forest.order, n)?;
-        let number = filled(forest.number, n as u16, n)?;
-        let last = filled(forest.last, 0, n)?;
-        let parent = sized(forest.parent, n)?;
-        let cursor = unread(cursor, n)?;
-        Ok(Search {
+        Search {
             lists,
-            order,
-            number,
-            last,
-            parent,
+            order: forest.order,
+            number: forest.number,
+            last: forest.last,
+            parent: forest.parent,
             cursor,
             count: 0,
-            current: n as u16,
-        })
+            current: lists.len() as u16,
+        }
     }
 
     // Whether a vertex was not seen.
@@ -117,10 +97,11 @@ impl<'a> Search<'a> {
         ensures current { self.new.current ≡ v }
         ensures less { work_in self.new.number.items self.new.last.items < work_in self.old.number.items self.old.last.items }
     {
-        self.order[self.count as usize] = v;
-        self.number[v as usize] = self.count;
+        let count = self.count;
+        self.order[count as usize] = v;
+        self.number[v as usize] = count;
         self.parent[v as usize] = self.current;
-        self.count += 1;
+        self.count = count + 1;
         self.current = v;
     }
 
@@ -164,8 +145,9 @@ impl<'a> Search<'a> {
         ensures keeps { KeepsNumbers self.old.number.items self.new.number.items }
         ensures less { work_in self.new.number.items self.new.last.items < work_in self.old.number.items self.old.last.items }
     {
+        let lists = self.lists;
+        let list = lists.list(self.current as usize);
         let place = self.go_on();
-        let list = self.lists.list(self.current as usize);
         if place < list.len() {
             self.see(list[place]);
         } else {

@@ -11,28 +11,20 @@ ghost use Rattle.visibility.specs.Found.{IsFound};
 
 use crate::bar_figures::draw::bar_figure;
 use crate::ends::{coordinate, coordinates_of};
-use crate::spans::{Sides, SpanTables, spans_again};
+use crate::spans::{Sides, SpanTables};
 use bipolar::dual_orders::{FaceTables, number_faces};
 use conn_parts::plane_count;
 use euler_faces::Counter;
-use graph_search::longest_paths::{PathTables, longest_paths_again};
+use graph_search::longest_paths::PathTables;
 use graph_search::map_cuts::{is_uncut, list_cut_vertex, searched_cut_vertex};
-use graph_search::search_forests::{Forest, low_points_again, search_again};
+use graph_search::search_forests::{Forest, SearchTables};
 use half_edges::{Rotations, VertexId};
 use pg_plane::{BarFigure, Ints};
 use refusals::{Refusal, Unserved, no_refusal_is_plane};
 use simple_maps::fill_twins;
-use st_orders::{Ranges, places_again};
+use st_orders::{Ranges, fill_places};
 use std::alloc::{AllocError, Global};
 use std::mem;
-
-// The tables of a search.
-#[derive(Drop)]
-struct SearchTables {
-    forest: Forest,
-    cursor: Vec<usize>,
-    low: Vec<u16>,
-}
 
 // The tables from an st-order to the columns of edges.
 #[derive(Drop)]
@@ -61,38 +53,41 @@ fn sees_all(forest: &Forest) -> bool
     forest.last[0] as usize == forest.last.len()
 }
 
-// Searches a map from vertex 0 and sees `t` next, in the memory of other tables.
-fn searched(tables: SearchTables, lists: &Rotations, t: u16) -> Result<SearchTables, AllocError>
+// Searches a map from vertex 0 and sees `t` next.
+fn search_map(
+    tables: &mut SearchTables,
+    alloc: Global,
+    lists: &Rotations,
+    t: u16,
+) -> Result<(), AllocError>
     requires simple { IsSimpleMap lists.now }
     requires dart { HasDart lists.now 0 t }
-    ensures { IfOk result (λ made. IsSearchFrom lists.now t made.forest.order.items made.forest.number.items made.forest.last.items made.forest.parent.items made.low.items) }
+    ensures { IfOk result (λ _. IsSearchFrom lists.now t tables.new.forest.order.items tables.new.forest.number.items tables.new.forest.last.items tables.new.forest.parent.items tables.new.low.items) }
 {
-    let (forest, cursor) = search_again(tables.forest, tables.cursor, lists, 0, t)?;
-    let low = low_points_again(tables.low, lists, &forest)?;
-    Ok(SearchTables {
-        forest,
-        cursor,
-        low,
-    })
+    tables.search(alloc, lists, 0, t)?;
+    tables.find_lows(lists)?;
+    Ok(())
 }
 
-// The faces of a map with ranks, in the memory of other tables.
-fn faces_of(
-    tables: FaceTables,
+// Numbers the faces of a map with ranks.
+fn find_faces(
+    tables: &mut FaceTables,
+    alloc: Global,
     lists: &Rotations,
     twins: &[u32],
     rank: &[u16],
-) -> Result<FaceTables, AllocError>
+) -> Result<(), AllocError>
     requires simple { IsSimpleMap lists.now }
     requires twins { AreTwins (darts lists.now) twins.now (length (darts lists.now)) }
     requires ranks { length rank.now ≡ length lists.now }
-    ensures numbers { IfOk result (λ made. AreFaceNumbers lists.now made.of.items (length made.arcs)) }
-    ensures arcs { IfOk result (λ made. AreFaceArcs lists.now rank.now made.of.items (length made.arcs) made.arcs) }
-    ensures few { IfOk result (λ made. length made.arcs < 2 ^ 32) }
+    ensures numbers { IfOk result (λ _. AreFaceNumbers lists.now tables.new.of.items (length tables.new.arcs)) }
+    ensures arcs { IfOk result (λ _. AreFaceArcs lists.now rank.now tables.new.of.items (length tables.new.arcs) tables.new.arcs) }
+    ensures few { IfOk result (λ _. length tables.new.arcs < 2 ^ 32) }
 {
-    lists.facts();
-    let faces = number_faces(tables, lists.entries(), lists.ends(), twins, rank)?;
-    Ok(faces)
+    let spent = mem::replace(tables, FaceTables::new(alloc));
+    let made = number_faces(spent, lists.entries(), lists.ends(), twins, rank)?;
+    *tables = made;
+    Ok(())
 }
 
 // The first number of a table.
@@ -154,34 +149,29 @@ impl DualTables {
         requires search { IsUncutSearch lists.now t search.now.forest.order.items search.now.forest.number.items search.now.forest.last.items search.now.forest.parent.items search.now.low.items }
         ensures { IfOk result (IsFound lists.now) }
     {
-        let ranges = mem::replace(&mut self.ranges, Ranges::new(alloc));
-        let ranges = places_again(ranges, lists, &search.forest, &search.low, 0, t)?;
-        let faces = mem::replace(&mut self.faces, FaceTables::new(alloc));
-        let faces = faces_of(faces, lists, twins, &ranges.from)?;
-        if lists.len() + faces.arcs.len() != twins.len() / 2 + 2 {
-            self.ranges = ranges;
-            self.faces = faces;
+        fill_places(&mut self.ranges, lists, &search.forest, &search.low, 0, t)?;
+        find_faces(&mut self.faces, alloc, lists, twins, &self.ranges.from)?;
+        if lists.len() + self.faces.arcs.len() != twins.len() / 2 + 2 {
             return Ok(Found::Nothing);
         }
-        let base = first_of(&faces.of);
-        let paths = mem::replace(&mut self.paths, PathTables::new(alloc));
-        let paths = longest_paths_again(paths, &faces.arcs, base)?;
+        let base = first_of(&self.faces.of);
+        self.paths.find(alloc, &self.faces.arcs, base)?;
         let sides = Sides {
             lists,
-            rank: &ranges.from,
-            of: &faces.of,
+            rank: &self.ranges.from,
+            of: &self.faces.of,
             twins,
-            numbers: &paths.number,
+            numbers: &self.paths.number,
         };
-        let spans = mem::replace(&mut self.spans, SpanTables::new(alloc));
-        let (spans, x1, x2) = spans_again(alloc, spans, &sides)?;
-        let y = heights(mem::replace(&mut self.y, Ints::new(alloc)), &ranges.from)?;
+        self.spans.fill(alloc, &sides)?;
+        let y = heights(
+            mem::replace(&mut self.y, Ints::new(alloc)),
+            &self.ranges.from,
+        )?;
         let column = mem::replace(&mut self.column, Ints::new(alloc));
-        let column = coordinates_of(column, &spans.columns)?;
-        self.ranges = ranges;
-        self.faces = faces;
-        self.paths = paths;
-        self.spans = spans;
+        let column = coordinates_of(column, &self.spans.columns)?;
+        let x1 = mem::replace(&mut self.spans.x1, Ints::new(alloc));
+        let x2 = mem::replace(&mut self.spans.x2, Ints::new(alloc));
         Ok(Found::Drawn(BarFigure { y, x1, x2, column }))
     }
 
@@ -201,13 +191,10 @@ impl DualTables {
         ensures { IfOk result (IsFound lists.now) }
     {
         no_refusal_is_plane();
-        let faces = mem::replace(&mut self.faces, FaceTables::new(alloc));
-        let faces = faces_of(faces, lists, twins, &search.forest.number)?;
-        if lists.len() + faces.arcs.len() != twins.len() / 2 + 2 {
-            self.faces = faces;
+        find_faces(&mut self.faces, alloc, lists, twins, &search.forest.number)?;
+        if lists.len() + self.faces.arcs.len() != twins.len() / 2 + 2 {
             return Ok(Found::Nothing);
         }
-        self.faces = faces;
         match searched_cut_vertex(lists, &search.forest, &search.low) {
             Some(v) => Ok(Found::Cut(VertexId(v))),
             None => Ok(Found::Nothing),
@@ -245,11 +232,7 @@ impl Tables {
     // Tables of no record. They take no memory.
     fn new(alloc: Global) -> Tables {
         Tables {
-            search: SearchTables {
-                forest: Forest::new(alloc),
-                cursor: Vec::new(alloc),
-                low: Vec::new(alloc),
-            },
+            search: SearchTables::new(alloc),
             dual: DualTables::new(alloc),
         }
     }
@@ -264,15 +247,8 @@ impl Tables {
             return Ok(Found::Nothing);
         }
         let t = lists.list(0)[0];
-        let spent = SearchTables {
-            forest: mem::replace(&mut self.search.forest, Forest::new(alloc)),
-            cursor: mem::replace(&mut self.search.cursor, Vec::new(alloc)),
-            low: mem::replace(&mut self.search.low, Vec::new(alloc)),
-        };
-        let search = searched(spent, lists, t)?;
-        let found = self.dual.find(alloc, lists, twins, t, &search)?;
-        self.search = search;
-        Ok(found)
+        search_map(&mut self.search, alloc, lists, t)?;
+        self.dual.find(alloc, lists, twins, t, &self.search)
     }
 }
 

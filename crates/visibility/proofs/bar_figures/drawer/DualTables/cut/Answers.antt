@@ -12,7 +12,7 @@ pub returns-in-Some : goal.returns-in-Some
 returns-in-Some c =
     let lists = c.args.lists.now in
     let r = c.requires in
-    let arcs = c.in_ok-faces.faces.arcs in
+    let arcs = c.find_faces.new.tables.arcs in
     let counted : length lists + length arcs ≡ dart_count lists / 2 + 2 = omega (arith, c.if-len-twins.false, c.len.ensures.is, c.len-2.ensures, ap (λ n. n / 2) (r.twins.count ∙ length-darts lists)) in
-    let plane = IsPlane-counted lists (length arcs) r.simple r.many r.connected c.in_ok-faces.ensures.numbers.all counted in
+    let plane = IsPlane-counted lists (length arcs) r.simple r.many r.connected c.in_ok-find_faces.ensures.numbers.all counted in
     ((c.no_refusal_is_plane.ensures 3 lists (omega (arith, r.many))).1 (r.simple, plane, r.many), r.connected, c.in-Some.ensures)

@@ -1,4 +1,4 @@
-use Rattle.std.proofs.Common.{◌≡◌, ℕ, ◌+◌, ◌/◌, List, length, refl, ap, ◌∙◌, arith}
+use Rattle.std.proofs.Common.{◌≡◌, ℕ, ◌+◌, ◌/◌, List, length, ap, ◌∙◌, arith}
 use Rattle.map_theory.specs.Maps.{dart_count}
 use Rattle.map_theory.proofs.DartLemmas.{length-darts}
 use Rattle.pg_plane.specs.declared.figure.BarFigure.{BarFigure}
@@ -10,70 +10,70 @@ pub first_of-base-requires : goal.first_of-base-requires
 first_of-base-requires c =
     let lists = c.args.lists.now in
     let r = c.requires in
-    let rank = c.in_ok-ranges.ranges.from.items in
-    let order = c.in_ok-ranges.ensures.order in
-    let of = c.in_ok-faces.faces.of.items in
-    let arcs = c.in_ok-faces.faces.arcs in
-    let some = some_face lists r.few r.simple r.many r.search.connected c.args.t r.first r.dart rank order.0 order.1 of (length arcs) c.in_ok-faces.ensures.numbers in
+    let rank = c.fill_places.new.ranges.from.items in
+    let order = c.in_ok-fill_places.ensures.order in
+    let of = c.find_faces.new.tables.of.items in
+    let arcs = c.find_faces.new.tables.arcs in
+    let some = some_face lists r.few r.simple r.many r.search.connected c.args.t r.first r.dart rank order.0 order.1 of (length arcs) c.in_ok-find_faces.ensures.numbers in
     omega (arith, some, ap (λ (xs : List ℕ). length xs) c.deref-3.ensures.value)
 
-pub longest_paths_again-requires-clause-acyclic : goal.longest_paths_again-requires-clause-acyclic
-longest_paths_again-requires-clause-acyclic c =
+pub find-requires-clause-acyclic : goal.find-requires-clause-acyclic
+find-requires-clause-acyclic c =
     let lists = c.args.lists.now in
     let r = c.requires in
-    let rank = c.in_ok-ranges.ranges.from.items in
-    let order = c.in_ok-ranges.ensures.order in
-    let of = c.in_ok-faces.faces.of.items in
-    let arcs = c.in_ok-faces.faces.arcs in
-    let lead = rw c.deref-2.ensures.value at c.in_ok-faces.ensures.arcs in
+    let rank = c.fill_places.new.ranges.from.items in
+    let order = c.in_ok-fill_places.ensures.order in
+    let of = c.find_faces.new.tables.of.items in
+    let arcs = c.find_faces.new.tables.arcs in
+    let lead = rw c.deref-2.ensures.value at c.in_ok-find_faces.ensures.arcs in
     let counted : length lists + length arcs ≡ dart_count lists / 2 + 2 = omega (arith, c.if-len-twins.false, c.len.ensures.is, c.len-2.ensures, ap (λ n. n / 2) (r.twins.count ∙ length-darts lists)) in
-    rw (c.first_of-base.ensures, c.deref-3.ensures.value) (acyclic_arcs lists r.few r.simple r.many r.search.connected c.args.t r.first r.dart rank order.0 order.1 of (length arcs) c.in_ok-faces.ensures.numbers arcs lead counted)
+    rw (c.first_of-base.ensures, c.deref-3.ensures.value) (acyclic_arcs lists r.few r.simple r.many r.search.connected c.args.t r.first r.dart rank order.0 order.1 of (length arcs) c.in_ok-find_faces.ensures.numbers arcs lead counted)
 
 pub invariant_of-sides : goal.invariant_of-sides
 invariant_of-sides c =
     let lists = c.args.lists.now in
     let r = c.requires in
-    let rank = c.in_ok-ranges.ranges.from.items in
-    let order = c.in_ok-ranges.ensures.order in
-    let of = c.in_ok-faces.faces.of.items in
-    let arcs = c.in_ok-faces.faces.arcs in
-    let lead = rw c.deref-2.ensures.value at c.in_ok-faces.ensures.arcs in
+    let rank = c.fill_places.new.ranges.from.items in
+    let order = c.in_ok-fill_places.ensures.order in
+    let of = c.find_faces.new.tables.of.items in
+    let arcs = c.find_faces.new.tables.arcs in
+    let lead = rw c.deref-2.ensures.value at c.in_ok-find_faces.ensures.arcs in
     let counted : length lists + length arcs ≡ dart_count lists / 2 + 2 = omega (arith, c.if-len-twins.false, c.len.ensures.is, c.len-2.ensures, ap (λ n. n / 2) (r.twins.count ∙ length-darts lists)) in
-    let longest = rw (c.first_of-base.ensures, c.deref-3.ensures.value) at c.in_ok-paths.ensures.longest in
-    let numbers = c.in_ok-paths.paths.number.items in
-    let known : AreSides lists c.deref-4.result.now c.deref-5.result.now c.args.twins.now c.deref-6.result.now = rw (c.deref-4.ensures.value, c.deref-5.ensures.value, c.deref-6.ensures.value) (are_sides lists r.few r.simple r.many r.search.connected c.args.t r.first r.dart rank order.0 order.1 of (length arcs) c.in_ok-faces.ensures.numbers arcs lead counted numbers longest c.args.twins.now r.twins) in
+    let longest = rw (c.first_of-base.ensures, c.deref-3.ensures.value) at c.in_ok-find.ensures.longest in
+    let numbers = c.find.new.self.number.items in
+    let known : AreSides lists c.deref-4.result.now c.deref-5.result.now c.args.twins.now c.deref-6.result.now = rw (c.deref-4.ensures.value, c.deref-5.ensures.value, c.deref-6.ensures.value) (are_sides lists r.few r.simple r.many r.search.connected c.args.t r.first r.dart rank order.0 order.1 of (length arcs) c.in_ok-find_faces.ensures.numbers arcs lead counted numbers longest c.args.twins.now r.twins) in
     record { sides = ∣ known ∣₁ }
 
 pub coordinates_of-requires : goal.coordinates_of-requires
 coordinates_of-requires c =
     let lists = c.args.lists.now in
     let r = c.requires in
-    let rank = c.in_ok-ranges.ranges.from.items in
-    let order = c.in_ok-ranges.ensures.order in
-    let of = c.in_ok-faces.faces.of.items in
-    let arcs = c.in_ok-faces.faces.arcs in
-    let lead = rw c.deref-2.ensures.value at c.in_ok-faces.ensures.arcs in
+    let rank = c.fill_places.new.ranges.from.items in
+    let order = c.in_ok-fill_places.ensures.order in
+    let of = c.find_faces.new.tables.of.items in
+    let arcs = c.find_faces.new.tables.arcs in
+    let lead = rw c.deref-2.ensures.value at c.in_ok-find_faces.ensures.arcs in
     let counted : length lists + length arcs ≡ dart_count lists / 2 + 2 = omega (arith, c.if-len-twins.false, c.len.ensures.is, c.len-2.ensures, ap (λ n. n / 2) (r.twins.count ∙ length-darts lists)) in
-    let longest = rw (c.first_of-base.ensures, c.deref-3.ensures.value) at c.in_ok-paths.ensures.longest in
-    let numbers = c.in_ok-paths.paths.number.items in
-    let spanned = rw (c.deref-4.ensures.value, c.deref-5.ensures.value, c.deref-6.ensures.value) at c.in_ok-spans.ensures in
-    record { low = rw c.deref-8.ensures.value (small lists r.few r.simple r.many r.search.connected c.args.t r.first r.dart rank order.0 order.1 of (length arcs) c.in_ok-faces.ensures.numbers arcs lead counted numbers longest c.in_ok-spans.spans.columns.items c.in_ok-spans.x1 c.in_ok-spans.x2 spanned) }
+    let longest = rw (c.first_of-base.ensures, c.deref-3.ensures.value) at c.in_ok-find.ensures.longest in
+    let numbers = c.find.new.self.number.items in
+    let spanned = rw (c.deref-4.ensures.value, c.deref-5.ensures.value, c.deref-6.ensures.value) at c.in_ok-fill.ensures in
+    record { low = rw c.deref-8.ensures.value (small lists r.few r.simple r.many r.search.connected c.args.t r.first r.dart rank order.0 order.1 of (length arcs) c.in_ok-find_faces.ensures.numbers arcs lead counted numbers longest c.fill.new.self.columns.items c.fill.new.self.x1 c.fill.new.self.x2 spanned) }
 
 pub returns : goal.returns
 returns c =
     let lists = c.args.lists.now in
     let r = c.requires in
-    let rank = c.in_ok-ranges.ranges.from.items in
-    let order = c.in_ok-ranges.ensures.order in
-    let of = c.in_ok-faces.faces.of.items in
-    let arcs = c.in_ok-faces.faces.arcs in
-    let lead = rw c.deref-2.ensures.value at c.in_ok-faces.ensures.arcs in
+    let rank = c.fill_places.new.ranges.from.items in
+    let order = c.in_ok-fill_places.ensures.order in
+    let of = c.find_faces.new.tables.of.items in
+    let arcs = c.find_faces.new.tables.arcs in
+    let lead = rw c.deref-2.ensures.value at c.in_ok-find_faces.ensures.arcs in
     let counted : length lists + length arcs ≡ dart_count lists / 2 + 2 = omega (arith, c.if-len-twins.false, c.len.ensures.is, c.len-2.ensures, ap (λ n. n / 2) (r.twins.count ∙ length-darts lists)) in
-    let longest = rw (c.first_of-base.ensures, c.deref-3.ensures.value) at c.in_ok-paths.ensures.longest in
-    let numbers = c.in_ok-paths.paths.number.items in
-    let spanned = rw (c.deref-4.ensures.value, c.deref-5.ensures.value, c.deref-6.ensures.value) at c.in_ok-spans.ensures in
-    let made : BarFigure = record { y = c.in_ok-y.y; x1 = c.in_ok-spans.x1; x2 = c.in_ok-spans.x2; column = c.in_ok-column.column } in (
-      is_biconnected lists r.few r.simple r.many r.search.connected c.args.t r.first r.dart rank order.0 order.1 of (length arcs) c.in_ok-faces.ensures.numbers arcs lead counted numbers longest c.in_ok-spans.spans.columns.items c.in_ok-spans.x1 c.in_ok-spans.x2 spanned r.search.uncut,
-      is_figure lists r.few r.simple r.many r.search.connected c.args.t r.first r.dart rank order.0 order.1 of (length arcs) c.in_ok-faces.ensures.numbers arcs lead counted numbers longest c.in_ok-spans.spans.columns.items c.in_ok-spans.x1 c.in_ok-spans.x2 spanned made
-          (rw c.deref-7.ensures.value at c.in_ok-y.ensures) (rw c.deref-8.ensures.value at c.in_ok-column.ensures) refl refl,
+    let longest = rw (c.first_of-base.ensures, c.deref-3.ensures.value) at c.in_ok-find.ensures.longest in
+    let numbers = c.find.new.self.number.items in
+    let spanned = rw (c.deref-4.ensures.value, c.deref-5.ensures.value, c.deref-6.ensures.value) at c.in_ok-fill.ensures in
+    let made : BarFigure = record { y = c.in_ok-y.y; x1 = c.replace-x1.result; x2 = c.replace-x2.result; column = c.in_ok-column.column } in (
+      is_biconnected lists r.few r.simple r.many r.search.connected c.args.t r.first r.dart rank order.0 order.1 of (length arcs) c.in_ok-find_faces.ensures.numbers arcs lead counted numbers longest c.fill.new.self.columns.items c.fill.new.self.x1 c.fill.new.self.x2 spanned r.search.uncut,
+      is_figure lists r.few r.simple r.many r.search.connected c.args.t r.first r.dart rank order.0 order.1 of (length arcs) c.in_ok-find_faces.ensures.numbers arcs lead counted numbers longest c.fill.new.self.columns.items c.fill.new.self.x1 c.fill.new.self.x2 spanned made
+          (rw c.deref-7.ensures.value at c.in_ok-y.ensures) (rw c.deref-8.ensures.value at c.in_ok-column.ensures) c.replace-x1.ensures.value c.replace-x2.ensures.value,
     )

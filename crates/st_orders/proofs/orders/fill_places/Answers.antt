@@ -2,7 +2,7 @@ use Rattle.graph_search.proofs.ForestLemmas.{IsAdjacency-simple}
 use Rattle.st_orders.proofs.WholeLemmas.{IsWholeSearch-biconnected}
 use Rattle.st_orders.proofs.FinishLemmas.{ArePlaces-placed}
 use Rattle.st_orders.proofs.RankLemmas.{IsStOrder-places}
-use Rattle.st_orders.proofs.orders.places_again.Goals as goal
+use Rattle.st_orders.proofs.orders.fill_places.Goals as goal
 
 pub place_all-requires-clause-whole : goal.place_all-requires-clause-whole
 place_all-requires-clause-whole c =

@@ -3,7 +3,7 @@ use Rattle.std.proofs.lemmas.List.{take_at}
 use Rattle.map_theory.proofs.DartCounts.{few_darts-simple}
 use Rattle.bipolar.specs.Columns.{AreColumns}
 use Rattle.bipolar.specs.FaceNumbers.{left_rows}
-use Rattle.visibility.proofs.spans.spans_again.Goals as goal
+use Rattle.visibility.proofs.spans.SpanTables.fill.Goals as goal
 
 pub edge_starts-requires-clause-edges : goal.edge_starts-requires-clause-edges
 edge_starts-requires-clause-edges c = omega (arith, few_darts-simple c.args.sides.now.lists.now c.facts.ensures.few c.facts.ensures.simple)
@@ -12,9 +12,9 @@ pub returns : goal.returns
 returns c =
     let s = c.args.sides.now in
     let new = c.put_rows.new.columns in
-    let len : length new ≡ c.in_ok-columns.columns.len = c.put_rows.auto.columns ∙ c.deref_mut-2.ensures.len in
+    let len : length new ≡ c.zeros.new.table.len = c.put_rows.auto.columns ∙ c.deref_mut-2.ensures.len in
     record {
-      are_columns = subst (λ (xs : List ℕ). AreColumns s.lists.now (left_rows s.lists.now s.rank.now s.of.now s.numbers.now) xs) (sym (take_at new _ c.in_ok-columns.columns.len len)) c.in_ok-put_rows.ensures.columns;
+      are_columns = subst (λ (xs : List ℕ). AreColumns s.lists.now (left_rows s.lists.now s.rank.now s.of.now s.numbers.now) xs) (sym (take_at new _ c.zeros.new.table.len len)) c.in_ok-put_rows.ensures.columns;
       left = c.in_ok-put_rows.ensures.left;
       right = c.in_ok-put_rows.ensures.right;
     }

@@ -2,7 +2,7 @@ use Rattle.std.proofs.Common.{length, ap, subst, arith}
 use Rattle.map_lists.specs.Lists.{Lists}
 use Rattle.map_lists.proofs.CutLemmas.{IsStored, IsStored-cuts, IsStored-cut, length-cut}
 use Rattle.bipolar.specs.FaceNumbers.{AreFaceNumbers, AreFaceArcs}
-use Rattle.visibility.proofs.bar_figures.drawer.faces_of.Goals as goal
+use Rattle.visibility.proofs.bar_figures.drawer.find_faces.Goals as goal
 
 pub number_faces-requires-clause-darts : goal.number_faces-requires-clause-darts
 number_faces-requires-clause-darts c =
@@ -23,9 +23,9 @@ number_faces-requires-clause-ranks c =
 pub returns-clause-numbers : goal.returns-clause-numbers
 returns-clause-numbers c =
     let stored : IsStored c.args.lists.now c.entries.result.now c.ends.result.now = record { entries_are = c.entries.ensures; ends_are = c.ends.ensures } in
-    subst (λ (ls : Lists). AreFaceNumbers ls c.in_ok-faces.faces.of.items (length c.in_ok-faces.faces.arcs)) (IsStored-cut _ _ _ stored) c.in_ok-faces.ensures.numbers
+    subst (λ (ls : Lists). AreFaceNumbers ls c.in_ok-made.made.of.items (length c.in_ok-made.made.arcs)) (IsStored-cut _ _ _ stored) c.in_ok-made.ensures.numbers
 
 pub returns-clause-arcs : goal.returns-clause-arcs
 returns-clause-arcs c =
     let stored : IsStored c.args.lists.now c.entries.result.now c.ends.result.now = record { entries_are = c.entries.ensures; ends_are = c.ends.ensures } in
-    subst (λ (ls : Lists). AreFaceArcs ls c.args.rank.now c.in_ok-faces.faces.of.items (length c.in_ok-faces.faces.arcs) c.in_ok-faces.faces.arcs) (IsStored-cut _ _ _ stored) c.in_ok-faces.ensures.arcs
+    subst (λ (ls : Lists). AreFaceArcs ls c.args.rank.now c.in_ok-made.made.of.items (length c.in_ok-made.made.arcs) c.in_ok-made.made.arcs) (IsStored-cut _ _ _ stored) c.in_ok-made.ensures.arcs
