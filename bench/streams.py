@@ -6,8 +6,8 @@
 
 Million instructions, counted by valgrind with the start of the program taken off, for inputs of a million bytes or of the
 number of records that is told; for `count`, and for `shift` and `bars` where it says so, the ratio to a C program
-(plain_count.c, lean_shift.c, lean_bars.c); megabytes at most for memory, of 16 MiB. The maps of eight vertices are made by nauty, and left out where
-it is not installed. Not part of the gate.
+(plain_count.c, lean_shift.c, lean_bars.c); megabytes at most for memory, of 16 MiB. The maps and graphs of eight vertices are made by nauty, and left
+out where it is not installed. Not part of the gate.
 """
 import os
 import random
@@ -25,6 +25,7 @@ WHOLE = 15_800_000
 
 
 EIGHT = "all connected plane maps of 8 vertices"
+EIGHT_GRAPHS = "all graphs of 8 vertices"
 
 
 def million(job, data):
@@ -37,6 +38,14 @@ def maps_of_eight():
         return {}
     made = subprocess.run("nauty-geng -c -q 8 | nauty-planarg -p -q", shell=True, stdout=subprocess.PIPE, check=True)
     return {EIGHT: made.stdout}
+
+
+def graphs_of_eight():
+    """All graphs of eight vertices, planar or not."""
+    if not shutil.which("nauty-geng"):
+        return {}
+    made = subprocess.run(["nauty-geng", "-q", "8"], stdout=subprocess.PIPE, check=True)
+    return {EIGHT_GRAPHS: made.stdout}
 
 
 def maps():
@@ -138,6 +147,8 @@ def rows(job):
     elif job == "embed":
         for what, lines, most in graphs():
             yield what, million(job, lines), most
+        for what, lines in graphs_of_eight().items():
+            yield what, million(job, lines), 180
         yield "10,000 lines of one graph of six vertices and twelve edges, not planar", million(job, b"EF~w\n" * 10_000), 280
 
 

@@ -83,7 +83,7 @@ pub(crate) fn test_graph(
 }
 
 // The witness that the search finds where it found no map of a graph, if it is one.
-fn found_witness(
+pub(crate) fn found_witness(
     alloc: Global,
     tables: &mut Tables,
     graph: &Graph,

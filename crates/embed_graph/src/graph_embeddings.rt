@@ -1,4 +1,4 @@
-//! What the search for a map of a graph answers: a map of genus zero with exactly the graph's edges, or a Kuratowski
+//! The answer of the search for a map of a graph: a map of genus zero with exactly the graph's edges, or a Kuratowski
 //! witness that there is none.
 
 mod embedding;

@@ -1,5 +1,5 @@
 //! The calls.
-ghost use Rattle.std.specs.Prelude.{◌≡◌, length, IfOk, MatchOption};
+ghost use Rattle.std.specs.Prelude.{◌≡◌, length, IfOk, IfSome, MatchOption};
 ghost use Rattle.map_lists.specs.Lists.{Lists};
 ghost use Rattle.embed_theorem.specs.Expanded.{IsMapOf};
 
@@ -65,8 +65,7 @@ impl Tables {
         if self.test.refuses(&self.edges, graph) {
             return Ok(None);
         }
-        let spent = self.take_spent(alloc);
-        let lists = self.test.lists(spent, graph.n())?;
+        let lists = self.lists(alloc, graph.n())?;
         Ok(Some(lists))
     }
 
@@ -76,6 +75,31 @@ impl Tables {
             Some(lists) => lists,
             None => Rotations::new(alloc),
         }
+    }
+
+    /// Rotation lists for a graph that the test passes, or none. Neither is checked: lists may be those of no map, and a
+    /// graph without any may have a map, though no such graph is known. It fails only when out of memory.
+    pub fn found_lists(
+        &mut self,
+        alloc: Global,
+        graph: &Graph,
+    ) -> Result<Option<Rotations>, AllocError>
+        ensures { IfOk result (λ found. IfSome found (λ lists. length lists ≡ graph.now.n)) }
+    {
+        self.begin(graph);
+        if self.edges.are_of_k5() || !self.test.passes_all(&self.edges) {
+            return Ok(None);
+        }
+        let lists = self.lists(alloc, graph.n())?;
+        Ok(Some(lists))
+    }
+
+    // The lists of a graph of `n` vertices that the test passed, in kept memory.
+    fn lists(&mut self, alloc: Global, n: u16) -> Result<Rotations, AllocError>
+        ensures { IfOk result (λ lists. length lists ≡ n) }
+    {
+        let spent = self.take_spent(alloc);
+        self.test.lists(spent, n)
     }
 
     /// Keeps the memory of lists that are done with, for those of the next graph.

@@ -59,11 +59,20 @@ impl Kernel {
         if self.degree.get(vertex) == 3 { 1 } else { 0 }
     }
 
-    /// Whether the part without an edge has fewer paths than K3,3, so that it is planar.
-    pub fn leaves_few(&self, edge: u32) -> bool {
+    /// Of how many paths the part without an edge is, if no two of them join the same vertices.
+    pub fn paths_without(&self, edge: u32) -> u32 {
         let one = self.smoothed_at(self.edges.one.get(edge));
         let other = self.smoothed_at(self.edges.other.get(edge));
-        self.edges.count < plus(10, plus(one, other))
+        minus(self.edges.count, plus(1, plus(one, other)))
+    }
+
+    /// Keeps all edges but one.
+    pub fn drop(&mut self, links: &mut Links, out: u32) {
+        for edge in 0..self.edges.count {
+            self.marks.set(edge, IN_PART);
+        }
+        self.marks.set(out, 0);
+        self.keep_marked(links);
     }
 
     /// Makes the marked edges of a graph the part.

@@ -1,7 +1,7 @@
 //! A nonplanar part of a graph that is planar without any path of its own.
 use crate::kernel::Kernel;
 use crate::marks::ConflictMarks;
-use crate::small::are_few_and_planar_without;
+use crate::small::{has_few_vertices, is_planar_without};
 use left_right_test::{LeftRightTest, NONE, minus, plus};
 
 // How many tests there are at most.
@@ -30,9 +30,28 @@ fn fails_without(
     true
 }
 
-// Whether the part without an edge is seen to be planar without a test.
-fn is_planar_without(kernel: &Kernel, out: u32) -> bool {
-    kernel.leaves_few(out) || are_few_and_planar_without(&kernel.edges, out)
+// Leaves an edge out of the part, if the rest is nonplanar. It answers whether it was left out. A rest of fewer than
+// nine paths is planar; one of nine that is nonplanar is K3,3, which needs them all.
+fn is_left_out(
+    kernel: &mut Kernel,
+    test: &mut LeftRightTest,
+    marks: &mut ConflictMarks,
+    out: u32,
+) -> bool {
+    let paths = kernel.paths_without(out);
+    if paths < 9 {
+        return false;
+    }
+    if has_few_vertices(&kernel.edges) {
+        if is_planar_without(&kernel.edges, out) {
+            return false;
+        }
+        if paths == 9 {
+            kernel.drop(&mut test.links, out);
+            return true;
+        }
+    }
+    fails_without(kernel, test, marks, out)
 }
 
 // The first edge that is not known to be needed; or none.
@@ -74,7 +93,7 @@ pub fn shrink(kernel: &mut Kernel, test: &mut LeftRightTest, marks: &mut Conflic
         if out == NONE {
             return;
         }
-        if is_planar_without(kernel, out) || !fails_without(kernel, test, marks, out) {
+        if !is_left_out(kernel, test, marks, out) {
             kernel.needed.set(out, 1);
         }
     }

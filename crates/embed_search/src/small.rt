@@ -88,11 +88,13 @@ fn has_k5(near: &[u32; 8]) -> bool {
     false
 }
 
-/// Whether edges without one of them are those of a planar graph of at most six vertices.
-pub fn are_few_and_planar_without(edges: &Edges, out: u32) -> bool {
-    if edges.vertices > MOST_VERTICES {
-        return false;
-    }
+/// Whether there are at most six vertices.
+pub fn has_few_vertices(edges: &Edges) -> bool {
+    edges.vertices <= MOST_VERTICES
+}
+
+/// Whether edges without one of them are those of a planar graph, of at most six vertices.
+pub fn is_planar_without(edges: &Edges, out: u32) -> bool {
     let near = neighbours_without(edges, out);
     !has_k33(&near) && !has_k5(&near)
 }

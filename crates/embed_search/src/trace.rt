@@ -9,18 +9,6 @@ fn vertex_id(vertex: u32) -> VertexId {
     VertexId((vertex & 0xffff) as u16)
 }
 
-// The vertices of a degree above two. It answers how many there are.
-fn find_branches(links: &Links, branch: &mut ByVertex) -> u32 {
-    let mut count = 0;
-    for vertex in 0..links.vertices {
-        if links.degree.get(vertex) > 2 {
-            branch.set(count, vertex);
-            count = plus(count, 1);
-        }
-    }
-    count
-}
-
 // The dart that goes on from another, whose head has two darts.
 #[inline(always)]
 fn dart_on(links: &Links, dart: u32) -> u32 {
@@ -44,16 +32,88 @@ fn end_of(links: &Links, dart: u32) -> u32 {
     links.head.get(dart)
 }
 
-// The first dart of the path from one branch to another, or NONE.
-fn dart_between(links: &Links, a: u32, b: u32) -> u32 {
-    let mut dart = links.first.get(a);
-    for _ in 0..links.degree.get(a) {
-        if end_of(links, dart) == b {
-            return dart;
+// The vertices at which paths meet.
+#[derive(Drop)]
+struct Branches {
+    // by place
+    vertices: ByVertex,
+    // for each of them its place
+    places: ByVertex,
+    // how many there are
+    count: u32,
+}
+
+impl Branches {
+    fn new(count: u32) -> Branches {
+        Branches {
+            vertices: ByVertex::new(),
+            places: ByVertex::new(),
+            count,
         }
-        dart = links.next.get(dart);
     }
-    NONE
+
+    #[inline(always)]
+    fn put(&mut self, place: u32, vertex: u32) {
+        self.vertices.set(place, vertex);
+        self.places.set(vertex, place);
+    }
+
+    // The vertices of a degree above two, in rising order.
+    fn of(links: &Links) -> Branches {
+        let mut found = Branches::new(0);
+        for vertex in 0..links.vertices {
+            if links.degree.get(vertex) > 2 {
+                let place = found.count;
+                found.put(place, vertex);
+                found.count = plus(place, 1);
+            }
+        }
+        found
+    }
+
+    // By place, from one on and before another: the first dart of the path from a branch to the one at that place, or NONE.
+    fn darts_from(&self, links: &Links, place: u32, from: u32, end: u32) -> [u32; 8] {
+        let mut found = [NONE; 8];
+        let vertex = self.vertices.get(place);
+        let mut dart = links.first.get(vertex);
+        for _ in 0..links.degree.get(vertex) {
+            let reached = end_of(links, dart);
+            let place = self.places.get(reached);
+            let is_there = from <= place && place < end && self.vertices.get(place) == reached;
+            if is_there && found[place as usize % 8] == NONE {
+                found[place as usize % 8] = dart;
+            }
+            dart = links.next.get(dart);
+        }
+        found
+    }
+
+    // Six in two parts: first those that no path joins to the first one.
+    fn in_parts(&self, links: &Links) -> Branches {
+        let darts = self.darts_from(links, 0, 0, 6);
+        let mut parted = Branches::new(6);
+        let mut near = 0u32;
+        let mut far = 3u32;
+        for i in 0..6u32 {
+            let vertex = self.vertices.get(i);
+            if darts[i as usize % 8] == NONE {
+                parted.put(near, vertex);
+                near = plus(near, 1);
+            } else {
+                parted.put(far, vertex);
+                far = plus(far, 1);
+            }
+        }
+        parted
+    }
+
+    fn list(&self, alloc: Global) -> Result<VertexList, AllocError> {
+        let mut list = VertexList::with_capacity(alloc, self.count as usize)?;
+        for place in 0..self.count {
+            list.push(vertex_id(self.vertices.get(place)))?;
+        }
+        Ok(list)
+    }
 }
 
 // The vertices of a path.
@@ -95,38 +155,23 @@ impl Way {
     }
 }
 
-// Appends the path between two branches. It answers whether there is one.
-fn push_path(
-    links: &Links,
-    way: &mut Way,
-    paths: &mut PathList,
-    a: u32,
-    b: u32,
-) -> Result<bool, AllocError> {
-    let dart = dart_between(links, a, b);
-    if dart == NONE {
-        return Ok(false);
-    }
-    way.follow(links, dart);
-    paths.push(way.vertices())?;
-    Ok(true)
-}
-
 // Appends the paths between a branch and those from one place on and before another. It answers whether all
 // are there.
 fn push_paths_from(
     links: &Links,
     way: &mut Way,
     paths: &mut PathList,
-    branch: &ByVertex,
-    i: u32,
+    darts: [u32; 8],
     from: u32,
     end: u32,
 ) -> Result<bool, AllocError> {
     for j in from..end {
-        if !push_path(links, way, paths, branch.get(i), branch.get(j))? {
+        let dart = darts[j as usize % 8];
+        if dart == NONE {
             return Ok(false);
         }
+        way.follow(links, dart);
+        paths.push(way.vertices())?;
     }
     Ok(true)
 }
@@ -135,7 +180,7 @@ fn push_paths_from(
 fn paths_of(
     alloc: Global,
     links: &Links,
-    branch: &ByVertex,
+    branches: &Branches,
     kind: Kind,
 ) -> Result<Option<PathList>, AllocError> {
     let mut way = Way {
@@ -152,50 +197,24 @@ fn paths_of(
             Kind::K5 => i + 1,
             Kind::K33 => 3,
         };
-        if !push_paths_from(links, &mut way, &mut paths, branch, i, from, end)? {
+        let darts = branches.darts_from(links, i, from, end);
+        if !push_paths_from(links, &mut way, &mut paths, darts, from, end)? {
             return Ok(None);
         }
     }
     Ok(Some(paths))
 }
 
-// The branches as a list.
-fn branch_list(alloc: Global, branch: &ByVertex, count: u32) -> Result<VertexList, AllocError> {
-    let mut list = VertexList::new(alloc);
-    for i in 0..count {
-        list.push(vertex_id(branch.get(i)))?;
-    }
-    Ok(list)
-}
-
-// Six branches in two parts: first those that no path joins to the first one.
-fn separated(links: &Links, branch: &ByVertex, sorted: &mut ByVertex) {
-    let first = branch.get(0);
-    let mut near = 0u32;
-    let mut far = 3u32;
-    for i in 0..6u32 {
-        let vertex = branch.get(i);
-        if dart_between(links, first, vertex) == NONE {
-            sorted.set(near, vertex);
-            near = plus(near, 1);
-        } else {
-            sorted.set(far, vertex);
-            far = plus(far, 1);
-        }
-    }
-}
-
 // The witness of these branches, if the paths are there.
 fn witness_of(
     alloc: Global,
     links: &Links,
-    branch: &ByVertex,
+    branches: &Branches,
     kind: Kind,
-    count: u32,
 ) -> Result<Option<Witness>, AllocError> {
-    match paths_of(alloc, links, branch, kind)? {
+    match paths_of(alloc, links, branches, kind)? {
         Some(paths) => {
-            let branch = branch_list(alloc, branch, count)?;
+            let branch = branches.list(alloc)?;
             Ok(Some(Witness {
                 kind,
                 branch,
@@ -208,15 +227,10 @@ fn witness_of(
 
 /// The witness that the linked edges are, or none where they are no subdivision of K5 or K3,3.
 pub fn traced(alloc: Global, links: &Links) -> Result<Option<Witness>, AllocError> {
-    let mut branch = ByVertex::new();
-    let mut sorted = ByVertex::new();
-    let count = find_branches(links, &mut branch);
-    if count == 5 {
-        return witness_of(alloc, links, &branch, Kind::K5, 5);
+    let branches = Branches::of(links);
+    match branches.count {
+        5 => witness_of(alloc, links, &branches, Kind::K5),
+        6 => witness_of(alloc, links, &branches.in_parts(links), Kind::K33),
+        _ => Ok(None),
     }
-    if count == 6 {
-        separated(links, &branch, &mut sorted);
-        return witness_of(alloc, links, &sorted, Kind::K33, 6);
-    }
-    Ok(None)
 }

@@ -51,16 +51,21 @@ fn shared_by(branch: &VertexList, paths: &PathList, p: usize) -> Option<(usize, 
     }
 }
 
-// Returns the first later path and the least vertex that it shares with path number `p`, which is right by itself.
+// Returns the first later path and the least vertex that it shares with path number `p`, which is right by itself. A path
+// of one edge has no inner vertex to share.
 fn shared_with_later(branch: &VertexList, paths: &PathList, p: usize) -> Option<(usize, u16)>
     requires path { p < length paths.now }
     requires long { (p : ℕ) → p < length paths.now → 2 ≤ length (path_at paths.now p) }
     requires right { (v : ℕ) → ¬ IsShared branch.now paths.now p p v }
     ensures { MatchOption result ((q v : ℕ) → ¬ IsShared branch.now paths.now p q v) (λ r. IsLeastPair (IsShared branch.now paths.now p) r.0 r.1) }
 {
+    let path = paths.list(p);
+    if path.len() == 2 {
+        return None;
+    }
     let count = paths.len();
     for q in p + 1..count {
-        match common_inner(paths.list(p), paths.list(q)) {
+        match common_inner(path, paths.list(q)) {
             Some(vertex) => return Some((q, vertex)),
             None => {}
         }

@@ -368,73 +368,49 @@ fn leads_to(links: &Links, interval: Interval, vertex: u32) -> bool {
     !interval.is_empty() && links.head.get(interval.high) == vertex
 }
 
-// Looks at an oriented dart of a vertex. It answers the vertex to go on at, or none after a conflict.
+// Leaves a vertex by the dart from another that leads to it. It answers whether the return edges agree.
 #[inline(always)]
-fn look(links: &Links, search: &mut Search, vertex: u32, dart: u32) -> Option<u32> {
-    let head = links.head.get(dart);
-    if search.parent.get(head) == dart {
-        search.stack_bottom.set(dart, search.top);
-        return Some(head);
-    }
-    if search.take_edge(dart, vertex) {
-        Some(vertex)
-    } else {
-        None
-    }
-}
-
-// Leaves a vertex by the dart that leads to it. It answers the vertex to go on at, or none after a conflict.
-#[inline(always)]
-fn go_back(links: &Links, search: &mut Search, parent: u32) -> Option<u32> {
-    let vertex = links.tail(parent);
+fn go_back(links: &Links, search: &mut Search, parent: u32, vertex: u32) -> bool {
     search.drop_return_edges(links, vertex);
     search.follow_highest(parent, vertex);
-    if search.integrate(parent, vertex) {
-        Some(vertex)
-    } else {
-        None
-    }
-}
-
-// One step from a vertex, whose cursor is at a dart.
-#[inline(always)]
-fn step(links: &Links, search: &mut Search, vertex: u32, dart: u32) -> Option<u32> {
-    if dart == NONE {
-        let parent = search.parent.get(vertex);
-        go_back(links, search, parent)
-    } else {
-        search.cursor.set(vertex, search.chain.get(dart));
-        look(links, search, vertex, dart)
-    }
+    search.integrate(parent, vertex)
 }
 
 // Goes on from a root until all that it reaches is done, or a conflict shows.
 fn agrees_from(links: &Links, search: &mut Search, root: u32) -> bool {
     search.top = 0;
     let mut vertex = root;
+    let mut dart = search.leaving.get(root);
     for _ in 0..steps(links.vertices, links.darts) {
-        let dart = search.cursor.get(vertex);
-        if dart == NONE && search.parent.get(vertex) == NONE {
-            return true;
+        if dart == NONE {
+            let parent = search.parent.get(vertex);
+            if parent == NONE {
+                return true;
+            }
+            vertex = links.tail(parent);
+            if !go_back(links, search, parent, vertex) {
+                return false;
+            }
+            dart = search.chain.get(parent);
+            continue;
         }
-        match step(links, search, vertex, dart) {
-            Some(next) => vertex = next,
-            None => return false,
+        let head = links.head.get(dart);
+        if search.parent.get(head) == dart {
+            search.stack_bottom.set(dart, search.top);
+            vertex = head;
+            dart = search.leaving.get(head);
+        } else {
+            if !search.take_edge(dart, vertex) {
+                return false;
+            }
+            dart = search.chain.get(dart);
         }
     }
     false
 }
 
-// Sets each cursor to the first dart that leaves its vertex.
-fn reset_cursors(links: &Links, search: &mut Search) {
-    for vertex in 0..links.vertices {
-        search.cursor.set(vertex, search.leaving.get(vertex));
-    }
-}
-
 /// Whether the oriented edges can be put on two sides without a conflict.
 pub fn agrees(links: &Links, search: &mut Search) -> bool {
-    reset_cursors(links, search);
     search.ties.count = 0;
     for root in 0..links.vertices {
         let is_root = links.first.get(root) != NONE && search.parent.get(root) == NONE;

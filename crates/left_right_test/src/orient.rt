@@ -20,7 +20,7 @@ fn tell_parent(search: &mut Search, vertex: u32, low: u32, lowpt2: u32) {
     }
 }
 
-// Ends an oriented dart of a vertex: all that returns along it is known.
+// Ends a dart of a vertex along which the search went: all that returns along it is known.
 #[inline(always)]
 fn end_dart(search: &mut Search, vertex: u32, dart: u32) {
     let low = search.lowpt.get(dart);
@@ -37,34 +37,50 @@ fn end_dart(search: &mut Search, vertex: u32, dart: u32) {
     tell_parent(search, vertex, low, lowpt2);
 }
 
-// Looks at a dart of a vertex. It answers the vertex to go on at.
+// Goes along a dart to a vertex that was not reached.
 #[inline(always)]
-fn look(links: &Links, search: &mut Search, vertex: u32, dart: u32) -> u32 {
-    let head = links.head.get(dart);
+fn go_down(search: &mut Search, vertex: u32, dart: u32, head: u32) {
     let height = search.height.get(vertex);
-    let reached = search.height.get(head);
-    if reached == NONE {
-        search.lowpt.set(dart, height);
-        search.lowpt2.set(dart, height);
-        search.parent.set(head, dart);
-        search.height.set(head, plus(height, 1));
-        search.cursor.set(head, links.first.get(head));
-        return head;
+    search.lowpt.set(dart, height);
+    search.lowpt2.set(dart, height);
+    search.parent.set(head, dart);
+    search.height.set(head, plus(height, 1));
+}
+
+// Tells the dart to a vertex of a return edge of that vertex, which ends at this height.
+#[inline(always)]
+fn tell_return(search: &mut Search, parent: u32, low: u32) {
+    let old = search.lowpt.get(parent);
+    if low < old {
+        search.lowpt.set(parent, low);
+        search.lowpt2.set(parent, old);
+    } else if low > old {
+        search
+            .lowpt2
+            .set(parent, lesser(search.lowpt2.get(parent), low));
     }
-    if reached < height && search.parent.get(vertex) != dart ^ 1 {
-        search.lowpt.set(dart, reached);
-        search.lowpt2.set(dart, height);
-        end_dart(search, vertex, dart);
+}
+
+// Looks at a dart of a vertex, to one that was reached: it may be a return edge.
+#[inline(always)]
+fn look_back(search: &mut Search, vertex: u32, dart: u32, head: u32) {
+    let low = search.height.get(head);
+    let parent = search.parent.get(vertex);
+    if low < search.height.get(vertex) && parent != dart ^ 1 {
+        search.lowpt.set(dart, low);
+        search.reference.set(dart, NONE);
+        search.side.set(dart, 0);
+        search.put_in_bucket(dart, twice(low));
+        tell_return(search, parent, low);
     }
-    vertex
 }
 
 // Goes on from a root until all that it reaches is done.
 fn orient_from(links: &Links, search: &mut Search, root: u32) {
-    search.set_root(root, links.first.get(root));
+    search.set_root(root);
     let mut vertex = root;
+    let mut dart = links.first.get(root);
     for _ in 0..steps(links.vertices, links.darts) {
-        let dart = search.cursor.get(vertex);
         if dart == NONE {
             let parent = search.parent.get(vertex);
             if parent == NONE {
@@ -72,9 +88,17 @@ fn orient_from(links: &Links, search: &mut Search, root: u32) {
             }
             vertex = links.tail(parent);
             end_dart(search, vertex, parent);
+            dart = links.next.get(parent);
+            continue;
+        }
+        let head = links.head.get(dart);
+        if search.is_reached(head) {
+            look_back(search, vertex, dart, head);
+            dart = links.next.get(dart);
         } else {
-            search.cursor.set(vertex, links.next.get(dart));
-            vertex = look(links, search, vertex, dart);
+            go_down(search, vertex, dart, head);
+            vertex = head;
+            dart = links.first.get(head);
         }
     }
 }

@@ -42,14 +42,9 @@ impl Places {
         }
     }
 
-    // Places the twin of a dart that leads to `head`, where the search goes along it or returns by it. It
-    // answers the vertex to go on at.
+    // Places the twin of a return edge, which leads to `head`.
     #[inline(always)]
-    fn place_twin(&mut self, search: &Search, head: u32, vertex: u32, dart: u32) -> u32 {
-        if search.parent.get(head) == dart {
-            self.gone.set(vertex, head);
-            return head;
-        }
+    fn place_twin(&mut self, search: &Search, head: u32, dart: u32) {
         let beside = self.gone.get(head);
         if search.side.get(dart) == 0 {
             self.next.set(dart, self.right.get(beside));
@@ -58,29 +53,36 @@ impl Places {
             self.next.set(dart, self.left.get(beside));
             self.left.set(beside, dart);
         }
-        vertex
     }
 
     // Goes on from a root until all that it reaches is done.
-    fn place_from(&mut self, links: &Links, search: &mut Search, root: u32) {
+    fn place_from(&mut self, links: &Links, search: &Search, root: u32) {
         let mut vertex = root;
+        let mut dart = search.leaving.get(root);
         for _ in 0..steps(links.vertices, links.darts) {
-            let dart = search.cursor.get(vertex);
             if dart == NONE {
                 let parent = search.parent.get(vertex);
                 if parent == NONE {
                     return;
                 }
                 vertex = links.tail(parent);
+                dart = search.chain.get(parent);
+                continue;
+            }
+            let head = links.head.get(dart);
+            if search.parent.get(head) == dart {
+                self.gone.set(vertex, head);
+                vertex = head;
+                dart = search.leaving.get(head);
             } else {
-                search.cursor.set(vertex, search.chain.get(dart));
-                vertex = self.place_twin(search, links.head.get(dart), vertex, dart);
+                self.place_twin(search, head, dart);
+                dart = search.chain.get(dart);
             }
         }
     }
 
     /// Places all twins.
-    pub fn place_all(&mut self, links: &Links, search: &mut Search) {
+    pub fn place_all(&mut self, links: &Links, search: &Search) {
         self.left.fill(links.vertices, NONE);
         self.right.fill(links.vertices, NONE);
         for root in 0..links.vertices {

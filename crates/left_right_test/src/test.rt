@@ -91,7 +91,7 @@ impl LeftRightTest {
         ensures { IfOk result (λ lists. length lists ≡ n) }
     {
         settle_all(&self.links, &mut self.search);
-        self.places.place_all(&self.links, &mut self.search);
+        self.places.place_all(&self.links, &self.search);
         self.places.list_all(&self.links, &self.search);
         self.places.lists(spent, n)
     }

@@ -4,13 +4,12 @@ ghost use Rattle.map_lists.specs.Lists.{Lists};
 ghost use Rattle.embed_theorem.specs.Expanded.{IsMapOf};
 ghost use Rattle.embed_graph.specs.Figures.{IsEmbedFigure};
 
-use crate::answer::refuted;
+use crate::answer::{Tested, found_witness, refuted, test_graph};
 use crate::marks::has_edges;
 use embed_search::Tables;
 use graph6_text::Graph;
 use grid_figures::Drawer;
 use kuratowski::Witness;
-use left_right_lists::map_of_graph;
 use map_lists::Rotations;
 use pg_plane::GridFigure;
 use refusals::Unserved;
@@ -81,8 +80,8 @@ fn refuted_figure(
     Ok(EmbedFigure::NotPlanar(witness))
 }
 
-// The figure of a graph by the sides of its edges.
-fn figure_by_sides(
+// The figure of a graph by the left-right test, whose no is right.
+fn figure_by_test(
     alloc: Global,
     tables: &mut Tables,
     drawer: &mut Drawer,
@@ -91,9 +90,9 @@ fn figure_by_sides(
     requires { 3 ≤ graph.now.n }
     ensures { IfOk result (IsEmbedFigure graph.now) }
 {
-    match map_of_graph(alloc, graph)? {
-        Some(map) => drawn_map(drawer, graph, map),
-        None => refuted_figure(alloc, tables, graph),
+    match test_graph(alloc, tables, graph)? {
+        Tested::Map(map) => drawn_map(drawer, graph, map),
+        Tested::NoMap => refuted_figure(alloc, tables, graph),
     }
 }
 
@@ -112,6 +111,25 @@ pub fn embed_figure_in(
     embed_figure_by(alloc, tables, &mut drawer, graph)
 }
 
+// A figure of a graph by what a search finds, if it is right: lists that the drawer takes, or a witness.
+fn found_figure(
+    alloc: Global,
+    tables: &mut Tables,
+    drawer: &mut Drawer,
+    graph: &Graph,
+) -> Result<Option<EmbedFigure>, AllocError>
+    requires { 3 ≤ graph.now.n }
+    ensures { IfOk result (λ found. IfSome found (IsEmbedFigure graph.now)) }
+{
+    match tables.found_lists(alloc, graph)? {
+        Some(lists) => drawn_lists(alloc, drawer, graph, lists),
+        None => match found_witness(alloc, tables, graph)? {
+            Some(witness) => Ok(Some(EmbedFigure::NotPlanar(witness))),
+            None => Ok(None),
+        },
+    }
+}
+
 /// Like [`embed_figure_in`], but by a drawer that may have drawn other maps before.
 pub fn embed_figure_by(
     alloc: Global,
@@ -122,12 +140,9 @@ pub fn embed_figure_by(
     requires { 3 ≤ graph.now.n }
     ensures { IfOk result (IsEmbedFigure graph.now) }
 {
-    match tables.planar_lists(alloc, graph)? {
-        Some(lists) => match drawn_lists(alloc, drawer, graph, lists)? {
-            Some(figure) => Ok(figure),
-            // no graph is known for which this comes
-            None => figure_by_sides(alloc, tables, drawer, graph),
-        },
-        None => refuted_figure(alloc, tables, graph),
+    match found_figure(alloc, tables, drawer, graph)? {
+        Some(figure) => Ok(figure),
+        // no graph is known for which this comes
+        None => figure_by_test(alloc, tables, drawer, graph),
     }
 }

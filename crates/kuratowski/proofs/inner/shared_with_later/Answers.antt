@@ -20,13 +20,13 @@ loop-q-init c = λ k v l s. elim (cases_lt k c.args.p) [
 pub returns-in-Some : goal.returns-in-Some
 returns-in-Some c =
     other_some c.args.branch.now c.args.paths.now c.args.p c.requires.path c.loop-q.q c.in-Some.vertex (omega arith) (omega arith) c.loop-q.invariant
-    (by_number c.args.paths.now c.args.p c.loop-q.q c.list.result.now c.list-in-loop-q.result.now (Some c.in-Some.vertex) c.list.ensures c.list-in-loop-q.ensures c.in-Some.ensures)
+    (by_number c.args.paths.now c.args.p c.loop-q.q c.list-path.result.now c.list.result.now (Some c.in-Some.vertex) c.list-path.ensures c.list.ensures c.in-Some.ensures)
 
 pub loop-q-preserved : goal.loop-q-preserved
 loop-q-preserved c = λ k v l s. elim (cases_eq k c.loop-q.q) [
   | inl e ↦
       other_none c.args.branch.now c.args.paths.now c.args.p c.requires.path c.loop-q.q (omega arith)
-      (by_number c.args.paths.now c.args.p c.loop-q.q c.list.result.now c.list-in-loop-q.result.now None c.list.ensures c.list-in-loop-q.ensures c.in-None.ensures) v
+      (by_number c.args.paths.now c.args.p c.loop-q.q c.list-path.result.now c.list.result.now None c.list-path.ensures c.list.ensures c.in-None.ensures) v
       (subst (λ x. IsShared c.args.branch.now c.args.paths.now c.args.p x v) e s)
   | inr n ↦ c.loop-q.invariant k v (omega arith) s
 ]
