@@ -142,8 +142,9 @@ def rows(job):
         for height, width in ((63, 63), (17, 229)):
             yield f"a grid of {height} by {width} with diagonals", million(job, count.record(pigale.quadrangle(height, width))), 8.5
     elif job == "verify":
-        drawn = slopes.answer("shift", count.record(families.shuffled(families.stacked(4095))))
-        yield "a good triangulation of 4,095 vertices", million(job, drawn), 4.8
+        record = count.record(families.shuffled(families.stacked(4095)))
+        for what, drawer, most in (("a good triangulation", "shift", 4.8), ("the bars of a triangulation", "bars", 12)):
+            yield f"{what} of 4,095 vertices", million(job, slopes.answer(drawer, record)), most
     elif job == "embed":
         for what, lines, most in graphs():
             yield what, million(job, lines), most

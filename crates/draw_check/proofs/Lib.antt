@@ -7,6 +7,7 @@ pub mod OuterFewer
 pub mod FaceSumLemmas
 pub mod FaceIds
 pub mod FaceLemmas
+mod CornerLemmas
 pub mod MetLemmas
 pub mod LooseLemmas
 mod SpanLemmas

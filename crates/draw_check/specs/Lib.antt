@@ -8,5 +8,6 @@ pub mod Stars
 pub mod OnEdges
 pub mod FaceVerdicts
 pub mod Outer
+pub mod Corners
 pub mod FaceLaws
 pub mod FaceSums

@@ -1,11 +1,9 @@
 //! The check of a drawing of a triangulation by its faces.
-ghost use Rattle.std.specs.Prelude.{◌≡◌, ◌⊎◌, ◌+◌, ◌<◌, ◌↔◌, ℕ, length, IsTrue, Some, MatchBool, MatchOption, pos, ◌<ℤ◌};
+ghost use Rattle.std.specs.Prelude.{◌≡◌, ◌⊎◌, ◌<◌, ◌↔◌, ℕ, length, IsTrue, MatchOption};
 ghost use Rattle.map_theory.specs.Maps.{HasDart, follows};
 ghost use Rattle.map_theory.specs.Paths.{SameFace};
 ghost use Rattle.half_edges.specs.Map.{IsLive, first_dart};
 ghost use Rattle.plane_laws.specs.Triangulations.{IsTriangulation};
-ghost use Rattle.pg_plane.specs.Geometry.{area};
-ghost use Rattle.plane_drawings.specs.Drawing.{place};
 ghost use Rattle.vertex_rounds.specs.Least.{IsLeastTriple};
 ghost use Rattle.draw_check.specs.Faults.{HasPlaces};
 ghost use Rattle.vertex_rounds.specs.Rounds.{HoldsAt};
@@ -13,10 +11,10 @@ ghost use Rattle.draw_check.specs.FaceVerdicts.{IsDrawnWrong, IsWrongFrom, IsFac
 ghost use Rattle.vertex_rounds.specs.Rounds.{dart_of};
 
 use crate::FaceVerdict;
-use crate::drawing::Drawing;
-use crate::places::{corner_of, place_at};
+use crate::drawing::{Drawing, Placed};
+use crate::places::corner_of;
 use half_edges::{DartId, HalfMap, VertexId};
-use pg_plane::{GridFigure, Point, Points, area2};
+use pg_plane::{GridFigure, Point, Points};
 use vertex_rounds::first_dart;
 
 // Says whether an id is one of three.
@@ -37,13 +35,6 @@ fn is_on_base(map: &HalfMap, base: DartId, d: DartId) -> bool
     let second = map.face_step(base);
     let third = map.face_step(second);
     is_one_of(d, base, second, third)
-}
-
-// Says whether a number is negative, or positive where that is asked.
-fn has_sign(number: i64, is_negative: bool) -> bool
-    ensures { IsTrue result ↔ MatchBool is_negative (number <ℤ pos 0) (pos 0 <ℤ number) }
-{
-    if is_negative { number < 0 } else { 0 < number }
 }
 
 // Says whether the first of three vertices is the least.
@@ -105,23 +96,6 @@ pub fn check_by_faces(tri: &HalfMap, base: DartId, fig: &GridFigure) -> FaceVerd
 }
 
 impl Drawing<'_> {
-    // Says whether the way from `a` over `b` to `c` turns to the left, or to the right where the face is the outer
-    // one.
-    fn turns_well(&self, is_outer: bool, a: VertexId, b: VertexId, c: VertexId) -> bool
-        requires a { a.0 < length self.now.points.now }
-        requires b { b.0 < length self.now.points.now }
-        requires c { c.0 < length self.now.points.now }
-        ensures { IsTrue result ↔ MatchBool is_outer (area (place self.now.points.now a.0) (place self.now.points.now b.0) (place self.now.points.now c.0) <ℤ pos 0)
-            (pos 0 <ℤ area (place self.now.points.now a.0) (place self.now.points.now b.0) (place self.now.points.now c.0)) }
-    {
-        let double = area2(
-            place_at(self.points, a),
-            place_at(self.points, b),
-            place_at(self.points, c),
-        );
-        has_sign(double, is_outer)
-    }
-
     // Says whether the face of a dart is drawn wrong and the tail is its least vertex.
     fn is_wrong(&self, base: DartId, d: DartId) -> bool
         requires triangulation { IsTriangulation self.now.map.now.lists }
@@ -130,10 +104,13 @@ impl Drawing<'_> {
         ensures { IsTrue result ↔ HoldsAt self.now.map.now (IsWrongFrom self.now.map.now self.now.points.now base.0) d.0 }
     {
         self.map.facts();
+        let placed = Placed {
+            points: self.points,
+        };
         let a = self.map.tail(d);
         let b = self.map.head(d);
         let c = self.map.head(self.map.face_step(d));
-        is_least(a, b, c) && !self.turns_well(is_on_base(self.map, base, d), a, b, c)
+        is_least(a, b, c) && !placed.turns_well(is_on_base(self.map, base, d), a, b, c)
     }
 
     // Returns the least face that is drawn wrong, written from its least vertex.

@@ -7,6 +7,7 @@ ghost use Rattle.draw_check.specs.FaceLaws.{FacesYesForFewer, FacesYesIsYes};
 ghost use Rattle.draw_check.specs.Laws.{ValidWithFewer, YesIsValid};
 
 mod blocks;
+mod corners;
 mod crossings;
 mod drawing;
 mod edges;
@@ -23,6 +24,7 @@ mod sums;
 mod turns;
 mod verdict;
 
+pub use corners::is_drawn_well;
 pub use faces::{check_by_faces, check_points_by_faces};
 pub use outer::{check_outer, check_outer_connected};
 pub use pairs::{check, check_points};

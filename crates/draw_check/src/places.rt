@@ -29,7 +29,7 @@ pub(crate) fn corner_of(fig: &GridFigure) -> Point
 }
 
 // Says whether a point lies in the grid.
-fn is_in_grid(p: Point, corner: Point) -> bool
+pub(crate) fn is_in_grid(p: Point, corner: Point) -> bool
     ensures { IsTrue result ↔ IsInGrid corner.x corner.y p }
 {
     0 <= p.x && p.x <= corner.x && 0 <= p.y && p.y <= corner.y

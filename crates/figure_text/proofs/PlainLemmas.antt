@@ -1,15 +1,17 @@
 -- Words that are taken one by one.
-use Rattle.std.proofs.Common.{nat_lt, ◌≡◌, ℕ, List, [], ◌∷◌, ◌++◌, length, map, sym, ap, ◌∙◌, subst, arith, append_assoc}
+use Rattle.std.proofs.Common.{nat_lt, ◌≡◌, ℕ, ◌+◌, ◌-◌, List, [], ◌∷◌, ◌++◌, length, map, refl, sym, ap, ◌∙◌, subst, arith, append_assoc}
 use Rattle.std.proofs.lemmas.List.{map-append}
 use Rattle.std.proofs.lemmas.List.Elements.{All-push, All-weaker}
 use Rattle.std.specs.Prelude.{All, IsTrue, false}
 use Rattle.std.proofs.lemmas.Bool.Decides.{nat_tests}
+use Rattle.map_lists.specs.Lists.{Lists}
+use Rattle.figure_text.specs.declared.words.Digits.{Digits}
 use Rattle.figure_text.specs.declared.words.Word.{Word}
-use Rattle.figure_text.specs.declared.words.Word.TheVariants.{Named}
+use Rattle.figure_text.specs.declared.words.Word.TheVariants.{Number, Named}
 use Rattle.figure_text.specs.declared.words.Name.TheVariants.{Columns}
 use Rattle.figure_text.specs.Words.{words_left, words_of}
-use Rattle.figure_text.specs.Lines.{is_number, IsInside, IsColumnsLine, ColumnsInRange}
-use Rattle.figure_text.specs.Plain.{IsCoordinateWord}
+use Rattle.figure_text.specs.Lines.{is_number, vertex_of, IsInside, IsColumnsLine, ColumnsInRange}
+use Rattle.figure_text.specs.Plain.{IsVertexAt, IsNeighbour, IsCoordinateWord}
 
 -- words of all that were there, what was made of them, and those that are left
 pub record Taken {A : Type 0} (P : Word → Type 0) (value : Word → A) (all left : List Word) (made : List A) : Type 0 where
@@ -37,3 +39,20 @@ columns-line words left word is named all =
 
 pub columns-range : (words left : List Word) (word : Word) → words ≡ word ∷ left → All (λ w. IsCoordinateWord w) left → ColumnsInRange words
 columns-range words left word is all = subst ColumnsInRange (sym is) (All-weaker (λ w. IsCoordinateWord w) (λ w. IsInside w) (λ w h. h.1) left all)
+
+-- the list that was opened holds the vertices before a place
+pub record IsListed (old lists : Lists) (line : List ℕ) (start at : ℕ) : Type 0 where
+  pub last : List ℕ
+  pub taken : Taken (λ w. IsNeighbour w) vertex_of (words_left line start) (words_left line at) last
+  pub is : lists ≡ old ++ last ∷ []
+
+-- a vertex more is put into it
+pub listed-more : (old lists new : Lists) (line : List ℕ) (start at : ℕ) (digits : Digits) (u : ℕ) → IsListed old lists line start at → IsVertexAt line at digits → u ≡ digits.value - 1 → ((before : Lists) (last : List ℕ) → lists ≡ before ++ last ∷ [] → new ≡ before ++ (last ++ u ∷ []) ∷ []) → IsListed old new line start (digits.end + 1)
+listed-more old lists new line start at digits u so_far here is grown =
+    let word : Word = Number (record { negative = false; size = digits.value }) in
+    let number : u ≡ vertex_of word = omega (arith, is, here.most) in
+    record {
+      last = so_far.last ++ vertex_of word ∷ [];
+      taken = taken-more (λ w. IsNeighbour w) vertex_of (words_left line start) (words_left line at) (words_left line (digits.end + 1)) so_far.last word so_far.taken here.plain.words (refl, (here.least, here.most));
+      is = grown old so_far.last so_far.is ∙ ap (λ (n : ℕ). old ++ (so_far.last ++ n ∷ []) ∷ []) number;
+    }

@@ -5,7 +5,7 @@ ghost use Rattle.figure_text.specs.Words.{words_left};
 ghost use Rattle.figure_text.specs.Lines.{vertex_of, integer_of};
 ghost use Rattle.figure_text.specs.Plain.{IsVertexAt, IsNeighbour, IsCoordinateAt, IsCoordinateWord};
 
-use crate::words::{Digits, plain_at};
+use crate::words::{Digits, plain_at, short_at};
 use map_lists::ItemLists;
 use pg_plane::Ints;
 use std::alloc::AllocError;
@@ -20,6 +20,27 @@ fn vertex_at(line: &[u8], at: usize) -> Option<Digits>
         return None;
     }
     match plain_at(line, at) {
+        Some(digits) => {
+            if 1 <= digits.value && digits.value <= 65535 {
+                Some(digits)
+            } else {
+                None
+            }
+        }
+        None => None,
+    }
+}
+
+// Returns the number of a vertex that begins at `at`, like `vertex_at`, where a space follows at most four digits. This takes
+// fewer instructions.
+#[inline(always)]
+fn short_vertex_at(line: &[u8], at: usize) -> Option<Digits>
+    ensures { IfSome result (IsVertexAt line.now at) }
+{
+    if line.len() < 5 || line.len() - 5 < at || line[at] == b'0' {
+        return None;
+    }
+    match short_at(line, at) {
         Some(digits) => {
             if 1 <= digits.value && digits.value <= 65535 {
                 Some(digits)
@@ -50,6 +71,10 @@ pub fn push_plain(line: &[u8], start: usize, lists: &mut ItemLists<u16>) -> Resu
     let before = lists.len();
     lists.open()?;
     let mut at = start;
+    while let Some(short) = short_vertex_at(line, at) {
+        lists.append(vertex(short.value))?;
+        at = short.end + 1;
+    }
     while let Some(digits) = vertex_at(line, at) {
         lists.append(vertex(digits.value))?;
         at = digits.end + 1;

@@ -252,6 +252,7 @@ fn digit_of(byte: u8) -> u32
 fn first_digits(line: &[u8], at: usize, count: usize) -> Digits
     requires few { count ≤ 6 }
     requires within { at + count ≤ length line.now }
+    ensures few { result.end ≤ at + count }
     ensures order { at ≤ result.end }
     ensures within { result.end ≤ length line.now }
     ensures before { (k : ℕ) → at ≤ k → k < result.end → slice_index line.now k ≢ 32 }
@@ -361,6 +362,21 @@ pub fn plain_at(line: &[u8], at: usize) -> Option<Digits>
     let digits = digits_from(line, at);
     if is_canonical(&line[at..digits.end]) {
         if ends_at(line, digits.end) {
+            return Some(digits);
+        }
+    }
+    None
+}
+
+/// Returns the number that begins at `at`, where it has no minus, and a space follows at most four digits.
+#[inline(always)]
+pub fn short_at(line: &[u8], at: usize) -> Option<Digits>
+    requires { at + 5 ≤ length line.now }
+    ensures { IfSome result (IsPlainAt line.now at) }
+{
+    let digits = first_digits(line, at, 4);
+    if is_canonical(&line[at..digits.end]) {
+        if line[digits.end] == b' ' {
             return Some(digits);
         }
     }

@@ -1,65 +1,62 @@
 //! The verdict on a drawing of a simple map.
-ghost use Rattle.std.specs.Prelude.{◌≡◌, ◌+◌, ◌*◌, ◌≤◌, IfOk, ℤ};
+ghost use Rattle.std.specs.Prelude.{◌≡◌, ◌<◌, length, None, IfOk, ℤ};
 ghost use Rattle.std.specs.Bool.{OnTrue};
-ghost use Rattle.map_theory.specs.Maps.{IsPlane, vertex_count, edge_count, component_count};
+ghost use Rattle.map_lists.specs.Lists.{Lists};
+ghost use Rattle.map_theory.specs.Maps.{IsSimpleMap, component_count};
+ghost use Rattle.simple_maps.specs.Faults.{first_fault};
 ghost use Rattle.plane_laws.specs.Triangulations.{IsTriangulation};
 ghost use Rattle.conn_parts.specs.Counted.{IsCountOf};
-ghost use Rattle.half_edges.specs.Map.{first_dart};
+ghost use Rattle.line_inputs.specs.Given.{IsGivenGrid};
 ghost use Rattle.draw_check.specs.Faults.{HasPlaces};
 ghost use Rattle.draw_check.specs.Verdicts.{IsVerdict};
-ghost use Rattle.draw_check.specs.Outer.{HasOuterFace};
 ghost use Rattle.figure_verdicts.specs.Verdicts.{IsDrawnVerdict};
+ghost use Rattle.figure_verdicts.specs.declared.verdict.FigureVerdict.TheVariants.{Yes as FigureYes};
 ghost use Rattle.draw_check.specs.declared.verdict.Verdict.TheVariants.{Yes as NoFault};
 
 use crate::FigureVerdict;
-use draw_check::{
-    FaceVerdict, OuterVerdict, Verdict, check_outer_connected, check_points, check_points_by_faces,
-    faces_yes_for_fewer,
-};
-use euler_faces::EulerCount;
+use draw_check::{OuterVerdict, Verdict, check_outer_connected, check_points, is_drawn_well};
+use euler_faces::{EulerCount, count_lists};
 use half_edges::{HalfMap, VertexId};
+use map_lists::Rotations;
 use pg_plane::{Point, Points};
+use simple_maps::no_fault_is_simple;
 use std::alloc::{AllocError, Global};
 
-// Whether a map with these counts has genus zero, at least three vertices and as many edges as such a map can have.
-fn is_triangulation(map: &HalfMap, count: EulerCount) -> bool
-    requires { IsCountOf map.now.lists count }
-    ensures { OnTrue result (IsTriangulation map.now.lists) }
+// Whether a simple map with these counts has genus zero, at least three vertices and as many edges as such a map can have.
+fn is_triangulation(count: EulerCount) -> bool
+    ensures { (lists : Lists) → IsSimpleMap lists → IsCountOf lists count → OnTrue result (IsTriangulation lists) }
 {
-    map.facts();
     3 <= count.n && count.m + 6 == 3 * count.n && count.n + count.f == 2 * count.c + count.m
 }
 
-// Whether all faces of a drawing of a triangulation are drawn well, as seen from the first vertex's first dart.
-fn is_drawn_well(map: &HalfMap, points: &Points, corner: Point) -> bool
-    requires triangulation { IsTriangulation map.now.lists }
-    requires places { HasPlaces map.now.lists points.now }
-    ensures { OnTrue result (IsVerdict map.now.lists points.now corner.x corner.y NoFault
-        × HasOuterFace map.now.lists points.now (first_dart map.now.lists 0)) }
+// Whether lists are a triangulation. When memory ran out it is not known, and the answer is no.
+fn are_triangulation(alloc: Global, lists: &Rotations) -> bool
+    requires some_list { 0 < length lists.now }
+    requires few_lists { length lists.now < 4096 }
+    ensures { OnTrue result ((first_fault lists.now ≡ None) × IsTriangulation lists.now) }
 {
-    map.facts();
-    faces_yes_for_fewer();
-    match map.first_dart(VertexId(0)) {
-        Some(base) => match check_points_by_faces(map, base, points, corner) {
-            FaceVerdict::Yes => true,
-            _ => false,
-        },
-        None => false,
+    no_fault_is_simple();
+    match count_lists(alloc, lists) {
+        Ok(count) => is_triangulation(count),
+        Err(_) => false,
     }
 }
 
-// Whether a drawing is seen to be valid by the faces of its map alone.
-fn is_valid_by_faces(map: &HalfMap, count: EulerCount, points: &Points, corner: Point) -> bool
-    requires counted { IsCountOf map.now.lists count }
-    requires places { HasPlaces map.now.lists points.now }
-    ensures { OnTrue result (IsVerdict map.now.lists points.now corner.x corner.y NoFault
-        × HasOuterFace map.now.lists points.now (first_dart map.now.lists 0)) }
+/// Says whether lists are seen to be a triangulation with a valid drawing, before a map is made of them.
+pub fn is_drawn_triangulation(
+    alloc: Global,
+    lists: &Rotations,
+    points: &Points,
+    corner: Point,
+) -> bool
+    requires { IsGivenGrid lists.now points.now }
+    ensures simple { OnTrue result (first_fault lists.now ≡ None) }
+    ensures valid { OnTrue result (IsDrawnVerdict lists.now points.now corner.x corner.y FigureYes) }
 {
-    if is_triangulation(map, count) {
-        is_drawn_well(map, points, corner)
-    } else {
-        false
-    }
+    3 <= lists.len()
+        && lists.total() == 6 * lists.len() - 12
+        && is_drawn_well(lists, points, corner)
+        && are_triangulation(alloc, lists)
 }
 
 // The verdict on a drawing of a connected map by its outer face.
@@ -112,9 +109,6 @@ pub fn drawn_verdict(
     requires places { HasPlaces map.now.lists points.now }
     ensures { IfOk result (IsDrawnVerdict map.now.lists points.now corner.x corner.y) }
 {
-    if is_valid_by_faces(map, count, points, corner) {
-        return Ok(FigureVerdict::Yes);
-    }
     match check_points(map, points, corner) {
         Verdict::Yes => {
             let verdict = faultless_verdict(alloc, map, count, points)?;

@@ -11,13 +11,16 @@ ghost use Rattle.kuratowski.specs.declared.witness.Witness.{Witness as AWitness}
 ghost use Rattle.kuratowski.specs.Verdicts.{IsVerdict};
 ghost use Rattle.line_inputs.specs.Given.{IsGiven, IsGivenGrid, IsGivenBars, IsGivenRects};
 ghost use Rattle.conn_parts.specs.Counted.{IsCountOf};
+ghost use Rattle.std.specs.Bool.{OnTrue};
+ghost use Rattle.figure_text.specs.declared.figure.GridJob.TheVariants.{Convex as ConvexJob};
+ghost use Rattle.figure_verdicts.specs.declared.verdict.FigureVerdict.TheVariants.{Yes as FigureYes};
 ghost use Rattle.figure_verdicts.specs.Validity.{less_one, grid_width, grid_height};
 ghost use Rattle.map_theory.specs.Maps.{face_count};
 ghost use Rattle.figure_verdicts.specs.Verdicts.{IsDrawnVerdict, IsShapedVerdict, IsJobVerdict, IsFittingVerdict, IsGridVerdict, IsColumnsVerdict, IsBarsVerdict, IsTiledVerdict, IsRectsVerdict, IsWitnessVerdict, IsFigureVerdict};
 
 use crate::FigureVerdict;
 use crate::convex::convex_verdict;
-use crate::drawn::drawn_verdict;
+use crate::drawn::{drawn_verdict, is_drawn_triangulation};
 use bar_check::{BarVerdict, check_bars};
 use conn_parts::counted_map;
 use euler_faces::EulerCount;
@@ -38,26 +41,52 @@ fn signed(n: usize) -> i32
     n as i32
 }
 
-// How far the grid of a drawing of a map with these counts reaches to the right.
-fn width(job: GridJob, map: &HalfMap, count: EulerCount) -> i32
-    requires { IsCountOf map.now.lists count }
-    ensures { result ≡ grid_width job map.now.lists }
+// How far the grid of a drawing of a map with `n` vertices and `f` faces reaches to the right. Of the faces, convex drawings
+// alone ask.
+fn width(job: GridJob, n: usize, f: u32) -> i32
+    requires few_vertices { n < 4096 }
+    requires few_faces { f ≤ 16777216 }
+    ensures { (lists : Lists) → length lists ≡ n → (job ≡ ConvexJob → face_count lists ≡ f) → result ≡ grid_width job lists }
 {
     match job {
-        GridJob::Shift => signed(2 * usize::from(map.n())) - 4,
-        GridJob::Schnyder => signed(usize::from(map.n())) - 2,
-        GridJob::Convex => bars_width(count.f),
+        GridJob::Shift => signed(2 * n) - 4,
+        GridJob::Schnyder => signed(n) - 2,
+        GridJob::Convex => bars_width(f),
     }
 }
 
 // How far it reaches up.
-fn height(job: GridJob, map: &HalfMap, count: EulerCount) -> i32
-    requires { IsCountOf map.now.lists count }
-    ensures { result ≡ grid_height job map.now.lists }
+fn height(job: GridJob, n: usize, f: u32) -> i32
+    requires few_vertices { n < 4096 }
+    requires few_faces { f ≤ 16777216 }
+    ensures { (lists : Lists) → length lists ≡ n → (job ≡ ConvexJob → face_count lists ≡ f) → result ≡ grid_height job lists }
 {
     match job {
-        GridJob::Convex => bars_width(count.f),
-        _ => signed(usize::from(map.n())) - 2,
+        GridJob::Convex => bars_width(f),
+        _ => signed(n) - 2,
+    }
+}
+
+// Where the grid ends of a drawing by a method for triangulations.
+fn corner_of(job: GridJob, n: usize) -> Point
+    requires { n < 4096 }
+    ensures x { (lists : Lists) → length lists ≡ n → job ≢ ConvexJob → result.x ≡ grid_width job lists }
+    ensures y { (lists : Lists) → length lists ≡ n → job ≢ ConvexJob → result.y ≡ grid_height job lists }
+{
+    Point {
+        x: width(job, n, 0),
+        y: height(job, n, 0),
+    }
+}
+
+// Says whether a drawing by such a method is seen to be valid, with no map.
+fn is_seen_valid(alloc: Global, job: GridJob, lists: &Rotations, points: &Points) -> bool
+    requires { IsGivenGrid lists.now points.now }
+    ensures { OnTrue result (IsGridVerdict job lists.now points.now FigureYes) }
+{
+    match job {
+        GridJob::Convex => false,
+        _ => is_drawn_triangulation(alloc, lists, points, corner_of(job, lists.len())),
     }
 }
 
@@ -102,8 +131,9 @@ fn map_verdict(
     requires places { HasPlaces map.now.lists points.now }
     ensures { IfOk result (IsFittingVerdict job map.now.lists points.now) }
 {
-    let wide = width(job, map, count);
-    let high = height(job, map, count);
+    let n = usize::from(map.n());
+    let wide = width(job, n, count.f);
+    let high = height(job, n, count.f);
     let corner = Point { x: wide, y: high };
     let verdict = job_verdict(alloc, job, map, count, points, corner)?;
     Ok(verdict)
@@ -119,6 +149,9 @@ fn grid_verdict(
     requires { IsGivenGrid lists.now points.now }
     ensures { IfOk result (IsGridVerdict job lists.now points.now) }
 {
+    if is_seen_valid(alloc, job, lists, points) {
+        return Ok(FigureVerdict::Yes);
+    }
     match counted_map(alloc, lists) {
         Ok(found) => {
             let verdict = map_verdict(alloc, job, &found.map, found.count, points)?;

@@ -96,6 +96,7 @@ fn all_drawn(alloc: Global, first: u32, rows: Rows) -> Result<After, AllocError>
 }
 
 // Goes on with a figure of which some of them are there.
+#[inline(always)]
 fn grown(alloc: Global, first: u32, held: Held<Rows>) -> Result<After, AllocError>
     requires some { 0 < held.n }
     requires few { held.n < 4096 }

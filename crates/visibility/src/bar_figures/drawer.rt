@@ -84,6 +84,7 @@ fn find_faces(
     ensures arcs { IfOk result (λ _. AreFaceArcs lists.now rank.now tables.new.of.items (length tables.new.arcs) tables.new.arcs) }
     ensures few { IfOk result (λ _. length tables.new.arcs < 2 ^ 32) }
 {
+    lists.facts();
     let spent = mem::replace(tables, FaceTables::new(alloc));
     let made = number_faces(spent, lists.entries(), lists.ends(), twins, rank)?;
     *tables = made;

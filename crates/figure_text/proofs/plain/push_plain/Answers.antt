@@ -1,25 +1,9 @@
 -- One vertex more.
-use Rattle.std.proofs.Common.{◌≡◌, ◌++◌, ◌∷◌, ◌+◌, ◌-◌, [], ℕ, false, refl, ap, ◌∙◌, arith}
-use Rattle.std.specs.Prelude.{min}
-use Rattle.figure_text.specs.declared.words.Word.{Word}
-use Rattle.figure_text.specs.declared.words.Word.TheVariants.{Number}
-use Rattle.figure_text.specs.Words.{words_left}
-use Rattle.figure_text.specs.Lines.{vertex_of}
-use Rattle.figure_text.specs.Plain.{IsNeighbour}
-use Rattle.figure_text.proofs.PlainLemmas.{taken-more}
+use Rattle.figure_text.proofs.PlainLemmas.{listed-more}
 use Rattle.figure_text.proofs.plain.push_plain.Goals as goal
 
+pub loop-short-preserved : goal.loop-short-preserved
+loop-short-preserved c = listed-more c.args.lists.now c.loop-short.lists _ c.args.line.now c.args.start c.loop-short.at c.in-Some.short c.vertex.result c.loop-short.invariant c.in-Some.ensures c.vertex.ensures c.in_ok-append.ensures.ok
+
 pub loop-digits-preserved : goal.loop-digits-preserved
-loop-digits-preserved c =
-    let line = c.args.line.now in
-    let old = c.args.lists.now in
-    let v = c.in-Some.digits.value in
-    let word : Word = Number (record { negative = false; size = v }) in
-    let here = c.in-Some.ensures in
-    let so_far = c.loop-digits.invariant in
-    let number : c.vertex.result ≡ min 65535 (v - 1) = omega (arith, c.vertex.ensures, here.most) in
-    record {
-      last = so_far.last ++ vertex_of word ∷ [];
-      taken = taken-more (λ w. IsNeighbour w) vertex_of (words_left line c.args.start) (words_left line c.loop-digits.at) (words_left line (c.in-Some.digits.end + 1)) so_far.last word so_far.taken here.plain.words (refl, (here.least, here.most));
-      lists = c.in_ok-append.ensures.ok old so_far.last so_far.lists ∙ ap (λ (u : ℕ). old ++ (so_far.last ++ u ∷ []) ∷ []) number;
-    }
+loop-digits-preserved c = listed-more c.args.lists.now c.loop-digits.lists _ c.args.line.now c.args.start c.loop-digits.at c.in-Some-vertex_at.digits c.vertex-in-Some-vertex_at.result c.loop-digits.invariant c.in-Some-vertex_at.ensures c.vertex-in-Some-vertex_at.ensures c.in_ok-append-2.ensures.ok

@@ -2,7 +2,7 @@ use Rattle.std.proofs.Common.{◌≡◌, ℤ, pos, ◌<ℤ◌, true, MatchBool, 
 use Rattle.std.proofs.lemmas.Int.{to_z-of_z}
 use Rattle.pg_plane.specs.Geometry.{area}
 use Rattle.plane_drawings.specs.Drawing.{place}
-use Rattle.draw_check.proofs.drawing.Drawing.turns_well.Goals as goal
+use Rattle.draw_check.proofs.drawing.Placed.turns_well.Goals as goal
 
 pub returns : goal.returns
 returns c =
