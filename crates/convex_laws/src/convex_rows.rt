@@ -1,4 +1,4 @@
-//! What the steps of a run put on over which vertices of the contour, as rows of numbers.
+//! Rows of numbers for the steps of a run: the vertices that each puts on, and those of the contour under them.
 
 mod rows;
 

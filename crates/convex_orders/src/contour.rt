@@ -10,9 +10,9 @@ use std::alloc::{AllocError, Global};
 /// A list of vertices with a place in it.
 #[derive(Drop)]
 pub(crate) struct Contour {
-    /// What stands before the place.
+    /// The vertices before the place.
     pub(crate) left: Vec<u16>,
-    /// What stands behind it, the last first.
+    /// Those from the place on, the last first.
     pub(crate) right: Vec<u16>,
 }
 

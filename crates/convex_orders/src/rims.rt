@@ -9,7 +9,7 @@ ghost use Rattle.convex_orders.specs.Noted.{AreRims, IsSeen, AreNoted};
 use crate::tables::Tables;
 use std::alloc::{AllocError, Global};
 
-/// What was seen of a contour at each vertex.
+/// Numbers of faces along a contour, one for each vertex.
 #[derive(Drop)]
 pub(crate) struct Rims {
     /// Where the dart along the contour was in the list of the vertex; whatever this holds, all answers are the same.

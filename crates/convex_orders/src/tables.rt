@@ -1,4 +1,4 @@
-//! What the removals of a run read of a map.
+//! Tables of a map that the removals of a run read.
 ghost use Rattle.std.specs.Prelude.{◌≡◌, ◌<◌, ℕ, length, slice_index};
 ghost use Rattle.map_theory.specs.Maps.{HasDart, IsSimpleMap};
 ghost use Rattle.convex_orders.specs.FaceNumbers.{entry, IsTable, AreFaceNumbers};

@@ -83,7 +83,6 @@ impl Corners<'_> {
 /// so does `check_outer` for the first vertex's first dart. Of other lists nothing is promised. It takes no memory, and
 /// linear time.
 pub fn is_drawn_well(lists: &Rotations, points: &Points, corner: Point) -> bool
-    requires few { length lists.now < 4096 }
     requires places { HasPlaces lists.now points.now }
     ensures { OnTrue result (IsTriangulation lists.now → IsVerdict lists.now points.now corner.x corner.y NoFault
         × HasOuterFace lists.now points.now (first_dart lists.now 0)) }

@@ -1,4 +1,4 @@
-//! What a figure is.
+//! Figures.
 
 use graph6_text::Graph;
 use kuratowski::Witness;

@@ -1,4 +1,4 @@
-//! What may stand at an offset of a text, and the ends of figures: the line of the columns, and what drafts give.
+//! Items at an offset of a text, and the ends of figures: the line of the columns, and the figure of a draft.
 ghost use Rattle.std.specs.Prelude.{◌≡◌, ◌++◌, ◌∷◌, ◌<◌, [], length, drop, map, slice_index_or, IfOk, IfSome, OnOk};
 ghost use Rattle.figure_text.specs.Words.{words_of};
 ghost use Rattle.figure_text.specs.Lines.{integer_of, IsColumnsLine, ColumnsInRange};

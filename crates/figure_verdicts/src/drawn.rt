@@ -32,7 +32,6 @@ fn is_triangulation(count: EulerCount) -> bool
 // Whether lists are a triangulation. When memory ran out it is not known, and the answer is no.
 fn are_triangulation(alloc: Global, lists: &Rotations) -> bool
     requires some_list { 0 < length lists.now }
-    requires few_lists { length lists.now < 4096 }
     ensures { OnTrue result ((first_fault lists.now ≡ None) × IsTriangulation lists.now) }
 {
     no_fault_is_simple();

@@ -1,4 +1,4 @@
-//! What the left-right planarity test rests on: ways in maps of genus zero, tours along trees, and sides of
+//! The theory of the left-right planarity test: ways in maps of genus zero, tours along trees, and sides of
 //! edges at forks. Each law is the contract of a function that does nothing, and speaks of all maps.
 #![tactic(auto)]
 

@@ -66,7 +66,7 @@ fn is_free(free: &[bool], u: u16) -> bool
     u < free.len() && free[u]
 }
 
-/// What returns by each of the edges of a vertex, with the sides on which it does: the edges are put in order by it.
+/// The return edges of each of the edges of a vertex, with the sides on which they return: the edges are put in order by them.
 #[derive(Clone, Copy)]
 pub(crate) struct Choice<'a> {
     pub depths: &'a [u16],

@@ -145,7 +145,7 @@ fn embed_last_line(
     }
 }
 
-/// What graphs are embedded, drawn and printed with. It lives from graph to graph.
+/// Embeds, draws and prints graphs, and keeps its memory from graph to graph.
 #[derive(Drop)]
 struct EmbedTools {
     tables: Tables,

@@ -1,4 +1,4 @@
-//! What the words and the input decide of the text that a run writes.
+//! Laws of the text that a run writes: the words and the input decide it.
 ghost use Rattle.pigale_shell.specs.OneText.{OneText, OneRefusalLine, OneGraphRefusalLine};
 
 use super::map_jobs::map_jobs_are_lawful;

@@ -55,7 +55,7 @@ fn run_points(
     points_of(alloc, spots)
 }
 
-/// What is kept of vertices while their points are found. What it holds from run to run is memory alone.
+/// Keeps a spot for each vertex while points are found. From run to run it holds memory alone.
 #[derive(Drop)]
 pub struct SpotTable {
     spots: Vec<Spot>,

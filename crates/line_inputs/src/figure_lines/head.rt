@@ -1,4 +1,4 @@
-//! What the first line of a figure says.
+//! The first line of a figure.
 ghost use Rattle.std.specs.Prelude.{◌≡◌, Some, IfOk};
 ghost use Rattle.figure_text.specs.Lines.{TailInRange};
 ghost use Rattle.line_inputs.specs.Heads.{head_kind, HasGraph};

@@ -1,4 +1,4 @@
-//! What a closed line does to what has come before it.
+//! One step of a reader of figures: a closed line joins the lines before it.
 ghost use Rattle.std.specs.Prelude.{◌≡◌, ◌+◌, ◌<◌, ◌≤◌, ◌++◌, ◌∷◌, [], List, ℕ, length, IfOk};
 ghost use Rattle.figure_text.specs.Reading.{IsPlain};
 ghost use Rattle.line_inputs.specs.Given.{IsGiven, AreDrawn};

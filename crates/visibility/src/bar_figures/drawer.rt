@@ -110,7 +110,7 @@ fn heights(spent: Ints, rank: &[u16]) -> Result<Ints, AllocError>
     Ok(made)
 }
 
-// What is found of a map by its lists, twins and search.
+// An answer for a map, by its lists, twins and search.
 enum Found {
     // its figure
     Drawn(BarFigure),
