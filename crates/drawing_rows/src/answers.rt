@@ -1,9 +1,8 @@
 //! Who answers a row.
-ghost use Rattle.std.specs.Prelude.{◌<◌, length};
 
 use crate::{bars, convex, orders, pictures, rects, verdicts};
-use half_edges::{HalfMap, Rotations};
-use row_texts::lists::lists_of;
+use half_edges::HalfMap;
+use row_texts::lists::{SomeLists, lists_of};
 use row_texts::refusal::tell_fault;
 use row_texts::rows::Answers;
 use row_texts::text::{number, part};
@@ -13,40 +12,37 @@ use std::alloc::Global;
 fn of_map(
     alloc: Global,
     kind: (&str, &str),
-    lists: &Rotations,
+    given: &SomeLists,
     map: &HalfMap,
     args: &[&str],
     out: &mut String,
 )
-    requires some { 0 < length lists.now }
 {
     match kind.0 {
         "picture" => pictures::answer(alloc, kind.1, map, args, out),
-        "bars" => bars::answer(alloc, kind.1, lists, map, args, out),
+        "bars" => bars::answer(alloc, kind.1, given, map, args, out),
         _ => verdicts::answer(alloc, kind.1, map, args, out),
     }
 }
 
 // Like [`of_map`], where the lists may have no map.
-fn over_map(alloc: Global, kind: (&str, &str), lists: &Rotations, args: &[&str], out: &mut String)
-    requires some { 0 < length lists.now }
+fn over_map(alloc: Global, kind: (&str, &str), given: &SomeLists, args: &[&str], out: &mut String)
 {
-    match HalfMap::from_rotations(alloc, lists) {
-        Ok(map) => of_map(alloc, kind, lists, &map, args, out),
+    match HalfMap::from_rotations(alloc, &given.lists) {
+        Ok(map) => of_map(alloc, kind, given, &map, args, out),
         Err(fault) => tell_fault(fault, out),
     }
 }
 
 // The answer to a row on lists.
-fn of_lists(alloc: Global, kind: (&str, &str), lists: &Rotations, args: &[&str], out: &mut String)
-    requires some { 0 < length lists.now }
+fn of_lists(alloc: Global, kind: (&str, &str), given: &SomeLists, args: &[&str], out: &mut String)
 {
     match kind.0 {
-        "draw" | "complete" | "wood" => orders::answer(alloc, kind, lists, args, out),
-        "check" if kind.1 == "faces" => orders::answer(alloc, kind, lists, args, out),
-        "convex" => convex::answer(alloc, kind.1, lists, number(part(args, 1)), out),
-        "labels" => rects::answer(alloc, kind.1, lists, out),
-        _ => over_map(alloc, kind, lists, args, out),
+        "draw" | "complete" | "wood" => orders::answer(alloc, kind, given, args, out),
+        "check" if kind.1 == "faces" => orders::answer(alloc, kind, given, args, out),
+        "convex" => convex::answer(alloc, kind.1, given, number(part(args, 1)), out),
+        "labels" => rects::answer(alloc, kind.1, given, out),
+        _ => over_map(alloc, kind, given, args, out),
     }
 }
 

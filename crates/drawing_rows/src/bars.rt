@@ -1,15 +1,15 @@
 //! St-orders and visibility drawings, and verdicts on them.
-ghost use Rattle.std.specs.Prelude.{◌<◌, length, IfSome};
+ghost use Rattle.std.specs.Prelude.{◌<◌, IfSome};
 ghost use Rattle.half_edges.specs.Map.{IsLive};
 ghost use Rattle.conn_parts.specs.BiconnectedMaps.{IsBiconnectedMap};
 
 use bar_check::{BarVerdict, check_bars};
 use bipolar::dual_orders::dual_numbers;
 use conn_parts::biconnected_maps::biconnected_map;
-use half_edges::{Counts, DartId, HalfMap, Rotations};
+use half_edges::{Counts, DartId, HalfMap};
 use pg_plane::BarFigure;
 use row_texts::darts::dart_between;
-use row_texts::lists::{put_counts, put_vertices};
+use row_texts::lists::{SomeLists, put_counts, put_vertices};
 use row_texts::points::{bars_of, integer, put_integers};
 use row_texts::refusal::tell_no_memory;
 use row_texts::text::{behind, number, part, put, put_letter, put_with};
@@ -18,11 +18,10 @@ use std::alloc::{AllocError, Global};
 use visibility::bars;
 
 // The map of lists, if it is plane, connected and without a cut vertex.
-fn block_of(alloc: Global, lists: &Rotations) -> Option<HalfMap>
-    requires some { 0 < length lists.now }
+fn block_of(alloc: Global, given: &SomeLists) -> Option<HalfMap>
     ensures { IfSome result (λ map. IsBiconnectedMap 3 map.lists) }
 {
-    match biconnected_map(alloc, lists, 3) {
+    match biconnected_map(alloc, &given.lists, 3) {
         Ok(map) => Some(map),
         Err(_) => None,
     }
@@ -134,10 +133,9 @@ fn of_block(alloc: Global, call: &str, map: &HalfMap, most: u16, out: &mut Strin
 }
 
 // The answer to a row on lists.
-fn of_lists(alloc: Global, call: &str, lists: &Rotations, most: u16, out: &mut String)
-    requires some { 0 < length lists.now }
+fn of_lists(alloc: Global, call: &str, given: &SomeLists, most: u16, out: &mut String)
 {
-    match block_of(alloc, lists) {
+    match block_of(alloc, given) {
         Some(map) => of_block(alloc, call, &map, most, out),
         None => {}
     }
@@ -147,12 +145,11 @@ fn of_lists(alloc: Global, call: &str, lists: &Rotations, most: u16, out: &mut S
 pub fn answer(
     alloc: Global,
     call: &str,
-    lists: &Rotations,
+    given: &SomeLists,
     map: &HalfMap,
     args: &[&str],
     out: &mut String,
 )
-    requires some { 0 < length lists.now }
 {
     if call == "check" {
         check(
@@ -162,6 +159,6 @@ pub fn answer(
             out,
         );
     } else {
-        of_lists(alloc, call, lists, number(part(args, 1)), out);
+        of_lists(alloc, call, given, number(part(args, 1)), out);
     }
 }

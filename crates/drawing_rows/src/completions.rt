@@ -1,11 +1,11 @@
 //! Maps that are completed to triangles, and what stays of their lists.
-ghost use Rattle.std.specs.Prelude.{◌<◌, ◌≤◌, length, IfSome};
+ghost use Rattle.std.specs.Prelude.{◌<◌, ◌≤◌, IfSome};
 ghost use Rattle.map_theory.specs.Maps.{IsPlane, vertex_count};
 
 use augment_tri::triangulate;
 use conn_parts::plane_map;
 use half_edges::{HalfMap, Rotations};
-use row_texts::lists::put_lists;
+use row_texts::lists::{SomeLists, put_lists};
 use row_texts::refusal::tell_no_memory;
 use row_texts::text::{put, put_one};
 use std::alloc::Global;
@@ -53,12 +53,11 @@ pub fn answer(alloc: Global, call: &str, old: &Rotations, tri: &HalfMap, out: &m
 }
 
 // The map of lists, where it has genus zero and three vertices.
-fn plane_of(alloc: Global, lists: &Rotations) -> Option<HalfMap>
-    requires some { 0 < length lists.now }
+fn plane_of(alloc: Global, given: &SomeLists) -> Option<HalfMap>
     ensures plane { IfSome result (λ map. IsPlane map.lists) }
     ensures some { IfSome result (λ map. 3 ≤ vertex_count map.lists) }
 {
-    match plane_map(alloc, lists, 3) {
+    match plane_map(alloc, &given.lists, 3) {
         Ok(found) => Some(found.map),
         Err(_) => None,
     }
@@ -79,10 +78,9 @@ fn put_completed(alloc: Global, map: HalfMap, out: &mut String)
 }
 
 /// Writes how many vertices and edges the map of lists has once it is completed by itself.
-pub fn alone(alloc: Global, lists: &Rotations, out: &mut String)
-    requires some { 0 < length lists.now }
+pub fn alone(alloc: Global, given: &SomeLists, out: &mut String)
 {
-    match plane_of(alloc, lists) {
+    match plane_of(alloc, given) {
         Some(map) => put_completed(alloc, map, out),
         None => {}
     }

@@ -9,20 +9,20 @@ use convex_class::convex_maps::convex_map;
 use convex_draw::convex_draw;
 use convex_faces::face_regions::face_region;
 use convex_faces::wood::{Axis, ConvexWood, convex_wood};
-use half_edges::{DartId, HalfMap, Rotations, VertexId};
+use half_edges::{DartId, HalfMap, VertexId};
 use pg_plane::GridFigure;
+use row_texts::lists::SomeLists;
 use row_texts::points::put_points;
 use row_texts::refusal::tell_no_memory;
 use row_texts::text::{put, put_number, put_one, put_whole};
 use std::alloc::{AllocError, Global};
 
 // The map of lists, if it is three-connected and of genus zero.
-fn block_of(alloc: Global, lists: &Rotations) -> Option<HalfMap>
-    requires some { 0 < length lists.now }
+fn block_of(alloc: Global, given: &SomeLists) -> Option<HalfMap>
     ensures plane { IfSome result (λ map. IsPlane map.lists) }
     ensures three { IfSome result (λ map. IsThreeConnected map.lists) }
 {
-    match convex_map(alloc, lists) {
+    match convex_map(alloc, &given.lists) {
         Ok(map) => Some(map),
         Err(_) => None,
     }
@@ -245,10 +245,9 @@ fn of_block(alloc: Global, call: &str, map: &HalfMap, v: u16, out: &mut String)
 }
 
 /// The answer to a row on convex drawings.
-pub fn answer(alloc: Global, call: &str, lists: &Rotations, v: u16, out: &mut String)
-    requires some { 0 < length lists.now }
+pub fn answer(alloc: Global, call: &str, given: &SomeLists, v: u16, out: &mut String)
 {
-    match block_of(alloc, lists) {
+    match block_of(alloc, given) {
         Some(map) => of_block(alloc, call, &map, v, out),
         None => {}
     }

@@ -1,5 +1,5 @@
 //! Orders of triangulations, and the drawings by shifts and by woods that stand on them.
-ghost use Rattle.std.specs.Prelude.{◌<◌, IfOk, IfSome, length};
+ghost use Rattle.std.specs.Prelude.{◌<◌, IfOk, IfSome};
 ghost use Rattle.half_edges.specs.Map.{IsLive};
 ghost use Rattle.map_theory.specs.Maps.{Dart, HasDart};
 ghost use Rattle.plane_laws.specs.Triangulations.{IsTriangulation};
@@ -16,20 +16,19 @@ use half_edges::{DartId, HalfMap, Rotations};
 use pg_plane::GridFigure;
 use refusals::Unserved;
 use row_texts::darts::dart_between;
-use row_texts::lists::{put_counts, put_vertices};
+use row_texts::lists::{SomeLists, put_counts, put_vertices};
 use row_texts::points::put_points;
 use row_texts::refusal::{tell_no_memory, tell_unserved};
 use row_texts::text::{number, pair, part, put, put_whole};
 use std::alloc::Global;
 
 // The triangulation of lists, and a canonical order of it for a dart from vertex 0.
-fn order_of(alloc: Global, lists: &Rotations) -> Result<DrawingOrder, Unserved>
-    requires some { 0 < length lists.now }
+fn order_of(alloc: Global, given: &SomeLists) -> Result<DrawingOrder, Unserved>
     ensures triangulation { IfOk result (λ found. IsTriangulation found.tri.lists) }
     ensures order { IfOk result (λ found. (base : Dart) × IsCanonicalOrder found.tri.lists base (vertices_of found.order)) }
     ensures based { IfOk result (λ found. (base : Dart) × HasDart found.tri.lists base.0 base.1 × IsCanonicalOrder found.tri.lists base (vertices_of found.order)) }
 {
-    let found = drawing_order(alloc, lists)?;
+    let found = drawing_order(alloc, &given.lists)?;
     Ok(found)
 }
 
@@ -148,25 +147,23 @@ fn of_found(
 }
 
 // Like [`of_found`], where the lists may have no order.
-fn over_order(alloc: Global, kind: (&str, &str), lists: &Rotations, args: &[&str], out: &mut String)
-    requires some { 0 < length lists.now }
+fn over_order(alloc: Global, kind: (&str, &str), given: &SomeLists, args: &[&str], out: &mut String)
 {
-    match order_of(alloc, lists) {
-        Ok(found) => of_found(alloc, kind, lists, &found, args, out),
+    match order_of(alloc, given) {
+        Ok(found) => of_found(alloc, kind, &given.lists, &found, args, out),
         Err(unserved) => tell_unserved(unserved, out),
     }
 }
 
 /// The answer to a row on orders and what stands on them.
-pub fn answer(alloc: Global, kind: (&str, &str), lists: &Rotations, args: &[&str], out: &mut String)
-    requires some { 0 < length lists.now }
+pub fn answer(alloc: Global, kind: (&str, &str), given: &SomeLists, args: &[&str], out: &mut String)
 {
     let most = number(part(args, 1));
     match kind.1 {
-        "shift figure" => put_served(shift_figure(alloc, lists), most, out),
-        "schnyder figure" => put_served(schnyder_figure(alloc, lists), most, out),
-        "alone" => completions::alone(alloc, lists, out),
+        "shift figure" => put_served(shift_figure(alloc, &given.lists), most, out),
+        "schnyder figure" => put_served(schnyder_figure(alloc, &given.lists), most, out),
+        "alone" => completions::alone(alloc, given, out),
         "node" => trees::node(alloc, number(part(args, 0)), most, out),
-        _ => over_order(alloc, kind, lists, args, out),
+        _ => over_order(alloc, kind, given, args, out),
     }
 }

@@ -1,5 +1,5 @@
 //! Pictures of figures as SVG.
-ghost use Rattle.std.specs.Prelude.{◌≡◌, ◌<◌, length, IfSome};
+ghost use Rattle.std.specs.Prelude.{◌≡◌, ◌<◌, IfSome};
 ghost use Rattle.map_theory.specs.Maps.{IsSimpleMap, edge_count};
 ghost use Rattle.svg_out.specs.Svg.{IsDrawn};
 

@@ -1,23 +1,23 @@
 //! Edge labellings and duals of maps that have rectangular duals.
-ghost use Rattle.std.specs.Prelude.{◌<◌, length, IfSome};
+ghost use Rattle.std.specs.Prelude.{◌<◌, IfSome};
 ghost use Rattle.rect_class.specs.RectMaps.{IsRectMap};
 
-use half_edges::{HalfMap, Rotations, VertexId};
+use half_edges::{HalfMap, VertexId};
 use pg_plane::RectFigure;
 use rect_class::rect_map;
 use rect_dual::labels::{Label, Labelling, edge_labels};
 use rect_dual::rect_draw;
+use row_texts::lists::SomeLists;
 use row_texts::points::put_integers;
 use row_texts::refusal::tell_no_memory;
 use row_texts::text::{put, put_letter, put_numbers};
 use std::alloc::{AllocError, Global};
 
 // The map of lists, if it is of the class.
-fn block_of(alloc: Global, lists: &Rotations) -> Option<HalfMap>
-    requires some { 0 < length lists.now }
+fn block_of(alloc: Global, given: &SomeLists) -> Option<HalfMap>
     ensures { IfSome result (λ map. IsRectMap map.lists) }
 {
-    match rect_map(alloc, lists) {
+    match rect_map(alloc, &given.lists) {
         Ok(map) => Some(map),
         Err(_) => None,
     }
@@ -127,10 +127,9 @@ fn draw(alloc: Global, map: &HalfMap, out: &mut String)
 }
 
 /// The labels of the map of lists, or its rectangles.
-pub fn answer(alloc: Global, call: &str, lists: &Rotations, out: &mut String)
-    requires some { 0 < length lists.now }
+pub fn answer(alloc: Global, call: &str, given: &SomeLists, out: &mut String)
 {
-    match block_of(alloc, lists) {
+    match block_of(alloc, given) {
         Some(map) => {
             if call == "draw" {
                 draw(alloc, &map, out);

@@ -1,9 +1,8 @@
 //! Who answers a row.
-ghost use Rattle.std.specs.Prelude.{◌<◌, length};
 
 use crate::{counts, cuts, edits, maps, orbits};
-use half_edges::{HalfMap, Rotations};
-use row_texts::lists::lists_of;
+use half_edges::HalfMap;
+use row_texts::lists::{SomeLists, lists_of};
 use row_texts::refusal::tell_fault;
 use row_texts::rows::Answers;
 use row_texts::text::part;
@@ -13,28 +12,26 @@ use std::alloc::Global;
 fn of_map(
     alloc: Global,
     kind: (&str, &str),
-    lists: &Rotations,
+    given: &SomeLists,
     map: &mut HalfMap,
     args: &[&str],
     out: &mut String,
 )
-    requires some { 0 < length lists.now }
 {
     let call = kind.1;
     match kind.0 {
-        "map" => maps::answer(alloc, call, lists, map, args, out),
+        "map" => maps::answer(alloc, call, &given.lists, map, args, out),
         "edits" => edits::answer(alloc, map, part(args, 1), out),
-        "count" => counts::answer(alloc, call, lists, map, args, out),
+        "count" => counts::answer(alloc, call, given, map, args, out),
         _ => cuts::answer(alloc, call, map, out),
     }
 }
 
 // Like [`of_map`], where the lists may have no map.
-fn over_map(alloc: Global, kind: (&str, &str), lists: &Rotations, args: &[&str], out: &mut String)
-    requires some { 0 < length lists.now }
+fn over_map(alloc: Global, kind: (&str, &str), given: &SomeLists, args: &[&str], out: &mut String)
 {
-    match HalfMap::from_rotations(alloc, lists) {
-        Ok(mut map) => of_map(alloc, kind, lists, &mut map, args, out),
+    match HalfMap::from_rotations(alloc, &given.lists) {
+        Ok(mut map) => of_map(alloc, kind, given, &mut map, args, out),
         Err(fault) => tell_fault(fault, out),
     }
 }

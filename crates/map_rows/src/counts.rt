@@ -4,8 +4,8 @@ ghost use Rattle.map_theory.specs.Maps.{vertex_count};
 
 use conn_parts::{Parts, components};
 use euler_faces::{Counter, EulerCount, Faces, count_lists, euler, faces};
-use half_edges::{DartId, FaceId, HalfMap, MapFault, Rotations, VertexId};
-use row_texts::lists::lists_of;
+use half_edges::{DartId, FaceId, HalfMap, MapFault, VertexId};
+use row_texts::lists::{SomeLists, lists_of};
 use row_texts::refusal::{tell_fault, tell_no_memory};
 use row_texts::text::{put, put_gap, put_letter, put_number, put_one};
 use std::alloc::{AllocError, Global};
@@ -68,7 +68,7 @@ fn put_counted(found: Result<EulerCount, MapFault>, out: &mut String) {
 // The counts of lists by a counter that may have counted others before.
 fn count_next(alloc: Global, counter: &mut Counter, text: &str, out: &mut String) {
     match lists_of(alloc, text) {
-        Some(lists) => put_counted(counter.count(&lists), out),
+        Some(given) => put_counted(counter.count(&given.lists), out),
         None => {}
     }
 }
@@ -85,10 +85,9 @@ fn count_all(alloc: Global, args: &[&str], out: &mut String) {
 }
 
 // The counts of lists, and of their map.
-fn both(alloc: Global, lists: &Rotations, map: &HalfMap, out: &mut String)
-    requires some { 0 < length lists.now }
+fn both(alloc: Global, given: &SomeLists, map: &HalfMap, out: &mut String)
 {
-    put_counted(count_lists(alloc, lists), out);
+    put_counted(count_lists(alloc, &given.lists), out);
     put(", of the map ", out);
     match euler(alloc, map) {
         Ok(count) => put_count(count, out),
@@ -121,17 +120,16 @@ fn put_parts(alloc: Global, map: &HalfMap, out: &mut String) {
 pub fn answer(
     alloc: Global,
     call: &str,
-    lists: &Rotations,
+    given: &SomeLists,
     map: &HalfMap,
     args: &[&str],
     out: &mut String,
 )
-    requires some { 0 < length lists.now }
 {
     match call {
         "faces" => put_faces(map, faces(alloc, map), out),
         "lists" => count_all(alloc, args, out),
-        "both" => both(alloc, lists, map, out),
+        "both" => both(alloc, given, map, out),
         _ => put_parts(alloc, map, out),
     }
 }

@@ -1,5 +1,5 @@
 //! Lists as texts, and families of maps.
-ghost use Rattle.std.specs.Prelude.{◌<◌, length, IfSome};
+ghost use Rattle.std.specs.Prelude.{◌<◌, length};
 
 use crate::text::{halves, numbers, pair, put_gap, put_letter, put_number, put_numbers};
 use half_edges::{Counts, Rotations, VertexList};
@@ -114,16 +114,23 @@ fn fill(alloc: Global, text: &str, lists: &mut ItemLists<u16>) {
     }
 }
 
+/// Lists of which there is one at least.
+#[derive(Drop)]
+pub struct SomeLists {
+    pub lists: Rotations,
+    pub ghost some: { 0 < length lists },
+}
+
 /// The lists that a text gives, from 1 to 4095.
-pub fn lists_of(alloc: Global, text: &str) -> Option<Rotations>
-    ensures { IfSome result (λ lists. 0 < length lists) }
-{
+pub fn lists_of(alloc: Global, text: &str) -> Option<SomeLists> {
     let mut lists = ItemLists::new(alloc);
     fill(alloc, text, &mut lists);
     if lists.len() == 0 || 4095 < lists.len() {
         None
     } else {
-        Some(Rotations::from_lists(lists))
+        Some(SomeLists {
+            lists: Rotations::from_lists(lists),
+        })
     }
 }
 

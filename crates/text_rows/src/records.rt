@@ -6,7 +6,7 @@ use half_edges::Rotations;
 use planar_code::{
     CodeFault, Fed, RecordReader, Step, Taken, after_header, next_record, write_record,
 };
-use row_texts::lists::{lists_of, put_lists};
+use row_texts::lists::{SomeLists, lists_of, put_lists};
 use row_texts::refusal::tell_no_memory;
 use row_texts::text::{number, numbers, part, put, put_letter, put_number, put_one};
 use std::alloc::{AllocError, Global};
@@ -180,12 +180,11 @@ fn are_below(lists: &Rotations, limit: u16) -> bool
 }
 
 // Appends the record of lists.
-fn put_written(lists: &Rotations, bytes: &mut Vec<u8>)
-    requires some { 0 < length lists.now }
+fn put_written(given: &SomeLists, bytes: &mut Vec<u8>)
 {
-    let limit = if 255 < lists.len() { 65535 } else { 255 };
-    if are_below(lists, limit) {
-        let _ = write_record(lists, bytes);
+    let limit = if 255 < given.lists.len() { 65535 } else { 255 };
+    if are_below(&given.lists, limit) {
+        let _ = write_record(&given.lists, bytes);
     }
 }
 
@@ -238,25 +237,23 @@ fn read_back(
 }
 
 // Writes the record of `lists` between the bytes of two texts, and reads it back.
-fn write_and_read(alloc: Global, lists: &Rotations, args: &[&str], out: &mut String)
-    requires some { 0 < length lists.now }
+fn write_and_read(alloc: Global, given: &SomeLists, args: &[&str], out: &mut String)
 {
     let mut bytes = bytes_of(alloc, part(args, 1));
     let at = bytes.len();
-    put_written(lists, &mut bytes);
+    put_written(given, &mut bytes);
     let end = bytes.len();
     put_pieces(alloc, &mut bytes, part(args, 2));
     if at <= bytes.len() {
-        read_back(alloc, lists, &bytes, at, end, out);
+        read_back(alloc, &given.lists, &bytes, at, end, out);
     }
 }
 
 // The record of lists in hexadecimal, behind the bytes of a text.
-fn write(alloc: Global, lists: &Rotations, text: &str, out: &mut String)
-    requires some { 0 < length lists.now }
+fn write(alloc: Global, given: &SomeLists, text: &str, out: &mut String)
 {
     let mut bytes = bytes_of(alloc, text);
-    put_written(lists, &mut bytes);
+    put_written(given, &mut bytes);
     put_hex(alloc, &bytes, out);
 }
 

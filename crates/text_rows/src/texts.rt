@@ -51,11 +51,11 @@ fn put_grid(
 // The text of a drawing of some lists.
 fn grid(alloc: Global, number: u16, job: GridJob, args: &[&str], out: &mut String) {
     match lists_of(alloc, part(args, 2)) {
-        Some(lists) => put_grid(
+        Some(given) => put_grid(
             alloc,
             number,
             job,
-            lists,
+            given.lists,
             points_of(alloc, part(args, 3)),
             out,
         ),
@@ -80,7 +80,7 @@ fn put_bars(alloc: Global, number: u16, lists: Rotations, bars: BarFigure, out: 
 // The text of a visibility drawing of some lists.
 fn bars(alloc: Global, number: u16, args: &[&str], out: &mut String) {
     match lists_of(alloc, part(args, 1)) {
-        Some(lists) => put_bars(alloc, number, lists, bars_of(alloc, behind(args, 2)), out),
+        Some(given) => put_bars(alloc, number, given.lists, bars_of(alloc, behind(args, 2)), out),
         None => {}
     }
 }
