@@ -44,6 +44,9 @@ pub(crate) fn join_parts(map: &mut HalfMap, parts: &Parts)
     ensures grown { IsGrown map.old map.new }
     ensures one { component_count map.new.lists ≡ 1 }
 {
+    if parts.count() == 1 {
+        return;
+    }
     let mut joined = 1;
     for v in 1..map.n() {
         if parts.of(VertexId(v)) == joined {

@@ -1,5 +1,5 @@
 //! The calls.
-ghost use Rattle.std.specs.Prelude.{◌≡◌, length, IfOk, IfSome, MatchOption};
+ghost use Rattle.std.specs.Prelude.{◌≡◌, ◌<◌, length, IfOk, IfSome, MatchOption};
 ghost use Rattle.map_lists.specs.Lists.{Lists};
 ghost use Rattle.embed_theorem.specs.Expanded.{IsMapOf};
 
@@ -96,6 +96,7 @@ impl Tables {
 
     // The lists of a graph of `n` vertices that the test passed, in kept memory.
     fn lists(&mut self, alloc: Global, n: u16) -> Result<Rotations, AllocError>
+        requires { n < 4096 }
         ensures { IfOk result (λ lists. length lists ≡ n) }
     {
         let spent = self.take_spent(alloc);

@@ -175,10 +175,10 @@ module _ (lists : Lists) (v : ℕ) (list ranks : List ℕ) (is : IsListOf lists 
           let high = next l in
           absurd (omega (arith, high, under))
 
-  pub row-first : (end again : ℕ) → (0 < length list → IsEarlier ranks k list 0) → end < length list → length list ≤ again → ((i : ℕ) → end ≤ i → i < again → IsLater ranks k list i) → EndsRow lists ranks k v (get_or list 0 0)
-  row-first end again low l n lates =
+  pub row-first : (0 < length list → IsEarlier ranks k list 0) → 0 < length list → IsLater ranks k list (length list - 1) → EndsRow lists ranks k v (get_or list 0 0)
+  row-first low l late =
       let last : length list - 1 + 1 ≡ length list = omega (arith, l) in
-      EndsRow-at 0 (length list - 1) (omega (arith, l)) (omega (arith, l)) (low (omega (arith, l))) (lates (length list - 1) (omega (arith, l)) (omega (arith, l, n))) (last-turns (length list - 1) last)
+      EndsRow-at 0 (length list - 1) l (omega (arith, l)) (low l) late (last-turns (length list - 1) last)
 
 -- what stands in a list, and at no place passed, stands at the one place left
 pub left-place : (P : ℕ → Type 0) (us : List ℕ) (n u : ℕ) → Contains us u → P u → n < length us → ((j : ℕ) → j < length us → (j ≡ n) ⊎ ¬ P (get_or us j 0)) → P (get_or us n 0)

@@ -123,11 +123,13 @@ fn row_in(list: &[u16], ranks: &Counts, k: u32) -> (u16, u16)
     }
     let end = first_later(list, ranks, k, 0);
     if first == 0 && end < list.len() {
+        if k <= entry_rank(list, ranks, list.len() - 1) {
+            return (list[end - 1], list[0]);
+        }
         let again = first_earlier(list, ranks, k, end);
         if again < list.len() {
             return (list[end - 1], list[again]);
         }
-        return (list[end - 1], list[0]);
     }
     (begin_in(list, ranks, k), end_in(list, ranks, k))
 }

@@ -102,3 +102,6 @@ returns-clause-one c =
     let same = h.grown.extended.vertices in
     AreJoined-all (component_classes first) (IsLabels-components first c.requires.roomy.known.simple) c.loop-v.map.lists c.loop-v.v h.roomy.known.simple
     (omega (arith, c.n-v-end.ensures.count, c.loop-v-test.false)) h.joined
+
+pub returns-then-count-eq1-clause-grown : goal.returns-then-count-eq1-clause-grown
+returns-then-count-eq1-clause-grown c = IsGrown-itself c.args.map.now

@@ -50,18 +50,19 @@ turned_order-requires-clause-distinct c =
     let again = turned_again taken c.in_ok-taken.taken.items vs c.deref-2.ensures.value c.in_ok-taken.ensures in
     AllPairs-from_reverse taken (subst (AllPairs ◌≢◌) (sym again) topological.once)
 
-pub returns-clause-arranged : goal.returns-clause-arranged
-returns-clause-arranged c =
-    let lists = c.args.tri.now.lists in
-    let wood = c.args.wood.now in
-    let arcs = c.in_ok-arcs.arcs in
-    let taken = c.deref-2.result.now in
-    let vs = c.deref.result.now in
-    let graph = subst (λ (l : Lists). AreWoodArcs l wood arcs) c.in_ok-lists.ensures c.in_ok-arcs.ensures in
-    let topological : IsTopological arcs c.root.result.0 vs = subst (λ (l : List ℕ). IsTopological arcs c.root.result.0 l) (sym c.deref.ensures.value) c.in_ok-order.ensures in
-    let named : IsTopological arcs wood.root_one vs = subst (λ r. IsTopological arcs r vs) c.root.ensures topological in
-    let again = turned_again taken c.in_ok-taken.taken.items vs c.deref-2.ensures.value c.in_ok-taken.ensures in
-    IfOk-weaker c.turned_order.result (λ order. vertices_of order ≡ reverse taken)
-    (λ order. (base : Dart) → HasDart lists base.0 base.1 → IsWoodOf lists base wood → IsArranged lists base (parent_in wood) (vertices_of order))
-    (λ order e. λ base has of. subst (IsArranged lists base (parent_in wood)) (sym (e ∙ again)) (arranged lists base wood arcs c.requires.triangulation has of graph vs named))
-    c.turned_order.ensures.vertices
+pub returns : goal.returns
+returns c = record {
+  arranged = let lists = c.args.tri.now.lists in
+      let wood = c.args.wood.now in
+      let arcs = c.in_ok-arcs.arcs in
+      let taken = c.deref-2.result.now in
+      let vs = c.deref.result.now in
+      let graph = subst (λ (l : Lists). AreWoodArcs l wood arcs) c.in_ok-lists.ensures c.in_ok-arcs.ensures in
+      let topological : IsTopological arcs c.root.result.0 vs = subst (λ (l : List ℕ). IsTopological arcs c.root.result.0 l) (sym c.deref.ensures.value) c.in_ok-order.ensures in
+      let named : IsTopological arcs wood.root_one vs = subst (λ r. IsTopological arcs r vs) c.root.ensures topological in
+      let again = turned_again taken c.in_ok-taken.taken.items vs c.deref-2.ensures.value c.in_ok-taken.ensures in
+      IfOk-weaker c.turned_order.result (λ order. vertices_of order ≡ reverse taken)
+      (λ order. (base : Dart) → HasDart lists base.0 base.1 → IsWoodOf lists base wood → IsArranged lists base (parent_in wood) (vertices_of order))
+      (λ order e. λ base has of. subst (IsArranged lists base (parent_in wood)) (sym (e ∙ again)) (arranged lists base wood arcs c.requires.triangulation has of graph vs named))
+      c.turned_order.ensures.vertices;
+}

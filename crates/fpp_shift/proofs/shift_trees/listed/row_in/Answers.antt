@@ -17,8 +17,8 @@ returns-then-again-list-clause-begin c = λ lists v p is b.
     let low = λ (l : 0 < length c.args.list.now). subst (λ (i : ℕ). IsEarlier c.args.ranks.now c.args.k c.args.list.now i) none (c.first_earlier-first.ensures.here (omega (arith, none, l))) in
     row-round lists v c.args.list.now c.args.ranks.now is c.args.k c.first_later-end-2.result low c.if-end-list.true c.first_later-end-2.ensures.before c.first_later-end-2.ensures.here
 
-pub returns-then-end-list-clause-begin : goal.returns-then-end-list-clause-begin
-returns-then-end-list-clause-begin c = λ lists v p is b.
+pub returns-then-k-entry_rank-clause-begin : goal.returns-then-k-entry_rank-clause-begin
+returns-then-k-entry_rank-clause-begin c = λ lists v p is b.
     let none : c.first_earlier-first.result ≡ 0 = c.if-first-eq0.true in
     let low = λ (l : 0 < length c.args.list.now). subst (λ (i : ℕ). IsEarlier c.args.ranks.now c.args.k c.args.list.now i) none (c.first_earlier-first.ensures.here (omega (arith, none, l))) in
     row-round lists v c.args.list.now c.args.ranks.now is c.args.k c.first_later-end-2.result low c.if-end-list.true c.first_later-end-2.ensures.before c.first_later-end-2.ensures.here
@@ -29,8 +29,8 @@ returns-then-again-list-clause-end c = λ lists v q is b.
     let low = λ (l : 0 < length c.args.list.now). subst (λ (i : ℕ). IsEarlier c.args.ranks.now c.args.k c.args.list.now i) none (c.first_earlier-first.ensures.here (omega (arith, none, l))) in
     row-again lists v c.args.list.now c.args.ranks.now is c.args.k c.first_later-end-2.result c.first_earlier-again.result low c.if-end-list.true c.first_later-end-2.ensures.here c.first_earlier-again.ensures.from c.if-again-list.true c.first_earlier-again.ensures.before c.first_earlier-again.ensures.here
 
-pub returns-then-end-list-clause-end : goal.returns-then-end-list-clause-end
-returns-then-end-list-clause-end c = λ lists v q is b.
+pub returns-then-k-entry_rank-clause-end : goal.returns-then-k-entry_rank-clause-end
+returns-then-k-entry_rank-clause-end c = λ lists v q is b.
     let none : c.first_earlier-first.result ≡ 0 = c.if-first-eq0.true in
     let low = λ (l : 0 < length c.args.list.now). subst (λ (i : ℕ). IsEarlier c.args.ranks.now c.args.k c.args.list.now i) none (c.first_earlier-first.ensures.here (omega (arith, none, l))) in
-    row-first lists v c.args.list.now c.args.ranks.now is c.args.k c.first_later-end-2.result c.first_earlier-again.result low c.if-end-list.true (omega (arith, c.if-again-list.false)) c.first_earlier-again.ensures.before
+    row-first lists v c.args.list.now c.args.ranks.now is c.args.k low c.requires.some (omega (arith, c.if-k-entry_rank.true, c.entry_rank.ensures))

@@ -24,7 +24,9 @@ turned_order-requires-clause-distinct c =
     let (map, k) = c.requires.class in
     subst (λ (us : List ℕ). AllPairs ◌≢◌ us) (sym c.deref.ensures.value) (taken_apart _ map frame.left.0 frame.top.0 frame.right.0 frame.bottom.0 frame.inner.0 k c.in_ok-taken.taken.items (c.in_ok-taken.ensures map k))
 
-pub returns-clause-order : goal.returns-clause-order
-returns-clause-order c = λ map k.
-    let frame = c.args.frame in
-    subst (λ (us : List ℕ). IsRectOrder map frame.left.0 frame.top.0 frame.right.0 frame.bottom.0 us) (sym (c.in_ok-order.ensures.vertices ∙ ap reverse c.deref.ensures.value)) (c.in_ok-taken.ensures map k)
+pub returns : goal.returns
+returns c = record {
+  order = λ map k.
+      let frame = c.args.frame in
+      subst (λ (us : List ℕ). IsRectOrder map frame.left.0 frame.top.0 frame.right.0 frame.bottom.0 us) (sym (c.in_ok-order.ensures.vertices ∙ ap reverse c.deref.ensures.value)) (c.in_ok-taken.ensures map k);
+}
