@@ -133,6 +133,7 @@ impl FrameFinder {
         requires some_list { 0 < length lists.now }
         ensures { IfOk result (λ found. MatchOption found ⊤ (λ f. IsRectMap lists.now × IsFrame lists.now f.top.0 f.right.0 f.bottom.0)) }
     {
+        lists.facts();
         if !is_full(lists) {
             return Ok(None);
         }

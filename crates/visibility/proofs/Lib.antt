@@ -2,6 +2,7 @@
 mod EndRows
 mod SidesKnown
 mod SpanLemmas
+mod StartLemmas
 mod Drawn
 mod ListDrawn
 mod Connected

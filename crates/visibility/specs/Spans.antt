@@ -3,7 +3,7 @@ use Rattle.std.specs.Prelude.{ℕ, ◌<◌, ◌≡◌, ◌^◌, List, length, sl
 use Rattle.map_lists.specs.Lists.{Lists}
 use Rattle.map_theory.specs.Maps.{IsSimpleMap, HasDart, list_of, dart_count, dart_number}
 use Rattle.graph_search.specs.Arcs.{arcs_of}
-use Rattle.bipolar.specs.Columns.{AreColumns}
+use Rattle.bipolar.specs.Columns.{AreColumns, IsFilled}
 use Rattle.bipolar.specs.FaceNumbers.{left_rows}
 use Rattle.visibility.specs.Ends.{IsLeastOf, IsGreatestOf, AreEnds}
 
@@ -18,6 +18,14 @@ pub record AreSides (lists : Lists) (rank of twins numbers : List ℕ) : Type 0 
   pub within : (i : ℕ) → i < dart_count lists → slice_index of i < length numbers
   pub low : (v i : ℕ) → slice_index (arcs_of (left_rows lists rank of numbers) v) i < 2 ^ 31
   pub some : (v : ℕ) → v < length lists → 0 < length (list_of lists v)
+
+-- The rows before that of b have been gone over, and the first i numbers of that of b. Where the next number of a vertex goes is known behind its row: `starts` says so for those before b.
+pub record IsFilledTo (lists rows : Lists) (b i : ℕ) (starts columns : List ℕ) : Type 0 where
+  -- the same for all vertices
+  pub places : List ℕ
+  pub filled : IsFilled lists rows b i places columns
+  pub same : (a : ℕ) → a < b → slice_index starts a ≡ slice_index places a
+  pub vertices : length starts ≡ length lists
 
 -- columns from rows, and the least and the greatest of each row
 pub record AreSpanned (lists rows : Lists) (columns : List ℕ) (x1 x2 : List ℤ) : Type 0 where

@@ -1,12 +1,8 @@
-use Rattle.std.proofs.Common.{◌≡◌, ℕ, List, length, sym, ◌∙◌, subst, arith}
+use Rattle.std.proofs.Common.{◌≡◌, ℕ, List, length, sym, ◌∙◌, subst}
 use Rattle.std.proofs.lemmas.List.{take_at}
-use Rattle.map_theory.proofs.DartCounts.{few_darts-simple}
 use Rattle.bipolar.specs.Columns.{AreColumns}
 use Rattle.bipolar.specs.FaceNumbers.{left_rows}
 use Rattle.visibility.proofs.spans.SpanTables.fill.Goals as goal
-
-pub edge_starts-requires-clause-edges : goal.edge_starts-requires-clause-edges
-edge_starts-requires-clause-edges c = omega (arith, few_darts-simple c.args.sides.now.lists.now c.facts.ensures.few c.facts.ensures.simple)
 
 pub returns : goal.returns
 returns c =
