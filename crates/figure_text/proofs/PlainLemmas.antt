@@ -2,7 +2,7 @@
 use Rattle.std.proofs.Common.{nat_lt, ◌≡◌, ℕ, ◌+◌, ◌-◌, List, [], ◌∷◌, ◌++◌, length, map, refl, sym, ap, ◌∙◌, subst, arith, append_assoc}
 use Rattle.std.proofs.lemmas.List.{map-append}
 use Rattle.std.proofs.lemmas.List.Elements.{All-push, All-weaker}
-use Rattle.std.specs.Prelude.{All, IsTrue, false}
+use Rattle.std.specs.Prelude.{min, ℤ, pos, All, IsTrue, false}
 use Rattle.std.proofs.lemmas.Bool.Decides.{nat_tests}
 use Rattle.map_lists.specs.Lists.{Lists}
 use Rattle.figure_text.specs.declared.words.Digits.{Digits}
@@ -10,8 +10,8 @@ use Rattle.figure_text.specs.declared.words.Word.{Word}
 use Rattle.figure_text.specs.declared.words.Word.TheVariants.{Number, Named}
 use Rattle.figure_text.specs.declared.words.Name.TheVariants.{Columns}
 use Rattle.figure_text.specs.Words.{words_left, words_of}
-use Rattle.figure_text.specs.Lines.{is_number, vertex_of, IsInside, IsColumnsLine, ColumnsInRange}
-use Rattle.figure_text.specs.Plain.{IsVertexAt, IsNeighbour, IsCoordinateWord}
+use Rattle.figure_text.specs.Lines.{is_number, vertex_of, integer_of, IsInside, IsColumnsLine, ColumnsInRange}
+use Rattle.figure_text.specs.Plain.{IsVertexAt, IsNeighbour, IsCoordinateAt, IsCoordinateWord}
 
 -- words of all that were there, what was made of them, and those that are left
 pub record Taken {A : Type 0} (P : Word → Type 0) (value : Word → A) (all left : List Word) (made : List A) : Type 0 where
@@ -55,4 +55,22 @@ listed-more old lists new line start at digits u so_far here is grown =
       last = so_far.last ++ vertex_of word ∷ [];
       taken = taken-more (λ w. IsNeighbour w) vertex_of (words_left line start) (words_left line at) (words_left line (digits.end + 1)) so_far.last word so_far.taken here.plain.words (refl, (here.least, here.most));
       is = grown old so_far.last so_far.is ∙ ap (λ (n : ℕ). old ++ (so_far.last ++ n ∷ []) ∷ []) number;
+    }
+
+-- the list has got the coordinates before a place
+pub record AreCoordinates (old list : List ℤ) (line : List ℕ) (start at : ℕ) : Type 0 where
+  pub made : List ℤ
+  pub taken : Taken (λ w. IsCoordinateWord w) integer_of (words_left line start) (words_left line at) made
+  pub is : list ≡ old ++ made
+
+-- a coordinate more is put into it
+pub coordinates-more : (old list new : List ℤ) (line : List ℕ) (start at : ℕ) (digits : Digits) (z : ℤ) → AreCoordinates old list line start at → IsCoordinateAt line at digits → z ≡ pos digits.value → new ≡ list ++ z ∷ [] → AreCoordinates old new line start (digits.end + 1)
+coordinates-more old list new line start at digits z so_far here is grown =
+    let word : Word = Number (record { negative = false; size = digits.value }) in
+    let near : digits.value ≡ min 1048576 digits.value = omega (arith, here.most) in
+    let number : z ≡ integer_of word = is ∙ ap (λ (n : ℕ). pos n) near in
+    record {
+      made = so_far.made ++ integer_of word ∷ [];
+      taken = taken-more (λ w. IsCoordinateWord w) integer_of (words_left line start) (words_left line at) (words_left line (digits.end + 1)) so_far.made word so_far.taken here.plain.words (refl, here.most);
+      is = grown ∙ ap (λ (xs : List ℤ). xs ++ z ∷ []) so_far.is ∙ append_assoc old so_far.made (z ∷ []) ∙ ap (λ (y : ℤ). old ++ (so_far.made ++ y ∷ [])) number;
     }

@@ -5,9 +5,9 @@ ghost use Rattle.figure_text.specs.Plain.{IsPieceAt, IsFrontOf, plain_value};
 
 use crate::judge::{Kind, size_of};
 use crate::piece::{Piece, pieces};
-use crate::plain::coordinate_at;
+use crate::plain::short_coordinate_at;
 use crate::rows::signed_number;
-use crate::words::{Name, Next, Signed, Word, closing_at, is_letter_at, is_word_at, plain_at};
+use crate::words::{Name, Next, Signed, Word, closing_at, is_letter_at, is_word_at, short_at};
 
 /// The most words that a front has.
 const MOST: usize = 7;
@@ -26,7 +26,7 @@ pub struct LineFront {
 fn value_at(line: &[u8], at: usize) -> Option<Next>
     ensures { (place : ℕ) → IfSome result (IsPieceAt Piece.Value place line.now at) }
 {
-    match coordinate_at(line, at) {
+    match short_coordinate_at(line, at) {
         Some(digits) => Some(Next {
             word: Word::Number(Signed {
                 negative: false,
@@ -66,7 +66,7 @@ fn last_at(line: &[u8], at: usize) -> Option<Next>
 fn place_at(line: &[u8], at: usize, place: usize) -> Option<Next>
     ensures { IfSome result (IsPieceAt Piece.Place place line.now at) }
 {
-    match plain_at(line, at) {
+    match short_at(line, at) {
         Some(digits) => {
             if digits.value as usize == place {
                 Some(Next {

@@ -86,12 +86,29 @@ pub fn push_plain(line: &[u8], start: usize, lists: &mut ItemLists<u16>) -> Resu
     Ok(false)
 }
 
-/// The coordinate that begins at `at`, where it is written plainly.
+// The coordinate that begins at `at`, where it is written plainly.
 #[inline(always)]
-pub fn coordinate_at(line: &[u8], at: usize) -> Option<Digits>
+fn coordinate_at(line: &[u8], at: usize) -> Option<Digits>
     ensures { IfSome result (IsCoordinateAt line.now at) }
 {
     match plain_at(line, at) {
+        Some(digits) => {
+            if digits.value <= 1_048_576 {
+                Some(digits)
+            } else {
+                None
+            }
+        }
+        None => None,
+    }
+}
+
+/// The coordinate that begins at `at`, where `short_at` finds it.
+#[inline(always)]
+pub fn short_coordinate_at(line: &[u8], at: usize) -> Option<Digits>
+    ensures { IfSome result (IsCoordinateAt line.now at) }
+{
+    match short_at(line, at) {
         Some(digits) => {
             if digits.value <= 1_048_576 {
                 Some(digits)
@@ -117,6 +134,10 @@ pub fn push_coordinates(line: &[u8], start: usize, list: &mut Ints) -> Result<bo
         × (list.new ≡ list.old ++ map integer_of (words_left line.now start)))) }
 {
     let mut at = start;
+    while let Some(short) = short_coordinate_at(line, at) {
+        list.push(coordinate(short.value))?;
+        at = short.end + 1;
+    }
     while let Some(digits) = coordinate_at(line, at) {
         list.push(coordinate(digits.value))?;
         at = digits.end + 1;

@@ -368,12 +368,14 @@ pub fn plain_at(line: &[u8], at: usize) -> Option<Digits>
     None
 }
 
-/// Returns the number that begins at `at`, where it has no minus, and a space follows at most four digits.
+/// Returns the number that begins at `at`, where it has no minus, a space follows at most four digits, and five bytes are left.
 #[inline(always)]
 pub fn short_at(line: &[u8], at: usize) -> Option<Digits>
-    requires { at + 5 ≤ length line.now }
     ensures { IfSome result (IsPlainAt line.now at) }
 {
+    if line.len() < 5 || line.len() - 5 < at {
+        return None;
+    }
     let digits = first_digits(line, at, 4);
     if is_canonical(&line[at..digits.end]) {
         if line[digits.end] == b' ' {
@@ -383,16 +385,16 @@ pub fn short_at(line: &[u8], at: usize) -> Option<Digits>
     None
 }
 
-/// Returns the number before a colon that begins at `at`, where it has no minus and at most six digits; its `end` is the
-/// place after the colon.
+/// Returns the number before a colon that begins at `at`, where it has no minus, at most four digits, a space follows the
+/// colon, and six bytes are left; its `end` is the place after the colon.
 #[inline(always)]
 pub fn closing_at(line: &[u8], at: usize) -> Option<Digits>
     ensures { IfSome result (IsClosingAt line.now at) }
 {
-    if line.len() < at {
+    if line.len() < 6 || line.len() - 6 < at {
         return None;
     }
-    let digits = digits_from(line, at);
+    let digits = first_digits(line, at, 4);
     if is_canonical(&line[at..digits.end]) {
         if closes_at(line, digits.end) {
             return Some(Digits {

@@ -12,8 +12,8 @@ pub returns-then-closes_at : goal.returns-then-closes_at
 returns-then-closes_at c =
     let line = c.args.line.now in
     let at = c.args.at in
-    let digits = c.digits_from-digits.result in
-    let found = c.digits_from-digits.ensures in
+    let digits = c.first_digits-digits.result in
+    let found = c.first_digits-digits.ensures in
     let closes = c.closes_at.ensures (search rules) in
     let inside = closes.0 in
     let good : canonical (take (digits.end - at) (drop at line)) ≡ true = search rules in
