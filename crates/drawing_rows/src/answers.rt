@@ -16,8 +16,7 @@ fn of_map(
     map: &HalfMap,
     args: &[&str],
     out: &mut String,
-)
-{
+) {
     match kind.0 {
         "picture" => pictures::answer(alloc, kind.1, map, args, out),
         "bars" => bars::answer(alloc, kind.1, given, map, args, out),
@@ -26,8 +25,7 @@ fn of_map(
 }
 
 // Like [`of_map`], where the lists may have no map.
-fn over_map(alloc: Global, kind: (&str, &str), given: &SomeLists, args: &[&str], out: &mut String)
-{
+fn over_map(alloc: Global, kind: (&str, &str), given: &SomeLists, args: &[&str], out: &mut String) {
     match HalfMap::from_rotations(alloc, &given.lists) {
         Ok(map) => of_map(alloc, kind, given, &map, args, out),
         Err(fault) => tell_fault(fault, out),
@@ -35,8 +33,7 @@ fn over_map(alloc: Global, kind: (&str, &str), given: &SomeLists, args: &[&str],
 }
 
 // The answer to a row on lists.
-fn of_lists(alloc: Global, kind: (&str, &str), given: &SomeLists, args: &[&str], out: &mut String)
-{
+fn of_lists(alloc: Global, kind: (&str, &str), given: &SomeLists, args: &[&str], out: &mut String) {
     match kind.0 {
         "draw" | "complete" | "wood" => orders::answer(alloc, kind, given, args, out),
         "check" if kind.1 == "faces" => orders::answer(alloc, kind, given, args, out),

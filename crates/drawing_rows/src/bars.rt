@@ -133,8 +133,7 @@ fn of_block(alloc: Global, call: &str, map: &HalfMap, most: u16, out: &mut Strin
 }
 
 // The answer to a row on lists.
-fn of_lists(alloc: Global, call: &str, given: &SomeLists, most: u16, out: &mut String)
-{
+fn of_lists(alloc: Global, call: &str, given: &SomeLists, most: u16, out: &mut String) {
     match block_of(alloc, given) {
         Some(map) => of_block(alloc, call, &map, most, out),
         None => {}
@@ -149,8 +148,7 @@ pub fn answer(
     map: &HalfMap,
     args: &[&str],
     out: &mut String,
-)
-{
+) {
     if call == "check" {
         check(
             map,

@@ -78,8 +78,7 @@ fn put_completed(alloc: Global, map: HalfMap, out: &mut String)
 }
 
 /// Writes how many vertices and edges the map of lists has once it is completed by itself.
-pub fn alone(alloc: Global, given: &SomeLists, out: &mut String)
-{
+pub fn alone(alloc: Global, given: &SomeLists, out: &mut String) {
     match plane_of(alloc, given) {
         Some(map) => put_completed(alloc, map, out),
         None => {}

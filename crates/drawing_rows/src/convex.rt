@@ -245,8 +245,7 @@ fn of_block(alloc: Global, call: &str, map: &HalfMap, v: u16, out: &mut String)
 }
 
 /// The answer to a row on convex drawings.
-pub fn answer(alloc: Global, call: &str, given: &SomeLists, v: u16, out: &mut String)
-{
+pub fn answer(alloc: Global, call: &str, given: &SomeLists, v: u16, out: &mut String) {
     match block_of(alloc, given) {
         Some(map) => of_block(alloc, call, &map, v, out),
         None => {}

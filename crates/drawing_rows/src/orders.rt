@@ -147,8 +147,13 @@ fn of_found(
 }
 
 // Like [`of_found`], where the lists may have no order.
-fn over_order(alloc: Global, kind: (&str, &str), given: &SomeLists, args: &[&str], out: &mut String)
-{
+fn over_order(
+    alloc: Global,
+    kind: (&str, &str),
+    given: &SomeLists,
+    args: &[&str],
+    out: &mut String,
+) {
     match order_of(alloc, given) {
         Ok(found) => of_found(alloc, kind, &given.lists, &found, args, out),
         Err(unserved) => tell_unserved(unserved, out),
@@ -156,8 +161,13 @@ fn over_order(alloc: Global, kind: (&str, &str), given: &SomeLists, args: &[&str
 }
 
 /// The answer to a row on orders and what stands on them.
-pub fn answer(alloc: Global, kind: (&str, &str), given: &SomeLists, args: &[&str], out: &mut String)
-{
+pub fn answer(
+    alloc: Global,
+    kind: (&str, &str),
+    given: &SomeLists,
+    args: &[&str],
+    out: &mut String,
+) {
     let most = number(part(args, 1));
     match kind.1 {
         "shift figure" => put_served(shift_figure(alloc, &given.lists), most, out),

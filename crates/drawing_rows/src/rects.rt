@@ -127,8 +127,7 @@ fn draw(alloc: Global, map: &HalfMap, out: &mut String)
 }
 
 /// The labels of the map of lists, or its rectangles.
-pub fn answer(alloc: Global, call: &str, given: &SomeLists, out: &mut String)
-{
+pub fn answer(alloc: Global, call: &str, given: &SomeLists, out: &mut String) {
     match block_of(alloc, given) {
         Some(map) => {
             if call == "draw" {

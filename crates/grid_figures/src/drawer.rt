@@ -41,6 +41,7 @@ impl Drawer {
         ensures served { OnOk result (first_refusal 3 lists.now ≡ None) }
         ensures refused { IfErr result (IfRefused (λ refusal. first_refusal 3 lists.now ≡ Some refusal)) }
     {
+        lists.facts();
         shift_figures::drawn_record(&mut self.tools, &mut self.shifter, &Record { lists })
     }
 
@@ -57,6 +58,7 @@ impl Drawer {
         ensures served { OnOk result (first_refusal 3 lists.now ≡ None) }
         ensures refused { IfErr result (IfRefused (λ refusal. first_refusal 3 lists.now ≡ Some refusal)) }
     {
+        lists.facts();
         schnyder_figures::drawn_record(&mut self.tools, &mut self.woods, &Record { lists })
     }
 

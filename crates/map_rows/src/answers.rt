@@ -16,8 +16,7 @@ fn of_map(
     map: &mut HalfMap,
     args: &[&str],
     out: &mut String,
-)
-{
+) {
     let call = kind.1;
     match kind.0 {
         "map" => maps::answer(alloc, call, &given.lists, map, args, out),
@@ -28,8 +27,7 @@ fn of_map(
 }
 
 // Like [`of_map`], where the lists may have no map.
-fn over_map(alloc: Global, kind: (&str, &str), given: &SomeLists, args: &[&str], out: &mut String)
-{
+fn over_map(alloc: Global, kind: (&str, &str), given: &SomeLists, args: &[&str], out: &mut String) {
     match HalfMap::from_rotations(alloc, &given.lists) {
         Ok(mut map) => of_map(alloc, kind, given, &mut map, args, out),
         Err(fault) => tell_fault(fault, out),

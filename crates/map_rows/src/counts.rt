@@ -85,8 +85,7 @@ fn count_all(alloc: Global, args: &[&str], out: &mut String) {
 }
 
 // The counts of lists, and of their map.
-fn both(alloc: Global, given: &SomeLists, map: &HalfMap, out: &mut String)
-{
+fn both(alloc: Global, given: &SomeLists, map: &HalfMap, out: &mut String) {
     put_counted(count_lists(alloc, &given.lists), out);
     put(", of the map ", out);
     match euler(alloc, map) {
@@ -124,8 +123,7 @@ pub fn answer(
     map: &HalfMap,
     args: &[&str],
     out: &mut String,
-)
-{
+) {
     match call {
         "faces" => put_faces(map, faces(alloc, map), out),
         "lists" => count_all(alloc, args, out),

@@ -15,8 +15,7 @@ use std::alloc::{AllocError, Global};
 // Whether a list is found that has as many entries as there are lists, which no simple map has. Whatever this answers,
 // the searches tell the fault: it saves tables for such lists, and passes over lists as short as those of a plane map
 // without a look.
-fn has_long_list(lists: &Rotations) -> bool
-{
+fn has_long_list(lists: &Rotations) -> bool {
     let count = lists.len();
     if lists.total() <= 6 * count {
         return false;

@@ -180,8 +180,7 @@ fn are_below(lists: &Rotations, limit: u16) -> bool
 }
 
 // Appends the record of lists.
-fn put_written(given: &SomeLists, bytes: &mut Vec<u8>)
-{
+fn put_written(given: &SomeLists, bytes: &mut Vec<u8>) {
     let limit = if 255 < given.lists.len() { 65535 } else { 255 };
     if are_below(&given.lists, limit) {
         let _ = write_record(&given.lists, bytes);
@@ -237,8 +236,7 @@ fn read_back(
 }
 
 // Writes the record of `lists` between the bytes of two texts, and reads it back.
-fn write_and_read(alloc: Global, given: &SomeLists, args: &[&str], out: &mut String)
-{
+fn write_and_read(alloc: Global, given: &SomeLists, args: &[&str], out: &mut String) {
     let mut bytes = bytes_of(alloc, part(args, 1));
     let at = bytes.len();
     put_written(given, &mut bytes);
@@ -250,8 +248,7 @@ fn write_and_read(alloc: Global, given: &SomeLists, args: &[&str], out: &mut Str
 }
 
 // The record of lists in hexadecimal, behind the bytes of a text.
-fn write(alloc: Global, given: &SomeLists, text: &str, out: &mut String)
-{
+fn write(alloc: Global, given: &SomeLists, text: &str, out: &mut String) {
     let mut bytes = bytes_of(alloc, text);
     put_written(given, &mut bytes);
     put_hex(alloc, &bytes, out);

@@ -80,7 +80,13 @@ fn put_bars(alloc: Global, number: u16, lists: Rotations, bars: BarFigure, out: 
 // The text of a visibility drawing of some lists.
 fn bars(alloc: Global, number: u16, args: &[&str], out: &mut String) {
     match lists_of(alloc, part(args, 1)) {
-        Some(given) => put_bars(alloc, number, given.lists, bars_of(alloc, behind(args, 2)), out),
+        Some(given) => put_bars(
+            alloc,
+            number,
+            given.lists,
+            bars_of(alloc, behind(args, 2)),
+            out,
+        ),
         None => {}
     }
 }

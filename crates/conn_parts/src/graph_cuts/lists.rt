@@ -9,7 +9,12 @@ use map_lists::{ItemLists, Rotations, VertexId};
 use std::alloc::{AllocError, Global};
 
 // Appends u to the last list, if an edge joins it to v.
-fn append_joined(lists: &mut ItemLists<u16>, graph: &Graph, v: u16, u: u16) -> Result<(), AllocError>
+fn append_joined(
+    lists: &mut ItemLists<u16>,
+    graph: &Graph,
+    v: u16,
+    u: u16,
+) -> Result<(), AllocError>
     requires { 0 < length lists.old }
     ensures { IfOk result (λ _. (before : List (List ℕ)) (last : List ℕ) → lists.old ≡ before ++ last ∷ [] → lists.new ≡ before ++ (last ++ filter (λ x. has_edge graph.now v x) (u ∷ [])) ∷ []) }
 {

@@ -109,6 +109,7 @@ fn run_again(
     requires first { slice_index (list_of lists.now 0) 0 ≡ t }
     ensures { IfOk result (λ made. IsConvexFigure lists.now made.0) }
 {
+    lists.facts();
     let tables = tables_of(spent.lists, lists, faces, 0, t)?;
     let rows = rows_again(spent.rows, &tables)?;
     let side = less_one(tables.faces.count);

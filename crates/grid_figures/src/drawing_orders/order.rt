@@ -193,6 +193,7 @@ pub fn drawing_order(alloc: Global, lists: &Rotations) -> Result<DrawingOrder, U
     ensures served { OnOk result (first_refusal 3 lists.now ≡ None) }
     ensures refused { IfErr result (IfRefused (λ refusal. first_refusal 3 lists.now ≡ Some refusal)) }
 {
+    lists.facts();
     let mut tools = Tools::new(alloc);
     let found = ordered_record(&mut tools, &Record { lists })?;
     Ok(found)

@@ -150,6 +150,7 @@ impl DualTables {
         requires search { IsUncutSearch lists.now t search.now.forest.order.items search.now.forest.number.items search.now.forest.last.items search.now.forest.parent.items search.now.low.items }
         ensures { IfOk result (IsFound lists.now) }
     {
+        lists.facts();
         fill_places(&mut self.ranges, lists, &search.forest, &search.low, 0, t)?;
         find_faces(&mut self.faces, alloc, lists, twins, &self.ranges.from)?;
         if lists.len() + self.faces.arcs.len() != twins.len() / 2 + 2 {

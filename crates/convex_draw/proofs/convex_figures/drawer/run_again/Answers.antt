@@ -19,7 +19,7 @@ less_one-side-requires c =
     let rows = c.in_ok-rows.rows.rows in
     let are : AreRowsOfRun lists 0 c.args.t rows = rows_by lists c.args.t tables rows e.lists e.tail e.head c.in_ok-rows.ensures in
     let all : tables.faces.count ≡ face_count lists = ap (λ (f : FaceNumbers). f.count) e.faces ∙ r.count in
-    omega (arith, two_faces lists r.few 0 c.args.t rows are, all)
+    omega (arith, two_faces lists c.facts.ensures 0 c.args.t rows are, all)
 
 pub count_points_again-requires-clause-few : goal.count_points_again-requires-clause-few
 count_points_again-requires-clause-few c =
@@ -30,7 +30,7 @@ count_points_again-requires-clause-few c =
     let rows = c.in_ok-rows.rows.rows in
     let are : AreRowsOfRun lists 0 c.args.t rows = rows_by lists c.args.t tables rows e.lists e.tail e.head c.in_ok-rows.ensures in
     let all : tables.faces.count ≡ face_count lists = ap (λ (f : FaceNumbers). f.count) e.faces ∙ r.count in
-    small_side lists r.few 0 c.args.t rows are c.less_one-side.result (c.less_one-side.ensures ∙ all)
+    small_side lists c.facts.ensures 0 c.args.t rows are c.less_one-side.result (c.less_one-side.ensures ∙ all)
 
 pub count_points_again-requires-clause-run : goal.count_points_again-requires-clause-run
 count_points_again-requires-clause-run c =
@@ -41,8 +41,8 @@ count_points_again-requires-clause-run c =
     let rows = c.in_ok-rows.rows.rows in
     let are : AreRowsOfRun lists 0 c.args.t rows = rows_by lists c.args.t tables rows e.lists e.tail e.head c.in_ok-rows.ensures in
     let all : tables.faces.count ≡ face_count lists = ap (λ (f : FaceNumbers). f.count) e.faces ∙ r.count in
-    let h = run lists r.few 0 c.args.t rows are in
-    (h.steps, h.at, listed_run lists r.few 0 c.args.t rows are c.less_one-side.result c.count_of.result (c.less_one-side.ensures ∙ all) c.count_of.ensures)
+    let h = run lists c.facts.ensures 0 c.args.t rows are in
+    (h.steps, h.at, listed_run lists c.facts.ensures 0 c.args.t rows are c.less_one-side.result c.count_of.result (c.less_one-side.ensures ∙ all) c.count_of.ensures)
 
 pub in_square-figure-requires : goal.in_square-figure-requires
 in_square-figure-requires c =
@@ -53,7 +53,7 @@ in_square-figure-requires c =
     let rows = c.in_ok-rows.rows.rows in
     let are : AreRowsOfRun lists 0 c.args.t rows = rows_by lists c.args.t tables rows e.lists e.tail e.head c.in_ok-rows.ensures in
     let all : tables.faces.count ≡ face_count lists = ap (λ (f : FaceNumbers). f.count) e.faces ∙ r.count in
-    small_side lists r.few 0 c.args.t rows are c.less_one-side.result (c.less_one-side.ensures ∙ all)
+    small_side lists c.facts.ensures 0 c.args.t rows are c.less_one-side.result (c.less_one-side.ensures ∙ all)
 
 pub returns : goal.returns
 returns c =
@@ -64,11 +64,11 @@ returns c =
     let rows = c.in_ok-rows.rows.rows in
     let are : AreRowsOfRun lists 0 c.args.t rows = rows_by lists c.args.t tables rows e.lists e.tail e.head c.in_ok-rows.ensures in
     let all : tables.faces.count ≡ face_count lists = ap (λ (f : FaceNumbers). f.count) e.faces ∙ r.count in
-    let h = run lists r.few 0 c.args.t rows are in
+    let h = run lists c.facts.ensures 0 c.args.t rows are in
     let side = c.less_one-side.result in
     let one = c.less_one-side.ensures ∙ all in
-    let listed = listed_run lists r.few 0 c.args.t rows are side c.count_of.result one c.count_of.ensures in
+    let listed = listed_run lists c.facts.ensures 0 c.args.t rows are side c.count_of.result one c.count_of.ensures in
     let figure = c.in_square-figure.result in
     let is = c.in_square-figure.ensures in
     IsConvexFigure-of lists figure (subst (λ d. IsConvexGrid lists 0 d figure) (sym r.first)
-    (drawn_grid lists r.few 0 c.args.t rows are r.plane r.three side c.count_of.result one c.count_of.ensures c.in_ok-points.points figure is.points is.width is.height (c.in_ok-points.ensures h.steps h.at listed)))
+    (drawn_grid lists c.facts.ensures 0 c.args.t rows are r.plane r.three side c.count_of.result one c.count_of.ensures c.in_ok-points.points figure is.points is.width is.height (c.in_ok-points.ensures h.steps h.at listed)))

@@ -9,6 +9,6 @@ from_parts-requires c =
     let w = c.whole.inside in
     record {
       cuts = all-cuts w.ends.items w.entries.items c.whole.invariant
-        (ap (λ o. o.last) c.whole.view_is ∙ ap (λ o. o.last) c.replace-whole.ensures.value ∙ c.requires.whole);
+          (ap (λ o. o.last) c.whole.view_is ∙ ap (λ o. o.last) c.replace-whole.ensures.value ∙ c.requires.whole);
       few = omega (arith, c.requires.few, length-cut 0 w.ends.items w.entries.items, ap (λ o. length o.lists) c.whole.view_is, ap (λ o. length o.lists) c.replace-whole.ensures.value);
     }

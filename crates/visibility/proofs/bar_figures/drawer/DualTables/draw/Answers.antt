@@ -14,7 +14,7 @@ first_of-base-requires c =
     let order = c.in_ok-fill_places.ensures.order in
     let of = c.find_faces.new.tables.of.items in
     let arcs = c.find_faces.new.tables.arcs in
-    let some = some_face lists r.few r.simple r.many r.search.connected c.args.t r.first r.dart rank order.0 order.1 of (length arcs) c.in_ok-find_faces.ensures.numbers in
+    let some = some_face lists c.facts.ensures r.simple r.many r.search.connected c.args.t r.first r.dart rank order.0 order.1 of (length arcs) c.in_ok-find_faces.ensures.numbers in
     omega (arith, some, ap (λ (xs : List ℕ). length xs) c.deref-3.ensures.value)
 
 pub find-requires-clause-acyclic : goal.find-requires-clause-acyclic
@@ -27,7 +27,7 @@ find-requires-clause-acyclic c =
     let arcs = c.find_faces.new.tables.arcs in
     let lead = rw c.deref-2.ensures.value at c.in_ok-find_faces.ensures.arcs in
     let counted : length lists + length arcs ≡ dart_count lists / 2 + 2 = omega (arith, c.if-len-twins.false, c.len.ensures.is, c.len-2.ensures, ap (λ n. n / 2) (r.twins.count ∙ length-darts lists)) in
-    rw (c.first_of-base.ensures, c.deref-3.ensures.value) (acyclic_arcs lists r.few r.simple r.many r.search.connected c.args.t r.first r.dart rank order.0 order.1 of (length arcs) c.in_ok-find_faces.ensures.numbers arcs lead counted)
+    rw (c.first_of-base.ensures, c.deref-3.ensures.value) (acyclic_arcs lists c.facts.ensures r.simple r.many r.search.connected c.args.t r.first r.dart rank order.0 order.1 of (length arcs) c.in_ok-find_faces.ensures.numbers arcs lead counted)
 
 pub invariant_of-sides : goal.invariant_of-sides
 invariant_of-sides c =
@@ -41,7 +41,7 @@ invariant_of-sides c =
     let counted : length lists + length arcs ≡ dart_count lists / 2 + 2 = omega (arith, c.if-len-twins.false, c.len.ensures.is, c.len-2.ensures, ap (λ n. n / 2) (r.twins.count ∙ length-darts lists)) in
     let longest = rw (c.first_of-base.ensures, c.deref-3.ensures.value) at c.in_ok-find.ensures.longest in
     let numbers = c.find.new.self.number.items in
-    let known : AreSides lists c.deref-4.result.now c.deref-5.result.now c.args.twins.now c.deref-6.result.now = rw (c.deref-4.ensures.value, c.deref-5.ensures.value, c.deref-6.ensures.value) (are_sides lists r.few r.simple r.many r.search.connected c.args.t r.first r.dart rank order.0 order.1 of (length arcs) c.in_ok-find_faces.ensures.numbers arcs lead counted numbers longest c.args.twins.now r.twins) in
+    let known : AreSides lists c.deref-4.result.now c.deref-5.result.now c.args.twins.now c.deref-6.result.now = rw (c.deref-4.ensures.value, c.deref-5.ensures.value, c.deref-6.ensures.value) (are_sides lists c.facts.ensures r.simple r.many r.search.connected c.args.t r.first r.dart rank order.0 order.1 of (length arcs) c.in_ok-find_faces.ensures.numbers arcs lead counted numbers longest c.args.twins.now r.twins) in
     record { sides = ∣ known ∣₁ }
 
 pub coordinates_of-requires : goal.coordinates_of-requires
@@ -57,7 +57,7 @@ coordinates_of-requires c =
     let longest = rw (c.first_of-base.ensures, c.deref-3.ensures.value) at c.in_ok-find.ensures.longest in
     let numbers = c.find.new.self.number.items in
     let spanned = rw (c.deref-4.ensures.value, c.deref-5.ensures.value, c.deref-6.ensures.value) at c.in_ok-fill.ensures in
-    record { low = rw c.deref-8.ensures.value (small lists r.few r.simple r.many r.search.connected c.args.t r.first r.dart rank order.0 order.1 of (length arcs) c.in_ok-find_faces.ensures.numbers arcs lead counted numbers longest c.fill.new.self.columns.items c.fill.new.self.x1 c.fill.new.self.x2 spanned) }
+    record { low = rw c.deref-8.ensures.value (small lists c.facts.ensures r.simple r.many r.search.connected c.args.t r.first r.dart rank order.0 order.1 of (length arcs) c.in_ok-find_faces.ensures.numbers arcs lead counted numbers longest c.fill.new.self.columns.items c.fill.new.self.x1 c.fill.new.self.x2 spanned) }
 
 pub returns : goal.returns
 returns c =
@@ -73,7 +73,7 @@ returns c =
     let numbers = c.find.new.self.number.items in
     let spanned = rw (c.deref-4.ensures.value, c.deref-5.ensures.value, c.deref-6.ensures.value) at c.in_ok-fill.ensures in
     let made : BarFigure = record { y = c.in_ok-y.y; x1 = c.replace-x1.result; x2 = c.replace-x2.result; column = c.in_ok-column.column } in (
-      is_biconnected lists r.few r.simple r.many r.search.connected c.args.t r.first r.dart rank order.0 order.1 of (length arcs) c.in_ok-find_faces.ensures.numbers arcs lead counted numbers longest c.fill.new.self.columns.items c.fill.new.self.x1 c.fill.new.self.x2 spanned r.search.uncut,
-      is_figure lists r.few r.simple r.many r.search.connected c.args.t r.first r.dart rank order.0 order.1 of (length arcs) c.in_ok-find_faces.ensures.numbers arcs lead counted numbers longest c.fill.new.self.columns.items c.fill.new.self.x1 c.fill.new.self.x2 spanned made
+      is_biconnected lists c.facts.ensures r.simple r.many r.search.connected c.args.t r.first r.dart rank order.0 order.1 of (length arcs) c.in_ok-find_faces.ensures.numbers arcs lead counted numbers longest c.fill.new.self.columns.items c.fill.new.self.x1 c.fill.new.self.x2 spanned r.search.uncut,
+      is_figure lists c.facts.ensures r.simple r.many r.search.connected c.args.t r.first r.dart rank order.0 order.1 of (length arcs) c.in_ok-find_faces.ensures.numbers arcs lead counted numbers longest c.fill.new.self.columns.items c.fill.new.self.x1 c.fill.new.self.x2 spanned made
           (rw c.deref-7.ensures.value at c.in_ok-y.ensures) (rw c.deref-8.ensures.value at c.in_ok-column.ensures) c.replace-x1.ensures.value c.replace-x2.ensures.value,
     )
