@@ -1,5 +1,5 @@
 //! A figure as text.
-ghost use Rattle.std.specs.Prelude.{◌≡◌, ◌+◌, ◌++◌, ◌∷◌, ℕ, List, ◌*◌, length, drop, sum_by, decimal, ◌<◌, ◌≤◌, OnOk, OnErr, IfOk};
+ghost use Rattle.std.specs.Prelude.{◌≡◌, ◌+◌, ◌++◌, ◌∷◌, [], ℕ, List, ◌*◌, length, drop, sum_by, decimal, ◌<◌, ◌≤◌, OnOk, OnErr, IfOk};
 ghost use Rattle.figure_text.specs.Text.{first_line, vertex_lines, fronts_room, job_word, grid_text, bars_text, rects_text, IsText, IsWhole, HasBars, HasRects};
 
 use crate::backward::{write_columns, write_first};
@@ -12,10 +12,35 @@ use map_lists::Rotations;
 use pg_plane::{BarFigure, Ints, Points, RectFigure};
 use std::alloc::{AllocError, Global};
 
-// Appends a number.
+// Appends a digit.
+fn push_digit(out: &mut Vec<u8>, digit: u64) -> Result<(), AllocError>
+    requires { digit < 10 }
+    ensures { OnOk result (out.new.items ≡ out.old.items ++ (48 + digit) ∷ []) }
+{
+    out.push(b'0' + digit as u8)?;
+    Ok(())
+}
+
+// Appends two digits.
+fn push_digits(out: &mut Vec<u8>, tens: u64, ones: u64) -> Result<(), AllocError>
+    requires { (tens < 10) × (ones < 10) }
+    ensures { OnOk result (out.new.items ≡ out.old.items ++ (48 + tens) ∷ (48 + ones) ∷ []) }
+{
+    push_digit(out, tens)?;
+    push_digit(out, ones)
+}
+
+// Appends a number. Most numbers of a witness have one digit or two.
+#[tactic(auto, using(std::proofs::lemmas::Fmt::decimal_digit, itoa::proofs::Decimal::decimal_two))]
 pub(crate) fn push_number(out: &mut Vec<u8>, number: u64) -> Result<(), AllocError>
     ensures { OnOk result (out.new.items ≡ out.old.items ++ decimal number) }
 {
+    if number < 10 {
+        return push_digit(out, number);
+    }
+    if number < 100 {
+        return push_digits(out, number / 10, number % 10);
+    }
     let mut buffer = Buffer::new();
     out.extend_from_slice(buffer.format(number).as_bytes())
 }

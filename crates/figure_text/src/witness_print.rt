@@ -73,6 +73,9 @@ fn push_rows(out: &mut Vec<u8>, witness: &Witness) -> Result<(), AllocError>
     Ok(())
 }
 
+// How many bytes the text of a witness of few vertices has at most.
+const ROOM: usize = 256;
+
 // The text of a witness, by the line of its graph.
 fn text_by_line(
     alloc: Global,
@@ -82,7 +85,7 @@ fn text_by_line(
 ) -> Result<Vec<u8>, AllocError>
     ensures { IfOk result (λ text. text.items ≡ witness_text number line.now witness.now) }
 {
-    let mut text = Vec::new(alloc);
+    let mut text = Vec::with_capacity(alloc, ROOM)?;
     push_first(&mut text, number, witness.kind, line)?;
     push_rows(&mut text, witness)?;
     Ok(text)
